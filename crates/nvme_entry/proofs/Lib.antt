@@ -1,0 +1,2 @@
+pub mod Dwords
+pub mod Exact

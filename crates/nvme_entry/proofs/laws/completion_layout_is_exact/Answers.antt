@@ -1,0 +1,5 @@
+use Rattle.nvme_entry.proofs.Exact.{one_completion_list}
+use Rattle.nvme_entry.proofs.laws.completion_layout_is_exact.Goals as goal
+
+pub returns-clause-one_list : goal.returns-clause-one_list
+returns-clause-one_list c = one_completion_list

@@ -1,0 +1,7 @@
+pub mod AdminCommand
+pub mod Bits
+pub mod Completion
+pub mod Namespaces
+pub mod Outcome
+pub mod Status
+pub mod Submission

@@ -1,0 +1,13 @@
+//! What the program `nvmearb` does, over values and streams that are handed in.
+#![tactic(auto)]
+
+mod commands;
+mod entries;
+mod input;
+
+pub use commands::command;
+pub use entries::{OnceError, once};
+pub use input::{InputError, MAX_INPUT, MAX_READS, take_input};
+
+#[cfg(test)]
+mod tests;
