@@ -1,0 +1,9 @@
+pub mod SettingsLemmas
+pub mod NextLemmas
+pub mod Choices
+pub mod Stands
+pub mod Observations
+pub mod PickLaws
+pub mod ExampleRuns
+pub mod MaskLemmas
+pub mod ServiceLemmas

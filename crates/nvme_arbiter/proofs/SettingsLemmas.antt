@@ -1,0 +1,32 @@
+-- The settings and their CDW11.
+use Rattle.std.proofs.Common.{◌≡◌, ℕ, ◌+◌, ◌-◌, ◌*◌, ◌/◌, ◌%◌, ◌^◌, ◌<◌, arith, ap, sym, ◌∙◌, bit_and}
+use Rattle.std.proofs.lemmas.Nat.{and_block, and_mask}
+use Rattle.nvme_arbiter.specs.Settings.{settings_of, cdw11_of, WritesBack, ReadsBack}
+
+-- the bits above the lowest byte, all kept
+kept_high : (a : ℕ) → a < 2 ^ 24 → bit_and a (2 ^ 24 - 1) ≡ a
+kept_high a h = let e = and_mask a 24 in omega (arith, e)
+
+-- of the lowest byte, bits 02:00 are kept
+masked : (a r : ℕ) → a < 2 ^ 24 → r < 2 ^ 8 → bit_and (a * 2 ^ 8 + r) ((2 ^ 24 - 1) * 2 ^ 8 + 7) ≡ a * 2 ^ 8 + r % 8
+masked a r h k =
+    let e = and_block 8 a (2 ^ 24 - 1) r 7 k (omega arith) in
+    let low = and_mask r 3 in
+    omega (arith, e, low, kept_high a h)
+
+fields_sum : (x : ℕ) → x < 2 ^ 32 → cdw11_of (settings_of x) ≡ x / 2 ^ 8 * 2 ^ 8 + x % 2 ^ 8 % 8
+fields_sum x h = omega arith
+
+pub writes_back : WritesBack
+writes_back x h =
+    let e = masked (x / 2 ^ 8) (x % 2 ^ 8) (omega arith) (omega arith) in
+    let split : x ≡ x / 2 ^ 8 * 2 ^ 8 + x % 2 ^ 8 = omega arith in
+    fields_sum x h ∙ sym (ap (λ n. bit_and n 0xFFFF_FF07) split ∙ e)
+
+pub reads_back : ReadsBack
+reads_back s h =
+    let a : (settings_of (cdw11_of s)).burst_code ≡ s.burst_code = omega arith in
+    let b : (settings_of (cdw11_of s)).low ≡ s.low = omega arith in
+    let c : (settings_of (cdw11_of s)).medium ≡ s.medium = omega arith in
+    let d : (settings_of (cdw11_of s)).high ≡ s.high = omega arith in
+    λ i. record { burst_code = a i; low = b i; medium = c i; high = d i }

@@ -1,0 +1,15 @@
+pub mod Limits
+pub mod Settings
+pub mod Observation
+pub mod Next
+pub mod History
+pub mod Rules
+pub mod Lawful
+pub mod Standing
+pub mod Laws
+pub mod Examples
+pub mod Bits
+pub mod Queues
+pub mod Board
+pub mod Service
+pub mod ServiceExamples

@@ -1,0 +1,234 @@
+// The board: an arbiter that keeps the counts of its queues itself.
+use crate::kept::Kept;
+use crate::limits::QUEUE_LIMIT;
+use crate::pick::{OpenQueue, Pick, Seen};
+use crate::queues::Queues;
+use crate::settings::{Class, Mechanism, Settings};
+use arrayvec::ArrayVec;
+use std::marker::Model;
+
+/// An arbiter with the open queues and the number of commands that wait in each. It finds the next queue in masks,
+/// so the cost of a pick doesn't grow with the number of queues. It picks what an `Arbiter` picks of `seen()`.
+#[derive(Debug, Drop)]
+pub struct Board {
+    kept: Kept,
+    queues: Queues,
+}
+
+impl Model for Board {
+    ghost use Rattle.nvme_arbiter.specs.Board.{BoardView};
+
+    ghost Value = { BoardView };
+
+    ghost view = { λ b. record { kept = b.kept; queues = b.queues } };
+
+    ghost use Rattle.nvme_arbiter.specs.Observation.{IsObservation};
+    ghost use Rattle.nvme_arbiter.specs.Queues.{seen_of};
+
+    ghost invariant = { λ b. IsObservation (seen_of b.queues) };
+}
+
+impl Board {
+    ghost use Rattle.std.specs.Prelude.{◌≡◌, ◌↔◌, ◌+◌, ◌<◌, ◌≤◌, [], ◌∷◌, List, Option, Some, None, IsSome, IsNone, IsSomeAnd, IfSome, MatchOption, replicate, slice_set};
+    ghost use Rattle.nvme_arbiter.specs.Limits.{highest_qid, highest_count, queue_limit};
+    ghost use Rattle.nvme_arbiter.specs.Settings.{ArbitrationFields, IsLevel};
+    ghost use Rattle.nvme_arbiter.specs.Observation.{IsObservation, IsIdle};
+    ghost use Rattle.nvme_arbiter.specs.History.{History, Picked, Changed};
+    ghost use Rattle.nvme_arbiter.specs.Rules.{round_robin_pick, weighted_pick, admin_pick, urgent_pick, level_pick, levels_pick};
+    ghost use Rattle.nvme_arbiter.specs.Lawful.{lawful_pick};
+    ghost use Rattle.nvme_arbiter.specs.Standing.{pick_of, last_of, used_of};
+    ghost use Rattle.nvme_arbiter.specs.Queues.{seen_of, queue_at};
+    ghost use Rattle.nvme_arbiter.specs.Board.{BoardStandsAt, queues_after};
+    ghost use Rattle.nvme_arbiter.specs.declared.settings.Mechanism.{Mechanism};
+    ghost use Rattle.nvme_arbiter.specs.declared.settings.Class.TheVariants.{Admin};
+
+    /// A board on which no queue is open and that has served nothing yet. A round starts.
+    pub fn new(mechanism: Mechanism, settings: Settings) -> Board
+        ensures stands { BoardStandsAt mechanism settings [] result }
+        ensures closed { result.queues ≡ replicate queue_limit None }
+    {
+        Board {
+            kept: Kept::new(mechanism, settings),
+            queues: Queues::new(),
+        }
+    }
+
+    /// Opens a queue, in which no command waits. What was served and used stays.
+    pub fn open(&mut self, qid: u16, class: Class)
+        requires within { qid ≤ highest_qid }
+        requires not_open { queue_at self.old.queues qid ≡ None }
+        requires admin { (class ≡ Admin) ↔ (qid ≡ 0) }
+        ensures opened { self.new ≡ record self.old { queues = slice_set self.old.queues qid (Some (record { class = class; count = 0 })) } }
+        ensures stands { (mechanism : Mechanism) (first : ArbitrationFields) (past : History) → BoardStandsAt mechanism first past self.old → BoardStandsAt mechanism first past self.new }
+    {
+        self.queues
+            .put(qid, class, Some(OpenQueue { class, count: 0 }));
+    }
+
+    /// Closes a queue. Its count is gone; what was served and used stays.
+    pub fn close(&mut self, qid: u16)
+        requires { IsSome (queue_at self.old.queues qid) }
+        ensures closed { self.new ≡ record self.old { queues = slice_set self.old.queues qid None } }
+        ensures stands { (mechanism : Mechanism) (first : ArbitrationFields) (past : History) → BoardStandsAt mechanism first past self.old → BoardStandsAt mechanism first past self.new }
+    {
+        if let Some(queue) = self.queues.queue(qid) {
+            self.queues.put(qid, queue.class, None);
+        }
+    }
+
+    /// One more command waits in an open queue.
+    pub fn came(&mut self, qid: u16)
+        requires { IsSomeAnd (queue_at self.old.queues qid) (λ queue. queue.count < highest_count) }
+        ensures came { IfSome (queue_at self.old.queues qid) (λ queue. self.new ≡ record self.old { queues = slice_set self.old.queues qid (Some (record queue { count = queue.count + 1 })) }) }
+        ensures stands { (mechanism : Mechanism) (first : ArbitrationFields) (past : History) → BoardStandsAt mechanism first past self.old → BoardStandsAt mechanism first past self.new }
+    {
+        if let Some(queue) = self.queues.queue(qid) {
+            let queue = OpenQueue {
+                class: queue.class,
+                count: queue.count + 1,
+            };
+            self.queues.put(qid, queue.class, Some(queue));
+        }
+    }
+
+    /// The queue of an identifier, where it is open.
+    pub fn queue(&self, qid: u16) -> Option<OpenQueue>
+        ensures { result ≡ queue_at self.now.queues qid }
+    {
+        self.queues.queue(qid)
+    }
+
+    /// The open queues by ascending identifier, each with its class and the number of commands that wait.
+    pub fn seen(&self) -> ArrayVec<Seen, QUEUE_LIMIT>
+        ensures seen { result.items ≡ seen_of self.now.queues }
+        ensures observed { IsObservation (seen_of self.now.queues) }
+    {
+        self.queues.seen()
+    }
+
+    /// What `pick` would answer.
+    pub fn peek(&self) -> Option<Pick>
+        ensures by_what_is_kept { result ≡ pick_of self.now.kept (seen_of self.now.queues) }
+        ensures lawful { (mechanism : Mechanism) (first : ArbitrationFields) (past : History) → BoardStandsAt mechanism first past self.now → result ≡ lawful_pick mechanism first past (seen_of self.now.queues) }
+        ensures none_where_idle { IsNone result ↔ IsIdle (seen_of self.now.queues) }
+    {
+        match self.kept.mechanism {
+            Mechanism::RoundRobin => self.round_robin(),
+            Mechanism::Weighted => self.weighted(),
+        }
+    }
+
+    /// The lawful pick for `seen()` after the picks and settings so far (NVM Express Base Specification, Command
+    /// Arbitration). As many commands of its queue wait no longer. `None` exactly where no command waits; it changes
+    /// nothing.
+    pub fn pick(&mut self) -> Option<Pick>
+        ensures by_what_is_kept { result ≡ pick_of self.old.kept (seen_of self.old.queues) }
+        ensures lawful { (mechanism : Mechanism) (first : ArbitrationFields) (past : History) → BoardStandsAt mechanism first past self.old → result ≡ lawful_pick mechanism first past (seen_of self.old.queues) }
+        ensures none_where_idle { IsNone result ↔ IsIdle (seen_of self.old.queues) }
+        ensures stands { (mechanism : Mechanism) (first : ArbitrationFields) (past : History) → BoardStandsAt mechanism first past self.old → MatchOption result (self.new ≡ self.old) (λ pick. BoardStandsAt mechanism first (Picked (seen_of self.old.queues) pick ∷ past) self.new) }
+        ensures queues { MatchOption result (self.new ≡ self.old) (λ pick. self.new.queues ≡ queues_after self.old.queues pick) }
+    {
+        let pick = self.peek()?;
+        let class = self.queues.class_of(pick.qid);
+        self.kept.note(class, pick);
+        self.queues.take(pick.qid, pick.n);
+        Some(pick)
+    }
+
+    /// Takes new settings, which start a new round. The identifiers served last and the queues stay.
+    pub fn set(&mut self, settings: Settings)
+        ensures stands { (mechanism : Mechanism) (first : ArbitrationFields) (past : History) → BoardStandsAt mechanism first past self.old → BoardStandsAt mechanism first (Changed settings ∷ past) self.new }
+        ensures queues { self.new.queues ≡ self.old.queues }
+    {
+        self.kept.set(settings);
+    }
+
+    // The pick of round robin: one command of the admin queue, or as many as burst and count allow.
+    fn round_robin(&self) -> Option<Pick>
+        ensures { result ≡ round_robin_pick self.now.kept.settings self.now.kept.last.all (seen_of self.now.queues) }
+    {
+        let queue = self.queues.next(None, self.kept.last.all)?;
+        let n = if queue.qid == 0 {
+            1
+        } else {
+            self.kept.within_burst(queue.count)
+        };
+        Some(Pick {
+            qid: queue.qid,
+            n,
+            fresh: false,
+        })
+    }
+
+    // The pick of weighted round robin with urgent priority class.
+    fn weighted(&self) -> Option<Pick>
+        ensures { result ≡ weighted_pick self.now.kept.settings (last_of self.now.kept.last) (used_of self.now.kept.used) (seen_of self.now.queues) }
+    {
+        if let Some(pick) = self.admin() {
+            return Some(pick);
+        }
+        if let Some(pick) = self.urgent() {
+            return Some(pick);
+        }
+        if let Some(pick) = self.levels(false) {
+            return Some(pick);
+        }
+        self.levels(true)
+    }
+
+    // The pick of the admin queue: one command.
+    fn admin(&self) -> Option<Pick>
+        ensures { result ≡ admin_pick self.now.kept.settings (last_of self.now.kept.last) (used_of self.now.kept.used) (seen_of self.now.queues) }
+    {
+        let queue = self.queues.next(Some(Class::Admin), self.kept.last.admin)?;
+        Some(Pick {
+            qid: queue.qid,
+            n: 1,
+            fresh: false,
+        })
+    }
+
+    // The pick of an urgent queue: the smaller of burst and count.
+    fn urgent(&self) -> Option<Pick>
+        ensures { result ≡ urgent_pick self.now.kept.settings (last_of self.now.kept.last) (used_of self.now.kept.used) (seen_of self.now.queues) }
+    {
+        let queue = self
+            .queues
+            .next(Some(Class::Urgent), self.kept.last.urgent)?;
+        Some(Pick {
+            qid: queue.qid,
+            n: self.kept.within_burst(queue.count),
+            fresh: false,
+        })
+    }
+
+    // The pick of the first level that has a ready queue and credit, in this round or in a new one.
+    fn levels(&self, fresh: bool) -> Option<Pick>
+        ensures { result ≡ levels_pick self.now.kept.settings (last_of self.now.kept.last) (used_of self.now.kept.used) (seen_of self.now.queues) fresh }
+    {
+        if let Some(pick) = self.level(Class::High, fresh) {
+            return Some(pick);
+        }
+        if let Some(pick) = self.level(Class::Medium, fresh) {
+            return Some(pick);
+        }
+        self.level(Class::Low, fresh)
+    }
+
+    // The pick of a level: the least of burst, credit and count, and none without credit.
+    fn level(&self, level: Class, fresh: bool) -> Option<Pick>
+        requires { IsLevel level }
+        ensures { result ≡ level_pick self.now.kept.settings (last_of self.now.kept.last) (used_of self.now.kept.used) (seen_of self.now.queues) fresh level }
+    {
+        let credit = self.kept.credit(level, fresh);
+        if credit == 0 {
+            return None;
+        }
+        let queue = self.queues.next(Some(level), self.kept.last_of(level))?;
+        Some(Pick {
+            qid: queue.qid,
+            n: self.kept.within_burst(queue.count).min(credit),
+            fresh,
+        })
+    }
+}

@@ -1,0 +1,31 @@
+//! Arbitration of an NVMe controller: which submission queue is served next, and how many of its commands are taken.
+#![tactic(auto)]
+
+mod arbiter;
+mod bits;
+mod board;
+mod kept;
+mod laws;
+mod limits;
+mod masks;
+mod observation;
+mod pick;
+mod queues;
+mod seek;
+pub mod service;
+mod settings;
+
+pub use arbiter::Arbiter;
+pub use board::Board;
+pub use laws::{
+    fresh_where_due, lawful_picks_are_measured, no_burst_limit, one_lawful_pick,
+    prefixes_are_lawful, round_robin_four_queues, settings_and_cdw11, urgent_cuts_in,
+    weighted_two_rounds,
+};
+pub use limits::{HIGHEST_COUNT, HIGHEST_QID, QUEUE_LIMIT};
+pub use observation::is_observation;
+pub use pick::{OpenQueue, Pick, Seen};
+pub use settings::{Class, Mechanism, Settings};
+
+#[cfg(test)]
+mod tests;

@@ -1,0 +1,174 @@
+// The open queues, with the masks in which the next ready one is found.
+ghost use Rattle.std.specs.Prelude.{◌≡◌};
+ghost use Rattle.nvme_arbiter.specs.Queues.{has_waiting};
+
+use crate::bits::{above, lowest};
+use crate::limits::{HIGHEST_QID, QUEUE_LIMIT};
+use crate::masks::Masks;
+use crate::pick::{OpenQueue, Seen};
+use crate::settings::Class;
+use arrayvec::ArrayVec;
+use std::marker::Model;
+
+// Whether an open queue is ready.
+fn has_waiting(queue: Option<OpenQueue>) -> bool
+    ensures { result ≡ has_waiting queue }
+{
+    match queue {
+        Some(queue) => queue.count > 0,
+        None => false,
+    }
+}
+
+/// The open queues by identifier. Contracts see the list of them.
+#[derive(Debug, Drop)]
+pub struct Queues {
+    slots: [Option<OpenQueue>; QUEUE_LIMIT],
+    ready: Masks,
+}
+
+impl Model for Queues {
+    ghost use Rattle.std.specs.Prelude.{List, Option};
+    ghost use Rattle.nvme_arbiter.specs.declared.pick.OpenQueue.{OpenQueue};
+
+    ghost Value = { List (Option OpenQueue) };
+
+    ghost use Rattle.nvme_arbiter.specs.Queues.{AreMarked};
+
+    ghost view = { λ q. q.slots };
+
+    ghost invariant = { λ q. AreMarked q.slots q.ready };
+}
+
+impl Queues {
+    ghost use Rattle.std.specs.Prelude.{◌≡◌, ◌≤◌, ◌&&◌, nat_lt, replicate, None, option_map, find, slice_set};
+    ghost use Rattle.std.specs.List.{filter};
+    ghost use Rattle.nvme_arbiter.specs.Limits.{highest_qid, queue_limit};
+    ghost use Rattle.nvme_arbiter.specs.Observation.{IsObservation, is_wanted, class_in};
+    ghost use Rattle.nvme_arbiter.specs.Next.{next};
+    ghost use Rattle.nvme_arbiter.specs.Queues.{seen_of, queue_at, fewer, FitsUnder, IsOf, shown};
+
+    /// No queue is open.
+    pub fn new() -> Queues
+        ensures { result ≡ replicate queue_limit None }
+    {
+        Queues {
+            slots: [None; QUEUE_LIMIT],
+            ready: Masks {
+                all: 0,
+                admin: 0,
+                urgent: 0,
+                high: 0,
+                medium: 0,
+                low: 0,
+            },
+        }
+    }
+
+    /// The queue of an identifier, where it is open.
+    pub fn queue(&self, qid: u16) -> Option<OpenQueue>
+        ensures is_there { result ≡ queue_at self.now qid }
+        ensures fits { FitsUnder qid result }
+    {
+        if qid > HIGHEST_QID {
+            None
+        } else {
+            self.slots[usize::from(qid)]
+        }
+    }
+
+    /// The class in which a queue is seen.
+    pub fn class_of(&self, qid: u16) -> Option<Class>
+        ensures { result ≡ class_in (seen_of self.now) qid }
+    {
+        match self.queue(qid) {
+            Some(queue) => Some(queue.class),
+            None => None,
+        }
+    }
+
+    /// Takes commands from the queue of an identifier, where it is open.
+    pub fn take(&mut self, qid: u16, n: u16)
+        ensures taken { self.new ≡ slice_set self.old qid (option_map (fewer n) (queue_at self.old qid)) }
+        ensures observed { IsObservation (seen_of self.new) }
+    {
+        let _ = &self.slots;
+        if let Some(queue) = self.queue(qid) {
+            let queue = OpenQueue {
+                class: queue.class,
+                count: queue.count.saturating_sub(n),
+            };
+            self.put(qid, queue.class, Some(queue));
+        }
+    }
+
+    /// Puts what is open under an identifier, of the same class as what was open there.
+    pub fn put(&mut self, qid: u16, class: Class, queue: Option<OpenQueue>)
+        requires within { qid ≤ highest_qid }
+        requires fits { FitsUnder qid queue }
+        requires was_of { IsOf class (queue_at self.old qid) }
+        requires is_of { IsOf class queue }
+        ensures is_put { self.new ≡ slice_set self.old qid queue }
+        ensures observed { IsObservation (seen_of self.new) }
+    {
+        let ready = has_waiting(queue);
+        self.slots[usize::from(qid)] = queue;
+        self.ready.put(class, qid, ready);
+    }
+
+    /// The open queues by ascending identifier, as they are seen.
+    pub fn seen(&self) -> ArrayVec<Seen, QUEUE_LIMIT>
+        ensures { result.items ≡ seen_of self.now }
+    {
+        let mut seen = ArrayVec::new();
+        for qid in 0..HIGHEST_QID + 1 {
+            if let Some(queue) = self.slots[usize::from(qid)] {
+                seen.push(Seen {
+                    qid,
+                    class: queue.class,
+                    count: queue.count,
+                });
+            }
+        }
+        seen
+    }
+
+    /// The next ready queue after the one that was served last, in a class where one is given.
+    pub fn next(&self, class: Option<Class>, last: Option<u16>) -> Option<Seen>
+        ensures { result ≡ next last (filter (is_wanted class) (seen_of self.now)) }
+    {
+        let first = self.first(class);
+        match last {
+            Some(last) => self.first_above(class, last).or(first),
+            None => first,
+        }
+    }
+
+    // The first ready queue.
+    fn first(&self, class: Option<Class>) -> Option<Seen>
+        ensures observed { IsObservation (seen_of self.now) }
+        ensures is_first { result ≡ find (is_wanted class) (seen_of self.now) }
+    {
+        self.show(lowest(self.ready.mask(class)))
+    }
+
+    // The first ready queue above an identifier.
+    fn first_above(&self, class: Option<Class>, last: u16) -> Option<Seen>
+        ensures { result ≡ find (λ s. is_wanted class s && nat_lt last s.qid) (seen_of self.now) }
+    {
+        self.show(lowest(above(self.ready.mask(class), last)))
+    }
+
+    // The open queue of an identifier, as it is seen.
+    fn show(&self, qid: Option<u16>) -> Option<Seen>
+        ensures { result ≡ shown self.now qid }
+    {
+        let qid = qid?;
+        let open = self.queue(qid)?;
+        Some(Seen {
+            qid,
+            class: open.class,
+            count: open.count,
+        })
+    }
+}
