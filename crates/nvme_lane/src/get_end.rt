@@ -1,0 +1,66 @@
+//! The end of a ring that gets. It may move to a thread of its own, and no call on it waits for the other end.
+use rtrb::{Consumer, PopError};
+use std::marker::Model;
+
+/// The end of a ring that gets. Contracts see the list of all that it got (`got`), the items that it
+/// knows to come next (`known`), and the address, the slots and the ring that it is an end of.
+#[derive(Drop)]
+pub struct GetEnd<T: Copy> {
+    pub(crate) consumer: Consumer<T>,
+    pub(crate) address: u64,
+    pub(crate) slots: u16,
+}
+
+impl<T: Copy> Model for GetEnd<T> {
+    ghost use Rattle.std.specs.Prelude.{◌≡◌, ◌+◌, ◌<◌, ◌≤◌};
+    ghost use Rattle.rtrb.specs.Ring.{received, known_items, consumer_capacity};
+    ghost use Rattle.nvme_lane.specs.Limits.{min_slots, max_slots};
+    ghost use Rattle.nvme_lane.specs.View.{GetView, ring_of_consumer};
+
+    ghost Value = { GetView T };
+
+    ghost view = { λ e. record { got = received e.consumer; known = known_items e.consumer; address = e.address; slots = e.slots; ring = ring_of_consumer e.consumer } };
+
+    ghost invariant = { λ e. (consumer_capacity e.consumer + 1 ≡ e.slots) × (min_slots ≤ e.slots) × (e.slots ≤ max_slots) };
+}
+
+impl<T: Copy> GetEnd<T> {
+    ghost use Rattle.std.specs.Prelude.{◌≡◌, ◌<◌, ◌≤◌, [], ◌∷◌, ◌++◌, length, IsSome, IfSome, IfNone};
+    ghost use Rattle.nvme_lane.specs.Limits.{min_slots, max_slots};
+    ghost use Rattle.nvme_lane.specs.View.{SameGet};
+
+    /// Gets the oldest item that was put and not got. None where no item was found, never while an item
+    /// is `known`; nothing changed then.
+    pub fn get(&mut self) -> Option<T>
+        ensures ring { SameGet self.old self.new }
+        ensures got { IfSome result (λ x. self.new.got ≡ self.old.got ++ x ∷ []) }
+        ensures known { IfSome result (λ x. 0 < length self.old.known → self.old.known ≡ x ∷ self.new.known) }
+        ensures none_known { IfNone result (self.old.known ≡ []) }
+        ensures unchanged { IfNone result (self.new ≡ self.old) }
+        ensures succeeds { 0 < length self.old.known → IsSome result }
+    {
+        if self.consumer.cached_slots() > 0 {
+            return Some(self.consumer.pop_known());
+        }
+        match self.consumer.pop() {
+            Ok(item) => Some(item),
+            Err(PopError::Empty) => None,
+        }
+    }
+
+    /// The address that the ring was made with.
+    pub fn address(&self) -> u64
+        ensures { result ≡ self.now.address }
+    {
+        self.address
+    }
+
+    /// The number of slots that the ring was made with, from `MIN_SLOTS` to `MAX_SLOTS`.
+    pub fn slots(&self) -> u16
+        ensures value { result ≡ self.now.slots }
+        ensures least { min_slots ≤ result }
+        ensures most { result ≤ max_slots }
+    {
+        self.slots
+    }
+}

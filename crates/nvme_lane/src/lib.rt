@@ -1,0 +1,34 @@
+//! Queues between threads: rings with one end that puts and one that gets, by which hosts and the
+//! controller exchange entries, the feeders and drainers that drive a host's ends, and lanes with
+//! several producers and several consumers, by which workers take their jobs.
+#![tactic(auto)]
+
+mod drainer;
+mod errors;
+mod feeder;
+mod gathering;
+mod get_end;
+mod lanes;
+mod limits;
+mod making;
+mod passes;
+mod put_end;
+mod resting;
+mod rings;
+mod rule;
+
+pub use drainer::Drainer;
+pub use errors::{Full, LaneError, NoMemory};
+pub use feeder::{Feed, Feeder};
+pub use gathering::gather;
+pub use get_end::GetEnd;
+pub use lanes::Lane;
+pub use limits::{MAX_CAPACITY, MAX_PASSES, MAX_SLOTS, MIN_SLOTS};
+pub use making::lane;
+pub use passes::{PopPass, PushPass};
+pub use put_end::PutEnd;
+pub use resting::beside;
+pub use rings::ring;
+
+#[cfg(test)]
+mod tests;
