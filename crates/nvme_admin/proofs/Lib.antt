@@ -1,0 +1,7 @@
+pub mod Applied
+pub mod Changed
+pub mod Created
+pub mod LawLemmas
+pub mod Reached
+pub mod Shown
+pub mod Slots

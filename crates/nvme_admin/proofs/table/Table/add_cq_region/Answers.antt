@@ -1,0 +1,18 @@
+use Rattle.std.proofs.Common.{◌∷◌, List, subst, sym, set, Some}
+use Rattle.nvme_admin.specs.declared.region.Region.{Region}
+use Rattle.nvme_admin.specs.History.{Completion, Added}
+use Rattle.nvme_admin.specs.QueueTable.{table_in}
+use Rattle.nvme_admin.specs.Accepted.{effects_of, queue_table}
+use Rattle.nvme_admin.specs.Standing.{TableView, Shows}
+use Rattle.nvme_admin.specs.contracts.table.Table.{the_view}
+use Rattle.nvme_admin.proofs.Shown.{Shows-add_cq}
+use Rattle.nvme_admin.proofs.table.Table.add_cq_region.Goals as goal
+
+pub returns-clause-stands : goal.returns-clause-stands
+unfolding effects_of queue_table
+returns-clause-stands c = λ start h s.
+    let v : TableView = the_view c.self.inside in
+    let shown : Shows v (table_in start (effects_of start h)) = subst (λ (u : TableView). Shows u (table_in start (effects_of start h))) (sym c.self.view_is) s in
+    subst (λ (rs : List Region). Shows (record v { cq_regions = rs; cqs = set v.cqs 0 (Some 0) }) (table_in start (Added Completion c.args.address c.args.slots ∷ effects_of start h)))
+    (sym c.push.ensures.items)
+    (Shows-add_cq start (effects_of start h) v c.args.address c.args.slots c.self.invariant shown)

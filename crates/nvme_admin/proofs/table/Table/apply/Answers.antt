@@ -1,0 +1,39 @@
+use Rattle.nvme_entry.specs.Status.{invalid_field}
+use Rattle.nvme_admin.specs.declared.verdict.Verdict.TheVariants.{Done}
+use Rattle.nvme_admin.proofs.Applied.{Applies-alone, Applies-fused, status_of-applied, dw0_of-applied, Does-unchanged}
+use Rattle.nvme_admin.proofs.table.Table.apply.Goals as goal
+
+pub returns-then-fuse-ne0-clause-stands : goal.returns-then-fuse-ne0-clause-stands
+returns-then-fuse-ne0-clause-stands c = λ start h s.
+    (Applies-fused start h c.args.self.now c.args.entry.now c.fuse.result c.fuse.ensures c.if-fuse-ne0.true s).stands
+
+pub returns-then-fuse-ne0-clause-verdict : goal.returns-then-fuse-ne0-clause-verdict
+returns-then-fuse-ne0-clause-verdict c = λ start h s.
+    (Applies-fused start h c.args.self.now c.args.entry.now c.fuse.result c.fuse.ensures c.if-fuse-ne0.true s).is
+
+pub returns-then-fuse-ne0-clause-status : goal.returns-then-fuse-ne0-clause-status
+returns-then-fuse-ne0-clause-status c = λ start h s. status_of-applied start h c.args.self.now c.args.entry.now (Done invalid_field 0)
+    (Applies-fused start h c.args.self.now c.args.entry.now c.fuse.result c.fuse.ensures c.if-fuse-ne0.true s)
+
+pub returns-then-fuse-ne0-clause-dw0 : goal.returns-then-fuse-ne0-clause-dw0
+returns-then-fuse-ne0-clause-dw0 c = λ start h s. dw0_of-applied start h c.args.self.now c.args.entry.now (Done invalid_field 0)
+    (Applies-fused start h c.args.self.now c.args.entry.now c.fuse.result c.fuse.ensures c.if-fuse-ne0.true s)
+
+pub returns-clause-verdict : goal.returns-clause-verdict
+returns-clause-verdict c = λ start h s.
+    (Applies-alone start h c.args.self.now c.run.new.self c.args.entry.now c.run.result c.admin_of.result c.fuse.result c.admin_of.ensures c.fuse.ensures c.if-fuse-ne0.false c.run.ensures s).is
+
+pub returns-clause-status : goal.returns-clause-status
+returns-clause-status c = λ start h s. status_of-applied start h c.run.new.self c.args.entry.now c.run.result
+    (Applies-alone start h c.args.self.now c.run.new.self c.args.entry.now c.run.result c.admin_of.result c.fuse.result c.admin_of.ensures c.fuse.ensures c.if-fuse-ne0.false c.run.ensures s)
+
+pub returns-clause-dw0 : goal.returns-clause-dw0
+returns-clause-dw0 c = λ start h s. dw0_of-applied start h c.run.new.self c.args.entry.now c.run.result
+    (Applies-alone start h c.args.self.now c.run.new.self c.args.entry.now c.run.result c.admin_of.result c.fuse.result c.admin_of.ensures c.fuse.ensures c.if-fuse-ne0.false c.run.ensures s)
+
+pub returns-clause-stands : goal.returns-clause-stands
+returns-clause-stands c = λ start h s.
+    (Applies-alone start h c.args.self.now c.run.new.self c.args.entry.now c.run.result c.admin_of.result c.fuse.result c.admin_of.ensures c.fuse.ensures c.if-fuse-ne0.false c.run.ensures s).stands
+
+pub returns-clause-unchanged : goal.returns-clause-unchanged
+returns-clause-unchanged c = Does-unchanged c.args.self.now c.run.new.self c.admin_of.result c.run.result c.run.ensures

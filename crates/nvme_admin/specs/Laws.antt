@@ -1,0 +1,44 @@
+-- Laws over table histories.
+use Rattle.std.specs.Prelude.{◌≡◌, ◌≢◌, ℕ, ◌<◌, ◌⊎◌, Bool, true, false, List, [], ◌∷◌, ◌++◌, Some, is_some}
+use Rattle.nvme_entry.specs.AdminCommand.{admin_command_of}
+use Rattle.nvme_entry.specs.declared.submission.Sqe.{Sqe}
+use Rattle.nvme_entry.specs.declared.admin.AdminCommand.TheVariants.{SetFeatures}
+use Rattle.nvme_admin.specs.declared.bounds.TheConstants.{MAX_REGIONS}
+use Rattle.nvme_admin.specs.declared.verdict.SqEntry.{SqEntry}
+use Rattle.nvme_admin.specs.History.{Start, TableHistory, EntryApplied}
+use Rattle.nvme_admin.specs.QueueTable.{is_used, sq_named_in, cq_named_in, number_of_queues}
+use Rattle.nvme_admin.specs.Accepted.{effects_of, queue_table, is_accepted, sq_at, cq_at, nsq_at, ncq_at}
+
+-- the completion queue that an I/O submission queue, open or closing, is attached to is open
+abbrev pub AttachedStayOpen : Type 0
+AttachedStayOpen = (start : Start) (h : TableHistory) (q : ℕ) (queue : SqEntry)
+    → start.nsq < MAX_REGIONS → q ≢ 0 → sq_at start h q ≡ Some queue → is_some (cq_at start h queue.cqid) ≡ true
+
+-- region 0 isn't named, and no region is named twice
+abbrev pub NamedOnce : List ℕ → Type 0
+NamedOnce [] = Unit {0}
+NamedOnce (k ∷ named) = (is_used named k ≡ false) × NamedOnce named
+
+-- each region is used at most once: the accepted Creates name different regions, and never the admin queue's
+abbrev pub RegionsAreUsedOnce : Type 0
+RegionsAreUsedOnce = (start : Start) (h : TableHistory) → NamedOnce (sq_named_in (effects_of start h)) × NamedOnce (cq_named_in (effects_of start h))
+
+-- after an accepted Create, whatever follows it, no request for Number of Queues is accepted
+abbrev pub NoRequestAfterCreate : Type 0
+NoRequestAfterCreate = (start : Start) (later h : TableHistory) (entry : Sqe) (sv : Bool) (cdw11 : ℕ)
+    → (queue_table start h).created ≡ true → admin_command_of entry ≡ SetFeatures number_of_queues sv cdw11
+    → is_accepted start (later ++ h) entry ≡ false
+
+-- the allotted numbers are fixed: a Set of Number of Queues, or a Create, was accepted
+abbrev pub AreNumbersFixed : Start → TableHistory → Type 0
+AreNumbersFixed start h = ((queue_table start h).numbers_set ≡ true) ⊎ ((queue_table start h).created ≡ true)
+
+-- fixed numbers never change
+abbrev pub NumbersStayFixed : Type 0
+NumbersStayFixed = (start : Start) (later h : TableHistory) → AreNumbersFixed start h
+    → (nsq_at start (later ++ h) ≡ nsq_at start h) × (ncq_at start (later ++ h) ≡ ncq_at start h)
+
+-- queues of one region are one queue: of two submission queues, open or closing, that have the same region, both are the same
+abbrev pub RegionsTellQueues : Type 0
+RegionsTellQueues = (start : Start) (h : TableHistory) (q r : ℕ) (a b : SqEntry)
+    → sq_at start h q ≡ Some a → sq_at start h r ≡ Some b → a.region ≡ b.region → q ≡ r

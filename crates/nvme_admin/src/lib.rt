@@ -1,0 +1,17 @@
+//! The queue table of a controller, its features, and the checks of admin commands.
+#![tactic(auto)]
+
+mod bounds;
+pub mod laws;
+mod limits;
+mod region;
+mod table;
+#[cfg(test)]
+mod tests;
+mod verdict;
+
+pub use bounds::{MAX_IO_QUEUES, MAX_QSIZE, MAX_REGIONS, MAX_SLOTS, MIN_SLOTS};
+pub use limits::Limits;
+pub use region::{AdminError, Region};
+pub use table::Table;
+pub use verdict::{SqEntry, Verdict};

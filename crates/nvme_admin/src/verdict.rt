@@ -1,0 +1,45 @@
+use nvme_arbiter::{Class, Settings};
+use nvme_entry::Status;
+
+/// A submission queue that is open or closing.
+#[derive(Clone, Copy, Debug, PartialEq, Eq)]
+pub struct SqEntry {
+    /// The number of its region.
+    pub region: u8,
+    /// The completion queue that it is attached to.
+    pub cqid: u16,
+    /// Its priority class: that of QPRIO under either arbitration mechanism, since the table doesn't
+    /// know the mechanism, and round robin arbitration doesn't look at the class of an I/O queue.
+    pub class: Class,
+    /// Its deletion was accepted and isn't finished.
+    pub closing: bool,
+}
+
+/// What an admin command comes to. All but `Done` mean success with 0 as DW0.
+#[derive(Clone, Copy, Debug, PartialEq, Eq)]
+pub enum Verdict {
+    /// Answer at once with this status and this DW0.
+    Done(Status, u32),
+    /// A submission queue was created on a submission region.
+    OpenSq {
+        qid: u16,
+        region: u8,
+        cqid: u16,
+        class: Class,
+    },
+    /// A completion queue was created on a completion region.
+    OpenCq {
+        qid: u16,
+        region: u8,
+    },
+    /// The submission queue is closing. Its deletion is to be finished.
+    BeginDelete {
+        qid: u16,
+    },
+    /// The completion queue was deleted.
+    CloseCq {
+        qid: u16,
+    },
+    /// The settings of the Arbitration feature were set.
+    SetArbitration(Settings),
+}
