@@ -1,0 +1,49 @@
+-- A result is got from one of several ends.
+use Rattle.std.proofs.Common.{◌≡◌, ℕ, ◌+◌, ◌<◌, [], ◌∷◌, ◌++◌, length, get_or, set, take, drop, sym, ap, ◌∙◌, subst, add-one, drop-cons}
+use Rattle.std.proofs.lemmas.List.{take-append-drop, take-set, drop-set, set-get_or, take_more, map-append}
+use Rattle.std.proofs.lemmas.List.Elements.{All-push}
+use Rattle.std.specs.List.{All}
+use Rattle.nvme_lane.specs.View.{GetView, SameGet}
+use Rattle.nvme_pool.specs.declared.jobs.Finished.{Finished}
+use Rattle.nvme_pool.specs.Place.{get_place}
+use Rattle.nvme_pool.specs.Seat.{Ends, IsUnknown, OneGained, rings_at}
+
+pub gained_at : (ends : Ends) (i : ℕ) (d g' : GetView Finished) (x : Finished) → i < length ends → All IsUnknown (take i ends)
+    → SameGet (get_or ends i d) g' → g'.got ≡ (get_or ends i d).got ++ x ∷ [] → OneGained ends (set ends i g') x
+gained_at ends i d g' x within unknown same got = record {
+  before = take i ends;
+  end = get_or ends i d;
+  after = drop (i + 1) ends;
+  end' = g';
+  were = sym (take-append-drop i ends) ∙ ap (λ xs. take i ends ++ xs) (rw add-one (drop-cons ends i d within));
+  are = sym (take-append-drop i (set ends i g')) ∙ ap (λ xs. xs ++ drop i (set ends i g')) (take-set ends i g') ∙ ap (λ xs. take i ends ++ xs) (drop-set ends i g' within);
+  none_before = unknown;
+  same = same;
+  got = got;
+}
+
+-- the same, where the list goes by another name
+pub gained_from : (old now : Ends) (i : ℕ) (d g' : GetView Finished) (x : Finished) → now ≡ old → i < length old → All IsUnknown (take i old)
+    → SameGet (get_or now i d) g' → g'.got ≡ (get_or now i d).got ++ x ∷ [] → OneGained old (set now i g') x
+gained_from old now i d g' x is within unknown same got =
+    let P : Ends → Type 0 = λ ends. OneGained old (set ends i g') x in
+    let Q : Ends → Type 0 = λ ends. SameGet (get_or ends i d) g' in
+    let R : Ends → Type 0 = λ ends. g'.got ≡ (get_or ends i d).got ++ x ∷ [] in
+    subst P (sym is) (gained_at old i d g' x within unknown (subst Q is same) (subst R is got))
+
+-- an end that gave nothing is put back
+pub kept_at : (old now : Ends) (i : ℕ) (d g' : GetView Finished) → now ≡ old → g' ≡ get_or now i d → set now i g' ≡ old
+kept_at old now i d g' is unchanged = ap (λ g. set now i g) unchanged ∙ set-get_or now i d ∙ is
+
+pub unknown_more : (old now : Ends) (i : ℕ) (d : GetView Finished) → now ≡ old → i < length old → (get_or now i d).known ≡ [] → All IsUnknown (take i old) → All IsUnknown (take (i + 1) old)
+unknown_more old now i d is within none unknown =
+    let P : Ends → Type 0 = λ ends. (get_or ends i d).known ≡ [] in
+    subst (All IsUnknown) (sym (take_more old i d within)) (All-push IsUnknown (take i old) (get_or old i d) unknown (subst P is none))
+
+-- the ends stay at their rings
+pub gained_rings : (old new : Ends) (x : Finished) → OneGained old new x → rings_at new ≡ rings_at old
+gained_rings old new x one =
+    let place : get_place one.end' ≡ get_place one.end = cc in
+    ap rings_at one.are ∙ map-append (λ (g : GetView Finished). get_place g) one.before (one.end' ∷ one.after)
+    ∙ ap (λ y. rings_at one.before ++ y ∷ rings_at one.after) place
+    ∙ sym (map-append (λ (g : GetView Finished). get_place g) one.before (one.end ∷ one.after)) ∙ sym (ap rings_at one.were)

@@ -1,0 +1,6 @@
+pub mod Beginnings
+pub mod Gaining
+pub mod Keeping
+pub mod Once
+pub mod Retiring
+pub mod Standing

@@ -1,0 +1,9 @@
+pub mod Limits
+pub mod Jobs
+pub mod Place
+pub mod Worker
+pub mod Steps
+pub mod Seat
+pub mod Passes
+pub mod Pool
+pub mod Closing

@@ -1,0 +1,10 @@
+-- The sizes of a pool (profile). Everything that speaks of a limit names it here.
+use Rattle.std.specs.Prelude.{ℕ}
+
+-- the most workers of a pool; the fewest is 1
+abbrev pub max_workers : ℕ
+max_workers = 8
+
+-- the slots of each worker's result ring
+abbrev pub result_slots : ℕ
+result_slots = 256

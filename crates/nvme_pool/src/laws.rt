@@ -1,0 +1,19 @@
+//! What the caller of a close knows where nothing is left. The function does nothing: its contract is the
+//! law.
+ghost use Rattle.std.specs.Prelude.{◌≡◌, ℕ, List, map, sum_by};
+ghost use Rattle.std.specs.List.{All};
+ghost use Rattle.nvme_lane.specs.View.{GetView};
+ghost use Rattle.nvme_pool.specs.declared.jobs.Job.{Job};
+ghost use Rattle.nvme_pool.specs.declared.jobs.Finished.{Finished};
+ghost use Rattle.nvme_pool.specs.Closing.{IsAllDone};
+ghost use Rattle.nvme_pool.specs.Jobs.{result_of};
+ghost use Rattle.nvme_pool.specs.Seat.{Ends};
+ghost use Rattle.nvme_pool.specs.Worker.{WorkerView};
+
+/// Where a close left no job and no result, and no worker kept a result: over all workers each job handed
+/// was executed as often as it was handed, and over all rings its result was gained as often. Jobs and
+/// results are weighed in any way, so that a weight of 1 for one job and of 0 for the others counts it.
+pub fn nothing_left_means_all_done()
+    ensures executed { (handed : List Job) (ends : Ends) (workers : List WorkerView) → IsAllDone handed ends workers → (h : Job → ℕ) → sum_by (λ (w : WorkerView). sum_by h w.executed) workers ≡ sum_by h handed }
+    ensures gained { (handed : List Job) (ends : Ends) (workers : List WorkerView) → IsAllDone handed ends workers → (h : Finished → ℕ) → sum_by (λ (g : GetView Finished). sum_by h g.got) ends ≡ sum_by h (map result_of handed) }
+{}

@@ -1,0 +1,24 @@
+//! The workers that execute I/O commands: the front hands jobs over one lane, each worker takes jobs
+//! from it, executes them, and gives their results to a ring of its own, from which the front gains them.
+#![tactic(auto)]
+
+mod closing;
+mod gate;
+mod jobs;
+mod laws;
+mod limits;
+mod making;
+mod seat;
+mod worker;
+
+pub use closing::close;
+pub use gate::{Gate, NoGate};
+pub use jobs::{Finished, Job};
+pub use laws::nothing_left_means_all_done;
+pub use limits::{JOB_CAPACITY, MAX_WORKERS, RESULT_SLOTS};
+pub use making::{PoolError, pool};
+pub use seat::FrontSeat;
+pub use worker::{Lanes, Worked, Worker};
+
+#[cfg(test)]
+mod tests;
