@@ -1,0 +1,52 @@
+ghost use Rattle.std.specs.Prelude.{◌≡◌};
+ghost use Rattle.nvme_workload.specs.declared.error.WorkloadError.TheVariants.{NoMemory};
+
+use crate::key::Key;
+use std::alloc::{AllocError, AllocFailed};
+use thiserror::Error;
+
+/// The first fault of a workload file, or want of memory. Nothing is read after it, and nothing is
+/// kept of what was read before.
+#[derive(Clone, Copy, Debug, PartialEq, Eq, Error)]
+pub enum WorkloadError {
+    /// The bytes are not UTF-8.
+    #[error("W1 not UTF-8")]
+    NotUtf8,
+    /// The text is not a TOML document.
+    #[error("W2 not TOML")]
+    NotToml,
+    /// A key that a table has to have is not there.
+    #[error("W3 missing {name}", name = .0.name())]
+    Missing(Key),
+    /// The value of a key, or an item of its array, is of a wrong kind or out of its range.
+    #[error("W4 bad {name}", name = .0.name())]
+    Bad(Key),
+    /// A table has a key that is not one of its own.
+    #[error("W5 unknown key")]
+    Unknown,
+    /// More than 16 namespaces, 17 regions of a kind, or 65,536 commands.
+    #[error("W6 over a limit")]
+    Limit,
+    /// Two regions have one address.
+    #[error("W7 repeated address")]
+    Repeated,
+    /// Memory was refused before a fault was found.
+    #[error("out of memory")]
+    NoMemory,
+}
+
+impl From<AllocError> for WorkloadError {
+    ghost from_gives = { λ _ e. e ≡ NoMemory };
+
+    fn from(_e: AllocError) -> WorkloadError {
+        WorkloadError::NoMemory
+    }
+}
+
+impl<T: Drop> From<AllocFailed<T>> for WorkloadError {
+    ghost from_gives = { λ _ e. e ≡ NoMemory };
+
+    fn from(_e: AllocFailed<T>) -> WorkloadError {
+        WorkloadError::NoMemory
+    }
+}

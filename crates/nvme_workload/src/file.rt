@@ -1,0 +1,146 @@
+ghost use Rattle.std.specs.Prelude.{◌≡◌, ◌+◌, ◌≤◌, Ok, IfOk, IfErr, OnOk, IsErrOf, length, vec_len, IsUtf8};
+ghost use Rattle.toml.specs.View.{view, table_view};
+ghost use Rattle.nvme_workload.specs.Readings.{Fails, Gives, seen, number_at};
+ghost use Rattle.nvme_workload.specs.Plan.{plan_of, mechanism_of, with_size, sizes_of, plan_in, plan_of_text, workload_of};
+ghost use Rattle.nvme_workload.specs.Sound.{IsLimit, AreSizes, IsSound};
+
+use crate::error::WorkloadError;
+use crate::key::Key;
+use crate::plan::Workload;
+use crate::regions::{completions_of, submissions_of};
+use crate::values::{array_of, number_at, only_keys, value_at, whole};
+use nvme_admin::{Limits, MAX_IO_QUEUES};
+use nvme_arbiter::{Mechanism, Settings};
+use nvme_entry::{MAX_NAMESPACES, Namespaces, SpaceError};
+use std::alloc::Global;
+use toml::{Table, Value};
+
+const KEYS: [Key; 8] = [
+    Key::Mechanism,
+    Key::Arbitration,
+    Key::SqLimit,
+    Key::CqLimit,
+    Key::Patience,
+    Key::Namespaces,
+    Key::Submission,
+    Key::Completion,
+];
+
+// The mechanism.
+fn mechanism_of(value: &Value) -> Result<Mechanism, WorkloadError>
+    ensures { result ≡ mechanism_of (view value.now) }
+{
+    match value.as_str() {
+        Some("round-robin") => Ok(Mechanism::RoundRobin),
+        Some("weighted") => Ok(Mechanism::Weighted),
+        _ => Err(WorkloadError::Bad(Key::Mechanism)),
+    }
+}
+
+// Appends the size of one more namespace.
+#[tactic(auto, unfolding(crate::specs::Plan::with_size))]
+fn push_size(sizes: &mut Vec<u64>, item: &Value) -> Result<(), WorkloadError>
+    ensures ok { OnOk result (with_size sizes.old.items (view item.now) ≡ Ok sizes.new.items) }
+    ensures err { IfErr result (λ e. Fails e (with_size sizes.old.items (view item.now))) }
+    ensures one { OnOk result (vec_len sizes.new ≡ vec_len sizes.old + 1) }
+    ensures sound { OnOk result (AreSizes sizes.old.items → AreSizes sizes.new.items) }
+{
+    let size = whole(item, Key::Namespaces, 1, 0x7fff_ffff_ffff_ffff)?;
+    sizes.push(size)?;
+    Ok(())
+}
+
+// The namespaces.
+#[tactic(auto, using(crate::proofs::Turns::item_count_view), unfolding(crate::specs::Plan::sizes_of))]
+fn spaces_of(alloc: Global, value: &Value) -> Result<Namespaces, WorkloadError>
+    ensures value { Gives result (sizes_of (view value.now)) }
+    ensures few { IfOk result (λ sizes. length sizes ≤ MAX_NAMESPACES) }
+    ensures sound { IfOk result AreSizes }
+{
+    let items = array_of(value, Key::Namespaces)?;
+    if MAX_NAMESPACES < items.len() {
+        return Err(WorkloadError::Limit);
+    }
+    let mut sizes = Vec::new(alloc);
+    for item in items {
+        push_size(&mut sizes, item)?;
+    }
+    match Namespaces::new(&sizes) {
+        Ok(spaces) => Ok(spaces),
+        Err(SpaceError::TooMany) => Err(WorkloadError::Limit),
+        Err(SpaceError::Empty) => Err(WorkloadError::Bad(Key::Namespaces)),
+    }
+}
+
+// The limit on the queues of a kind.
+fn limit_at(table: &Table, key: Key) -> Result<u16, WorkloadError>
+    ensures value { result ≡ number_at key 1 MAX_IO_QUEUES (table_view table.now) }
+    ensures in_range { IfOk result IsLimit }
+{
+    let limit = number_at(table, key, 1, u64::from(MAX_IO_QUEUES))?;
+    Ok(limit as u16)
+}
+
+// The file's own table.
+#[tactic(auto, unfolding(crate::specs::Plan::plan_in))]
+fn workload_in(alloc: Global, table: &Table) -> Result<Workload, WorkloadError>
+    ensures value { Gives (seen plan_of result) (plan_in (table_view table.now)) }
+    ensures sound { IfOk result (λ w. IsSound (plan_of w)) }
+{
+    only_keys(&KEYS, table)?;
+    let mechanism = mechanism_of(value_at(table, Key::Mechanism)?)?;
+    let arbitration = number_at(table, Key::Arbitration, 0, 0xffff_ffff)?;
+    let nsq = limit_at(table, Key::SqLimit)?;
+    let ncq = limit_at(table, Key::CqLimit)?;
+    let patience = number_at(table, Key::Patience, 1, 0xffff_ffff)?;
+    let spaces = spaces_of(alloc, value_at(table, Key::Namespaces)?)?;
+    let submissions = submissions_of(alloc, value_at(table, Key::Submission)?)?;
+    let completions = completions_of(
+        alloc,
+        submissions.as_slice(),
+        value_at(table, Key::Completion)?,
+    )?;
+    Ok(Workload {
+        mechanism,
+        settings: Settings::from_cdw11(arbitration as u32),
+        limits: Limits { nsq, ncq },
+        spaces,
+        patience: patience as u32,
+        submissions,
+        completions,
+    })
+}
+
+// The document of a text.
+#[tactic(auto, unfolding(crate::specs::Plan::plan_of_text))]
+fn workload_of_text(alloc: Global, text: &str) -> Result<Workload, WorkloadError>
+    ensures value { Gives (seen plan_of result) (plan_of_text text.now) }
+    ensures sound { IfOk result (λ w. IsSound (plan_of w)) }
+{
+    match toml::table_from_str(alloc, text) {
+        Ok(table) => workload_in(alloc, &table),
+        Err(fault) if fault.is_memory() => Err(WorkloadError::NoMemory),
+        Err(_) => Err(WorkloadError::NotToml),
+    }
+}
+
+/// Reads a workload file: what it says, or its first fault. The bytes have to be UTF-8, and the text a
+/// TOML document. In each table the keys that it may not have are looked for first, then each of its
+/// keys in the order of `Key`, and an array item by item, but its length before its items. All of
+/// `submission`, scripts included, comes before `completion`.
+///
+/// `NoMemory` comes in a fault's place only where memory was refused before that fault was found. On
+/// a fault nothing is kept.
+#[tactic(auto, unfolding(crate::specs::Plan::workload_of))]
+pub fn read(alloc: Global, bytes: &[u8]) -> Result<Workload, WorkloadError>
+    ensures value { Gives (seen plan_of result) (workload_of bytes.now) }
+    ensures sound { IfOk result (λ w. IsSound (plan_of w)) }
+
+    // Bytes that are no text are told from others without memory.
+    ensures not_utf8 { ¬ IsUtf8 bytes.now → IsErrOf result WorkloadError.NotUtf8 }
+{
+    match std::str::from_utf8(bytes) {
+        Ok(text) => workload_of_text(alloc, text),
+        Err(_) => Err(WorkloadError::NotUtf8),
+    }
+}

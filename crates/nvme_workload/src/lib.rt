@@ -1,0 +1,18 @@
+//! The workload file: what hosts submit, and the controller that they submit it to.
+#![tactic(auto)]
+
+mod error;
+mod file;
+mod key;
+mod plan;
+mod regions;
+mod scripts;
+#[cfg(test)]
+mod tests;
+mod values;
+
+pub use error::WorkloadError;
+pub use file::read;
+pub use key::Key;
+pub use plan::{CqPlan, Sequence, SqPlan, Workload};
+pub use scripts::MAX_COMMANDS;
