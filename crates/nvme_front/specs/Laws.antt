@@ -1,0 +1,70 @@
+-- Laws of logs, which test the definitions.
+use Rattle.std.specs.Prelude.{◌≡◌, ℕ, ◌+◌, ◌<◌, ◌≤◌, Bool, true, List, ◌∷◌, ◌++◌, length, filter, Some, slice_get}
+use mathlib.Core.List.{IsPrefix}
+use Rattle.nvme_entry.specs.declared.submission.Sqe.{Sqe}
+use Rattle.nvme_entry.specs.declared.completion.Cqe.{Cqe}
+use Rattle.nvme_arbiter.specs.Lawful.{IsLawfulRun}
+use Rattle.nvme_front.specs.declared.event.Event.{Event}
+use Rattle.nvme_front.specs.declared.event.Event.TheVariants.{Post}
+use Rattle.nvme_front.specs.Rules.{Past, FrontRules, Each}
+use Rattle.nvme_front.specs.Places.{fetched, places, fate_of, is_waiting, is_picked, is_aborted}
+use Rattle.nvme_front.specs.Histories.{arbitration_of}
+use Rattle.nvme_front.specs.Completions.{posted_to, posts_of, IsOwn}
+use Rattle.nvme_front.specs.Effects.{EffectsAtOnce}
+use Rattle.nvme_front.specs.Account.{IndexCounts, ServedWhileOpen, Observed, Deletes, PostsOwn, LeavesPlaces, IsAccount, IsWholeAccount}
+
+-- the places of a region that a test of their fates passes
+abbrev pub count_of : (ℕ → Bool) → List ℕ → ℕ
+count_of test is = length (filter test is)
+
+-- each fetched place has exactly one fate: those aborted, those picked and those that wait are together the fetched ones
+abbrev pub OneFateEach : Type 0
+OneFateEach = (past : Past) (r : ℕ) →
+    count_of (λ i. is_aborted past r i) (places past r) + count_of (λ i. is_picked (fate_of past r i)) (places past r)
+    + count_of (λ i. is_waiting (fate_of past r i)) (places past r) ≡ length (fetched past r)
+
+-- what the account says of a log as far as it has come. What a picked command makes may not all be there yet, and more may have been
+-- collected
+pub record AccountsSoFar (rules : FrontRules) (sent : ℕ → List Sqe) (past : Past) : Type 0 where
+  pub fetched_in_order : (r : ℕ) → IsPrefix (fetched past r) (sent r)
+  pub indexes_count : Each IndexCounts past
+  pub served_while_open : Each (ServedWhileOpen rules) past
+  pub observed : Each Observed past
+  pub effects_at_once : Each (EffectsAtOnce rules) past
+  pub deletes : Each Deletes past
+  pub posts_own : Each (PostsOwn rules) past
+  pub leaves_places : Each (LeavesPlaces rules) past
+  pub lawful : IsLawfulRun rules.mechanism rules.start.settings (arbitration_of past)
+
+-- the events of an accounted log up to any of them are accounted as far as they have come
+abbrev pub PrefixesAreAccounted : Type 0
+PrefixesAreAccounted = (rules : FrontRules) (sent : ℕ → List Sqe) (later past : Past) (collected : ℕ → List Cqe)
+    → IsAccount rules sent (later ++ past) collected → AccountsSoFar rules sent past
+
+-- no place of an accounted log has two completions
+abbrev pub OnePostEach : Type 0
+OnePostEach = (rules : FrontRules) (sent : ℕ → List Sqe) (past : Past) (collected : ℕ → List Cqe)
+    → IsAccount rules sent past collected → (r i : ℕ) → posts_of past r i ≤ 1
+
+-- a place has one completion: it is its own, it was collected, in its turn, and the place has no other
+pub record HasOneCompletion (rules : FrontRules) (past : Past) (collected : ℕ → List Cqe) (r i : ℕ) : Type 0 where
+  -- the completion region, and the completion
+  pub region : ℕ
+  pub cqe : Cqe
+  -- the events before it, and after it
+  pub before : Past
+  pub later : Past
+  pub stands : later ++ Post region r i cqe ∷ before ≡ past
+  pub own : IsOwn rules before region r i cqe
+  pub was_collected : slice_get (collected region) (length (posted_to before region)) ≡ Some cqe
+  pub only : posts_of past r i ≡ 1
+
+-- in a whole account what was fetched from each region is what was submitted first, in order, and every fetched command has exactly one
+-- collected completion, its own
+pub record IsAnswered (rules : FrontRules) (sent : ℕ → List Sqe) (past : Past) (collected : ℕ → List Cqe) : Type 0 where
+  pub in_order : (r : ℕ) → IsPrefix (fetched past r) (sent r)
+  pub one_completion : (r i : ℕ) → i < length (fetched past r) → HasOneCompletion rules past collected r i
+
+abbrev pub WholeAccountsAnswer : Type 0
+WholeAccountsAnswer = (rules : FrontRules) (scripts sent : ℕ → List Sqe) (past : Past) (collected : ℕ → List Cqe)
+    → IsWholeAccount rules scripts sent past collected → IsAnswered rules sent past collected

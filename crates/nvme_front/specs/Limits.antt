@@ -1,0 +1,10 @@
+-- The limits of this profile. A later profile raises them here and in src/limits.rt.
+use Rattle.std.specs.Prelude.{ℕ, ◌-◌}
+
+-- the most places that are picked and whose completion isn't posted yet
+abbrev pub max_outstanding : ℕ
+max_outstanding = 256
+
+-- the most candidates of a queue of this many slots: a ring of S slots holds S - 1 entries, and so does a window
+abbrev pub window_of : ℕ → ℕ
+window_of slots = slots - 1

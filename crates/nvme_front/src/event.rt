@@ -1,0 +1,64 @@
+use arrayvec::ArrayVec;
+use nvme_arbiter::{Class, Pick, QUEUE_LIMIT, Seen, Settings};
+use nvme_entry::{Cqe, Sqe};
+
+/// What a front did, in the order in which it did it. A place is a submission region with an index, which counts
+/// that region's fetches from 0.
+#[derive(Debug, Drop, PartialEq, Eq)]
+pub enum Event {
+    /// An entry was got from a submission region's ring into its queue's window.
+    Fetch {
+        region: u8,
+        index: u32,
+        entry: Sqe,
+    },
+    /// Arbitration picked the `n` oldest candidates of a queue, on what it saw.
+    /// (Base Specification, Command Arbitration)
+    Pick {
+        seen: ArrayVec<Seen, QUEUE_LIMIT>,
+        pick: Pick,
+    },
+    /// The settings of the Arbitration feature were set.
+    SetArbitration {
+        settings: Settings,
+    },
+    /// A submission queue was created on a region.
+    OpenSq {
+        qid: u16,
+        region: u8,
+        cqid: u16,
+        class: Class,
+    },
+    /// A completion queue was created on a region.
+    OpenCq {
+        qid: u16,
+        region: u8,
+    },
+    /// The deletion of a submission queue began.
+    Closing {
+        qid: u16,
+        region: u8,
+    },
+    /// A candidate of a submission queue that is being deleted was aborted.
+    Abort {
+        region: u8,
+        index: u32,
+    },
+    /// The completion of a place was put into a completion region's ring.
+    Post {
+        cq_region: u8,
+        region: u8,
+        index: u32,
+        cqe: Cqe,
+    },
+    /// The deletion of a submission queue was finished.
+    ClosedSq {
+        qid: u16,
+        region: u8,
+    },
+    /// A completion queue was deleted.
+    ClosedCq {
+        qid: u16,
+        region: u8,
+    },
+}

@@ -1,0 +1,29 @@
+use crate::event::Event;
+use nvme_entry::{Cqe, Sqe};
+
+/// What a host submitted of its script: the first `count` commands.
+#[derive(Debug, Drop)]
+pub struct Sent {
+    pub script: Vec<Sqe>,
+    pub count: usize,
+}
+
+/// What is left of a front and its hosts when all is settled: the front's log, what each host submitted by
+/// submission region, and what each host collected by completion region.
+#[derive(Debug, Drop)]
+pub struct Settled {
+    pub log: Vec<Event>,
+    pub sent: Vec<Sent>,
+    pub collected: Vec<Vec<Cqe>>,
+}
+
+/// Why a front and its hosts were not settled. All parts that were handed in come back.
+#[derive(Clone, Copy, Debug, PartialEq, Eq)]
+pub enum SettleError {
+    /// The addresses of the feeders or the drainers are not those of the front's regions, in region order.
+    Strangers,
+    /// The front isn't clear, a worker keeps a result, or the ring of an open queue still holds entries.
+    Outstanding,
+    /// Memory was refused.
+    NoMemory,
+}
