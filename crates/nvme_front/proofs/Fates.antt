@@ -1,8 +1,7 @@
 -- Each place has one fate.
-use Rattle.std.proofs.Common.{◌≡◌, ℕ, zero, suc, ◌+◌, Bool, true, false, nat_lt, List, [], ◌∷◌, ◌++◌, length, filter, refl, sym, ap, ◌∙◌, arith, length-append, if◌then◌else◌}
-use Rattle.nvme_front.specs.declared.event.Event.{Event}
+use Rattle.std.proofs.Common.{◌≡◌, ℕ, zero, suc, ◌+◌, Bool, true, false, nat_lt, List, [], ◌∷◌, length, refl, ◌∙◌, arith, length-append, if◌then◌else◌}
 use Rattle.nvme_front.specs.Rules.{Past, upto}
-use Rattle.nvme_front.specs.Places.{fetched, places, Fate, WasAborted, WasPicked, Waits, fate_of, is_waiting, is_picked, is_aborted, unaborted_below, picked}
+use Rattle.nvme_front.specs.Places.{fetched, places, WasAborted, WasPicked, Waits, fate_of, is_waiting, is_picked, is_aborted, unaborted_below, picked}
 use Rattle.nvme_front.specs.Laws.{count_of, OneFateEach}
 
 pub length-upto : (n : ℕ) → length (upto n) ≡ n

@@ -1,3 +1,5 @@
 pub mod Prefixes
 pub mod Fates
 pub mod Posts
+pub mod ExampleLogs
+pub mod Tables

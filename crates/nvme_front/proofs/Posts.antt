@@ -4,16 +4,14 @@ use Rattle.std.specs.Prelude.{slice_get}
 use Rattle.std.specs.List.{list_all}
 use Rattle.std.proofs.lemmas.List.Folds.{list_all-append}
 use Rattle.std.proofs.lemmas.Bool.{cases_lt, eqb-true, eq-eqb}
-use mathlib.Core.List.{IsPrefix}
-use Rattle.nvme_entry.specs.declared.submission.Sqe.{Sqe}
 use Rattle.nvme_entry.specs.declared.completion.Cqe.{Cqe}
 use Rattle.nvme_front.specs.declared.event.Event.{Event}
 use Rattle.nvme_front.specs.declared.event.Event.TheVariants.{Post}
 use Rattle.nvme_front.specs.Rules.{Past, FrontRules, Each, upto}
-use Rattle.nvme_front.specs.Places.{fetched, places}
+use Rattle.nvme_front.specs.Places.{fetched}
 use Rattle.nvme_front.specs.Completions.{is_posted, posts_of, posted_to, IsOwn}
-use Rattle.nvme_front.specs.Account.{PostsOwn, IsAccount, IsWholeAccount}
-use Rattle.nvme_front.specs.Laws.{OnePostEach, HasOneCompletion, IsAnswered, WholeAccountsAnswer}
+use Rattle.nvme_front.specs.Account.{PostsOwn}
+use Rattle.nvme_front.specs.Laws.{OnePostEach, WholeAccountsAnswer}
 use Rattle.nvme_front.proofs.Prefixes.{posted_to-after}
 
 -- a place of which nothing is posted has no post

@@ -1,19 +1,16 @@
 -- What a longer log says of its beginning.
-use Rattle.std.proofs.Common.{◌≡◌, ℕ, ◌==◌, ◌&&◌, Bool, true, false, List, [], ◌∷◌, ◌++◌, refl, sym, ap, ◌∙◌, subst, append_assoc, if◌then◌else◌}
+use Rattle.std.proofs.Common.{◌≡◌, ℕ, ◌==◌, Bool, true, false, List, [], ◌∷◌, ◌++◌, refl, sym, ap, ◌∙◌, append_assoc, if◌then◌else◌}
 use Rattle.std.proofs.lemmas.List.{append-nil}
 use mathlib.Core.List.{IsPrefix}
 use Rattle.nvme_lane.proofs.Prefixes.{IsPrefix-trans}
-use Rattle.nvme_entry.specs.declared.submission.Sqe.{Sqe}
-use Rattle.nvme_entry.specs.declared.completion.Cqe.{Cqe}
 use Rattle.nvme_arbiter.proofs.PickLaws.{prefixes}
 use Rattle.nvme_front.specs.declared.event.Event.{Event}
 use Rattle.nvme_front.specs.declared.event.Event.TheVariants.{Fetch, Pick, SetArbitration, Post}
-use Rattle.nvme_front.specs.Rules.{Past, FrontRules, Each}
+use Rattle.nvme_front.specs.Rules.{Past, Each}
 use Rattle.nvme_front.specs.Places.{fetched}
 use Rattle.nvme_front.specs.Histories.{arbitration_of}
 use Rattle.nvme_front.specs.Completions.{posted_to}
-use Rattle.nvme_front.specs.Account.{IsAccount}
-use Rattle.nvme_front.specs.Laws.{AccountsSoFar, PrefixesAreAccounted}
+use Rattle.nvme_front.specs.Laws.{PrefixesAreAccounted}
 
 pub IsPrefix-refl : {T : Type 0} (xs : List T) → IsPrefix xs xs
 IsPrefix-refl xs = ([], append-nil xs)

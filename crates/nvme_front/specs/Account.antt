@@ -1,10 +1,9 @@
 -- A log accounts for its side of every ring: what was submitted, and what was collected.
-use Rattle.std.specs.Prelude.{◌≡◌, ℕ, ◌==◌, ◌&&◌, nat_le, Bool, true, false, List, [], ◌∷◌, length, Option, Some, None, slice_get, is_some, IsSome}
+use Rattle.std.specs.Prelude.{◌≡◌, ℕ, ◌==◌, ◌&&◌, nat_le, true, false, List, [], ◌∷◌, length, Option, Some, None, slice_get, is_some}
 use Rattle.std.specs.List.{list_all}
 use mathlib.Core.List.{IsPrefix}
 use Rattle.nvme_entry.specs.declared.submission.Sqe.{Sqe}
 use Rattle.nvme_entry.specs.declared.completion.Cqe.{Cqe}
-use Rattle.nvme_arbiter.specs.Limits.{queue_limit}
 use Rattle.nvme_arbiter.specs.Lawful.{IsLawfulRun}
 use Rattle.nvme_front.specs.declared.event.Event.{Event}
 use Rattle.nvme_front.specs.declared.event.Event.TheVariants.{Fetch, Pick, Closing, Abort, Post, ClosedSq}

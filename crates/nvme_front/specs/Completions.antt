@@ -1,12 +1,11 @@
 -- Posts, and the own completion of a place. (Base Specification, Completion Queue Entry)
-use Rattle.std.specs.Prelude.{◌≡◌, ℕ, ◌+◌, ◌/◌, ◌%◌, ◌==◌, ◌&&◌, ◌||◌, Bool, true, false, not, if◌then◌else◌, List, [], ◌∷◌, ◌++◌, length, filter, Option, Some, None, slice_get, sum_by}
+use Rattle.std.specs.Prelude.{◌≡◌, ℕ, ◌+◌, ◌/◌, ◌%◌, ◌==◌, ◌&&◌, ◌||◌, Bool, false, not, if◌then◌else◌, List, [], ◌∷◌, ◌++◌, length, filter, Option, Some, None, slice_get, sum_by}
 use Rattle.nvme_entry.specs.Status.{StatusCode, aborted_by_deletion}
 use Rattle.nvme_entry.specs.Outcome.{outcome_of}
 use Rattle.nvme_entry.specs.declared.submission.Sqe.{Sqe}
 use Rattle.nvme_entry.specs.declared.completion.Cqe.{Cqe}
 use Rattle.nvme_admin.specs.History.{TableHistory}
 use Rattle.nvme_admin.specs.Accepted.{status_of, dw0_of}
-use Rattle.nvme_front.specs.declared.event.Event.{Event}
 use Rattle.nvme_front.specs.declared.event.Event.TheVariants.{Pick, Post}
 use Rattle.nvme_front.specs.Rules.{Past, FrontRules, upto, sq_regions_of, cq_regions_of, slots_at}
 use Rattle.nvme_front.specs.Queues.{qid_of_region, cq_region_of}

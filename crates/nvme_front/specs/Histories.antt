@@ -1,9 +1,8 @@
 -- The histories that a log holds: of arbitration, and of the queue table.
-use Rattle.std.specs.Prelude.{ℕ, ◌==◌, if◌then◌else◌, List, [], ◌∷◌, ◌++◌, Option, Some, None, slice_get, option_and_then, option_to_list, map}
+use Rattle.std.specs.Prelude.{◌==◌, if◌then◌else◌, [], ◌∷◌, ◌++◌, Option, Some, None, slice_get, option_and_then}
 use Rattle.nvme_entry.specs.declared.submission.Sqe.{Sqe}
 use Rattle.nvme_arbiter.specs.History.{History, Picked, Changed}
-use Rattle.nvme_admin.specs.History.{TableHistory, TableStep, EntryApplied, DeletionFinished}
-use Rattle.nvme_front.specs.declared.event.Event.{Event}
+use Rattle.nvme_admin.specs.History.{TableHistory, EntryApplied, DeletionFinished}
 use Rattle.nvme_front.specs.declared.event.Event.TheVariants.{Pick, SetArbitration, ClosedSq}
 use Rattle.nvme_front.specs.Rules.{Past, FrontRules}
 use Rattle.nvme_front.specs.Places.{waiting, entry_at}

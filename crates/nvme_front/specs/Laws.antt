@@ -1,17 +1,25 @@
 -- Laws of logs, which test the definitions.
-use Rattle.std.specs.Prelude.{◌≡◌, ℕ, ◌+◌, ◌<◌, ◌≤◌, Bool, true, List, ◌∷◌, ◌++◌, length, filter, Some, slice_get}
+use Rattle.std.specs.Prelude.{◌≡◌, ℕ, ◌+◌, ◌<◌, ◌≤◌, Bool, if◌then◌else◌, List, [], ◌∷◌, ◌++◌, length, filter, Option, Some, None, slice_get}
 use mathlib.Core.List.{IsPrefix}
 use Rattle.nvme_entry.specs.declared.submission.Sqe.{Sqe}
 use Rattle.nvme_entry.specs.declared.completion.Cqe.{Cqe}
 use Rattle.nvme_arbiter.specs.Lawful.{IsLawfulRun}
-use Rattle.nvme_front.specs.declared.event.Event.{Event}
+use Rattle.nvme_admin.specs.History.{TableHistory}
+use Rattle.nvme_admin.specs.Accepted.{sq_at, cq_at}
+use Rattle.nvme_admin.specs.declared.verdict.SqEntry.{SqEntry}
 use Rattle.nvme_front.specs.declared.event.Event.TheVariants.{Post}
 use Rattle.nvme_front.specs.Rules.{Past, FrontRules, Each}
 use Rattle.nvme_front.specs.Places.{fetched, places, fate_of, is_waiting, is_picked, is_aborted}
-use Rattle.nvme_front.specs.Histories.{arbitration_of}
+use Rattle.nvme_front.specs.Queues.{Queue, open_sq, open_cq}
+use Rattle.nvme_front.specs.Histories.{arbitration_of, table_history}
 use Rattle.nvme_front.specs.Completions.{posted_to, posts_of, IsOwn}
 use Rattle.nvme_front.specs.Effects.{EffectsAtOnce}
 use Rattle.nvme_front.specs.Account.{IndexCounts, ServedWhileOpen, Observed, Deletes, PostsOwn, LeavesPlaces, IsAccount, IsWholeAccount}
+
+-- a submission queue of the table, where it is open and not closing
+abbrev pub as_open : Option SqEntry → Option Queue
+as_open None = None
+as_open (Some entry) = if entry.closing then None else Some (record { region = entry.region; cqid = entry.cqid; class = entry.class })
 
 -- the places of a region that a test of their fates passes
 abbrev pub count_of : (ℕ → Bool) → List ℕ → ℕ
@@ -68,3 +76,19 @@ pub record IsAnswered (rules : FrontRules) (sent : ℕ → List Sqe) (past : Pas
 abbrev pub WholeAccountsAnswer : Type 0
 WholeAccountsAnswer = (rules : FrontRules) (scripts sent : ℕ → List Sqe) (past : Past) (collected : ℕ → List Cqe)
     → IsWholeAccount rules scripts sent past collected → IsAnswered rules sent past collected
+
+-- with its regions alone a front has just the admin queues
+pub record StartsWithAdmin (rules : FrontRules) : Type 0 where
+  pub sq : (q : ℕ) → open_sq [] q ≡ as_open (sq_at rules.start rules.regions q)
+  pub cq : (q : ℕ) → open_cq [] q ≡ cq_at rules.start rules.regions q
+
+-- the queues of a log are those of a table history: the open submission queues with their regions, completion queues and classes, and the
+-- open completion queues with their regions
+pub record QueuesAre (rules : FrontRules) (history : TableHistory) (past : Past) : Type 0 where
+  pub sq : (q : ℕ) → open_sq past q ≡ as_open (sq_at rules.start history q)
+  pub cq : (q : ℕ) → open_cq past q ≡ cq_at rules.start history q
+
+-- the queues that an accounted log opens and closes are those of its table history
+abbrev pub QueuesAreTheTables : Type 0
+QueuesAreTheTables = (rules : FrontRules) (sent : ℕ → List Sqe) (past : Past) (collected : ℕ → List Cqe)
+    → StartsWithAdmin rules → IsAccount rules sent past collected → QueuesAre rules (table_history rules past) past

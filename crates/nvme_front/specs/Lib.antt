@@ -8,3 +8,4 @@ pub mod Effects
 pub mod Account
 pub mod Loaded
 pub mod Laws
+pub mod Examples

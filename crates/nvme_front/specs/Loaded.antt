@@ -1,15 +1,15 @@
 -- The loaded log: the log of a front whose hosts had submitted their whole scripts before its first turn, posts left out.
-use Rattle.std.specs.Prelude.{◌≡◌, ℕ, ◌+◌, ◌==◌, ◌&&◌, ◌||◌, nat_le, Bool, true, false, not, if◌then◌else◌, List, [], ◌∷◌, length, Option, Some, None, unwrap_or, MatchOption}
+use Rattle.std.specs.Prelude.{◌≡◌, ℕ, ◌==◌, ◌&&◌, ◌||◌, nat_le, Bool, true, false, List, [], ◌∷◌, length, Option, Some, None, unwrap_or, MatchOption}
 use Rattle.std.specs.List.{list_all}
 use mathlib.Core.List.{IsPrefix}
 use Rattle.nvme_entry.specs.declared.submission.Sqe.{Sqe}
 use Rattle.nvme_arbiter.specs.Limits.{queue_limit}
 use Rattle.nvme_arbiter.specs.Lawful.{IsLawfulRun}
 use Rattle.nvme_front.specs.declared.event.Event.{Event}
-use Rattle.nvme_front.specs.declared.event.Event.TheVariants.{Fetch, Pick, Closing, Abort, Post, ClosedSq}
+use Rattle.nvme_front.specs.declared.event.Event.TheVariants.{Fetch, Pick, Abort, Post, ClosedSq}
 use Rattle.nvme_front.specs.Rules.{Past, FrontRules, Each, upto, window_at}
-use Rattle.nvme_front.specs.Queues.{Queue, Deletion, open_sq, pending, is_closed_region, qid_of_region}
-use Rattle.nvme_front.specs.Places.{fetched, waiting, observation_of}
+use Rattle.nvme_front.specs.Queues.{Queue, Deletion, open_sq, pending, qid_of_region}
+use Rattle.nvme_front.specs.Places.{fetched, waiting}
 use Rattle.nvme_front.specs.Histories.{arbitration_of}
 use Rattle.nvme_front.specs.Effects.{made_last, effects_since, EffectsAtOnce}
 use Rattle.nvme_front.specs.Account.{IndexCounts, ServedWhileOpen, Observed}

@@ -1,10 +1,9 @@
 -- The places of a log and their fates. A place is a submission region with an index, which counts the region's fetches from 0.
-use Rattle.std.specs.Prelude.{ℕ, ◌+◌, ◌==◌, ◌&&◌, ◌||◌, Bool, true, false, not, nat_lt, if◌then◌else◌, List, [], ◌∷◌, ◌++◌, length, filter, Option, Some, None, slice_get, option_and_then}
+use Rattle.std.specs.Prelude.{ℕ, ◌+◌, ◌==◌, ◌&&◌, ◌||◌, Bool, true, false, not, nat_lt, if◌then◌else◌, List, [], ◌∷◌, ◌++◌, length, filter, Option, Some, None, slice_get}
 use Rattle.std.specs.List.{flat_map}
 use Rattle.nvme_entry.specs.declared.submission.Sqe.{Sqe}
 use Rattle.nvme_arbiter.specs.Limits.{queue_limit}
 use Rattle.nvme_arbiter.specs.declared.pick.Seen.{Seen}
-use Rattle.nvme_front.specs.declared.event.Event.{Event}
 use Rattle.nvme_front.specs.declared.event.Event.TheVariants.{Fetch, Pick, Abort}
 use Rattle.nvme_front.specs.Rules.{Past, upto}
 use Rattle.nvme_front.specs.Queues.{Queue, open_sq, has_region}
