@@ -2,6 +2,8 @@
 //! figures go to standard error, and `ok` to standard output.
 #![tactic(auto)]
 
+mod boards;
+mod jobs;
 mod picks;
 mod rates;
 mod rings;
@@ -10,7 +12,7 @@ use anyhow::{Result, bail, ensure};
 use std::env;
 
 // What a measurement is: its name and what it measures.
-const USAGE: &str = "usage: nvme_bench picks|rings|all COUNT";
+const USAGE: &str = "usage: nvme_bench picks|boards|rings|jobs|all COUNT";
 
 fn main(rt: HostRuntime) -> Result<()> {
     let words: Vec<String> = env::args(&rt)?.collect(rt.alloc())?;
@@ -21,10 +23,14 @@ fn main(rt: HostRuntime) -> Result<()> {
     ensure!(count > 0, "{USAGE}");
     match name.as_str() {
         "picks" => picks::measure(&rt, count)?,
+        "boards" => boards::measure(&rt, count)?,
         "rings" => rings::measure(&rt, count)?,
+        "jobs" => jobs::measure(&rt, count)?,
         "all" => {
             picks::measure(&rt, count)?;
+            boards::measure(&rt, count)?;
             rings::measure(&rt, count)?;
+            jobs::measure(&rt, count)?;
         }
         _ => bail!("{USAGE}"),
     }

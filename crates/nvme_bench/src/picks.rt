@@ -5,16 +5,21 @@ use std::io;
 use std::rt::Clock;
 use std::time::Instant;
 
+/// The class of a queue of a measurement: the four classes of I/O queues in turn.
+pub fn class_of(k: usize) -> Class {
+    match k % 4 {
+        0 => Class::Urgent,
+        1 => Class::High,
+        2 => Class::Medium,
+        _ => Class::Low,
+    }
+}
+
 // Sixteen ready queues, four of each class.
 fn ready_queues() -> [Seen; 16] {
     let mut seen = [Seen::default(); 16];
     for (k, queue) in seen.iter_mut().enumerate() {
-        let class = match k % 4 {
-            0 => Class::Urgent,
-            1 => Class::High,
-            2 => Class::Medium,
-            _ => Class::Low,
-        };
+        let class = class_of(k);
         *queue = Seen {
             qid: (k % 16) as u16 + 1,
             class,
