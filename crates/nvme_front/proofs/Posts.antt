@@ -118,7 +118,7 @@ post_is_next before later c r i cqe =
     rw (← longer.1, here) (slice_get-next (posted_to before c) longer.0 cqe)
 
 pub whole_answers : WholeAccountsAnswer
-whole_answers rules scripts sent past collected h = record {
+whole_answers rules loaded scripts sent past collected h = record {
   in_order = h.account.fetched_in_order;
   one_completion = λ r i lt.
       let posted = all_below (λ (k : ℕ). is_posted past r k) (length (fetched past r)) (h.all_posted r) i lt in

@@ -1,5 +1,6 @@
 -- A log accounts for its side of every ring: what was submitted, and what was collected.
-use Rattle.std.specs.Prelude.{◌≡◌, ℕ, ◌==◌, ◌&&◌, nat_le, true, false, List, [], ◌∷◌, length, Option, Some, None, slice_get, is_some}
+-- (Base Specification, Submission Queue and Completion Queue, Command Arbitration; windows, and one queue a region: profile)
+use Rattle.std.specs.Prelude.{Bool, if◌then◌else◌, ◌≡◌, ℕ, ◌==◌, ◌&&◌, nat_le, true, false, List, [], ◌∷◌, length, Option, Some, None, slice_get, is_some}
 use Rattle.std.specs.List.{list_all}
 use mathlib.Core.List.{IsPrefix}
 use Rattle.nvme_entry.specs.declared.submission.Sqe.{Sqe}
@@ -15,19 +16,20 @@ use Rattle.nvme_front.specs.Histories.{arbitration_of}
 use Rattle.nvme_front.specs.Completions.{is_posted, posted_to, outstanding, is_index, IsOwn}
 use Rattle.nvme_front.specs.Effects.{made_last, effects_since, EffectsAtOnce}
 
--- indexes count each region's fetches from 0
+-- indexes count each region's fetches from 0 (profile)
 abbrev pub IndexCounts : Past → Event → Type 0
 IndexCounts past (Fetch r i entry) = i ≡ length (fetched past r)
 IndexCounts past e = Unit {0}
 
 -- a queue is served only while it is open, and no window holds more candidates than it may
+-- (Create and Delete I/O Submission Queue; the window: profile)
 abbrev pub ServedWhileOpen : FrontRules → Past → Event → Type 0
 ServedWhileOpen rules past (Fetch r i entry) =
     (is_open_region past r ≡ true) × (nat_le (length (waiting (Fetch r i entry ∷ past) r)) (window_at rules r) ≡ true)
 ServedWhileOpen rules past (Pick seen pick) = is_some (open_sq past pick.qid) ≡ true
 ServedWhileOpen rules past e = Unit {0}
 
--- arbitration sees exactly the open queues and their candidates
+-- arbitration sees exactly the open queues and their candidates (Command Arbitration)
 abbrev pub Observed : Past → Event → Type 0
 Observed past (Pick seen pick) = seen.items ≡ observation_of past
 Observed past e = Unit {0}
@@ -35,7 +37,7 @@ Observed past e = Unit {0}
 -- the place of the latest picked admin command
 abbrev pub latest_admin_place : Past → Option ℕ
 latest_admin_place [] = None
-latest_admin_place (Pick seen pick ∷ past) = elim (pick.qid == 0) [ true ↦ slice_get (waiting past 0) 0 | false ↦ latest_admin_place past ]
+latest_admin_place (Pick seen pick ∷ past) = if pick.qid == 0 then slice_get (waiting past 0) 0 else latest_admin_place past
 latest_admin_place (e ∷ past) = latest_admin_place past
 
 -- the admin place whose command began the pending deletion
@@ -46,7 +48,7 @@ deleting_place (ClosedSq qid region ∷ past) = None
 deleting_place (e ∷ past) = deleting_place past
 
 -- a deletion is finished once, when all of its queue's places are posted; until then nothing is fetched or picked, and the deletion isn't
--- answered; after it nothing more happens to its region
+-- answered; after it nothing more happens to its region (Delete I/O Submission Queue; the waiting: profile)
 abbrev pub Deletes : Past → Event → Type 0
 Deletes past (Fetch r i entry) = (pending past ≡ None) × (is_closed_region past r ≡ false)
 Deletes past (Pick seen pick) = pending past ≡ None
@@ -56,12 +58,12 @@ Deletes past (ClosedSq qid r) =
     (pending past ≡ Some (record { qid = qid; region = r })) × (list_all (λ (i : ℕ). is_posted past r i) (places past r) ≡ true)
 Deletes past e = Unit {0}
 
--- a place has at most one completion, its own, after it was picked or aborted
+-- a place has at most one completion, its own, after it was picked or aborted (Completion Queue Entry)
 abbrev pub PostsOwn : FrontRules → Past → Event → Type 0
 PostsOwn rules past (Post c r i cqe) = (is_posted past r i ≡ false) × (is_waiting (fate_of past r i) ≡ false) × IsOwn rules past c r i cqe
 PostsOwn rules past e = Unit {0}
 
--- a pick leaves no more places outstanding than there may be
+-- a pick leaves no more places outstanding than there may be (profile)
 abbrev pub LeavesPlaces : FrontRules → Past → Event → Type 0
 LeavesPlaces rules past (Pick seen pick) = nat_le (outstanding rules (Pick seen pick ∷ past)) max_outstanding ≡ true
 LeavesPlaces rules past e = Unit {0}
@@ -89,8 +91,9 @@ pub record IsDone (past : Past) (script sent : List Sqe) (r : ℕ) : Type 0 wher
   pub all_fetched : fetched past r ≡ sent
   pub all_sent : sent ≡ script
 
--- the whole account of the scripts of a workload: everything that was fetched is answered, and what was answered is collected
-pub record IsWholeAccount (rules : FrontRules) (scripts sent : ℕ → List Sqe) (past : Past) (collected : ℕ → List Cqe) : Type 0 where
+-- the whole account of the scripts of a workload: everything that was fetched is answered, and what was answered is collected.
+-- `loaded` says that the hosts submitted their whole scripts before the first turn (profile)
+pub record IsWholeAccount (rules : FrontRules) (loaded : Bool) (scripts sent : ℕ → List Sqe) (past : Past) (collected : ℕ → List Cqe) : Type 0 where
   pub account : IsAccount rules sent past collected
   pub all_posted : (r : ℕ) → list_all (λ (i : ℕ). is_posted past r i) (places past r) ≡ true
   pub none_waits : (r : ℕ) → waiting past r ≡ []
@@ -98,3 +101,4 @@ pub record IsWholeAccount (rules : FrontRules) (scripts sent : ℕ → List Sqe)
   pub all_collected : (c : ℕ) → collected c ≡ posted_to past c
   pub open_done : (r : ℕ) → is_open_region past r ≡ true → IsDone past (scripts r) (sent r) r
   pub sent_in_order : (r : ℕ) → IsPrefix (sent r) (scripts r)
+  pub loaded_whole : loaded ≡ true → (r : ℕ) → sent r ≡ scripts r

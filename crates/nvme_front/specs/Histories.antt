@@ -1,4 +1,5 @@
 -- The histories that a log holds: of arbitration, and of the queue table.
+-- (Base Specification, Command Arbitration, Admin Command Set)
 use Rattle.std.specs.Prelude.{◌==◌, if◌then◌else◌, [], ◌∷◌, ◌++◌, Option, Some, None, slice_get, option_and_then}
 use Rattle.nvme_entry.specs.declared.submission.Sqe.{Sqe}
 use Rattle.nvme_arbiter.specs.History.{History, Picked, Changed}

@@ -74,8 +74,8 @@ pub record IsAnswered (rules : FrontRules) (sent : ℕ → List Sqe) (past : Pas
   pub one_completion : (r i : ℕ) → i < length (fetched past r) → HasOneCompletion rules past collected r i
 
 abbrev pub WholeAccountsAnswer : Type 0
-WholeAccountsAnswer = (rules : FrontRules) (scripts sent : ℕ → List Sqe) (past : Past) (collected : ℕ → List Cqe)
-    → IsWholeAccount rules scripts sent past collected → IsAnswered rules sent past collected
+WholeAccountsAnswer = (rules : FrontRules) (loaded : Bool) (scripts sent : ℕ → List Sqe) (past : Past) (collected : ℕ → List Cqe)
+    → IsWholeAccount rules loaded scripts sent past collected → IsAnswered rules sent past collected
 
 -- with its regions alone a front has just the admin queues
 pub record StartsWithAdmin (rules : FrontRules) : Type 0 where

@@ -5,6 +5,10 @@ use Rattle.std.specs.Prelude.{ℕ, ◌-◌}
 abbrev pub max_outstanding : ℕ
 max_outstanding = 256
 
+-- the most events that a front's log may be allowed to hold
+abbrev pub most_events : ℕ
+most_events = 1048576
+
 -- the most candidates of a queue of this many slots: a ring of S slots holds S - 1 entries, and so does a window
 abbrev pub window_of : ℕ → ℕ
 window_of slots = slots - 1

@@ -1,4 +1,4 @@
--- The loaded log: the log of a front whose hosts had submitted their whole scripts before its first turn, posts left out.
+-- The loaded log: the log of a front whose hosts had submitted their whole scripts before its first turn, posts left out (profile).
 use Rattle.std.specs.Prelude.{◌≡◌, ℕ, ◌==◌, ◌&&◌, ◌||◌, nat_le, Bool, true, false, List, [], ◌∷◌, length, Option, Some, None, unwrap_or, MatchOption}
 use Rattle.std.specs.List.{list_all}
 use mathlib.Core.List.{IsPrefix}
@@ -8,7 +8,7 @@ use Rattle.nvme_arbiter.specs.Lawful.{IsLawfulRun}
 use Rattle.nvme_front.specs.declared.event.Event.{Event}
 use Rattle.nvme_front.specs.declared.event.Event.TheVariants.{Fetch, Pick, Abort, Post, ClosedSq}
 use Rattle.nvme_front.specs.Rules.{Past, FrontRules, Each, upto, window_at}
-use Rattle.nvme_front.specs.Queues.{Queue, Deletion, open_sq, pending, qid_of_region}
+use Rattle.nvme_front.specs.Queues.{Queue, Deletion, open_sq, pending, is_closed_region, qid_of_region}
 use Rattle.nvme_front.specs.Places.{fetched, waiting}
 use Rattle.nvme_front.specs.Histories.{arbitration_of}
 use Rattle.nvme_front.specs.Effects.{made_last, effects_since, EffectsAtOnce}
@@ -63,6 +63,12 @@ ends_deletion (Some deletion) e = is_abort e || is_closed_of deletion e
 abbrev pub ClosedAtOnce : Past → Event → Type 0
 ClosedAtOnce past e = ends_deletion (pending past) e ≡ true
 
+-- nothing more happens to a region whose queue's deletion was finished
+abbrev pub NothingAfterClosed : Past → Event → Type 0
+NothingAfterClosed past (Fetch r i entry) = is_closed_region past r ≡ false
+NothingAfterClosed past (Abort r i) = is_closed_region past r ≡ false
+NothingAfterClosed past e = Unit {0}
+
 -- the log, without posts, of a workload with these scripts
 pub record IsLoadedLog (rules : FrontRules) (scripts : ℕ → List Sqe) (past : Past) : Type 0 where
   pub no_post : Each IsNoPost past
@@ -79,6 +85,7 @@ pub record IsLoadedLog (rules : FrontRules) (scripts : ℕ → List Sqe) (past :
   pub fetches_last : Each FetchesLast past
   -- each deletion is finished at once
   pub closed_at_once : Each ClosedAtOnce past
+  pub nothing_after_closed : Each NothingAfterClosed past
   pub none_pending : pending past ≡ None
   -- no candidate is left
   pub none_waits : (q : ℕ) → MatchOption (open_sq past q) (Unit {0}) (λ queue. waiting past queue.region ≡ [])

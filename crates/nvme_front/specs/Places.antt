@@ -1,4 +1,4 @@
--- The places of a log and their fates. A place is a submission region with an index, which counts the region's fetches from 0.
+-- The places of a log and their fates. A place is a submission region with an index, which counts the region's fetches from 0 (profile).
 use Rattle.std.specs.Prelude.{ℕ, ◌+◌, ◌==◌, ◌&&◌, ◌||◌, Bool, true, false, not, nat_lt, if◌then◌else◌, List, [], ◌∷◌, ◌++◌, length, filter, Option, Some, None, slice_get}
 use Rattle.std.specs.List.{flat_map}
 use Rattle.nvme_entry.specs.declared.submission.Sqe.{Sqe}

@@ -1,4 +1,4 @@
--- What a front is given, and what its log is a list of.
+-- What a front is given, and what its log is a list of (profile).
 use Rattle.std.specs.Prelude.{ℕ, zero, suc, List, [], ◌∷◌, ◌++◌, map, slice_index_or}
 use Rattle.nvme_arbiter.specs.declared.settings.Mechanism.{Mechanism}
 use Rattle.nvme_admin.specs.declared.region.Region.{Region}

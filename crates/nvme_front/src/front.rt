@@ -1,6 +1,6 @@
 ghost use Rattle.std.specs.Prelude.{◌≤◌};
+ghost use Rattle.nvme_front.specs.Limits.{most_events};
 
-use crate::limits::MAX_EVENTS;
 use nvme_admin::Limits;
 use nvme_arbiter::{Mechanism, Settings};
 use nvme_entry::Namespaces;
@@ -16,9 +16,9 @@ pub struct FrontConfig {
     pub limits: Limits,
     /// The namespaces of the I/O commands.
     pub spaces: Namespaces,
-    /// The most events of the log, at most `MAX_EVENTS`.
+    /// The most events of the log, at most `crate::MAX_EVENTS`.
     pub max_events: u32,
-    ghost few_events: { max_events ≤ 1048576 },
+    ghost few_events: { max_events ≤ most_events },
 }
 
 /// What a turn did, the first that applies.
