@@ -8,10 +8,15 @@ use std::io;
 use std::rt::Clock;
 use std::time::Instant;
 
-// Opens an I/O queue, where its identifier is free.
+// Opens a queue, where its identifier is free: queue 0 as the admin queue, the others with the I/O classes in turn.
 fn open(board: &mut Board, qid: u16) {
-    let class = class_of(usize::from(qid));
-    if qid > 0 && qid <= HIGHEST_QID && class != Class::Admin && board.queue(qid).is_none() {
+    let class = if qid == 0 {
+        Class::Admin
+    } else {
+        class_of(usize::from(qid))
+    };
+    let is_free = qid <= HIGHEST_QID && board.queue(qid).is_none();
+    if is_free && (class == Class::Admin) == (qid == 0) {
         board.open(qid, class);
     }
 }
@@ -25,10 +30,12 @@ fn come(board: &mut Board, qid: u16) {
     }
 }
 
-// A board with so many I/O queues, in each of which two commands wait.
+// A board with so many queues, in each of which two commands wait: the I/O queues from identifier 1 on, and the admin
+// queue where there is no other left.
 fn ready_board(mechanism: Mechanism, queues: u16) -> Board {
     let mut board = Board::new(mechanism, Settings::from_cdw11(0));
-    for qid in 1..=queues.min(HIGHEST_QID) {
+    let first = if queues > HIGHEST_QID { 0 } else { 1 };
+    for qid in first..=queues.min(HIGHEST_QID) {
         open(&mut board, qid);
         come(&mut board, qid);
         come(&mut board, qid);
@@ -55,13 +62,13 @@ fn pick_from_list(arbiter: &mut Arbiter, board: &Board, count: u32) {
     }
 }
 
-/// Measures picks of both mechanisms over 2, 8 and 16 I/O queues with burst 1.
+/// Measures picks of both mechanisms over 2, 8 and 17 queues with burst 1.
 pub fn measure<R: Clock + Eprint + Alloc>(rt: &R, count: u32) -> io::Result<()> {
     for (mechanism, name) in [
         (Mechanism::RoundRobin, "round robin"),
         (Mechanism::Weighted, "weighted"),
     ] {
-        for queues in [2, 8, 16] {
+        for queues in [2, 8, 17] {
             let mut board = ready_board(mechanism, queues);
             let start = Instant::now(rt)?;
             pick_from_board(&mut board, count);

@@ -1,10 +1,10 @@
 -- The layouts are exact: bytes give one entry, and an entry has one list of bytes.
-use Rattle.std.proofs.Common.{◌≡◌, ℕ, zero, suc, ◌+◌, ◌*◌, ◌/◌, ◌%◌, ◌^◌, ◌<◌, ◌≤◌, List, refl, sym, ap, ◌∙◌, arith, slice_index, ◌⊎◌, ⊎_elim, inl, inr}
+use Rattle.std.proofs.Common.{◌≡◌, ℕ, zero, suc, ◌+◌, ◌<◌, ◌≤◌, List, sym, ap, ◌∙◌, arith, slice_index, ⊎_elim, inl, inr}
 use Rattle.std.proofs.lemmas.List.{ext_get_or}
 use Rattle.std.proofs.lemmas.Bool.{cases_lt}
 use Rattle.byteorder.specs.Endian.{little_from}
 use Rattle.byteorder.specs.Numbers.{little_from-lt}
-use Rattle.nvme_entry.specs.Bits.{AreBytes, bits_of, bytes_at, dword}
+use Rattle.nvme_entry.specs.Bits.{AreBytes, bits_of, dword}
 use Rattle.nvme_entry.specs.Completion.{IsCompletionEntry}
 use Rattle.nvme_entry.specs.Submission.{IsSubmissionEntry}
 use Rattle.nvme_entry.specs.declared.completion.Cqe.{Cqe}

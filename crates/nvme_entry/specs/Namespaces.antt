@@ -1,6 +1,6 @@
 -- Namespaces as the list of their sizes in logical blocks. (Base Specification, Namespaces)
-use Rattle.std.specs.Prelude.{◌≡◌, ℕ, ◌+◌, ◌-◌, ◌<◌, ◌≤◌, ◌==◌, List, [], ◌++◌, length, take, drop, replicate, Option, None, slice_get, if◌then◌else◌, refl}
-use Rattle.std.proofs.Common.{sym, ap, ◌∙◌, arith, length-take}
+use Rattle.std.specs.Prelude.{◌≡◌, ℕ, ◌-◌, ◌≤◌, ◌==◌, List, ◌++◌, length, take, replicate, Option, None, slice_get, if◌then◌else◌}
+use Rattle.std.proofs.Common.{sym, arith, length-take}
 
 -- the size of a namespace: the first has identifier 1, and identifier 0 names none
 abbrev pub size_at : List ℕ → ℕ → Option ℕ

@@ -1,4 +1,4 @@
-use Rattle.std.proofs.Common.{refl, ◌∙◌, rules}
+use Rattle.std.proofs.Common.{◌∙◌, rules}
 use Rattle.nvme_entry.proofs.Dwords.{bytes_at-range}
 use Rattle.nvme_entry.proofs.submission.Sqe.from_bytes.Goals as goal
 
