@@ -1,4 +1,4 @@
-use Rattle.std.proofs.Common.{◌≡◌, true, false, Ok, Err, sym, refl}
+use Rattle.std.proofs.Common.{refl}
 use Rattle.hex.proofs.HexLemmas.{IsOk-decode_sized, IsOk-written}
 use Rattle.hex.specs.Hex.{decode_sized}
 use Rattle.nvme_sim.proofs.entries.decoded.Goals as goal
