@@ -69,7 +69,7 @@ impl Table {
     ghost use Rattle.nvme_admin.specs.History.{Start, TableHistory, RegionAdded, EntryApplied, DeletionFinished, Submission, Completion};
     ghost use Rattle.nvme_admin.specs.Accepted.{verdict_of, status_of, dw0_of};
     ghost use Rattle.nvme_admin.specs.Checks.{status_in, dw0_in, is_success};
-    ghost use Rattle.nvme_admin.specs.Standing.{Does, StandsAt, sq_of, cq_of, region_fault};
+    ghost use Rattle.nvme_admin.specs.Standing.{Does, StandsAt, IsSized, sq_of, cq_of, region_fault};
 
     /// A table with no region, within the limits, with the settings of the Arbitration feature.
     pub fn new(limits: Limits, settings: Settings) -> Table
@@ -232,10 +232,15 @@ impl Table {
         ensures stands { (start : Start) (h : TableHistory) →
             StandsAt start self.old h → StandsAt start self.new (EntryApplied entry.now ∷ h) }
         ensures unchanged { is_success (status_in result) ≡ false → self.new ≡ self.old }
+        ensures sized { IsSized self.new }
     {
         if entry.fuse() != 0 {
+            // a field is looked at, so that the proof knows the table's sizes
+            let _ = &self.created;
             return Verdict::Done(Status::INVALID_FIELD, 0);
         }
-        self.run(admin_of(entry))
+        let verdict = self.run(admin_of(entry));
+        let _ = &self.created;
+        verdict
     }
 }

@@ -42,7 +42,7 @@ as_open-closing None = refl
 as_open-closing (Some entry) = refl
 
 -- nor is one that is gone
-as_open-unless_closing : (o : Option SqEntry) → as_open (unless_closing o) ≡ as_open o
+pub as_open-unless_closing : (o : Option SqEntry) → as_open (unless_closing o) ≡ as_open o
 as_open-unless_closing None = refl
 as_open-unless_closing (Some entry) = gone entry.closing refl where
   gone : (b : Bool) → entry.closing ≡ b → as_open (unless_closing (Some entry)) ≡ as_open (Some entry)
@@ -93,7 +93,7 @@ module _ (rules : FrontRules) where
   closes_leave_sq past qid None q = refl
   closes_leave_sq past qid (Some region) q = refl
 
-  step : (t u : TableHistory) (past : Past) (v : Verdict) → QueuesAre rules t past
+  pub step : (t u : TableHistory) (past : Past) (v : Verdict) → QueuesAre rules t past
       → ((q : ℕ) → sq_at rules.start u q ≡ sq_after v (sq_at rules.start t) q) → ((q : ℕ) → cq_at rules.start u q ≡ cq_after v (cq_at rules.start t) q)
       → QueuesAre rules u (with_events (made_by past v) past)
   step t u past (Done status dw0) h sqs cqs = same_queues t u past past h (λ q. refl) (λ q. refl) sqs cqs
@@ -140,11 +140,11 @@ module _ (rules : FrontRules) where
   cons_cq (ClosedCq qid region) past other h q = ap (λ (z : Option ℕ). if qid == q then None else z) (h q)
   cons_cq e past other h q = h q
 
-  events_sq : (rest : List Event) (past other : Past) → ((q : ℕ) → open_sq past q ≡ open_sq other q) → (q : ℕ) → open_sq (with_events rest past) q ≡ open_sq (with_events rest other) q
+  pub events_sq : (rest : List Event) (past other : Past) → ((q : ℕ) → open_sq past q ≡ open_sq other q) → (q : ℕ) → open_sq (with_events rest past) q ≡ open_sq (with_events rest other) q
   events_sq [] past other h q = h q
   events_sq (e ∷ rest) past other h q = events_sq rest (e ∷ past) (e ∷ other) (cons_sq e past other h) q
 
-  events_cq : (rest : List Event) (past other : Past) → ((q : ℕ) → open_cq past q ≡ open_cq other q) → (q : ℕ) → open_cq (with_events rest past) q ≡ open_cq (with_events rest other) q
+  pub events_cq : (rest : List Event) (past other : Past) → ((q : ℕ) → open_cq past q ≡ open_cq other q) → (q : ℕ) → open_cq (with_events rest past) q ≡ open_cq (with_events rest other) q
   events_cq [] past other h q = h q
   events_cq (e ∷ rest) past other h q = events_cq rest (e ∷ past) (e ∷ other) (cons_cq e past other h) q
 
@@ -163,7 +163,7 @@ module _ (rules : FrontRules) where
   }
 
   -- a finished deletion leaves the completion queues
-  finished_cq : (t : TableHistory) (qid q : ℕ) → cq_at rules.start t q ≡ cq_at rules.start (DeletionFinished qid ∷ t) q
+  pub finished_cq : (t : TableHistory) (qid q : ℕ) → cq_at rules.start t q ≡ cq_at rules.start (DeletionFinished qid ∷ t) q
   unfolding effects_of queue_table
   finished_cq t qid q = refl
 

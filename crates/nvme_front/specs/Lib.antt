@@ -9,3 +9,15 @@ pub mod Account
 pub mod Loaded
 pub mod Laws
 pub mod Examples
+pub mod Fifo
+pub mod Kept
+pub mod Standing
+pub mod Goes
+pub mod View
+pub mod Clear
+pub mod Steps
+pub mod Applied
+pub mod Hosts
+pub mod Looks
+pub mod Resting
+pub mod Settles

@@ -12,3 +12,11 @@ most_events = 1048576
 -- the most candidates of a queue of this many slots: a ring of S slots holds S - 1 entries, and so does a window
 abbrev pub window_of : ℕ → ℕ
 window_of slots = slots - 1
+
+-- the most events of an admin pick: the pick, the beginning of a deletion and one for each candidate that it aborts
+abbrev pub admin_events : ℕ
+admin_events = 258
+
+-- the most completions that are ready for one completion region
+abbrev pub max_ready : ℕ
+max_ready = 512

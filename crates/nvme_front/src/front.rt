@@ -1,9 +1,14 @@
 ghost use Rattle.std.specs.Prelude.{◌≤◌};
 ghost use Rattle.nvme_front.specs.Limits.{most_events};
 
+use crate::event::Event;
+use crate::state::FrontState;
 use nvme_admin::Limits;
 use nvme_arbiter::{Mechanism, Settings};
-use nvme_entry::Namespaces;
+use nvme_entry::{Cqe, Namespaces, Sqe};
+use nvme_lane::{GetEnd, PutEnd};
+use std::alloc::Global;
+use std::marker::Model;
 
 /// What a front is made with.
 #[derive(Clone, Copy, Debug, PartialEq, Eq)]
@@ -54,4 +59,133 @@ pub enum FrontError {
     LogFull,
     /// A result with this ticket is of no outstanding job. It was dropped.
     Stray(u32),
+}
+
+/// The front of a controller: it fetches commands from the submission rings of its regions, picks them by arbitration,
+/// executes them, and posts their completions. Contracts see its rules, its log and its ends, and its log accounts for
+/// its ends at any time.
+#[derive(Drop)]
+pub struct Front {
+    pub(crate) state: FrontState,
+}
+
+impl Model for Front {
+    ghost use Rattle.nvme_front.specs.View.{FrontView, view_of};
+    ghost use Rattle.nvme_front.specs.Standing.{IsKept};
+
+    ghost Value = { FrontView };
+
+    ghost view = { λ f. view_of f.state };
+
+    ghost invariant = { λ f. IsKept f.state };
+}
+
+impl Front {
+    ghost use Rattle.std.specs.Prelude.{◌≡◌, ◌≢◌, ◌↔◌, ◌<◌, [], ◌∷◌, ◌++◌, true, false, length, IfOk, OnOk, IfErr, OnErr, IsTrue, ◌==◌, ◌&&◌, nat_lt};
+    ghost use Rattle.nvme_admin.specs.declared.bounds.TheConstants.{MAX_REGIONS};
+    ghost use Rattle.nvme_front.specs.View.{AccountsForEnds, GoesOn, StepMeans, ErrorMeans, IsClear, is_serving, is_address, past_in};
+    ghost use Rattle.nvme_front.specs.declared.front.AddError.TheVariants.{Used, TooMany, NoMemory};
+
+    /// A front with no region and an empty log.
+    pub fn new(alloc: Global, config: FrontConfig) -> Front
+        ensures mechanism { result.rules.mechanism ≡ config.mechanism }
+        ensures start { result.rules.start ≡ record { nsq = config.limits.nsq; ncq = config.limits.ncq; settings = config.settings } }
+        ensures sizes { result.rules.sizes ≡ config.spaces }
+        ensures limit { result.limit ≡ config.max_events }
+        ensures log { result.log ≡ [] }
+        ensures gets { result.gets ≡ [] }
+        ensures puts { result.puts ≡ [] }
+        ensures not_late { result.late ≡ false }
+    {
+        Front {
+            state: FrontState::new(alloc, config),
+        }
+    }
+
+    /// Adds a submission region, and answers its number, which counts from 0 in the order of adding. Region 0 is the
+    /// admin queue's. Refused with `Used` exactly where the address is that of a region of either kind, else with
+    /// `TooMany` exactly where `MAX_REGIONS` submission regions are there, else with `NoMemory` where memory was
+    /// refused; the end comes back, and nothing changed. (profile)
+    pub fn add_sq_region(&mut self, end: GetEnd<Sqe>) -> Result<u8, (AddError, GetEnd<Sqe>)>
+        requires nothing_got { end.got ≡ [] }
+        ensures number { IfOk result (λ r. r ≡ length self.old.gets) }
+        ensures gets { OnOk result (self.new.gets ≡ self.old.gets ++ end ∷ []) }
+        ensures puts { self.new.puts ≡ self.old.puts }
+        ensures log { self.new.log ≡ self.old.log }
+        ensures limit { self.new.limit ≡ self.old.limit }
+        ensures mechanism { self.new.rules.mechanism ≡ self.old.rules.mechanism }
+        ensures start { self.new.rules.start ≡ self.old.rules.start }
+        ensures sizes { self.new.rules.sizes ≡ self.old.rules.sizes }
+        ensures late_after_events { OnOk result (self.old.log ≢ [] → self.new.late ≡ true) }
+        ensures in_time { OnOk result (self.old.log ≡ [] → self.new.late ≡ false) }
+        ensures end { IfErr result (λ e. e.1 ≡ end) }
+        ensures unchanged { OnErr result (self.new ≡ self.old) }
+        ensures used { IfErr result (λ e. (e.0 ≡ Used) ↔ (is_address self.old end.address ≡ true)) }
+        ensures not_used { OnOk result (is_address self.old end.address ≡ false) }
+        ensures too_many { IfErr result (λ e. e.0 ≡ TooMany → length self.old.gets ≡ MAX_REGIONS) }
+        ensures not_too_many { IfErr result (λ e. e.0 ≡ NoMemory → length self.old.gets < MAX_REGIONS) }
+        ensures room { OnOk result (length self.old.gets < MAX_REGIONS) }
+    {
+        self.state.add_sq(end)
+    }
+
+    /// Adds a completion region, as `add_sq_region` does a submission region, with its refusals.
+    pub fn add_cq_region(&mut self, end: PutEnd<Cqe>) -> Result<u8, (AddError, PutEnd<Cqe>)>
+        requires nothing_sent { end.sent ≡ [] }
+        ensures number { IfOk result (λ c. c ≡ length self.old.puts) }
+        ensures puts { OnOk result (self.new.puts ≡ self.old.puts ++ end ∷ []) }
+        ensures gets { self.new.gets ≡ self.old.gets }
+        ensures log { self.new.log ≡ self.old.log }
+        ensures limit { self.new.limit ≡ self.old.limit }
+        ensures mechanism { self.new.rules.mechanism ≡ self.old.rules.mechanism }
+        ensures start { self.new.rules.start ≡ self.old.rules.start }
+        ensures sizes { self.new.rules.sizes ≡ self.old.rules.sizes }
+        ensures late_after_events { OnOk result (self.old.log ≢ [] → self.new.late ≡ true) }
+        ensures in_time { OnOk result (self.old.log ≡ [] → self.new.late ≡ false) }
+        ensures end { IfErr result (λ e. e.1 ≡ end) }
+        ensures unchanged { OnErr result (self.new ≡ self.old) }
+        ensures used { IfErr result (λ e. (e.0 ≡ Used) ↔ (is_address self.old end.address ≡ true)) }
+        ensures not_used { OnOk result (is_address self.old end.address ≡ false) }
+        ensures too_many { IfErr result (λ e. e.0 ≡ TooMany → length self.old.puts ≡ MAX_REGIONS) }
+        ensures not_too_many { IfErr result (λ e. e.0 ≡ NoMemory → length self.old.puts < MAX_REGIONS) }
+        ensures room { OnOk result (length self.old.puts < MAX_REGIONS) }
+    {
+        self.state.add_cq(end)
+    }
+
+    /// One turn: posts the completions that are ready; finishes a pending deletion, and ends there where one is pending;
+    /// fetches what has come; and makes the next pick of arbitration and executes what was picked. Whatever it answers,
+    /// what it did stands in the log, and a later turn goes on from there.
+    pub fn turn(&mut self) -> Result<Step, FrontError>
+        requires admin_sq { 0 < length self.old.gets }
+        requires admin_cq { 0 < length self.old.puts }
+        ensures goes_on { GoesOn self.old self.new }
+        ensures account { self.new.late ≡ false → AccountsForEnds self.new }
+        ensures step { IfOk result (λ step. StepMeans step self.old self.new) }
+        ensures error { IfErr result (λ error. ErrorMeans error self.new) }
+    {
+        self.state.turn()
+    }
+
+    /// What the front did so far, the oldest event first.
+    pub fn log(&self) -> &[Event]
+        ensures log { result.now ≡ self.now.log }
+        ensures account { 0 < length self.now.gets → 0 < length self.now.puts → self.now.late ≡ false → AccountsForEnds self.now }
+    {
+        self.state.log.as_slice()
+    }
+
+    /// No candidate waits, every fetched command has its completion posted, and no deletion is pending.
+    pub fn is_clear(&self) -> bool
+        ensures { IsTrue result ↔ IsClear (past_in self.now) }
+    {
+        self.state.is_clear()
+    }
+
+    /// A queue of this submission region is open or closing. The admin queue is open from its region 0 on.
+    pub fn is_serving(&self, region: u8) -> bool
+        ensures { result ≡ (nat_lt region (length self.now.gets) && is_serving (past_in self.now) region) }
+    {
+        self.state.is_serving(region)
+    }
 }

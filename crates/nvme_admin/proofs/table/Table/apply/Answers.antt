@@ -21,19 +21,19 @@ returns-then-fuse-ne0-clause-dw0 c = λ start h s. dw0_of-applied start h c.args
 
 pub returns-clause-verdict : goal.returns-clause-verdict
 returns-clause-verdict c = λ start h s.
-    (Applies-alone start h c.args.self.now c.run.new.self c.args.entry.now c.run.result c.admin_of.result c.fuse.result c.admin_of.ensures c.fuse.ensures c.if-fuse-ne0.false c.run.ensures s).is
+    (Applies-alone start h c.args.self.now c.run-verdict.new.self c.args.entry.now c.run-verdict.result c.admin_of.result c.fuse.result c.admin_of.ensures c.fuse.ensures c.if-fuse-ne0.false c.run-verdict.ensures s).is
 
 pub returns-clause-status : goal.returns-clause-status
-returns-clause-status c = λ start h s. status_of-applied start h c.run.new.self c.args.entry.now c.run.result
-    (Applies-alone start h c.args.self.now c.run.new.self c.args.entry.now c.run.result c.admin_of.result c.fuse.result c.admin_of.ensures c.fuse.ensures c.if-fuse-ne0.false c.run.ensures s)
+returns-clause-status c = λ start h s. status_of-applied start h c.run-verdict.new.self c.args.entry.now c.run-verdict.result
+    (Applies-alone start h c.args.self.now c.run-verdict.new.self c.args.entry.now c.run-verdict.result c.admin_of.result c.fuse.result c.admin_of.ensures c.fuse.ensures c.if-fuse-ne0.false c.run-verdict.ensures s)
 
 pub returns-clause-dw0 : goal.returns-clause-dw0
-returns-clause-dw0 c = λ start h s. dw0_of-applied start h c.run.new.self c.args.entry.now c.run.result
-    (Applies-alone start h c.args.self.now c.run.new.self c.args.entry.now c.run.result c.admin_of.result c.fuse.result c.admin_of.ensures c.fuse.ensures c.if-fuse-ne0.false c.run.ensures s)
+returns-clause-dw0 c = λ start h s. dw0_of-applied start h c.run-verdict.new.self c.args.entry.now c.run-verdict.result
+    (Applies-alone start h c.args.self.now c.run-verdict.new.self c.args.entry.now c.run-verdict.result c.admin_of.result c.fuse.result c.admin_of.ensures c.fuse.ensures c.if-fuse-ne0.false c.run-verdict.ensures s)
 
 pub returns-clause-stands : goal.returns-clause-stands
 returns-clause-stands c = λ start h s.
-    (Applies-alone start h c.args.self.now c.run.new.self c.args.entry.now c.run.result c.admin_of.result c.fuse.result c.admin_of.ensures c.fuse.ensures c.if-fuse-ne0.false c.run.ensures s).stands
+    (Applies-alone start h c.args.self.now c.run-verdict.new.self c.args.entry.now c.run-verdict.result c.admin_of.result c.fuse.result c.admin_of.ensures c.fuse.ensures c.if-fuse-ne0.false c.run-verdict.ensures s).stands
 
 pub returns-clause-unchanged : goal.returns-clause-unchanged
-returns-clause-unchanged c = Does-unchanged c.args.self.now c.run.new.self c.admin_of.result c.run.result c.run.ensures
+returns-clause-unchanged c = Does-unchanged c.args.self.now c.run-verdict.new.self c.admin_of.result c.run-verdict.result c.run-verdict.ensures

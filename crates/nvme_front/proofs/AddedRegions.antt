@@ -1,0 +1,203 @@
+-- That a front to which a region was added keeps what stands at its log, by what its parts are then.
+use Rattle.std.proofs.Common.{◌≡◌, ℕ, ◌+◌, ◌<◌, ◌==◌, Bool, true, false, not, if◌then◌else◌, List, [], ◌∷◌, ◌++◌, length, Some, None, refl, sym, ap, ◌∙◌, subst, arith, ne_eqb}
+use Rattle.std.specs.Prelude.{slice_set, Result, IfErr, OnOk}
+use Rattle.std.proofs.lemmas.List.{length-map}
+use Rattle.std.proofs.lemmas.Result.{IfErr-weaker}
+use Rattle.nvme_arbiter.specs.Settings.{ArbitrationFields}
+use Rattle.nvme_arbiter.specs.History.{History}
+use Rattle.nvme_arbiter.specs.Board.{BoardView, BoardStandsAt}
+use Rattle.nvme_arbiter.specs.declared.settings.Mechanism.{Mechanism}
+use Rattle.nvme_arbiter.specs.declared.settings.Class.TheVariants.{Admin}
+use Rattle.nvme_admin.specs.History.{Start, TableHistory, RegionAdded, Submission, Completion}
+use Rattle.nvme_admin.specs.Standing.{TableView, StandsAt}
+use Rattle.nvme_admin.specs.declared.bounds.TheConstants.{MAX_REGIONS}
+use Rattle.nvme_admin.specs.declared.region.Region.{Region}
+use Rattle.nvme_front.specs.declared.event.Event.{Event}
+use Rattle.nvme_front.specs.declared.front.AddError.{AddError}
+use Rattle.nvme_front.specs.declared.front.AddError.TheVariants.{TooMany, NoMemory}
+use Rattle.nvme_front.specs.declared.region.SqRegion.{SqRegion}
+use Rattle.nvme_front.specs.declared.region.CqRegion.{CqRegion}
+use Rattle.nvme_front.specs.declared.state.FrontState.{FrontState}
+use Rattle.nvme_front.specs.Limits.{max_ready}
+use Rattle.nvme_front.specs.Standing.{IsKept, first_queue, sq_region}
+use Rattle.nvme_front.specs.View.{FrontView, view_of}
+use Rattle.nvme_front.proofs.FreshRegions.{board_with_sq, board_with_sq-first, board_with_sq-later}
+use Rattle.nvme_front.proofs.KeptRegions.{is_kept-with_sq, is_kept-with_cq}
+
+-- a state with a submission region more; its board and its table are told apart
+pub record IsPushedSq (s t : FrontState) (x : SqRegion) : Type 0 where
+  pub config : t.config ≡ s.config
+  pub sqs : t.sqs.items ≡ s.sqs.items ++ x ∷ []
+  pub cqs : t.cqs.items ≡ s.cqs.items
+  pub outstanding : t.outstanding ≡ s.outstanding
+  pub deletion : t.deletion ≡ s.deletion
+  pub log : t.log.items ≡ s.log.items
+  pub late : t.late ≡ not (length s.log.items == 0)
+
+-- a state with a completion region more, which leaves the board; its table is told apart
+pub record IsPushedCq (s t : FrontState) (x : CqRegion) : Type 0 where
+  pub config : t.config ≡ s.config
+  pub board : t.board ≡ s.board
+  pub sqs : t.sqs.items ≡ s.sqs.items
+  pub cqs : t.cqs.items ≡ s.cqs.items ++ x ∷ []
+  pub outstanding : t.outstanding ≡ s.outstanding
+  pub deletion : t.deletion ≡ s.deletion
+  pub log : t.log.items ≡ s.log.items
+  pub late : t.late ≡ not (length s.log.items == 0)
+
+-- a region that nothing happened to, with room for its window
+pub record IsNewSq (x : SqRegion) : Type 0 where
+  pub got : x.end.got ≡ []
+  pub window : x.window.items ≡ []
+  pub fetched : x.fetched ≡ 0
+  pub unposted : x.unposted ≡ 0
+  pub room : x.window.room + 1 ≡ x.end.slots
+
+-- the same of a completion region
+pub record IsNewCq (x : CqRegion) : Type 0 where
+  pub sent : x.end.sent ≡ []
+  pub posted : x.posted ≡ 0
+  pub ready : x.ready.items ≡ []
+  pub room : x.ready.room ≡ max_ready
+
+-- what the table says with a submission region more, and with a completion region more
+abbrev TakesSq : FrontState → FrontState → SqRegion → Type 0
+TakesSq s t x = (start : Start) (h : TableHistory) → StandsAt start s.table h → StandsAt start t.table (RegionAdded Submission x.end.address x.end.slots ∷ h)
+
+abbrev TakesCq : FrontState → FrontState → CqRegion → Type 0
+TakesCq s t x = (start : Start) (h : TableHistory) → StandsAt start s.table h → StandsAt start t.table (RegionAdded Completion x.end.address x.end.slots ∷ h)
+
+-- what a table takes at an address and of so many slots, told of the region that has them
+takes_sq : (s t : FrontState) (x : SqRegion) (v : TableView) (a n : ℕ) → t.table ≡ v → a ≡ x.end.address → n ≡ x.end.slots
+    → ((start : Start) (h : TableHistory) → StandsAt start s.table h → StandsAt start v (RegionAdded Submission a n ∷ h)) → TakesSq s t x
+takes_sq s t x v a n table address slots takes start h before =
+    subst (λ (w : TableView). StandsAt start w (RegionAdded Submission x.end.address x.end.slots ∷ h)) (sym table)
+    (subst (λ (z : ℕ). StandsAt start v (RegionAdded Submission z x.end.slots ∷ h)) address
+    (subst (λ (z : ℕ). StandsAt start v (RegionAdded Submission a z ∷ h)) slots (takes start h before)))
+
+-- the same of a completion region
+takes_cq : (s t : FrontState) (x : CqRegion) (v : TableView) (a n : ℕ) → t.table ≡ v → a ≡ x.end.address → n ≡ x.end.slots
+    → ((start : Start) (h : TableHistory) → StandsAt start s.table h → StandsAt start v (RegionAdded Completion a n ∷ h)) → TakesCq s t x
+takes_cq s t x v a n table address slots takes start h before =
+    subst (λ (w : TableView). StandsAt start w (RegionAdded Completion x.end.address x.end.slots ∷ h)) (sym table)
+    (subst (λ (z : ℕ). StandsAt start v (RegionAdded Completion z x.end.slots ∷ h)) address
+    (subst (λ (z : ℕ). StandsAt start v (RegionAdded Completion a z ∷ h)) slots (takes start h before)))
+
+-- an element that was appended to a list was appended to a list that equals it
+pub appended : {A : Type 0} (all now old : List A) (x : A) → all ≡ now ++ x ∷ [] → now ≡ old → all ≡ old ++ x ∷ []
+appended all now old x is same = is ∙ ap (λ xs. xs ++ x ∷ []) same
+
+-- a log with no event, and one with events
+no_event : (log : List Event) → log ≡ [] → not (length log == 0) ≡ false
+no_event log none = ap (λ (es : List Event). not (length es == 0)) none
+
+some_event : (log : List Event) → (log ≡ [] → ⊥) → not (length log == 0) ≡ true
+some_event [] some = absurd (some refl)
+some_event (e ∷ log) some = ap not (ne_eqb (length (e ∷ log)) 0 (λ z. omega (arith, z)))
+
+-- ---- a submission region more
+module _ (s : FrontState) (kept : IsKept s) (t : FrontState) (x : SqRegion) (pushed : IsPushedSq s t x) (new : IsNewSq x) (room : length s.sqs.items < MAX_REGIONS)
+    (v : TableView) (a n : ℕ) (table : t.table ≡ v) (address : a ≡ x.end.address) (slots : n ≡ x.end.slots)
+    (takes : (start : Start) (h : TableHistory) → StandsAt start s.table h → StandsAt start v (RegionAdded Submission a n ∷ h)) where
+  -- the number of the region is how many were there
+  sq_number : length s.table.sq_regions ≡ length s.sqs.items
+  sq_number = ap (λ (rs : List Region). length rs) kept.roomy.sq_table ∙ length-map s.sqs.items sq_region
+
+  -- the region was opened for the admin queue where it is the first one, and its board says so
+  kept_with_sq : x.queue ≡ first_queue (length s.sqs.items) → t.board ≡ board_with_sq (length s.sqs.items) s.board
+      → ((mechanism : Mechanism) (first : ArbitrationFields) (past : History) → BoardStandsAt mechanism first past s.board → BoardStandsAt mechanism first past t.board)
+      → IsKept t
+  kept_with_sq queue board stands = is_kept-with_sq s kept t x (record {
+    config = pushed.config;
+    sqs = pushed.sqs;
+    cqs = pushed.cqs;
+    outstanding = pushed.outstanding;
+    deletion = pushed.deletion;
+    log = pushed.log;
+    early = λ none. pushed.late ∙ no_event s.log.items none;
+    late = λ some. pushed.late ∙ some_event s.log.items some;
+    room = room;
+    fresh = record { got = new.got; window = new.window; fetched = new.fetched; unposted = new.unposted; queue = queue };
+    window = new.room;
+    board = board;
+    board_stands = stands;
+    table = takes_sq s t x v a n table address slots takes;
+  })
+
+  -- the first region
+  pub kept_with_first_sq : length s.table.sq_regions ≡ 0 → x.queue ≡ Some (record { qid = 0; cq_region = 0 }) → (v : BoardView) → t.board ≡ v
+      → v ≡ record s.board { queues = slice_set s.board.queues 0 (Some (record { class = Admin; count = 0 })) }
+      → ((mechanism : Mechanism) (first : ArbitrationFields) (past : History) → BoardStandsAt mechanism first past s.board → BoardStandsAt mechanism first past v)
+      → IsKept t
+  kept_with_first_sq first queue v board opened stands =
+      let none : length s.sqs.items ≡ 0 = sym sq_number ∙ first in
+      kept_with_sq (queue ∙ sym (ap first_queue none)) (board ∙ opened ∙ sym (board_with_sq-first (length s.sqs.items) s.board none))
+      (λ mechanism start past before. subst (λ (b : BoardView). BoardStandsAt mechanism start past b) (sym board) (stands mechanism start past before))
+
+  -- a later region
+  pub kept_with_later_sq : (length s.table.sq_regions ≡ 0 → ⊥) → x.queue ≡ None → t.board ≡ s.board → IsKept t
+  kept_with_later_sq later queue board =
+      let some : length s.sqs.items ≡ 0 → ⊥ = λ none. later (sq_number ∙ none) in
+      kept_with_sq
+      (queue ∙ sym (λ j. if (ne_eqb (length s.sqs.items) 0 some) j then Some (record { qid = 0; cq_region = 0 }) else None))
+      (board ∙ sym (board_with_sq-later (length s.sqs.items) s.board some))
+      (λ mechanism first past stands. subst (λ (b : BoardView). BoardStandsAt mechanism first past b) (sym board) stands)
+
+-- ---- a completion region more
+pub kept_with_cq : (s : FrontState) → IsKept s → (t : FrontState) (x : CqRegion) → IsPushedCq s t x → IsNewCq x → length s.cqs.items < MAX_REGIONS
+    → (v : TableView) (a n : ℕ) → t.table ≡ v → a ≡ x.end.address → n ≡ x.end.slots
+    → ((start : Start) (h : TableHistory) → StandsAt start s.table h → StandsAt start v (RegionAdded Completion a n ∷ h)) → IsKept t
+kept_with_cq s kept t x pushed new room v a n table address slots takes = is_kept-with_cq s kept t x (record {
+  config = pushed.config;
+  sqs = pushed.sqs;
+  cqs = pushed.cqs;
+  outstanding = pushed.outstanding;
+  deletion = pushed.deletion;
+  log = pushed.log;
+  early = λ none. pushed.late ∙ no_event s.log.items none;
+  late = λ some. pushed.late ∙ some_event s.log.items some;
+  room = room;
+  fresh = record { sent = new.sent; posted = new.posted; ready = new.ready };
+  ready = new.room;
+  board = pushed.board;
+  table = takes_cq s t x v a n table address slots takes;
+})
+
+-- ---- what a caller sees
+-- a region that was added after the first event made the front late, told of the log that a caller sees
+pub late_in_view : {T E : Type 0} (s : FrontState) (v : FrontView) (late : Bool) (r : Result T E) → view_of s ≡ v
+    → OnOk r ((s.log.items ≡ [] → ⊥) → late ≡ true) → OnOk r ((v.log ≡ [] → ⊥) → late ≡ true)
+late_in_view s v late r same told = subst (λ (z : FrontView). OnOk r ((z.log ≡ [] → ⊥) → late ≡ true)) same told
+
+-- what a refusal says of the number of regions: that it is the greatest, or below it
+abbrev TellsNumber : ℕ → AddError → Type 0
+TellsNumber n e = (e ≡ TooMany → n ≡ MAX_REGIONS) × (e ≡ NoMemory → n < MAX_REGIONS)
+
+-- a caller sees as many submission regions as a front keeps
+number_of_gets : (s : FrontState) (v : FrontView) → view_of s ≡ v → length s.sqs.items ≡ length v.gets
+number_of_gets s v same = sym (length-map s.sqs.items (λ (x : SqRegion). x.end)) ∙ ap (λ (z : FrontView). length z.gets) same
+
+-- and as many completion regions
+number_of_puts : (s : FrontState) (v : FrontView) → view_of s ≡ v → length s.cqs.items ≡ length v.puts
+number_of_puts s v same = sym (length-map s.cqs.items (λ (x : CqRegion). x.end)) ∙ ap (λ (z : FrontView). length z.puts) same
+
+module _ {T A : Type 0} (s : FrontState) (v : FrontView) (r : Result T (AddError × A)) (same : view_of s ≡ v) where
+  -- a refused submission region: all regions are there where there are too many,
+  pub too_many_gets : IfErr r (λ e. TellsNumber (length s.sqs.items) e.0) → IfErr r (λ e. e.0 ≡ TooMany → length v.gets ≡ MAX_REGIONS)
+  too_many_gets told = IfErr-weaker r (λ e. TellsNumber (length s.sqs.items) e.0) (λ e. e.0 ≡ TooMany → length v.gets ≡ MAX_REGIONS)
+      (λ e tells full. sym (number_of_gets s v same) ∙ tells.0 full) told
+
+  -- and not all where memory was refused
+  pub few_gets : IfErr r (λ e. TellsNumber (length s.sqs.items) e.0) → IfErr r (λ e. e.0 ≡ NoMemory → length v.gets < MAX_REGIONS)
+  few_gets told = IfErr-weaker r (λ e. TellsNumber (length s.sqs.items) e.0) (λ e. e.0 ≡ NoMemory → length v.gets < MAX_REGIONS)
+      (λ e tells none. subst (λ (n : ℕ). n < MAX_REGIONS) (number_of_gets s v same) (tells.1 none)) told
+
+  -- the same of a completion region
+  pub too_many_puts : IfErr r (λ e. TellsNumber (length s.cqs.items) e.0) → IfErr r (λ e. e.0 ≡ TooMany → length v.puts ≡ MAX_REGIONS)
+  too_many_puts told = IfErr-weaker r (λ e. TellsNumber (length s.cqs.items) e.0) (λ e. e.0 ≡ TooMany → length v.puts ≡ MAX_REGIONS)
+      (λ e tells full. sym (number_of_puts s v same) ∙ tells.0 full) told
+
+  -- and where memory was refused
+  pub few_puts : IfErr r (λ e. TellsNumber (length s.cqs.items) e.0) → IfErr r (λ e. e.0 ≡ NoMemory → length v.puts < MAX_REGIONS)
+  few_puts told = IfErr-weaker r (λ e. TellsNumber (length s.cqs.items) e.0) (λ e. e.0 ≡ NoMemory → length v.puts < MAX_REGIONS)
+      (λ e tells none. subst (λ (n : ℕ). n < MAX_REGIONS) (number_of_puts s v same) (tells.1 none)) told

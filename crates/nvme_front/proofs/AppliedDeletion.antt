@@ -1,0 +1,252 @@
+-- A front whose picked admin command begins the deletion of a submission queue.
+use Rattle.std.proofs.Common.{◌≡◌, ℕ, ◌+◌, ◌<◌, ◌≤◌, Bool, true, false, not, List, [], ◌∷◌, ◌++◌, map, length, set, get_or, Option, Some, None, refl, sym, ap, subst, ◌∙◌, arith, append_assoc}
+use Rattle.std.specs.Prelude.{option_map, slice_set, IsSome}
+use Rattle.std.proofs.lemmas.List.{get_or-set_other, length-set, length-map}
+use Rattle.std.proofs.lemmas.Simd.{map-map}
+use Rattle.nvme_arbiter.specs.Board.{BoardView}
+use Rattle.nvme_arbiter.specs.Queues.{queue_at, fewer}
+use Rattle.nvme_arbiter.specs.declared.pick.OpenQueue.{OpenQueue}
+use Rattle.nvme_admin.specs.QueueTable.{as_closing}
+use Rattle.nvme_admin.specs.Checks.{is_open}
+use Rattle.nvme_admin.specs.Accepted.{queue_table, sq_at}
+use Rattle.nvme_admin.specs.Changes.{MayBeginDelete}
+use Rattle.nvme_admin.specs.Standing.{sq_of}
+use Rattle.nvme_admin.specs.declared.verdict.SqEntry.{SqEntry}
+use Rattle.nvme_admin.specs.declared.verdict.Verdict.TheVariants.{BeginDelete}
+use Rattle.nvme_front.specs.declared.event.Event.{Event}
+use Rattle.nvme_front.specs.declared.event.Event.TheVariants.{Closing, Abort}
+use Rattle.nvme_front.specs.declared.candidate.Candidate.{Candidate}
+use Rattle.nvme_front.specs.declared.candidate.Ready.{Ready}
+use Rattle.nvme_front.specs.declared.region.Attachment.{Attachment}
+use Rattle.nvme_front.specs.declared.region.SqRegion.{SqRegion}
+use Rattle.nvme_front.specs.declared.region.CqRegion.{CqRegion}
+use Rattle.nvme_front.specs.declared.state.FrontState.{FrontState}
+use Rattle.nvme_front.specs.Fifo.{FifoView}
+use Rattle.nvme_front.specs.Queues.{Queue, admin_queue, open_sq}
+use Rattle.nvme_front.specs.Places.{waiting}
+use Rattle.nvme_front.specs.Effects.{made_by, closing_of}
+use Rattle.nvme_front.specs.Laws.{as_open}
+use Rattle.nvme_front.specs.Applied.{IsApplied}
+use Rattle.nvme_front.specs.Kept.{SqKept, Kept, with_sq, put_sq, sq_kept, sq_in, cq_in, gets_of, kept_of, rules_of}
+use Rattle.nvme_front.specs.Standing.{IsKept, IsAttached, on_board, window_room}
+use Rattle.nvme_front.specs.Goes.{Goes, picks_in, get_place}
+use Rattle.nvme_front.specs.Steps.{with_deleting, with_readies, deleting_from, aborted, picked_sq, IsChosen}
+use Rattle.nvme_front.proofs.QueueWords.{at_same, at_other}
+use Rattle.nvme_front.proofs.DeletionSteps.{io_region}
+use Rattle.nvme_front.proofs.States.{sq_in-set, sq_in-read, places-set, windows-set}
+use Rattle.nvme_front.proofs.AppliedRoom.{few_unposted}
+use Rattle.nvme_front.proofs.AppliedStates.{kept_readied, kept_applied, goes_readied}
+use Rattle.nvme_front.proofs.AppliedTables.{tells, sqs_now, sqs_before, same_sqs, same_cqs, Stays}
+
+-- a queue of the table, as an open queue of the log
+abbrev pub queue_of : SqEntry → Queue
+queue_of e = record { region = e.region; cqid = e.cqid; class = e.class }
+
+-- an open queue of the table is there when it is closing
+closing_there : (o : Option SqEntry) → is_open o ≡ true → option_map as_closing o ≡ None → ⊥
+closing_there None open_before none = cc
+closing_there (Some x) open_before none = cc
+
+-- and was the same queue of the log
+closing_was : (o : Option SqEntry) → is_open o ≡ true → (e : SqEntry) → option_map as_closing o ≡ Some e → as_open o ≡ Some (queue_of e)
+closing_was None open_before e is = cc
+closing_was (Some x) open_before e is = by x.closing refl where
+  by : (b : Bool) → x.closing ≡ b → as_open (Some x) ≡ Some (queue_of e)
+  by true c = let no : false ≡ true = sym (ap not c) ∙ open_before in cc
+  by false c = let same : as_closing x ≡ e = cc in rw c (ap (λ (z : SqEntry). Some (queue_of z)) same)
+
+-- what is kept after the candidates of a region were aborted and its queue's deletion is pending
+kept_deleting : (a b : FrontState) (candidate : Candidate) (qid r c n : ℕ) (s : SqRegion) (w : FifoView Candidate) (d : CqRegion) (ready : FifoView Ready)
+    → r < length a.sqs.items → s ≡ get_or a.sqs.items r s → c < length a.cqs.items → d ≡ get_or a.cqs.items c d
+    → n ≡ length s.window.items → w ≡ record s.window { items = [] }
+    → b.sqs.items ≡ set a.sqs.items r (record s { window = w; unposted = s.unposted + n })
+    → ready ≡ record d.ready { items = d.ready.items ++ map (aborted r) s.window.items }
+    → b.cqs.items ≡ set a.cqs.items c (record d { ready = ready })
+    → b.board ≡ record a.board { queues = slice_set a.board.queues qid None }
+    → b.deletion ≡ Some (record { qid = qid; region = r; index = candidate.index; entry = candidate.entry })
+    → b.table ≡ a.table → b.outstanding ≡ a.outstanding
+    → kept_of b ≡ with_deleting (kept_of a) qid r c candidate
+kept_deleting a b candidate qid r c n s w d ready there read posts read_cq is_n is_w sqs is_ready cqs board deletion table outstanding =
+    let was : sq_in a.sqs.items r ≡ sq_kept s = sq_in-read a.sqs.items r s there read in
+    let emptied : SqKept → SqKept = λ (z : SqKept). record z { window = []; unposted = z.unposted + length z.window } in
+    let now : sq_kept (record s { window = w; unposted = s.unposted + n }) ≡ emptied (sq_in a.sqs.items r) =
+        ap (λ (z : FifoView Candidate). record (sq_kept s) { window = z.items; unposted = s.unposted + n }) is_w
+        ∙ ap (λ (m : ℕ). record (sq_kept s) { window = []; unposted = s.unposted + m }) is_n
+        ∙ ap emptied (sym was) in
+    let sq : sq_in b.sqs.items ≡ put_sq (sq_in a.sqs.items) r (emptied (sq_in a.sqs.items r)) =
+        ap sq_in sqs ∙ sq_in-set a.sqs.items r (record s { window = w; unposted = s.unposted + n }) there ∙ ap (put_sq (sq_in a.sqs.items) r) now in
+    let nsq : length b.sqs.items ≡ length a.sqs.items =
+        ap (λ (xs : List SqRegion). length xs) sqs ∙ length-set a.sqs.items r (record s { window = w; unposted = s.unposted + n }) in
+    let later : Kept = record (with_sq (kept_of a) r (emptied (sq_in a.sqs.items r))) {
+        board = record a.board { queues = slice_set a.board.queues qid None };
+        deletion = Some (record { qid = qid; region = r; index = candidate.index; entry = candidate.entry });
+    } in
+    let all : kept_of (record b { cqs = a.cqs }) ≡ later = λ t. record {
+      sq = sq t;
+      cq = cq_in a.cqs.items;
+      nsq = nsq t;
+      ncq = length a.cqs.items;
+      board = board t;
+      table = table t;
+      outstanding = outstanding t;
+      deletion = deletion t;
+    } in
+    kept_readied a b c d ready (map (aborted r) s.window.items) posts read_cq is_ready cqs
+    ∙ ap (λ (k : Kept). with_readies k c (map (aborted r) s.window.items)) all
+    ∙ ap (λ (z : SqKept). with_readies later c (map (aborted r) z.window)) (sym was)
+
+-- aborts are no picks
+pub aborts_noted : (r : ℕ) (cs : List Candidate) → picks_in (map (λ (c : Candidate). Abort r c.index) cs) ≡ 0
+aborts_noted r [] = refl
+aborts_noted r (c ∷ cs) = aborts_noted r cs
+
+module _ (a : FrontState) (candidate : Candidate) (qid : ℕ) (closing : Option ℕ) (h : IsApplied a candidate (BeginDelete qid) closing) where
+  -- the deletion may begin over the table before the command
+  may_begin : MayBeginDelete (queue_table (rules_of a).start h.stands.tabled.history) qid
+  may_begin = (tells a candidate (BeginDelete qid) closing h).due
+
+  -- the table has the queue, closing
+  closing_now : sq_of a.table qid ≡ option_map as_closing (sq_at (rules_of a).start h.stands.tabled.history qid)
+  closing_now =
+      sqs_now a candidate (BeginDelete qid) closing h qid
+      ∙ at_same qid qid (option_map as_closing (sq_at (rules_of a).start h.stands.tabled.history qid)) (sq_at (rules_of a).start h.stands.tabled.history qid) refl
+
+  -- the queue is there
+  pub begins_some : sq_of a.table qid ≡ None → ⊥
+  begins_some none = closing_there (sq_at (rules_of a).start h.stands.tabled.history qid) may_begin.open_sq (sym closing_now ∙ none)
+
+  module _ (e : SqEntry) (is : sq_of a.table qid ≡ Some e) where
+    -- the queue was open
+    was_open : open_sq h.past qid ≡ Some (queue_of e)
+    was_open =
+        sqs_before a candidate (BeginDelete qid) closing h qid
+        ∙ closing_was (sq_at (rules_of a).start h.stands.tabled.history qid) may_begin.open_sq e (sym closing_now ∙ is)
+
+    -- its region isn't that of the admin queue
+    apart : e.region ≡ 0 → ⊥
+    apart =
+        io_region h.past h.before qid (queue_of e) h.stands.queues (subst (λ (q : ℕ). open_sq h.past q ≡ Some admin_queue) h.of_admin h.can_pick.is_open) was_open
+        may_begin.not_admin
+
+    -- so the pick left it
+    region_is : sq_in a.sqs.items e.region ≡ h.before.sq e.region
+    region_is =
+        ap (λ (k : Kept). k.sq e.region) h.kept_is ∙ at_other e.region 0 (picked_sq (h.before.sq 0) 1) (h.before.sq e.region) apart
+
+    -- it was opened for the queue
+    attached_to : IsAttached h.past h.before qid (queue_of e)
+    attached_to = h.stands.queues.attached qid (queue_of e) was_open
+
+    -- it is one of the front's
+    begins_below : e.region < h.before.nsq
+    begins_below = h.stands.queues.sq_there e.region (record { qid = qid; cq_region = attached_to.cq_region }) attached_to.attached
+
+    -- so its number is below theirs
+    pub begins_there : (r : ℕ) → r ≡ e.region → r < length a.sqs.items
+    begins_there r same =
+        let all = same_sqs a candidate (BeginDelete qid) closing h in
+        let below = begins_below in
+        omega arith
+
+    -- the queue is on the board
+    pub begins_on_board : IsSome (queue_at a.board.queues qid)
+    begins_on_board =
+        let io : qid ≡ h.pick.qid → ⊥ = λ p. may_begin.not_admin (p ∙ h.of_admin) in
+        let picked : a.board.queues ≡ slice_set h.before.board.queues h.pick.qid (option_map (fewer h.pick.n) (queue_at h.before.board.queues h.pick.qid)) =
+            ap (λ (k : Kept). k.board.queues) h.kept_is ∙ h.can_pick.board_queues in
+        let here : queue_at a.board.queues qid ≡ Some (on_board h.before (queue_of e)) =
+            ap (λ (queues : List (Option OpenQueue)). queue_at queues qid) picked
+            ∙ get_or-set_other h.before.board.queues h.pick.qid qid (option_map (fewer h.pick.n) (queue_at h.before.board.queues h.pick.qid)) None io
+            ∙ h.stands.queues.board qid
+            ∙ ap (option_map (on_board h.before)) was_open in
+        rw here refl
+
+    -- the region, as it is read
+    module _ (r : ℕ) (same : r ≡ e.region) (s : SqRegion) (read : s ≡ get_or a.sqs.items r s) where
+      -- it is what was kept before the pick
+      read_is : sq_kept s ≡ h.before.sq e.region
+      read_is = sym (sq_in-read a.sqs.items r s (begins_there r same) read) ∙ ap (sq_in a.sqs.items) same ∙ region_is
+
+      -- it was opened for the queue
+      queue_is : s.queue ≡ Some (record { qid = qid; cq_region = attached_to.cq_region })
+      queue_is = ap (λ (k : SqKept). k.queue) read_is ∙ attached_to.attached
+
+      -- so it has an attachment
+      pub begins_attached : s.queue ≡ None → ⊥
+      begins_attached none = let both = sym none ∙ queue_is in cc
+
+      -- which is that of the queue
+      posts_to : (x : Attachment) → s.queue ≡ Some x → x ≡ record { qid = qid; cq_region = attached_to.cq_region }
+      posts_to x at = let both = sym at ∙ queue_is in cc
+
+      -- it posts to a completion region of the front's
+      pub begins_posts : (x : Attachment) → s.queue ≡ Some x → (c : ℕ) → c ≡ x.cq_region → c < length a.cqs.items
+      begins_posts x at c is_c =
+          let to : x.cq_region ≡ attached_to.cq_region = ap (λ (y : Attachment). y.cq_region) (posts_to x at) in
+          let below = h.stands.queues.posts_there e.region (record { qid = qid; cq_region = attached_to.cq_region }) attached_to.attached in
+          let all = same_cqs a candidate (BeginDelete qid) closing h in
+          omega arith
+
+      -- its candidates are few
+      pub begins_few : length s.window.items ≤ 255
+      begins_few =
+          let window = ap (λ (k : SqKept). length k.window) read_is in
+          let few = (h.stands.regions e.region).few_waiting in
+          omega arith
+
+      -- and so are its unposted places
+      pub begins_unposted : s.unposted ≤ 255
+      begins_unposted =
+          let unposted = ap (λ (k : SqKept). k.unposted) read_is in
+          let few = few_unposted (rules_of a) a.late h.past h.before h.stands h.can_pick.none_pending e.region begins_below in
+          omega (arith, h.can_pick.places, h.one)
+
+      -- the events of the command
+      begins_made : made_by h.past (BeginDelete qid) ≡ Closing qid e.region ∷ map (λ (c : Candidate). Abort e.region c.index) s.window.items
+      begins_made =
+          let waits : waiting h.past e.region ≡ map (λ (c : Candidate). c.index) s.window.items =
+              (h.stands.regions e.region).waiting_is ∙ ap (λ (k : SqKept). map (λ (c : Candidate). c.index) k.window) (sym read_is) in
+          ap (closing_of h.past qid) was_open
+          ∙ ap (λ (is : List ℕ). Closing qid e.region ∷ map (λ (i : ℕ). Abort e.region i) is) waits
+          ∙ ap (λ (es : List Event). Closing qid e.region ∷ es) (map-map (λ (i : ℕ). Abort e.region i) (λ (c : Candidate). c.index) s.window.items)
+
+      -- the front is kept after it
+      pub keeps_deleting : (b : FrontState) (x : Attachment) (c n : ℕ) (w : FifoView Candidate) (d : CqRegion) (ready : FifoView Ready) (log : List Event) (board : BoardView)
+          → s.queue ≡ Some x → c ≡ x.cq_region → n ≡ length s.window.items → w ≡ record s.window { items = [] }
+          → b.sqs.items ≡ set a.sqs.items r (record s { window = w; unposted = s.unposted + n })
+          → d ≡ get_or a.cqs.items c d → ready ≡ record d.ready { items = d.ready.items ++ map (aborted e.region) s.window.items }
+          → b.cqs.items ≡ set a.cqs.items c (record d { ready = ready })
+          → log ≡ a.log.items ++ Closing qid e.region ∷ [] → b.log.items ≡ log ++ map (λ (c : Candidate). Abort e.region c.index) s.window.items
+          → b.board ≡ record a.board { queues = slice_set a.board.queues qid None }
+          → b.deletion ≡ Some (record { qid = qid; region = e.region; index = candidate.index; entry = candidate.entry })
+          → Stays a b → Goes a b → IsKept b
+      keeps_deleting b x c n w d ready log board at is_c is_n is_w sqs read_cq is_ready cqs noted aborts is_board deletion stays goes =
+          let posts = begins_posts x at c is_c in
+          let events : b.log.items ≡ a.log.items ++ made_by h.past (BeginDelete qid) =
+              aborts ∙ ap (λ (es : List Event). es ++ map (λ (c : Candidate). Abort e.region c.index) s.window.items) noted
+              ∙ append_assoc a.log.items (Closing qid e.region ∷ []) (map (λ (c : Candidate). Abort e.region c.index) s.window.items)
+              ∙ ap (λ (es : List Event). a.log.items ++ es) (sym begins_made) in
+          let few : length (made_by h.past (BeginDelete qid)) ≤ 257 =
+              rw begins_made (omega (arith, begins_few, length-map s.window.items (λ (c : Candidate). Abort e.region c.index))) in
+          let chosen : IsChosen (rules_of a) h.past h.before c h.picked board (BeginDelete qid) = λ queue is_open.
+              let one : queue_of e ≡ queue = (let both = sym was_open ∙ is_open in cc) in
+              let to = posts_to x at in
+              subst (λ (q : Queue). (h.before.sq q.region).queue ≡ Some (record { qid = qid; cq_region = c })) one
+              (attached_to.attached ∙ ap (λ (z : ℕ). Some (record { qid = qid; cq_region = z })) (sym (is_c ∙ ap (λ (y : Attachment). y.cq_region) to))) in
+          let kept : kept_of b ≡ with_deleting (kept_of a) qid e.region c candidate =
+              kept_deleting a b candidate qid e.region c n s w d ready (begins_there e.region refl) (subst (λ (z : ℕ). s ≡ get_or a.sqs.items z s) same read) posts read_cq is_n is_w
+              (subst (λ (z : ℕ). b.sqs.items ≡ set a.sqs.items z (record s { window = w; unposted = s.unposted + n })) same sqs) is_ready cqs is_board deletion stays.table stays.outstanding in
+          kept_applied a b candidate (BeginDelete qid) closing c board h chosen events
+          (kept ∙ ap (deleting_from (kept_of a) qid c candidate) (sym was_open))
+          goes stays.table few
+
+-- the front goes on where the candidates of a region were aborted
+pub goes_deleting : (a b : FrontState) (r c n : ℕ) (s : SqRegion) (w : FifoView Candidate) (d : CqRegion) (ready : FifoView Ready) (ts : List Ready) (log : List Event) (e : Event) (es : List Event)
+    → s ≡ get_or a.sqs.items r s → w ≡ record s.window { items = [] } → b.sqs.items ≡ set a.sqs.items r (record s { window = w; unposted = n })
+    → d ≡ get_or a.cqs.items c d → ready ≡ record d.ready { items = d.ready.items ++ ts } → b.cqs.items ≡ set a.cqs.items c (record d { ready = ready })
+    → log ≡ a.log.items ++ e ∷ [] → b.log.items ≡ log ++ es → Stays a b → Goes a b
+goes_deleting a b r c n s w d ready ts log e es read is_w sqs read_cq is_ready cqs noted aborts stays =
+    let events : b.log.items ≡ a.log.items ++ e ∷ es = aborts ∙ ap (λ (xs : List Event). xs ++ es) noted ∙ append_assoc a.log.items (e ∷ []) es in
+    goes_readied a b (e ∷ es) c d ready ts read_cq is_ready cqs events stays.config stays.alloc stays.late
+    (ap (λ (xs : List SqRegion). map get_place (gets_of xs)) sqs ∙ places-set a.sqs.items r s (record s { window = w; unposted = n }) read refl)
+    (ap (λ (xs : List SqRegion). map window_room xs) sqs ∙ windows-set a.sqs.items r s (record s { window = w; unposted = n }) read (ap (λ (z : FifoView Candidate). z.room) is_w))

@@ -1,0 +1,115 @@
+-- The end of a deletion: what it asks of the table and of the ready completions, and what it leaves.
+use Rattle.std.proofs.Common.{◌≡◌, ℕ, ◌+◌, ◌<◌, ◌≤◌, List, [], ◌∷◌, ◌++◌, length, set, map, get_or, Some, None, refl, sym, ap, ◌∙◌, subst, arith}
+use Rattle.std.specs.Prelude.{reverse, IsTrue}
+use Rattle.std.specs.Option.{IsSomeAnd}
+use Rattle.std.proofs.lemmas.List.{length-set, length_push}
+use Rattle.nvme_admin.specs.History.{Start, TableHistory, DeletionFinished}
+use Rattle.nvme_admin.specs.Standing.{StandsAt, sq_of}
+use Rattle.nvme_admin.specs.declared.verdict.SqEntry.{SqEntry}
+use Rattle.nvme_front.specs.declared.candidate.PendingDelete.{PendingDelete}
+use Rattle.nvme_front.specs.declared.candidate.Ready.{Ready}
+use Rattle.nvme_front.specs.declared.region.SqRegion.{SqRegion}
+use Rattle.nvme_front.specs.declared.region.CqRegion.{CqRegion}
+use Rattle.nvme_front.specs.declared.state.FrontState.{FrontState}
+use Rattle.nvme_front.specs.Fifo.{FifoView}
+use Rattle.nvme_front.specs.Rules.{Past}
+use Rattle.nvme_front.specs.Kept.{Kept, SqKept, CqKept, sq_in, cq_in, cq_kept, put_cq, gets_of, puts_of, kept_of, rules_of, past_of}
+use Rattle.nvme_front.specs.Standing.{Stands, IsKept, IsPending, held_by, window_room, ready_room}
+use Rattle.nvme_front.specs.Goes.{Goes, HasAdmin, get_place, put_place}
+use Rattle.nvme_front.specs.Steps.{after_closed, closed_event, deleted}
+use Rattle.nvme_front.proofs.ReadyRoom.{ready_has_room}
+use Rattle.nvme_front.proofs.Standing.{stands-close}
+use Rattle.nvme_front.proofs.TableSteps.{finish-sq_regions, finish-cq_regions}
+use Rattle.nvme_front.proofs.States.{cq_in-set, sq_in-read, cq_in-read, past-push, pushed-not_empty, put_places-set, readies-set, roomy-goes, ready_room-is, kept_after}
+
+-- the region of the pending deletion is there
+pub deletion_there : (s : FrontState) (d : PendingDelete) → IsKept s → HasAdmin s → s.deletion ≡ Some d → d.region < length s.sqs.items
+deletion_there s d k admin is =
+    let queues = (k.stands admin.0 admin.1).queues in
+    let at = queues.deleting d is in
+    queues.sq_there d.region (record { qid = d.qid; cq_region = at.cq_region }) at.opened
+
+-- its queue is closing in the table
+pub deletion_closing : (s : FrontState) (d : PendingDelete) → IsKept s → HasAdmin s → s.deletion ≡ Some d → IsSomeAnd (sq_of s.table d.qid) (λ (queue : SqEntry). IsTrue queue.closing)
+deletion_closing s d k admin is =
+    let p : IsPending (past_of s) (kept_of s) d = (k.stands admin.0 admin.1).deletion.stands d is in
+    rw (p.in_table, p.is_closing) refl
+
+-- a completion region that was read has room for one ready completion more
+pub region_has_room : (s : FrontState) (c : ℕ) (d : CqRegion) → IsKept s → HasAdmin s → c < length s.cqs.items → d ≡ get_or s.cqs.items c d
+    → length d.ready.items < d.ready.room
+region_has_room s c d k admin there read =
+    let room = ready_room-is s k.roomy c d there read in
+    let same = ap (λ (z : CqKept). length z.ready) (cq_in-read s.cqs.items c d there read) in
+    let few = ready_has_room (past_of s) (kept_of s) (held_by s.deletion) (k.stands admin.0 admin.1).ready c in
+    omega (arith, room, same, few)
+
+-- the unposted places of a region that was read
+pub region_unposted : (s : FrontState) (r : ℕ) (e : SqRegion) → r < length s.sqs.items → e ≡ get_or s.sqs.items r e → (sq_in s.sqs.items r).unposted ≡ e.unposted
+region_unposted s r e there read = ap (λ (z : SqKept). z.unposted) (sq_in-read s.sqs.items r e there read)
+
+-- a front after the end of a deletion, from one before it: c is completion region 0 as it was read, and f its ready completions afterwards
+pub record IsClosed (a b : FrontState) (d : PendingDelete) : Type 0 where
+  pub c : CqRegion
+  pub f : FifoView Ready
+  pub pending : a.deletion ≡ Some d
+  pub all_posted : (sq_in a.sqs.items d.region).unposted ≡ 0
+  pub read : c ≡ get_or a.cqs.items 0 c
+  pub ready : f ≡ record c.ready { items = c.ready.items ++ deleted d ∷ [] }
+  pub sqs : b.sqs.items ≡ a.sqs.items
+  pub cqs : b.cqs.items ≡ set a.cqs.items 0 (record c { ready = f })
+  pub closes : (start : Start) (h : TableHistory) → StandsAt start a.table h → StandsAt start b.table (DeletionFinished d.qid ∷ h)
+  pub log : b.log.items ≡ a.log.items ++ closed_event d ∷ []
+  pub room : length a.log.items + 1 ≤ a.config.max_events
+  pub none_pending : b.deletion ≡ None
+  pub board : b.board ≡ a.board
+  pub outstanding : b.outstanding ≡ a.outstanding
+  pub late : b.late ≡ a.late
+  pub config : b.config ≡ a.config
+  pub alloc : b.alloc ≡ a.alloc
+
+-- it is the same front
+pub closed-goes : (a b : FrontState) (d : PendingDelete) → IsClosed a b d → Goes a b
+closed-goes a b d p = record {
+  grew = (closed_event d ∷ [], sym p.log);
+  config = p.config;
+  alloc = p.alloc;
+  late = p.late;
+  gets = ap (λ (z : List SqRegion). map get_place (gets_of z)) p.sqs;
+  puts = ap (λ (z : List CqRegion). map put_place (puts_of z)) p.cqs ∙ put_places-set a.cqs.items 0 p.c (record p.c { ready = p.f }) p.read refl;
+  windows = ap (map window_room) p.sqs;
+  readies = ap (map ready_room) p.cqs ∙ readies-set a.cqs.items 0 p.c (record p.c { ready = p.f }) p.read (ap (λ (z : FifoView Ready). z.room) p.ready);
+}
+
+-- what is kept is that after the end of the deletion
+closed-kept_of : (a b : FrontState) (d : PendingDelete) → 0 < length a.cqs.items → IsClosed a b d → kept_of b ≡ after_closed (kept_of a) d b.table
+closed-kept_of a b d there p =
+    let now : cq_kept (record p.c { ready = p.f }) ≡ record (cq_kept p.c) { ready = p.c.ready.items ++ deleted d ∷ [] } =
+    λ i. record (cq_kept p.c) { ready = (p.ready i).items } in
+    let cq : cq_in b.cqs.items ≡ put_cq (cq_in a.cqs.items) 0 (record (cq_in a.cqs.items 0) { ready = (cq_in a.cqs.items 0).ready ++ deleted d ∷ [] }) =
+    ap cq_in p.cqs ∙ cq_in-set a.cqs.items 0 (record p.c { ready = p.f }) there
+    ∙ ap (λ (z : CqKept). put_cq (cq_in a.cqs.items) 0 z) now
+    ∙ ap (λ (z : CqKept). put_cq (cq_in a.cqs.items) 0 (record z { ready = z.ready ++ deleted d ∷ [] })) (sym (cq_in-read a.cqs.items 0 p.c there p.read)) in
+    let ncq : length b.cqs.items ≡ length a.cqs.items = ap length p.cqs ∙ length-set a.cqs.items 0 (record p.c { ready = p.f }) in
+    λ i. record { sq = sq_in (p.sqs i); cq = cq i; nsq = length (p.sqs i); ncq = ncq i; board = p.board i; table = b.table; outstanding = p.outstanding i; deletion = p.none_pending i }
+
+-- and it is kept
+pub closed-kept : (a b : FrontState) (d : PendingDelete) → IsKept a → HasAdmin a → IsClosed a b d → IsKept b
+closed-kept a b d k admin p =
+    let s : Stands (rules_of a) a.late (past_of a) (kept_of a) = k.stands admin.0 admin.1 in
+    let goes : Goes a b = closed-goes a b d p in
+    let past : past_of b ≡ closed_event d ∷ past_of a = ap reverse p.log ∙ past-push a.log.items (closed_event d) in
+    let long : length b.log.items ≡ length a.log.items + 1 = ap length p.log ∙ length_push a.log.items (closed_event d) in
+    let few : length b.log.items ≤ b.config.max_events = rw p.config (let room = p.room in omega (arith, long, room)) in
+    let kept : kept_of b ≡ after_closed (kept_of a) d b.table = closed-kept_of a b d admin.1 p in
+    let table : StandsAt (rules_of a).start b.table (DeletionFinished d.qid ∷ s.tabled.history) = p.closes (rules_of a).start s.tabled.history s.tabled.stands in
+    let stands : Stands (rules_of a) a.late (past_of b) (kept_of b) =
+    subst (λ (z : Past). Stands (rules_of a) a.late z (kept_of b)) (sym past)
+    (subst (λ (z : Kept). Stands (rules_of a) a.late (closed_event d ∷ past_of a) z) (sym kept)
+        (stands-close (rules_of a) a.late (past_of a) (kept_of a) d b.table s (record { pending = p.pending; all_posted = p.all_posted; table_stands = table }))) in
+    kept_after a b admin goes
+    (roomy-goes a b k.roomy goes
+        (table.sq_regions ∙ finish-sq_regions (rules_of a).start s.tabled.history d.qid ∙ sym s.tabled.stands.sq_regions)
+        (table.cq_regions ∙ finish-cq_regions (rules_of a).start s.tabled.history d.qid ∙ sym s.tabled.stands.cq_regions)
+        few)
+    (λ e. pushed-not_empty a.log.items (closed_event d) (sym p.log ∙ e)) stands

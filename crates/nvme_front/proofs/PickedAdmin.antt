@@ -1,0 +1,204 @@
+-- A front after an admin pick whose command was applied to the table.
+use Rattle.std.specs.Prelude.{slice_get, vec_capacity, ◌==◌, if◌then◌else◌}
+use Rattle.std.proofs.Common.{◌≡◌, ℕ, ◌+◌, ◌≤◌, Bool, true, false, List, [], ◌∷◌, ◌++◌, map, length, set, get_or, Option, Some, None, refl, sym, ap, subst, ◌∙◌, arith}
+use Rattle.std.proofs.lemmas.List.{length-set, length_push}
+use Rattle.arrayvec.specs.ArrayVec.{ArrayVec}
+use Rattle.nvme_entry.specs.Status.{StatusCode, success}
+use Rattle.nvme_entry.specs.AdminCommand.{admin_command_of}
+use Rattle.nvme_entry.specs.declared.submission.Sqe.{Sqe}
+use Rattle.nvme_entry.specs.declared.admin.AdminCommand.{AdminCommand}
+use Rattle.nvme_entry.specs.declared.admin.AdminCommand.TheVariants.{DeleteSq, CreateSq, DeleteCq, CreateCq, SetFeatures, GetFeatures, Other}
+use Rattle.nvme_arbiter.specs.Settings.{ArbitrationFields}
+use Rattle.nvme_arbiter.specs.Board.{BoardStandsAt, queues_after}
+use Rattle.nvme_arbiter.specs.History.{History, Picked}
+use Rattle.nvme_arbiter.specs.Lawful.{lawful_pick}
+use Rattle.nvme_arbiter.specs.Queues.{seen_of}
+use Rattle.nvme_arbiter.specs.declared.pick.Pick.{Pick}
+use Rattle.nvme_arbiter.specs.declared.pick.Seen.{Seen}
+use Rattle.nvme_arbiter.specs.declared.settings.Mechanism.{Mechanism}
+use Rattle.nvme_admin.specs.History.{Start, TableHistory, EntryApplied}
+use Rattle.nvme_admin.specs.QueueTable.{QueueTable, number_of_queues}
+use Rattle.nvme_admin.specs.Checks.{is_success, verdict_after, opened_sq, opened_cq, dw0_after}
+use Rattle.nvme_admin.specs.Accepted.{verdict_of, queue_table, status_of}
+use Rattle.nvme_admin.specs.Standing.{StandsAt, IsSized, cq_of}
+use Rattle.nvme_admin.specs.declared.verdict.SqEntry.{SqEntry}
+use Rattle.nvme_admin.specs.declared.verdict.Verdict.{Verdict}
+use Rattle.nvme_admin.specs.declared.verdict.Verdict.TheVariants as verdict
+use Rattle.nvme_front.specs.declared.event.Event.TheVariants as event
+use Rattle.nvme_front.specs.declared.candidate.Candidate.{Candidate}
+use Rattle.nvme_front.specs.declared.region.SqRegion.{SqRegion}
+use Rattle.nvme_front.specs.declared.region.CqRegion.{CqRegion}
+use Rattle.nvme_front.specs.declared.state.FrontState.{FrontState}
+use Rattle.nvme_front.specs.Limits.{max_outstanding, admin_events}
+use Rattle.nvme_front.specs.Rules.{FrontRules}
+use Rattle.nvme_front.specs.Queues.{Queue, admin_queue, open_sq}
+use Rattle.nvme_front.specs.Kept.{SqKept, sq_in, cq_in, put_sq, kept_of, rules_of, past_of, gets_of, puts_of}
+use Rattle.nvme_front.specs.Goes.{Goes, HasAdmin, get_place, put_place}
+use Rattle.nvme_front.specs.Standing.{Stands, IsKept, IsRoomy, window_room, ready_room}
+use Rattle.nvme_front.specs.Applied.{IsApplied}
+use Rattle.nvme_front.specs.Steps.{CanPick, picked_sq}
+use Rattle.nvme_front.proofs.AccountSteps.{admin_is_open}
+use Rattle.nvme_front.proofs.Observing.{seen_is_observed}
+use Rattle.nvme_front.proofs.TableSteps.{entry-sq_regions, entry-cq_regions}
+use Rattle.nvme_front.proofs.States.{sq_in-set, sq_in-read, places-set, windows-set, roomy-goes, rules-goes, admin-goes}
+use Rattle.nvme_front.proofs.Picks.{due}
+use Rattle.nvme_front.proofs.PickedQueue.{picked_region, can_pick, past-picked}
+
+-- a list with an item has a first
+pub some_first : {X : Type 0} (xs : List X) → 1 ≤ length xs → slice_get xs 0 ≡ None → ⊥
+some_first [] some none = absurd (omega arith)
+some_first (x ∷ xs) some none = absurd (cc none)
+
+-- ---- what deletes a completion queue
+not_opened_sq : (q qid : ℕ) (o : Option SqEntry) → opened_sq q o ≡ verdict.CloseCq qid → ⊥
+not_opened_sq q qid None h = absurd (cc h)
+not_opened_sq q qid (Some entry) h = absurd (cc h)
+
+not_opened_cq : (q qid : ℕ) (o : Option ℕ) → opened_cq q o ≡ verdict.CloseCq qid → ⊥
+not_opened_cq q qid None h = absurd (cc h)
+not_opened_cq q qid (Some region) h = absurd (cc h)
+
+not_set : (b : Bool) (dw0 qid : ℕ) (settings : ArbitrationFields) → (if b then verdict.Done success dw0 else verdict.SetArbitration settings) ≡ verdict.CloseCq qid → ⊥
+not_set true dw0 qid settings h = absurd (cc h)
+not_set false dw0 qid settings h = absurd (cc h)
+
+-- an accepted command that closes a completion queue is its deletion
+closes_after : (t : QueueTable) (command : AdminCommand) (qid : ℕ) → verdict_after t command ≡ verdict.CloseCq qid → command ≡ DeleteCq qid
+closes_after t (CreateSq q qsize prp1 cqid qprio pc) qid h = absurd (not_opened_sq q qid (t.sq q) h)
+closes_after t (CreateCq q qsize prp1 pc) qid h = absurd (not_opened_cq q qid (t.cq q) h)
+closes_after t (DeleteSq q) qid h = absurd (cc h)
+closes_after t (DeleteCq q) qid h = cc h
+closes_after t (SetFeatures fid sv cdw11) qid h = absurd (not_set (fid == number_of_queues) (dw0_after t (SetFeatures fid sv cdw11)) qid t.settings h)
+closes_after t (GetFeatures fid) qid h = absurd (cc h)
+closes_after t Other qid h = absurd (cc h)
+
+closes_by : (accepted : Bool) (status : StatusCode) (t : QueueTable) (command : AdminCommand) (qid : ℕ)
+    → (if accepted then verdict_after t command else verdict.Done status 0) ≡ verdict.CloseCq qid → command ≡ DeleteCq qid
+closes_by true status t command qid h = closes_after t command qid h
+closes_by false status t command qid h = absurd (cc h)
+
+-- an entry that closes a completion queue is its deletion
+pub closes : (start : Start) (h : TableHistory) (entry : Sqe) (qid : ℕ) → verdict_of start h entry ≡ verdict.CloseCq qid → admin_command_of entry ≡ DeleteCq qid
+unfolding verdict_of
+closes start h entry qid e =
+    closes_by (is_success (status_of start h entry)) (status_of start h entry) (queue_table start (EntryApplied entry ∷ h)) (admin_command_of entry) qid e
+
+-- ---- the pick of the admin queue
+module _ (s : FrontState) (kept : IsKept s) (rules : FrontRules) {late : Bool} (st : Stands rules late (past_of s) (kept_of s)) (admin : HasAdmin s) (none : s.deletion ≡ None) (pick : Pick)
+    (lawful : (m : Mechanism) (first : ArbitrationFields) (h : History) → BoardStandsAt m first h s.board → Some pick ≡ lawful_pick m first h (seen_of s.board.queues))
+    (zero_is : pick.qid ≡ 0) where
+  -- its queue is the admin queue
+  pub due-admin : (due s kept rules st none pick lawful).queue ≡ admin_queue
+  due-admin =
+      let is = due s kept rules st none pick lawful in
+      let here = sym is.is_open ∙ ap (open_sq (past_of s)) zero_is ∙ admin_is_open rules late (past_of s) (kept_of s) st admin.0 in
+      cc here
+
+  -- it has a candidate
+  pub due-candidate : (d : SqRegion) → d ≡ get_or s.sqs.items 0 d → 1 ≤ length d.window.items
+  due-candidate d read =
+      let is = due s kept rules st none pick lawful in
+      let enough = subst (λ (q : Queue). pick.n ≤ length (sq_in s.sqs.items q.region).window) due-admin is.enough in
+      let one = is.at_least_one in
+      let same = ap (λ (x : SqKept). length x.window) (sq_in-read s.sqs.items 0 d admin.0 read) in
+      omega (arith, enough, one, same)
+
+module _ (s b : FrontState) (kept : IsKept s) (admin : HasAdmin s) (none : s.deletion ≡ None) (pick : Pick)
+    (lawful : (m : Mechanism) (first : ArbitrationFields) (h : History) → BoardStandsAt m first h s.board → Some pick ≡ lawful_pick m first h (seen_of s.board.queues))
+    (board_stands : (m : Mechanism) (first : ArbitrationFields) (h : History) → BoardStandsAt m first h s.board → BoardStandsAt m first (Picked (seen_of s.board.queues) pick ∷ h) b.board)
+    (board_queues : b.board.queues ≡ queues_after s.board.queues pick)
+    (places : s.outstanding + pick.n ≤ max_outstanding)
+    (zero_is : pick.qid ≡ 0)
+    (seen : ArrayVec Seen) (seen_is : seen.items ≡ seen_of s.board.queues)
+    (d : SqRegion) (read : d ≡ get_or s.sqs.items 0 d)
+    (candidate : Candidate) (rest : List Candidate) (oldest : d.window.items ≡ candidate ∷ rest)
+    (config : b.config ≡ s.config) (alloc : b.alloc ≡ s.alloc) (same_late : b.late ≡ s.late) (deletion : b.deletion ≡ s.deletion)
+    (outstanding : b.outstanding ≡ s.outstanding + 1)
+    (sqs : b.sqs.items ≡ set s.sqs.items 0 (picked_region d 1))
+    (cqs : b.cqs.items ≡ s.cqs.items)
+    (log : b.log.items ≡ s.log.items ++ event.Pick seen pick ∷ [])
+    (within : length s.log.items + admin_events ≤ s.config.max_events)
+    (room : length s.log.items + admin_events ≤ vec_capacity b.log) where
+  -- the same front later on
+  pub admin_pick-goes : Goes s b
+  admin_pick-goes = record {
+    grew = (event.Pick seen pick ∷ [], sym log);
+    config = config;
+    alloc = alloc;
+    late = same_late;
+    gets = ap (λ (x : List SqRegion). map get_place (gets_of x)) sqs ∙ places-set s.sqs.items 0 d (picked_region d 1) read refl;
+    puts = ap (λ (x : List CqRegion). map put_place (puts_of x)) cqs;
+    windows = ap (map window_room) sqs ∙ windows-set s.sqs.items 0 d (picked_region d 1) read refl;
+    readies = ap (map ready_room) cqs;
+  }
+
+  before : Stands (rules_of b) b.late (past_of s) (kept_of s)
+  before = subst (λ (r : FrontRules). Stands r b.late (past_of s) (kept_of s)) (sym (rules-goes s b admin_pick-goes))
+      (subst (λ (l : Bool). Stands (rules_of s) l (past_of s) (kept_of s)) (sym same_late) (kept.stands admin.0 admin.1))
+
+  sqs_are : sq_in b.sqs.items ≡ put_sq (sq_in s.sqs.items) 0 (picked_sq (sq_in s.sqs.items 0) 1)
+  sqs_are =
+      ap sq_in sqs ∙ sq_in-set s.sqs.items 0 (picked_region d 1) admin.0
+      ∙ ap (λ (x : SqKept). put_sq (sq_in s.sqs.items) 0 (picked_sq x 1)) (sym (sq_in-read s.sqs.items 0 d admin.0 read))
+
+  module _ (v : Verdict) (closing : Option ℕ)
+      (verdict_is : (start : Start) (h : TableHistory) → StandsAt start s.table h → v ≡ verdict_of start h candidate.entry)
+      (table_stands : (start : Start) (h : TableHistory) → StandsAt start s.table h → StandsAt start b.table (EntryApplied candidate.entry ∷ h))
+      (sized : IsSized b.table)
+      (closed : (qid : ℕ) → admin_command_of candidate.entry ≡ DeleteCq qid → closing ≡ cq_of s.table qid) where
+    roomy : IsRoomy b
+    roomy =
+        let start = (rules_of b).start in
+        let h = before.tabled.history in
+        let stood = before.tabled.stands in
+        let stands = table_stands start h stood in
+        roomy-goes s b kept.roomy admin_pick-goes
+        (stands.sq_regions ∙ entry-sq_regions start h candidate.entry ∙ sym stood.sq_regions)
+        (stands.cq_regions ∙ entry-cq_regions start h candidate.entry ∙ sym stood.cq_regions)
+        (omega (arith, ap length log, length_push s.log.items (event.Pick seen pick), ap (λ z. z.max_events) config, within))
+
+    -- its command is applied
+    pub is_applied : IsApplied b candidate v closing
+    is_applied =
+        let start = (rules_of b).start in
+        let h = before.tabled.history in
+        let stood = before.tabled.stands in
+        let longer = length_push s.log.items (event.Pick seen pick) in
+        let same = ap length log in
+        let limit = ap (λ z. z.max_events) config in
+        record {
+          before = kept_of s;
+          past = past_of s;
+          stands = before;
+          seen = seen;
+          pick = pick;
+          picked = b.board;
+          can_pick = subst (λ (q : Queue). CanPick (rules_of b) (past_of s) (kept_of s) q pick b.board) (due-admin s kept (rules_of b) before admin none pick lawful zero_is)
+              (can_pick s kept (rules_of b) before none pick lawful b.board board_stands board_queues places);
+          seen_is = seen_is ∙ seen_is_observed (past_of s) (kept_of s) before.regions before.queues;
+          of_admin = zero_is;
+          one = (due s kept (rules_of b) before none pick lawful).one_of_admin zero_is;
+          rest = rest;
+          can_apply = record {
+            oldest = ap (λ (x : SqKept). x.window) (sq_in-read s.sqs.items 0 d admin.0 read) ∙ oldest;
+            table_stands = table_stands start h stood;
+            sized = sized;
+          };
+          verdict_is = verdict_is start h stood;
+          closing_is = λ (qid : ℕ) e. closed qid (closes start h candidate.entry qid (sym (verdict_is start h stood) ∙ e)) ∙ sym (before.queues.cqs qid);
+          past_is = past-picked s b (event.Pick seen pick) log;
+          kept_is = λ t. record {
+            sq = sqs_are t;
+            cq = cq_in (cqs t);
+            nsq = (ap length sqs ∙ length-set s.sqs.items 0 (picked_region d 1)) t;
+            ncq = length (cqs t);
+            board = b.board;
+            table = b.table;
+            outstanding = outstanding t;
+            deletion = deletion t;
+          };
+          roomy = roomy;
+          admin = admin-goes s b admin_pick-goes admin;
+          events_in_memory = omega (arith, longer, same, room);
+          events_in_limit = omega (arith, longer, same, limit, within);
+        }

@@ -1,0 +1,164 @@
+-- A front after an I/O pick whose commands were executed.
+use Rattle.std.specs.Prelude.{reverse}
+use Rattle.std.proofs.Common.{◌≡◌, ℕ, ◌+◌, ◌≤◌, Bool, List, [], ◌∷◌, ◌++◌, map, length, take, drop, set, get_or, Some, None, refl, sym, ap, subst, ◌∙◌, arith}
+use Rattle.std.proofs.lemmas.List.{length-set, length_push}
+use Rattle.arrayvec.specs.ArrayVec.{ArrayVec}
+use Rattle.nvme_arbiter.specs.Settings.{ArbitrationFields}
+use Rattle.nvme_arbiter.specs.Board.{BoardView, BoardStandsAt, queues_after}
+use Rattle.nvme_arbiter.specs.History.{History, Picked}
+use Rattle.nvme_arbiter.specs.Lawful.{lawful_pick}
+use Rattle.nvme_arbiter.specs.Queues.{seen_of}
+use Rattle.nvme_arbiter.specs.declared.pick.Pick.{Pick}
+use Rattle.nvme_arbiter.specs.declared.pick.Seen.{Seen}
+use Rattle.nvme_arbiter.specs.declared.settings.Mechanism.{Mechanism}
+use Rattle.nvme_admin.specs.Standing.{sq_of}
+use Rattle.nvme_admin.specs.declared.verdict.SqEntry.{SqEntry}
+use Rattle.nvme_front.specs.declared.event.Event.{Event}
+use Rattle.nvme_front.specs.declared.event.Event.TheVariants as event
+use Rattle.nvme_front.specs.declared.candidate.Ready.{Ready}
+use Rattle.nvme_front.specs.declared.region.Attachment.{Attachment}
+use Rattle.nvme_front.specs.declared.region.SqRegion.{SqRegion}
+use Rattle.nvme_front.specs.declared.region.CqRegion.{CqRegion}
+use Rattle.nvme_front.specs.declared.state.FrontState.{FrontState}
+use Rattle.nvme_front.specs.Limits.{max_outstanding}
+use Rattle.nvme_front.specs.Rules.{FrontRules, Past}
+use Rattle.nvme_front.specs.Queues.{Queue}
+use Rattle.nvme_front.specs.Histories.{arbitration_of}
+use Rattle.nvme_front.specs.Kept.{SqKept, CqKept, sq_kept, sq_in, cq_in, put_sq, put_cq, Kept, kept_of, rules_of, past_of, gets_of, puts_of}
+use Rattle.nvme_front.specs.Goes.{Goes, HasAdmin, get_place, put_place}
+use Rattle.nvme_front.specs.Standing.{Stands, IsKept, IsRoomy, window_room, ready_room}
+use Rattle.nvme_front.specs.Steps.{CanPick, picked_sq, executed, after_io}
+use Rattle.nvme_front.proofs.Observing.{seen_is_observed}
+use Rattle.nvme_front.proofs.Standing.{stands-io}
+use Rattle.nvme_front.proofs.States.{sq_in-set, cq_in-set, past-push, pushed-not_empty, places-set, windows-set, put_places-set, readies-set, roomy-goes, kept_after}
+use Rattle.nvme_front.proofs.Picks.{due, due-lawful, due-region, due-attached, due-sq_there, due-sq, due-c, due-c_there, due-cq}
+
+-- a region whose oldest candidates were picked
+abbrev pub picked_region : SqRegion → ℕ → SqRegion
+picked_region d n = record d { window = record d.window { items = drop n d.window.items }; unposted = d.unposted + n }
+
+-- a region with completions that are ready
+abbrev pub readied_region : CqRegion → List Ready → CqRegion
+readied_region e ts = record e { ready = record e.ready { items = e.ready.items ++ ts } }
+
+-- the pick of a board makes the pick that a front may make
+pub can_pick : (s : FrontState) (kept : IsKept s) (rules : FrontRules) {late : Bool} (st : Stands rules late (past_of s) (kept_of s)) (none : s.deletion ≡ None) (pick : Pick)
+    (lawful : (m : Mechanism) (first : ArbitrationFields) (h : History) → BoardStandsAt m first h s.board → Some pick ≡ lawful_pick m first h (seen_of s.board.queues))
+    (board : BoardView)
+    → ((m : Mechanism) (first : ArbitrationFields) (h : History) → BoardStandsAt m first h s.board → BoardStandsAt m first (Picked (seen_of s.board.queues) pick ∷ h) board)
+    → board.queues ≡ queues_after s.board.queues pick
+    → s.outstanding + pick.n ≤ max_outstanding
+    → CanPick rules (past_of s) (kept_of s) (due s kept rules st none pick lawful).queue pick board
+can_pick s kept rules {late} st none pick lawful board stands queues places =
+    let is = due s kept rules st none pick lawful in
+    record {
+      is_open = is.is_open;
+      none_pending = none;
+      enough = is.enough;
+      places = places;
+      lawful = due-lawful s kept rules st none pick lawful;
+      board_queues = queues;
+      board_stands = subst (λ (xs : List Seen). BoardStandsAt rules.mechanism rules.start.settings (Picked xs pick ∷ arbitration_of (past_of s)) board)
+          (seen_is_observed (past_of s) (kept_of s) st.regions st.queues)
+          (stands rules.mechanism rules.start.settings (arbitration_of (past_of s)) st.arbitration.stands);
+    }
+
+-- the log with the pick, read backwards
+pub past-picked : (s b : FrontState) (e : Event) → b.log.items ≡ s.log.items ++ e ∷ [] → past_of b ≡ e ∷ past_of s
+past-picked s b e log = ap reverse log ∙ past-push s.log.items e
+
+module _ (s b : FrontState) (kept : IsKept s) (admin : HasAdmin s) (none : s.deletion ≡ None) (pick : Pick)
+    (lawful : (m : Mechanism) (first : ArbitrationFields) (h : History) → BoardStandsAt m first h s.board → Some pick ≡ lawful_pick m first h (seen_of s.board.queues))
+    (board_stands : (m : Mechanism) (first : ArbitrationFields) (h : History) → BoardStandsAt m first h s.board → BoardStandsAt m first (Picked (seen_of s.board.queues) pick ∷ h) b.board)
+    (board_queues : b.board.queues ≡ queues_after s.board.queues pick)
+    (places : s.outstanding + pick.n ≤ max_outstanding)
+    (io : pick.qid ≡ 0 → ⊥)
+    (seen : ArrayVec Seen) (seen_is : seen.items ≡ seen_of s.board.queues)
+    (entry : SqEntry) (found : sq_of s.table pick.qid ≡ Some entry)
+    (r : ℕ) (r_is : r ≡ entry.region) (d : SqRegion) (read : d ≡ get_or s.sqs.items r d)
+    (a : Attachment) (at : d.queue ≡ Some a)
+    (c : ℕ) (c_is : c ≡ a.cq_region) (e : CqRegion) (read_cq : e ≡ get_or s.cqs.items c e)
+    (config : b.config ≡ s.config) (alloc : b.alloc ≡ s.alloc) (late : b.late ≡ s.late) (table : b.table ≡ s.table) (deletion : b.deletion ≡ s.deletion)
+    (outstanding : b.outstanding ≡ s.outstanding + pick.n)
+    (sqs : b.sqs.items ≡ set s.sqs.items r (picked_region d pick.n))
+    (cqs : b.cqs.items ≡ set s.cqs.items c (readied_region e (map (executed entry.region s.config.spaces) (take pick.n d.window.items))))
+    (log : b.log.items ≡ s.log.items ++ event.Pick seen pick ∷ [])
+    (within : length s.log.items + 1 ≤ s.config.max_events) where
+  st : Stands (rules_of s) s.late (past_of s) (kept_of s)
+  st = kept.stands admin.0 admin.1
+
+  queue : Queue
+  queue = (due s kept (rules_of s) st none pick lawful).queue
+
+  -- the same front later on
+  pub io-goes : Goes s b
+  io-goes = record {
+    grew = (event.Pick seen pick ∷ [], sym log);
+    config = config;
+    alloc = alloc;
+    late = late;
+    gets = ap (λ (x : List SqRegion). map get_place (gets_of x)) sqs ∙ places-set s.sqs.items r d (picked_region d pick.n) read refl;
+    puts = ap (λ (x : List CqRegion). map put_place (puts_of x)) cqs ∙ put_places-set s.cqs.items c e _ read_cq refl;
+    windows = ap (map window_room) sqs ∙ windows-set s.sqs.items r d (picked_region d pick.n) read refl;
+    readies = ap (map ready_room) cqs ∙ readies-set s.cqs.items c e _ read_cq refl;
+  }
+
+  roomy : IsRoomy b
+  roomy = roomy-goes s b kept.roomy io-goes (ap (λ z. z.sq_regions) table) (ap (λ z. z.cq_regions) table)
+      (omega (arith, ap length log, length_push s.log.items (event.Pick seen pick), ap (λ z. z.max_events) config, within))
+
+  -- its regions, by their numbers
+  sqs_are : sq_in b.sqs.items ≡ put_sq (sq_in s.sqs.items) queue.region (picked_sq (sq_in s.sqs.items queue.region) pick.n)
+  unfolding queue st
+  sqs_are =
+      let region = due-region s kept (rules_of s) st none pick lawful entry found r r_is in
+      ap sq_in sqs
+      ∙ sq_in-set s.sqs.items r (picked_region d pick.n) (due-sq_there s kept (rules_of s) st none pick lawful entry found r r_is)
+      ∙ ap (λ (x : SqKept). put_sq (sq_in s.sqs.items) r (picked_sq x pick.n)) (sym (due-sq s kept (rules_of s) st none pick lawful entry found r r_is d read))
+      ∙ ap (λ (x : ℕ). put_sq (sq_in s.sqs.items) x (picked_sq (sq_in s.sqs.items x) pick.n)) region
+
+  readied : CqKept → SqKept → ℕ → CqKept
+  readied x y n = record x { ready = x.ready ++ map (executed n s.config.spaces) (take pick.n y.window) }
+
+  cqs_are : cq_in b.cqs.items ≡ put_cq (cq_in s.cqs.items) c
+      (record (cq_in s.cqs.items c) { ready = (cq_in s.cqs.items c).ready ++ map (executed queue.region s.config.spaces) (take pick.n (sq_in s.sqs.items queue.region).window) })
+  unfolding queue st readied
+  cqs_are =
+      let region = due-region s kept (rules_of s) st none pick lawful entry found r r_is in
+      ap cq_in cqs
+      ∙ cq_in-set s.cqs.items c _ (due-c_there s kept (rules_of s) st none pick lawful entry found r r_is d read a at c c_is)
+      ∙ ap (λ (x : CqKept). put_cq (cq_in s.cqs.items) c (readied x (sq_kept d) entry.region)) (sym (due-cq s kept (rules_of s) st none pick lawful entry found r r_is d read a at c c_is e read_cq places))
+      ∙ ap (λ (y : SqKept). put_cq (cq_in s.cqs.items) c (readied (cq_in s.cqs.items c) y entry.region)) (sym (due-sq s kept (rules_of s) st none pick lawful entry found r r_is d read))
+      ∙ ap (λ (n : ℕ). put_cq (cq_in s.cqs.items) c (readied (cq_in s.cqs.items c) (sq_in s.sqs.items r) n)) (sym r_is)
+      ∙ ap (λ (n : ℕ). put_cq (cq_in s.cqs.items) c (readied (cq_in s.cqs.items c) (sq_in s.sqs.items n) n)) region
+
+  kept_is : kept_of b ≡ after_io (rules_of s) (kept_of s) queue pick.n b.board c
+  kept_is = λ t. record {
+    sq = sqs_are t;
+    cq = cqs_are t;
+    nsq = (ap length sqs ∙ length-set s.sqs.items r (picked_region d pick.n)) t;
+    ncq = (ap length cqs ∙ length-set s.cqs.items c _) t;
+    board = b.board;
+    table = table t;
+    outstanding = outstanding t;
+    deletion = deletion t;
+  }
+
+  attached : (sq_in s.sqs.items queue.region).queue ≡ Some (record { qid = pick.qid; cq_region = c })
+  unfolding queue st
+  attached =
+      subst (λ (x : ℕ). (sq_in s.sqs.items x).queue ≡ Some (record { qid = pick.qid; cq_region = c })) (due-region s kept (rules_of s) st none pick lawful entry found r r_is)
+      (subst (λ (x : ℕ). (sq_in s.sqs.items r).queue ≡ Some (record { qid = pick.qid; cq_region = x }))
+      (sym (due-c s kept (rules_of s) st none pick lawful entry found r r_is d read a at c c_is))
+      (due-attached s kept (rules_of s) st none pick lawful entry found r r_is))
+
+  -- what stands at its log is kept
+  pub io-kept : IsKept b
+  unfolding queue
+  io-kept =
+      let stands = stands-io (rules_of s) s.late (past_of s) (kept_of s) queue seen pick b.board c st
+      (can_pick s kept (rules_of s) st none pick lawful b.board board_stands board_queues places)
+      (seen_is ∙ seen_is_observed (past_of s) (kept_of s) st.regions st.queues) io attached in
+      kept_after s b admin io-goes roomy (λ n. pushed-not_empty s.log.items (event.Pick seen pick) (sym log ∙ n))
+      (subst (λ (k : Kept). Stands (rules_of s) s.late (past_of b) k) (sym kept_is)
+      (subst (λ (p : Past). Stands (rules_of s) s.late p (after_io (rules_of s) (kept_of s) queue pick.n b.board c)) (sym (past-picked s b (event.Pick seen pick) log)) stands))

@@ -1,0 +1,165 @@
+-- What is known where a front picks.
+use Rattle.std.proofs.Common.{◌≡◌, ℕ, ◌+◌, ◌<◌, ◌≤◌, Bool, true, false, not, List, [], ◌∷◌, ◌++◌, length, get_or, Option, Some, None, refl, sym, ap, subst, ◌∙◌, arith, inl, inr}
+use Rattle.std.specs.Prelude.{filter, if◌then◌else◌, IfSome}
+use Rattle.std.proofs.lemmas.Bool.Decides.{eqb_tells}
+use Rattle.std.proofs.lemmas.Bool.{cases_lt}
+use Rattle.std.proofs.lemmas.List.{length_push, length-reverse}
+use Rattle.std.proofs.Math.Bridge.{le_prop}
+use Rattle.arrayvec.specs.ArrayVec.{ArrayVec}
+use Rattle.nvme_arbiter.specs.Settings.{ArbitrationFields}
+use Rattle.nvme_arbiter.specs.Limits.{highest_count}
+use Rattle.nvme_arbiter.specs.Board.{BoardStandsAt}
+use Rattle.nvme_arbiter.specs.History.{History}
+use Rattle.nvme_arbiter.specs.Lawful.{lawful_pick}
+use Rattle.nvme_arbiter.specs.Queues.{seen_of}
+use Rattle.nvme_arbiter.specs.declared.pick.Pick.{Pick}
+use Rattle.nvme_arbiter.specs.declared.pick.Seen.{Seen}
+use Rattle.nvme_arbiter.specs.declared.settings.Mechanism.{Mechanism}
+use Rattle.nvme_admin.specs.Standing.{sq_of}
+use Rattle.nvme_admin.specs.declared.bounds.TheConstants.{MAX_REGIONS}
+use Rattle.nvme_admin.specs.declared.verdict.SqEntry.{SqEntry}
+use Rattle.nvme_front.specs.declared.event.Event.{Event}
+use Rattle.nvme_front.specs.declared.event.Event.TheVariants as event
+use Rattle.nvme_front.specs.declared.candidate.Ready.{Ready}
+use Rattle.nvme_front.specs.declared.front.FrontConfig.{FrontConfig}
+use Rattle.nvme_front.specs.declared.region.Attachment.{Attachment}
+use Rattle.nvme_front.specs.declared.region.SqRegion.{SqRegion}
+use Rattle.nvme_front.specs.declared.region.CqRegion.{CqRegion}
+use Rattle.nvme_front.specs.declared.state.FrontState.{FrontState}
+use Rattle.nvme_front.specs.Limits.{max_outstanding, most_events}
+use Rattle.nvme_front.specs.Rules.{FrontRules, Past}
+use Rattle.nvme_front.specs.Queues.{Queue}
+use Rattle.nvme_front.specs.Places.{fetched, observation_of}
+use Rattle.nvme_front.specs.Histories.{arbitration_of}
+use Rattle.nvme_front.specs.Kept.{SqKept, CqKept, sq_kept, cq_kept, sq_in, cq_in, Kept, kept_of, past_of}
+use Rattle.nvme_front.specs.Laws.{as_open}
+use Rattle.nvme_front.specs.Goes.{HasAdmin, picks_in, next_pick}
+use Rattle.nvme_front.specs.Standing.{Place, HoldsReady, Stands, IsKept, held_by}
+use Rattle.nvme_front.proofs.Observing.{seen_is_observed, IsPickable, pickable}
+use Rattle.nvme_front.proofs.PostedPlaces.{over_regions_at}
+use Rattle.nvme_front.proofs.AppliedRoom.{few_unposted}
+use Rattle.nvme_front.proofs.ReadyRoom.{ready-split}
+use Rattle.nvme_front.proofs.States.{sq_in-read, cq_in-read, ready_room-is}
+
+-- a log with a pick more has a pick more
+pub picks_in-push : (xs : List Event) (seen : ArrayVec Seen) (pick : Pick) → picks_in (xs ++ event.Pick seen pick ∷ []) ≡ picks_in xs + 1
+picks_in-push [] seen pick = refl
+picks_in-push (event.Pick s p ∷ xs) seen pick = ap (λ (n : ℕ). n + 1) (picks_in-push xs seen pick)
+picks_in-push (e ∷ xs) seen pick = picks_in-push xs seen pick
+
+-- where no deletion is pending, no more places of the admin queue are unposted than are outstanding
+pub admin_unposted : (s : FrontState) → IsKept s → (rules : FrontRules) {late : Bool} → Stands rules late (past_of s) (kept_of s) → HasAdmin s → s.deletion ≡ None
+    → (d : SqRegion) → d ≡ get_or s.sqs.items 0 d → d.unposted ≤ s.outstanding
+admin_unposted s kept rules {late} st admin none d read =
+    subst (λ (x : SqKept). x.unposted ≤ s.outstanding) (sq_in-read s.sqs.items 0 d admin.0 read) (few_unposted rules late (past_of s) (kept_of s) st none 0 admin.0)
+
+-- the completions that are ready in one region are no more than those of the outstanding places and of the candidates of a deleted queue
+pub ready_few : (past : Past) (k : Kept) (hand : List Place) → HoldsReady past k hand → (c : ℕ) → length (k.cq c).ready ≤ k.outstanding + highest_count
+ready_few past k hand h c = elim (cases_lt c MAX_REGIONS) [
+  | inl below ↦
+      let split = ready-split (k.cq c).ready in
+      let picked = over_regions_at (λ (x : ℕ). length (filter (λ (t : Ready). not t.aborted) (k.cq x).ready)) c MAX_REGIONS below in
+      let aborted = over_regions_at (λ (x : ℕ). length (filter (λ (t : Ready). t.aborted) (k.cq x).ready)) c MAX_REGIONS below in
+      omega (arith, split, picked, aborted, h.taken, h.few_aborted)
+  | inr beyond ↦
+      let none = ap (λ (xs : List Ready). length xs) (h.none_beyond c beyond) in
+      omega (arith, none)
+]
+
+-- a front's configuration by its parts
+abbrev pub with_few : (f : FrontConfig) → f.max_events ≤ most_events → FrontConfig
+with_few f few = record { mechanism = f.mechanism; settings = f.settings; limits = f.limits; spaces = f.spaces; max_events = f.max_events; few_events = few }
+
+pub config_by : (f : FrontConfig) (few : f.max_events ≤ most_events) → with_few f few ≡ f
+config_by f few = λ t. record { mechanism = f.mechanism; settings = f.settings; limits = f.limits; spaces = f.spaces; max_events = f.max_events; few_events = le_prop few f.few_events t }
+
+-- what is required of the next pick holds of the pick that is made
+pub of_next : (s : FrontState) (pick : Pick) (P : Pick → Type 0) → Some pick ≡ next_pick s → IfSome (next_pick s) P → P pick
+of_next s pick P is h = subst (λ (o : Option Pick). IfSome o P) (sym is) h
+
+-- a queue that is open in the table
+by_closing : (b : Bool) (q queue : Queue) → (if b then None else Some q) ≡ Some queue → q ≡ queue
+by_closing true q queue h = absurd (cc)
+by_closing false q queue h = cc
+
+pub region_of-open : (o : Option SqEntry) (entry : SqEntry) (queue : Queue) → as_open o ≡ Some queue → o ≡ Some entry → entry.region ≡ queue.region
+region_of-open o entry queue h is =
+    ap (λ (q : Queue). q.region) (by_closing entry.closing (record { region = entry.region; cqid = entry.cqid; class = entry.class }) queue (ap as_open (sym is) ∙ h))
+
+-- ---- the pick that arbitration makes next
+module _ (s : FrontState) (kept : IsKept s) (rules : FrontRules) {late : Bool} (st : Stands rules late (past_of s) (kept_of s)) (none : s.deletion ≡ None) (pick : Pick)
+    (lawful : (m : Mechanism) (first : ArbitrationFields) (h : History) → BoardStandsAt m first h s.board → Some pick ≡ lawful_pick m first h (seen_of s.board.queues)) where
+  -- its queue is open, and has the candidates
+  pub due : IsPickable (past_of s) (kept_of s) pick
+  due = pickable rules.mechanism rules.start.settings (arbitration_of (past_of s)) (past_of s) (kept_of s) pick st.queues st.arbitration.stands.observed
+      (sym (lawful rules.mechanism rules.start.settings (arbitration_of (past_of s)) st.arbitration.stands))
+
+  -- it is lawful on what the log observes
+  pub due-lawful : lawful_pick rules.mechanism rules.start.settings (arbitration_of (past_of s)) (observation_of (past_of s)) ≡ Some pick
+  due-lawful = subst (λ (xs : List Seen). lawful_pick rules.mechanism rules.start.settings (arbitration_of (past_of s)) xs ≡ Some pick)
+      (seen_is_observed (past_of s) (kept_of s) st.regions st.queues)
+      (sym (lawful rules.mechanism rules.start.settings (arbitration_of (past_of s)) st.arbitration.stands))
+
+  -- its queue is in the table
+  pub due-table : as_open (sq_of s.table pick.qid) ≡ Some due.queue
+  due-table = sym (st.queues.sqs pick.qid) ∙ due.is_open
+
+  pub due-found : sq_of s.table pick.qid ≡ None → ⊥
+  due-found h = let e : None ≡ Some due.queue = ap as_open (sym h) ∙ due-table in absurd (cc)
+
+  module _ (entry : SqEntry) (is : sq_of s.table pick.qid ≡ Some entry) (r : ℕ) (r_is : r ≡ entry.region) where
+    -- the region of its queue
+    pub due-region : r ≡ due.queue.region
+    due-region = r_is ∙ region_of-open (sq_of s.table pick.qid) entry due.queue due-table is
+
+    -- what it was opened for
+    pub due-cq_region : ℕ
+    due-cq_region = (st.queues.attached pick.qid due.queue due.is_open).cq_region
+
+    pub due-attached : (sq_in s.sqs.items r).queue ≡ Some (record { qid = pick.qid; cq_region = due-cq_region })
+    unfolding due-cq_region
+    due-attached = subst (λ (x : ℕ). (sq_in s.sqs.items x).queue ≡ Some (record { qid = pick.qid; cq_region = due-cq_region })) (sym due-region)
+        (st.queues.attached pick.qid due.queue due.is_open).attached
+
+    -- it is there
+    pub due-sq_there : r < length s.sqs.items
+    due-sq_there = st.queues.sq_there r (record { qid = pick.qid; cq_region = due-cq_region }) due-attached
+
+    pub due-cq_there : due-cq_region < length s.cqs.items
+    due-cq_there = st.queues.posts_there r (record { qid = pick.qid; cq_region = due-cq_region }) due-attached
+
+    module _ (d : SqRegion) (read : d ≡ get_or s.sqs.items r d) where
+      pub due-sq : sq_in s.sqs.items r ≡ sq_kept d
+      due-sq = sq_in-read s.sqs.items r d due-sq_there read
+
+      pub due-queue : d.queue ≡ Some (record { qid = pick.qid; cq_region = due-cq_region })
+      due-queue = ap (λ (x : SqKept). x.queue) (sym due-sq) ∙ due-attached
+
+      pub due-some_queue : d.queue ≡ None → ⊥
+      due-some_queue h = let e = due-queue in absurd (cc)
+
+      -- the candidates are there
+      pub due-enough : pick.n ≤ length d.window.items
+      due-enough = subst (λ (x : SqKept). pick.n ≤ length x.window) due-sq
+          (subst (λ (x : ℕ). pick.n ≤ length (sq_in s.sqs.items x).window) (sym due-region) due.enough)
+
+      -- there are few unposted places
+      pub due-unposted : d.unposted ≤ s.outstanding
+      due-unposted = subst (λ (x : SqKept). x.unposted ≤ s.outstanding) due-sq (few_unposted rules late (past_of s) (kept_of s) st none r due-sq_there)
+
+      module _ (a : Attachment) (at : d.queue ≡ Some a) (c : ℕ) (c_is : c ≡ a.cq_region) where
+        pub due-c : c ≡ due-cq_region
+        due-c = let e = due-queue in let f : a ≡ record { qid = pick.qid; cq_region = due-cq_region } = cc in c_is ∙ ap (λ (x : Attachment). x.cq_region) f
+
+        pub due-c_there : c < length s.cqs.items
+        due-c_there = subst (λ (x : ℕ). x < length s.cqs.items) (sym due-c) due-cq_there
+
+        module _ (e : CqRegion) (read_cq : e ≡ get_or s.cqs.items c e) (places : s.outstanding + pick.n ≤ max_outstanding) where
+          pub due-cq : cq_in s.cqs.items c ≡ cq_kept e
+          due-cq = cq_in-read s.cqs.items c e due-c_there read_cq
+
+          -- there is room for what is picked
+          pub due-room : length e.ready.items + pick.n ≤ e.ready.room
+          due-room =
+              let few = subst (λ (x : CqKept). length x.ready ≤ s.outstanding + highest_count) due-cq (ready_few (past_of s) (kept_of s) (held_by s.deletion) st.ready c) in
+              omega (arith, few, places, ready_room-is s kept.roomy c e due-c_there read_cq)

@@ -1,0 +1,157 @@
+-- What a turn's answer means, from what its parts leave.
+use Rattle.std.proofs.Common.{◌≡◌, ◌≢◌, ℕ, ◌+◌, ◌<◌, ◌≤◌, Bool, true, false, if◌then◌else◌, List, [], map, length, Option, Some, None, refl, sym, ap, ◌∙◌, subst, ◌⊎◌, inl, inr, option_map, ⊎_elim}
+use Rattle.std.specs.Prelude.{IfSome, IsSome, IsNone, ◌==◌}
+use Rattle.std.proofs.lemmas.Bool.{cases_lt}
+use Rattle.std.proofs.lemmas.List.{nil_from_length}
+use Rattle.nvme_arbiter.specs.Limits.{highest_qid}
+use Rattle.nvme_arbiter.specs.Lawful.{lawful_pick}
+use Rattle.nvme_arbiter.specs.Observation.{IsIdle}
+use Rattle.nvme_arbiter.specs.Queues.{seen_of, queue_at}
+use Rattle.nvme_arbiter.specs.Queues as board
+use Rattle.nvme_arbiter.specs.declared.pick.OpenQueue.{OpenQueue}
+use Rattle.nvme_arbiter.specs.declared.pick.Pick.{Pick}
+use Rattle.nvme_arbiter.specs.declared.pick.Seen.{Seen}
+use Rattle.nvme_arbiter.proofs.Stands.{lawful, idle}
+use Rattle.nvme_arbiter.proofs.MaskLemmas.{find_qid}
+use Rattle.nvme_arbiter.proofs.NextLemmas.{IfSome-find}
+use Rattle.nvme_admin.specs.declared.verdict.SqEntry.{SqEntry}
+use Rattle.nvme_admin.specs.Standing.{sq_of}
+use Rattle.nvme_front.specs.declared.candidate.Candidate.{Candidate}
+use Rattle.nvme_front.specs.declared.candidate.PendingDelete.{PendingDelete}
+use Rattle.nvme_front.specs.declared.state.FrontState.{FrontState}
+use Rattle.nvme_front.specs.Limits.{max_outstanding, admin_events}
+use Rattle.nvme_front.specs.Queues.{Queue, Deletion, open_sq, pending}
+use Rattle.nvme_front.specs.Places.{waiting}
+use Rattle.nvme_front.specs.Histories.{arbitration_of}
+use Rattle.nvme_front.specs.Completions.{outstanding}
+use Rattle.nvme_front.specs.Laws.{as_open}
+use Rattle.nvme_front.specs.Kept.{CqKept, kept_of, rules_of, past_of, sq_in}
+use Rattle.nvme_front.specs.Standing.{Stands, IsKept, on_board, as_deletion}
+use Rattle.nvme_front.specs.Goes.{HasAdmin, IsDrained, IsScanned, IsTaken, IsFullSq, next_pick}
+use Rattle.nvme_front.specs.View.{view_of, known_in, NoneCanBePosted, WaitsForNothing, IsIdleFront, IsStalledFront, IsFullLog, next_lawful}
+use Rattle.nvme_front.proofs.Answering.{ready_waits_there, unposted_place}
+use Rattle.nvme_front.proofs.Observing.{seen_is_observed}
+use Rattle.nvme_front.proofs.RegionLists.{cq_in-past}
+use Rattle.nvme_front.proofs.EndsSeen.{known_in-kept, free_in-kept}
+
+-- ---- completions
+-- a completion region that isn't there has no ready completion
+beyond_drained : (s : FrontState) (c : ℕ) → length s.cqs.items ≤ c → ((kept_of s).cq c).ready ≡ []
+beyond_drained s c beyond = ap (λ (x : CqKept). x.ready) (cq_in-past s.cqs.items c beyond)
+
+-- where each completion region is drained, no ready completion can be posted
+pub none_can_be_posted : (s : FrontState) → IsKept s → HasAdmin s → ((c : ℕ) → c < length s.cqs.items → IsDrained s c) → NoneCanBePosted (view_of s)
+none_can_be_posted s kept admin drained = λ r i ready c goes.
+    free_in-kept s c ∙
+    ready_waits_there (rules_of s) s.late (past_of s) (kept_of s) (kept.stands admin.0 admin.1)
+    (λ c'. elim (cases_lt c' (length s.cqs.items)) [
+      | inl there ↦ drained c' there
+      | inr beyond ↦ inl (beyond_drained s c' beyond)
+    ])
+    r i ready.served ready.unposted ready.not_deleting c goes
+
+-- ---- candidates
+-- a queue of a board where no command waits has none that waits
+pub idle_count : (queues : List (Option OpenQueue)) (q : ℕ) (o : OpenQueue) → IsIdle (seen_of queues) → queue_at queues q ≡ Some o → o.count ≡ 0
+idle_count queues q o none is =
+    subst (λ (x : Option Seen). IfSome x (λ (s : Seen). s.count ≡ 0)) (find_qid queues q ∙ ap (λ (x : Option OpenQueue). option_map (board.seen_as q) x) is)
+    (IfSome-find (λ (s : Seen). s.count ≡ 0) (λ (s : Seen). s.qid == q) (seen_of queues) none)
+
+-- an entry of the table that is open
+record IsOpenEntry (o : Option SqEntry) (queue : Queue) : Type 0 where
+  entry : SqEntry
+  there : o ≡ Some entry
+  is_open : entry.closing ≡ false
+  region : entry.region ≡ queue.region
+
+-- an entry that is open, by whether it is closing
+entry_by : (e : SqEntry) (queue q : Queue) (b : Bool) → e.closing ≡ b → q.region ≡ e.region → (if b then None else Some q) ≡ Some queue → IsOpenEntry (Some e) queue
+entry_by e queue q true closes region h = absurd (cc)
+entry_by e queue q false closes region h =
+    let same : q ≡ queue = cc in
+    record { entry = e; there = refl; is_open = closes; region = sym region ∙ ap (λ (x : Queue). x.region) same }
+
+-- an open queue of the table has its entry
+open_entry : (o : Option SqEntry) (queue : Queue) → as_open o ≡ Some queue → IsOpenEntry o queue
+open_entry None queue h = absurd (cc)
+open_entry (Some e) queue h = entry_by e queue (record { region = e.region; cqid = e.cqid; class = e.class }) e.closing refl refl h
+
+module _ (s : FrontState) (h : Stands (rules_of s) s.late (past_of s) (kept_of s)) where
+  -- where no command waits on the board, the window of an open queue is empty
+  idle_window : IsIdle (seen_of s.board.queues) → (q : ℕ) (queue : Queue) → open_sq (past_of s) q ≡ Some queue → ((kept_of s).sq queue.region).window ≡ []
+  idle_window none q queue is =
+      nil_from_length ((kept_of s).sq queue.region).window
+      (idle_count s.board.queues q (on_board (kept_of s) queue) none (h.queues.board q ∙ ap (λ (o : Option Queue). option_map (on_board (kept_of s)) o) is))
+
+  -- and no place of its region waits
+  idle_waiting : IsIdle (seen_of s.board.queues) → (q : ℕ) (queue : Queue) → open_sq (past_of s) q ≡ Some queue → waiting (past_of s) queue.region ≡ []
+  idle_waiting none q queue is = (h.regions queue.region).waiting_is ∙ ap (λ (xs : List Candidate). map (λ (c : Candidate). c.index) xs) (idle_window none q queue is)
+
+  -- an open queue that was scanned, whose window is empty, is known to get nothing
+  scanned_known : (q : ℕ) (queue : Queue) → open_sq (past_of s) q ≡ Some queue → ((kept_of s).sq queue.region).window ≡ [] → IsScanned s q
+      → ((kept_of s).sq queue.region).known ≡ []
+  scanned_known q queue is none scanned =
+      let it = open_entry (sq_of s.table q) queue (sym (h.queues.sqs q) ∙ is) in
+      let taken = subst (λ (o : Option SqEntry). IsTaken s o) it.there scanned in
+      let one : IsFullSq ((kept_of s).sq queue.region) ⊎ ((kept_of s).sq queue.region).known ≡ [] =
+          subst (λ (r : ℕ). IsFullSq ((kept_of s).sq r) ⊎ ((kept_of s).sq r).known ≡ []) it.region (taken it.is_open) in
+      ⊎_elim (λ full. absurd (full.1 none)) (λ known. known) one
+
+  -- where no command waits on the board, and each queue was scanned, nothing waits for the front
+  waits_for_nothing : IsIdle (seen_of s.board.queues) → ((q : ℕ) → q ≤ highest_qid → IsScanned s q) → (q : ℕ) (queue : Queue) → open_sq (past_of s) q ≡ Some queue
+      → (waiting (past_of s) queue.region ≡ []) × (known_in (view_of s) queue.region ≡ [])
+  waits_for_nothing none scanned q queue is =
+      (idle_waiting none q queue is,
+      known_in-kept s queue.region ∙ scanned_known q queue is (idle_window none q queue is) (scanned q (h.queues.few q queue is)))
+
+  -- the pick that the board makes next is the lawful one
+  next_is : next_lawful (view_of s) ≡ next_pick s
+  next_is =
+      ap (λ seen. lawful_pick s.config.mechanism (rules_of s).start.settings (arbitration_of (past_of s)) seen) (sym (seen_is_observed (past_of s) (kept_of s) h.regions h.queues))
+      ∙ sym (lawful s.config.mechanism (rules_of s).start.settings (arbitration_of (past_of s)) s.board.kept (seen_of s.board.queues) h.arbitration.stands.stands)
+
+-- ---- what the answers mean
+-- an idle front with no pending deletion
+pub idle_front : (s : FrontState) → IsKept s → HasAdmin s → s.deletion ≡ None → ((c : ℕ) → c < length s.cqs.items → IsDrained s c)
+    → ((q : ℕ) → q ≤ highest_qid → IsScanned s q) → next_pick s ≡ None → IsIdleFront (view_of s)
+idle_front s kept admin none drained scanned no_pick =
+    let h = kept.stands admin.0 admin.1 in
+    let none_pending : pending (past_of s) ≡ None = h.deletion.pending_is ∙ ap (λ (o : Option PendingDelete). option_map as_deletion o) none in
+    let quiet : IsIdle (seen_of s.board.queues) = (idle s.board.kept (seen_of s.board.queues)).0 (subst (λ (o : Option Pick). IsNone o) (sym no_pick) refl) in
+    record {
+      nothing = subst (λ (o : Option Deletion). WaitsForNothing (view_of s) o) (sym none_pending) (waits_for_nothing s h quiet scanned);
+      none_posted = none_can_be_posted s kept admin drained;
+    }
+
+-- an idle front whose deletion waits for a completion
+pub deleting_front : (s : FrontState) (d : PendingDelete) → IsKept s → HasAdmin s → s.deletion ≡ Some d → ((c : ℕ) → c < length s.cqs.items → IsDrained s c)
+    → (sq_in s.sqs.items d.region).unposted ≢ 0 → IsIdleFront (view_of s)
+deleting_front s d kept admin some drained unposted =
+    let h = kept.stands admin.0 admin.1 in
+    let is_pending : pending (past_of s) ≡ Some (as_deletion d) = h.deletion.pending_is ∙ ap (λ (o : Option PendingDelete). option_map as_deletion o) some in
+    let place = unposted_place (rules_of s) s.late (past_of s) (kept_of s) h d some unposted in
+    record {
+      nothing = subst (λ (o : Option Deletion). WaitsForNothing (view_of s) o) (sym is_pending)
+          (record { index = place.index; served = place.served; unposted = place.unposted });
+      none_posted = none_can_be_posted s kept admin drained;
+    }
+
+-- a front whose next pick needs more places than are free
+pub stalled_front : (s : FrontState) → IsKept s → HasAdmin s → ((c : ℕ) → c < length s.cqs.items → IsDrained s c)
+    → (o : Option Pick) → next_pick s ≡ o → IfSome o (λ (pick : Pick). max_outstanding < s.outstanding + pick.n) → IsSome o → IsStalledFront (view_of s)
+stalled_front s kept admin drained None is many some = absurd (cc some)
+stalled_front s kept admin drained (Some pick) is many some =
+    let h = kept.stands admin.0 admin.1 in
+    record {
+      pick = pick;
+      next = next_is s h ∙ is;
+      too_many = subst (λ (n : ℕ). max_outstanding < n + pick.n) h.counts.outstanding_is many;
+      none_posted = none_can_be_posted s kept admin drained;
+    }
+
+-- a log with too few free events for the next admin pick
+pub admin_log_full : (s : FrontState) → IsKept s → HasAdmin s → s.config.max_events < length s.log.items + admin_events
+    → (o : Option Pick) → next_pick s ≡ o → IfSome o (λ (pick : Pick). pick.qid ≡ 0) → IsSome o → IsFullLog (view_of s)
+admin_log_full s kept admin few None is of_admin some = absurd (cc some)
+admin_log_full s kept admin few (Some pick) is of_admin some =
+    inr (record { pick = pick; next = next_is s (kept.stands admin.0 admin.1) ∙ is; of_admin = of_admin; too_few = few })

@@ -1,0 +1,14 @@
+use Rattle.std.proofs.Common.{subst}
+use Rattle.nvme_front.specs.View.{FrontView, GoesOn, view_of}
+use Rattle.nvme_front.proofs.States.{admin-goes}
+use Rattle.nvme_front.proofs.EndsSeen.{accounts_for_ends, admin_there, view_goes_on}
+use Rattle.nvme_front.proofs.front.Front.turn.Goals as goal
+
+pub returns-clause-goes_on : goal.returns-clause-goes_on
+returns-clause-goes_on c =
+    subst (λ (v : FrontView). GoesOn v (view_of c.turn.new.self)) c.self.view_is (view_goes_on c.self.inside.state c.turn.new.self c.turn.ensures.goes)
+
+pub returns-clause-account : goal.returns-clause-account
+returns-clause-account c = λ late.
+    let admin = admin_there c.self.inside.state c.args.self.now c.self.view_is c.requires.admin_sq c.requires.admin_cq in
+    accounts_for_ends c.turn.new.self c.turn.ensures.kept (admin-goes c.self.inside.state c.turn.new.self c.turn.ensures.goes admin) late

@@ -1,0 +1,60 @@
+use Rattle.std.proofs.Common.{◌∙◌, not, ap, refl, rules, arith, ℕ, ◌==◌}
+use Rattle.std.specs.Prelude.{vec_len}
+use Rattle.nvme_front.specs.declared.state.FrontState.{FrontState}
+use Rattle.nvme_front.proofs.Addresses.{sq_not_refused}
+use Rattle.nvme_front.proofs.AddedRegions.{appended, kept_with_first_sq, kept_with_later_sq}
+use Rattle.nvme_front.proofs.state.FrontState.add_sq.Goals as goal
+use Rattle.nvme_front.proofs.state.FrontState.add_sq.Goals.{then-number-eq0, else-number-eq0}
+
+pub unreachable-requires : goal.unreachable-requires
+unreachable-requires c =
+    sq_not_refused c.args.self.now c.address-2.result c.slots-2.result c.requires.kept.roomy (search rules) (search rules) (search rules) (search rules)
+    _ c.in_default-add_sq_region.ensures.refused
+
+pub returns-clause-kept : goal.returns-clause-kept
+returns-clause-kept c =
+    let s = c.args.self.now in
+    elim c.if-number-eq0.branch [
+      | then-number-eq0 w ↦
+          kept_with_first_sq s c.requires.kept _
+          (record { end = c.args.end; window = c.in-Some.window; fetched = 0; unposted = 0; queue = c.if-number-eq0.queue })
+          (record {
+            config = ap (λ (z : FrontState). z.config) w.self-is;
+            sqs = appended _ _ _ _ c.in-Ok-push.ensures.items (ap (λ (z : FrontState). z.sqs.items) w.self-is ∙ c.reserve.ensures.items);
+            cqs = ap (λ (z : FrontState). z.cqs.items) w.self-is;
+            outstanding = ap (λ (z : FrontState). z.outstanding) w.self-is;
+            deletion = ap (λ (z : FrontState). z.deletion) w.self-is;
+            log = ap (λ (z : FrontState). z.log.items) w.self-is;
+            late = ap not c.is_empty.ensures ∙ ap (λ (z : FrontState). not (vec_len z.log == 0)) w.self-is ∙ ap (λ (n : ℕ). not (n == 0)) s.log.ok.0;
+          })
+          (record {
+            got = c.requires.nothing_got;
+            window = c.in-Some.ensures.empty;
+            fetched = refl;
+            unposted = refl;
+            room = omega (arith, c.in-Some.ensures.room, c.from.ensures, c.slots.ensures.value, c.slots.ensures.least);
+          })
+          (search rules) _ _ _ (ap (λ (z : FrontState). z.table) w.self-is) c.address-2.ensures c.slots-2.ensures.value c.in-Ok.ensures.stands
+          (search rules) w.queue-is _ (ap (λ (z : FrontState). z.board) w.self-is) w.open.ensures.opened w.open.ensures.stands
+      | else-number-eq0 w ↦
+          kept_with_later_sq s c.requires.kept _
+          (record { end = c.args.end; window = c.in-Some.window; fetched = 0; unposted = 0; queue = c.if-number-eq0.queue })
+          (record {
+            config = ap (λ (z : FrontState). z.config) w.self-is;
+            sqs = appended _ _ _ _ c.in-Ok-push.ensures.items (ap (λ (z : FrontState). z.sqs.items) w.self-is ∙ c.reserve.ensures.items);
+            cqs = ap (λ (z : FrontState). z.cqs.items) w.self-is;
+            outstanding = ap (λ (z : FrontState). z.outstanding) w.self-is;
+            deletion = ap (λ (z : FrontState). z.deletion) w.self-is;
+            log = ap (λ (z : FrontState). z.log.items) w.self-is;
+            late = ap not c.is_empty.ensures ∙ ap (λ (z : FrontState). not (vec_len z.log == 0)) w.self-is ∙ ap (λ (n : ℕ). not (n == 0)) s.log.ok.0;
+          })
+          (record {
+            got = c.requires.nothing_got;
+            window = c.in-Some.ensures.empty;
+            fetched = refl;
+            unposted = refl;
+            room = omega (arith, c.in-Some.ensures.room, c.from.ensures, c.slots.ensures.value, c.slots.ensures.least);
+          })
+          (search rules) _ _ _ (ap (λ (z : FrontState). z.table) w.self-is) c.address-2.ensures c.slots-2.ensures.value c.in-Ok.ensures.stands
+          (λ z. w.if-number-eq0.false (c.in-Ok.ensures.number ∙ z)) w.queue-is (ap (λ (z : FrontState). z.board) w.self-is)
+    ]

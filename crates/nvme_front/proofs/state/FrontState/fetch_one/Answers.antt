@@ -1,0 +1,82 @@
+use Rattle.std.proofs.Common.{◌∙◌, sym, refl, arith}
+use Rattle.nvme_front.proofs.PickCounts.{picks-noted}
+use Rattle.nvme_front.proofs.States.{Goes-same, IsSame-refl}
+use Rattle.nvme_front.proofs.Fetches.{region_there, can_fetch, window_fits, index_fits, came_fits, fetch_goes, fetch_kept, put_back, noted}
+use Rattle.nvme_front.proofs.Scans.{taken_closing, taken_full}
+use Rattle.nvme_front.proofs.state.FrontState.fetch_one.Goals as goal
+use Rattle.nvme_front.proofs.state.FrontState.fetch_one.Goals.{then-queue-via-then-queue, then-queue-via-else-queue+then-is_full}
+
+pub index-requires : goal.index-requires
+index-requires c =
+    let a = c.args.self.now in
+    let there = region_there a c.requires.kept c.requires.admin c.args.qid c.in-Some.queue (sym c.sq.ensures ∙ c.in-Some.is) c.if-queue.false in
+    omega (arith, a.sqs.ok.0)
+
+pub index_mut-requires : goal.index_mut-requires
+index_mut-requires c =
+    let a = c.args.self.now in
+    let there = region_there a c.requires.kept c.requires.admin c.args.qid c.in-Some.queue (sym c.sq.ensures ∙ c.in-Some.is) c.if-queue.false in
+    omega (arith, a.sqs.ok.0)
+
+pub fetch-requires-clause-room : goal.fetch-requires-clause-room
+fetch-requires-clause-room c =
+    let a = c.args.self.now in
+    let in_table = sym c.sq.ensures ∙ c.in-Some.is in
+    let can = can_fetch a c.requires.kept c.requires.admin c.args.qid c.in-Some.queue in_table c.if-queue.false c.index.result.now (rw c.from-r.ensures at c.index.ensures)
+    c.requires.none_pending (sym c.is_full.ensures.value ∙ c.if-is_full.false) c.is_full.ensures.few_slots in
+    window_fits a c.requires.kept c.requires.admin c.args.qid c.in-Some.queue in_table c.if-queue.false c.index_mut.result.now (rw c.from-r.ensures at c.index_mut.ensures.value) can
+
+pub fetch-requires-clause-few : goal.fetch-requires-clause-few
+fetch-requires-clause-few c =
+    index_fits c.args.self.now c.requires.kept c.requires.admin c.args.qid c.in-Some.queue (sym c.sq.ensures ∙ c.in-Some.is) c.if-queue.false c.index_mut.result.now (rw c.from-r.ensures at c.index_mut.ensures.value)
+
+pub came-requires : goal.came-requires
+came-requires c =
+    let a = c.args.self.now in
+    let in_table = sym c.sq.ensures ∙ c.in-Some.is in
+    let can = can_fetch a c.requires.kept c.requires.admin c.args.qid c.in-Some.queue in_table c.if-queue.false c.index.result.now (rw c.from-r.ensures at c.index.ensures)
+    c.requires.none_pending (sym c.is_full.ensures.value ∙ c.if-is_full.false) c.is_full.ensures.few_slots in
+    came_fits a c.requires.kept c.requires.admin c.args.qid c.in-Some.queue in_table c.if-queue.false can
+
+pub returns-in_default-fetch-clause-goes : goal.returns-in_default-fetch-clause-goes
+returns-in_default-fetch-clause-goes c =
+    Goes-same c.args.self.now _ (record {
+      log = c.make_room.ensures.same;
+      sqs = put_back c.args.self.now.sqs.items c.from-r.result c.index_mut.result.now c.fetch.new.self c.index_mut.ensures.value c.in_default-fetch.ensures.none.0;
+      cqs = refl; board = refl; table = refl; outstanding = refl; deletion = refl; late = refl; config = refl; alloc = refl;
+    })
+
+pub returns-clause-kept : goal.returns-clause-kept
+returns-clause-kept c =
+    let a = c.args.self.now in
+    let r = c.index_mut.result.now in
+    let in_table = sym c.sq.ensures ∙ c.in-Some.is in
+    let can = can_fetch a c.requires.kept c.requires.admin c.args.qid c.in-Some.queue in_table c.if-queue.false c.index.result.now (rw c.from-r.ensures at c.index.ensures)
+    c.requires.none_pending (sym c.is_full.ensures.value ∙ c.if-is_full.false) c.is_full.ensures.few_slots in
+    let e = c.in-Some-fetch.ensures in
+    fetch_kept a c.requires.kept c.requires.admin c.args.qid c.in-Some.queue in_table c.if-queue.false
+    _ (record { cqs = refl; table = refl; outstanding = refl; deletion = refl; late = refl; config = refl; alloc = refl }) r c.fetch.new.self (rw c.from-r.ensures at c.index_mut.ensures.value)
+    c.in-Some-fetch.candidate (rw c.from-r.ensures refl) c.fetch.ensures.end e.window e.index e.got e.fetched e.unposted e.queue c.came.ensures.came can
+    (noted _ _ _ _ c.make_room.ensures.same c.note.ensures.items) c.in_ok-make_room.ensures.within
+
+pub returns-clause-goes : goal.returns-clause-goes
+returns-clause-goes c =
+    let a = c.args.self.now in
+    let r = c.index_mut.result.now in
+    fetch_goes a c.requires.kept c.requires.admin c.args.qid c.in-Some.queue (sym c.sq.ensures ∙ c.in-Some.is) c.if-queue.false
+    _ (record { cqs = refl; table = refl; outstanding = refl; deletion = refl; late = refl; config = refl; alloc = refl }) r c.fetch.new.self (rw c.from-r.ensures at c.index_mut.ensures.value)
+    c.in-Some-fetch.candidate (rw c.from-r.ensures refl) c.fetch.ensures.end c.in-Some-fetch.ensures.window (_, sym (noted _ _ _ _ c.make_room.ensures.same c.note.ensures.items))
+
+pub returns-clause-picks : goal.returns-clause-picks
+returns-clause-picks c = picks-noted _ _ _ _ c.make_room.ensures.same c.note.ensures.items refl
+
+
+pub returns-then-queue-clause-still : goal.returns-then-queue-clause-still
+returns-then-queue-clause-still c = λ _. (IsSame-refl c.args.self.now, elim c.then-queue.branch [
+    | then-queue-via-then-queue w ↦ taken_closing c.args.self.now _ c.in-Some.queue (sym c.sq.ensures ∙ c.in-Some.is) w.if-queue.true
+    | then-queue-via-else-queue+then-is_full w ↦
+        let in_table = sym c.sq.ensures ∙ c.in-Some.is in
+        taken_full c.args.self.now _ c.in-Some.queue w.index.result.now in_table
+        (region_there c.args.self.now c.requires.kept c.requires.admin c.args.qid c.in-Some.queue in_table w.if-queue.false)
+        (rw c.from-r.ensures at w.index.ensures) (sym w.is_full.ensures.value ∙ w.if-is_full.true) (w.is_full.ensures.some w.if-is_full.true)
+  ])

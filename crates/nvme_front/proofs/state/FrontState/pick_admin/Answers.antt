@@ -1,0 +1,49 @@
+use Rattle.std.proofs.Common.{◌+◌, ◌≡◌, ◌≤◌, List, [], ◌∷◌, ◌++◌, length, set, refl, ap, sym, ◌∙◌, arith}
+use Rattle.std.specs.Prelude.{vec_capacity}
+use Rattle.nvme_arbiter.specs.declared.pick.Pick.{Pick}
+use Rattle.nvme_front.specs.declared.event.Event.{Event}
+use Rattle.nvme_front.specs.declared.event.Event.TheVariants as event
+use Rattle.nvme_front.specs.Goes.{picks_in}
+use Rattle.nvme_front.specs.Limits.{max_outstanding, admin_events}
+use Rattle.nvme_front.specs.Kept.{rules_of}
+use Rattle.nvme_front.proofs.Picks.{picks_in-push, of_next, admin_unposted}
+use Rattle.nvme_front.proofs.PickedAdmin.{some_first, due-candidate, is_applied}
+use Rattle.nvme_front.proofs.state.FrontState.pick_admin.Goals as goal
+
+pub unreachable-requires-in_default-pop : goal.unreachable-requires-in_default-pop
+unreachable-requires-in_default-pop c =
+    let s = c.args.self.now in
+    some_first c.index_mut-sq.result.now.window.items
+    (due-candidate s c.requires.kept (rules_of s) (c.requires.kept.stands c.requires.admin.0 c.requires.admin.1) c.requires.admin c.requires.none_pending c.in-Some.pick c.in-Some.ensures.lawful
+    (of_next s c.in-Some.pick (λ (p : Pick). p.qid ≡ 0) c.in-Some.ensures.by_what_is_kept c.requires.of_admin) c.index_mut-sq.result.now c.index_mut-sq.ensures.value)
+    (sym c.pop.ensures.value ∙ c.in_default-pop.is)
+
+pub overflow_add-sq : goal.overflow_add-sq
+overflow_add-sq c =
+    let s = c.args.self.now in
+    let few = admin_unposted s c.requires.kept (rules_of s) (c.requires.kept.stands c.requires.admin.0 c.requires.admin.1) c.requires.admin c.requires.none_pending c.index_mut-sq.result.now c.index_mut-sq.ensures.value in
+    let taken = (c.requires.kept.stands c.requires.admin.0 c.requires.admin.1).ready.few_taken in
+    omega (arith, few, taken)
+
+pub carry_out-requires : goal.carry_out-requires
+carry_out-requires c =
+    let room : length c.args.self.now.log.items + admin_events ≤ vec_capacity c.note.new.log = omega (arith, c.in_ok-make_room.ensures.room, c.note.ensures.room) in
+    record {
+      applied = is_applied c.args.self.now _ c.requires.kept c.requires.admin c.requires.none_pending c.in-Some.pick c.in-Some.ensures.lawful c.in-Some.ensures.stands c.in-Some.ensures.queues
+          (of_next c.args.self.now c.in-Some.pick (λ (p : Pick). c.args.self.now.outstanding + p.n ≤ max_outstanding) c.in-Some.ensures.by_what_is_kept c.requires.places)
+          (of_next c.args.self.now c.in-Some.pick (λ (p : Pick). p.qid ≡ 0) c.in-Some.ensures.by_what_is_kept c.requires.of_admin)
+          c.seen-seen.result c.seen-seen.ensures.seen c.index_mut-sq.result.now c.index_mut-sq.ensures.value
+          c.in-Some-pop.candidate c.pop.new.self.items c.in-Some-pop.ensures.items
+          refl refl refl refl refl
+          (λ t. set c.args.self.now.sqs.items 0 (record c.index_mut-sq.result.now { window = record { items = c.pop.ensures.rest t; room = c.pop.ensures.room t }; unposted = c.index_mut-sq.result.now.unposted + 1 }))
+          refl
+          (c.note.ensures.items ∙ ap (λ (xs : List Event). xs ++ event.Pick c.seen-seen.result c.in-Some.pick ∷ []) c.make_room.ensures.same)
+          c.in_ok-make_room.ensures.within
+          room
+          c.apply-verdict.result c.deleted_region-closing.result c.apply-verdict.ensures.verdict c.apply-verdict.ensures.stands c.apply-verdict.ensures.sized c.deleted_region-closing.ensures;
+    }
+
+pub returns-clause-picked : goal.returns-clause-picked
+returns-clause-picked c =
+    c.carry_out.ensures.picks ∙ ap picks_in c.note.ensures.items ∙ ap (λ (xs : List Event). picks_in (xs ++ event.Pick c.seen-seen.result c.in-Some.pick ∷ [])) c.make_room.ensures.same
+    ∙ picks_in-push c.args.self.now.log.items c.seen-seen.result c.in-Some.pick

@@ -1,0 +1,57 @@
+-- A region after another: as long as nothing is posted nothing changes, and the regions before stay drained.
+use Rattle.std.proofs.Common.{◌≡◌, ◌∙◌, true, false, Ok, sym, ap, arith, below_more}
+use Rattle.nvme_front.specs.Goes.{IsDrained}
+use Rattle.nvme_front.proofs.States.{Goes-trans, IsSame-trans, cqs-goes}
+use Rattle.nvme_front.proofs.PostOne.{goes-longer, drained-same}
+use Rattle.nvme_front.proofs.state.FrontState.post.Goals as goal
+use Rattle.nvme_front.proofs.state.FrontState.post.Goals.{then-branch, else-branch}
+
+pub loop-c-preserved : goal.loop-c-preserved
+loop-c-preserved c =
+    let i = c.loop-c.invariant in
+    let e = c.post_region.ensures in
+    let before = goes-longer c.args.self.now c.loop-c.self i.goes in
+    let here = goes-longer c.loop-c.self c.post_region.new.self e.goes in
+    let goes = Goes-trans c.args.self.now c.loop-c.self c.post_region.new.self i.goes e.goes in
+    let picks = e.picks ∙ i.picks in
+    let deletion = e.deletion ∙ i.deletion in
+    elim c.if-branch.branch [
+      | then-branch w ↦
+          let r : c.post_region.result ≡ Ok true = c.in_ok-post_region.was ∙ ap Ok w.if-branch.true in
+          let more = e.more r in
+          record {
+            there = i.there;
+            kept = e.kept;
+            goes = goes;
+            picks = picks;
+            deletion = deletion;
+            more = λ _. omega (arith, before, more);
+            still = λ f. cc (f, w.posted-is);
+            drained = λ f. cc (f, w.posted-is);
+          }
+      | else-branch w ↦
+          let r : c.post_region.result ≡ Ok false = c.in_ok-post_region.was ∙ ap Ok w.if-branch.false in
+          record {
+            there = i.there;
+            kept = e.kept;
+            goes = goes;
+            picks = picks;
+            deletion = deletion;
+            more = λ t. let before = i.more (sym w.posted-is ∙ t) in omega (arith, before, here);
+            still = λ f. IsSame-trans c.args.self.now c.loop-c.self c.post_region.new.self (i.still (sym w.posted-is ∙ f)) (e.still r).0;
+            drained = λ f. below_more (λ x. IsDrained c.args.self.now x) c.loop-c.c (i.drained (sym w.posted-is ∙ f))
+                (drained-same c.args.self.now c.loop-c.self c.loop-c.c (i.still (sym w.posted-is ∙ f)) (e.still r).1);
+          }
+    ]
+
+pub post_region-requires-clause-there : goal.post_region-requires-clause-there
+post_region-requires-clause-there c =
+    let same = cqs-goes c.args.self.now c.loop-c.self c.loop-c.invariant.goes in
+    let there = c.loop-c.invariant.there in
+    omega (arith, same, there, c.loop-c-test.true)
+
+pub returns-clause-still : goal.returns-clause-still
+returns-clause-still c = λ r.
+    let none : c.loop-c.posted ≡ false = cc r in
+    let there = c.loop-c.invariant.there in
+    (c.loop-c.invariant.still none, λ x within. c.loop-c.invariant.drained none x (omega (arith, within, there, c.loop-c-test.false)))

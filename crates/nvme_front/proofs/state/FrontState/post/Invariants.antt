@@ -1,0 +1,17 @@
+-- The front stays the same from region to region, and as long as nothing was posted, nothing changed and the regions before have nothing to post.
+use Rattle.std.proofs.Common.{◌≡◌, ◌<◌, ℕ, length, true, false}
+use Rattle.nvme_front.specs.Standing.{IsKept}
+use Rattle.nvme_front.specs.Goes.{Goes, IsSame, IsDrained, picks_in}
+use Rattle.nvme_front.proofs.state.FrontState.post.Given as goal
+
+abbrev pub invariant-loop-c : goal.invariant-loop-c
+invariant-loop-c l = record {
+  there : l.count ≡ length l.fn.self.cqs.items;
+  kept : IsKept l.self;
+  goes : Goes l.fn.self l.self;
+  picks : picks_in l.self.log.items ≡ picks_in l.fn.self.log.items;
+  deletion : l.self.deletion ≡ l.fn.self.deletion;
+  more : l.posted ≡ true → length l.fn.self.log.items < length l.self.log.items;
+  still : l.posted ≡ false → IsSame l.fn.self l.self;
+  drained : l.posted ≡ false → (x : ℕ) → x < l.c → IsDrained l.fn.self x;
+}

@@ -1,0 +1,18 @@
+-- The front stays the same while completions are posted, and nothing changed as long as none was.
+use Rattle.std.proofs.Common.{◌≡◌, ◌<◌, ◌-◌, length, true, false}
+use Rattle.nvme_front.specs.Standing.{IsKept}
+use Rattle.nvme_front.specs.Goes.{Goes, IsSame, picks_in}
+use Rattle.nvme_front.proofs.state.FrontState.post_region.Given as goal
+
+abbrev pub invariant-loop-posted : goal.invariant-loop-posted
+invariant-loop-posted l = record {
+  kept : IsKept l.self;
+  goes : Goes l.fn.self l.self;
+  picks : picks_in l.self.log.items ≡ picks_in l.fn.self.log.items;
+  deletion : l.self.deletion ≡ l.fn.self.deletion;
+  more : l.posted ≡ true → length l.fn.self.log.items < length l.self.log.items;
+  still : l.posted ≡ false → IsSame l.fn.self l.self;
+}
+
+abbrev pub decreases-loop-posted : goal.decreases-loop-posted
+decreases-loop-posted l = l.self.config.max_events - length l.self.log.items

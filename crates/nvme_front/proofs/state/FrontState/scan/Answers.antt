@@ -1,0 +1,30 @@
+use Rattle.std.proofs.Common.{◌∙◌, Ok, ap, sym, arith}
+use Rattle.nvme_front.proofs.States.{Goes-trans, IsSame-trans, admin-goes}
+use Rattle.nvme_front.proofs.Scans.{goes_longer, scanned_more}
+use Rattle.nvme_front.proofs.state.FrontState.scan.Goals as goal
+use Rattle.nvme_front.proofs.state.FrontState.scan.Goals.{then-branch, else-branch}
+
+pub loop-qid-preserved : goal.loop-qid-preserved
+loop-qid-preserved c =
+    let i = c.loop-qid.invariant in
+    let e = c.scan_queue.ensures in
+    let was = c.in_ok-scan_queue.was in
+    record {
+      kept = e.kept;
+      goes = Goes-trans _ _ _ i.goes e.goes;
+      picks = e.picks ∙ i.picks;
+      admin = admin-goes _ _ e.goes i.admin;
+      none_pending = e.none_pending;
+      more = elim c.if-branch.branch [
+        | then-branch w ↦ λ h. let before = goes_longer _ _ i.goes in let more = e.more (was ∙ ap Ok w.if-branch.true) in omega arith
+        | else-branch w ↦ λ h. let before = i.more (sym w.fetched-is ∙ h) in let longer = goes_longer _ _ e.goes in omega arith
+      ];
+      still = elim c.if-branch.branch [
+        | then-branch w ↦ λ h. absurd (cc (w.fetched-is, h))
+        | else-branch w ↦ λ h. IsSame-trans _ _ _ (i.still (sym w.fetched-is ∙ h)) (e.still (was ∙ ap Ok w.if-branch.false)).0
+      ];
+      scanned = elim c.if-branch.branch [
+        | then-branch w ↦ λ h. absurd (cc (w.fetched-is, h))
+        | else-branch w ↦ λ h. let before = sym w.fetched-is ∙ h in scanned_more _ _ _ (i.still before) (i.scanned before) (e.still (was ∙ ap Ok w.if-branch.false)).1
+      ];
+    }

@@ -1,0 +1,16 @@
+use Rattle.std.proofs.Common.{◌≡◌, ℕ, ◌<◌, length, None, true, false}
+use Rattle.nvme_front.specs.Standing.{IsKept}
+use Rattle.nvme_front.specs.Goes.{Goes, IsSame, HasAdmin, IsScanned, picks_in}
+use Rattle.nvme_front.proofs.state.FrontState.scan.Given as goal
+
+abbrev pub invariant-loop-qid : goal.invariant-loop-qid
+invariant-loop-qid l = record {
+  kept : IsKept l.self;
+  goes : Goes l.fn.self l.self;
+  picks : picks_in l.self.log.items ≡ picks_in l.fn.self.log.items;
+  admin : HasAdmin l.self;
+  none_pending : l.self.deletion ≡ None;
+  more : l.fetched ≡ true → length l.fn.self.log.items < length l.self.log.items;
+  still : l.fetched ≡ false → IsSame l.fn.self l.self;
+  scanned : l.fetched ≡ false → (q : ℕ) → q < l.qid → IsScanned l.fn.self q;
+}

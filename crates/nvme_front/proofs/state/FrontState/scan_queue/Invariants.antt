@@ -1,0 +1,18 @@
+use Rattle.std.proofs.Common.{◌≡◌, ◌-◌, ◌<◌, length, None, true, false}
+use Rattle.nvme_front.specs.Standing.{IsKept}
+use Rattle.nvme_front.specs.Goes.{Goes, IsSame, HasAdmin, picks_in}
+use Rattle.nvme_front.proofs.state.FrontState.scan_queue.Given as goal
+
+abbrev pub invariant-loop-fetched : goal.invariant-loop-fetched
+invariant-loop-fetched l = record {
+  kept : IsKept l.self;
+  goes : Goes l.fn.self l.self;
+  picks : picks_in l.self.log.items ≡ picks_in l.fn.self.log.items;
+  admin : HasAdmin l.self;
+  none_pending : l.self.deletion ≡ None;
+  more : l.fetched ≡ true → length l.fn.self.log.items < length l.self.log.items;
+  still : l.fetched ≡ false → IsSame l.fn.self l.self;
+}
+
+abbrev pub decreases-loop-fetched : goal.decreases-loop-fetched
+decreases-loop-fetched l = l.self.config.max_events - length l.self.log.items

@@ -1,0 +1,91 @@
+-- What the steps of a front leave.
+use Rattle.std.specs.Prelude.{◌≡◌, ◌⊎◌, ◌≢◌, ℕ, ◌+◌, ◌%◌, ◌<◌, ◌≤◌, ◌==◌, Bool, false, List, [], ◌∷◌, length, map, Option, Some, None}
+use mathlib.Core.List.{IsPrefix}
+use Rattle.nvme_entry.specs.declared.submission.Sqe.{Sqe}
+use Rattle.nvme_entry.specs.declared.completion.Cqe.{Cqe}
+use Rattle.nvme_lane.specs.View.{GetView, PutView, RingName}
+use Rattle.nvme_arbiter.specs.declared.pick.Pick.{Pick}
+use Rattle.nvme_arbiter.specs.Queues.{seen_of}
+use Rattle.nvme_arbiter.specs.Standing.{pick_of}
+use Rattle.nvme_admin.specs.declared.verdict.SqEntry.{SqEntry}
+use Rattle.nvme_admin.specs.Standing.{sq_of}
+use Rattle.nvme_front.specs.declared.event.Event.{Event}
+use Rattle.nvme_front.specs.declared.event.Event.TheVariants as event
+use Rattle.nvme_front.specs.declared.candidate.Ready.{Ready}
+use Rattle.nvme_front.specs.declared.state.FrontState.{FrontState}
+use Rattle.nvme_front.specs.Completions.{phase_after}
+use Rattle.nvme_front.specs.Standing.{window_room, ready_room}
+use Rattle.nvme_front.specs.Kept.{SqKept, CqKept, kept_of, gets_of, puts_of}
+
+-- which end of which ring an end is
+abbrev pub get_place : GetView Sqe → RingName × ℕ × ℕ
+get_place g = (g.ring, g.address, g.slots)
+
+abbrev pub put_place : PutView Cqe → RingName × ℕ × ℕ
+put_place p = (p.ring, p.address, p.slots)
+
+-- the same front later on: the same regions, and a log that begins with the old one
+pub record Goes (old new : FrontState) : Type 0 where
+  pub grew : IsPrefix old.log.items new.log.items
+  pub config : new.config ≡ old.config
+  pub alloc : new.alloc ≡ old.alloc
+  pub late : new.late ≡ old.late
+  pub gets : map get_place (gets_of new.sqs.items) ≡ map get_place (gets_of old.sqs.items)
+  pub puts : map put_place (puts_of new.cqs.items) ≡ map put_place (puts_of old.cqs.items)
+  pub windows : map window_room new.sqs.items ≡ map window_room old.sqs.items
+  pub readies : map ready_room new.cqs.items ≡ map ready_room old.cqs.items
+
+-- nothing changed but room in the log
+pub record IsSame (old new : FrontState) : Type 0 where
+  pub log : new.log.items ≡ old.log.items
+  pub sqs : new.sqs.items ≡ old.sqs.items
+  pub cqs : new.cqs.items ≡ old.cqs.items
+  pub board : new.board ≡ old.board
+  pub table : new.table ≡ old.table
+  pub outstanding : new.outstanding ≡ old.outstanding
+  pub deletion : new.deletion ≡ old.deletion
+  pub late : new.late ≡ old.late
+  pub config : new.config ≡ old.config
+  pub alloc : new.alloc ≡ old.alloc
+
+-- both admin regions are there
+abbrev pub HasAdmin : FrontState → Type 0
+HasAdmin s = (0 < length s.sqs.items) × (0 < length s.cqs.items)
+
+-- the window of a region is full, and not empty: a ring has at least two slots
+abbrev pub IsFullSq : SqKept → Type 0
+IsFullSq sq = (sq.slots ≤ length sq.window + 1) × (sq.window ≢ [])
+
+-- the queue of an identifier is not open, or its window is full, or its ring is known to give nothing
+abbrev pub IsTaken : FrontState → Option SqEntry → Type 0
+IsTaken s None = Unit {0}
+IsTaken s (Some entry) =
+    entry.closing ≡ false
+    → IsFullSq ((kept_of s).sq entry.region) ⊎ ((kept_of s).sq entry.region).known ≡ []
+
+abbrev pub IsScanned : FrontState → ℕ → Type 0
+IsScanned s q = IsTaken s (sq_of s.table q)
+
+-- no completion is ready in a completion region, or its ring is full
+abbrev pub IsDrained : FrontState → ℕ → Type 0
+IsDrained s c = ((kept_of s).cq c).ready ≡ [] ⊎ ((kept_of s).cq c).free ≡ 0
+
+-- how many picks a log has
+abbrev pub picks_in : List Event → ℕ
+picks_in [] = 0
+picks_in (event.Pick seen pick ∷ rest) = picks_in rest + 1
+picks_in (e ∷ rest) = picks_in rest
+
+-- the pick that arbitration makes next
+abbrev pub next_pick : FrontState → Option Pick
+next_pick s = pick_of s.board.kept (seen_of s.board.queues)
+
+-- the completion of a ready place, where it is posted next to a completion region
+pub record IsCompletionOf (sq : SqKept) (cq : CqKept) (t : Ready) (cqe : Cqe) : Type 0 where
+  pub cq_region : ℕ
+  pub queue : sq.queue ≡ Some (record { qid = cqe.sqid; cq_region = cq_region })
+  pub cid : cqe.cid ≡ t.entry.cid
+  pub status : cqe.status ≡ t.status
+  pub dw0 : cqe.dw0 ≡ t.dw0
+  pub sqhd : cqe.sqhd ≡ sq.fetched % sq.slots
+  pub phase : cqe.phase ≡ phase_after cq.posted cq.slots

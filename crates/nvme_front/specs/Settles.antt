@@ -1,0 +1,54 @@
+-- What a settling gives, and what a refusal leaves.
+use Rattle.std.specs.Prelude.{◌≡◌, ℕ, ◌<◌, true, false, None, List, [], length, reverse}
+use Rattle.std.specs.List.{list_all}
+use mathlib.Core.List.{IsPrefix}
+use Rattle.nvme_lane.specs.declared.drainer.Drainer.{Drainer}
+use Rattle.nvme_entry.specs.declared.completion.Cqe.{Cqe}
+use Rattle.nvme_front.specs.declared.settled.Settled.{Settled}
+use Rattle.nvme_front.specs.declared.settled.SettleError.{SettleError}
+use Rattle.nvme_front.specs.declared.settled.SettleError.TheVariants.{Strangers, Outstanding, NoMemory}
+use Rattle.nvme_front.specs.declared.settling.Parts.{Parts}
+use Rattle.nvme_front.specs.Rules.{Past}
+use Rattle.nvme_front.specs.Queues.{is_open_region, pending}
+use Rattle.nvme_front.specs.Places.{fetched, waiting, places}
+use Rattle.nvme_front.specs.Completions.{is_posted, posted_to}
+use Rattle.nvme_front.specs.Account.{IsAccount}
+use Rattle.nvme_front.specs.View.{FrontView}
+use Rattle.nvme_front.specs.Hosts.{sent_at, taken_at, collected_at}
+use Rattle.nvme_front.specs.Resting.{IsSameFront, AreSameFeeders, Takes}
+
+-- the log of what is settled, the newest event first
+abbrev pub settled_past : Settled → Past
+settled_past s = reverse s.log.items
+
+-- nothing is left to do: each fetched place is posted, none waits, no deletion is pending; all that was submitted to an open region was
+-- fetched, and all that was posted was collected
+pub record IsSettled (s : Settled) : Type 0 where
+  pub all_posted : (r : ℕ) → list_all (λ (i : ℕ). is_posted (settled_past s) r i) (places (settled_past s) r) ≡ true
+  pub none_waits : (r : ℕ) → waiting (settled_past s) r ≡ []
+  pub none_pending : pending (settled_past s) ≡ None
+  pub open_fetched : (r : ℕ) → is_open_region (settled_past s) r ≡ true → fetched (settled_past s) r ≡ sent_at s.sent.items r
+  pub all_collected : (c : ℕ) → collected_at s.collected.items c ≡ posted_to (settled_past s) c
+
+-- where both admin regions are there and none was added after the first event, the log is the account of what was submitted and collected
+abbrev pub IsSettledAccount : FrontView → Settled → Type 0
+IsSettledAccount v s =
+    v.late ≡ false → 0 < length v.gets → 0 < length v.puts
+    → IsAccount v.rules (sent_at s.sent.items) (settled_past s) (collected_at s.collected.items)
+
+-- the lists of the drainers, each as it was and gone on with what rested in its ring
+pub record CollectsMore (drainers : List (Drainer Cqe)) (s : Settled) : Type 0 where
+  pub count : length s.collected.items ≡ length drainers
+  pub grew : (c : ℕ) → IsPrefix (taken_at drainers c) (collected_at s.collected.items c)
+
+-- what a refusal leaves: all but what ends know and what the drainers took
+pub record HandsBack (old new : Parts) : Type 0 where
+  pub front : IsSameFront old.front new.front
+  pub feeders : AreSameFeeders old.feeders.items new.feeders.items
+  pub drainers : Takes old.front old.drainers.items new.drainers.items
+
+-- where nothing was looked at nothing changed, and where nothing was taken the drainers are the same
+abbrev pub LeavesBy : SettleError → Parts → Parts → Type 0
+LeavesBy Strangers old new = (new.front ≡ old.front) × (new.feeders.items ≡ old.feeders.items) × (new.drainers.items ≡ old.drainers.items)
+LeavesBy Outstanding old new = new.drainers.items ≡ old.drainers.items
+LeavesBy NoMemory old new = Unit {0}

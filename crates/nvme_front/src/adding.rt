@@ -1,0 +1,156 @@
+// How a front is made, and how regions are added.
+use crate::fifo::Fifo;
+use crate::front::{AddError, FrontConfig};
+use crate::limits::MAX_READY;
+use crate::region::{Attachment, CqRegion, SqRegion};
+use crate::state::FrontState;
+use nvme_admin::{MAX_REGIONS, Table};
+use nvme_arbiter::{Board, Class};
+use nvme_entry::{Cqe, Sqe};
+use nvme_lane::{GetEnd, PutEnd};
+use std::alloc::Global;
+
+// The admin queue, which its region 0 is for. It posts to completion region 0.
+const ADMIN: Attachment = Attachment {
+    qid: 0,
+    cq_region: 0,
+};
+
+impl FrontState {
+    ghost use Rattle.std.specs.Prelude.{◌≡◌, ◌≢◌, ◌+◌, ◌<◌, [], ◌∷◌, ◌++◌, ◌||◌, Bool, true, false, length, IfOk, OnOk, IfErr, OnErr};
+    ghost use Rattle.nvme_admin.specs.declared.bounds.TheConstants.{MAX_REGIONS};
+    ghost use Rattle.nvme_front.specs.Standing.{IsKept};
+    ghost use Rattle.nvme_front.specs.Kept.{gets_of, puts_of};
+    ghost use Rattle.nvme_front.specs.View.{view_of, is_address};
+    ghost use Rattle.nvme_front.specs.declared.front.AddError.TheVariants.{Used, TooMany, NoMemory};
+
+    /// A front with no region and an empty log.
+    pub fn new(alloc: Global, config: FrontConfig) -> FrontState
+        ensures kept { IsKept result }
+        ensures config { result.config ≡ config }
+        ensures no_sqs { result.sqs.items ≡ [] }
+        ensures no_cqs { result.cqs.items ≡ [] }
+        ensures no_log { result.log.items ≡ [] }
+        ensures not_late { result.late ≡ false }
+    {
+        FrontState {
+            alloc,
+            config,
+            table: Table::new(config.limits, config.settings),
+            board: Board::new(config.mechanism, config.settings),
+            sqs: Vec::new(alloc),
+            cqs: Vec::new(alloc),
+            outstanding: 0,
+            deletion: None,
+            late: false,
+            log: Vec::new(alloc),
+        }
+    }
+
+    // An address is that of a region of either kind.
+    fn has_address(&self, address: u64) -> bool
+        ensures { result ≡ is_address (view_of self.now) address }
+    {
+        self.sqs.iter().any(|sq| sq.end.address() == address)
+            || self.cqs.iter().any(|cq| cq.end.address() == address)
+    }
+
+    /// Adds a submission region, with room for its window. Region 0 is the admin queue's, which is open from then on.
+    pub fn add_sq(&mut self, end: GetEnd<Sqe>) -> Result<u8, (AddError, GetEnd<Sqe>)>
+        requires kept { IsKept self.old }
+        requires nothing_got { end.got ≡ [] }
+        ensures kept { IsKept self.new }
+        ensures number { IfOk result (λ r. r ≡ length self.old.sqs.items) }
+        ensures gets { OnOk result (gets_of self.new.sqs.items ≡ gets_of self.old.sqs.items ++ end ∷ []) }
+        ensures puts { puts_of self.new.cqs.items ≡ puts_of self.old.cqs.items }
+        ensures log { self.new.log.items ≡ self.old.log.items }
+        ensures config { self.new.config ≡ self.old.config }
+        ensures late_after_events { OnOk result (self.old.log.items ≢ [] → self.new.late ≡ true) }
+        ensures in_time { OnOk result (self.old.log.items ≡ [] → self.new.late ≡ false) }
+        ensures end { IfErr result (λ e. e.1 ≡ end) }
+        ensures unchanged { OnErr result (view_of self.new ≡ view_of self.old) }
+        ensures used { IfErr result (λ e. (e.0 ≡ Used → is_address (view_of self.old) end.address ≡ true) × (is_address (view_of self.old) end.address ≡ true → e.0 ≡ Used)) }
+        ensures not_used { OnOk result (is_address (view_of self.old) end.address ≡ false) }
+        ensures too_many { IfErr result (λ e. (e.0 ≡ TooMany → length self.old.sqs.items ≡ MAX_REGIONS) × (e.0 ≡ NoMemory → length self.old.sqs.items < MAX_REGIONS)) }
+        ensures not_too_many { OnOk result (length self.old.sqs.items < MAX_REGIONS) }
+    {
+        if self.has_address(end.address()) {
+            return Err((AddError::Used, end));
+        }
+        if self.sqs.len() == MAX_REGIONS {
+            return Err((AddError::TooMany, end));
+        }
+        let Some(window) = Fifo::new(self.alloc, usize::from(end.slots()) - 1) else {
+            return Err((AddError::NoMemory, end));
+        };
+        if self.sqs.reserve(1).is_err() {
+            return Err((AddError::NoMemory, end));
+        }
+        let Ok(number) = self.table.add_sq_region(end.address(), end.slots()) else {
+            unreachable!()
+        };
+        let mut queue = None;
+        if number == 0 {
+            self.board.open(0, Class::Admin);
+            queue = Some(ADMIN);
+        }
+        self.late = !self.log.is_empty();
+        let Ok(()) = self.sqs.push(SqRegion {
+            end,
+            window,
+            fetched: 0,
+            unposted: 0,
+            queue,
+        })
+        else {
+            unreachable!()
+        };
+        Ok(number)
+    }
+
+    /// Adds a completion region, with room for its ready completions.
+    pub fn add_cq(&mut self, end: PutEnd<Cqe>) -> Result<u8, (AddError, PutEnd<Cqe>)>
+        requires kept { IsKept self.old }
+        requires nothing_sent { end.sent ≡ [] }
+        ensures kept { IsKept self.new }
+        ensures number { IfOk result (λ c. c ≡ length self.old.cqs.items) }
+        ensures puts { OnOk result (puts_of self.new.cqs.items ≡ puts_of self.old.cqs.items ++ end ∷ []) }
+        ensures gets { gets_of self.new.sqs.items ≡ gets_of self.old.sqs.items }
+        ensures log { self.new.log.items ≡ self.old.log.items }
+        ensures config { self.new.config ≡ self.old.config }
+        ensures late_after_events { OnOk result (self.old.log.items ≢ [] → self.new.late ≡ true) }
+        ensures in_time { OnOk result (self.old.log.items ≡ [] → self.new.late ≡ false) }
+        ensures end { IfErr result (λ e. e.1 ≡ end) }
+        ensures unchanged { OnErr result (view_of self.new ≡ view_of self.old) }
+        ensures used { IfErr result (λ e. (e.0 ≡ Used → is_address (view_of self.old) end.address ≡ true) × (is_address (view_of self.old) end.address ≡ true → e.0 ≡ Used)) }
+        ensures not_used { OnOk result (is_address (view_of self.old) end.address ≡ false) }
+        ensures too_many { IfErr result (λ e. (e.0 ≡ TooMany → length self.old.cqs.items ≡ MAX_REGIONS) × (e.0 ≡ NoMemory → length self.old.cqs.items < MAX_REGIONS)) }
+        ensures not_too_many { OnOk result (length self.old.cqs.items < MAX_REGIONS) }
+    {
+        if self.has_address(end.address()) {
+            return Err((AddError::Used, end));
+        }
+        if self.cqs.len() == MAX_REGIONS {
+            return Err((AddError::TooMany, end));
+        }
+        let Some(ready) = Fifo::new(self.alloc, MAX_READY) else {
+            return Err((AddError::NoMemory, end));
+        };
+        if self.cqs.reserve(1).is_err() {
+            return Err((AddError::NoMemory, end));
+        }
+        let Ok(number) = self.table.add_cq_region(end.address(), end.slots()) else {
+            unreachable!()
+        };
+        self.late = !self.log.is_empty();
+        let Ok(()) = self.cqs.push(CqRegion {
+            end,
+            posted: 0,
+            ready,
+        })
+        else {
+            unreachable!()
+        };
+        Ok(number)
+    }
+}

@@ -1,0 +1,146 @@
+// What picked admin commands make of the queues.
+use crate::candidate::{Candidate, PendingDelete, Ready};
+use crate::event::Event;
+use crate::executing::abort_all;
+use crate::logging::note;
+use crate::region::Attachment;
+use crate::state::FrontState;
+use nvme_admin::Verdict;
+use nvme_arbiter::{Class, Settings};
+use nvme_entry::Status;
+
+impl FrontState {
+    ghost use Rattle.std.specs.Prelude.{◌≡◌, ℕ, Option};
+    ghost use Rattle.nvme_admin.specs.declared.verdict.Verdict.TheVariants as verdict;
+    ghost use Rattle.nvme_front.specs.Applied.{IsApplied};
+    ghost use Rattle.nvme_front.specs.Standing.{IsKept};
+    ghost use Rattle.nvme_front.specs.Goes.{Goes, picks_in};
+
+    // The answer of an admin command is ready.
+    fn answer(&mut self, candidate: Candidate, status: Status, dw0: u32)
+        requires applied { (closing : Option ℕ) × IsApplied self.old candidate (verdict.Done status dw0) closing }
+        ensures kept { IsKept self.new }
+        ensures goes { Goes self.old self.new }
+        ensures picks { picks_in self.new.log.items ≡ picks_in self.old.log.items }
+    {
+        self.cqs[0].ready.push(candidate.answered(status, dw0));
+    }
+
+    // A submission queue opens, with an empty window. (Create I/O Submission Queue)
+    fn open_sq(&mut self, candidate: Candidate, qid: u16, region: u8, cqid: u16, class: Class)
+        requires applied { (closing : Option ℕ) × IsApplied self.old candidate (verdict.OpenSq qid region cqid class) closing }
+        ensures kept { IsKept self.new }
+        ensures goes { Goes self.old self.new }
+        ensures picks { picks_in self.new.log.items ≡ picks_in self.old.log.items }
+    {
+        let Some(cq_region) = self.table.cq(cqid) else {
+            unreachable!()
+        };
+        self.board.open(qid, class);
+        self.sqs[usize::from(region)].queue = Some(Attachment { qid, cq_region });
+        note(
+            &mut self.log,
+            Event::OpenSq {
+                qid,
+                region,
+                cqid,
+                class,
+            },
+        );
+        self.cqs[0].ready.push(candidate.answered(Status::SUCCESS, 0));
+    }
+
+    // A completion queue opens. (Create I/O Completion Queue)
+    fn open_cq(&mut self, candidate: Candidate, qid: u16, region: u8)
+        requires applied { (closing : Option ℕ) × IsApplied self.old candidate (verdict.OpenCq qid region) closing }
+        ensures kept { IsKept self.new }
+        ensures goes { Goes self.old self.new }
+        ensures picks { picks_in self.new.log.items ≡ picks_in self.old.log.items }
+    {
+        note(&mut self.log, Event::OpenCq { qid, region });
+        self.cqs[0].ready.push(candidate.answered(Status::SUCCESS, 0));
+    }
+
+    // A completion queue is closed, which was open on a region before. (Delete I/O Completion Queue)
+    fn close_cq(&mut self, candidate: Candidate, qid: u16, closing: Option<u8>)
+        requires applied { IsApplied self.old candidate (verdict.CloseCq qid) closing }
+        ensures kept { IsKept self.new }
+        ensures goes { Goes self.old self.new }
+        ensures picks { picks_in self.new.log.items ≡ picks_in self.old.log.items }
+    {
+        let Some(region) = closing else {
+            unreachable!()
+        };
+        note(&mut self.log, Event::ClosedCq { qid, region });
+        self.cqs[0].ready.push(candidate.answered(Status::SUCCESS, 0));
+    }
+
+    // New settings of arbitration are in force. (Arbitration feature)
+    fn set_arbitration(&mut self, candidate: Candidate, settings: Settings)
+        requires applied { (closing : Option ℕ) × IsApplied self.old candidate (verdict.SetArbitration settings) closing }
+        ensures kept { IsKept self.new }
+        ensures goes { Goes self.old self.new }
+        ensures picks { picks_in self.new.log.items ≡ picks_in self.old.log.items }
+    {
+        self.board.set(settings);
+        note(&mut self.log, Event::SetArbitration { settings });
+        self.cqs[0].ready.push(candidate.answered(Status::SUCCESS, 0));
+    }
+
+    // The deletion of a submission queue begins: its candidates are aborted. It is answered when it is finished.
+    // (Delete I/O Submission Queue)
+    fn begin_delete(&mut self, candidate: Candidate, qid: u16)
+        requires applied { (closing : Option ℕ) × IsApplied self.old candidate (verdict.BeginDelete qid) closing }
+        ensures kept { IsKept self.new }
+        ensures goes { Goes self.old self.new }
+        ensures picks { picks_in self.new.log.items ≡ picks_in self.old.log.items }
+    {
+        let Some(queue) = self.table.sq(qid) else {
+            unreachable!()
+        };
+        let sq = &mut self.sqs[usize::from(queue.region)];
+        let Some(attachment) = sq.queue else {
+            unreachable!()
+        };
+        let cq = &mut self.cqs[usize::from(attachment.cq_region)];
+        note(
+            &mut self.log,
+            Event::Closing {
+                qid,
+                region: queue.region,
+            },
+        );
+        sq.unposted += sq.window.len() as u16;
+        abort_all(&mut sq.window, &mut cq.ready, queue.region, &mut self.log);
+        self.board.close(qid);
+        self.deletion = Some(PendingDelete {
+            qid,
+            region: queue.region,
+            index: candidate.index,
+            entry: candidate.entry,
+        });
+    }
+
+    /// Makes of the queues what a picked admin command comes to. `closing` is the region of the completion queue that
+    /// the command deletes, where it does.
+    pub fn carry_out(&mut self, candidate: Candidate, verdict: Verdict, closing: Option<u8>)
+        requires applied { IsApplied self.old candidate verdict closing }
+        ensures kept { IsKept self.new }
+        ensures goes { Goes self.old self.new }
+        ensures picks { picks_in self.new.log.items ≡ picks_in self.old.log.items }
+    {
+        match verdict {
+            Verdict::Done(status, dw0) => self.answer(candidate, status, dw0),
+            Verdict::OpenSq {
+                qid,
+                region,
+                cqid,
+                class,
+            } => self.open_sq(candidate, qid, region, cqid, class),
+            Verdict::OpenCq { qid, region } => self.open_cq(candidate, qid, region),
+            Verdict::BeginDelete { qid } => self.begin_delete(candidate, qid),
+            Verdict::CloseCq { qid } => self.close_cq(candidate, qid, closing),
+            Verdict::SetArbitration(settings) => self.set_arbitration(candidate, settings),
+        }
+    }
+}

@@ -1,0 +1,96 @@
+// The scan of the submission rings.
+use crate::candidate::Candidate;
+use crate::event::Event;
+use crate::front::FrontError;
+use crate::logging::{make_room, note};
+use crate::state::FrontState;
+use nvme_arbiter::HIGHEST_QID;
+
+impl FrontState {
+    ghost use Rattle.std.specs.Prelude.{◌≡◌, ◌≢◌, ℕ, ◌+◌, ◌<◌, ◌≤◌, length, Option, Some, None, IfOk, IfErr, true, false, ◌⊎◌};
+    ghost use Rattle.nvme_arbiter.specs.Limits.{highest_qid};
+    ghost use Rattle.nvme_front.specs.Standing.{IsKept};
+    ghost use Rattle.nvme_front.specs.Goes.{Goes, IsSame, HasAdmin, IsScanned, picks_in};
+    ghost use Rattle.nvme_front.specs.declared.front.FrontError.TheVariants.{NoMemory, LogFull};
+
+    // Fetches one command of a queue, where it is open, its window has room and its ring gives one.
+    fn fetch_one(&mut self, qid: u16) -> Result<bool, FrontError>
+        requires kept { IsKept self.old }
+        requires admin { HasAdmin self.old }
+        requires none_pending { self.old.deletion ≡ None }
+        ensures kept { IsKept self.new }
+        ensures goes { Goes self.old self.new }
+        ensures picks { picks_in self.new.log.items ≡ picks_in self.old.log.items }
+        ensures none_pending { self.new.deletion ≡ None }
+        ensures more { result ≡ Ok true → length self.new.log.items ≡ length self.old.log.items + 1 }
+        ensures still { result ≡ Ok false → IsSame self.old self.new × IsScanned self.old qid }
+        ensures full { result ≡ Err LogFull → self.new.config.max_events < length self.new.log.items + 1 }
+        ensures no_stray { IfErr result (λ e. (e ≡ LogFull) ⊎ (e ≡ NoMemory)) }
+    {
+        let Some(queue) = self.table.sq(qid) else {
+            return Ok(false);
+        };
+        let r = usize::from(queue.region);
+        if queue.closing || self.sqs[r].is_full() {
+            return Ok(false);
+        }
+        make_room(&mut self.log, self.config.max_events, 1)?;
+        let Some(candidate) = self.sqs[r].fetch() else {
+            return Ok(false);
+        };
+        self.board.came(qid);
+        note(
+            &mut self.log,
+            Event::Fetch {
+                region: queue.region,
+                index: candidate.index,
+                entry: candidate.entry,
+            },
+        );
+        Ok(true)
+    }
+
+    // Fetches from a queue until its window is full or its ring gives nothing.
+    fn scan_queue(&mut self, qid: u16) -> Result<bool, FrontError>
+        requires kept { IsKept self.old }
+        requires admin { HasAdmin self.old }
+        requires none_pending { self.old.deletion ≡ None }
+        ensures kept { IsKept self.new }
+        ensures goes { Goes self.old self.new }
+        ensures picks { picks_in self.new.log.items ≡ picks_in self.old.log.items }
+        ensures none_pending { self.new.deletion ≡ None }
+        ensures more { result ≡ Ok true → length self.old.log.items < length self.new.log.items }
+        ensures still { result ≡ Ok false → IsSame self.old self.new × IsScanned self.old qid }
+        ensures full { result ≡ Err LogFull → self.new.config.max_events < length self.new.log.items + 1 }
+        ensures no_stray { IfErr result (λ e. (e ≡ LogFull) ⊎ (e ≡ NoMemory)) }
+    {
+        let mut fetched = false;
+        while self.fetch_one(qid)? {
+            fetched = true;
+        }
+        Ok(fetched)
+    }
+
+    /// Fetches from each open queue by ascending identifier, and says whether anything was fetched.
+    pub fn scan(&mut self) -> Result<bool, FrontError>
+        requires kept { IsKept self.old }
+        requires admin { HasAdmin self.old }
+        requires none_pending { self.old.deletion ≡ None }
+        ensures kept { IsKept self.new }
+        ensures goes { Goes self.old self.new }
+        ensures picks { picks_in self.new.log.items ≡ picks_in self.old.log.items }
+        ensures none_pending { self.new.deletion ≡ None }
+        ensures more { result ≡ Ok true → length self.old.log.items < length self.new.log.items }
+        ensures still { result ≡ Ok false → IsSame self.old self.new × ((q : ℕ) → q ≤ highest_qid → IsScanned self.old q) }
+        ensures full { result ≡ Err LogFull → self.new.config.max_events < length self.new.log.items + 1 }
+        ensures no_stray { IfErr result (λ e. (e ≡ LogFull) ⊎ (e ≡ NoMemory)) }
+    {
+        let mut fetched = false;
+        for qid in 0..=HIGHEST_QID {
+            if self.scan_queue(qid)? {
+                fetched = true;
+            }
+        }
+        Ok(fetched)
+    }
+}

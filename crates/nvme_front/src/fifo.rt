@@ -1,0 +1,81 @@
+// A queue of items, with room that was made when it was made.
+use std::alloc::Global;
+use std::collections::VecDeque;
+use std::marker::Model;
+
+/// Items in the order in which they came. It has room for so many from the start on, and never takes memory again.
+#[derive(Drop)]
+pub struct Fifo<T: Copy> {
+    items: VecDeque<T>,
+    room: usize,
+}
+
+impl<T: Copy> Model for Fifo<T> {
+    ghost use Rattle.std.specs.Prelude.{◌≤◌};
+    ghost use Rattle.std.specs.VecDeque.{deque_len, deque_capacity};
+    ghost use Rattle.nvme_front.specs.Fifo.{FifoView};
+
+    ghost Value = { FifoView T };
+
+    ghost view = { λ f. record { items = f.items.items; room = f.room } };
+
+    ghost invariant = { λ f. (deque_len f.items ≤ f.room) × (f.room ≤ deque_capacity f.items) };
+}
+
+impl<T: Copy> Fifo<T> {
+    ghost use Rattle.std.specs.Prelude.{◌≡◌, ◌+◌, ◌^◌, ◌<◌, ◌≤◌, ◌==◌, [], ◌∷◌, ◌++◌, length, drop, slice_get, IfSome, option_to_list};
+
+    /// An empty queue with room for so many items. None where memory for them was refused.
+    pub fn new(alloc: Global, room: usize) -> Option<Fifo<T>>
+        ensures empty { IfSome result (λ f. f.items ≡ []) }
+        ensures room { IfSome result (λ f. f.room ≡ room) }
+    {
+        let Ok(items) = VecDeque::with_capacity(alloc, room) else {
+            return None;
+        };
+        Some(Fifo { items, room })
+    }
+
+    /// The number of items.
+    pub fn len(&self) -> usize
+        ensures value { result ≡ length self.now.items }
+        ensures fits { result ≤ self.now.room }
+        ensures fits_word { result + 1 < 2 ^ 64 }
+    {
+        self.items.len()
+    }
+
+    /// There is no item.
+    pub fn is_empty(&self) -> bool
+        ensures { result ≡ (length self.now.items == 0) }
+    {
+        self.items.is_empty()
+    }
+
+    /// The oldest item.
+    pub fn front(&self) -> Option<T>
+        ensures { result ≡ slice_get self.now.items 0 }
+    {
+        self.items.front().copied()
+    }
+
+    /// Appends an item.
+    pub fn push(&mut self, item: T)
+        requires { length self.old.items < self.old.room }
+        ensures { self.new ≡ record self.old { items = self.old.items ++ item ∷ [] } }
+    {
+        let Ok(()) = self.items.push_back(item) else {
+            unreachable!()
+        };
+    }
+
+    /// Takes the oldest item.
+    pub fn pop(&mut self) -> Option<T>
+        ensures items { self.old.items ≡ option_to_list result ++ self.new.items }
+        ensures value { result ≡ slice_get self.old.items 0 }
+        ensures rest { self.new.items ≡ drop 1 self.old.items }
+        ensures room { self.new.room ≡ self.old.room }
+    {
+        self.items.pop_front()
+    }
+}

@@ -1,0 +1,53 @@
+// The end of a deletion.
+use crate::candidate::{PendingDelete, Ready};
+use crate::event::Event;
+use crate::front::FrontError;
+use crate::logging::{make_room, note};
+use crate::state::FrontState;
+use nvme_entry::Status;
+
+impl FrontState {
+    ghost use Rattle.std.specs.Prelude.{◌≡◌, ◌≢◌, ℕ, ◌+◌, ◌<◌, length, Option, Some, None, true, false, ◌⊎◌, IfErr};
+    ghost use Rattle.nvme_front.specs.Kept.{sq_in};
+    ghost use Rattle.nvme_front.specs.Standing.{IsKept};
+    ghost use Rattle.nvme_front.specs.Goes.{Goes, IsSame, HasAdmin, picks_in};
+    ghost use Rattle.nvme_front.specs.declared.front.FrontError.TheVariants.{NoMemory, LogFull};
+
+    /// Finishes the pending deletion, where all places of its queue are posted: its answer is then ready.
+    /// (Base Specification, Delete I/O Submission Queue)
+    pub fn finish(&mut self, deletion: PendingDelete) -> Result<bool, FrontError>
+        requires kept { IsKept self.old }
+        requires admin { HasAdmin self.old }
+        requires pending { self.old.deletion ≡ Some deletion }
+        ensures kept { IsKept self.new }
+        ensures goes { Goes self.old self.new }
+        ensures picks { picks_in self.new.log.items ≡ picks_in self.old.log.items }
+        ensures more { result ≡ Ok true → length self.new.log.items ≡ length self.old.log.items + 1 }
+        ensures still { result ≡ Ok false → IsSame self.old self.new × ((sq_in self.old.sqs.items deletion.region).unposted ≢ 0) }
+        ensures full { result ≡ Err LogFull → self.new.config.max_events < length self.new.log.items + 1 }
+        ensures no_stray { IfErr result (λ e. (e ≡ LogFull) ⊎ (e ≡ NoMemory)) }
+    {
+        if self.sqs[usize::from(deletion.region)].unposted != 0 {
+            return Ok(false);
+        }
+        make_room(&mut self.log, self.config.max_events, 1)?;
+        self.table.finish_delete(deletion.qid);
+        self.deletion = None;
+        self.cqs[0].ready.push(Ready {
+            region: 0,
+            index: deletion.index,
+            entry: deletion.entry,
+            aborted: false,
+            status: Status::SUCCESS,
+            dw0: 0,
+        });
+        note(
+            &mut self.log,
+            Event::ClosedSq {
+                qid: deletion.qid,
+                region: deletion.region,
+            },
+        );
+        Ok(true)
+    }
+}

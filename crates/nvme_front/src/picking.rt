@@ -1,0 +1,135 @@
+// The picks of arbitration, and what is done with the commands that they pick.
+ghost use Rattle.std.specs.Prelude.{◌≡◌, ℕ};
+ghost use Rattle.nvme_entry.specs.AdminCommand.{admin_command_of};
+ghost use Rattle.nvme_entry.specs.declared.admin.AdminCommand.TheVariants.{DeleteCq};
+ghost use Rattle.nvme_admin.specs.Standing.{cq_of};
+
+use crate::event::Event;
+use crate::executing::execute_oldest;
+use crate::front::{FrontError, Step};
+use crate::limits::{ADMIN_EVENTS, MAX_OUTSTANDING};
+use crate::logging::{make_room, note};
+use crate::state::FrontState;
+use nvme_admin::Table;
+use nvme_entry::{AdminCommand, Sqe, admin_of};
+
+// The region of the completion queue that an admin command is to delete, where it is open.
+fn deleted_region(table: &Table, entry: &Sqe) -> Option<u8>
+    ensures { (qid : ℕ) → admin_command_of entry.now ≡ DeleteCq qid → result ≡ cq_of table.now qid }
+{
+    match admin_of(entry) {
+        AdminCommand::DeleteCq { qid } => table.cq(qid),
+        _ => None,
+    }
+}
+
+impl FrontState {
+    ghost use Rattle.std.specs.Prelude.{◌≡◌, ◌≢◌, ◌⊎◌, ◌+◌, ◌<◌, ◌≤◌, length, None, IsSome, OnOk, IfSome, IfErr};
+    ghost use Rattle.nvme_front.specs.Limits.{max_outstanding, admin_events};
+    ghost use Rattle.nvme_front.specs.Standing.{IsKept};
+    ghost use Rattle.nvme_front.specs.Goes.{Goes, IsSame, HasAdmin, picks_in, next_pick};
+    ghost use Rattle.nvme_front.specs.declared.front.FrontError.TheVariants.{NoMemory, LogFull};
+    ghost use Rattle.nvme_front.specs.declared.front.Step.TheVariants as step;
+    ghost use Rattle.nvme_arbiter.specs.declared.pick.Pick.{Pick};
+
+    // Picks of an I/O queue, and executes the picked commands at once.
+    fn pick_io(&mut self) -> Result<(), FrontError>
+        requires kept { IsKept self.old }
+        requires admin { HasAdmin self.old }
+        requires none_pending { self.old.deletion ≡ None }
+        requires io { IfSome (next_pick self.old) (λ pick. pick.qid ≢ 0) }
+        requires places { IfSome (next_pick self.old) (λ pick. self.old.outstanding + pick.n ≤ max_outstanding) }
+        requires there { IsSome (next_pick self.old) }
+        ensures kept { IsKept self.new }
+        ensures goes { Goes self.old self.new }
+        ensures picked { OnOk result (picks_in self.new.log.items ≡ picks_in self.old.log.items + 1) }
+        ensures full { result ≡ Err LogFull → self.new.config.max_events < length self.new.log.items + 1 }
+        ensures no_stray { IfErr result (λ e. (e ≡ LogFull) ⊎ (e ≡ NoMemory)) }
+    {
+        make_room(&mut self.log, self.config.max_events, 1)?;
+        let seen = self.board.seen();
+        let Some(pick) = self.board.pick() else {
+            unreachable!()
+        };
+        let Some(queue) = self.table.sq(pick.qid) else {
+            unreachable!()
+        };
+        let sq = &mut self.sqs[usize::from(queue.region)];
+        let Some(attachment) = sq.queue else {
+            unreachable!()
+        };
+        let cq = &mut self.cqs[usize::from(attachment.cq_region)];
+        sq.unposted += pick.n;
+        self.outstanding += pick.n;
+        execute_oldest(
+            &mut sq.window,
+            &mut cq.ready,
+            queue.region,
+            pick.n,
+            &self.config.spaces,
+        );
+        note(&mut self.log, Event::Pick { seen, pick });
+        Ok(())
+    }
+
+    // Picks of the admin queue, and executes its command at once.
+    fn pick_admin(&mut self) -> Result<(), FrontError>
+        requires kept { IsKept self.old }
+        requires admin { HasAdmin self.old }
+        requires none_pending { self.old.deletion ≡ None }
+        requires of_admin { IfSome (next_pick self.old) (λ pick. pick.qid ≡ 0) }
+        requires places { IfSome (next_pick self.old) (λ pick. self.old.outstanding + pick.n ≤ max_outstanding) }
+        requires there { IsSome (next_pick self.old) }
+        ensures kept { IsKept self.new }
+        ensures goes { Goes self.old self.new }
+        ensures picked { OnOk result (picks_in self.new.log.items ≡ picks_in self.old.log.items + 1) }
+        ensures full { result ≡ Err LogFull → IsSame self.old self.new × (self.new.config.max_events < length self.new.log.items + admin_events) }
+        ensures no_stray { IfErr result (λ e. (e ≡ LogFull) ⊎ (e ≡ NoMemory)) }
+    {
+        make_room(&mut self.log, self.config.max_events, ADMIN_EVENTS)?;
+        let seen = self.board.seen();
+        let Some(pick) = self.board.pick() else {
+            unreachable!()
+        };
+        let sq = &mut self.sqs[0];
+        let Some(candidate) = sq.window.pop() else {
+            unreachable!()
+        };
+        sq.unposted += 1;
+        self.outstanding += 1;
+        note(&mut self.log, Event::Pick { seen, pick });
+        let closing = deleted_region(&self.table, &candidate.entry);
+        let verdict = self.table.apply(&candidate.entry);
+        self.carry_out(candidate, verdict, closing);
+        Ok(())
+    }
+
+    /// Makes the next pick of arbitration, where there is one and its places are free.
+    pub fn pick(&mut self) -> Result<Step, FrontError>
+        requires kept { IsKept self.old }
+        requires admin { HasAdmin self.old }
+        requires none_pending { self.old.deletion ≡ None }
+        ensures kept { IsKept self.new }
+        ensures goes { Goes self.old self.new }
+        ensures never_moved { result ≡ Ok step.Moved → ⊥ }
+        ensures picked { result ≡ Ok step.Picked → picks_in self.new.log.items ≡ picks_in self.old.log.items + 1 }
+        ensures idle { result ≡ Ok step.Idle → IsSame self.old self.new × (next_pick self.old ≡ None) }
+        ensures stalled { result ≡ Ok step.Stalled → IsSame self.old self.new × IfSome (next_pick self.old) (λ pick. max_outstanding < self.old.outstanding + pick.n) × IsSome (next_pick self.old) }
+        ensures full { result ≡ Err LogFull → (self.new.config.max_events < length self.new.log.items + 1)
+            ⊎ (IsSame self.old self.new × (self.new.config.max_events < length self.new.log.items + admin_events) × IfSome (next_pick self.old) (λ pick. pick.qid ≡ 0) × IsSome (next_pick self.old)) }
+        ensures no_stray { IfErr result (λ e. (e ≡ LogFull) ⊎ (e ≡ NoMemory)) }
+    {
+        let Some(pick) = self.board.peek() else {
+            return Ok(Step::Idle);
+        };
+        if pick.n > MAX_OUTSTANDING - self.outstanding {
+            return Ok(Step::Stalled);
+        }
+        if pick.qid == 0 {
+            self.pick_admin()?;
+        } else {
+            self.pick_io()?;
+        }
+        Ok(Step::Picked)
+    }
+}

@@ -1,0 +1,134 @@
+// The posting of ready completions.
+ghost use Rattle.std.specs.Prelude.{◌≡◌, ◌<◌};
+ghost use Rattle.nvme_front.specs.Completions.{phase_after};
+
+use crate::candidate::Ready;
+use crate::event::Event;
+use crate::front::FrontError;
+use crate::logging::{make_room, note};
+use crate::state::FrontState;
+use nvme_entry::{Cqe, complete};
+
+// The phase tag of the next completion in a ring of so many slots, after so many. (Base Specification, Phase Tag)
+fn phase_of(posted: u32, slots: u16) -> bool
+    requires { 0 < slots }
+    ensures { result ≡ phase_after posted slots }
+{
+    (posted / u32::from(slots)) % 2 == 0
+}
+
+impl FrontState {
+    ghost use Rattle.std.specs.Prelude.{◌≡◌, ℕ, ◌+◌, ◌<◌, length, None, IfSome, IfNone, true, false, ◌⊎◌, IfErr};
+    ghost use Rattle.nvme_front.specs.Kept.{sq_in, cq_in};
+    ghost use Rattle.nvme_front.specs.Standing.{IsKept};
+    ghost use Rattle.nvme_front.specs.Goes.{Goes, IsSame, HasAdmin, IsDrained, IsCompletionOf, picks_in};
+    ghost use Rattle.nvme_front.specs.declared.front.FrontError.TheVariants.{NoMemory, LogFull};
+
+    // The completion of a ready place, where it is posted next to a completion region. None where the place's region
+    // has no queue. (Base Specification, Completion Queue Entry)
+    fn completion_of(&self, c: u8, ready: Ready) -> Option<Cqe>
+        requires cq_there { c < length self.now.cqs.items }
+        requires sq_there { ready.region < length self.now.sqs.items }
+        ensures none { IfNone result ((sq_in self.now.sqs.items ready.region).queue ≡ None) }
+        ensures some { IfSome result (λ cqe. IsCompletionOf (sq_in self.now.sqs.items ready.region) (cq_in self.now.cqs.items c) ready cqe) }
+    {
+        let sq = &self.sqs[usize::from(ready.region)];
+        let cq = &self.cqs[usize::from(c)];
+        let queue = sq.queue?;
+        let sqhd = (sq.fetched % u32::from(sq.end.slots())) as u16;
+        let phase = phase_of(cq.posted, cq.end.slots());
+        Some(complete(&ready.entry, queue.qid, sqhd, phase, ready.status, ready.dw0))
+    }
+
+    // Posts the completion of a completion region that became ready first, where there is one and the ring takes it.
+    // (Base Specification, Completion Queue Entry)
+    fn post_one(&mut self, c: u8) -> Result<bool, FrontError>
+        requires kept { IsKept self.old }
+        requires admin { HasAdmin self.old }
+        requires there { c < length self.old.cqs.items }
+        ensures kept { IsKept self.new }
+        ensures goes { Goes self.old self.new }
+        ensures picks { picks_in self.new.log.items ≡ picks_in self.old.log.items }
+        ensures deletion { self.new.deletion ≡ self.old.deletion }
+        ensures more { result ≡ Ok true → length self.new.log.items ≡ length self.old.log.items + 1 }
+        ensures still { result ≡ Ok false → IsSame self.old self.new × IsDrained self.old c }
+        ensures full { result ≡ Err LogFull → self.new.config.max_events < length self.new.log.items + 1 }
+        ensures no_stray { IfErr result (λ e. (e ≡ LogFull) ⊎ (e ≡ NoMemory)) }
+    {
+        let region = &self.cqs[usize::from(c)];
+        let Some(ready) = region.ready.front() else {
+            return Ok(false);
+        };
+        let Ready {
+            region: sq_region,
+            index,
+            aborted,
+            ..
+        } = ready;
+        make_room(&mut self.log, self.config.max_events, 1)?;
+        let Some(cqe) = self.completion_of(c, ready) else {
+            unreachable!()
+        };
+        let region = &mut self.cqs[usize::from(c)];
+        if !region.post(&cqe) {
+            return Ok(false);
+        }
+        let sq = &mut self.sqs[usize::from(sq_region)];
+        sq.unposted -= 1;
+        self.outstanding -= if aborted { 0 } else { 1 };
+        note(
+            &mut self.log,
+            Event::Post {
+                cq_region: c,
+                region: sq_region,
+                index,
+                cqe,
+            },
+        );
+        Ok(true)
+    }
+
+    // Posts the ready completions of a completion region until its ring is full.
+    fn post_region(&mut self, c: u8) -> Result<bool, FrontError>
+        requires kept { IsKept self.old }
+        requires admin { HasAdmin self.old }
+        requires there { c < length self.old.cqs.items }
+        ensures kept { IsKept self.new }
+        ensures goes { Goes self.old self.new }
+        ensures picks { picks_in self.new.log.items ≡ picks_in self.old.log.items }
+        ensures deletion { self.new.deletion ≡ self.old.deletion }
+        ensures more { result ≡ Ok true → length self.old.log.items < length self.new.log.items }
+        ensures still { result ≡ Ok false → IsSame self.old self.new × IsDrained self.old c }
+        ensures full { result ≡ Err LogFull → self.new.config.max_events < length self.new.log.items + 1 }
+        ensures no_stray { IfErr result (λ e. (e ≡ LogFull) ⊎ (e ≡ NoMemory)) }
+    {
+        let mut posted = false;
+        while self.post_one(c)? {
+            posted = true;
+        }
+        Ok(posted)
+    }
+
+    /// Posts the ready completions of each completion region until its ring is full, and says whether any was posted.
+    pub fn post(&mut self) -> Result<bool, FrontError>
+        requires kept { IsKept self.old }
+        requires admin { HasAdmin self.old }
+        ensures kept { IsKept self.new }
+        ensures goes { Goes self.old self.new }
+        ensures picks { picks_in self.new.log.items ≡ picks_in self.old.log.items }
+        ensures deletion { self.new.deletion ≡ self.old.deletion }
+        ensures more { result ≡ Ok true → length self.old.log.items < length self.new.log.items }
+        ensures still { result ≡ Ok false → IsSame self.old self.new × ((c : ℕ) → c < length self.old.cqs.items → IsDrained self.old c) }
+        ensures full { result ≡ Err LogFull → self.new.config.max_events < length self.new.log.items + 1 }
+        ensures no_stray { IfErr result (λ e. (e ≡ LogFull) ⊎ (e ≡ NoMemory)) }
+    {
+        let mut posted = false;
+        let count = self.cqs.len() as u8;
+        for c in 0..count {
+            if self.post_region(c)? {
+                posted = true;
+            }
+        }
+        Ok(posted)
+    }
+}

@@ -1,0 +1,93 @@
+use crate::candidate::{Candidate, Ready};
+use crate::fifo::Fifo;
+use nvme_entry::{Cqe, Sqe};
+use nvme_lane::{GetEnd, PutEnd};
+
+/// The queue that a submission region was opened for, and the completion region that it posts to. They stay after the
+/// queue was deleted.
+#[derive(Clone, Copy, Debug, PartialEq, Eq)]
+pub struct Attachment {
+    pub qid: u16,
+    pub cq_region: u8,
+}
+
+/// A submission region: its ring, the window of its queue, how many commands were fetched, and how many of those that
+/// were picked or aborted have no completion posted.
+#[derive(Drop)]
+pub struct SqRegion {
+    pub end: GetEnd<Sqe>,
+    pub window: Fifo<Candidate>,
+    pub fetched: u32,
+    pub unposted: u16,
+    pub queue: Option<Attachment>,
+}
+
+/// A completion region: its ring, how many completions were posted, and those that are ready, in the order in which
+/// they became so.
+#[derive(Drop)]
+pub struct CqRegion {
+    pub end: PutEnd<Cqe>,
+    pub posted: u32,
+    pub ready: Fifo<Ready>,
+}
+
+impl SqRegion {
+    ghost use Rattle.std.specs.Prelude.{◌≡◌, ◌+◌, ◌^◌, ◌<◌, ◌≤◌, [], ◌∷◌, ◌++◌, length, IfSome, IfNone, nat_le, ◌≢◌, true};
+    ghost use Rattle.nvme_lane.specs.View.{SameGet};
+    ghost use Rattle.nvme_arbiter.specs.Limits.{highest_count};
+
+    /// The window has no room for a candidate more.
+    pub fn is_full(&self) -> bool
+        ensures value { result ≡ nat_le self.now.end.slots (length self.now.window.items + 1) }
+        ensures few_slots { self.now.end.slots ≤ highest_count + 1 }
+        ensures some { result ≡ true → self.now.window.items ≢ [] }
+    {
+        self.window.len() + 1 >= usize::from(self.end.slots())
+    }
+
+    /// Gets the next command of the ring into the window. None where the ring gave none; nothing changed then.
+    pub fn fetch(&mut self) -> Option<Candidate>
+        requires room { length self.old.window.items < self.old.window.room }
+        requires few { self.old.fetched + 1 < 2 ^ 32 }
+        ensures none { IfNone result ((self.new ≡ self.old) × (self.old.end.known ≡ [])) }
+        ensures index { IfSome result (λ c. c.index ≡ self.old.fetched) }
+        ensures got { IfSome result (λ c. self.new.end.got ≡ self.old.end.got ++ c.entry ∷ []) }
+        ensures end { SameGet self.old.end self.new.end }
+        ensures window { IfSome result (λ c. self.new.window ≡ record self.old.window { items = self.old.window.items ++ c ∷ [] }) }
+        ensures fetched { IfSome result (λ c. self.new.fetched ≡ self.old.fetched + 1) }
+        ensures unposted { self.new.unposted ≡ self.old.unposted }
+        ensures queue { self.new.queue ≡ self.old.queue }
+    {
+        let entry = self.end.get()?;
+        let candidate = Candidate {
+            index: self.fetched,
+            entry,
+        };
+        self.fetched += 1;
+        self.window.push(candidate);
+        Some(candidate)
+    }
+}
+
+impl CqRegion {
+    ghost use Rattle.std.specs.Prelude.{◌≡◌, ◌+◌, ◌^◌, ◌<◌, [], ◌∷◌, ◌++◌, drop, length, true, false};
+    ghost use Rattle.nvme_lane.specs.View.{SamePut};
+
+    /// Puts a completion into the ring, which is that of the oldest ready place. False where the ring is full; nothing
+    /// changed then.
+    pub fn post(&mut self, cqe: &Cqe) -> bool
+        requires few { self.old.posted + 1 < 2 ^ 32 }
+        ensures full { result ≡ false → (self.new ≡ self.old) × (self.old.end.free ≡ 0) }
+        ensures end { SamePut self.old.end self.new.end }
+        ensures sent { result ≡ true → self.new.end.sent ≡ self.old.end.sent ++ cqe.now ∷ [] }
+        ensures ready { result ≡ true → self.new.ready ≡ record self.old.ready { items = drop 1 self.old.ready.items } }
+        ensures posted { result ≡ true → self.new.posted ≡ self.old.posted + 1 }
+    {
+        if self.end.put(*cqe).is_err() {
+            return false;
+        }
+        self.posted += 1;
+        let _posted = self.ready.pop();
+        true
+    }
+}

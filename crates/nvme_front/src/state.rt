@@ -1,0 +1,108 @@
+ghost use Rattle.std.specs.Prelude.{◌≡◌, if◌then◌else◌};
+ghost use Rattle.std.specs.List.{list_all};
+ghost use Rattle.nvme_front.specs.Clear.{no_window, no_ready};
+ghost use Rattle.nvme_front.specs.declared.front.Step.TheVariants as step_is;
+
+use crate::candidate::PendingDelete;
+use crate::event::Event;
+use crate::front::{FrontConfig, FrontError, Step};
+use crate::region::{CqRegion, SqRegion};
+use nvme_admin::Table;
+use nvme_arbiter::Board;
+use std::alloc::Global;
+
+/// All that a front keeps. It never reads its log.
+#[derive(Drop)]
+pub struct FrontState {
+    pub alloc: Global,
+    pub config: FrontConfig,
+    pub table: Table,
+    pub board: Board,
+    pub sqs: Vec<SqRegion>,
+    pub cqs: Vec<CqRegion>,
+    // How many picked places have no completion posted.
+    pub outstanding: u16,
+    pub deletion: Option<PendingDelete>,
+    // A region was added after the first event.
+    pub late: bool,
+    pub log: Vec<Event>,
+}
+
+impl FrontState {
+    ghost use Rattle.std.specs.Prelude.{◌≡◌, ◌↔◌, length, IfOk, IfErr, IsTrue, ◌&&◌, nat_lt};
+    ghost use Rattle.nvme_front.specs.Standing.{IsKept};
+    ghost use Rattle.nvme_front.specs.Kept.{past_of};
+    ghost use Rattle.nvme_front.specs.Goes.{Goes, HasAdmin};
+    ghost use Rattle.nvme_front.specs.View.{view_of, StepMeans, ErrorMeans, IsClear, is_serving};
+
+    /// One turn.
+    pub fn turn(&mut self) -> Result<Step, FrontError>
+        requires kept { IsKept self.old }
+        requires admin { HasAdmin self.old }
+        ensures kept { IsKept self.new }
+        ensures goes { Goes self.old self.new }
+        ensures step { IfOk result (λ step. StepMeans step (view_of self.old) (view_of self.new)) }
+        ensures error { IfErr result (λ error. ErrorMeans error (view_of self.new)) }
+    {
+        let posted = self.post()?;
+        if let Some(deletion) = self.deletion {
+            let finished = self.finish(deletion)?;
+            return Ok(moved_or(posted || finished, Step::Idle));
+        }
+        let fetched = self.scan()?;
+        let picked = self.pick()?;
+        if picked == Step::Picked {
+            return Ok(picked);
+        }
+        Ok(moved_or(posted || fetched, picked))
+    }
+
+    /// No candidate waits, every fetched command has its completion posted, and no deletion is pending.
+    pub fn is_clear(&self) -> bool
+        requires kept { IsKept self.now }
+        ensures { IsTrue result ↔ IsClear (past_of self.now) }
+    {
+        self.deletion.is_none()
+            && self.outstanding == 0
+            && none_waits(&self.sqs)
+            && none_ready(&self.cqs)
+    }
+
+    /// A queue of this submission region is open or closing.
+    pub fn is_serving(&self, region: u8) -> bool
+        requires kept { IsKept self.now }
+        ensures { result ≡ (nat_lt region (length self.now.sqs.items) && is_serving (past_of self.now) region) }
+    {
+        let Some(sq) = self.sqs.get(usize::from(region)) else {
+            return false;
+        };
+        let Some(attachment) = sq.queue else {
+            return false;
+        };
+        let Some(queue) = self.table.sq(attachment.qid) else {
+            return false;
+        };
+        queue.region == region
+    }
+}
+
+// No candidate waits in the window of one of these regions.
+fn none_waits(sqs: &[SqRegion]) -> bool
+    ensures { result ≡ list_all no_window sqs.now }
+{
+    sqs.iter().all(|sq| sq.window.is_empty())
+}
+
+// No completion is ready for one of these regions.
+fn none_ready(cqs: &[CqRegion]) -> bool
+    ensures { result ≡ list_all no_ready cqs.now }
+{
+    cqs.iter().all(|cq| cq.ready.is_empty())
+}
+
+// What a turn answers where it made no pick.
+fn moved_or(moved: bool, step: Step) -> Step
+    ensures { result ≡ (if moved then step_is.Moved else step) }
+{
+    if moved { Step::Moved } else { step }
+}
