@@ -83,11 +83,11 @@ has_number regions a =
 is_known-by : (s : FrontState) (a : ℕ) → IsRoomy s → is_known s.table a ≡ is_address (view_of s) a
 is_known-by s a roomy =
     let sqs : is_some (region_number s.table.sq_regions a) ≡ list_any (λ (r : SqRegion). r.end.address == a) s.sqs.items =
-        has_number s.table.sq_regions a ∙ ap (λ (rs : List Region). list_any (λ (r : Region). r.address == a) rs) roomy.sq_table
-        ∙ any_in_map (λ (r : Region). r.address == a) sq_region s.sqs.items in
+    has_number s.table.sq_regions a ∙ ap (λ (rs : List Region). list_any (λ (r : Region). r.address == a) rs) roomy.sq_table
+    ∙ any_in_map (λ (r : Region). r.address == a) sq_region s.sqs.items in
     let cqs : is_some (region_number s.table.cq_regions a) ≡ list_any (λ (c : CqRegion). c.end.address == a) s.cqs.items =
-        has_number s.table.cq_regions a ∙ ap (λ (rs : List Region). list_any (λ (r : Region). r.address == a) rs) roomy.cq_table
-        ∙ any_in_map (λ (r : Region). r.address == a) cq_region s.cqs.items in
+    has_number s.table.cq_regions a ∙ ap (λ (rs : List Region). list_any (λ (r : Region). r.address == a) rs) roomy.cq_table
+    ∙ any_in_map (λ (r : Region). r.address == a) cq_region s.cqs.items in
     (λ i. sqs i || cqs i) ∙ sym (is_address-by s a)
 
 -- the table takes a region of another address, with a number of slots that it allows

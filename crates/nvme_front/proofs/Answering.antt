@@ -42,7 +42,7 @@ times_in-some P r i (t ∷ ready) each h = elim (cases_Bool (t.region == r && t.
       record { one = t; holds = All-head P t ready each; region = eqb-true t.region r both.0; index = eqb-true t.index i both.1 }
   | inr not_here ↦
       let rest : times_in r i (t ∷ ready) ≡ times_in r i ready =
-          sum_by-cons (λ (t : Ready). one_if (t.region == r && t.index == i)) t ready ∙ (λ j. one_if (not_here j) + times_in r i ready) ∙ omega arith in
+      sum_by-cons (λ (t : Ready). one_if (t.region == r && t.index == i)) t ready ∙ (λ j. one_if (not_here j) + times_in r i ready) ∙ omega arith in
       let further = times_in-some P r i ready (All-tail P t ready each) (subst (λ (n : ℕ). 0 < n) rest h) in
       record { one = further.one; holds = further.holds; region = further.region; index = further.index }
 ]
@@ -129,7 +129,7 @@ kept_below test (suc n) h = elim (cases_Bool (test n)) [
   | inl passes ↦ (n, omega arith, passes)
   | inr fails ↦
       let same : filter test (upto (suc n)) ≡ filter test (upto n) =
-          filter-append test (upto n) (n ∷ []) ∙ (λ j. filter test (upto n) ++ (if fails j then n ∷ [] else [])) ∙ append-nil (filter test (upto n)) in
+      filter-append test (upto n) (n ∷ []) ∙ (λ j. filter test (upto n) ++ (if fails j then n ∷ [] else [])) ∙ append-nil (filter test (upto n)) in
       let below : (i : ℕ) × (i < n) × (test i ≡ true) = kept_below test n (λ none. h (same ∙ none)) in
       (below.0, omega (arith, below.1), below.2)
 ]
@@ -140,7 +140,7 @@ kept_some test zero i lt passes none = absurd (omega arith)
 kept_some test (suc n) i lt passes none =
     let parts : filter test (upto n) ++ filter test (n ∷ []) ≡ [] = sym (filter-append test (upto n) (n ∷ [])) ∙ none in
     let sizes : length (filter test (upto n)) + length (filter test (n ∷ [])) ≡ 0 =
-        sym (length-append (filter test (upto n)) (filter test (n ∷ []))) ∙ ap (λ (xs : List ℕ). length xs) parts in
+    sym (length-append (filter test (upto n)) (filter test (n ∷ []))) ∙ ap (λ (xs : List ℕ). length xs) parts in
     elim (cases_lt i n) [
       | inl below ↦ kept_some test n i below passes (nil_from_length (filter test (upto n)) (omega arith))
       | inr from ↦

@@ -70,16 +70,16 @@ kept_deleting a b candidate qid r c n s w d ready there read posts read_cq is_n 
     let was : sq_in a.sqs.items r ≡ sq_kept s = sq_in-read a.sqs.items r s there read in
     let emptied : SqKept → SqKept = λ (z : SqKept). record z { window = []; unposted = z.unposted + length z.window } in
     let now : sq_kept (record s { window = w; unposted = s.unposted + n }) ≡ emptied (sq_in a.sqs.items r) =
-        ap (λ (z : FifoView Candidate). record (sq_kept s) { window = z.items; unposted = s.unposted + n }) is_w
-        ∙ ap (λ (m : ℕ). record (sq_kept s) { window = []; unposted = s.unposted + m }) is_n
-        ∙ ap emptied (sym was) in
+    ap (λ (z : FifoView Candidate). record (sq_kept s) { window = z.items; unposted = s.unposted + n }) is_w
+    ∙ ap (λ (m : ℕ). record (sq_kept s) { window = []; unposted = s.unposted + m }) is_n
+    ∙ ap emptied (sym was) in
     let sq : sq_in b.sqs.items ≡ put_sq (sq_in a.sqs.items) r (emptied (sq_in a.sqs.items r)) =
-        ap sq_in sqs ∙ sq_in-set a.sqs.items r (record s { window = w; unposted = s.unposted + n }) there ∙ ap (put_sq (sq_in a.sqs.items) r) now in
+    ap sq_in sqs ∙ sq_in-set a.sqs.items r (record s { window = w; unposted = s.unposted + n }) there ∙ ap (put_sq (sq_in a.sqs.items) r) now in
     let nsq : length b.sqs.items ≡ length a.sqs.items =
-        ap (λ (xs : List SqRegion). length xs) sqs ∙ length-set a.sqs.items r (record s { window = w; unposted = s.unposted + n }) in
+    ap (λ (xs : List SqRegion). length xs) sqs ∙ length-set a.sqs.items r (record s { window = w; unposted = s.unposted + n }) in
     let later : Kept = record (with_sq (kept_of a) r (emptied (sq_in a.sqs.items r))) {
-        board = record a.board { queues = slice_set a.board.queues qid None };
-        deletion = Some (record { qid = qid; region = r; index = candidate.index; entry = candidate.entry });
+      board = record a.board { queues = slice_set a.board.queues qid None };
+      deletion = Some (record { qid = qid; region = r; index = candidate.index; entry = candidate.entry });
     } in
     let all : kept_of (record b { cqs = a.cqs }) ≡ later = λ t. record {
       sq = sq t;
@@ -153,12 +153,12 @@ module _ (a : FrontState) (candidate : Candidate) (qid : ℕ) (closing : Option 
     begins_on_board =
         let io : qid ≡ h.pick.qid → ⊥ = λ p. may_begin.not_admin (p ∙ h.of_admin) in
         let picked : a.board.queues ≡ slice_set h.before.board.queues h.pick.qid (option_map (fewer h.pick.n) (queue_at h.before.board.queues h.pick.qid)) =
-            ap (λ (k : Kept). k.board.queues) h.kept_is ∙ h.can_pick.board_queues in
+        ap (λ (k : Kept). k.board.queues) h.kept_is ∙ h.can_pick.board_queues in
         let here : queue_at a.board.queues qid ≡ Some (on_board h.before (queue_of e)) =
-            ap (λ (queues : List (Option OpenQueue)). queue_at queues qid) picked
-            ∙ get_or-set_other h.before.board.queues h.pick.qid qid (option_map (fewer h.pick.n) (queue_at h.before.board.queues h.pick.qid)) None io
-            ∙ h.stands.queues.board qid
-            ∙ ap (option_map (on_board h.before)) was_open in
+        ap (λ (queues : List (Option OpenQueue)). queue_at queues qid) picked
+        ∙ get_or-set_other h.before.board.queues h.pick.qid qid (option_map (fewer h.pick.n) (queue_at h.before.board.queues h.pick.qid)) None io
+        ∙ h.stands.queues.board qid
+        ∙ ap (option_map (on_board h.before)) was_open in
         rw here refl
 
     -- the region, as it is read
@@ -205,7 +205,7 @@ module _ (a : FrontState) (candidate : Candidate) (qid : ℕ) (closing : Option 
       begins_made : made_by h.past (BeginDelete qid) ≡ Closing qid e.region ∷ map (λ (c : Candidate). Abort e.region c.index) s.window.items
       begins_made =
           let waits : waiting h.past e.region ≡ map (λ (c : Candidate). c.index) s.window.items =
-              (h.stands.regions e.region).waiting_is ∙ ap (λ (k : SqKept). map (λ (c : Candidate). c.index) k.window) (sym read_is) in
+          (h.stands.regions e.region).waiting_is ∙ ap (λ (k : SqKept). map (λ (c : Candidate). c.index) k.window) (sym read_is) in
           ap (closing_of h.past qid) was_open
           ∙ ap (λ (is : List ℕ). Closing qid e.region ∷ map (λ (i : ℕ). Abort e.region i) is) waits
           ∙ ap (λ (es : List Event). Closing qid e.region ∷ es) (map-map (λ (i : ℕ). Abort e.region i) (λ (c : Candidate). c.index) s.window.items)
@@ -223,19 +223,19 @@ module _ (a : FrontState) (candidate : Candidate) (qid : ℕ) (closing : Option 
       keeps_deleting b x c n w d ready log board at is_c is_n is_w sqs read_cq is_ready cqs noted aborts is_board deletion stays goes =
           let posts = begins_posts x at c is_c in
           let events : b.log.items ≡ a.log.items ++ made_by h.past (BeginDelete qid) =
-              aborts ∙ ap (λ (es : List Event). es ++ map (λ (c : Candidate). Abort e.region c.index) s.window.items) noted
-              ∙ append_assoc a.log.items (Closing qid e.region ∷ []) (map (λ (c : Candidate). Abort e.region c.index) s.window.items)
-              ∙ ap (λ (es : List Event). a.log.items ++ es) (sym begins_made) in
+          aborts ∙ ap (λ (es : List Event). es ++ map (λ (c : Candidate). Abort e.region c.index) s.window.items) noted
+          ∙ append_assoc a.log.items (Closing qid e.region ∷ []) (map (λ (c : Candidate). Abort e.region c.index) s.window.items)
+          ∙ ap (λ (es : List Event). a.log.items ++ es) (sym begins_made) in
           let few : length (made_by h.past (BeginDelete qid)) ≤ 257 =
-              rw begins_made (omega (arith, begins_few, length-map s.window.items (λ (c : Candidate). Abort e.region c.index))) in
+          rw begins_made (omega (arith, begins_few, length-map s.window.items (λ (c : Candidate). Abort e.region c.index))) in
           let chosen : IsChosen (rules_of a) h.past h.before c h.picked board (BeginDelete qid) = λ queue is_open.
-              let one : queue_of e ≡ queue = (let both = sym was_open ∙ is_open in cc) in
-              let to = posts_to x at in
-              subst (λ (q : Queue). (h.before.sq q.region).queue ≡ Some (record { qid = qid; cq_region = c })) one
-              (attached_to.attached ∙ ap (λ (z : ℕ). Some (record { qid = qid; cq_region = z })) (sym (is_c ∙ ap (λ (y : Attachment). y.cq_region) to))) in
+          let one : queue_of e ≡ queue = (let both = sym was_open ∙ is_open in cc) in
+          let to = posts_to x at in
+          subst (λ (q : Queue). (h.before.sq q.region).queue ≡ Some (record { qid = qid; cq_region = c })) one
+          (attached_to.attached ∙ ap (λ (z : ℕ). Some (record { qid = qid; cq_region = z })) (sym (is_c ∙ ap (λ (y : Attachment). y.cq_region) to))) in
           let kept : kept_of b ≡ with_deleting (kept_of a) qid e.region c candidate =
-              kept_deleting a b candidate qid e.region c n s w d ready (begins_there e.region refl) (subst (λ (z : ℕ). s ≡ get_or a.sqs.items z s) same read) posts read_cq is_n is_w
-              (subst (λ (z : ℕ). b.sqs.items ≡ set a.sqs.items z (record s { window = w; unposted = s.unposted + n })) same sqs) is_ready cqs is_board deletion stays.table stays.outstanding in
+          kept_deleting a b candidate qid e.region c n s w d ready (begins_there e.region refl) (subst (λ (z : ℕ). s ≡ get_or a.sqs.items z s) same read) posts read_cq is_n is_w
+          (subst (λ (z : ℕ). b.sqs.items ≡ set a.sqs.items z (record s { window = w; unposted = s.unposted + n })) same sqs) is_ready cqs is_board deletion stays.table stays.outstanding in
           kept_applied a b candidate (BeginDelete qid) closing c board h chosen events
           (kept ∙ ap (deleting_from (kept_of a) qid c candidate) (sym was_open))
           goes stays.table few

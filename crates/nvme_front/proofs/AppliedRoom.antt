@@ -8,7 +8,7 @@ use Rattle.nvme_front.specs.declared.candidate.PendingDelete.{PendingDelete}
 use Rattle.nvme_front.specs.declared.candidate.Ready.{Ready}
 use Rattle.nvme_front.specs.Rules.{FrontRules, Past, upto, sq_regions_of}
 use Rattle.nvme_front.specs.Places.{fetched, picked, fate_of, is_waiting, is_picked, is_aborted, unaborted_below, places}
-use Rattle.nvme_front.specs.Completions.{is_posted, posts_of, outstanding}
+use Rattle.nvme_front.specs.Completions.{is_posted}
 use Rattle.nvme_front.specs.Kept.{Kept}
 use Rattle.nvme_front.specs.Standing.{HoldsSq, HoldsReady, IsReady, Stands, one_if, times_in, times_ready, times_held, held_by, is_served, unposted_of}
 use Rattle.nvme_front.proofs.Posts.{posts_of-none}
@@ -62,9 +62,9 @@ ready-unaborted past k r i h none gone =
           let t : Ready = slice_index_or (k.cq c).ready j d in
           let is : IsReady past k.deletion c t = h.each c j d m in
           counts_none (t.region == r && t.index == i) (λ e.
-              let same = and_parts (t.region == r) (t.index == i) e in
-              not_deleting past k.deletion c t is none
-              (is.aborted ∙ ap (λ (z : ℕ). is_aborted past z t.index) (eqb-true t.region r same.0) ∙ ap (is_aborted past r) (eqb-true t.index i same.1) ∙ gone))),
+          let same = and_parts (t.region == r) (t.index == i) e in
+          not_deleting past k.deletion c t is none
+          (is.aborted ∙ ap (λ (z : ℕ). is_aborted past z t.index) (eqb-true t.region r same.0) ∙ ap (is_aborted past r) (eqb-true t.index i same.1) ∙ gone))),
     )) where
       counts_none : (b : Bool) → (b ≡ true → ⊥) → one_if b ≤ 0
       counts_none true n = absurd (n refl)
@@ -102,10 +102,10 @@ pub few_unposted : (rules : FrontRules) (late : Bool) (past : Past) (k : Kept) �
     → (k.sq r).unposted ≤ k.outstanding
 few_unposted rules late past k s none r there =
     let picks : unposted_of past r ≤ outstanding_of past r =
-        counts_less (λ (i : ℕ). not (is_waiting (fate_of past r i)) && not (is_posted past r i)) (λ (i : ℕ). is_picked (fate_of past r i) && not (is_posted past r i))
-        (λ (i : ℕ). was_picked (is_aborted past r i) (nat_lt (unaborted_below past r i) (picked past r)) (is_posted past r i)
-            (λ gone fresh. aborted-posted past k r i s.regions s.ready none gone fresh))
-        (places past r) in
+    counts_less (λ (i : ℕ). not (is_waiting (fate_of past r i)) && not (is_posted past r i)) (λ (i : ℕ). is_picked (fate_of past r i) && not (is_posted past r i))
+    (λ (i : ℕ). was_picked (is_aborted past r i) (nat_lt (unaborted_below past r i) (picked past r)) (is_posted past r i)
+    (λ gone fresh. aborted-posted past k r i s.regions s.ready none gone fresh))
+    (places past r) in
     let all = part_of (λ (x : ℕ). outstanding_of past x) r (length (sq_regions_of rules)) (omega (arith, s.tabled.sq_number)) in
     omega (arith, s.counts.unposted r, s.counts.outstanding_is) where
       was_picked : (a b p : Bool) → (a ≡ true → p ≡ false → ⊥) → (not (is_waiting (fate_by a b)) && not p) ≡ true → (is_picked (fate_by a b) && not p) ≡ true

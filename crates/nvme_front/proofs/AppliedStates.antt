@@ -30,7 +30,7 @@ readied cqs c d ready ts there read e =
     cq_in-set cqs c (record d { ready = ready }) there
     ∙ ap (put_cq (cq_in cqs) c)
     (ap (λ (x : FifoView Ready). cq_kept (record d { ready = x })) e
-        ∙ ap (λ (s : CqKept). record s { ready = s.ready ++ ts }) (sym (cq_in-read cqs c d there read)))
+    ∙ ap (λ (s : CqKept). record s { ready = s.ready ++ ts }) (sym (cq_in-read cqs c d there read)))
 
 -- ---- the log
 -- a log that another follows has the picks of both
@@ -64,17 +64,17 @@ kept_applied a b candidate v closing c board h chosen log kept goes table few =
     let now : length b.log.items ≡ length (a.log.items ++ made_by h.past v) = ap length log in
     let room : length b.log.items ≤ b.config.max_events = rw goes.config (omega (arith, h.events_in_limit)) in
     let past : past_of b ≡ admin_past h.past (event.Pick h.seen h.pick) v =
-        ap reverse log ∙ past-events (made_by h.past v) a.log.items ∙ ap (with_events (made_by h.past v)) h.past_is in
+    ap reverse log ∙ past-events (made_by h.past v) a.log.items ∙ ap (with_events (made_by h.past v)) h.past_is in
     let is : kept_of b ≡ after_admin h.past (applied_to h.before h.picked a.table) candidate c board v =
-        kept ∙ ap (λ (k : Kept). after_admin h.past k candidate c board v) h.kept_is in
+    kept ∙ ap (λ (k : Kept). after_admin h.past k candidate c board v) h.kept_is in
     let stands =
-        stands-admin (rules_of a) a.late h.past h.before h.seen h.pick h.picked candidate h.rest a.table c board h.stands h.can_pick h.seen_is h.of_admin h.one h.can_apply
-        (subst (IsChosen (rules_of a) h.past h.before c h.picked board) h.verdict_is chosen) in
+    stands-admin (rules_of a) a.late h.past h.before h.seen h.pick h.picked candidate h.rest a.table c board h.stands h.can_pick h.seen_is h.of_admin h.one h.can_apply
+    (subst (IsChosen (rules_of a) h.past h.before c h.picked board) h.verdict_is chosen) in
     kept_after a b h.admin goes (roomy-goes a b h.roomy goes (ap (λ z. z.sq_regions) table) (ap (λ z. z.cq_regions) table) room)
     (λ e.
-        let none : a.log.items ≡ [] = nil_from_length a.log.items (let nothing : length b.log.items ≡ 0 = ap length e in omega arith) in
-        let nothing : [] ≡ event.Pick h.seen h.pick ∷ h.past = sym (ap reverse none) ∙ h.past_is in
-        cc)
+    let none : a.log.items ≡ [] = nil_from_length a.log.items (let nothing : length b.log.items ≡ 0 = ap length e in omega arith) in
+    let nothing : [] ≡ event.Pick h.seen h.pick ∷ h.past = sym (ap reverse none) ∙ h.past_is in
+    cc)
     (rw (past, is, h.verdict_is) stands)
 
 -- ---- an answer
@@ -100,7 +100,7 @@ pub kept_readied : (a b : FrontState) (c : ℕ) (d : CqRegion) (ready : FifoView
     → kept_of b ≡ with_readies (kept_of (record b { cqs = a.cqs })) c ts
 kept_readied a b c d ready ts there read e cqs =
     let cq : cq_in b.cqs.items ≡ put_cq (cq_in a.cqs.items) c (record (cq_in a.cqs.items c) { ready = (cq_in a.cqs.items c).ready ++ ts }) =
-        ap cq_in cqs ∙ readied a.cqs.items c d ready ts there read e in
+    ap cq_in cqs ∙ readied a.cqs.items c d ready ts there read e in
     let ncq : length b.cqs.items ≡ length a.cqs.items = ap (λ (xs : List CqRegion). length xs) cqs ∙ length-set a.cqs.items c (record d { ready = ready }) in
     λ t. record (kept_of b) { cq = cq t; ncq = ncq t }
 
@@ -121,7 +121,6 @@ goes_readied a b es c d ready ts read e cqs log config alloc late gets windows =
   readies = ap (λ (xs : List CqRegion). map ready_room xs) cqs ∙ readies-set a.cqs.items c d (record d { ready = ready }) read (ap (λ (x : FifoView Ready). x.room) e);
 }
 
-
 -- a command that was carried out is kept, where its answer became ready last
 pub kept_answered : (a b : FrontState) (candidate : Candidate) (v : Verdict) (closing : Option ℕ) (c : ℕ) (board : BoardView) (h : IsApplied a candidate v closing)
     → IsChosen (rules_of a) h.past h.before c h.picked board v
@@ -132,7 +131,7 @@ pub kept_answered : (a b : FrontState) (candidate : Candidate) (v : Verdict) (cl
     → IsKept b
 kept_answered a b candidate v closing c board h chosen d ready t read e is cqs log kept goes table few =
     let answer : ready ≡ record d.ready { items = d.ready.items ++ answered candidate v ∷ [] } =
-        e ∙ ap (λ (x : Ready). record d.ready { items = d.ready.items ++ x ∷ [] }) is in
+    e ∙ ap (λ (x : Ready). record d.ready { items = d.ready.items ++ x ∷ [] }) is in
     kept_applied a b candidate v closing c board h chosen log
     (kept_readied a b 0 d ready (answered candidate v ∷ []) h.admin.1 read answer cqs ∙ sym kept)
     goes table few

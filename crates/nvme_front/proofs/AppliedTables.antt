@@ -1,5 +1,5 @@
 -- What the table, the board and the regions say of an admin command that was applied.
-use Rattle.std.proofs.Common.{◌≡◌, ℕ, ◌+◌, ◌<◌, ◌≤◌, true, false, List, [], ◌∷◌, ◌++◌, length, set, get_or, Option, Some, None, is_some, refl, sym, ap, subst, ◌∙◌, arith}
+use Rattle.std.proofs.Common.{◌≡◌, ℕ, ◌<◌, ◌≤◌, true, false, List, [], ◌∷◌, ◌++◌, length, set, get_or, Option, Some, None, is_some, refl, sym, ap, subst, ◌∙◌, arith}
 use Rattle.std.specs.Prelude.{option_map, slice_set}
 use Rattle.std.proofs.lemmas.List.{get_or-set_other, length-set}
 use Rattle.nvme_arbiter.specs.Limits.{highest_qid}
@@ -94,7 +94,7 @@ module _ (a : FrontState) (candidate : Candidate) (qid region cqid : ℕ) (class
   pub opens_some : cq_of a.table cqid ≡ None → ⊥
   opens_some none =
       let is : ◌≡◌ {A = Option ℕ} None (cq_at (rules_of a).start h.stands.tabled.history cqid) =
-          sym none ∙ cqs_now a candidate (verdict.OpenSq qid region cqid class) closing h cqid in
+      sym none ∙ cqs_now a candidate (verdict.OpenSq qid region cqid class) closing h cqid in
       let no : false ≡ true = ap (λ (o : Option ℕ). is_some o) is ∙ may_open.cq_open in
       cc
 
@@ -103,14 +103,14 @@ module _ (a : FrontState) (candidate : Candidate) (qid region cqid : ℕ) (class
   opens_within =
       few_queues a.table h.can_apply.sized qid _
       (sqs_now a candidate (verdict.OpenSq qid region cqid class) closing h qid
-          ∙ at_same qid qid (Some (record { region = region; cqid = cqid; class = class; closing = false })) (sq_at (rules_of a).start h.stands.tabled.history qid) refl)
+      ∙ at_same qid qid (Some (record { region = region; cqid = cqid; class = class; closing = false })) (sq_at (rules_of a).start h.stands.tabled.history qid) refl)
 
   -- under which no queue is open on the board
   pub opens_free : queue_at a.board.queues qid ≡ None
   opens_free =
       let io : qid ≡ h.pick.qid → ⊥ = λ e. may_open.not_admin (e ∙ h.of_admin) in
       let picked : a.board.queues ≡ slice_set h.before.board.queues h.pick.qid (option_map (fewer h.pick.n) (queue_at h.before.board.queues h.pick.qid)) =
-          ap (λ (k : Kept). k.board.queues) h.kept_is ∙ h.can_pick.board_queues in
+      ap (λ (k : Kept). k.board.queues) h.kept_is ∙ h.can_pick.board_queues in
       let none : sq_of h.before.table qid ≡ None = h.stands.tabled.stands.sq qid ∙ may_open.free in
       ap (λ (queues : List (Option OpenQueue)). queue_at queues qid) picked
       ∙ get_or-set_other h.before.board.queues h.pick.qid qid (option_map (fewer h.pick.n) (queue_at h.before.board.queues h.pick.qid)) None io
@@ -139,8 +139,8 @@ pub kept_opened : (a b : FrontState) (qid r region c : ℕ) (class : Class) (d :
 kept_opened a b qid r region c class d same there read sqs board table outstanding deletion =
     let attachment : Attachment = record { qid = qid; cq_region = c } in
     let sq : sq_in b.sqs.items ≡ put_sq (sq_in a.sqs.items) r (record (sq_in a.sqs.items r) { queue = Some attachment }) =
-        ap sq_in sqs ∙ sq_in-set a.sqs.items r (record d { queue = Some attachment }) there
-        ∙ ap (λ (s : SqKept). put_sq (sq_in a.sqs.items) r (record s { queue = Some attachment })) (sym (sq_in-read a.sqs.items r d there read)) in
+    ap sq_in sqs ∙ sq_in-set a.sqs.items r (record d { queue = Some attachment }) there
+    ∙ ap (λ (s : SqKept). put_sq (sq_in a.sqs.items) r (record s { queue = Some attachment })) (sym (sq_in-read a.sqs.items r d there read)) in
     let nsq : length b.sqs.items ≡ length a.sqs.items = ap (λ (xs : List SqRegion). length xs) sqs ∙ length-set a.sqs.items r (record d { queue = Some attachment }) in
     subst (λ (z : ℕ). kept_of (record b { cqs = a.cqs }) ≡ with_opened (kept_of a) qid z c class) same
     (λ t. record {
@@ -174,6 +174,6 @@ pub keeps_opened : (a b : FrontState) (candidate : Candidate) (qid region cqid :
 keeps_opened a b candidate qid region cqid class closing h c r s d ready t is same read sqs board read_cq e answer cqs log deletion stays goes =
     let v : Verdict = verdict.OpenSq qid region cqid class in
     let kept : kept_of (record b { cqs = a.cqs }) ≡ with_opened (kept_of a) qid region c class =
-        kept_opened a b qid r region c class s same (opens_there a candidate qid region cqid class closing h r same) read sqs board stays.table stays.outstanding deletion in
+    kept_opened a b qid r region c class s same (opens_there a candidate qid region cqid class closing h r same) read sqs board stays.table stays.outstanding deletion in
     kept_answered a b candidate v closing c a.board h (opens_for a candidate qid region cqid class closing h c is) d ready t read_cq e answer cqs log
     (ap (λ (k : Kept). with_ready k 0 (answered candidate v)) (sym kept)) goes stays.table (omega arith)

@@ -113,7 +113,7 @@ pick_size rules past k queue pick after can size =
     ap length can.board_queues ∙ length-set k.board.queues pick.qid (option_map (board.fewer pick.n) (queue_at k.board.queues pick.qid)) ∙ size
 
 module _ (rules : FrontRules) (late : Bool) (past : Past) (k : Kept) (seen : ArrayVec Seen) (pick : Pick) (picked : BoardView)
-  (candidate : Candidate) (table : TableView) (c : ℕ) (after : BoardView) (is : HoldsPick rules past seen pick picked) (size : length picked.queues ≡ queue_limit) where
+    (candidate : Candidate) (table : TableView) (c : ℕ) (after : BoardView) (is : HoldsPick rules past seen pick picked) (size : length picked.queues ≡ queue_limit) where
   -- a queue is opened with no candidate
   opens : (qid : ℕ) (class : Class) → (qid ≡ 0 → ⊥) → (class ≡ Admin → ⊥)
       → BoardStandsAt rules.mechanism rules.start.settings (arbitration_of (event.Pick seen pick ∷ past))
@@ -121,7 +121,7 @@ module _ (rules : FrontRules) (late : Bool) (past : Past) (k : Kept) (seen : Arr
   opens qid class not_zero not_admin = record {
     stands = is.stands.stands;
     observed = put_observed picked.queues qid (Some (record { class = class; count = 0 })) is.stands.observed
-    (λ l. record { qid = omega arith; count = omega arith; admin = (λ e. absurd (not_admin e), λ e. absurd (not_zero e)) });
+        (λ l. record { qid = omega arith; count = omega arith; admin = (λ e. absurd (not_admin e), λ e. absurd (not_zero e)) });
   }
 
   -- a queue that is closing is taken from the board

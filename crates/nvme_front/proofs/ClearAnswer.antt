@@ -75,7 +75,7 @@ test_of_nothing : (s : FrontState) (a : Bool) → is_some s.deletion ≡ not a �
 test_of_nothing s a e k =
     and_from ((a && s.outstanding == 0) && list_all no_window s.sqs.items) (list_all no_ready s.cqs.items)
     (and_from (a && s.outstanding == 0) (list_all no_window s.sqs.items)
-        (and_from a (s.outstanding == 0) (none_to s.deletion a e k.no_deletion) (eq-eqb s.outstanding 0 k.none_outstanding)) (windows_tested s.sqs.items k.no_candidate))
+    (and_from a (s.outstanding == 0) (none_to s.deletion a e k.no_deletion) (eq-eqb s.outstanding 0 k.none_outstanding)) (windows_tested s.sqs.items k.no_candidate))
     (readies_tested s.cqs.items k.none_ready)
 
 -- a front is clear exactly where the four tests pass

@@ -73,7 +73,7 @@ one_if-le false = omega arith
 pub times_in-head : (t : Ready) (ready : List Ready) → 1 ≤ times_in t.region t.index (t ∷ ready)
 times_in-head t ready =
     let yes_here : (t.region == t.region && t.index == t.index) ≡ true =
-        and_from (t.region == t.region) (t.index == t.index) (eq-eqb t.region t.region refl) (eq-eqb t.index t.index refl) in
+    and_from (t.region == t.region) (t.index == t.index) (eq-eqb t.region t.region refl) (eq-eqb t.index t.index refl) in
     let one : one_if (t.region == t.region && t.index == t.index) ≡ 1 = ap one_if yes_here in
     omega (arith, sum_by-cons (λ (x : Ready). one_if (x.region == t.region && x.index == t.index)) t ready)
 
@@ -146,13 +146,13 @@ module _ (rules : FrontRules) (late : Bool) (past : Past) (k : Kept) (s : Stands
     | inl posted ↦ posted
     | inr unposted ↦
         let served : is_served past r i ≡ true =
-            and_from (nat_lt i (length (fetched past r))) (not (is_waiting (fate_of past r i))) (lt-ltb i (length (fetched past r)) lt)
-            (not_from_false (is_waiting (fate_of past r i)) (kept-not_waiting nothing r i lt)) in
+        and_from (nat_lt i (length (fetched past r))) (not (is_waiting (fate_of past r i))) (lt-ltb i (length (fetched past r)) lt)
+        (not_from_false (is_waiting (fate_of past r i)) (kept-not_waiting nothing r i lt)) in
         let one : one_if (is_served past r i) ≡ 1 = ap one_if served in
         let posts : posts_of past r i ≡ 0 = posts_of-none past r i unposted in
         let held : times_held r i (held_by k.deletion) ≡ 0 = ap (λ (o : Option PendingDelete). times_held r i (held_by o)) nothing.no_deletion in
         let readies : times_ready k r i ≡ 0 =
-            over_regions-none (λ (c : ℕ). times_in r i (k.cq c).ready) MAX_REGIONS (λ c. ap (λ (xs : List Ready). times_in r i xs) (nothing.none_ready c)) in
+        over_regions-none (λ (c : ℕ). times_in r i (k.cq c).ready) MAX_REGIONS (λ c. ap (λ (xs : List Ready). times_in r i xs) (nothing.none_ready c)) in
         let once : times_ready k r i + posts_of past r i + times_held r i (held_by k.deletion) ≡ one_if (is_served past r i) = s.ready.once r i in
         absurd (omega arith)
   ]

@@ -106,10 +106,10 @@ closed-kept a b d k admin p =
     let stands : Stands (rules_of a) a.late (past_of b) (kept_of b) =
     subst (λ (z : Past). Stands (rules_of a) a.late z (kept_of b)) (sym past)
     (subst (λ (z : Kept). Stands (rules_of a) a.late (closed_event d ∷ past_of a) z) (sym kept)
-        (stands-close (rules_of a) a.late (past_of a) (kept_of a) d b.table s (record { pending = p.pending; all_posted = p.all_posted; table_stands = table }))) in
+    (stands-close (rules_of a) a.late (past_of a) (kept_of a) d b.table s (record { pending = p.pending; all_posted = p.all_posted; table_stands = table }))) in
     kept_after a b admin goes
     (roomy-goes a b k.roomy goes
-        (table.sq_regions ∙ finish-sq_regions (rules_of a).start s.tabled.history d.qid ∙ sym s.tabled.stands.sq_regions)
-        (table.cq_regions ∙ finish-cq_regions (rules_of a).start s.tabled.history d.qid ∙ sym s.tabled.stands.cq_regions)
-        few)
+    (table.sq_regions ∙ finish-sq_regions (rules_of a).start s.tabled.history d.qid ∙ sym s.tabled.stands.sq_regions)
+    (table.cq_regions ∙ finish-cq_regions (rules_of a).start s.tabled.history d.qid ∙ sym s.tabled.stands.cq_regions)
+    few)
     (λ e. pushed-not_empty a.log.items (closed_event d) (sym p.log ∙ e)) stands

@@ -20,7 +20,7 @@ count_of-cons t i is = by (t i) refl where
 pub count_of-push : (t : ℕ → Bool) (is : List ℕ) (i : ℕ) → count_of t (is ++ i ∷ []) ≡ count_of t is + one_if (t i)
 count_of-push t is i =
     let split : count_of t (is ++ i ∷ []) ≡ count_of t is + count_of t (i ∷ []) =
-        ap (λ (z : List ℕ). length z) (filter-append t is (i ∷ [])) ∙ length-append _ _ in
+    ap (λ (z : List ℕ). length z) (filter-append t is (i ∷ [])) ∙ length-append _ _ in
     let last : count_of t (i ∷ []) ≡ one_if (t i) + 0 = count_of-cons t i [] in
     omega (arith, split, last)
 
@@ -86,14 +86,14 @@ counts_change t u i (suc n) lt h =
     let eu = count_of-push u (upto n) n in
     ⊎_elim
     (λ (same : i ≡ n).
-        let below = counts_below t u n (λ (j : ℕ) less. h j (λ e. omega arith)) in
-        let tn : one_if (t i) ≡ one_if (t n) = ap (λ (z : ℕ). one_if (t z)) same in
-        let un : one_if (u i) ≡ one_if (u n) = ap (λ (z : ℕ). one_if (u z)) same in
-        omega (arith, et, eu, below, tn, un))
+    let below = counts_below t u n (λ (j : ℕ) less. h j (λ e. omega arith)) in
+    let tn : one_if (t i) ≡ one_if (t n) = ap (λ (z : ℕ). one_if (t z)) same in
+    let un : one_if (u i) ≡ one_if (u n) = ap (λ (z : ℕ). one_if (u z)) same in
+    omega (arith, et, eu, below, tn, un))
     (λ (other : i ≡ n → ⊥).
-        let rest = counts_change t u i n (omega arith) h in
-        let here : one_if (u n) ≡ one_if (t n) = ap one_if (h n other) in
-        omega (arith, et, eu, rest, here))
+    let rest = counts_change t u i n (omega arith) h in
+    let here : one_if (u n) ≡ one_if (t n) = ap one_if (h n other) in
+    omega (arith, et, eu, rest, here))
     (cases_eq i n)
 
 -- the fate of a place that is aborted or not, and before enough picks or not
@@ -145,11 +145,11 @@ sums_differ f g x d h (suc n) lt =
     let eg = sum_by-push g n in
     ⊎_elim
     (λ (same : x ≡ n).
-        let here : g n ≡ f n + d = rw (eq-eqb x n same) at (h n) in
-        let rest = sums_below f g x d h n (omega arith) in
-        omega (arith, ef, eg, here, rest))
+    let here : g n ≡ f n + d = rw (eq-eqb x n same) at (h n) in
+    let rest = sums_below f g x d h n (omega arith) in
+    omega (arith, ef, eg, here, rest))
     (λ (other : x ≡ n → ⊥).
-        let here : g n ≡ f n + 0 = rw (ne_eqb x n other) at (h n) in
-        let rest = sums_differ f g x d h n (omega arith) in
-        omega (arith, ef, eg, here, rest))
+    let here : g n ≡ f n + 0 = rw (ne_eqb x n other) at (h n) in
+    let rest = sums_differ f g x d h n (omega arith) in
+    omega (arith, ef, eg, here, rest))
     (cases_eq x n)

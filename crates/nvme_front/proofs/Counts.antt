@@ -64,11 +64,11 @@ outstanding_more : (rules : FrontRules) (past later : Past) (x d : ℕ) → ((r 
 outstanding_more rules past later x d served few later_few more lt =
     sums_differ (λ (r : ℕ). outstanding_of past r) (λ (r : ℕ). outstanding_of later r) x d
     (λ (r : ℕ).
-        let before = outstanding_by past r (served r) (few r) in
-        let after = outstanding_by later r (more.served r) (later_few r) in
-        let picks = more.picks r in
-        let taken = more.taken r in
-        omega (arith, before, after, picks, taken))
+    let before = outstanding_by past r (served r) (few r) in
+    let after = outstanding_by later r (more.served r) (later_few r) in
+    let picks = more.picks r in
+    let taken = more.taken r in
+    omega (arith, before, after, picks, taken))
     (length (sq_regions_of rules)) lt
 
 -- as many places of a region wait as its window has candidates
@@ -188,6 +188,7 @@ counts-fetch rules late past k q queue entry known s can after =
       fresh r =
           let many = fetched_many past r (k.sq r) (s.regions r) in
           (s.regions r).none_posted (length (fetched past r)) (omega (arith, many))
+
       more : (t : SqKept) → Balanced t (fetched_sq t entry known)
       more t =
           let got = length-append t.got (entry ∷ []) in
@@ -266,12 +267,12 @@ counts-admin rules late past k seen pick board candidate rest table c settled s 
     let v = verdict_at rules s.tabled.history candidate in
     let enough : 1 ≤ length (k.sq 0).window = subst (λ (z : ℕ). z ≤ length (k.sq 0).window) one can.enough in
     let picked_one : PicksMore past (event.Pick seen pick ∷ past) 0 1 =
-        subst (λ (z : ℕ). PicksMore past (event.Pick seen pick ∷ past) 0 z) one (picks_more rules late past k s admin_queue seen pick can.is_open) in
+    subst (λ (z : ℕ). PicksMore past (event.Pick seen pick ∷ past) 0 z) one (picks_more rules late past k s admin_queue seen pick can.is_open) in
     counts_after rules past (admin_past past (event.Pick seen pick) v) k (after_admin past (applied_to k board table) candidate c settled v) 0 1 s.regions after
     (served_now rules late past k s) (admin_more past seen pick v 0 1 (served_now rules late past k s) picked_one)
     (λ (r : ℕ). Balanced-trans (k.sq r) ((applied_to k board table).sq r) ((after_admin past (applied_to k board table) candidate c settled v).sq r)
-        (Balanced-put k.sq 0 (picked_sq (k.sq 0) 1) (picked_balanced rules late past k s (k.sq 0) 1 enough) r)
-        (admin_balanced past (applied_to k board table) candidate c settled v r))
+    (Balanced-put k.sq 0 (picked_sq (k.sq 0) 1) (picked_balanced rules late past k s (k.sq 0) 1 enough) r)
+    (admin_balanced past (applied_to k board table) candidate c settled v r))
     (region_there rules late past k s pick.qid admin_queue can.is_open) (admin_outstanding past (applied_to k board table) candidate c settled v) s.counts
 
 -- ---- a post
@@ -303,13 +304,13 @@ counts-post rules late past k c t rest cqe qid free s can after =
       outstanding_is =
           let many = s.tabled.sq_number in
           let less = sums_differ (λ (r : ℕ). outstanding_of later r) (λ (r : ℕ). outstanding_of past r) t.region (one_if (not (is_aborted past t.region t.index)))
-              (λ (r : ℕ).
-                  let few = few_picked past r (k.sq r) (s.regions r) in
-                  let was = outstanding_by past r (served r) few in
-                  let now = outstanding_by later r (later_served r) few in
-                  let more = post_picks past c t.region t.index r cqe it.was_fetched it.no_post in
-                  omega (arith, was, now, more))
-              (length (sq_regions_of rules)) (omega (arith, there, many)) in
+          (λ (r : ℕ).
+          let few = few_picked past r (k.sq r) (s.regions r) in
+          let was = outstanding_by past r (served r) few in
+          let now = outstanding_by later r (later_served r) few in
+          let more = post_picks past c t.region t.index r cqe it.was_fetched it.no_post in
+          omega (arith, was, now, more))
+          (length (sq_regions_of rules)) (omega (arith, there, many)) in
           let o = s.counts.outstanding_is in
           let a : one_if (not t.aborted) ≡ one_if (not (is_aborted past t.region t.index)) = ap (λ (z : Bool). one_if (not z)) is.aborted in
           omega (arith, less, o, a);

@@ -52,7 +52,7 @@ accounts_at s h =
       account =
           subst (λ (f : ℕ → List Sqe). IsAccount (rules_of s) f (past_of s) (sent_in (view_of s))) (sym got)
           (subst (λ (f : ℕ → List Cqe). IsAccount (rules_of s) (λ (r : ℕ). ((kept_of s).sq r).got) (past_of s) f) (sym sent)
-              (account_is (rules_of s) (past_of s) (kept_of s) h));
+          (account_is (rules_of s) (past_of s) (kept_of s) h));
       all_fetched = λ r. fetched_is_got (rules_of s) (past_of s) (kept_of s) h r ∙ sym (got_in-kept s r);
       all_posted = λ c. posted_is_sent (rules_of s) (past_of s) (kept_of s) h c ∙ sym (sent_in-kept s c);
     }

@@ -47,7 +47,7 @@ first_board : (n : ℕ) (board : BoardView) → length board.queues ≡ queue_li
 first_board n board size before q = elim (cases_eq n 0) [
   | inl z ↦
       let here : queue_at (board_with_sq n board).queues q ≡ queue_at (slice_set board.queues 0 (Some (record { class = Admin; count = 0 }))) q =
-          ap (λ (b : BoardView). queue_at b.queues q) (board_with_sq-first n board z) in
+      ap (λ (b : BoardView). queue_at b.queues q) (board_with_sq-first n board z) in
       here ∙ elim (cases_eq q 0) [
         | inl at_0 ↦
             ap (λ (x : ℕ). queue_at (slice_set board.queues 0 (Some (record { class = Admin; count = 0 }))) x) at_0

@@ -72,15 +72,26 @@ module _ (rules : FrontRules) (late : Bool) (past : Past) (k : Kept) (s : Stands
   grown_sq r =
       let h = s.regions r in
       record {
-        fetched_is = h.fetched_is; counted = h.counted; waiting_is = h.waiting_is; entries = h.entries; few_waiting = h.few_waiting;
-        few_picked = h.few_picked; none_aborted = h.none_aborted; none_posted = h.none_posted;
+        fetched_is = h.fetched_is;
+        counted = h.counted;
+        waiting_is = h.waiting_is;
+        entries = h.entries;
+        few_waiting = h.few_waiting;
+        few_picked = h.few_picked;
+        none_aborted = h.none_aborted;
+        none_posted = h.none_posted;
       }
 
   -- what is ready stays
   grown_ready : HoldsReady past (grown k known sq_slots free cq_slots nsq ncq table) (held_by k.deletion)
   grown_ready = record {
-    once = s.ready.once; each = s.ready.each; taken = s.ready.taken; few_aborted = s.ready.few_aborted; few_taken = s.ready.few_taken;
-    none_beyond = s.ready.none_beyond; admin_region = s.ready.admin_region;
+    once = s.ready.once;
+    each = s.ready.each;
+    taken = s.ready.taken;
+    few_aborted = s.ready.few_aborted;
+    few_taken = s.ready.few_taken;
+    none_beyond = s.ready.none_beyond;
+    admin_region = s.ready.admin_region;
   }
 
   -- the counts stay, since nothing is outstanding in a new region
@@ -121,8 +132,16 @@ module _ (rules : FrontRules) (late : Bool) (past : Past) (k : Kept) (s : Stands
   -- the pending deletion stays
   grown_pending : (d : PendingDelete) → IsPending past k d → IsPending past (grown k known sq_slots free cq_slots nsq ncq table) d
   grown_pending d p = record {
-    closing = p.closing; in_table = g.same_sq d.qid ∙ p.in_table; is_closing = p.is_closing; region = p.region; entry = p.entry;
-    not_aborted = p.not_aborted; none_waits = p.none_waits; not_closed = p.not_closed; not_admin = p.not_admin; attached = p.attached;
+    closing = p.closing;
+    in_table = g.same_sq d.qid ∙ p.in_table;
+    is_closing = p.is_closing;
+    region = p.region;
+    entry = p.entry;
+    not_aborted = p.not_aborted;
+    none_waits = p.none_waits;
+    not_closed = p.not_closed;
+    not_admin = p.not_admin;
+    attached = p.attached;
   }
 
   -- and what is said of deletions

@@ -1,7 +1,7 @@
 -- How many picks a longer log has.
-use Rattle.std.proofs.Common.{◌≡◌, ℕ, ◌+◌, List, [], ◌∷◌, ◌++◌, refl, ap, ◌∙◌, arith}
+use Rattle.std.proofs.Common.{◌≡◌, ◌+◌, List, [], ◌∷◌, ◌++◌, ap, ◌∙◌, arith}
 use Rattle.nvme_front.specs.declared.event.Event.{Event}
-use Rattle.nvme_front.specs.declared.event.Event.TheVariants.{Fetch, Pick, SetArbitration, OpenSq, OpenCq, Closing, Abort, Post, ClosedSq, ClosedCq}
+use Rattle.nvme_front.specs.declared.event.Event.TheVariants.{Pick}
 use Rattle.nvme_front.specs.Goes.{picks_in}
 
 -- the picks of two lists of events are those of both

@@ -1,9 +1,7 @@
 -- What is known where a front picks.
 use Rattle.std.proofs.Common.{◌≡◌, ℕ, ◌+◌, ◌<◌, ◌≤◌, Bool, true, false, not, List, [], ◌∷◌, ◌++◌, length, get_or, Option, Some, None, refl, sym, ap, subst, ◌∙◌, arith, inl, inr}
 use Rattle.std.specs.Prelude.{filter, if◌then◌else◌, IfSome}
-use Rattle.std.proofs.lemmas.Bool.Decides.{eqb_tells}
 use Rattle.std.proofs.lemmas.Bool.{cases_lt}
-use Rattle.std.proofs.lemmas.List.{length_push, length-reverse}
 use Rattle.std.proofs.Math.Bridge.{le_prop}
 use Rattle.arrayvec.specs.ArrayVec.{ArrayVec}
 use Rattle.nvme_arbiter.specs.Settings.{ArbitrationFields}
@@ -29,7 +27,7 @@ use Rattle.nvme_front.specs.declared.state.FrontState.{FrontState}
 use Rattle.nvme_front.specs.Limits.{max_outstanding, most_events}
 use Rattle.nvme_front.specs.Rules.{FrontRules, Past}
 use Rattle.nvme_front.specs.Queues.{Queue}
-use Rattle.nvme_front.specs.Places.{fetched, observation_of}
+use Rattle.nvme_front.specs.Places.{observation_of}
 use Rattle.nvme_front.specs.Histories.{arbitration_of}
 use Rattle.nvme_front.specs.Kept.{SqKept, CqKept, sq_kept, cq_kept, sq_in, cq_in, Kept, kept_of, past_of}
 use Rattle.nvme_front.specs.Laws.{as_open}

@@ -96,8 +96,8 @@ foremost rules late past k c t rest s there first =
     let small : c < MAX_REGIONS = let few = s.tabled.few_cqs in omega (arith, few, there) in
     let ready = All-head (IsReady past k.deletion c) t rest (All-same (IsReady past k.deletion c) (t ∷ rest) (k.cq c).ready (sym first) (s.ready.each c)) in
     let answer = All-head (λ (x : Ready). IsAnswerable past (held_by k.deletion) x.region x.index) t rest
-        (All-same (λ (x : Ready). IsAnswerable past (held_by k.deletion) x.region x.index) (t ∷ rest) (k.cq c).ready (sym first)
-            (ready_is_answerable past k (held_by k.deletion) s.ready c)) in
+    (All-same (λ (x : Ready). IsAnswerable past (held_by k.deletion) x.region x.index) (t ∷ rest) (k.cq c).ready (sym first)
+    (ready_is_answerable past k (held_by k.deletion) s.ready c)) in
     let at = posts_to (k.sq t.region).queue c (sym (s.queues.cq_region_is t.region) ∙ ready.region) in
     let picked = over_regions_at (λ (x : ℕ). length (filter (λ (u : Ready). not u.aborted) (k.cq x).ready)) c MAX_REGIONS small in
     let here = first_counted (k.cq c).ready t rest first in
@@ -227,8 +227,8 @@ posted-kept a b c t cqe k admin p =
     let stands : Stands (rules_of a) a.late (past_of b) (kept_of b) =
     subst (λ (z : Past). Stands (rules_of a) a.late z (kept_of b)) (sym past)
     (subst (λ (z : Kept). Stands (rules_of a) a.late (post_event c t cqe ∷ past_of a) z) (sym kept)
-        (stands-post (rules_of a) a.late (past_of a) (kept_of a) c t (drop 1 p.d.ready.items) cqe cqe.sqid p.g.end.free (k.stands admin.0 admin.1)
-            (completion_can_be_posted (past_of a) (kept_of a) c t (drop 1 p.d.ready.items) cqe first p.there f p.completion))) in
+    (stands-post (rules_of a) a.late (past_of a) (kept_of a) c t (drop 1 p.d.ready.items) cqe cqe.sqid p.g.end.free (k.stands admin.0 admin.1)
+    (completion_can_be_posted (past_of a) (kept_of a) c t (drop 1 p.d.ready.items) cqe first p.there f p.completion))) in
     kept_after a b admin goes
     (roomy-goes a b k.roomy goes (ap (λ z. z.sq_regions) p.table) (ap (λ z. z.cq_regions) p.table) few)
     (λ e. pushed-not_empty a.log.items (post_event c t cqe) (sym p.log ∙ e)) stands

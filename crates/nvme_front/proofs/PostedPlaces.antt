@@ -45,7 +45,7 @@ PostedServed past r = (i : ℕ) → is_posted past r i ≡ true → is_waiting (
 pub unposted_by : (past : Past) (r : ℕ) → PostedServed past r → length (waiting past r) + unposted_of past r + posted_places past r ≡ length (fetched past r)
 unposted_by past r h =
     let open_ones = counts_add (λ (i : ℕ). is_waiting (fate_of past r i)) (λ (i : ℕ). not (is_waiting (fate_of past r i)) && not (is_posted past r i))
-        (λ (i : ℕ). not (is_posted past r i)) (λ (i : ℕ). parts (is_waiting (fate_of past r i)) (is_posted past r i) (h i)) (places past r) in
+    (λ (i : ℕ). not (is_posted past r i)) (λ (i : ℕ). parts (is_waiting (fate_of past r i)) (is_posted past r i) (h i)) (places past r) in
     let all = counts_all (λ (i : ℕ). is_posted past r i) (places past r) in
     let many = length-upto (length (fetched past r)) in
     omega (arith, open_ones, all, many) where
@@ -141,9 +141,9 @@ abort_served past r0 i0 r h i posted =
     still_served (is_aborted past r i) (nat_lt (unaborted_below past r i) (picked past r)) (is_aborted (Abort r0 i0 ∷ past) r i)
     (nat_lt (unaborted_below (Abort r0 i0 ∷ past) r i) (picked past r)) (λ e. or_right (r0 == r && i0 == i) (is_aborted past r i) e)
     (still_first (unaborted_below past r i) (unaborted_below (Abort r0 i0 ∷ past) r i) (picked past r) (picked past r)
-        (counts_less (λ (k : ℕ). not (is_aborted (Abort r0 i0 ∷ past) r k)) (λ (k : ℕ). not (is_aborted past r k))
-            (λ (k : ℕ). less (r0 == r && i0 == k) (is_aborted past r k)) (upto i))
-        (omega arith))
+    (counts_less (λ (k : ℕ). not (is_aborted (Abort r0 i0 ∷ past) r k)) (λ (k : ℕ). not (is_aborted past r k))
+    (λ (k : ℕ). less (r0 == r && i0 == k) (is_aborted past r k)) (upto i))
+    (omega arith))
     (h i posted) where
       less : (x a : Bool) → not (x || a) ≡ true → not a ≡ true
       less true a e = absurd (cc e)
@@ -179,8 +179,8 @@ pub abort_picks : (past : Past) (r0 i0 r : ℕ) → is_posted past r0 i0 ≡ fal
 abort_picks past r0 i0 r none =
     counts_same (λ (i : ℕ). is_posted past r i && not (is_aborted past r i)) (λ (i : ℕ). is_posted past r i && not (is_aborted (Abort r0 i0 ∷ past) r i))
     (λ (i : ℕ). leaves (r0 == r && i0 == i) (is_posted past r i) (is_aborted past r i)
-        (λ here. let same = and_parts (r0 == r) (i0 == i) here in
-        subst (λ (z : ℕ). is_posted past r z ≡ false) (eqb-true i0 i same.1) (subst (λ (z : ℕ). is_posted past z i0 ≡ false) (eqb-true r0 r same.0) none)))
+    (λ here. let same = and_parts (r0 == r) (i0 == i) here in
+    subst (λ (z : ℕ). is_posted past r z ≡ false) (eqb-true i0 i same.1) (subst (λ (z : ℕ). is_posted past z i0 ≡ false) (eqb-true r0 r same.0) none)))
     (places past r) where
       leaves : (x p a : Bool) → (x ≡ true → p ≡ false) → (p && not (x || a)) ≡ (p && not a)
       leaves true true a h = absurd (cc (h refl))
@@ -247,8 +247,8 @@ pub post_served : (past : Past) (c r0 i0 r : ℕ) (cqe : Cqe) → is_waiting (fa
 post_served past c r0 i0 r cqe served h i posted =
     ⊎_elim
     (λ (here : (r0 == r && i0 == i) ≡ true). let same = and_parts (r0 == r) (i0 == i) here in
-        subst (λ (z : ℕ). is_waiting (fate_of past r z) ≡ false) (eqb-true i0 i same.1)
-        (subst (λ (z : ℕ). is_waiting (fate_of past z i0) ≡ false) (eqb-true r0 r same.0) served))
+    subst (λ (z : ℕ). is_waiting (fate_of past r z) ≡ false) (eqb-true i0 i same.1)
+    (subst (λ (z : ℕ). is_waiting (fate_of past z i0) ≡ false) (eqb-true r0 r same.0) served))
     (λ (earlier : is_posted past r i ≡ true). h i earlier)
     (or_cases (r0 == r && i0 == i) (is_posted past r i) posted)
 
@@ -272,13 +272,13 @@ pub ready_unanswered : (past : Past) (k : Kept) (hand : List Place) → HoldsRea
     → IsUnanswered past t.region t.index
 ready_unanswered past k hand h c t rest oldest =
     let first : times_in t.region t.index (t ∷ rest) ≡ one_if (t.region == t.region && t.index == t.index) + times_in t.region t.index rest =
-        sum_by-cons (λ (z : Ready). one_if (z.region == t.region && z.index == t.index)) t rest in
+    sum_by-cons (λ (z : Ready). one_if (z.region == t.region && z.index == t.index)) t rest in
     let here : one_if (t.region == t.region && t.index == t.index) ≡ 1 = rw (eq-eqb t.region t.region refl, eq-eqb t.index t.index refl) refl in
     let there : times_in t.region t.index (k.cq c).ready ≡ times_in t.region t.index (t ∷ rest) = ap (λ (z : List Ready). times_in t.region t.index z) oldest in
     let within : c < MAX_REGIONS =
-        ⊎_elim (λ (lt : c < MAX_REGIONS). lt)
-        (λ (le : MAX_REGIONS ≤ c). absurd (let none = h.none_beyond c le in cc))
-        (cases_lt c MAX_REGIONS) in
+    ⊎_elim (λ (lt : c < MAX_REGIONS). lt)
+    (λ (le : MAX_REGIONS ≤ c). absurd (let none = h.none_beyond c le in cc))
+    (cases_lt c MAX_REGIONS) in
     let part = over_regions_at (λ (z : ℕ). times_in t.region t.index (k.cq z).ready) c MAX_REGIONS within in
     let once = h.once t.region t.index in
     let some : 1 ≤ one_if (is_served past t.region t.index) = omega (arith, first, here, there, part, once) in

@@ -127,7 +127,7 @@ module _ (l : LogQueues) (k : KeptQueues) (h : Agree l k) where
       let queue : Queue = record { region = region; cqid = cqid; class = class } in
       let sqs : ℕ → Option Queue = λ q. if qid == q then Some queue else l.sqs q in
       let others : (q : ℕ) (other : Queue) → l.sqs q ≡ Some other → other.region ≡ region → ⊥ =
-          λ q other is e. unopened_apart k.sq other.region region q (h.attached q other is) none (sym e) in
+      λ q other is e. unopened_apart k.sq other.region region q (h.attached q other is) none (sym e) in
       record {
         board = on_board-set k.board qid (Some (record { class = class; count = 0 })) (λ (p : ℕ). option_map (counted (put_sq k.sq region s)) (sqs p)) (on_board qid few)
             (rw (eq-eqb qid qid refl, eq-eqb region region refl, blank.none_waits) refl)
@@ -240,10 +240,10 @@ module _ (l : LogQueues) (k : KeptQueues) (h : Agree l k) where
       let sqs : ℕ → Option Queue = λ q. if qid == q then None else l.sqs q in
       let later : ℕ → SqKept = put_sq k.sq queue.region s in
       let still : (q : ℕ) (other : Queue) → sqs q ≡ Some other → (q ≡ qid → ⊥) × (l.sqs q ≡ Some other) =
-          λ q other e. elim (chosen qid q None (l.sqs q) other e) [
-            | inl p ↦ absurd (none-some other p.1)
-            | inr m ↦ ((λ p. m.0 (sym p)), m.1)
-          ] in
+      λ q other e. elim (chosen qid q None (l.sqs q) other e) [
+        | inl p ↦ absurd (none-some other p.1)
+        | inr m ↦ ((λ p. m.0 (sym p)), m.1)
+      ] in
       record {
         board = on_board-set k.board qid None (λ (p : ℕ). option_map (counted later) (sqs p)) (on_board qid (h.few qid queue is))
             (rw (eq-eqb qid qid refl) refl)

@@ -100,8 +100,8 @@ pick-agrees past k queue seen pick board h is after =
     let s : SqKept = picked_sq (k.sq queue.region) pick.n in
     let was : queue_at k.board.queues pick.qid ≡ Some (counted k.sq queue) = h.board pick.qid ∙ ap (option_map (counted k.sq)) is in
     let now : board.queues ≡ slice_set k.board.queues pick.qid (Some (counted_as queue (length s.window))) =
-        after ∙ ap (λ (o : Option OpenQueue). slice_set k.board.queues pick.qid (option_map (fewer pick.n) o)) was
-        ∙ ap (λ (n : ℕ). slice_set k.board.queues pick.qid (Some (counted_as queue n))) (sym (length-drop pick.n (k.sq queue.region).window)) in
+    after ∙ ap (λ (o : Option OpenQueue). slice_set k.board.queues pick.qid (option_map (fewer pick.n) o)) was
+    ∙ ap (λ (n : ℕ). slice_set k.board.queues pick.qid (Some (counted_as queue n))) (sym (length-drop pick.n (k.sq queue.region).window)) in
     subst (λ (z : List (Option OpenQueue)). Agree (in_log past) (record (in_kept k) { sq = put_sq k.sq queue.region s; board = z })) (sym now)
     (serve (in_log past) (in_kept k) h pick.qid queue s is refl)
 
@@ -112,9 +112,9 @@ queues-fetch rules late past k q queue entry known s can _ =
     let a : Agree (in_log past) (in_kept k) = agreement rules late past k s in
     let x : SqKept = fetched_sq (k.sq queue.region) entry known in
     let later : Agree (in_log past) (record (in_kept k) { sq = put_sq k.sq queue.region x; board = slice_set k.board.queues q (Some (counted_as queue (length (k.sq queue.region).window + 1))) }) =
-        subst (λ (n : ℕ). Agree (in_log past) (record (in_kept k) { sq = put_sq k.sq queue.region x; board = slice_set k.board.queues q (Some (counted_as queue n)) }))
-        (length_push (k.sq queue.region).window _)
-        (serve (in_log past) (in_kept k) a q queue x can.is_open refl) in
+    subst (λ (n : ℕ). Agree (in_log past) (record (in_kept k) { sq = put_sq k.sq queue.region x; board = slice_set k.board.queues q (Some (counted_as queue n)) }))
+    (length_push (k.sq queue.region).window _)
+    (serve (in_log past) (in_kept k) a q queue x can.is_open refl) in
     holds_queues _ _ later h.sqs h.cqs (λ r e. put-queue k.sq queue.region x refl r ∙ h.unused r e)
 
 -- an I/O pick leaves the table
@@ -174,10 +174,10 @@ queues-admin rules late past k seen pick picked candidate rest table c board s c
     let still : (r : ℕ) → (kept.sq r).queue ≡ (k.sq r).queue = put-queue k.sq 0 (picked_sq (k.sq 0) 1) refl in
     let table_is : later.table ≡ table = verdict-table past kept candidate c board v in
     let agrees : Agree (in_log taken) (in_kept kept) =
-        subst (λ (n : ℕ). Agree (in_log past) (in_kept (after_pick k admin_queue n picked))) one
-        (pick-agrees past k admin_queue seen pick picked (agreement rules late past k s) can.is_open can.board_queues) in
+    subst (λ (n : ℕ). Agree (in_log past) (in_kept (after_pick k admin_queue n picked))) one
+    (pick-agrees past k admin_queue seen pick picked (agreement rules late past k s) can.is_open can.board_queues) in
     let are : QueuesAre rules u (with_events (made_by past v) past) =
-        step rules t u past v (record { sq = λ q. h.sqs q ∙ ap as_open (was.sq q); cq = λ q. h.cqs q ∙ was.cq q }) tells.sqs tells.cqs in
+    step rules t u past v (record { sq = λ q. h.sqs q ∙ ap as_open (was.sq q); cq = λ q. h.cqs q ∙ was.cq q }) tells.sqs tells.cqs in
     holds_queues (with_events (made_by past v) taken) later
     (verdict-agrees rules t past seen pick k kept candidate c picked board v (record {
       due = tells.due;

@@ -68,22 +68,41 @@ record Leaves (start : Start) (e : Effects) (h : TableHistory) : Type 0 where
 leaves : (start : Start) (h : TableHistory) → only_adds h ≡ true → Leaves start (effects_of start h) h
 unfolding effects_of
 leaves start [] adds = record {
-  sqs = refl; cqs = refl; no_sq = λ q. refl; no_cq = λ q. refl; no_sq_named = refl; no_cq_named = refl; no_request = refl; not_created = refl; same_settings = refl;
+  sqs = refl;
+  cqs = refl;
+  no_sq = λ q. refl;
+  no_cq = λ q. refl;
+  no_sq_named = refl;
+  no_cq_named = refl;
+  no_request = refl;
+  not_created = refl;
+  same_settings = refl;
 }
 leaves start (RegionAdded Submission address slots ∷ h) adds =
     let l = leaves start h adds in
     record {
       sqs = ap (λ (rs : List Region). rs ++ record { address = address; slots = slots } ∷ []) l.sqs;
-      cqs = l.cqs; no_sq = l.no_sq; no_cq = l.no_cq; no_sq_named = l.no_sq_named; no_cq_named = l.no_cq_named; no_request = l.no_request;
-      not_created = l.not_created; same_settings = l.same_settings;
+      cqs = l.cqs;
+      no_sq = l.no_sq;
+      no_cq = l.no_cq;
+      no_sq_named = l.no_sq_named;
+      no_cq_named = l.no_cq_named;
+      no_request = l.no_request;
+      not_created = l.not_created;
+      same_settings = l.same_settings;
     }
 leaves start (RegionAdded Completion address slots ∷ h) adds =
     let l = leaves start h adds in
     record {
       sqs = l.sqs;
       cqs = ap (λ (rs : List Region). rs ++ record { address = address; slots = slots } ∷ []) l.cqs;
-      no_sq = l.no_sq; no_cq = l.no_cq; no_sq_named = l.no_sq_named; no_cq_named = l.no_cq_named; no_request = l.no_request;
-      not_created = l.not_created; same_settings = l.same_settings;
+      no_sq = l.no_sq;
+      no_cq = l.no_cq;
+      no_sq_named = l.no_sq_named;
+      no_cq_named = l.no_cq_named;
+      no_request = l.no_request;
+      not_created = l.not_created;
+      same_settings = l.same_settings;
     }
 leaves start (EntryApplied entry ∷ h) adds = cc
 leaves start (DeletionFinished qid ∷ h) adds = cc

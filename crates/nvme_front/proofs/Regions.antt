@@ -139,8 +139,17 @@ HoldsSq-pick past seen pick n r s h is enough own = record {
   none_posted = h.none_posted;
 } where
   few : picked (event.Pick seen pick ∷ past) r ≤ unaborted_below past r (length s.got)
-  few = omega (arith, picked-pick past seen pick r own, is, enough, few_picked-left past r s h, ap (λ (z : List Sqe). unaborted_below past r (length z)) h.fetched_is,
-      ap length (sym (waiting_is-drop past r) ∙ h.waiting_is), length-drop (picked past r) (unaborted past r), length-map s.window (λ (c : Candidate). c.index))
+  few = omega (
+    arith,
+    picked-pick past seen pick r own,
+    is,
+    enough,
+    few_picked-left past r s h,
+    ap (λ (z : List Sqe). unaborted_below past r (length z)) h.fetched_is,
+    ap length (sym (waiting_is-drop past r) ∙ h.waiting_is),
+    length-drop (picked past r) (unaborted past r),
+    length-map s.window (λ (c : Candidate). c.index),
+  )
 
 -- a pick of another queue
 pub HoldsSq-pick_other : (past : Past) (seen : ArrayVec Seen) (pick : Pick) (r : ℕ) (s : SqKept) → has_region r (open_sq past pick.qid) ≡ false → HoldsSq past r s
@@ -155,7 +164,7 @@ pub HoldsSq-abort : (past : Past) (r : ℕ) (s : SqKept) (c : Candidate) (rest :
 HoldsSq-abort past r s c rest h oldest =
     let waits : waiting past r ≡ c.index ∷ map (λ (d : Candidate). d.index) rest = h.waiting_is ∙ ap (map (λ (d : Candidate). d.index)) oldest in
     let below : c.index < length (fetched past r) =
-        All-head (λ (d : Candidate). d.index < length (fetched past r)) c rest (All-same (λ (d : Candidate). d.index < length (fetched past r)) (c ∷ rest) s.window (sym oldest) (window-below past r s h)) in
+    All-head (λ (d : Candidate). d.index < length (fetched past r)) c rest (All-same (λ (d : Candidate). d.index < length (fetched past r)) (c ∷ rest) s.window (sym oldest) (window-below past r s h)) in
     record {
       fetched_is = h.fetched_is;
       counted = h.counted;
@@ -247,7 +256,7 @@ regions-io rules late past k queue seen pick board c s can saw io attached =
 pub regions-post : KeepsPost Regions
 regions-post rules late past k c t rest cqe qid free s can =
     let ready : IsReady past k.deletion c t =
-        All-head (IsReady past k.deletion c) t rest (All-same (IsReady past k.deletion c) (t ∷ rest) (k.cq c).ready (sym can.oldest) (s.ready.each c)) in
+    All-head (IsReady past k.deletion c) t rest (All-same (IsReady past k.deletion c) (t ∷ rest) (k.cq c).ready (sym can.oldest) (s.ready.each c)) in
     let there : t.index < length (fetched past t.region) = slice_get_within (fetched past t.region) t.index t.entry ready.entry in
     put_sq-holds (event.Post c t.region t.index cqe ∷ past) k.sq t.region (record (k.sq t.region) { unposted = (k.sq t.region).unposted - 1 })
     (HoldsSq-kept (event.Post c t.region t.index cqe ∷ past) t.region (k.sq t.region) (record (k.sq t.region) { unposted = (k.sq t.region).unposted - 1 }) refl refl refl
@@ -330,10 +339,10 @@ pub regions-admin : KeepsAdmin Regions
 regions-admin rules late past k seen pick picked candidate rest table c board s can saw admin one apply chosen =
     verdict_regions past (event.Pick seen pick ∷ past) (applied_to k picked table) candidate c board (verdict_at rules s.tabled.history candidate) waits
     (picked_regions past k.sq admin_queue seen pick 1 s.regions can.is_open one (omega (arith, can.enough, one))) where
-  waits : (qid : ℕ) (queue : Queue) → verdict_at rules s.tabled.history candidate ≡ BeginDelete qid → open_sq past qid ≡ Some queue
-      → waiting past queue.region ≡ map (λ (d : Candidate). d.index) ((applied_to k picked table).sq queue.region).window
-  waits qid queue begins is_open =
-      let apart : 0 ≡ queue.region → ⊥ = λ e. not_admin_queue rules s.tabled.history candidate.entry qid begins
+      waits : (qid : ℕ) (queue : Queue) → verdict_at rules s.tabled.history candidate ≡ BeginDelete qid → open_sq past qid ≡ Some queue
+          → waiting past queue.region ≡ map (λ (d : Candidate). d.index) ((applied_to k picked table).sq queue.region).window
+      waits qid queue begins is_open =
+          let apart : 0 ≡ queue.region → ⊥ = λ e. not_admin_queue rules s.tabled.history candidate.entry qid begins
           (one_queue past k qid pick.qid queue admin_queue s.queues is_open can.is_open (sym e) ∙ admin) in
-      (s.regions queue.region).waiting_is
-      ∙ ap (λ (z : SqKept). map (λ (d : Candidate). d.index) z.window) (sym (put_sq-other k.sq 0 (picked_sq (k.sq 0) 1) queue.region apart))
+          (s.regions queue.region).waiting_is
+          ∙ ap (λ (z : SqKept). map (λ (d : Candidate). d.index) z.window) (sym (put_sq-other k.sq 0 (picked_sq (k.sq 0) 1) queue.region apart))

@@ -46,11 +46,11 @@ served-fetch past r index entry fresh few i =
     let later = served-or_waits (event.Fetch r index entry ∷ past) r i in
     let longer : length (fetched (event.Fetch r index entry ∷ past) r) ≡ n + 1 = ap length (fetched-fetch past r index entry) ∙ length_push (fetched past r) entry in
     let bound : one_if (nat_lt i (length (fetched (event.Fetch r index entry ∷ past) r))) ≡ one_if (nat_lt i n) + one_if (n == i) =
-        ap (λ (z : ℕ). one_if (nat_lt i z)) longer ∙ below-more i n in
+    ap (λ (z : ℕ). one_if (nat_lt i z)) longer ∙ below-more i n in
     let one : times_among i (n ∷ []) ≡ one_if (n == i) = sum_by-cons (λ (j : ℕ). one_if (j == i)) n [] ∙ omega arith in
     let more : times_among i (waiting (event.Fetch r index entry ∷ past) r) ≡ times_among i (waiting past r) + one_if (n == i) =
-        ap (times_among i) (waiting-fetch past r index entry fresh few) ∙ sum_by-append (λ (j : ℕ). one_if (j == i)) (waiting past r) (n ∷ [])
-        ∙ ap (λ (z : ℕ). times_among i (waiting past r) + z) one in
+    ap (times_among i) (waiting-fetch past r index entry fresh few) ∙ sum_by-append (λ (j : ℕ). one_if (j == i)) (waiting past r) (n ∷ [])
+    ∙ ap (λ (z : ℕ). times_among i (waiting past r) + z) one in
     one_if-same (is_served (event.Fetch r index entry ∷ past) r i) (is_served past r i)
     (omega (arith, later, bound, more, served-or_waits past r i))
 
@@ -58,23 +58,39 @@ served-fetch past r index entry fresh few i =
 pub served-pick : (past : Past) (seen : ArrayVec Seen) (pick : Pick) (r : ℕ) → has_region r (open_sq past pick.qid) ≡ true → (i : ℕ)
     → one_if (is_served (event.Pick seen pick ∷ past) r i) ≡ one_if (is_served past r i) + times_among i (take pick.n (waiting past r))
 served-pick past seen pick r own i =
-    omega (arith, served-or_waits (event.Pick seen pick ∷ past) r i, served-or_waits past r i, ap (times_among i) (waiting-pick past seen pick r own),
-    sum_by-take-drop (λ (j : ℕ). one_if (j == i)) (waiting past r) pick.n)
+    omega (
+      arith,
+      served-or_waits (event.Pick seen pick ∷ past) r i,
+      served-or_waits past r i,
+      ap (times_among i) (waiting-pick past seen pick r own),
+      sum_by-take-drop (λ (j : ℕ). one_if (j == i)) (waiting past r) pick.n,
+    )
 
 -- an abort serves the oldest place that waits
 pub served-abort : (past : Past) (r c : ℕ) (rest : List ℕ) → waiting past r ≡ c ∷ rest → (i : ℕ)
     → one_if (is_served (event.Abort r c ∷ past) r i) ≡ one_if (is_served past r i) + one_if (c == i)
 served-abort past r c rest oldest i =
-    omega (arith, served-or_waits (event.Abort r c ∷ past) r i, served-or_waits past r i, ap (times_among i) (waiting-abort past r c rest oldest),
-    ap (times_among i) oldest, sum_by-cons (λ (j : ℕ). one_if (j == i)) c rest)
+    omega (
+      arith,
+      served-or_waits (event.Abort r c ∷ past) r i,
+      served-or_waits past r i,
+      ap (times_among i) (waiting-abort past r c rest oldest),
+      ap (times_among i) oldest,
+      sum_by-cons (λ (j : ℕ). one_if (j == i)) c rest,
+    )
 
 -- ---- which fetched places were picked, and which wait
 -- after a pick of the region's queue the first places that waited wait no more
 pub waits-pick : (past : Past) (seen : ArrayVec Seen) (pick : Pick) (r : ℕ) → has_region r (open_sq past pick.qid) ≡ true → (i : ℕ) → i < length (fetched past r)
     → one_if (is_waiting (fate_of past r i)) ≡ one_if (is_waiting (fate_of (event.Pick seen pick ∷ past) r i)) + times_among i (take pick.n (waiting past r))
 waits-pick past seen pick r own i lt =
-    omega (arith, waits-times past r i lt, waits-times (event.Pick seen pick ∷ past) r i lt, ap (times_among i) (waiting-pick past seen pick r own),
-    sum_by-take-drop (λ (j : ℕ). one_if (j == i)) (waiting past r) pick.n)
+    omega (
+      arith,
+      waits-times past r i lt,
+      waits-times (event.Pick seen pick ∷ past) r i lt,
+      ap (times_among i) (waiting-pick past seen pick r own),
+      sum_by-take-drop (λ (j : ℕ). one_if (j == i)) (waiting past r) pick.n,
+    )
 
 -- the first places that wait are picked
 pub is_picked-pick : (past : Past) (seen : ArrayVec Seen) (pick : Pick) (r : ℕ) → has_region r (open_sq past pick.qid) ≡ true → (i : ℕ) → i < length (fetched past r)
@@ -86,8 +102,14 @@ is_picked-pick past seen pick r own i lt =
 pub waits-abort : (past : Past) (r c : ℕ) (rest : List ℕ) → waiting past r ≡ c ∷ rest → (i : ℕ) → i < length (fetched past r)
     → one_if (is_waiting (fate_of past r i)) ≡ one_if (is_waiting (fate_of (event.Abort r c ∷ past) r i)) + one_if (c == i)
 waits-abort past r c rest oldest i lt =
-    omega (arith, waits-times past r i lt, waits-times (event.Abort r c ∷ past) r i lt, ap (times_among i) (waiting-abort past r c rest oldest),
-    ap (times_among i) oldest, sum_by-cons (λ (j : ℕ). one_if (j == i)) c rest)
+    omega (
+      arith,
+      waits-times past r i lt,
+      waits-times (event.Abort r c ∷ past) r i lt,
+      ap (times_among i) (waiting-abort past r c rest oldest),
+      ap (times_among i) oldest,
+      sum_by-cons (λ (j : ℕ). one_if (j == i)) c rest,
+    )
 
 -- either of two tests counts as both, where at most one passes
 either-count : (b a : Bool) → one_if b + one_if a ≤ 1 → one_if (b || a) ≡ one_if b + one_if a
@@ -102,7 +124,7 @@ is_picked-abort past r c rest oldest i lt =
     let waits = waits-abort past r c rest oldest i lt in
     let before = one_fate_of past r i in
     let named : one_if (is_aborted (event.Abort r c ∷ past) r i) ≡ one_if (c == i) + one_if (is_aborted past r i) =
-        ap one_if (is_aborted-abort past r c i) ∙ either-count (c == i) (is_aborted past r i) (omega (arith, waits, before)) in
+    ap one_if (is_aborted-abort past r c i) ∙ either-count (c == i) (is_aborted past r i) (omega (arith, waits, before)) in
     one_if-same (is_picked (fate_of (event.Abort r c ∷ past) r i)) (is_picked (fate_of past r i))
     (omega (arith, waits, before, named, one_fate_of (event.Abort r c ∷ past) r i))
 
@@ -121,13 +143,13 @@ is_aborted-aborts r (i ∷ is) past j =
     is_aborted-aborts r is (event.Abort r i ∷ past) j
     ∙ ap (λ (z : Bool). list_any (λ (k : ℕ). k == j) is || z) (is_aborted-abort past r i j)
     ∙ moved (i == j) (list_any (λ (k : ℕ). k == j) is) (is_aborted past r j) where
-  moved : (here later before : Bool) → (later || (here || before)) ≡ ((here || later) || before)
-  moved true true before = refl
-  moved true false before = refl
-  moved false later before = or_assoc later before where
-    or_assoc : (later before : Bool) → (later || before) ≡ ((false || later) || before)
-    or_assoc true before = refl
-    or_assoc false before = refl
+      moved : (here later before : Bool) → (later || (here || before)) ≡ ((here || later) || before)
+      moved true true before = refl
+      moved true false before = refl
+      moved false later before = or_assoc later before where
+        or_assoc : (later before : Bool) → (later || before) ≡ ((false || later) || before)
+        or_assoc true before = refl
+        or_assoc false before = refl
 
 -- and no place of another region
 pub is_aborted-aborts_other : (region : ℕ) (is : List ℕ) (past : Past) (r j : ℕ) → (region ≡ r → ⊥)
@@ -144,9 +166,14 @@ waiting-aborts (i ∷ is) past r h = waiting-aborts is (event.Abort r i ∷ past
 pub served-aborts : (past : Past) (r : ℕ) (is : List ℕ) → waiting past r ≡ is → (i : ℕ)
     → one_if (is_served (with_events (aborts_of r is) past) r i) ≡ one_if (is_served past r i) + times_among i is
 served-aborts past r is h i =
-    omega (arith, served-or_waits (with_events (aborts_of r is) past) r i, ap (times_among i) (waiting-aborts is past r h),
-    ap (λ (z : List Sqe). one_if (nat_lt i (length z))) (aborts-leave (λ (p : Past). fetched p r) (λ p q j. refl) r is past),
-    served-or_waits past r i, ap (times_among i) h)
+    omega (
+      arith,
+      served-or_waits (with_events (aborts_of r is) past) r i,
+      ap (times_among i) (waiting-aborts is past r h),
+      ap (λ (z : List Sqe). one_if (nat_lt i (length z))) (aborts-leave (λ (p : Past). fetched p r) (λ p q j. refl) r is past),
+      served-or_waits past r i,
+      ap (times_among i) h,
+    )
 
 -- aborts pick no place
 pub is_picked-aborts : (is : List ℕ) (past : Past) (r : ℕ) → waiting past r ≡ is → (i : ℕ) → i < length (fetched past r)

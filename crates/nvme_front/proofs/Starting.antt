@@ -95,7 +95,10 @@ module _ (rules : FrontRules) (late : Bool) (k : Kept) (f : IsFresh rules late k
     | inr past ↦
         let other : (r == 0) ≡ false = ne_eqb r 0 (λ z. omega (arith, z)) in
         subst (λ (s : SqKept). IsFreshSq r s) (sym (f.no_sqs r past)) (record {
-          got = refl; window = refl; fetched = refl; unposted = refl;
+          got = refl;
+          window = refl;
+          fetched = refl;
+          unposted = refl;
           queue = sym (λ j. if other j then Some (record { qid = 0; cq_region = 0 }) else None);
         })
   ]

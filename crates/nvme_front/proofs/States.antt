@@ -1,27 +1,24 @@
 -- What a front's lists say of what it keeps, from step to step.
-use Rattle.std.proofs.Common.{◌≡◌, ◌≢◌, ℕ, ◌+◌, ◌<◌, ◌≤◌, ◌==◌, Bool, true, false, List, [], ◌∷◌, ◌++◌, map, length, set, get_or, Option, Some, None, refl, sym, ap, subst, ◌∙◌, arith, append_assoc, inl, inr}
-use Rattle.std.specs.Prelude.{reverse, slice_set, slice_index_or, if◌then◌else◌}
-use Rattle.std.proofs.lemmas.List.{append-nil, length-map, length-set, length_push, map-set, get_or-map, get_or-set_same, get_or-set_other, reverse-append}
-use Rattle.std.proofs.lemmas.Bool.{ne_eqb}
+use Rattle.std.proofs.Common.{◌≡◌, ℕ, ◌+◌, ◌<◌, ◌≤◌, ◌==◌, Bool, List, [], ◌∷◌, ◌++◌, map, length, set, get_or, refl, sym, ap, subst, ◌∙◌, arith, append_assoc, inl, inr}
+use Rattle.std.specs.Prelude.{reverse, if◌then◌else◌}
+use Rattle.std.proofs.lemmas.List.{append-nil, length-map, length_push, map-set, get_or-map, get_or-set_same, get_or-set_other, reverse-append}
 use Rattle.std.proofs.lemmas.Bool.Decides.{eqb_tells}
 use Rattle.std.proofs.lemmas.Simd.{map-map}
 use Rattle.std.proofs.Math.Seq.{map-set_same}
-use mathlib.Core.List.{IsPrefix}
 use Rattle.nvme_lane.proofs.Prefixes.{IsPrefix-trans}
 use Rattle.nvme_lane.specs.View.{GetView, PutView, RingName}
 use Rattle.nvme_entry.specs.declared.submission.Sqe.{Sqe}
 use Rattle.nvme_entry.specs.declared.completion.Cqe.{Cqe}
-use Rattle.nvme_admin.specs.History.{TableStep, TableHistory, RegionAdded, Submission, Completion}
+use Rattle.nvme_admin.specs.History.{TableStep, RegionAdded, Submission, Completion}
 use Rattle.nvme_admin.specs.declared.region.Region.{Region}
-use Rattle.nvme_admin.specs.declared.bounds.TheConstants.{MAX_REGIONS}
 use Rattle.nvme_front.specs.declared.event.Event.{Event}
 use Rattle.nvme_front.specs.declared.region.SqRegion.{SqRegion}
 use Rattle.nvme_front.specs.declared.region.CqRegion.{CqRegion}
 use Rattle.nvme_front.specs.declared.state.FrontState.{FrontState}
 use Rattle.nvme_front.specs.Limits.{max_ready}
-use Rattle.nvme_front.specs.Rules.{FrontRules, Past}
-use Rattle.nvme_front.specs.Kept.{SqKept, CqKept, no_sq, no_cq, sq_kept, cq_kept, sq_in, cq_in, put_sq, put_cq, gets_of, puts_of, sq_steps, cq_steps, kept_of, rules_of, past_of, Kept}
-use Rattle.nvme_front.specs.Standing.{Stands, IsKept, IsRoomy, IsFresh, window_room, ready_room, sq_region, cq_region}
+use Rattle.nvme_front.specs.Rules.{FrontRules}
+use Rattle.nvme_front.specs.Kept.{no_sq, no_cq, sq_kept, cq_kept, sq_in, cq_in, put_sq, put_cq, gets_of, puts_of, sq_steps, cq_steps, kept_of, rules_of, past_of}
+use Rattle.nvme_front.specs.Standing.{Stands, IsKept, IsRoomy, window_room, ready_room, sq_region, cq_region}
 use Rattle.nvme_front.specs.Goes.{Goes, IsSame, HasAdmin, get_place, put_place}
 use Rattle.nvme_front.specs.Steps.{with_events}
 

@@ -146,7 +146,7 @@ module _ (a b c : FrontState) (admin : HasAdmin a) (kept : IsKept c) (ab : Goes 
 -- the log is full, or too full for an admin pick
 pub pick_error_means : (c d : FrontState) (e : FrontError) → HasAdmin c → IsKept d
     → (e ≡ LogFull → (d.config.max_events < length d.log.items + 1)
-        ⊎ (IsSame c d × (d.config.max_events < length d.log.items + admin_events) × IfSome (next_pick c) (λ (pick : Pick). pick.qid ≡ 0) × IsSome (next_pick c)))
+    ⊎ (IsSame c d × (d.config.max_events < length d.log.items + admin_events) × IfSome (next_pick c) (λ (pick : Pick). pick.qid ≡ 0) × IsSome (next_pick c)))
     → ((e ≡ LogFull) ⊎ (e ≡ NoMemory)) → ErrorMeans e (view_of d)
 pick_error_means c d NoMemory admin kept full one = tt
 pick_error_means c d LogFull admin kept full one = elim (full refl) [

@@ -23,7 +23,6 @@ use Rattle.nvme_front.specs.Limits.{max_outstanding, admin_events}
 use Rattle.nvme_front.specs.Queues.{Queue, Deletion, open_sq, pending}
 use Rattle.nvme_front.specs.Places.{waiting}
 use Rattle.nvme_front.specs.Histories.{arbitration_of}
-use Rattle.nvme_front.specs.Completions.{outstanding}
 use Rattle.nvme_front.specs.Laws.{as_open}
 use Rattle.nvme_front.specs.Kept.{CqKept, kept_of, rules_of, past_of, sq_in}
 use Rattle.nvme_front.specs.Standing.{Stands, IsKept, on_board, as_deletion}
@@ -94,15 +93,16 @@ module _ (s : FrontState) (h : Stands (rules_of s) s.late (past_of s) (kept_of s
       let it = open_entry (sq_of s.table q) queue (sym (h.queues.sqs q) ∙ is) in
       let taken = subst (λ (o : Option SqEntry). IsTaken s o) it.there scanned in
       let one : IsFullSq ((kept_of s).sq queue.region) ⊎ ((kept_of s).sq queue.region).known ≡ [] =
-          subst (λ (r : ℕ). IsFullSq ((kept_of s).sq r) ⊎ ((kept_of s).sq r).known ≡ []) it.region (taken it.is_open) in
+      subst (λ (r : ℕ). IsFullSq ((kept_of s).sq r) ⊎ ((kept_of s).sq r).known ≡ []) it.region (taken it.is_open) in
       ⊎_elim (λ full. absurd (full.1 none)) (λ known. known) one
 
   -- where no command waits on the board, and each queue was scanned, nothing waits for the front
   waits_for_nothing : IsIdle (seen_of s.board.queues) → ((q : ℕ) → q ≤ highest_qid → IsScanned s q) → (q : ℕ) (queue : Queue) → open_sq (past_of s) q ≡ Some queue
       → (waiting (past_of s) queue.region ≡ []) × (known_in (view_of s) queue.region ≡ [])
-  waits_for_nothing none scanned q queue is =
-      (idle_waiting none q queue is,
-      known_in-kept s queue.region ∙ scanned_known q queue is (idle_window none q queue is) (scanned q (h.queues.few q queue is)))
+  waits_for_nothing none scanned q queue is = (
+    idle_waiting none q queue is,
+    known_in-kept s queue.region ∙ scanned_known q queue is (idle_window none q queue is) (scanned q (h.queues.few q queue is)),
+  )
 
   -- the pick that the board makes next is the lawful one
   next_is : next_lawful (view_of s) ≡ next_pick s

@@ -103,19 +103,20 @@ times-upto test i (suc n) =
     ∙ sum_by-append (λ (j : ℕ). one_if (j == i)) (filter test (upto n)) (filter test (n ∷ []))
     ∙ ap (λ (z : ℕ). z + times_among i (filter test (n ∷ []))) (times-upto test i n)
     ∙ last (cases_order i n) where
-  passes : (b : Bool) → test n ≡ b → times_among i (filter test (n ∷ [])) ≡ one_if (n == i && b)
-  passes true e = rw e (both (n == i)) where
-    both : (b : Bool) → 0 + one_if b ≡ one_if (b && true)
-    both true = refl
-    both false = refl
-  passes false e = rw e (none (n == i)) where
-    none : (b : Bool) → 0 ≡ one_if (b && false)
-    none true = refl
-    none false = refl
-  last : (i ≡ n) ⊎ ((i < n) ⊎ (n < i)) → one_if (nat_lt i n && test i) + times_among i (filter test (n ∷ [])) ≡ one_if (nat_lt i (suc n) && test i)
-  last (inl same) = rw (passes (test n) refl, le-ltb i n (omega (arith, same)), lt-ltb i (suc n) (omega (arith, same)), eq-eqb n i (sym same), same) (omega arith)
-  last (inr (inl below)) = rw (passes (test n) refl, lt-ltb i n below, lt-ltb i (suc n) (omega (arith, below)), ne_eqb n i (λ e. omega (arith, e, below))) (add-zero (one_if (test i)))
-  last (inr (inr above)) = rw (passes (test n) refl, le-ltb i n (omega (arith, above)), le-ltb i (suc n) (omega (arith, above)), ne_eqb n i (λ e. omega (arith, e, above))) refl
+      passes : (b : Bool) → test n ≡ b → times_among i (filter test (n ∷ [])) ≡ one_if (n == i && b)
+      passes true e = rw e (both (n == i)) where
+        both : (b : Bool) → 0 + one_if b ≡ one_if (b && true)
+        both true = refl
+        both false = refl
+      passes false e = rw e (none (n == i)) where
+        none : (b : Bool) → 0 ≡ one_if (b && false)
+        none true = refl
+        none false = refl
+
+      last : (i ≡ n) ⊎ ((i < n) ⊎ (n < i)) → one_if (nat_lt i n && test i) + times_among i (filter test (n ∷ [])) ≡ one_if (nat_lt i (suc n) && test i)
+      last (inl same) = rw (passes (test n) refl, le-ltb i n (omega (arith, same)), lt-ltb i (suc n) (omega (arith, same)), eq-eqb n i (sym same), same) (omega arith)
+      last (inr (inl below)) = rw (passes (test n) refl, lt-ltb i n below, lt-ltb i (suc n) (omega (arith, below)), ne_eqb n i (λ e. omega (arith, e, below))) (add-zero (one_if (test i)))
+      last (inr (inr above)) = rw (passes (test n) refl, le-ltb i n (omega (arith, above)), le-ltb i (suc n) (omega (arith, above)), ne_eqb n i (λ e. omega (arith, e, above))) refl
 
 -- a place stands once among those that wait, where it is one of them
 pub times-waiting : (past : Past) (r i : ℕ) → times_among i (waiting past r) ≡ one_if (nat_lt i (length (fetched past r)) && is_waiting (fate_of past r i))
@@ -141,6 +142,7 @@ contains-times i [] h = absurd (omega (arith, h))
 contains-times i (x ∷ xs) h = step (eqb_tells x i) (contains-times i xs) where
   later : Contains xs i → Contains (x ∷ xs) i
   later c = (suc c.0, omega (arith, c.1), c.2)
+
   step : (((x == i) ≡ true) × (x ≡ i)) ⊎ (((x == i) ≡ false) × (x ≡ i → ⊥)) → (1 ≤ times_among i xs → Contains xs i) → Contains (x ∷ xs) i
   step (inl here) k = (zero, omega arith, here.1)
   step (inr apart) k =
@@ -281,9 +283,9 @@ unaborted-abort past r i rest oldest =
     ∙ takes_out (picked past r) i (unaborted past r) rest
     (few (nat_lt i (length (fetched past r)) && not (is_aborted past r i)) (times-upto (λ (j : ℕ). not (is_aborted past r j)) i (length (fetched past r))))
     (sym (waiting_is-drop past r) ∙ oldest) where
-  few : (b : Bool) → times_among i (unaborted past r) ≡ one_if b → times_among i (unaborted past r) ≤ 1
-  few true e = omega (arith, e)
-  few false e = omega (arith, e)
+      few : (b : Bool) → times_among i (unaborted past r) ≡ one_if b → times_among i (unaborted past r) ≤ 1
+      few true e = omega (arith, e)
+      few false e = omega (arith, e)
 
 -- more places are left than were picked, where one waits
 more_left : (past : Past) (r i : ℕ) (rest : List ℕ) → waiting past r ≡ i ∷ rest → length (take (picked past r) (unaborted past r)) ≡ picked past r

@@ -47,7 +47,9 @@ impl FrontState {
                 class,
             },
         );
-        self.cqs[0].ready.push(candidate.answered(Status::SUCCESS, 0));
+        self.cqs[0]
+            .ready
+            .push(candidate.answered(Status::SUCCESS, 0));
     }
 
     // A completion queue opens. (Create I/O Completion Queue)
@@ -58,7 +60,9 @@ impl FrontState {
         ensures picks { picks_in self.new.log.items ≡ picks_in self.old.log.items }
     {
         note(&mut self.log, Event::OpenCq { qid, region });
-        self.cqs[0].ready.push(candidate.answered(Status::SUCCESS, 0));
+        self.cqs[0]
+            .ready
+            .push(candidate.answered(Status::SUCCESS, 0));
     }
 
     // A completion queue is closed, which was open on a region before. (Delete I/O Completion Queue)
@@ -72,7 +76,9 @@ impl FrontState {
             unreachable!()
         };
         note(&mut self.log, Event::ClosedCq { qid, region });
-        self.cqs[0].ready.push(candidate.answered(Status::SUCCESS, 0));
+        self.cqs[0]
+            .ready
+            .push(candidate.answered(Status::SUCCESS, 0));
     }
 
     // New settings of arbitration are in force. (Arbitration feature)
@@ -84,7 +90,9 @@ impl FrontState {
     {
         self.board.set(settings);
         note(&mut self.log, Event::SetArbitration { settings });
-        self.cqs[0].ready.push(candidate.answered(Status::SUCCESS, 0));
+        self.cqs[0]
+            .ready
+            .push(candidate.answered(Status::SUCCESS, 0));
     }
 
     // The deletion of a submission queue begins: its candidates are aborted. It is answered when it is finished.

@@ -26,7 +26,13 @@ fn execute(region: u8, candidate: Candidate, spaces: &Namespaces) -> Ready
 
 /// Executes the `n` oldest candidates of a window, whose completions are then ready.
 /// (NVM Command Set Specification, Read and Write)
-pub fn execute_oldest(window: &mut Fifo<Candidate>, ready: &mut Fifo<Ready>, region: u8, n: u16, spaces: &Namespaces)
+pub fn execute_oldest(
+    window: &mut Fifo<Candidate>,
+    ready: &mut Fifo<Ready>,
+    region: u8,
+    n: u16,
+    spaces: &Namespaces,
+)
     requires there { n ≤ length window.old.items }
     requires room { length ready.old.items + n ≤ ready.old.room }
     ensures window { window.new ≡ record window.old { items = drop n window.old.items } }
@@ -42,7 +48,12 @@ pub fn execute_oldest(window: &mut Fifo<Candidate>, ready: &mut Fifo<Ready>, reg
 
 /// Aborts all candidates of a window, the oldest first: their completions are then ready.
 /// (Base Specification, Delete I/O Submission Queue)
-pub fn abort_all(window: &mut Fifo<Candidate>, ready: &mut Fifo<Ready>, region: u8, log: &mut Vec<Event>)
+pub fn abort_all(
+    window: &mut Fifo<Candidate>,
+    ready: &mut Fifo<Ready>,
+    region: u8,
+    log: &mut Vec<Event>,
+)
     requires room { length ready.old.items + length window.old.items ≤ ready.old.room }
     requires events { length log.old.items + length window.old.items ≤ vec_capacity log.old }
     ensures window { window.new ≡ record window.old { items = [] } }

@@ -37,7 +37,14 @@ impl FrontState {
         let queue = sq.queue?;
         let sqhd = (sq.fetched % u32::from(sq.end.slots())) as u16;
         let phase = phase_of(cq.posted, cq.end.slots());
-        Some(complete(&ready.entry, queue.qid, sqhd, phase, ready.status, ready.dw0))
+        Some(complete(
+            &ready.entry,
+            queue.qid,
+            sqhd,
+            phase,
+            ready.status,
+            ready.dw0,
+        ))
     }
 
     // Posts the completion of a completion region that became ready first, where there is one and the ring takes it.

@@ -72,4 +72,4 @@ returns-clause-kept c =
     c.note.ensures.items c.abort_all.ensures.log c.close.ensures.closed refl
     (record { config = refl; alloc = refl; late = refl; table = refl; outstanding = refl })
     (goes_deleting _ _ _ _ _ _ _ _ _ _ _ _ _ c.index_mut-sq.ensures.value c.abort_all.ensures.window refl c.index_mut-cq.ensures.value c.abort_all.ensures.ready refl
-        c.note.ensures.items c.abort_all.ensures.log (record { config = refl; alloc = refl; late = refl; table = refl; outstanding = refl }))
+    c.note.ensures.items c.abort_all.ensures.log (record { config = refl; alloc = refl; late = refl; table = refl; outstanding = refl }))

@@ -43,7 +43,14 @@ returns-in_default-fetch-clause-goes c =
     Goes-same c.args.self.now _ (record {
       log = c.make_room.ensures.same;
       sqs = put_back c.args.self.now.sqs.items c.from-r.result c.index_mut.result.now c.fetch.new.self c.index_mut.ensures.value c.in_default-fetch.ensures.none.0;
-      cqs = refl; board = refl; table = refl; outstanding = refl; deletion = refl; late = refl; config = refl; alloc = refl;
+      cqs = refl;
+      board = refl;
+      table = refl;
+      outstanding = refl;
+      deletion = refl;
+      late = refl;
+      config = refl;
+      alloc = refl;
     })
 
 pub returns-clause-kept : goal.returns-clause-kept
@@ -70,13 +77,15 @@ returns-clause-goes c =
 pub returns-clause-picks : goal.returns-clause-picks
 returns-clause-picks c = picks-noted _ _ _ _ c.make_room.ensures.same c.note.ensures.items refl
 
-
 pub returns-then-queue-clause-still : goal.returns-then-queue-clause-still
-returns-then-queue-clause-still c = λ _. (IsSame-refl c.args.self.now, elim c.then-queue.branch [
+returns-then-queue-clause-still c = λ _. (
+  IsSame-refl c.args.self.now,
+  elim c.then-queue.branch [
     | then-queue-via-then-queue w ↦ taken_closing c.args.self.now _ c.in-Some.queue (sym c.sq.ensures ∙ c.in-Some.is) w.if-queue.true
     | then-queue-via-else-queue+then-is_full w ↦
         let in_table = sym c.sq.ensures ∙ c.in-Some.is in
         taken_full c.args.self.now _ c.in-Some.queue w.index.result.now in_table
         (region_there c.args.self.now c.requires.kept c.requires.admin c.args.qid c.in-Some.queue in_table w.if-queue.false)
         (rw c.from-r.ensures at w.index.ensures) (sym w.is_full.ensures.value ∙ w.if-is_full.true) (w.is_full.ensures.some w.if-is_full.true)
-  ])
+  ],
+)

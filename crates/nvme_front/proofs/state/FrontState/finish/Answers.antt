@@ -14,7 +14,7 @@ index-requires c =
 pub returns-then-index-ne0-clause-still : goal.returns-then-index-ne0-clause-still
 returns-then-index-ne0-clause-still c = λ _.
     let same = region_unposted c.args.self.now c.args.deletion.region c.index.result.now (deletion_there c.args.self.now c.args.deletion c.requires.kept c.requires.admin c.requires.pending)
-        (rw c.from.ensures at c.index.ensures) in
+    (rw c.from.ensures at c.index.ensures) in
     (IsSame-refl c.args.self.now, λ none. c.if-index-ne0.true (sym same ∙ none))
 
 pub finish_delete-requires : goal.finish_delete-requires

@@ -10,14 +10,14 @@ pub returns-then-any : goal.returns-then-any
 returns-then-any c =
     is_address-sq c.args.self.now c.args.address _
     (any_from_yields_List (λ (x : SqRegion). x.end.address == c.args.address) _ _ c.any.result c.any.ensures.ran
-        (YieldsList-from_slice c.args.self.now.sqs.items cc) (λ x b q k. search (rules, tests)))
+    (YieldsList-from_slice c.args.self.now.sqs.items cc) (λ x b q k. search (rules, tests)))
     c.if-any.true
 
 pub returns-else-any : goal.returns-else-any
 returns-else-any c =
     is_address-cq c.args.self.now c.args.address _ _
     (any_from_yields_List (λ (x : SqRegion). x.end.address == c.args.address) _ _ c.any.result c.any.ensures.ran
-        (YieldsList-from_slice c.args.self.now.sqs.items cc) (λ x b q k. search (rules, tests)))
+    (YieldsList-from_slice c.args.self.now.sqs.items cc) (λ x b q k. search (rules, tests)))
     c.if-any.false
     (any_from_yields_List (λ (x : CqRegion). x.end.address == c.args.address) _ _ c.any-else-any.result c.any-else-any.ensures.ran
-        (YieldsList-from_slice c.args.self.now.cqs.items cc) (λ x b q k. search (rules, tests)))
+    (YieldsList-from_slice c.args.self.now.cqs.items cc) (λ x b q k. search (rules, tests)))

@@ -18,8 +18,8 @@ returns-then-none_waits c =
       | else-self-eq0 w ↦ and_else c.if-is_none.value (list_all no_window s.sqs.items) c.if-self-eq0.value w.if-self-eq0.false w.value-is
     ] in
     let three : c.none_ready.result ≡ (c.if-self-eq0.value && list_all no_ready s.cqs.items) =
-        and_then c.if-self-eq0.value (list_all no_ready s.cqs.items) c.none_ready.result c.if-none_waits.true
-        (c.none_ready.ensures ∙ ap (list_all no_ready) c.deref-then-none_waits.ensures.value) in
+    and_then c.if-self-eq0.value (list_all no_ready s.cqs.items) c.none_ready.result c.if-none_waits.true
+    (c.none_ready.ensures ∙ ap (list_all no_ready) c.deref-then-none_waits.ensures.value) in
     clear_answer s c.requires.kept c.is_none.result c.is_none.ensures c.none_ready.result
     (three ∙ ap (λ (b : Bool). b && list_all no_ready s.cqs.items) (two ∙ ap (λ (b : Bool). b && list_all no_window s.sqs.items) one))
 
@@ -36,6 +36,6 @@ returns-else-none_waits c =
       | else-self-eq0 w ↦ and_else c.if-is_none.value (list_all no_window s.sqs.items) c.if-self-eq0.value w.if-self-eq0.false w.value-is
     ] in
     let three : c.if-self-eq0.value ≡ (c.if-self-eq0.value && list_all no_ready s.cqs.items) =
-        and_else c.if-self-eq0.value (list_all no_ready s.cqs.items) c.if-self-eq0.value c.if-none_waits.false refl in
+    and_else c.if-self-eq0.value (list_all no_ready s.cqs.items) c.if-self-eq0.value c.if-none_waits.false refl in
     clear_answer s c.requires.kept c.is_none.result c.is_none.ensures c.if-self-eq0.value
     (three ∙ ap (λ (b : Bool). b && list_all no_ready s.cqs.items) (two ∙ ap (λ (b : Bool). b && list_all no_window s.sqs.items) one))

@@ -37,4 +37,4 @@ returns-clause-kept c =
     c.index_mut.ensures.value refl c.open.ensures.opened c.index_mut-2.ensures.value c.push.ensures c.answered.ensures refl c.note.ensures.items refl
     (record { config = refl; alloc = refl; late = refl; table = refl; outstanding = refl })
     (goes_readied _ _ _ 0 _ _ _ c.index_mut-2.ensures.value c.push.ensures refl c.note.ensures.items refl refl refl
-        (places-set _ _ _ _ c.index_mut.ensures.value refl) (windows-set _ _ _ _ c.index_mut.ensures.value refl))
+    (places-set _ _ _ _ c.index_mut.ensures.value refl) (windows-set _ _ _ _ c.index_mut.ensures.value refl))

@@ -17,12 +17,12 @@ returns-in_default-clause-still c = λ _.
 pub completion_of-requires-clause-sq_there : goal.completion_of-requires-clause-sq_there
 completion_of-requires-clause-sq_there c =
     (front_foremost c.args.self.now c.args.c c.index-region.result.now c.in-Some.ready c.requires.kept c.requires.admin c.requires.there (rw c.from.ensures at c.index-region.ensures)
-        (sym c.front.ensures ∙ c.in-Some.is)).there
+    (sym c.front.ensures ∙ c.in-Some.is)).there
 
 pub unreachable-requires : goal.unreachable-requires
 unreachable-requires c =
     let f = front_foremost c.args.self.now c.args.c c.index-region.result.now c.in-Some.ready c.requires.kept c.requires.admin c.requires.there (rw c.from.ensures at c.index-region.ensures)
-        (sym c.front.ensures ∙ c.in-Some.is) in
+    (sym c.front.ensures ∙ c.in-Some.is) in
     cc (f.attached, c.in_default-completion_of.ensures.none)
 
 pub post-requires : goal.post-requires
@@ -63,13 +63,13 @@ returns-then-not-post-clause-goes c =
 pub overflow_sub-sq : goal.overflow_sub-sq
 overflow_sub-sq c =
     let f = front_foremost c.args.self.now c.args.c c.index-region.result.now c.in-Some.ready c.requires.kept c.requires.admin c.requires.there (rw c.from.ensures at c.index-region.ensures)
-        (sym c.front.ensures ∙ c.in-Some.is) in
+    (sym c.front.ensures ∙ c.in-Some.is) in
     front_unposted c.args.self.now c.args.c c.in-Some.ready c.index_mut-sq.result.now f (rw c.from-3.ensures at c.index_mut-sq.ensures.value)
 
 pub overflow_sub-self : goal.overflow_sub-self
 overflow_sub-self c =
     let f = front_foremost c.args.self.now c.args.c c.index-region.result.now c.in-Some.ready c.requires.kept c.requires.admin c.requires.there (rw c.from.ensures at c.index-region.ensures)
-        (sym c.front.ensures ∙ c.in-Some.is) in
+    (sym c.front.ensures ∙ c.in-Some.is) in
     let few = f.outstanding in
     elim c.if-aborted.branch [
       | then-aborted w ↦ omega (arith, w.self-is)

@@ -1,4 +1,4 @@
-use Rattle.std.proofs.Common.{◌≡◌, Bool, true, false, Ok, Err, ap, sym, ◌∙◌}
+use Rattle.std.proofs.Common.{◌≡◌, true, Ok, Err, ap, ◌∙◌}
 use denote.Enum.Bare.{sameb}
 use Rattle.nvme_front.specs.contracts.front.Step.{the_type}
 use Rattle.nvme_front.specs.declared.front.Step.{Step}
