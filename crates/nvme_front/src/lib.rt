@@ -1,5 +1,5 @@
-//! The front of an NVMe controller: what its log says, and when a log accounts for what the hosts submitted and
-//! collected. The definitions stand in `specs/`; the front itself comes with the next layer.
+//! The front of an NVMe controller: windows, picks, deletions and posts, its log, and the settling with its hosts. What
+//! the log says, and when it accounts for what the hosts submitted and collected, stands in `specs/`.
 #![tactic(auto)]
 
 mod adding;

@@ -1,0 +1,159 @@
+// Worked examples.
+use crate::commands::{admin, get_arbitration, read};
+use crate::events::{fetched, picks, posted, status_of, was_closed, was_opened};
+use crate::rig::{Rig, config};
+use nvme_entry::{Sqe, Status};
+use nvme_front::Settled;
+use std::alloc::Global;
+use std::process::Abort;
+use std::test::*;
+
+// The bytes that the host of the two slots collects.
+const TWO_SLOTS: [[u8; 16]; 4] = [
+    [1, 0, 1, 3, 0, 0, 0, 0, 4, 0, 0, 0, 0, 0, 1, 0],
+    [1, 0, 1, 3, 0, 0, 0, 0, 4, 0, 0, 0, 1, 0, 1, 0],
+    [1, 0, 1, 3, 0, 0, 0, 0, 4, 0, 0, 0, 2, 0, 0, 0],
+    [1, 0, 1, 3, 0, 0, 0, 0, 4, 0, 0, 0, 3, 0, 0, 0],
+];
+
+// Settles a rig that is at rest.
+fn settled(alloc: Global, rig: Rig) -> Result<Settled, Fail> {
+    Ok(rig.settle(alloc).map_err(|refused| refused.0)?)
+}
+
+// How many entries each host submitted, and how many completions each collected.
+fn counts(alloc: Global, settled: &Settled) -> Result<(Vec<usize>, Vec<usize>), Fail> {
+    let sent = settled.sent.iter().map(|sent| sent.count).collect(alloc)?;
+    let collected = settled
+        .collected
+        .iter()
+        .map(|items| items.len())
+        .collect(alloc)?;
+    Ok((sent, collected))
+}
+
+#[test]
+fn phase_wraps_in_two_slots(rt: HostRuntime) -> Result<(), Fail> {
+    let script = [
+        get_arbitration(0),
+        get_arbitration(1),
+        get_arbitration(2),
+        get_arbitration(3),
+    ];
+    let mut rig = Rig::new(rt.alloc(), config(0x0301_0001, 1000)?, 8, 2, &script)?;
+    assert!(rt; rig.is_clear());
+    assert_eq!(rt; rig.submit(0, 4), 4);
+    for taken in 0..4 {
+        rig.run()?;
+        assert_eq!(rt; rig.is_clear(), taken == 3, "with {taken} taken");
+        // The ring holds one completion, and so it is full.
+        assert_eq!(rt; rig.collect(0, 2)?, 1, "with {taken} taken");
+    }
+    let settled = settled(rt.alloc(), rig)?;
+    assert_eq!(rt; settled.collected.len(), 1);
+    assert_eq!(rt; settled.collected[0].len(), 4);
+    for (done, want) in settled.collected[0].iter().zip(TWO_SLOTS.iter()) {
+        assert_eq!(rt; done.to_bytes(), *want);
+    }
+    Ok(())
+}
+
+// The rig of the examples of a deletion: bursts of one, region 1 with reads, and an I/O completion region. Three of the
+// reads are submitted.
+fn deletion_rig(alloc: Global, script: &[Sqe], reads: &[Sqe]) -> Result<Rig, Fail> {
+    let mut rig = Rig::new(alloc, config(0, 1000)?, 8, 8, script)?;
+    rig.add_sq(alloc, 0x2000, 8, reads)?;
+    rig.add_cq(alloc, 0x9000, 64)?;
+    let _put = rig.submit(1, 3);
+    Ok(rig)
+}
+
+// Turns and collects, and sees that region 1 is served from the creation of its queue to the end of its deletion.
+fn run_watched(rt: &impl Abort, rig: &mut Rig) -> Result<(), Fail> {
+    for _ in 0..20 {
+        let _step = rig.turn()?;
+        rig.collect_all()?;
+        let is_open = was_opened(rig.log(), 1) && !was_closed(rig.log(), 1);
+        assert_eq!(rt; rig.is_serving(1), is_open);
+    }
+    assert!(rt; was_opened(rig.log(), 1) && was_closed(rig.log(), 1));
+    assert!(rt; rig.is_serving(0) && !rig.is_serving(1) && !rig.is_serving(9));
+    Ok(())
+}
+
+// Two of the reads of region 1 were aborted, and all else of these places succeeded.
+fn check_statuses(rt: &impl Abort, rig: &Rig, places: &[(u8, u32)]) {
+    for (region, index) in places {
+        let want = if *region == 1 && *index > 0 {
+            Status::new(0, 0x08)
+        } else {
+            Status::new(0, 0)
+        };
+        assert_eq!(rt;
+            status_of(rig.log(), *region, *index),
+            want,
+            "{region}.{index}"
+        );
+    }
+    assert_eq!(rt; posted(rig.log()), places.len());
+}
+
+#[test]
+fn delete_with_three_waiting(rt: HostRuntime) -> Result<(), Fail> {
+    let script = [
+        admin(0, 5, 0x9000, 0x003f_0001, 1),
+        admin(1, 1, 0x2000, 0x0007_0001, 0x0001_0001),
+        admin(2, 0, 0, 1, 0),
+    ];
+    let mut rig = deletion_rig(rt.alloc(), &script, &[read(0), read(1), read(2)])?;
+    assert_eq!(rt; rig.submit(0, 3), 3);
+    run_watched(&rt, &mut rig)?;
+    assert!(rt; rig.is_clear());
+    let all = picks(rt.alloc(), rig.log())?;
+    assert_eq!(rt; all.as_slice(), [(0, 1), (0, 1), (1, 1), (0, 1)].as_slice());
+    check_statuses(&rt, &rig, &[(0, 0), (0, 1), (0, 2), (1, 0), (1, 1), (1, 2)]);
+    let settled = settled(rt.alloc(), rig)?;
+    let (sent, collected) = counts(rt.alloc(), &settled)?;
+    assert_eq!(rt; sent.as_slice(), [3, 3].as_slice());
+    assert_eq!(rt; collected.as_slice(), [3, 3].as_slice());
+    Ok(())
+}
+
+// The rig of a queue that is created anew on region 2. A fifth admin command and a fourth read of region 1 are not
+// submitted yet.
+fn anew_rig(alloc: Global) -> Result<Rig, Fail> {
+    let script = [
+        admin(0, 5, 0x9000, 0x003f_0001, 1),
+        admin(1, 1, 0x2000, 0x0007_0001, 0x0001_0001),
+        admin(2, 0, 0, 1, 0),
+        admin(3, 1, 0x3000, 0x0007_0001, 0x0001_0001),
+        admin(4, 1, 0x2000, 0x0007_0002, 0x0001_0001),
+    ];
+    let reads = [read(0), read(1), read(2), read(3)];
+    let mut rig = deletion_rig(alloc, &script, &reads)?;
+    rig.add_sq(alloc, 0x3000, 8, &[read(0), read(1)])?;
+    let _put = rig.submit(0, 4);
+    let _put = rig.submit(2, 2);
+    Ok(rig)
+}
+
+#[test]
+fn queue_created_anew(rt: HostRuntime) -> Result<(), Fail> {
+    let mut rig = anew_rig(rt.alloc())?;
+    run_watched(&rt, &mut rig)?;
+    let all = picks(rt.alloc(), rig.log())?;
+    let want = [(0, 1), (0, 1), (1, 1), (0, 1), (0, 1), (1, 1), (1, 1)];
+    assert_eq!(rt; all.as_slice(), want.as_slice());
+    // The queue of region 1 is closed now, and no other queue can have the region.
+    assert_eq!(rt; rig.submit(1, 1), 1);
+    assert_eq!(rt; rig.submit(0, 1), 1);
+    run_watched(&rt, &mut rig)?;
+    assert!(rt; rig.is_serving(2));
+    assert_eq!(rt; status_of(rig.log(), 0, 4), Status::new(0, 0x02));
+    let settled = settled(rt.alloc(), rig)?;
+    let (sent, collected) = counts(rt.alloc(), &settled)?;
+    assert_eq!(rt; sent.as_slice(), [5, 4, 2].as_slice());
+    assert_eq!(rt; collected.as_slice(), [5, 5].as_slice());
+    assert_eq!(rt; fetched(settled.log.as_slice(), 1), 3);
+    Ok(())
+}
