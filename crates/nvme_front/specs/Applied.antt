@@ -1,4 +1,4 @@
--- A front whose admin queue's oldest candidate was picked and applied to the table, and whose log has the pick alone so far.
+-- A front whose admin queue's oldest candidate was picked and applied to the table, and whose log has the pick alone so far (profile).
 use Rattle.std.specs.Prelude.{◌≡◌, ℕ, ◌+◌, ◌<◌, ◌≤◌, List, ◌∷◌, length, Option, vec_capacity}
 use Rattle.arrayvec.specs.ArrayVec.{ArrayVec}
 use Rattle.nvme_arbiter.specs.Board.{BoardView}

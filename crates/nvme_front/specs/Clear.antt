@@ -1,4 +1,4 @@
--- What shows that a front is clear, and that a queue of the table is on a region.
+-- What shows that a front is clear, and that a queue of the table is on a region (profile).
 use Rattle.std.specs.Prelude.{ℕ, ◌==◌, Bool, false, length, Option, Some, None}
 use Rattle.nvme_admin.specs.declared.verdict.SqEntry.{SqEntry}
 use Rattle.nvme_front.specs.declared.region.SqRegion.{SqRegion}

@@ -1,4 +1,4 @@
--- The hosts of a front: what feeds its submission rings, and what drains its completion rings.
+-- The hosts of a front: what feeds its submission rings, and what drains its completion rings (profile).
 use Rattle.std.specs.Prelude.{◌≡◌, ℕ, ◌<◌, true, List, [], length, map, take, slice_index_or, Vec}
 use Rattle.std.specs.Global.{Global}
 use Rattle.nvme_entry.specs.declared.submission.Sqe.{Sqe}

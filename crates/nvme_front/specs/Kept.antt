@@ -1,4 +1,4 @@
--- What a front keeps, as total look-ups by region.
+-- What a front keeps, as total look-ups by region (profile).
 use Rattle.std.specs.Prelude.{ℕ, ◌==◌, if◌then◌else◌, List, [], ◌∷◌, ◌++◌, length, map, Option, None, slice_index_or, reverse}
 use Rattle.nvme_entry.specs.declared.submission.Sqe.{Sqe}
 use Rattle.nvme_entry.specs.declared.completion.Cqe.{Cqe}

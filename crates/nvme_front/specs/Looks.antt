@@ -1,4 +1,4 @@
--- What a look at both ends of a ring leaves.
+-- What a look at both ends of a ring leaves (profile).
 use Rattle.std.specs.Prelude.{◌≡◌, ℕ, ◌++◌, length, slice_set, slice_index_or}
 use mathlib.Core.List.{IsPrefix}
 use Rattle.nvme_entry.specs.declared.submission.Sqe.{Sqe}

@@ -1,4 +1,4 @@
--- What a look at the first n submission rings leaves, and what taking from the first n completion rings leaves, with both ends of each in hand.
+-- What a look at the first n submission rings leaves, and what taking from the first n completion rings leaves, with both ends of each in hand (profile).
 use Rattle.std.specs.Prelude.{◌≡◌, ◌⊎◌, ℕ, ◌<◌, Bool, true, false, List, [], ◌++◌, map}
 use mathlib.Core.List.{IsPrefix}
 use Rattle.nvme_entry.specs.declared.submission.Sqe.{Sqe}

@@ -1,4 +1,4 @@
--- What a settling gives, and what a refusal leaves.
+-- What a settling gives, and what a refusal leaves (profile).
 use Rattle.std.specs.Prelude.{◌≡◌, ℕ, ◌<◌, true, false, None, List, [], length, reverse}
 use Rattle.std.specs.List.{list_all}
 use mathlib.Core.List.{IsPrefix}

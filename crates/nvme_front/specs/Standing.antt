@@ -1,4 +1,4 @@
--- When what a front keeps stands at its log.
+-- When what a front keeps stands at its log (profile).
 use Rattle.std.specs.Prelude.{◌≡◌, ℕ, zero, suc, ◌+◌, ◌≤◌, ◌<◌, ◌==◌, ◌&&◌, nat_lt, Bool, true, false, not, if◌then◌else◌, List, [], length, filter, map, sum_by, Option, Some, None, option_map, option_to_list, All}
 use Rattle.nvme_entry.specs.Status.{success}
 use Rattle.nvme_arbiter.specs.Limits.{highest_qid, highest_count, queue_limit}

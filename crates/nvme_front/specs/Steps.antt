@@ -1,4 +1,4 @@
--- The steps of a front: when each may be made, its event, and what the front keeps after it.
+-- The steps of a front: when each may be made, its event, and what the front keeps after it (profile).
 use Rattle.std.proofs.Common.{◌≡◌, ℕ, ◌+◌, ◌-◌, ◌%◌, ◌<◌, ◌≤◌, Bool, true, false, not, List, [], ◌∷◌, ◌++◌, map, length, take, drop, Option, Some, None}
 use Rattle.std.specs.Prelude.{slice_set}
 use Rattle.arrayvec.specs.ArrayVec.{ArrayVec}

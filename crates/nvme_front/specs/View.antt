@@ -1,4 +1,4 @@
--- What a contract sees of a front, and what its answers mean.
+-- What a contract sees of a front, and what its answers mean (profile; Base Specification, Submission Queue and Completion Queue, Command Arbitration).
 use Rattle.std.specs.Prelude.{◌≡◌, ◌⊎◌, ℕ, ◌+◌, ◌<◌, ◌==◌, ◌&&◌, ◌||◌, Bool, true, false, List, [], length, map, Option, Some, None, slice_index_or, reverse}
 use Rattle.std.specs.List.{list_any, list_all}
 use mathlib.Core.List.{IsPrefix}
