@@ -4,10 +4,12 @@
 mod commands;
 mod entries;
 mod input;
+mod reports;
 
 pub use commands::command;
 pub use entries::{OnceError, once};
 pub use input::{InputError, MAX_INPUT, MAX_READS, take_input};
+pub use reports::{Mode, WriteFault, report};
 
 #[cfg(test)]
 mod tests;
