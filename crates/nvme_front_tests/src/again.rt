@@ -8,7 +8,7 @@ use nvme_front::{AddError, Front};
 use nvme_lane::{Drainer, GetEnd, LaneError, NoMemory, PutEnd, ring};
 use std::alloc::{AllocError, Global};
 
-// Appends an item.
+/// Appends an item.
 pub fn push_again<T: Copy>(all: &mut Vec<T>, item: T) -> Result<(), AllocError> {
     if all.push(item).is_err() {
         all.push(item)?;
@@ -16,7 +16,7 @@ pub fn push_again<T: Copy>(all: &mut Vec<T>, item: T) -> Result<(), AllocError> 
     Ok(())
 }
 
-// Makes room for one item more.
+/// Makes room for one item more.
 pub fn reserve_again<T>(all: &mut Vec<T>) -> Result<(), AllocError>
     ensures items { all.new.items ≡ all.old.items }
     ensures room { OnOk result (vec_len all.new < vec_capacity all.new) }
@@ -27,7 +27,7 @@ pub fn reserve_again<T>(all: &mut Vec<T>) -> Result<(), AllocError>
     Ok(())
 }
 
-// A list of these items.
+/// A list of these items.
 pub fn list_again<T: Copy>(alloc: Global, items: &[T]) -> Result<Vec<T>, AllocError> {
     if let Ok(list) = Vec::from_slice(alloc, items) {
         return Ok(list);
@@ -35,7 +35,7 @@ pub fn list_again<T: Copy>(alloc: Global, items: &[T]) -> Result<Vec<T>, AllocEr
     Vec::from_slice(alloc, items)
 }
 
-// A ring with nothing in it.
+/// A ring with nothing in it.
 pub fn ring_again<T: Copy>(
     alloc: Global,
     address: u64,
@@ -51,7 +51,7 @@ pub fn ring_again<T: Copy>(
     ring(alloc, address, slots)
 }
 
-// Adds a submission region, and answers its number.
+/// Adds a submission region, and answers its number.
 pub fn add_sq_again(front: &mut Front, end: GetEnd<Sqe>) -> Result<u8, AddError>
     requires { end.got ≡ [] }
     ensures gets { OnOk result (front.new.gets ≡ front.old.gets ++ end ∷ []) }
@@ -65,7 +65,7 @@ pub fn add_sq_again(front: &mut Front, end: GetEnd<Sqe>) -> Result<u8, AddError>
     }
 }
 
-// Adds a completion region, and answers its number.
+/// Adds a completion region, and answers its number.
 pub fn add_cq_again(front: &mut Front, end: PutEnd<Cqe>) -> Result<u8, AddError>
     requires { end.sent ≡ [] }
     ensures puts { OnOk result (front.new.puts ≡ front.old.puts ++ end ∷ []) }
@@ -79,7 +79,7 @@ pub fn add_cq_again(front: &mut Front, end: PutEnd<Cqe>) -> Result<u8, AddError>
     }
 }
 
-// Takes the next completion, where one is found.
+/// Takes the next completion, where one is found.
 pub fn take_again(drainer: &mut Drainer<Cqe>) -> Result<bool, NoMemory>
     ensures { SameGet (get_of drainer.old) (get_of drainer.new) }
 {

@@ -4,7 +4,7 @@ use nvme_entry::Status;
 use nvme_front::Event;
 use std::alloc::{AllocError, Global};
 
-// The picks, as the queue and the number of its commands.
+/// The picks, as the queue and the number of its commands.
 pub fn picks(alloc: Global, log: &[Event]) -> Result<Vec<(u16, u16)>, AllocError> {
     let mut all = Vec::new(alloc);
     for event in log {
@@ -15,31 +15,31 @@ pub fn picks(alloc: Global, log: &[Event]) -> Result<Vec<(u16, u16)>, AllocError
     Ok(all)
 }
 
-// How many commands were fetched from a submission region.
+/// How many commands were fetched from a submission region.
 pub fn fetched(log: &[Event], of: u8) -> usize {
     log.iter()
         .filter(|event| matches!(event, Event::Fetch { region, .. } if *region == of))
         .count()
 }
 
-// How many completions were posted.
+/// How many completions were posted.
 pub fn posted(log: &[Event]) -> usize {
     log.iter()
         .filter(|event| matches!(event, Event::Post { .. }))
         .count()
 }
 
-// A submission queue was created on a region.
+/// A submission queue was created on a region.
 pub fn was_opened(log: &[Event], of: u8) -> bool {
     log.iter().any(|event| matches!(event, Event::OpenSq { region, .. } if *region == of))
 }
 
-// The deletion of a submission queue on a region was finished.
+/// The deletion of a submission queue on a region was finished.
 pub fn was_closed(log: &[Event], of: u8) -> bool {
     log.iter().any(|event| matches!(event, Event::ClosedSq { region, .. } if *region == of))
 }
 
-// The status of the completion of a place, where it was posted.
+/// The status of the completion of a place, where it was posted.
 pub fn status_of(log: &[Event], of: u8, at: u32) -> Option<Status> {
     for event in log {
         if let Event::Post {

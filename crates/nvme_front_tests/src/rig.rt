@@ -18,13 +18,13 @@ use nvme_lane::{Drainer, Feed, Feeder, NoMemory};
 use std::alloc::Global;
 use std::test::Fail;
 
-// The addresses of the admin queue's regions.
+/// The addresses of the admin queue's regions.
 pub const ADMIN_SQ: u64 = 0x1000;
 
 pub const ADMIN_CQ: u64 = 0x8000;
 
-// A front, a feeder for each of its submission regions, and a drainer for each of its completion regions. Its type
-// keeps that they are the other ends of the front's rings, and that both admin regions are there.
+/// A front, a feeder for each of its submission regions, and a drainer for each of its completion regions. Its type
+/// keeps that they are the other ends of the front's rings, and that both admin regions are there.
 #[derive(Drop)]
 pub struct Rig {
     front: Front,
@@ -36,7 +36,7 @@ pub struct Rig {
     ghost admin_cq: { 0 < length front.puts },
 }
 
-// Round robin, with 16 queues of each kind and one namespace of 1,000 blocks.
+/// Round robin, with 16 queues of each kind and one namespace of 1,000 blocks.
 pub fn config(settings: u32, max_events: u32) -> Result<FrontConfig, Fail>
     requires { max_events ≤ most_events }
 {
@@ -109,7 +109,7 @@ fn take_some(drainer: &mut Drainer<Cqe>, most: u16) -> Result<u16, NoMemory>
 }
 
 impl Rig {
-    // A front with its admin regions, of so many slots each.
+    /// A front with its admin regions, of so many slots each.
     pub fn new(
         alloc: Global,
         config: FrontConfig,
@@ -133,7 +133,7 @@ impl Rig {
         })
     }
 
-    // Adds a submission region, with the script of its host.
+    /// Adds a submission region, with the script of its host.
     pub fn add_sq(
         &mut self,
         alloc: Global,
@@ -147,7 +147,7 @@ impl Rig {
         Ok(())
     }
 
-    // Adds a completion region.
+    /// Adds a completion region.
     pub fn add_cq(&mut self, alloc: Global, address: u64, slots: u16) -> Result<(), Fail> {
         reserve_again(&mut self.drainers)?;
         let drainer = cq_region(alloc, &mut self.front, address, slots)?;
@@ -155,7 +155,7 @@ impl Rig {
         Ok(())
     }
 
-    // The host of a submission region submits so many entries at most. The answer is how many it submitted.
+    /// The host of a submission region submits so many entries at most. The answer is how many it submitted.
     pub fn submit(&mut self, region: usize, most: u16) -> u16 {
         if region >= self.feeders.len() {
             return 0;
@@ -163,14 +163,14 @@ impl Rig {
         put_some(&mut self.feeders[region], most)
     }
 
-    // Each host submits so many entries at most.
+    /// Each host submits so many entries at most.
     pub fn submit_all(&mut self, most: u16) {
         for region in 0..self.feeders.len() {
             let _put = self.submit(region, most);
         }
     }
 
-    // The host of a completion region collects so many completions at most. The answer is how many it collected.
+    /// The host of a completion region collects so many completions at most. The answer is how many it collected.
     pub fn collect(&mut self, region: usize, most: u16) -> Result<u16, NoMemory> {
         if region >= self.drainers.len() {
             return Ok(0);
@@ -178,7 +178,7 @@ impl Rig {
         take_some(&mut self.drainers[region], most)
     }
 
-    // Each host collects what its ring holds.
+    /// Each host collects what its ring holds.
     pub fn collect_all(&mut self) -> Result<(), NoMemory> {
         for region in 0..self.drainers.len() {
             self.collect(region, 256)?;
@@ -186,7 +186,7 @@ impl Rig {
         Ok(())
     }
 
-    // One turn. Where it is refused memory it goes on in another.
+    /// One turn. Where it is refused memory it goes on in another.
     pub fn turn(&mut self) -> Result<Step, FrontError> {
         let step = self.front.turn();
         if step == Err(FrontError::NoMemory) {
@@ -195,7 +195,7 @@ impl Rig {
         step
     }
 
-    // Turns until the front can do no more.
+    /// Turns until the front can do no more.
     pub fn run(&mut self) -> Result<(), Fail> {
         for _ in 0..1000 {
             let step = self.turn()?;
@@ -206,7 +206,7 @@ impl Rig {
         Err("the front goes on and on".into())
     }
 
-    // Turns and collects until the front can do no more.
+    /// Turns and collects until the front can do no more.
     pub fn run_and_collect(&mut self) -> Result<(), Fail> {
         self.run()?;
         self.collect_all()?;
@@ -227,12 +227,12 @@ impl Rig {
         self.front.is_serving(region)
     }
 
-    // How many hosts feed, and how many drain.
+    /// How many hosts feed, and how many drain.
     pub fn hosts(&self) -> (usize, usize) {
         (self.feeders.len(), self.drainers.len())
     }
 
-    // Settles the front with its hosts. Where that is refused memory, what came back is settled.
+    /// Settles the front with its hosts. Where that is refused memory, what came back is settled.
     pub fn settle(self, alloc: Global) -> Result<Settled, (SettleError, Rig)> {
         let Rig {
             front,
@@ -273,7 +273,7 @@ fn rig_of(parts: Parts) -> Rig
     }
 }
 
-// Settles a front with two feeders that are exchanged, and gives why that was refused, with what came back.
+/// Settles a front with two feeders that are exchanged, and gives why that was refused, with what came back.
 pub fn settle_exchanged(alloc: Global, rig: Rig) -> Result<(SettleError, Parts), Fail> {
     let Rig {
         front,

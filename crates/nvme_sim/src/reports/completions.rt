@@ -14,14 +14,14 @@ use nvme_entry::Cqe;
 use nvme_front::Event;
 use std::io::Write;
 
-// A completion and where in a log it was posted.
+/// A completion and where in a log it was posted.
 #[derive(Clone, Copy)]
 pub struct Found {
     pub at: usize,
     pub cqe: Cqe,
 }
 
-// The first completion that some events post for a place.
+/// The first completion that some events post for a place.
 pub fn first_posted(events: &[Event], region: usize, index: usize) -> Option<Found>
     ensures cqe { MatchOption result (completions_of events.now region index ≡ []) (λ found. IsFirst found.cqe (completions_of events.now region index)) }
     ensures at { IfSome result (λ found. found.at < length events.now) }
@@ -113,7 +113,7 @@ fn put_places<W: Write>(log: &[Event], region: usize, writer: &mut W) -> Result<
     Ok(())
 }
 
-// Writes the lines of the fetched places of all regions.
+/// Writes the lines of the fetched places of all regions.
 pub fn put_completions<W: Write>(
     log: &[Event],
     regions: usize,

@@ -101,7 +101,7 @@ fn put_submission<W: Write>(
     put_line(&pieces, writer)
 }
 
-// Writes the lines of the submission regions.
+/// Writes the lines of the submission regions.
 pub fn put_submissions<W: Write>(
     log: &[Event],
     sent: &[Sent],

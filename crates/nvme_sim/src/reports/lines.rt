@@ -9,7 +9,7 @@ use nvme_entry::Cqe;
 use nvme_front::Event;
 use std::io::Write;
 
-// Writes the line of the mode.
+/// Writes the line of the mode.
 pub fn put_mode<W: Write>(mode: Mode, writer: &mut W) -> Result<(), WriteFault>
     ensures { Writes (W.contents writer.old) (W.contents writer.new) result (mode_line mode) }
 {
@@ -36,7 +36,7 @@ fn put_pick<W: Write>(event: &Event, writer: &mut W) -> Result<(), WriteFault>
     put_line(&pieces, writer)
 }
 
-// Writes the lines of the picks of a log.
+/// Writes the lines of the picks of a log.
 pub fn put_picks<W: Write>(log: &[Event], writer: &mut W) -> Result<(), WriteFault>
     ensures { Writes (W.contents writer.old) (W.contents writer.new) result (flat_map pick_line log.now) }
 {
@@ -59,7 +59,7 @@ fn put_collection<W: Write>(region: usize, count: usize, writer: &mut W) -> Resu
     put_line(&pieces, writer)
 }
 
-// Writes the lines of the completion regions.
+/// Writes the lines of the completion regions.
 pub fn put_collected<W: Write>(collected: &[Vec<Cqe>], writer: &mut W) -> Result<(), WriteFault>
     ensures { Writes (W.contents writer.old) (W.contents writer.new) result (numbered cq_line 0 collected.now) }
 {

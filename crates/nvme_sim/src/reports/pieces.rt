@@ -8,7 +8,7 @@ ghost use Rattle.nvme_sim.specs.Written.{Writes};
 use crate::reports::WriteFault;
 use std::io::Write;
 
-// A piece of a line: words, a number in decimal, or a number in hexadecimal with all its digits.
+/// A piece of a line: words, a number in decimal, or a number in hexadecimal with all its digits.
 #[derive(Clone, Copy)]
 pub enum Piece<'a> {
     Words(&'a str),
@@ -17,7 +17,7 @@ pub enum Piece<'a> {
     Dword(u32),
 }
 
-// Writes all bytes.
+/// Writes all bytes.
 pub fn put<W: Write>(bytes: &[u8], writer: &mut W) -> Result<(), WriteFault>
     ensures { Writes (W.contents writer.old) (W.contents writer.new) result bytes.now }
 {
@@ -68,7 +68,7 @@ fn put_piece<W: Write>(piece: &Piece, writer: &mut W) -> Result<(), WriteFault>
     }
 }
 
-// Writes a line of pieces, with a newline at its end.
+/// Writes a line of pieces, with a newline at its end.
 pub fn put_line<W: Write>(pieces: &[Piece], writer: &mut W) -> Result<(), WriteFault>
     ensures { Writes (W.contents writer.old) (W.contents writer.new) result (flat_map piece_text pieces.now ++ codes "\n") }
 {
