@@ -31,8 +31,10 @@ use Rattle.nvme_front.specs.Completions.{table_before, own_status, own_dw0}
 use Rattle.nvme_front.specs.Effects.{closing_of, made_by, made_of, made_last, EffectsAtOnce}
 use Rattle.nvme_front.specs.Account.{IndexCounts, ServedWhileOpen, Observed, Deletes, PostsOwn, LeavesPlaces}
 use Rattle.nvme_front.specs.Kept.{SqKept, Kept, with_sq}
-use Rattle.nvme_front.specs.Standing.{HoldsSq, HasOwnStatus, IsOwnDeletion, Stands, held_by}
-use Rattle.nvme_front.specs.Steps.{with_events, verdict_at, applied_to, answered, aborted, with_opened, deleting_from, after_admin, KeepsAdmin, Accounted}
+use Rattle.nvme_front.specs.Standing.{HoldsSq, HasOwnStatus, IsOwnDeletion, Stands, hand_of}
+use Rattle.nvme_front.specs.Steps.{verdict_at, applied_to, aborted}
+use Rattle.nvme_front.proofs.AfterSteps.{with_events, answered, with_opened, deleting_from, after_admin}
+use Rattle.nvme_front.proofs.StepKeeps.{KeepsAdmin, Accounted}
 use Rattle.nvme_front.proofs.OwnStatus.{Stays, all_with_readies, ready_is_answerable, answerable_is_done, waiting_is_unaborted, candidates_wait, oldest_waits, All-unmap, aborts_all, verdict_answers_status, verdict_answers_dw0}
 use Rattle.nvme_front.proofs.AccountSteps.{statuses_stay, none_is_pending, not_closed_region, io_region, PickedAreOutstanding, leaves_places}
 use Rattle.nvme_front.proofs.AccountEvents.{Each-with_events, next_effects, made_are_effects, index_of_effect, effect_is_served, effect_is_observed, effect_posts_own, effect_leaves_places, effects_come_at_once, effects_are_whole, effects_leave_table, made_delete, made_leave_done, made_leave_region}
@@ -229,7 +231,7 @@ accounted-admin more rules late past k seen pick picked candidate rest table c b
           readies_own rules past mid candidate now c board v p
           (statuses_stay rules past later k
           (λ x j d lt. let t : Ready = get_or (k.cq x).ready j d in
-          done_stays rules past mid candidate v p t.region t.index (answerable_is_done past (held_by k.deletion) t.region t.index (ready_is_answerable past k (held_by k.deletion) s.ready x j d lt)))
+          done_stays rules past mid candidate v p t.region t.index (answerable_is_done past (hand_of k) t.region t.index (ready_is_answerable past k (hand_of k) s.ready x j d lt)))
           a.own_statuses)
           (λ r io. rw (ne_eqb r 0 io) (s.regions r));
       own_deletion = pending_own rules past mid candidate now c board v p can.none_pending;

@@ -14,7 +14,7 @@ use Rattle.nvme_front.specs.Places.{waiting, fate_of, is_waiting, is_aborted}
 use Rattle.nvme_front.specs.Completions.{table_before}
 use Rattle.nvme_front.specs.Effects.{is_effect, closing_of, closed_cq_of, made_by, made_last, effects_since, EffectsAtOnce}
 use Rattle.nvme_front.specs.Account.{IndexCounts, ServedWhileOpen, Observed, Deletes, PostsOwn, LeavesPlaces}
-use Rattle.nvme_front.specs.Steps.{with_events}
+use Rattle.nvme_front.proofs.AfterSteps.{with_events}
 use Rattle.nvme_front.proofs.OwnStatus.{aborts_leave_done, aborts_leave_region}
 
 -- something holds of each of some events that come one after another, with the events before it

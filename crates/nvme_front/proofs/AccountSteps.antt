@@ -1,12 +1,13 @@
 -- The account is kept by a fetch, an I/O pick, a post and the end of a deletion.
-use Rattle.std.proofs.Common.{◌≡◌, ℕ, zero, suc, ◌+◌, ◌%◌, ◌<◌, ◌≤◌, ◌==◌, ◌&&◌, not, nat_lt, nat_le, Bool, true, false, if◌then◌else◌, List, [], ◌∷◌, length, map, filter, take, Option, Some, None, refl, sym, ap, ◌∙◌, subst, arith, inl, inr, get_or, length-append}
+use Rattle.std.proofs.Common.{◌≡◌, ℕ, zero, suc, ◌+◌, ◌%◌, ◌<◌, ◌≤◌, ◌==◌, ◌&&◌, not, nat_lt, nat_le, Bool, true, false, if◌then◌else◌, List, [], ◌∷◌, ◌++◌, length, map, filter, Option, Some, None, refl, sym, ap, ◌∙◌, subst, arith, inl, inr, get_or, length-append}
 use Rattle.std.specs.Prelude.{option_map, All}
 use Rattle.std.specs.List.{list_any, list_all}
 use Rattle.std.proofs.lemmas.Bool.{cases_lt, and_parts, false_from_ne_true, ne_eqb, eqb-true, and_right, eq-eqb, or_left, or_right, le-leb, ltb-true}
 use Rattle.std.proofs.lemmas.List.{length-map, length_push}
 use Rattle.std.proofs.lemmas.Option.{same_Some}
-use Rattle.std.proofs.lemmas.List.Elements.{All-nil, All-cons, All-tail, All-head, All-weaker, All-map, All-take, All-same, filter-append}
+use Rattle.std.proofs.lemmas.List.Elements.{All-nil, All-cons, All-tail, All-head, All-weaker, All-same, filter-append}
 use Rattle.std.proofs.lemmas.List.Folds.{list_any-append}
+use Rattle.std.proofs.lemmas.List.Sums.{sum_by-append}
 use Rattle.arrayvec.specs.ArrayVec.{ArrayVec}
 use Rattle.nvme_entry.specs.declared.submission.Sqe.{Sqe}
 use Rattle.nvme_entry.specs.declared.completion.Cqe.{Cqe}
@@ -26,13 +27,16 @@ use Rattle.nvme_front.specs.declared.region.Attachment.{Attachment}
 use Rattle.nvme_front.specs.Limits.{max_outstanding}
 use Rattle.nvme_front.specs.Rules.{Past, FrontRules, upto, window_at}
 use Rattle.nvme_front.specs.Queues.{Queue, admin_queue, open_sq, has_region, is_open_region, pending, is_closed_region}
-use Rattle.nvme_front.specs.Places.{fetched, waiting, places, fate_of, is_waiting}
+use Rattle.nvme_front.specs.Places.{Place, fetched, waiting, places, fate_of, is_waiting}
 use Rattle.nvme_front.specs.Completions.{is_posted, posted_to, phase_after, is_index, outstanding}
 use Rattle.nvme_front.specs.Laws.{as_open}
 use Rattle.nvme_front.specs.Kept.{SqKept, Kept}
-use Rattle.nvme_front.specs.Standing.{Place, HasOwnStatus, IsOwnDeletion, Stands, unposted_of, held_by, as_deletion, one_if, times_held, IsReady}
-use Rattle.nvme_front.specs.Steps.{CanPick, fetch_event, fetched_sq, after_fetch, executed, executed_all, posted_cq, post_event, closed_event, deleted, KeepsFetch, KeepsIo, KeepsPost, KeepsClose, Accounted}
-use Rattle.nvme_front.proofs.OwnStatus.{Stays, own_status-stays, own_dw0-stays, HasOwnStatus-stays, all_with_readies, IsAnswerable, ready_is_answerable, answerable_is_done, answerable_is_unposted, waiting_is_unaborted, candidates_wait, all_chosen}
+use Rattle.nvme_front.specs.Standing.{HasOwnStatus, IsOwnDeletion, Stands, unposted_of, held_by, hand_of, as_deletion, one_if, times_held, IsReady}
+use Rattle.nvme_front.specs.Jobs.{in_hand, dispatched_place}
+use Rattle.nvme_front.specs.Steps.{CanPick}
+use Rattle.nvme_front.proofs.AfterSteps.{fetch_event, fetched_sq, after_fetch, posted_cq, post_event, closed_event, deleted}
+use Rattle.nvme_front.proofs.StepKeeps.{KeepsFetch, KeepsIo, KeepsPost, KeepsClose, Accounted}
+use Rattle.nvme_front.proofs.OwnStatus.{Stays, own_status-stays, own_dw0-stays, HasOwnStatus-stays, all_with_readies, IsAnswerable, ready_is_answerable, answerable_is_done, answerable_is_unposted, all_chosen}
 
 -- ---- what is answered stays so
 -- the ready completions keep their status in a later log
@@ -140,22 +144,12 @@ leaves_places more rules late past k queue seen pick board s can =
     le-leb (outstanding rules (event.Pick seen pick ∷ past)) max_outstanding
     (rw (more rules late past k queue seen pick board s can, ← s.counts.outstanding_is) can.places)
 
--- what is executed has the own status of an I/O command
-executed_own : (rules : FrontRules) (past : Past) (seen : ArrayVec Seen) (pick : Pick) (r : ℕ) (c : Candidate) → (r ≡ 0 → ⊥)
-    → is_waiting (fate_of past r c.index) ≡ true → HasOwnStatus rules (event.Pick seen pick ∷ past) (executed r rules.sizes c)
-executed_own rules past seen pick r c io waits = record {
-  status = rw (waiting_is_unaborted past r c.index waits, ne_eqb r 0 io) refl;
-  dw0 = rw (waiting_is_unaborted past r c.index waits, ne_eqb r 0 io) refl;
-}
-
--- an I/O pick keeps the account: what it executes is ready with the own status of its place
+-- an I/O pick keeps the account: it makes nothing ready
 pub accounted-io : PickedAreOutstanding → KeepsIo Accounted
 accounted-io more rules late past k queue seen pick board c s can saw io attached regions on_time =
     let a = s.accounts on_time in
-    let r : ℕ = queue.region in
     let later : Past = event.Pick seen pick ∷ past in
     let apart : (pick.qid == 0) ≡ false = ne_eqb pick.qid 0 io in
-    let picked : List Candidate = take pick.n (k.sq r).window in
     record {
       indexes_count = (tt, a.indexes_count);
       served_while_open = (rw can.is_open refl, a.served_while_open);
@@ -165,13 +159,7 @@ accounted-io more rules late past k queue seen pick board c s can saw io attache
       deletes = (none_is_pending rules late past k s can.none_pending, a.deletes);
       posts_own = (tt, a.posts_own);
       leaves_places = (leaves_places more rules late past k queue seen pick board s can, a.leaves_places);
-      own_statuses =
-          all_with_readies (HasOwnStatus rules later) k c (executed_all rules k queue pick.n)
-          (statuses_stay rules past later k (λ c j d lt. record { aborted = refl; table = λ z. rw apart refl }) a.own_statuses)
-          (All-map (HasOwnStatus rules later) (executed r rules.sizes) picked
-          (All-take (λ (x : Candidate). HasOwnStatus rules later (executed r rules.sizes x)) pick.n (k.sq r).window
-          (All-weaker (λ (x : Candidate). is_waiting (fate_of past r x.index) ≡ true) (λ (x : Candidate). HasOwnStatus rules later (executed r rules.sizes x))
-          (λ x w. executed_own rules past seen pick r x (io_region rules late past k s r pick.qid c attached io) w) (k.sq r).window (candidates_wait past r (k.sq r) (s.regions r)))));
+      own_statuses = statuses_stay rules past later k (λ c j d lt. record { aborted = refl; table = λ z. rw apart refl }) a.own_statuses;
       own_deletion = λ d is. cc (can.none_pending, is);
     }
 
@@ -198,7 +186,11 @@ unposted_place past hand r i h =
     kept_upto (λ (x : ℕ). not (is_waiting (fate_of past r x)) && not (is_posted past r x)) (length (fetched past r)) i fetched_place
     (rw (answerable_is_done past hand r i h, answerable_is_unposted past hand r i h) refl)
 
--- a place that isn't in hand isn't that of the pending deletion
+-- a place that isn't in hand isn't held by a deletion
+not_held : (jobs held : List Place) (r i : ℕ) → times_held r i (jobs ++ held) ≡ 0 → times_held r i held ≡ 0
+not_held jobs held r i h = omega (arith, h, sum_by-append (λ (p : Place). one_if (p.region == r && p.index == i)) jobs held)
+
+-- a place that isn't the held one isn't that of the pending deletion
 not_held_place : (o : Option PendingDelete) (r i : ℕ) → times_held r i (held_by o) ≡ 0 → (r == 0 && is_index i (option_map (λ (d : PendingDelete). d.index) o)) ≡ false
 not_held_place None r i h = and_right (r == 0) false refl
 not_held_place (Some d) r i h = false_from_ne_true (r == 0 && d.index == i) (λ same.
@@ -211,7 +203,7 @@ pub accounted-post : KeepsPost Accounted
 accounted-post rules late past k c t rest cqe qid free s can regions on_time =
     let a = s.accounts on_time in
     let later : Past = post_event c t cqe ∷ past in
-    let hand : List Place = held_by k.deletion in
+    let hand : List Place = hand_of k in
     let r : ℕ = t.region in
     let i : ℕ = t.index in
     let answerable : IsAnswerable past hand r i =
@@ -235,7 +227,8 @@ accounted-post rules late past k c t rest cqe qid free s can regions on_time =
       deletes = (
         (
           unclosed,
-          subst (λ (o : Option ℕ). (r == 0 && is_index i o) ≡ false) (sym s.deletion.place_is) (not_held_place k.deletion r i answerable.not_held),
+          subst (λ (o : Option ℕ). (r == 0 && is_index i o) ≡ false) (sym s.deletion.place_is) (not_held_place k.deletion r i
+              (not_held (map dispatched_place (in_hand k.jobs.hands)) (held_by k.deletion) r i answerable.not_held)),
         ),
         a.deletes,
       );

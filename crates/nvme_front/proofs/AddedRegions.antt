@@ -18,7 +18,7 @@ use Rattle.nvme_front.specs.declared.front.AddError.TheVariants.{TooMany, NoMemo
 use Rattle.nvme_front.specs.declared.region.SqRegion.{SqRegion}
 use Rattle.nvme_front.specs.declared.region.CqRegion.{CqRegion}
 use Rattle.nvme_front.specs.declared.state.FrontState.{FrontState}
-use Rattle.nvme_front.specs.Limits.{max_ready}
+use Rattle.nvme_front.specs.Limits.{max_outstanding, max_ready}
 use Rattle.nvme_front.specs.Standing.{IsKept, first_queue, sq_region}
 use Rattle.nvme_front.specs.View.{FrontView, view_of}
 use Rattle.nvme_front.proofs.FreshRegions.{board_with_sq, board_with_sq-first, board_with_sq-later}
@@ -31,6 +31,7 @@ pub record IsPushedSq (s t : FrontState) (x : SqRegion) : Type 0 where
   pub cqs : t.cqs.items ≡ s.cqs.items
   pub outstanding : t.outstanding ≡ s.outstanding
   pub deletion : t.deletion ≡ s.deletion
+  pub jobs : t.jobs ≡ s.jobs
   pub log : t.log.items ≡ s.log.items
   pub late : t.late ≡ not (length s.log.items == 0)
 
@@ -42,6 +43,7 @@ pub record IsPushedCq (s t : FrontState) (x : CqRegion) : Type 0 where
   pub cqs : t.cqs.items ≡ s.cqs.items ++ x ∷ []
   pub outstanding : t.outstanding ≡ s.outstanding
   pub deletion : t.deletion ≡ s.deletion
+  pub jobs : t.jobs ≡ s.jobs
   pub log : t.log.items ≡ s.log.items
   pub late : t.late ≡ not (length s.log.items == 0)
 
@@ -97,6 +99,7 @@ some_event (e ∷ log) some = ap not (ne_eqb (length (e ∷ log)) 0 (λ z. omega
 
 -- ---- a submission region more
 module _ (s : FrontState) (kept : IsKept s) (t : FrontState) (x : SqRegion) (pushed : IsPushedSq s t x) (new : IsNewSq x) (room : length s.sqs.items < MAX_REGIONS)
+    (has_room : t.jobs.room ≡ max_outstanding)
     (v : TableView) (a n : ℕ) (table : t.table ≡ v) (address : a ≡ x.end.address) (slots : n ≡ x.end.slots)
     (takes : (start : Start) (h : TableHistory) → StandsAt start s.table h → StandsAt start v (RegionAdded Submission a n ∷ h)) where
   -- the number of the region is how many were there
@@ -113,12 +116,14 @@ module _ (s : FrontState) (kept : IsKept s) (t : FrontState) (x : SqRegion) (pus
     cqs = pushed.cqs;
     outstanding = pushed.outstanding;
     deletion = pushed.deletion;
+    jobs = pushed.jobs;
     log = pushed.log;
     early = λ none. pushed.late ∙ no_event s.log.items none;
     late = λ some. pushed.late ∙ some_event s.log.items some;
     room = room;
     fresh = record { got = new.got; window = new.window; fetched = new.fetched; unposted = new.unposted; queue = queue };
     window = new.room;
+    has_room = has_room;
     board = board;
     board_stands = stands;
     table = takes_sq s t x v a n table address slots takes;
@@ -153,6 +158,7 @@ kept_with_cq s kept t x pushed new room v a n table address slots takes = is_kep
   cqs = pushed.cqs;
   outstanding = pushed.outstanding;
   deletion = pushed.deletion;
+  jobs = pushed.jobs;
   log = pushed.log;
   early = λ none. pushed.late ∙ no_event s.log.items none;
   late = λ some. pushed.late ∙ some_event s.log.items some;

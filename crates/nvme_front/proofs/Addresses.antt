@@ -21,7 +21,7 @@ use Rattle.nvme_front.specs.Standing.{sq_region, cq_region, IsRoomy}
 use Rattle.nvme_front.specs.View.{view_of, is_address}
 
 -- some element of a map passes a test where some element passes it after the map
-any_in_map : {A B : Type 0} (p : B → Bool) (f : A → B) (xs : List A) → list_any p (map f xs) ≡ list_any (λ (x : A). p (f x)) xs
+pub any_in_map : {A B : Type 0} (p : B → Bool) (f : A → B) (xs : List A) → list_any p (map f xs) ≡ list_any (λ (x : A). p (f x)) xs
 any_in_map p f [] = refl
 any_in_map p f (x ∷ xs) = ap (λ (b : Bool). p (f x) || b) (any_in_map p f xs)
 

@@ -1,19 +1,22 @@
 -- Where completions are ready and can't be posted, and which places aren't posted, where what a front keeps stands at its log.
-use Rattle.std.proofs.Common.{◌≡◌, ℕ, zero, suc, ◌+◌, ◌<◌, ◌==◌, ◌&&◌, Bool, true, false, not, nat_lt, if◌then◌else◌, List, [], ◌∷◌, ◌++◌, filter, length, Option, Some, None, refl, sym, ap, ◌∙◌, subst, arith, ◌⊎◌, inl, inr, eqb-true, eq-eqb, ne_eqb, lt-ltb, All, option_map, append-nil, ⊎_elim}
-use Rattle.std.proofs.lemmas.List.Sums.{sum_by-cons}
+use Rattle.std.proofs.Common.{◌≡◌, ℕ, zero, suc, ◌+◌, ◌<◌, ◌==◌, ◌&&◌, Bool, true, false, not, nat_lt, if◌then◌else◌, List, [], ◌∷◌, ◌++◌, map, filter, length, Option, Some, None, refl, sym, ap, ◌∙◌, subst, arith, ◌⊎◌, inl, inr, eqb-true, eq-eqb, ne_eqb, lt-ltb, All, option_map, append-nil, ⊎_elim}
+use Rattle.std.specs.List.{list_any}
+use Rattle.std.proofs.lemmas.List.Sums.{sum_by-cons, sum_by-append}
 use Rattle.std.proofs.lemmas.List.Elements.{All-head, All-tail, filter-append}
-use Rattle.std.proofs.lemmas.Bool.{cases_Bool, cases_eq, cases_lt, and_parts, and_from, not-true}
+use Rattle.std.proofs.lemmas.Bool.{cases_Bool, cases_eq, cases_lt, and_parts, and_from, or_parts, not-true}
 use Rattle.std.proofs.lemmas.List.{length-append, nil_from_length}
 use Rattle.std.proofs.lemmas.Option.{same_Some}
+use Rattle.nvme_front.specs.declared.candidate.Dispatched.{Dispatched}
 use Rattle.nvme_front.specs.declared.candidate.Ready.{Ready}
 use Rattle.nvme_front.specs.declared.candidate.PendingDelete.{PendingDelete}
 use Rattle.nvme_front.specs.Rules.{Past, FrontRules, upto}
 use Rattle.nvme_front.specs.Queues.{cq_region_of}
-use Rattle.nvme_front.specs.Places.{fetched, fate_of, is_waiting}
+use Rattle.nvme_front.specs.Places.{Place, fetched, fate_of, is_waiting}
 use Rattle.nvme_front.specs.Completions.{is_posted, posts_of, is_index}
 use Rattle.nvme_front.specs.Account.{deleting_place}
+use Rattle.nvme_front.specs.Jobs.{in_hand, dispatched_place, is_in_hand}
 use Rattle.nvme_front.specs.Kept.{Kept}
-use Rattle.nvme_front.specs.Standing.{one_if, is_served, times_in, times_held, times_ready, over_regions, held_by, IsReady, Stands}
+use Rattle.nvme_front.specs.Standing.{one_if, is_served, times_in, times_held, times_ready, over_regions, held_by, hand_of, IsReady, Stands}
 use Rattle.nvme_admin.specs.declared.bounds.TheConstants.{MAX_REGIONS}
 use Rattle.nvme_front.proofs.Posts.{posts_of-none}
 
@@ -68,7 +71,25 @@ not_held past (Some d) r i place h =
     let none_here : one_if (0 == r && d.index == i) ≡ 0 = ap one_if other in
     omega arith
 
--- a place that was picked or aborted, has no completion posted and isn't held by the pending deletion is ready somewhere
+-- a place that is that of none of some picked commands doesn't stand among their places
+pub none_held : (r i : ℕ) (ds : List Dispatched) → list_any (λ (d : Dispatched). d.region == r && d.index == i) ds ≡ false
+    → times_held r i (map dispatched_place ds) ≡ 0
+none_held r i [] h = refl
+none_held r i (d ∷ ds) h =
+    let parts = or_parts (d.region == r && d.index == i) (list_any (λ (x : Dispatched). x.region == r && x.index == i) ds) h in
+    let none_here : one_if (d.region == r && d.index == i) ≡ 0 = ap one_if parts.0 in
+    let further = none_held r i ds parts.1 in
+    omega (arith, sum_by-cons (λ (p : Place). one_if (p.region == r && p.index == i)) (dispatched_place d) (map dispatched_place ds))
+
+-- a place that has a result, if it needs one, and is not that of the pending deletion's command isn't in hand
+pub not_in_hand : (past : Past) (k : Kept) (r i : ℕ) → deleting_place past ≡ option_map (λ (d : PendingDelete). d.index) k.deletion
+    → is_in_hand k.jobs.hands r i ≡ false → (r == 0 && is_index i (deleting_place past)) ≡ false → times_held r i (hand_of k) ≡ 0
+not_in_hand past k r i place has_result other =
+    let jobs = none_held r i (in_hand k.jobs.hands) has_result in
+    let held = not_held past k.deletion r i place other in
+    omega (arith, sum_by-append (λ (p : Place). one_if (p.region == r && p.index == i)) (map dispatched_place (in_hand k.jobs.hands)) (held_by k.deletion))
+
+-- a place that was picked or aborted, has no completion posted and isn't in hand is ready somewhere
 pub record IsSomewhere (k : Kept) (past : Past) (r i : ℕ) : Type 0 where
   pub region : ℕ
   pub goes_there : cq_region_of past r ≡ Some region
@@ -80,12 +101,12 @@ goes_where past deletion c r i ready it = subst (λ (n : ℕ). cq_region_of past
 
 -- and goes to the completion region where it is ready
 pub ready_somewhere : (rules : FrontRules) (late : Bool) (past : Past) (k : Kept) → Stands rules late past k → (r i : ℕ)
-    → is_served past r i ≡ true → is_posted past r i ≡ false → (r == 0 && is_index i (deleting_place past)) ≡ false → IsSomewhere k past r i
-ready_somewhere rules late past k s r i served unposted other =
+    → is_served past r i ≡ true → is_posted past r i ≡ false → is_in_hand k.jobs.hands r i ≡ false → (r == 0 && is_index i (deleting_place past)) ≡ false → IsSomewhere k past r i
+ready_somewhere rules late past k s r i served unposted has_result other =
     let posts : posts_of past r i ≡ 0 = posts_of-none past r i unposted in
-    let held : times_held r i (held_by k.deletion) ≡ 0 = not_held past k.deletion r i s.deletion.place_is other in
+    let held : times_held r i (hand_of k) ≡ 0 = not_in_hand past k r i s.deletion.place_is has_result other in
     let one : one_if (is_served past r i) ≡ 1 = ap one_if served in
-    let once : times_ready k r i + posts_of past r i + times_held r i (held_by k.deletion) ≡ 1 = s.ready.once r i ∙ one in
+    let once : times_ready k r i + posts_of past r i + times_held r i (hand_of k) ≡ 1 = s.ready.once r i ∙ one in
     let found = over_regions-some (λ (c : ℕ). times_in r i (k.cq c).ready) MAX_REGIONS (omega arith) in
     record {
       region = found.0;
@@ -103,9 +124,9 @@ pub record WaitsForPlace (k : Kept) (past : Past) (r : ℕ) : Type 0 where
 -- each place that could be answered goes to a completion region with no free place
 pub all_ready_wait : (rules : FrontRules) (late : Bool) (past : Past) (k : Kept) → Stands rules late past k
     → ((c : ℕ) → ((k.cq c).ready ≡ []) ⊎ ((k.cq c).free ≡ 0)) → (r i : ℕ)
-    → is_served past r i ≡ true → is_posted past r i ≡ false → (r == 0 && is_index i (deleting_place past)) ≡ false → WaitsForPlace k past r
-all_ready_wait rules late past k s blocked r i served unposted other =
-    let it = ready_somewhere rules late past k s r i served unposted other in
+    → is_served past r i ≡ true → is_posted past r i ≡ false → is_in_hand k.jobs.hands r i ≡ false → (r == 0 && is_index i (deleting_place past)) ≡ false → WaitsForPlace k past r
+all_ready_wait rules late past k s blocked r i served unposted has_result other =
+    let it = ready_somewhere rules late past k s r i served unposted has_result other in
     record {
       region = it.region;
       goes_there = it.goes_there;
@@ -115,10 +136,10 @@ all_ready_wait rules late past k s blocked r i served unposted other =
 -- the same, of the completion region where its completion goes
 pub ready_waits_there : (rules : FrontRules) (late : Bool) (past : Past) (k : Kept) → Stands rules late past k
     → ((c : ℕ) → ((k.cq c).ready ≡ []) ⊎ ((k.cq c).free ≡ 0)) → (r i : ℕ)
-    → is_served past r i ≡ true → is_posted past r i ≡ false → (r == 0 && is_index i (deleting_place past)) ≡ false
+    → is_served past r i ≡ true → is_posted past r i ≡ false → is_in_hand k.jobs.hands r i ≡ false → (r == 0 && is_index i (deleting_place past)) ≡ false
     → (c : ℕ) → cq_region_of past r ≡ Some c → (k.cq c).free ≡ 0
-ready_waits_there rules late past k s blocked r i served unposted other c goes =
-    let it = all_ready_wait rules late past k s blocked r i served unposted other in
+ready_waits_there rules late past k s blocked r i served unposted has_result other c goes =
+    let it = all_ready_wait rules late past k s blocked r i served unposted has_result other in
     subst (λ (x : ℕ). (k.cq x).free ≡ 0) (same_Some it.region c (sym it.goes_there ∙ goes)) it.full
 
 -- ---- the places of a region that have no completion posted

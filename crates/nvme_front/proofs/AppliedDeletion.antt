@@ -30,7 +30,8 @@ use Rattle.nvme_front.specs.Applied.{IsApplied}
 use Rattle.nvme_front.specs.Kept.{SqKept, Kept, with_sq, put_sq, sq_kept, sq_in, cq_in, gets_of, kept_of, rules_of}
 use Rattle.nvme_front.specs.Standing.{IsKept, IsAttached, on_board, window_room}
 use Rattle.nvme_front.specs.Goes.{Goes, picks_in, get_place}
-use Rattle.nvme_front.specs.Steps.{with_deleting, with_readies, deleting_from, aborted, picked_sq, IsChosen}
+use Rattle.nvme_front.specs.Steps.{aborted, picked_sq}
+use Rattle.nvme_front.proofs.AfterSteps.{with_deleting, with_readies, deleting_from, IsChosen}
 use Rattle.nvme_front.proofs.QueueWords.{at_same, at_other}
 use Rattle.nvme_front.proofs.DeletionSteps.{io_region}
 use Rattle.nvme_front.proofs.States.{sq_in-set, sq_in-read, places-set, windows-set}
@@ -64,9 +65,9 @@ kept_deleting : (a b : FrontState) (candidate : Candidate) (qid r c n : ℕ) (s 
     → b.cqs.items ≡ set a.cqs.items c (record d { ready = ready })
     → b.board ≡ record a.board { queues = slice_set a.board.queues qid None }
     → b.deletion ≡ Some (record { qid = qid; region = r; index = candidate.index; entry = candidate.entry })
-    → b.table ≡ a.table → b.outstanding ≡ a.outstanding
+    → b.table ≡ a.table → b.outstanding ≡ a.outstanding → b.jobs ≡ a.jobs
     → kept_of b ≡ with_deleting (kept_of a) qid r c candidate
-kept_deleting a b candidate qid r c n s w d ready there read posts read_cq is_n is_w sqs is_ready cqs board deletion table outstanding =
+kept_deleting a b candidate qid r c n s w d ready there read posts read_cq is_n is_w sqs is_ready cqs board deletion table outstanding jobs =
     let was : sq_in a.sqs.items r ≡ sq_kept s = sq_in-read a.sqs.items r s there read in
     let emptied : SqKept → SqKept = λ (z : SqKept). record z { window = []; unposted = z.unposted + length z.window } in
     let now : sq_kept (record s { window = w; unposted = s.unposted + n }) ≡ emptied (sq_in a.sqs.items r) =
@@ -90,6 +91,7 @@ kept_deleting a b candidate qid r c n s w d ready there read posts read_cq is_n 
       table = table t;
       outstanding = outstanding t;
       deletion = deletion t;
+      jobs = jobs t;
     } in
     kept_readied a b c d ready (map (aborted r) s.window.items) posts read_cq is_ready cqs
     ∙ ap (λ (k : Kept). with_readies k c (map (aborted r) s.window.items)) all
@@ -235,7 +237,7 @@ module _ (a : FrontState) (candidate : Candidate) (qid : ℕ) (closing : Option 
           (attached_to.attached ∙ ap (λ (z : ℕ). Some (record { qid = qid; cq_region = z })) (sym (is_c ∙ ap (λ (y : Attachment). y.cq_region) to))) in
           let kept : kept_of b ≡ with_deleting (kept_of a) qid e.region c candidate =
           kept_deleting a b candidate qid e.region c n s w d ready (begins_there e.region refl) (subst (λ (z : ℕ). s ≡ get_or a.sqs.items z s) same read) posts read_cq is_n is_w
-          (subst (λ (z : ℕ). b.sqs.items ≡ set a.sqs.items z (record s { window = w; unposted = s.unposted + n })) same sqs) is_ready cqs is_board deletion stays.table stays.outstanding in
+          (subst (λ (z : ℕ). b.sqs.items ≡ set a.sqs.items z (record s { window = w; unposted = s.unposted + n })) same sqs) is_ready cqs is_board deletion stays.table stays.outstanding stays.jobs in
           kept_applied a b candidate (BeginDelete qid) closing c board h chosen events
           (kept ∙ ap (deleting_from (kept_of a) qid c candidate) (sym was_open))
           goes stays.table few
@@ -247,6 +249,6 @@ pub goes_deleting : (a b : FrontState) (r c n : ℕ) (s : SqRegion) (w : FifoVie
     → log ≡ a.log.items ++ e ∷ [] → b.log.items ≡ log ++ es → Stays a b → Goes a b
 goes_deleting a b r c n s w d ready ts log e es read is_w sqs read_cq is_ready cqs noted aborts stays =
     let events : b.log.items ≡ a.log.items ++ e ∷ es = aborts ∙ ap (λ (xs : List Event). xs ++ es) noted ∙ append_assoc a.log.items (e ∷ []) es in
-    goes_readied a b (e ∷ es) c d ready ts read_cq is_ready cqs events stays.config stays.alloc stays.late
+    goes_readied a b (e ∷ es) c d ready ts read_cq is_ready cqs events stays.config stays.alloc stays.late stays.jobs
     (ap (λ (xs : List SqRegion). map get_place (gets_of xs)) sqs ∙ places-set a.sqs.items r s (record s { window = w; unposted = n }) read refl)
     (ap (λ (xs : List SqRegion). map window_room xs) sqs ∙ windows-set a.sqs.items r s (record s { window = w; unposted = n }) read (ap (λ (z : FifoView Candidate). z.room) is_w))

@@ -1,16 +1,19 @@
 -- How many completions are ready, and how many places are unposted, where no deletion is pending.
-use Rattle.std.proofs.Common.{◌≡◌, ℕ, zero, suc, ◌+◌, ◌<◌, ◌≤◌, ◌==◌, ◌&&◌, nat_lt, Bool, true, false, not, List, [], ◌∷◌, length, Option, None, refl, sym, ap, ◌∙◌, arith, inl, inr, true≢false}
-use Rattle.std.specs.Prelude.{sum_by, slice_index_or}
+use Rattle.std.proofs.Common.{◌≡◌, ℕ, zero, suc, ◌+◌, ◌<◌, ◌≤◌, ◌==◌, ◌&&◌, nat_lt, Bool, true, false, not, List, [], ◌∷◌, map, length, Option, None, refl, sym, ap, ◌∙◌, arith, inl, inr, true≢false}
+use Rattle.std.specs.Prelude.{All, sum_by, slice_index_or}
 use Rattle.std.proofs.lemmas.Bool.{cases_lt, cases_eq, eqb-true, and_parts, lt-ltb}
 use Rattle.std.proofs.lemmas.List.Sums.{sum_by-cons, sum_by-le, sum_by-append}
 use Rattle.nvme_admin.specs.declared.bounds.TheConstants.{MAX_REGIONS}
+use Rattle.nvme_pool.proofs.Retiring.{sum_by_map}
+use Rattle.nvme_front.specs.declared.candidate.Dispatched.{Dispatched}
 use Rattle.nvme_front.specs.declared.candidate.PendingDelete.{PendingDelete}
 use Rattle.nvme_front.specs.declared.candidate.Ready.{Ready}
 use Rattle.nvme_front.specs.Rules.{FrontRules, Past, upto, sq_regions_of}
-use Rattle.nvme_front.specs.Places.{fetched, picked, fate_of, is_waiting, is_picked, is_aborted, unaborted_below, places}
+use Rattle.nvme_front.specs.Jobs.{in_hand, dispatched_place}
+use Rattle.nvme_front.specs.Places.{Place, fetched, picked, fate_of, is_waiting, is_picked, is_aborted, unaborted_below, places}
 use Rattle.nvme_front.specs.Completions.{is_posted}
 use Rattle.nvme_front.specs.Kept.{Kept}
-use Rattle.nvme_front.specs.Standing.{HoldsSq, HoldsReady, IsReady, Stands, one_if, times_in, times_ready, times_held, held_by, is_served, unposted_of}
+use Rattle.nvme_front.specs.Standing.{HoldsSq, HoldsReady, IsReady, Stands, one_if, times_in, times_ready, times_held, held_by, hand_of, is_served, unposted_of, IsDispatched}
 use Rattle.nvme_front.proofs.Posts.{posts_of-none}
 use Rattle.nvme_front.proofs.Counting.{counts_less, fate_by}
 use Rattle.nvme_front.proofs.PostedPlaces.{outstanding_of}
@@ -35,7 +38,7 @@ both_kinds (t ∷ ts) =
       one false = refl
 
 -- where no deletion is pending, no more completions are ready for a completion region than places are outstanding
-pub few_ready : (past : Past) (k : Kept) → HoldsReady past k (held_by k.deletion) → k.deletion ≡ None → (c : ℕ) → length (k.cq c).ready ≤ k.outstanding
+pub few_ready : (past : Past) (k : Kept) → HoldsReady past k (hand_of k) → k.deletion ≡ None → (c : ℕ) → length (k.cq c).ready ≤ k.outstanding
 few_ready past k h none c = elim (cases_lt c MAX_REGIONS) [
   | inl small ↦
       omega (
@@ -45,15 +48,20 @@ few_ready past k h none c = elim (cases_lt c MAX_REGIONS) [
         over_at (λ (x : ℕ). sum_by (λ (t : Ready). one_if t.aborted) (k.cq x).ready) c MAX_REGIONS small,
         picked-sum k,
         aborted-sum k,
-        none-aborted past k (held_by k.deletion) h none,
+        none-aborted past k (hand_of k) h none,
         h.taken,
       )
   | inr beyond ↦ omega (arith, ap (λ (ts : List Ready). length ts) (h.none_beyond c beyond))
 ]
 
 -- ---- unposted places
+-- what doesn't hold counts nothing
+counts_none : (b : Bool) → (b ≡ true → ⊥) → one_if b ≤ 0
+counts_none true n = absurd (n refl)
+counts_none false n = omega arith
+
 -- where no deletion is pending, no ready completion is that of an aborted place
-ready-unaborted : (past : Past) (k : Kept) (r i : ℕ) → HoldsReady past k (held_by k.deletion) → k.deletion ≡ None → is_aborted past r i ≡ true → times_ready k r i ≡ 0
+ready-unaborted : (past : Past) (k : Kept) (r i : ℕ) → HoldsReady past k (hand_of k) → k.deletion ≡ None → is_aborted past r i ≡ true → times_ready k r i ≡ 0
 ready-unaborted past k r i h none gone =
     over_none (λ (c : ℕ). times_in r i (k.cq c).ready) MAX_REGIONS (λ c l.
     omega (
@@ -65,15 +73,37 @@ ready-unaborted past k r i h none gone =
           let same = and_parts (t.region == r) (t.index == i) e in
           not_deleting past k.deletion c t is none
           (is.aborted ∙ ap (λ (z : ℕ). is_aborted past z t.index) (eqb-true t.region r same.0) ∙ ap (is_aborted past r) (eqb-true t.index i same.1) ∙ gone))),
-    )) where
-      counts_none : (b : Bool) → (b ≡ true → ⊥) → one_if b ≤ 0
-      counts_none true n = absurd (n refl)
-      counts_none false n = omega arith
+    ))
+
+-- no picked command that has no result yet is of an aborted place
+jobs-unaborted : (past : Past) (ds : List Dispatched) (r i : ℕ) → All (IsDispatched past) ds → is_aborted past r i ≡ true → times_held r i (map dispatched_place ds) ≡ 0
+jobs-unaborted past ds r i each gone =
+    omega (
+      arith,
+      sum_by_map dispatched_place (λ (p : Place). one_if (p.region == r && p.index == i)) ds,
+      sum_by-le (λ (d : Dispatched). one_if (d.region == r && d.index == i)) 0 ds (λ j e m.
+          let d : Dispatched = slice_index_or ds j e in
+          let is : IsDispatched past d = each j e m in
+          counts_none (d.region == r && d.index == i) (λ h.
+          let same = and_parts (d.region == r) (d.index == i) h in
+          true≢false (sym gone ∙ ap (λ (z : ℕ). is_aborted past z i) (sym (eqb-true d.region r same.0)) ∙ ap (is_aborted past d.region) (sym (eqb-true d.index i same.1)) ∙ is.not_aborted))),
+    )
+
+-- so no aborted place is in hand, where no deletion is pending
+hand-unaborted : (past : Past) (k : Kept) (r i : ℕ) → All (IsDispatched past) (in_hand k.jobs.hands) → k.deletion ≡ None → is_aborted past r i ≡ true
+    → times_held r i (hand_of k) ≡ 0
+hand-unaborted past k r i each none gone =
+    let held : times_held r i (held_by k.deletion) ≡ 0 = ap (λ (d : Option PendingDelete). times_held r i (held_by d)) none in
+    omega (
+      arith,
+      sum_by-append (λ (p : Place). one_if (p.region == r && p.index == i)) (map dispatched_place (in_hand k.jobs.hands)) (held_by k.deletion),
+      jobs-unaborted past (in_hand k.jobs.hands) r i each gone,
+    )
 
 -- so an aborted place has its completion posted
-aborted-posted : (past : Past) (k : Kept) (r i : ℕ) → ((x : ℕ) → HoldsSq past x (k.sq x)) → HoldsReady past k (held_by k.deletion) → k.deletion ≡ None
-    → is_aborted past r i ≡ true → is_posted past r i ≡ false → ⊥
-aborted-posted past k r i regions h none gone fresh =
+aborted-posted : (past : Past) (k : Kept) (r i : ℕ) → ((x : ℕ) → HoldsSq past x (k.sq x)) → HoldsReady past k (hand_of k)
+    → All (IsDispatched past) (in_hand k.jobs.hands) → k.deletion ≡ None → is_aborted past r i ≡ true → is_posted past r i ≡ false → ⊥
+aborted-posted past k r i regions h each none gone fresh =
     elim (cases_lt i (length (k.sq r).got)) [
       | inl there ↦
           let many : length (fetched past r) ≡ length (k.sq r).got = ap length (regions r).fetched_is in
@@ -82,7 +112,7 @@ aborted-posted past k r i regions h none gone fresh =
           let once = h.once r i in
           let unready = ready-unaborted past k r i h none gone in
           let unposted = posts_of-none past r i fresh in
-          let hand : times_held r i (held_by k.deletion) ≡ 0 = ap (λ (d : Option PendingDelete). times_held r i (held_by d)) none in
+          let hand = hand-unaborted past k r i each none gone in
           absurd (omega arith)
       | inr beyond ↦ true≢false (sym gone ∙ (regions r).none_aborted i beyond)
     ]
@@ -104,7 +134,7 @@ few_unposted rules late past k s none r there =
     let picks : unposted_of past r ≤ outstanding_of past r =
     counts_less (λ (i : ℕ). not (is_waiting (fate_of past r i)) && not (is_posted past r i)) (λ (i : ℕ). is_picked (fate_of past r i) && not (is_posted past r i))
     (λ (i : ℕ). was_picked (is_aborted past r i) (nat_lt (unaborted_below past r i) (picked past r)) (is_posted past r i)
-    (λ gone fresh. aborted-posted past k r i s.regions s.ready none gone fresh))
+    (λ gone fresh. aborted-posted past k r i s.regions s.ready s.jobs.each none gone fresh))
     (places past r) in
     let all = part_of (λ (x : ℕ). outstanding_of past x) r (length (sq_regions_of rules)) (omega (arith, s.tabled.sq_number)) in
     omega (arith, s.counts.unposted r, s.counts.outstanding_is) where

@@ -4,6 +4,7 @@ use Rattle.std.specs.Prelude.{reverse}
 use Rattle.std.proofs.lemmas.List.{length-append, length-set, nil_from_length}
 use Rattle.nvme_arbiter.specs.Board.{BoardView}
 use Rattle.nvme_admin.specs.declared.verdict.Verdict.{Verdict}
+use Rattle.nvme_pool.specs.Seat.{SameSeat}
 use Rattle.nvme_front.specs.declared.event.Event.{Event}
 use Rattle.nvme_front.specs.declared.event.Event.TheVariants as event
 use Rattle.nvme_front.specs.declared.candidate.Candidate.{Candidate}
@@ -13,12 +14,14 @@ use Rattle.nvme_front.specs.declared.state.FrontState.{FrontState}
 use Rattle.nvme_front.specs.Fifo.{FifoView}
 use Rattle.nvme_front.specs.Effects.{made_by}
 use Rattle.nvme_front.specs.Applied.{IsApplied}
+use Rattle.nvme_front.specs.Jobs.{JobsView, gained_count}
 use Rattle.nvme_front.specs.Kept.{CqKept, Kept, cq_kept, cq_in, put_cq, with_ready, gets_of, puts_of, kept_of, rules_of, past_of}
 use Rattle.nvme_front.specs.Standing.{IsKept, window_room, ready_room}
 use Rattle.nvme_front.specs.Goes.{Goes, picks_in, get_place, put_place}
-use Rattle.nvme_front.specs.Steps.{IsChosen, applied_to, after_admin, admin_past, answered, with_events, with_readies}
+use Rattle.nvme_front.specs.Steps.{applied_to}
+use Rattle.nvme_front.proofs.AfterSteps.{IsChosen, after_admin, admin_past, answered, with_events, with_readies}
 use Rattle.nvme_front.proofs.Standing.{stands-admin}
-use Rattle.nvme_front.proofs.States.{cq_in-set, cq_in-read, put_places-set, readies-set, ready_room-is, kept_after, roomy-goes, past-events}
+use Rattle.nvme_front.proofs.States.{cq_in-set, cq_in-read, put_places-set, readies-set, ready_room-is, SameSeat-refl, kept_after, roomy-goes, past-events}
 use Rattle.nvme_front.proofs.AppliedRoom.{few_ready}
 
 -- ---- ready completions more
@@ -107,10 +110,10 @@ kept_readied a b c d ready ts there read e cqs =
 -- the front goes on where some completions became ready
 pub goes_readied : (a b : FrontState) (es : List Event) (c : ℕ) (d : CqRegion) (ready : FifoView Ready) (ts : List Ready) → d ≡ get_or a.cqs.items c d
     → ready ≡ record d.ready { items = d.ready.items ++ ts } → b.cqs.items ≡ set a.cqs.items c (record d { ready = ready })
-    → b.log.items ≡ a.log.items ++ es → b.config ≡ a.config → b.alloc ≡ a.alloc → b.late ≡ a.late
+    → b.log.items ≡ a.log.items ++ es → b.config ≡ a.config → b.alloc ≡ a.alloc → b.late ≡ a.late → b.jobs ≡ a.jobs
     → map get_place (gets_of b.sqs.items) ≡ map get_place (gets_of a.sqs.items) → map window_room b.sqs.items ≡ map window_room a.sqs.items
     → Goes a b
-goes_readied a b es c d ready ts read e cqs log config alloc late gets windows = record {
+goes_readied a b es c d ready ts read e cqs log config alloc late jobs gets windows = record {
   grew = (es, sym log);
   config = config;
   alloc = alloc;
@@ -119,6 +122,11 @@ goes_readied a b es c d ready ts read e cqs log config alloc late gets windows =
   puts = ap (λ (xs : List CqRegion). map put_place (puts_of xs)) cqs ∙ put_places-set a.cqs.items c d (record d { ready = ready }) read refl;
   windows = windows;
   readies = ap (λ (xs : List CqRegion). map ready_room xs) cqs ∙ readies-set a.cqs.items c d (record d { ready = ready }) read (ap (λ (x : FifoView Ready). x.room) e);
+  came = ap (λ (j : JobsView). j.hands.came) jobs;
+  seat = subst (λ (j : JobsView). SameSeat a.jobs.hands.seat j.hands.seat) (sym jobs) (SameSeat-refl a.jobs.hands.seat);
+  handed = omega (arith, ap (λ (j : JobsView). length j.hands.seat.handed) jobs);
+  gained = omega (arith, ap (λ (j : JobsView). gained_count j.hands) jobs);
+  room = ap (λ (j : JobsView). j.room) jobs;
 }
 
 -- a command that was carried out is kept, where its answer became ready last

@@ -30,7 +30,7 @@ use Rattle.nvme_front.specs.Kept.{SqKept, Kept, with_ready, put_sq, sq_in, cq_in
 use Rattle.nvme_front.specs.Standing.{IsKept, on_board}
 use Rattle.nvme_front.specs.Goes.{Goes}
 use Rattle.nvme_front.specs.Fifo.{FifoView}
-use Rattle.nvme_front.specs.Steps.{with_opened, answered}
+use Rattle.nvme_front.proofs.AfterSteps.{with_opened, answered}
 use Rattle.nvme_front.proofs.AppliedStates.{kept_answered}
 use Rattle.nvme_front.proofs.States.{sq_in-set, sq_in-read}
 use Rattle.nvme_front.proofs.QueueWords.{at_same}
@@ -134,9 +134,9 @@ module _ (a : FrontState) (candidate : Candidate) (qid region cqid : ℕ) (class
 pub kept_opened : (a b : FrontState) (qid r region c : ℕ) (class : Class) (d : SqRegion) → r ≡ region → r < length a.sqs.items → d ≡ get_or a.sqs.items r d
     → b.sqs.items ≡ set a.sqs.items r (record d { queue = Some (record { qid = qid; cq_region = c }) })
     → b.board ≡ record a.board { queues = slice_set a.board.queues qid (Some (record { class = class; count = 0 })) }
-    → b.table ≡ a.table → b.outstanding ≡ a.outstanding → b.deletion ≡ a.deletion
+    → b.table ≡ a.table → b.outstanding ≡ a.outstanding → b.deletion ≡ a.deletion → b.jobs ≡ a.jobs
     → kept_of (record b { cqs = a.cqs }) ≡ with_opened (kept_of a) qid region c class
-kept_opened a b qid r region c class d same there read sqs board table outstanding deletion =
+kept_opened a b qid r region c class d same there read sqs board table outstanding deletion jobs =
     let attachment : Attachment = record { qid = qid; cq_region = c } in
     let sq : sq_in b.sqs.items ≡ put_sq (sq_in a.sqs.items) r (record (sq_in a.sqs.items r) { queue = Some attachment }) =
     ap sq_in sqs ∙ sq_in-set a.sqs.items r (record d { queue = Some attachment }) there
@@ -152,6 +152,7 @@ kept_opened a b qid r region c class d same there read sqs board table outstandi
       table = table t;
       outstanding = outstanding t;
       deletion = deletion t;
+      jobs = jobs t;
     })
 
 -- what stays of a front while an admin command is carried out
@@ -161,6 +162,7 @@ pub record Stays (a b : FrontState) : Type 0 where
   pub late : b.late ≡ a.late
   pub table : b.table ≡ a.table
   pub outstanding : b.outstanding ≡ a.outstanding
+  pub jobs : b.jobs ≡ a.jobs
 
 -- a front with a submission queue more is kept
 pub keeps_opened : (a b : FrontState) (candidate : Candidate) (qid region cqid : ℕ) (class : Class) (closing : Option ℕ)
@@ -174,6 +176,6 @@ pub keeps_opened : (a b : FrontState) (candidate : Candidate) (qid region cqid :
 keeps_opened a b candidate qid region cqid class closing h c r s d ready t is same read sqs board read_cq e answer cqs log deletion stays goes =
     let v : Verdict = verdict.OpenSq qid region cqid class in
     let kept : kept_of (record b { cqs = a.cqs }) ≡ with_opened (kept_of a) qid region c class =
-    kept_opened a b qid r region c class s same (opens_there a candidate qid region cqid class closing h r same) read sqs board stays.table stays.outstanding deletion in
+    kept_opened a b qid r region c class s same (opens_there a candidate qid region cqid class closing h r same) read sqs board stays.table stays.outstanding deletion stays.jobs in
     kept_answered a b candidate v closing c a.board h (opens_for a candidate qid region cqid class closing h c is) d ready t read_cq e answer cqs log
     (ap (λ (k : Kept). with_ready k 0 (answered candidate v)) (sym kept)) goes stays.table (omega arith)

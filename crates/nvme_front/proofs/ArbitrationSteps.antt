@@ -36,7 +36,9 @@ use Rattle.nvme_front.specs.Effects.{closed_cq_of, closing_of}
 use Rattle.nvme_front.specs.Kept.{Kept}
 use Rattle.nvme_front.specs.Standing.{HoldsArbitration, Stands, on_board}
 use Rattle.nvme_front.proofs.Observing.{seen_is_observed}
-use Rattle.nvme_front.specs.Steps.{with_events, CanPick, KeepsFetch, KeepsIo, KeepsAdmin, KeepsPost, KeepsClose, Arbitration, IsChosen, admin_past, after_admin, applied_to, deleting_from, verdict_at}
+use Rattle.nvme_front.specs.Steps.{CanPick, applied_to, verdict_at}
+use Rattle.nvme_front.proofs.AfterSteps.{with_events, IsChosen, admin_past, after_admin, deleting_from}
+use Rattle.nvme_front.proofs.StepKeeps.{KeepsFetch, KeepsIo, KeepsAdmin, KeepsPost, KeepsClose, Arbitration}
 
 -- ---- boards
 -- an open queue of a board that makes an observation was seen

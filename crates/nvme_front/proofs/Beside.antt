@@ -1,5 +1,5 @@
 -- A look at both ends of a ring changes what its ends know, and nothing else.
-use Rattle.std.proofs.Common.{◌≡◌, ℕ, ◌<◌, ◌≤◌, List, [], map, length, set, get_or, refl, sym, ap, subst, ◌∙◌, inl, inr}
+use Rattle.std.proofs.Common.{◌≡◌, ℕ, ◌<◌, ◌≤◌, List, [], map, length, set, get_or, refl, sym, ap, subst, ◌∙◌, inl, inr, arith}
 use Rattle.std.specs.Prelude.{slice_index_or, slice_set}
 use Rattle.std.specs.Vec.{with_item}
 use Rattle.std.proofs.lemmas.List.{append-nil, length-map, length-set, map-set, get_or_past}
@@ -16,7 +16,7 @@ use Rattle.nvme_front.specs.Standing.{IsKept}
 use Rattle.nvme_front.specs.Goes.{Goes, get_place, put_place}
 use Rattle.nvme_front.specs.View.{view_of}
 use Rattle.nvme_front.proofs.Knowing.{knowing, stands-knowing, fresh-knowing}
-use Rattle.nvme_front.proofs.States.{look-set, look-read, places-set, windows-set, put_places-set, readies-set, rules-goes, sqs-goes, cqs-goes, admin-goes, roomy-goes}
+use Rattle.nvme_front.proofs.States.{SameSeat-refl, look-set, look-read, places-set, windows-set, put_places-set, readies-set, rules-goes, sqs-goes, cqs-goes, admin-goes, roomy-goes}
 
 -- a front with another end of a submission region
 abbrev pub looked_sq : FrontState → ℕ → SqRegion → GetView Sqe → FrontState
@@ -53,6 +53,11 @@ module _ (s : FrontState) (r : ℕ) (d : SqRegion) (e : GetView Sqe) (l : r < le
     puts = refl;
     windows = windows-set s.sqs.items r d (record d { end = e }) read refl;
     readies = refl;
+    came = refl;
+    seat = SameSeat-refl _;
+    handed = omega arith;
+    gained = omega arith;
+    room = refl;
   }
 
   sq-same : (x : ℕ) → sq_in (set s.sqs.items r (record d { end = e })) x ≡ record (sq_in s.sqs.items x) { known = (sq_in (set s.sqs.items r (record d { end = e })) x).known }
@@ -101,6 +106,11 @@ module _ (s : FrontState) (c : ℕ) (d : CqRegion) (e : PutView Cqe) (l : c < le
     puts = put_places-set s.cqs.items c d (record d { end = e }) read put_same;
     windows = refl;
     readies = readies-set s.cqs.items c d (record d { end = e }) read refl;
+    came = refl;
+    seat = SameSeat-refl _;
+    handed = omega arith;
+    gained = omega arith;
+    room = refl;
   }
 
   cq-same : (x : ℕ) → cq_in (set s.cqs.items c (record d { end = e })) x ≡ record (cq_in s.cqs.items x) { free = (cq_in (set s.cqs.items c (record d { end = e })) x).free }

@@ -13,11 +13,11 @@ use Rattle.nvme_front.specs.declared.candidate.Ready.{Ready}
 use Rattle.nvme_front.specs.declared.candidate.PendingDelete.{PendingDelete}
 use Rattle.nvme_front.specs.Rules.{Past, FrontRules, upto, sq_regions_of}
 use Rattle.nvme_front.specs.Queues.{pending}
-use Rattle.nvme_front.specs.Places.{fetched, waiting, places, fate_of, is_waiting, is_picked}
+use Rattle.nvme_front.specs.Places.{Place, fetched, waiting, places, fate_of, is_waiting, is_picked}
 use Rattle.nvme_front.specs.Completions.{is_posted, posts_of}
 use Rattle.nvme_front.specs.View.{IsClear}
 use Rattle.nvme_front.specs.Kept.{Kept}
-use Rattle.nvme_front.specs.Standing.{one_if, is_served, times_in, times_held, times_ready, over_regions, held_by, as_deletion, IsReady, Stands}
+use Rattle.nvme_front.specs.Standing.{one_if, is_served, times_in, times_held, times_ready, over_regions, ready_picked, hand_of, as_deletion, IsReady, Stands}
 use Rattle.nvme_front.proofs.Posts.{posts_of-none, posts_of-some, all_below}
 use Rattle.nvme_front.proofs.Answering.{kept_some}
 
@@ -84,7 +84,7 @@ module _ (rules : FrontRules) (late : Bool) (past : Past) (k : Kept) (s : Stands
   once_only r i c lt there posted =
       let term : times_in r i (k.cq c).ready ≤ times_ready k r i = over_regions-term (λ (x : ℕ). times_in r i (k.cq x).ready) MAX_REGIONS c lt in
       let post : 1 ≤ posts_of past r i = posts_of-some past r i posted in
-      let once : times_ready k r i + posts_of past r i + times_held r i (held_by k.deletion) ≡ one_if (is_served past r i) = s.ready.once r i in
+      let once : times_ready k r i + posts_of past r i + times_held r i (hand_of k) ≡ one_if (is_served past r i) = s.ready.once r i in
       let few : one_if (is_served past r i) ≤ 1 = one_if-le (is_served past r i) in
       omega arith
 
@@ -140,7 +140,13 @@ module _ (rules : FrontRules) (late : Bool) (past : Past) (k : Kept) (s : Stands
       false_from_ne_true (is_waiting (fate_of past r i))
       (λ waits. kept_some (λ (j : ℕ). is_waiting (fate_of past r j)) (length (fetched past r)) i lt waits (kept-none_waits nothing r))
 
-  -- with nothing ready and no deletion it is posted
+  -- nothing is in hand
+  kept-empty_hand : KeepsNothing k → hand_of k ≡ []
+  kept-empty_hand nothing =
+      let taken : ready_picked k + length (hand_of k) ≡ k.outstanding = s.ready.taken in
+      nil_from_length (hand_of k) (omega (arith, nothing.none_outstanding))
+
+  -- with nothing ready and nothing in hand it is posted
   kept-posted : KeepsNothing k → (r i : ℕ) → i < length (fetched past r) → is_posted past r i ≡ true
   kept-posted nothing r i lt = elim (cases_Bool (is_posted past r i)) [
     | inl posted ↦ posted
@@ -150,10 +156,10 @@ module _ (rules : FrontRules) (late : Bool) (past : Past) (k : Kept) (s : Stands
         (not_from_false (is_waiting (fate_of past r i)) (kept-not_waiting nothing r i lt)) in
         let one : one_if (is_served past r i) ≡ 1 = ap one_if served in
         let posts : posts_of past r i ≡ 0 = posts_of-none past r i unposted in
-        let held : times_held r i (held_by k.deletion) ≡ 0 = ap (λ (o : Option PendingDelete). times_held r i (held_by o)) nothing.no_deletion in
+        let held : times_held r i (hand_of k) ≡ 0 = ap (λ (ps : List Place). times_held r i ps) (kept-empty_hand nothing) in
         let readies : times_ready k r i ≡ 0 =
         over_regions-none (λ (c : ℕ). times_in r i (k.cq c).ready) MAX_REGIONS (λ c. ap (λ (xs : List Ready). times_in r i xs) (nothing.none_ready c)) in
-        let once : times_ready k r i + posts_of past r i + times_held r i (held_by k.deletion) ≡ one_if (is_served past r i) = s.ready.once r i in
+        let once : times_ready k r i + posts_of past r i + times_held r i (hand_of k) ≡ one_if (is_served past r i) = s.ready.once r i in
         absurd (omega arith)
   ]
 

@@ -14,13 +14,13 @@ use Rattle.nvme_front.specs.declared.state.FrontState.{FrontState}
 use Rattle.nvme_front.specs.Fifo.{FifoView}
 use Rattle.nvme_front.specs.Rules.{Past}
 use Rattle.nvme_front.specs.Kept.{Kept, SqKept, CqKept, sq_in, cq_in, cq_kept, put_cq, gets_of, puts_of, kept_of, rules_of, past_of}
-use Rattle.nvme_front.specs.Standing.{Stands, IsKept, IsPending, held_by, window_room, ready_room}
+use Rattle.nvme_front.specs.Standing.{Stands, IsKept, IsPending, hand_of, window_room, ready_room}
 use Rattle.nvme_front.specs.Goes.{Goes, HasAdmin, get_place, put_place}
-use Rattle.nvme_front.specs.Steps.{after_closed, closed_event, deleted}
+use Rattle.nvme_front.proofs.AfterSteps.{after_closed, closed_event, deleted}
 use Rattle.nvme_front.proofs.ReadyRoom.{ready_has_room}
 use Rattle.nvme_front.proofs.Standing.{stands-close}
 use Rattle.nvme_front.proofs.TableSteps.{finish-sq_regions, finish-cq_regions}
-use Rattle.nvme_front.proofs.States.{cq_in-set, sq_in-read, cq_in-read, past-push, pushed-not_empty, put_places-set, readies-set, roomy-goes, ready_room-is, kept_after}
+use Rattle.nvme_front.proofs.States.{cq_in-set, sq_in-read, cq_in-read, past-push, pushed-not_empty, put_places-set, readies-set, roomy-goes, ready_room-is, kept_after, SameSeat-refl}
 
 -- the region of the pending deletion is there
 pub deletion_there : (s : FrontState) (d : PendingDelete) → IsKept s → HasAdmin s → s.deletion ≡ Some d → d.region < length s.sqs.items
@@ -41,7 +41,7 @@ pub region_has_room : (s : FrontState) (c : ℕ) (d : CqRegion) → IsKept s →
 region_has_room s c d k admin there read =
     let room = ready_room-is s k.roomy c d there read in
     let same = ap (λ (z : CqKept). length z.ready) (cq_in-read s.cqs.items c d there read) in
-    let few = ready_has_room (past_of s) (kept_of s) (held_by s.deletion) (k.stands admin.0 admin.1).ready c in
+    let few = ready_has_room (past_of s) (kept_of s) (hand_of (kept_of s)) (k.stands admin.0 admin.1).ready c in
     omega (arith, room, same, few)
 
 -- the unposted places of a region that was read
@@ -64,6 +64,7 @@ pub record IsClosed (a b : FrontState) (d : PendingDelete) : Type 0 where
   pub none_pending : b.deletion ≡ None
   pub board : b.board ≡ a.board
   pub outstanding : b.outstanding ≡ a.outstanding
+  pub jobs : b.jobs ≡ a.jobs
   pub late : b.late ≡ a.late
   pub config : b.config ≡ a.config
   pub alloc : b.alloc ≡ a.alloc
@@ -79,6 +80,11 @@ closed-goes a b d p = record {
   puts = ap (λ (z : List CqRegion). map put_place (puts_of z)) p.cqs ∙ put_places-set a.cqs.items 0 p.c (record p.c { ready = p.f }) p.read refl;
   windows = ap (map window_room) p.sqs;
   readies = ap (map ready_room) p.cqs ∙ readies-set a.cqs.items 0 p.c (record p.c { ready = p.f }) p.read (ap (λ (z : FifoView Ready). z.room) p.ready);
+  came = rw p.jobs refl;
+  seat = rw p.jobs (SameSeat-refl a.jobs.hands.seat);
+  handed = rw p.jobs (omega arith);
+  gained = rw p.jobs (omega arith);
+  room = rw p.jobs refl;
 }
 
 -- what is kept is that after the end of the deletion
@@ -91,7 +97,7 @@ closed-kept_of a b d there p =
     ∙ ap (λ (z : CqKept). put_cq (cq_in a.cqs.items) 0 z) now
     ∙ ap (λ (z : CqKept). put_cq (cq_in a.cqs.items) 0 (record z { ready = z.ready ++ deleted d ∷ [] })) (sym (cq_in-read a.cqs.items 0 p.c there p.read)) in
     let ncq : length b.cqs.items ≡ length a.cqs.items = ap length p.cqs ∙ length-set a.cqs.items 0 (record p.c { ready = p.f }) in
-    λ i. record { sq = sq_in (p.sqs i); cq = cq i; nsq = length (p.sqs i); ncq = ncq i; board = p.board i; table = b.table; outstanding = p.outstanding i; deletion = p.none_pending i }
+    λ i. record { sq = sq_in (p.sqs i); cq = cq i; nsq = length (p.sqs i); ncq = ncq i; board = p.board i; table = b.table; outstanding = p.outstanding i; deletion = p.none_pending i; jobs = p.jobs i }
 
 -- and it is kept
 pub closed-kept : (a b : FrontState) (d : PendingDelete) → IsKept a → HasAdmin a → IsClosed a b d → IsKept b

@@ -22,8 +22,10 @@ use Rattle.nvme_front.specs.Completions.{is_posted, outstanding}
 use Rattle.nvme_front.specs.Effects.{closing_of, closed_cq_of}
 use Rattle.nvme_front.specs.Laws.{count_of}
 use Rattle.nvme_front.specs.Kept.{SqKept, Kept, put_sq}
-use Rattle.nvme_front.specs.Standing.{one_if, IsReady, HoldsSq, HoldsCounts, held_by, Stands}
-use Rattle.nvme_front.specs.Steps.{with_events, admin_past, after_admin, picked_sq, fetched_sq, deleting_from, applied_to, verdict_at, CanPick, KeepsFetch, KeepsIo, KeepsAdmin, KeepsPost, KeepsClose, Counts, post_event}
+use Rattle.nvme_front.specs.Standing.{one_if, IsReady, HoldsSq, HoldsCounts, hand_of, Stands}
+use Rattle.nvme_front.specs.Steps.{picked_sq, applied_to, verdict_at, CanPick}
+use Rattle.nvme_front.proofs.AfterSteps.{with_events, admin_past, after_admin, fetched_sq, deleting_from, post_event}
+use Rattle.nvme_front.proofs.StepKeeps.{KeepsFetch, KeepsIo, KeepsAdmin, KeepsPost, KeepsClose, Counts}
 use Rattle.nvme_front.proofs.Counting.{count_of-push, sums_differ}
 use Rattle.nvme_front.proofs.PostedPlaces.{posted_places, posted_picks, outstanding_of, PostedServed, unposted_by, picked_are, unaborted_are, outstanding_by, posted_served, pick_served, aborts_picked, aborts_posted, aborts_served, aborts_picks, waiting_unposted, post_places, post_picks, post_served, ready_unanswered}
 
@@ -105,7 +107,7 @@ counts_after rules past later k l x d before after served more balanced lt out h
 module _ (rules : FrontRules) (late : Bool) (past : Past) (k : Kept) (s : Stands rules late past k) where
   -- what is posted doesn't wait
   served_now : (r : ℕ) → PostedServed past r
-  served_now r = posted_served past k (held_by k.deletion) s.ready r
+  served_now r = posted_served past k (hand_of k) s.ready r
 
   -- the region of an open queue is one of the front's
   region_there : (q : ℕ) (queue : Queue) → open_sq past q ≡ Some queue → queue.region < length (sq_regions_of rules)
@@ -288,7 +290,7 @@ post_kept sq r0 r =
 pub counts-post : KeepsPost Counts
 counts-post rules late past k c t rest cqe qid free s can after =
     let later = post_event c t cqe ∷ past in
-    let it = ready_unanswered past k (held_by k.deletion) s.ready c t rest can.oldest in
+    let it = ready_unanswered past k (hand_of k) s.ready c t rest can.oldest in
     let is = All-head (λ (z : Ready). IsReady past k.deletion c z) t rest (subst (λ (z : List Ready). All (λ (x : Ready). IsReady past k.deletion c x) z) can.oldest (s.ready.each c)) in
     let served = served_now rules late past k s in
     let later_served = λ (r : ℕ). post_served past c t.region t.index r cqe it.was_served (served r) in

@@ -33,7 +33,9 @@ use Rattle.nvme_front.specs.Kept.{SqKept, Kept, put_sq}
 use Rattle.nvme_front.specs.Standing.{HoldsQueues, HoldsDeletion, IsPending, Stands, as_deletion}
 use Rattle.nvme_front.proofs.Oldest.{oldest_place, oldest_entry, oldest_unaborted}
 use Rattle.nvme_front.proofs.QueueWords.{chosen, put-queue}
-use Rattle.nvme_front.specs.Steps.{with_events, CanPick, CanApply, KeepsFetch, KeepsIo, KeepsAdmin, KeepsPost, KeepsClose, Deleting, picked_sq, admin_past, after_admin, applied_to, deleting_from, verdict_at}
+use Rattle.nvme_front.specs.Steps.{CanPick, CanApply, picked_sq, applied_to, verdict_at}
+use Rattle.nvme_front.proofs.AfterSteps.{with_events, admin_past, after_admin, deleting_from}
+use Rattle.nvme_front.proofs.StepKeeps.{KeepsFetch, KeepsIo, KeepsAdmin, KeepsPost, KeepsClose, Deleting}
 
 -- ---- where no deletion is pending
 -- a deletion that isn't there stands

@@ -30,7 +30,7 @@ sent_kept (x ∷ cqs) zero = refl
 sent_kept (x ∷ cqs) (suc c) = sent_kept cqs c
 
 -- a list is empty or not
-empty_or_not : {X : Type 0} (xs : List X) → (xs ≡ []) ⊎ (xs ≡ [] → ⊥)
+pub empty_or_not : {X : Type 0} (xs : List X) → (xs ≡ []) ⊎ (xs ≡ [] → ⊥)
 empty_or_not [] = inl refl
 empty_or_not (x ∷ xs) = inr (λ e. cc e)
 

@@ -71,4 +71,6 @@ view_goes_on a b g = record {
   late = g.late;
   gets = g.gets;
   puts = g.puts;
+  came = g.came;
+  seat = g.seat;
 }

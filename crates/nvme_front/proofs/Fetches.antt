@@ -24,8 +24,8 @@ use Rattle.nvme_front.specs.Laws.{as_open}
 use Rattle.nvme_front.specs.Kept.{SqKept, Kept, sq_kept, sq_in, cq_in, put_sq, gets_of, puts_of, kept_of, rules_of, past_of}
 use Rattle.nvme_front.specs.Standing.{Stands, IsKept, on_board, window_room, ready_room}
 use Rattle.nvme_front.specs.Goes.{Goes, HasAdmin, get_place, put_place}
-use Rattle.nvme_front.specs.Steps.{CanFetch, fetched_sq, came_board, fetch_event, after_fetch}
-use Rattle.nvme_front.proofs.States.{sq_in-set, sq_in-read, past-push, pushed-not_empty, places-set, windows-set, roomy-goes, window_room-is, kept_after}
+use Rattle.nvme_front.proofs.AfterSteps.{CanFetch, fetched_sq, came_board, fetch_event, after_fetch}
+use Rattle.nvme_front.proofs.States.{sq_in-set, sq_in-read, past-push, pushed-not_empty, places-set, windows-set, roomy-goes, window_room-is, kept_after, SameSeat-refl}
 use Rattle.nvme_front.proofs.Standing.{stands-fetch}
 
 -- all but the submission regions, the board and the log is as it was
@@ -34,6 +34,7 @@ pub record IsElseSame (a b : FrontState) : Type 0 where
   pub table : b.table ≡ a.table
   pub outstanding : b.outstanding ≡ a.outstanding
   pub deletion : b.deletion ≡ a.deletion
+  pub jobs : b.jobs ≡ a.jobs
   pub late : b.late ≡ a.late
   pub config : b.config ≡ a.config
   pub alloc : b.alloc ≡ a.alloc
@@ -126,6 +127,11 @@ module _ (a : FrontState) (kept : IsKept a) (admin : HasAdmin a) (q : ℕ) (entr
       puts = ap (λ (x : List CqRegion). map put_place (puts_of x)) (ap (λ (v : _). v.items) same.cqs);
       windows = ap (map window_room) sqs ∙ windows-set a.sqs.items entry.region d g read (ap (λ (w : _). w.room) window);
       readies = ap (map ready_room) (ap (λ (v : _). v.items) same.cqs);
+      came = rw same.jobs refl;
+      seat = rw same.jobs (SameSeat-refl a.jobs.hands.seat);
+      handed = rw same.jobs (omega arith);
+      gained = rw same.jobs (omega arith);
+      room = rw same.jobs refl;
     }
 
     module _ (index : candidate.index ≡ d.fetched) (got : g.end.got ≡ d.end.got ++ candidate.entry ∷ []) (fetched_is : g.fetched ≡ d.fetched + 1)
@@ -159,6 +165,7 @@ module _ (a : FrontState) (kept : IsKept a) (admin : HasAdmin a) (q : ℕ) (entr
           table = same.table t;
           outstanding = same.outstanding t;
           deletion = same.deletion t;
+          jobs = same.jobs t;
         }
 
         -- its event

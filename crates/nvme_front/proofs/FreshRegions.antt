@@ -15,6 +15,7 @@ use Rattle.nvme_admin.specs.declared.region.Region.{Region}
 use Rattle.nvme_front.specs.declared.candidate.PendingDelete.{PendingDelete}
 use Rattle.nvme_front.specs.declared.region.SqRegion.{SqRegion}
 use Rattle.nvme_front.specs.declared.region.CqRegion.{CqRegion}
+use Rattle.nvme_front.specs.Jobs.{JobsView}
 use Rattle.nvme_front.specs.Kept.{SqKept, CqKept, sq_kept, cq_kept, sq_in, cq_in, sq_steps, cq_steps, gets_of, puts_of}
 use Rattle.nvme_front.specs.Standing.{IsFresh, IsFreshSq, IsFreshCq, first_on_board}
 use Rattle.nvme_front.proofs.RegionLists.{rules_with, kept_with, slots_of_sq, slots_of_cq, number_of_sq, number_of_cq, sq_more-stands, cq_more-stands, sq_in-before, sq_in-last, sq_in-past, cq_in-before, cq_in-last, cq_in-past}
@@ -73,8 +74,8 @@ first_size n board = elim (cases_eq n 0) [
 
 -- ---- a submission region more
 module _ (mechanism : Mechanism) (start : Start) (sizes : List ℕ) (sqs : List SqRegion) (cqs : List CqRegion) (late : Bool)
-    (board : BoardView) (table : TableView) (outstanding : ℕ) (deletion : Option PendingDelete)
-    (f : IsFresh (rules_with mechanism start sizes sqs cqs) late (kept_with sqs cqs board table outstanding deletion)) where
+    (board : BoardView) (table : TableView) (outstanding : ℕ) (deletion : Option PendingDelete) (jobs : JobsView)
+    (f : IsFresh (rules_with mechanism start sizes sqs cqs) late (kept_with sqs cqs board table outstanding deletion jobs)) where
   -- every region is fresh, with one more
   sq_fresh : (x : SqRegion) → IsFreshSq (length sqs) (sq_kept x) → (r : ℕ) → r < length (sqs ++ x ∷ []) → IsFreshSq r (sq_in (sqs ++ x ∷ []) r)
   sq_fresh x fresh r lt = elim (cases_lt r (length sqs)) [
@@ -99,9 +100,9 @@ module _ (mechanism : Mechanism) (start : Start) (sizes : List ℕ) (sqs : List 
   pub fresh_with_sq : (x : SqRegion) (all : List SqRegion) (after : BoardView) (added : TableView) → all ≡ sqs ++ x ∷ [] → length sqs < MAX_REGIONS
       → IsFreshSq (length sqs) (sq_kept x) → after ≡ board_with_sq (length sqs) board → BoardStandsAt mechanism start.settings [] after
       → StandsAt start added (RegionAdded Submission x.end.address x.end.slots ∷ (cq_steps (puts_of cqs) ++ sq_steps (gets_of sqs)))
-      → IsFresh (rules_with mechanism start sizes all cqs) late (kept_with all cqs after added outstanding deletion)
+      → IsFresh (rules_with mechanism start sizes all cqs) late (kept_with all cqs after added outstanding deletion jobs)
   fresh_with_sq x all after added is room fresh opened board_stands table_stands = subst
-      (λ (z : List SqRegion). IsFresh (rules_with mechanism start sizes z cqs) late (kept_with z cqs after added outstanding deletion)) (sym is) (
+      (λ (z : List SqRegion). IsFresh (rules_with mechanism start sizes z cqs) late (kept_with z cqs after added outstanding deletion jobs)) (sym is) (
       let stands = sq_more-stands start sqs cqs x added table_stands in
       let one_more : length (sqs ++ x ∷ []) ≡ length sqs + 1 = length_push sqs x in
       record {
@@ -113,6 +114,7 @@ module _ (mechanism : Mechanism) (start : Start) (sizes : List ℕ) (sqs : List 
         stands = board_stands;
         none_outstanding = f.none_outstanding;
         no_deletion = f.no_deletion;
+        jobs = f.jobs;
         not_late = f.not_late;
         table = stands;
         sq_count = ap (λ (rs : List Region). length rs) stands.sq_regions ∙ number_of_sq mechanism start sizes (sqs ++ x ∷ []) cqs;
@@ -129,9 +131,9 @@ module _ (mechanism : Mechanism) (start : Start) (sizes : List ℕ) (sqs : List 
   pub fresh_with_cq : (x : CqRegion) (all : List CqRegion) (added : TableView) → all ≡ cqs ++ x ∷ [] → length cqs < MAX_REGIONS
       → IsFreshCq (cq_kept x)
       → StandsAt start added (RegionAdded Completion x.end.address x.end.slots ∷ (cq_steps (puts_of cqs) ++ sq_steps (gets_of sqs)))
-      → IsFresh (rules_with mechanism start sizes sqs all) late (kept_with sqs all board added outstanding deletion)
+      → IsFresh (rules_with mechanism start sizes sqs all) late (kept_with sqs all board added outstanding deletion jobs)
   fresh_with_cq x all added is room fresh table_stands = subst
-      (λ (z : List CqRegion). IsFresh (rules_with mechanism start sizes sqs z) late (kept_with sqs z board added outstanding deletion)) (sym is) (
+      (λ (z : List CqRegion). IsFresh (rules_with mechanism start sizes sqs z) late (kept_with sqs z board added outstanding deletion jobs)) (sym is) (
       let stands = cq_more-stands start sqs cqs x added table_stands in
       let one_more : length (cqs ++ x ∷ []) ≡ length cqs + 1 = length_push cqs x in
       record {
@@ -143,6 +145,7 @@ module _ (mechanism : Mechanism) (start : Start) (sizes : List ℕ) (sqs : List 
         stands = f.stands;
         none_outstanding = f.none_outstanding;
         no_deletion = f.no_deletion;
+        jobs = f.jobs;
         not_late = f.not_late;
         table = stands;
         sq_count = ap (λ (rs : List Region). length rs) stands.sq_regions ∙ number_of_sq mechanism start sizes sqs (cqs ++ x ∷ []);

@@ -13,7 +13,7 @@ use Rattle.nvme_front.specs.Places.{fetched, places, fate_of, is_picked}
 use Rattle.nvme_front.specs.Completions.{is_posted}
 use Rattle.nvme_front.specs.Laws.{as_open}
 use Rattle.nvme_front.specs.Kept.{Kept}
-use Rattle.nvme_front.specs.Standing.{HoldsSq, HoldsReady, HoldsCounts, HoldsPosts, HoldsQueues, HoldsDeletion, HoldsTable, IsPending, held_by, Stands}
+use Rattle.nvme_front.specs.Standing.{HoldsSq, HoldsReady, HoldsCounts, HoldsPosts, HoldsQueues, HoldsDeletion, HoldsTable, IsPending, hand_of, Stands}
 
 -- more regions, of which nothing is kept but what comes from them, and a table with the same queues
 abbrev pub grown : Kept → (ℕ → List Sqe) → (ℕ → ℕ) → (ℕ → ℕ) → (ℕ → ℕ) → ℕ → ℕ → TableView → Kept
@@ -83,7 +83,7 @@ module _ (rules : FrontRules) (late : Bool) (past : Past) (k : Kept) (s : Stands
       }
 
   -- what is ready stays
-  grown_ready : HoldsReady past (grown k known sq_slots free cq_slots nsq ncq table) (held_by k.deletion)
+  grown_ready : HoldsReady past (grown k known sq_slots free cq_slots nsq ncq table) (hand_of k)
   grown_ready = record {
     once = s.ready.once;
     each = s.ready.each;
@@ -174,6 +174,7 @@ module _ (rules : FrontRules) (late : Bool) (past : Past) (k : Kept) (s : Stands
   stands_when_grown = record {
     regions = grown_sq;
     ready = grown_ready;
+    jobs = s.jobs;
     counts = grown_counts;
     posts = grown_posts;
     queues = grown_queues;

@@ -120,7 +120,7 @@ part-other f d xs k x r h = ap (λ z. get_or z r d) (map-set f xs k x) ∙ get_o
 
 -- ---- the same front
 pub IsSameFront-refl : (v : FrontView) → IsSameFront v v
-IsSameFront-refl v = record { rules = refl; limit = refl; late = refl; log = refl; got = refl; knows = λ r. IsPrefix-refl (known_in v r); get_places = refl; sent = refl; put_places = refl }
+IsSameFront-refl v = record { rules = refl; limit = refl; late = refl; log = refl; got = refl; knows = λ r. IsPrefix-refl (known_in v r); get_places = refl; sent = refl; put_places = refl; hands = refl }
 
 pub IsSameFront-trans : (u v w : FrontView) → IsSameFront u v → IsSameFront v w → IsSameFront u w
 IsSameFront-trans u v w g h = record {
@@ -133,6 +133,7 @@ IsSameFront-trans u v w g h = record {
   get_places = h.get_places ∙ g.get_places;
   sent = h.sent ∙ g.sent;
   put_places = h.put_places ∙ g.put_places;
+  hands = h.hands ∙ g.hands;
 }
 
 -- a look leaves the same front
@@ -152,6 +153,7 @@ same-sq r x x' v w rests l look = record {
   get_places = ap (λ (z : FrontView). map get_place z.gets) look.view ∙ seen-set get_place v.gets r look.end l look.place;
   sent = ap (λ (z : FrontView). map (λ (p : PutView Cqe). p.sent) z.puts) look.view;
   put_places = ap (λ (z : FrontView). map put_place z.puts) look.view;
+  hands = ap (λ (z : FrontView). z.hands) look.view;
 }
 
 same-cq : (c : ℕ) (x x' : Drainer Cqe) (v w : FrontView) (rests : ℕ) → c < length v.puts → LooksAtCq c x x' v w rests → IsSameFront v w
@@ -165,6 +167,7 @@ same-cq c x x' v w rests l look = record {
   get_places = ap (λ (z : FrontView). map get_place z.gets) look.view;
   sent = ap (λ (z : FrontView). map (λ (p : PutView Cqe). p.sent) z.puts) look.view ∙ seen-set (λ (p : PutView Cqe). p.sent) v.puts c look.end l look.sent;
   put_places = ap (λ (z : FrontView). map put_place z.puts) look.view ∙ seen-set put_place v.puts c look.end l look.place;
+  hands = ap (λ (z : FrontView). z.hands) look.view;
 }
 
 -- ---- looking at one submission ring after another

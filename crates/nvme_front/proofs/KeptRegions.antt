@@ -13,15 +13,16 @@ use Rattle.nvme_front.specs.declared.event.Event.{Event}
 use Rattle.nvme_front.specs.declared.region.SqRegion.{SqRegion}
 use Rattle.nvme_front.specs.declared.region.CqRegion.{CqRegion}
 use Rattle.nvme_front.specs.declared.state.FrontState.{FrontState}
+use Rattle.nvme_front.specs.Jobs.{JobsView}
 use Rattle.nvme_front.specs.Kept.{Kept, sq_kept, cq_kept, kept_of, rules_of, past_of}
 use Rattle.nvme_admin.specs.QueueTable.{QueueTable}
 use Rattle.nvme_admin.specs.Accepted.{effects_of, queue_table}
 use Rattle.nvme_admin.specs.declared.region.Region.{Region}
 use Rattle.nvme_front.specs.declared.front.FrontConfig.{FrontConfig}
-use Rattle.nvme_front.specs.Limits.{max_ready}
+use Rattle.nvme_front.specs.Limits.{max_outstanding, max_ready}
 use Rattle.nvme_front.specs.Rules.{FrontRules, Past}
 use Rattle.nvme_front.proofs.RegionSteps.{first_table, table_of-additions}
-use Rattle.nvme_front.specs.Standing.{sq_region, cq_region, window_room, ready_room, IsRoomy, Stands, IsFresh, IsFreshSq, IsFreshCq, IsKept}
+use Rattle.nvme_front.specs.Standing.{sq_region, cq_region, window_room, ready_room, IsRoomy, Stands, IsFresh, IsFreshSq, IsFreshCq, AreFreshJobs, IsKept}
 use Rattle.nvme_front.proofs.Starting.{stands_when_first}
 use Rattle.nvme_front.proofs.Newly.{fresh_at_new}
 use Rattle.nvme_front.proofs.RegionLists.{rules_with, kept_with}
@@ -59,9 +60,9 @@ no_regions start v h =
 pub is_kept-new : (s : FrontState) → s.sqs.items ≡ [] → s.cqs.items ≡ [] → s.log.items ≡ [] → s.board.queues ≡ replicate queue_limit None
     → BoardStandsAt s.config.mechanism s.config.settings [] s.board
     → StandsAt (record { nsq = s.config.limits.nsq; ncq = s.config.limits.ncq; settings = s.config.settings }) s.table []
-    → s.outstanding ≡ 0 → s.deletion ≡ None → s.late ≡ false → IsKept s
-is_kept-new s sqs cqs log closed board table outstanding deletion early = record {
-  fresh = λ h. fresh_at_new s sqs cqs closed board table outstanding deletion early;
+    → s.outstanding ≡ 0 → s.deletion ≡ None → AreFreshJobs s.jobs → s.late ≡ false → IsKept s
+is_kept-new s sqs cqs log closed board table outstanding deletion jobs early = record {
+  fresh = λ h. fresh_at_new s sqs cqs closed board table outstanding deletion jobs early;
   stands = λ some others. let none : length s.sqs.items ≡ 0 = ap (λ (xs : List SqRegion). length xs) sqs in absurd (omega arith);
   begun = λ h. absurd (h log);
   roomy = record {
@@ -69,11 +70,116 @@ is_kept-new s sqs cqs log closed board table outstanding deletion early = record
     ready = rw cqs refl;
     sq_table = (no_regions (start_of s) s.table table).0 ∙ ap (λ (xs : List SqRegion). map sq_region xs) (sym sqs);
     cq_table = (no_regions (start_of s) s.table table).1 ∙ ap (λ (xs : List CqRegion). map cq_region xs) (sym cqs);
+    jobs = λ some. let none : length s.sqs.items ≡ 0 = ap (λ (xs : List SqRegion). length xs) sqs in absurd (omega arith);
     few_events = rw log (omega arith);
     few_sqs = rw sqs (omega arith);
     few_cqs = rw cqs (omega arith);
   };
 }
+
+-- a state is one in which only the room for jobs changed, and room that was made stays
+pub record HasMadeRoom (s t : FrontState) : Type 0 where
+  pub config : t.config ≡ s.config
+  pub sqs : t.sqs.items ≡ s.sqs.items
+  pub cqs : t.cqs.items ≡ s.cqs.items
+  pub board : t.board ≡ s.board
+  pub table : t.table ≡ s.table
+  pub outstanding : t.outstanding ≡ s.outstanding
+  pub deletion : t.deletion ≡ s.deletion
+  pub jobs : t.jobs ≡ record s.jobs { room = t.jobs.room }
+  pub keeps_room : s.jobs.room ≡ max_outstanding → t.jobs.room ≡ max_outstanding
+  pub log : t.log.items ≡ s.log.items
+  pub late : t.late ≡ s.late
+
+-- with other room for jobs a fresh front is fresh
+fresh-room : (rules : FrontRules) (late : Bool) (k : Kept) (n : ℕ) → IsFresh rules late k → IsFresh rules late (record k { jobs = record k.jobs { room = n } })
+fresh-room rules late k n f = record {
+  sqs = f.sqs;
+  no_sqs = f.no_sqs;
+  cqs = f.cqs;
+  board = f.board;
+  board_size = f.board_size;
+  stands = f.stands;
+  none_outstanding = f.none_outstanding;
+  no_deletion = f.no_deletion;
+  jobs = record { tickets = f.jobs.tickets; none_unhanded = f.jobs.none_unhanded; none_running = f.jobs.none_running; none_handed = f.jobs.none_handed };
+  not_late = f.not_late;
+  table = f.table;
+  sq_count = f.sq_count;
+  cq_count = f.cq_count;
+  sq_number = f.sq_number;
+  cq_number = f.cq_number;
+  few_sqs = f.few_sqs;
+  few_cqs = f.few_cqs;
+  sq_slots = f.sq_slots;
+  cq_slots = f.cq_slots;
+}
+
+module _ (s : FrontState) (kept : IsKept s) (t : FrontState) (m : HasMadeRoom s t) where
+  -- with no event the front is fresh
+  room-fresh : t.log.items ≡ [] → IsFresh (rules_of t) t.late (kept_of t)
+  room-fresh none =
+      fresh_told (rules_of s) (rules_of t) s.late t.late (record (kept_of s) { jobs = record s.jobs { room = t.jobs.room } }) (kept_of t)
+      (sym (λ i. rules_by (m.config i) (m.sqs i) (m.cqs i))) (sym m.late)
+      (sym (λ i. kept_with (m.sqs i) (m.cqs i) (m.board i) (m.table i) (m.outstanding i) (m.deletion i) (m.jobs i)))
+      (fresh-room (rules_of s) s.late (kept_of s) t.jobs.room (kept.fresh (sym m.log ∙ none)))
+
+  -- the jobs are the same once there is a submission region, since there was room then
+  room-same : 0 < length s.sqs.items → t.jobs ≡ s.jobs
+  room-same some =
+      let full : s.jobs.room ≡ max_outstanding = kept.roomy.jobs some in
+      m.jobs ∙ ap (λ (n : ℕ). record s.jobs { room = n }) (m.keeps_room full ∙ sym full)
+
+  -- so what is kept stands
+  room-stands : 0 < length s.sqs.items → 0 < length s.cqs.items → Stands (rules_of t) t.late (past_of t) (kept_of t)
+  room-stands sqs cqs =
+      stands_told (rules_of s) (rules_of t) s.late t.late (past_of s) (past_of t) (kept_of s) (kept_of t)
+      (sym (λ i. rules_by (m.config i) (m.sqs i) (m.cqs i))) (sym m.late) (ap (λ (es : List Event). reverse es) (sym m.log))
+      (sym (λ i. kept_with (m.sqs i) (m.cqs i) (m.board i) (m.table i) (m.outstanding i) (m.deletion i) (room-same sqs i)))
+      (kept.stands sqs cqs)
+
+  -- there is room
+  room-roomy : IsRoomy t
+  room-roomy =
+      let r = kept.roomy in
+      record {
+        windows = subst (λ (xs : List SqRegion). map (λ (n : ℕ). n + 1) (map window_room xs) ≡ map (λ (z : SqRegion). z.end.slots) xs) (sym m.sqs) r.windows;
+        ready = subst (λ (xs : List CqRegion). map ready_room xs ≡ map (λ (z : CqRegion). max_ready) xs) (sym m.cqs) r.ready;
+        sq_table = ap (λ (v : TableView). v.sq_regions) m.table ∙ r.sq_table ∙ ap (λ (xs : List SqRegion). map sq_region xs) (sym m.sqs);
+        cq_table = ap (λ (v : TableView). v.cq_regions) m.table ∙ r.cq_table ∙ ap (λ (xs : List CqRegion). map cq_region xs) (sym m.cqs);
+        jobs = λ some. m.keeps_room (r.jobs (subst (λ (xs : List SqRegion). 0 < length xs) m.sqs some));
+        few_events = subst (λ (c : FrontConfig). length t.log.items ≤ c.max_events) (sym m.config) (rw m.log r.few_events);
+        few_sqs = rw m.sqs r.few_sqs;
+        few_cqs = rw m.cqs r.few_cqs;
+      }
+
+-- a front with other room for jobs keeps what stands at its log
+pub is_kept-with_room : (s : FrontState) → IsKept s → (t : FrontState) → HasMadeRoom s t → IsKept t
+is_kept-with_room s kept t m = record {
+  fresh = room-fresh s kept t m;
+  stands = λ sqs cqs. room-stands s kept t m (subst (λ (xs : List SqRegion). 0 < length xs) m.sqs sqs) (subst (λ (xs : List CqRegion). 0 < length xs) m.cqs cqs);
+  begun = λ some.
+      let there = kept.begun (λ none. some (m.log ∙ none)) in
+      (subst (λ (xs : List SqRegion). 0 < length xs) (sym m.sqs) there.0, subst (λ (xs : List CqRegion). 0 < length xs) (sym m.cqs) there.1);
+  roomy = room-roomy s kept t m;
+}
+
+-- the same of the jobs alone
+pub kept_with_room : (s : FrontState) → IsKept s → (j : JobsView) → j ≡ record s.jobs { room = j.room } → (s.jobs.room ≡ max_outstanding → j.room ≡ max_outstanding)
+    → IsKept (record s { jobs = j })
+kept_with_room s kept j jobs keeps_room = is_kept-with_room s kept (record s { jobs = j }) (record {
+  config = refl;
+  sqs = refl;
+  cqs = refl;
+  board = refl;
+  table = refl;
+  outstanding = refl;
+  deletion = refl;
+  jobs = jobs;
+  keeps_room = keeps_room;
+  log = refl;
+  late = refl;
+})
 
 -- a log has an event or hasn't
 has_event : (log : List Event) → (log ≡ []) ⊎ (log ≡ [] → ⊥)
@@ -87,12 +193,14 @@ pub record HasSqMore (s t : FrontState) (x : SqRegion) : Type 0 where
   pub cqs : t.cqs.items ≡ s.cqs.items
   pub outstanding : t.outstanding ≡ s.outstanding
   pub deletion : t.deletion ≡ s.deletion
+  pub jobs : t.jobs ≡ s.jobs
   pub log : t.log.items ≡ s.log.items
   pub early : s.log.items ≡ [] → t.late ≡ false
   pub late : (s.log.items ≡ [] → ⊥) → t.late ≡ true
   pub room : length s.sqs.items < MAX_REGIONS
   pub fresh : IsFreshSq (length s.sqs.items) (sq_kept x)
   pub window : x.window.room + 1 ≡ x.end.slots
+  pub has_room : t.jobs.room ≡ max_outstanding
   pub board : t.board ≡ board_with_sq (length s.sqs.items) s.board
   pub board_stands : (mechanism : Mechanism) (first : ArbitrationFields) (past : History) → BoardStandsAt mechanism first past s.board → BoardStandsAt mechanism first past t.board
   pub table : (start : Start) (h : TableHistory) → StandsAt start s.table h → StandsAt start t.table (RegionAdded Submission x.end.address x.end.slots ∷ h)
@@ -104,6 +212,7 @@ pub record HasCqMore (s t : FrontState) (x : CqRegion) : Type 0 where
   pub cqs : t.cqs.items ≡ s.cqs.items ++ x ∷ []
   pub outstanding : t.outstanding ≡ s.outstanding
   pub deletion : t.deletion ≡ s.deletion
+  pub jobs : t.jobs ≡ s.jobs
   pub log : t.log.items ≡ s.log.items
   pub early : s.log.items ≡ [] → t.late ≡ false
   pub late : (s.log.items ≡ [] → ⊥) → t.late ≡ true
@@ -156,10 +265,10 @@ module _ (s : FrontState) (kept : IsKept s) (t : FrontState) (x : SqRegion) (m :
   sq-fresh none =
       let before : s.log.items ≡ [] = sym m.log ∙ none in
       let f = kept.fresh before in
-      fresh_told (rules_by s.config t.sqs.items s.cqs.items) (rules_of t) s.late t.late (kept_with t.sqs.items s.cqs.items t.board t.table s.outstanding s.deletion) (kept_of t)
+      fresh_told (rules_by s.config t.sqs.items s.cqs.items) (rules_of t) s.late t.late (kept_with t.sqs.items s.cqs.items t.board t.table s.outstanding s.deletion s.jobs) (kept_of t)
       (sym (λ i. rules_by (m.config i) t.sqs.items (m.cqs i))) (f.not_late ∙ sym (m.early before))
-      (sym (λ i. kept_with t.sqs.items (m.cqs i) t.board t.table (m.outstanding i) (m.deletion i)))
-      (fresh_with_sq s.config.mechanism (start_of s) s.config.spaces s.sqs.items s.cqs.items s.late s.board s.table s.outstanding s.deletion f
+      (sym (λ i. kept_with t.sqs.items (m.cqs i) t.board t.table (m.outstanding i) (m.deletion i) (m.jobs i)))
+      (fresh_with_sq s.config.mechanism (start_of s) s.config.spaces s.sqs.items s.cqs.items s.late s.board s.table s.outstanding s.deletion s.jobs f
       x t.sqs.items t.board t.table m.sqs m.room m.fresh m.board (m.board_stands s.config.mechanism s.config.settings [] f.stands)
       (m.table (start_of s) (rules_of s).regions f.table))
 
@@ -178,10 +287,10 @@ module _ (s : FrontState) (kept : IsKept s) (t : FrontState) (x : SqRegion) (m :
         let there = kept.begun was in
         let same_board : t.board ≡ s.board = m.board ∙ board_with_sq-later (length s.sqs.items) s.board (λ z. omega (arith, z, there.0)) in
         stands_told (rules_by s.config t.sqs.items s.cqs.items) (rules_of t) true t.late (past_of s) (past_of t)
-        (kept_with t.sqs.items s.cqs.items s.board t.table s.outstanding s.deletion) (kept_of t)
+        (kept_with t.sqs.items s.cqs.items s.board t.table s.outstanding s.deletion s.jobs) (kept_of t)
         (sym (λ i. rules_by (m.config i) t.sqs.items (m.cqs i))) (sym (m.late was)) (ap (λ (es : List Event). reverse es) (sym m.log))
-        (sym (λ i. kept_with t.sqs.items (m.cqs i) (same_board i) t.table (m.outstanding i) (m.deletion i)))
-        (stands_with_sq s.config.mechanism (start_of s) s.config.spaces s.sqs.items s.cqs.items s.late (past_of s) s.board s.table s.outstanding s.deletion
+        (sym (λ i. kept_with t.sqs.items (m.cqs i) (same_board i) t.table (m.outstanding i) (m.deletion i) (m.jobs i)))
+        (stands_with_sq s.config.mechanism (start_of s) s.config.spaces s.sqs.items s.cqs.items s.late (past_of s) s.board s.table s.outstanding s.deletion s.jobs
         (kept.stands there.0 there.1) there.0 there.1 x t.sqs.items t.table m.sqs m.room m.fresh (m.table (start_of s)))
   ]
 
@@ -199,6 +308,7 @@ module _ (s : FrontState) (kept : IsKept s) (t : FrontState) (x : SqRegion) (m :
         sq_table = more.0 ∙ ap (λ (rs : List Region). rs ++ sq_region x ∷ []) r.sq_table ∙ sym (map-append sq_region s.sqs.items (x ∷ []))
             ∙ ap (λ (xs : List SqRegion). map sq_region xs) (sym m.sqs);
         cq_table = more.1 ∙ r.cq_table ∙ ap (λ (xs : List CqRegion). map cq_region xs) (sym m.cqs);
+        jobs = λ some. m.has_room;
         few_events = subst (λ (c : FrontConfig). length t.log.items ≤ c.max_events) (sym m.config) (rw m.log r.few_events);
         few_sqs = let room = m.room in omega arith;
         few_cqs = rw m.cqs r.few_cqs;
@@ -221,10 +331,10 @@ module _ (s : FrontState) (kept : IsKept s) (t : FrontState) (x : CqRegion) (m :
   cq-fresh none =
       let before : s.log.items ≡ [] = sym m.log ∙ none in
       let f = kept.fresh before in
-      fresh_told (rules_by s.config s.sqs.items t.cqs.items) (rules_of t) s.late t.late (kept_with s.sqs.items t.cqs.items s.board t.table s.outstanding s.deletion) (kept_of t)
+      fresh_told (rules_by s.config s.sqs.items t.cqs.items) (rules_of t) s.late t.late (kept_with s.sqs.items t.cqs.items s.board t.table s.outstanding s.deletion s.jobs) (kept_of t)
       (sym (λ i. rules_by (m.config i) (m.sqs i) t.cqs.items)) (f.not_late ∙ sym (m.early before))
-      (sym (λ i. kept_with (m.sqs i) t.cqs.items (m.board i) t.table (m.outstanding i) (m.deletion i)))
-      (fresh_with_cq s.config.mechanism (start_of s) s.config.spaces s.sqs.items s.cqs.items s.late s.board s.table s.outstanding s.deletion f
+      (sym (λ i. kept_with (m.sqs i) t.cqs.items (m.board i) t.table (m.outstanding i) (m.deletion i) (m.jobs i)))
+      (fresh_with_cq s.config.mechanism (start_of s) s.config.spaces s.sqs.items s.cqs.items s.late s.board s.table s.outstanding s.deletion s.jobs f
       x t.cqs.items t.table m.cqs m.room m.fresh (m.table (start_of s) (rules_of s).regions f.table))
 
   -- a completion region is there
@@ -241,10 +351,10 @@ module _ (s : FrontState) (kept : IsKept s) (t : FrontState) (x : CqRegion) (m :
         let was : s.log.items ≡ [] → ⊥ = λ none. some (m.log ∙ none) in
         let there = kept.begun was in
         stands_told (rules_by s.config s.sqs.items t.cqs.items) (rules_of t) true t.late (past_of s) (past_of t)
-        (kept_with s.sqs.items t.cqs.items s.board t.table s.outstanding s.deletion) (kept_of t)
+        (kept_with s.sqs.items t.cqs.items s.board t.table s.outstanding s.deletion s.jobs) (kept_of t)
         (sym (λ i. rules_by (m.config i) (m.sqs i) t.cqs.items)) (sym (m.late was)) (ap (λ (es : List Event). reverse es) (sym m.log))
-        (sym (λ i. kept_with (m.sqs i) t.cqs.items (m.board i) t.table (m.outstanding i) (m.deletion i)))
-        (stands_with_cq s.config.mechanism (start_of s) s.config.spaces s.sqs.items s.cqs.items s.late (past_of s) s.board s.table s.outstanding s.deletion
+        (sym (λ i. kept_with (m.sqs i) t.cqs.items (m.board i) t.table (m.outstanding i) (m.deletion i) (m.jobs i)))
+        (stands_with_cq s.config.mechanism (start_of s) s.config.spaces s.sqs.items s.cqs.items s.late (past_of s) s.board s.table s.outstanding s.deletion s.jobs
         (kept.stands there.0 there.1) there.0 there.1 x t.cqs.items t.table m.cqs m.room m.fresh (m.table (start_of s)))
   ]
 
@@ -262,6 +372,7 @@ module _ (s : FrontState) (kept : IsKept s) (t : FrontState) (x : CqRegion) (m :
         sq_table = more.0 ∙ r.sq_table ∙ ap (λ (xs : List SqRegion). map sq_region xs) (sym m.sqs);
         cq_table = more.1 ∙ ap (λ (rs : List Region). rs ++ cq_region x ∷ []) r.cq_table ∙ sym (map-append cq_region s.cqs.items (x ∷ []))
             ∙ ap (λ (xs : List CqRegion). map cq_region xs) (sym m.cqs);
+        jobs = λ some. ap (λ (j : JobsView). j.room) m.jobs ∙ r.jobs (subst (λ (xs : List SqRegion). 0 < length xs) m.sqs some);
         few_events = subst (λ (c : FrontConfig). length t.log.items ≤ c.max_events) (sym m.config) (rw m.log r.few_events);
         few_sqs = rw m.sqs r.few_sqs;
         few_cqs = let room = m.room in omega arith;
@@ -277,3 +388,10 @@ is_kept-with_cq s kept t x m = record {
       (subst (λ (n : ℕ). 0 < n) (ap (λ (xs : List SqRegion). length xs) (sym m.sqs)) there.0, cq-some s kept t x m);
   roomy = cq-roomy s kept t x m;
 }
+
+-- there is room for jobs, or no picked command waits to be handed
+pub room_or_none : (s : FrontState) → IsKept s → (s.jobs.room ≡ max_outstanding) ⊎ (s.jobs.hands.unhanded ≡ [])
+room_or_none s kept = elim (has_event s.log.items) [
+  | inl none ↦ inr (kept.fresh none).jobs.none_unhanded
+  | inr some ↦ inl (kept.roomy.jobs (kept.begun some).0)
+]

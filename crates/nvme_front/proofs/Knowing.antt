@@ -3,7 +3,7 @@ use Rattle.std.proofs.Common.{◌≡◌, ℕ, ◌≤◌, Bool, List, [], ap, ◌
 use Rattle.nvme_entry.specs.declared.submission.Sqe.{Sqe}
 use Rattle.nvme_front.specs.Rules.{FrontRules, Past}
 use Rattle.nvme_front.specs.Kept.{SqKept, Kept, no_sq}
-use Rattle.nvme_front.specs.Standing.{HoldsSq, HoldsReady, HoldsQueues, HoldsDeletion, HoldsTable, Accounts, Stands, IsFresh, held_by}
+use Rattle.nvme_front.specs.Standing.{HoldsSq, HoldsReady, HoldsQueues, HoldsDeletion, HoldsTable, Accounts, Stands, IsFresh, hand_of}
 
 -- the same, but that the ends know other items to come, and other places to be free
 abbrev pub knowing : Kept → (ℕ → List Sqe) → (ℕ → ℕ) → Kept
@@ -22,7 +22,7 @@ module _ (rules : FrontRules) (late : Bool) (past : Past) (k : Kept) (known : �
     none_posted = h.none_posted;
   }
 
-  ready-knowing : HoldsReady past k (held_by k.deletion) → HoldsReady past (knowing k known free) (held_by k.deletion)
+  ready-knowing : HoldsReady past k (hand_of k) → HoldsReady past (knowing k known free) (hand_of k)
   ready-knowing h = record {
     once = h.once;
     each = h.each;
@@ -108,6 +108,7 @@ module _ (rules : FrontRules) (late : Bool) (past : Past) (k : Kept) (known : �
   stands-knowing s = record {
     regions = λ r. holds_sq-knowing r (s.regions r);
     ready = ready-knowing s.ready;
+    jobs = s.jobs;
     counts = record { unposted = s.counts.unposted; outstanding_is = s.counts.outstanding_is };
     posts = record { posted_is = s.posts.posted_is; counted = s.posts.counted };
     queues = queues-knowing s.queues;
@@ -128,6 +129,7 @@ module _ (rules : FrontRules) (late : Bool) (past : Past) (k : Kept) (known : �
     stands = f.stands;
     none_outstanding = f.none_outstanding;
     no_deletion = f.no_deletion;
+    jobs = f.jobs;
     not_late = f.not_late;
     table = f.table;
     sq_count = f.sq_count;

@@ -16,6 +16,7 @@ use Rattle.nvme_front.specs.Rules.{Past}
 use Rattle.nvme_front.specs.declared.candidate.PendingDelete.{PendingDelete}
 use Rattle.nvme_front.specs.declared.region.SqRegion.{SqRegion}
 use Rattle.nvme_front.specs.declared.region.CqRegion.{CqRegion}
+use Rattle.nvme_front.specs.Jobs.{JobsView}
 use Rattle.nvme_front.specs.Kept.{SqKept, CqKept, no_sq, no_cq, sq_kept, cq_kept, sq_in, cq_in, sq_steps, cq_steps, gets_of, puts_of}
 use Rattle.nvme_front.specs.Standing.{Stands, IsFreshSq, IsFreshCq}
 use Rattle.nvme_front.proofs.Starting.{admin_sq-some, admin_cq-some}
@@ -156,14 +157,14 @@ cq_in-more cqs x fresh c = elim (cases_order c (length cqs)) [
 
 -- ---- a front that has begun
 module _ (mechanism : Mechanism) (start : Start) (sizes : List ℕ) (sqs : List SqRegion) (cqs : List CqRegion) (late : Bool) (past : Past)
-    (board : BoardView) (table : TableView) (outstanding : ℕ) (deletion : Option PendingDelete)
-    (s : Stands (rules_with mechanism start sizes sqs cqs) late past (kept_with sqs cqs board table outstanding deletion))
+    (board : BoardView) (table : TableView) (outstanding : ℕ) (deletion : Option PendingDelete) (jobs : JobsView)
+    (s : Stands (rules_with mechanism start sizes sqs cqs) late past (kept_with sqs cqs board table outstanding deletion jobs))
     (some_sqs : 0 < length sqs) (some_cqs : 0 < length cqs) where
   -- the table after a submission region was added
   grows_by_sq : (x : SqRegion) (added : TableView) → length sqs < MAX_REGIONS
       → StandsAt start added (RegionAdded Submission x.end.address x.end.slots ∷ s.tabled.history)
       → Grows (rules_with mechanism start sizes sqs cqs) (cq_steps (puts_of cqs) ++ sq_steps (gets_of (sqs ++ x ∷ [])))
-      (kept_with sqs cqs board table outstanding deletion) (λ r. (sq_in (sqs ++ x ∷ []) r).slots) (λ c. (cq_in cqs c).slots) (length (sqs ++ x ∷ [])) (length cqs) added
+      (kept_with sqs cqs board table outstanding deletion jobs) (λ r. (sq_in (sqs ++ x ∷ []) r).slots) (λ c. (cq_in cqs c).slots) (length (sqs ++ x ∷ [])) (length cqs) added
   grows_by_sq x added room after =
       let one_more : length (sqs ++ x ∷ []) ≡ length sqs + 1 = length_push sqs x in
       let there : 0 < length table.sq_regions = subst (λ (n : ℕ). 0 < n) (sym s.tabled.sq_count) some_sqs in
@@ -190,7 +191,7 @@ module _ (mechanism : Mechanism) (start : Start) (sizes : List ℕ) (sqs : List 
   grows_by_cq : (x : CqRegion) (added : TableView) → length cqs < MAX_REGIONS
       → StandsAt start added (RegionAdded Completion x.end.address x.end.slots ∷ s.tabled.history)
       → Grows (rules_with mechanism start sizes sqs cqs) (cq_steps (puts_of (cqs ++ x ∷ [])) ++ sq_steps (gets_of sqs))
-      (kept_with sqs cqs board table outstanding deletion) (λ r. (sq_in sqs r).slots) (λ c. (cq_in (cqs ++ x ∷ []) c).slots) (length sqs) (length (cqs ++ x ∷ [])) added
+      (kept_with sqs cqs board table outstanding deletion jobs) (λ r. (sq_in sqs r).slots) (λ c. (cq_in (cqs ++ x ∷ []) c).slots) (length sqs) (length (cqs ++ x ∷ [])) added
   grows_by_cq x added room after =
       let one_more : length (cqs ++ x ∷ []) ≡ length cqs + 1 = length_push cqs x in
       let there : 0 < length table.cq_regions = subst (λ (n : ℕ). 0 < n) (sym s.tabled.cq_count) some_cqs in
@@ -217,13 +218,13 @@ module _ (mechanism : Mechanism) (start : Start) (sizes : List ℕ) (sqs : List 
   pub stands_with_sq : (x : SqRegion) (all : List SqRegion) (added : TableView) → all ≡ sqs ++ x ∷ [] → length sqs < MAX_REGIONS
       → IsFreshSq (length sqs) (sq_kept x)
       → ((h : TableHistory) → StandsAt start table h → StandsAt start added (RegionAdded Submission x.end.address x.end.slots ∷ h))
-      → Stands (rules_with mechanism start sizes all cqs) true past (kept_with all cqs board added outstanding deletion)
+      → Stands (rules_with mechanism start sizes all cqs) true past (kept_with all cqs board added outstanding deletion jobs)
   stands_with_sq x all added is room fresh stands = subst
-      (λ (z : List SqRegion). Stands (rules_with mechanism start sizes z cqs) true past (kept_with z cqs board added outstanding deletion)) (sym is)
+      (λ (z : List SqRegion). Stands (rules_with mechanism start sizes z cqs) true past (kept_with z cqs board added outstanding deletion jobs)) (sym is)
       (subst (λ (f : ℕ → SqKept). Stands (rules_with mechanism start sizes (sqs ++ x ∷ []) cqs) true past
-      (record { sq = f; cq = cq_in cqs; nsq = length (sqs ++ x ∷ []); ncq = length cqs; board = board; table = added; outstanding = outstanding; deletion = deletion }))
+      (record { sq = f; cq = cq_in cqs; nsq = length (sqs ++ x ∷ []); ncq = length cqs; board = board; table = added; outstanding = outstanding; deletion = deletion; jobs = jobs }))
       (sym (λ i r. sq_in-more sqs x (λ z. omega (arith, z)) fresh r i))
-      (stands_when_grown (rules_with mechanism start sizes sqs cqs) late past (kept_with sqs cqs board table outstanding deletion) s
+      (stands_when_grown (rules_with mechanism start sizes sqs cqs) late past (kept_with sqs cqs board table outstanding deletion jobs) s
       (cq_steps (puts_of cqs) ++ sq_steps (gets_of (sqs ++ x ∷ []))) (λ r. (sq_in (sqs ++ x ∷ []) r).known) (λ r. (sq_in (sqs ++ x ∷ []) r).slots)
       (λ c. (cq_in cqs c).free) (λ c. (cq_in cqs c).slots) (length (sqs ++ x ∷ [])) (length cqs) added
       (grows_by_sq x added room (stands s.tabled.history s.tabled.stands))))
@@ -232,13 +233,13 @@ module _ (mechanism : Mechanism) (start : Start) (sizes : List ℕ) (sqs : List 
   pub stands_with_cq : (x : CqRegion) (all : List CqRegion) (added : TableView) → all ≡ cqs ++ x ∷ [] → length cqs < MAX_REGIONS
       → IsFreshCq (cq_kept x)
       → ((h : TableHistory) → StandsAt start table h → StandsAt start added (RegionAdded Completion x.end.address x.end.slots ∷ h))
-      → Stands (rules_with mechanism start sizes sqs all) true past (kept_with sqs all board added outstanding deletion)
+      → Stands (rules_with mechanism start sizes sqs all) true past (kept_with sqs all board added outstanding deletion jobs)
   stands_with_cq x all added is room fresh stands = subst
-      (λ (z : List CqRegion). Stands (rules_with mechanism start sizes sqs z) true past (kept_with sqs z board added outstanding deletion)) (sym is)
+      (λ (z : List CqRegion). Stands (rules_with mechanism start sizes sqs z) true past (kept_with sqs z board added outstanding deletion jobs)) (sym is)
       (subst (λ (f : ℕ → CqKept). Stands (rules_with mechanism start sizes sqs (cqs ++ x ∷ [])) true past
-      (record { sq = sq_in sqs; cq = f; nsq = length sqs; ncq = length (cqs ++ x ∷ []); board = board; table = added; outstanding = outstanding; deletion = deletion }))
+      (record { sq = sq_in sqs; cq = f; nsq = length sqs; ncq = length (cqs ++ x ∷ []); board = board; table = added; outstanding = outstanding; deletion = deletion; jobs = jobs }))
       (sym (λ i c. cq_in-more cqs x fresh c i))
-      (stands_when_grown (rules_with mechanism start sizes sqs cqs) late past (kept_with sqs cqs board table outstanding deletion) s
+      (stands_when_grown (rules_with mechanism start sizes sqs cqs) late past (kept_with sqs cqs board table outstanding deletion jobs) s
       (cq_steps (puts_of (cqs ++ x ∷ [])) ++ sq_steps (gets_of sqs)) (λ r. (sq_in sqs r).known) (λ r. (sq_in sqs r).slots)
       (λ c. (cq_in (cqs ++ x ∷ []) c).free) (λ c. (cq_in (cqs ++ x ∷ []) c).slots) (length sqs) (length (cqs ++ x ∷ [])) added
       (grows_by_cq x added room (stands s.tabled.history s.tabled.stands))))

@@ -1,3 +1,5 @@
+pub mod AfterSteps
+pub mod StepKeeps
 pub mod Prefixes
 pub mod Fates
 pub mod Posts
@@ -28,7 +30,11 @@ pub mod Accounted
 pub mod Readying
 pub mod ReadyChange
 pub mod ReadyAdmin
+pub mod ReadyGains
 pub mod ReadySteps
+pub mod JobAccounts
+pub mod JobSteps
+pub mod GainSteps
 pub mod Standing
 pub mod States
 pub mod Answering
@@ -69,3 +75,8 @@ pub mod Turns
 pub mod Still
 pub mod ServedAnswers
 pub mod ClearAnswer
+pub mod JobLists
+pub mod Executions
+pub mod GainOne
+pub mod Promise
+pub mod HostPairs

@@ -15,8 +15,10 @@ use Rattle.nvme_front.specs.declared.region.SqRegion.{SqRegion}
 use Rattle.nvme_front.specs.declared.region.CqRegion.{CqRegion}
 use Rattle.nvme_front.specs.declared.state.FrontState.{FrontState}
 use Rattle.nvme_front.specs.Rules.{FrontRules, sq_regions_of, cq_regions_of, slots_at}
+use Rattle.nvme_pool.specs.Seat.{SeatView}
+use Rattle.nvme_front.specs.Jobs.{JobsView}
 use Rattle.nvme_front.specs.Kept.{SqKept, CqKept, no_sq, no_cq, sq_in, cq_in, sq_steps, cq_steps, gets_of, puts_of, Kept, kept_of, rules_of}
-use Rattle.nvme_front.specs.Standing.{IsFresh, IsFreshCq, first_on_board}
+use Rattle.nvme_front.specs.Standing.{IsFresh, IsFreshCq, AreFreshJobs, first_on_board}
 use Rattle.nvme_front.proofs.RegionSteps.{first_table, table_of-additions}
 
 -- no queue is on a board of empty places
@@ -38,9 +40,9 @@ module _ (rules : FrontRules) (late : Bool) (k : Kept) (none : rules.regions ≡
   -- with no region, an empty board and an empty table, and nothing else, a front is fresh
   pub fresh_at_first : k.nsq ≡ 0 → k.ncq ≡ 0 → ((r : ℕ) → k.sq r ≡ no_sq) → ((c : ℕ) → k.cq c ≡ no_cq)
       → k.board.queues ≡ replicate queue_limit None → BoardStandsAt rules.mechanism rules.start.settings [] k.board
-      → StandsAt rules.start k.table [] → k.outstanding ≡ 0 → k.deletion ≡ None → late ≡ false
+      → StandsAt rules.start k.table [] → k.outstanding ≡ 0 → k.deletion ≡ None → AreFreshJobs k.jobs → late ≡ false
       → IsFresh rules late k
-  fresh_at_first nsq ncq sq cq closed board table outstanding deletion early =
+  fresh_at_first nsq ncq sq cq closed board table outstanding deletion jobs early =
       let stands : StandsAt rules.start k.table rules.regions = subst (λ (h : TableHistory). StandsAt rules.start k.table h) (sym none) table in
       let sqs : sq_regions_of rules ≡ [] = ap (λ (t : QueueTable). t.sq_regions) no_regions in
       let cqs : cq_regions_of rules ≡ [] = ap (λ (t : QueueTable). t.cq_regions) no_regions in
@@ -54,6 +56,7 @@ module _ (rules : FrontRules) (late : Bool) (k : Kept) (none : rules.regions ≡
         stands = board;
         none_outstanding = outstanding;
         no_deletion = deletion;
+        jobs = jobs;
         not_late = early;
         table = stands;
         sq_count = ap (λ (rs : List Region). length rs) (stands.sq_regions ∙ sqs) ∙ sym nsq;
@@ -66,14 +69,23 @@ module _ (rules : FrontRules) (late : Bool) (k : Kept) (none : rules.regions ≡
         cq_slots = λ c. ap (λ (rs : List Region). slots_at rs c) cqs ∙ ap (λ (s : CqKept). s.slots) (sym (cq c));
       }
 
+-- jobs that were just made, by a seat, are fresh
+pub are_fresh_jobs : (j : JobsView) (seat : SeatView) → j ≡ record { hands = record { came = seat; seat = seat; unhanded = []; running = [] }; tickets = 0; room = 0 } → AreFreshJobs j
+are_fresh_jobs j seat is = record {
+  tickets = ap (λ (x : JobsView). x.tickets) is;
+  none_unhanded = ap (λ (x : JobsView). x.hands.unhanded) is;
+  none_running = ap (λ (x : JobsView). x.hands.running) is;
+  none_handed = ap (λ (x : JobsView). x.hands.seat.handed) is ∙ sym (ap (λ (x : JobsView). x.hands.came.handed) is);
+}
+
 -- the same of a state
 pub fresh_at_new : (s : FrontState) → s.sqs.items ≡ [] → s.cqs.items ≡ [] → s.board.queues ≡ replicate queue_limit None
     → BoardStandsAt s.config.mechanism s.config.settings [] s.board
     → StandsAt (record { nsq = s.config.limits.nsq; ncq = s.config.limits.ncq; settings = s.config.settings }) s.table []
-    → s.outstanding ≡ 0 → s.deletion ≡ None → s.late ≡ false → IsFresh (rules_of s) s.late (kept_of s)
-fresh_at_new s sqs cqs closed board table outstanding deletion early =
+    → s.outstanding ≡ 0 → s.deletion ≡ None → AreFreshJobs s.jobs → s.late ≡ false → IsFresh (rules_of s) s.late (kept_of s)
+fresh_at_new s sqs cqs closed board table outstanding deletion jobs early =
     fresh_at_first (rules_of s) s.late (kept_of s)
     (λ i. cq_steps (puts_of (cqs i)) ++ sq_steps (gets_of (sqs i)))
     (ap (λ (xs : List SqRegion). length xs) sqs) (ap (λ (xs : List CqRegion). length xs) cqs)
     (λ r. ap (λ (xs : List SqRegion). sq_in xs r) sqs) (λ c. ap (λ (xs : List CqRegion). cq_in xs c) cqs)
-    closed board table outstanding deletion early
+    closed board table outstanding deletion jobs early

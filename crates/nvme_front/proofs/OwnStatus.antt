@@ -22,12 +22,12 @@ use Rattle.nvme_front.specs.declared.event.Event.TheVariants.{Abort}
 use Rattle.nvme_front.specs.declared.candidate.Candidate.{Candidate}
 use Rattle.nvme_front.specs.declared.candidate.Ready.{Ready}
 use Rattle.nvme_front.specs.Rules.{Past, FrontRules}
-use Rattle.nvme_front.specs.Places.{fetched, waiting, places, WasAborted, WasPicked, Waits, fate_of, is_waiting, is_aborted, unaborted_below, picked, Fate}
+use Rattle.nvme_front.specs.Places.{Place, fetched, waiting, places, WasAborted, WasPicked, Waits, fate_of, is_waiting, is_aborted, unaborted_below, picked, Fate}
 use Rattle.nvme_front.specs.Completions.{is_posted, posts_of, table_before, own_status, own_dw0}
 use Rattle.nvme_front.specs.Kept.{SqKept, CqKept, Kept}
-use Rattle.nvme_front.specs.Standing.{Place, one_if, times_in, times_held, over_regions, times_ready, is_served, HoldsSq, HoldsReady, HasOwnStatus}
+use Rattle.nvme_front.specs.Standing.{one_if, times_in, times_held, over_regions, times_ready, is_served, HoldsSq, HoldsReady, HasOwnStatus}
 use Rattle.nvme_front.proofs.Posts.{posts_of-some}
-use Rattle.nvme_front.specs.Steps.{with_events, with_readies}
+use Rattle.nvme_front.proofs.AfterSteps.{with_events, with_readies}
 
 -- ---- the own status of a place
 -- a choice with the same test, whose inner result is the same where it is asked for

@@ -24,6 +24,7 @@ use Rattle.nvme_admin.specs.Standing.{StandsAt, IsSized, cq_of}
 use Rattle.nvme_admin.specs.declared.verdict.SqEntry.{SqEntry}
 use Rattle.nvme_admin.specs.declared.verdict.Verdict.{Verdict}
 use Rattle.nvme_admin.specs.declared.verdict.Verdict.TheVariants as verdict
+use Rattle.nvme_pool.specs.Seat.{SameSeat}
 use Rattle.nvme_front.specs.declared.event.Event.TheVariants as event
 use Rattle.nvme_front.specs.declared.candidate.Candidate.{Candidate}
 use Rattle.nvme_front.specs.declared.region.SqRegion.{SqRegion}
@@ -32,6 +33,7 @@ use Rattle.nvme_front.specs.declared.state.FrontState.{FrontState}
 use Rattle.nvme_front.specs.Limits.{max_outstanding, admin_events}
 use Rattle.nvme_front.specs.Rules.{FrontRules}
 use Rattle.nvme_front.specs.Queues.{Queue, admin_queue, open_sq}
+use Rattle.nvme_front.specs.Jobs.{JobsView, gained_count}
 use Rattle.nvme_front.specs.Kept.{SqKept, sq_in, cq_in, put_sq, kept_of, rules_of, past_of, gets_of, puts_of}
 use Rattle.nvme_front.specs.Goes.{Goes, HasAdmin, get_place, put_place}
 use Rattle.nvme_front.specs.Standing.{Stands, IsKept, IsRoomy, window_room, ready_room}
@@ -40,7 +42,7 @@ use Rattle.nvme_front.specs.Steps.{CanPick, picked_sq}
 use Rattle.nvme_front.proofs.AccountSteps.{admin_is_open}
 use Rattle.nvme_front.proofs.Observing.{seen_is_observed}
 use Rattle.nvme_front.proofs.TableSteps.{entry-sq_regions, entry-cq_regions}
-use Rattle.nvme_front.proofs.States.{sq_in-set, sq_in-read, places-set, windows-set, roomy-goes, rules-goes, admin-goes}
+use Rattle.nvme_front.proofs.States.{sq_in-set, sq_in-read, places-set, windows-set, SameSeat-refl, roomy-goes, rules-goes, admin-goes}
 use Rattle.nvme_front.proofs.Picks.{due}
 use Rattle.nvme_front.proofs.PickedQueue.{picked_region, can_pick, past-picked}
 
@@ -115,7 +117,7 @@ module _ (s b : FrontState) (kept : IsKept s) (admin : HasAdmin s) (none : s.del
     (config : b.config ≡ s.config) (alloc : b.alloc ≡ s.alloc) (same_late : b.late ≡ s.late) (deletion : b.deletion ≡ s.deletion)
     (outstanding : b.outstanding ≡ s.outstanding + 1)
     (sqs : b.sqs.items ≡ set s.sqs.items 0 (picked_region d 1))
-    (cqs : b.cqs.items ≡ s.cqs.items)
+    (cqs : b.cqs.items ≡ s.cqs.items) (jobs : b.jobs ≡ s.jobs)
     (log : b.log.items ≡ s.log.items ++ event.Pick seen pick ∷ [])
     (within : length s.log.items + admin_events ≤ s.config.max_events)
     (room : length s.log.items + admin_events ≤ vec_capacity b.log) where
@@ -130,6 +132,11 @@ module _ (s b : FrontState) (kept : IsKept s) (admin : HasAdmin s) (none : s.del
     puts = ap (λ (x : List CqRegion). map put_place (puts_of x)) cqs;
     windows = ap (map window_room) sqs ∙ windows-set s.sqs.items 0 d (picked_region d 1) read refl;
     readies = ap (map ready_room) cqs;
+    came = ap (λ (j : JobsView). j.hands.came) jobs;
+    seat = subst (λ (j : JobsView). SameSeat s.jobs.hands.seat j.hands.seat) (sym jobs) (SameSeat-refl s.jobs.hands.seat);
+    handed = omega (arith, ap (λ (j : JobsView). length j.hands.seat.handed) jobs);
+    gained = omega (arith, ap (λ (j : JobsView). gained_count j.hands) jobs);
+    room = ap (λ (j : JobsView). j.room) jobs;
   }
 
   before : Stands (rules_of b) b.late (past_of s) (kept_of s)
@@ -196,6 +203,7 @@ module _ (s b : FrontState) (kept : IsKept s) (admin : HasAdmin s) (none : s.del
             table = b.table;
             outstanding = outstanding t;
             deletion = deletion t;
+            jobs = jobs t;
           };
           roomy = roomy;
           admin = admin-goes s b admin_pick-goes admin;

@@ -1,4 +1,4 @@
--- A front after an I/O pick whose commands were executed.
+-- A front after an I/O pick, whose jobs are then to be handed.
 use Rattle.std.specs.Prelude.{reverse}
 use Rattle.std.proofs.Common.{◌≡◌, ℕ, ◌+◌, ◌≤◌, Bool, List, [], ◌∷◌, ◌++◌, map, length, take, drop, set, get_or, Some, None, refl, sym, ap, subst, ◌∙◌, arith}
 use Rattle.std.proofs.lemmas.List.{length-set, length_push}
@@ -13,10 +13,9 @@ use Rattle.nvme_arbiter.specs.declared.pick.Seen.{Seen}
 use Rattle.nvme_arbiter.specs.declared.settings.Mechanism.{Mechanism}
 use Rattle.nvme_admin.specs.Standing.{sq_of}
 use Rattle.nvme_admin.specs.declared.verdict.SqEntry.{SqEntry}
+use Rattle.nvme_pool.specs.Seat.{SameSeat}
 use Rattle.nvme_front.specs.declared.event.Event.{Event}
 use Rattle.nvme_front.specs.declared.event.Event.TheVariants as event
-use Rattle.nvme_front.specs.declared.candidate.Ready.{Ready}
-use Rattle.nvme_front.specs.declared.region.Attachment.{Attachment}
 use Rattle.nvme_front.specs.declared.region.SqRegion.{SqRegion}
 use Rattle.nvme_front.specs.declared.region.CqRegion.{CqRegion}
 use Rattle.nvme_front.specs.declared.state.FrontState.{FrontState}
@@ -24,22 +23,20 @@ use Rattle.nvme_front.specs.Limits.{max_outstanding}
 use Rattle.nvme_front.specs.Rules.{FrontRules, Past}
 use Rattle.nvme_front.specs.Queues.{Queue}
 use Rattle.nvme_front.specs.Histories.{arbitration_of}
-use Rattle.nvme_front.specs.Kept.{SqKept, CqKept, sq_kept, sq_in, cq_in, put_sq, put_cq, Kept, kept_of, rules_of, past_of, gets_of, puts_of}
+use Rattle.nvme_front.specs.Jobs.{JobsView, with_picked, gained_count}
+use Rattle.nvme_front.specs.Kept.{SqKept, sq_in, cq_in, put_sq, Kept, kept_of, rules_of, past_of, gets_of, puts_of}
 use Rattle.nvme_front.specs.Goes.{Goes, HasAdmin, get_place, put_place}
 use Rattle.nvme_front.specs.Standing.{Stands, IsKept, IsRoomy, window_room, ready_room}
-use Rattle.nvme_front.specs.Steps.{CanPick, picked_sq, executed, after_io}
+use Rattle.nvme_front.specs.Steps.{CanPick, picked_sq}
+use Rattle.nvme_front.proofs.AfterSteps.{after_io}
 use Rattle.nvme_front.proofs.Observing.{seen_is_observed}
 use Rattle.nvme_front.proofs.Standing.{stands-io}
-use Rattle.nvme_front.proofs.States.{sq_in-set, cq_in-set, past-push, pushed-not_empty, places-set, windows-set, put_places-set, readies-set, roomy-goes, kept_after}
-use Rattle.nvme_front.proofs.Picks.{due, due-lawful, due-region, due-attached, due-sq_there, due-sq, due-c, due-c_there, due-cq}
+use Rattle.nvme_front.proofs.States.{sq_in-set, past-push, pushed-not_empty, places-set, windows-set, SameSeat-refl, roomy-goes, kept_after}
+use Rattle.nvme_front.proofs.Picks.{due, due-lawful, due-region, due-cq_region, due-attached, due-sq_there, due-sq}
 
 -- a region whose oldest candidates were picked
 abbrev pub picked_region : SqRegion → ℕ → SqRegion
 picked_region d n = record d { window = record d.window { items = drop n d.window.items }; unposted = d.unposted + n }
-
--- a region with completions that are ready
-abbrev pub readied_region : CqRegion → List Ready → CqRegion
-readied_region e ts = record e { ready = record e.ready { items = e.ready.items ++ ts } }
 
 -- the pick of a board makes the pick that a front may make
 pub can_pick : (s : FrontState) (kept : IsKept s) (rules : FrontRules) {late : Bool} (st : Stands rules late (past_of s) (kept_of s)) (none : s.deletion ≡ None) (pick : Pick)
@@ -76,12 +73,11 @@ module _ (s b : FrontState) (kept : IsKept s) (admin : HasAdmin s) (none : s.del
     (seen : ArrayVec Seen) (seen_is : seen.items ≡ seen_of s.board.queues)
     (entry : SqEntry) (found : sq_of s.table pick.qid ≡ Some entry)
     (r : ℕ) (r_is : r ≡ entry.region) (d : SqRegion) (read : d ≡ get_or s.sqs.items r d)
-    (a : Attachment) (at : d.queue ≡ Some a)
-    (c : ℕ) (c_is : c ≡ a.cq_region) (e : CqRegion) (read_cq : e ≡ get_or s.cqs.items c e)
     (config : b.config ≡ s.config) (alloc : b.alloc ≡ s.alloc) (late : b.late ≡ s.late) (table : b.table ≡ s.table) (deletion : b.deletion ≡ s.deletion)
     (outstanding : b.outstanding ≡ s.outstanding + pick.n)
     (sqs : b.sqs.items ≡ set s.sqs.items r (picked_region d pick.n))
-    (cqs : b.cqs.items ≡ set s.cqs.items c (readied_region e (map (executed entry.region s.config.spaces) (take pick.n d.window.items))))
+    (cqs : b.cqs.items ≡ s.cqs.items)
+    (jobs : b.jobs ≡ with_picked s.jobs entry.region (take pick.n d.window.items))
     (log : b.log.items ≡ s.log.items ++ event.Pick seen pick ∷ [])
     (within : length s.log.items + 1 ≤ s.config.max_events) where
   st : Stands (rules_of s) s.late (past_of s) (kept_of s)
@@ -98,9 +94,14 @@ module _ (s b : FrontState) (kept : IsKept s) (admin : HasAdmin s) (none : s.del
     alloc = alloc;
     late = late;
     gets = ap (λ (x : List SqRegion). map get_place (gets_of x)) sqs ∙ places-set s.sqs.items r d (picked_region d pick.n) read refl;
-    puts = ap (λ (x : List CqRegion). map put_place (puts_of x)) cqs ∙ put_places-set s.cqs.items c e _ read_cq refl;
+    puts = ap (λ (x : List CqRegion). map put_place (puts_of x)) cqs;
     windows = ap (map window_room) sqs ∙ windows-set s.sqs.items r d (picked_region d pick.n) read refl;
-    readies = ap (map ready_room) cqs ∙ readies-set s.cqs.items c e _ read_cq refl;
+    readies = ap (map ready_room) cqs;
+    came = ap (λ (j : JobsView). j.hands.came) jobs;
+    seat = subst (λ (j : JobsView). SameSeat s.jobs.hands.seat j.hands.seat) (sym jobs) (SameSeat-refl s.jobs.hands.seat);
+    handed = omega (arith, ap (λ (j : JobsView). length j.hands.seat.handed) jobs);
+    gained = omega (arith, ap (λ (j : JobsView). gained_count j.hands) jobs);
+    room = ap (λ (j : JobsView). j.room) jobs;
   }
 
   roomy : IsRoomy b
@@ -117,40 +118,39 @@ module _ (s b : FrontState) (kept : IsKept s) (admin : HasAdmin s) (none : s.del
       ∙ ap (λ (x : SqKept). put_sq (sq_in s.sqs.items) r (picked_sq x pick.n)) (sym (due-sq s kept (rules_of s) st none pick lawful entry found r r_is d read))
       ∙ ap (λ (x : ℕ). put_sq (sq_in s.sqs.items) x (picked_sq (sq_in s.sqs.items x) pick.n)) region
 
-  readied : CqKept → SqKept → ℕ → CqKept
-  readied x y n = record x { ready = x.ready ++ map (executed n s.config.spaces) (take pick.n y.window) }
-
-  cqs_are : cq_in b.cqs.items ≡ put_cq (cq_in s.cqs.items) c
-      (record (cq_in s.cqs.items c) { ready = (cq_in s.cqs.items c).ready ++ map (executed queue.region s.config.spaces) (take pick.n (sq_in s.sqs.items queue.region).window) })
-  unfolding queue st readied
-  cqs_are =
+  -- its jobs, by what was kept of the region
+  jobs_are : b.jobs ≡ with_picked s.jobs queue.region (take pick.n (sq_in s.sqs.items queue.region).window)
+  unfolding queue st
+  jobs_are =
       let region = due-region s kept (rules_of s) st none pick lawful entry found r r_is in
-      ap cq_in cqs
-      ∙ cq_in-set s.cqs.items c _ (due-c_there s kept (rules_of s) st none pick lawful entry found r r_is d read a at c c_is)
-      ∙ ap (λ (x : CqKept). put_cq (cq_in s.cqs.items) c (readied x (sq_kept d) entry.region)) (sym (due-cq s kept (rules_of s) st none pick lawful entry found r r_is d read a at c c_is e read_cq places))
-      ∙ ap (λ (y : SqKept). put_cq (cq_in s.cqs.items) c (readied (cq_in s.cqs.items c) y entry.region)) (sym (due-sq s kept (rules_of s) st none pick lawful entry found r r_is d read))
-      ∙ ap (λ (n : ℕ). put_cq (cq_in s.cqs.items) c (readied (cq_in s.cqs.items c) (sq_in s.sqs.items r) n)) (sym r_is)
-      ∙ ap (λ (n : ℕ). put_cq (cq_in s.cqs.items) c (readied (cq_in s.cqs.items c) (sq_in s.sqs.items n) n)) region
+      jobs
+      ∙ ap (λ (n : ℕ). with_picked s.jobs n (take pick.n d.window.items)) (sym r_is)
+      ∙ ap (λ (y : SqKept). with_picked s.jobs r (take pick.n y.window)) (sym (due-sq s kept (rules_of s) st none pick lawful entry found r r_is d read))
+      ∙ ap (λ (n : ℕ). with_picked s.jobs n (take pick.n (sq_in s.sqs.items n).window)) region
 
-  kept_is : kept_of b ≡ after_io (rules_of s) (kept_of s) queue pick.n b.board c
+  kept_is : kept_of b ≡ after_io (kept_of s) queue pick.n b.board
   kept_is = λ t. record {
     sq = sqs_are t;
-    cq = cqs_are t;
+    cq = cq_in (cqs t);
     nsq = (ap length sqs ∙ length-set s.sqs.items r (picked_region d pick.n)) t;
-    ncq = (ap length cqs ∙ length-set s.cqs.items c _) t;
+    ncq = length (cqs t);
     board = b.board;
     table = table t;
     outstanding = outstanding t;
     deletion = deletion t;
+    jobs = jobs_are t;
   }
 
+  -- the completion region of its queue
+  c : ℕ
+  unfolding st
+  c = due-cq_region s kept (rules_of s) st none pick lawful entry found r r_is
+
   attached : (sq_in s.sqs.items queue.region).queue ≡ Some (record { qid = pick.qid; cq_region = c })
-  unfolding queue st
+  unfolding queue st c
   attached =
       subst (λ (x : ℕ). (sq_in s.sqs.items x).queue ≡ Some (record { qid = pick.qid; cq_region = c })) (due-region s kept (rules_of s) st none pick lawful entry found r r_is)
-      (subst (λ (x : ℕ). (sq_in s.sqs.items r).queue ≡ Some (record { qid = pick.qid; cq_region = x }))
-      (sym (due-c s kept (rules_of s) st none pick lawful entry found r r_is d read a at c c_is))
-      (due-attached s kept (rules_of s) st none pick lawful entry found r r_is))
+      (due-attached s kept (rules_of s) st none pick lawful entry found r r_is)
 
   -- what stands at its log is kept
   pub io-kept : IsKept b
@@ -161,4 +161,4 @@ module _ (s b : FrontState) (kept : IsKept s) (admin : HasAdmin s) (none : s.del
       (seen_is ∙ seen_is_observed (past_of s) (kept_of s) st.regions st.queues) io attached in
       kept_after s b admin io-goes roomy (λ n. pushed-not_empty s.log.items (event.Pick seen pick) (sym log ∙ n))
       (subst (λ (k : Kept). Stands (rules_of s) s.late (past_of b) k) (sym kept_is)
-      (subst (λ (p : Past). Stands (rules_of s) s.late p (after_io (rules_of s) (kept_of s) queue pick.n b.board c)) (sym (past-picked s b (event.Pick seen pick) log)) stands))
+      (subst (λ (p : Past). Stands (rules_of s) s.late p (after_io (kept_of s) queue pick.n b.board)) (sym (past-picked s b (event.Pick seen pick) log)) stands))

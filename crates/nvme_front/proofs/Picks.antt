@@ -1,11 +1,10 @@
 -- What is known where a front picks.
-use Rattle.std.proofs.Common.{◌≡◌, ℕ, ◌+◌, ◌<◌, ◌≤◌, Bool, true, false, not, List, [], ◌∷◌, ◌++◌, length, get_or, Option, Some, None, refl, sym, ap, subst, ◌∙◌, arith, inl, inr}
-use Rattle.std.specs.Prelude.{filter, if◌then◌else◌, IfSome}
-use Rattle.std.proofs.lemmas.Bool.{cases_lt}
+use Rattle.std.proofs.Common.{◌≡◌, ℕ, ◌+◌, ◌<◌, ◌≤◌, Bool, true, false, List, [], ◌∷◌, ◌++◌, map, length, get_or, Option, Some, None, sym, ap, subst, ◌∙◌, arith, length-append}
+use Rattle.std.specs.Prelude.{if◌then◌else◌, IfSome}
+use Rattle.std.proofs.lemmas.List.{length-map, length-reverse}
 use Rattle.std.proofs.Math.Bridge.{le_prop}
 use Rattle.arrayvec.specs.ArrayVec.{ArrayVec}
 use Rattle.nvme_arbiter.specs.Settings.{ArbitrationFields}
-use Rattle.nvme_arbiter.specs.Limits.{highest_count}
 use Rattle.nvme_arbiter.specs.Board.{BoardStandsAt}
 use Rattle.nvme_arbiter.specs.History.{History}
 use Rattle.nvme_arbiter.specs.Lawful.{lawful_pick}
@@ -14,36 +13,30 @@ use Rattle.nvme_arbiter.specs.declared.pick.Pick.{Pick}
 use Rattle.nvme_arbiter.specs.declared.pick.Seen.{Seen}
 use Rattle.nvme_arbiter.specs.declared.settings.Mechanism.{Mechanism}
 use Rattle.nvme_admin.specs.Standing.{sq_of}
-use Rattle.nvme_admin.specs.declared.bounds.TheConstants.{MAX_REGIONS}
 use Rattle.nvme_admin.specs.declared.verdict.SqEntry.{SqEntry}
 use Rattle.nvme_front.specs.declared.event.Event.{Event}
 use Rattle.nvme_front.specs.declared.event.Event.TheVariants as event
-use Rattle.nvme_front.specs.declared.candidate.Ready.{Ready}
 use Rattle.nvme_front.specs.declared.front.FrontConfig.{FrontConfig}
-use Rattle.nvme_front.specs.declared.region.Attachment.{Attachment}
 use Rattle.nvme_front.specs.declared.region.SqRegion.{SqRegion}
-use Rattle.nvme_front.specs.declared.region.CqRegion.{CqRegion}
 use Rattle.nvme_front.specs.declared.state.FrontState.{FrontState}
 use Rattle.nvme_front.specs.Limits.{max_outstanding, most_events}
 use Rattle.nvme_front.specs.Rules.{FrontRules, Past}
 use Rattle.nvme_front.specs.Queues.{Queue}
+use Rattle.nvme_front.specs.Jobs.{in_hand, dispatched_place}
 use Rattle.nvme_front.specs.Places.{observation_of}
 use Rattle.nvme_front.specs.Histories.{arbitration_of}
-use Rattle.nvme_front.specs.Kept.{SqKept, CqKept, sq_kept, cq_kept, sq_in, cq_in, Kept, kept_of, past_of}
+use Rattle.nvme_front.specs.Kept.{SqKept, sq_kept, sq_in, Kept, kept_of, past_of}
 use Rattle.nvme_front.specs.Laws.{as_open}
 use Rattle.nvme_front.specs.Goes.{HasAdmin, picks_in, next_pick}
-use Rattle.nvme_front.specs.Standing.{Place, HoldsReady, Stands, IsKept, held_by}
+use Rattle.nvme_front.specs.Standing.{HoldsReady, Stands, IsKept, held_by, hand_of}
 use Rattle.nvme_front.proofs.Observing.{seen_is_observed, IsPickable, pickable}
-use Rattle.nvme_front.proofs.PostedPlaces.{over_regions_at}
 use Rattle.nvme_front.proofs.AppliedRoom.{few_unposted}
-use Rattle.nvme_front.proofs.ReadyRoom.{ready-split}
-use Rattle.nvme_front.proofs.States.{sq_in-read, cq_in-read, ready_room-is}
+use Rattle.nvme_front.proofs.PickCounts.{picks_in-append}
+use Rattle.nvme_front.proofs.States.{sq_in-read}
 
 -- a log with a pick more has a pick more
 pub picks_in-push : (xs : List Event) (seen : ArrayVec Seen) (pick : Pick) → picks_in (xs ++ event.Pick seen pick ∷ []) ≡ picks_in xs + 1
-picks_in-push [] seen pick = refl
-picks_in-push (event.Pick s p ∷ xs) seen pick = ap (λ (n : ℕ). n + 1) (picks_in-push xs seen pick)
-picks_in-push (e ∷ xs) seen pick = picks_in-push xs seen pick
+picks_in-push xs seen pick = picks_in-append xs (event.Pick seen pick ∷ [])
 
 -- where no deletion is pending, no more places of the admin queue are unposted than are outstanding
 pub admin_unposted : (s : FrontState) → IsKept s → (rules : FrontRules) {late : Bool} → Stands rules late (past_of s) (kept_of s) → HasAdmin s → s.deletion ≡ None
@@ -51,18 +44,26 @@ pub admin_unposted : (s : FrontState) → IsKept s → (rules : FrontRules) {lat
 admin_unposted s kept rules {late} st admin none d read =
     subst (λ (x : SqKept). x.unposted ≤ s.outstanding) (sq_in-read s.sqs.items 0 d admin.0 read) (few_unposted rules late (past_of s) (kept_of s) st none 0 admin.0)
 
--- the completions that are ready in one region are no more than those of the outstanding places and of the candidates of a deleted queue
-pub ready_few : (past : Past) (k : Kept) (hand : List Place) → HoldsReady past k hand → (c : ℕ) → length (k.cq c).ready ≤ k.outstanding + highest_count
-ready_few past k hand h c = elim (cases_lt c MAX_REGIONS) [
-  | inl below ↦
-      let split = ready-split (k.cq c).ready in
-      let picked = over_regions_at (λ (x : ℕ). length (filter (λ (t : Ready). not t.aborted) (k.cq x).ready)) c MAX_REGIONS below in
-      let aborted = over_regions_at (λ (x : ℕ). length (filter (λ (t : Ready). t.aborted) (k.cq x).ready)) c MAX_REGIONS below in
-      omega (arith, split, picked, aborted, h.taken, h.few_aborted)
-  | inr beyond ↦
-      let none = ap (λ (xs : List Ready). length xs) (h.none_beyond c beyond) in
-      omega (arith, none)
-]
+-- no more jobs are to be handed than places are outstanding
+few_unhanded : (past : Past) (k : Kept) → HoldsReady past k (hand_of k) → length k.jobs.hands.unhanded ≤ k.outstanding
+few_unhanded past k h =
+    omega (
+      arith,
+      h.taken,
+      length-append (map dispatched_place (in_hand k.jobs.hands)) (held_by k.deletion),
+      length-map (in_hand k.jobs.hands) dispatched_place,
+      length-append k.jobs.hands.running k.jobs.hands.unhanded,
+    )
+
+-- there is room for the jobs of what is picked
+pub jobs_fit : (s : FrontState) → IsKept s → (rules : FrontRules) {late : Bool} → Stands rules late (past_of s) (kept_of s) → HasAdmin s
+    → (n : ℕ) → s.outstanding + n ≤ max_outstanding → length s.jobs.hands.unhanded + n ≤ s.jobs.room
+jobs_fit s kept rules st admin n places = omega (arith, few_unhanded (past_of s) (kept_of s) st.ready, kept.roomy.jobs admin.0, places)
+
+-- tickets don't run out: there are few events
+pub few_tickets : (s : FrontState) → IsKept s → (rules : FrontRules) {late : Bool} → Stands rules late (past_of s) (kept_of s)
+    → (n : ℕ) → s.outstanding + n ≤ max_outstanding → s.jobs.tickets + n < 4294967296
+few_tickets s kept rules st n places = omega (arith, st.jobs.few, length-reverse s.log.items, kept.roomy.few_events, s.config.few_events, places)
 
 -- a front's configuration by its parts
 abbrev pub with_few : (f : FrontConfig) → f.max_events ≤ most_events → FrontConfig
@@ -123,18 +124,9 @@ module _ (s : FrontState) (kept : IsKept s) (rules : FrontRules) {late : Bool} (
     pub due-sq_there : r < length s.sqs.items
     due-sq_there = st.queues.sq_there r (record { qid = pick.qid; cq_region = due-cq_region }) due-attached
 
-    pub due-cq_there : due-cq_region < length s.cqs.items
-    due-cq_there = st.queues.posts_there r (record { qid = pick.qid; cq_region = due-cq_region }) due-attached
-
     module _ (d : SqRegion) (read : d ≡ get_or s.sqs.items r d) where
       pub due-sq : sq_in s.sqs.items r ≡ sq_kept d
       due-sq = sq_in-read s.sqs.items r d due-sq_there read
-
-      pub due-queue : d.queue ≡ Some (record { qid = pick.qid; cq_region = due-cq_region })
-      due-queue = ap (λ (x : SqKept). x.queue) (sym due-sq) ∙ due-attached
-
-      pub due-some_queue : d.queue ≡ None → ⊥
-      due-some_queue h = let e = due-queue in absurd (cc)
 
       -- the candidates are there
       pub due-enough : pick.n ≤ length d.window.items
@@ -144,20 +136,3 @@ module _ (s : FrontState) (kept : IsKept s) (rules : FrontRules) {late : Bool} (
       -- there are few unposted places
       pub due-unposted : d.unposted ≤ s.outstanding
       due-unposted = subst (λ (x : SqKept). x.unposted ≤ s.outstanding) due-sq (few_unposted rules late (past_of s) (kept_of s) st none r due-sq_there)
-
-      module _ (a : Attachment) (at : d.queue ≡ Some a) (c : ℕ) (c_is : c ≡ a.cq_region) where
-        pub due-c : c ≡ due-cq_region
-        due-c = let e = due-queue in let f : a ≡ record { qid = pick.qid; cq_region = due-cq_region } = cc in c_is ∙ ap (λ (x : Attachment). x.cq_region) f
-
-        pub due-c_there : c < length s.cqs.items
-        due-c_there = subst (λ (x : ℕ). x < length s.cqs.items) (sym due-c) due-cq_there
-
-        module _ (e : CqRegion) (read_cq : e ≡ get_or s.cqs.items c e) (places : s.outstanding + pick.n ≤ max_outstanding) where
-          pub due-cq : cq_in s.cqs.items c ≡ cq_kept e
-          due-cq = cq_in-read s.cqs.items c e due-c_there read_cq
-
-          -- there is room for what is picked
-          pub due-room : length e.ready.items + pick.n ≤ e.ready.room
-          due-room =
-              let few = subst (λ (x : CqKept). length x.ready ≤ s.outstanding + highest_count) due-cq (ready_few (past_of s) (kept_of s) (held_by s.deletion) st.ready c) in
-              omega (arith, few, places, ready_room-is s kept.roomy c e due-c_there read_cq)

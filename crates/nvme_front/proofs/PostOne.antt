@@ -15,18 +15,18 @@ use Rattle.nvme_front.specs.declared.region.CqRegion.{CqRegion}
 use Rattle.nvme_front.specs.declared.state.FrontState.{FrontState}
 use Rattle.nvme_front.specs.Limits.{most_events}
 use Rattle.nvme_front.specs.Rules.{FrontRules, Past, upto}
-use Rattle.nvme_front.specs.Places.{fetched, fate_of, is_waiting}
+use Rattle.nvme_front.specs.Places.{Place, fetched, fate_of, is_waiting}
 use Rattle.nvme_front.specs.Completions.{is_posted, posted_to}
 use Rattle.nvme_front.specs.Laws.{count_of}
 use Rattle.nvme_front.specs.Kept.{Kept, SqKept, CqKept, sq_in, cq_in, cq_kept, put_sq, put_cq, gets_of, puts_of, kept_of, rules_of, past_of}
-use Rattle.nvme_front.specs.Standing.{Stands, IsKept, IsReady, HoldsPosts, Place, one_if, unposted_of, held_by, window_room, ready_room}
+use Rattle.nvme_front.specs.Standing.{Stands, IsKept, IsReady, HoldsPosts, one_if, unposted_of, hand_of, window_room, ready_room}
 use Rattle.nvme_front.specs.Goes.{Goes, IsSame, IsDrained, HasAdmin, IsCompletionOf, get_place, put_place}
-use Rattle.nvme_front.specs.Steps.{CanPost, posted_cq, after_post, post_event}
+use Rattle.nvme_front.proofs.AfterSteps.{CanPost, posted_cq, after_post, post_event}
 use Rattle.nvme_front.proofs.Counting.{count_of-push}
 use Rattle.nvme_front.proofs.PostedPlaces.{over_regions_at}
 use Rattle.nvme_front.proofs.OwnStatus.{IsAnswerable, ready_is_answerable, answerable_is_done, answerable_is_unposted}
 use Rattle.nvme_front.proofs.Standing.{stands-post}
-use Rattle.nvme_front.proofs.States.{sq_in-set, cq_in-set, sq_in-read, cq_in-read, past-push, pushed-not_empty, places-set, windows-set, put_places-set, readies-set, roomy-goes, kept_after}
+use Rattle.nvme_front.proofs.States.{sq_in-set, cq_in-set, sq_in-read, cq_in-read, past-push, pushed-not_empty, places-set, windows-set, put_places-set, readies-set, roomy-goes, kept_after, SameSeat-refl}
 
 -- ---- lists
 -- a list by its first item
@@ -95,13 +95,13 @@ pub foremost : (rules : FrontRules) (late : Bool) (past : Past) (k : Kept) (c : 
 foremost rules late past k c t rest s there first =
     let small : c < MAX_REGIONS = let few = s.tabled.few_cqs in omega (arith, few, there) in
     let ready = All-head (IsReady past k.deletion c) t rest (All-same (IsReady past k.deletion c) (t ∷ rest) (k.cq c).ready (sym first) (s.ready.each c)) in
-    let answer = All-head (λ (x : Ready). IsAnswerable past (held_by k.deletion) x.region x.index) t rest
-    (All-same (λ (x : Ready). IsAnswerable past (held_by k.deletion) x.region x.index) (t ∷ rest) (k.cq c).ready (sym first)
-    (ready_is_answerable past k (held_by k.deletion) s.ready c)) in
+    let answer = All-head (λ (x : Ready). IsAnswerable past (hand_of k) x.region x.index) t rest
+    (All-same (λ (x : Ready). IsAnswerable past (hand_of k) x.region x.index) (t ∷ rest) (k.cq c).ready (sym first)
+    (ready_is_answerable past k (hand_of k) s.ready c)) in
     let at = posts_to (k.sq t.region).queue c (sym (s.queues.cq_region_is t.region) ∙ ready.region) in
     let picked = over_regions_at (λ (x : ℕ). length (filter (λ (u : Ready). not u.aborted) (k.cq x).ready)) c MAX_REGIONS small in
     let here = first_counted (k.cq c).ready t rest first in
-    let open_places = answerable_counted past (held_by k.deletion) t.region t.index answer in
+    let open_places = answerable_counted past (hand_of k) t.region t.index answer in
     let counted = s.counts.unposted t.region in
     let taken = s.ready.taken in
     record {
@@ -179,6 +179,7 @@ pub record IsPosted (a b : FrontState) (c : ℕ) (t : Ready) (cqe : Cqe) : Type 
   pub board : b.board ≡ a.board
   pub table : b.table ≡ a.table
   pub deletion : b.deletion ≡ a.deletion
+  pub jobs : b.jobs ≡ a.jobs
   pub late : b.late ≡ a.late
   pub config : b.config ≡ a.config
   pub alloc : b.alloc ≡ a.alloc
@@ -195,6 +196,11 @@ posted-goes a b c t cqe p = record {
       ∙ put_places-set a.cqs.items c p.d p.g p.cq_read (λ i. (p.same_end.0 i, p.same_end.1 i, p.same_end.2 i));
   windows = ap (map window_room) p.sqs ∙ windows-set a.sqs.items t.region p.e _ p.sq_read refl;
   readies = ap (map ready_room) p.cqs ∙ readies-set a.cqs.items c p.d p.g p.cq_read (ap (λ z. z.room) p.ready);
+  came = rw p.jobs refl;
+  seat = rw p.jobs (SameSeat-refl a.jobs.hands.seat);
+  handed = rw p.jobs (omega arith);
+  gained = rw p.jobs (omega arith);
+  room = rw p.jobs refl;
 }
 
 -- what is kept is that after a post
@@ -212,7 +218,7 @@ posted-kept_of a b c t cqe there p =
     ∙ ap (λ (z : CqKept). put_cq (cq_in a.cqs.items) c (posted_cq z (drop 1 p.d.ready.items) cqe p.g.end.free)) (sym (cq_in-read a.cqs.items c p.d p.there p.cq_read)) in
     let nsq : length b.sqs.items ≡ length a.sqs.items = ap length p.sqs ∙ length-set a.sqs.items t.region _ in
     let ncq : length b.cqs.items ≡ length a.cqs.items = ap length p.cqs ∙ length-set a.cqs.items c p.g in
-    λ i. record { sq = sq i; cq = cq i; nsq = nsq i; ncq = ncq i; board = p.board i; table = p.table i; outstanding = p.outstanding i; deletion = p.deletion i }
+    λ i. record { sq = sq i; cq = cq i; nsq = nsq i; ncq = ncq i; board = p.board i; table = p.table i; outstanding = p.outstanding i; deletion = p.deletion i; jobs = p.jobs i }
 
 -- and it is kept
 pub posted-kept : (a b : FrontState) (c : ℕ) (t : Ready) (cqe : Cqe) → IsKept a → HasAdmin a → IsPosted a b c t cqe → IsKept b

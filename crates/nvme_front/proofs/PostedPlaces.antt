@@ -14,12 +14,12 @@ use Rattle.nvme_arbiter.specs.declared.pick.Pick.{Pick}
 use Rattle.arrayvec.specs.ArrayVec.{ArrayVec}
 use Rattle.nvme_front.specs.Rules.{Past, upto}
 use Rattle.nvme_front.specs.Queues.{has_region, open_sq}
-use Rattle.nvme_front.specs.Places.{fetched, places, waiting, picked, fate_of, is_waiting, is_picked, is_aborted, unaborted_below}
+use Rattle.nvme_front.specs.Places.{Place, fetched, places, waiting, picked, fate_of, is_waiting, is_picked, is_aborted, unaborted_below}
 use Rattle.nvme_front.specs.Completions.{is_posted, posts_of}
 use Rattle.nvme_front.specs.Laws.{count_of}
 use Rattle.nvme_front.specs.Kept.{Kept}
-use Rattle.nvme_front.specs.Standing.{Place, one_if, is_served, unposted_of, HoldsReady, over_regions, times_in}
-use Rattle.nvme_front.specs.Steps.{with_events}
+use Rattle.nvme_front.specs.Standing.{one_if, is_served, unposted_of, HoldsReady, over_regions, times_in}
+use Rattle.nvme_front.proofs.AfterSteps.{with_events}
 use Rattle.nvme_front.proofs.Fates.{length-upto}
 use Rattle.nvme_front.proofs.Posts.{posts_of-some}
 use Rattle.nvme_front.proofs.Counting.{counts_add, counts_all, counts_same, counts_less, counts_change, fate_by, picked_among}

@@ -28,7 +28,9 @@ use Rattle.nvme_front.specs.Standing.{HoldsSq, HoldsQueues, IsPending, IsOpenedF
 use Rattle.nvme_front.specs.Effects.{made_by}
 use Rattle.nvme_front.proofs.Tables.{as_open-unless_closing, finished_cq, step, events_sq, events_cq}
 use Rattle.nvme_front.proofs.UsedRegions.{used-entry, used-finished}
-use Rattle.nvme_front.specs.Steps.{fetched_sq, picked_sq, after_pick, applied_to, verdict_at, after_admin, with_events, Queues, KeepsFetch, KeepsIo, KeepsAdmin, KeepsPost, KeepsClose}
+use Rattle.nvme_front.specs.Steps.{picked_sq, after_pick, applied_to, verdict_at}
+use Rattle.nvme_front.proofs.AfterSteps.{fetched_sq, after_admin, with_events}
+use Rattle.nvme_front.proofs.StepKeeps.{Queues, KeepsFetch, KeepsIo, KeepsAdmin, KeepsPost, KeepsClose}
 use Rattle.nvme_front.proofs.QueueWords.{in_log, in_kept, counted, OpenedFor, Agree, at_same, put-queue}
 use Rattle.nvme_front.proofs.QueueVerdicts.{few_queues, verdict-agrees, verdict-table, verdict-unused}
 use Rattle.nvme_front.proofs.QueueChanges.{serve, post, finish}

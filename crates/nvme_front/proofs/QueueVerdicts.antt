@@ -25,7 +25,7 @@ use Rattle.nvme_front.specs.Queues.{Queue, open_sq, open_cq}
 use Rattle.nvme_front.specs.Places.{waiting}
 use Rattle.nvme_front.specs.Effects.{closing_of, closed_cq_of, made_by}
 use Rattle.nvme_front.specs.Kept.{SqKept, Kept}
-use Rattle.nvme_front.specs.Steps.{IsChosen, after_admin, deleting_from, with_events}
+use Rattle.nvme_front.proofs.AfterSteps.{IsChosen, after_admin, deleting_from, with_events}
 use Rattle.nvme_front.proofs.UsedRegions.{used_after}
 use Rattle.nvme_front.proofs.QueueWords.{KeptQueues, in_log, in_kept, Agree, at_other, put-queue}
 use Rattle.nvme_front.proofs.QueueChanges.{open_one, open_other, close_other, begin_delete}

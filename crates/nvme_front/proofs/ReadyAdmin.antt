@@ -1,5 +1,5 @@
 -- What an admin command makes ready: its answer, or the aborted candidates of the queue that it deletes.
-use Rattle.std.proofs.Common.{◌≡◌, ℕ, ◌+◌, ◌<◌, ◌≤◌, ◌==◌, ◌&&◌, ◌||◌, nat_lt, Bool, true, false, not, List, [], ◌∷◌, map, length, take, slice_index_or, Option, Some, None, refl, sym, ap, ◌∙◌, subst, arith, inl, inr}
+use Rattle.std.proofs.Common.{◌≡◌, ℕ, ◌+◌, ◌<◌, ◌≤◌, ◌==◌, ◌&&◌, ◌||◌, nat_lt, Bool, true, false, not, List, [], ◌∷◌, ◌++◌, map, length, take, slice_index_or, Option, Some, None, refl, sym, ap, ◌∙◌, subst, arith, inl, inr}
 use Rattle.std.specs.Prelude.{sum_by, All, option_map}
 use Rattle.std.proofs.lemmas.Bool.{cases_eq, eq-eqb, ne_eqb, or_right}
 use Rattle.std.proofs.lemmas.List.{length-drop}
@@ -10,6 +10,7 @@ use Rattle.nvme_arbiter.specs.Board.{BoardView}
 use Rattle.nvme_arbiter.specs.declared.pick.Pick.{Pick}
 use Rattle.nvme_arbiter.specs.declared.pick.Seen.{Seen}
 use Rattle.nvme_admin.specs.Standing.{TableView}
+use Rattle.nvme_admin.specs.Accepted.{queue_table}
 use Rattle.nvme_admin.specs.declared.bounds.TheConstants.{MAX_REGIONS}
 use Rattle.nvme_admin.specs.declared.verdict.Verdict.{Verdict}
 use Rattle.nvme_front.specs.declared.event.Event.TheVariants.{Abort, Closing}
@@ -17,19 +18,33 @@ use Rattle.nvme_front.specs.declared.event.Event.TheVariants as event
 use Rattle.nvme_front.specs.declared.candidate.Candidate.{Candidate}
 use Rattle.nvme_front.specs.declared.candidate.Ready.{Ready}
 use Rattle.nvme_front.specs.declared.candidate.PendingDelete.{PendingDelete}
+use Rattle.nvme_front.specs.declared.region.Attachment.{Attachment}
 use Rattle.nvme_front.specs.Limits.{max_outstanding}
-use Rattle.nvme_front.specs.Rules.{Past}
+use Rattle.nvme_front.specs.Rules.{FrontRules, Past}
 use Rattle.nvme_front.specs.Queues.{cq_region_of}
-use Rattle.nvme_front.specs.Places.{fetched, fate_of, is_waiting, waiting, entry_at, is_aborted}
+use Rattle.nvme_front.specs.Places.{Place, fetched, fate_of, is_waiting, waiting, entry_at, is_aborted}
 use Rattle.nvme_front.specs.Completions.{posts_of}
+use Rattle.nvme_front.specs.Jobs.{JobsView, in_hand, dispatched_place}
 use Rattle.nvme_front.specs.Kept.{SqKept, Kept, put_sq}
-use Rattle.nvme_front.specs.Standing.{HoldsSq, HoldsReady, IsReady, Place, is_served, one_if, times_in, times_held, held_by, ready_aborted}
+use Rattle.nvme_front.specs.Standing.{HoldsSq, HoldsReady, IsReady, is_served, one_if, times_in, times_held, held_by, hand_of, ready_aborted, Stands}
 use Rattle.nvme_front.proofs.Waiting.{times-upto}
 use Rattle.nvme_front.proofs.Windows.{times_in_window, All-from_map, sum_by-map}
 use Rattle.nvme_front.proofs.Served.{aborts-leave}
 use Rattle.nvme_front.proofs.Readying.{over_none, GrowsBy, put-grows, readies, sum_by-none, sum_by-ones, IsMade, times_in-own, times_in-other, Moves, served-moves, at_put, waiting-unaborted}
 use Rattle.nvme_front.proofs.ReadyChange.{aborted-sum, becomes-ready, pick-moves}
-use Rattle.nvme_front.specs.Steps.{with_events, picked_sq, place_of, answered, aborted, applied_to, with_deleting}
+use Rattle.nvme_front.proofs.ReadyGains.{sum-in_hand, length-in_hand}
+use Rattle.nvme_front.specs.Steps.{picked_sq, aborted, applied_to}
+use Rattle.nvme_front.proofs.AfterSteps.{with_events, place_of, answered, with_deleting}
+
+-- ---- regions
+-- the region of a queue that is opened was opened for none before, so it posts nowhere
+pub unused_apart : (rules : FrontRules) (late : Bool) (past : Past) (k : Kept) (s : Stands rules late past k) (region : ℕ)
+    → (queue_table rules.start s.tabled.history).sq_region_used region ≡ false → (r x : ℕ) → cq_region_of past r ≡ Some x → region ≡ r → ⊥
+unused_apart rules late past k s region unused r x h e =
+    let none : (k.sq region).queue ≡ None = s.queues.unused region (s.tabled.stands.sq_used region ∙ unused) in
+    let nowhere : cq_region_of past region ≡ None = s.queues.cq_region_is region ∙ ap (option_map (λ (a : Attachment). a.cq_region)) none in
+    let here : cq_region_of past region ≡ Some x = subst (λ (z : ℕ). cq_region_of past z ≡ Some x) (sym e) h in
+    cc
 
 -- ---- aborts
 -- a place that none of them names is aborted as before
@@ -67,6 +82,7 @@ pub record SamePlaces (past later : Past) : Type 0 where
 -- the admin queue's oldest candidate was picked, and its answer t is ready in completion region 0
 pub record Answers (k after : Kept) (t : Ready) : Type 0 where
   pub grows : GrowsBy (readies k.cq) (readies after.cq) 0 (t ∷ [])
+  pub jobs : after.jobs ≡ k.jobs
   pub deletion : after.deletion ≡ k.deletion
   pub outstanding : after.outstanding ≡ k.outstanding + 1
   pub windows : (r : ℕ) → (after.sq r).window ≡ (put_sq k.sq 0 (picked_sq (k.sq 0) 1) r).window
@@ -87,17 +103,18 @@ at_oldest P xs x rest e h = All-head P x rest (All-same P (x ∷ rest) xs (sym e
 
 -- the relation of what is ready to the log is kept
 pub answers-ready : (past later : Past) (k after : Kept) (candidate : Candidate) (rest : List Candidate) (v : Verdict)
-    → HoldsReady past k (held_by k.deletion) → ((r : ℕ) → HoldsSq past r (k.sq r)) → (k.sq 0).window ≡ candidate ∷ rest → k.deletion ≡ None
+    → HoldsReady past k (hand_of k) → ((r : ℕ) → HoldsSq past r (k.sq r)) → (k.sq 0).window ≡ candidate ∷ rest → k.deletion ≡ None
     → k.outstanding + 1 ≤ max_outstanding → SamePlaces past later → Answers k after (answered candidate v) → ((r : ℕ) → HoldsSq later r (after.sq r))
-    → HoldsReady later after (held_by after.deletion)
+    → HoldsReady later after (hand_of after)
 answers-ready past later k after candidate rest v ready before oldest none few same a regions =
-    let hand : held_by k.deletion ≡ [] = ap held_by none in
-    let held : held_by after.deletion ≡ [] = ap held_by (a.deletion ∙ none) in
+    let hand : hand_of after ≡ hand_of k =
+    ap (λ (j : JobsView). map dispatched_place (in_hand j.hands) ++ held_by after.deletion) a.jobs
+    ∙ ap (λ (d : Option PendingDelete). map dispatched_place (in_hand k.jobs.hands) ++ held_by d) a.deletion in
     let entry : entry_at past 0 candidate.index ≡ Some candidate.entry =
     at_oldest (λ (c : Candidate). entry_at past 0 c.index ≡ Some c.entry) (k.sq 0).window candidate rest oldest (before 0).entries in
     let fresh : is_aborted past 0 candidate.index ≡ false =
     at_oldest (λ (c : Candidate). is_aborted past 0 c.index ≡ false) (k.sq 0).window candidate rest oldest (waiting-unaborted past 0 (k.sq 0) (before 0)) in
-    becomes-ready past later k after (held_by k.deletion) (held_by after.deletion) 0 (answered candidate v ∷ []) ready (record {
+    becomes-ready past later k after (hand_of k) (hand_of after) 0 (answered candidate v ∷ []) ready (record {
       small = omega arith;
       grows = a.grows;
       posts = same.posts;
@@ -108,7 +125,6 @@ answers-ready past later k after candidate rest v ready before oldest none few s
             arith,
             served-moves past later r i (one_if (0 == r && candidate.index == i)) (k.sq r) (after.sq r) (before r) (regions r) moves,
             ap (times_held r i) hand,
-            ap (times_held r i) held,
           );
       stay = λ c t served h. record {
         region = same.cq_regions t.region c h.region;
@@ -122,7 +138,7 @@ answers-ready past later k after candidate rest v ready before oldest none few s
         aborted = sym (same.aborts 0 candidate.index ∙ fresh);
         deleting = λ e. cc;
       }) (All-nil (IsReady later after.deletion 0));
-      taken = omega (arith, a.outstanding, ap (λ (xs : List Place). length xs) hand, ap (λ (xs : List Place). length xs) held);
+      taken = omega (arith, a.outstanding, ap (λ (xs : List Place). length xs) hand);
       few_aborted = omega (arith, ready.few_aborted);
       few_taken = omega (arith, a.outstanding);
       admin_region = same.cq_regions 0 0 ready.admin_region;
@@ -150,7 +166,7 @@ none-aborted past k hand h none =
       counts_none false n = omega arith
 
 -- a served place is none of those that wait
-served-apart : (past : Past) (r q j : ℕ) → is_served past q j ≡ true → sum_by (λ (i : ℕ). one_if (r == q && i == j)) (waiting past r) ≡ 0
+pub served-apart : (past : Past) (r q j : ℕ) → is_served past q j ≡ true → sum_by (λ (i : ℕ). one_if (r == q && i == j)) (waiting past r) ≡ 0
 served-apart past r q j h =
     elim (cases_eq r q) [
       | inl e ↦ rw (eq-eqb r q e) (times-upto (λ (i : ℕ). is_waiting (fate_of past r i)) j (length (fetched past r))
@@ -184,11 +200,11 @@ left-fewer k = at_put (λ (x : ℕ) (u v : SqKept). length v.window ≤ length u
 
 -- the relation of what is ready to the log is kept
 pub deletes-ready : (past : Past) (k : Kept) (candidate : Candidate) (rest : List Candidate) (seen : ArrayVec Seen) (pick : Pick) (board : BoardView) (table : TableView) (region qid c : ℕ)
-    → HoldsReady past k (held_by k.deletion) → ((r : ℕ) → HoldsSq past r (k.sq r)) → (k.sq 0).window ≡ candidate ∷ rest → k.deletion ≡ None
+    → HoldsReady past k (hand_of k) → ((r : ℕ) → HoldsSq past r (k.sq r)) → (k.sq 0).window ≡ candidate ∷ rest → k.deletion ≡ None
     → k.outstanding + 1 ≤ max_outstanding → c < MAX_REGIONS → cq_region_of past region ≡ Some c
     → ((r : ℕ) → HoldsSq (with_events (map (λ (i : ℕ). Abort region i) (waiting past region)) (Closing qid region ∷ event.Pick seen pick ∷ past)) r ((with_deleting (applied_to k board table) qid region c candidate).sq r))
     → HoldsReady (with_events (map (λ (i : ℕ). Abort region i) (waiting past region)) (Closing qid region ∷ event.Pick seen pick ∷ past))
-    (with_deleting (applied_to k board table) qid region c candidate) (place_of 0 candidate ∷ [])
+    (with_deleting (applied_to k board table) qid region c candidate) (hand_of (with_deleting (applied_to k board table) qid region c candidate))
 deletes-ready past k candidate rest seen pick board table region qid c ready before oldest none few small attached regions =
     let ws : List ℕ = waiting past region in
     let middle : Past = Closing qid region ∷ event.Pick seen pick ∷ past in
@@ -202,16 +218,19 @@ deletes-ready past k candidate rest seen pick board table region qid c ready bef
     let named : All (λ (x : Candidate). is_aborted later region x.index ≡ true) (k.sq region).window =
     All-from_map (λ (x : Candidate). x.index) (λ (j : ℕ). is_aborted later region j ≡ true) (k.sq region).window
     (All-same (λ (j : ℕ). is_aborted later region j ≡ true) _ _ (sym (before region).waiting_is) (aborts-abort region ws middle)) in
-    becomes-ready past later k after (held_by k.deletion) (place_of 0 candidate ∷ []) c ts ready (record {
+    becomes-ready past later k after (hand_of k) (hand_of after) c ts ready (record {
       small = small;
       grows = put-grows k.cq c ts;
       posts = λ r i. aborts-leave (λ (p : Past). posts_of p r i) (λ p r i. refl) region ws middle;
       served = λ r i.
           let first = oldest-moves k candidate rest oldest r i in
+          let place = λ (p : Place). one_if (p.region == r && p.index == i) in
           let second = closing-moves mid region i r (record (mid region) { window = []; unposted = (mid region).unposted + length (mid region).window }) refl refl in
           omega (
             arith,
             served-moves past later r i (one_if (0 == r && candidate.index == i) + times_in r i ts) (k.sq r) (after.sq r) (before r) (regions r) (omega arith),
+            sum-in_hand place k.jobs.hands (held_by k.deletion),
+            sum-in_hand place k.jobs.hands (place_of 0 candidate ∷ []),
             ap (times_held r i) hand,
           );
       stay = λ x t served h. record {
@@ -231,11 +250,16 @@ deletes-ready past k candidate rest seen pick board table region qid c ready bef
       taken =
           let each = sum_by-map (λ (t : Ready). one_if (not t.aborted)) (aborted region) (mid region).window in
           let nothing = sum_by-none (mid region).window in
-          omega (arith, ap (λ (xs : List Place). length xs) hand);
+          omega (
+            arith,
+            length-in_hand k.jobs.hands (held_by k.deletion),
+            length-in_hand k.jobs.hands (place_of 0 candidate ∷ []),
+            ap (λ (xs : List Place). length xs) hand,
+          );
       few_aborted =
           let each = sum_by-map (λ (t : Ready). one_if t.aborted) (aborted region) (mid region).window in
           let ones = sum_by-ones (mid region).window in
-          omega (arith, none-aborted past k (held_by k.deletion) ready none, left-fewer k region, (before region).few_waiting);
+          omega (arith, none-aborted past k (hand_of k) ready none, left-fewer k region, (before region).few_waiting);
       few_taken = few;
       admin_region = region_stays 0 ∙ ready.admin_region;
     })

@@ -14,7 +14,8 @@ use Rattle.nvme_front.specs.Rules.{Past}
 use Rattle.nvme_front.specs.Queues.{cq_region_of}
 use Rattle.nvme_front.specs.Completions.{posts_of}
 use Rattle.nvme_front.specs.Kept.{SqKept, Kept}
-use Rattle.nvme_front.specs.Standing.{Place, HoldsReady, IsReady, is_served, one_if, times_in, times_held, times_ready, ready_picked, ready_aborted}
+use Rattle.nvme_front.specs.Places.{Place}
+use Rattle.nvme_front.specs.Standing.{HoldsReady, IsReady, is_served, one_if, times_in, times_held, times_ready, ready_picked, ready_aborted}
 use Rattle.nvme_front.proofs.Windows.{times_in_window}
 use Rattle.nvme_front.specs.Steps.{picked_sq}
 use Rattle.nvme_front.proofs.Readying.{Moves, over_same, over_at, GrowsBy, readies, sum_ready, sum_ready-grows}

@@ -7,7 +7,8 @@ use Rattle.nvme_front.specs.declared.candidate.Ready.{Ready}
 use Rattle.nvme_front.specs.Limits.{max_ready}
 use Rattle.nvme_front.specs.Rules.{Past}
 use Rattle.nvme_front.specs.Kept.{Kept}
-use Rattle.nvme_front.specs.Standing.{Place, HoldsReady}
+use Rattle.nvme_front.specs.Places.{Place}
+use Rattle.nvme_front.specs.Standing.{HoldsReady}
 use Rattle.nvme_front.proofs.PostedPlaces.{over_regions_at}
 
 -- an item more, on one of two lists

@@ -1,9 +1,10 @@
 -- What is ready and what is posted stand after each step of a front.
 use Rattle.std.proofs.Common.{◌≡◌, ℕ, ◌+◌, ◌<◌, ◌≤◌, ◌==◌, ◌&&◌, Bool, true, false, not, if◌then◌else◌, List, [], ◌∷◌, ◌++◌, length, take, Option, Some, None, refl, sym, ap, ◌∙◌, subst, arith, inl, inr}
-use Rattle.std.specs.Prelude.{All, option_map, slice_get}
+use Rattle.std.specs.Prelude.{All, option_map}
 use Rattle.std.proofs.lemmas.Bool.{cases_eq, false_from_ne_true, eq-eqb, ne_eqb}
 use Rattle.std.proofs.lemmas.List.{length-append, length-take-le}
-use Rattle.std.proofs.lemmas.List.Elements.{All-nil, All-cons, All-tail, All-map, All-take, All-same}
+use Rattle.std.proofs.lemmas.List.Sums.{sum_by-append}
+use Rattle.std.proofs.lemmas.List.Elements.{All-nil, All-cons, All-tail, All-same}
 use Rattle.nvme_entry.specs.declared.submission.Sqe.{Sqe}
 use Rattle.nvme_entry.specs.declared.completion.Cqe.{Cqe}
 use Rattle.arrayvec.specs.ArrayVec.{ArrayVec}
@@ -21,33 +22,30 @@ use Rattle.nvme_admin.proofs.Changed.{TellsChange-entry}
 use Rattle.nvme_front.specs.declared.event.Event.{Event}
 use Rattle.nvme_front.specs.declared.event.Event.TheVariants as event
 use Rattle.nvme_front.specs.declared.candidate.Candidate.{Candidate}
+use Rattle.nvme_front.specs.declared.candidate.Dispatched.{Dispatched}
 use Rattle.nvme_front.specs.declared.candidate.Ready.{Ready}
 use Rattle.nvme_front.specs.declared.candidate.PendingDelete.{PendingDelete}
 use Rattle.nvme_front.specs.declared.region.Attachment.{Attachment}
 use Rattle.nvme_front.specs.Rules.{FrontRules, Past}
-use Rattle.nvme_front.specs.Queues.{Queue, admin_queue, open_sq, open_cq, cq_region_of}
-use Rattle.nvme_front.specs.Places.{fetched, waiting, entry_at}
+use Rattle.nvme_front.specs.Queues.{Queue, admin_queue, open_sq, open_cq}
+use Rattle.nvme_front.specs.Places.{Place, waiting}
 use Rattle.nvme_front.specs.Completions.{is_posted, posts_of, posted_to}
 use Rattle.nvme_front.specs.Effects.{closing_of, closed_cq_of}
-use Rattle.nvme_front.specs.Kept.{SqKept, CqKept, Kept, put_sq, put_cq, with_ready}
-use Rattle.nvme_front.specs.Standing.{Place, HoldsSq, HoldsPosts, IsReady, one_if, times_in, times_held, held_by, is_served, deleted_place, Stands}
-use Rattle.nvme_front.proofs.Windows.{sum_by-map}
-use Rattle.nvme_front.proofs.Regions.{slice_get-append_left}
-use Rattle.nvme_front.proofs.Served.{served-fetch, aborts-leave}
-use Rattle.nvme_front.proofs.Readying.{IsMade, unposted-counts, Pops, readies, sum_ready-pops, at_put_cq, put-grows, none-grows, Moves, served-moves, at_put, sum_by-none, sum_by-ones, times_in-own, times_in-other, waiting-unaborted}
+use Rattle.nvme_front.specs.Jobs.{dispatched_from}
+use Rattle.nvme_front.specs.Kept.{SqKept, CqKept, Kept, put_sq, with_ready}
+use Rattle.nvme_front.specs.Standing.{HoldsSq, HoldsPosts, IsReady, one_if, times_held, held_by, hand_of, is_served, deleted_place, Stands}
+use Rattle.nvme_front.proofs.Served.{served-fetch, aborts-leave, entry_stays}
+use Rattle.nvme_front.proofs.Readying.{unposted-counts, Pops, readies, sum_ready-pops, at_put_cq, put-grows, none-grows, Moves, served-moves, at_put}
 use Rattle.nvme_front.proofs.ReadyChange.{picked-sum, aborted-sum, pick-moves, becomes-ready}
 use Rattle.nvme_front.proofs.Posts.{posts_of-some}
-use Rattle.nvme_front.proofs.ReadyAdmin.{SamePlaces, Answers, answers-ready, deletes-ready}
-use Rattle.nvme_front.specs.Steps.{CanPick, with_events, applied_to, answered, verdict_at, deleting_from, after_admin, admin_past, IsChosen, closed_event, after_closed, deleted, fetch_event, after_fetch, picked_sq, executed, executed_all, after_io, post_event, posted_cq, after_post, KeepsFetch, KeepsIo, KeepsAdmin, KeepsPost, KeepsClose, ReadyOnes, Posts}
+use Rattle.nvme_front.proofs.JobLists.{length-dispatched}
+use Rattle.nvme_front.proofs.ReadyGains.{sum-in_hand, length-in_hand, times_dispatched, dispatched-own, dispatched-other, same_posts}
+use Rattle.nvme_front.proofs.ReadyAdmin.{unused_apart, SamePlaces, Answers, answers-ready, deletes-ready}
+use Rattle.nvme_front.specs.Steps.{CanPick, applied_to, verdict_at, picked_sq}
+use Rattle.nvme_front.proofs.AfterSteps.{with_events, answered, deleting_from, after_admin, admin_past, IsChosen, closed_event, after_closed, deleted, fetch_event, after_fetch, after_io, post_event, posted_cq, after_post}
+use Rattle.nvme_front.proofs.StepKeeps.{KeepsFetch, KeepsIo, KeepsAdmin, KeepsPost, KeepsClose, ReadyOnes, Posts}
 
 -- ---- a fetch
--- a fetched entry stays where more is fetched
-entry_stays : (past : Past) (region index r i : ℕ) (entry e : Sqe) → entry_at past r i ≡ Some e → entry_at (event.Fetch region index entry ∷ past) r i ≡ Some e
-entry_stays past region index r i entry e h = stays (region == r) where
-  stays : (b : Bool) → slice_get (if b then fetched past r ++ entry ∷ [] else fetched past r) i ≡ Some e
-  stays true = slice_get-append_left (fetched past r) (entry ∷ []) i e h
-  stays false = h
-
 -- a fetch serves no place of any region
 fetch_serves : (past : Past) (region index : ℕ) (entry : Sqe) (s : SqKept) → HoldsSq past region s → (r i : ℕ)
     → is_served (event.Fetch region index entry ∷ past) r i ≡ is_served past r i
@@ -61,7 +59,7 @@ fetch_serves past region index entry s h r i =
 -- a fetch makes nothing ready
 pub ready-fetch : KeepsFetch ReadyOnes
 ready-fetch rules late past k q queue entry known s can after =
-    becomes-ready past (fetch_event k queue entry ∷ past) k (after_fetch k q queue entry known) (held_by k.deletion) (held_by k.deletion) 0 [] s.ready (record {
+    becomes-ready past (fetch_event k queue entry ∷ past) k (after_fetch k q queue entry known) (hand_of k) (hand_of k) 0 [] s.ready (record {
       small = omega arith;
       grows = none-grows (λ (c : ℕ). (k.cq c).ready) 0;
       posts = λ r i. refl;
@@ -85,60 +83,48 @@ pub posts-fetch : KeepsFetch Posts
 posts-fetch rules late past k q queue entry known s can = record { posted_is = s.posts.posted_is; counted = s.posts.counted }
 
 -- ---- an I/O pick
--- the completions of executed candidates are made of them
-executed-made : (r : ℕ) (sizes : List ℕ) → IsMade r (executed r sizes)
-executed-made r sizes = record { region = λ c. refl; index = λ c. refl }
-
--- an I/O pick makes the completions of its candidates ready
+-- an I/O pick makes nothing ready: the places of its candidates are in hand
 pub ready-io : KeepsIo ReadyOnes
 ready-io rules late past k queue seen pick board c s can observed io attached after =
-    let made : IsMade queue.region (executed queue.region rules.sizes) = executed-made queue.region rules.sizes in
-    let taken : List Candidate = take pick.n (k.sq queue.region).window in
-    becomes-ready past (event.Pick seen pick ∷ past) k (after_io rules k queue pick.n board c) (held_by k.deletion) (held_by k.deletion) c (executed_all rules k queue pick.n) s.ready (record {
-      small = omega (arith, s.queues.posts_there queue.region (record { qid = pick.qid; cq_region = c }) attached, s.tabled.few_cqs);
-      grows = put-grows k.cq c (executed_all rules k queue pick.n);
+    let region : ℕ = queue.region in
+    let taken : List Candidate = take pick.n (k.sq region).window in
+    let ds : List Dispatched = dispatched_from region k.jobs.tickets taken in
+    let new : Kept = after_io k queue pick.n board in
+    becomes-ready past (event.Pick seen pick ∷ past) k new (hand_of k) (hand_of new) 0 [] s.ready (record {
+      small = omega arith;
+      grows = none-grows (λ (x : ℕ). (k.cq x).ready) 0;
       posts = λ r i. refl;
       served = λ r i.
-          let moves = at_put (λ (x : ℕ) (u v : SqKept). Moves i (times_in x i (executed_all rules k queue pick.n)) u v) k.sq queue.region (picked_sq (k.sq queue.region) pick.n)
-          (rw (times_in-own queue.region i (executed queue.region rules.sizes) taken made) (pick-moves (k.sq queue.region) pick.n i))
-          (λ x d. omega (arith, times_in-other queue.region x i (executed queue.region rules.sizes) taken made d)) r in
-          omega (arith, served-moves past (event.Pick seen pick ∷ past) r i (times_in r i (executed_all rules k queue pick.n)) (k.sq r) _ (s.regions r) (after r) moves);
+          let moves = at_put (λ (x : ℕ) (u v : SqKept). Moves i (times_dispatched x i ds) u v) k.sq region (picked_sq (k.sq region) pick.n)
+          (rw (dispatched-own region i k.jobs.tickets taken) (pick-moves (k.sq region) pick.n i))
+          (λ x d. omega (arith, dispatched-other region x i k.jobs.tickets taken d)) r in
+          let place = λ (p : Place). one_if (p.region == r && p.index == i) in
+          omega (
+            arith,
+            served-moves past (event.Pick seen pick ∷ past) r i (times_dispatched r i ds) (k.sq r) _ (s.regions r) (after r) moves,
+            sum-in_hand place k.jobs.hands (held_by k.deletion),
+            sum-in_hand place new.jobs.hands (held_by k.deletion),
+            sum_by-append (λ (d : Dispatched). one_if (d.region == r && d.index == i)) k.jobs.hands.unhanded ds,
+          );
       stay = λ x t served h. record { region = h.region; entry = h.entry; aborted = h.aborted; deleting = h.deleting };
-      new = All-map (IsReady (event.Pick seen pick ∷ past) k.deletion c) (executed queue.region rules.sizes) taken
-          (All-take (λ (x : Candidate). IsReady (event.Pick seen pick ∷ past) k.deletion c (executed queue.region rules.sizes x)) pick.n (k.sq queue.region).window
-          (λ j d l. record {
-            region = s.queues.cq_region_is queue.region ∙ ap (option_map (λ (a : Attachment). a.cq_region)) attached;
-            entry = (s.regions queue.region).entries j d l;
-            aborted = sym (waiting-unaborted past queue.region (k.sq queue.region) (s.regions queue.region) j d l);
-            deleting = λ e. cc;
-          }));
+      new = λ j d l. absurd (omega arith);
       taken =
-          let each = sum_by-map (λ (t : Ready). one_if (not t.aborted)) (executed queue.region rules.sizes) taken in
-          let ones = sum_by-ones taken in
-          let size : length taken ≡ pick.n = length-take-le pick.n (k.sq queue.region).window can.enough in
-          omega arith;
-      few_aborted =
-          let each = sum_by-map (λ (t : Ready). one_if t.aborted) (executed queue.region rules.sizes) taken in
-          let none = sum_by-none taken in
-          omega (arith, s.ready.few_aborted);
+          let size : length taken ≡ pick.n = length-take-le pick.n (k.sq region).window can.enough in
+          omega (
+            arith,
+            length-in_hand k.jobs.hands (held_by k.deletion),
+            length-in_hand new.jobs.hands (held_by k.deletion),
+            length-append k.jobs.hands.unhanded ds,
+            length-dispatched region k.jobs.tickets taken,
+          );
+      few_aborted = omega (arith, s.ready.few_aborted);
       few_taken = can.places;
       admin_region = s.ready.admin_region;
     })
 
--- what is put and counted at a completion region isn't changed by what is ready
-same_posts : (past later : Past) (k after : Kept) (a : ℕ) (ts : List Ready) → HoldsPosts past k
-    → put_cq k.cq a (record (k.cq a) { ready = ts }) ≡ after.cq → ((c : ℕ) → posted_to later c ≡ posted_to past c) → HoldsPosts later after
-same_posts past later k after a ts h is same = record {
-  posted_is = subst (λ (f : ℕ → CqKept). (c : ℕ) → posted_to later c ≡ (f c).sent) is
-      (at_put_cq (λ (c : ℕ) (s : CqKept). posted_to later c ≡ s.sent) k.cq a (record (k.cq a) { ready = ts }) (same a ∙ h.posted_is a) (λ c d. same c ∙ h.posted_is c));
-  counted = subst (λ (f : ℕ → CqKept). (c : ℕ) → (f c).posted ≡ length (f c).sent) is
-      (at_put_cq (λ (c : ℕ) (s : CqKept). s.posted ≡ length s.sent) k.cq a (record (k.cq a) { ready = ts }) (h.counted a) (λ c d. h.counted c));
-}
-
 -- an I/O pick posts nothing
 pub posts-io : KeepsIo Posts
-posts-io rules late past k queue seen pick board c s can observed io attached =
-    same_posts past (event.Pick seen pick ∷ past) k (after_io rules k queue pick.n board c) c _ s.posts refl (λ x. refl)
+posts-io rules late past k queue seen pick board c s can observed io attached = record { posted_is = s.posts.posted_is; counted = s.posts.counted }
 
 -- ---- a post
 -- one more where a test passes
@@ -208,11 +194,13 @@ pub ready-close : KeepsClose ReadyOnes
 ready-close rules late past k d table s can after =
     let held : held_by k.deletion ≡ deleted_place d ∷ [] = ap held_by can.pending in
     let region : option_map (λ (x : PendingDelete). x.region) k.deletion ≡ Some d.region = ap (option_map (λ (x : PendingDelete). x.region)) can.pending in
-    becomes-ready past (closed_event d ∷ past) k (after_closed k d table) (held_by k.deletion) [] 0 (deleted d ∷ []) s.ready (record {
+    becomes-ready past (closed_event d ∷ past) k (after_closed k d table) (hand_of k) (hand_of (after_closed k d table)) 0 (deleted d ∷ []) s.ready (record {
       small = omega arith;
       grows = put-grows k.cq 0 (deleted d ∷ []);
       posts = λ r i. refl;
-      served = λ r i. omega (arith, ap (times_held r i) held);
+      served = λ r i.
+          let place = λ (p : Place). one_if (p.region == r && p.index == i) in
+          omega (arith, sum-in_hand place k.jobs.hands (held_by k.deletion), sum-in_hand place k.jobs.hands [], ap (times_held r i) held);
       stay = λ c t served h. record {
         region = h.region;
         entry = h.entry;
@@ -229,7 +217,7 @@ ready-close rules late past k d table s can after =
         aborted = sym (s.deletion.stands d can.pending).not_aborted;
         deleting = λ e. cc;
       }) (All-nil (IsReady (closed_event d ∷ past) None 0));
-      taken = omega (arith, ap (λ (xs : List Place). length xs) held);
+      taken = omega (arith, length-in_hand k.jobs.hands (held_by k.deletion), length-in_hand k.jobs.hands [], ap (λ (xs : List Place). length xs) held);
       few_aborted = omega (arith, s.ready.few_aborted);
       few_taken = s.ready.few_taken;
       admin_region = s.ready.admin_region;
@@ -243,14 +231,6 @@ posts-close rules late past k d table s can = same_posts past (closed_event d �
 module _ (rules : FrontRules) (late : Bool) (past : Past) (k : Kept) (seen : ArrayVec Seen) (pick : Pick) (picked : BoardView)
     (candidate : Candidate) (rest : List Candidate) (table : TableView) (c : ℕ) (board : BoardView) (s : Stands rules late past k)
     (can : CanPick rules past k admin_queue pick picked) (one : pick.n ≡ 1) (oldest : (k.sq 0).window ≡ candidate ∷ rest) where
-  -- the region of a queue that is opened was opened for none before, so it posts nowhere
-  unused_apart : (region : ℕ) → (queue_table rules.start s.tabled.history).sq_region_used region ≡ false → (r x : ℕ) → cq_region_of past r ≡ Some x → region ≡ r → ⊥
-  unused_apart region unused r x h e =
-      let none : (k.sq region).queue ≡ None = s.queues.unused region (s.tabled.stands.sq_used region ∙ unused) in
-      let nowhere : cq_region_of past region ≡ None = s.queues.cq_region_is region ∙ ap (option_map (λ (a : Attachment). a.cq_region)) none in
-      let here : cq_region_of past region ≡ Some x = subst (λ (z : ℕ). cq_region_of past z ≡ Some x) (sym e) h in
-      cc
-
   -- the answer of a command is ready, where the places of the log are as before
   answer : (later : Past) (after : Kept) (v : Verdict) → SamePlaces past later → Answers k after (answered candidate v) → ReadyOnes rules late later after
   answer later after v same a regions =
@@ -258,7 +238,7 @@ module _ (rules : FrontRules) (late : Bool) (past : Past) (k : Kept) (seen : Arr
 
   -- nothing but the board, the table and the oldest candidate is changed
   leaves_answer : (b : BoardView) (t : Ready) → Answers k (with_ready (record (applied_to k picked table) { board = b }) 0 t) t
-  leaves_answer b t = record { grows = put-grows k.cq 0 (t ∷ []); deletion = refl; outstanding = refl; windows = λ r. refl; got = λ r. refl }
+  leaves_answer b t = record { grows = put-grows k.cq 0 (t ∷ []); jobs = refl; deletion = refl; outstanding = refl; windows = λ r. refl; got = λ r. refl }
 
   -- a pick alone leaves the places
   pick-leaves : SamePlaces past (event.Pick seen pick ∷ past)
@@ -290,11 +270,12 @@ module _ (rules : FrontRules) (late : Bool) (past : Past) (k : Kept) (seen : Arr
   commands (Done status dw0) due chosen = answer _ _ (Done status dw0) pick-leaves (leaves_answer picked (answered candidate (Done status dw0)))
   commands (verdict.OpenSq qid region cqid class) due chosen = answer _ _ (verdict.OpenSq qid region cqid class) (record {
     posts = λ r i. refl;
-    cq_regions = λ r x h. rw (ne_eqb region r (unused_apart region due.unused r x h)) h;
+    cq_regions = λ r x h. rw (ne_eqb region r (unused_apart rules late past k s region due.unused r x h)) h;
     entries = λ r i. refl;
     aborts = λ r i. refl;
   }) (record {
     grows = put-grows k.cq 0 (answered candidate (verdict.OpenSq qid region cqid class) ∷ []);
+    jobs = refl;
     deletion = refl;
     outstanding = refl;
     windows = opened-keeps (λ (x : SqKept). x.window) (put_sq k.sq 0 (picked_sq (k.sq 0) 1)) region _ refl;

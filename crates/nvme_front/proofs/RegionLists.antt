@@ -16,6 +16,7 @@ use Rattle.nvme_front.specs.declared.candidate.PendingDelete.{PendingDelete}
 use Rattle.nvme_front.specs.declared.region.SqRegion.{SqRegion}
 use Rattle.nvme_front.specs.declared.region.CqRegion.{CqRegion}
 use Rattle.nvme_front.specs.declared.state.FrontState.{FrontState}
+use Rattle.nvme_front.specs.Jobs.{JobsView}
 use Rattle.nvme_front.specs.Kept.{no_sq, no_cq, sq_kept, cq_kept, sq_in, cq_in, Kept, kept_of, sq_steps, cq_steps, gets_of, puts_of, rules_of}
 use Rattle.nvme_front.proofs.RegionSteps.{region_of_get, region_of_put, first_table, table_of-additions, AddsRegions, adds_regions, sq-adds_more, cq-adds_more, table_of-regions}
 
@@ -24,9 +25,9 @@ abbrev pub rules_with : Mechanism → Start → List ℕ → List SqRegion → L
 rules_with mechanism start sizes sqs cqs = record { mechanism = mechanism; start = start; sizes = sizes; regions = cq_steps (puts_of cqs) ++ sq_steps (gets_of sqs) }
 
 -- what a front with these regions keeps
-abbrev pub kept_with : List SqRegion → List CqRegion → BoardView → TableView → ℕ → Option PendingDelete → Kept
-kept_with sqs cqs board table outstanding deletion =
-    record { sq = sq_in sqs; cq = cq_in cqs; nsq = length sqs; ncq = length cqs; board = board; table = table; outstanding = outstanding; deletion = deletion }
+abbrev pub kept_with : List SqRegion → List CqRegion → BoardView → TableView → ℕ → Option PendingDelete → JobsView → Kept
+kept_with sqs cqs board table outstanding deletion jobs =
+    record { sq = sq_in sqs; cq = cq_in cqs; nsq = length sqs; ncq = length cqs; board = board; table = table; outstanding = outstanding; deletion = deletion; jobs = jobs }
 
 -- those of a state
 pub rules_of-lists : (s : FrontState)
@@ -34,7 +35,7 @@ pub rules_of-lists : (s : FrontState)
 rules_of-lists s = refl
 
 -- and what it keeps
-pub kept_of-lists : (s : FrontState) → kept_of s ≡ kept_with s.sqs.items s.cqs.items s.board s.table s.outstanding s.deletion
+pub kept_of-lists : (s : FrontState) → kept_of s ≡ kept_with s.sqs.items s.cqs.items s.board s.table s.outstanding s.deletion s.jobs
 kept_of-lists s = refl
 
 -- ---- the regions of the rules

@@ -31,7 +31,9 @@ use Rattle.nvme_front.specs.Completions.{is_posted}
 use Rattle.nvme_front.specs.Kept.{SqKept, Kept, put_sq}
 use Rattle.nvme_front.specs.Effects.{made_by, closing_of, closed_cq_of}
 use Rattle.nvme_front.specs.Standing.{HoldsSq, HoldsQueues, IsReady}
-use Rattle.nvme_front.specs.Steps.{with_events, fetched_sq, picked_sq, applied_to, after_admin, deleting_from, verdict_at, Regions, KeepsFetch, KeepsIo, KeepsAdmin, KeepsPost, KeepsClose}
+use Rattle.nvme_front.specs.Steps.{picked_sq, applied_to, verdict_at}
+use Rattle.nvme_front.proofs.AfterSteps.{with_events, fetched_sq, after_admin, deleting_from}
+use Rattle.nvme_front.proofs.StepKeeps.{Regions, KeepsFetch, KeepsIo, KeepsAdmin, KeepsPost, KeepsClose}
 use Rattle.nvme_front.proofs.Waiting.{left, left-more, unaborted, waiting_is-drop, fetched-fetch, fetched-fetch_other, waiting-fetch, waiting-same, unaborted_below-same, picked-pick, picked-pick_other, waiting-pick, waiting-abort, is_aborted-abort, is_aborted-abort_other, few_picked-abort}
 use Rattle.nvme_front.proofs.Windows.{window-below}
 

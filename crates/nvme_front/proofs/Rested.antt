@@ -2,6 +2,7 @@
 use Rattle.std.proofs.Common.{◌≡◌, ℕ, ◌<◌, Bool, true, false, ◌||◌, List, [], ◌∷◌, ◌++◌, map, length, get_or, take, None, inl, inr, refl, sym, ap, subst, ◌∙◌, arith, length-append}
 use Rattle.std.specs.Prelude.{reverse, Option, Vec}
 use Rattle.std.specs.Global.{Global}
+use Rattle.std.specs.List.{All}
 use Rattle.std.proofs.lemmas.List.{append-nil, length-map, get_or_past}
 use Rattle.std.proofs.lemmas.Simd.{map-map}
 use Rattle.std.proofs.lemmas.Bool.{cases_lt}
@@ -13,6 +14,7 @@ use Rattle.nvme_lane.specs.Feeder.{script_of, count_of, put_of}
 use Rattle.nvme_lane.specs.Drainer.{items_of, get_of}
 use Rattle.nvme_lane.specs.declared.feeder.Feeder.{Feeder}
 use Rattle.nvme_lane.specs.declared.drainer.Drainer.{Drainer}
+use Rattle.nvme_pool.specs.Worker.{WorkerView}
 use Rattle.nvme_front.specs.declared.settled.Settled.{Settled}
 use Rattle.nvme_front.specs.declared.settling.Parts.{Parts}
 use Rattle.nvme_front.specs.Rules.{FrontRules, Past}
@@ -20,11 +22,14 @@ use Rattle.nvme_front.specs.Queues.{Deletion, is_open_region, pending}
 use Rattle.nvme_front.specs.Places.{fetched}
 use Rattle.nvme_front.specs.Completions.{posted_to}
 use Rattle.nvme_front.specs.Account.{IsAccount}
+use Rattle.nvme_front.specs.Dispatches.{AccountsForJobs, ExecutesOnce}
+use Rattle.nvme_front.specs.Jobs.{Hands, IsClosed, in_hand}
 use Rattle.nvme_front.specs.Goes.{get_place, put_place}
 use Rattle.nvme_front.specs.View.{FrontView, AccountsForEnds, IsClear, past_in, got_in, known_in, sent_in, is_serving, is_deleted_region}
 use Rattle.nvme_front.specs.Hosts.{ArePaired, AreHosts, IsAtRest, drainer_place, told, told_by, submitted_at, sent_at, taken_at, collected_at}
-use Rattle.nvme_front.specs.Resting.{Rests, TakesOf, Takes, Collects}
+use Rattle.nvme_front.specs.Resting.{IsSameFront, Rests, TakesOf, Takes, Collects}
 use Rattle.nvme_front.specs.Settles.{settled_past, IsSettled, IsSettledAccount, CollectsMore, HandsBack}
+use Rattle.nvme_front.proofs.Executions.{KeepsNone, executes_once}
 use Rattle.nvme_front.proofs.Hosted.{seen_length, paired_places, IsSameFront-trans}
 use Rattle.nvme_front.proofs.Prefixes.{IsPrefix-refl}
 
@@ -207,6 +212,22 @@ module _ (v w u : FrontView) (f f' : List (Feeder Sqe)) (d d' : List (Drainer Cq
         (λ c. subst (λ z. IsPrefix (collected_at s.collected.items c) z) (collected_all c) (IsPrefix-refl (collected_at s.collected.items c))) in
         subst (λ (z : FrontRules). IsAccount z (sent_at s.sent.items) (settled_past s) (collected_at s.collected.items)) all.rules
         (subst (λ (z : Past). IsAccount u.rules (sent_at s.sent.items) z (collected_at s.collected.items)) (sym past_u) b)
+
+-- two lists that make an empty one are empty
+both_empty : {X : Type 0} (xs ys : List X) → xs ++ ys ≡ [] → (xs ≡ []) × (ys ≡ [])
+both_empty [] ys e = (refl, e)
+both_empty (x ∷ xs) ys e = cc e
+
+-- where nothing of a front is in hand and its pool was closed, each job was executed once, as the front before the looks says it
+pub executes : (v u : FrontView) (past : Past) (workers : List WorkerView) → IsSameFront v u → past ≡ past_in u → AccountsForJobs u.rules.sizes (past_in u) u.hands → in_hand u.hands ≡ []
+    → v.hands.came.handed ≡ [] → IsClosed u.hands.seat workers → All KeepsNone workers → ExecutesOnce v.rules.sizes past v.hands.seat workers
+executes v u past workers same log account none before closed kept =
+    let came : u.hands.came.handed ≡ [] = ap (λ (h : Hands). h.came.handed) same.hands ∙ before in
+    let split : (u.hands.running ≡ []) × (u.hands.unhanded ≡ []) = both_empty u.hands.running u.hands.unhanded none in
+    let once : ExecutesOnce u.rules.sizes (past_in u) u.hands.seat workers = executes_once u.rules.sizes (past_in u) u.hands workers account split.0 split.1 came closed kept in
+    subst (λ (z : FrontRules). ExecutesOnce z.sizes past v.hands.seat workers) same.rules
+    (subst (λ (z : Hands). ExecutesOnce u.rules.sizes past z.seat workers) same.hands
+    (subst (λ (z : Past). ExecutesOnce u.rules.sizes z u.hands.seat workers) (sym log) once))
 
 -- ---- what was handed back may be settled again
 pub paired_again : (old new : Parts) → HandsBack old new → ArePaired old.front old.feeders.items old.drainers.items → ArePaired new.front new.feeders.items new.drainers.items

@@ -1,5 +1,6 @@
 -- Which places of a region were picked or aborted, after one more event.
-use Rattle.std.proofs.Common.{◌≡◌, ℕ, ◌+◌, ◌<◌, ◌≤◌, ◌==◌, ◌||◌, nat_lt, Bool, true, false, List, [], ◌∷◌, length, take, ap, sym, refl, ◌∙◌, arith, inl, inr, ◌⊎◌}
+use Rattle.std.proofs.Common.{◌≡◌, ℕ, ◌+◌, ◌<◌, ◌≤◌, ◌==◌, ◌||◌, nat_lt, Bool, true, false, if◌then◌else◌, List, [], ◌∷◌, ◌++◌, length, Some, take, ap, sym, refl, ◌∙◌, arith, inl, inr, ◌⊎◌}
+use Rattle.std.specs.Prelude.{slice_get}
 use Rattle.std.specs.List.{list_any}
 use Rattle.std.proofs.lemmas.List.{length_push}
 use Rattle.std.proofs.lemmas.List.Sums.{sum_by-append, sum_by-cons, sum_by-take-drop}
@@ -11,11 +12,18 @@ use Rattle.nvme_arbiter.specs.declared.pick.Seen.{Seen}
 use Rattle.nvme_front.specs.declared.event.Event.TheVariants as event
 use Rattle.nvme_front.specs.Rules.{Past}
 use Rattle.nvme_front.specs.Queues.{open_sq, has_region}
-use Rattle.nvme_front.specs.Places.{fetched, picked, is_aborted, unaborted_below, fate_of, is_waiting, is_picked, waiting}
+use Rattle.nvme_front.specs.Places.{fetched, entry_at, picked, is_aborted, unaborted_below, fate_of, is_waiting, is_picked, waiting}
 use Rattle.nvme_front.specs.Standing.{one_if, is_served}
 use Rattle.nvme_front.proofs.Waiting.{times_among, times-waiting, served-or_waits, one_fate_of, fetched-fetch, waiting-fetch, waiting-pick, waiting-abort, is_aborted-abort, is_aborted-abort_other}
-use Rattle.nvme_front.specs.Steps.{with_events}
-use Rattle.nvme_front.proofs.Regions.{aborts_of}
+use Rattle.nvme_front.proofs.AfterSteps.{with_events}
+use Rattle.nvme_front.proofs.Regions.{slice_get-append_left, aborts_of}
+
+-- a fetched entry stays where more is fetched
+pub entry_stays : (past : Past) (region index r i : ℕ) (entry e : Sqe) → entry_at past r i ≡ Some e → entry_at (event.Fetch region index entry ∷ past) r i ≡ Some e
+entry_stays past region index r i entry e h = stays (region == r) where
+  stays : (b : Bool) → slice_get (if b then fetched past r ++ entry ∷ [] else fetched past r) i ≡ Some e
+  stays true = slice_get-append_left (fetched past r) (entry ∷ []) i e h
+  stays false = h
 
 -- two tests that count the same are the same
 pub one_if-same : (a b : Bool) → one_if a ≡ one_if b → a ≡ b

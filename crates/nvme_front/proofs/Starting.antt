@@ -1,5 +1,5 @@
 -- A front that has its admin regions stands at the empty log.
-use Rattle.std.proofs.Common.{◌≡◌, ℕ, ◌+◌, ◌<◌, ◌==◌, ◌&&◌, Bool, true, false, not, nat_lt, if◌then◌else◌, List, [], ◌∷◌, map, filter, length, Some, None, refl, sym, ap, ◌∙◌, subst, arith, inl, inr, eqb-true, ne_eqb, lt-ltb, option_map}
+use Rattle.std.proofs.Common.{◌≡◌, ℕ, ◌+◌, ◌<◌, ◌==◌, ◌&&◌, Bool, true, false, not, nat_lt, if◌then◌else◌, List, [], ◌∷◌, ◌++◌, map, filter, length, Some, None, refl, sym, ap, ◌∙◌, subst, arith, inl, inr, eqb-true, ne_eqb, lt-ltb, option_map}
 use Rattle.std.proofs.lemmas.List.Elements.{All-nil, All-same}
 use Rattle.std.proofs.lemmas.Bool.{cases_Bool, cases_lt, le-ltb, or_parts}
 use Rattle.nvme_entry.specs.declared.completion.Cqe.{Cqe}
@@ -17,10 +17,12 @@ use Rattle.nvme_front.specs.declared.region.Attachment.{Attachment}
 use Rattle.nvme_front.specs.declared.state.FrontState.{FrontState}
 use Rattle.nvme_front.specs.Rules.{FrontRules, upto, sq_regions_of}
 use Rattle.nvme_front.specs.Queues.{Queue, admin_queue}
-use Rattle.nvme_front.specs.Places.{entry_at, fate_of, is_waiting}
+use Rattle.nvme_front.specs.Places.{Place, entry_at, fate_of, is_waiting}
 use Rattle.nvme_front.specs.Laws.{as_open}
+use Rattle.nvme_front.specs.Jobs.{dispatched_place}
 use Rattle.nvme_front.specs.Kept.{SqKept, Kept, kept_of, rules_of, gets_of, puts_of}
-use Rattle.nvme_front.specs.Standing.{HoldsSq, HoldsReady, HoldsCounts, HoldsPosts, HoldsQueues, HoldsDeletion, HoldsTable, Accounts, HasOwnStatus, IsReady, Stands, on_board, as_deletion, one_if, Place, held_by, times_in, times_held, times_ready, IsFresh, IsFreshSq}
+use Rattle.nvme_front.specs.Standing.{HoldsSq, HoldsReady, HoldsCounts, HoldsPosts, HoldsQueues, HoldsDeletion, HoldsTable, Accounts, HasOwnStatus, IsReady, Stands, on_board, as_deletion, one_if, held_by, hand_of, times_in, times_held, times_ready, IsFresh, IsFreshSq}
+use Rattle.nvme_front.proofs.JobSteps.{jobs-when-fresh}
 use Rattle.nvme_front.proofs.Clearing.{sum_by-none, over_regions-none}
 use Rattle.nvme_front.proofs.RegionSteps.{only_adds, added_sqs, added_cqs, first_table, table_of-additions, adds_regions}
 
@@ -115,13 +117,13 @@ module _ (rules : FrontRules) (late : Bool) (k : Kept) (f : IsFresh rules late k
       (shown rules late k f adds sqs).cq q ∙ (λ j. if q == 0 then admin_cq-some (added_cqs rules.regions) there j else None)
 
   -- nothing is ready
-  first_ready : HoldsReady [] k (held_by k.deletion)
+  first_ready : HoldsReady [] k (hand_of k)
   first_ready =
-      let no_hand : held_by k.deletion ≡ [] = ap held_by f.no_deletion in
+      let no_hand : hand_of k ≡ [] = λ i. map dispatched_place (f.jobs.none_running i ++ f.jobs.none_unhanded i) ++ held_by (f.no_deletion i) in
       record {
         once = λ r i.
             let readies : times_ready k r i ≡ 0 = over_regions-none (λ (c : ℕ). times_in r i (k.cq c).ready) MAX_REGIONS (λ c. ap (λ (xs : List Ready). times_in r i xs) (f.cqs c).ready) in
-            let held : times_held r i (held_by k.deletion) ≡ 0 = ap (λ (ps : List Place). times_held r i ps) no_hand in
+            let held : times_held r i (hand_of k) ≡ 0 = ap (λ (ps : List Place). times_held r i ps) no_hand in
             (λ j. readies j + 0 + held j) ∙ sym (none_served i (not (is_waiting (fate_of [] r i))));
         each = λ c. All-same (IsReady [] k.deletion c) (k.cq c).ready [] (f.cqs c).ready (All-nil (IsReady [] k.deletion c));
         taken =
@@ -228,6 +230,7 @@ pub stands_when_fresh : (rules : FrontRules) (late : Bool) (k : Kept) → IsFres
 stands_when_fresh rules late k f adds sqs cqs = record {
   regions = λ r. holds_first r (k.sq r) (each_sq rules late k f adds sqs r);
   ready = first_ready rules late k f adds sqs cqs;
+  jobs = jobs-when-fresh rules.sizes k.jobs f.jobs;
   counts = first_counts rules late k f adds sqs cqs;
   posts = first_posts rules late k f adds sqs cqs;
   queues = first_queues rules late k f adds sqs cqs;

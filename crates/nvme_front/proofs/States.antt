@@ -17,10 +17,12 @@ use Rattle.nvme_front.specs.declared.region.CqRegion.{CqRegion}
 use Rattle.nvme_front.specs.declared.state.FrontState.{FrontState}
 use Rattle.nvme_front.specs.Limits.{max_ready}
 use Rattle.nvme_front.specs.Rules.{FrontRules}
+use Rattle.nvme_pool.specs.Seat.{SeatView, SameSeat, rings_at}
+use Rattle.nvme_front.specs.Jobs.{JobsView, gained_count}
 use Rattle.nvme_front.specs.Kept.{no_sq, no_cq, sq_kept, cq_kept, sq_in, cq_in, put_sq, put_cq, gets_of, puts_of, sq_steps, cq_steps, kept_of, rules_of, past_of}
 use Rattle.nvme_front.specs.Standing.{Stands, IsKept, IsRoomy, window_room, ready_room, sq_region, cq_region}
 use Rattle.nvme_front.specs.Goes.{Goes, IsSame, HasAdmin, get_place, put_place}
-use Rattle.nvme_front.specs.Steps.{with_events}
+use Rattle.nvme_front.proofs.AfterSteps.{with_events}
 
 -- ---- look-ups after a region was replaced
 -- a list of what is seen of each item, after one was replaced
@@ -63,8 +65,11 @@ pub pushed-not_empty : (xs : List Event) (e : Event) → xs ++ e ∷ [] ≡ [] �
 pushed-not_empty xs e h = absurd (omega (arith, length_push xs e, ap length h))
 
 -- ---- the same front later on
+pub SameSeat-refl : (s : SeatView) → SameSeat s s
+SameSeat-refl s = record { lane = refl; parts = refl; rings = refl }
+
 pub Goes-refl : (s : FrontState) → Goes s s
-Goes-refl s = record { grew = ([], append-nil s.log.items); config = refl; alloc = refl; late = refl; gets = refl; puts = refl; windows = refl; readies = refl }
+Goes-refl s = record { grew = ([], append-nil s.log.items); config = refl; alloc = refl; late = refl; gets = refl; puts = refl; windows = refl; readies = refl; came = refl; seat = SameSeat-refl s.jobs.hands.seat; handed = omega arith; gained = omega arith; room = refl }
 
 pub Goes-trans : (a b c : FrontState) → Goes a b → Goes b c → Goes a c
 Goes-trans a b c g h = record {
@@ -76,6 +81,11 @@ Goes-trans a b c g h = record {
   puts = h.puts ∙ g.puts;
   windows = h.windows ∙ g.windows;
   readies = h.readies ∙ g.readies;
+  came = h.came ∙ g.came;
+  seat = record { lane = h.seat.lane ∙ g.seat.lane; parts = h.seat.parts ∙ g.seat.parts; rings = h.seat.rings ∙ g.seat.rings };
+  handed = omega (arith, g.handed, h.handed);
+  gained = omega (arith, g.gained, h.gained);
+  room = h.room ∙ g.room;
 }
 
 pub Goes-same : (a b : FrontState) → IsSame a b → Goes a b
@@ -88,10 +98,19 @@ Goes-same a b s = record {
   puts = ap (λ (x : List CqRegion). map put_place (puts_of x)) s.cqs;
   windows = ap (map window_room) s.sqs;
   readies = ap (map ready_room) s.cqs;
+  came = ap (λ (j : JobsView). j.hands.came) s.jobs;
+  seat = record {
+    lane = ap (λ (j : JobsView). j.hands.seat.lane) s.jobs;
+    parts = ap (λ (j : JobsView). j.hands.seat.parts) s.jobs;
+    rings = ap (λ (j : JobsView). rings_at j.hands.seat.ends) s.jobs;
+  };
+  handed = omega (arith, ap (λ (j : JobsView). length j.hands.seat.handed) s.jobs);
+  gained = omega (arith, ap (λ (j : JobsView). gained_count j.hands) s.jobs);
+  room = ap (λ (j : JobsView). j.room) s.jobs;
 }
 
 pub IsSame-refl : (s : FrontState) → IsSame s s
-IsSame-refl s = record { log = refl; sqs = refl; cqs = refl; board = refl; table = refl; outstanding = refl; deletion = refl; late = refl; config = refl; alloc = refl }
+IsSame-refl s = record { log = refl; sqs = refl; cqs = refl; board = refl; table = refl; outstanding = refl; deletion = refl; jobs = refl; late = refl; config = refl; alloc = refl }
 
 pub IsSame-trans : (a b c : FrontState) → IsSame a b → IsSame b c → IsSame a c
 IsSame-trans a b c g h = record {
@@ -102,6 +121,7 @@ IsSame-trans a b c g h = record {
   table = h.table ∙ g.table;
   outstanding = h.outstanding ∙ g.outstanding;
   deletion = h.deletion ∙ g.deletion;
+  jobs = h.jobs ∙ g.jobs;
   late = h.late ∙ g.late;
   config = h.config ∙ g.config;
   alloc = h.alloc ∙ g.alloc;
@@ -201,6 +221,7 @@ roomy-goes a b r g sq cq few = record {
   ready = g.readies ∙ r.ready ∙ sym (constant-map max_ready a.cqs.items b.cqs.items (cqs-goes a b g));
   sq_table = sq ∙ r.sq_table ∙ sq_regions-places a.sqs.items ∙ ap (map sq_region_at) (sym g.gets) ∙ sym (sq_regions-places b.sqs.items);
   cq_table = cq ∙ r.cq_table ∙ cq_regions-places a.cqs.items ∙ ap (map sq_region_at) (sym g.puts) ∙ sym (cq_regions-places b.cqs.items);
+  jobs = λ some. g.room ∙ r.jobs (omega (arith, some, sqs-goes a b g));
   few_events = few;
   few_sqs = rw (sqs-goes a b g) r.few_sqs;
   few_cqs = rw (cqs-goes a b g) r.few_cqs;
@@ -240,6 +261,7 @@ kept_same a b s k =
       table = s.table t;
       outstanding = s.outstanding t;
       deletion = s.deletion t;
+      jobs = s.jobs t;
     } in
     let past : past_of b ≡ past_of a = ap reverse s.log in
     record {

@@ -27,7 +27,9 @@ use Rattle.nvme_front.specs.Effects.{closed_cq_of, closing_of, made_by}
 use Rattle.nvme_front.specs.Kept.{SqKept, CqKept, Kept, with_sq, with_cq, with_ready}
 use Rattle.nvme_front.specs.Standing.{HoldsTable}
 use Rattle.nvme_front.proofs.Oldest.{admin_entry_is}
-use Rattle.nvme_front.specs.Steps.{with_events, with_readies, KeepsFetch, KeepsIo, KeepsAdmin, KeepsPost, KeepsClose, Tabled, admin_past, after_admin, applied_to, deleting_from, with_opened, with_deleting, aborted, verdict_at, after_pick, after_io, after_post, after_closed, picked_sq, posted_cq, post_event, closed_event}
+use Rattle.nvme_front.specs.Steps.{applied_to, aborted, verdict_at, after_pick, picked_sq}
+use Rattle.nvme_front.proofs.AfterSteps.{with_events, with_readies, admin_past, after_admin, deleting_from, with_opened, with_deleting, after_io, after_post, after_closed, posted_cq, post_event, closed_event}
+use Rattle.nvme_front.proofs.StepKeeps.{KeepsFetch, KeepsIo, KeepsAdmin, KeepsPost, KeepsClose, Tabled}
 
 -- ---- the regions
 -- a submission region put in the place of one, with as many slots, leaves each number of slots
@@ -134,8 +136,9 @@ leaves_pick k queue n board =
 -- an I/O pick leaves the table
 pub tabled-io : KeepsIo Tabled
 tabled-io rules late past k queue seen pick board c s can seen_is io attached =
-    held rules late past (event.Pick seen pick ∷ past) k (after_io rules k queue pick.n board c) s.tabled
-    (leaves_both k (after_pick k queue pick.n board) (after_io rules k queue pick.n board c) (leaves_pick k queue pick.n board) (leaves_cq (after_pick k queue pick.n board) c _ refl))
+    held rules late past (event.Pick seen pick ∷ past) k (after_io k queue pick.n board) s.tabled
+    (leaves_both k (after_pick k queue pick.n board) (after_io k queue pick.n board) (leaves_pick k queue pick.n board)
+    (leaves_none (after_pick k queue pick.n board) (after_io k queue pick.n board) refl refl refl refl))
     refl refl s.tabled.history s.tabled.stands
     (λ e. s.tabled.history_is e ∙ sym (cond-false (pick.qid == 0) (applied (admin_entry past) ++ table_history rules past) (table_history rules past) (ne_eqb pick.qid 0 io)))
 

@@ -1,8 +1,10 @@
 -- What a turn's answer means, from what its parts leave.
 use Rattle.std.proofs.Common.{◌≡◌, ◌≢◌, ℕ, ◌+◌, ◌<◌, ◌≤◌, Bool, true, false, if◌then◌else◌, List, [], map, length, Option, Some, None, refl, sym, ap, ◌∙◌, subst, ◌⊎◌, inl, inr, option_map, ⊎_elim}
+use Rattle.std.specs.List.{All}
 use Rattle.std.specs.Prelude.{IfSome, IsSome, IsNone, ◌==◌}
 use Rattle.std.proofs.lemmas.Bool.{cases_lt}
 use Rattle.std.proofs.lemmas.List.{nil_from_length}
+use Rattle.nvme_pool.specs.Seat.{IsUnknown}
 use Rattle.nvme_arbiter.specs.Limits.{highest_qid}
 use Rattle.nvme_arbiter.specs.Lawful.{lawful_pick}
 use Rattle.nvme_arbiter.specs.Observation.{IsIdle}
@@ -47,7 +49,7 @@ none_can_be_posted s kept admin drained = λ r i ready c goes.
       | inl there ↦ drained c' there
       | inr beyond ↦ inl (beyond_drained s c' beyond)
     ])
-    r i ready.served ready.unposted ready.not_deleting c goes
+    r i ready.served ready.unposted ready.has_result ready.not_deleting c goes
 
 -- ---- candidates
 -- a queue of a board where no command waits has none that waits
@@ -113,20 +115,21 @@ module _ (s : FrontState) (h : Stands (rules_of s) s.late (past_of s) (kept_of s
 -- ---- what the answers mean
 -- an idle front with no pending deletion
 pub idle_front : (s : FrontState) → IsKept s → HasAdmin s → s.deletion ≡ None → ((c : ℕ) → c < length s.cqs.items → IsDrained s c)
-    → ((q : ℕ) → q ≤ highest_qid → IsScanned s q) → next_pick s ≡ None → IsIdleFront (view_of s)
-idle_front s kept admin none drained scanned no_pick =
+    → All IsUnknown s.jobs.hands.seat.ends → ((q : ℕ) → q ≤ highest_qid → IsScanned s q) → next_pick s ≡ None → IsIdleFront (view_of s)
+idle_front s kept admin none drained none_gained scanned no_pick =
     let h = kept.stands admin.0 admin.1 in
     let none_pending : pending (past_of s) ≡ None = h.deletion.pending_is ∙ ap (λ (o : Option PendingDelete). option_map as_deletion o) none in
     let quiet : IsIdle (seen_of s.board.queues) = (idle s.board.kept (seen_of s.board.queues)).0 (subst (λ (o : Option Pick). IsNone o) (sym no_pick) refl) in
     record {
       nothing = subst (λ (o : Option Deletion). WaitsForNothing (view_of s) o) (sym none_pending) (waits_for_nothing s h quiet scanned);
       none_posted = none_can_be_posted s kept admin drained;
+      none_gained = none_gained;
     }
 
 -- an idle front whose deletion waits for a completion
 pub deleting_front : (s : FrontState) (d : PendingDelete) → IsKept s → HasAdmin s → s.deletion ≡ Some d → ((c : ℕ) → c < length s.cqs.items → IsDrained s c)
-    → (sq_in s.sqs.items d.region).unposted ≢ 0 → IsIdleFront (view_of s)
-deleting_front s d kept admin some drained unposted =
+    → All IsUnknown s.jobs.hands.seat.ends → (sq_in s.sqs.items d.region).unposted ≢ 0 → IsIdleFront (view_of s)
+deleting_front s d kept admin some drained none_gained unposted =
     let h = kept.stands admin.0 admin.1 in
     let is_pending : pending (past_of s) ≡ Some (as_deletion d) = h.deletion.pending_is ∙ ap (λ (o : Option PendingDelete). option_map as_deletion o) some in
     let place = unposted_place (rules_of s) s.late (past_of s) (kept_of s) h d some unposted in
@@ -134,19 +137,22 @@ deleting_front s d kept admin some drained unposted =
       nothing = subst (λ (o : Option Deletion). WaitsForNothing (view_of s) o) (sym is_pending)
           (record { index = place.index; served = place.served; unposted = place.unposted });
       none_posted = none_can_be_posted s kept admin drained;
+      none_gained = none_gained;
     }
 
 -- a front whose next pick needs more places than are free
 pub stalled_front : (s : FrontState) → IsKept s → HasAdmin s → ((c : ℕ) → c < length s.cqs.items → IsDrained s c)
+    → All IsUnknown s.jobs.hands.seat.ends
     → (o : Option Pick) → next_pick s ≡ o → IfSome o (λ (pick : Pick). max_outstanding < s.outstanding + pick.n) → IsSome o → IsStalledFront (view_of s)
-stalled_front s kept admin drained None is many some = absurd (cc some)
-stalled_front s kept admin drained (Some pick) is many some =
+stalled_front s kept admin drained none_gained None is many some = absurd (cc some)
+stalled_front s kept admin drained none_gained (Some pick) is many some =
     let h = kept.stands admin.0 admin.1 in
     record {
       pick = pick;
       next = next_is s h ∙ is;
       too_many = subst (λ (n : ℕ). max_outstanding < n + pick.n) h.counts.outstanding_is many;
       none_posted = none_can_be_posted s kept admin drained;
+      none_gained = none_gained;
     }
 
 -- a log with too few free events for the next admin pick

@@ -15,6 +15,8 @@ use Rattle.nvme_front.specs.declared.candidate.Ready.{Ready}
 use Rattle.nvme_front.specs.declared.state.FrontState.{FrontState}
 use Rattle.nvme_front.specs.Completions.{phase_after}
 use Rattle.nvme_front.specs.Standing.{window_room, ready_room}
+use Rattle.nvme_pool.specs.Seat.{SameSeat}
+use Rattle.nvme_front.specs.Jobs.{gained_count}
 use Rattle.nvme_front.specs.Kept.{SqKept, CqKept, kept_of, gets_of, puts_of}
 
 -- which end of which ring an end is
@@ -24,7 +26,7 @@ get_place g = (g.ring, g.address, g.slots)
 abbrev pub put_place : PutView Cqe → RingName × ℕ × ℕ
 put_place p = (p.ring, p.address, p.slots)
 
--- the same front later on: the same regions, and a log that begins with the old one
+-- the same front later on: the same regions and seat, and a log that begins with the old one
 pub record Goes (old new : FrontState) : Type 0 where
   pub grew : IsPrefix old.log.items new.log.items
   pub config : new.config ≡ old.config
@@ -34,6 +36,11 @@ pub record Goes (old new : FrontState) : Type 0 where
   pub puts : map put_place (puts_of new.cqs.items) ≡ map put_place (puts_of old.cqs.items)
   pub windows : map window_room new.sqs.items ≡ map window_room old.sqs.items
   pub readies : map ready_room new.cqs.items ≡ map ready_room old.cqs.items
+  pub came : new.jobs.hands.came ≡ old.jobs.hands.came
+  pub seat : SameSeat old.jobs.hands.seat new.jobs.hands.seat
+  pub handed : length old.jobs.hands.seat.handed ≤ length new.jobs.hands.seat.handed
+  pub gained : gained_count old.jobs.hands ≤ gained_count new.jobs.hands
+  pub room : new.jobs.room ≡ old.jobs.room
 
 -- nothing changed but room in the log
 pub record IsSame (old new : FrontState) : Type 0 where
@@ -44,6 +51,7 @@ pub record IsSame (old new : FrontState) : Type 0 where
   pub table : new.table ≡ old.table
   pub outstanding : new.outstanding ≡ old.outstanding
   pub deletion : new.deletion ≡ old.deletion
+  pub jobs : new.jobs ≡ old.jobs
   pub late : new.late ≡ old.late
   pub config : new.config ≡ old.config
   pub alloc : new.alloc ≡ old.alloc

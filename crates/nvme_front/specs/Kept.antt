@@ -7,6 +7,7 @@ use Rattle.nvme_arbiter.specs.Board.{BoardView}
 use Rattle.nvme_admin.specs.Standing.{TableView}
 use Rattle.nvme_admin.specs.History.{TableHistory, RegionAdded, Submission, Completion}
 use Rattle.nvme_front.specs.Rules.{FrontRules, Past}
+use Rattle.nvme_front.specs.Jobs.{JobsView}
 use Rattle.nvme_front.specs.declared.candidate.Candidate.{Candidate}
 use Rattle.nvme_front.specs.declared.candidate.Ready.{Ready}
 use Rattle.nvme_front.specs.declared.candidate.PendingDelete.{PendingDelete}
@@ -64,9 +65,10 @@ pub record Kept : Type 0 where
   pub table : TableView
   pub outstanding : ℕ
   pub deletion : Option PendingDelete
+  pub jobs : JobsView
 
 abbrev pub kept_of : FrontState → Kept
-kept_of s = record { sq = sq_in s.sqs.items; cq = cq_in s.cqs.items; nsq = length s.sqs.items; ncq = length s.cqs.items; board = s.board; table = s.table; outstanding = s.outstanding; deletion = s.deletion }
+kept_of s = record { sq = sq_in s.sqs.items; cq = cq_in s.cqs.items; nsq = length s.sqs.items; ncq = length s.cqs.items; board = s.board; table = s.table; outstanding = s.outstanding; deletion = s.deletion; jobs = s.jobs }
 
 -- another region in the place of one
 abbrev pub put_sq : (ℕ → SqKept) → ℕ → SqKept → ℕ → SqKept

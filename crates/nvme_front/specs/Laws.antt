@@ -7,7 +7,7 @@ use Rattle.nvme_arbiter.specs.Lawful.{IsLawfulRun}
 use Rattle.nvme_admin.specs.History.{TableHistory}
 use Rattle.nvme_admin.specs.Accepted.{sq_at, cq_at}
 use Rattle.nvme_admin.specs.declared.verdict.SqEntry.{SqEntry}
-use Rattle.nvme_front.specs.declared.event.Event.TheVariants.{Post}
+use Rattle.nvme_front.specs.declared.event.Event.TheVariants.{Closing, Post}
 use Rattle.nvme_front.specs.Rules.{Past, FrontRules, Each}
 use Rattle.nvme_front.specs.Places.{fetched, places, fate_of, is_waiting, is_picked, is_aborted}
 use Rattle.nvme_front.specs.Queues.{Queue, open_sq, open_cq}
@@ -76,6 +76,23 @@ pub record IsAnswered (rules : FrontRules) (sent : ℕ → List Sqe) (past : Pas
 abbrev pub WholeAccountsAnswer : Type 0
 WholeAccountsAnswer = (rules : FrontRules) (loaded : Bool) (scripts sent : ℕ → List Sqe) (past : Past) (collected : ℕ → List Cqe)
     → IsWholeAccount rules loaded scripts sent past collected → IsAnswered rules sent past collected
+
+-- what a run promises, sentence by sentence
+pub record KeepsThePromise (rules : FrontRules) (sent : ℕ → List Sqe) (past : Past) (collected : ℕ → List Cqe) : Type 0 where
+  -- the commands fetched from each submission queue are a prefix of those submitted to it, in order, each once
+  pub fetched_in_order : (r : ℕ) → IsPrefix (fetched past r) (sent r)
+  -- none is fetched after the deletion of its queue began, and so none after it was answered
+  pub none_after_deletion : (later before : Past) (qid r : ℕ) → past ≡ later ++ Closing qid r ∷ before → fetched past r ≡ fetched before r
+  -- every fetched command has exactly one collected completion, its own
+  pub one_completion : (r i : ℕ) → i < length (fetched past r) → HasOneCompletion rules past collected r i
+  -- the picks are a lawful run of the configured arbitration
+  pub lawful : IsLawfulRun rules.mechanism rules.start.settings (arbitration_of past)
+  -- over what the arbiter observed: the open queues, each with its number of candidates
+  pub observed : Each Observed past
+
+abbrev pub WholeAccountsKeepThePromise : Type 0
+WholeAccountsKeepThePromise = (rules : FrontRules) (loaded : Bool) (scripts sent : ℕ → List Sqe) (past : Past) (collected : ℕ → List Cqe)
+    → IsWholeAccount rules loaded scripts sent past collected → KeepsThePromise rules sent past collected
 
 -- with its regions alone a front has just the admin queues
 pub record StartsWithAdmin (rules : FrontRules) : Type 0 where

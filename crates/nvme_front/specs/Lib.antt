@@ -10,6 +10,8 @@ pub mod Loaded
 pub mod Laws
 pub mod Examples
 pub mod Fifo
+pub mod Jobs
+pub mod Dispatches
 pub mod Kept
 pub mod Standing
 pub mod Goes

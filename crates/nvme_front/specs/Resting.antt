@@ -21,6 +21,7 @@ pub record IsSameFront (v w : FrontView) : Type 0 where
   pub get_places : map get_place w.gets ≡ map get_place v.gets
   pub sent : map (λ (p : PutView Cqe). p.sent) w.puts ≡ map (λ (p : PutView Cqe). p.sent) v.puts
   pub put_places : map put_place w.puts ≡ map put_place v.puts
+  pub hands : w.hands ≡ v.hands
 
 -- nothing changed but what the feeders know
 pub record AreSameFeeders (f f' : List (Feeder Sqe)) : Type 0 where

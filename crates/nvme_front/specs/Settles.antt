@@ -1,8 +1,10 @@
 -- What a settling gives, and what a refusal leaves (profile).
 use Rattle.std.specs.Prelude.{◌≡◌, ℕ, ◌<◌, true, false, None, List, [], length, reverse}
-use Rattle.std.specs.List.{list_all}
+use Rattle.std.specs.List.{All, list_all}
 use mathlib.Core.List.{IsPrefix}
 use Rattle.nvme_lane.specs.declared.drainer.Drainer.{Drainer}
+use Rattle.nvme_pool.specs.Worker.{WorkerView}
+use Rattle.nvme_pool.specs.Pool.{IsPool}
 use Rattle.nvme_entry.specs.declared.completion.Cqe.{Cqe}
 use Rattle.nvme_front.specs.declared.settled.Settled.{Settled}
 use Rattle.nvme_front.specs.declared.settled.SettleError.{SettleError}
@@ -14,7 +16,7 @@ use Rattle.nvme_front.specs.Places.{fetched, waiting, places}
 use Rattle.nvme_front.specs.Completions.{is_posted, posted_to}
 use Rattle.nvme_front.specs.Account.{IsAccount}
 use Rattle.nvme_front.specs.View.{FrontView}
-use Rattle.nvme_front.specs.Hosts.{sent_at, taken_at, collected_at}
+use Rattle.nvme_front.specs.Hosts.{IsAtRest, sent_at, taken_at, collected_at}
 use Rattle.nvme_front.specs.Resting.{IsSameFront, AreSameFeeders, Takes}
 
 -- the log of what is settled, the newest event first
@@ -41,8 +43,20 @@ pub record CollectsMore (drainers : List (Drainer Cqe)) (s : Settled) : Type 0 w
   pub count : length s.collected.items ≡ length drainers
   pub grew : (c : ℕ) → IsPrefix (taken_at drainers c) (collected_at s.collected.items c)
 
+-- the lanes, the seat and the workers are those of one pool, and no job was handed by the seat before the front was given it
+pub record HasItsPool (parts : Parts) : Type 0 where
+  pub pool : IsPool parts.lanes parts.front.hands.seat parts.workers.items
+  pub none_before : parts.front.hands.came.handed ≡ []
+
+-- the front is clear, no command rests in the ring of an open queue, and no worker keeps a result
+pub record AreAtRest (parts : Parts) : Type 0 where
+  pub front : IsAtRest parts.front parts.feeders.items
+  pub none_kept : All (λ (w : WorkerView). w.kept ≡ None) parts.workers.items
+
 -- what a refusal leaves: all but what ends know and what the drainers took
 pub record HandsBack (old new : Parts) : Type 0 where
+  pub lanes : new.lanes ≡ old.lanes
+  pub workers : new.workers.items ≡ old.workers.items
   pub front : IsSameFront old.front new.front
   pub feeders : AreSameFeeders old.feeders.items new.feeders.items
   pub drainers : Takes old.front old.drainers.items new.drainers.items

@@ -1,5 +1,5 @@
 -- When what a front keeps stands at its log (profile).
-use Rattle.std.specs.Prelude.{◌≡◌, ℕ, zero, suc, ◌+◌, ◌≤◌, ◌<◌, ◌==◌, ◌&&◌, nat_lt, Bool, true, false, not, if◌then◌else◌, List, [], length, filter, map, sum_by, Option, Some, None, option_map, option_to_list, All}
+use Rattle.std.specs.Prelude.{◌≡◌, ℕ, zero, suc, ◌+◌, ◌≤◌, ◌<◌, ◌*◌, ◌==◌, ◌&&◌, nat_lt, Bool, true, false, not, if◌then◌else◌, List, [], ◌++◌, length, filter, map, sum_by, Option, Some, None, option_map, option_to_list, All}
 use Rattle.nvme_entry.specs.Status.{success}
 use Rattle.nvme_arbiter.specs.Limits.{highest_qid, highest_count, queue_limit}
 use Rattle.nvme_arbiter.specs.Lawful.{IsLawfulRun}
@@ -13,6 +13,7 @@ use Rattle.nvme_admin.specs.declared.bounds.TheConstants.{MAX_REGIONS}
 use Rattle.nvme_admin.specs.declared.verdict.SqEntry.{SqEntry}
 use Rattle.nvme_admin.specs.declared.region.Region.{Region}
 use Rattle.nvme_front.specs.declared.candidate.Candidate.{Candidate}
+use Rattle.nvme_front.specs.declared.candidate.Dispatched.{Dispatched}
 use Rattle.nvme_front.specs.declared.candidate.Ready.{Ready}
 use Rattle.nvme_front.specs.declared.candidate.PendingDelete.{PendingDelete}
 use Rattle.nvme_front.specs.declared.region.Attachment.{Attachment}
@@ -22,18 +23,15 @@ use Rattle.nvme_front.specs.declared.state.FrontState.{FrontState}
 use Rattle.nvme_front.specs.Limits.{max_outstanding, max_ready}
 use Rattle.nvme_front.specs.Rules.{FrontRules, Past, Each, sq_regions_of, cq_regions_of, slots_at}
 use Rattle.nvme_front.specs.Queues.{Queue, Deletion, open_sq, open_cq, pending, is_closed_region, qid_of_region, cq_region_of}
-use Rattle.nvme_front.specs.Places.{fetched, waiting, picked, places, fate_of, is_waiting, is_aborted, unaborted_below, entry_at}
+use Rattle.nvme_front.specs.Places.{Place, fetched, waiting, picked, places, fate_of, is_waiting, is_aborted, unaborted_below, entry_at}
 use Rattle.nvme_front.specs.Histories.{arbitration_of, table_history}
 use Rattle.nvme_front.specs.Completions.{is_posted, posts_of, posted_to, outstanding, own_status, own_dw0}
 use Rattle.nvme_front.specs.Effects.{EffectsAtOnce, effects_since, made_last}
 use Rattle.nvme_front.specs.Account.{IndexCounts, ServedWhileOpen, Observed, Deletes, PostsOwn, LeavesPlaces, deleting_place}
 use Rattle.nvme_front.specs.Laws.{as_open}
+use Rattle.nvme_front.specs.Jobs.{JobsView, in_hand, dispatched_place}
+use Rattle.nvme_front.specs.Dispatches.{dispatched, AccountsForJobs}
 use Rattle.nvme_front.specs.Kept.{SqKept, CqKept, no_sq, Kept, kept_of, rules_of, past_of}
-
--- a place: a submission region and an index
-pub record Place : Type 0 where
-  pub region : ℕ
-  pub index : ℕ
 
 -- ---- a submission region's places
 -- the window is the places that wait, each with its entry; what was got is what was fetched; nothing is said of places that were not fetched
@@ -88,6 +86,10 @@ deleted_place d = record { region = 0; index = d.index }
 abbrev pub held_by : Option PendingDelete → List Place
 held_by deletion = option_to_list (option_map deleted_place deletion)
 
+-- the places that are picked and neither ready nor posted: those whose job has no result yet, and that of the deletion
+abbrev pub hand_of : Kept → List Place
+hand_of k = map dispatched_place (in_hand k.jobs.hands) ++ held_by k.deletion
+
 -- what is ready in a completion region is a completion of a place that goes there. An aborted one is of the queue that is being deleted
 pub record IsReady (past : Past) (deletion : Option PendingDelete) (c : ℕ) (t : Ready) : Type 0 where
   pub region : cq_region_of past t.region ≡ Some c
@@ -105,6 +107,22 @@ pub record HoldsReady (past : Past) (k : Kept) (hand : List Place) : Type 0 wher
   pub none_beyond : (c : ℕ) → MAX_REGIONS ≤ c → (k.cq c).ready ≡ []
   -- the admin queue posts to completion region 0
   pub admin_region : cq_region_of past 0 ≡ Some 0
+
+-- ---- jobs
+-- a picked I/O command that has no result yet: its place's entry, and the completion region of its queue
+pub record IsDispatched (past : Past) (d : Dispatched) : Type 0 where
+  pub entry : entry_at past d.region d.index ≡ Some d.entry
+  pub not_aborted : is_aborted past d.region d.index ≡ false
+  pub io : (d.region == 0) ≡ false
+  pub cq_region : ℕ
+  pub attached : cq_region_of past d.region ≡ Some cq_region
+
+-- the jobs are those of the picked places of I/O queues. A pick takes at most the places that may be outstanding, so tickets don't run out
+pub record HoldsJobs (sizes : List ℕ) (past : Past) (j : JobsView) : Type 0 where
+  pub tickets_are : j.tickets ≡ length (dispatched past)
+  pub few : j.tickets ≤ max_outstanding * length past
+  pub account : AccountsForJobs sizes past j.hands
+  pub each : All (IsDispatched past) (in_hand j.hands)
 
 -- ---- counts and ends
 pub record HoldsCounts (rules : FrontRules) (past : Past) (k : Kept) : Type 0 where
@@ -238,7 +256,8 @@ pub record Accounts (rules : FrontRules) (past : Past) (k : Kept) : Type 0 where
 -- what a front keeps stands at its log
 pub record Stands (rules : FrontRules) (late : Bool) (past : Past) (k : Kept) : Type 0 where
   pub regions : (r : ℕ) → HoldsSq past r (k.sq r)
-  pub ready : HoldsReady past k (held_by k.deletion)
+  pub ready : HoldsReady past k (hand_of k)
+  pub jobs : HoldsJobs rules.sizes past k.jobs
   pub counts : HoldsCounts rules past k
   pub posts : HoldsPosts past k
   pub queues : HoldsQueues past k
@@ -268,6 +287,13 @@ pub record IsFreshCq (c : CqKept) : Type 0 where
 abbrev pub first_on_board : ℕ → ℕ → Option OpenQueue
 first_on_board nsq q = if q == 0 && nat_lt 0 nsq then Some (record { class = Admin; count = 0 }) else None
 
+-- no command was picked: none was handed since the front was given its seat
+pub record AreFreshJobs (j : JobsView) : Type 0 where
+  pub tickets : j.tickets ≡ 0
+  pub none_unhanded : j.hands.unhanded ≡ []
+  pub none_running : j.hands.running ≡ []
+  pub none_handed : j.hands.seat.handed ≡ j.hands.came.handed
+
 pub record IsFresh (rules : FrontRules) (late : Bool) (k : Kept) : Type 0 where
   pub sqs : (r : ℕ) → r < k.nsq → IsFreshSq r (k.sq r)
   pub no_sqs : (r : ℕ) → k.nsq ≤ r → k.sq r ≡ no_sq
@@ -277,6 +303,7 @@ pub record IsFresh (rules : FrontRules) (late : Bool) (k : Kept) : Type 0 where
   pub stands : BoardStandsAt rules.mechanism rules.start.settings [] k.board
   pub none_outstanding : k.outstanding ≡ 0
   pub no_deletion : k.deletion ≡ None
+  pub jobs : AreFreshJobs k.jobs
   pub not_late : late ≡ false
   pub table : StandsAt rules.start k.table rules.regions
   pub sq_count : length k.table.sq_regions ≡ k.nsq
@@ -306,6 +333,7 @@ pub record IsRoomy (s : FrontState) : Type 0 where
   pub ready : map ready_room s.cqs.items ≡ map (λ (c : CqRegion). max_ready) s.cqs.items
   pub sq_table : s.table.sq_regions ≡ map sq_region s.sqs.items
   pub cq_table : s.table.cq_regions ≡ map cq_region s.cqs.items
+  pub jobs : 0 < length s.sqs.items → s.jobs.room ≡ max_outstanding
   pub few_events : length s.log.items ≤ s.config.max_events
   pub few_sqs : length s.sqs.items ≤ MAX_REGIONS
   pub few_cqs : length s.cqs.items ≤ MAX_REGIONS

@@ -1,10 +1,12 @@
 -- What a contract sees of a front, and what its answers mean (profile; Base Specification, Submission Queue and Completion Queue, Command Arbitration).
-use Rattle.std.specs.Prelude.{◌≡◌, ◌⊎◌, ℕ, ◌+◌, ◌<◌, ◌==◌, ◌&&◌, ◌||◌, Bool, true, false, List, [], length, map, Option, Some, None, slice_index_or, reverse}
-use Rattle.std.specs.List.{list_any, list_all}
+use Rattle.std.specs.Prelude.{◌≡◌, ◌⊎◌, ℕ, ◌+◌, ◌<◌, ◌==◌, ◌&&◌, ◌||◌, Bool, true, false, List, [], ◌∷◌, ◌++◌, length, map, Option, Some, None, slice_index_or, reverse}
+use Rattle.std.specs.List.{All, list_any, list_all}
 use mathlib.Core.List.{IsPrefix}
 use Rattle.nvme_entry.specs.declared.submission.Sqe.{Sqe}
 use Rattle.nvme_entry.specs.declared.completion.Cqe.{Cqe}
 use Rattle.nvme_lane.specs.View.{GetView, PutView}
+use Rattle.nvme_pool.specs.declared.jobs.Finished.{Finished}
+use Rattle.nvme_pool.specs.Seat.{SameSeat, Ends, IsUnknown}
 use Rattle.nvme_arbiter.specs.Lawful.{lawful_pick}
 use Rattle.nvme_arbiter.specs.declared.pick.Pick.{Pick}
 use Rattle.nvme_front.specs.declared.event.Event.{Event}
@@ -20,7 +22,8 @@ use Rattle.nvme_front.specs.Places.{fetched, waiting, places, observation_of}
 use Rattle.nvme_front.specs.Histories.{arbitration_of}
 use Rattle.nvme_front.specs.Completions.{is_posted, posted_to, outstanding, is_index}
 use Rattle.nvme_front.specs.Account.{IsAccount, deleting_place}
-use Rattle.nvme_front.specs.Kept.{rules_of, gets_of, puts_of}
+use Rattle.nvme_front.specs.Jobs.{Hands, IsOfNone, is_in_hand, gained_count}
+use Rattle.nvme_front.specs.Kept.{rules_of, gets_of, puts_of, sq_steps, cq_steps}
 use Rattle.nvme_front.specs.Standing.{is_served}
 use Rattle.nvme_front.specs.Goes.{get_place, put_place, picks_in}
 
@@ -36,6 +39,8 @@ pub record FrontView : Type 0 where
   -- its ends, by region
   pub gets : List (GetView Sqe)
   pub puts : List (PutView Cqe)
+  -- its seat at the workers, and the picked I/O commands that have no result yet
+  pub hands : Hands
 
 abbrev pub view_of : FrontState → FrontView
 view_of s = record {
@@ -45,6 +50,7 @@ view_of s = record {
   log = s.log.items;
   gets = gets_of s.sqs.items;
   puts = puts_of s.cqs.items;
+  hands = s.jobs.hands;
 }
 
 -- its log, the newest event first
@@ -71,7 +77,7 @@ pub record AccountsForEnds (v : FrontView) : Type 0 where
   pub all_fetched : (r : ℕ) → fetched (past_in v) r ≡ got_in v r
   pub all_posted : (c : ℕ) → posted_to (past_in v) c ≡ sent_in v c
 
--- the same front later on: the same regions and rules, and a log that begins with the old one
+-- the same front later on: the same regions, rules and seat, and a log that begins with the old one
 pub record GoesOn (old new : FrontView) : Type 0 where
   pub grew : IsPrefix old.log new.log
   pub rules : new.rules ≡ old.rules
@@ -79,17 +85,21 @@ pub record GoesOn (old new : FrontView) : Type 0 where
   pub late : new.late ≡ old.late
   pub gets : map get_place new.gets ≡ map get_place old.gets
   pub puts : map put_place new.puts ≡ map put_place old.puts
+  pub came : new.hands.came ≡ old.hands.came
+  pub seat : SameSeat old.hands.seat new.hands.seat
 
 -- ---- what a turn's answer means
--- a place was picked or aborted, has no completion posted, and isn't that of the command whose deletion is pending
-pub record IsReadyPlace (past : Past) (r i : ℕ) : Type 0 where
-  pub served : is_served past r i ≡ true
-  pub unposted : is_posted past r i ≡ false
-  pub not_deleting : (r == 0 && is_index i (deleting_place past)) ≡ false
+-- a place was picked or aborted, has no completion posted, doesn't wait for its result, and isn't that of the command whose deletion is
+-- pending
+pub record IsReadyPlace (v : FrontView) (r i : ℕ) : Type 0 where
+  pub served : is_served (past_in v) r i ≡ true
+  pub unposted : is_posted (past_in v) r i ≡ false
+  pub has_result : is_in_hand v.hands r i ≡ false
+  pub not_deleting : (r == 0 && is_index i (deleting_place (past_in v))) ≡ false
 
 -- no ready completion has a ring that is known to have a free place
 abbrev pub NoneCanBePosted : FrontView → Type 0
-NoneCanBePosted v = (r i : ℕ) → IsReadyPlace (past_in v) r i → (c : ℕ) → cq_region_of (past_in v) r ≡ Some c → free_in v c ≡ 0
+NoneCanBePosted v = (r i : ℕ) → IsReadyPlace v r i → (c : ℕ) → cq_region_of (past_in v) r ≡ Some c → free_in v c ≡ 0
 
 -- a place of a region was picked or aborted and has no completion posted
 pub record HasUnposted (past : Past) (r : ℕ) : Type 0 where
@@ -105,6 +115,7 @@ WaitsForNothing v None = (q : ℕ) (queue : Queue) → open_sq (past_in v) q ≡
 pub record IsIdleFront (v : FrontView) : Type 0 where
   pub nothing : WaitsForNothing v (pending (past_in v))
   pub none_posted : NoneCanBePosted v
+  pub none_gained : All IsUnknown v.hands.seat.ends
 
 -- the pick that arbitration makes next
 abbrev pub next_lawful : FrontView → Option Pick
@@ -116,6 +127,7 @@ pub record IsStalledFront (v : FrontView) : Type 0 where
   pub next : next_lawful v ≡ Some pick
   pub too_many : max_outstanding < outstanding v.rules (past_in v) + pick.n
   pub none_posted : NoneCanBePosted v
+  pub none_gained : All IsUnknown v.hands.seat.ends
 
 -- the log has no free event, or too few for the admin command that arbitration picks next
 pub record NeedsAdminEvents (v : FrontView) : Type 0 where
@@ -127,17 +139,50 @@ pub record NeedsAdminEvents (v : FrontView) : Type 0 where
 abbrev pub IsFullLog : FrontView → Type 0
 IsFullLog v = (v.limit < length v.log + 1) ⊎ NeedsAdminEvents v
 
+-- the log has as many picks as before
+abbrev pub HasNoPickMore : FrontView → FrontView → Type 0
+HasNoPickMore old new = picks_in new.log ≡ picks_in old.log
+
+-- an event was logged, a job was handed, or a result was gained
+abbrev pub HasMoved : FrontView → FrontView → Type 0
+HasMoved old new =
+    (length old.log < length new.log)
+    ⊎ (length old.hands.seat.handed < length new.hands.seat.handed)
+    ⊎ (gained_count old.hands < gained_count new.hands)
+
+-- no event was logged, no job was handed, and no result was gained
+pub record IsStill (old new : FrontView) : Type 0 where
+  pub log : new.log ≡ old.log
+  pub hands : new.hands ≡ old.hands
+
+-- a result with this ticket was gained, the last of its end, and no job that was handed and has no result is its job
+pub record GainedStray (ticket : ℕ) (old new : FrontView) : Type 0 where
+  pub result : Finished
+  pub ticket_is : result.ticket ≡ ticket
+  pub more : gained_count old.hands < gained_count new.hands
+  pub before : Ends
+  pub end : GetView Finished
+  pub after : Ends
+  pub got : List Finished
+  pub ends_are : new.hands.seat.ends ≡ before ++ end ∷ after
+  pub last : end.got ≡ got ++ result ∷ []
+  pub of_none : IsOfNone new.rules.sizes new.hands.running result
+
 -- what an answer means
 abbrev pub StepMeans : Step → FrontView → FrontView → Type 0
 StepMeans Picked old new = picks_in new.log ≡ picks_in old.log + 1
-StepMeans Moved old new = length old.log < length new.log
-StepMeans Idle old new = IsIdleFront new
-StepMeans Stalled old new = IsStalledFront new
+StepMeans Moved old new = HasMoved old new × HasNoPickMore old new
+StepMeans Idle old new = IsIdleFront new × IsStill old new
+StepMeans Stalled old new = IsStalledFront new × IsStill old new
 
-abbrev pub ErrorMeans : FrontError → FrontView → Type 0
-ErrorMeans NoMemory new = Unit {0}
-ErrorMeans LogFull new = IsFullLog new
-ErrorMeans (Stray ticket) new = ⊥
+abbrev pub ErrorMeans : FrontError → FrontView → FrontView → Type 0
+ErrorMeans NoMemory old new = HasNoPickMore old new
+ErrorMeans LogFull old new = IsFullLog new × HasNoPickMore old new
+ErrorMeans (Stray ticket) old new = GainedStray ticket old new × HasNoPickMore old new
+
+-- the regions of a front's rules are those of its ends
+abbrev pub HasItsRegions : FrontView → Type 0
+HasItsRegions v = v.rules.regions ≡ cq_steps v.puts ++ sq_steps v.gets
 
 -- ---- clear fronts, and served regions
 -- no candidate waits, every fetched place has its completion posted, and no deletion is pending

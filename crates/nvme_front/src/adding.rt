@@ -1,6 +1,7 @@
 // How a front is made, and how regions are added.
 use crate::fifo::Fifo;
 use crate::front::{AddError, FrontConfig};
+use crate::jobs::Jobs;
 use crate::limits::MAX_READY;
 use crate::region::{Attachment, CqRegion, SqRegion};
 use crate::state::FrontState;
@@ -8,6 +9,7 @@ use nvme_admin::{MAX_REGIONS, Table};
 use nvme_arbiter::{Board, Class};
 use nvme_entry::{Cqe, Sqe};
 use nvme_lane::{GetEnd, PutEnd};
+use nvme_pool::FrontSeat;
 use std::alloc::Global;
 
 // The admin queue, which its region 0 is for. It posts to completion region 0.
@@ -25,12 +27,13 @@ impl FrontState {
     ghost use Rattle.nvme_front.specs.declared.front.AddError.TheVariants.{Used, TooMany, NoMemory};
 
     /// A front with no region and an empty log.
-    pub fn new(alloc: Global, config: FrontConfig) -> FrontState
+    pub fn new(alloc: Global, config: FrontConfig, seat: FrontSeat) -> FrontState
         ensures kept { IsKept result }
         ensures config { result.config ≡ config }
         ensures no_sqs { result.sqs.items ≡ [] }
         ensures no_cqs { result.cqs.items ≡ [] }
         ensures no_log { result.log.items ≡ [] }
+        ensures hands { result.jobs.hands ≡ record { came = seat; seat = seat; unhanded = []; running = [] } }
         ensures not_late { result.late ≡ false }
     {
         FrontState {
@@ -42,6 +45,7 @@ impl FrontState {
             cqs: Vec::new(alloc),
             outstanding: 0,
             deletion: None,
+            jobs: Jobs::new(alloc, seat),
             late: false,
             log: Vec::new(alloc),
         }
@@ -55,7 +59,7 @@ impl FrontState {
             || self.cqs.iter().any(|cq| cq.end.address() == address)
     }
 
-    /// Adds a submission region, with room for its window. Region 0 is the admin queue's, which is open from then on.
+    /// Adds a submission region, with room for its window and for jobs. Region 0 is the admin queue's, which is open from then on.
     pub fn add_sq(&mut self, end: GetEnd<Sqe>) -> Result<u8, (AddError, GetEnd<Sqe>)>
         requires kept { IsKept self.old }
         requires nothing_got { end.got ≡ [] }
@@ -65,6 +69,7 @@ impl FrontState {
         ensures puts { puts_of self.new.cqs.items ≡ puts_of self.old.cqs.items }
         ensures log { self.new.log.items ≡ self.old.log.items }
         ensures config { self.new.config ≡ self.old.config }
+        ensures hands { self.new.jobs.hands ≡ self.old.jobs.hands }
         ensures late_after_events { OnOk result (self.old.log.items ≢ [] → self.new.late ≡ true) }
         ensures in_time { OnOk result (self.old.log.items ≡ [] → self.new.late ≡ false) }
         ensures end { IfErr result (λ e. e.1 ≡ end) }
@@ -83,7 +88,7 @@ impl FrontState {
         let Some(window) = Fifo::new(self.alloc, usize::from(end.slots()) - 1) else {
             return Err((AddError::NoMemory, end));
         };
-        if self.sqs.reserve(1).is_err() {
+        if !self.jobs.make_room(self.alloc) || self.sqs.reserve(1).is_err() {
             return Err((AddError::NoMemory, end));
         }
         let Ok(number) = self.table.add_sq_region(end.address(), end.slots()) else {
@@ -118,6 +123,7 @@ impl FrontState {
         ensures gets { gets_of self.new.sqs.items ≡ gets_of self.old.sqs.items }
         ensures log { self.new.log.items ≡ self.old.log.items }
         ensures config { self.new.config ≡ self.old.config }
+        ensures hands { self.new.jobs.hands ≡ self.old.jobs.hands }
         ensures late_after_events { OnOk result (self.old.log.items ≢ [] → self.new.late ≡ true) }
         ensures in_time { OnOk result (self.old.log.items ≡ [] → self.new.late ≡ false) }
         ensures end { IfErr result (λ e. e.1 ≡ end) }

@@ -25,6 +25,15 @@ impl Candidate {
     }
 }
 
+/// A picked I/O command that has no result yet: the ticket of its job, its place and its entry.
+#[derive(Clone, Copy, Debug, PartialEq, Eq)]
+pub struct Dispatched {
+    pub ticket: u32,
+    pub region: u8,
+    pub index: u32,
+    pub entry: Sqe,
+}
+
 /// A picked or aborted command whose completion waits to be posted.
 #[derive(Clone, Copy, Debug, PartialEq, Eq)]
 pub struct Ready {

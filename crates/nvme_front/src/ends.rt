@@ -4,9 +4,14 @@ use crate::front::Front;
 use crate::state::FrontState;
 use nvme_entry::{Cqe, Sqe};
 use nvme_lane::{Drainer, Feeder};
+use nvme_pool::{Lanes, Worker};
+use std::alloc::Global;
+use std::sync::Wait;
 
 impl FrontState {
-    ghost use Rattle.std.specs.Prelude.{◌≡◌, ℕ, ◌<◌, length, slice_index_or};
+    ghost use Rattle.std.specs.Prelude.{◌≡◌, ℕ, ◌<◌, length, slice_index_or, IfOk, OnOk, IfErr};
+    ghost use Rattle.nvme_pool.specs.Pool.{IsPool};
+    ghost use Rattle.nvme_front.specs.Jobs.{IsClosed};
     ghost use Rattle.nvme_lane.specs.View.{GetView, PutView, IsPair};
     ghost use Rattle.nvme_lane.specs.Feeder.{put_of};
     ghost use Rattle.nvme_lane.specs.Drainer.{get_of};
@@ -40,10 +45,59 @@ impl FrontState {
         let region = &mut self.cqs[usize::from(c)];
         drainer.beside(&mut region.end)
     }
+
+    /// Closes the pool of the front's seat, and gives the log. Where memory for that was refused all comes back,
+    /// unchanged.
+    pub fn into_log<R: Wait>(
+        self,
+        rt: &R,
+        alloc: Global,
+        lanes: Lanes,
+        workers: Vec<Worker>,
+    ) -> Result<Vec<Event>, (FrontState, Lanes, Vec<Worker>)>
+        requires { IsPool lanes self.jobs.hands.seat workers.items }
+        ensures log { IfOk result (λ log. log.items ≡ self.log.items) }
+        ensures closed { OnOk result (IsClosed self.jobs.hands.seat workers.items) }
+        ensures back { IfErr result (λ e. (e.0 ≡ self) × (e.1 ≡ lanes) × (e.2.items ≡ workers.items)) }
+    {
+        let FrontState {
+            alloc: heap,
+            config,
+            table,
+            board,
+            sqs,
+            cqs,
+            outstanding,
+            deletion,
+            jobs,
+            late,
+            log,
+        } = self;
+        let Err((jobs, lanes, workers)) = jobs.close(rt, alloc, lanes, workers) else {
+            return Ok(log);
+        };
+        let state = FrontState {
+            alloc: heap,
+            config,
+            table,
+            board,
+            sqs,
+            cqs,
+            outstanding,
+            deletion,
+            jobs,
+            late,
+            log,
+        };
+        Err((state, lanes, workers))
+    }
 }
 
 impl Front {
-    ghost use Rattle.std.specs.Prelude.{◌≡◌, ℕ, ◌<◌, ◌≤◌, false, length, slice_index_or};
+    ghost use Rattle.std.specs.Prelude.{◌≡◌, ℕ, ◌<◌, ◌≤◌, false, [], length, slice_index_or, IfOk, OnOk, IfErr};
+    ghost use Rattle.nvme_pool.specs.Pool.{IsPool};
+    ghost use Rattle.nvme_front.specs.Dispatches.{AccountsForJobs};
+    ghost use Rattle.nvme_front.specs.Jobs.{IsClosed, in_hand};
     ghost use Rattle.nvme_admin.specs.declared.bounds.TheConstants.{MAX_REGIONS};
     ghost use Rattle.nvme_lane.specs.View.{GetView, PutView, IsPair};
     ghost use Rattle.nvme_lane.specs.Feeder.{put_of};
@@ -52,7 +106,7 @@ impl Front {
     ghost use Rattle.nvme_entry.specs.declared.completion.Cqe.{Cqe};
     ghost use Rattle.nvme_front.specs.Places.{fetched};
     ghost use Rattle.nvme_front.specs.Completions.{posted_to};
-    ghost use Rattle.nvme_front.specs.View.{AccountsForEnds, past_in, got_in, sent_in};
+    ghost use Rattle.nvme_front.specs.View.{AccountsForEnds, IsClear, past_in, got_in, sent_in};
     ghost use Rattle.nvme_front.specs.Looks.{LooksAtSq, LooksAtCq};
 
     /// The number of submission regions.
@@ -105,14 +159,29 @@ impl Front {
         self.state.beside_cq(c, drainer)
     }
 
-    /// What the front did, the oldest event first. All that it got is fetched, and all that it put is posted.
-    pub(crate) fn into_log(self) -> Vec<Event>
-        ensures log { result.items ≡ self.log }
+    /// Closes the front's pool, and gives what the front did, the oldest event first. All that it got is fetched, and all
+    /// that it put is posted. Where memory to close the pool was refused all comes back, unchanged.
+    pub(crate) fn into_log<R: Wait>(
+        self,
+        rt: &R,
+        alloc: Global,
+        lanes: Lanes,
+        workers: Vec<Worker>,
+    ) -> Result<Vec<Event>, (Front, Lanes, Vec<Worker>)>
+        requires { IsPool lanes self.hands.seat workers.items }
+        ensures log { IfOk result (λ log. log.items ≡ self.log) }
+        ensures closed { OnOk result (IsClosed self.hands.seat workers.items) }
         ensures account { 0 < length self.gets → 0 < length self.puts → self.late ≡ false → AccountsForEnds self }
+        ensures jobs { AccountsForJobs self.rules.sizes (past_in self) self.hands }
+        ensures none_in_hand { IsClear (past_in self) → in_hand self.hands ≡ [] }
         ensures fetched { (r : ℕ) → fetched (past_in self) r ≡ got_in self r }
         ensures posted { (c : ℕ) → posted_to (past_in self) c ≡ sent_in self c }
+        ensures back { IfErr result (λ e. (e.0 ≡ self) × (e.1 ≡ lanes) × (e.2.items ≡ workers.items)) }
     {
         let Front { state } = self;
-        state.log
+        match state.into_log(rt, alloc, lanes, workers) {
+            Ok(log) => Ok(log),
+            Err((state, lanes, workers)) => Err((Front { state }, lanes, workers)),
+        }
     }
 }

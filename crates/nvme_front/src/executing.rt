@@ -1,48 +1,30 @@
-// The execution of I/O commands, and the abort of candidates.
-ghost use Rattle.std.specs.Prelude.{◌≡◌, ℕ, ◌+◌, ◌<◌, ◌≤◌, [], ◌++◌, map, length, take, drop, vec_capacity};
-ghost use Rattle.nvme_front.specs.Steps.{executed, aborted};
+// What becomes of the candidates of an I/O queue: they are picked, or aborted.
+ghost use Rattle.std.specs.Prelude.{◌≡◌, ◌+◌, ◌^◌, ◌<◌, ◌≤◌, [], ◌++◌, map, length, take, drop, vec_capacity};
+ghost use Rattle.nvme_front.specs.Steps.{aborted};
+ghost use Rattle.nvme_front.specs.Jobs.{with_picked};
 ghost use Rattle.nvme_front.specs.declared.event.Event.TheVariants.{Abort};
 ghost use Rattle.nvme_front.specs.declared.candidate.Candidate.{Candidate};
 
 use crate::candidate::{Candidate, Ready};
 use crate::event::Event;
 use crate::fifo::Fifo;
+use crate::jobs::Jobs;
 use crate::logging::note;
-use nvme_entry::{Namespaces, Status, outcome};
+use nvme_entry::Status;
 
-// The completion of a command that is executed at once.
-fn execute(region: u8, candidate: Candidate, spaces: &Namespaces) -> Ready
-    ensures { result ≡ executed region spaces.now candidate }
-{
-    Ready {
-        region,
-        index: candidate.index,
-        entry: candidate.entry,
-        aborted: false,
-        status: outcome(&candidate.entry, spaces),
-        dw0: 0,
-    }
-}
-
-/// Executes the `n` oldest candidates of a window, whose completions are then ready.
-/// (NVM Command Set Specification, Read and Write)
-pub fn execute_oldest(
-    window: &mut Fifo<Candidate>,
-    ready: &mut Fifo<Ready>,
-    region: u8,
-    n: u16,
-    spaces: &Namespaces,
-)
+/// Takes the `n` oldest candidates of a window, whose jobs are then to be handed to the workers.
+pub fn dispatch_oldest(window: &mut Fifo<Candidate>, jobs: &mut Jobs, region: u8, n: u16)
     requires there { n ≤ length window.old.items }
-    requires room { length ready.old.items + n ≤ ready.old.room }
+    requires room { length jobs.old.hands.unhanded + n ≤ jobs.old.room }
+    requires few { jobs.old.tickets + n < 2 ^ 32 }
     ensures window { window.new ≡ record window.old { items = drop n window.old.items } }
-    ensures ready { ready.new ≡ record ready.old { items = ready.old.items ++ map (executed region spaces.now) (take n window.old.items) } }
+    ensures jobs { jobs.new ≡ with_picked jobs.old region (take n window.old.items) }
 {
     for _ in 0..n {
         let Some(candidate) = window.pop() else {
             unreachable!()
         };
-        ready.push(execute(region, candidate, spaces));
+        jobs.add(region, candidate);
     }
 }
 

@@ -36,6 +36,24 @@ impl<T: Copy> Fifo<T> {
         Some(Fifo { items, room })
     }
 
+    /// An empty queue with no room.
+    pub fn empty(alloc: Global) -> Fifo<T>
+        ensures empty { result.items ≡ [] }
+        ensures room { result.room ≡ 0 }
+    {
+        Fifo {
+            items: VecDeque::new(alloc),
+            room: 0,
+        }
+    }
+
+    /// How many items it has room for.
+    pub fn room(&self) -> usize
+        ensures { result ≡ self.now.room }
+    {
+        self.room
+    }
+
     /// The number of items.
     pub fn len(&self) -> usize
         ensures value { result ≡ length self.now.items }

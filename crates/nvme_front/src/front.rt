@@ -7,8 +7,10 @@ use nvme_admin::Limits;
 use nvme_arbiter::{Mechanism, Settings};
 use nvme_entry::{Cqe, Namespaces, Sqe};
 use nvme_lane::{GetEnd, PutEnd};
+use nvme_pool::{FrontSeat, Lanes};
 use std::alloc::Global;
 use std::marker::Model;
+use std::sync::Wait;
 
 /// What a front is made with.
 #[derive(Clone, Copy, Debug, PartialEq, Eq)]
@@ -57,13 +59,14 @@ pub enum FrontError {
     NoMemory,
     /// The log has too few free events for the next step.
     LogFull,
-    /// A result with this ticket is of no outstanding job. It was dropped.
+    /// A result with this ticket is of no job that was handed and has no result. It was dropped.
     Stray(u32),
 }
 
 /// The front of a controller: it fetches commands from the submission rings of its regions, picks them by arbitration,
-/// executes them, and posts their completions. Contracts see its rules, its log and its ends, and its log accounts for
-/// its ends at any time.
+/// executes admin commands, hands I/O commands to workers and gains their results, and posts completions. Contracts see
+/// its rules, its log, its ends, its seat at the workers and the commands that have no result yet, and its log accounts
+/// for its ends and for its jobs at any time.
 #[derive(Drop)]
 pub struct Front {
     pub(crate) state: FrontState,
@@ -83,11 +86,12 @@ impl Model for Front {
 impl Front {
     ghost use Rattle.std.specs.Prelude.{◌≡◌, ◌≢◌, ◌↔◌, ◌<◌, [], ◌∷◌, ◌++◌, true, false, length, IfOk, OnOk, IfErr, OnErr, IsTrue, ◌==◌, ◌&&◌, nat_lt};
     ghost use Rattle.nvme_admin.specs.declared.bounds.TheConstants.{MAX_REGIONS};
-    ghost use Rattle.nvme_front.specs.View.{AccountsForEnds, GoesOn, StepMeans, ErrorMeans, IsClear, is_serving, is_address, past_in};
+    ghost use Rattle.nvme_front.specs.Dispatches.{AccountsForJobs};
+    ghost use Rattle.nvme_front.specs.View.{AccountsForEnds, GoesOn, HasItsRegions, StepMeans, ErrorMeans, IsClear, is_serving, is_address, past_in};
     ghost use Rattle.nvme_front.specs.declared.front.AddError.TheVariants.{Used, TooMany, NoMemory};
 
-    /// A front with no region and an empty log.
-    pub fn new(alloc: Global, config: FrontConfig) -> Front
+    /// A front with no region and an empty log, which hands its jobs and gains their results by this seat.
+    pub fn new(alloc: Global, config: FrontConfig, seat: FrontSeat) -> Front
         ensures mechanism { result.rules.mechanism ≡ config.mechanism }
         ensures start { result.rules.start ≡ record { nsq = config.limits.nsq; ncq = config.limits.ncq; settings = config.settings } }
         ensures sizes { result.rules.sizes ≡ config.spaces }
@@ -95,10 +99,12 @@ impl Front {
         ensures log { result.log ≡ [] }
         ensures gets { result.gets ≡ [] }
         ensures puts { result.puts ≡ [] }
+        ensures hands { result.hands ≡ record { came = seat; seat = seat; unhanded = []; running = [] } }
         ensures not_late { result.late ≡ false }
+        ensures regions { HasItsRegions result }
     {
         Front {
-            state: FrontState::new(alloc, config),
+            state: FrontState::new(alloc, config, seat),
         }
     }
 
@@ -116,6 +122,8 @@ impl Front {
         ensures mechanism { self.new.rules.mechanism ≡ self.old.rules.mechanism }
         ensures start { self.new.rules.start ≡ self.old.rules.start }
         ensures sizes { self.new.rules.sizes ≡ self.old.rules.sizes }
+        ensures hands { self.new.hands ≡ self.old.hands }
+        ensures regions { HasItsRegions self.new }
         ensures late_after_events { OnOk result (self.old.log ≢ [] → self.new.late ≡ true) }
         ensures in_time { OnOk result (self.old.log ≡ [] → self.new.late ≡ false) }
         ensures end { IfErr result (λ e. e.1 ≡ end) }
@@ -140,6 +148,8 @@ impl Front {
         ensures mechanism { self.new.rules.mechanism ≡ self.old.rules.mechanism }
         ensures start { self.new.rules.start ≡ self.old.rules.start }
         ensures sizes { self.new.rules.sizes ≡ self.old.rules.sizes }
+        ensures hands { self.new.hands ≡ self.old.hands }
+        ensures regions { HasItsRegions self.new }
         ensures late_after_events { OnOk result (self.old.log ≢ [] → self.new.late ≡ true) }
         ensures in_time { OnOk result (self.old.log ≡ [] → self.new.late ≡ false) }
         ensures end { IfErr result (λ e. e.1 ≡ end) }
@@ -153,18 +163,21 @@ impl Front {
         self.state.add_cq(end)
     }
 
-    /// One turn: posts the completions that are ready; finishes a pending deletion, and ends there where one is pending;
-    /// fetches what has come; and makes the next pick of arbitration and executes what was picked. Whatever it answers,
-    /// what it did stands in the log, and a later turn goes on from there.
-    pub fn turn(&mut self) -> Result<Step, FrontError>
+    /// One turn: hands the jobs that were kept, and gains results; posts the completions that are ready; finishes a
+    /// pending deletion, and ends there where one is pending; fetches what has come; and makes the next pick of
+    /// arbitration, executes a picked admin command and hands the jobs of picked I/O commands. Whatever it answers, what
+    /// it did stands in the log, and a later turn goes on from there. It may wait for another thread.
+    pub fn turn<R: Wait>(&mut self, rt: &R, lanes: &Lanes) -> Result<Step, FrontError>
         requires admin_sq { 0 < length self.old.gets }
         requires admin_cq { 0 < length self.old.puts }
+        requires seat { self.old.hands.seat.lane ≡ lanes.now }
         ensures goes_on { GoesOn self.old self.new }
         ensures account { self.new.late ≡ false → AccountsForEnds self.new }
+        ensures jobs { AccountsForJobs self.new.rules.sizes (past_in self.new) self.new.hands }
         ensures step { IfOk result (λ step. StepMeans step self.old self.new) }
-        ensures error { IfErr result (λ error. ErrorMeans error self.new) }
+        ensures error { IfErr result (λ error. ErrorMeans error self.old self.new) }
     {
-        self.state.turn()
+        self.state.turn(rt, lanes)
     }
 
     /// What the front did so far, the oldest event first.

@@ -14,7 +14,7 @@ ghost use Rattle.nvme_entry.specs.Status.{success, aborted_by_deletion};
 ghost use mathlib.Core.List.{IsPrefix};
 ghost use Rattle.nvme_front.specs.Rules.{Each, Past};
 ghost use Rattle.std.specs.Prelude.{◌≡◌, ◌+◌, [], ◌∷◌, true, false};
-ghost use Rattle.nvme_front.specs.Laws.{QueuesAreTheTables, StartsWithAdmin, OneFateEach, PrefixesAreAccounted, OnePostEach, WholeAccountsAnswer};
+ghost use Rattle.nvme_front.specs.Laws.{QueuesAreTheTables, StartsWithAdmin, OneFateEach, PrefixesAreAccounted, OnePostEach, WholeAccountsAnswer, WholeAccountsKeepThePromise};
 
 /// Each fetched place has exactly one fate: it waits, was picked or was aborted.
 pub fn each_place_has_one_fate()
@@ -36,6 +36,14 @@ pub fn each_place_has_one_post()
 /// command has exactly one collected completion, its own.
 pub fn whole_accounts_answer()
     ensures { WholeAccountsAnswer }
+{}
+
+/// What a run promises, sentence by sentence, from the whole account alone: the commands fetched from each submission
+/// queue are a prefix of those submitted to it, in order, each once, none after its deletion began; every fetched command
+/// has exactly one collected completion, its own; and the picks are a lawful run of the configured arbitration over the
+/// candidate counts that the arbiter observed.
+pub fn whole_accounts_keep_the_promise()
+    ensures { WholeAccountsKeepThePromise }
 {}
 
 /// The queues that an accounted log opens and closes are those of its table history: its openings are the accepted

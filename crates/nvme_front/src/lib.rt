@@ -12,6 +12,8 @@ mod fetching;
 mod fifo;
 mod finishing;
 mod front;
+mod handing;
+mod jobs;
 pub mod laws;
 mod limits;
 mod logging;

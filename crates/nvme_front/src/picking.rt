@@ -5,7 +5,7 @@ ghost use Rattle.nvme_entry.specs.declared.admin.AdminCommand.TheVariants.{Delet
 ghost use Rattle.nvme_admin.specs.Standing.{cq_of};
 
 use crate::event::Event;
-use crate::executing::execute_oldest;
+use crate::executing::dispatch_oldest;
 use crate::front::{FrontError, Step};
 use crate::limits::{ADMIN_EVENTS, MAX_OUTSTANDING};
 use crate::logging::{make_room, note};
@@ -24,7 +24,7 @@ fn deleted_region(table: &Table, entry: &Sqe) -> Option<u8>
 }
 
 impl FrontState {
-    ghost use Rattle.std.specs.Prelude.{◌≡◌, ◌≢◌, ◌⊎◌, ◌+◌, ◌<◌, ◌≤◌, length, None, IsSome, OnOk, IfSome, IfErr};
+    ghost use Rattle.std.specs.Prelude.{◌≡◌, ◌≢◌, ◌⊎◌, ◌+◌, ◌<◌, ◌≤◌, length, None, IsSome, OnOk, IfSome, IfErr, OnErr};
     ghost use Rattle.nvme_front.specs.Limits.{max_outstanding, admin_events};
     ghost use Rattle.nvme_front.specs.Standing.{IsKept};
     ghost use Rattle.nvme_front.specs.Goes.{Goes, IsSame, HasAdmin, picks_in, next_pick};
@@ -32,7 +32,7 @@ impl FrontState {
     ghost use Rattle.nvme_front.specs.declared.front.Step.TheVariants as step;
     ghost use Rattle.nvme_arbiter.specs.declared.pick.Pick.{Pick};
 
-    // Picks of an I/O queue, and executes the picked commands at once.
+    // Picks of an I/O queue. The jobs of the picked commands are then to be handed.
     fn pick_io(&mut self) -> Result<(), FrontError>
         requires kept { IsKept self.old }
         requires admin { HasAdmin self.old }
@@ -44,6 +44,7 @@ impl FrontState {
         ensures goes { Goes self.old self.new }
         ensures picked { OnOk result (picks_in self.new.log.items ≡ picks_in self.old.log.items + 1) }
         ensures full { result ≡ Err LogFull → self.new.config.max_events < length self.new.log.items + 1 }
+        ensures none_picked { OnErr result (picks_in self.new.log.items ≡ picks_in self.old.log.items) }
         ensures no_stray { IfErr result (λ e. (e ≡ LogFull) ⊎ (e ≡ NoMemory)) }
     {
         make_room(&mut self.log, self.config.max_events, 1)?;
@@ -55,19 +56,9 @@ impl FrontState {
             unreachable!()
         };
         let sq = &mut self.sqs[usize::from(queue.region)];
-        let Some(attachment) = sq.queue else {
-            unreachable!()
-        };
-        let cq = &mut self.cqs[usize::from(attachment.cq_region)];
         sq.unposted += pick.n;
         self.outstanding += pick.n;
-        execute_oldest(
-            &mut sq.window,
-            &mut cq.ready,
-            queue.region,
-            pick.n,
-            &self.config.spaces,
-        );
+        dispatch_oldest(&mut sq.window, &mut self.jobs, queue.region, pick.n);
         note(&mut self.log, Event::Pick { seen, pick });
         Ok(())
     }
@@ -84,6 +75,7 @@ impl FrontState {
         ensures goes { Goes self.old self.new }
         ensures picked { OnOk result (picks_in self.new.log.items ≡ picks_in self.old.log.items + 1) }
         ensures full { result ≡ Err LogFull → IsSame self.old self.new × (self.new.config.max_events < length self.new.log.items + admin_events) }
+        ensures none_picked { OnErr result (picks_in self.new.log.items ≡ picks_in self.old.log.items) }
         ensures no_stray { IfErr result (λ e. (e ≡ LogFull) ⊎ (e ≡ NoMemory)) }
     {
         make_room(&mut self.log, self.config.max_events, ADMIN_EVENTS)?;
@@ -117,6 +109,7 @@ impl FrontState {
         ensures stalled { result ≡ Ok step.Stalled → IsSame self.old self.new × IfSome (next_pick self.old) (λ pick. max_outstanding < self.old.outstanding + pick.n) × IsSome (next_pick self.old) }
         ensures full { result ≡ Err LogFull → (self.new.config.max_events < length self.new.log.items + 1)
             ⊎ (IsSame self.old self.new × (self.new.config.max_events < length self.new.log.items + admin_events) × IfSome (next_pick self.old) (λ pick. pick.qid ≡ 0) × IsSome (next_pick self.old)) }
+        ensures none_picked { OnErr result (picks_in self.new.log.items ≡ picks_in self.old.log.items) }
         ensures no_stray { IfErr result (λ e. (e ≡ LogFull) ⊎ (e ≡ NoMemory)) }
     {
         let Some(pick) = self.board.peek() else {

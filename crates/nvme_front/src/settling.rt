@@ -1,5 +1,5 @@
 //! The settling of a front with its hosts, when all are in one thread again.
-ghost use Rattle.std.specs.Prelude.{◌≡◌, ◌≢◌, ◌↔◌, ◌≤◌, ◌++◌, [], length, map, IfOk, OnOk, IfErr, IsTrue, vec_capacity, Vec};
+ghost use Rattle.std.specs.Prelude.{◌≡◌, ◌≢◌, ◌↔◌, ◌≤◌, ◌++◌, [], None, length, map, IfOk, OnOk, IfErr, IsTrue, vec_capacity, Vec};
 ghost use Rattle.std.specs.Global.{Global};
 ghost use mathlib.Core.List.{IsPrefix};
 ghost use Rattle.nvme_lane.specs.View.{GetView, PutView, SameGet};
@@ -9,24 +9,31 @@ ghost use Rattle.nvme_lane.specs.declared.feeder.Feeder.{Feeder};
 ghost use Rattle.nvme_lane.specs.declared.drainer.Drainer.{Drainer};
 ghost use Rattle.nvme_entry.specs.declared.submission.Sqe.{Sqe};
 ghost use Rattle.nvme_entry.specs.declared.completion.Cqe.{Cqe};
-ghost use Rattle.nvme_front.specs.Hosts.{ArePaired, AreHosts, IsFedBy, IsDrainedBy, IsAtRest, told, told_by};
+ghost use Rattle.nvme_front.specs.Hosts.{ArePaired, AreHosts, IsFedBy, IsDrainedBy, told, told_by};
 ghost use Rattle.nvme_front.specs.Resting.{Rests, Collects};
-ghost use Rattle.nvme_front.specs.Settles.{IsSettled, IsSettledAccount, CollectsMore, HandsBack, LeavesBy};
+ghost use Rattle.nvme_front.specs.Dispatches.{ExecutesOnce};
+ghost use Rattle.nvme_pool.specs.Worker.{WorkerView};
+ghost use Rattle.std.specs.List.{All};
+ghost use Rattle.nvme_front.specs.Settles.{IsSettled, IsSettledAccount, CollectsMore, HasItsPool, AreAtRest, HandsBack, LeavesBy, settled_past};
 ghost use Rattle.nvme_front.specs.declared.settled.SettleError.TheVariants.{Strangers, Outstanding, NoMemory};
 
 use crate::front::Front;
 use crate::settled::{Sent, SettleError, Settled};
 use nvme_entry::{Cqe, Sqe};
 use nvme_lane::{Drainer, Feeder};
+use nvme_pool::{Lanes, Worker};
 use std::alloc::Global;
+use std::sync::Wait;
 
-/// A front and its hosts: a feeder for each submission region, and a drainer for each completion region, in region
-/// order.
+/// A front with its hosts and its workers: a feeder for each submission region, a drainer for each completion region, in
+/// region order, the lanes of its pool, and the workers in the order in which the pool was made.
 #[derive(Drop)]
 pub struct Parts {
     pub front: Front,
     pub feeders: Vec<Feeder<Sqe>>,
     pub drainers: Vec<Drainer<Cqe>>,
+    pub lanes: Lanes,
+    pub workers: Vec<Worker>,
 }
 
 // The addresses of the feeders are those of the submission regions, in order.
@@ -114,6 +121,13 @@ fn collect(front: &mut Front, drainers: &mut Vec<Drainer<Cqe>>) -> bool
     true
 }
 
+// No worker keeps a result.
+fn none_kept(workers: &[Worker]) -> bool
+    ensures { IsTrue result ↔ All (λ (w : WorkerView). w.kept ≡ None) workers.now }
+{
+    workers.iter().all(|worker| !worker.keeps())
+}
+
 // What the feeders submitted.
 fn sent_of(feeders: Vec<Feeder<Sqe>>, sent: Vec<Sent>) -> Vec<Sent>
     requires { (sent.items ≡ []) × (length feeders.items ≤ vec_capacity sent) }
@@ -144,25 +158,28 @@ fn collected_of(drainers: Vec<Drainer<Cqe>>, collected: Vec<Vec<Cqe>>) -> Vec<Ve
     collected
 }
 
-/// Takes what rests in the completion rings, and compares what was submitted, the log, and what was collected. A refusal
-/// hands all parts back: `Strangers` exactly where the addresses of the hosts are not those of the regions, in order;
-/// then `Outstanding` exactly where the front isn't clear or a command rests in the ring of an open queue; then
-/// `NoMemory` where memory was refused, and what the drainers took until then stands in them.
-pub fn settle(alloc: Global, parts: Parts) -> Result<Settled, (SettleError, Parts)>
-    requires { ArePaired parts.front parts.feeders.items parts.drainers.items }
+/// Takes what rests in the completion rings, closes the pool, and compares what was submitted, the log, what the workers
+/// executed, and what was collected. A refusal hands all parts back: `Strangers` exactly where the addresses of the hosts
+/// are not those of the regions, in order; then `Outstanding` exactly where the front isn't clear, a command rests in the
+/// ring of an open queue, or a worker keeps a result; then `NoMemory` where memory was refused, and what the drainers
+/// took until then stands in them. It may wait for another thread.
+pub fn settle<R: Wait>(rt: &R, alloc: Global, parts: Parts) -> Result<Settled, (SettleError, Parts)>
+    requires hosts { ArePaired parts.front parts.feeders.items parts.drainers.items }
+    requires pool { HasItsPool parts }
     ensures log { IfOk result (λ s. s.log.items ≡ parts.front.log) }
     ensures sent { IfOk result (λ s. map told_by s.sent.items ≡ map told parts.feeders.items) }
     ensures collected { IfOk result (λ s. CollectsMore parts.drainers.items s) }
     ensures account { IfOk result (λ s. IsSettledAccount parts.front s) }
     ensures settled { IfOk result (λ s. IsSettled s) }
     ensures hosts { OnOk result (AreHosts parts.front parts.feeders.items parts.drainers.items) }
-    ensures at_rest { OnOk result (IsAtRest parts.front parts.feeders.items) }
+    ensures at_rest { OnOk result (AreAtRest parts) }
+    ensures executed { IfOk result (λ s. ExecutesOnce parts.front.rules.sizes (settled_past s) parts.front.hands.seat parts.workers.items) }
     ensures back { IfErr result (λ e. HandsBack parts e.1) }
     ensures leaves { IfErr result (λ e. LeavesBy e.0 parts e.1) }
     ensures strangers { IfErr result (λ e. (e.0 ≡ Strangers) ↔ (AreHosts parts.front parts.feeders.items parts.drainers.items → ⊥)) }
     ensures not_strangers { IfErr result (λ e. e.0 ≢ Strangers → AreHosts parts.front parts.feeders.items parts.drainers.items) }
-    ensures outstanding { IfErr result (λ e. e.0 ≡ Outstanding → IsAtRest parts.front parts.feeders.items → ⊥) }
-    ensures no_memory { IfErr result (λ e. e.0 ≡ NoMemory → IsAtRest parts.front parts.feeders.items) }
+    ensures outstanding { IfErr result (λ e. e.0 ≡ Outstanding → AreAtRest parts → ⊥) }
+    ensures no_memory { IfErr result (λ e. e.0 ≡ NoMemory → AreAtRest parts) }
 {
     let mut parts = parts;
     if !are_feeders(&parts.front, parts.feeders.as_slice())
@@ -171,7 +188,7 @@ pub fn settle(alloc: Global, parts: Parts) -> Result<Settled, (SettleError, Part
         return Err((SettleError::Strangers, parts));
     }
     let quiet = look(&mut parts.front, &mut parts.feeders);
-    if !quiet || !parts.front.is_clear() {
+    if !quiet || !parts.front.is_clear() || !none_kept(parts.workers.as_slice()) {
         return Err((SettleError::Outstanding, parts));
     }
     let (Ok(sent), Ok(collected)) = (
@@ -187,10 +204,27 @@ pub fn settle(alloc: Global, parts: Parts) -> Result<Settled, (SettleError, Part
         front,
         feeders,
         drainers,
+        lanes,
+        workers,
     } = parts;
+    let log = match front.into_log(rt, alloc, lanes, workers) {
+        Ok(log) => log,
+        Err((front, lanes, workers)) => {
+            return Err((
+                SettleError::NoMemory,
+                Parts {
+                    front,
+                    feeders,
+                    drainers,
+                    lanes,
+                    workers,
+                },
+            ));
+        }
+    };
     Ok(Settled {
         sent: sent_of(feeders, sent),
         collected: collected_of(drainers, collected),
-        log: front.into_log(),
+        log,
     })
 }

@@ -6,10 +6,13 @@ ghost use Rattle.nvme_front.specs.declared.front.Step.TheVariants as step_is;
 use crate::candidate::PendingDelete;
 use crate::event::Event;
 use crate::front::{FrontConfig, FrontError, Step};
+use crate::jobs::Jobs;
 use crate::region::{CqRegion, SqRegion};
 use nvme_admin::Table;
 use nvme_arbiter::Board;
+use nvme_pool::Lanes;
 use std::alloc::Global;
+use std::sync::Wait;
 
 /// All that a front keeps. It never reads its log.
 #[derive(Drop)]
@@ -23,6 +26,7 @@ pub struct FrontState {
     // How many picked places have no completion posted.
     pub outstanding: u16,
     pub deletion: Option<PendingDelete>,
+    pub jobs: Jobs,
     // A region was added after the first event.
     pub late: bool,
     pub log: Vec<Event>,
@@ -36,25 +40,30 @@ impl FrontState {
     ghost use Rattle.nvme_front.specs.View.{view_of, StepMeans, ErrorMeans, IsClear, is_serving};
 
     /// One turn.
-    pub fn turn(&mut self) -> Result<Step, FrontError>
+    pub fn turn<R: Wait>(&mut self, rt: &R, lanes: &Lanes) -> Result<Step, FrontError>
         requires kept { IsKept self.old }
         requires admin { HasAdmin self.old }
+        requires seat { self.old.jobs.hands.seat.lane ≡ lanes.now }
         ensures kept { IsKept self.new }
         ensures goes { Goes self.old self.new }
         ensures step { IfOk result (λ step. StepMeans step (view_of self.old) (view_of self.new)) }
-        ensures error { IfErr result (λ error. ErrorMeans error (view_of self.new)) }
+        ensures error { IfErr result (λ error. ErrorMeans error (view_of self.old) (view_of self.new)) }
     {
+        let handed = self.hand(rt, lanes);
+        let gained = self.gain(lanes)?;
         let posted = self.post()?;
+        let moved = handed || gained || posted;
         if let Some(deletion) = self.deletion {
             let finished = self.finish(deletion)?;
-            return Ok(moved_or(posted || finished, Step::Idle));
+            return Ok(moved_or(moved || finished, Step::Idle));
         }
         let fetched = self.scan()?;
         let picked = self.pick()?;
         if picked == Step::Picked {
+            let _handed = self.hand(rt, lanes);
             return Ok(picked);
         }
-        Ok(moved_or(posted || fetched, picked))
+        Ok(moved_or(moved || fetched, picked))
     }
 
     /// No candidate waits, every fetched command has its completion posted, and no deletion is pending.

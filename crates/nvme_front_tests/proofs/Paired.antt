@@ -1,6 +1,7 @@
--- Hosts that are the other ends of a front's rings are paired with its regions, and so are two whose feeders are exchanged.
+-- Hosts whose feeders are exchanged are paired with a front's regions all the same; hosts that a settling
+-- hands back are the other ends of the rings of the front that comes back.
 use Rattle.std.proofs.Common.{◌≡◌, ℕ, zero, suc, ◌<◌, List, [], ◌∷◌, ◌++◌, length, get_or, remove, map, set, sym, ap, ◌∙◌, subst, arith}
-use Rattle.std.proofs.lemmas.List.{get_or_default}
+use Rattle.std.proofs.lemmas.List.{get_or_default, length-map}
 use Rattle.nvme_entry.specs.declared.submission.Sqe.{Sqe}
 use Rattle.nvme_entry.specs.declared.completion.Cqe.{Cqe}
 use Rattle.nvme_lane.specs.View.{GetView, PutView}
@@ -10,23 +11,14 @@ use Rattle.nvme_lane.specs.declared.drainer.Drainer.{Drainer}
 use Rattle.nvme_front.specs.Goes.{get_place, put_place}
 use Rattle.nvme_front.specs.View.{FrontView}
 use Rattle.nvme_front.specs.Hosts.{ArePaired, IsFedBy, IsDrainedBy, feeder_place, drainer_place}
+use Rattle.nvme_front.specs.Settles.{HandsBack}
+use Rattle.nvme_front.specs.declared.settling.Parts.{Parts}
 use Rattle.nvme_front.proofs.Hosted.{seen_at, seen-set}
 
 -- a drainer and the completion region at its place are the two ends of one ring
 cq_pair : (v : FrontView) (drainers : List (Drainer Cqe)) → IsDrainedBy v drainers → (c : ℕ) (d : Drainer Cqe) (p : PutView Cqe) → c < length drainers
     → drainer_place (get_or drainers c d) ≡ put_place (get_or v.puts c p)
 cq_pair v drainers drained c d p l = seen_at drainer_place put_place drainers v.puts drained c l d p
-
--- hosts with the other ends of a front's rings are paired with its regions
-pub paired : (v : FrontView) (feeders : List (Feeder Sqe)) (drainers : List (Drainer Cqe)) → IsFedBy v feeders → IsDrainedBy v drainers → ArePaired v feeders drainers
-paired v feeders drainers fed drained = record {
-  sqs = λ r f g l l' e.
-      let s = seen_at feeder_place get_place feeders v.gets fed r l f g in
-      (ap (λ z. z.0) s, ap (λ z. z.1) s, ap (λ z. z.2) s);
-  cqs = λ c d p l l' e.
-      let s = cq_pair v drainers drained c d p l in
-      (sym (ap (λ z. z.0) s), sym (ap (λ z. z.1) s), sym (ap (λ z. z.2) s));
-}
 
 -- where two feeders are exchanged, none has the address of the submission region at its place
 exchanged_apart : (v : FrontView) (a b : Feeder Sqe) → ((put_of a).address ≡ (put_of b).address → ⊥) → IsFedBy v (a ∷ b ∷ [])
@@ -37,6 +29,7 @@ exchanged_apart v a b differ fed (suc zero) f g l e =
     differ (e ∙ sym (ap (λ z. z.1) (seen_at feeder_place get_place (a ∷ b ∷ []) v.gets fed 1 (omega arith) a g)))
 exchanged_apart v a b differ fed (suc (suc r)) f g l e = omega arith
 
+-- two exchanged feeders of different addresses are paired with the regions, since none has the address of the region at its place
 exchanged_two : (v : FrontView) (a b : Feeder Sqe) (drainers : List (Drainer Cqe)) → ((put_of a).address ≡ (put_of b).address → ⊥) → IsFedBy v (a ∷ b ∷ []) → IsDrainedBy v drainers
     → ArePaired v (b ∷ a ∷ []) drainers
 exchanged_two v a b drainers differ fed drained = record {
@@ -62,3 +55,19 @@ exchanged v (a ∷ b ∷ c ∷ more) rest after drainers first second two i j k 
 -- what is seen of each element stays, where one is replaced of which the same is seen
 pub seen_after : {X Y : Type 0} (f : X → Y) (xs : List X) (i : ℕ) (old new : X) → i < length xs → old ≡ get_or xs i old → f new ≡ f old → map f (set xs i new) ≡ map f xs
 seen_after f xs i old new l read same = seen-set f xs i new l (λ d. same ∙ ap f (read ∙ get_or_default xs i old d l))
+
+-- feeders that a settling hands back feed the front that comes back
+pub fed_back : (old new : Parts) → HandsBack old new → IsFedBy old.front old.feeders.items → IsFedBy new.front new.feeders.items
+fed_back old new back fed = back.feeders.places ∙ fed ∙ sym back.front.get_places
+
+-- drainers that a settling hands back drain the front that comes back
+pub drained_back : (old new : Parts) → HandsBack old new → IsDrainedBy old.front old.drainers.items → IsDrainedBy new.front new.drainers.items
+drained_back old new back drained = back.drainers.places ∙ drained ∙ sym back.front.put_places
+
+-- a front that comes back has its submission regions
+pub sqs_back : (old new : Parts) → HandsBack old new → 0 < length old.front.gets → 0 < length new.front.gets
+sqs_back old new back some = omega (arith, length-map old.front.gets get_place, length-map new.front.gets get_place, ap length back.front.get_places)
+
+-- a front that comes back has its completion regions
+pub cqs_back : (old new : Parts) → HandsBack old new → 0 < length old.front.puts → 0 < length new.front.puts
+cqs_back old new back some = omega (arith, length-map old.front.puts put_place, length-map new.front.puts put_place, ap length back.front.put_places)

@@ -2,10 +2,12 @@
 ghost use Rattle.std.specs.Prelude.{◌≡◌, ◌++◌, ◌∷◌, ◌<◌, [], IfOk, OnOk, OnErr, vec_len, vec_capacity};
 ghost use Rattle.nvme_lane.specs.View.{IsPair, SameGet};
 ghost use Rattle.nvme_lane.specs.Drainer.{get_of};
+ghost use Rattle.nvme_pool.specs.Pool.{IsPool};
 
 use nvme_entry::{Cqe, Sqe};
 use nvme_front::{AddError, Front};
 use nvme_lane::{Drainer, GetEnd, LaneError, NoMemory, PutEnd, ring};
+use nvme_pool::{FrontSeat, Lanes, PoolError, Worker, pool};
 use std::alloc::{AllocError, Global};
 
 /// Appends an item.
@@ -51,11 +53,24 @@ pub fn ring_again<T: Copy>(
     ring(alloc, address, slots)
 }
 
+/// A pool of so many workers.
+pub fn pool_again(alloc: Global, workers: u8) -> Result<(Lanes, FrontSeat, Vec<Worker>), PoolError>
+    ensures pool { IfOk result (λ r. IsPool r.0 r.1 r.2.items) }
+    ensures none_handed { IfOk result (λ r. r.1.handed ≡ []) }
+    ensures count { IfOk result (λ r. vec_len r.2 ≡ workers) }
+{
+    if let Ok(made) = pool(alloc, workers) {
+        return Ok(made);
+    }
+    pool(alloc, workers)
+}
+
 /// Adds a submission region, and answers its number.
 pub fn add_sq_again(front: &mut Front, end: GetEnd<Sqe>) -> Result<u8, AddError>
     requires { end.got ≡ [] }
     ensures gets { OnOk result (front.new.gets ≡ front.old.gets ++ end ∷ []) }
     ensures puts { front.new.puts ≡ front.old.puts }
+    ensures hands { front.new.hands ≡ front.old.hands }
     ensures unchanged { OnErr result (front.new ≡ front.old) }
 {
     match front.add_sq_region(end) {
@@ -70,6 +85,7 @@ pub fn add_cq_again(front: &mut Front, end: PutEnd<Cqe>) -> Result<u8, AddError>
     requires { end.sent ≡ [] }
     ensures puts { OnOk result (front.new.puts ≡ front.old.puts ++ end ∷ []) }
     ensures gets { front.new.gets ≡ front.old.gets }
+    ensures hands { front.new.hands ≡ front.old.hands }
     ensures unchanged { OnErr result (front.new ≡ front.old) }
 {
     match front.add_cq_region(end) {

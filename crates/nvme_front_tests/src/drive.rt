@@ -2,12 +2,14 @@
 use crate::again::push_again;
 use crate::commands::{admin, get_arbitration, read};
 use crate::events::{fetched, posted, was_closed};
-use crate::rig::{Rig, config};
+use crate::hosted::config;
+use crate::rig::Rig;
 use nvme_entry::Sqe;
 use nvme_front::{Event, Settled, Step};
 use std::alloc::{AllocError, Global};
 use std::process::Abort;
 use std::rt::Clock;
+use std::sync::Wait;
 use std::test::*;
 use std::time::{Duration, Instant};
 
@@ -105,19 +107,20 @@ fn mark(clock: &impl Clock, marks: &mut Marks, log: &[Event]) -> Result<(), Fail
     Ok(())
 }
 
-// Each host submits one command, the front makes a turn, and every other turn another host collects four completions,
-// until nothing happens for a hundred turns.
-fn drive(clock: &impl Clock, rig: &mut Rig, marks: &mut Marks) -> Result<(), Fail> {
+// Each host submits one command, the front makes a turn, every other turn another host collects four completions, and
+// two turns of three a worker executes what is there, until nothing happens for a hundred turns.
+fn drive<R: Clock + Wait>(rt: &R, rig: &mut Rig, marks: &mut Marks) -> Result<(), Fail> {
     let mut idle = 0u32;
     for turn in 0..2_000_000u32 {
         rig.submit_all(1);
-        match rig.turn()? {
+        match rig.turn(rt)? {
             Step::Picked | Step::Moved => idle = 0,
             Step::Idle => idle = idle.saturating_add(1),
             Step::Stalled => {}
         }
         let _took = rig.collect((turn / 2 % u32::from(REGIONS)) as usize, 4)?;
-        mark(clock, marks, rig.log())?;
+        let _executed = rig.work(rt, (turn % 3) as usize);
+        mark(rt, marks, rig.log())?;
         if idle > 100 {
             return Ok(());
         }
@@ -175,7 +178,7 @@ fn twenty_thousand_commands(rt: HostRuntime) -> Result<(), Fail> {
             "at region {region}"
         );
     }
-    let settled = rig.settle(rt.alloc()).map_err(|refused| refused.0)?;
+    let settled = rig.settle(&rt, rt.alloc()).map_err(|refused| refused.0)?;
     assert_eq!(rt; settled.collected.len(), 17);
     check_counts(&rt, &settled);
     Ok(())

@@ -1,11 +1,13 @@
 // Worked examples.
 use crate::commands::{admin, get_arbitration, read};
 use crate::events::{fetched, picks, posted, status_of, was_closed, was_opened};
-use crate::rig::{Rig, config};
+use crate::hosted::config;
+use crate::rig::Rig;
 use nvme_entry::{Sqe, Status};
 use nvme_front::Settled;
 use std::alloc::Global;
 use std::process::Abort;
+use std::sync::Wait;
 use std::test::*;
 
 // The bytes that the host of the two slots collects.
@@ -17,8 +19,8 @@ const TWO_SLOTS: [[u8; 16]; 4] = [
 ];
 
 // Settles a rig that is at rest.
-fn settled(alloc: Global, rig: Rig) -> Result<Settled, Fail> {
-    Ok(rig.settle(alloc).map_err(|refused| refused.0)?)
+fn settled<R: Wait>(rt: &R, alloc: Global, rig: Rig) -> Result<Settled, Fail> {
+    Ok(rig.settle(rt, alloc).map_err(|refused| refused.0)?)
 }
 
 // How many entries each host submitted, and how many completions each collected.
@@ -44,12 +46,12 @@ fn phase_wraps_in_two_slots(rt: HostRuntime) -> Result<(), Fail> {
     assert!(rt; rig.is_clear());
     assert_eq!(rt; rig.submit(0, 4), 4);
     for taken in 0..4 {
-        rig.run()?;
+        rig.run(&rt)?;
         assert_eq!(rt; rig.is_clear(), taken == 3, "with {taken} taken");
         // The ring holds one completion, and so it is full.
         assert_eq!(rt; rig.collect(0, 2)?, 1, "with {taken} taken");
     }
-    let settled = settled(rt.alloc(), rig)?;
+    let settled = settled(&rt, rt.alloc(), rig)?;
     assert_eq!(rt; settled.collected.len(), 1);
     assert_eq!(rt; settled.collected[0].len(), 4);
     for (done, want) in settled.collected[0].iter().zip(TWO_SLOTS.iter()) {
@@ -69,9 +71,10 @@ fn deletion_rig(alloc: Global, script: &[Sqe], reads: &[Sqe]) -> Result<Rig, Fai
 }
 
 // Turns and collects, and sees that region 1 is served from the creation of its queue to the end of its deletion.
-fn run_watched(rt: &impl Abort, rig: &mut Rig) -> Result<(), Fail> {
+fn run_watched<R: Wait + Abort>(rt: &R, rig: &mut Rig) -> Result<(), Fail> {
     for _ in 0..20 {
-        let _step = rig.turn()?;
+        let _step = rig.turn(rt)?;
+        let _executed = rig.work_all(rt);
         rig.collect_all()?;
         let is_open = was_opened(rig.log(), 1) && !was_closed(rig.log(), 1);
         assert_eq!(rt; rig.is_serving(1), is_open);
@@ -112,7 +115,7 @@ fn delete_with_three_waiting(rt: HostRuntime) -> Result<(), Fail> {
     let all = picks(rt.alloc(), rig.log())?;
     assert_eq!(rt; all.as_slice(), [(0, 1), (0, 1), (1, 1), (0, 1)].as_slice());
     check_statuses(&rt, &rig, &[(0, 0), (0, 1), (0, 2), (1, 0), (1, 1), (1, 2)]);
-    let settled = settled(rt.alloc(), rig)?;
+    let settled = settled(&rt, rt.alloc(), rig)?;
     let (sent, collected) = counts(rt.alloc(), &settled)?;
     assert_eq!(rt; sent.as_slice(), [3, 3].as_slice());
     assert_eq!(rt; collected.as_slice(), [3, 3].as_slice());
@@ -150,7 +153,7 @@ fn queue_created_anew(rt: HostRuntime) -> Result<(), Fail> {
     run_watched(&rt, &mut rig)?;
     assert!(rt; rig.is_serving(2));
     assert_eq!(rt; status_of(rig.log(), 0, 4), Status::new(0, 0x02));
-    let settled = settled(rt.alloc(), rig)?;
+    let settled = settled(&rt, rt.alloc(), rig)?;
     let (sent, collected) = counts(rt.alloc(), &settled)?;
     assert_eq!(rt; sent.as_slice(), [5, 4, 2].as_slice());
     assert_eq!(rt; collected.as_slice(), [5, 5].as_slice());

@@ -1,4 +1,4 @@
-//! Tests of a front with its hosts on one thread: worked examples, refusals, and a long drive.
+//! Tests of a front with its hosts and workers: worked examples, refusals, and a long drive.
 #![tactic(auto)]
 
 #[cfg(test)]
@@ -12,6 +12,12 @@ mod events;
 #[cfg(test)]
 mod examples;
 #[cfg(test)]
+mod hosted;
+#[cfg(test)]
 mod refusals;
 #[cfg(test)]
 mod rig;
+#[cfg(test)]
+mod threads;
+#[cfg(test)]
+mod working;

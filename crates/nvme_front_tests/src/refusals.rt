@@ -2,15 +2,17 @@
 ghost use Rattle.std.specs.Prelude.{◌≡◌, ◌≤◌, [], IfOk};
 ghost use Rattle.nvme_front.specs.Limits.{most_events};
 
-use crate::again::{add_sq_again, ring_again};
+use crate::again::{add_sq_again, pool_again, ring_again};
 use crate::commands::get_arbitration;
 use crate::events::posted;
-use crate::rig::{Rig, config, settle_exchanged};
+use crate::hosted::config;
+use crate::rig::{Rig, WORKERS, settle_exchanged};
 use nvme_entry::{Cqe, Sqe};
 use nvme_front::{AddError, Event, Front, FrontError, SettleError, Step};
 use nvme_lane::{GetEnd, PutEnd};
 use std::alloc::Global;
 use std::process::Abort;
+use std::sync::Wait;
 use std::test::*;
 
 // A rig with one admin command, which is submitted.
@@ -32,12 +34,12 @@ fn log_full(rt: HostRuntime) -> Result<(), Fail> {
     }];
     let mut rig = one_command(rt.alloc(), 257)?;
     for turn in 0..2 {
-        assert_eq!(rt; rig.turn(), Err(FrontError::LogFull), "in turn {turn}");
+        assert_eq!(rt; rig.turn(&rt), Err(FrontError::LogFull), "in turn {turn}");
         assert!(rt; rig.log() == want.as_slice(), "in turn {turn}");
     }
     assert!(rt; !rig.is_clear());
     let mut rig = one_command(rt.alloc(), 259)?;
-    assert_eq!(rt; rig.turn(), Ok(Step::Picked));
+    assert_eq!(rt; rig.turn(&rt), Ok(Step::Picked));
     Ok(())
 }
 
@@ -59,7 +61,8 @@ fn put_end(alloc: Global, address: u64, slots: u16) -> Result<PutEnd<Cqe>, Fail>
 
 #[test]
 fn region_refusals(rt: HostRuntime) -> Result<(), Fail> {
-    let mut front = Front::new(rt.alloc(), config(0, 1000)?);
+    let (_, seat, _) = pool_again(rt.alloc(), WORKERS)?;
+    let mut front = Front::new(rt.alloc(), config(0, 1000)?, seat);
     for region in 0..17 {
         let end = get_end(rt.alloc(), 0x1000 * u64::from(region), 8)?;
         assert_eq!(rt; add_sq_again(&mut front, end)?, region);
@@ -75,12 +78,12 @@ fn region_refusals(rt: HostRuntime) -> Result<(), Fail> {
 }
 
 // Settles a front with exchanged feeders, which comes back as it was.
-fn exchange(rt: &impl Abort, alloc: Global) -> Result<(), Fail> {
+fn exchange<R: Wait + Abort>(rt: &R, alloc: Global) -> Result<(), Fail> {
     let mut rig = one_command(alloc, 1000)?;
     rig.add_sq(alloc, 0x2000, 8, &[])?;
-    rig.run_and_collect()?;
+    rig.run_and_collect(rt)?;
     let log = format!(in alloc; "{:?}", rig.log())?;
-    let (error, back) = settle_exchanged(alloc, rig)?;
+    let (error, back) = settle_exchanged(rt, alloc, rig)?;
     assert_eq!(rt; error, SettleError::Strangers);
     assert_eq!(rt; (back.feeders.len(), back.drainers.len()), (2, 1));
     assert_eq!(rt; format!(in alloc; "{:?}", back.front.log())?, log);
@@ -92,13 +95,13 @@ fn exchange(rt: &impl Abort, alloc: Global) -> Result<(), Fail> {
 fn settle_refusals(rt: HostRuntime) -> Result<(), Fail> {
     exchange(&rt, rt.alloc())?;
     let rig = one_command(rt.alloc(), 1000)?;
-    let refused = rig.settle(rt.alloc()).err();
+    let refused = rig.settle(&rt, rt.alloc()).err();
     let (error, mut rig) = refused.ok_or("a command that rests was settled")?;
     assert_eq!(rt; error, SettleError::Outstanding);
     assert_eq!(rt; (rig.hosts(), rig.log().len()), ((1, 1), 0));
-    rig.run_and_collect()?;
+    rig.run_and_collect(&rt)?;
     assert_eq!(rt; posted(rig.log()), 1);
-    let settled = rig.settle(rt.alloc()).map_err(|refused| refused.0)?;
+    let settled = rig.settle(&rt, rt.alloc()).map_err(|refused| refused.0)?;
     assert_eq!(rt; settled.collected.len(), 1);
     assert_eq!(rt; settled.collected[0].len(), 1);
     Ok(())

@@ -1,111 +1,43 @@
-// A front with its hosts, which are driven from one thread.
-ghost use Rattle.std.specs.Prelude.{◌≡◌, ◌≤◌, ◌<◌, ◌++◌, ◌∷◌, [], length, map, IfOk, OnErr};
-ghost use Rattle.nvme_lane.specs.View.{SamePut, SameGet};
-ghost use Rattle.nvme_lane.specs.Feeder.{put_of};
-ghost use Rattle.nvme_lane.specs.Drainer.{get_of};
-ghost use Rattle.nvme_front.specs.Limits.{most_events};
-ghost use Rattle.nvme_front.specs.Goes.{get_place, put_place};
-ghost use Rattle.nvme_front.specs.Hosts.{IsFedBy, IsDrainedBy, feeder_place, drainer_place};
+// A front with its hosts and workers, which are driven from one thread.
+ghost use Rattle.std.specs.Prelude.{◌≡◌, ◌<◌, length};
+ghost use Rattle.nvme_front.specs.Hosts.{IsFedBy, IsDrainedBy};
+ghost use Rattle.nvme_front.specs.Settles.{HasItsPool};
+ghost use Rattle.nvme_pool.specs.Pool.{IsPool};
+ghost use Rattle.nvme_pool.specs.Worker.{SameWorker};
 
-use crate::again::{add_cq_again, add_sq_again, list_again, reserve_again, ring_again, take_again};
-use nvme_admin::Limits;
-use nvme_arbiter::{Mechanism, Settings};
-use nvme_entry::{Cqe, Namespaces, Sqe};
-use nvme_front::{
-    Event, Front, FrontConfig, FrontError, Parts, SettleError, Settled, Step, settle,
-};
-use nvme_lane::{Drainer, Feed, Feeder, NoMemory};
+use crate::again::{pool_again, reserve_again};
+use crate::hosted::Hosted;
+use nvme_entry::Sqe;
+use nvme_front::{Event, FrontConfig, FrontError, Parts, SettleError, Settled, Step, settle};
+use nvme_lane::NoMemory;
+use nvme_pool::{Lanes, NoGate, Worked, Worker};
 use std::alloc::Global;
+use std::sync::Wait;
 use std::test::Fail;
 
-/// The addresses of the admin queue's regions.
-pub const ADMIN_SQ: u64 = 0x1000;
+/// How many workers a rig has.
+pub const WORKERS: u8 = 2;
 
-pub const ADMIN_CQ: u64 = 0x8000;
-
-/// A front, a feeder for each of its submission regions, and a drainer for each of its completion regions. Its type
-/// keeps that they are the other ends of the front's rings, and that both admin regions are there.
+/// A front with its hosts, and its workers. Its type keeps that the workers are those of the front's pool.
 #[derive(Drop)]
 pub struct Rig {
-    front: Front,
-    feeders: Vec<Feeder<Sqe>>,
-    drainers: Vec<Drainer<Cqe>>,
-    ghost fed: { IsFedBy front feeders.items },
-    ghost drained: { IsDrainedBy front drainers.items },
-    ghost admin_sq: { 0 < length front.gets },
-    ghost admin_cq: { 0 < length front.puts },
+    hosted: Hosted,
+    lanes: Lanes,
+    workers: Vec<Worker>,
+    ghost pool: { IsPool lanes hosted.front.hands.seat workers.items },
 }
 
-/// Round robin, with 16 queues of each kind and one namespace of 1,000 blocks.
-pub fn config(settings: u32, max_events: u32) -> Result<FrontConfig, Fail>
-    requires { max_events ≤ most_events }
+// Steps a worker until it finds nothing to do. The answer is how many commands it executed.
+fn work_off<R: Wait>(rt: &R, lanes: &Lanes, worker: &mut Worker) -> u32
+    requires { worker.old.lane ≡ lanes.now }
+    ensures { SameWorker worker.old worker.new }
 {
-    let spaces = Namespaces::new(&[1000])?;
-    Ok(FrontConfig {
-        mechanism: Mechanism::RoundRobin,
-        settings: Settings::from_cdw11(settings),
-        limits: Limits { nsq: 16, ncq: 16 },
-        spaces,
-        max_events,
-    })
-}
-
-// Adds a submission region, and gives the host's end of it with the host's script.
-fn sq_region(
-    alloc: Global,
-    front: &mut Front,
-    address: u64,
-    slots: u16,
-    script: &[Sqe],
-) -> Result<Feeder<Sqe>, Fail>
-    ensures gets { IfOk result (λ f. map get_place front.new.gets ≡ map get_place front.old.gets ++ feeder_place f ∷ []) }
-    ensures puts { front.new.puts ≡ front.old.puts }
-    ensures unchanged { OnErr result (front.new ≡ front.old) }
-{
-    let script = list_again(alloc, script)?;
-    let (put, get) = ring_again(alloc, address, slots)?;
-    add_sq_again(front, get)?;
-    Ok(Feeder::new(script, put))
-}
-
-// Adds a completion region, and gives the host's end of it.
-fn cq_region(
-    alloc: Global,
-    front: &mut Front,
-    address: u64,
-    slots: u16,
-) -> Result<Drainer<Cqe>, Fail>
-    ensures puts { IfOk result (λ d. map put_place front.new.puts ≡ map put_place front.old.puts ++ drainer_place d ∷ []) }
-    ensures gets { front.new.gets ≡ front.old.gets }
-    ensures unchanged { OnErr result (front.new ≡ front.old) }
-{
-    let (put, get) = ring_again(alloc, address, slots)?;
-    add_cq_again(front, put)?;
-    Ok(Drainer::new(alloc, get))
-}
-
-// Puts so many entries at most, as the ring takes them. The answer is how many were put.
-fn put_some(feeder: &mut Feeder<Sqe>, most: u16) -> u16
-    ensures { SamePut (put_of feeder.old) (put_of feeder.new) }
-{
-    for put in 0..most {
-        if feeder.step() != Feed::Put {
-            return put;
+    for executed in 0..1000 {
+        if worker.step(rt, lanes, &mut NoGate) != Worked::Did {
+            return executed;
         }
     }
-    most
-}
-
-// Takes so many completions at most. The answer is how many were taken.
-fn take_some(drainer: &mut Drainer<Cqe>, most: u16) -> Result<u16, NoMemory>
-    ensures { SameGet (get_of drainer.old) (get_of drainer.new) }
-{
-    for took in 0..most {
-        if !take_again(drainer)? {
-            return Ok(took);
-        }
-    }
-    Ok(most)
+    1000
 }
 
 impl Rig {
@@ -117,19 +49,12 @@ impl Rig {
         cq_slots: u16,
         script: &[Sqe],
     ) -> Result<Rig, Fail> {
-        let mut front = Front::new(alloc, config);
-        let mut feeders = Vec::new(alloc);
-        let mut drainers = Vec::new(alloc);
-        reserve_again(&mut feeders)?;
-        reserve_again(&mut drainers)?;
-        let feeder = sq_region(alloc, &mut front, ADMIN_SQ, sq_slots, script)?;
-        let drainer = cq_region(alloc, &mut front, ADMIN_CQ, cq_slots)?;
-        feeders.push_reserved(feeder);
-        drainers.push_reserved(drainer);
+        let (lanes, seat, workers) = pool_again(alloc, WORKERS)?;
+        let hosted = Hosted::new(alloc, config, seat, sq_slots, cq_slots, script)?;
         Ok(Rig {
-            front,
-            feeders,
-            drainers,
+            hosted,
+            lanes,
+            workers,
         })
     }
 
@@ -141,116 +66,162 @@ impl Rig {
         slots: u16,
         script: &[Sqe],
     ) -> Result<(), Fail> {
-        reserve_again(&mut self.feeders)?;
-        let feeder = sq_region(alloc, &mut self.front, address, slots, script)?;
-        self.feeders.push_reserved(feeder);
-        Ok(())
+        self.hosted.add_sq(alloc, address, slots, script)
     }
 
     /// Adds a completion region.
     pub fn add_cq(&mut self, alloc: Global, address: u64, slots: u16) -> Result<(), Fail> {
-        reserve_again(&mut self.drainers)?;
-        let drainer = cq_region(alloc, &mut self.front, address, slots)?;
-        self.drainers.push_reserved(drainer);
-        Ok(())
+        self.hosted.add_cq(alloc, address, slots)
     }
 
     /// The host of a submission region submits so many entries at most. The answer is how many it submitted.
     pub fn submit(&mut self, region: usize, most: u16) -> u16 {
-        if region >= self.feeders.len() {
-            return 0;
-        }
-        put_some(&mut self.feeders[region], most)
+        self.hosted.submit(region, most)
     }
 
     /// Each host submits so many entries at most.
     pub fn submit_all(&mut self, most: u16) {
-        for region in 0..self.feeders.len() {
-            let _put = self.submit(region, most);
-        }
+        self.hosted.submit_all(most);
     }
 
     /// The host of a completion region collects so many completions at most. The answer is how many it collected.
     pub fn collect(&mut self, region: usize, most: u16) -> Result<u16, NoMemory> {
-        if region >= self.drainers.len() {
-            return Ok(0);
-        }
-        take_some(&mut self.drainers[region], most)
+        self.hosted.collect(region, most)
     }
 
     /// Each host collects what its ring holds.
     pub fn collect_all(&mut self) -> Result<(), NoMemory> {
-        for region in 0..self.drainers.len() {
-            self.collect(region, 256)?;
-        }
-        Ok(())
+        self.hosted.collect_all()
     }
 
     /// One turn. Where it is refused memory it goes on in another.
-    pub fn turn(&mut self) -> Result<Step, FrontError> {
-        let step = self.front.turn();
-        if step == Err(FrontError::NoMemory) {
-            return self.front.turn();
-        }
-        step
+    pub fn turn<R: Wait>(&mut self, rt: &R) -> Result<Step, FrontError> {
+        self.hosted.turn(rt, &self.lanes)
     }
 
-    /// Turns until the front can do no more.
-    pub fn run(&mut self) -> Result<(), Fail> {
+    /// One worker executes what is there. The answer is how many commands it executed.
+    pub fn work<R: Wait>(&mut self, rt: &R, worker: usize) -> u32 {
+        if worker >= self.workers.len() {
+            return 0;
+        }
+        work_off(rt, &self.lanes, &mut self.workers[worker])
+    }
+
+    /// Each worker executes what is there, the last one first. The answer is how many commands they executed.
+    pub fn work_all<R: Wait>(&mut self, rt: &R) -> u32 {
+        let mut executed = 0u32;
+        for worker in 0..usize::from(WORKERS) {
+            executed = executed.wrapping_add(self.work(rt, usize::from(WORKERS) - 1 - worker));
+        }
+        executed
+    }
+
+    /// Turns of the front and steps of the workers until they can do no more.
+    pub fn run<R: Wait>(&mut self, rt: &R) -> Result<(), Fail> {
         for _ in 0..1000 {
-            let step = self.turn()?;
-            if step == Step::Idle || step == Step::Stalled {
+            let step = self.turn(rt)?;
+            let executed = self.work_all(rt);
+            if executed == 0 && (step == Step::Idle || step == Step::Stalled) {
                 return Ok(());
             }
         }
         Err("the front goes on and on".into())
     }
 
-    /// Turns and collects until the front can do no more.
-    pub fn run_and_collect(&mut self) -> Result<(), Fail> {
-        self.run()?;
+    /// Turns until a pick waits for free places, while no worker steps.
+    pub fn run_until_stalled<R: Wait>(&mut self, rt: &R) -> Result<(), Fail> {
+        for _ in 0..1000 {
+            if self.turn(rt)? == Step::Stalled {
+                return Ok(());
+            }
+        }
+        Err("no pick waits".into())
+    }
+
+    /// Turns, executes and collects until no more can be done.
+    pub fn run_and_collect<R: Wait>(&mut self, rt: &R) -> Result<(), Fail> {
+        self.run(rt)?;
         self.collect_all()?;
-        self.run()?;
+        self.run(rt)?;
         self.collect_all()?;
         Ok(())
     }
 
+    /// The front's log.
     pub fn log(&self) -> &[Event] {
-        self.front.log()
+        self.hosted.log()
     }
 
+    /// Whether the front is clear.
     pub fn is_clear(&self) -> bool {
-        self.front.is_clear()
+        self.hosted.is_clear()
     }
 
+    /// Whether the front serves a submission region.
     pub fn is_serving(&self, region: u8) -> bool {
-        self.front.is_serving(region)
+        self.hosted.is_serving(region)
     }
 
     /// How many hosts feed, and how many drain.
     pub fn hosts(&self) -> (usize, usize) {
-        (self.feeders.len(), self.drainers.len())
+        (self.hosted.feeders.len(), self.hosted.drainers.len())
     }
 
-    /// Settles the front with its hosts. Where that is refused memory, what came back is settled.
-    pub fn settle(self, alloc: Global) -> Result<Settled, (SettleError, Rig)> {
-        let Rig {
-            front,
-            feeders,
-            drainers,
-        } = self;
-        let parts = Parts {
-            front,
-            feeders,
-            drainers,
-        };
-        match settle(alloc, parts) {
+    /// Settles the front with its hosts and workers. Where that is refused memory, what came back is settled.
+    pub fn settle<R: Wait>(self, rt: &R, alloc: Global) -> Result<Settled, (SettleError, Rig)> {
+        match settle(rt, alloc, parts_of(self)) {
             Ok(settled) => Ok(settled),
-            Err((SettleError::NoMemory, back)) => {
-                settle(alloc, back).map_err(|refused| (refused.0, rig_of(refused.1)))
-            }
+            Err((SettleError::NoMemory, back)) => match settle(rt, alloc, back) {
+                Ok(settled) => Ok(settled),
+                Err((error, again)) => Err((error, rig_of(again))),
+            },
             Err((error, back)) => Err((error, rig_of(back))),
         }
+    }
+}
+
+/// Settles a front with its hosts and the workers of its pool.
+pub fn settle_hosted<R: Wait>(
+    rt: &R,
+    alloc: Global,
+    hosted: Hosted,
+    lanes: Lanes,
+    workers: Vec<Worker>,
+) -> Result<Settled, SettleError>
+    requires { IsPool lanes hosted.front.hands.seat workers.items }
+{
+    let rig = Rig {
+        hosted,
+        lanes,
+        workers,
+    };
+    rig.settle(rt, alloc).map_err(|refused| refused.0)
+}
+
+// The parts of a rig.
+fn parts_of(rig: Rig) -> Parts
+    ensures fed { IsFedBy result.front result.feeders.items }
+    ensures drained { IsDrainedBy result.front result.drainers.items }
+    ensures admin_sq { 0 < length result.front.gets }
+    ensures admin_cq { 0 < length result.front.puts }
+    ensures pool { HasItsPool result }
+{
+    let Rig {
+        hosted,
+        lanes,
+        workers,
+    } = rig;
+    let Hosted {
+        front,
+        feeders,
+        drainers,
+    } = hosted;
+    Parts {
+        front,
+        feeders,
+        drainers,
+        lanes,
+        workers,
     }
 }
 
@@ -260,41 +231,44 @@ fn rig_of(parts: Parts) -> Rig
     requires drained { IsDrainedBy parts.front parts.drainers.items }
     requires admin_sq { 0 < length parts.front.gets }
     requires admin_cq { 0 < length parts.front.puts }
+    requires pool { HasItsPool parts }
 {
     let Parts {
         front,
         feeders,
         drainers,
+        lanes,
+        workers,
     } = parts;
-    Rig {
-        front,
-        feeders,
-        drainers,
-    }
-}
-
-/// Settles a front with two feeders that are exchanged, and gives why that was refused, with what came back.
-pub fn settle_exchanged(alloc: Global, rig: Rig) -> Result<(SettleError, Parts), Fail> {
-    let Rig {
-        front,
-        mut feeders,
-        drainers,
-    } = rig;
-    if feeders.len() != 2 {
-        return Err("there are not two feeders".into());
-    }
-    let first = feeders.remove(0);
-    if first.address() == feeders[0].address() {
-        return Err("the feeders have one address".into());
-    }
-    reserve_again(&mut feeders)?;
-    feeders.push_reserved(first);
-    let parts = Parts {
+    let hosted = Hosted {
         front,
         feeders,
         drainers,
     };
-    match settle(alloc, parts) {
+    Rig {
+        hosted,
+        lanes,
+        workers,
+    }
+}
+
+/// Settles a front with two feeders that are exchanged, and gives why that was refused, with what came back.
+pub fn settle_exchanged<R: Wait>(
+    rt: &R,
+    alloc: Global,
+    rig: Rig,
+) -> Result<(SettleError, Parts), Fail> {
+    let mut parts = parts_of(rig);
+    if parts.feeders.len() != 2 {
+        return Err("there are not two feeders".into());
+    }
+    let first = parts.feeders.remove(0);
+    if first.address() == parts.feeders[0].address() {
+        return Err("the feeders have one address".into());
+    }
+    reserve_again(&mut parts.feeders)?;
+    parts.feeders.push_reserved(first);
+    match settle(rt, alloc, parts) {
         Ok(_) => Err("exchanged feeders were settled".into()),
         Err(refused) => Ok(refused),
     }

@@ -1,77 +1,85 @@
-use Rattle.std.proofs.Common.{true, map, refl, sym, ap, ◌∙◌, arith}
+use Rattle.std.proofs.Common.{true, map, refl, sym, ap, subst, ◌∙◌, arith}
+use Rattle.std.specs.Prelude.{reverse}
 use Rattle.nvme_front.specs.Goes.{put_place}
 use Rattle.nvme_front.specs.Hosts.{AreHosts, drainer_place}
+use Rattle.nvme_front.specs.View.{IsClear}
 use Rattle.nvme_front.proofs.Hosted.{fed_from_pairs, drained_from_pairs, seen_length, IsSameFront-trans}
-use Rattle.nvme_front.proofs.Rested.{at_rest, not_at_rest, not_clear, feeders_number, takes_from, collects_more, is_settled, is_account}
+use Rattle.nvme_front.proofs.Rested.{at_rest, not_at_rest, not_clear, feeders_number, takes_from, collects_more, is_settled, is_account, executes}
 use Rattle.nvme_front.proofs.settling.settle.Goals as goal
-use Rattle.nvme_front.proofs.settling.settle.Goals.{then-not-quiet-via-then-not-quiet, then-not-quiet-via-else-not-quiet+then-not-is_clear}
+use Rattle.nvme_front.proofs.settling.settle.Goals.{then-not-quiet-via-then-not-quiet, then-not-quiet-via-else-not-quiet+then-not-is_clear, then-not-quiet-via-else-not-quiet+else-not-is_clear+then-not-none_kept}
 
 pub look-quiet-requires : goal.look-quiet-requires
-look-quiet-requires c =
+look-quiet-requires g c =
     let v = c.args.parts.front in
     let f = c.args.parts.feeders.items in
     let d = c.args.parts.drainers.items in
     let hosts : AreHosts v f d = record { feeders_are = rw c.as_slice.ensures.value at (c.are_feeders.ensures.0 c.if-not-are_feeders.false); drainers_are = rw c.as_slice-else-not-are_feeders.ensures.value at (c.are_drainers.ensures.0 c.if-not-are_drainers.false) } in
-    fed_from_pairs v f d c.requires hosts
+    fed_from_pairs v f d c.requires.hosts hosts
 
 pub returns-then-not-quiet-clause-outstanding : goal.returns-then-not-quiet-clause-outstanding
-returns-then-not-quiet-clause-outstanding c =
+returns-then-not-quiet-clause-outstanding g c =
     let v = c.args.parts.front in
     let f = c.args.parts.feeders.items in
     let d = c.args.parts.drainers.items in
     let hosts : AreHosts v f d = record { feeders_are = rw c.as_slice.ensures.value at (c.are_feeders.ensures.0 c.if-not-are_feeders.false); drainers_are = rw c.as_slice-else-not-are_feeders.ensures.value at (c.are_drainers.ensures.0 c.if-not-are_drainers.false) } in
     let same = feeders_number v f d hosts in
     λ e rest. elim c.then-not-quiet.branch [
-      | then-not-quiet-via-then-not-quiet w ↦ not_at_rest v _ f _ _ c.look-quiet.ensures same w.if-not-quiet.true rest
-      | then-not-quiet-via-else-not-quiet+then-not-is_clear w ↦ not_clear v _ f _ _ c.look-quiet.ensures same (λ h. let t = w.is_clear.ensures.1 h in cc (t, w.if-not-is_clear.true)) rest
+      | then-not-quiet-via-then-not-quiet w ↦ not_at_rest v _ f _ _ c.look-quiet.ensures same w.if-not-quiet.true rest.front
+      | then-not-quiet-via-else-not-quiet+then-not-is_clear w ↦ not_clear v _ f _ _ c.look-quiet.ensures same (λ h. let t = w.is_clear.ensures.1 h in cc (t, w.if-not-is_clear.true)) rest.front
+      | then-not-quiet-via-else-not-quiet+else-not-is_clear+then-not-none_kept w ↦
+          let t = w.none_kept.ensures.1 (rw w.as_slice-else-not-is_clear.ensures.value rest.none_kept) in cc (t, w.if-not-none_kept.true)
     ]
 
 pub returns-in_default-clause-no_memory : goal.returns-in_default-clause-no_memory
-returns-in_default-clause-no_memory c =
+returns-in_default-clause-no_memory g c =
     let v = c.args.parts.front in
     let f = c.args.parts.feeders.items in
     let d = c.args.parts.drainers.items in
     let hosts : AreHosts v f d = record { feeders_are = rw c.as_slice.ensures.value at (c.are_feeders.ensures.0 c.if-not-are_feeders.false); drainers_are = rw c.as_slice-else-not-are_feeders.ensures.value at (c.are_drainers.ensures.0 c.if-not-are_drainers.false) } in
     let rests = rw c.if-not-quiet.false at c.look-quiet.ensures in
     let clear = c.is_clear.ensures.0 c.if-not-is_clear.false in
-    λ e. at_rest v _ f _ true rests (feeders_number v f d hosts) refl clear
+    let kept = rw c.as_slice-else-not-is_clear.ensures.value at (c.none_kept.ensures.0 c.if-not-none_kept.false) in
+    λ e. record { front = at_rest v _ f _ true rests (feeders_number v f d hosts) refl clear; none_kept = kept }
 
 pub collect-requires : goal.collect-requires
-collect-requires c =
+collect-requires g c =
     let v = c.args.parts.front in
     let f = c.args.parts.feeders.items in
     let d = c.args.parts.drainers.items in
     let hosts : AreHosts v f d = record { feeders_are = rw c.as_slice.ensures.value at (c.are_feeders.ensures.0 c.if-not-are_feeders.false); drainers_are = rw c.as_slice-else-not-are_feeders.ensures.value at (c.are_drainers.ensures.0 c.if-not-are_drainers.false) } in
-    drained_from_pairs v f d c.requires hosts ∙ ap (map put_place) (sym c.look-quiet.ensures.puts)
+    drained_from_pairs v f d c.requires.hosts hosts ∙ ap (map put_place) (sym c.look-quiet.ensures.puts)
 
 pub returns-then-not-collect-clause-back : goal.returns-then-not-collect-clause-back
-returns-then-not-collect-clause-back c =
+returns-then-not-collect-clause-back g c =
     let rests = c.look-quiet.ensures in
     let taken = c.collect.ensures.kept in
     record {
+      lanes = refl;
+      workers = cc;
       front = IsSameFront-trans _ _ _ rests.front taken.front;
       feeders = rests.feeders;
       drainers = takes_from _ _ _ _ rests.puts taken.takes;
     }
 
 pub returns-then-not-collect-clause-no_memory : goal.returns-then-not-collect-clause-no_memory
-returns-then-not-collect-clause-no_memory c =
+returns-then-not-collect-clause-no_memory g c =
     let v = c.args.parts.front in
     let f = c.args.parts.feeders.items in
     let d = c.args.parts.drainers.items in
     let hosts : AreHosts v f d = record { feeders_are = rw c.as_slice.ensures.value at (c.are_feeders.ensures.0 c.if-not-are_feeders.false); drainers_are = rw c.as_slice-else-not-are_feeders.ensures.value at (c.are_drainers.ensures.0 c.if-not-are_drainers.false) } in
     let rests = rw c.if-not-quiet.false at c.look-quiet.ensures in
     let clear = c.is_clear.ensures.0 c.if-not-is_clear.false in
-    λ e. at_rest v _ f _ true rests (feeders_number v f d hosts) refl clear
+    let kept = rw c.as_slice-else-not-is_clear.ensures.value at (c.none_kept.ensures.0 c.if-not-none_kept.false) in
+    λ e. record { front = at_rest v _ f _ true rests (feeders_number v f d hosts) refl clear; none_kept = kept }
 
 pub collected_of-requires : goal.collected_of-requires
-collected_of-requires c =
+collected_of-requires g c =
     let same = seen_length drainer_place drainer_place _ _ c.collect.ensures.kept.takes.places in
     let room = c.in-Ok-Ok.ensures'.capacity in
     (c.in-Ok-Ok.ensures'.items, omega arith)
 
 pub returns-clause-collected : goal.returns-clause-collected
-returns-clause-collected c =
+returns-clause-collected g c =
     let v = c.args.parts.front in
     let f = c.args.parts.feeders.items in
     let d = c.args.parts.drainers.items in
@@ -79,10 +87,10 @@ returns-clause-collected c =
     let rests = rw c.if-not-quiet.false at c.look-quiet.ensures in
     let clear = c.is_clear.ensures.0 c.if-not-is_clear.false in
     let collects = c.collect.ensures.all c.if-not-collect.false in
-    collects_more v _ _ f _ d _ _ hosts rests clear collects c.into_log.ensures.log c.sent_of.ensures c.collected_of.ensures
+    collects_more v _ _ f _ d _ _ hosts rests clear collects c.in-Ok.ensures.log c.sent_of.ensures c.collected_of.ensures
 
 pub returns-clause-account : goal.returns-clause-account
-returns-clause-account c =
+returns-clause-account g c =
     let v = c.args.parts.front in
     let f = c.args.parts.feeders.items in
     let d = c.args.parts.drainers.items in
@@ -90,10 +98,10 @@ returns-clause-account c =
     let rests = rw c.if-not-quiet.false at c.look-quiet.ensures in
     let clear = c.is_clear.ensures.0 c.if-not-is_clear.false in
     let collects = c.collect.ensures.all c.if-not-collect.false in
-    is_account v _ _ f _ d _ (record { log = c.into_log.result; sent = c.sent_of.result; collected = c.collected_of.result }) hosts rests clear collects c.into_log.ensures.log c.sent_of.ensures c.collected_of.ensures c.into_log.ensures.fetched c.into_log.ensures.posted c.into_log.ensures.account
+    is_account v _ _ f _ d _ (record { log = c.in-Ok.log; sent = c.sent_of.result; collected = c.collected_of.result }) hosts rests clear collects c.in-Ok.ensures.log c.sent_of.ensures c.collected_of.ensures c.in-Ok.ensures.fetched c.in-Ok.ensures.posted c.in-Ok.ensures.account
 
 pub returns-clause-settled : goal.returns-clause-settled
-returns-clause-settled c =
+returns-clause-settled g c =
     let v = c.args.parts.front in
     let f = c.args.parts.feeders.items in
     let d = c.args.parts.drainers.items in
@@ -101,14 +109,48 @@ returns-clause-settled c =
     let rests = rw c.if-not-quiet.false at c.look-quiet.ensures in
     let clear = c.is_clear.ensures.0 c.if-not-is_clear.false in
     let collects = c.collect.ensures.all c.if-not-collect.false in
-    is_settled v _ _ f _ d _ _ hosts rests clear collects c.into_log.ensures.log c.sent_of.ensures c.collected_of.ensures c.into_log.ensures.fetched c.into_log.ensures.posted
+    is_settled v _ _ f _ d _ _ hosts rests clear collects c.in-Ok.ensures.log c.sent_of.ensures c.collected_of.ensures c.in-Ok.ensures.fetched c.in-Ok.ensures.posted
 
 pub returns-clause-at_rest : goal.returns-clause-at_rest
-returns-clause-at_rest c =
+returns-clause-at_rest g c =
     let v = c.args.parts.front in
     let f = c.args.parts.feeders.items in
     let d = c.args.parts.drainers.items in
     let hosts : AreHosts v f d = record { feeders_are = rw c.as_slice.ensures.value at (c.are_feeders.ensures.0 c.if-not-are_feeders.false); drainers_are = rw c.as_slice-else-not-are_feeders.ensures.value at (c.are_drainers.ensures.0 c.if-not-are_drainers.false) } in
     let rests = rw c.if-not-quiet.false at c.look-quiet.ensures in
     let clear = c.is_clear.ensures.0 c.if-not-is_clear.false in
-    at_rest v _ f _ true rests (feeders_number v f d hosts) refl clear
+    let kept = rw c.as_slice-else-not-is_clear.ensures.value at (c.none_kept.ensures.0 c.if-not-none_kept.false) in
+    record { front = at_rest v _ f _ true rests (feeders_number v f d hosts) refl clear; none_kept = kept }
+
+pub returns-in-Err-clause-back : goal.returns-in-Err-clause-back
+returns-in-Err-clause-back g c =
+    let rests = c.look-quiet.ensures in
+    let taken = c.collect.ensures.kept in
+    let back = c.in-Err.ensures.back in
+    record {
+      lanes = back.1;
+      workers = back.2;
+      front = rw back.0 (IsSameFront-trans _ _ _ rests.front taken.front);
+      feeders = rests.feeders;
+      drainers = takes_from _ _ _ _ rests.puts taken.takes;
+    }
+
+pub returns-in-Err-clause-no_memory : goal.returns-in-Err-clause-no_memory
+returns-in-Err-clause-no_memory g c =
+    let v = c.args.parts.front in
+    let f = c.args.parts.feeders.items in
+    let d = c.args.parts.drainers.items in
+    let hosts : AreHosts v f d = record { feeders_are = rw c.as_slice.ensures.value at (c.are_feeders.ensures.0 c.if-not-are_feeders.false); drainers_are = rw c.as_slice-else-not-are_feeders.ensures.value at (c.are_drainers.ensures.0 c.if-not-are_drainers.false) } in
+    let rests = rw c.if-not-quiet.false at c.look-quiet.ensures in
+    let clear = c.is_clear.ensures.0 c.if-not-is_clear.false in
+    let kept = rw c.as_slice-else-not-is_clear.ensures.value at (c.none_kept.ensures.0 c.if-not-none_kept.false) in
+    λ e. record { front = at_rest v _ f _ true rests (feeders_number v f d hosts) refl clear; none_kept = kept }
+
+pub returns-clause-executed : goal.returns-clause-executed
+returns-clause-executed g c =
+    let collects = c.collect.ensures.kept in
+    let clear = c.is_clear.ensures.0 c.if-not-is_clear.false in
+    let kept = rw c.as_slice-else-not-is_clear.ensures.value at (c.none_kept.ensures.0 c.if-not-none_kept.false) in
+    let done = c.in-Ok.ensures in
+    executes c.args.parts.front c.collect.new.front _ c.args.parts.workers.items (IsSameFront-trans _ _ _ c.look-quiet.ensures.front collects.front) (ap reverse done.log) done.jobs
+    (done.none_in_hand (subst IsClear (sym (ap reverse collects.front.log)) clear)) c.requires.pool.none_before done.closed kept

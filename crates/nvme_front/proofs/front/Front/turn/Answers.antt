@@ -5,10 +5,15 @@ use Rattle.nvme_front.proofs.EndsSeen.{accounts_for_ends, admin_there, view_goes
 use Rattle.nvme_front.proofs.front.Front.turn.Goals as goal
 
 pub returns-clause-goes_on : goal.returns-clause-goes_on
-returns-clause-goes_on c =
+returns-clause-goes_on g c =
     subst (λ (v : FrontView). GoesOn v (view_of c.turn.new.self)) c.self.view_is (view_goes_on c.self.inside.state c.turn.new.self c.turn.ensures.goes)
 
 pub returns-clause-account : goal.returns-clause-account
-returns-clause-account c = λ late.
+returns-clause-account g c = λ late.
     let admin = admin_there c.self.inside.state c.args.self.now c.self.view_is c.requires.admin_sq c.requires.admin_cq in
     accounts_for_ends c.turn.new.self c.turn.ensures.kept (admin-goes c.self.inside.state c.turn.new.self c.turn.ensures.goes admin) late
+
+pub returns-clause-jobs : goal.returns-clause-jobs
+returns-clause-jobs g c =
+    let admin = admin-goes c.self.inside.state c.turn.new.self c.turn.ensures.goes (admin_there c.self.inside.state c.args.self.now c.self.view_is c.requires.admin_sq c.requires.admin_cq) in
+    (c.turn.ensures.kept.stands admin.0 admin.1).jobs.account

@@ -20,6 +20,7 @@ returns-clause-kept c =
       cqs = appended _ _ _ _ c.in-Ok-push.ensures.items c.reserve.ensures.items;
       outstanding = refl;
       deletion = refl;
+      jobs = refl;
       log = refl;
       late = ap not c.is_empty.ensures ∙ ap (λ (n : ℕ). not (n == 0)) s.log.ok.0;
     })

@@ -1,10 +1,13 @@
-use Rattle.std.proofs.Common.{◌∙◌, not, ap, refl, rules, arith, ℕ, ◌==◌}
+use Rattle.std.proofs.Common.{◌≡◌, ◌∙◌, not, ap, refl, sym, subst, rules, arith, ℕ, ◌==◌}
 use Rattle.std.specs.Prelude.{vec_len}
 use Rattle.nvme_front.specs.declared.state.FrontState.{FrontState}
+use Rattle.nvme_front.specs.Jobs.{JobsView}
+use Rattle.nvme_front.specs.Standing.{IsKept}
 use Rattle.nvme_front.proofs.Addresses.{sq_not_refused}
+use Rattle.nvme_front.proofs.KeptRegions.{is_kept-with_room, kept_with_room, room_or_none}
 use Rattle.nvme_front.proofs.AddedRegions.{appended, kept_with_first_sq, kept_with_later_sq}
 use Rattle.nvme_front.proofs.state.FrontState.add_sq.Goals as goal
-use Rattle.nvme_front.proofs.state.FrontState.add_sq.Goals.{then-number-eq0, else-number-eq0}
+use Rattle.nvme_front.proofs.state.FrontState.add_sq.Goals.{then-number-eq0, else-number-eq0, then-not-make_room-via-then-not-make_room, then-not-make_room-via-else-not-make_room+then-is_err}
 
 pub unreachable-requires : goal.unreachable-requires
 unreachable-requires c =
@@ -14,9 +17,11 @@ unreachable-requires c =
 pub returns-clause-kept : goal.returns-clause-kept
 returns-clause-kept c =
     let s = c.args.self.now in
+    let made : FrontState = record s { jobs = c.make_room.new.self } in
+    let kept : IsKept made = kept_with_room s c.requires.kept c.make_room.new.self c.make_room.ensures.same c.make_room.ensures.kept in
     elim c.if-number-eq0.branch [
       | then-number-eq0 w ↦
-          kept_with_first_sq s c.requires.kept _
+          kept_with_first_sq made kept _
           (record { end = c.args.end; window = c.in-Some.window; fetched = 0; unposted = 0; queue = c.if-number-eq0.queue })
           (record {
             config = ap (λ (z : FrontState). z.config) w.self-is;
@@ -24,6 +29,7 @@ returns-clause-kept c =
             cqs = ap (λ (z : FrontState). z.cqs.items) w.self-is;
             outstanding = ap (λ (z : FrontState). z.outstanding) w.self-is;
             deletion = ap (λ (z : FrontState). z.deletion) w.self-is;
+            jobs = ap (λ (z : FrontState). z.jobs) w.self-is;
             log = ap (λ (z : FrontState). z.log.items) w.self-is;
             late = ap not c.is_empty.ensures ∙ ap (λ (z : FrontState). not (vec_len z.log == 0)) w.self-is ∙ ap (λ (n : ℕ). not (n == 0)) s.log.ok.0;
           })
@@ -34,10 +40,11 @@ returns-clause-kept c =
             unposted = refl;
             room = omega (arith, c.in-Some.ensures.room, c.from.ensures, c.slots.ensures.value, c.slots.ensures.least);
           })
-          (search rules) _ _ _ (ap (λ (z : FrontState). z.table) w.self-is) c.address-2.ensures c.slots-2.ensures.value c.in-Ok.ensures.stands
+          (search rules) (ap (λ (z : FrontState). z.jobs.room) w.self-is ∙ c.make_room.ensures.room (search rules))
+          _ _ _ (ap (λ (z : FrontState). z.table) w.self-is) c.address-2.ensures c.slots-2.ensures.value c.in-Ok.ensures.stands
           (search rules) w.queue-is _ (ap (λ (z : FrontState). z.board) w.self-is) w.open.ensures.opened w.open.ensures.stands
       | else-number-eq0 w ↦
-          kept_with_later_sq s c.requires.kept _
+          kept_with_later_sq made kept _
           (record { end = c.args.end; window = c.in-Some.window; fetched = 0; unposted = 0; queue = c.if-number-eq0.queue })
           (record {
             config = ap (λ (z : FrontState). z.config) w.self-is;
@@ -45,6 +52,7 @@ returns-clause-kept c =
             cqs = ap (λ (z : FrontState). z.cqs.items) w.self-is;
             outstanding = ap (λ (z : FrontState). z.outstanding) w.self-is;
             deletion = ap (λ (z : FrontState). z.deletion) w.self-is;
+            jobs = ap (λ (z : FrontState). z.jobs) w.self-is;
             log = ap (λ (z : FrontState). z.log.items) w.self-is;
             late = ap not c.is_empty.ensures ∙ ap (λ (z : FrontState). not (vec_len z.log == 0)) w.self-is ∙ ap (λ (n : ℕ). not (n == 0)) s.log.ok.0;
           })
@@ -55,6 +63,32 @@ returns-clause-kept c =
             unposted = refl;
             room = omega (arith, c.in-Some.ensures.room, c.from.ensures, c.slots.ensures.value, c.slots.ensures.least);
           })
-          (search rules) _ _ _ (ap (λ (z : FrontState). z.table) w.self-is) c.address-2.ensures c.slots-2.ensures.value c.in-Ok.ensures.stands
+          (search rules) (ap (λ (z : FrontState). z.jobs.room) w.self-is ∙ c.make_room.ensures.room (search rules))
+          _ _ _ (ap (λ (z : FrontState). z.table) w.self-is) c.address-2.ensures c.slots-2.ensures.value c.in-Ok.ensures.stands
           (λ z. w.if-number-eq0.false (c.in-Ok.ensures.number ∙ z)) w.queue-is (ap (λ (z : FrontState). z.board) w.self-is)
+    ]
+
+pub make_room-requires : goal.make_room-requires
+make_room-requires c = room_or_none c.args.self.now c.requires.kept
+
+pub returns-then-not-make_room-clause-kept : goal.returns-then-not-make_room-clause-kept
+returns-then-not-make_room-clause-kept c =
+    let s = c.args.self.now in
+    let kept = kept_with_room s c.requires.kept c.make_room.new.self c.make_room.ensures.same c.make_room.ensures.kept in
+    elim c.then-not-make_room.branch [
+      | then-not-make_room-via-then-not-make_room w ↦ subst (λ (z : FrontState). IsKept z) (sym w.self-is) kept
+      | then-not-make_room-via-else-not-make_room+then-is_err w ↦
+          is_kept-with_room s c.requires.kept c.then-not-make_room.self (record {
+            config = ap (λ (z : FrontState). z.config) w.self-is;
+            sqs = ap (λ (z : FrontState). z.sqs.items) w.self-is ∙ w.reserve.ensures.items;
+            cqs = ap (λ (z : FrontState). z.cqs.items) w.self-is;
+            board = ap (λ (z : FrontState). z.board) w.self-is;
+            table = ap (λ (z : FrontState). z.table) w.self-is;
+            outstanding = ap (λ (z : FrontState). z.outstanding) w.self-is;
+            deletion = ap (λ (z : FrontState). z.deletion) w.self-is;
+            jobs = subst (λ (j : JobsView). j ≡ record s.jobs { room = j.room }) (sym (ap (λ (z : FrontState). z.jobs) w.self-is)) c.make_room.ensures.same;
+            keeps_room = λ full. ap (λ (z : FrontState). z.jobs.room) w.self-is ∙ c.make_room.ensures.kept full;
+            log = ap (λ (z : FrontState). z.log.items) w.self-is;
+            late = ap (λ (z : FrontState). z.late) w.self-is;
+          })
     ]

@@ -58,7 +58,7 @@ close-requires c = begins_on_board _ _ _ _ c.requires.applied.1 _ (sym c.sq.ensu
 pub returns-clause-goes : goal.returns-clause-goes
 returns-clause-goes c =
     goes_deleting _ _ _ _ _ _ _ _ _ _ _ _ _ c.index_mut-sq.ensures.value c.abort_all.ensures.window refl c.index_mut-cq.ensures.value c.abort_all.ensures.ready refl
-    c.note.ensures.items c.abort_all.ensures.log (record { config = refl; alloc = refl; late = refl; table = refl; outstanding = refl })
+    c.note.ensures.items c.abort_all.ensures.log (record { config = refl; alloc = refl; late = refl; table = refl; outstanding = refl; jobs = refl })
 
 pub returns-clause-picks : goal.returns-clause-picks
 returns-clause-picks c =
@@ -70,6 +70,6 @@ returns-clause-kept c =
     keeps_deleting _ _ _ _ c.requires.applied.1 _ (sym c.sq.ensures ∙ c.in-Some.is) _ c.from.ensures _ c.index_mut-sq.ensures.value _ _ _ _ _ _ _ _ c.args.self.now.board
     c.in-Some-queue.is c.from-2.ensures c.len.ensures.value c.abort_all.ensures.window refl c.index_mut-cq.ensures.value c.abort_all.ensures.ready refl
     c.note.ensures.items c.abort_all.ensures.log c.close.ensures.closed refl
-    (record { config = refl; alloc = refl; late = refl; table = refl; outstanding = refl })
+    (record { config = refl; alloc = refl; late = refl; table = refl; outstanding = refl; jobs = refl })
     (goes_deleting _ _ _ _ _ _ _ _ _ _ _ _ _ c.index_mut-sq.ensures.value c.abort_all.ensures.window refl c.index_mut-cq.ensures.value c.abort_all.ensures.ready refl
-    c.note.ensures.items c.abort_all.ensures.log (record { config = refl; alloc = refl; late = refl; table = refl; outstanding = refl }))
+    c.note.ensures.items c.abort_all.ensures.log (record { config = refl; alloc = refl; late = refl; table = refl; outstanding = refl; jobs = refl }))

@@ -48,6 +48,7 @@ returns-in_default-fetch-clause-goes c =
       table = refl;
       outstanding = refl;
       deletion = refl;
+      jobs = refl;
       late = refl;
       config = refl;
       alloc = refl;
@@ -62,7 +63,7 @@ returns-clause-kept c =
     c.requires.none_pending (sym c.is_full.ensures.value ∙ c.if-is_full.false) c.is_full.ensures.few_slots in
     let e = c.in-Some-fetch.ensures in
     fetch_kept a c.requires.kept c.requires.admin c.args.qid c.in-Some.queue in_table c.if-queue.false
-    _ (record { cqs = refl; table = refl; outstanding = refl; deletion = refl; late = refl; config = refl; alloc = refl }) r c.fetch.new.self (rw c.from-r.ensures at c.index_mut.ensures.value)
+    _ (record { cqs = refl; table = refl; outstanding = refl; deletion = refl; jobs = refl; late = refl; config = refl; alloc = refl }) r c.fetch.new.self (rw c.from-r.ensures at c.index_mut.ensures.value)
     c.in-Some-fetch.candidate (rw c.from-r.ensures refl) c.fetch.ensures.end e.window e.index e.got e.fetched e.unposted e.queue c.came.ensures.came can
     (noted _ _ _ _ c.make_room.ensures.same c.note.ensures.items) c.in_ok-make_room.ensures.within
 
@@ -71,7 +72,7 @@ returns-clause-goes c =
     let a = c.args.self.now in
     let r = c.index_mut.result.now in
     fetch_goes a c.requires.kept c.requires.admin c.args.qid c.in-Some.queue (sym c.sq.ensures ∙ c.in-Some.is) c.if-queue.false
-    _ (record { cqs = refl; table = refl; outstanding = refl; deletion = refl; late = refl; config = refl; alloc = refl }) r c.fetch.new.self (rw c.from-r.ensures at c.index_mut.ensures.value)
+    _ (record { cqs = refl; table = refl; outstanding = refl; deletion = refl; jobs = refl; late = refl; config = refl; alloc = refl }) r c.fetch.new.self (rw c.from-r.ensures at c.index_mut.ensures.value)
     c.in-Some-fetch.candidate (rw c.from-r.ensures refl) c.fetch.ensures.end c.in-Some-fetch.ensures.window (_, sym (noted _ _ _ _ c.make_room.ensures.same c.note.ensures.items))
 
 pub returns-clause-picks : goal.returns-clause-picks

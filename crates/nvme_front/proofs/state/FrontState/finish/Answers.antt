@@ -1,6 +1,6 @@
 -- The region of a deletion and its closing queue are known from what stands, and there is room for its answer.
 use Rattle.std.proofs.Common.{◌∙◌, [], ◌∷◌, ◌++◌, sym, refl, ap, arith}
-use Rattle.nvme_front.specs.Steps.{closed_event}
+use Rattle.nvme_front.proofs.AfterSteps.{closed_event}
 use Rattle.nvme_front.proofs.States.{IsSame-refl}
 use Rattle.nvme_front.proofs.CloseOne.{deletion_there, deletion_closing, region_has_room, region_unposted, closed-kept}
 use Rattle.nvme_front.proofs.PickCounts.{picks-noted}
@@ -40,6 +40,7 @@ returns-clause-kept c = closed-kept c.args.self.now _ c.args.deletion c.requires
   none_pending = refl;
   board = refl;
   outstanding = refl;
+  jobs = refl;
   late = refl;
   config = refl;
   alloc = refl;

@@ -25,7 +25,7 @@ push-requires c = answer_fits _ _ _ _ c.requires.applied.1 _ c.index_mut-2.ensur
 
 pub returns-clause-goes : goal.returns-clause-goes
 returns-clause-goes c =
-    goes_readied _ _ _ 0 _ _ _ c.index_mut-2.ensures.value c.push.ensures refl c.note.ensures.items refl refl refl
+    goes_readied _ _ _ 0 _ _ _ c.index_mut-2.ensures.value c.push.ensures refl c.note.ensures.items refl refl refl refl
     (places-set _ _ _ _ c.index_mut.ensures.value refl) (windows-set _ _ _ _ c.index_mut.ensures.value refl)
 
 pub returns-clause-picks : goal.returns-clause-picks
@@ -35,6 +35,6 @@ pub returns-clause-kept : goal.returns-clause-kept
 returns-clause-kept c =
     keeps_opened _ _ _ _ _ _ _ _ c.requires.applied.1 _ _ _ _ _ _ (sym c.cq.ensures ∙ c.in-Some.is) c.from.ensures
     c.index_mut.ensures.value refl c.open.ensures.opened c.index_mut-2.ensures.value c.push.ensures c.answered.ensures refl c.note.ensures.items refl
-    (record { config = refl; alloc = refl; late = refl; table = refl; outstanding = refl })
-    (goes_readied _ _ _ 0 _ _ _ c.index_mut-2.ensures.value c.push.ensures refl c.note.ensures.items refl refl refl
+    (record { config = refl; alloc = refl; late = refl; table = refl; outstanding = refl; jobs = refl })
+    (goes_readied _ _ _ 0 _ _ _ c.index_mut-2.ensures.value c.push.ensures refl c.note.ensures.items refl refl refl refl
     (places-set _ _ _ _ c.index_mut.ensures.value refl) (windows-set _ _ _ _ c.index_mut.ensures.value refl))

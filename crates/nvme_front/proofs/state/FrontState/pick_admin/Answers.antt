@@ -36,7 +36,7 @@ carry_out-requires c =
           c.in-Some-pop.candidate c.pop.new.self.items c.in-Some-pop.ensures.items
           refl refl refl refl refl
           (λ t. set c.args.self.now.sqs.items 0 (record c.index_mut-sq.result.now { window = record { items = c.pop.ensures.rest t; room = c.pop.ensures.room t }; unposted = c.index_mut-sq.result.now.unposted + 1 }))
-          refl
+          refl refl
           (c.note.ensures.items ∙ ap (λ (xs : List Event). xs ++ event.Pick c.seen-seen.result c.in-Some.pick ∷ []) c.make_room.ensures.same)
           c.in_ok-make_room.ensures.within
           room

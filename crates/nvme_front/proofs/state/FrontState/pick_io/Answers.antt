@@ -5,7 +5,7 @@ use Rattle.nvme_front.specs.declared.event.Event.TheVariants as event
 use Rattle.nvme_front.specs.Goes.{picks_in}
 use Rattle.nvme_front.specs.Limits.{max_outstanding}
 use Rattle.nvme_front.specs.Kept.{rules_of}
-use Rattle.nvme_front.proofs.Picks.{picks_in-push, of_next, config_by, due-found, due-sq_there, due-some_queue, due-c_there, due-unposted, due-enough, due-room}
+use Rattle.nvme_front.proofs.Picks.{picks_in-push, of_next, config_by, jobs_fit, few_tickets, due-found, due-sq_there, due-unposted, due-enough}
 use Rattle.nvme_front.proofs.PickedQueue.{io-kept, io-goes}
 use Rattle.nvme_front.proofs.state.FrontState.pick_io.Goals as goal
 
@@ -22,20 +22,6 @@ index_mut-sq-requires c =
     c.in-Some-sq.queue (sym c.sq.ensures ∙ c.in-Some-sq.is) c.from.result c.from.ensures in
     omega (arith, there, s.sqs.ok.0)
 
-pub unreachable-requires-in_default-queue : goal.unreachable-requires-in_default-queue
-unreachable-requires-in_default-queue c =
-    let s = c.args.self.now in
-    due-some_queue s c.requires.kept (rules_of s) (c.requires.kept.stands c.requires.admin.0 c.requires.admin.1) c.requires.none_pending c.in-Some.pick c.in-Some.ensures.lawful
-    c.in-Some-sq.queue (sym c.sq.ensures ∙ c.in-Some-sq.is) c.from.result c.from.ensures c.index_mut-sq.result.now c.index_mut-sq.ensures.value c.in_default-queue.is
-
-pub index_mut-cq-requires : goal.index_mut-cq-requires
-index_mut-cq-requires c =
-    let s = c.args.self.now in
-    let there = due-c_there s c.requires.kept (rules_of s) (c.requires.kept.stands c.requires.admin.0 c.requires.admin.1) c.requires.none_pending c.in-Some.pick c.in-Some.ensures.lawful
-    c.in-Some-sq.queue (sym c.sq.ensures ∙ c.in-Some-sq.is) c.from.result c.from.ensures c.index_mut-sq.result.now c.index_mut-sq.ensures.value
-    c.in-Some-queue.attachment c.in-Some-queue.is c.from-2.result c.from-2.ensures in
-    omega (arith, there, s.cqs.ok.0)
-
 pub overflow_add-sq : goal.overflow_add-sq
 overflow_add-sq c =
     let s = c.args.self.now in
@@ -44,18 +30,22 @@ overflow_add-sq c =
     let places = of_next s c.in-Some.pick (λ (p : Pick). s.outstanding + p.n ≤ max_outstanding) c.in-Some.ensures.by_what_is_kept c.requires.places in
     omega (arith, few, places)
 
-pub execute_oldest-requires-clause-there : goal.execute_oldest-requires-clause-there
-execute_oldest-requires-clause-there c =
+pub dispatch_oldest-requires-clause-there : goal.dispatch_oldest-requires-clause-there
+dispatch_oldest-requires-clause-there c =
     let s = c.args.self.now in
     due-enough s c.requires.kept (rules_of s) (c.requires.kept.stands c.requires.admin.0 c.requires.admin.1) c.requires.none_pending c.in-Some.pick c.in-Some.ensures.lawful
     c.in-Some-sq.queue (sym c.sq.ensures ∙ c.in-Some-sq.is) c.from.result c.from.ensures c.index_mut-sq.result.now c.index_mut-sq.ensures.value
 
-pub execute_oldest-requires-clause-room : goal.execute_oldest-requires-clause-room
-execute_oldest-requires-clause-room c =
+pub dispatch_oldest-requires-clause-room : goal.dispatch_oldest-requires-clause-room
+dispatch_oldest-requires-clause-room c =
     let s = c.args.self.now in
-    due-room s c.requires.kept (rules_of s) (c.requires.kept.stands c.requires.admin.0 c.requires.admin.1) c.requires.none_pending c.in-Some.pick c.in-Some.ensures.lawful
-    c.in-Some-sq.queue (sym c.sq.ensures ∙ c.in-Some-sq.is) c.from.result c.from.ensures c.index_mut-sq.result.now c.index_mut-sq.ensures.value
-    c.in-Some-queue.attachment c.in-Some-queue.is c.from-2.result c.from-2.ensures c.index_mut-cq.result.now c.index_mut-cq.ensures.value
+    jobs_fit s c.requires.kept (rules_of s) (c.requires.kept.stands c.requires.admin.0 c.requires.admin.1) c.requires.admin c.in-Some.pick.n
+    (of_next s c.in-Some.pick (λ (p : Pick). s.outstanding + p.n ≤ max_outstanding) c.in-Some.ensures.by_what_is_kept c.requires.places)
+
+pub dispatch_oldest-requires-clause-few : goal.dispatch_oldest-requires-clause-few
+dispatch_oldest-requires-clause-few c =
+    let s = c.args.self.now in
+    few_tickets s c.requires.kept (rules_of s) (c.requires.kept.stands c.requires.admin.0 c.requires.admin.1) c.in-Some.pick.n
     (of_next s c.in-Some.pick (λ (p : Pick). s.outstanding + p.n ≤ max_outstanding) c.in-Some.ensures.by_what_is_kept c.requires.places)
 
 pub returns-clause-kept : goal.returns-clause-kept
@@ -64,10 +54,9 @@ returns-clause-kept c = io-kept c.args.self.now _ c.requires.kept c.requires.adm
     (of_next c.args.self.now c.in-Some.pick (λ (p : Pick). p.qid ≢ 0) c.in-Some.ensures.by_what_is_kept c.requires.io)
     c.seen-seen.result c.seen-seen.ensures.seen
     c.in-Some-sq.queue (sym c.sq.ensures ∙ c.in-Some-sq.is) c.from.result c.from.ensures c.index_mut-sq.result.now c.index_mut-sq.ensures.value
-    c.in-Some-queue.attachment c.in-Some-queue.is c.from-2.result c.from-2.ensures c.index_mut-cq.result.now c.index_mut-cq.ensures.value
     (config_by c.args.self.now.config _) refl refl refl refl refl
-    (λ t. set c.args.self.now.sqs.items c.from.result (record c.index_mut-sq.result.now { window = c.execute_oldest.ensures.window t; unposted = c.index_mut-sq.result.now.unposted + c.in-Some.pick.n }))
-    (λ t. set c.args.self.now.cqs.items c.from-2.result (record c.index_mut-cq.result.now { ready = c.execute_oldest.ensures.ready t }))
+    (λ t. set c.args.self.now.sqs.items c.from.result (record c.index_mut-sq.result.now { window = c.dispatch_oldest.ensures.window t; unposted = c.index_mut-sq.result.now.unposted + c.in-Some.pick.n }))
+    refl c.dispatch_oldest.ensures.jobs
     (c.note.ensures.items ∙ ap (λ (xs : List Event). xs ++ event.Pick c.seen-seen.result c.in-Some.pick ∷ []) c.make_room.ensures.same)
     c.in_ok-make_room.ensures.within
 
@@ -77,10 +66,9 @@ returns-clause-goes c = io-goes c.args.self.now _ c.requires.kept c.requires.adm
     (of_next c.args.self.now c.in-Some.pick (λ (p : Pick). p.qid ≢ 0) c.in-Some.ensures.by_what_is_kept c.requires.io)
     c.seen-seen.result c.seen-seen.ensures.seen
     c.in-Some-sq.queue (sym c.sq.ensures ∙ c.in-Some-sq.is) c.from.result c.from.ensures c.index_mut-sq.result.now c.index_mut-sq.ensures.value
-    c.in-Some-queue.attachment c.in-Some-queue.is c.from-2.result c.from-2.ensures c.index_mut-cq.result.now c.index_mut-cq.ensures.value
     (config_by c.args.self.now.config _) refl refl refl refl refl
-    (λ t. set c.args.self.now.sqs.items c.from.result (record c.index_mut-sq.result.now { window = c.execute_oldest.ensures.window t; unposted = c.index_mut-sq.result.now.unposted + c.in-Some.pick.n }))
-    (λ t. set c.args.self.now.cqs.items c.from-2.result (record c.index_mut-cq.result.now { ready = c.execute_oldest.ensures.ready t }))
+    (λ t. set c.args.self.now.sqs.items c.from.result (record c.index_mut-sq.result.now { window = c.dispatch_oldest.ensures.window t; unposted = c.index_mut-sq.result.now.unposted + c.in-Some.pick.n }))
+    refl c.dispatch_oldest.ensures.jobs
     (c.note.ensures.items ∙ ap (λ (xs : List Event). xs ++ event.Pick c.seen-seen.result c.in-Some.pick ∷ []) c.make_room.ensures.same)
     c.in_ok-make_room.ensures.within
 

@@ -3,7 +3,7 @@ use Rattle.std.proofs.Common.{◌-◌, ◌++◌, [], ◌∷◌, ◌∙◌, Bool,
 use Rattle.std.specs.Vec.{with_item}
 use Rattle.nvme_front.specs.declared.state.FrontState.{FrontState}
 use Rattle.nvme_front.specs.Standing.{one_if}
-use Rattle.nvme_front.specs.Steps.{post_event}
+use Rattle.nvme_front.proofs.AfterSteps.{post_event}
 use Rattle.nvme_front.proofs.States.{IsSame-refl, kept_same, Goes-same}
 use Rattle.nvme_front.proofs.PostOne.{IsPosted, none_ready, front_foremost, few_posted, put_back, same_first, front_unposted, posted-kept, posted-goes}
 use Rattle.nvme_front.proofs.PickCounts.{picks-noted}
@@ -40,6 +40,7 @@ returns-then-not-post-clause-kept c =
       table = refl;
       outstanding = refl;
       deletion = refl;
+      jobs = refl;
       late = refl;
       config = refl;
       alloc = refl;
@@ -55,6 +56,7 @@ returns-then-not-post-clause-goes c =
       table = refl;
       outstanding = refl;
       deletion = refl;
+      jobs = refl;
       late = refl;
       config = refl;
       alloc = refl;
@@ -112,6 +114,7 @@ posted c = record {
   board = refl;
   table = refl;
   deletion = refl;
+  jobs = refl;
   late = refl;
   config = refl;
   alloc = refl;

@@ -1,0 +1,21 @@
+-- The front stays the same from result to result, and as long as none was gained nothing changed.
+use Rattle.std.proofs.Common.{◌≡◌, ◌<◌, length, true, false}
+use Rattle.nvme_front.specs.Jobs.{gained_count}
+use Rattle.nvme_front.specs.Standing.{IsKept}
+use Rattle.nvme_front.specs.Goes.{Goes, IsSame, HasAdmin}
+use Rattle.nvme_front.proofs.state.FrontState.gain.Given as goal
+
+abbrev pub invariant-loop-gained : goal.invariant-loop-gained
+invariant-loop-gained l = record {
+  kept : IsKept l.self;
+  goes : Goes l.fn.self l.self;
+  log : l.self.log.items ≡ l.fn.self.log.items;
+  deletion : l.self.deletion ≡ l.fn.self.deletion;
+  admin : HasAdmin l.self;
+  seat : l.self.jobs.hands.seat.lane ≡ l.fn.lanes;
+  more : l.gained ≡ true → gained_count l.fn.self.jobs.hands < gained_count l.self.jobs.hands;
+  still : l.gained ≡ false → IsSame l.fn.self l.self;
+}
+
+abbrev pub decreases-loop-gained : goal.decreases-loop-gained
+decreases-loop-gained l = length l.self.jobs.hands.running

@@ -1,0 +1,21 @@
+-- The front stays the same from job to job, and as long as none was handed nothing changed.
+use Rattle.std.proofs.Common.{◌≡◌, ◌<◌, length, true, false}
+use Rattle.nvme_front.specs.Standing.{IsKept}
+use Rattle.nvme_front.specs.Goes.{Goes, IsSame, HasAdmin}
+use Rattle.nvme_front.proofs.state.FrontState.hand.Given as goal
+
+abbrev pub invariant-loop-handed : goal.invariant-loop-handed
+invariant-loop-handed g l = record {
+  kept : IsKept l.self;
+  goes : Goes l.fn.self l.self;
+  log : l.self.log.items ≡ l.fn.self.log.items;
+  deletion : l.self.deletion ≡ l.fn.self.deletion;
+  ends : l.self.jobs.hands.seat.ends ≡ l.fn.self.jobs.hands.seat.ends;
+  admin : HasAdmin l.self;
+  seat : l.self.jobs.hands.seat.lane ≡ l.fn.lanes;
+  more : l.handed ≡ true → length l.fn.self.jobs.hands.seat.handed < length l.self.jobs.hands.seat.handed;
+  still : l.handed ≡ false → IsSame l.fn.self l.self;
+}
+
+abbrev pub decreases-loop-handed : goal.decreases-loop-handed
+decreases-loop-handed g l = length l.self.jobs.hands.unhanded

@@ -1,0 +1,15 @@
+-- What a job that is handed leaves; where none was handed nothing changed.
+use Rattle.nvme_front.proofs.GainOne.{same_jobs, hand-goes, hand-kept, jobs_have_room}
+use Rattle.nvme_front.proofs.state.FrontState.hand_one.Goals as goal
+
+pub returns-clause-kept : goal.returns-clause-kept
+returns-clause-kept g c = hand-kept c.args.self.now _ c.hand.new.self c.hand.result c.hand.ensures.none c.hand.ensures.one c.requires.kept c.requires.admin
+
+pub returns-clause-goes : goal.returns-clause-goes
+returns-clause-goes g c = hand-goes c.args.self.now _ c.hand.new.self c.hand.result c.hand.ensures.none c.hand.ensures.one
+
+pub returns-clause-still : goal.returns-clause-still
+returns-clause-still g c = λ no. same_jobs c.args.self.now _ c.hand.new.self (c.hand.ensures.none no)
+
+pub hand-requires-clause-room : goal.hand-requires-clause-room
+hand-requires-clause-room g c = jobs_have_room c.args.self.now c.requires.kept c.requires.admin

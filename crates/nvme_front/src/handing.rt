@@ -1,0 +1,110 @@
+// The jobs that are handed to the workers, and the results that are gained from them.
+use crate::candidate::Ready;
+use crate::front::FrontError;
+use crate::jobs::Gained;
+use crate::state::FrontState;
+use nvme_pool::Lanes;
+use std::sync::Wait;
+
+impl FrontState {
+    ghost use Rattle.std.specs.Prelude.{◌≡◌, ℕ, ◌<◌, true, false, length, IfErr};
+    ghost use Rattle.std.specs.List.{All};
+    ghost use Rattle.nvme_pool.specs.Seat.{IsUnknown};
+    ghost use Rattle.nvme_front.specs.Standing.{IsKept};
+    ghost use Rattle.nvme_front.specs.Jobs.{gained_count};
+    ghost use Rattle.nvme_front.specs.Goes.{Goes, IsSame, HasAdmin};
+    ghost use Rattle.nvme_front.specs.View.{view_of, GainedStray};
+    ghost use Rattle.nvme_front.specs.declared.front.FrontError.TheVariants.{Stray};
+
+    // Hands the job of the oldest picked command that is not handed.
+    fn hand_one<R: Wait>(&mut self, rt: &R, lanes: &Lanes) -> bool
+        requires kept { IsKept self.old }
+        requires admin { HasAdmin self.old }
+        requires seat { self.old.jobs.hands.seat.lane ≡ lanes.now }
+        ensures kept { IsKept self.new }
+        ensures goes { Goes self.old self.new }
+        ensures log { self.new.log.items ≡ self.old.log.items }
+        ensures deletion { self.new.deletion ≡ self.old.deletion }
+        ensures ends { self.new.jobs.hands.seat.ends ≡ self.old.jobs.hands.seat.ends }
+        ensures fewer { result ≡ true → length self.new.jobs.hands.unhanded < length self.old.jobs.hands.unhanded }
+        ensures more { result ≡ true → length self.old.jobs.hands.seat.handed < length self.new.jobs.hands.seat.handed }
+        ensures still { result ≡ false → IsSame self.old self.new }
+    {
+        self.jobs.hand(rt, lanes, &self.config.spaces)
+    }
+
+    /// Hands the jobs that are not handed, the oldest first, until the lane is full, and says whether any was handed.
+    pub fn hand<R: Wait>(&mut self, rt: &R, lanes: &Lanes) -> bool
+        requires kept { IsKept self.old }
+        requires admin { HasAdmin self.old }
+        requires seat { self.old.jobs.hands.seat.lane ≡ lanes.now }
+        ensures kept { IsKept self.new }
+        ensures goes { Goes self.old self.new }
+        ensures log { self.new.log.items ≡ self.old.log.items }
+        ensures deletion { self.new.deletion ≡ self.old.deletion }
+        ensures ends { self.new.jobs.hands.seat.ends ≡ self.old.jobs.hands.seat.ends }
+        ensures more { result ≡ true → length self.old.jobs.hands.seat.handed < length self.new.jobs.hands.seat.handed }
+        ensures still { result ≡ false → IsSame self.old self.new }
+    {
+        let mut handed = false;
+        while self.hand_one(rt, lanes) {
+            handed = true;
+        }
+        handed
+    }
+
+    // Gains a result. Its completion is then ready.
+    fn gain_one(&mut self, lanes: &Lanes) -> Result<bool, FrontError>
+        requires kept { IsKept self.old }
+        requires admin { HasAdmin self.old }
+        requires seat { self.old.jobs.hands.seat.lane ≡ lanes.now }
+        ensures kept { IsKept self.new }
+        ensures goes { Goes self.old self.new }
+        ensures log { self.new.log.items ≡ self.old.log.items }
+        ensures deletion { self.new.deletion ≡ self.old.deletion }
+        ensures fewer { result ≡ Ok true → length self.new.jobs.hands.running < length self.old.jobs.hands.running }
+        ensures more { result ≡ Ok true → gained_count self.old.jobs.hands < gained_count self.new.jobs.hands }
+        ensures still { result ≡ Ok false → IsSame self.old self.new × All IsUnknown self.old.jobs.hands.seat.ends }
+        ensures stray { IfErr result (λ e. (ticket : ℕ) × (e ≡ Stray ticket) × GainedStray ticket (view_of self.old) (view_of self.new)) }
+    {
+        let (dispatched, finished) = match self.jobs.gain(lanes, &self.config.spaces) {
+            Gained::Nothing => return Ok(false),
+            Gained::Stray(ticket) => return Err(FrontError::Stray(ticket)),
+            Gained::Result(dispatched, finished) => (dispatched, finished),
+        };
+        let Some(attachment) = self.sqs[usize::from(dispatched.region)].queue else {
+            unreachable!()
+        };
+        self.cqs[usize::from(attachment.cq_region)]
+            .ready
+            .push(Ready {
+                region: dispatched.region,
+                index: dispatched.index,
+                entry: dispatched.entry,
+                aborted: false,
+                status: finished.status(),
+                dw0: 0,
+            });
+        Ok(true)
+    }
+
+    /// Gains results until none is there, and says whether any was gained.
+    pub fn gain(&mut self, lanes: &Lanes) -> Result<bool, FrontError>
+        requires kept { IsKept self.old }
+        requires admin { HasAdmin self.old }
+        requires seat { self.old.jobs.hands.seat.lane ≡ lanes.now }
+        ensures kept { IsKept self.new }
+        ensures goes { Goes self.old self.new }
+        ensures log { self.new.log.items ≡ self.old.log.items }
+        ensures deletion { self.new.deletion ≡ self.old.deletion }
+        ensures more { result ≡ Ok true → gained_count self.old.jobs.hands < gained_count self.new.jobs.hands }
+        ensures still { result ≡ Ok false → IsSame self.old self.new × All IsUnknown self.old.jobs.hands.seat.ends }
+        ensures stray { IfErr result (λ e. (ticket : ℕ) × (e ≡ Stray ticket) × GainedStray ticket (view_of self.old) (view_of self.new)) }
+    {
+        let mut gained = false;
+        while self.gain_one(lanes)? {
+            gained = true;
+        }
+        Ok(gained)
+    }
+}

@@ -1,0 +1,207 @@
+// The jobs of picked I/O commands: which are handed to the workers, and which wait for their result.
+ghost use Rattle.std.specs.Prelude.{◌≡◌, ◌↔◌, ◌<◌, IsTrue, IfSome, IfNone, length, slice_index_or};
+ghost use Rattle.std.specs.List.{All};
+ghost use Rattle.nvme_pool.specs.Jobs.{job_of};
+ghost use Rattle.nvme_front.specs.Jobs.{job_in, IsOfNone};
+ghost use Rattle.nvme_front.specs.declared.candidate.Dispatched.{Dispatched};
+
+use crate::candidate::{Candidate, Dispatched};
+use crate::fifo::Fifo;
+use crate::limits::MAX_OUTSTANDING;
+use nvme_entry::Namespaces;
+use nvme_pool::{Finished, FrontSeat, Job, Lanes, Worker, close};
+use std::alloc::Global;
+use std::marker::Model;
+use std::snapshot::Snapshot;
+use std::sync::Wait;
+
+/// The front's seat at its workers, the picked commands whose job isn't handed yet, and those whose job was handed and
+/// whose result isn't gained yet, both the oldest first. Tickets count the picked commands from 0.
+#[derive(Drop)]
+pub struct Jobs {
+    seat: FrontSeat,
+    // The seat as it was given to the front.
+    came: Snapshot<FrontSeat>,
+    tickets: u32,
+    unhanded: Fifo<Dispatched>,
+    running: Vec<Dispatched>,
+}
+
+impl Model for Jobs {
+    ghost use Rattle.std.specs.Prelude.{◌≤◌, vec_capacity};
+    ghost use Rattle.nvme_front.specs.Jobs.{JobsView};
+
+    ghost Value = { JobsView };
+
+    ghost view = { λ j. record { hands = record { came = j.came.value; seat = j.seat; unhanded = j.unhanded.items; running = j.running.items }; tickets = j.tickets; room = j.unhanded.room } };
+
+    ghost invariant = { λ j. j.unhanded.room ≤ vec_capacity j.running };
+}
+
+/// What a look for a result came to.
+#[derive(Clone, Copy, Debug, PartialEq, Eq)]
+pub enum Gained {
+    /// No result was there.
+    Nothing,
+    /// The result of a picked command, which doesn't wait for it any more.
+    Result(Dispatched, Finished),
+    /// A result with this ticket, which is of no command that waits for its result. It is dropped.
+    Stray(u32),
+}
+
+// The job of a picked command.
+fn job_for(dispatched: &Dispatched, spaces: &Namespaces) -> Job
+    ensures { result ≡ job_in spaces.now dispatched.now }
+{
+    Job {
+        ticket: dispatched.ticket,
+        entry: dispatched.entry,
+        spaces: *spaces,
+    }
+}
+
+// A result has the ticket, the command and the namespaces of a picked command's job.
+fn is_result_of(finished: &Finished, dispatched: &Dispatched, spaces: &Namespaces) -> bool
+    ensures { IsTrue result ↔ (job_of finished.now ≡ job_in spaces.now dispatched.now) }
+{
+    finished.ticket() == dispatched.ticket
+        && finished.entry() == dispatched.entry
+        && finished.spaces() == *spaces
+}
+
+// Which of the picked commands a result is of.
+fn find(running: &[Dispatched], finished: &Finished, spaces: &Namespaces) -> Option<usize>
+    ensures there { IfSome result (λ i. i < length running.now) }
+    ensures found { IfSome result (λ i. (d : Dispatched) → job_of finished.now ≡ job_in spaces.now (slice_index_or running.now i d)) }
+    ensures none { IfNone result (IsOfNone spaces.now running.now finished.now) }
+{
+    running
+        .iter()
+        .position(|dispatched| is_result_of(finished, dispatched, spaces))
+}
+
+impl Jobs {
+    ghost use Rattle.std.specs.Prelude.{◌≡◌, ◌⊎◌, ◌+◌, ◌^◌, ◌<◌, ◌≤◌, [], ◌∷◌, ◌++◌, length, true, false, OnOk, IfErr};
+    ghost use Rattle.nvme_pool.specs.Pool.{IsPool};
+    ghost use Rattle.nvme_front.specs.Limits.{max_outstanding};
+    ghost use Rattle.nvme_front.specs.Jobs.{HandsOne, GainsBy, IsClosed};
+
+    /// No job was handed, and there is no room yet.
+    pub fn new(alloc: Global, seat: FrontSeat) -> Jobs
+        ensures { result ≡ record { hands = record { came = seat; seat = seat; unhanded = []; running = [] }; tickets = 0; room = 0 } }
+    {
+        let came = Snapshot::of(&seat);
+        Jobs {
+            seat,
+            came,
+            tickets: 0,
+            unhanded: Fifo::empty(alloc),
+            running: Vec::new(alloc),
+        }
+    }
+
+    /// Makes room for as many commands of each kind as may be outstanding. False where memory for it was refused.
+    pub fn make_room(&mut self, alloc: Global) -> bool
+        requires { (self.old.room ≡ max_outstanding) ⊎ (self.old.hands.unhanded ≡ []) }
+        ensures same { self.new ≡ record self.old { room = self.new.room } }
+        ensures room { result ≡ true → self.new.room ≡ max_outstanding }
+        ensures kept { self.old.room ≡ max_outstanding → self.new.room ≡ max_outstanding }
+    {
+        let room = usize::from(MAX_OUTSTANDING);
+        if self.unhanded.room() == room {
+            return true;
+        }
+        if self.running.reserve(room).is_err() {
+            return false;
+        }
+        let Some(unhanded) = Fifo::new(alloc, room) else {
+            return false;
+        };
+        self.unhanded = unhanded;
+        true
+    }
+
+    /// A command was picked: it gets the next ticket, and its job is to be handed.
+    pub fn add(&mut self, region: u8, candidate: Candidate)
+        requires room { length self.old.hands.unhanded < self.old.room }
+        requires few { self.old.tickets + 1 < 2 ^ 32 }
+        ensures { self.new ≡ record self.old {
+          hands = record self.old.hands { unhanded = self.old.hands.unhanded ++ record { ticket = self.old.tickets; region = region; index = candidate.index; entry = candidate.entry } ∷ [] };
+          tickets = self.old.tickets + 1;
+        } }
+    {
+        self.unhanded.push(Dispatched {
+            ticket: self.tickets,
+            region,
+            index: candidate.index,
+            entry: candidate.entry,
+        });
+        self.tickets += 1;
+    }
+
+    /// Hands the job of the command that was picked first of those that are not handed. False where there is none or
+    /// the lane is full; nothing changed then.
+    pub fn hand<R: Wait>(&mut self, rt: &R, lanes: &Lanes, spaces: &Namespaces) -> bool
+        requires seat { self.old.hands.seat.lane ≡ lanes.now }
+        requires room { length self.old.hands.running + length self.old.hands.unhanded ≤ self.old.room }
+        ensures none { result ≡ false → self.new ≡ self.old }
+        ensures one { result ≡ true → HandsOne spaces.now self.old self.new }
+    {
+        let Some(dispatched) = self.unhanded.front() else {
+            return false;
+        };
+        let job = job_for(&dispatched, spaces);
+        if self.seat.hand(rt, lanes, job).is_err() {
+            return false;
+        }
+        let _handed = self.unhanded.pop();
+        self.running.push_reserved(dispatched);
+        true
+    }
+
+    /// Closes the pool of the seat. Where memory for that was refused all comes back, unchanged.
+    pub fn close<R: Wait>(
+        self,
+        rt: &R,
+        alloc: Global,
+        lanes: Lanes,
+        workers: Vec<Worker>,
+    ) -> Result<(), (Jobs, Lanes, Vec<Worker>)>
+        requires { IsPool lanes self.hands.seat workers.items }
+        ensures closed { OnOk result (IsClosed self.hands.seat workers.items) }
+        ensures back { IfErr result (λ e. (e.0 ≡ self) × (e.1 ≡ lanes) × (e.2.items ≡ workers.items)) }
+    {
+        let Jobs {
+            seat,
+            came,
+            tickets,
+            unhanded,
+            running,
+        } = self;
+        let Err((_, lanes, seat, workers)) = close(rt, alloc, lanes, seat, workers) else {
+            return Ok(());
+        };
+        let jobs = Jobs {
+            seat,
+            came,
+            tickets,
+            unhanded,
+            running,
+        };
+        Err((jobs, lanes, workers))
+    }
+
+    /// Gains a result, and finds the command that waits for it.
+    pub fn gain(&mut self, lanes: &Lanes, spaces: &Namespaces) -> Gained
+        requires seat { self.old.hands.seat.lane ≡ lanes.now }
+        ensures { GainsBy spaces.now self.old self.new result }
+    {
+        let Some(finished) = self.seat.gain(lanes) else {
+            return Gained::Nothing;
+        };
+        let Some(i) = find(self.running.as_slice(), &finished, spaces) else {
+            return Gained::Stray(finished.ticket());
+        };
+        Gained::Result(self.running.remove(i), finished)
+    }
+}

@@ -1,0 +1,239 @@
+// A front with its hosts, which are driven from one thread.
+ghost use Rattle.std.specs.Prelude.{◌≡◌, ◌≤◌, ◌<◌, ◌++◌, ◌∷◌, [], length, map, IfOk, OnErr};
+ghost use Rattle.nvme_lane.specs.View.{SamePut, SameGet};
+ghost use Rattle.nvme_lane.specs.Feeder.{put_of};
+ghost use Rattle.nvme_lane.specs.Drainer.{get_of};
+ghost use Rattle.nvme_front.specs.Limits.{most_events};
+ghost use Rattle.nvme_front.specs.Goes.{get_place, put_place};
+ghost use Rattle.nvme_front.specs.Hosts.{IsFedBy, IsDrainedBy, feeder_place, drainer_place};
+
+use crate::again::{add_cq_again, add_sq_again, list_again, reserve_again, ring_again, take_again};
+use nvme_admin::Limits;
+use nvme_arbiter::{Mechanism, Settings};
+use nvme_entry::{Cqe, Namespaces, Sqe};
+use nvme_front::{Event, Front, FrontConfig, FrontError, Step};
+use nvme_lane::{Drainer, Feed, Feeder, NoMemory};
+use nvme_pool::{FrontSeat, Lanes};
+use std::alloc::Global;
+use std::sync::Wait;
+use std::test::Fail;
+
+/// The address of the admin queue's submission region.
+pub const ADMIN_SQ: u64 = 0x1000;
+
+/// The address of the admin queue's completion region.
+pub const ADMIN_CQ: u64 = 0x8000;
+
+/// A front, a feeder for each of its submission regions, and a drainer for each of its completion regions. Its type keeps
+/// that the hosts are the other ends of the front's rings, that both admin regions are there, and that no job was handed
+/// by the front's seat before the front was given it.
+#[derive(Drop)]
+pub struct Hosted {
+    pub front: Front,
+    pub feeders: Vec<Feeder<Sqe>>,
+    pub drainers: Vec<Drainer<Cqe>>,
+    pub ghost fed: { IsFedBy front feeders.items },
+    pub ghost drained: { IsDrainedBy front drainers.items },
+    pub ghost admin_sq: { 0 < length front.gets },
+    pub ghost admin_cq: { 0 < length front.puts },
+    pub ghost none_before: { front.hands.came.handed ≡ [] },
+}
+
+/// Round robin, with 16 queues of each kind and one namespace of 1,000 blocks.
+pub fn config(settings: u32, max_events: u32) -> Result<FrontConfig, Fail>
+    requires { max_events ≤ most_events }
+{
+    let spaces = Namespaces::new(&[1000])?;
+    Ok(FrontConfig {
+        mechanism: Mechanism::RoundRobin,
+        settings: Settings::from_cdw11(settings),
+        limits: Limits { nsq: 16, ncq: 16 },
+        spaces,
+        max_events,
+    })
+}
+
+// Adds a submission region, and gives the host's end of it with the host's script.
+fn sq_region(
+    alloc: Global,
+    front: &mut Front,
+    address: u64,
+    slots: u16,
+    script: &[Sqe],
+) -> Result<Feeder<Sqe>, Fail>
+    ensures gets { IfOk result (λ f. map get_place front.new.gets ≡ map get_place front.old.gets ++ feeder_place f ∷ []) }
+    ensures puts { front.new.puts ≡ front.old.puts }
+    ensures hands { front.new.hands ≡ front.old.hands }
+    ensures unchanged { OnErr result (front.new ≡ front.old) }
+{
+    let script = list_again(alloc, script)?;
+    let (put, get) = ring_again(alloc, address, slots)?;
+    add_sq_again(front, get)?;
+    Ok(Feeder::new(script, put))
+}
+
+// Adds a completion region, and gives the host's end of it.
+fn cq_region(
+    alloc: Global,
+    front: &mut Front,
+    address: u64,
+    slots: u16,
+) -> Result<Drainer<Cqe>, Fail>
+    ensures puts { IfOk result (λ d. map put_place front.new.puts ≡ map put_place front.old.puts ++ drainer_place d ∷ []) }
+    ensures gets { front.new.gets ≡ front.old.gets }
+    ensures hands { front.new.hands ≡ front.old.hands }
+    ensures unchanged { OnErr result (front.new ≡ front.old) }
+{
+    let (put, get) = ring_again(alloc, address, slots)?;
+    add_cq_again(front, put)?;
+    Ok(Drainer::new(alloc, get))
+}
+
+// Puts so many entries at most, as the ring takes them. The answer is how many were put.
+fn put_some(feeder: &mut Feeder<Sqe>, most: u16) -> u16
+    ensures { SamePut (put_of feeder.old) (put_of feeder.new) }
+{
+    for put in 0..most {
+        if feeder.step() != Feed::Put {
+            return put;
+        }
+    }
+    most
+}
+
+// Takes so many completions at most. The answer is how many were taken.
+fn take_some(drainer: &mut Drainer<Cqe>, most: u16) -> Result<u16, NoMemory>
+    ensures { SameGet (get_of drainer.old) (get_of drainer.new) }
+{
+    for took in 0..most {
+        if !take_again(drainer)? {
+            return Ok(took);
+        }
+    }
+    Ok(most)
+}
+
+impl Hosted {
+    ghost use Rattle.std.specs.Prelude.{◌≡◌, [], IfOk};
+    ghost use Rattle.nvme_pool.specs.Seat.{SameSeat};
+
+    /// A front with its admin regions, of so many slots each, and with a seat that handed nothing.
+    pub fn new(
+        alloc: Global,
+        config: FrontConfig,
+        seat: FrontSeat,
+        sq_slots: u16,
+        cq_slots: u16,
+        script: &[Sqe],
+    ) -> Result<Hosted, Fail>
+        requires { seat.handed ≡ [] }
+        ensures { IfOk result (λ h. h.front.hands.seat ≡ seat) }
+    {
+        let mut front = Front::new(alloc, config, seat);
+        let mut feeders = Vec::new(alloc);
+        let mut drainers = Vec::new(alloc);
+        reserve_again(&mut feeders)?;
+        reserve_again(&mut drainers)?;
+        let feeder = sq_region(alloc, &mut front, ADMIN_SQ, sq_slots, script)?;
+        let drainer = cq_region(alloc, &mut front, ADMIN_CQ, cq_slots)?;
+        feeders.push_reserved(feeder);
+        drainers.push_reserved(drainer);
+        Ok(Hosted {
+            front,
+            feeders,
+            drainers,
+        })
+    }
+
+    /// Adds a submission region, with the script of its host.
+    pub fn add_sq(
+        &mut self,
+        alloc: Global,
+        address: u64,
+        slots: u16,
+        script: &[Sqe],
+    ) -> Result<(), Fail>
+        ensures { self.new.front.hands ≡ self.old.front.hands }
+    {
+        reserve_again(&mut self.feeders)?;
+        let feeder = sq_region(alloc, &mut self.front, address, slots, script)?;
+        self.feeders.push_reserved(feeder);
+        Ok(())
+    }
+
+    /// Adds a completion region.
+    pub fn add_cq(&mut self, alloc: Global, address: u64, slots: u16) -> Result<(), Fail>
+        ensures { self.new.front.hands ≡ self.old.front.hands }
+    {
+        reserve_again(&mut self.drainers)?;
+        let drainer = cq_region(alloc, &mut self.front, address, slots)?;
+        self.drainers.push_reserved(drainer);
+        Ok(())
+    }
+
+    /// The host of a submission region submits so many entries at most. The answer is how many it submitted.
+    pub fn submit(&mut self, region: usize, most: u16) -> u16
+        ensures { self.new.front ≡ self.old.front }
+    {
+        if region >= self.feeders.len() {
+            return 0;
+        }
+        put_some(&mut self.feeders[region], most)
+    }
+
+    /// Each host submits so many entries at most.
+    pub fn submit_all(&mut self, most: u16)
+        ensures { self.new.front ≡ self.old.front }
+    {
+        for region in 0..self.feeders.len() {
+            let _put = self.submit(region, most);
+        }
+    }
+
+    /// The host of a completion region collects so many completions at most. The answer is how many it collected.
+    pub fn collect(&mut self, region: usize, most: u16) -> Result<u16, NoMemory>
+        ensures { self.new.front ≡ self.old.front }
+    {
+        if region >= self.drainers.len() {
+            return Ok(0);
+        }
+        take_some(&mut self.drainers[region], most)
+    }
+
+    /// Each host collects what its ring holds.
+    pub fn collect_all(&mut self) -> Result<(), NoMemory>
+        ensures { self.new.front ≡ self.old.front }
+    {
+        for region in 0..self.drainers.len() {
+            self.collect(region, 256)?;
+        }
+        Ok(())
+    }
+
+    /// One turn. Where it is refused memory it goes on in another.
+    pub fn turn<R: Wait>(&mut self, rt: &R, lanes: &Lanes) -> Result<Step, FrontError>
+        requires { self.old.front.hands.seat.lane ≡ lanes.now }
+        ensures { SameSeat self.old.front.hands.seat self.new.front.hands.seat }
+    {
+        let step = self.front.turn(rt, lanes);
+        if step == Err(FrontError::NoMemory) {
+            return self.front.turn(rt, lanes);
+        }
+        step
+    }
+
+    /// The front's log.
+    pub fn log(&self) -> &[Event] {
+        self.front.log()
+    }
+
+    /// Whether the front is clear.
+    pub fn is_clear(&self) -> bool {
+        self.front.is_clear()
+    }
+
+    /// Whether the front serves a submission region.
+    pub fn is_serving(&self, region: u8) -> bool {
+        self.front.is_serving(region)
+    }
+}
