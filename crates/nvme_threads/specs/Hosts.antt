@@ -1,0 +1,23 @@
+-- What a host is, whatever it submitted or collected (profile).
+use Rattle.std.specs.Prelude.{◌≡◌, ℕ, List}
+use Rattle.nvme_entry.specs.declared.submission.Sqe.{Sqe}
+use Rattle.nvme_entry.specs.declared.completion.Cqe.{Cqe}
+use Rattle.nvme_lane.specs.View.{RingName}
+use Rattle.nvme_lane.specs.Feeder.{script_of}
+use Rattle.nvme_lane.specs.declared.feeder.Feeder.{Feeder}
+use Rattle.nvme_lane.specs.declared.drainer.Drainer.{Drainer}
+use Rattle.nvme_front.specs.Hosts.{feeder_place, drainer_place}
+
+-- the script of a feeder, and the end that it has
+abbrev pub feeder_seen : Feeder Sqe → List Sqe × (RingName × ℕ × ℕ)
+feeder_seen f = (script_of f, feeder_place f)
+
+-- the end that a drainer has
+abbrev pub drainer_seen : Drainer Cqe → RingName × ℕ × ℕ
+drainer_seen d = drainer_place d
+
+abbrev pub IsSameFeeder : Feeder Sqe → Feeder Sqe → Type 0
+IsSameFeeder a b = feeder_seen b ≡ feeder_seen a
+
+abbrev pub IsSameDrainer : Drainer Cqe → Drainer Cqe → Type 0
+IsSameDrainer a b = drainer_seen b ≡ drainer_seen a

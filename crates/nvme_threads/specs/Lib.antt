@@ -1,0 +1,3 @@
+pub mod Hosts
+pub mod Runs
+pub mod Faults

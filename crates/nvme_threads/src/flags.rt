@@ -1,0 +1,100 @@
+// What the threads tell one another. No contract rests on it.
+use std::alloc::Global;
+use std::sync::atomic::{AtomicU64, Ordering};
+
+/// What the threads tell one another.
+#[derive(Drop)]
+pub struct Flags {
+    // How many feeders there are.
+    feeders: u64,
+    // How many of them have ended.
+    fed: AtomicU64,
+    // The feeder of the admin queue has ended.
+    admin_fed: AtomicU64,
+    // Each feeder is to end, though its script isn't sent.
+    unfed: Vec<AtomicU64>,
+    // Every thread is to end.
+    over: AtomicU64,
+    // A thread was refused memory.
+    starved: AtomicU64,
+}
+
+impl Flags {
+    /// No feeder of so many has ended, and nothing was told. None where memory was refused.
+    pub fn new(alloc: Global, feeders: usize) -> Option<Flags> {
+        let mut unfed = Vec::new(alloc);
+        for _ in 0..feeders {
+            if unfed.push(AtomicU64::new(0)).is_err() {
+                return None;
+            }
+        }
+        Some(Flags {
+            feeders: feeders as u64,
+            fed: AtomicU64::new(0),
+            admin_fed: AtomicU64::new(0),
+            unfed,
+            over: AtomicU64::new(0),
+            starved: AtomicU64::new(0),
+        })
+    }
+
+    /// The feeder of a region has ended.
+    pub fn tell_fed(&self, region: usize) {
+        if region == 0 {
+            self.admin_fed.store(1, Ordering::SeqCst);
+        }
+        self.fed.fetch_add(1, Ordering::SeqCst);
+    }
+
+    /// All feeders have ended.
+    pub fn are_all_fed(&self) -> bool {
+        self.fed.load(Ordering::SeqCst) >= self.feeders
+    }
+
+    /// The feeder of the admin queue has ended.
+    pub fn is_admin_fed(&self) -> bool {
+        self.admin_fed.load(Ordering::SeqCst) > 0
+    }
+
+    /// The feeder of a region is to end.
+    pub fn stop_feeding(&self, region: usize) {
+        if let Some(flag) = self.unfed.get(region) {
+            flag.store(1, Ordering::SeqCst);
+        }
+    }
+
+    /// The feeder of a region is to end.
+    pub fn is_unfed(&self, region: usize) -> bool {
+        let is_told = self
+            .unfed
+            .get(region)
+            .is_some_and(|flag| flag.load(Ordering::SeqCst) > 0);
+        is_told || self.is_over()
+    }
+
+    /// Every thread is to end.
+    pub fn end(&self) {
+        self.over.store(1, Ordering::SeqCst);
+        self.over.wake_all();
+    }
+
+    /// Every thread is to end.
+    pub fn is_over(&self) -> bool {
+        self.over.load(Ordering::SeqCst) > 0
+    }
+
+    /// What a thread sleeps on until all is over.
+    pub fn until_over(&self) -> &AtomicU64 {
+        &self.over
+    }
+
+    /// A thread was refused memory.
+    pub fn tell_starved(&self) {
+        self.starved.store(1, Ordering::SeqCst);
+    }
+
+    /// A thread was refused memory.
+    pub fn is_starved(&self) -> bool {
+        self.starved.load(Ordering::SeqCst) > 0
+    }
+}

@@ -1,0 +1,13 @@
+//! Drives a front with its hosts and its workers, each on a thread of its own, and the front on the calling thread.
+#![tactic(auto)]
+
+mod draining;
+mod driving;
+mod feeding;
+mod flags;
+mod joining;
+mod pausing;
+mod serving;
+mod working;
+
+pub use driving::{DriveError, Feeding, drive};
