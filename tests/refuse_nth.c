@@ -3,10 +3,12 @@
 #define _GNU_SOURCE
 #include <dlfcn.h>
 #include <fcntl.h>
+#include <stdatomic.h>
 #include <stdlib.h>
 #include <unistd.h>
 
-static unsigned long calls;
+/* Counted by all threads. */
+static atomic_ulong calls;
 
 static int refused(void)
 {
@@ -15,7 +17,7 @@ static int refused(void)
         const char *text = getenv("REFUSE_NTH");
         nth = text ? strtoul(text, NULL, 10) : ~0ul;
     }
-    if (++calls != nth)
+    if (atomic_fetch_add(&calls, 1) + 1 != nth)
         return 0;
     close(creat(getenv("REFUSE_TOLD"), 0600));
     return 1;

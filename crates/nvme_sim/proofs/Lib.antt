@@ -1,6 +1,13 @@
+pub mod Accounts
+pub mod Adding
 pub mod Completions
 pub mod Counted
+pub mod Driven
+pub mod Fitting
 pub mod Loops
 pub mod Parts
 pub mod PostedOnce
+pub mod Sites
+pub mod Told
+pub mod TooLong
 pub mod Writing

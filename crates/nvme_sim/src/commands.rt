@@ -1,11 +1,18 @@
-ghost use Rattle.std.specs.Prelude.{◌≤◌};
+ghost use Rattle.std.specs.Prelude.{◌≡◌, ◌≤◌, ◌⊎◌, IfErr};
+ghost use Rattle.nvme_sim.specs.declared.commands.Fault.TheVariants as fault;
+ghost use Rattle.nvme_sim.specs.declared.runs.RunError.TheVariants as run_fault;
 
 use crate::entries::{OnceError, once};
 use crate::input::{InputError, take_input};
+use crate::reports::Mode;
+use crate::runs::{RunError, run};
 use clap::error::ErrorKind;
-use clap::{Arg, ArgAction, Command, value_parser};
+use clap::{Arg, ArgAction, ArgMatches, Command, value_parser};
+use nvme_pool::MAX_WORKERS;
 use std::alloc::{AllocError, Global};
 use std::io::{Read, Write};
+use std::sync::Wait;
+use std::thread::Threads;
 use thiserror::Error;
 
 // Why the program doesn't end with status 0. Each but that of the command line is told by one line.
@@ -23,17 +30,22 @@ enum Fault {
     NoMemory(#[from] AllocError),
     #[error("nvmearb: write failed")]
     Write,
+    #[error("nvmearb: {0}")]
+    Run(RunError),
 }
 
 impl Fault {
     // The program's status: 1 for the input, 2 for the command line, 3 for what the run met.
     fn status(&self) -> u8
-        ensures { result ≤ 3 }
+        ensures range { result ≤ 3 }
+        ensures write { (self.now ≡ fault.Write) ⊎ (self.now ≡ fault.Run run_fault.Write) → result ≡ 3 }
     {
         match self {
             Fault::Entry(_) | Fault::Input(InputError::TooLong) => 1,
-            Fault::CommandLine(_) | Fault::Words => 2,
+            Fault::Run(RunError::Workload(_)) => 1,
+            Fault::CommandLine(_) | Fault::Words | Fault::Run(RunError::Workers) => 2,
             Fault::Input(_) | Fault::NoMemory(_) | Fault::Write => 3,
+            Fault::Run(_) => 3,
         }
     }
 
@@ -50,12 +62,14 @@ impl Fault {
 enum Request {
     // The completion of one entry over a namespace of so many blocks, at least 1.
     Once(u64),
+    // A run of a workload with so many workers.
+    Run(Mode, u8),
     // The text of the help.
     Help(clap::Error),
 }
 
-// The command line of the program.
-fn program<'a>(alloc: Global) -> Result<Command<'a>, AllocError> {
+// The subcommand that answers one entry.
+fn once_command<'a>(alloc: Global) -> Result<Command<'a>, AllocError> {
     let blocks = Arg::new(alloc, "blocks")
         .long("blocks")
         .value_name("B")
@@ -63,27 +77,74 @@ fn program<'a>(alloc: Global) -> Result<Command<'a>, AllocError> {
         .required(true)
         .action(ArgAction::Set)
         .value_parser(value_parser!(u64).range(1..=i64::MAX));
-    let once = Command::new(alloc, "once")
+    Command::new(alloc, "once")
         .about("Answers a submission entry, read in hexadecimal, by its completion entry")
-        .arg(blocks)?;
+        .arg(blocks)
+}
+
+// A subcommand that runs a workload.
+fn run_command<'a>(
+    alloc: Global,
+    name: &'a str,
+    about: &'a str,
+) -> Result<Command<'a>, AllocError> {
+    let workers = Arg::new(alloc, "workers")
+        .long("workers")
+        .value_name("N")
+        .help("The number of workers")
+        .required(true)
+        .action(ArgAction::Set)
+        .value_parser(value_parser!(u8).range(1..=i64::from(MAX_WORKERS)));
+    Command::new(alloc, name).about(about).arg(workers)
+}
+
+// The command line of the program.
+fn program<'a>(alloc: Global) -> Result<Command<'a>, AllocError> {
+    let loaded = run_command(
+        alloc,
+        "loaded",
+        "Runs a workload whose hosts submit all before the front begins, and prints its report",
+    )?;
+    let live = run_command(
+        alloc,
+        "live",
+        "Runs a workload whose hosts submit while the front works, and prints its report",
+    )?;
     Command::new(alloc, "nvmearb")
         .about("The command-fetching and arbitration front of an NVMe controller")
         .subcommand_required(true)
-        .subcommand(once)
+        .subcommand(once_command(alloc)?)?
+        .subcommand(loaded)?
+        .subcommand(live)
+}
+
+// The run that a subcommand of that name asks for.
+fn asked_run(matches: &ArgMatches, name: &str, mode: Mode) -> Option<Request> {
+    let workers = matches
+        .subcommand_matches(name)
+        .and_then(|asked| asked.get_one::<u8>("workers"))?;
+    Some(Request::Run(mode, workers))
+}
+
+// What the subcommand asks for.
+fn asked_in(matches: &ArgMatches) -> Option<Request> {
+    let blocks = matches
+        .subcommand_matches("once")
+        .and_then(|once| once.get_one::<u64>("blocks"));
+    if let Some(blocks) = blocks {
+        return Some(Request::Once(blocks));
+    }
+    if let Some(loaded) = asked_run(matches, "loaded", Mode::Loaded) {
+        return Some(loaded);
+    }
+    asked_run(matches, "live", Mode::Live)
 }
 
 // What the words ask for, the program's name first.
 fn asked_of(alloc: Global, words: &[String]) -> Result<Request, Fault> {
-    let matches = match program(alloc)?.try_get_matches_from(words) {
-        Ok(matches) => matches,
-        Err(error) => return refused(error),
-    };
-    let asked = matches
-        .subcommand_matches("once")
-        .and_then(|once| once.get_one::<u64>("blocks"));
-    match asked {
-        Some(blocks) => Ok(Request::Once(blocks)),
-        None => Err(Fault::Words),
+    match program(alloc)?.try_get_matches_from(words) {
+        Ok(matches) => asked_in(&matches).ok_or(Fault::Words),
+        Err(error) => refused(error),
     }
 }
 
@@ -98,31 +159,65 @@ fn refused(error: clap::Error) -> Result<Request, Fault> {
     }
 }
 
+// Answers one entry over a namespace of so many blocks.
+fn answered<R: Read + Drop, W: Write>(
+    alloc: Global,
+    blocks: u64,
+    input: R,
+    output: &mut W,
+) -> Result<(), Fault>
+    ensures untouched { IfErr result (λ e. (e ≡ fault.Write) ⊎ (output.new ≡ output.old)) }
+{
+    if blocks == 0 {
+        return Err(Fault::Words);
+    }
+    let bytes = take_input(alloc, input).map_err(Fault::Input)?;
+    let line = once(bytes.as_slice(), blocks).map_err(Fault::Entry)?;
+    output.write_all(&line).map_err(|_| Fault::Write)
+}
+
+// Runs a workload with so many workers.
+fn ran<R: Read + Drop, W: Write, T: Threads + Wait + Sync>(
+    rt: &T,
+    alloc: Global,
+    mode: Mode,
+    workers: u8,
+    input: R,
+    output: &mut W,
+) -> Result<(), Fault>
+    ensures untouched { IfErr result (λ e. (e ≡ fault.Run run_fault.Write) ⊎ (output.new ≡ output.old)) }
+{
+    let text = take_input(alloc, input).map_err(Fault::Input)?;
+    match run(rt, alloc, text.as_slice(), mode, workers, output) {
+        Ok(_) => Ok(()),
+        Err(error) => Err(Fault::Run(error)),
+    }
+}
+
 // Does what the words ask for.
-fn served<R: Read + Drop, W: Write>(
+fn served<R: Read + Drop, W: Write, T: Threads + Wait + Sync>(
+    rt: &T,
     alloc: Global,
     words: &[String],
     input: R,
     output: &mut W,
-) -> Result<(), Fault> {
+) -> Result<(), Fault>
+    ensures untouched { IfErr result (λ e. (e ≡ fault.Write) ⊎ (e ≡ fault.Run run_fault.Write) ⊎ (output.new ≡ output.old)) }
+{
     match asked_of(alloc, words)? {
         Request::Help(text) => write!(output, "{text}").map_err(|_| Fault::Write),
-        Request::Once(blocks) => {
-            if blocks == 0 {
-                return Err(Fault::Words);
-            }
-            let bytes = take_input(alloc, input).map_err(Fault::Input)?;
-            let line = once(bytes.as_slice(), blocks).map_err(Fault::Entry)?;
-            output.write_all(&line).map_err(|_| Fault::Write)
-        }
+        Request::Once(blocks) => answered(alloc, blocks, input, output),
+        Request::Run(mode, workers) => ran(rt, alloc, mode, workers, input, output),
     }
 }
 
 /// The whole program `nvmearb` over its words (the program's name first), its input, its output and its
-/// standard error. The answer is its status: 0 done; 1 the input is at fault; 2 the command line; 3 a
-/// read or a write failed, or memory was refused. With a status other than 0 one line, or the words of
-/// `clap`, went to `errors`, and a write that failed there is ignored.
-pub fn command<R: Read + Drop, W: Write, E: Write>(
+/// standard error. The answer is its status: 0 done; 1 the input is at fault; 2 the command line; 3 the run: a
+/// read or a write failed, memory was refused, or a workload couldn't be run to its end. With a status other
+/// than 0 one line, or the words of `clap`, went to `errors`, and a write that failed there is ignored. It may
+/// wait for another thread.
+pub fn command<R: Read + Drop, W: Write, E: Write, T: Threads + Wait + Sync>(
+    rt: &T,
     alloc: Global,
     words: &[String],
     input: R,
@@ -130,8 +225,9 @@ pub fn command<R: Read + Drop, W: Write, E: Write>(
     errors: &mut E,
 ) -> u8
     ensures status { result ≤ 3 }
+    ensures untouched { (result ≡ 1) ⊎ (result ≡ 2) → output.new ≡ output.old }
 {
-    match served(alloc, words, input, output) {
+    match served(rt, alloc, words, input, output) {
         Ok(()) => 0,
         Err(fault) => {
             let _ = fault.tell(errors);

@@ -9,7 +9,9 @@ use nvme_entry::{Cqe, Sqe, Status};
 use nvme_front::{Event, Sent, Settled};
 use std::alloc::{AllocError, Global};
 use std::io::{Error, ErrorKind, Read, Result, Write};
+use std::sync::Wait;
 use std::test::Fail;
+use std::thread::Threads;
 
 // A reader whose read of a number, from 0, fails, and that gives up to ten bytes of text at each other.
 #[derive(Drop)]
@@ -64,14 +66,20 @@ struct Left {
     errors: Vec<u8>,
 }
 
-fn run_of(alloc: Global, line: &[&str], input: &[u8]) -> std::result::Result<Left, AllocError> {
+// What a run of the program over these words and this input left.
+fn run_of<T: Threads + Wait + Sync>(
+    rt: &T,
+    alloc: Global,
+    line: &[&str],
+    input: &[u8],
+) -> std::result::Result<Left, AllocError> {
     let mut words = Vec::new(alloc);
     for word in line {
         words.push(String::from_str(alloc, word)?)?;
     }
     let mut output = Vec::new(alloc);
     let mut errors = Vec::new(alloc);
-    let status = command(alloc, words.as_slice(), input, &mut output, &mut errors);
+    let status = command(rt, alloc, words.as_slice(), input, &mut output, &mut errors);
     Ok(Left {
         status,
         output,
@@ -91,9 +99,13 @@ const READ: &str = "0200070001000000";
 const ONCE: [&str; 4] = ["nvmearb", "once", "--blocks", "1000"];
 
 // What the program answers to one read of 1,000 blocks.
-fn answer_to(alloc: Global, dwords: &str) -> std::result::Result<Left, AllocError> {
+fn answer_to<T: Threads + Wait + Sync>(
+    rt: &T,
+    alloc: Global,
+    dwords: &str,
+) -> std::result::Result<Left, AllocError> {
     let text = entry_of(alloc, READ, dwords)?;
-    run_of(alloc, ONCE.as_slice(), text.as_bytes())
+    run_of(rt, alloc, ONCE.as_slice(), text.as_bytes())
 }
 
 const IN_RANGE: &[u8] = b"00000000000000000100010007000100\n";
@@ -102,7 +114,7 @@ const OUT_OF_RANGE: &[u8] = b"00000000000000000100010007000101\n";
 
 #[test]
 fn read_in_range(rt: HostRuntime) -> std::result::Result<(), Fail> {
-    let left = answer_to(rt.alloc(), "100000000000000007000000")?;
+    let left = answer_to(&rt, rt.alloc(), "100000000000000007000000")?;
     assert_eq!(rt; left.output.as_slice(), IN_RANGE);
     assert_eq!(rt; left.errors.len(), 0);
     assert_eq!(rt; left.status, 0);
@@ -111,7 +123,7 @@ fn read_in_range(rt: HostRuntime) -> std::result::Result<(), Fail> {
 
 #[test]
 fn slba_beyond_every_size(rt: HostRuntime) -> std::result::Result<(), Fail> {
-    let left = answer_to(rt.alloc(), "ffffffffffffffffffff0000")?;
+    let left = answer_to(&rt, rt.alloc(), "ffffffffffffffffffff0000")?;
     assert_eq!(rt; left.output.as_slice(), OUT_OF_RANGE);
     assert_eq!(rt; left.status, 0);
     Ok(())
@@ -119,14 +131,14 @@ fn slba_beyond_every_size(rt: HostRuntime) -> std::result::Result<(), Fail> {
 
 #[test]
 fn last_block_fits(rt: HostRuntime) -> std::result::Result<(), Fail> {
-    let left = answer_to(rt.alloc(), "e00300000000000007000000")?;
+    let left = answer_to(&rt, rt.alloc(), "e00300000000000007000000")?;
     assert_eq!(rt; left.output.as_slice(), IN_RANGE);
     Ok(())
 }
 
 #[test]
 fn one_block_too_far(rt: HostRuntime) -> std::result::Result<(), Fail> {
-    let left = answer_to(rt.alloc(), "e10300000000000007000000")?;
+    let left = answer_to(&rt, rt.alloc(), "e10300000000000007000000")?;
     assert_eq!(rt; left.output.as_slice(), OUT_OF_RANGE);
     Ok(())
 }
@@ -149,7 +161,7 @@ fn entry_not_128_digits(rt: HostRuntime) -> std::result::Result<(), Fail> {
         b"".as_slice(),
         b"\n".as_slice(),
     ] {
-        let left = run_of(alloc, ONCE.as_slice(), input)?;
+        let left = run_of(&rt, alloc, ONCE.as_slice(), input)?;
         assert_eq!(rt;
             left.errors.as_slice(),
             b"nvmearb: entry: not 128 digits\n".as_slice()
@@ -167,7 +179,7 @@ fn entry_not_hexadecimal(rt: HostRuntime) -> std::result::Result<(), Fail> {
     let mut text = whole.as_bytes().to_vec(alloc)?;
     assert_eq!(rt; text.pop(), Some(b'0'));
     text.push(b'g')?;
-    let left = run_of(alloc, ONCE.as_slice(), text.as_slice())?;
+    let left = run_of(&rt, alloc, ONCE.as_slice(), text.as_slice())?;
     assert_eq!(rt;
         left.errors.as_slice(),
         b"nvmearb: entry: not hexadecimal\n".as_slice()
@@ -182,7 +194,7 @@ fn upper_case_and_newline(rt: HostRuntime) -> std::result::Result<(), Fail> {
     let alloc = rt.alloc();
     let text = entry_of(alloc, READ, "E00300000000000007000000")?;
     let line = format!(in alloc; "{text}\n")?;
-    let left = run_of(alloc, ONCE.as_slice(), line.as_bytes())?;
+    let left = run_of(&rt, alloc, ONCE.as_slice(), line.as_bytes())?;
     assert_eq!(rt; left.output.as_slice(), IN_RANGE);
     Ok(())
 }
@@ -216,7 +228,8 @@ fn largest_input(rt: HostRuntime) -> std::result::Result<(), Fail> {
 }
 
 // What the program does with an output that takes so many bytes and then fails, or answers 0.
-fn run_into(
+fn run_into<T: Threads + Wait + Sync>(
+    rt: &T,
     alloc: Global,
     line: &[&str],
     room: usize,
@@ -234,6 +247,7 @@ fn run_into(
     };
     let mut errors = Vec::new(alloc);
     let status = command(
+        rt,
         alloc,
         words.as_slice(),
         text.as_bytes(),
@@ -250,7 +264,7 @@ fn run_into(
 #[test]
 fn output_that_fails(rt: HostRuntime) -> std::result::Result<(), Fail> {
     for (room, fails) in [(10, true), (0, false)] {
-        let left = run_into(rt.alloc(), ONCE.as_slice(), room, fails)?;
+        let left = run_into(&rt, rt.alloc(), ONCE.as_slice(), room, fails)?;
         assert_eq!(rt; left.output.len(), room);
         assert_eq!(rt;
             left.errors.as_slice(),
@@ -258,7 +272,7 @@ fn output_that_fails(rt: HostRuntime) -> std::result::Result<(), Fail> {
         );
         assert_eq!(rt; left.status, 3);
     }
-    let help = run_into(rt.alloc(), ["nvmearb", "--help"].as_slice(), 5, true)?;
+    let help = run_into(&rt, rt.alloc(), ["nvmearb", "--help"].as_slice(), 5, true)?;
     assert_eq!(rt;
         help.errors.as_slice(),
         b"nvmearb: write failed\n".as_slice()
@@ -281,11 +295,25 @@ fn input_that_fails(rt: HostRuntime) -> std::result::Result<(), Fail> {
     };
     let mut output = Vec::new(alloc);
     let mut errors = Vec::new(alloc);
-    let status = command(alloc, words.as_slice(), reader, &mut output, &mut errors);
+    let status = command(
+        &rt,
+        alloc,
+        words.as_slice(),
+        reader,
+        &mut output,
+        &mut errors,
+    );
     assert_eq!(rt; errors.as_slice(), b"nvmearb: read failed\n".as_slice());
     assert_eq!(rt; (output.len(), status), (0, 3));
     let endless = std::io::repeat(b'0');
-    let status = command(alloc, words.as_slice(), endless, &mut output, &mut errors);
+    let status = command(
+        &rt,
+        alloc,
+        words.as_slice(),
+        endless,
+        &mut output,
+        &mut errors,
+    );
     assert!(rt; errors.as_slice().ends_with(b"nvmearb: input too long\n"));
     assert_eq!(rt; (output.len(), status), (0, 1));
     let mut deaf = Takes {
@@ -294,6 +322,7 @@ fn input_that_fails(rt: HostRuntime) -> std::result::Result<(), Fail> {
         fails: true,
     };
     let status = command(
+        &rt,
         alloc,
         words.as_slice(),
         b"".as_slice(),
@@ -317,18 +346,19 @@ fn bad_command_line(rt: HostRuntime) -> std::result::Result<(), Fail> {
         &["nvmearb", "once", "--blocks", "1", "more"],
     ];
     for line in lines {
-        let left = run_of(alloc, line, b"")?;
+        let left = run_of(&rt, alloc, line, b"")?;
         assert_eq!(rt; left.status, 2);
         assert_eq!(rt; left.output.len(), 0);
         assert!(rt; left.errors.len() > 0);
     }
     let most = run_of(
+        &rt,
         alloc,
         ["nvmearb", "once", "--blocks", "9223372036854775807"].as_slice(),
         b"",
     )?;
     assert_eq!(rt; most.status, 1);
-    let help = run_of(alloc, ["nvmearb", "--help"].as_slice(), b"")?;
+    let help = run_of(&rt, alloc, ["nvmearb", "--help"].as_slice(), b"")?;
     assert_eq!(rt; (help.status, help.errors.len()), (0, 0));
     assert!(rt; help.output.len() > 0);
     Ok(())

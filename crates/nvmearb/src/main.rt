@@ -29,6 +29,7 @@ fn main(rt: HostRuntime) -> ExitCode {
     let mut output = io::writer(&rt);
     let mut errors = rt.stderr();
     let status = command(
+        &rt,
         rt.alloc(),
         words.as_slice(),
         rt.reader(),

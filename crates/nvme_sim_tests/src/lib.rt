@@ -1,0 +1,17 @@
+//! Tests of runs and of the program: the stored workloads, gates that hold workers, and refusals.
+#![tactic(auto)]
+
+#[cfg(test)]
+mod again;
+#[cfg(test)]
+mod examples;
+#[cfg(test)]
+mod gates;
+#[cfg(test)]
+mod program;
+#[cfg(test)]
+mod streams;
+#[cfg(test)]
+mod wanted;
+#[cfg(test)]
+mod workloads;

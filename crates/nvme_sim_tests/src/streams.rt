@@ -1,0 +1,170 @@
+// Writers and readers that fail, and refusals of a run in their order.
+use crate::again::{page, run_again, told_again};
+use crate::workloads::{EMPTY, THOUSAND};
+use nvme_front::FrontError;
+use nvme_sim::{InputError, Mode, RunError, take_input};
+use nvme_workload::{Key, WorkloadError};
+use std::alloc::{AllocError, Global};
+use std::io::{Error, ErrorKind, Read, Write};
+use std::process::Abort;
+use std::sync::Wait;
+use std::test::*;
+use std::thread::Threads;
+
+/// A writer that takes so many bytes and then fails.
+#[derive(Drop)]
+struct Takes {
+    taken: Vec<u8>,
+    room: usize,
+}
+
+impl Write for Takes {
+    fn write(&mut self, buf: &[u8]) -> std::io::Result<usize> {
+        let count = buf.len().min(self.room);
+        if count == 0 {
+            return Err(Error::from(ErrorKind::Other));
+        }
+        self.taken.extend_from_slice(&buf[..count])?;
+        self.room -= count;
+        Ok(count)
+    }
+
+    fn flush(&mut self) -> std::io::Result<()> {
+        Ok(())
+    }
+}
+
+/// A reader whose reads fail.
+#[derive(Clone, Copy)]
+struct Fails;
+
+impl Read for Fails {
+    fn read(&mut self, _buf: &mut [u8]) -> std::io::Result<usize> {
+        Err(Error::from(ErrorKind::Other))
+    }
+}
+
+/// A reader of zeros without an end.
+#[derive(Clone, Copy)]
+struct Endless;
+
+impl Read for Endless {
+    fn read(&mut self, buf: &mut [u8]) -> std::io::Result<usize> {
+        buf.fill(b'0');
+        Ok(buf.len())
+    }
+}
+
+// All bytes of a reader.
+fn taken<I: Read + Copy + Drop>(alloc: Global, input: I) -> Result<Vec<u8>, InputError> {
+    let taken = take_input(alloc, input);
+    if matches!(taken, Err(InputError::NoMemory)) {
+        return take_input(alloc, input);
+    }
+    taken
+}
+
+#[test]
+fn writer_and_reader_fail(rt: HostRuntime) -> Result<(), Fail> {
+    let taken_of_run = page(rt.alloc())?;
+    let mut writer = Takes {
+        taken: taken_of_run,
+        room: 10,
+    };
+    let ran = run_again(&rt, rt.alloc(), EMPTY, Mode::Loaded, 2, &mut writer);
+    assert_eq!(rt; ran, Err(RunError::Write));
+    assert_eq!(rt; writer.taken.as_slice(), b"loaded\nsq ".as_slice());
+    let abc = taken(rt.alloc(), b"abc".as_slice())?;
+    assert_eq!(rt; abc.as_slice(), b"abc".as_slice());
+    assert_eq!(rt; taken(rt.alloc(), Endless).err(), Some(InputError::TooLong));
+    assert_eq!(rt; taken(rt.alloc(), Fails).err(), Some(InputError::Read));
+    Ok(())
+}
+
+const LOADED: [&str; 4] = ["nvmearb", "loaded", "--workers", "2"];
+
+// The program with this input, and an output of so much room, ends with this status and this line.
+fn run_fails<I: Read + Copy + Drop, R: Threads + Wait + Sync + Abort>(
+    rt: &R,
+    alloc: Global,
+    input: I,
+    room: usize,
+    status: u8,
+    fault: &str,
+) -> Result<(), Fail> {
+    let mut output = Takes {
+        taken: page(alloc)?,
+        room,
+    };
+    let (ended, errors) = told_again(rt, alloc, &LOADED, input, &mut output)?;
+    assert_eq!(rt; errors.as_slice(), fault.as_bytes());
+    assert_eq!(rt; (ended, output.taken.len()), (status, room), "{fault}");
+    Ok(())
+}
+
+#[test]
+fn streams_of_a_run_fail(rt: HostRuntime) -> Result<(), Fail> {
+    run_fails(
+        &rt,
+        rt.alloc(),
+        EMPTY.as_bytes(),
+        10,
+        3,
+        "nvmearb: write failed\n",
+    )?;
+    run_fails(&rt, rt.alloc(), Fails, 0, 3, "nvmearb: read failed\n")?;
+    run_fails(&rt, rt.alloc(), Endless, 0, 1, "nvmearb: input too long\n")
+}
+
+// A run is refused with this error, and nothing is written.
+fn is_refused<R: Threads + Wait + Sync + Abort>(
+    rt: &R,
+    alloc: Global,
+    text: &str,
+    workers: u8,
+    error: RunError,
+) {
+    let mut output = Vec::new(alloc);
+    let ran = run_again(rt, alloc, text, Mode::Loaded, workers, &mut output);
+    assert_eq!(rt; ran, Err(error));
+    assert!(rt; output.is_empty());
+}
+
+#[test]
+fn refusals_in_order(rt: HostRuntime) -> Result<(), Fail> {
+    let missing = WorkloadError::Missing(Key::Mechanism);
+    is_refused(&rt, rt.alloc(), "", 0, RunError::Workers);
+    is_refused(&rt, rt.alloc(), EMPTY, 9, RunError::Workers);
+    is_refused(&rt, rt.alloc(), "", 8, RunError::Workload(missing));
+    is_refused(&rt, rt.alloc(), THOUSAND, 0, RunError::Workers);
+    is_refused(&rt, rt.alloc(), THOUSAND, 1, RunError::TooLong(1));
+    Ok(())
+}
+
+// The words of a refusal, made once more where memory was refused.
+fn words_of(alloc: Global, error: RunError) -> Result<String, AllocError> {
+    if let Ok(words) = format!(in alloc; "{error}") {
+        return Ok(words);
+    }
+    format!(in alloc; "{error}")
+}
+
+#[test]
+fn words_of_refusals(rt: HostRuntime) -> Result<(), Fail> {
+    let limit = RunError::Workload(WorkloadError::Limit);
+    let repeated = RunError::Workload(WorkloadError::Repeated);
+    let all = [
+        (RunError::Workers, "workers"),
+        (limit, "workload: W6 over a limit"),
+        (repeated, "workload: W7 repeated address"),
+        (RunError::TooLong(16), "script too long for ring 16"),
+        (RunError::NoMemory, "out of memory"),
+        (RunError::Front(FrontError::LogFull), "front"),
+        (RunError::GaveUp, "gave up"),
+        (RunError::Write, "write failed"),
+    ];
+    for (error, words) in all {
+        assert_eq!(rt; words_of(rt.alloc(), error)?.as_str(), words);
+    }
+    Ok(())
+}
