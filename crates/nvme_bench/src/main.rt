@@ -7,12 +7,13 @@ mod jobs;
 mod picks;
 mod rates;
 mod rings;
+mod runs;
 
 use anyhow::{Result, bail, ensure};
 use std::env;
 
 // What a measurement is: its name and what it measures.
-const USAGE: &str = "usage: nvme_bench picks|boards|rings|jobs|all COUNT";
+const USAGE: &str = "usage: nvme_bench picks|boards|rings|jobs|runs|all COUNT";
 
 fn main(rt: HostRuntime) -> Result<()> {
     let words: Vec<String> = env::args(&rt)?.collect(rt.alloc())?;
@@ -26,11 +27,13 @@ fn main(rt: HostRuntime) -> Result<()> {
         "boards" => boards::measure(&rt, count)?,
         "rings" => rings::measure(&rt, count)?,
         "jobs" => jobs::measure(&rt, count)?,
+        "runs" => runs::measure(&rt, count)?,
         "all" => {
             picks::measure(&rt, count)?;
             boards::measure(&rt, count)?;
             rings::measure(&rt, count)?;
             jobs::measure(&rt, count)?;
+            runs::measure(&rt, count)?;
         }
         _ => bail!("{USAGE}"),
     }
