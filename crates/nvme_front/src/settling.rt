@@ -68,6 +68,13 @@ fn are_drainers(front: &Front, drainers: &[Drainer<Cqe>]) -> bool
     true
 }
 
+// The addresses of the hosts are those of the regions, in order.
+fn are_hosts(front: &Front, feeders: &[Feeder<Sqe>], drainers: &[Drainer<Cqe>]) -> bool
+    ensures { IsTrue result ↔ AreHosts front.now feeders.now drainers.now }
+{
+    are_feeders(front, feeders) && are_drainers(front, drainers)
+}
+
 // Looks at each submission ring with both ends in hand, and says that nothing rests in those of open and closing
 // queues.
 fn look(front: &mut Front, feeders: &mut Vec<Feeder<Sqe>>) -> bool
@@ -182,9 +189,11 @@ pub fn settle<R: Wait>(rt: &R, alloc: Global, parts: Parts) -> Result<Settled, (
     ensures no_memory { IfErr result (λ e. e.0 ≡ NoMemory → AreAtRest parts) }
 {
     let mut parts = parts;
-    if !are_feeders(&parts.front, parts.feeders.as_slice())
-        || !are_drainers(&parts.front, parts.drainers.as_slice())
-    {
+    if !are_hosts(
+        &parts.front,
+        parts.feeders.as_slice(),
+        parts.drainers.as_slice(),
+    ) {
         return Err((SettleError::Strangers, parts));
     }
     let quiet = look(&mut parts.front, &mut parts.feeders);
@@ -207,24 +216,21 @@ pub fn settle<R: Wait>(rt: &R, alloc: Global, parts: Parts) -> Result<Settled, (
         lanes,
         workers,
     } = parts;
-    let log = match front.into_log(rt, alloc, lanes, workers) {
-        Ok(log) => log,
+    match front.into_log(rt, alloc, lanes, workers) {
+        Ok(log) => Ok(Settled {
+            sent: sent_of(feeders, sent),
+            collected: collected_of(drainers, collected),
+            log,
+        }),
         Err((front, lanes, workers)) => {
-            return Err((
-                SettleError::NoMemory,
-                Parts {
-                    front,
-                    feeders,
-                    drainers,
-                    lanes,
-                    workers,
-                },
-            ));
+            let parts = Parts {
+                front,
+                feeders,
+                drainers,
+                lanes,
+                workers,
+            };
+            Err((SettleError::NoMemory, parts))
         }
-    };
-    Ok(Settled {
-        sent: sent_of(feeders, sent),
-        collected: collected_of(drainers, collected),
-        log,
-    })
+    }
 }

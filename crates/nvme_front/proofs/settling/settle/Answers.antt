@@ -13,7 +13,7 @@ look-quiet-requires g c =
     let v = c.args.parts.front in
     let f = c.args.parts.feeders.items in
     let d = c.args.parts.drainers.items in
-    let hosts : AreHosts v f d = record { feeders_are = rw c.as_slice.ensures.value at (c.are_feeders.ensures.0 c.if-not-are_feeders.false); drainers_are = rw c.as_slice-else-not-are_feeders.ensures.value at (c.are_drainers.ensures.0 c.if-not-are_drainers.false) } in
+    let hosts : AreHosts v f d = rw (c.as_slice.ensures.value, c.as_slice-2.ensures.value) at (c.are_hosts.ensures.0 c.if-not-are_hosts.false) in
     fed_from_pairs v f d c.requires.hosts hosts
 
 pub returns-then-not-quiet-clause-outstanding : goal.returns-then-not-quiet-clause-outstanding
@@ -21,7 +21,7 @@ returns-then-not-quiet-clause-outstanding g c =
     let v = c.args.parts.front in
     let f = c.args.parts.feeders.items in
     let d = c.args.parts.drainers.items in
-    let hosts : AreHosts v f d = record { feeders_are = rw c.as_slice.ensures.value at (c.are_feeders.ensures.0 c.if-not-are_feeders.false); drainers_are = rw c.as_slice-else-not-are_feeders.ensures.value at (c.are_drainers.ensures.0 c.if-not-are_drainers.false) } in
+    let hosts : AreHosts v f d = rw (c.as_slice.ensures.value, c.as_slice-2.ensures.value) at (c.are_hosts.ensures.0 c.if-not-are_hosts.false) in
     let same = feeders_number v f d hosts in
     λ e rest. elim c.then-not-quiet.branch [
       | then-not-quiet-via-then-not-quiet w ↦ not_at_rest v _ f _ _ c.look-quiet.ensures same w.if-not-quiet.true rest.front
@@ -35,7 +35,7 @@ returns-in_default-clause-no_memory g c =
     let v = c.args.parts.front in
     let f = c.args.parts.feeders.items in
     let d = c.args.parts.drainers.items in
-    let hosts : AreHosts v f d = record { feeders_are = rw c.as_slice.ensures.value at (c.are_feeders.ensures.0 c.if-not-are_feeders.false); drainers_are = rw c.as_slice-else-not-are_feeders.ensures.value at (c.are_drainers.ensures.0 c.if-not-are_drainers.false) } in
+    let hosts : AreHosts v f d = rw (c.as_slice.ensures.value, c.as_slice-2.ensures.value) at (c.are_hosts.ensures.0 c.if-not-are_hosts.false) in
     let rests = rw c.if-not-quiet.false at c.look-quiet.ensures in
     let clear = c.is_clear.ensures.0 c.if-not-is_clear.false in
     let kept = rw c.as_slice-else-not-is_clear.ensures.value at (c.none_kept.ensures.0 c.if-not-none_kept.false) in
@@ -46,7 +46,7 @@ collect-requires g c =
     let v = c.args.parts.front in
     let f = c.args.parts.feeders.items in
     let d = c.args.parts.drainers.items in
-    let hosts : AreHosts v f d = record { feeders_are = rw c.as_slice.ensures.value at (c.are_feeders.ensures.0 c.if-not-are_feeders.false); drainers_are = rw c.as_slice-else-not-are_feeders.ensures.value at (c.are_drainers.ensures.0 c.if-not-are_drainers.false) } in
+    let hosts : AreHosts v f d = rw (c.as_slice.ensures.value, c.as_slice-2.ensures.value) at (c.are_hosts.ensures.0 c.if-not-are_hosts.false) in
     drained_from_pairs v f d c.requires.hosts hosts ∙ ap (map put_place) (sym c.look-quiet.ensures.puts)
 
 pub returns-then-not-collect-clause-back : goal.returns-then-not-collect-clause-back
@@ -66,7 +66,7 @@ returns-then-not-collect-clause-no_memory g c =
     let v = c.args.parts.front in
     let f = c.args.parts.feeders.items in
     let d = c.args.parts.drainers.items in
-    let hosts : AreHosts v f d = record { feeders_are = rw c.as_slice.ensures.value at (c.are_feeders.ensures.0 c.if-not-are_feeders.false); drainers_are = rw c.as_slice-else-not-are_feeders.ensures.value at (c.are_drainers.ensures.0 c.if-not-are_drainers.false) } in
+    let hosts : AreHosts v f d = rw (c.as_slice.ensures.value, c.as_slice-2.ensures.value) at (c.are_hosts.ensures.0 c.if-not-are_hosts.false) in
     let rests = rw c.if-not-quiet.false at c.look-quiet.ensures in
     let clear = c.is_clear.ensures.0 c.if-not-is_clear.false in
     let kept = rw c.as_slice-else-not-is_clear.ensures.value at (c.none_kept.ensures.0 c.if-not-none_kept.false) in
@@ -78,45 +78,45 @@ collected_of-requires g c =
     let room = c.in-Ok-Ok.ensures'.capacity in
     (c.in-Ok-Ok.ensures'.items, omega arith)
 
-pub returns-clause-collected : goal.returns-clause-collected
-returns-clause-collected g c =
+pub returns-in-Ok-clause-collected : goal.returns-in-Ok-clause-collected
+returns-in-Ok-clause-collected g c =
     let v = c.args.parts.front in
     let f = c.args.parts.feeders.items in
     let d = c.args.parts.drainers.items in
-    let hosts : AreHosts v f d = record { feeders_are = rw c.as_slice.ensures.value at (c.are_feeders.ensures.0 c.if-not-are_feeders.false); drainers_are = rw c.as_slice-else-not-are_feeders.ensures.value at (c.are_drainers.ensures.0 c.if-not-are_drainers.false) } in
+    let hosts : AreHosts v f d = rw (c.as_slice.ensures.value, c.as_slice-2.ensures.value) at (c.are_hosts.ensures.0 c.if-not-are_hosts.false) in
     let rests = rw c.if-not-quiet.false at c.look-quiet.ensures in
     let clear = c.is_clear.ensures.0 c.if-not-is_clear.false in
     let collects = c.collect.ensures.all c.if-not-collect.false in
     collects_more v _ _ f _ d _ _ hosts rests clear collects c.in-Ok.ensures.log c.sent_of.ensures c.collected_of.ensures
 
-pub returns-clause-account : goal.returns-clause-account
-returns-clause-account g c =
+pub returns-in-Ok-clause-account : goal.returns-in-Ok-clause-account
+returns-in-Ok-clause-account g c =
     let v = c.args.parts.front in
     let f = c.args.parts.feeders.items in
     let d = c.args.parts.drainers.items in
-    let hosts : AreHosts v f d = record { feeders_are = rw c.as_slice.ensures.value at (c.are_feeders.ensures.0 c.if-not-are_feeders.false); drainers_are = rw c.as_slice-else-not-are_feeders.ensures.value at (c.are_drainers.ensures.0 c.if-not-are_drainers.false) } in
+    let hosts : AreHosts v f d = rw (c.as_slice.ensures.value, c.as_slice-2.ensures.value) at (c.are_hosts.ensures.0 c.if-not-are_hosts.false) in
     let rests = rw c.if-not-quiet.false at c.look-quiet.ensures in
     let clear = c.is_clear.ensures.0 c.if-not-is_clear.false in
     let collects = c.collect.ensures.all c.if-not-collect.false in
     is_account v _ _ f _ d _ (record { log = c.in-Ok.log; sent = c.sent_of.result; collected = c.collected_of.result }) hosts rests clear collects c.in-Ok.ensures.log c.sent_of.ensures c.collected_of.ensures c.in-Ok.ensures.fetched c.in-Ok.ensures.posted c.in-Ok.ensures.account
 
-pub returns-clause-settled : goal.returns-clause-settled
-returns-clause-settled g c =
+pub returns-in-Ok-clause-settled : goal.returns-in-Ok-clause-settled
+returns-in-Ok-clause-settled g c =
     let v = c.args.parts.front in
     let f = c.args.parts.feeders.items in
     let d = c.args.parts.drainers.items in
-    let hosts : AreHosts v f d = record { feeders_are = rw c.as_slice.ensures.value at (c.are_feeders.ensures.0 c.if-not-are_feeders.false); drainers_are = rw c.as_slice-else-not-are_feeders.ensures.value at (c.are_drainers.ensures.0 c.if-not-are_drainers.false) } in
+    let hosts : AreHosts v f d = rw (c.as_slice.ensures.value, c.as_slice-2.ensures.value) at (c.are_hosts.ensures.0 c.if-not-are_hosts.false) in
     let rests = rw c.if-not-quiet.false at c.look-quiet.ensures in
     let clear = c.is_clear.ensures.0 c.if-not-is_clear.false in
     let collects = c.collect.ensures.all c.if-not-collect.false in
     is_settled v _ _ f _ d _ _ hosts rests clear collects c.in-Ok.ensures.log c.sent_of.ensures c.collected_of.ensures c.in-Ok.ensures.fetched c.in-Ok.ensures.posted
 
-pub returns-clause-at_rest : goal.returns-clause-at_rest
-returns-clause-at_rest g c =
+pub returns-in-Ok-clause-at_rest : goal.returns-in-Ok-clause-at_rest
+returns-in-Ok-clause-at_rest g c =
     let v = c.args.parts.front in
     let f = c.args.parts.feeders.items in
     let d = c.args.parts.drainers.items in
-    let hosts : AreHosts v f d = record { feeders_are = rw c.as_slice.ensures.value at (c.are_feeders.ensures.0 c.if-not-are_feeders.false); drainers_are = rw c.as_slice-else-not-are_feeders.ensures.value at (c.are_drainers.ensures.0 c.if-not-are_drainers.false) } in
+    let hosts : AreHosts v f d = rw (c.as_slice.ensures.value, c.as_slice-2.ensures.value) at (c.are_hosts.ensures.0 c.if-not-are_hosts.false) in
     let rests = rw c.if-not-quiet.false at c.look-quiet.ensures in
     let clear = c.is_clear.ensures.0 c.if-not-is_clear.false in
     let kept = rw c.as_slice-else-not-is_clear.ensures.value at (c.none_kept.ensures.0 c.if-not-none_kept.false) in
@@ -140,14 +140,14 @@ returns-in-Err-clause-no_memory g c =
     let v = c.args.parts.front in
     let f = c.args.parts.feeders.items in
     let d = c.args.parts.drainers.items in
-    let hosts : AreHosts v f d = record { feeders_are = rw c.as_slice.ensures.value at (c.are_feeders.ensures.0 c.if-not-are_feeders.false); drainers_are = rw c.as_slice-else-not-are_feeders.ensures.value at (c.are_drainers.ensures.0 c.if-not-are_drainers.false) } in
+    let hosts : AreHosts v f d = rw (c.as_slice.ensures.value, c.as_slice-2.ensures.value) at (c.are_hosts.ensures.0 c.if-not-are_hosts.false) in
     let rests = rw c.if-not-quiet.false at c.look-quiet.ensures in
     let clear = c.is_clear.ensures.0 c.if-not-is_clear.false in
     let kept = rw c.as_slice-else-not-is_clear.ensures.value at (c.none_kept.ensures.0 c.if-not-none_kept.false) in
     λ e. record { front = at_rest v _ f _ true rests (feeders_number v f d hosts) refl clear; none_kept = kept }
 
-pub returns-clause-executed : goal.returns-clause-executed
-returns-clause-executed g c =
+pub returns-in-Ok-clause-executed : goal.returns-in-Ok-clause-executed
+returns-in-Ok-clause-executed g c =
     let collects = c.collect.ensures.kept in
     let clear = c.is_clear.ensures.0 c.if-not-is_clear.false in
     let kept = rw c.as_slice-else-not-is_clear.ensures.value at (c.none_kept.ensures.0 c.if-not-none_kept.false) in
