@@ -12,9 +12,9 @@ ghost use Rattle.nvme_sim.specs.declared.reports.Mode.TheVariants.{Loaded};
 ghost use Rattle.nvme_sim.specs.Report.{report_text};
 ghost use Rattle.nvme_sim.specs.Written.{AppendsFront};
 ghost use Rattle.nvme_sim.specs.Runs.{IsRun, IsFirstTooLong, FitsAll, GatesRan, fault_of, fault_of_drive, rules_for, script_for, is_loaded};
-ghost use Rattle.nvme_sim.specs.RunFaults.{IsTextFault, IsLateFault};
+ghost use Rattle.nvme_sim.specs.RunFaults.{IsTextFault, IsLateFault, RunFails};
 ghost use Rattle.nvme_workload.specs.declared.error.WorkloadError.{WorkloadError};
-ghost use Rattle.nvme_front.specs.declared.front.FrontError.TheVariants as front_is;
+ghost use Rattle.nvme_front.specs.declared.front.FrontError.{FrontError};
 ghost use Rattle.nvme_front.specs.declared.settled.Settled.{Settled};
 ghost use Rattle.nvme_sim.specs.declared.runs.RunError.TheVariants as fault;
 
@@ -126,7 +126,7 @@ fn settled_by<G: Gate + Send + Drop, R: Threads + Wait + Sync>(
     requires number { (1 ≤ vec_len gates) × (vec_len gates ≤ max_workers) }
     ensures account { IfOk result (λ r. IsWholeAccount (rules_for (plan_of workload)) (is_loaded mode) (script_for (plan_of workload)) (sent_at r.0.sent.items) (settled_past r.0) (collected_at r.0.collected.items)) }
     ensures gates { IfOk result (λ r. GatesRan (λ view ticket. G.left (G.entered view ticket) ticket) gates.items r.1.items (settled_past r.0)) }
-    ensures faults { IfErr result IsLateFault }
+    ensures faults { IfErr result (IsLateFault (plan_of workload)) }
 {
     let patience = workload.patience;
     let parts = prepare(alloc, workload, gates.len() as u8)?;
@@ -158,7 +158,7 @@ pub fn run_with<G: Gate + Send + Drop, W: Write, R: Threads + Wait + Sync>(
     ensures faulty { (w : WorkloadError) → (IsOutside (vec_len gates) 1 max_workers → ⊥) → workload_of text.now ≡ Err w → IsErrOf result (fault.Workload w) ⊎ IsErrOf result fault.NoMemory }
     ensures too_long { (r : ℕ) → IsErrOf result (fault.TooLong r) → (plan : Plan) × (workload_of text.now ≡ Ok plan) × (mode ≡ Loaded) × IsFirstTooLong plan.submissions r }
     ensures longer { (r : ℕ) (plan : Plan) → (IsOutside (vec_len gates) 1 max_workers → ⊥) → workload_of text.now ≡ Ok plan → mode ≡ Loaded → IsFirstTooLong plan.submissions r → IsErrOf result (fault.TooLong r) ⊎ IsErrOf result fault.NoMemory }
-    ensures front { IsErrOf result (fault.Front front_is.NoMemory) → ⊥ }
+    ensures front { (e : FrontError) → IsErrOf result (fault.Front e) → RunFails text.now e }
 {
     if gates.is_empty() || gates.len() > usize::from(MAX_WORKERS) {
         return Err(RunError::Workers);
@@ -189,7 +189,7 @@ pub fn run<W: Write, R: Threads + Wait + Sync>(
     ensures faulty { (w : WorkloadError) → (IsOutside workers 1 max_workers → ⊥) → workload_of text.now ≡ Err w → IsErrOf result (fault.Workload w) ⊎ IsErrOf result fault.NoMemory }
     ensures too_long { (r : ℕ) → IsErrOf result (fault.TooLong r) → (plan : Plan) × (workload_of text.now ≡ Ok plan) × (mode ≡ Loaded) × IsFirstTooLong plan.submissions r }
     ensures longer { (r : ℕ) (plan : Plan) → (IsOutside workers 1 max_workers → ⊥) → workload_of text.now ≡ Ok plan → mode ≡ Loaded → IsFirstTooLong plan.submissions r → IsErrOf result (fault.TooLong r) ⊎ IsErrOf result fault.NoMemory }
-    ensures front { IsErrOf result (fault.Front front_is.NoMemory) → ⊥ }
+    ensures front { (e : FrontError) → IsErrOf result (fault.Front e) → RunFails text.now e }
 {
     if workers == 0 || workers > MAX_WORKERS {
         return Err(RunError::Workers);

@@ -1,4 +1,6 @@
 -- What a drive answers where it comes to nothing (profile).
+use Rattle.std.specs.Prelude.{◌≡◌, false}
+use Rattle.nvme_front.specs.View.{FrontView, GoesOn, AccountsForEnds, ErrorMeans}
 use Rattle.nvme_front.specs.declared.front.FrontError.{FrontError}
 use Rattle.nvme_front.specs.declared.front.FrontError.TheVariants as front
 use Rattle.nvme_threads.specs.declared.driving.DriveError.{DriveError}
@@ -9,8 +11,17 @@ abbrev pub fault_of : FrontError → DriveError
 fault_of front.NoMemory = drive.NoMemory
 fault_of e = drive.Front e
 
--- want of memory is told as such, and never as a fault of the front
-abbrev pub IsDriveFault : DriveError → Type 0
-IsDriveFault drive.NoMemory = Unit {0}
-IsDriveFault (drive.Front front.NoMemory) = ⊥
-IsDriveFault (drive.Front e) = Unit {0}
+-- a turn failed so: the front had gone on from this one until then
+pub record TurnFails (given : FrontView) (e : FrontError) : Type 0 where
+  pub before : FrontView
+  pub after : FrontView
+  pub goes_on : GoesOn given before
+  pub turned : GoesOn before after
+  pub account : after.late ≡ false → AccountsForEnds after
+  pub means : ErrorMeans e before after
+
+-- a fault of the front is that of a turn. Want of memory is told as such, and never as a fault of the front
+abbrev pub IsDriveFault : FrontView → DriveError → Type 0
+IsDriveFault given drive.NoMemory = Unit {0}
+IsDriveFault given (drive.Front front.NoMemory) = ⊥
+IsDriveFault given (drive.Front e) = TurnFails given e

@@ -39,7 +39,7 @@ pub enum Feeding {
 pub enum DriveError {
     /// Memory was refused, or a thread couldn't be started.
     NoMemory,
-    /// A turn of the front failed, and not for want of memory.
+    /// A turn of the front failed so, and not for want of memory.
     Front(FrontError),
 }
 
@@ -101,7 +101,7 @@ fn within<'s, E: 's, G: Gate + Send + Drop + 's, R: Threads + Wait + Sync + 's>(
     ensures feeders { IfOk result (λ b. map feeder_seen b.feeders.items ≡ map feeder_seen driven.feeders.items) }
     ensures drainers { IfOk result (λ b. map drainer_seen b.drainers.items ≡ map drainer_seen driven.drainers.items) }
     ensures crew { IfOk result (λ b. HaveRun (λ view ticket. G.left (G.entered view ticket) ticket) driven.workers.items driven.gates.items b.crew.items) }
-    ensures fault { IfErr result IsDriveFault }
+    ensures fault { IfErr result (IsDriveFault driven.front) }
 {
     let Driven {
         mut front,
@@ -154,7 +154,7 @@ fn in_threads<G: Gate + Send + Drop, R: Threads + Wait + Sync>(
     ensures feeders { IfOk result (λ b. map feeder_seen b.feeders.items ≡ map feeder_seen driven.feeders.items) }
     ensures drainers { IfOk result (λ b. map drainer_seen b.drainers.items ≡ map drainer_seen driven.drainers.items) }
     ensures crew { IfOk result (λ b. HaveRun (λ view ticket. G.left (G.entered view ticket) ticket) driven.workers.items driven.gates.items b.crew.items) }
-    ensures fault { IfErr result IsDriveFault }
+    ensures fault { IfErr result (IsDriveFault driven.front) }
 {
     thread::scope(
         thread::scope_env(),
@@ -165,7 +165,7 @@ fn in_threads<G: Gate + Send + Drop, R: Threads + Wait + Sync>(
             ensures feeders { IfOk result (λ b. map feeder_seen b.feeders.items ≡ map feeder_seen driven.feeders.items) }
             ensures drainers { IfOk result (λ b. map drainer_seen b.drainers.items ≡ map drainer_seen driven.drainers.items) }
             ensures crew { IfOk result (λ b. HaveRun (λ view ticket. G.left (G.entered view ticket) ticket) driven.workers.items driven.gates.items b.crew.items) }
-            ensures fault { IfErr result IsDriveFault }
+            ensures fault { IfErr result (IsDriveFault driven.front) }
         { within(scope, rt, alloc, lanes, driven, patience, flags) },
     )
 }
@@ -213,7 +213,7 @@ fn drive_fed<G: Gate + Send + Drop, R: Threads + Wait + Sync>(
     ensures feeders { IfOk result (λ b. map feeder_seen b.feeders.items ≡ map feeder_seen driven.feeders.items) }
     ensures drainers { IfOk result (λ b. map drainer_seen b.drainers.items ≡ map drainer_seen driven.drainers.items) }
     ensures crew { IfOk result (λ b. HaveRun (λ view ticket. G.left (G.entered view ticket) ticket) driven.workers.items driven.gates.items b.crew.items) }
-    ensures fault { IfErr result IsDriveFault }
+    ensures fault { IfErr result (IsDriveFault driven.front) }
 {
     match feeding {
         Feeding::Meanwhile => in_threads(rt, alloc, lanes, driven, patience, flags),
@@ -289,7 +289,7 @@ pub fn drive<G: Gate + Send + Drop, R: Threads + Wait + Sync>(
     ensures feeders { IfOk result (λ r. map feeder_seen r.0.feeders.items ≡ map feeder_seen parts.feeders.items) }
     ensures drainers { IfOk result (λ r. map drainer_seen r.0.drainers.items ≡ map drainer_seen parts.drainers.items) }
     ensures workers { IfOk result (λ r. AllRan (λ view ticket. G.left (G.entered view ticket) ticket) parts.workers.items gates.items r.0.workers.items r.1.items) }
-    ensures fault { IfErr result IsDriveFault }
+    ensures fault { IfErr result (IsDriveFault parts.front) }
 {
     let Parts {
         front,

@@ -33,7 +33,7 @@ pub fn serve<R: Wait>(
     requires admin_cq { 0 < length front.old.puts }
     requires seat { front.old.hands.seat.lane ≡ lanes.now }
     ensures goes_on { GoesOn front.old front.new }
-    ensures fault { IfErr result IsDriveFault }
+    ensures fault { IfErr result (IsDriveFault front.old) }
 {
     let mut pause = Pause::new();
     let mut quiet = 0u32;
