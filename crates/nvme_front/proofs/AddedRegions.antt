@@ -12,14 +12,15 @@ use Rattle.nvme_admin.specs.History.{Start, TableHistory, RegionAdded, Submissio
 use Rattle.nvme_admin.specs.Standing.{TableView, StandsAt}
 use Rattle.nvme_admin.specs.declared.bounds.TheConstants.{MAX_REGIONS}
 use Rattle.nvme_admin.specs.declared.region.Region.{Region}
-use Rattle.nvme_front.specs.declared.event.Event.{Event}
+use Rattle.nvme_log.specs.declared.event.Event.{Event}
 use Rattle.nvme_front.specs.declared.front.AddError.{AddError}
 use Rattle.nvme_front.specs.declared.front.AddError.TheVariants.{TooMany, NoMemory}
 use Rattle.nvme_front.specs.declared.region.SqRegion.{SqRegion}
 use Rattle.nvme_front.specs.declared.region.CqRegion.{CqRegion}
 use Rattle.nvme_front.specs.declared.state.FrontState.{FrontState}
-use Rattle.nvme_front.specs.Limits.{max_outstanding, max_ready}
-use Rattle.nvme_front.specs.Standing.{IsKept, first_queue, sq_region}
+use Rattle.nvme_log.specs.Limits.{max_outstanding, max_ready}
+use Rattle.nvme_front.specs.Room.{IsKept, sq_region}
+use Rattle.nvme_state.specs.Standing.{first_queue}
 use Rattle.nvme_front.specs.View.{FrontView, view_of}
 use Rattle.nvme_front.proofs.FreshRegions.{board_with_sq, board_with_sq-first, board_with_sq-later}
 use Rattle.nvme_front.proofs.KeptRegions.{is_kept-with_sq, is_kept-with_cq}

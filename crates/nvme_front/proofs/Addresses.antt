@@ -16,8 +16,8 @@ use Rattle.nvme_admin.specs.declared.region.AdminError.TheVariants.{Used, TooMan
 use Rattle.nvme_front.specs.declared.region.SqRegion.{SqRegion}
 use Rattle.nvme_front.specs.declared.region.CqRegion.{CqRegion}
 use Rattle.nvme_front.specs.declared.state.FrontState.{FrontState}
-use Rattle.nvme_front.specs.Kept.{gets_of, puts_of}
-use Rattle.nvme_front.specs.Standing.{sq_region, cq_region, IsRoomy}
+use Rattle.nvme_front.specs.State.{gets_of, puts_of}
+use Rattle.nvme_front.specs.Room.{sq_region, cq_region, IsRoomy}
 use Rattle.nvme_front.specs.View.{view_of, is_address}
 
 -- some element of a map passes a test where some element passes it after the map

@@ -13,29 +13,32 @@ use Rattle.nvme_admin.specs.Changes.{MayBeginDelete}
 use Rattle.nvme_admin.specs.Standing.{sq_of}
 use Rattle.nvme_admin.specs.declared.verdict.SqEntry.{SqEntry}
 use Rattle.nvme_admin.specs.declared.verdict.Verdict.TheVariants.{BeginDelete}
-use Rattle.nvme_front.specs.declared.event.Event.{Event}
-use Rattle.nvme_front.specs.declared.event.Event.TheVariants.{Closing, Abort}
-use Rattle.nvme_front.specs.declared.candidate.Candidate.{Candidate}
-use Rattle.nvme_front.specs.declared.candidate.Ready.{Ready}
-use Rattle.nvme_front.specs.declared.region.Attachment.{Attachment}
+use Rattle.nvme_log.specs.declared.event.Event.{Event}
+use Rattle.nvme_log.specs.declared.event.Event.TheVariants.{Closing, Abort}
+use Rattle.nvme_state.specs.declared.candidate.Candidate.{Candidate}
+use Rattle.nvme_state.specs.declared.candidate.Ready.{Ready}
+use Rattle.nvme_state.specs.declared.attachment.Attachment.{Attachment}
 use Rattle.nvme_front.specs.declared.region.SqRegion.{SqRegion}
 use Rattle.nvme_front.specs.declared.region.CqRegion.{CqRegion}
 use Rattle.nvme_front.specs.declared.state.FrontState.{FrontState}
 use Rattle.nvme_front.specs.Fifo.{FifoView}
-use Rattle.nvme_front.specs.Queues.{Queue, admin_queue, open_sq}
-use Rattle.nvme_front.specs.Places.{waiting}
-use Rattle.nvme_front.specs.Effects.{made_by, closing_of}
-use Rattle.nvme_front.specs.Laws.{as_open}
+use Rattle.nvme_log.specs.Queues.{Queue, admin_queue, open_sq}
+use Rattle.nvme_log.specs.Places.{waiting}
+use Rattle.nvme_log.specs.Effects.{made_by, closing_of}
+use Rattle.nvme_log.specs.Laws.{as_open}
 use Rattle.nvme_front.specs.Applied.{IsApplied}
-use Rattle.nvme_front.specs.Kept.{SqKept, Kept, with_sq, put_sq, sq_kept, sq_in, cq_in, gets_of, kept_of, rules_of}
-use Rattle.nvme_front.specs.Standing.{IsKept, IsAttached, on_board, window_room}
-use Rattle.nvme_front.specs.Goes.{Goes, picks_in, get_place}
-use Rattle.nvme_front.specs.Steps.{aborted, picked_sq}
-use Rattle.nvme_front.proofs.AfterSteps.{with_deleting, with_readies, deleting_from, IsChosen}
-use Rattle.nvme_front.proofs.QueueWords.{at_same, at_other}
-use Rattle.nvme_front.proofs.DeletionSteps.{io_region}
+use Rattle.nvme_state.specs.Kept.{SqKept, Kept, with_sq, put_sq}
+use Rattle.nvme_front.specs.State.{sq_kept, sq_in, cq_in, gets_of, kept_of, rules_of}
+use Rattle.nvme_front.specs.Room.{IsKept, window_room}
+use Rattle.nvme_state.specs.Standing.{IsAttached, on_board}
+use Rattle.nvme_front.specs.Goes.{Goes, get_place}
+use Rattle.nvme_log.specs.Histories.{picks_in}
+use Rattle.nvme_state.specs.Steps.{aborted, picked_sq}
+use Rattle.nvme_state.proofs.AfterSteps.{with_deleting, with_readies, deleting_from, IsChosen}
+use Rattle.nvme_state.proofs.QueueWords.{at_same, at_other}
+use Rattle.nvme_state.proofs.DeletionSteps.{io_region}
 use Rattle.nvme_front.proofs.States.{sq_in-set, sq_in-read, places-set, windows-set}
-use Rattle.nvme_front.proofs.AppliedRoom.{few_unposted}
+use Rattle.nvme_state.proofs.AppliedRoom.{few_unposted}
 use Rattle.nvme_front.proofs.AppliedStates.{kept_readied, kept_applied, goes_readied}
 use Rattle.nvme_front.proofs.AppliedTables.{tells, sqs_now, sqs_before, same_sqs, same_cqs, Stays}
 

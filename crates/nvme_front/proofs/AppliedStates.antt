@@ -5,24 +5,26 @@ use Rattle.std.proofs.lemmas.List.{length-append, length-set, nil_from_length}
 use Rattle.nvme_arbiter.specs.Board.{BoardView}
 use Rattle.nvme_admin.specs.declared.verdict.Verdict.{Verdict}
 use Rattle.nvme_pool.specs.Seat.{SameSeat}
-use Rattle.nvme_front.specs.declared.event.Event.{Event}
-use Rattle.nvme_front.specs.declared.event.Event.TheVariants as event
-use Rattle.nvme_front.specs.declared.candidate.Candidate.{Candidate}
-use Rattle.nvme_front.specs.declared.candidate.Ready.{Ready}
+use Rattle.nvme_log.specs.declared.event.Event.{Event}
+use Rattle.nvme_log.specs.declared.event.Event.TheVariants as event
+use Rattle.nvme_state.specs.declared.candidate.Candidate.{Candidate}
+use Rattle.nvme_state.specs.declared.candidate.Ready.{Ready}
 use Rattle.nvme_front.specs.declared.region.CqRegion.{CqRegion}
 use Rattle.nvme_front.specs.declared.state.FrontState.{FrontState}
 use Rattle.nvme_front.specs.Fifo.{FifoView}
-use Rattle.nvme_front.specs.Effects.{made_by}
+use Rattle.nvme_log.specs.Effects.{made_by}
 use Rattle.nvme_front.specs.Applied.{IsApplied}
-use Rattle.nvme_front.specs.Jobs.{JobsView, gained_count}
-use Rattle.nvme_front.specs.Kept.{CqKept, Kept, cq_kept, cq_in, put_cq, with_ready, gets_of, puts_of, kept_of, rules_of, past_of}
-use Rattle.nvme_front.specs.Standing.{IsKept, window_room, ready_room}
-use Rattle.nvme_front.specs.Goes.{Goes, picks_in, get_place, put_place}
-use Rattle.nvme_front.specs.Steps.{applied_to}
-use Rattle.nvme_front.proofs.AfterSteps.{IsChosen, after_admin, admin_past, answered, with_events, with_readies}
-use Rattle.nvme_front.proofs.Standing.{stands-admin}
+use Rattle.nvme_state.specs.Jobs.{JobsView, gained_count}
+use Rattle.nvme_state.specs.Kept.{CqKept, Kept, put_cq, with_ready}
+use Rattle.nvme_front.specs.State.{cq_kept, cq_in, gets_of, puts_of, kept_of, rules_of, past_of}
+use Rattle.nvme_front.specs.Room.{IsKept, window_room, ready_room}
+use Rattle.nvme_front.specs.Goes.{Goes, get_place, put_place}
+use Rattle.nvme_log.specs.Histories.{picks_in}
+use Rattle.nvme_state.specs.Steps.{applied_to}
+use Rattle.nvme_state.proofs.AfterSteps.{IsChosen, after_admin, admin_past, answered, with_events, with_readies}
+use Rattle.nvme_state.proofs.Standing.{stands-admin}
 use Rattle.nvme_front.proofs.States.{cq_in-set, cq_in-read, put_places-set, readies-set, ready_room-is, SameSeat-refl, kept_after, roomy-goes, past-events}
-use Rattle.nvme_front.proofs.AppliedRoom.{few_ready}
+use Rattle.nvme_state.proofs.AppliedRoom.{few_ready}
 
 -- ---- ready completions more
 -- the completion regions after some completions became ready in one of them

@@ -15,26 +15,28 @@ use Rattle.nvme_admin.specs.declared.verdict.Verdict.{Verdict}
 use Rattle.nvme_admin.specs.declared.verdict.Verdict.TheVariants.{CloseCq}
 use Rattle.nvme_admin.specs.declared.verdict.Verdict.TheVariants as verdict
 use Rattle.nvme_admin.proofs.Changed.{TellsChange-entry}
-use Rattle.nvme_front.specs.declared.event.Event.TheVariants as event
-use Rattle.nvme_front.specs.declared.candidate.Candidate.{Candidate}
-use Rattle.nvme_front.specs.declared.region.Attachment.{Attachment}
-use Rattle.nvme_front.specs.declared.candidate.Ready.{Ready}
+use Rattle.nvme_log.specs.declared.event.Event.TheVariants as event
+use Rattle.nvme_state.specs.declared.candidate.Candidate.{Candidate}
+use Rattle.nvme_state.specs.declared.attachment.Attachment.{Attachment}
+use Rattle.nvme_state.specs.declared.candidate.Ready.{Ready}
 use Rattle.nvme_front.specs.declared.region.CqRegion.{CqRegion}
 use Rattle.nvme_front.specs.declared.region.SqRegion.{SqRegion}
 use Rattle.nvme_front.specs.declared.state.FrontState.{FrontState}
-use Rattle.nvme_front.specs.Queues.{open_sq, open_cq}
-use Rattle.nvme_front.specs.Effects.{made_by, closed_cq_of}
-use Rattle.nvme_front.specs.Laws.{as_open}
+use Rattle.nvme_log.specs.Queues.{open_sq, open_cq}
+use Rattle.nvme_log.specs.Effects.{made_by, closed_cq_of}
+use Rattle.nvme_log.specs.Laws.{as_open}
 use Rattle.nvme_front.specs.Applied.{IsApplied}
-use Rattle.nvme_front.specs.Kept.{SqKept, Kept, with_ready, put_sq, sq_in, cq_in, kept_of, rules_of}
-use Rattle.nvme_front.specs.Standing.{IsKept, on_board}
+use Rattle.nvme_state.specs.Kept.{SqKept, Kept, with_ready, put_sq}
+use Rattle.nvme_front.specs.State.{sq_in, cq_in, kept_of, rules_of}
+use Rattle.nvme_front.specs.Room.{IsKept}
+use Rattle.nvme_state.specs.Standing.{on_board}
 use Rattle.nvme_front.specs.Goes.{Goes}
 use Rattle.nvme_front.specs.Fifo.{FifoView}
-use Rattle.nvme_front.proofs.AfterSteps.{with_opened, answered}
+use Rattle.nvme_state.proofs.AfterSteps.{with_opened, answered}
 use Rattle.nvme_front.proofs.AppliedStates.{kept_answered}
 use Rattle.nvme_front.proofs.States.{sq_in-set, sq_in-read}
-use Rattle.nvme_front.proofs.QueueWords.{at_same}
-use Rattle.nvme_front.proofs.QueueVerdicts.{few_queues}
+use Rattle.nvme_state.proofs.QueueWords.{at_same}
+use Rattle.nvme_state.proofs.QueueVerdicts.{few_queues}
 
 module _ (a : FrontState) (candidate : Candidate) (v : Verdict) (closing : Option ℕ) (h : IsApplied a candidate v closing) where
   -- the verdict tells what its command changes

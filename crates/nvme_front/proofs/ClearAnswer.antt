@@ -4,17 +4,17 @@ use Rattle.std.specs.List.{list_all}
 use Rattle.std.specs.Option.{is_some}
 use Rattle.std.proofs.lemmas.Bool.{and_parts, and_from}
 use Rattle.std.proofs.lemmas.List.{nil_from_length}
-use Rattle.nvme_front.specs.declared.candidate.Candidate.{Candidate}
-use Rattle.nvme_front.specs.declared.candidate.Ready.{Ready}
-use Rattle.nvme_front.specs.declared.candidate.PendingDelete.{PendingDelete}
+use Rattle.nvme_state.specs.declared.candidate.Candidate.{Candidate}
+use Rattle.nvme_state.specs.declared.candidate.Ready.{Ready}
+use Rattle.nvme_state.specs.declared.candidate.PendingDelete.{PendingDelete}
 use Rattle.nvme_front.specs.declared.region.SqRegion.{SqRegion}
 use Rattle.nvme_front.specs.declared.region.CqRegion.{CqRegion}
 use Rattle.nvme_front.specs.declared.state.FrontState.{FrontState}
 use Rattle.nvme_front.specs.Clear.{no_window, no_ready}
-use Rattle.nvme_front.specs.Kept.{sq_in, cq_in, kept_of, past_of}
-use Rattle.nvme_front.specs.Standing.{IsKept}
-use Rattle.nvme_front.specs.View.{IsClear}
-use Rattle.nvme_front.proofs.Clearing.{KeepsNothing}
+use Rattle.nvme_front.specs.State.{sq_in, cq_in, kept_of, past_of}
+use Rattle.nvme_front.specs.Room.{IsKept}
+use Rattle.nvme_log.specs.Account.{IsClear}
+use Rattle.nvme_state.proofs.Clearing.{KeepsNothing}
 use Rattle.nvme_front.proofs.KeptAnswers.{clear_is-kept}
 
 -- where the test passes, no window has a candidate

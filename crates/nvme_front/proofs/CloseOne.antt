@@ -6,20 +6,22 @@ use Rattle.std.proofs.lemmas.List.{length-set, length_push}
 use Rattle.nvme_admin.specs.History.{Start, TableHistory, DeletionFinished}
 use Rattle.nvme_admin.specs.Standing.{StandsAt, sq_of}
 use Rattle.nvme_admin.specs.declared.verdict.SqEntry.{SqEntry}
-use Rattle.nvme_front.specs.declared.candidate.PendingDelete.{PendingDelete}
-use Rattle.nvme_front.specs.declared.candidate.Ready.{Ready}
+use Rattle.nvme_state.specs.declared.candidate.PendingDelete.{PendingDelete}
+use Rattle.nvme_state.specs.declared.candidate.Ready.{Ready}
 use Rattle.nvme_front.specs.declared.region.SqRegion.{SqRegion}
 use Rattle.nvme_front.specs.declared.region.CqRegion.{CqRegion}
 use Rattle.nvme_front.specs.declared.state.FrontState.{FrontState}
 use Rattle.nvme_front.specs.Fifo.{FifoView}
-use Rattle.nvme_front.specs.Rules.{Past}
-use Rattle.nvme_front.specs.Kept.{Kept, SqKept, CqKept, sq_in, cq_in, cq_kept, put_cq, gets_of, puts_of, kept_of, rules_of, past_of}
-use Rattle.nvme_front.specs.Standing.{Stands, IsKept, IsPending, hand_of, window_room, ready_room}
+use Rattle.nvme_log.specs.Rules.{Past}
+use Rattle.nvme_state.specs.Kept.{Kept, SqKept, CqKept, put_cq}
+use Rattle.nvme_front.specs.State.{sq_in, cq_in, cq_kept, gets_of, puts_of, kept_of, rules_of, past_of}
+use Rattle.nvme_state.specs.Standing.{Stands, IsPending, hand_of}
+use Rattle.nvme_front.specs.Room.{IsKept, window_room, ready_room}
 use Rattle.nvme_front.specs.Goes.{Goes, HasAdmin, get_place, put_place}
-use Rattle.nvme_front.proofs.AfterSteps.{after_closed, closed_event, deleted}
-use Rattle.nvme_front.proofs.ReadyRoom.{ready_has_room}
-use Rattle.nvme_front.proofs.Standing.{stands-close}
-use Rattle.nvme_front.proofs.TableSteps.{finish-sq_regions, finish-cq_regions}
+use Rattle.nvme_state.proofs.AfterSteps.{after_closed, closed_event, deleted}
+use Rattle.nvme_state.proofs.ReadyRoom.{ready_has_room}
+use Rattle.nvme_state.proofs.Standing.{stands-close}
+use Rattle.nvme_state.proofs.TableSteps.{finish-sq_regions, finish-cq_regions}
 use Rattle.nvme_front.proofs.States.{cq_in-set, sq_in-read, cq_in-read, past-push, pushed-not_empty, put_places-set, readies-set, roomy-goes, ready_room-is, kept_after, SameSeat-refl}
 
 -- the region of the pending deletion is there

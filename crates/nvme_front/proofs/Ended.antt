@@ -6,17 +6,19 @@ use Rattle.std.proofs.lemmas.Bool.{cases_lt}
 use Rattle.nvme_entry.specs.declared.submission.Sqe.{Sqe}
 use Rattle.nvme_entry.specs.declared.completion.Cqe.{Cqe}
 use Rattle.nvme_lane.specs.View.{GetView, PutView}
-use Rattle.nvme_front.specs.declared.event.Event.{Event}
+use Rattle.nvme_log.specs.declared.event.Event.{Event}
 use Rattle.nvme_front.specs.declared.region.SqRegion.{SqRegion}
 use Rattle.nvme_front.specs.declared.region.CqRegion.{CqRegion}
 use Rattle.nvme_front.specs.declared.state.FrontState.{FrontState}
-use Rattle.nvme_front.specs.Places.{fetched}
-use Rattle.nvme_front.specs.Completions.{posted_to}
-use Rattle.nvme_front.specs.Account.{IsAccount}
-use Rattle.nvme_front.specs.Kept.{SqKept, sq_in, cq_in, gets_of, puts_of, kept_of, rules_of, past_of}
-use Rattle.nvme_front.specs.Standing.{IsKept, Stands}
+use Rattle.nvme_log.specs.Places.{fetched}
+use Rattle.nvme_log.specs.Completions.{posted_to}
+use Rattle.nvme_log.specs.Account.{IsAccount}
+use Rattle.nvme_state.specs.Kept.{SqKept}
+use Rattle.nvme_front.specs.State.{sq_in, cq_in, gets_of, puts_of, kept_of, rules_of, past_of}
+use Rattle.nvme_front.specs.Room.{IsKept}
+use Rattle.nvme_state.specs.Standing.{Stands}
 use Rattle.nvme_front.specs.View.{FrontView, AccountsForEnds, view_of, past_in, got_in, sent_in}
-use Rattle.nvme_front.proofs.Accounted.{account_is}
+use Rattle.nvme_state.proofs.Accounted.{account_is}
 
 -- what was got of a region, by the ends and by what is kept
 got_kept : (sqs : List SqRegion) (r : ℕ) → get_or (map (λ (g : GetView Sqe). g.got) (gets_of sqs)) r [] ≡ (sq_in sqs r).got

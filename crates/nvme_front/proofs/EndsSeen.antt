@@ -7,13 +7,15 @@ use Rattle.nvme_front.specs.declared.state.FrontState.{FrontState}
 use Rattle.nvme_front.specs.declared.region.SqRegion.{SqRegion}
 use Rattle.nvme_front.specs.declared.region.CqRegion.{CqRegion}
 use Rattle.nvme_lane.specs.View.{GetView, PutView}
-use Rattle.nvme_front.specs.Account.{IsAccount}
-use Rattle.nvme_front.specs.Kept.{SqKept, CqKept, no_sq, no_cq, sq_kept, cq_kept, kept_of, rules_of, past_of}
-use Rattle.nvme_front.specs.Standing.{Stands, IsKept}
+use Rattle.nvme_log.specs.Account.{IsAccount}
+use Rattle.nvme_state.specs.Kept.{SqKept, CqKept, no_sq, no_cq}
+use Rattle.nvme_front.specs.State.{sq_kept, cq_kept, kept_of, rules_of, past_of}
+use Rattle.nvme_state.specs.Standing.{Stands}
+use Rattle.nvme_front.specs.Room.{IsKept}
 use Rattle.nvme_front.specs.Goes.{Goes, HasAdmin}
 use Rattle.nvme_front.specs.View.{FrontView, view_of, got_in, known_in, sent_in, free_in, AccountsForEnds, GoesOn}
 use Rattle.nvme_front.proofs.States.{rules-goes}
-use Rattle.nvme_front.proofs.Accounted.{account_is, fetched_is_got, posted_is_sent}
+use Rattle.nvme_state.proofs.Accounted.{account_is, fetched_is_got, posted_is_sent}
 
 -- a field of an item of a list that was made twice
 module _ {X Y Z W : Type 0} (f : Y → Z) (g : X → Y) (h : W → Z) (p : X → W) (same : (x : X) → h (p x) ≡ f (g x)) (d : Y) where

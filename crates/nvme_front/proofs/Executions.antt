@@ -13,18 +13,21 @@ use Rattle.nvme_pool.specs.Worker.{WorkerView, Accounts, kept_list}
 use Rattle.nvme_pool.specs.declared.jobs.Job.{Job}
 use Rattle.nvme_pool.specs.declared.jobs.Finished.{Finished}
 use Rattle.nvme_pool.proofs.Once.{each_executed, each_gained}
-use Rattle.nvme_front.specs.declared.event.Event.{Event}
-use Rattle.nvme_front.specs.declared.candidate.Dispatched.{Dispatched}
+use Rattle.nvme_log.specs.declared.event.Event.{Event}
+use Rattle.nvme_state.specs.declared.candidate.Dispatched.{Dispatched}
 use Rattle.nvme_front.specs.declared.state.FrontState.{FrontState}
-use Rattle.nvme_front.specs.Rules.{Past}
-use Rattle.nvme_front.specs.Dispatches.{dispatched, AreJobs, AccountsForJobs, ExecutesOnce}
-use Rattle.nvme_front.specs.Jobs.{Hands, IsClosed, in_hand, job_in, dispatched_place}
-use Rattle.nvme_front.specs.Kept.{kept_of, rules_of, past_of}
-use Rattle.nvme_front.specs.Standing.{IsKept, Stands, held_by, hand_of}
-use Rattle.nvme_front.specs.View.{FrontView, IsClear, view_of, past_in}
+use Rattle.nvme_log.specs.Rules.{Past}
+use Rattle.nvme_log.specs.Dispatches.{dispatched, AreJobs, ExecutesOnce}
+use Rattle.nvme_state.specs.JobAccount.{AccountsForJobs}
+use Rattle.nvme_state.specs.Jobs.{Hands, IsClosed, in_hand, job_in, dispatched_place}
+use Rattle.nvme_front.specs.State.{kept_of, rules_of, past_of}
+use Rattle.nvme_front.specs.Room.{IsKept}
+use Rattle.nvme_state.specs.Standing.{Stands, held_by, hand_of}
+use Rattle.nvme_front.specs.View.{FrontView, view_of, past_in}
+use Rattle.nvme_log.specs.Account.{IsClear}
 use Rattle.nvme_front.proofs.Ended.{empty_or_not}
-use Rattle.nvme_front.proofs.Clearing.{clear_is}
-use Rattle.nvme_front.proofs.JobSteps.{jobs-when-fresh}
+use Rattle.nvme_state.proofs.Clearing.{clear_is}
+use Rattle.nvme_state.proofs.JobSteps.{jobs-when-fresh}
 
 -- a worker keeps no result
 abbrev pub KeepsNone : WorkerView → Type 0

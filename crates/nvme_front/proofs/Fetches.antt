@@ -10,23 +10,25 @@ use Rattle.nvme_arbiter.specs.Queues.{queue_at}
 use Rattle.nvme_arbiter.specs.declared.pick.OpenQueue.{OpenQueue}
 use Rattle.nvme_admin.specs.Standing.{sq_of}
 use Rattle.nvme_admin.specs.declared.verdict.SqEntry.{SqEntry}
-use Rattle.nvme_front.specs.declared.event.Event.{Event}
-use Rattle.nvme_front.specs.declared.event.Event.TheVariants.{Fetch}
-use Rattle.nvme_front.specs.declared.candidate.Candidate.{Candidate}
+use Rattle.nvme_log.specs.declared.event.Event.{Event}
+use Rattle.nvme_log.specs.declared.event.Event.TheVariants.{Fetch}
+use Rattle.nvme_state.specs.declared.candidate.Candidate.{Candidate}
 use mathlib.Core.List.{IsPrefix}
 use Rattle.nvme_front.specs.declared.region.SqRegion.{SqRegion}
 use Rattle.nvme_front.specs.declared.region.CqRegion.{CqRegion}
 use Rattle.nvme_front.specs.declared.state.FrontState.{FrontState}
-use Rattle.nvme_front.specs.Rules.{Past}
-use Rattle.nvme_front.specs.Queues.{Queue, open_sq}
-use Rattle.nvme_front.specs.Places.{fetched}
-use Rattle.nvme_front.specs.Laws.{as_open}
-use Rattle.nvme_front.specs.Kept.{SqKept, Kept, sq_kept, sq_in, cq_in, put_sq, gets_of, puts_of, kept_of, rules_of, past_of}
-use Rattle.nvme_front.specs.Standing.{Stands, IsKept, on_board, window_room, ready_room}
+use Rattle.nvme_log.specs.Rules.{Past}
+use Rattle.nvme_log.specs.Queues.{Queue, open_sq}
+use Rattle.nvme_log.specs.Places.{fetched}
+use Rattle.nvme_log.specs.Laws.{as_open}
+use Rattle.nvme_state.specs.Kept.{SqKept, Kept, put_sq}
+use Rattle.nvme_front.specs.State.{sq_kept, sq_in, cq_in, gets_of, puts_of, kept_of, rules_of, past_of}
+use Rattle.nvme_state.specs.Standing.{Stands, on_board}
+use Rattle.nvme_front.specs.Room.{IsKept, window_room, ready_room}
 use Rattle.nvme_front.specs.Goes.{Goes, HasAdmin, get_place, put_place}
-use Rattle.nvme_front.proofs.AfterSteps.{CanFetch, fetched_sq, came_board, fetch_event, after_fetch}
+use Rattle.nvme_state.proofs.AfterSteps.{CanFetch, fetched_sq, came_board, fetch_event, after_fetch}
 use Rattle.nvme_front.proofs.States.{sq_in-set, sq_in-read, past-push, pushed-not_empty, places-set, windows-set, roomy-goes, window_room-is, kept_after, SameSeat-refl}
-use Rattle.nvme_front.proofs.Standing.{stands-fetch}
+use Rattle.nvme_state.proofs.Standing.{stands-fetch}
 
 -- all but the submission regions, the board and the log is as it was
 pub record IsElseSame (a b : FrontState) : Type 0 where

@@ -12,21 +12,23 @@ use Rattle.nvme_lane.specs.View.{GetView}
 use Rattle.nvme_pool.specs.declared.jobs.Finished.{Finished}
 use Rattle.nvme_pool.specs.declared.jobs.Job.{Job}
 use Rattle.nvme_pool.specs.Seat.{Ends, SameSeat, OneGained}
-use Rattle.nvme_front.specs.declared.candidate.Dispatched.{Dispatched}
-use Rattle.nvme_front.specs.declared.candidate.Ready.{Ready}
-use Rattle.nvme_front.specs.declared.region.Attachment.{Attachment}
+use Rattle.nvme_state.specs.declared.candidate.Dispatched.{Dispatched}
+use Rattle.nvme_state.specs.declared.candidate.Ready.{Ready}
+use Rattle.nvme_state.specs.declared.attachment.Attachment.{Attachment}
 use Rattle.nvme_front.specs.declared.region.SqRegion.{SqRegion}
 use Rattle.nvme_front.specs.declared.region.CqRegion.{CqRegion}
 use Rattle.nvme_front.specs.declared.state.FrontState.{FrontState}
 use Rattle.nvme_front.specs.Fifo.{FifoView}
-use Rattle.nvme_front.specs.Limits.{most_events}
-use Rattle.nvme_front.specs.Jobs.{JobsView, in_hand, job_in, dispatched_place, HandsOne, GainsOne, GainsStray, gained_jobs, gained_count}
-use Rattle.nvme_front.specs.Kept.{Kept, SqKept, CqKept, sq_in, cq_in, cq_kept, put_cq, gets_of, puts_of, kept_of, rules_of, past_of}
-use Rattle.nvme_front.specs.Standing.{Stands, IsDispatched, IsFresh, IsKept, held_by, window_room, ready_room}
+use Rattle.nvme_log.specs.Limits.{most_events}
+use Rattle.nvme_state.specs.Jobs.{JobsView, in_hand, job_in, dispatched_place, HandsOne, GainsOne, GainsStray, gained_jobs, gained_count}
+use Rattle.nvme_state.specs.Kept.{Kept, SqKept, CqKept, put_cq}
+use Rattle.nvme_front.specs.State.{sq_in, cq_in, cq_kept, gets_of, puts_of, kept_of, rules_of, past_of}
+use Rattle.nvme_state.specs.Standing.{Stands, IsDispatched, IsFresh, held_by}
+use Rattle.nvme_front.specs.Room.{IsKept, window_room, ready_room}
 use Rattle.nvme_front.specs.Goes.{Goes, IsSame, HasAdmin, get_place, put_place}
 use Rattle.nvme_front.specs.View.{GainedStray, view_of}
-use Rattle.nvme_front.proofs.AfterSteps.{completed, after_gain}
-use Rattle.nvme_front.proofs.Standing.{stands-hand, stands-gain, stands-stray}
+use Rattle.nvme_state.proofs.AfterSteps.{completed, after_gain}
+use Rattle.nvme_state.proofs.Standing.{stands-hand, stands-gain, stands-stray}
 use Rattle.nvme_front.proofs.Picks.{with_few, config_by}
 use Rattle.nvme_front.proofs.States.{cq_in-set, sq_in-read, cq_in-read, put_places-set, readies-set, roomy-goes, rules-goes, admin-goes, Goes-refl, Goes-same, kept_same}
 

@@ -15,11 +15,12 @@ use Rattle.nvme_lane.specs.Drainer.{items_of, get_of}
 use Rattle.nvme_lane.specs.declared.feeder.Feeder.{Feeder}
 use Rattle.nvme_lane.specs.declared.drainer.Drainer.{Drainer}
 use Rattle.nvme_front.specs.Goes.{get_place, put_place}
-use Rattle.nvme_front.specs.View.{FrontView, past_in, got_in, known_in, sent_in, is_serving}
+use Rattle.nvme_front.specs.View.{FrontView, past_in, got_in, known_in, sent_in}
+use Rattle.nvme_log.specs.Queues.{is_serving}
 use Rattle.nvme_front.specs.Hosts.{ArePaired, AreHosts, IsFedBy, IsDrainedBy, feeder_place, drainer_place, told, submitted_at, taken_at}
 use Rattle.nvme_front.specs.Looks.{LooksAtSq, LooksAtCq}
 use Rattle.nvme_front.specs.Resting.{IsSameFront, Rests, TakesOf, Takes, Collects}
-use Rattle.nvme_front.proofs.Prefixes.{IsPrefix-refl}
+use Rattle.nvme_log.proofs.Prefixes.{IsPrefix-refl}
 
 -- an element of a list, where there is one
 element : {X : Type 0} (xs : List X) (i : ℕ) → i < length xs → (x : X) × (get_or xs i x ≡ x)

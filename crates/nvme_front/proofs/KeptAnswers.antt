@@ -3,18 +3,21 @@ use Rattle.std.proofs.Common.{◌≡◌, ◌↔◌, ℕ, ◌<◌, ◌==◌, ◌|
 use Rattle.std.proofs.lemmas.Bool.{cases_lt, cases_eq}
 use Rattle.std.proofs.lemmas.Option.{none-some}
 use Rattle.nvme_admin.specs.Standing.{sq_of}
-use Rattle.nvme_front.specs.declared.event.Event.{Event}
-use Rattle.nvme_front.specs.declared.region.Attachment.{Attachment}
+use Rattle.nvme_log.specs.declared.event.Event.{Event}
+use Rattle.nvme_state.specs.declared.attachment.Attachment.{Attachment}
 use Rattle.nvme_front.specs.declared.state.FrontState.{FrontState}
-use Rattle.nvme_front.specs.Rules.{Past}
-use Rattle.nvme_front.specs.View.{IsClear, is_serving}
-use Rattle.nvme_front.specs.Clear.{is_on}
-use Rattle.nvme_front.specs.Kept.{SqKept, kept_of, rules_of, past_of, gets_of, puts_of}
-use Rattle.nvme_front.specs.Standing.{Stands, IsFresh, IsKept, first_queue}
-use Rattle.nvme_front.proofs.RegionSteps.{adds_regions}
+use Rattle.nvme_log.specs.Rules.{Past}
+use Rattle.nvme_log.specs.Account.{IsClear}
+use Rattle.nvme_log.specs.Queues.{is_serving}
+use Rattle.nvme_state.specs.Standing.{is_on}
+use Rattle.nvme_state.specs.Kept.{SqKept}
+use Rattle.nvme_front.specs.State.{kept_of, rules_of, past_of, gets_of, puts_of}
+use Rattle.nvme_state.specs.Standing.{Stands, IsFresh, first_queue}
+use Rattle.nvme_front.specs.Room.{IsKept}
+use Rattle.nvme_state.proofs.RegionSteps.{adds_regions}
 use Rattle.nvme_front.proofs.Starting.{first_attachment, table_sq, opened_first}
-use Rattle.nvme_front.proofs.Clearing.{KeepsNothing, clear_is}
-use Rattle.nvme_front.proofs.Serving.{serving_is, serving_is-none}
+use Rattle.nvme_state.proofs.Clearing.{KeepsNothing, clear_is}
+use Rattle.nvme_state.proofs.Serving.{serving_is, serving_is-none}
 
 -- a state stands at its log, or it has no event and is fresh
 data StandsOrFresh (s : FrontState) : Type 0 where

@@ -9,20 +9,22 @@ use Rattle.nvme_arbiter.specs.declared.settings.Mechanism.{Mechanism}
 use Rattle.nvme_admin.specs.History.{Start, TableHistory, RegionAdded, Submission, Completion}
 use Rattle.nvme_admin.specs.Standing.{TableView, StandsAt}
 use Rattle.nvme_admin.specs.declared.bounds.TheConstants.{MAX_REGIONS}
-use Rattle.nvme_front.specs.declared.event.Event.{Event}
+use Rattle.nvme_log.specs.declared.event.Event.{Event}
 use Rattle.nvme_front.specs.declared.region.SqRegion.{SqRegion}
 use Rattle.nvme_front.specs.declared.region.CqRegion.{CqRegion}
 use Rattle.nvme_front.specs.declared.state.FrontState.{FrontState}
-use Rattle.nvme_front.specs.Jobs.{JobsView}
-use Rattle.nvme_front.specs.Kept.{Kept, sq_kept, cq_kept, kept_of, rules_of, past_of}
+use Rattle.nvme_state.specs.Jobs.{JobsView}
+use Rattle.nvme_state.specs.Kept.{Kept}
+use Rattle.nvme_front.specs.State.{sq_kept, cq_kept, kept_of, rules_of, past_of}
 use Rattle.nvme_admin.specs.QueueTable.{QueueTable}
 use Rattle.nvme_admin.specs.Accepted.{effects_of, queue_table}
 use Rattle.nvme_admin.specs.declared.region.Region.{Region}
 use Rattle.nvme_front.specs.declared.front.FrontConfig.{FrontConfig}
-use Rattle.nvme_front.specs.Limits.{max_outstanding, max_ready}
-use Rattle.nvme_front.specs.Rules.{FrontRules, Past}
-use Rattle.nvme_front.proofs.RegionSteps.{first_table, table_of-additions}
-use Rattle.nvme_front.specs.Standing.{sq_region, cq_region, window_room, ready_room, IsRoomy, Stands, IsFresh, IsFreshSq, IsFreshCq, AreFreshJobs, IsKept}
+use Rattle.nvme_log.specs.Limits.{max_outstanding, max_ready}
+use Rattle.nvme_log.specs.Rules.{FrontRules, Past}
+use Rattle.nvme_state.proofs.RegionSteps.{first_table, table_of-additions}
+use Rattle.nvme_front.specs.Room.{sq_region, cq_region, window_room, ready_room, IsRoomy, IsKept}
+use Rattle.nvme_state.specs.Standing.{Stands, IsFresh, IsFreshSq, IsFreshCq, AreFreshJobs}
 use Rattle.nvme_front.proofs.Starting.{stands_when_first}
 use Rattle.nvme_front.proofs.Newly.{fresh_at_new}
 use Rattle.nvme_front.proofs.RegionLists.{rules_with, kept_with}

@@ -25,23 +25,25 @@ use Rattle.nvme_admin.specs.declared.verdict.SqEntry.{SqEntry}
 use Rattle.nvme_admin.specs.declared.verdict.Verdict.{Verdict}
 use Rattle.nvme_admin.specs.declared.verdict.Verdict.TheVariants as verdict
 use Rattle.nvme_pool.specs.Seat.{SameSeat}
-use Rattle.nvme_front.specs.declared.event.Event.TheVariants as event
-use Rattle.nvme_front.specs.declared.candidate.Candidate.{Candidate}
+use Rattle.nvme_log.specs.declared.event.Event.TheVariants as event
+use Rattle.nvme_state.specs.declared.candidate.Candidate.{Candidate}
 use Rattle.nvme_front.specs.declared.region.SqRegion.{SqRegion}
 use Rattle.nvme_front.specs.declared.region.CqRegion.{CqRegion}
 use Rattle.nvme_front.specs.declared.state.FrontState.{FrontState}
-use Rattle.nvme_front.specs.Limits.{max_outstanding, admin_events}
-use Rattle.nvme_front.specs.Rules.{FrontRules}
-use Rattle.nvme_front.specs.Queues.{Queue, admin_queue, open_sq}
-use Rattle.nvme_front.specs.Jobs.{JobsView, gained_count}
-use Rattle.nvme_front.specs.Kept.{SqKept, sq_in, cq_in, put_sq, kept_of, rules_of, past_of, gets_of, puts_of}
+use Rattle.nvme_log.specs.Limits.{max_outstanding, admin_events}
+use Rattle.nvme_log.specs.Rules.{FrontRules}
+use Rattle.nvme_log.specs.Queues.{Queue, admin_queue, open_sq}
+use Rattle.nvme_state.specs.Jobs.{JobsView, gained_count}
+use Rattle.nvme_state.specs.Kept.{SqKept, put_sq}
+use Rattle.nvme_front.specs.State.{sq_in, cq_in, kept_of, rules_of, past_of, gets_of, puts_of}
 use Rattle.nvme_front.specs.Goes.{Goes, HasAdmin, get_place, put_place}
-use Rattle.nvme_front.specs.Standing.{Stands, IsKept, IsRoomy, window_room, ready_room}
+use Rattle.nvme_state.specs.Standing.{Stands}
+use Rattle.nvme_front.specs.Room.{IsKept, IsRoomy, window_room, ready_room}
 use Rattle.nvme_front.specs.Applied.{IsApplied}
-use Rattle.nvme_front.specs.Steps.{CanPick, picked_sq}
-use Rattle.nvme_front.proofs.AccountSteps.{admin_is_open}
-use Rattle.nvme_front.proofs.Observing.{seen_is_observed}
-use Rattle.nvme_front.proofs.TableSteps.{entry-sq_regions, entry-cq_regions}
+use Rattle.nvme_state.specs.Steps.{CanPick, picked_sq}
+use Rattle.nvme_state.proofs.AccountSteps.{admin_is_open}
+use Rattle.nvme_state.proofs.Observing.{seen_is_observed}
+use Rattle.nvme_state.proofs.TableSteps.{entry-sq_regions, entry-cq_regions}
 use Rattle.nvme_front.proofs.States.{sq_in-set, sq_in-read, places-set, windows-set, SameSeat-refl, roomy-goes, rules-goes, admin-goes}
 use Rattle.nvme_front.proofs.Picks.{due}
 use Rattle.nvme_front.proofs.PickedQueue.{picked_region, can_pick, past-picked}

@@ -14,23 +14,25 @@ use Rattle.nvme_arbiter.specs.declared.settings.Mechanism.{Mechanism}
 use Rattle.nvme_admin.specs.Standing.{sq_of}
 use Rattle.nvme_admin.specs.declared.verdict.SqEntry.{SqEntry}
 use Rattle.nvme_pool.specs.Seat.{SameSeat}
-use Rattle.nvme_front.specs.declared.event.Event.{Event}
-use Rattle.nvme_front.specs.declared.event.Event.TheVariants as event
+use Rattle.nvme_log.specs.declared.event.Event.{Event}
+use Rattle.nvme_log.specs.declared.event.Event.TheVariants as event
 use Rattle.nvme_front.specs.declared.region.SqRegion.{SqRegion}
 use Rattle.nvme_front.specs.declared.region.CqRegion.{CqRegion}
 use Rattle.nvme_front.specs.declared.state.FrontState.{FrontState}
-use Rattle.nvme_front.specs.Limits.{max_outstanding}
-use Rattle.nvme_front.specs.Rules.{FrontRules, Past}
-use Rattle.nvme_front.specs.Queues.{Queue}
-use Rattle.nvme_front.specs.Histories.{arbitration_of}
-use Rattle.nvme_front.specs.Jobs.{JobsView, with_picked, gained_count}
-use Rattle.nvme_front.specs.Kept.{SqKept, sq_in, cq_in, put_sq, Kept, kept_of, rules_of, past_of, gets_of, puts_of}
+use Rattle.nvme_log.specs.Limits.{max_outstanding}
+use Rattle.nvme_log.specs.Rules.{FrontRules, Past}
+use Rattle.nvme_log.specs.Queues.{Queue}
+use Rattle.nvme_log.specs.Histories.{arbitration_of}
+use Rattle.nvme_state.specs.Jobs.{JobsView, with_picked, gained_count}
+use Rattle.nvme_state.specs.Kept.{SqKept, put_sq, Kept}
+use Rattle.nvme_front.specs.State.{sq_in, cq_in, kept_of, rules_of, past_of, gets_of, puts_of}
 use Rattle.nvme_front.specs.Goes.{Goes, HasAdmin, get_place, put_place}
-use Rattle.nvme_front.specs.Standing.{Stands, IsKept, IsRoomy, window_room, ready_room}
-use Rattle.nvme_front.specs.Steps.{CanPick, picked_sq}
-use Rattle.nvme_front.proofs.AfterSteps.{after_io}
-use Rattle.nvme_front.proofs.Observing.{seen_is_observed}
-use Rattle.nvme_front.proofs.Standing.{stands-io}
+use Rattle.nvme_state.specs.Standing.{Stands}
+use Rattle.nvme_front.specs.Room.{IsKept, IsRoomy, window_room, ready_room}
+use Rattle.nvme_state.specs.Steps.{CanPick, picked_sq}
+use Rattle.nvme_state.proofs.AfterSteps.{after_io}
+use Rattle.nvme_state.proofs.Observing.{seen_is_observed}
+use Rattle.nvme_state.proofs.Standing.{stands-io}
 use Rattle.nvme_front.proofs.States.{sq_in-set, past-push, pushed-not_empty, places-set, windows-set, SameSeat-refl, roomy-goes, kept_after}
 use Rattle.nvme_front.proofs.Picks.{due, due-lawful, due-region, due-cq_region, due-attached, due-sq_there, due-sq}
 

@@ -14,24 +14,27 @@ use Rattle.nvme_arbiter.specs.declared.pick.Seen.{Seen}
 use Rattle.nvme_arbiter.specs.declared.settings.Mechanism.{Mechanism}
 use Rattle.nvme_admin.specs.Standing.{sq_of}
 use Rattle.nvme_admin.specs.declared.verdict.SqEntry.{SqEntry}
-use Rattle.nvme_front.specs.declared.event.Event.{Event}
-use Rattle.nvme_front.specs.declared.event.Event.TheVariants as event
+use Rattle.nvme_log.specs.declared.event.Event.{Event}
+use Rattle.nvme_log.specs.declared.event.Event.TheVariants as event
 use Rattle.nvme_front.specs.declared.front.FrontConfig.{FrontConfig}
 use Rattle.nvme_front.specs.declared.region.SqRegion.{SqRegion}
 use Rattle.nvme_front.specs.declared.state.FrontState.{FrontState}
-use Rattle.nvme_front.specs.Limits.{max_outstanding, most_events}
-use Rattle.nvme_front.specs.Rules.{FrontRules, Past}
-use Rattle.nvme_front.specs.Queues.{Queue}
-use Rattle.nvme_front.specs.Jobs.{in_hand, dispatched_place}
-use Rattle.nvme_front.specs.Places.{observation_of}
-use Rattle.nvme_front.specs.Histories.{arbitration_of}
-use Rattle.nvme_front.specs.Kept.{SqKept, sq_kept, sq_in, Kept, kept_of, past_of}
-use Rattle.nvme_front.specs.Laws.{as_open}
-use Rattle.nvme_front.specs.Goes.{HasAdmin, picks_in, next_pick}
-use Rattle.nvme_front.specs.Standing.{HoldsReady, Stands, IsKept, held_by, hand_of}
-use Rattle.nvme_front.proofs.Observing.{seen_is_observed, IsPickable, pickable}
-use Rattle.nvme_front.proofs.AppliedRoom.{few_unposted}
-use Rattle.nvme_front.proofs.PickCounts.{picks_in-append}
+use Rattle.nvme_log.specs.Limits.{max_outstanding, most_events}
+use Rattle.nvme_log.specs.Rules.{FrontRules, Past}
+use Rattle.nvme_log.specs.Queues.{Queue}
+use Rattle.nvme_state.specs.Jobs.{in_hand, dispatched_place}
+use Rattle.nvme_log.specs.Places.{observation_of}
+use Rattle.nvme_log.specs.Histories.{arbitration_of}
+use Rattle.nvme_state.specs.Kept.{SqKept, Kept}
+use Rattle.nvme_front.specs.State.{sq_kept, sq_in, kept_of, past_of}
+use Rattle.nvme_log.specs.Laws.{as_open}
+use Rattle.nvme_front.specs.Goes.{HasAdmin, next_pick}
+use Rattle.nvme_log.specs.Histories.{picks_in}
+use Rattle.nvme_state.specs.Standing.{HoldsReady, Stands, held_by, hand_of}
+use Rattle.nvme_front.specs.Room.{IsKept}
+use Rattle.nvme_state.proofs.Observing.{seen_is_observed, IsPickable, pickable}
+use Rattle.nvme_state.proofs.AppliedRoom.{few_unposted}
+use Rattle.nvme_log.proofs.PickCounts.{picks_in-append}
 use Rattle.nvme_front.proofs.States.{sq_in-read}
 
 -- a log with a pick more has a pick more

@@ -7,25 +7,29 @@ use Rattle.std.proofs.lemmas.List.Elements.{All-head, All-same}
 use Rattle.nvme_entry.specs.declared.completion.Cqe.{Cqe}
 use Rattle.nvme_lane.specs.View.{SamePut}
 use Rattle.nvme_admin.specs.declared.bounds.TheConstants.{MAX_REGIONS}
-use Rattle.nvme_front.specs.declared.event.Event.TheVariants as event
-use Rattle.nvme_front.specs.declared.candidate.Ready.{Ready}
-use Rattle.nvme_front.specs.declared.region.Attachment.{Attachment}
+use Rattle.nvme_log.specs.declared.event.Event.TheVariants as event
+use Rattle.nvme_state.specs.declared.candidate.Ready.{Ready}
+use Rattle.nvme_state.specs.declared.attachment.Attachment.{Attachment}
 use Rattle.nvme_front.specs.declared.region.SqRegion.{SqRegion}
 use Rattle.nvme_front.specs.declared.region.CqRegion.{CqRegion}
 use Rattle.nvme_front.specs.declared.state.FrontState.{FrontState}
-use Rattle.nvme_front.specs.Limits.{most_events}
-use Rattle.nvme_front.specs.Rules.{FrontRules, Past, upto}
-use Rattle.nvme_front.specs.Places.{Place, fetched, fate_of, is_waiting}
-use Rattle.nvme_front.specs.Completions.{is_posted, posted_to}
-use Rattle.nvme_front.specs.Laws.{count_of}
-use Rattle.nvme_front.specs.Kept.{Kept, SqKept, CqKept, sq_in, cq_in, cq_kept, put_sq, put_cq, gets_of, puts_of, kept_of, rules_of, past_of}
-use Rattle.nvme_front.specs.Standing.{Stands, IsKept, IsReady, HoldsPosts, one_if, unposted_of, hand_of, window_room, ready_room}
+use Rattle.nvme_log.specs.Limits.{most_events}
+use Rattle.nvme_log.specs.Rules.{FrontRules, Past, upto}
+use Rattle.nvme_log.specs.Places.{Place, fetched, fate_of, is_waiting}
+use Rattle.nvme_log.specs.Completions.{is_posted, posted_to}
+use Rattle.nvme_log.specs.Laws.{count_of}
+use Rattle.nvme_state.specs.Kept.{Kept, SqKept, CqKept, put_sq, put_cq}
+use Rattle.nvme_front.specs.State.{sq_in, cq_in, cq_kept, gets_of, puts_of, kept_of, rules_of, past_of}
+use Rattle.nvme_state.specs.Standing.{Stands, IsReady, HoldsPosts, hand_of}
+use Rattle.nvme_front.specs.Room.{IsKept, window_room, ready_room}
+use Rattle.nvme_log.specs.Places.{one_if}
+use Rattle.nvme_log.specs.Completions.{unposted_of}
 use Rattle.nvme_front.specs.Goes.{Goes, IsSame, IsDrained, HasAdmin, IsCompletionOf, get_place, put_place}
-use Rattle.nvme_front.proofs.AfterSteps.{CanPost, posted_cq, after_post, post_event}
-use Rattle.nvme_front.proofs.Counting.{count_of-push}
-use Rattle.nvme_front.proofs.PostedPlaces.{over_regions_at}
-use Rattle.nvme_front.proofs.OwnStatus.{IsAnswerable, ready_is_answerable, answerable_is_done, answerable_is_unposted}
-use Rattle.nvme_front.proofs.Standing.{stands-post}
+use Rattle.nvme_state.proofs.AfterSteps.{CanPost, posted_cq, after_post, post_event}
+use Rattle.nvme_log.proofs.Counting.{count_of-push}
+use Rattle.nvme_state.proofs.PostedPlaces.{over_regions_at}
+use Rattle.nvme_state.proofs.OwnStatus.{IsAnswerable, ready_is_answerable, answerable_is_done, answerable_is_unposted}
+use Rattle.nvme_state.proofs.Standing.{stands-post}
 use Rattle.nvme_front.proofs.States.{sq_in-set, cq_in-set, sq_in-read, cq_in-read, past-push, pushed-not_empty, places-set, windows-set, put_places-set, readies-set, roomy-goes, kept_after, SameSeat-refl}
 
 -- ---- lists

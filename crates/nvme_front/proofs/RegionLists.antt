@@ -11,14 +11,15 @@ use Rattle.nvme_admin.specs.QueueTable.{QueueTable}
 use Rattle.nvme_admin.specs.Accepted.{queue_table}
 use Rattle.nvme_admin.specs.Standing.{TableView, Shows, StandsAt}
 use Rattle.nvme_admin.specs.declared.region.Region.{Region}
-use Rattle.nvme_front.specs.Rules.{FrontRules, sq_regions_of, cq_regions_of, slots_at}
-use Rattle.nvme_front.specs.declared.candidate.PendingDelete.{PendingDelete}
+use Rattle.nvme_log.specs.Rules.{FrontRules, sq_regions_of, cq_regions_of, slots_at}
+use Rattle.nvme_state.specs.declared.candidate.PendingDelete.{PendingDelete}
 use Rattle.nvme_front.specs.declared.region.SqRegion.{SqRegion}
 use Rattle.nvme_front.specs.declared.region.CqRegion.{CqRegion}
 use Rattle.nvme_front.specs.declared.state.FrontState.{FrontState}
-use Rattle.nvme_front.specs.Jobs.{JobsView}
-use Rattle.nvme_front.specs.Kept.{no_sq, no_cq, sq_kept, cq_kept, sq_in, cq_in, Kept, kept_of, sq_steps, cq_steps, gets_of, puts_of, rules_of}
-use Rattle.nvme_front.proofs.RegionSteps.{region_of_get, region_of_put, first_table, table_of-additions, AddsRegions, adds_regions, sq-adds_more, cq-adds_more, table_of-regions}
+use Rattle.nvme_state.specs.Jobs.{JobsView}
+use Rattle.nvme_state.specs.Kept.{no_sq, no_cq, Kept, sq_steps, cq_steps}
+use Rattle.nvme_front.specs.State.{sq_kept, cq_kept, sq_in, cq_in, kept_of, gets_of, puts_of, rules_of}
+use Rattle.nvme_state.proofs.RegionSteps.{region_of_get, region_of_put, first_table, table_of-additions, AddsRegions, adds_regions, sq-adds_more, cq-adds_more, table_of-regions}
 
 -- what a front with these regions is given
 abbrev pub rules_with : Mechanism → Start → List ℕ → List SqRegion → List CqRegion → FrontRules

@@ -17,21 +17,24 @@ use Rattle.nvme_lane.specs.declared.drainer.Drainer.{Drainer}
 use Rattle.nvme_pool.specs.Worker.{WorkerView}
 use Rattle.nvme_front.specs.declared.settled.Settled.{Settled}
 use Rattle.nvme_front.specs.declared.settling.Parts.{Parts}
-use Rattle.nvme_front.specs.Rules.{FrontRules, Past}
-use Rattle.nvme_front.specs.Queues.{Deletion, is_open_region, pending}
-use Rattle.nvme_front.specs.Places.{fetched}
-use Rattle.nvme_front.specs.Completions.{posted_to}
-use Rattle.nvme_front.specs.Account.{IsAccount}
-use Rattle.nvme_front.specs.Dispatches.{AccountsForJobs, ExecutesOnce}
-use Rattle.nvme_front.specs.Jobs.{Hands, IsClosed, in_hand}
+use Rattle.nvme_log.specs.Rules.{FrontRules, Past}
+use Rattle.nvme_log.specs.Queues.{Deletion, is_open_region, pending}
+use Rattle.nvme_log.specs.Places.{fetched}
+use Rattle.nvme_log.specs.Completions.{posted_to}
+use Rattle.nvme_log.specs.Account.{IsAccount}
+use Rattle.nvme_state.specs.JobAccount.{AccountsForJobs}
+use Rattle.nvme_log.specs.Dispatches.{ExecutesOnce}
+use Rattle.nvme_state.specs.Jobs.{Hands, IsClosed, in_hand}
 use Rattle.nvme_front.specs.Goes.{get_place, put_place}
-use Rattle.nvme_front.specs.View.{FrontView, AccountsForEnds, IsClear, past_in, got_in, known_in, sent_in, is_serving, is_deleted_region}
+use Rattle.nvme_front.specs.View.{FrontView, AccountsForEnds, past_in, got_in, known_in, sent_in}
+use Rattle.nvme_log.specs.Account.{IsClear}
+use Rattle.nvme_log.specs.Queues.{is_serving, is_deleted_region}
 use Rattle.nvme_front.specs.Hosts.{ArePaired, AreHosts, IsAtRest, drainer_place, told, told_by, submitted_at, sent_at, taken_at, collected_at}
 use Rattle.nvme_front.specs.Resting.{IsSameFront, Rests, TakesOf, Takes, Collects}
 use Rattle.nvme_front.specs.Settles.{settled_past, IsSettled, IsSettledAccount, CollectsMore, HandsBack}
 use Rattle.nvme_front.proofs.Executions.{KeepsNone, executes_once}
 use Rattle.nvme_front.proofs.Hosted.{seen_length, paired_places, IsSameFront-trans}
-use Rattle.nvme_front.proofs.Prefixes.{IsPrefix-refl}
+use Rattle.nvme_log.proofs.Prefixes.{IsPrefix-refl}
 
 -- a list that stays the same with another at its end
 nothing_more : {X : Type 0} (xs ys : List X) → xs ++ ys ≡ xs → ys ≡ []

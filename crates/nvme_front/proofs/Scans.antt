@@ -7,7 +7,8 @@ use Rattle.nvme_admin.specs.Standing.{sq_of}
 use Rattle.nvme_admin.specs.declared.verdict.SqEntry.{SqEntry}
 use Rattle.nvme_front.specs.declared.region.SqRegion.{SqRegion}
 use Rattle.nvme_front.specs.declared.state.FrontState.{FrontState}
-use Rattle.nvme_front.specs.Kept.{SqKept, sq_in}
+use Rattle.nvme_state.specs.Kept.{SqKept}
+use Rattle.nvme_front.specs.State.{sq_in}
 use Rattle.nvme_front.proofs.States.{sq_in-read}
 use Rattle.nvme_front.specs.Goes.{Goes, IsSame, IsTaken, IsScanned, IsFullSq}
 

@@ -2,13 +2,14 @@
 use Rattle.std.proofs.Common.{◌≡◌, ℕ, ◌<◌, ◌&&◌, Bool, false, nat_lt, length, get_or, Option, Some, None, sym, ap, ◌∙◌, lt-ltb}
 use Rattle.nvme_admin.specs.Standing.{sq_of}
 use Rattle.nvme_admin.specs.declared.verdict.SqEntry.{SqEntry}
-use Rattle.nvme_front.specs.declared.region.Attachment.{Attachment}
+use Rattle.nvme_state.specs.declared.attachment.Attachment.{Attachment}
 use Rattle.nvme_front.specs.declared.region.SqRegion.{SqRegion}
 use Rattle.nvme_front.specs.declared.state.FrontState.{FrontState}
-use Rattle.nvme_front.specs.Clear.{is_on}
-use Rattle.nvme_front.specs.Kept.{SqKept, past_of}
-use Rattle.nvme_front.specs.Standing.{IsKept}
-use Rattle.nvme_front.specs.View.{is_serving}
+use Rattle.nvme_state.specs.Standing.{is_on}
+use Rattle.nvme_state.specs.Kept.{SqKept}
+use Rattle.nvme_front.specs.State.{past_of}
+use Rattle.nvme_front.specs.Room.{IsKept}
+use Rattle.nvme_log.specs.Queues.{is_serving}
 use Rattle.nvme_front.proofs.States.{sq_in-read}
 use Rattle.nvme_front.proofs.KeptAnswers.{serving_is-kept, serving_is_none-kept}
 

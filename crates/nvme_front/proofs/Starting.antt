@@ -10,21 +10,23 @@ use Rattle.nvme_admin.specs.Standing.{Shows, sq_of, cq_of}
 use Rattle.nvme_admin.specs.declared.bounds.TheConstants.{MAX_REGIONS}
 use Rattle.nvme_admin.specs.declared.region.Region.{Region}
 use Rattle.nvme_admin.specs.declared.verdict.SqEntry.{SqEntry}
-use Rattle.nvme_front.specs.declared.candidate.Candidate.{Candidate}
-use Rattle.nvme_front.specs.declared.candidate.Ready.{Ready}
-use Rattle.nvme_front.specs.declared.candidate.PendingDelete.{PendingDelete}
-use Rattle.nvme_front.specs.declared.region.Attachment.{Attachment}
+use Rattle.nvme_state.specs.declared.candidate.Candidate.{Candidate}
+use Rattle.nvme_state.specs.declared.candidate.Ready.{Ready}
+use Rattle.nvme_state.specs.declared.candidate.PendingDelete.{PendingDelete}
+use Rattle.nvme_state.specs.declared.attachment.Attachment.{Attachment}
 use Rattle.nvme_front.specs.declared.state.FrontState.{FrontState}
-use Rattle.nvme_front.specs.Rules.{FrontRules, upto, sq_regions_of}
-use Rattle.nvme_front.specs.Queues.{Queue, admin_queue}
-use Rattle.nvme_front.specs.Places.{Place, entry_at, fate_of, is_waiting}
-use Rattle.nvme_front.specs.Laws.{as_open}
-use Rattle.nvme_front.specs.Jobs.{dispatched_place}
-use Rattle.nvme_front.specs.Kept.{SqKept, Kept, kept_of, rules_of, gets_of, puts_of}
-use Rattle.nvme_front.specs.Standing.{HoldsSq, HoldsReady, HoldsCounts, HoldsPosts, HoldsQueues, HoldsDeletion, HoldsTable, Accounts, HasOwnStatus, IsReady, Stands, on_board, as_deletion, one_if, held_by, hand_of, times_in, times_held, times_ready, IsFresh, IsFreshSq}
-use Rattle.nvme_front.proofs.JobSteps.{jobs-when-fresh}
-use Rattle.nvme_front.proofs.Clearing.{sum_by-none, over_regions-none}
-use Rattle.nvme_front.proofs.RegionSteps.{only_adds, added_sqs, added_cqs, first_table, table_of-additions, adds_regions}
+use Rattle.nvme_log.specs.Rules.{FrontRules, upto, sq_regions_of}
+use Rattle.nvme_log.specs.Queues.{Queue, admin_queue}
+use Rattle.nvme_log.specs.Places.{Place, entry_at, fate_of, is_waiting}
+use Rattle.nvme_log.specs.Laws.{as_open}
+use Rattle.nvme_state.specs.Jobs.{dispatched_place}
+use Rattle.nvme_state.specs.Kept.{SqKept, Kept}
+use Rattle.nvme_front.specs.State.{kept_of, rules_of, gets_of, puts_of}
+use Rattle.nvme_state.specs.Standing.{HoldsSq, HoldsReady, HoldsCounts, HoldsPosts, HoldsQueues, HoldsDeletion, HoldsTable, Accounts, HasOwnStatus, IsReady, Stands, on_board, as_deletion, held_by, hand_of, times_in, times_held, times_ready, IsFresh, IsFreshSq}
+use Rattle.nvme_log.specs.Places.{one_if}
+use Rattle.nvme_state.proofs.JobSteps.{jobs-when-fresh}
+use Rattle.nvme_state.proofs.Clearing.{sum_by-none, over_regions-none}
+use Rattle.nvme_state.proofs.RegionSteps.{only_adds, added_sqs, added_cqs, first_table, table_of-additions, adds_regions}
 
 -- a region of which nothing was fetched holds no place of the empty log
 pub holds_first : (r : ℕ) (s : SqKept) → IsFreshSq r s → HoldsSq [] r s

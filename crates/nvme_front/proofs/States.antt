@@ -11,18 +11,20 @@ use Rattle.nvme_entry.specs.declared.submission.Sqe.{Sqe}
 use Rattle.nvme_entry.specs.declared.completion.Cqe.{Cqe}
 use Rattle.nvme_admin.specs.History.{TableStep, RegionAdded, Submission, Completion}
 use Rattle.nvme_admin.specs.declared.region.Region.{Region}
-use Rattle.nvme_front.specs.declared.event.Event.{Event}
+use Rattle.nvme_log.specs.declared.event.Event.{Event}
 use Rattle.nvme_front.specs.declared.region.SqRegion.{SqRegion}
 use Rattle.nvme_front.specs.declared.region.CqRegion.{CqRegion}
 use Rattle.nvme_front.specs.declared.state.FrontState.{FrontState}
-use Rattle.nvme_front.specs.Limits.{max_ready}
-use Rattle.nvme_front.specs.Rules.{FrontRules}
+use Rattle.nvme_log.specs.Limits.{max_ready}
+use Rattle.nvme_log.specs.Rules.{FrontRules}
 use Rattle.nvme_pool.specs.Seat.{SeatView, SameSeat, rings_at}
-use Rattle.nvme_front.specs.Jobs.{JobsView, gained_count}
-use Rattle.nvme_front.specs.Kept.{no_sq, no_cq, sq_kept, cq_kept, sq_in, cq_in, put_sq, put_cq, gets_of, puts_of, sq_steps, cq_steps, kept_of, rules_of, past_of}
-use Rattle.nvme_front.specs.Standing.{Stands, IsKept, IsRoomy, window_room, ready_room, sq_region, cq_region}
+use Rattle.nvme_state.specs.Jobs.{JobsView, gained_count}
+use Rattle.nvme_state.specs.Kept.{no_sq, no_cq, put_sq, put_cq, sq_steps, cq_steps}
+use Rattle.nvme_front.specs.State.{sq_kept, cq_kept, sq_in, cq_in, gets_of, puts_of, kept_of, rules_of, past_of}
+use Rattle.nvme_state.specs.Standing.{Stands}
+use Rattle.nvme_front.specs.Room.{IsKept, IsRoomy, window_room, ready_room, sq_region, cq_region}
 use Rattle.nvme_front.specs.Goes.{Goes, IsSame, HasAdmin, get_place, put_place}
-use Rattle.nvme_front.proofs.AfterSteps.{with_events}
+use Rattle.nvme_state.proofs.AfterSteps.{with_events}
 
 -- ---- look-ups after a region was replaced
 -- a list of what is seen of each item, after one was replaced

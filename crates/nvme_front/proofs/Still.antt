@@ -11,8 +11,8 @@ use Rattle.nvme_arbiter.specs.Standing.{pick_of}
 use Rattle.nvme_arbiter.specs.declared.pick.Pick.{Pick}
 use Rattle.nvme_admin.specs.Standing.{sq_of, TableView}
 use Rattle.nvme_admin.specs.declared.verdict.SqEntry.{SqEntry}
-use Rattle.nvme_front.specs.declared.candidate.PendingDelete.{PendingDelete}
-use Rattle.nvme_front.specs.declared.event.Event.{Event}
+use Rattle.nvme_state.specs.declared.candidate.PendingDelete.{PendingDelete}
+use Rattle.nvme_log.specs.declared.event.Event.{Event}
 use Rattle.nvme_front.specs.declared.front.Step.{Step}
 use Rattle.nvme_front.specs.declared.front.Step.TheVariants.{Picked, Moved, Idle, Stalled}
 use Rattle.nvme_front.specs.declared.front.FrontError.{FrontError}
@@ -20,11 +20,12 @@ use Rattle.nvme_front.specs.declared.front.FrontError.TheVariants.{NoMemory, Log
 use Rattle.nvme_front.specs.declared.region.SqRegion.{SqRegion}
 use Rattle.nvme_front.specs.declared.region.CqRegion.{CqRegion}
 use Rattle.nvme_front.specs.declared.state.FrontState.{FrontState}
-use Rattle.nvme_front.specs.Limits.{max_outstanding, admin_events}
-use Rattle.nvme_front.specs.Jobs.{JobsView, gained_count}
-use Rattle.nvme_front.specs.Kept.{sq_in, cq_in}
-use Rattle.nvme_front.specs.Standing.{IsKept}
-use Rattle.nvme_front.specs.Goes.{Goes, IsSame, HasAdmin, IsDrained, IsScanned, IsTaken, IsFullSq, picks_in, next_pick}
+use Rattle.nvme_log.specs.Limits.{max_outstanding, admin_events}
+use Rattle.nvme_state.specs.Jobs.{JobsView, gained_count}
+use Rattle.nvme_front.specs.State.{sq_in, cq_in}
+use Rattle.nvme_front.specs.Room.{IsKept}
+use Rattle.nvme_front.specs.Goes.{Goes, IsSame, HasAdmin, IsDrained, IsScanned, IsTaken, IsFullSq, next_pick}
+use Rattle.nvme_log.specs.Histories.{picks_in}
 use Rattle.nvme_front.specs.View.{view_of, HasMoved, IsStill, GainedStray, StepMeans, ErrorMeans}
 use Rattle.nvme_front.proofs.States.{Goes-same, IsSame-trans, admin-goes}
 use Rattle.nvme_front.proofs.Turns.{idle_front, deleting_front, stalled_front, admin_log_full}

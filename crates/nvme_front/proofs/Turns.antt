@@ -18,20 +18,22 @@ use Rattle.nvme_arbiter.proofs.MaskLemmas.{find_qid}
 use Rattle.nvme_arbiter.proofs.NextLemmas.{IfSome-find}
 use Rattle.nvme_admin.specs.declared.verdict.SqEntry.{SqEntry}
 use Rattle.nvme_admin.specs.Standing.{sq_of}
-use Rattle.nvme_front.specs.declared.candidate.Candidate.{Candidate}
-use Rattle.nvme_front.specs.declared.candidate.PendingDelete.{PendingDelete}
+use Rattle.nvme_state.specs.declared.candidate.Candidate.{Candidate}
+use Rattle.nvme_state.specs.declared.candidate.PendingDelete.{PendingDelete}
 use Rattle.nvme_front.specs.declared.state.FrontState.{FrontState}
-use Rattle.nvme_front.specs.Limits.{max_outstanding, admin_events}
-use Rattle.nvme_front.specs.Queues.{Queue, Deletion, open_sq, pending}
-use Rattle.nvme_front.specs.Places.{waiting}
-use Rattle.nvme_front.specs.Histories.{arbitration_of}
-use Rattle.nvme_front.specs.Laws.{as_open}
-use Rattle.nvme_front.specs.Kept.{CqKept, kept_of, rules_of, past_of, sq_in}
-use Rattle.nvme_front.specs.Standing.{Stands, IsKept, on_board, as_deletion}
+use Rattle.nvme_log.specs.Limits.{max_outstanding, admin_events}
+use Rattle.nvme_log.specs.Queues.{Queue, Deletion, open_sq, pending}
+use Rattle.nvme_log.specs.Places.{waiting}
+use Rattle.nvme_log.specs.Histories.{arbitration_of}
+use Rattle.nvme_log.specs.Laws.{as_open}
+use Rattle.nvme_state.specs.Kept.{CqKept}
+use Rattle.nvme_front.specs.State.{kept_of, rules_of, past_of, sq_in}
+use Rattle.nvme_state.specs.Standing.{Stands, on_board, as_deletion}
+use Rattle.nvme_front.specs.Room.{IsKept}
 use Rattle.nvme_front.specs.Goes.{HasAdmin, IsDrained, IsScanned, IsTaken, IsFullSq, next_pick}
 use Rattle.nvme_front.specs.View.{view_of, known_in, NoneCanBePosted, WaitsForNothing, IsIdleFront, IsStalledFront, IsFullLog, next_lawful}
-use Rattle.nvme_front.proofs.Answering.{ready_waits_there, unposted_place}
-use Rattle.nvme_front.proofs.Observing.{seen_is_observed}
+use Rattle.nvme_state.proofs.Answering.{ready_waits_there, unposted_place}
+use Rattle.nvme_state.proofs.Observing.{seen_is_observed}
 use Rattle.nvme_front.proofs.RegionLists.{cq_in-past}
 use Rattle.nvme_front.proofs.EndsSeen.{known_in-kept, free_in-kept}
 

@@ -5,17 +5,19 @@ use Rattle.nvme_arbiter.specs.Board.{BoardView}
 use Rattle.nvme_arbiter.specs.declared.pick.Pick.{Pick}
 use Rattle.nvme_arbiter.specs.declared.pick.Seen.{Seen}
 use Rattle.nvme_admin.specs.declared.verdict.Verdict.{Verdict}
-use Rattle.nvme_admin.specs.declared.verdict.Verdict.TheVariants as verdict
-use Rattle.nvme_front.specs.declared.event.Event.TheVariants as event
-use Rattle.nvme_front.specs.declared.candidate.Candidate.{Candidate}
+use Rattle.nvme_state.specs.declared.candidate.Candidate.{Candidate}
 use Rattle.nvme_front.specs.declared.state.FrontState.{FrontState}
-use Rattle.nvme_front.specs.Limits.{admin_events}
-use Rattle.nvme_front.specs.Rules.{Past}
-use Rattle.nvme_front.specs.Queues.{admin_queue, open_cq}
-use Rattle.nvme_front.specs.Places.{observation_of}
-use Rattle.nvme_front.specs.Kept.{Kept, kept_of, rules_of, past_of}
-use Rattle.nvme_front.specs.Standing.{Stands, IsRoomy}
-use Rattle.nvme_front.specs.Steps.{CanPick, CanApply, verdict_at, applied_to}
+use Rattle.nvme_log.specs.Limits.{admin_events}
+use Rattle.nvme_log.specs.Rules.{Past}
+use Rattle.nvme_log.specs.Queues.{admin_queue, open_cq}
+use Rattle.nvme_log.specs.Places.{observation_of}
+use Rattle.nvme_state.specs.Kept.{Kept}
+use Rattle.nvme_front.specs.State.{kept_of, rules_of, past_of}
+use Rattle.nvme_state.specs.Standing.{Stands}
+use Rattle.nvme_front.specs.Room.{IsRoomy}
+use Rattle.nvme_state.specs.Steps.{CanPick, CanApply, verdict_at, applied_to}
+use Rattle.nvme_admin.specs.declared.verdict.Verdict.TheVariants as verdict
+use Rattle.nvme_log.specs.declared.event.Event.TheVariants as event
 
 -- `closing` is the region of the completion queue that the command deletes
 pub record IsApplied (s : FrontState) (candidate : Candidate) (v : Verdict) (closing : Option ℕ) : Type 0 where

@@ -1,13 +1,7 @@
 -- What shows that a front is clear, and that a queue of the table is on a region (profile).
-use Rattle.std.specs.Prelude.{ℕ, ◌==◌, Bool, false, length, Option, Some, None}
-use Rattle.nvme_admin.specs.declared.verdict.SqEntry.{SqEntry}
+use Rattle.std.specs.Prelude.{◌==◌, Bool, length}
 use Rattle.nvme_front.specs.declared.region.SqRegion.{SqRegion}
 use Rattle.nvme_front.specs.declared.region.CqRegion.{CqRegion}
-
--- a submission queue of the table, open or closing, has this region
-abbrev pub is_on : ℕ → Option SqEntry → Bool
-is_on r None = false
-is_on r (Some entry) = entry.region == r
 
 -- no candidate waits in the window of a region
 abbrev pub no_window : SqRegion → Bool

@@ -1,5 +1,5 @@
 -- What the steps of a front leave (profile).
-use Rattle.std.specs.Prelude.{◌≡◌, ◌⊎◌, ◌≢◌, ℕ, ◌+◌, ◌%◌, ◌<◌, ◌≤◌, false, List, [], ◌∷◌, length, map, Option, Some, None}
+use Rattle.std.specs.Prelude.{◌≡◌, ◌⊎◌, ◌≢◌, ℕ, ◌+◌, ◌%◌, ◌<◌, ◌≤◌, false, [], length, map, Option, Some, None}
 use mathlib.Core.List.{IsPrefix}
 use Rattle.nvme_entry.specs.declared.submission.Sqe.{Sqe}
 use Rattle.nvme_entry.specs.declared.completion.Cqe.{Cqe}
@@ -9,15 +9,14 @@ use Rattle.nvme_arbiter.specs.Queues.{seen_of}
 use Rattle.nvme_arbiter.specs.Standing.{pick_of}
 use Rattle.nvme_admin.specs.declared.verdict.SqEntry.{SqEntry}
 use Rattle.nvme_admin.specs.Standing.{sq_of}
-use Rattle.nvme_front.specs.declared.event.Event.{Event}
-use Rattle.nvme_front.specs.declared.event.Event.TheVariants as event
-use Rattle.nvme_front.specs.declared.candidate.Ready.{Ready}
+use Rattle.nvme_state.specs.declared.candidate.Ready.{Ready}
 use Rattle.nvme_front.specs.declared.state.FrontState.{FrontState}
-use Rattle.nvme_front.specs.Completions.{phase_after}
-use Rattle.nvme_front.specs.Standing.{window_room, ready_room}
+use Rattle.nvme_log.specs.Completions.{phase_after}
+use Rattle.nvme_front.specs.Room.{window_room, ready_room}
 use Rattle.nvme_pool.specs.Seat.{SameSeat}
-use Rattle.nvme_front.specs.Jobs.{gained_count}
-use Rattle.nvme_front.specs.Kept.{SqKept, CqKept, kept_of, gets_of, puts_of}
+use Rattle.nvme_state.specs.Jobs.{gained_count}
+use Rattle.nvme_state.specs.Kept.{SqKept, CqKept}
+use Rattle.nvme_front.specs.State.{kept_of, gets_of, puts_of}
 
 -- which end of which ring an end is
 abbrev pub get_place : GetView Sqe → RingName × ℕ × ℕ
@@ -77,12 +76,6 @@ IsScanned s q = IsTaken s (sq_of s.table q)
 -- no completion is ready in a completion region, or its ring is full
 abbrev pub IsDrained : FrontState → ℕ → Type 0
 IsDrained s c = ((kept_of s).cq c).ready ≡ [] ⊎ ((kept_of s).cq c).free ≡ 0
-
--- how many picks a log has
-abbrev pub picks_in : List Event → ℕ
-picks_in [] = 0
-picks_in (event.Pick seen pick ∷ rest) = picks_in rest + 1
-picks_in (e ∷ rest) = picks_in rest
 
 -- the pick that arbitration makes next
 abbrev pub next_pick : FrontState → Option Pick

@@ -9,9 +9,10 @@ use Rattle.nvme_lane.specs.Drainer.{items_of, get_of}
 use Rattle.nvme_lane.specs.declared.feeder.Feeder.{Feeder}
 use Rattle.nvme_lane.specs.declared.drainer.Drainer.{Drainer}
 use Rattle.nvme_front.specs.declared.settled.Sent.{Sent}
-use Rattle.nvme_front.specs.Queues.{is_open_region}
+use Rattle.nvme_log.specs.Queues.{is_open_region}
 use Rattle.nvme_front.specs.Goes.{get_place, put_place}
-use Rattle.nvme_front.specs.View.{FrontView, past_in, got_in, IsClear}
+use Rattle.nvme_front.specs.View.{FrontView, past_in, got_in}
+use Rattle.nvme_log.specs.Account.{IsClear}
 
 -- which end of which ring a host has
 abbrev pub feeder_place : Feeder Sqe → RingName × ℕ × ℕ

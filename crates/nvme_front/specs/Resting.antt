@@ -7,7 +7,8 @@ use Rattle.nvme_lane.specs.View.{GetView, PutView}
 use Rattle.nvme_lane.specs.declared.feeder.Feeder.{Feeder}
 use Rattle.nvme_lane.specs.declared.drainer.Drainer.{Drainer}
 use Rattle.nvme_front.specs.Goes.{get_place, put_place}
-use Rattle.nvme_front.specs.View.{FrontView, past_in, got_in, known_in, sent_in, is_serving}
+use Rattle.nvme_front.specs.View.{FrontView, past_in, got_in, known_in, sent_in}
+use Rattle.nvme_log.specs.Queues.{is_serving}
 use Rattle.nvme_front.specs.Hosts.{feeder_place, drainer_place, told, submitted_at, taken_at}
 
 -- nothing changed but what the ends know: of what comes next, no less than before

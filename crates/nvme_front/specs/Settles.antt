@@ -10,11 +10,11 @@ use Rattle.nvme_front.specs.declared.settled.Settled.{Settled}
 use Rattle.nvme_front.specs.declared.settled.SettleError.{SettleError}
 use Rattle.nvme_front.specs.declared.settled.SettleError.TheVariants.{Strangers, Outstanding, NoMemory}
 use Rattle.nvme_front.specs.declared.settling.Parts.{Parts}
-use Rattle.nvme_front.specs.Rules.{Past}
-use Rattle.nvme_front.specs.Queues.{is_open_region, pending}
-use Rattle.nvme_front.specs.Places.{fetched, waiting, places}
-use Rattle.nvme_front.specs.Completions.{is_posted, posted_to}
-use Rattle.nvme_front.specs.Account.{IsAccount}
+use Rattle.nvme_log.specs.Rules.{Past}
+use Rattle.nvme_log.specs.Queues.{is_open_region, pending}
+use Rattle.nvme_log.specs.Places.{fetched, waiting, places}
+use Rattle.nvme_log.specs.Completions.{is_posted, posted_to}
+use Rattle.nvme_log.specs.Account.{IsAccount}
 use Rattle.nvme_front.specs.View.{FrontView}
 use Rattle.nvme_front.specs.Hosts.{IsAtRest, sent_at, taken_at, collected_at}
 use Rattle.nvme_front.specs.Resting.{IsSameFront, AreSameFeeders, Takes}

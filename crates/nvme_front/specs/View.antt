@@ -1,6 +1,6 @@
 -- What a contract sees of a front, and what its answers mean (profile; Base Specification, Submission Queue and Completion Queue, Command Arbitration).
 use Rattle.std.specs.Prelude.{◌≡◌, ◌⊎◌, ℕ, ◌+◌, ◌<◌, ◌==◌, ◌&&◌, ◌||◌, Bool, true, false, List, [], ◌∷◌, ◌++◌, length, map, Option, Some, None, slice_index_or, reverse}
-use Rattle.std.specs.List.{All, list_any, list_all}
+use Rattle.std.specs.List.{All, list_any}
 use mathlib.Core.List.{IsPrefix}
 use Rattle.nvme_entry.specs.declared.submission.Sqe.{Sqe}
 use Rattle.nvme_entry.specs.declared.completion.Cqe.{Cqe}
@@ -9,23 +9,23 @@ use Rattle.nvme_pool.specs.declared.jobs.Finished.{Finished}
 use Rattle.nvme_pool.specs.Seat.{SameSeat, Ends, IsUnknown}
 use Rattle.nvme_arbiter.specs.Lawful.{lawful_pick}
 use Rattle.nvme_arbiter.specs.declared.pick.Pick.{Pick}
-use Rattle.nvme_front.specs.declared.event.Event.{Event}
+use Rattle.nvme_log.specs.declared.event.Event.{Event}
 use Rattle.nvme_front.specs.declared.front.Step.{Step}
 use Rattle.nvme_front.specs.declared.front.Step.TheVariants.{Picked, Moved, Idle, Stalled}
 use Rattle.nvme_front.specs.declared.front.FrontError.{FrontError}
 use Rattle.nvme_front.specs.declared.front.FrontError.TheVariants.{NoMemory, LogFull, Stray}
 use Rattle.nvme_front.specs.declared.state.FrontState.{FrontState}
-use Rattle.nvme_front.specs.Limits.{max_outstanding, admin_events}
-use Rattle.nvme_front.specs.Rules.{FrontRules, Past}
-use Rattle.nvme_front.specs.Queues.{Queue, Deletion, open_sq, is_open_region, pending, cq_region_of}
-use Rattle.nvme_front.specs.Places.{fetched, waiting, places, observation_of}
-use Rattle.nvme_front.specs.Histories.{arbitration_of}
-use Rattle.nvme_front.specs.Completions.{is_posted, posted_to, outstanding, is_index}
-use Rattle.nvme_front.specs.Account.{IsAccount, deleting_place}
-use Rattle.nvme_front.specs.Jobs.{Hands, IsOfNone, is_in_hand, gained_count}
-use Rattle.nvme_front.specs.Kept.{rules_of, gets_of, puts_of, sq_steps, cq_steps}
-use Rattle.nvme_front.specs.Standing.{is_served}
-use Rattle.nvme_front.specs.Goes.{get_place, put_place, picks_in}
+use Rattle.nvme_log.specs.Limits.{max_outstanding, admin_events}
+use Rattle.nvme_log.specs.Rules.{FrontRules, Past}
+use Rattle.nvme_log.specs.Queues.{Queue, Deletion, open_sq, pending, cq_region_of}
+use Rattle.nvme_log.specs.Places.{fetched, waiting, observation_of, is_served}
+use Rattle.nvme_log.specs.Histories.{arbitration_of, picks_in}
+use Rattle.nvme_log.specs.Completions.{is_posted, posted_to, outstanding, is_index}
+use Rattle.nvme_log.specs.Account.{IsAccount, deleting_place}
+use Rattle.nvme_state.specs.Jobs.{Hands, IsOfNone, is_in_hand, gained_count}
+use Rattle.nvme_front.specs.State.{rules_of, gets_of, puts_of}
+use Rattle.nvme_state.specs.Kept.{sq_steps, cq_steps}
+use Rattle.nvme_front.specs.Goes.{get_place, put_place}
 
 pub record FrontView : Type 0 where
   -- what the front was given: mechanism, limits, first settings, namespaces and regions
@@ -185,21 +185,6 @@ abbrev pub HasItsRegions : FrontView → Type 0
 HasItsRegions v = v.rules.regions ≡ cq_steps v.puts ++ sq_steps v.gets
 
 -- ---- clear fronts, and served regions
--- no candidate waits, every fetched place has its completion posted, and no deletion is pending
-pub record IsClear (past : Past) : Type 0 where
-  pub none_waits : (r : ℕ) → waiting past r ≡ []
-  pub all_posted : (r : ℕ) → list_all (λ (i : ℕ). is_posted past r i) (places past r) ≡ true
-  pub none_pending : pending past ≡ None
-
--- the region of a pending deletion
-abbrev pub is_deleted_region : Option Deletion → ℕ → Bool
-is_deleted_region None r = false
-is_deleted_region (Some deletion) r = deletion.region == r
-
--- a queue of the region is open or closing
-abbrev pub is_serving : Past → ℕ → Bool
-is_serving past r = is_open_region past r || is_deleted_region (pending past) r
-
 -- an address is that of a region of either kind
 abbrev pub is_address : FrontView → ℕ → Bool
 is_address v address = list_any (λ (g : GetView Sqe). g.address == address) v.gets || list_any (λ (p : PutView Cqe). p.address == address) v.puts

@@ -3,7 +3,8 @@ use crate::fifo::Fifo;
 use crate::front::{AddError, FrontConfig};
 use crate::jobs::Jobs;
 use crate::limits::MAX_READY;
-use crate::region::{Attachment, CqRegion, SqRegion};
+use crate::region::{CqRegion, SqRegion};
+use nvme_state::Attachment;
 use crate::state::FrontState;
 use nvme_admin::{MAX_REGIONS, Table};
 use nvme_arbiter::{Board, Class};
@@ -21,8 +22,8 @@ const ADMIN: Attachment = Attachment {
 impl FrontState {
     ghost use Rattle.std.specs.Prelude.{◌≡◌, ◌≢◌, ◌+◌, ◌<◌, [], ◌∷◌, ◌++◌, ◌||◌, Bool, true, false, length, IfOk, OnOk, IfErr, OnErr};
     ghost use Rattle.nvme_admin.specs.declared.bounds.TheConstants.{MAX_REGIONS};
-    ghost use Rattle.nvme_front.specs.Standing.{IsKept};
-    ghost use Rattle.nvme_front.specs.Kept.{gets_of, puts_of};
+    ghost use Rattle.nvme_front.specs.Room.{IsKept};
+    ghost use Rattle.nvme_front.specs.State.{gets_of, puts_of};
     ghost use Rattle.nvme_front.specs.View.{view_of, is_address};
     ghost use Rattle.nvme_front.specs.declared.front.AddError.TheVariants.{Used, TooMany, NoMemory};
 

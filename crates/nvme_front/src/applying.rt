@@ -1,9 +1,9 @@
 // What picked admin commands make of the queues.
-use crate::candidate::{Candidate, PendingDelete, Ready};
-use crate::event::Event;
+use nvme_state::{Candidate, PendingDelete, Ready};
+use nvme_log::Event;
 use crate::executing::abort_all;
 use crate::logging::note;
-use crate::region::Attachment;
+use nvme_state::Attachment;
 use crate::state::FrontState;
 use nvme_admin::Verdict;
 use nvme_arbiter::{Class, Settings};
@@ -13,8 +13,9 @@ impl FrontState {
     ghost use Rattle.std.specs.Prelude.{◌≡◌, ℕ, Option};
     ghost use Rattle.nvme_admin.specs.declared.verdict.Verdict.TheVariants as verdict;
     ghost use Rattle.nvme_front.specs.Applied.{IsApplied};
-    ghost use Rattle.nvme_front.specs.Standing.{IsKept};
-    ghost use Rattle.nvme_front.specs.Goes.{Goes, picks_in};
+    ghost use Rattle.nvme_front.specs.Room.{IsKept};
+    ghost use Rattle.nvme_front.specs.Goes.{Goes};
+    ghost use Rattle.nvme_log.specs.Histories.{picks_in};
 
     // The answer of an admin command is ready.
     fn answer(&mut self, candidate: Candidate, status: Status, dw0: u32)

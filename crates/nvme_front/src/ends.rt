@@ -1,5 +1,5 @@
 // What a front shows of its ends, for a thread that holds its hosts too.
-use crate::event::Event;
+use nvme_log::Event;
 use crate::front::Front;
 use crate::state::FrontState;
 use nvme_entry::{Cqe, Sqe};
@@ -11,14 +11,14 @@ use std::sync::Wait;
 impl FrontState {
     ghost use Rattle.std.specs.Prelude.{◌≡◌, ℕ, ◌<◌, length, slice_index_or, IfOk, OnOk, IfErr};
     ghost use Rattle.nvme_pool.specs.Pool.{IsPool};
-    ghost use Rattle.nvme_front.specs.Jobs.{IsClosed};
+    ghost use Rattle.nvme_state.specs.Jobs.{IsClosed};
     ghost use Rattle.nvme_lane.specs.View.{GetView, PutView, IsPair};
     ghost use Rattle.nvme_lane.specs.Feeder.{put_of};
     ghost use Rattle.nvme_lane.specs.Drainer.{get_of};
     ghost use Rattle.nvme_entry.specs.declared.submission.Sqe.{Sqe};
     ghost use Rattle.nvme_entry.specs.declared.completion.Cqe.{Cqe};
-    ghost use Rattle.nvme_front.specs.Standing.{IsKept};
-    ghost use Rattle.nvme_front.specs.Kept.{gets_of, puts_of};
+    ghost use Rattle.nvme_front.specs.Room.{IsKept};
+    ghost use Rattle.nvme_front.specs.State.{gets_of, puts_of};
     ghost use Rattle.nvme_front.specs.View.{view_of};
     ghost use Rattle.nvme_front.specs.Looks.{LooksAtSq, LooksAtCq};
 
@@ -96,17 +96,18 @@ impl FrontState {
 impl Front {
     ghost use Rattle.std.specs.Prelude.{◌≡◌, ℕ, ◌<◌, ◌≤◌, false, [], length, slice_index_or, IfOk, OnOk, IfErr};
     ghost use Rattle.nvme_pool.specs.Pool.{IsPool};
-    ghost use Rattle.nvme_front.specs.Dispatches.{AccountsForJobs};
-    ghost use Rattle.nvme_front.specs.Jobs.{IsClosed, in_hand};
+    ghost use Rattle.nvme_state.specs.JobAccount.{AccountsForJobs};
+    ghost use Rattle.nvme_state.specs.Jobs.{IsClosed, in_hand};
     ghost use Rattle.nvme_admin.specs.declared.bounds.TheConstants.{MAX_REGIONS};
     ghost use Rattle.nvme_lane.specs.View.{GetView, PutView, IsPair};
     ghost use Rattle.nvme_lane.specs.Feeder.{put_of};
     ghost use Rattle.nvme_lane.specs.Drainer.{get_of};
     ghost use Rattle.nvme_entry.specs.declared.submission.Sqe.{Sqe};
     ghost use Rattle.nvme_entry.specs.declared.completion.Cqe.{Cqe};
-    ghost use Rattle.nvme_front.specs.Places.{fetched};
-    ghost use Rattle.nvme_front.specs.Completions.{posted_to};
-    ghost use Rattle.nvme_front.specs.View.{AccountsForEnds, IsClear, past_in, got_in, sent_in};
+    ghost use Rattle.nvme_log.specs.Places.{fetched};
+    ghost use Rattle.nvme_log.specs.Completions.{posted_to};
+    ghost use Rattle.nvme_front.specs.View.{AccountsForEnds, past_in, got_in, sent_in};
+    ghost use Rattle.nvme_log.specs.Account.{IsClear};
     ghost use Rattle.nvme_front.specs.Looks.{LooksAtSq, LooksAtCq};
 
     /// The number of submission regions.

@@ -1,12 +1,12 @@
 // What becomes of the candidates of an I/O queue: they are picked, or aborted.
 ghost use Rattle.std.specs.Prelude.{◌≡◌, ◌+◌, ◌^◌, ◌<◌, ◌≤◌, [], ◌++◌, map, length, take, drop, vec_capacity};
-ghost use Rattle.nvme_front.specs.Steps.{aborted};
-ghost use Rattle.nvme_front.specs.Jobs.{with_picked};
-ghost use Rattle.nvme_front.specs.declared.event.Event.TheVariants.{Abort};
-ghost use Rattle.nvme_front.specs.declared.candidate.Candidate.{Candidate};
+ghost use Rattle.nvme_state.specs.Steps.{aborted};
+ghost use Rattle.nvme_state.specs.Jobs.{with_picked};
+ghost use Rattle.nvme_log.specs.declared.event.Event.TheVariants.{Abort};
+ghost use Rattle.nvme_state.specs.declared.candidate.Candidate.{Candidate};
 
-use crate::candidate::{Candidate, Ready};
-use crate::event::Event;
+use nvme_state::{Candidate, Ready};
+use nvme_log::Event;
 use crate::fifo::Fifo;
 use crate::jobs::Jobs;
 use crate::logging::note;

@@ -1,6 +1,6 @@
 // The scan of the submission rings.
-use crate::candidate::Candidate;
-use crate::event::Event;
+use nvme_state::Candidate;
+use nvme_log::Event;
 use crate::front::FrontError;
 use crate::logging::{make_room, note};
 use crate::state::FrontState;
@@ -9,8 +9,9 @@ use nvme_arbiter::HIGHEST_QID;
 impl FrontState {
     ghost use Rattle.std.specs.Prelude.{◌≡◌, ◌≢◌, ℕ, ◌+◌, ◌<◌, ◌≤◌, length, Option, Some, None, IfOk, IfErr, true, false, ◌⊎◌};
     ghost use Rattle.nvme_arbiter.specs.Limits.{highest_qid};
-    ghost use Rattle.nvme_front.specs.Standing.{IsKept};
-    ghost use Rattle.nvme_front.specs.Goes.{Goes, IsSame, HasAdmin, IsScanned, picks_in};
+    ghost use Rattle.nvme_front.specs.Room.{IsKept};
+    ghost use Rattle.nvme_front.specs.Goes.{Goes, IsSame, HasAdmin, IsScanned};
+    ghost use Rattle.nvme_log.specs.Histories.{picks_in};
     ghost use Rattle.nvme_front.specs.declared.front.FrontError.TheVariants.{NoMemory, LogFull};
 
     // Fetches one command of a queue, where it is open, its window has room and its ring gives one.

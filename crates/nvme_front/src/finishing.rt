@@ -1,6 +1,6 @@
 // The end of a deletion.
-use crate::candidate::{PendingDelete, Ready};
-use crate::event::Event;
+use nvme_state::{PendingDelete, Ready};
+use nvme_log::Event;
 use crate::front::FrontError;
 use crate::logging::{make_room, note};
 use crate::state::FrontState;
@@ -8,9 +8,10 @@ use nvme_entry::Status;
 
 impl FrontState {
     ghost use Rattle.std.specs.Prelude.{◌≡◌, ◌≢◌, ℕ, ◌+◌, ◌<◌, length, Option, Some, None, true, false, ◌⊎◌, IfErr};
-    ghost use Rattle.nvme_front.specs.Kept.{sq_in};
-    ghost use Rattle.nvme_front.specs.Standing.{IsKept};
-    ghost use Rattle.nvme_front.specs.Goes.{Goes, IsSame, HasAdmin, picks_in};
+    ghost use Rattle.nvme_front.specs.State.{sq_in};
+    ghost use Rattle.nvme_front.specs.Room.{IsKept};
+    ghost use Rattle.nvme_front.specs.Goes.{Goes, IsSame, HasAdmin};
+    ghost use Rattle.nvme_log.specs.Histories.{picks_in};
     ghost use Rattle.nvme_front.specs.declared.front.FrontError.TheVariants.{NoMemory, LogFull};
 
     /// Finishes the pending deletion, where all places of its queue are posted: its answer is then ready.

@@ -1,7 +1,7 @@
 ghost use Rattle.std.specs.Prelude.{◌≤◌};
-ghost use Rattle.nvme_front.specs.Limits.{most_events};
+ghost use Rattle.nvme_log.specs.Limits.{most_events};
 
-use crate::event::Event;
+use nvme_log::Event;
 use crate::state::FrontState;
 use nvme_admin::Limits;
 use nvme_arbiter::{Mechanism, Settings};
@@ -74,7 +74,7 @@ pub struct Front {
 
 impl Model for Front {
     ghost use Rattle.nvme_front.specs.View.{FrontView, view_of};
-    ghost use Rattle.nvme_front.specs.Standing.{IsKept};
+    ghost use Rattle.nvme_front.specs.Room.{IsKept};
 
     ghost Value = { FrontView };
 
@@ -86,8 +86,10 @@ impl Model for Front {
 impl Front {
     ghost use Rattle.std.specs.Prelude.{◌≡◌, ◌≢◌, ◌↔◌, ◌<◌, [], ◌∷◌, ◌++◌, true, false, length, IfOk, OnOk, IfErr, OnErr, IsTrue, ◌==◌, ◌&&◌, nat_lt};
     ghost use Rattle.nvme_admin.specs.declared.bounds.TheConstants.{MAX_REGIONS};
-    ghost use Rattle.nvme_front.specs.Dispatches.{AccountsForJobs};
-    ghost use Rattle.nvme_front.specs.View.{AccountsForEnds, GoesOn, HasItsRegions, StepMeans, ErrorMeans, IsClear, is_serving, is_address, past_in};
+    ghost use Rattle.nvme_state.specs.JobAccount.{AccountsForJobs};
+    ghost use Rattle.nvme_front.specs.View.{AccountsForEnds, GoesOn, HasItsRegions, StepMeans, ErrorMeans, is_address, past_in};
+    ghost use Rattle.nvme_log.specs.Account.{IsClear};
+    ghost use Rattle.nvme_log.specs.Queues.{is_serving};
     ghost use Rattle.nvme_front.specs.declared.front.AddError.TheVariants.{Used, TooMany, NoMemory};
 
     /// A front with no region and an empty log, which hands its jobs and gains their results by this seat.

@@ -1,5 +1,5 @@
 // The jobs that are handed to the workers, and the results that are gained from them.
-use crate::candidate::Ready;
+use nvme_state::Ready;
 use crate::front::FrontError;
 use crate::jobs::Gained;
 use crate::state::FrontState;
@@ -10,8 +10,8 @@ impl FrontState {
     ghost use Rattle.std.specs.Prelude.{◌≡◌, ℕ, ◌<◌, true, false, length, IfErr};
     ghost use Rattle.std.specs.List.{All};
     ghost use Rattle.nvme_pool.specs.Seat.{IsUnknown};
-    ghost use Rattle.nvme_front.specs.Standing.{IsKept};
-    ghost use Rattle.nvme_front.specs.Jobs.{gained_count};
+    ghost use Rattle.nvme_front.specs.Room.{IsKept};
+    ghost use Rattle.nvme_state.specs.Jobs.{gained_count};
     ghost use Rattle.nvme_front.specs.Goes.{Goes, IsSame, HasAdmin};
     ghost use Rattle.nvme_front.specs.View.{view_of, GainedStray};
     ghost use Rattle.nvme_front.specs.declared.front.FrontError.TheVariants.{Stray};

@@ -2,12 +2,12 @@
 ghost use Rattle.std.specs.Prelude.{◌≡◌, ◌↔◌, ◌<◌, IsTrue, IfSome, IfNone, length, slice_index_or};
 ghost use Rattle.std.specs.List.{All};
 ghost use Rattle.nvme_pool.specs.Jobs.{job_of};
-ghost use Rattle.nvme_front.specs.Jobs.{job_in, IsOfNone};
-ghost use Rattle.nvme_front.specs.declared.candidate.Dispatched.{Dispatched};
+ghost use Rattle.nvme_state.specs.Jobs.{job_in, IsOfNone};
+ghost use Rattle.nvme_state.specs.declared.candidate.Dispatched.{Dispatched};
 
-use crate::candidate::{Candidate, Dispatched};
+use nvme_state::{Candidate, Dispatched};
 use crate::fifo::Fifo;
-use crate::limits::MAX_OUTSTANDING;
+use nvme_log::MAX_OUTSTANDING;
 use nvme_entry::Namespaces;
 use nvme_pool::{Finished, FrontSeat, Job, Lanes, Worker, close};
 use std::alloc::Global;
@@ -29,7 +29,7 @@ pub struct Jobs {
 
 impl Model for Jobs {
     ghost use Rattle.std.specs.Prelude.{◌≤◌, vec_capacity};
-    ghost use Rattle.nvme_front.specs.Jobs.{JobsView};
+    ghost use Rattle.nvme_state.specs.Jobs.{JobsView};
 
     ghost Value = { JobsView };
 
@@ -83,8 +83,9 @@ fn find(running: &[Dispatched], finished: &Finished, spaces: &Namespaces) -> Opt
 impl Jobs {
     ghost use Rattle.std.specs.Prelude.{◌≡◌, ◌⊎◌, ◌+◌, ◌^◌, ◌<◌, ◌≤◌, [], ◌∷◌, ◌++◌, length, true, false, OnOk, IfErr};
     ghost use Rattle.nvme_pool.specs.Pool.{IsPool};
-    ghost use Rattle.nvme_front.specs.Limits.{max_outstanding};
-    ghost use Rattle.nvme_front.specs.Jobs.{HandsOne, GainsBy, IsClosed};
+    ghost use Rattle.nvme_log.specs.Limits.{max_outstanding};
+    ghost use Rattle.nvme_state.specs.Jobs.{HandsOne, IsClosed};
+    ghost use Rattle.nvme_front.specs.Gains.{GainsBy};
 
     /// No job was handed, and there is no room yet.
     pub fn new(alloc: Global, seat: FrontSeat) -> Jobs

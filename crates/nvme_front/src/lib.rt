@@ -1,12 +1,10 @@
-//! The front of an NVMe controller: windows, picks, deletions and posts, its log, and the settling with its hosts. What
-//! the log says, and when it accounts for what the hosts submitted and collected, stands in `specs/`.
+//! The front of an NVMe controller: windows, picks, deletions and posts, and the settling with its hosts. What its log
+//! says stands in `nvme_log`, and what it keeps beside the log in `nvme_state`.
 #![tactic(auto)]
 
 mod adding;
 mod applying;
-mod candidate;
 mod ends;
-mod event;
 mod executing;
 mod fetching;
 mod fifo;
@@ -14,7 +12,6 @@ mod finishing;
 mod front;
 mod handing;
 mod jobs;
-pub mod laws;
 mod limits;
 mod logging;
 mod picking;
@@ -24,8 +21,7 @@ mod settled;
 mod settling;
 mod state;
 
-pub use event::Event;
 pub use front::{AddError, Front, FrontConfig, FrontError, Step};
-pub use limits::{MAX_EVENTS, MAX_OUTSTANDING};
+pub use nvme_log::{Event, MAX_EVENTS, MAX_OUTSTANDING};
 pub use settled::{Sent, SettleError, Settled};
 pub use settling::{Parts, settle};

@@ -1,11 +1,6 @@
-// The limits of this profile. A later profile raises them here and in specs/Limits.antt.
+// What the limits of this profile make of a front's lists.
 use nvme_lane::MAX_SLOTS;
-
-/// The most places that are picked and whose completion isn't posted yet.
-pub const MAX_OUTSTANDING: u16 = 256;
-
-/// The most events that a front's log may be allowed to hold.
-pub const MAX_EVENTS: u32 = 1_048_576;
+use nvme_log::MAX_OUTSTANDING;
 
 // The most completions that are ready for one completion region: those of all places that may be outstanding, and of
 // the candidates of one queue that is deleted.

@@ -2,7 +2,7 @@
 ghost use Rattle.std.specs.Prelude.{◌≡◌, ◌⊎◌, ◌+◌, ◌<◌, ◌≤◌, [], ◌∷◌, ◌++◌, length, OnOk, IfErr, vec_capacity};
 ghost use Rattle.nvme_front.specs.declared.front.FrontError.TheVariants.{NoMemory, LogFull};
 
-use crate::event::Event;
+use nvme_log::Event;
 use crate::front::FrontError;
 
 /// Makes room for so many events: within the limit of the log, and in memory.

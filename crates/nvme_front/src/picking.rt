@@ -4,10 +4,11 @@ ghost use Rattle.nvme_entry.specs.AdminCommand.{admin_command_of};
 ghost use Rattle.nvme_entry.specs.declared.admin.AdminCommand.TheVariants.{DeleteCq};
 ghost use Rattle.nvme_admin.specs.Standing.{cq_of};
 
-use crate::event::Event;
+use nvme_log::Event;
 use crate::executing::dispatch_oldest;
 use crate::front::{FrontError, Step};
-use crate::limits::{ADMIN_EVENTS, MAX_OUTSTANDING};
+use crate::limits::ADMIN_EVENTS;
+use nvme_log::MAX_OUTSTANDING;
 use crate::logging::{make_room, note};
 use crate::state::FrontState;
 use nvme_admin::Table;
@@ -25,9 +26,10 @@ fn deleted_region(table: &Table, entry: &Sqe) -> Option<u8>
 
 impl FrontState {
     ghost use Rattle.std.specs.Prelude.{◌≡◌, ◌≢◌, ◌⊎◌, ◌+◌, ◌<◌, ◌≤◌, length, None, IsSome, OnOk, IfSome, IfErr, OnErr};
-    ghost use Rattle.nvme_front.specs.Limits.{max_outstanding, admin_events};
-    ghost use Rattle.nvme_front.specs.Standing.{IsKept};
-    ghost use Rattle.nvme_front.specs.Goes.{Goes, IsSame, HasAdmin, picks_in, next_pick};
+    ghost use Rattle.nvme_log.specs.Limits.{max_outstanding, admin_events};
+    ghost use Rattle.nvme_front.specs.Room.{IsKept};
+    ghost use Rattle.nvme_front.specs.Goes.{Goes, IsSame, HasAdmin, next_pick};
+    ghost use Rattle.nvme_log.specs.Histories.{picks_in};
     ghost use Rattle.nvme_front.specs.declared.front.FrontError.TheVariants.{NoMemory, LogFull};
     ghost use Rattle.nvme_front.specs.declared.front.Step.TheVariants as step;
     ghost use Rattle.nvme_arbiter.specs.declared.pick.Pick.{Pick};

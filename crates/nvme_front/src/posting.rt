@@ -1,9 +1,9 @@
 // The posting of ready completions.
 ghost use Rattle.std.specs.Prelude.{◌≡◌, ◌<◌};
-ghost use Rattle.nvme_front.specs.Completions.{phase_after};
+ghost use Rattle.nvme_log.specs.Completions.{phase_after};
 
-use crate::candidate::Ready;
-use crate::event::Event;
+use nvme_state::Ready;
+use nvme_log::Event;
 use crate::front::FrontError;
 use crate::logging::{make_room, note};
 use crate::state::FrontState;
@@ -19,9 +19,10 @@ fn phase_of(posted: u32, slots: u16) -> bool
 
 impl FrontState {
     ghost use Rattle.std.specs.Prelude.{◌≡◌, ℕ, ◌+◌, ◌<◌, length, None, IfSome, IfNone, true, false, ◌⊎◌, IfErr};
-    ghost use Rattle.nvme_front.specs.Kept.{sq_in, cq_in};
-    ghost use Rattle.nvme_front.specs.Standing.{IsKept};
-    ghost use Rattle.nvme_front.specs.Goes.{Goes, IsSame, HasAdmin, IsDrained, IsCompletionOf, picks_in};
+    ghost use Rattle.nvme_front.specs.State.{sq_in, cq_in};
+    ghost use Rattle.nvme_front.specs.Room.{IsKept};
+    ghost use Rattle.nvme_front.specs.Goes.{Goes, IsSame, HasAdmin, IsDrained, IsCompletionOf};
+    ghost use Rattle.nvme_log.specs.Histories.{picks_in};
     ghost use Rattle.nvme_front.specs.declared.front.FrontError.TheVariants.{NoMemory, LogFull};
 
     // The completion of a ready place, where it is posted next to a completion region. None where the place's region

@@ -1,15 +1,7 @@
-use crate::candidate::{Candidate, Ready};
+use nvme_state::{Attachment, Candidate, Ready};
 use crate::fifo::Fifo;
 use nvme_entry::{Cqe, Sqe};
 use nvme_lane::{GetEnd, PutEnd};
-
-/// The queue that a submission region was opened for, and the completion region that it posts to. They stay after the
-/// queue was deleted.
-#[derive(Clone, Copy, Debug, PartialEq, Eq)]
-pub struct Attachment {
-    pub qid: u16,
-    pub cq_region: u8,
-}
 
 /// A submission region: its ring, the window of its queue, how many commands were fetched, and how many of those that
 /// were picked or aborted have no completion posted.

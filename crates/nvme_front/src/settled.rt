@@ -1,4 +1,4 @@
-use crate::event::Event;
+use nvme_log::Event;
 use nvme_entry::{Cqe, Sqe};
 
 /// What a host submitted of its script: the first `count` commands.

@@ -3,8 +3,8 @@ ghost use Rattle.std.specs.List.{list_all};
 ghost use Rattle.nvme_front.specs.Clear.{no_window, no_ready};
 ghost use Rattle.nvme_front.specs.declared.front.Step.TheVariants as step_is;
 
-use crate::candidate::PendingDelete;
-use crate::event::Event;
+use nvme_state::PendingDelete;
+use nvme_log::Event;
 use crate::front::{FrontConfig, FrontError, Step};
 use crate::jobs::Jobs;
 use crate::region::{CqRegion, SqRegion};
@@ -34,10 +34,12 @@ pub struct FrontState {
 
 impl FrontState {
     ghost use Rattle.std.specs.Prelude.{◌≡◌, ◌↔◌, length, IfOk, IfErr, IsTrue, ◌&&◌, nat_lt};
-    ghost use Rattle.nvme_front.specs.Standing.{IsKept};
-    ghost use Rattle.nvme_front.specs.Kept.{past_of};
+    ghost use Rattle.nvme_front.specs.Room.{IsKept};
+    ghost use Rattle.nvme_front.specs.State.{past_of};
     ghost use Rattle.nvme_front.specs.Goes.{Goes, HasAdmin};
-    ghost use Rattle.nvme_front.specs.View.{view_of, StepMeans, ErrorMeans, IsClear, is_serving};
+    ghost use Rattle.nvme_front.specs.View.{view_of, StepMeans, ErrorMeans};
+    ghost use Rattle.nvme_log.specs.Account.{IsClear};
+    ghost use Rattle.nvme_log.specs.Queues.{is_serving};
 
     /// One turn.
     pub fn turn<R: Wait>(&mut self, rt: &R, lanes: &Lanes) -> Result<Step, FrontError>

@@ -3,7 +3,7 @@ ghost use Rattle.std.specs.Prelude.{◌≡◌, ◌≤◌, ◌<◌, ◌++◌, ◌
 ghost use Rattle.nvme_lane.specs.View.{SamePut, SameGet};
 ghost use Rattle.nvme_lane.specs.Feeder.{put_of};
 ghost use Rattle.nvme_lane.specs.Drainer.{get_of};
-ghost use Rattle.nvme_front.specs.Limits.{most_events};
+ghost use Rattle.nvme_log.specs.Limits.{most_events};
 ghost use Rattle.nvme_front.specs.Goes.{get_place, put_place};
 ghost use Rattle.nvme_front.specs.Hosts.{IsFedBy, IsDrainedBy, feeder_place, drainer_place};
 

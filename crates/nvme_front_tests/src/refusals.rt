@@ -1,6 +1,6 @@
 // What a front and a settling refuse.
 ghost use Rattle.std.specs.Prelude.{◌≡◌, ◌≤◌, [], IfOk};
-ghost use Rattle.nvme_front.specs.Limits.{most_events};
+ghost use Rattle.nvme_log.specs.Limits.{most_events};
 
 use crate::again::{add_sq_again, pool_again, ring_again};
 use crate::commands::get_arbitration;

@@ -12,13 +12,14 @@ use Rattle.nvme_workload.specs.declared.plan.SqPlan.{SqPlan}
 use Rattle.nvme_workload.specs.Plan.{Plan}
 use Rattle.nvme_front.specs.declared.settled.Settled.{Settled}
 use Rattle.nvme_front.specs.declared.settled.Sent.{Sent}
-use Rattle.nvme_front.specs.declared.event.Event.{Event}
-use Rattle.nvme_front.specs.Rules.{FrontRules, Past}
-use Rattle.nvme_front.specs.Queues.{is_open_region, pending}
-use Rattle.nvme_front.specs.Account.{IsAccount, IsWholeAccount}
+use Rattle.nvme_log.specs.declared.event.Event.{Event}
+use Rattle.nvme_log.specs.Rules.{FrontRules, Past}
+use Rattle.nvme_log.specs.Queues.{is_open_region, pending}
+use Rattle.nvme_log.specs.Account.{IsAccount, IsWholeAccount}
 use Rattle.nvme_front.specs.Hosts.{told, told_by, sent_at, submitted_at, collected_at}
 use Rattle.nvme_front.specs.Settles.{IsSettled, settled_past}
-use Rattle.nvme_front.specs.View.{FrontView, past_in, is_serving, is_deleted_region}
+use Rattle.nvme_front.specs.View.{FrontView, past_in}
+use Rattle.nvme_log.specs.Queues.{is_serving, is_deleted_region}
 use Rattle.nvme_sim.specs.declared.reports.Mode.{Mode}
 use Rattle.nvme_sim.specs.declared.reports.Mode.TheVariants.{Loaded, Live}
 use Rattle.nvme_sim.specs.Runs.{AllSubmitted, IsDue, is_loaded, rules_for, script_for}

@@ -4,10 +4,10 @@ use Rattle.std.specs.List.{flat_map}
 use Rattle.std.proofs.lemmas.List.{append-nil, take-append-drop, take_rest, length-append, reverse-append}
 use Rattle.std.proofs.lemmas.List.Concat.{flat_map-append}
 use Rattle.nvme_entry.specs.declared.completion.Cqe.{Cqe}
-use Rattle.nvme_front.specs.declared.event.Event.{Event}
-use Rattle.nvme_front.specs.declared.event.Event.TheVariants.{Post}
-use Rattle.nvme_front.specs.Rules.{Past}
-use Rattle.nvme_front.specs.Completions.{posts_of}
+use Rattle.nvme_log.specs.declared.event.Event.{Event}
+use Rattle.nvme_log.specs.declared.event.Event.TheVariants.{Post}
+use Rattle.nvme_log.specs.Rules.{Past}
+use Rattle.nvme_log.specs.Completions.{posts_of}
 use Rattle.nvme_sim.specs.Report.{completion_in, completions_of}
 use Rattle.nvme_sim.specs.Tallies.{IsFirst}
 use Rattle.nvme_sim.proofs.Loops.{flat_map_at}

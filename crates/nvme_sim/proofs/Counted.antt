@@ -1,7 +1,7 @@
 -- The line of a submission region.
 use Rattle.std.proofs.Common.{◌≡◌, ℕ, refl}
 use Rattle.nvme_front.specs.declared.settled.Sent.{Sent}
-use Rattle.nvme_front.specs.Rules.{Past}
+use Rattle.nvme_log.specs.Rules.{Past}
 use Rattle.nvme_sim.specs.declared.reports.counts.Counts.{Counts}
 use Rattle.nvme_sim.specs.Report.{sq_line}
 use Rattle.nvme_sim.specs.Tallies.{IsCounted, sq_line_of}

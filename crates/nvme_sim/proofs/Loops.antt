@@ -5,7 +5,7 @@ use Rattle.std.specs.List.{flat_map}
 use Rattle.std.proofs.lemmas.Bool.Decides.{eqb_tells}
 use Rattle.std.proofs.lemmas.List.{append-nil, take-append-drop, take_more, drop_more, length-take-le}
 use Rattle.std.proofs.lemmas.List.Concat.{flat_map-append}
-use Rattle.nvme_front.specs.Rules.{upto}
+use Rattle.nvme_log.specs.Rules.{upto}
 use Rattle.nvme_sim.specs.Report.{numbered}
 use Rattle.nvme_sim.specs.Written.{AppendsFront, Writes}
 use Rattle.nvme_sim.proofs.Writing.{appends_then, fails_at}

@@ -3,10 +3,10 @@ use Rattle.std.proofs.Common.{◌≡◌, ℕ, ◌+◌, ◌≤◌, ◌==◌, ◌&
 use Rattle.std.proofs.lemmas.Bool.Decides.{eqb_tells}
 use Rattle.std.proofs.lemmas.List.{drop_more, reverse-append, take_rest}
 use Rattle.nvme_entry.specs.declared.completion.Cqe.{Cqe}
-use Rattle.nvme_front.specs.declared.event.Event.{Event}
-use Rattle.nvme_front.specs.declared.event.Event.TheVariants.{Post}
-use Rattle.nvme_front.specs.Rules.{Past}
-use Rattle.nvme_front.specs.Completions.{posts_of}
+use Rattle.nvme_log.specs.declared.event.Event.{Event}
+use Rattle.nvme_log.specs.declared.event.Event.TheVariants.{Post}
+use Rattle.nvme_log.specs.Rules.{Past}
+use Rattle.nvme_log.specs.Completions.{posts_of}
 use Rattle.nvme_sim.specs.Report.{completions_of}
 use Rattle.nvme_sim.specs.Tallies.{IsFirst}
 use Rattle.nvme_sim.proofs.Completions.{completions_are_posts, posts_append}

@@ -15,7 +15,7 @@ use Rattle.nvme_workload.specs.Plan.{Plan}
 use Rattle.nvme_workload.specs.Sound.{AreApart}
 use Rattle.nvme_front.specs.declared.settling.Parts.{Parts}
 use Rattle.nvme_front.specs.Goes.{get_place}
-use Rattle.nvme_front.specs.Kept.{sq_steps, cq_steps}
+use Rattle.nvme_state.specs.Kept.{sq_steps, cq_steps}
 use Rattle.nvme_front.specs.View.{FrontView}
 use Rattle.nvme_sim.specs.Runs.{sq_additions, cq_additions}
 use Rattle.nvme_sim.specs.Prepared.{IsPrepared, AddsSqs, AddsCqs, sq_site, cq_site, get_site, put_site}

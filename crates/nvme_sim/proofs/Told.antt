@@ -7,10 +7,10 @@ use Rattle.nvme_pool.specs.declared.jobs.Job.{Job}
 use Rattle.nvme_pool.specs.Worker.{WorkerView, IsFresh}
 use Rattle.nvme_pool.specs.Seat.{SeatView}
 use Rattle.nvme_pool.proofs.Retiring.{sum_by_map}
-use Rattle.nvme_front.specs.Rules.{Past}
-use Rattle.nvme_front.specs.Places.{Place}
-use Rattle.nvme_front.specs.Dispatches.{AreJobs, ExecutesOnce, dispatched}
-use Rattle.nvme_front.proofs.Readying.{sum_by-same}
+use Rattle.nvme_log.specs.Rules.{Past}
+use Rattle.nvme_log.specs.Places.{Place}
+use Rattle.nvme_log.specs.Dispatches.{AreJobs, ExecutesOnce, dispatched}
+use Rattle.nvme_state.proofs.Readying.{sum_by-same}
 use Rattle.nvme_threads.specs.Runs.{AllRan}
 use Rattle.nvme_sim.specs.Runs.{AreTold, GatesRan, view_after}
 

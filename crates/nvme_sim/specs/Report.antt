@@ -5,12 +5,12 @@ use Rattle.std.specs.List.{concat, flat_map}
 use Rattle.std.specs.Int.{w32, to_be_bytes}
 use Rattle.hex.specs.Hex.{encode_lower}
 use Rattle.nvme_entry.specs.declared.completion.Cqe.{Cqe}
-use Rattle.nvme_front.specs.declared.event.Event.{Event}
-use Rattle.nvme_front.specs.declared.event.Event.TheVariants.{Pick, Abort, Post}
+use Rattle.nvme_log.specs.declared.event.Event.{Event}
+use Rattle.nvme_log.specs.declared.event.Event.TheVariants.{Pick, Abort, Post}
 use Rattle.nvme_front.specs.declared.settled.Sent.{Sent}
 use Rattle.nvme_front.specs.declared.settled.Settled.{Settled}
-use Rattle.nvme_front.specs.Rules.{Past, upto}
-use Rattle.nvme_front.specs.Places.{fetched, picked, places}
+use Rattle.nvme_log.specs.Rules.{Past, upto}
+use Rattle.nvme_log.specs.Places.{fetched, picked, places}
 use Rattle.nvme_sim.specs.declared.reports.Mode.{Mode}
 use Rattle.nvme_sim.specs.declared.reports.Mode.TheVariants.{Loaded, Live}
 

@@ -13,12 +13,13 @@ use Rattle.nvme_workload.specs.Plan.{Plan, workload_of}
 use Rattle.nvme_threads.specs.declared.driving.DriveError.{DriveError}
 use Rattle.nvme_threads.specs.declared.driving.DriveError.TheVariants as drive
 use Rattle.nvme_front.specs.declared.settled.Settled.{Settled}
-use Rattle.nvme_front.specs.Rules.{FrontRules, Past}
-use Rattle.nvme_front.specs.Account.{IsWholeAccount}
-use Rattle.nvme_front.specs.Dispatches.{dispatched}
+use Rattle.nvme_log.specs.Rules.{FrontRules, Past}
+use Rattle.nvme_log.specs.Account.{IsWholeAccount}
+use Rattle.nvme_log.specs.Dispatches.{dispatched}
 use Rattle.nvme_front.specs.Hosts.{sent_at, collected_at}
 use Rattle.nvme_front.specs.Settles.{settled_past}
-use Rattle.nvme_front.specs.View.{FrontView, past_in, is_serving}
+use Rattle.nvme_front.specs.View.{FrontView, past_in}
+use Rattle.nvme_log.specs.Queues.{is_serving}
 use Rattle.nvme_sim.specs.declared.reports.Mode.{Mode}
 use Rattle.nvme_sim.specs.declared.reports.Mode.TheVariants.{Loaded, Live}
 use Rattle.nvme_sim.specs.declared.runs.RunError.{RunError}

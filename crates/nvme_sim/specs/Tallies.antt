@@ -1,9 +1,9 @@
 -- What the report counts as it goes through a log.
 use Rattle.std.specs.Prelude.{◌≡◌, ℕ, ◌+◌, ◌-◌, ◌^◌, ◌<◌, ◌≤◌, Bool, false, List, [], ◌∷◌, length, get_or, codes, decimal}
 use Rattle.nvme_front.specs.declared.settled.Sent.{Sent}
-use Rattle.nvme_front.specs.Rules.{Past}
-use Rattle.nvme_front.specs.Queues.{open_sq, has_region}
-use Rattle.nvme_front.specs.Places.{fetched, picked}
+use Rattle.nvme_log.specs.Rules.{Past}
+use Rattle.nvme_log.specs.Queues.{open_sq, has_region}
+use Rattle.nvme_log.specs.Places.{fetched, picked}
 use Rattle.nvme_sim.specs.declared.reports.counts.Counts.{Counts}
 use Rattle.nvme_sim.specs.Report.{aborts_of, line}
 

@@ -1,6 +1,6 @@
 //! The report of a run.
 ghost use Rattle.std.specs.Prelude.{ℕ, ◌≤◌, reverse};
-ghost use Rattle.nvme_front.specs.Completions.{posts_of};
+ghost use Rattle.nvme_log.specs.Completions.{posts_of};
 ghost use Rattle.nvme_sim.specs.Report.{report_text};
 ghost use Rattle.nvme_sim.specs.Written.{Writes};
 

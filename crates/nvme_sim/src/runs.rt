@@ -3,7 +3,7 @@ ghost use Rattle.std.specs.Prelude.{◌≡◌, ◌≢◌, ◌↔◌, ◌⊎◌, 
 ghost use Rattle.std.specs.Io.KnownBytes.{Appends};
 ghost use Rattle.nvme_lane.specs.Limits.{IsOutside};
 ghost use Rattle.nvme_pool.specs.Limits.{max_workers};
-ghost use Rattle.nvme_front.specs.Account.{IsWholeAccount};
+ghost use Rattle.nvme_log.specs.Account.{IsWholeAccount};
 ghost use Rattle.nvme_front.specs.Hosts.{sent_at, collected_at};
 ghost use Rattle.nvme_front.specs.Settles.{settled_past};
 ghost use Rattle.nvme_workload.specs.Plan.{Plan, plan_of, workload_of};

@@ -1,5 +1,5 @@
 ghost use Rattle.std.specs.Prelude.{◌≡◌, ℕ, ◌≤◌, reverse, true, IfOk};
-ghost use Rattle.nvme_front.specs.Completions.{posts_of};
+ghost use Rattle.nvme_log.specs.Completions.{posts_of};
 
 use super::*;
 use crate::reports::completions::first_posted;

@@ -1,9 +1,9 @@
 // The lines of the fetched places.
 ghost use Rattle.std.specs.Prelude.{◌≡◌, ℕ, ◌<◌, ◌≤◌, [], ◌∷◌, length, reverse, IfSome, MatchOption};
 ghost use Rattle.std.specs.List.{flat_map};
-ghost use Rattle.nvme_front.specs.Completions.{posts_of};
-ghost use Rattle.nvme_front.specs.Places.{fetched};
-ghost use Rattle.nvme_front.specs.Rules.{upto};
+ghost use Rattle.nvme_log.specs.Completions.{posts_of};
+ghost use Rattle.nvme_log.specs.Places.{fetched};
+ghost use Rattle.nvme_log.specs.Rules.{upto};
 ghost use Rattle.nvme_sim.specs.Report.{cmd_line, cmd_lines, completions_of};
 ghost use Rattle.nvme_sim.specs.Tallies.{IsFirst};
 ghost use Rattle.nvme_sim.specs.Written.{Writes};

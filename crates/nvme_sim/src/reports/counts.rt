@@ -1,6 +1,6 @@
 // The lines of the submission regions.
 ghost use Rattle.std.specs.Prelude.{◌≡◌, ℕ, ◌∷◌, length, reverse};
-ghost use Rattle.nvme_front.specs.Rules.{Past};
+ghost use Rattle.nvme_log.specs.Rules.{Past};
 ghost use Rattle.nvme_sim.specs.Tallies.{IsCounted, IsFew, IsOneMore, Tallies, sq_line_of};
 ghost use Rattle.nvme_sim.specs.Report.{numbered, sq_line};
 ghost use Rattle.nvme_sim.specs.Written.{Writes};

@@ -3,7 +3,7 @@ ghost use Rattle.std.specs.Prelude.{◌≡◌, ◌↔◌, ◌⊎◌, ◌≤◌, 
 ghost use Rattle.nvme_admin.specs.declared.bounds.TheConstants.{MAX_REGIONS};
 ghost use Rattle.nvme_front.specs.Hosts.{IsFedBy, IsDrainedBy, told, told_by};
 ghost use Rattle.nvme_front.specs.Settles.{HasItsPool, AreAtRest, IsSettled, IsSettledAccount, settled_past};
-ghost use Rattle.nvme_front.specs.Dispatches.{ExecutesOnce};
+ghost use Rattle.nvme_log.specs.Dispatches.{ExecutesOnce};
 ghost use Rattle.nvme_sim.specs.Runs.{AllSubmitted};
 ghost use Rattle.nvme_sim.specs.declared.runs.RunError.TheVariants as fault;
 

@@ -1,8 +1,8 @@
 use Rattle.std.proofs.Common.{◌∙◌, ap, refl, arith}
 use Rattle.std.specs.Prelude.{slice_get}
-use Rattle.nvme_front.specs.Steps.{aborted}
-use Rattle.nvme_front.specs.declared.event.Event.TheVariants.{Abort}
-use Rattle.nvme_front.specs.declared.candidate.Candidate.{Candidate}
+use Rattle.nvme_state.specs.Steps.{aborted}
+use Rattle.nvme_log.specs.declared.event.Event.TheVariants.{Abort}
+use Rattle.nvme_state.specs.declared.candidate.Candidate.{Candidate}
 use Rattle.nvme_front.proofs.Taken.{made_more, left_more, gained_more}
 use Rattle.nvme_front.proofs.executing.abort_all.Goals as goal
 

@@ -1,8 +1,8 @@
 use Rattle.std.proofs.Common.{◌≡◌, ◌≤◌, ◌++◌, map, take, drop, length}
 use Rattle.std.specs.Prelude.{vec_capacity}
-use Rattle.nvme_front.specs.Steps.{aborted}
-use Rattle.nvme_front.specs.declared.event.Event.TheVariants.{Abort}
-use Rattle.nvme_front.specs.declared.candidate.Candidate.{Candidate}
+use Rattle.nvme_state.specs.Steps.{aborted}
+use Rattle.nvme_log.specs.declared.event.Event.TheVariants.{Abort}
+use Rattle.nvme_state.specs.declared.candidate.Candidate.{Candidate}
 use Rattle.nvme_front.proofs.executing.abort_all.Given as goal
 
 abbrev pub invariant-loop : goal.invariant-loop

@@ -2,7 +2,7 @@ use Rattle.std.proofs.Common.{true, map, refl, sym, ap, subst, ◌∙◌, arith}
 use Rattle.std.specs.Prelude.{reverse}
 use Rattle.nvme_front.specs.Goes.{put_place}
 use Rattle.nvme_front.specs.Hosts.{AreHosts, drainer_place}
-use Rattle.nvme_front.specs.View.{IsClear}
+use Rattle.nvme_log.specs.Account.{IsClear}
 use Rattle.nvme_front.proofs.Hosted.{fed_from_pairs, drained_from_pairs, seen_length, IsSameFront-trans}
 use Rattle.nvme_front.proofs.Rested.{at_rest, not_at_rest, not_clear, feeders_number, takes_from, collects_more, is_settled, is_account, executes}
 use Rattle.nvme_front.proofs.settling.settle.Goals as goal

@@ -2,7 +2,7 @@
 use Rattle.nvme_workload.specs.Plan.{plan_of}
 use Rattle.nvme_front.specs.Hosts.{sent_at, collected_at}
 use Rattle.nvme_front.specs.Settles.{settled_past}
-use Rattle.nvme_front.proofs.Posts.{one_post_each}
+use Rattle.nvme_log.proofs.Posts.{one_post_each}
 use Rattle.nvme_sim.specs.Runs.{rules_for}
 use Rattle.nvme_workload.specs.declared.plan.Workload.{Workload}
 use Rattle.nvme_sim.specs.declared.runs.RunError.TheVariants as fault

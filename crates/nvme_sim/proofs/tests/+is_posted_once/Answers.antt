@@ -1,6 +1,6 @@
 use Rattle.std.proofs.Common.{ℕ, ◌≤◌, ◌≡◌, ◌∙◌, ◌-◌, ◌∷◌, [], List, length, take, drop, reverse, ap, sym, subst}
-use Rattle.nvme_front.specs.declared.event.Event.{Event}
-use Rattle.nvme_front.specs.Completions.{posts_of}
+use Rattle.nvme_log.specs.declared.event.Event.{Event}
+use Rattle.nvme_log.specs.Completions.{posts_of}
 use Rattle.nvme_sim.specs.Report.{completions_of}
 use Rattle.nvme_sim.proofs.PostedOnce.{first_and_rest, no_post, none_holds, once_after_other, once_after_post}
 use Rattle.nvme_sim.proofs.tests.+is_posted_once.Goals as goal

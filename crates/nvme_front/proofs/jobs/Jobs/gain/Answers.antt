@@ -1,8 +1,8 @@
 -- What was running is what comes before the command that was found, the command, and what comes after.
 use Rattle.std.proofs.Common.{◌+◌, List, length, take, drop, get_or, refl, sym, ap, ◌∙◌, subst, arith}
-use Rattle.nvme_front.specs.Jobs.{IsOfNone, job_in}
-use Rattle.nvme_front.specs.declared.candidate.Dispatched.{Dispatched}
-use Rattle.nvme_front.proofs.JobLists.{split_at}
+use Rattle.nvme_state.specs.Jobs.{IsOfNone, job_in}
+use Rattle.nvme_state.specs.declared.candidate.Dispatched.{Dispatched}
+use Rattle.nvme_state.proofs.JobLists.{split_at}
 use Rattle.nvme_front.proofs.jobs.Jobs.gain.Goals as goal
 
 pub returns-in_default-find : goal.returns-in_default-find

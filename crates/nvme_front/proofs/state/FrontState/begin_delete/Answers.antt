@@ -1,5 +1,5 @@
 use Rattle.std.proofs.Common.{refl, sym, ap, ◌∙◌, [], ◌∷◌, arith, length, length-append}
-use Rattle.nvme_front.specs.declared.event.Event.TheVariants.{Closing}
+use Rattle.nvme_log.specs.declared.event.Event.TheVariants.{Closing}
 use Rattle.nvme_front.proofs.AppliedStates.{has_room, picks_noted}
 use Rattle.nvme_front.proofs.AppliedDeletion.{begins_some, begins_there, begins_attached, begins_posts, begins_few, begins_unposted, begins_on_board, keeps_deleting, goes_deleting, aborts_noted}
 use Rattle.nvme_front.proofs.state.FrontState.begin_delete.Goals as goal

@@ -1,6 +1,6 @@
 use Rattle.std.proofs.Common.{refl, sym, ap, ◌∙◌, ◌++◌, [], ◌∷◌, arith}
 use Rattle.nvme_admin.specs.declared.verdict.Verdict.TheVariants as verdict
-use Rattle.nvme_front.specs.declared.event.Event.TheVariants as event
+use Rattle.nvme_log.specs.declared.event.Event.TheVariants as event
 use Rattle.nvme_front.proofs.AppliedStates.{answer_fits, goes_readied, kept_answered, picks_noted}
 use Rattle.nvme_front.proofs.AppliedTables.{closes_some, closes_made}
 use Rattle.nvme_front.proofs.state.FrontState.close_cq.Goals as goal

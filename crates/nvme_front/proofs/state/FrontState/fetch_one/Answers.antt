@@ -1,5 +1,5 @@
 use Rattle.std.proofs.Common.{◌∙◌, sym, refl, arith}
-use Rattle.nvme_front.proofs.PickCounts.{picks-noted}
+use Rattle.nvme_log.proofs.PickCounts.{picks-noted}
 use Rattle.nvme_front.proofs.States.{Goes-same, IsSame-refl}
 use Rattle.nvme_front.proofs.Fetches.{region_there, can_fetch, window_fits, index_fits, came_fits, fetch_goes, fetch_kept, put_back, noted}
 use Rattle.nvme_front.proofs.Scans.{taken_closing, taken_full}

@@ -1,9 +1,9 @@
 -- The region of a deletion and its closing queue are known from what stands, and there is room for its answer.
 use Rattle.std.proofs.Common.{◌∙◌, [], ◌∷◌, ◌++◌, sym, refl, ap, arith}
-use Rattle.nvme_front.proofs.AfterSteps.{closed_event}
+use Rattle.nvme_state.proofs.AfterSteps.{closed_event}
 use Rattle.nvme_front.proofs.States.{IsSame-refl}
 use Rattle.nvme_front.proofs.CloseOne.{deletion_there, deletion_closing, region_has_room, region_unposted, closed-kept}
-use Rattle.nvme_front.proofs.PickCounts.{picks-noted}
+use Rattle.nvme_log.proofs.PickCounts.{picks-noted}
 use Rattle.nvme_front.proofs.state.FrontState.finish.Goals as goal
 
 pub index-requires : goal.index-requires

@@ -1,7 +1,7 @@
 -- The front stays the same from result to result, and as long as none was gained nothing changed.
 use Rattle.std.proofs.Common.{◌≡◌, ◌<◌, length, true, false}
-use Rattle.nvme_front.specs.Jobs.{gained_count}
-use Rattle.nvme_front.specs.Standing.{IsKept}
+use Rattle.nvme_state.specs.Jobs.{gained_count}
+use Rattle.nvme_front.specs.Room.{IsKept}
 use Rattle.nvme_front.specs.Goes.{Goes, IsSame, HasAdmin}
 use Rattle.nvme_front.proofs.state.FrontState.gain.Given as goal
 

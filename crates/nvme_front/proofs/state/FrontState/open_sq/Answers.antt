@@ -1,5 +1,5 @@
 use Rattle.std.proofs.Common.{refl, sym, ◌∙◌, [], ◌∷◌}
-use Rattle.nvme_front.specs.declared.event.Event.TheVariants as event
+use Rattle.nvme_log.specs.declared.event.Event.TheVariants as event
 use Rattle.nvme_front.proofs.States.{places-set, windows-set}
 use Rattle.nvme_front.proofs.AppliedStates.{answer_fits, goes_readied, picks_noted}
 use Rattle.nvme_front.proofs.AppliedTables.{opens_some, opens_within, opens_free, opens_io, opens_there, keeps_opened}

@@ -1,11 +1,11 @@
 use Rattle.std.proofs.Common.{◌+◌, ◌≡◌, ◌≤◌, List, [], ◌∷◌, ◌++◌, length, set, refl, ap, sym, ◌∙◌, arith}
 use Rattle.std.specs.Prelude.{vec_capacity}
 use Rattle.nvme_arbiter.specs.declared.pick.Pick.{Pick}
-use Rattle.nvme_front.specs.declared.event.Event.{Event}
-use Rattle.nvme_front.specs.declared.event.Event.TheVariants as event
-use Rattle.nvme_front.specs.Goes.{picks_in}
-use Rattle.nvme_front.specs.Limits.{max_outstanding, admin_events}
-use Rattle.nvme_front.specs.Kept.{rules_of}
+use Rattle.nvme_log.specs.declared.event.Event.{Event}
+use Rattle.nvme_log.specs.declared.event.Event.TheVariants as event
+use Rattle.nvme_log.specs.Histories.{picks_in}
+use Rattle.nvme_log.specs.Limits.{max_outstanding, admin_events}
+use Rattle.nvme_front.specs.State.{rules_of}
 use Rattle.nvme_front.proofs.Picks.{picks_in-push, of_next, admin_unposted}
 use Rattle.nvme_front.proofs.PickedAdmin.{some_first, due-candidate, is_applied}
 use Rattle.nvme_front.proofs.state.FrontState.pick_admin.Goals as goal

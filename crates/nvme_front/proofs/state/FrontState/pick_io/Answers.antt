@@ -1,10 +1,10 @@
 use Rattle.std.proofs.Common.{◌≢◌, ◌+◌, ◌≤◌, List, [], ◌∷◌, ◌++◌, set, refl, ap, sym, ◌∙◌, arith}
 use Rattle.nvme_arbiter.specs.declared.pick.Pick.{Pick}
-use Rattle.nvme_front.specs.declared.event.Event.{Event}
-use Rattle.nvme_front.specs.declared.event.Event.TheVariants as event
-use Rattle.nvme_front.specs.Goes.{picks_in}
-use Rattle.nvme_front.specs.Limits.{max_outstanding}
-use Rattle.nvme_front.specs.Kept.{rules_of}
+use Rattle.nvme_log.specs.declared.event.Event.{Event}
+use Rattle.nvme_log.specs.declared.event.Event.TheVariants as event
+use Rattle.nvme_log.specs.Histories.{picks_in}
+use Rattle.nvme_log.specs.Limits.{max_outstanding}
+use Rattle.nvme_front.specs.State.{rules_of}
 use Rattle.nvme_front.proofs.Picks.{picks_in-push, of_next, config_by, jobs_fit, few_tickets, due-found, due-sq_there, due-unposted, due-enough}
 use Rattle.nvme_front.proofs.PickedQueue.{io-kept, io-goes}
 use Rattle.nvme_front.proofs.state.FrontState.pick_io.Goals as goal

@@ -1,7 +1,8 @@
 -- The front stays the same from region to region, and as long as nothing was posted, nothing changed and the regions before have nothing to post.
 use Rattle.std.proofs.Common.{◌≡◌, ◌<◌, ℕ, length, true, false}
-use Rattle.nvme_front.specs.Standing.{IsKept}
-use Rattle.nvme_front.specs.Goes.{Goes, IsSame, IsDrained, picks_in}
+use Rattle.nvme_front.specs.Room.{IsKept}
+use Rattle.nvme_front.specs.Goes.{Goes, IsSame, IsDrained}
+use Rattle.nvme_log.specs.Histories.{picks_in}
 use Rattle.nvme_front.proofs.state.FrontState.post.Given as goal
 
 abbrev pub invariant-loop-c : goal.invariant-loop-c

@@ -2,11 +2,11 @@
 use Rattle.std.proofs.Common.{◌-◌, ◌++◌, [], ◌∷◌, ◌∙◌, Bool, not, set, sym, refl, ap, arith, inl}
 use Rattle.std.specs.Vec.{with_item}
 use Rattle.nvme_front.specs.declared.state.FrontState.{FrontState}
-use Rattle.nvme_front.specs.Standing.{one_if}
-use Rattle.nvme_front.proofs.AfterSteps.{post_event}
+use Rattle.nvme_log.specs.Places.{one_if}
+use Rattle.nvme_state.proofs.AfterSteps.{post_event}
 use Rattle.nvme_front.proofs.States.{IsSame-refl, kept_same, Goes-same}
 use Rattle.nvme_front.proofs.PostOne.{IsPosted, none_ready, front_foremost, few_posted, put_back, same_first, front_unposted, posted-kept, posted-goes}
-use Rattle.nvme_front.proofs.PickCounts.{picks-noted}
+use Rattle.nvme_log.proofs.PickCounts.{picks-noted}
 use Rattle.nvme_front.proofs.state.FrontState.post_one.Goals as goal
 use Rattle.nvme_front.proofs.state.FrontState.post_one.Goals.{then-aborted, else-aborted}
 

@@ -1,7 +1,8 @@
 -- The front stays the same while completions are posted, and nothing changed as long as none was.
 use Rattle.std.proofs.Common.{◌≡◌, ◌<◌, ◌-◌, length, true, false}
-use Rattle.nvme_front.specs.Standing.{IsKept}
-use Rattle.nvme_front.specs.Goes.{Goes, IsSame, picks_in}
+use Rattle.nvme_front.specs.Room.{IsKept}
+use Rattle.nvme_front.specs.Goes.{Goes, IsSame}
+use Rattle.nvme_log.specs.Histories.{picks_in}
 use Rattle.nvme_front.proofs.state.FrontState.post_region.Given as goal
 
 abbrev pub invariant-loop-posted : goal.invariant-loop-posted

@@ -1,6 +1,7 @@
 use Rattle.std.proofs.Common.{◌≡◌, ℕ, ◌<◌, length, None, true, false}
-use Rattle.nvme_front.specs.Standing.{IsKept}
-use Rattle.nvme_front.specs.Goes.{Goes, IsSame, HasAdmin, IsScanned, picks_in}
+use Rattle.nvme_front.specs.Room.{IsKept}
+use Rattle.nvme_front.specs.Goes.{Goes, IsSame, HasAdmin, IsScanned}
+use Rattle.nvme_log.specs.Histories.{picks_in}
 use Rattle.nvme_front.proofs.state.FrontState.scan.Given as goal
 
 abbrev pub invariant-loop-qid : goal.invariant-loop-qid

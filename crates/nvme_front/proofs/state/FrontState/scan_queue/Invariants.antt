@@ -1,6 +1,7 @@
 use Rattle.std.proofs.Common.{◌≡◌, ◌-◌, ◌<◌, length, None, true, false}
-use Rattle.nvme_front.specs.Standing.{IsKept}
-use Rattle.nvme_front.specs.Goes.{Goes, IsSame, HasAdmin, picks_in}
+use Rattle.nvme_front.specs.Room.{IsKept}
+use Rattle.nvme_front.specs.Goes.{Goes, IsSame, HasAdmin}
+use Rattle.nvme_log.specs.Histories.{picks_in}
 use Rattle.nvme_front.proofs.state.FrontState.scan_queue.Given as goal
 
 abbrev pub invariant-loop-fetched : goal.invariant-loop-fetched

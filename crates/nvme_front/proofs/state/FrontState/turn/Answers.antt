@@ -3,7 +3,7 @@ use denote.Enum.Bare.{sameb}
 use Rattle.nvme_front.specs.contracts.front.Step.{the_type}
 use Rattle.nvme_front.specs.declared.front.Step.{Step}
 use Rattle.nvme_front.specs.declared.front.Step.TheVariants.{Picked}
-use Rattle.nvme_front.specs.Goes.{picks_in}
+use Rattle.nvme_log.specs.Histories.{picks_in}
 use Rattle.nvme_front.proofs.States.{Goes-trans, admin-goes}
 use Rattle.nvme_front.proofs.Still.{done_as, stray_means, deletion_means, step_means, pick_error_means}
 use Rattle.std.proofs.lemmas.Result.{err_from_is_err_and}

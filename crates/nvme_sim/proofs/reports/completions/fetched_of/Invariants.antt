@@ -1,5 +1,5 @@
 use Rattle.std.proofs.Common.{◌≡◌, ◌≤◌, length, reverse, take}
-use Rattle.nvme_front.specs.Places.{fetched}
+use Rattle.nvme_log.specs.Places.{fetched}
 use Rattle.nvme_sim.proofs.reports.completions.fetched_of.Given as goal
 
 abbrev pub invariant-loop-event : goal.invariant-loop-event

@@ -1,6 +1,6 @@
 use Rattle.std.specs.Io.KnownBytes.{Appends}
 use Rattle.std.specs.List.{flat_map}
-use Rattle.nvme_front.specs.Rules.{upto}
+use Rattle.nvme_log.specs.Rules.{upto}
 use Rattle.nvme_sim.specs.Report.{cmd_lines}
 use Rattle.nvme_sim.proofs.reports.completions.put_completions.Given as goal
 

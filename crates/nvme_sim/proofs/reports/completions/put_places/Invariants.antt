@@ -1,7 +1,7 @@
 use Rattle.std.proofs.Common.{ℕ, ◌≤◌, length}
 use Rattle.std.specs.Io.KnownBytes.{Appends}
 use Rattle.std.specs.List.{flat_map}
-use Rattle.nvme_front.specs.Rules.{upto}
+use Rattle.nvme_log.specs.Rules.{upto}
 use Rattle.nvme_sim.specs.Report.{cmd_line, completions_of}
 use Rattle.nvme_sim.proofs.reports.completions.put_places.Given as goal
 

@@ -1,5 +1,0 @@
-use Rattle.nvme_front.proofs.ExampleLogs.{two_slots_account, two_slots_wrong_phase}
-use Rattle.nvme_front.proofs.laws.phase_wraps_in_two_slots.Goals as goal
-
-pub returns : goal.returns
-returns c = record { accounted = two_slots_account; phase_must_turn = two_slots_wrong_phase }

@@ -1,5 +1,0 @@
-use Rattle.nvme_front.proofs.Posts.{whole_answers}
-use Rattle.nvme_front.proofs.laws.whole_accounts_answer.Goals as goal
-
-pub returns : goal.returns
-returns c = whole_answers

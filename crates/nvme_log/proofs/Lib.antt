@@ -1,0 +1,10 @@
+pub mod Prefixes
+pub mod Fates
+pub mod Posts
+pub mod ExampleLogs
+pub mod Tables
+pub mod Waiting
+pub mod Counting
+pub mod UsedRegions
+pub mod PickCounts
+pub mod Promise

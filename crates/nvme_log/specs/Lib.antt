@@ -1,0 +1,12 @@
+pub mod Limits
+pub mod Rules
+pub mod Queues
+pub mod Places
+pub mod Histories
+pub mod Completions
+pub mod Effects
+pub mod Account
+pub mod Loaded
+pub mod Laws
+pub mod Examples
+pub mod Dispatches

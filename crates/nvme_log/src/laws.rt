@@ -1,0 +1,88 @@
+//! Laws of logs, over the definitions alone. Each function does nothing: its contract is the law.
+ghost use Rattle.nvme_log.specs.Account.{Deletes, IndexCounts, IsAccount, LeavesPlaces, Observed, PostsOwn, ServedWhileOpen};
+ghost use Rattle.nvme_log.specs.Limits.{max_outstanding};
+ghost use Rattle.nvme_log.specs.Effects.{EffectsAtOnce, effects_since, made_last};
+ghost use Rattle.nvme_log.specs.Completions.{outstanding, posted_to};
+ghost use Rattle.nvme_log.specs.Histories.{arbitration_of};
+ghost use Rattle.nvme_log.specs.Places.{fetched};
+ghost use Rattle.nvme_log.specs.Examples.{admin_posted, at_admin, four_commands, four_completions, two_slots, two_slots_past};
+ghost use Rattle.nvme_log.specs.Examples.{at_two, one_deletion, admin_script, reads, read, delete_sq, done, admin_done, reads_done, admin_seen, reads_seen, picked_of, admin_fetched, reads_fetched, one_picked, delete_picked, closing, aborted_posted, all_posted, deleted};
+ghost use Rattle.nvme_log.specs.declared.event.Event.TheVariants.{Fetch, OpenSq, Closing, Abort, Post, ClosedSq};
+ghost use Rattle.nvme_arbiter.specs.Lawful.{IsLawfulRun};
+ghost use Rattle.nvme_arbiter.specs.declared.settings.Class.TheVariants.{Urgent};
+ghost use Rattle.nvme_entry.specs.Status.{success, aborted_by_deletion};
+ghost use mathlib.Core.List.{IsPrefix};
+ghost use Rattle.nvme_log.specs.Rules.{Each, Past};
+ghost use Rattle.std.specs.Prelude.{◌≡◌, ◌+◌, [], ◌∷◌, true, false};
+ghost use Rattle.nvme_log.specs.Laws.{QueuesAreTheTables, StartsWithAdmin, OneFateEach, PrefixesAreAccounted, OnePostEach, WholeAccountsAnswer, WholeAccountsKeepThePromise};
+
+/// Each fetched place has exactly one fate: it waits, was picked or was aborted.
+pub fn each_place_has_one_fate()
+    ensures { OneFateEach }
+{}
+
+/// The events of an accounted log up to any of them are accounted: all clauses but two, that what the latest picked
+/// command makes is all there, and that what was collected was posted.
+pub fn prefixes_are_accounted()
+    ensures { PrefixesAreAccounted }
+{}
+
+/// No place of an accounted log has two completions.
+pub fn each_place_has_one_post()
+    ensures { OnePostEach }
+{}
+
+/// In a whole account what was fetched from each region is what was submitted first, in order, and every fetched
+/// command has exactly one collected completion, its own.
+pub fn whole_accounts_answer()
+    ensures { WholeAccountsAnswer }
+{}
+
+/// What a run promises, sentence by sentence, from the whole account alone: the commands fetched from each submission
+/// queue are a prefix of those submitted to it, in order, each once, none after its deletion began; every fetched command
+/// has exactly one collected completion, its own; and the picks are a lawful run of the configured arbitration over the
+/// candidate counts that the arbiter observed.
+pub fn whole_accounts_keep_the_promise()
+    ensures { WholeAccountsKeepThePromise }
+{}
+
+/// The queues that an accounted log opens and closes are those of its table history: its openings are the accepted
+/// Creates.
+pub fn queues_are_those_of_the_table()
+    ensures { QueuesAreTheTables }
+{}
+
+/// Four completions through a ring of two slots: the phase tag is 1, 1, 0, 0. The log is accounted, and is not where the
+/// last completion keeps the phase tag of the first.
+pub fn phase_wraps_in_two_slots()
+    ensures accounted { IsAccount two_slots (at_admin four_commands) (two_slots_past (admin_posted 3 false)) (at_admin four_completions) }
+    ensures phase_must_turn { Each (PostsOwn two_slots) (two_slots_past (admin_posted 3 true)) → ⊥ }
+{}
+
+/// A submission queue is deleted while one of its commands runs and two wait: the two are aborted, and the Delete is
+/// answered after the last post of the queue. The log is accounted.
+pub fn delete_with_three_waiting()
+    ensures accounted { IsAccount one_deletion (at_two admin_script reads) deleted (at_two admin_done reads_done) }
+    ensures starts { StartsWithAdmin one_deletion }
+{}
+
+/// One small change of that log for each clause of the account, which the clause refuses.
+pub fn changed_logs_are_refused()
+    ensures fetched_in_another_order { IsPrefix (fetched deleted 1) (read 1 ∷ read 0 ∷ read 2 ∷ []) → ⊥ }
+    ensures fetched_index_skipped { IndexCounts reads_fetched (Fetch 1 4 (read 3)) → ⊥ }
+    ensures fetched_after_closing { ServedWhileOpen one_deletion closing (Fetch 1 3 (read 3)) → ⊥ }
+    ensures picked_after_closing { ServedWhileOpen one_deletion closing (picked_of (reads_seen 2 ∷ []) 1) → ⊥ }
+    ensures counts_invented { Observed reads_fetched (picked_of (admin_seen 1 ∷ reads_seen 2 ∷ []) 1) → ⊥ }
+    ensures aborted_out_of_turn { EffectsAtOnce one_deletion (Closing 1 1 ∷ delete_picked) (Abort 1 2) → ⊥ }
+    ensures opened_without_a_command { EffectsAtOnce one_deletion one_picked (OpenSq 2 1 1 Urgent) → ⊥ }
+    ensures one_abort_missing { effects_since (Abort 1 1 ∷ Closing 1 1 ∷ delete_picked) ≡ made_last one_deletion (Abort 1 1 ∷ Closing 1 1 ∷ delete_picked) → ⊥ }
+    ensures closed_while_a_command_runs { Deletes aborted_posted (ClosedSq 1 1) → ⊥ }
+    ensures answered_before_closed { Deletes all_posted (Post 0 0 2 (done 0 2 success)) → ⊥ }
+    ensures fetched_while_pending { Deletes closing (Fetch 0 3 delete_sq) → ⊥ }
+    ensures aborted_posted_with_success { PostsOwn one_deletion closing (Post 1 1 1 (done 1 1 success)) → ⊥ }
+    ensures posted_twice { PostsOwn one_deletion all_posted (Post 1 1 0 (done 1 0 success)) → ⊥ }
+    ensures posted_to_another_region { PostsOwn one_deletion aborted_posted (Post 0 1 0 (done 1 0 success)) → ⊥ }
+    ensures one_place_too_many { (past : Past) → outstanding one_deletion (picked_of (admin_seen 1 ∷ []) 0 ∷ past) ≡ max_outstanding + 1 → LeavesPlaces one_deletion past (picked_of (admin_seen 1 ∷ []) 0) → ⊥ }
+    ensures picked_out_of_turn { IsLawfulRun one_deletion.mechanism one_deletion.start.settings (arbitration_of (picked_of (admin_seen 1 ∷ reads_seen 3 ∷ []) 0 ∷ reads_fetched)) → ⊥ }
+    ensures collected_in_another_order { IsPrefix (done 1 0 success ∷ done 1 1 aborted_by_deletion ∷ []) (posted_to deleted 1) → ⊥ }
+{}

@@ -1,0 +1,10 @@
+//! The log of a front: its events, and what they say of queues, places and completions. When a log accounts for what the
+//! hosts submitted and collected stands in `specs/`, and the laws of it in `laws`.
+#![tactic(auto)]
+
+mod event;
+pub mod laws;
+mod limits;
+
+pub use event::Event;
+pub use limits::{MAX_EVENTS, MAX_OUTSTANDING};

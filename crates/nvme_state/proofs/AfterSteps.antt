@@ -1,0 +1,174 @@
+-- The steps of a front: when each may be made, its event, and what the front keeps after it.
+use Rattle.std.proofs.Common.{◌≡◌, ℕ, ◌+◌, ◌-◌, ◌%◌, ◌<◌, ◌≤◌, false, not, List, [], ◌∷◌, ◌++◌, map, length, take, Option, Some, None}
+use Rattle.std.specs.Prelude.{slice_set}
+use Rattle.nvme_entry.specs.Status.{success}
+use Rattle.nvme_entry.specs.declared.submission.Sqe.{Sqe}
+use Rattle.nvme_entry.specs.declared.completion.Cqe.{Cqe}
+use Rattle.nvme_arbiter.specs.History.{History, Changed}
+use Rattle.nvme_arbiter.specs.Limits.{highest_count}
+use Rattle.nvme_arbiter.specs.Board.{BoardView, BoardStandsAt}
+use Rattle.nvme_arbiter.specs.declared.settings.Class.{Class}
+use Rattle.nvme_admin.specs.History.{TableHistory, DeletionFinished}
+use Rattle.nvme_admin.specs.Checks.{status_in, dw0_in}
+use Rattle.nvme_admin.specs.Standing.{TableView, StandsAt}
+use Rattle.nvme_admin.specs.declared.verdict.Verdict.{Verdict}
+use Rattle.nvme_admin.specs.declared.verdict.Verdict.TheVariants.{Done, BeginDelete, CloseCq}
+use Rattle.nvme_admin.specs.declared.verdict.Verdict.TheVariants as verdict
+use Rattle.nvme_log.specs.declared.event.Event.{Event}
+use Rattle.nvme_log.specs.declared.event.Event.TheVariants as event
+use Rattle.nvme_state.specs.declared.candidate.Candidate.{Candidate}
+use Rattle.nvme_state.specs.declared.candidate.Ready.{Ready}
+use Rattle.nvme_state.specs.declared.candidate.PendingDelete.{PendingDelete}
+use Rattle.nvme_log.specs.Rules.{FrontRules, Past}
+use Rattle.nvme_log.specs.Queues.{Queue, open_sq, open_cq}
+use Rattle.nvme_log.specs.Completions.{phase_after}
+use Rattle.nvme_log.specs.Effects.{made_by}
+use Rattle.nvme_state.specs.Kept.{SqKept, CqKept, Kept, with_sq, with_cq, with_ready}
+use Rattle.nvme_log.specs.Places.{Place}
+use Rattle.nvme_log.specs.Places.{one_if}
+use Rattle.nvme_state.specs.Steps.{aborted, after_pick}
+use Rattle.nvme_state.specs.Jobs.{with_picked, gained_jobs}
+use Rattle.nvme_pool.specs.Seat.{SeatView}
+use Rattle.nvme_pool.specs.declared.jobs.Finished.{Finished}
+use Rattle.nvme_state.specs.declared.candidate.Dispatched.{Dispatched}
+
+-- a log with some events after it, in their order
+abbrev pub with_events : List Event → Past → Past
+with_events [] past = past
+with_events (e ∷ rest) past = with_events rest (e ∷ past)
+
+-- ready completions more in a completion region
+abbrev pub with_readies : Kept → ℕ → List Ready → Kept
+with_readies k c ts = with_cq k c (record (k.cq c) { ready = (k.cq c).ready ++ ts })
+
+-- ---- a fetch
+pub record CanFetch (past : Past) (k : Kept) (q : ℕ) (queue : Queue) : Type 0 where
+  pub is_open : open_sq past q ≡ Some queue
+  pub none_pending : k.deletion ≡ None
+  pub room : length (k.sq queue.region).window + 1 < (k.sq queue.region).slots
+  pub few_slots : (k.sq queue.region).slots ≤ highest_count + 1
+
+abbrev pub fetched_sq : SqKept → Sqe → List Sqe → SqKept
+fetched_sq s entry known = record s {
+  got = s.got ++ entry ∷ [];
+  known = known;
+  window = s.window ++ record { index = s.fetched; entry = entry } ∷ [];
+  fetched = s.fetched + 1;
+}
+
+abbrev pub came_board : Kept → ℕ → Queue → BoardView
+came_board k q queue = record k.board {
+  queues = slice_set k.board.queues q (Some (record { class = queue.class; count = length (k.sq queue.region).window + 1 }));
+}
+
+abbrev pub fetch_event : Kept → Queue → Sqe → Event
+fetch_event k queue entry = event.Fetch queue.region (k.sq queue.region).fetched entry
+
+abbrev pub after_fetch : Kept → ℕ → Queue → Sqe → List Sqe → Kept
+after_fetch k q queue entry known =
+    record (with_sq k queue.region (fetched_sq (k.sq queue.region) entry known)) { board = came_board k q queue }
+
+abbrev pub place_of : ℕ → Candidate → Place
+place_of r c = record { region = r; index = c.index }
+
+-- an I/O pick: its commands have jobs, which are handed later
+abbrev pub after_io : Kept → Queue → ℕ → BoardView → Kept
+after_io k queue n board = record (after_pick k queue n board) { jobs = with_picked k.jobs queue.region (take n (k.sq queue.region).window) }
+
+-- ---- a result is gained, which makes no event
+-- its completion is then ready
+abbrev pub completed : Dispatched → Finished → Ready
+completed d result = record { region = d.region; index = d.index; entry = d.entry; aborted = false; status = result.status; dw0 = 0 }
+
+-- the completion region c is that of the queue
+abbrev pub after_gain : Kept → Dispatched → List Dispatched → SeatView → ℕ → Finished → Kept
+after_gain k d running seat c result = with_ready (record k { jobs = gained_jobs k.jobs running seat }) c (completed d result)
+
+-- the answer of an admin command
+abbrev pub answered : Candidate → Verdict → Ready
+answered candidate v =
+    record { region = 0; index = candidate.index; entry = candidate.entry; aborted = false; status = status_in v; dw0 = dw0_in v }
+
+-- what a verdict makes of what the front keeps. The answer of a deletion waits
+abbrev pub with_opened : Kept → (qid region cq_region : ℕ) → Class → Kept
+with_opened k qid region cq_region class =
+    record (with_sq k region (record (k.sq region) { queue = Some (record { qid = qid; cq_region = cq_region }) })) {
+      board = record k.board { queues = slice_set k.board.queues qid (Some (record { class = class; count = 0 })) };
+    }
+
+abbrev pub with_deleting : Kept → (qid region c : ℕ) → Candidate → Kept
+with_deleting k qid region c candidate =
+    record (with_readies (with_sq k region (record (k.sq region) { window = []; unposted = (k.sq region).unposted + length (k.sq region).window })) c
+    (map (aborted region) (k.sq region).window)) {
+      board = record k.board { queues = slice_set k.board.queues qid None };
+      deletion = Some (record { qid = qid; region = region; index = candidate.index; entry = candidate.entry });
+    }
+
+-- the events of an admin pick, after those before it
+abbrev pub admin_past : Past → Event → Verdict → Past
+admin_past past pick v = with_events (made_by past v) (pick ∷ past)
+
+-- ---- a post
+pub record CanPost (past : Past) (k : Kept) (c : ℕ) (t : Ready) (rest : List Ready) (cqe : Cqe) (qid : ℕ) : Type 0 where
+  pub oldest : (k.cq c).ready ≡ t ∷ rest
+  pub there : c < k.ncq
+  pub attached : (k.sq t.region).queue ≡ Some (record { qid = qid; cq_region = c })
+  pub sqid : cqe.sqid ≡ qid
+  pub cid : cqe.cid ≡ t.entry.cid
+  pub status : cqe.status ≡ t.status
+  pub dw0 : cqe.dw0 ≡ t.dw0
+  pub sqhd : cqe.sqhd ≡ (k.sq t.region).fetched % (k.sq t.region).slots
+  pub phase : cqe.phase ≡ phase_after (k.cq c).posted (k.cq c).slots
+
+abbrev pub posted_cq : CqKept → List Ready → Cqe → ℕ → CqKept
+posted_cq s rest cqe free = record s { sent = s.sent ++ cqe ∷ []; free = free; posted = s.posted + 1; ready = rest }
+
+abbrev pub post_event : ℕ → Ready → Cqe → Event
+post_event c t cqe = event.Post c t.region t.index cqe
+
+abbrev pub after_post : Kept → ℕ → Ready → List Ready → Cqe → ℕ → Kept
+after_post k c t rest cqe free =
+    record (with_cq (with_sq k t.region (record (k.sq t.region) { unposted = (k.sq t.region).unposted - 1 })) c (posted_cq (k.cq c) rest cqe free)) {
+      outstanding = k.outstanding - one_if (not t.aborted);
+    }
+
+-- ---- the end of a deletion
+pub record CanClose (rules : FrontRules) (k : Kept) (history : TableHistory) (d : PendingDelete) (table : TableView) : Type 0 where
+  pub pending : k.deletion ≡ Some d
+  pub all_posted : (k.sq d.region).unposted ≡ 0
+  pub table_stands : StandsAt rules.start table (DeletionFinished d.qid ∷ history)
+
+abbrev pub closed_event : PendingDelete → Event
+closed_event d = event.ClosedSq d.qid d.region
+
+abbrev pub deleted : PendingDelete → Ready
+deleted d = record { region = 0; index = d.index; entry = d.entry; aborted = false; status = success; dw0 = 0 }
+
+abbrev pub after_closed : Kept → PendingDelete → TableView → Kept
+after_closed k d table = with_ready (record k { deletion = None; table = table }) 0 (deleted d)
+
+-- what an admin command leaves, by its verdict. c is the completion region of a queue that is opened or deleted, and `board` is the board with
+-- new settings
+abbrev pub deleting_from : Kept → (qid c : ℕ) → Candidate → Option Queue → Kept
+deleting_from k qid c candidate None = with_ready k 0 (answered candidate (BeginDelete qid))
+deleting_from k qid c candidate (Some queue) = with_deleting k qid queue.region c candidate
+
+abbrev pub after_admin : Past → Kept → Candidate → (c : ℕ) → BoardView → Verdict → Kept
+after_admin past k candidate c board (Done status dw0) = with_ready k 0 (answered candidate (Done status dw0))
+after_admin past k candidate c board (verdict.OpenSq qid region cqid class) =
+    with_ready (with_opened k qid region c class) 0 (answered candidate (verdict.OpenSq qid region cqid class))
+after_admin past k candidate c board (verdict.OpenCq qid region) = with_ready k 0 (answered candidate (verdict.OpenCq qid region))
+after_admin past k candidate c board (CloseCq qid) = with_ready k 0 (answered candidate (CloseCq qid))
+after_admin past k candidate c board (verdict.SetArbitration settings) =
+    with_ready (record k { board = board }) 0 (answered candidate (verdict.SetArbitration settings))
+after_admin past k candidate c board (BeginDelete qid) = deleting_from k qid c candidate (open_sq past qid)
+
+-- what c and `board` are
+abbrev pub IsChosen : FrontRules → Past → Kept → ℕ → BoardView → BoardView → Verdict → Type 0
+IsChosen rules past k c picked board (verdict.OpenSq qid region cqid class) = open_cq past cqid ≡ Some c
+IsChosen rules past k c picked board (BeginDelete qid) =
+    (queue : Queue) → open_sq past qid ≡ Some queue → (k.sq queue.region).queue ≡ Some (record { qid = qid; cq_region = c })
+IsChosen rules past k c picked board (verdict.SetArbitration settings) =
+    (board.queues ≡ picked.queues)
+    × ((h : History) → BoardStandsAt rules.mechanism rules.start.settings h picked → BoardStandsAt rules.mechanism rules.start.settings (Changed settings ∷ h) board)
+IsChosen rules past k c picked board v = Unit {0}

@@ -1,0 +1,147 @@
+-- How many completions are ready, and how many places are unposted, where no deletion is pending.
+use Rattle.std.proofs.Common.{◌≡◌, ℕ, zero, suc, ◌+◌, ◌<◌, ◌≤◌, ◌==◌, ◌&&◌, nat_lt, Bool, true, false, not, List, [], ◌∷◌, map, length, Option, None, refl, sym, ap, ◌∙◌, arith, inl, inr, true≢false}
+use Rattle.std.specs.Prelude.{All, sum_by, slice_index_or}
+use Rattle.std.proofs.lemmas.Bool.{cases_lt, cases_eq, eqb-true, and_parts, lt-ltb}
+use Rattle.std.proofs.lemmas.List.Sums.{sum_by-cons, sum_by-le, sum_by-append}
+use Rattle.nvme_admin.specs.declared.bounds.TheConstants.{MAX_REGIONS}
+use Rattle.nvme_pool.proofs.Retiring.{sum_by_map}
+use Rattle.nvme_state.specs.declared.candidate.Dispatched.{Dispatched}
+use Rattle.nvme_state.specs.declared.candidate.PendingDelete.{PendingDelete}
+use Rattle.nvme_state.specs.declared.candidate.Ready.{Ready}
+use Rattle.nvme_log.specs.Rules.{FrontRules, Past, upto, sq_regions_of}
+use Rattle.nvme_state.specs.Jobs.{in_hand, dispatched_place}
+use Rattle.nvme_log.specs.Places.{Place, fetched, picked, fate_of, is_waiting, is_picked, is_aborted, unaborted_below, places}
+use Rattle.nvme_log.specs.Completions.{is_posted}
+use Rattle.nvme_state.specs.Kept.{Kept}
+use Rattle.nvme_state.specs.Standing.{HoldsSq, HoldsReady, IsReady, Stands, times_in, times_ready, times_held, held_by, hand_of, IsDispatched}
+use Rattle.nvme_log.specs.Places.{one_if, is_served}
+use Rattle.nvme_log.specs.Completions.{unposted_of}
+use Rattle.nvme_log.proofs.Posts.{posts_of-none}
+use Rattle.nvme_log.proofs.Counting.{counts_less, fate_by}
+use Rattle.nvme_state.proofs.PostedPlaces.{outstanding_of}
+use Rattle.nvme_state.proofs.Readying.{over_at, over_none}
+use Rattle.nvme_state.proofs.ReadyChange.{picked-sum, aborted-sum}
+use Rattle.nvme_state.proofs.ReadyAdmin.{none-aborted, not_deleting}
+
+-- ---- ready completions
+-- the ready completions are those of picked places and those of aborted ones
+both_kinds : (ts : List Ready) → sum_by (λ (t : Ready). one_if (not t.aborted)) ts + sum_by (λ (t : Ready). one_if t.aborted) ts ≡ length ts
+both_kinds [] = refl
+both_kinds (t ∷ ts) =
+    omega (
+      arith,
+      sum_by-cons (λ (u : Ready). one_if (not u.aborted)) t ts,
+      sum_by-cons (λ (u : Ready). one_if u.aborted) t ts,
+      both_kinds ts,
+      one t.aborted,
+    ) where
+      one : (b : Bool) → one_if (not b) + one_if b ≡ 1
+      one true = refl
+      one false = refl
+
+-- where no deletion is pending, no more completions are ready for a completion region than places are outstanding
+pub few_ready : (past : Past) (k : Kept) → HoldsReady past k (hand_of k) → k.deletion ≡ None → (c : ℕ) → length (k.cq c).ready ≤ k.outstanding
+few_ready past k h none c = elim (cases_lt c MAX_REGIONS) [
+  | inl small ↦
+      omega (
+        arith,
+        both_kinds (k.cq c).ready,
+        over_at (λ (x : ℕ). sum_by (λ (t : Ready). one_if (not t.aborted)) (k.cq x).ready) c MAX_REGIONS small,
+        over_at (λ (x : ℕ). sum_by (λ (t : Ready). one_if t.aborted) (k.cq x).ready) c MAX_REGIONS small,
+        picked-sum k,
+        aborted-sum k,
+        none-aborted past k (hand_of k) h none,
+        h.taken,
+      )
+  | inr beyond ↦ omega (arith, ap (λ (ts : List Ready). length ts) (h.none_beyond c beyond))
+]
+
+-- ---- unposted places
+-- what doesn't hold counts nothing
+counts_none : (b : Bool) → (b ≡ true → ⊥) → one_if b ≤ 0
+counts_none true n = absurd (n refl)
+counts_none false n = omega arith
+
+-- where no deletion is pending, no ready completion is that of an aborted place
+ready-unaborted : (past : Past) (k : Kept) (r i : ℕ) → HoldsReady past k (hand_of k) → k.deletion ≡ None → is_aborted past r i ≡ true → times_ready k r i ≡ 0
+ready-unaborted past k r i h none gone =
+    over_none (λ (c : ℕ). times_in r i (k.cq c).ready) MAX_REGIONS (λ c l.
+    omega (
+      arith,
+      sum_by-le (λ (t : Ready). one_if (t.region == r && t.index == i)) 0 (k.cq c).ready (λ j d m.
+          let t : Ready = slice_index_or (k.cq c).ready j d in
+          let is : IsReady past k.deletion c t = h.each c j d m in
+          counts_none (t.region == r && t.index == i) (λ e.
+          let same = and_parts (t.region == r) (t.index == i) e in
+          not_deleting past k.deletion c t is none
+          (is.aborted ∙ ap (λ (z : ℕ). is_aborted past z t.index) (eqb-true t.region r same.0) ∙ ap (is_aborted past r) (eqb-true t.index i same.1) ∙ gone))),
+    ))
+
+-- no picked command that has no result yet is of an aborted place
+jobs-unaborted : (past : Past) (ds : List Dispatched) (r i : ℕ) → All (IsDispatched past) ds → is_aborted past r i ≡ true → times_held r i (map dispatched_place ds) ≡ 0
+jobs-unaborted past ds r i each gone =
+    omega (
+      arith,
+      sum_by_map dispatched_place (λ (p : Place). one_if (p.region == r && p.index == i)) ds,
+      sum_by-le (λ (d : Dispatched). one_if (d.region == r && d.index == i)) 0 ds (λ j e m.
+          let d : Dispatched = slice_index_or ds j e in
+          let is : IsDispatched past d = each j e m in
+          counts_none (d.region == r && d.index == i) (λ h.
+          let same = and_parts (d.region == r) (d.index == i) h in
+          true≢false (sym gone ∙ ap (λ (z : ℕ). is_aborted past z i) (sym (eqb-true d.region r same.0)) ∙ ap (is_aborted past d.region) (sym (eqb-true d.index i same.1)) ∙ is.not_aborted))),
+    )
+
+-- so no aborted place is in hand, where no deletion is pending
+hand-unaborted : (past : Past) (k : Kept) (r i : ℕ) → All (IsDispatched past) (in_hand k.jobs.hands) → k.deletion ≡ None → is_aborted past r i ≡ true
+    → times_held r i (hand_of k) ≡ 0
+hand-unaborted past k r i each none gone =
+    let held : times_held r i (held_by k.deletion) ≡ 0 = ap (λ (d : Option PendingDelete). times_held r i (held_by d)) none in
+    omega (
+      arith,
+      sum_by-append (λ (p : Place). one_if (p.region == r && p.index == i)) (map dispatched_place (in_hand k.jobs.hands)) (held_by k.deletion),
+      jobs-unaborted past (in_hand k.jobs.hands) r i each gone,
+    )
+
+-- so an aborted place has its completion posted
+aborted-posted : (past : Past) (k : Kept) (r i : ℕ) → ((x : ℕ) → HoldsSq past x (k.sq x)) → HoldsReady past k (hand_of k)
+    → All (IsDispatched past) (in_hand k.jobs.hands) → k.deletion ≡ None → is_aborted past r i ≡ true → is_posted past r i ≡ false → ⊥
+aborted-posted past k r i regions h each none gone fresh =
+    elim (cases_lt i (length (k.sq r).got)) [
+      | inl there ↦
+          let many : length (fetched past r) ≡ length (k.sq r).got = ap length (regions r).fetched_is in
+          let fetched_there : nat_lt i (length (fetched past r)) ≡ true = lt-ltb i (length (fetched past r)) (omega arith) in
+          let served : one_if (is_served past r i) ≡ 1 = rw (gone, fetched_there) refl in
+          let once = h.once r i in
+          let unready = ready-unaborted past k r i h none gone in
+          let unposted = posts_of-none past r i fresh in
+          let hand = hand-unaborted past k r i each none gone in
+          absurd (omega arith)
+      | inr beyond ↦ true≢false (sym gone ∙ (regions r).none_aborted i beyond)
+    ]
+
+-- a part of a sum is within it
+part_of : (f : ℕ → ℕ) (r n : ℕ) → r < n → f r ≤ sum_by f (upto n)
+part_of f r zero l = absurd (omega arith)
+part_of f r (suc n) l =
+    let split = sum_by-append f (upto n) (n ∷ []) in
+    elim (cases_eq r n) [
+      | inl e ↦ let here : f r ≡ f n = ap f e in omega arith
+      | inr d ↦ omega (arith, part_of f r n (omega arith))
+    ]
+
+-- where no deletion is pending, no more places of a region are unposted than are outstanding
+pub few_unposted : (rules : FrontRules) (late : Bool) (past : Past) (k : Kept) → Stands rules late past k → k.deletion ≡ None → (r : ℕ) → r < k.nsq
+    → (k.sq r).unposted ≤ k.outstanding
+few_unposted rules late past k s none r there =
+    let picks : unposted_of past r ≤ outstanding_of past r =
+    counts_less (λ (i : ℕ). not (is_waiting (fate_of past r i)) && not (is_posted past r i)) (λ (i : ℕ). is_picked (fate_of past r i) && not (is_posted past r i))
+    (λ (i : ℕ). was_picked (is_aborted past r i) (nat_lt (unaborted_below past r i) (picked past r)) (is_posted past r i)
+    (λ gone fresh. aborted-posted past k r i s.regions s.ready s.jobs.each none gone fresh))
+    (places past r) in
+    let all = part_of (λ (x : ℕ). outstanding_of past x) r (length (sq_regions_of rules)) (omega (arith, s.tabled.sq_number)) in
+    omega (arith, s.counts.unposted r, s.counts.outstanding_is) where
+      was_picked : (a b p : Bool) → (a ≡ true → p ≡ false → ⊥) → (not (is_waiting (fate_by a b)) && not p) ≡ true → (is_picked (fate_by a b) && not p) ≡ true
+      was_picked true b false n e = absurd (n refl refl)
+      was_picked true b true n e = cc e
+      was_picked false true p n e = e
+      was_picked false false p n e = cc e

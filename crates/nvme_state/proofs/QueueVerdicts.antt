@@ -1,0 +1,116 @@
+-- What the verdict of an admin command makes of the queues.
+use Rattle.std.proofs.Common.{◌≡◌, ℕ, ◌≤◌, ◌<◌, ◌==◌, Bool, false, List, [], ◌∷◌, map, length, Option, Some, None, refl, sym, ◌∙◌, ap, subst, arith}
+use Rattle.std.proofs.lemmas.Bool.{eqb-false}
+use Rattle.nvme_arbiter.specs.Limits.{highest_qid}
+use Rattle.nvme_arbiter.specs.Board.{BoardView}
+use Rattle.nvme_arbiter.specs.declared.pick.OpenQueue.{OpenQueue}
+use Rattle.nvme_arbiter.specs.declared.settings.Class.{Class}
+use Rattle.arrayvec.specs.ArrayVec.{ArrayVec}
+use Rattle.nvme_arbiter.specs.declared.pick.Pick.{Pick}
+use Rattle.nvme_arbiter.specs.declared.pick.Seen.{Seen}
+use Rattle.nvme_admin.specs.History.{TableHistory}
+use Rattle.nvme_admin.specs.Accepted.{queue_table}
+use Rattle.nvme_admin.specs.Changes.{IsDue}
+use Rattle.nvme_admin.specs.Standing.{TableView, IsSized, sq_of}
+use Rattle.nvme_admin.specs.declared.verdict.SqEntry.{SqEntry}
+use Rattle.nvme_admin.specs.declared.verdict.Verdict.{Verdict}
+use Rattle.nvme_admin.specs.declared.verdict.Verdict.TheVariants.{Done, BeginDelete, CloseCq}
+use Rattle.nvme_admin.specs.declared.verdict.Verdict.TheVariants as verdict
+use Rattle.nvme_admin.proofs.Reached.{or_false-parts}
+use Rattle.nvme_admin.proofs.Slots.{within}
+use Rattle.nvme_log.specs.declared.event.Event.TheVariants as event
+use Rattle.nvme_state.specs.declared.candidate.Candidate.{Candidate}
+use Rattle.nvme_log.specs.Rules.{FrontRules, Past}
+use Rattle.nvme_log.specs.Queues.{Queue, open_sq, open_cq}
+use Rattle.nvme_log.specs.Places.{waiting}
+use Rattle.nvme_log.specs.Effects.{closing_of, closed_cq_of, made_by}
+use Rattle.nvme_state.specs.Kept.{SqKept, Kept}
+use Rattle.nvme_state.proofs.AfterSteps.{IsChosen, after_admin, deleting_from, with_events}
+use Rattle.nvme_log.proofs.UsedRegions.{used_after}
+use Rattle.nvme_state.proofs.QueueWords.{KeptQueues, in_log, in_kept, Agree, at_other, put-queue}
+use Rattle.nvme_state.proofs.QueueChanges.{open_one, open_other, close_other, begin_delete}
+
+-- the identifier of a queue of a table is one that a board has
+pub few_queues : (table : TableView) → IsSized table → (q : ℕ) (entry : SqEntry) → sq_of table q ≡ Some entry → q ≤ highest_qid
+few_queues table sized q entry e =
+    let below : q < length table.sqs = within table.sqs q entry e in
+    omega (arith, sized.sqs, below)
+
+-- ---- what agrees after a verdict
+-- aborts leave the queues
+aborts-agree : (r : ℕ) (is : List ℕ) (past : Past) (k : KeptQueues) → Agree (in_log past) k → Agree (in_log (with_events (map (λ (i : ℕ). event.Abort r i) is) past)) k
+aborts-agree r [] past k h = h
+aborts-agree r (i ∷ is) past k h = aborts-agree r is (event.Abort r i ∷ past) k h
+
+-- a completion queue is closed, where it is open
+closes-agree : (qid : ℕ) (o : Option ℕ) (now : Past) (k : KeptQueues) → Agree (in_log now) k → Agree (in_log (with_events (closed_cq_of qid o) now)) k
+closes-agree qid None now k h = h
+closes-agree qid (Some region) now k h = close_other (in_log now) k h qid
+
+-- the deletion of a queue begins, where it is open
+deletes-agree : (past now : Past) (k : Kept) (candidate : Candidate) (qid c : ℕ) (o : Option Queue) → Agree (in_log now) (in_kept k) → open_sq now qid ≡ o
+    → ((queue : Queue) → o ≡ Some queue → (k.sq queue.region).queue ≡ Some (record { qid = qid; cq_region = c }))
+    → Agree (in_log (with_events (closing_of past qid o) now)) (in_kept (deleting_from k qid c candidate o))
+deletes-agree past now k candidate qid c None h is opened = h
+deletes-agree past now k candidate qid c (Some queue) h is opened =
+    aborts-agree queue.region (waiting past queue.region) (event.Closing qid queue.region ∷ now) (in_kept (deleting_from k qid c candidate (Some queue)))
+    (begin_delete (in_log now) (in_kept k) h qid c _ queue _ is (opened queue refl) refl refl)
+
+-- what is given of an admin pick whose verdict is v: `before` is what was kept before it, and k what is kept when its place is picked
+pub record Applies (rules : FrontRules) (history : TableHistory) (before k : Kept) (v : Verdict) : Type 0 where
+  pub due : IsDue (queue_table rules.start history) v
+  pub cqs_there : length (queue_table rules.start history).cq_regions ≡ k.ncq
+  pub sqs_there : length (queue_table rules.start history).sq_regions ≡ k.nsq
+  pub still : (r : ℕ) → (k.sq r).queue ≡ (before.sq r).queue
+  pub unused : (r : ℕ) → (queue_table rules.start history).sq_region_used r ≡ false → (k.sq r).queue ≡ None
+  pub few : (qid region cqid : ℕ) (class : Class) → v ≡ verdict.OpenSq qid region cqid class → qid ≤ highest_qid
+
+-- the queues agree after a verdict, where they do when its place is picked
+module _ (rules : FrontRules) (history : TableHistory) (past : Past) (seen : ArrayVec Seen) (pick : Pick) (before k : Kept) (candidate : Candidate) (c : ℕ) (picked board : BoardView) where
+  pub verdict-agrees : (v : Verdict) → Applies rules history before k v → IsChosen rules past before c picked board v → k.board.queues ≡ picked.queues
+      → Agree (in_log (event.Pick seen pick ∷ past)) (in_kept k)
+      → Agree (in_log (with_events (made_by past v) (event.Pick seen pick ∷ past))) (in_kept (after_admin past k candidate c board v))
+  verdict-agrees (Done status dw0) a chosen same h = h
+  verdict-agrees (verdict.SetArbitration settings) a chosen same h =
+      subst (λ (z : List (Option OpenQueue)). Agree (in_log past) (record (in_kept k) { board = z })) (same ∙ sym chosen.0) h
+  verdict-agrees (verdict.OpenCq qid region) a chosen same h =
+      open_other (in_log past) (in_kept k) h qid region (subst (λ (n : ℕ). region < n) a.cqs_there a.due.there)
+  verdict-agrees (CloseCq qid) a chosen same h = closes-agree qid (open_cq past qid) (event.Pick seen pick ∷ past) (in_kept k) h
+  verdict-agrees (verdict.OpenSq qid region cqid class) a chosen same h =
+      open_one (in_log past) (in_kept k) h qid region cqid c class (a.unused region a.due.unused) chosen
+      (subst (λ (n : ℕ). region < n) a.sqs_there a.due.there) (a.few qid region cqid class refl)
+  verdict-agrees (BeginDelete qid) a chosen same h =
+      deletes-agree past (event.Pick seen pick ∷ past) k candidate qid c (open_sq past qid) h refl (λ queue e. a.still queue.region ∙ chosen queue e)
+
+-- ---- the table
+-- the begin of a deletion leaves the table
+deleting-table : (k : Kept) (qid c : ℕ) (candidate : Candidate) (o : Option Queue) → (deleting_from k qid c candidate o).table ≡ k.table
+deleting-table k qid c candidate None = refl
+deleting-table k qid c candidate (Some queue) = refl
+
+-- and what each region was opened for
+deleting-queue : (k : Kept) (qid c : ℕ) (candidate : Candidate) (o : Option Queue) (r : ℕ) → ((deleting_from k qid c candidate o).sq r).queue ≡ (k.sq r).queue
+deleting-queue k qid c candidate None r = refl
+deleting-queue k qid c candidate (Some queue) r = put-queue k.sq queue.region _ refl r
+
+module _ (past : Past) (k : Kept) (candidate : Candidate) (c : ℕ) (board : BoardView) where
+  -- a verdict leaves the table, which its command changed
+  pub verdict-table : (v : Verdict) → (after_admin past k candidate c board v).table ≡ k.table
+  verdict-table (Done status dw0) = refl
+  verdict-table (verdict.SetArbitration settings) = refl
+  verdict-table (verdict.OpenCq qid region) = refl
+  verdict-table (CloseCq qid) = refl
+  verdict-table (verdict.OpenSq qid region cqid class) = refl
+  verdict-table (BeginDelete qid) = deleting-table k qid c candidate (open_sq past qid)
+
+  -- a region that isn't used after a verdict was opened for no queue
+  pub verdict-unused : (used : ℕ → Bool) → ((r : ℕ) → used r ≡ false → (k.sq r).queue ≡ None)
+      → (v : Verdict) (r : ℕ) → used_after v used r ≡ false → ((after_admin past k candidate c board v).sq r).queue ≡ None
+  verdict-unused used none (Done status dw0) r e = none r e
+  verdict-unused used none (verdict.SetArbitration settings) r e = none r e
+  verdict-unused used none (verdict.OpenCq qid region) r e = none r e
+  verdict-unused used none (CloseCq qid) r e = none r e
+  verdict-unused used none (verdict.OpenSq qid region cqid class) r e =
+      let parts = or_false-parts (region == r) (used r) e in
+      ap (λ (s : SqKept). s.queue) (at_other r region _ (k.sq r) (λ p. eqb-false region r parts.0 (sym p))) ∙ none r parts.1
+  verdict-unused used none (BeginDelete qid) r e = deleting-queue k qid c candidate (open_sq past qid) r ∙ none r e

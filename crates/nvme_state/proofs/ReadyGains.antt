@@ -1,0 +1,189 @@
+-- What the steps of jobs make ready and post, and the places in hand that they leave.
+use Rattle.std.proofs.Common.{◌≡◌, ℕ, ◌+◌, ◌==◌, ◌&&◌, List, [], ◌∷◌, ◌++◌, map, length, refl, sym, ap, ◌∙◌, subst, arith}
+use Rattle.std.specs.Prelude.{sum_by, All, option_map}
+use Rattle.std.proofs.lemmas.Bool.{eq-eqb, ne_eqb}
+use Rattle.std.proofs.lemmas.List.{append_assoc, length-append}
+use Rattle.std.proofs.lemmas.List.Sums.{sum_by-cons, sum_by-append}
+use Rattle.std.proofs.lemmas.List.Elements.{All-nil, All-cons, All-head, All-tail, All-same}
+use Rattle.nvme_state.specs.declared.candidate.Candidate.{Candidate}
+use Rattle.nvme_state.specs.declared.candidate.Dispatched.{Dispatched}
+use Rattle.nvme_state.specs.declared.candidate.Ready.{Ready}
+use Rattle.nvme_state.specs.declared.attachment.Attachment.{Attachment}
+use Rattle.nvme_log.specs.Rules.{Past}
+use Rattle.nvme_log.specs.Places.{Place}
+use Rattle.nvme_log.specs.Completions.{posted_to}
+use Rattle.nvme_state.specs.Jobs.{Hands, JobsView, in_hand, dispatched_place, dispatched_from, gained_jobs}
+use Rattle.nvme_state.specs.Kept.{CqKept, Kept, put_cq}
+use Rattle.nvme_state.specs.Standing.{HoldsPosts, HoldsReady, IsDispatched, IsReady, held_by, hand_of, times_held}
+use Rattle.nvme_log.specs.Places.{one_if}
+use Rattle.nvme_state.proofs.Windows.{times_in_window, sum_by-map}
+use Rattle.nvme_state.proofs.Readying.{put-grows, sum_by-ones, at_put_cq}
+use Rattle.nvme_state.proofs.ReadyChange.{becomes-ready}
+use Rattle.nvme_state.proofs.AfterSteps.{completed, after_gain}
+use Rattle.nvme_state.proofs.StepKeeps.{KeepsHand, KeepsGain, KeepsStray, ReadyOnes, Posts}
+
+-- ---- the places in hand
+-- a sum over the places in hand is that over the jobs that run, those that are kept, and the deletion
+pub sum-in_hand : (f : Place → ℕ) (h : Hands) (held : List Place)
+    → sum_by f (map dispatched_place (in_hand h) ++ held)
+    ≡ sum_by (λ (d : Dispatched). f (dispatched_place d)) h.running + sum_by (λ (d : Dispatched). f (dispatched_place d)) h.unhanded + sum_by f held
+sum-in_hand f h held =
+    omega (
+      arith,
+      sum_by-append f (map dispatched_place (in_hand h)) held,
+      sum_by-map f dispatched_place (in_hand h),
+      sum_by-append (λ (d : Dispatched). f (dispatched_place d)) h.running h.unhanded,
+    )
+
+-- so many places are in hand
+pub length-in_hand : (h : Hands) (held : List Place) → length (map dispatched_place (in_hand h) ++ held) ≡ length h.running + length h.unhanded + length held
+length-in_hand h held =
+    omega (
+      arith,
+      sum_by-ones (map dispatched_place (in_hand h) ++ held),
+      sum-in_hand (λ (p : Place). 1) h held,
+      sum_by-ones h.running,
+      sum_by-ones h.unhanded,
+      sum_by-ones held,
+    )
+
+-- how often a place stands among picked commands
+abbrev pub times_dispatched : ℕ → ℕ → List Dispatched → ℕ
+times_dispatched r i ds = sum_by (λ (d : Dispatched). one_if (d.region == r && d.index == i)) ds
+
+-- their places in that region are those of the candidates
+pub dispatched-own : (r i ticket : ℕ) (cs : List Candidate) → times_dispatched r i (dispatched_from r ticket cs) ≡ times_in_window i cs
+dispatched-own r i ticket [] = refl
+dispatched-own r i ticket (c ∷ cs) =
+    let first : Dispatched = record { ticket = ticket; region = r; index = c.index; entry = c.entry } in
+    let here : one_if (r == r && c.index == i) ≡ one_if (c.index == i) = rw (eq-eqb r r refl) refl in
+    omega (
+      arith,
+      dispatched-own r i (ticket + 1) cs,
+      here,
+      sum_by-cons (λ (d : Dispatched). one_if (d.region == r && d.index == i)) first (dispatched_from r (ticket + 1) cs),
+      sum_by-cons (λ (x : Candidate). one_if (x.index == i)) c cs,
+    )
+
+-- and none is in another region
+pub dispatched-other : (a r i ticket : ℕ) (cs : List Candidate) → (r ≡ a → ⊥) → times_dispatched r i (dispatched_from a ticket cs) ≡ 0
+dispatched-other a r i ticket [] d = refl
+dispatched-other a r i ticket (c ∷ cs) d =
+    let first : Dispatched = record { ticket = ticket; region = a; index = c.index; entry = c.entry } in
+    let here : one_if (a == r && c.index == i) ≡ 0 = rw (ne_eqb a r (λ e. d (sym e))) refl in
+    omega (
+      arith,
+      dispatched-other a r i (ticket + 1) cs d,
+      here,
+      sum_by-cons (λ (x : Dispatched). one_if (x.region == r && x.index == i)) first (dispatched_from a (ticket + 1) cs),
+    )
+
+-- ---- a job is handed, or a result is dropped
+-- what is ready stands where the jobs change, and the places in hand are the same
+same-hand : (past : Past) (k : Kept) (jobs : JobsView) → in_hand jobs.hands ≡ in_hand k.jobs.hands → HoldsReady past k (hand_of k)
+    → HoldsReady past (record k { jobs = jobs }) (hand_of (record k { jobs = jobs }))
+same-hand past k jobs e h =
+    let same : hand_of (record k { jobs = jobs }) ≡ hand_of k = ap (λ (ds : List Dispatched). map dispatched_place ds ++ held_by k.deletion) e in
+    record {
+      once = λ r i. omega (arith, h.once r i, ap (times_held r i) same);
+      each = h.each;
+      taken = omega (arith, h.taken, ap (λ (ps : List Place). length ps) same);
+      few_aborted = h.few_aborted;
+      few_taken = h.few_taken;
+      none_beyond = h.none_beyond;
+      admin_region = h.admin_region;
+    }
+
+-- a job that is handed stays in hand
+pub ready-hand : KeepsHand ReadyOnes
+ready-hand rules late past k d rest seat s can after =
+    same-hand past k _
+    (append_assoc k.jobs.hands.running (d ∷ []) rest ∙ ap (λ (ds : List Dispatched). k.jobs.hands.running ++ ds) (sym can.oldest)) s.ready
+
+-- a result of no job leaves what is in hand
+pub ready-stray : KeepsStray ReadyOnes
+ready-stray rules late past k result seat s can after = same-hand past k (gained_jobs k.jobs k.jobs.hands.running seat) refl s.ready
+
+-- a job that is handed posts nothing
+pub posts-hand : KeepsHand Posts
+posts-hand rules late past k d rest seat s can = record { posted_is = s.posts.posted_is; counted = s.posts.counted }
+
+-- nor does a result of no job
+pub posts-stray : KeepsStray Posts
+posts-stray rules late past k result seat s can = record { posted_is = s.posts.posted_is; counted = s.posts.counted }
+
+-- ---- a result is gained
+-- what holds of each of a list's elements holds of one amid it
+All-amid : {X : Type 0} (P : X → Type 0) (before : List X) (x : X) (after : List X) → All P (before ++ x ∷ after) → P x
+All-amid P [] x after h = All-head P x after h
+All-amid P (y ∷ before) x after h = All-amid P before x after (All-tail P y (before ++ x ∷ after) h)
+
+-- the command of a result is one that is in hand
+its-dispatched : (past : Past) (h : Hands) (before : List Dispatched) (d : Dispatched) (after : List Dispatched) → h.running ≡ before ++ d ∷ after
+    → All (IsDispatched past) (in_hand h) → IsDispatched past d
+its-dispatched past h before d after e each =
+    All-amid (IsDispatched past) before d (after ++ h.unhanded)
+    (All-same (IsDispatched past) _ _ (sym (ap (λ (ds : List Dispatched). ds ++ h.unhanded) e ∙ append_assoc before (d ∷ after) h.unhanded)) each)
+
+-- a sum over a list, one amid it and the others
+sum-amid : {X : Type 0} (f : X → ℕ) (before : List X) (x : X) (after : List X) → sum_by f (before ++ x ∷ after) ≡ f x + sum_by f (before ++ after)
+sum-amid f before x after = omega (arith, sum_by-append f before (x ∷ after), sum_by-cons f x after, sum_by-append f before after)
+
+-- a list with one amid it is longer by one
+length-amid : {X : Type 0} (before : List X) (x : X) (after : List X) → length (before ++ x ∷ after) ≡ 1 + length (before ++ after)
+length-amid before x after = omega (arith, length-append before (x ∷ after), length-append before after)
+
+-- the place of a gained result goes from those in hand to those that are ready
+pub ready-gain : KeepsGain ReadyOnes
+ready-gain rules late past k before d after result seat c qid s can its attached regions =
+    let new : Kept = after_gain k d (before ++ after) seat c result in
+    let t : Ready = completed d result in
+    let at : IsDispatched past d = its-dispatched past k.jobs.hands before d after its.running_is s.jobs.each in
+    becomes-ready past past k new (hand_of k) (hand_of new) c (t ∷ []) s.ready (record {
+      small = omega (arith, s.queues.posts_there d.region (record { qid = qid; cq_region = c }) attached, s.tabled.few_cqs);
+      grows = put-grows k.cq c (t ∷ []);
+      posts = λ r i. refl;
+      served = λ r i.
+          let place = λ (p : Place). one_if (p.region == r && p.index == i) in
+          let runs = λ (x : Dispatched). one_if (x.region == r && x.index == i) in
+          omega (
+            arith,
+            sum-in_hand place k.jobs.hands (held_by k.deletion),
+            sum-in_hand place new.jobs.hands (held_by k.deletion),
+            ap (sum_by runs) its.running_is,
+            sum-amid runs before d after,
+          );
+      stay = λ x u served h. h;
+      new = All-cons (IsReady past k.deletion c) t [] (record {
+        region = s.queues.cq_region_is d.region ∙ ap (option_map (λ (a : Attachment). a.cq_region)) attached;
+        entry = at.entry;
+        aborted = sym at.not_aborted;
+        deleting = λ e. cc;
+      }) (All-nil (IsReady past k.deletion c));
+      taken =
+          omega (
+            arith,
+            length-in_hand k.jobs.hands (held_by k.deletion),
+            length-in_hand new.jobs.hands (held_by k.deletion),
+            ap (λ (ds : List Dispatched). length ds) its.running_is,
+            length-amid before d after,
+          );
+      few_aborted = omega (arith, s.ready.few_aborted);
+      few_taken = s.ready.few_taken;
+      admin_region = s.ready.admin_region;
+    })
+
+-- what is put and counted at a completion region isn't changed by what is ready
+pub same_posts : (past later : Past) (k after : Kept) (a : ℕ) (ts : List Ready) → HoldsPosts past k
+    → put_cq k.cq a (record (k.cq a) { ready = ts }) ≡ after.cq → ((c : ℕ) → posted_to later c ≡ posted_to past c) → HoldsPosts later after
+same_posts past later k after a ts h is same = record {
+  posted_is = subst (λ (f : ℕ → CqKept). (c : ℕ) → posted_to later c ≡ (f c).sent) is
+      (at_put_cq (λ (c : ℕ) (s : CqKept). posted_to later c ≡ s.sent) k.cq a (record (k.cq a) { ready = ts }) (same a ∙ h.posted_is a) (λ c d. same c ∙ h.posted_is c));
+  counted = subst (λ (f : ℕ → CqKept). (c : ℕ) → (f c).posted ≡ length (f c).sent) is
+      (at_put_cq (λ (c : ℕ) (s : CqKept). s.posted ≡ length s.sent) k.cq a (record (k.cq a) { ready = ts }) (h.counted a) (λ c d. h.counted c));
+}
+
+-- a result that is gained posts nothing
+pub posts-gain : KeepsGain Posts
+posts-gain rules late past k before d after result seat c qid s can its attached =
+    same_posts past past k (after_gain k d (before ++ after) seat c result) c _ s.posts refl (λ x. refl)

@@ -1,0 +1,339 @@
+-- What is ready and what is posted stand after each step of a front.
+use Rattle.std.proofs.Common.{◌≡◌, ℕ, ◌+◌, ◌<◌, ◌≤◌, ◌==◌, ◌&&◌, Bool, true, false, not, if◌then◌else◌, List, [], ◌∷◌, ◌++◌, length, take, Option, Some, None, refl, sym, ap, ◌∙◌, subst, arith, inl, inr}
+use Rattle.std.specs.Prelude.{All, option_map}
+use Rattle.std.proofs.lemmas.Bool.{cases_eq, false_from_ne_true, eq-eqb, ne_eqb}
+use Rattle.std.proofs.lemmas.List.{length-append, length-take-le}
+use Rattle.std.proofs.lemmas.List.Sums.{sum_by-append}
+use Rattle.std.proofs.lemmas.List.Elements.{All-nil, All-cons, All-tail, All-same}
+use Rattle.nvme_entry.specs.declared.submission.Sqe.{Sqe}
+use Rattle.nvme_entry.specs.declared.completion.Cqe.{Cqe}
+use Rattle.arrayvec.specs.ArrayVec.{ArrayVec}
+use Rattle.nvme_arbiter.specs.Board.{BoardView}
+use Rattle.nvme_arbiter.specs.declared.pick.Pick.{Pick}
+use Rattle.nvme_arbiter.specs.declared.pick.Seen.{Seen}
+use Rattle.nvme_admin.specs.declared.bounds.TheConstants.{MAX_REGIONS}
+use Rattle.nvme_admin.specs.Standing.{TableView}
+use Rattle.nvme_admin.specs.Accepted.{queue_table}
+use Rattle.nvme_admin.specs.Changes.{IsDue}
+use Rattle.nvme_admin.specs.declared.verdict.Verdict.{Verdict}
+use Rattle.nvme_admin.specs.declared.verdict.Verdict.TheVariants.{Done, BeginDelete, CloseCq}
+use Rattle.nvme_admin.specs.declared.verdict.Verdict.TheVariants as verdict
+use Rattle.nvme_admin.proofs.Changed.{TellsChange-entry}
+use Rattle.nvme_log.specs.declared.event.Event.{Event}
+use Rattle.nvme_log.specs.declared.event.Event.TheVariants as event
+use Rattle.nvme_state.specs.declared.candidate.Candidate.{Candidate}
+use Rattle.nvme_state.specs.declared.candidate.Dispatched.{Dispatched}
+use Rattle.nvme_state.specs.declared.candidate.Ready.{Ready}
+use Rattle.nvme_state.specs.declared.candidate.PendingDelete.{PendingDelete}
+use Rattle.nvme_state.specs.declared.attachment.Attachment.{Attachment}
+use Rattle.nvme_log.specs.Rules.{FrontRules, Past}
+use Rattle.nvme_log.specs.Queues.{Queue, admin_queue, open_sq, open_cq}
+use Rattle.nvme_log.specs.Places.{Place, waiting}
+use Rattle.nvme_log.specs.Completions.{is_posted, posts_of, posted_to}
+use Rattle.nvme_log.specs.Effects.{closing_of, closed_cq_of}
+use Rattle.nvme_state.specs.Jobs.{dispatched_from}
+use Rattle.nvme_state.specs.Kept.{SqKept, CqKept, Kept, put_sq, with_ready}
+use Rattle.nvme_state.specs.Standing.{HoldsSq, HoldsPosts, IsReady, times_held, held_by, hand_of, deleted_place, Stands}
+use Rattle.nvme_log.specs.Places.{one_if, is_served}
+use Rattle.nvme_state.proofs.Served.{served-fetch, aborts-leave, entry_stays}
+use Rattle.nvme_state.proofs.Readying.{unposted-counts, Pops, readies, sum_ready-pops, at_put_cq, put-grows, none-grows, Moves, served-moves, at_put}
+use Rattle.nvme_state.proofs.ReadyChange.{picked-sum, aborted-sum, pick-moves, becomes-ready}
+use Rattle.nvme_log.proofs.Posts.{posts_of-some}
+use Rattle.nvme_state.proofs.JobLists.{length-dispatched}
+use Rattle.nvme_state.proofs.ReadyGains.{sum-in_hand, length-in_hand, times_dispatched, dispatched-own, dispatched-other, same_posts}
+use Rattle.nvme_state.proofs.ReadyAdmin.{unused_apart, SamePlaces, Answers, answers-ready, deletes-ready}
+use Rattle.nvme_state.specs.Steps.{CanPick, applied_to, verdict_at, picked_sq}
+use Rattle.nvme_state.proofs.AfterSteps.{with_events, answered, deleting_from, after_admin, admin_past, IsChosen, closed_event, after_closed, deleted, fetch_event, after_fetch, after_io, post_event, posted_cq, after_post}
+use Rattle.nvme_state.proofs.StepKeeps.{KeepsFetch, KeepsIo, KeepsAdmin, KeepsPost, KeepsClose, ReadyOnes, Posts}
+
+-- ---- a fetch
+-- a fetch serves no place of any region
+fetch_serves : (past : Past) (region index : ℕ) (entry : Sqe) (s : SqKept) → HoldsSq past region s → (r i : ℕ)
+    → is_served (event.Fetch region index entry ∷ past) r i ≡ is_served past r i
+fetch_serves past region index entry s h r i =
+    elim (cases_eq region r) [
+      | inl e ↦ subst (λ (z : ℕ). is_served (event.Fetch region index entry ∷ past) z i ≡ is_served past z i) e
+          (served-fetch past region index entry (rw h.fetched_is (h.none_aborted (length s.got) (omega arith))) (rw h.fetched_is h.few_picked) i)
+      | inr d ↦ rw (ne_eqb region r d) refl
+    ]
+
+-- a fetch makes nothing ready
+pub ready-fetch : KeepsFetch ReadyOnes
+ready-fetch rules late past k q queue entry known s can after =
+    becomes-ready past (fetch_event k queue entry ∷ past) k (after_fetch k q queue entry known) (hand_of k) (hand_of k) 0 [] s.ready (record {
+      small = omega arith;
+      grows = none-grows (λ (c : ℕ). (k.cq c).ready) 0;
+      posts = λ r i. refl;
+      served = λ r i.
+          omega (arith, ap one_if (fetch_serves past queue.region (k.sq queue.region).fetched entry (k.sq queue.region) (s.regions queue.region) r i));
+      stay = λ c t served h. record {
+        region = h.region;
+        entry = entry_stays past queue.region (k.sq queue.region).fetched t.region t.index entry t.entry h.entry;
+        aborted = h.aborted;
+        deleting = h.deleting;
+      };
+      new = λ j d l. absurd (omega arith);
+      taken = omega arith;
+      few_aborted = omega (arith, s.ready.few_aborted);
+      few_taken = s.ready.few_taken;
+      admin_region = s.ready.admin_region;
+    })
+
+-- and posts nothing
+pub posts-fetch : KeepsFetch Posts
+posts-fetch rules late past k q queue entry known s can = record { posted_is = s.posts.posted_is; counted = s.posts.counted }
+
+-- ---- an I/O pick
+-- an I/O pick makes nothing ready: the places of its candidates are in hand
+pub ready-io : KeepsIo ReadyOnes
+ready-io rules late past k queue seen pick board c s can observed io attached after =
+    let region : ℕ = queue.region in
+    let taken : List Candidate = take pick.n (k.sq region).window in
+    let ds : List Dispatched = dispatched_from region k.jobs.tickets taken in
+    let new : Kept = after_io k queue pick.n board in
+    becomes-ready past (event.Pick seen pick ∷ past) k new (hand_of k) (hand_of new) 0 [] s.ready (record {
+      small = omega arith;
+      grows = none-grows (λ (x : ℕ). (k.cq x).ready) 0;
+      posts = λ r i. refl;
+      served = λ r i.
+          let moves = at_put (λ (x : ℕ) (u v : SqKept). Moves i (times_dispatched x i ds) u v) k.sq region (picked_sq (k.sq region) pick.n)
+          (rw (dispatched-own region i k.jobs.tickets taken) (pick-moves (k.sq region) pick.n i))
+          (λ x d. omega (arith, dispatched-other region x i k.jobs.tickets taken d)) r in
+          let place = λ (p : Place). one_if (p.region == r && p.index == i) in
+          omega (
+            arith,
+            served-moves past (event.Pick seen pick ∷ past) r i (times_dispatched r i ds) (k.sq r) _ (s.regions r) (after r) moves,
+            sum-in_hand place k.jobs.hands (held_by k.deletion),
+            sum-in_hand place new.jobs.hands (held_by k.deletion),
+            sum_by-append (λ (d : Dispatched). one_if (d.region == r && d.index == i)) k.jobs.hands.unhanded ds,
+          );
+      stay = λ x t served h. record { region = h.region; entry = h.entry; aborted = h.aborted; deleting = h.deleting };
+      new = λ j d l. absurd (omega arith);
+      taken =
+          let size : length taken ≡ pick.n = length-take-le pick.n (k.sq region).window can.enough in
+          omega (
+            arith,
+            length-in_hand k.jobs.hands (held_by k.deletion),
+            length-in_hand new.jobs.hands (held_by k.deletion),
+            length-append k.jobs.hands.unhanded ds,
+            length-dispatched region k.jobs.tickets taken,
+          );
+      few_aborted = omega (arith, s.ready.few_aborted);
+      few_taken = can.places;
+      admin_region = s.ready.admin_region;
+    })
+
+-- an I/O pick posts nothing
+pub posts-io : KeepsIo Posts
+posts-io rules late past k queue seen pick board c s can observed io attached = record { posted_is = s.posts.posted_is; counted = s.posts.counted }
+
+-- ---- a post
+-- one more where a test passes
+more_if : (b : Bool) (n : ℕ) → (if b then n + 1 else n) ≡ n + one_if b
+more_if true n = refl
+more_if false n = omega arith
+
+-- the oldest ready completion is taken
+post-pops : (k : Kept) (c : ℕ) (t : Ready) (rest : List Ready) (cqe : Cqe) (free : ℕ) → (k.cq c).ready ≡ t ∷ rest
+    → Pops (readies k.cq) (readies (after_post k c t rest cqe free).cq) c t
+post-pops k c t rest cqe free e = record {
+  here = rw (eq-eqb c c refl, readies) e;
+  elsewhere = λ x d. rw (ne_eqb x c d, readies) refl;
+}
+
+-- a post takes the oldest ready completion of its region, whose place is posted then
+pub ready-post : KeepsPost ReadyOnes
+ready-post rules late past k c t rest cqe qid free s can after =
+    let later : Past = post_event c t cqe ∷ past in
+    let small : c < MAX_REGIONS = omega (arith, can.there, s.tabled.few_cqs) in
+    let pops = post-pops k c t rest cqe free can.oldest in
+    let picked = sum_ready-pops (λ (u : Ready). one_if (not u.aborted)) (readies k.cq) (readies (after_post k c t rest cqe free).cq) c MAX_REGIONS t pops small in
+    let aborts = sum_ready-pops (λ (u : Ready). one_if u.aborted) (readies k.cq) (readies (after_post k c t rest cqe free).cq) c MAX_REGIONS t pops small in
+    let picked_before = picked-sum k in
+    let picked_after = picked-sum (after_post k c t rest cqe free) in
+    record {
+      once = λ r i.
+          omega (
+            arith,
+            s.ready.once r i,
+            more_if (t.region == r && t.index == i) (posts_of past r i),
+            sum_ready-pops (λ (u : Ready). one_if (u.region == r && u.index == i)) (readies k.cq) (readies (after_post k c t rest cqe free).cq) c MAX_REGIONS t pops small,
+          );
+      each = at_put_cq (λ (x : ℕ) (u : CqKept). All (IsReady later k.deletion x) u.ready) k.cq c (posted_cq (k.cq c) rest cqe free)
+          (All-tail (IsReady later k.deletion c) t rest (All-same (IsReady later k.deletion c) _ _ (sym can.oldest) (stays c)))
+          (λ x d. stays x);
+      taken = omega (arith, s.ready.taken);
+      few_aborted = omega (arith, aborted-sum k, aborted-sum (after_post k c t rest cqe free), s.ready.few_aborted);
+      few_taken = omega (arith, s.ready.few_taken);
+      none_beyond = at_put_cq (λ (x : ℕ) (u : CqKept). MAX_REGIONS ≤ x → u.ready ≡ []) k.cq c (posted_cq (k.cq c) rest cqe free)
+          (λ l. absurd (omega arith)) (λ x d. s.ready.none_beyond x);
+      admin_region = s.ready.admin_region;
+    } where
+      stays : (x : ℕ) → All (IsReady (post_event c t cqe ∷ past) k.deletion x) (k.cq x).ready
+      stays x j d l =
+          let h = s.ready.each x j d l in
+          record { region = h.region; entry = h.entry; aborted = h.aborted; deleting = h.deleting }
+
+-- a post puts one completion more into its region
+pub posts-post : KeepsPost Posts
+posts-post rules late past k c t rest cqe qid free s can = record {
+  posted_is = at_put_cq (λ (x : ℕ) (u : CqKept). posted_to (post_event c t cqe ∷ past) x ≡ u.sent) k.cq c (posted_cq (k.cq c) rest cqe free)
+      (rw (eq-eqb c c refl) (ap (λ (xs : List Cqe). xs ++ cqe ∷ []) (s.posts.posted_is c)))
+      (λ x d. rw (ne_eqb c x (λ e. d (sym e))) (s.posts.posted_is x));
+  counted = at_put_cq (λ (x : ℕ) (u : CqKept). u.posted ≡ length u.sent) k.cq c (posted_cq (k.cq c) rest cqe free)
+      (omega (arith, s.posts.counted c, length-append (k.cq c).sent (cqe ∷ [])))
+      (λ x d. s.posts.counted x);
+}
+
+-- ---- the end of a deletion
+-- a place with no post isn't posted
+not_posted : (past : Past) (r i : ℕ) → posts_of past r i ≡ 0 → is_posted past r i ≡ false
+not_posted past r i e = false_from_ne_true (is_posted past r i) (λ (p : is_posted past r i ≡ true). omega (arith, posts_of-some past r i p))
+
+-- the end of a deletion makes its answer ready. No aborted place of the closed queue is ready any more, since all its places are posted
+pub ready-close : KeepsClose ReadyOnes
+ready-close rules late past k d table s can after =
+    let held : held_by k.deletion ≡ deleted_place d ∷ [] = ap held_by can.pending in
+    let region : option_map (λ (x : PendingDelete). x.region) k.deletion ≡ Some d.region = ap (option_map (λ (x : PendingDelete). x.region)) can.pending in
+    becomes-ready past (closed_event d ∷ past) k (after_closed k d table) (hand_of k) (hand_of (after_closed k d table)) 0 (deleted d ∷ []) s.ready (record {
+      small = omega arith;
+      grows = put-grows k.cq 0 (deleted d ∷ []);
+      posts = λ r i. refl;
+      served = λ r i.
+          let place = λ (p : Place). one_if (p.region == r && p.index == i) in
+          omega (arith, sum-in_hand place k.jobs.hands (held_by k.deletion), sum-in_hand place k.jobs.hands [], ap (times_held r i) held);
+      stay = λ c t served h. record {
+        region = h.region;
+        entry = h.entry;
+        aborted = h.aborted;
+        deleting = λ e.
+            let same : Some d.region ≡ Some t.region = sym region ∙ h.deleting e in
+            let at : d.region ≡ t.region = cc in
+            absurd (unposted-counts past t.region t.index served.served (not_posted past t.region t.index served.no_post)
+            (sym (s.counts.unposted t.region) ∙ ap (λ (r : ℕ). (k.sq r).unposted) (sym at) ∙ can.all_posted));
+      };
+      new = All-cons (IsReady (closed_event d ∷ past) None 0) (deleted d) [] (record {
+        region = s.ready.admin_region;
+        entry = (s.deletion.stands d can.pending).entry;
+        aborted = sym (s.deletion.stands d can.pending).not_aborted;
+        deleting = λ e. cc;
+      }) (All-nil (IsReady (closed_event d ∷ past) None 0));
+      taken = omega (arith, length-in_hand k.jobs.hands (held_by k.deletion), length-in_hand k.jobs.hands [], ap (λ (xs : List Place). length xs) held);
+      few_aborted = omega (arith, s.ready.few_aborted);
+      few_taken = s.ready.few_taken;
+      admin_region = s.ready.admin_region;
+    })
+
+-- the end of a deletion posts nothing
+pub posts-close : KeepsClose Posts
+posts-close rules late past k d table s can = same_posts past (closed_event d ∷ past) k (after_closed k d table) 0 _ s.posts refl (λ x. refl)
+
+-- ---- an admin pick
+module _ (rules : FrontRules) (late : Bool) (past : Past) (k : Kept) (seen : ArrayVec Seen) (pick : Pick) (picked : BoardView)
+    (candidate : Candidate) (rest : List Candidate) (table : TableView) (c : ℕ) (board : BoardView) (s : Stands rules late past k)
+    (can : CanPick rules past k admin_queue pick picked) (one : pick.n ≡ 1) (oldest : (k.sq 0).window ≡ candidate ∷ rest) where
+  -- the answer of a command is ready, where the places of the log are as before
+  answer : (later : Past) (after : Kept) (v : Verdict) → SamePlaces past later → Answers k after (answered candidate v) → ReadyOnes rules late later after
+  answer later after v same a regions =
+      answers-ready past later k after candidate rest v s.ready s.regions oldest can.none_pending (omega (arith, can.places)) same a regions
+
+  -- nothing but the board, the table and the oldest candidate is changed
+  leaves_answer : (b : BoardView) (t : Ready) → Answers k (with_ready (record (applied_to k picked table) { board = b }) 0 t) t
+  leaves_answer b t = record { grows = put-grows k.cq 0 (t ∷ []); jobs = refl; deletion = refl; outstanding = refl; windows = λ r. refl; got = λ r. refl }
+
+  -- a pick alone leaves the places
+  pick-leaves : SamePlaces past (event.Pick seen pick ∷ past)
+  pick-leaves = record { posts = λ r i. refl; cq_regions = λ r x h. h; entries = λ r i. refl; aborts = λ r i. refl }
+
+  -- the deletion of a queue, where it is open
+  begins_delete : (qid : ℕ) (o : Option Queue) → open_sq past qid ≡ o
+      → ((queue : Queue) → open_sq past qid ≡ Some queue → (k.sq queue.region).queue ≡ Some (record { qid = qid; cq_region = c }))
+      → ReadyOnes rules late (with_events (closing_of past qid o) (event.Pick seen pick ∷ past)) (deleting_from (applied_to k picked table) qid c candidate o)
+  begins_delete qid None e chosen = answer _ _ (BeginDelete qid) pick-leaves (leaves_answer picked (answered candidate (BeginDelete qid)))
+  begins_delete qid (Some queue) e chosen =
+      let attached = chosen queue e in
+      deletes-ready past k candidate rest seen pick picked table queue.region qid c s.ready s.regions oldest can.none_pending (omega (arith, can.places))
+      (omega (arith, s.queues.posts_there queue.region (record { qid = qid; cq_region = c }) attached, s.tabled.few_cqs))
+      (s.queues.cq_region_is queue.region ∙ ap (option_map (λ (a : Attachment). a.cq_region)) attached)
+
+  -- the closing of a completion queue, where it is open, leaves the places
+  closing-leaves : (qid : ℕ) (o : Option ℕ) → SamePlaces past (with_events (closed_cq_of qid o) (event.Pick seen pick ∷ past))
+  closing-leaves qid None = pick-leaves
+  closing-leaves qid (Some region) = record { posts = λ r i. refl; cq_regions = λ r x h. h; entries = λ r i. refl; aborts = λ r i. refl }
+
+  -- a region that is opened keeps its candidates
+  opened-keeps : {T : Type 0} (F : SqKept → T) (sq : ℕ → SqKept) (region : ℕ) (x : SqKept) → F x ≡ F (sq region) → (r : ℕ) → F (put_sq sq region x r) ≡ F (sq r)
+  opened-keeps F sq region x e = at_put (λ (y : ℕ) (u v : SqKept). F v ≡ F u) sq region x e (λ y d. refl)
+
+  -- a command of each verdict
+  commands : (v : Verdict) → IsDue (queue_table rules.start s.tabled.history) v → IsChosen rules past k c picked board v
+      → ReadyOnes rules late (admin_past past (event.Pick seen pick) v) (after_admin past (applied_to k picked table) candidate c board v)
+  commands (Done status dw0) due chosen = answer _ _ (Done status dw0) pick-leaves (leaves_answer picked (answered candidate (Done status dw0)))
+  commands (verdict.OpenSq qid region cqid class) due chosen = answer _ _ (verdict.OpenSq qid region cqid class) (record {
+    posts = λ r i. refl;
+    cq_regions = λ r x h. rw (ne_eqb region r (unused_apart rules late past k s region due.unused r x h)) h;
+    entries = λ r i. refl;
+    aborts = λ r i. refl;
+  }) (record {
+    grows = put-grows k.cq 0 (answered candidate (verdict.OpenSq qid region cqid class) ∷ []);
+    jobs = refl;
+    deletion = refl;
+    outstanding = refl;
+    windows = opened-keeps (λ (x : SqKept). x.window) (put_sq k.sq 0 (picked_sq (k.sq 0) 1)) region _ refl;
+    got = opened-keeps (λ (x : SqKept). x.got) (put_sq k.sq 0 (picked_sq (k.sq 0) 1)) region _ refl;
+  })
+  commands (verdict.OpenCq qid region) due chosen = answer _ _ (verdict.OpenCq qid region) (record {
+    posts = λ r i. refl;
+    cq_regions = λ r x h. h;
+    entries = λ r i. refl;
+    aborts = λ r i. refl;
+  }) (leaves_answer picked (answered candidate (verdict.OpenCq qid region)))
+  commands (CloseCq qid) due chosen = answer _ _ (CloseCq qid) (closing-leaves qid (open_cq past qid)) (leaves_answer picked (answered candidate (CloseCq qid)))
+  commands (verdict.SetArbitration settings) due chosen = answer _ _ (verdict.SetArbitration settings) (record {
+    posts = λ r i. refl;
+    cq_regions = λ r x h. h;
+    entries = λ r i. refl;
+    aborts = λ r i. refl;
+  }) (leaves_answer board (answered candidate (verdict.SetArbitration settings)))
+  commands (BeginDelete qid) due chosen = begins_delete qid (open_sq past qid) refl chosen
+
+-- an admin pick makes its answer ready, or where it begins a deletion the completions of the aborted candidates
+pub ready-admin : KeepsAdmin ReadyOnes
+ready-admin rules late past k seen pick picked candidate rest table c board s can observed admin one apply chosen =
+    commands rules late past k seen pick picked candidate rest table c board s can one apply.oldest (verdict_at rules s.tabled.history candidate)
+    (TellsChange-entry rules.start s.tabled.history candidate.entry).due chosen
+
+-- what a verdict makes posts nothing
+made_posts : (past : Past) (pick : Event) (v : Verdict) → ((x : ℕ) → posted_to (pick ∷ past) x ≡ posted_to past x) → (x : ℕ) → posted_to (admin_past past pick v) x ≡ posted_to past x
+made_posts past pick (Done status dw0) h x = h x
+made_posts past pick (verdict.OpenSq qid region cqid class) h x = h x
+made_posts past pick (verdict.OpenCq qid region) h x = h x
+made_posts past pick (CloseCq qid) h x = closing (open_cq past qid) where
+  closing : (o : Option ℕ) → posted_to (with_events (closed_cq_of qid o) (pick ∷ past)) x ≡ posted_to past x
+  closing None = h x
+  closing (Some region) = h x
+made_posts past pick (verdict.SetArbitration settings) h x = h x
+made_posts past pick (BeginDelete qid) h x = deleting (open_sq past qid) where
+  deleting : (o : Option Queue) → posted_to (with_events (closing_of past qid o) (pick ∷ past)) x ≡ posted_to past x
+  deleting None = h x
+  deleting (Some queue) =
+      aborts-leave (λ (p : Past). posted_to p x) (λ p r i. refl) queue.region (waiting past queue.region) (event.Closing qid queue.region ∷ pick ∷ past) ∙ h x
+
+-- what each verdict leaves posts nothing
+left_posts : (rules : FrontRules) (past later : Past) (k : Kept) (candidate : Candidate) (c : ℕ) (picked board : BoardView) (table : TableView) (v : Verdict)
+    → HoldsPosts past k → ((x : ℕ) → posted_to later x ≡ posted_to past x) → HoldsPosts later (after_admin past (applied_to k picked table) candidate c board v)
+left_posts rules past later k candidate c picked board table (Done status dw0) h same = same_posts past later k _ 0 _ h refl same
+left_posts rules past later k candidate c picked board table (verdict.OpenSq qid region cqid class) h same = same_posts past later k _ 0 _ h refl same
+left_posts rules past later k candidate c picked board table (verdict.OpenCq qid region) h same = same_posts past later k _ 0 _ h refl same
+left_posts rules past later k candidate c picked board table (CloseCq qid) h same = same_posts past later k _ 0 _ h refl same
+left_posts rules past later k candidate c picked board table (verdict.SetArbitration settings) h same = same_posts past later k _ 0 _ h refl same
+left_posts rules past later k candidate c picked board table (BeginDelete qid) h same = left (open_sq past qid) where
+  left : (o : Option Queue) → HoldsPosts later (deleting_from (applied_to k picked table) qid c candidate o)
+  left None = same_posts past later k _ 0 _ h refl same
+  left (Some queue) = same_posts past later k _ c _ h refl same
+
+-- an admin pick posts nothing
+pub posts-admin : KeepsAdmin Posts
+posts-admin rules late past k seen pick picked candidate rest table c board s can observed admin one apply chosen =
+    left_posts rules past _ k candidate c picked board table (verdict_at rules s.tabled.history candidate) s.posts
+    (made_posts past (event.Pick seen pick) (verdict_at rules s.tabled.history candidate) (λ x. refl))

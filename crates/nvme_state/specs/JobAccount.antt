@@ -1,0 +1,21 @@
+-- That the jobs which a front handed, and those that it keeps, are those of its log (jobs and tickets: profile).
+use Rattle.std.specs.Prelude.{◌≡◌, ℕ, ◌+◌, List, ◌++◌, map, sum_by}
+use Rattle.nvme_lane.specs.View.{GetView}
+use Rattle.nvme_pool.specs.declared.jobs.Job.{Job}
+use Rattle.nvme_pool.specs.declared.jobs.Finished.{Finished}
+use Rattle.nvme_pool.specs.Jobs.{result_of}
+use Rattle.nvme_log.specs.Rules.{Past}
+use Rattle.nvme_state.specs.Jobs.{Hands, job_in}
+use Rattle.nvme_log.specs.Dispatches.{AreJobs, dispatched}
+
+-- the jobs that the front handed, followed by those that it keeps, are those of the picked places of I/O queues, with tickets that count from
+-- 0; each job handed has its result gained or waits for it; and what was gained are the results of jobs, and others, that are of no job that
+-- waited
+pub record AccountsForJobs (sizes : List ℕ) (past : Past) (h : Hands) : Type 0 where
+  pub handed : List Job
+  pub seat_handed : h.seat.handed ≡ h.came.handed ++ handed
+  pub jobs_are : AreJobs sizes past 0 (dispatched past) (handed ++ map (job_in sizes) h.unhanded)
+  pub done : List Job
+  pub each_handed : (w : Job → ℕ) → sum_by w handed ≡ sum_by w (map (job_in sizes) h.running) + sum_by w done
+  pub others : List Finished
+  pub each_gained : (w : Finished → ℕ) → sum_by (λ (g : GetView Finished). sum_by w g.got) h.seat.ends ≡ sum_by w (map result_of done) + sum_by w others

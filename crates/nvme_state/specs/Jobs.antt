@@ -1,0 +1,121 @@
+-- What a front keeps of the jobs of picked I/O commands (profile).
+use Rattle.std.specs.Prelude.{◌≡◌, ◌≢◌, ℕ, ◌+◌, ◌==◌, ◌&&◌, Bool, List, [], ◌∷◌, ◌++◌, length, sum_by}
+use Rattle.std.specs.List.{All, list_any}
+use Rattle.nvme_lane.specs.View.{GetView}
+use Rattle.nvme_pool.specs.Closing.{SharesJobs, SharesResults}
+use Rattle.nvme_pool.specs.Jobs.{job_of}
+use Rattle.nvme_pool.specs.Worker.{WorkerView, Accounts}
+use Rattle.nvme_pool.specs.Seat.{SeatView, SameSeat, OneGained}
+use Rattle.nvme_pool.specs.declared.jobs.Job.{Job}
+use Rattle.nvme_pool.specs.declared.jobs.Finished.{Finished}
+use Rattle.nvme_state.specs.declared.candidate.Candidate.{Candidate}
+use Rattle.nvme_state.specs.declared.candidate.Dispatched.{Dispatched}
+use Rattle.nvme_log.specs.Places.{Place}
+
+-- the seat as the front was given it and as it is, the picked commands whose job isn't handed yet, and those whose job was handed and whose
+-- result isn't gained yet, both the oldest first
+pub record Hands : Type 0 where
+  pub came : SeatView
+  pub seat : SeatView
+  pub unhanded : List Dispatched
+  pub running : List Dispatched
+
+pub record JobsView : Type 0 where
+  pub hands : Hands
+  -- the next ticket
+  pub tickets : ℕ
+  -- how many commands of each kind there is room for
+  pub room : ℕ
+
+-- the picked commands that have no result yet
+abbrev pub in_hand : Hands → List Dispatched
+in_hand h = h.running ++ h.unhanded
+
+-- the job of a picked command
+abbrev pub job_in : List ℕ → Dispatched → Job
+job_in sizes d = record { ticket = d.ticket; entry = d.entry; spaces = sizes }
+
+abbrev pub dispatched_place : Dispatched → Place
+dispatched_place d = record { region = d.region; index = d.index }
+
+-- the place has no result yet
+abbrev pub is_in_hand : Hands → ℕ → ℕ → Bool
+is_in_hand h r i = list_any (λ (d : Dispatched). d.region == r && d.index == i) (in_hand h)
+
+-- candidates of a region that are picked, with tickets that count from a number
+abbrev pub dispatched_from : ℕ → ℕ → List Candidate → List Dispatched
+dispatched_from r ticket [] = []
+dispatched_from r ticket (c ∷ cs) = record { ticket = ticket; region = r; index = c.index; entry = c.entry } ∷ dispatched_from r (ticket + 1) cs
+
+-- the jobs after candidates of a region were picked
+abbrev pub with_picked : JobsView → ℕ → List Candidate → JobsView
+with_picked j r cs = record j {
+  hands = record j.hands { unhanded = j.hands.unhanded ++ dispatched_from r j.tickets cs };
+  tickets = j.tickets + length cs;
+}
+
+-- a result is the result of none of these commands
+abbrev pub IsOfNone : List ℕ → List Dispatched → Finished → Type 0
+IsOfNone sizes ds result = All (λ (d : Dispatched). job_of result ≢ job_in sizes d) ds
+
+-- ---- the steps of jobs
+-- a job is handed, the oldest that was kept
+pub record CanHand (sizes : List ℕ) (j : JobsView) (d : Dispatched) (rest : List Dispatched) (seat : SeatView) : Type 0 where
+  pub oldest : j.hands.unhanded ≡ d ∷ rest
+  pub same : SameSeat j.hands.seat seat
+  pub ends : seat.ends ≡ j.hands.seat.ends
+  pub handed : seat.handed ≡ j.hands.seat.handed ++ job_in sizes d ∷ []
+
+abbrev pub handed_jobs : JobsView → Dispatched → List Dispatched → SeatView → JobsView
+handed_jobs j d rest seat = record j { hands = record j.hands { seat = seat; unhanded = rest; running = j.hands.running ++ d ∷ [] } }
+
+pub record HandsOne (sizes : List ℕ) (old new : JobsView) : Type 0 where
+  pub dispatched : Dispatched
+  pub rest : List Dispatched
+  pub seat : SeatView
+  pub can : CanHand sizes old dispatched rest seat
+  pub are : new ≡ handed_jobs old dispatched rest seat
+
+-- a result is gained
+pub record CanGain (j : JobsView) (result : Finished) (seat : SeatView) : Type 0 where
+  pub same : SameSeat j.hands.seat seat
+  pub handed : seat.handed ≡ j.hands.seat.handed
+  pub gained : OneGained j.hands.seat.ends seat.ends result
+
+-- that of a command whose job was handed
+pub record IsResultOf (sizes : List ℕ) (j : JobsView) (before : List Dispatched) (d : Dispatched) (after : List Dispatched) (result : Finished) : Type 0 where
+  pub running_is : j.hands.running ≡ before ++ d ∷ after
+  pub its_job : job_of result ≡ job_in sizes d
+
+-- what is left running
+abbrev pub gained_jobs : JobsView → List Dispatched → SeatView → JobsView
+gained_jobs j running seat = record j { hands = record j.hands { seat = seat; running = running } }
+
+pub record GainsOne (sizes : List ℕ) (old new : JobsView) (d : Dispatched) (result : Finished) : Type 0 where
+  pub before : List Dispatched
+  pub after : List Dispatched
+  pub seat : SeatView
+  pub can : CanGain old result seat
+  pub its : IsResultOf sizes old before d after result
+  pub are : new ≡ gained_jobs old (before ++ after) seat
+
+pub record GainsStray (sizes : List ℕ) (old new : JobsView) (ticket : ℕ) : Type 0 where
+  pub result : Finished
+  pub seat : SeatView
+  pub can : CanGain old result seat
+  pub of_ticket : result.ticket ≡ ticket
+  pub of_none : IsOfNone sizes old.hands.running result
+  pub are : new ≡ gained_jobs old old.hands.running seat
+
+-- the pool of a seat and workers was closed: what was handed was taken or is left, and what was given was gained or is left
+pub record IsClosed (seat : SeatView) (workers : List WorkerView) : Type 0 where
+  pub jobs_left : ℕ
+  pub results_left : ℕ
+  pub jobs : SharesJobs seat.handed workers jobs_left
+  pub results : SharesResults seat.ends workers results_left
+  pub accounts : All Accounts workers
+
+-- ---- counts
+-- how many results the seat gained
+abbrev pub gained_count : Hands → ℕ
+gained_count h = sum_by (λ (g : GetView Finished). length g.got) h.seat.ends

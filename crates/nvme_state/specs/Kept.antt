@@ -1,0 +1,76 @@
+-- What a front keeps, as total look-ups by region (profile).
+use Rattle.std.specs.Prelude.{ℕ, ◌==◌, if◌then◌else◌, List, [], ◌∷◌, ◌++◌, map, Option, None, reverse}
+use Rattle.nvme_entry.specs.declared.submission.Sqe.{Sqe}
+use Rattle.nvme_entry.specs.declared.completion.Cqe.{Cqe}
+use Rattle.nvme_lane.specs.View.{GetView, PutView}
+use Rattle.nvme_arbiter.specs.Board.{BoardView}
+use Rattle.nvme_admin.specs.Standing.{TableView}
+use Rattle.nvme_admin.specs.History.{TableHistory, RegionAdded, Submission, Completion}
+use Rattle.nvme_state.specs.Jobs.{JobsView}
+use Rattle.nvme_state.specs.declared.candidate.Candidate.{Candidate}
+use Rattle.nvme_state.specs.declared.candidate.Ready.{Ready}
+use Rattle.nvme_state.specs.declared.candidate.PendingDelete.{PendingDelete}
+use Rattle.nvme_state.specs.declared.attachment.Attachment.{Attachment}
+
+-- a submission region: what was got and is known to come, the candidates, the number of fetches, the number of picked and aborted places
+-- with no post, the queue that it was opened for, and its slots
+pub record SqKept : Type 0 where
+  pub got : List Sqe
+  pub known : List Sqe
+  pub window : List Candidate
+  pub fetched : ℕ
+  pub unposted : ℕ
+  pub queue : Option Attachment
+  pub slots : ℕ
+
+-- a completion region: what was put, how many places are known to be free, the number of posts, the ready completions, and its slots
+pub record CqKept : Type 0 where
+  pub sent : List Cqe
+  pub free : ℕ
+  pub posted : ℕ
+  pub ready : List Ready
+  pub slots : ℕ
+
+abbrev pub no_sq : SqKept
+no_sq = record { got = []; known = []; window = []; fetched = 0; unposted = 0; queue = None; slots = 0 }
+
+abbrev pub no_cq : CqKept
+no_cq = record { sent = []; free = 0; posted = 0; ready = []; slots = 0 }
+
+-- all of it
+pub record Kept : Type 0 where
+  pub sq : ℕ → SqKept
+  pub cq : ℕ → CqKept
+  -- the number of regions of each kind
+  pub nsq : ℕ
+  pub ncq : ℕ
+  pub board : BoardView
+  pub table : TableView
+  pub outstanding : ℕ
+  pub deletion : Option PendingDelete
+  pub jobs : JobsView
+
+-- another region in the place of one
+abbrev pub put_sq : (ℕ → SqKept) → ℕ → SqKept → ℕ → SqKept
+put_sq sq r s x = if x == r then s else sq x
+
+abbrev pub put_cq : (ℕ → CqKept) → ℕ → CqKept → ℕ → CqKept
+put_cq cq c s x = if x == c then s else cq x
+
+abbrev pub with_sq : Kept → ℕ → SqKept → Kept
+with_sq k r s = record k { sq = put_sq k.sq r s }
+
+abbrev pub with_cq : Kept → ℕ → CqKept → Kept
+with_cq k c s = record k { cq = put_cq k.cq c s }
+
+-- a ready completion more in a completion region
+abbrev pub with_ready : Kept → ℕ → Ready → Kept
+with_ready k c t = with_cq k c (record (k.cq c) { ready = (k.cq c).ready ++ t ∷ [] })
+
+-- ---- what the front was given
+-- the regions, as the steps of a table history that adds the submission regions first
+abbrev pub sq_steps : List (GetView Sqe) → TableHistory
+sq_steps gets = reverse (map (λ (g : GetView Sqe). RegionAdded Submission g.address g.slots) gets)
+
+abbrev pub cq_steps : List (PutView Cqe) → TableHistory
+cq_steps puts = reverse (map (λ (p : PutView Cqe). RegionAdded Completion p.address p.slots) puts)

@@ -1,0 +1,5 @@
+pub mod Jobs
+pub mod Kept
+pub mod Standing
+pub mod Steps
+pub mod JobAccount

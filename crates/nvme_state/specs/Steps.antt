@@ -1,0 +1,53 @@
+-- An aborted candidate, and what a front keeps after a pick and after its admin command was applied (profile).
+use Rattle.std.proofs.Common.{◌≡◌, ℕ, ◌+◌, ◌≤◌, true, List, ◌∷◌, length, drop, Some, None}
+use Rattle.nvme_entry.specs.Status.{aborted_by_deletion}
+use Rattle.nvme_arbiter.specs.History.{Picked}
+use Rattle.nvme_arbiter.specs.Lawful.{lawful_pick}
+use Rattle.nvme_arbiter.specs.Board.{BoardView, BoardStandsAt, queues_after}
+use Rattle.nvme_arbiter.specs.declared.pick.Pick.{Pick}
+use Rattle.nvme_admin.specs.History.{TableHistory, EntryApplied}
+use Rattle.nvme_admin.specs.Accepted.{verdict_of}
+use Rattle.nvme_admin.specs.Standing.{TableView, StandsAt, IsSized}
+use Rattle.nvme_admin.specs.declared.verdict.Verdict.{Verdict}
+use Rattle.nvme_state.specs.declared.candidate.Candidate.{Candidate}
+use Rattle.nvme_state.specs.declared.candidate.Ready.{Ready}
+use Rattle.nvme_log.specs.Limits.{max_outstanding}
+use Rattle.nvme_log.specs.Rules.{FrontRules, Past}
+use Rattle.nvme_log.specs.Queues.{Queue, admin_queue, open_sq}
+use Rattle.nvme_log.specs.Places.{observation_of}
+use Rattle.nvme_log.specs.Histories.{arbitration_of}
+use Rattle.nvme_state.specs.Kept.{SqKept, Kept, with_sq}
+
+-- a pick, after which n places are in hand: picked, and neither ready nor posted
+pub record CanPick (rules : FrontRules) (past : Past) (k : Kept) (queue : Queue) (pick : Pick) (board : BoardView) : Type 0 where
+  pub is_open : open_sq past pick.qid ≡ Some queue
+  pub none_pending : k.deletion ≡ None
+  pub enough : pick.n ≤ length (k.sq queue.region).window
+  pub places : k.outstanding + pick.n ≤ max_outstanding
+  pub lawful : lawful_pick rules.mechanism rules.start.settings (arbitration_of past) (observation_of past) ≡ Some pick
+  pub board_queues : board.queues ≡ queues_after k.board.queues pick
+  pub board_stands : BoardStandsAt rules.mechanism rules.start.settings (Picked (observation_of past) pick ∷ arbitration_of past) board
+
+abbrev pub picked_sq : SqKept → ℕ → SqKept
+picked_sq s n = record s { window = drop n s.window; unposted = s.unposted + n }
+
+abbrev pub after_pick : Kept → Queue → ℕ → BoardView → Kept
+after_pick k queue n board =
+    record (with_sq k queue.region (picked_sq (k.sq queue.region) n)) { board = board; outstanding = k.outstanding + n }
+
+-- an admin pick: its command is applied to the table
+pub record CanApply (rules : FrontRules) (past : Past) (k : Kept) (history : TableHistory) (candidate : Candidate) (rest : List Candidate) (table : TableView) : Type 0 where
+  pub oldest : (k.sq 0).window ≡ candidate ∷ rest
+  pub table_stands : StandsAt rules.start table (EntryApplied candidate.entry ∷ history)
+  pub sized : IsSized table
+
+abbrev pub verdict_at : FrontRules → TableHistory → Candidate → Verdict
+verdict_at rules history candidate = verdict_of rules.start history candidate.entry
+
+-- the admin queue's oldest candidate is picked, and the table is changed
+abbrev pub applied_to : Kept → BoardView → TableView → Kept
+applied_to k board table = record (after_pick k admin_queue 1 board) { table = table }
+
+-- an aborted candidate
+abbrev pub aborted : ℕ → Candidate → Ready
+aborted r c = record { region = r; index = c.index; entry = c.entry; aborted = true; status = aborted_by_deletion; dw0 = 0 }
