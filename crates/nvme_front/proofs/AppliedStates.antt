@@ -9,9 +9,9 @@ use Rattle.nvme_log.specs.declared.event.Event.{Event}
 use Rattle.nvme_log.specs.declared.event.Event.TheVariants as event
 use Rattle.nvme_state.specs.declared.candidate.Candidate.{Candidate}
 use Rattle.nvme_state.specs.declared.candidate.Ready.{Ready}
-use Rattle.nvme_front.specs.declared.region.CqRegion.{CqRegion}
+use Rattle.nvme_state.specs.declared.region.CqRegion.{CqRegion}
 use Rattle.nvme_front.specs.declared.state.FrontState.{FrontState}
-use Rattle.nvme_front.specs.Fifo.{FifoView}
+use Rattle.nvme_state.specs.Fifo.{FifoView}
 use Rattle.nvme_log.specs.Effects.{made_by}
 use Rattle.nvme_front.specs.Applied.{IsApplied}
 use Rattle.nvme_state.specs.Jobs.{JobsView, gained_count}

@@ -19,8 +19,8 @@ use Rattle.nvme_log.specs.declared.event.Event.TheVariants as event
 use Rattle.nvme_state.specs.declared.candidate.Candidate.{Candidate}
 use Rattle.nvme_state.specs.declared.attachment.Attachment.{Attachment}
 use Rattle.nvme_state.specs.declared.candidate.Ready.{Ready}
-use Rattle.nvme_front.specs.declared.region.CqRegion.{CqRegion}
-use Rattle.nvme_front.specs.declared.region.SqRegion.{SqRegion}
+use Rattle.nvme_state.specs.declared.region.CqRegion.{CqRegion}
+use Rattle.nvme_state.specs.declared.region.SqRegion.{SqRegion}
 use Rattle.nvme_front.specs.declared.state.FrontState.{FrontState}
 use Rattle.nvme_log.specs.Queues.{open_sq, open_cq}
 use Rattle.nvme_log.specs.Effects.{made_by, closed_cq_of}
@@ -31,7 +31,7 @@ use Rattle.nvme_front.specs.State.{sq_in, cq_in, kept_of, rules_of}
 use Rattle.nvme_front.specs.Room.{IsKept}
 use Rattle.nvme_state.specs.Standing.{on_board}
 use Rattle.nvme_front.specs.Goes.{Goes}
-use Rattle.nvme_front.specs.Fifo.{FifoView}
+use Rattle.nvme_state.specs.Fifo.{FifoView}
 use Rattle.nvme_state.proofs.AfterSteps.{with_opened, answered}
 use Rattle.nvme_front.proofs.AppliedStates.{kept_answered}
 use Rattle.nvme_front.proofs.States.{sq_in-set, sq_in-read}

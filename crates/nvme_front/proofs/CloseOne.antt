@@ -8,10 +8,10 @@ use Rattle.nvme_admin.specs.Standing.{StandsAt, sq_of}
 use Rattle.nvme_admin.specs.declared.verdict.SqEntry.{SqEntry}
 use Rattle.nvme_state.specs.declared.candidate.PendingDelete.{PendingDelete}
 use Rattle.nvme_state.specs.declared.candidate.Ready.{Ready}
-use Rattle.nvme_front.specs.declared.region.SqRegion.{SqRegion}
-use Rattle.nvme_front.specs.declared.region.CqRegion.{CqRegion}
+use Rattle.nvme_state.specs.declared.region.SqRegion.{SqRegion}
+use Rattle.nvme_state.specs.declared.region.CqRegion.{CqRegion}
 use Rattle.nvme_front.specs.declared.state.FrontState.{FrontState}
-use Rattle.nvme_front.specs.Fifo.{FifoView}
+use Rattle.nvme_state.specs.Fifo.{FifoView}
 use Rattle.nvme_log.specs.Rules.{Past}
 use Rattle.nvme_state.specs.Kept.{Kept, SqKept, CqKept, put_cq}
 use Rattle.nvme_front.specs.State.{sq_in, cq_in, cq_kept, gets_of, puts_of, kept_of, rules_of, past_of}

@@ -13,8 +13,8 @@ use Rattle.nvme_admin.specs.Standing.{TableView, StandsAt}
 use Rattle.nvme_admin.specs.declared.bounds.TheConstants.{MAX_REGIONS}
 use Rattle.nvme_admin.specs.declared.region.Region.{Region}
 use Rattle.nvme_state.specs.declared.candidate.PendingDelete.{PendingDelete}
-use Rattle.nvme_front.specs.declared.region.SqRegion.{SqRegion}
-use Rattle.nvme_front.specs.declared.region.CqRegion.{CqRegion}
+use Rattle.nvme_state.specs.declared.region.SqRegion.{SqRegion}
+use Rattle.nvme_state.specs.declared.region.CqRegion.{CqRegion}
 use Rattle.nvme_state.specs.Jobs.{JobsView}
 use Rattle.nvme_state.specs.Kept.{SqKept, CqKept, sq_steps, cq_steps}
 use Rattle.nvme_front.specs.State.{sq_kept, cq_kept, sq_in, cq_in, gets_of, puts_of}

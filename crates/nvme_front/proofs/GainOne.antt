@@ -15,10 +15,10 @@ use Rattle.nvme_pool.specs.Seat.{Ends, SameSeat, OneGained}
 use Rattle.nvme_state.specs.declared.candidate.Dispatched.{Dispatched}
 use Rattle.nvme_state.specs.declared.candidate.Ready.{Ready}
 use Rattle.nvme_state.specs.declared.attachment.Attachment.{Attachment}
-use Rattle.nvme_front.specs.declared.region.SqRegion.{SqRegion}
-use Rattle.nvme_front.specs.declared.region.CqRegion.{CqRegion}
+use Rattle.nvme_state.specs.declared.region.SqRegion.{SqRegion}
+use Rattle.nvme_state.specs.declared.region.CqRegion.{CqRegion}
 use Rattle.nvme_front.specs.declared.state.FrontState.{FrontState}
-use Rattle.nvme_front.specs.Fifo.{FifoView}
+use Rattle.nvme_state.specs.Fifo.{FifoView}
 use Rattle.nvme_log.specs.Limits.{most_events}
 use Rattle.nvme_state.specs.Jobs.{JobsView, in_hand, job_in, dispatched_place, HandsOne, GainsOne, GainsStray, gained_jobs, gained_count}
 use Rattle.nvme_state.specs.Kept.{Kept, SqKept, CqKept, put_cq}

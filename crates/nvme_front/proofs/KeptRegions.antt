@@ -10,8 +10,8 @@ use Rattle.nvme_admin.specs.History.{Start, TableHistory, RegionAdded, Submissio
 use Rattle.nvme_admin.specs.Standing.{TableView, StandsAt}
 use Rattle.nvme_admin.specs.declared.bounds.TheConstants.{MAX_REGIONS}
 use Rattle.nvme_log.specs.declared.event.Event.{Event}
-use Rattle.nvme_front.specs.declared.region.SqRegion.{SqRegion}
-use Rattle.nvme_front.specs.declared.region.CqRegion.{CqRegion}
+use Rattle.nvme_state.specs.declared.region.SqRegion.{SqRegion}
+use Rattle.nvme_state.specs.declared.region.CqRegion.{CqRegion}
 use Rattle.nvme_front.specs.declared.state.FrontState.{FrontState}
 use Rattle.nvme_state.specs.Jobs.{JobsView}
 use Rattle.nvme_state.specs.Kept.{Kept}

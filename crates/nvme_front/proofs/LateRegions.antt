@@ -14,8 +14,8 @@ use Rattle.nvme_admin.specs.declared.region.Region.{Region}
 use Rattle.nvme_admin.proofs.Changed.{region-opens_admin, cq_region-opens_admin}
 use Rattle.nvme_log.specs.Rules.{Past}
 use Rattle.nvme_state.specs.declared.candidate.PendingDelete.{PendingDelete}
-use Rattle.nvme_front.specs.declared.region.SqRegion.{SqRegion}
-use Rattle.nvme_front.specs.declared.region.CqRegion.{CqRegion}
+use Rattle.nvme_state.specs.declared.region.SqRegion.{SqRegion}
+use Rattle.nvme_state.specs.declared.region.CqRegion.{CqRegion}
 use Rattle.nvme_state.specs.Jobs.{JobsView}
 use Rattle.nvme_state.specs.Kept.{SqKept, CqKept, no_sq, no_cq, sq_steps, cq_steps}
 use Rattle.nvme_front.specs.State.{sq_kept, cq_kept, sq_in, cq_in, gets_of, puts_of}

@@ -6,7 +6,6 @@ pub mod FreshRegions
 pub mod LateRegions
 pub mod KeptRegions
 pub mod KeptAnswers
-pub mod Taken
 pub mod Fetches
 pub mod Scans
 pub mod PostOne

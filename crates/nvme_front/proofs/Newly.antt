@@ -11,8 +11,8 @@ use Rattle.nvme_admin.specs.QueueTable.{QueueTable}
 use Rattle.nvme_admin.specs.Accepted.{queue_table}
 use Rattle.nvme_admin.specs.Standing.{StandsAt}
 use Rattle.nvme_admin.specs.declared.region.Region.{Region}
-use Rattle.nvme_front.specs.declared.region.SqRegion.{SqRegion}
-use Rattle.nvme_front.specs.declared.region.CqRegion.{CqRegion}
+use Rattle.nvme_state.specs.declared.region.SqRegion.{SqRegion}
+use Rattle.nvme_state.specs.declared.region.CqRegion.{CqRegion}
 use Rattle.nvme_front.specs.declared.state.FrontState.{FrontState}
 use Rattle.nvme_log.specs.Rules.{FrontRules, sq_regions_of, cq_regions_of, slots_at}
 use Rattle.nvme_pool.specs.Seat.{SeatView}

@@ -17,7 +17,7 @@ use Rattle.nvme_admin.specs.declared.verdict.SqEntry.{SqEntry}
 use Rattle.nvme_log.specs.declared.event.Event.{Event}
 use Rattle.nvme_log.specs.declared.event.Event.TheVariants as event
 use Rattle.nvme_front.specs.declared.front.FrontConfig.{FrontConfig}
-use Rattle.nvme_front.specs.declared.region.SqRegion.{SqRegion}
+use Rattle.nvme_state.specs.declared.region.SqRegion.{SqRegion}
 use Rattle.nvme_front.specs.declared.state.FrontState.{FrontState}
 use Rattle.nvme_log.specs.Limits.{max_outstanding, most_events}
 use Rattle.nvme_log.specs.Rules.{FrontRules, Past}

@@ -12,8 +12,8 @@ use Rattle.nvme_entry.specs.declared.completion.Cqe.{Cqe}
 use Rattle.nvme_admin.specs.History.{TableStep, RegionAdded, Submission, Completion}
 use Rattle.nvme_admin.specs.declared.region.Region.{Region}
 use Rattle.nvme_log.specs.declared.event.Event.{Event}
-use Rattle.nvme_front.specs.declared.region.SqRegion.{SqRegion}
-use Rattle.nvme_front.specs.declared.region.CqRegion.{CqRegion}
+use Rattle.nvme_state.specs.declared.region.SqRegion.{SqRegion}
+use Rattle.nvme_state.specs.declared.region.CqRegion.{CqRegion}
 use Rattle.nvme_front.specs.declared.state.FrontState.{FrontState}
 use Rattle.nvme_log.specs.Limits.{max_ready}
 use Rattle.nvme_log.specs.Rules.{FrontRules}

@@ -1,4 +1,3 @@
-pub mod Fifo
 pub mod Goes
 pub mod View
 pub mod Clear
@@ -7,6 +6,5 @@ pub mod Hosts
 pub mod Looks
 pub mod Resting
 pub mod Settles
-pub mod Gains
 pub mod Room
 pub mod State

@@ -2,8 +2,8 @@
 use Rattle.std.specs.Prelude.{◌≡◌, ℕ, ◌+◌, ◌≤◌, ◌<◌, [], length, map}
 use Rattle.nvme_admin.specs.declared.bounds.TheConstants.{MAX_REGIONS}
 use Rattle.nvme_admin.specs.declared.region.Region.{Region}
-use Rattle.nvme_front.specs.declared.region.SqRegion.{SqRegion}
-use Rattle.nvme_front.specs.declared.region.CqRegion.{CqRegion}
+use Rattle.nvme_state.specs.declared.region.SqRegion.{SqRegion}
+use Rattle.nvme_state.specs.declared.region.CqRegion.{CqRegion}
 use Rattle.nvme_front.specs.declared.state.FrontState.{FrontState}
 use Rattle.nvme_log.specs.Limits.{max_outstanding, max_ready}
 use Rattle.nvme_front.specs.State.{kept_of, rules_of, past_of}

@@ -1,16 +1,13 @@
 // How a front is made, and how regions are added.
-use crate::fifo::Fifo;
 use crate::front::{AddError, FrontConfig};
-use crate::jobs::Jobs;
 use crate::limits::MAX_READY;
-use crate::region::{CqRegion, SqRegion};
-use nvme_state::Attachment;
 use crate::state::FrontState;
 use nvme_admin::{MAX_REGIONS, Table};
 use nvme_arbiter::{Board, Class};
 use nvme_entry::{Cqe, Sqe};
 use nvme_lane::{GetEnd, PutEnd};
 use nvme_pool::FrontSeat;
+use nvme_state::{Attachment, CqRegion, Fifo, Jobs, SqRegion};
 use std::alloc::Global;
 
 // The admin queue, which its region 0 is for. It posts to completion region 0.

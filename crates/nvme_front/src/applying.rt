@@ -1,13 +1,12 @@
 // What picked admin commands make of the queues.
-use nvme_state::{Candidate, PendingDelete, Ready};
-use nvme_log::Event;
 use crate::executing::abort_all;
 use crate::logging::note;
-use nvme_state::Attachment;
 use crate::state::FrontState;
 use nvme_admin::Verdict;
 use nvme_arbiter::{Class, Settings};
 use nvme_entry::Status;
+use nvme_log::Event;
+use nvme_state::{Attachment, Candidate, PendingDelete, Ready};
 
 impl FrontState {
     ghost use Rattle.std.specs.Prelude.{◌≡◌, ℕ, Option};

@@ -1,9 +1,9 @@
 // What a front shows of its ends, for a thread that holds its hosts too.
-use nvme_log::Event;
 use crate::front::Front;
 use crate::state::FrontState;
 use nvme_entry::{Cqe, Sqe};
 use nvme_lane::{Drainer, Feeder};
+use nvme_log::Event;
 use nvme_pool::{Lanes, Worker};
 use std::alloc::Global;
 use std::sync::Wait;

@@ -5,12 +5,10 @@ ghost use Rattle.nvme_state.specs.Jobs.{with_picked};
 ghost use Rattle.nvme_log.specs.declared.event.Event.TheVariants.{Abort};
 ghost use Rattle.nvme_state.specs.declared.candidate.Candidate.{Candidate};
 
-use nvme_state::{Candidate, Ready};
-use nvme_log::Event;
-use crate::fifo::Fifo;
-use crate::jobs::Jobs;
 use crate::logging::note;
 use nvme_entry::Status;
+use nvme_log::Event;
+use nvme_state::{Candidate, Fifo, Jobs, Ready};
 
 /// Takes the `n` oldest candidates of a window, whose jobs are then to be handed to the workers.
 pub fn dispatch_oldest(window: &mut Fifo<Candidate>, jobs: &mut Jobs, region: u8, n: u16)

@@ -1,10 +1,10 @@
 // The scan of the submission rings.
-use nvme_state::Candidate;
-use nvme_log::Event;
 use crate::front::FrontError;
 use crate::logging::{make_room, note};
 use crate::state::FrontState;
 use nvme_arbiter::HIGHEST_QID;
+use nvme_log::Event;
+use nvme_state::Candidate;
 
 impl FrontState {
     ghost use Rattle.std.specs.Prelude.{◌≡◌, ◌≢◌, ℕ, ◌+◌, ◌<◌, ◌≤◌, length, Option, Some, None, IfOk, IfErr, true, false, ◌⊎◌};

@@ -1,10 +1,10 @@
 // The end of a deletion.
-use nvme_state::{PendingDelete, Ready};
-use nvme_log::Event;
 use crate::front::FrontError;
 use crate::logging::{make_room, note};
 use crate::state::FrontState;
 use nvme_entry::Status;
+use nvme_log::Event;
+use nvme_state::{PendingDelete, Ready};
 
 impl FrontState {
     ghost use Rattle.std.specs.Prelude.{◌≡◌, ◌≢◌, ℕ, ◌+◌, ◌<◌, length, Option, Some, None, true, false, ◌⊎◌, IfErr};

@@ -1,12 +1,12 @@
 ghost use Rattle.std.specs.Prelude.{◌≤◌};
 ghost use Rattle.nvme_log.specs.Limits.{most_events};
 
-use nvme_log::Event;
 use crate::state::FrontState;
 use nvme_admin::Limits;
 use nvme_arbiter::{Mechanism, Settings};
 use nvme_entry::{Cqe, Namespaces, Sqe};
 use nvme_lane::{GetEnd, PutEnd};
+use nvme_log::Event;
 use nvme_pool::{FrontSeat, Lanes};
 use std::alloc::Global;
 use std::marker::Model;

@@ -1,9 +1,8 @@
 // The jobs that are handed to the workers, and the results that are gained from them.
-use nvme_state::Ready;
 use crate::front::FrontError;
-use crate::jobs::Gained;
 use crate::state::FrontState;
 use nvme_pool::Lanes;
+use nvme_state::{Gained, Ready};
 use std::sync::Wait;
 
 impl FrontState {

@@ -2,8 +2,8 @@
 ghost use Rattle.std.specs.Prelude.{◌≡◌, ◌⊎◌, ◌+◌, ◌<◌, ◌≤◌, [], ◌∷◌, ◌++◌, length, OnOk, IfErr, vec_capacity};
 ghost use Rattle.nvme_front.specs.declared.front.FrontError.TheVariants.{NoMemory, LogFull};
 
-use nvme_log::Event;
 use crate::front::FrontError;
+use nvme_log::Event;
 
 /// Makes room for so many events: within the limit of the log, and in memory.
 pub fn make_room(log: &mut Vec<Event>, limit: u32, events: u32) -> Result<(), FrontError>

@@ -4,15 +4,14 @@ ghost use Rattle.nvme_entry.specs.AdminCommand.{admin_command_of};
 ghost use Rattle.nvme_entry.specs.declared.admin.AdminCommand.TheVariants.{DeleteCq};
 ghost use Rattle.nvme_admin.specs.Standing.{cq_of};
 
-use nvme_log::Event;
 use crate::executing::dispatch_oldest;
 use crate::front::{FrontError, Step};
 use crate::limits::ADMIN_EVENTS;
-use nvme_log::MAX_OUTSTANDING;
 use crate::logging::{make_room, note};
 use crate::state::FrontState;
 use nvme_admin::Table;
 use nvme_entry::{AdminCommand, Sqe, admin_of};
+use nvme_log::{Event, MAX_OUTSTANDING};
 
 // The region of the completion queue that an admin command is to delete, where it is open.
 fn deleted_region(table: &Table, entry: &Sqe) -> Option<u8>

@@ -2,12 +2,12 @@
 ghost use Rattle.std.specs.Prelude.{◌≡◌, ◌<◌};
 ghost use Rattle.nvme_log.specs.Completions.{phase_after};
 
-use nvme_state::Ready;
-use nvme_log::Event;
 use crate::front::FrontError;
 use crate::logging::{make_room, note};
 use crate::state::FrontState;
 use nvme_entry::{Cqe, complete};
+use nvme_log::Event;
+use nvme_state::Ready;
 
 // The phase tag of the next completion in a ring of so many slots, after so many. (Base Specification, Phase Tag)
 fn phase_of(posted: u32, slots: u16) -> bool

@@ -1,5 +1,5 @@
-use nvme_log::Event;
 use nvme_entry::{Cqe, Sqe};
+use nvme_log::Event;
 
 /// What a host submitted of its script: the first `count` commands.
 #[derive(Debug, Drop)]

@@ -3,14 +3,12 @@ ghost use Rattle.std.specs.List.{list_all};
 ghost use Rattle.nvme_front.specs.Clear.{no_window, no_ready};
 ghost use Rattle.nvme_front.specs.declared.front.Step.TheVariants as step_is;
 
-use nvme_state::PendingDelete;
-use nvme_log::Event;
 use crate::front::{FrontConfig, FrontError, Step};
-use crate::jobs::Jobs;
-use crate::region::{CqRegion, SqRegion};
 use nvme_admin::Table;
 use nvme_arbiter::Board;
+use nvme_log::Event;
 use nvme_pool::Lanes;
+use nvme_state::{CqRegion, Jobs, PendingDelete, SqRegion};
 use std::alloc::Global;
 use std::sync::Wait;
 

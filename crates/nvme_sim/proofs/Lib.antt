@@ -7,6 +7,7 @@ pub mod Fitting
 pub mod Loops
 pub mod Parts
 pub mod PostedOnce
+pub mod Settled
 pub mod Sites
 pub mod Told
 pub mod TooLong

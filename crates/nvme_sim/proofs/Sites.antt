@@ -14,7 +14,8 @@ use Rattle.nvme_workload.specs.declared.plan.CqPlan.{CqPlan}
 use Rattle.nvme_workload.specs.Plan.{Plan}
 use Rattle.nvme_workload.specs.Sound.{AreApart}
 use Rattle.nvme_front.specs.declared.settling.Parts.{Parts}
-use Rattle.nvme_front.specs.Goes.{get_place}
+use Rattle.nvme_front.specs.Goes.{get_place, put_place}
+use Rattle.nvme_front.specs.Hosts.{drainer_place}
 use Rattle.nvme_state.specs.Kept.{sq_steps, cq_steps}
 use Rattle.nvme_front.specs.View.{FrontView}
 use Rattle.nvme_sim.specs.Runs.{sq_additions, cq_additions}
@@ -65,6 +66,7 @@ prepared_by plan parts seat first middle mechanism start sizes hands sqs cqs poo
       fed = sym (ap (λ gs. map get_place gs) cqs.gets ∙ sqs.gets);
       drained = sym cqs.puts;
       scripts = sqs.scripts;
+      lists = sym (as_long put_place drainer_place parts.front.puts parts.drainers.items cqs.puts) ∙ as_long put_site cq_site parts.front.puts plan.completions cqs.sites;
       pool = record {
         pool = subst (λ (s : SeatView). IsPool parts.lanes s parts.workers.items) (sym seated) pool;
         none_before = ap (λ h. h.came.handed) handed ∙ blank.handed;

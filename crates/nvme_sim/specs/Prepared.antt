@@ -78,6 +78,7 @@ pub record IsPrepared (plan : Plan) (parts : Parts) : Type 0 where
   pub fed : IsFedBy parts.front parts.feeders.items
   pub drained : IsDrainedBy parts.front parts.drainers.items
   pub scripts : map (λ (f : Feeder Sqe). script_of f) parts.feeders.items ≡ map (λ (s : SqPlan). s.script) plan.submissions
+  pub lists : length parts.drainers.items ≡ length plan.completions
   pub pool : HasItsPool parts
   pub blank : IsBlank parts.front.hands.seat parts.workers.items
   pub admin_sq : 0 < length parts.front.gets

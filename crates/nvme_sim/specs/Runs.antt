@@ -1,6 +1,6 @@
 -- What a run of a workload comes to. (profile)
 use Rattle.std.specs.Prelude.{◌≡◌, ◌⊎◌, ℕ, ◌<◌, ◌≤◌, Bool, true, false, List, [], ◌∷◌, ◌++◌, length, map, reverse, slice_index_or, sum_by, Ok}
-use Rattle.std.specs.List.{fold, range_with_len}
+use Rattle.std.specs.List.{All, fold, range_with_len}
 use Rattle.nvme_entry.specs.declared.submission.Sqe.{Sqe}
 use Rattle.nvme_lane.specs.Feeder.{script_of, count_of}
 use Rattle.nvme_lane.specs.declared.feeder.Feeder.{Feeder}
@@ -12,6 +12,7 @@ use Rattle.nvme_workload.specs.declared.plan.CqPlan.{CqPlan}
 use Rattle.nvme_workload.specs.Plan.{Plan, workload_of}
 use Rattle.nvme_threads.specs.declared.driving.DriveError.{DriveError}
 use Rattle.nvme_threads.specs.declared.driving.DriveError.TheVariants as drive
+use Rattle.nvme_front.specs.declared.settled.Sent.{Sent}
 use Rattle.nvme_front.specs.declared.settled.Settled.{Settled}
 use Rattle.nvme_log.specs.Rules.{FrontRules, Past}
 use Rattle.nvme_log.specs.Account.{IsWholeAccount}
@@ -50,10 +51,18 @@ is_loaded Loaded = true
 is_loaded Live = false
 
 -- ---- what a run comes to
--- what is settled is the whole account of the workload of a text
+-- what is settled has the script of each submission region with how many of its commands were submitted, and a list for each completion
+-- region, and nothing else
+pub record HasItsHosts (plan : Plan) (settled : Settled) : Type 0 where
+  pub scripts : map (λ (s : Sent). s.script.items) settled.sent.items ≡ map (λ (s : SqPlan). s.script) plan.submissions
+  pub counts : All (λ (s : Sent). s.count ≤ length s.script.items) settled.sent.items
+  pub lists : length settled.collected.items ≡ length plan.completions
+
+-- what is settled has the hosts of the workload of a text, and is its whole account
 pub record IsRun (text : List ℕ) (mode : Mode) (settled : Settled) : Type 0 where
   pub plan : Plan
   pub is_workload : workload_of text ≡ Ok plan
+  pub hosts : HasItsHosts plan settled
   pub account : IsWholeAccount (rules_for plan) (is_loaded mode) (script_for plan) (sent_at settled.sent.items) (settled_past settled)
       (collected_at settled.collected.items)
 

@@ -11,7 +11,7 @@ ghost use Rattle.nvme_workload.specs.Sound.{IsSound};
 ghost use Rattle.nvme_sim.specs.declared.reports.Mode.TheVariants.{Loaded};
 ghost use Rattle.nvme_sim.specs.Report.{report_text};
 ghost use Rattle.nvme_sim.specs.Written.{AppendsFront};
-ghost use Rattle.nvme_sim.specs.Runs.{IsRun, IsFirstTooLong, FitsAll, GatesRan, fault_of, fault_of_drive, rules_for, script_for, is_loaded};
+ghost use Rattle.nvme_sim.specs.Runs.{IsRun, HasItsHosts, IsFirstTooLong, FitsAll, GatesRan, fault_of, fault_of_drive, rules_for, script_for, is_loaded};
 ghost use Rattle.nvme_sim.specs.RunFaults.{IsTextFault, IsLateFault, RunFails};
 ghost use Rattle.nvme_workload.specs.declared.error.WorkloadError.{WorkloadError};
 ghost use Rattle.nvme_front.specs.declared.front.FrontError.{FrontError};
@@ -124,6 +124,7 @@ fn settled_by<G: Gate + Send + Drop, R: Threads + Wait + Sync>(
 ) -> Result<(Settled, Vec<G>), RunError>
     requires sound { IsSound (plan_of workload) }
     requires number { (1 ≤ vec_len gates) × (vec_len gates ≤ max_workers) }
+    ensures hosts { IfOk result (λ r. HasItsHosts (plan_of workload) r.0) }
     ensures account { IfOk result (λ r. IsWholeAccount (rules_for (plan_of workload)) (is_loaded mode) (script_for (plan_of workload)) (sent_at r.0.sent.items) (settled_past r.0) (collected_at r.0.collected.items)) }
     ensures gates { IfOk result (λ r. GatesRan (λ view ticket. G.left (G.entered view ticket) ticket) gates.items r.1.items (settled_past r.0)) }
     ensures faults { IfErr result (IsLateFault (plan_of workload)) }

@@ -37,3 +37,4 @@ pub mod ReadyRoom
 pub mod AppliedRoom
 pub mod Knowing
 pub mod JobLists
+pub mod Taken

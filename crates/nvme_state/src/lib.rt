@@ -1,9 +1,16 @@
-//! What a front keeps beside its log, as values: candidates, picked commands, ready completions and the pending deletion.
-//! `specs/` says when they stand at a log, and `proofs/` that each step of a front keeps this.
+//! What a front keeps beside its log: candidates in windows, picked commands with their jobs, ready completions, and the
+//! regions with the front's ends. `specs/` says when all this stands at a log, and `proofs/` that each step of a front
+//! keeps it so.
 #![tactic(auto)]
 
 mod attachment;
 mod candidate;
+mod fifo;
+mod jobs;
+mod region;
 
 pub use attachment::Attachment;
 pub use candidate::{Candidate, Dispatched, PendingDelete, Ready};
+pub use fifo::Fifo;
+pub use jobs::{Gained, Jobs};
+pub use region::{CqRegion, SqRegion};

@@ -43,6 +43,7 @@ pub fn settle_run<R: Wait>(
     requires pool { HasItsPool parts }
     ensures log { IfOk result (λ s. s.log.items ≡ parts.front.log) }
     ensures sent { IfOk result (λ s. map told_by s.sent.items ≡ map told parts.feeders.items) }
+    ensures lists { IfOk result (λ s. length s.collected.items ≡ length parts.drainers.items) }
     ensures account { IfOk result (λ s. IsSettledAccount parts.front s) }
     ensures settled { IfOk result (λ s. IsSettled s) }
     ensures submitted { OnOk result (AllSubmitted mode parts.front parts.feeders.items) }

@@ -3,7 +3,7 @@ use Rattle.std.specs.Prelude.{slice_get}
 use Rattle.nvme_state.specs.Steps.{aborted}
 use Rattle.nvme_log.specs.declared.event.Event.TheVariants.{Abort}
 use Rattle.nvme_state.specs.declared.candidate.Candidate.{Candidate}
-use Rattle.nvme_front.proofs.Taken.{made_more, left_more, gained_more}
+use Rattle.nvme_state.proofs.Taken.{made_more, left_more, gained_more}
 use Rattle.nvme_front.proofs.executing.abort_all.Goals as goal
 
 pub loop-preserved : goal.loop-preserved

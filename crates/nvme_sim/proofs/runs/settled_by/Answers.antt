@@ -1,6 +1,7 @@
 -- The parts that come back from a drive are those that were prepared, but for what was done, and what is settled of them is the whole account.
 use Rattle.nvme_sim.proofs.Driven.{few_feeders, gets_still, pool_kept, puts_still, scripts_seen, still_fed, still_drained}
 use Rattle.nvme_sim.proofs.Accounts.{whole_account}
+use Rattle.nvme_sim.proofs.Settled.{has_its_hosts}
 use Rattle.nvme_sim.proofs.Told.{gates_ran}
 use Rattle.std.proofs.Common.{◌∙◌}
 use Rattle.nvme_front.specs.Settles.{settled_past}
@@ -26,6 +27,15 @@ pub settle_run-requires-clause-pool : goal.settle_run-requires-clause-pool
 settle_run-requires-clause-pool g c =
     pool_kept (λ view ticket. g.G.Gate.left (g.G.Gate.entered view ticket) ticket) c.in_ok-parts.parts c.in_ok-parts-2.parts c.args.gates.items c.in_ok-parts-2.gates.items
     c.in_ok-parts.ensures.prepared.pool c.in_ok-parts-2.ensures.lanes c.in_ok-parts-2.ensures.front c.in_ok-parts-2.ensures.workers
+
+pub returns-clause-hosts : goal.returns-clause-hosts
+returns-clause-hosts g c =
+    let before = c.in_ok-parts.parts in
+    let after = c.in_ok-parts-2.parts in
+    let prepared = c.in_ok-parts.ensures.prepared in
+    let settled = c.in_ok-settled.ensures in
+    has_its_hosts (plan_of c.args.workload) after.feeders.items before.drainers.items after.drainers.items c.in_ok-settled.settled
+    (scripts_seen before.feeders.items after.feeders.items c.in_ok-parts-2.ensures.feeders ∙ prepared.scripts) settled.sent prepared.lists c.in_ok-parts-2.ensures.drainers settled.lists
 
 pub returns-clause-account : goal.returns-clause-account
 returns-clause-account g c =

@@ -1,8 +1,8 @@
 use Rattle.std.proofs.Common.{◌==◌, rules, tests}
 use Rattle.std.proofs.lemmas.Iterator.{YieldsList-from_slice}
 use Rattle.std.proofs.lemmas.Iterator.Search.{any_from_yields_List}
-use Rattle.nvme_front.specs.declared.region.SqRegion.{SqRegion}
-use Rattle.nvme_front.specs.declared.region.CqRegion.{CqRegion}
+use Rattle.nvme_state.specs.declared.region.SqRegion.{SqRegion}
+use Rattle.nvme_state.specs.declared.region.CqRegion.{CqRegion}
 use Rattle.nvme_front.proofs.Addresses.{is_address-sq, is_address-cq}
 use Rattle.nvme_front.proofs.state.FrontState.has_address.Goals as goal
 

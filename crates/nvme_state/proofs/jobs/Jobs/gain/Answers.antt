@@ -3,7 +3,7 @@ use Rattle.std.proofs.Common.{◌+◌, List, length, take, drop, get_or, refl, s
 use Rattle.nvme_state.specs.Jobs.{IsOfNone, job_in}
 use Rattle.nvme_state.specs.declared.candidate.Dispatched.{Dispatched}
 use Rattle.nvme_state.proofs.JobLists.{split_at}
-use Rattle.nvme_front.proofs.jobs.Jobs.gain.Goals as goal
+use Rattle.nvme_state.proofs.jobs.Jobs.gain.Goals as goal
 
 pub returns-in_default-find : goal.returns-in_default-find
 returns-in_default-find c = rw (← c.self.view_is) (record {

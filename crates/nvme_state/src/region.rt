@@ -1,4 +1,5 @@
-use nvme_state::{Attachment, Candidate, Ready};
+use crate::attachment::Attachment;
+use crate::candidate::{Candidate, Ready};
 use crate::fifo::Fifo;
 use nvme_entry::{Cqe, Sqe};
 use nvme_lane::{GetEnd, PutEnd};

@@ -2,8 +2,8 @@
 use Rattle.std.specs.Prelude.{◌≡◌, ℕ, List}
 use Rattle.std.specs.List.{All}
 use Rattle.nvme_pool.specs.Seat.{IsUnknown}
-use Rattle.nvme_front.specs.declared.jobs.Gained.{Gained}
-use Rattle.nvme_front.specs.declared.jobs.Gained.TheVariants.{Nothing, Result, Stray}
+use Rattle.nvme_state.specs.declared.jobs.Gained.{Gained}
+use Rattle.nvme_state.specs.declared.jobs.Gained.TheVariants.{Nothing, Result, Stray}
 use Rattle.nvme_state.specs.Jobs.{GainsOne, GainsStray, JobsView}
 
 -- by what a look for a result came to. Where there was none, none is known to be there

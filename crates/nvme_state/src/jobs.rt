@@ -5,10 +5,10 @@ ghost use Rattle.nvme_pool.specs.Jobs.{job_of};
 ghost use Rattle.nvme_state.specs.Jobs.{job_in, IsOfNone};
 ghost use Rattle.nvme_state.specs.declared.candidate.Dispatched.{Dispatched};
 
-use nvme_state::{Candidate, Dispatched};
+use crate::candidate::{Candidate, Dispatched};
 use crate::fifo::Fifo;
-use nvme_log::MAX_OUTSTANDING;
 use nvme_entry::Namespaces;
+use nvme_log::MAX_OUTSTANDING;
 use nvme_pool::{Finished, FrontSeat, Job, Lanes, Worker, close};
 use std::alloc::Global;
 use std::marker::Model;
@@ -85,7 +85,7 @@ impl Jobs {
     ghost use Rattle.nvme_pool.specs.Pool.{IsPool};
     ghost use Rattle.nvme_log.specs.Limits.{max_outstanding};
     ghost use Rattle.nvme_state.specs.Jobs.{HandsOne, IsClosed};
-    ghost use Rattle.nvme_front.specs.Gains.{GainsBy};
+    ghost use Rattle.nvme_state.specs.Gains.{GainsBy};
 
     /// No job was handed, and there is no room yet.
     pub fn new(alloc: Global, seat: FrontSeat) -> Jobs
