@@ -1,5 +1,5 @@
 -- After the deletion of a queue began nothing is fetched from its region, and so a whole account keeps the promise of a run.
-use Rattle.std.proofs.Common.{◌≡◌, ℕ, ◌==◌, ◌||◌, Bool, true, false, List, [], ◌∷◌, ◌++◌, map, Option, Some, None, refl, sym, ap, ◌∙◌, subst, ◌⊎◌, inl, inr, All, if◌then◌else◌}
+use Rattle.std.proofs.Common.{◌≡◌, ℕ, ◌==◌, ◌||◌, Bool, true, false, List, [], ◌∷◌, ◌++◌, map, Option, Some, None, refl, sym, ap, ◌∙◌, subst, append_assoc, ◌⊎◌, inl, inr, All, if◌then◌else◌}
 use Rattle.std.proofs.lemmas.List.Elements.{All-head, All-tail, All-nil, All-cons}
 use Rattle.std.proofs.lemmas.Bool.{cases_Bool, eq-eqb, eqb-true}
 use Rattle.std.proofs.lemmas.Option.{same_Some}
@@ -17,6 +17,7 @@ use Rattle.nvme_log.specs.Histories.{table_history, admin_entry}
 use Rattle.nvme_log.specs.Effects.{closing_of, closed_cq_of, made_by, made_of, made_last, effects_since, EffectsAtOnce}
 use Rattle.nvme_log.specs.Account.{Deletes}
 use Rattle.nvme_log.specs.Laws.{WholeAccountsKeepThePromise}
+use Rattle.nvme_log.proofs.Prefixes.{Each-after}
 use Rattle.nvme_log.proofs.Posts.{whole_answers}
 
 -- ---- a command makes a Closing only as its first effect
@@ -160,6 +161,18 @@ fetches_over rules (e ∷ later) before qid r at_once deletes =
     ] in
     record { ending = next.ending; same = next.same ∙ earlier.same }
 
+-- after the answer of the command that began a deletion nothing is fetched from its region, since nothing is from the beginning on
+answered_over : (rules : FrontRules) (past later middle before : Past) (e : Event) (qid r : ℕ) → past ≡ later ++ e ∷ (middle ++ Closing qid r ∷ before)
+    → Each (EffectsAtOnce rules) past → Each Deletes past → fetched past r ≡ fetched (middle ++ Closing qid r ∷ before) r
+answered_over rules past later middle before e qid r is at_once deletes =
+    let all : past ≡ (later ++ e ∷ middle) ++ Closing qid r ∷ before = is ∙ sym (append_assoc later (e ∷ middle) (Closing qid r ∷ before)) in
+    let first : past ≡ (later ++ e ∷ []) ++ (middle ++ Closing qid r ∷ before) = is ∙ sym (append_assoc later (e ∷ []) (middle ++ Closing qid r ∷ before)) in
+    let whole = fetches_over rules (later ++ e ∷ middle) before qid r (subst (Each (EffectsAtOnce rules)) all at_once) (subst (Each Deletes) all deletes) in
+    let part = fetches_over rules middle before qid r
+        (Each-after (EffectsAtOnce rules) (later ++ e ∷ []) _ (subst (Each (EffectsAtOnce rules)) first at_once))
+        (Each-after Deletes (later ++ e ∷ []) _ (subst (Each Deletes) first deletes)) in
+    ap (λ (p : Past). fetched p r) all ∙ whole.same ∙ sym part.same
+
 -- a whole account keeps the promise of a run
 pub whole_promise : WholeAccountsKeepThePromise
 whole_promise rules loaded scripts sent past collected h =
@@ -169,6 +182,8 @@ whole_promise rules loaded scripts sent past collected h =
       none_after_deletion = λ later before qid r is.
           ap (λ (p : Past). fetched p r) is
           ∙ (fetches_over rules later before qid r (subst (Each (EffectsAtOnce rules)) is h.account.effects_at_once) (subst (Each Deletes) is h.account.deletes)).same;
+      none_after_answer = λ later middle before qid r c i cqe is _.
+          answered_over rules past later middle before (Post c 0 i cqe) qid r is h.account.effects_at_once h.account.deletes;
       one_completion = answers.one_completion;
       lawful = h.account.lawful;
       observed = h.account.observed;

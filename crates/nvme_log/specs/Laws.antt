@@ -14,7 +14,7 @@ use Rattle.nvme_log.specs.Queues.{Queue, open_sq, open_cq}
 use Rattle.nvme_log.specs.Histories.{arbitration_of, table_history}
 use Rattle.nvme_log.specs.Completions.{posted_to, posts_of, IsOwn}
 use Rattle.nvme_log.specs.Effects.{EffectsAtOnce}
-use Rattle.nvme_log.specs.Account.{IndexCounts, ServedWhileOpen, Observed, Deletes, PostsOwn, LeavesPlaces, IsAccount, IsWholeAccount}
+use Rattle.nvme_log.specs.Account.{IndexCounts, ServedWhileOpen, Observed, Deletes, PostsOwn, LeavesPlaces, IsAccount, IsWholeAccount, latest_admin_place}
 
 -- a submission queue of the table, where it is open and not closing
 abbrev pub as_open : Option SqEntry → Option Queue
@@ -81,8 +81,11 @@ WholeAccountsAnswer = (rules : FrontRules) (loaded : Bool) (scripts sent : ℕ �
 pub record KeepsThePromise (rules : FrontRules) (sent : ℕ → List Sqe) (past : Past) (collected : ℕ → List Cqe) : Type 0 where
   -- the commands fetched from each submission queue are a prefix of those submitted to it, in order, each once
   pub fetched_in_order : (r : ℕ) → IsPrefix (fetched past r) (sent r)
-  -- none is fetched after the deletion of its queue began, and so none after it was answered
+  -- none is fetched after the deletion of its queue began
   pub none_after_deletion : (later before : Past) (qid r : ℕ) → past ≡ later ++ Closing qid r ∷ before → fetched past r ≡ fetched before r
+  -- and none after the completion of the command that began it was posted
+  pub none_after_answer : (later middle before : Past) (qid r c i : ℕ) (cqe : Cqe) → past ≡ later ++ Post c 0 i cqe ∷ (middle ++ Closing qid r ∷ before)
+      → latest_admin_place before ≡ Some i → fetched past r ≡ fetched (middle ++ Closing qid r ∷ before) r
   -- every fetched command has exactly one collected completion, its own
   pub one_completion : (r i : ℕ) → i < length (fetched past r) → HasOneCompletion rules past collected r i
   -- the picks are a lawful run of the configured arbitration
