@@ -9,6 +9,7 @@ pub mod Parts
 pub mod PostedOnce
 pub mod Settled
 pub mod Sites
+pub mod Tallied
 pub mod Told
 pub mod TooLong
 pub mod Writing

@@ -1,8 +1,8 @@
 -- What the report counts as it goes through a log.
-use Rattle.std.specs.Prelude.{◌≡◌, ℕ, ◌+◌, ◌-◌, ◌^◌, ◌<◌, ◌≤◌, Bool, false, List, [], ◌∷◌, length, get_or, codes, decimal}
+use Rattle.std.specs.Prelude.{◌≡◌, ℕ, ◌*◌, ◌-◌, ◌^◌, ◌<◌, ◌≤◌, List, [], ◌∷◌, Option, Some, None, length, get_or, codes, decimal}
 use Rattle.nvme_front.specs.declared.settled.Sent.{Sent}
 use Rattle.nvme_log.specs.Rules.{Past}
-use Rattle.nvme_log.specs.Queues.{open_sq, has_region}
+use Rattle.nvme_log.specs.Queues.{Queue, open_sq}
 use Rattle.nvme_log.specs.Places.{fetched, picked}
 use Rattle.nvme_sim.specs.declared.reports.counts.Counts.{Counts}
 use Rattle.nvme_sim.specs.Report.{aborts_of, line}
@@ -13,10 +13,32 @@ pub record IsCounted (past : Past) (r : ℕ) (counts : Counts) : Type 0 where
   pub picked : counts.picked ≡ picked past r
   pub aborted : counts.aborted ≡ aborts_of past r
 
--- and the list tells of each identifier whether its queue is open on the region
-pub record Tallies (r : ℕ) (past : Past) (counts : Counts) (table : List Bool) : Type 0 where
-  pub counted : IsCounted past r counts
-  pub opened : (q : ℕ) → q < 2 ^ 16 → get_or table q false ≡ has_region r (open_sq past q)
+-- the counts of a region of which nothing is told
+abbrev pub no_counts : Counts
+no_counts = record { fetched = 0; picked = 0; aborted = 0 }
+
+-- the counts of each region after a log
+abbrev pub AreCounted : Past → List Counts → Type 0
+AreCounted past counts = (r : ℕ) → IsCounted past r (get_or counts r no_counts)
+
+-- the region of a queue
+abbrev pub region_in : Option Queue → Option ℕ
+region_in None = None
+region_in (Some queue) = Some queue.region
+
+-- and the list has for each identifier the region on which its queue is open
+pub record Tallies (past : Past) (counts : List Counts) (regions : List (Option ℕ)) : Type 0 where
+  pub counted : AreCounted past counts
+  pub opened : (q : ℕ) → q < 2 ^ 16 → get_or regions q None ≡ region_in (open_sq past q)
+
+-- the counts of a region tell of at most so many events
+pub record IsMost (n : ℕ) (counts : Counts) : Type 0 where
+  pub fetched : counts.fetched ≤ n
+  pub picked : counts.picked ≤ n * 65535
+  pub aborted : counts.aborted ≤ n
+
+abbrev pub AreMost : ℕ → List Counts → Type 0
+AreMost n counts = (r : ℕ) → IsMost n (get_or counts r no_counts)
 
 -- one event more can be counted
 pub record IsFew (counts : Counts) : Type 0 where
@@ -24,11 +46,8 @@ pub record IsFew (counts : Counts) : Type 0 where
   pub picked : counts.picked < 2 ^ 127
   pub aborted : counts.aborted < 2 ^ 64 - 1
 
--- one event more was counted
-pub record IsOneMore (before after : Counts) : Type 0 where
-  pub fetched : after.fetched ≤ before.fetched + 1
-  pub picked : after.picked ≤ before.picked + 65535
-  pub aborted : after.aborted ≤ before.aborted + 1
+abbrev pub AreFew : List Counts → Type 0
+AreFew counts = (r : ℕ) → IsFew (get_or counts r no_counts)
 
 -- the line of a submission region with these counts
 abbrev pub sq_line_of : ℕ → Sent → Counts → List ℕ

@@ -6,11 +6,12 @@ ghost use Rattle.nvme_sim.specs.Written.{Writes};
 
 pub mod completions;
 mod counts;
+mod hints;
 mod lines;
 mod pieces;
 
 use completions::put_completions;
-use counts::put_submissions;
+use counts::{counts_of, put_submissions};
 use lines::{put_collected, put_mode, put_picks};
 use nvme_front::Settled;
 use pieces::put;
@@ -39,10 +40,11 @@ pub fn report<W: Write>(settled: &Settled, mode: Mode, writer: &mut W) -> Result
 {
     let log = settled.log.as_slice();
     let sent = settled.sent.as_slice();
+    let counts = counts_of(log);
     put_mode(mode, writer)?;
     put_picks(log, writer)?;
-    put_submissions(log, sent, writer)?;
+    put_submissions(&counts, sent, writer)?;
     put_collected(settled.collected.as_slice(), writer)?;
-    put_completions(log, sent.len(), writer)?;
+    put_completions(log, &counts, sent.len(), writer)?;
     put(b"end\n", writer)
 }

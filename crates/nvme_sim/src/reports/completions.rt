@@ -5,10 +5,12 @@ ghost use Rattle.nvme_log.specs.Completions.{posts_of};
 ghost use Rattle.nvme_log.specs.Places.{fetched};
 ghost use Rattle.nvme_log.specs.Rules.{upto};
 ghost use Rattle.nvme_sim.specs.Report.{cmd_line, cmd_lines, completions_of};
-ghost use Rattle.nvme_sim.specs.Tallies.{IsFirst};
+ghost use Rattle.nvme_sim.specs.Tallies.{AreCounted, IsFirst};
 ghost use Rattle.nvme_sim.specs.Written.{Writes};
 
 use crate::reports::WriteFault;
+use crate::reports::counts::{Counts, counts_at};
+use crate::reports::hints::{Hints, PLACES};
 use crate::reports::pieces::{Piece, put_line};
 use nvme_entry::Cqe;
 use nvme_front::Event;
@@ -46,8 +48,7 @@ pub fn first_posted(events: &[Event], region: usize, index: usize) -> Option<Fou
 fn completion_of(log: &[Event], region: usize, index: usize, from: usize) -> Option<Found>
     requires from { from ≤ length log.now }
     requires once { length (completions_of log.now region index) ≤ 1 }
-    ensures cqe { MatchOption result (completions_of log.now region index ≡ []) (λ found. completions_of log.now region index ≡ found.cqe ∷ []) }
-    ensures at { IfSome result (λ found. found.at ≤ length log.now) }
+    ensures { MatchOption result (completions_of log.now region index ≡ []) (λ found. completions_of log.now region index ≡ found.cqe ∷ []) }
 {
     if let Some(found) = first_posted(&log[from..], region, index) {
         return Some(Found {
@@ -56,21 +57,6 @@ fn completion_of(log: &[Event], region: usize, index: usize, from: usize) -> Opt
         });
     }
     first_posted(&log[..from], region, index)
-}
-
-// How many commands of a region a log fetches.
-fn fetched_of(log: &[Event], region: usize) -> usize
-    ensures { result ≡ length (fetched (reverse log.now) region) }
-{
-    let mut count = 0;
-    for event in log {
-        if let Event::Fetch { region: of, .. } = event {
-            if usize::from(*of) == region {
-                count += 1;
-            }
-        }
-    }
-    count
 }
 
 // Writes the line of a place with its completion.
@@ -97,16 +83,23 @@ fn put_completion<W: Write>(
     put_line(&pieces, writer)
 }
 
-// Writes the lines of the fetched places of a region.
-fn put_places<W: Write>(log: &[Event], region: usize, writer: &mut W) -> Result<(), WriteFault>
+// Writes the lines of a number of places of a region.
+fn put_places<W: Write>(
+    log: &[Event],
+    region: usize,
+    count: usize,
+    hints: &Hints,
+    writer: &mut W,
+) -> Result<(), WriteFault>
     requires posted_once { (r i : ℕ) → posts_of (reverse log.now) r i ≤ 1 }
+    requires count { count ≡ length (fetched (reverse log.now) region) }
     ensures { Writes (W.contents writer.old) (W.contents writer.new) result (cmd_lines log.now region) }
 {
-    let mut from = 0;
-    let count = fetched_of(log, region);
+    let mut last = 0;
     for index in 0..count {
-        if let Some(found) = completion_of(log, region, index, from) {
-            from = found.at;
+        let from = hints.posted_at(region, index).unwrap_or(last);
+        if let Some(found) = completion_of(log, region, index, from.min(log.len())) {
+            last = found.at;
             put_completion(region, index, &found.cqe, writer)?;
         }
     }
@@ -116,14 +109,19 @@ fn put_places<W: Write>(log: &[Event], region: usize, writer: &mut W) -> Result<
 /// Writes the lines of the fetched places of all regions.
 pub fn put_completions<W: Write>(
     log: &[Event],
+    counts: &[Counts],
     regions: usize,
     writer: &mut W,
 ) -> Result<(), WriteFault>
     requires posted_once { (r i : ℕ) → posts_of (reverse log.now) r i ≤ 1 }
+    requires counted { AreCounted (reverse log.now) counts.now }
     ensures { Writes (W.contents writer.old) (W.contents writer.new) result (flat_map (cmd_lines log.now) (upto regions)) }
 {
+    let mut posted = [0; PLACES];
+    let hints = Hints::of(log, counts, &mut posted);
     for region in 0..regions {
-        put_places(log, region, writer)?;
+        let count = counts_at(counts, region).fetched;
+        put_places(log, region, count, &hints, writer)?;
     }
     Ok(())
 }

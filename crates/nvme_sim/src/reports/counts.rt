@@ -1,7 +1,7 @@
-// The lines of the submission regions.
-ghost use Rattle.std.specs.Prelude.{◌≡◌, ℕ, ◌∷◌, length, reverse};
+// What a log says of the submission regions, and their lines.
+ghost use Rattle.std.specs.Prelude.{◌≡◌, ℕ, ◌+◌, ◌∷◌, length, reverse};
 ghost use Rattle.nvme_log.specs.Rules.{Past};
-ghost use Rattle.nvme_sim.specs.Tallies.{IsCounted, IsFew, IsOneMore, Tallies, sq_line_of};
+ghost use Rattle.nvme_sim.specs.Tallies.{AreCounted, AreFew, AreMost, IsCounted, Tallies, sq_line_of};
 ghost use Rattle.nvme_sim.specs.Report.{numbered, sq_line};
 ghost use Rattle.nvme_sim.specs.Written.{Writes};
 
@@ -13,66 +13,68 @@ use std::io::Write;
 // How many submission queue identifiers there are.
 const QIDS: usize = 65_536;
 
-// What a log says of a submission region.
+/// How many submission regions an event can name.
+pub const REGIONS: usize = 256;
+
+/// What a log says of a submission region.
 #[derive(Clone, Copy)]
-struct Counts {
-    fetched: usize,
-    picked: u128,
-    aborted: usize,
+pub struct Counts {
+    pub fetched: usize,
+    pub picked: u128,
+    pub aborted: usize,
 }
 
-// What an event adds to the counts of a region. `opened` says of each identifier whether its queue is open on the
-// region.
-fn counted(counts: Counts, region: usize, event: &Event, opened: &mut [bool]) -> Counts
+// The counts of a region of which a log says nothing.
+const NO_COUNTS: Counts = Counts {
+    fetched: 0,
+    picked: 0,
+    aborted: 0,
+};
+
+// Adds what an event says to the counts of the regions. `opened` has for each identifier the region on which its queue
+// is open.
+fn add(counts: &mut [Counts], event: &Event, opened: &mut [Option<u8>])
+    requires regions { length counts.old ≡ REGIONS }
     requires room { length opened.old ≡ QIDS }
-    requires few { IsFew counts }
-    ensures bounded { IsOneMore counts result }
-    ensures tallies { (past : Past) → Tallies region past counts opened.old → Tallies region (event.now ∷ past) result opened.new }
+    requires few { AreFew counts.old }
+    ensures bounded { (n : ℕ) → AreMost n counts.old → AreMost (n + 1) counts.new }
+    ensures tallies { (past : Past) → Tallies past counts.old opened.old → Tallies (event.now ∷ past) counts.new opened.new }
 {
-    let mut counts = counts;
     match event {
-        Event::Fetch { region: of, .. } => {
-            if usize::from(*of) == region {
-                counts.fetched += 1;
-            }
-        }
+        Event::Fetch { region, .. } => counts[usize::from(*region)].fetched += 1,
         Event::Pick { pick, .. } => {
-            if opened[usize::from(pick.qid)] {
-                counts.picked += u128::from(pick.n);
+            if let Some(region) = opened[usize::from(pick.qid)] {
+                counts[usize::from(region)].picked += u128::from(pick.n);
             }
         }
-        Event::Abort { region: of, .. } => {
-            if usize::from(*of) == region {
-                counts.aborted += 1;
-            }
-        }
-        Event::OpenSq {
-            qid,
-            region: of,
-            ..
-        } => opened[usize::from(*qid)] = usize::from(*of) == region,
-        Event::Closing { qid, .. } => opened[usize::from(*qid)] = false,
+        Event::Abort { region, .. } => counts[usize::from(*region)].aborted += 1,
+        Event::OpenSq { qid, region, .. } => opened[usize::from(*qid)] = Some(*region),
+        Event::Closing { qid, .. } => opened[usize::from(*qid)] = None,
         _ => {}
     }
+}
+
+/// What a log says of each submission region that an event can name.
+pub fn counts_of(log: &[Event]) -> [Counts; REGIONS]
+    ensures { AreCounted (reverse log.now) result }
+{
+    let mut opened = [None; QIDS];
+    opened[0] = Some(0);
+    let mut counts = [NO_COUNTS; REGIONS];
+    for event in log {
+        add(&mut counts, event, &mut opened);
+    }
     counts
 }
 
-// What a log says of a region. `opened` has room for each identifier.
-fn counts_of(log: &[Event], region: usize, opened: &mut [bool]) -> Counts
-    requires { length opened.old ≡ QIDS }
-    ensures { IsCounted (reverse log.now) region result }
+/// The counts of a region.
+pub fn counts_at(counts: &[Counts], region: usize) -> Counts
+    ensures { (past : Past) → AreCounted past counts.now → IsCounted past region result }
 {
-    opened.fill(false);
-    opened[0] = region == 0;
-    let mut counts = Counts {
-        fetched: 0,
-        picked: 0,
-        aborted: 0,
-    };
-    for event in log {
-        counts = counted(counts, region, event, opened);
+    match counts.get(region) {
+        Some(counts) => *counts,
+        None => NO_COUNTS,
     }
-    counts
 }
 
 // Writes the line of a submission region.
@@ -103,16 +105,14 @@ fn put_submission<W: Write>(
 
 /// Writes the lines of the submission regions.
 pub fn put_submissions<W: Write>(
-    log: &[Event],
+    counts: &[Counts],
     sent: &[Sent],
     writer: &mut W,
 ) -> Result<(), WriteFault>
-    ensures { Writes (W.contents writer.old) (W.contents writer.new) result (numbered (sq_line (reverse log.now)) 0 sent.now) }
+    ensures { (past : Past) → AreCounted past counts.now → Writes (W.contents writer.old) (W.contents writer.new) result (numbered (sq_line past) 0 sent.now) }
 {
-    let mut opened = [false; QIDS];
     for (region, of_region) in sent.iter().enumerate() {
-        let counts = counts_of(log, region, &mut opened);
-        put_submission(region, of_region, counts, writer)?;
+        put_submission(region, of_region, counts_at(counts, region), writer)?;
     }
     Ok(())
 }

@@ -6,7 +6,11 @@ ghost use Rattle.nvme_sim.specs.Report.{hex_byte, hex_dword};
 ghost use Rattle.nvme_sim.specs.Written.{Writes};
 
 use crate::reports::WriteFault;
+use arrayvec::ArrayVec;
 use std::io::Write;
+
+// How many bytes of a line are put together before they are written.
+const LINE_ROOM: usize = 256;
 
 /// A piece of a line: words, a number in decimal, or a number in hexadecimal with all its digits.
 #[derive(Clone, Copy)]
@@ -68,12 +72,24 @@ fn put_piece<W: Write>(piece: &Piece, writer: &mut W) -> Result<(), WriteFault>
     }
 }
 
-/// Writes a line of pieces, with a newline at its end.
-pub fn put_line<W: Write>(pieces: &[Piece], writer: &mut W) -> Result<(), WriteFault>
+// Writes a line of pieces, piece by piece.
+fn put_pieces<W: Write>(pieces: &[Piece], writer: &mut W) -> Result<(), WriteFault>
     ensures { Writes (W.contents writer.old) (W.contents writer.new) result (flat_map piece_text pieces.now ++ codes "\n") }
 {
     for piece in pieces {
         put_piece(piece, writer)?;
     }
     put(b"\n", writer)
+}
+
+/// Writes a line of pieces, with a newline at its end, by one write where the writer takes it all. A line over
+/// `LINE_ROOM` bytes is written piece by piece.
+pub fn put_line<W: Write>(pieces: &[Piece], writer: &mut W) -> Result<(), WriteFault>
+    ensures { Writes (W.contents writer.old) (W.contents writer.new) result (flat_map piece_text pieces.now ++ codes "\n") }
+{
+    let mut line = ArrayVec::<u8, LINE_ROOM>::new();
+    match put_pieces(pieces, &mut line) {
+        Ok(()) => put(line.as_slice(), writer),
+        Err(WriteFault) => put_pieces(pieces, writer),
+    }
 }

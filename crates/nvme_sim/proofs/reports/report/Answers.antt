@@ -1,5 +1,5 @@
 -- Each part of the report follows the one before it.
-use Rattle.std.proofs.Common.{◌∷◌, [], ◌++◌}
+use Rattle.std.proofs.Common.{◌∷◌, [], ◌++◌, reverse}
 use Rattle.nvme_sim.specs.Report.{collected_text, completions_text, mode_line, picks_text, submissions_text}
 use Rattle.nvme_sim.proofs.Parts.{fails_fifth, fails_fourth, fails_second, fails_third, writes_sixth}
 use Rattle.nvme_sim.proofs.reports.report.Goals as goal
@@ -24,7 +24,7 @@ returns-in_err-put_submissions g c =
     (collected_text settled ++ (completions_text settled ++ (101 ∷ 110 ∷ 100 ∷ 10 ∷ [])))
     c.from_residual-in_err-put_submissions.ensures.0
     c.in_ok-put_mode.ensures (rw c.as_slice-log.ensures.value at c.in_ok-put_picks.ensures)
-    (rw (c.as_slice-log.ensures.value, c.as_slice-sent.ensures.value) at c.in_err-put_submissions.ensures)
+    (rw c.as_slice-sent.ensures.value at c.in_err-put_submissions.ensures (reverse settled.log.items) (rw c.as_slice-log.ensures.value at c.counts_of-counts.ensures))
 
 pub returns-in_err-put_collected : goal.returns-in_err-put_collected
 returns-in_err-put_collected g c =
@@ -34,7 +34,7 @@ returns-in_err-put_collected g c =
     (mode_line c.args.mode) (picks_text settled) (submissions_text settled) (collected_text settled)
     (completions_text settled ++ (101 ∷ 110 ∷ 100 ∷ 10 ∷ []))
     c.from_residual-in_err-put_collected.ensures.0
-    c.in_ok-put_mode.ensures (rw c.as_slice-log.ensures.value at c.in_ok-put_picks.ensures) (rw (c.as_slice-log.ensures.value, c.as_slice-sent.ensures.value) at c.in_ok-put_submissions.ensures)
+    c.in_ok-put_mode.ensures (rw c.as_slice-log.ensures.value at c.in_ok-put_picks.ensures) (rw c.as_slice-sent.ensures.value at c.in_ok-put_submissions.ensures (reverse settled.log.items) (rw c.as_slice-log.ensures.value at c.counts_of-counts.ensures))
     (rw c.as_slice.ensures.value at c.in_err-put_collected.ensures)
 
 pub returns-in_err-put_completions : goal.returns-in_err-put_completions
@@ -45,7 +45,7 @@ returns-in_err-put_completions g c =
     (mode_line c.args.mode) (picks_text settled) (submissions_text settled) (collected_text settled) (completions_text settled)
     (101 ∷ 110 ∷ 100 ∷ 10 ∷ [])
     c.from_residual-in_err-put_completions.ensures.0
-    c.in_ok-put_mode.ensures (rw c.as_slice-log.ensures.value at c.in_ok-put_picks.ensures) (rw (c.as_slice-log.ensures.value, c.as_slice-sent.ensures.value) at c.in_ok-put_submissions.ensures) (rw c.as_slice.ensures.value at c.in_ok-put_collected.ensures)
+    c.in_ok-put_mode.ensures (rw c.as_slice-log.ensures.value at c.in_ok-put_picks.ensures) (rw c.as_slice-sent.ensures.value at c.in_ok-put_submissions.ensures (reverse settled.log.items) (rw c.as_slice-log.ensures.value at c.counts_of-counts.ensures)) (rw c.as_slice.ensures.value at c.in_ok-put_collected.ensures)
     (rw (c.as_slice-log.ensures.value, c.as_slice-sent.ensures.value) at c.in_err-put_completions.ensures)
 
 pub returns : goal.returns
@@ -56,7 +56,7 @@ returns g c =
     (mode_line c.args.mode) (picks_text settled) (submissions_text settled) (collected_text settled) (completions_text settled) (101 ∷ 110 ∷ 100 ∷ 10 ∷ [])
     c.in_ok-put_mode.ensures
     (rw c.as_slice-log.ensures.value at c.in_ok-put_picks.ensures)
-    (rw (c.as_slice-log.ensures.value, c.as_slice-sent.ensures.value) at c.in_ok-put_submissions.ensures)
+    (rw c.as_slice-sent.ensures.value at c.in_ok-put_submissions.ensures (reverse settled.log.items) (rw c.as_slice-log.ensures.value at c.counts_of-counts.ensures))
     (rw c.as_slice.ensures.value at c.in_ok-put_collected.ensures)
     (rw (c.as_slice-log.ensures.value, c.as_slice-sent.ensures.value) at c.in_ok-put_completions.ensures)
     c.put.ensures

@@ -23,9 +23,9 @@ returns-in_err-put_completion g c =
     let old = g.W.Write.contents c.loop-index.writer in
     let new = g.W.Write.contents c.put_completion.new.writer in
     let lines : ℕ → List ℕ = λ (k : ℕ). flat_map (cmd_line r k) (completions_of log r k) in
-    let front = subst (λ (z : List ℕ). AppendsFront old new z) (sym (one_line (cmd_line r i) log r i c.in-Some.found.cqe c.in-Some.ensures.cqe)) c.in_err-put_completion.ensures in
-    subst (λ (n : ℕ). Writes start new c.from_residual.result (flat_map lines (upto n))) c.fetched_of-count.ensures
-    (upto_fail lines c.fetched_of-count.result i start old new c.from_residual.result c.from_residual.ensures.0 (search rules) c.loop-index.invariant.0 front)
+    let front = subst (λ (z : List ℕ). AppendsFront old new z) (sym (one_line (cmd_line r i) log r i c.in-Some.found.cqe c.in-Some.ensures)) c.in_err-put_completion.ensures in
+    subst (λ (n : ℕ). Writes start new c.from_residual.result (flat_map lines (upto n))) c.requires.count
+    (upto_fail lines c.args.count i start old new c.from_residual.result c.from_residual.ensures.0 (search rules) c.loop-index.invariant front)
 
 pub loop-index-preserved : goal.loop-index-preserved
 loop-index-preserved g c =
@@ -38,15 +38,11 @@ loop-index-preserved g c =
     elim c.match-completion_of.branch [
       | in-Some+in_ok-put_completion w ↦
           let new = g.W.Write.contents w.put_completion.new.writer in
-          let line = subst (λ (z : List ℕ). Appends old new z) (sym (one_line (cmd_line r i) log r i w.in-Some.found.cqe w.in-Some.ensures.cqe)) w.in_ok-put_completion.ensures in (
+          let line = subst (λ (z : List ℕ). Appends old new z) (sym (one_line (cmd_line r i) log r i w.in-Some.found.cqe w.in-Some.ensures)) w.in_ok-put_completion.ensures in
             subst (λ (o : Option (List ℕ)). Appends start o (flat_map lines (upto (i + 1)))) (sym (ap (λ v. g.W.Write.contents v) w.writer-is))
-                (upto_written lines i start old new c.loop-index.invariant.0 line),
-            subst (λ (n : ℕ). n ≤ length log) (sym w.from-is) w.in-Some.ensures.at,
-          )
+                (upto_written lines i start old new c.loop-index.invariant line)
       | in_default w ↦
-          let line = subst (λ (z : List ℕ). Appends old old z) (sym (no_line (cmd_line r i) log r i (search rules))) (appends_nothing old) in (
+          let line = subst (λ (z : List ℕ). Appends old old z) (sym (no_line (cmd_line r i) log r i (search rules))) (appends_nothing old) in
             subst (λ (o : Option (List ℕ)). Appends start o (flat_map lines (upto (i + 1)))) (sym (ap (λ v. g.W.Write.contents v) w.writer-is))
-                (upto_written lines i start old old c.loop-index.invariant.0 line),
-            subst (λ (n : ℕ). n ≤ length log) (sym w.from-is) c.loop-index.invariant.1,
-          )
+                (upto_written lines i start old old c.loop-index.invariant line)
     ]

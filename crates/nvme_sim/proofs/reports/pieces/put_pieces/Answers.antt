@@ -1,7 +1,7 @@
 use Rattle.std.proofs.Common.{rules, ◌∷◌, []}
 use Rattle.nvme_sim.specs.Pieces.{piece_text}
 use Rattle.nvme_sim.proofs.Loops.{items_fail_before}
-use Rattle.nvme_sim.proofs.reports.pieces.put_line.Goals as goal
+use Rattle.nvme_sim.proofs.reports.pieces.put_pieces.Goals as goal
 
 pub returns-in_err-put_piece : goal.returns-in_err-put_piece
 returns-in_err-put_piece g c =

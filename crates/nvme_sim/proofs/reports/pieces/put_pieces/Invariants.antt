@@ -2,7 +2,7 @@ use Rattle.std.proofs.Common.{take}
 use Rattle.std.specs.Io.KnownBytes.{Appends}
 use Rattle.std.specs.List.{flat_map}
 use Rattle.nvme_sim.specs.Pieces.{piece_text}
-use Rattle.nvme_sim.proofs.reports.pieces.put_line.Given as goal
+use Rattle.nvme_sim.proofs.reports.pieces.put_pieces.Given as goal
 
 -- the pieces so far were written
 abbrev pub invariant-loop-piece : goal.invariant-loop-piece

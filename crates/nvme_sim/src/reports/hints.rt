@@ -1,0 +1,62 @@
+// Where a log is likely to post the completion of a place. Only the time of a search rests on it, not what is found.
+use crate::reports::counts::{Counts, REGIONS};
+use nvme_front::Event;
+
+/// For how many places there is room: the commands of the largest workload.
+pub const PLACES: usize = 65_536;
+
+/// For each place, region by region, where in a log its completion is likely posted.
+#[derive(Drop)]
+pub struct Hints<'a> {
+    // The number of the first place of each region.
+    first: [usize; REGIONS],
+    posted: &'a mut [u32],
+}
+
+// The number of the first place of each region.
+fn first_places(counts: &[Counts]) -> [usize; REGIONS] {
+    let mut first = [0; REGIONS];
+    let mut next = 0usize;
+    for (number, of_region) in first.iter_mut().zip(counts) {
+        *number = next;
+        next = next.saturating_add(of_region.fetched);
+    }
+    first
+}
+
+impl<'a> Hints<'a> {
+    /// What a log hints, with what it says of each region. `posted` is overwritten.
+    pub fn of(log: &[Event], counts: &[Counts], posted: &'a mut [u32]) -> Hints<'a> {
+        let mut hints = Hints {
+            first: first_places(counts),
+            posted,
+        };
+        for (at, event) in log.iter().enumerate() {
+            if let Event::Post { region, index, .. } = event {
+                hints.note(usize::from(*region), *index as usize, at);
+            }
+        }
+        hints
+    }
+
+    // The number of a place.
+    fn number_of(&self, region: usize, index: usize) -> Option<usize> {
+        self.first.get(region)?.checked_add(index)
+    }
+
+    // Notes where the completion of a place is posted, where there is room for it.
+    fn note(&mut self, region: usize, index: usize, at: usize) {
+        if let Some(number) = self.number_of(region, index)
+            && let Some(posted) = self.posted.get_mut(number)
+            && let Ok(at) = u32::try_from(at)
+        {
+            *posted = at;
+        }
+    }
+
+    /// Where the completion of a place is likely posted.
+    pub fn posted_at(&self, region: usize, index: usize) -> Option<usize> {
+        let number = self.number_of(region, index)?;
+        self.posted.get(number).map(|at| *at as usize)
+    }
+}
