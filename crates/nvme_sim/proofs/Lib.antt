@@ -1,15 +1,8 @@
 pub mod Accounts
 pub mod Adding
-pub mod Completions
-pub mod Counted
 pub mod Driven
 pub mod Fitting
-pub mod Loops
-pub mod Parts
-pub mod PostedOnce
 pub mod Settled
 pub mod Sites
-pub mod Tallied
 pub mod Told
 pub mod TooLong
-pub mod Writing

@@ -1,8 +1,8 @@
 -- What is settled has the hosts of the workload.
 use Rattle.std.proofs.Common.{◌≡◌, ℕ, ◌≤◌, List, [], ◌∷◌, map, length, sym, ap, ◌∙◌, subst}
-use Rattle.std.specs.Prelude.{absurd}
 use Rattle.std.specs.List.{All}
 use Rattle.std.proofs.lemmas.List.{length-map}
+use Rattle.std.proofs.lemmas.List.Elements.{All-head, All-tail, All-nil, All-cons}
 use Rattle.std.proofs.lemmas.Simd.{map-map}
 use Rattle.nvme_entry.specs.declared.submission.Sqe.{Sqe}
 use Rattle.nvme_entry.specs.declared.completion.Cqe.{Cqe}
@@ -18,18 +18,20 @@ use Rattle.nvme_workload.specs.Plan.{Plan}
 use Rattle.nvme_sim.specs.Runs.{HasItsHosts}
 
 -- a pair of script and count has no more than its script
-IsWithin : List Sqe × ℕ → Type 0
+abbrev IsWithin : List Sqe × ℕ → Type 0
 IsWithin p = p.1 ≤ length p.0
 
 -- what each feeder sent is within its script
 each_within : (fs : List (Feeder Sqe)) → All IsWithin (map told fs)
-each_within [] = tt
-each_within (f ∷ fs) = (f.in_script, each_within fs)
+each_within [] = All-nil IsWithin
+each_within (f ∷ fs) = All-cons IsWithin (told f) (map told fs) f.in_script (each_within fs)
 
 -- so is what each host is told to have sent
 sent_within : (sent : List Sent) → All IsWithin (map told_by sent) → All (λ (s : Sent). s.count ≤ length s.script.items) sent
-sent_within [] all = tt
-sent_within (s ∷ rest) all = (all.0, sent_within rest all.1)
+sent_within [] all = All-nil (λ (s : Sent). s.count ≤ length s.script.items)
+sent_within (s ∷ rest) all =
+    All-cons (λ (x : Sent). x.count ≤ length x.script.items) s rest (All-head IsWithin (told_by s) (map told_by rest) all)
+    (sent_within rest (All-tail IsWithin (told_by s) (map told_by rest) all))
 
 -- what is settled has the hosts of the workload
 pub has_its_hosts : (plan : Plan) (feeders : List (Feeder Sqe)) (before after : List (Drainer Cqe)) (s : Settled)

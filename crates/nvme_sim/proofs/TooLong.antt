@@ -2,7 +2,7 @@
 use Rattle.std.proofs.Common.{◌≡◌, ℕ, ◌<◌, ◌≤◌, List, [], ◌∷◌, ◌++◌, length, refl, sym, ap, ◌∙◌, subst, arith, ◌⊎◌, inl, inr, Result, Ok, Err, IsErrOf, IsErrAnd}
 use Rattle.nvme_workload.specs.declared.plan.SqPlan.{SqPlan}
 use Rattle.nvme_workload.specs.Plan.{Plan, workload_of}
-use Rattle.nvme_sim.specs.declared.reports.Mode.{Mode}
+use Rattle.nvme_report.specs.declared.reports.Mode.{Mode}
 use Rattle.nvme_sim.specs.declared.runs.RunError.{RunError}
 use Rattle.nvme_sim.specs.declared.runs.RunError.TheVariants as fault
 use Rattle.nvme_sim.specs.RunFaults.{IsTextFault}

@@ -4,8 +4,8 @@ use Rattle.nvme_workload.specs.Plan.{Plan, workload_of}
 use Rattle.nvme_front.specs.View.{FrontView}
 use Rattle.nvme_front.specs.declared.front.FrontError.{FrontError}
 use Rattle.nvme_front.specs.declared.front.FrontError.TheVariants as front
-use Rattle.nvme_sim.specs.declared.reports.Mode.{Mode}
-use Rattle.nvme_sim.specs.declared.reports.Mode.TheVariants.{Loaded}
+use Rattle.nvme_report.specs.declared.reports.Mode.{Mode}
+use Rattle.nvme_report.specs.declared.reports.Mode.TheVariants.{Loaded}
 use Rattle.nvme_sim.specs.declared.runs.RunError.{RunError}
 use Rattle.nvme_sim.specs.declared.runs.RunError.TheVariants as fault
 use Rattle.nvme_threads.specs.Faults.{TurnFails}

@@ -4,7 +4,7 @@ ghost use Rattle.nvme_sim.specs.declared.runs.RunError.TheVariants as run_fault;
 
 use crate::entries::{OnceError, once};
 use crate::input::{InputError, take_input};
-use crate::reports::Mode;
+use nvme_report::Mode;
 use crate::runs::{RunError, run};
 use clap::error::ErrorKind;
 use clap::{Arg, ArgAction, ArgMatches, Command, value_parser};

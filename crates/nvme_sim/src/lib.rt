@@ -4,13 +4,12 @@
 mod commands;
 mod entries;
 mod input;
-mod reports;
 mod runs;
 
 pub use commands::command;
 pub use entries::{OnceError, once};
 pub use input::{InputError, MAX_INPUT, MAX_READS, take_input};
-pub use reports::{Mode, WriteFault, report};
+pub use nvme_report::{Mode, WriteFault, report};
 pub use runs::{RunError, run, run_with};
 
 #[cfg(test)]

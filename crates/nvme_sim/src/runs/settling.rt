@@ -7,7 +7,7 @@ ghost use Rattle.nvme_log.specs.Dispatches.{ExecutesOnce};
 ghost use Rattle.nvme_sim.specs.Runs.{AllSubmitted};
 ghost use Rattle.nvme_sim.specs.declared.runs.RunError.TheVariants as fault;
 
-use crate::reports::Mode;
+use nvme_report::Mode;
 use crate::runs::RunError;
 use nvme_front::{Parts, SettleError, Settled, settle};
 use std::alloc::Global;

@@ -1,0 +1,7 @@
+pub mod Completions
+pub mod Counted
+pub mod Loops
+pub mod Parts
+pub mod PostedOnce
+pub mod Tallied
+pub mod Writing

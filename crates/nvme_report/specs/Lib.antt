@@ -1,0 +1,4 @@
+pub mod Report
+pub mod Written
+pub mod Pieces
+pub mod Tallies

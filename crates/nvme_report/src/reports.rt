@@ -1,0 +1,50 @@
+//! The report of a run.
+ghost use Rattle.std.specs.Prelude.{ℕ, ◌≤◌, reverse};
+ghost use Rattle.nvme_log.specs.Completions.{posts_of};
+ghost use Rattle.nvme_report.specs.Report.{report_text};
+ghost use Rattle.nvme_report.specs.Written.{Writes};
+
+pub mod completions;
+mod counts;
+mod hints;
+mod lines;
+mod pieces;
+
+use completions::put_completions;
+use counts::{counts_of, put_submissions};
+use lines::{put_collected, put_mode, put_picks};
+use nvme_front::Settled;
+use pieces::put;
+use std::io::Write;
+use thiserror::Error;
+
+/// When the hosts of a run submit their commands.
+#[derive(Clone, Copy, Debug, PartialEq, Eq)]
+pub enum Mode {
+    /// All of them before the first turn of the front.
+    Loaded,
+    /// While the front works.
+    Live,
+}
+
+/// A write failed, or took no byte.
+#[derive(Clone, Copy, Debug, PartialEq, Eq, Error)]
+#[error("write failed")]
+pub struct WriteFault;
+
+/// Writes the report of a run, whose log posts no place twice. It takes no memory. `WriteFault` comes only where a
+/// write failed or took no byte, and the writer got a front of the report then.
+pub fn report<W: Write>(settled: &Settled, mode: Mode, writer: &mut W) -> Result<(), WriteFault>
+    requires posted_once { (r i : ℕ) → posts_of (reverse settled.now.log.items) r i ≤ 1 }
+    ensures { Writes (W.contents writer.old) (W.contents writer.new) result (report_text mode settled.now) }
+{
+    let log = settled.log.as_slice();
+    let sent = settled.sent.as_slice();
+    let counts = counts_of(log);
+    put_mode(mode, writer)?;
+    put_picks(log, writer)?;
+    put_submissions(&counts, sent, writer)?;
+    put_collected(settled.collected.as_slice(), writer)?;
+    put_completions(log, &counts, sent.len(), writer)?;
+    put(b"end\n", writer)
+}

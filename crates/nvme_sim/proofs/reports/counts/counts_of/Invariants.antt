@@ -1,7 +1,0 @@
-use Rattle.std.proofs.Common.{reverse, take}
-use Rattle.nvme_sim.specs.Tallies.{AreMost, Tallies}
-use Rattle.nvme_sim.proofs.reports.counts.counts_of.Given as goal
-
--- the counts are those of the events so far
-abbrev pub invariant-loop-event : goal.invariant-loop-event
-invariant-loop-event l = Tallies (reverse (take l.event-index l.log)) l.counts l.opened × AreMost l.event-index l.counts
