@@ -1,11 +1,10 @@
 -- What comes back from joined threads.
 use Rattle.std.proofs.Common.{◌≡◌, ℕ, suc, ◌<◌, List, [], ◌∷◌, ◌++◌, map, length, get_or, refl, sym, ap, ◌∙◌, subst, arith, append_assoc}
 use Rattle.std.proofs.lemmas.List.{map-append}
-use Rattle.std.proofs.lemmas.Simd.{map-map}
+use Rattle.std.specs.List.{All, AllZip}
 use Rattle.std.specs.Prelude.{Result, Ok, Err, IfOk}
+use Rattle.std.proofs.lemmas.List.Elements.{All-nil, All-cons, All-head, All-tail}
 use Rattle.std.specs.declared.thread.PromisedHandle.{PromisedHandle}
-use Rattle.nvme_pool.specs.Worker.{WorkerView}
-use Rattle.nvme_threads.specs.Runs.{Ran, HaveRun}
 
 module _ {T P : Type 0} where
   -- each item that came back is tied to the promise of the handle at its place
@@ -20,41 +19,54 @@ module _ {T P : Type 0} where
   rest-kept : (R : P → T → Type 0) (h : PromisedHandle T P) (hs : List (PromisedHandle T P)) (r : T) (rs : List T) → EachKept R (h ∷ hs) (r ∷ rs) → EachKept R hs rs
   rest-kept R h hs r rs each = λ i d low. each (suc i) d (omega arith)
 
-  -- what each promise keeps is the same in all that came back
-  pub kept-map : {Y : Type 0} (f : T → Y) (e : P → Y) (hs : List (PromisedHandle T P)) (rs : List T) → length rs ≡ length hs → EachKept (λ p r. f r ≡ e p) hs rs
-      → map f rs ≡ map (λ h. e h.promise) hs
-  kept-map f e [] [] same each = refl
-  kept-map f e [] (r ∷ rs) same each = absurd (omega arith)
-  kept-map f e (h ∷ hs) [] same each = absurd (omega arith)
-  kept-map f e (h ∷ hs) (r ∷ rs) same each =
-      let one : f r ≡ e h.promise = first-kept (λ p x. f x ≡ e p) h hs r rs each in
-      let more : map f rs ≡ map (λ k. e k.promise) hs = kept-map f e hs rs (omega arith) (rest-kept (λ p x. f x ≡ e p) h hs r rs each) in
-      cc
+  -- each item that came back is related to what its promise tells of
+  pub kept-zip : (R : T → T → Type 0) (value : P → T) (hs : List (PromisedHandle T P)) (rs : List T) → length rs ≡ length hs → EachKept (λ p r. R (value p) r) hs rs
+      → AllZip R (map (λ h. value h.promise) hs) rs
+  kept-zip R value [] [] same each = tt
+  kept-zip R value [] (r ∷ rs) same each = absurd (omega arith)
+  kept-zip R value (h ∷ hs) [] same each = absurd (omega arith)
+  kept-zip R value (h ∷ hs) (r ∷ rs) same each = (
+    first-kept (λ p x. R (value p) x) h hs r rs each,
+    kept-zip R value hs rs (omega arith) (rest-kept (λ p x. R (value p) x) h hs r rs each),
+  )
 
--- each worker that came back with its gate ran from the worker and the gate of its promise
-pub kept-ran : {G P : Type 0} (runs : G → ℕ → G) (w : P → WorkerView) (v : P → G) (hs : List (PromisedHandle (WorkerView × G) P)) (rs : List (WorkerView × G))
-    → length rs ≡ length hs → EachKept (λ p r. Ran runs (w p) (v p) r.0 r.1) hs rs → HaveRun runs (map (λ h. w h.promise) hs) (map (λ h. v h.promise) hs) rs
-kept-ran runs w v [] [] same each = tt
-kept-ran runs w v [] (r ∷ rs) same each = absurd (omega arith)
-kept-ran runs w v (h ∷ hs) [] same each = absurd (omega arith)
-kept-ran runs w v (h ∷ hs) (r ∷ rs) same each = (
-  first-kept (λ p x. Ran runs (w p) (v p) x.0 x.1) h hs r rs each,
-  kept-ran runs w v hs rs (omega arith) (rest-kept (λ p x. Ran runs (w p) (v p) x.0 x.1) h hs r rs each),
-)
+-- one more item was moved, from what is left of a first list to those of a list
+pub moved-out : {X Y : Type 0} (e : X → Y) (outs outs' : List Y) (x : X) (y : Y) (left left' : List X) (all : List Y) → outs' ≡ outs ++ y ∷ [] → left ≡ x ∷ left' → e x ≡ y
+    → outs ++ map e left ≡ all → outs' ++ map e left' ≡ all
+moved-out e outs outs' x y left left' all more first is was =
+    ap (λ ys. ys ++ map e left') more ∙ append_assoc outs (y ∷ []) (map e left') ∙ ap (λ z. outs ++ z ∷ map e left') (sym is) ∙ ap (λ xs. outs ++ map e xs) (sym first) ∙ was
 
--- one more item was moved, from what is left of a list to those of a second list
+-- what is seen of each stayed the same, so it did of all
+pub seen-zip : {T Y : Type 0} (f : T → Y) (ts rs : List T) → AllZip (λ t r. f r ≡ f t) ts rs → map f rs ≡ map f ts
+seen-zip f [] [] same = refl
+seen-zip f [] (r ∷ rs) same = absurd same
+seen-zip f (t ∷ ts) [] same = absurd same
+seen-zip f (t ∷ ts) (r ∷ rs) same =
+    let one : f r ≡ f t = same.0 in
+    let more : map f rs ≡ map f ts = seen-zip f ts rs same.1 in
+    cc
+
+-- those that came back are related to the same tasks under another name
+pub zip-of : {T : Type 0} (R : T → T → Type 0) (ms ts rs : List T) → ms ≡ ts → AllZip R ms rs → AllZip R ts rs
+zip-of {T} R ms ts rs same zip = subst (λ (xs : List T). AllZip R xs rs) same zip
+
+-- one more item was moved, from what is left of a list to those that a second list was made of
 pub moved-one : {X Y : Type 0} (e : X → Y) (hs hs' : List X) (h : X) (y : Y) (left left' all : List Y) → hs' ≡ hs ++ h ∷ [] → left ≡ y ∷ left' → e h ≡ y → map e hs ++ left ≡ all
     → map e hs' ++ left' ≡ all
 moved-one e hs hs' h y left left' all more first is was =
     ap (λ xs. map e xs ++ left') more ∙ ap (λ ys. ys ++ left') (map-append e hs (h ∷ [])) ∙ append_assoc (map e hs) (e h ∷ []) left' ∙ ap (λ z. map e hs ++ z ∷ left') is
     ∙ ap (λ ys. map e hs ++ ys) (sym first) ∙ was
 
--- what is seen of all that came back is what was seen of all that the promises tell of
-pub seen-map : {T P Y : Type 0} (f : T → Y) (value : P → T) (hs : List (PromisedHandle T P)) (rs was : List T) → length rs ≡ length hs → EachKept (λ p r. f r ≡ f (value p)) hs rs
-    → map (λ h. value h.promise) hs ≡ was → map f rs ≡ map f was
-seen-map f value hs rs was same each is = kept-map f (λ p. f (value p)) hs rs same each ∙ sym (map-map f (λ h. value h.promise) hs) ∙ ap (map f) is
+-- what holds of all that is seen holds of all by what is seen of it
+pub all-unmapped : {X Y : Type 0} (P : Y → Type 0) (f : X → Y) (xs : List X) → All P (map f xs) → All (λ x. P (f x)) xs
+all-unmapped P f [] all = All-nil (λ x. P (f x))
+all-unmapped P f (x ∷ xs) all = All-cons (λ y. P (f y)) x xs (All-head P (f x) (map f xs) all) (all-unmapped P f xs (All-tail P (f x) (map f xs) all))
 
--- where two facts hold of an answer's value, what follows from both holds of it
-pub if-both : {T E : Type 0} (r : Result T E) (P Q R : T → Type 0) → ((x : T) → P x → Q x → R x) → IfOk r P → IfOk r Q → IfOk r R
-if-both (Ok x) P Q R both p q = both x p q
-if-both (Err e) P Q R both p q = tt
+-- what holds of an answer's value, where that value is known
+pub ok-holds : {T E : Type 0} (r : Result T E) (P : T → Type 0) (x : T) → r ≡ Ok x → IfOk r P → P x
+ok-holds r P x is holds = subst (λ a. IfOk a P) is holds
+
+-- what follows from what holds of an answer's value
+pub ok-so : {T E : Type 0} (r : Result T E) (P Q : T → Type 0) → ((x : T) → P x → Q x) → IfOk r P → IfOk r Q
+ok-so (Ok x) P Q so holds = so x holds
+ok-so (Err e) P Q so holds = tt

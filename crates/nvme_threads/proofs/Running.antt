@@ -2,6 +2,7 @@
 use Rattle.std.proofs.Common.{◌≡◌, ℕ, List, [], ◌∷◌, ◌++◌, map, sym, ap, ◌∙◌, append_assoc}
 use Rattle.std.proofs.lemmas.List.Sums.{fold_push}
 use Rattle.std.specs.Prelude.{Option, Some, None}
+use Rattle.std.specs.List.{AllZip}
 use Rattle.nvme_pool.specs.declared.jobs.Job.{Job}
 use Rattle.nvme_pool.specs.declared.jobs.Finished.{Finished}
 use Rattle.nvme_pool.specs.declared.worker.Worked.{Worked}
@@ -9,7 +10,8 @@ use Rattle.nvme_pool.specs.declared.worker.Worked.TheVariants.{Did, Held, Nothin
 use Rattle.nvme_pool.specs.Worker.{WorkerView, SameWorker}
 use Rattle.nvme_pool.specs.Steps.{StepsFrom, Steps}
 use Rattle.nvme_pool.proofs.Standing.{worker_stays_on}
-use Rattle.nvme_threads.specs.Runs.{Ran, HaveRun, AllRan}
+use Rattle.nvme_threads.specs.declared.working.Crewman.{Crewman}
+use Rattle.nvme_threads.specs.Runs.{Ran, AllRan}
 
 module _ {G : Type 0} (runs : G → ℕ → G) where
   -- a run goes on by a step that takes no job
@@ -43,10 +45,9 @@ module _ {G : Type 0} (runs : G → ℕ → G) where
   ran_step old view mid between worked new view' ran same step = ran_from mid.kept old view mid between worked new view' ran same step
 
   -- the workers and the gates of a crew ran as the crew did
-  pub all_ran : (ws : List WorkerView) (vs : List G) (crew : List (WorkerView × G)) → HaveRun runs ws vs crew → AllRan runs ws vs (map (λ p. p.0) crew) (map (λ p. p.1) crew)
-  all_ran [] [] [] ran = tt
-  all_ran (w ∷ ws) (v ∷ vs) (p ∷ ps) ran = (ran.0, all_ran ws vs ps ran.1)
-  all_ran [] [] (p ∷ ps) ran = absurd ran
-  all_ran [] (v ∷ vs) ps ran = absurd ran
-  all_ran (w ∷ ws) [] ps ran = absurd ran
-  all_ran (w ∷ ws) (v ∷ vs) [] ran = absurd ran
+  pub all_ran : (cs ds : List (Crewman G)) → AllZip (λ (c d : Crewman G). Ran runs c.worker c.gate d.worker d.gate) cs ds
+      → AllRan runs (map (λ (c : Crewman G). c.worker) cs) (map (λ (c : Crewman G). c.gate) cs) (map (λ (c : Crewman G). c.worker) ds) (map (λ (c : Crewman G). c.gate) ds)
+  all_ran [] [] ran = tt
+  all_ran [] (d ∷ ds) ran = absurd ran
+  all_ran (c ∷ cs) [] ran = absurd ran
+  all_ran (c ∷ cs) (d ∷ ds) ran = (ran.0, all_ran cs ds ran.1)

@@ -1,3 +1,4 @@
+pub mod Drives
 pub mod Hosts
 pub mod Runs
 pub mod Faults

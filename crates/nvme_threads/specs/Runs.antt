@@ -18,12 +18,7 @@ module _ {G : Type 0} (runs : G → ℕ → G) where
     pub executed : new.executed ≡ old.executed ++ more
     pub told : view' ≡ after view more
 
-  -- each of these workers, with the gate at its place, ran to what is at its place among what came back
-  abbrev pub HaveRun : List WorkerView → List G → List (WorkerView × G) → Type 0
-  HaveRun [] [] [] = Unit {0}
-  HaveRun (w ∷ ws) (v ∷ vs) (p ∷ ps) = Ran w v p.0 p.1 × HaveRun ws vs ps
-  HaveRun _ _ _ = ⊥
-
+  -- each of these workers, with the gate at its place, ran to the worker and the gate at its place among what came back
   abbrev pub AllRan : List WorkerView → List G → List WorkerView → List G → Type 0
   AllRan [] [] [] [] = Unit {0}
   AllRan (w ∷ ws) (v ∷ vs) (w' ∷ ws') (v' ∷ vs') = Ran w v w' v' × AllRan ws vs ws' vs'

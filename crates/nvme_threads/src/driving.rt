@@ -1,25 +1,20 @@
 //! A whole drive.
-ghost use Rattle.std.specs.Prelude.{◌≡◌, ◌<◌, length, map, vec_len, IfOk, IfErr};
-ghost use Rattle.std.specs.List.{All};
-ghost use Rattle.nvme_lane.specs.Feeder.{put_of};
+ghost use Rattle.std.specs.Prelude.{◌≡◌, ◌<◌, ◌⊎◌, Ok, Err, length, map, vec_len, IfOk, IfErr};
 ghost use Rattle.nvme_pool.specs.Pool.{IsPool};
-ghost use Rattle.nvme_pool.specs.Worker.{WorkerView};
 ghost use Rattle.nvme_front.specs.View.{GoesOn};
+ghost use Rattle.nvme_threads.specs.Drives.{CanDrive, Drove, ArePartsOf};
 ghost use Rattle.nvme_threads.specs.Faults.{IsDriveFault, fault_of};
 ghost use Rattle.nvme_threads.specs.declared.driving.DriveError.TheVariants as drive_is;
 ghost use Rattle.nvme_threads.specs.Hosts.{feeder_seen, drainer_seen};
-ghost use Rattle.nvme_threads.specs.Runs.{HaveRun, AllRan};
+ghost use Rattle.nvme_threads.specs.Runs.{AllRan};
 
-use crate::draining::start_drainers;
-use crate::feeding::start_feeders;
 use crate::flags::Flags;
-use crate::joining::join_all;
-use crate::serving::serve;
-use crate::working::start_workers;
-use nvme_entry::{Cqe, Sqe};
+use crate::hosting::{Hosts, finish, start};
+use crate::serving::{await_feeders, serve};
+use crate::tasks::Shared;
+use crate::working::{Crewman, apart, together};
 use nvme_front::{Front, FrontError, Parts};
-use nvme_lane::{Drainer, Feeder};
-use nvme_pool::{Gate, Lanes, Worker};
+use nvme_pool::{Gate, Worker};
 use std::alloc::{AllocError, Global};
 use std::sync::Wait;
 use std::thread;
@@ -62,24 +57,18 @@ impl From<AllocError> for DriveError {
     }
 }
 
-// What is driven together: the front, feeders that are to submit meanwhile, the drainers, and the workers with a gate
-// each.
+// What is driven together. Feeders submit meanwhile, or before the first turn.
 #[derive(Drop)]
-struct Driven<G: Gate + Drop> {
-    front: Front,
-    feeders: Vec<Feeder<Sqe>>,
-    drainers: Vec<Drainer<Cqe>>,
-    workers: Vec<Worker>,
-    gates: Vec<G>,
+pub struct Driven<G: Gate + Drop> {
+    pub front: Front,
+    pub hosts: Hosts<G>,
 }
 
-// What comes back of it.
-#[derive(Drop)]
-struct Back<G: Gate + Drop> {
-    front: Front,
-    feeders: Vec<Feeder<Sqe>>,
-    drainers: Vec<Drainer<Cqe>>,
-    crew: Vec<(Worker, G)>,
+// When the hosts submit, and how long the front waits.
+#[derive(Clone, Copy)]
+struct Pace {
+    feeding: Feeding,
+    patience: u32,
 }
 
 // Starts all threads of a scope, makes the front's turns, and joins the threads.
@@ -87,188 +76,138 @@ fn within<'s, E: 's, G: Gate + Send + Drop + 's, R: Threads + Wait + Sync + 's>(
     scope: &Scope<'s, E>,
     rt: &'s R,
     alloc: Global,
-    lanes: &'s Lanes,
+    shared: &'s Shared,
     driven: Driven<G>,
-    patience: u32,
-    flags: &'s Flags,
-) -> Result<Back<G>, DriveError>
-    requires admin_sq { 0 < length driven.front.gets }
-    requires admin_cq { 0 < length driven.front.puts }
-    requires seat { driven.front.hands.seat.lane ≡ lanes.now }
-    requires workers { All (λ (w : WorkerView). w.lane ≡ lanes.now) driven.workers.items }
-    requires number { vec_len driven.workers ≡ vec_len driven.gates }
-    ensures front { IfOk result (λ b. GoesOn driven.front b.front) }
-    ensures feeders { IfOk result (λ b. map feeder_seen b.feeders.items ≡ map feeder_seen driven.feeders.items) }
-    ensures drainers { IfOk result (λ b. map drainer_seen b.drainers.items ≡ map drainer_seen driven.drainers.items) }
-    ensures crew { IfOk result (λ b. HaveRun (λ view ticket. G.left (G.entered view ticket) ticket) driven.workers.items driven.gates.items b.crew.items) }
+    pace: Pace,
+) -> Result<Driven<G>, DriveError>
+    requires { CanDrive shared.now driven }
+    ensures drove { IfOk result (Drove (λ view ticket. G.left (G.entered view ticket) ticket) driven) }
     ensures fault { IfErr result (IsDriveFault driven.front) }
 {
-    let Driven {
-        mut front,
-        feeders,
-        drainers,
-        workers,
-        gates,
-    } = driven;
-    let Ok(feeding) = start_feeders(scope, rt, alloc, feeders, flags) else {
-        flags.end();
-        return Err(DriveError::NoMemory);
-    };
-    let Ok(draining) = start_drainers(scope, rt, alloc, drainers, flags) else {
-        flags.end();
-        return Err(DriveError::NoMemory);
-    };
-    let Ok(working) = start_workers(scope, rt, alloc, lanes, workers, gates, flags) else {
-        flags.end();
-        return Err(DriveError::NoMemory);
-    };
-    let served = serve(rt, &mut front, lanes, patience, flags);
-    flags.end();
-    let feeders = join_all(rt, feeding);
-    let drainers = join_all(rt, draining);
-    let crew = join_all(rt, working);
-    served?;
-    Ok(Back {
-        front,
-        feeders: feeders?,
-        drainers: drainers?,
-        crew: crew?,
-    })
-}
-
-// Drives all in threads of a scope, which borrow the lanes and the flags.
-fn in_threads<G: Gate + Send + Drop, R: Threads + Wait + Sync>(
-    rt: &R,
-    alloc: Global,
-    lanes: &Lanes,
-    driven: Driven<G>,
-    patience: u32,
-    flags: &Flags,
-) -> Result<Back<G>, DriveError>
-    requires admin_sq { 0 < length driven.front.gets }
-    requires admin_cq { 0 < length driven.front.puts }
-    requires seat { driven.front.hands.seat.lane ≡ lanes.now }
-    requires workers { All (λ (w : WorkerView). w.lane ≡ lanes.now) driven.workers.items }
-    requires number { vec_len driven.workers ≡ vec_len driven.gates }
-    ensures front { IfOk result (λ b. GoesOn driven.front b.front) }
-    ensures feeders { IfOk result (λ b. map feeder_seen b.feeders.items ≡ map feeder_seen driven.feeders.items) }
-    ensures drainers { IfOk result (λ b. map drainer_seen b.drainers.items ≡ map drainer_seen driven.drainers.items) }
-    ensures crew { IfOk result (λ b. HaveRun (λ view ticket. G.left (G.entered view ticket) ticket) driven.workers.items driven.gates.items b.crew.items) }
-    ensures fault { IfErr result (IsDriveFault driven.front) }
-{
-    thread::scope(
-        thread::scope_env(),
-        rt,
-        move |scope| -> Result<Back<G>, DriveError>
-            requires { (0 < length driven.front.gets) × (0 < length driven.front.puts) × (driven.front.hands.seat.lane ≡ lanes.now) × All (λ (w : WorkerView). w.lane ≡ lanes.now) driven.workers.items × (vec_len driven.workers ≡ vec_len driven.gates) }
-            ensures front { IfOk result (λ b. GoesOn driven.front b.front) }
-            ensures feeders { IfOk result (λ b. map feeder_seen b.feeders.items ≡ map feeder_seen driven.feeders.items) }
-            ensures drainers { IfOk result (λ b. map drainer_seen b.drainers.items ≡ map drainer_seen driven.drainers.items) }
-            ensures crew { IfOk result (λ b. HaveRun (λ view ticket. G.left (G.entered view ticket) ticket) driven.workers.items driven.gates.items b.crew.items) }
-            ensures fault { IfErr result (IsDriveFault driven.front) }
-        { within(scope, rt, alloc, lanes, driven, patience, flags) },
-    )
-}
-
-// Submits all scripts, and joins the threads of the feeders.
-fn feed_all<R: Threads + Wait + Sync>(
-    rt: &R,
-    alloc: Global,
-    feeders: Vec<Feeder<Sqe>>,
-    flags: &Flags,
-) -> Result<Vec<Feeder<Sqe>>, AllocError>
-    ensures { IfOk result (λ fs. map feeder_seen fs.items ≡ map feeder_seen feeders.items) }
-{
-    thread::scope(
-        thread::scope_env(),
-        rt,
-        move |scope| -> Result<Vec<Feeder<Sqe>>, AllocError>
-            ensures { IfOk result (λ fs. map feeder_seen fs.items ≡ map feeder_seen feeders.items) }
-        {
-            let Ok(feeding) = start_feeders(scope, rt, alloc, feeders, flags) else {
-                flags.end();
-                return Err(AllocError);
-            };
-            join_all(rt, feeding)
-        },
-    )
-}
-
-// Drives all in threads. Feeders that are to submit before the first turn do so first, in threads of their own.
-fn drive_fed<G: Gate + Send + Drop, R: Threads + Wait + Sync>(
-    rt: &R,
-    alloc: Global,
-    lanes: &Lanes,
-    driven: Driven<G>,
-    feeding: Feeding,
-    patience: u32,
-    flags: &Flags,
-) -> Result<Back<G>, DriveError>
-    requires admin_sq { 0 < length driven.front.gets }
-    requires admin_cq { 0 < length driven.front.puts }
-    requires seat { driven.front.hands.seat.lane ≡ lanes.now }
-    requires workers { All (λ (w : WorkerView). w.lane ≡ lanes.now) driven.workers.items }
-    requires number { vec_len driven.workers ≡ vec_len driven.gates }
-    ensures front { IfOk result (λ b. GoesOn driven.front b.front) }
-    ensures feeders { IfOk result (λ b. map feeder_seen b.feeders.items ≡ map feeder_seen driven.feeders.items) }
-    ensures drainers { IfOk result (λ b. map drainer_seen b.drainers.items ≡ map drainer_seen driven.drainers.items) }
-    ensures crew { IfOk result (λ b. HaveRun (λ view ticket. G.left (G.entered view ticket) ticket) driven.workers.items driven.gates.items b.crew.items) }
-    ensures fault { IfErr result (IsDriveFault driven.front) }
-{
-    match feeding {
-        Feeding::Meanwhile => in_threads(rt, alloc, lanes, driven, patience, flags),
-        Feeding::Before => {
-            let Driven {
-                front,
-                feeders,
-                drainers,
-                workers,
-                gates,
-            } = driven;
-            let feeders = feed_all(rt, alloc, feeders, flags)?;
-            let rest = Driven {
-                front,
-                feeders: Vec::new(alloc),
-                drainers,
-                workers,
-                gates,
-            };
-            let Back {
-                front,
-                feeders: _,
-                drainers,
-                crew,
-            } = in_threads(rt, alloc, lanes, rest, patience, flags)?;
-            Ok(Back {
-                front,
-                feeders,
-                drainers,
-                crew,
-            })
+    let Driven { mut front, hosts } = driven;
+    let running = start(scope, rt, alloc, shared, hosts);
+    await_feeders(rt, pace.feeding, &shared.flags);
+    let served = serve(rt, &mut front, shared, pace.patience);
+    shared.flags.end();
+    match whole(served, finish(rt, running)) {
+        Ok(hosts) => Ok(Driven { front, hosts }),
+        Err(error) => {
+            drop(front);
+            Err(error)
         }
     }
 }
 
-// The workers and the gates of a crew.
-fn apart<G: Gate + Drop>(
-    alloc: Global,
-    crew: Vec<(Worker, G)>,
-) -> Result<(Vec<Worker>, Vec<G>), AllocError>
-    ensures workers { IfOk result (λ r. r.0.items ≡ map (λ p. p.0) crew.items) }
-    ensures gates { IfOk result (λ r. r.1.items ≡ map (λ p. p.1) crew.items) }
+// What came back, unless the front failed.
+fn whole<T: Drop>(
+    served: Result<(), DriveError>,
+    back: Result<T, AllocError>,
+) -> Result<T, DriveError>
+    ensures ok { IfOk result (λ t. back ≡ Ok t) }
+    ensures fault { IfErr result (λ e. (served ≡ Err e) ⊎ (e ≡ drive_is.NoMemory)) }
 {
-    let mut workers = Vec::with_capacity(alloc, crew.len())?;
-    let mut gates = Vec::with_capacity(alloc, crew.len())?;
-    for (worker, gate) in crew {
-        workers.push_reserved(worker);
-        gates.push_reserved(gate);
-    }
-    Ok((workers, gates))
+    served?;
+    Ok(back?)
+}
+
+// Drives all in threads of a scope, which borrow what they share.
+fn in_threads<G: Gate + Send + Drop, R: Threads + Wait + Sync>(
+    rt: &R,
+    alloc: Global,
+    shared: &Shared,
+    driven: Driven<G>,
+    pace: Pace,
+) -> Result<Driven<G>, DriveError>
+    requires { CanDrive shared.now driven }
+    ensures drove { IfOk result (Drove (λ view ticket. G.left (G.entered view ticket) ticket) driven) }
+    ensures fault { IfErr result (IsDriveFault driven.front) }
+{
+    thread::scope(
+        thread::scope_env(),
+        rt,
+        move |scope| -> Result<Driven<G>, DriveError>
+            requires { CanDrive shared.now driven }
+            ensures drove { IfOk result (Drove (λ view ticket. G.left (G.entered view ticket) ticket) driven) }
+            ensures fault { IfErr result (IsDriveFault driven.front) }
+        { within(scope, rt, alloc, shared, driven, pace) },
+    )
+}
+
+// The flags of a drive, and its crew.
+fn prepared<G: Gate + Drop>(
+    alloc: Global,
+    feeders: usize,
+    workers: Vec<Worker>,
+    gates: Vec<G>,
+) -> Result<(Flags, Vec<Crewman<G>>), AllocError>
+    requires { vec_len workers ≡ vec_len gates }
+    ensures workers { IfOk result (λ r. map (λ c. c.worker) r.1.items ≡ workers.items) }
+    ensures gates { IfOk result (λ r. map (λ c. c.gate) r.1.items ≡ gates.items) }
+{
+    let flags = Flags::new(alloc, feeders)?;
+    let crew = together(alloc, workers, gates)?;
+    Ok((flags, crew))
+}
+
+// What is driven, of parts and gates.
+fn taken_apart<G: Gate + Drop>(
+    alloc: Global,
+    parts: Parts,
+    gates: Vec<G>,
+) -> Result<(Shared, Driven<G>), AllocError>
+    requires { vec_len parts.workers ≡ vec_len gates }
+    ensures { IfOk result (λ r. ArePartsOf r.0 r.1 parts gates.items) }
+{
+    let Parts {
+        front,
+        feeders,
+        drainers,
+        lanes,
+        workers,
+    } = parts;
+    let Ok((flags, crew)) = prepared(alloc, feeders.len(), workers, gates) else {
+        drop(front);
+        return Err(AllocError);
+    };
+    let hosts = Hosts {
+        feeders,
+        drainers,
+        crew,
+    };
+    Ok((Shared { lanes, flags }, Driven { front, hosts }))
+}
+
+// The parts and the gates of what was driven.
+fn given_back<G: Gate + Drop>(
+    alloc: Global,
+    shared: Shared,
+    driven: Driven<G>,
+) -> Result<(Parts, Vec<G>), AllocError>
+    ensures { IfOk result (λ r. ArePartsOf shared driven r.0 r.1.items) }
+{
+    let Driven { front, hosts } = driven;
+    let Hosts {
+        feeders,
+        drainers,
+        crew,
+    } = hosts;
+    let Ok((workers, gates)) = apart(alloc, crew) else {
+        drop(front);
+        return Err(AllocError);
+    };
+    let parts = Parts {
+        front,
+        feeders,
+        drainers,
+        lanes: shared.lanes,
+        workers,
+    };
+    Ok((parts, gates))
 }
 
 /// Drives a front with its hosts and its workers: each feeder, each drainer and each worker on a thread of its own, each
-/// worker with the gate at its place, and the front's turns on the calling thread. With `Feeding::Before` the feeders are
-/// joined before the first turn, so that it waits for ever where a script has more commands than its ring holds. It ends
+/// worker with the gate at its place, and the front's turns on the calling thread. With `Feeding::Before` all feeders have
+/// ended before the first turn, so that it waits for ever where a script has more commands than its ring holds. It ends
 /// where the front is clear after a turn that could do nothing and was begun when all feeders had ended, or after
 /// `patience` turns in a row that could do nothing, or where a turn failed or memory was refused. All threads are joined
 /// before it answers. It may wait for another thread.
@@ -291,36 +230,7 @@ pub fn drive<G: Gate + Send + Drop, R: Threads + Wait + Sync>(
     ensures workers { IfOk result (λ r. AllRan (λ view ticket. G.left (G.entered view ticket) ticket) parts.workers.items gates.items r.0.workers.items r.1.items) }
     ensures fault { IfErr result (IsDriveFault parts.front) }
 {
-    let Parts {
-        front,
-        feeders,
-        drainers,
-        lanes,
-        workers,
-    } = parts;
-    let Some(flags) = Flags::new(alloc, feeders.len()) else {
-        return Err(DriveError::NoMemory);
-    };
-    let driven = Driven {
-        front,
-        feeders,
-        drainers,
-        workers,
-        gates,
-    };
-    let Back {
-        front,
-        feeders,
-        drainers,
-        crew,
-    } = drive_fed(rt, alloc, &lanes, driven, feeding, patience, &flags)?;
-    let (workers, gates) = apart(alloc, crew)?;
-    let parts = Parts {
-        front,
-        feeders,
-        drainers,
-        lanes,
-        workers,
-    };
-    Ok((parts, gates))
+    let (shared, driven) = taken_apart(alloc, parts, gates)?;
+    let driven = in_threads(rt, alloc, &shared, driven, Pace { feeding, patience })?;
+    Ok(given_back(alloc, shared, driven)?)
 }

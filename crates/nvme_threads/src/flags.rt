@@ -1,6 +1,6 @@
 // What the threads tell one another. No contract rests on it.
-use std::alloc::Global;
-use std::sync::atomic::{AtomicU64, Ordering};
+use std::alloc::{AllocError, Global};
+use std::sync::atomic::{AtomicBool, AtomicU64, Ordering};
 
 /// What the threads tell one another.
 #[derive(Drop)]
@@ -10,38 +10,36 @@ pub struct Flags {
     // How many of them have ended.
     fed: AtomicU64,
     // The feeder of the admin queue has ended.
-    admin_fed: AtomicU64,
+    admin_fed: AtomicBool,
     // Each feeder is to end, though its script isn't sent.
-    unfed: Vec<AtomicU64>,
-    // Every thread is to end.
+    unfed: Vec<AtomicBool>,
+    // Every thread is to end. Threads sleep on this word.
     over: AtomicU64,
     // A thread was refused memory.
-    starved: AtomicU64,
+    starved: AtomicBool,
 }
 
 impl Flags {
-    /// No feeder of so many has ended, and nothing was told. None where memory was refused.
-    pub fn new(alloc: Global, feeders: usize) -> Option<Flags> {
+    /// No feeder of so many has ended, and nothing was told.
+    pub fn new(alloc: Global, feeders: usize) -> Result<Flags, AllocError> {
         let mut unfed = Vec::new(alloc);
         for _ in 0..feeders {
-            if unfed.push(AtomicU64::new(0)).is_err() {
-                return None;
-            }
+            unfed.push(AtomicBool::new(false))?;
         }
-        Some(Flags {
+        Ok(Flags {
             feeders: feeders as u64,
             fed: AtomicU64::new(0),
-            admin_fed: AtomicU64::new(0),
+            admin_fed: AtomicBool::new(false),
             unfed,
             over: AtomicU64::new(0),
-            starved: AtomicU64::new(0),
+            starved: AtomicBool::new(false),
         })
     }
 
     /// The feeder of a region has ended.
     pub fn tell_fed(&self, region: usize) {
         if region == 0 {
-            self.admin_fed.store(1, Ordering::SeqCst);
+            self.admin_fed.store(true, Ordering::SeqCst);
         }
         self.fed.fetch_add(1, Ordering::SeqCst);
     }
@@ -53,13 +51,13 @@ impl Flags {
 
     /// The feeder of the admin queue has ended.
     pub fn is_admin_fed(&self) -> bool {
-        self.admin_fed.load(Ordering::SeqCst) > 0
+        self.admin_fed.load(Ordering::SeqCst)
     }
 
     /// The feeder of a region is to end.
     pub fn stop_feeding(&self, region: usize) {
         if let Some(flag) = self.unfed.get(region) {
-            flag.store(1, Ordering::SeqCst);
+            flag.store(true, Ordering::SeqCst);
         }
     }
 
@@ -68,7 +66,7 @@ impl Flags {
         let is_told = self
             .unfed
             .get(region)
-            .is_some_and(|flag| flag.load(Ordering::SeqCst) > 0);
+            .is_some_and(|flag| flag.load(Ordering::SeqCst));
         is_told || self.is_over()
     }
 
@@ -88,13 +86,13 @@ impl Flags {
         &self.over
     }
 
-    /// A thread was refused memory.
+    /// A thread was refused memory, or couldn't be started.
     pub fn tell_starved(&self) {
-        self.starved.store(1, Ordering::SeqCst);
+        self.starved.store(true, Ordering::SeqCst);
     }
 
-    /// A thread was refused memory.
+    /// A thread was refused memory, or couldn't be started.
     pub fn is_starved(&self) -> bool {
-        self.starved.load(Ordering::SeqCst) > 0
+        self.starved.load(Ordering::SeqCst)
     }
 }

@@ -5,9 +5,12 @@ mod draining;
 mod driving;
 mod feeding;
 mod flags;
+mod hosting;
 mod joining;
 mod pausing;
 mod serving;
+mod starting;
+mod tasks;
 mod working;
 
 pub use driving::{DriveError, Feeding, drive};

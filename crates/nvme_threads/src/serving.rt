@@ -3,13 +3,91 @@ ghost use Rattle.std.specs.Prelude.{◌≡◌, ◌<◌, length, IfErr};
 ghost use Rattle.nvme_front.specs.View.{GoesOn};
 ghost use Rattle.nvme_threads.specs.Faults.{IsDriveFault};
 
-use crate::driving::DriveError;
+use crate::driving::{DriveError, Feeding};
 use crate::flags::Flags;
 use crate::pausing::Pause;
+use crate::tasks::Shared;
 use nvme_admin::MAX_REGIONS;
 use nvme_front::{Front, FrontError, Step};
-use nvme_pool::Lanes;
 use std::sync::Wait;
+
+/// Waits until all feeders have ended, where they are to submit before the first turn, or a thread was refused memory.
+pub fn await_feeders<R: Wait>(rt: &R, feeding: Feeding, flags: &Flags) {
+    if feeding == Feeding::Meanwhile {
+        return;
+    }
+    let mut pause = Pause::new();
+    for _ in rt.forever() {
+        if flags.are_all_fed() || flags.is_starved() {
+            break;
+        }
+        pause.rest(rt, flags);
+    }
+}
+
+// Which feeders had ended before a turn.
+#[derive(Clone, Copy)]
+struct Fed {
+    is_admin: bool,
+    are_all: bool,
+}
+
+// How many turns in a row could do nothing, of how many at most.
+#[derive(Drop)]
+struct Quiet {
+    turns: u32,
+    patience: u32,
+    pause: Pause,
+}
+
+impl Quiet {
+    // No turn was made yet.
+    fn new(patience: u32) -> Quiet {
+        Quiet {
+            turns: 0,
+            patience,
+            pause: Pause::new(),
+        }
+    }
+
+    // After a turn that could do nothing: whether it was the last. If not, it waits a while.
+    fn is_last<R: Wait>(
+        &mut self,
+        rt: &R,
+        front: &Front,
+        is_clear: bool,
+        fed: Fed,
+        flags: &Flags,
+    ) -> bool {
+        self.turns = self.turns.saturating_add(1);
+        if (is_clear && fed.are_all) || self.turns >= self.patience {
+            return true;
+        }
+        if is_clear && fed.is_admin {
+            stop_unserved(front, flags);
+        }
+        self.pause.rest(rt, flags);
+        false
+    }
+
+    // After a turn that did this: whether it was the last.
+    fn ends<R: Wait>(
+        &mut self,
+        rt: &R,
+        front: &Front,
+        step: Step,
+        fed: Fed,
+        flags: &Flags,
+    ) -> bool {
+        if step == Step::Picked || step == Step::Moved {
+            self.turns = 0;
+            self.pause.reset();
+            return false;
+        }
+        let is_clear = step == Step::Idle && front.is_clear();
+        self.is_last(rt, front, is_clear, fed, flags)
+    }
+}
 
 // Tells the feeders of regions that are not served to end. No admin command is left to come, so that none will be.
 fn stop_unserved(front: &Front, flags: &Flags) {
@@ -25,39 +103,28 @@ fn stop_unserved(front: &Front, flags: &Flags) {
 pub fn serve<R: Wait>(
     rt: &R,
     front: &mut Front,
-    lanes: &Lanes,
+    shared: &Shared,
     patience: u32,
-    flags: &Flags,
 ) -> Result<(), DriveError>
     requires admin_sq { 0 < length front.old.gets }
     requires admin_cq { 0 < length front.old.puts }
-    requires seat { front.old.hands.seat.lane ≡ lanes.now }
+    requires seat { front.old.hands.seat.lane ≡ shared.now.lanes }
     ensures goes_on { GoesOn front.old front.new }
     ensures fault { IfErr result (IsDriveFault front.old) }
 {
-    let mut pause = Pause::new();
-    let mut quiet = 0u32;
+    let mut quiet = Quiet::new(patience);
     for _ in rt.forever() {
-        let is_admin_fed = flags.is_admin_fed();
-        let are_all_fed = flags.are_all_fed();
-        let step = front.turn(rt, lanes)?;
-        if flags.is_starved() {
+        let fed = Fed {
+            is_admin: shared.flags.is_admin_fed(),
+            are_all: shared.flags.are_all_fed(),
+        };
+        let step = front.turn(rt, &shared.lanes)?;
+        if shared.flags.is_starved() {
             return Err(DriveError::NoMemory);
         }
-        if step == Step::Picked || step == Step::Moved {
-            quiet = 0;
-            pause.reset();
-            continue;
-        }
-        let is_clear = step == Step::Idle && front.is_clear();
-        quiet = quiet.saturating_add(1);
-        if (is_clear && are_all_fed) || quiet >= patience {
+        if quiet.ends(rt, front, step, fed, &shared.flags) {
             return Ok(());
         }
-        if is_clear && is_admin_fed {
-            stop_unserved(front, flags);
-        }
-        pause.rest(rt, flags);
     }
     unreachable!()
 }

@@ -1,38 +1,43 @@
-// A thread for each worker.
-ghost use Rattle.std.specs.Prelude.{◌≡◌, map, vec_len, IfOk};
-ghost use Rattle.std.specs.List.{All};
-ghost use Rattle.nvme_pool.specs.Worker.{WorkerView};
+// What the thread of a worker does.
+ghost use Rattle.std.specs.Prelude.{◌≡◌, IfOk, map, vec_len};
 ghost use Rattle.nvme_threads.specs.Runs.{Ran};
 
 use crate::flags::Flags;
 use crate::pausing::Pause;
+use crate::tasks::{Shared, Task};
 use nvme_pool::{Gate, Lanes, Worked, Worker};
 use std::alloc::{AllocError, Global};
-use std::snapshot::Snapshot;
 use std::sync::Wait;
-use std::thread::{Promise, PromisedHandle, Scope};
 
-/// A worker and its gate come back with just the executions of the jobs that the worker took.
+/// A worker with its gate.
 #[derive(Drop)]
-pub struct WorkerBack<G: Gate>(pub Snapshot<Worker>, pub Snapshot<G>);
-
-impl<G: Gate> Promise<(Worker, G)> for WorkerBack<G> {
-    ghost kept_by = { λ p r. Ran (λ view ticket. G.left (G.entered view ticket) ticket) p.0.value p.1.value r.0 r.1 };
+pub struct Crewman<G: Gate + Drop> {
+    pub worker: Worker,
+    pub gate: G,
 }
 
-/// The thread of a worker.
-pub type WorkerHandle<G> = PromisedHandle<(Worker, G), WorkerBack<G>>;
+/// A worker and its gate come back with just the executions of the jobs that the worker took.
+impl<G: Gate + Drop> Task for Crewman<G> {
+    ghost can_run = { λ c shared. c.worker.lane ≡ shared.lanes };
+
+    ghost ran = { λ old new. Ran (λ view ticket. G.left (G.entered view ticket) ticket) old.worker old.gate new.worker new.gate };
+
+    fn run<R: Wait>(self, rt: &R, shared: &Shared, _place: usize) -> Crewman<G> {
+        let Crewman { worker, gate } = self;
+        work(rt, &shared.lanes, worker, gate, &shared.flags)
+    }
+}
 
 // Executes jobs until all is over and there is nothing to do.
-fn work<G: Gate, R: Wait>(
+fn work<G: Gate + Drop, R: Wait>(
     rt: &R,
     lanes: &Lanes,
     worker: Worker,
     gate: G,
     flags: &Flags,
-) -> (Worker, G)
+) -> Crewman<G>
     requires { worker.lane ≡ lanes.now }
-    ensures { Ran (λ view ticket. G.left (G.entered view ticket) ticket) worker gate result.0 result.1 }
+    ensures { Ran (λ view ticket. G.left (G.entered view ticket) ticket) worker gate result.worker result.gate }
 {
     let mut worker = worker;
     let mut gate = gate;
@@ -48,36 +53,43 @@ fn work<G: Gate, R: Wait>(
             }
         }
     }
-    (worker, gate)
+    Crewman { worker, gate }
 }
 
-/// Starts a thread for each worker, with its gate. Where one can't be started, or memory is refused, those that were
-/// started run on, until all is over.
-pub fn start_workers<'s, E: 's, G: Gate + Send + Drop + 's, R: Wait + Sync + 's>(
-    scope: &Scope<'s, E>,
-    rt: &'s R,
+/// Each worker with the gate at its place.
+pub fn together<G: Gate + Drop>(
     alloc: Global,
-    lanes: &'s Lanes,
     workers: Vec<Worker>,
     gates: Vec<G>,
-    flags: &'s Flags,
-) -> Result<Vec<WorkerHandle<G>>, AllocError>
-    requires lanes { All (λ (w : WorkerView). w.lane ≡ lanes.now) workers.items }
-    requires number { vec_len workers ≡ vec_len gates }
-    ensures workers { IfOk result (λ hs. map (λ h. h.promise.0.value) hs.items ≡ workers.items) }
-    ensures gates { IfOk result (λ hs. map (λ h. h.promise.1.value) hs.items ≡ gates.items) }
+) -> Result<Vec<Crewman<G>>, AllocError>
+    requires { vec_len workers ≡ vec_len gates }
+    ensures workers { IfOk result (λ crew. map (λ c. c.worker) crew.items ≡ workers.items) }
+    ensures gates { IfOk result (λ crew. map (λ c. c.gate) crew.items ≡ gates.items) }
 {
-    let mut handles = Vec::with_capacity(alloc, workers.len())?;
-    let mut waiting = gates.into_iter();
+    let mut crew = Vec::with_capacity(alloc, workers.len())?;
+    let mut gates = gates.into_iter();
     for worker in workers {
-        let Some(gate) = waiting.next() else {
+        let Some(gate) = gates.next() else {
             unreachable!()
         };
-        let back = WorkerBack(Snapshot::of(&worker), Snapshot::of(&gate));
-        let Ok(handle) = scope.spawn_with(back, move || work(rt, lanes, worker, gate, flags)) else {
-            return Err(AllocError);
-        };
-        handles.push_reserved(handle);
+        crew.push_reserved(Crewman { worker, gate });
     }
-    Ok(handles)
+    Ok(crew)
+}
+
+/// The workers and the gates of a crew.
+pub fn apart<G: Gate + Drop>(
+    alloc: Global,
+    crew: Vec<Crewman<G>>,
+) -> Result<(Vec<Worker>, Vec<G>), AllocError>
+    ensures workers { IfOk result (λ r. r.0.items ≡ map (λ c. c.worker) crew.items) }
+    ensures gates { IfOk result (λ r. r.1.items ≡ map (λ c. c.gate) crew.items) }
+{
+    let mut workers = Vec::with_capacity(alloc, crew.len())?;
+    let mut gates = Vec::with_capacity(alloc, crew.len())?;
+    for Crewman { worker, gate } in crew {
+        workers.push_reserved(worker);
+        gates.push_reserved(gate);
+    }
+    Ok((workers, gates))
 }
