@@ -9,8 +9,8 @@ ghost use Rattle.nvme_threads.specs.Hosts.{feeder_seen, drainer_seen};
 ghost use Rattle.nvme_threads.specs.Runs.{AllRan};
 
 use crate::flags::Flags;
-use crate::hosting::{Hosts, finish, start};
-use crate::serving::{await_feeders, serve};
+use crate::hosting::{Hosts, finish, start, submit};
+use crate::serving::serve;
 use crate::tasks::Shared;
 use crate::working::{Crewman, apart, together};
 use nvme_front::{Front, FrontError, Parts};
@@ -64,13 +64,6 @@ pub struct Driven<G: Gate + Drop> {
     pub hosts: Hosts<G>,
 }
 
-// When the hosts submit, and how long the front waits.
-#[derive(Clone, Copy)]
-struct Pace {
-    feeding: Feeding,
-    patience: u32,
-}
-
 // Starts all threads of a scope, makes the front's turns, and joins the threads.
 fn within<'s, E: 's, G: Gate + Send + Drop + 's, R: Threads + Wait + Sync + 's>(
     scope: &Scope<'s, E>,
@@ -78,7 +71,7 @@ fn within<'s, E: 's, G: Gate + Send + Drop + 's, R: Threads + Wait + Sync + 's>(
     alloc: Global,
     shared: &'s Shared,
     driven: Driven<G>,
-    pace: Pace,
+    patience: u32,
 ) -> Result<Driven<G>, DriveError>
     requires { CanDrive shared.now driven }
     ensures drove { IfOk result (Drove (λ view ticket. G.left (G.entered view ticket) ticket) driven) }
@@ -86,8 +79,7 @@ fn within<'s, E: 's, G: Gate + Send + Drop + 's, R: Threads + Wait + Sync + 's>(
 {
     let Driven { mut front, hosts } = driven;
     let running = start(scope, rt, alloc, shared, hosts);
-    await_feeders(rt, pace.feeding, &shared.flags);
-    let served = serve(rt, &mut front, shared, pace.patience);
+    let served = serve(rt, &mut front, shared, patience);
     shared.flags.end();
     match whole(served, finish(rt, running)) {
         Ok(hosts) => Ok(Driven { front, hosts }),
@@ -116,7 +108,7 @@ fn in_threads<G: Gate + Send + Drop, R: Threads + Wait + Sync>(
     alloc: Global,
     shared: &Shared,
     driven: Driven<G>,
-    pace: Pace,
+    patience: u32,
 ) -> Result<Driven<G>, DriveError>
     requires { CanDrive shared.now driven }
     ensures drove { IfOk result (Drove (λ view ticket. G.left (G.entered view ticket) ticket) driven) }
@@ -129,8 +121,68 @@ fn in_threads<G: Gate + Send + Drop, R: Threads + Wait + Sync>(
             requires { CanDrive shared.now driven }
             ensures drove { IfOk result (Drove (λ view ticket. G.left (G.entered view ticket) ticket) driven) }
             ensures fault { IfErr result (IsDriveFault driven.front) }
-        { within(scope, rt, alloc, shared, driven, pace) },
+        { within(scope, rt, alloc, shared, driven, patience) },
     )
+}
+
+// Submits all scripts, and then drives the rest in threads.
+fn fed_first<G: Gate + Send + Drop, R: Threads + Wait + Sync>(
+    rt: &R,
+    alloc: Global,
+    shared: &Shared,
+    driven: Driven<G>,
+    patience: u32,
+) -> Result<Driven<G>, DriveError>
+    requires { CanDrive shared.now driven }
+    ensures drove { IfOk result (Drove (λ view ticket. G.left (G.entered view ticket) ticket) driven) }
+    ensures fault { IfErr result (IsDriveFault driven.front) }
+{
+    let Driven { front, hosts } = driven;
+    let Hosts {
+        feeders,
+        drainers,
+        crew,
+    } = hosts;
+    let Ok(feeders) = submit(rt, alloc, shared, feeders) else {
+        drop(front);
+        return Err(DriveError::NoMemory);
+    };
+    let hosts = Hosts {
+        feeders: Vec::new(alloc),
+        drainers,
+        crew,
+    };
+    let Driven { front, hosts } = in_threads(rt, alloc, shared, Driven { front, hosts }, patience)?;
+    let Hosts {
+        feeders: _,
+        drainers,
+        crew,
+    } = hosts;
+    let hosts = Hosts {
+        feeders,
+        drainers,
+        crew,
+    };
+    Ok(Driven { front, hosts })
+}
+
+// Drives all, with the scripts submitted first or meanwhile.
+fn in_order<G: Gate + Send + Drop, R: Threads + Wait + Sync>(
+    rt: &R,
+    alloc: Global,
+    shared: &Shared,
+    driven: Driven<G>,
+    feeding: Feeding,
+    patience: u32,
+) -> Result<Driven<G>, DriveError>
+    requires { CanDrive shared.now driven }
+    ensures drove { IfOk result (Drove (λ view ticket. G.left (G.entered view ticket) ticket) driven) }
+    ensures fault { IfErr result (IsDriveFault driven.front) }
+{
+    match feeding {
+        Feeding::Before => fed_first(rt, alloc, shared, driven, patience),
+        Feeding::Meanwhile => in_threads(rt, alloc, shared, driven, patience),
+    }
 }
 
 // The flags of a drive, and its crew.
@@ -206,8 +258,8 @@ fn given_back<G: Gate + Drop>(
 }
 
 /// Drives a front with its hosts and its workers: each feeder, each drainer and each worker on a thread of its own, each
-/// worker with the gate at its place, and the front's turns on the calling thread. With `Feeding::Before` all feeders have
-/// ended before the first turn, so that it waits for ever where a script has more commands than its ring holds. It ends
+/// worker with the gate at its place, and the front's turns on the calling thread. With `Feeding::Before` the feeders are
+/// joined before the first turn, so that it waits for ever where a script has more commands than its ring holds. It ends
 /// where the front is clear after a turn that could do nothing and was begun when all feeders had ended, or after
 /// `patience` turns in a row that could do nothing, or where a turn failed or memory was refused. All threads are joined
 /// before it answers. It may wait for another thread.
@@ -231,6 +283,6 @@ pub fn drive<G: Gate + Send + Drop, R: Threads + Wait + Sync>(
     ensures fault { IfErr result (IsDriveFault parts.front) }
 {
     let (shared, driven) = taken_apart(alloc, parts, gates)?;
-    let driven = in_threads(rt, alloc, &shared, driven, Pace { feeding, patience })?;
+    let driven = in_order(rt, alloc, &shared, driven, feeding, patience)?;
     Ok(given_back(alloc, shared, driven)?)
 }

@@ -1,7 +1,8 @@
 // The threads of a drive.
-ghost use Rattle.std.specs.Prelude.{◌≡◌, IfOk};
+ghost use Rattle.std.specs.Prelude.{◌≡◌, map, IfOk};
 ghost use Rattle.std.specs.List.{All};
 ghost use Rattle.nvme_threads.specs.Drives.{AreThreadsOf, HaveRun};
+ghost use Rattle.nvme_threads.specs.Hosts.{feeder_seen};
 ghost use Rattle.nvme_threads.specs.declared.hosting.Hosts.{Hosts};
 
 use crate::joining::join_all;
@@ -13,6 +14,7 @@ use nvme_lane::{Drainer, Feeder};
 use nvme_pool::Gate;
 use std::alloc::{AllocError, Global};
 use std::sync::Wait;
+use std::thread;
 use std::thread::{Scope, Threads};
 
 /// What runs beside the front: the hosts, and the workers with a gate each.
@@ -74,4 +76,40 @@ pub fn finish<G: Gate + Drop, R: Threads>(
         drainers: drainers?,
         crew: crew?,
     })
+}
+
+// Submits scripts in threads of a scope, and joins them.
+fn submit_in<'s, E: 's, R: Threads + Wait + Sync + 's>(
+    scope: &Scope<'s, E>,
+    rt: &'s R,
+    alloc: Global,
+    shared: &'s Shared,
+    feeders: Vec<Feeder<Sqe>>,
+) -> Result<Vec<Feeder<Sqe>>, AllocError>
+    ensures { IfOk result (λ back. map feeder_seen back.items ≡ map feeder_seen feeders.items) }
+{
+    let started = start_all(scope, rt, alloc, shared, feeders);
+    if !started.is_whole {
+        shared.flags.end();
+    }
+    let back = join_all(rt, started)?;
+    Ok(back)
+}
+
+/// Submits scripts, each in a thread of its own, and joins the threads.
+pub fn submit<R: Threads + Wait + Sync>(
+    rt: &R,
+    alloc: Global,
+    shared: &Shared,
+    feeders: Vec<Feeder<Sqe>>,
+) -> Result<Vec<Feeder<Sqe>>, AllocError>
+    ensures { IfOk result (λ back. map feeder_seen back.items ≡ map feeder_seen feeders.items) }
+{
+    thread::scope(
+        thread::scope_env(),
+        rt,
+        move |scope| -> Result<Vec<Feeder<Sqe>>, AllocError>
+            ensures { IfOk result (λ back. map feeder_seen back.items ≡ map feeder_seen feeders.items) }
+        { submit_in(scope, rt, alloc, shared, feeders) },
+    )
 }

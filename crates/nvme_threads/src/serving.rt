@@ -3,27 +3,13 @@ ghost use Rattle.std.specs.Prelude.{◌≡◌, ◌<◌, length, IfErr};
 ghost use Rattle.nvme_front.specs.View.{GoesOn};
 ghost use Rattle.nvme_threads.specs.Faults.{IsDriveFault};
 
-use crate::driving::{DriveError, Feeding};
+use crate::driving::DriveError;
 use crate::flags::Flags;
 use crate::pausing::Pause;
 use crate::tasks::Shared;
 use nvme_admin::MAX_REGIONS;
 use nvme_front::{Front, FrontError, Step};
 use std::sync::Wait;
-
-/// Waits until all feeders have ended, where they are to submit before the first turn, or a thread was refused memory.
-pub fn await_feeders<R: Wait>(rt: &R, feeding: Feeding, flags: &Flags) {
-    if feeding == Feeding::Meanwhile {
-        return;
-    }
-    let mut pause = Pause::new();
-    for _ in rt.forever() {
-        if flags.are_all_fed() || flags.is_starved() {
-            break;
-        }
-        pause.rest(rt, flags);
-    }
-}
 
 // Which feeders had ended before a turn.
 #[derive(Clone, Copy)]

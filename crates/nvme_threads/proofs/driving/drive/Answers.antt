@@ -5,8 +5,8 @@ use Rattle.nvme_threads.proofs.Joins.{all-unmapped}
 use Rattle.nvme_threads.proofs.Running.{all_ran}
 use Rattle.nvme_threads.proofs.driving.drive.Goals as goal
 
-pub in_threads-requires-after_bounds : goal.in_threads-requires-after_bounds
-in_threads-requires-after_bounds g c κs within =
+pub in_order-requires-after_bounds : goal.in_order-requires-after_bounds
+in_order-requires-after_bounds g c κs within =
     let put = c.in_ok-shared.ensures in
     let pool = c.requires.pool in
     let shared = c.in_ok-shared.shared in
