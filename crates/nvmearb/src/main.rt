@@ -16,11 +16,7 @@ fn words_of(rt: &HostRuntime) -> io::Result<Vec<String>> {
 }
 
 // Writes what is left in the buffer of a program that ends well, and gives the status: 3 where that fails.
-fn flushed<W: Write + Drop, E: Write>(
-    status: u8,
-    output: &mut BufWriter<W>,
-    errors: &mut E,
-) -> u8
+fn flushed<W: Write + Drop, E: Write>(status: u8, output: &mut BufWriter<W>, errors: &mut E) -> u8
     ensures status { (result ≡ status) ⊎ ((status ≡ 0) × (result ≡ 3)) }
     ensures written { result ≡ 0 → writer_buffer output.new ≡ [] }
     ensures bytes { Keeps (writer_contents W.contents output.old) (writer_contents W.contents output.new) }

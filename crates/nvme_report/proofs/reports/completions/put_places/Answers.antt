@@ -1,4 +1,4 @@
-use Rattle.std.proofs.Common.{rules, ◌+◌, ◌≤◌, ℕ, List, Option, length, ap, sym, subst}
+use Rattle.std.proofs.Common.{rules, ◌+◌, ℕ, List, Option, ap, sym, subst}
 use Rattle.std.specs.Io.KnownBytes.{Appends}
 use Rattle.std.specs.List.{flat_map}
 use Rattle.nvme_log.specs.Rules.{upto}
@@ -39,10 +39,10 @@ loop-index-preserved g c =
       | in-Some+in_ok-put_completion w ↦
           let new = g.W.Write.contents w.put_completion.new.writer in
           let line = subst (λ (z : List ℕ). Appends old new z) (sym (one_line (cmd_line r i) log r i w.in-Some.found.cqe w.in-Some.ensures)) w.in_ok-put_completion.ensures in
-            subst (λ (o : Option (List ℕ)). Appends start o (flat_map lines (upto (i + 1)))) (sym (ap (λ v. g.W.Write.contents v) w.writer-is))
-                (upto_written lines i start old new c.loop-index.invariant line)
+          subst (λ (o : Option (List ℕ)). Appends start o (flat_map lines (upto (i + 1)))) (sym (ap (λ v. g.W.Write.contents v) w.writer-is))
+          (upto_written lines i start old new c.loop-index.invariant line)
       | in_default w ↦
           let line = subst (λ (z : List ℕ). Appends old old z) (sym (no_line (cmd_line r i) log r i (search rules))) (appends_nothing old) in
-            subst (λ (o : Option (List ℕ)). Appends start o (flat_map lines (upto (i + 1)))) (sym (ap (λ v. g.W.Write.contents v) w.writer-is))
-                (upto_written lines i start old old c.loop-index.invariant line)
+          subst (λ (o : Option (List ℕ)). Appends start o (flat_map lines (upto (i + 1)))) (sym (ap (λ v. g.W.Write.contents v) w.writer-is))
+          (upto_written lines i start old old c.loop-index.invariant line)
     ]
