@@ -1,10 +1,9 @@
 -- What a turn's answer means, from the answers of its parts.
-use Rattle.std.proofs.Common.{◌≡◌, ◌≢◌, ℕ, ◌+◌, ◌<◌, ◌≤◌, Bool, true, false, if◌then◌else◌, ◌||◌, List, [], length, Option, Some, None, refl, sym, ap, ◌∙◌, subst, arith, ◌⊎◌, inl, inr}
+use Rattle.std.proofs.Common.{◌≡◌, ◌≢◌, ℕ, ◌+◌, ◌<◌, ◌≤◌, Bool, true, false, ◌||◌, List, [], length, Option, Some, None, refl, sym, ap, ◌∙◌, subst, arith, ◌⊎◌, inl, inr}
 use Rattle.std.specs.Prelude.{IfSome, IsSome}
 use Rattle.std.specs.List.{All}
 use Rattle.std.proofs.lemmas.List.{length-append}
 use Rattle.nvme_pool.specs.Seat.{Ends, IsUnknown}
-use Rattle.nvme_arbiter.specs.Limits.{highest_qid}
 use Rattle.nvme_arbiter.specs.Board.{BoardView}
 use Rattle.nvme_arbiter.specs.Queues.{seen_of}
 use Rattle.nvme_arbiter.specs.Standing.{pick_of}
@@ -24,9 +23,10 @@ use Rattle.nvme_log.specs.Limits.{max_outstanding, admin_events}
 use Rattle.nvme_state.specs.Jobs.{JobsView, gained_count}
 use Rattle.nvme_front.specs.State.{sq_in, cq_in}
 use Rattle.nvme_front.specs.Room.{IsKept}
-use Rattle.nvme_front.specs.Goes.{Goes, IsSame, HasAdmin, IsDrained, IsScanned, IsTaken, IsFullSq, next_pick}
+use Rattle.nvme_front.specs.Goes.{Goes, IsSame, HasAdmin, AllDrained, AllScanned, IsTaken, IsFullSq, next_pick}
 use Rattle.nvme_log.specs.Histories.{picks_in}
-use Rattle.nvme_front.specs.View.{view_of, HasMoved, IsStill, GainedStray, StepMeans, ErrorMeans}
+use Rattle.nvme_front.specs.View.{view_of, HasMoved, IsStill, GainedStray, IsIdleFront, IsStalledFront, StepMeans, ErrorMeans}
+use Rattle.nvme_front.specs.Turn.{IsQuiet, HasDone, IsWaiting, NeedsPlaces, Proceeds, told_after}
 use Rattle.nvme_front.proofs.States.{Goes-same, IsSame-trans, admin-goes}
 use Rattle.nvme_front.proofs.Turns.{idle_front, deleting_front, stalled_front, admin_log_full}
 
@@ -65,14 +65,6 @@ still_same a b s = record { log = s.log; hands = ap (λ (j : JobsView). j.hands)
 unknown_same : (a b : FrontState) → IsSame a b → All IsUnknown a.jobs.hands.seat.ends → All IsUnknown b.jobs.hands.seat.ends
 unknown_same a b s h = subst (λ (ends : Ends). All IsUnknown ends) (sym (ap (λ (j : JobsView). j.hands.seat.ends) s.jobs)) h
 
--- each completion region is drained
-abbrev pub AllDrained : FrontState → Type 0
-AllDrained s = (c : ℕ) → c < length s.cqs.items → IsDrained s c
-
--- each queue was scanned
-abbrev pub AllScanned : FrontState → Type 0
-AllScanned s = (q : ℕ) → q ≤ highest_qid → IsScanned s q
-
 -- drained regions stay so
 pub drained_same : (a b : FrontState) → IsSame a b → AllDrained a → AllDrained b
 drained_same a b s h =
@@ -98,134 +90,130 @@ pub pick_same : (a b : FrontState) → IsSame a b → next_pick b ≡ next_pick 
 pick_same a b s = ap (λ (v : BoardView). pick_of v.kept (seen_of v.queues)) s.board
 
 -- ---- the jobs and the completions of a turn
--- nothing changed, no result is known to come, and each completion region is drained
-pub record IsQuiet (a b : FrontState) : Type 0 where
-  pub same : IsSame a b
-  pub none_gained : All IsUnknown a.jobs.hands.seat.ends
-  pub drained : AllDrained a
-
--- what a turn did before it looked for commands
-abbrev pub HasDone : Bool → FrontState → FrontState → Type 0
-HasDone moved a b = (moved ≡ true → HasMoved (view_of a) (view_of b)) × (moved ≡ false → IsQuiet a b)
-
 -- by what was handed, gained and posted
-done_by : (a h g b : FrontState) → Goes a h → Goes h g → Goes g b → h.jobs.hands.seat.ends ≡ a.jobs.hands.seat.ends → (handed gained posted : Bool)
+pub done_by : (a h g b : FrontState) → Goes a h → Goes h g → Goes g b → h.jobs.hands.seat.ends ≡ a.jobs.hands.seat.ends → (handed gained posted : Bool)
     → (handed ≡ true → length a.jobs.hands.seat.handed < length h.jobs.hands.seat.handed) → (handed ≡ false → IsSame a h)
     → (gained ≡ true → gained_count h.jobs.hands < gained_count g.jobs.hands) → (gained ≡ false → IsSame h g × All IsUnknown h.jobs.hands.seat.ends)
     → (posted ≡ true → length g.log.items < length b.log.items) → (posted ≡ false → IsSame g b × AllDrained g)
     → HasDone (handed || gained || posted) a b
 done_by a h g b ah hg gb ends true gained posted more_handed none_handed more_gained none_gained more_posted none_posted =
-    (λ _. moved_later a g b (moved_later a h g (inr (inl (more_handed refl))) hg) gb, λ e. cc e)
+    moved_later a g b (moved_later a h g (inr (inl (more_handed refl))) hg) gb
 done_by a h g b ah hg gb ends false true posted more_handed none_handed more_gained none_gained more_posted none_posted =
-    (λ _. moved_later a g b (moved_since a h g ah (inr (inr (more_gained refl)))) gb, λ e. cc e)
+    moved_later a g b (moved_since a h g ah (inr (inr (more_gained refl)))) gb
 done_by a h g b ah hg gb ends false false true more_handed none_handed more_gained none_gained more_posted none_posted =
-    (λ _. moved_since a h b ah (moved_since h g b hg (inl (more_posted refl))), λ e. cc e)
+    moved_since a h b ah (moved_since h g b hg (inl (more_posted refl)))
 done_by a h g b ah hg gb ends false false false more_handed none_handed more_gained none_gained more_posted none_posted =
-    let ag : IsSame a g = IsSame-trans a h g (none_handed refl) (none_gained refl).0 in (
-      λ e. cc e,
-      λ _. record {
-        same = IsSame-trans a g b ag (none_posted refl).0;
-        none_gained = subst (λ (x : Ends). All IsUnknown x) ends (none_gained refl).1;
-        drained = drained_before a g ag (none_posted refl).1;
-      },
-    )
+    let ag : IsSame a g = IsSame-trans a h g (none_handed refl) (none_gained refl).0 in
+    record {
+      same = IsSame-trans a g b ag (none_posted refl).0;
+      none_gained = subst (λ (x : Ends). All IsUnknown x) ends (none_gained refl).1;
+      drained = drained_before a g ag (none_posted refl).1;
+    }
 
--- the same of a fact by another name
-pub done_as : (a h g b : FrontState) → Goes a h → Goes h g → Goes g b → h.jobs.hands.seat.ends ≡ a.jobs.hands.seat.ends → (handed gained posted : Bool)
-    → (handed ≡ true → length a.jobs.hands.seat.handed < length h.jobs.hands.seat.handed) → (handed ≡ false → IsSame a h)
-    → (gained ≡ true → gained_count h.jobs.hands < gained_count g.jobs.hands) → (gained ≡ false → IsSame h g × All IsUnknown h.jobs.hands.seat.ends)
-    → (posted ≡ true → length g.log.items < length b.log.items) → (posted ≡ false → IsSame g b × AllDrained g)
-    → (moved : Bool) → moved ≡ (handed || gained || posted) → HasDone moved a b
-done_as a h g b ah hg gb ends handed gained posted more_handed none_handed more_gained none_gained more_posted none_posted moved is =
-    subst (λ (m : Bool). HasDone m a b) (sym is)
-    (done_by a h g b ah hg gb ends handed gained posted more_handed none_handed more_gained none_gained more_posted none_posted)
+-- ---- what is done after the jobs and the completions
+-- an idle front, by its pending deletion
+idle_by : (b c : FrontState) → HasAdmin c → IsKept c → AllDrained c → All IsUnknown c.jobs.hands.seat.ends → IsSame b c
+    → (o : Option PendingDelete) → b.deletion ≡ o → IsWaiting b o → IsIdleFront (view_of c)
+idle_by b c admin kept drained none_gained bc None none waiting =
+    idle_front c kept admin (bc.deletion ∙ none) drained none_gained (scanned_same b c bc waiting.0) (pick_same b c bc ∙ waiting.1)
+idle_by b c admin kept drained none_gained bc (Some d) pending waiting =
+    deleting_front c d kept admin (bc.deletion ∙ pending) drained none_gained
+    (subst (λ (sqs : List SqRegion). (sq_in sqs d.region).unposted ≢ 0) (sym bc.sqs) waiting)
 
--- ---- a turn that picks of its queues
--- what `pick` says of a state that it left as it was, where it made no pick
-abbrev pub IsIdlePick : FrontState → FrontState → Type 0
-IsIdlePick c d = IsSame c d × (next_pick c ≡ None)
+-- a stalled front
+stalled_by : (b c : FrontState) → HasAdmin c → IsKept c → AllDrained c → All IsUnknown c.jobs.hands.seat.ends → IsSame b c → NeedsPlaces b
+    → IsStalledFront (view_of c)
+stalled_by b c admin kept drained none_gained bc needs =
+    stalled_front c kept admin drained none_gained (next_pick b) (pick_same b c bc)
+    (subst (λ (n : ℕ). IfSome (next_pick b) (λ (pick : Pick). max_outstanding < n + pick.n)) (sym bc.outstanding) needs.0) needs.1
 
-abbrev pub IsStalledPick : FrontState → FrontState → Type 0
-IsStalledPick c d = IsSame c d × IfSome (next_pick c) (λ (pick : Pick). max_outstanding < c.outstanding + pick.n) × IsSome (next_pick c)
-
--- nothing was handed, gained, posted or fetched, and nothing picked
-pub quiet_means : (a b c d : FrontState) (picked : Step) → HasAdmin a → IsKept d → IsQuiet a b → IsSame b c → AllScanned b → c.deletion ≡ None
-    → (picked ≡ Picked → ⊥) → (picked ≡ Moved → ⊥) → (picked ≡ Idle → IsIdlePick c d) → (picked ≡ Stalled → IsStalledPick c d)
-    → StepMeans picked (view_of a) (view_of d)
-quiet_means a b c d Picked admin kept quiet bc scanned none not_picked not_moved idle stalled = absurd (not_picked refl)
-quiet_means a b c d Moved admin kept quiet bc scanned none not_picked not_moved idle stalled = absurd (not_moved refl)
-quiet_means a b c d Idle admin kept quiet bc scanned none not_picked not_moved idle stalled =
-    let cd : IsSame c d = (idle refl).0 in
-    let bd : IsSame b d = IsSame-trans b c d bc cd in
-    let ad : IsSame a d = IsSame-trans a b d quiet.same bd in (
-      idle_front d kept (admin-goes a d (Goes-same a d ad) admin) (cd.deletion ∙ none) (drained_same a d ad quiet.drained) (unknown_same a d ad quiet.none_gained)
-          (scanned_same b d bd scanned) (pick_same c d cd ∙ (idle refl).1),
-      still_same a d ad,
-    )
-quiet_means a b c d Stalled admin kept quiet bc scanned none not_picked not_moved idle stalled =
-    let cd : IsSame c d = (stalled refl).0 in
-    let ad : IsSame a d = IsSame-trans a b d quiet.same (IsSame-trans b c d bc cd) in (
-      stalled_front d kept (admin-goes a d (Goes-same a d ad) admin) (drained_same a d ad quiet.drained) (unknown_same a d ad quiet.none_gained)
-          (next_pick c) (pick_same c d cd)
-          (subst (λ (n : ℕ). IfSome (next_pick c) (λ (pick : Pick). max_outstanding < n + pick.n)) (sym cd.outstanding) (stalled refl).1) (stalled refl).2,
-      still_same a d ad,
-    )
-
--- where no pick was made the log has no pick more
-not_more : (c d : FrontState) (picked : Step) → (picked ≡ Picked → ⊥) → (picked ≡ Moved → ⊥) → (picked ≡ Idle → IsIdlePick c d) → (picked ≡ Stalled → IsStalledPick c d)
-    → picks_in d.log.items ≡ picks_in c.log.items
-not_more c d Picked not_picked not_moved idle stalled = absurd (not_picked refl)
-not_more c d Moved not_picked not_moved idle stalled = absurd (not_moved refl)
-not_more c d Idle not_picked not_moved idle stalled = ap picks_in (idle refl).0.log
-not_more c d Stalled not_picked not_moved idle stalled = ap picks_in (stalled refl).0.log
-
-module _ (a b c d : FrontState) (admin : HasAdmin a) (kept : IsKept d) (ab : Goes a b) (bc : Goes b c) (cd : Goes c d)
-    (pab : picks_in b.log.items ≡ picks_in a.log.items) (pbc : picks_in c.log.items ≡ picks_in b.log.items) where
-  -- a turn with no pick, by what was done and fetched
-  step_by : (done fetched : Bool) (picked : Step) → HasDone done a b
-      → (fetched ≡ true → length b.log.items < length c.log.items) → (fetched ≡ false → IsSame b c × AllScanned b) → c.deletion ≡ None
-      → (picked ≡ Picked → ⊥) → (picked ≡ Moved → ⊥) → (picked ≡ Idle → IsIdlePick c d) → (picked ≡ Stalled → IsStalledPick c d)
-      → StepMeans (if done || fetched then Moved else picked) (view_of a) (view_of d)
-  step_by true fetched picked has_done gained none_got none not_picked not_moved idle stalled =
-      (moved_later a c d (moved_later a b c (has_done.0 refl) bc) cd, not_more c d picked not_picked not_moved idle stalled ∙ pbc ∙ pab)
-  step_by false true picked has_done gained none_got none not_picked not_moved idle stalled =
-      (moved_later a c d (moved_since a b c ab (inl (gained refl))) cd, not_more c d picked not_picked not_moved idle stalled ∙ pbc ∙ pab)
-  step_by false false picked has_done gained none_got none not_picked not_moved idle stalled =
-      quiet_means a b c d picked admin kept (has_done.1 refl) (none_got refl).0 (none_got refl).1 none not_picked not_moved idle stalled
-
-  -- the same of the answer
-  pub step_means : (done fetched : Bool) (picked : Step) → HasDone done a b
-      → (fetched ≡ true → length b.log.items < length c.log.items) → (fetched ≡ false → IsSame b c × AllScanned b) → c.deletion ≡ None
-      → (picked ≡ Picked → ⊥) → (picked ≡ Moved → ⊥) → (picked ≡ Idle → IsIdlePick c d) → (picked ≡ Stalled → IsStalledPick c d)
-      → (moved : Bool) → moved ≡ (done || fetched) → (step : Step) → step ≡ (if moved then Moved else picked) → StepMeans step (view_of a) (view_of d)
-  step_means done fetched picked has_done gained none_got none not_picked not_moved idle stalled moved either step is =
-      subst (λ (s : Step). StepMeans s (view_of a) (view_of d)) (sym (is ∙ ap (λ (m : Bool). if m then Moved else picked) either))
-      (step_by done fetched picked has_done gained none_got none not_picked not_moved idle stalled)
-
--- ---- a turn that ends at a pending deletion
-module _ (a b c : FrontState) (admin : HasAdmin a) (kept : IsKept c) (ab : Goes a b) (bc : Goes b c) (d : PendingDelete) (pending : b.deletion ≡ Some d)
-    (pab : picks_in b.log.items ≡ picks_in a.log.items) (pbc : picks_in c.log.items ≡ picks_in b.log.items) where
-  -- by what was done and finished
-  deletion_by : (done finished : Bool) → HasDone done a b
-      → (finished ≡ true → length c.log.items ≡ length b.log.items + 1) → (finished ≡ false → IsSame b c × ((sq_in b.sqs.items d.region).unposted ≢ 0))
-      → StepMeans (if done || finished then Moved else Idle) (view_of a) (view_of c)
-  deletion_by true finished has_done ended waits = (moved_later a b c (has_done.0 refl) bc, pbc ∙ pab)
-  deletion_by false true has_done ended waits = (moved_since a b c ab (inl (omega (arith, ended refl))), pbc ∙ pab)
-  deletion_by false false has_done ended waits =
-      let quiet : IsQuiet a b = has_done.1 refl in
-      let same : IsSame b c = (waits refl).0 in
-      let ac : IsSame a c = IsSame-trans a b c quiet.same same in (
-        deleting_front c d kept (admin-goes a c (Goes-same a c ac) admin) (same.deletion ∙ pending) (drained_same a c ac quiet.drained) (unknown_same a c ac quiet.none_gained)
-            (subst (λ (sqs : List SqRegion). (sq_in sqs d.region).unposted ≢ 0) (sym same.sqs) (waits refl).1),
+module _ (a b c : FrontState) (admin : HasAdmin a) (kept : IsKept c) (ab : Goes a b) (bc : Goes b c) (picks : picks_in b.log.items ≡ picks_in a.log.items) where
+  -- where nothing was done before
+  quiet_means : IsQuiet a b → (step : Step) → Proceeds step b c → StepMeans step (view_of a) (view_of c)
+  quiet_means quiet Picked it = it ∙ ap (λ (n : ℕ). n + 1) picks
+  quiet_means quiet Moved it = (moved_since a b c ab (inl it.0), it.1 ∙ picks)
+  quiet_means quiet Idle it =
+      let ac : IsSame a c = IsSame-trans a b c quiet.same it.0 in (
+        idle_by b c (admin-goes a c (Goes-same a c ac) admin) kept (drained_same a c ac quiet.drained) (unknown_same a c ac quiet.none_gained) it.0 b.deletion refl it.1,
+        still_same a c ac,
+      )
+  quiet_means quiet Stalled it =
+      let ac : IsSame a c = IsSame-trans a b c quiet.same it.0 in (
+        stalled_by b c (admin-goes a c (Goes-same a c ac) admin) kept (drained_same a c ac quiet.drained) (unknown_same a c ac quiet.none_gained) it.0 it.1,
         still_same a c ac,
       )
 
+  -- where something was
+  moved_means : HasMoved (view_of a) (view_of b) → (step : Step) → Proceeds step b c → StepMeans (told_after true step) (view_of a) (view_of c)
+  moved_means moved Picked it = it ∙ ap (λ (n : ℕ). n + 1) picks
+  moved_means moved Moved it = (moved_later a b c moved bc, it.1 ∙ picks)
+  moved_means moved Idle it = (moved_later a b c moved bc, ap picks_in it.0.log ∙ picks)
+  moved_means moved Stalled it = (moved_later a b c moved bc, ap picks_in it.0.log ∙ picks)
+
+  -- what a turn answers
+  turn_by : (done : Bool) → HasDone done a b → (step : Step) → Proceeds step b c → StepMeans (told_after done step) (view_of a) (view_of c)
+  turn_by true moved step it = moved_means moved step it
+  turn_by false quiet step it = quiet_means quiet step it
+
+  -- the same of its answer
+  pub turn_means : (done : Bool) → HasDone done a b → (step : Step) → Proceeds step b c → (answer : Step) → answer ≡ told_after done step
+      → StepMeans answer (view_of a) (view_of c)
+  turn_means done has step it answer is = subst (λ (s : Step). StepMeans s (view_of a) (view_of c)) (sym is) (turn_by done has step it)
+
+-- ---- a deletion
+-- by whether it was finished
+closed_by : (a b : FrontState) (d : PendingDelete) → a.deletion ≡ Some d → picks_in b.log.items ≡ picks_in a.log.items → (finished : Bool)
+    → (finished ≡ true → length b.log.items ≡ length a.log.items + 1) → (finished ≡ false → IsSame a b × ((sq_in a.sqs.items d.region).unposted ≢ 0))
+    → Proceeds (told_after finished Idle) a b
+closed_by a b d pending picks true ended waits = (omega (arith, ended refl), picks)
+closed_by a b d pending picks false ended waits =
+    ((waits refl).0, subst (λ (o : Option PendingDelete). IsWaiting a o) (sym pending) (waits refl).1)
+
+-- the same of the answer
+pub closed_means : (a b : FrontState) (d : PendingDelete) → a.deletion ≡ Some d → picks_in b.log.items ≡ picks_in a.log.items → (finished : Bool)
+    → (finished ≡ true → length b.log.items ≡ length a.log.items + 1) → (finished ≡ false → IsSame a b × ((sq_in a.sqs.items d.region).unposted ≢ 0))
+    → (answer : Step) → answer ≡ told_after finished Idle → Proceeds answer a b
+closed_means a b d pending picks finished ended waits answer is =
+    subst (λ (s : Step). Proceeds s a b) (sym is) (closed_by a b d pending picks finished ended waits)
+
+-- ---- the scan and the pick
+-- what `pick` says of a state that it left as it was, where it made no pick
+abbrev pub IsIdlePick : FrontState → FrontState → Type 0
+IsIdlePick b c = IsSame b c × (next_pick b ≡ None)
+
+abbrev pub IsStalledPick : FrontState → FrontState → Type 0
+IsStalledPick b c = IsSame b c × NeedsPlaces b
+
+module _ (a b c : FrontState) (bc : Goes b c) (none : a.deletion ≡ None) (picks : picks_in b.log.items ≡ picks_in a.log.items) where
+  -- the next pick of a front that is the same needs as many places
+  needs_before : IsSame a b → NeedsPlaces b → NeedsPlaces a
+  needs_before ab needs = (
+    subst (λ (o : Option Pick). IfSome o (λ (pick : Pick). max_outstanding < a.outstanding + pick.n)) (pick_same a b ab)
+        (subst (λ (n : ℕ). IfSome (next_pick b) (λ (pick : Pick). max_outstanding < n + pick.n)) ab.outstanding needs.0),
+    subst (λ (o : Option Pick). IsSome o) (pick_same a b ab) needs.1,
+  )
+
+  -- by what was fetched
+  served_by : (fetched : Bool) → (fetched ≡ true → length a.log.items < length b.log.items) → (fetched ≡ false → IsSame a b × AllScanned a)
+      → (picked : Step) → (picked ≡ Picked → picks_in c.log.items ≡ picks_in b.log.items + 1) → (picked ≡ Moved → ⊥)
+      → (picked ≡ Idle → IsIdlePick b c) → (picked ≡ Stalled → IsStalledPick b c) → Proceeds (told_after fetched picked) a c
+  served_by fetched more still Moved one never idle stalled = absurd (never refl)
+  served_by true more still Picked one never idle stalled = one refl ∙ ap (λ (n : ℕ). n + 1) picks
+  served_by true more still Idle one never idle stalled = (omega (arith, more refl, log_grown b c bc), ap picks_in (idle refl).0.log ∙ picks)
+  served_by true more still Stalled one never idle stalled = (omega (arith, more refl, log_grown b c bc), ap picks_in (stalled refl).0.log ∙ picks)
+  served_by false more still Picked one never idle stalled = one refl ∙ ap (λ (n : ℕ). n + 1) picks
+  served_by false more still Idle one never idle stalled =
+      let ab : IsSame a b = (still refl).0 in
+      (IsSame-trans a b c ab (idle refl).0, subst (λ (o : Option PendingDelete). IsWaiting a o) (sym none) ((still refl).1, sym (pick_same a b ab) ∙ (idle refl).1))
+  served_by false more still Stalled one never idle stalled =
+      let ab : IsSame a b = (still refl).0 in (IsSame-trans a b c ab (stalled refl).0, needs_before ab (stalled refl).1)
+
   -- the same of the answer
-  pub deletion_means : (done finished : Bool) → HasDone done a b
-      → (finished ≡ true → length c.log.items ≡ length b.log.items + 1) → (finished ≡ false → IsSame b c × ((sq_in b.sqs.items d.region).unposted ≢ 0))
-      → (moved : Bool) → moved ≡ (done || finished) → (step : Step) → step ≡ (if moved then Moved else Idle) → StepMeans step (view_of a) (view_of c)
-  deletion_means done finished has_done ended waits moved either step is =
-      subst (λ (s : Step). StepMeans s (view_of a) (view_of c)) (sym (is ∙ ap (λ (m : Bool). if m then Moved else Idle) either)) (deletion_by done finished has_done ended waits)
+  pub served_means : (fetched : Bool) → (fetched ≡ true → length a.log.items < length b.log.items) → (fetched ≡ false → IsSame a b × AllScanned a)
+      → (picked : Step) → (picked ≡ Picked → picks_in c.log.items ≡ picks_in b.log.items + 1) → (picked ≡ Moved → ⊥)
+      → (picked ≡ Idle → IsIdlePick b c) → (picked ≡ Stalled → IsStalledPick b c) → (answer : Step) → answer ≡ told_after fetched picked → Proceeds answer a c
+  served_means fetched more still picked one never idle stalled answer is =
+      subst (λ (s : Step). Proceeds s a c) (sym is) (served_by fetched more still picked one never idle stalled)
 
 -- ---- a result of no job
 -- what was gained since a time before
@@ -263,3 +251,18 @@ pick_error_means a c d LogFull admin kept picks full one = elim (full refl) [
       (admin_log_full d kept (admin-goes c d (Goes-same c d same) admin) few.1 (next_pick c) (pick_same c d same) few.2 few.3, picks)
 ]
 pick_error_means a c d (Stray ticket) admin kept picks full one = absurd (elim one [ inl e ↦ cc | inr e ↦ cc ])
+
+-- ---- errors
+-- of a step that had no room in the log, or no memory for it
+pub log_error_means : (a b : FrontState) (e : FrontError) → picks_in b.log.items ≡ picks_in a.log.items → (e ≡ LogFull → b.config.max_events < length b.log.items + 1)
+    → ((e ≡ LogFull) ⊎ (e ≡ NoMemory)) → ErrorMeans e (view_of a) (view_of b)
+log_error_means a b NoMemory picks full one = picks
+log_error_means a b LogFull picks full one = (inl (full refl), picks)
+log_error_means a b (Stray ticket) picks full one = absurd (elim one [ inl e ↦ cc | inr e ↦ cc ])
+
+-- the same since a time before
+pub error_since : (a b c : FrontState) (e : FrontError) → Goes a b → picks_in b.log.items ≡ picks_in a.log.items → ErrorMeans e (view_of b) (view_of c)
+    → ErrorMeans e (view_of a) (view_of c)
+error_since a b c NoMemory goes picks it = it ∙ picks
+error_since a b c LogFull goes picks it = (it.0, it.1 ∙ picks)
+error_since a b c (Stray ticket) goes picks it = (stray_since ticket a b c goes it.0, it.1 ∙ picks)

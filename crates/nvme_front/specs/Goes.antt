@@ -5,6 +5,7 @@ use Rattle.nvme_entry.specs.declared.submission.Sqe.{Sqe}
 use Rattle.nvme_entry.specs.declared.completion.Cqe.{Cqe}
 use Rattle.nvme_lane.specs.View.{GetView, PutView, RingName}
 use Rattle.nvme_arbiter.specs.declared.pick.Pick.{Pick}
+use Rattle.nvme_arbiter.specs.Limits.{highest_qid}
 use Rattle.nvme_arbiter.specs.Queues.{seen_of}
 use Rattle.nvme_arbiter.specs.Standing.{pick_of}
 use Rattle.nvme_admin.specs.declared.verdict.SqEntry.{SqEntry}
@@ -73,9 +74,17 @@ IsTaken s (Some entry) =
 abbrev pub IsScanned : FrontState → ℕ → Type 0
 IsScanned s q = IsTaken s (sq_of s.table q)
 
+-- each queue was scanned
+abbrev pub AllScanned : FrontState → Type 0
+AllScanned s = (q : ℕ) → q ≤ highest_qid → IsScanned s q
+
 -- no completion is ready in a completion region, or its ring is full
 abbrev pub IsDrained : FrontState → ℕ → Type 0
 IsDrained s c = ((kept_of s).cq c).ready ≡ [] ⊎ ((kept_of s).cq c).free ≡ 0
+
+-- each completion region is drained
+abbrev pub AllDrained : FrontState → Type 0
+AllDrained s = (c : ℕ) → c < length s.cqs.items → IsDrained s c
 
 -- the pick that arbitration makes next
 abbrev pub next_pick : FrontState → Option Pick

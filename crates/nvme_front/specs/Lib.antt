@@ -8,3 +8,4 @@ pub mod Resting
 pub mod Settles
 pub mod Room
 pub mod State
+pub mod Turn

@@ -21,6 +21,7 @@ use crate::front::Front;
 use crate::settled::{Sent, SettleError, Settled};
 use nvme_entry::{Cqe, Sqe};
 use nvme_lane::{Drainer, Feeder};
+use nvme_log::Event;
 use nvme_pool::{Lanes, Worker};
 use std::alloc::Global;
 use std::sync::Wait;
@@ -165,6 +166,27 @@ fn collected_of(drainers: Vec<Drainer<Cqe>>, collected: Vec<Vec<Cqe>>) -> Vec<Ve
     collected
 }
 
+// What the hosts and the front leave.
+fn settled_of(
+    log: Vec<Event>,
+    feeders: Vec<Feeder<Sqe>>,
+    sent: Vec<Sent>,
+    drainers: Vec<Drainer<Cqe>>,
+    collected: Vec<Vec<Cqe>>,
+) -> Settled
+    requires sent { (sent.items ≡ []) × (length feeders.items ≤ vec_capacity sent) }
+    requires collected { (collected.items ≡ []) × (length drainers.items ≤ vec_capacity collected) }
+    ensures log { result.log.items ≡ log.items }
+    ensures sent { map told_by result.sent.items ≡ map told feeders.items }
+    ensures collected { map (λ (v : Vec Cqe Global). v.items) result.collected.items ≡ map (λ (d : Drainer Cqe). items_of d) drainers.items }
+{
+    Settled {
+        sent: sent_of(feeders, sent),
+        collected: collected_of(drainers, collected),
+        log,
+    }
+}
+
 /// Takes what rests in the completion rings, closes the pool, and compares what was submitted, the log, what the workers
 /// executed, and what was collected. A refusal hands all parts back: `Strangers` exactly where the addresses of the hosts
 /// are not those of the regions, in order; then `Outstanding` exactly where the front isn't clear, a command rests in the
@@ -217,11 +239,7 @@ pub fn settle<R: Wait>(rt: &R, alloc: Global, parts: Parts) -> Result<Settled, (
         workers,
     } = parts;
     match front.into_log(rt, alloc, lanes, workers) {
-        Ok(log) => Ok(Settled {
-            sent: sent_of(feeders, sent),
-            collected: collected_of(drainers, collected),
-            log,
-        }),
+        Ok(log) => Ok(settled_of(log, feeders, sent, drainers, collected)),
         Err((front, lanes, workers)) => {
             let parts = Parts {
                 front,

@@ -1,7 +1,7 @@
-ghost use Rattle.std.specs.Prelude.{◌≡◌, if◌then◌else◌};
+ghost use Rattle.std.specs.Prelude.{◌≡◌};
 ghost use Rattle.std.specs.List.{list_all};
 ghost use Rattle.nvme_front.specs.Clear.{no_window, no_ready};
-ghost use Rattle.nvme_front.specs.declared.front.Step.TheVariants as step_is;
+ghost use Rattle.nvme_front.specs.Turn.{told_after};
 
 use crate::front::{FrontConfig, FrontError, Step};
 use nvme_admin::Table;
@@ -31,11 +31,12 @@ pub struct FrontState {
 }
 
 impl FrontState {
-    ghost use Rattle.std.specs.Prelude.{◌≡◌, ◌↔◌, length, IfOk, IfErr, IsTrue, ◌&&◌, nat_lt};
+    ghost use Rattle.std.specs.Prelude.{◌≡◌, ◌↔◌, length, None, IfOk, IfErr, IsTrue, ◌&&◌, nat_lt};
     ghost use Rattle.nvme_front.specs.Room.{IsKept};
     ghost use Rattle.nvme_front.specs.State.{past_of};
     ghost use Rattle.nvme_front.specs.Goes.{Goes, HasAdmin};
-    ghost use Rattle.nvme_front.specs.View.{view_of, StepMeans, ErrorMeans};
+    ghost use Rattle.nvme_front.specs.View.{view_of, HasNoPickMore, StepMeans, ErrorMeans};
+    ghost use Rattle.nvme_front.specs.Turn.{HasDone, Proceeds};
     ghost use Rattle.nvme_log.specs.Account.{IsClear};
     ghost use Rattle.nvme_log.specs.Queues.{is_serving};
 
@@ -49,21 +50,65 @@ impl FrontState {
         ensures step { IfOk result (λ step. StepMeans step (view_of self.old) (view_of self.new)) }
         ensures error { IfErr result (λ error. ErrorMeans error (view_of self.old) (view_of self.new)) }
     {
+        let moved = self.catch_up(rt, lanes)?;
+        let step = self.proceed(rt, lanes)?;
+        Ok(step_after(moved, step))
+    }
+
+    // Hands the jobs that were kept, gains results and posts the ready completions, and says whether it did any of it.
+    fn catch_up<R: Wait>(&mut self, rt: &R, lanes: &Lanes) -> Result<bool, FrontError>
+        requires kept { IsKept self.old }
+        requires admin { HasAdmin self.old }
+        requires seat { self.old.jobs.hands.seat.lane ≡ lanes.now }
+        ensures kept { IsKept self.new }
+        ensures goes { Goes self.old self.new }
+        ensures picks { HasNoPickMore (view_of self.old) (view_of self.new) }
+        ensures done { IfOk result (λ moved. HasDone moved self.old self.new) }
+        ensures error { IfErr result (λ error. ErrorMeans error (view_of self.old) (view_of self.new)) }
+    {
         let handed = self.hand(rt, lanes);
         let gained = self.gain(lanes)?;
         let posted = self.post()?;
-        let moved = handed || gained || posted;
-        if let Some(deletion) = self.deletion {
-            let finished = self.finish(deletion)?;
-            return Ok(moved_or(moved || finished, Step::Idle));
-        }
+        Ok(handed | gained | posted)
+    }
+
+    // Finishes the pending deletion, and where none is pending, serves the queues.
+    fn proceed<R: Wait>(&mut self, rt: &R, lanes: &Lanes) -> Result<Step, FrontError>
+        requires kept { IsKept self.old }
+        requires admin { HasAdmin self.old }
+        requires seat { self.old.jobs.hands.seat.lane ≡ lanes.now }
+        ensures kept { IsKept self.new }
+        ensures goes { Goes self.old self.new }
+        ensures step { IfOk result (λ step. Proceeds step self.old self.new) }
+        ensures error { IfErr result (λ error. ErrorMeans error (view_of self.old) (view_of self.new)) }
+    {
+        let Some(deletion) = self.deletion else {
+            return self.serve(rt, lanes);
+        };
+        let finished = self.finish(deletion)?;
+        Ok(step_after(finished, Step::Idle))
+    }
+
+    // Fetches what has come, makes the next pick, and hands the jobs of what was picked.
+    fn serve<R: Wait>(&mut self, rt: &R, lanes: &Lanes) -> Result<Step, FrontError>
+        requires kept { IsKept self.old }
+        requires admin { HasAdmin self.old }
+        requires seat { self.old.jobs.hands.seat.lane ≡ lanes.now }
+        requires none_pending { self.old.deletion ≡ None }
+        ensures kept { IsKept self.new }
+        ensures goes { Goes self.old self.new }
+        ensures step { IfOk result (λ step. Proceeds step self.old self.new) }
+        ensures error { IfErr result (λ error. ErrorMeans error (view_of self.old) (view_of self.new)) }
+    {
         let fetched = self.scan()?;
         let picked = self.pick()?;
-        if picked == Step::Picked {
-            let _handed = self.hand(rt, lanes);
-            return Ok(picked);
+        match picked {
+            Step::Picked => {
+                self.hand(rt, lanes);
+                Ok(Step::Picked)
+            }
+            _ => Ok(step_after(fetched, picked)),
         }
-        Ok(moved_or(moved || fetched, picked))
     }
 
     /// No candidate waits, every fetched command has its completion posted, and no deletion is pending.
@@ -109,9 +154,13 @@ fn none_ready(cqs: &[CqRegion]) -> bool
     cqs.iter().all(|cq| cq.ready.is_empty())
 }
 
-// What a turn answers where it made no pick.
-fn moved_or(moved: bool, step: Step) -> Step
-    ensures { result ≡ (if moved then step_is.Moved else step) }
+// What a turn answers after it did something or nothing: a pick stays a pick.
+fn step_after(moved: bool, step: Step) -> Step
+    ensures { result ≡ told_after moved step }
 {
-    if moved { Step::Moved } else { step }
+    match step {
+        Step::Picked => step,
+        _ if moved => Step::Moved,
+        _ => step,
+    }
 }

@@ -72,8 +72,8 @@ returns-then-not-collect-clause-no_memory g c =
     let kept = rw c.as_slice-else-not-is_clear.ensures.value at (c.none_kept.ensures.0 c.if-not-none_kept.false) in
     λ e. record { front = at_rest v _ f _ true rests (feeders_number v f d hosts) refl clear; none_kept = kept }
 
-pub collected_of-requires : goal.collected_of-requires
-collected_of-requires g c =
+pub settled_of-requires-clause-collected : goal.settled_of-requires-clause-collected
+settled_of-requires-clause-collected g c =
     let same = seen_length drainer_place drainer_place _ _ c.collect.ensures.kept.takes.places in
     let room = c.in-Ok-Ok.ensures'.capacity in
     (c.in-Ok-Ok.ensures'.items, omega arith)
@@ -87,7 +87,7 @@ returns-in-Ok-clause-collected g c =
     let rests = rw c.if-not-quiet.false at c.look-quiet.ensures in
     let clear = c.is_clear.ensures.0 c.if-not-is_clear.false in
     let collects = c.collect.ensures.all c.if-not-collect.false in
-    collects_more v _ _ f _ d _ _ hosts rests clear collects c.in-Ok.ensures.log c.sent_of.ensures c.collected_of.ensures
+    collects_more v _ _ f _ d _ _ hosts rests clear collects (c.settled_of.ensures.log ∙ c.in-Ok.ensures.log) c.settled_of.ensures.sent c.settled_of.ensures.collected
 
 pub returns-in-Ok-clause-account : goal.returns-in-Ok-clause-account
 returns-in-Ok-clause-account g c =
@@ -98,7 +98,7 @@ returns-in-Ok-clause-account g c =
     let rests = rw c.if-not-quiet.false at c.look-quiet.ensures in
     let clear = c.is_clear.ensures.0 c.if-not-is_clear.false in
     let collects = c.collect.ensures.all c.if-not-collect.false in
-    is_account v _ _ f _ d _ (record { log = c.in-Ok.log; sent = c.sent_of.result; collected = c.collected_of.result }) hosts rests clear collects c.in-Ok.ensures.log c.sent_of.ensures c.collected_of.ensures c.in-Ok.ensures.fetched c.in-Ok.ensures.posted c.in-Ok.ensures.account
+    is_account v _ _ f _ d _ c.settled_of.result hosts rests clear collects (c.settled_of.ensures.log ∙ c.in-Ok.ensures.log) c.settled_of.ensures.sent c.settled_of.ensures.collected c.in-Ok.ensures.fetched c.in-Ok.ensures.posted c.in-Ok.ensures.account
 
 pub returns-in-Ok-clause-settled : goal.returns-in-Ok-clause-settled
 returns-in-Ok-clause-settled g c =
@@ -109,7 +109,7 @@ returns-in-Ok-clause-settled g c =
     let rests = rw c.if-not-quiet.false at c.look-quiet.ensures in
     let clear = c.is_clear.ensures.0 c.if-not-is_clear.false in
     let collects = c.collect.ensures.all c.if-not-collect.false in
-    is_settled v _ _ f _ d _ _ hosts rests clear collects c.in-Ok.ensures.log c.sent_of.ensures c.collected_of.ensures c.in-Ok.ensures.fetched c.in-Ok.ensures.posted
+    is_settled v _ _ f _ d _ _ hosts rests clear collects (c.settled_of.ensures.log ∙ c.in-Ok.ensures.log) c.settled_of.ensures.sent c.settled_of.ensures.collected c.in-Ok.ensures.fetched c.in-Ok.ensures.posted
 
 pub returns-in-Ok-clause-at_rest : goal.returns-in-Ok-clause-at_rest
 returns-in-Ok-clause-at_rest g c =
@@ -152,5 +152,5 @@ returns-in-Ok-clause-executed g c =
     let clear = c.is_clear.ensures.0 c.if-not-is_clear.false in
     let kept = rw c.as_slice-else-not-is_clear.ensures.value at (c.none_kept.ensures.0 c.if-not-none_kept.false) in
     let done = c.in-Ok.ensures in
-    executes c.args.parts.front c.collect.new.front _ c.args.parts.workers.items (IsSameFront-trans _ _ _ c.look-quiet.ensures.front collects.front) (ap reverse done.log) done.jobs
+    executes c.args.parts.front c.collect.new.front _ c.args.parts.workers.items (IsSameFront-trans _ _ _ c.look-quiet.ensures.front collects.front) (ap reverse (c.settled_of.ensures.log ∙ done.log)) done.jobs
     (done.none_in_hand (subst IsClear (sym (ap reverse collects.front.log)) clear)) c.requires.pool.none_before done.closed kept

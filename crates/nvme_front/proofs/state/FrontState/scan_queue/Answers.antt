@@ -1,0 +1,43 @@
+-- A command after another: each makes the log longer, and where none was fetched nothing changed.
+use Rattle.std.proofs.Common.{◌≡◌, ◌∙◌, true, false, Ok, ap, arith}
+use Rattle.nvme_front.proofs.States.{Goes-trans, IsSame-trans, admin-goes}
+use Rattle.nvme_front.proofs.Scans.{goes_longer, scanned_same}
+use Rattle.nvme_front.proofs.state.FrontState.scan_queue.Goals as goal
+
+pub loop-fetched-preserved : goal.loop-fetched-preserved
+loop-fetched-preserved c =
+    let i = c.loop-fetched.invariant in
+    let e = c.fetch_one.ensures in
+    let r : c.fetch_one.result ≡ Ok true = c.in_ok-fetch_one.was ∙ ap Ok c.if-branch.true in
+    let before = goes_longer c.args.self.now c.loop-fetched.self i.goes in
+    let more = e.more r in
+    record {
+      kept = e.kept;
+      goes = Goes-trans c.args.self.now c.loop-fetched.self c.fetch_one.new.self i.goes e.goes;
+      picks = e.picks ∙ i.picks;
+      admin = admin-goes c.loop-fetched.self c.fetch_one.new.self e.goes i.admin;
+      none_pending = e.none_pending;
+      more = λ t. omega (arith, before, more);
+      still = λ f. cc f;
+    }
+
+pub returns-in_err-fetch_one-clause-goes : goal.returns-in_err-fetch_one-clause-goes
+returns-in_err-fetch_one-clause-goes c = Goes-trans c.args.self.now c.loop-fetched.self c.fetch_one.new.self c.loop-fetched.invariant.goes c.fetch_one.ensures.goes
+
+pub returns-clause-goes : goal.returns-clause-goes
+returns-clause-goes c = Goes-trans c.args.self.now c.loop-fetched.self c.fetch_one.new.self c.loop-fetched.invariant.goes c.fetch_one.ensures.goes
+
+pub returns-clause-more : goal.returns-clause-more
+returns-clause-more c = λ r.
+    let some : c.loop-fetched.fetched ≡ true = cc r in
+    let more = c.loop-fetched.invariant.more some in
+    let longer = goes_longer c.loop-fetched.self c.fetch_one.new.self c.fetch_one.ensures.goes in
+    omega (arith, more, longer)
+
+pub returns-clause-still : goal.returns-clause-still
+returns-clause-still c = λ r.
+    let none : c.loop-fetched.fetched ≡ false = cc r in
+    let before = c.loop-fetched.invariant.still none in
+    let last : c.fetch_one.result ≡ Ok false = c.in_ok-fetch_one.was ∙ ap Ok c.if-branch.false in
+    let s = c.fetch_one.ensures.still last in
+    (IsSame-trans c.args.self.now c.loop-fetched.self c.fetch_one.new.self before s.0, scanned_same c.args.self.now c.loop-fetched.self before c.args.qid s.1)

@@ -1,0 +1,44 @@
+use Rattle.std.proofs.Common.{ℕ, ◌+◌, Ok, Err, ap, ◌∙◌}
+use Rattle.std.proofs.lemmas.Result.{err_from_is_err_and}
+use Rattle.nvme_log.specs.Histories.{picks_in}
+use Rattle.nvme_front.proofs.States.{Goes-trans, admin-goes}
+use Rattle.nvme_front.proofs.Still.{served_means, log_error_means, pick_error_means}
+use Rattle.nvme_front.proofs.state.FrontState.serve.Goals as goal
+
+pub returns-in_err-fetched-clause-error : goal.returns-in_err-fetched-clause-error
+returns-in_err-fetched-clause-error g c =
+    let p = err_from_is_err_and c.from_residual.result c.from_residual.ensures.1 in
+    let scan = c.in_err-fetched.ensures in
+    rw (p.1, p.2) (log_error_means c.args.self.now c.scan.new.self c.in_err-fetched.field-0.0 scan.picks (λ e. scan.full (ap Err e)) scan.no_stray)
+
+pub pick-requires-clause-admin : goal.pick-requires-clause-admin
+pick-requires-clause-admin g c = admin-goes c.args.self.now c.scan.new.self c.scan.ensures.goes c.requires.admin
+
+pub returns-in_err-picked-clause-goes : goal.returns-in_err-picked-clause-goes
+returns-in_err-picked-clause-goes g c = Goes-trans _ _ _ c.scan.ensures.goes c.pick.ensures.goes
+
+pub returns-in_err-picked-clause-error : goal.returns-in_err-picked-clause-error
+returns-in_err-picked-clause-error g c =
+    let p = err_from_is_err_and c.from_residual-in_err-picked.result c.from_residual-in_err-picked.ensures.1 in
+    let pick = c.in_err-picked.ensures in
+    rw (p.1, p.2) (pick_error_means c.args.self.now c.scan.new.self c.pick.new.self c.in_err-picked.field-0.0
+    (admin-goes c.args.self.now c.scan.new.self c.scan.ensures.goes c.requires.admin) pick.kept
+    (pick.none_picked ∙ c.scan.ensures.picks) (λ e. pick.full (ap Err e)) pick.no_stray)
+
+pub returns-in-Picked-clause-goes : goal.returns-in-Picked-clause-goes
+returns-in-Picked-clause-goes g c = Goes-trans _ _ _ c.scan.ensures.goes (Goes-trans _ _ _ c.pick.ensures.goes c.hand.ensures.goes)
+
+pub returns-in-Picked-clause-step : goal.returns-in-Picked-clause-step
+returns-in-Picked-clause-step g c =
+    ap picks_in c.hand.ensures.log ∙ c.in_ok-picked.ensures.picked (ap Ok c.in-Picked.is) ∙ ap (λ (n : ℕ). n + 1) c.scan.ensures.picks
+
+pub returns-in_default-clause-goes : goal.returns-in_default-clause-goes
+returns-in_default-clause-goes g c = Goes-trans _ _ _ c.scan.ensures.goes c.pick.ensures.goes
+
+pub returns-in_default-clause-step : goal.returns-in_default-clause-step
+returns-in_default-clause-step g c =
+    let scan = c.in_ok-fetched.ensures in
+    let pick = c.in_ok-picked.ensures in
+    served_means c.args.self.now c.scan.new.self c.pick.new.self pick.goes c.requires.none_pending scan.picks
+    c.in_ok-fetched.fetched (λ t. scan.more (ap Ok t)) (λ f. scan.still (ap Ok f)) c.in_ok-picked.picked
+    (λ e. pick.picked (ap Ok e)) (λ e. pick.never_moved (ap Ok e)) (λ e. pick.idle (ap Ok e)) (λ e. let s = pick.stalled (ap Ok e) in (s.0, (s.1, s.2))) c.step_after.result c.step_after.ensures

@@ -1,0 +1,49 @@
+-- What the parts of a turn leave (profile).
+use Rattle.std.specs.Prelude.{◌≡◌, ◌≢◌, ◌+◌, ◌<◌, Bool, true, false, length, Option, Some, None, IfSome, IsSome}
+use Rattle.std.specs.List.{All}
+use Rattle.nvme_pool.specs.Seat.{IsUnknown}
+use Rattle.nvme_arbiter.specs.declared.pick.Pick.{Pick}
+use Rattle.nvme_state.specs.declared.candidate.PendingDelete.{PendingDelete}
+use Rattle.nvme_log.specs.Limits.{max_outstanding}
+use Rattle.nvme_log.specs.Histories.{picks_in}
+use Rattle.nvme_front.specs.declared.front.Step.{Step}
+use Rattle.nvme_front.specs.declared.front.Step.TheVariants.{Picked, Moved, Idle, Stalled}
+use Rattle.nvme_front.specs.declared.state.FrontState.{FrontState}
+use Rattle.nvme_front.specs.State.{sq_in}
+use Rattle.nvme_front.specs.Goes.{IsSame, AllDrained, AllScanned, next_pick}
+use Rattle.nvme_front.specs.View.{view_of, HasMoved, HasNoPickMore}
+
+-- nothing changed, no result is known to come, and each completion region is drained
+pub record IsQuiet (old new : FrontState) : Type 0 where
+  pub same : IsSame old new
+  pub none_gained : All IsUnknown old.jobs.hands.seat.ends
+  pub drained : AllDrained old
+
+-- what a turn did before it looked for commands
+abbrev pub HasDone : Bool → FrontState → FrontState → Type 0
+HasDone true old new = HasMoved (view_of old) (view_of new)
+HasDone false old new = IsQuiet old new
+
+-- the pending deletion waits for a completion, or no queue gives a command and no pick is next
+abbrev pub IsWaiting : FrontState → Option PendingDelete → Type 0
+IsWaiting s (Some deletion) = (sq_in s.sqs.items deletion.region).unposted ≢ 0
+IsWaiting s None = AllScanned s × (next_pick s ≡ None)
+
+-- the next pick needs more places than are free
+abbrev pub NeedsPlaces : FrontState → Type 0
+NeedsPlaces s = IfSome (next_pick s) (λ (pick : Pick). max_outstanding < s.outstanding + pick.n) × IsSome (next_pick s)
+
+-- what a turn did with the pending deletion, or with the queues where none is pending
+abbrev pub Proceeds : Step → FrontState → FrontState → Type 0
+Proceeds Picked old new = picks_in new.log.items ≡ picks_in old.log.items + 1
+Proceeds Moved old new = (length old.log.items < length new.log.items) × HasNoPickMore (view_of old) (view_of new)
+Proceeds Idle old new = IsSame old new × IsWaiting old old.deletion
+Proceeds Stalled old new = IsSame old new × NeedsPlaces old
+
+-- the answer after something was done before it, or nothing: a pick stays a pick
+abbrev pub told_after : Bool → Step → Step
+told_after false step = step
+told_after true Picked = Picked
+told_after true Moved = Moved
+told_after true Idle = Moved
+told_after true Stalled = Moved
