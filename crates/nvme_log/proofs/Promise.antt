@@ -169,8 +169,8 @@ answered_over rules past later middle before e qid r is at_once deletes =
     let first : past ≡ (later ++ e ∷ []) ++ (middle ++ Closing qid r ∷ before) = is ∙ sym (append_assoc later (e ∷ []) (middle ++ Closing qid r ∷ before)) in
     let whole = fetches_over rules (later ++ e ∷ middle) before qid r (subst (Each (EffectsAtOnce rules)) all at_once) (subst (Each Deletes) all deletes) in
     let part = fetches_over rules middle before qid r
-        (Each-after (EffectsAtOnce rules) (later ++ e ∷ []) _ (subst (Each (EffectsAtOnce rules)) first at_once))
-        (Each-after Deletes (later ++ e ∷ []) _ (subst (Each Deletes) first deletes)) in
+    (Each-after (EffectsAtOnce rules) (later ++ e ∷ []) _ (subst (Each (EffectsAtOnce rules)) first at_once))
+    (Each-after Deletes (later ++ e ∷ []) _ (subst (Each Deletes) first deletes)) in
     ap (λ (p : Past). fetched p r) all ∙ whole.same ∙ sym part.same
 
 -- a whole account keeps the promise of a run

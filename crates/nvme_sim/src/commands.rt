@@ -4,11 +4,11 @@ ghost use Rattle.nvme_sim.specs.declared.runs.RunError.TheVariants as run_fault;
 
 use crate::entries::{OnceError, once};
 use crate::input::{InputError, take_input};
-use nvme_report::Mode;
 use crate::runs::{RunError, run};
 use clap::error::ErrorKind;
 use clap::{Arg, ArgAction, ArgMatches, Command, value_parser};
 use nvme_pool::MAX_WORKERS;
+use nvme_report::Mode;
 use std::alloc::{AllocError, Global};
 use std::io::{Read, Write};
 use std::sync::Wait;

@@ -21,9 +21,9 @@ ghost use Rattle.nvme_sim.specs.declared.runs.RunError.TheVariants as fault;
 mod preparing;
 mod settling;
 
-use nvme_report::{Mode, WriteFault, report};
 use nvme_front::{FrontError, Settled};
 use nvme_pool::{Gate, MAX_WORKERS, NoGate};
+use nvme_report::{Mode, WriteFault, report};
 use nvme_threads::{DriveError, Feeding, drive};
 use nvme_workload::{Workload, WorkloadError, read};
 use preparing::{first_too_long, prepare};

@@ -9,8 +9,7 @@ use Rattle.nvme_state.specs.Jobs.{Hands, job_in}
 use Rattle.nvme_log.specs.Dispatches.{AreJobs, dispatched}
 
 -- the jobs that the front handed, followed by those that it keeps, are those of the picked places of I/O queues, with tickets that count from
--- 0; each job handed has its result gained or waits for it; and what was gained are the results of jobs, and others, that are of no job that
--- waited
+-- 0; each job handed has its result gained or waits for it; and what was gained are the results of jobs, and others
 pub record AccountsForJobs (sizes : List ℕ) (past : Past) (h : Hands) : Type 0 where
   pub handed : List Job
   pub seat_handed : h.seat.handed ≡ h.came.handed ++ handed

@@ -7,9 +7,9 @@ ghost use Rattle.nvme_log.specs.Dispatches.{ExecutesOnce};
 ghost use Rattle.nvme_sim.specs.Runs.{AllSubmitted};
 ghost use Rattle.nvme_sim.specs.declared.runs.RunError.TheVariants as fault;
 
-use nvme_report::Mode;
 use crate::runs::RunError;
 use nvme_front::{Parts, SettleError, Settled, settle};
+use nvme_report::Mode;
 use std::alloc::Global;
 use std::sync::Wait;
 
