@@ -4,6 +4,7 @@ pub mod Choices
 pub mod Stands
 pub mod Observations
 pub mod PickLaws
+pub mod RoundLaws
 pub mod ExampleRuns
 pub mod MaskLemmas
 pub mod ServiceLemmas

@@ -1,5 +1,6 @@
 -- A board: what an arbiter keeps, and the open queues with the number of commands that wait in each.
-use Rattle.std.specs.Prelude.{List, Option, option_map, slice_set}
+use Rattle.std.specs.Prelude.{◌≡◌, List, length, Option, option_map, slice_set}
+use Rattle.nvme_arbiter.specs.Limits.{queue_limit}
 use Rattle.nvme_arbiter.specs.Settings.{ArbitrationFields}
 use Rattle.nvme_arbiter.specs.Observation.{IsObservation}
 use Rattle.nvme_arbiter.specs.History.{History}
@@ -14,6 +15,11 @@ use Rattle.nvme_arbiter.specs.declared.pick.Pick.{Pick}
 pub record BoardView : Type 0 where
   pub kept : Kept
   pub queues : List (Option OpenQueue)
+
+-- what is so of every board: it has a place for each identifier, and its counts are an observation
+pub record IsBoard (board : BoardView) : Type 0 where
+  pub size : length board.queues ≡ queue_limit
+  pub observed : IsObservation (seen_of board.queues)
 
 -- a board stands at a history as its arbiter does, and its counts are an observation
 pub record BoardStandsAt (mechanism : Mechanism) (first : ArbitrationFields) (past : History) (board : BoardView) : Type 0 where

@@ -1,7 +1,7 @@
 -- Worked examples, for which the definitions compute.
 use Rattle.std.specs.Prelude.{◌≡◌, ℕ, ◌-◌, ◌==◌, true, false, if◌then◌else◌, List, [], ◌∷◌, map, None}
-use Rattle.nvme_arbiter.specs.Settings.{ArbitrationFields}
-use Rattle.nvme_arbiter.specs.History.{Picked, History}
+use Rattle.nvme_arbiter.specs.Settings.{ArbitrationFields, settings_of}
+use Rattle.nvme_arbiter.specs.History.{Picked, Changed, History}
 use Rattle.nvme_arbiter.specs.Lawful.{lawful_pick, IsLawfulRun}
 use Rattle.nvme_arbiter.specs.declared.settings.Class.{Class}
 use Rattle.nvme_arbiter.specs.declared.settings.Class.TheVariants.{Admin, Urgent, High, Medium, Low}
@@ -77,3 +77,42 @@ with_urgent_picks = q 5 2 ∷ q 5 1 ∷ q 3 2 ∷ q 4 1 ∷ fresh 1 2 ∷ []
 -- its first pick is of a level
 abbrev pub urgent_behind_a_level : List Pick
 urgent_behind_a_level = q 3 2 ∷ []
+
+-- one pick, and then burst 4, High 3, Medium 1, Low 2: a round starts with all of the new credit, and q2 is after q1
+abbrev pub changed_fields : ArbitrationFields
+changed_fields = settings_of 0x0200_0102
+
+abbrev pub before_change : History
+before_change = Changed changed_fields ∷ played [] two_rounds (q 1 2 ∷ [])
+
+abbrev pub after_change : List Seen
+after_change = left two_rounds (q 1 2 ∷ [])
+
+abbrev pub after_change_picks : List Pick
+after_change_picks = q 2 3 ∷ q 3 1 ∷ q 4 2 ∷ fresh 1 3 ∷ []
+
+-- its first pick is within what the one before the change left of the new weight
+abbrev pub credit_outlives_change : List Pick
+credit_outlives_change = q 2 1 ∷ []
+
+-- Round Robin, two picks with burst 1, and then burst 2
+abbrev pub four_queues_before_change : History
+four_queues_before_change = Changed (settings_of 1) ∷ played [] four_queues (q 0 1 ∷ q 1 1 ∷ [])
+
+abbrev pub four_queues_after_change : List Seen
+four_queues_after_change = left four_queues (q 0 1 ∷ q 1 1 ∷ [])
+
+abbrev pub four_queues_after_change_picks : List Pick
+four_queues_after_change_picks = q 3 1 ∷ q 0 1 ∷ q 1 2 ∷ q 1 2 ∷ []
+
+-- its first pick is of the lowest ready queue in place of the next
+abbrev pub last_served_forgotten : List Pick
+last_served_forgotten = q 0 1 ∷ []
+
+-- two admin commands wait, with burst 4 and High 3
+abbrev pub two_admin : List Seen
+two_admin = queue 0 Admin 2 ∷ queue 1 High 3 ∷ []
+
+-- both are taken by one pick
+abbrev pub two_admin_at_once : List Pick
+two_admin_at_once = q 0 2 ∷ []

@@ -41,3 +41,7 @@ FreshWhereDue = (first : ArbitrationFields) (past : History) (seen : List Seen) 
 -- the events of a lawful run up to any of them are a lawful run
 abbrev pub PrefixesAreLawful : Type 0
 PrefixesAreLawful = (mechanism : Mechanism) (first : ArbitrationFields) (later past : History) → IsLawfulRun mechanism first (later ++ past) → IsLawfulRun mechanism first past
+
+-- in a lawful weighted run no more of a level was picked in this round than its weight
+abbrev pub UsedIsWithinWeight : Type 0
+UsedIsWithinWeight = (first : ArbitrationFields) (past : History) (level : Class) → IsLawfulRun Weighted first past → IsLevel level → used_in_round level past ≤ weight_of (settings_after first past) level

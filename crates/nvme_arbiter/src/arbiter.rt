@@ -25,16 +25,17 @@ impl Model for Arbiter {
 impl Arbiter {
     ghost use Rattle.std.specs.Prelude.{◌≡◌, ◌↔◌, [], ◌∷◌, List, Option, IsNone, MatchOption};
     ghost use Rattle.nvme_arbiter.specs.Settings.{ArbitrationFields, IsLevel};
-    ghost use Rattle.nvme_arbiter.specs.Observation.{IsObservation, IsIdle};
+    ghost use Rattle.nvme_arbiter.specs.Observation.{IsObservation, IsIdle, class_in};
     ghost use Rattle.nvme_arbiter.specs.History.{History, Picked, Changed};
     ghost use Rattle.nvme_arbiter.specs.Rules.{round_robin_pick, weighted_pick, level_pick, levels_pick};
     ghost use Rattle.nvme_arbiter.specs.Lawful.{lawful_pick};
-    ghost use Rattle.nvme_arbiter.specs.Standing.{StandsAt, pick_of, last_of, used_of};
+    ghost use Rattle.nvme_arbiter.specs.Standing.{StandsAt, pick_of, last_of, used_of, first_kept, kept_after, nothing_used};
     ghost use Rattle.nvme_arbiter.specs.declared.settings.Mechanism.{Mechanism};
 
     /// An arbiter that has served nothing yet. A round starts.
     pub fn new(mechanism: Mechanism, settings: Settings) -> Arbiter
-        ensures { StandsAt mechanism settings [] result }
+        ensures stands { StandsAt mechanism settings [] result }
+        ensures kept { result ≡ first_kept mechanism settings }
     {
         Arbiter {
             kept: Kept::new(mechanism, settings),
@@ -63,6 +64,7 @@ impl Arbiter {
         ensures lawful { (mechanism : Mechanism) (first : ArbitrationFields) (past : History) → StandsAt mechanism first past self.old → result ≡ lawful_pick mechanism first past seen.now }
         ensures none_where_idle { IsNone result ↔ IsIdle seen.now }
         ensures stands { (mechanism : Mechanism) (first : ArbitrationFields) (past : History) → StandsAt mechanism first past self.old → MatchOption result (self.new ≡ self.old) (λ pick. StandsAt mechanism first (Picked seen.now pick ∷ past) self.new) }
+        ensures kept { MatchOption result (self.new ≡ self.old) (λ pick. self.new ≡ kept_after self.old.mechanism self.old (class_in seen.now pick.qid) pick) }
         ensures none_changes_nothing { IsNone result → self.new ≡ self.old }
     {
         let pick = self.peek(seen)?;
@@ -72,7 +74,8 @@ impl Arbiter {
 
     /// Takes new settings, which start a new round. The identifiers served last stay.
     pub fn set(&mut self, settings: Settings)
-        ensures { (mechanism : Mechanism) (first : ArbitrationFields) (past : History) → StandsAt mechanism first past self.old → StandsAt mechanism first (Changed settings ∷ past) self.new }
+        ensures stands { (mechanism : Mechanism) (first : ArbitrationFields) (past : History) → StandsAt mechanism first past self.old → StandsAt mechanism first (Changed settings ∷ past) self.new }
+        ensures kept { self.new ≡ record self.old { settings = settings; used = nothing_used } }
     {
         self.kept.set(settings);
     }

@@ -16,29 +16,26 @@ pub struct Board {
 }
 
 impl Model for Board {
-    ghost use Rattle.nvme_arbiter.specs.Board.{BoardView};
+    ghost use Rattle.nvme_arbiter.specs.Board.{BoardView, IsBoard};
 
     ghost Value = { BoardView };
 
     ghost view = { λ b. record { kept = b.kept; queues = b.queues } };
 
-    ghost use Rattle.nvme_arbiter.specs.Observation.{IsObservation};
-    ghost use Rattle.nvme_arbiter.specs.Queues.{seen_of};
-
-    ghost invariant = { λ b. IsObservation (seen_of b.queues) };
+    ghost invariant = { λ b. IsBoard (record { kept = b.kept; queues = b.queues }) };
 }
 
 impl Board {
     ghost use Rattle.std.specs.Prelude.{◌≡◌, ◌↔◌, ◌+◌, ◌<◌, ◌≤◌, [], ◌∷◌, List, Option, Some, None, IsSome, IsNone, IsSomeAnd, IfSome, MatchOption, replicate, slice_set};
     ghost use Rattle.nvme_arbiter.specs.Limits.{highest_qid, highest_count, queue_limit};
     ghost use Rattle.nvme_arbiter.specs.Settings.{ArbitrationFields, IsLevel};
-    ghost use Rattle.nvme_arbiter.specs.Observation.{IsObservation, IsIdle};
+    ghost use Rattle.nvme_arbiter.specs.Observation.{IsObservation, IsIdle, class_in};
     ghost use Rattle.nvme_arbiter.specs.History.{History, Picked, Changed};
     ghost use Rattle.nvme_arbiter.specs.Rules.{round_robin_pick, weighted_pick, admin_pick, urgent_pick, level_pick, levels_pick};
     ghost use Rattle.nvme_arbiter.specs.Lawful.{lawful_pick};
-    ghost use Rattle.nvme_arbiter.specs.Standing.{pick_of, last_of, used_of};
-    ghost use Rattle.nvme_arbiter.specs.Queues.{seen_of, queue_at};
-    ghost use Rattle.nvme_arbiter.specs.Board.{BoardStandsAt, queues_after};
+    ghost use Rattle.nvme_arbiter.specs.Standing.{pick_of, last_of, used_of, first_kept, kept_after, nothing_used};
+    ghost use Rattle.nvme_arbiter.specs.Queues.{seen_of, queue_at, FitsUnder};
+    ghost use Rattle.nvme_arbiter.specs.Board.{IsBoard, BoardStandsAt, queues_after};
     ghost use Rattle.nvme_arbiter.specs.declared.settings.Mechanism.{Mechanism};
     ghost use Rattle.nvme_arbiter.specs.declared.settings.Class.TheVariants.{Admin};
 
@@ -46,6 +43,8 @@ impl Board {
     pub fn new(mechanism: Mechanism, settings: Settings) -> Board
         ensures stands { BoardStandsAt mechanism settings [] result }
         ensures closed { result.queues ≡ replicate queue_limit None }
+        ensures kept { result.kept ≡ first_kept mechanism settings }
+        ensures is_board { IsBoard result }
     {
         Board {
             kept: Kept::new(mechanism, settings),
@@ -59,7 +58,9 @@ impl Board {
         requires not_open { queue_at self.old.queues qid ≡ None }
         requires admin { (class ≡ Admin) ↔ (qid ≡ 0) }
         ensures opened { self.new ≡ record self.old { queues = slice_set self.old.queues qid (Some (record { class = class; count = 0 })) } }
+        ensures there { queue_at self.new.queues qid ≡ Some (record { class = class; count = 0 }) }
         ensures stands { (mechanism : Mechanism) (first : ArbitrationFields) (past : History) → BoardStandsAt mechanism first past self.old → BoardStandsAt mechanism first past self.new }
+        ensures is_board { IsBoard self.new }
     {
         self.queues
             .put(qid, class, Some(OpenQueue { class, count: 0 }));
@@ -70,6 +71,7 @@ impl Board {
         requires { IsSome (queue_at self.old.queues qid) }
         ensures closed { self.new ≡ record self.old { queues = slice_set self.old.queues qid None } }
         ensures stands { (mechanism : Mechanism) (first : ArbitrationFields) (past : History) → BoardStandsAt mechanism first past self.old → BoardStandsAt mechanism first past self.new }
+        ensures is_board { IsBoard self.new }
     {
         if let Some(queue) = self.queues.queue(qid) {
             self.queues.put(qid, queue.class, None);
@@ -81,6 +83,7 @@ impl Board {
         requires { IsSomeAnd (queue_at self.old.queues qid) (λ queue. queue.count < highest_count) }
         ensures came { IfSome (queue_at self.old.queues qid) (λ queue. self.new ≡ record self.old { queues = slice_set self.old.queues qid (Some (record queue { count = queue.count + 1 })) }) }
         ensures stands { (mechanism : Mechanism) (first : ArbitrationFields) (past : History) → BoardStandsAt mechanism first past self.old → BoardStandsAt mechanism first past self.new }
+        ensures is_board { IsBoard self.new }
     {
         if let Some(queue) = self.queues.queue(qid) {
             let queue = OpenQueue {
@@ -93,7 +96,9 @@ impl Board {
 
     /// The queue of an identifier, where it is open.
     pub fn queue(&self, qid: u16) -> Option<OpenQueue>
-        ensures { result ≡ queue_at self.now.queues qid }
+        ensures is_there { result ≡ queue_at self.now.queues qid }
+        ensures fits { FitsUnder qid result }
+        ensures is_board { IsBoard self.now }
     {
         self.queues.queue(qid)
     }
@@ -102,6 +107,7 @@ impl Board {
     pub fn seen(&self) -> ArrayVec<Seen, QUEUE_LIMIT>
         ensures seen { result.items ≡ seen_of self.now.queues }
         ensures observed { IsObservation (seen_of self.now.queues) }
+        ensures is_board { IsBoard self.now }
     {
         self.queues.seen()
     }
@@ -111,6 +117,7 @@ impl Board {
         ensures by_what_is_kept { result ≡ pick_of self.now.kept (seen_of self.now.queues) }
         ensures lawful { (mechanism : Mechanism) (first : ArbitrationFields) (past : History) → BoardStandsAt mechanism first past self.now → result ≡ lawful_pick mechanism first past (seen_of self.now.queues) }
         ensures none_where_idle { IsNone result ↔ IsIdle (seen_of self.now.queues) }
+        ensures is_board { IsBoard self.now }
     {
         match self.kept.mechanism {
             Mechanism::RoundRobin => self.round_robin(),
@@ -127,6 +134,8 @@ impl Board {
         ensures none_where_idle { IsNone result ↔ IsIdle (seen_of self.old.queues) }
         ensures stands { (mechanism : Mechanism) (first : ArbitrationFields) (past : History) → BoardStandsAt mechanism first past self.old → MatchOption result (self.new ≡ self.old) (λ pick. BoardStandsAt mechanism first (Picked (seen_of self.old.queues) pick ∷ past) self.new) }
         ensures queues { MatchOption result (self.new ≡ self.old) (λ pick. self.new.queues ≡ queues_after self.old.queues pick) }
+        ensures kept { MatchOption result (self.new.kept ≡ self.old.kept) (λ pick. self.new.kept ≡ kept_after self.old.kept.mechanism self.old.kept (class_in (seen_of self.old.queues) pick.qid) pick) }
+        ensures is_board { IsBoard self.new }
     {
         let pick = self.peek()?;
         let class = self.queues.class_of(pick.qid);
@@ -139,6 +148,8 @@ impl Board {
     pub fn set(&mut self, settings: Settings)
         ensures stands { (mechanism : Mechanism) (first : ArbitrationFields) (past : History) → BoardStandsAt mechanism first past self.old → BoardStandsAt mechanism first (Changed settings ∷ past) self.new }
         ensures queues { self.new.queues ≡ self.old.queues }
+        ensures kept { self.new.kept ≡ record self.old.kept { settings = settings; used = nothing_used } }
+        ensures is_board { IsBoard self.new }
     {
         self.kept.set(settings);
     }

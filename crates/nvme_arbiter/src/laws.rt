@@ -1,9 +1,9 @@
 // Laws over the definitions.
 ghost use Rattle.std.specs.Prelude.{[], ◌∷◌};
 ghost use Rattle.nvme_arbiter.specs.Settings.{WritesBack, ReadsBack, settings_of};
-ghost use Rattle.nvme_arbiter.specs.Laws.{OneLawfulPick, LawfulPicksAreMeasured, FreshWhereDue, PrefixesAreLawful};
+ghost use Rattle.nvme_arbiter.specs.Laws.{OneLawfulPick, LawfulPicksAreMeasured, FreshWhereDue, PrefixesAreLawful, UsedIsWithinWeight};
 ghost use Rattle.nvme_arbiter.specs.Lawful.{IsLawfulRun};
-ghost use Rattle.nvme_arbiter.specs.Examples.{EndsWith, played, q, fresh, four_queues, four_queues_picks, four_queues_restarted, full_queue, two_rounds, two_rounds_picks, two_rounds_not_fresh, before_urgent, with_urgent, with_urgent_picks, urgent_behind_a_level};
+ghost use Rattle.nvme_arbiter.specs.Examples.{EndsWith, played, q, fresh, four_queues, four_queues_picks, four_queues_restarted, full_queue, two_rounds, two_rounds_picks, two_rounds_not_fresh, before_urgent, with_urgent, with_urgent_picks, urgent_behind_a_level, before_change, after_change, after_change_picks, credit_outlives_change, four_queues_before_change, four_queues_after_change, four_queues_after_change_picks, last_served_forgotten, two_admin, two_admin_at_once};
 ghost use Rattle.nvme_arbiter.specs.declared.settings.Mechanism.TheVariants.{RoundRobin, Weighted};
 
 /// A CDW11 that is read and written back has bits 07:03 as 0 and every other bit as it was, and settings that are
@@ -34,6 +34,11 @@ pub fn prefixes_are_lawful()
     ensures { PrefixesAreLawful }
 {}
 
+/// In a lawful weighted run no more commands of a level were picked in this round than its weight.
+pub fn used_is_within_weight()
+    ensures { UsedIsWithinWeight }
+{}
+
 /// Round robin with burst 1: q0 with 2, q1 with 5, q2 with 0, q3 with 1.
 pub fn round_robin_four_queues()
     ensures lawful { EndsWith RoundRobin (settings_of 0) [] four_queues four_queues_picks }
@@ -57,4 +62,21 @@ pub fn weighted_two_rounds()
 pub fn urgent_cuts_in()
     ensures lawful { IsLawfulRun Weighted (settings_of 0x0301_0001) (played before_urgent with_urgent with_urgent_picks) }
     ensures other { IsLawfulRun Weighted (settings_of 0x0301_0001) (played before_urgent with_urgent urgent_behind_a_level) → ⊥ }
+{}
+
+/// Picks over a change of the settings. The new settings hold, a round starts with all of its credit, and what was
+/// served last stays.
+pub fn settings_change()
+    ensures weighted { IsLawfulRun Weighted (settings_of 0x0301_0001) (played before_change after_change after_change_picks) }
+    ensures no_old_credit { IsLawfulRun Weighted (settings_of 0x0301_0001) (played before_change after_change credit_outlives_change) → ⊥ }
+    ensures round_robin { EndsWith RoundRobin (settings_of 0) four_queues_before_change four_queues_after_change four_queues_after_change_picks }
+    ensures no_restart { IsLawfulRun RoundRobin (settings_of 0) (played four_queues_before_change four_queues_after_change last_served_forgotten) → ⊥ }
+{}
+
+/// Burst 4, High 3: two admin commands wait, and a pick takes one of them under either mechanism.
+pub fn two_admin_commands()
+    ensures round_robin { EndsWith RoundRobin (settings_of 0x0200_0002) [] two_admin (q 0 1 ∷ q 1 3 ∷ q 0 1 ∷ []) }
+    ensures not_by_burst { IsLawfulRun RoundRobin (settings_of 0x0200_0002) (played [] two_admin two_admin_at_once) → ⊥ }
+    ensures weighted { EndsWith Weighted (settings_of 0x0200_0002) [] two_admin (q 0 1 ∷ q 0 1 ∷ q 1 3 ∷ []) }
+    ensures not_by_burst_weighted { IsLawfulRun Weighted (settings_of 0x0200_0002) (played [] two_admin two_admin_at_once) → ⊥ }
 {}

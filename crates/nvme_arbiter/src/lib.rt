@@ -19,8 +19,8 @@ pub use arbiter::Arbiter;
 pub use board::Board;
 pub use laws::{
     fresh_where_due, lawful_picks_are_measured, no_burst_limit, one_lawful_pick,
-    prefixes_are_lawful, round_robin_four_queues, settings_and_cdw11, urgent_cuts_in,
-    weighted_two_rounds,
+    prefixes_are_lawful, round_robin_four_queues, settings_and_cdw11, settings_change,
+    two_admin_commands, urgent_cuts_in, used_is_within_weight, weighted_two_rounds,
 };
 pub use limits::{HIGHEST_COUNT, HIGHEST_QID, QUEUE_LIMIT};
 pub use observation::is_observation;

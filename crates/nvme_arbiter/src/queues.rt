@@ -41,7 +41,7 @@ impl Model for Queues {
 }
 
 impl Queues {
-    ghost use Rattle.std.specs.Prelude.{◌≡◌, ◌≤◌, ◌&&◌, nat_lt, replicate, None, option_map, find, slice_set};
+    ghost use Rattle.std.specs.Prelude.{◌≡◌, ◌≤◌, ◌&&◌, nat_lt, length, replicate, None, option_map, find, slice_set};
     ghost use Rattle.std.specs.List.{filter};
     ghost use Rattle.nvme_arbiter.specs.Limits.{highest_qid, queue_limit};
     ghost use Rattle.nvme_arbiter.specs.Observation.{IsObservation, is_wanted, class_in};
@@ -91,6 +91,7 @@ impl Queues {
     pub fn take(&mut self, qid: u16, n: u16)
         ensures taken { self.new ≡ slice_set self.old qid (option_map (fewer n) (queue_at self.old qid)) }
         ensures observed { IsObservation (seen_of self.new) }
+        ensures size { length self.new ≡ queue_limit }
     {
         let _ = &self.slots;
         if let Some(queue) = self.queue(qid) {
@@ -110,6 +111,7 @@ impl Queues {
         requires is_of { IsOf class queue }
         ensures is_put { self.new ≡ slice_set self.old qid queue }
         ensures observed { IsObservation (seen_of self.new) }
+        ensures size { length self.new ≡ queue_limit }
     {
         let ready = has_waiting(queue);
         self.slots[usize::from(qid)] = queue;

@@ -14,7 +14,7 @@ note-requires c =
     let first : pick_of c.args.self.now.kept (seen_of c.args.self.now.queues) ≡ Some pick = sym c.in_ok-pick.ensures.by_what_is_kept in
     let second : pick_of c.self.inside.kept (seen_of c.args.self.now.queues) ≡ Some pick = subst (λ k. pick_of k (seen_of c.args.self.now.queues) ≡ Some pick) kept first in
     let third : pick_of c.self.inside.kept (seen_of c.self.inside.queues) ≡ Some pick = subst (λ q. pick_of c.self.inside.kept (seen_of q) ≡ Some pick) queues second in
-    rw c.class_of-class.ensures (within c.self.inside.kept (seen_of c.self.inside.queues) pick c.self.invariant third)
+    rw c.class_of-class.ensures (within c.self.inside.kept (seen_of c.self.inside.queues) pick c.self.invariant.observed third)
 
 pub returns-clause-stands : goal.returns-clause-stands
 returns-clause-stands c = λ m first past h.
