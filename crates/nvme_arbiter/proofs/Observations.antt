@@ -2,7 +2,7 @@
 use Rattle.std.proofs.Common.{◌≡◌, ℕ, inl, inr, ◌+◌, ◌≤◌, ◌==◌, ◌&&◌, Bool, true, false, nat_le, List, [], ◌∷◌, refl, sym, ◌∙◌, arith}
 use Rattle.std.specs.Prelude.{All, AllPairs, ◌↔◌}
 use mathlib.Core.Bool.{beq}
-use Rattle.std.proofs.lemmas.Bool.{and_parts, and_from, leb-true, le-leb, eqb-true, eq-eqb, cases_Bool}
+use Rattle.std.proofs.lemmas.Bool.{and_parts, and_from, leb-true, le-leb, eqb-true, eq-eqb, cases_Bool, true≢false}
 use Rattle.std.proofs.lemmas.List.Elements.{All-head, All-tail, All-nil, All-cons}
 use Rattle.std.proofs.lemmas.List.Kept.{AllPairs-cons}
 use Rattle.nvme_arbiter.specs.Limits.{highest_qid, highest_count}
@@ -82,3 +82,7 @@ observation_by_test seen h = (observed_from 0 seen h).observed
 
 pub tested : (seen : List Seen) → (is_observation_from 0 seen ≡ true) ↔ IsObservation seen
 tested seen = (observation_by_test seen, λ o. from_observed 0 seen (λ k d h. omega arith) o.each o.ascending)
+
+-- a list that fails the test is no observation
+pub no_observation : (seen : List Seen) → is_observation_from 0 seen ≡ false → IsObservation seen → ⊥
+no_observation seen f o = true≢false (sym ((tested seen).1 o) ∙ f)

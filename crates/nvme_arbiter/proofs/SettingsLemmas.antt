@@ -1,7 +1,7 @@
 -- The settings and their CDW11.
 use Rattle.std.proofs.Common.{◌≡◌, ℕ, ◌+◌, ◌-◌, ◌*◌, ◌/◌, ◌%◌, ◌^◌, ◌<◌, arith, ap, sym, ◌∙◌, bit_and}
 use Rattle.std.proofs.lemmas.Nat.{and_block, and_mask}
-use Rattle.nvme_arbiter.specs.Settings.{settings_of, cdw11_of, WritesBack, ReadsBack}
+use Rattle.nvme_arbiter.specs.Settings.{FitsFields, settings_of, cdw11_of, WritesBack, ReadsBack}
 
 -- the bits above the lowest byte, all kept
 kept_high : (a : ℕ) → a < 2 ^ 24 → bit_and a (2 ^ 24 - 1) ≡ a
@@ -30,3 +30,6 @@ reads_back s h =
     let c : (settings_of (cdw11_of s)).medium ≡ s.medium = omega arith in
     let d : (settings_of (cdw11_of s)).high ≡ s.high = omega arith in
     λ i. record { burst_code = a i; low = b i; medium = c i; high = d i }
+
+pub fits : (x : ℕ) → FitsFields (settings_of x)
+fits x = record { burst_code = omega arith; low = omega arith; medium = omega arith; high = omega arith }

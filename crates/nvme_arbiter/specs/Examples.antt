@@ -1,5 +1,5 @@
 -- Worked examples, for which the definitions compute.
-use Rattle.std.specs.Prelude.{◌≡◌, ℕ, ◌-◌, ◌==◌, true, false, if◌then◌else◌, List, [], ◌∷◌, map, None}
+use Rattle.std.specs.Prelude.{◌≡◌, ℕ, ◌-◌, ◌==◌, true, false, if◌then◌else◌, List, [], ◌∷◌, map, Option, Some, None}
 use Rattle.nvme_arbiter.specs.Settings.{ArbitrationFields, settings_of}
 use Rattle.nvme_arbiter.specs.History.{Picked, Changed, History}
 use Rattle.nvme_arbiter.specs.Lawful.{lawful_pick, IsLawfulRun}
@@ -8,6 +8,7 @@ use Rattle.nvme_arbiter.specs.declared.settings.Class.TheVariants.{Admin, Urgent
 use Rattle.nvme_arbiter.specs.declared.settings.Mechanism.{Mechanism}
 use Rattle.nvme_arbiter.specs.declared.pick.Seen.{Seen}
 use Rattle.nvme_arbiter.specs.declared.pick.Pick.{Pick}
+use Rattle.nvme_arbiter.specs.declared.pick.OpenQueue.{OpenQueue}
 
 abbrev pub queue : ℕ → Class → ℕ → Seen
 queue qid class count = record { qid = qid; class = class; count = count }
@@ -109,10 +110,22 @@ four_queues_after_change_picks = q 3 1 ∷ q 0 1 ∷ q 1 2 ∷ q 1 2 ∷ []
 abbrev pub last_served_forgotten : List Pick
 last_served_forgotten = q 0 1 ∷ []
 
--- two admin commands wait, with burst 4 and High 3
+-- two admin commands wait beside a queue of a level and an urgent one, with burst 4 and High 3
 abbrev pub two_admin : List Seen
-two_admin = queue 0 Admin 2 ∷ queue 1 High 3 ∷ []
+two_admin = queue 0 Admin 2 ∷ queue 1 High 3 ∷ queue 2 Urgent 1 ∷ []
 
 -- both are taken by one pick
 abbrev pub two_admin_at_once : List Pick
 two_admin_at_once = q 0 2 ∷ []
+
+-- an observation with the highest identifier and the highest count
+abbrev pub at_limits : List Seen
+at_limits = queue 0 Admin 255 ∷ queue 1 Urgent 0 ∷ queue 16 Low 255 ∷ []
+
+-- queues in no order
+abbrev pub in_no_order : List Seen
+in_no_order = queue 3 Low 1 ∷ queue 1 Low 1 ∷ queue 2 Low 1 ∷ []
+
+-- the queues of a board: identifiers 0 and 2 are open
+abbrev pub on_board : ℕ → List (Option OpenQueue)
+on_board count = Some (record { class = Admin; count = 2 }) ∷ None ∷ Some (record { class = Low; count = count }) ∷ []

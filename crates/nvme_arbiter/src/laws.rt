@@ -1,16 +1,23 @@
 // Laws over the definitions.
-ghost use Rattle.std.specs.Prelude.{[], ◌∷◌};
-ghost use Rattle.nvme_arbiter.specs.Settings.{WritesBack, ReadsBack, settings_of};
+ghost use Rattle.std.specs.Prelude.{◌≡◌, ℕ, ◌+◌, [], ◌∷◌, Some, None};
+ghost use Rattle.nvme_arbiter.specs.Settings.{WritesBack, ReadsBack, FitsFields, settings_of};
+ghost use Rattle.nvme_arbiter.specs.Limits.{highest_qid, queue_limit};
+ghost use Rattle.nvme_arbiter.specs.Observation.{IsObservation};
+ghost use Rattle.nvme_arbiter.specs.Next.{next};
+ghost use Rattle.nvme_arbiter.specs.Queues.{seen_of, queue_at};
+ghost use Rattle.nvme_arbiter.specs.Board.{queues_after};
 ghost use Rattle.nvme_arbiter.specs.Laws.{OneLawfulPick, LawfulPicksAreMeasured, FreshWhereDue, PrefixesAreLawful, UsedIsWithinWeight};
 ghost use Rattle.nvme_arbiter.specs.Lawful.{IsLawfulRun};
-ghost use Rattle.nvme_arbiter.specs.Examples.{EndsWith, played, q, fresh, four_queues, four_queues_picks, four_queues_restarted, full_queue, two_rounds, two_rounds_picks, two_rounds_not_fresh, before_urgent, with_urgent, with_urgent_picks, urgent_behind_a_level, before_change, after_change, after_change_picks, credit_outlives_change, four_queues_before_change, four_queues_after_change, four_queues_after_change_picks, last_served_forgotten, two_admin, two_admin_at_once};
+ghost use Rattle.nvme_arbiter.specs.Examples.{EndsWith, played, q, fresh, four_queues, four_queues_picks, four_queues_restarted, full_queue, two_rounds, two_rounds_picks, two_rounds_not_fresh, before_urgent, with_urgent, with_urgent_picks, urgent_behind_a_level, before_change, after_change, after_change_picks, credit_outlives_change, four_queues_before_change, four_queues_after_change, four_queues_after_change_picks, last_served_forgotten, two_admin, two_admin_at_once, queue, at_limits, in_no_order, on_board};
 ghost use Rattle.nvme_arbiter.specs.declared.settings.Mechanism.TheVariants.{RoundRobin, Weighted};
+ghost use Rattle.nvme_arbiter.specs.declared.settings.Class.TheVariants.{Admin, Urgent, Low};
 
 /// A CDW11 that is read and written back has bits 07:03 as 0 and every other bit as it was, and settings that are
-/// written and read back are the same.
+/// written and read back are the same. The fields of every CDW11 fit their bits.
 pub fn settings_and_cdw11()
     ensures writes_back { WritesBack }
     ensures reads_back { ReadsBack }
+    ensures fits { (x : ℕ) → FitsFields (settings_of x) }
 {}
 
 /// The lawful pick after a history is the only one.
@@ -73,10 +80,40 @@ pub fn settings_change()
     ensures no_restart { IsLawfulRun RoundRobin (settings_of 0) (played four_queues_before_change four_queues_after_change last_served_forgotten) → ⊥ }
 {}
 
-/// Burst 4, High 3: two admin commands wait, and a pick takes one of them under either mechanism.
+/// Burst 4, High 3: two admin commands wait, and a pick takes one of them under either mechanism. Under the weighted
+/// one both come before an urgent queue.
 pub fn two_admin_commands()
-    ensures round_robin { EndsWith RoundRobin (settings_of 0x0200_0002) [] two_admin (q 0 1 ∷ q 1 3 ∷ q 0 1 ∷ []) }
+    ensures round_robin { EndsWith RoundRobin (settings_of 0x0200_0002) [] two_admin (q 0 1 ∷ q 1 3 ∷ q 2 1 ∷ q 0 1 ∷ []) }
     ensures not_by_burst { IsLawfulRun RoundRobin (settings_of 0x0200_0002) (played [] two_admin two_admin_at_once) → ⊥ }
-    ensures weighted { EndsWith Weighted (settings_of 0x0200_0002) [] two_admin (q 0 1 ∷ q 0 1 ∷ q 1 3 ∷ []) }
+    ensures weighted { EndsWith Weighted (settings_of 0x0200_0002) [] two_admin (q 0 1 ∷ q 0 1 ∷ q 2 1 ∷ q 1 3 ∷ []) }
     ensures not_by_burst_weighted { IsLawfulRun Weighted (settings_of 0x0200_0002) (played [] two_admin two_admin_at_once) → ⊥ }
+{}
+
+/// An observation at its limits, and lists that are none: an identifier above 16, a count above 255, another class
+/// for queue 0, class Admin for another queue, an identifier twice, and identifiers that descend.
+pub fn limits_of_observations()
+    ensures at_limits { IsObservation at_limits }
+    ensures limits { queue_limit ≡ highest_qid + 1 }
+    ensures qid_too_high { IsObservation (queue 17 Low 1 ∷ []) → ⊥ }
+    ensures count_too_high { IsObservation (queue 1 Low 256 ∷ []) → ⊥ }
+    ensures admin_of_a_level { IsObservation (queue 0 Low 1 ∷ []) → ⊥ }
+    ensures other_admin { IsObservation (queue 1 Admin 1 ∷ []) → ⊥ }
+    ensures twice { IsObservation (queue 1 Low 1 ∷ queue 1 Urgent 1 ∷ []) → ⊥ }
+    ensures descending { IsObservation (queue 2 Low 1 ∷ queue 1 Low 1 ∷ []) → ⊥ }
+{}
+
+/// The next of q3, q1 and q2, which stand in no order.
+pub fn next_by_identifier()
+    ensures least { next None in_no_order ≡ Some (queue 1 Low 1) }
+    ensures after { next (Some 1) in_no_order ≡ Some (queue 2 Low 1) }
+    ensures around { next (Some 3) in_no_order ≡ Some (queue 1 Low 1) }
+    ensures none { next (Some 1) [] ≡ None }
+{}
+
+/// A board on which q0 and q2 are open, of which two commands are taken.
+pub fn queues_of_a_board()
+    ensures seen { seen_of (on_board 5) ≡ queue 0 Admin 2 ∷ queue 2 Low 5 ∷ [] }
+    ensures closed { queue_at (on_board 5) 1 ≡ None }
+    ensures there { queue_at (on_board 5) 2 ≡ Some (record { class = Low; count = 5 }) }
+    ensures taken { queues_after (on_board 5) (q 2 2) ≡ on_board 3 }
 {}
