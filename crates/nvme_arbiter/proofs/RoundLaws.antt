@@ -1,4 +1,4 @@
--- What is used in a round of a lawful run.
+-- What is used in a round of a lawful run, and where nothing is picked.
 use Rattle.std.proofs.Common.{◌≡◌, ℕ, ◌+◌, ◌<◌, ◌≤◌, inl, inr, min, Bool, true, false, List, [], ◌∷◌, sym, ap, subst, ◌∙◌, arith}
 use Rattle.std.specs.Prelude.{Option, Some, if◌then◌else◌}
 use Rattle.std.proofs.lemmas.Bool.{cases_Bool, cond-false}
@@ -7,11 +7,12 @@ use Rattle.nvme_arbiter.specs.declared.pick.Seen.{Seen}
 use Rattle.nvme_arbiter.specs.declared.pick.Pick.{Pick}
 use Rattle.nvme_arbiter.specs.declared.settings.Class.{Class}
 use Rattle.nvme_arbiter.specs.declared.settings.Class.TheVariants.{Admin, Urgent}
+use Rattle.nvme_arbiter.specs.declared.settings.Mechanism.TheVariants.{RoundRobin, Weighted}
 use Rattle.nvme_arbiter.specs.Observation.{is_class, IsObservation, class_in}
-use Rattle.nvme_arbiter.specs.History.{Picked, Changed, settings_after, last_served_of, is_in_class, taken, used_in_round}
+use Rattle.nvme_arbiter.specs.History.{Picked, Changed, settings_after, last_served, last_served_of, is_in_class, taken, used_in_round}
 use Rattle.nvme_arbiter.specs.Rules.{within_burst, credit}
-use Rattle.nvme_arbiter.specs.Laws.{UsedIsWithinWeight}
-use Rattle.nvme_arbiter.proofs.Choices.{same_class, Choice, of_admin, of_urgent, of_level, weighted_some}
+use Rattle.nvme_arbiter.specs.Laws.{UsedIsWithinWeight, NoneWhereIdle}
+use Rattle.nvme_arbiter.proofs.Choices.{same_class, Choice, of_admin, of_urgent, of_level, weighted_some, round_robin_idle, weighted_idle}
 use Rattle.nvme_arbiter.proofs.Stands.{from_in}
 
 -- a pick takes of its own class alone
@@ -56,3 +57,8 @@ used_within first (Changed settings ∷ past) level r l = omega arith
 used_within first (Picked seen pick ∷ past) level r l =
     pick_within (settings_after first past) (λ c. last_served_of c past) (λ k. used_in_round k past) seen pick level r.0 l (used_within first past level r.2 l)
     (weighted_some (settings_after first past) (λ c. last_served_of c past) (λ k. used_in_round k past) seen pick r.1)
+
+-- ---- where nothing is picked
+pub idle_law : NoneWhereIdle
+idle_law RoundRobin first past seen = round_robin_idle (settings_after first past) (last_served past) seen
+idle_law Weighted first past seen = weighted_idle (settings_after first past) (λ c. last_served_of c past) (λ k. used_in_round k past) seen

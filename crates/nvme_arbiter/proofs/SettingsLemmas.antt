@@ -1,7 +1,8 @@
 -- The settings and their CDW11.
-use Rattle.std.proofs.Common.{◌≡◌, ℕ, ◌+◌, ◌-◌, ◌*◌, ◌/◌, ◌%◌, ◌^◌, ◌<◌, arith, ap, sym, ◌∙◌, bit_and}
+use Rattle.std.proofs.Common.{◌≡◌, ℕ, ◌+◌, ◌-◌, ◌*◌, ◌/◌, ◌%◌, ◌^◌, ◌<◌, arith, refl, ap, sym, ◌∙◌, bit_and}
 use Rattle.std.proofs.lemmas.Nat.{and_block, and_mask}
-use Rattle.nvme_arbiter.specs.Settings.{FitsFields, settings_of, cdw11_of, WritesBack, ReadsBack}
+use Rattle.nvme_arbiter.specs.Settings.{FitsFields, settings_of, cdw11_of, WritesBack, ReadsBack, OnlyLevelsHaveWeights}
+use Rattle.nvme_arbiter.specs.declared.settings.Class.TheVariants.{Admin, Urgent, High, Medium, Low}
 
 -- the bits above the lowest byte, all kept
 kept_high : (a : ℕ) → a < 2 ^ 24 → bit_and a (2 ^ 24 - 1) ≡ a
@@ -33,3 +34,10 @@ reads_back s h =
 
 pub fits : (x : ℕ) → FitsFields (settings_of x)
 fits x = record { burst_code = omega arith; low = omega arith; medium = omega arith; high = omega arith }
+
+pub only_levels : OnlyLevelsHaveWeights
+only_levels s High h = absurd (h tt)
+only_levels s Medium h = absurd (h tt)
+only_levels s Low h = absurd (h tt)
+only_levels s Admin h = refl
+only_levels s Urgent h = refl

@@ -1,9 +1,9 @@
 -- Laws of lawful picks and lawful runs, which test the definitions.
-use Rattle.std.specs.Prelude.{◌≡◌, ◌≢◌, ◌↔◌, ℕ, ◌≤◌, ◌==◌, ◌++◌, true, List, [], find, Some}
+use Rattle.std.specs.Prelude.{◌≡◌, ◌≢◌, ◌↔◌, ℕ, ◌≤◌, ◌==◌, ◌++◌, true, List, [], find, Some, IsNone}
 use Rattle.nvme_arbiter.specs.Settings.{ArbitrationFields, burst_of, weight_of, IsLevel}
-use Rattle.nvme_arbiter.specs.Observation.{IsObservation, ready_of}
+use Rattle.nvme_arbiter.specs.Observation.{IsObservation, IsIdle, ready_of}
 use Rattle.nvme_arbiter.specs.History.{History, settings_after, used_in_round}
-use Rattle.nvme_arbiter.specs.Lawful.{IsLawfulPick, IsLawfulRun}
+use Rattle.nvme_arbiter.specs.Lawful.{lawful_pick, IsLawfulPick, IsLawfulRun}
 use Rattle.nvme_arbiter.specs.declared.settings.Class.{Class}
 use Rattle.nvme_arbiter.specs.declared.settings.Class.TheVariants.{Admin, Urgent}
 use Rattle.nvme_arbiter.specs.declared.settings.Mechanism.{Mechanism}
@@ -45,3 +45,7 @@ PrefixesAreLawful = (mechanism : Mechanism) (first : ArbitrationFields) (later p
 -- in a lawful weighted run no more of a level was picked in this round than its weight
 abbrev pub UsedIsWithinWeight : Type 0
 UsedIsWithinWeight = (first : ArbitrationFields) (past : History) (level : Class) → IsLawfulRun Weighted first past → IsLevel level → used_in_round level past ≤ weight_of (settings_after first past) level
+
+-- nothing is picked exactly where every count is 0
+abbrev pub NoneWhereIdle : Type 0
+NoneWhereIdle = (mechanism : Mechanism) (first : ArbitrationFields) (past : History) (seen : List Seen) → IsNone (lawful_pick mechanism first past seen) ↔ IsIdle seen

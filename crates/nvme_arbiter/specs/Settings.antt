@@ -56,3 +56,7 @@ WritesBack = (x : ℕ) → x < 2 ^ 32 → cdw11_of (settings_of x) ≡ bit_and x
 -- settings that are written and read back are the same
 abbrev pub ReadsBack : Type 0
 ReadsBack = (s : ArbitrationFields) → FitsFields s → settings_of (cdw11_of s) ≡ s
+
+-- a class that is no level has no weight
+abbrev pub OnlyLevelsHaveWeights : Type 0
+OnlyLevelsHaveWeights = (s : ArbitrationFields) (class : Class) → (IsLevel class → ⊥) → weight_of s class ≡ 0

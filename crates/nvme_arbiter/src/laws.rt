@@ -1,23 +1,25 @@
 // Laws over the definitions.
 ghost use Rattle.std.specs.Prelude.{◌≡◌, ℕ, ◌+◌, [], ◌∷◌, Some, None};
-ghost use Rattle.nvme_arbiter.specs.Settings.{WritesBack, ReadsBack, FitsFields, settings_of};
+ghost use Rattle.nvme_arbiter.specs.Settings.{WritesBack, ReadsBack, FitsFields, OnlyLevelsHaveWeights, settings_of};
 ghost use Rattle.nvme_arbiter.specs.Limits.{highest_qid, queue_limit};
 ghost use Rattle.nvme_arbiter.specs.Observation.{IsObservation};
 ghost use Rattle.nvme_arbiter.specs.Next.{next};
 ghost use Rattle.nvme_arbiter.specs.Queues.{seen_of, queue_at};
 ghost use Rattle.nvme_arbiter.specs.Board.{queues_after};
-ghost use Rattle.nvme_arbiter.specs.Laws.{OneLawfulPick, LawfulPicksAreMeasured, FreshWhereDue, PrefixesAreLawful, UsedIsWithinWeight};
+ghost use Rattle.nvme_arbiter.specs.Laws.{OneLawfulPick, LawfulPicksAreMeasured, FreshWhereDue, PrefixesAreLawful, UsedIsWithinWeight, NoneWhereIdle};
 ghost use Rattle.nvme_arbiter.specs.Lawful.{IsLawfulRun};
 ghost use Rattle.nvme_arbiter.specs.Examples.{EndsWith, played, q, fresh, four_queues, four_queues_picks, four_queues_restarted, full_queue, two_rounds, two_rounds_picks, two_rounds_not_fresh, before_urgent, with_urgent, with_urgent_picks, urgent_behind_a_level, before_change, after_change, after_change_picks, credit_outlives_change, four_queues_before_change, four_queues_after_change, four_queues_after_change_picks, last_served_forgotten, two_admin, two_admin_at_once, queue, at_limits, in_no_order, on_board};
 ghost use Rattle.nvme_arbiter.specs.declared.settings.Mechanism.TheVariants.{RoundRobin, Weighted};
 ghost use Rattle.nvme_arbiter.specs.declared.settings.Class.TheVariants.{Admin, Urgent, Low};
 
 /// A CDW11 that is read and written back has bits 07:03 as 0 and every other bit as it was, and settings that are
-/// written and read back are the same. The fields of every CDW11 fit their bits.
+/// written and read back are the same. The fields of every CDW11 fit their bits, and only levels
+/// have weights.
 pub fn settings_and_cdw11()
     ensures writes_back { WritesBack }
     ensures reads_back { ReadsBack }
     ensures fits { (x : ℕ) → FitsFields (settings_of x) }
+    ensures only_levels { OnlyLevelsHaveWeights }
 {}
 
 /// The lawful pick after a history is the only one.
@@ -44,6 +46,11 @@ pub fn prefixes_are_lawful()
 /// In a lawful weighted run no more commands of a level were picked in this round than its weight.
 pub fn used_is_within_weight()
     ensures { UsedIsWithinWeight }
+{}
+
+/// Nothing is picked exactly where every count is 0.
+pub fn nothing_picked_where_idle()
+    ensures { NoneWhereIdle }
 {}
 
 /// Round robin with burst 1: q0 with 2, q1 with 5, q2 with 0, q3 with 1.
@@ -110,10 +117,10 @@ pub fn next_by_identifier()
     ensures none { next (Some 1) [] ≡ None }
 {}
 
-/// A board on which q0 and q2 are open, of which two commands are taken.
+/// A board on which q0 and q2 are open; a pick takes three commands of q2.
 pub fn queues_of_a_board()
     ensures seen { seen_of (on_board 5) ≡ queue 0 Admin 2 ∷ queue 2 Low 5 ∷ [] }
     ensures closed { queue_at (on_board 5) 1 ≡ None }
     ensures there { queue_at (on_board 5) 2 ≡ Some (record { class = Low; count = 5 }) }
-    ensures taken { queues_after (on_board 5) (q 2 2) ≡ on_board 3 }
+    ensures taken { queues_after (on_board 5) (q 2 3) ≡ on_board 2 }
 {}

@@ -19,9 +19,9 @@ pub use arbiter::Arbiter;
 pub use board::Board;
 pub use laws::{
     fresh_where_due, lawful_picks_are_measured, limits_of_observations, next_by_identifier,
-    no_burst_limit, one_lawful_pick, prefixes_are_lawful, queues_of_a_board,
-    round_robin_four_queues, settings_and_cdw11, settings_change, two_admin_commands,
-    urgent_cuts_in, used_is_within_weight, weighted_two_rounds,
+    no_burst_limit, nothing_picked_where_idle, one_lawful_pick, prefixes_are_lawful,
+    queues_of_a_board, round_robin_four_queues, settings_and_cdw11, settings_change,
+    two_admin_commands, urgent_cuts_in, used_is_within_weight, weighted_two_rounds,
 };
 pub use limits::{HIGHEST_COUNT, HIGHEST_QID, QUEUE_LIMIT};
 pub use observation::is_observation;
