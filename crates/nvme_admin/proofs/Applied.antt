@@ -1,5 +1,5 @@
 -- An admin entry is applied.
-use Rattle.std.proofs.Common.{◌≡◌, ℕ, ◌==◌, ◌&&◌, Bool, true, false, not, if◌then◌else◌, List, [], ◌∷◌, Option, Some, None, refl, sym, ◌∙◌, ap, subst, arith, inl, inr, eqb-true, eq-eqb}
+use Rattle.std.proofs.Common.{◌≡◌, ℕ, ◌==◌, ◌&&◌, Bool, true, false, not, if◌then◌else◌, List, [], ◌∷◌, Option, Some, None, refl, sym, ◌∙◌, ap, subst, arith, inl, inr, eqb-true, eq-eqb, true≢false}
 use Rattle.std.proofs.Math.Path.{fun_ext}
 use Rattle.std.proofs.lemmas.Bool.{cases_Bool}
 use Rattle.nvme_entry.specs.Status.{StatusCode, success, invalid_field}
@@ -15,6 +15,7 @@ use Rattle.nvme_admin.specs.History.{Start, TableHistory, EntryApplied, Effects,
 use Rattle.nvme_admin.specs.QueueTable.{QueueTable, table_in, number_of_queues}
 use Rattle.nvme_admin.specs.Checks.{row, first_match, rows_of, status_over, is_success, verdict_by, verdict_after, opened_sq, opened_cq, dw0_by, dw0_after, status_in, dw0_in}
 use Rattle.nvme_admin.specs.Accepted.{effects_of, queue_table, status_of, verdict_of, dw0_of}
+use Rattle.nvme_admin.specs.Steps.{table_after}
 use Rattle.nvme_admin.specs.Standing.{TableView, Shows, StandsAt, Does, table_of}
 use Rattle.nvme_admin.proofs.Slots.{other}
 
@@ -189,3 +190,34 @@ dw0_of-applied start h new entry verdict a =
 pub Does-unchanged : (old new : TableView) (command : AdminCommand) (verdict : Verdict) → Does old new command verdict → is_success (status_in verdict) ≡ false → new ≡ old
 Does-unchanged old new command verdict does fails =
     does.refused (ap is_success (sym (ap status_in does.verdict_is ∙ status_in-verdict (first_match (rows_of (table_of old) command)) (table_of new) command)) ∙ fails)
+
+-- ---- an entry by what the table has
+-- what holds after an entry, by what the table had
+pub record AppliesTo (old new : TableView) (entry : Sqe) (verdict : Verdict) : Type 0 where
+  pub checked : status_in verdict ≡ status_over (table_of old) entry
+  pub answered : verdict ≡ verdict_by (status_over (table_of old) entry) (table_of new) (admin_command_of entry)
+  pub accepted : is_success (status_in verdict) ≡ true → Shows new (table_after (table_of old) (admin_command_of entry))
+
+-- an entry that isn't fused
+pub AppliesTo-alone : (old new : TableView) (entry : Sqe) (verdict : Verdict) (command : AdminCommand) (fuse : ℕ)
+    → command ≡ admin_command_of entry → fuse ≡ fuse_of entry → fuse ≡ 0 → Does old new command verdict → AppliesTo old new entry verdict
+AppliesTo-alone old new entry verdict command fuse command_is fuse_is alone does_it =
+    let s : StatusCode = first_match (rows_of (table_of old) (admin_command_of entry)) in
+    let status : status_over (table_of old) entry ≡ s = status_over-alone (table_of old) entry (sym fuse_is ∙ alone) in
+    let does : Does old new (admin_command_of entry) verdict = subst (λ (k : AdminCommand). Does old new k verdict) command_is does_it in
+    let told : status_in verdict ≡ s = ap status_in does.verdict_is ∙ status_in-verdict s (table_of new) (admin_command_of entry) in
+    record {
+      checked = told ∙ sym status;
+      answered = does.verdict_is ∙ ap (λ (r : StatusCode). verdict_by r (table_of new) (admin_command_of entry)) (sym status);
+      accepted = λ h. does.takes (sym (ap is_success told) ∙ h);
+    }
+
+-- a fused entry
+pub AppliesTo-fused : (v : TableView) (entry : Sqe) (fuse : ℕ) → fuse ≡ fuse_of entry → (fuse ≡ 0 → ⊥) → AppliesTo v v entry (Done invalid_field 0)
+AppliesTo-fused v entry fuse fuse_is fused =
+    let status : status_over (table_of v) entry ≡ invalid_field = status_over-fused (table_of v) entry (λ p. fused (fuse_is ∙ p)) in
+    record {
+      checked = sym status;
+      answered = ap (λ (r : StatusCode). verdict_by r (table_of v) (admin_command_of entry)) (sym status);
+      accepted = λ h. absurd (true≢false (sym h));
+    }

@@ -1,5 +1,5 @@
 -- A queue is created, or its deletion begins.
-use Rattle.std.proofs.Common.{◌≡◌, ℕ, ◌<◌, ◌==◌, ◌||◌, Bool, true, false, not, List, [], ◌∷◌, length, set, get_or, Option, Some, None, refl, sym, ◌∙◌, ap, subst, true≢false, get_or-set_same}
+use Rattle.std.proofs.Common.{◌≡◌, ℕ, ◌<◌, ◌==◌, ◌||◌, Bool, true, false, not, List, [], ◌∷◌, length, set, get_or, Option, Some, None, refl, sym, ◌∙◌, ap, subst, true≢false, get_or-set_same, unwrap_or, option_map}
 use Rattle.nvme_arbiter.specs.declared.settings.Class.{Class}
 use Rattle.nvme_entry.specs.Status.{StatusCode, success, invalid_queue_identifier}
 use Rattle.nvme_entry.specs.declared.admin.AdminCommand.{AdminCommand}
@@ -10,7 +10,7 @@ use Rattle.nvme_admin.specs.declared.verdict.Verdict.TheVariants.{OpenSq, OpenCq
 use Rattle.nvme_admin.specs.QueueTable.{region_number, class_of, as_closing}
 use Rattle.nvme_admin.specs.Checks.{row, first_match, rows_of, is_success, is_open, verdict_by, opened_sq, opened_cq}
 use Rattle.nvme_admin.specs.Standing.{TableView, IsSized, Does, table_of, sq_of}
-use Rattle.nvme_admin.proofs.Slots.{other}
+use Rattle.nvme_admin.proofs.Slots.{other, within, slot-set, mark-set}
 use Rattle.nvme_admin.proofs.Shown.{Shows-create_sq, Shows-create_cq, Shows-delete_sq}
 
 -- a command that passes isn't refused
@@ -27,9 +27,23 @@ module _ (v w : TableView) (opened : v ≡ w) (sized : IsSized v) (qid qsize prp
       let passes : first_match (rows_of (table_of v) command) ≡ success = subst (λ (u : TableView). first_match (rows_of (table_of u) (CreateCq qid qsize prp1 pc)) ≡ success) (sym opened) passed in
       let region : region_number v.cq_regions prp1 ≡ Some k = subst (λ (u : TableView). region_number u.cq_regions prp1 ≡ Some k) (sym opened) named in
       let within_cqs : qid < length v.cqs = rw sized.cqs room in
+      let number : k ≡ unwrap_or (region_number v.cq_regions prp1) 0 = sym (ap (λ (o : Option ℕ). unwrap_or o 0) region) in
       let does : Does v new command (OpenCq qid k) = record {
         verdict_is = sym (ap (λ (s : StatusCode). verdict_by s (table_of new) command) passes ∙ ap (opened_cq qid) (get_or-set_same v.cqs qid (Some k) None within_cqs));
         accepted = λ _ start e s. Shows-create_cq start e v qid qsize prp1 pc k sized io room place region s;
+        takes = λ _. record {
+          sq = λ q. refl;
+          cq = slot-set v.cqs qid (Some k) (λ _. Some (unwrap_or (region_number v.cq_regions prp1) 0)) within_cqs (ap (λ (n : ℕ). Some n) number);
+          sq_regions = refl;
+          cq_regions = refl;
+          sq_used = λ j. refl;
+          cq_used = mark-set v.cq_used k (unwrap_or (region_number v.cq_regions prp1) 0) (rw sized.cq_used place) number;
+          nsq = refl;
+          ncq = refl;
+          numbers_set = refl;
+          created = refl;
+          settings = refl;
+        };
         refused = λ h. absurd (passing (first_match (rows_of (table_of v) command)) passes h);
       } in
       subst (λ (u : TableView). Does u (record v { cqs = set v.cqs q (Some k); cq_used = set v.cq_used n true; created = true }) (CreateCq qid qsize prp1 pc) (OpenCq qid k)) opened
@@ -47,9 +61,24 @@ module _ (v w : TableView) (opened : v ≡ w) (sized : IsSized v) (qid qsize prp
       let passes : first_match (rows_of (table_of v) command) ≡ success = subst (λ (u : TableView). first_match (rows_of (table_of u) (CreateSq qid qsize prp1 cqid qprio pc)) ≡ success) (sym opened) passed in
       let region : region_number v.sq_regions prp1 ≡ Some k = subst (λ (u : TableView). region_number u.sq_regions prp1 ≡ Some k) (sym opened) named in
       let within_sqs : qid < length v.sqs = rw sized.sqs room in
+      let number : k ≡ unwrap_or (region_number v.sq_regions prp1) 0 = sym (ap (λ (o : Option ℕ). unwrap_or o 0) region) in
       let does : Does v new command (OpenSq qid k cqid (class_of qprio)) = record {
         verdict_is = sym (ap (λ (s : StatusCode). verdict_by s (table_of new) command) passes ∙ ap (opened_sq qid) (get_or-set_same v.sqs qid (Some queue) None within_sqs));
         accepted = λ _ start e s. Shows-create_sq start e v qid qsize prp1 cqid qprio pc k sized io room place region s;
+        takes = λ _. record {
+          sq = slot-set v.sqs qid (Some queue) (λ _. Some (record { region = unwrap_or (region_number v.sq_regions prp1) 0; cqid = cqid; class = class_of qprio; closing = false })) within_sqs
+              (ap (λ (n : ℕ). Some (record { region = n; cqid = cqid; class = class_of qprio; closing = false })) number);
+          cq = λ q. refl;
+          sq_regions = refl;
+          cq_regions = refl;
+          sq_used = mark-set v.sq_used k (unwrap_or (region_number v.sq_regions prp1) 0) (rw sized.sq_used place) number;
+          cq_used = λ j. refl;
+          nsq = refl;
+          ncq = refl;
+          numbers_set = refl;
+          created = refl;
+          settings = refl;
+        };
         refused = λ h. absurd (passing (first_match (rows_of (table_of v) command)) passes h);
       } in
       subst (λ (u : TableView). Does u (record v { sqs = set v.sqs q (Some (record { region = k; cqid = cqid; class = class; closing = false })); sq_used = set v.sq_used n true; created = true }) (CreateSq qid qsize prp1 cqid qprio pc) (OpenSq qid k cqid class)) opened
@@ -68,6 +97,19 @@ Does-delete_sq v w qid q queue opened q_is io found closing =
     let does : Does v new command (BeginDelete qid) = record {
       verdict_is = sym (ap (λ (s : StatusCode). verdict_by s (table_of new) command) passes);
       accepted = λ _ start e s. Shows-delete_sq start e v qid queue io here s;
+      takes = λ _. record {
+        sq = slot-set v.sqs qid (Some (as_closing queue)) (λ p. option_map as_closing (sq_of v p)) (within v.sqs qid queue here) (sym (ap (option_map as_closing) here));
+        cq = λ p. refl;
+        sq_regions = refl;
+        cq_regions = refl;
+        sq_used = λ j. refl;
+        cq_used = λ j. refl;
+        nsq = refl;
+        ncq = refl;
+        numbers_set = refl;
+        created = refl;
+        settings = refl;
+      };
       refused = λ h. absurd (passing (first_match (rows_of (table_of v) command)) passes h);
     } in
     subst (λ (u : TableView). Does u (record v { sqs = set v.sqs q (Some (record queue { closing = true })) }) (DeleteSq qid) (BeginDelete qid)) opened

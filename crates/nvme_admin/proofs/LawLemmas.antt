@@ -23,7 +23,7 @@ use Rattle.nvme_admin.proofs.Reached.{Passes, reached, none-matches, create_sq-f
 abbrev AttachedAt : Start → Effects → ℕ → SqEntry → Type 0
 AttachedAt start e q queue = (q ≡ 0 → ⊥) × (q ≤ start.nsq) × (queue.cqid ≡ 0 → ⊥) × (is_some (io_cq_in e queue.cqid) ≡ true)
 
-closing-back : (b : Bool) (o : Option SqEntry) (queue : SqEntry) → (if b then option_map as_closing o else o) ≡ Some queue → (old : SqEntry) × (o ≡ Some old) × (old.cqid ≡ queue.cqid)
+pub closing-back : (b : Bool) (o : Option SqEntry) (queue : SqEntry) → (if b then option_map as_closing o else o) ≡ Some queue → (old : SqEntry) × (o ≡ Some old) × (old.cqid ≡ queue.cqid)
 closing-back true None queue h = absurd (none-some queue h)
 closing-back true (Some x) queue h = (x, refl, ap (λ (r : SqEntry). r.cqid) (same_Some (as_closing x) queue h))
 closing-back false o queue h = (queue, h, refl)
@@ -40,7 +40,7 @@ unless-back : (o : Option SqEntry) (queue : SqEntry) → unless_closing o ≡ So
 unless-back None queue h = h
 unless-back (Some x) queue h = open-back x.closing x queue h
 
-finished-back : (b : Bool) (o : Option SqEntry) (queue : SqEntry) → (if b then unless_closing o else o) ≡ Some queue → o ≡ Some queue
+pub finished-back : (b : Bool) (o : Option SqEntry) (queue : SqEntry) → (if b then unless_closing o else o) ≡ Some queue → o ≡ Some queue
 finished-back true o queue h = unless-back o queue h
 finished-back false o queue h = h
 
@@ -64,7 +64,7 @@ none-below test (suc n) q h l = elim (cases_eq q n) [
   | inr apart ↦ none-below test n q (or-left (some_below test n) (test n) h) (omega arith)
 ]
 
-nsq_by-le : (start : Start) (o : Option ℕ) → nsq_by start o ≤ start.nsq
+pub nsq_by-le : (start : Start) (o : Option ℕ) → nsq_by start o ≤ start.nsq
 nsq_by-le start None = omega arith
 nsq_by-le start (Some x) = omega arith
 
@@ -176,7 +176,7 @@ no_request-after_create start later h entry sv cdw11 created command =
     ]
 
 -- the numbers are fixed after these steps
-abbrev AreFixed : Effects → Type 0
+abbrev pub AreFixed : Effects → Type 0
 AreFixed e = (is_some (first_request_in e) ≡ true) ⊎ (created_in e ≡ true)
 
 request-kept : (b : Bool) (o : Option ℕ) (x : ℕ) → is_some o ≡ true → (if b && is_none o then Some x else o) ≡ o
@@ -188,7 +188,7 @@ request-barred : (b c : Bool) (o : Option ℕ) (x : ℕ) → (b && c) ≡ false 
 request-barred true c o x h is = absurd (true≢false (sym is ∙ h))
 request-barred false c o x h is = refl
 
-fixed-step : (start : Start) (e : Effects) (command : AdminCommand) → AreFixed e → Passes (table_in start e) command
+pub fixed-step : (start : Start) (e : Effects) (command : AdminCommand) → AreFixed e → Passes (table_in start e) command
     → AreFixed (Accepted command ∷ e) × (first_request_in (Accepted command ∷ e) ≡ first_request_in e)
 fixed-step start e (CreateSq qid qsize prp1 cqid qprio pc) f passes = (inr refl, refl)
 fixed-step start e (CreateCq qid qsize prp1 pc) f passes = (inr refl, refl)
@@ -240,7 +240,7 @@ HasUsed e = (q : ℕ) (a : SqEntry) → io_sq_in e q ≡ Some a → (is_used (sq
 abbrev TellsQueue : Effects → Type 0
 TellsQueue e = (q r : ℕ) (a b : SqEntry) → io_sq_in e q ≡ Some a → io_sq_in e r ≡ Some b → a.region ≡ b.region → q ≡ r
 
-region-back : (b : Bool) (o : Option SqEntry) (queue : SqEntry) → (if b then option_map as_closing o else o) ≡ Some queue → (old : SqEntry) × (o ≡ Some old) × (old.region ≡ queue.region)
+pub region-back : (b : Bool) (o : Option SqEntry) (queue : SqEntry) → (if b then option_map as_closing o else o) ≡ Some queue → (old : SqEntry) × (o ≡ Some old) × (old.region ≡ queue.region)
 region-back true None queue h = absurd (none-some queue h)
 region-back true (Some x) queue h = (x, refl, ap (λ (r : SqEntry). r.region) (same_Some (as_closing x) queue h))
 region-back false o queue h = (queue, h, refl)

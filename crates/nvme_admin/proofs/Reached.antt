@@ -1,7 +1,8 @@
 -- What is true of every table that a history reaches, and what it means that a command passes its checks.
-use Rattle.std.proofs.Common.{◌≡◌, ℕ, ◌+◌, ◌<◌, ◌≤◌, ◌==◌, ◌||◌, ◌&&◌, Bool, true, false, not, nat_lt, if◌then◌else◌, List, [], ◌∷◌, ◌++◌, length, Option, Some, None, is_some, is_none, refl, sym, ◌∙◌, ap, subst, arith, inl, inr, true≢false, ltb-false, slice_get}
+use Rattle.std.proofs.Common.{◌≡◌, ℕ, ◌+◌, ◌<◌, ◌≤◌, ◌==◌, ◌||◌, ◌&&◌, Bool, true, false, not, nat_lt, if◌then◌else◌, List, [], ◌∷◌, ◌++◌, length, Option, Some, None, is_some, is_none, refl, sym, ◌∙◌, ap, subst, arith, inl, inr, true≢false, ltb-false, slice_get, get_or, eqb-true}
 use Rattle.std.proofs.lemmas.Bool.{cases_Bool, eqb-false}
 use Rattle.std.proofs.lemmas.List.Quantifiers.{position-Some}
+use Rattle.std.proofs.lemmas.Option.{slice_get-get_or}
 use Rattle.nvme_entry.specs.Status.{StatusCode, invalid_field}
 use Rattle.nvme_entry.specs.Submission.{fuse_of}
 use Rattle.nvme_entry.specs.AdminCommand.{admin_command_of}
@@ -87,6 +88,24 @@ finds-fit regions used address slots (Some k) e h =
 finds : (regions : List Region) (used : ℕ → Bool) (address slots : ℕ) → is_free regions used address slots ≡ true → FindsRegion regions used address
 finds regions used address slots h = finds-fit regions used address slots (region_number regions address) refl h
 
+-- the unused region at an address, with its slots
+asked-fit : (regions : List Region) (used : ℕ → Bool) (address slots : ℕ) (o : Option ℕ) → region_number regions address ≡ o → is_fit regions used slots o ≡ true
+    → (k : ℕ) × (region_number regions address ≡ Some k) × (slice_get regions k ≡ Some (record { address = address; slots = slots }))
+asked-fit regions used address slots None e h = absurd (true≢false (sym h))
+asked-fit regions used address slots (Some k) e h =
+    let parts = and_true-parts (has_slots (slice_get regions k) slots) (not (used k)) h in
+    let none : Region = record { address = 0; slots = 0 } in
+    let found = position-Some (λ (r : Region). r.address == address) regions k none e in
+    let here : slice_get regions k ≡ Some (get_or regions k none) = slice_get-get_or regions k none found.0 in
+    let of_slots : ((get_or regions k none).slots == slots) ≡ true = sym (ap (λ (o : Option Region). has_slots o slots) here) ∙ parts.0 in
+    let at : (get_or regions k none).address ≡ address = eqb-true (get_or regions k none).address address found.1 in
+    let long : (get_or regions k none).slots ≡ slots = eqb-true (get_or regions k none).slots slots of_slots in
+    (k, e, here ∙ (λ i. Some (record { address = at i; slots = long i })))
+
+pub asked : (regions : List Region) (used : ℕ → Bool) (address slots : ℕ) → is_free regions used address slots ≡ true
+    → (k : ℕ) × (region_number regions address ≡ Some k) × (slice_get regions k ≡ Some (record { address = address; slots = slots }))
+asked regions used address slots h = asked-fit regions used address slots (region_number regions address) refl h
+
 pub record FoundSq (t : QueueTable) (qid prp1 cqid : ℕ) : Type 0 where
   pub not_admin : qid ≡ 0 → ⊥
   pub in_range : qid ≤ t.nsq
@@ -112,6 +131,7 @@ create_sq-found t qid qsize prp1 cqid qprio pc h =
 
 pub record FoundCq (t : QueueTable) (qid prp1 : ℕ) : Type 0 where
   pub not_admin : qid ≡ 0 → ⊥
+  pub in_range : qid ≤ t.ncq
   pub free : t.cq qid ≡ None
   pub region : FindsRegion t.cq_regions t.cq_region_used prp1
 
@@ -122,9 +142,22 @@ create_cq-found t qid qsize prp1 pc h =
     let range = or_false-parts (qid == 0) (nat_lt t.ncq qid) ids.0 in
     record {
       not_admin = eqb-false qid 0 range.0;
+      in_range = ltb-false t.ncq qid range.1;
       free = not_some (t.cq qid) ids.1;
       region = finds t.cq_regions t.cq_region_used prp1 (qsize + 1) (not_false (is_free t.cq_regions t.cq_region_used prp1 (qsize + 1)) r.1.1.1.0);
     }
+
+pub create_sq-asked : (t : QueueTable) (qid qsize prp1 cqid qprio : ℕ) (pc : Bool) → Passes t (CreateSq qid qsize prp1 cqid qprio pc)
+    → (k : ℕ) × (region_number t.sq_regions prp1 ≡ Some k) × (slice_get t.sq_regions k ≡ Some (record { address = prp1; slots = qsize + 1 }))
+create_sq-asked t qid qsize prp1 cqid qprio pc h =
+    let r = none-matches (rows_of t (CreateSq qid qsize prp1 cqid qprio pc)) (refl, (refl, (refl, (refl, (refl, (refl, tt)))))) h in
+    asked t.sq_regions t.sq_region_used prp1 (qsize + 1) (not_false (is_free t.sq_regions t.sq_region_used prp1 (qsize + 1)) r.1.1.1.1.1.0)
+
+pub create_cq-asked : (t : QueueTable) (qid qsize prp1 : ℕ) (pc : Bool) → Passes t (CreateCq qid qsize prp1 pc)
+    → (k : ℕ) × (region_number t.cq_regions prp1 ≡ Some k) × (slice_get t.cq_regions k ≡ Some (record { address = prp1; slots = qsize + 1 }))
+create_cq-asked t qid qsize prp1 pc h =
+    let r = none-matches (rows_of t (CreateCq qid qsize prp1 pc)) (refl, (refl, (refl, (refl, tt)))) h in
+    asked t.cq_regions t.cq_region_used prp1 (qsize + 1) (not_false (is_free t.cq_regions t.cq_region_used prp1 (qsize + 1)) r.1.1.1.0)
 
 pub delete_sq-found : (t : QueueTable) (qid : ℕ) → Passes t (DeleteSq qid) → (qid ≡ 0 → ⊥) × (is_open (t.sq qid) ≡ true)
 delete_sq-found t qid h =

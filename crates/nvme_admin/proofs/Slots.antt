@@ -84,6 +84,32 @@ cq-set e e' cqs k x room io regions here others was q = elim (cases_eq k q) [
       ∙ (λ i. if q == 0 then admin_cq (regions i) else (others q n) i)
 ]
 
+-- a slot is written, and every other slot stays
+pub slot-set : {A : Type 0} (xs : List (Option A)) (k : ℕ) (x : Option A) (y : ℕ → Option A) → k < length xs → x ≡ y k
+    → (q : ℕ) → get_or (set xs k x) q None ≡ (if k == q then y q else get_or xs q None)
+slot-set xs k x y room is q = elim (cases_eq k q) [
+  | inl own ↦ subst (λ (p : ℕ). get_or (set xs k x) p None ≡ (if k == p then y p else get_or xs p None)) own
+      (get_or-set_same xs k x None room ∙ is ∙ (λ i. if (sym (same k)) i then y k else get_or xs k None))
+  | inr n ↦ get_or-set_other xs k q x None (λ p. n (sym p)) ∙ (λ i. if (sym (other k q n)) i then y q else get_or xs q None)
+]
+
+-- the slot of the admin queue is written
+pub slot-set-admin : {A : Type 0} (xs : List (Option A)) (x : Option A) → 0 < length xs
+    → (q : ℕ) → get_or (set xs 0 x) q None ≡ (if q == 0 then x else get_or xs q None)
+slot-set-admin xs x room zero = get_or-set_same xs 0 x None room
+slot-set-admin xs x room (suc q) =
+    let n : suc q ≡ 0 → ⊥ = λ p. omega arith in
+    get_or-set_other xs 0 (suc q) x None n ∙ (λ i. if (sym (other (suc q) 0 n)) i then x else get_or xs (suc q) None)
+
+-- a mark is set, and every other mark stays
+pub mark-set : (used : List Bool) (k n : ℕ) → k < length used → k ≡ n → (j : ℕ) → get_or (set used k true) j false ≡ (n == j || get_or used j false)
+mark-set used k n room is j = subst (λ (m : ℕ). get_or (set used k true) j false ≡ (m == j || get_or used j false)) is
+    (elim (cases_eq k j) [
+      | inl own ↦ subst (λ (p : ℕ). get_or (set used k true) p false ≡ (k == p || get_or used p false)) own
+          (get_or-set_same used k true false room ∙ (λ i. (sym (same k)) i || get_or used k false))
+      | inr n ↦ get_or-set_other used k j true false (λ p. n (sym p)) ∙ (λ i. (sym (other k j n)) i || get_or used j false)
+    ])
+
 -- an I/O identifier isn't the admin queue's
 pub sq_in-io : (e : Effects) (q : ℕ) → (q ≡ 0 → ⊥) → sq_in e q ≡ io_sq_in e q
 sq_in-io e q n = λ i. if (other q 0 n) i then admin_sq (sq_regions_in e) else io_sq_in e q
@@ -126,7 +152,7 @@ used-set used named k o room here was j = subst (λ (p : Option ℕ). get_or (se
     ])
 
 -- a table with no region has no queue, and of each kind region 0 counts as used
-read-replicate : {A : Type 0} (n q : ℕ) (d : A) → get_or (replicate n d) q d ≡ d
+pub read-replicate : {A : Type 0} (n q : ℕ) (d : A) → get_or (replicate n d) q d ≡ d
 read-replicate zero q d = refl
 read-replicate (suc n) zero d = refl
 read-replicate (suc n) (suc q) d = read-replicate n q d
@@ -148,3 +174,7 @@ or_false false = refl
 pub used-new : (n k : ℕ) → get_or (true ∷ replicate n false) k false ≡ is_used [] k
 used-new n zero = refl
 used-new n (suc k) = read-replicate n k false ∙ sym (other (suc k) 0 (λ p. omega arith)) ∙ or_false (suc k == 0)
+
+pub marks-new : (n k : ℕ) → get_or (true ∷ replicate n false) k false ≡ (k == 0)
+marks-new n zero = refl
+marks-new n (suc k) = read-replicate n k false ∙ sym (other (suc k) 0 (λ p. omega arith))

@@ -1,11 +1,12 @@
 -- Laws over table histories.
-use Rattle.std.specs.Prelude.{◌≡◌, ◌≢◌, ℕ, ◌<◌, ◌⊎◌, Bool, true, false, List, [], ◌∷◌, ◌++◌, Some, is_some}
+use Rattle.std.specs.Prelude.{◌≡◌, ◌≢◌, ℕ, ◌+◌, ◌==◌, ◌<◌, ◌≤◌, ◌⊎◌, Bool, true, false, if◌then◌else◌, List, [], ◌∷◌, ◌++◌, Option, Some, None, is_some, slice_get}
 use Rattle.nvme_entry.specs.AdminCommand.{admin_command_of}
 use Rattle.nvme_entry.specs.declared.submission.Sqe.{Sqe}
-use Rattle.nvme_entry.specs.declared.admin.AdminCommand.TheVariants.{SetFeatures}
+use Rattle.nvme_entry.specs.declared.admin.AdminCommand.TheVariants.{CreateSq, CreateCq, SetFeatures}
 use Rattle.nvme_admin.specs.declared.bounds.TheConstants.{MAX_REGIONS}
 use Rattle.nvme_admin.specs.declared.verdict.SqEntry.{SqEntry}
-use Rattle.nvme_admin.specs.History.{Start, TableHistory, EntryApplied}
+use Rattle.nvme_admin.specs.declared.region.Region.{Region}
+use Rattle.nvme_admin.specs.History.{Start, TableHistory, EntryApplied, Effects, Accepted}
 use Rattle.nvme_admin.specs.QueueTable.{is_used, sq_named_in, cq_named_in, number_of_queues}
 use Rattle.nvme_admin.specs.Accepted.{effects_of, queue_table, is_accepted, sq_at, cq_at, nsq_at, ncq_at}
 
@@ -42,3 +43,32 @@ NumbersStayFixed = (start : Start) (later h : TableHistory) → AreNumbersFixed 
 abbrev pub RegionsTellQueues : Type 0
 RegionsTellQueues = (start : Start) (h : TableHistory) (q r : ℕ) (a b : SqEntry)
     → sq_at start h q ≡ Some a → sq_at start h r ≡ Some b → a.region ≡ b.region → q ≡ r
+
+-- an I/O queue's identifier is at most the allotted number: of submission queues, open or closing, and of completion queues
+abbrev pub SqsAreAllotted : Type 0
+SqsAreAllotted = (start : Start) (h : TableHistory) (q : ℕ) (queue : SqEntry) → q ≢ 0 → sq_at start h q ≡ Some queue → q ≤ nsq_at start h
+
+abbrev pub CqsAreAllotted : Type 0
+CqsAreAllotted = (start : Start) (h : TableHistory) (q k : ℕ) → q ≢ 0 → cq_at start h q ≡ Some k → q ≤ ncq_at start h
+
+-- the region that the latest accepted Create of an identifier asked for: PRP1 is its address, and QSIZE + 1 its number of slots
+abbrev pub sq_asked_in : Effects → ℕ → Option Region
+sq_asked_in [] q = None
+sq_asked_in (Accepted (CreateSq qid qsize prp1 cqid qprio pc) ∷ past) q =
+    if qid == q then Some (record { address = prp1; slots = qsize + 1 }) else sq_asked_in past q
+sq_asked_in (e ∷ past) q = sq_asked_in past q
+
+abbrev pub cq_asked_in : Effects → ℕ → Option Region
+cq_asked_in [] q = None
+cq_asked_in (Accepted (CreateCq qid qsize prp1 pc) ∷ past) q =
+    if qid == q then Some (record { address = prp1; slots = qsize + 1 }) else cq_asked_in past q
+cq_asked_in (e ∷ past) q = cq_asked_in past q
+
+-- an I/O queue's region is the one that its Create asked for, of a submission queue, open or closing, and of a completion queue
+abbrev pub SqsHaveTheirRegions : Type 0
+SqsHaveTheirRegions = (start : Start) (h : TableHistory) (q : ℕ) (queue : SqEntry) → q ≢ 0 → sq_at start h q ≡ Some queue
+    → (r : Region) × (sq_asked_in (effects_of start h) q ≡ Some r) × (slice_get (queue_table start h).sq_regions queue.region ≡ Some r)
+
+abbrev pub CqsHaveTheirRegions : Type 0
+CqsHaveTheirRegions = (start : Start) (h : TableHistory) (q k : ℕ) → q ≢ 0 → cq_at start h q ≡ Some k
+    → (r : Region) × (cq_asked_in (effects_of start h) q ≡ Some r) × (slice_get (queue_table start h).cq_regions k ≡ Some r)

@@ -1,7 +1,9 @@
 pub mod Accepted
 pub mod Changes
 pub mod Checks
+pub mod Examples
 pub mod History
 pub mod Laws
 pub mod QueueTable
 pub mod Standing
+pub mod Steps

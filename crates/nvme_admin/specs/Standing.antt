@@ -14,6 +14,7 @@ use Rattle.nvme_admin.specs.History.{Start, TableHistory, Effects, Accepted}
 use Rattle.nvme_admin.specs.QueueTable.{QueueTable, region_number, table_in}
 use Rattle.nvme_admin.specs.Checks.{rows_of, first_match, is_success, verdict_by}
 use Rattle.nvme_admin.specs.Accepted.{queue_table}
+use Rattle.nvme_admin.specs.Steps.{table_after}
 
 -- the content of a table: lists by region number and by queue identifier
 pub record TableView : Type 0 where
@@ -98,6 +99,7 @@ pub record Does (old new : TableView) (command : AdminCommand) (verdict : Verdic
   pub verdict_is : verdict ≡ verdict_by (command_status old command) (table_of new) command
   pub accepted : is_success (command_status old command) ≡ true
       → (start : Start) (effects : Effects) → Shows old (table_in start effects) → Shows new (table_in start (Accepted command ∷ effects))
+  pub takes : is_success (command_status old command) ≡ true → Shows new (table_after (table_of old) command)
   pub refused : is_success (command_status old command) ≡ false → new ≡ old
 
 -- an address is that of a region of either kind

@@ -64,16 +64,20 @@ impl Model for Table {
 }
 
 impl Table {
-    ghost use Rattle.std.specs.Prelude.{◌≡◌, false, List, [], ◌∷◌, MatchResult, IfOk, IfErr, OnOk, OnErr, None, Some, length};
+    ghost use Rattle.std.specs.Prelude.{◌≡◌, ◌==◌, if◌then◌else◌, true, false, ℕ, List, [], ◌∷◌, ◌++◌, MatchResult, IfOk, IfErr, OnOk, OnErr, None, Some, length};
     ghost use Rattle.nvme_admin.specs.declared.region.Region.{Region};
     ghost use Rattle.nvme_admin.specs.History.{Start, TableHistory, RegionAdded, EntryApplied, DeletionFinished, Submission, Completion};
     ghost use Rattle.nvme_admin.specs.Accepted.{verdict_of, status_of, dw0_of};
-    ghost use Rattle.nvme_admin.specs.Checks.{status_in, dw0_in, is_success};
-    ghost use Rattle.nvme_admin.specs.Standing.{Does, StandsAt, IsSized, sq_of, cq_of, region_fault};
+    ghost use Rattle.nvme_entry.specs.AdminCommand.{admin_command_of};
+    ghost use Rattle.nvme_admin.specs.Checks.{status_in, dw0_in, is_success, status_over, verdict_by};
+    ghost use Rattle.nvme_admin.specs.Changes.{admin_queue};
+    ghost use Rattle.nvme_admin.specs.Steps.{table_after, empty_table};
+    ghost use Rattle.nvme_admin.specs.Standing.{Does, StandsAt, Shows, IsSized, table_of, sq_of, cq_of, region_fault};
 
     /// A table with no region, within the limits, with the settings of the Arbitration feature.
     pub fn new(limits: Limits, settings: Settings) -> Table
         ensures stands { StandsAt (record { nsq = limits.nsq; ncq = limits.ncq; settings = settings }) result [] }
+        ensures empty { Shows result (empty_table (record { nsq = limits.nsq; ncq = limits.ncq; settings = settings })) }
     {
         let mut sq_used = [false; MAX_REGIONS];
         let mut cq_used = [false; MAX_REGIONS];
@@ -142,6 +146,9 @@ impl Table {
         ensures number { IfOk result (λ k. k ≡ length self.old.sq_regions) }
         ensures stands { OnOk result ((start : Start) (h : TableHistory) → StandsAt start self.old h
             → StandsAt start self.new (RegionAdded Submission address slots ∷ h)) }
+        ensures regions { OnOk result (self.new.sq_regions ≡ self.old.sq_regions ++ record { address = address; slots = slots } ∷ []) }
+        ensures queues { OnOk result ((q : ℕ) → sq_of self.new q ≡ (if q == 0 then Some admin_queue else sq_of self.old q)) }
+        ensures rest { OnOk result (self.new ≡ record self.old { sq_regions = self.new.sq_regions; sqs = self.new.sqs }) }
         ensures unchanged { OnErr result (self.new ≡ self.old) }
     {
         self.check_region(self.sq_regions.len(), address, slots)?;
@@ -163,6 +170,9 @@ impl Table {
         ensures number { IfOk result (λ k. k ≡ length self.old.cq_regions) }
         ensures stands { OnOk result ((start : Start) (h : TableHistory) → StandsAt start self.old h
             → StandsAt start self.new (RegionAdded Completion address slots ∷ h)) }
+        ensures regions { OnOk result (self.new.cq_regions ≡ self.old.cq_regions ++ record { address = address; slots = slots } ∷ []) }
+        ensures queues { OnOk result ((q : ℕ) → cq_of self.new q ≡ (if q == 0 then Some 0 else cq_of self.old q)) }
+        ensures rest { OnOk result (self.new ≡ record self.old { cq_regions = self.new.cq_regions; cqs = self.new.cqs }) }
         ensures unchanged { OnErr result (self.new ≡ self.old) }
     {
         self.check_region(self.cq_regions.len(), address, slots)?;
@@ -231,6 +241,10 @@ impl Table {
             StandsAt start self.old h → dw0_in result ≡ dw0_of start h entry.now }
         ensures stands { (start : Start) (h : TableHistory) →
             StandsAt start self.old h → StandsAt start self.new (EntryApplied entry.now ∷ h) }
+        ensures checked { status_in result ≡ status_over (table_of self.old) entry.now }
+        ensures answered { result ≡ verdict_by (status_over (table_of self.old) entry.now) (table_of self.new) (admin_command_of entry.now) }
+        ensures accepted { is_success (status_in result) ≡ true
+            → Shows self.new (table_after (table_of self.old) (admin_command_of entry.now)) }
         ensures unchanged { is_success (status_in result) ≡ false → self.new ≡ self.old }
         ensures sized { IsSized self.new }
     {

@@ -4,7 +4,7 @@ use crate::verdict::{SqEntry, Verdict};
 use nvme_entry::{AdminCommand, Status};
 
 impl Table {
-    ghost use Rattle.std.specs.Prelude.{◌≡◌, ◌∷◌, IsTrue, IsSomeAnd};
+    ghost use Rattle.std.specs.Prelude.{◌≡◌, ◌==◌, if◌then◌else◌, ℕ, None, ◌∷◌, IsTrue, IsSomeAnd};
     ghost use Rattle.nvme_admin.specs.History.{Start, TableHistory, DeletionFinished};
     ghost use Rattle.nvme_admin.specs.Checks.{is_attached};
     ghost use Rattle.nvme_admin.specs.Standing.{table_of, sq_of, Does, StandsAt};
@@ -55,6 +55,8 @@ impl Table {
         requires { IsSomeAnd (sq_of self.old qid) (λ queue. IsTrue queue.closing) }
         ensures stands { (start : Start) (h : TableHistory) →
             StandsAt start self.old h → StandsAt start self.new (DeletionFinished qid ∷ h) }
+        ensures gone { (q : ℕ) → sq_of self.new q ≡ (if qid == q then None else sq_of self.old q) }
+        ensures rest { self.new ≡ record self.old { sqs = self.new.sqs } }
     {
         self.sqs[usize::from(qid)] = None;
     }

@@ -1,10 +1,11 @@
-use Rattle.std.proofs.Common.{◌∷◌, List, subst, sym, set, Some}
+use Rattle.std.proofs.Common.{◌≡◌, ◌==◌, if◌then◌else◌, ℕ, None, get_or, arith, ◌<◌, length, ◌∷◌, List, subst, sym, set, Some}
 use Rattle.nvme_admin.specs.declared.region.Region.{Region}
 use Rattle.nvme_admin.specs.History.{Completion, Added}
 use Rattle.nvme_admin.specs.QueueTable.{table_in}
 use Rattle.nvme_admin.specs.Accepted.{effects_of, queue_table}
-use Rattle.nvme_admin.specs.Standing.{TableView, Shows}
+use Rattle.nvme_admin.specs.Standing.{TableView, Shows, cq_of}
 use Rattle.nvme_admin.specs.contracts.table.Table.{the_view}
+use Rattle.nvme_admin.proofs.Slots.{slot-set-admin}
 use Rattle.nvme_admin.proofs.Shown.{Shows-add_cq}
 use Rattle.nvme_admin.proofs.table.Table.add_cq_region.Goals as goal
 
@@ -16,3 +17,10 @@ returns-clause-stands c = λ start h s.
     subst (λ (rs : List Region). Shows (record v { cq_regions = rs; cqs = set v.cqs 0 (Some 0) }) (table_in start (Added Completion c.args.address c.args.slots ∷ effects_of start h)))
     (sym c.push.ensures.items)
     (Shows-add_cq start (effects_of start h) v c.args.address c.args.slots c.self.invariant shown)
+
+pub returns-clause-queues : goal.returns-clause-queues
+returns-clause-queues c =
+    let v : TableView = the_view c.self.inside in
+    let room : 0 < length v.cqs = rw c.self.invariant.cqs (omega arith) in
+    subst (λ (u : TableView). (q : ℕ) → get_or (set v.cqs 0 (Some 0)) q None ≡ (if q == 0 then Some 0 else cq_of u q)) c.self.view_is
+    (slot-set-admin v.cqs (Some 0) room)

@@ -1,6 +1,6 @@
 use Rattle.nvme_entry.specs.Status.{invalid_field}
 use Rattle.nvme_admin.specs.declared.verdict.Verdict.TheVariants.{Done}
-use Rattle.nvme_admin.proofs.Applied.{Applies-alone, Applies-fused, status_of-applied, dw0_of-applied, Does-unchanged}
+use Rattle.nvme_admin.proofs.Applied.{Applies-alone, Applies-fused, status_of-applied, dw0_of-applied, Does-unchanged, AppliesTo-alone, AppliesTo-fused}
 use Rattle.nvme_admin.proofs.table.Table.apply.Goals as goal
 
 pub returns-then-fuse-ne0-clause-stands : goal.returns-then-fuse-ne0-clause-stands
@@ -37,3 +37,24 @@ returns-clause-stands c = λ start h s.
 
 pub returns-clause-unchanged : goal.returns-clause-unchanged
 returns-clause-unchanged c = Does-unchanged c.args.self.now c.run-verdict.new.self c.admin_of.result c.run-verdict.result c.run-verdict.ensures
+
+pub returns-then-fuse-ne0-clause-checked : goal.returns-then-fuse-ne0-clause-checked
+returns-then-fuse-ne0-clause-checked c = (AppliesTo-fused c.args.self.now c.args.entry.now c.fuse.result c.fuse.ensures c.if-fuse-ne0.true).checked
+
+pub returns-then-fuse-ne0-clause-answered : goal.returns-then-fuse-ne0-clause-answered
+returns-then-fuse-ne0-clause-answered c = (AppliesTo-fused c.args.self.now c.args.entry.now c.fuse.result c.fuse.ensures c.if-fuse-ne0.true).answered
+
+pub returns-then-fuse-ne0-clause-accepted : goal.returns-then-fuse-ne0-clause-accepted
+returns-then-fuse-ne0-clause-accepted c = (AppliesTo-fused c.args.self.now c.args.entry.now c.fuse.result c.fuse.ensures c.if-fuse-ne0.true).accepted
+
+pub returns-clause-checked : goal.returns-clause-checked
+returns-clause-checked c =
+    (AppliesTo-alone c.args.self.now c.run-verdict.new.self c.args.entry.now c.run-verdict.result c.admin_of.result c.fuse.result c.admin_of.ensures c.fuse.ensures c.if-fuse-ne0.false c.run-verdict.ensures).checked
+
+pub returns-clause-answered : goal.returns-clause-answered
+returns-clause-answered c =
+    (AppliesTo-alone c.args.self.now c.run-verdict.new.self c.args.entry.now c.run-verdict.result c.admin_of.result c.fuse.result c.admin_of.ensures c.fuse.ensures c.if-fuse-ne0.false c.run-verdict.ensures).answered
+
+pub returns-clause-accepted : goal.returns-clause-accepted
+returns-clause-accepted c =
+    (AppliesTo-alone c.args.self.now c.run-verdict.new.self c.args.entry.now c.run-verdict.result c.admin_of.result c.fuse.result c.admin_of.ensures c.fuse.ensures c.if-fuse-ne0.false c.run-verdict.ensures).accepted
