@@ -1,7 +1,8 @@
 -- An admin entry is applied.
-use Rattle.std.proofs.Common.{◌≡◌, ℕ, ◌==◌, ◌&&◌, Bool, true, false, not, if◌then◌else◌, List, [], ◌∷◌, Option, Some, None, refl, sym, ◌∙◌, ap, subst, arith, inl, inr, eqb-true, eq-eqb, true≢false}
+use Rattle.std.proofs.Common.{◌≡◌, ℕ, ◌==◌, ◌&&◌, Bool, true, false, not, if◌then◌else◌, ◌∷◌, Option, Some, None, refl, sym, ◌∙◌, ap, subst, inl, inr, eqb-true, eq-eqb, true≢false}
 use Rattle.std.proofs.Math.Path.{fun_ext}
 use Rattle.std.proofs.lemmas.Bool.{cases_Bool}
+use Rattle.nvme_entry.specs.Checks.{first_failed}
 use Rattle.nvme_entry.specs.Status.{StatusCode, success, invalid_field}
 use Rattle.nvme_entry.specs.Submission.{fuse_of}
 use Rattle.nvme_entry.specs.AdminCommand.{admin_command_of}
@@ -10,10 +11,10 @@ use Rattle.nvme_entry.specs.declared.admin.AdminCommand.{AdminCommand}
 use Rattle.nvme_entry.specs.declared.admin.AdminCommand.TheVariants.{DeleteSq, CreateSq, DeleteCq, CreateCq, SetFeatures, GetFeatures, Other}
 use Rattle.nvme_admin.specs.declared.verdict.SqEntry.{SqEntry}
 use Rattle.nvme_admin.specs.declared.verdict.Verdict.{Verdict}
-use Rattle.nvme_admin.specs.declared.verdict.Verdict.TheVariants.{Done, OpenSq, OpenCq, BeginDelete, CloseCq, SetArbitration}
+use Rattle.nvme_admin.specs.declared.verdict.Verdict.TheVariants.{Done, SetArbitration}
 use Rattle.nvme_admin.specs.History.{Start, TableHistory, EntryApplied, Effects, Accepted}
 use Rattle.nvme_admin.specs.QueueTable.{QueueTable, table_in, number_of_queues}
-use Rattle.nvme_admin.specs.Checks.{row, first_match, rows_of, status_over, is_success, verdict_by, verdict_after, opened_sq, opened_cq, dw0_by, dw0_after, status_in, dw0_in}
+use Rattle.nvme_admin.specs.Checks.{row, rows_of, status_over, is_success, verdict_by, verdict_after, opened_sq, opened_cq, dw0_by, dw0_after, status_in, dw0_in}
 use Rattle.nvme_admin.specs.Accepted.{effects_of, queue_table, status_of, verdict_of, dw0_of}
 use Rattle.nvme_admin.specs.Steps.{table_after}
 use Rattle.nvme_admin.specs.Standing.{TableView, Shows, StandsAt, Does, table_of}
@@ -149,17 +150,17 @@ Applies-accepted start h old new entry verdict s shown status passes is takes =
     (subst (λ (b : Bool). Shows new (table_in start (if b then Accepted (admin_command_of entry) ∷ effects else effects))) (sym passed) (takes start effects shown))
 
 -- the status of an entry that isn't fused is that of its command's rows
-status_over-alone : (t : QueueTable) (entry : Sqe) → fuse_of entry ≡ 0 → status_over t entry ≡ first_match (rows_of t (admin_command_of entry))
-status_over-alone t entry alone = ap (λ (b : Bool). first_match (row (not b) invalid_field ∷ rows_of t (admin_command_of entry))) (eq-eqb (fuse_of entry) 0 alone)
+status_over-alone : (t : QueueTable) (entry : Sqe) → fuse_of entry ≡ 0 → status_over t entry ≡ first_failed (rows_of t (admin_command_of entry))
+status_over-alone t entry alone = ap (λ (b : Bool). first_failed (row (not b) invalid_field ∷ rows_of t (admin_command_of entry))) (eq-eqb (fuse_of entry) 0 alone)
 
 status_over-fused : (t : QueueTable) (entry : Sqe) → (fuse_of entry ≡ 0 → ⊥) → status_over t entry ≡ invalid_field
-status_over-fused t entry fused = ap (λ (b : Bool). first_match (row (not b) invalid_field ∷ rows_of t (admin_command_of entry))) (other (fuse_of entry) 0 fused)
+status_over-fused t entry fused = ap (λ (b : Bool). first_failed (row (not b) invalid_field ∷ rows_of t (admin_command_of entry))) (other (fuse_of entry) 0 fused)
 
 -- an entry that isn't fused
 pub Applies-alone : (start : Start) (h : TableHistory) (old new : TableView) (entry : Sqe) (verdict : Verdict) (command : AdminCommand) (fuse : ℕ)
     → command ≡ admin_command_of entry → fuse ≡ fuse_of entry → fuse ≡ 0 → Does old new command verdict → StandsAt start old h → Applies start h new entry verdict
 Applies-alone start h old new entry verdict command fuse command_is fuse_is alone does_it shown =
-    let s : StatusCode = first_match (rows_of (table_of old) (admin_command_of entry)) in
+    let s : StatusCode = first_failed (rows_of (table_of old) (admin_command_of entry)) in
     let status : status_over (table_of old) entry ≡ s = status_over-alone (table_of old) entry (sym fuse_is ∙ alone) in
     let does : Does old new (admin_command_of entry) verdict = subst (λ (k : AdminCommand). Does old new k verdict) command_is does_it in
     elim (cases_Bool (is_success s)) [
@@ -189,7 +190,7 @@ dw0_of-applied start h new entry verdict a =
 -- a command that isn't answered with success changes nothing
 pub Does-unchanged : (old new : TableView) (command : AdminCommand) (verdict : Verdict) → Does old new command verdict → is_success (status_in verdict) ≡ false → new ≡ old
 Does-unchanged old new command verdict does fails =
-    does.refused (ap is_success (sym (ap status_in does.verdict_is ∙ status_in-verdict (first_match (rows_of (table_of old) command)) (table_of new) command)) ∙ fails)
+    does.refused (ap is_success (sym (ap status_in does.verdict_is ∙ status_in-verdict (first_failed (rows_of (table_of old) command)) (table_of new) command)) ∙ fails)
 
 -- ---- an entry by what the table has
 -- what holds after an entry, by what the table had
@@ -202,7 +203,7 @@ pub record AppliesTo (old new : TableView) (entry : Sqe) (verdict : Verdict) : T
 pub AppliesTo-alone : (old new : TableView) (entry : Sqe) (verdict : Verdict) (command : AdminCommand) (fuse : ℕ)
     → command ≡ admin_command_of entry → fuse ≡ fuse_of entry → fuse ≡ 0 → Does old new command verdict → AppliesTo old new entry verdict
 AppliesTo-alone old new entry verdict command fuse command_is fuse_is alone does_it =
-    let s : StatusCode = first_match (rows_of (table_of old) (admin_command_of entry)) in
+    let s : StatusCode = first_failed (rows_of (table_of old) (admin_command_of entry)) in
     let status : status_over (table_of old) entry ≡ s = status_over-alone (table_of old) entry (sym fuse_is ∙ alone) in
     let does : Does old new (admin_command_of entry) verdict = subst (λ (k : AdminCommand). Does old new k verdict) command_is does_it in
     let told : status_in verdict ≡ s = ap status_in does.verdict_is ∙ status_in-verdict s (table_of new) (admin_command_of entry) in

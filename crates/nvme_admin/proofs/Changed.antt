@@ -1,25 +1,22 @@
 -- What each step of a history changes.
-use Rattle.std.proofs.Common.{◌≡◌, ℕ, ◌<◌, ◌==◌, Bool, true, false, not, if◌then◌else◌, List, [], ◌∷◌, ◌++◌, length, Option, Some, None, is_some, refl, sym, ◌∙◌, ap, subst, inl, inr, eq-eqb, unwrap_or, option_map, true≢false, ◌||◌, eqb-true}
+use Rattle.std.proofs.Common.{◌≡◌, ℕ, ◌<◌, ◌==◌, Bool, true, false, if◌then◌else◌, List, [], ◌∷◌, length, Option, Some, None, refl, sym, ◌∙◌, ap, subst, inl, inr, eq-eqb, unwrap_or, option_map, ◌||◌, eqb-true}
 use Rattle.std.proofs.lemmas.Bool.{cases_eq, cases_Bool}
 use Rattle.nvme_entry.specs.Status.{StatusCode, success}
 use Rattle.nvme_entry.specs.AdminCommand.{admin_command_of}
-use Rattle.nvme_entry.specs.declared.submission.Sqe.{Sqe}
 use Rattle.nvme_entry.specs.declared.admin.AdminCommand.{AdminCommand}
 use Rattle.nvme_entry.specs.declared.admin.AdminCommand.TheVariants.{DeleteSq, CreateSq, DeleteCq, CreateCq, SetFeatures, GetFeatures, Other}
-use Rattle.nvme_arbiter.specs.Settings.{ArbitrationFields}
-use Rattle.nvme_arbiter.specs.declared.settings.Class.{Class}
 use Rattle.nvme_arbiter.specs.declared.settings.Class.TheVariants.{Admin, Urgent, High, Medium, Low}
 use Rattle.nvme_admin.specs.declared.region.Region.{Region}
 use Rattle.nvme_admin.specs.declared.verdict.SqEntry.{SqEntry}
 use Rattle.nvme_admin.specs.declared.verdict.Verdict.{Verdict}
-use Rattle.nvme_admin.specs.declared.verdict.Verdict.TheVariants.{Done, OpenSq, OpenCq, BeginDelete, CloseCq, SetArbitration}
-use Rattle.nvme_admin.specs.History.{Start, TableHistory, EntryApplied, Effects, Accepted, Finished}
-use Rattle.nvme_admin.specs.QueueTable.{QueueTable, table_in, arbitration, number_of_queues, class_of, as_closing, unless_closing, region_number, sq_in, cq_in, io_sq_in, io_cq_in, sq_regions_in, cq_regions_in, settings_in, admin_sq, admin_cq}
-use Rattle.nvme_admin.specs.Checks.{rows_of, status_over, is_success, verdict_by, verdict_after, opened_sq, opened_cq, dw0_after}
+use Rattle.nvme_admin.specs.declared.verdict.Verdict.TheVariants.{Done, SetArbitration}
+use Rattle.nvme_admin.specs.History.{Start, Effects, Accepted, Finished}
+use Rattle.nvme_admin.specs.QueueTable.{table_in, arbitration, number_of_queues, class_of, as_closing, unless_closing, region_number, sq_in, cq_in, io_sq_in, io_cq_in, sq_regions_in, cq_regions_in, settings_in, admin_sq, admin_cq}
+use Rattle.nvme_admin.specs.Checks.{rows_of, status_over, is_success, verdict_after, opened_sq, opened_cq, dw0_after}
 use Rattle.nvme_admin.specs.Accepted.{effects_of, queue_table, status_of, verdict_of}
-use Rattle.nvme_admin.specs.Changes.{TellsChange, IsDue, sq_after, cq_after, settings_after, VerdictsTellChange, FinishTakesOne, RegionOpensAdmin, CqRegionOpensAdmin}
+use Rattle.nvme_admin.specs.Changes.{IsDue, sq_after, cq_after, settings_after, VerdictsTellChange, FinishTakesOne, RegionOpensAdmin, CqRegionOpensAdmin}
 use Rattle.nvme_admin.proofs.Slots.{other, same, admin_sq-append, admin_cq-append}
-use Rattle.nvme_admin.proofs.Reached.{Passes, FindsRegion, create_sq-found, create_cq-found, delete_sq-found, delete_cq-found, none-matches, or_false-parts, not_false, status_over-passes}
+use Rattle.nvme_admin.proofs.Reached.{Passes, create_sq-found, create_cq-found, delete_sq-found, delete_cq-found, none-matches, not_false, status_over-passes}
 
 -- what changes the queue of an I/O identifier leaves the admin queue
 under-admin : {A : Type 0} (f : A → A) (k q : ℕ) (a b : A) → (k ≡ 0 → ⊥)

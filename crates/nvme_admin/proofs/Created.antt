@@ -1,6 +1,7 @@
 -- A queue is created, or its deletion begins.
-use Rattle.std.proofs.Common.{◌≡◌, ℕ, ◌<◌, ◌==◌, ◌||◌, Bool, true, false, not, List, [], ◌∷◌, length, set, get_or, Option, Some, None, refl, sym, ◌∙◌, ap, subst, true≢false, get_or-set_same, unwrap_or, option_map}
+use Rattle.std.proofs.Common.{◌≡◌, ℕ, ◌<◌, ◌==◌, ◌||◌, Bool, true, false, not, [], ◌∷◌, length, set, Option, Some, None, refl, sym, ◌∙◌, ap, subst, true≢false, get_or-set_same, unwrap_or, option_map}
 use Rattle.nvme_arbiter.specs.declared.settings.Class.{Class}
+use Rattle.nvme_entry.specs.Checks.{first_failed}
 use Rattle.nvme_entry.specs.Status.{StatusCode, success, invalid_queue_identifier}
 use Rattle.nvme_entry.specs.declared.admin.AdminCommand.{AdminCommand}
 use Rattle.nvme_entry.specs.declared.admin.AdminCommand.TheVariants.{CreateSq, CreateCq, DeleteSq}
@@ -8,7 +9,7 @@ use Rattle.nvme_admin.specs.declared.bounds.TheConstants.{MAX_REGIONS}
 use Rattle.nvme_admin.specs.declared.verdict.SqEntry.{SqEntry}
 use Rattle.nvme_admin.specs.declared.verdict.Verdict.TheVariants.{OpenSq, OpenCq, BeginDelete}
 use Rattle.nvme_admin.specs.QueueTable.{region_number, class_of, as_closing}
-use Rattle.nvme_admin.specs.Checks.{row, first_match, rows_of, is_success, is_open, verdict_by, opened_sq, opened_cq}
+use Rattle.nvme_admin.specs.Checks.{row, rows_of, is_success, is_open, verdict_by, opened_sq, opened_cq}
 use Rattle.nvme_admin.specs.Standing.{TableView, IsSized, Does, table_of, sq_of}
 use Rattle.nvme_admin.proofs.Slots.{other, within, slot-set, mark-set}
 use Rattle.nvme_admin.proofs.Shown.{Shows-create_sq, Shows-create_cq, Shows-delete_sq}
@@ -19,12 +20,12 @@ passing s p h = true≢false (sym (ap is_success p) ∙ h)
 
 module _ (v w : TableView) (opened : v ≡ w) (sized : IsSized v) (qid qsize prp1 : ℕ) (pc : Bool) (k : ℕ) (room : qid < MAX_REGIONS) (place : k < MAX_REGIONS) (io : qid ≡ 0 → ⊥) where
   pub Does-create_cq : (q n : ℕ) → q ≡ qid → n ≡ k
-      → first_match (rows_of (table_of w) (CreateCq qid qsize prp1 pc)) ≡ success → region_number w.cq_regions prp1 ≡ Some k
+      → first_failed (rows_of (table_of w) (CreateCq qid qsize prp1 pc)) ≡ success → region_number w.cq_regions prp1 ≡ Some k
       → Does w (record v { cqs = set v.cqs q (Some k); cq_used = set v.cq_used n true; created = true }) (CreateCq qid qsize prp1 pc) (OpenCq qid k)
   Does-create_cq q n q_is n_is passed named =
       let command : AdminCommand = CreateCq qid qsize prp1 pc in
       let new : TableView = record v { cqs = set v.cqs qid (Some k); cq_used = set v.cq_used k true; created = true } in
-      let passes : first_match (rows_of (table_of v) command) ≡ success = subst (λ (u : TableView). first_match (rows_of (table_of u) (CreateCq qid qsize prp1 pc)) ≡ success) (sym opened) passed in
+      let passes : first_failed (rows_of (table_of v) command) ≡ success = subst (λ (u : TableView). first_failed (rows_of (table_of u) (CreateCq qid qsize prp1 pc)) ≡ success) (sym opened) passed in
       let region : region_number v.cq_regions prp1 ≡ Some k = subst (λ (u : TableView). region_number u.cq_regions prp1 ≡ Some k) (sym opened) named in
       let within_cqs : qid < length v.cqs = rw sized.cqs room in
       let number : k ≡ unwrap_or (region_number v.cq_regions prp1) 0 = sym (ap (λ (o : Option ℕ). unwrap_or o 0) region) in
@@ -44,21 +45,21 @@ module _ (v w : TableView) (opened : v ≡ w) (sized : IsSized v) (qid qsize prp
           created = refl;
           settings = refl;
         };
-        refused = λ h. absurd (passing (first_match (rows_of (table_of v) command)) passes h);
+        refused = λ h. absurd (passing (first_failed (rows_of (table_of v) command)) passes h);
       } in
       subst (λ (u : TableView). Does u (record v { cqs = set v.cqs q (Some k); cq_used = set v.cq_used n true; created = true }) (CreateCq qid qsize prp1 pc) (OpenCq qid k)) opened
       (subst (λ (j : ℕ). Does v (record v { cqs = set v.cqs j (Some k); cq_used = set v.cq_used n true; created = true }) (CreateCq qid qsize prp1 pc) (OpenCq qid k)) (sym q_is)
       (subst (λ (j : ℕ). Does v (record v { cqs = set v.cqs qid (Some k); cq_used = set v.cq_used j true; created = true }) (CreateCq qid qsize prp1 pc) (OpenCq qid k)) (sym n_is) does))
 
   pub Does-create_sq : (cqid qprio q n : ℕ) (class : Class) → q ≡ qid → n ≡ k → class ≡ class_of qprio
-      → first_match (rows_of (table_of w) (CreateSq qid qsize prp1 cqid qprio pc)) ≡ success → region_number w.sq_regions prp1 ≡ Some k
+      → first_failed (rows_of (table_of w) (CreateSq qid qsize prp1 cqid qprio pc)) ≡ success → region_number w.sq_regions prp1 ≡ Some k
       → Does w (record v { sqs = set v.sqs q (Some (record { region = k; cqid = cqid; class = class; closing = false })); sq_used = set v.sq_used n true; created = true })
       (CreateSq qid qsize prp1 cqid qprio pc) (OpenSq qid k cqid class)
   Does-create_sq cqid qprio q n class q_is n_is class_is passed named =
       let command : AdminCommand = CreateSq qid qsize prp1 cqid qprio pc in
       let queue : SqEntry = record { region = k; cqid = cqid; class = class_of qprio; closing = false } in
       let new : TableView = record v { sqs = set v.sqs qid (Some queue); sq_used = set v.sq_used k true; created = true } in
-      let passes : first_match (rows_of (table_of v) command) ≡ success = subst (λ (u : TableView). first_match (rows_of (table_of u) (CreateSq qid qsize prp1 cqid qprio pc)) ≡ success) (sym opened) passed in
+      let passes : first_failed (rows_of (table_of v) command) ≡ success = subst (λ (u : TableView). first_failed (rows_of (table_of u) (CreateSq qid qsize prp1 cqid qprio pc)) ≡ success) (sym opened) passed in
       let region : region_number v.sq_regions prp1 ≡ Some k = subst (λ (u : TableView). region_number u.sq_regions prp1 ≡ Some k) (sym opened) named in
       let within_sqs : qid < length v.sqs = rw sized.sqs room in
       let number : k ≡ unwrap_or (region_number v.sq_regions prp1) 0 = sym (ap (λ (o : Option ℕ). unwrap_or o 0) region) in
@@ -79,7 +80,7 @@ module _ (v w : TableView) (opened : v ≡ w) (sized : IsSized v) (qid qsize prp
           created = refl;
           settings = refl;
         };
-        refused = λ h. absurd (passing (first_match (rows_of (table_of v) command)) passes h);
+        refused = λ h. absurd (passing (first_failed (rows_of (table_of v) command)) passes h);
       } in
       subst (λ (u : TableView). Does u (record v { sqs = set v.sqs q (Some (record { region = k; cqid = cqid; class = class; closing = false })); sq_used = set v.sq_used n true; created = true }) (CreateSq qid qsize prp1 cqid qprio pc) (OpenSq qid k cqid class)) opened
       (subst (λ (j : ℕ). Does v (record v { sqs = set v.sqs j (Some (record { region = k; cqid = cqid; class = class; closing = false })); sq_used = set v.sq_used n true; created = true }) (CreateSq qid qsize prp1 cqid qprio pc) (OpenSq qid k cqid class)) (sym q_is)
@@ -93,7 +94,7 @@ Does-delete_sq v w qid q queue opened q_is io found closing =
     let new : TableView = record v { sqs = set v.sqs qid (Some (as_closing queue)) } in
     let here : sq_of v qid ≡ Some queue = subst (λ (u : TableView). sq_of u qid ≡ Some queue) (sym opened) found in
     let test : (qid == 0 || not (is_open (sq_of v qid))) ≡ false = (λ i. (other qid 0 io) i || not (is_open (here i))) ∙ (λ i. not (not (closing i))) in
-    let passes : first_match (rows_of (table_of v) command) ≡ success = ap (λ (b : Bool). first_match (row b invalid_queue_identifier ∷ [])) test in
+    let passes : first_failed (rows_of (table_of v) command) ≡ success = ap (λ (b : Bool). first_failed (row b invalid_queue_identifier ∷ [])) test in
     let does : Does v new command (BeginDelete qid) = record {
       verdict_is = sym (ap (λ (s : StatusCode). verdict_by s (table_of new) command) passes);
       accepted = λ _ start e s. Shows-delete_sq start e v qid queue io here s;
@@ -110,7 +111,7 @@ Does-delete_sq v w qid q queue opened q_is io found closing =
         created = refl;
         settings = refl;
       };
-      refused = λ h. absurd (passing (first_match (rows_of (table_of v) command)) passes h);
+      refused = λ h. absurd (passing (first_failed (rows_of (table_of v) command)) passes h);
     } in
     subst (λ (u : TableView). Does u (record v { sqs = set v.sqs q (Some (record queue { closing = true })) }) (DeleteSq qid) (BeginDelete qid)) opened
     (subst (λ (j : ℕ). Does v (record v { sqs = set v.sqs j (Some (record queue { closing = true })) }) (DeleteSq qid) (BeginDelete qid)) (sym q_is) does)

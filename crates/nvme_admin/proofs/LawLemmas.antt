@@ -1,20 +1,19 @@
 -- Laws over table histories.
-use Rattle.std.proofs.Common.{◌≡◌, ℕ, zero, suc, ◌+◌, ◌<◌, ◌≤◌, ◌==◌, ◌||◌, ◌&&◌, ◌⊎◌, Bool, true, false, if◌then◌else◌, List, [], ◌∷◌, ◌++◌, Option, Some, None, is_some, is_none, refl, sym, ◌∙◌, ap, subst, arith, inl, inr, true≢false, eqb-true, min, option_map, option_to_list, unwrap_or, eq-eqb, le_trans}
+use Rattle.std.proofs.Common.{◌≡◌, ℕ, zero, suc, ◌<◌, ◌≤◌, ◌==◌, ◌||◌, ◌&&◌, ◌⊎◌, Bool, true, false, if◌then◌else◌, List, [], ◌∷◌, ◌++◌, Option, Some, None, is_some, is_none, refl, sym, ◌∙◌, ap, subst, arith, inl, inr, true≢false, eqb-true, option_map, option_to_list, unwrap_or, eq-eqb, le_trans}
 use Rattle.std.specs.List.{list_any}
 use Rattle.std.proofs.lemmas.Bool.{cases_Bool, cases_eq, eqb-false}
 use Rattle.std.proofs.lemmas.Option.{none-some, same_Some}
 use Rattle.nvme_entry.specs.AdminCommand.{admin_command_of}
-use Rattle.nvme_entry.specs.declared.submission.Sqe.{Sqe}
 use Rattle.nvme_entry.specs.declared.admin.AdminCommand.{AdminCommand}
 use Rattle.nvme_entry.specs.declared.admin.AdminCommand.TheVariants.{DeleteSq, CreateSq, DeleteCq, CreateCq, SetFeatures, GetFeatures, Other}
 use Rattle.nvme_admin.specs.declared.bounds.TheConstants.{MAX_REGIONS}
 use Rattle.nvme_admin.specs.declared.region.Region.{Region}
 use Rattle.nvme_admin.specs.declared.verdict.SqEntry.{SqEntry}
-use Rattle.nvme_admin.specs.History.{Start, TableHistory, RegionAdded, EntryApplied, DeletionFinished, Kind, Effects, Added, Accepted, Finished}
-use Rattle.nvme_admin.specs.QueueTable.{QueueTable, table_in, is_used, class_of, admin_sq, number_of_queues, region_number, as_closing, unless_closing, sq_in, cq_in, io_sq_in, io_cq_in, sq_regions_in, cq_regions_in, sq_named_in, cq_named_in, first_request_in, created_in, nsq_by, ncq_by, nsqr_of, ncqr_of}
+use Rattle.nvme_admin.specs.History.{Start, TableHistory, RegionAdded, EntryApplied, DeletionFinished, Effects, Accepted}
+use Rattle.nvme_admin.specs.QueueTable.{QueueTable, table_in, is_used, class_of, admin_sq, number_of_queues, region_number, as_closing, unless_closing, sq_in, io_sq_in, io_cq_in, sq_regions_in, sq_named_in, cq_named_in, first_request_in, created_in, nsq_by, ncq_by}
 use Rattle.nvme_admin.specs.Checks.{rows_of, status_over, is_success, some_below, attaches}
-use Rattle.nvme_admin.specs.Accepted.{effects_of, queue_table, status_of, is_accepted}
-use Rattle.nvme_admin.specs.Laws.{AttachedStayOpen, NamedOnce, RegionsAreUsedOnce, NoRequestAfterCreate, AreNumbersFixed, NumbersStayFixed, RegionsTellQueues}
+use Rattle.nvme_admin.specs.Accepted.{effects_of, queue_table, status_of}
+use Rattle.nvme_admin.specs.Laws.{AttachedStayOpen, NamedOnce, RegionsAreUsedOnce, NoRequestAfterCreate, NumbersStayFixed, RegionsTellQueues}
 use Rattle.nvme_admin.proofs.Slots.{other, same, sq_in-io, cq_in-io}
 use Rattle.nvme_admin.proofs.Reached.{Passes, reached, none-matches, create_sq-found, create_cq-found, delete_cq-found, set_numbers-found, status_over-passes}
 

@@ -1,12 +1,12 @@
 -- What an open queue's Create found, for as long as the queue is there.
-use Rattle.std.proofs.Common.{◌≡◌, ℕ, zero, suc, ◌+◌, ◌≤◌, ◌==◌, ◌⊎◌, Bool, true, false, if◌then◌else◌, List, [], ◌∷◌, ◌++◌, Option, Some, None, is_some, refl, sym, ◌∙◌, ap, subst, inl, inr, option_map, unwrap_or, slice_get, eqb-true}
+use Rattle.std.proofs.Common.{◌≡◌, ℕ, zero, suc, ◌+◌, ◌≤◌, ◌==◌, ◌⊎◌, Bool, true, false, if◌then◌else◌, List, [], ◌∷◌, ◌++◌, Option, Some, None, refl, sym, ◌∙◌, ap, subst, inl, inr, unwrap_or, slice_get, eqb-true}
 use Rattle.std.proofs.lemmas.Option.{none-some, same_Some}
 use Rattle.nvme_entry.specs.declared.admin.AdminCommand.{AdminCommand}
 use Rattle.nvme_entry.specs.declared.admin.AdminCommand.TheVariants.{DeleteSq, CreateSq, DeleteCq, CreateCq, SetFeatures, GetFeatures, Other}
 use Rattle.nvme_admin.specs.declared.region.Region.{Region}
 use Rattle.nvme_admin.specs.declared.verdict.SqEntry.{SqEntry}
-use Rattle.nvme_admin.specs.History.{Start, TableHistory, Kind, Submission, Completion, Effects, Added, Accepted, Finished}
-use Rattle.nvme_admin.specs.QueueTable.{QueueTable, table_in, class_of, region_number, sq_in, cq_in, io_sq_in, io_cq_in, sq_regions_in, cq_regions_in, first_request_in, created_in, nsq_by, ncq_by}
+use Rattle.nvme_admin.specs.History.{Start, TableHistory, Kind, Submission, Completion, Effects, Added, Accepted}
+use Rattle.nvme_admin.specs.QueueTable.{table_in, region_number, io_sq_in, io_cq_in, sq_regions_in, cq_regions_in, first_request_in, created_in, nsq_by, ncq_by}
 use Rattle.nvme_admin.specs.Accepted.{effects_of, queue_table}
 use Rattle.nvme_admin.specs.Laws.{SqsAreAllotted, CqsAreAllotted, sq_asked_in, cq_asked_in, SqsHaveTheirRegions, CqsHaveTheirRegions}
 use Rattle.nvme_admin.proofs.Slots.{sq_in-io, cq_in-io}

@@ -1,24 +1,24 @@
 -- What is true of every table that a history reaches, and what it means that a command passes its checks.
-use Rattle.std.proofs.Common.{◌≡◌, ℕ, ◌+◌, ◌<◌, ◌≤◌, ◌==◌, ◌||◌, ◌&&◌, Bool, true, false, not, nat_lt, if◌then◌else◌, List, [], ◌∷◌, ◌++◌, length, Option, Some, None, is_some, is_none, refl, sym, ◌∙◌, ap, subst, arith, inl, inr, true≢false, ltb-false, slice_get, get_or, eqb-true}
+use Rattle.std.proofs.Common.{◌≡◌, ℕ, ◌+◌, ◌<◌, ◌≤◌, ◌==◌, ◌||◌, ◌&&◌, Bool, true, false, not, nat_lt, if◌then◌else◌, List, [], ◌∷◌, length, Option, Some, None, is_some, is_none, refl, sym, ◌∙◌, ap, subst, inl, inr, true≢false, ltb-false, slice_get, get_or, eqb-true}
 use Rattle.std.proofs.lemmas.Bool.{cases_Bool, eqb-false}
 use Rattle.std.proofs.lemmas.List.Quantifiers.{position-Some}
 use Rattle.std.proofs.lemmas.Option.{slice_get-get_or}
 use Rattle.nvme_entry.specs.Status.{StatusCode, invalid_field}
+use Rattle.nvme_entry.specs.Checks.{Check, first_failed}
 use Rattle.nvme_entry.specs.Submission.{fuse_of}
 use Rattle.nvme_entry.specs.AdminCommand.{admin_command_of}
 use Rattle.nvme_entry.specs.declared.submission.Sqe.{Sqe}
 use Rattle.nvme_entry.specs.declared.admin.AdminCommand.{AdminCommand}
-use Rattle.nvme_entry.specs.declared.admin.AdminCommand.TheVariants.{DeleteSq, CreateSq, DeleteCq, CreateCq, SetFeatures, GetFeatures, Other}
+use Rattle.nvme_entry.specs.declared.admin.AdminCommand.TheVariants.{DeleteSq, CreateSq, DeleteCq, CreateCq, SetFeatures}
 use Rattle.nvme_admin.specs.declared.region.Region.{Region}
-use Rattle.nvme_admin.specs.declared.verdict.SqEntry.{SqEntry}
 use Rattle.nvme_admin.specs.History.{Start, TableHistory, RegionAdded, EntryApplied, DeletionFinished, Kind, Effects, Added, Accepted, Finished}
 use Rattle.nvme_admin.specs.QueueTable.{QueueTable, table_in, region_number, number_of_queues}
-use Rattle.nvme_admin.specs.Checks.{Row, row, first_match, rows_of, status_over, is_success, is_open, is_attached, is_free, is_fit, has_slots}
-use Rattle.nvme_admin.specs.Accepted.{effects_of, queue_table, status_of, is_accepted}
+use Rattle.nvme_admin.specs.Checks.{rows_of, status_over, is_success, is_open, is_attached, is_free, is_fit, has_slots}
+use Rattle.nvme_admin.specs.Accepted.{effects_of}
 
 -- a command passes its checks
 abbrev pub Passes : QueueTable → AdminCommand → Type 0
-Passes t command = is_success (first_match (rows_of t command)) ≡ true
+Passes t command = is_success (first_failed (rows_of t command)) ≡ true
 
 -- ---- tests
 pub or_false-parts : (a b : Bool) → (a || b) ≡ false → (a ≡ false) × (b ≡ false)
@@ -46,24 +46,24 @@ not_none None h = absurd (true≢false h)
 not_none (Some x) h = refl
 
 -- each row gives a failure
-abbrev pub AllFailures : List Row → Type 0
+abbrev pub AllFailures : List Check → Type 0
 AllFailures [] = Unit {0}
 AllFailures (r ∷ rs) = (is_success r.status ≡ false) × AllFailures rs
 
 -- no row matches
-abbrev pub NoneMatches : List Row → Type 0
+abbrev pub NoneMatches : List Check → Type 0
 NoneMatches [] = Unit {0}
-NoneMatches (r ∷ rs) = (r.test ≡ false) × NoneMatches rs
+NoneMatches (r ∷ rs) = (r.fails ≡ false) × NoneMatches rs
 
 first_test : (b : Bool) (s r : StatusCode) → is_success s ≡ false → is_success (if b then s else r) ≡ true → (b ≡ false) × (is_success r ≡ true)
 first_test true s r f h = absurd (true≢false (sym h ∙ f))
 first_test false s r f h = (refl, h)
 
 -- no row of failures matches where success comes out
-pub none-matches : (rows : List Row) → AllFailures rows → is_success (first_match rows) ≡ true → NoneMatches rows
+pub none-matches : (rows : List Check) → AllFailures rows → is_success (first_failed rows) ≡ true → NoneMatches rows
 none-matches [] f h = tt
 none-matches (r ∷ rs) f h =
-    let first = first_test r.test r.status (first_match rs) f.0 h in
+    let first = first_test r.fails r.status (first_failed rs) f.0 h in
     (first.0, none-matches rs f.1 first.1)
 
 -- ---- what a command that passes has found
@@ -179,7 +179,7 @@ set_numbers-found t sv cdw11 h =
 -- ---- histories
 -- an entry of success isn't fused, and its command passes
 pub status_over-passes : (t : QueueTable) (entry : Sqe) → is_success (status_over t entry) ≡ true → Passes t (admin_command_of entry)
-status_over-passes t entry h = (first_test (not (fuse_of entry == 0)) invalid_field (first_match (rows_of t (admin_command_of entry))) refl h).1
+status_over-passes t entry h = (first_test (not (fuse_of entry == 0)) invalid_field (first_failed (rows_of t (admin_command_of entry))) refl h).1
 
 -- what is true at the start and kept by every step that takes effect is true after every history
 pub reached : (start : Start) (P : Effects → Type 0)

@@ -1,14 +1,13 @@
 -- What a table shows after each step that takes effect.
-use Rattle.std.proofs.Common.{◌≡◌, ℕ, zero, suc, ◌+◌, ◌<◌, ◌≤◌, ◌==◌, ◌||◌, Bool, true, false, not, if◌then◌else◌, List, [], ◌∷◌, ◌++◌, length, get_or, set, Option, Some, None, is_some, is_none, IsSomeAnd, refl, sym, ◌∙◌, ap, subst, arith, min, unwrap_or, option_map}
-use Rattle.nvme_arbiter.specs.Settings.{settings_of}
+use Rattle.std.proofs.Common.{◌≡◌, ℕ, ◌<◌, Bool, true, false, if◌then◌else◌, List, [], ◌∷◌, ◌++◌, length, set, Option, Some, None, IsSomeAnd, refl, sym, ◌∙◌, ap, subst, arith, unwrap_or, option_map}
 use Rattle.nvme_arbiter.specs.declared.settings.Class.TheVariants.{Admin}
-use Rattle.nvme_entry.specs.declared.admin.AdminCommand.TheVariants.{DeleteSq, CreateSq, DeleteCq, CreateCq, SetFeatures, GetFeatures, Other}
+use Rattle.nvme_entry.specs.declared.admin.AdminCommand.TheVariants.{DeleteSq, CreateSq, CreateCq}
 use Rattle.nvme_admin.specs.declared.bounds.TheConstants.{MAX_REGIONS}
 use Rattle.nvme_admin.specs.declared.region.Region.{Region}
 use Rattle.nvme_admin.specs.declared.verdict.SqEntry.{SqEntry}
 use Rattle.nvme_admin.specs.History.{Start, Effects, Submission, Completion, Added, Accepted, Finished}
-use Rattle.nvme_admin.specs.QueueTable.{QueueTable, table_in, region_number, class_of, as_closing, unless_closing, sq_in, cq_in, io_sq_in, io_cq_in, sq_regions_in, cq_regions_in, sq_named_in, cq_named_in, first_request_in, nsq_by, ncq_by, nsqr_of, ncqr_of}
-use Rattle.nvme_admin.specs.Standing.{TableView, IsSized, Shows, sq_of, cq_of}
+use Rattle.nvme_admin.specs.QueueTable.{table_in, region_number, class_of, as_closing, unless_closing, io_sq_in, sq_regions_in, cq_regions_in, sq_named_in, cq_named_in}
+use Rattle.nvme_admin.specs.Standing.{TableView, IsSized, Shows, sq_of}
 use Rattle.nvme_admin.proofs.Slots.{other, same, within, closing_some, admin_sq-open, admin_sq-append, admin_cq-append, sq-set, cq-set, sq-set-admin, cq-set-admin, used-set}
 
 module _ (start : Start) (e : Effects) (v : TableView) where

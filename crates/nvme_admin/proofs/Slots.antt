@@ -1,5 +1,5 @@
 -- Lists of slots, and the small words of the queue table.
-use Rattle.std.proofs.Common.{◌≡◌, ℕ, zero, suc, ◌+◌, ◌<◌, ◌≤◌, ◌==◌, ◌||◌, ◌&&◌, Bool, true, false, not, if◌then◌else◌, List, [], ◌∷◌, ◌++◌, length, get_or, set, take, replicate, Option, Some, None, is_some, is_none, IsSomeAnd, refl, sym, ◌∙◌, ap, subst, arith, rules, inl, inr, min, eq-eqb, get_or-set_same, get_or-set_other, take_all, add-one, option_to_list, slice_get}
+use Rattle.std.proofs.Common.{◌≡◌, ℕ, zero, suc, ◌+◌, ◌<◌, ◌≤◌, ◌==◌, ◌||◌, Bool, true, false, if◌then◌else◌, List, [], ◌∷◌, ◌++◌, length, get_or, set, take, replicate, Option, Some, None, IsSomeAnd, refl, sym, ◌∙◌, ap, subst, arith, inl, inr, eq-eqb, get_or-set_same, get_or-set_other, take_all, add-one, option_to_list}
 use Rattle.std.specs.List.{list_any}
 use Rattle.std.proofs.lemmas.Bool.{cases_eq}
 use Rattle.std.proofs.lemmas.Bool.Decides.{nat_tests}
@@ -7,8 +7,8 @@ use Rattle.std.proofs.lemmas.List.Folds.{list_any_more}
 use Rattle.std.proofs.lemmas.Option.{none-some}
 use Rattle.nvme_admin.specs.declared.region.Region.{Region}
 use Rattle.nvme_admin.specs.declared.verdict.SqEntry.{SqEntry}
-use Rattle.nvme_admin.specs.History.{Start, Effects}
-use Rattle.nvme_admin.specs.QueueTable.{is_used, admin_sq, admin_cq, unless_closing, nsq_by, ncq_by, nsqr_of, ncqr_of, sq_in, cq_in, io_sq_in, io_cq_in, sq_regions_in, cq_regions_in}
+use Rattle.nvme_admin.specs.History.{Effects}
+use Rattle.nvme_admin.specs.QueueTable.{is_used, admin_sq, admin_cq, sq_in, cq_in, io_sq_in, io_cq_in, sq_regions_in, cq_regions_in}
 use Rattle.nvme_admin.specs.Checks.{some_below}
 
 pub other : (k q : ℕ) → (k ≡ q → ⊥) → (k == q) ≡ false

@@ -1,12 +1,12 @@
 -- What each step of a table history changes, and when a verdict is due.
-use Rattle.std.specs.Prelude.{◌≡◌, ◌≢◌, ℕ, ◌<◌, ◌==◌, if◌then◌else◌, Bool, true, false, length, ◌∷◌, Option, Some, None, is_some, option_map}
+use Rattle.std.specs.Prelude.{◌≡◌, ◌≢◌, ℕ, ◌<◌, ◌==◌, if◌then◌else◌, true, false, length, ◌∷◌, Option, Some, None, is_some, option_map}
 use Rattle.nvme_entry.specs.declared.submission.Sqe.{Sqe}
 use Rattle.nvme_arbiter.specs.Settings.{ArbitrationFields}
 use Rattle.nvme_arbiter.specs.declared.settings.Class.{Class}
 use Rattle.nvme_arbiter.specs.declared.settings.Class.TheVariants.{Admin}
 use Rattle.nvme_admin.specs.declared.verdict.SqEntry.{SqEntry}
 use Rattle.nvme_admin.specs.declared.verdict.Verdict.{Verdict}
-use Rattle.nvme_admin.specs.declared.verdict.Verdict.TheVariants.{Done, OpenSq, OpenCq, BeginDelete, CloseCq, SetArbitration}
+use Rattle.nvme_admin.specs.declared.verdict.Verdict.TheVariants.{OpenSq, OpenCq, BeginDelete, CloseCq, SetArbitration}
 use Rattle.nvme_admin.specs.History.{Start, TableHistory, Submission, Completion, RegionAdded, EntryApplied, DeletionFinished}
 use Rattle.nvme_admin.specs.QueueTable.{QueueTable, as_closing, unless_closing}
 use Rattle.nvme_admin.specs.Checks.{is_open, is_attached}

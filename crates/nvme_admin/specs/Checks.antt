@@ -1,5 +1,6 @@
--- The checks of admin commands over a queue table. The first row that matches gives the status (order: profile).
+-- The checks of admin commands over a queue table. The first row that a command fails gives its status (order: profile).
 use Rattle.std.specs.Prelude.{ℕ, zero, suc, ◌+◌, ◌-◌, ◌*◌, ◌^◌, ◌==◌, ◌&&◌, ◌||◌, Bool, true, false, not, nat_lt, if◌then◌else◌, List, [], ◌∷◌, Option, Some, None, is_none, is_some, slice_get}
+use Rattle.nvme_entry.specs.Checks.{Check, first_failed}
 use Rattle.nvme_entry.specs.Status.{StatusCode, success, invalid_opcode, invalid_field, sequence_error, completion_queue_invalid, invalid_queue_identifier, invalid_queue_size, invalid_queue_deletion, feature_not_saveable}
 use Rattle.nvme_entry.specs.Submission.{fuse_of}
 use Rattle.nvme_entry.specs.AdminCommand.{admin_command_of}
@@ -14,18 +15,9 @@ use Rattle.nvme_admin.specs.declared.verdict.Verdict.{Verdict}
 use Rattle.nvme_admin.specs.declared.verdict.Verdict.TheVariants.{Done, OpenSq, OpenCq, BeginDelete, CloseCq, SetArbitration}
 use Rattle.nvme_admin.specs.QueueTable.{QueueTable, region_number, arbitration, number_of_queues, nsqr_of, ncqr_of}
 
--- a row: a test and the status that it gives
-pub record Row : Type 0 where
-  pub test : Bool
-  pub status : StatusCode
-
-abbrev pub row : Bool → StatusCode → Row
-row test status = record { test = test; status = status }
-
--- the status of the first row whose test passes, and success where none does
-abbrev pub first_match : List Row → StatusCode
-first_match [] = success
-first_match (r ∷ rows) = if r.test then r.status else first_match rows
+-- a row of the checks: when a command fails it, and the status that answers it then
+abbrev pub row : Bool → StatusCode → Check
+row fails status = record { fails = fails; status = status }
 
 -- a region has this number of slots
 abbrev pub has_slots : Option Region → ℕ → Bool
@@ -61,7 +53,7 @@ abbrev pub is_attached : QueueTable → ℕ → Bool
 is_attached t cqid = some_below (λ q. attaches cqid (t.sq q)) MAX_REGIONS
 
 -- the rows of each command
-abbrev pub rows_of : QueueTable → AdminCommand → List Row
+abbrev pub rows_of : QueueTable → AdminCommand → List Check
 rows_of t (CreateCq qid qsize prp1 pc) =
     -- PC: a queue that isn't physically contiguous isn't supported. (Create I/O Completion Queue, Command Dword 11)
     row (not pc) invalid_field
@@ -118,7 +110,7 @@ rows_of t Other =
 -- the status of an admin entry over a queue table
 abbrev pub status_over : QueueTable → Sqe → StatusCode
 status_over t entry =
-    first_match (
+    first_failed (
     -- FUSE: no fused admin command is supported. (Common Command Format, Command Dword 0; profile)
     row (not (fuse_of entry == 0)) invalid_field
     ∷ rows_of t (admin_command_of entry))

@@ -6,7 +6,7 @@ use Rattle.nvme_entry.specs.declared.admin.AdminCommand.TheVariants.{CreateSq, C
 use Rattle.nvme_admin.specs.declared.bounds.TheConstants.{MAX_REGIONS}
 use Rattle.nvme_admin.specs.declared.verdict.SqEntry.{SqEntry}
 use Rattle.nvme_admin.specs.declared.region.Region.{Region}
-use Rattle.nvme_admin.specs.History.{Start, TableHistory, EntryApplied, Effects, Accepted}
+use Rattle.nvme_admin.specs.History.{Start, TableHistory, Effects, Accepted}
 use Rattle.nvme_admin.specs.QueueTable.{is_used, sq_named_in, cq_named_in, number_of_queues}
 use Rattle.nvme_admin.specs.Accepted.{effects_of, queue_table, is_accepted, sq_at, cq_at, nsq_at, ncq_at}
 

@@ -1,16 +1,15 @@
 -- The queue table: what stands after the steps that took effect, by looking back over them.
 -- (Base Specification: Create and Delete I/O Submission and Completion Queue, Arbitration feature, Number of Queues feature)
-use Rattle.std.specs.Prelude.{ℕ, ◌+◌, ◌==◌, ◌&&◌, ◌||◌, Bool, true, false, not, min, if◌then◌else◌, List, [], ◌∷◌, ◌++◌, Option, Some, None, is_none, is_some, option_map, option_to_list, unwrap_or, position, slice_get}
+use Rattle.std.specs.Prelude.{ℕ, ◌+◌, ◌==◌, ◌&&◌, ◌||◌, Bool, true, false, min, if◌then◌else◌, List, [], ◌∷◌, ◌++◌, Option, Some, None, is_none, is_some, option_map, option_to_list, unwrap_or, position}
 use Rattle.std.specs.List.{list_any}
 use Rattle.nvme_entry.specs.Bits.{bits_of}
-use Rattle.nvme_entry.specs.declared.admin.AdminCommand.{AdminCommand}
-use Rattle.nvme_entry.specs.declared.admin.AdminCommand.TheVariants.{DeleteSq, CreateSq, DeleteCq, CreateCq, SetFeatures, GetFeatures, Other}
+use Rattle.nvme_entry.specs.declared.admin.AdminCommand.TheVariants.{DeleteSq, CreateSq, DeleteCq, CreateCq, SetFeatures}
 use Rattle.nvme_arbiter.specs.Settings.{ArbitrationFields, settings_of}
 use Rattle.nvme_arbiter.specs.declared.settings.Class.{Class}
 use Rattle.nvme_arbiter.specs.declared.settings.Class.TheVariants.{Admin, Urgent, High, Medium, Low}
 use Rattle.nvme_admin.specs.declared.region.Region.{Region}
 use Rattle.nvme_admin.specs.declared.verdict.SqEntry.{SqEntry}
-use Rattle.nvme_admin.specs.History.{Kind, Submission, Completion, Start, Effect, Added, Accepted, Finished, Effects}
+use Rattle.nvme_admin.specs.History.{Submission, Completion, Start, Added, Accepted, Finished, Effects}
 
 -- the queue table, as total look-ups
 pub record QueueTable : Type 0 where

@@ -1,7 +1,6 @@
 -- What a contract sees of a `Table`, and when a table stands at a table history.
-use Rattle.std.specs.Prelude.{◌≡◌, ℕ, ◌==◌, Bool, true, false, nat_lt, ◌||◌, if◌then◌else◌, List, [], ◌∷◌, ◌++◌, length, Option, Some, None, is_some, slice_index_or}
+use Rattle.std.specs.Prelude.{◌≡◌, ℕ, ◌==◌, Bool, true, false, nat_lt, ◌||◌, if◌then◌else◌, List, ◌∷◌, length, Option, Some, None, is_some, slice_index_or}
 use Rattle.nvme_entry.specs.Status.{StatusCode}
-use Rattle.nvme_entry.specs.declared.submission.Sqe.{Sqe}
 use Rattle.nvme_entry.specs.declared.admin.AdminCommand.{AdminCommand}
 use Rattle.nvme_arbiter.specs.Settings.{ArbitrationFields}
 use Rattle.nvme_admin.specs.declared.bounds.TheConstants.{MAX_REGIONS, MIN_SLOTS, MAX_SLOTS}
@@ -12,7 +11,8 @@ use Rattle.nvme_admin.specs.declared.verdict.SqEntry.{SqEntry}
 use Rattle.nvme_admin.specs.declared.verdict.Verdict.{Verdict}
 use Rattle.nvme_admin.specs.History.{Start, TableHistory, Effects, Accepted}
 use Rattle.nvme_admin.specs.QueueTable.{QueueTable, region_number, table_in}
-use Rattle.nvme_admin.specs.Checks.{rows_of, first_match, is_success, verdict_by}
+use Rattle.nvme_entry.specs.Checks.{first_failed}
+use Rattle.nvme_admin.specs.Checks.{rows_of, is_success, verdict_by}
 use Rattle.nvme_admin.specs.Accepted.{queue_table}
 use Rattle.nvme_admin.specs.Steps.{table_after}
 
@@ -92,7 +92,7 @@ table_of v = record {
 
 -- the status of a command over the queue table that a table has
 abbrev pub command_status : TableView → AdminCommand → StatusCode
-command_status v command = first_match (rows_of (table_of v) command)
+command_status v command = first_failed (rows_of (table_of v) command)
 
 -- what a command does to a table
 pub record Does (old new : TableView) (command : AdminCommand) (verdict : Verdict) : Type 0 where

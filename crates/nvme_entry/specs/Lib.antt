@@ -1,5 +1,6 @@
 pub mod AdminCommand
 pub mod Bits
+pub mod Checks
 pub mod Completion
 pub mod Namespaces
 pub mod Outcome

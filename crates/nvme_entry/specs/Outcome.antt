@@ -1,21 +1,12 @@
 -- The outcome of an I/O command: the status of the first check that it fails, or success.
 -- (NVM Command Set, Flush, Write and Read; the order, and the broadcast identifier in Read and
 -- Write: profile)
-use Rattle.std.specs.Prelude.{ℕ, ◌+◌, ◌==◌, nat_lt, List, [], ◌∷◌, Bool, not, ◌&&◌, ◌||◌, is_none, unwrap_or, if◌then◌else◌}
-use Rattle.nvme_entry.specs.Status.{StatusCode, success, invalid_opcode, invalid_field, invalid_namespace, lba_out_of_range}
+use Rattle.std.specs.Prelude.{ℕ, ◌+◌, ◌==◌, nat_lt, List, [], ◌∷◌, Bool, not, ◌&&◌, ◌||◌, is_none, unwrap_or}
+use Rattle.nvme_entry.specs.Checks.{Check, first_failed}
+use Rattle.nvme_entry.specs.Status.{StatusCode, invalid_opcode, invalid_field, invalid_namespace, lba_out_of_range}
 use Rattle.nvme_entry.specs.Submission.{fuse_of, slba_of, nlb_of}
 use Rattle.nvme_entry.specs.Namespaces.{size_at}
 use Rattle.nvme_entry.specs.declared.submission.Sqe.{Sqe}
-
--- a check: whether a command fails it, and the status that answers it then
-pub record Check : Type 0 where
-  pub fails : Bool
-  pub status : StatusCode
-
--- the status of the first check that fails
-abbrev pub first_failed : List Check → StatusCode
-first_failed [] = success
-first_failed (check ∷ checks) = if check.fails then check.status else first_failed checks
 
 abbrev pub is_flush : Sqe → Bool
 is_flush entry = entry.opcode == 0x00

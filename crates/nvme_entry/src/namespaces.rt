@@ -1,12 +1,13 @@
-ghost use Rattle.std.specs.Prelude.{◌≡◌, ℕ, ◌<◌, ◌≤◌, ◌↔◌, length, Contains, IsErrOf, IfOk};
+ghost use Rattle.std.specs.Prelude.{◌≡◌, ℕ, ◌<◌, ◌≤◌, ◌↔◌, length, Contains, IsErrOf, IfOk, IfSome};
 ghost use Rattle.nvme_entry.specs.Namespaces.{size_at};
 
 use std::marker::Model;
+use thiserror::Error;
 
 /// How many namespaces there may be.
 pub const MAX_NAMESPACES: usize = 16;
 
-/// The sizes of the namespaces in logical blocks: the first is that of namespace identifier 1.
+/// The sizes of the namespaces in logical blocks, each at least 1: the first is that of namespace identifier 1.
 /// Contracts see the list of the sizes. (Base Specification, Namespaces; their number: profile)
 #[derive(Clone, Copy, Debug, PartialEq, Eq)]
 pub struct Namespaces {
@@ -31,11 +32,13 @@ impl Model for Namespaces {
 }
 
 /// Why sizes were not taken as those of namespaces.
-#[derive(Clone, Copy, Debug, PartialEq, Eq)]
+#[derive(Clone, Copy, Debug, PartialEq, Eq, Error)]
 pub enum SpaceError {
     /// There are more than `MAX_NAMESPACES` sizes.
+    #[error("more than {max} namespaces", max = MAX_NAMESPACES)]
     TooMany,
     /// A size is 0.
+    #[error("a namespace of size 0")]
     Empty,
 }
 
@@ -63,7 +66,8 @@ impl Namespaces {
 
     /// The size of a namespace in logical blocks, or `None` where its identifier names none.
     pub fn size(&self, nsid: u32) -> Option<u64>
-        ensures { result ≡ size_at self.now nsid }
+        ensures value { result ≡ size_at self.now nsid }
+        ensures not_zero { IfSome result (λ size. 1 ≤ size) }
     {
         let index = (nsid as usize).checked_sub(1)?;
         self.sizes[..self.count].get(index).copied()

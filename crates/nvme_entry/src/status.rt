@@ -7,8 +7,10 @@ use std::marker::Model;
 /// (Base Specification, Completion Queue Entry, Status Field)
 #[derive(Clone, Copy, Debug, PartialEq, Eq)]
 pub struct Status {
-    sct: u8,
-    sc: u8,
+    /// The status code type, 0 to 7.
+    pub sct: u8,
+    /// The status code.
+    pub sc: u8,
 }
 
 impl Model for Status {

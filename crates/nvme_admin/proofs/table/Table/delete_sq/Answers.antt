@@ -1,4 +1,4 @@
-use Rattle.std.proofs.Common.{◌≡◌, ◌∙◌, sym, arith}
+use Rattle.std.proofs.Common.{◌∙◌, sym, arith}
 use Rattle.nvme_admin.specs.contracts.table.Table.{the_view}
 use Rattle.nvme_admin.proofs.Created.{Does-delete_sq}
 use Rattle.nvme_admin.proofs.table.Table.delete_sq.Goals as goal

@@ -1,5 +1,5 @@
 use Rattle.std.proofs.Common.{◌≡◌, ◌∷◌, ℕ, IsSomeAnd, true, None, set, subst, sym, if◌then◌else◌, ◌==◌, get_or, refl, rules}
-use Rattle.nvme_admin.specs.History.{Start, TableHistory, Finished}
+use Rattle.nvme_admin.specs.History.{Finished}
 use Rattle.nvme_admin.specs.QueueTable.{table_in}
 use Rattle.nvme_admin.specs.Accepted.{effects_of, queue_table}
 use Rattle.nvme_admin.specs.Standing.{TableView, Shows, sq_of}
