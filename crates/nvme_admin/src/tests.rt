@@ -316,3 +316,17 @@ fn region_refusals(rt: HostRuntime) -> Result<(), Fail> {
     assert_eq!(rt; table.add_cq_region(101, 2), Err(AdminError::Used));
     Ok(())
 }
+
+#[test]
+fn fault_messages(rt: HostRuntime) -> Result<(), Fail> {
+    let alloc = rt.alloc();
+    let cases = [
+        (AdminError::Used, "the address is that of another region"),
+        (AdminError::TooMany, "17 regions of this kind are there"),
+        (AdminError::Size, "the number of slots is outside 2 to 256"),
+    ];
+    for (fault, line) in cases {
+        assert_eq!(rt; fault.to_string(alloc)?.as_str(), line);
+    }
+    Ok(())
+}

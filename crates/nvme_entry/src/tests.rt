@@ -97,6 +97,25 @@ fn statuses(rt: HostRuntime) {
 }
 
 #[test]
+fn status_fields(rt: HostRuntime) {
+    let Status { sct, sc } = Status::SEQUENCE_ERROR;
+    assert_eq!(rt; (sct, sc), (0, 0x0c));
+}
+
+#[test]
+fn fault_messages(rt: HostRuntime) -> Result<(), Fail> {
+    let alloc = rt.alloc();
+    let cases = [
+        (SpaceError::TooMany, "more than 16 namespaces"),
+        (SpaceError::Empty, "a namespace of size 0"),
+    ];
+    for (fault, line) in cases {
+        assert_eq!(rt; fault.to_string(alloc)?.as_str(), line);
+    }
+    Ok(())
+}
+
+#[test]
 fn layouts_are_exact() {
     submission_layout_is_exact();
     completion_layout_is_exact();
