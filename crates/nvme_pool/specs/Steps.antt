@@ -1,5 +1,5 @@
 -- What a step of a worker does, to the worker and to its gate.
-use Rattle.std.specs.Prelude.{◌≡◌, ℕ, [], ◌∷◌, ◌++◌, Option, Some, None}
+use Rattle.std.specs.Prelude.{◌≡◌, ℕ, ◌-◌, [], ◌∷◌, ◌++◌, Option, Some, None}
 use Rattle.nvme_pool.specs.declared.jobs.Job.{Job}
 use Rattle.nvme_pool.specs.declared.jobs.Finished.{Finished}
 use Rattle.nvme_pool.specs.declared.worker.Worked.{Worked}
@@ -7,10 +7,10 @@ use Rattle.nvme_pool.specs.declared.worker.Worked.TheVariants.{Did, Held, Nothin
 use Rattle.nvme_pool.specs.Worker.{WorkerView}
 use Rattle.nvme_pool.specs.Jobs.{result_of}
 
--- a result was given, or is kept
+-- a result was given, which took one of the places known to be free, or is kept, where no place was known to be free
 abbrev pub Gives : WorkerView → Finished → Worked → WorkerView → Type 0
-Gives old done Did new = (new.given ≡ old.given ++ done ∷ []) × (new.kept ≡ None)
-Gives old done Held new = (new.given ≡ old.given) × (new.kept ≡ Some done)
+Gives old done Did new = (new.given ≡ old.given ++ done ∷ []) × (new.kept ≡ None) × (new.free ≡ old.free - 1)
+Gives old done Held new = (new.given ≡ old.given) × (new.kept ≡ Some done) × (old.free ≡ 0) × (new.free ≡ 0)
 Gives old done Nothing new = ⊥
 
 -- a job was taken and executed
@@ -26,7 +26,7 @@ module _ {G : Type 0} (runs : G → ℕ → G) where
   -- by what was kept before the step. A kept result is given, or still kept, and the gate is left alone. Else nothing was found and nothing changed, or a job was taken, its one execution told to the gate, and its result given or kept
   abbrev pub StepsFrom : Option Finished → WorkerView → G → Worked → WorkerView → G → Type 0
   StepsFrom (Some done) old view worked new view' = IsIdle old new × (view' ≡ view) × Gives old done worked new
-  StepsFrom None old view Nothing new view' = IsIdle old new × (view' ≡ view) × (new.given ≡ old.given) × (new.kept ≡ None)
+  StepsFrom None old view Nothing new view' = IsIdle old new × (view' ≡ view) × (new.given ≡ old.given) × (new.kept ≡ None) × (new.free ≡ old.free)
   StepsFrom None old view Did new view' = (job : Job) × Takes old job new × (view' ≡ runs view job.ticket) × Gives old (result_of job) Did new
   StepsFrom None old view Held new view' = (job : Job) × Takes old job new × (view' ≡ runs view job.ticket) × Gives old (result_of job) Held new
 

@@ -1,16 +1,18 @@
 -- What contracts see of a worker.
-use Rattle.std.specs.Prelude.{◌≡◌, ℕ, List, [], ◌∷◌, ◌++◌, map, Option, Some, None}
+use Rattle.std.specs.Prelude.{◌≡◌, ℕ, ◌+◌, List, [], ◌∷◌, ◌++◌, map, Option, Some, None}
 use Rattle.atomic_table.specs.Seated.{TableId}
 use Rattle.nvme_pool.specs.declared.jobs.Job.{Job}
 use Rattle.nvme_pool.specs.declared.jobs.Finished.{Finished}
 use Rattle.nvme_pool.specs.Jobs.{result_of}
+use Rattle.nvme_pool.specs.Limits.{result_slots}
 use Rattle.nvme_pool.specs.Place.{Place}
 
--- the lane that it takes from with its parts of that lane, the ring that it gives to, the jobs that it took, the executions that it made, the results that it gave, and the one that it keeps
+-- the lane that it takes from with its parts of that lane, the ring that it gives to with the places of it that are known to be free, the jobs that it took, the executions that it made, the results that it gave, and the one that it keeps
 pub record WorkerView : Type 0 where
   pub lane : TableId
   pub parts : ℕ
   pub ring : Place
+  pub free : ℕ
   pub taken : List Job
   pub executed : List Job
   pub given : List Finished
@@ -25,12 +27,13 @@ pub record Accounts (w : WorkerView) : Type 0 where
   pub executions : w.executed ≡ w.taken
   pub results : map result_of w.executed ≡ w.given ++ kept_list w.kept
 
--- it took, executed and gave nothing, and keeps nothing
+-- it took, executed and gave nothing, keeps nothing, and knows its whole ring to be free
 pub record IsFresh (w : WorkerView) : Type 0 where
   pub taken : w.taken ≡ []
   pub executed : w.executed ≡ []
   pub given : w.given ≡ []
   pub kept : w.kept ≡ None
+  pub all_free : w.free + 1 ≡ result_slots
 
 -- what stays of a worker under every step
 pub record Identity : Type 0 where

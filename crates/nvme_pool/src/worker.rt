@@ -20,7 +20,8 @@ impl Model for Lanes {
 }
 
 /// A worker. Contracts see the jobs that it took, the executions that it made, the results that it gave
-/// and the one that it keeps, with the lane and the ring that it is of.
+/// and the one that it keeps, with the lane and the ring that it is of and the places of that ring that
+/// it knows to be free.
 #[derive(Drop)]
 pub struct Worker {
     pub(crate) jobs: PopPass<Job>,
@@ -36,7 +37,7 @@ impl Model for Worker {
 
     ghost Value = { WorkerView };
 
-    ghost view = { λ w. record { lane = w.jobs.lane; parts = w.jobs.parts; ring = put_place w.results; taken = w.jobs.items; executed = w.jobs.items; given = w.results.sent; kept = w.kept } };
+    ghost view = { λ w. record { lane = w.jobs.lane; parts = w.jobs.parts; ring = put_place w.results; free = w.results.free; taken = w.jobs.items; executed = w.jobs.items; given = w.results.sent; kept = w.kept } };
 
     ghost invariant = { λ w. map result_of w.jobs.items ≡ w.results.sent ++ kept_list w.kept };
 }
@@ -46,7 +47,8 @@ impl Model for Worker {
 pub enum Worked {
     /// A result was given: the kept one, or that of a job that the step took.
     Did,
-    /// The ring was full, and the result is kept: the one kept before, or that of a job that the step took.
+    /// The ring was full, with no place known to be free, and the result is kept: the one kept before, or
+    /// that of a job that the step took.
     Held,
     /// No result was kept, and no job was found.
     Nothing,
@@ -67,7 +69,8 @@ impl Worker {
     }
 
     /// One step. A worker that keeps a result tries to give it. Otherwise it takes a job, where one is
-    /// found, enters the gate, executes the job, leaves the gate, and gives the result or keeps it.
+    /// found, enters the gate, executes the job, leaves the gate, and gives the result. It keeps the result
+    /// only where no place of its ring is known to be free.
     pub fn step<G: Gate, R: Wait>(&mut self, rt: &R, lanes: &Lanes, gate: &mut G) -> Worked
         requires { self.old.lane ≡ lanes.now }
         ensures same { SameWorker self.old self.new }

@@ -28,7 +28,7 @@ loop-jobs-preserved c =
       c.push_reserved-in-loop-jobs.ensures.capacity ∙ inv.6,
       passes_more _ _ _ _ inv.7 c.push_reserved.ensures.items,
       rings_more _ _ _ _ _ _ inv.8 c.push_reserved.ensures.items c.push_reserved-in-loop-jobs.ensures.items (pair_place c.in_ok-results.results c.in_ok-results.end ring.pair),
-      subst (All IsFresh) (sym c.push_reserved.ensures.items) (All-push IsFresh _ _ inv.9 record { taken = blank; executed = blank; given = ring.nothing_sent; kept = refl }),
+      subst (All IsFresh) (sym c.push_reserved.ensures.items) (All-push IsFresh _ _ inv.9 record { taken = blank; executed = blank; given = ring.nothing_sent; kept = refl; all_free = ring.all_free }),
       subst (All IsFreshEnd) (sym c.push_reserved-in-loop-jobs.ensures.items)
           (All-push IsFreshEnd _ _ inv.10 record { got = ring.nothing_got; known = ring.nothing_known; slots = sym ring.pair.2 ∙ ring.slots }),
       places_more _ _ c.in_ok-results.end inv.11 c.push_reserved-in-loop-jobs.ensures.items
