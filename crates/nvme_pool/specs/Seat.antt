@@ -1,5 +1,5 @@
 -- What contracts see of the front's seat at a pool.
-use Rattle.std.specs.Prelude.{◌≡◌, ℕ, List, [], ◌∷◌, ◌++◌, map}
+use Rattle.std.specs.Prelude.{◌≡◌, ℕ, ◌<◌, List, [], ◌∷◌, ◌++◌, length, map}
 use Rattle.std.specs.List.{All}
 use Rattle.atomic_table.specs.Seated.{TableId}
 use Rattle.nvme_lane.specs.View.{GetView, SameGet}
@@ -32,7 +32,7 @@ pub record SameSeat (old new : SeatView) : Type 0 where
 abbrev pub IsUnknown : GetView Finished → Type 0
 IsUnknown g = g.known ≡ []
 
--- x was got from one end; nothing is known at the ends before it, and no other end changed
+-- x was got from one end, the first of what was known there if anything was, so that the rest is known still; nothing is known at the ends before it, and no other end changed
 pub record OneGained (old new : Ends) (x : Finished) : Type 0 where
   pub before : Ends
   pub end : GetView Finished
@@ -43,3 +43,4 @@ pub record OneGained (old new : Ends) (x : Finished) : Type 0 where
   pub none_before : All IsUnknown before
   pub same : SameGet end end'
   pub got : end'.got ≡ end.got ++ x ∷ []
+  pub known : 0 < length end.known → end.known ≡ x ∷ end'.known

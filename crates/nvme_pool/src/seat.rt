@@ -25,7 +25,7 @@ impl Model for FrontSeat {
 }
 
 impl FrontSeat {
-    ghost use Rattle.std.specs.Prelude.{◌≡◌, [], ◌∷◌, ◌++◌, OnOk, OnErr, IfErr, IfSome, IfNone};
+    ghost use Rattle.std.specs.Prelude.{◌≡◌, [], ◌∷◌, ◌++◌, OnOk, OnErr, IfErr, IfSome, IfNone, IsSome};
     ghost use Rattle.std.specs.List.{All};
     ghost use Rattle.nvme_pool.specs.Seat.{SameSeat, IsUnknown, OneGained};
 
@@ -42,8 +42,8 @@ impl FrontSeat {
         lanes.jobs.push(rt, &mut self.jobs, job)
     }
 
-    /// Gains a result of the first worker whose ring gives one. None where no ring gives one; nothing
-    /// changed then.
+    /// Gains a result of the first worker whose ring gives one. None where no ring gives one, never while
+    /// an end knows a result; nothing changed then.
     pub fn gain(&mut self, _lanes: &Lanes) -> Option<Finished>
         requires { self.old.lane ≡ _lanes.now }
         ensures same { SameSeat self.old self.new }
@@ -51,6 +51,7 @@ impl FrontSeat {
         ensures gained { IfSome result (OneGained self.old.ends self.new.ends) }
         ensures none_known { IfNone result (All IsUnknown self.old.ends) }
         ensures unchanged { IfNone result (self.new ≡ self.old) }
+        ensures some_known { ¬ All IsUnknown self.old.ends → IsSome result }
     {
         first_of(self.results.as_mut_slice())
     }

@@ -8,7 +8,7 @@ use Rattle.nvme_pool.proofs.seat.first_of.Goals as goal
 pub returns-in-Some-clause-gained : goal.returns-in-Some-clause-gained
 returns-in-Some-clause-gained c =
     gained_from c.args.ends.now c.loop-end.ends c.loop-end.end-index c.end-item.result c.get.new.self c.in-Some.x
-    c.loop-end.invariant.0 c.loop-end-test.true c.loop-end.invariant.1 c.in-Some.ensures.ring c.in-Some.ensures.got
+    c.loop-end.invariant.0 c.loop-end-test.true c.loop-end.invariant.1 c.in-Some.ensures.ring c.in-Some.ensures.got c.in-Some.ensures.known
 
 pub loop-end-preserved : goal.loop-end-preserved
 loop-end-preserved c = (
