@@ -1,3 +1,4 @@
 pub mod Balances
+pub mod Made
 pub mod Passing
 pub mod Prefixes

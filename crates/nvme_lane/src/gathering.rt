@@ -1,7 +1,7 @@
 //! How a lane ends: its passes are joined, one after the other, and what is left in it is counted.
-ghost use Rattle.std.specs.Prelude.{◌≡◌, ℕ, ◌+◌, ◌<◌, sum_by};
+ghost use Rattle.std.specs.Prelude.{◌≡◌, ℕ, ◌+◌, ◌<◌, ◌≤◌, sum_by};
 ghost use Rattle.crossbeam_queue.specs.Passes.{view as hand_of, IsPassOf, IsSamePass};
-ghost use Rattle.nvme_lane.specs.Passes.{AreOf, AreAllOf, parts_of, weight_of};
+ghost use Rattle.nvme_lane.specs.Passes.{AreNamed, AreAllOf, parts_of, weight_of};
 ghost use Rattle.nvme_lane.specs.Shares.{IsShared};
 
 use crate::lanes::{Lane, Queue};
@@ -10,8 +10,9 @@ use crate::rule::{Cut, Hand, Total};
 use crossbeam_queue::Pass;
 use std::sync::Wait;
 
-/// Ends a lane, and answers how many items are left in it, which are dropped. Each item was pushed, over
-/// all passes, as often as it was popped, over all passes, plus as often as it was left.
+/// Ends a lane, and answers how many items are left in it, which are dropped, at most its capacity. Each
+/// item was pushed, over all passes, as often as it was popped, over all passes, plus as often as it was
+/// left.
 pub fn gather<T: Copy, R: Wait>(
     rt: &R,
     lane: Lane<T>,
@@ -19,13 +20,17 @@ pub fn gather<T: Copy, R: Wait>(
     pops: Vec<PopPass<T>>,
 ) -> u16
     requires { AreAllOf lane pushes.items pops.items }
-    ensures { IsShared pushes.items pops.items result }
+    ensures shares { IsShared pushes.items pops.items result }
+    ensures few { result ≤ lane.capacity }
 {
     let Lane { queue } = lane;
     let Some(last) = pushes.pop() else {
         unreachable!()
     };
-    let PushPass { pass: mut root } = last;
+    let PushPass {
+        pass: mut root,
+        capacity: _,
+    } = last;
     join_pushes(&queue, &mut root, pushes);
     join_pops(&queue, &mut root, pops);
     let left = queue.len_as::<Total, R>(rt, &mut root);
@@ -35,14 +40,14 @@ pub fn gather<T: Copy, R: Wait>(
 // Joins passes to one that has some part.
 fn join_pushes<T: Copy>(queue: &Queue<T>, root: &mut Pass<T, Hand<T>>, pushes: Vec<PushPass<T>>)
     requires root { IsPassOf queue.now root.old × (0 < (hand_of root.old).parts) }
-    requires passes { AreOf root.old.table_id pushes.items }
+    requires passes { AreNamed root.old.table_id pushes.items }
     ensures same { IsSamePass root.old root.new }
     ensures parts { (hand_of root.new).parts ≡ (hand_of root.old).parts + parts_of pushes.items }
     ensures put { (h : T → ℕ) → sum_by h (hand_of root.new).put ≡ sum_by h (hand_of root.old).put + weight_of h pushes.items }
     ensures taken { (hand_of root.new).taken ≡ (hand_of root.old).taken }
 {
     for p in pushes {
-        let PushPass { pass } = p;
+        let PushPass { pass, capacity: _ } = p;
         queue.absorb::<Cut>(root, pass);
     }
 }
@@ -50,14 +55,14 @@ fn join_pushes<T: Copy>(queue: &Queue<T>, root: &mut Pass<T, Hand<T>>, pushes: V
 // Joins passes to one that has some part.
 fn join_pops<T: Copy>(queue: &Queue<T>, root: &mut Pass<T, Hand<T>>, pops: Vec<PopPass<T>>)
     requires root { IsPassOf queue.now root.old × (0 < (hand_of root.old).parts) }
-    requires passes { AreOf root.old.table_id pops.items }
+    requires passes { AreNamed root.old.table_id pops.items }
     ensures same { IsSamePass root.old root.new }
     ensures parts { (hand_of root.new).parts ≡ (hand_of root.old).parts + parts_of pops.items }
     ensures put { (hand_of root.new).put ≡ (hand_of root.old).put }
     ensures taken { (h : T → ℕ) → sum_by h (hand_of root.new).taken ≡ sum_by h (hand_of root.old).taken + weight_of h pops.items }
 {
     for p in pops {
-        let PopPass { pass } = p;
+        let PopPass { pass, capacity: _ } = p;
         queue.absorb::<Cut>(root, pass);
     }
 }

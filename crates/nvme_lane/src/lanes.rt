@@ -10,7 +10,7 @@ use std::sync::Wait;
 /// The queue of a lane, under its rule.
 pub(crate) type Queue<T> = RuledArrayQueue<T, Hand<T>, Fair>;
 
-/// A lane of items. Contracts see it as its name, which its passes carry too.
+/// A lane of items. Contracts see its name and its capacity, which its passes carry too.
 #[derive(Drop)]
 pub struct Lane<T> {
     pub(crate) queue: Queue<T>,
@@ -18,13 +18,13 @@ pub struct Lane<T> {
 
 impl<T> Model for Lane<T> {
     ghost use Rattle.std.specs.Prelude.{◌≤◌};
-    ghost use Rattle.atomic_table.specs.Seated.{TableId};
     ghost use Rattle.crossbeam_queue.specs.Passes.{ruled_capacity};
     ghost use Rattle.nvme_lane.specs.Limits.{max_capacity};
+    ghost use Rattle.nvme_lane.specs.Passes.{LaneView};
 
-    ghost Value = { TableId };
+    ghost Value = { LaneView };
 
-    ghost view = { λ l. l.queue.table.shared.table_id };
+    ghost view = { λ l. record { name = l.queue.table.shared.table_id; capacity = ruled_capacity l.queue } };
 
     ghost invariant = { λ l. ruled_capacity l.queue ≤ max_capacity };
 }

@@ -23,6 +23,7 @@ pub fn lane<T: Copy>(
     consumers: u8,
 ) -> Result<(Lane<T>, Vec<PushPass<T>>, Vec<PopPass<T>>), LaneError>
     ensures size { (result ≡ Err LaneError.Size) ↔ IsNoLaneSize cap producers consumers }
+    ensures capacity { IfOk result (λ r. r.0.capacity ≡ cap) }
     ensures producers { IfOk result (λ r. vec_len r.1 ≡ producers) }
     ensures consumers { IfOk result (λ r. vec_len r.2 ≡ consumers) }
     ensures all { IfOk result (λ r. AreAllOf r.0 r.1.items r.2.items) }
@@ -51,54 +52,62 @@ fn build<T: Copy>(
     requires cap { (1 ≤ cap) × (cap ≤ max_capacity) }
     requires producers { (1 ≤ producers) × (producers ≤ max_passes) }
     requires consumers { (1 ≤ consumers) × (consumers ≤ max_passes) }
+    ensures capacity { IfOk result (λ r. r.0.capacity ≡ cap) }
     ensures numbers { IfOk result (λ r. (vec_len r.1 ≡ producers) × (vec_len r.2 ≡ consumers)) }
     ensures all { IfOk result (λ r. AreAllOf r.0 r.1.items r.2.items) }
     ensures blank { IfOk result (λ r. AreBlank r.1.items × AreBlank r.2.items) }
 {
     let (queue, mut root) = Queue::<T>::ruled(alloc, usize::from(cap))?;
-    let mut pushes = push_passes(alloc, &queue, &mut root, producers - 1)?;
-    let pops = pop_passes(alloc, &queue, &mut root, consumers)?;
-    pushes.push_reserved(PushPass { pass: root });
+    let mut pushes = push_passes(alloc, &queue, &mut root, cap, producers - 1)?;
+    let pops = pop_passes(alloc, &queue, &mut root, cap, consumers)?;
+    pushes.push_reserved(PushPass {
+        pass: root,
+        capacity: cap,
+    });
     Ok((Lane { queue }, pushes, pops))
 }
 
-// So many passes of one part each, in a list with room for one more.
+// So many passes of one part each, of a lane of that capacity, in a list with room for one more.
 fn push_passes<T>(
     alloc: Global,
     queue: &Queue<T>,
     root: &mut Pass<T, Hand<T>>,
+    cap: u16,
     count: u8,
 ) -> Result<Vec<PushPass<T>>, AllocError>
     requires { IsPassOf queue.now root.old × (count < (hand_of root.old).parts) }
     ensures root { IfOk result (λ _. IsSamePass root.old root.new × (hand_of root.new ≡ hand ((hand_of root.old).parts - count) (hand_of root.old).put (hand_of root.old).taken)) }
-    ensures passes { IfOk result (λ v. v.items ≡ replicate count (fresh root.old.table_id)) }
+    ensures passes { IfOk result (λ v. v.items ≡ replicate count (fresh (record { name = root.old.table_id; capacity = cap }))) }
     ensures room { IfOk result (λ v. (vec_len v ≡ count) × (count < vec_capacity v)) }
 {
     let mut passes = Vec::with_capacity(alloc, usize::from(count) + 1)?;
     for _ in 0..count {
         passes.push_reserved(PushPass {
             pass: queue.another::<Cut>(root),
+            capacity: cap,
         });
     }
     Ok(passes)
 }
 
-// So many passes of one part each.
+// So many passes of one part each, of a lane of that capacity.
 fn pop_passes<T>(
     alloc: Global,
     queue: &Queue<T>,
     root: &mut Pass<T, Hand<T>>,
+    cap: u16,
     count: u8,
 ) -> Result<Vec<PopPass<T>>, AllocError>
     requires { IsPassOf queue.now root.old × (count < (hand_of root.old).parts) }
     ensures root { IfOk result (λ _. IsSamePass root.old root.new × (hand_of root.new ≡ hand ((hand_of root.old).parts - count) (hand_of root.old).put (hand_of root.old).taken)) }
-    ensures passes { IfOk result (λ v. v.items ≡ replicate count (fresh root.old.table_id)) }
+    ensures passes { IfOk result (λ v. v.items ≡ replicate count (fresh (record { name = root.old.table_id; capacity = cap }))) }
     ensures len { IfOk result (λ v. vec_len v ≡ count) }
 {
     let mut passes = Vec::with_capacity(alloc, usize::from(count))?;
     for _ in 0..count {
         passes.push_reserved(PopPass {
             pass: queue.another::<Cut>(root),
+            capacity: cap,
         });
     }
     Ok(passes)

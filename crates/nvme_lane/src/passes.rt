@@ -8,6 +8,8 @@ use std::marker::Model;
 #[derive(Drop)]
 pub struct PushPass<T> {
     pub(crate) pass: Pass<T, Hand<T>>,
+    // How many items the lane holds at most.
+    pub(crate) capacity: u16,
 }
 
 impl<T> Model for PushPass<T> {
@@ -17,7 +19,7 @@ impl<T> Model for PushPass<T> {
 
     ghost Value = { PassView T };
 
-    ghost view = { λ p. record { lane = p.pass.table_id; parts = (hand_of p.pass).parts; items = (hand_of p.pass).put } };
+    ghost view = { λ p. record { lane = record { name = p.pass.table_id; capacity = p.capacity }; parts = (hand_of p.pass).parts; items = (hand_of p.pass).put } };
 
     ghost invariant = { λ p. (p.pass.me.1 ≡ []) × (0 < (hand_of p.pass).parts) × ((hand_of p.pass).taken ≡ []) };
 }
@@ -27,6 +29,8 @@ impl<T> Model for PushPass<T> {
 #[derive(Drop)]
 pub struct PopPass<T> {
     pub(crate) pass: Pass<T, Hand<T>>,
+    // How many items the lane holds at most.
+    pub(crate) capacity: u16,
 }
 
 impl<T> Model for PopPass<T> {
@@ -36,7 +40,7 @@ impl<T> Model for PopPass<T> {
 
     ghost Value = { PassView T };
 
-    ghost view = { λ p. record { lane = p.pass.table_id; parts = (hand_of p.pass).parts; items = (hand_of p.pass).taken } };
+    ghost view = { λ p. record { lane = record { name = p.pass.table_id; capacity = p.capacity }; parts = (hand_of p.pass).parts; items = (hand_of p.pass).taken } };
 
     ghost invariant = { λ p. (p.pass.me.1 ≡ []) × (0 < (hand_of p.pass).parts) × ((hand_of p.pass).put ≡ []) };
 }

@@ -5,9 +5,8 @@ use Rattle.std.proofs.lemmas.List.{map-append}
 use Rattle.std.proofs.lemmas.List.Elements.{All-head, All-tail}
 use Rattle.std.proofs.lemmas.List.Sums.{sum_by-cons}
 use Rattle.std.specs.List.{All, range_with_len}
-use Rattle.atomic_table.specs.Seated.{TableId}
 use Rattle.nvme_lane.specs.View.{PutView, GetView, IsPair}
-use Rattle.nvme_lane.specs.Passes.{PassView, AreAllOf, parts_of}
+use Rattle.nvme_lane.specs.Passes.{LaneView, PassView, AreAllOf, parts_of}
 use Rattle.nvme_pool.specs.declared.jobs.Job.{Job}
 use Rattle.nvme_pool.specs.declared.jobs.Finished.{Finished}
 use Rattle.nvme_pool.specs.Limits.{max_workers}
@@ -58,7 +57,7 @@ only : (pushes rest : List (PassView Job)) (p : PassView Job) → pushes ≡ res
 only pushes [] p is one = is
 only pushes (q ∷ rest) p is one = absurd (omega (arith, ap length is, length-append rest (p ∷ [])))
 
-pub pool_made : (lane : TableId) (pushes rest : List (PassView Job)) (p : PassView Job) (pops : List (PassView Job)) (workers : List WorkerView) (ends : Ends)
+pub pool_made : (lane : LaneView) (pushes rest : List (PassView Job)) (p : PassView Job) (pops : List (PassView Job)) (workers : List WorkerView) (ends : Ends)
     → AreAllOf lane pushes pops → pushes ≡ rest ++ p ∷ [] → length pushes ≡ 1 → pops ≡ passes_of workers → length workers ≤ max_workers → rings_of workers ≡ rings_at ends
     → IsPool lane record { lane = p.lane; parts = p.parts; handed = p.items; ends = ends } workers
 pool_made lane pushes rest p pops workers ends all is one of few rings =

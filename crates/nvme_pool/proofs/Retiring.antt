@@ -3,9 +3,8 @@ use Rattle.std.proofs.Common.{◌≡◌, ℕ, ◌+◌, List, [], ◌∷◌, ◌+
 use Rattle.std.proofs.lemmas.List.{append-nil}
 use Rattle.std.proofs.lemmas.List.Elements.{All-push, All-map}
 use Rattle.std.proofs.lemmas.List.Sums.{sum_by-cons, sum_by_push}
-use Rattle.atomic_table.specs.Seated.{TableId}
 use Rattle.nvme_lane.specs.View.{GetView}
-use Rattle.nvme_lane.specs.Passes.{PassView, AreAllOf, weight_of}
+use Rattle.nvme_lane.specs.Passes.{LaneView, PassView, AreAllOf, weight_of}
 use Rattle.nvme_lane.specs.Shares.{IsShared}
 use Rattle.nvme_pool.specs.declared.jobs.Job.{Job}
 use Rattle.nvme_pool.specs.declared.jobs.Finished.{Finished}
@@ -68,7 +67,7 @@ pub one_pushed : (pushes before : List (PassView Job)) (p : PassView Job) → pu
 one_pushed pushes before p is none = is ∙ ap (λ xs. xs ++ p ∷ []) none
 
 -- the passes of a pool are all passes of its lane
-pub pool_passes : (lane : TableId) (seat : SeatView) (workers : List WorkerView) (p : PassView Job) (pushes pops : List (PassView Job))
+pub pool_passes : (lane : LaneView) (seat : SeatView) (workers : List WorkerView) (p : PassView Job) (pushes pops : List (PassView Job))
     → IsPool lane seat workers → p.lane ≡ seat.lane → p.parts ≡ seat.parts → pushes ≡ p ∷ [] → pops ≡ passes_of workers → AreAllOf lane pushes pops
 pool_passes lane seat workers p pushes pops pool is parts one all =
     let P : PassView Job → Type 0 = λ q. q.lane ≡ lane in

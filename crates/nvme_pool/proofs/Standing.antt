@@ -4,7 +4,7 @@ use Rattle.std.proofs.Math.Seq.{map-set_same}
 use Rattle.std.proofs.lemmas.List.{length-map}
 use Rattle.std.proofs.lemmas.List.Elements.{All-map}
 use Rattle.std.specs.List.{All}
-use Rattle.atomic_table.specs.Seated.{TableId}
+use Rattle.nvme_lane.specs.Passes.{LaneView}
 use Rattle.nvme_pool.specs.Place.{Place}
 use Rattle.nvme_pool.specs.Worker.{WorkerView, Identity, identity_of, SameWorker, SameWorkers}
 use Rattle.nvme_pool.specs.Seat.{SeatView, SameSeat}
@@ -14,7 +14,7 @@ use Rattle.nvme_pool.proofs.Retiring.{sum_by_map}
 
 pub same_identity : (old new : WorkerView) → SameWorker old new → identity_of new ≡ identity_of old
 same_identity old new same =
-    let by_lane : TableId → Identity = λ l. record { lane = l; parts = new.parts; ring = new.ring } in
+    let by_lane : LaneView → Identity = λ l. record { lane = l; parts = new.parts; ring = new.ring } in
     let by_parts : ℕ → Identity = λ n. record { lane = old.lane; parts = n; ring = new.ring } in
     let by_ring : Place → Identity = λ r. record { lane = old.lane; parts = old.parts; ring = r } in
     ap by_lane same.lane ∙ ap by_parts same.parts ∙ ap by_ring same.ring
@@ -36,7 +36,7 @@ map_map : {X Y Z : Type 0} (f : X → Y) (g : Y → Z) (xs : List X) → map g (
 map_map f g [] = refl
 map_map f g (x ∷ xs) = ap (λ ys. g (f x) ∷ ys) (map_map f g xs)
 
-abbrev lane_of : Identity → TableId
+abbrev lane_of : Identity → LaneView
 lane_of i = i.lane
 
 abbrev parts_in : Identity → ℕ
@@ -45,7 +45,7 @@ parts_in i = i.parts
 abbrev ring_of : Identity → Place
 ring_of i = i.ring
 
-pub pool_stays : (lane : TableId) (seat seat' : SeatView) (workers workers' : List WorkerView) → IsPool lane seat workers → SameSeat seat seat' → SameWorkers workers workers' → IsPool lane seat' workers'
+pub pool_stays : (lane : LaneView) (seat seat' : SeatView) (workers workers' : List WorkerView) → IsPool lane seat workers → SameSeat seat seat' → SameWorkers workers workers' → IsPool lane seat' workers'
 pool_stays lane seat seat' workers workers' pool seats same =
     let OfLane : Identity → Type 0 = λ i. i.lane ≡ lane in
     let of : All OfLane (map identity_of workers) = All-map OfLane identity_of workers pool.workers_of in

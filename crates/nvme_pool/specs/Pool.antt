@@ -1,9 +1,8 @@
 -- What ties the lane, the seat and the workers of one pool.
 use Rattle.std.specs.Prelude.{◌≡◌, ◌+◌, ◌≤◌, List, [], map, length, sum_by}
 use Rattle.std.specs.List.{All, range_with_len}
-use Rattle.atomic_table.specs.Seated.{TableId}
 use Rattle.nvme_lane.specs.View.{GetView}
-use Rattle.nvme_lane.specs.Passes.{whole}
+use Rattle.nvme_lane.specs.Passes.{LaneView, whole}
 use Rattle.nvme_pool.specs.declared.jobs.Finished.{Finished}
 use Rattle.nvme_pool.specs.Limits.{max_workers, result_slots}
 use Rattle.nvme_pool.specs.Worker.{WorkerView, IsFresh}
@@ -15,7 +14,7 @@ abbrev pub rings_of : List WorkerView → List Place
 rings_of workers = map (λ (w : WorkerView). w.ring) workers
 
 -- they are the lane, the seat and all workers of one pool, in the order in which it gave them: the parts of the lane are all there, and each worker gives to the ring of the end at its place
-pub record IsPool (lane : TableId) (seat : SeatView) (workers : List WorkerView) : Type 0 where
+pub record IsPool (lane : LaneView) (seat : SeatView) (workers : List WorkerView) : Type 0 where
   pub seat_of : seat.lane ≡ lane
   pub workers_of : All (λ (w : WorkerView). w.lane ≡ lane) workers
   pub complete : seat.parts + sum_by (λ (w : WorkerView). w.parts) workers ≡ whole

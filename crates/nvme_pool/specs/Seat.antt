@@ -1,8 +1,8 @@
 -- What contracts see of the front's seat at a pool.
 use Rattle.std.specs.Prelude.{◌≡◌, ℕ, ◌<◌, List, [], ◌∷◌, ◌++◌, length, map}
 use Rattle.std.specs.List.{All}
-use Rattle.atomic_table.specs.Seated.{TableId}
 use Rattle.nvme_lane.specs.View.{GetView, SameGet}
+use Rattle.nvme_lane.specs.Passes.{LaneView}
 use Rattle.nvme_pool.specs.declared.jobs.Job.{Job}
 use Rattle.nvme_pool.specs.declared.jobs.Finished.{Finished}
 use Rattle.nvme_pool.specs.Place.{Place, get_place}
@@ -13,7 +13,7 @@ Ends = List (GetView Finished)
 
 -- the lane that it hands to with its parts of that lane, the jobs that it handed, and the ends by which it gains results
 pub record SeatView : Type 0 where
-  pub lane : TableId
+  pub lane : LaneView
   pub parts : ℕ
   pub handed : List Job
   pub ends : Ends

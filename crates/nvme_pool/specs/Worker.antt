@@ -1,6 +1,6 @@
 -- What contracts see of a worker.
 use Rattle.std.specs.Prelude.{◌≡◌, ℕ, ◌+◌, List, [], ◌∷◌, ◌++◌, map, Option, Some, None}
-use Rattle.atomic_table.specs.Seated.{TableId}
+use Rattle.nvme_lane.specs.Passes.{LaneView}
 use Rattle.nvme_pool.specs.declared.jobs.Job.{Job}
 use Rattle.nvme_pool.specs.declared.jobs.Finished.{Finished}
 use Rattle.nvme_pool.specs.Jobs.{result_of}
@@ -9,7 +9,7 @@ use Rattle.nvme_pool.specs.Place.{Place}
 
 -- the lane that it takes from with its parts of that lane, the ring that it gives to with the places of it that are known to be free, the jobs that it took, the executions that it made, the results that it gave, and the one that it keeps
 pub record WorkerView : Type 0 where
-  pub lane : TableId
+  pub lane : LaneView
   pub parts : ℕ
   pub ring : Place
   pub free : ℕ
@@ -37,7 +37,7 @@ pub record IsFresh (w : WorkerView) : Type 0 where
 
 -- what stays of a worker under every step
 pub record Identity : Type 0 where
-  pub lane : TableId
+  pub lane : LaneView
   pub parts : ℕ
   pub ring : Place
 

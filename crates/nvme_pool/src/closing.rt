@@ -16,7 +16,8 @@ use nvme_lane::{GetEnd, PopPass, beside, gather};
 use std::alloc::Global;
 use std::sync::Wait;
 
-/// Closes a pool, and answers how many jobs and how many results are left, which are dropped. `NoMemory`
+/// Closes a pool, and answers how many jobs, at most its lane's capacity, and how many results are left,
+/// which are dropped. `NoMemory`
 /// hands all back, unchanged, before anything is joined. It may wait for another thread.
 pub fn close<R: Wait>(
     rt: &R,
@@ -28,6 +29,7 @@ pub fn close<R: Wait>(
     requires { IsPool lanes seat workers.items }
     ensures jobs { IfOk result (λ left. SharesJobs seat.handed workers.items left.0) }
     ensures results { IfOk result (λ left. SharesResults seat.ends workers.items left.1) }
+    ensures few { IfOk result (λ left. left.0 ≤ lanes.capacity) }
     ensures accounts { IfOk result (λ _. All Accounts workers.items) }
     ensures no_memory { IfErr result (λ e. e.0 ≡ PoolError.NoMemory) }
     ensures handed_back { IfErr result (λ e. (e.1 ≡ lanes) × (e.2 ≡ seat) × (e.3.items ≡ workers.items)) }

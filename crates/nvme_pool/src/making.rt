@@ -3,7 +3,7 @@ ghost use Rattle.std.specs.Prelude.{◌≡◌, ◌↔◌, IfOk, map, vec_len};
 ghost use Rattle.std.specs.List.{All};
 ghost use Rattle.nvme_lane.specs.Limits.{IsOutside};
 ghost use Rattle.nvme_lane.specs.Passes.{AreBlank};
-ghost use Rattle.nvme_pool.specs.Limits.{max_workers};
+ghost use Rattle.nvme_pool.specs.Limits.{job_capacity, max_workers};
 ghost use Rattle.nvme_pool.specs.Pool.{IsPool, IsBlank, IsFreshEnd, HavePlaces, rings_of};
 ghost use Rattle.nvme_pool.specs.Seat.{rings_at};
 ghost use Rattle.nvme_pool.specs.Worker.{IsFresh};
@@ -25,11 +25,12 @@ pub enum PoolError {
     NoMemory,
 }
 
-/// The lanes, the front's seat and the workers of a pool. `Workers` exactly where their number is outside
+/// The lanes, the front's seat and the workers of a pool, whose lane holds `JOB_CAPACITY` jobs. `Workers` exactly where their number is outside
 /// 1 to `MAX_WORKERS`; `NoMemory` where an allocation was refused.
 pub fn pool(alloc: Global, workers: u8) -> Result<(Lanes, FrontSeat, Vec<Worker>), PoolError>
     ensures workers { (result ≡ Err PoolError.Workers) ↔ IsOutside workers 1 max_workers }
     ensures count { IfOk result (λ r. vec_len r.2 ≡ workers) }
+    ensures capacity { IfOk result (λ r. r.0.capacity ≡ job_capacity) }
     ensures pool { IfOk result (λ r. IsPool r.0 r.1 r.2.items) }
     ensures blank { IfOk result (λ r. IsBlank r.1 r.2.items) }
 {

@@ -5,16 +5,17 @@ use nvme_lane::{Full, Lane, PopPass, PutEnd};
 use std::marker::Model;
 use std::sync::Wait;
 
-/// The lane of jobs, which is lent to the front and to all workers. Contracts see it as its name.
+/// The lane of jobs, which is lent to the front and to all workers. Contracts see its
+/// name and its capacity.
 #[derive(Drop)]
 pub struct Lanes {
     pub(crate) jobs: Lane<Job>,
 }
 
 impl Model for Lanes {
-    ghost use Rattle.atomic_table.specs.Seated.{TableId};
+    ghost use Rattle.nvme_lane.specs.Passes.{LaneView};
 
-    ghost Value = { TableId };
+    ghost Value = { LaneView };
 
     ghost view = { λ l. l.jobs };
 }

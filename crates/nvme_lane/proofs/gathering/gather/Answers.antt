@@ -14,8 +14,8 @@ len_as-left-requires-clause-rule g c =
       ap (λ (p : PassView _). p.parts) c.last.view_is,
     ))
 
-pub returns : goal.returns
-returns g c =
+pub returns-clause-shares : goal.returns-clause-shares
+returns-clause-shares g c =
     let items = c.in-Some.ensures.items in
     let held = c.len_as-left.ensures.rule.1 in
     record {

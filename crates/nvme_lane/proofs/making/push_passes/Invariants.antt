@@ -11,6 +11,6 @@ invariant-loop g l =
     IsPassOf l.queue l.root
     × IsSamePass l.initial.root l.root
     × (hand_of l.root ≡ hand ((hand_of l.initial.root).parts - l.counter) (hand_of l.initial.root).put (hand_of l.initial.root).taken)
-    × (l.passes.items ≡ replicate l.counter (fresh l.initial.root.table_id))
+    × (l.passes.items ≡ replicate l.counter (fresh (record { name = l.initial.root.table_id; capacity = l.cap })))
     × (vec_len l.passes ≡ l.counter)
     × (vec_capacity l.passes ≡ l.count + 1)

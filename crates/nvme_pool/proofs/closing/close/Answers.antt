@@ -13,4 +13,4 @@ pub returns-clause-jobs : goal.returns-clause-jobs
 returns-clause-jobs g c =
     let is = c.seat.view_is in
     let one = one_pushed c.push_reserved.new.self.items c.in-Ok.pushes.items c.seat.inside.jobs c.push_reserved.ensures.items c.in-Ok.ensures.items in
-    pool_shares c.args.seat c.args.workers.items c.seat.inside.jobs _ _ _ (ap (λ (s : SeatView). s.handed) is) one c.retire-pops.ensures.passes c.gather-left.ensures
+    pool_shares c.args.seat c.args.workers.items c.seat.inside.jobs _ _ _ (ap (λ (s : SeatView). s.handed) is) one c.retire-pops.ensures.passes c.gather-left.ensures.shares
