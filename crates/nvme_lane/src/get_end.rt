@@ -55,11 +55,13 @@ impl<T: Copy> GetEnd<T> {
         self.address
     }
 
-    /// The number of slots that the ring was made with, from `MIN_SLOTS` to `MAX_SLOTS`.
+    /// The number of slots that the ring was made with, from `MIN_SLOTS` to `MAX_SLOTS`. The items known to
+    /// come next are always fewer.
     pub fn slots(&self) -> u16
         ensures value { result ≡ self.now.slots }
         ensures least { min_slots ≤ result }
         ensures most { result ≤ max_slots }
+        ensures known { length self.now.known < result }
     {
         self.slots
     }

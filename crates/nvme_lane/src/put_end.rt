@@ -24,7 +24,7 @@ impl<T: Copy> Model for PutEnd<T> {
 
     ghost view = { λ e. record { sent = sent e.producer; free = e.free; address = e.address; slots = e.slots; ring = ring_of_producer e.producer } };
 
-    ghost invariant = { λ e. (producer_capacity e.producer + 1 ≡ e.slots) × (e.free ≤ known_free e.producer) × (min_slots ≤ e.slots) × (e.slots ≤ max_slots) };
+    ghost invariant = { λ e. (producer_capacity e.producer + 1 ≡ e.slots) × (e.free ≤ known_free e.producer) × (e.free < e.slots) × (min_slots ≤ e.slots) × (e.slots ≤ max_slots) };
 }
 
 impl<T: Copy> PutEnd<T> {
@@ -60,11 +60,13 @@ impl<T: Copy> PutEnd<T> {
         self.address
     }
 
-    /// The number of slots that the ring was made with, from `MIN_SLOTS` to `MAX_SLOTS`.
+    /// The number of slots that the ring was made with, from `MIN_SLOTS` to `MAX_SLOTS`. The places known to
+    /// be free are always fewer.
     pub fn slots(&self) -> u16
         ensures value { result ≡ self.now.slots }
         ensures least { min_slots ≤ result }
         ensures most { result ≤ max_slots }
+        ensures free { self.now.free < result }
     {
         self.slots
     }

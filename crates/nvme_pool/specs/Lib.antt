@@ -3,6 +3,7 @@ pub mod Jobs
 pub mod Place
 pub mod Worker
 pub mod Steps
+pub mod Runs
 pub mod Seat
 pub mod Passes
 pub mod Pool

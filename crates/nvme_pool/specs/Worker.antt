@@ -22,7 +22,7 @@ abbrev pub kept_list : Option Finished → List Finished
 kept_list None = []
 kept_list (Some x) = x ∷ []
 
--- the executions are the jobs taken, in order, and the results given are those of the executions, in order, but for one that is kept
+-- `executed` is the list taken, by its second name: that each of these jobs was executed, once, is said by what its gate was told (`Steps` of one step, `Ran` of many). The results given are those of the executions, in order, but for one that is kept
 pub record Accounts (w : WorkerView) : Type 0 where
   pub executions : w.executed ≡ w.taken
   pub results : map result_of w.executed ≡ w.given ++ kept_list w.kept

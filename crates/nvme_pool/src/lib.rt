@@ -14,7 +14,7 @@ mod worker;
 pub use closing::close;
 pub use gate::{Gate, NoGate};
 pub use jobs::{Finished, Job};
-pub use laws::nothing_left_means_all_done;
+pub use laws::{nothing_left_means_all_done, steps_are_a_run};
 pub use limits::{JOB_CAPACITY, MAX_WORKERS, RESULT_SLOTS};
 pub use making::{PoolError, pool};
 pub use seat::FrontSeat;
