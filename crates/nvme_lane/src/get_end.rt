@@ -25,7 +25,8 @@ impl<T: Copy> Model for GetEnd<T> {
 }
 
 impl<T: Copy> GetEnd<T> {
-    ghost use Rattle.std.specs.Prelude.{◌≡◌, ◌<◌, ◌≤◌, [], ◌∷◌, ◌++◌, length, IsSome, IfSome, IfNone};
+    ghost use Rattle.std.specs.Prelude.{◌≡◌, ◌<◌, ◌≤◌, [], ◌∷◌, ◌++◌, length, take, drop, IsSome, IfSome, IfNone};
+    ghost use mathlib.Core.List.{IsPrefix};
     ghost use Rattle.nvme_lane.specs.Limits.{min_slots, max_slots};
     ghost use Rattle.nvme_lane.specs.View.{SameGet};
 
@@ -46,6 +47,19 @@ impl<T: Copy> GetEnd<T> {
             Ok(item) => Some(item),
             Err(PopError::Empty) => None,
         }
+    }
+
+    /// Gets as many items as there are into the beginning of a slice, in order, and no more than it has
+    /// places for. The answer is how many. Fewer than that only where the ring was then found empty.
+    pub fn get_some(&mut self, items: &mut [T]) -> usize
+        ensures ring { SameGet self.old self.new }
+        ensures few { result ≤ length items.old }
+        ensures got { self.new.got ≡ self.old.got ++ take result items.new }
+        ensures rest { drop result items.new ≡ drop result items.old }
+        ensures known { IsPrefix self.old.known (take result items.new ++ self.new.known) }
+        ensures none_known { result < length items.old → self.new.known ≡ [] }
+    {
+        self.consumer.pop_partial_slice(items)
     }
 
     /// The address that the ring was made with.

@@ -28,7 +28,7 @@ impl<T: Copy> Model for PutEnd<T> {
 }
 
 impl<T: Copy> PutEnd<T> {
-    ghost use Rattle.std.specs.Prelude.{◌≡◌, ◌-◌, ◌<◌, ◌≤◌, [], ◌∷◌, ◌++◌, IsOk, OnOk, IfErr, OnErr};
+    ghost use Rattle.std.specs.Prelude.{◌≡◌, ◌-◌, ◌<◌, ◌≤◌, [], ◌∷◌, ◌++◌, length, take, IsOk, OnOk, IfErr, OnErr};
     ghost use Rattle.nvme_lane.specs.Limits.{min_slots, max_slots};
     ghost use Rattle.nvme_lane.specs.View.{SamePut};
 
@@ -51,6 +51,25 @@ impl<T: Copy> PutEnd<T> {
             Ok(()) => Ok(()),
             Err(PushError::Full(back)) => Err(Full(back)),
         }
+    }
+
+    /// Puts as many items from the beginning of a slice as there is room for, in order, after those put
+    /// before. The answer is how many. Fewer than all only where the ring was then found full.
+    pub fn put_some(&mut self, items: &[T]) -> usize
+        ensures ring { SamePut self.old self.new }
+        ensures few { result ≤ length items.now }
+        ensures sent { self.new.sent ≡ self.old.sent ++ take result items.now }
+        ensures free { self.new.free ≡ self.old.free - result }
+        ensures none_free { result < length items.now → self.new.free ≡ 0 }
+    {
+        let (put, _) = self.producer.push_partial_slice(items);
+        let count = put.len();
+        self.free = if count < usize::from(self.free) {
+            self.free - count as u16
+        } else {
+            0
+        };
+        count
     }
 
     /// The address that the ring was made with.

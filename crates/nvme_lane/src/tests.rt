@@ -73,6 +73,20 @@ fn capacities(rt: HostRuntime) -> Result<(), Fail> {
     Ok(())
 }
 
+#[test]
+fn some_are_put_and_got_at_once(rt: HostRuntime) -> Result<(), Fail> {
+    let (mut put, mut get) = ring_again(rt.alloc(), 0, 4)?;
+    assert_eq!(rt; put.put_some(&[5, 6, 7, 8]), 3);
+    assert_eq!(rt; put.put_some(&[8]), 0);
+    let mut items = [0, 0];
+    assert_eq!(rt; get.get_some(&mut items), 2);
+    assert_eq!(rt; items, [5, 6]);
+    assert_eq!(rt; get.get_some(&mut items), 1);
+    assert_eq!(rt; items, [7, 6]);
+    assert_eq!(rt; get.get_some(&mut items), 0);
+    Ok(())
+}
+
 // A lane of one item, with one pass of each kind.
 fn lane_again(
     alloc: Global,
