@@ -31,12 +31,13 @@ use Rattle.nvme_state.specs.Kept.{SqKept, Kept, with_sq, put_sq}
 use Rattle.nvme_front.specs.State.{sq_kept, sq_in, cq_in, gets_of, kept_of, rules_of}
 use Rattle.nvme_front.specs.Room.{IsKept, window_room}
 use Rattle.nvme_state.specs.Standing.{IsAttached, on_board}
-use Rattle.nvme_front.specs.Goes.{Goes, get_place}
+use Rattle.nvme_front.specs.Goes.{coming_at, Goes, get_place}
 use Rattle.nvme_log.specs.Histories.{picks_in}
 use Rattle.nvme_state.specs.Steps.{aborted, picked_sq}
 use Rattle.nvme_state.proofs.AfterSteps.{with_deleting, with_readies, deleting_from, IsChosen}
 use Rattle.nvme_state.proofs.QueueWords.{at_same, at_other}
 use Rattle.nvme_state.proofs.DeletionSteps.{io_region}
+use Rattle.nvme_front.proofs.Comes.{coming-set}
 use Rattle.nvme_front.proofs.States.{sq_in-set, sq_in-read, places-set, windows-set}
 use Rattle.nvme_state.proofs.AppliedRoom.{few_unposted}
 use Rattle.nvme_front.proofs.AppliedStates.{kept_readied, kept_applied, goes_readied}
@@ -255,3 +256,4 @@ goes_deleting a b r c n s w d ready ts log e es read is_w sqs read_cq is_ready c
     goes_readied a b (e ∷ es) c d ready ts read_cq is_ready cqs events stays.config stays.alloc stays.late stays.jobs
     (ap (λ (xs : List SqRegion). map get_place (gets_of xs)) sqs ∙ places-set a.sqs.items r s (record s { window = w; unposted = n }) read refl)
     (ap (λ (xs : List SqRegion). map window_room xs) sqs ∙ windows-set a.sqs.items r s (record s { window = w; unposted = n }) read (ap (λ (z : FifoView Candidate). z.room) is_w))
+    (ap (λ (xs : List SqRegion). map coming_at xs) sqs ∙ coming-set a.sqs.items r s (record s { window = w; unposted = n }) read refl)

@@ -18,11 +18,12 @@ use Rattle.nvme_state.specs.Jobs.{JobsView, gained_count}
 use Rattle.nvme_state.specs.Kept.{CqKept, Kept, put_cq, with_ready}
 use Rattle.nvme_front.specs.State.{cq_kept, cq_in, gets_of, puts_of, kept_of, rules_of, past_of}
 use Rattle.nvme_front.specs.Room.{IsKept, window_room, ready_room}
-use Rattle.nvme_front.specs.Goes.{Goes, get_place, put_place}
+use Rattle.nvme_front.specs.Goes.{coming_at, Goes, get_place, put_place}
 use Rattle.nvme_log.specs.Histories.{picks_in}
 use Rattle.nvme_state.specs.Steps.{applied_to}
 use Rattle.nvme_state.proofs.AfterSteps.{IsChosen, after_admin, admin_past, answered, with_events, with_readies}
 use Rattle.nvme_state.proofs.Standing.{stands-admin}
+use Rattle.nvme_front.proofs.Comes.{comes-same}
 use Rattle.nvme_front.proofs.States.{cq_in-set, cq_in-read, put_places-set, readies-set, ready_room-is, SameSeat-refl, kept_after, roomy-goes, past-events}
 use Rattle.nvme_state.proofs.AppliedRoom.{few_ready}
 
@@ -114,14 +115,15 @@ pub goes_readied : (a b : FrontState) (es : List Event) (c : ℕ) (d : CqRegion)
     → ready ≡ record d.ready { items = d.ready.items ++ ts } → b.cqs.items ≡ set a.cqs.items c (record d { ready = ready })
     → b.log.items ≡ a.log.items ++ es → b.config ≡ a.config → b.alloc ≡ a.alloc → b.late ≡ a.late → b.jobs ≡ a.jobs
     → map get_place (gets_of b.sqs.items) ≡ map get_place (gets_of a.sqs.items) → map window_room b.sqs.items ≡ map window_room a.sqs.items
-    → Goes a b
-goes_readied a b es c d ready ts read e cqs log config alloc late jobs gets windows = record {
+    → map coming_at b.sqs.items ≡ map coming_at a.sqs.items → Goes a b
+goes_readied a b es c d ready ts read e cqs log config alloc late jobs gets windows coming = record {
   grew = (es, sym log);
   config = config;
   alloc = alloc;
   late = late;
   gets = gets;
   puts = ap (λ (xs : List CqRegion). map put_place (puts_of xs)) cqs ∙ put_places-set a.cqs.items c d (record d { ready = ready }) read refl;
+  comes = comes-same a.sqs.items b.sqs.items coming;
   windows = windows;
   readies = ap (λ (xs : List CqRegion). map ready_room xs) cqs ∙ readies-set a.cqs.items c d (record d { ready = ready }) read (ap (λ (x : FifoView Ready). x.room) e);
   came = ap (λ (j : JobsView). j.hands.came) jobs;

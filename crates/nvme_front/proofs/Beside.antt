@@ -1,5 +1,5 @@
 -- A look at both ends of a ring changes what its ends know, and nothing else.
-use Rattle.std.proofs.Common.{◌≡◌, ℕ, ◌<◌, ◌≤◌, List, [], map, length, set, get_or, refl, sym, ap, subst, ◌∙◌, inl, inr, arith}
+use Rattle.std.proofs.Common.{◌≡◌, ℕ, ◌<◌, ◌≤◌, List, [], map, length, set, get_or, refl, sym, ap, subst, ◌∙◌, inl, inr, arith, ◌++◌}
 use Rattle.std.specs.Prelude.{slice_index_or, slice_set}
 use Rattle.std.specs.Vec.{with_item}
 use Rattle.std.proofs.lemmas.List.{append-nil, length-map, length-set, map-set, get_or_past}
@@ -17,6 +17,7 @@ use Rattle.nvme_front.specs.Room.{IsKept}
 use Rattle.nvme_front.specs.Goes.{Goes, get_place, put_place}
 use Rattle.nvme_front.specs.View.{view_of}
 use Rattle.nvme_state.proofs.Knowing.{knowing, stands-knowing, fresh-knowing}
+use Rattle.nvme_front.proofs.Comes.{comes-same, comes-set, IsPrefix-onto}
 use Rattle.nvme_front.proofs.States.{SameSeat-refl, look-set, look-read, places-set, windows-set, put_places-set, readies-set, rules-goes, sqs-goes, cqs-goes, admin-goes, roomy-goes}
 
 -- a front with another end of a submission region
@@ -40,7 +41,7 @@ kept-knowing s s' known free k g log kept none table =
       roomy = roomy-goes s s' k.roomy g (ap (λ z. z.sq_regions) table) (ap (λ z. z.cq_regions) table) (rw (log, g.config) k.roomy.few_events);
     }
 
-module _ (s : FrontState) (r : ℕ) (d : SqRegion) (e : GetView Sqe) (l : r < length s.sqs.items) (read : d ≡ get_or s.sqs.items r d) (got : e.got ≡ d.end.got) (same : SameGet d.end e) where
+module _ (s : FrontState) (r : ℕ) (d : SqRegion) (e : GetView Sqe) (l : r < length s.sqs.items) (read : d ≡ get_or s.sqs.items r d) (got : e.got ≡ d.end.got) (more : IsPrefix d.end.known e.known) (same : SameGet d.end e) where
   place_same : get_place e ≡ get_place d.end
   place_same = λ t. (same.0 t, same.1 t, same.2 t)
 
@@ -52,6 +53,7 @@ module _ (s : FrontState) (r : ℕ) (d : SqRegion) (e : GetView Sqe) (l : r < le
     late = refl;
     gets = places-set s.sqs.items r d (record d { end = e }) read place_same;
     puts = refl;
+    comes = comes-set s.sqs.items r d (record d { end = e }) read (subst (λ (xs : List Sqe). IsPrefix (d.end.got ++ d.end.known) (xs ++ e.known)) (sym got) (IsPrefix-onto d.end.got d.end.known e.known more));
     windows = windows-set s.sqs.items r d (record d { end = e }) read refl;
     readies = refl;
     came = refl;
@@ -87,8 +89,8 @@ module _ (s : FrontState) (r : ℕ) (d : SqRegion) (e : GetView Sqe) (l : r < le
   pub got-sq : (n : ℕ) → r ≡ n → (g : GetView Sqe) → e.got ≡ (slice_index_or (gets_of s.sqs.items) n g).got
   got-sq n same_n g = got ∙ ap (λ (z : GetView Sqe). z.got) (sym (read-sq n same_n g))
 
-  pub known-sq : IsPrefix d.end.known e.known → (n : ℕ) → r ≡ n → (g : GetView Sqe) → IsPrefix (slice_index_or (gets_of s.sqs.items) n g).known e.known
-  known-sq more n same_n g = subst (λ (z : GetView Sqe). IsPrefix z.known e.known) (sym (read-sq n same_n g)) more
+  pub known-sq : (n : ℕ) → r ≡ n → (g : GetView Sqe) → IsPrefix (slice_index_or (gets_of s.sqs.items) n g).known e.known
+  known-sq n same_n g = subst (λ (z : GetView Sqe). IsPrefix z.known e.known) (sym (read-sq n same_n g)) more
 
   pub place-sq : (n : ℕ) → r ≡ n → (g : GetView Sqe) → get_place e ≡ get_place (slice_index_or (gets_of s.sqs.items) n g)
   place-sq n same_n g = place_same ∙ ap get_place (sym (read-sq n same_n g))
@@ -105,6 +107,7 @@ module _ (s : FrontState) (c : ℕ) (d : CqRegion) (e : PutView Cqe) (l : c < le
     late = refl;
     gets = refl;
     puts = put_places-set s.cqs.items c d (record d { end = e }) read put_same;
+    comes = comes-same s.sqs.items s.sqs.items refl;
     windows = refl;
     readies = readies-set s.cqs.items c d (record d { end = e }) read refl;
     came = refl;

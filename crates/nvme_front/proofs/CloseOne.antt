@@ -17,11 +17,12 @@ use Rattle.nvme_state.specs.Kept.{Kept, SqKept, CqKept, put_cq}
 use Rattle.nvme_front.specs.State.{sq_in, cq_in, cq_kept, gets_of, puts_of, kept_of, rules_of, past_of}
 use Rattle.nvme_state.specs.Standing.{Stands, IsPending, hand_of}
 use Rattle.nvme_front.specs.Room.{IsKept, window_room, ready_room}
-use Rattle.nvme_front.specs.Goes.{Goes, HasAdmin, get_place, put_place}
+use Rattle.nvme_front.specs.Goes.{coming_at, Goes, HasAdmin, get_place, put_place}
 use Rattle.nvme_state.proofs.AfterSteps.{after_closed, closed_event, deleted}
 use Rattle.nvme_state.proofs.ReadyRoom.{ready_has_room}
 use Rattle.nvme_state.proofs.Standing.{stands-close}
 use Rattle.nvme_state.proofs.TableSteps.{finish-sq_regions, finish-cq_regions}
+use Rattle.nvme_front.proofs.Comes.{comes-same}
 use Rattle.nvme_front.proofs.States.{cq_in-set, sq_in-read, cq_in-read, past-push, pushed-not_empty, put_places-set, readies-set, roomy-goes, ready_room-is, kept_after, SameSeat-refl}
 
 -- the region of the pending deletion is there
@@ -80,6 +81,7 @@ closed-goes a b d p = record {
   late = p.late;
   gets = ap (λ (z : List SqRegion). map get_place (gets_of z)) p.sqs;
   puts = ap (λ (z : List CqRegion). map put_place (puts_of z)) p.cqs ∙ put_places-set a.cqs.items 0 p.c (record p.c { ready = p.f }) p.read refl;
+  comes = comes-same a.sqs.items b.sqs.items (ap (map coming_at) p.sqs);
   windows = ap (map window_room) p.sqs;
   readies = ap (map ready_room) p.cqs ∙ readies-set a.cqs.items 0 p.c (record p.c { ready = p.f }) p.read (ap (λ (z : FifoView Ready). z.room) p.ready);
   came = rw p.jobs refl;

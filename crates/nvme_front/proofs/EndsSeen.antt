@@ -15,6 +15,7 @@ use Rattle.nvme_front.specs.Room.{IsKept}
 use Rattle.nvme_front.specs.Goes.{Goes, HasAdmin}
 use Rattle.nvme_front.specs.View.{FrontView, view_of, got_in, known_in, sent_in, free_in, AccountsForEnds, GoesOn}
 use Rattle.nvme_front.proofs.States.{rules-goes}
+use Rattle.nvme_front.proofs.Comes.{comes-seen}
 use Rattle.nvme_state.proofs.Accounted.{account_is, fetched_is_got, posted_is_sent}
 
 -- a field of an item of a list that was made twice
@@ -73,6 +74,7 @@ view_goes_on a b g = record {
   late = g.late;
   gets = g.gets;
   puts = g.puts;
+  comes = comes-seen a b g.comes;
   came = g.came;
   seat = g.seat;
 }

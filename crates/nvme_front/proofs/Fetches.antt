@@ -25,8 +25,9 @@ use Rattle.nvme_state.specs.Kept.{SqKept, Kept, put_sq}
 use Rattle.nvme_front.specs.State.{sq_kept, sq_in, cq_in, gets_of, puts_of, kept_of, rules_of, past_of}
 use Rattle.nvme_state.specs.Standing.{Stands, on_board}
 use Rattle.nvme_front.specs.Room.{IsKept, window_room, ready_room}
-use Rattle.nvme_front.specs.Goes.{Goes, HasAdmin, get_place, put_place}
+use Rattle.nvme_front.specs.Goes.{coming_at, coming_in, Goes, HasAdmin, get_place, put_place}
 use Rattle.nvme_state.proofs.AfterSteps.{CanFetch, fetched_sq, came_board, fetch_event, after_fetch}
+use Rattle.nvme_front.proofs.Comes.{comes-set}
 use Rattle.nvme_front.proofs.States.{sq_in-set, sq_in-read, past-push, pushed-not_empty, places-set, windows-set, roomy-goes, window_room-is, kept_after, SameSeat-refl}
 use Rattle.nvme_state.proofs.Standing.{stands-fetch}
 
@@ -117,7 +118,7 @@ module _ (a : FrontState) (kept : IsKept a) (admin : HasAdmin a) (q : ℕ) (entr
 
   -- after the next command was got into the window, the log and the board have it
   module _ (b : FrontState) (same : IsElseSame a b) (d g : SqRegion) (read : d ≡ get_or a.sqs.items entry.region d) (candidate : Candidate)
-      (sqs : b.sqs.items ≡ set a.sqs.items entry.region g) (end : SameGet d.end g.end) (window : g.window ≡ record (d.window) { items = d.window.items ++ candidate ∷ [] }) where
+      (sqs : b.sqs.items ≡ set a.sqs.items entry.region g) (end : SameGet d.end g.end) (coming : IsPrefix (coming_at d) (coming_at g)) (window : g.window ≡ record (d.window) { items = d.window.items ++ candidate ∷ [] }) where
     -- the regions, and a log that goes on from the old one
     pub fetch_goes : IsPrefix a.log.items b.log.items → Goes a b
     fetch_goes grew = record {
@@ -127,6 +128,7 @@ module _ (a : FrontState) (kept : IsKept a) (admin : HasAdmin a) (q : ℕ) (entr
       late = same.late;
       gets = ap (λ (x : List SqRegion). map get_place (gets_of x)) sqs ∙ places-set a.sqs.items entry.region d g read (λ t. (end.0 t, end.1 t, end.2 t));
       puts = ap (λ (x : List CqRegion). map put_place (puts_of x)) (ap (λ (v : _). v.items) same.cqs);
+      comes = λ r. subst (λ (xs : List SqRegion). IsPrefix (coming_in a.sqs.items r) (coming_in xs r)) (sym sqs) (comes-set a.sqs.items entry.region d g read coming r);
       windows = ap (map window_room) sqs ∙ windows-set a.sqs.items entry.region d g read (ap (λ (w : _). w.room) window);
       readies = ap (map ready_room) (ap (λ (v : _). v.items) same.cqs);
       came = rw same.jobs refl;

@@ -21,14 +21,18 @@ use Rattle.nvme_front.specs.declared.state.FrontState.{FrontState}
 use Rattle.nvme_state.specs.Fifo.{FifoView}
 use Rattle.nvme_log.specs.Limits.{most_events}
 use Rattle.nvme_state.specs.Jobs.{JobsView, in_hand, job_in, dispatched_place, HandsOne, GainsOne, GainsStray, gained_jobs, gained_count}
+use Rattle.nvme_state.specs.Balance.{Balances}
+use Rattle.nvme_state.proofs.Balances.{balances-handed, balances-stray, balances-still}
 use Rattle.nvme_state.specs.Kept.{Kept, SqKept, CqKept, put_cq}
 use Rattle.nvme_front.specs.State.{sq_in, cq_in, cq_kept, gets_of, puts_of, kept_of, rules_of, past_of}
 use Rattle.nvme_state.specs.Standing.{Stands, IsDispatched, IsFresh, held_by}
 use Rattle.nvme_front.specs.Room.{IsKept, window_room, ready_room}
-use Rattle.nvme_front.specs.Goes.{Goes, IsSame, HasAdmin, get_place, put_place}
+use Rattle.nvme_front.specs.Goes.{coming_at, Goes, IsSame, HasAdmin, get_place, put_place}
+use Rattle.nvme_front.specs.Turn.{Balanced}
 use Rattle.nvme_front.specs.View.{GainedStray, view_of}
 use Rattle.nvme_state.proofs.AfterSteps.{completed, after_gain}
 use Rattle.nvme_state.proofs.Standing.{stands-hand, stands-gain, stands-stray}
+use Rattle.nvme_front.proofs.Comes.{comes-same}
 use Rattle.nvme_front.proofs.Picks.{with_few, config_by}
 use Rattle.nvme_front.proofs.States.{cq_in-set, sq_in-read, cq_in-read, put_places-set, readies-set, roomy-goes, rules-goes, admin-goes, Goes-refl, Goes-same, kept_same}
 
@@ -72,6 +76,7 @@ module _ (s : FrontState) (few : s.config.max_events ≤ most_events) (jobs : Jo
     late = refl;
     gets = refl;
     puts = refl;
+    comes = comes-same s.sqs.items s.sqs.items refl;
     windows = refl;
     readies = refl;
     came = refl;
@@ -101,6 +106,13 @@ module _ (s : FrontState) (few : s.config.max_events ≤ most_events) (jobs : Jo
     | inr not_so ↦ Goes-same s (with_jobs s few jobs) (same_jobs s few jobs (none not_so))
   ]
 
+  -- what was handed waits for its result
+  pub hand-balanced : Balanced s (with_jobs s few jobs)
+  hand-balanced = elim (cases_Bool handed) [
+    | inl was ↦ balances-handed s.config.spaces s.jobs jobs (one was)
+    | inr not_so ↦ balances-still s.config.spaces s.jobs jobs (none not_so)
+  ]
+
   -- and is kept
   pub hand-kept : IsKept s → HasAdmin s → IsKept (with_jobs s few jobs)
   hand-kept k admin = elim (cases_Bool handed) [
@@ -128,6 +140,7 @@ module _ (s : FrontState) (few : s.config.max_events ≤ most_events) (jobs : Jo
     late = refl;
     gets = refl;
     puts = refl;
+    comes = comes-same s.sqs.items s.sqs.items refl;
     windows = refl;
     readies = refl;
     came = refl;
@@ -187,6 +200,7 @@ module _ (s : FrontState) (few : s.config.max_events ≤ most_events) (jobs : Jo
     ends_are = h.can.gained.are;
     last = h.can.gained.got;
     of_none = h.of_none;
+    stray = subst (λ (j : JobsView). Balances s.config.spaces s.jobs.hands j.hands (h.result ∷ [])) h.are (balances-stray s.config.spaces s.jobs jobs ticket h);
   })
 
 -- ---- a result of a job is gained
@@ -309,6 +323,7 @@ module _ (a b : FrontState) (d : Dispatched) (result : Finished) (p : IsGained a
     late = p.late;
     gets = ap (λ (z : List SqRegion). map get_place (gets_of z)) p.sqs;
     puts = ap (λ (z : List CqRegion). map put_place (puts_of z)) p.cqs ∙ put_places-set a.cqs.items p.queue.cq_region p.e (record p.e { ready = p.f }) p.read refl;
+    comes = comes-same a.sqs.items b.sqs.items (ap (map coming_at) p.sqs);
     windows = ap (map window_room) p.sqs;
     readies = ap (map ready_room) p.cqs ∙ readies-set a.cqs.items p.queue.cq_region p.e (record p.e { ready = p.f }) p.read (ap (λ (z : FifoView Ready). z.room) p.ready);
     came = ap (λ (j : JobsView). j.hands.came) p.one.are;

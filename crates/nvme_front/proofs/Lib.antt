@@ -1,3 +1,4 @@
+pub mod Comes
 pub mod States
 pub mod RegionLists
 pub mod Starting

@@ -36,7 +36,7 @@ use Rattle.nvme_log.specs.Queues.{Queue, admin_queue, open_sq}
 use Rattle.nvme_state.specs.Jobs.{JobsView, gained_count}
 use Rattle.nvme_state.specs.Kept.{SqKept, put_sq}
 use Rattle.nvme_front.specs.State.{sq_in, cq_in, kept_of, rules_of, past_of, gets_of, puts_of}
-use Rattle.nvme_front.specs.Goes.{Goes, HasAdmin, get_place, put_place}
+use Rattle.nvme_front.specs.Goes.{coming_at, Goes, HasAdmin, get_place, put_place}
 use Rattle.nvme_state.specs.Standing.{Stands}
 use Rattle.nvme_front.specs.Room.{IsKept, IsRoomy, window_room, ready_room}
 use Rattle.nvme_front.specs.Applied.{IsApplied}
@@ -44,6 +44,7 @@ use Rattle.nvme_state.specs.Steps.{CanPick, picked_sq}
 use Rattle.nvme_state.proofs.AccountSteps.{admin_is_open}
 use Rattle.nvme_state.proofs.Observing.{seen_is_observed}
 use Rattle.nvme_state.proofs.TableSteps.{entry-sq_regions, entry-cq_regions}
+use Rattle.nvme_front.proofs.Comes.{comes-same, coming-set}
 use Rattle.nvme_front.proofs.States.{sq_in-set, sq_in-read, places-set, windows-set, SameSeat-refl, roomy-goes, rules-goes, admin-goes}
 use Rattle.nvme_front.proofs.Picks.{due}
 use Rattle.nvme_front.proofs.PickedQueue.{picked_region, can_pick, past-picked}
@@ -132,6 +133,7 @@ module _ (s b : FrontState) (kept : IsKept s) (admin : HasAdmin s) (none : s.del
     late = same_late;
     gets = ap (λ (x : List SqRegion). map get_place (gets_of x)) sqs ∙ places-set s.sqs.items 0 d (picked_region d 1) read refl;
     puts = ap (λ (x : List CqRegion). map put_place (puts_of x)) cqs;
+    comes = comes-same s.sqs.items b.sqs.items (ap (map coming_at) sqs ∙ coming-set s.sqs.items 0 d (picked_region d 1) read refl);
     windows = ap (map window_room) sqs ∙ windows-set s.sqs.items 0 d (picked_region d 1) read refl;
     readies = ap (map ready_room) cqs;
     came = ap (λ (j : JobsView). j.hands.came) jobs;

@@ -26,13 +26,14 @@ use Rattle.nvme_log.specs.Histories.{arbitration_of}
 use Rattle.nvme_state.specs.Jobs.{JobsView, with_picked, gained_count}
 use Rattle.nvme_state.specs.Kept.{SqKept, put_sq, Kept}
 use Rattle.nvme_front.specs.State.{sq_in, cq_in, kept_of, rules_of, past_of, gets_of, puts_of}
-use Rattle.nvme_front.specs.Goes.{Goes, HasAdmin, get_place, put_place}
+use Rattle.nvme_front.specs.Goes.{coming_at, Goes, HasAdmin, get_place, put_place}
 use Rattle.nvme_state.specs.Standing.{Stands}
 use Rattle.nvme_front.specs.Room.{IsKept, IsRoomy, window_room, ready_room}
 use Rattle.nvme_state.specs.Steps.{CanPick, picked_sq}
 use Rattle.nvme_state.proofs.AfterSteps.{after_io}
 use Rattle.nvme_state.proofs.Observing.{seen_is_observed}
 use Rattle.nvme_state.proofs.Standing.{stands-io}
+use Rattle.nvme_front.proofs.Comes.{comes-same, coming-set}
 use Rattle.nvme_front.proofs.States.{sq_in-set, past-push, pushed-not_empty, places-set, windows-set, SameSeat-refl, roomy-goes, kept_after}
 use Rattle.nvme_front.proofs.Picks.{due, due-lawful, due-region, due-cq_region, due-attached, due-sq_there, due-sq}
 
@@ -97,6 +98,7 @@ module _ (s b : FrontState) (kept : IsKept s) (admin : HasAdmin s) (none : s.del
     late = late;
     gets = ap (λ (x : List SqRegion). map get_place (gets_of x)) sqs ∙ places-set s.sqs.items r d (picked_region d pick.n) read refl;
     puts = ap (λ (x : List CqRegion). map put_place (puts_of x)) cqs;
+    comes = comes-same s.sqs.items b.sqs.items (ap (map coming_at) sqs ∙ coming-set s.sqs.items r d (picked_region d pick.n) read refl);
     windows = ap (map window_room) sqs ∙ windows-set s.sqs.items r d (picked_region d pick.n) read refl;
     readies = ap (map ready_room) cqs;
     came = ap (λ (j : JobsView). j.hands.came) jobs;

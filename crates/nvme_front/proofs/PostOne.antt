@@ -24,12 +24,13 @@ use Rattle.nvme_state.specs.Standing.{Stands, IsReady, HoldsPosts, hand_of}
 use Rattle.nvme_front.specs.Room.{IsKept, window_room, ready_room}
 use Rattle.nvme_log.specs.Places.{one_if}
 use Rattle.nvme_log.specs.Completions.{unposted_of}
-use Rattle.nvme_front.specs.Goes.{Goes, IsSame, IsDrained, HasAdmin, IsCompletionOf, get_place, put_place}
+use Rattle.nvme_front.specs.Goes.{coming_at, Goes, IsSame, IsDrained, HasAdmin, IsCompletionOf, get_place, put_place}
 use Rattle.nvme_state.proofs.AfterSteps.{CanPost, posted_cq, after_post, post_event}
 use Rattle.nvme_log.proofs.Counting.{count_of-push}
 use Rattle.nvme_state.proofs.PostedPlaces.{over_regions_at}
 use Rattle.nvme_state.proofs.OwnStatus.{IsAnswerable, ready_is_answerable, answerable_is_done, answerable_is_unposted}
 use Rattle.nvme_state.proofs.Standing.{stands-post}
+use Rattle.nvme_front.proofs.Comes.{comes-same, coming-set}
 use Rattle.nvme_front.proofs.States.{sq_in-set, cq_in-set, sq_in-read, cq_in-read, past-push, pushed-not_empty, places-set, windows-set, put_places-set, readies-set, roomy-goes, kept_after, SameSeat-refl}
 
 -- ---- lists
@@ -198,6 +199,7 @@ posted-goes a b c t cqe p = record {
   gets = ap (λ (z : List SqRegion). map get_place (gets_of z)) p.sqs ∙ places-set a.sqs.items t.region p.e _ p.sq_read refl;
   puts = ap (λ (z : List CqRegion). map put_place (puts_of z)) p.cqs
       ∙ put_places-set a.cqs.items c p.d p.g p.cq_read (λ i. (p.same_end.0 i, p.same_end.1 i, p.same_end.2 i));
+  comes = comes-same a.sqs.items b.sqs.items (ap (map coming_at) p.sqs ∙ coming-set a.sqs.items t.region p.e _ p.sq_read refl);
   windows = ap (map window_room) p.sqs ∙ windows-set a.sqs.items t.region p.e _ p.sq_read refl;
   readies = ap (map ready_room) p.cqs ∙ readies-set a.cqs.items c p.d p.g p.cq_read (ap (λ z. z.room) p.ready);
   came = rw p.jobs refl;

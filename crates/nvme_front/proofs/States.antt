@@ -23,7 +23,8 @@ use Rattle.nvme_state.specs.Kept.{no_sq, no_cq, put_sq, put_cq, sq_steps, cq_ste
 use Rattle.nvme_front.specs.State.{sq_kept, cq_kept, sq_in, cq_in, gets_of, puts_of, kept_of, rules_of, past_of}
 use Rattle.nvme_state.specs.Standing.{Stands}
 use Rattle.nvme_front.specs.Room.{IsKept, IsRoomy, window_room, ready_room, sq_region, cq_region}
-use Rattle.nvme_front.specs.Goes.{Goes, IsSame, HasAdmin, get_place, put_place}
+use Rattle.nvme_front.specs.Goes.{Goes, IsSame, HasAdmin, get_place, put_place, coming_at, coming_in}
+use Rattle.nvme_front.proofs.Comes.{comes-same}
 use Rattle.nvme_state.proofs.AfterSteps.{with_events}
 
 -- ---- look-ups after a region was replaced
@@ -71,7 +72,7 @@ pub SameSeat-refl : (s : SeatView) → SameSeat s s
 SameSeat-refl s = record { lane = refl; parts = refl; rings = refl }
 
 pub Goes-refl : (s : FrontState) → Goes s s
-Goes-refl s = record { grew = ([], append-nil s.log.items); config = refl; alloc = refl; late = refl; gets = refl; puts = refl; windows = refl; readies = refl; came = refl; seat = SameSeat-refl s.jobs.hands.seat; handed = omega arith; gained = omega arith; room = refl }
+Goes-refl s = record { grew = ([], append-nil s.log.items); config = refl; alloc = refl; late = refl; gets = refl; puts = refl; comes = comes-same s.sqs.items s.sqs.items refl; windows = refl; readies = refl; came = refl; seat = SameSeat-refl s.jobs.hands.seat; handed = omega arith; gained = omega arith; room = refl }
 
 pub Goes-trans : (a b c : FrontState) → Goes a b → Goes b c → Goes a c
 Goes-trans a b c g h = record {
@@ -81,6 +82,7 @@ Goes-trans a b c g h = record {
   late = h.late ∙ g.late;
   gets = h.gets ∙ g.gets;
   puts = h.puts ∙ g.puts;
+  comes = λ r. IsPrefix-trans (coming_in a.sqs.items r) (coming_in b.sqs.items r) (coming_in c.sqs.items r) (g.comes r) (h.comes r);
   windows = h.windows ∙ g.windows;
   readies = h.readies ∙ g.readies;
   came = h.came ∙ g.came;
@@ -98,6 +100,7 @@ Goes-same a b s = record {
   late = s.late;
   gets = ap (λ (x : List SqRegion). map get_place (gets_of x)) s.sqs;
   puts = ap (λ (x : List CqRegion). map put_place (puts_of x)) s.cqs;
+  comes = comes-same a.sqs.items b.sqs.items (ap (map coming_at) s.sqs);
   windows = ap (map window_room) s.sqs;
   readies = ap (map ready_room) s.cqs;
   came = ap (λ (j : JobsView). j.hands.came) s.jobs;

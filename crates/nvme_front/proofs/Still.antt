@@ -1,5 +1,5 @@
 -- What a turn's answer means, from the answers of its parts.
-use Rattle.std.proofs.Common.{◌≡◌, ◌≢◌, ℕ, ◌+◌, ◌<◌, ◌≤◌, Bool, true, false, ◌||◌, List, [], length, Option, Some, None, refl, sym, ap, ◌∙◌, subst, arith, ◌⊎◌, inl, inr}
+use Rattle.std.proofs.Common.{◌≡◌, ◌≢◌, ℕ, ◌+◌, ◌<◌, ◌≤◌, Bool, true, false, ◌||◌, List, [], ◌∷◌, length, Option, Some, None, refl, sym, ap, ◌∙◌, subst, arith, ◌⊎◌, inl, inr}
 use Rattle.std.specs.Prelude.{IfSome, IsSome}
 use Rattle.std.specs.List.{All}
 use Rattle.std.proofs.lemmas.List.{length-append}
@@ -20,13 +20,16 @@ use Rattle.nvme_state.specs.declared.region.SqRegion.{SqRegion}
 use Rattle.nvme_state.specs.declared.region.CqRegion.{CqRegion}
 use Rattle.nvme_front.specs.declared.state.FrontState.{FrontState}
 use Rattle.nvme_log.specs.Limits.{max_outstanding, admin_events}
-use Rattle.nvme_state.specs.Jobs.{JobsView, gained_count}
+use Rattle.nvme_pool.specs.declared.jobs.Finished.{Finished}
+use Rattle.nvme_state.specs.Jobs.{Hands, JobsView, gained_count}
+use Rattle.nvme_state.specs.Balance.{Balances}
+use Rattle.nvme_state.proofs.Balances.{balances-same, balances-still, balances-trans}
 use Rattle.nvme_front.specs.State.{sq_in, cq_in}
 use Rattle.nvme_front.specs.Room.{IsKept}
 use Rattle.nvme_front.specs.Goes.{Goes, IsSame, HasAdmin, AllDrained, AllScanned, IsTaken, IsFullSq, next_pick}
 use Rattle.nvme_log.specs.Histories.{picks_in}
 use Rattle.nvme_front.specs.View.{view_of, HasMoved, IsStill, GainedStray, IsIdleFront, IsStalledFront, StepMeans, ErrorMeans}
-use Rattle.nvme_front.specs.Turn.{IsQuiet, HasDone, IsWaiting, NeedsPlaces, Proceeds, told_after}
+use Rattle.nvme_front.specs.Turn.{Balanced, LacksAdminEvents, IsQuiet, HasDone, IsWaiting, NeedsPlaces, Proceeds, told_after}
 use Rattle.nvme_front.proofs.States.{Goes-same, IsSame-trans, admin-goes}
 use Rattle.nvme_front.proofs.Turns.{idle_front, deleting_front, stalled_front, admin_log_full}
 
@@ -215,10 +218,37 @@ module _ (a b c : FrontState) (bc : Goes b c) (none : a.deletion ≡ None) (pick
   served_means fetched more still picked one never idle stalled answer is =
       subst (λ (s : Step). Proceeds s a c) (sym is) (served_by fetched more still picked one never idle stalled)
 
+-- ---- results that are weighed
+-- where the jobs stayed
+pub balanced_still : (a b : FrontState) → b.jobs ≡ a.jobs → Balanced a b
+balanced_still a b same = balances-still a.config.spaces a.jobs b.jobs same
+
+-- where nothing was handed and nothing gained
+pub balanced_same : (a b : FrontState) → b.jobs.hands.seat ≡ a.jobs.hands.seat → b.jobs.hands.running ≡ a.jobs.hands.running → Balanced a b
+balanced_same a b seat running = balances-same a.config.spaces a.jobs.hands b.jobs.hands seat running
+
+-- with strays, by the namespaces of the same front before
+sizes_before : (a b : FrontState) → Goes a b → (x y : Hands) (strays : List Finished) → Balances b.config.spaces x y strays → Balances a.config.spaces x y strays
+sizes_before a b goes x y strays it = subst (λ (sizes : List ℕ). Balances sizes x y strays) (λ t. (goes.config t).spaces) it
+
+-- over a time before
+pub balanced_trans : (a b c : FrontState) → Goes a b → Balanced a b → Balanced b c → Balanced a c
+balanced_trans a b c goes first next =
+    balances-trans a.config.spaces a.jobs.hands b.jobs.hands c.jobs.hands [] first (sizes_before a b goes b.jobs.hands c.jobs.hands [] next)
+
+-- over jobs that are handed, results that are gained and completions that are posted
+pub caught_up_balanced : (a h g p : FrontState) → Goes a h → Goes h g → Balanced a h → Balanced h g → p.jobs ≡ g.jobs → Balanced a p
+caught_up_balanced a h g p ah hg handed gained same =
+    balanced_trans a h p ah handed (balanced_trans h g p hg gained (balanced_still g p same))
+
+-- over a scan and a pick
+pub picked_balanced : (a b c : FrontState) → Goes a b → b.jobs ≡ a.jobs → c.jobs.hands.seat ≡ b.jobs.hands.seat → c.jobs.hands.running ≡ b.jobs.hands.running → Balanced a c
+picked_balanced a b c goes same seat running = balanced_trans a b c goes (balanced_still a b same) (balanced_same b c seat running)
+
 -- ---- a result of no job
 -- what was gained since a time before
-pub stray_since : (ticket : ℕ) (a h g : FrontState) → Goes a h → GainedStray ticket (view_of h) (view_of g) → GainedStray ticket (view_of a) (view_of g)
-stray_since ticket a h g goes s = record {
+pub stray_since : (ticket : ℕ) (a h g : FrontState) → Goes a h → Balanced a h → GainedStray ticket (view_of h) (view_of g) → GainedStray ticket (view_of a) (view_of g)
+stray_since ticket a h g goes balanced s = record {
   result = s.result;
   ticket_is = s.ticket_is;
   more = omega (arith, s.more, goes.gained);
@@ -229,40 +259,47 @@ stray_since ticket a h g goes s = record {
   ends_are = s.ends_are;
   last = s.last;
   of_none = s.of_none;
+  stray = balances-trans a.config.spaces a.jobs.hands h.jobs.hands g.jobs.hands (s.result ∷ []) balanced
+      (sizes_before a h goes h.jobs.hands g.jobs.hands (s.result ∷ []) s.stray);
 }
 
 -- the answer with its ticket
-pub stray_means : (ticket : ℕ) (a h g : FrontState) → Goes a h → h.log.items ≡ a.log.items → g.log.items ≡ h.log.items → (e : FrontError) → e ≡ Stray ticket
+pub stray_means : (ticket : ℕ) (a h g : FrontState) → Goes a h → Balanced a h → h.log.items ≡ a.log.items → g.log.items ≡ h.log.items → (e : FrontError) → e ≡ Stray ticket
     → GainedStray ticket (view_of h) (view_of g) → ErrorMeans e (view_of a) (view_of g)
-stray_means ticket a h g goes log log' e is s =
-    subst (λ (x : FrontError). ErrorMeans x (view_of a) (view_of g)) (sym is) (stray_since ticket a h g goes s, ap picks_in log' ∙ ap picks_in log)
+stray_means ticket a h g goes balanced log log' e is s =
+    subst (λ (x : FrontError). ErrorMeans x (view_of a) (view_of g)) (sym is) (stray_since ticket a h g goes balanced s, ap picks_in log' ∙ ap picks_in log)
 
 -- ---- a pick that failed
 -- the log is full, or too full for an admin pick
-pub pick_error_means : (a c d : FrontState) (e : FrontError) → HasAdmin c → IsKept d → picks_in d.log.items ≡ picks_in a.log.items
-    → (e ≡ LogFull → (d.config.max_events < length d.log.items + 1)
-    ⊎ (IsSame c d × (d.config.max_events < length d.log.items + admin_events) × IfSome (next_pick c) (λ (pick : Pick). pick.qid ≡ 0) × IsSome (next_pick c)))
+pub pick_error_means : (a c d : FrontState) (e : FrontError) → HasAdmin c → c.deletion ≡ None → IsKept d → Balanced a d → picks_in d.log.items ≡ picks_in a.log.items
+    → (e ≡ LogFull → (d.config.max_events < length d.log.items + 1) ⊎ (IsSame c d × LacksAdminEvents c))
     → ((e ≡ LogFull) ⊎ (e ≡ NoMemory)) → ErrorMeans e (view_of a) (view_of d)
-pick_error_means a c d NoMemory admin kept picks full one = picks
-pick_error_means a c d LogFull admin kept picks full one = elim (full refl) [
-  | inl none_free ↦ (inl none_free, picks)
+pick_error_means a c d NoMemory admin none kept balanced picks full one = (picks, balanced)
+pick_error_means a c d LogFull admin none kept balanced picks full one = elim (full refl) [
+  | inl none_free ↦ (inl none_free, picks, balanced)
   | inr few ↦
       let same : IsSame c d = few.0 in
-      (admin_log_full d kept (admin-goes c d (Goes-same c d same) admin) few.1 (next_pick c) (pick_same c d same) few.2 few.3, picks)
+      let free : d.config.max_events < length d.log.items + admin_events = rw (same.config, same.log) few.1.0 in
+      (
+        admin_log_full d kept (admin-goes c d (Goes-same c d same) admin) (same.deletion ∙ none) free (next_pick c) (pick_same c d same)
+            (subst (λ (n : ℕ). IfSome (next_pick c) (λ (pick : Pick). (pick.qid ≡ 0) × (n + pick.n ≤ max_outstanding))) (sym same.outstanding) few.1.1) few.1.2,
+        picks,
+        balanced,
+      )
 ]
-pick_error_means a c d (Stray ticket) admin kept picks full one = absurd (elim one [ inl e ↦ cc | inr e ↦ cc ])
+pick_error_means a c d (Stray ticket) admin none kept balanced picks full one = absurd (elim one [ inl e ↦ cc | inr e ↦ cc ])
 
 -- ---- errors
 -- of a step that had no room in the log, or no memory for it
-pub log_error_means : (a b : FrontState) (e : FrontError) → picks_in b.log.items ≡ picks_in a.log.items → (e ≡ LogFull → b.config.max_events < length b.log.items + 1)
-    → ((e ≡ LogFull) ⊎ (e ≡ NoMemory)) → ErrorMeans e (view_of a) (view_of b)
-log_error_means a b NoMemory picks full one = picks
-log_error_means a b LogFull picks full one = (inl (full refl), picks)
-log_error_means a b (Stray ticket) picks full one = absurd (elim one [ inl e ↦ cc | inr e ↦ cc ])
+pub log_error_means : (a b : FrontState) (e : FrontError) → Balanced a b → picks_in b.log.items ≡ picks_in a.log.items
+    → (e ≡ LogFull → b.config.max_events < length b.log.items + 1) → ((e ≡ LogFull) ⊎ (e ≡ NoMemory)) → ErrorMeans e (view_of a) (view_of b)
+log_error_means a b NoMemory balanced picks full one = (picks, balanced)
+log_error_means a b LogFull balanced picks full one = (inl (full refl), picks, balanced)
+log_error_means a b (Stray ticket) balanced picks full one = absurd (elim one [ inl e ↦ cc | inr e ↦ cc ])
 
 -- the same since a time before
-pub error_since : (a b c : FrontState) (e : FrontError) → Goes a b → picks_in b.log.items ≡ picks_in a.log.items → ErrorMeans e (view_of b) (view_of c)
+pub error_since : (a b c : FrontState) (e : FrontError) → Goes a b → Balanced a b → picks_in b.log.items ≡ picks_in a.log.items → ErrorMeans e (view_of b) (view_of c)
     → ErrorMeans e (view_of a) (view_of c)
-error_since a b c NoMemory goes picks it = it ∙ picks
-error_since a b c LogFull goes picks it = (it.0, it.1 ∙ picks)
-error_since a b c (Stray ticket) goes picks it = (stray_since ticket a b c goes it.0, it.1 ∙ picks)
+error_since a b c NoMemory goes balanced picks it = (it.0 ∙ picks, balanced_trans a b c goes balanced it.1)
+error_since a b c LogFull goes balanced picks it = (it.0, it.1 ∙ picks, balanced_trans a b c goes balanced it.2)
+error_since a b c (Stray ticket) goes balanced picks it = (stray_since ticket a b c goes balanced it.0, it.1 ∙ picks)

@@ -158,8 +158,16 @@ stalled_front s kept admin drained none_gained (Some pick) is many some =
     }
 
 -- a log with too few free events for the next admin pick
-pub admin_log_full : (s : FrontState) → IsKept s → HasAdmin s → s.config.max_events < length s.log.items + admin_events
-    → (o : Option Pick) → next_pick s ≡ o → IfSome o (λ (pick : Pick). pick.qid ≡ 0) → IsSome o → IsFullLog (view_of s)
-admin_log_full s kept admin few None is of_admin some = absurd (cc some)
-admin_log_full s kept admin few (Some pick) is of_admin some =
-    inr (record { pick = pick; next = next_is s (kept.stands admin.0 admin.1) ∙ is; of_admin = of_admin; too_few = few })
+pub admin_log_full : (s : FrontState) → IsKept s → HasAdmin s → s.deletion ≡ None → s.config.max_events < length s.log.items + admin_events
+    → (o : Option Pick) → next_pick s ≡ o → IfSome o (λ (pick : Pick). (pick.qid ≡ 0) × (s.outstanding + pick.n ≤ max_outstanding)) → IsSome o → IsFullLog (view_of s)
+admin_log_full s kept admin none few None is it some = absurd (cc some)
+admin_log_full s kept admin none few (Some pick) is it some =
+    let h = kept.stands admin.0 admin.1 in
+    inr (record {
+      pick = pick;
+      none_pending = h.deletion.pending_is ∙ ap (λ (o : Option PendingDelete). option_map as_deletion o) none;
+      next = next_is s h ∙ is;
+      of_admin = it.0;
+      place = subst (λ (n : ℕ). n + pick.n ≤ max_outstanding) h.counts.outstanding_is it.1;
+      too_few = few;
+    })

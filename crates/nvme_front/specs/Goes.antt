@@ -1,5 +1,5 @@
 -- What the steps of a front leave (profile).
-use Rattle.std.specs.Prelude.{◌≡◌, ◌⊎◌, ◌≢◌, ℕ, ◌+◌, ◌%◌, ◌<◌, ◌≤◌, false, [], length, map, Option, Some, None}
+use Rattle.std.specs.Prelude.{◌≡◌, ◌⊎◌, ◌≢◌, ℕ, ◌+◌, ◌%◌, ◌<◌, ◌≤◌, false, List, [], ◌++◌, length, map, slice_index_or, Option, Some, None}
 use mathlib.Core.List.{IsPrefix}
 use Rattle.nvme_entry.specs.declared.submission.Sqe.{Sqe}
 use Rattle.nvme_entry.specs.declared.completion.Cqe.{Cqe}
@@ -11,6 +11,7 @@ use Rattle.nvme_arbiter.specs.Standing.{pick_of}
 use Rattle.nvme_admin.specs.declared.verdict.SqEntry.{SqEntry}
 use Rattle.nvme_admin.specs.Standing.{sq_of}
 use Rattle.nvme_state.specs.declared.candidate.Ready.{Ready}
+use Rattle.nvme_state.specs.declared.region.SqRegion.{SqRegion}
 use Rattle.nvme_front.specs.declared.state.FrontState.{FrontState}
 use Rattle.nvme_log.specs.Completions.{phase_after}
 use Rattle.nvme_front.specs.Room.{window_room, ready_room}
@@ -26,6 +27,13 @@ get_place g = (g.ring, g.address, g.slots)
 abbrev pub put_place : PutView Cqe → RingName × ℕ × ℕ
 put_place p = (p.ring, p.address, p.slots)
 
+-- what was got from a submission region and is known to come next
+abbrev pub coming_at : SqRegion → List Sqe
+coming_at r = r.end.got ++ r.end.known
+
+abbrev pub coming_in : List SqRegion → ℕ → List Sqe
+coming_in sqs r = slice_index_or (map coming_at sqs) r []
+
 -- the same front later on: the same regions and seat, and a log that begins with the old one
 pub record Goes (old new : FrontState) : Type 0 where
   pub grew : IsPrefix old.log.items new.log.items
@@ -34,6 +42,7 @@ pub record Goes (old new : FrontState) : Type 0 where
   pub late : new.late ≡ old.late
   pub gets : map get_place (gets_of new.sqs.items) ≡ map get_place (gets_of old.sqs.items)
   pub puts : map put_place (puts_of new.cqs.items) ≡ map put_place (puts_of old.cqs.items)
+  pub comes : (r : ℕ) → IsPrefix (coming_in old.sqs.items r) (coming_in new.sqs.items r)
   pub windows : map window_room new.sqs.items ≡ map window_room old.sqs.items
   pub readies : map ready_room new.cqs.items ≡ map ready_room old.cqs.items
   pub came : new.jobs.hands.came ≡ old.jobs.hands.came

@@ -1,10 +1,11 @@
 -- What the parts of a turn leave (profile).
-use Rattle.std.specs.Prelude.{◌≡◌, ◌≢◌, ◌+◌, ◌<◌, Bool, true, false, length, Option, Some, None, IfSome, IsSome}
+use Rattle.std.specs.Prelude.{◌≡◌, ◌≢◌, ◌+◌, ◌<◌, ◌≤◌, Bool, true, false, [], length, Option, Some, None, IfSome, IsSome}
 use Rattle.std.specs.List.{All}
 use Rattle.nvme_pool.specs.Seat.{IsUnknown}
 use Rattle.nvme_arbiter.specs.declared.pick.Pick.{Pick}
 use Rattle.nvme_state.specs.declared.candidate.PendingDelete.{PendingDelete}
-use Rattle.nvme_log.specs.Limits.{max_outstanding}
+use Rattle.nvme_state.specs.Balance.{Balances}
+use Rattle.nvme_log.specs.Limits.{max_outstanding, admin_events}
 use Rattle.nvme_log.specs.Histories.{picks_in}
 use Rattle.nvme_front.specs.declared.front.Step.{Step}
 use Rattle.nvme_front.specs.declared.front.Step.TheVariants.{Picked, Moved, Idle, Stalled}
@@ -12,6 +13,10 @@ use Rattle.nvme_front.specs.declared.state.FrontState.{FrontState}
 use Rattle.nvme_front.specs.State.{sq_in}
 use Rattle.nvme_front.specs.Goes.{IsSame, AllDrained, AllScanned, next_pick}
 use Rattle.nvme_front.specs.View.{view_of, HasMoved, HasNoPickMore}
+
+-- each result that was gained since a time before is of a job that waited for it then or was handed since, and doesn't wait any more
+abbrev pub Balanced : FrontState → FrontState → Type 0
+Balanced old new = Balances old.config.spaces old.jobs.hands new.jobs.hands []
 
 -- nothing changed, no result is known to come, and each completion region is drained
 pub record IsQuiet (old new : FrontState) : Type 0 where
@@ -32,6 +37,12 @@ IsWaiting s None = AllScanned s × (next_pick s ≡ None)
 -- the next pick needs more places than are free
 abbrev pub NeedsPlaces : FrontState → Type 0
 NeedsPlaces s = IfSome (next_pick s) (λ (pick : Pick). max_outstanding < s.outstanding + pick.n) × IsSome (next_pick s)
+
+-- the log has too few free events for the admin pick that is next, whose place is free
+abbrev pub LacksAdminEvents : FrontState → Type 0
+LacksAdminEvents s =
+    (s.config.max_events < length s.log.items + admin_events)
+    × IfSome (next_pick s) (λ (pick : Pick). (pick.qid ≡ 0) × (s.outstanding + pick.n ≤ max_outstanding)) × IsSome (next_pick s)
 
 -- what a turn did with the pending deletion, or with the queues where none is pending
 abbrev pub Proceeds : Step → FrontState → FrontState → Type 0

@@ -1,5 +1,5 @@
 -- What a contract sees of a front, and what its answers mean (profile; Base Specification, Submission Queue and Completion Queue, Command Arbitration).
-use Rattle.std.specs.Prelude.{◌≡◌, ◌⊎◌, ℕ, ◌+◌, ◌<◌, ◌==◌, ◌&&◌, ◌||◌, Bool, true, false, List, [], ◌∷◌, ◌++◌, length, map, Option, Some, None, slice_index_or, reverse}
+use Rattle.std.specs.Prelude.{◌≡◌, ◌⊎◌, ℕ, ◌+◌, ◌<◌, ◌≤◌, ◌==◌, ◌&&◌, ◌||◌, Bool, true, false, List, [], ◌∷◌, ◌++◌, length, map, Option, Some, None, slice_index_or, reverse}
 use Rattle.std.specs.List.{All, list_any}
 use mathlib.Core.List.{IsPrefix}
 use Rattle.nvme_entry.specs.declared.submission.Sqe.{Sqe}
@@ -23,6 +23,7 @@ use Rattle.nvme_log.specs.Histories.{arbitration_of, picks_in}
 use Rattle.nvme_log.specs.Completions.{is_posted, posted_to, outstanding, is_index}
 use Rattle.nvme_log.specs.Account.{IsAccount, deleting_place}
 use Rattle.nvme_state.specs.Jobs.{Hands, IsOfNone, is_in_hand, gained_count}
+use Rattle.nvme_state.specs.Balance.{Balances}
 use Rattle.nvme_front.specs.State.{rules_of, gets_of, puts_of}
 use Rattle.nvme_state.specs.Kept.{sq_steps, cq_steps}
 use Rattle.nvme_front.specs.Goes.{get_place, put_place}
@@ -85,6 +86,8 @@ pub record GoesOn (old new : FrontView) : Type 0 where
   pub late : new.late ≡ old.late
   pub gets : map get_place new.gets ≡ map get_place old.gets
   pub puts : map put_place new.puts ≡ map put_place old.puts
+  -- what was got from a submission region and was known to come next, in this order
+  pub comes : (r : ℕ) → IsPrefix (got_in old r ++ known_in old r) (got_in new r ++ known_in new r)
   pub came : new.hands.came ≡ old.hands.came
   pub seat : SameSeat old.hands.seat new.hands.seat
 
@@ -129,11 +132,13 @@ pub record IsStalledFront (v : FrontView) : Type 0 where
   pub none_posted : NoneCanBePosted v
   pub none_gained : All IsUnknown v.hands.seat.ends
 
--- the log has no free event, or too few for the admin command that arbitration picks next
+-- the log has too few free events for the admin command that arbitration picks next, where no deletion is pending and its place is free
 pub record NeedsAdminEvents (v : FrontView) : Type 0 where
   pub pick : Pick
+  pub none_pending : pending (past_in v) ≡ None
   pub next : next_lawful v ≡ Some pick
   pub of_admin : pick.qid ≡ 0
+  pub place : outstanding v.rules (past_in v) + pick.n ≤ max_outstanding
   pub too_few : v.limit < length v.log + admin_events
 
 abbrev pub IsFullLog : FrontView → Type 0
@@ -155,7 +160,11 @@ pub record IsStill (old new : FrontView) : Type 0 where
   pub log : new.log ≡ old.log
   pub hands : new.hands ≡ old.hands
 
--- a result with this ticket was gained, the last of its end, and no job that was handed and has no result is its job
+-- each result that was gained since a time before is of a job that waited for it then or was handed since, and doesn't wait any more
+abbrev pub HasNoStray : FrontView → FrontView → Type 0
+HasNoStray old new = Balances old.rules.sizes old.hands new.hands []
+
+-- a result with this ticket was gained, the last of its end, and no job that was handed and has no result is its job. It is the one stray
 pub record GainedStray (ticket : ℕ) (old new : FrontView) : Type 0 where
   pub result : Finished
   pub ticket_is : result.ticket ≡ ticket
@@ -167,6 +176,7 @@ pub record GainedStray (ticket : ℕ) (old new : FrontView) : Type 0 where
   pub ends_are : new.hands.seat.ends ≡ before ++ end ∷ after
   pub last : end.got ≡ got ++ result ∷ []
   pub of_none : IsOfNone new.rules.sizes new.hands.running result
+  pub stray : Balances old.rules.sizes old.hands new.hands (result ∷ [])
 
 -- what an answer means
 abbrev pub StepMeans : Step → FrontView → FrontView → Type 0
@@ -176,8 +186,8 @@ StepMeans Idle old new = IsIdleFront new × IsStill old new
 StepMeans Stalled old new = IsStalledFront new × IsStill old new
 
 abbrev pub ErrorMeans : FrontError → FrontView → FrontView → Type 0
-ErrorMeans NoMemory old new = HasNoPickMore old new
-ErrorMeans LogFull old new = IsFullLog new × HasNoPickMore old new
+ErrorMeans NoMemory old new = HasNoPickMore old new × HasNoStray old new
+ErrorMeans LogFull old new = IsFullLog new × HasNoPickMore old new × HasNoStray old new
 ErrorMeans (Stray ticket) old new = GainedStray ticket old new × HasNoPickMore old new
 
 -- the regions of a front's rules are those of its ends

@@ -21,6 +21,7 @@ impl FrontState {
         requires applied { (closing : Option ℕ) × IsApplied self.old candidate (verdict.Done status dw0) closing }
         ensures kept { IsKept self.new }
         ensures goes { Goes self.old self.new }
+        ensures jobs { self.new.jobs ≡ self.old.jobs }
         ensures picks { picks_in self.new.log.items ≡ picks_in self.old.log.items }
     {
         self.cqs[0].ready.push(candidate.answered(status, dw0));
@@ -31,6 +32,7 @@ impl FrontState {
         requires applied { (closing : Option ℕ) × IsApplied self.old candidate (verdict.OpenSq qid region cqid class) closing }
         ensures kept { IsKept self.new }
         ensures goes { Goes self.old self.new }
+        ensures jobs { self.new.jobs ≡ self.old.jobs }
         ensures picks { picks_in self.new.log.items ≡ picks_in self.old.log.items }
     {
         let Some(cq_region) = self.table.cq(cqid) else {
@@ -57,6 +59,7 @@ impl FrontState {
         requires applied { (closing : Option ℕ) × IsApplied self.old candidate (verdict.OpenCq qid region) closing }
         ensures kept { IsKept self.new }
         ensures goes { Goes self.old self.new }
+        ensures jobs { self.new.jobs ≡ self.old.jobs }
         ensures picks { picks_in self.new.log.items ≡ picks_in self.old.log.items }
     {
         note(&mut self.log, Event::OpenCq { qid, region });
@@ -70,6 +73,7 @@ impl FrontState {
         requires applied { IsApplied self.old candidate (verdict.CloseCq qid) closing }
         ensures kept { IsKept self.new }
         ensures goes { Goes self.old self.new }
+        ensures jobs { self.new.jobs ≡ self.old.jobs }
         ensures picks { picks_in self.new.log.items ≡ picks_in self.old.log.items }
     {
         let Some(region) = closing else {
@@ -86,6 +90,7 @@ impl FrontState {
         requires applied { (closing : Option ℕ) × IsApplied self.old candidate (verdict.SetArbitration settings) closing }
         ensures kept { IsKept self.new }
         ensures goes { Goes self.old self.new }
+        ensures jobs { self.new.jobs ≡ self.old.jobs }
         ensures picks { picks_in self.new.log.items ≡ picks_in self.old.log.items }
     {
         self.board.set(settings);
@@ -101,6 +106,7 @@ impl FrontState {
         requires applied { (closing : Option ℕ) × IsApplied self.old candidate (verdict.BeginDelete qid) closing }
         ensures kept { IsKept self.new }
         ensures goes { Goes self.old self.new }
+        ensures jobs { self.new.jobs ≡ self.old.jobs }
         ensures picks { picks_in self.new.log.items ≡ picks_in self.old.log.items }
     {
         let Some(queue) = self.table.sq(qid) else {
@@ -135,6 +141,7 @@ impl FrontState {
         requires applied { IsApplied self.old candidate verdict closing }
         ensures kept { IsKept self.new }
         ensures goes { Goes self.old self.new }
+        ensures jobs { self.new.jobs ≡ self.old.jobs }
         ensures picks { picks_in self.new.log.items ≡ picks_in self.old.log.items }
     {
         match verdict {

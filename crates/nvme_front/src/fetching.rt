@@ -21,6 +21,7 @@ impl FrontState {
         requires none_pending { self.old.deletion ≡ None }
         ensures kept { IsKept self.new }
         ensures goes { Goes self.old self.new }
+        ensures jobs { self.new.jobs ≡ self.old.jobs }
         ensures picks { picks_in self.new.log.items ≡ picks_in self.old.log.items }
         ensures none_pending { self.new.deletion ≡ None }
         ensures more { result ≡ Ok true → length self.new.log.items ≡ length self.old.log.items + 1 }
@@ -58,6 +59,7 @@ impl FrontState {
         requires none_pending { self.old.deletion ≡ None }
         ensures kept { IsKept self.new }
         ensures goes { Goes self.old self.new }
+        ensures jobs { self.new.jobs ≡ self.old.jobs }
         ensures picks { picks_in self.new.log.items ≡ picks_in self.old.log.items }
         ensures none_pending { self.new.deletion ≡ None }
         ensures more { result ≡ Ok true → length self.old.log.items < length self.new.log.items }
@@ -79,6 +81,7 @@ impl FrontState {
         requires none_pending { self.old.deletion ≡ None }
         ensures kept { IsKept self.new }
         ensures goes { Goes self.old self.new }
+        ensures jobs { self.new.jobs ≡ self.old.jobs }
         ensures picks { picks_in self.new.log.items ≡ picks_in self.old.log.items }
         ensures none_pending { self.new.deletion ≡ None }
         ensures more { result ≡ Ok true → length self.old.log.items < length self.new.log.items }

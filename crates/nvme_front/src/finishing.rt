@@ -22,6 +22,7 @@ impl FrontState {
         requires pending { self.old.deletion ≡ Some deletion }
         ensures kept { IsKept self.new }
         ensures goes { Goes self.old self.new }
+        ensures jobs { self.new.jobs ≡ self.old.jobs }
         ensures picks { picks_in self.new.log.items ≡ picks_in self.old.log.items }
         ensures more { result ≡ Ok true → length self.new.log.items ≡ length self.old.log.items + 1 }
         ensures still { result ≡ Ok false → IsSame self.old self.new × ((sq_in self.old.sqs.items deletion.region).unposted ≢ 0) }

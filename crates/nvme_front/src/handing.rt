@@ -6,12 +6,13 @@ use nvme_state::{Gained, Ready};
 use std::sync::Wait;
 
 impl FrontState {
-    ghost use Rattle.std.specs.Prelude.{◌≡◌, ℕ, ◌<◌, true, false, length, IfErr};
+    ghost use Rattle.std.specs.Prelude.{◌≡◌, ℕ, ◌<◌, true, false, length, OnOk, IfErr};
     ghost use Rattle.std.specs.List.{All};
     ghost use Rattle.nvme_pool.specs.Seat.{IsUnknown};
     ghost use Rattle.nvme_front.specs.Room.{IsKept};
     ghost use Rattle.nvme_state.specs.Jobs.{gained_count};
     ghost use Rattle.nvme_front.specs.Goes.{Goes, IsSame, HasAdmin};
+    ghost use Rattle.nvme_front.specs.Turn.{Balanced};
     ghost use Rattle.nvme_front.specs.View.{view_of, GainedStray};
     ghost use Rattle.nvme_front.specs.declared.front.FrontError.TheVariants.{Stray};
 
@@ -25,6 +26,7 @@ impl FrontState {
         ensures log { self.new.log.items ≡ self.old.log.items }
         ensures deletion { self.new.deletion ≡ self.old.deletion }
         ensures ends { self.new.jobs.hands.seat.ends ≡ self.old.jobs.hands.seat.ends }
+        ensures balanced { Balanced self.old self.new }
         ensures fewer { result ≡ true → length self.new.jobs.hands.unhanded < length self.old.jobs.hands.unhanded }
         ensures more { result ≡ true → length self.old.jobs.hands.seat.handed < length self.new.jobs.hands.seat.handed }
         ensures still { result ≡ false → IsSame self.old self.new }
@@ -42,6 +44,7 @@ impl FrontState {
         ensures log { self.new.log.items ≡ self.old.log.items }
         ensures deletion { self.new.deletion ≡ self.old.deletion }
         ensures ends { self.new.jobs.hands.seat.ends ≡ self.old.jobs.hands.seat.ends }
+        ensures balanced { Balanced self.old self.new }
         ensures more { result ≡ true → length self.old.jobs.hands.seat.handed < length self.new.jobs.hands.seat.handed }
         ensures still { result ≡ false → IsSame self.old self.new }
     {
@@ -64,6 +67,7 @@ impl FrontState {
         ensures fewer { result ≡ Ok true → length self.new.jobs.hands.running < length self.old.jobs.hands.running }
         ensures more { result ≡ Ok true → gained_count self.old.jobs.hands < gained_count self.new.jobs.hands }
         ensures still { result ≡ Ok false → IsSame self.old self.new × All IsUnknown self.old.jobs.hands.seat.ends }
+        ensures balanced { OnOk result (Balanced self.old self.new) }
         ensures stray { IfErr result (λ e. (ticket : ℕ) × (e ≡ Stray ticket) × GainedStray ticket (view_of self.old) (view_of self.new)) }
     {
         let (dispatched, finished) = match self.jobs.gain(lanes, &self.config.spaces) {
@@ -98,6 +102,8 @@ impl FrontState {
         ensures deletion { self.new.deletion ≡ self.old.deletion }
         ensures more { result ≡ Ok true → gained_count self.old.jobs.hands < gained_count self.new.jobs.hands }
         ensures still { result ≡ Ok false → IsSame self.old self.new × All IsUnknown self.old.jobs.hands.seat.ends }
+        ensures balanced { OnOk result (Balanced self.old self.new) }
+        ensures none_known { OnOk result (All IsUnknown self.new.jobs.hands.seat.ends) }
         ensures stray { IfErr result (λ e. (ticket : ℕ) × (e ≡ Stray ticket) × GainedStray ticket (view_of self.old) (view_of self.new)) }
     {
         let mut gained = false;

@@ -28,6 +28,7 @@ impl FrontState {
     ghost use Rattle.nvme_log.specs.Limits.{max_outstanding, admin_events};
     ghost use Rattle.nvme_front.specs.Room.{IsKept};
     ghost use Rattle.nvme_front.specs.Goes.{Goes, IsSame, HasAdmin, next_pick};
+    ghost use Rattle.nvme_front.specs.Turn.{LacksAdminEvents};
     ghost use Rattle.nvme_log.specs.Histories.{picks_in};
     ghost use Rattle.nvme_front.specs.declared.front.FrontError.TheVariants.{NoMemory, LogFull};
     ghost use Rattle.nvme_front.specs.declared.front.Step.TheVariants as step;
@@ -43,6 +44,8 @@ impl FrontState {
         requires there { IsSome (next_pick self.old) }
         ensures kept { IsKept self.new }
         ensures goes { Goes self.old self.new }
+        ensures seat { self.new.jobs.hands.seat ≡ self.old.jobs.hands.seat }
+        ensures running { self.new.jobs.hands.running ≡ self.old.jobs.hands.running }
         ensures picked { OnOk result (picks_in self.new.log.items ≡ picks_in self.old.log.items + 1) }
         ensures full { result ≡ Err LogFull → self.new.config.max_events < length self.new.log.items + 1 }
         ensures none_picked { OnErr result (picks_in self.new.log.items ≡ picks_in self.old.log.items) }
@@ -74,6 +77,8 @@ impl FrontState {
         requires there { IsSome (next_pick self.old) }
         ensures kept { IsKept self.new }
         ensures goes { Goes self.old self.new }
+        ensures seat { self.new.jobs.hands.seat ≡ self.old.jobs.hands.seat }
+        ensures running { self.new.jobs.hands.running ≡ self.old.jobs.hands.running }
         ensures picked { OnOk result (picks_in self.new.log.items ≡ picks_in self.old.log.items + 1) }
         ensures full { result ≡ Err LogFull → IsSame self.old self.new × (self.new.config.max_events < length self.new.log.items + admin_events) }
         ensures none_picked { OnErr result (picks_in self.new.log.items ≡ picks_in self.old.log.items) }
@@ -104,12 +109,14 @@ impl FrontState {
         requires none_pending { self.old.deletion ≡ None }
         ensures kept { IsKept self.new }
         ensures goes { Goes self.old self.new }
+        ensures seat { self.new.jobs.hands.seat ≡ self.old.jobs.hands.seat }
+        ensures running { self.new.jobs.hands.running ≡ self.old.jobs.hands.running }
         ensures never_moved { result ≡ Ok step.Moved → ⊥ }
         ensures picked { result ≡ Ok step.Picked → picks_in self.new.log.items ≡ picks_in self.old.log.items + 1 }
         ensures idle { result ≡ Ok step.Idle → IsSame self.old self.new × (next_pick self.old ≡ None) }
         ensures stalled { result ≡ Ok step.Stalled → IsSame self.old self.new × IfSome (next_pick self.old) (λ pick. max_outstanding < self.old.outstanding + pick.n) × IsSome (next_pick self.old) }
         ensures full { result ≡ Err LogFull → (self.new.config.max_events < length self.new.log.items + 1)
-            ⊎ (IsSame self.old self.new × (self.new.config.max_events < length self.new.log.items + admin_events) × IfSome (next_pick self.old) (λ pick. pick.qid ≡ 0) × IsSome (next_pick self.old)) }
+            ⊎ (IsSame self.old self.new × LacksAdminEvents self.old) }
         ensures none_picked { OnErr result (picks_in self.new.log.items ≡ picks_in self.old.log.items) }
         ensures no_stray { IfErr result (λ e. (e ≡ LogFull) ⊎ (e ≡ NoMemory)) }
     {

@@ -56,6 +56,7 @@ impl FrontState {
         requires there { c < length self.old.cqs.items }
         ensures kept { IsKept self.new }
         ensures goes { Goes self.old self.new }
+        ensures jobs { self.new.jobs ≡ self.old.jobs }
         ensures picks { picks_in self.new.log.items ≡ picks_in self.old.log.items }
         ensures deletion { self.new.deletion ≡ self.old.deletion }
         ensures more { result ≡ Ok true → length self.new.log.items ≡ length self.old.log.items + 1 }
@@ -103,6 +104,7 @@ impl FrontState {
         requires there { c < length self.old.cqs.items }
         ensures kept { IsKept self.new }
         ensures goes { Goes self.old self.new }
+        ensures jobs { self.new.jobs ≡ self.old.jobs }
         ensures picks { picks_in self.new.log.items ≡ picks_in self.old.log.items }
         ensures deletion { self.new.deletion ≡ self.old.deletion }
         ensures more { result ≡ Ok true → length self.old.log.items < length self.new.log.items }
@@ -123,6 +125,7 @@ impl FrontState {
         requires admin { HasAdmin self.old }
         ensures kept { IsKept self.new }
         ensures goes { Goes self.old self.new }
+        ensures jobs { self.new.jobs ≡ self.old.jobs }
         ensures picks { picks_in self.new.log.items ≡ picks_in self.old.log.items }
         ensures deletion { self.new.deletion ≡ self.old.deletion }
         ensures more { result ≡ Ok true → length self.old.log.items < length self.new.log.items }

@@ -31,12 +31,14 @@ pub struct FrontState {
 }
 
 impl FrontState {
-    ghost use Rattle.std.specs.Prelude.{◌≡◌, ◌↔◌, length, None, IfOk, IfErr, IsTrue, ◌&&◌, nat_lt};
+    ghost use Rattle.std.specs.Prelude.{◌≡◌, ◌↔◌, length, None, IfOk, OnOk, IfErr, IsTrue, ◌&&◌, nat_lt};
     ghost use Rattle.nvme_front.specs.Room.{IsKept};
     ghost use Rattle.nvme_front.specs.State.{past_of};
     ghost use Rattle.nvme_front.specs.Goes.{Goes, HasAdmin};
     ghost use Rattle.nvme_front.specs.View.{view_of, HasNoPickMore, StepMeans, ErrorMeans};
-    ghost use Rattle.nvme_front.specs.Turn.{HasDone, Proceeds};
+    ghost use Rattle.std.specs.List.{All};
+    ghost use Rattle.nvme_pool.specs.Seat.{IsUnknown};
+    ghost use Rattle.nvme_front.specs.Turn.{HasDone, Proceeds, Balanced};
     ghost use Rattle.nvme_log.specs.Account.{IsClear};
     ghost use Rattle.nvme_log.specs.Queues.{is_serving};
 
@@ -48,6 +50,8 @@ impl FrontState {
         ensures kept { IsKept self.new }
         ensures goes { Goes self.old self.new }
         ensures step { IfOk result (λ step. StepMeans step (view_of self.old) (view_of self.new)) }
+        ensures balanced { OnOk result (Balanced self.old self.new) }
+        ensures none_known { OnOk result (All IsUnknown self.new.jobs.hands.seat.ends) }
         ensures error { IfErr result (λ error. ErrorMeans error (view_of self.old) (view_of self.new)) }
     {
         let moved = self.catch_up(rt, lanes)?;
@@ -64,6 +68,8 @@ impl FrontState {
         ensures goes { Goes self.old self.new }
         ensures picks { HasNoPickMore (view_of self.old) (view_of self.new) }
         ensures done { IfOk result (λ moved. HasDone moved self.old self.new) }
+        ensures balanced { OnOk result (Balanced self.old self.new) }
+        ensures none_known { OnOk result (All IsUnknown self.new.jobs.hands.seat.ends) }
         ensures error { IfErr result (λ error. ErrorMeans error (view_of self.old) (view_of self.new)) }
     {
         let handed = self.hand(rt, lanes);
@@ -80,6 +86,8 @@ impl FrontState {
         ensures kept { IsKept self.new }
         ensures goes { Goes self.old self.new }
         ensures step { IfOk result (λ step. Proceeds step self.old self.new) }
+        ensures balanced { Balanced self.old self.new }
+        ensures ends { self.new.jobs.hands.seat.ends ≡ self.old.jobs.hands.seat.ends }
         ensures error { IfErr result (λ error. ErrorMeans error (view_of self.old) (view_of self.new)) }
     {
         let Some(deletion) = self.deletion else {
@@ -98,6 +106,8 @@ impl FrontState {
         ensures kept { IsKept self.new }
         ensures goes { Goes self.old self.new }
         ensures step { IfOk result (λ step. Proceeds step self.old self.new) }
+        ensures balanced { Balanced self.old self.new }
+        ensures ends { self.new.jobs.hands.seat.ends ≡ self.old.jobs.hands.seat.ends }
         ensures error { IfErr result (λ error. ErrorMeans error (view_of self.old) (view_of self.new)) }
     {
         let fetched = self.scan()?;

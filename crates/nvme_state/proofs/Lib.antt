@@ -25,6 +25,7 @@ pub mod ReadyAdmin
 pub mod ReadyGains
 pub mod ReadySteps
 pub mod JobAccounts
+pub mod Balances
 pub mod JobSteps
 pub mod GainSteps
 pub mod Standing

@@ -5,3 +5,4 @@ pub mod Standing
 pub mod Steps
 pub mod JobAccount
 pub mod Gains
+pub mod Balance

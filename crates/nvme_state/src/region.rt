@@ -46,6 +46,7 @@ impl SqRegion {
         ensures index { IfSome result (λ c. c.index ≡ self.old.fetched) }
         ensures got { IfSome result (λ c. self.new.end.got ≡ self.old.end.got ++ c.entry ∷ []) }
         ensures end { SameGet self.old.end self.new.end }
+        ensures known { IfSome result (λ c. 0 < length self.old.end.known → self.old.end.known ≡ c.entry ∷ self.new.end.known) }
         ensures window { IfSome result (λ c. self.new.window ≡ record self.old.window { items = self.old.window.items ++ c ∷ [] }) }
         ensures fetched { IfSome result (λ c. self.new.fetched ≡ self.old.fetched + 1) }
         ensures unposted { self.new.unposted ≡ self.old.unposted }

@@ -17,3 +17,6 @@ pub returns-clause-jobs : goal.returns-clause-jobs
 returns-clause-jobs g c =
     let admin = admin-goes c.self.inside.state c.turn.new.self c.turn.ensures.goes (admin_there c.self.inside.state c.args.self.now c.self.view_is c.requires.admin_sq c.requires.admin_cq) in
     (c.turn.ensures.kept.stands admin.0 admin.1).jobs.account
+
+pub returns-clause-within : goal.returns-clause-within
+returns-clause-within g c = c.turn.ensures.kept.roomy.few_events

@@ -10,7 +10,7 @@ beside-requires c =
 pub returns-clause-kept : goal.returns-clause-kept
 returns-clause-kept c =
     let l : c.from.result < length c.args.self.now.sqs.items = omega arith in
-    kept-sq c.args.self.now _ _ _ l c.index_mut-region.ensures.value c.beside.ensures.got c.beside.ensures.get_ring c.requires.kept
+    kept-sq c.args.self.now _ _ _ l c.index_mut-region.ensures.value c.beside.ensures.got c.beside.ensures.known c.beside.ensures.get_ring c.requires.kept
 
 pub returns-clause-looks : goal.returns-clause-looks
 returns-clause-looks c =
@@ -20,10 +20,10 @@ returns-clause-looks c =
     let read = c.index_mut-region.ensures.value in
     record {
       end = c.beside.new.get;
-      view = view-sq s _ _ c.beside.new.get l read e.got e.get_ring _ c.from.ensures;
-      got = got-sq s _ _ c.beside.new.get l read e.got e.get_ring _ c.from.ensures;
-      known = known-sq s _ _ c.beside.new.get l read e.got e.get_ring e.known _ c.from.ensures;
-      place = place-sq s _ _ c.beside.new.get l read e.got e.get_ring _ c.from.ensures;
+      view = view-sq s _ _ c.beside.new.get l read e.got e.known e.get_ring _ c.from.ensures;
+      got = got-sq s _ _ c.beside.new.get l read e.got e.known e.get_ring _ c.from.ensures;
+      known = known-sq s _ _ c.beside.new.get l read e.got e.known e.get_ring _ c.from.ensures;
+      place = place-sq s _ _ c.beside.new.get l read e.got e.known e.get_ring _ c.from.ensures;
       rest = e.rest;
       count = e.count;
       script = e.script;

@@ -2,7 +2,7 @@ use Rattle.std.proofs.Common.{Ok, Err, ap, ◌∙◌}
 use Rattle.std.proofs.lemmas.Result.{err_from_is_err_and}
 use Rattle.nvme_log.specs.Histories.{picks_in}
 use Rattle.nvme_front.proofs.States.{Goes-trans, admin-goes}
-use Rattle.nvme_front.proofs.Still.{done_by, stray_means, log_error_means}
+use Rattle.nvme_front.proofs.Still.{done_by, stray_means, log_error_means, caught_up_balanced}
 use Rattle.nvme_front.proofs.state.FrontState.catch_up.Goals as goal
 
 pub gain-requires-clause-admin : goal.gain-requires-clause-admin
@@ -25,7 +25,7 @@ pub returns-in_err-gained-clause-error : goal.returns-in_err-gained-clause-error
 returns-in_err-gained-clause-error g c =
     let p = err_from_is_err_and c.from_residual.result c.from_residual.ensures.1 in
     let s = c.in_err-gained.ensures.stray in
-    rw (p.1, p.2) (stray_means s.0 c.args.self.now c.hand-handed.new.self c.gain.new.self c.hand-handed.ensures.goes c.hand-handed.ensures.log c.gain.ensures.log c.in_err-gained.field-0.0 s.1 s.2)
+    rw (p.1, p.2) (stray_means s.0 c.args.self.now c.hand-handed.new.self c.gain.new.self c.hand-handed.ensures.goes c.hand-handed.ensures.balanced c.hand-handed.ensures.log c.gain.ensures.log c.in_err-gained.field-0.0 s.1 s.2)
 
 pub returns-in_err-posted-clause-goes : goal.returns-in_err-posted-clause-goes
 returns-in_err-posted-clause-goes g c = Goes-trans _ _ _ c.hand-handed.ensures.goes (Goes-trans _ _ _ c.gain.ensures.goes c.post.ensures.goes)
@@ -38,6 +38,8 @@ returns-in_err-posted-clause-error g c =
     let p = err_from_is_err_and c.from_residual-in_err-posted.result c.from_residual-in_err-posted.ensures.1 in
     let post = c.in_err-posted.ensures in
     rw (p.1, p.2) (log_error_means c.args.self.now c.post.new.self c.in_err-posted.field-0.0
+    (caught_up_balanced c.args.self.now c.hand-handed.new.self c.gain.new.self c.post.new.self c.hand-handed.ensures.goes c.gain.ensures.goes
+    c.hand-handed.ensures.balanced c.in_ok-gained.ensures.balanced c.post.ensures.jobs)
     (c.post.ensures.picks ∙ ap picks_in c.gain.ensures.log ∙ ap picks_in c.hand-handed.ensures.log) (λ e. post.full (ap Err e)) post.no_stray)
 
 pub returns-clause-goes : goal.returns-clause-goes
@@ -54,3 +56,8 @@ returns-clause-done g c =
     done_by c.args.self.now c.hand-handed.new.self c.gain.new.self c.post.new.self hand.goes gain.goes post.goes hand.ends
     c.hand-handed.result c.in_ok-gained.gained c.in_ok-posted.posted hand.more hand.still (λ t. gain.more (ap Ok t)) (λ f. gain.still (ap Ok f))
     (λ t. post.more (ap Ok t)) (λ f. post.still (ap Ok f))
+
+pub returns-clause-balanced : goal.returns-clause-balanced
+returns-clause-balanced g c =
+    caught_up_balanced c.args.self.now c.hand-handed.new.self c.gain.new.self c.post.new.self c.hand-handed.ensures.goes c.gain.ensures.goes
+    c.hand-handed.ensures.balanced c.in_ok-gained.ensures.balanced c.post.ensures.jobs

@@ -12,7 +12,7 @@ pub push-requires : goal.push-requires
 push-requires c = answer_fits _ _ _ _ c.requires.applied _ c.index_mut.ensures.value
 
 pub returns-clause-goes : goal.returns-clause-goes
-returns-clause-goes c = goes_readied _ _ _ 0 _ _ _ c.index_mut.ensures.value c.push.ensures refl c.note.ensures.items refl refl refl refl refl refl
+returns-clause-goes c = goes_readied _ _ _ 0 _ _ _ c.index_mut.ensures.value c.push.ensures refl c.note.ensures.items refl refl refl refl refl refl refl
 
 pub returns-clause-picks : goal.returns-clause-picks
 returns-clause-picks c = picks_noted c.args.self.now.log.items _ (event.ClosedCq c.args.qid c.in-Some.region ∷ []) c.note.ensures.items refl
@@ -22,4 +22,4 @@ returns-clause-kept c =
     let made = closes_made _ _ _ c.in-Some.region _ c.requires.applied c.in-Some.is in
     kept_answered _ _ _ (verdict.CloseCq c.args.qid) _ 0 c.args.self.now.board c.requires.applied tt
     _ _ _ c.index_mut.ensures.value c.push.ensures c.answered.ensures refl (c.note.ensures.items ∙ ap (λ z. c.args.self.now.log.items ++ z) (sym made)) refl
-    (goes_readied _ _ _ 0 _ _ _ c.index_mut.ensures.value c.push.ensures refl c.note.ensures.items refl refl refl refl refl refl) refl (rw made (omega arith))
+    (goes_readied _ _ _ 0 _ _ _ c.index_mut.ensures.value c.push.ensures refl c.note.ensures.items refl refl refl refl refl refl refl) refl (rw made (omega arith))

@@ -2,6 +2,7 @@ use Rattle.std.proofs.Common.{◌∙◌, sym, refl, arith}
 use Rattle.nvme_log.proofs.PickCounts.{picks-noted}
 use Rattle.nvme_front.proofs.States.{Goes-same, IsSame-refl}
 use Rattle.nvme_front.proofs.Fetches.{region_there, can_fetch, window_fits, index_fits, came_fits, fetch_goes, fetch_kept, put_back, noted}
+use Rattle.nvme_front.proofs.Comes.{comes_next}
 use Rattle.nvme_front.proofs.Scans.{taken_closing, taken_full}
 use Rattle.nvme_front.proofs.state.FrontState.fetch_one.Goals as goal
 use Rattle.nvme_front.proofs.state.FrontState.fetch_one.Goals.{then-queue-via-then-queue, then-queue-via-else-queue+then-is_full}
@@ -64,7 +65,7 @@ returns-clause-kept c =
     let e = c.in-Some-fetch.ensures in
     fetch_kept a c.requires.kept c.requires.admin c.args.qid c.in-Some.queue in_table c.if-queue.false
     _ (record { cqs = refl; table = refl; outstanding = refl; deletion = refl; jobs = refl; late = refl; config = refl; alloc = refl }) r c.fetch.new.self (rw c.from-r.ensures at c.index_mut.ensures.value)
-    c.in-Some-fetch.candidate (rw c.from-r.ensures refl) c.fetch.ensures.end e.window e.index e.got e.fetched e.unposted e.queue c.came.ensures.came can
+    c.in-Some-fetch.candidate (rw c.from-r.ensures refl) c.fetch.ensures.end (comes_next r c.fetch.new.self c.in-Some-fetch.candidate.entry e.got e.known) e.window e.index e.got e.fetched e.unposted e.queue c.came.ensures.came can
     (noted _ _ _ _ c.make_room.ensures.same c.note.ensures.items) c.in_ok-make_room.ensures.within
 
 pub returns-clause-goes : goal.returns-clause-goes
@@ -73,7 +74,7 @@ returns-clause-goes c =
     let r = c.index_mut.result.now in
     fetch_goes a c.requires.kept c.requires.admin c.args.qid c.in-Some.queue (sym c.sq.ensures ∙ c.in-Some.is) c.if-queue.false
     _ (record { cqs = refl; table = refl; outstanding = refl; deletion = refl; jobs = refl; late = refl; config = refl; alloc = refl }) r c.fetch.new.self (rw c.from-r.ensures at c.index_mut.ensures.value)
-    c.in-Some-fetch.candidate (rw c.from-r.ensures refl) c.fetch.ensures.end c.in-Some-fetch.ensures.window (_, sym (noted _ _ _ _ c.make_room.ensures.same c.note.ensures.items))
+    c.in-Some-fetch.candidate (rw c.from-r.ensures refl) c.fetch.ensures.end (comes_next r c.fetch.new.self c.in-Some-fetch.candidate.entry c.in-Some-fetch.ensures.got c.in-Some-fetch.ensures.known) c.in-Some-fetch.ensures.window (_, sym (noted _ _ _ _ c.make_room.ensures.same c.note.ensures.items))
 
 pub returns-clause-picks : goal.returns-clause-picks
 returns-clause-picks c = picks-noted _ _ _ _ c.make_room.ensures.same c.note.ensures.items refl

@@ -3,12 +3,14 @@ use Rattle.std.proofs.Common.{◌≡◌, ◌<◌, length, true, false}
 use Rattle.nvme_state.specs.Jobs.{gained_count}
 use Rattle.nvme_front.specs.Room.{IsKept}
 use Rattle.nvme_front.specs.Goes.{Goes, IsSame, HasAdmin}
+use Rattle.nvme_front.specs.Turn.{Balanced}
 use Rattle.nvme_front.proofs.state.FrontState.gain.Given as goal
 
 abbrev pub invariant-loop-gained : goal.invariant-loop-gained
 invariant-loop-gained l = record {
   kept : IsKept l.self;
   goes : Goes l.fn.self l.self;
+  balanced : Balanced l.fn.self l.self;
   log : l.self.log.items ≡ l.fn.self.log.items;
   deletion : l.self.deletion ≡ l.fn.self.deletion;
   admin : HasAdmin l.self;

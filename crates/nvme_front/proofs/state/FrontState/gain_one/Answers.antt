@@ -3,6 +3,7 @@ use Rattle.std.proofs.Common.{refl, arith}
 use Rattle.nvme_front.proofs.CloseOne.{region_has_room}
 use Rattle.nvme_front.proofs.States.{Goes-same}
 use Rattle.nvme_front.proofs.GainOne.{same_jobs, stray-goes, stray-kept, stray-seen, its_region, its_queue_there, its_cq_region, is_gained, gained-goes, gained-kept}
+use Rattle.nvme_state.proofs.Balances.{balances-still, balances-gained}
 use Rattle.nvme_front.proofs.state.FrontState.gain_one.Goals as goal
 
 pub returns-in-Nothing-clause-goes : goal.returns-in-Nothing-clause-goes
@@ -55,3 +56,10 @@ returns-clause-goes c =
     (is_gained c.args.self.now _ c.requires.kept c.requires.admin c.gain.new.self c.in-Result.dispatched c.in-Result.finished c.in-Result.ensures
     c.index.result.now (rw c.from.ensures at c.index.ensures) c.in-Some.attachment c.in-Some.is c.from-2.result c.from-2.ensures
     c.index_mut.result.now c.index_mut.ensures.value c.status.result c.status.ensures.value c.push.new.self c.push.ensures)
+
+pub returns-in-Nothing-clause-balanced : goal.returns-in-Nothing-clause-balanced
+returns-in-Nothing-clause-balanced c = balances-still c.args.self.now.config.spaces c.args.self.now.jobs c.gain.new.self c.in-Nothing.ensures.0
+
+pub returns-clause-balanced : goal.returns-clause-balanced
+returns-clause-balanced c =
+    balances-gained c.args.self.now.config.spaces c.args.self.now.jobs c.gain.new.self c.in-Result.dispatched c.in-Result.finished c.in-Result.ensures

@@ -2,12 +2,14 @@
 use Rattle.std.proofs.Common.{◌≡◌, ◌<◌, length, true, false}
 use Rattle.nvme_front.specs.Room.{IsKept}
 use Rattle.nvme_front.specs.Goes.{Goes, IsSame, HasAdmin}
+use Rattle.nvme_front.specs.Turn.{Balanced}
 use Rattle.nvme_front.proofs.state.FrontState.hand.Given as goal
 
 abbrev pub invariant-loop-handed : goal.invariant-loop-handed
 invariant-loop-handed g l = record {
   kept : IsKept l.self;
   goes : Goes l.fn.self l.self;
+  balanced : Balanced l.fn.self l.self;
   log : l.self.log.items ≡ l.fn.self.log.items;
   deletion : l.self.deletion ≡ l.fn.self.deletion;
   ends : l.self.jobs.hands.seat.ends ≡ l.fn.self.jobs.hands.seat.ends;

@@ -1,5 +1,5 @@
 -- What a job that is handed leaves; where none was handed nothing changed.
-use Rattle.nvme_front.proofs.GainOne.{same_jobs, hand-goes, hand-kept, jobs_have_room}
+use Rattle.nvme_front.proofs.GainOne.{same_jobs, hand-goes, hand-balanced, hand-kept, jobs_have_room}
 use Rattle.nvme_front.proofs.state.FrontState.hand_one.Goals as goal
 
 pub returns-clause-kept : goal.returns-clause-kept
@@ -13,3 +13,6 @@ returns-clause-still g c = λ no. same_jobs c.args.self.now _ c.hand.new.self (c
 
 pub hand-requires-clause-room : goal.hand-requires-clause-room
 hand-requires-clause-room g c = jobs_have_room c.args.self.now c.requires.kept c.requires.admin
+
+pub returns-clause-balanced : goal.returns-clause-balanced
+returns-clause-balanced g c = hand-balanced c.args.self.now c.args.self.now.config.few_events c.hand.new.self c.hand.result c.hand.ensures.none c.hand.ensures.one

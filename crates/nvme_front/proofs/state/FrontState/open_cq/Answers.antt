@@ -8,7 +8,7 @@ pub push-requires : goal.push-requires
 push-requires c = answer_fits _ _ _ _ c.requires.applied.1 _ c.index_mut.ensures.value
 
 pub returns-clause-goes : goal.returns-clause-goes
-returns-clause-goes c = goes_readied _ _ _ 0 _ _ _ c.index_mut.ensures.value c.push.ensures refl c.note.ensures.items refl refl refl refl refl refl
+returns-clause-goes c = goes_readied _ _ _ 0 _ _ _ c.index_mut.ensures.value c.push.ensures refl c.note.ensures.items refl refl refl refl refl refl refl
 
 pub returns-clause-picks : goal.returns-clause-picks
 returns-clause-picks c = picks_noted c.args.self.now.log.items _ (event.OpenCq c.args.qid c.args.region ∷ []) c.note.ensures.items refl
@@ -17,4 +17,4 @@ pub returns-clause-kept : goal.returns-clause-kept
 returns-clause-kept c =
     kept_answered _ _ _ (verdict.OpenCq c.args.qid c.args.region) _ 0 c.args.self.now.board c.requires.applied.1 tt
     _ _ _ c.index_mut.ensures.value c.push.ensures c.answered.ensures refl c.note.ensures.items refl
-    (goes_readied _ _ _ 0 _ _ _ c.index_mut.ensures.value c.push.ensures refl c.note.ensures.items refl refl refl refl refl refl) refl (omega arith)
+    (goes_readied _ _ _ 0 _ _ _ c.index_mut.ensures.value c.push.ensures refl c.note.ensures.items refl refl refl refl refl refl refl) refl (omega arith)

@@ -1,5 +1,6 @@
 use Rattle.std.proofs.Common.{refl, sym, ◌∙◌, [], ◌∷◌}
 use Rattle.nvme_log.specs.declared.event.Event.TheVariants as event
+use Rattle.nvme_front.proofs.Comes.{coming-set}
 use Rattle.nvme_front.proofs.States.{places-set, windows-set}
 use Rattle.nvme_front.proofs.AppliedStates.{answer_fits, goes_readied, picks_noted}
 use Rattle.nvme_front.proofs.AppliedTables.{opens_some, opens_within, opens_free, opens_io, opens_there, keeps_opened}
@@ -26,7 +27,7 @@ push-requires c = answer_fits _ _ _ _ c.requires.applied.1 _ c.index_mut-2.ensur
 pub returns-clause-goes : goal.returns-clause-goes
 returns-clause-goes c =
     goes_readied _ _ _ 0 _ _ _ c.index_mut-2.ensures.value c.push.ensures refl c.note.ensures.items refl refl refl refl
-    (places-set _ _ _ _ c.index_mut.ensures.value refl) (windows-set _ _ _ _ c.index_mut.ensures.value refl)
+    (places-set _ _ _ _ c.index_mut.ensures.value refl) (windows-set _ _ _ _ c.index_mut.ensures.value refl) (coming-set _ _ _ _ c.index_mut.ensures.value refl)
 
 pub returns-clause-picks : goal.returns-clause-picks
 returns-clause-picks c = picks_noted c.args.self.now.log.items _ (event.OpenSq c.args.qid c.args.region c.args.cqid c.args.class ∷ []) c.note.ensures.items refl
@@ -37,4 +38,4 @@ returns-clause-kept c =
     c.index_mut.ensures.value refl c.open.ensures.opened c.index_mut-2.ensures.value c.push.ensures c.answered.ensures refl c.note.ensures.items refl
     (record { config = refl; alloc = refl; late = refl; table = refl; outstanding = refl; jobs = refl })
     (goes_readied _ _ _ 0 _ _ _ c.index_mut-2.ensures.value c.push.ensures refl c.note.ensures.items refl refl refl refl
-    (places-set _ _ _ _ c.index_mut.ensures.value refl) (windows-set _ _ _ _ c.index_mut.ensures.value refl))
+    (places-set _ _ _ _ c.index_mut.ensures.value refl) (windows-set _ _ _ _ c.index_mut.ensures.value refl) (coming-set _ _ _ _ c.index_mut.ensures.value refl))

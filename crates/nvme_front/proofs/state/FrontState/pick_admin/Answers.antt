@@ -6,8 +6,9 @@ use Rattle.nvme_log.specs.declared.event.Event.TheVariants as event
 use Rattle.nvme_log.specs.Histories.{picks_in}
 use Rattle.nvme_log.specs.Limits.{max_outstanding, admin_events}
 use Rattle.nvme_front.specs.State.{rules_of}
+use Rattle.nvme_front.proofs.States.{Goes-trans}
 use Rattle.nvme_front.proofs.Picks.{picks_in-push, of_next, admin_unposted}
-use Rattle.nvme_front.proofs.PickedAdmin.{some_first, due-candidate, is_applied}
+use Rattle.nvme_front.proofs.PickedAdmin.{some_first, due-candidate, is_applied, admin_pick-goes}
 use Rattle.nvme_front.proofs.state.FrontState.pick_admin.Goals as goal
 
 pub unreachable-requires-in_default-pop : goal.unreachable-requires-in_default-pop
@@ -47,3 +48,20 @@ pub returns-clause-picked : goal.returns-clause-picked
 returns-clause-picked c =
     c.carry_out.ensures.picks ∙ ap picks_in c.note.ensures.items ∙ ap (λ (xs : List Event). picks_in (xs ++ event.Pick c.seen-seen.result c.in-Some.pick ∷ [])) c.make_room.ensures.same
     ∙ picks_in-push c.args.self.now.log.items c.seen-seen.result c.in-Some.pick
+
+pub returns-clause-goes : goal.returns-clause-goes
+returns-clause-goes c =
+    let room : length c.args.self.now.log.items + admin_events ≤ vec_capacity c.note.new.log = omega (arith, c.in_ok-make_room.ensures.room, c.note.ensures.room) in
+    Goes-trans c.args.self.now _ c.carry_out.new.self
+    (admin_pick-goes c.args.self.now _ c.requires.kept c.requires.admin c.requires.none_pending c.in-Some.pick c.in-Some.ensures.lawful c.in-Some.ensures.stands c.in-Some.ensures.queues
+          (of_next c.args.self.now c.in-Some.pick (λ (p : Pick). c.args.self.now.outstanding + p.n ≤ max_outstanding) c.in-Some.ensures.by_what_is_kept c.requires.places)
+          (of_next c.args.self.now c.in-Some.pick (λ (p : Pick). p.qid ≡ 0) c.in-Some.ensures.by_what_is_kept c.requires.of_admin)
+          c.seen-seen.result c.seen-seen.ensures.seen c.index_mut-sq.result.now c.index_mut-sq.ensures.value
+          c.in-Some-pop.candidate c.pop.new.self.items c.in-Some-pop.ensures.items
+          refl refl refl refl refl
+          (λ t. set c.args.self.now.sqs.items 0 (record c.index_mut-sq.result.now { window = record { items = c.pop.ensures.rest t; room = c.pop.ensures.room t }; unposted = c.index_mut-sq.result.now.unposted + 1 }))
+          refl refl
+          (c.note.ensures.items ∙ ap (λ (xs : List Event). xs ++ event.Pick c.seen-seen.result c.in-Some.pick ∷ []) c.make_room.ensures.same)
+          c.in_ok-make_room.ensures.within
+          room)
+    c.carry_out.ensures.goes

@@ -13,6 +13,7 @@ loop-c-preserved c =
     let before = goes-longer c.args.self.now c.loop-c.self i.goes in
     let here = goes-longer c.loop-c.self c.post_region.new.self e.goes in
     let goes = Goes-trans c.args.self.now c.loop-c.self c.post_region.new.self i.goes e.goes in
+    let jobs = e.jobs ∙ i.jobs in
     let picks = e.picks ∙ i.picks in
     let deletion = e.deletion ∙ i.deletion in
     elim c.if-branch.branch [
@@ -23,6 +24,7 @@ loop-c-preserved c =
             there = i.there;
             kept = e.kept;
             goes = goes;
+            jobs = jobs;
             picks = picks;
             deletion = deletion;
             more = λ _. omega (arith, before, more);
@@ -35,6 +37,7 @@ loop-c-preserved c =
             there = i.there;
             kept = e.kept;
             goes = goes;
+            jobs = jobs;
             picks = picks;
             deletion = deletion;
             more = λ t. let before = i.more (sym w.posted-is ∙ t) in omega (arith, before, here);
@@ -55,3 +58,6 @@ returns-clause-still c = λ r.
     let none : c.loop-c.posted ≡ false = cc r in
     let there = c.loop-c.invariant.there in
     (c.loop-c.invariant.still none, λ x within. c.loop-c.invariant.drained none x (omega (arith, within, there, c.loop-c-test.false)))
+
+pub returns-in_err-post_region-clause-goes : goal.returns-in_err-post_region-clause-goes
+returns-in_err-post_region-clause-goes c = Goes-trans c.args.self.now c.loop-c.self c.post_region.new.self c.loop-c.invariant.goes c.post_region.ensures.goes

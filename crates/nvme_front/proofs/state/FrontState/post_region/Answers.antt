@@ -22,6 +22,7 @@ loop-posted-preserved c =
     record {
       kept = e.kept;
       goes = Goes-trans c.args.self.now c.loop-posted.self c.post_one.new.self i.goes e.goes;
+      jobs = e.jobs ∙ i.jobs;
       picks = e.picks ∙ i.picks;
       deletion = e.deletion ∙ i.deletion;
       more = λ t. omega (arith, before, more);

@@ -9,6 +9,7 @@ abbrev pub invariant-loop-posted : goal.invariant-loop-posted
 invariant-loop-posted l = record {
   kept : IsKept l.self;
   goes : Goes l.fn.self l.self;
+  jobs : l.self.jobs ≡ l.fn.self.jobs;
   picks : picks_in l.self.log.items ≡ picks_in l.fn.self.log.items;
   deletion : l.self.deletion ≡ l.fn.self.deletion;
   more : l.posted ≡ true → length l.fn.self.log.items < length l.self.log.items;

@@ -1,16 +1,22 @@
 use Rattle.std.proofs.Common.{Ok, Err, ap}
 use Rattle.std.proofs.lemmas.Result.{err_from_is_err_and}
-use Rattle.nvme_front.proofs.Still.{closed_means, log_error_means}
+use Rattle.nvme_front.proofs.Still.{closed_means, log_error_means, balanced_still}
 use Rattle.nvme_front.proofs.state.FrontState.proceed.Goals as goal
 
 pub returns-in_err-finished-clause-error : goal.returns-in_err-finished-clause-error
 returns-in_err-finished-clause-error g c =
     let p = err_from_is_err_and c.from_residual.result c.from_residual.ensures.1 in
     let finish = c.in_err-finished.ensures in
-    rw (p.1, p.2) (log_error_means c.args.self.now c.finish.new.self c.in_err-finished.field-0.0 finish.picks (λ e. finish.full (ap Err e)) finish.no_stray)
+    rw (p.1, p.2) (log_error_means c.args.self.now c.finish.new.self c.in_err-finished.field-0.0 (balanced_still c.args.self.now c.finish.new.self c.finish.ensures.jobs) finish.picks (λ e. finish.full (ap Err e)) finish.no_stray)
 
 pub returns-clause-step : goal.returns-clause-step
 returns-clause-step g c =
     let finish = c.in_ok-finished.ensures in
     closed_means c.args.self.now c.finish.new.self c.in-Some.deletion c.in-Some.is finish.picks c.in_ok-finished.finished
     (λ t. finish.more (ap Ok t)) (λ f. finish.still (ap Ok f)) c.step_after.result c.step_after.ensures
+
+pub returns-in_err-finished-clause-balanced : goal.returns-in_err-finished-clause-balanced
+returns-in_err-finished-clause-balanced g c = balanced_still c.args.self.now c.finish.new.self c.finish.ensures.jobs
+
+pub returns-clause-balanced : goal.returns-clause-balanced
+returns-clause-balanced g c = balanced_still c.args.self.now c.finish.new.self c.finish.ensures.jobs

@@ -12,6 +12,7 @@ loop-qid-preserved c =
     record {
       kept = e.kept;
       goes = Goes-trans _ _ _ i.goes e.goes;
+      jobs = e.jobs ∙ i.jobs;
       picks = e.picks ∙ i.picks;
       admin = admin-goes _ _ e.goes i.admin;
       none_pending = e.none_pending;
@@ -28,3 +29,6 @@ loop-qid-preserved c =
         | else-branch w ↦ λ h. let before = sym w.fetched-is ∙ h in scanned_more _ _ _ (i.still before) (i.scanned before) (e.still (was ∙ ap Ok w.if-branch.false)).1
       ];
     }
+
+pub returns-in_err-scan_queue-clause-goes : goal.returns-in_err-scan_queue-clause-goes
+returns-in_err-scan_queue-clause-goes c = Goes-trans c.args.self.now c.loop-qid.self c.scan_queue.new.self c.loop-qid.invariant.goes c.scan_queue.ensures.goes

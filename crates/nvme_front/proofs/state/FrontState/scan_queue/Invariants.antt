@@ -8,6 +8,7 @@ abbrev pub invariant-loop-fetched : goal.invariant-loop-fetched
 invariant-loop-fetched l = record {
   kept : IsKept l.self;
   goes : Goes l.fn.self l.self;
+  jobs : l.self.jobs ≡ l.fn.self.jobs;
   picks : picks_in l.self.log.items ≡ picks_in l.fn.self.log.items;
   admin : HasAdmin l.self;
   none_pending : l.self.deletion ≡ None;

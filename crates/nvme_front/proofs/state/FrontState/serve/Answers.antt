@@ -2,14 +2,14 @@ use Rattle.std.proofs.Common.{ℕ, ◌+◌, Ok, Err, ap, ◌∙◌}
 use Rattle.std.proofs.lemmas.Result.{err_from_is_err_and}
 use Rattle.nvme_log.specs.Histories.{picks_in}
 use Rattle.nvme_front.proofs.States.{Goes-trans, admin-goes}
-use Rattle.nvme_front.proofs.Still.{served_means, log_error_means, pick_error_means}
+use Rattle.nvme_front.proofs.Still.{served_means, log_error_means, pick_error_means, picked_balanced, balanced_still, balanced_trans}
 use Rattle.nvme_front.proofs.state.FrontState.serve.Goals as goal
 
 pub returns-in_err-fetched-clause-error : goal.returns-in_err-fetched-clause-error
 returns-in_err-fetched-clause-error g c =
     let p = err_from_is_err_and c.from_residual.result c.from_residual.ensures.1 in
     let scan = c.in_err-fetched.ensures in
-    rw (p.1, p.2) (log_error_means c.args.self.now c.scan.new.self c.in_err-fetched.field-0.0 scan.picks (λ e. scan.full (ap Err e)) scan.no_stray)
+    rw (p.1, p.2) (log_error_means c.args.self.now c.scan.new.self c.in_err-fetched.field-0.0 (balanced_still c.args.self.now c.scan.new.self c.scan.ensures.jobs) scan.picks (λ e. scan.full (ap Err e)) scan.no_stray)
 
 pub pick-requires-clause-admin : goal.pick-requires-clause-admin
 pick-requires-clause-admin g c = admin-goes c.args.self.now c.scan.new.self c.scan.ensures.goes c.requires.admin
@@ -22,7 +22,8 @@ returns-in_err-picked-clause-error g c =
     let p = err_from_is_err_and c.from_residual-in_err-picked.result c.from_residual-in_err-picked.ensures.1 in
     let pick = c.in_err-picked.ensures in
     rw (p.1, p.2) (pick_error_means c.args.self.now c.scan.new.self c.pick.new.self c.in_err-picked.field-0.0
-    (admin-goes c.args.self.now c.scan.new.self c.scan.ensures.goes c.requires.admin) pick.kept
+    (admin-goes c.args.self.now c.scan.new.self c.scan.ensures.goes c.requires.admin) c.scan.ensures.none_pending pick.kept
+    (picked_balanced c.args.self.now c.scan.new.self c.pick.new.self c.scan.ensures.goes c.scan.ensures.jobs pick.seat pick.running)
     (pick.none_picked ∙ c.scan.ensures.picks) (λ e. pick.full (ap Err e)) pick.no_stray)
 
 pub returns-in-Picked-clause-goes : goal.returns-in-Picked-clause-goes
@@ -42,3 +43,17 @@ returns-in_default-clause-step g c =
     served_means c.args.self.now c.scan.new.self c.pick.new.self pick.goes c.requires.none_pending scan.picks
     c.in_ok-fetched.fetched (λ t. scan.more (ap Ok t)) (λ f. scan.still (ap Ok f)) c.in_ok-picked.picked
     (λ e. pick.picked (ap Ok e)) (λ e. pick.never_moved (ap Ok e)) (λ e. pick.idle (ap Ok e)) (λ e. let s = pick.stalled (ap Ok e) in (s.0, (s.1, s.2))) c.step_after.result c.step_after.ensures
+
+pub returns-in_err-fetched-clause-balanced : goal.returns-in_err-fetched-clause-balanced
+returns-in_err-fetched-clause-balanced g c = balanced_still c.args.self.now c.scan.new.self c.scan.ensures.jobs
+
+pub returns-in_err-picked-clause-balanced : goal.returns-in_err-picked-clause-balanced
+returns-in_err-picked-clause-balanced g c = picked_balanced c.args.self.now c.scan.new.self c.pick.new.self c.scan.ensures.goes c.scan.ensures.jobs c.pick.ensures.seat c.pick.ensures.running
+
+pub returns-in_default-clause-balanced : goal.returns-in_default-clause-balanced
+returns-in_default-clause-balanced g c = picked_balanced c.args.self.now c.scan.new.self c.pick.new.self c.scan.ensures.goes c.scan.ensures.jobs c.pick.ensures.seat c.pick.ensures.running
+
+pub returns-in-Picked-clause-balanced : goal.returns-in-Picked-clause-balanced
+returns-in-Picked-clause-balanced g c =
+    balanced_trans c.args.self.now c.pick.new.self c.hand.new.self (Goes-trans _ _ _ c.scan.ensures.goes c.pick.ensures.goes)
+    (picked_balanced c.args.self.now c.scan.new.self c.pick.new.self c.scan.ensures.goes c.scan.ensures.jobs c.pick.ensures.seat c.pick.ensures.running) c.hand.ensures.balanced

@@ -1,7 +1,7 @@
 use Rattle.std.proofs.Common.{◌∙◌}
 use Rattle.std.proofs.lemmas.Result.{err_from_is_err_and}
 use Rattle.nvme_front.proofs.States.{Goes-trans, admin-goes}
-use Rattle.nvme_front.proofs.Still.{turn_means, error_since}
+use Rattle.nvme_front.proofs.Still.{turn_means, error_since, balanced_trans}
 use Rattle.nvme_front.proofs.state.FrontState.turn.Goals as goal
 
 pub proceed-requires-clause-admin : goal.proceed-requires-clause-admin
@@ -16,7 +16,7 @@ returns-in_err-step-clause-goes g c = Goes-trans _ _ _ c.catch_up.ensures.goes c
 pub returns-in_err-step-clause-error : goal.returns-in_err-step-clause-error
 returns-in_err-step-clause-error g c =
     let p = err_from_is_err_and c.from_residual-in_err-step.result c.from_residual-in_err-step.ensures.1 in
-    rw (p.1, p.2) (error_since c.args.self.now c.catch_up.new.self c.proceed.new.self c.in_err-step.field-0.0 c.catch_up.ensures.goes c.catch_up.ensures.picks c.in_err-step.ensures.error)
+    rw (p.1, p.2) (error_since c.args.self.now c.catch_up.new.self c.proceed.new.self c.in_err-step.field-0.0 c.catch_up.ensures.goes c.in_ok-moved.ensures.balanced c.catch_up.ensures.picks c.in_err-step.ensures.error)
 
 pub returns-clause-goes : goal.returns-clause-goes
 returns-clause-goes g c = Goes-trans _ _ _ c.catch_up.ensures.goes c.proceed.ensures.goes
@@ -25,3 +25,7 @@ pub returns-clause-step : goal.returns-clause-step
 returns-clause-step g c =
     turn_means c.args.self.now c.catch_up.new.self c.proceed.new.self c.requires.admin c.proceed.ensures.kept c.catch_up.ensures.goes c.proceed.ensures.goes
     c.catch_up.ensures.picks c.in_ok-moved.moved c.in_ok-moved.ensures.done c.in_ok-step.step c.in_ok-step.ensures.step c.step_after.result c.step_after.ensures
+
+pub returns-clause-balanced : goal.returns-clause-balanced
+returns-clause-balanced g c =
+    balanced_trans c.args.self.now c.catch_up.new.self c.proceed.new.self c.catch_up.ensures.goes c.in_ok-moved.ensures.balanced c.proceed.ensures.balanced
