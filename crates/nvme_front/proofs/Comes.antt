@@ -7,6 +7,7 @@ use Rattle.nvme_entry.specs.declared.submission.Sqe.{Sqe}
 use Rattle.nvme_lane.specs.View.{GetView}
 use Rattle.nvme_state.specs.declared.region.SqRegion.{SqRegion}
 use Rattle.nvme_front.specs.declared.state.FrontState.{FrontState}
+use Rattle.nvme_front.specs.State.{gets_of}
 use Rattle.nvme_front.specs.Goes.{coming_at, coming_in}
 use Rattle.nvme_front.specs.View.{view_of, got_in, known_in}
 
@@ -55,3 +56,7 @@ comes-seen a b comes r =
 -- more behind the same
 pub IsPrefix-onto : (xs ys zs : List Sqe) → IsPrefix ys zs → IsPrefix (xs ++ ys) (xs ++ zs)
 IsPrefix-onto xs ys zs p = (p.0, append_assoc xs ys p.0 ∙ ap (λ (l : List Sqe). xs ++ l) p.1)
+
+-- a region was replaced by one with the same end
+pub gets-set : (sqs : List SqRegion) (r : ℕ) (d g : SqRegion) → d ≡ get_or sqs r d → g.end ≡ d.end → gets_of (set sqs r g) ≡ gets_of sqs
+gets-set sqs r d g read same = map-set_same (λ (s : SqRegion). s.end) sqs r g d (same ∙ ap (λ (s : SqRegion). s.end) read)

@@ -26,6 +26,7 @@ pub mod Rested
 pub mod EndsSeen
 pub mod Turns
 pub mod Still
+pub mod Filling
 pub mod ServedAnswers
 pub mod ClearAnswer
 pub mod Executions

@@ -1,6 +1,7 @@
 -- The completion that became ready first in a completion region, and what its post leaves.
 use Rattle.std.proofs.Common.{◌≡◌, ◌⊎◌, ℕ, zero, suc, ◌+◌, ◌-◌, ◌<◌, ◌≤◌, ◌==◌, ◌&&◌, nat_lt, Bool, true, false, not, List, [], ◌∷◌, ◌++◌, length, set, drop, get_or, Option, Some, None, refl, sym, ap, ◌∙◌, subst, arith, inl, inr}
 use Rattle.std.specs.Prelude.{filter, map, if◌then◌else◌, slice_get, option_map, reverse}
+use Rattle.std.proofs.lemmas.Bool.Decides.{eqb_tells}
 use Rattle.std.proofs.lemmas.Bool.{cases_eq, and_parts, ltb-true}
 use Rattle.std.proofs.lemmas.List.{length-append, length-set, set-get_or, length-reverse, length_push}
 use Rattle.std.proofs.lemmas.List.Elements.{All-head, All-same}
@@ -18,7 +19,7 @@ use Rattle.nvme_log.specs.Rules.{FrontRules, Past, upto}
 use Rattle.nvme_log.specs.Places.{Place, fetched, fate_of, is_waiting}
 use Rattle.nvme_log.specs.Completions.{is_posted, posted_to}
 use Rattle.nvme_log.specs.Laws.{count_of}
-use Rattle.nvme_state.specs.Kept.{Kept, SqKept, CqKept, put_sq, put_cq}
+use Rattle.nvme_state.specs.Kept.{Kept, SqKept, CqKept, no_cq, put_sq, put_cq}
 use Rattle.nvme_front.specs.State.{sq_in, cq_in, cq_kept, gets_of, puts_of, kept_of, rules_of, past_of}
 use Rattle.nvme_state.specs.Standing.{Stands, IsReady, HoldsPosts, hand_of}
 use Rattle.nvme_front.specs.Room.{IsKept, window_room, ready_room}
@@ -31,7 +32,7 @@ use Rattle.nvme_state.proofs.PostedPlaces.{over_regions_at}
 use Rattle.nvme_state.proofs.OwnStatus.{IsAnswerable, ready_is_answerable, answerable_is_done, answerable_is_unposted}
 use Rattle.nvme_state.proofs.Standing.{stands-post}
 use Rattle.nvme_front.proofs.Comes.{comes-same, coming-set}
-use Rattle.nvme_front.proofs.States.{sq_in-set, cq_in-set, sq_in-read, cq_in-read, past-push, pushed-not_empty, places-set, windows-set, put_places-set, readies-set, roomy-goes, kept_after, SameSeat-refl}
+use Rattle.nvme_front.proofs.States.{look-set, IsSame-sym, sq_in-set, cq_in-set, sq_in-read, cq_in-read, past-push, pushed-not_empty, places-set, windows-set, put_places-set, readies-set, roomy-goes, kept_after, SameSeat-refl}
 
 -- ---- lists
 -- a list by its first item
@@ -267,3 +268,23 @@ goes-longer a b g = let long = ap length g.grew.1 in omega (arith, length-append
 -- where nothing changed, what has nothing to post had nothing to post
 pub drained-same : (a b : FrontState) (x : ℕ) → IsSame a b → IsDrained b x → IsDrained a x
 drained-same a b x s d = subst (λ (z : List CqRegion). (cq_in z x).ready ≡ [] ⊎ (cq_in z x).free ≡ 0) s.cqs d
+
+-- and what has nothing to post has nothing later on
+pub drained_on : (a b : FrontState) (x : ℕ) → IsSame a b → IsDrained a x → IsDrained b x
+drained_on a b x s h = drained-same b a x (IsSame-sym a b s) h
+
+-- by the regions alone
+pub drained_by : (a b : FrontState) (x : ℕ) → a.cqs.items ≡ b.cqs.items → IsDrained a x → IsDrained b x
+drained_by a b x same h = subst (λ (z : List CqRegion). (cq_in z x).ready ≡ [] ⊎ (cq_in z x).free ≡ 0) same h
+
+-- another region was replaced
+pub others_drained : (a b : FrontState) (c : ℕ) (g : CqRegion) → c < length a.cqs.items → b.cqs.items ≡ set a.cqs.items c g
+    → (x : ℕ) → (x ≡ c → ⊥) → IsDrained a x → IsDrained b x
+others_drained a b c g there cqs x other h =
+    let same : cq_in b.cqs.items x ≡ cq_in a.cqs.items x =
+    ap (λ (z : List CqRegion). cq_in z x) cqs ∙ look-set cq_kept no_cq a.cqs.items c g there x
+    ∙ elim (eqb_tells x c) [
+      | inl p ↦ absurd (other p.1)
+      | inr p ↦ rw p.0 refl
+    ] in
+    subst (λ (z : CqKept). (z.ready ≡ []) ⊎ (z.free ≡ 0)) (sym same) h

@@ -117,6 +117,9 @@ Goes-same a b s = record {
 pub IsSame-refl : (s : FrontState) → IsSame s s
 IsSame-refl s = record { log = refl; sqs = refl; cqs = refl; board = refl; table = refl; outstanding = refl; deletion = refl; jobs = refl; late = refl; config = refl; alloc = refl }
 
+pub IsSame-sym : (a b : FrontState) → IsSame a b → IsSame b a
+IsSame-sym a b g = record { log = sym g.log; sqs = sym g.sqs; cqs = sym g.cqs; board = sym g.board; table = sym g.table; outstanding = sym g.outstanding; deletion = sym g.deletion; jobs = sym g.jobs; late = sym g.late; config = sym g.config; alloc = sym g.alloc }
+
 pub IsSame-trans : (a b c : FrontState) → IsSame a b → IsSame b c → IsSame a c
 IsSame-trans a b c g h = record {
   log = h.log ∙ g.log;

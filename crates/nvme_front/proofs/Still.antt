@@ -74,7 +74,7 @@ drained_same a b s h =
     subst (λ (cqs : List CqRegion). (c : ℕ) → c < length cqs → ((cq_in cqs c).ready ≡ []) ⊎ ((cq_in cqs c).free ≡ 0)) (sym s.cqs) h
 
 -- and were so before
-drained_before : (a b : FrontState) → IsSame a b → AllDrained b → AllDrained a
+pub drained_before : (a b : FrontState) → IsSame a b → AllDrained b → AllDrained a
 drained_before a b s h =
     subst (λ (cqs : List CqRegion). (c : ℕ) → c < length cqs → ((cq_in cqs c).ready ≡ []) ⊎ ((cq_in cqs c).free ≡ 0)) s.cqs h
 

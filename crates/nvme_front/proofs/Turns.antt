@@ -61,11 +61,11 @@ idle_count queues q o none is =
     (IfSome-find (λ (s : Seen). s.count ≡ 0) (λ (s : Seen). s.qid == q) (seen_of queues) none)
 
 -- an entry of the table that is open
-record IsOpenEntry (o : Option SqEntry) (queue : Queue) : Type 0 where
-  entry : SqEntry
-  there : o ≡ Some entry
-  is_open : entry.closing ≡ false
-  region : entry.region ≡ queue.region
+pub record IsOpenEntry (o : Option SqEntry) (queue : Queue) : Type 0 where
+  pub entry : SqEntry
+  pub there : o ≡ Some entry
+  pub is_open : entry.closing ≡ false
+  pub region : entry.region ≡ queue.region
 
 -- an entry that is open, by whether it is closing
 entry_by : (e : SqEntry) (queue q : Queue) (b : Bool) → e.closing ≡ b → q.region ≡ e.region → (if b then None else Some q) ≡ Some queue → IsOpenEntry (Some e) queue
@@ -75,7 +75,7 @@ entry_by e queue q false closes region h =
     record { entry = e; there = refl; is_open = closes; region = sym region ∙ ap (λ (x : Queue). x.region) same }
 
 -- an open queue of the table has its entry
-open_entry : (o : Option SqEntry) (queue : Queue) → as_open o ≡ Some queue → IsOpenEntry o queue
+pub open_entry : (o : Option SqEntry) (queue : Queue) → as_open o ≡ Some queue → IsOpenEntry o queue
 open_entry None queue h = absurd (cc)
 open_entry (Some e) queue h = entry_by e queue (record { region = e.region; cqid = e.cqid; class = e.class }) e.closing refl refl h
 

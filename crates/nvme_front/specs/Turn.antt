@@ -1,8 +1,12 @@
 -- What the parts of a turn leave (profile).
-use Rattle.std.specs.Prelude.{◌≡◌, ◌≢◌, ◌+◌, ◌<◌, ◌≤◌, Bool, true, false, [], length, Option, Some, None, IfSome, IsSome}
+use Rattle.std.specs.Prelude.{◌≡◌, ◌≢◌, ◌+◌, ◌<◌, ◌≤◌, Bool, true, false, List, [], ◌∷◌, ◌++◌, length, Option, Some, None, IfSome, IsSome}
 use Rattle.std.specs.List.{All}
 use Rattle.nvme_pool.specs.Seat.{IsUnknown}
+use Rattle.arrayvec.specs.ArrayVec.{ArrayVec}
 use Rattle.nvme_arbiter.specs.declared.pick.Pick.{Pick}
+use Rattle.nvme_arbiter.specs.declared.pick.Seen.{Seen}
+use Rattle.nvme_log.specs.declared.event.Event.{Event}
+use Rattle.nvme_log.specs.declared.event.Event.TheVariants as event
 use Rattle.nvme_state.specs.declared.candidate.PendingDelete.{PendingDelete}
 use Rattle.nvme_state.specs.Balance.{Balances}
 use Rattle.nvme_log.specs.Limits.{max_outstanding, admin_events}
@@ -58,3 +62,11 @@ told_after true Picked = Picked
 told_after true Moved = Moved
 told_after true Idle = Moved
 told_after true Stalled = Moved
+
+-- the log went on with a pick, with what an admin command made of it behind, for which the log had room
+pub record IsPickOf (old new : FrontState) : Type 0 where
+  pub seen : ArrayVec Seen
+  pub pick : Pick
+  pub after : List Event
+  pub log_is : new.log.items ≡ old.log.items ++ event.Pick seen pick ∷ after
+  pub room : pick.qid ≡ 0 → length old.log.items + admin_events ≤ old.config.max_events

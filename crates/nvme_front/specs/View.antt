@@ -8,15 +8,18 @@ use Rattle.nvme_lane.specs.View.{GetView, PutView}
 use Rattle.nvme_pool.specs.declared.jobs.Finished.{Finished}
 use Rattle.nvme_pool.specs.Seat.{SameSeat, Ends, IsUnknown}
 use Rattle.nvme_arbiter.specs.Lawful.{lawful_pick}
+use Rattle.arrayvec.specs.ArrayVec.{ArrayVec}
 use Rattle.nvme_arbiter.specs.declared.pick.Pick.{Pick}
+use Rattle.nvme_arbiter.specs.declared.pick.Seen.{Seen}
 use Rattle.nvme_log.specs.declared.event.Event.{Event}
+use Rattle.nvme_log.specs.declared.event.Event.TheVariants as event
 use Rattle.nvme_front.specs.declared.front.Step.{Step}
 use Rattle.nvme_front.specs.declared.front.Step.TheVariants.{Picked, Moved, Idle, Stalled}
 use Rattle.nvme_front.specs.declared.front.FrontError.{FrontError}
 use Rattle.nvme_front.specs.declared.front.FrontError.TheVariants.{NoMemory, LogFull, Stray}
 use Rattle.nvme_front.specs.declared.state.FrontState.{FrontState}
 use Rattle.nvme_log.specs.Limits.{max_outstanding, admin_events}
-use Rattle.nvme_log.specs.Rules.{FrontRules, Past}
+use Rattle.nvme_log.specs.Rules.{FrontRules, Past, window_at}
 use Rattle.nvme_log.specs.Queues.{Queue, Deletion, open_sq, pending, cq_region_of}
 use Rattle.nvme_log.specs.Places.{fetched, waiting, observation_of, is_served}
 use Rattle.nvme_log.specs.Histories.{arbitration_of, picks_in}
@@ -189,6 +192,34 @@ abbrev pub ErrorMeans : FrontError → FrontView → FrontView → Type 0
 ErrorMeans NoMemory old new = HasNoPickMore old new × HasNoStray old new
 ErrorMeans LogFull old new = IsFullLog new × HasNoPickMore old new × HasNoStray old new
 ErrorMeans (Stray ticket) old new = GainedStray ticket old new × HasNoPickMore old new
+
+-- ---- how far a turn goes
+-- the window of an open queue is full, or nothing is known to come for it
+abbrev pub IsFilled : FrontView → Past → Queue → Type 0
+IsFilled v past queue = (window_at v.rules queue.region ≤ length (waiting past queue.region)) ⊎ (known_in v queue.region ≡ [])
+
+-- so it is with each open queue of a log
+abbrev pub AreFilled : FrontView → Past → Type 0
+AreFilled v past = (q : ℕ) (queue : Queue) → open_sq past q ≡ Some queue → IsFilled v past queue
+
+-- the one pick of a turn, made when each window was filled. The pick of an admin command had the events that its effect may need
+pub record PicksOne (old new : FrontView) : Type 0 where
+  pub before : List Event
+  pub seen : ArrayVec Seen
+  pub pick : Pick
+  pub after : List Event
+  pub log_is : new.log ≡ before ++ event.Pick seen pick ∷ after
+  pub since : IsPrefix old.log before
+  pub first : picks_in before ≡ picks_in old.log
+  pub room : pick.qid ≡ 0 → length before + admin_events ≤ new.limit
+  pub filled : AreFilled new (reverse before)
+
+-- the windows were filled before a pick, and where none was made and no deletion was pending they are filled
+abbrev pub FillsWindows : Step → FrontView → FrontView → Type 0
+FillsWindows Picked old new = PicksOne old new
+FillsWindows Moved old new = pending (past_in old) ≡ None → AreFilled new (past_in new)
+FillsWindows Idle old new = pending (past_in old) ≡ None → AreFilled new (past_in new)
+FillsWindows Stalled old new = pending (past_in old) ≡ None → AreFilled new (past_in new)
 
 -- the regions of a front's rules are those of its ends
 abbrev pub HasItsRegions : FrontView → Type 0

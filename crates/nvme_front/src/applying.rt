@@ -14,6 +14,7 @@ impl FrontState {
     ghost use Rattle.nvme_front.specs.Applied.{IsApplied};
     ghost use Rattle.nvme_front.specs.Room.{IsKept};
     ghost use Rattle.nvme_front.specs.Goes.{Goes};
+    ghost use Rattle.nvme_front.specs.State.{gets_of};
     ghost use Rattle.nvme_log.specs.Histories.{picks_in};
 
     // The answer of an admin command is ready.
@@ -22,6 +23,7 @@ impl FrontState {
         ensures kept { IsKept self.new }
         ensures goes { Goes self.old self.new }
         ensures jobs { self.new.jobs ≡ self.old.jobs }
+        ensures gets { gets_of self.new.sqs.items ≡ gets_of self.old.sqs.items }
         ensures picks { picks_in self.new.log.items ≡ picks_in self.old.log.items }
     {
         self.cqs[0].ready.push(candidate.answered(status, dw0));
@@ -33,6 +35,7 @@ impl FrontState {
         ensures kept { IsKept self.new }
         ensures goes { Goes self.old self.new }
         ensures jobs { self.new.jobs ≡ self.old.jobs }
+        ensures gets { gets_of self.new.sqs.items ≡ gets_of self.old.sqs.items }
         ensures picks { picks_in self.new.log.items ≡ picks_in self.old.log.items }
     {
         let Some(cq_region) = self.table.cq(cqid) else {
@@ -60,6 +63,7 @@ impl FrontState {
         ensures kept { IsKept self.new }
         ensures goes { Goes self.old self.new }
         ensures jobs { self.new.jobs ≡ self.old.jobs }
+        ensures gets { gets_of self.new.sqs.items ≡ gets_of self.old.sqs.items }
         ensures picks { picks_in self.new.log.items ≡ picks_in self.old.log.items }
     {
         note(&mut self.log, Event::OpenCq { qid, region });
@@ -74,6 +78,7 @@ impl FrontState {
         ensures kept { IsKept self.new }
         ensures goes { Goes self.old self.new }
         ensures jobs { self.new.jobs ≡ self.old.jobs }
+        ensures gets { gets_of self.new.sqs.items ≡ gets_of self.old.sqs.items }
         ensures picks { picks_in self.new.log.items ≡ picks_in self.old.log.items }
     {
         let Some(region) = closing else {
@@ -91,6 +96,7 @@ impl FrontState {
         ensures kept { IsKept self.new }
         ensures goes { Goes self.old self.new }
         ensures jobs { self.new.jobs ≡ self.old.jobs }
+        ensures gets { gets_of self.new.sqs.items ≡ gets_of self.old.sqs.items }
         ensures picks { picks_in self.new.log.items ≡ picks_in self.old.log.items }
     {
         self.board.set(settings);
@@ -107,6 +113,7 @@ impl FrontState {
         ensures kept { IsKept self.new }
         ensures goes { Goes self.old self.new }
         ensures jobs { self.new.jobs ≡ self.old.jobs }
+        ensures gets { gets_of self.new.sqs.items ≡ gets_of self.old.sqs.items }
         ensures picks { picks_in self.new.log.items ≡ picks_in self.old.log.items }
     {
         let Some(queue) = self.table.sq(qid) else {
@@ -142,6 +149,7 @@ impl FrontState {
         ensures kept { IsKept self.new }
         ensures goes { Goes self.old self.new }
         ensures jobs { self.new.jobs ≡ self.old.jobs }
+        ensures gets { gets_of self.new.sqs.items ≡ gets_of self.old.sqs.items }
         ensures picks { picks_in self.new.log.items ≡ picks_in self.old.log.items }
     {
         match verdict {

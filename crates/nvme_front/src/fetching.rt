@@ -7,10 +7,9 @@ use nvme_log::Event;
 use nvme_state::Candidate;
 
 impl FrontState {
-    ghost use Rattle.std.specs.Prelude.{◌≡◌, ◌≢◌, ℕ, ◌+◌, ◌<◌, ◌≤◌, length, Option, Some, None, IfOk, IfErr, true, false, ◌⊎◌};
-    ghost use Rattle.nvme_arbiter.specs.Limits.{highest_qid};
+    ghost use Rattle.std.specs.Prelude.{◌≡◌, ◌≢◌, ℕ, ◌+◌, ◌<◌, ◌≤◌, length, Option, Some, None, OnOk, IfErr, true, false, ◌⊎◌};
     ghost use Rattle.nvme_front.specs.Room.{IsKept};
-    ghost use Rattle.nvme_front.specs.Goes.{Goes, IsSame, HasAdmin, IsScanned};
+    ghost use Rattle.nvme_front.specs.Goes.{Goes, IsSame, HasAdmin, IsScanned, AllScanned};
     ghost use Rattle.nvme_log.specs.Histories.{picks_in};
     ghost use Rattle.nvme_front.specs.declared.front.FrontError.TheVariants.{NoMemory, LogFull};
 
@@ -25,6 +24,7 @@ impl FrontState {
         ensures picks { picks_in self.new.log.items ≡ picks_in self.old.log.items }
         ensures none_pending { self.new.deletion ≡ None }
         ensures more { result ≡ Ok true → length self.new.log.items ≡ length self.old.log.items + 1 }
+        ensures others { (q : ℕ) → q ≢ qid → IsScanned self.old q → IsScanned self.new q }
         ensures still { result ≡ Ok false → IsSame self.old self.new × IsScanned self.old qid }
         ensures full { result ≡ Err LogFull → self.new.config.max_events < length self.new.log.items + 1 }
         ensures no_stray { IfErr result (λ e. (e ≡ LogFull) ⊎ (e ≡ NoMemory)) }
@@ -63,7 +63,9 @@ impl FrontState {
         ensures picks { picks_in self.new.log.items ≡ picks_in self.old.log.items }
         ensures none_pending { self.new.deletion ≡ None }
         ensures more { result ≡ Ok true → length self.old.log.items < length self.new.log.items }
-        ensures still { result ≡ Ok false → IsSame self.old self.new × IsScanned self.old qid }
+        ensures others { (q : ℕ) → q ≢ qid → IsScanned self.old q → IsScanned self.new q }
+        ensures scanned { OnOk result (IsScanned self.new qid) }
+        ensures still { result ≡ Ok false → IsSame self.old self.new }
         ensures full { result ≡ Err LogFull → self.new.config.max_events < length self.new.log.items + 1 }
         ensures no_stray { IfErr result (λ e. (e ≡ LogFull) ⊎ (e ≡ NoMemory)) }
     {
@@ -85,7 +87,8 @@ impl FrontState {
         ensures picks { picks_in self.new.log.items ≡ picks_in self.old.log.items }
         ensures none_pending { self.new.deletion ≡ None }
         ensures more { result ≡ Ok true → length self.old.log.items < length self.new.log.items }
-        ensures still { result ≡ Ok false → IsSame self.old self.new × ((q : ℕ) → q ≤ highest_qid → IsScanned self.old q) }
+        ensures scanned { OnOk result (AllScanned self.new) }
+        ensures still { result ≡ Ok false → IsSame self.old self.new }
         ensures full { result ≡ Err LogFull → self.new.config.max_events < length self.new.log.items + 1 }
         ensures no_stray { IfErr result (λ e. (e ≡ LogFull) ⊎ (e ≡ NoMemory)) }
     {

@@ -24,6 +24,7 @@ impl FrontState {
         ensures kept { IsKept self.new }
         ensures goes { Goes self.old self.new }
         ensures log { self.new.log.items ≡ self.old.log.items }
+        ensures sqs { self.new.sqs.items ≡ self.old.sqs.items }
         ensures deletion { self.new.deletion ≡ self.old.deletion }
         ensures ends { self.new.jobs.hands.seat.ends ≡ self.old.jobs.hands.seat.ends }
         ensures balanced { Balanced self.old self.new }
@@ -42,6 +43,7 @@ impl FrontState {
         ensures kept { IsKept self.new }
         ensures goes { Goes self.old self.new }
         ensures log { self.new.log.items ≡ self.old.log.items }
+        ensures sqs { self.new.sqs.items ≡ self.old.sqs.items }
         ensures deletion { self.new.deletion ≡ self.old.deletion }
         ensures ends { self.new.jobs.hands.seat.ends ≡ self.old.jobs.hands.seat.ends }
         ensures balanced { Balanced self.old self.new }

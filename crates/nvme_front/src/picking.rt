@@ -28,7 +28,8 @@ impl FrontState {
     ghost use Rattle.nvme_log.specs.Limits.{max_outstanding, admin_events};
     ghost use Rattle.nvme_front.specs.Room.{IsKept};
     ghost use Rattle.nvme_front.specs.Goes.{Goes, IsSame, HasAdmin, next_pick};
-    ghost use Rattle.nvme_front.specs.Turn.{LacksAdminEvents};
+    ghost use Rattle.nvme_front.specs.State.{gets_of};
+    ghost use Rattle.nvme_front.specs.Turn.{IsPickOf, LacksAdminEvents};
     ghost use Rattle.nvme_log.specs.Histories.{picks_in};
     ghost use Rattle.nvme_front.specs.declared.front.FrontError.TheVariants.{NoMemory, LogFull};
     ghost use Rattle.nvme_front.specs.declared.front.Step.TheVariants as step;
@@ -46,6 +47,8 @@ impl FrontState {
         ensures goes { Goes self.old self.new }
         ensures seat { self.new.jobs.hands.seat ≡ self.old.jobs.hands.seat }
         ensures running { self.new.jobs.hands.running ≡ self.old.jobs.hands.running }
+        ensures gets { gets_of self.new.sqs.items ≡ gets_of self.old.sqs.items }
+        ensures picks_of { OnOk result (IsPickOf self.old self.new) }
         ensures picked { OnOk result (picks_in self.new.log.items ≡ picks_in self.old.log.items + 1) }
         ensures full { result ≡ Err LogFull → self.new.config.max_events < length self.new.log.items + 1 }
         ensures none_picked { OnErr result (picks_in self.new.log.items ≡ picks_in self.old.log.items) }
@@ -79,6 +82,8 @@ impl FrontState {
         ensures goes { Goes self.old self.new }
         ensures seat { self.new.jobs.hands.seat ≡ self.old.jobs.hands.seat }
         ensures running { self.new.jobs.hands.running ≡ self.old.jobs.hands.running }
+        ensures gets { gets_of self.new.sqs.items ≡ gets_of self.old.sqs.items }
+        ensures picks_of { OnOk result (IsPickOf self.old self.new) }
         ensures picked { OnOk result (picks_in self.new.log.items ≡ picks_in self.old.log.items + 1) }
         ensures full { result ≡ Err LogFull → IsSame self.old self.new × (self.new.config.max_events < length self.new.log.items + admin_events) }
         ensures none_picked { OnErr result (picks_in self.new.log.items ≡ picks_in self.old.log.items) }
@@ -111,6 +116,8 @@ impl FrontState {
         ensures goes { Goes self.old self.new }
         ensures seat { self.new.jobs.hands.seat ≡ self.old.jobs.hands.seat }
         ensures running { self.new.jobs.hands.running ≡ self.old.jobs.hands.running }
+        ensures gets { gets_of self.new.sqs.items ≡ gets_of self.old.sqs.items }
+        ensures picks_of { result ≡ Ok step.Picked → IsPickOf self.old self.new }
         ensures never_moved { result ≡ Ok step.Moved → ⊥ }
         ensures picked { result ≡ Ok step.Picked → picks_in self.new.log.items ≡ picks_in self.old.log.items + 1 }
         ensures idle { result ≡ Ok step.Idle → IsSame self.old self.new × (next_pick self.old ≡ None) }

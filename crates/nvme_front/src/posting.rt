@@ -18,10 +18,10 @@ fn phase_of(posted: u32, slots: u16) -> bool
 }
 
 impl FrontState {
-    ghost use Rattle.std.specs.Prelude.{◌≡◌, ℕ, ◌+◌, ◌<◌, length, None, IfSome, IfNone, true, false, ◌⊎◌, IfErr};
+    ghost use Rattle.std.specs.Prelude.{◌≡◌, ◌≢◌, ℕ, ◌+◌, ◌<◌, length, None, IfSome, IfNone, OnOk, true, false, ◌⊎◌, IfErr};
     ghost use Rattle.nvme_front.specs.State.{sq_in, cq_in};
     ghost use Rattle.nvme_front.specs.Room.{IsKept};
-    ghost use Rattle.nvme_front.specs.Goes.{Goes, IsSame, HasAdmin, IsDrained, IsCompletionOf};
+    ghost use Rattle.nvme_front.specs.Goes.{Goes, IsSame, HasAdmin, IsDrained, AllDrained, IsCompletionOf};
     ghost use Rattle.nvme_log.specs.Histories.{picks_in};
     ghost use Rattle.nvme_front.specs.declared.front.FrontError.TheVariants.{NoMemory, LogFull};
 
@@ -60,6 +60,7 @@ impl FrontState {
         ensures picks { picks_in self.new.log.items ≡ picks_in self.old.log.items }
         ensures deletion { self.new.deletion ≡ self.old.deletion }
         ensures more { result ≡ Ok true → length self.new.log.items ≡ length self.old.log.items + 1 }
+        ensures others { (x : ℕ) → x ≢ c → IsDrained self.old x → IsDrained self.new x }
         ensures still { result ≡ Ok false → IsSame self.old self.new × IsDrained self.old c }
         ensures full { result ≡ Err LogFull → self.new.config.max_events < length self.new.log.items + 1 }
         ensures no_stray { IfErr result (λ e. (e ≡ LogFull) ⊎ (e ≡ NoMemory)) }
@@ -108,7 +109,9 @@ impl FrontState {
         ensures picks { picks_in self.new.log.items ≡ picks_in self.old.log.items }
         ensures deletion { self.new.deletion ≡ self.old.deletion }
         ensures more { result ≡ Ok true → length self.old.log.items < length self.new.log.items }
-        ensures still { result ≡ Ok false → IsSame self.old self.new × IsDrained self.old c }
+        ensures others { (x : ℕ) → x ≢ c → IsDrained self.old x → IsDrained self.new x }
+        ensures drained { OnOk result (IsDrained self.new c) }
+        ensures still { result ≡ Ok false → IsSame self.old self.new }
         ensures full { result ≡ Err LogFull → self.new.config.max_events < length self.new.log.items + 1 }
         ensures no_stray { IfErr result (λ e. (e ≡ LogFull) ⊎ (e ≡ NoMemory)) }
     {
@@ -129,7 +132,8 @@ impl FrontState {
         ensures picks { picks_in self.new.log.items ≡ picks_in self.old.log.items }
         ensures deletion { self.new.deletion ≡ self.old.deletion }
         ensures more { result ≡ Ok true → length self.old.log.items < length self.new.log.items }
-        ensures still { result ≡ Ok false → IsSame self.old self.new × ((c : ℕ) → c < length self.old.cqs.items → IsDrained self.old c) }
+        ensures drained { OnOk result (AllDrained self.new) }
+        ensures still { result ≡ Ok false → IsSame self.old self.new }
         ensures full { result ≡ Err LogFull → self.new.config.max_events < length self.new.log.items + 1 }
         ensures no_stray { IfErr result (λ e. (e ≡ LogFull) ⊎ (e ≡ NoMemory)) }
     {

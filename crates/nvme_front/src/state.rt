@@ -35,7 +35,7 @@ impl FrontState {
     ghost use Rattle.nvme_front.specs.Room.{IsKept};
     ghost use Rattle.nvme_front.specs.State.{past_of};
     ghost use Rattle.nvme_front.specs.Goes.{Goes, HasAdmin};
-    ghost use Rattle.nvme_front.specs.View.{view_of, HasNoPickMore, StepMeans, ErrorMeans};
+    ghost use Rattle.nvme_front.specs.View.{view_of, HasNoPickMore, FillsWindows, StepMeans, ErrorMeans};
     ghost use Rattle.std.specs.List.{All};
     ghost use Rattle.nvme_pool.specs.Seat.{IsUnknown};
     ghost use Rattle.nvme_front.specs.Turn.{HasDone, Proceeds, Balanced};
@@ -50,6 +50,7 @@ impl FrontState {
         ensures kept { IsKept self.new }
         ensures goes { Goes self.old self.new }
         ensures step { IfOk result (λ step. StepMeans step (view_of self.old) (view_of self.new)) }
+        ensures filled { IfOk result (λ step. FillsWindows step (view_of self.old) (view_of self.new)) }
         ensures balanced { OnOk result (Balanced self.old self.new) }
         ensures none_known { OnOk result (All IsUnknown self.new.jobs.hands.seat.ends) }
         ensures error { IfErr result (λ error. ErrorMeans error (view_of self.old) (view_of self.new)) }
@@ -68,6 +69,7 @@ impl FrontState {
         ensures goes { Goes self.old self.new }
         ensures picks { HasNoPickMore (view_of self.old) (view_of self.new) }
         ensures done { IfOk result (λ moved. HasDone moved self.old self.new) }
+        ensures deletion { self.new.deletion ≡ self.old.deletion }
         ensures balanced { OnOk result (Balanced self.old self.new) }
         ensures none_known { OnOk result (All IsUnknown self.new.jobs.hands.seat.ends) }
         ensures error { IfErr result (λ error. ErrorMeans error (view_of self.old) (view_of self.new)) }
@@ -86,6 +88,7 @@ impl FrontState {
         ensures kept { IsKept self.new }
         ensures goes { Goes self.old self.new }
         ensures step { IfOk result (λ step. Proceeds step self.old self.new) }
+        ensures filled { IfOk result (λ step. FillsWindows step (view_of self.old) (view_of self.new)) }
         ensures balanced { Balanced self.old self.new }
         ensures ends { self.new.jobs.hands.seat.ends ≡ self.old.jobs.hands.seat.ends }
         ensures error { IfErr result (λ error. ErrorMeans error (view_of self.old) (view_of self.new)) }
@@ -106,6 +109,7 @@ impl FrontState {
         ensures kept { IsKept self.new }
         ensures goes { Goes self.old self.new }
         ensures step { IfOk result (λ step. Proceeds step self.old self.new) }
+        ensures filled { IfOk result (λ step. FillsWindows step (view_of self.old) (view_of self.new)) }
         ensures balanced { Balanced self.old self.new }
         ensures ends { self.new.jobs.hands.seat.ends ≡ self.old.jobs.hands.seat.ends }
         ensures error { IfErr result (λ error. ErrorMeans error (view_of self.old) (view_of self.new)) }

@@ -1,5 +1,6 @@
 use Rattle.std.proofs.Common.{refl, sym, ap, ◌∙◌, [], ◌∷◌, arith, length, length-append}
 use Rattle.nvme_log.specs.declared.event.Event.TheVariants.{Closing}
+use Rattle.nvme_front.proofs.Comes.{gets-set}
 use Rattle.nvme_front.proofs.AppliedStates.{has_room, picks_noted}
 use Rattle.nvme_front.proofs.AppliedDeletion.{begins_some, begins_there, begins_attached, begins_posts, begins_few, begins_unposted, begins_on_board, keeps_deleting, goes_deleting, aborts_noted}
 use Rattle.nvme_front.proofs.state.FrontState.begin_delete.Goals as goal
@@ -73,3 +74,6 @@ returns-clause-kept c =
     (record { config = refl; alloc = refl; late = refl; table = refl; outstanding = refl; jobs = refl })
     (goes_deleting _ _ _ _ _ _ _ _ _ _ _ _ _ c.index_mut-sq.ensures.value c.abort_all.ensures.window refl c.index_mut-cq.ensures.value c.abort_all.ensures.ready refl
     c.note.ensures.items c.abort_all.ensures.log (record { config = refl; alloc = refl; late = refl; table = refl; outstanding = refl; jobs = refl }))
+
+pub returns-clause-gets : goal.returns-clause-gets
+returns-clause-gets c = gets-set _ _ _ _ c.index_mut-sq.ensures.value refl

@@ -2,7 +2,7 @@ use Rattle.std.proofs.Common.{Ok, Err, ap, ◌∙◌}
 use Rattle.std.proofs.lemmas.Result.{err_from_is_err_and}
 use Rattle.nvme_log.specs.Histories.{picks_in}
 use Rattle.nvme_front.proofs.States.{Goes-trans, admin-goes}
-use Rattle.nvme_front.proofs.Still.{done_by, stray_means, log_error_means, caught_up_balanced}
+use Rattle.nvme_front.proofs.Still.{done_by, drained_before, stray_means, log_error_means, caught_up_balanced}
 use Rattle.nvme_front.proofs.state.FrontState.catch_up.Goals as goal
 
 pub gain-requires-clause-admin : goal.gain-requires-clause-admin
@@ -55,7 +55,7 @@ returns-clause-done g c =
     let post = c.in_ok-posted.ensures in
     done_by c.args.self.now c.hand-handed.new.self c.gain.new.self c.post.new.self hand.goes gain.goes post.goes hand.ends
     c.hand-handed.result c.in_ok-gained.gained c.in_ok-posted.posted hand.more hand.still (λ t. gain.more (ap Ok t)) (λ f. gain.still (ap Ok f))
-    (λ t. post.more (ap Ok t)) (λ f. post.still (ap Ok f))
+    (λ t. post.more (ap Ok t)) (λ f. let same = post.still (ap Ok f) in (same, drained_before c.gain.new.self c.post.new.self same post.drained))
 
 pub returns-clause-balanced : goal.returns-clause-balanced
 returns-clause-balanced g c =

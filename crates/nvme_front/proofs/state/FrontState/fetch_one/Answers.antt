@@ -1,9 +1,10 @@
-use Rattle.std.proofs.Common.{◌∙◌, sym, refl, arith}
+use Rattle.std.proofs.Common.{◌∙◌, ℕ, set, ap, sym, refl, arith}
+use Rattle.std.specs.Vec.{with_item}
 use Rattle.nvme_log.proofs.PickCounts.{picks-noted}
 use Rattle.nvme_front.proofs.States.{Goes-same, IsSame-refl}
 use Rattle.nvme_front.proofs.Fetches.{region_there, can_fetch, window_fits, index_fits, came_fits, fetch_goes, fetch_kept, put_back, noted}
 use Rattle.nvme_front.proofs.Comes.{comes_next}
-use Rattle.nvme_front.proofs.Scans.{taken_closing, taken_full}
+use Rattle.nvme_front.proofs.Scans.{taken_closing, taken_full, others_scanned, scanned_by}
 use Rattle.nvme_front.proofs.state.FrontState.fetch_one.Goals as goal
 use Rattle.nvme_front.proofs.state.FrontState.fetch_one.Goals.{then-queue-via-then-queue, then-queue-via-else-queue+then-is_full}
 
@@ -91,3 +92,15 @@ returns-then-queue-clause-still c = λ _. (
         (rw c.from-r.ensures at w.index.ensures) (sym w.is_full.ensures.value ∙ w.if-is_full.true) (w.is_full.ensures.some w.if-is_full.true)
   ],
 )
+
+pub returns-clause-others : goal.returns-clause-others
+returns-clause-others c = λ x other was.
+    let a = c.args.self.now in
+    others_scanned a (record a { sqs = with_item a.sqs c.from-r.result c.fetch.new.self }) c.requires.kept c.requires.admin c.args.qid c.in-Some.queue (sym c.sq.ensures ∙ c.in-Some.is) c.if-queue.false
+    c.fetch.new.self refl (ap (λ (r : ℕ). set a.sqs.items r c.fetch.new.self) c.from-r.ensures) x other was
+
+pub returns-in_default-fetch-clause-others : goal.returns-in_default-fetch-clause-others
+returns-in_default-fetch-clause-others c = λ x other was.
+    let a = c.args.self.now in
+    let same = put_back a.sqs.items c.from-r.result c.index_mut.result.now c.fetch.new.self c.index_mut.ensures.value c.in_default-fetch.ensures.none.0 in
+    scanned_by a.table x a (record a { sqs = with_item a.sqs c.from-r.result c.fetch.new.self }) (sym same) was

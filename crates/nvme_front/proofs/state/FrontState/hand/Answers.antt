@@ -14,6 +14,7 @@ loop-handed-preserved g c =
       goes = Goes-trans c.args.self.now c.loop-handed.self c.hand_one.new.self i.goes e.goes;
       balanced = balanced_trans c.args.self.now c.loop-handed.self c.hand_one.new.self i.goes i.balanced e.balanced;
       log = e.log ∙ i.log;
+      sqs = e.sqs ∙ i.sqs;
       deletion = e.deletion ∙ i.deletion;
       ends = e.ends ∙ i.ends;
       admin = admin-goes c.loop-handed.self c.hand_one.new.self e.goes i.admin;
@@ -28,3 +29,6 @@ returns-clause-goes g c = Goes-trans c.args.self.now c.loop-handed.self c.hand_o
 pub returns-clause-balanced : goal.returns-clause-balanced
 returns-clause-balanced g c =
     balanced_trans c.args.self.now c.loop-handed.self c.hand_one.new.self c.loop-handed.invariant.goes c.loop-handed.invariant.balanced c.hand_one.ensures.balanced
+
+pub returns-clause-sqs : goal.returns-clause-sqs
+returns-clause-sqs g c = c.hand_one.ensures.sqs ∙ c.loop-handed.invariant.sqs

@@ -1,6 +1,6 @@
 use Rattle.std.proofs.Common.{refl, sym, ◌∙◌, [], ◌∷◌}
 use Rattle.nvme_log.specs.declared.event.Event.TheVariants as event
-use Rattle.nvme_front.proofs.Comes.{coming-set}
+use Rattle.nvme_front.proofs.Comes.{coming-set, gets-set}
 use Rattle.nvme_front.proofs.States.{places-set, windows-set}
 use Rattle.nvme_front.proofs.AppliedStates.{answer_fits, goes_readied, picks_noted}
 use Rattle.nvme_front.proofs.AppliedTables.{opens_some, opens_within, opens_free, opens_io, opens_there, keeps_opened}
@@ -39,3 +39,6 @@ returns-clause-kept c =
     (record { config = refl; alloc = refl; late = refl; table = refl; outstanding = refl; jobs = refl })
     (goes_readied _ _ _ 0 _ _ _ c.index_mut-2.ensures.value c.push.ensures refl c.note.ensures.items refl refl refl refl
     (places-set _ _ _ _ c.index_mut.ensures.value refl) (windows-set _ _ _ _ c.index_mut.ensures.value refl) (coming-set _ _ _ _ c.index_mut.ensures.value refl))
+
+pub returns-clause-gets : goal.returns-clause-gets
+returns-clause-gets c = gets-set _ _ _ _ c.index_mut.ensures.value refl

@@ -1,4 +1,4 @@
-use Rattle.std.proofs.Common.{◌+◌, ◌≡◌, ◌≤◌, List, [], ◌∷◌, ◌++◌, length, set, refl, ap, sym, ◌∙◌, arith}
+use Rattle.std.proofs.Common.{◌+◌, ◌≡◌, ◌≤◌, List, [], ◌∷◌, ◌++◌, length, set, refl, ap, sym, ◌∙◌, append_assoc, arith}
 use Rattle.std.specs.Prelude.{vec_capacity}
 use Rattle.nvme_arbiter.specs.declared.pick.Pick.{Pick}
 use Rattle.nvme_log.specs.declared.event.Event.{Event}
@@ -6,6 +6,7 @@ use Rattle.nvme_log.specs.declared.event.Event.TheVariants as event
 use Rattle.nvme_log.specs.Histories.{picks_in}
 use Rattle.nvme_log.specs.Limits.{max_outstanding, admin_events}
 use Rattle.nvme_front.specs.State.{rules_of}
+use Rattle.nvme_front.proofs.Comes.{gets-set}
 use Rattle.nvme_front.proofs.States.{Goes-trans}
 use Rattle.nvme_front.proofs.Picks.{picks_in-push, of_next, admin_unposted}
 use Rattle.nvme_front.proofs.PickedAdmin.{some_first, due-candidate, is_applied, admin_pick-goes}
@@ -65,3 +66,20 @@ returns-clause-goes c =
           c.in_ok-make_room.ensures.within
           room)
     c.carry_out.ensures.goes
+
+pub returns-clause-gets : goal.returns-clause-gets
+returns-clause-gets c = c.carry_out.ensures.gets ∙ gets-set _ _ _ _ c.index_mut-sq.ensures.value refl
+
+pub returns-clause-picks_of : goal.returns-clause-picks_of
+returns-clause-picks_of c =
+    let s = c.args.self.now in
+    let grew = c.carry_out.ensures.goes.grew in
+    let picked : List Event = event.Pick c.seen-seen.result c.in-Some.pick ∷ [] in
+    record {
+      seen = c.seen-seen.result;
+      pick = c.in-Some.pick;
+      after = grew.0;
+      log_is = sym grew.1 ∙ ap (λ (xs : List Event). xs ++ grew.0) (c.note.ensures.items ∙ ap (λ (xs : List Event). xs ++ picked) c.make_room.ensures.same)
+          ∙ append_assoc s.log.items picked grew.0;
+      room = λ _. c.in_ok-make_room.ensures.within;
+    }

@@ -5,6 +5,7 @@ use Rattle.nvme_log.specs.declared.event.Event.TheVariants as event
 use Rattle.nvme_log.specs.Histories.{picks_in}
 use Rattle.nvme_log.specs.Limits.{max_outstanding}
 use Rattle.nvme_front.specs.State.{rules_of}
+use Rattle.nvme_front.proofs.Comes.{gets-set}
 use Rattle.nvme_front.proofs.Picks.{picks_in-push, of_next, config_by, jobs_fit, few_tickets, due-found, due-sq_there, due-unposted, due-enough}
 use Rattle.nvme_front.proofs.PickedQueue.{io-kept, io-goes}
 use Rattle.nvme_front.proofs.state.FrontState.pick_io.Goals as goal
@@ -76,3 +77,6 @@ pub returns-clause-picked : goal.returns-clause-picked
 returns-clause-picked c =
     ap picks_in c.note.ensures.items ∙ ap (λ (xs : List Event). picks_in (xs ++ event.Pick c.seen-seen.result c.in-Some.pick ∷ [])) c.make_room.ensures.same
     ∙ picks_in-push c.args.self.now.log.items c.seen-seen.result c.in-Some.pick
+
+pub returns-clause-gets : goal.returns-clause-gets
+returns-clause-gets c = gets-set _ _ _ _ c.index_mut-sq.ensures.value refl

@@ -2,7 +2,7 @@
 use Rattle.std.proofs.Common.{◌≡◌, ◌∙◌, true, false, Ok, sym, ap, arith, below_more}
 use Rattle.nvme_front.specs.Goes.{IsDrained}
 use Rattle.nvme_front.proofs.States.{Goes-trans, IsSame-trans, cqs-goes}
-use Rattle.nvme_front.proofs.PostOne.{goes-longer, drained-same}
+use Rattle.nvme_front.proofs.PostOne.{goes-longer}
 use Rattle.nvme_front.proofs.state.FrontState.post.Goals as goal
 use Rattle.nvme_front.proofs.state.FrontState.post.Goals.{then-branch, else-branch}
 
@@ -16,6 +16,7 @@ loop-c-preserved c =
     let jobs = e.jobs ∙ i.jobs in
     let picks = e.picks ∙ i.picks in
     let deletion = e.deletion ∙ i.deletion in
+    let drained = below_more (λ x. IsDrained c.post_region.new.self x) c.loop-c.c (λ x below. e.others x (λ same. omega (arith, below, same)) (i.drained x below)) c.in_ok-post_region.ensures.drained in
     elim c.if-branch.branch [
       | then-branch w ↦
           let r : c.post_region.result ≡ Ok true = c.in_ok-post_region.was ∙ ap Ok w.if-branch.true in
@@ -29,7 +30,7 @@ loop-c-preserved c =
             deletion = deletion;
             more = λ _. omega (arith, before, more);
             still = λ f. cc (f, w.posted-is);
-            drained = λ f. cc (f, w.posted-is);
+            drained = drained;
           }
       | else-branch w ↦
           let r : c.post_region.result ≡ Ok false = c.in_ok-post_region.was ∙ ap Ok w.if-branch.false in
@@ -41,9 +42,8 @@ loop-c-preserved c =
             picks = picks;
             deletion = deletion;
             more = λ t. let before = i.more (sym w.posted-is ∙ t) in omega (arith, before, here);
-            still = λ f. IsSame-trans c.args.self.now c.loop-c.self c.post_region.new.self (i.still (sym w.posted-is ∙ f)) (e.still r).0;
-            drained = λ f. below_more (λ x. IsDrained c.args.self.now x) c.loop-c.c (i.drained (sym w.posted-is ∙ f))
-                (drained-same c.args.self.now c.loop-c.self c.loop-c.c (i.still (sym w.posted-is ∙ f)) (e.still r).1);
+            still = λ f. IsSame-trans c.args.self.now c.loop-c.self c.post_region.new.self (i.still (sym w.posted-is ∙ f)) (e.still r);
+            drained = drained;
           }
     ]
 
@@ -53,11 +53,11 @@ post_region-requires-clause-there c =
     let there = c.loop-c.invariant.there in
     omega (arith, same, there, c.loop-c-test.true)
 
-pub returns-clause-still : goal.returns-clause-still
-returns-clause-still c = λ r.
-    let none : c.loop-c.posted ≡ false = cc r in
+pub returns-clause-drained : goal.returns-clause-drained
+returns-clause-drained c = λ x within.
     let there = c.loop-c.invariant.there in
-    (c.loop-c.invariant.still none, λ x within. c.loop-c.invariant.drained none x (omega (arith, within, there, c.loop-c-test.false)))
+    let same = cqs-goes c.args.self.now c.loop-c.self c.loop-c.invariant.goes in
+    c.loop-c.invariant.drained x (omega (arith, within, there, same, c.loop-c-test.false))
 
 pub returns-in_err-post_region-clause-goes : goal.returns-in_err-post_region-clause-goes
 returns-in_err-post_region-clause-goes c = Goes-trans c.args.self.now c.loop-c.self c.post_region.new.self c.loop-c.invariant.goes c.post_region.ensures.goes

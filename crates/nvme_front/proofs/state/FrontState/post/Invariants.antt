@@ -1,4 +1,4 @@
--- The front stays the same from region to region, and as long as nothing was posted, nothing changed and the regions before have nothing to post.
+-- The front stays the same from region to region, and as long as nothing was posted nothing changed. The regions before have nothing to post.
 use Rattle.std.proofs.Common.{◌≡◌, ◌<◌, ℕ, length, true, false}
 use Rattle.nvme_front.specs.Room.{IsKept}
 use Rattle.nvme_front.specs.Goes.{Goes, IsSame, IsDrained}
@@ -15,5 +15,5 @@ invariant-loop-c l = record {
   deletion : l.self.deletion ≡ l.fn.self.deletion;
   more : l.posted ≡ true → length l.fn.self.log.items < length l.self.log.items;
   still : l.posted ≡ false → IsSame l.fn.self l.self;
-  drained : l.posted ≡ false → (x : ℕ) → x < l.c → IsDrained l.fn.self x;
+  drained : (x : ℕ) → x < l.c → IsDrained l.self x;
 }

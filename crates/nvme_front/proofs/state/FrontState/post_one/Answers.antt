@@ -5,7 +5,7 @@ use Rattle.nvme_front.specs.declared.state.FrontState.{FrontState}
 use Rattle.nvme_log.specs.Places.{one_if}
 use Rattle.nvme_state.proofs.AfterSteps.{post_event}
 use Rattle.nvme_front.proofs.States.{IsSame-refl, kept_same, Goes-same}
-use Rattle.nvme_front.proofs.PostOne.{IsPosted, none_ready, front_foremost, few_posted, put_back, same_first, front_unposted, posted-kept, posted-goes}
+use Rattle.nvme_front.proofs.PostOne.{IsPosted, none_ready, front_foremost, few_posted, put_back, same_first, front_unposted, posted-kept, posted-goes, others_drained, drained_by}
 use Rattle.nvme_log.proofs.PickCounts.{picks-noted}
 use Rattle.nvme_front.proofs.state.FrontState.post_one.Goals as goal
 use Rattle.nvme_front.proofs.state.FrontState.post_one.Goals.{then-aborted, else-aborted}
@@ -128,3 +128,13 @@ returns-clause-goes c = posted-goes c.args.self.now (after c) c.args.c c.in-Some
 
 pub returns-clause-picks : goal.returns-clause-picks
 returns-clause-picks c = picks-noted _ _ _ _ c.make_room.ensures.same c.note.ensures.items refl
+
+pub returns-clause-others : goal.returns-clause-others
+unfolding posted
+returns-clause-others c = others_drained c.args.self.now (after c) c.args.c c.post.new.self c.requires.there (posted c).cqs
+
+pub returns-then-not-post-clause-others : goal.returns-then-not-post-clause-others
+returns-then-not-post-clause-others c = λ x other was.
+    let s = c.args.self.now in
+    drained_by s (record s { cqs = with_item s.cqs c.from-2.result c.post.new.self }) x
+    (sym (put_back s.cqs.items c.from-2.result c.index_mut-region.result.now c.post.new.self c.index_mut-region.ensures.value (c.post.ensures.full c.if-not-post.true).0)) was

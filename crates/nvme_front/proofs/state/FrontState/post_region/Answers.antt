@@ -1,7 +1,7 @@
 -- A completion after another: each makes the log longer, and where none was posted nothing changed.
 use Rattle.std.proofs.Common.{◌≡◌, ◌∙◌, true, false, Ok, ap, arith}
 use Rattle.nvme_front.proofs.States.{Goes-trans, IsSame-trans, admin-goes, cqs-goes}
-use Rattle.nvme_front.proofs.PostOne.{goes-longer, drained-same}
+use Rattle.nvme_front.proofs.PostOne.{goes-longer, drained_on}
 use Rattle.nvme_front.proofs.state.FrontState.post_region.Goals as goal
 
 pub post_one-requires-clause-admin : goal.post_one-requires-clause-admin
@@ -25,6 +25,7 @@ loop-posted-preserved c =
       jobs = e.jobs ∙ i.jobs;
       picks = e.picks ∙ i.picks;
       deletion = e.deletion ∙ i.deletion;
+      others = λ x other was. e.others x other (i.others x other was);
       more = λ t. omega (arith, before, more);
       still = λ f. cc f;
     }
@@ -42,10 +43,20 @@ returns-clause-more c = λ r.
     let longer = goes-longer c.loop-posted.self c.post_one.new.self c.post_one.ensures.goes in
     omega (arith, more, longer)
 
+pub returns-in_err-post_one-clause-others : goal.returns-in_err-post_one-clause-others
+returns-in_err-post_one-clause-others c = λ x other was. c.post_one.ensures.others x other (c.loop-posted.invariant.others x other was)
+
+pub returns-clause-others : goal.returns-clause-others
+returns-clause-others c = λ x other was. c.post_one.ensures.others x other (c.loop-posted.invariant.others x other was)
+
+pub returns-clause-drained : goal.returns-clause-drained
+returns-clause-drained c =
+    let last : c.post_one.result ≡ Ok false = c.in_ok-post_one.was ∙ ap Ok c.if-branch.false in
+    let s = c.post_one.ensures.still last in
+    drained_on c.loop-posted.self c.post_one.new.self c.args.c s.0 s.1
+
 pub returns-clause-still : goal.returns-clause-still
 returns-clause-still c = λ r.
     let none : c.loop-posted.posted ≡ false = cc r in
-    let before = c.loop-posted.invariant.still none in
     let last : c.post_one.result ≡ Ok false = c.in_ok-post_one.was ∙ ap Ok c.if-branch.false in
-    let s = c.post_one.ensures.still last in
-    (IsSame-trans c.args.self.now c.loop-posted.self c.post_one.new.self before s.0, drained-same c.args.self.now c.loop-posted.self c.args.c before s.1)
+    IsSame-trans c.args.self.now c.loop-posted.self c.post_one.new.self (c.loop-posted.invariant.still none) (c.post_one.ensures.still last).0

@@ -1,7 +1,7 @@
 -- The front stays the same while completions are posted, and nothing changed as long as none was.
-use Rattle.std.proofs.Common.{◌≡◌, ◌<◌, ◌-◌, length, true, false}
+use Rattle.std.proofs.Common.{◌≡◌, ◌≢◌, ℕ, ◌<◌, ◌-◌, length, true, false}
 use Rattle.nvme_front.specs.Room.{IsKept}
-use Rattle.nvme_front.specs.Goes.{Goes, IsSame}
+use Rattle.nvme_front.specs.Goes.{Goes, IsSame, IsDrained}
 use Rattle.nvme_log.specs.Histories.{picks_in}
 use Rattle.nvme_front.proofs.state.FrontState.post_region.Given as goal
 
@@ -12,6 +12,7 @@ invariant-loop-posted l = record {
   jobs : l.self.jobs ≡ l.fn.self.jobs;
   picks : picks_in l.self.log.items ≡ picks_in l.fn.self.log.items;
   deletion : l.self.deletion ≡ l.fn.self.deletion;
+  others : (x : ℕ) → x ≢ l.fn.c → IsDrained l.fn.self x → IsDrained l.self x;
   more : l.posted ≡ true → length l.fn.self.log.items < length l.self.log.items;
   still : l.posted ≡ false → IsSame l.fn.self l.self;
 }

@@ -1,5 +1,6 @@
-use Rattle.std.proofs.Common.{Ok, Err, ap}
+use Rattle.std.proofs.Common.{Ok, Err, ap, sym, ◌∙◌}
 use Rattle.std.proofs.lemmas.Result.{err_from_is_err_and}
+use Rattle.nvme_front.proofs.Filling.{fills_pending, closed_no_pick}
 use Rattle.nvme_front.proofs.Still.{closed_means, log_error_means, balanced_still}
 use Rattle.nvme_front.proofs.state.FrontState.proceed.Goals as goal
 
@@ -20,3 +21,8 @@ returns-in_err-finished-clause-balanced g c = balanced_still c.args.self.now c.f
 
 pub returns-clause-balanced : goal.returns-clause-balanced
 returns-clause-balanced g c = balanced_still c.args.self.now c.finish.new.self c.finish.ensures.jobs
+
+pub returns-clause-filled : goal.returns-clause-filled
+returns-clause-filled g c =
+    fills_pending c.args.self.now c.finish.new.self c.in-Some.deletion c.requires.kept c.requires.admin c.in-Some.is c.step_after.result
+    (λ e. closed_no_pick c.in_ok-finished.finished (sym c.step_after.ensures ∙ e))

@@ -1,6 +1,7 @@
-use Rattle.std.proofs.Common.{◌∙◌, Ok, ap, sym, arith}
+use Rattle.std.proofs.Common.{◌∙◌, Ok, ap, sym, arith, below_more}
+use Rattle.nvme_front.specs.Goes.{IsScanned}
 use Rattle.nvme_front.proofs.States.{Goes-trans, IsSame-trans, admin-goes}
-use Rattle.nvme_front.proofs.Scans.{goes_longer, scanned_more}
+use Rattle.nvme_front.proofs.Scans.{goes_longer}
 use Rattle.nvme_front.proofs.state.FrontState.scan.Goals as goal
 use Rattle.nvme_front.proofs.state.FrontState.scan.Goals.{then-branch, else-branch}
 
@@ -22,12 +23,9 @@ loop-qid-preserved c =
       ];
       still = elim c.if-branch.branch [
         | then-branch w ↦ λ h. absurd (cc (w.fetched-is, h))
-        | else-branch w ↦ λ h. IsSame-trans _ _ _ (i.still (sym w.fetched-is ∙ h)) (e.still (was ∙ ap Ok w.if-branch.false)).0
+        | else-branch w ↦ λ h. IsSame-trans _ _ _ (i.still (sym w.fetched-is ∙ h)) (e.still (was ∙ ap Ok w.if-branch.false))
       ];
-      scanned = elim c.if-branch.branch [
-        | then-branch w ↦ λ h. absurd (cc (w.fetched-is, h))
-        | else-branch w ↦ λ h. let before = sym w.fetched-is ∙ h in scanned_more _ _ _ (i.still before) (i.scanned before) (e.still (was ∙ ap Ok w.if-branch.false)).1
-      ];
+      scanned = below_more (λ q. IsScanned c.scan_queue.new.self q) c.loop-qid.qid (λ q below. e.others q (λ same. omega (arith, below, same)) (i.scanned q below)) c.in_ok-scan_queue.ensures.scanned;
     }
 
 pub returns-in_err-scan_queue-clause-goes : goal.returns-in_err-scan_queue-clause-goes

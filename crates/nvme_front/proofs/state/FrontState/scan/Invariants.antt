@@ -14,5 +14,5 @@ invariant-loop-qid l = record {
   none_pending : l.self.deletion ≡ None;
   more : l.fetched ≡ true → length l.fn.self.log.items < length l.self.log.items;
   still : l.fetched ≡ false → IsSame l.fn.self l.self;
-  scanned : l.fetched ≡ false → (q : ℕ) → q < l.qid → IsScanned l.fn.self q;
+  scanned : (q : ℕ) → q < l.qid → IsScanned l.self q;
 }

@@ -1,7 +1,7 @@
 -- A command after another: each makes the log longer, and where none was fetched nothing changed.
 use Rattle.std.proofs.Common.{◌≡◌, ◌∙◌, true, false, Ok, ap, arith}
 use Rattle.nvme_front.proofs.States.{Goes-trans, IsSame-trans, admin-goes}
-use Rattle.nvme_front.proofs.Scans.{goes_longer, scanned_same}
+use Rattle.nvme_front.proofs.Scans.{goes_longer, scanned_on}
 use Rattle.nvme_front.proofs.state.FrontState.scan_queue.Goals as goal
 
 pub loop-fetched-preserved : goal.loop-fetched-preserved
@@ -18,6 +18,7 @@ loop-fetched-preserved c =
       picks = e.picks ∙ i.picks;
       admin = admin-goes c.loop-fetched.self c.fetch_one.new.self e.goes i.admin;
       none_pending = e.none_pending;
+      others = λ q other was. e.others q other (i.others q other was);
       more = λ t. omega (arith, before, more);
       still = λ f. cc f;
     }
@@ -35,10 +36,20 @@ returns-clause-more c = λ r.
     let longer = goes_longer c.loop-fetched.self c.fetch_one.new.self c.fetch_one.ensures.goes in
     omega (arith, more, longer)
 
+pub returns-in_err-fetch_one-clause-others : goal.returns-in_err-fetch_one-clause-others
+returns-in_err-fetch_one-clause-others c = λ q other was. c.fetch_one.ensures.others q other (c.loop-fetched.invariant.others q other was)
+
+pub returns-clause-others : goal.returns-clause-others
+returns-clause-others c = λ q other was. c.fetch_one.ensures.others q other (c.loop-fetched.invariant.others q other was)
+
+pub returns-clause-scanned : goal.returns-clause-scanned
+returns-clause-scanned c =
+    let last : c.fetch_one.result ≡ Ok false = c.in_ok-fetch_one.was ∙ ap Ok c.if-branch.false in
+    let s = c.fetch_one.ensures.still last in
+    scanned_on c.loop-fetched.self c.fetch_one.new.self s.0 c.args.qid s.1
+
 pub returns-clause-still : goal.returns-clause-still
 returns-clause-still c = λ r.
     let none : c.loop-fetched.fetched ≡ false = cc r in
-    let before = c.loop-fetched.invariant.still none in
     let last : c.fetch_one.result ≡ Ok false = c.in_ok-fetch_one.was ∙ ap Ok c.if-branch.false in
-    let s = c.fetch_one.ensures.still last in
-    (IsSame-trans c.args.self.now c.loop-fetched.self c.fetch_one.new.self before s.0, scanned_same c.args.self.now c.loop-fetched.self before c.args.qid s.1)
+    IsSame-trans c.args.self.now c.loop-fetched.self c.fetch_one.new.self (c.loop-fetched.invariant.still none) (c.fetch_one.ensures.still last).0

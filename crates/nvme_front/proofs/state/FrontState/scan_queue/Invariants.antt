@@ -1,6 +1,6 @@
-use Rattle.std.proofs.Common.{◌≡◌, ◌-◌, ◌<◌, length, None, true, false}
+use Rattle.std.proofs.Common.{◌≡◌, ◌≢◌, ℕ, ◌-◌, ◌<◌, length, None, true, false}
 use Rattle.nvme_front.specs.Room.{IsKept}
-use Rattle.nvme_front.specs.Goes.{Goes, IsSame, HasAdmin}
+use Rattle.nvme_front.specs.Goes.{Goes, IsSame, HasAdmin, IsScanned}
 use Rattle.nvme_log.specs.Histories.{picks_in}
 use Rattle.nvme_front.proofs.state.FrontState.scan_queue.Given as goal
 
@@ -12,6 +12,7 @@ invariant-loop-fetched l = record {
   picks : picks_in l.self.log.items ≡ picks_in l.fn.self.log.items;
   admin : HasAdmin l.self;
   none_pending : l.self.deletion ≡ None;
+  others : (q : ℕ) → q ≢ l.fn.qid → IsScanned l.fn.self q → IsScanned l.self q;
   more : l.fetched ≡ true → length l.fn.self.log.items < length l.self.log.items;
   still : l.fetched ≡ false → IsSame l.fn.self l.self;
 }

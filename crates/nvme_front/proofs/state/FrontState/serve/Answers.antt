@@ -1,8 +1,13 @@
-use Rattle.std.proofs.Common.{ℕ, ◌+◌, Ok, Err, ap, ◌∙◌}
+use Rattle.std.proofs.Common.{ℕ, ◌+◌, Ok, Err, ap, sym, subst, ◌∙◌}
 use Rattle.std.proofs.lemmas.Result.{err_from_is_err_and}
 use Rattle.nvme_log.specs.Histories.{picks_in}
 use Rattle.nvme_front.proofs.States.{Goes-trans, admin-goes}
 use Rattle.nvme_front.proofs.Still.{served_means, log_error_means, pick_error_means, picked_balanced, balanced_still, balanced_trans}
+use Rattle.nvme_front.specs.State.{gets_of}
+use Rattle.nvme_front.specs.View.{FillsWindows, view_of}
+use Rattle.nvme_front.specs.declared.front.Step.{Step}
+use Rattle.nvme_front.proofs.Filling.{picks_one, serves_filled}
+use Rattle.nvme_front.proofs.Scans.{scanned_same}
 use Rattle.nvme_front.proofs.state.FrontState.serve.Goals as goal
 
 pub returns-in_err-fetched-clause-error : goal.returns-in_err-fetched-clause-error
@@ -41,7 +46,7 @@ returns-in_default-clause-step g c =
     let scan = c.in_ok-fetched.ensures in
     let pick = c.in_ok-picked.ensures in
     served_means c.args.self.now c.scan.new.self c.pick.new.self pick.goes c.requires.none_pending scan.picks
-    c.in_ok-fetched.fetched (λ t. scan.more (ap Ok t)) (λ f. scan.still (ap Ok f)) c.in_ok-picked.picked
+    c.in_ok-fetched.fetched (λ t. scan.more (ap Ok t)) (λ f. let same = scan.still (ap Ok f) in (same, λ q few. scanned_same c.args.self.now c.scan.new.self same q (scan.scanned q few))) c.in_ok-picked.picked
     (λ e. pick.picked (ap Ok e)) (λ e. pick.never_moved (ap Ok e)) (λ e. pick.idle (ap Ok e)) (λ e. let s = pick.stalled (ap Ok e) in (s.0, (s.1, s.2))) c.step_after.result c.step_after.ensures
 
 pub returns-in_err-fetched-clause-balanced : goal.returns-in_err-fetched-clause-balanced
@@ -57,3 +62,17 @@ pub returns-in-Picked-clause-balanced : goal.returns-in-Picked-clause-balanced
 returns-in-Picked-clause-balanced g c =
     balanced_trans c.args.self.now c.pick.new.self c.hand.new.self (Goes-trans _ _ _ c.scan.ensures.goes c.pick.ensures.goes)
     (picked_balanced c.args.self.now c.scan.new.self c.pick.new.self c.scan.ensures.goes c.scan.ensures.jobs c.pick.ensures.seat c.pick.ensures.running) c.hand.ensures.balanced
+
+pub returns-in-Picked-clause-filled : goal.returns-in-Picked-clause-filled
+returns-in-Picked-clause-filled g c =
+    picks_one c.args.self.now c.scan.new.self c.hand.new.self c.scan.ensures.kept (admin-goes c.args.self.now c.scan.new.self c.scan.ensures.goes c.requires.admin)
+    c.in_ok-fetched.ensures.scanned c.scan.ensures.goes (Goes-trans c.scan.new.self c.pick.new.self c.hand.new.self c.pick.ensures.goes c.hand.ensures.goes) c.scan.ensures.picks
+    (ap gets_of c.hand.ensures.sqs ∙ c.pick.ensures.gets) c.pick.new.self (c.in_ok-picked.ensures.picks_of (ap Ok c.in-Picked.is)) c.hand.ensures.log
+
+pub returns-in_default-clause-filled : goal.returns-in_default-clause-filled
+returns-in_default-clause-filled g c =
+    let pick = c.in_ok-picked.ensures in
+    subst (λ (s : Step). FillsWindows s (view_of c.args.self.now) (view_of c.pick.new.self)) (sym c.step_after.ensures)
+    (serves_filled c.args.self.now c.scan.new.self c.pick.new.self c.scan.ensures.kept (admin-goes c.args.self.now c.scan.new.self c.scan.ensures.goes c.requires.admin)
+    c.in_ok-fetched.ensures.scanned pick.kept c.scan.ensures.goes pick.goes c.scan.ensures.picks pick.gets c.in_ok-fetched.fetched c.in_ok-picked.picked
+    (λ e. pick.picks_of (ap Ok e)) (λ e. pick.never_moved (ap Ok e)) (λ e. (pick.idle (ap Ok e)).0) (λ e. (pick.stalled (ap Ok e)).0))
