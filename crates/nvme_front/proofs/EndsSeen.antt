@@ -1,6 +1,7 @@
 -- A front's view of its ends, and what it accounts for.
-use Rattle.std.proofs.Common.{◌≡◌, ℕ, zero, suc, ◌<◌, false, Bool, List, [], ◌∷◌, map, length, get_or, refl, sym, ap, ◌∙◌, subst}
-use Rattle.std.proofs.lemmas.List.{length-map}
+use Rattle.std.proofs.Common.{◌≡◌, ℕ, zero, suc, ◌<◌, false, Bool, List, [], ◌∷◌, ◌++◌, map, length, get_or, refl, sym, ap, ◌∙◌, subst}
+use Rattle.std.proofs.lemmas.List.{append-nil, length-map}
+use Rattle.nvme_lane.proofs.Prefixes.{IsPrefix-trans}
 use Rattle.nvme_entry.specs.declared.submission.Sqe.{Sqe}
 use Rattle.nvme_entry.specs.declared.completion.Cqe.{Cqe}
 use Rattle.nvme_front.specs.declared.state.FrontState.{FrontState}
@@ -14,7 +15,7 @@ use Rattle.nvme_state.specs.Standing.{Stands}
 use Rattle.nvme_front.specs.Room.{IsKept}
 use Rattle.nvme_front.specs.Goes.{Goes, HasAdmin}
 use Rattle.nvme_front.specs.View.{FrontView, view_of, got_in, known_in, sent_in, free_in, AccountsForEnds, GoesOn}
-use Rattle.nvme_front.proofs.States.{rules-goes}
+use Rattle.nvme_front.proofs.States.{SameSeat-refl, rules-goes}
 use Rattle.nvme_front.proofs.Comes.{comes-seen}
 use Rattle.nvme_state.proofs.Accounted.{account_is, fetched_is_got, posted_is_sent}
 
@@ -77,4 +78,31 @@ view_goes_on a b g = record {
   comes = comes-seen a b g.comes;
   came = g.came;
   seat = g.seat;
+}
+
+-- the same front, and one later on than another
+pub GoesOn-refl : (v : FrontView) → GoesOn v v
+GoesOn-refl v = record {
+  grew = ([], append-nil v.log);
+  rules = refl;
+  limit = refl;
+  late = refl;
+  gets = refl;
+  puts = refl;
+  comes = λ r. ([], append-nil (got_in v r ++ known_in v r));
+  came = refl;
+  seat = SameSeat-refl v.hands.seat;
+}
+
+pub GoesOn-trans : (u v w : FrontView) → GoesOn u v → GoesOn v w → GoesOn u w
+GoesOn-trans u v w g h = record {
+  grew = IsPrefix-trans u.log v.log w.log g.grew h.grew;
+  rules = h.rules ∙ g.rules;
+  limit = h.limit ∙ g.limit;
+  late = h.late ∙ g.late;
+  gets = h.gets ∙ g.gets;
+  puts = h.puts ∙ g.puts;
+  comes = λ r. IsPrefix-trans (got_in u r ++ known_in u r) (got_in v r ++ known_in v r) (got_in w r ++ known_in w r) (g.comes r) (h.comes r);
+  came = h.came ∙ g.came;
+  seat = record { lane = h.seat.lane ∙ g.seat.lane; parts = h.seat.parts ∙ g.seat.parts; rings = h.seat.rings ∙ g.seat.rings };
 }

@@ -12,6 +12,7 @@ use Rattle.nvme_state.specs.declared.candidate.Candidate.{Candidate}
 use Rattle.nvme_state.specs.declared.candidate.PendingDelete.{PendingDelete}
 use Rattle.nvme_front.specs.declared.front.Step.{Step}
 use Rattle.nvme_front.specs.declared.front.Step.TheVariants.{Picked, Moved, Idle, Stalled}
+use Rattle.nvme_state.specs.declared.region.CqRegion.{CqRegion}
 use Rattle.nvme_front.specs.declared.state.FrontState.{FrontState}
 use Rattle.nvme_log.specs.Limits.{admin_events}
 use Rattle.nvme_log.specs.Rules.{FrontRules, Past, window_at, slots_at, sq_regions_of}
@@ -19,15 +20,15 @@ use Rattle.nvme_log.specs.Queues.{Queue, Deletion, open_sq, pending}
 use Rattle.nvme_log.specs.Places.{waiting}
 use Rattle.nvme_log.specs.Histories.{picks_in}
 use Rattle.nvme_state.specs.Standing.{Stands, as_deletion}
-use Rattle.nvme_front.specs.State.{kept_of, rules_of, past_of, gets_of}
+use Rattle.nvme_front.specs.State.{kept_of, rules_of, past_of, gets_of, cq_in}
 use Rattle.nvme_front.specs.Room.{IsKept}
-use Rattle.nvme_front.specs.Goes.{Goes, IsSame, HasAdmin, AllScanned, IsTaken, IsFullSq}
-use Rattle.nvme_front.specs.View.{FrontView, view_of, known_in, IsFilled, AreFilled, PicksOne, FillsWindows}
+use Rattle.nvme_front.specs.Goes.{Goes, IsSame, HasAdmin, AllDrained, AllScanned, IsTaken, IsFullSq}
+use Rattle.nvme_front.specs.View.{FrontView, view_of, known_in, IsFilled, AreFilled, PicksOne, EndsSteps, GoesToEnd}
 use Rattle.nvme_front.specs.Turn.{IsPickOf, told_after}
 use Rattle.nvme_front.proofs.States.{rules-goes, admin-goes}
 use Rattle.nvme_front.proofs.Still.{scanned_same}
 use Rattle.nvme_front.proofs.EndsSeen.{known_in-kept}
-use Rattle.nvme_front.proofs.Turns.{open_entry}
+use Rattle.nvme_front.proofs.Turns.{open_entry, none_can_be_posted}
 
 -- ---- windows that are filled
 module _ (s : FrontState) (h : Stands (rules_of s) s.late (past_of s) (kept_of s)) where
@@ -61,11 +62,16 @@ filled_later s t goes gets filled = λ q queue is.
     (λ none. inr (known ∙ none))
     (filled q queue is)
 
+-- ---- completions that are posted
+-- drained regions stay so as long as the regions stay
+pub drained_later : (a b : FrontState) → b.cqs.items ≡ a.cqs.items → AllDrained a → AllDrained b
+drained_later a b cqs h = subst (λ (xs : List CqRegion). (c : ℕ) → c < length xs → ((cq_in xs c).ready ≡ []) ⊎ ((cq_in xs c).free ≡ 0)) (sym cqs) h
+
 -- ---- what a turn's answer says of them
 -- a pick after a scan
-pub picks_one : (a s t : FrontState) → IsKept s → HasAdmin s → AllScanned s → Goes a s → Goes s t → picks_in s.log.items ≡ picks_in a.log.items
-    → gets_of t.sqs.items ≡ gets_of s.sqs.items → (p : FrontState) → IsPickOf s p → t.log.items ≡ p.log.items → PicksOne (view_of a) (view_of t)
-picks_one a s t kept admin scanned as_ goes picks gets p pick log = record {
+pub picks_one : (a s p t : FrontState) → IsKept s → HasAdmin s → AllScanned s → AllDrained s → IsKept t → Goes a s → Goes s t → picks_in s.log.items ≡ picks_in a.log.items
+    → gets_of t.sqs.items ≡ gets_of s.sqs.items → IsPickOf s p → t.log.items ≡ p.log.items → t.cqs.items ≡ p.cqs.items → PicksOne (view_of a) (view_of t)
+picks_one a s p t kept admin scanned drained kept' as_ goes picks gets pick log cqs = record {
   before = s.log.items;
   seen = pick.seen;
   pick = pick.pick;
@@ -75,85 +81,90 @@ picks_one a s t kept admin scanned as_ goes picks gets p pick log = record {
   first = picks;
   room = λ of_admin. subst (λ (n : ℕ). length s.log.items + admin_events ≤ n) (sym (λ i. (goes.config i).max_events)) (pick.room of_admin);
   filled = filled_later s t goes gets (all_filled s kept admin scanned);
+  posted = λ io. none_can_be_posted t kept' (admin-goes s t goes admin) (drained_later s t (cqs ∙ pick.cqs io) drained);
 }
-
--- an answer that isn't a pick
-pub fills_none : (a t : FrontState) → AreFilled (view_of t) (past_of t) → (step : Step) → step ≢ Picked → FillsWindows step (view_of a) (view_of t)
-fills_none a t filled Picked other = absurd (other refl)
-fills_none a t filled Moved other = λ none. filled
-fills_none a t filled Idle other = λ none. filled
-fills_none a t filled Stalled other = λ none. filled
-
--- an answer that isn't a pick, where a deletion was pending
-pub fills_pending : (a t : FrontState) (d : PendingDelete) → IsKept a → HasAdmin a → a.deletion ≡ Some d → (step : Step) → step ≢ Picked
-    → FillsWindows step (view_of a) (view_of t)
-fills_pending a t d kept admin is step other =
-    by step other where
-      pending_is : pending (past_of a) ≡ Some (as_deletion d)
-      pending_is = (kept.stands admin.0 admin.1).deletion.pending_is ∙ ap (λ (o : Option PendingDelete). option_map as_deletion o) is
-
-      none_is : pending (past_of a) ≡ None → ⊥
-      none_is none = let it = pending_is in cc
-
-      by : (step : Step) → step ≢ Picked → FillsWindows step (view_of a) (view_of t)
-      by Picked other = absurd (other refl)
-      by Moved other = λ none. absurd (none_is none)
-      by Idle other = λ none. absurd (none_is none)
-      by Stalled other = λ none. absurd (none_is none)
 
 -- a scan, and then a look for a pick
-pub serves_filled : (a s p : FrontState) → IsKept s → HasAdmin s → AllScanned s → IsKept p → Goes a s → Goes s p → picks_in s.log.items ≡ picks_in a.log.items
+pub serves_to_end : (a s p : FrontState) → IsKept s → HasAdmin s → AllScanned s → AllDrained s → IsKept p → Goes a s → Goes s p → picks_in s.log.items ≡ picks_in a.log.items
     → gets_of p.sqs.items ≡ gets_of s.sqs.items → (fetched : Bool) (picked : Step) → (picked ≡ Picked → IsPickOf s p) → (picked ≡ Moved → ⊥)
-    → (picked ≡ Idle → IsSame s p) → (picked ≡ Stalled → IsSame s p) → FillsWindows (told_after fetched picked) (view_of a) (view_of p)
-serves_filled a s p kept admin scanned kept' as_ sp picks gets fetched picked one never idle stalled =
+    → (picked ≡ Idle → IsSame s p) → (picked ≡ Stalled → IsSame s p) → GoesToEnd (told_after fetched picked) (view_of a) (view_of p)
+serves_to_end a s p kept admin scanned drained kept' as_ sp picks gets fetched picked one never idle stalled =
     by fetched picked one never idle stalled where
-      same_filled : IsSame s p → AreFilled (view_of p) (past_of p)
-      same_filled same = all_filled p kept' (admin-goes s p sp admin) (scanned_same s p same scanned)
+      same_ends : IsSame s p → EndsSteps (view_of a) (view_of p)
+      same_ends same = record {
+        filled = λ none. all_filled p kept' (admin-goes s p sp admin) (scanned_same s p same scanned);
+        posted = λ still. none_can_be_posted p kept' (admin-goes s p sp admin) (drained_later s p same.cqs drained);
+      }
 
       by : (fetched : Bool) (picked : Step) → (picked ≡ Picked → IsPickOf s p) → (picked ≡ Moved → ⊥) → (picked ≡ Idle → IsSame s p)
-          → (picked ≡ Stalled → IsSame s p) → FillsWindows (told_after fetched picked) (view_of a) (view_of p)
-      by true Picked one never idle stalled = picks_one a s p kept admin scanned as_ sp picks gets p (one refl) refl
-      by false Picked one never idle stalled = picks_one a s p kept admin scanned as_ sp picks gets p (one refl) refl
+          → (picked ≡ Stalled → IsSame s p) → GoesToEnd (told_after fetched picked) (view_of a) (view_of p)
+      by true Picked one never idle stalled = picks_one a s p p kept admin scanned drained kept' as_ sp picks gets (one refl) refl refl
+      by false Picked one never idle stalled = picks_one a s p p kept admin scanned drained kept' as_ sp picks gets (one refl) refl refl
       by fetched Moved one never idle stalled = absurd (never refl)
-      by true Idle one never idle stalled = λ none. same_filled (idle refl)
-      by false Idle one never idle stalled = λ none. same_filled (idle refl)
-      by true Stalled one never idle stalled = λ none. same_filled (stalled refl)
-      by false Stalled one never idle stalled = λ none. same_filled (stalled refl)
+      by true Idle one never idle stalled = same_ends (idle refl)
+      by false Idle one never idle stalled = same_ends (idle refl)
+      by true Stalled one never idle stalled = same_ends (stalled refl)
+      by false Stalled one never idle stalled = same_ends (stalled refl)
 
--- what a finished deletion is told as isn't a pick
-pub closed_no_pick : (finished : Bool) → told_after finished Idle ≢ Picked
-closed_no_pick true = λ e. cc e
-closed_no_pick false = λ e. cc e
+-- the deletion that is pending, as the log has it
+pub pending_at : (s : FrontState) → IsKept s → HasAdmin s → (o : Option PendingDelete) → s.deletion ≡ o → pending (past_of s) ≡ option_map as_deletion o
+pending_at s kept admin o is = (kept.stands admin.0 admin.1).deletion.pending_is ∙ ap (λ (x : Option PendingDelete). option_map as_deletion x) is
+
+-- a deletion that was pending, finished or not
+pub closes_to_end : (a t : FrontState) (d : PendingDelete) → IsKept a → HasAdmin a → IsKept t → Goes a t → AllDrained a → a.deletion ≡ Some d → (finished : Bool)
+    → (finished ≡ true → t.deletion ≡ None) → (finished ≡ false → IsSame a t) → GoesToEnd (told_after finished Idle) (view_of a) (view_of t)
+closes_to_end a t d kept admin kept' goes drained is finished done still =
+    by finished done still where
+      was : pending (past_of a) ≡ Some (as_deletion d)
+      was = pending_at a kept admin (Some d) is
+
+      none_filled : pending (past_of a) ≡ None → AreFilled (view_of t) (past_of t)
+      none_filled none = absurd (let it = was in cc)
+
+      by : (finished : Bool) → (finished ≡ true → t.deletion ≡ None) → (finished ≡ false → IsSame a t) → GoesToEnd (told_after finished Idle) (view_of a) (view_of t)
+      by true done still = record {
+        filled = none_filled;
+        posted = λ same. absurd (let it = was in let now = pending_at t kept' (admin-goes a t goes admin) None (done refl) in cc);
+      }
+      by false done still = record {
+        filled = none_filled;
+        posted = λ same. none_can_be_posted t kept' (admin-goes a t goes admin) (drained_later a t (still refl).cqs drained);
+      }
 
 -- ---- since a time before
--- no deletion is pending where none was
-pub pending_since : (a b : FrontState) → IsKept a → HasAdmin a → IsKept b → HasAdmin b → b.deletion ≡ a.deletion → pending (past_of a) ≡ None → pending (past_of b) ≡ None
-pending_since a b kept admin kept' admin' same none =
-    (kept'.stands admin'.0 admin'.1).deletion.pending_is ∙ ap (λ (o : Option PendingDelete). option_map as_deletion o) same
-    ∙ sym (kept.stands admin.0 admin.1).deletion.pending_is ∙ none
+-- the same deletion was pending, or none
+module _ (a b : FrontState) (kept : IsKept a) (admin : HasAdmin a) (kept' : IsKept b) (goes : Goes a b) (same : b.deletion ≡ a.deletion)
+    (picks : picks_in b.log.items ≡ picks_in a.log.items) (c : FrontState) where
+  pending_since : pending (past_of b) ≡ pending (past_of a)
+  pending_since = pending_at b kept' (admin-goes a b goes admin) a.deletion same ∙ sym (pending_at a kept admin a.deletion refl)
 
-pub fills_since : (a b c : FrontState) → IsKept a → HasAdmin a → IsKept b → HasAdmin b → Goes a b → b.deletion ≡ a.deletion → picks_in b.log.items ≡ picks_in a.log.items
-    → (step : Step) → FillsWindows step (view_of b) (view_of c) → FillsWindows step (view_of a) (view_of c)
-fills_since a b c kept admin kept' admin' goes same picks Picked it = record {
-  before = it.before;
-  seen = it.seen;
-  pick = it.pick;
-  after = it.after;
-  log_is = it.log_is;
-  since = IsPrefix-trans a.log.items b.log.items it.before goes.grew it.since;
-  first = it.first ∙ picks;
-  room = it.room;
-  filled = it.filled;
-}
-fills_since a b c kept admin kept' admin' goes same picks Moved it = λ none. it (pending_since a b kept admin kept' admin' same none)
-fills_since a b c kept admin kept' admin' goes same picks Idle it = λ none. it (pending_since a b kept admin kept' admin' same none)
-fills_since a b c kept admin kept' admin' goes same picks Stalled it = λ none. it (pending_since a b kept admin kept' admin' same none)
+  ends_since : EndsSteps (view_of b) (view_of c) → EndsSteps (view_of a) (view_of c)
+  ends_since it = record {
+    filled = λ none. it.filled (pending_since ∙ none);
+    posted = λ still. it.posted (still ∙ sym pending_since);
+  }
 
--- what was done before an answer makes no difference
-pub fills_after : (a b c : FrontState) → IsKept a → HasAdmin a → IsKept b → HasAdmin b → Goes a b → b.deletion ≡ a.deletion → picks_in b.log.items ≡ picks_in a.log.items
-    → (moved : Bool) (step : Step) → FillsWindows step (view_of b) (view_of c) → FillsWindows (told_after moved step) (view_of a) (view_of c)
-fills_after a b c kept admin kept' admin' goes same picks false step it = fills_since a b c kept admin kept' admin' goes same picks step it
-fills_after a b c kept admin kept' admin' goes same picks true Picked it = fills_since a b c kept admin kept' admin' goes same picks Picked it
-fills_after a b c kept admin kept' admin' goes same picks true Moved it = fills_since a b c kept admin kept' admin' goes same picks Moved it
-fills_after a b c kept admin kept' admin' goes same picks true Idle it = fills_since a b c kept admin kept' admin' goes same picks Idle it
-fills_after a b c kept admin kept' admin' goes same picks true Stalled it = fills_since a b c kept admin kept' admin' goes same picks Stalled it
+  picks_since : PicksOne (view_of b) (view_of c) → PicksOne (view_of a) (view_of c)
+  picks_since it = record {
+    before = it.before;
+    seen = it.seen;
+    pick = it.pick;
+    after = it.after;
+    log_is = it.log_is;
+    since = IsPrefix-trans a.log.items b.log.items it.before goes.grew it.since;
+    first = it.first ∙ picks;
+    room = it.room;
+    filled = it.filled;
+    posted = it.posted;
+  }
+
+  -- what was done before an answer makes no difference
+  pub to_end_after : (moved : Bool) (step : Step) → GoesToEnd step (view_of b) (view_of c) → GoesToEnd (told_after moved step) (view_of a) (view_of c)
+  to_end_after true Picked it = picks_since it
+  to_end_after true Moved it = ends_since it
+  to_end_after true Idle it = ends_since it
+  to_end_after true Stalled it = ends_since it
+  to_end_after false Picked it = picks_since it
+  to_end_after false Moved it = ends_since it
+  to_end_after false Idle it = ends_since it
+  to_end_after false Stalled it = ends_since it

@@ -70,3 +70,4 @@ pub record IsPickOf (old new : FrontState) : Type 0 where
   pub after : List Event
   pub log_is : new.log.items ≡ old.log.items ++ event.Pick seen pick ∷ after
   pub room : pick.qid ≡ 0 → length old.log.items + admin_events ≤ old.config.max_events
+  pub cqs : pick.qid ≢ 0 → new.cqs.items ≡ old.cqs.items

@@ -1,5 +1,5 @@
 -- What a contract sees of a front, and what its answers mean (profile; Base Specification, Submission Queue and Completion Queue, Command Arbitration).
-use Rattle.std.specs.Prelude.{◌≡◌, ◌⊎◌, ℕ, ◌+◌, ◌<◌, ◌≤◌, ◌==◌, ◌&&◌, ◌||◌, Bool, true, false, List, [], ◌∷◌, ◌++◌, length, map, Option, Some, None, slice_index_or, reverse}
+use Rattle.std.specs.Prelude.{◌≡◌, ◌≢◌, ◌⊎◌, ℕ, ◌+◌, ◌<◌, ◌≤◌, ◌==◌, ◌&&◌, ◌||◌, Bool, true, false, List, [], ◌∷◌, ◌++◌, length, map, Option, Some, None, slice_index_or, reverse}
 use Rattle.std.specs.List.{All, list_any}
 use mathlib.Core.List.{IsPrefix}
 use Rattle.nvme_entry.specs.declared.submission.Sqe.{Sqe}
@@ -202,7 +202,8 @@ IsFilled v past queue = (window_at v.rules queue.region ≤ length (waiting past
 abbrev pub AreFilled : FrontView → Past → Type 0
 AreFilled v past = (q : ℕ) (queue : Queue) → open_sq past q ≡ Some queue → IsFilled v past queue
 
--- the one pick of a turn, made when each window was filled. The pick of an admin command had the events that its effect may need
+-- the one pick of a turn, made when each window was filled and no ready completion could be posted. The pick of an admin command had the
+-- events that its effect may need
 pub record PicksOne (old new : FrontView) : Type 0 where
   pub before : List Event
   pub seen : ArrayVec Seen
@@ -213,13 +214,19 @@ pub record PicksOne (old new : FrontView) : Type 0 where
   pub first : picks_in before ≡ picks_in old.log
   pub room : pick.qid ≡ 0 → length before + admin_events ≤ new.limit
   pub filled : AreFilled new (reverse before)
+  pub posted : pick.qid ≢ 0 → NoneCanBePosted new
 
--- the windows were filled before a pick, and where none was made and no deletion was pending they are filled
-abbrev pub FillsWindows : Step → FrontView → FrontView → Type 0
-FillsWindows Picked old new = PicksOne old new
-FillsWindows Moved old new = pending (past_in old) ≡ None → AreFilled new (past_in new)
-FillsWindows Idle old new = pending (past_in old) ≡ None → AreFilled new (past_in new)
-FillsWindows Stalled old new = pending (past_in old) ≡ None → AreFilled new (past_in new)
+-- where no deletion was pending each window is filled, and where none was finished no ready completion can be posted
+pub record EndsSteps (old new : FrontView) : Type 0 where
+  pub filled : pending (past_in old) ≡ None → AreFilled new (past_in new)
+  pub posted : pending (past_in new) ≡ pending (past_in old) → NoneCanBePosted new
+
+-- each step of a turn went on as far as it could
+abbrev pub GoesToEnd : Step → FrontView → FrontView → Type 0
+GoesToEnd Picked old new = PicksOne old new
+GoesToEnd Moved old new = EndsSteps old new
+GoesToEnd Idle old new = EndsSteps old new
+GoesToEnd Stalled old new = EndsSteps old new
 
 -- the regions of a front's rules are those of its ends
 abbrev pub HasItsRegions : FrontView → Type 0

@@ -20,6 +20,7 @@ impl FrontState {
         requires none_pending { self.old.deletion ≡ None }
         ensures kept { IsKept self.new }
         ensures goes { Goes self.old self.new }
+        ensures cqs { self.new.cqs.items ≡ self.old.cqs.items }
         ensures jobs { self.new.jobs ≡ self.old.jobs }
         ensures picks { picks_in self.new.log.items ≡ picks_in self.old.log.items }
         ensures none_pending { self.new.deletion ≡ None }
@@ -59,6 +60,7 @@ impl FrontState {
         requires none_pending { self.old.deletion ≡ None }
         ensures kept { IsKept self.new }
         ensures goes { Goes self.old self.new }
+        ensures cqs { self.new.cqs.items ≡ self.old.cqs.items }
         ensures jobs { self.new.jobs ≡ self.old.jobs }
         ensures picks { picks_in self.new.log.items ≡ picks_in self.old.log.items }
         ensures none_pending { self.new.deletion ≡ None }
@@ -83,6 +85,7 @@ impl FrontState {
         requires none_pending { self.old.deletion ≡ None }
         ensures kept { IsKept self.new }
         ensures goes { Goes self.old self.new }
+        ensures cqs { self.new.cqs.items ≡ self.old.cqs.items }
         ensures jobs { self.new.jobs ≡ self.old.jobs }
         ensures picks { picks_in self.new.log.items ≡ picks_in self.old.log.items }
         ensures none_pending { self.new.deletion ≡ None }

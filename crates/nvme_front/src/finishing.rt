@@ -24,6 +24,7 @@ impl FrontState {
         ensures goes { Goes self.old self.new }
         ensures jobs { self.new.jobs ≡ self.old.jobs }
         ensures picks { picks_in self.new.log.items ≡ picks_in self.old.log.items }
+        ensures finished { result ≡ Ok true → self.new.deletion ≡ None }
         ensures more { result ≡ Ok true → length self.new.log.items ≡ length self.old.log.items + 1 }
         ensures still { result ≡ Ok false → IsSame self.old self.new × ((sq_in self.old.sqs.items deletion.region).unposted ≢ 0) }
         ensures full { result ≡ Err LogFull → self.new.config.max_events < length self.new.log.items + 1 }

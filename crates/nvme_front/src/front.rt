@@ -89,7 +89,7 @@ impl Front {
     ghost use Rattle.nvme_state.specs.JobAccount.{AccountsForJobs};
     ghost use Rattle.std.specs.List.{All};
     ghost use Rattle.nvme_pool.specs.Seat.{IsUnknown};
-    ghost use Rattle.nvme_front.specs.View.{AccountsForEnds, GoesOn, HasItsRegions, HasNoStray, FillsWindows, StepMeans, ErrorMeans, is_address, past_in};
+    ghost use Rattle.nvme_front.specs.View.{AccountsForEnds, GoesOn, HasItsRegions, HasNoStray, GoesToEnd, StepMeans, ErrorMeans, is_address, past_in};
     ghost use Rattle.nvme_log.specs.Account.{IsClear};
     ghost use Rattle.nvme_log.specs.Queues.{is_serving};
     ghost use Rattle.nvme_front.specs.declared.front.AddError.TheVariants.{Used, TooMany, NoMemory};
@@ -179,7 +179,7 @@ impl Front {
         ensures account { self.new.late ≡ false → AccountsForEnds self.new }
         ensures jobs { AccountsForJobs self.new.rules.sizes (past_in self.new) self.new.hands }
         ensures step { IfOk result (λ step. StepMeans step self.old self.new) }
-        ensures filled { IfOk result (λ step. FillsWindows step self.old self.new) }
+        ensures to_end { IfOk result (λ step. GoesToEnd step self.old self.new) }
         ensures no_stray { OnOk result (HasNoStray self.old self.new) }
         ensures none_known { OnOk result (All IsUnknown self.new.hands.seat.ends) }
         ensures within { length self.new.log ≤ self.new.limit }

@@ -25,6 +25,7 @@ impl FrontState {
         ensures goes { Goes self.old self.new }
         ensures log { self.new.log.items ≡ self.old.log.items }
         ensures sqs { self.new.sqs.items ≡ self.old.sqs.items }
+        ensures cqs { self.new.cqs.items ≡ self.old.cqs.items }
         ensures deletion { self.new.deletion ≡ self.old.deletion }
         ensures ends { self.new.jobs.hands.seat.ends ≡ self.old.jobs.hands.seat.ends }
         ensures balanced { Balanced self.old self.new }
@@ -44,6 +45,7 @@ impl FrontState {
         ensures goes { Goes self.old self.new }
         ensures log { self.new.log.items ≡ self.old.log.items }
         ensures sqs { self.new.sqs.items ≡ self.old.sqs.items }
+        ensures cqs { self.new.cqs.items ≡ self.old.cqs.items }
         ensures deletion { self.new.deletion ≡ self.old.deletion }
         ensures ends { self.new.jobs.hands.seat.ends ≡ self.old.jobs.hands.seat.ends }
         ensures balanced { Balanced self.old self.new }

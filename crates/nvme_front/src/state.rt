@@ -34,8 +34,8 @@ impl FrontState {
     ghost use Rattle.std.specs.Prelude.{◌≡◌, ◌↔◌, length, None, IfOk, OnOk, IfErr, IsTrue, ◌&&◌, nat_lt};
     ghost use Rattle.nvme_front.specs.Room.{IsKept};
     ghost use Rattle.nvme_front.specs.State.{past_of};
-    ghost use Rattle.nvme_front.specs.Goes.{Goes, HasAdmin};
-    ghost use Rattle.nvme_front.specs.View.{view_of, HasNoPickMore, FillsWindows, StepMeans, ErrorMeans};
+    ghost use Rattle.nvme_front.specs.Goes.{Goes, HasAdmin, AllDrained};
+    ghost use Rattle.nvme_front.specs.View.{view_of, HasNoPickMore, GoesToEnd, StepMeans, ErrorMeans};
     ghost use Rattle.std.specs.List.{All};
     ghost use Rattle.nvme_pool.specs.Seat.{IsUnknown};
     ghost use Rattle.nvme_front.specs.Turn.{HasDone, Proceeds, Balanced};
@@ -50,7 +50,7 @@ impl FrontState {
         ensures kept { IsKept self.new }
         ensures goes { Goes self.old self.new }
         ensures step { IfOk result (λ step. StepMeans step (view_of self.old) (view_of self.new)) }
-        ensures filled { IfOk result (λ step. FillsWindows step (view_of self.old) (view_of self.new)) }
+        ensures to_end { IfOk result (λ step. GoesToEnd step (view_of self.old) (view_of self.new)) }
         ensures balanced { OnOk result (Balanced self.old self.new) }
         ensures none_known { OnOk result (All IsUnknown self.new.jobs.hands.seat.ends) }
         ensures error { IfErr result (λ error. ErrorMeans error (view_of self.old) (view_of self.new)) }
@@ -67,6 +67,7 @@ impl FrontState {
         requires seat { self.old.jobs.hands.seat.lane ≡ lanes.now }
         ensures kept { IsKept self.new }
         ensures goes { Goes self.old self.new }
+        ensures drained { OnOk result (AllDrained self.new) }
         ensures picks { HasNoPickMore (view_of self.old) (view_of self.new) }
         ensures done { IfOk result (λ moved. HasDone moved self.old self.new) }
         ensures deletion { self.new.deletion ≡ self.old.deletion }
@@ -85,10 +86,11 @@ impl FrontState {
         requires kept { IsKept self.old }
         requires admin { HasAdmin self.old }
         requires seat { self.old.jobs.hands.seat.lane ≡ lanes.now }
+        requires drained { AllDrained self.old }
         ensures kept { IsKept self.new }
         ensures goes { Goes self.old self.new }
         ensures step { IfOk result (λ step. Proceeds step self.old self.new) }
-        ensures filled { IfOk result (λ step. FillsWindows step (view_of self.old) (view_of self.new)) }
+        ensures to_end { IfOk result (λ step. GoesToEnd step (view_of self.old) (view_of self.new)) }
         ensures balanced { Balanced self.old self.new }
         ensures ends { self.new.jobs.hands.seat.ends ≡ self.old.jobs.hands.seat.ends }
         ensures error { IfErr result (λ error. ErrorMeans error (view_of self.old) (view_of self.new)) }
@@ -105,11 +107,12 @@ impl FrontState {
         requires kept { IsKept self.old }
         requires admin { HasAdmin self.old }
         requires seat { self.old.jobs.hands.seat.lane ≡ lanes.now }
+        requires drained { AllDrained self.old }
         requires none_pending { self.old.deletion ≡ None }
         ensures kept { IsKept self.new }
         ensures goes { Goes self.old self.new }
         ensures step { IfOk result (λ step. Proceeds step self.old self.new) }
-        ensures filled { IfOk result (λ step. FillsWindows step (view_of self.old) (view_of self.new)) }
+        ensures to_end { IfOk result (λ step. GoesToEnd step (view_of self.old) (view_of self.new)) }
         ensures balanced { Balanced self.old self.new }
         ensures ends { self.new.jobs.hands.seat.ends ≡ self.old.jobs.hands.seat.ends }
         ensures error { IfErr result (λ error. ErrorMeans error (view_of self.old) (view_of self.new)) }

@@ -15,6 +15,7 @@ loop-handed-preserved g c =
       balanced = balanced_trans c.args.self.now c.loop-handed.self c.hand_one.new.self i.goes i.balanced e.balanced;
       log = e.log ∙ i.log;
       sqs = e.sqs ∙ i.sqs;
+      cqs = e.cqs ∙ i.cqs;
       deletion = e.deletion ∙ i.deletion;
       ends = e.ends ∙ i.ends;
       admin = admin-goes c.loop-handed.self c.hand_one.new.self e.goes i.admin;
@@ -32,3 +33,6 @@ returns-clause-balanced g c =
 
 pub returns-clause-sqs : goal.returns-clause-sqs
 returns-clause-sqs g c = c.hand_one.ensures.sqs ∙ c.loop-handed.invariant.sqs
+
+pub returns-clause-cqs : goal.returns-clause-cqs
+returns-clause-cqs g c = c.hand_one.ensures.cqs ∙ c.loop-handed.invariant.cqs

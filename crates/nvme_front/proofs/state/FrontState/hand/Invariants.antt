@@ -12,6 +12,7 @@ invariant-loop-handed g l = record {
   balanced : Balanced l.fn.self l.self;
   log : l.self.log.items ≡ l.fn.self.log.items;
   sqs : l.self.sqs.items ≡ l.fn.self.sqs.items;
+  cqs : l.self.cqs.items ≡ l.fn.self.cqs.items;
   deletion : l.self.deletion ≡ l.fn.self.deletion;
   ends : l.self.jobs.hands.seat.ends ≡ l.fn.self.jobs.hands.seat.ends;
   admin : HasAdmin l.self;

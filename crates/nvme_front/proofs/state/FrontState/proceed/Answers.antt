@@ -1,6 +1,8 @@
-use Rattle.std.proofs.Common.{Ok, Err, ap, sym, ◌∙◌}
+use Rattle.std.proofs.Common.{Ok, Err, ap, sym, subst}
 use Rattle.std.proofs.lemmas.Result.{err_from_is_err_and}
-use Rattle.nvme_front.proofs.Filling.{fills_pending, closed_no_pick}
+use Rattle.nvme_front.specs.View.{GoesToEnd, view_of}
+use Rattle.nvme_front.specs.declared.front.Step.{Step}
+use Rattle.nvme_front.proofs.Filling.{closes_to_end}
 use Rattle.nvme_front.proofs.Still.{closed_means, log_error_means, balanced_still}
 use Rattle.nvme_front.proofs.state.FrontState.proceed.Goals as goal
 
@@ -22,7 +24,9 @@ returns-in_err-finished-clause-balanced g c = balanced_still c.args.self.now c.f
 pub returns-clause-balanced : goal.returns-clause-balanced
 returns-clause-balanced g c = balanced_still c.args.self.now c.finish.new.self c.finish.ensures.jobs
 
-pub returns-clause-filled : goal.returns-clause-filled
-returns-clause-filled g c =
-    fills_pending c.args.self.now c.finish.new.self c.in-Some.deletion c.requires.kept c.requires.admin c.in-Some.is c.step_after.result
-    (λ e. closed_no_pick c.in_ok-finished.finished (sym c.step_after.ensures ∙ e))
+pub returns-clause-to_end : goal.returns-clause-to_end
+returns-clause-to_end g c =
+    let finish = c.in_ok-finished.ensures in
+    subst (λ (s : Step). GoesToEnd s (view_of c.args.self.now) (view_of c.finish.new.self)) (sym c.step_after.ensures)
+    (closes_to_end c.args.self.now c.finish.new.self c.in-Some.deletion c.requires.kept c.requires.admin finish.kept finish.goes c.requires.drained c.in-Some.is
+    c.in_ok-finished.finished (λ t. finish.finished (ap Ok t)) (λ f. (finish.still (ap Ok f)).0))

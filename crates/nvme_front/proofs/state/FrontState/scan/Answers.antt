@@ -13,6 +13,7 @@ loop-qid-preserved c =
     record {
       kept = e.kept;
       goes = Goes-trans _ _ _ i.goes e.goes;
+      cqs = e.cqs ∙ i.cqs;
       jobs = e.jobs ∙ i.jobs;
       picks = e.picks ∙ i.picks;
       admin = admin-goes _ _ e.goes i.admin;

@@ -14,6 +14,7 @@ loop-fetched-preserved c =
     record {
       kept = e.kept;
       goes = Goes-trans c.args.self.now c.loop-fetched.self c.fetch_one.new.self i.goes e.goes;
+      cqs = e.cqs ∙ i.cqs;
       jobs = e.jobs ∙ i.jobs;
       picks = e.picks ∙ i.picks;
       admin = admin-goes c.loop-fetched.self c.fetch_one.new.self e.goes i.admin;

@@ -8,6 +8,7 @@ abbrev pub invariant-loop-fetched : goal.invariant-loop-fetched
 invariant-loop-fetched l = record {
   kept : IsKept l.self;
   goes : Goes l.fn.self l.self;
+  cqs : l.self.cqs.items ≡ l.fn.self.cqs.items;
   jobs : l.self.jobs ≡ l.fn.self.jobs;
   picks : picks_in l.self.log.items ≡ picks_in l.fn.self.log.items;
   admin : HasAdmin l.self;

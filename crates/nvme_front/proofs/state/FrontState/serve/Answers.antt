@@ -4,9 +4,9 @@ use Rattle.nvme_log.specs.Histories.{picks_in}
 use Rattle.nvme_front.proofs.States.{Goes-trans, admin-goes}
 use Rattle.nvme_front.proofs.Still.{served_means, log_error_means, pick_error_means, picked_balanced, balanced_still, balanced_trans}
 use Rattle.nvme_front.specs.State.{gets_of}
-use Rattle.nvme_front.specs.View.{FillsWindows, view_of}
+use Rattle.nvme_front.specs.View.{GoesToEnd, view_of}
 use Rattle.nvme_front.specs.declared.front.Step.{Step}
-use Rattle.nvme_front.proofs.Filling.{picks_one, serves_filled}
+use Rattle.nvme_front.proofs.Filling.{drained_later, picks_one, serves_to_end}
 use Rattle.nvme_front.proofs.Scans.{scanned_same}
 use Rattle.nvme_front.proofs.state.FrontState.serve.Goals as goal
 
@@ -63,16 +63,20 @@ returns-in-Picked-clause-balanced g c =
     balanced_trans c.args.self.now c.pick.new.self c.hand.new.self (Goes-trans _ _ _ c.scan.ensures.goes c.pick.ensures.goes)
     (picked_balanced c.args.self.now c.scan.new.self c.pick.new.self c.scan.ensures.goes c.scan.ensures.jobs c.pick.ensures.seat c.pick.ensures.running) c.hand.ensures.balanced
 
-pub returns-in-Picked-clause-filled : goal.returns-in-Picked-clause-filled
-returns-in-Picked-clause-filled g c =
-    picks_one c.args.self.now c.scan.new.self c.hand.new.self c.scan.ensures.kept (admin-goes c.args.self.now c.scan.new.self c.scan.ensures.goes c.requires.admin)
-    c.in_ok-fetched.ensures.scanned c.scan.ensures.goes (Goes-trans c.scan.new.self c.pick.new.self c.hand.new.self c.pick.ensures.goes c.hand.ensures.goes) c.scan.ensures.picks
-    (ap gets_of c.hand.ensures.sqs ∙ c.pick.ensures.gets) c.pick.new.self (c.in_ok-picked.ensures.picks_of (ap Ok c.in-Picked.is)) c.hand.ensures.log
+pub returns-in-Picked-clause-to_end : goal.returns-in-Picked-clause-to_end
+returns-in-Picked-clause-to_end g c =
+    let scan = c.in_ok-fetched.ensures in
+    let drained = drained_later c.args.self.now c.scan.new.self scan.cqs c.requires.drained in
+    picks_one c.args.self.now c.scan.new.self c.pick.new.self c.hand.new.self scan.kept (admin-goes c.args.self.now c.scan.new.self scan.goes c.requires.admin)
+    scan.scanned drained c.hand.ensures.kept scan.goes (Goes-trans c.scan.new.self c.pick.new.self c.hand.new.self c.pick.ensures.goes c.hand.ensures.goes) scan.picks
+    (ap gets_of c.hand.ensures.sqs ∙ c.pick.ensures.gets) (c.in_ok-picked.ensures.picks_of (ap Ok c.in-Picked.is)) c.hand.ensures.log c.hand.ensures.cqs
 
-pub returns-in_default-clause-filled : goal.returns-in_default-clause-filled
-returns-in_default-clause-filled g c =
+pub returns-in_default-clause-to_end : goal.returns-in_default-clause-to_end
+returns-in_default-clause-to_end g c =
+    let scan = c.in_ok-fetched.ensures in
     let pick = c.in_ok-picked.ensures in
-    subst (λ (s : Step). FillsWindows s (view_of c.args.self.now) (view_of c.pick.new.self)) (sym c.step_after.ensures)
-    (serves_filled c.args.self.now c.scan.new.self c.pick.new.self c.scan.ensures.kept (admin-goes c.args.self.now c.scan.new.self c.scan.ensures.goes c.requires.admin)
-    c.in_ok-fetched.ensures.scanned pick.kept c.scan.ensures.goes pick.goes c.scan.ensures.picks pick.gets c.in_ok-fetched.fetched c.in_ok-picked.picked
+    let drained = drained_later c.args.self.now c.scan.new.self scan.cqs c.requires.drained in
+    subst (λ (s : Step). GoesToEnd s (view_of c.args.self.now) (view_of c.pick.new.self)) (sym c.step_after.ensures)
+    (serves_to_end c.args.self.now c.scan.new.self c.pick.new.self scan.kept (admin-goes c.args.self.now c.scan.new.self scan.goes c.requires.admin)
+    scan.scanned drained pick.kept scan.goes pick.goes scan.picks pick.gets c.in_ok-fetched.fetched c.in_ok-picked.picked
     (λ e. pick.picks_of (ap Ok e)) (λ e. pick.never_moved (ap Ok e)) (λ e. (pick.idle (ap Ok e)).0) (λ e. (pick.stalled (ap Ok e)).0))

@@ -1,9 +1,9 @@
 use Rattle.std.proofs.Common.{◌∙◌, sym, subst}
 use Rattle.std.proofs.lemmas.Result.{err_from_is_err_and}
 use Rattle.nvme_front.proofs.States.{Goes-trans, admin-goes}
-use Rattle.nvme_front.specs.View.{FillsWindows, view_of}
+use Rattle.nvme_front.specs.View.{GoesToEnd, view_of}
 use Rattle.nvme_front.specs.declared.front.Step.{Step}
-use Rattle.nvme_front.proofs.Filling.{fills_after}
+use Rattle.nvme_front.proofs.Filling.{to_end_after}
 use Rattle.nvme_front.proofs.Still.{turn_means, error_since, balanced_trans}
 use Rattle.nvme_front.proofs.state.FrontState.turn.Goals as goal
 
@@ -33,9 +33,9 @@ pub returns-clause-balanced : goal.returns-clause-balanced
 returns-clause-balanced g c =
     balanced_trans c.args.self.now c.catch_up.new.self c.proceed.new.self c.catch_up.ensures.goes c.in_ok-moved.ensures.balanced c.proceed.ensures.balanced
 
-pub returns-clause-filled : goal.returns-clause-filled
-returns-clause-filled g c =
+pub returns-clause-to_end : goal.returns-clause-to_end
+returns-clause-to_end g c =
     let up = c.catch_up.ensures in
-    subst (λ (s : Step). FillsWindows s (view_of c.args.self.now) (view_of c.proceed.new.self)) (sym c.step_after.ensures)
-    (fills_after c.args.self.now c.catch_up.new.self c.proceed.new.self c.requires.kept c.requires.admin up.kept
-    (admin-goes c.args.self.now c.catch_up.new.self up.goes c.requires.admin) up.goes up.deletion up.picks c.in_ok-moved.moved c.in_ok-step.step c.in_ok-step.ensures.filled)
+    subst (λ (s : Step). GoesToEnd s (view_of c.args.self.now) (view_of c.proceed.new.self)) (sym c.step_after.ensures)
+    (to_end_after c.args.self.now c.catch_up.new.self c.requires.kept c.requires.admin up.kept up.goes up.deletion up.picks c.proceed.new.self
+    c.in_ok-moved.moved c.in_ok-step.step c.in_ok-step.ensures.to_end)
