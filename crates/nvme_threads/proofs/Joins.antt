@@ -1,34 +1,9 @@
 -- What comes back from joined threads.
-use Rattle.std.proofs.Common.{◌≡◌, ℕ, suc, ◌<◌, List, [], ◌∷◌, ◌++◌, map, length, get_or, refl, sym, ap, ◌∙◌, subst, arith, append_assoc}
+use Rattle.std.proofs.Common.{◌≡◌, List, [], ◌∷◌, ◌++◌, map, refl, sym, ap, ◌∙◌, subst, append_assoc}
 use Rattle.std.proofs.lemmas.List.{map-append}
 use Rattle.std.specs.List.{All, AllZip}
 use Rattle.std.specs.Prelude.{Result, Ok, Err, IfOk}
 use Rattle.std.proofs.lemmas.List.Elements.{All-nil, All-cons, All-head, All-tail}
-use Rattle.std.specs.declared.thread.PromisedHandle.{PromisedHandle}
-
-module _ {T P : Type 0} where
-  -- each item that came back is tied to the promise of the handle at its place
-  abbrev pub EachKept : (P → T → Type 0) → List (PromisedHandle T P) → List T → Type 0
-  EachKept R hs rs = (i : ℕ) (d : T) → i < length hs → (h : PromisedHandle T P) × (h ≡ get_or hs i h) × R h.promise (get_or rs i d)
-
-  -- the first of what came back keeps the first promise
-  first-kept : (R : P → T → Type 0) (h : PromisedHandle T P) (hs : List (PromisedHandle T P)) (r : T) (rs : List T) → EachKept R (h ∷ hs) (r ∷ rs) → R h.promise r
-  first-kept R h hs r rs each = let at = each 0 r (omega arith) in subst (λ (k : PromisedHandle T P). R k.promise r) at.1 at.2
-
-  -- the rest of what came back keeps the rest of the promises
-  rest-kept : (R : P → T → Type 0) (h : PromisedHandle T P) (hs : List (PromisedHandle T P)) (r : T) (rs : List T) → EachKept R (h ∷ hs) (r ∷ rs) → EachKept R hs rs
-  rest-kept R h hs r rs each = λ i d low. each (suc i) d (omega arith)
-
-  -- each item that came back is related to what its promise tells of
-  pub kept-zip : (R : T → T → Type 0) (value : P → T) (hs : List (PromisedHandle T P)) (rs : List T) → length rs ≡ length hs → EachKept (λ p r. R (value p) r) hs rs
-      → AllZip R (map (λ h. value h.promise) hs) rs
-  kept-zip R value [] [] same each = tt
-  kept-zip R value [] (r ∷ rs) same each = absurd (omega arith)
-  kept-zip R value (h ∷ hs) [] same each = absurd (omega arith)
-  kept-zip R value (h ∷ hs) (r ∷ rs) same each = (
-    first-kept (λ p x. R (value p) x) h hs r rs each,
-    kept-zip R value hs rs (omega arith) (rest-kept (λ p x. R (value p) x) h hs r rs each),
-  )
 
 -- one more item was moved, from what is left of a first list to those of a list
 pub moved-out : {X Y : Type 0} (e : X → Y) (outs outs' : List Y) (x : X) (y : Y) (left left' : List X) (all : List Y) → outs' ≡ outs ++ y ∷ [] → left ≡ x ∷ left' → e x ≡ y
@@ -62,11 +37,22 @@ pub all-unmapped : {X Y : Type 0} (P : Y → Type 0) (f : X → Y) (xs : List X)
 all-unmapped P f [] all = All-nil (λ x. P (f x))
 all-unmapped P f (x ∷ xs) all = All-cons (λ y. P (f y)) x xs (All-head P (f x) (map f xs) all) (all-unmapped P f xs (All-tail P (f x) (map f xs) all))
 
+-- one more handle was joined, from what is left of a list to those that were joined
+pub moved-handle : {X Y : Type 0} (e : X → Y) (ended : List Y) (x : X) (left left' : List X) (all : List Y) → left ≡ x ∷ left' → ended ++ map e left ≡ all
+    → (ended ++ e x ∷ []) ++ map e left' ≡ all
+moved-handle e ended x left left' all first was = append_assoc ended (e x ∷ []) (map e left') ∙ ap (λ xs. ended ++ map e xs) (sym first) ∙ was
+
 -- what holds of an answer's value, where that value is known
 pub ok-holds : {T E : Type 0} (r : Result T E) (P : T → Type 0) (x : T) → r ≡ Ok x → IfOk r P → P x
 ok-holds r P x is holds = subst (λ a. IfOk a P) is holds
 
 -- what follows from what holds of an answer's value
-pub ok-so : {T E : Type 0} (r : Result T E) (P Q : T → Type 0) → ((x : T) → P x → Q x) → IfOk r P → IfOk r Q
-ok-so (Ok x) P Q so holds = so x holds
-ok-so (Err e) P Q so holds = tt
+pub ok-so : {T E : Type 0} (r : Result T E) (P Q : T → Type 0) → IfOk r P → ((x : T) → P x → Q x) → IfOk r Q
+ok-so (Ok x) P Q holds so = so x holds
+ok-so (Err e) P Q holds so = tt
+
+-- what follows from what holds of an answer's value, and of another answer's that has a value where this one has
+pub both-ok : {T U E : Type 0} (r : Result T E) (ended : Result U E) (P Q : T → Type 0) (H : Type 0) → IfOk r (λ _. (done : U) × (ended ≡ Ok done)) → IfOk ended (λ _. H) → IfOk r P
+    → ((x : T) → H → P x → Q x) → IfOk r Q
+both-ok (Ok x) ended P Q H done holds is so = so x (ok-holds ended (λ _. H) done.0 done.1 holds) is
+both-ok (Err e) ended P Q H done holds is so = tt

@@ -1,21 +1,42 @@
 -- What is driven, and what comes back (profile).
-use Rattle.std.specs.Prelude.{◌≡◌, ◌<◌, ℕ, List, map, length, true}
+use Rattle.std.specs.Prelude.{◌≡◌, ◌<◌, ℕ, List, map, length, true, Result, IfOk, IfErr}
 use Rattle.std.specs.List.{All, AllZip}
 use Rattle.nvme_front.specs.View.{GoesOn}
 use Rattle.nvme_front.specs.declared.settling.Parts.{Parts}
 use Rattle.nvme_threads.specs.declared.driving.Driven.{Driven}
+use Rattle.nvme_entry.specs.declared.submission.Sqe.{Sqe}
+use Rattle.nvme_lane.specs.declared.feeder.Feeder.{Feeder}
+use Rattle.nvme_threads.specs.declared.driving.DriveError.{DriveError}
+use Rattle.nvme_threads.specs.declared.hosting.Feeders.{Feeders}
+use Rattle.nvme_threads.specs.declared.hosting.Feeders.TheVariants.{AtWork, Ended}
 use Rattle.nvme_threads.specs.declared.hosting.Hosts.{Hosts}
 use Rattle.nvme_threads.specs.declared.hosting.Running.{Running}
+use Rattle.nvme_threads.specs.declared.joining.Joined.{Joined}
+use Rattle.nvme_threads.specs.declared.starting.Started.{Started}
 use Rattle.nvme_threads.specs.declared.tasks.Shared.{Shared}
 use Rattle.nvme_threads.specs.declared.working.Crewman.{Crewman}
+use Rattle.nvme_threads.specs.Faults.{IsDriveFault}
 use Rattle.nvme_threads.specs.Hosts.{feeder_seen, drainer_seen}
 use Rattle.nvme_threads.specs.Runs.{Ran}
 
--- where all threads were started, there is one for each host and each worker, in order
+-- where all threads of these tasks were started, there is one for each, in order
+abbrev pub AreThreads : {T : Type 0} → List T → Started T → Type 0
+AreThreads tasks started = started.is_whole ≡ true → map (λ h. h.promise.0.value) started.handles.items ≡ tasks
+
+-- where all of these feeders were started, each came back with its script as the same end
+abbrev pub HaveFed : List (Feeder Sqe) → Joined (Feeder Sqe) → Type 0
+HaveFed tasks joined = joined.is_whole ≡ true → map feeder_seen joined.tasks.items ≡ map feeder_seen tasks
+
+-- the threads of these feeders are at work, or are joined
+abbrev pub AreFeeders : List (Feeder Sqe) → Feeders → Type 0
+AreFeeders tasks (AtWork started) = AreThreads tasks started
+AreFeeders tasks (Ended joined) = HaveFed tasks joined
+
+-- the threads of these hosts and workers
 pub record AreThreadsOf {G : Type 0} (hosts : Hosts G) (running : Running G) : Type 0 where
-  pub feeders : running.feeders.is_whole ≡ true → map (λ h. h.promise.0.value) running.feeders.handles.items ≡ hosts.feeders.items
-  pub drainers : running.drainers.is_whole ≡ true → map (λ h. h.promise.0.value) running.drainers.handles.items ≡ hosts.drainers.items
-  pub crew : running.crew.is_whole ≡ true → map (λ h. h.promise.0.value) running.crew.handles.items ≡ hosts.crew.items
+  pub feeders : AreFeeders hosts.feeders.items running.feeders
+  pub drainers : AreThreads hosts.drainers.items running.drainers
+  pub crew : AreThreads hosts.crew.items running.crew
 
 -- the front can take admin commands and answer them, and it and the workers are of the lanes
 pub record CanDrive {G : Type 0} (shared : Shared) (driven : Driven G) : Type 0 where
@@ -41,7 +62,8 @@ module _ {G : Type 0} (runs : G → ℕ → G) where
     pub drainers : map drainer_seen back.drainers.items ≡ map drainer_seen hosts.drainers.items
     pub crew : AllZip (λ (c d : Crewman G). Ran runs c.worker c.gate d.worker d.gate) hosts.crew.items back.crew.items
 
-  -- the front went on, and all that ran beside it came back
-  pub record Drove (driven back : Driven G) : Type 0 where
+  -- the front went on, and all that ran beside it came back, unless the drive came to nothing, which had its cause
+  pub record Drove {U : Type 0} (driven back : Driven G) (ended : Result U DriveError) : Type 0 where
     pub front : GoesOn driven.front back.front
-    pub hosts : HaveRun driven.hosts back.hosts
+    pub hosts : IfOk ended (λ _. HaveRun driven.hosts back.hosts)
+    pub fault : IfErr ended (IsDriveFault driven.front)

@@ -1,6 +1,7 @@
 -- What a drive answers where it comes to nothing (profile).
-use Rattle.std.specs.Prelude.{◌≡◌, false}
-use Rattle.nvme_front.specs.View.{FrontView, GoesOn, AccountsForEnds, ErrorMeans}
+use Rattle.std.specs.Prelude.{◌≡◌, ◌⊎◌, false}
+use Rattle.nvme_state.specs.JobAccount.{AccountsForJobs}
+use Rattle.nvme_front.specs.View.{FrontView, GoesOn, AccountsForEnds, ErrorMeans, past_in}
 use Rattle.nvme_front.specs.declared.front.FrontError.{FrontError}
 use Rattle.nvme_front.specs.declared.front.FrontError.TheVariants as front
 use Rattle.nvme_threads.specs.declared.driving.DriveError.{DriveError}
@@ -11,13 +12,23 @@ abbrev pub fault_of : FrontError → DriveError
 fault_of front.NoMemory = drive.NoMemory
 fault_of e = drive.Front e
 
+-- the log of a front accounts for its ends and for its jobs
+pub record Accounts (v : FrontView) : Type 0 where
+  pub ends : v.late ≡ false → AccountsForEnds v
+  pub jobs : AccountsForJobs v.rules.sizes (past_in v) v.hands
+
+-- a front made no turn yet, or its log accounts for it
+abbrev pub HasTurned : FrontView → FrontView → Type 0
+HasTurned given v = (v ≡ given) ⊎ Accounts v
+
 -- a turn failed so: the front had gone on from this one until then
 pub record TurnFails (given : FrontView) (e : FrontError) : Type 0 where
   pub before : FrontView
   pub after : FrontView
   pub goes_on : GoesOn given before
+  pub stood : HasTurned given before
   pub turned : GoesOn before after
-  pub account : after.late ≡ false → AccountsForEnds after
+  pub accounts : Accounts after
   pub means : ErrorMeans e before after
 
 -- a fault of the front is that of a turn. Want of memory is told as such, and never as a fault of the front

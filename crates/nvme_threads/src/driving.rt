@@ -1,5 +1,5 @@
 //! A whole drive.
-ghost use Rattle.std.specs.Prelude.{◌≡◌, ◌<◌, ◌⊎◌, Ok, Err, length, map, vec_len, IfOk, IfErr};
+ghost use Rattle.std.specs.Prelude.{◌≡◌, ◌<◌, ◌⊎◌, Ok, Err, true, length, map, vec_len, IfOk, IfErr};
 ghost use Rattle.nvme_pool.specs.Pool.{IsPool};
 ghost use Rattle.nvme_front.specs.View.{GoesOn};
 ghost use Rattle.nvme_threads.specs.Drives.{CanDrive, Drove, ArePartsOf};
@@ -9,7 +9,7 @@ ghost use Rattle.nvme_threads.specs.Hosts.{feeder_seen, drainer_seen};
 ghost use Rattle.nvme_threads.specs.Runs.{AllRan};
 
 use crate::flags::Flags;
-use crate::hosting::{Hosts, finish, start, submit};
+use crate::hosting::{Hosts, finish, start};
 use crate::serving::serve;
 use crate::tasks::Shared;
 use crate::working::{Crewman, apart, together};
@@ -57,49 +57,44 @@ impl From<AllocError> for DriveError {
     }
 }
 
-// What is driven together. Feeders submit meanwhile, or before the first turn.
+/// A front, and what runs beside it.
 #[derive(Drop)]
 pub struct Driven<G: Gate + Drop> {
     pub front: Front,
     pub hosts: Hosts<G>,
 }
 
-// Starts all threads of a scope, makes the front's turns, and joins the threads.
+// How a drive ended: as the turns of its front did, unless a thread couldn't be started.
+fn outcome(served: Result<(), DriveError>, is_whole: bool) -> Result<(), DriveError>
+    ensures ok { IfOk result (λ _. is_whole ≡ true) }
+    ensures fault { IfErr result (λ e. (served ≡ Err e) ⊎ (e ≡ drive_is.NoMemory)) }
+{
+    served?;
+    if !is_whole {
+        return Err(DriveError::NoMemory);
+    }
+    Ok(())
+}
+
+// Starts all threads of a scope, makes the front's turns, and joins the threads. What was driven comes back however it
+// ended.
 fn within<'s, E: 's, G: Gate + Send + Drop + 's, R: Threads + Wait + Sync + 's>(
     scope: &Scope<'s, E>,
     rt: &'s R,
     alloc: Global,
     shared: &'s Shared,
     driven: Driven<G>,
+    feeding: Feeding,
     patience: u32,
-) -> Result<Driven<G>, DriveError>
+) -> (Driven<G>, Result<(), DriveError>)
     requires { CanDrive shared.now driven }
-    ensures drove { IfOk result (Drove (λ view ticket. G.left (G.entered view ticket) ticket) driven) }
-    ensures fault { IfErr result (IsDriveFault driven.front) }
+    ensures { Drove (λ view ticket. G.left (G.entered view ticket) ticket) driven result.0 result.1 }
 {
     let Driven { mut front, hosts } = driven;
-    let running = start(scope, rt, alloc, shared, hosts);
+    let running = start(scope, rt, alloc, shared, hosts, feeding);
     let served = serve(rt, &mut front, shared, patience);
-    shared.flags.end();
-    match whole(served, finish(rt, running)) {
-        Ok(hosts) => Ok(Driven { front, hosts }),
-        Err(error) => {
-            drop(front);
-            Err(error)
-        }
-    }
-}
-
-// What came back, unless the front failed.
-fn whole<T: Drop>(
-    served: Result<(), DriveError>,
-    back: Result<T, AllocError>,
-) -> Result<T, DriveError>
-    ensures ok { IfOk result (λ t. back ≡ Ok t) }
-    ensures fault { IfErr result (λ e. (served ≡ Err e) ⊎ (e ≡ drive_is.NoMemory)) }
-{
-    served?;
-    Ok(back?)
+    let (hosts, is_whole) = finish(rt, shared, running);
+    (Driven { front, hosts }, outcome(served, is_whole))
 }
 
 // Drives all in threads of a scope, which borrow what they share.
@@ -108,81 +103,20 @@ fn in_threads<G: Gate + Send + Drop, R: Threads + Wait + Sync>(
     alloc: Global,
     shared: &Shared,
     driven: Driven<G>,
+    feeding: Feeding,
     patience: u32,
-) -> Result<Driven<G>, DriveError>
+) -> (Driven<G>, Result<(), DriveError>)
     requires { CanDrive shared.now driven }
-    ensures drove { IfOk result (Drove (λ view ticket. G.left (G.entered view ticket) ticket) driven) }
-    ensures fault { IfErr result (IsDriveFault driven.front) }
+    ensures { Drove (λ view ticket. G.left (G.entered view ticket) ticket) driven result.0 result.1 }
 {
     thread::scope(
         thread::scope_env(),
         rt,
-        move |scope| -> Result<Driven<G>, DriveError>
+        move |scope| -> (Driven<G>, Result<(), DriveError>)
             requires { CanDrive shared.now driven }
-            ensures drove { IfOk result (Drove (λ view ticket. G.left (G.entered view ticket) ticket) driven) }
-            ensures fault { IfErr result (IsDriveFault driven.front) }
-        { within(scope, rt, alloc, shared, driven, patience) },
+            ensures { Drove (λ view ticket. G.left (G.entered view ticket) ticket) driven result.0 result.1 }
+        { within(scope, rt, alloc, shared, driven, feeding, patience) },
     )
-}
-
-// Submits all scripts, and then drives the rest in threads.
-fn fed_first<G: Gate + Send + Drop, R: Threads + Wait + Sync>(
-    rt: &R,
-    alloc: Global,
-    shared: &Shared,
-    driven: Driven<G>,
-    patience: u32,
-) -> Result<Driven<G>, DriveError>
-    requires { CanDrive shared.now driven }
-    ensures drove { IfOk result (Drove (λ view ticket. G.left (G.entered view ticket) ticket) driven) }
-    ensures fault { IfErr result (IsDriveFault driven.front) }
-{
-    let Driven { front, hosts } = driven;
-    let Hosts {
-        feeders,
-        drainers,
-        crew,
-    } = hosts;
-    let Ok(feeders) = submit(rt, alloc, shared, feeders) else {
-        drop(front);
-        return Err(DriveError::NoMemory);
-    };
-    let hosts = Hosts {
-        feeders: Vec::new(alloc),
-        drainers,
-        crew,
-    };
-    let Driven { front, hosts } = in_threads(rt, alloc, shared, Driven { front, hosts }, patience)?;
-    let Hosts {
-        feeders: _,
-        drainers,
-        crew,
-    } = hosts;
-    let hosts = Hosts {
-        feeders,
-        drainers,
-        crew,
-    };
-    Ok(Driven { front, hosts })
-}
-
-// Drives all, with the scripts submitted first or meanwhile.
-fn in_order<G: Gate + Send + Drop, R: Threads + Wait + Sync>(
-    rt: &R,
-    alloc: Global,
-    shared: &Shared,
-    driven: Driven<G>,
-    feeding: Feeding,
-    patience: u32,
-) -> Result<Driven<G>, DriveError>
-    requires { CanDrive shared.now driven }
-    ensures drove { IfOk result (Drove (λ view ticket. G.left (G.entered view ticket) ticket) driven) }
-    ensures fault { IfErr result (IsDriveFault driven.front) }
-{
-    match feeding {
-        Feeding::Before => fed_first(rt, alloc, shared, driven, patience),
-        Feeding::Meanwhile => in_threads(rt, alloc, shared, driven, patience),
-    }
 }
 
 // The flags of a drive, and its crew.
@@ -229,14 +163,21 @@ fn taken_apart<G: Gate + Drop>(
     Ok((Shared { lanes, flags }, Driven { front, hosts }))
 }
 
-// The parts and the gates of what was driven.
+// The parts and the gates of what was driven, unless the drive came to nothing.
 fn given_back<G: Gate + Drop>(
     alloc: Global,
     shared: Shared,
     driven: Driven<G>,
-) -> Result<(Parts, Vec<G>), AllocError>
-    ensures { IfOk result (λ r. ArePartsOf shared driven r.0 r.1.items) }
+    ended: Result<(), DriveError>,
+) -> Result<(Parts, Vec<G>), DriveError>
+    ensures ended { IfOk result (λ _. (done : _) × (ended ≡ Ok done)) }
+    ensures parts { IfOk result (λ r. ArePartsOf shared driven r.0 r.1.items) }
+    ensures fault { IfErr result (λ e. (ended ≡ Err e) ⊎ (e ≡ drive_is.NoMemory)) }
 {
+    if let Err(error) = ended {
+        drop(driven);
+        return Err(error);
+    }
     let Driven { front, hosts } = driven;
     let Hosts {
         feeders,
@@ -245,7 +186,7 @@ fn given_back<G: Gate + Drop>(
     } = hosts;
     let Ok((workers, gates)) = apart(alloc, crew) else {
         drop(front);
-        return Err(AllocError);
+        return Err(DriveError::NoMemory);
     };
     let parts = Parts {
         front,
@@ -283,6 +224,6 @@ pub fn drive<G: Gate + Send + Drop, R: Threads + Wait + Sync>(
     ensures fault { IfErr result (IsDriveFault parts.front) }
 {
     let (shared, driven) = taken_apart(alloc, parts, gates)?;
-    let driven = in_order(rt, alloc, &shared, driven, feeding, patience)?;
-    Ok(given_back(alloc, shared, driven)?)
+    let (driven, ended) = in_threads(rt, alloc, &shared, driven, feeding, patience);
+    given_back(alloc, shared, driven, ended)
 }

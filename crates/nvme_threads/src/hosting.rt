@@ -1,20 +1,19 @@
 // The threads of a drive.
-ghost use Rattle.std.specs.Prelude.{◌≡◌, map, IfOk};
+ghost use Rattle.std.specs.Prelude.{◌≡◌, true};
 ghost use Rattle.std.specs.List.{All};
-ghost use Rattle.nvme_threads.specs.Drives.{AreThreadsOf, HaveRun};
-ghost use Rattle.nvme_threads.specs.Hosts.{feeder_seen};
+ghost use Rattle.nvme_threads.specs.Drives.{AreThreadsOf, AreThreads, AreFeeders, HaveFed, HaveRun};
 ghost use Rattle.nvme_threads.specs.declared.hosting.Hosts.{Hosts};
 
-use crate::joining::join_all;
+use crate::driving::Feeding;
+use crate::joining::{Joined, join_all};
 use crate::starting::{Started, start_all};
 use crate::tasks::Shared;
 use crate::working::Crewman;
 use nvme_entry::{Cqe, Sqe};
 use nvme_lane::{Drainer, Feeder};
 use nvme_pool::Gate;
-use std::alloc::{AllocError, Global};
+use std::alloc::Global;
 use std::sync::Wait;
-use std::thread;
 use std::thread::{Scope, Threads};
 
 /// What runs beside the front: the hosts, and the workers with a gate each.
@@ -25,20 +24,63 @@ pub struct Hosts<G: Gate + Drop> {
     pub crew: Vec<Crewman<G>>,
 }
 
-/// Its threads.
+/// The threads of feeders.
+pub enum Feeders {
+    /// They submit.
+    AtWork(Started<Feeder<Sqe>>),
+    /// They are joined.
+    Ended(Joined<Feeder<Sqe>>),
+}
+
+/// The threads of what runs beside the front. It can't be dropped, so that each way out of a drive leads through
+/// `finish`.
 pub struct Running<G: Gate + Drop> {
-    feeders: Started<Feeder<Sqe>>,
+    feeders: Feeders,
     drainers: Started<Drainer<Cqe>>,
     crew: Started<Crewman<G>>,
 }
 
-/// Starts a thread for each host and each worker.
-pub fn start<'s, E: 's, G: Gate + Send + Drop + 's, R: Wait + Sync + 's>(
+// Joins feeders before anything else runs. Where not all were started, they are told to end.
+fn joined_first<R: Threads>(
+    rt: &R,
+    shared: &Shared,
+    started: Started<Feeder<Sqe>>,
+) -> Joined<Feeder<Sqe>>
+    ensures { (tasks : _) → AreThreads tasks started → HaveFed tasks result }
+{
+    if !started.is_whole {
+        shared.flags.end();
+    }
+    join_all(rt, started)
+}
+
+// Starts a thread for each feeder. With `Feeding::Before` the threads are joined.
+fn start_feeders<'s, E: 's, R: Threads + Wait + Sync + 's>(
+    scope: &Scope<'s, E>,
+    rt: &'s R,
+    alloc: Global,
+    shared: &'s Shared,
+    feeders: Vec<Feeder<Sqe>>,
+    feeding: Feeding,
+) -> Feeders
+    ensures { AreFeeders feeders.items result }
+{
+    let started = start_all(scope, rt, alloc, shared, feeders);
+    match feeding {
+        Feeding::Before => Feeders::Ended(joined_first(rt, shared, started)),
+        Feeding::Meanwhile => Feeders::AtWork(started),
+    }
+}
+
+/// Starts a thread for each host and each worker. With `Feeding::Before` those of the feeders are joined before the
+/// others are started.
+pub fn start<'s, E: 's, G: Gate + Send + Drop + 's, R: Threads + Wait + Sync + 's>(
     scope: &Scope<'s, E>,
     rt: &'s R,
     alloc: Global,
     shared: &'s Shared,
     hosts: Hosts<G>,
+    feeding: Feeding,
 ) -> Running<G>
     requires { All (λ c. c.worker.lane ≡ shared.now.lanes) hosts.crew.items }
     ensures { AreThreadsOf hosts result }
@@ -49,67 +91,51 @@ pub fn start<'s, E: 's, G: Gate + Send + Drop + 's, R: Wait + Sync + 's>(
         crew,
     } = hosts;
     Running {
-        feeders: start_all(scope, rt, alloc, shared, feeders),
+        feeders: start_feeders(scope, rt, alloc, shared, feeders, feeding),
         drainers: start_all(scope, rt, alloc, shared, drainers),
         crew: start_all(scope, rt, alloc, shared, crew),
     }
 }
 
-/// Joins all threads, and gives what comes back. Where not all were started, or memory is refused, all are joined, and
-/// what they give is dropped.
+// Joins the threads of feeders, unless they are joined.
+fn join_feeders<R: Threads>(rt: &R, feeders: Feeders) -> Joined<Feeder<Sqe>>
+    ensures { (tasks : _) → AreFeeders tasks feeders → HaveFed tasks result }
+{
+    match feeders {
+        Feeders::AtWork(started) => join_all(rt, started),
+        Feeders::Ended(joined) => joined,
+    }
+}
+
+// All three.
+fn are_all(first: bool, second: bool, third: bool) -> bool
+    ensures { result ≡ true → (first ≡ true) × (second ≡ true) × (third ≡ true) }
+{
+    first && second && third
+}
+
+/// Tells all threads to end, joins them, and gives what comes back, and whether all had been started.
 pub fn finish<G: Gate + Drop, R: Threads>(
     rt: &R,
+    shared: &Shared,
     running: Running<G>,
-) -> Result<Hosts<G>, AllocError>
-    ensures { IfOk result (λ back. (hosts : Hosts _) → AreThreadsOf hosts running → HaveRun (λ view ticket. G.left (G.entered view ticket) ticket) hosts back) }
+) -> (Hosts<G>, bool)
+    ensures { (hosts : Hosts _) → AreThreadsOf hosts running → result.1 ≡ true → HaveRun (λ view ticket. G.left (G.entered view ticket) ticket) hosts result.0 }
 {
+    shared.flags.end();
     let Running {
         feeders,
         drainers,
         crew,
     } = running;
-    let feeders = join_all(rt, feeders);
+    let feeders = join_feeders(rt, feeders);
     let drainers = join_all(rt, drainers);
     let crew = join_all(rt, crew);
-    Ok(Hosts {
-        feeders: feeders?,
-        drainers: drainers?,
-        crew: crew?,
-    })
-}
-
-// Submits scripts in threads of a scope, and joins them.
-fn submit_in<'s, E: 's, R: Threads + Wait + Sync + 's>(
-    scope: &Scope<'s, E>,
-    rt: &'s R,
-    alloc: Global,
-    shared: &'s Shared,
-    feeders: Vec<Feeder<Sqe>>,
-) -> Result<Vec<Feeder<Sqe>>, AllocError>
-    ensures { IfOk result (λ back. map feeder_seen back.items ≡ map feeder_seen feeders.items) }
-{
-    let started = start_all(scope, rt, alloc, shared, feeders);
-    if !started.is_whole {
-        shared.flags.end();
-    }
-    let back = join_all(rt, started)?;
-    Ok(back)
-}
-
-/// Submits scripts, each in a thread of its own, and joins the threads.
-pub fn submit<R: Threads + Wait + Sync>(
-    rt: &R,
-    alloc: Global,
-    shared: &Shared,
-    feeders: Vec<Feeder<Sqe>>,
-) -> Result<Vec<Feeder<Sqe>>, AllocError>
-    ensures { IfOk result (λ back. map feeder_seen back.items ≡ map feeder_seen feeders.items) }
-{
-    thread::scope(
-        thread::scope_env(),
-        rt,
-        move |scope| -> Result<Vec<Feeder<Sqe>>, AllocError>
-            ensures { IfOk result (λ back. map feeder_seen back.items ≡ map feeder_seen feeders.items) }
-        { submit_in(scope, rt, alloc, shared, feeders) },
-    )
+    let is_whole = are_all(feeders.is_whole, drainers.is_whole, crew.is_whole);
+    let hosts = Hosts {
+        feeders: feeders.tasks,
+        drainers: drainers.tasks,
+        crew: crew.tasks,
+    };
+    (hosts, is_whole)
 }

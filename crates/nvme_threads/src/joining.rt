@@ -1,39 +1,33 @@
 // The end of threads.
-ghost use Rattle.std.specs.Prelude.{◌≡◌, IfOk, map, true};
+ghost use Rattle.std.specs.Prelude.{◌≡◌, map};
 ghost use Rattle.std.specs.List.{AllZip};
 
 use crate::starting::Started;
-use crate::tasks::{Task, TaskHandle};
-use std::alloc::AllocError;
-use std::thread;
+use crate::tasks::Task;
 use std::thread::Threads;
 
-// Joins threads one by one, and drops what they give.
-fn join_each<R: Threads, T: Task + Drop>(rt: &R, handles: Vec<TaskHandle<T>>) {
-    for handle in handles {
-        let _ = handle.join(rt);
-    }
+/// What came back from the threads that were started, in order: from all that were to be started, or not.
+#[derive(Drop)]
+pub struct Joined<T: Drop> {
+    pub tasks: Vec<T>,
+    pub is_whole: bool,
 }
 
-/// Joins all threads that were started, and gives what comes back, in order. Where not all were started, or memory is
-/// refused, they are joined all the same, and what they give is dropped.
-pub fn join_all<R: Threads, T: Task + Drop>(
-    rt: &R,
-    started: Started<T>,
-) -> Result<Vec<T>, AllocError>
-    ensures whole { IfOk result (λ _. started.is_whole ≡ true) }
-    ensures back { IfOk result (λ back. AllZip T.ran (map (λ h. h.promise.0.value) started.handles.items) back.items) }
+/// Joins all threads that were started, and gives what each gives back, in order.
+pub fn join_all<R: Threads, T: Task + Drop>(rt: &R, started: Started<T>) -> Joined<T>
+    ensures back { AllZip T.ran (map (λ h. h.promise.0.value) started.handles.items) result.tasks.items }
+    ensures whole { result.is_whole ≡ started.is_whole }
 {
-    let Started { handles, is_whole } = started;
-    if !is_whole {
-        join_each(rt, handles);
-        return Err(AllocError);
+    let Started {
+        handles,
+        mut back,
+        is_whole,
+    } = started;
+    for handle in handles {
+        back.push_reserved(handle.join(rt));
     }
-    match thread::join_promised(rt, handles) {
-        Ok(all) => Ok(all),
-        Err(refused) => {
-            join_each(rt, refused.value);
-            Err(AllocError)
-        }
+    Joined {
+        tasks: back,
+        is_whole,
     }
 }

@@ -1,14 +1,15 @@
 // The turns of the front, while its hosts and workers run.
 ghost use Rattle.std.specs.Prelude.{◌≡◌, ◌<◌, length, IfErr};
 ghost use Rattle.nvme_front.specs.View.{GoesOn};
-ghost use Rattle.nvme_threads.specs.Faults.{IsDriveFault};
+ghost use Rattle.nvme_threads.specs.Faults.{Accounts, IsDriveFault};
+ghost use Rattle.nvme_threads.specs.declared.driving.DriveError.TheVariants as drive_is;
 
 use crate::driving::DriveError;
 use crate::flags::Flags;
 use crate::pausing::Pause;
 use crate::tasks::Shared;
 use nvme_admin::MAX_REGIONS;
-use nvme_front::{Front, FrontError, Step};
+use nvme_front::{Front, Step};
 use std::sync::Wait;
 
 // Which feeders had ended before a turn.
@@ -84,8 +85,45 @@ fn stop_unserved(front: &Front, flags: &Flags) {
     }
 }
 
-/// Makes turns of the front: until it is clear after a turn that could do nothing and was begun when all feeders had
-/// ended, or until so many turns in a row could do nothing, or a turn fails, or a thread was refused memory.
+// Refused where a thread was refused memory.
+fn refuse_starved(flags: &Flags) -> Result<(), DriveError>
+    ensures { IfErr result (λ e. e ≡ drive_is.NoMemory) }
+{
+    if flags.is_starved() {
+        return Err(DriveError::NoMemory);
+    }
+    Ok(())
+}
+
+// One turn of the front: whether it was the last. Refused where it fails, or a thread was refused memory.
+fn turn<R: Wait>(
+    rt: &R,
+    front: &mut Front,
+    shared: &Shared,
+    quiet: &mut Quiet,
+) -> Result<bool, DriveError>
+    requires admin_sq { 0 < length front.old.gets }
+    requires admin_cq { 0 < length front.old.puts }
+    requires seat { front.old.hands.seat.lane ≡ shared.now.lanes }
+    ensures goes_on { GoesOn front.old front.new }
+    ensures accounts { Accounts front.new }
+    ensures fault { IfErr result (IsDriveFault front.old) }
+{
+    let fed = Fed {
+        is_admin: shared.flags.is_admin_fed(),
+        are_all: shared.flags.are_all_fed(),
+    };
+    let step = match front.turn(rt, &shared.lanes) {
+        Ok(step) => step,
+        Err(error) => return Err(DriveError::from(error)),
+    };
+    refuse_starved(&shared.flags)?;
+    Ok(quiet.ends(rt, front, step, fed, &shared.flags))
+}
+
+/// Makes turns of the front, unless a thread was refused memory: until it is clear after a turn that could do nothing and
+/// was begun when all feeders had ended, or until so many turns in a row could do nothing, or a turn fails, or a thread was
+/// refused memory.
 pub fn serve<R: Wait>(
     rt: &R,
     front: &mut Front,
@@ -98,18 +136,13 @@ pub fn serve<R: Wait>(
     ensures goes_on { GoesOn front.old front.new }
     ensures fault { IfErr result (IsDriveFault front.old) }
 {
+    refuse_starved(&shared.flags)?;
     let mut quiet = Quiet::new(patience);
     for _ in rt.forever() {
-        let fed = Fed {
-            is_admin: shared.flags.is_admin_fed(),
-            are_all: shared.flags.are_all_fed(),
-        };
-        let step = front.turn(rt, &shared.lanes)?;
-        if shared.flags.is_starved() {
-            return Err(DriveError::NoMemory);
-        }
-        if quiet.ends(rt, front, step, fed, &shared.flags) {
-            return Ok(());
+        match turn(rt, front, shared, &mut quiet) {
+            Ok(false) => {}
+            Ok(true) => return Ok(()),
+            Err(error) => return Err(error),
         }
     }
     unreachable!()

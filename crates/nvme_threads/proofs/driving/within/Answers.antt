@@ -1,5 +1,12 @@
-use Rattle.nvme_threads.proofs.Joins.{ok-holds}
+use Rattle.nvme_threads.proofs.Joins.{ok-so}
+use Rattle.nvme_threads.proofs.Turned.{outcome-fault}
 use Rattle.nvme_threads.proofs.driving.within.Goals as goal
 
-pub returns-in-Ok-clause-drove : goal.returns-in-Ok-clause-drove
-returns-in-Ok-clause-drove g c = record { front = c.serve-served.ensures.goes_on; hosts = ok-holds _ _ _ c.in-Ok.ensures.ok c.finish.ensures _ c.start-running.ensures }
+pub returns : goal.returns
+returns g c =
+    let ended = c.outcome.ensures in
+    record {
+      front = c.serve-served.ensures.goes_on;
+      hosts = ok-so _ _ _ ended.ok (λ _ whole. c.finish-hosts.ensures _ c.start-running.ensures whole);
+      fault = outcome-fault _ _ _ c.serve-served.ensures.fault ended.fault;
+    }

@@ -1,5 +1,6 @@
 use Rattle.nvme_front.specs.View.{GoesOn}
+use Rattle.nvme_threads.specs.Faults.{HasTurned}
 use Rattle.nvme_threads.proofs.serving.serve.Given as goal
 
 abbrev pub invariant-loop : goal.invariant-loop
-invariant-loop g l = GoesOn l.fn.front l.front
+invariant-loop g l = record { goes_on : GoesOn l.fn.front l.front; stood : HasTurned l.fn.front l.front }

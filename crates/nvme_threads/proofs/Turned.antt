@@ -1,0 +1,68 @@
+-- Turns of a front one after another, and how one that failed is told.
+use Rattle.std.proofs.Common.{◌≡◌, refl, ◌∙◌, subst, sym, inl, inr, [], append-nil}
+use Rattle.std.specs.Prelude.{◌⊎◌, Result, Ok, Err, IfErr}
+use Rattle.nvme_lane.proofs.Prefixes.{IsPrefix-trans}
+use Rattle.nvme_pool.proofs.Standing.{seat_stays, seat_stays_on}
+use Rattle.nvme_front.specs.View.{FrontView, GoesOn, ErrorMeans}
+use Rattle.nvme_front.specs.declared.front.FrontError.{FrontError}
+use Rattle.nvme_front.specs.declared.front.FrontError.TheVariants as front
+use Rattle.nvme_threads.specs.declared.driving.DriveError.{DriveError}
+use Rattle.nvme_threads.specs.declared.driving.DriveError.TheVariants as drive
+use Rattle.nvme_threads.specs.Faults.{TurnFails, Accounts, HasTurned, IsDriveFault, fault_of}
+
+-- a front that goes on from one that goes on from the first goes on from the first
+pub goes-on : (a b c : FrontView) → GoesOn a b → GoesOn b c → GoesOn a c
+goes-on a b c g h = record {
+  grew = IsPrefix-trans a.log b.log c.log g.grew h.grew;
+  rules = h.rules ∙ g.rules;
+  limit = h.limit ∙ g.limit;
+  late = h.late ∙ g.late;
+  gets = h.gets ∙ g.gets;
+  puts = h.puts ∙ g.puts;
+  came = h.came ∙ g.came;
+  seat = seat_stays_on a.hands.seat b.hands.seat c.hands.seat g.seat h.seat;
+}
+
+-- a front goes on from itself
+pub stays : (v : FrontView) → GoesOn v v
+stays v = record { grew = ([], append-nil v.log); rules = refl; limit = refl; late = refl; gets = refl; puts = refl; came = refl; seat = seat_stays v.hands.seat }
+
+-- the first turn failed so
+first-fails : (given after : FrontView) (e : FrontError) → GoesOn given after → Accounts after → ErrorMeans e given after → TurnFails given e
+first-fails given after e turned accounts means =
+    record { before = given; after = after; goes_on = stays given; stood = inl refl; turned = turned; accounts = accounts; means = means }
+
+-- a turn that failed is told so
+pub told : (given after : FrontView) (e : FrontError) → GoesOn given after → Accounts after → ErrorMeans e given after → IsDriveFault given (fault_of e)
+told given after front.NoMemory turned accounts means = tt
+told given after front.LogFull turned accounts means = first-fails given after front.LogFull turned accounts means
+told given after (front.Stray ticket) turned accounts means = first-fails given after (front.Stray ticket) turned accounts means
+
+-- a turn of a front that made turns before failed so
+later-fails : (given mid : FrontView) (e : FrontError) → GoesOn given mid → HasTurned given mid → TurnFails mid e → TurnFails given e
+later-fails given mid e goes stood fails = record {
+  before = fails.before;
+  after = fails.after;
+  goes_on = goes-on given mid fails.before goes fails.goes_on;
+  stood = elim fails.stood [
+    | inl same ↦ subst (λ (v : FrontView). HasTurned given v) (sym same) stood
+    | inr accounts ↦ inr accounts
+  ];
+  turned = fails.turned;
+  accounts = fails.accounts;
+  means = fails.means;
+}
+
+-- a fault of a front that made turns before is one of the front that was given
+pub told-later : (given mid : FrontView) (e : DriveError) → GoesOn given mid → HasTurned given mid → IsDriveFault mid e → IsDriveFault given e
+told-later given mid drive.NoMemory goes stood fault = tt
+told-later given mid (drive.Front front.NoMemory) goes stood fault = absurd fault
+told-later given mid (drive.Front front.LogFull) goes stood fault = later-fails given mid front.LogFull goes stood fault
+told-later given mid (drive.Front (front.Stray ticket)) goes stood fault = later-fails given mid (front.Stray ticket) goes stood fault
+
+-- a drive that came to nothing did so by the fault of its front, or for want of memory
+pub outcome-fault : {U V : Type 0} (given : FrontView) (served : Result U DriveError) (ended : Result V DriveError) → IfErr served (IsDriveFault given) → IfErr ended (λ e. (served ≡ Err e) ⊎ (e ≡ drive.NoMemory))
+    → IfErr ended (IsDriveFault given)
+outcome-fault given served (Ok x) fault so = tt
+outcome-fault given served (Err e) fault (inl same) = subst (λ r. IfErr r (IsDriveFault given)) same fault
+outcome-fault given served (Err e) fault (inr none) = subst (IsDriveFault given) (sym none) tt

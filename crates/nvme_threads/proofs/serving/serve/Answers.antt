@@ -1,0 +1,10 @@
+use Rattle.nvme_threads.proofs.Turned.{goes-on, told-later}
+use Rattle.nvme_threads.proofs.serving.serve.Goals as goal
+
+pub returns-in-Err-clause-fault : goal.returns-in-Err-clause-fault
+returns-in-Err-clause-fault g c =
+    let inv = c.loop.invariant in
+    told-later c.args.front.now c.loop.front c.in-Err.error inv.goes_on inv.stood c.in-Err.ensures.fault
+
+pub returns-in-Err-clause-goes_on : goal.returns-in-Err-clause-goes_on
+returns-in-Err-clause-goes_on g c = goes-on _ _ _ c.loop.invariant.goes_on c.turn.ensures.goes_on
