@@ -1,5 +1,5 @@
 -- What comes back from joined threads.
-use Rattle.std.proofs.Common.{◌≡◌, List, [], ◌∷◌, ◌++◌, map, refl, sym, ap, ◌∙◌, subst, append_assoc}
+use Rattle.std.proofs.Common.{◌≡◌, List, [], ◌∷◌, ◌++◌, map, refl, sym, ap, ◌∙◌, subst, append_assoc, append-nil}
 use Rattle.std.proofs.lemmas.List.{map-append}
 use Rattle.std.specs.List.{All, AllZip}
 use Rattle.std.specs.Prelude.{Result, Ok, Err, IfOk}
@@ -56,3 +56,7 @@ pub both-ok : {T U E : Type 0} (r : Result T E) (ended : Result U E) (P Q : T �
     → ((x : T) → H → P x → Q x) → IfOk r Q
 both-ok (Ok x) ended P Q H done holds is so = so x (ok-holds ended (λ _. H) done.0 done.1 holds) is
 both-ok (Err e) ended P Q H done holds is so = tt
+
+-- nothing is left of a list, so all was moved
+pub all-moved : {Y : Type 0} (outs left all : List Y) → left ≡ [] → outs ++ left ≡ all → outs ≡ all
+all-moved outs left all none was = sym (append-nil outs) ∙ ap (λ ys. outs ++ ys) (sym none) ∙ was

@@ -1,4 +1,5 @@
-use Rattle.nvme_threads.proofs.Turned.{goes-on, told-later}
+use Rattle.std.proofs.Common.{inl, inr, refl}
+use Rattle.nvme_threads.proofs.Turned.{stays, goes-on, told-later}
 use Rattle.nvme_threads.proofs.serving.serve.Goals as goal
 
 pub returns-in-Err-clause-fault : goal.returns-in-Err-clause-fault
@@ -8,3 +9,12 @@ returns-in-Err-clause-fault g c =
 
 pub returns-in-Err-clause-goes_on : goal.returns-in-Err-clause-goes_on
 returns-in-Err-clause-goes_on g c = goes-on _ _ _ c.loop.invariant.goes_on c.turn.ensures.goes_on
+
+pub returns-in-Ok-true-clause-goes_on : goal.returns-in-Ok-true-clause-goes_on
+returns-in-Ok-true-clause-goes_on g c = goes-on _ _ _ c.loop.invariant.goes_on c.turn.ensures.goes_on
+
+pub loop-preserved : goal.loop-preserved
+loop-preserved g c = record { goes_on = goes-on _ _ _ c.loop.invariant.goes_on c.turn.ensures.goes_on; stood = inr c.turn.ensures.accounts }
+
+pub loop-init : goal.loop-init
+loop-init g c = record { goes_on = stays _; stood = inl refl }
