@@ -1,36 +1,18 @@
 -- Turns of a front one after another, and how one that failed is told.
-use Rattle.std.proofs.Common.{◌≡◌, refl, ◌∙◌, subst, sym, inl, inr, [], append-nil}
+use Rattle.std.proofs.Common.{◌≡◌, refl, ◌∙◌, subst, sym, inl, inr}
 use Rattle.std.specs.Prelude.{◌⊎◌, Result, Ok, Err, IfErr}
-use Rattle.nvme_lane.proofs.Prefixes.{IsPrefix-trans}
-use Rattle.nvme_pool.proofs.Standing.{seat_stays, seat_stays_on}
 use Rattle.nvme_front.specs.View.{FrontView, GoesOn, ErrorMeans}
+use Rattle.nvme_front.proofs.EndsSeen.{GoesOn-refl, GoesOn-trans}
 use Rattle.nvme_front.specs.declared.front.FrontError.{FrontError}
 use Rattle.nvme_front.specs.declared.front.FrontError.TheVariants as front
 use Rattle.nvme_threads.specs.declared.driving.DriveError.{DriveError}
 use Rattle.nvme_threads.specs.declared.driving.DriveError.TheVariants as drive
 use Rattle.nvme_threads.specs.Faults.{TurnFails, Accounts, HasTurned, IsDriveFault, fault_of}
 
--- a front that goes on from one that goes on from the first goes on from the first
-pub goes-on : (a b c : FrontView) → GoesOn a b → GoesOn b c → GoesOn a c
-goes-on a b c g h = record {
-  grew = IsPrefix-trans a.log b.log c.log g.grew h.grew;
-  rules = h.rules ∙ g.rules;
-  limit = h.limit ∙ g.limit;
-  late = h.late ∙ g.late;
-  gets = h.gets ∙ g.gets;
-  puts = h.puts ∙ g.puts;
-  came = h.came ∙ g.came;
-  seat = seat_stays_on a.hands.seat b.hands.seat c.hands.seat g.seat h.seat;
-}
-
--- a front goes on from itself
-pub stays : (v : FrontView) → GoesOn v v
-stays v = record { grew = ([], append-nil v.log); rules = refl; limit = refl; late = refl; gets = refl; puts = refl; came = refl; seat = seat_stays v.hands.seat }
-
 -- the first turn failed so
 first-fails : (given after : FrontView) (e : FrontError) → GoesOn given after → Accounts after → ErrorMeans e given after → TurnFails given e
 first-fails given after e turned accounts means =
-    record { before = given; after = after; goes_on = stays given; stood = inl refl; turned = turned; accounts = accounts; means = means }
+    record { before = given; after = after; goes_on = GoesOn-refl given; stood = inl refl; turned = turned; accounts = accounts; means = means }
 
 -- a turn that failed is told so
 pub told : (given after : FrontView) (e : FrontError) → GoesOn given after → Accounts after → ErrorMeans e given after → IsDriveFault given (fault_of e)
@@ -43,7 +25,7 @@ later-fails : (given mid : FrontView) (e : FrontError) → GoesOn given mid → 
 later-fails given mid e goes stood fails = record {
   before = fails.before;
   after = fails.after;
-  goes_on = goes-on given mid fails.before goes fails.goes_on;
+  goes_on = GoesOn-trans given mid fails.before goes fails.goes_on;
   stood = elim fails.stood [
     | inl same ↦ subst (λ (v : FrontView). HasTurned given v) (sym same) stood
     | inr accounts ↦ inr accounts

@@ -1,5 +1,6 @@
 use Rattle.std.proofs.Common.{inl, inr, refl}
-use Rattle.nvme_threads.proofs.Turned.{stays, goes-on, told-later}
+use Rattle.nvme_front.proofs.EndsSeen.{GoesOn-refl, GoesOn-trans}
+use Rattle.nvme_threads.proofs.Turned.{told-later}
 use Rattle.nvme_threads.proofs.serving.serve.Goals as goal
 
 pub returns-in-Err-clause-fault : goal.returns-in-Err-clause-fault
@@ -8,13 +9,13 @@ returns-in-Err-clause-fault g c =
     told-later c.args.front.now c.loop.front c.in-Err.error inv.goes_on inv.stood c.in-Err.ensures.fault
 
 pub returns-in-Err-clause-goes_on : goal.returns-in-Err-clause-goes_on
-returns-in-Err-clause-goes_on g c = goes-on _ _ _ c.loop.invariant.goes_on c.turn.ensures.goes_on
+returns-in-Err-clause-goes_on g c = GoesOn-trans _ _ _ c.loop.invariant.goes_on c.turn.ensures.goes_on
 
 pub returns-in-Ok-true-clause-goes_on : goal.returns-in-Ok-true-clause-goes_on
-returns-in-Ok-true-clause-goes_on g c = goes-on _ _ _ c.loop.invariant.goes_on c.turn.ensures.goes_on
+returns-in-Ok-true-clause-goes_on g c = GoesOn-trans _ _ _ c.loop.invariant.goes_on c.turn.ensures.goes_on
 
 pub loop-preserved : goal.loop-preserved
-loop-preserved g c = record { goes_on = goes-on _ _ _ c.loop.invariant.goes_on c.turn.ensures.goes_on; stood = inr c.turn.ensures.accounts }
+loop-preserved g c = record { goes_on = GoesOn-trans _ _ _ c.loop.invariant.goes_on c.turn.ensures.goes_on; stood = inr c.turn.ensures.accounts }
 
 pub loop-init : goal.loop-init
-loop-init g c = record { goes_on = stays _; stood = inl refl }
+loop-init g c = record { goes_on = GoesOn-refl _; stood = inl refl }
