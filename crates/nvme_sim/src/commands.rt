@@ -1,14 +1,12 @@
 ghost use Rattle.std.specs.Prelude.{◌≡◌, ◌≤◌, ◌⊎◌, IfErr};
 ghost use Rattle.nvme_sim.specs.declared.commands.Fault.TheVariants as fault;
-ghost use Rattle.nvme_sim.specs.declared.runs.RunError.TheVariants as run_fault;
+ghost use Rattle.nvme_runs.specs.declared.runs.RunError.TheVariants as run_fault;
 
-use crate::entries::{OnceError, once};
-use crate::input::{InputError, take_input};
-use crate::runs::{RunError, run};
 use clap::error::ErrorKind;
 use clap::{Arg, ArgAction, ArgMatches, Command, value_parser};
 use nvme_pool::MAX_WORKERS;
 use nvme_report::Mode;
+use nvme_runs::{InputError, OnceError, RunError, once, run, take_input};
 use std::alloc::{AllocError, Global};
 use std::io::{Read, Write};
 use std::sync::Wait;

@@ -1,6 +1,6 @@
 // Calls that are made once more where memory was refused, so that a test passes too where any one allocation fails.
 use nvme_pool::Gate;
-use nvme_sim::{Mode, RunError, command, run, run_with};
+use nvme_sim::{InputError, Mode, RunError, command, run, run_with, take_input};
 use std::alloc::{AllocError, Global};
 use std::io::{Read, Write};
 use std::sync::Wait;
@@ -49,6 +49,15 @@ pub fn report_again<R: Threads + Wait + Sync>(
     Ok(output)
 }
 
+/// All bytes of a reader.
+pub fn taken<I: Read + Copy + Drop>(alloc: Global, input: I) -> Result<Vec<u8>, InputError> {
+    let taken = take_input(alloc, input);
+    if matches!(taken, Err(InputError::NoMemory)) {
+        return take_input(alloc, input);
+    }
+    taken
+}
+
 /// A run with these gates, once. What it writes is dropped.
 pub fn run_gated<G: Gate + Send + Drop, R: Threads + Wait + Sync>(
     rt: &R,
@@ -63,6 +72,23 @@ pub fn run_gated<G: Gate + Send + Drop, R: Threads + Wait + Sync>(
     }
 }
 
+// The words of a command line, once.
+fn words_once(alloc: Global, line: &[&str]) -> Result<Vec<String>, AllocError> {
+    let mut words = Vec::new(alloc);
+    for word in line {
+        words.push(String::from_str(alloc, word)?)?;
+    }
+    Ok(words)
+}
+
+/// The words of a command line.
+pub fn words_again(alloc: Global, line: &[&str]) -> Result<Vec<String>, AllocError> {
+    if let Ok(words) = words_once(alloc, line) {
+        return Ok(words);
+    }
+    words_once(alloc, line)
+}
+
 // The status of the program over these words and streams, and what it told on standard error, once. Refused where it
 // told that memory was refused; nothing was written then.
 fn told_once<I: Read + Drop, W: Write, R: Threads + Wait + Sync>(
@@ -72,10 +98,7 @@ fn told_once<I: Read + Drop, W: Write, R: Threads + Wait + Sync>(
     input: I,
     output: &mut W,
 ) -> Result<(u8, Vec<u8>), AllocError> {
-    let mut words = Vec::new(alloc);
-    for word in line {
-        words.push(String::from_str(alloc, word)?)?;
-    }
+    let words = words_once(alloc, line)?;
     let mut errors = page(alloc)?;
     let status = command(rt, alloc, words.as_slice(), input, output, &mut errors);
     if errors.as_slice() == b"nvmearb: out of memory\n".as_slice() {

@@ -1,12 +1,20 @@
-//! Tests of runs and of the program: the stored workloads, gates that hold workers, and refusals.
+//! Tests of runs and of the program: entries, inputs, the stored workloads, gates that hold workers, and refusals.
 #![tactic(auto)]
 
 #[cfg(test)]
 mod again;
 #[cfg(test)]
+mod commands;
+#[cfg(test)]
+mod entries;
+#[cfg(test)]
 mod examples;
 #[cfg(test)]
+mod fakes;
+#[cfg(test)]
 mod gates;
+#[cfg(test)]
+mod input;
 #[cfg(test)]
 mod program;
 #[cfg(test)]

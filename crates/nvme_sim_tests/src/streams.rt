@@ -1,68 +1,16 @@
 // Writers and readers that fail, and refusals of a run in their order.
-use crate::again::{page, run_again, told_again};
+use crate::again::{page, run_again, taken, told_again};
+use crate::fakes::{Endless, Fails, Takes};
 use crate::workloads::{EMPTY, THOUSAND};
 use nvme_front::FrontError;
-use nvme_sim::{InputError, Mode, RunError, take_input};
+use nvme_sim::{InputError, Mode, RunError};
 use nvme_workload::{Key, WorkloadError};
 use std::alloc::{AllocError, Global};
-use std::io::{Error, ErrorKind, Read, Write};
+use std::io::Read;
 use std::process::Abort;
 use std::sync::Wait;
 use std::test::*;
 use std::thread::Threads;
-
-/// A writer that takes so many bytes and then fails.
-#[derive(Drop)]
-struct Takes {
-    taken: Vec<u8>,
-    room: usize,
-}
-
-impl Write for Takes {
-    fn write(&mut self, buf: &[u8]) -> std::io::Result<usize> {
-        let count = buf.len().min(self.room);
-        if count == 0 {
-            return Err(Error::from(ErrorKind::Other));
-        }
-        self.taken.extend_from_slice(&buf[..count])?;
-        self.room -= count;
-        Ok(count)
-    }
-
-    fn flush(&mut self) -> std::io::Result<()> {
-        Ok(())
-    }
-}
-
-/// A reader whose reads fail.
-#[derive(Clone, Copy)]
-struct Fails;
-
-impl Read for Fails {
-    fn read(&mut self, _buf: &mut [u8]) -> std::io::Result<usize> {
-        Err(Error::from(ErrorKind::Other))
-    }
-}
-
-/// A reader of zeros without an end.
-#[derive(Clone, Copy)]
-struct Endless;
-
-impl Read for Endless {
-    fn read(&mut self, buf: &mut [u8]) -> std::io::Result<usize> {
-        buf.fill(b'0');
-        Ok(buf.len())
-    }
-}
-
-// All bytes of a reader.
-fn taken<I: Read + Copy + Drop>(alloc: Global, input: I) -> Result<Vec<u8>, InputError> {
-    let taken = take_input(alloc, input);
-    if matches!(taken, Err(InputError::NoMemory)) {
-        return take_input(alloc, input);
-    }
-    taken
-}
 
 #[test]
 fn writer_and_reader_fail(rt: HostRuntime) -> Result<(), Fail> {
@@ -70,6 +18,7 @@ fn writer_and_reader_fail(rt: HostRuntime) -> Result<(), Fail> {
     let mut writer = Takes {
         taken: taken_of_run,
         room: 10,
+        fails: true,
     };
     let ran = run_again(&rt, rt.alloc(), EMPTY, Mode::Loaded, 2, &mut writer);
     assert_eq!(rt; ran, Err(RunError::Write));
@@ -95,6 +44,7 @@ fn run_fails<I: Read + Copy + Drop, R: Threads + Wait + Sync + Abort>(
     let mut output = Takes {
         taken: page(alloc)?,
         room,
+        fails: true,
     };
     let (ended, errors) = told_again(rt, alloc, &LOADED, input, &mut output)?;
     assert_eq!(rt; errors.as_slice(), fault.as_bytes());

@@ -1,0 +1,77 @@
+-- A front to which the regions of a workload were added, with its hosts and its workers.
+use Rattle.std.proofs.Common.{◌≡◌, ◌≢◌, ℕ, ◌≤◌, List, [], ◌++◌, length, map, reverse, sym, ap, ◌∙◌, subst, arith}
+use Rattle.std.specs.List.{AllPairs}
+use Rattle.std.proofs.lemmas.List.{length-map}
+use Rattle.std.proofs.lemmas.Simd.{map-map}
+use Rattle.nvme_entry.specs.declared.submission.Sqe.{Sqe}
+use Rattle.nvme_entry.specs.declared.completion.Cqe.{Cqe}
+use Rattle.nvme_lane.specs.View.{GetView, PutView}
+use Rattle.nvme_pool.specs.Pool.{IsPool, IsBlank}
+use Rattle.nvme_pool.specs.Seat.{SeatView}
+use Rattle.nvme_admin.specs.History.{TableStep, RegionAdded, Submission, Completion}
+use Rattle.nvme_workload.specs.declared.plan.SqPlan.{SqPlan}
+use Rattle.nvme_workload.specs.declared.plan.CqPlan.{CqPlan}
+use Rattle.nvme_workload.specs.Plan.{Plan}
+use Rattle.nvme_workload.specs.Sound.{AreApart}
+use Rattle.nvme_front.specs.declared.settling.Parts.{Parts}
+use Rattle.nvme_front.specs.Goes.{get_place, put_place}
+use Rattle.nvme_front.specs.Hosts.{drainer_place}
+use Rattle.nvme_state.specs.Kept.{sq_steps, cq_steps}
+use Rattle.nvme_front.specs.View.{FrontView}
+use Rattle.nvme_runs.specs.Runs.{sq_additions, cq_additions}
+use Rattle.nvme_runs.specs.Prepared.{IsPrepared, AddsSqs, AddsCqs, sq_site, cq_site, get_site, put_site}
+use Rattle.nvme_runs.proofs.Adding.{fresh_then, sq_addresses}
+
+-- the steps of a front's submission regions are the additions of those of the workload
+sq_steps_are : (gets : List (GetView Sqe)) (plans : List SqPlan) → map get_site gets ≡ map sq_site plans → sq_steps gets ≡ sq_additions plans
+sq_steps_are gets plans sites =
+    let step : ℕ × ℕ → TableStep = λ z. RegionAdded Submission z.0 z.1 in
+    ap (λ zs. reverse zs) (sym (map-map step get_site gets) ∙ ap (λ zs. map step zs) sites ∙ map-map step sq_site plans)
+
+-- the same of completion regions
+cq_steps_are : (puts : List (PutView Cqe)) (plans : List CqPlan) → map put_site puts ≡ map cq_site plans → cq_steps puts ≡ cq_additions plans
+cq_steps_are puts plans sites =
+    let step : ℕ × ℕ → TableStep = λ z. RegionAdded Completion z.0 z.1 in
+    ap (λ zs. reverse zs) (sym (map-map step put_site puts) ∙ ap (λ zs. map step zs) sites ∙ map-map step cq_site plans)
+
+-- lists with equal maps are as long as one another
+as_long : {A B C : Type 0} (f : A → C) (g : B → C) (xs : List A) (ys : List B) → map f xs ≡ map g ys → length xs ≡ length ys
+as_long f g xs ys same = sym (length-map xs f) ∙ ap (λ zs. length zs) same ∙ length-map ys g
+
+-- the addresses of a front's submission regions, and of the workload's completion regions, are apart
+pub still_apart : (v : FrontView) (plans : List SqPlan) (completions all : List CqPlan) → map get_site v.gets ≡ map sq_site plans → all ≡ completions → AreApart plans completions
+    → AllPairs (λ (a b : ℕ). a ≢ b) (map (λ (g : GetView Sqe). g.address) v.gets ++ map (λ (c : CqPlan). c.address) all)
+still_apart v plans completions all sites is_all apart =
+    subst (λ zs. AllPairs (λ (a b : ℕ). a ≢ b) zs) (sym (λ i. sq_addresses v plans sites i ++ map (λ (c : CqPlan). c.address) (is_all i))) apart
+
+-- a new front with the regions of a workload, and with the workers of its pool, is prepared
+pub prepared_by : (plan : Plan) (parts : Parts) (seat : SeatView) (first middle : FrontView)
+    → first.rules.mechanism ≡ plan.mechanism → first.rules.start ≡ record { nsq = plan.nsq; ncq = plan.ncq; settings = plan.settings } → first.rules.sizes ≡ plan.sizes
+    → first.hands ≡ record { came = seat; seat = seat; unhanded = []; running = [] }
+    → AddsSqs plan.submissions parts.feeders.items first middle → AddsCqs plan.completions parts.drainers.items middle parts.front
+    → IsPool parts.lanes seat parts.workers.items → IsBlank seat parts.workers.items → 1 ≤ length plan.submissions → 1 ≤ length plan.completions
+    → IsPrepared plan parts
+prepared_by plan parts seat first middle mechanism start sizes hands sqs cqs pool blank some_sq some_cq =
+    let stays = fresh_then first middle parts.front sqs.stays cqs.stays in
+    let sites : map get_site parts.front.gets ≡ map sq_site plan.submissions = ap (λ gs. map get_site gs) cqs.gets ∙ sqs.sites in
+    let handed = stays.hands ∙ hands in
+    let seated : parts.front.hands.seat ≡ seat = ap (λ h. h.seat) handed in
+    let regions = stays.regions ∙ (λ i. cq_steps_are parts.front.puts plan.completions cqs.sites i ++ sq_steps_are parts.front.gets plan.submissions sites i) in
+    let mechanism_is = stays.mechanism ∙ mechanism in
+    let start_is = stays.start ∙ start in
+    let sizes_are = stays.sizes ∙ sizes in record {
+      rules = λ i. record { mechanism = mechanism_is i; start = start_is i; sizes = sizes_are i; regions = regions i };
+      log = stays.log;
+      not_late = stays.not_late;
+      fed = sym (ap (λ gs. map get_place gs) cqs.gets ∙ sqs.gets);
+      drained = sym cqs.puts;
+      scripts = sqs.scripts;
+      lists = sym (as_long put_place drainer_place parts.front.puts parts.drainers.items cqs.puts) ∙ as_long put_site cq_site parts.front.puts plan.completions cqs.sites;
+      pool = record {
+        pool = subst (λ (s : SeatView). IsPool parts.lanes s parts.workers.items) (sym seated) pool;
+        none_before = ap (λ h. h.came.handed) handed ∙ blank.handed;
+      };
+      blank = subst (λ (s : SeatView). IsBlank s parts.workers.items) (sym seated) blank;
+      admin_sq = omega (arith, as_long get_site sq_site parts.front.gets plan.submissions sites);
+      admin_cq = omega (arith, as_long put_site cq_site parts.front.puts plan.completions cqs.sites);
+    }

@@ -1,0 +1,49 @@
+-- Which faults of a run come from where. (profile)
+use Rattle.std.specs.Prelude.{◌≡◌, ◌≢◌, ℕ, false, List, [], Ok, Err}
+use Rattle.nvme_workload.specs.Plan.{Plan, workload_of}
+use Rattle.nvme_front.specs.View.{FrontView}
+use Rattle.nvme_front.specs.declared.front.FrontError.{FrontError}
+use Rattle.nvme_front.specs.declared.front.FrontError.TheVariants as front
+use Rattle.nvme_report.specs.declared.reports.Mode.{Mode}
+use Rattle.nvme_report.specs.declared.reports.Mode.TheVariants.{Loaded}
+use Rattle.nvme_runs.specs.declared.runs.RunError.{RunError}
+use Rattle.nvme_runs.specs.declared.runs.RunError.TheVariants as fault
+use Rattle.nvme_threads.specs.Faults.{TurnFails}
+use Rattle.nvme_runs.specs.Runs.{IsFirstTooLong, rules_for}
+
+-- a script of the workload of a text is too long for its ring
+pub record IsTooLong (text : List ℕ) (mode : Mode) (r : ℕ) : Type 0 where
+  pub plan : Plan
+  pub is_workload : workload_of text ≡ Ok plan
+  pub is_loaded : mode ≡ Loaded
+  pub first : IsFirstTooLong plan.submissions r
+
+-- the faults that come of a text, before anything runs
+abbrev pub IsTextFault : List ℕ → Mode → RunError → Type 0
+IsTextFault text mode fault.NoMemory = Unit {0}
+IsTextFault text mode (fault.Workload w) = workload_of text ≡ Err w
+IsTextFault text mode (fault.TooLong r) = IsTooLong text mode r
+IsTextFault text mode e = ⊥
+
+-- a turn of a front failed so, which was made for a plan and until then had only gone on
+pub record FrontFails (plan : Plan) (e : FrontError) : Type 0 where
+  pub given : FrontView
+  pub rules : given.rules ≡ rules_for plan
+  pub log : given.log ≡ []
+  pub not_late : given.late ≡ false
+  pub fails : TurnFails given e
+
+-- the faults that come while a workload runs, or after it. Want of memory is told as such
+abbrev pub IsLateFault : Plan → RunError → Type 0
+IsLateFault plan fault.NoMemory = Unit {0}
+IsLateFault plan (fault.Front front.NoMemory) = ⊥
+IsLateFault plan (fault.Front e) = FrontFails plan e
+IsLateFault plan fault.GaveUp = Unit {0}
+IsLateFault plan e = ⊥
+
+-- a turn of the front of the workload of a text failed so, and not for want of memory
+pub record RunFails (text : List ℕ) (e : FrontError) : Type 0 where
+  pub plan : Plan
+  pub is_workload : workload_of text ≡ Ok plan
+  pub not_memory : e ≢ front.NoMemory
+  pub fails : FrontFails plan e

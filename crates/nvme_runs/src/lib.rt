@@ -1,0 +1,10 @@
+//! Runs of a workload, the answer to one entry, and the input of the program.
+#![tactic(auto)]
+
+mod entries;
+mod input;
+mod runs;
+
+pub use entries::{OnceError, once};
+pub use input::{InputError, MAX_INPUT, MAX_READS, take_input};
+pub use runs::{RunError, run, run_with};

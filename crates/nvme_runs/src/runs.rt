@@ -1,0 +1,212 @@
+//! Runs: a workload is read, driven on threads, settled and reported.
+ghost use Rattle.std.specs.Prelude.{◌≡◌, ◌≢◌, ◌↔◌, ◌⊎◌, ◌≤◌, ℕ, Ok, Err, IfOk, IfErr, IsErrOf, vec_len};
+ghost use Rattle.std.specs.Io.KnownBytes.{Appends};
+ghost use Rattle.nvme_lane.specs.Limits.{IsOutside};
+ghost use Rattle.nvme_pool.specs.Limits.{max_workers};
+ghost use Rattle.nvme_log.specs.Account.{IsWholeAccount};
+ghost use Rattle.nvme_front.specs.Hosts.{sent_at, collected_at};
+ghost use Rattle.nvme_front.specs.Settles.{settled_past};
+ghost use Rattle.nvme_workload.specs.Plan.{Plan, plan_of, workload_of};
+ghost use Rattle.nvme_workload.specs.Sound.{IsSound};
+ghost use Rattle.nvme_report.specs.declared.reports.Mode.TheVariants.{Loaded};
+ghost use Rattle.nvme_report.specs.Report.{report_text};
+ghost use Rattle.nvme_report.specs.Written.{AppendsFront};
+ghost use Rattle.nvme_runs.specs.Runs.{IsRun, HasItsHosts, IsFirstTooLong, FitsAll, GatesRan, fault_of, fault_of_drive, rules_for, script_for, is_loaded};
+ghost use Rattle.nvme_runs.specs.RunFaults.{IsTextFault, IsLateFault, RunFails};
+ghost use Rattle.nvme_workload.specs.declared.error.WorkloadError.{WorkloadError};
+ghost use Rattle.nvme_front.specs.declared.front.FrontError.{FrontError};
+ghost use Rattle.nvme_front.specs.declared.settled.Settled.{Settled};
+ghost use Rattle.nvme_runs.specs.declared.runs.RunError.TheVariants as fault;
+
+mod preparing;
+mod settling;
+
+use nvme_front::{FrontError, Settled};
+use nvme_pool::{Gate, MAX_WORKERS, NoGate};
+use nvme_report::{Mode, WriteFault, report};
+use nvme_threads::{DriveError, Feeding, drive};
+use nvme_workload::{Workload, WorkloadError, read};
+use preparing::{first_too_long, prepare};
+use settling::settle_run;
+use std::alloc::{AllocError, Global};
+use std::io::Write;
+use std::sync::Wait;
+use std::thread::Threads;
+use thiserror::Error;
+
+/// Why a run came to nothing. All threads were joined before it is told, and nothing was written but with `Write`.
+#[derive(Clone, Copy, Debug, PartialEq, Eq, Error)]
+pub enum RunError {
+    /// The number of workers is outside 1 to `nvme_pool::MAX_WORKERS`.
+    #[error("workers")]
+    Workers,
+    /// The first fault of the workload file, which isn't want of memory.
+    #[error("workload: {0}")]
+    Workload(WorkloadError),
+    /// In `Mode::Loaded`: the script of this submission region, the first such, has more commands than its ring holds.
+    #[error("script too long for ring {0}")]
+    TooLong(u8),
+    /// Memory was refused, or a thread couldn't be started.
+    #[error("out of memory")]
+    NoMemory,
+    /// A turn of the front failed, and not for want of memory.
+    #[error("front")]
+    Front(FrontError),
+    /// The front had found nothing to do for too many turns, and not all was done.
+    #[error("gave up")]
+    GaveUp,
+    /// A write of the report failed, or took no byte. A front of the report was written.
+    #[error("write failed")]
+    Write,
+}
+
+impl From<WorkloadError> for RunError {
+    ghost from_gives = { λ w e. e ≡ fault_of w };
+
+    fn from(error: WorkloadError) -> RunError {
+        match error {
+            WorkloadError::NoMemory => RunError::NoMemory,
+            error => RunError::Workload(error),
+        }
+    }
+}
+
+impl From<DriveError> for RunError {
+    ghost from_gives = { λ d e. e ≡ fault_of_drive d };
+
+    fn from(error: DriveError) -> RunError {
+        match error {
+            DriveError::NoMemory => RunError::NoMemory,
+            DriveError::Front(error) => RunError::Front(error),
+        }
+    }
+}
+
+impl From<AllocError> for RunError {
+    ghost from_gives = { λ _ e. e ≡ fault.NoMemory };
+
+    fn from(_error: AllocError) -> RunError {
+        RunError::NoMemory
+    }
+}
+
+// When the hosts of a run submit.
+fn feeding_of(mode: Mode) -> Feeding {
+    match mode {
+        Mode::Loaded => Feeding::Before,
+        Mode::Live => Feeding::Meanwhile,
+    }
+}
+
+// The workload of a text, whose scripts fit their rings where they are all submitted first.
+fn workload_for(alloc: Global, text: &[u8], mode: Mode) -> Result<Workload, RunError>
+    ensures sound { IfOk result (λ w. IsSound (plan_of w)) }
+    ensures read { IfOk result (λ w. workload_of text.now ≡ Ok (plan_of w)) }
+    ensures fit { IfOk result (λ w. mode ≡ Loaded → FitsAll (plan_of w).submissions) }
+    ensures faults { IfErr result (λ e. IsTextFault text.now mode e) }
+{
+    let workload = read(alloc, text)?;
+    if mode == Mode::Loaded
+        && let Some(region) = first_too_long(workload.submissions.as_slice())
+    {
+        return Err(RunError::TooLong(region));
+    }
+    Ok(workload)
+}
+
+// What a workload comes to with one worker for each gate, and the gates after it.
+fn settled_by<G: Gate + Send + Drop, R: Threads + Wait + Sync>(
+    rt: &R,
+    alloc: Global,
+    workload: Workload,
+    mode: Mode,
+    gates: Vec<G>,
+) -> Result<(Settled, Vec<G>), RunError>
+    requires sound { IsSound (plan_of workload) }
+    requires number { (1 ≤ vec_len gates) × (vec_len gates ≤ max_workers) }
+    ensures hosts { IfOk result (λ r. HasItsHosts (plan_of workload) r.0) }
+    ensures account { IfOk result (λ r. IsWholeAccount (rules_for (plan_of workload)) (is_loaded mode) (script_for (plan_of workload)) (sent_at r.0.sent.items) (settled_past r.0) (collected_at r.0.collected.items)) }
+    ensures gates { IfOk result (λ r. GatesRan (λ view ticket. G.left (G.entered view ticket) ticket) gates.items r.1.items (settled_past r.0)) }
+    ensures faults { IfErr result (IsLateFault (plan_of workload)) }
+{
+    let patience = workload.patience;
+    let parts = prepare(alloc, workload, gates.len() as u8)?;
+    let (parts, gates) = drive(rt, alloc, parts, gates, feeding_of(mode), patience)?;
+    let settled = settle_run(rt, alloc, parts, mode)?;
+    Ok((settled, gates))
+}
+
+/// Runs a workload with one worker for each gate, and writes its report. The gates come back, in order, and each was told
+/// of just the executions of its worker. Refused with `Workers` exactly where there are none or too many gates; then
+/// with the first fault of the workload; then, with `Mode::Loaded`, with the first submission region whose script is too
+/// long for its ring; then with want of memory or a front that fails where they arise, and with `GaveUp` where not all
+/// was done when the run ended. Until then nothing was written. It may wait for another thread.
+pub fn run_with<G: Gate + Send + Drop, W: Write, R: Threads + Wait + Sync>(
+    rt: &R,
+    alloc: Global,
+    text: &[u8],
+    mode: Mode,
+    gates: Vec<G>,
+    writer: &mut W,
+) -> Result<(Settled, Vec<G>), RunError>
+    ensures account { IfOk result (λ r. IsRun text.now mode r.0) }
+    ensures written { IfOk result (λ r. Appends (W.contents writer.old) (W.contents writer.new) (report_text mode r.0)) }
+    ensures gates { IfOk result (λ r. GatesRan (λ view ticket. G.left (G.entered view ticket) ticket) gates.items r.1.items (settled_past r.0)) }
+    ensures untouched { IfErr result (λ e. e ≢ fault.Write → writer.new ≡ writer.old) }
+    ensures write_failed { IfErr result (λ e. e ≡ fault.Write → (s : Settled) × IsRun text.now mode s × AppendsFront (W.contents writer.old) (W.contents writer.new) (report_text mode s)) }
+    ensures workers { IsErrOf result fault.Workers ↔ IsOutside (vec_len gates) 1 max_workers }
+    ensures workload { (w : WorkloadError) → IsErrOf result (fault.Workload w) → workload_of text.now ≡ Err w }
+    ensures faulty { (w : WorkloadError) → (IsOutside (vec_len gates) 1 max_workers → ⊥) → workload_of text.now ≡ Err w → IsErrOf result (fault.Workload w) ⊎ IsErrOf result fault.NoMemory }
+    ensures too_long { (r : ℕ) → IsErrOf result (fault.TooLong r) → (plan : Plan) × (workload_of text.now ≡ Ok plan) × (mode ≡ Loaded) × IsFirstTooLong plan.submissions r }
+    ensures longer { (r : ℕ) (plan : Plan) → (IsOutside (vec_len gates) 1 max_workers → ⊥) → workload_of text.now ≡ Ok plan → mode ≡ Loaded → IsFirstTooLong plan.submissions r → IsErrOf result (fault.TooLong r) ⊎ IsErrOf result fault.NoMemory }
+    ensures front { (e : FrontError) → IsErrOf result (fault.Front e) → RunFails text.now e }
+{
+    if gates.is_empty() || gates.len() > usize::from(MAX_WORKERS) {
+        return Err(RunError::Workers);
+    }
+    let workload = workload_for(alloc, text, mode)?;
+    let (settled, gates) = settled_by(rt, alloc, workload, mode, gates)?;
+    match report(&settled, mode, writer) {
+        Ok(()) => Ok((settled, gates)),
+        Err(WriteFault) => Err(RunError::Write),
+    }
+}
+
+/// `run_with` so many workers and gates that do nothing.
+pub fn run<W: Write, R: Threads + Wait + Sync>(
+    rt: &R,
+    alloc: Global,
+    text: &[u8],
+    mode: Mode,
+    workers: u8,
+    writer: &mut W,
+) -> Result<Settled, RunError>
+    ensures account { IfOk result (λ s. IsRun text.now mode s) }
+    ensures written { IfOk result (λ s. Appends (W.contents writer.old) (W.contents writer.new) (report_text mode s)) }
+    ensures untouched { IfErr result (λ e. e ≢ fault.Write → writer.new ≡ writer.old) }
+    ensures write_failed { IfErr result (λ e. e ≡ fault.Write → (s : Settled) × IsRun text.now mode s × AppendsFront (W.contents writer.old) (W.contents writer.new) (report_text mode s)) }
+    ensures workers { IsErrOf result fault.Workers ↔ IsOutside workers 1 max_workers }
+    ensures workload { (w : WorkloadError) → IsErrOf result (fault.Workload w) → workload_of text.now ≡ Err w }
+    ensures faulty { (w : WorkloadError) → (IsOutside workers 1 max_workers → ⊥) → workload_of text.now ≡ Err w → IsErrOf result (fault.Workload w) ⊎ IsErrOf result fault.NoMemory }
+    ensures too_long { (r : ℕ) → IsErrOf result (fault.TooLong r) → (plan : Plan) × (workload_of text.now ≡ Ok plan) × (mode ≡ Loaded) × IsFirstTooLong plan.submissions r }
+    ensures longer { (r : ℕ) (plan : Plan) → (IsOutside workers 1 max_workers → ⊥) → workload_of text.now ≡ Ok plan → mode ≡ Loaded → IsFirstTooLong plan.submissions r → IsErrOf result (fault.TooLong r) ⊎ IsErrOf result fault.NoMemory }
+    ensures front { (e : FrontError) → IsErrOf result (fault.Front e) → RunFails text.now e }
+{
+    if workers == 0 || workers > MAX_WORKERS {
+        return Err(RunError::Workers);
+    }
+    let gates = idle_gates(alloc, workers)?;
+    let (settled, _) = run_with(rt, alloc, text, mode, gates, writer)?;
+    Ok(settled)
+}
+
+// So many gates that do nothing.
+fn idle_gates(alloc: Global, workers: u8) -> Result<Vec<NoGate>, AllocError>
+    ensures { IfOk result (λ gates. vec_len gates ≡ workers) }
+{
+    let mut gates = Vec::with_capacity(alloc, usize::from(workers))?;
+    for _ in 0..workers {
+        gates.push_reserved(NoGate);
+    }
+    Ok(gates)
+}

@@ -1,0 +1,118 @@
+// The program by its words and streams: what fails, and a bad command line.
+use crate::again::{Left, page, program_again, told_again, words_again};
+use crate::entries::{ONCE, read_of};
+use crate::fakes::{Endless, FailsAt, Takes};
+use nvme_sim::command;
+use std::alloc::{AllocError, Global};
+use std::sync::Wait;
+use std::test::*;
+use std::thread::Threads;
+
+// What the program does with an output that takes so many bytes and then fails, or answers 0.
+fn run_into<R: Threads + Wait + Sync>(
+    rt: &R,
+    alloc: Global,
+    line: &[&str],
+    room: usize,
+    fails: bool,
+) -> Result<Left, AllocError> {
+    let text = read_of(alloc, "100000000000000007000000", "")?;
+    let mut output = Takes {
+        taken: page(alloc)?,
+        room,
+        fails,
+    };
+    let (status, errors) = told_again(rt, alloc, line, text.as_bytes(), &mut output)?;
+    Ok(Left {
+        status,
+        output: output.taken,
+        errors,
+    })
+}
+
+#[test]
+fn output_that_fails(rt: HostRuntime) -> Result<(), Fail> {
+    for (room, fails) in [(10, true), (0, false)] {
+        let left = run_into(&rt, rt.alloc(), &ONCE, room, fails)?;
+        assert_eq!(rt; left.output.len(), room);
+        assert_eq!(rt;
+            left.errors.as_slice(),
+            b"nvmearb: write failed\n".as_slice()
+        );
+        assert_eq!(rt; left.status, 3);
+    }
+    let help = run_into(&rt, rt.alloc(), &["nvmearb", "--help"], 5, true)?;
+    assert_eq!(rt;
+        help.errors.as_slice(),
+        b"nvmearb: write failed\n".as_slice()
+    );
+    assert_eq!(rt; help.status, 3);
+    Ok(())
+}
+
+// The status of the program over no input, where nothing can be told on standard error.
+fn deaf_status<R: Threads + Wait + Sync>(
+    rt: &R,
+    alloc: Global,
+    words: &[String],
+    output: &mut Vec<u8>,
+) -> u8 {
+    let mut deaf = Takes {
+        taken: Vec::new(alloc),
+        room: 0,
+        fails: true,
+    };
+    command(rt, alloc, words, b"".as_slice(), output, &mut deaf)
+}
+
+#[test]
+fn input_that_fails(rt: HostRuntime) -> Result<(), Fail> {
+    let alloc = rt.alloc();
+    let reader = FailsAt {
+        text: b"",
+        reads: 0,
+        fails_at: 0,
+    };
+    let mut output = page(alloc)?;
+    let (status, errors) = told_again(&rt, alloc, &ONCE, reader, &mut output)?;
+    assert_eq!(rt; errors.as_slice(), b"nvmearb: read failed\n".as_slice());
+    assert_eq!(rt; (output.len(), status), (0, 3));
+    let (status, errors) = told_again(&rt, alloc, &ONCE, Endless, &mut output)?;
+    assert_eq!(rt; errors.as_slice(), b"nvmearb: input too long\n".as_slice());
+    assert_eq!(rt; (output.len(), status), (0, 1));
+    let words = words_again(alloc, &ONCE)?;
+    let mut status = deaf_status(&rt, alloc, words.as_slice(), &mut output);
+    if status == 3 {
+        // Memory was refused.
+        status = deaf_status(&rt, alloc, words.as_slice(), &mut output);
+    }
+    assert_eq!(rt; (output.len(), status), (0, 1));
+    Ok(())
+}
+
+#[test]
+fn bad_command_line(rt: HostRuntime) -> Result<(), Fail> {
+    let alloc = rt.alloc();
+    let lines: [&[&str]; 7] = [
+        &["nvmearb"],
+        &["nvmearb", "loaded"],
+        &["nvmearb", "once"],
+        &["nvmearb", "once", "--blocks", "0"],
+        &["nvmearb", "once", "--blocks", "9223372036854775808"],
+        &["nvmearb", "once", "--blocks", "-1"],
+        &["nvmearb", "once", "--blocks", "1", "more"],
+    ];
+    for line in lines {
+        let left = program_again(&rt, alloc, line, b"")?;
+        assert_eq!(rt; left.status, 2);
+        assert_eq!(rt; left.output.len(), 0);
+        assert!(rt; left.errors.len() > 0);
+    }
+    let most = ["nvmearb", "once", "--blocks", "9223372036854775807"];
+    let most = program_again(&rt, alloc, &most, b"")?;
+    assert_eq!(rt; most.status, 1);
+    let help = program_again(&rt, alloc, &["nvmearb", "--help"], b"")?;
+    assert_eq!(rt; (help.status, help.errors.len()), (0, 0));
+    assert!(rt; help.output.len() > 0);
+    Ok(())
+}

@@ -1,0 +1,68 @@
+// Readers and writers that fail, and a reader without an end.
+use std::io::{Error, ErrorKind, Read, Result, Write};
+
+/// A reader whose read of a number, from 0, fails, and that gives up to ten bytes of text at each other.
+#[derive(Clone, Copy)]
+pub struct FailsAt<'a> {
+    pub text: &'a [u8],
+    pub reads: usize,
+    pub fails_at: usize,
+}
+
+impl Read for FailsAt<'_> {
+    fn read(&mut self, buf: &mut [u8]) -> Result<usize> {
+        if self.reads == self.fails_at {
+            return Err(Error::from(ErrorKind::Other));
+        }
+        self.reads = self.reads.saturating_add(1);
+        let count = self.text.len().min(buf.len()).min(10);
+        buf[..count].copy_from_slice(&self.text[..count]);
+        self.text = &self.text[count..];
+        Ok(count)
+    }
+}
+
+/// A reader whose reads fail.
+#[derive(Clone, Copy)]
+pub struct Fails;
+
+impl Read for Fails {
+    fn read(&mut self, _buf: &mut [u8]) -> Result<usize> {
+        Err(Error::from(ErrorKind::Other))
+    }
+}
+
+/// A reader of zeros without an end.
+#[derive(Clone, Copy)]
+pub struct Endless;
+
+impl Read for Endless {
+    fn read(&mut self, buf: &mut [u8]) -> Result<usize> {
+        buf.fill(b'0');
+        Ok(buf.len())
+    }
+}
+
+/// A writer that takes so many bytes and then fails, or answers 0.
+#[derive(Drop)]
+pub struct Takes {
+    pub taken: Vec<u8>,
+    pub room: usize,
+    pub fails: bool,
+}
+
+impl Write for Takes {
+    fn write(&mut self, buf: &[u8]) -> Result<usize> {
+        let count = buf.len().min(self.room);
+        if count == 0 && self.fails {
+            return Err(Error::from(ErrorKind::Other));
+        }
+        self.taken.extend_from_slice(&buf[..count])?;
+        self.room -= count;
+        Ok(count)
+    }
+
+    fn flush(&mut self) -> Result<()> {
+        Ok(())
+    }
+}
