@@ -78,11 +78,12 @@ fresh_then a b c first second = record {
   sizes = second.sizes ∙ first.sizes;
   regions = second.regions;
   hands = second.hands ∙ first.hands;
+  limit = second.limit ∙ first.limit;
 }
 
 -- a front that stayed fresh is fresh
 pub fresh_after : (a b : FrontView) → StaysFresh a b → StaysFresh b b
-fresh_after a b stays = record { log = stays.log; not_late = stays.not_late; mechanism = refl; start = refl; sizes = refl; regions = stays.regions; hands = refl }
+fresh_after a b stays = record { log = stays.log; not_late = stays.not_late; mechanism = refl; start = refl; sizes = refl; regions = stays.regions; hands = refl; limit = refl }
 
 -- ---- a region more
 -- the sites of submission regions, one more added

@@ -2,7 +2,10 @@ pub mod Accounts
 pub mod Adding
 pub mod Driven
 pub mod Fitting
+pub mod Meaning
+pub mod Reading
 pub mod Settled
 pub mod Sites
+pub mod Telling
 pub mod Told
 pub mod TooLong

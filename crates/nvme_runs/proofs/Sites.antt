@@ -12,6 +12,7 @@ use Rattle.nvme_admin.specs.History.{TableStep, RegionAdded, Submission, Complet
 use Rattle.nvme_workload.specs.declared.plan.SqPlan.{SqPlan}
 use Rattle.nvme_workload.specs.declared.plan.CqPlan.{CqPlan}
 use Rattle.nvme_workload.specs.Plan.{Plan}
+use Rattle.nvme_log.specs.Limits.{most_events}
 use Rattle.nvme_workload.specs.Sound.{AreApart}
 use Rattle.nvme_front.specs.declared.settling.Parts.{Parts}
 use Rattle.nvme_front.specs.Goes.{get_place, put_place}
@@ -47,11 +48,11 @@ still_apart v plans completions all sites is_all apart =
 -- a new front with the regions of a workload, and with the workers of its pool, is prepared
 pub prepared_by : (plan : Plan) (parts : Parts) (seat : SeatView) (first middle : FrontView)
     → first.rules.mechanism ≡ plan.mechanism → first.rules.start ≡ record { nsq = plan.nsq; ncq = plan.ncq; settings = plan.settings } → first.rules.sizes ≡ plan.sizes
-    → first.hands ≡ record { came = seat; seat = seat; unhanded = []; running = [] }
+    → first.hands ≡ record { came = seat; seat = seat; unhanded = []; running = [] } → first.limit ≡ most_events
     → AddsSqs plan.submissions parts.feeders.items first middle → AddsCqs plan.completions parts.drainers.items middle parts.front
     → IsPool parts.lanes seat parts.workers.items → IsBlank seat parts.workers.items → 1 ≤ length plan.submissions → 1 ≤ length plan.completions
     → IsPrepared plan parts
-prepared_by plan parts seat first middle mechanism start sizes hands sqs cqs pool blank some_sq some_cq =
+prepared_by plan parts seat first middle mechanism start sizes hands limit sqs cqs pool blank some_sq some_cq =
     let stays = fresh_then first middle parts.front sqs.stays cqs.stays in
     let sites : map get_site parts.front.gets ≡ map sq_site plan.submissions = ap (λ gs. map get_site gs) cqs.gets ∙ sqs.sites in
     let handed = stays.hands ∙ hands in
@@ -63,6 +64,7 @@ prepared_by plan parts seat first middle mechanism start sizes hands sqs cqs poo
       rules = λ i. record { mechanism = mechanism_is i; start = start_is i; sizes = sizes_are i; regions = regions i };
       log = stays.log;
       not_late = stays.not_late;
+      limit = stays.limit ∙ limit;
       fed = sym (ap (λ gs. map get_place gs) cqs.gets ∙ sqs.gets);
       drained = sym cqs.puts;
       scripts = sqs.scripts;

@@ -11,6 +11,7 @@ use Rattle.nvme_pool.specs.Pool.{IsBlank}
 use Rattle.nvme_workload.specs.declared.plan.SqPlan.{SqPlan}
 use Rattle.nvme_workload.specs.declared.plan.CqPlan.{CqPlan}
 use Rattle.nvme_workload.specs.Plan.{Plan}
+use Rattle.nvme_log.specs.Limits.{most_events}
 use Rattle.nvme_front.specs.declared.settling.Parts.{Parts}
 use Rattle.nvme_front.specs.Goes.{get_place, put_place}
 use Rattle.nvme_front.specs.Hosts.{IsFedBy, IsDrainedBy, feeder_place, drainer_place}
@@ -27,6 +28,7 @@ pub record StaysFresh (old new : FrontView) : Type 0 where
   pub sizes : new.rules.sizes ≡ old.rules.sizes
   pub regions : HasItsRegions new
   pub hands : new.hands ≡ old.hands
+  pub limit : new.limit ≡ old.limit
 
 -- the region is the last of its kind, at this address with so many slots, and the host has the other end of its ring
 pub record AddsSq (address slots : ℕ) (f : Feeder Sqe) (old new : FrontView) : Type 0 where
@@ -75,6 +77,7 @@ pub record IsPrepared (plan : Plan) (parts : Parts) : Type 0 where
   pub rules : parts.front.rules ≡ rules_for plan
   pub log : parts.front.log ≡ []
   pub not_late : parts.front.late ≡ false
+  pub limit : parts.front.limit ≡ most_events
   pub fed : IsFedBy parts.front parts.feeders.items
   pub drained : IsDrainedBy parts.front parts.drainers.items
   pub scripts : map (λ (f : Feeder Sqe). script_of f) parts.feeders.items ≡ map (λ (s : SqPlan). s.script) plan.submissions

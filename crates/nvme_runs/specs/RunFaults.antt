@@ -1,6 +1,7 @@
 -- Which faults of a run come from where. (profile)
 use Rattle.std.specs.Prelude.{◌≡◌, ◌≢◌, ℕ, false, List, [], Ok, Err}
 use Rattle.nvme_workload.specs.Plan.{Plan, workload_of}
+use Rattle.nvme_workload.specs.declared.error.WorkloadError.TheVariants as why
 use Rattle.nvme_front.specs.View.{FrontView}
 use Rattle.nvme_front.specs.declared.front.FrontError.{FrontError}
 use Rattle.nvme_front.specs.declared.front.FrontError.TheVariants as front
@@ -18,9 +19,10 @@ pub record IsTooLong (text : List ℕ) (mode : Mode) (r : ℕ) : Type 0 where
   pub is_loaded : mode ≡ Loaded
   pub first : IsFirstTooLong plan.submissions r
 
--- the faults that come of a text, before anything runs
+-- the faults that come of a text, before anything runs. Want of memory is told as such
 abbrev pub IsTextFault : List ℕ → Mode → RunError → Type 0
 IsTextFault text mode fault.NoMemory = Unit {0}
+IsTextFault text mode (fault.Workload why.NoMemory) = ⊥
 IsTextFault text mode (fault.Workload w) = workload_of text ≡ Err w
 IsTextFault text mode (fault.TooLong r) = IsTooLong text mode r
 IsTextFault text mode e = ⊥

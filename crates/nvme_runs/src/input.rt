@@ -1,5 +1,8 @@
-ghost use Rattle.std.specs.Prelude.{◌≡◌, ◌<◌, ◌≤◌, length, IfOk, IfSome, IsErrOf};
+ghost use Rattle.std.specs.Prelude.{◌≡◌, ◌<◌, ◌≤◌, ◌↔◌, ◌⊎◌, true, false, length, IfOk, IfSome, IsErrOf};
 
+mod counted;
+
+use counted::Counted;
 use std::alloc::Global;
 use std::io::Read;
 use thiserror::Error;
@@ -29,15 +32,32 @@ pub enum InputError {
 
 /// All bytes of the reader up to its end. At each read a failure is found first, then a length over
 /// `MAX_INPUT`, then want of memory. It ends after at most `MAX_READS` reads.
-pub fn take_input<R: Read + Drop>(alloc: Global, mut reader: R) -> Result<Vec<u8>, InputError>
+pub fn take_input<R: Read + Drop>(alloc: Global, reader: R) -> Result<Vec<u8>, InputError>
     ensures whole { IfOk result (λ bytes. IfSome (R.remaining reader) (λ rest. bytes.items ≡ rest)) }
     ensures within { IfOk result (λ bytes. length bytes.items ≤ MAX_INPUT) }
     ensures too_long { IsErrOf result InputError.TooLong → IfSome (R.remaining reader) (λ rest. MAX_INPUT < length rest) }
+    ensures longer { IfSome (R.remaining reader) (λ rest. MAX_INPUT < length rest → IsErrOf result InputError.TooLong ⊎ IsErrOf result InputError.Read ⊎ IsErrOf result InputError.NoMemory) }
+{
+    taken(alloc, &mut Counted::new(reader))
+}
+
+// All bytes of a reader of which nothing was read, up to its end.
+fn taken<R: Read>(alloc: Global, reader: &mut Counted<R>) -> Result<Vec<u8>, InputError>
+    requires reads { reader.old.reads ≡ 0 }
+    requires given { reader.old.given ≡ 0 }
+    requires failed { reader.old.failed ≡ false }
+    ensures reads { reader.new.reads ≤ MAX_READS }
+    ensures whole { IfOk result (λ bytes. IfSome (R.remaining reader.old.reader) (λ rest. bytes.items ≡ rest)) }
+    ensures within { IfOk result (λ bytes. length bytes.items ≤ MAX_INPUT) }
+    ensures too_long { IsErrOf result InputError.TooLong ↔ (MAX_INPUT < reader.new.given) }
+    ensures given { IfSome (R.remaining reader.old.reader) (λ rest. reader.new.given ≤ length rest) }
+    ensures failed { reader.new.failed ≡ true → IsErrOf result InputError.Read }
+    ensures read { IsErrOf result InputError.Read → (reader.new.failed ≡ true) ⊎ (reader.new.reads ≡ MAX_READS) }
 {
     let mut bytes = Vec::new(alloc);
     let mut chunk = [0; CHUNK];
     for _ in 0..MAX_READS {
-        let Ok(count) = reader.read(&mut chunk) else {
+        let Some(count) = reader.read(&mut chunk) else {
             return Err(InputError::Read);
         };
         if count == 0 {

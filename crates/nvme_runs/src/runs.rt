@@ -1,21 +1,16 @@
 //! Runs: a workload is read, driven on threads, settled and reported.
-ghost use Rattle.std.specs.Prelude.{◌≡◌, ◌≢◌, ◌↔◌, ◌⊎◌, ◌≤◌, ℕ, Ok, Err, IfOk, IfErr, IsErrOf, vec_len};
-ghost use Rattle.std.specs.Io.KnownBytes.{Appends};
+ghost use Rattle.std.specs.Prelude.{◌≡◌, ◌↔◌, ◌≤◌, Ok, IfOk, IfErr, IsTrue, vec_len};
 ghost use Rattle.nvme_lane.specs.Limits.{IsOutside};
 ghost use Rattle.nvme_pool.specs.Limits.{max_workers};
 ghost use Rattle.nvme_log.specs.Account.{IsWholeAccount};
 ghost use Rattle.nvme_front.specs.Hosts.{sent_at, collected_at};
 ghost use Rattle.nvme_front.specs.Settles.{settled_past};
-ghost use Rattle.nvme_workload.specs.Plan.{Plan, plan_of, workload_of};
+ghost use Rattle.nvme_workload.specs.Plan.{plan_of, workload_of};
 ghost use Rattle.nvme_workload.specs.Sound.{IsSound};
 ghost use Rattle.nvme_report.specs.declared.reports.Mode.TheVariants.{Loaded};
-ghost use Rattle.nvme_report.specs.Report.{report_text};
-ghost use Rattle.nvme_report.specs.Written.{AppendsFront};
-ghost use Rattle.nvme_runs.specs.Runs.{IsRun, HasItsHosts, IsFirstTooLong, FitsAll, GatesRan, fault_of, fault_of_drive, rules_for, script_for, is_loaded};
-ghost use Rattle.nvme_runs.specs.RunFaults.{IsTextFault, IsLateFault, RunFails};
-ghost use Rattle.nvme_workload.specs.declared.error.WorkloadError.{WorkloadError};
-ghost use Rattle.nvme_front.specs.declared.front.FrontError.{FrontError};
-ghost use Rattle.nvme_front.specs.declared.settled.Settled.{Settled};
+ghost use Rattle.nvme_runs.specs.Runs.{HasItsHosts, FitsAll, GatesRan, fault_of, fault_of_drive, rules_for, script_for, is_loaded};
+ghost use Rattle.nvme_runs.specs.RunFaults.{IsTextFault, IsLateFault};
+ghost use Rattle.nvme_runs.specs.RunMeans.{RunMeans};
 ghost use Rattle.nvme_runs.specs.declared.runs.RunError.TheVariants as fault;
 
 mod preparing;
@@ -90,6 +85,13 @@ impl From<AllocError> for RunError {
     }
 }
 
+// Whether no run has so many workers.
+fn is_outside(workers: usize) -> bool
+    ensures { IsTrue result ↔ IsOutside workers 1 max_workers }
+{
+    workers == 0 || workers > usize::from(MAX_WORKERS)
+}
+
 // When the hosts of a run submit.
 fn feeding_of(mode: Mode) -> Feeding {
     match mode {
@@ -149,19 +151,10 @@ pub fn run_with<G: Gate + Send + Drop, W: Write, R: Threads + Wait + Sync>(
     gates: Vec<G>,
     writer: &mut W,
 ) -> Result<(Settled, Vec<G>), RunError>
-    ensures account { IfOk result (λ r. IsRun text.now mode r.0) }
-    ensures written { IfOk result (λ r. Appends (W.contents writer.old) (W.contents writer.new) (report_text mode r.0)) }
+    ensures means { RunMeans result (λ r. r.0) writer.old writer.new W.contents text.now mode (vec_len gates) }
     ensures gates { IfOk result (λ r. GatesRan (λ view ticket. G.left (G.entered view ticket) ticket) gates.items r.1.items (settled_past r.0)) }
-    ensures untouched { IfErr result (λ e. e ≢ fault.Write → writer.new ≡ writer.old) }
-    ensures write_failed { IfErr result (λ e. e ≡ fault.Write → (s : Settled) × IsRun text.now mode s × AppendsFront (W.contents writer.old) (W.contents writer.new) (report_text mode s)) }
-    ensures workers { IsErrOf result fault.Workers ↔ IsOutside (vec_len gates) 1 max_workers }
-    ensures workload { (w : WorkloadError) → IsErrOf result (fault.Workload w) → workload_of text.now ≡ Err w }
-    ensures faulty { (w : WorkloadError) → (IsOutside (vec_len gates) 1 max_workers → ⊥) → workload_of text.now ≡ Err w → IsErrOf result (fault.Workload w) ⊎ IsErrOf result fault.NoMemory }
-    ensures too_long { (r : ℕ) → IsErrOf result (fault.TooLong r) → (plan : Plan) × (workload_of text.now ≡ Ok plan) × (mode ≡ Loaded) × IsFirstTooLong plan.submissions r }
-    ensures longer { (r : ℕ) (plan : Plan) → (IsOutside (vec_len gates) 1 max_workers → ⊥) → workload_of text.now ≡ Ok plan → mode ≡ Loaded → IsFirstTooLong plan.submissions r → IsErrOf result (fault.TooLong r) ⊎ IsErrOf result fault.NoMemory }
-    ensures front { (e : FrontError) → IsErrOf result (fault.Front e) → RunFails text.now e }
 {
-    if gates.is_empty() || gates.len() > usize::from(MAX_WORKERS) {
+    if is_outside(gates.len()) {
         return Err(RunError::Workers);
     }
     let workload = workload_for(alloc, text, mode)?;
@@ -181,18 +174,9 @@ pub fn run<W: Write, R: Threads + Wait + Sync>(
     workers: u8,
     writer: &mut W,
 ) -> Result<Settled, RunError>
-    ensures account { IfOk result (λ s. IsRun text.now mode s) }
-    ensures written { IfOk result (λ s. Appends (W.contents writer.old) (W.contents writer.new) (report_text mode s)) }
-    ensures untouched { IfErr result (λ e. e ≢ fault.Write → writer.new ≡ writer.old) }
-    ensures write_failed { IfErr result (λ e. e ≡ fault.Write → (s : Settled) × IsRun text.now mode s × AppendsFront (W.contents writer.old) (W.contents writer.new) (report_text mode s)) }
-    ensures workers { IsErrOf result fault.Workers ↔ IsOutside workers 1 max_workers }
-    ensures workload { (w : WorkloadError) → IsErrOf result (fault.Workload w) → workload_of text.now ≡ Err w }
-    ensures faulty { (w : WorkloadError) → (IsOutside workers 1 max_workers → ⊥) → workload_of text.now ≡ Err w → IsErrOf result (fault.Workload w) ⊎ IsErrOf result fault.NoMemory }
-    ensures too_long { (r : ℕ) → IsErrOf result (fault.TooLong r) → (plan : Plan) × (workload_of text.now ≡ Ok plan) × (mode ≡ Loaded) × IsFirstTooLong plan.submissions r }
-    ensures longer { (r : ℕ) (plan : Plan) → (IsOutside workers 1 max_workers → ⊥) → workload_of text.now ≡ Ok plan → mode ≡ Loaded → IsFirstTooLong plan.submissions r → IsErrOf result (fault.TooLong r) ⊎ IsErrOf result fault.NoMemory }
-    ensures front { (e : FrontError) → IsErrOf result (fault.Front e) → RunFails text.now e }
+    ensures means { RunMeans result (λ s. s) writer.old writer.new W.contents text.now mode workers }
 {
-    if workers == 0 || workers > MAX_WORKERS {
+    if is_outside(usize::from(workers)) {
         return Err(RunError::Workers);
     }
     let gates = idle_gates(alloc, workers)?;

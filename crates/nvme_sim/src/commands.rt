@@ -1,4 +1,9 @@
-ghost use Rattle.std.specs.Prelude.{◌≡◌, ◌≤◌, ◌⊎◌, IfErr};
+ghost use Rattle.std.specs.Prelude.{◌≡◌, ◌≢◌, ◌≤◌, ◌⊎◌, IfErr, IfSome, OnOk};
+ghost use Rattle.std.specs.Io.KnownBytes.{Appends};
+ghost use Rattle.nvme_front.specs.declared.settled.Settled.{Settled};
+ghost use Rattle.nvme_report.specs.Report.{report_text};
+ghost use Rattle.nvme_runs.specs.Runs.{IsRun};
+ghost use Rattle.nvme_sim.specs.Statuses.{IsBadEntry, IsBadWorkload, status_of};
 ghost use Rattle.nvme_sim.specs.declared.commands.Fault.TheVariants as fault;
 ghost use Rattle.nvme_runs.specs.declared.runs.RunError.TheVariants as run_fault;
 
@@ -25,7 +30,7 @@ enum Fault {
     #[error("nvmearb: {0}")]
     Input(InputError),
     #[error("nvmearb: out of memory")]
-    NoMemory(#[from] AllocError),
+    NoMemory(AllocError),
     #[error("nvmearb: write failed")]
     Write,
     #[error("nvmearb: {0}")]
@@ -35,6 +40,7 @@ enum Fault {
 impl Fault {
     // The program's status: 1 for the input, 2 for the command line, 3 for what the run met.
     fn status(&self) -> u8
+        ensures table { result ≡ status_of self.now }
         ensures range { result ≤ 3 }
         ensures write { (self.now ≡ fault.Write) ⊎ (self.now ≡ fault.Run run_fault.Write) → result ≡ 3 }
     {
@@ -139,15 +145,22 @@ fn asked_in(matches: &ArgMatches) -> Option<Request> {
 }
 
 // What the words ask for, the program's name first.
-fn asked_of(alloc: Global, words: &[String]) -> Result<Request, Fault> {
-    match program(alloc)?.try_get_matches_from(words) {
+fn asked_of(alloc: Global, words: &[String]) -> Result<Request, Fault>
+    ensures no_input { IfErr result (λ e. status_of e ≢ 1) }
+{
+    let Ok(program) = program(alloc) else {
+        return Err(Fault::NoMemory(AllocError));
+    };
+    match program.try_get_matches_from(words) {
         Ok(matches) => asked_in(&matches).ok_or(Fault::Words),
         Err(error) => refused(error),
     }
 }
 
 // What `clap` gives in place of matches: a request for help, want of memory, or a fault of the words.
-fn refused(error: clap::Error) -> Result<Request, Fault> {
+fn refused(error: clap::Error) -> Result<Request, Fault>
+    ensures no_input { IfErr result (λ e. status_of e ≢ 1) }
+{
     if error.kind() == ErrorKind::OutOfMemory {
         Err(Fault::NoMemory(AllocError))
     } else if error.use_stderr() {
@@ -164,14 +177,21 @@ fn answered<R: Read + Drop, W: Write>(
     input: R,
     output: &mut W,
 ) -> Result<(), Fault>
+    ensures input { IfErr result (λ e. status_of e ≡ 1 → IfSome (R.remaining input) IsBadEntry) }
     ensures untouched { IfErr result (λ e. (e ≡ fault.Write) ⊎ (output.new ≡ output.old)) }
 {
     if blocks == 0 {
         return Err(Fault::Words);
     }
     let bytes = take_input(alloc, input).map_err(Fault::Input)?;
-    let line = once(bytes.as_slice(), blocks).map_err(Fault::Entry)?;
-    output.write_all(&line).map_err(|_| Fault::Write)
+    let line = match once(bytes.as_slice(), blocks) {
+        Ok(line) => line,
+        Err(error) => return Err(Fault::Entry(error)),
+    };
+    match output.write_all(&line) {
+        Ok(()) => Ok(()),
+        Err(_) => Err(Fault::Write),
+    }
 }
 
 // Runs a workload with so many workers.
@@ -183,6 +203,8 @@ fn ran<R: Read + Drop, W: Write, T: Threads + Wait + Sync>(
     input: R,
     output: &mut W,
 ) -> Result<(), Fault>
+    ensures done { OnOk result (IfSome (R.remaining input) (λ bytes. (settled : Settled) × IsRun bytes mode settled × Appends (W.contents output.old) (W.contents output.new) (report_text mode settled))) }
+    ensures input { IfErr result (λ e. status_of e ≡ 1 → IfSome (R.remaining input) IsBadWorkload) }
     ensures untouched { IfErr result (λ e. (e ≡ fault.Run run_fault.Write) ⊎ (output.new ≡ output.old)) }
 {
     let text = take_input(alloc, input).map_err(Fault::Input)?;
@@ -200,6 +222,7 @@ fn served<R: Read + Drop, W: Write, T: Threads + Wait + Sync>(
     input: R,
     output: &mut W,
 ) -> Result<(), Fault>
+    ensures input { IfErr result (λ e. status_of e ≡ 1 → IfSome (R.remaining input) (λ bytes. IsBadEntry bytes ⊎ IsBadWorkload bytes)) }
     ensures untouched { IfErr result (λ e. (e ≡ fault.Write) ⊎ (e ≡ fault.Run run_fault.Write) ⊎ (output.new ≡ output.old)) }
 {
     match asked_of(alloc, words)? {
@@ -223,6 +246,7 @@ pub fn command<R: Read + Drop, W: Write, E: Write, T: Threads + Wait + Sync>(
     errors: &mut E,
 ) -> u8
     ensures status { result ≤ 3 }
+    ensures input { result ≡ 1 → IfSome (R.remaining input) (λ bytes. IsBadEntry bytes ⊎ IsBadWorkload bytes) }
     ensures untouched { (result ≡ 1) ⊎ (result ≡ 2) → output.new ≡ output.old }
 {
     match served(rt, alloc, words, input, output) {

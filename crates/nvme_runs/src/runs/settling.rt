@@ -1,19 +1,47 @@
 // What is made of the parts of a run when its threads are joined.
-ghost use Rattle.std.specs.Prelude.{◌≡◌, ◌↔◌, ◌⊎◌, ◌≤◌, length, map, IfOk, IfErr, IsErrOf, IsTrue, OnOk};
+ghost use Rattle.std.specs.Prelude.{◌≡◌, ◌≢◌, ◌↔◌, ◌⊎◌, ◌<◌, ◌≤◌, length, map, IfOk, IfErr, IsErrOf, IsTrue, IsFalse, OnOk};
 ghost use Rattle.nvme_admin.specs.declared.bounds.TheConstants.{MAX_REGIONS};
 ghost use Rattle.nvme_front.specs.Hosts.{IsFedBy, IsDrainedBy, told, told_by};
 ghost use Rattle.nvme_front.specs.Settles.{HasItsPool, AreAtRest, IsSettled, IsSettledAccount, settled_past};
 ghost use Rattle.nvme_log.specs.Dispatches.{ExecutesOnce};
-ghost use Rattle.nvme_runs.specs.Runs.{AllSubmitted};
+ghost use Rattle.nvme_lane.specs.Feeder.{script_of, count_of};
+ghost use Rattle.nvme_front.specs.declared.settled.SettleError.TheVariants as settling;
+ghost use Rattle.nvme_runs.specs.Runs.{AllSubmitted, IsDue};
 ghost use Rattle.nvme_runs.specs.declared.runs.RunError.TheVariants as fault;
 
 use crate::runs::RunError;
-use nvme_front::{Parts, SettleError, Settled, settle};
+use nvme_entry::Sqe;
+use nvme_front::{Front, Parts, SettleError, Settled, settle};
+use nvme_lane::Feeder;
 use nvme_report::Mode;
 use std::alloc::Global;
 use std::sync::Wait;
 
-// The script of each region that is served is wholly submitted, and in `Mode::Loaded` that of every region.
+// Whether the script of a region is due: where the region is served, and in `Mode::Loaded` always.
+fn is_due(front: &Front, mode: Mode, region: u8) -> bool
+    requires there { region < length front.now.gets }
+    ensures { IsTrue result ↔ IsDue mode front.now region }
+{
+    mode == Mode::Loaded || front.is_serving(region)
+}
+
+// Whether a script is wholly submitted.
+fn is_submitted(feeder: &Feeder<Sqe>) -> bool
+    ensures { IsTrue result ↔ (count_of feeder.now ≡ length (script_of feeder.now)) }
+{
+    feeder.count() >= feeder.script().len()
+}
+
+// Whether a script is due and isn't wholly submitted.
+fn is_left(front: &Front, mode: Mode, region: u8, feeder: &Feeder<Sqe>) -> bool
+    requires there { region < length front.now.gets }
+    ensures left { IsTrue result → IsDue mode front.now region × (count_of feeder.now ≢ length (script_of feeder.now)) }
+    ensures done { IsFalse result → IsDue mode front.now region → count_of feeder.now ≡ length (script_of feeder.now) }
+{
+    is_due(front, mode, region) && !is_submitted(feeder)
+}
+
+// Each script that is due is wholly submitted.
 fn all_submitted(parts: &Parts, mode: Mode) -> bool
     requires few { length parts.now.feeders.items ≤ MAX_REGIONS }
     requires fed { IsFedBy parts.now.front parts.now.feeders.items }
@@ -21,13 +49,25 @@ fn all_submitted(parts: &Parts, mode: Mode) -> bool
 {
     let mut region = 0u8;
     for feeder in &parts.feeders {
-        let is_due = mode == Mode::Loaded || parts.front.is_serving(region);
-        if is_due && feeder.count() < feeder.script().len() {
+        if is_left(&parts.front, mode, region, feeder) {
             return false;
         }
         region += 1;
     }
     true
+}
+
+// How a settling that came to nothing is told, of hosts that are those of the front.
+fn told(error: SettleError) -> RunError
+    requires hosts { error ≢ settling.Strangers }
+    ensures outstanding { error ≡ settling.Outstanding → result ≡ fault.GaveUp }
+    ensures no_memory { error ≡ settling.NoMemory → result ≡ fault.NoMemory }
+{
+    match error {
+        SettleError::Outstanding => RunError::GaveUp,
+        SettleError::NoMemory => RunError::NoMemory,
+        SettleError::Strangers => unreachable!(),
+    }
 }
 
 /// Settles the parts of a run: `GaveUp` where not all was done, `NoMemory` where memory was refused.
@@ -56,8 +96,6 @@ pub fn settle_run<R: Wait>(
     }
     match settle(rt, alloc, parts) {
         Ok(settled) => Ok(settled),
-        Err((SettleError::Outstanding, _)) => Err(RunError::GaveUp),
-        Err((SettleError::NoMemory, _)) => Err(RunError::NoMemory),
-        Err((SettleError::Strangers, _)) => unreachable!(),
+        Err((error, _)) => Err(told(error)),
     }
 }
