@@ -69,16 +69,14 @@ fn read_script(alloc: Global) -> Result<Vec<Sqe>, AllocError> {
     Ok(all)
 }
 
-fn loaded_rig(alloc: Global) -> Result<Rig, Fail> {
-    let script = admin_script(alloc)?;
+// Adds the I/O regions.
+fn add_regions(alloc: Global, rig: &mut Rig) -> Result<(), Fail> {
     let reads = read_script(alloc)?;
-    let config = config(0x0201_0002, 1_000_000)?;
-    let mut rig = Rig::new(alloc, config, 8, 4, script.as_slice())?;
     for region in 1..REGIONS {
         rig.add_sq(alloc, sq_address(region), 32, reads.as_slice())?;
         rig.add_cq(alloc, cq_address(region), 16)?;
     }
-    Ok(rig)
+    Ok(())
 }
 
 // Where the drive has come: so many events were looked at, and so many of them are posts. Each hundredth has its time.
@@ -156,19 +154,8 @@ fn check_counts(rt: &impl Abort, settled: &Settled) {
     assert!(rt; total > 19_000, "{total} commands");
 }
 
-#[test]
-fn twenty_thousand_commands(rt: HostRuntime) -> Result<(), Fail> {
-    let mut rig = loaded_rig(rt.alloc())?;
-    let mut marks = Marks {
-        start: Instant::now(&rt)?,
-        events: 0,
-        posts: 0,
-        times: Vec::new(rt.alloc()),
-    };
-    drive(&rt, &mut rig, &mut marks)?;
-    check_times(&rt, marks.times.as_slice())?;
-    assert!(rt; rig.is_clear());
-    assert_eq!(rt; rig.hosts(), (17, 17));
+// All regions are served but those of the queues that are deleted.
+fn check_regions(rt: &impl Abort, rig: &Rig) {
     for region in 0..REGIONS {
         let is_deleted = 1 <= region && region <= DELETED;
         assert_eq!(rt; rig.is_serving(region), !is_deleted, "at region {region}");
@@ -178,7 +165,32 @@ fn twenty_thousand_commands(rt: HostRuntime) -> Result<(), Fail> {
             "at region {region}"
         );
     }
-    let settled = rig.settle(&rt, rt.alloc()).map_err(|refused| refused.0)?;
+}
+
+// The whole drive.
+fn play<R: Clock + Wait + Abort>(rt: &R, alloc: Global, rig: &mut Rig) -> Result<(), Fail> {
+    add_regions(alloc, rig)?;
+    let mut marks = Marks {
+        start: Instant::now(rt)?,
+        events: 0,
+        posts: 0,
+        times: Vec::new(alloc),
+    };
+    drive(rt, rig, &mut marks)?;
+    check_times(rt, marks.times.as_slice())?;
+    assert!(rt; rig.is_clear());
+    assert_eq!(rt; rig.hosts(), (17, 17));
+    check_regions(rt, rig);
+    Ok(())
+}
+
+#[test]
+fn twenty_thousand_commands(rt: HostRuntime) -> Result<(), Fail> {
+    let script = admin_script(rt.alloc())?;
+    let config = config(0x0201_0002, 1_000_000)?;
+    let mut rig = Rig::new(rt.alloc(), config, 8, 4, script.as_slice())?;
+    let played = play(&rt, rt.alloc(), &mut rig);
+    let settled = rig.settled(&rt, rt.alloc(), played)?;
     assert_eq!(rt; settled.collected.len(), 17);
     check_counts(&rt, &settled);
     Ok(())

@@ -18,20 +18,43 @@ const TWO_SLOTS: [[u8; 16]; 4] = [
     [1, 0, 1, 3, 0, 0, 0, 0, 4, 0, 0, 0, 3, 0, 0, 0],
 ];
 
-// Settles a rig that is at rest.
-fn settled<R: Wait>(rt: &R, alloc: Global, rig: Rig) -> Result<Settled, Fail> {
-    Ok(rig.settle(rt, alloc).map_err(|refused| refused.0)?)
-}
-
-// How many entries each host submitted, and how many completions each collected.
-fn counts(alloc: Global, settled: &Settled) -> Result<(Vec<usize>, Vec<usize>), Fail> {
-    let sent = settled.sent.iter().map(|sent| sent.count).collect(alloc)?;
-    let collected = settled
+// So many entries each host submitted, and so many completions each collected.
+fn check_counts(
+    rt: &impl Abort,
+    alloc: Global,
+    settled: &Settled,
+    sent: &[usize],
+    collected: &[usize],
+) -> Result<(), Fail> {
+    let sent_of: Vec<usize> = settled.sent.iter().map(|sent| sent.count).collect(alloc)?;
+    assert_eq!(rt; sent_of.as_slice(), sent);
+    let collected_of: Vec<usize> = settled
         .collected
         .iter()
         .map(|items| items.len())
         .collect(alloc)?;
-    Ok((sent, collected))
+    assert_eq!(rt; collected_of.as_slice(), collected);
+    Ok(())
+}
+
+// The front picked so.
+fn check_picks(rt: &impl Abort, alloc: Global, rig: &Rig, want: &[(u16, u16)]) -> Result<(), Fail> {
+    let all = picks(alloc, rig.log())?;
+    assert_eq!(rt; all.as_slice(), want);
+    Ok(())
+}
+
+// Commands are executed through a ring of two slots, whose host collects one completion after another.
+fn play_two_slots<R: Wait + Abort>(rt: &R, rig: &mut Rig) -> Result<(), Fail> {
+    assert!(rt; rig.is_clear());
+    assert_eq!(rt; rig.submit(0, 4), 4);
+    for taken in 0..4 {
+        rig.run(rt)?;
+        assert_eq!(rt; rig.is_clear(), taken == 3, "with {taken} taken");
+        // The ring holds one completion, and so it is full.
+        assert_eq!(rt; rig.collect(0, 2)?, 1, "with {taken} taken");
+    }
+    Ok(())
 }
 
 #[test]
@@ -43,15 +66,8 @@ fn phase_wraps_in_two_slots(rt: HostRuntime) -> Result<(), Fail> {
         get_arbitration(3),
     ];
     let mut rig = Rig::new(rt.alloc(), config(0x0301_0001, 1000)?, 8, 2, &script)?;
-    assert!(rt; rig.is_clear());
-    assert_eq!(rt; rig.submit(0, 4), 4);
-    for taken in 0..4 {
-        rig.run(&rt)?;
-        assert_eq!(rt; rig.is_clear(), taken == 3, "with {taken} taken");
-        // The ring holds one completion, and so it is full.
-        assert_eq!(rt; rig.collect(0, 2)?, 1, "with {taken} taken");
-    }
-    let settled = settled(&rt, rt.alloc(), rig)?;
+    let played = play_two_slots(&rt, &mut rig);
+    let settled = rig.settled(&rt, rt.alloc(), played)?;
     assert_eq!(rt; settled.collected.len(), 1);
     assert_eq!(rt; settled.collected[0].len(), 4);
     for (done, want) in settled.collected[0].iter().zip(TWO_SLOTS.iter()) {
@@ -60,14 +76,13 @@ fn phase_wraps_in_two_slots(rt: HostRuntime) -> Result<(), Fail> {
     Ok(())
 }
 
-// The rig of the examples of a deletion: bursts of one, region 1 with reads, and an I/O completion region. Three of the
-// reads are submitted.
-fn deletion_rig(alloc: Global, script: &[Sqe], reads: &[Sqe]) -> Result<Rig, Fail> {
-    let mut rig = Rig::new(alloc, config(0, 1000)?, 8, 8, script)?;
+// Adds the regions of the examples of a deletion: region 1 with reads, and an I/O completion region. Three of the reads
+// are submitted.
+fn add_regions(alloc: Global, rig: &mut Rig, reads: &[Sqe]) -> Result<(), Fail> {
     rig.add_sq(alloc, 0x2000, 8, reads)?;
     rig.add_cq(alloc, 0x9000, 64)?;
     let _put = rig.submit(1, 3);
-    Ok(rig)
+    Ok(())
 }
 
 // Turns and collects, and sees that region 1 is served from the creation of its queue to the end of its deletion.
@@ -101,6 +116,17 @@ fn check_statuses(rt: &impl Abort, rig: &Rig, places: &[(u8, u32)]) {
     assert_eq!(rt; posted(rig.log()), places.len());
 }
 
+// A queue with three commands is deleted.
+fn play_deletion<R: Wait + Abort>(rt: &R, alloc: Global, rig: &mut Rig) -> Result<(), Fail> {
+    add_regions(alloc, rig, &[read(0), read(1), read(2)])?;
+    assert_eq!(rt; rig.submit(0, 3), 3);
+    run_watched(rt, rig)?;
+    assert!(rt; rig.is_clear());
+    check_picks(rt, alloc, rig, &[(0, 1), (0, 1), (1, 1), (0, 1)])?;
+    check_statuses(rt, rig, &[(0, 0), (0, 1), (0, 2), (1, 0), (1, 1), (1, 2)]);
+    Ok(())
+}
+
 #[test]
 fn delete_with_three_waiting(rt: HostRuntime) -> Result<(), Fail> {
     let script = [
@@ -108,23 +134,40 @@ fn delete_with_three_waiting(rt: HostRuntime) -> Result<(), Fail> {
         admin(1, 1, 0x2000, 0x0007_0001, 0x0001_0001),
         admin(2, 0, 0, 1, 0),
     ];
-    let mut rig = deletion_rig(rt.alloc(), &script, &[read(0), read(1), read(2)])?;
-    assert_eq!(rt; rig.submit(0, 3), 3);
-    run_watched(&rt, &mut rig)?;
-    assert!(rt; rig.is_clear());
-    let all = picks(rt.alloc(), rig.log())?;
-    assert_eq!(rt; all.as_slice(), [(0, 1), (0, 1), (1, 1), (0, 1)].as_slice());
-    check_statuses(&rt, &rig, &[(0, 0), (0, 1), (0, 2), (1, 0), (1, 1), (1, 2)]);
-    let settled = settled(&rt, rt.alloc(), rig)?;
-    let (sent, collected) = counts(rt.alloc(), &settled)?;
-    assert_eq!(rt; sent.as_slice(), [3, 3].as_slice());
-    assert_eq!(rt; collected.as_slice(), [3, 3].as_slice());
+    // Bursts of one.
+    let mut rig = Rig::new(rt.alloc(), config(0, 1000)?, 8, 8, &script)?;
+    let played = play_deletion(&rt, rt.alloc(), &mut rig);
+    let settled = rig.settled(&rt, rt.alloc(), played)?;
+    check_counts(&rt, rt.alloc(), &settled, &[3, 3], &[3, 3])
+}
+
+// Adds the regions of a queue that is created anew on region 2. A fifth admin command and a fourth read of region 1 are
+// not submitted yet.
+fn add_anew(alloc: Global, rig: &mut Rig) -> Result<(), Fail> {
+    add_regions(alloc, rig, &[read(0), read(1), read(2), read(3)])?;
+    rig.add_sq(alloc, 0x3000, 8, &[read(0), read(1)])?;
+    let _put = rig.submit(0, 4);
+    let _put = rig.submit(2, 2);
     Ok(())
 }
 
-// The rig of a queue that is created anew on region 2. A fifth admin command and a fourth read of region 1 are not
-// submitted yet.
-fn anew_rig(alloc: Global) -> Result<Rig, Fail> {
+// A queue is deleted and created anew.
+fn play_anew<R: Wait + Abort>(rt: &R, alloc: Global, rig: &mut Rig) -> Result<(), Fail> {
+    add_anew(alloc, rig)?;
+    run_watched(rt, rig)?;
+    let want = [(0, 1), (0, 1), (1, 1), (0, 1), (0, 1), (1, 1), (1, 1)];
+    check_picks(rt, alloc, rig, &want)?;
+    // The queue of region 1 is closed now, and no other queue can have the region.
+    assert_eq!(rt; rig.submit(1, 1), 1);
+    assert_eq!(rt; rig.submit(0, 1), 1);
+    run_watched(rt, rig)?;
+    assert!(rt; rig.is_serving(2));
+    assert_eq!(rt; status_of(rig.log(), 0, 4), Status::new(0, 0x02));
+    Ok(())
+}
+
+#[test]
+fn queue_created_anew(rt: HostRuntime) -> Result<(), Fail> {
     let script = [
         admin(0, 5, 0x9000, 0x003f_0001, 1),
         admin(1, 1, 0x2000, 0x0007_0001, 0x0001_0001),
@@ -132,31 +175,10 @@ fn anew_rig(alloc: Global) -> Result<Rig, Fail> {
         admin(3, 1, 0x3000, 0x0007_0001, 0x0001_0001),
         admin(4, 1, 0x2000, 0x0007_0002, 0x0001_0001),
     ];
-    let reads = [read(0), read(1), read(2), read(3)];
-    let mut rig = deletion_rig(alloc, &script, &reads)?;
-    rig.add_sq(alloc, 0x3000, 8, &[read(0), read(1)])?;
-    let _put = rig.submit(0, 4);
-    let _put = rig.submit(2, 2);
-    Ok(rig)
-}
-
-#[test]
-fn queue_created_anew(rt: HostRuntime) -> Result<(), Fail> {
-    let mut rig = anew_rig(rt.alloc())?;
-    run_watched(&rt, &mut rig)?;
-    let all = picks(rt.alloc(), rig.log())?;
-    let want = [(0, 1), (0, 1), (1, 1), (0, 1), (0, 1), (1, 1), (1, 1)];
-    assert_eq!(rt; all.as_slice(), want.as_slice());
-    // The queue of region 1 is closed now, and no other queue can have the region.
-    assert_eq!(rt; rig.submit(1, 1), 1);
-    assert_eq!(rt; rig.submit(0, 1), 1);
-    run_watched(&rt, &mut rig)?;
-    assert!(rt; rig.is_serving(2));
-    assert_eq!(rt; status_of(rig.log(), 0, 4), Status::new(0, 0x02));
-    let settled = settled(&rt, rt.alloc(), rig)?;
-    let (sent, collected) = counts(rt.alloc(), &settled)?;
-    assert_eq!(rt; sent.as_slice(), [5, 4, 2].as_slice());
-    assert_eq!(rt; collected.as_slice(), [5, 5].as_slice());
+    // Bursts of one.
+    let mut rig = Rig::new(rt.alloc(), config(0, 1000)?, 8, 8, &script)?;
+    let played = play_anew(&rt, rt.alloc(), &mut rig);
+    let settled = rig.settled(&rt, rt.alloc(), played)?;
     assert_eq!(rt; fetched(settled.log.as_slice(), 1), 3);
-    Ok(())
+    check_counts(&rt, rt.alloc(), &settled, &[5, 4, 2], &[5, 5])
 }

@@ -89,6 +89,33 @@ fn cq_region(
     Ok(Drainer::new(alloc, get))
 }
 
+// Adds the admin regions, of so many slots each, and gives the hosts' ends of them.
+fn admin_hosts(
+    alloc: Global,
+    front: &mut Front,
+    sq_slots: u16,
+    cq_slots: u16,
+    script: &[Sqe],
+) -> Result<(Vec<Feeder<Sqe>>, Vec<Drainer<Cqe>>), Fail>
+    requires no_sq { front.old.gets ≡ [] }
+    requires no_cq { front.old.puts ≡ [] }
+    ensures fed { IfOk result (λ r. IsFedBy front.new r.0.items) }
+    ensures drained { IfOk result (λ r. IsDrainedBy front.new r.1.items) }
+    ensures admin_sq { IfOk result (λ _. 0 < length front.new.gets) }
+    ensures admin_cq { IfOk result (λ _. 0 < length front.new.puts) }
+    ensures hands { front.new.hands ≡ front.old.hands }
+{
+    let mut feeders = Vec::new(alloc);
+    let mut drainers = Vec::new(alloc);
+    reserve_again(&mut feeders)?;
+    reserve_again(&mut drainers)?;
+    let feeder = sq_region(alloc, front, ADMIN_SQ, sq_slots, script)?;
+    feeders.push_reserved(feeder);
+    let drainer = cq_region(alloc, front, ADMIN_CQ, cq_slots)?;
+    drainers.push_reserved(drainer);
+    Ok((feeders, drainers))
+}
+
 // Puts so many entries at most, as the ring takes them. The answer is how many were put.
 fn put_some(feeder: &mut Feeder<Sqe>, most: u16) -> u16
     ensures { SamePut (put_of feeder.old) (put_of feeder.new) }
@@ -130,19 +157,17 @@ impl Hosted {
         ensures { IfOk result (λ h. h.front.hands.seat ≡ seat) }
     {
         let mut front = Front::new(alloc, config, seat);
-        let mut feeders = Vec::new(alloc);
-        let mut drainers = Vec::new(alloc);
-        reserve_again(&mut feeders)?;
-        reserve_again(&mut drainers)?;
-        let feeder = sq_region(alloc, &mut front, ADMIN_SQ, sq_slots, script)?;
-        let drainer = cq_region(alloc, &mut front, ADMIN_CQ, cq_slots)?;
-        feeders.push_reserved(feeder);
-        drainers.push_reserved(drainer);
-        Ok(Hosted {
-            front,
-            feeders,
-            drainers,
-        })
+        match admin_hosts(alloc, &mut front, sq_slots, cq_slots, script) {
+            Ok((feeders, drainers)) => Ok(Hosted {
+                front,
+                feeders,
+                drainers,
+            }),
+            Err(fail) => {
+                drop(front);
+                Err(fail)
+            }
+        }
     }
 
     /// Adds a submission region, with the script of its host.

@@ -8,7 +8,7 @@ use crate::events::posted;
 use crate::hosted::config;
 use crate::rig::{Rig, WORKERS, settle_exchanged};
 use nvme_entry::{Cqe, Sqe};
-use nvme_front::{AddError, Event, Front, FrontError, SettleError, Step};
+use nvme_front::{AddError, Event, Front, FrontError, Parts, SettleError, Step};
 use nvme_lane::{GetEnd, PutEnd};
 use std::alloc::Global;
 use std::process::Abort;
@@ -25,22 +25,35 @@ fn one_command(alloc: Global, max_events: u32) -> Result<Rig, Fail>
     Ok(rig)
 }
 
-#[test]
-fn log_full(rt: HostRuntime) -> Result<(), Fail> {
+// A log with no free event but those that are kept for the end of a command stays as it is.
+fn refuses_events<R: Wait + Abort>(rt: &R, alloc: Global) -> Result<(), Fail> {
     let want = [Event::Fetch {
         region: 0,
         index: 0,
         entry: get_arbitration(0),
     }];
-    let mut rig = one_command(rt.alloc(), 257)?;
+    let mut rig = one_command(alloc, 257)?;
     for turn in 0..2 {
-        assert_eq!(rt; rig.turn(&rt), Err(FrontError::LogFull), "in turn {turn}");
+        assert_eq!(rt; rig.turn(rt), Err(FrontError::LogFull), "in turn {turn}");
         assert!(rt; rig.log() == want.as_slice(), "in turn {turn}");
     }
     assert!(rt; !rig.is_clear());
-    let mut rig = one_command(rt.alloc(), 259)?;
-    assert_eq!(rt; rig.turn(&rt), Ok(Step::Picked));
+    drop(rig);
     Ok(())
+}
+
+// A log with two events more takes the first pick.
+fn takes_events<R: Wait + Abort>(rt: &R, alloc: Global) -> Result<(), Fail> {
+    let mut rig = one_command(alloc, 259)?;
+    assert_eq!(rt; rig.turn(rt), Ok(Step::Picked));
+    drop(rig);
+    Ok(())
+}
+
+#[test]
+fn log_full(rt: HostRuntime) -> Result<(), Fail> {
+    refuses_events(&rt, rt.alloc())?;
+    takes_events(&rt, rt.alloc())
 }
 
 // The submission end of a ring with no host.
@@ -59,35 +72,79 @@ fn put_end(alloc: Global, address: u64, slots: u16) -> Result<PutEnd<Cqe>, Fail>
     Ok(put)
 }
 
-#[test]
-fn region_refusals(rt: HostRuntime) -> Result<(), Fail> {
-    let (_, seat, _) = pool_again(rt.alloc(), WORKERS)?;
-    let mut front = Front::new(rt.alloc(), config(0, 1000)?, seat);
+// Adds 17 submission regions, then a completion region with the address of one, and then an 18th.
+fn add_too_many(rt: &impl Abort, alloc: Global, front: &mut Front) -> Result<(), Fail> {
     for region in 0..17 {
-        let end = get_end(rt.alloc(), 0x1000 * u64::from(region), 8)?;
-        assert_eq!(rt; add_sq_again(&mut front, end)?, region);
+        let end = get_end(alloc, 0x1000 * u64::from(region), 8)?;
+        assert_eq!(rt; add_sq_again(front, end)?, region);
     }
-    let used = front.add_cq_region(put_end(rt.alloc(), 0x5000, 4)?);
+    let used = front.add_cq_region(put_end(alloc, 0x5000, 4)?);
     let used = used.map_err(|(error, end)| (error, end.address(), end.slots()));
     assert_eq!(rt; used, Err((AddError::Used, 0x5000, 4)));
-    let many = front.add_sq_region(get_end(rt.alloc(), 0x8_0000, 16)?);
+    let many = front.add_sq_region(get_end(alloc, 0x8_0000, 16)?);
     let many = many.map_err(|(error, end)| (error, end.address(), end.slots()));
     assert_eq!(rt; many, Err((AddError::TooMany, 0x8_0000, 16)));
     assert!(rt; front.is_serving(0) && !front.is_serving(1));
     Ok(())
 }
 
-// Settles a front with exchanged feeders, which comes back as it was.
-fn exchange<R: Wait + Abort>(rt: &R, alloc: Global) -> Result<(), Fail> {
-    let mut rig = one_command(alloc, 1000)?;
+#[test]
+fn region_refusals(rt: HostRuntime) -> Result<(), Fail> {
+    let config = config(0, 1000)?;
+    let (_, seat, _) = pool_again(rt.alloc(), WORKERS)?;
+    let mut front = Front::new(rt.alloc(), config, seat);
+    let added = add_too_many(&rt, rt.alloc(), &mut front);
+    drop(front);
+    added
+}
+
+// A front with two hosts that submit, with its one command done, and what its log says.
+fn play_exchange<R: Wait>(rt: &R, alloc: Global, rig: &mut Rig) -> Result<String, Fail> {
     rig.add_sq(alloc, 0x2000, 8, &[])?;
     rig.run_and_collect(rt)?;
-    let log = format!(in alloc; "{:?}", rig.log())?;
+    Ok(format!(in alloc; "{:?}", rig.log())?)
+}
+
+// The parts that came back are as they were.
+fn check_parts(rt: &impl Abort, alloc: Global, back: &Parts, log: &str) -> Result<(), Fail> {
+    assert_eq!(rt; (back.feeders.len(), back.drainers.len()), (2, 1));
+    let log_now = format!(in alloc; "{:?}", back.front.log())?;
+    assert_eq!(rt; log_now.as_str(), log);
+    assert_eq!(rt; posted(back.front.log()), 1);
+    Ok(())
+}
+
+// A front with exchanged feeders is refused, and comes back as it was.
+fn refuse_exchanged<R: Wait + Abort>(
+    rt: &R,
+    alloc: Global,
+    rig: Rig,
+    log: &str,
+) -> Result<(), Fail> {
     let (error, back) = settle_exchanged(rt, alloc, rig)?;
     assert_eq!(rt; error, SettleError::Strangers);
-    assert_eq!(rt; (back.feeders.len(), back.drainers.len()), (2, 1));
-    assert_eq!(rt; format!(in alloc; "{:?}", back.front.log())?, log);
-    assert_eq!(rt; posted(back.front.log()), 1);
+    let checked = check_parts(rt, alloc, &back, log);
+    drop(back);
+    checked
+}
+
+// Settles a front with exchanged feeders.
+fn exchange<R: Wait + Abort>(rt: &R, alloc: Global) -> Result<(), Fail> {
+    let mut rig = one_command(alloc, 1000)?;
+    match play_exchange(rt, alloc, &mut rig) {
+        Ok(log) => refuse_exchanged(rt, alloc, rig, log.as_str()),
+        Err(fail) => {
+            drop(rig);
+            Err(fail)
+        }
+    }
+}
+
+// What came back of a settling that was refused is as it was, and goes on to its end.
+fn play_to_the_end<R: Wait + Abort>(rt: &R, rig: &mut Rig) -> Result<(), Fail> {
+    assert_eq!(rt; (rig.hosts(), rig.log().len()), ((1, 1), 0));
+    rig.run_and_collect(rt)?;
+    assert_eq!(rt; posted(rig.log()), 1);
     Ok(())
 }
 
@@ -95,13 +152,10 @@ fn exchange<R: Wait + Abort>(rt: &R, alloc: Global) -> Result<(), Fail> {
 fn settle_refusals(rt: HostRuntime) -> Result<(), Fail> {
     exchange(&rt, rt.alloc())?;
     let rig = one_command(rt.alloc(), 1000)?;
-    let refused = rig.settle(&rt, rt.alloc()).err();
-    let (error, mut rig) = refused.ok_or("a command that rests was settled")?;
+    let (error, mut rig) = rig.refused(&rt, rt.alloc())?;
     assert_eq!(rt; error, SettleError::Outstanding);
-    assert_eq!(rt; (rig.hosts(), rig.log().len()), ((1, 1), 0));
-    rig.run_and_collect(&rt)?;
-    assert_eq!(rt; posted(rig.log()), 1);
-    let settled = rig.settle(&rt, rt.alloc()).map_err(|refused| refused.0)?;
+    let played = play_to_the_end(&rt, &mut rig);
+    let settled = rig.settled(&rt, rt.alloc(), played)?;
     assert_eq!(rt; settled.collected.len(), 1);
     assert_eq!(rt; settled.collected[0].len(), 1);
     Ok(())

@@ -1,6 +1,9 @@
 // A front with its hosts and workers, which are driven from one thread.
-ghost use Rattle.std.specs.Prelude.{◌≡◌, ◌<◌, length};
-ghost use Rattle.nvme_front.specs.Hosts.{IsFedBy, IsDrainedBy};
+ghost use Rattle.std.specs.Prelude.{◌≡◌, ◌<◌, List, length, IfOk};
+ghost use Rattle.nvme_entry.specs.declared.completion.Cqe.{Cqe};
+ghost use Rattle.nvme_lane.specs.declared.drainer.Drainer.{Drainer};
+ghost use Rattle.nvme_front.specs.View.{FrontView};
+ghost use Rattle.nvme_front.specs.Hosts.{ArePaired, IsFedBy, IsDrainedBy};
 ghost use Rattle.nvme_front.specs.Settles.{HasItsPool};
 ghost use Rattle.nvme_pool.specs.Pool.{IsPool};
 ghost use Rattle.nvme_pool.specs.Worker.{SameWorker};
@@ -9,7 +12,7 @@ use crate::again::{pool_again, reserve_again};
 use crate::hosted::Hosted;
 use nvme_entry::Sqe;
 use nvme_front::{Event, FrontConfig, FrontError, Parts, SettleError, Settled, Step, settle};
-use nvme_lane::NoMemory;
+use nvme_lane::{Feeder, NoMemory};
 use nvme_pool::{Lanes, NoGate, Worked, Worker};
 use std::alloc::Global;
 use std::sync::Wait;
@@ -178,6 +181,37 @@ impl Rig {
             Err((error, back)) => Err((error, rig_of(back))),
         }
     }
+
+    /// Settles a rig after its play, unless that failed. A rig that isn't settled is dropped.
+    pub fn settled<R: Wait>(
+        self,
+        rt: &R,
+        alloc: Global,
+        played: Result<(), Fail>,
+    ) -> Result<Settled, Fail> {
+        if let Err(fail) = played {
+            drop(self);
+            return Err(fail);
+        }
+        match self.settle(rt, alloc) {
+            Ok(settled) => Ok(settled),
+            Err((error, rig)) => {
+                drop(rig);
+                Err(error.into())
+            }
+        }
+    }
+
+    /// Settles a rig where that is refused, and gives why, with the rig.
+    pub fn refused<R: Wait>(self, rt: &R, alloc: Global) -> Result<(SettleError, Rig), Fail> {
+        match self.settle(rt, alloc) {
+            Ok(settled) => {
+                drop(settled);
+                Err("a command that rests was settled".into())
+            }
+            Err(refused) => Ok(refused),
+        }
+    }
 }
 
 /// Settles a front with its hosts and the workers of its pool.
@@ -187,7 +221,7 @@ pub fn settle_hosted<R: Wait>(
     hosted: Hosted,
     lanes: Lanes,
     workers: Vec<Worker>,
-) -> Result<Settled, SettleError>
+) -> Result<Settled, Fail>
     requires { IsPool lanes hosted.front.hands.seat workers.items }
 {
     let rig = Rig {
@@ -195,7 +229,7 @@ pub fn settle_hosted<R: Wait>(
         lanes,
         workers,
     };
-    rig.settle(rt, alloc).map_err(|refused| refused.0)
+    rig.settled(rt, alloc, Ok(()))
 }
 
 // The parts of a rig.
@@ -252,6 +286,22 @@ fn rig_of(parts: Parts) -> Rig
     }
 }
 
+// Exchanges two feeders of different addresses. They are paired with a front's regions all the same.
+fn exchange(feeders: &mut Vec<Feeder<Sqe>>) -> Result<(), Fail>
+    ensures { IfOk result (λ _. (v : FrontView) (drainers : List (Drainer Cqe)) → IsFedBy v feeders.old.items → IsDrainedBy v drainers → ArePaired v feeders.new.items drainers) }
+{
+    if feeders.len() != 2 {
+        return Err("there are not two feeders".into());
+    }
+    let first = feeders.remove(0);
+    if first.address() == feeders[0].address() {
+        return Err("the feeders have one address".into());
+    }
+    reserve_again(feeders)?;
+    feeders.push_reserved(first);
+    Ok(())
+}
+
 /// Settles a front with two feeders that are exchanged, and gives why that was refused, with what came back.
 pub fn settle_exchanged<R: Wait>(
     rt: &R,
@@ -259,17 +309,15 @@ pub fn settle_exchanged<R: Wait>(
     rig: Rig,
 ) -> Result<(SettleError, Parts), Fail> {
     let mut parts = parts_of(rig);
-    if parts.feeders.len() != 2 {
-        return Err("there are not two feeders".into());
+    if let Err(fail) = exchange(&mut parts.feeders) {
+        drop(parts);
+        return Err(fail);
     }
-    let first = parts.feeders.remove(0);
-    if first.address() == parts.feeders[0].address() {
-        return Err("the feeders have one address".into());
-    }
-    reserve_again(&mut parts.feeders)?;
-    parts.feeders.push_reserved(first);
     match settle(rt, alloc, parts) {
-        Ok(_) => Err("exchanged feeders were settled".into()),
+        Ok(settled) => {
+            drop(settled);
+            Err("exchanged feeders were settled".into())
+        }
         Err(refused) => Ok(refused),
     }
 }

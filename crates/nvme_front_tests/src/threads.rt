@@ -192,22 +192,35 @@ fn sq_address(region: u8) -> u64 {
     0x20_0000 + 0x1000 * u64::from(region)
 }
 
-// The front and its hosts: the rings of the completions are small.
-fn hosted(alloc: Global, seat: FrontSeat) -> Result<Hosted, Fail>
-    requires { seat.handed ≡ [] }
-    ensures { IfOk result (λ h. h.front.hands.seat ≡ seat) }
+// Adds the I/O regions.
+fn add_regions(alloc: Global, hosted: &mut Hosted) -> Result<(), Fail>
+    ensures { hosted.new.front.hands ≡ hosted.old.front.hands }
 {
-    let script = admin_script(alloc)?;
     let reads = [read(3); READS as usize];
-    let config = config(0x0201_0002, 1_000_000)?;
-    let mut hosted = Hosted::new(alloc, config, seat, 8, 4, script.as_slice())?;
     for region in 1..=2 * QUEUES {
         hosted.add_sq(alloc, sq_address(region), 32, &reads)?;
     }
     for region in 1..=QUEUES {
         hosted.add_cq(alloc, cq_address(region), 8)?;
     }
-    Ok(hosted)
+    Ok(())
+}
+
+// The front and its hosts: the rings of the completions are small.
+fn hosted(alloc: Global, seat: FrontSeat) -> Result<Hosted, Fail>
+    requires { seat.handed ≡ [] }
+    ensures { IfOk result (λ h. h.front.hands.seat ≡ seat) }
+{
+    let script = admin_script(alloc)?;
+    let config = config(0x0201_0002, 1_000_000)?;
+    let mut hosted = Hosted::new(alloc, config, seat, 8, 4, script.as_slice())?;
+    match add_regions(alloc, &mut hosted) {
+        Ok(()) => Ok(hosted),
+        Err(fail) => {
+            drop(hosted);
+            Err(fail)
+        }
+    }
 }
 
 // Lets the held execution go. Its queue's deletion was not finished before.
@@ -247,6 +260,51 @@ fn drive<R: Wait>(rt: &R, lanes: &Lanes, hosted: &mut Hosted, flags: &Flags) -> 
     Err("the drive doesn't end".into())
 }
 
+// The workers on threads of a scope, and the front with its hosts on this one. The workers come back.
+fn work_beside<'s, E: 's, R: Threads + Wait + Sync + 's>(
+    scope: &Scope<'s, E>,
+    rt: &'s R,
+    alloc: Global,
+    lanes: &'s Lanes,
+    workers: Vec<Worker>,
+    hosted: &mut Hosted,
+    flags: &'s Flags,
+) -> Result<Vec<Worker>, Fail>
+    requires { IsPool lanes.now hosted.old.front.hands.seat workers.items }
+    ensures { IfOk result (λ back. IsPool lanes.now hosted.new.front.hands.seat back.items) }
+{
+    let handles = start(scope, rt, alloc, lanes, workers, flags)?;
+    let driven = drive(rt, lanes, hosted, flags);
+    flags.released.store(1, Ordering::SeqCst);
+    flags.stop.store(1, Ordering::SeqCst);
+    let workers = join_all(rt, handles);
+    driven?;
+    Ok(workers?)
+}
+
+// The same with a front that comes back too.
+fn within<'s, E: 's, R: Threads + Wait + Sync + 's>(
+    scope: &Scope<'s, E>,
+    rt: &'s R,
+    alloc: Global,
+    lanes: &'s Lanes,
+    workers: Vec<Worker>,
+    hosted: Hosted,
+    flags: &'s Flags,
+) -> Result<(Hosted, Vec<Worker>), Fail>
+    requires { IsPool lanes.now hosted.front.hands.seat workers.items }
+    ensures { IfOk result (λ r. IsPool lanes.now r.0.front.hands.seat r.1.items) }
+{
+    let mut hosted = hosted;
+    match work_beside(scope, rt, alloc, lanes, workers, &mut hosted, flags) {
+        Ok(workers) => Ok((hosted, workers)),
+        Err(fail) => {
+            drop(hosted);
+            Err(fail)
+        }
+    }
+}
+
 // Eight workers on threads, and the front with its hosts on this one. The workers come back.
 fn work_and_drive<R: Threads + Wait + Sync>(
     rt: &R,
@@ -265,34 +323,35 @@ fn work_and_drive<R: Threads + Wait + Sync>(
         move |scope| -> Result<(Hosted, Vec<Worker>), Fail>
             requires { IsPool lanes.now hosted.front.hands.seat workers.items }
             ensures { IfOk result (λ r. IsPool lanes.entry.now r.0.front.hands.seat r.1.items) }
-        {
-            let mut hosted = hosted;
-            let handles = start(scope, rt, alloc, lanes, workers, flags)?;
-            let driven = drive(rt, lanes, &mut hosted, flags);
-            flags.released.store(1, Ordering::SeqCst);
-            flags.stop.store(1, Ordering::SeqCst);
-            let workers = join_all(rt, handles);
-            driven?;
-            Ok((hosted, workers?))
-        },
+        { within(scope, rt, alloc, lanes, workers, hosted, flags) },
     )
+}
+
+// A front with its hosts and all their regions, and eight workers, are run and settled.
+fn run_flagged<R: Threads + Wait + Sync>(
+    rt: &R,
+    alloc: Global,
+    flags: &Flags,
+) -> Result<Settled, Fail> {
+    let (lanes, seat, workers) = pool_again(alloc, 8)?;
+    let hosted = hosted(alloc, seat)?;
+    let (hosted, workers) = work_and_drive(rt, alloc, &lanes, workers, hosted, flags)?;
+    settle_hosted(rt, alloc, hosted, lanes, workers)
 }
 
 // A whole run with eight workers.
 fn run<R: Threads + Wait + Sync>(rt: &R, alloc: Global, held: u32) -> Result<Settled, Fail> {
-    let (lanes, seat, workers) = pool_again(alloc, 8)?;
-    let hosted = hosted(alloc, seat)?;
     let flags = Flags {
         stop: AtomicU64::new(0),
         held,
         released: AtomicU64::new(0),
         entered: AtomicU64::new(0),
     };
-    let (hosted, workers) = work_and_drive(rt, alloc, &lanes, workers, hosted, &flags)?;
+    let settled = run_flagged(rt, alloc, &flags)?;
     if held != NO_TICKET && flags.entered.load(Ordering::SeqCst) == 0 {
         return Err("the held command didn't run".into());
     }
-    Ok(settle_hosted(rt, alloc, hosted, lanes, workers)?)
+    Ok(settled)
 }
 
 // Each queue was deleted and created anew, and all that was fetched was collected.

@@ -1,12 +1,14 @@
 // A front whose workers are slow, and results that are of no job.
+ghost use Rattle.std.specs.Prelude.{◌≡◌, []};
+
 use crate::again::{add_cq_again, add_sq_again, pool_again, ring_again};
 use crate::commands::{admin, get_arbitration, read};
 use crate::events::{picks, posted, status_of, was_closed};
 use crate::hosted::{ADMIN_CQ, ADMIN_SQ, config};
 use crate::rig::{Rig, WORKERS};
-use nvme_entry::{Namespaces, Sqe, Status};
+use nvme_entry::{Namespaces, Status};
 use nvme_front::{Front, FrontError, Step};
-use nvme_pool::{Job, NoGate, Worked};
+use nvme_pool::{Job, Lanes, NoGate, Worked};
 use std::alloc::Global;
 use std::process::Abort;
 use std::sync::Wait;
@@ -19,25 +21,42 @@ const DELETED: [[u8; 16]; 3] = [
     [0, 0, 0, 0, 0, 0, 0, 0, 3, 0, 1, 0, 0, 0, 0, 0],
 ];
 
+// A front with its admin regions gains a result of no job of its own.
+fn gain_stray<R: Wait + Abort>(
+    rt: &R,
+    alloc: Global,
+    front: &mut Front,
+    lanes: &Lanes,
+) -> Result<(), Fail>
+    requires gets { front.old.gets ≡ [] }
+    requires puts { front.old.puts ≡ [] }
+    requires seat { front.old.hands.seat.lane ≡ lanes.now }
+{
+    let (_, sq) = ring_again(alloc, ADMIN_SQ, 8)?;
+    assert_eq!(rt; add_sq_again(front, sq)?, 0);
+    let (cq, _) = ring_again(alloc, ADMIN_CQ, 8)?;
+    assert_eq!(rt; add_cq_again(front, cq)?, 0);
+    assert_eq!(rt; front.turn(rt, lanes), Err(FrontError::Stray(77)));
+    assert_eq!(rt; front.turn(rt, lanes), Ok(Step::Idle));
+    assert!(rt; front.log().is_empty());
+    Ok(())
+}
+
 #[test]
 fn stray_result(rt: HostRuntime) -> Result<(), Fail> {
-    let (lanes, mut seat, mut workers) = pool_again(rt.alloc(), WORKERS)?;
+    let config = config(0, 1000)?;
     let job = Job {
         ticket: 77,
         entry: read(0),
         spaces: Namespaces::new(&[1000])?,
     };
+    let (lanes, mut seat, mut workers) = pool_again(rt.alloc(), WORKERS)?;
     assert!(rt; seat.hand(&rt, &lanes, job).is_ok());
     assert_eq!(rt; workers[0].step(&rt, &lanes, &mut NoGate), Worked::Did);
-    let mut front = Front::new(rt.alloc(), config(0, 1000)?, seat);
-    let (_, sq) = ring_again(rt.alloc(), ADMIN_SQ, 8)?;
-    let (cq, _) = ring_again(rt.alloc(), ADMIN_CQ, 8)?;
-    assert_eq!(rt; add_sq_again(&mut front, sq)?, 0);
-    assert_eq!(rt; add_cq_again(&mut front, cq)?, 0);
-    assert_eq!(rt; front.turn(&rt, &lanes), Err(FrontError::Stray(77)));
-    assert_eq!(rt; front.turn(&rt, &lanes), Ok(Step::Idle));
-    assert!(rt; front.log().is_empty());
-    Ok(())
+    let mut front = Front::new(rt.alloc(), config, seat);
+    let gained = gain_stray(&rt, rt.alloc(), &mut front, &lanes);
+    drop(front);
+    gained
 }
 
 // The steps of the next turns.
@@ -48,45 +67,56 @@ fn turns<R: Wait + Abort>(rt: &R, rig: &mut Rig, want: &[Step]) -> Result<(), Fa
     Ok(())
 }
 
-// A queue whose ring of completions has two slots is deleted with three commands.
-fn narrow_rig(alloc: Global) -> Result<Rig, Fail> {
-    let script = [
-        admin(0, 5, 0x9000, 0x0001_0001, 1),
-        admin(1, 1, 0x2000, 0x0007_0001, 0x0001_0001),
-        admin(2, 0, 0, 1, 0),
-    ];
-    let mut rig = Rig::new(alloc, config(0, 1000)?, 16, 16, &script)?;
+// Adds the regions of a queue whose ring of completions has two slots, and submits its commands.
+fn add_narrow(alloc: Global, rig: &mut Rig) -> Result<(), Fail> {
     rig.add_sq(alloc, 0x2000, 8, &[read(0), read(1), read(2)])?;
     rig.add_cq(alloc, 0x9000, 2)?;
     rig.submit_all(3);
-    Ok(rig)
+    Ok(())
 }
 
-#[test]
-fn delete_waits_for_a_running_command(rt: HostRuntime) -> Result<(), Fail> {
-    let mut rig = narrow_rig(rt.alloc())?;
-    turns(&rt, &mut rig, &[Step::Picked; 4])?;
-    turns(&rt, &mut rig, &[Step::Moved, Step::Idle])?;
+// The deletion of a queue with three commands, of which one runs. Its ring of completions takes one at a time.
+fn play_narrow<R: Wait + Abort>(rt: &R, rig: &mut Rig) -> Result<(), Fail> {
+    turns(rt, rig, &[Step::Picked; 4])?;
+    turns(rt, rig, &[Step::Moved, Step::Idle])?;
     assert_eq!(rt; status_of(rig.log(), 1, 1), Status::new(0, 0x08));
-    assert_eq!(rt; rig.work(&rt, 0), 1);
-    turns(&rt, &mut rig, &[Step::Moved])?;
+    assert_eq!(rt; rig.work(rt, 0), 1);
+    turns(rt, rig, &[Step::Moved])?;
     assert_eq!(rt; rig.collect(1, 1)?, 1);
-    turns(&rt, &mut rig, &[Step::Moved])?;
+    turns(rt, rig, &[Step::Moved])?;
     assert_eq!(rt; status_of(rig.log(), 1, 2), Status::new(0, 0x08));
     assert_eq!(rt;
         (was_closed(rig.log(), 1), status_of(rig.log(), 1, 0)),
         (false, None)
     );
     assert_eq!(rt; rig.collect(1, 1)?, 1);
-    turns(&rt, &mut rig, &[Step::Moved])?;
+    turns(rt, rig, &[Step::Moved])?;
     assert_eq!(rt; status_of(rig.log(), 1, 0), Status::new(0, 0));
     assert_eq!(rt;
         (was_closed(rig.log(), 1), status_of(rig.log(), 0, 2)),
         (true, None)
     );
-    turns(&rt, &mut rig, &[Step::Moved, Step::Idle])?;
+    turns(rt, rig, &[Step::Moved, Step::Idle])?;
     assert_eq!(rt; status_of(rig.log(), 0, 2), Status::new(0, 0));
-    let settled = rig.settle(&rt, rt.alloc()).map_err(|refused| refused.0)?;
+    Ok(())
+}
+
+// The same with its regions added first.
+fn add_and_play_narrow<R: Wait + Abort>(rt: &R, alloc: Global, rig: &mut Rig) -> Result<(), Fail> {
+    add_narrow(alloc, rig)?;
+    play_narrow(rt, rig)
+}
+
+#[test]
+fn delete_waits_for_a_running_command(rt: HostRuntime) -> Result<(), Fail> {
+    let script = [
+        admin(0, 5, 0x9000, 0x0001_0001, 1),
+        admin(1, 1, 0x2000, 0x0007_0001, 0x0001_0001),
+        admin(2, 0, 0, 1, 0),
+    ];
+    let mut rig = Rig::new(rt.alloc(), config(0, 1000)?, 16, 16, &script)?;
+    let played = add_and_play_narrow(&rt, rt.alloc(), &mut rig);
+    let settled = rig.settled(&rt, rt.alloc(), played)?;
     assert_eq!(rt; settled.collected.len(), 2);
     assert_eq!(rt; settled.collected[1].len(), 3);
     for (done, want) in settled.collected[1].iter().zip(DELETED.iter()) {
@@ -95,41 +125,47 @@ fn delete_waits_for_a_running_command(rt: HostRuntime) -> Result<(), Fail> {
     Ok(())
 }
 
-// The address and the slots of the queues that fill all places.
-fn wide_rig(alloc: Global) -> Result<Rig, Fail> {
-    let script = [
-        admin(0, 5, 0x9000, 0x00ff_0001, 1),
-        admin(1, 1, 0x2000, 0x00ff_0001, 0x0001_0001),
-        admin(2, 1, 0x3000, 0x00ff_0002, 0x0001_0001),
-    ];
+// Adds the regions of the queues that fill all places, and submits their commands.
+fn add_wide(alloc: Global, rig: &mut Rig) -> Result<(), Fail> {
     let reads = [read(7); 255];
-    // No limit on bursts.
-    let mut rig = Rig::new(alloc, config(7, 2000)?, 16, 16, &script)?;
     rig.add_sq(alloc, 0x2000, 256, &reads)?;
     rig.add_sq(alloc, 0x3000, 256, &reads)?;
     rig.add_cq(alloc, 0x9000, 256)?;
     rig.submit_all(255);
-    Ok(rig)
+    Ok(())
 }
 
-#[test]
-fn capacities(rt: HostRuntime) -> Result<(), Fail> {
-    let mut rig = wide_rig(rt.alloc())?;
-    assert_eq!(rt; (rig.work(&rt, 0), rig.work(&rt, 1)), (0, 0));
-    rig.run_until_stalled(&rt)?;
-    let all = picks(rt.alloc(), rig.log())?;
+// All places are filled and freed.
+fn play_wide<R: Wait + Abort>(rt: &R, alloc: Global, rig: &mut Rig) -> Result<(), Fail> {
+    add_wide(alloc, rig)?;
+    assert_eq!(rt; (rig.work(rt, 0), rig.work(rt, 1)), (0, 0));
+    rig.run_until_stalled(rt)?;
+    let all = picks(alloc, rig.log())?;
     assert_eq!(rt;
         all.as_slice(),
         [(0, 1), (0, 1), (1, 255), (0, 1)].as_slice()
     );
     // One worker executes what its ring holds and keeps nothing, and the other finds nothing.
-    assert_eq!(rt; (rig.work(&rt, 1), rig.work(&rt, 0)), (255, 0));
-    turns(&rt, &mut rig, &[Step::Picked, Step::Idle])?;
+    assert_eq!(rt; (rig.work(rt, 1), rig.work(rt, 0)), (255, 0));
+    turns(rt, rig, &[Step::Picked, Step::Idle])?;
     assert_eq!(rt; posted(rig.log()), 258);
     assert!(rt; !rig.is_clear());
-    rig.run_and_collect(&rt)?;
+    rig.run_and_collect(rt)?;
     assert!(rt; rig.is_clear());
     assert_eq!(rt; posted(rig.log()), 513);
-    let _settled = rig.settle(&rt, rt.alloc()).map_err(|refused| refused.0)?;
+    Ok(())
+}
+
+#[test]
+fn capacities(rt: HostRuntime) -> Result<(), Fail> {
+    let script = [
+        admin(0, 5, 0x9000, 0x00ff_0001, 1),
+        admin(1, 1, 0x2000, 0x00ff_0001, 0x0001_0001),
+        admin(2, 1, 0x3000, 0x00ff_0002, 0x0001_0001),
+    ];
+    // No limit on bursts.
+    let mut rig = Rig::new(rt.alloc(), config(7, 2000)?, 16, 16, &script)?;
+    let played = play_wide(&rt, rt.alloc(), &mut rig);
+    let _settled = rig.settled(&rt, rt.alloc(), played)?;
     Ok(())
 }
