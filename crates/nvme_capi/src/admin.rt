@@ -1,0 +1,94 @@
+// Admin commands by their fields.
+ghost use Rattle.std.specs.Prelude.{◌≡◌};
+ghost use Rattle.nvme_entry.specs.AdminCommand.{admin_command_of};
+ghost use Rattle.nvme_capi.specs.Fields.{submission_of, admin_fields_of, no_fields};
+
+use crate::fields::{AdminFields, SubmissionFields, submission_of};
+use nvme_entry::{AdminCommand, admin_of};
+
+// No field of a command.
+const fn no_fields() -> AdminFields
+    ensures { result ≡ no_fields }
+{
+    AdminFields {
+        kind: 0,
+        cdw11: 0,
+        prp1: 0,
+        qid: 0,
+        qsize: 0,
+        cqid: 0,
+        qprio: 0,
+        pc: 0,
+        fid: 0,
+        sv: 0,
+    }
+}
+
+// The fields of an admin command.
+fn fields_of_admin(command: AdminCommand) -> AdminFields
+    ensures { result ≡ admin_fields_of command }
+{
+    match command {
+        AdminCommand::DeleteSq { qid } => AdminFields {
+            kind: 1,
+            qid,
+            ..no_fields()
+        },
+        AdminCommand::CreateSq {
+            qid,
+            qsize,
+            prp1,
+            cqid,
+            qprio,
+            pc,
+        } => AdminFields {
+            kind: 2,
+            qid,
+            qsize,
+            prp1,
+            cqid,
+            qprio,
+            pc: u8::from(pc),
+            ..no_fields()
+        },
+        AdminCommand::DeleteCq { qid } => AdminFields {
+            kind: 3,
+            qid,
+            ..no_fields()
+        },
+        AdminCommand::CreateCq {
+            qid,
+            qsize,
+            prp1,
+            pc,
+        } => AdminFields {
+            kind: 4,
+            qid,
+            qsize,
+            prp1,
+            pc: u8::from(pc),
+            ..no_fields()
+        },
+        AdminCommand::SetFeatures { fid, sv, cdw11 } => AdminFields {
+            kind: 5,
+            fid,
+            sv: u8::from(sv),
+            cdw11,
+            ..no_fields()
+        },
+        AdminCommand::GetFeatures { fid } => AdminFields {
+            kind: 6,
+            fid,
+            ..no_fields()
+        },
+        AdminCommand::Other => no_fields(),
+    }
+}
+
+/// The admin command of an entry, by its kind and its fields, for every entry.
+#[unsafe(no_mangle)]
+pub extern "C" fn nvmearb_admin_of(entry: &SubmissionFields, command: &mut AdminFields)
+    ensures { command.new ≡ admin_fields_of (admin_command_of (submission_of entry.now)) }
+{
+    *command = fields_of_admin(admin_of(&submission_of(entry)));
+}

@@ -1,0 +1,64 @@
+// Submission and completion entries and their bytes.
+ghost use Rattle.std.specs.Prelude.{◌≡◌, ◌≢◌, ◌<◌, ◌⊎◌, ◌↔◌};
+ghost use Rattle.nvme_entry.specs.Bits.{bits_of, dword};
+ghost use Rattle.nvme_entry.specs.Submission.{IsSubmissionEntry};
+ghost use Rattle.nvme_entry.specs.Completion.{IsCompletionEntry};
+ghost use Rattle.nvme_capi.specs.Fields.{submission_of, completion_of, FitsCompletion};
+
+use crate::fields::{
+    CompletionFields, SubmissionFields, completion_of, fields_of_completion, fields_of_submission,
+    submission_of,
+};
+use crate::results::{BAD_ARGUMENT, OK};
+use nvme_entry::{Cqe, Sqe};
+
+/// The fields of the submission entry that 64 bytes hold.
+#[unsafe(no_mangle)]
+pub extern "C" fn nvmearb_sqe_decode(bytes: &[u8; 64], fields: &mut SubmissionFields)
+    ensures layout { IsSubmissionEntry bytes.now (submission_of fields.new) }
+{
+    *fields = fields_of_submission(&Sqe::from_bytes(bytes));
+}
+
+/// The 64 bytes of a submission entry.
+#[unsafe(no_mangle)]
+pub extern "C" fn nvmearb_sqe_encode(fields: &SubmissionFields, bytes: &mut [u8; 64])
+    ensures layout { IsSubmissionEntry bytes.new (submission_of fields.now) }
+{
+    *bytes = submission_of(fields).to_bytes();
+}
+
+/// The fields of the completion entry that 16 bytes hold. Refused exactly where reserved bits are set.
+#[unsafe(no_mangle)]
+pub extern "C" fn nvmearb_cqe_decode(bytes: &[u8; 16], fields: &mut CompletionFields) -> u32
+    ensures answer { (result ≡ OK) ⊎ (result ≡ BAD_ARGUMENT) }
+    ensures refused { (result ≡ BAD_ARGUMENT) ↔ ((dword 1 bytes.now ≢ 0) ⊎ (bits_of 31 28 (dword 3 bytes.now) ≢ 0)) }
+    ensures unchanged { result ≡ BAD_ARGUMENT → fields.new ≡ fields.old }
+    ensures layout { result ≡ OK → IsCompletionEntry bytes.now (completion_of fields.new) }
+    ensures fits { result ≡ OK → FitsCompletion fields.new }
+{
+    match Cqe::from_bytes(bytes) {
+        Some(entry) => {
+            *fields = fields_of_completion(&entry);
+            OK
+        }
+        None => BAD_ARGUMENT,
+    }
+}
+
+/// The 16 bytes of a completion entry. Refused exactly where the phase tag or the status code type has no place there.
+#[unsafe(no_mangle)]
+pub extern "C" fn nvmearb_cqe_encode(fields: &CompletionFields, bytes: &mut [u8; 16]) -> u32
+    ensures answer { (result ≡ OK) ⊎ (result ≡ BAD_ARGUMENT) }
+    ensures refused { (result ≡ BAD_ARGUMENT) ↔ ((1 < fields.now.phase) ⊎ (7 < fields.now.status.sct)) }
+    ensures unchanged { result ≡ BAD_ARGUMENT → bytes.new ≡ bytes.old }
+    ensures layout { result ≡ OK → IsCompletionEntry bytes.new (completion_of fields.now) }
+{
+    match completion_of(fields) {
+        Some(entry) => {
+            *bytes = entry.to_bytes();
+            OK
+        }
+        None => BAD_ARGUMENT,
+    }
+}
