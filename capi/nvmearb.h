@@ -1,0 +1,144 @@
+/*
+ * nvmearb.h: entries of NVMe queues, under somebody else's controller.
+ *
+ * Every function is proved over the libraries of this repository (crates/nvme_capi). None allocates, waits, starts a
+ * thread, or reads or writes anything but what its arguments point to, and all return. Every bit pattern of the
+ * arguments is answered. Only this is left to the caller:
+ *
+ *   - a pointer isn't null and points to as many objects as its comment says, which live as long as the call. This is
+ *     so of an array of length 0 too;
+ *   - what a pointer to something that isn't const points to is touched by nothing else during the call, and is no
+ *     other argument of it.
+ *
+ * The caller owns all memory, and no call keeps a pointer. Calls over different objects may be made at the same time
+ * from any thread, and a signal handler may call over objects that no running call was given.
+ *
+ * Numbers are in the machine's own order, and bytes in the order of the specification. Terms are those of the NVM
+ * Express Base Specification. Link with -lnvmearb; the only other symbol is memcpy.
+ */
+#ifndef NVMEARB_H
+#define NVMEARB_H
+
+#include <stddef.h>
+#include <stdint.h>
+
+#ifdef __cplusplus
+extern "C" {
+#endif
+
+/* What a function with a result answers. Where it isn't NVMEARB_OK, the call has written nothing. */
+#define NVMEARB_OK 0u   /* done */
+#define NVMEARB_EARG 2u /* an argument is none that the call takes */
+
+/* The length of a submission and of a completion entry in bytes. */
+#define NVMEARB_SQE_BYTES 64
+#define NVMEARB_CQE_BYTES 16
+
+/* The most namespaces that nvmearb_outcome takes. */
+#define NVMEARB_MAX_NAMESPACES 16
+
+/* The fields of a submission entry. Each takes every value. */
+typedef struct nvmearb_sqe {
+    uint8_t opcode;
+    uint8_t flags; /* FUSE in bits 1:0, PSDT in bits 7:6 */
+    uint16_t cid;  /* command identifier */
+    uint32_t nsid; /* namespace identifier */
+    uint32_t cdw2;
+    uint32_t cdw3;
+    uint64_t mptr; /* metadata pointer */
+    uint64_t prp1; /* PRP entry 1; in a Create command the address of the queue */
+    uint64_t prp2; /* PRP entry 2 */
+    uint32_t cdw10;
+    uint32_t cdw11;
+    uint32_t cdw12;
+    uint32_t cdw13;
+    uint32_t cdw14;
+    uint32_t cdw15;
+} nvmearb_sqe;
+
+/* A status: {0, 0} is success. */
+typedef struct nvmearb_status {
+    uint8_t sct; /* status code type, 0 to 7 */
+    uint8_t sc;  /* status code */
+} nvmearb_status;
+
+/* The fields of a completion entry. CRD, More and Do Not Retry have no field: this controller never sets them. */
+typedef struct nvmearb_cqe {
+    uint32_t dw0;  /* Command Dword 0 */
+    uint16_t sqhd; /* submission queue head pointer, a slot */
+    uint16_t sqid; /* submission queue identifier */
+    uint16_t cid;  /* command identifier */
+    uint8_t phase; /* phase tag, 0 or 1 */
+    nvmearb_status status;
+} nvmearb_cqe;
+
+/* The kinds of admin commands. */
+#define NVMEARB_ADMIN_OTHER 0u /* every other opcode */
+#define NVMEARB_ADMIN_DELETE_SQ 1u
+#define NVMEARB_ADMIN_CREATE_SQ 2u
+#define NVMEARB_ADMIN_DELETE_CQ 3u
+#define NVMEARB_ADMIN_CREATE_CQ 4u
+#define NVMEARB_ADMIN_SET_FEATURES 5u
+#define NVMEARB_ADMIN_GET_FEATURES 6u
+
+/* An admin command with the fields that the controller reads of it. A field that commands of this kind don't have is 0. */
+typedef struct nvmearb_admin {
+    uint32_t kind;  /* NVMEARB_ADMIN_.. */
+    uint32_t cdw11; /* set features: the value */
+    uint64_t prp1;  /* create: the address of the queue */
+    uint16_t qid;   /* create, delete: the queue identifier */
+    uint16_t qsize; /* create: the number of slots, less 1 */
+    uint16_t cqid;  /* create sq: the identifier of its completion queue */
+    uint8_t qprio;  /* create sq: 0 urgent, 1 high, 2 medium, 3 low */
+    uint8_t pc;     /* create: 1 where it is physically contiguous, else 0 */
+    uint8_t fid;    /* features: the feature identifier */
+    uint8_t sv;     /* set features: 1 where Save is asked for, else 0 */
+} nvmearb_admin;
+
+/* What Command Dword 11 of the Arbitration feature says. */
+typedef struct nvmearb_settings {
+    uint32_t cdw11;  /* the dword as Get Features answers it: bits 07:03 are 0 */
+    uint16_t burst;  /* the most commands of one pick, 1 to 64 in powers of 2; 0 for no limit */
+    uint16_t high;   /* weights, in commands a round, 1 to 256 */
+    uint16_t medium;
+    uint16_t low;
+} nvmearb_settings;
+
+/* Writes the fields of the entry that 64 bytes hold. Every byte belongs to a field. */
+void nvmearb_sqe_decode(const uint8_t bytes[NVMEARB_SQE_BYTES], nvmearb_sqe *fields);
+
+/* Writes the 64 bytes of an entry. It undoes nvmearb_sqe_decode, and is undone by it. */
+void nvmearb_sqe_encode(const nvmearb_sqe *fields, uint8_t bytes[NVMEARB_SQE_BYTES]);
+
+/*
+ * Writes the fields of the completion entry that 16 bytes hold.
+ * NVMEARB_EARG exactly where Command Dword 1 isn't 0 or one of bits 31:28 of Command Dword 3 is set: no completion of
+ * this controller has such bytes.
+ */
+uint32_t nvmearb_cqe_decode(const uint8_t bytes[NVMEARB_CQE_BYTES], nvmearb_cqe *fields);
+
+/*
+ * Writes the 16 bytes of a completion entry. It undoes nvmearb_cqe_decode, and is undone by it.
+ * NVMEARB_EARG exactly where phase is above 1 or status.sct above 7.
+ */
+uint32_t nvmearb_cqe_encode(const nvmearb_cqe *fields, uint8_t bytes[NVMEARB_CQE_BYTES]);
+
+/*
+ * Writes the status of an I/O command (Flush, Write or Read) over `count` namespaces, whose sizes in logical blocks
+ * `sizes` has, that of namespace identifier 1 first: the status of the first check that the command fails, or success.
+ * Nothing is moved.
+ * NVMEARB_EARG exactly where `count` is above NVMEARB_MAX_NAMESPACES or a size is 0.
+ */
+uint32_t nvmearb_outcome(const nvmearb_sqe *entry, const uint64_t *sizes, size_t count, nvmearb_status *status);
+
+/* Writes the admin command of an entry by its fields. FUSE and the namespace identifier aren't looked at. */
+void nvmearb_admin_of(const nvmearb_sqe *entry, nvmearb_admin *command);
+
+/* Writes what a Command Dword 11 of the Arbitration feature says. Its bits 07:03 are ignored. */
+void nvmearb_settings_of(uint32_t cdw11, nvmearb_settings *settings);
+
+#ifdef __cplusplus
+}
+#endif
+
+#endif
