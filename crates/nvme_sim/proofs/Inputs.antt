@@ -1,5 +1,5 @@
 -- What an input that was taken says of the program's answer.
-use Rattle.std.proofs.Common.{◌≡◌, ◌≢◌, ◌↔◌, ℕ, ◌⊎◌, inl, inr, refl, subst, List, length, Option, None, Some, Result, Ok, Err, IfSome, IfErr, IsErrOf}
+use Rattle.std.proofs.Common.{◌≡◌, ◌≢◌, ◌↔◌, ℕ, inl, inr, refl, subst, List, length, Option, None, Some, Result, Ok, Err, IfSome, IfErr, IsErrOf}
 use Rattle.std.specs.List.{AllPass}
 use Rattle.std.specs.Io.KnownBytes.{Appends}
 use Rattle.hex.specs.Hex.{is_hex_digit}

@@ -1,7 +1,7 @@
 // The program by its words: statuses and fault lines.
 use crate::again::{Left, program_again};
 use crate::wanted::{EMPTY_REPORT, FIVE_QUEUES_REPORT, report_of_reads};
-use crate::workloads::{EMPTY, FIVE_QUEUES, THOUSAND, reads_of_one_queue};
+use crate::workloads::{DELETE_THREE, EMPTY, FIVE_QUEUES, THOUSAND, changed, reads_of_one_queue};
 use std::alloc::Global;
 use std::process::Abort;
 use std::sync::Wait;
@@ -97,6 +97,40 @@ fn faults_of_a_workload(rt: HostRuntime) -> Result<(), Fail> {
         is_refused(&rt, rt.alloc(), &LOADED, input, 1, fault)?;
         is_refused(&rt, rt.alloc(), &LIVE, input, 1, fault)?;
     }
+    Ok(())
+}
+
+#[test]
+fn faults_of_a_whole_workload(rt: HostRuntime) -> Result<(), Fail> {
+    let many = [("count = 5", "count = 65536")];
+    let many = changed(rt.alloc(), FIVE_QUEUES, &many)?;
+    let twice = [("address = 0x9000", "address = 0x8000")];
+    let twice = changed(rt.alloc(), FIVE_QUEUES, &twice)?;
+    let faults = [
+        (many.as_bytes(), "nvmearb: workload: W6 over a limit\n"),
+        (twice.as_bytes(), "nvmearb: workload: W7 repeated address\n"),
+    ];
+    for (input, fault) in faults {
+        is_refused(&rt, rt.alloc(), &LOADED, input, 1, fault)?;
+    }
+    Ok(())
+}
+
+#[test]
+fn gives_up(rt: HostRuntime) -> Result<(), Fail> {
+    let hasty = [("patience = 100000000", "patience = 1")];
+    let text = changed(rt.alloc(), DELETE_THREE, &hasty)?;
+    let mut given_up = 0u32;
+    for _ in 0..50 {
+        let left = program_again(&rt, rt.alloc(), &LOADED, text.as_bytes())?;
+        // The front's thread found nothing to do while a worker had a command.
+        if left.status != 0 {
+            assert_eq!(rt; left.errors.as_slice(), b"nvmearb: gave up\n".as_slice());
+            assert_eq!(rt; (left.output.len(), left.status), (0, 3));
+            given_up = given_up.saturating_add(1);
+        }
+    }
+    assert!(rt; given_up > 0);
     Ok(())
 }
 
