@@ -23,7 +23,7 @@ impl Model for Arbiter {
 }
 
 impl Arbiter {
-    ghost use Rattle.std.specs.Prelude.{◌≡◌, ◌↔◌, [], ◌∷◌, List, Option, IsNone, MatchOption};
+    ghost use Rattle.std.specs.Prelude.{◌≡◌, ◌↔◌, [], ◌∷◌, List, Option, IsNone, IfSome, MatchOption};
     ghost use Rattle.nvme_arbiter.specs.Settings.{ArbitrationFields, IsLevel};
     ghost use Rattle.nvme_arbiter.specs.Observation.{IsObservation, IsIdle, class_in};
     ghost use Rattle.nvme_arbiter.specs.History.{History, Picked, Changed};
@@ -40,6 +40,20 @@ impl Arbiter {
         Arbiter {
             kept: Kept::new(mechanism, settings),
         }
+    }
+
+    /// An arbiter that keeps this.
+    pub fn from_parts(kept: Kept) -> Arbiter
+        ensures { result ≡ kept }
+    {
+        Arbiter { kept }
+    }
+
+    /// What the arbiter keeps.
+    pub fn parts(&self) -> Kept
+        ensures { result ≡ self.now }
+    {
+        self.kept
     }
 
     /// What `pick` would answer.

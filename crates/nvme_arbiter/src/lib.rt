@@ -17,6 +17,7 @@ mod settings;
 
 pub use arbiter::Arbiter;
 pub use board::Board;
+pub use kept::{Kept, Last, Used};
 pub use laws::{
     fresh_where_due, lawful_picks_are_measured, limits_of_observations, next_by_identifier,
     no_burst_limit, nothing_picked_where_idle, one_lawful_pick, prefixes_are_lawful,
