@@ -1,5 +1,5 @@
 /*
- * nvmearb.h: entries of NVMe queues, under somebody else's controller.
+ * nvmearb.h: entries and arbitration of NVMe queues, under somebody else's controller.
  *
  * Every function is proved over the libraries of this repository (crates/nvme_capi). None allocates, waits, starts a
  * thread, or reads or writes anything but what its arguments point to, and all return. Every bit pattern of the
@@ -11,7 +11,7 @@
  *     other argument of it.
  *
  * The caller owns all memory, and no call keeps a pointer. Calls over different objects may be made at the same time
- * from any thread, and a signal handler may call over objects that no running call was given.
+ * from any thread; of each state one call at a time. A signal handler calls nothing over what a running call was given.
  *
  * Numbers are in the machine's own order, and bytes in the order of the specification. Terms are those of the NVM
  * Express Base Specification. Link with -lnvmearb; the only other symbol is memcpy.
@@ -27,8 +27,10 @@ extern "C" {
 #endif
 
 /* What a function with a result answers. Where it isn't NVMEARB_OK, the call has written nothing. */
-#define NVMEARB_OK 0u   /* done */
-#define NVMEARB_EARG 2u /* an argument is none that the call takes */
+#define NVMEARB_OK 0u     /* done */
+#define NVMEARB_NONE 1u   /* there is nothing to pick */
+#define NVMEARB_EARG 2u   /* an argument is none that the call takes */
+#define NVMEARB_ESTATE 3u /* the state is none that a call wrote */
 
 /* The length of a submission and of a completion entry in bytes. */
 #define NVMEARB_SQE_BYTES 64
@@ -104,6 +106,57 @@ typedef struct nvmearb_settings {
     uint16_t low;
 } nvmearb_settings;
 
+/* The mechanisms of arbitration. */
+#define NVMEARB_ROUND_ROBIN 1u
+#define NVMEARB_WEIGHTED 2u /* weighted round robin with urgent priority class */
+
+/* The priority classes of submission queues. */
+#define NVMEARB_ADMIN 0u
+#define NVMEARB_URGENT 1u
+#define NVMEARB_HIGH 2u
+#define NVMEARB_MEDIUM 3u
+#define NVMEARB_LOW 4u
+
+/* The most submission queues, the admin queue among them, and the most commands that are seen of one. */
+#define NVMEARB_MAX_QUEUES 17
+#define NVMEARB_MAX_COUNT 255
+
+/*
+ * An arbiter. nvmearb_arbiter_init writes it, and it may be copied. Its fields are the library's: a caller that writes
+ * them gets NVMEARB_ESTATE, or the picks of an arbiter that served what they say.
+ */
+typedef struct nvmearb_arbiter {
+    uint32_t mechanism;
+    uint32_t cdw11;
+    uint32_t last[6];
+    uint16_t used[3];
+} nvmearb_arbiter;
+
+/* A submission queue as arbitration sees it. */
+typedef struct nvmearb_seen {
+    uint16_t qid;      /* 0 is the admin queue, 1 to 16 an I/O queue */
+    uint16_t priority; /* NVMEARB_ADMIN for queue 0 and for no other, .. NVMEARB_LOW */
+    uint16_t count;    /* how many of its commands wait, 0 to NVMEARB_MAX_COUNT */
+} nvmearb_seen;
+
+/* A pick: the next n commands of a submission queue. */
+typedef struct nvmearb_pick {
+    uint16_t qid;
+    uint16_t n;     /* at least 1, and no more than wait */
+    uint16_t fresh; /* 1 where it starts a new round of the weighted levels, else 0 */
+} nvmearb_pick;
+
+/*
+ * A board: an arbiter with the queues that are open and the number of commands that wait in each. nvmearb_board_init
+ * writes it, and it may be copied. Its fields are the library's, as those of an arbiter.
+ */
+typedef struct nvmearb_board {
+    nvmearb_arbiter arbiter;
+    struct {
+        uint16_t priority, count;
+    } queues[NVMEARB_MAX_QUEUES];
+} nvmearb_board;
+
 /* Writes the fields of the entry that 64 bytes hold. Every byte belongs to a field. */
 void nvmearb_sqe_decode(const uint8_t bytes[NVMEARB_SQE_BYTES], nvmearb_sqe *fields);
 
@@ -136,6 +189,50 @@ void nvmearb_admin_of(const nvmearb_sqe *entry, nvmearb_admin *command);
 
 /* Writes what a Command Dword 11 of the Arbitration feature says. Its bits 07:03 are ignored. */
 void nvmearb_settings_of(uint32_t cdw11, nvmearb_settings *settings);
+
+/*
+ * Writes an arbiter that has served nothing, whatever was there. `cdw11` is that of the Arbitration feature; its bits
+ * 07:03 are ignored. NVMEARB_EARG exactly where there is no such mechanism.
+ */
+uint32_t nvmearb_arbiter_init(nvmearb_arbiter *arbiter, uint32_t mechanism, uint32_t cdw11);
+
+/* Takes new settings. They start a new round, and what was served last stays. NVMEARB_OK or NVMEARB_ESTATE. */
+uint32_t nvmearb_arbiter_set(nvmearb_arbiter *arbiter, uint32_t cdw11);
+
+/*
+ * Writes what nvmearb_arbiter_pick would pick.
+ * `seen` has `count` submission queues by ascending identifier, each once, and at most NVMEARB_MAX_QUEUES.
+ * NVMEARB_NONE exactly where no command waits; NVMEARB_ESTATE, and else NVMEARB_EARG, where arbiter or `seen` is none.
+ */
+uint32_t nvmearb_arbiter_peek(const nvmearb_arbiter *arbiter, const nvmearb_seen *seen, size_t count, nvmearb_pick *pick);
+
+/* Picks: the same, and the arbiter keeps that these commands were served. Then the caller takes them all. */
+uint32_t nvmearb_arbiter_pick(nvmearb_arbiter *arbiter, const nvmearb_seen *seen, size_t count, nvmearb_pick *pick);
+
+/* Writes a board on which no queue is open and that has served nothing; else as nvmearb_arbiter_init. */
+uint32_t nvmearb_board_init(nvmearb_board *board, uint32_t mechanism, uint32_t cdw11);
+
+/*
+ * Opens a queue, in which no command waits. Of each board function: NVMEARB_ESTATE where the board is none.
+ * NVMEARB_EARG where it is open, `qid` is above 16, there is no such priority, or one but not the other is the admin
+ * queue's.
+ */
+uint32_t nvmearb_board_open(nvmearb_board *board, uint16_t qid, uint16_t priority);
+
+/* Closes a queue. Its count is gone, and what was served stays. NVMEARB_EARG exactly where it isn't open. */
+uint32_t nvmearb_board_close(nvmearb_board *board, uint16_t qid);
+
+/* One more command waits in a queue. NVMEARB_EARG exactly where it isn't open or NVMEARB_MAX_COUNT commands wait. */
+uint32_t nvmearb_board_came(nvmearb_board *board, uint16_t qid);
+
+/* Writes what nvmearb_board_pick would pick. NVMEARB_NONE exactly where no command waits. */
+uint32_t nvmearb_board_peek(const nvmearb_board *board, nvmearb_pick *pick);
+
+/* Picks: the same, the board keeps that these commands were served, and as many wait no longer. */
+uint32_t nvmearb_board_pick(nvmearb_board *board, nvmearb_pick *pick);
+
+/* Takes new settings, as nvmearb_arbiter_set. The queues stay. */
+uint32_t nvmearb_board_set(nvmearb_board *board, uint32_t cdw11);
 
 #ifdef __cplusplus
 }

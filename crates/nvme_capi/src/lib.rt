@@ -3,8 +3,12 @@
 #![tactic(auto)]
 
 mod admin;
+mod arbiter;
+mod board;
 mod entries;
 mod fields;
 mod outcomes;
+mod queues;
 mod results;
 mod settings;
+mod states;

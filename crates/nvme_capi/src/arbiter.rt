@@ -1,0 +1,160 @@
+// The arbiter over a state of the caller's.
+ghost use Rattle.std.specs.Prelude.{◌≡◌, ◌≢◌, ◌≤◌, ◌⊎◌, ◌↔◌, [], ◌∷◌, length, Some, None, IsTrue, IsFalse, IsNone, IfSome};
+ghost use Rattle.nvme_arbiter.specs.Limits.{queue_limit};
+ghost use Rattle.nvme_arbiter.specs.Settings.{ArbitrationFields, settings_of};
+ghost use Rattle.nvme_arbiter.specs.Observation.{IsObservation};
+ghost use Rattle.nvme_arbiter.specs.History.{History, Picked, Changed};
+ghost use Rattle.nvme_arbiter.specs.Lawful.{IsLawfulPick};
+ghost use Rattle.nvme_arbiter.specs.Standing.{StandsAt, pick_of};
+ghost use Rattle.nvme_arbiter.specs.declared.settings.Mechanism.{Mechanism};
+ghost use Rattle.nvme_capi.specs.States.{is_arbiter, is_mechanism, kept_of, mechanism_of, seen_in, pick_of_fields, IsShown};
+
+use crate::results::{BAD_ARGUMENT, BAD_STATE, NOTHING, OK};
+use crate::states::{
+    ArbiterFields, PickFields, SeenFields, fields_of_last, fields_of_pick, fields_of_used,
+    is_arbiter, kept_of, mechanism_of, seen_of_fields,
+};
+use arrayvec::ArrayVec;
+use nvme_arbiter::{Arbiter, Kept, QUEUE_LIMIT, Seen, Settings, is_observation};
+
+// The queues as they are seen.
+fn seen_in(queues: &[SeenFields]) -> ArrayVec<Seen, QUEUE_LIMIT>
+    requires { length queues.now ≤ queue_limit }
+    ensures { result.items ≡ seen_in queues.now }
+{
+    let mut seen = ArrayVec::new();
+    for queue in queues {
+        seen.push(seen_of_fields(queue));
+    }
+    seen
+}
+
+// The queues as they are seen, where they are an observation.
+fn observation_in(queues: &[SeenFields]) -> Option<ArrayVec<Seen, QUEUE_LIMIT>>
+    ensures none { IsNone result → IsShown queues.now → ⊥ }
+    ensures some { IfSome result (λ seen. seen.items ≡ seen_in queues.now) }
+    ensures shown { IfSome result (λ seen. IsShown queues.now) }
+{
+    if queues.len() > QUEUE_LIMIT {
+        return None;
+    }
+    let seen = seen_in(queues);
+    if is_observation(seen.as_slice()) {
+        Some(seen)
+    } else {
+        None
+    }
+}
+
+/// Writes what an arbiter keeps, of this mechanism and with the settings of this CDW11.
+pub fn write(state: &mut ArbiterFields, mechanism: u32, cdw11: u32, kept: &Kept)
+    requires number { IsTrue (is_mechanism mechanism) }
+    requires mechanism { kept.now.mechanism ≡ mechanism_of mechanism }
+    requires settings { kept.now.settings ≡ settings_of cdw11 }
+    ensures kept { kept_of state.new ≡ kept.now }
+    ensures is_arbiter { IsTrue (is_arbiter state.new) }
+{
+    *state = ArbiterFields {
+        mechanism,
+        cdw11,
+        last: fields_of_last(kept.last),
+        used: fields_of_used(kept.used),
+    };
+}
+
+/// Writes what `nvmearb_arbiter_pick` would pick.
+#[unsafe(no_mangle)]
+pub extern "C" fn nvmearb_arbiter_peek(
+    state: &ArbiterFields,
+    queues: &[SeenFields],
+    pick: &mut PickFields,
+) -> u32
+    ensures bad_state { (result ≡ BAD_STATE) ↔ IsFalse (is_arbiter state.now) }
+    ensures bad_argument { result ≡ BAD_ARGUMENT → IsShown queues.now → ⊥ }
+    ensures nothing { result ≡ NOTHING → IsShown queues.now × (pick_of (kept_of state.now) (seen_in queues.now) ≡ None) }
+    ensures picked { result ≡ OK → IsShown queues.now × (pick_of (kept_of state.now) (seen_in queues.now) ≡ Some (pick_of_fields pick.new)) }
+    ensures lawful { result ≡ OK → (mechanism : Mechanism) (first : ArbitrationFields) (past : History) → StandsAt mechanism first past (kept_of state.now) → IsLawfulPick mechanism first past (seen_in queues.now) (pick_of_fields pick.new) }
+    ensures unchanged { result ≢ OK → pick.new ≡ pick.old }
+{
+    if !is_arbiter(state) {
+        return BAD_STATE;
+    }
+    let Some(seen) = observation_in(queues) else {
+        return BAD_ARGUMENT;
+    };
+    match Arbiter::from_parts(kept_of(state)).peek(seen.as_slice()) {
+        Some(it) => {
+            *pick = fields_of_pick(it);
+            OK
+        }
+        None => NOTHING,
+    }
+}
+
+/// Picks: writes the next queue, and how many of its commands are taken.
+#[unsafe(no_mangle)]
+pub extern "C" fn nvmearb_arbiter_pick(
+    state: &mut ArbiterFields,
+    queues: &[SeenFields],
+    pick: &mut PickFields,
+) -> u32
+    ensures bad_state { (result ≡ BAD_STATE) ↔ IsFalse (is_arbiter state.old) }
+    ensures bad_argument { result ≡ BAD_ARGUMENT → IsShown queues.now → ⊥ }
+    ensures nothing { result ≡ NOTHING → IsShown queues.now × (pick_of (kept_of state.old) (seen_in queues.now) ≡ None) }
+    ensures picked { result ≡ OK → IsShown queues.now × (pick_of (kept_of state.old) (seen_in queues.now) ≡ Some (pick_of_fields pick.new)) }
+    ensures lawful { result ≡ OK → (mechanism : Mechanism) (first : ArbitrationFields) (past : History) → StandsAt mechanism first past (kept_of state.old) → IsLawfulPick mechanism first past (seen_in queues.now) (pick_of_fields pick.new) }
+    ensures stands { result ≡ OK → (mechanism : Mechanism) (first : ArbitrationFields) (past : History) → StandsAt mechanism first past (kept_of state.old) → StandsAt mechanism first (Picked (seen_in queues.now) (pick_of_fields pick.new) ∷ past) (kept_of state.new) }
+    ensures kept { result ≡ OK → IsTrue (is_arbiter state.new) }
+    ensures unchanged { result ≢ OK → (state.new ≡ state.old) × (pick.new ≡ pick.old) }
+{
+    if !is_arbiter(state) {
+        return BAD_STATE;
+    }
+    let Some(seen) = observation_in(queues) else {
+        return BAD_ARGUMENT;
+    };
+    let mut arbiter = Arbiter::from_parts(kept_of(state));
+    match arbiter.pick(seen.as_slice()) {
+        Some(it) => {
+            *pick = fields_of_pick(it);
+            write(state, state.mechanism, state.cdw11, &arbiter.parts());
+            OK
+        }
+        None => NOTHING,
+    }
+}
+
+/// Makes an arbiter that has served nothing yet. A round starts. The mechanism is 1, round robin, or 2, weighted.
+#[unsafe(no_mangle)]
+pub extern "C" fn nvmearb_arbiter_init(state: &mut ArbiterFields, mechanism: u32, cdw11: u32) -> u32
+    ensures refused { (result ≡ BAD_ARGUMENT) ↔ ((mechanism ≢ 1) × (mechanism ≢ 2)) }
+    ensures answer { (result ≡ OK) ⊎ (result ≡ BAD_ARGUMENT) }
+    ensures stands { result ≡ OK → StandsAt (mechanism_of mechanism) (settings_of cdw11) [] (kept_of state.new) }
+    ensures kept { result ≡ OK → IsTrue (is_arbiter state.new) }
+    ensures unchanged { result ≢ OK → state.new ≡ state.old }
+{
+    if mechanism != 1 && mechanism != 2 {
+        return BAD_ARGUMENT;
+    }
+    let kept = Kept::new(mechanism_of(mechanism), Settings::from_cdw11(cdw11));
+    write(state, mechanism, cdw11, &kept);
+    OK
+}
+
+/// Takes new settings, by a CDW11 of the Arbitration feature. They start a new round, and what was served last stays.
+#[unsafe(no_mangle)]
+pub extern "C" fn nvmearb_arbiter_set(state: &mut ArbiterFields, cdw11: u32) -> u32
+    ensures bad_state { (result ≡ BAD_STATE) ↔ IsFalse (is_arbiter state.old) }
+    ensures answer { (result ≡ OK) ⊎ (result ≡ BAD_STATE) }
+    ensures stands { result ≡ OK → (mechanism : Mechanism) (first : ArbitrationFields) (past : History) → StandsAt mechanism first past (kept_of state.old) → StandsAt mechanism first (Changed (settings_of cdw11) ∷ past) (kept_of state.new) }
+    ensures kept { result ≡ OK → IsTrue (is_arbiter state.new) }
+    ensures unchanged { result ≢ OK → state.new ≡ state.old }
+{
+    if !is_arbiter(state) {
+        return BAD_STATE;
+    }
+    let mut kept = kept_of(state);
+    kept.set(Settings::from_cdw11(cdw11));
+    write(state, state.mechanism, cdw11, &kept);
+    OK
+}
