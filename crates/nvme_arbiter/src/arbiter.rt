@@ -53,7 +53,8 @@ impl Arbiter {
     pub fn parts(&self) -> Kept
         ensures { result ≡ self.now }
     {
-        self.kept
+        let kept = self.kept;
+        kept
     }
 
     /// What `pick` would answer.
