@@ -279,8 +279,7 @@ pick_error_means a c d LogFull admin none kept balanced picks full one = elim (f
   | inl none_free ↦ (inl none_free, picks, balanced)
   | inr few ↦
       let same : IsSame c d = few.0 in
-      let free : d.config.max_events < length d.log.items + admin_events = rw (same.config, same.log) few.1.0 in
-      (
+      let free : d.config.max_events < length d.log.items + admin_events = rw (same.config, same.log) few.1.0 in (
         admin_log_full d kept (admin-goes c d (Goes-same c d same) admin) (same.deletion ∙ none) free (next_pick c) (pick_same c d same)
             (subst (λ (n : ℕ). IfSome (next_pick c) (λ (pick : Pick). (pick.qid ≡ 0) × (n + pick.n ≤ max_outstanding))) (sym same.outstanding) few.1.1) few.1.2,
         picks,

@@ -55,16 +55,16 @@ returns-clause-goes c =
     let room : length c.args.self.now.log.items + admin_events ≤ vec_capacity c.note.new.log = omega (arith, c.in_ok-make_room.ensures.room, c.note.ensures.room) in
     Goes-trans c.args.self.now _ c.carry_out.new.self
     (admin_pick-goes c.args.self.now _ c.requires.kept c.requires.admin c.requires.none_pending c.in-Some.pick c.in-Some.ensures.lawful c.in-Some.ensures.stands c.in-Some.ensures.queues
-          (of_next c.args.self.now c.in-Some.pick (λ (p : Pick). c.args.self.now.outstanding + p.n ≤ max_outstanding) c.in-Some.ensures.by_what_is_kept c.requires.places)
-          (of_next c.args.self.now c.in-Some.pick (λ (p : Pick). p.qid ≡ 0) c.in-Some.ensures.by_what_is_kept c.requires.of_admin)
-          c.seen-seen.result c.seen-seen.ensures.seen c.index_mut-sq.result.now c.index_mut-sq.ensures.value
-          c.in-Some-pop.candidate c.pop.new.self.items c.in-Some-pop.ensures.items
-          refl refl refl refl refl
-          (λ t. set c.args.self.now.sqs.items 0 (record c.index_mut-sq.result.now { window = record { items = c.pop.ensures.rest t; room = c.pop.ensures.room t }; unposted = c.index_mut-sq.result.now.unposted + 1 }))
-          refl refl
-          (c.note.ensures.items ∙ ap (λ (xs : List Event). xs ++ event.Pick c.seen-seen.result c.in-Some.pick ∷ []) c.make_room.ensures.same)
-          c.in_ok-make_room.ensures.within
-          room)
+    (of_next c.args.self.now c.in-Some.pick (λ (p : Pick). c.args.self.now.outstanding + p.n ≤ max_outstanding) c.in-Some.ensures.by_what_is_kept c.requires.places)
+    (of_next c.args.self.now c.in-Some.pick (λ (p : Pick). p.qid ≡ 0) c.in-Some.ensures.by_what_is_kept c.requires.of_admin)
+    c.seen-seen.result c.seen-seen.ensures.seen c.index_mut-sq.result.now c.index_mut-sq.ensures.value
+    c.in-Some-pop.candidate c.pop.new.self.items c.in-Some-pop.ensures.items
+    refl refl refl refl refl
+    (λ t. set c.args.self.now.sqs.items 0 (record c.index_mut-sq.result.now { window = record { items = c.pop.ensures.rest t; room = c.pop.ensures.room t }; unposted = c.index_mut-sq.result.now.unposted + 1 }))
+    refl refl
+    (c.note.ensures.items ∙ ap (λ (xs : List Event). xs ++ event.Pick c.seen-seen.result c.in-Some.pick ∷ []) c.make_room.ensures.same)
+    c.in_ok-make_room.ensures.within
+    room)
     c.carry_out.ensures.goes
 
 pub returns-clause-gets : goal.returns-clause-gets
