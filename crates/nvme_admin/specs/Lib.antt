@@ -4,6 +4,7 @@ pub mod Checks
 pub mod Examples
 pub mod History
 pub mod Laws
+pub mod Parts
 pub mod QueueTable
 pub mod Standing
 pub mod Steps

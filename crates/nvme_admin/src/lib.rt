@@ -6,12 +6,10 @@ pub mod laws;
 mod limits;
 mod region;
 mod table;
-#[cfg(test)]
-mod tests;
 mod verdict;
 
 pub use bounds::{MAX_IO_QUEUES, MAX_QSIZE, MAX_REGIONS, MAX_SLOTS, MIN_SLOTS};
 pub use limits::Limits;
 pub use region::{AdminError, Region};
-pub use table::Table;
+pub use table::{Table, TableParts};
 pub use verdict::{SqEntry, Verdict};

@@ -2,6 +2,7 @@ use crate::bounds::{MAX_REGIONS, MAX_SLOTS, MIN_SLOTS};
 use thiserror::Error;
 
 /// A region: the place of one ring.
+#[repr(C)]
 #[derive(Clone, Copy, Debug, Default, PartialEq, Eq)]
 pub struct Region {
     /// The address, by which PRP1 of a Create command names it.

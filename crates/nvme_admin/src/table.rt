@@ -2,6 +2,7 @@ mod checks;
 mod create;
 mod delete;
 mod features;
+mod parts;
 
 use crate::bounds::{MAX_REGIONS, MAX_SLOTS, MIN_SLOTS};
 use crate::limits::Limits;
@@ -11,6 +12,7 @@ use arrayvec::ArrayVec;
 use checks::is_address;
 use nvme_arbiter::{Class, Settings};
 use nvme_entry::{AdminCommand, Sqe, Status, admin_of};
+pub use parts::TableParts;
 use std::marker::Model;
 
 /// The queue table of a controller: its regions, its queues and its features. It keeps what stands,

@@ -1,7 +1,7 @@
 -- What an arbiter keeps says what its history says.
 use Rattle.std.proofs.Common.{◌≡◌, ℕ, ◌+◌, ◌<◌, ◌≤◌, min, Bool, true, false, List, [], ◌∷◌, refl, sym, ap, subst, ◌∙◌, arith}
 use Rattle.std.specs.Prelude.{Option, Some, None, IsNone, ◌↔◌, if◌then◌else◌}
-use Rattle.nvme_arbiter.specs.Settings.{ArbitrationFields, burst_of, IsLevel}
+use Rattle.nvme_arbiter.specs.Settings.{ArbitrationFields, burst_of, weight_of, IsLevel}
 use Rattle.nvme_arbiter.specs.declared.pick.Seen.{Seen}
 use Rattle.nvme_arbiter.specs.declared.pick.Pick.{Pick}
 use Rattle.nvme_arbiter.specs.declared.kept.Kept.{Kept}
@@ -124,27 +124,23 @@ stands_first RoundRobin s = record { mechanism_is = refl; settings_are = refl; r
 stands_first Weighted s = record { mechanism_is = refl; settings_are = refl; recalls = (none_served, λ level l. nothing_in level) }
 
 -- ---- a level stays within its weight
-level_within : (s : ArbitrationFields) (used : Used) (level : Class) (fresh : Bool) (n : ℕ) → IsLevel level → 0 < credit s (used_of used) fresh level → n ≤ credit s (used_of used) fresh level → StaysWithin s (used_before fresh used) (Some level) n
-level_within s used Admin fresh n l h k = absurd l
-level_within s used Urgent fresh n l h k = absurd l
-level_within s used High true n l h k = omega arith
-level_within s used High false n l h k = omega arith
-level_within s used Medium true n l h k = omega arith
-level_within s used Medium false n l h k = omega arith
-level_within s used Low true n l h k = omega arith
-level_within s used Low false n l h k = omega arith
+level_within : (s : ArbitrationFields) (used : Used) (level : Class) (fresh : Bool) (n : ℕ) → 0 < credit s (used_of used) fresh level → n ≤ credit s (used_of used) fresh level → used_of (used_before fresh used) level + n ≤ weight_of s level
+level_within s used level true n h k =
+    let few : n ≤ weight_of s level = k in
+    rw (nothing_in level) (omega arith)
+level_within s used level false n h k = omega arith
 
 -- the pick of a class, as its observation shows it
 pub from_in : (last : Class → Option ℕ) (seen : List Seen) (class : Class) (fresh : Bool) (number : Seen → ℕ) (p : Pick) → IsObservation seen → IsFrom last seen class fresh number p → class_in seen p.qid ≡ Some class
 from_in last seen class fresh number p o f = rw f.taken_is.qid (class_of_next class (last class) seen f.queue o.ascending f.next_is)
 
 within_by : (k : Kept) (seen : List Seen) (p : Pick) → IsObservation seen → Choice k.settings (last_of k.last) (used_of k.used) seen p → StaysWithin k.settings (used_before p.fresh k.used) (class_in seen p.qid) p.n
-within_by k seen p o (of_admin f) = rw (from_in (last_of k.last) seen Admin false (λ q. 1) p o f) tt
-within_by k seen p o (of_urgent f) = rw (from_in (last_of k.last) seen Urgent false (λ q. within_burst (burst_of k.settings) q.count) p o f) tt
+within_by k seen p o (of_admin f) = rw (from_in (last_of k.last) seen Admin false (λ q. 1) p o f) (λ l. absurd l)
+within_by k seen p o (of_urgent f) = rw (from_in (last_of k.last) seen Urgent false (λ q. within_burst (burst_of k.settings) q.count) p o f) (λ l. absurd l)
 within_by k seen p o (of_level fresh level f) =
     let number : Seen → ℕ = λ q. min (within_burst (burst_of k.settings) q.count) (credit k.settings (used_of k.used) fresh level) in
     let few : p.n ≤ credit k.settings (used_of k.used) fresh level = rw f.from.taken_is.n (omega arith) in
-    rw (from_in (last_of k.last) seen level fresh number p o f.from) (subst (λ b. StaysWithin k.settings (used_before b k.used) (Some level) p.n) (sym f.from.taken_is.fresh_is) (level_within k.settings k.used level fresh p.n f.level_is f.has_credit few))
+    rw (from_in (last_of k.last) seen level fresh number p o f.from) (subst (λ b. StaysWithin k.settings (used_before b k.used) (Some level) p.n) (sym f.from.taken_is.fresh_is) (λ l. level_within k.settings k.used level fresh p.n f.has_credit few))
 
 within_for : (m : Mechanism) (k : Kept) (seen : List Seen) (p : Pick) → IsObservation seen → pick_by m k seen ≡ Some p → IsWithinWeight m k (class_in seen p.qid) p
 within_for RoundRobin k seen p o h = tt

@@ -1,6 +1,6 @@
 -- What an arbiter keeps, and the histories at which it stands.
 use Rattle.std.specs.Prelude.{◌≡◌, ℕ, ◌+◌, ◌≤◌, Bool, if◌then◌else◌, List, Option, Some, None}
-use Rattle.nvme_arbiter.specs.Settings.{ArbitrationFields, IsLevel}
+use Rattle.nvme_arbiter.specs.Settings.{ArbitrationFields, weight_of, IsLevel}
 use Rattle.nvme_arbiter.specs.History.{History, settings_after, last_served, last_served_of, used_in_round}
 use Rattle.nvme_arbiter.specs.Rules.{round_robin_pick, weighted_pick}
 use Rattle.nvme_arbiter.specs.declared.settings.Class.{Class}
@@ -77,14 +77,10 @@ abbrev pub kept_after : Mechanism → Kept → Option Class → Pick → Kept
 kept_after RoundRobin k class pick = record k { last = record k.last { all = Some pick.qid } }
 kept_after Weighted k class pick = record k { last = last_with k.last class pick.qid; used = used_with (used_before pick.fresh k.used) class pick.n }
 
--- what is used of a pick's class stays within its weight
+-- what is used of a pick's class stays within its weight, where the class is a level
 abbrev pub StaysWithin : ArbitrationFields → Used → Option Class → ℕ → Type 0
 StaysWithin settings used None n = Unit {0}
-StaysWithin settings used (Some Admin) n = Unit {0}
-StaysWithin settings used (Some Urgent) n = Unit {0}
-StaysWithin settings used (Some High) n = used.high + n ≤ settings.high + 1
-StaysWithin settings used (Some Medium) n = used.medium + n ≤ settings.medium + 1
-StaysWithin settings used (Some Low) n = used.low + n ≤ settings.low + 1
+StaysWithin settings used (Some class) n = IsLevel class → used_of used class + n ≤ weight_of settings class
 
 abbrev pub IsWithinWeight : Mechanism → Kept → Option Class → Pick → Type 0
 IsWithinWeight RoundRobin k class pick = Unit {0}

@@ -26,14 +26,13 @@ impl Model for Board {
 }
 
 impl Board {
-    ghost use Rattle.std.specs.Prelude.{◌≡◌, ◌↔◌, ◌+◌, ◌<◌, ◌≤◌, [], ◌∷◌, List, Option, Some, None, IsSome, IsNone, IsSomeAnd, IfSome, MatchOption, replicate, slice_set};
+    ghost use Rattle.std.specs.Prelude.{◌≡◌, ◌↔◌, ◌+◌, ◌-◌, ◌<◌, ◌≤◌, [], ◌∷◌, List, Option, Some, None, IsSome, IsNone, IsSomeAnd, IfSome, MatchOption, replicate, slice_set};
     ghost use Rattle.nvme_arbiter.specs.Limits.{highest_qid, highest_count, queue_limit};
-    ghost use Rattle.nvme_arbiter.specs.Settings.{ArbitrationFields, IsLevel};
+    ghost use Rattle.nvme_arbiter.specs.Settings.{ArbitrationFields};
     ghost use Rattle.nvme_arbiter.specs.Observation.{IsObservation, IsIdle, class_in};
     ghost use Rattle.nvme_arbiter.specs.History.{History, Picked, Changed};
-    ghost use Rattle.nvme_arbiter.specs.Rules.{round_robin_pick, weighted_pick, admin_pick, urgent_pick, level_pick, levels_pick};
     ghost use Rattle.nvme_arbiter.specs.Lawful.{lawful_pick};
-    ghost use Rattle.nvme_arbiter.specs.Standing.{pick_of, last_of, used_of, first_kept, kept_after, nothing_used};
+    ghost use Rattle.nvme_arbiter.specs.Standing.{pick_of, first_kept, kept_after, nothing_used};
     ghost use Rattle.nvme_arbiter.specs.Queues.{seen_of, queue_at, FitsUnder};
     ghost use Rattle.nvme_arbiter.specs.Board.{IsBoard, BoardStandsAt, queues_after};
     ghost use Rattle.nvme_arbiter.specs.declared.settings.Mechanism.{Mechanism};
@@ -94,6 +93,16 @@ impl Board {
         }
     }
 
+    /// One waiting command of an open queue left without being picked.
+    pub fn went(&mut self, qid: u16)
+        requires { IsSomeAnd (queue_at self.old.queues qid) (λ queue. 0 < queue.count) }
+        ensures went { IfSome (queue_at self.old.queues qid) (λ queue. self.new ≡ record self.old { queues = slice_set self.old.queues qid (Some (record queue { count = queue.count - 1 })) }) }
+        ensures stands { (mechanism : Mechanism) (first : ArbitrationFields) (past : History) → BoardStandsAt mechanism first past self.old → BoardStandsAt mechanism first past self.new }
+        ensures is_board { IsBoard self.new }
+    {
+        self.queues.take(qid, 1);
+    }
+
     /// The queue of an identifier, where it is open.
     pub fn queue(&self, qid: u16) -> Option<OpenQueue>
         ensures is_there { result ≡ queue_at self.now.queues qid }
@@ -119,10 +128,7 @@ impl Board {
         ensures none_where_idle { IsNone result ↔ IsIdle (seen_of self.now.queues) }
         ensures is_board { IsBoard self.now }
     {
-        match self.kept.mechanism {
-            Mechanism::RoundRobin => self.round_robin(),
-            Mechanism::Weighted => self.weighted(),
-        }
+        self.kept.peek(&self.queues)
     }
 
     /// The lawful pick for `seen()` after the picks and settings so far (NVM Express Base Specification, Command
@@ -137,9 +143,7 @@ impl Board {
         ensures kept { MatchOption result (self.new.kept ≡ self.old.kept) (λ pick. self.new.kept ≡ kept_after self.old.kept.mechanism self.old.kept (class_in (seen_of self.old.queues) pick.qid) pick) }
         ensures is_board { IsBoard self.new }
     {
-        let pick = self.peek()?;
-        let class = self.queues.class_of(pick.qid);
-        self.kept.note(class, pick);
+        let pick = self.kept.pick(&self.queues)?;
         self.queues.take(pick.qid, pick.n);
         Some(pick)
     }
@@ -152,94 +156,5 @@ impl Board {
         ensures is_board { IsBoard self.new }
     {
         self.kept.set(settings);
-    }
-
-    // The pick of round robin: one command of the admin queue, or as many as burst and count allow.
-    fn round_robin(&self) -> Option<Pick>
-        ensures { result ≡ round_robin_pick self.now.kept.settings self.now.kept.last.all (seen_of self.now.queues) }
-    {
-        let queue = self.queues.next(None, self.kept.last.all)?;
-        let n = if queue.qid == 0 {
-            1
-        } else {
-            self.kept.within_burst(queue.count)
-        };
-        Some(Pick {
-            qid: queue.qid,
-            n,
-            fresh: false,
-        })
-    }
-
-    // The pick of weighted round robin with urgent priority class.
-    fn weighted(&self) -> Option<Pick>
-        ensures { result ≡ weighted_pick self.now.kept.settings (last_of self.now.kept.last) (used_of self.now.kept.used) (seen_of self.now.queues) }
-    {
-        if let Some(pick) = self.admin() {
-            return Some(pick);
-        }
-        if let Some(pick) = self.urgent() {
-            return Some(pick);
-        }
-        if let Some(pick) = self.levels(false) {
-            return Some(pick);
-        }
-        self.levels(true)
-    }
-
-    // The pick of the admin queue: one command.
-    fn admin(&self) -> Option<Pick>
-        ensures { result ≡ admin_pick self.now.kept.settings (last_of self.now.kept.last) (used_of self.now.kept.used) (seen_of self.now.queues) }
-    {
-        let queue = self.queues.next(Some(Class::Admin), self.kept.last.admin)?;
-        Some(Pick {
-            qid: queue.qid,
-            n: 1,
-            fresh: false,
-        })
-    }
-
-    // The pick of an urgent queue: the smaller of burst and count.
-    fn urgent(&self) -> Option<Pick>
-        ensures { result ≡ urgent_pick self.now.kept.settings (last_of self.now.kept.last) (used_of self.now.kept.used) (seen_of self.now.queues) }
-    {
-        let queue = self
-            .queues
-            .next(Some(Class::Urgent), self.kept.last.urgent)?;
-        Some(Pick {
-            qid: queue.qid,
-            n: self.kept.within_burst(queue.count),
-            fresh: false,
-        })
-    }
-
-    // The pick of the first level that has a ready queue and credit, in this round or in a new one.
-    fn levels(&self, fresh: bool) -> Option<Pick>
-        ensures { result ≡ levels_pick self.now.kept.settings (last_of self.now.kept.last) (used_of self.now.kept.used) (seen_of self.now.queues) fresh }
-    {
-        if let Some(pick) = self.level(Class::High, fresh) {
-            return Some(pick);
-        }
-        if let Some(pick) = self.level(Class::Medium, fresh) {
-            return Some(pick);
-        }
-        self.level(Class::Low, fresh)
-    }
-
-    // The pick of a level: the least of burst, credit and count, and none without credit.
-    fn level(&self, level: Class, fresh: bool) -> Option<Pick>
-        requires { IsLevel level }
-        ensures { result ≡ level_pick self.now.kept.settings (last_of self.now.kept.last) (used_of self.now.kept.used) (seen_of self.now.queues) fresh level }
-    {
-        let credit = self.kept.credit(level, fresh);
-        if credit == 0 {
-            return None;
-        }
-        let queue = self.queues.next(Some(level), self.kept.last_of(level))?;
-        Some(Pick {
-            qid: queue.qid,
-            n: self.kept.within_burst(queue.count).min(credit),
-            fresh,
-        })
     }
 }

@@ -11,6 +11,8 @@ mod masks;
 mod observation;
 mod pick;
 mod queues;
+mod ready;
+mod rules;
 mod seek;
 pub mod service;
 mod settings;
@@ -28,6 +30,3 @@ pub use limits::{HIGHEST_COUNT, HIGHEST_QID, QUEUE_LIMIT};
 pub use observation::is_observation;
 pub use pick::{OpenQueue, Pick, Seen};
 pub use settings::{Class, Mechanism, Settings};
-
-#[cfg(test)]
-mod tests;

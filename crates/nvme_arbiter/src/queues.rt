@@ -6,6 +6,7 @@ use crate::bits::{above, lowest};
 use crate::limits::{HIGHEST_QID, QUEUE_LIMIT};
 use crate::masks::Masks;
 use crate::pick::{OpenQueue, Seen};
+use crate::ready::ReadyQueues;
 use crate::settings::Class;
 use arrayvec::ArrayVec;
 use std::marker::Model;
@@ -41,11 +42,9 @@ impl Model for Queues {
 }
 
 impl Queues {
-    ghost use Rattle.std.specs.Prelude.{◌≡◌, ◌≤◌, ◌&&◌, nat_lt, length, replicate, None, option_map, find, slice_set};
-    ghost use Rattle.std.specs.List.{filter};
+    ghost use Rattle.std.specs.Prelude.{◌≡◌, ◌≤◌, length, replicate, None, option_map, slice_set};
     ghost use Rattle.nvme_arbiter.specs.Limits.{highest_qid, queue_limit};
-    ghost use Rattle.nvme_arbiter.specs.Observation.{IsObservation, is_wanted, class_in};
-    ghost use Rattle.nvme_arbiter.specs.Next.{next};
+    ghost use Rattle.nvme_arbiter.specs.Observation.{IsObservation};
     ghost use Rattle.nvme_arbiter.specs.Queues.{seen_of, queue_at, fewer, FitsUnder, IsOf, shown};
 
     /// No queue is open.
@@ -74,16 +73,6 @@ impl Queues {
             None
         } else {
             self.slots[usize::from(qid)]
-        }
-    }
-
-    /// The class in which a queue is seen.
-    pub fn class_of(&self, qid: u16) -> Option<Class>
-        ensures { result ≡ class_in (seen_of self.now) qid }
-    {
-        match self.queue(qid) {
-            Some(queue) => Some(queue.class),
-            None => None,
         }
     }
 
@@ -135,32 +124,6 @@ impl Queues {
         seen
     }
 
-    /// The next ready queue after the one that was served last, in a class where one is given.
-    pub fn next(&self, class: Option<Class>, last: Option<u16>) -> Option<Seen>
-        ensures { result ≡ next last (filter (is_wanted class) (seen_of self.now)) }
-    {
-        let first = self.first(class);
-        match last {
-            Some(last) => self.first_above(class, last).or(first),
-            None => first,
-        }
-    }
-
-    // The first ready queue.
-    fn first(&self, class: Option<Class>) -> Option<Seen>
-        ensures observed { IsObservation (seen_of self.now) }
-        ensures is_first { result ≡ find (is_wanted class) (seen_of self.now) }
-    {
-        self.show(lowest(self.ready.mask(class)))
-    }
-
-    // The first ready queue above an identifier.
-    fn first_above(&self, class: Option<Class>, last: u16) -> Option<Seen>
-        ensures { result ≡ find (λ s. is_wanted class s && nat_lt last s.qid) (seen_of self.now) }
-    {
-        self.show(lowest(above(self.ready.mask(class), last)))
-    }
-
     // The open queue of an identifier, as it is seen.
     fn show(&self, qid: Option<u16>) -> Option<Seen>
         ensures { result ≡ shown self.now qid }
@@ -172,5 +135,26 @@ impl Queues {
             class: open.class,
             count: open.count,
         })
+    }
+}
+
+impl ReadyQueues for Queues {
+    ghost use Rattle.nvme_arbiter.specs.Queues.{seen_of};
+
+    ghost seen = { seen_of };
+
+    fn first(&self, class: Option<Class>) -> Option<Seen> {
+        self.show(lowest(self.ready.mask(class)))
+    }
+
+    fn first_above(&self, class: Option<Class>, last: u16) -> Option<Seen> {
+        self.show(lowest(above(self.ready.mask(class), last)))
+    }
+
+    fn class_of(&self, qid: u16) -> Option<Class> {
+        match self.queue(qid) {
+            Some(queue) => Some(queue.class),
+            None => None,
+        }
     }
 }

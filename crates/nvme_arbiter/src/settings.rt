@@ -67,7 +67,8 @@ impl Settings {
 
     /// The CDW11 of these settings, as Get Features answers it. Bits 07:03 are 0 (profile).
     pub fn to_cdw11(&self) -> u32
-        ensures { result ≡ cdw11_of self.now }
+        ensures encoded { result ≡ cdw11_of self.now }
+        ensures reads_back { settings_of result ≡ self.now }
     {
         u32::from(self.burst_code)
             + 0x100 * u32::from(self.low)

@@ -17,6 +17,3 @@ pub use namespaces::{MAX_NAMESPACES, Namespaces, SpaceError};
 pub use outcomes::outcome;
 pub use status::Status;
 pub use submission::Sqe;
-
-#[cfg(test)]
-mod tests;

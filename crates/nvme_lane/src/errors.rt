@@ -1,11 +1,14 @@
 //! What rings and lanes answer in place of what was asked.
+use thiserror::Error;
 
 /// Why no ring or lane was made.
-#[derive(Clone, Copy, PartialEq, Eq, Debug)]
+#[derive(Clone, Copy, PartialEq, Eq, Debug, Error)]
 pub enum LaneError {
     /// A size is outside its limits. Nothing was made.
+    #[error("size outside its limits")]
     Size,
     /// An allocation was refused. Nothing was made.
+    #[error("out of memory")]
     NoMemory,
 }
 
@@ -14,5 +17,6 @@ pub enum LaneError {
 pub struct Full<T>(pub T);
 
 /// An allocation was refused. Nothing changed.
-#[derive(Clone, Copy, PartialEq, Eq, Debug)]
+#[derive(Clone, Copy, PartialEq, Eq, Debug, Error)]
+#[error("out of memory")]
 pub struct NoMemory;

@@ -29,6 +29,3 @@ pub use passes::{PopPass, PushPass};
 pub use put_end::PutEnd;
 pub use resting::beside;
 pub use rings::ring;
-
-#[cfg(test)]
-mod tests;

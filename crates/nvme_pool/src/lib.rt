@@ -19,6 +19,3 @@ pub use limits::{JOB_CAPACITY, MAX_WORKERS, RESULT_SLOTS};
 pub use making::{PoolError, pool};
 pub use seat::FrontSeat;
 pub use worker::{Lanes, Worked, Worker};
-
-#[cfg(test)]
-mod tests;

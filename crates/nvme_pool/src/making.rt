@@ -15,13 +15,16 @@ use crate::seat::FrontSeat;
 use crate::worker::{Lanes, Worker};
 use nvme_lane::{GetEnd, LaneError, PopPass, lane, ring};
 use std::alloc::Global;
+use thiserror::Error;
 
 /// Why no pool was made, or none was closed.
-#[derive(Clone, Copy, PartialEq, Eq, Debug)]
+#[derive(Clone, Copy, PartialEq, Eq, Debug, Error)]
 pub enum PoolError {
     /// The number of workers is outside 1 to `MAX_WORKERS`. Nothing was made.
+    #[error("number of workers outside 1 to 8")]
     Workers,
     /// An allocation was refused. Nothing was made or closed.
+    #[error("out of memory")]
     NoMemory,
 }
 

@@ -7,8 +7,6 @@ mod key;
 mod plan;
 mod regions;
 mod scripts;
-#[cfg(test)]
-mod tests;
 mod values;
 
 pub use error::WorkloadError;

@@ -4,6 +4,8 @@ use nvme_admin::Limits;
 use nvme_arbiter::{Mechanism, Settings};
 use nvme_entry::{Namespaces, Sqe};
 use std::marker::Model;
+use std::ops::Index;
+use std::slice;
 
 /// What a workload file says.
 #[derive(Debug, Drop)]
@@ -44,7 +46,7 @@ pub struct CqPlan {
     pub slots: u16,
 }
 
-/// A list. Contracts see it as its items, in order.
+/// A list: its length, its items by index, all of them in order, and as a slice. Contracts see it as its items.
 #[derive(Debug, Drop)]
 pub struct Sequence<T> {
     items: Vec<T>,
@@ -59,11 +61,27 @@ impl<T> Model for Sequence<T> {
 }
 
 impl<T> Sequence<T> {
+    ghost use Rattle.std.specs.Prelude.{◌≡◌, ◌↔◌, [], length, IsTrue};
+
     /// The list of these items. It takes no memory.
     pub fn new(items: Vec<T>) -> Sequence<T>
         ensures items { result ≡ items.items }
     {
         Sequence { items }
+    }
+
+    /// How many items it has.
+    pub fn len(&self) -> usize
+        ensures { result ≡ length self.now }
+    {
+        self.items.len()
+    }
+
+    /// It has no item.
+    pub fn is_empty(&self) -> bool
+        ensures { IsTrue result ↔ (self.now ≡ []) }
+    {
+        self.items.is_empty()
     }
 
     /// The items, in order.
@@ -79,5 +97,36 @@ impl<T> Sequence<T> {
     {
         let Sequence { items } = self;
         items
+    }
+}
+
+impl<T> Index<usize> for Sequence<T> {
+    type Output = T;
+
+    ghost use Rattle.std.specs.Prelude.{◌≡◌, ◌<◌, length, Some, slice_get};
+
+    ghost can_index = { λ sequence i. i < length sequence };
+
+    ghost index_gives = { λ sequence i item. slice_get sequence i ≡ Some item };
+
+    fn index(&self, index: usize) -> &T {
+        &self.items[index]
+    }
+}
+
+impl<'a, T> IntoIterator for &'a Sequence<T> {
+    type Item = &'a T;
+
+    type IntoIter = slice::Iter<'a, T>;
+
+    ghost use Rattle.std.specs.Prelude.{◌≡◌, ◌^◌, ◌<◌, length};
+    ghost use Rattle.std.specs.Iterator.Runs.{EveryRun, ItemsMapTo};
+    ghost use Rattle.std.specs.Slice.Iter.{iter_rest, iter_steps};
+
+    ghost into_iter_gives = { λ sequence it. (iter_rest it ≡ sequence.now) × (length (iter_rest it) < 2 ^ 64)
+        × EveryRun (iter_steps {A = T}) (λ p. ItemsMapTo p (λ x. x.now) (iter_rest p.from)) };
+
+    fn into_iter(self) -> slice::Iter<'a, T> {
+        self.items.iter()
     }
 }

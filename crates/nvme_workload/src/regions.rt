@@ -145,7 +145,7 @@ fn push_submission(
     ensures sound { OnOk result (AreSubmissions regions.old.items → AreSubmissions regions.new.items) }
 {
     let region = submission_of(alloc, regions, commands, item)?;
-    let commands = commands + region.script.as_slice().len();
+    let commands = commands + region.script.len();
     regions.push(region)?;
     Ok(commands)
 }

@@ -1,0 +1,38 @@
+// What arbitration asks of the queues that it picks from.
+use crate::pick::Seen;
+use crate::settings::Class;
+
+/// Submission queues of which the next ready one is found. Contracts see what they show.
+pub trait ReadyQueues {
+    ghost use Rattle.std.specs.Prelude.{◌≡◌, ◌&&◌, nat_lt, List, find};
+    ghost use Rattle.std.specs.List.{filter};
+    ghost use Rattle.nvme_arbiter.specs.declared.pick.Seen.{Seen};
+    ghost use Rattle.nvme_arbiter.specs.Observation.{IsObservation, is_wanted, class_in};
+    ghost use Rattle.nvme_arbiter.specs.Next.{next};
+
+    ghost seen: { Self → List Seen };
+
+    /// The first ready queue, in a class where one is given.
+    fn first(&self, class: Option<Class>) -> Option<Seen>
+        ensures { result ≡ find (is_wanted class) (seen self.now) };
+
+    /// The first ready queue above an identifier, in a class where one is given.
+    fn first_above(&self, class: Option<Class>, last: u16) -> Option<Seen>
+        ensures { result ≡ find (λ s. is_wanted class s && nat_lt last s.qid) (seen self.now) };
+
+    /// The class in which a queue is seen.
+    fn class_of(&self, qid: u16) -> Option<Class>
+        ensures { result ≡ class_in (seen self.now) qid };
+
+    /// The next ready queue after the one that was served last, in a class where one is given.
+    fn next_ready(&self, class: Option<Class>, last: Option<u16>) -> Option<Seen>
+        requires { IsObservation (seen self.now) }
+        ensures { result ≡ next last (filter (is_wanted class) (seen self.now)) }
+    {
+        let first = self.first(class);
+        match last {
+            Some(last) => self.first_above(class, last).or(first),
+            None => first,
+        }
+    }
+}

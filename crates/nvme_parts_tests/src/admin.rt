@@ -1,0 +1,332 @@
+ghost use Rattle.std.specs.Prelude.{◌≤◌};
+
+mod reading;
+
+use nvme_admin::{AdminError, Limits, SqEntry, Table, Verdict};
+use nvme_arbiter::{Class, Settings};
+use nvme_entry::{Sqe, Status};
+use std::process::Abort;
+use std::test::Fail;
+
+// An entry of an opcode, with PRP1 and Command Dwords 10 and 11.
+fn entry(opcode: u8, prp1: u64, cdw10: u32, cdw11: u32) -> Sqe {
+    Sqe {
+        opcode,
+        flags: 0,
+        cid: 0,
+        nsid: 0,
+        cdw2: 0,
+        cdw3: 0,
+        mptr: 0,
+        prp1,
+        prp2: 0,
+        cdw10,
+        cdw11,
+        cdw12: 0,
+        cdw13: 0,
+        cdw14: 0,
+        cdw15: 0,
+    }
+}
+
+// Regions of 8 slots at 0x1000 to 0x3000 and 0x8000 to 0xa000, one of 16 slots of each kind, and
+// completion queue 1 and submission queue 1 open.
+fn prepared(rt: &impl Abort, nsq: u16, ncq: u16) -> Result<Table, AdminError>
+    requires nsq { (1 ≤ nsq) × (nsq ≤ 16) }
+    requires ncq { (1 ≤ ncq) × (ncq ≤ 16) }
+{
+    let mut table = Table::new(Limits { nsq, ncq }, Settings::from_cdw11(0));
+    table.add_sq_region(0x1000, 8)?;
+    table.add_sq_region(0x2000, 8)?;
+    table.add_sq_region(0x3000, 8)?;
+    table.add_sq_region(0x4000, 16)?;
+    table.add_cq_region(0x8000, 8)?;
+    table.add_cq_region(0x9000, 8)?;
+    table.add_cq_region(0xa000, 8)?;
+    table.add_cq_region(0xb000, 16)?;
+    assert_eq!(rt;
+        table.apply(&entry(5, 0x9000, 0x0007_0001, 1)),
+        Verdict::OpenCq { qid: 1, region: 1 }
+    );
+    let opened = Verdict::OpenSq {
+        qid: 1,
+        region: 1,
+        cqid: 1,
+        class: Class::High,
+    };
+    assert_eq!(rt;
+        table.apply(&entry(1, 0x2000, 0x0007_0001, 0x0001_0003)),
+        opened
+    );
+    Ok(table)
+}
+
+// Which queues of 0 to 3 are there.
+fn is_as_prepared(table: &Table) -> bool {
+    let first = SqEntry {
+        region: 1,
+        cqid: 1,
+        class: Class::High,
+        closing: false,
+    };
+    table.sq(1) == Some(first)
+        && table.cq(1) == Some(1)
+        && table.sq(2).is_none()
+        && table.sq(3).is_none()
+        && table.cq(2).is_none()
+        && table.cq(3).is_none()
+        && table.sq(17).is_none()
+        && table.cq(0) == Some(0)
+        && table.sq(0).is_some()
+}
+
+#[test]
+fn create_sq_refusals(rt: HostRuntime) -> Result<(), Fail> {
+    let mut table = prepared(&rt, 16, 16)?;
+    let refused = [
+        (
+            entry(1, 0x3000, 0x0000_0003, 0x0001_0003),
+            Status::INVALID_QUEUE_SIZE,
+        ),
+        (
+            entry(1, 0x3000, 0x0100_0003, 0x0001_0003),
+            Status::INVALID_QUEUE_SIZE,
+        ),
+        (
+            entry(1, 0x3000, 0x0007_0001, 0x0001_0003),
+            Status::INVALID_QUEUE_IDENTIFIER,
+        ),
+        (
+            entry(1, 0x3000, 0x0007_0011, 0x0001_0003),
+            Status::INVALID_QUEUE_IDENTIFIER,
+        ),
+        (
+            entry(1, 0x3000, 0x0007_0000, 0x0001_0003),
+            Status::INVALID_QUEUE_IDENTIFIER,
+        ),
+        (
+            entry(1, 0x3000, 0x0007_0003, 0x0002_0003),
+            Status::COMPLETION_QUEUE_INVALID,
+        ),
+        (
+            entry(1, 0x3000, 0x0007_0003, 0x0000_0003),
+            Status::INVALID_QUEUE_IDENTIFIER,
+        ),
+        (
+            entry(1, 0x3000, 0x0007_0003, 0x0011_0003),
+            Status::INVALID_QUEUE_IDENTIFIER,
+        ),
+        (
+            entry(1, 0x3000, 0x0007_0003, 0x0001_0002),
+            Status::INVALID_FIELD,
+        ),
+        (
+            entry(1, 0x2000, 0x0007_0003, 0x0001_0003),
+            Status::INVALID_FIELD,
+        ),
+        (
+            entry(1, 0x1000, 0x0007_0003, 0x0001_0003),
+            Status::INVALID_FIELD,
+        ),
+        (
+            entry(1, 0x4000, 0x0007_0003, 0x0001_0003),
+            Status::INVALID_FIELD,
+        ),
+        (
+            entry(1, 0xa000, 0x0007_0003, 0x0001_0003),
+            Status::INVALID_FIELD,
+        ),
+        (
+            entry(1, 0x5000, 0x0007_0003, 0x0001_0003),
+            Status::INVALID_FIELD,
+        ),
+    ];
+    for (e, status) in refused {
+        assert_eq!(rt; table.apply(&e), Verdict::Done(status, 0), "{e:?}");
+        assert!(rt; is_as_prepared(&table), "{e:?}");
+    }
+    let fused = Sqe {
+        flags: 1,
+        ..entry(1, 0x3000, 0x0007_0003, 0x0001_0003)
+    };
+    assert_eq!(rt;
+        table.apply(&fused),
+        Verdict::Done(Status::INVALID_FIELD, 0)
+    );
+    assert!(rt; is_as_prepared(&table));
+    let opened = Verdict::OpenSq {
+        qid: 3,
+        region: 2,
+        cqid: 1,
+        class: Class::Low,
+    };
+    assert_eq!(rt;
+        table.apply(&entry(1, 0x3000, 0x0007_0003, 0x0001_0007)),
+        opened
+    );
+    Ok(())
+}
+
+#[test]
+fn create_cq_refusals(rt: HostRuntime) -> Result<(), Fail> {
+    let mut table = prepared(&rt, 16, 16)?;
+    let refused = [
+        (entry(5, 0xa000, 0x0000_0003, 1), Status::INVALID_QUEUE_SIZE),
+        (entry(5, 0xa000, 0x0100_0003, 1), Status::INVALID_QUEUE_SIZE),
+        (
+            entry(5, 0xa000, 0x0007_0001, 1),
+            Status::INVALID_QUEUE_IDENTIFIER,
+        ),
+        (
+            entry(5, 0xa000, 0x0007_0011, 1),
+            Status::INVALID_QUEUE_IDENTIFIER,
+        ),
+        (
+            entry(5, 0xa000, 0x0007_0000, 1),
+            Status::INVALID_QUEUE_IDENTIFIER,
+        ),
+        (entry(5, 0xa000, 0x0007_0003, 0), Status::INVALID_FIELD),
+        (entry(5, 0x9000, 0x0007_0003, 1), Status::INVALID_FIELD),
+        (entry(5, 0x8000, 0x0007_0003, 1), Status::INVALID_FIELD),
+        (entry(5, 0xb000, 0x0007_0003, 1), Status::INVALID_FIELD),
+        (entry(5, 0x3000, 0x0007_0003, 1), Status::INVALID_FIELD),
+        (entry(5, 0x5000, 0x0007_0003, 1), Status::INVALID_FIELD),
+    ];
+    for (e, status) in refused {
+        assert_eq!(rt; table.apply(&e), Verdict::Done(status, 0), "{e:?}");
+        assert!(rt; is_as_prepared(&table), "{e:?}");
+    }
+    assert_eq!(rt;
+        table.apply(&entry(5, 0xb000, 0x000f_0003, 1)),
+        Verdict::OpenCq { qid: 3, region: 3 }
+    );
+    Ok(())
+}
+
+// Finishes the deletion of a queue, where it is closing.
+fn finish(table: &mut Table, qid: u16) -> bool {
+    match table.sq(qid) {
+        Some(queue) if queue.closing => {
+            table.finish_delete(qid);
+            true
+        }
+        _ => false,
+    }
+}
+
+#[test]
+fn delete_order(rt: HostRuntime) -> Result<(), Fail> {
+    let mut table = prepared(&rt, 16, 16)?;
+    let delete_cq = entry(4, 0, 1, 0);
+    let delete_sq = entry(0, 0, 1, 0);
+    let create_sq = entry(1, 0x3000, 0x0007_0001, 0x0001_0003);
+    let attached = Verdict::Done(Status::INVALID_QUEUE_DELETION, 0);
+    let no_such = Verdict::Done(Status::INVALID_QUEUE_IDENTIFIER, 0);
+    assert_eq!(rt; table.apply(&delete_cq), attached);
+    assert_eq!(rt; table.apply(&delete_sq), Verdict::BeginDelete { qid: 1 });
+    assert_eq!(rt; table.apply(&delete_cq), attached);
+    assert_eq!(rt; table.apply(&delete_sq), no_such);
+    assert_eq!(rt; table.apply(&create_sq), no_such);
+    assert!(rt; finish(&mut table, 1));
+    assert_eq!(rt; table.apply(&delete_cq), Verdict::CloseCq { qid: 1 });
+    assert_eq!(rt; table.apply(&delete_cq), no_such);
+    assert_eq!(rt; table.apply(&entry(0, 0, 0, 0)), no_such);
+    assert_eq!(rt; table.apply(&entry(4, 0, 0, 0)), no_such);
+    Ok(())
+}
+
+#[test]
+fn features(rt: HostRuntime) -> Result<(), Fail> {
+    let mut table = Table::new(Limits { nsq: 8, ncq: 4 }, Settings::from_cdw11(0x0301_0001));
+    table.add_sq_region(0x1000, 8)?;
+    table.add_cq_region(0x8000, 8)?;
+    table.add_cq_region(0x9000, 8)?;
+    let get_numbers = entry(10, 0, 7, 0);
+    let done = |dw0: u32| Verdict::Done(Status::SUCCESS, dw0);
+    assert_eq!(rt; table.apply(&get_numbers), done(0x0003_0007));
+    assert_eq!(rt;
+        table.apply(&entry(9, 0, 7, 0x0003_ffff)),
+        Verdict::Done(Status::INVALID_FIELD, 0)
+    );
+    assert_eq!(rt;
+        table.apply(&entry(9, 0, 7, 0x0007_0003)),
+        done(0x0003_0003)
+    );
+    assert_eq!(rt; table.apply(&entry(9, 0, 7, 0)), done(0x0003_0003));
+    assert_eq!(rt; table.apply(&get_numbers), done(0x0003_0003));
+    assert_eq!(rt; table.allotted(), Limits { nsq: 4, ncq: 4 });
+    let too_high = Verdict::Done(Status::INVALID_QUEUE_IDENTIFIER, 0);
+    assert_eq!(rt; table.apply(&entry(5, 0x9000, 0x0007_0005, 1)), too_high);
+    assert_eq!(rt;
+        table.apply(&entry(5, 0x9000, 0x0007_0004, 1)),
+        Verdict::OpenCq { qid: 4, region: 1 }
+    );
+    assert_eq!(rt;
+        table.apply(&entry(9, 0, 7, 0x0003_ffff)),
+        Verdict::Done(Status::SEQUENCE_ERROR, 0)
+    );
+    assert_eq!(rt; table.apply(&entry(10, 0, 1, 0)), done(0x0301_0001));
+    assert_eq!(rt;
+        table.apply(&entry(9, 0, 0x8000_0001, 0)),
+        Verdict::Done(Status::FEATURE_NOT_SAVEABLE, 0)
+    );
+    assert_eq!(rt;
+        table.apply(&entry(9, 0, 2, 0)),
+        Verdict::Done(Status::INVALID_FIELD, 0)
+    );
+    assert_eq!(rt;
+        table.apply(&entry(10, 0, 2, 0)),
+        Verdict::Done(Status::INVALID_FIELD, 0)
+    );
+    assert_eq!(rt;
+        table.apply(&entry(6, 0, 0, 0)),
+        Verdict::Done(Status::INVALID_OPCODE, 0)
+    );
+    assert_eq!(rt;
+        table.apply(&entry(8, 0, 0, 0)),
+        Verdict::Done(Status::INVALID_OPCODE, 0)
+    );
+    let settings = Settings::from_cdw11(0xffff_ffff);
+    assert_eq!(rt;
+        table.apply(&entry(9, 0, 1, 0xffff_ffff)),
+        Verdict::SetArbitration(settings)
+    );
+    assert_eq!(rt; table.apply(&entry(10, 0, 1, 0)), done(0xffff_ff07));
+    assert_eq!(rt; table.settings(), settings);
+    Ok(())
+}
+
+#[test]
+fn region_refusals(rt: HostRuntime) -> Result<(), Fail> {
+    let mut table = Table::new(Limits { nsq: 1, ncq: 1 }, Settings::from_cdw11(0));
+    assert_eq!(rt; table.add_sq_region(64, 1), Err(AdminError::Size));
+    assert_eq!(rt; table.add_sq_region(64, 257), Err(AdminError::Size));
+    assert!(rt; table.sq(0).is_none());
+    assert_eq!(rt; table.add_sq_region(64, 2), Ok(0));
+    assert_eq!(rt; table.add_cq_region(64, 2), Err(AdminError::Used));
+    assert_eq!(rt; table.add_cq_region(65, 256), Ok(0));
+    assert_eq!(rt; table.add_sq_region(65, 2), Err(AdminError::Used));
+    for k in 1..17u8 {
+        let place = u64::from(k);
+        assert_eq!(rt; table.add_sq_region(100 + place, 2), Ok(k));
+        assert_eq!(rt; table.add_cq_region(200 + place, 2), Ok(k));
+    }
+    assert_eq!(rt; table.add_sq_region(300, 1), Err(AdminError::TooMany));
+    assert_eq!(rt; table.add_cq_region(300, 2), Err(AdminError::TooMany));
+    assert_eq!(rt; table.add_cq_region(101, 2), Err(AdminError::Used));
+    Ok(())
+}
+
+#[test]
+fn fault_messages(rt: HostRuntime) -> Result<(), Fail> {
+    let alloc = rt.alloc();
+    let cases = [
+        (AdminError::Used, "the address is that of another region"),
+        (AdminError::TooMany, "17 regions of this kind are there"),
+        (AdminError::Size, "the number of slots is outside 2 to 256"),
+    ];
+    for (fault, line) in cases {
+        assert_eq!(rt; fault.to_string(alloc)?.as_str(), line);
+    }
+    Ok(())
+}

@@ -1,0 +1,329 @@
+// The worked examples, played on an arbiter and on a board.
+ghost use Rattle.std.specs.Prelude.{◌≡◌};
+ghost use Rattle.nvme_arbiter.specs.declared.settings.Class.TheVariants.{Admin};
+
+use nvme_arbiter::{
+    Arbiter, Board, Class, HIGHEST_COUNT, HIGHEST_QID, Mechanism, Pick, Seen, Settings,
+    is_observation,
+};
+use std::process::Abort;
+
+fn queue(qid: u16, class: Class, count: u16) -> Seen {
+    Seen { qid, class, count }
+}
+
+fn pick(qid: u16, n: u16) -> Option<Pick> {
+    Some(Pick {
+        qid,
+        n,
+        fresh: false,
+    })
+}
+
+fn fresh(qid: u16, n: u16) -> Option<Pick> {
+    Some(Pick {
+        qid,
+        n,
+        fresh: true,
+    })
+}
+
+// The next pick, after which its queue has so many commands fewer. `peek` tells it before.
+fn play(rt: &impl Abort, arbiter: &mut Arbiter, seen: &mut [Seen]) -> Option<Pick> {
+    assert!(rt; is_observation(seen));
+    let peeked = arbiter.peek(seen);
+    let picked = arbiter.pick(seen);
+    assert_eq!(rt; peeked, picked);
+    if let Some(pick) = picked {
+        for queue in seen.iter_mut() {
+            if queue.qid == pick.qid {
+                queue.count = queue.count.saturating_sub(pick.n);
+            }
+        }
+    }
+    picked
+}
+
+#[test]
+fn round_robin_four_queues(rt: HostRuntime) {
+    let mut arbiter = Arbiter::new(Mechanism::RoundRobin, Settings::from_cdw11(0));
+    let mut seen = [
+        queue(0, Class::Admin, 2),
+        queue(1, Class::High, 5),
+        queue(2, Class::Low, 0),
+        queue(3, Class::Medium, 1),
+    ];
+    for qid in [0, 1, 3, 0, 1, 1, 1, 1] {
+        assert_eq!(rt; play(&rt, &mut arbiter, &mut seen), pick(qid, 1));
+    }
+    assert_eq!(rt; play(&rt, &mut arbiter, &mut seen), None);
+}
+
+#[test]
+fn no_burst_limit(rt: HostRuntime) {
+    let settings = Settings::from_cdw11(7);
+    let mut seen = [queue(1, Class::High, 255)];
+    let mut arbiter = Arbiter::new(Mechanism::RoundRobin, settings);
+    assert_eq!(rt; play(&rt, &mut arbiter, &mut seen), pick(1, 255));
+    let mut seen = [queue(1, Class::High, 255)];
+    let mut arbiter = Arbiter::new(Mechanism::Weighted, settings);
+    assert_eq!(rt; play(&rt, &mut arbiter, &mut seen), pick(1, 1));
+    for _ in 0..254 {
+        assert_eq!(rt; play(&rt, &mut arbiter, &mut seen), fresh(1, 1));
+    }
+    assert_eq!(rt; play(&rt, &mut arbiter, &mut seen), None);
+    let settings = Settings::from_cdw11(0xffff_ffff);
+    assert_eq!(rt; settings.to_cdw11(), 0xffff_ff07);
+    assert_eq!(rt; settings.burst(), None);
+    for level in [Class::High, Class::Medium, Class::Low] {
+        assert!(rt; level != Class::Admin && level != Class::Urgent);
+        assert_eq!(rt; settings.weight(level), 256);
+    }
+}
+
+// The queues of the two rounds: burst 2, weights 4, 2 and 1.
+fn two_rounds() -> [Seen; 4] {
+    [
+        queue(1, Class::High, 5),
+        queue(2, Class::High, 5),
+        queue(3, Class::Medium, 5),
+        queue(4, Class::Low, 5),
+    ]
+}
+
+#[test]
+fn weighted_two_rounds(rt: HostRuntime) {
+    let mut arbiter = Arbiter::new(Mechanism::Weighted, Settings::from_cdw11(0x0301_0001));
+    let mut seen = two_rounds();
+    for picked in [
+        pick(1, 2),
+        pick(2, 2),
+        pick(3, 2),
+        pick(4, 1),
+        fresh(1, 2),
+        pick(2, 2),
+        pick(3, 2),
+        pick(4, 1),
+        fresh(1, 1),
+        pick(2, 1),
+        pick(3, 1),
+        pick(4, 1),
+        fresh(4, 1),
+        fresh(4, 1),
+        None,
+    ] {
+        assert_eq!(rt; play(&rt, &mut arbiter, &mut seen), picked);
+    }
+}
+
+#[test]
+fn urgent_cuts_in(rt: HostRuntime) {
+    let mut arbiter = Arbiter::new(Mechanism::Weighted, Settings::from_cdw11(0x0301_0001));
+    let mut seen = two_rounds();
+    assert_eq!(rt; play(&rt, &mut arbiter, &mut seen), pick(1, 2));
+    assert_eq!(rt; play(&rt, &mut arbiter, &mut seen), pick(2, 2));
+    let [q1, q2, q3, q4] = seen;
+    let mut seen = [q1, q2, q3, q4, queue(5, Class::Urgent, 3)];
+    for picked in [pick(5, 2), pick(5, 1), pick(3, 2), pick(4, 1), fresh(1, 2)] {
+        assert_eq!(rt; play(&rt, &mut arbiter, &mut seen), picked);
+    }
+}
+
+#[test]
+fn new_settings_start_a_round(rt: HostRuntime) {
+    let settings = Settings::from_cdw11(0x0301_0001);
+    let mut arbiter = Arbiter::new(Mechanism::Weighted, settings);
+    let mut seen = two_rounds();
+    assert_eq!(rt; play(&rt, &mut arbiter, &mut seen), pick(1, 2));
+    assert_eq!(rt; play(&rt, &mut arbiter, &mut seen), pick(2, 2));
+    arbiter.set(settings);
+    assert_eq!(rt; play(&rt, &mut arbiter, &mut seen), pick(1, 2));
+    assert_eq!(rt; play(&rt, &mut arbiter, &mut seen), pick(2, 2));
+    assert_eq!(rt; play(&rt, &mut arbiter, &mut seen), pick(3, 2));
+}
+
+// A class of an I/O queue.
+fn io_class(n: u32) -> Class
+    ensures { result ≡ Admin → ⊥ }
+{
+    match n % 4 {
+        0 => Class::Urgent,
+        1 => Class::High,
+        2 => Class::Medium,
+        _ => Class::Low,
+    }
+}
+
+// Opens a queue where none is open: queue 0 as the admin queue, any other in a class of I/O queues.
+fn open(board: &mut Board, qid: u16, class: u32) {
+    if qid <= HIGHEST_QID && board.queue(qid).is_none() {
+        if qid == 0 {
+            board.open(0, Class::Admin);
+        } else {
+            board.open(qid, io_class(class));
+        }
+    }
+}
+
+// One more command waits, where the queue is open and has room.
+fn came(board: &mut Board, qid: u16) {
+    if let Some(queue) = board.queue(qid) {
+        if queue.count < HIGHEST_COUNT {
+            board.came(qid);
+        }
+    }
+}
+
+fn close(board: &mut Board, qid: u16) {
+    if board.queue(qid).is_some() {
+        board.close(qid);
+    }
+}
+
+// A board on which these queues are open, with so many commands in each.
+fn board_of(rt: &impl Abort, mechanism: Mechanism, cdw11: u32, queues: &[Seen]) -> Board {
+    let mut board = Board::new(mechanism, Settings::from_cdw11(cdw11));
+    add(rt, &mut board, queues);
+    assert_eq!(rt; board.seen().as_slice(), queues);
+    board
+}
+
+fn add(rt: &impl Abort, board: &mut Board, queues: &[Seen]) {
+    for queue in queues {
+        let class = match queue.class {
+            Class::Admin | Class::Urgent => 0,
+            Class::High => 1,
+            Class::Medium => 2,
+            Class::Low => 3,
+        };
+        open(board, queue.qid, class);
+        for _ in 0..queue.count {
+            came(board, queue.qid);
+        }
+        assert!(rt; board.queue(queue.qid).is_some());
+    }
+}
+
+// The next pick of a board, which is that of an arbiter that is shown the same.
+fn step(rt: &impl Abort, board: &mut Board, arbiter: &mut Arbiter) -> Option<Pick> {
+    let seen = board.seen();
+    let peeked = board.peek();
+    let picked = board.pick();
+    assert_eq!(rt; peeked, picked);
+    assert_eq!(rt; arbiter.pick(seen.as_slice()), picked);
+    picked
+}
+
+#[test]
+fn board_replays(rt: HostRuntime) {
+    let mut arbiter = Arbiter::new(Mechanism::RoundRobin, Settings::from_cdw11(0));
+    let queues = [
+        queue(0, Class::Admin, 2),
+        queue(1, Class::High, 5),
+        queue(2, Class::Low, 0),
+        queue(3, Class::Medium, 1),
+    ];
+    let mut board = board_of(&rt, Mechanism::RoundRobin, 0, &queues);
+    for qid in [0, 1, 3, 0, 1, 1, 1, 1] {
+        assert_eq!(rt; step(&rt, &mut board, &mut arbiter), pick(qid, 1));
+    }
+    assert_eq!(rt; step(&rt, &mut board, &mut arbiter), None);
+
+    let settings = Settings::from_cdw11(0x0301_0001);
+    let mut arbiter = Arbiter::new(Mechanism::Weighted, settings);
+    let mut board = board_of(&rt, Mechanism::Weighted, 0x0301_0001, &two_rounds());
+    for picked in [
+        pick(1, 2),
+        pick(2, 2),
+        pick(3, 2),
+        pick(4, 1),
+        fresh(1, 2),
+        pick(2, 2),
+        pick(3, 2),
+        pick(4, 1),
+        fresh(1, 1),
+        pick(2, 1),
+        pick(3, 1),
+        pick(4, 1),
+        fresh(4, 1),
+        fresh(4, 1),
+        None,
+    ] {
+        assert_eq!(rt; step(&rt, &mut board, &mut arbiter), picked);
+    }
+    assert!(rt; board.seen().iter().all(|queue| queue.count == 0));
+
+    let mut arbiter = Arbiter::new(Mechanism::Weighted, settings);
+    let mut board = board_of(&rt, Mechanism::Weighted, 0x0301_0001, &two_rounds());
+    assert_eq!(rt; step(&rt, &mut board, &mut arbiter), pick(1, 2));
+    assert_eq!(rt; step(&rt, &mut board, &mut arbiter), pick(2, 2));
+    add(&rt, &mut board, &[queue(5, Class::Urgent, 3)]);
+    for picked in [pick(5, 2), pick(5, 1), pick(3, 2), pick(4, 1), fresh(1, 2)] {
+        assert_eq!(rt; step(&rt, &mut board, &mut arbiter), picked);
+    }
+    board.set(settings);
+    arbiter.set(settings);
+    assert_eq!(rt; step(&rt, &mut board, &mut arbiter), pick(2, 2));
+}
+
+#[test]
+fn low_is_bounded(rt: HostRuntime) {
+    let mut arbiter = Arbiter::new(Mechanism::Weighted, Settings::from_cdw11(0x0301_0001));
+    let mut board = board_of(&rt, Mechanism::Weighted, 0x0301_0001, &two_rounds());
+    let mut before: u32 = 0;
+    for _ in 0..15 {
+        match step(&rt, &mut board, &mut arbiter) {
+            Some(pick) if pick.qid < 4 => before = before.saturating_add(u32::from(pick.n)),
+            _ => break,
+        }
+    }
+    assert_eq!(rt; before, 6);
+    assert!(rt; before <= 2 * (4 + 2));
+}
+
+// A small generator of numbers.
+#[derive(Drop)]
+struct Numbers(u32);
+
+impl Numbers {
+    fn next(&mut self) -> u32 {
+        self.0 = self.0.wrapping_mul(1_664_525).wrapping_add(1_013_904_223);
+        self.0 >> 12
+    }
+
+    fn qid(&mut self) -> u16 {
+        (self.next() % 17) as u16
+    }
+}
+
+fn play_at_random(rt: &impl Abort, mechanism: Mechanism, numbers: &mut Numbers) {
+    let settings = Settings::from_cdw11(numbers.next());
+    let mut board = Board::new(mechanism, settings);
+    let mut arbiter = Arbiter::new(mechanism, settings);
+    for _ in 0..2000 {
+        let qid = numbers.qid();
+        match numbers.next() % 16 {
+            0 | 1 => {
+                let class = numbers.next();
+                open(&mut board, qid, class);
+            }
+            2 => close(&mut board, qid),
+            3 => {
+                let settings = Settings::from_cdw11(numbers.next() % 0x400);
+                board.set(settings);
+                arbiter.set(settings);
+            }
+            4..=8 => {
+                let _ = step(rt, &mut board, &mut arbiter);
+            }
+            _ => came(&mut board, qid),
+        }
+    }
+}
+
+#[test]
+fn board_and_arbiter_agree(rt: HostRuntime) {
+    let mut numbers = Numbers(1);
+    play_at_random(&rt, Mechanism::RoundRobin, &mut numbers);
+    play_at_random(&rt, Mechanism::Weighted, &mut numbers);
+}

@@ -1,0 +1,206 @@
+// Where an allocation is refused, each of these tests makes the call again, so that they pass too where
+// any one allocation fails.
+ghost use Rattle.std.specs.Prelude.{◌≡◌, ◌∷◌, [], take, IfOk, vec_len};
+ghost use Rattle.nvme_lane.specs.View.{IsPair, SamePut, SameGet};
+ghost use Rattle.nvme_lane.specs.Feeder.{script_of, count_of, put_of};
+ghost use Rattle.nvme_lane.specs.Passes.{AreAllOf};
+
+use nvme_lane::{
+    Drainer, Feed, Feeder, Full, GetEnd, Lane, LaneError, NoMemory, PopPass, PushPass, PutEnd,
+    beside, gather, lane, ring,
+};
+use std::alloc::{AllocError, Global};
+use std::test::*;
+use std::thread;
+use std::thread::Threads;
+
+// A ring of a size that is allowed.
+fn ring_again(
+    alloc: Global,
+    address: u64,
+    slots: u16,
+) -> Result<(PutEnd<u32>, GetEnd<u32>), AllocError>
+    ensures pair { IfOk result (λ r. IsPair r.0 r.1) }
+    ensures blank { IfOk result (λ r. (r.0.sent ≡ []) × (r.1.got ≡ [])) }
+{
+    if let Ok(made) = ring(alloc, address, slots) {
+        return Ok(made);
+    }
+    ring(alloc, address, slots).map_err(|_| AllocError)
+}
+
+// The numbers below `count`.
+fn numbers(alloc: Global, count: u32) -> Result<Vec<u32>, AllocError> {
+    let mut all = Vec::new(alloc);
+    for item in 0..count {
+        if all.push(item).is_err() {
+            all.push(item)?;
+        }
+    }
+    Ok(all)
+}
+
+// Puts an item and gets one.
+fn put_and_get(put: &mut PutEnd<u32>, get: &mut GetEnd<u32>, item: u32) -> Option<u32>
+    ensures put { SamePut put.old put.new }
+    ensures get { SameGet get.old get.new }
+{
+    if put.put(item).is_err() {
+        return None;
+    }
+    get.get()
+}
+
+#[test]
+fn ring_of_two_a_thousand_times(rt: HostRuntime) -> Result<(), Fail> {
+    let (mut put, mut get) = ring_again(rt.alloc(), 0x1000, 2)?;
+    for item in 0..1000 {
+        assert_eq!(rt; put_and_get(&mut put, &mut get, item), Some(item));
+    }
+    assert_eq!(rt; beside(&mut put, &mut get), 0);
+    assert_eq!(rt; (put.address(), put.slots()), (0x1000, 2));
+    assert_eq!(rt; (get.address(), get.slots()), (0x1000, 2));
+    Ok(())
+}
+
+#[test]
+fn capacities(rt: HostRuntime) -> Result<(), Fail> {
+    assert!(rt; matches!(ring::<u32>(rt.alloc(), 0, 1), Err(LaneError::Size)));
+    assert!(rt; matches!(ring::<u32>(rt.alloc(), 0, 257), Err(LaneError::Size)));
+    let (mut put, mut get) = ring_again(rt.alloc(), 0, 2)?;
+    assert_eq!(rt; put.put(5), Ok(()));
+    assert_eq!(rt; put.put(6), Err(Full(6)));
+    assert_eq!(rt; get.get(), Some(5));
+    assert_eq!(rt; get.get(), None);
+    assert_eq!(rt; get.get(), None);
+    Ok(())
+}
+
+#[test]
+fn some_are_put_and_got_at_once(rt: HostRuntime) -> Result<(), Fail> {
+    let (mut put, mut get) = ring_again(rt.alloc(), 0, 4)?;
+    assert_eq!(rt; put.put_some(&[5, 6, 7, 8]), 3);
+    assert_eq!(rt; put.put_some(&[8]), 0);
+    let mut items = [0, 0];
+    assert_eq!(rt; get.get_some(&mut items), 2);
+    assert_eq!(rt; items, [5, 6]);
+    assert_eq!(rt; get.get_some(&mut items), 1);
+    assert_eq!(rt; items, [7, 6]);
+    assert_eq!(rt; get.get_some(&mut items), 0);
+    Ok(())
+}
+
+// A lane of one item, with one pass of each kind.
+fn lane_again(
+    alloc: Global,
+) -> Result<(Lane<u32>, Vec<PushPass<u32>>, Vec<PopPass<u32>>), AllocError>
+    ensures all { IfOk result (λ r. AreAllOf r.0 r.1.items r.2.items) }
+    ensures one { IfOk result (λ r. (vec_len r.1 ≡ 1) × (vec_len r.2 ≡ 1)) }
+{
+    if let Ok(made) = lane(alloc, 1, 1, 1) {
+        return Ok(made);
+    }
+    lane(alloc, 1, 1, 1).map_err(|_| AllocError)
+}
+
+#[test]
+fn capacities_of_lanes(rt: HostRuntime) -> Result<(), Fail> {
+    assert!(rt; matches!(lane::<u32>(rt.alloc(), 0, 1, 1), Err(LaneError::Size)));
+    assert!(rt; matches!(lane::<u32>(rt.alloc(), 4, 9, 1), Err(LaneError::Size)));
+    let (lane, mut pushes, mut pops) = lane_again(rt.alloc())?;
+    assert_eq!(rt; lane.push(&rt, &mut pushes[0], 5), Ok(()));
+    assert_eq!(rt; lane.push(&rt, &mut pushes[0], 6), Err(Full(6)));
+    assert_eq!(rt; lane.pop(&rt, &mut pops[0]), Some(5));
+    assert_eq!(rt; lane.pop(&rt, &mut pops[0]), None);
+    assert_eq!(rt; lane.push(&rt, &mut pushes[0], 7), Ok(()));
+    assert_eq!(rt; gather(&rt, lane, pushes, pops), 1);
+    Ok(())
+}
+
+// Steps a feeder until its script is sent.
+fn feed_all(mut feeder: Feeder<u32>) -> Feeder<u32> {
+    for _ in 0..u64::MAX {
+        match feeder.step() {
+            Feed::Put => {}
+            Feed::Full => thread::yield_now(),
+            Feed::Done => break,
+        }
+    }
+    feeder
+}
+
+// Takes until there are `count` items. A call that was refused memory is made again.
+fn drain_all(drainer: &mut Drainer<u32>, count: usize) {
+    for _ in 0..u64::MAX {
+        if drainer.items().len() >= count {
+            break;
+        }
+        if drainer.take() == Ok(false) {
+            thread::yield_now();
+        }
+    }
+}
+
+// The feeder goes to a thread of its own, and what the join gives back still accounts for what it sent.
+fn move_all<R: Threads>(
+    rt: &R,
+    feeder: Feeder<u32>,
+    drainer: &mut Drainer<u32>,
+) -> Result<Feeder<u32>, AllocError>
+    ensures { IfOk result (λ f. (put_of f).sent ≡ take (count_of f) (script_of f)) }
+{
+    let count = feeder.script().len();
+    let fed = thread::spawn(rt, move || feed_all(feeder))?;
+    drain_all(drainer, count);
+    Ok(fed.join(rt))
+}
+
+#[test]
+fn two_threads_move_in_order(rt: HostRuntime) -> Result<(), Fail> {
+    for slots in [2, 256] {
+        let (put, get) = ring_again(rt.alloc(), 0, slots)?;
+        let mut drainer = Drainer::new(rt.alloc(), get);
+        let feeder = Feeder::new(numbers(rt.alloc(), 100_000)?, put);
+        let feeder = move_all(&rt, feeder, &mut drainer)?;
+        assert_eq!(rt; feeder.count(), 100_000);
+        assert!(rt; feeder.script() == drainer.items());
+        let items = drainer.into_items();
+        assert_eq!(rt; (items[0], items[99_999]), (0, 99_999));
+    }
+    Ok(())
+}
+
+#[test]
+fn feeder_beside(rt: HostRuntime) -> Result<(), Fail> {
+    let (put, mut get) = ring_again(rt.alloc(), 7, 8)?;
+    let mut feeder = Feeder::new(numbers(rt.alloc(), 3)?, put);
+    assert_eq!(rt; feeder.step(), Feed::Put);
+    assert_eq!(rt; feeder.step(), Feed::Put);
+    assert_eq!(rt;
+        (feeder.beside(&mut get), feeder.count(), feeder.address()),
+        (2, 2, 7)
+    );
+    assert_eq!(rt; feeder.into_script().len(), 3);
+    Ok(())
+}
+
+#[test]
+fn drainer_takes_what_was_next(rt: HostRuntime) -> Result<(), Fail> {
+    let (mut put, get) = ring_again(rt.alloc(), 9, 8)?;
+    let mut drainer = Drainer::new(rt.alloc(), get);
+    assert_eq!(rt; put.put(4), Ok(()));
+    assert_eq!(rt; put.put(5), Ok(()));
+    // Where the first call is refused memory, the second takes the item that was next.
+    let first = drainer.take();
+    if first == Err(NoMemory) {
+        assert_eq!(rt; drainer.take(), Ok(true));
+    } else {
+        assert_eq!(rt; first, Ok(true));
+    }
+    assert_eq!(rt; (drainer.items().len(), drainer.items()[0]), (1, 4));
+    assert_eq!(rt; (drainer.beside(&mut put), drainer.address()), (1, 9));
+    assert_eq!(rt; drainer.take(), Ok(true));
+    assert_eq!(rt; drainer.take(), Ok(false));
+    assert_eq!(rt; (drainer.items().len(), drainer.items()[1]), (2, 5));
+    Ok(())
+}

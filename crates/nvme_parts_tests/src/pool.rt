@@ -1,0 +1,351 @@
+// Where an allocation is refused, each of these tests makes the call again, so that they pass too where
+// any one allocation fails.
+ghost use Rattle.std.specs.Prelude.{◌≡◌, ℕ, ◌+◌, ◌%◌, ◌^◌, ◌<◌, IfOk, vec_len};
+ghost use Rattle.std.specs.List.{All};
+ghost use Rattle.nvme_pool.specs.Pool.{IsPool};
+ghost use Rattle.nvme_pool.specs.Seat.{SameSeat};
+ghost use Rattle.nvme_pool.specs.Worker.{WorkerView, SameWorker};
+
+use nvme_entry::{Namespaces, Sqe, Status};
+use nvme_pool::{FrontSeat, Gate, Job, Lanes, NoGate, PoolError, Worked, Worker, close, pool};
+use std::alloc::{AllocError, Global};
+use std::marker::Model;
+use std::process::Abort;
+use std::sync::Wait;
+use std::sync::atomic::{AtomicU64, Ordering};
+use std::test::*;
+use std::thread;
+use std::thread::{Scope, Threads};
+
+// A Flush of every namespace.
+fn job(ticket: u32, spaces: Namespaces) -> Job {
+    let entry = Sqe {
+        nsid: 0xffff_ffff,
+        ..Sqe::default()
+    };
+    Job {
+        ticket,
+        entry,
+        spaces,
+    }
+}
+
+// One namespace of 1,000 blocks.
+fn one_space() -> Result<Namespaces, Fail> {
+    Namespaces::new(&[1000]).map_err(|_| Fail::from(AllocError))
+}
+
+// A pool with a number of workers that is allowed.
+fn pool_again(alloc: Global, workers: u8) -> Result<(Lanes, FrontSeat, Vec<Worker>), AllocError>
+    ensures pool { IfOk result (λ r. IsPool r.0 r.1 r.2.items) }
+    ensures count { IfOk result (λ r. vec_len r.2 ≡ workers) }
+{
+    if let Ok(made) = pool(alloc, workers) {
+        return Ok(made);
+    }
+    pool(alloc, workers).map_err(|_| AllocError)
+}
+
+// Closes a pool. Where that is refused, what came back is closed.
+fn close_again<R: Wait>(
+    rt: &R,
+    alloc: Global,
+    lanes: Lanes,
+    seat: FrontSeat,
+    workers: Vec<Worker>,
+) -> Result<(u16, u16), AllocError>
+    requires { IsPool lanes seat workers.items }
+{
+    match close(rt, alloc, lanes, seat, workers) {
+        Ok(left) => Ok(left),
+        Err((_, lanes, seat, workers)) => {
+            close(rt, alloc, lanes, seat, workers).map_err(|_| AllocError)
+        }
+    }
+}
+
+// Hands the jobs with the tickets below `end`. The answer is how many were handed.
+fn hand_to<R: Wait>(
+    rt: &R,
+    lanes: &Lanes,
+    seat: &mut FrontSeat,
+    end: u32,
+    spaces: Namespaces,
+) -> u64
+    requires { seat.old.lane ≡ lanes.now }
+    ensures { SameSeat seat.old seat.new }
+{
+    let mut handed = 0u64;
+    for ticket in 0..end {
+        if seat.hand(rt, lanes, job(ticket, spaces)).is_ok() {
+            handed = handed.wrapping_add(1);
+        }
+    }
+    handed
+}
+
+// Steps a worker so often. The answer is how many steps were `Did`.
+fn step_times<R: Wait>(rt: &R, lanes: &Lanes, worker: &mut Worker, times: u32) -> u64
+    requires { worker.old.lane ≡ lanes.now }
+    ensures { SameWorker worker.old worker.new }
+{
+    let mut did = 0u64;
+    for _ in 0..times {
+        if worker.step(rt, lanes, &mut NoGate) == Worked::Did {
+            did = did.wrapping_add(1);
+        }
+    }
+    did
+}
+
+#[test]
+fn capacities(rt: HostRuntime) -> Result<(), Fail> {
+    assert!(rt; matches!(pool(rt.alloc(), 0), Err(PoolError::Workers)));
+    assert!(rt; matches!(pool(rt.alloc(), 9), Err(PoolError::Workers)));
+    let (lanes, seat, mut workers) = pool_again(rt.alloc(), 2)?;
+    assert_eq!(rt; workers[0].step(&rt, &lanes, &mut NoGate), Worked::Nothing);
+    assert_eq!(rt; close_again(&rt, rt.alloc(), lanes, seat, workers)?, (0, 0));
+    Ok(())
+}
+
+// Hands 256 jobs, and steps one worker until its ring is full and it has one result too many.
+fn fill<R: Wait + Abort>(
+    rt: &R,
+    lanes: &Lanes,
+    seat: &mut FrontSeat,
+    worker: &mut Worker,
+    spaces: Namespaces,
+)
+    requires { (seat.old.lane ≡ lanes.now) × (worker.old.lane ≡ lanes.now) }
+    ensures seat { SameSeat seat.old seat.new }
+    ensures worker { SameWorker worker.old worker.new }
+{
+    assert_eq!(rt; hand_to(rt, lanes, seat, 256, spaces), 256);
+    let refused = seat
+        .hand(rt, lanes, job(256, spaces))
+        .map_err(|full| full.0.ticket);
+    assert_eq!(rt; refused, Err(256));
+    assert_eq!(rt; step_times(rt, lanes, worker, 255), 255);
+    assert_eq!(rt; worker.step(rt, lanes, &mut NoGate), Worked::Held);
+    assert_eq!(rt; worker.step(rt, lanes, &mut NoGate), Worked::Held);
+    assert!(rt; worker.keeps());
+}
+
+// Gains the oldest result, which lets the worker give the one that it keeps.
+fn empty<R: Wait + Abort>(rt: &R, lanes: &Lanes, seat: &mut FrontSeat, worker: &mut Worker)
+    requires { (seat.old.lane ≡ lanes.now) × (worker.old.lane ≡ lanes.now) }
+    ensures seat { SameSeat seat.old seat.new }
+    ensures worker { SameWorker worker.old worker.new }
+{
+    let gained = seat.gain(lanes).map(|done| (done.ticket(), done.status()));
+    assert_eq!(rt; gained, Some((0, Status::SUCCESS)));
+    assert_eq!(rt; worker.step(rt, lanes, &mut NoGate), Worked::Did);
+    assert!(rt; !worker.keeps());
+    assert_eq!(rt; worker.step(rt, lanes, &mut NoGate), Worked::Nothing);
+}
+
+#[test]
+fn result_ring_fills(rt: HostRuntime) -> Result<(), Fail> {
+    let (lanes, mut seat, mut workers) = pool_again(rt.alloc(), 2)?;
+    let worker = &mut workers[0];
+    fill(&rt, &lanes, &mut seat, worker, one_space()?);
+    empty(&rt, &lanes, &mut seat, worker);
+    assert_eq!(rt;
+        close_again(&rt, rt.alloc(), lanes, seat, workers)?,
+        (0, 255)
+    );
+    Ok(())
+}
+
+// The next gains answer these tickets.
+fn gain_in_order<R: Abort>(rt: &R, lanes: &Lanes, seat: &mut FrontSeat, tickets: &[Option<u32>])
+    requires { seat.old.lane ≡ lanes.now }
+    ensures { SameSeat seat.old seat.new }
+{
+    for ticket in tickets {
+        assert_eq!(rt; seat.gain(lanes).map(|done| done.ticket()), *ticket);
+    }
+}
+
+#[test]
+fn results_in_worker_order(rt: HostRuntime) -> Result<(), Fail> {
+    let (lanes, mut seat, mut workers) = pool_again(rt.alloc(), 2)?;
+    assert_eq!(rt; hand_to(&rt, &lanes, &mut seat, 4, one_space()?), 4);
+    assert_eq!(rt; step_times(&rt, &lanes, &mut workers[1], 2), 2);
+    assert_eq!(rt; step_times(&rt, &lanes, &mut workers[0], 2), 2);
+    gain_in_order(
+        &rt,
+        &lanes,
+        &mut seat,
+        &[Some(2), Some(3), Some(0), Some(1), None],
+    );
+    assert_eq!(rt; close_again(&rt, rt.alloc(), lanes, seat, workers)?, (0, 0));
+    Ok(())
+}
+
+/// A gate that counts each ticket. Contracts see how often it was entered.
+#[derive(Drop)]
+struct Tally<'a> {
+    counts: &'a [AtomicU64],
+    told: u64,
+}
+
+impl<'a> Model for Tally<'a> {
+    ghost Value = { ℕ };
+
+    ghost view = { λ t. t.told };
+}
+
+impl<'a> Gate for Tally<'a> {
+    ghost entered = { λ view ticket. (view + 1) % 2 ^ 64 };
+
+    ghost left = { λ view ticket. view };
+
+    fn enter(&mut self, ticket: u32) {
+        self.told = self.told.wrapping_add(1);
+        if let Some(count) = self.counts.get(ticket as usize) {
+            count.fetch_add(1, Ordering::SeqCst);
+        }
+    }
+
+    fn leave(&mut self, _ticket: u32) {}
+}
+
+// Steps until there is nothing to do and the front says that no job will come.
+fn work<R: Wait>(rt: &R, lanes: &Lanes, mut worker: Worker, counts: &[AtomicU64], stop: &AtomicU64)
+    requires { worker.lane ≡ lanes.now }
+{
+    let mut gate = Tally { counts, told: 0 };
+    for _ in rt.forever() {
+        match worker.step(rt, lanes, &mut gate) {
+            Worked::Did => {}
+            Worked::Held => thread::yield_now(),
+            Worked::Nothing => {
+                if stop.load(Ordering::SeqCst) > 0 {
+                    break;
+                }
+                thread::yield_now();
+            }
+        }
+    }
+}
+
+// Hands a job, and gains results while the lane is full. The answer is how many were gained.
+fn hand_one<R: Wait>(rt: &R, lanes: &Lanes, seat: &mut FrontSeat, job: &Job) -> u64
+    requires { seat.old.lane ≡ lanes.now }
+    ensures { SameSeat seat.old seat.new }
+{
+    let mut gained = 0u64;
+    for _ in rt.forever() {
+        if seat.hand(rt, lanes, *job).is_ok() {
+            return gained;
+        }
+        if seat.gain(lanes).is_some() {
+            gained = gained.wrapping_add(1);
+        } else {
+            thread::yield_now();
+        }
+    }
+    unreachable!()
+}
+
+// Gains results until there are `count`.
+fn gain_to<R: Wait>(rt: &R, lanes: &Lanes, seat: &mut FrontSeat, from: u64, count: u64) -> u64
+    requires { seat.old.lane ≡ lanes.now }
+{
+    let mut gained = from;
+    for _ in rt.forever() {
+        if gained >= count {
+            break;
+        }
+        if seat.gain(lanes).is_some() {
+            gained = gained.wrapping_add(1);
+        } else {
+            thread::yield_now();
+        }
+    }
+    gained
+}
+
+// Hands the jobs with the tickets below `count`, and gains their results. The answer is how many.
+fn lead<R: Wait>(rt: &R, lanes: &Lanes, mut seat: FrontSeat, count: u32, spaces: Namespaces) -> u64
+    requires { seat.lane ≡ lanes.now }
+{
+    let mut gained = 0u64;
+    for ticket in 0..count {
+        gained = gained.wrapping_add(hand_one(rt, lanes, &mut seat, &job(ticket, spaces)));
+    }
+    gain_to(rt, lanes, &mut seat, gained, u64::from(count))
+}
+
+// A thread for each worker. Where one can't be started the others are told to end.
+fn start<'s, E: 's, R: Wait + Sync + 's>(
+    scope: &Scope<'s, E>,
+    rt: &'s R,
+    lanes: &'s Lanes,
+    workers: Vec<Worker>,
+    counts: &'s [AtomicU64],
+    stop: &'s AtomicU64,
+) -> Result<(), AllocError>
+    requires { All (λ (w : WorkerView). w.lane ≡ lanes.now) workers.items }
+{
+    for worker in workers {
+        let started = scope.spawn(move || work(rt, lanes, worker, counts, stop));
+        if started.is_err() {
+            stop.store(1, Ordering::SeqCst);
+            return Err(AllocError);
+        }
+    }
+    Ok(())
+}
+
+// So many jobs, each counted in its place, by eight workers on threads of their own. The answer is how
+// many results were gained.
+fn eight_workers<R: Threads + Wait + Sync>(
+    rt: &R,
+    alloc: Global,
+    counts: &[AtomicU64],
+    jobs: u32,
+    spaces: Namespaces,
+) -> Result<u64, AllocError> {
+    let (lanes, seat, workers) = pool_again(alloc, 8)?;
+    let lanes = &lanes;
+    let stop = AtomicU64::new(0);
+    let stop = &stop;
+    thread::scope(
+        thread::scope_env(),
+        rt,
+        move |scope| -> Result<u64, AllocError>
+            requires { (seat.lane ≡ lanes.now) × All (λ (w : WorkerView). w.lane ≡ lanes.now) workers.items }
+        {
+            start(scope, rt, lanes, workers, counts, stop)?;
+            let gained = lead(rt, lanes, seat, jobs, spaces);
+            stop.store(1, Ordering::SeqCst);
+            Ok(gained)
+        },
+    )
+}
+
+#[test]
+fn eight_workers_execute_each_job_once(rt: HostRuntime) -> Result<(), Fail> {
+    let spaces = one_space()?;
+    let mut counts = Vec::new(rt.alloc());
+    if counts.reserve(10_000).is_err() {
+        counts.reserve(10_000)?;
+    }
+    for _ in 0..10_000 {
+        counts.push(AtomicU64::new(0))?;
+    }
+    let done = eight_workers(&rt, rt.alloc(), counts.as_slice(), 10_000, spaces);
+    let gained = if let Ok(gained) = done {
+        gained
+    } else {
+        // No job was handed.
+        eight_workers(&rt, rt.alloc(), counts.as_slice(), 10_000, spaces)?
+    };
+    assert_eq!(rt; gained, 10_000);
+    for count in &counts {
+        assert_eq!(rt; count.load(Ordering::SeqCst), 1);
+    }
+    Ok(())
+}

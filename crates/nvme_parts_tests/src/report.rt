@@ -1,0 +1,243 @@
+ghost use Rattle.std.specs.Prelude.{◌≡◌, ℕ, ◌≤◌, [], reverse, false, true, IfOk};
+ghost use Rattle.nvme_log.specs.Completions.{posts_of};
+ghost use Rattle.nvme_report.specs.Report.{completions_of};
+
+use arrayvec::ArrayVec;
+use nvme_arbiter::{Class, Pick};
+use nvme_entry::{Cqe, Sqe, Status};
+use nvme_front::{Event, Sent, Settled};
+use nvme_report::{Mode, WriteFault, report};
+use std::alloc::{AllocError, Global};
+use std::io::{Error, ErrorKind, Result, Write};
+use std::test::Fail;
+
+// A writer that takes so many bytes and then fails, or answers 0.
+#[derive(Drop)]
+struct Takes {
+    taken: Vec<u8>,
+    room: usize,
+    fails: bool,
+}
+
+impl Write for Takes {
+    fn write(&mut self, buf: &[u8]) -> Result<usize> {
+        let count = buf.len().min(self.room);
+        if count == 0 && self.fails {
+            return Err(Error::from(ErrorKind::Other));
+        }
+        self.taken.extend_from_slice(&buf[..count])?;
+        self.room -= count;
+        Ok(count)
+    }
+
+    fn flush(&mut self) -> Result<()> {
+        Ok(())
+    }
+}
+
+// The Post of a place's completion.
+fn answered(region: u8, index: u32, status: Status) -> Event {
+    let cqe = Cqe {
+        dw0: 0,
+        sqhd: 0,
+        sqid: u16::from(region),
+        cid: 0,
+        phase: true,
+        status,
+    };
+    Event::Post {
+        cq_region: region,
+        region,
+        index,
+        cqe,
+    }
+}
+
+fn picked(qid: u16) -> Event {
+    let pick = Pick {
+        qid,
+        n: 1,
+        fresh: false,
+    };
+    Event::Pick {
+        seen: ArrayVec::new(),
+        pick,
+    }
+}
+
+fn fetched(region: u8, index: u32) -> Event {
+    Event::Fetch {
+        region,
+        index,
+        entry: Sqe::default(),
+    }
+}
+
+// Adds the events of queue 1: three commands are fetched and one is picked, and then it is deleted.
+fn delete_queue(log: &mut Vec<Event>) -> std::result::Result<(), AllocError> {
+    for index in 0..3 {
+        log.push(fetched(1, index))?;
+    }
+    log.push(picked(1))?;
+    log.push(picked(0))?;
+    log.push(Event::Closing { qid: 1, region: 1 })?;
+    for index in 1..3 {
+        log.push(Event::Abort { region: 1, index })?;
+    }
+    log.push(answered(1, 2, Status::ABORTED_BY_DELETION))?;
+    log.push(answered(1, 0, Status::SUCCESS))?;
+    log.push(answered(1, 1, Status::ABORTED_BY_DELETION))?;
+    log.push(Event::ClosedSq { qid: 1, region: 1 })?;
+    Ok(())
+}
+
+// The log of two queues of three commands each. The deletion of queue 1 aborts two of its commands.
+fn log_of_deletion(alloc: Global) -> std::result::Result<Vec<Event>, AllocError> {
+    let mut log = Vec::new(alloc);
+    for index in 0..3 {
+        log.push(fetched(0, index))?;
+    }
+    log.push(picked(0))?;
+    log.push(answered(0, 0, Status::SUCCESS))?;
+    log.push(picked(0))?;
+    log.push(Event::OpenSq {
+        qid: 1,
+        region: 1,
+        cqid: 1,
+        class: Class::Urgent,
+    })?;
+    log.push(answered(0, 1, Status::SUCCESS))?;
+    delete_queue(&mut log)?;
+    log.push(answered(0, 2, Status::SUCCESS))?;
+    Ok(log)
+}
+
+// Whether some events post a completion for a place.
+fn is_answered(log: &[Event], region: u8, index: u32) -> bool
+    ensures { result ≡ false → completions_of log.now region index ≡ [] }
+{
+    for event in log {
+        if let Event::Post {
+            region: of,
+            index: number,
+            ..
+        } = event
+        {
+            if *of == region && *number == index {
+                return true;
+            }
+        }
+    }
+    false
+}
+
+// No place of a log has two completions.
+fn is_posted_once(log: &[Event]) -> bool
+    ensures { result ≡ true → (r i : ℕ) → posts_of (reverse log.now) r i ≤ 1 }
+{
+    let [event, rest @ ..] = log else {
+        return true;
+    };
+    if let Event::Post { region, index, .. } = event {
+        if is_answered(rest, *region, *index) {
+            return false;
+        }
+    }
+    is_posted_once(rest)
+}
+
+// What is left when they are settled.
+fn deletion(alloc: Global) -> std::result::Result<Settled, AllocError>
+    ensures { IfOk result (λ settled. (r i : ℕ) → posts_of (reverse settled.log.items) r i ≤ 1) }
+{
+    let log = log_of_deletion(alloc)?;
+    let mut sent = Vec::new(alloc);
+    let mut collected = Vec::new(alloc);
+    for at in 0..2 {
+        let script = vec![in alloc; Sqe::default(); 3]?;
+        sent.push(Sent { script, count: 3 })?;
+        let mut cqes = Vec::new(alloc);
+        for event in &log {
+            if let Event::Post { cq_region, cqe, .. } = event {
+                if *cq_region == at {
+                    cqes.push(*cqe)?;
+                }
+            }
+        }
+        collected.push(cqes)?;
+    }
+    if !is_posted_once(log.as_slice()) {
+        return Err(AllocError);
+    }
+    Ok(Settled {
+        log,
+        sent,
+        collected,
+    })
+}
+
+const DELETION: &str = "loaded
+pick q0 1
+pick q0 1
+pick q1 1
+pick q0 1
+sq 0 script 3 submitted 3 fetched 3 picked 3 aborted 0
+sq 1 script 3 submitted 3 fetched 3 picked 1 aborted 2
+cq 0 collected 3
+cq 1 collected 3
+cmd 0.0 0/00 00000000
+cmd 0.1 0/00 00000000
+cmd 0.2 0/00 00000000
+cmd 1.0 0/00 00000000
+cmd 1.1 0/08 00000000
+cmd 1.2 0/08 00000000
+end
+";
+
+#[test]
+fn report_of_a_deletion(rt: HostRuntime) -> std::result::Result<(), Fail> {
+    let settled = deletion(rt.alloc())?;
+    let mut output = Vec::new(rt.alloc());
+    assert_eq!(rt; report(&settled, Mode::Loaded, &mut output), Ok(()));
+    assert_eq!(rt; output.as_slice(), DELETION.as_bytes());
+    Ok(())
+}
+
+#[test]
+fn report_of_nothing(rt: HostRuntime) -> std::result::Result<(), Fail> {
+    let alloc = rt.alloc();
+    let settled = Settled {
+        log: Vec::new(alloc),
+        sent: vec![in alloc;
+            Sent {
+                script: Vec::new(alloc),
+                count: 0
+            },
+        ]?,
+        collected: vec![in alloc; Vec::new(alloc)]?,
+    };
+    let mut output = Vec::new(alloc);
+    assert_eq!(rt; report(&settled, Mode::Live, &mut output), Ok(()));
+    let text =
+        "live\nsq 0 script 0 submitted 0 fetched 0 picked 0 aborted 0\ncq 0 collected 0\nend\n";
+    assert_eq!(rt; output.as_slice(), text.as_bytes());
+    Ok(())
+}
+
+#[test]
+fn report_that_fails(rt: HostRuntime) -> std::result::Result<(), Fail> {
+    let settled = deletion(rt.alloc())?;
+    for (room, fails) in [(10, true), (0, false), (200, false)] {
+        let mut output = Takes {
+            taken: Vec::new(rt.alloc()),
+            room,
+            fails,
+        };
+        assert_eq!(rt;
+            report(&settled, Mode::Loaded, &mut output),
+            Err(WriteFault)
+        );
+        assert_eq!(rt; output.taken.as_slice(), &DELETION.as_bytes()[..room]);
+    }
+    Ok(())
+}
