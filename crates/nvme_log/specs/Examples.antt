@@ -65,11 +65,14 @@ admin_picked count = Pick (record { items = record { qid = 0; class = Admin; cou
 abbrev pub admin_posted : ℕ → Bool → Event
 admin_posted index phase = Post 0 0 index (arbitration_told index phase)
 
--- the log, the newest event first; `last` is the last completion
-abbrev pub two_slots_past : Event → Past
-two_slots_past last =
-    last ∷ admin_picked 1 ∷ admin_posted 2 false ∷ admin_picked 2 ∷ admin_posted 1 true ∷ admin_picked 3 ∷ admin_posted 0 true ∷ admin_picked 4
+-- the log up to the last pick, the newest event first, and with `last` as the last completion
+abbrev pub last_picked : Past
+last_picked =
+    admin_picked 1 ∷ admin_posted 2 false ∷ admin_picked 2 ∷ admin_posted 1 true ∷ admin_picked 3 ∷ admin_posted 0 true ∷ admin_picked 4
     ∷ Fetch 0 3 (get_arbitration 3) ∷ Fetch 0 2 (get_arbitration 2) ∷ Fetch 0 1 (get_arbitration 1) ∷ Fetch 0 0 (get_arbitration 0) ∷ []
+
+abbrev pub two_slots_past : Event → Past
+two_slots_past last = last ∷ last_picked
 
 -- ---- a submission queue that is deleted while one of its commands runs and two wait
 
@@ -147,15 +150,18 @@ reads_seen count = record { qid = 1; class = Urgent; count = count }
 abbrev pub picked_of : List Seen → ℕ → Event
 picked_of seen qid = Pick (record { items = seen }) (record { qid = qid; n = 1; fresh = false })
 
--- the log up to the first pick, up to the fetches from queue 1, up to the pick of the Delete, up to its aborts, up to the posts of
--- queue 1, and whole
+-- the log up to the first pick, up to the opening of queue 1, up to the answer to its Create, up to the fetches from it, up to its pick,
+-- up to the pick of the Delete, up to its aborts, up to the posts of queue 1, up to the end of the deletion, and whole
 abbrev pub admin_fetched : Past
 admin_fetched = Fetch 0 2 delete_sq ∷ Fetch 0 1 create_sq ∷ Fetch 0 0 create_cq ∷ []
 
-abbrev pub queue_opened : Past
-queue_opened =
-    Post 0 0 1 (done 0 1 success) ∷ OpenSq 1 1 1 Urgent ∷ picked_of (admin_seen 2 ∷ []) 0
+abbrev pub queue_created : Past
+queue_created =
+    OpenSq 1 1 1 Urgent ∷ picked_of (admin_seen 2 ∷ []) 0
     ∷ Post 0 0 0 (done 0 0 success) ∷ OpenCq 1 1 ∷ picked_of (admin_seen 3 ∷ []) 0 ∷ admin_fetched
+
+abbrev pub queue_opened : Past
+queue_opened = Post 0 0 1 (done 0 1 success) ∷ queue_created
 
 abbrev pub reads_fetched : Past
 reads_fetched = Fetch 1 2 (read 2) ∷ Fetch 1 1 (read 1) ∷ Fetch 1 0 (read 0) ∷ queue_opened
@@ -175,5 +181,16 @@ aborted_posted = Post 1 1 2 (done 1 2 aborted_by_deletion) ∷ Post 1 1 1 (done 
 abbrev pub all_posted : Past
 all_posted = Post 1 1 0 (done 1 0 success) ∷ aborted_posted
 
+abbrev pub closed : Past
+closed = ClosedSq 1 1 ∷ all_posted
+
 abbrev pub deleted : Past
-deleted = Post 0 0 2 (done 0 2 success) ∷ ClosedSq 1 1 ∷ all_posted
+deleted = Post 0 0 2 (done 0 2 success) ∷ closed
+
+-- the own completion of the Read that was picked
+abbrev pub read_done : Cqe
+read_done = done 1 0 success
+
+-- a window of seven is full: region 1 has 8 slots, and seven of its Reads wait
+abbrev pub window_filled : Past
+window_filled = Fetch 1 6 (read 6) ∷ Fetch 1 5 (read 5) ∷ Fetch 1 4 (read 4) ∷ Fetch 1 3 (read 3) ∷ reads_fetched

@@ -5,12 +5,12 @@ ghost use Rattle.nvme_log.specs.Effects.{EffectsAtOnce, effects_since, made_last
 ghost use Rattle.nvme_log.specs.Completions.{outstanding, posted_to};
 ghost use Rattle.nvme_log.specs.Histories.{arbitration_of};
 ghost use Rattle.nvme_log.specs.Places.{fetched};
-ghost use Rattle.nvme_log.specs.Examples.{admin_posted, at_admin, four_commands, four_completions, two_slots, two_slots_past};
-ghost use Rattle.nvme_log.specs.Examples.{at_two, one_deletion, admin_script, reads, read, delete_sq, done, admin_done, reads_done, admin_seen, reads_seen, picked_of, admin_fetched, reads_fetched, one_picked, delete_picked, closing, aborted_posted, all_posted, deleted};
+ghost use Rattle.nvme_log.specs.Examples.{admin_posted, arbitration_told, at_admin, four_commands, four_completions, last_picked, two_slots, two_slots_past};
+ghost use Rattle.nvme_log.specs.Examples.{at_two, one_deletion, admin_script, reads, read, delete_sq, done, admin_done, reads_done, admin_seen, reads_seen, picked_of, admin_fetched, reads_fetched, one_picked, delete_picked, closing, aborted_posted, all_posted, deleted, queue_created, closed, read_done, window_filled};
 ghost use Rattle.nvme_log.specs.declared.event.Event.TheVariants.{Fetch, OpenSq, Closing, Abort, Post, ClosedSq};
 ghost use Rattle.nvme_arbiter.specs.Lawful.{IsLawfulRun};
 ghost use Rattle.nvme_arbiter.specs.declared.settings.Class.TheVariants.{Urgent};
-ghost use Rattle.nvme_entry.specs.Status.{success, aborted_by_deletion};
+ghost use Rattle.nvme_entry.specs.Status.{success, aborted_by_deletion, invalid_field};
 ghost use mathlib.Core.List.{IsPrefix};
 ghost use Rattle.nvme_log.specs.Rules.{Each, Past};
 ghost use Rattle.std.specs.Prelude.{◌≡◌, ◌+◌, [], ◌∷◌, true, false};
@@ -85,4 +85,35 @@ pub fn changed_logs_are_refused()
     ensures one_place_too_many { (past : Past) → outstanding one_deletion (picked_of (admin_seen 1 ∷ []) 0 ∷ past) ≡ max_outstanding + 1 → LeavesPlaces one_deletion past (picked_of (admin_seen 1 ∷ []) 0) → ⊥ }
     ensures picked_out_of_turn { IsLawfulRun one_deletion.mechanism one_deletion.start.settings (arbitration_of (picked_of (admin_seen 1 ∷ reads_seen 3 ∷ []) 0 ∷ reads_fetched)) → ⊥ }
     ensures collected_in_another_order { IsPrefix (done 1 0 success ∷ done 1 1 aborted_by_deletion ∷ []) (posted_to deleted 1) → ⊥ }
+{}
+
+/// The own completion of a place has its queue, its command's identifier, its status, its Command Dword 0, as many commands
+/// fetched and the phase tag of its turn. With any other it is refused. (Base Specification, Completion Queue Entry)
+pub fn each_field_of_a_completion_is_its_own()
+    ensures own { PostsOwn one_deletion aborted_posted (Post 1 1 0 read_done) }
+    ensures sqid { PostsOwn one_deletion aborted_posted (Post 1 1 0 (record read_done { sqid = 2 })) → ⊥ }
+    ensures cid { PostsOwn one_deletion aborted_posted (Post 1 1 0 (record read_done { cid = 1 })) → ⊥ }
+    ensures status { PostsOwn one_deletion aborted_posted (Post 1 1 0 (record read_done { status = aborted_by_deletion })) → ⊥ }
+    ensures dw0 { PostsOwn one_deletion aborted_posted (Post 1 1 0 (record read_done { dw0 = 1 })) → ⊥ }
+    ensures sqhd { PostsOwn one_deletion aborted_posted (Post 1 1 0 (record read_done { sqhd = 1 })) → ⊥ }
+    ensures phase { PostsOwn one_deletion aborted_posted (Post 1 1 0 (record read_done { phase = false })) → ⊥ }
+    ensures dw0_of_a_feature { PostsOwn two_slots last_picked (Post 0 0 3 (record (arbitration_told 3 false) { dw0 = 0 })) → ⊥ }
+    ensures status_of_a_create { PostsOwn one_deletion queue_created (Post 0 0 1 (done 0 1 invalid_field)) → ⊥ }
+{}
+
+/// A completion is posted after its place was picked or aborted, and before its queue's deletion is finished.
+pub fn completions_are_posted_in_their_time()
+    ensures while_it_waits { PostsOwn one_deletion reads_fetched (Post 1 1 0 read_done) → ⊥ }
+    ensures after_its_queue_was_closed { Deletes closed (Post 1 1 0 read_done) → ⊥ }
+{}
+
+/// A window of seven takes the seventh candidate and not the eighth.
+pub fn window_holds_seven()
+    ensures seventh { Each (ServedWhileOpen one_deletion) window_filled }
+    ensures eighth { ServedWhileOpen one_deletion window_filled (Fetch 1 7 (read 7)) → ⊥ }
+{}
+
+/// While two places are picked and not posted, and two aborted, two are outstanding.
+pub fn aborted_places_are_not_outstanding()
+    ensures { outstanding one_deletion closing ≡ 2 }
 {}
