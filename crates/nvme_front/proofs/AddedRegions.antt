@@ -19,9 +19,10 @@ use Rattle.nvme_state.specs.declared.region.SqRegion.{SqRegion}
 use Rattle.nvme_state.specs.declared.region.CqRegion.{CqRegion}
 use Rattle.nvme_front.specs.declared.state.FrontState.{FrontState}
 use Rattle.nvme_log.specs.Limits.{max_outstanding, max_ready}
-use Rattle.nvme_front.specs.Room.{IsKept, sq_region}
-use Rattle.nvme_state.specs.Standing.{first_queue}
-use Rattle.nvme_front.specs.View.{FrontView, view_of}
+use Rattle.nvme_front.specs.inside.Room.{IsKept, sq_region}
+use Rattle.nvme_state.specs.inside.Standing.{first_queue}
+use Rattle.nvme_front.specs.View.{FrontView}
+use Rattle.nvme_front.specs.inside.State.{view_of}
 use Rattle.nvme_front.proofs.FreshRegions.{board_with_sq, board_with_sq-first, board_with_sq-later}
 use Rattle.nvme_front.proofs.KeptRegions.{is_kept-with_sq, is_kept-with_cq}
 

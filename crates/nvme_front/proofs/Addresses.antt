@@ -16,9 +16,10 @@ use Rattle.nvme_admin.specs.declared.region.AdminError.TheVariants.{Used, TooMan
 use Rattle.nvme_state.specs.declared.region.SqRegion.{SqRegion}
 use Rattle.nvme_state.specs.declared.region.CqRegion.{CqRegion}
 use Rattle.nvme_front.specs.declared.state.FrontState.{FrontState}
-use Rattle.nvme_front.specs.State.{gets_of, puts_of}
-use Rattle.nvme_front.specs.Room.{sq_region, cq_region, IsRoomy}
-use Rattle.nvme_front.specs.View.{view_of, is_address}
+use Rattle.nvme_front.specs.inside.State.{gets_of, puts_of}
+use Rattle.nvme_front.specs.inside.Room.{sq_region, cq_region, IsRoomy}
+use Rattle.nvme_front.specs.inside.State.{view_of}
+use Rattle.nvme_front.specs.View.{is_address}
 
 -- some element of a map passes a test where some element passes it after the map
 pub any_in_map : {A B : Type 0} (p : B → Bool) (f : A → B) (xs : List A) → list_any p (map f xs) ≡ list_any (λ (x : A). p (f x)) xs

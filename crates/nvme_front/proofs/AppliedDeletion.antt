@@ -21,19 +21,20 @@ use Rattle.nvme_state.specs.declared.attachment.Attachment.{Attachment}
 use Rattle.nvme_state.specs.declared.region.SqRegion.{SqRegion}
 use Rattle.nvme_state.specs.declared.region.CqRegion.{CqRegion}
 use Rattle.nvme_front.specs.declared.state.FrontState.{FrontState}
-use Rattle.nvme_state.specs.Fifo.{FifoView}
+use Rattle.nvme_state.specs.inside.Fifo.{FifoView}
 use Rattle.nvme_log.specs.Queues.{Queue, admin_queue, open_sq}
 use Rattle.nvme_log.specs.Places.{waiting}
 use Rattle.nvme_log.specs.Effects.{made_by, closing_of}
 use Rattle.nvme_log.specs.Laws.{as_open}
-use Rattle.nvme_front.specs.Applied.{IsApplied}
-use Rattle.nvme_state.specs.Kept.{SqKept, Kept, with_sq, put_sq}
-use Rattle.nvme_front.specs.State.{sq_kept, sq_in, cq_in, gets_of, kept_of, rules_of}
-use Rattle.nvme_front.specs.Room.{IsKept, window_room}
-use Rattle.nvme_state.specs.Standing.{IsAttached, on_board}
-use Rattle.nvme_front.specs.Goes.{coming_at, Goes, get_place}
+use Rattle.nvme_front.specs.inside.Applied.{IsApplied}
+use Rattle.nvme_state.specs.inside.Kept.{SqKept, Kept, with_sq, put_sq}
+use Rattle.nvme_front.specs.inside.State.{sq_kept, sq_in, cq_in, gets_of, kept_of, rules_of}
+use Rattle.nvme_front.specs.inside.Room.{IsKept, window_room}
+use Rattle.nvme_state.specs.inside.Standing.{IsAttached, on_board}
+use Rattle.nvme_front.specs.inside.Goes.{coming_at, Goes}
+use Rattle.nvme_front.specs.Ends.{get_place}
 use Rattle.nvme_log.specs.Histories.{picks_in}
-use Rattle.nvme_state.specs.Steps.{aborted, picked_sq}
+use Rattle.nvme_state.specs.inside.Steps.{aborted, picked_sq}
 use Rattle.nvme_state.proofs.AfterSteps.{with_deleting, with_readies, deleting_from, IsChosen}
 use Rattle.nvme_state.proofs.QueueWords.{at_same, at_other}
 use Rattle.nvme_state.proofs.DeletionSteps.{io_region}

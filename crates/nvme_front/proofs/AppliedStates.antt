@@ -11,16 +11,18 @@ use Rattle.nvme_state.specs.declared.candidate.Candidate.{Candidate}
 use Rattle.nvme_state.specs.declared.candidate.Ready.{Ready}
 use Rattle.nvme_state.specs.declared.region.CqRegion.{CqRegion}
 use Rattle.nvme_front.specs.declared.state.FrontState.{FrontState}
-use Rattle.nvme_state.specs.Fifo.{FifoView}
+use Rattle.nvme_state.specs.inside.Fifo.{FifoView}
 use Rattle.nvme_log.specs.Effects.{made_by}
-use Rattle.nvme_front.specs.Applied.{IsApplied}
-use Rattle.nvme_state.specs.Jobs.{JobsView, gained_count}
-use Rattle.nvme_state.specs.Kept.{CqKept, Kept, put_cq, with_ready}
-use Rattle.nvme_front.specs.State.{cq_kept, cq_in, gets_of, puts_of, kept_of, rules_of, past_of}
-use Rattle.nvme_front.specs.Room.{IsKept, window_room, ready_room}
-use Rattle.nvme_front.specs.Goes.{coming_at, Goes, get_place, put_place}
+use Rattle.nvme_front.specs.inside.Applied.{IsApplied}
+use Rattle.nvme_state.specs.inside.Jobs.{JobsView}
+use Rattle.nvme_state.specs.Hands.{gained_count}
+use Rattle.nvme_state.specs.inside.Kept.{CqKept, Kept, put_cq, with_ready}
+use Rattle.nvme_front.specs.inside.State.{cq_kept, cq_in, gets_of, puts_of, kept_of, rules_of, past_of}
+use Rattle.nvme_front.specs.inside.Room.{IsKept, window_room, ready_room}
+use Rattle.nvme_front.specs.inside.Goes.{coming_at, Goes}
+use Rattle.nvme_front.specs.Ends.{get_place, put_place}
 use Rattle.nvme_log.specs.Histories.{picks_in}
-use Rattle.nvme_state.specs.Steps.{applied_to}
+use Rattle.nvme_state.specs.inside.Steps.{applied_to}
 use Rattle.nvme_state.proofs.AfterSteps.{IsChosen, after_admin, admin_past, answered, with_events, with_readies}
 use Rattle.nvme_state.proofs.Standing.{stands-admin}
 use Rattle.nvme_front.proofs.Comes.{comes-same}

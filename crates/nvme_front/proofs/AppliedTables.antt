@@ -25,13 +25,13 @@ use Rattle.nvme_front.specs.declared.state.FrontState.{FrontState}
 use Rattle.nvme_log.specs.Queues.{open_sq, open_cq}
 use Rattle.nvme_log.specs.Effects.{made_by, closed_cq_of}
 use Rattle.nvme_log.specs.Laws.{as_open}
-use Rattle.nvme_front.specs.Applied.{IsApplied}
-use Rattle.nvme_state.specs.Kept.{SqKept, Kept, with_ready, put_sq}
-use Rattle.nvme_front.specs.State.{sq_in, cq_in, kept_of, rules_of}
-use Rattle.nvme_front.specs.Room.{IsKept}
-use Rattle.nvme_state.specs.Standing.{on_board}
-use Rattle.nvme_front.specs.Goes.{Goes}
-use Rattle.nvme_state.specs.Fifo.{FifoView}
+use Rattle.nvme_front.specs.inside.Applied.{IsApplied}
+use Rattle.nvme_state.specs.inside.Kept.{SqKept, Kept, with_ready, put_sq}
+use Rattle.nvme_front.specs.inside.State.{sq_in, cq_in, kept_of, rules_of}
+use Rattle.nvme_front.specs.inside.Room.{IsKept}
+use Rattle.nvme_state.specs.inside.Standing.{on_board}
+use Rattle.nvme_front.specs.inside.Goes.{Goes}
+use Rattle.nvme_state.specs.inside.Fifo.{FifoView}
 use Rattle.nvme_state.proofs.AfterSteps.{with_opened, answered}
 use Rattle.nvme_front.proofs.AppliedStates.{kept_answered}
 use Rattle.nvme_front.proofs.States.{sq_in-set, sq_in-read}

@@ -11,11 +11,12 @@ use Rattle.nvme_lane.specs.View.{GetView, PutView, IsPair, SameGet, SamePut}
 use Rattle.nvme_state.specs.declared.region.SqRegion.{SqRegion}
 use Rattle.nvme_state.specs.declared.region.CqRegion.{CqRegion}
 use Rattle.nvme_front.specs.declared.state.FrontState.{FrontState}
-use Rattle.nvme_state.specs.Kept.{SqKept, no_sq, no_cq}
-use Rattle.nvme_front.specs.State.{sq_kept, cq_kept, sq_in, cq_in, gets_of, puts_of, kept_of, rules_of, past_of}
-use Rattle.nvme_front.specs.Room.{IsKept}
-use Rattle.nvme_front.specs.Goes.{Goes, get_place, put_place}
-use Rattle.nvme_front.specs.View.{view_of}
+use Rattle.nvme_state.specs.inside.Kept.{SqKept, no_sq, no_cq}
+use Rattle.nvme_front.specs.inside.State.{sq_kept, cq_kept, sq_in, cq_in, gets_of, puts_of, kept_of, rules_of, past_of}
+use Rattle.nvme_front.specs.inside.Room.{IsKept}
+use Rattle.nvme_front.specs.inside.Goes.{Goes}
+use Rattle.nvme_front.specs.Ends.{get_place, put_place}
+use Rattle.nvme_front.specs.inside.State.{view_of}
 use Rattle.nvme_state.proofs.Knowing.{knowing, stands-knowing, fresh-knowing}
 use Rattle.nvme_front.proofs.Comes.{comes-same, comes-set, IsPrefix-onto}
 use Rattle.nvme_front.proofs.States.{SameSeat-refl, look-set, look-read, places-set, windows-set, put_places-set, readies-set, rules-goes, sqs-goes, cqs-goes, admin-goes, roomy-goes}

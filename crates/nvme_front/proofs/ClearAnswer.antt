@@ -10,9 +10,9 @@ use Rattle.nvme_state.specs.declared.candidate.PendingDelete.{PendingDelete}
 use Rattle.nvme_state.specs.declared.region.SqRegion.{SqRegion}
 use Rattle.nvme_state.specs.declared.region.CqRegion.{CqRegion}
 use Rattle.nvme_front.specs.declared.state.FrontState.{FrontState}
-use Rattle.nvme_front.specs.Clear.{no_window, no_ready}
-use Rattle.nvme_front.specs.State.{sq_in, cq_in, kept_of, past_of}
-use Rattle.nvme_front.specs.Room.{IsKept}
+use Rattle.nvme_front.specs.inside.Clear.{no_window, no_ready}
+use Rattle.nvme_front.specs.inside.State.{sq_in, cq_in, kept_of, past_of}
+use Rattle.nvme_front.specs.inside.Room.{IsKept}
 use Rattle.nvme_log.specs.Account.{IsClear}
 use Rattle.nvme_state.proofs.Clearing.{KeepsNothing}
 use Rattle.nvme_front.proofs.KeptAnswers.{clear_is-kept}

@@ -11,13 +11,14 @@ use Rattle.nvme_state.specs.declared.candidate.Ready.{Ready}
 use Rattle.nvme_state.specs.declared.region.SqRegion.{SqRegion}
 use Rattle.nvme_state.specs.declared.region.CqRegion.{CqRegion}
 use Rattle.nvme_front.specs.declared.state.FrontState.{FrontState}
-use Rattle.nvme_state.specs.Fifo.{FifoView}
+use Rattle.nvme_state.specs.inside.Fifo.{FifoView}
 use Rattle.nvme_log.specs.Rules.{Past}
-use Rattle.nvme_state.specs.Kept.{Kept, SqKept, CqKept, put_cq}
-use Rattle.nvme_front.specs.State.{sq_in, cq_in, cq_kept, gets_of, puts_of, kept_of, rules_of, past_of}
-use Rattle.nvme_state.specs.Standing.{Stands, IsPending, hand_of}
-use Rattle.nvme_front.specs.Room.{IsKept, window_room, ready_room}
-use Rattle.nvme_front.specs.Goes.{coming_at, Goes, HasAdmin, get_place, put_place}
+use Rattle.nvme_state.specs.inside.Kept.{Kept, SqKept, CqKept, put_cq}
+use Rattle.nvme_front.specs.inside.State.{sq_in, cq_in, cq_kept, gets_of, puts_of, kept_of, rules_of, past_of}
+use Rattle.nvme_state.specs.inside.Standing.{Stands, IsPending, hand_of}
+use Rattle.nvme_front.specs.inside.Room.{IsKept, window_room, ready_room}
+use Rattle.nvme_front.specs.inside.Goes.{coming_at, Goes, HasAdmin}
+use Rattle.nvme_front.specs.Ends.{get_place, put_place}
 use Rattle.nvme_state.proofs.AfterSteps.{after_closed, closed_event, deleted}
 use Rattle.nvme_state.proofs.ReadyRoom.{ready_has_room}
 use Rattle.nvme_state.proofs.Standing.{stands-close}

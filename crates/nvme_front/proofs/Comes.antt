@@ -7,9 +7,10 @@ use Rattle.nvme_entry.specs.declared.submission.Sqe.{Sqe}
 use Rattle.nvme_lane.specs.View.{GetView}
 use Rattle.nvme_state.specs.declared.region.SqRegion.{SqRegion}
 use Rattle.nvme_front.specs.declared.state.FrontState.{FrontState}
-use Rattle.nvme_front.specs.State.{gets_of}
-use Rattle.nvme_front.specs.Goes.{coming_at, coming_in}
-use Rattle.nvme_front.specs.View.{view_of, got_in, known_in}
+use Rattle.nvme_front.specs.inside.State.{gets_of}
+use Rattle.nvme_front.specs.inside.Goes.{coming_at, coming_in}
+use Rattle.nvme_front.specs.inside.State.{view_of}
+use Rattle.nvme_front.specs.View.{got_in, known_in}
 
 -- where nothing was got and no more is known to come
 pub comes-same : (a b : List SqRegion) → map coming_at b ≡ map coming_at a → (r : ℕ) → IsPrefix (coming_in a r) (coming_in b r)

@@ -13,11 +13,12 @@ use Rattle.nvme_front.specs.declared.state.FrontState.{FrontState}
 use Rattle.nvme_log.specs.Places.{fetched}
 use Rattle.nvme_log.specs.Completions.{posted_to}
 use Rattle.nvme_log.specs.Account.{IsAccount}
-use Rattle.nvme_state.specs.Kept.{SqKept}
-use Rattle.nvme_front.specs.State.{sq_in, cq_in, gets_of, puts_of, kept_of, rules_of, past_of}
-use Rattle.nvme_front.specs.Room.{IsKept}
-use Rattle.nvme_state.specs.Standing.{Stands}
-use Rattle.nvme_front.specs.View.{FrontView, AccountsForEnds, view_of, past_in, got_in, sent_in}
+use Rattle.nvme_state.specs.inside.Kept.{SqKept}
+use Rattle.nvme_front.specs.inside.State.{sq_in, cq_in, gets_of, puts_of, kept_of, rules_of, past_of}
+use Rattle.nvme_front.specs.inside.Room.{IsKept}
+use Rattle.nvme_state.specs.inside.Standing.{Stands}
+use Rattle.nvme_front.specs.View.{FrontView, AccountsForEnds, past_in, got_in, sent_in}
+use Rattle.nvme_front.specs.inside.State.{view_of}
 use Rattle.nvme_state.proofs.Accounted.{account_is}
 
 -- what was got of a region, by the ends and by what is kept

@@ -9,12 +9,13 @@ use Rattle.nvme_state.specs.declared.region.SqRegion.{SqRegion}
 use Rattle.nvme_state.specs.declared.region.CqRegion.{CqRegion}
 use Rattle.nvme_lane.specs.View.{GetView, PutView}
 use Rattle.nvme_log.specs.Account.{IsAccount}
-use Rattle.nvme_state.specs.Kept.{SqKept, CqKept, no_sq, no_cq}
-use Rattle.nvme_front.specs.State.{sq_kept, cq_kept, kept_of, rules_of, past_of}
-use Rattle.nvme_state.specs.Standing.{Stands}
-use Rattle.nvme_front.specs.Room.{IsKept}
-use Rattle.nvme_front.specs.Goes.{Goes, HasAdmin}
-use Rattle.nvme_front.specs.View.{FrontView, view_of, got_in, known_in, sent_in, free_in, AccountsForEnds, GoesOn}
+use Rattle.nvme_state.specs.inside.Kept.{SqKept, CqKept, no_sq, no_cq}
+use Rattle.nvme_front.specs.inside.State.{sq_kept, cq_kept, kept_of, rules_of, past_of}
+use Rattle.nvme_state.specs.inside.Standing.{Stands}
+use Rattle.nvme_front.specs.inside.Room.{IsKept}
+use Rattle.nvme_front.specs.inside.Goes.{Goes, HasAdmin}
+use Rattle.nvme_front.specs.View.{FrontView, got_in, known_in, sent_in, free_in, AccountsForEnds, GoesOn}
+use Rattle.nvme_front.specs.inside.State.{view_of}
 use Rattle.nvme_front.proofs.States.{SameSeat-refl, rules-goes}
 use Rattle.nvme_front.proofs.Comes.{comes-seen}
 use Rattle.nvme_state.proofs.Accounted.{account_is, fetched_is_got, posted_is_sent}

@@ -19,11 +19,13 @@ use Rattle.nvme_front.specs.declared.state.FrontState.{FrontState}
 use Rattle.nvme_log.specs.Rules.{Past}
 use Rattle.nvme_log.specs.Dispatches.{dispatched, AreJobs, ExecutesOnce}
 use Rattle.nvme_state.specs.JobAccount.{AccountsForJobs}
-use Rattle.nvme_state.specs.Jobs.{Hands, IsClosed, in_hand, job_in, dispatched_place}
-use Rattle.nvme_front.specs.State.{kept_of, rules_of, past_of}
-use Rattle.nvme_front.specs.Room.{IsKept}
-use Rattle.nvme_state.specs.Standing.{Stands, held_by, hand_of}
-use Rattle.nvme_front.specs.View.{FrontView, view_of, past_in}
+use Rattle.nvme_state.specs.Hands.{Hands, in_hand, job_in}
+use Rattle.nvme_state.specs.inside.Jobs.{IsClosed, dispatched_place}
+use Rattle.nvme_front.specs.inside.State.{kept_of, rules_of, past_of}
+use Rattle.nvme_front.specs.inside.Room.{IsKept}
+use Rattle.nvme_state.specs.inside.Standing.{Stands, held_by, hand_of}
+use Rattle.nvme_front.specs.View.{FrontView, past_in}
+use Rattle.nvme_front.specs.inside.State.{view_of}
 use Rattle.nvme_log.specs.Account.{IsClear}
 use Rattle.nvme_front.proofs.Ended.{empty_or_not}
 use Rattle.nvme_state.proofs.Clearing.{clear_is}

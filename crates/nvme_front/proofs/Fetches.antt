@@ -21,11 +21,12 @@ use Rattle.nvme_log.specs.Rules.{Past}
 use Rattle.nvme_log.specs.Queues.{Queue, open_sq}
 use Rattle.nvme_log.specs.Places.{fetched}
 use Rattle.nvme_log.specs.Laws.{as_open}
-use Rattle.nvme_state.specs.Kept.{SqKept, Kept, put_sq}
-use Rattle.nvme_front.specs.State.{sq_kept, sq_in, cq_in, gets_of, puts_of, kept_of, rules_of, past_of}
-use Rattle.nvme_state.specs.Standing.{Stands, on_board}
-use Rattle.nvme_front.specs.Room.{IsKept, window_room, ready_room}
-use Rattle.nvme_front.specs.Goes.{coming_at, coming_in, Goes, HasAdmin, get_place, put_place}
+use Rattle.nvme_state.specs.inside.Kept.{SqKept, Kept, put_sq}
+use Rattle.nvme_front.specs.inside.State.{sq_kept, sq_in, cq_in, gets_of, puts_of, kept_of, rules_of, past_of}
+use Rattle.nvme_state.specs.inside.Standing.{Stands, on_board}
+use Rattle.nvme_front.specs.inside.Room.{IsKept, window_room, ready_room}
+use Rattle.nvme_front.specs.inside.Goes.{coming_at, coming_in, Goes, HasAdmin}
+use Rattle.nvme_front.specs.Ends.{get_place, put_place}
 use Rattle.nvme_state.proofs.AfterSteps.{CanFetch, fetched_sq, came_board, fetch_event, after_fetch}
 use Rattle.nvme_front.proofs.Comes.{comes-set}
 use Rattle.nvme_front.proofs.States.{sq_in-set, sq_in-read, past-push, pushed-not_empty, places-set, windows-set, roomy-goes, window_room-is, kept_after, SameSeat-refl}

@@ -19,12 +19,13 @@ use Rattle.nvme_log.specs.Rules.{FrontRules, Past, window_at, slots_at, sq_regio
 use Rattle.nvme_log.specs.Queues.{Queue, Deletion, open_sq, pending}
 use Rattle.nvme_log.specs.Places.{waiting}
 use Rattle.nvme_log.specs.Histories.{picks_in}
-use Rattle.nvme_state.specs.Standing.{Stands, as_deletion}
-use Rattle.nvme_front.specs.State.{kept_of, rules_of, past_of, gets_of, cq_in}
-use Rattle.nvme_front.specs.Room.{IsKept}
-use Rattle.nvme_front.specs.Goes.{Goes, IsSame, HasAdmin, AllDrained, AllScanned, IsTaken, IsFullSq}
-use Rattle.nvme_front.specs.View.{FrontView, view_of, known_in, IsFilled, AreFilled, PicksOne, EndsSteps, GoesToEnd}
-use Rattle.nvme_front.specs.Turn.{IsPickOf, told_after}
+use Rattle.nvme_state.specs.inside.Standing.{Stands, as_deletion}
+use Rattle.nvme_front.specs.inside.State.{kept_of, rules_of, past_of, gets_of, cq_in}
+use Rattle.nvme_front.specs.inside.Room.{IsKept}
+use Rattle.nvme_front.specs.inside.Goes.{Goes, IsSame, HasAdmin, AllDrained, AllScanned, IsTaken, IsFullSq}
+use Rattle.nvme_front.specs.View.{FrontView, known_in, IsFilled, AreFilled, PicksOne, EndsSteps, GoesToEnd}
+use Rattle.nvme_front.specs.inside.State.{view_of}
+use Rattle.nvme_front.specs.inside.Turn.{IsPickOf, told_after}
 use Rattle.nvme_front.proofs.States.{rules-goes, admin-goes}
 use Rattle.nvme_front.proofs.Still.{scanned_same}
 use Rattle.nvme_front.proofs.EndsSeen.{known_in-kept}

@@ -6,7 +6,8 @@ use Rattle.std.specs.Vec.{with_item}
 use Rattle.nvme_entry.specs.Status.{StatusCode}
 use Rattle.std.proofs.lemmas.Bool.{cases_Bool}
 use Rattle.std.proofs.lemmas.List.{append-nil, length-append, length-map, length-set, length_push}
-use Rattle.std.proofs.lemmas.List.Elements.{All-head, All-tail, All-same}
+use Rattle.std.proofs.lemmas.List.Elements.{All-head}
+use Rattle.std.proofs.lemmas.List.Sorted.{length_permutation}
 use Rattle.std.proofs.lemmas.List.Sums.{sum_by-append, sum_by-cons}
 use Rattle.nvme_lane.specs.View.{GetView}
 use Rattle.nvme_pool.specs.declared.jobs.Finished.{Finished}
@@ -18,18 +19,22 @@ use Rattle.nvme_state.specs.declared.attachment.Attachment.{Attachment}
 use Rattle.nvme_state.specs.declared.region.SqRegion.{SqRegion}
 use Rattle.nvme_state.specs.declared.region.CqRegion.{CqRegion}
 use Rattle.nvme_front.specs.declared.state.FrontState.{FrontState}
-use Rattle.nvme_state.specs.Fifo.{FifoView}
+use Rattle.nvme_state.specs.inside.Fifo.{FifoView}
 use Rattle.nvme_log.specs.Limits.{most_events}
-use Rattle.nvme_state.specs.Jobs.{JobsView, in_hand, job_in, dispatched_place, HandsOne, GainsOne, GainsStray, gained_jobs, gained_count}
+use Rattle.nvme_state.specs.inside.Jobs.{JobsView, dispatched_place, HandsOne, GainsOne, GainsStray, gained_jobs}
+use Rattle.nvme_state.specs.Hands.{in_hand, job_in, gained_count}
 use Rattle.nvme_state.specs.Balance.{Balances}
+use Rattle.nvme_state.proofs.JobAccounts.{each-gained}
 use Rattle.nvme_state.proofs.Balances.{balances-handed, balances-stray, balances-still}
-use Rattle.nvme_state.specs.Kept.{Kept, SqKept, CqKept, put_cq}
-use Rattle.nvme_front.specs.State.{sq_in, cq_in, cq_kept, gets_of, puts_of, kept_of, rules_of, past_of}
-use Rattle.nvme_state.specs.Standing.{Stands, IsDispatched, IsFresh, held_by}
-use Rattle.nvme_front.specs.Room.{IsKept, window_room, ready_room}
-use Rattle.nvme_front.specs.Goes.{coming_at, Goes, IsSame, HasAdmin, get_place, put_place}
-use Rattle.nvme_front.specs.Turn.{Balanced}
-use Rattle.nvme_front.specs.View.{GainedStray, view_of}
+use Rattle.nvme_state.specs.inside.Kept.{Kept, SqKept, CqKept, put_cq}
+use Rattle.nvme_front.specs.inside.State.{sq_in, cq_in, cq_kept, gets_of, puts_of, kept_of, rules_of, past_of}
+use Rattle.nvme_state.specs.inside.Standing.{Stands, IsDispatched, IsFresh, held_by}
+use Rattle.nvme_front.specs.inside.Room.{IsKept, window_room, ready_room}
+use Rattle.nvme_front.specs.inside.Goes.{coming_at, Goes, IsSame, HasAdmin}
+use Rattle.nvme_front.specs.Ends.{get_place, put_place}
+use Rattle.nvme_front.specs.inside.Turn.{Balanced}
+use Rattle.nvme_front.specs.View.{GainedStray}
+use Rattle.nvme_front.specs.inside.State.{view_of}
 use Rattle.nvme_state.proofs.AfterSteps.{completed, after_gain}
 use Rattle.nvme_state.proofs.Standing.{stands-hand, stands-gain, stands-stray}
 use Rattle.nvme_front.proofs.Comes.{comes-same}
@@ -204,11 +209,6 @@ module _ (s : FrontState) (few : s.config.max_events ≤ most_events) (jobs : Jo
   })
 
 -- ---- a result of a job is gained
--- what holds of each item holds of one between others
-all_between : {X : Type 0} (P : X → Type 0) (before : List X) (x : X) (after : List X) → All P (before ++ x ∷ after) → P x
-all_between P [] x after h = All-head P x after h
-all_between P (y ∷ before) x after h = all_between P before x after (All-tail P y (before ++ x ∷ after) h)
-
 -- a region was opened for a queue
 record HasQueue (o : Option Attachment) : Type 0 where
   queue : Attachment
@@ -224,10 +224,8 @@ module _ (s : FrontState) (k : IsKept s) (admin : HasAdmin s) (jobs : JobsView) 
   -- the command is a picked one that had no result
   its_command : IsDispatched (past_of s) d
   its_command =
-      let hands : in_hand s.jobs.hands ≡ h.before ++ (d ∷ (h.after ++ s.jobs.hands.unhanded)) =
-      ap (λ (ds : List Dispatched). ds ++ s.jobs.hands.unhanded) h.its.running_is ∙ append_assoc h.before (d ∷ h.after) s.jobs.hands.unhanded in
-      all_between (IsDispatched (past_of s)) h.before d (h.after ++ s.jobs.hands.unhanded)
-      (All-same (IsDispatched (past_of s)) (h.before ++ (d ∷ (h.after ++ s.jobs.hands.unhanded))) (in_hand s.jobs.hands) (sym hands) (k.stands admin.0 admin.1).jobs.each)
+      All-head (IsDispatched (past_of s)) d (h.rest ++ s.jobs.hands.unhanded)
+      (each-gained (IsDispatched (past_of s)) s.jobs.hands d h.rest h.its.running_is (k.stands admin.0 admin.1).jobs.each)
 
   -- its region was opened for a queue
   its_queue : HasQueue (sq_in s.sqs.items d.region).queue
@@ -309,9 +307,7 @@ gained_one-count sizes old new d result h = ap (λ (j : JobsView). gained_count 
 pub gained-fewer : (sizes : List ℕ) (old new : JobsView) (d : Dispatched) (result : Finished) → GainsOne sizes old new d result
     → length new.hands.running < length old.hands.running
 gained-fewer sizes old new d result h =
-    let now = ap (λ (j : JobsView). length j.hands.running) h.are ∙ length-append h.before h.after in
-    let was = ap (λ (ds : List Dispatched). length ds) h.its.running_is ∙ length-append h.before (d ∷ h.after) in
-    omega (arith, now, was)
+    omega (arith, ap (λ (j : JobsView). length j.hands.running) h.are, length_permutation old.hands.running (d ∷ h.rest) h.its.running_is)
 
 module _ (a b : FrontState) (d : Dispatched) (result : Finished) (p : IsGained a b d result) where
   -- it is the same front
@@ -334,7 +330,7 @@ module _ (a b : FrontState) (d : Dispatched) (result : Finished) (p : IsGained a
   }
 
   -- what is kept is that after the result was gained
-  gained-kept_of : kept_of b ≡ after_gain (kept_of a) d (p.one.before ++ p.one.after) p.one.seat p.queue.cq_region result
+  gained-kept_of : kept_of b ≡ after_gain (kept_of a) d p.one.rest p.one.seat p.queue.cq_region result
   gained-kept_of =
       let c : ℕ = p.queue.cq_region in
       let now : cq_kept (record p.e { ready = p.f }) ≡ record (cq_kept p.e) { ready = p.e.ready.items ++ completed d result ∷ [] } =
@@ -365,5 +361,5 @@ module _ (a b : FrontState) (d : Dispatched) (result : Finished) (p : IsGained a
       let some = gained-fewer a.config.spaces a.jobs b.jobs d result p.one in
       absurd (omega (arith, empty, some)))
       (subst (λ (x : Kept). Stands (rules_of a) a.late (past_of a) x) (sym gained-kept_of)
-      (stands-gain (rules_of a) a.late (past_of a) (kept_of a) p.one.before d p.one.after result p.one.seat p.queue.cq_region p.queue.qid
+      (stands-gain (rules_of a) a.late (past_of a) (kept_of a) d p.one.rest result p.one.seat p.queue.cq_region p.queue.qid
       (k.stands admin.0 admin.1) p.one.can p.one.its p.attached))

@@ -7,7 +7,7 @@ use Rattle.nvme_lane.specs.Feeder.{put_of}
 use Rattle.nvme_lane.specs.Drainer.{get_of}
 use Rattle.nvme_lane.specs.declared.feeder.Feeder.{Feeder}
 use Rattle.nvme_lane.specs.declared.drainer.Drainer.{Drainer}
-use Rattle.nvme_front.specs.Goes.{get_place, put_place}
+use Rattle.nvme_front.specs.Ends.{get_place, put_place}
 use Rattle.nvme_front.specs.View.{FrontView}
 use Rattle.nvme_front.specs.Hosts.{ArePaired, AreHosts, IsFedBy, IsDrainedBy, feeder_place, drainer_place}
 use Rattle.nvme_front.proofs.Hosted.{seen_at, seen_length, seen_same}

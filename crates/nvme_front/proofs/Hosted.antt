@@ -14,12 +14,13 @@ use Rattle.nvme_lane.specs.Feeder.{script_of, count_of, put_of}
 use Rattle.nvme_lane.specs.Drainer.{items_of, get_of}
 use Rattle.nvme_lane.specs.declared.feeder.Feeder.{Feeder}
 use Rattle.nvme_lane.specs.declared.drainer.Drainer.{Drainer}
-use Rattle.nvme_front.specs.Goes.{get_place, put_place}
+use Rattle.nvme_front.specs.Ends.{get_place, put_place}
 use Rattle.nvme_front.specs.View.{FrontView, past_in, got_in, known_in, sent_in}
 use Rattle.nvme_log.specs.Queues.{is_serving}
 use Rattle.nvme_front.specs.Hosts.{ArePaired, AreHosts, IsFedBy, IsDrainedBy, feeder_place, drainer_place, told, submitted_at, taken_at}
-use Rattle.nvme_front.specs.Looks.{LooksAtSq, LooksAtCq}
-use Rattle.nvme_front.specs.Resting.{IsSameFront, Rests, TakesOf, Takes, Collects}
+use Rattle.nvme_front.specs.inside.Looks.{LooksAtSq, LooksAtCq}
+use Rattle.nvme_front.specs.Unsettled.{IsSameFront, TakesOf, Takes}
+use Rattle.nvme_front.specs.inside.Resting.{Rests, Collects}
 use Rattle.nvme_log.proofs.Prefixes.{IsPrefix-refl}
 
 -- an element of a list, where there is one

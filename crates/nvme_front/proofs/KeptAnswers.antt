@@ -9,11 +9,11 @@ use Rattle.nvme_front.specs.declared.state.FrontState.{FrontState}
 use Rattle.nvme_log.specs.Rules.{Past}
 use Rattle.nvme_log.specs.Account.{IsClear}
 use Rattle.nvme_log.specs.Queues.{is_serving}
-use Rattle.nvme_state.specs.Standing.{is_on}
-use Rattle.nvme_state.specs.Kept.{SqKept}
-use Rattle.nvme_front.specs.State.{kept_of, rules_of, past_of, gets_of, puts_of}
-use Rattle.nvme_state.specs.Standing.{Stands, IsFresh, first_queue}
-use Rattle.nvme_front.specs.Room.{IsKept}
+use Rattle.nvme_state.specs.inside.Standing.{is_on}
+use Rattle.nvme_state.specs.inside.Kept.{SqKept}
+use Rattle.nvme_front.specs.inside.State.{kept_of, rules_of, past_of, gets_of, puts_of}
+use Rattle.nvme_state.specs.inside.Standing.{Stands, IsFresh, first_queue}
+use Rattle.nvme_front.specs.inside.Room.{IsKept}
 use Rattle.nvme_state.proofs.RegionSteps.{adds_regions}
 use Rattle.nvme_front.proofs.Starting.{first_attachment, table_sq, opened_first}
 use Rattle.nvme_state.proofs.Clearing.{KeepsNothing, clear_is}

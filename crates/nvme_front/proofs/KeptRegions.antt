@@ -13,9 +13,9 @@ use Rattle.nvme_log.specs.declared.event.Event.{Event}
 use Rattle.nvme_state.specs.declared.region.SqRegion.{SqRegion}
 use Rattle.nvme_state.specs.declared.region.CqRegion.{CqRegion}
 use Rattle.nvme_front.specs.declared.state.FrontState.{FrontState}
-use Rattle.nvme_state.specs.Jobs.{JobsView}
-use Rattle.nvme_state.specs.Kept.{Kept}
-use Rattle.nvme_front.specs.State.{sq_kept, cq_kept, kept_of, rules_of, past_of}
+use Rattle.nvme_state.specs.inside.Jobs.{JobsView}
+use Rattle.nvme_state.specs.inside.Kept.{Kept}
+use Rattle.nvme_front.specs.inside.State.{sq_kept, cq_kept, kept_of, rules_of, past_of}
 use Rattle.nvme_admin.specs.QueueTable.{QueueTable}
 use Rattle.nvme_admin.specs.Accepted.{effects_of, queue_table}
 use Rattle.nvme_admin.specs.declared.region.Region.{Region}
@@ -23,8 +23,8 @@ use Rattle.nvme_front.specs.declared.front.FrontConfig.{FrontConfig}
 use Rattle.nvme_log.specs.Limits.{max_outstanding, max_ready}
 use Rattle.nvme_log.specs.Rules.{FrontRules, Past}
 use Rattle.nvme_state.proofs.RegionSteps.{first_table, table_of-additions}
-use Rattle.nvme_front.specs.Room.{sq_region, cq_region, window_room, ready_room, IsRoomy, IsKept}
-use Rattle.nvme_state.specs.Standing.{Stands, IsFresh, IsFreshSq, IsFreshCq, AreFreshJobs}
+use Rattle.nvme_front.specs.inside.Room.{sq_region, cq_region, window_room, ready_room, IsRoomy, IsKept}
+use Rattle.nvme_state.specs.inside.Standing.{Stands, IsFresh, IsFreshSq, IsFreshCq, AreFreshJobs}
 use Rattle.nvme_front.proofs.Starting.{stands_when_first}
 use Rattle.nvme_front.proofs.Newly.{fresh_at_new}
 use Rattle.nvme_front.proofs.RegionLists.{rules_with, kept_with}

@@ -16,10 +16,11 @@ use Rattle.nvme_log.specs.Rules.{Past}
 use Rattle.nvme_state.specs.declared.candidate.PendingDelete.{PendingDelete}
 use Rattle.nvme_state.specs.declared.region.SqRegion.{SqRegion}
 use Rattle.nvme_state.specs.declared.region.CqRegion.{CqRegion}
-use Rattle.nvme_state.specs.Jobs.{JobsView}
-use Rattle.nvme_state.specs.Kept.{SqKept, CqKept, no_sq, no_cq, sq_steps, cq_steps}
-use Rattle.nvme_front.specs.State.{sq_kept, cq_kept, sq_in, cq_in, gets_of, puts_of}
-use Rattle.nvme_state.specs.Standing.{Stands, IsFreshSq, IsFreshCq}
+use Rattle.nvme_state.specs.inside.Jobs.{JobsView}
+use Rattle.nvme_state.specs.inside.Kept.{SqKept, CqKept, no_sq, no_cq}
+use Rattle.nvme_state.specs.Regions.{sq_steps, cq_steps}
+use Rattle.nvme_front.specs.inside.State.{sq_kept, cq_kept, sq_in, cq_in, gets_of, puts_of}
+use Rattle.nvme_state.specs.inside.Standing.{Stands, IsFreshSq, IsFreshCq}
 use Rattle.nvme_front.proofs.Starting.{admin_sq-some, admin_cq-some}
 use Rattle.nvme_front.proofs.RegionLists.{rules_with, kept_with, slots_of_sq, slots_of_cq, number_of_sq, number_of_cq, sq_in-before, sq_in-last, sq_in-past, cq_in-before, cq_in-last, cq_in-past}
 use Rattle.nvme_state.proofs.Growing.{Grows, stands_when_grown}

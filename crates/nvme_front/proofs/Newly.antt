@@ -16,10 +16,11 @@ use Rattle.nvme_state.specs.declared.region.CqRegion.{CqRegion}
 use Rattle.nvme_front.specs.declared.state.FrontState.{FrontState}
 use Rattle.nvme_log.specs.Rules.{FrontRules, sq_regions_of, cq_regions_of, slots_at}
 use Rattle.nvme_pool.specs.Seat.{SeatView}
-use Rattle.nvme_state.specs.Jobs.{JobsView}
-use Rattle.nvme_state.specs.Kept.{SqKept, CqKept, no_sq, no_cq, sq_steps, cq_steps, Kept}
-use Rattle.nvme_front.specs.State.{sq_in, cq_in, gets_of, puts_of, kept_of, rules_of}
-use Rattle.nvme_state.specs.Standing.{IsFresh, IsFreshCq, AreFreshJobs, first_on_board}
+use Rattle.nvme_state.specs.inside.Jobs.{JobsView}
+use Rattle.nvme_state.specs.inside.Kept.{SqKept, CqKept, no_sq, no_cq, Kept}
+use Rattle.nvme_state.specs.Regions.{sq_steps, cq_steps}
+use Rattle.nvme_front.specs.inside.State.{sq_in, cq_in, gets_of, puts_of, kept_of, rules_of}
+use Rattle.nvme_state.specs.inside.Standing.{IsFresh, IsFreshCq, AreFreshJobs, first_on_board}
 use Rattle.nvme_state.proofs.RegionSteps.{first_table, table_of-additions}
 
 -- no queue is on a board of empty places

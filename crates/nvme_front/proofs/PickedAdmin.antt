@@ -33,14 +33,16 @@ use Rattle.nvme_front.specs.declared.state.FrontState.{FrontState}
 use Rattle.nvme_log.specs.Limits.{max_outstanding, admin_events}
 use Rattle.nvme_log.specs.Rules.{FrontRules}
 use Rattle.nvme_log.specs.Queues.{Queue, admin_queue, open_sq}
-use Rattle.nvme_state.specs.Jobs.{JobsView, gained_count}
-use Rattle.nvme_state.specs.Kept.{SqKept, put_sq}
-use Rattle.nvme_front.specs.State.{sq_in, cq_in, kept_of, rules_of, past_of, gets_of, puts_of}
-use Rattle.nvme_front.specs.Goes.{coming_at, Goes, HasAdmin, get_place, put_place}
-use Rattle.nvme_state.specs.Standing.{Stands}
-use Rattle.nvme_front.specs.Room.{IsKept, IsRoomy, window_room, ready_room}
-use Rattle.nvme_front.specs.Applied.{IsApplied}
-use Rattle.nvme_state.specs.Steps.{CanPick, picked_sq}
+use Rattle.nvme_state.specs.inside.Jobs.{JobsView}
+use Rattle.nvme_state.specs.Hands.{gained_count}
+use Rattle.nvme_state.specs.inside.Kept.{SqKept, put_sq}
+use Rattle.nvme_front.specs.inside.State.{sq_in, cq_in, kept_of, rules_of, past_of, gets_of, puts_of}
+use Rattle.nvme_front.specs.inside.Goes.{coming_at, Goes, HasAdmin}
+use Rattle.nvme_front.specs.Ends.{get_place, put_place}
+use Rattle.nvme_state.specs.inside.Standing.{Stands}
+use Rattle.nvme_front.specs.inside.Room.{IsKept, IsRoomy, window_room, ready_room}
+use Rattle.nvme_front.specs.inside.Applied.{IsApplied}
+use Rattle.nvme_state.specs.inside.Steps.{CanPick, picked_sq}
 use Rattle.nvme_state.proofs.AccountSteps.{admin_is_open}
 use Rattle.nvme_state.proofs.Observing.{seen_is_observed}
 use Rattle.nvme_state.proofs.TableSteps.{entry-sq_regions, entry-cq_regions}

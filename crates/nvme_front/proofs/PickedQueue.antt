@@ -23,13 +23,15 @@ use Rattle.nvme_log.specs.Limits.{max_outstanding}
 use Rattle.nvme_log.specs.Rules.{FrontRules, Past}
 use Rattle.nvme_log.specs.Queues.{Queue}
 use Rattle.nvme_log.specs.Histories.{arbitration_of}
-use Rattle.nvme_state.specs.Jobs.{JobsView, with_picked, gained_count}
-use Rattle.nvme_state.specs.Kept.{SqKept, put_sq, Kept}
-use Rattle.nvme_front.specs.State.{sq_in, cq_in, kept_of, rules_of, past_of, gets_of, puts_of}
-use Rattle.nvme_front.specs.Goes.{coming_at, Goes, HasAdmin, get_place, put_place}
-use Rattle.nvme_state.specs.Standing.{Stands}
-use Rattle.nvme_front.specs.Room.{IsKept, IsRoomy, window_room, ready_room}
-use Rattle.nvme_state.specs.Steps.{CanPick, picked_sq}
+use Rattle.nvme_state.specs.inside.Jobs.{JobsView, with_picked}
+use Rattle.nvme_state.specs.Hands.{gained_count}
+use Rattle.nvme_state.specs.inside.Kept.{SqKept, put_sq, Kept}
+use Rattle.nvme_front.specs.inside.State.{sq_in, cq_in, kept_of, rules_of, past_of, gets_of, puts_of}
+use Rattle.nvme_front.specs.inside.Goes.{coming_at, Goes, HasAdmin}
+use Rattle.nvme_front.specs.Ends.{get_place, put_place}
+use Rattle.nvme_state.specs.inside.Standing.{Stands}
+use Rattle.nvme_front.specs.inside.Room.{IsKept, IsRoomy, window_room, ready_room}
+use Rattle.nvme_state.specs.inside.Steps.{CanPick, picked_sq}
 use Rattle.nvme_state.proofs.AfterSteps.{after_io}
 use Rattle.nvme_state.proofs.Observing.{seen_is_observed}
 use Rattle.nvme_state.proofs.Standing.{stands-io}

@@ -22,16 +22,17 @@ use Rattle.nvme_front.specs.declared.state.FrontState.{FrontState}
 use Rattle.nvme_log.specs.Limits.{max_outstanding, most_events}
 use Rattle.nvme_log.specs.Rules.{FrontRules, Past}
 use Rattle.nvme_log.specs.Queues.{Queue}
-use Rattle.nvme_state.specs.Jobs.{in_hand, dispatched_place}
+use Rattle.nvme_state.specs.Hands.{in_hand}
+use Rattle.nvme_state.specs.inside.Jobs.{dispatched_place}
 use Rattle.nvme_log.specs.Places.{observation_of}
 use Rattle.nvme_log.specs.Histories.{arbitration_of}
-use Rattle.nvme_state.specs.Kept.{SqKept, Kept}
-use Rattle.nvme_front.specs.State.{sq_kept, sq_in, kept_of, past_of}
+use Rattle.nvme_state.specs.inside.Kept.{SqKept, Kept}
+use Rattle.nvme_front.specs.inside.State.{sq_kept, sq_in, kept_of, past_of}
 use Rattle.nvme_log.specs.Laws.{as_open}
-use Rattle.nvme_front.specs.Goes.{HasAdmin, next_pick}
+use Rattle.nvme_front.specs.inside.Goes.{HasAdmin, next_pick}
 use Rattle.nvme_log.specs.Histories.{picks_in}
-use Rattle.nvme_state.specs.Standing.{HoldsReady, Stands, held_by, hand_of}
-use Rattle.nvme_front.specs.Room.{IsKept}
+use Rattle.nvme_state.specs.inside.Standing.{HoldsReady, Stands, held_by, hand_of}
+use Rattle.nvme_front.specs.inside.Room.{IsKept}
 use Rattle.nvme_state.proofs.Observing.{seen_is_observed, IsPickable, pickable}
 use Rattle.nvme_state.proofs.AppliedRoom.{few_unposted}
 use Rattle.nvme_log.proofs.PickCounts.{picks_in-append}

@@ -19,13 +19,14 @@ use Rattle.nvme_log.specs.Rules.{FrontRules, Past, upto}
 use Rattle.nvme_log.specs.Places.{Place, fetched, fate_of, is_waiting}
 use Rattle.nvme_log.specs.Completions.{is_posted, posted_to}
 use Rattle.nvme_log.specs.Laws.{count_of}
-use Rattle.nvme_state.specs.Kept.{Kept, SqKept, CqKept, no_cq, put_sq, put_cq}
-use Rattle.nvme_front.specs.State.{sq_in, cq_in, cq_kept, gets_of, puts_of, kept_of, rules_of, past_of}
-use Rattle.nvme_state.specs.Standing.{Stands, IsReady, HoldsPosts, hand_of}
-use Rattle.nvme_front.specs.Room.{IsKept, window_room, ready_room}
+use Rattle.nvme_state.specs.inside.Kept.{Kept, SqKept, CqKept, no_cq, put_sq, put_cq}
+use Rattle.nvme_front.specs.inside.State.{sq_in, cq_in, cq_kept, gets_of, puts_of, kept_of, rules_of, past_of}
+use Rattle.nvme_state.specs.inside.Standing.{Stands, IsReady, HoldsPosts, hand_of}
+use Rattle.nvme_front.specs.inside.Room.{IsKept, window_room, ready_room}
 use Rattle.nvme_log.specs.Places.{one_if}
 use Rattle.nvme_log.specs.Completions.{unposted_of}
-use Rattle.nvme_front.specs.Goes.{coming_at, Goes, IsSame, IsDrained, HasAdmin, IsCompletionOf, get_place, put_place}
+use Rattle.nvme_front.specs.inside.Goes.{coming_at, Goes, IsSame, IsDrained, HasAdmin, IsCompletionOf}
+use Rattle.nvme_front.specs.Ends.{get_place, put_place}
 use Rattle.nvme_state.proofs.AfterSteps.{CanPost, posted_cq, after_post, post_event}
 use Rattle.nvme_log.proofs.Counting.{count_of-push}
 use Rattle.nvme_state.proofs.PostedPlaces.{over_regions_at}

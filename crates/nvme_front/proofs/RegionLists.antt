@@ -16,9 +16,10 @@ use Rattle.nvme_state.specs.declared.candidate.PendingDelete.{PendingDelete}
 use Rattle.nvme_state.specs.declared.region.SqRegion.{SqRegion}
 use Rattle.nvme_state.specs.declared.region.CqRegion.{CqRegion}
 use Rattle.nvme_front.specs.declared.state.FrontState.{FrontState}
-use Rattle.nvme_state.specs.Jobs.{JobsView}
-use Rattle.nvme_state.specs.Kept.{no_sq, no_cq, Kept, sq_steps, cq_steps}
-use Rattle.nvme_front.specs.State.{sq_kept, cq_kept, sq_in, cq_in, kept_of, gets_of, puts_of, rules_of}
+use Rattle.nvme_state.specs.inside.Jobs.{JobsView}
+use Rattle.nvme_state.specs.inside.Kept.{no_sq, no_cq, Kept}
+use Rattle.nvme_state.specs.Regions.{sq_steps, cq_steps}
+use Rattle.nvme_front.specs.inside.State.{sq_kept, cq_kept, sq_in, cq_in, kept_of, gets_of, puts_of, rules_of}
 use Rattle.nvme_state.proofs.RegionSteps.{region_of_get, region_of_put, first_table, table_of-additions, AddsRegions, adds_regions, sq-adds_more, cq-adds_more, table_of-regions}
 
 -- what a front with these regions is given

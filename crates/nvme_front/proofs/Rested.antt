@@ -24,13 +24,15 @@ use Rattle.nvme_log.specs.Completions.{posted_to}
 use Rattle.nvme_log.specs.Account.{IsAccount}
 use Rattle.nvme_state.specs.JobAccount.{AccountsForJobs}
 use Rattle.nvme_log.specs.Dispatches.{ExecutesOnce}
-use Rattle.nvme_state.specs.Jobs.{Hands, IsClosed, in_hand}
-use Rattle.nvme_front.specs.Goes.{get_place, put_place}
+use Rattle.nvme_state.specs.Hands.{Hands, in_hand}
+use Rattle.nvme_state.specs.inside.Jobs.{IsClosed}
+use Rattle.nvme_front.specs.Ends.{get_place, put_place}
 use Rattle.nvme_front.specs.View.{FrontView, AccountsForEnds, past_in, got_in, known_in, sent_in}
 use Rattle.nvme_log.specs.Account.{IsClear}
 use Rattle.nvme_log.specs.Queues.{is_serving, is_deleted_region}
 use Rattle.nvme_front.specs.Hosts.{ArePaired, AreHosts, IsAtRest, drainer_place, told, told_by, submitted_at, sent_at, taken_at, collected_at}
-use Rattle.nvme_front.specs.Resting.{IsSameFront, Rests, TakesOf, Takes, Collects}
+use Rattle.nvme_front.specs.Unsettled.{IsSameFront, TakesOf, Takes}
+use Rattle.nvme_front.specs.inside.Resting.{Rests, Collects}
 use Rattle.nvme_front.specs.Settles.{settled_past, IsSettled, IsSettledAccount, CollectsMore, HandsBack}
 use Rattle.nvme_front.proofs.Executions.{KeepsNone, executes_once}
 use Rattle.nvme_front.proofs.Hosted.{seen_length, paired_places, IsSameFront-trans}

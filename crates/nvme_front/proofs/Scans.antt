@@ -9,12 +9,12 @@ use Rattle.nvme_admin.specs.declared.verdict.SqEntry.{SqEntry}
 use Rattle.nvme_state.specs.declared.region.SqRegion.{SqRegion}
 use Rattle.nvme_front.specs.declared.state.FrontState.{FrontState}
 use Rattle.nvme_state.specs.declared.attachment.Attachment.{Attachment}
-use Rattle.nvme_state.specs.Kept.{SqKept, no_sq}
-use Rattle.nvme_front.specs.State.{sq_in, sq_kept}
-use Rattle.nvme_front.specs.Room.{IsKept}
+use Rattle.nvme_state.specs.inside.Kept.{SqKept, no_sq}
+use Rattle.nvme_front.specs.inside.State.{sq_in, sq_kept}
+use Rattle.nvme_front.specs.inside.Room.{IsKept}
 use Rattle.nvme_front.proofs.States.{sq_in-read, look-set, IsSame-sym}
 use Rattle.nvme_front.proofs.Fetches.{queue_of, open_is, region_there}
-use Rattle.nvme_front.specs.Goes.{Goes, HasAdmin, IsSame, IsTaken, IsScanned, IsFullSq}
+use Rattle.nvme_front.specs.inside.Goes.{Goes, HasAdmin, IsSame, IsTaken, IsScanned, IsFullSq}
 
 -- a log that goes on is as long at least
 pub goes_longer : (a b : FrontState) → Goes a b → length a.log.items ≤ length b.log.items

@@ -5,10 +5,10 @@ use Rattle.nvme_admin.specs.declared.verdict.SqEntry.{SqEntry}
 use Rattle.nvme_state.specs.declared.attachment.Attachment.{Attachment}
 use Rattle.nvme_state.specs.declared.region.SqRegion.{SqRegion}
 use Rattle.nvme_front.specs.declared.state.FrontState.{FrontState}
-use Rattle.nvme_state.specs.Standing.{is_on}
-use Rattle.nvme_state.specs.Kept.{SqKept}
-use Rattle.nvme_front.specs.State.{past_of}
-use Rattle.nvme_front.specs.Room.{IsKept}
+use Rattle.nvme_state.specs.inside.Standing.{is_on}
+use Rattle.nvme_state.specs.inside.Kept.{SqKept}
+use Rattle.nvme_front.specs.inside.State.{past_of}
+use Rattle.nvme_front.specs.inside.Room.{IsKept}
 use Rattle.nvme_log.specs.Queues.{is_serving}
 use Rattle.nvme_front.proofs.States.{sq_in-read}
 use Rattle.nvme_front.proofs.KeptAnswers.{serving_is-kept, serving_is_none-kept}

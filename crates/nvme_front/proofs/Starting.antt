@@ -19,10 +19,10 @@ use Rattle.nvme_log.specs.Rules.{FrontRules, upto, sq_regions_of}
 use Rattle.nvme_log.specs.Queues.{Queue, admin_queue}
 use Rattle.nvme_log.specs.Places.{Place, entry_at, fate_of, is_waiting}
 use Rattle.nvme_log.specs.Laws.{as_open}
-use Rattle.nvme_state.specs.Jobs.{dispatched_place}
-use Rattle.nvme_state.specs.Kept.{SqKept, Kept}
-use Rattle.nvme_front.specs.State.{kept_of, rules_of, gets_of, puts_of}
-use Rattle.nvme_state.specs.Standing.{HoldsSq, HoldsReady, HoldsCounts, HoldsPosts, HoldsQueues, HoldsDeletion, HoldsTable, Accounts, HasOwnStatus, IsReady, Stands, on_board, as_deletion, held_by, hand_of, times_in, times_held, times_ready, IsFresh, IsFreshSq}
+use Rattle.nvme_state.specs.inside.Jobs.{dispatched_place}
+use Rattle.nvme_state.specs.inside.Kept.{SqKept, Kept}
+use Rattle.nvme_front.specs.inside.State.{kept_of, rules_of, gets_of, puts_of}
+use Rattle.nvme_state.specs.inside.Standing.{HoldsSq, HoldsReady, HoldsCounts, HoldsPosts, HoldsQueues, HoldsDeletion, HoldsTable, Accounts, HasOwnStatus, IsReady, Stands, on_board, as_deletion, held_by, hand_of, times_in, times_held, times_ready, IsFresh, IsFreshSq}
 use Rattle.nvme_log.specs.Places.{one_if}
 use Rattle.nvme_state.proofs.JobSteps.{jobs-when-fresh}
 use Rattle.nvme_state.proofs.Clearing.{sum_by-none, over_regions-none}

@@ -18,12 +18,15 @@ use Rattle.nvme_front.specs.declared.state.FrontState.{FrontState}
 use Rattle.nvme_log.specs.Limits.{max_ready}
 use Rattle.nvme_log.specs.Rules.{FrontRules}
 use Rattle.nvme_pool.specs.Seat.{SeatView, SameSeat, rings_at}
-use Rattle.nvme_state.specs.Jobs.{JobsView, gained_count}
-use Rattle.nvme_state.specs.Kept.{no_sq, no_cq, put_sq, put_cq, sq_steps, cq_steps}
-use Rattle.nvme_front.specs.State.{sq_kept, cq_kept, sq_in, cq_in, gets_of, puts_of, kept_of, rules_of, past_of}
-use Rattle.nvme_state.specs.Standing.{Stands}
-use Rattle.nvme_front.specs.Room.{IsKept, IsRoomy, window_room, ready_room, sq_region, cq_region}
-use Rattle.nvme_front.specs.Goes.{Goes, IsSame, HasAdmin, get_place, put_place, coming_at, coming_in}
+use Rattle.nvme_state.specs.inside.Jobs.{JobsView}
+use Rattle.nvme_state.specs.Hands.{gained_count}
+use Rattle.nvme_state.specs.inside.Kept.{no_sq, no_cq, put_sq, put_cq}
+use Rattle.nvme_state.specs.Regions.{sq_steps, cq_steps}
+use Rattle.nvme_front.specs.inside.State.{sq_kept, cq_kept, sq_in, cq_in, gets_of, puts_of, kept_of, rules_of, past_of}
+use Rattle.nvme_state.specs.inside.Standing.{Stands}
+use Rattle.nvme_front.specs.inside.Room.{IsKept, IsRoomy, window_room, ready_room, sq_region, cq_region}
+use Rattle.nvme_front.specs.inside.Goes.{Goes, IsSame, HasAdmin, coming_at, coming_in}
+use Rattle.nvme_front.specs.Ends.{get_place, put_place}
 use Rattle.nvme_front.proofs.Comes.{comes-same}
 use Rattle.nvme_state.proofs.AfterSteps.{with_events}
 

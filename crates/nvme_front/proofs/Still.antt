@@ -21,15 +21,17 @@ use Rattle.nvme_state.specs.declared.region.CqRegion.{CqRegion}
 use Rattle.nvme_front.specs.declared.state.FrontState.{FrontState}
 use Rattle.nvme_log.specs.Limits.{max_outstanding, admin_events}
 use Rattle.nvme_pool.specs.declared.jobs.Finished.{Finished}
-use Rattle.nvme_state.specs.Jobs.{Hands, JobsView, gained_count}
+use Rattle.nvme_state.specs.Hands.{Hands, gained_count}
+use Rattle.nvme_state.specs.inside.Jobs.{JobsView}
 use Rattle.nvme_state.specs.Balance.{Balances}
 use Rattle.nvme_state.proofs.Balances.{balances-same, balances-still, balances-trans}
-use Rattle.nvme_front.specs.State.{sq_in, cq_in}
-use Rattle.nvme_front.specs.Room.{IsKept}
-use Rattle.nvme_front.specs.Goes.{Goes, IsSame, HasAdmin, AllDrained, AllScanned, IsTaken, IsFullSq, next_pick}
+use Rattle.nvme_front.specs.inside.State.{sq_in, cq_in}
+use Rattle.nvme_front.specs.inside.Room.{IsKept}
+use Rattle.nvme_front.specs.inside.Goes.{Goes, IsSame, HasAdmin, AllDrained, AllScanned, IsTaken, IsFullSq, next_pick}
 use Rattle.nvme_log.specs.Histories.{picks_in}
-use Rattle.nvme_front.specs.View.{view_of, HasMoved, IsStill, GainedStray, IsIdleFront, IsStalledFront, StepMeans, ErrorMeans}
-use Rattle.nvme_front.specs.Turn.{Balanced, LacksAdminEvents, IsQuiet, HasDone, IsWaiting, NeedsPlaces, Proceeds, told_after}
+use Rattle.nvme_front.specs.inside.State.{view_of}
+use Rattle.nvme_front.specs.View.{HasMoved, IsStill, GainedStray, IsIdleFront, IsStalledFront, StepMeans, ErrorMeans}
+use Rattle.nvme_front.specs.inside.Turn.{Balanced, LacksAdminEvents, IsQuiet, HasDone, IsWaiting, NeedsPlaces, Proceeds, told_after}
 use Rattle.nvme_front.proofs.States.{Goes-same, IsSame-trans, admin-goes}
 use Rattle.nvme_front.proofs.Turns.{idle_front, deleting_front, stalled_front, admin_log_full}
 

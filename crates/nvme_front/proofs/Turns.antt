@@ -26,12 +26,13 @@ use Rattle.nvme_log.specs.Queues.{Queue, Deletion, open_sq, pending}
 use Rattle.nvme_log.specs.Places.{waiting}
 use Rattle.nvme_log.specs.Histories.{arbitration_of}
 use Rattle.nvme_log.specs.Laws.{as_open}
-use Rattle.nvme_state.specs.Kept.{CqKept}
-use Rattle.nvme_front.specs.State.{kept_of, rules_of, past_of, sq_in}
-use Rattle.nvme_state.specs.Standing.{Stands, on_board, as_deletion}
-use Rattle.nvme_front.specs.Room.{IsKept}
-use Rattle.nvme_front.specs.Goes.{HasAdmin, IsDrained, IsScanned, IsTaken, IsFullSq, next_pick}
-use Rattle.nvme_front.specs.View.{view_of, known_in, NoneCanBePosted, WaitsForNothing, IsIdleFront, IsStalledFront, IsFullLog, next_lawful}
+use Rattle.nvme_state.specs.inside.Kept.{CqKept}
+use Rattle.nvme_front.specs.inside.State.{kept_of, rules_of, past_of, sq_in}
+use Rattle.nvme_state.specs.inside.Standing.{Stands, on_board, as_deletion}
+use Rattle.nvme_front.specs.inside.Room.{IsKept}
+use Rattle.nvme_front.specs.inside.Goes.{HasAdmin, IsDrained, IsScanned, IsTaken, IsFullSq, next_pick}
+use Rattle.nvme_front.specs.inside.State.{view_of}
+use Rattle.nvme_front.specs.View.{known_in, NoneCanBePosted, WaitsForNothing, IsIdleFront, IsStalledFront, IsFullLog, next_lawful}
 use Rattle.nvme_state.proofs.Answering.{ready_waits_there, unposted_place}
 use Rattle.nvme_state.proofs.Observing.{seen_is_observed}
 use Rattle.nvme_front.proofs.RegionLists.{cq_in-past}

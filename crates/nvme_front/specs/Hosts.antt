@@ -10,7 +10,7 @@ use Rattle.nvme_lane.specs.declared.feeder.Feeder.{Feeder}
 use Rattle.nvme_lane.specs.declared.drainer.Drainer.{Drainer}
 use Rattle.nvme_front.specs.declared.settled.Sent.{Sent}
 use Rattle.nvme_log.specs.Queues.{is_open_region}
-use Rattle.nvme_front.specs.Goes.{get_place, put_place}
+use Rattle.nvme_front.specs.Ends.{get_place, put_place}
 use Rattle.nvme_front.specs.View.{FrontView, past_in, got_in}
 use Rattle.nvme_log.specs.Account.{IsClear}
 

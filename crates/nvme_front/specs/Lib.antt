@@ -1,11 +1,6 @@
-pub mod Goes
-pub mod View
-pub mod Clear
-pub mod Applied
+pub mod Ends
 pub mod Hosts
-pub mod Looks
-pub mod Resting
 pub mod Settles
-pub mod Room
-pub mod State
-pub mod Turn
+pub mod Unsettled
+pub mod View
+pub mod inside

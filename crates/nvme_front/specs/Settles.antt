@@ -17,7 +17,7 @@ use Rattle.nvme_log.specs.Completions.{is_posted, posted_to}
 use Rattle.nvme_log.specs.Account.{IsAccount}
 use Rattle.nvme_front.specs.View.{FrontView}
 use Rattle.nvme_front.specs.Hosts.{IsAtRest, sent_at, taken_at, collected_at}
-use Rattle.nvme_front.specs.Resting.{IsSameFront, AreSameFeeders, Takes}
+use Rattle.nvme_front.specs.Unsettled.{IsSameFront, AreSameFeeders, Takes}
 
 -- the log of what is settled, the newest event first
 abbrev pub settled_past : Settled → Past

@@ -17,7 +17,6 @@ use Rattle.nvme_front.specs.declared.front.Step.{Step}
 use Rattle.nvme_front.specs.declared.front.Step.TheVariants.{Picked, Moved, Idle, Stalled}
 use Rattle.nvme_front.specs.declared.front.FrontError.{FrontError}
 use Rattle.nvme_front.specs.declared.front.FrontError.TheVariants.{NoMemory, LogFull, Stray}
-use Rattle.nvme_front.specs.declared.state.FrontState.{FrontState}
 use Rattle.nvme_log.specs.Limits.{max_outstanding, admin_events}
 use Rattle.nvme_log.specs.Rules.{FrontRules, Past, window_at}
 use Rattle.nvme_log.specs.Queues.{Queue, Deletion, open_sq, pending, cq_region_of}
@@ -25,11 +24,10 @@ use Rattle.nvme_log.specs.Places.{fetched, waiting, observation_of, is_served}
 use Rattle.nvme_log.specs.Histories.{arbitration_of, picks_in}
 use Rattle.nvme_log.specs.Completions.{is_posted, posted_to, outstanding, is_index}
 use Rattle.nvme_log.specs.Account.{IsAccount, deleting_place}
-use Rattle.nvme_state.specs.Jobs.{Hands, IsOfNone, is_in_hand, gained_count}
+use Rattle.nvme_state.specs.Hands.{Hands, IsOfNone, is_in_hand, gained_count}
 use Rattle.nvme_state.specs.Balance.{Balances}
-use Rattle.nvme_front.specs.State.{rules_of, gets_of, puts_of}
-use Rattle.nvme_state.specs.Kept.{sq_steps, cq_steps}
-use Rattle.nvme_front.specs.Goes.{get_place, put_place}
+use Rattle.nvme_state.specs.Regions.{sq_steps, cq_steps}
+use Rattle.nvme_front.specs.Ends.{get_place, put_place}
 
 pub record FrontView : Type 0 where
   -- what the front was given: mechanism, limits, first settings, namespaces and regions
@@ -45,17 +43,6 @@ pub record FrontView : Type 0 where
   pub puts : List (PutView Cqe)
   -- its seat at the workers, and the picked I/O commands that have no result yet
   pub hands : Hands
-
-abbrev pub view_of : FrontState → FrontView
-view_of s = record {
-  rules = rules_of s;
-  limit = s.config.max_events;
-  late = s.late;
-  log = s.log.items;
-  gets = gets_of s.sqs.items;
-  puts = puts_of s.cqs.items;
-  hands = s.jobs.hands;
-}
 
 -- its log, the newest event first
 abbrev pub past_in : FrontView → Past

@@ -19,9 +19,10 @@ const ADMIN: Attachment = Attachment {
 impl FrontState {
     ghost use Rattle.std.specs.Prelude.{◌≡◌, ◌≢◌, ◌+◌, ◌<◌, [], ◌∷◌, ◌++◌, ◌||◌, Bool, true, false, length, IfOk, OnOk, IfErr, OnErr};
     ghost use Rattle.nvme_admin.specs.declared.bounds.TheConstants.{MAX_REGIONS};
-    ghost use Rattle.nvme_front.specs.Room.{IsKept};
-    ghost use Rattle.nvme_front.specs.State.{gets_of, puts_of};
-    ghost use Rattle.nvme_front.specs.View.{view_of, is_address};
+    ghost use Rattle.nvme_front.specs.inside.Room.{IsKept};
+    ghost use Rattle.nvme_front.specs.inside.State.{gets_of, puts_of};
+    ghost use Rattle.nvme_front.specs.inside.State.{view_of};
+    ghost use Rattle.nvme_front.specs.View.{is_address};
     ghost use Rattle.nvme_front.specs.declared.front.AddError.TheVariants.{Used, TooMany, NoMemory};
 
     /// A front with no region and an empty log.

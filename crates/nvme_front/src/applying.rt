@@ -11,10 +11,10 @@ use nvme_state::{Attachment, Candidate, PendingDelete, Ready};
 impl FrontState {
     ghost use Rattle.std.specs.Prelude.{◌≡◌, ℕ, Option};
     ghost use Rattle.nvme_admin.specs.declared.verdict.Verdict.TheVariants as verdict;
-    ghost use Rattle.nvme_front.specs.Applied.{IsApplied};
-    ghost use Rattle.nvme_front.specs.Room.{IsKept};
-    ghost use Rattle.nvme_front.specs.Goes.{Goes};
-    ghost use Rattle.nvme_front.specs.State.{gets_of};
+    ghost use Rattle.nvme_front.specs.inside.Applied.{IsApplied};
+    ghost use Rattle.nvme_front.specs.inside.Room.{IsKept};
+    ghost use Rattle.nvme_front.specs.inside.Goes.{Goes};
+    ghost use Rattle.nvme_front.specs.inside.State.{gets_of};
     ghost use Rattle.nvme_log.specs.Histories.{picks_in};
 
     // The answer of an admin command is ready.

@@ -11,16 +11,16 @@ use std::sync::Wait;
 impl FrontState {
     ghost use Rattle.std.specs.Prelude.{◌≡◌, ℕ, ◌<◌, length, slice_index_or, IfOk, OnOk, IfErr};
     ghost use Rattle.nvme_pool.specs.Pool.{IsPool};
-    ghost use Rattle.nvme_state.specs.Jobs.{IsClosed};
+    ghost use Rattle.nvme_state.specs.inside.Jobs.{IsClosed};
     ghost use Rattle.nvme_lane.specs.View.{GetView, PutView, IsPair};
     ghost use Rattle.nvme_lane.specs.Feeder.{put_of};
     ghost use Rattle.nvme_lane.specs.Drainer.{get_of};
     ghost use Rattle.nvme_entry.specs.declared.submission.Sqe.{Sqe};
     ghost use Rattle.nvme_entry.specs.declared.completion.Cqe.{Cqe};
-    ghost use Rattle.nvme_front.specs.Room.{IsKept};
-    ghost use Rattle.nvme_front.specs.State.{gets_of, puts_of};
-    ghost use Rattle.nvme_front.specs.View.{view_of};
-    ghost use Rattle.nvme_front.specs.Looks.{LooksAtSq, LooksAtCq};
+    ghost use Rattle.nvme_front.specs.inside.Room.{IsKept};
+    ghost use Rattle.nvme_front.specs.inside.State.{gets_of, puts_of};
+    ghost use Rattle.nvme_front.specs.inside.State.{view_of};
+    ghost use Rattle.nvme_front.specs.inside.Looks.{LooksAtSq, LooksAtCq};
 
     /// The number of commands that rest in a submission ring, by a look at both of its ends.
     pub fn beside_sq(&mut self, r: u8, feeder: &mut Feeder<Sqe>) -> u16
@@ -97,7 +97,8 @@ impl Front {
     ghost use Rattle.std.specs.Prelude.{◌≡◌, ℕ, ◌<◌, ◌≤◌, false, [], length, slice_index_or, IfOk, OnOk, IfErr};
     ghost use Rattle.nvme_pool.specs.Pool.{IsPool};
     ghost use Rattle.nvme_state.specs.JobAccount.{AccountsForJobs};
-    ghost use Rattle.nvme_state.specs.Jobs.{IsClosed, in_hand};
+    ghost use Rattle.nvme_state.specs.inside.Jobs.{IsClosed};
+    ghost use Rattle.nvme_state.specs.Hands.{in_hand};
     ghost use Rattle.nvme_admin.specs.declared.bounds.TheConstants.{MAX_REGIONS};
     ghost use Rattle.nvme_lane.specs.View.{GetView, PutView, IsPair};
     ghost use Rattle.nvme_lane.specs.Feeder.{put_of};
@@ -108,7 +109,7 @@ impl Front {
     ghost use Rattle.nvme_log.specs.Completions.{posted_to};
     ghost use Rattle.nvme_front.specs.View.{AccountsForEnds, past_in, got_in, sent_in};
     ghost use Rattle.nvme_log.specs.Account.{IsClear};
-    ghost use Rattle.nvme_front.specs.Looks.{LooksAtSq, LooksAtCq};
+    ghost use Rattle.nvme_front.specs.inside.Looks.{LooksAtSq, LooksAtCq};
 
     /// The number of submission regions.
     pub(crate) fn sq_count(&self) -> u8

@@ -1,7 +1,7 @@
 // What becomes of the candidates of an I/O queue: they are picked, or aborted.
 ghost use Rattle.std.specs.Prelude.{◌≡◌, ◌+◌, ◌^◌, ◌<◌, ◌≤◌, [], ◌++◌, map, length, take, drop, vec_capacity};
-ghost use Rattle.nvme_state.specs.Steps.{aborted};
-ghost use Rattle.nvme_state.specs.Jobs.{with_picked};
+ghost use Rattle.nvme_state.specs.inside.Steps.{aborted};
+ghost use Rattle.nvme_state.specs.inside.Jobs.{with_picked};
 ghost use Rattle.nvme_log.specs.declared.event.Event.TheVariants.{Abort};
 ghost use Rattle.nvme_state.specs.declared.candidate.Candidate.{Candidate};
 

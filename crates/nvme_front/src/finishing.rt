@@ -8,9 +8,9 @@ use nvme_state::{PendingDelete, Ready};
 
 impl FrontState {
     ghost use Rattle.std.specs.Prelude.{◌≡◌, ◌≢◌, ℕ, ◌+◌, ◌<◌, length, Option, Some, None, true, false, ◌⊎◌, IfErr};
-    ghost use Rattle.nvme_front.specs.State.{sq_in};
-    ghost use Rattle.nvme_front.specs.Room.{IsKept};
-    ghost use Rattle.nvme_front.specs.Goes.{Goes, IsSame, HasAdmin};
+    ghost use Rattle.nvme_front.specs.inside.State.{sq_in};
+    ghost use Rattle.nvme_front.specs.inside.Room.{IsKept};
+    ghost use Rattle.nvme_front.specs.inside.Goes.{Goes, IsSame, HasAdmin};
     ghost use Rattle.nvme_log.specs.Histories.{picks_in};
     ghost use Rattle.nvme_front.specs.declared.front.FrontError.TheVariants.{NoMemory, LogFull};
 

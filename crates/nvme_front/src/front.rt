@@ -11,6 +11,7 @@ use nvme_pool::{FrontSeat, Lanes};
 use std::alloc::Global;
 use std::marker::Model;
 use std::sync::Wait;
+use thiserror::Error;
 
 /// What a front is made with.
 #[derive(Clone, Copy, Debug, PartialEq, Eq)]
@@ -42,24 +43,30 @@ pub enum Step {
 }
 
 /// Why a region was not added to a front. The end that was handed in comes back.
-#[derive(Clone, Copy, Debug, PartialEq, Eq)]
+#[derive(Clone, Copy, Debug, PartialEq, Eq, Error)]
 pub enum AddError {
     /// The address is that of a region of either kind.
+    #[error("address already used")]
     Used,
     /// All regions of this kind are there.
+    #[error("too many regions")]
     TooMany,
     /// Memory was refused.
+    #[error("out of memory")]
     NoMemory,
 }
 
 /// Why a turn stopped. What it did before stands, and a later turn goes on from there.
-#[derive(Clone, Copy, Debug, PartialEq, Eq)]
+#[derive(Clone, Copy, Debug, PartialEq, Eq, Error)]
 pub enum FrontError {
     /// Memory for the log was refused.
+    #[error("out of memory")]
     NoMemory,
     /// The log has too few free events for the next step.
+    #[error("log full")]
     LogFull,
     /// A result with this ticket is of no job that was handed and has no result. It was dropped.
+    #[error("stray result with ticket {0}")]
     Stray(u32),
 }
 
@@ -73,8 +80,9 @@ pub struct Front {
 }
 
 impl Model for Front {
-    ghost use Rattle.nvme_front.specs.View.{FrontView, view_of};
-    ghost use Rattle.nvme_front.specs.Room.{IsKept};
+    ghost use Rattle.nvme_front.specs.View.{FrontView};
+    ghost use Rattle.nvme_front.specs.inside.State.{view_of};
+    ghost use Rattle.nvme_front.specs.inside.Room.{IsKept};
 
     ghost Value = { FrontView };
 

@@ -9,11 +9,12 @@ impl FrontState {
     ghost use Rattle.std.specs.Prelude.{◌≡◌, ℕ, ◌<◌, true, false, length, OnOk, IfErr};
     ghost use Rattle.std.specs.List.{All};
     ghost use Rattle.nvme_pool.specs.Seat.{IsUnknown};
-    ghost use Rattle.nvme_front.specs.Room.{IsKept};
-    ghost use Rattle.nvme_state.specs.Jobs.{gained_count};
-    ghost use Rattle.nvme_front.specs.Goes.{Goes, IsSame, HasAdmin};
-    ghost use Rattle.nvme_front.specs.Turn.{Balanced};
-    ghost use Rattle.nvme_front.specs.View.{view_of, GainedStray};
+    ghost use Rattle.nvme_front.specs.inside.Room.{IsKept};
+    ghost use Rattle.nvme_state.specs.Hands.{gained_count};
+    ghost use Rattle.nvme_front.specs.inside.Goes.{Goes, IsSame, HasAdmin};
+    ghost use Rattle.nvme_front.specs.inside.Turn.{Balanced};
+    ghost use Rattle.nvme_front.specs.inside.State.{view_of};
+    ghost use Rattle.nvme_front.specs.View.{GainedStray};
     ghost use Rattle.nvme_front.specs.declared.front.FrontError.TheVariants.{Stray};
 
     // Hands the job of the oldest picked command that is not handed.
@@ -74,10 +75,10 @@ impl FrontState {
         ensures balanced { OnOk result (Balanced self.old self.new) }
         ensures stray { IfErr result (λ e. (ticket : ℕ) × (e ≡ Stray ticket) × GainedStray ticket (view_of self.old) (view_of self.new)) }
     {
-        let (dispatched, finished) = match self.jobs.gain(lanes, &self.config.spaces) {
+        let (dispatched, status) = match self.jobs.gain(lanes, &self.config.spaces) {
             Gained::Nothing => return Ok(false),
             Gained::Stray(ticket) => return Err(FrontError::Stray(ticket)),
-            Gained::Result(dispatched, finished) => (dispatched, finished),
+            Gained::Result(dispatched, status) => (dispatched, status),
         };
         let Some(attachment) = self.sqs[usize::from(dispatched.region)].queue else {
             unreachable!()
@@ -89,7 +90,7 @@ impl FrontState {
                 index: dispatched.index,
                 entry: dispatched.entry,
                 aborted: false,
-                status: finished.status(),
+                status,
                 dw0: 0,
             });
         Ok(true)

@@ -26,10 +26,10 @@ fn deleted_region(table: &Table, entry: &Sqe) -> Option<u8>
 impl FrontState {
     ghost use Rattle.std.specs.Prelude.{◌≡◌, ◌≢◌, ◌⊎◌, ◌+◌, ◌<◌, ◌≤◌, length, None, IsSome, OnOk, IfSome, IfErr, OnErr};
     ghost use Rattle.nvme_log.specs.Limits.{max_outstanding, admin_events};
-    ghost use Rattle.nvme_front.specs.Room.{IsKept};
-    ghost use Rattle.nvme_front.specs.Goes.{Goes, IsSame, HasAdmin, next_pick};
-    ghost use Rattle.nvme_front.specs.State.{gets_of};
-    ghost use Rattle.nvme_front.specs.Turn.{IsPickOf, LacksAdminEvents};
+    ghost use Rattle.nvme_front.specs.inside.Room.{IsKept};
+    ghost use Rattle.nvme_front.specs.inside.Goes.{Goes, IsSame, HasAdmin, next_pick};
+    ghost use Rattle.nvme_front.specs.inside.State.{gets_of};
+    ghost use Rattle.nvme_front.specs.inside.Turn.{IsPickOf, LacksAdminEvents};
     ghost use Rattle.nvme_log.specs.Histories.{picks_in};
     ghost use Rattle.nvme_front.specs.declared.front.FrontError.TheVariants.{NoMemory, LogFull};
     ghost use Rattle.nvme_front.specs.declared.front.Step.TheVariants as step;

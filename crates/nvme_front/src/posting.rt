@@ -19,9 +19,9 @@ fn phase_of(posted: u32, slots: u16) -> bool
 
 impl FrontState {
     ghost use Rattle.std.specs.Prelude.{◌≡◌, ◌≢◌, ℕ, ◌+◌, ◌<◌, length, None, IfSome, IfNone, OnOk, true, false, ◌⊎◌, IfErr};
-    ghost use Rattle.nvme_front.specs.State.{sq_in, cq_in};
-    ghost use Rattle.nvme_front.specs.Room.{IsKept};
-    ghost use Rattle.nvme_front.specs.Goes.{Goes, IsSame, HasAdmin, IsDrained, AllDrained, IsCompletionOf};
+    ghost use Rattle.nvme_front.specs.inside.State.{sq_in, cq_in};
+    ghost use Rattle.nvme_front.specs.inside.Room.{IsKept};
+    ghost use Rattle.nvme_front.specs.inside.Goes.{Goes, IsSame, HasAdmin, IsDrained, AllDrained, IsCompletionOf};
     ghost use Rattle.nvme_log.specs.Histories.{picks_in};
     ghost use Rattle.nvme_front.specs.declared.front.FrontError.TheVariants.{NoMemory, LogFull};
 

@@ -1,5 +1,6 @@
 use nvme_entry::{Cqe, Sqe};
 use nvme_log::Event;
+use thiserror::Error;
 
 /// What a host submitted of its script: the first `count` commands.
 #[derive(Debug, Drop)]
@@ -18,12 +19,15 @@ pub struct Settled {
 }
 
 /// Why a front and its hosts were not settled. All parts that were handed in come back.
-#[derive(Clone, Copy, Debug, PartialEq, Eq)]
+#[derive(Clone, Copy, Debug, PartialEq, Eq, Error)]
 pub enum SettleError {
     /// The addresses of the feeders or the drainers are not those of the front's regions, in region order.
+    #[error("hosts of other regions")]
     Strangers,
     /// The front isn't clear, a worker keeps a result, or the ring of an open queue still holds entries.
+    #[error("work is outstanding")]
     Outstanding,
     /// Memory was refused.
+    #[error("out of memory")]
     NoMemory,
 }

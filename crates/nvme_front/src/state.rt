@@ -1,7 +1,7 @@
 ghost use Rattle.std.specs.Prelude.{◌≡◌};
 ghost use Rattle.std.specs.List.{list_all};
-ghost use Rattle.nvme_front.specs.Clear.{no_window, no_ready};
-ghost use Rattle.nvme_front.specs.Turn.{told_after};
+ghost use Rattle.nvme_front.specs.inside.Clear.{no_window, no_ready};
+ghost use Rattle.nvme_front.specs.inside.Turn.{told_after};
 
 use crate::front::{FrontConfig, FrontError, Step};
 use nvme_admin::Table;
@@ -32,13 +32,14 @@ pub struct FrontState {
 
 impl FrontState {
     ghost use Rattle.std.specs.Prelude.{◌≡◌, ◌↔◌, length, None, IfOk, OnOk, IfErr, IsTrue, ◌&&◌, nat_lt};
-    ghost use Rattle.nvme_front.specs.Room.{IsKept};
-    ghost use Rattle.nvme_front.specs.State.{past_of};
-    ghost use Rattle.nvme_front.specs.Goes.{Goes, HasAdmin, AllDrained};
-    ghost use Rattle.nvme_front.specs.View.{view_of, HasNoPickMore, GoesToEnd, StepMeans, ErrorMeans};
+    ghost use Rattle.nvme_front.specs.inside.Room.{IsKept};
+    ghost use Rattle.nvme_front.specs.inside.State.{past_of};
+    ghost use Rattle.nvme_front.specs.inside.Goes.{Goes, HasAdmin, AllDrained};
+    ghost use Rattle.nvme_front.specs.inside.State.{view_of};
+    ghost use Rattle.nvme_front.specs.View.{HasNoPickMore, GoesToEnd, StepMeans, ErrorMeans};
     ghost use Rattle.std.specs.List.{All};
     ghost use Rattle.nvme_pool.specs.Seat.{IsUnknown};
-    ghost use Rattle.nvme_front.specs.Turn.{HasDone, Proceeds, Balanced};
+    ghost use Rattle.nvme_front.specs.inside.Turn.{HasDone, Proceeds, Balanced};
     ghost use Rattle.nvme_log.specs.Account.{IsClear};
     ghost use Rattle.nvme_log.specs.Queues.{is_serving};
 

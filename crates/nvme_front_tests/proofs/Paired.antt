@@ -8,7 +8,7 @@ use Rattle.nvme_lane.specs.View.{GetView, PutView}
 use Rattle.nvme_lane.specs.Feeder.{put_of}
 use Rattle.nvme_lane.specs.declared.feeder.Feeder.{Feeder}
 use Rattle.nvme_lane.specs.declared.drainer.Drainer.{Drainer}
-use Rattle.nvme_front.specs.Goes.{get_place, put_place}
+use Rattle.nvme_front.specs.Ends.{get_place, put_place}
 use Rattle.nvme_front.specs.View.{FrontView}
 use Rattle.nvme_front.specs.Hosts.{ArePaired, IsFedBy, IsDrainedBy, feeder_place, drainer_place}
 use Rattle.nvme_front.specs.Settles.{HandsBack}

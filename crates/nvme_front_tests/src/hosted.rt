@@ -4,7 +4,7 @@ ghost use Rattle.nvme_lane.specs.View.{SamePut, SameGet};
 ghost use Rattle.nvme_lane.specs.Feeder.{put_of};
 ghost use Rattle.nvme_lane.specs.Drainer.{get_of};
 ghost use Rattle.nvme_log.specs.Limits.{most_events};
-ghost use Rattle.nvme_front.specs.Goes.{get_place, put_place};
+ghost use Rattle.nvme_front.specs.Ends.{get_place, put_place};
 ghost use Rattle.nvme_front.specs.Hosts.{IsFedBy, IsDrainedBy, feeder_place, drainer_place};
 
 use crate::again::{add_cq_again, add_sq_again, list_again, reserve_again, ring_again, take_again};

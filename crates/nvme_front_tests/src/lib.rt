@@ -1,12 +1,17 @@
-//! Tests of a front with its hosts and workers: worked examples, refusals, and a long drive.
+//! Tests of a front with its hosts and workers: worked examples, refusals, long drives, hosts that submit any bytes, and
+//! refused memory.
 #![tactic(auto)]
 
 #[cfg(test)]
 mod again;
 #[cfg(test)]
+mod arbitrary;
+#[cfg(test)]
 mod commands;
 #[cfg(test)]
 mod drive;
+#[cfg(test)]
+mod drives;
 #[cfg(test)]
 mod events;
 #[cfg(test)]
@@ -17,6 +22,8 @@ mod hosted;
 mod refusals;
 #[cfg(test)]
 mod rig;
+#[cfg(test)]
+mod starved;
 #[cfg(test)]
 mod threads;
 #[cfg(test)]

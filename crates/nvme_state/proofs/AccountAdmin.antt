@@ -30,9 +30,9 @@ use Rattle.nvme_log.specs.Histories.{table_history, admin_entry}
 use Rattle.nvme_log.specs.Completions.{table_before, own_status, own_dw0}
 use Rattle.nvme_log.specs.Effects.{closing_of, made_by, made_of, made_last, EffectsAtOnce}
 use Rattle.nvme_log.specs.Account.{IndexCounts, ServedWhileOpen, Observed, Deletes, PostsOwn, LeavesPlaces}
-use Rattle.nvme_state.specs.Kept.{SqKept, Kept, with_sq}
-use Rattle.nvme_state.specs.Standing.{HoldsSq, HasOwnStatus, IsOwnDeletion, Stands, hand_of}
-use Rattle.nvme_state.specs.Steps.{verdict_at, applied_to, aborted}
+use Rattle.nvme_state.specs.inside.Kept.{SqKept, Kept, with_sq}
+use Rattle.nvme_state.specs.inside.Standing.{HoldsSq, HasOwnStatus, IsOwnDeletion, Stands, hand_of}
+use Rattle.nvme_state.specs.inside.Steps.{verdict_at, applied_to, aborted}
 use Rattle.nvme_state.proofs.AfterSteps.{with_events, answered, with_opened, deleting_from, after_admin}
 use Rattle.nvme_state.proofs.StepKeeps.{KeepsAdmin, Accounted}
 use Rattle.nvme_state.proofs.OwnStatus.{Stays, all_with_readies, ready_is_answerable, answerable_is_done, waiting_is_unaborted, candidates_wait, oldest_waits, All-unmap, aborts_all, verdict_answers_status, verdict_answers_dw0}

@@ -30,12 +30,13 @@ use Rattle.nvme_log.specs.Queues.{Queue, admin_queue, open_sq, has_region, is_op
 use Rattle.nvme_log.specs.Places.{Place, fetched, waiting, places, fate_of, is_waiting}
 use Rattle.nvme_log.specs.Completions.{is_posted, posted_to, phase_after, is_index, outstanding}
 use Rattle.nvme_log.specs.Laws.{as_open}
-use Rattle.nvme_state.specs.Kept.{SqKept, Kept}
-use Rattle.nvme_state.specs.Standing.{HasOwnStatus, IsOwnDeletion, Stands, held_by, hand_of, as_deletion, times_held, IsReady}
+use Rattle.nvme_state.specs.inside.Kept.{SqKept, Kept}
+use Rattle.nvme_state.specs.inside.Standing.{HasOwnStatus, IsOwnDeletion, Stands, held_by, hand_of, as_deletion, times_held, IsReady}
 use Rattle.nvme_log.specs.Completions.{unposted_of}
 use Rattle.nvme_log.specs.Places.{one_if}
-use Rattle.nvme_state.specs.Jobs.{in_hand, dispatched_place}
-use Rattle.nvme_state.specs.Steps.{CanPick}
+use Rattle.nvme_state.specs.Hands.{in_hand}
+use Rattle.nvme_state.specs.inside.Jobs.{dispatched_place}
+use Rattle.nvme_state.specs.inside.Steps.{CanPick}
 use Rattle.nvme_state.proofs.AfterSteps.{fetch_event, fetched_sq, after_fetch, posted_cq, post_event, closed_event, deleted}
 use Rattle.nvme_state.proofs.StepKeeps.{KeepsFetch, KeepsIo, KeepsPost, KeepsClose, Accounted}
 use Rattle.nvme_state.proofs.OwnStatus.{Stays, own_status-stays, own_dw0-stays, HasOwnStatus-stays, all_with_readies, IsAnswerable, ready_is_answerable, answerable_is_done, answerable_is_unposted, all_chosen}

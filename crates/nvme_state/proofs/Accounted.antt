@@ -6,8 +6,8 @@ use Rattle.nvme_log.specs.Rules.{FrontRules, Past}
 use Rattle.nvme_log.specs.Places.{fetched}
 use Rattle.nvme_log.specs.Completions.{posted_to}
 use Rattle.nvme_log.specs.Account.{IsAccount}
-use Rattle.nvme_state.specs.Kept.{Kept}
-use Rattle.nvme_state.specs.Standing.{Stands}
+use Rattle.nvme_state.specs.inside.Kept.{Kept}
+use Rattle.nvme_state.specs.inside.Standing.{Stands}
 
 -- a list begins with one that it equals
 IsPrefix-same : {T : Type 0} (xs ys : List T) → xs ≡ ys → IsPrefix xs ys

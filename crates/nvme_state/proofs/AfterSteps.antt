@@ -23,11 +23,11 @@ use Rattle.nvme_log.specs.Rules.{FrontRules, Past}
 use Rattle.nvme_log.specs.Queues.{Queue, open_sq, open_cq}
 use Rattle.nvme_log.specs.Completions.{phase_after}
 use Rattle.nvme_log.specs.Effects.{made_by}
-use Rattle.nvme_state.specs.Kept.{SqKept, CqKept, Kept, with_sq, with_cq, with_ready}
+use Rattle.nvme_state.specs.inside.Kept.{SqKept, CqKept, Kept, with_sq, with_cq, with_ready}
 use Rattle.nvme_log.specs.Places.{Place}
 use Rattle.nvme_log.specs.Places.{one_if}
-use Rattle.nvme_state.specs.Steps.{aborted, after_pick}
-use Rattle.nvme_state.specs.Jobs.{with_picked, gained_jobs}
+use Rattle.nvme_state.specs.inside.Steps.{aborted, after_pick}
+use Rattle.nvme_state.specs.inside.Jobs.{with_picked, gained_jobs}
 use Rattle.nvme_pool.specs.Seat.{SeatView}
 use Rattle.nvme_pool.specs.declared.jobs.Finished.{Finished}
 use Rattle.nvme_state.specs.declared.candidate.Dispatched.{Dispatched}

@@ -14,10 +14,11 @@ use Rattle.nvme_log.specs.Queues.{cq_region_of}
 use Rattle.nvme_log.specs.Places.{Place, fetched, fate_of, is_waiting}
 use Rattle.nvme_log.specs.Completions.{is_posted, posts_of, is_index}
 use Rattle.nvme_log.specs.Account.{deleting_place}
-use Rattle.nvme_state.specs.Jobs.{in_hand, dispatched_place, is_in_hand}
-use Rattle.nvme_state.specs.Kept.{Kept}
+use Rattle.nvme_state.specs.Hands.{in_hand, is_in_hand}
+use Rattle.nvme_state.specs.inside.Jobs.{dispatched_place}
+use Rattle.nvme_state.specs.inside.Kept.{Kept}
 use Rattle.nvme_log.specs.Places.{one_if, is_served}
-use Rattle.nvme_state.specs.Standing.{times_in, times_held, times_ready, over_regions, held_by, hand_of, IsReady, Stands}
+use Rattle.nvme_state.specs.inside.Standing.{times_in, times_held, times_ready, over_regions, held_by, hand_of, IsReady, Stands}
 use Rattle.nvme_admin.specs.declared.bounds.TheConstants.{MAX_REGIONS}
 use Rattle.nvme_log.proofs.Posts.{posts_of-none}
 

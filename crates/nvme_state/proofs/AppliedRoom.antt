@@ -9,11 +9,12 @@ use Rattle.nvme_state.specs.declared.candidate.Dispatched.{Dispatched}
 use Rattle.nvme_state.specs.declared.candidate.PendingDelete.{PendingDelete}
 use Rattle.nvme_state.specs.declared.candidate.Ready.{Ready}
 use Rattle.nvme_log.specs.Rules.{FrontRules, Past, upto, sq_regions_of}
-use Rattle.nvme_state.specs.Jobs.{in_hand, dispatched_place}
+use Rattle.nvme_state.specs.Hands.{in_hand}
+use Rattle.nvme_state.specs.inside.Jobs.{dispatched_place}
 use Rattle.nvme_log.specs.Places.{Place, fetched, picked, fate_of, is_waiting, is_picked, is_aborted, unaborted_below, places}
 use Rattle.nvme_log.specs.Completions.{is_posted}
-use Rattle.nvme_state.specs.Kept.{Kept}
-use Rattle.nvme_state.specs.Standing.{HoldsSq, HoldsReady, IsReady, Stands, times_in, times_ready, times_held, held_by, hand_of, IsDispatched}
+use Rattle.nvme_state.specs.inside.Kept.{Kept}
+use Rattle.nvme_state.specs.inside.Standing.{HoldsSq, HoldsReady, IsReady, Stands, times_in, times_ready, times_held, held_by, hand_of, IsDispatched}
 use Rattle.nvme_log.specs.Places.{one_if, is_served}
 use Rattle.nvme_log.specs.Completions.{unposted_of}
 use Rattle.nvme_log.proofs.Posts.{posts_of-none}

@@ -33,10 +33,10 @@ use Rattle.nvme_log.specs.Queues.{Queue, admin_queue, open_sq, open_cq}
 use Rattle.nvme_log.specs.Places.{waiting, observation_of}
 use Rattle.nvme_log.specs.Histories.{arbitration_of}
 use Rattle.nvme_log.specs.Effects.{closed_cq_of, closing_of}
-use Rattle.nvme_state.specs.Kept.{Kept}
-use Rattle.nvme_state.specs.Standing.{HoldsArbitration, Stands, on_board}
+use Rattle.nvme_state.specs.inside.Kept.{Kept}
+use Rattle.nvme_state.specs.inside.Standing.{HoldsArbitration, Stands, on_board}
 use Rattle.nvme_state.proofs.Observing.{seen_is_observed}
-use Rattle.nvme_state.specs.Steps.{CanPick, applied_to, verdict_at}
+use Rattle.nvme_state.specs.inside.Steps.{CanPick, applied_to, verdict_at}
 use Rattle.nvme_state.proofs.AfterSteps.{with_events, IsChosen, admin_past, after_admin, deleting_from}
 use Rattle.nvme_state.proofs.StepKeeps.{KeepsFetch, KeepsIo, KeepsAdmin, KeepsPost, KeepsClose, Arbitration}
 

@@ -8,9 +8,10 @@ use Rattle.nvme_pool.specs.Jobs.{result_of}
 use Rattle.nvme_pool.specs.declared.jobs.Job.{Job}
 use Rattle.nvme_pool.specs.declared.jobs.Finished.{Finished}
 use Rattle.nvme_state.specs.declared.candidate.Dispatched.{Dispatched}
-use Rattle.nvme_state.specs.Jobs.{Hands, JobsView, job_in, handed_jobs, gained_jobs, HandsOne, GainsOne, GainsStray}
+use Rattle.nvme_state.specs.Hands.{Hands, job_in}
+use Rattle.nvme_state.specs.inside.Jobs.{JobsView, handed_jobs, gained_jobs, HandsOne, GainsOne, GainsStray}
 use Rattle.nvme_state.specs.Balance.{Balances}
-use Rattle.nvme_state.proofs.JobAccounts.{result_is, sum_by-among, sum_by-gained, sum_by-one}
+use Rattle.nvme_state.proofs.JobAccounts.{result_is, sum_by-gained_one, sum_by-gained, sum_by-one}
 
 -- where nothing was handed and nothing gained
 pub balances-same : (sizes : List ℕ) (old new : Hands) → new.seat ≡ old.seat → new.running ≡ old.running → Balances sizes old new []
@@ -56,8 +57,7 @@ balances-gained sizes old new d result h = subst (λ (j : JobsView). Balances si
       sum_by-gained w old.hands.seat.ends h.seat.ends result h.can.gained,
       ap w (result_is result (job_in sizes d) h.its.its_job),
       ap (sum_by of_job) h.can.handed,
-      ap (sum_by of_command) h.its.running_is,
-      sum_by-among of_command h.before d h.after,
+      sum_by-gained_one of_command old.hands.running d h.rest h.its.running_is,
     ))
 
 -- where a stray was gained

@@ -16,9 +16,9 @@ use Rattle.nvme_log.specs.Queues.{pending}
 use Rattle.nvme_log.specs.Places.{Place, fetched, waiting, places, fate_of, is_waiting, is_picked}
 use Rattle.nvme_log.specs.Completions.{is_posted, posts_of}
 use Rattle.nvme_log.specs.Account.{IsClear}
-use Rattle.nvme_state.specs.Kept.{Kept}
+use Rattle.nvme_state.specs.inside.Kept.{Kept}
 use Rattle.nvme_log.specs.Places.{one_if, is_served}
-use Rattle.nvme_state.specs.Standing.{times_in, times_held, times_ready, over_regions, ready_picked, hand_of, as_deletion, IsReady, Stands}
+use Rattle.nvme_state.specs.inside.Standing.{times_in, times_held, times_ready, over_regions, ready_picked, hand_of, as_deletion, IsReady, Stands}
 use Rattle.nvme_log.proofs.Posts.{posts_of-none, posts_of-some, all_below}
 use Rattle.nvme_state.proofs.Answering.{kept_some}
 

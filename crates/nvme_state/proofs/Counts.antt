@@ -21,10 +21,10 @@ use Rattle.nvme_log.specs.Places.{fetched, waiting, picked, is_aborted, unaborte
 use Rattle.nvme_log.specs.Completions.{is_posted, outstanding}
 use Rattle.nvme_log.specs.Effects.{closing_of, closed_cq_of}
 use Rattle.nvme_log.specs.Laws.{count_of}
-use Rattle.nvme_state.specs.Kept.{SqKept, Kept, put_sq}
+use Rattle.nvme_state.specs.inside.Kept.{SqKept, Kept, put_sq}
 use Rattle.nvme_log.specs.Places.{one_if}
-use Rattle.nvme_state.specs.Standing.{IsReady, HoldsSq, HoldsCounts, hand_of, Stands}
-use Rattle.nvme_state.specs.Steps.{picked_sq, applied_to, verdict_at, CanPick}
+use Rattle.nvme_state.specs.inside.Standing.{IsReady, HoldsSq, HoldsCounts, hand_of, Stands}
+use Rattle.nvme_state.specs.inside.Steps.{picked_sq, applied_to, verdict_at, CanPick}
 use Rattle.nvme_state.proofs.AfterSteps.{with_events, admin_past, after_admin, fetched_sq, deleting_from, post_event}
 use Rattle.nvme_state.proofs.StepKeeps.{KeepsFetch, KeepsIo, KeepsAdmin, KeepsPost, KeepsClose, Counts}
 use Rattle.nvme_log.proofs.Counting.{count_of-push, sums_differ}

@@ -29,11 +29,11 @@ use Rattle.nvme_log.specs.Places.{fetched, waiting, is_aborted, entry_at}
 use Rattle.nvme_log.specs.Effects.{closed_cq_of, closing_of}
 use Rattle.nvme_log.specs.Account.{deleting_place, latest_admin_place}
 use Rattle.nvme_log.specs.Laws.{as_open}
-use Rattle.nvme_state.specs.Kept.{SqKept, Kept, put_sq}
-use Rattle.nvme_state.specs.Standing.{HoldsQueues, HoldsDeletion, IsPending, Stands, as_deletion}
+use Rattle.nvme_state.specs.inside.Kept.{SqKept, Kept, put_sq}
+use Rattle.nvme_state.specs.inside.Standing.{HoldsQueues, HoldsDeletion, IsPending, Stands, as_deletion}
 use Rattle.nvme_state.proofs.Oldest.{oldest_place, oldest_entry, oldest_unaborted}
 use Rattle.nvme_state.proofs.QueueWords.{chosen, put-queue}
-use Rattle.nvme_state.specs.Steps.{CanPick, CanApply, picked_sq, applied_to, verdict_at}
+use Rattle.nvme_state.specs.inside.Steps.{CanPick, CanApply, picked_sq, applied_to, verdict_at}
 use Rattle.nvme_state.proofs.AfterSteps.{with_events, admin_past, after_admin, deleting_from}
 use Rattle.nvme_state.proofs.StepKeeps.{KeepsFetch, KeepsIo, KeepsAdmin, KeepsPost, KeepsClose, Deleting}
 

@@ -8,12 +8,14 @@ use Rattle.nvme_pool.specs.declared.jobs.Finished.{Finished}
 use Rattle.nvme_state.specs.declared.candidate.Dispatched.{Dispatched}
 use Rattle.nvme_state.specs.declared.candidate.Ready.{Ready}
 use Rattle.nvme_log.specs.Rules.{FrontRules, Past}
-use Rattle.nvme_state.specs.Jobs.{JobsView, in_hand, IsResultOf, handed_jobs, gained_jobs}
-use Rattle.nvme_state.specs.Kept.{CqKept, Kept}
-use Rattle.nvme_state.specs.Standing.{IsDispatched, HoldsJobs, HoldsCounts, HoldsQueues, HoldsDeletion, HoldsArbitration, HoldsTable, HasOwnStatus, Accounts}
+use Rattle.nvme_state.specs.inside.Jobs.{JobsView, IsResultOf, handed_jobs, gained_jobs}
+use Rattle.nvme_state.specs.Hands.{in_hand}
+use Rattle.nvme_state.specs.inside.Kept.{CqKept, Kept}
+use Rattle.nvme_state.specs.inside.Standing.{IsDispatched, HoldsJobs, HoldsCounts, HoldsQueues, HoldsDeletion, HoldsArbitration, HoldsTable, HasOwnStatus, Accounts}
 use Rattle.nvme_state.proofs.AfterSteps.{completed, after_gain}
 use Rattle.nvme_state.proofs.StepKeeps.{KeepsHand, KeepsGain, KeepsStray, Regions, Counts, Queues, Deleting, Arbitration, Tabled, Accounted}
 use Rattle.nvme_state.proofs.OwnStatus.{all_with_readies}
+use Rattle.nvme_state.proofs.JobAccounts.{each-gained}
 
 -- ---- other jobs, and other completion regions
 -- what is kept, with these completion regions and jobs
@@ -164,18 +166,11 @@ accounted-stray rules late past k result seat s can regions on_time =
     accounts-left rules late past k k.cq (gained_jobs k.jobs k.jobs.hands.running seat) a.own_statuses a
 
 -- ---- a result of a job is gained
--- what holds of all items holds of one between others
-all_middle : {X : Type 0} (P : X → Type 0) (xs : List X) (x : X) (ys : List X) → All P (xs ++ x ∷ ys) → P x
-all_middle P [] x ys h = All-head P x ys h
-all_middle P (y ∷ xs) x ys h = all_middle P xs x ys (All-tail P y (xs ++ x ∷ ys) h)
-
 -- a command whose result is gained was picked and dispatched
-gained_is_dispatched : (sizes : List ℕ) (past : Past) (j : JobsView) (before : List Dispatched) (d : Dispatched) (after : List Dispatched) (result : Finished)
-    → HoldsJobs sizes past j → IsResultOf sizes j before d after result → IsDispatched past d
-gained_is_dispatched sizes past j before d after result h its =
-    all_middle (IsDispatched past) before d (after ++ j.hands.unhanded)
-    (All-same (IsDispatched past) (before ++ (d ∷ (after ++ j.hands.unhanded))) (in_hand j.hands)
-    (sym (ap (λ (ds : List Dispatched). ds ++ j.hands.unhanded) its.running_is ∙ append_assoc before (d ∷ after) j.hands.unhanded)) h.each)
+gained_is_dispatched : (sizes : List ℕ) (past : Past) (j : JobsView) (d : Dispatched) (rest : List Dispatched) (result : Finished)
+    → HoldsJobs sizes past j → IsResultOf sizes j d rest result → IsDispatched past d
+gained_is_dispatched sizes past j d rest result h its =
+    All-head (IsDispatched past) d (rest ++ j.hands.unhanded) (each-gained (IsDispatched past) j.hands d rest its.running_is h.each)
 
 -- a result of a dispatched command has the own status of its place
 completed_own : (rules : FrontRules) (past : Past) (d : Dispatched) (result : Finished) → IsDispatched past d
@@ -193,41 +188,41 @@ slots_left cq c ready x false e = refl
 
 -- a gained result leaves the places
 pub regions-gain : KeepsGain Regions
-regions-gain rules late past k before d after result seat c qid s can its at = s.regions
+regions-gain rules late past k d rest result seat c qid s can its at = s.regions
 
 -- and the counts
 pub counts-gain : KeepsGain Counts
-counts-gain rules late past k before d after result seat c qid s can its at regions =
-    counts-left rules late past k (after_gain k d (before ++ after) seat c result).cq (gained_jobs k.jobs (before ++ after) seat) s.counts
+counts-gain rules late past k d rest result seat c qid s can its at regions =
+    counts-left rules late past k (after_gain k d rest seat c result).cq (gained_jobs k.jobs rest seat) s.counts
 
 -- and the queues
 pub queues-gain : KeepsGain Queues
-queues-gain rules late past k before d after result seat c qid s can its at regions =
-    queues-left rules late past k (after_gain k d (before ++ after) seat c result).cq (gained_jobs k.jobs (before ++ after) seat) s.queues
+queues-gain rules late past k d rest result seat c qid s can its at regions =
+    queues-left rules late past k (after_gain k d rest seat c result).cq (gained_jobs k.jobs rest seat) s.queues
 
 -- and the pending deletion
 pub deleting-gain : KeepsGain Deleting
-deleting-gain rules late past k before d after result seat c qid s can its at regions =
-    deletion-left rules late past k (after_gain k d (before ++ after) seat c result).cq (gained_jobs k.jobs (before ++ after) seat) s.deletion
+deleting-gain rules late past k d rest result seat c qid s can its at regions =
+    deletion-left rules late past k (after_gain k d rest seat c result).cq (gained_jobs k.jobs rest seat) s.deletion
 
 -- and the board
 pub arbitration-gain : KeepsGain Arbitration
-arbitration-gain rules late past k before d after result seat c qid s can its at =
-    arbitration-left rules late past k (after_gain k d (before ++ after) seat c result).cq (gained_jobs k.jobs (before ++ after) seat) s.arbitration
+arbitration-gain rules late past k d rest result seat c qid s can its at =
+    arbitration-left rules late past k (after_gain k d rest seat c result).cq (gained_jobs k.jobs rest seat) s.arbitration
 
 -- and the table
 pub tabled-gain : KeepsGain Tabled
-tabled-gain rules late past k before d after result seat c qid s can its at =
-    table-left rules late past k (after_gain k d (before ++ after) seat c result).cq (gained_jobs k.jobs (before ++ after) seat)
+tabled-gain rules late past k d rest result seat c qid s can its at =
+    table-left rules late past k (after_gain k d rest seat c result).cq (gained_jobs k.jobs rest seat)
     (λ x. slots_left k.cq c ((k.cq c).ready ++ completed d result ∷ []) x (x == c) refl) s.tabled
 
 -- and the account: what is ready then has the own status of its place
 pub accounted-gain : KeepsGain Accounted
-accounted-gain rules late past k before d after result seat c qid s can its at regions on_time =
+accounted-gain rules late past k d rest result seat c qid s can its at regions on_time =
     let a = s.accounts on_time in
     let own : HasOwnStatus rules past (completed d result) =
-    completed_own rules past d result (gained_is_dispatched rules.sizes past k.jobs before d after result s.jobs its)
+    completed_own rules past d result (gained_is_dispatched rules.sizes past k.jobs d rest result s.jobs its)
     (ap (λ (j : Job). j.entry) its.its_job) (ap (λ (j : Job). j.spaces) its.its_job) in
-    accounts-left rules late past k (after_gain k d (before ++ after) seat c result).cq (gained_jobs k.jobs (before ++ after) seat)
+    accounts-left rules late past k (after_gain k d rest seat c result).cq (gained_jobs k.jobs rest seat)
     (all_with_readies (HasOwnStatus rules past) k c (completed d result ∷ []) a.own_statuses
     (All-cons (HasOwnStatus rules past) (completed d result) [] own (All-nil (HasOwnStatus rules past)))) a

@@ -12,8 +12,8 @@ use Rattle.nvme_log.specs.Rules.{FrontRules, Past, upto, sq_regions_of, cq_regio
 use Rattle.nvme_log.specs.Places.{fetched, places, fate_of, is_picked}
 use Rattle.nvme_log.specs.Completions.{is_posted}
 use Rattle.nvme_log.specs.Laws.{as_open}
-use Rattle.nvme_state.specs.Kept.{Kept}
-use Rattle.nvme_state.specs.Standing.{HoldsSq, HoldsReady, HoldsCounts, HoldsPosts, HoldsQueues, HoldsDeletion, HoldsTable, IsPending, hand_of, Stands}
+use Rattle.nvme_state.specs.inside.Kept.{Kept}
+use Rattle.nvme_state.specs.inside.Standing.{HoldsSq, HoldsReady, HoldsCounts, HoldsPosts, HoldsQueues, HoldsDeletion, HoldsTable, IsPending, hand_of, Stands}
 
 -- more regions, of which nothing is kept but what comes from them, and a table with the same queues
 abbrev pub grown : Kept → (ℕ → List Sqe) → (ℕ → ℕ) → (ℕ → ℕ) → (ℕ → ℕ) → ℕ → ℕ → TableView → Kept

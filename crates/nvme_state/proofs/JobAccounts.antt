@@ -2,11 +2,13 @@
 use Rattle.std.proofs.Common.{◌≡◌, ℕ, ◌+◌, ◌≤◌, List, [], ◌∷◌, ◌++◌, length, map, Some, refl, sym, ap, ◌∙◌, subst, arith, ◌==◌, ◌&&◌, Bool, true, false, slice_index_or}
 use Rattle.std.specs.Prelude.{sum_by, All}
 use Rattle.std.specs.List.{flat_map}
+use Rattle.std.specs.List.Sorted.{IsPermutation}
 use Rattle.std.proofs.Math.Nat.{ℕ_set}
 use Rattle.std.proofs.lemmas.List.Concat.{flat_map-cons}
 use Rattle.std.proofs.lemmas.Bool.{eq-eqb}
 use Rattle.std.proofs.lemmas.List.Sums.{sum_by-append, sum_by-cons, get_or-le-sum_by}
 use Rattle.std.proofs.lemmas.List.Elements.{All-nil, All-cons, All-head, All-tail}
+use Rattle.std.proofs.lemmas.List.Sorted.{All-permutation, sum_by-IsPermutation, IsPermutation-append_left}
 use Rattle.nvme_entry.specs.declared.submission.Sqe.{Sqe}
 use Rattle.nvme_entry.specs.Status.{StatusCode}
 use Rattle.nvme_entry.specs.Outcome.{outcome_of}
@@ -21,10 +23,11 @@ use Rattle.nvme_state.specs.declared.candidate.Dispatched.{Dispatched}
 use Rattle.nvme_log.specs.Rules.{Past}
 use Rattle.nvme_log.specs.Queues.{cq_region_of}
 use Rattle.nvme_log.specs.Places.{Place, entry_at, is_aborted}
-use Rattle.nvme_state.specs.Jobs.{job_in, dispatched_from, in_hand, dispatched_place}
+use Rattle.nvme_state.specs.Hands.{Hands, job_in, in_hand}
+use Rattle.nvme_state.specs.inside.Jobs.{dispatched_from, dispatched_place}
 use Rattle.nvme_log.specs.Dispatches.{place_at, AreJobs, dispatched}
-use Rattle.nvme_state.specs.Kept.{Kept}
-use Rattle.nvme_state.specs.Standing.{HoldsReady, HoldsJobs, IsDispatched, times_held, held_by, hand_of}
+use Rattle.nvme_state.specs.inside.Kept.{Kept}
+use Rattle.nvme_state.specs.inside.Standing.{HoldsReady, HoldsJobs, IsDispatched, times_held, held_by, hand_of}
 use Rattle.nvme_log.specs.Places.{one_if, is_served}
 use Rattle.nvme_state.proofs.Windows.{sum_by-map}
 use Rattle.nvme_state.proofs.AfterSteps.{with_events}
@@ -67,11 +70,11 @@ dispatched-each P r ticket (c ∷ cs) h =
     let Q : Candidate → Type 0 = λ c. (n : ℕ) → P (record { ticket = n; region = r; index = c.index; entry = c.entry }) in
     All-cons P _ _ (All-head Q c cs h ticket) (dispatched-each P r (ticket + 1) cs (All-tail Q c cs h))
 
--- what holds of each item holds of each where one is left out
-pub all_without : {X : Type 0} (P : X → Type 0) (before : List X) (x : X) (after : List X) → All P (before ++ x ∷ after) → All P (before ++ after)
-all_without P [] x after h = All-tail P x after h
-all_without P (y ∷ before) x after h =
-    All-cons P y (before ++ after) (All-head P y (before ++ x ∷ after) h) (all_without P before x after (All-tail P y (before ++ x ∷ after) h))
+-- what holds of each command in hand holds of the one whose result is gained, and of each that is left in hand
+pub each-gained : (P : Dispatched → Type 0) (h : Hands) (d : Dispatched) (rest : List Dispatched) → IsPermutation h.running (d ∷ rest)
+    → All P (in_hand h) → All P (d ∷ (rest ++ h.unhanded))
+each-gained P h d rest same each =
+    All-permutation P (in_hand h) (d ∷ (rest ++ h.unhanded)) (IsPermutation-append_left h.unhanded h.running (d ∷ rest) same) each
 
 -- ---- sums
 -- a sum over what each item has is that over all of it
@@ -85,6 +88,11 @@ sum_by-flat_map {X = X} w f (x ∷ xs) =
 -- a sum over a list with one item among others
 pub sum_by-among : {X : Type 0} (w : X → ℕ) (before : List X) (x : X) (after : List X) → sum_by w (before ++ x ∷ after) ≡ sum_by w (before ++ after) + w x
 sum_by-among w before x after = omega (arith, sum_by-append w before (x ∷ after), sum_by-append w before after, sum_by-cons w x after)
+
+-- a sum over the running commands is that over the one whose result is gained and over the rest
+pub sum_by-gained_one : {X : Type 0} (w : X → ℕ) (running : List X) (d : X) (rest : List X) → IsPermutation running (d ∷ rest)
+    → sum_by w running ≡ w d + sum_by w rest
+sum_by-gained_one w running d rest same = omega (arith, sum_by-IsPermutation w running (d ∷ rest) same, sum_by-cons w d rest)
 
 -- a sum over one item
 pub sum_by-one : {X : Type 0} (w : X → ℕ) (x : X) → sum_by w (x ∷ []) ≡ w x

@@ -1,9 +1,9 @@
 -- Lists of picked commands with their tickets.
-use Rattle.std.proofs.Common.{◌≡◌, ℕ, ◌+◌, ◌<◌, List, [], ◌∷◌, ◌++◌, length, take, drop, get_or, refl, sym, ap, ◌∙◌, arith, append_assoc, add-one, drop-cons}
-use Rattle.std.proofs.lemmas.List.{length_push, take-append-drop}
+use Rattle.std.proofs.Common.{◌≡◌, ℕ, ◌+◌, List, [], ◌∷◌, ◌++◌, length, refl, sym, ap, ◌∙◌, arith, append_assoc}
+use Rattle.std.proofs.lemmas.List.{length_push}
 use Rattle.nvme_state.specs.declared.candidate.Candidate.{Candidate}
 use Rattle.nvme_state.specs.declared.candidate.Dispatched.{Dispatched}
-use Rattle.nvme_state.specs.Jobs.{JobsView, dispatched_from, with_picked}
+use Rattle.nvme_state.specs.inside.Jobs.{JobsView, dispatched_from, with_picked}
 
 -- there are as many picked commands as candidates
 pub length-dispatched : (r ticket : ℕ) (cs : List Candidate) → length (dispatched_from r ticket cs) ≡ length cs
@@ -28,9 +28,3 @@ picked_push j r cs c =
     let unhanded = append_assoc j.hands.unhanded (dispatched_from r j.tickets cs) _ ∙ ap (λ (ds : List Dispatched). j.hands.unhanded ++ ds) (sym (dispatched_push r j.tickets cs c)) in
     let tickets : j.tickets + length cs + 1 ≡ j.tickets + length (cs ++ c ∷ []) = omega (arith, length_push cs c) in
     λ i. record j { hands = record j.hands { unhanded = unhanded i }; tickets = tickets i }
-
--- a list by what comes before an item, the item, and what comes after
-pub split_at : {X : Type 0} (xs : List X) (i : ℕ) (x : X) → i < length xs → x ≡ get_or xs i x → xs ≡ take i xs ++ x ∷ drop (i + 1) xs
-split_at xs i x within is =
-    sym (take-append-drop i xs)
-    ∙ ap (λ (ys : List _). take i xs ++ ys) (drop-cons xs i x within ∙ ap (λ (n : ℕ). get_or xs i x ∷ drop n xs) (sym (add-one i)) ∙ ap (λ (y : _). y ∷ drop (i + 1) xs) (sym is))

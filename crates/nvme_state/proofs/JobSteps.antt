@@ -6,7 +6,7 @@ use Rattle.std.proofs.lemmas.Bool.{eq-eqb, ne_eqb}
 use Rattle.std.proofs.lemmas.List.{append-nil, append_assoc, map-append, length-append, length-map, length-take-le, take-map}
 use Rattle.std.proofs.lemmas.Simd.{map-map}
 use Rattle.std.proofs.lemmas.List.Sums.{sum_by-append, sum_by-cons}
-use Rattle.std.proofs.lemmas.List.Elements.{All-nil, All-append, All-take, All-same}
+use Rattle.std.proofs.lemmas.List.Elements.{All-nil, All-append, All-take, All-same, All-tail}
 use Rattle.arrayvec.specs.ArrayVec.{ArrayVec}
 use Rattle.nvme_lane.specs.View.{GetView}
 use Rattle.nvme_arbiter.specs.Board.{BoardView}
@@ -29,11 +29,12 @@ use Rattle.nvme_log.specs.Rules.{FrontRules, Past}
 use Rattle.nvme_log.specs.Queues.{Queue, open_sq, open_cq, cq_region_of}
 use Rattle.nvme_log.specs.Places.{Place, waiting, entry_at}
 use Rattle.nvme_log.specs.Effects.{closing_of, closed_cq_of}
-use Rattle.nvme_state.specs.Jobs.{JobsView, in_hand, job_in, dispatched_from}
+use Rattle.nvme_state.specs.inside.Jobs.{JobsView, dispatched_from}
+use Rattle.nvme_state.specs.Hands.{in_hand, job_in}
 use Rattle.nvme_log.specs.Dispatches.{place_at, dispatched_by, dispatched, AreJobs}
-use Rattle.nvme_state.specs.Kept.{Kept}
-use Rattle.nvme_state.specs.Standing.{HoldsJobs, IsDispatched, AreFreshJobs, Stands}
-use Rattle.nvme_state.specs.Steps.{applied_to, verdict_at}
+use Rattle.nvme_state.specs.inside.Kept.{Kept}
+use Rattle.nvme_state.specs.inside.Standing.{HoldsJobs, IsDispatched, AreFreshJobs, Stands}
+use Rattle.nvme_state.specs.inside.Steps.{applied_to, verdict_at}
 use Rattle.nvme_state.proofs.Windows.{sum_by-map}
 use Rattle.nvme_state.proofs.Served.{aborts-leave, entry_stays}
 use Rattle.nvme_state.proofs.Readying.{waiting-unaborted}
@@ -41,7 +42,7 @@ use Rattle.nvme_state.proofs.ReadyAdmin.{aborts-other, served-apart, unused_apar
 use Rattle.nvme_state.proofs.AccountSteps.{io_region}
 use Rattle.nvme_state.proofs.AfterSteps.{with_events, admin_past, after_admin, deleting_from, fetch_event, post_event, closed_event}
 use Rattle.nvme_state.proofs.StepKeeps.{KeepsFetch, KeepsIo, KeepsHand, KeepsGain, KeepsStray, KeepsAdmin, KeepsPost, KeepsClose, Jobs}
-use Rattle.nvme_state.proofs.JobAccounts.{all_without, Leaves, with_events-longer, jobs_left, AreJobs-stay, AreJobs-append, AreJobs-picked, dispatched-each, sum_by-flat_map, sum_by-among, sum_by-one, sum_by-gained, result_is}
+use Rattle.nvme_state.proofs.JobAccounts.{each-gained, Leaves, with_events-longer, jobs_left, AreJobs-stay, AreJobs-append, AreJobs-picked, dispatched-each, sum_by-flat_map, sum_by-gained_one, sum_by-one, sum_by-gained, result_is}
 
 -- where no command was picked there are no jobs
 pub jobs-when-fresh : (sizes : List ℕ) (j : JobsView) → AreFreshJobs j → HoldsJobs sizes [] j
@@ -185,7 +186,7 @@ jobs-hand rules late past k d rest seat s can regions =
 
 -- a result that is gained is that of a job that ran
 pub jobs-gain : KeepsGain Jobs
-jobs-gain rules late past k before d after result seat c qid s can its attached regions =
+jobs-gain rules late past k d rest result seat c qid s can its attached regions =
     let h = s.jobs.account in
     let hands = k.jobs.hands in
     let job : Job = job_in rules.sizes d in
@@ -202,10 +203,9 @@ jobs-gain rules late past k before d after result seat c qid s can its attached 
             omega (
               arith,
               h.each_handed w,
-              ap (λ (ds : List Dispatched). sum_by w (map (job_in rules.sizes) ds)) its.running_is,
-              sum_by-map w (job_in rules.sizes) (before ++ d ∷ after),
-              sum_by-among one before d after,
-              sum_by-map w (job_in rules.sizes) (before ++ after),
+              sum_by-map w (job_in rules.sizes) hands.running,
+              sum_by-gained_one one hands.running d rest its.running_is,
+              sum_by-map w (job_in rules.sizes) rest,
               sum_by-cons w job h.done,
             );
         others = h.others;
@@ -218,10 +218,7 @@ jobs-gain rules late past k before d after result seat c qid s can its attached 
               sum_by-cons w (result_of job) (map result_of h.done),
             );
       };
-      each = All-same (IsDispatched past) _ _ (append_assoc before after hands.unhanded)
-          (all_without (IsDispatched past) before d (after ++ hands.unhanded)
-          (All-same (IsDispatched past) _ (in_hand hands)
-          (sym (ap (λ (ds : List Dispatched). ds ++ hands.unhanded) its.running_is ∙ append_assoc before (d ∷ after) hands.unhanded)) s.jobs.each));
+      each = All-tail (IsDispatched past) d (rest ++ hands.unhanded) (each-gained (IsDispatched past) hands d rest its.running_is s.jobs.each);
     }
 
 -- a result of no job is one of the others

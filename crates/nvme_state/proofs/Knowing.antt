@@ -2,8 +2,8 @@
 use Rattle.std.proofs.Common.{◌≡◌, ℕ, ◌≤◌, Bool, List, [], ap, ◌∙◌}
 use Rattle.nvme_entry.specs.declared.submission.Sqe.{Sqe}
 use Rattle.nvme_log.specs.Rules.{FrontRules, Past}
-use Rattle.nvme_state.specs.Kept.{SqKept, Kept, no_sq}
-use Rattle.nvme_state.specs.Standing.{HoldsSq, HoldsReady, HoldsQueues, HoldsDeletion, HoldsTable, Accounts, Stands, IsFresh, hand_of}
+use Rattle.nvme_state.specs.inside.Kept.{SqKept, Kept, no_sq}
+use Rattle.nvme_state.specs.inside.Standing.{HoldsSq, HoldsReady, HoldsQueues, HoldsDeletion, HoldsTable, Accounts, Stands, IsFresh, hand_of}
 
 -- the same, but that the ends know other items to come, and other places to be free
 abbrev pub knowing : Kept → (ℕ → List Sqe) → (ℕ → ℕ) → Kept

@@ -29,8 +29,8 @@ use Rattle.nvme_state.specs.declared.candidate.Candidate.{Candidate}
 use Rattle.nvme_log.specs.Rules.{Past, upto}
 use Rattle.nvme_log.specs.Queues.{Queue, open_sq}
 use Rattle.nvme_log.specs.Places.{waiting, seen_as, observation_of}
-use Rattle.nvme_state.specs.Kept.{Kept}
-use Rattle.nvme_state.specs.Standing.{HoldsSq, HoldsQueues, on_board}
+use Rattle.nvme_state.specs.inside.Kept.{Kept}
+use Rattle.nvme_state.specs.inside.Standing.{HoldsSq, HoldsQueues, on_board}
 
 -- ---- the observation
 -- the window of a region is as long as the list of its places that wait

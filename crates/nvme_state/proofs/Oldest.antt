@@ -6,8 +6,8 @@ use Rattle.nvme_state.specs.declared.candidate.Candidate.{Candidate}
 use Rattle.nvme_log.specs.Rules.{Past}
 use Rattle.nvme_log.specs.Places.{WasAborted, WasPicked, Waits, waiting, places, fate_of, is_waiting, is_aborted, picked, unaborted_below, entry_at}
 use Rattle.nvme_log.specs.Histories.{admin_entry}
-use Rattle.nvme_state.specs.Kept.{SqKept}
-use Rattle.nvme_state.specs.Standing.{HoldsSq}
+use Rattle.nvme_state.specs.inside.Kept.{SqKept}
+use Rattle.nvme_state.specs.inside.Standing.{HoldsSq}
 
 -- a place that waits was not aborted
 waits_unaborted : (aborted first : Bool) → is_waiting (if aborted then WasAborted else (if first then WasPicked else Waits)) ≡ true → aborted ≡ false

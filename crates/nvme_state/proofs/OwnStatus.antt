@@ -24,9 +24,9 @@ use Rattle.nvme_state.specs.declared.candidate.Ready.{Ready}
 use Rattle.nvme_log.specs.Rules.{Past, FrontRules}
 use Rattle.nvme_log.specs.Places.{Place, fetched, waiting, places, WasAborted, WasPicked, Waits, fate_of, is_waiting, is_aborted, unaborted_below, picked, Fate}
 use Rattle.nvme_log.specs.Completions.{is_posted, posts_of, table_before, own_status, own_dw0}
-use Rattle.nvme_state.specs.Kept.{SqKept, CqKept, Kept}
+use Rattle.nvme_state.specs.inside.Kept.{SqKept, CqKept, Kept}
 use Rattle.nvme_log.specs.Places.{one_if, is_served}
-use Rattle.nvme_state.specs.Standing.{times_in, times_held, over_regions, times_ready, HoldsSq, HoldsReady, HasOwnStatus}
+use Rattle.nvme_state.specs.inside.Standing.{times_in, times_held, over_regions, times_ready, HoldsSq, HoldsReady, HasOwnStatus}
 use Rattle.nvme_log.proofs.Posts.{posts_of-some}
 use Rattle.nvme_state.proofs.AfterSteps.{with_events, with_readies}
 

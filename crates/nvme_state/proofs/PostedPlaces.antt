@@ -17,10 +17,10 @@ use Rattle.nvme_log.specs.Queues.{has_region, open_sq}
 use Rattle.nvme_log.specs.Places.{Place, fetched, places, waiting, picked, fate_of, is_waiting, is_picked, is_aborted, unaborted_below}
 use Rattle.nvme_log.specs.Completions.{is_posted, posts_of}
 use Rattle.nvme_log.specs.Laws.{count_of}
-use Rattle.nvme_state.specs.Kept.{Kept}
+use Rattle.nvme_state.specs.inside.Kept.{Kept}
 use Rattle.nvme_log.specs.Places.{one_if, is_served}
 use Rattle.nvme_log.specs.Completions.{unposted_of}
-use Rattle.nvme_state.specs.Standing.{HoldsReady, over_regions, times_in}
+use Rattle.nvme_state.specs.inside.Standing.{HoldsReady, over_regions, times_in}
 use Rattle.nvme_state.proofs.AfterSteps.{with_events}
 use Rattle.nvme_log.proofs.Fates.{length-upto}
 use Rattle.nvme_log.proofs.Posts.{posts_of-some}

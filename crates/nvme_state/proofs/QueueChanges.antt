@@ -10,8 +10,8 @@ use Rattle.nvme_arbiter.specs.declared.settings.Class.{Class}
 use Rattle.nvme_state.specs.declared.candidate.PendingDelete.{PendingDelete}
 use Rattle.nvme_state.specs.declared.attachment.Attachment.{Attachment}
 use Rattle.nvme_log.specs.Queues.{Queue}
-use Rattle.nvme_state.specs.Kept.{SqKept, put_sq}
-use Rattle.nvme_state.specs.Standing.{IsGone, IsOpenedFor}
+use Rattle.nvme_state.specs.inside.Kept.{SqKept, put_sq}
+use Rattle.nvme_state.specs.inside.Standing.{IsGone, IsOpenedFor}
 use Rattle.nvme_state.proofs.QueueWords.{LogQueues, KeptQueues, counted, OpenedFor, IsBlank, Agree, at_same, at_other, chosen, put-queue, one_queue, on_others, on_same, on_board-set}
 
 -- a region that was opened for no queue isn't one that was

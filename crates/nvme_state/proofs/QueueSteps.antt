@@ -23,12 +23,12 @@ use Rattle.nvme_log.specs.Rules.{FrontRules, Past, upto}
 use Rattle.nvme_log.specs.Queues.{Queue, admin_queue, open_sq, open_cq}
 use Rattle.nvme_log.specs.Places.{waiting, is_waiting, fate_of}
 use Rattle.nvme_log.specs.Laws.{as_open, QueuesAre}
-use Rattle.nvme_state.specs.Kept.{SqKept, Kept, put_sq}
-use Rattle.nvme_state.specs.Standing.{HoldsSq, HoldsQueues, IsPending, IsOpenedFor, IsUnopened, Stands}
+use Rattle.nvme_state.specs.inside.Kept.{SqKept, Kept, put_sq}
+use Rattle.nvme_state.specs.inside.Standing.{HoldsSq, HoldsQueues, IsPending, IsOpenedFor, IsUnopened, Stands}
 use Rattle.nvme_log.specs.Effects.{made_by}
 use Rattle.nvme_log.proofs.Tables.{as_open-unless_closing, finished_cq, step, events_sq, events_cq}
 use Rattle.nvme_log.proofs.UsedRegions.{used-entry, used-finished}
-use Rattle.nvme_state.specs.Steps.{picked_sq, after_pick, applied_to, verdict_at}
+use Rattle.nvme_state.specs.inside.Steps.{picked_sq, after_pick, applied_to, verdict_at}
 use Rattle.nvme_state.proofs.AfterSteps.{fetched_sq, after_admin, with_events}
 use Rattle.nvme_state.proofs.StepKeeps.{Queues, KeepsFetch, KeepsIo, KeepsAdmin, KeepsPost, KeepsClose}
 use Rattle.nvme_state.proofs.QueueWords.{in_log, in_kept, counted, OpenedFor, Agree, at_same, put-queue}

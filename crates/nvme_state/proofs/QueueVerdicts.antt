@@ -24,7 +24,7 @@ use Rattle.nvme_log.specs.Rules.{FrontRules, Past}
 use Rattle.nvme_log.specs.Queues.{Queue, open_sq, open_cq}
 use Rattle.nvme_log.specs.Places.{waiting}
 use Rattle.nvme_log.specs.Effects.{closing_of, closed_cq_of, made_by}
-use Rattle.nvme_state.specs.Kept.{SqKept, Kept}
+use Rattle.nvme_state.specs.inside.Kept.{SqKept, Kept}
 use Rattle.nvme_state.proofs.AfterSteps.{IsChosen, after_admin, deleting_from, with_events}
 use Rattle.nvme_log.proofs.UsedRegions.{used_after}
 use Rattle.nvme_state.proofs.QueueWords.{KeptQueues, in_log, in_kept, Agree, at_other, put-queue}

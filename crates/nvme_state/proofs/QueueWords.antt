@@ -12,8 +12,8 @@ use Rattle.nvme_state.specs.declared.candidate.PendingDelete.{PendingDelete}
 use Rattle.nvme_state.specs.declared.attachment.Attachment.{Attachment}
 use Rattle.nvme_log.specs.Rules.{Past}
 use Rattle.nvme_log.specs.Queues.{Queue, open_sq, open_cq, is_closed_region, qid_of_region, cq_region_of}
-use Rattle.nvme_state.specs.Kept.{SqKept, Kept, put_sq}
-use Rattle.nvme_state.specs.Standing.{IsGone, IsOpenedFor}
+use Rattle.nvme_state.specs.inside.Kept.{SqKept, Kept, put_sq}
+use Rattle.nvme_state.specs.inside.Standing.{IsGone, IsOpenedFor}
 
 -- what a log says of queues: the open ones, the closed regions, and what each region was opened for
 pub record LogQueues : Type 0 where

@@ -24,9 +24,10 @@ use Rattle.nvme_log.specs.Rules.{FrontRules, Past}
 use Rattle.nvme_log.specs.Queues.{cq_region_of}
 use Rattle.nvme_log.specs.Places.{Place, fetched, fate_of, is_waiting, waiting, entry_at, is_aborted}
 use Rattle.nvme_log.specs.Completions.{posts_of}
-use Rattle.nvme_state.specs.Jobs.{JobsView, in_hand, dispatched_place}
-use Rattle.nvme_state.specs.Kept.{SqKept, Kept, put_sq}
-use Rattle.nvme_state.specs.Standing.{HoldsSq, HoldsReady, IsReady, times_in, times_held, held_by, hand_of, ready_aborted, Stands}
+use Rattle.nvme_state.specs.inside.Jobs.{JobsView, dispatched_place}
+use Rattle.nvme_state.specs.Hands.{in_hand}
+use Rattle.nvme_state.specs.inside.Kept.{SqKept, Kept, put_sq}
+use Rattle.nvme_state.specs.inside.Standing.{HoldsSq, HoldsReady, IsReady, times_in, times_held, held_by, hand_of, ready_aborted, Stands}
 use Rattle.nvme_log.specs.Places.{is_served, one_if}
 use Rattle.nvme_log.proofs.Waiting.{times-upto}
 use Rattle.nvme_state.proofs.Windows.{times_in_window, All-from_map, sum_by-map}
@@ -34,7 +35,7 @@ use Rattle.nvme_state.proofs.Served.{aborts-leave}
 use Rattle.nvme_state.proofs.Readying.{over_none, GrowsBy, put-grows, readies, sum_by-none, sum_by-ones, IsMade, times_in-own, times_in-other, Moves, served-moves, at_put, waiting-unaborted}
 use Rattle.nvme_state.proofs.ReadyChange.{aborted-sum, becomes-ready, pick-moves}
 use Rattle.nvme_state.proofs.ReadyGains.{sum-in_hand, length-in_hand}
-use Rattle.nvme_state.specs.Steps.{picked_sq, aborted, applied_to}
+use Rattle.nvme_state.specs.inside.Steps.{picked_sq, aborted, applied_to}
 use Rattle.nvme_state.proofs.AfterSteps.{with_events, place_of, answered, with_deleting}
 
 -- ---- regions

@@ -13,12 +13,12 @@ use Rattle.nvme_log.specs.Limits.{max_outstanding}
 use Rattle.nvme_log.specs.Rules.{Past}
 use Rattle.nvme_log.specs.Queues.{cq_region_of}
 use Rattle.nvme_log.specs.Completions.{posts_of}
-use Rattle.nvme_state.specs.Kept.{SqKept, Kept}
+use Rattle.nvme_state.specs.inside.Kept.{SqKept, Kept}
 use Rattle.nvme_log.specs.Places.{Place}
-use Rattle.nvme_state.specs.Standing.{HoldsReady, IsReady, times_in, times_held, times_ready, ready_picked, ready_aborted}
+use Rattle.nvme_state.specs.inside.Standing.{HoldsReady, IsReady, times_in, times_held, times_ready, ready_picked, ready_aborted}
 use Rattle.nvme_log.specs.Places.{is_served, one_if}
 use Rattle.nvme_state.proofs.Windows.{times_in_window}
-use Rattle.nvme_state.specs.Steps.{picked_sq}
+use Rattle.nvme_state.specs.inside.Steps.{picked_sq}
 use Rattle.nvme_state.proofs.Readying.{Moves, over_same, over_at, GrowsBy, readies, sum_ready, sum_ready-grows}
 
 -- the ready completions of picked places are a sum over all that are ready

@@ -4,7 +4,8 @@ use Rattle.std.specs.Prelude.{sum_by, All, option_map}
 use Rattle.std.proofs.lemmas.Bool.{eq-eqb, ne_eqb}
 use Rattle.std.proofs.lemmas.List.{append_assoc, length-append}
 use Rattle.std.proofs.lemmas.List.Sums.{sum_by-cons, sum_by-append}
-use Rattle.std.proofs.lemmas.List.Elements.{All-nil, All-cons, All-head, All-tail, All-same}
+use Rattle.std.proofs.lemmas.List.Elements.{All-nil, All-cons, All-head}
+use Rattle.std.proofs.lemmas.List.Sorted.{length_permutation}
 use Rattle.nvme_state.specs.declared.candidate.Candidate.{Candidate}
 use Rattle.nvme_state.specs.declared.candidate.Dispatched.{Dispatched}
 use Rattle.nvme_state.specs.declared.candidate.Ready.{Ready}
@@ -12,14 +13,16 @@ use Rattle.nvme_state.specs.declared.attachment.Attachment.{Attachment}
 use Rattle.nvme_log.specs.Rules.{Past}
 use Rattle.nvme_log.specs.Places.{Place}
 use Rattle.nvme_log.specs.Completions.{posted_to}
-use Rattle.nvme_state.specs.Jobs.{Hands, JobsView, in_hand, dispatched_place, dispatched_from, gained_jobs}
-use Rattle.nvme_state.specs.Kept.{CqKept, Kept, put_cq}
-use Rattle.nvme_state.specs.Standing.{HoldsPosts, HoldsReady, IsDispatched, IsReady, held_by, hand_of, times_held}
+use Rattle.nvme_state.specs.Hands.{Hands, in_hand}
+use Rattle.nvme_state.specs.inside.Jobs.{JobsView, dispatched_place, dispatched_from, gained_jobs}
+use Rattle.nvme_state.specs.inside.Kept.{CqKept, Kept, put_cq}
+use Rattle.nvme_state.specs.inside.Standing.{HoldsPosts, HoldsReady, IsDispatched, IsReady, held_by, hand_of, times_held}
 use Rattle.nvme_log.specs.Places.{one_if}
 use Rattle.nvme_state.proofs.Windows.{times_in_window, sum_by-map}
 use Rattle.nvme_state.proofs.Readying.{put-grows, sum_by-ones, at_put_cq}
 use Rattle.nvme_state.proofs.ReadyChange.{becomes-ready}
 use Rattle.nvme_state.proofs.AfterSteps.{completed, after_gain}
+use Rattle.nvme_state.proofs.JobAccounts.{each-gained, sum_by-gained_one}
 use Rattle.nvme_state.proofs.StepKeeps.{KeepsHand, KeepsGain, KeepsStray, ReadyOnes, Posts}
 
 -- ---- the places in hand
@@ -113,32 +116,13 @@ pub posts-stray : KeepsStray Posts
 posts-stray rules late past k result seat s can = record { posted_is = s.posts.posted_is; counted = s.posts.counted }
 
 -- ---- a result is gained
--- what holds of each of a list's elements holds of one amid it
-All-amid : {X : Type 0} (P : X → Type 0) (before : List X) (x : X) (after : List X) → All P (before ++ x ∷ after) → P x
-All-amid P [] x after h = All-head P x after h
-All-amid P (y ∷ before) x after h = All-amid P before x after (All-tail P y (before ++ x ∷ after) h)
-
--- the command of a result is one that is in hand
-its-dispatched : (past : Past) (h : Hands) (before : List Dispatched) (d : Dispatched) (after : List Dispatched) → h.running ≡ before ++ d ∷ after
-    → All (IsDispatched past) (in_hand h) → IsDispatched past d
-its-dispatched past h before d after e each =
-    All-amid (IsDispatched past) before d (after ++ h.unhanded)
-    (All-same (IsDispatched past) _ _ (sym (ap (λ (ds : List Dispatched). ds ++ h.unhanded) e ∙ append_assoc before (d ∷ after) h.unhanded)) each)
-
--- a sum over a list, one amid it and the others
-sum-amid : {X : Type 0} (f : X → ℕ) (before : List X) (x : X) (after : List X) → sum_by f (before ++ x ∷ after) ≡ f x + sum_by f (before ++ after)
-sum-amid f before x after = omega (arith, sum_by-append f before (x ∷ after), sum_by-cons f x after, sum_by-append f before after)
-
--- a list with one amid it is longer by one
-length-amid : {X : Type 0} (before : List X) (x : X) (after : List X) → length (before ++ x ∷ after) ≡ 1 + length (before ++ after)
-length-amid before x after = omega (arith, length-append before (x ∷ after), length-append before after)
-
 -- the place of a gained result goes from those in hand to those that are ready
 pub ready-gain : KeepsGain ReadyOnes
-ready-gain rules late past k before d after result seat c qid s can its attached regions =
-    let new : Kept = after_gain k d (before ++ after) seat c result in
+ready-gain rules late past k d rest result seat c qid s can its attached regions =
+    let new : Kept = after_gain k d rest seat c result in
     let t : Ready = completed d result in
-    let at : IsDispatched past d = its-dispatched past k.jobs.hands before d after its.running_is s.jobs.each in
+    let at : IsDispatched past d =
+    All-head (IsDispatched past) d (rest ++ k.jobs.hands.unhanded) (each-gained (IsDispatched past) k.jobs.hands d rest its.running_is s.jobs.each) in
     becomes-ready past past k new (hand_of k) (hand_of new) c (t ∷ []) s.ready (record {
       small = omega (arith, s.queues.posts_there d.region (record { qid = qid; cq_region = c }) attached, s.tabled.few_cqs);
       grows = put-grows k.cq c (t ∷ []);
@@ -150,8 +134,7 @@ ready-gain rules late past k before d after result seat c qid s can its attached
             arith,
             sum-in_hand place k.jobs.hands (held_by k.deletion),
             sum-in_hand place new.jobs.hands (held_by k.deletion),
-            ap (sum_by runs) its.running_is,
-            sum-amid runs before d after,
+            sum_by-gained_one runs k.jobs.hands.running d rest its.running_is,
           );
       stay = λ x u served h. h;
       new = All-cons (IsReady past k.deletion c) t [] (record {
@@ -165,8 +148,7 @@ ready-gain rules late past k before d after result seat c qid s can its attached
             arith,
             length-in_hand k.jobs.hands (held_by k.deletion),
             length-in_hand new.jobs.hands (held_by k.deletion),
-            ap (λ (ds : List Dispatched). length ds) its.running_is,
-            length-amid before d after,
+            length_permutation k.jobs.hands.running (d ∷ rest) its.running_is,
           );
       few_aborted = omega (arith, s.ready.few_aborted);
       few_taken = s.ready.few_taken;
@@ -185,5 +167,5 @@ same_posts past later k after a ts h is same = record {
 
 -- a result that is gained posts nothing
 pub posts-gain : KeepsGain Posts
-posts-gain rules late past k before d after result seat c qid s can its attached =
-    same_posts past past k (after_gain k d (before ++ after) seat c result) c _ s.posts refl (λ x. refl)
+posts-gain rules late past k d rest result seat c qid s can its attached =
+    same_posts past past k (after_gain k d rest seat c result) c _ s.posts refl (λ x. refl)

@@ -6,9 +6,9 @@ use Rattle.nvme_admin.specs.declared.bounds.TheConstants.{MAX_REGIONS}
 use Rattle.nvme_state.specs.declared.candidate.Ready.{Ready}
 use Rattle.nvme_log.specs.Limits.{max_ready}
 use Rattle.nvme_log.specs.Rules.{Past}
-use Rattle.nvme_state.specs.Kept.{Kept}
+use Rattle.nvme_state.specs.inside.Kept.{Kept}
 use Rattle.nvme_log.specs.Places.{Place}
-use Rattle.nvme_state.specs.Standing.{HoldsReady}
+use Rattle.nvme_state.specs.inside.Standing.{HoldsReady}
 use Rattle.nvme_state.proofs.PostedPlaces.{over_regions_at}
 
 -- an item more, on one of two lists

@@ -31,9 +31,9 @@ use Rattle.nvme_log.specs.Queues.{Queue, admin_queue, open_sq, open_cq}
 use Rattle.nvme_log.specs.Places.{Place, waiting}
 use Rattle.nvme_log.specs.Completions.{is_posted, posts_of, posted_to}
 use Rattle.nvme_log.specs.Effects.{closing_of, closed_cq_of}
-use Rattle.nvme_state.specs.Jobs.{dispatched_from}
-use Rattle.nvme_state.specs.Kept.{SqKept, CqKept, Kept, put_sq, with_ready}
-use Rattle.nvme_state.specs.Standing.{HoldsSq, HoldsPosts, IsReady, times_held, held_by, hand_of, deleted_place, Stands}
+use Rattle.nvme_state.specs.inside.Jobs.{dispatched_from}
+use Rattle.nvme_state.specs.inside.Kept.{SqKept, CqKept, Kept, put_sq, with_ready}
+use Rattle.nvme_state.specs.inside.Standing.{HoldsSq, HoldsPosts, IsReady, times_held, held_by, hand_of, deleted_place, Stands}
 use Rattle.nvme_log.specs.Places.{one_if, is_served}
 use Rattle.nvme_state.proofs.Served.{served-fetch, aborts-leave, entry_stays}
 use Rattle.nvme_state.proofs.Readying.{unposted-counts, Pops, readies, sum_ready-pops, at_put_cq, put-grows, none-grows, Moves, served-moves, at_put}
@@ -42,7 +42,7 @@ use Rattle.nvme_log.proofs.Posts.{posts_of-some}
 use Rattle.nvme_state.proofs.JobLists.{length-dispatched}
 use Rattle.nvme_state.proofs.ReadyGains.{sum-in_hand, length-in_hand, times_dispatched, dispatched-own, dispatched-other, same_posts}
 use Rattle.nvme_state.proofs.ReadyAdmin.{unused_apart, SamePlaces, Answers, answers-ready, deletes-ready}
-use Rattle.nvme_state.specs.Steps.{CanPick, applied_to, verdict_at, picked_sq}
+use Rattle.nvme_state.specs.inside.Steps.{CanPick, applied_to, verdict_at, picked_sq}
 use Rattle.nvme_state.proofs.AfterSteps.{with_events, answered, deleting_from, after_admin, admin_past, IsChosen, closed_event, after_closed, deleted, fetch_event, after_fetch, after_io, post_event, posted_cq, after_post}
 use Rattle.nvme_state.proofs.StepKeeps.{KeepsFetch, KeepsIo, KeepsAdmin, KeepsPost, KeepsClose, ReadyOnes, Posts}
 

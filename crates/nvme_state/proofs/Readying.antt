@@ -11,8 +11,8 @@ use Rattle.nvme_state.specs.declared.candidate.Ready.{Ready}
 use Rattle.nvme_log.specs.Rules.{Past}
 use Rattle.nvme_log.specs.Places.{fetched, places, WasAborted, WasPicked, Waits, fate_of, is_waiting, is_aborted, unaborted_below, picked}
 use Rattle.nvme_log.specs.Completions.{is_posted}
-use Rattle.nvme_state.specs.Kept.{SqKept, CqKept, put_sq, put_cq}
-use Rattle.nvme_state.specs.Standing.{HoldsSq, times_in, over_regions}
+use Rattle.nvme_state.specs.inside.Kept.{SqKept, CqKept, put_sq, put_cq}
+use Rattle.nvme_state.specs.inside.Standing.{HoldsSq, times_in, over_regions}
 use Rattle.nvme_log.specs.Places.{is_served, one_if}
 use Rattle.nvme_log.specs.Completions.{unposted_of}
 use Rattle.nvme_log.proofs.Waiting.{times-upto}

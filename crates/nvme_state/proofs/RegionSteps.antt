@@ -12,7 +12,7 @@ use Rattle.nvme_admin.specs.QueueTable.{QueueTable, table_in, io_sq_in, io_cq_in
 use Rattle.nvme_admin.specs.Accepted.{effects_of, queue_table}
 use Rattle.nvme_admin.specs.Standing.{TableView, Shows}
 use Rattle.nvme_admin.specs.declared.region.Region.{Region}
-use Rattle.nvme_state.specs.Kept.{sq_steps, cq_steps}
+use Rattle.nvme_state.specs.Regions.{sq_steps, cq_steps}
 
 -- a step that adds a region
 abbrev pub is_addition : TableStep → Bool

@@ -28,10 +28,10 @@ use Rattle.nvme_log.specs.Rules.{FrontRules, Past}
 use Rattle.nvme_log.specs.Queues.{Queue, admin_queue, open_sq, open_cq, has_region}
 use Rattle.nvme_log.specs.Places.{fetched, picked, is_aborted, unaborted_below, entry_at, waiting}
 use Rattle.nvme_log.specs.Completions.{is_posted}
-use Rattle.nvme_state.specs.Kept.{SqKept, Kept, put_sq}
+use Rattle.nvme_state.specs.inside.Kept.{SqKept, Kept, put_sq}
 use Rattle.nvme_log.specs.Effects.{made_by, closing_of, closed_cq_of}
-use Rattle.nvme_state.specs.Standing.{HoldsSq, HoldsQueues, IsReady}
-use Rattle.nvme_state.specs.Steps.{picked_sq, applied_to, verdict_at}
+use Rattle.nvme_state.specs.inside.Standing.{HoldsSq, HoldsQueues, IsReady}
+use Rattle.nvme_state.specs.inside.Steps.{picked_sq, applied_to, verdict_at}
 use Rattle.nvme_state.proofs.AfterSteps.{with_events, fetched_sq, after_admin, deleting_from}
 use Rattle.nvme_state.proofs.StepKeeps.{Regions, KeepsFetch, KeepsIo, KeepsAdmin, KeepsPost, KeepsClose}
 use Rattle.nvme_log.proofs.Waiting.{left, left-more, unaborted, waiting_is-drop, fetched-fetch, fetched-fetch_other, waiting-fetch, waiting-same, unaborted_below-same, picked-pick, picked-pick_other, waiting-pick, waiting-abort, is_aborted-abort, is_aborted-abort_other, few_picked-abort}

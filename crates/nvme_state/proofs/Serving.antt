@@ -13,9 +13,9 @@ use Rattle.nvme_log.specs.Rules.{Past, FrontRules, upto}
 use Rattle.nvme_log.specs.Queues.{Queue, Deletion, open_sq, has_region, is_open_region, pending}
 use Rattle.nvme_log.specs.Laws.{as_open}
 use Rattle.nvme_log.specs.Queues.{is_deleted_region, is_serving}
-use Rattle.nvme_state.specs.Standing.{is_on}
-use Rattle.nvme_state.specs.Kept.{Kept}
-use Rattle.nvme_state.specs.Standing.{as_deletion, IsPending, Stands}
+use Rattle.nvme_state.specs.inside.Standing.{is_on}
+use Rattle.nvme_state.specs.inside.Kept.{Kept}
+use Rattle.nvme_state.specs.inside.Standing.{as_deletion, IsPending, Stands}
 
 -- a number below the bound passes
 pub any_below : (test : ℕ → Bool) (n i : ℕ) → i < n → test i ≡ true → list_any test (upto n) ≡ true

@@ -1,6 +1,6 @@
 -- Each step of a front keeps all that stands.
 use Rattle.nvme_state.proofs.StepKeeps.{KeepsFetch, KeepsIo, KeepsAdmin, KeepsPost, KeepsClose, KeepsHand, KeepsGain, KeepsStray, Invariant}
-use Rattle.nvme_state.specs.Standing.{Stands}
+use Rattle.nvme_state.specs.inside.Standing.{Stands}
 use Rattle.nvme_state.proofs.Regions.{regions-fetch, regions-io, regions-admin, regions-post, regions-close}
 use Rattle.nvme_state.proofs.ReadySteps.{ready-fetch, ready-io, ready-admin, ready-post, ready-close, posts-fetch, posts-io, posts-admin, posts-post, posts-close}
 use Rattle.nvme_state.proofs.ReadyGains.{ready-hand, ready-gain, ready-stray, posts-hand, posts-gain, posts-stray}
@@ -116,19 +116,19 @@ stands-hand rules late past k d rest seat s can =
 
 -- where a result is gained, and its completion is ready, all stands
 pub stands-gain : KeepsGain Standing
-stands-gain rules late past k before d after result seat c qid s can its at =
-    let r = regions-gain rules late past k before d after result seat c qid s can its at in
+stands-gain rules late past k d rest result seat c qid s can its at =
+    let r = regions-gain rules late past k d rest result seat c qid s can its at in
     record {
       regions = r;
-      ready = ready-gain rules late past k before d after result seat c qid s can its at r;
-      jobs = jobs-gain rules late past k before d after result seat c qid s can its at r;
-      counts = counts-gain rules late past k before d after result seat c qid s can its at r;
-      posts = posts-gain rules late past k before d after result seat c qid s can its at;
-      queues = queues-gain rules late past k before d after result seat c qid s can its at r;
-      deletion = deleting-gain rules late past k before d after result seat c qid s can its at r;
-      arbitration = arbitration-gain rules late past k before d after result seat c qid s can its at;
-      tabled = tabled-gain rules late past k before d after result seat c qid s can its at;
-      accounts = accounted-gain rules late past k before d after result seat c qid s can its at r;
+      ready = ready-gain rules late past k d rest result seat c qid s can its at r;
+      jobs = jobs-gain rules late past k d rest result seat c qid s can its at r;
+      counts = counts-gain rules late past k d rest result seat c qid s can its at r;
+      posts = posts-gain rules late past k d rest result seat c qid s can its at;
+      queues = queues-gain rules late past k d rest result seat c qid s can its at r;
+      deletion = deleting-gain rules late past k d rest result seat c qid s can its at r;
+      arbitration = arbitration-gain rules late past k d rest result seat c qid s can its at;
+      tabled = tabled-gain rules late past k d rest result seat c qid s can its at;
+      accounts = accounted-gain rules late past k d rest result seat c qid s can its at r;
     }
 
 -- where a result of no job is gained, and dropped, all stands

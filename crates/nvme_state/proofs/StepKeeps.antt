@@ -17,10 +17,10 @@ use Rattle.nvme_pool.specs.Seat.{SeatView}
 use Rattle.nvme_log.specs.Rules.{FrontRules, Past}
 use Rattle.nvme_log.specs.Queues.{Queue, admin_queue}
 use Rattle.nvme_log.specs.Places.{observation_of}
-use Rattle.nvme_state.specs.Kept.{Kept}
-use Rattle.nvme_state.specs.Jobs.{CanHand, handed_jobs, CanGain, IsResultOf, gained_jobs}
-use Rattle.nvme_state.specs.Standing.{HoldsSq, HoldsReady, HoldsCounts, HoldsPosts, HoldsQueues, HoldsDeletion, HoldsArbitration, HoldsTable, HoldsJobs, Accounts, hand_of, Stands}
-use Rattle.nvme_state.specs.Steps.{CanPick, CanApply, verdict_at, applied_to}
+use Rattle.nvme_state.specs.inside.Kept.{Kept}
+use Rattle.nvme_state.specs.inside.Jobs.{CanHand, handed_jobs, CanGain, IsResultOf, gained_jobs}
+use Rattle.nvme_state.specs.inside.Standing.{HoldsSq, HoldsReady, HoldsCounts, HoldsPosts, HoldsQueues, HoldsDeletion, HoldsArbitration, HoldsTable, HoldsJobs, Accounts, hand_of, Stands}
+use Rattle.nvme_state.specs.inside.Steps.{CanPick, CanApply, verdict_at, applied_to}
 use Rattle.nvme_state.proofs.AfterSteps.{CanFetch, fetch_event, after_fetch, after_io, after_gain, admin_past, CanPost, post_event, after_post, CanClose, closed_event, after_closed, after_admin, IsChosen}
 
 -- ---- what is kept by each step
@@ -46,11 +46,11 @@ KeepsHand X = (rules : FrontRules) (late : Bool) (past : Past) (k : Kept) (d : D
 
 -- a result is gained, and its completion is ready
 abbrev pub KeepsGain : Invariant → Type 0
-KeepsGain X = (rules : FrontRules) (late : Bool) (past : Past) (k : Kept) (before : List Dispatched) (d : Dispatched) (after : List Dispatched)
+KeepsGain X = (rules : FrontRules) (late : Bool) (past : Past) (k : Kept) (d : Dispatched) (rest : List Dispatched)
     (result : Finished) (seat : SeatView) (c qid : ℕ)
-    → Stands rules late past k → CanGain k.jobs result seat → IsResultOf rules.sizes k.jobs before d after result
+    → Stands rules late past k → CanGain k.jobs result seat → IsResultOf rules.sizes k.jobs d rest result
     → (k.sq d.region).queue ≡ Some (record { qid = qid; cq_region = c })
-    → X rules late past (after_gain k d (before ++ after) seat c result)
+    → X rules late past (after_gain k d rest seat c result)
 
 -- a result of no job is gained, and dropped
 abbrev pub KeepsStray : Invariant → Type 0

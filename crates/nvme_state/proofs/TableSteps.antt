@@ -24,10 +24,10 @@ use Rattle.nvme_log.specs.Queues.{Queue, admin_queue, open_sq, open_cq}
 use Rattle.nvme_log.specs.Places.{waiting}
 use Rattle.nvme_log.specs.Histories.{table_history, admin_entry, applied}
 use Rattle.nvme_log.specs.Effects.{closed_cq_of, closing_of, made_by}
-use Rattle.nvme_state.specs.Kept.{SqKept, CqKept, Kept, with_sq, with_cq, with_ready}
-use Rattle.nvme_state.specs.Standing.{HoldsTable}
+use Rattle.nvme_state.specs.inside.Kept.{SqKept, CqKept, Kept, with_sq, with_cq, with_ready}
+use Rattle.nvme_state.specs.inside.Standing.{HoldsTable}
 use Rattle.nvme_state.proofs.Oldest.{admin_entry_is}
-use Rattle.nvme_state.specs.Steps.{applied_to, aborted, verdict_at, after_pick, picked_sq}
+use Rattle.nvme_state.specs.inside.Steps.{applied_to, aborted, verdict_at, after_pick, picked_sq}
 use Rattle.nvme_state.proofs.AfterSteps.{with_events, with_readies, admin_past, after_admin, deleting_from, with_opened, with_deleting, after_io, after_post, after_closed, posted_cq, post_event, closed_event}
 use Rattle.nvme_state.proofs.StepKeeps.{KeepsFetch, KeepsIo, KeepsAdmin, KeepsPost, KeepsClose, Tabled}
 

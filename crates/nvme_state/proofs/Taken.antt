@@ -3,7 +3,7 @@ use Rattle.std.proofs.Common.{◌≡◌, ℕ, ◌+◌, ◌<◌, List, [], ◌∷
 use Rattle.std.specs.Prelude.{slice_get}
 use Rattle.std.proofs.lemmas.List.{take_more, map-append, drop-drop, get_or-drop, length-drop}
 use Rattle.std.proofs.lemmas.Option.{slice_get_within, get_or_from_slice_get}
-use Rattle.nvme_state.specs.Fifo.{FifoView}
+use Rattle.nvme_state.specs.inside.Fifo.{FifoView}
 
 module _ {X : Type 0} (xs : List X) (n : ℕ) (x : X) (oldest : Some x ≡ slice_get (drop n xs) 0) where
   -- the oldest item after n were taken is there

@@ -9,9 +9,9 @@ use Rattle.std.proofs.lemmas.Option.{slice_get-get_or, slice_get-map, same_Some}
 use Rattle.nvme_state.specs.declared.candidate.Candidate.{Candidate}
 use Rattle.nvme_log.specs.Rules.{Past}
 use Rattle.nvme_log.specs.Places.{fetched, waiting, fate_of, is_waiting}
-use Rattle.nvme_state.specs.Kept.{SqKept}
+use Rattle.nvme_state.specs.inside.Kept.{SqKept}
 use Rattle.nvme_log.specs.Places.{one_if, is_served}
-use Rattle.nvme_state.specs.Standing.{HoldsSq}
+use Rattle.nvme_state.specs.inside.Standing.{HoldsSq}
 use Rattle.nvme_log.proofs.Waiting.{times_among, times-waiting, served-or_waits, waiting-below, waiting-ascending, waiting-waits, waiting-contains}
 
 -- the index of a candidate

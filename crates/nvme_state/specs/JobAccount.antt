@@ -5,7 +5,7 @@ use Rattle.nvme_pool.specs.declared.jobs.Job.{Job}
 use Rattle.nvme_pool.specs.declared.jobs.Finished.{Finished}
 use Rattle.nvme_pool.specs.Jobs.{result_of}
 use Rattle.nvme_log.specs.Rules.{Past}
-use Rattle.nvme_state.specs.Jobs.{Hands, job_in}
+use Rattle.nvme_state.specs.Hands.{Hands, job_in}
 use Rattle.nvme_log.specs.Dispatches.{AreJobs, dispatched}
 
 -- the jobs that the front handed, followed by those that it keeps, are those of the picked places of I/O queues, with tickets that count from

@@ -13,7 +13,7 @@ pub struct Fifo<T: Copy> {
 impl<T: Copy> Model for Fifo<T> {
     ghost use Rattle.std.specs.Prelude.{◌≤◌};
     ghost use Rattle.std.specs.VecDeque.{deque_len, deque_capacity};
-    ghost use Rattle.nvme_state.specs.Fifo.{FifoView};
+    ghost use Rattle.nvme_state.specs.inside.Fifo.{FifoView};
 
     ghost Value = { FifoView T };
 

@@ -1,22 +1,20 @@
 // The jobs of picked I/O commands: which are handed to the workers, and which wait for their result.
-ghost use Rattle.std.specs.Prelude.{◌≡◌, ◌↔◌, ◌<◌, IsTrue, IfSome, IfNone, length, slice_index_or};
-ghost use Rattle.std.specs.List.{All};
-ghost use Rattle.nvme_pool.specs.Jobs.{job_of};
-ghost use Rattle.nvme_state.specs.Jobs.{job_in, IsOfNone};
-ghost use Rattle.nvme_state.specs.declared.candidate.Dispatched.{Dispatched};
+ghost use Rattle.std.specs.Prelude.{◌≡◌};
+ghost use Rattle.nvme_state.specs.Hands.{job_in};
 
 use crate::candidate::{Candidate, Dispatched};
 use crate::fifo::Fifo;
-use nvme_entry::Namespaces;
+use crate::running::Running;
+use nvme_entry::{Namespaces, Status};
 use nvme_log::MAX_OUTSTANDING;
-use nvme_pool::{Finished, FrontSeat, Job, Lanes, Worker, close};
+use nvme_pool::{FrontSeat, Job, Lanes, Worker, close};
 use std::alloc::Global;
 use std::marker::Model;
 use std::snapshot::Snapshot;
 use std::sync::Wait;
 
-/// The front's seat at its workers, the picked commands whose job isn't handed yet, and those whose job was handed and
-/// whose result isn't gained yet, both the oldest first. Tickets count the picked commands from 0.
+/// The front's seat at its workers, the picked commands whose job isn't handed yet, the oldest first, and those whose job
+/// was handed and whose result isn't gained yet, in any order. Tickets count the picked commands from 0.
 #[derive(Drop)]
 pub struct Jobs {
     seat: FrontSeat,
@@ -24,18 +22,18 @@ pub struct Jobs {
     came: Snapshot<FrontSeat>,
     tickets: u32,
     unhanded: Fifo<Dispatched>,
-    running: Vec<Dispatched>,
+    running: Running,
 }
 
 impl Model for Jobs {
-    ghost use Rattle.std.specs.Prelude.{◌≤◌, vec_capacity};
-    ghost use Rattle.nvme_state.specs.Jobs.{JobsView};
+    ghost use Rattle.std.specs.Prelude.{◌≤◌};
+    ghost use Rattle.nvme_state.specs.inside.Jobs.{JobsView};
 
     ghost Value = { JobsView };
 
     ghost view = { λ j. record { hands = record { came = j.came.value; seat = j.seat; unhanded = j.unhanded.items; running = j.running.items }; tickets = j.tickets; room = j.unhanded.room } };
 
-    ghost invariant = { λ j. j.unhanded.room ≤ vec_capacity j.running };
+    ghost invariant = { λ j. j.unhanded.room ≤ j.running.room };
 }
 
 /// What a look for a result came to.
@@ -43,8 +41,8 @@ impl Model for Jobs {
 pub enum Gained {
     /// No result was there.
     Nothing,
-    /// The result of a picked command, which doesn't wait for it any more.
-    Result(Dispatched, Finished),
+    /// The result of a picked command, which doesn't wait for it any more: the command, and its status.
+    Result(Dispatched, Status),
     /// A result with this ticket, which is of no command that waits for its result. It is dropped.
     Stray(u32),
 }
@@ -60,32 +58,12 @@ fn job_for(dispatched: &Dispatched, spaces: &Namespaces) -> Job
     }
 }
 
-// A result has the ticket, the command and the namespaces of a picked command's job.
-fn is_result_of(finished: &Finished, dispatched: &Dispatched, spaces: &Namespaces) -> bool
-    ensures { IsTrue result ↔ (job_of finished.now ≡ job_in spaces.now dispatched.now) }
-{
-    finished.ticket() == dispatched.ticket
-        && finished.entry() == dispatched.entry
-        && finished.spaces() == *spaces
-}
-
-// Which of the picked commands a result is of.
-fn find(running: &[Dispatched], finished: &Finished, spaces: &Namespaces) -> Option<usize>
-    ensures there { IfSome result (λ i. i < length running.now) }
-    ensures found { IfSome result (λ i. (d : Dispatched) → job_of finished.now ≡ job_in spaces.now (slice_index_or running.now i d)) }
-    ensures none { IfNone result (IsOfNone spaces.now running.now finished.now) }
-{
-    running
-        .iter()
-        .position(|dispatched| is_result_of(finished, dispatched, spaces))
-}
-
 impl Jobs {
     ghost use Rattle.std.specs.Prelude.{◌≡◌, ◌⊎◌, ◌+◌, ◌^◌, ◌<◌, ◌≤◌, [], ◌∷◌, ◌++◌, length, true, false, OnOk, IfErr};
     ghost use Rattle.nvme_pool.specs.Pool.{IsPool};
     ghost use Rattle.nvme_log.specs.Limits.{max_outstanding};
-    ghost use Rattle.nvme_state.specs.Jobs.{HandsOne, IsClosed};
-    ghost use Rattle.nvme_state.specs.Gains.{GainsBy};
+    ghost use Rattle.nvme_state.specs.inside.Jobs.{HandsOne, IsClosed};
+    ghost use Rattle.nvme_state.specs.inside.Gains.{GainsBy};
 
     /// No job was handed, and there is no room yet.
     pub fn new(alloc: Global, seat: FrontSeat) -> Jobs
@@ -97,7 +75,7 @@ impl Jobs {
             came,
             tickets: 0,
             unhanded: Fifo::empty(alloc),
-            running: Vec::new(alloc),
+            running: Running::empty(alloc),
         }
     }
 
@@ -156,7 +134,7 @@ impl Jobs {
             return false;
         }
         let _handed = self.unhanded.pop();
-        self.running.push_reserved(dispatched);
+        self.running.push(dispatched);
         true
     }
 
@@ -200,9 +178,9 @@ impl Jobs {
         let Some(finished) = self.seat.gain(lanes) else {
             return Gained::Nothing;
         };
-        let Some(i) = find(self.running.as_slice(), &finished, spaces) else {
+        let Some(dispatched) = self.running.take(&finished, spaces) else {
             return Gained::Stray(finished.ticket());
         };
-        Gained::Result(self.running.remove(i), finished)
+        Gained::Result(dispatched, finished.status())
     }
 }

@@ -8,6 +8,7 @@ mod candidate;
 mod fifo;
 mod jobs;
 mod region;
+mod running;
 
 pub use attachment::Attachment;
 pub use candidate::{Candidate, Dispatched, PendingDelete, Ready};

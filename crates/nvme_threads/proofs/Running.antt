@@ -1,49 +1,11 @@
--- A run of a worker goes on by one step, and the runs of a crew are those of its workers and its gates.
-use Rattle.std.proofs.Common.{◌≡◌, ℕ, List, [], ◌∷◌, ◌++◌, map, sym, ap, ◌∙◌, append_assoc}
-use Rattle.std.proofs.lemmas.List.Sums.{fold_push}
-use Rattle.std.specs.Prelude.{Option, Some, None}
+-- The runs of a crew are those of its workers and its gates.
+use Rattle.std.proofs.Common.{ℕ, List, [], ◌∷◌, map}
 use Rattle.std.specs.List.{AllZip}
-use Rattle.nvme_pool.specs.declared.jobs.Job.{Job}
-use Rattle.nvme_pool.specs.declared.jobs.Finished.{Finished}
-use Rattle.nvme_pool.specs.declared.worker.Worked.{Worked}
-use Rattle.nvme_pool.specs.declared.worker.Worked.TheVariants.{Did, Held, Nothing}
-use Rattle.nvme_pool.specs.Worker.{WorkerView, SameWorker}
-use Rattle.nvme_pool.specs.Steps.{StepsFrom, Steps}
-use Rattle.nvme_pool.proofs.Standing.{worker_stays_on}
+use Rattle.nvme_pool.specs.Runs.{Ran}
 use Rattle.nvme_threads.specs.declared.working.Crewman.{Crewman}
-use Rattle.nvme_threads.specs.Runs.{Ran, AllRan}
+use Rattle.nvme_threads.specs.Runs.{AllRan}
 
 module _ {G : Type 0} (runs : G → ℕ → G) where
-  -- a run goes on by a step that takes no job
-  ran_idle : (old : WorkerView) (view : G) (mid : WorkerView) (between : G) (new : WorkerView) (view' : G) → Ran runs old view mid between → SameWorker mid new
-      → new.taken ≡ mid.taken → new.executed ≡ mid.executed → view' ≡ between → Ran runs old view new view'
-  ran_idle old view mid between new view' ran same taken executed told =
-      record { same = worker_stays_on old mid new ran.same same; more = ran.more; taken = taken ∙ ran.taken; executed = executed ∙ ran.executed; told = told ∙ ran.told }
-
-  -- a run goes on by the execution of one job
-  ran_job : (old : WorkerView) (view : G) (mid : WorkerView) (between : G) (new : WorkerView) (view' : G) (job : Job) → Ran runs old view mid between → SameWorker mid new
-      → new.taken ≡ mid.taken ++ job ∷ [] → new.executed ≡ mid.executed ++ job ∷ [] → view' ≡ runs between job.ticket → Ran runs old view new view'
-  ran_job old view mid between new view' job ran same taken executed told = record {
-    same = worker_stays_on old mid new ran.same same;
-    more = ran.more ++ job ∷ [];
-    taken = taken ∙ ap (λ xs. xs ++ job ∷ []) ran.taken ∙ append_assoc old.taken ran.more (job ∷ []);
-    executed = executed ∙ ap (λ xs. xs ++ job ∷ []) ran.executed ∙ append_assoc old.executed ran.more (job ∷ []);
-    told = told ∙ ap (λ v. runs v job.ticket) ran.told ∙ sym (fold_push (λ (v : G) (j : Job). runs v j.ticket) view ran.more job);
-  }
-
-  -- a run goes on by one step, by what the worker kept before it
-  ran_from : (kept : Option Finished) (old : WorkerView) (view : G) (mid : WorkerView) (between : G) (worked : Worked) (new : WorkerView) (view' : G)
-      → Ran runs old view mid between → SameWorker mid new → StepsFrom runs kept mid between worked new view' → Ran runs old view new view'
-  ran_from (Some done) old view mid between worked new view' ran same step = ran_idle old view mid between new view' ran same step.0.0 step.0.1 step.1
-  ran_from None old view mid between Nothing new view' ran same step = ran_idle old view mid between new view' ran same step.0.0 step.0.1 step.1
-  ran_from None old view mid between Did new view' ran same step = ran_job old view mid between new view' step.0 ran same step.1.0 step.1.1 step.2
-  ran_from None old view mid between Held new view' ran same step = ran_job old view mid between new view' step.0 ran same step.1.0 step.1.1 step.2
-
-  -- a run goes on by one step
-  pub ran_step : (old : WorkerView) (view : G) (mid : WorkerView) (between : G) (worked : Worked) (new : WorkerView) (view' : G)
-      → Ran runs old view mid between → SameWorker mid new → Steps runs mid between worked new view' → Ran runs old view new view'
-  ran_step old view mid between worked new view' ran same step = ran_from mid.kept old view mid between worked new view' ran same step
-
   -- the workers and the gates of a crew ran as the crew did
   pub all_ran : (cs ds : List (Crewman G)) → AllZip (λ (c d : Crewman G). Ran runs c.worker c.gate d.worker d.gate) cs ds
       → AllRan runs (map (λ (c : Crewman G). c.worker) cs) (map (λ (c : Crewman G). c.gate) cs) (map (λ (c : Crewman G). c.worker) ds) (map (λ (c : Crewman G). c.gate) ds)

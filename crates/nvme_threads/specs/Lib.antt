@@ -1,4 +1,4 @@
-pub mod Drives
+pub mod Faults
 pub mod Hosts
 pub mod Runs
-pub mod Faults
+pub mod inside

@@ -2,7 +2,7 @@
 ghost use Rattle.std.specs.Prelude.{◌≡◌, ◌<◌, ◌⊎◌, Ok, Err, true, length, map, vec_len, IfOk, IfErr};
 ghost use Rattle.nvme_pool.specs.Pool.{IsPool};
 ghost use Rattle.nvme_front.specs.View.{GoesOn};
-ghost use Rattle.nvme_threads.specs.Drives.{CanDrive, Drove, ArePartsOf};
+ghost use Rattle.nvme_threads.specs.inside.Drives.{CanDrive, Drove, ArePartsOf};
 ghost use Rattle.nvme_threads.specs.Faults.{IsDriveFault, fault_of};
 ghost use Rattle.nvme_threads.specs.declared.driving.DriveError.TheVariants as drive_is;
 ghost use Rattle.nvme_threads.specs.Hosts.{feeder_seen, drainer_seen};
@@ -19,6 +19,7 @@ use std::alloc::{AllocError, Global};
 use std::sync::Wait;
 use std::thread;
 use std::thread::{Scope, Threads};
+use thiserror::Error;
 
 /// When the hosts submit their scripts.
 #[derive(Clone, Copy, Debug, PartialEq, Eq)]
@@ -30,11 +31,13 @@ pub enum Feeding {
 }
 
 /// Why a drive came to nothing. All threads are joined, and all that was driven is dropped.
-#[derive(Clone, Copy, Debug, PartialEq, Eq)]
+#[derive(Clone, Copy, Debug, PartialEq, Eq, Error)]
 pub enum DriveError {
     /// Memory was refused, or a thread couldn't be started.
+    #[error("out of memory")]
     NoMemory,
     /// A turn of the front failed so, and not for want of memory.
+    #[error("front: {0}")]
     Front(FrontError),
 }
 
@@ -163,6 +166,34 @@ fn taken_apart<G: Gate + Drop>(
     Ok((Shared { lanes, flags }, Driven { front, hosts }))
 }
 
+// The parts and the gates of what was driven.
+fn put_together<G: Gate + Drop>(
+    alloc: Global,
+    shared: Shared,
+    driven: Driven<G>,
+) -> Result<(Parts, Vec<G>), AllocError>
+    ensures { IfOk result (λ r. ArePartsOf shared driven r.0 r.1.items) }
+{
+    let Driven { front, hosts } = driven;
+    let Hosts {
+        feeders,
+        drainers,
+        crew,
+    } = hosts;
+    let Ok((workers, gates)) = apart(alloc, crew) else {
+        drop(front);
+        return Err(AllocError);
+    };
+    let parts = Parts {
+        front,
+        feeders,
+        drainers,
+        lanes: shared.lanes,
+        workers,
+    };
+    Ok((parts, gates))
+}
+
 // The parts and the gates of what was driven, unless the drive came to nothing.
 fn given_back<G: Gate + Drop>(
     alloc: Global,
@@ -178,24 +209,10 @@ fn given_back<G: Gate + Drop>(
         drop(driven);
         return Err(error);
     }
-    let Driven { front, hosts } = driven;
-    let Hosts {
-        feeders,
-        drainers,
-        crew,
-    } = hosts;
-    let Ok((workers, gates)) = apart(alloc, crew) else {
-        drop(front);
-        return Err(DriveError::NoMemory);
-    };
-    let parts = Parts {
-        front,
-        feeders,
-        drainers,
-        lanes: shared.lanes,
-        workers,
-    };
-    Ok((parts, gates))
+    match put_together(alloc, shared, driven) {
+        Ok(back) => Ok(back),
+        Err(_) => Err(DriveError::NoMemory),
+    }
 }
 
 /// Drives a front with its hosts and its workers: each feeder, each drainer and each worker on a thread of its own, each

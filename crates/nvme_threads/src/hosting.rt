@@ -1,7 +1,7 @@
 // The threads of a drive.
 ghost use Rattle.std.specs.Prelude.{◌≡◌, true};
 ghost use Rattle.std.specs.List.{All};
-ghost use Rattle.nvme_threads.specs.Drives.{AreThreadsOf, AreThreads, AreFeeders, HaveFed, HaveRun};
+ghost use Rattle.nvme_threads.specs.inside.Drives.{AreThreadsOf, AreThreads, AreFeeders, HaveFed, HaveRun};
 ghost use Rattle.nvme_threads.specs.declared.hosting.Hosts.{Hosts};
 
 use crate::driving::Feeding;

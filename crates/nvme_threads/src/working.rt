@@ -1,6 +1,6 @@
 // What the thread of a worker does.
 ghost use Rattle.std.specs.Prelude.{◌≡◌, IfOk, map, vec_len};
-ghost use Rattle.nvme_threads.specs.Runs.{Ran};
+ghost use Rattle.nvme_pool.specs.Runs.{Ran};
 
 use crate::flags::Flags;
 use crate::pausing::Pause;

@@ -1,6 +1,6 @@
 use Rattle.std.proofs.Common.{◌∙◌, ap, refl, arith}
 use Rattle.std.specs.Prelude.{slice_get}
-use Rattle.nvme_state.specs.Steps.{aborted}
+use Rattle.nvme_state.specs.inside.Steps.{aborted}
 use Rattle.nvme_log.specs.declared.event.Event.TheVariants.{Abort}
 use Rattle.nvme_state.specs.declared.candidate.Candidate.{Candidate}
 use Rattle.nvme_state.proofs.Taken.{made_more, left_more, gained_more}

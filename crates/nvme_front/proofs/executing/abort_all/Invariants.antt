@@ -1,6 +1,6 @@
 use Rattle.std.proofs.Common.{◌≡◌, ◌≤◌, ◌++◌, map, take, drop, length}
 use Rattle.std.specs.Prelude.{vec_capacity}
-use Rattle.nvme_state.specs.Steps.{aborted}
+use Rattle.nvme_state.specs.inside.Steps.{aborted}
 use Rattle.nvme_log.specs.declared.event.Event.TheVariants.{Abort}
 use Rattle.nvme_state.specs.declared.candidate.Candidate.{Candidate}
 use Rattle.nvme_front.proofs.executing.abort_all.Given as goal

@@ -2,7 +2,7 @@
 use Rattle.std.proofs.Common.{◌∙◌, List, [], ◌∷◌, take, length, sym, refl, ap, arith}
 use Rattle.std.specs.Prelude.{slice_get}
 use Rattle.std.proofs.lemmas.List.{length-append, length-take}
-use Rattle.nvme_state.specs.Jobs.{JobsView, with_picked, dispatched_from}
+use Rattle.nvme_state.specs.inside.Jobs.{JobsView, with_picked, dispatched_from}
 use Rattle.nvme_state.specs.declared.candidate.Candidate.{Candidate}
 use Rattle.nvme_state.proofs.Taken.{taken_more, left_more}
 use Rattle.nvme_state.proofs.JobLists.{length-dispatched, picked_push}

@@ -1,6 +1,6 @@
 -- The window has the candidates that are left, and the jobs those that were taken.
 use Rattle.std.proofs.Common.{◌≡◌, take, drop}
-use Rattle.nvme_state.specs.Jobs.{with_picked}
+use Rattle.nvme_state.specs.inside.Jobs.{with_picked}
 use Rattle.nvme_front.proofs.executing.dispatch_oldest.Given as goal
 
 abbrev pub invariant-loop : goal.invariant-loop

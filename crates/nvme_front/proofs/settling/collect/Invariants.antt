@@ -1,5 +1,5 @@
 use Rattle.std.proofs.Common.{◌≡◌, length}
-use Rattle.nvme_front.specs.Resting.{Collects}
+use Rattle.nvme_front.specs.inside.Resting.{Collects}
 use Rattle.nvme_front.proofs.settling.collect.Given as goal
 
 abbrev pub invariant-loop-c : goal.invariant-loop-c

@@ -1,5 +1,5 @@
 use Rattle.std.proofs.Common.{◌≡◌, length}
-use Rattle.nvme_front.specs.Resting.{Rests}
+use Rattle.nvme_front.specs.inside.Resting.{Rests}
 use Rattle.nvme_front.proofs.settling.look.Given as goal
 
 abbrev pub invariant-loop-r : goal.invariant-loop-r

@@ -1,6 +1,6 @@
 use Rattle.std.proofs.Common.{true, map, refl, sym, ap, subst, ◌∙◌, arith}
 use Rattle.std.specs.Prelude.{reverse}
-use Rattle.nvme_front.specs.Goes.{put_place}
+use Rattle.nvme_front.specs.Ends.{put_place}
 use Rattle.nvme_front.specs.Hosts.{AreHosts, drainer_place}
 use Rattle.nvme_log.specs.Account.{IsClear}
 use Rattle.nvme_front.proofs.Hosted.{fed_from_pairs, drained_from_pairs, seen_length, IsSameFront-trans}

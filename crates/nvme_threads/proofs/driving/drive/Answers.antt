@@ -3,7 +3,7 @@ use Rattle.nvme_pool.specs.Worker.{WorkerView}
 use Rattle.std.specs.Prelude.{Vec}
 use Rattle.nvme_front.specs.declared.settling.Parts.{Parts}
 use Rattle.nvme_threads.specs.declared.working.Crewman.{Crewman}
-use Rattle.nvme_threads.specs.Drives.{ArePartsOf, HaveRun}
+use Rattle.nvme_threads.specs.inside.Drives.{ArePartsOf, HaveRun}
 use Rattle.nvme_threads.proofs.Joins.{all-unmapped, ok-so, both-ok}
 use Rattle.nvme_threads.proofs.Running.{all_ran}
 use Rattle.nvme_threads.proofs.Turned.{outcome-fault}

@@ -1,6 +1,6 @@
 use Rattle.std.proofs.Common.{sym, ◌∙◌, subst}
 use Rattle.nvme_threads.specs.Hosts.{feeder_seen}
-use Rattle.nvme_threads.specs.Drives.{AreFeeders, AreThreads}
+use Rattle.nvme_threads.specs.inside.Drives.{AreFeeders, AreThreads}
 use Rattle.nvme_threads.specs.declared.hosting.Feeders.{Feeders}
 use Rattle.nvme_threads.proofs.Joins.{seen-zip, zip-of}
 use Rattle.nvme_threads.proofs.hosting.join_feeders.Goals as goal

@@ -1,4 +1,4 @@
-use Rattle.nvme_threads.proofs.Running.{ran_step}
+use Rattle.nvme_pool.proofs.Running.{ran_step}
 use Rattle.nvme_threads.proofs.working.work.Goals as goal
 use Rattle.nvme_threads.proofs.working.work.Goals.{in-None, in-Some+in-Held+then-is_over}
 

@@ -1,4 +1,4 @@
-use Rattle.nvme_threads.specs.Runs.{Ran}
+use Rattle.nvme_pool.specs.Runs.{Ran}
 use Rattle.nvme_threads.proofs.working.work.Given as goal
 
 abbrev pub invariant-loop : goal.invariant-loop

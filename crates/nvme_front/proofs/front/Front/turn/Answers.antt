@@ -1,5 +1,6 @@
 use Rattle.std.proofs.Common.{subst}
-use Rattle.nvme_front.specs.View.{FrontView, GoesOn, view_of}
+use Rattle.nvme_front.specs.View.{FrontView, GoesOn}
+use Rattle.nvme_front.specs.inside.State.{view_of}
 use Rattle.nvme_front.proofs.States.{admin-goes}
 use Rattle.nvme_front.proofs.EndsSeen.{accounts_for_ends, admin_there, view_goes_on}
 use Rattle.nvme_front.proofs.front.Front.turn.Goals as goal

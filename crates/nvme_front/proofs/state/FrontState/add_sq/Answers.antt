@@ -1,8 +1,8 @@
 use Rattle.std.proofs.Common.{◌≡◌, ◌∙◌, not, ap, refl, sym, subst, rules, arith, ℕ, ◌==◌}
 use Rattle.std.specs.Prelude.{vec_len}
 use Rattle.nvme_front.specs.declared.state.FrontState.{FrontState}
-use Rattle.nvme_state.specs.Jobs.{JobsView}
-use Rattle.nvme_front.specs.Room.{IsKept}
+use Rattle.nvme_state.specs.inside.Jobs.{JobsView}
+use Rattle.nvme_front.specs.inside.Room.{IsKept}
 use Rattle.nvme_front.proofs.Addresses.{sq_not_refused}
 use Rattle.nvme_front.proofs.KeptRegions.{is_kept-with_room, kept_with_room, room_or_none}
 use Rattle.nvme_front.proofs.AddedRegions.{appended, kept_with_first_sq, kept_with_later_sq}

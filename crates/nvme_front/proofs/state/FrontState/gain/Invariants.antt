@@ -1,9 +1,9 @@
 -- The front stays the same from result to result, and as long as none was gained nothing changed.
 use Rattle.std.proofs.Common.{◌≡◌, ◌<◌, length, true, false}
-use Rattle.nvme_state.specs.Jobs.{gained_count}
-use Rattle.nvme_front.specs.Room.{IsKept}
-use Rattle.nvme_front.specs.Goes.{Goes, IsSame, HasAdmin}
-use Rattle.nvme_front.specs.Turn.{Balanced}
+use Rattle.nvme_state.specs.Hands.{gained_count}
+use Rattle.nvme_front.specs.inside.Room.{IsKept}
+use Rattle.nvme_front.specs.inside.Goes.{Goes, IsSame, HasAdmin}
+use Rattle.nvme_front.specs.inside.Turn.{Balanced}
 use Rattle.nvme_front.proofs.state.FrontState.gain.Given as goal
 
 abbrev pub invariant-loop-gained : goal.invariant-loop-gained

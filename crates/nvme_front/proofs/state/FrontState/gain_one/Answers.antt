@@ -2,7 +2,7 @@
 use Rattle.std.proofs.Common.{refl, arith}
 use Rattle.nvme_front.proofs.CloseOne.{region_has_room}
 use Rattle.nvme_front.proofs.States.{Goes-same}
-use Rattle.nvme_front.proofs.GainOne.{same_jobs, stray-goes, stray-kept, stray-seen, its_region, its_queue_there, its_cq_region, is_gained, gained-goes, gained-kept}
+use Rattle.nvme_front.proofs.GainOne.{same_jobs, stray-goes, stray-kept, stray-seen, its_region, its_queue_there, its_cq_region, is_gained, gained-fewer, gained-goes, gained-kept}
 use Rattle.nvme_state.proofs.Balances.{balances-still, balances-gained}
 use Rattle.nvme_front.proofs.state.FrontState.gain_one.Goals as goal
 
@@ -23,43 +23,47 @@ returns-in-Stray-clause-stray c = (c.in-Stray.ticket, refl, stray-seen c.args.se
 
 pub index-requires : goal.index-requires
 index-requires c =
-    let there = its_region c.args.self.now c.requires.kept c.requires.admin c.gain.new.self c.in-Result.dispatched c.in-Result.finished c.in-Result.ensures in
+    let there = its_region c.args.self.now c.requires.kept c.requires.admin c.gain.new.self c.in-Result.dispatched c.in-Result.ensures.0 c.in-Result.ensures.2 in
     omega (arith, there, c.from.ensures)
 
 pub unreachable-requires : goal.unreachable-requires
-unreachable-requires c = its_queue_there c.args.self.now c.requires.kept c.requires.admin c.gain.new.self c.in-Result.dispatched c.in-Result.finished c.in-Result.ensures
+unreachable-requires c = its_queue_there c.args.self.now c.requires.kept c.requires.admin c.gain.new.self c.in-Result.dispatched c.in-Result.ensures.0 c.in-Result.ensures.2
     c.index.result.now (rw c.from.ensures at c.index.ensures) c.in_default.is
 
 pub index_mut-requires : goal.index_mut-requires
 index_mut-requires c =
-    let there = its_cq_region c.args.self.now c.requires.kept c.requires.admin c.gain.new.self c.in-Result.dispatched c.in-Result.finished c.in-Result.ensures
+    let there = its_cq_region c.args.self.now c.requires.kept c.requires.admin c.gain.new.self c.in-Result.dispatched c.in-Result.ensures.0 c.in-Result.ensures.2
     c.index.result.now (rw c.from.ensures at c.index.ensures) c.in-Some.attachment c.in-Some.is c.from-2.result c.from-2.ensures in
     omega (arith, there, c.args.self.now.cqs.ok.0)
 
 pub push-requires : goal.push-requires
 push-requires c =
-    let there = its_cq_region c.args.self.now c.requires.kept c.requires.admin c.gain.new.self c.in-Result.dispatched c.in-Result.finished c.in-Result.ensures
+    let there = its_cq_region c.args.self.now c.requires.kept c.requires.admin c.gain.new.self c.in-Result.dispatched c.in-Result.ensures.0 c.in-Result.ensures.2
     c.index.result.now (rw c.from.ensures at c.index.ensures) c.in-Some.attachment c.in-Some.is c.from-2.result c.from-2.ensures in
     region_has_room c.args.self.now c.from-2.result c.index_mut.result.now c.requires.kept c.requires.admin there c.index_mut.ensures.value
 
 pub returns-clause-kept : goal.returns-clause-kept
 returns-clause-kept c =
-    gained-kept c.args.self.now _ c.in-Result.dispatched c.in-Result.finished
-    (is_gained c.args.self.now _ c.requires.kept c.requires.admin c.gain.new.self c.in-Result.dispatched c.in-Result.finished c.in-Result.ensures
+    gained-kept c.args.self.now _ c.in-Result.dispatched c.in-Result.ensures.0
+    (is_gained c.args.self.now _ c.requires.kept c.requires.admin c.gain.new.self c.in-Result.dispatched c.in-Result.ensures.0 c.in-Result.ensures.2
     c.index.result.now (rw c.from.ensures at c.index.ensures) c.in-Some.attachment c.in-Some.is c.from-2.result c.from-2.ensures
-    c.index_mut.result.now c.index_mut.ensures.value c.status.result c.status.ensures.value c.push.new.self c.push.ensures)
+    c.index_mut.result.now c.index_mut.ensures.value c.in-Result.status c.in-Result.ensures.1 c.push.new.self c.push.ensures)
     c.requires.kept c.requires.admin
 
 pub returns-clause-goes : goal.returns-clause-goes
 returns-clause-goes c =
-    gained-goes c.args.self.now _ c.in-Result.dispatched c.in-Result.finished
-    (is_gained c.args.self.now _ c.requires.kept c.requires.admin c.gain.new.self c.in-Result.dispatched c.in-Result.finished c.in-Result.ensures
+    gained-goes c.args.self.now _ c.in-Result.dispatched c.in-Result.ensures.0
+    (is_gained c.args.self.now _ c.requires.kept c.requires.admin c.gain.new.self c.in-Result.dispatched c.in-Result.ensures.0 c.in-Result.ensures.2
     c.index.result.now (rw c.from.ensures at c.index.ensures) c.in-Some.attachment c.in-Some.is c.from-2.result c.from-2.ensures
-    c.index_mut.result.now c.index_mut.ensures.value c.status.result c.status.ensures.value c.push.new.self c.push.ensures)
+    c.index_mut.result.now c.index_mut.ensures.value c.in-Result.status c.in-Result.ensures.1 c.push.new.self c.push.ensures)
 
 pub returns-in-Nothing-clause-balanced : goal.returns-in-Nothing-clause-balanced
 returns-in-Nothing-clause-balanced c = balances-still c.args.self.now.config.spaces c.args.self.now.jobs c.gain.new.self c.in-Nothing.ensures.0
 
 pub returns-clause-balanced : goal.returns-clause-balanced
 returns-clause-balanced c =
-    balances-gained c.args.self.now.config.spaces c.args.self.now.jobs c.gain.new.self c.in-Result.dispatched c.in-Result.finished c.in-Result.ensures
+    balances-gained c.args.self.now.config.spaces c.args.self.now.jobs c.gain.new.self c.in-Result.dispatched c.in-Result.ensures.0 c.in-Result.ensures.2
+
+pub returns-clause-fewer : goal.returns-clause-fewer
+returns-clause-fewer c = λ _.
+    gained-fewer c.args.self.now.config.spaces c.args.self.now.jobs c.gain.new.self c.in-Result.dispatched c.in-Result.ensures.0 c.in-Result.ensures.2

@@ -1,8 +1,8 @@
 -- The front stays the same from job to job, and as long as none was handed nothing changed.
 use Rattle.std.proofs.Common.{◌≡◌, ◌<◌, length, true, false}
-use Rattle.nvme_front.specs.Room.{IsKept}
-use Rattle.nvme_front.specs.Goes.{Goes, IsSame, HasAdmin}
-use Rattle.nvme_front.specs.Turn.{Balanced}
+use Rattle.nvme_front.specs.inside.Room.{IsKept}
+use Rattle.nvme_front.specs.inside.Goes.{Goes, IsSame, HasAdmin}
+use Rattle.nvme_front.specs.inside.Turn.{Balanced}
 use Rattle.nvme_front.proofs.state.FrontState.hand.Given as goal
 
 abbrev pub invariant-loop-handed : goal.invariant-loop-handed

@@ -1,6 +1,6 @@
 use Rattle.std.proofs.Common.{◌≡◌, ◌==◌, ◌&&◌, Bool, refl, ap, ◌∙◌}
 use Rattle.std.specs.List.{list_all}
-use Rattle.nvme_front.specs.Clear.{no_window, no_ready}
+use Rattle.nvme_front.specs.inside.Clear.{no_window, no_ready}
 use Rattle.nvme_front.proofs.ClearAnswer.{clear_answer, and_then, and_else}
 use Rattle.nvme_front.proofs.state.FrontState.is_clear.Goals as goal
 use Rattle.nvme_front.proofs.state.FrontState.is_clear.Goals.{then-is_none, else-is_none, then-self-eq0, else-self-eq0}

@@ -5,7 +5,7 @@ use Rattle.nvme_log.specs.declared.event.Event.{Event}
 use Rattle.nvme_log.specs.declared.event.Event.TheVariants as event
 use Rattle.nvme_log.specs.Histories.{picks_in}
 use Rattle.nvme_log.specs.Limits.{max_outstanding, admin_events}
-use Rattle.nvme_front.specs.State.{rules_of}
+use Rattle.nvme_front.specs.inside.State.{rules_of}
 use Rattle.nvme_front.proofs.Comes.{gets-set}
 use Rattle.nvme_front.proofs.States.{Goes-trans}
 use Rattle.nvme_front.proofs.Picks.{picks_in-push, of_next, admin_unposted}

@@ -4,7 +4,7 @@ use Rattle.nvme_log.specs.declared.event.Event.{Event}
 use Rattle.nvme_log.specs.declared.event.Event.TheVariants as event
 use Rattle.nvme_log.specs.Histories.{picks_in}
 use Rattle.nvme_log.specs.Limits.{max_outstanding}
-use Rattle.nvme_front.specs.State.{rules_of}
+use Rattle.nvme_front.specs.inside.State.{rules_of}
 use Rattle.nvme_front.proofs.Comes.{gets-set}
 use Rattle.nvme_front.proofs.Picks.{picks_in-push, of_next, config_by, jobs_fit, few_tickets, due-found, due-sq_there, due-unposted, due-enough}
 use Rattle.nvme_front.proofs.PickedQueue.{io-kept, io-goes}

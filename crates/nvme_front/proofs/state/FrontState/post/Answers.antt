@@ -1,6 +1,6 @@
 -- A region after another: as long as nothing is posted nothing changes, and the regions before stay drained.
 use Rattle.std.proofs.Common.{◌≡◌, ◌∙◌, true, false, Ok, sym, ap, arith, below_more}
-use Rattle.nvme_front.specs.Goes.{IsDrained}
+use Rattle.nvme_front.specs.inside.Goes.{IsDrained}
 use Rattle.nvme_front.proofs.States.{Goes-trans, IsSame-trans, cqs-goes}
 use Rattle.nvme_front.proofs.PostOne.{goes-longer}
 use Rattle.nvme_front.proofs.state.FrontState.post.Goals as goal

@@ -1,6 +1,7 @@
 use Rattle.std.proofs.Common.{Ok, Err, ap, sym, subst}
 use Rattle.std.proofs.lemmas.Result.{err_from_is_err_and}
-use Rattle.nvme_front.specs.View.{GoesToEnd, view_of}
+use Rattle.nvme_front.specs.View.{GoesToEnd}
+use Rattle.nvme_front.specs.inside.State.{view_of}
 use Rattle.nvme_front.specs.declared.front.Step.{Step}
 use Rattle.nvme_front.proofs.Filling.{closes_to_end}
 use Rattle.nvme_front.proofs.Still.{closed_means, log_error_means, balanced_still}

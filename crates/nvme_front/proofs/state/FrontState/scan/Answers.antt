@@ -1,5 +1,5 @@
 use Rattle.std.proofs.Common.{◌∙◌, Ok, ap, sym, arith, below_more}
-use Rattle.nvme_front.specs.Goes.{IsScanned}
+use Rattle.nvme_front.specs.inside.Goes.{IsScanned}
 use Rattle.nvme_front.proofs.States.{Goes-trans, IsSame-trans, admin-goes}
 use Rattle.nvme_front.proofs.Scans.{goes_longer}
 use Rattle.nvme_front.proofs.state.FrontState.scan.Goals as goal

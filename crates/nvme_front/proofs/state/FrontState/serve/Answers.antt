@@ -3,8 +3,9 @@ use Rattle.std.proofs.lemmas.Result.{err_from_is_err_and}
 use Rattle.nvme_log.specs.Histories.{picks_in}
 use Rattle.nvme_front.proofs.States.{Goes-trans, admin-goes}
 use Rattle.nvme_front.proofs.Still.{served_means, log_error_means, pick_error_means, picked_balanced, balanced_still, balanced_trans}
-use Rattle.nvme_front.specs.State.{gets_of}
-use Rattle.nvme_front.specs.View.{GoesToEnd, view_of}
+use Rattle.nvme_front.specs.inside.State.{gets_of}
+use Rattle.nvme_front.specs.View.{GoesToEnd}
+use Rattle.nvme_front.specs.inside.State.{view_of}
 use Rattle.nvme_front.specs.declared.front.Step.{Step}
 use Rattle.nvme_front.proofs.Filling.{drained_later, picks_one, serves_to_end}
 use Rattle.nvme_front.proofs.Scans.{scanned_same}

@@ -1,7 +1,8 @@
 use Rattle.std.proofs.Common.{◌∙◌, sym, subst}
 use Rattle.std.proofs.lemmas.Result.{err_from_is_err_and}
 use Rattle.nvme_front.proofs.States.{Goes-trans, admin-goes}
-use Rattle.nvme_front.specs.View.{GoesToEnd, view_of}
+use Rattle.nvme_front.specs.View.{GoesToEnd}
+use Rattle.nvme_front.specs.inside.State.{view_of}
 use Rattle.nvme_front.specs.declared.front.Step.{Step}
 use Rattle.nvme_front.proofs.Filling.{to_end_after}
 use Rattle.nvme_front.proofs.Still.{turn_means, error_since, balanced_trans}

@@ -7,7 +7,9 @@ use Rattle.nvme_log.specs.Rules.{FrontRules, Past}
 use Rattle.nvme_state.specs.declared.region.SqRegion.{SqRegion}
 use Rattle.nvme_state.specs.declared.region.CqRegion.{CqRegion}
 use Rattle.nvme_front.specs.declared.state.FrontState.{FrontState}
-use Rattle.nvme_state.specs.Kept.{CqKept, Kept, SqKept, cq_steps, no_cq, no_sq, sq_steps}
+use Rattle.nvme_front.specs.View.{FrontView}
+use Rattle.nvme_state.specs.inside.Kept.{CqKept, Kept, SqKept, no_cq, no_sq}
+use Rattle.nvme_state.specs.Regions.{cq_steps, sq_steps}
 
 abbrev pub sq_kept : SqRegion → SqKept
 sq_kept s = record { got = s.end.got; known = s.end.known; window = s.window.items; fetched = s.fetched; unposted = s.unposted; queue = s.queue; slots = s.end.slots }
@@ -42,3 +44,14 @@ rules_of s = record {
 -- the log, the newest event first
 abbrev pub past_of : FrontState → Past
 past_of s = reverse s.log.items
+
+abbrev pub view_of : FrontState → FrontView
+view_of s = record {
+  rules = rules_of s;
+  limit = s.config.max_events;
+  late = s.late;
+  log = s.log.items;
+  gets = gets_of s.sqs.items;
+  puts = puts_of s.cqs.items;
+  hands = s.jobs.hands;
+}

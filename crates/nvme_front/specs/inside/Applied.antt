@@ -11,11 +11,11 @@ use Rattle.nvme_log.specs.Limits.{admin_events}
 use Rattle.nvme_log.specs.Rules.{Past}
 use Rattle.nvme_log.specs.Queues.{admin_queue, open_cq}
 use Rattle.nvme_log.specs.Places.{observation_of}
-use Rattle.nvme_state.specs.Kept.{Kept}
-use Rattle.nvme_front.specs.State.{kept_of, rules_of, past_of}
-use Rattle.nvme_state.specs.Standing.{Stands}
-use Rattle.nvme_front.specs.Room.{IsRoomy}
-use Rattle.nvme_state.specs.Steps.{CanPick, CanApply, verdict_at, applied_to}
+use Rattle.nvme_state.specs.inside.Kept.{Kept}
+use Rattle.nvme_front.specs.inside.State.{kept_of, rules_of, past_of}
+use Rattle.nvme_state.specs.inside.Standing.{Stands}
+use Rattle.nvme_front.specs.inside.Room.{IsRoomy}
+use Rattle.nvme_state.specs.inside.Steps.{CanPick, CanApply, verdict_at, applied_to}
 use Rattle.nvme_admin.specs.declared.verdict.Verdict.TheVariants as verdict
 use Rattle.nvme_log.specs.declared.event.Event.TheVariants as event
 

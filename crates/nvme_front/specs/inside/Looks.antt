@@ -8,7 +8,7 @@ use Rattle.nvme_lane.specs.Feeder.{script_of, count_of, put_of}
 use Rattle.nvme_lane.specs.Drainer.{items_of, get_of}
 use Rattle.nvme_lane.specs.declared.feeder.Feeder.{Feeder}
 use Rattle.nvme_lane.specs.declared.drainer.Drainer.{Drainer}
-use Rattle.nvme_front.specs.Goes.{get_place, put_place}
+use Rattle.nvme_front.specs.Ends.{get_place, put_place}
 use Rattle.nvme_front.specs.View.{FrontView}
 
 -- at a submission ring, in which so many commands rest

@@ -8,8 +8,8 @@ use Rattle.std.proofs.lemmas.Bool.Decides.{Decides-eqb}
 use Rattle.std.proofs.lemmas.Slice.Eq.{slice_eq-Decides}
 use Rattle.nvme_entry.specs.Namespaces.{padded}
 use Rattle.nvme_pool.specs.declared.jobs.Job.{Job}
-use Rattle.nvme_state.proofs.jobs.is_result_of.Goals as goal
-use Rattle.nvme_state.proofs.jobs.is_result_of.Goals.{then-ticket-dispatched, else-ticket-dispatched}
+use Rattle.nvme_state.proofs.running.is_result_of.Goals as goal
+use Rattle.nvme_state.proofs.running.is_result_of.Goals.{then-ticket-dispatched, else-ticket-dispatched}
 
 -- padded lists of the same length are equal where the lists are
 padded_decides : (xs ys : List ℕ) → Decides (pointwise (λ (x y : ℕ). x == y) (padded xs) (padded ys) && (length xs == length ys)) (xs ≡ ys)

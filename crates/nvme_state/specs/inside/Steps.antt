@@ -16,7 +16,7 @@ use Rattle.nvme_log.specs.Rules.{FrontRules, Past}
 use Rattle.nvme_log.specs.Queues.{Queue, admin_queue, open_sq}
 use Rattle.nvme_log.specs.Places.{observation_of}
 use Rattle.nvme_log.specs.Histories.{arbitration_of}
-use Rattle.nvme_state.specs.Kept.{SqKept, Kept, with_sq}
+use Rattle.nvme_state.specs.inside.Kept.{SqKept, Kept, with_sq}
 
 -- a pick, after which n places are in hand: picked, and neither ready nor posted
 pub record CanPick (rules : FrontRules) (past : Past) (k : Kept) (queue : Queue) (pick : Pick) (board : BoardView) : Type 0 where

@@ -6,8 +6,8 @@ use Rattle.nvme_state.specs.declared.region.SqRegion.{SqRegion}
 use Rattle.nvme_state.specs.declared.region.CqRegion.{CqRegion}
 use Rattle.nvme_front.specs.declared.state.FrontState.{FrontState}
 use Rattle.nvme_log.specs.Limits.{max_outstanding, max_ready}
-use Rattle.nvme_front.specs.State.{kept_of, rules_of, past_of}
-use Rattle.nvme_state.specs.Standing.{IsFresh, Stands}
+use Rattle.nvme_front.specs.inside.State.{kept_of, rules_of, past_of}
+use Rattle.nvme_state.specs.inside.Standing.{IsFresh, Stands}
 
 abbrev pub window_room : SqRegion → ℕ
 window_room r = r.window.room

@@ -1,24 +1,16 @@
 -- What a front keeps of the jobs of picked I/O commands (profile).
-use Rattle.std.specs.Prelude.{◌≡◌, ◌≢◌, ℕ, ◌+◌, ◌==◌, ◌&&◌, Bool, List, [], ◌∷◌, ◌++◌, length, sum_by}
-use Rattle.std.specs.List.{All, list_any}
-use Rattle.nvme_lane.specs.View.{GetView}
+use Rattle.std.specs.Prelude.{◌≡◌, ℕ, ◌+◌, List, [], ◌∷◌, ◌++◌, length}
+use Rattle.std.specs.List.{All}
+use Rattle.std.specs.List.Sorted.{IsPermutation}
 use Rattle.nvme_pool.specs.Closing.{SharesJobs, SharesResults}
 use Rattle.nvme_pool.specs.Jobs.{job_of}
 use Rattle.nvme_pool.specs.Worker.{WorkerView, Accounts}
 use Rattle.nvme_pool.specs.Seat.{SeatView, SameSeat, OneGained}
-use Rattle.nvme_pool.specs.declared.jobs.Job.{Job}
 use Rattle.nvme_pool.specs.declared.jobs.Finished.{Finished}
 use Rattle.nvme_state.specs.declared.candidate.Candidate.{Candidate}
 use Rattle.nvme_state.specs.declared.candidate.Dispatched.{Dispatched}
 use Rattle.nvme_log.specs.Places.{Place}
-
--- the seat as the front was given it and as it is, the picked commands whose job isn't handed yet, and those whose job was handed and whose
--- result isn't gained yet, both the oldest first
-pub record Hands : Type 0 where
-  pub came : SeatView
-  pub seat : SeatView
-  pub unhanded : List Dispatched
-  pub running : List Dispatched
+use Rattle.nvme_state.specs.Hands.{Hands, job_in, IsOfNone}
 
 pub record JobsView : Type 0 where
   pub hands : Hands
@@ -27,20 +19,8 @@ pub record JobsView : Type 0 where
   -- how many commands of each kind there is room for
   pub room : ℕ
 
--- the picked commands that have no result yet
-abbrev pub in_hand : Hands → List Dispatched
-in_hand h = h.running ++ h.unhanded
-
--- the job of a picked command
-abbrev pub job_in : List ℕ → Dispatched → Job
-job_in sizes d = record { ticket = d.ticket; entry = d.entry; spaces = sizes }
-
 abbrev pub dispatched_place : Dispatched → Place
 dispatched_place d = record { region = d.region; index = d.index }
-
--- the place has no result yet
-abbrev pub is_in_hand : Hands → ℕ → ℕ → Bool
-is_in_hand h r i = list_any (λ (d : Dispatched). d.region == r && d.index == i) (in_hand h)
 
 -- candidates of a region that are picked, with tickets that count from a number
 abbrev pub dispatched_from : ℕ → ℕ → List Candidate → List Dispatched
@@ -53,10 +33,6 @@ with_picked j r cs = record j {
   hands = record j.hands { unhanded = j.hands.unhanded ++ dispatched_from r j.tickets cs };
   tickets = j.tickets + length cs;
 }
-
--- a result is the result of none of these commands
-abbrev pub IsOfNone : List ℕ → List Dispatched → Finished → Type 0
-IsOfNone sizes ds result = All (λ (d : Dispatched). job_of result ≢ job_in sizes d) ds
 
 -- ---- the steps of jobs
 -- a job is handed, the oldest that was kept
@@ -82,9 +58,9 @@ pub record CanGain (j : JobsView) (result : Finished) (seat : SeatView) : Type 0
   pub handed : seat.handed ≡ j.hands.seat.handed
   pub gained : OneGained j.hands.seat.ends seat.ends result
 
--- that of a command whose job was handed
-pub record IsResultOf (sizes : List ℕ) (j : JobsView) (before : List Dispatched) (d : Dispatched) (after : List Dispatched) (result : Finished) : Type 0 where
-  pub running_is : j.hands.running ≡ before ++ d ∷ after
+-- that of a command whose job was handed. The rest are the others that were
+pub record IsResultOf (sizes : List ℕ) (j : JobsView) (d : Dispatched) (rest : List Dispatched) (result : Finished) : Type 0 where
+  pub running_is : IsPermutation j.hands.running (d ∷ rest)
   pub its_job : job_of result ≡ job_in sizes d
 
 -- what is left running
@@ -92,12 +68,11 @@ abbrev pub gained_jobs : JobsView → List Dispatched → SeatView → JobsView
 gained_jobs j running seat = record j { hands = record j.hands { seat = seat; running = running } }
 
 pub record GainsOne (sizes : List ℕ) (old new : JobsView) (d : Dispatched) (result : Finished) : Type 0 where
-  pub before : List Dispatched
-  pub after : List Dispatched
+  pub rest : List Dispatched
   pub seat : SeatView
   pub can : CanGain old result seat
-  pub its : IsResultOf sizes old before d after result
-  pub are : new ≡ gained_jobs old (before ++ after) seat
+  pub its : IsResultOf sizes old d rest result
+  pub are : new ≡ gained_jobs old rest seat
 
 pub record GainsStray (sizes : List ℕ) (old new : JobsView) (ticket : ℕ) : Type 0 where
   pub result : Finished
@@ -114,8 +89,3 @@ pub record IsClosed (seat : SeatView) (workers : List WorkerView) : Type 0 where
   pub jobs : SharesJobs seat.handed workers jobs_left
   pub results : SharesResults seat.ends workers results_left
   pub accounts : All Accounts workers
-
--- ---- counts
--- how many results the seat gained
-abbrev pub gained_count : Hands → ℕ
-gained_count h = sum_by (λ (g : GetView Finished). length g.got) h.seat.ends

@@ -1,12 +1,10 @@
 -- What a front keeps, as total look-ups by region (profile).
-use Rattle.std.specs.Prelude.{ℕ, ◌==◌, if◌then◌else◌, List, [], ◌∷◌, ◌++◌, map, Option, None, reverse}
+use Rattle.std.specs.Prelude.{ℕ, ◌==◌, if◌then◌else◌, List, [], ◌∷◌, ◌++◌, Option, None}
 use Rattle.nvme_entry.specs.declared.submission.Sqe.{Sqe}
 use Rattle.nvme_entry.specs.declared.completion.Cqe.{Cqe}
-use Rattle.nvme_lane.specs.View.{GetView, PutView}
 use Rattle.nvme_arbiter.specs.Board.{BoardView}
 use Rattle.nvme_admin.specs.Standing.{TableView}
-use Rattle.nvme_admin.specs.History.{TableHistory, RegionAdded, Submission, Completion}
-use Rattle.nvme_state.specs.Jobs.{JobsView}
+use Rattle.nvme_state.specs.inside.Jobs.{JobsView}
 use Rattle.nvme_state.specs.declared.candidate.Candidate.{Candidate}
 use Rattle.nvme_state.specs.declared.candidate.Ready.{Ready}
 use Rattle.nvme_state.specs.declared.candidate.PendingDelete.{PendingDelete}
@@ -66,11 +64,3 @@ with_cq k c s = record k { cq = put_cq k.cq c s }
 -- a ready completion more in a completion region
 abbrev pub with_ready : Kept → ℕ → Ready → Kept
 with_ready k c t = with_cq k c (record (k.cq c) { ready = (k.cq c).ready ++ t ∷ [] })
-
--- ---- what the front was given
--- the regions, as the steps of a table history that adds the submission regions first
-abbrev pub sq_steps : List (GetView Sqe) → TableHistory
-sq_steps gets = reverse (map (λ (g : GetView Sqe). RegionAdded Submission g.address g.slots) gets)
-
-abbrev pub cq_steps : List (PutView Cqe) → TableHistory
-cq_steps puts = reverse (map (λ (p : PutView Cqe). RegionAdded Completion p.address p.slots) puts)

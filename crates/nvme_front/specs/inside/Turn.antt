@@ -14,9 +14,10 @@ use Rattle.nvme_log.specs.Histories.{picks_in}
 use Rattle.nvme_front.specs.declared.front.Step.{Step}
 use Rattle.nvme_front.specs.declared.front.Step.TheVariants.{Picked, Moved, Idle, Stalled}
 use Rattle.nvme_front.specs.declared.state.FrontState.{FrontState}
-use Rattle.nvme_front.specs.State.{sq_in}
-use Rattle.nvme_front.specs.Goes.{IsSame, AllDrained, AllScanned, next_pick}
-use Rattle.nvme_front.specs.View.{view_of, HasMoved, HasNoPickMore}
+use Rattle.nvme_front.specs.inside.State.{sq_in}
+use Rattle.nvme_front.specs.inside.Goes.{IsSame, AllDrained, AllScanned, next_pick}
+use Rattle.nvme_front.specs.inside.State.{view_of}
+use Rattle.nvme_front.specs.View.{HasMoved, HasNoPickMore}
 
 -- each result that was gained since a time before is of a job that waited for it then or was handed since, and doesn't wait any more
 abbrev pub Balanced : FrontState → FrontState → Type 0

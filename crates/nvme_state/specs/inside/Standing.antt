@@ -25,10 +25,11 @@ use Rattle.nvme_log.specs.Completions.{is_posted, posts_of, posted_to, outstandi
 use Rattle.nvme_log.specs.Effects.{EffectsAtOnce, effects_since, made_last}
 use Rattle.nvme_log.specs.Account.{IndexCounts, ServedWhileOpen, Observed, Deletes, PostsOwn, LeavesPlaces, deleting_place}
 use Rattle.nvme_log.specs.Laws.{as_open}
-use Rattle.nvme_state.specs.Jobs.{JobsView, in_hand, dispatched_place}
+use Rattle.nvme_state.specs.inside.Jobs.{JobsView, dispatched_place}
+use Rattle.nvme_state.specs.Hands.{in_hand}
 use Rattle.nvme_log.specs.Dispatches.{dispatched}
 use Rattle.nvme_state.specs.JobAccount.{AccountsForJobs}
-use Rattle.nvme_state.specs.Kept.{SqKept, CqKept, no_sq, Kept}
+use Rattle.nvme_state.specs.inside.Kept.{SqKept, CqKept, no_sq, Kept}
 
 -- ---- a submission region's places
 -- the window is the places that wait, each with its entry; what was got is what was fetched; nothing is said of places that were not fetched

@@ -17,7 +17,7 @@ use Rattle.nvme_threads.specs.declared.tasks.Shared.{Shared}
 use Rattle.nvme_threads.specs.declared.working.Crewman.{Crewman}
 use Rattle.nvme_threads.specs.Faults.{IsDriveFault}
 use Rattle.nvme_threads.specs.Hosts.{feeder_seen, drainer_seen}
-use Rattle.nvme_threads.specs.Runs.{Ran}
+use Rattle.nvme_pool.specs.Runs.{Ran}
 
 -- where all threads of these tasks were started, there is one for each, in order
 abbrev pub AreThreads : {T : Type 0} → List T → Started T → Type 0

@@ -3,7 +3,6 @@ use Rattle.std.specs.Prelude.{◌≡◌, ◌⊎◌, ◌≢◌, ℕ, ◌+◌, ◌
 use mathlib.Core.List.{IsPrefix}
 use Rattle.nvme_entry.specs.declared.submission.Sqe.{Sqe}
 use Rattle.nvme_entry.specs.declared.completion.Cqe.{Cqe}
-use Rattle.nvme_lane.specs.View.{GetView, PutView, RingName}
 use Rattle.nvme_arbiter.specs.declared.pick.Pick.{Pick}
 use Rattle.nvme_arbiter.specs.Limits.{highest_qid}
 use Rattle.nvme_arbiter.specs.Queues.{seen_of}
@@ -14,18 +13,12 @@ use Rattle.nvme_state.specs.declared.candidate.Ready.{Ready}
 use Rattle.nvme_state.specs.declared.region.SqRegion.{SqRegion}
 use Rattle.nvme_front.specs.declared.state.FrontState.{FrontState}
 use Rattle.nvme_log.specs.Completions.{phase_after}
-use Rattle.nvme_front.specs.Room.{window_room, ready_room}
+use Rattle.nvme_front.specs.inside.Room.{window_room, ready_room}
 use Rattle.nvme_pool.specs.Seat.{SameSeat}
-use Rattle.nvme_state.specs.Jobs.{gained_count}
-use Rattle.nvme_state.specs.Kept.{SqKept, CqKept}
-use Rattle.nvme_front.specs.State.{kept_of, gets_of, puts_of}
-
--- which end of which ring an end is
-abbrev pub get_place : GetView Sqe → RingName × ℕ × ℕ
-get_place g = (g.ring, g.address, g.slots)
-
-abbrev pub put_place : PutView Cqe → RingName × ℕ × ℕ
-put_place p = (p.ring, p.address, p.slots)
+use Rattle.nvme_state.specs.Hands.{gained_count}
+use Rattle.nvme_state.specs.inside.Kept.{SqKept, CqKept}
+use Rattle.nvme_front.specs.inside.State.{kept_of, gets_of, puts_of}
+use Rattle.nvme_front.specs.Ends.{get_place, put_place}
 
 -- what was got from a submission region and is known to come next
 abbrev pub coming_at : SqRegion → List Sqe

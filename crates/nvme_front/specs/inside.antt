@@ -1,0 +1,9 @@
+-- What only private contracts cite: no public clause reaches it.
+pub mod Applied
+pub mod Clear
+pub mod Goes
+pub mod Looks
+pub mod Resting
+pub mod Room
+pub mod State
+pub mod Turn

@@ -1,0 +1,89 @@
+// Drives that come to nothing.
+ghost use Rattle.std.specs.Prelude.{◌≡◌, ◌<◌, length, vec_len, IfOk};
+ghost use Rattle.nvme_pool.specs.Pool.{IsPool};
+
+use crate::again::{list_again, pool_again};
+use crate::commands::get_arbitration;
+use crate::hosted::{Hosted, config};
+use nvme_front::{FrontError, Parts};
+use nvme_pool::NoGate;
+use nvme_threads::{DriveError, Feeding, drive};
+use std::alloc::Global;
+use std::sync::Wait;
+use std::test::*;
+use std::thread::Threads;
+
+// The admin commands, which fit their ring. The events of each are its fetch, its pick and its post.
+const COMMANDS: usize = 200;
+// The events of the log, which are too few for the commands.
+const EVENTS: u32 = 257;
+
+// A front with its hosts and two workers.
+fn parts(alloc: Global) -> Result<Parts, Fail>
+    ensures admin_sq { IfOk result (λ p. 0 < length p.front.gets) }
+    ensures admin_cq { IfOk result (λ p. 0 < length p.front.puts) }
+    ensures pool { IfOk result (λ p. IsPool p.lanes p.front.hands.seat p.workers.items) }
+    ensures number { IfOk result (λ p. vec_len p.workers ≡ 2) }
+{
+    let config = config(0, EVENTS)?;
+    let (lanes, seat, workers) = pool_again(alloc, 2)?;
+    let hosted = Hosted::new(
+        alloc,
+        config,
+        seat,
+        256,
+        256,
+        &[get_arbitration(7); COMMANDS],
+    )?;
+    let Hosted {
+        front,
+        feeders,
+        drainers,
+    } = hosted;
+    Ok(Parts {
+        front,
+        feeders,
+        drainers,
+        lanes,
+        workers,
+    })
+}
+
+// What the drive of the commands comes to, once.
+fn driven_once<R: Threads + Wait + Sync>(
+    rt: &R,
+    alloc: Global,
+    feeding: Feeding,
+) -> Result<Option<DriveError>, Fail> {
+    let gates = list_again(alloc, &[NoGate, NoGate])?;
+    if gates.len() != 2 {
+        return Err("two gates are wanted".into());
+    }
+    let parts = parts(alloc)?;
+    match drive(rt, alloc, parts, gates, feeding, 1_000_000) {
+        Ok(_) => Ok(None),
+        Err(error) => Ok(Some(error)),
+    }
+}
+
+// The same, made once more where memory was refused.
+fn driven<R: Threads + Wait + Sync>(
+    rt: &R,
+    alloc: Global,
+    feeding: Feeding,
+) -> Result<Option<DriveError>, Fail> {
+    let error = driven_once(rt, alloc, feeding)?;
+    if error == Some(DriveError::NoMemory) {
+        return driven_once(rt, alloc, feeding);
+    }
+    Ok(error)
+}
+
+#[test]
+fn drive_of_a_full_log_comes_back(rt: HostRuntime) -> Result<(), Fail> {
+    for feeding in [Feeding::Before, Feeding::Meanwhile] {
+        let error = driven(&rt, rt.alloc(), feeding)?;
+        assert_eq!(rt; error, Some(DriveError::Front(FrontError::LogFull)));
+    }
+    Ok(())
+}
