@@ -1,0 +1,60 @@
+use crate::expected::{most_of, value_of};
+use crate::place::Place;
+use nvme_workload::{Key, WorkloadError};
+use std::fmt;
+
+/// What was expected where a workload file is at fault.
+#[derive(Debug, Drop)]
+pub enum Why {
+    /// Text in UTF-8.
+    NotUtf8,
+    /// A TOML document, of which this can't be read.
+    Syntax(toml::de::Error),
+    /// This key, with a value of its kind and within its range.
+    Value(Key),
+    /// One of these keys, and not this one.
+    Unknown { key: String, known: &'static [Key] },
+    /// No more than so many at this key. At `Key::Count` it's the commands of all scripts that are too many.
+    Most(Key),
+    /// An address that no region before has.
+    Repeated,
+}
+
+impl fmt::Display for Why {
+    fn fmt<W: fmt::Write>(&self, f: &mut fmt::Formatter<W>) -> fmt::Result {
+        match self {
+            Why::NotUtf8 => write!(f, "expected UTF-8"),
+            Why::Syntax(error) => f.write_str(error.message()),
+            Why::Value(key) => write!(f, "expected {value}", value = value_of(*key)),
+            Why::Unknown { key, known } => {
+                write!(f, "{key:?}, expected one of")?;
+                for other in known.iter() {
+                    write!(f, " {name}", name = other.name())?;
+                }
+                Ok(())
+            }
+            Why::Most(key) => write!(f, "expected at most {most}", most = most_of(*key)),
+            Why::Repeated => write!(f, "expected an address that no region before has"),
+        }
+    }
+}
+
+/// The first fault of a workload file: where it stands, and what was expected there.
+#[derive(Debug, Drop)]
+pub struct Fault {
+    /// The fault, as a run tells it.
+    pub error: WorkloadError,
+    /// Where it stands.
+    pub place: Place,
+    /// What was expected there.
+    pub why: Why,
+}
+
+impl fmt::Display for Fault {
+    fn fmt<W: fmt::Write>(&self, f: &mut fmt::Formatter<W>) -> fmt::Result {
+        let error = self.error;
+        let place = self.place;
+        write!(f, "{error}: {place}: ")?;
+        self.why.fmt(f)
+    }
+}

@@ -1,0 +1,83 @@
+ghost use Rattle.std.specs.Prelude.{◌≡◌, IfOk, IfErr};
+ghost use Rattle.nvme_lint.specs.Lints.{IsLawful, IsToldAs, TellsFault};
+ghost use Rattle.nvme_lint.specs.declared.lints.LintError.TheVariants as told;
+
+use crate::fault::{Fault, Why};
+use crate::place::{Place, behind};
+use crate::places::place_of;
+use crate::warning::Warning;
+use crate::warnings::warnings_of;
+use nvme_workload::{WorkloadError, read};
+use std::alloc::{AllocError, Global};
+use thiserror::Error;
+
+/// Why a workload file has no warnings.
+#[derive(Debug, Drop, Error)]
+pub enum LintError {
+    /// Its first fault.
+    #[error("{0}")]
+    Fault(Fault),
+    /// Memory was refused.
+    #[error("out of memory")]
+    NoMemory,
+}
+
+impl From<AllocError> for LintError {
+    ghost from_gives = { λ _ e. e ≡ told.NoMemory };
+
+    fn from(_error: AllocError) -> LintError {
+        LintError::NoMemory
+    }
+}
+
+// The place and the cause in bytes that are not UTF-8, of which so many at the front are.
+fn in_bytes(front: &[u8]) -> (Place, Why) {
+    (behind(front), Why::NotUtf8)
+}
+
+// The place and the cause in a text that is no TOML document.
+fn in_text(text: &str, error: toml::de::Error) -> (Place, Why) {
+    let start = error.span().map_or(0, |span| span.start);
+    let bytes = text.as_bytes();
+    let place = behind(&bytes[..start.min(bytes.len())]);
+    (place, Why::Syntax(error))
+}
+
+// The place and the cause of the first fault of a file.
+fn located(alloc: Global, bytes: &[u8], error: WorkloadError) -> Result<(Place, Why), AllocError> {
+    let text = match std::str::from_utf8(bytes) {
+        Ok(text) => text,
+        Err(fault) => {
+            let front = fault.valid_up_to().min(bytes.len());
+            return Ok(in_bytes(&bytes[..front]));
+        }
+    };
+    match toml::table_from_str(alloc, text) {
+        Ok(table) => place_of(alloc, &table, error),
+        Err(fault) if fault.is_memory() => Err(AllocError),
+        Err(fault) => Ok(in_text(text, fault)),
+    }
+}
+
+// The first fault of a file, with its place.
+fn told(alloc: Global, bytes: &[u8], error: WorkloadError) -> LintError
+    ensures { IsToldAs error result }
+{
+    match located(alloc, bytes, error) {
+        Ok((place, why)) => LintError::Fault(Fault { error, place, why }),
+        Err(_) => LintError::NoMemory,
+    }
+}
+
+/// What the writer of a workload file wants to know: of a lawful one what comes to nothing, else its first fault, which is
+/// that of `nvme_workload::read`, with its place and what was expected there. It reads the file as `read` does.
+pub fn lint(alloc: Global, bytes: &[u8]) -> Result<Vec<Warning>, LintError>
+    ensures lawful { IfOk result (λ _. IsLawful bytes.now) }
+    ensures fault { IfErr result (TellsFault bytes.now) }
+{
+    match read(alloc, bytes) {
+        Ok(workload) => Ok(warnings_of(alloc, &workload)?),
+        Err(WorkloadError::NoMemory) => Err(LintError::NoMemory),
+        Err(error) => Err(told(alloc, bytes, error)),
+    }
+}

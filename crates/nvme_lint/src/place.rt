@@ -1,0 +1,43 @@
+use std::fmt;
+
+/// Where a fault of a workload file stands. Regions of a kind and items of a script count from 0.
+#[derive(Clone, Copy, Debug, PartialEq, Eq)]
+pub enum Place {
+    /// A place of the text. Lines and columns count from 1, and a column counts characters.
+    Text { line: usize, column: usize },
+    /// The file's own table.
+    Top,
+    /// The table of a submission region.
+    Submission(usize),
+    /// An item of the script of a submission region.
+    Item { region: usize, item: usize },
+    /// The table of a completion region.
+    Completion(usize),
+}
+
+impl fmt::Display for Place {
+    fn fmt<W: fmt::Write>(&self, f: &mut fmt::Formatter<W>) -> fmt::Result {
+        match self {
+            Place::Text { line, column } => write!(f, "line {line}, column {column}"),
+            Place::Top => write!(f, "top"),
+            Place::Submission(region) => write!(f, "submission {region}"),
+            Place::Item { region, item } => write!(f, "submission {region}, item {item}"),
+            Place::Completion(region) => write!(f, "completion {region}"),
+        }
+    }
+}
+
+/// The place of the text that stands right behind these bytes.
+pub(crate) fn behind(bytes: &[u8]) -> Place {
+    let mut line = 1usize;
+    let mut column = 1usize;
+    for byte in bytes {
+        if *byte == b'\n' {
+            line = line.saturating_add(1);
+            column = 1;
+        } else if *byte & 0xc0 != 0x80 {
+            column = column.saturating_add(1);
+        }
+    }
+    Place::Text { line, column }
+}

@@ -1,0 +1,134 @@
+-- What a line of a trace says, or its first fault. (profile)
+use Rattle.std.specs.Prelude.{ℕ, ◌==◌, nat_lt, if◌then◌else◌, codes, List, [], ◌∷◌, ◌++◌, length, Option, Some, None, is_some, ok_or, option_and_then, option_map, Result, Ok, Err, nat_eq}
+use Rattle.std.specs.Cmp.Lexicographic.{pointwise}
+use Rattle.std.specs.Str.{is_utf8}
+use Rattle.serde_json.specs.Data.{Data, Items, no_items, item}
+use Rattle.serde_json.specs.Find.{get, at, as_str, as_array}
+use Rattle.serde_json.specs.Read.{read}
+use Rattle.nvme_arbiter.specs.Limits.{queue_limit}
+use Rattle.nvme_arbiter.specs.Observation.{is_observation_from}
+use Rattle.nvme_arbiter.specs.Settings.{settings_of}
+use Rattle.nvme_arbiter.specs.History.{ArbitrationEvent, Picked, Changed}
+use Rattle.nvme_arbiter.specs.declared.settings.Class.{Class}
+use Rattle.nvme_arbiter.specs.declared.settings.Class.TheVariants.{Admin, Urgent, High, Medium, Low}
+use Rattle.nvme_arbiter.specs.declared.settings.Mechanism.{Mechanism}
+use Rattle.nvme_arbiter.specs.declared.settings.Mechanism.TheVariants.{RoundRobin, Weighted}
+use Rattle.nvme_arbiter.specs.declared.pick.Seen.{Seen}
+use Rattle.nvme_trace.specs.declared.fault.LineFault.{LineFault}
+use Rattle.nvme_trace.specs.declared.fault.LineFault.TheVariants.{TooLong, NotUtf8, NotJson, Bad, NotObservation}
+use Rattle.nvme_trace.specs.declared.fault.Field.TheVariants as field
+use Rattle.nvme_trace.specs.declared.reading.Head.{Head}
+use Rattle.nvme_trace.specs.declared.reading.TraceEvent.{TraceEvent}
+use Rattle.nvme_trace.specs.declared.reading.TraceEvent.TheVariants.{Pick, Set}
+use Rattle.nvme_trace.specs.Fields.{text_of}
+use Rattle.nvme_trace.specs.Readings.{◌>>=◌, ◌>>◌, item_count, only, value_at, whole, number_at, flag_at}
+
+-- the most bytes of a line, its newline aside
+abbrev pub longest_line : ℕ
+longest_line = 4096
+
+-- ---- the head
+
+abbrev pub mechanism_named : Option (List ℕ) → Result Mechanism LineFault
+mechanism_named None = Err (Bad field.Mechanism)
+mechanism_named (Some name) = if pointwise nat_eq name (codes "round-robin") then Ok RoundRobin else (if pointwise nat_eq name (codes "weighted") then Ok Weighted else Err (Bad field.Mechanism))
+
+abbrev pub mechanism_of : Data → Result Mechanism LineFault
+mechanism_of d = mechanism_named (as_str d)
+
+-- version 1 is the only one
+abbrev pub version_of : ℕ → Result (Unit {0}) LineFault
+version_of version = if version == 1 then Ok tt else Err (Bad field.Version)
+
+unfoldable pub head_in : Data → Result Head LineFault
+head_in d = do
+  version ← number_at field.Version 1 d
+  version_of version
+  mechanism ← value_at field.Mechanism d >>= mechanism_of
+  cdw11 ← number_at field.Cdw11 4294967295 d
+  only 3 d
+  Ok (record { mechanism = mechanism; settings = settings_of cdw11 })
+
+-- ---- an observation
+
+abbrev pub class_named : Option (List ℕ) → Option Class
+class_named None = None
+class_named (Some name) =
+    if pointwise nat_eq name (codes "admin") then Some Admin
+    else (if pointwise nat_eq name (codes "urgent") then Some Urgent
+    else (if pointwise nat_eq name (codes "high") then Some High
+    else (if pointwise nat_eq name (codes "medium") then Some Medium
+    else (if pointwise nat_eq name (codes "low") then Some Low else None))))
+
+-- the part of an array at an index, as a number of 16 bits
+abbrev pub number_of_part : ℕ → Data → Option ℕ
+number_of_part i d = option_and_then (whole 65535) (at i d)
+
+abbrev pub class_of_part : ℕ → Data → Option Class
+class_of_part i d = option_and_then (λ v. class_named (as_str v)) (at i d)
+
+-- how many items a value has
+abbrev pub part_count : Data → Option ℕ
+part_count d = option_map item_count (as_array d)
+
+unfoldable pub triple_of : Data → Option Seen
+triple_of d =
+    option_and_then (λ qid. option_and_then (λ class. option_map (λ count. record { qid = qid; class = class; count = count })
+    (number_of_part 2 d)) (class_of_part 1 d)) (number_of_part 0 d)
+
+-- an open queue: an array of identifier, class and count
+unfoldable pub queue_of : Data → Option Seen
+queue_of d = option_and_then (λ size. if size == 3 then triple_of d else None) (part_count d)
+
+-- the queues so far, and those of the items
+unfoldable pub queues_from : List Seen → Items → Option (List Seen)
+queues_from before no_items = Some before
+queues_from before (item d ds) = option_and_then (λ queue. queues_from (before ++ queue ∷ []) ds) (queue_of d)
+
+abbrev pub few_queues : Items → Option (List Seen)
+few_queues items = if nat_lt queue_limit (item_count items) then None else queues_from [] items
+
+unfoldable pub queues_of : Data → Option (List Seen)
+queues_of d = option_and_then few_queues (as_array d)
+
+abbrev pub if_observed : List Seen → Option (List Seen)
+if_observed seen = if is_observation_from 0 seen then Some seen else None
+
+unfoldable pub observation_of : Data → Option (List Seen)
+observation_of d = option_and_then if_observed (queues_of d)
+
+-- ---- a pick or a change of the settings
+
+unfoldable pub set_in : Data → Result ArbitrationEvent LineFault
+set_in d = do
+  cdw11 ← number_at field.Set 4294967295 d
+  only 1 d
+  Ok (Changed (settings_of cdw11))
+
+unfoldable pub pick_in : Data → Result ArbitrationEvent LineFault
+pick_in d = do
+  qid ← number_at field.Pick 65535 d
+  n ← number_at field.N 65535 d
+  fresh ← flag_at field.Fresh d
+  seen ← value_at field.Seen d >>= (λ v. ok_or (observation_of v) NotObservation)
+  only 4 d
+  Ok (Picked seen (record { qid = qid; n = n; fresh = fresh }))
+
+unfoldable pub event_in : Data → Result ArbitrationEvent LineFault
+event_in d = if is_some (get (text_of field.Set) d) then set_in d else pick_in d
+
+-- ---- a line
+
+unfoldable pub data_of : List ℕ → Result Data LineFault
+data_of line = if nat_lt longest_line (length line) then Err TooLong else (if is_utf8 line then ok_or (read line) NotJson else Err NotUtf8)
+
+unfoldable pub head_of_line : List ℕ → Result Head LineFault
+head_of_line line = data_of line >>= head_in
+
+unfoldable pub event_of_line : List ℕ → Result ArbitrationEvent LineFault
+event_of_line line = data_of line >>= event_in
+
+-- an event of the code as one of a history
+abbrev pub event_view : TraceEvent → ArbitrationEvent
+event_view (Pick seen pick) = Picked seen.items pick
+event_view (Set settings) = Changed settings

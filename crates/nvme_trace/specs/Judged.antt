@@ -1,0 +1,47 @@
+-- What is judged of an event after a history.
+use Rattle.std.specs.Prelude.{◌≡◌, ◌≢◌, ℕ, ◌+◌, List, [], ◌∷◌, Some, option_and_then}
+use Rattle.nvme_arbiter.specs.Settings.{ArbitrationFields}
+use Rattle.nvme_arbiter.specs.Observation.{IsObservation, class_in}
+use Rattle.nvme_arbiter.specs.History.{ArbitrationEvent, Picked, Changed, History}
+use Rattle.nvme_arbiter.specs.Lawful.{lawful_pick, IsLawfulPick}
+use Rattle.nvme_arbiter.specs.Standing.{StandsAt}
+use Rattle.nvme_arbiter.specs.declared.settings.Mechanism.{Mechanism}
+use Rattle.nvme_arbiter.specs.declared.kept.Kept.{Kept}
+use Rattle.nvme_arbiter.specs.declared.pick.Seen.{Seen}
+use Rattle.nvme_trace.specs.declared.judge.Finding.{Finding}
+
+-- what an arbiter keeps, and how many picks were lawful
+pub record JudgeView : Type 0 where
+  pub kept : Kept
+  pub picks : ℕ
+
+-- a pick was made on an observation
+abbrev pub IsObserved : ArbitrationEvent → Type 0
+IsObserved (Picked seen pick) = IsObservation seen
+IsObserved (Changed settings) = Unit {0}
+
+-- a pick is the lawful one
+abbrev pub IsLawfulEvent : Mechanism → ArbitrationFields → History → ArbitrationEvent → Type 0
+IsLawfulEvent mechanism first past (Picked seen pick) = IsLawfulPick mechanism first past seen pick
+IsLawfulEvent mechanism first past (Changed settings) = Unit {0}
+
+abbrev pub picks_of : ArbitrationEvent → ℕ
+picks_of (Picked seen pick) = 1
+picks_of (Changed settings) = 0
+
+abbrev pub picks_in : History → ℕ
+picks_in [] = 0
+picks_in (e ∷ past) = picks_in past + picks_of e
+
+-- what is told of a pick that is not the lawful one after a history
+pub record IsFinding (mechanism : Mechanism) (first : ArbitrationFields) (past : History) (event : ArbitrationEvent) (finding : Finding) : Type 0 where
+  pub seen : List Seen
+  -- the pick that was made
+  pub event_is : event ≡ Picked seen finding.picked
+  -- the lawful one, which is another
+  pub lawful_is : finding.lawful ≡ lawful_pick mechanism first past seen
+  pub other : finding.lawful ≢ Some finding.picked
+  -- the class of its queue
+  pub class_is : finding.class ≡ option_and_then (λ pick. class_in seen pick.qid) finding.lawful
+  -- what was served last, and what was used in the round
+  pub kept_is : StandsAt mechanism first past finding.kept

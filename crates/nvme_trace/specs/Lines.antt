@@ -1,0 +1,50 @@
+-- The lines of a text: they end with a newline, the last one maybe without. (profile)
+use Rattle.std.specs.Prelude.{◌≡◌, ℕ, ◌<◌, ◌==◌, Bool, true, false, List, [], ◌∷◌, length, slice_range, Option, Some, None}
+use Rattle.std.specs.Io.KnownBytes.{prepend_known}
+use Rattle.nvme_trace.specs.Format.{longest_line}
+use Rattle.nvme_trace.specs.declared.lines.Lines.{Lines}
+use Rattle.nvme_trace.specs.declared.lines.NextError.{NextError}
+use Rattle.nvme_trace.specs.declared.lines.NextError.TheVariants.{TooLong, Read, NoMemory}
+
+-- a byte before the first of some lines
+abbrev pub with_front : ℕ → List (List ℕ) → List (List ℕ)
+with_front x [] = (x ∷ []) ∷ []
+with_front x (line ∷ lines) = (x ∷ line) ∷ lines
+
+abbrev pub before_lines : Bool → ℕ → List (List ℕ) → List (List ℕ)
+before_lines true x lines = [] ∷ lines
+before_lines false x lines = with_front x lines
+
+abbrev pub lines_of : List ℕ → List (List ℕ)
+lines_of [] = []
+lines_of (x ∷ xs) = before_lines (x == 10) x (lines_of xs)
+
+-- the bytes of the text that are not taken yet, where they are known
+abbrev pub unread : {R : Type 0} → (R → Option (List ℕ)) → Lines R → Option (List ℕ)
+unread remaining lines = prepend_known (slice_range lines.chunk lines.start lines.end) (remaining lines.reader)
+
+-- the first of the known lines is taken
+abbrev pub TakesLine : (List ℕ → Type 0) → Option (List ℕ) → Option (List ℕ) → Type 0
+TakesLine P None new = Unit {0}
+TakesLine P (Some xs) None = ⊥
+TakesLine P (Some xs) (Some ys) = (line : List ℕ) × (lines_of xs ≡ line ∷ lines_of ys) × P line
+
+-- the first of the known lines is of this kind
+abbrev pub StartsWithLine : (List ℕ → Type 0) → Option (List ℕ) → Type 0
+StartsWithLine P None = Unit {0}
+StartsWithLine P (Some xs) = (line : List ℕ) × (rest : List (List ℕ)) × (lines_of xs ≡ line ∷ rest) × P line
+
+-- no line is left
+abbrev pub HasNoLine : Option (List ℕ) → Type 0
+HasNoLine None = Unit {0}
+HasNoLine (Some xs) = lines_of xs ≡ []
+
+abbrev pub MatchLine : Bool → List ℕ → Option (List ℕ) → Option (List ℕ) → Type 0
+MatchLine true line old new = TakesLine (λ l. l ≡ line) old new
+MatchLine false line old new = HasNoLine old
+
+-- why there is no next line: a line that is too long, or what the text doesn't tell
+abbrev pub MeetsError : NextError → Option (List ℕ) → Type 0
+MeetsError TooLong old = StartsWithLine (λ line. longest_line < length line) old
+MeetsError Read old = Unit {0}
+MeetsError NoMemory old = Unit {0}

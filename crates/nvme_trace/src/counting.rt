@@ -1,0 +1,379 @@
+// What a trace shows in numbers.
+use crate::fault::{TraceError, WriteFault};
+use crate::lanes::{
+    CLASSES, IO_QUEUES, LANES, Watch, class_name, lane_of, lane_of_pick, mechanism_name,
+    queue_of_lane, show,
+};
+use crate::reading::{Head, TraceEvent};
+use crate::trace::Trace;
+use nvme_arbiter::{Class, Mechanism, Pick, QUEUE_LIMIT, Seen, Settings};
+use std::alloc::Global;
+use std::io::{self, Read, Write};
+
+// What is counted of a queue in a class.
+#[derive(Clone, Copy, Default)]
+struct Tally {
+    // It was seen.
+    seen: bool,
+    picks: u64,
+    commands: u64,
+    // For how many picks in a row it is ready and not picked, and for how many at most.
+    waits: u64,
+    longest: u64,
+}
+
+// Nothing is counted.
+const NO_TALLY: Tally = Tally {
+    seen: false,
+    picks: 0,
+    commands: 0,
+    waits: 0,
+    longest: 0,
+};
+
+/// What a trace shows in numbers: for each queue in each class in which it was seen, and for each class.
+#[derive(Drop)]
+pub struct Statistics {
+    mechanism: Mechanism,
+    settings: Settings,
+    picks: u64,
+    commands: u64,
+    changes: u64,
+    tallies: [Tally; LANES],
+    // The commands of High and Medium that were picked in a row while a low queue was ready and no admin or urgent one.
+    behind: u64,
+    // The most of them, and the bound of the settings then.
+    longest_behind: u64,
+    bound_behind: u64,
+}
+
+// Which rows are ready.
+fn ready_lanes(seen: &[Seen]) -> [bool; LANES] {
+    let mut ready = [false; LANES];
+    for queue in seen {
+        if queue.count > 0
+            && let Some(lane) = lane_of(queue)
+        {
+            ready[lane] = true;
+        }
+    }
+    ready
+}
+
+// Whether a class has a ready queue.
+fn is_ready(seen: &[Seen], class: Class) -> bool {
+    seen.iter()
+        .any(|queue| queue.class == class && queue.count > 0)
+}
+
+impl Statistics {
+    // Nothing was picked.
+    fn new(head: Head) -> Statistics {
+        Statistics {
+            mechanism: head.mechanism,
+            settings: head.settings,
+            picks: 0,
+            commands: 0,
+            changes: 0,
+            tallies: [NO_TALLY; LANES],
+            behind: 0,
+            longest_behind: 0,
+            bound_behind: 0,
+        }
+    }
+
+    // Counts what a pick takes of its row.
+    fn count_pick(&mut self, lane: usize, n: u16) {
+        if let Some(tally) = self.tallies.get_mut(lane) {
+            tally.picks = tally.picks.saturating_add(1);
+            tally.commands = tally.commands.saturating_add(u64::from(n));
+        }
+    }
+
+    // Notes which rows were seen.
+    fn note_seen(&mut self, seen: &[Seen]) {
+        for queue in seen {
+            if let Some(lane) = lane_of(queue)
+                && let Some(tally) = self.tallies.get_mut(lane)
+            {
+                tally.seen = true;
+            }
+        }
+    }
+
+    // Lets the ready rows wait that compete with the pick: all of them under round robin, those of its class else.
+    fn wait(&mut self, seen: &[Seen], picked: usize) {
+        let class = queue_of_lane(picked).class;
+        let ready = ready_lanes(seen);
+        for (lane, tally) in self.tallies.iter_mut().enumerate() {
+            if self.mechanism == Mechanism::Weighted && queue_of_lane(lane).class != class {
+                continue;
+            }
+            if lane == picked || ready.get(lane) != Some(&true) {
+                tally.waits = 0;
+            } else {
+                tally.waits = tally.waits.saturating_add(1);
+                tally.longest = tally.longest.max(tally.waits);
+            }
+        }
+    }
+
+    // Twice the weights of High and Medium.
+    fn low_bound(&self) -> u64 {
+        let high = self.settings.weight(Class::High);
+        let medium = self.settings.weight(Class::Medium);
+        2 * (u64::from(high) + u64::from(medium))
+    }
+
+    // Lets the low level wait behind High and Medium.
+    fn wait_behind(&mut self, seen: &[Seen], class: Class, n: u16) {
+        let waits = self.mechanism == Mechanism::Weighted
+            && !is_ready(seen, Class::Admin)
+            && !is_ready(seen, Class::Urgent)
+            && is_ready(seen, Class::Low);
+        if !waits || class == Class::Low {
+            self.behind = 0;
+            return;
+        }
+        self.behind = self.behind.saturating_add(u64::from(n));
+        if self.behind > self.longest_behind {
+            self.longest_behind = self.behind;
+            self.bound_behind = self.low_bound();
+        }
+    }
+
+    // Counts a pick.
+    fn note_pick(&mut self, seen: &[Seen], pick: &Pick) {
+        self.picks = self.picks.saturating_add(1);
+        self.commands = self.commands.saturating_add(u64::from(pick.n));
+        self.note_seen(seen);
+        if let Some(lane) = lane_of_pick(seen, pick.qid) {
+            self.count_pick(lane, pick.n);
+            self.wait(seen, lane);
+            self.wait_behind(seen, queue_of_lane(lane).class, pick.n);
+        }
+    }
+
+    // Takes new settings. What waited begins anew, since the bounds are of settings that stay.
+    fn note_set(&mut self, settings: Settings) {
+        self.settings = settings;
+        self.changes = self.changes.saturating_add(1);
+        self.behind = 0;
+        for tally in self.tallies.iter_mut() {
+            tally.waits = 0;
+        }
+    }
+
+    // What all rows of a class come to.
+    fn of_class(&self, class: Class) -> Tally {
+        let mut sum = NO_TALLY;
+        for (lane, tally) in self.tallies.iter().enumerate() {
+            if tally.seen && queue_of_lane(lane).class == class {
+                sum.seen = true;
+                sum.picks = sum.picks.saturating_add(tally.picks);
+                sum.commands = sum.commands.saturating_add(tally.commands);
+                sum.longest = sum.longest.max(tally.longest);
+            }
+        }
+        sum
+    }
+
+    // Jain's index of the commands of the I/O queues, in ten thousandths: the square of their sum by the sum of their
+    // squares, by their number. 10,000 where nothing was picked of them.
+    fn jain(&self) -> u128 {
+        let mut number = 0u128;
+        let mut sum = 0u128;
+        let mut squares = 0u128;
+        for (lane, tally) in self.tallies.iter().enumerate() {
+            if tally.seen && lane > 0 {
+                let commands = u128::from(tally.commands);
+                number = number.saturating_add(1);
+                sum = sum.saturating_add(commands);
+                squares = squares.saturating_add(commands.saturating_mul(commands));
+            }
+        }
+        let below = number.saturating_mul(squares);
+        if below == 0 {
+            return 10_000;
+        }
+        sum.saturating_mul(sum).saturating_mul(10_000) / below
+    }
+
+    // How much of all commands these are, in ten thousandths.
+    fn share(&self, commands: u64) -> u128 {
+        if self.commands == 0 {
+            return 0;
+        }
+        u128::from(commands).saturating_mul(10_000) / u128::from(self.commands)
+    }
+
+    // Below how many picks in a row a ready queue of a lawful run stays unpicked.
+    fn bound(&self) -> usize {
+        match self.mechanism {
+            Mechanism::RoundRobin => QUEUE_LIMIT,
+            Mechanism::Weighted => IO_QUEUES,
+        }
+    }
+
+    // Writes what was counted as a row of the table.
+    fn put_row<W: Write>(&self, tally: &Tally, writer: &mut W) -> io::Result<()> {
+        let share = self.share(tally.commands);
+        let (whole, part) = (share / 100, share % 100);
+        let (picks, commands, longest) = (tally.picks, tally.commands, tally.longest);
+        let bound = self.bound();
+        writeln!(
+            writer,
+            "{picks:>10}{commands:>10}{whole:>6}.{part:02}%{longest:>8}{bound:>8}"
+        )
+    }
+
+    // Writes the rows of the queues.
+    fn put_queues<W: Write>(&self, writer: &mut W) -> io::Result<()> {
+        for (lane, tally) in self.tallies.iter().enumerate() {
+            if tally.seen {
+                let queue = queue_of_lane(lane);
+                write!(writer, "q{:<5}", queue.qid)?;
+                write!(writer, "{:<8}", class_name(queue.class))?;
+                self.put_row(tally, writer)?;
+            }
+        }
+        Ok(())
+    }
+
+    // Writes the rows of the classes.
+    fn put_classes<W: Write>(&self, writer: &mut W) -> io::Result<()> {
+        for class in CLASSES {
+            let tally = self.of_class(class);
+            if tally.seen {
+                write!(writer, "all   {:<8}", class_name(class))?;
+                self.put_row(&tally, writer)?;
+            }
+        }
+        Ok(())
+    }
+
+    // Writes the table for people.
+    fn put_text<W: Write>(&self, writer: &mut W) -> io::Result<()> {
+        let mechanism = mechanism_name(self.mechanism);
+        let (picks, commands, changes) = (self.picks, self.commands, self.changes);
+        writeln!(
+            writer,
+            "{mechanism}: {picks} picks, {commands} commands, {changes} changes of the settings"
+        )?;
+        writeln!(
+            writer,
+            "queue class        picks  commands    share    wait   below"
+        )?;
+        self.put_queues(writer)?;
+        self.put_classes(writer)?;
+        if self.mechanism == Mechanism::Weighted {
+            let (longest, bound) = (self.longest_behind, self.bound_behind);
+            writeln!(
+                writer,
+                "low behind high and medium: {longest} commands, at most {bound}"
+            )?;
+        }
+        let jain = self.jain();
+        let (whole, part) = (jain / 10_000, jain % 10_000);
+        writeln!(writer, "Jain's index of the I/O queues: {whole}.{part:04}")
+    }
+
+    // Writes what was counted as the rest of an object.
+    fn put_members<W: Write>(&self, tally: &Tally, writer: &mut W) -> io::Result<()> {
+        let share = self.share(tally.commands);
+        let (whole, part) = (share / 10_000, share % 10_000);
+        let (picks, commands, longest) = (tally.picks, tally.commands, tally.longest);
+        let bound = self.bound();
+        write!(
+            writer,
+            "\"picks\":{picks},\"commands\":{commands},\"share\":{whole}.{part:04},\"wait\":{longest},\"below\":{bound}}}"
+        )
+    }
+
+    // Writes the queues as objects.
+    fn put_queue_objects<W: Write>(&self, writer: &mut W) -> io::Result<()> {
+        let mut between = "";
+        for (lane, tally) in self.tallies.iter().enumerate() {
+            if tally.seen {
+                let queue = queue_of_lane(lane);
+                let (qid, class) = (queue.qid, class_name(queue.class));
+                write!(writer, "{between}{{\"queue\":{qid},\"class\":\"{class}\",")?;
+                self.put_members(tally, writer)?;
+                between = ",";
+            }
+        }
+        Ok(())
+    }
+
+    // Writes the classes as objects.
+    fn put_class_objects<W: Write>(&self, writer: &mut W) -> io::Result<()> {
+        let mut between = "";
+        for class in CLASSES {
+            let tally = self.of_class(class);
+            if tally.seen {
+                let name = class_name(class);
+                write!(writer, "{between}{{\"class\":\"{name}\",")?;
+                self.put_members(&tally, writer)?;
+                between = ",";
+            }
+        }
+        Ok(())
+    }
+
+    // Writes one object for tools.
+    fn put_json<W: Write>(&self, writer: &mut W) -> io::Result<()> {
+        let mechanism = mechanism_name(self.mechanism);
+        let (picks, commands, changes) = (self.picks, self.commands, self.changes);
+        write!(
+            writer,
+            "{{\"mechanism\":\"{mechanism}\",\"picks\":{picks},\"commands\":{commands},\"changes\":{changes},\"queues\":["
+        )?;
+        self.put_queue_objects(writer)?;
+        writer.write_all(b"],\"classes\":[")?;
+        self.put_class_objects(writer)?;
+        let (longest, bound) = (self.longest_behind, self.bound_behind);
+        let jain = self.jain();
+        let (whole, part) = (jain / 10_000, jain % 10_000);
+        writeln!(
+            writer,
+            "],\"low_behind\":{{\"commands\":{longest},\"at_most\":{bound}}},\"jain\":{whole}.{part:04}}}"
+        )
+    }
+
+    /// Writes a table for people: a row for each queue and each class with its picks, its commands, its share of all
+    /// commands, and the most picks in a row for which a queue was ready and not picked, beside the number below which
+    /// this stays in a lawful run.
+    pub fn write_text<W: Write>(&self, writer: &mut W) -> Result<(), WriteFault> {
+        match self.put_text(writer) {
+            Ok(()) => Ok(()),
+            Err(_) => Err(WriteFault),
+        }
+    }
+
+    /// Writes the same as one JSON object and a newline.
+    pub fn write_json<W: Write>(&self, writer: &mut W) -> Result<(), WriteFault> {
+        match self.put_json(writer) {
+            Ok(()) => Ok(()),
+            Err(_) => Err(WriteFault),
+        }
+    }
+}
+
+impl Watch for Statistics {
+    fn watch(&mut self, event: &TraceEvent) -> Result<(), TraceError> {
+        match event {
+            TraceEvent::Pick { seen, pick } => self.note_pick(seen, pick),
+            TraceEvent::Set { settings } => self.note_set(*settings),
+        }
+        Ok(())
+    }
+}
+
+/// What a trace shows in numbers. It is read as a stream, and its picks are not judged.
+pub fn stats<R: Read + Drop>(alloc: Global, reader: R) -> Result<Statistics, TraceError> {
+    let mut trace = Trace::new(alloc, reader);
+    let head = trace.head(alloc)?;
+    let mut counted = Statistics::new(head);
+    show(alloc, &mut trace, &mut counted)?;
+    Ok(counted)
+}

@@ -1,0 +1,114 @@
+// Why a trace is refused.
+ghost use Rattle.std.specs.Prelude.{◌≡◌};
+ghost use Rattle.nvme_trace.specs.declared.fault.TraceError.TheVariants as fault;
+
+use std::alloc::{AllocError, AllocFailed};
+use thiserror::Error;
+
+/// A field of a line, in the order in which each kind of line is looked at.
+#[derive(Clone, Copy, Debug, PartialEq, Eq)]
+pub enum Field {
+    /// `version` of the head: 1.
+    Version,
+    /// `mechanism` of the head: the arbitration mechanism.
+    Mechanism,
+    /// `cdw11` of the head: Command Dword 11 of the Arbitration feature.
+    Cdw11,
+    /// `set` of a change: its Command Dword 11.
+    Set,
+    /// `pick` of a pick: the identifier of the submission queue.
+    Pick,
+    /// `n` of a pick: how many commands it takes.
+    N,
+    /// `fresh` of a pick: whether it starts a new round.
+    Fresh,
+    /// `seen` of a pick: the open queues, each as an array of identifier, class and count.
+    Seen,
+}
+
+impl Field {
+    ghost use Rattle.nvme_trace.specs.Fields.{text_of};
+
+    /// The field as it stands in a line.
+    pub fn name(&self) -> &'static str
+        ensures text { result.now ≡ text_of self.now }
+    {
+        match self {
+            Field::Version => "version",
+            Field::Mechanism => "mechanism",
+            Field::Cdw11 => "cdw11",
+            Field::Set => "set",
+            Field::Pick => "pick",
+            Field::N => "n",
+            Field::Fresh => "fresh",
+            Field::Seen => "seen",
+        }
+    }
+}
+
+/// The first fault of a line, or want of memory.
+#[derive(Clone, Copy, Debug, PartialEq, Eq, Error)]
+pub enum LineFault {
+    /// The text has no line.
+    #[error("no head")]
+    NoHead,
+    /// The line has more than 4,096 bytes, its newline aside.
+    #[error("more than 4096 bytes")]
+    TooLong,
+    /// Its bytes are not UTF-8.
+    #[error("not UTF-8")]
+    NotUtf8,
+    /// It is not one JSON value.
+    #[error("not JSON")]
+    NotJson,
+    /// A field that the line has to have is not there.
+    #[error("missing {name}", name = .0.name())]
+    Missing(Field),
+    /// The value of a field is of a wrong kind or out of its range.
+    #[error("bad {name}", name = .0.name())]
+    Bad(Field),
+    /// The line has a field that is not one of its own.
+    #[error("unknown field")]
+    Unknown,
+    /// What a pick saw is no observation.
+    #[error("seen is no observation")]
+    NotObservation,
+    /// Memory was refused before a fault was found.
+    #[error("out of memory")]
+    NoMemory,
+}
+
+/// Why a trace was not read to its end.
+#[derive(Clone, Copy, Debug, PartialEq, Eq, Error)]
+pub enum TraceError {
+    /// The first fault of the text, in the line of this number, from 1 on.
+    #[error("trace: line {line}: {fault}")]
+    Line { line: u64, fault: LineFault },
+    /// A read failed.
+    #[error("read failed")]
+    Read,
+    /// Memory was refused.
+    #[error("out of memory")]
+    NoMemory,
+}
+
+impl<T: Drop> From<AllocFailed<T>> for TraceError {
+    ghost from_gives = { λ _ e. e ≡ fault.NoMemory };
+
+    fn from(_error: AllocFailed<T>) -> TraceError {
+        TraceError::NoMemory
+    }
+}
+
+impl From<AllocError> for TraceError {
+    ghost from_gives = { λ _ e. e ≡ fault.NoMemory };
+
+    fn from(_error: AllocError) -> TraceError {
+        TraceError::NoMemory
+    }
+}
+
+/// A write failed, or took no byte.
+#[derive(Clone, Copy, Debug, PartialEq, Eq, Error)]
+#[error("write failed")]
+pub struct WriteFault;

@@ -1,0 +1,118 @@
+// Judging a history event by event.
+ghost use Rattle.std.specs.Prelude.{◌≡◌};
+ghost use Rattle.nvme_arbiter.specs.Observation.{class_in};
+
+use crate::reading::{Head, TraceEvent};
+use nvme_arbiter::{Arbiter, Class, Kept, Pick, Seen};
+use std::marker::Model;
+
+/// A pick that is not the lawful one.
+#[derive(Clone, Copy, Debug, PartialEq, Eq)]
+pub struct Finding {
+    /// The pick that was made.
+    pub picked: Pick,
+    /// The lawful pick. `None` where nothing is ready.
+    pub lawful: Option<Pick>,
+    /// The class in which the queue of the lawful pick was seen.
+    pub class: Option<Class>,
+    /// What was served last and what was used in the round, before the pick.
+    pub kept: Kept,
+}
+
+/// An arbiter that makes each pick again, and the number of picks that were lawful.
+#[derive(Drop)]
+pub struct Judge {
+    arbiter: Arbiter,
+    picks: u64,
+}
+
+impl Model for Judge {
+    ghost use Rattle.nvme_trace.specs.Judged.{JudgeView};
+
+    ghost Value = { JudgeView };
+
+    ghost view = { λ j. record { kept = j.arbiter; picks = j.picks } };
+}
+
+// The class of a queue that was seen.
+fn class_in(seen: &[Seen], qid: u16) -> Option<Class>
+    ensures { result ≡ class_in seen.now qid }
+{
+    seen.iter()
+        .find(|queue| queue.qid == qid)
+        .map(|queue| queue.class)
+}
+
+impl Judge {
+    ghost use Rattle.std.specs.Prelude.{◌+◌, ◌-◌, ◌^◌, ◌<◌, [], ◌∷◌, MatchOption, IfSome, IfNone};
+    ghost use Rattle.nvme_arbiter.specs.Settings.{ArbitrationFields};
+    ghost use Rattle.nvme_arbiter.specs.History.{History, Picked};
+    ghost use Rattle.nvme_arbiter.specs.Lawful.{IsLawfulPick};
+    ghost use Rattle.nvme_arbiter.specs.Observation.{IsObservation};
+    ghost use Rattle.nvme_arbiter.specs.Standing.{StandsAt};
+    ghost use Rattle.nvme_arbiter.specs.declared.settings.Mechanism.{Mechanism};
+    ghost use Rattle.nvme_trace.specs.Format.{event_view};
+    ghost use Rattle.nvme_trace.specs.Judged.{IsObserved, IsLawfulEvent, IsFinding, picks_of};
+
+    /// A judge of what follows a head.
+    pub fn new(head: Head) -> Judge
+        ensures stands { StandsAt head.mechanism head.settings [] result.kept }
+        ensures picks { result.picks ≡ 0 }
+    {
+        Judge {
+            arbiter: Arbiter::new(head.mechanism, head.settings),
+            picks: 0,
+        }
+    }
+
+    /// How many picks were lawful.
+    pub fn picks(&self) -> u64
+        ensures { result ≡ self.now.picks }
+    {
+        self.picks
+    }
+
+    /// Judges the next event: `None` where it is lawful after the events so far, and then it is one of them. After a
+    /// pick that is not, nothing has changed.
+    pub fn judge(&mut self, event: &TraceEvent) -> Option<Finding>
+        requires observed { IsObserved (event_view event.now) }
+        requires few { self.old.picks < 2 ^ 64 - 1 }
+        ensures lawful { (mechanism : Mechanism) (first : ArbitrationFields) (past : History) → StandsAt mechanism first past self.old.kept → MatchOption result (IsLawfulEvent mechanism first past (event_view event.now)) (IsFinding mechanism first past (event_view event.now)) }
+        ensures stands { (mechanism : Mechanism) (first : ArbitrationFields) (past : History) → StandsAt mechanism first past self.old.kept → IfNone result (StandsAt mechanism first (event_view event.now ∷ past) self.new.kept) }
+        ensures picks { IfNone result (self.new.picks ≡ self.old.picks + picks_of (event_view event.now)) }
+        ensures unlawful { IfSome result (λ _. self.new ≡ self.old) }
+    {
+        match event {
+            TraceEvent::Pick { seen, pick } => self.judge_pick(seen, *pick),
+            TraceEvent::Set { settings } => {
+                self.arbiter.set(*settings);
+                None
+            }
+        }
+    }
+
+    // Judges a pick.
+    fn judge_pick(&mut self, seen: &[Seen], picked: Pick) -> Option<Finding>
+        requires observed { IsObservation seen.now }
+        requires few { self.old.picks < 2 ^ 64 - 1 }
+        ensures lawful { (mechanism : Mechanism) (first : ArbitrationFields) (past : History) → StandsAt mechanism first past self.old.kept → MatchOption result (IsLawfulPick mechanism first past seen.now picked) (IsFinding mechanism first past (Picked seen.now picked)) }
+        ensures stands { (mechanism : Mechanism) (first : ArbitrationFields) (past : History) → StandsAt mechanism first past self.old.kept → IfNone result (StandsAt mechanism first (Picked seen.now picked ∷ past) self.new.kept) }
+        ensures picks { IfNone result (self.new.picks ≡ self.old.picks + 1) }
+        ensures unlawful { IfSome result (λ _. self.new ≡ self.old) }
+    {
+        let kept = self.arbiter.parts();
+        let mut next = self.arbiter;
+        let lawful = next.pick(seen);
+        if lawful == Some(picked) {
+            self.arbiter = next;
+            self.picks += 1;
+            return None;
+        }
+        Some(Finding {
+            picked,
+            lawful,
+            class: lawful.and_then(|pick| class_in(seen, pick.qid)),
+            kept,
+        })
+    }
+}

@@ -1,0 +1,120 @@
+// The rows that a trace shows: one for each queue and class in which it was seen.
+ghost use Rattle.std.specs.Prelude.{◌≡◌, ◌<◌, IfSome};
+
+use crate::fault::TraceError;
+use crate::reading::TraceEvent;
+use crate::trace::Trace;
+use nvme_arbiter::{Class, Mechanism, QUEUE_LIMIT, Seen};
+use std::alloc::Global;
+use std::io::Read;
+
+/// How many I/O queues there can be.
+pub const IO_QUEUES: usize = QUEUE_LIMIT - 1;
+
+/// How many rows there can be: the admin queue, and each I/O queue in each other class.
+pub const LANES: usize = 1 + 4 * IO_QUEUES;
+
+/// The classes, in the order of their rows.
+pub const CLASSES: [Class; 5] = [
+    Class::Admin,
+    Class::Urgent,
+    Class::High,
+    Class::Medium,
+    Class::Low,
+];
+
+/// The name of a class.
+pub fn class_name(class: Class) -> &'static str {
+    match class {
+        Class::Admin => "admin",
+        Class::Urgent => "urgent",
+        Class::High => "high",
+        Class::Medium => "medium",
+        Class::Low => "low",
+    }
+}
+
+/// The name of a mechanism.
+pub fn mechanism_name(mechanism: Mechanism) -> &'static str {
+    match mechanism {
+        Mechanism::RoundRobin => "round-robin",
+        Mechanism::Weighted => "weighted",
+    }
+}
+
+// How many classes of I/O queues come before a class.
+fn rank(class: Class) -> Option<usize>
+    ensures { IfSome result (λ rank. rank < 4) }
+{
+    match class {
+        Class::Admin => None,
+        Class::Urgent => Some(0),
+        Class::High => Some(1),
+        Class::Medium => Some(2),
+        Class::Low => Some(3),
+    }
+}
+
+/// The row of a queue in a class.
+pub fn lane_of(queue: &Seen) -> Option<usize>
+    ensures { IfSome result (λ lane. lane < LANES) }
+{
+    let Some(rank) = rank(queue.class) else {
+        return Some(0);
+    };
+    let qid = usize::from(queue.qid);
+    if qid == 0 || qid > IO_QUEUES {
+        return None;
+    }
+    Some(rank * IO_QUEUES + qid)
+}
+
+/// The queue of a row, with its class.
+pub fn queue_of_lane(lane: usize) -> Seen {
+    if lane == 0 || lane >= LANES {
+        return Seen::default();
+    }
+    let class = match (lane - 1) / IO_QUEUES {
+        0 => Class::Urgent,
+        1 => Class::High,
+        2 => Class::Medium,
+        _ => Class::Low,
+    };
+    let qid = (lane - 1) % IO_QUEUES + 1;
+    Seen {
+        qid: qid as u16,
+        class,
+        count: 0,
+    }
+}
+
+/// The row of a pick, where its queue was seen.
+pub fn lane_of_pick(seen: &[Seen], qid: u16) -> Option<usize>
+    ensures { IfSome result (λ lane. lane < LANES) }
+{
+    let queue = seen.iter().find(|queue| queue.qid == qid)?;
+    lane_of(queue)
+}
+
+/// What goes through a trace, event by event.
+pub trait Watch {
+    /// Takes the next event.
+    fn watch(&mut self, event: &TraceEvent) -> Result<(), TraceError>;
+}
+
+/// Shows all events after the head.
+pub fn show<R: Read, W: Watch>(
+    alloc: Global,
+    trace: &mut Trace<R>,
+    watcher: &mut W,
+) -> Result<(), TraceError>
+    requires { trace.old.number ≡ 1 }
+{
+    for _ in 1..u64::MAX {
+        let Some(event) = trace.event(alloc)? else {
+            return Ok(());
+        };
+        watcher.watch(&event)?;
+    }
+    Err(TraceError::Read)
+}

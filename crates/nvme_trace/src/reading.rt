@@ -1,0 +1,306 @@
+// What a line says.
+ghost use Rattle.std.specs.Prelude.{◌≡◌, ◌≤◌, length, option_map, ok_or, IfOk, IfSome};
+ghost use Rattle.serde_json.specs.View.{view};
+ghost use Rattle.nvme_trace.specs.Readings.{Gives, seen_by, only, value_at, whole, number_at, flag_at, field_count};
+ghost use Rattle.nvme_trace.specs.Format.{longest_line, mechanism_of, head_in, class_named, number_of_part, class_of_part, part_count, triple_of, queue_of, queues_of, observation_of, set_in, pick_in, event_in, data_of, head_of_line, event_of_line, event_view};
+ghost use Rattle.serde_json.specs.Read.{read};
+ghost use Rattle.nvme_arbiter.specs.Observation.{IsObservation};
+ghost use Rattle.nvme_trace.specs.Judged.{IsObserved};
+
+use crate::fault::{Field, LineFault};
+use arrayvec::ArrayVec;
+use nvme_arbiter::{Class, Mechanism, Pick, QUEUE_LIMIT, Seen, Settings, is_observation};
+use serde_json::Value;
+use std::alloc::Global;
+
+/// The first line of a trace.
+#[derive(Clone, Copy, Debug, PartialEq, Eq)]
+pub struct Head {
+    /// The arbitration mechanism.
+    pub mechanism: Mechanism,
+    /// The settings before the first event.
+    pub settings: Settings,
+}
+
+/// A line of a trace after its head.
+#[derive(Debug, Drop, PartialEq, Eq)]
+pub enum TraceEvent {
+    /// A pick, and the open queues that were seen.
+    Pick {
+        seen: ArrayVec<Seen, QUEUE_LIMIT>,
+        pick: Pick,
+    },
+    /// A change of the settings.
+    Set {
+        settings: Settings,
+    },
+}
+
+// How many members an object has.
+fn field_count(value: &Value) -> usize
+    ensures { result ≡ field_count (view value.now) }
+{
+    match value.as_object() {
+        Some(members) => members.len(),
+        None => 0,
+    }
+}
+
+// That a line has no more fields than these.
+fn only(count: usize, line: &Value) -> Result<(), LineFault>
+    ensures { result ≡ only count (view line.now) }
+{
+    if field_count(line) == count {
+        Ok(())
+    } else {
+        Err(LineFault::Unknown)
+    }
+}
+
+// The value of a field that the line has to have.
+fn value_at(line: &Value, field: Field) -> Result<&Value, LineFault>
+    ensures { seen_by (λ v. view v.now) result ≡ value_at field (view line.now) }
+{
+    match line.get(field.name()) {
+        Some(value) => Ok(value),
+        None => Err(LineFault::Missing(field)),
+    }
+}
+
+// A whole number up to a highest.
+fn whole(value: &Value, most: u64) -> Option<u64>
+    ensures value { result ≡ whole most (view value.now) }
+{
+    match value.as_u64() {
+        Some(number) if number <= most => Some(number),
+        _ => None,
+    }
+}
+
+// The number of a field.
+#[tactic(auto, unfolding(crate::specs::Readings::number_at))]
+fn number_at(line: &Value, field: Field, most: u64) -> Result<u64, LineFault>
+    ensures value { result ≡ number_at field most (view line.now) }
+    ensures in_range { IfOk result (λ n. n ≤ most) }
+{
+    match whole(value_at(line, field)?, most) {
+        Some(number) => Ok(number),
+        None => Err(LineFault::Bad(field)),
+    }
+}
+
+// A field that is true or false.
+#[tactic(auto, unfolding(crate::specs::Readings::flag_at))]
+fn flag_at(line: &Value, field: Field) -> Result<bool, LineFault>
+    ensures { result ≡ flag_at field (view line.now) }
+{
+    match value_at(line, field)?.as_bool() {
+        Some(flag) => Ok(flag),
+        None => Err(LineFault::Bad(field)),
+    }
+}
+
+// The mechanism.
+fn mechanism_of(value: &Value) -> Result<Mechanism, LineFault>
+    ensures { result ≡ mechanism_of (view value.now) }
+{
+    match value.as_str() {
+        Some("round-robin") => Ok(Mechanism::RoundRobin),
+        Some("weighted") => Ok(Mechanism::Weighted),
+        _ => Err(LineFault::Bad(Field::Mechanism)),
+    }
+}
+
+// What a head says.
+#[tactic(auto, unfolding(crate::specs::Format::head_in))]
+fn head_in(line: &Value) -> Result<Head, LineFault>
+    ensures { result ≡ head_in (view line.now) }
+{
+    if number_at(line, Field::Version, 1)? != 1 {
+        return Err(LineFault::Bad(Field::Version));
+    }
+    let mechanism = mechanism_of(value_at(line, Field::Mechanism)?)?;
+    let cdw11 = number_at(line, Field::Cdw11, 0xffff_ffff)?;
+    only(3, line)?;
+    Ok(Head {
+        mechanism,
+        settings: Settings::from_cdw11(cdw11 as u32),
+    })
+}
+
+// The class of this name.
+fn class_named(name: Option<&str>) -> Option<Class>
+    ensures { result ≡ class_named (option_map (λ s. s.now) name.entry) }
+{
+    match name {
+        Some("admin") => Some(Class::Admin),
+        Some("urgent") => Some(Class::Urgent),
+        Some("high") => Some(Class::High),
+        Some("medium") => Some(Class::Medium),
+        Some("low") => Some(Class::Low),
+        _ => None,
+    }
+}
+
+// The part of an array at an index, as a number of 16 bits.
+fn number_of_part(index: usize, parts: &Value) -> Option<u16>
+    ensures { result ≡ number_of_part index (view parts.now) }
+{
+    let number = whole(parts.get(index)?, 0xffff)?;
+    Some(number as u16)
+}
+
+// The part of an array at an index, as a class.
+fn class_of_part(index: usize, parts: &Value) -> Option<Class>
+    ensures { result ≡ class_of_part index (view parts.now) }
+{
+    class_named(parts.get(index)?.as_str())
+}
+
+// How many items an array has.
+#[tactic(auto, using(crate::proofs::ReadingLemmas::item_count_view))]
+fn part_count(parts: &Value) -> Option<usize>
+    ensures { result ≡ part_count (view parts.now) }
+{
+    let items = parts.as_array()?;
+    Some(items.len())
+}
+
+// An array's first three items as an open queue: identifier, class and count.
+#[tactic(auto, unfolding(crate::specs::Format::triple_of))]
+fn triple_of(parts: &Value) -> Option<Seen>
+    ensures { result ≡ triple_of (view parts.now) }
+{
+    let qid = number_of_part(0, parts)?;
+    let class = class_of_part(1, parts)?;
+    let count = number_of_part(2, parts)?;
+    Some(Seen { qid, class, count })
+}
+
+// An open queue: an array of just these.
+#[tactic(auto, unfolding(crate::specs::Format::queue_of))]
+fn queue_of(parts: &Value) -> Option<Seen>
+    ensures { result ≡ queue_of (view parts.now) }
+{
+    if part_count(parts)? == 3 {
+        triple_of(parts)
+    } else {
+        None
+    }
+}
+
+// The open queues of an array.
+#[tactic(auto, using(crate::proofs::ReadingLemmas::item_count_view), unfolding(crate::specs::Format::queues_of))]
+fn queues_of(value: &Value) -> Option<ArrayVec<Seen, QUEUE_LIMIT>>
+    ensures { option_map (λ v. v.items) result ≡ queues_of (view value.now) }
+{
+    let items = value.as_array()?;
+    if QUEUE_LIMIT < items.len() {
+        return None;
+    }
+    let mut seen = ArrayVec::new();
+    for item in items {
+        seen.push(queue_of(item)?);
+    }
+    Some(seen)
+}
+
+// What a pick saw.
+#[tactic(auto, unfolding(crate::specs::Format::observation_of))]
+fn observation_of(value: &Value) -> Option<ArrayVec<Seen, QUEUE_LIMIT>>
+    ensures value { option_map (λ v. v.items) result ≡ observation_of (view value.now) }
+    ensures observed { IfSome result (λ v. IsObservation v.items) }
+{
+    let seen = queues_of(value)?;
+    if is_observation(&seen) {
+        Some(seen)
+    } else {
+        None
+    }
+}
+
+// What a change of the settings says.
+#[tactic(auto, unfolding(crate::specs::Format::set_in))]
+fn set_in(line: &Value) -> Result<TraceEvent, LineFault>
+    ensures value { seen_by event_view result ≡ set_in (view line.now) }
+    ensures observed { IfOk result (λ e. IsObserved (event_view e)) }
+{
+    let cdw11 = number_at(line, Field::Set, 0xffff_ffff)?;
+    only(1, line)?;
+    Ok(TraceEvent::Set {
+        settings: Settings::from_cdw11(cdw11 as u32),
+    })
+}
+
+// What a pick says.
+#[tactic(auto, unfolding(crate::specs::Format::pick_in))]
+fn pick_in(line: &Value) -> Result<TraceEvent, LineFault>
+    ensures value { seen_by event_view result ≡ pick_in (view line.now) }
+    ensures observed { IfOk result (λ e. IsObserved (event_view e)) }
+{
+    let qid = number_at(line, Field::Pick, 0xffff)? as u16;
+    let n = number_at(line, Field::N, 0xffff)? as u16;
+    let fresh = flag_at(line, Field::Fresh)?;
+    let Some(seen) = observation_of(value_at(line, Field::Seen)?) else {
+        return Err(LineFault::NotObservation);
+    };
+    only(4, line)?;
+    Ok(TraceEvent::Pick {
+        seen,
+        pick: Pick { qid, n, fresh },
+    })
+}
+
+// What a line after the head says.
+#[tactic(auto, unfolding(crate::specs::Format::event_in))]
+fn event_in(line: &Value) -> Result<TraceEvent, LineFault>
+    ensures value { seen_by event_view result ≡ event_in (view line.now) }
+    ensures observed { IfOk result (λ e. IsObserved (event_view e)) }
+{
+    if line.get(Field::Set.name()).is_some() {
+        set_in(line)
+    } else {
+        pick_in(line)
+    }
+}
+
+// The JSON value of a text.
+fn value_of(alloc: Global, text: &str) -> Result<Value, LineFault>
+    ensures { Gives (seen_by view result) (ok_or (read text.now) LineFault.NotJson) }
+{
+    match Value::from_str(alloc, text) {
+        Ok(value) => Ok(value),
+        Err(error) if error.is_memory() => Err(LineFault::NoMemory),
+        Err(_) => Err(LineFault::NotJson),
+    }
+}
+
+// The JSON value of a line.
+fn data_of(alloc: Global, line: &[u8]) -> Result<Value, LineFault>
+    requires { length line.now ≤ longest_line }
+    ensures { Gives (seen_by view result) (data_of line.now) }
+{
+    match std::str::from_utf8(line) {
+        Ok(text) => value_of(alloc, text),
+        Err(_) => Err(LineFault::NotUtf8),
+    }
+}
+
+/// What the first line says.
+#[tactic(auto, unfolding(crate::specs::Format::head_of_line))]
+pub(crate) fn head_of_line(alloc: Global, line: &[u8]) -> Result<Head, LineFault>
+    requires { length line.now ≤ longest_line }
+    ensures { Gives result (head_of_line line.now) }
+{
+    head_in(&data_of(alloc, line)?)
+}
+
+/// What a later line says.
+#[tactic(auto, unfolding(crate::specs::Format::event_of_line))]
+pub(crate) fn event_of_line(alloc: Global, line: &[u8]) -> Result<TraceEvent, LineFault>
+    requires { length line.now ≤ longest_line }
+    ensures value { Gives (seen_by event_view result) (event_of_line line.now) }
+    ensures observed { IfOk result (λ e. IsObserved (event_view e)) }
+{
+    event_in(&data_of(alloc, line)?)
+}

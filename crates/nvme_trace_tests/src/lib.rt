@@ -1,0 +1,13 @@
+//! Tests of traces: examples, each fault, changed numbers, random runs, statistics and charts.
+#![tactic(auto)]
+
+#[cfg(test)]
+mod changes;
+#[cfg(test)]
+mod examples;
+#[cfg(test)]
+mod faults;
+#[cfg(test)]
+mod runs;
+#[cfg(test)]
+mod shows;
