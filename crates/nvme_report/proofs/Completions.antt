@@ -9,7 +9,7 @@ use Rattle.nvme_log.specs.declared.event.Event.TheVariants.{Post}
 use Rattle.nvme_log.specs.Rules.{Past}
 use Rattle.nvme_log.specs.Completions.{posts_of}
 use Rattle.nvme_report.specs.Report.{completion_in, completions_of}
-use Rattle.nvme_report.specs.Tallies.{IsFirst}
+use Rattle.nvme_report.specs.inside.Tallies.{IsFirst}
 use Rattle.nvme_report.proofs.Loops.{flat_map_at}
 
 -- a Post of the place holds its completion

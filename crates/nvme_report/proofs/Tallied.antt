@@ -4,7 +4,7 @@ use Rattle.std.proofs.lemmas.Bool.{ne_eqb}
 use Rattle.std.proofs.lemmas.List.{get_or-set_other, get_or-set_same, length-replicate, reverse-append, take_more}
 use Rattle.nvme_log.specs.Queues.{open_sq}
 use Rattle.nvme_log.specs.declared.event.Event.{Event}
-use Rattle.nvme_report.specs.Tallies.{AreMost, Tallies, no_counts, region_in}
+use Rattle.nvme_report.specs.inside.Tallies.{AreMost, Tallies, no_counts, region_in}
 
 -- a list of one value alone has it everywhere
 all_same : {A : Type 0} (n i : ℕ) (a : A) → get_or (replicate n a) i a ≡ a

@@ -1,4 +1,3 @@
 pub mod Report
 pub mod Written
-pub mod Pieces
-pub mod Tallies
+pub mod inside

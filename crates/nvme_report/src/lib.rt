@@ -4,6 +4,3 @@
 mod reports;
 
 pub use reports::{Mode, WriteFault, report};
-
-#[cfg(test)]
-mod tests;

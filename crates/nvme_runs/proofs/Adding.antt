@@ -12,11 +12,11 @@ use Rattle.nvme_lane.specs.declared.feeder.Feeder.{Feeder}
 use Rattle.nvme_lane.specs.declared.drainer.Drainer.{Drainer}
 use Rattle.nvme_workload.specs.declared.plan.SqPlan.{SqPlan}
 use Rattle.nvme_workload.specs.declared.plan.CqPlan.{CqPlan}
-use Rattle.nvme_front.specs.Goes.{get_place, put_place}
+use Rattle.nvme_front.specs.Ends.{get_place, put_place}
 use Rattle.nvme_front.specs.Hosts.{feeder_place, drainer_place}
 use Rattle.nvme_front.specs.View.{FrontView, is_address}
 use Rattle.nvme_front.proofs.Addresses.{any_in_map}
-use Rattle.nvme_runs.specs.Prepared.{StaysFresh, AddsSq, AddsCq, AddsSqs, AddsCqs, sq_site, cq_site, get_site, put_site}
+use Rattle.nvme_runs.specs.inside.Prepared.{StaysFresh, AddsSq, AddsCq, AddsSqs, AddsCqs, sq_site, cq_site, get_site, put_site}
 
 -- ---- maps
 -- an element more on both sides

@@ -15,12 +15,12 @@ use Rattle.nvme_workload.specs.Plan.{Plan}
 use Rattle.nvme_log.specs.Limits.{most_events}
 use Rattle.nvme_workload.specs.Sound.{AreApart}
 use Rattle.nvme_front.specs.declared.settling.Parts.{Parts}
-use Rattle.nvme_front.specs.Goes.{get_place, put_place}
+use Rattle.nvme_front.specs.Ends.{get_place, put_place}
 use Rattle.nvme_front.specs.Hosts.{drainer_place}
-use Rattle.nvme_state.specs.Kept.{sq_steps, cq_steps}
+use Rattle.nvme_state.specs.Regions.{sq_steps, cq_steps}
 use Rattle.nvme_front.specs.View.{FrontView}
 use Rattle.nvme_runs.specs.Runs.{sq_additions, cq_additions}
-use Rattle.nvme_runs.specs.Prepared.{IsPrepared, AddsSqs, AddsCqs, sq_site, cq_site, get_site, put_site}
+use Rattle.nvme_runs.specs.inside.Prepared.{IsPrepared, AddsSqs, AddsCqs, sq_site, cq_site, get_site, put_site}
 use Rattle.nvme_runs.proofs.Adding.{fresh_then, sq_addresses}
 
 -- the steps of a front's submission regions are the additions of those of the workload

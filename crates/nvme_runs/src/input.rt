@@ -31,7 +31,8 @@ pub enum InputError {
 }
 
 /// All bytes of the reader up to its end. At each read a failure is found first, then a length over
-/// `MAX_INPUT`, then want of memory. It ends after at most `MAX_READS` reads.
+/// `MAX_INPUT`, then want of memory. A read that a signal interrupts is made again. It ends after at most `MAX_READS`
+/// reads.
 pub fn take_input<R: Read + Drop>(alloc: Global, reader: R) -> Result<Vec<u8>, InputError>
     ensures whole { IfOk result (λ bytes. IfSome (R.remaining reader) (λ rest. bytes.items ≡ rest)) }
     ensures within { IfOk result (λ bytes. length bytes.items ≤ MAX_INPUT) }
@@ -58,7 +59,10 @@ fn taken<R: Read>(alloc: Global, reader: &mut Counted<R>) -> Result<Vec<u8>, Inp
     let mut chunk = [0; CHUNK];
     for _ in 0..MAX_READS {
         let Some(count) = reader.read(&mut chunk) else {
-            return Err(InputError::Read);
+            if reader.has_failed() {
+                return Err(InputError::Read);
+            }
+            continue;
         };
         if count == 0 {
             return Ok(bytes);

@@ -7,4 +7,4 @@ mod runs;
 
 pub use entries::{OnceError, once};
 pub use input::{InputError, MAX_INPUT, MAX_READS, take_input};
-pub use runs::{RunError, run, run_with};
+pub use runs::{Ran, RunError, run, run_with, settled_run};

@@ -1,5 +1,5 @@
 //! Runs: a workload is read, driven on threads, settled and reported.
-ghost use Rattle.std.specs.Prelude.{◌≡◌, ◌↔◌, ◌≤◌, Ok, IfOk, IfErr, IsTrue, vec_len};
+ghost use Rattle.std.specs.Prelude.{◌≡◌, ◌↔◌, ◌≤◌, Ok, IfOk, IfErr, IsErrOf, IsTrue, vec_len};
 ghost use Rattle.nvme_lane.specs.Limits.{IsOutside};
 ghost use Rattle.nvme_pool.specs.Limits.{max_workers};
 ghost use Rattle.nvme_log.specs.Account.{IsWholeAccount};
@@ -8,6 +8,7 @@ ghost use Rattle.nvme_front.specs.Settles.{settled_past};
 ghost use Rattle.nvme_workload.specs.Plan.{plan_of, workload_of};
 ghost use Rattle.nvme_workload.specs.Sound.{IsSound};
 ghost use Rattle.nvme_report.specs.declared.reports.Mode.TheVariants.{Loaded};
+ghost use Rattle.nvme_runs.specs.Ran.{BeginsAs, settled_in, no_bytes};
 ghost use Rattle.nvme_runs.specs.Runs.{HasItsHosts, FitsAll, GatesRan, fault_of, fault_of_drive, rules_for, script_for, is_loaded};
 ghost use Rattle.nvme_runs.specs.RunFaults.{IsTextFault, IsLateFault};
 ghost use Rattle.nvme_runs.specs.RunMeans.{RunMeans};
@@ -16,6 +17,7 @@ ghost use Rattle.nvme_runs.specs.declared.runs.RunError.TheVariants as fault;
 mod preparing;
 mod settling;
 
+use nvme_arbiter::{Mechanism, Settings};
 use nvme_front::{FrontError, Settled};
 use nvme_pool::{Gate, MAX_WORKERS, NoGate};
 use nvme_report::{Mode, WriteFault, report};
@@ -53,6 +55,17 @@ pub enum RunError {
     /// A write of the report failed, or took no byte. A front of the report was written.
     #[error("write failed")]
     Write,
+}
+
+/// What is left of a run that wrote nothing, with what its arbitration began with.
+#[derive(Debug, Drop)]
+pub struct Ran {
+    /// The mechanism of the workload.
+    pub mechanism: Mechanism,
+    /// The settings of the workload, before any Set Features.
+    pub settings: Settings,
+    /// The log, and what hosts submitted and collected.
+    pub settled: Settled,
 }
 
 impl From<WorkloadError> for RunError {
@@ -182,6 +195,33 @@ pub fn run<W: Write, R: Threads + Wait + Sync>(
     let gates = idle_gates(alloc, workers)?;
     let (settled, _) = run_with(rt, alloc, text, mode, gates, writer)?;
     Ok(settled)
+}
+
+/// `run` without its report: what is settled, and what its arbitration began with. Refused as `run` is, but never with
+/// `Write`. It may wait for another thread.
+pub fn settled_run<R: Threads + Wait + Sync>(
+    rt: &R,
+    alloc: Global,
+    text: &[u8],
+    mode: Mode,
+    workers: u8,
+) -> Result<Ran, RunError>
+    ensures means { RunMeans result settled_in tt tt no_bytes text.now mode workers }
+    ensures begins { IfOk result (BeginsAs text.now) }
+    ensures no_write { IsErrOf result RunError.Write → ⊥ }
+{
+    if is_outside(usize::from(workers)) {
+        return Err(RunError::Workers);
+    }
+    let gates = idle_gates(alloc, workers)?;
+    let workload = workload_for(alloc, text, mode)?;
+    let (mechanism, settings) = (workload.mechanism, workload.settings);
+    let (settled, _) = settled_by(rt, alloc, workload, mode, gates)?;
+    Ok(Ran {
+        mechanism,
+        settings,
+        settled,
+    })
 }
 
 // So many gates that do nothing.

@@ -14,7 +14,7 @@ use Rattle.nvme_runs.specs.declared.entries.OnceError.{OnceError}
 use Rattle.nvme_runs.specs.declared.entries.OnceError.TheVariants as entry
 use Rattle.nvme_runs.specs.declared.runs.RunError.{RunError}
 use Rattle.nvme_runs.specs.declared.runs.RunError.TheVariants as run
-use Rattle.nvme_sim.specs.declared.commands.Fault.{Fault}
+use Rattle.nvme_sim.specs.declared.faults.Fault.{Fault}
 use Rattle.nvme_sim.specs.Statuses.{IsBadEntry, IsBadWorkload, run_status, status_of}
 
 -- an entry that is none is one of the faults of an entry
@@ -36,6 +36,11 @@ bad_workload (Some rest) bytes run.NoMemory whole told one = absurd (cc one)
 bad_workload (Some rest) bytes (run.Front e) whole told one = absurd (cc one)
 bad_workload (Some rest) bytes run.GaveUp whole told one = absurd (cc one)
 bad_workload (Some rest) bytes run.Write whole told one = absurd (cc one)
+
+-- a file whose fault is told is no workload
+pub bad_file : (input : Option (List ℕ)) (bytes : List ℕ) (w : WorkloadError) → IfSome input (λ rest. bytes ≡ rest) → workload_of bytes ≡ Err w → IfSome input IsBadWorkload
+bad_file None bytes w whole is = tt
+bad_file (Some rest) bytes w whole is = subst (λ (bs : List ℕ). IsBadWorkload bs) whole (inr (w, is))
 
 -- the report of a run was written
 pub run_done : (input : Option (List ℕ)) (bytes : List ℕ) (mode : Mode) (s : Settled) (old new : Option (List ℕ)) → IfSome input (λ rest. bytes ≡ rest)

@@ -12,8 +12,8 @@ use Rattle.nvme_runs.specs.declared.input.InputError.TheVariants as untaken
 use Rattle.nvme_runs.specs.declared.input.TheConstants.{MAX_INPUT}
 use Rattle.nvme_runs.specs.declared.runs.RunError.{RunError}
 use Rattle.nvme_runs.specs.declared.runs.RunError.TheVariants as run
-use Rattle.nvme_sim.specs.declared.commands.Fault.{Fault}
-use Rattle.nvme_sim.specs.declared.commands.Fault.TheVariants as fault
+use Rattle.nvme_sim.specs.declared.faults.Fault.{Fault}
+use Rattle.nvme_sim.specs.declared.faults.Fault.TheVariants as fault
 
 -- an entry that is none: the input is at fault
 abbrev pub entry_status : OnceError → ℕ
@@ -45,6 +45,7 @@ status_of (fault.Input e) = input_status e
 status_of (fault.NoMemory e) = 3
 status_of fault.Write = 3
 status_of (fault.Run e) = run_status e
+status_of (fault.Workload f) = 1
 
 -- an input has more bytes than are taken
 abbrev pub IsTooLong : List ℕ → Type 0

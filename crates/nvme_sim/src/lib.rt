@@ -2,9 +2,13 @@
 #![tactic(auto)]
 
 mod commands;
+mod faults;
+mod words;
 
 pub use commands::command;
 pub use nvme_report::{Mode, WriteFault, report};
 pub use nvme_runs::{
-    InputError, MAX_INPUT, MAX_READS, OnceError, RunError, once, run, run_with, take_input,
+    InputError, MAX_INPUT, MAX_READS, OnceError, Ran, RunError, once, run, run_with, settled_run,
+    take_input,
 };
+pub use words::file_named;

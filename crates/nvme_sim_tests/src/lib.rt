@@ -16,7 +16,11 @@ mod gates;
 #[cfg(test)]
 mod input;
 #[cfg(test)]
+mod people;
+#[cfg(test)]
 mod program;
+#[cfg(test)]
+mod starved;
 #[cfg(test)]
 mod streams;
 #[cfg(test)]

@@ -1,31 +1,78 @@
 //! The program `nvmearb`: `command` over its words and the three standard streams.
 #![tactic(auto)]
 
-ghost use Rattle.std.specs.Prelude.{◌≡◌, ◌⊎◌, []};
+ghost use Rattle.std.specs.Prelude.{◌≡◌, ◌≤◌, ◌⊎◌, ◌↔◌, [], IsTrue};
 ghost use Rattle.std.specs.Io.KnownBytes.{Keeps};
 ghost use Rattle.std.specs.Io.Buffered.{writer_buffer, writer_contents};
 
-use nvme_sim::command;
+use nvme_sim::{command, file_named};
 use std::io::{BufWriter, ErrorKind, Write};
 use std::process::ExitCode;
-use std::{env, io};
+use std::rt::Files;
+use std::sync::Wait;
+use std::thread::Threads;
+use std::{env, fs, io};
+
+// The status of a lawful workload with warnings.
+const WARNED: u8 = 4;
 
 // The words of the command line, the program's name first.
 fn words_of(rt: &HostRuntime) -> io::Result<Vec<String>> {
     Ok(env::args(rt)?.collect(rt.alloc())?)
 }
 
-// Writes what is left in the buffer of a program that ends well, and gives the status: 3 where that fails.
+// Whether a program that ends with this status has an answer: it is done, or has warnings.
+fn has_answer(status: u8) -> bool
+    ensures { IsTrue result ↔ ((status ≡ 0) ⊎ (status ≡ WARNED)) }
+{
+    status == 0 || status == WARNED
+}
+
+// Writes what is left in the buffer of a program that has an answer, and gives the status: 3 where that fails.
 fn flushed<W: Write + Drop, E: Write>(status: u8, output: &mut BufWriter<W>, errors: &mut E) -> u8
-    ensures status { (result ≡ status) ⊎ ((status ≡ 0) × (result ≡ 3)) }
-    ensures written { result ≡ 0 → writer_buffer output.new ≡ [] }
+    ensures status { (result ≡ status) ⊎ (((status ≡ 0) ⊎ (status ≡ WARNED)) × (result ≡ 3)) }
+    ensures written { (result ≡ 0) ⊎ (result ≡ WARNED) → writer_buffer output.new ≡ [] }
     ensures bytes { Keeps (writer_contents W.contents output.old) (writer_contents W.contents output.new) }
 {
-    if status == 0 && output.flush().is_err() {
+    if has_answer(status) && output.flush().is_err() {
         let _ = writeln!(errors, "nvmearb: write failed");
         return 3;
     }
     status
+}
+
+// Tells that a file can't be opened, and gives the status.
+fn unopened<E: Write>(name: &str, error: &io::Error, errors: &mut E) -> u8
+    ensures { result ≡ 3 }
+{
+    let _ = if error.kind() == ErrorKind::OutOfMemory {
+        writeln!(errors, "nvmearb: out of memory")
+    } else {
+        writeln!(errors, "nvmearb: open failed: {name:?}: {error}")
+    };
+    3
+}
+
+// Does what the words ask for over the file that they name, or else over standard input, and gives the status.
+fn served<R: AllocGlobal + Files + Input + Threads + Wait + Sync, W: Write, E: Write>(
+    rt: &R,
+    words: &[String],
+    output: &mut W,
+    errors: &mut E,
+) -> u8
+    ensures { result ≤ 4 }
+{
+    match file_named(rt.alloc(), words) {
+        Ok(None) => command(rt, rt.alloc(), words, rt.reader(), output, errors),
+        Ok(Some(name)) => match fs::open(rt, name) {
+            Ok(file) => command(rt, rt.alloc(), words, file, output, errors),
+            Err(error) => unopened(name, &error, errors),
+        },
+        Err(_) => {
+            let _ = writeln!(errors, "nvmearb: out of memory");
+            3
+        }
+    }
 }
 
 fn main(rt: HostRuntime) -> ExitCode {
@@ -48,14 +95,7 @@ fn main(rt: HostRuntime) -> ExitCode {
         return ExitCode::from(3);
     };
     let mut errors = rt.stderr();
-    let status = command(
-        &rt,
-        rt.alloc(),
-        words.as_slice(),
-        rt.reader(),
-        &mut output,
-        &mut errors,
-    );
+    let status = served(&rt, words.as_slice(), &mut output, &mut errors);
     let status = flushed(status, &mut output, &mut errors);
     // After a write that failed what is left isn't written.
     let _ = output.into_parts();

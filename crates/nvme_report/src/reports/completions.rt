@@ -5,7 +5,7 @@ ghost use Rattle.nvme_log.specs.Completions.{posts_of};
 ghost use Rattle.nvme_log.specs.Places.{fetched};
 ghost use Rattle.nvme_log.specs.Rules.{upto};
 ghost use Rattle.nvme_report.specs.Report.{cmd_line, cmd_lines, completions_of};
-ghost use Rattle.nvme_report.specs.Tallies.{AreCounted, IsFirst};
+ghost use Rattle.nvme_report.specs.inside.Tallies.{AreCounted, IsFirst};
 ghost use Rattle.nvme_report.specs.Written.{Writes};
 
 use crate::reports::WriteFault;

@@ -1,7 +1,7 @@
 // What a log says of the submission regions, and their lines.
 ghost use Rattle.std.specs.Prelude.{◌≡◌, ℕ, ◌+◌, ◌∷◌, length, reverse};
 ghost use Rattle.nvme_log.specs.Rules.{Past};
-ghost use Rattle.nvme_report.specs.Tallies.{AreCounted, AreFew, AreMost, IsCounted, Tallies, sq_line_of};
+ghost use Rattle.nvme_report.specs.inside.Tallies.{AreCounted, AreFew, AreMost, IsCounted, Tallies, sq_line_of};
 ghost use Rattle.nvme_report.specs.Report.{numbered, sq_line};
 ghost use Rattle.nvme_report.specs.Written.{Writes};
 

@@ -1,7 +1,7 @@
 // A line as pieces, and how it is written.
 ghost use Rattle.std.specs.Prelude.{◌≡◌, ◌++◌, codes};
 ghost use Rattle.std.specs.List.{flat_map};
-ghost use Rattle.nvme_report.specs.Pieces.{piece_text};
+ghost use Rattle.nvme_report.specs.inside.Pieces.{piece_text};
 ghost use Rattle.nvme_report.specs.Report.{hex_byte, hex_dword};
 ghost use Rattle.nvme_report.specs.Written.{Writes};
 

@@ -3,7 +3,7 @@ ghost use Rattle.std.specs.Prelude.{◌≡◌, ◌<◌, ◌≤◌, ◌+◌, ◌^
 ghost use Rattle.std.specs.Io.KnownBytes.{Consumes, IsAtEnd, Keeps};
 
 use super::{MAX_INPUT, MAX_READS};
-use std::io::Read;
+use std::io::{ErrorKind, Read};
 
 /// A reader that is read through this alone.
 #[derive(Drop)]
@@ -12,7 +12,7 @@ pub struct Counted<R> {
     // How many reads were made, and how many bytes they gave.
     reads: u32,
     given: usize,
-    // One of them failed.
+    // One of them failed, and wasn't interrupted by a signal.
     failed: bool,
 }
 
@@ -32,7 +32,7 @@ impl<R: Read> Counted<R> {
         }
     }
 
-    /// One read more: how many bytes it gave, or `None` where it failed.
+    /// One read more: how many bytes it gave, or `None` where it failed, or a signal interrupted it.
     pub fn read(&mut self, chunk: &mut [u8]) -> Option<usize>
         requires few { self.old.reads < MAX_READS }
         requires short { self.old.given ≤ MAX_INPUT }
@@ -43,7 +43,7 @@ impl<R: Read> Counted<R> {
         ensures failed { IfSome result (λ n. self.new.failed ≡ self.old.failed) }
         ensures bytes { IfSome result (λ n. Consumes (R.remaining self.old.reader) (R.remaining self.new.reader) (take n chunk.new)) }
         ensures end { IfSome result (λ n. n ≡ 0 → 0 < length chunk.new → IsAtEnd (R.remaining self.new.reader)) }
-        ensures none { IfNone result ((self.new.failed ≡ true) × (self.new.given ≡ self.old.given)) }
+        ensures none { IfNone result (self.new.given ≡ self.old.given) }
         ensures kept { IfNone result (Keeps (R.remaining self.old.reader) (R.remaining self.new.reader)) }
     {
         self.reads += 1;
@@ -52,10 +52,17 @@ impl<R: Read> Counted<R> {
                 self.given += count;
                 Some(count)
             }
-            Err(_) => {
-                self.failed = true;
+            Err(error) => {
+                self.failed = error.kind() != ErrorKind::Interrupted;
                 None
             }
         }
+    }
+
+    /// A read failed, and no signal was the cause.
+    pub fn has_failed(&self) -> bool
+        ensures { result ≡ self.now.failed }
+    {
+        self.failed
     }
 }

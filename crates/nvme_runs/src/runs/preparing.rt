@@ -11,7 +11,7 @@ ghost use Rattle.nvme_workload.specs.declared.plan.CqPlan.{CqPlan};
 ghost use Rattle.nvme_workload.specs.Plan.{plan_of};
 ghost use Rattle.nvme_workload.specs.Sound.{IsSound, AreSlots, AreSubmissions};
 ghost use Rattle.nvme_runs.specs.Runs.{IsFirstTooLong, FitsAll};
-ghost use Rattle.nvme_runs.specs.Prepared.{IsPrepared, StaysFresh, AddsSq, AddsCq, AddsSqs, AddsCqs};
+ghost use Rattle.nvme_runs.specs.inside.Prepared.{IsPrepared, StaysFresh, AddsSq, AddsCq, AddsSqs, AddsCqs};
 
 use nvme_entry::{Cqe, Sqe};
 use nvme_front::{AddError, Front, FrontConfig, MAX_EVENTS, Parts};

@@ -4,8 +4,8 @@ use Rattle.std.proofs.lemmas.List.{length-take-le}
 use Rattle.nvme_runs.proofs.Reading.{all_taken, first_within, taken_within}
 use Rattle.nvme_runs.proofs.input.taken.Goals as goal
 
-pub returns-in_default-clause-given : goal.returns-in_default-clause-given
-returns-in_default-clause-given g c =
+pub returns-then-has_failed-clause-given : goal.returns-then-has_failed-clause-given
+returns-then-has_failed-clause-given g c =
     let given : c.read.new.self.given ≡ c.loop.reader.given = search rules in
     first_within _ _ c.loop.bytes.items c.read.new.self.given c.loop.invariant.taken (omega (arith, given, c.loop.invariant.given))
 

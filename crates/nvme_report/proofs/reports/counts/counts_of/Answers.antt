@@ -1,5 +1,5 @@
 use Rattle.std.proofs.Common.{rules, reverse, subst, sym, take}
-use Rattle.nvme_report.specs.Tallies.{Tallies}
+use Rattle.nvme_report.specs.inside.Tallies.{Tallies}
 use Rattle.nvme_report.proofs.Tallied.{nothing_most, nothing_tallied, past_more}
 use Rattle.nvme_report.proofs.reports.counts.counts_of.Goals as goal
 

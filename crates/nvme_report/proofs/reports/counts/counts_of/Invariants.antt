@@ -1,5 +1,5 @@
 use Rattle.std.proofs.Common.{reverse, take}
-use Rattle.nvme_report.specs.Tallies.{AreMost, Tallies}
+use Rattle.nvme_report.specs.inside.Tallies.{AreMost, Tallies}
 use Rattle.nvme_report.proofs.reports.counts.counts_of.Given as goal
 
 -- the counts are those of the events so far

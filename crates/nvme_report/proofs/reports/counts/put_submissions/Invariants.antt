@@ -2,7 +2,7 @@ use Rattle.std.proofs.Common.{take}
 use Rattle.std.specs.Io.KnownBytes.{Appends}
 use Rattle.nvme_log.specs.Rules.{Past}
 use Rattle.nvme_report.specs.Report.{numbered, sq_line}
-use Rattle.nvme_report.specs.Tallies.{AreCounted}
+use Rattle.nvme_report.specs.inside.Tallies.{AreCounted}
 use Rattle.nvme_report.proofs.reports.counts.put_submissions.Given as goal
 
 -- the lines of the regions so far were written

@@ -1,5 +1,5 @@
 use Rattle.std.proofs.Common.{rules, ◌∷◌, []}
-use Rattle.nvme_report.specs.Pieces.{piece_text}
+use Rattle.nvme_report.specs.inside.Pieces.{piece_text}
 use Rattle.nvme_report.proofs.Loops.{items_fail_before}
 use Rattle.nvme_report.proofs.reports.pieces.put_pieces.Goals as goal
 

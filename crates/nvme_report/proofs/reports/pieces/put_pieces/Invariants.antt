@@ -1,7 +1,7 @@
 use Rattle.std.proofs.Common.{take}
 use Rattle.std.specs.Io.KnownBytes.{Appends}
 use Rattle.std.specs.List.{flat_map}
-use Rattle.nvme_report.specs.Pieces.{piece_text}
+use Rattle.nvme_report.specs.inside.Pieces.{piece_text}
 use Rattle.nvme_report.proofs.reports.pieces.put_pieces.Given as goal
 
 -- the pieces so far were written

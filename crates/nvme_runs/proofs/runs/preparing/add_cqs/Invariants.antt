@@ -1,7 +1,7 @@
 use Rattle.std.proofs.Common.{◌≡◌, ◌++◌, length, vec_len}
 use Rattle.std.specs.Prelude.{vec_capacity}
 use Rattle.std.specs.Vec.Iter.{into_iter_items}
-use Rattle.nvme_runs.specs.Prepared.{AddsCqs}
+use Rattle.nvme_runs.specs.inside.Prepared.{AddsCqs}
 use Rattle.nvme_runs.proofs.runs.preparing.add_cqs.Given as goal
 
 abbrev pub invariant-loop-plan : goal.invariant-loop-plan

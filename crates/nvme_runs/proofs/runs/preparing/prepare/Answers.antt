@@ -1,6 +1,6 @@
 use Rattle.std.proofs.Common.{map, ap, ◌∙◌, subst}
 use Rattle.nvme_workload.specs.Plan.{plan_of}
-use Rattle.nvme_runs.specs.Prepared.{AddsSqs, AddsCqs, sq_site}
+use Rattle.nvme_runs.specs.inside.Prepared.{AddsSqs, AddsCqs, sq_site}
 use Rattle.nvme_runs.proofs.Sites.{still_apart, prepared_by}
 use Rattle.nvme_runs.proofs.runs.preparing.prepare.Goals as goal
 

@@ -1,7 +1,7 @@
 -- Each feeder has a region of the front.
 use Rattle.std.proofs.Common.{◌≡◌, length, sym, ap, ◌∙◌, arith}
 use Rattle.std.proofs.lemmas.List.{length-map}
-use Rattle.nvme_front.specs.Goes.{get_place}
+use Rattle.nvme_front.specs.Ends.{get_place}
 use Rattle.nvme_front.specs.Hosts.{feeder_place}
 use Rattle.nvme_runs.proofs.runs.settling.all_submitted.Goals as goal
 

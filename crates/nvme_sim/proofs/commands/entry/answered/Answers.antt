@@ -1,7 +1,7 @@
 -- What one entry's answer says of the text that was taken.
 use Rattle.std.proofs.Common.{◌≡◌, IfSome, rules}
 use Rattle.nvme_sim.proofs.Inputs.{bad_entry}
-use Rattle.nvme_sim.proofs.commands.answered.Goals as goal
+use Rattle.nvme_sim.proofs.commands.entry.answered.Goals as goal
 
 pub returns-in-Err-clause-input : goal.returns-in-Err-clause-input
 returns-in-Err-clause-input g c one =

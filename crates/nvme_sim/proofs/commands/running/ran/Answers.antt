@@ -1,7 +1,7 @@
 -- What a run says of the text that was taken.
 use Rattle.std.proofs.Common.{◌≡◌, IfSome, rules}
 use Rattle.nvme_sim.proofs.Inputs.{bad_workload, run_done}
-use Rattle.nvme_sim.proofs.commands.ran.Goals as goal
+use Rattle.nvme_sim.proofs.commands.running.ran.Goals as goal
 
 pub returns-in-Ok-clause-done : goal.returns-in-Ok-clause-done
 returns-in-Ok-clause-done g c =

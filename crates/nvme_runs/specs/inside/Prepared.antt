@@ -13,7 +13,7 @@ use Rattle.nvme_workload.specs.declared.plan.CqPlan.{CqPlan}
 use Rattle.nvme_workload.specs.Plan.{Plan}
 use Rattle.nvme_log.specs.Limits.{most_events}
 use Rattle.nvme_front.specs.declared.settling.Parts.{Parts}
-use Rattle.nvme_front.specs.Goes.{get_place, put_place}
+use Rattle.nvme_front.specs.Ends.{get_place, put_place}
 use Rattle.nvme_front.specs.Hosts.{IsFedBy, IsDrainedBy, feeder_place, drainer_place}
 use Rattle.nvme_front.specs.Settles.{HasItsPool}
 use Rattle.nvme_front.specs.View.{FrontView, HasItsRegions}

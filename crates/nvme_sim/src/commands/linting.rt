@@ -1,0 +1,46 @@
+// What the writer of a workload wants to know.
+ghost use Rattle.std.specs.Prelude.{◌≡◌, ◌⊎◌, Ok, IfErr, IfSome};
+ghost use Rattle.nvme_sim.specs.Statuses.{IsBadWorkload, status_of};
+ghost use Rattle.nvme_sim.specs.declared.faults.Fault.TheVariants as fault;
+ghost use Rattle.nvme_sim.specs.declared.commands.Answer.TheVariants as answer;
+
+use super::Answer;
+use crate::faults::Fault;
+use nvme_lint::{LintError, Warning, lint};
+use nvme_runs::take_input;
+use std::alloc::{AllocError, Global};
+use std::io::{self, Read, Write};
+
+// Writes a line for each warning.
+fn write_warnings<W: Write>(warnings: &[Warning], output: &mut W) -> io::Result<()> {
+    for warning in warnings {
+        writeln!(output, "{warning}")?;
+    }
+    Ok(())
+}
+
+/// Tells where a workload is at fault, or writes what of it comes to nothing.
+#[tactic(auto, using(crate::proofs::Inputs::bad_file))]
+pub(super) fn linted<R: Read + Drop, W: Write>(
+    alloc: Global,
+    input: R,
+    output: &mut W,
+) -> Result<Answer, Fault>
+    ensures input { IfErr result (λ e. status_of e ≡ 1 → IfSome (R.remaining input) IsBadWorkload) }
+    ensures quiet { result ≡ Ok answer.Done → output.new ≡ output.old }
+    ensures untouched { IfErr result (λ e. (e ≡ fault.Write) ⊎ (output.new ≡ output.old)) }
+{
+    let bytes = take_input(alloc, input).map_err(Fault::Input)?;
+    let warnings = match lint(alloc, bytes.as_slice()) {
+        Ok(warnings) => warnings,
+        Err(LintError::Fault(fault)) => return Err(Fault::Workload(fault)),
+        Err(LintError::NoMemory) => return Err(Fault::NoMemory(AllocError)),
+    };
+    if warnings.is_empty() {
+        return Ok(Answer::Done);
+    }
+    match write_warnings(warnings.as_slice(), output) {
+        Ok(()) => Ok(Answer::Warned),
+        Err(_) => Err(Fault::Write),
+    }
+}

@@ -1,0 +1,40 @@
+// Runs of a workload.
+ghost use Rattle.std.specs.Prelude.{◌≡◌, ◌⊎◌, Ok, IfErr, IfSome, OnOk};
+ghost use Rattle.std.specs.Io.KnownBytes.{Appends};
+ghost use Rattle.nvme_front.specs.declared.settled.Settled.{Settled};
+ghost use Rattle.nvme_report.specs.Report.{report_text};
+ghost use Rattle.nvme_runs.specs.Runs.{IsRun};
+ghost use Rattle.nvme_sim.specs.Statuses.{IsBadWorkload, status_of};
+ghost use Rattle.nvme_sim.specs.declared.faults.Fault.TheVariants as fault;
+ghost use Rattle.nvme_sim.specs.declared.commands.Answer.TheVariants as answer;
+ghost use Rattle.nvme_runs.specs.declared.runs.RunError.TheVariants as run_fault;
+
+use super::Answer;
+use crate::faults::Fault;
+use nvme_report::Mode;
+use nvme_runs::{run, take_input};
+use std::alloc::Global;
+use std::io::{Read, Write};
+use std::sync::Wait;
+use std::thread::Threads;
+
+/// Runs a workload with so many workers, and writes its report.
+pub(super) fn ran<R: Read + Drop, W: Write, T: Threads + Wait + Sync>(
+    rt: &T,
+    alloc: Global,
+    mode: Mode,
+    workers: u8,
+    input: R,
+    output: &mut W,
+) -> Result<Answer, Fault>
+    ensures no_warning { result ≡ Ok answer.Warned → ⊥ }
+    ensures done { OnOk result (IfSome (R.remaining input) (λ bytes. (settled : Settled) × IsRun bytes mode settled × Appends (W.contents output.old) (W.contents output.new) (report_text mode settled))) }
+    ensures input { IfErr result (λ e. status_of e ≡ 1 → IfSome (R.remaining input) IsBadWorkload) }
+    ensures untouched { IfErr result (λ e. (e ≡ fault.Run run_fault.Write) ⊎ (output.new ≡ output.old)) }
+{
+    let text = take_input(alloc, input).map_err(Fault::Input)?;
+    match run(rt, alloc, text.as_slice(), mode, workers, output) {
+        Ok(_) => Ok(Answer::Done),
+        Err(error) => Err(Fault::Run(error)),
+    }
+}

@@ -1,0 +1,56 @@
+ghost use Rattle.std.specs.Prelude.{◌≡◌, ◌≤◌, ◌⊎◌};
+ghost use Rattle.nvme_sim.specs.Statuses.{status_of};
+ghost use Rattle.nvme_sim.specs.declared.faults.Fault.TheVariants as fault;
+ghost use Rattle.nvme_runs.specs.declared.runs.RunError.TheVariants as run_fault;
+
+use nvme_runs::{InputError, OnceError, RunError};
+use std::alloc::AllocError;
+use std::io::Write;
+use thiserror::Error;
+
+/// Why the program does not answer. Each but that of the command line is told by one line.
+#[derive(Debug, Drop, Error)]
+pub(crate) enum Fault {
+    #[error("{0}")]
+    CommandLine(clap::Error),
+    #[error("nvmearb: command line")]
+    Words,
+    #[error("nvmearb: {0}")]
+    Entry(OnceError),
+    #[error("nvmearb: {0}")]
+    Input(InputError),
+    #[error("nvmearb: out of memory")]
+    NoMemory(AllocError),
+    #[error("nvmearb: write failed")]
+    Write,
+    #[error("nvmearb: {0}")]
+    Run(RunError),
+    #[error("nvmearb: workload: {0}")]
+    Workload(nvme_lint::Fault),
+}
+
+impl Fault {
+    /// The program's status: 1 for the input, 2 for the command line, 3 for what the run met.
+    pub(crate) fn status(&self) -> u8
+        ensures table { result ≡ status_of self.now }
+        ensures range { result ≤ 3 }
+        ensures write { (self.now ≡ fault.Write) ⊎ (self.now ≡ fault.Run run_fault.Write) → result ≡ 3 }
+    {
+        match self {
+            Fault::Entry(_) | Fault::Input(InputError::TooLong) => 1,
+            Fault::Run(RunError::Workload(_)) => 1,
+            Fault::Workload(_) => 1,
+            Fault::CommandLine(_) | Fault::Words | Fault::Run(RunError::Workers) => 2,
+            Fault::Input(_) | Fault::NoMemory(_) | Fault::Write => 3,
+            Fault::Run(_) => 3,
+        }
+    }
+
+    /// The text, with a newline at its end.
+    pub(crate) fn tell<E: Write>(&self, errors: &mut E) -> std::io::Result<()> {
+        match self {
+            Fault::CommandLine(error) => write!(errors, "{error}"),
+            fault => writeln!(errors, "{fault}"),
+        }
+    }
+}
