@@ -1,5 +1,5 @@
 /*
- * nvmearb.h: entries and arbitration of NVMe queues, under somebody else's controller.
+ * nvmearb.h: entries, arbitration and the queue table of NVMe queues, under somebody else's controller.
  *
  * Every function is proved over the libraries of this repository (crates/nvme_capi). None allocates, waits, starts a
  * thread, or reads or writes anything but what its arguments point to, and all return. Every bit pattern of the
@@ -14,7 +14,7 @@
  * from any thread; of each state one call at a time. A signal handler calls nothing over what a running call was given.
  *
  * Numbers are in the machine's own order, and bytes in the order of the specification. Terms are those of the NVM
- * Express Base Specification. Link with -lnvmearb; the only other symbol is memcpy.
+ * Express Base Specification. Link with -lnvmearb; the only other symbols are memcpy and memset.
  */
 #ifndef NVMEARB_H
 #define NVMEARB_H
@@ -31,6 +31,9 @@ extern "C" {
 #define NVMEARB_NONE 1u   /* there is nothing to pick */
 #define NVMEARB_EARG 2u   /* an argument is none that the call takes */
 #define NVMEARB_ESTATE 3u /* the state is none that a call wrote */
+#define NVMEARB_EUSED 4u  /* the address is that of another region */
+#define NVMEARB_EMANY 5u  /* there is no place for one more region */
+#define NVMEARB_ESIZE 6u  /* no region has so many slots */
 
 /* The length of a submission and of a completion entry in bytes. */
 #define NVMEARB_SQE_BYTES 64
@@ -157,6 +160,64 @@ typedef struct nvmearb_board {
     } queues[NVMEARB_MAX_QUEUES];
 } nvmearb_board;
 
+/* The most regions of a kind, the admin queue's among them, and the most I/O queues of a kind. */
+#define NVMEARB_MAX_REGIONS 17
+#define NVMEARB_MAX_IO_QUEUES 16
+
+/* A region: the place of one ring. A Create command names it by its address. */
+typedef struct nvmearb_region {
+    uint64_t address;
+    uint16_t slots; /* 2 to 256 */
+} nvmearb_region;
+
+/*
+ * A queue table: the regions, the queues and the features of a controller. nvmearb_table_init writes it, and it may be
+ * copied. Its fields are the library's: a caller that writes them gets NVMEARB_ESTATE, or the answers of a table that
+ * has what they say.
+ */
+typedef struct nvmearb_table {
+    nvmearb_region sq_regions[NVMEARB_MAX_REGIONS], cq_regions[NVMEARB_MAX_REGIONS];
+    uint32_t cdw11;
+    uint16_t nsq, ncq;
+    struct {
+        uint16_t priority, cqid;
+        uint8_t region, closing;
+    } sqs[NVMEARB_MAX_REGIONS];
+    struct {
+        uint8_t open, region;
+    } cqs[NVMEARB_MAX_REGIONS];
+    uint8_t sq_used[NVMEARB_MAX_REGIONS], cq_used[NVMEARB_MAX_REGIONS];
+    uint8_t sq_count, cq_count, numbers_set, created;
+} nvmearb_table;
+
+/* What an admin command comes to. All but NVMEARB_DONE mean success with 0 as Command Dword 0. */
+#define NVMEARB_DONE 0u            /* answer with status and dw0 */
+#define NVMEARB_OPEN_SQ 1u         /* a submission queue was created */
+#define NVMEARB_OPEN_CQ 2u         /* a completion queue was created */
+#define NVMEARB_BEGIN_DELETE 3u    /* the submission queue is closing: nvmearb_table_finish_delete ends its deletion */
+#define NVMEARB_CLOSE_CQ 4u        /* the completion queue was deleted */
+#define NVMEARB_SET_ARBITRATION 5u /* the settings of the Arbitration feature were set */
+
+/* The answer to an admin command. What a verdict doesn't have is 0. */
+typedef struct nvmearb_answer {
+    uint32_t verdict;      /* NVMEARB_DONE .. */
+    uint32_t dw0;          /* Command Dword 0 of its completion */
+    uint32_t cdw11;        /* set arbitration: the settings, with bits 07:03 as 0 */
+    uint16_t qid;          /* open, begin delete, close: the queue identifier */
+    uint16_t region;       /* open: the number of the region */
+    uint16_t cqid;         /* open sq: its completion queue */
+    uint16_t priority;     /* open sq: NVMEARB_URGENT .. NVMEARB_LOW */
+    nvmearb_status status; /* of its completion */
+} nvmearb_answer;
+
+/* A submission queue that is open or closing. */
+typedef struct nvmearb_queue {
+    uint16_t region;   /* the number of its region */
+    uint16_t cqid;     /* its completion queue */
+    uint16_t priority; /* NVMEARB_ADMIN .. NVMEARB_LOW */
+    uint16_t closing;  /* 1 where its deletion was accepted and isn't finished, else 0 */
+} nvmearb_queue;
+
 /* Writes the fields of the entry that 64 bytes hold. Every byte belongs to a field. */
 void nvmearb_sqe_decode(const uint8_t bytes[NVMEARB_SQE_BYTES], nvmearb_sqe *fields);
 
@@ -225,6 +286,9 @@ uint32_t nvmearb_board_close(nvmearb_board *board, uint16_t qid);
 /* One more command waits in a queue. NVMEARB_EARG exactly where it isn't open or NVMEARB_MAX_COUNT commands wait. */
 uint32_t nvmearb_board_came(nvmearb_board *board, uint16_t qid);
 
+/* One waiting command of a queue left without being picked. NVMEARB_EARG exactly where it isn't open or none waits. */
+uint32_t nvmearb_board_went(nvmearb_board *board, uint16_t qid);
+
 /* Writes what nvmearb_board_pick would pick. NVMEARB_NONE exactly where no command waits. */
 uint32_t nvmearb_board_peek(const nvmearb_board *board, nvmearb_pick *pick);
 
@@ -233,6 +297,47 @@ uint32_t nvmearb_board_pick(nvmearb_board *board, nvmearb_pick *pick);
 
 /* Takes new settings, as nvmearb_arbiter_set. The queues stay. */
 uint32_t nvmearb_board_set(nvmearb_board *board, uint32_t cdw11);
+
+/*
+ * Writes a queue table with no region and no queue, whatever was there. It allots `nsq` I/O submission queues and `ncq`
+ * I/O completion queues at most. `cdw11` is that of the Arbitration feature; its bits 07:03 are ignored.
+ * NVMEARB_EARG exactly where one of the numbers isn't 1 to NVMEARB_MAX_IO_QUEUES.
+ */
+uint32_t nvmearb_table_init(nvmearb_table *table, uint16_t nsq, uint16_t ncq, uint32_t cdw11);
+
+/*
+ * Adds a submission region of `slots` slots, and writes its number, which counts from 0. Region 0 is the admin queue's,
+ * which is open from then on. A region is used by at most one queue, once.
+ * Of each table function: NVMEARB_ESTATE exactly where the table is none. Then the first of these that is the case:
+ * NVMEARB_EUSED where a region of either kind has the address, NVMEARB_EMANY where NVMEARB_MAX_REGIONS of this kind are
+ * there, NVMEARB_ESIZE where `slots` isn't 2 to 256.
+ */
+uint32_t nvmearb_table_add_sq_region(nvmearb_table *table, uint64_t address, uint16_t slots, uint16_t *number);
+
+/* Adds a completion region, as nvmearb_table_add_sq_region a submission region. */
+uint32_t nvmearb_table_add_cq_region(nvmearb_table *table, uint64_t address, uint16_t slots, uint16_t *number);
+
+/*
+ * Applies the admin entry that 64 bytes hold, and writes what it comes to: verdict, status and Command Dword 0. A
+ * command whose status isn't success leaves every byte of the table. A controller applies entries once region 0 of both
+ * kinds is there. NVMEARB_OK or NVMEARB_ESTATE.
+ */
+uint32_t nvmearb_table_apply(nvmearb_table *table, const uint8_t bytes[NVMEARB_SQE_BYTES], nvmearb_answer *answer);
+
+/* Finishes the deletion of a submission queue: its identifier is free. NVMEARB_EARG exactly where it isn't closing. */
+uint32_t nvmearb_table_finish_delete(nvmearb_table *table, uint16_t qid);
+
+/* Writes what stands of a submission queue. NVMEARB_NONE exactly where it is neither open nor closing. */
+uint32_t nvmearb_table_sq(const nvmearb_table *table, uint16_t qid, nvmearb_queue *queue);
+
+/* Writes the number of the region of a completion queue. NVMEARB_NONE exactly where it isn't open. */
+uint32_t nvmearb_table_cq(const nvmearb_table *table, uint16_t qid, uint16_t *region);
+
+/* Writes how many I/O submission queues and I/O completion queues are allotted, each 1 to NVMEARB_MAX_IO_QUEUES. */
+uint32_t nvmearb_table_allotted(const nvmearb_table *table, uint16_t *nsq, uint16_t *ncq);
+
+/* Writes the settings of the Arbitration feature. */
+uint32_t nvmearb_table_settings(const nvmearb_table *table, nvmearb_settings *settings);
 
 #ifdef __cplusplus
 }

@@ -19,10 +19,14 @@ static void open_and_close(void)
     CHECK(nvmearb_board_open(&board, 1, NVMEARB_HIGH) == NVMEARB_OK);
     CHECK(nvmearb_board_open(&board, 1, NVMEARB_HIGH) == NVMEARB_EARG);
     CHECK(nvmearb_board_came(&board, 2) == NVMEARB_EARG);
+    CHECK(nvmearb_board_went(&board, 2) == NVMEARB_EARG && nvmearb_board_went(&board, 1) == NVMEARB_EARG);
     CHECK(nvmearb_board_pick(&board, &pick) == NVMEARB_NONE);
     for (int k = 0; k < NVMEARB_MAX_COUNT; k++) {
         CHECK(nvmearb_board_came(&board, 1) == NVMEARB_OK);
     }
+    CHECK(nvmearb_board_came(&board, 1) == NVMEARB_EARG);
+    CHECK(nvmearb_board_went(&board, 1) == NVMEARB_OK);
+    CHECK(nvmearb_board_came(&board, 1) == NVMEARB_OK);
     CHECK(nvmearb_board_came(&board, 1) == NVMEARB_EARG);
     CHECK(nvmearb_board_pick(&board, &pick) == NVMEARB_OK);
     CHECK(pick.qid == 1 && pick.n == 2 && pick.fresh == 0);
@@ -34,6 +38,7 @@ static void open_and_close(void)
     CHECK(nvmearb_board_open(&board, 1, NVMEARB_HIGH) == NVMEARB_ESTATE);
     CHECK(nvmearb_board_close(&board, 1) == NVMEARB_ESTATE);
     CHECK(nvmearb_board_came(&board, 1) == NVMEARB_ESTATE);
+    CHECK(nvmearb_board_went(&board, 1) == NVMEARB_ESTATE);
     CHECK(nvmearb_board_pick(&board, &pick) == NVMEARB_ESTATE);
     CHECK(nvmearb_board_peek(&board, &pick) == NVMEARB_ESTATE);
     CHECK(nvmearb_board_set(&board, 1) == NVMEARB_ESTATE);
@@ -68,6 +73,11 @@ static void beside_an_arbiter(uint32_t mechanism)
         case 1:
             wrong += nvmearb_board_close(&board, qid) != (is_open[qid] ? NVMEARB_OK : NVMEARB_EARG);
             is_open[qid] = 0;
+            break;
+        case 3:
+            told = is_open[qid] && counts[qid] ? NVMEARB_OK : NVMEARB_EARG;
+            wrong += nvmearb_board_went(&board, qid) != told;
+            counts[qid] = (uint16_t)(counts[qid] - (told == NVMEARB_OK));
             break;
         case 2:
             wrong += nvmearb_board_set(&board, (uint32_t)(word >> 16)) != NVMEARB_OK;
@@ -122,7 +132,7 @@ static void random_calls(void)
             }
         }
         memcpy(&before, &board, sizeof before);
-        switch (word % 6) {
+        switch (word % 7) {
         case 0:
             told = nvmearb_board_open(&board, qid, (uint16_t)(word >> 32) % 7);
             break;
@@ -136,6 +146,9 @@ static void random_calls(void)
             told = nvmearb_board_set(&board, (uint32_t)word);
             break;
         case 4:
+            told = nvmearb_board_went(&board, qid);
+            break;
+        case 5:
             told = nvmearb_board_peek(&board, &pick);
             break;
         default:

@@ -70,6 +70,7 @@ pub extern "C" fn nvmearb_arbiter_peek(
     pick: &mut PickFields,
 ) -> u32
     ensures bad_state { (result ≡ BAD_STATE) ↔ IsFalse (is_arbiter state.now) }
+    ensures answer { (result ≡ OK) ⊎ ((result ≡ NOTHING) ⊎ ((result ≡ BAD_ARGUMENT) ⊎ (result ≡ BAD_STATE))) }
     ensures bad_argument { result ≡ BAD_ARGUMENT → IsShown queues.now → ⊥ }
     ensures nothing { result ≡ NOTHING → IsShown queues.now × (pick_of (kept_of state.now) (seen_in queues.now) ≡ None) }
     ensures picked { result ≡ OK → IsShown queues.now × (pick_of (kept_of state.now) (seen_in queues.now) ≡ Some (pick_of_fields pick.new)) }
@@ -99,6 +100,7 @@ pub extern "C" fn nvmearb_arbiter_pick(
     pick: &mut PickFields,
 ) -> u32
     ensures bad_state { (result ≡ BAD_STATE) ↔ IsFalse (is_arbiter state.old) }
+    ensures answer { (result ≡ OK) ⊎ ((result ≡ NOTHING) ⊎ ((result ≡ BAD_ARGUMENT) ⊎ (result ≡ BAD_STATE))) }
     ensures bad_argument { result ≡ BAD_ARGUMENT → IsShown queues.now → ⊥ }
     ensures nothing { result ≡ NOTHING → IsShown queues.now × (pick_of (kept_of state.old) (seen_in queues.now) ≡ None) }
     ensures picked { result ≡ OK → IsShown queues.now × (pick_of (kept_of state.old) (seen_in queues.now) ≡ Some (pick_of_fields pick.new)) }

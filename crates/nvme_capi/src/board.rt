@@ -1,5 +1,5 @@
 // The board over a state of the caller's.
-ghost use Rattle.std.specs.Prelude.{◌≡◌, ◌≢◌, ◌+◌, ◌≤◌, ◌⊎◌, ◌↔◌, [], ◌∷◌, Some, None, IsTrue, IsNone, IsSome, IfSome, slice_set, replicate};
+ghost use Rattle.std.specs.Prelude.{◌≡◌, ◌≢◌, ◌+◌, ◌-◌, ◌≤◌, ◌⊎◌, ◌↔◌, [], ◌∷◌, Some, None, IsTrue, IsFalse, IsNone, IsSome, IfSome, slice_set, replicate};
 ghost use Rattle.nvme_arbiter.specs.Limits.{highest_qid, queue_limit};
 ghost use Rattle.nvme_arbiter.specs.Settings.{ArbitrationFields, settings_of};
 ghost use Rattle.nvme_arbiter.specs.Observation.{IsObservation, IsSeen};
@@ -13,11 +13,21 @@ ghost use Rattle.nvme_capi.specs.States.{kept_of, mechanism_of, pick_of_fields, 
 ghost use Rattle.nvme_capi.specs.Boards.{IsBoard, board_of, slots_of};
 
 use crate::arbiter::{nvmearb_arbiter_init, nvmearb_arbiter_set, write};
-use crate::queues::{BoardFields, QueueFields, clear, observed, open_at, put, shown, take};
+use crate::queues::{
+    BoardFields, QueueFields, all_fit, clear, observed, open_at, put, shown, take,
+};
 use crate::results::{BAD_ARGUMENT, BAD_STATE, NOTHING, OK};
 use crate::states::{PickFields, class_of, fields_of_pick, is_arbiter, kept_of};
 use arrayvec::ArrayVec;
 use nvme_arbiter::{Arbiter, HIGHEST_COUNT, HIGHEST_QID, OpenQueue, QUEUE_LIMIT, Seen};
+
+// Whether this is a board.
+fn is_board(board: &BoardFields) -> bool
+    ensures no { IsFalse result → IsBoard board.now → ⊥ }
+    ensures yes { IsTrue result → IsBoard board.now }
+{
+    is_arbiter(&board.arbiter) && all_fit(&board.queues)
+}
 
 // The open queues as they are seen, where this is a board.
 fn seen_on(board: &BoardFields) -> Option<ArrayVec<Seen, QUEUE_LIMIT>>
@@ -55,6 +65,7 @@ pub extern "C" fn nvmearb_board_init(board: &mut BoardFields, mechanism: u32, cd
 pub extern "C" fn nvmearb_board_open(board: &mut BoardFields, qid: u16, class: u16) -> u32
     ensures bad_state { result ≡ BAD_STATE → IsBoard board.old → ⊥ }
     ensures is_board { result ≢ BAD_STATE → IsBoard board.old }
+    ensures answer { (result ≡ OK) ⊎ ((result ≡ BAD_ARGUMENT) ⊎ (result ≡ BAD_STATE)) }
     ensures was_closed { result ≡ OK → queue_at (slots_of board.old.queues) qid ≡ None }
     ensures class { result ≡ OK → IsSome (class_of class) }
     ensures opened { result ≡ OK → IfSome (class_of class) (λ it. board_of board.new ≡ record (board_of board.old) { queues = slice_set (slots_of board.old.queues) qid (Some (record { class = it; count = 0 })) }) }
@@ -62,7 +73,7 @@ pub extern "C" fn nvmearb_board_open(board: &mut BoardFields, qid: u16, class: u
     ensures refused { result ≡ BAD_ARGUMENT → IfSome (class_of class) (λ it. queue_at (slots_of board.old.queues) qid ≡ None → IsSeen (seen_as qid (record { class = it; count = 0 })) → ⊥) }
     ensures unchanged { result ≢ OK → board.new ≡ board.old }
 {
-    if seen_on(board).is_none() {
+    if !is_board(board) {
         return BAD_STATE;
     }
     let Some(class) = class_of(class) else {
@@ -83,13 +94,14 @@ pub extern "C" fn nvmearb_board_open(board: &mut BoardFields, qid: u16, class: u
 pub extern "C" fn nvmearb_board_close(board: &mut BoardFields, qid: u16) -> u32
     ensures bad_state { result ≡ BAD_STATE → IsBoard board.old → ⊥ }
     ensures is_board { result ≢ BAD_STATE → IsBoard board.old }
+    ensures answer { (result ≡ OK) ⊎ ((result ≡ BAD_ARGUMENT) ⊎ (result ≡ BAD_STATE)) }
     ensures was_open { result ≡ OK → IsSome (queue_at (slots_of board.old.queues) qid) }
     ensures closed { result ≡ OK → board_of board.new ≡ record (board_of board.old) { queues = slice_set (slots_of board.old.queues) qid None } }
     ensures board { result ≡ OK → IsBoard board.new }
     ensures refused { result ≡ BAD_ARGUMENT → queue_at (slots_of board.old.queues) qid ≡ None }
     ensures unchanged { result ≢ OK → board.new ≡ board.old }
 {
-    if seen_on(board).is_none() {
+    if !is_board(board) {
         return BAD_STATE;
     }
     if qid > HIGHEST_QID || open_at(&board.queues, qid).is_none() {
@@ -104,13 +116,14 @@ pub extern "C" fn nvmearb_board_close(board: &mut BoardFields, qid: u16) -> u32
 pub extern "C" fn nvmearb_board_came(board: &mut BoardFields, qid: u16) -> u32
     ensures bad_state { result ≡ BAD_STATE → IsBoard board.old → ⊥ }
     ensures is_board { result ≢ BAD_STATE → IsBoard board.old }
+    ensures answer { (result ≡ OK) ⊎ ((result ≡ BAD_ARGUMENT) ⊎ (result ≡ BAD_STATE)) }
     ensures was_open { result ≡ OK → IsSome (queue_at (slots_of board.old.queues) qid) }
     ensures came { result ≡ OK → IfSome (queue_at (slots_of board.old.queues) qid) (λ it. board_of board.new ≡ record (board_of board.old) { queues = slice_set (slots_of board.old.queues) qid (Some (record it { count = it.count + 1 })) }) }
     ensures board { result ≡ OK → IsBoard board.new }
     ensures refused { result ≡ BAD_ARGUMENT → IfSome (queue_at (slots_of board.old.queues) qid) (λ it. 255 ≤ it.count) }
     ensures unchanged { result ≢ OK → board.new ≡ board.old }
 {
-    if seen_on(board).is_none() {
+    if !is_board(board) {
         return BAD_STATE;
     }
     let Some(open) = open_at(&board.queues, qid) else {
@@ -123,11 +136,37 @@ pub extern "C" fn nvmearb_board_came(board: &mut BoardFields, qid: u16) -> u32
     OK
 }
 
+/// One waiting command of an open queue left without being picked.
+#[unsafe(no_mangle)]
+pub extern "C" fn nvmearb_board_went(board: &mut BoardFields, qid: u16) -> u32
+    ensures bad_state { result ≡ BAD_STATE → IsBoard board.old → ⊥ }
+    ensures is_board { result ≢ BAD_STATE → IsBoard board.old }
+    ensures answer { (result ≡ OK) ⊎ ((result ≡ BAD_ARGUMENT) ⊎ (result ≡ BAD_STATE)) }
+    ensures was_open { result ≡ OK → IsSome (queue_at (slots_of board.old.queues) qid) }
+    ensures went { result ≡ OK → IfSome (queue_at (slots_of board.old.queues) qid) (λ it. board_of board.new ≡ record (board_of board.old) { queues = slice_set (slots_of board.old.queues) qid (Some (record it { count = it.count - 1 })) }) }
+    ensures board { result ≡ OK → IsBoard board.new }
+    ensures refused { result ≡ BAD_ARGUMENT → IfSome (queue_at (slots_of board.old.queues) qid) (λ it. it.count ≡ 0) }
+    ensures unchanged { result ≢ OK → board.new ≡ board.old }
+{
+    if !is_board(board) {
+        return BAD_STATE;
+    }
+    let Some(open) = open_at(&board.queues, qid) else {
+        return BAD_ARGUMENT;
+    };
+    if open.count == 0 {
+        return BAD_ARGUMENT;
+    }
+    put(&mut board.queues, qid, open.class, open.count - 1);
+    OK
+}
+
 /// Writes what `nvmearb_board_pick` would pick.
 #[unsafe(no_mangle)]
 pub extern "C" fn nvmearb_board_peek(board: &BoardFields, pick: &mut PickFields) -> u32
     ensures bad_state { result ≡ BAD_STATE → IsBoard board.now → ⊥ }
     ensures is_board { result ≢ BAD_STATE → IsBoard board.now }
+    ensures answer { (result ≡ OK) ⊎ ((result ≡ NOTHING) ⊎ (result ≡ BAD_STATE)) }
     ensures nothing { result ≡ NOTHING → pick_of (kept_of board.now.arbiter) (seen_of (slots_of board.now.queues)) ≡ None }
     ensures picked { result ≡ OK → pick_of (kept_of board.now.arbiter) (seen_of (slots_of board.now.queues)) ≡ Some (pick_of_fields pick.new) }
     ensures unchanged { result ≢ OK → pick.new ≡ pick.old }
@@ -149,6 +188,7 @@ pub extern "C" fn nvmearb_board_peek(board: &BoardFields, pick: &mut PickFields)
 pub extern "C" fn nvmearb_board_pick(board: &mut BoardFields, pick: &mut PickFields) -> u32
     ensures bad_state { result ≡ BAD_STATE → IsBoard board.old → ⊥ }
     ensures is_board { result ≢ BAD_STATE → IsBoard board.old }
+    ensures answer { (result ≡ OK) ⊎ ((result ≡ NOTHING) ⊎ (result ≡ BAD_STATE)) }
     ensures nothing { result ≡ NOTHING → pick_of (kept_of board.old.arbiter) (seen_of (slots_of board.old.queues)) ≡ None }
     ensures picked { result ≡ OK → pick_of (kept_of board.old.arbiter) (seen_of (slots_of board.old.queues)) ≡ Some (pick_of_fields pick.new) }
     ensures stands { result ≡ OK → (mechanism : Mechanism) (first : ArbitrationFields) (past : History) → BoardStandsAt mechanism first past (board_of board.old) → BoardStandsAt mechanism first (Picked (seen_of (slots_of board.old.queues)) (pick_of_fields pick.new) ∷ past) (board_of board.new) }
@@ -184,7 +224,7 @@ pub extern "C" fn nvmearb_board_set(board: &mut BoardFields, cdw11: u32) -> u32
     ensures board { result ≡ OK → IsBoard board.new }
     ensures unchanged { result ≢ OK → board.new ≡ board.old }
 {
-    if seen_on(board).is_none() {
+    if !is_board(board) {
         return BAD_STATE;
     }
     nvmearb_arbiter_set(&mut board.arbiter, cdw11)

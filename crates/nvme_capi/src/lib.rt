@@ -3,6 +3,7 @@
 #![tactic(auto)]
 
 mod admin;
+mod answers;
 mod arbiter;
 mod board;
 mod entries;
@@ -12,3 +13,5 @@ mod queues;
 mod results;
 mod settings;
 mod states;
+mod table;
+mod tables;

@@ -1,5 +1,5 @@
 // The queues of a board, as C holds them: place q has queue q.
-ghost use Rattle.std.specs.Prelude.{◌≡◌, ◌≤◌, IsNone, IfSome, Some, None, slice_set, option_map};
+ghost use Rattle.std.specs.Prelude.{◌≡◌, ◌≤◌, IsTrue, IsFalse, IsNone, IfSome, Some, None, slice_set, option_map};
 ghost use Rattle.nvme_arbiter.specs.Limits.{highest_qid};
 ghost use Rattle.nvme_arbiter.specs.Observation.{IsSeen};
 ghost use Rattle.nvme_arbiter.specs.Queues.{seen_as, seen_of, queue_at, fewer};
@@ -25,8 +25,8 @@ pub struct BoardFields {
     pub queues: [QueueFields; QUEUE_LIMIT],
 }
 
-// The class of a number, where it is the number of one.
-fn class_of_slot(number: u16) -> Option<Class>
+/// The class of a number, where it is the number of one.
+pub fn class_of_slot(number: u16) -> Option<Class>
     ensures { result ≡ class_of_slot number }
 {
     match number {
@@ -97,6 +97,21 @@ pub fn shown(qid: u16, queue: OpenQueue) -> Option<Seen>
     } else {
         None
     }
+}
+
+/// Whether each open queue can be seen under its identifier.
+pub fn all_fit(queues: &[QueueFields; QUEUE_LIMIT]) -> bool
+    ensures misfit { IsFalse result → AllFit queues.now → ⊥ }
+    ensures fit { IsTrue result → AllFit queues.now }
+{
+    for qid in 0..QUEUE_LIMIT {
+        if let Some(open) = slot_of(&queues[qid]) {
+            let Some(_) = shown(qid as u16, open) else {
+                return false;
+            };
+        }
+    }
+    true
 }
 
 /// The open queues as they are seen, where each can be seen under its identifier.

@@ -1,0 +1,138 @@
+// What the queue table answers, as C sees it.
+ghost use Rattle.std.specs.Prelude.{◌≡◌};
+ghost use Rattle.nvme_admin.specs.Checks.{is_success, status_in};
+ghost use Rattle.nvme_capi.specs.Tables.{number_of_class, plain_answer, answer_of, queue_answer_of, status_fields_of};
+
+use crate::fields::StatusFields;
+use nvme_admin::{SqEntry, Verdict};
+use nvme_arbiter::Class;
+use nvme_entry::Status;
+
+/// `nvmearb_answer`: what an admin command comes to. The verdicts are 0 done, 1 a submission queue was created, 2 a
+/// completion queue was created, 3 the submission queue is closing, 4 the completion queue was deleted, 5 the settings
+/// were set. What verdicts of its kind don't have is 0.
+#[repr(C)]
+#[derive(Clone, Copy, Drop)]
+pub struct AnswerFields {
+    pub verdict: u32,
+    pub dw0: u32,
+    pub cdw11: u32,
+    pub qid: u16,
+    pub region: u16,
+    pub cqid: u16,
+    pub priority: u16,
+    pub status: StatusFields,
+}
+
+/// `nvmearb_queue`: a submission queue that is open or closing.
+#[repr(C)]
+#[derive(Clone, Copy, Drop)]
+pub struct QueueAnswer {
+    pub region: u16,
+    pub cqid: u16,
+    pub priority: u16,
+    pub closing: u16,
+}
+
+// The number of a class: 0 admin, 1 urgent, 2 high, 3 medium and 4 low.
+fn number_of_class(class: Class) -> u16
+    ensures { result ≡ number_of_class class }
+{
+    match class {
+        Class::Admin => 0,
+        Class::Urgent => 1,
+        Class::High => 2,
+        Class::Medium => 3,
+        Class::Low => 4,
+    }
+}
+
+// The fields of a status.
+fn status_fields_of(status: Status) -> StatusFields
+    ensures { result ≡ status_fields_of status }
+{
+    StatusFields {
+        sct: status.sct(),
+        sc: status.sc(),
+    }
+}
+
+// The answer that says success, and nothing else.
+const fn plain_answer(verdict: u32) -> AnswerFields
+    ensures { result ≡ plain_answer verdict }
+{
+    AnswerFields {
+        verdict,
+        dw0: 0,
+        cdw11: 0,
+        qid: 0,
+        region: 0,
+        cqid: 0,
+        priority: 0,
+        status: StatusFields { sct: 0, sc: 0 },
+    }
+}
+
+/// What a verdict says.
+pub fn answer_of(verdict: Verdict) -> AnswerFields
+    ensures { result ≡ answer_of verdict }
+{
+    match verdict {
+        Verdict::Done(status, dw0) => AnswerFields {
+            status: status_fields_of(status),
+            dw0,
+            ..plain_answer(0)
+        },
+        Verdict::OpenSq {
+            qid,
+            region,
+            cqid,
+            class,
+        } => AnswerFields {
+            qid,
+            region: u16::from(region),
+            cqid,
+            priority: number_of_class(class),
+            ..plain_answer(1)
+        },
+        Verdict::OpenCq { qid, region } => AnswerFields {
+            qid,
+            region: u16::from(region),
+            ..plain_answer(2)
+        },
+        Verdict::BeginDelete { qid } => AnswerFields {
+            qid,
+            ..plain_answer(3)
+        },
+        Verdict::CloseCq { qid } => AnswerFields {
+            qid,
+            ..plain_answer(4)
+        },
+        Verdict::SetArbitration(settings) => AnswerFields {
+            cdw11: settings.to_cdw11(),
+            ..plain_answer(5)
+        },
+    }
+}
+
+/// Whether a verdict says success.
+pub fn is_accepted(verdict: &Verdict) -> bool
+    ensures { result ≡ is_success (status_in verdict.now) }
+{
+    match verdict {
+        Verdict::Done(status, _) => status.sct() == 0 && status.sc() == 0,
+        _ => true,
+    }
+}
+
+/// What is said of a submission queue.
+pub fn queue_answer_of(queue: SqEntry) -> QueueAnswer
+    ensures { result ≡ queue_answer_of queue }
+{
+    QueueAnswer {
+        region: u16::from(queue.region),
+        cqid: queue.cqid,
+        priority: number_of_class(queue.class),
+        closing: u16::from(queue.closing),
+    }
+}
