@@ -1,6 +1,6 @@
 // Picks of a board, which are followed by as many commands that come, beside an arbiter that is shown the board.
 use crate::picks::class_of;
-use crate::rates::tell;
+use crate::rates::{Yardstick, tell};
 use nvme_arbiter::{
     Arbiter, Board, Class, HIGHEST_COUNT, HIGHEST_QID, Mechanism, Settings, is_observation,
 };
@@ -63,7 +63,11 @@ fn pick_from_list(arbiter: &mut Arbiter, board: &Board, count: u32) {
 }
 
 /// Measures picks of both mechanisms over 2, 8 and 17 queues with burst 1.
-pub fn measure<R: Clock + Eprint + Alloc>(rt: &R, count: u32) -> io::Result<()> {
+pub fn measure<R: Clock + Eprint + Alloc>(
+    rt: &R,
+    yardstick: Yardstick,
+    count: u32,
+) -> io::Result<()> {
     for (mechanism, name) in [
         (Mechanism::RoundRobin, "round robin"),
         (Mechanism::Weighted, "weighted"),
@@ -78,9 +82,9 @@ pub fn measure<R: Clock + Eprint + Alloc>(rt: &R, count: u32) -> io::Result<()> 
             pick_from_list(&mut arbiter, &board, count);
             let list_took = start.elapsed(rt)?;
             let what = format!(in rt.alloc(); "board, {name}, {queues} ready queues: picks")?;
-            tell(rt, what.as_str(), count, board_took)?;
+            tell(rt, yardstick, what.as_str(), count, board_took)?;
             let what = format!(in rt.alloc(); "arbiter over the same queues: picks")?;
-            tell(rt, what.as_str(), count, list_took)?;
+            tell(rt, yardstick, what.as_str(), count, list_took)?;
             let percent = board_took.as_nanos() * 100 / list_took.as_nanos().max(1);
             eprintln!(rt; "board to arbiter: {percent} %")?;
         }

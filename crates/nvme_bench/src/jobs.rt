@@ -4,7 +4,7 @@ ghost use Rattle.std.specs.List.{All};
 ghost use Rattle.nvme_pool.specs.Seat.{SameSeat};
 ghost use Rattle.nvme_pool.specs.Worker.{WorkerView};
 
-use crate::rates::tell;
+use crate::rates::{Yardstick, tell};
 use nvme_entry::{Namespaces, Sqe};
 use nvme_pool::{FrontSeat, Job, Lanes, NoGate, Worked, Worker, pool};
 use std::alloc::{AllocError, Global};
@@ -107,6 +107,7 @@ fn run<R: Threads + Wait + Sync>(
 /// Measures jobs through 1, 2 and 4 workers.
 pub fn measure<R: Clock + Eprint + Alloc<A = Global> + Threads + Wait + Sync>(
     rt: &R,
+    yardstick: Yardstick,
     count: u32,
 ) -> io::Result<()> {
     for workers in [1, 2, 4] {
@@ -114,7 +115,7 @@ pub fn measure<R: Clock + Eprint + Alloc<A = Global> + Threads + Wait + Sync>(
         run(rt, rt.alloc(), workers, count)?;
         let took = start.elapsed(rt)?;
         let what = format!(in rt.alloc(); "jobs through {workers} workers: jobs")?;
-        tell(rt, what.as_str(), count, took)?;
+        tell(rt, yardstick, what.as_str(), count, took)?;
     }
     Ok(())
 }

@@ -8,35 +8,63 @@ mod picks;
 mod rates;
 mod rings;
 mod runs;
+mod tables;
+mod words;
 
-use anyhow::{Result, bail, ensure};
+use anyhow::{Result, bail};
+use rates::Yardstick;
+use std::alloc::Global;
 use std::env;
+use std::rt::Clock;
+use std::sync::Wait;
+use std::thread::Threads;
 
-// What a measurement is: its name and what it measures.
-const USAGE: &str = "usage: nvme_bench picks|boards|rings|jobs|runs|all COUNT";
+// Makes a measurement by its name, with a yardstick that is taken first.
+fn measure<R: Clock + Eprint + Alloc<A = Global> + Threads + Wait + Sync>(
+    rt: &R,
+    name: &str,
+    count: u32,
+) -> Result<()> {
+    let yardstick = Yardstick::take(rt)?;
+    match name {
+        "picks" => picks::measure(rt, yardstick, count)?,
+        "boards" => boards::measure(rt, yardstick, count)?,
+        "tables" => tables::measure(rt, yardstick, count)?,
+        "rings" => rings::measure(rt, yardstick, count)?,
+        "jobs" => jobs::measure(rt, yardstick, count)?,
+        "runs" => runs::measure(rt, yardstick, count)?,
+        "all" => {
+            picks::measure(rt, yardstick, count)?;
+            boards::measure(rt, yardstick, count)?;
+            tables::measure(rt, yardstick, count)?;
+            rings::measure(rt, yardstick, count)?;
+            jobs::measure(rt, yardstick, count)?;
+            runs::measure(rt, yardstick, count)?;
+        }
+        _ => bail!("no measurement of this name"),
+    }
+    Ok(())
+}
 
 fn main(rt: HostRuntime) -> Result<()> {
     let words: Vec<String> = env::args(&rt)?.collect(rt.alloc())?;
-    let [_, name, count] = words.as_slice() else {
-        bail!("{USAGE}")
-    };
-    let count = count.parse::<u32>()?;
-    ensure!(count > 0, "{USAGE}");
-    match name.as_str() {
-        "picks" => picks::measure(&rt, count)?,
-        "boards" => boards::measure(&rt, count)?,
-        "rings" => rings::measure(&rt, count)?,
-        "jobs" => jobs::measure(&rt, count)?,
-        "runs" => runs::measure(&rt, count)?,
-        "all" => {
-            picks::measure(&rt, count)?;
-            boards::measure(&rt, count)?;
-            rings::measure(&rt, count)?;
-            jobs::measure(&rt, count)?;
-            runs::measure(&rt, count)?;
+    let matches = match words::program(rt.alloc())?.try_get_matches_from(words.as_slice()) {
+        Ok(matches) => matches,
+        Err(error) => {
+            if error.use_stderr() {
+                bail!("{error}");
+            }
+            print!(rt; "{error}")?;
+            return Ok(());
         }
-        _ => bail!("{USAGE}"),
-    }
+    };
+    let (Some(name), Some(count)) = (
+        matches.get_str("measurement"),
+        matches.get_one::<u32>("count"),
+    ) else {
+        bail!("a measurement and a count are wanted")
+    };
+    measure(&rt, name, count)?;
     println!(rt; "ok")?;
     Ok(())
 }

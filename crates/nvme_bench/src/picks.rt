@@ -1,5 +1,5 @@
 // Picks of an arbiter over 16 ready queues.
-use crate::rates::tell;
+use crate::rates::{Yardstick, tell};
 use nvme_arbiter::{Arbiter, Class, Mechanism, Pick, Seen, Settings, is_observation};
 use std::io;
 use std::rt::Clock;
@@ -42,7 +42,11 @@ fn pick_often(arbiter: &mut Arbiter, seen: &[Seen], count: u32) -> u64 {
 }
 
 /// Measures picks of both mechanisms.
-pub fn measure<R: Clock + Eprint + Alloc>(rt: &R, count: u32) -> io::Result<()> {
+pub fn measure<R: Clock + Eprint + Alloc>(
+    rt: &R,
+    yardstick: Yardstick,
+    count: u32,
+) -> io::Result<()> {
     let seen = ready_queues();
     for (mechanism, name) in [
         (Mechanism::RoundRobin, "round robin"),
@@ -55,7 +59,7 @@ pub fn measure<R: Clock + Eprint + Alloc>(rt: &R, count: u32) -> io::Result<()> 
         let what = format!(in rt.alloc();
             "arbiter, {name}, 16 ready queues, {taken} commands: picks"
         )?;
-        tell(rt, what.as_str(), count, took)?;
+        tell(rt, yardstick, what.as_str(), count, took)?;
     }
     Ok(())
 }

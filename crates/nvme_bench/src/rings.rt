@@ -1,5 +1,5 @@
 // Items through a ring between two threads, beside the same over `rtrb` called directly.
-use crate::rates::tell;
+use crate::rates::{Yardstick, tell};
 use nvme_lane::{GetEnd, PutEnd, ring};
 use rtrb::{Consumer, Producer, RingBuffer};
 use std::io;
@@ -76,6 +76,7 @@ fn pop_all(consumer: &mut Consumer<u64>, count: u32) -> u64 {
 // One size, over this repository's ring and over that of `rtrb`.
 fn measure_one<R: Clock + Eprint + Alloc<A = std::alloc::Global> + Threads>(
     rt: &R,
+    yardstick: Yardstick,
     slots: u16,
     count: u32,
 ) -> io::Result<()> {
@@ -86,7 +87,7 @@ fn measure_one<R: Clock + Eprint + Alloc<A = std::alloc::Global> + Threads>(
     let (_, sum) = thread::join(rt, || put_all(&mut put, count), || get_all(&mut get, count));
     let took = start.elapsed(rt)?;
     let what = format!(in rt.alloc(); "ring of {slots} slots, sum {sum}: items")?;
-    tell(rt, what.as_str(), count, took)?;
+    tell(rt, yardstick, what.as_str(), count, took)?;
     let (mut producer, mut consumer) = RingBuffer::new(
         rt.alloc(),
         usize::from(slots).saturating_sub(1),
@@ -99,16 +100,17 @@ fn measure_one<R: Clock + Eprint + Alloc<A = std::alloc::Global> + Threads>(
     );
     let took = start.elapsed(rt)?;
     let what = format!(in rt.alloc(); "rtrb with room for as many, sum {sum}: items")?;
-    tell(rt, what.as_str(), count, took)
+    tell(rt, yardstick, what.as_str(), count, took)
 }
 
 /// Measures rings of 2, 16 and 256 slots.
 pub fn measure<R: Clock + Eprint + Alloc<A = std::alloc::Global> + Threads>(
     rt: &R,
+    yardstick: Yardstick,
     count: u32,
 ) -> io::Result<()> {
     for slots in [2, 16, 256] {
-        measure_one(rt, slots, count)?;
+        measure_one(rt, yardstick, slots, count)?;
     }
     Ok(())
 }
