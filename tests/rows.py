@@ -1,0 +1,88 @@
+"""What the tests over the built program share: rows that are counted, and small libraries that are loaded before it."""
+import os
+import shutil
+import subprocess
+import sys
+import tempfile
+from collections import namedtuple
+from concurrent.futures import ThreadPoolExecutor
+
+TESTS = os.path.dirname(os.path.realpath(__file__))
+TOP = os.path.dirname(TESTS)
+# A run that takes longer hangs, in seconds.
+LONGEST = 120
+
+# What a run left.
+Left = namedtuple("Left", "status output errors")
+
+
+class Rows:
+    """The rows of a script, by its name. The last line that it prints, `N passed, M failed`, counts them."""
+
+    def __init__(self, name):
+        self.name, self.passed, self.failed = name, 0, 0
+        self.folder = tempfile.mkdtemp()
+
+    def give_up(self, why):
+        print(f"{self.name}: {why}", file=sys.stderr)
+        self.failed += 1
+        self.end()
+
+    def row(self, name, check, *words):
+        """Counts one test: `check` gives its figures as a text, or raises an AssertionError."""
+        try:
+            print(f"{name}: {check(*words)}", flush=True)
+            self.passed += 1
+        except (AssertionError, subprocess.TimeoutExpired) as why:
+            print(f"{name}: {why}", file=sys.stderr, flush=True)
+            self.failed += 1
+
+    def end(self):
+        shutil.rmtree(self.folder, ignore_errors=True)
+        print(f"{self.passed} passed, {self.failed} failed")
+        sys.exit(self.failed != 0)
+
+    def program(self, crate, words):
+        """The program of a crate: the first word where there is one, else built first."""
+        if words:
+            found = os.path.abspath(words[0])
+        else:
+            found = f"{TOP}/crates/{crate}/out/{crate}"
+            if subprocess.run([f"{TOP}/build", crate]).returncode:
+                self.give_up("the program did not build")
+        if not os.access(found, os.X_OK):
+            self.give_up(f"there is no program {found}")
+        return found
+
+    def library(self, name):
+        """Compiles tests/NAME.c, to be loaded before a program."""
+        made = f"{self.folder}/{name}.so"
+        how = ["cc", "-Wall", "-Wextra", "-Werror", "-shared", "-fPIC", "-O1", "-pthread", "-o", made, f"{TESTS}/{name}.c"]
+        if subprocess.run(how).returncode:
+            self.give_up(f"{name}.c did not compile")
+        return made
+
+
+def run(words, stdin=b"", stdout=subprocess.PIPE, stderr=subprocess.PIPE, preexec_fn=None, **settings):
+    """Runs a program over these bytes, or over an open file. Settings of its environment are given by name."""
+    done = subprocess.run(
+        words,
+        **({"input": stdin} if isinstance(stdin, bytes) else {"stdin": stdin}),
+        stdout=stdout,
+        stderr=stderr,
+        preexec_fn=preexec_fn,
+        env={**os.environ, **{name: str(value) for name, value in settings.items()}},
+        timeout=LONGEST,
+    )
+    return Left(done.returncode, done.stdout, done.stderr)
+
+
+def all_of(check, items):
+    """Checks each item, as many at a time as there are processors, and gives the answers in order."""
+    with ThreadPoolExecutor(len(os.sched_getaffinity(0))) as several:
+        return list(several.map(check, items))
+
+
+def example(name):
+    with open(f"{TOP}/examples/{name}", "rb") as it:
+        return it.read()
