@@ -147,6 +147,9 @@ module _ (s : FrontState) (c : ℕ) (d : CqRegion) (e : PutView Cqe) (l : c < le
   pub place-cq : (n : ℕ) → c ≡ n → (p : PutView Cqe) → put_place e ≡ put_place (slice_index_or (puts_of s.cqs.items) n p)
   place-cq n same_n p = put_same ∙ ap put_place (sym (read-cq n same_n p))
 
+  pub free-cq : d.end.free ≤ e.free → (n : ℕ) → c ≡ n → (p : PutView Cqe) → (slice_index_or (puts_of s.cqs.items) n p).free ≤ e.free
+  free-cq more n same_n p = subst (λ (z : PutView Cqe). z.free ≤ e.free) (sym (read-cq n same_n p)) more
+
 -- a region that was read has the other end of its host's ring
 pub pair-sq : (s : FrontState) (r : ℕ) (d : SqRegion) → r < length s.sqs.items → d ≡ get_or s.sqs.items r d → (n : ℕ) → r ≡ n → (p : PutView Sqe)
     → ((g : GetView Sqe) → IsPair p (slice_index_or (gets_of s.sqs.items) n g)) → IsPair p d.end

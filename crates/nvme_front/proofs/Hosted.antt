@@ -1,5 +1,5 @@
 -- The hosts of a front and its ends, region by region.
-use Rattle.std.proofs.Common.{◌≡◌, ℕ, ◌+◌, ◌<◌, Bool, true, false, List, [], ◌∷◌, ◌++◌, map, length, set, get_or, take, ◌⊎◌, inl, inr, refl, sym, ap, subst, ◌∙◌, arith}
+use Rattle.std.proofs.Common.{◌≡◌, ℕ, ◌+◌, ◌<◌, ◌≤◌, Bool, true, false, List, [], ◌∷◌, ◌++◌, map, length, set, get_or, take, ◌⊎◌, inl, inr, refl, sym, ap, subst, ◌∙◌, arith}
 use Rattle.std.proofs.lemmas.List.{append-nil, length-map, map-set, get_or-map, get_or-set_same, get_or-set_other, set-get_or, same_lists, get_or_default}
 use Rattle.std.proofs.lemmas.Option.{slice_get_cases}
 use Rattle.std.specs.Prelude.{reverse, nat_lt, ◌&&◌}
@@ -15,9 +15,9 @@ use Rattle.nvme_lane.specs.Drainer.{items_of, get_of}
 use Rattle.nvme_lane.specs.declared.feeder.Feeder.{Feeder}
 use Rattle.nvme_lane.specs.declared.drainer.Drainer.{Drainer}
 use Rattle.nvme_front.specs.Ends.{get_place, put_place}
-use Rattle.nvme_front.specs.View.{FrontView, past_in, got_in, known_in, sent_in}
+use Rattle.nvme_front.specs.View.{FrontView, past_in, got_in, known_in, sent_in, free_in}
 use Rattle.nvme_log.specs.Queues.{is_serving}
-use Rattle.nvme_front.specs.Hosts.{ArePaired, AreHosts, IsFedBy, IsDrainedBy, feeder_place, drainer_place, told, submitted_at, taken_at}
+use Rattle.nvme_front.specs.Hosts.{ArePaired, AreHosts, IsFedBy, IsDrainedBy, feeder_place, drainer_place, told, submitted_at, free_at, taken_at}
 use Rattle.nvme_front.specs.inside.Looks.{LooksAtSq, LooksAtCq}
 use Rattle.nvme_front.specs.Unsettled.{IsSameFront, TakesOf, Takes}
 use Rattle.nvme_front.specs.inside.Resting.{Rests, Collects}
@@ -122,7 +122,7 @@ part-other f d xs k x r h = ap (λ z. get_or z r d) (map-set f xs k x) ∙ get_o
 
 -- ---- the same front
 pub IsSameFront-refl : (v : FrontView) → IsSameFront v v
-IsSameFront-refl v = record { rules = refl; limit = refl; late = refl; log = refl; got = refl; knows = λ r. IsPrefix-refl (known_in v r); get_places = refl; sent = refl; put_places = refl; hands = refl }
+IsSameFront-refl v = record { rules = refl; limit = refl; late = refl; log = refl; got = refl; knows = λ r. IsPrefix-refl (known_in v r); get_places = refl; sent = refl; put_places = refl; frees = λ c. omega arith; hands = refl }
 
 pub IsSameFront-trans : (u v w : FrontView) → IsSameFront u v → IsSameFront v w → IsSameFront u w
 IsSameFront-trans u v w g h = record {
@@ -135,6 +135,7 @@ IsSameFront-trans u v w g h = record {
   get_places = h.get_places ∙ g.get_places;
   sent = h.sent ∙ g.sent;
   put_places = h.put_places ∙ g.put_places;
+  frees = λ c. let a = g.frees c in let b = h.frees c in omega arith;
   hands = h.hands ∙ g.hands;
 }
 
@@ -155,6 +156,7 @@ same-sq r x x' v w rests l look = record {
   get_places = ap (λ (z : FrontView). map get_place z.gets) look.view ∙ seen-set get_place v.gets r look.end l look.place;
   sent = ap (λ (z : FrontView). map (λ (p : PutView Cqe). p.sent) z.puts) look.view;
   put_places = ap (λ (z : FrontView). map put_place z.puts) look.view;
+  frees = λ c. subst (λ z. free_in v c ≤ z) (sym (ap (λ (z : FrontView). free_in z c) look.view)) (omega arith);
   hands = ap (λ (z : FrontView). z.hands) look.view;
 }
 
@@ -169,6 +171,12 @@ same-cq c x x' v w rests l look = record {
   get_places = ap (λ (z : FrontView). map get_place z.gets) look.view;
   sent = ap (λ (z : FrontView). map (λ (p : PutView Cqe). p.sent) z.puts) look.view ∙ seen-set (λ (p : PutView Cqe). p.sent) v.puts c look.end l look.sent;
   put_places = ap (λ (z : FrontView). map put_place z.puts) look.view ∙ seen-set put_place v.puts c look.end l look.place;
+  frees = λ n. elim (eqb_tells n c) [
+    | inl q ↦ subst (λ z. free_in v z ≤ free_in w z) (sym q.1)
+        (rw (ap (λ (z : FrontView). free_in z c) look.view ∙ part-same (λ (p : PutView Cqe). p.free) 0 v.puts c look.end l)
+        (subst (λ z. z ≤ look.end.free) (sym (get_or-map (λ (p : PutView Cqe). p.free) v.puts c look.end 0 l)) (look.free look.end)))
+    | inr q ↦ subst (λ z. free_in v n ≤ z) (sym (ap (λ (z : FrontView). free_in z n) look.view ∙ part-other (λ (p : PutView Cqe). p.free) 0 v.puts c look.end n q.1)) (omega arith)
+  ];
   hands = ap (λ (z : FrontView). z.hands) look.view;
 }
 
@@ -176,7 +184,7 @@ same-cq c x x' v w rests l look = record {
 pub Rests-none : (f : List (Feeder Sqe)) (v : FrontView) → Rests 0 true f f v v
 Rests-none f v = record {
   front = IsSameFront-refl v;
-  feeders = record { told_is = refl; places = refl };
+  feeders = record { told_is = refl; places = refl; frees = λ r. omega arith };
   puts = refl;
   rest = λ r l. absurd (omega arith);
   none = λ e r l. absurd (omega arith);
@@ -193,6 +201,10 @@ Rests-more n quiet quiet' f f' v w w' x x' rests s l l' read look when_true when
   feeders = record {
     told_is = seen-set told f' n x' l (λ d. (λ i. (look.script i, look.sent i)) ∙ ap told (at d)) ∙ s.feeders.told_is;
     places = seen-set feeder_place f' n x' l (λ d. (λ i. (look.put.0 i, look.put.1 i, look.put.2 i)) ∙ ap feeder_place (at d)) ∙ s.feeders.places;
+    frees = λ r. elim (eqb_tells r n) [
+      | inl p ↦ subst (λ z. free_at f z ≤ free_at (set f' n x') z) (sym p.1) (let a = s.feeders.frees n in let b = look.free in omega (arith, a, b, free_here, free_before))
+      | inr p ↦ subst (λ z. free_at f r ≤ z) (sym (part-other (λ (q : Feeder Sqe). (put_of q).free) 0 f' n x' r p.1)) (s.feeders.frees r)
+    ];
   };
   puts = ap (λ (z : FrontView). z.puts) look.view ∙ s.puts;
   rest = λ r q. elim (eqb_tells r n) [
@@ -220,6 +232,12 @@ Rests-more n quiet quiet' f f' v w w' x x' rests s l l' read look when_true when
   where
     at : (d : Feeder Sqe) → x ≡ get_or f' n d
     at d = read ∙ get_or_default f' n x d l
+
+    free_here : free_at (set f' n x') n ≡ (put_of x').free
+    free_here = part-same (λ (q : Feeder Sqe). (put_of q).free) 0 f' n x' l
+
+    free_before : free_at f' n ≡ (put_of x).free
+    free_before = get_or-map (λ (q : Feeder Sqe). (put_of q).free) f' n x 0 l ∙ ap (λ (q : Feeder Sqe). (put_of q).free) (sym read)
 
     here_got : got_in w' n ≡ look.end.got
     here_got = ap (λ (z : FrontView). got_in z n) look.view ∙ part-same (λ (g : GetView Sqe). g.got) [] w.gets n look.end l'

@@ -49,6 +49,10 @@ submitted_at feeders r = slice_index_or (map (λ (f : Feeder Sqe). take (count_o
 abbrev pub sent_at : List Sent → ℕ → List Sqe
 sent_at sent r = slice_index_or (map (λ (s : Sent). take s.count s.script.items) sent) r []
 
+-- how many places of a submission region its feeder knows to be free
+abbrev pub free_at : List (Feeder Sqe) → ℕ → ℕ
+free_at feeders r = slice_index_or (map (λ (f : Feeder Sqe). (put_of f).free) feeders) r 0
+
 -- what was taken from a completion region, by its drainer, and by what is left of it
 abbrev pub taken_at : List (Drainer Cqe) → ℕ → List Cqe
 taken_at drainers c = slice_index_or (map (λ (d : Drainer Cqe). items_of d) drainers) c []

@@ -17,7 +17,7 @@ pub struct Drainer<T: Copy> {
 }
 
 impl<T: Copy> Drainer<T> {
-    ghost use Rattle.std.specs.Prelude.{◌≡◌, ◌+◌, ◌<◌, [], ◌∷◌, ◌++◌, length, IfOk, OnErr, IsTrue, IsFalse};
+    ghost use Rattle.std.specs.Prelude.{◌≡◌, ◌+◌, ◌<◌, ◌≤◌, [], ◌∷◌, ◌++◌, length, IfOk, OnErr, IsTrue, IsFalse};
     ghost use mathlib.Core.List.{IsPrefix};
     ghost use Rattle.nvme_lane.specs.Limits.{max_slots};
     ghost use Rattle.nvme_lane.specs.View.{IsPair, SamePut, SameGet};
@@ -91,6 +91,7 @@ impl<T: Copy> Drainer<T> {
         ensures count { result ≡ length (get_of self.new).known }
         ensures few { result < max_slots }
         ensures free { put.new.free + result + 1 ≡ put.new.slots }
+        ensures no_smaller { put.old.free ≤ put.new.free }
     {
         beside(put, &mut self.end)
     }

@@ -29,7 +29,7 @@ pub struct Feeder<T: Copy> {
 }
 
 impl<T: Copy> Feeder<T> {
-    ghost use Rattle.std.specs.Prelude.{◌≡◌, ◌≢◌, ◌↔◌, ◌+◌, ◌-◌, ◌<◌, [], ◌++◌, length};
+    ghost use Rattle.std.specs.Prelude.{◌≡◌, ◌≢◌, ◌↔◌, ◌+◌, ◌-◌, ◌<◌, ◌≤◌, [], ◌++◌, length};
     ghost use mathlib.Core.List.{IsPrefix};
     ghost use Rattle.nvme_lane.specs.Limits.{max_slots};
     ghost use Rattle.nvme_lane.specs.View.{IsPair, SamePut, SameGet};
@@ -119,6 +119,7 @@ impl<T: Copy> Feeder<T> {
         ensures count { result ≡ length get.new.known }
         ensures few { result < max_slots }
         ensures free { (put_of self.new).free + result + 1 ≡ (put_of self.new).slots }
+        ensures no_smaller { (put_of self.old).free ≤ (put_of self.new).free }
     {
         beside(&mut self.end, get)
     }

@@ -1,5 +1,5 @@
 //! What rests in a ring, for a thread that holds both of its ends.
-ghost use Rattle.std.specs.Prelude.{◌≡◌, ◌+◌, ◌<◌, ◌++◌, length};
+ghost use Rattle.std.specs.Prelude.{◌≡◌, ◌+◌, ◌<◌, ◌≤◌, ◌++◌, length};
 ghost use mathlib.Core.List.{IsPrefix};
 ghost use Rattle.nvme_lane.specs.Limits.{max_slots};
 ghost use Rattle.nvme_lane.specs.View.{IsPair, SamePut, SameGet};
@@ -8,7 +8,7 @@ use crate::get_end::GetEnd;
 use crate::put_end::PutEnd;
 
 /// The number of items that were put into a ring and not got. They are then known to the end that gets,
-/// which gives just these next, in order, and the end that puts knows how many places are free.
+/// which gives just these next, in order, and the end that puts knows how many places are free, no fewer than it knew.
 pub fn beside<T: Copy>(put: &mut PutEnd<T>, get: &mut GetEnd<T>) -> u16
     requires { IsPair put.old get.old }
     ensures put_ring { SamePut put.old put.new }
@@ -20,6 +20,7 @@ pub fn beside<T: Copy>(put: &mut PutEnd<T>, get: &mut GetEnd<T>) -> u16
     ensures count { result ≡ length get.new.known }
     ensures few { result < max_slots }
     ensures free { put.new.free + result + 1 ≡ put.new.slots }
+    ensures no_smaller { put.old.free ≤ put.new.free }
 {
     put.producer.slots_beside(&mut get.consumer);
     let resting = get.consumer.slots_beside(&mut put.producer) as u16;

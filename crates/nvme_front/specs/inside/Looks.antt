@@ -1,5 +1,5 @@
 -- What a look at both ends of a ring leaves (profile).
-use Rattle.std.specs.Prelude.{◌≡◌, ℕ, ◌++◌, length, slice_set, slice_index_or}
+use Rattle.std.specs.Prelude.{◌≡◌, ◌≤◌, ℕ, ◌++◌, length, slice_set, slice_index_or}
 use mathlib.Core.List.{IsPrefix}
 use Rattle.nvme_entry.specs.declared.submission.Sqe.{Sqe}
 use Rattle.nvme_entry.specs.declared.completion.Cqe.{Cqe}
@@ -24,6 +24,7 @@ pub record LooksAtSq (r : ℕ) (f f' : Feeder Sqe) (v w : FrontView) (rests : �
   pub script : script_of f' ≡ script_of f
   pub sent : count_of f' ≡ count_of f
   pub put : SamePut (put_of f) (put_of f')
+  pub free : (put_of f).free ≤ (put_of f').free
 
 -- at a completion ring, in which so many completions rest
 pub record LooksAtCq (c : ℕ) (d d' : Drainer Cqe) (v w : FrontView) (rests : ℕ) : Type 0 where
@@ -32,6 +33,7 @@ pub record LooksAtCq (c : ℕ) (d d' : Drainer Cqe) (v w : FrontView) (rests : �
   pub view : w ≡ record v { puts = slice_set v.puts c end }
   pub sent : (p : PutView Cqe) → end.sent ≡ (slice_index_or v.puts c p).sent
   pub place : (p : PutView Cqe) → put_place end ≡ put_place (slice_index_or v.puts c p)
+  pub free : (p : PutView Cqe) → (slice_index_or v.puts c p).free ≤ end.free
   -- the drainer knows all that rests in its ring
   pub rest : items_of d' ++ (get_of d').known ≡ end.sent
   pub count : rests ≡ length (get_of d').known

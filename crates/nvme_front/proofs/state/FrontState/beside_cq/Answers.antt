@@ -1,5 +1,5 @@
 use Rattle.std.proofs.Common.{◌<◌, length, arith}
-use Rattle.nvme_front.proofs.Beside.{kept-cq, view-cq, sent-cq, place-cq, pair-cq}
+use Rattle.nvme_front.proofs.Beside.{kept-cq, view-cq, sent-cq, place-cq, free-cq, pair-cq}
 use Rattle.nvme_front.proofs.state.FrontState.beside_cq.Goals as goal
 
 pub beside-requires : goal.beside-requires
@@ -23,6 +23,7 @@ returns-clause-looks c =
       view = view-cq s _ _ c.beside.new.put l read e.sent e.put_ring _ c.from.ensures;
       sent = sent-cq s _ _ c.beside.new.put l read e.sent e.put_ring _ c.from.ensures;
       place = place-cq s _ _ c.beside.new.put l read e.sent e.put_ring _ c.from.ensures;
+      free = free-cq s _ _ c.beside.new.put l read e.sent e.put_ring e.no_smaller _ c.from.ensures;
       rest = e.rest;
       count = e.count;
       items = e.items;

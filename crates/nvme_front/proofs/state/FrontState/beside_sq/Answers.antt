@@ -29,4 +29,5 @@ returns-clause-looks c =
       script = e.script;
       sent = e.script_count;
       put = e.put_ring;
+      free = e.no_smaller;
     }
