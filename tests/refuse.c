@@ -7,7 +7,7 @@
                      standard error
      REFUSE_TOLD=F   makes the file F when something was refused
      LIVE_TOLD=F     writes how many blocks of the program's own, and how many threads that weren't joined, are left when
-                     it ends, into the file F */
+                     it ends, and how many threads it started, into the file F */
 #define _GNU_SOURCE
 #include <dlfcn.h>
 #include <errno.h>
@@ -65,10 +65,11 @@ __attribute__((constructor)) static void begin(void)
 static void end(void)
 {
     const char *file = getenv("LIVE_TOLD");
-    char text[64];
+    char text[96];
     if (!file)
         return;
-    int length = snprintf(text, sizeof text, "%ld %ld\n", atomic_load(&blocks), atomic_load(&threads));
+    int length = snprintf(text, sizeof text, "%ld %ld %lu\n", atomic_load(&blocks), atomic_load(&threads),
+                          atomic_load(&starts));
     int to = creat(file, 0600);
     if (write(to, text, length) != length)
         abort();
