@@ -1,4 +1,6 @@
 pub mod Fields
+pub mod Names
+pub mod Text
 pub mod Readings
 pub mod Format
 pub mod Lines

@@ -23,6 +23,11 @@ lines_of (x ∷ xs) = before_lines (x == 10) x (lines_of xs)
 abbrev pub unread : {R : Type 0} → (R → Option (List ℕ)) → Lines R → Option (List ℕ)
 unread remaining lines = prepend_known (slice_range lines.chunk lines.start lines.end) (remaining lines.reader)
 
+-- a trace of which some lines were read: the bytes that are left, where they are known, and the number of those lines
+pub record TraceView : Type 0 where
+  pub rest : Option (List ℕ)
+  pub number : ℕ
+
 -- the first of the known lines is taken
 abbrev pub TakesLine : (List ℕ → Type 0) → Option (List ℕ) → Option (List ℕ) → Type 0
 TakesLine P None new = Unit {0}

@@ -1,6 +1,6 @@
 // The check of a trace.
 ghost use Rattle.std.specs.Prelude.{◌≡◌, ℕ, List, Some, Ok, IfOk, IfErr, IfSome};
-ghost use Rattle.nvme_trace.specs.Lines.{unread, TakesLine};
+ghost use Rattle.nvme_trace.specs.Lines.{TakesLine};
 ghost use Rattle.nvme_trace.specs.Format.{head_of_line};
 ghost use Rattle.nvme_trace.specs.Checks.{IsAnswer, IsFaultOf};
 
@@ -47,8 +47,8 @@ pub fn check<R: Read + Drop>(alloc: Global, reader: R) -> Result<Checked, TraceE
 // Judges the events after a head.
 fn judged<R: Read>(alloc: Global, head: Head, trace: &mut Trace<R>) -> Result<Checked, TraceError>
     requires number { trace.old.number ≡ 1 }
-    ensures answer { IfOk result (λ checked. (text : List ℕ) → TakesLine (λ line. head_of_line line ≡ Ok head) (Some text) (unread R.remaining trace.old.lines) → IsAnswer text checked) }
-    ensures fault { IfErr result (λ error. (text : List ℕ) → TakesLine (λ line. head_of_line line ≡ Ok head) (Some text) (unread R.remaining trace.old.lines) → IsFaultOf text error) }
+    ensures answer { IfOk result (λ checked. (text : List ℕ) → TakesLine (λ line. head_of_line line ≡ Ok head) (Some text) trace.old.rest → IsAnswer text checked) }
+    ensures fault { IfErr result (λ error. (text : List ℕ) → TakesLine (λ line. head_of_line line ≡ Ok head) (Some text) trace.old.rest → IsFaultOf text error) }
 {
     let mut judge = Judge::new(head);
     for _ in 1..u64::MAX {
@@ -59,7 +59,7 @@ fn judged<R: Read>(alloc: Global, head: Head, trace: &mut Trace<R>) -> Result<Ch
         };
         if let Some(finding) = judge.judge(&event) {
             return Ok(Checked::Unlawful(Unlawful {
-                line: trace.number,
+                line: trace.number(),
                 finding,
             }));
         }

@@ -1,24 +1,22 @@
-//! Traces of arbitration: a text that says what an arbiter saw and picked, the check of each pick, and what a trace shows.
+//! Traces of arbitration: a text that says what an arbiter saw and picked, and the check of each pick.
 #![tactic(auto)]
 
-mod charting;
 mod checking;
-mod counting;
 mod explaining;
 mod fault;
 mod judge;
-mod lanes;
 mod laws;
 mod lines;
+mod names;
 mod reading;
 mod trace;
 mod writing;
 
-pub use charting::{Picture, chart};
 pub use checking::{Checked, Unlawful, check};
-pub use counting::{Statistics, stats};
 pub use fault::{Field, LineFault, TraceError, WriteFault};
 pub use judge::{Finding, Judge};
 pub use laws::texts_have_one_answer;
+pub use names::{class_name, mechanism_name};
 pub use reading::{Head, TraceEvent};
+pub use trace::Trace;
 pub use writing::write_trace;

@@ -10,20 +10,73 @@ use crate::lines::{Lines, NextError};
 use crate::reading::{Head, TraceEvent, event_of_line, head_of_line};
 use std::alloc::Global;
 use std::io::Read;
+use std::marker::Model;
 
-/// A trace of which some lines were read.
+/// A trace of which some lines were read. Contracts see it as the bytes that are left, where they are known, and the
+/// number of lines that were read.
 #[derive(Drop)]
-pub struct Trace<R> {
+pub struct Trace<R: Read> {
     lines: Lines<R>,
     // The latest line, and how many were read.
     line: Vec<u8>,
-    pub number: u64,
+    number: u64,
+}
+
+impl<R: Read> Model for Trace<R> {
+    ghost use Rattle.nvme_trace.specs.Lines.{TraceView, unread};
+
+    ghost Value = { TraceView };
+
+    ghost view = { λ t. record { rest = unread R.remaining t.lines; number = t.number } };
+}
+
+// A fault of the line after so many.
+fn fault_after(number: u64, fault: LineFault) -> TraceError
+    requires { number < 2 ^ 64 - 1 }
+    ensures { IsLineFault result (number + 1) fault }
+{
+    match fault {
+        LineFault::NoMemory => TraceError::NoMemory,
+        fault => TraceError::Line {
+            line: number + 1,
+            fault,
+        },
+    }
+}
+
+// Why the line after so many was not taken.
+fn stop_after(number: u64, error: NextError) -> TraceError
+    requires { number < 2 ^ 64 - 1 }
+    ensures { (rest : Option (List ℕ)) → MeetsError error rest → IsHeadFault result number rest × IsEventFault result number rest }
+{
+    match error {
+        NextError::TooLong => fault_after(number, LineFault::TooLong),
+        NextError::Read => TraceError::Read,
+        NextError::NoMemory => TraceError::NoMemory,
+    }
+}
+
+// Reads the line after so many. The answer is false where there is none.
+fn line_after<R: Read>(
+    number: u64,
+    lines: &mut Lines<R>,
+    line: &mut Vec<u8>,
+) -> Result<bool, TraceError>
+    requires { number < 2 ^ 64 - 1 }
+    ensures ok { IfOk result (λ more. MatchLine more line.new.items (unread R.remaining lines.old) (unread R.remaining lines.new)) }
+    ensures short { OnOk result (length line.new.items ≤ longest_line) }
+    ensures err { IfErr result (λ e. IsHeadFault e number (unread R.remaining lines.old) × IsEventFault e number (unread R.remaining lines.old)) }
+{
+    match lines.next_line(line) {
+        Ok(more) => Ok(more),
+        Err(error) => Err(stop_after(number, error)),
+    }
 }
 
 impl<R: Read> Trace<R> {
     /// A trace of which nothing was read.
     pub fn new(alloc: Global, reader: R) -> Trace<R>
-        ensures unread { unread R.remaining result.lines ≡ R.remaining reader }
+        ensures rest { result.rest ≡ R.remaining reader }
         ensures number { result.number ≡ 0 }
     {
         Trace {
@@ -33,74 +86,41 @@ impl<R: Read> Trace<R> {
         }
     }
 
-    // A fault of the line after those that were read.
-    fn fault(&self, fault: LineFault) -> TraceError
-        requires { self.now.number < 2 ^ 64 - 1 }
-        ensures { IsLineFault result (self.now.number + 1) fault }
+    /// How many lines were read.
+    pub fn number(&self) -> u64
+        ensures { result ≡ self.now.number }
     {
-        match fault {
-            LineFault::NoMemory => TraceError::NoMemory,
-            fault => TraceError::Line {
-                line: self.number + 1,
-                fault,
-            },
-        }
-    }
-
-    // Why the line after those that were read was not taken.
-    fn stop(&self, error: NextError) -> TraceError
-        requires { self.now.number < 2 ^ 64 - 1 }
-        ensures { (rest : Option (List ℕ)) → MeetsError error rest → IsHeadFault result self.now.number rest × IsEventFault result self.now.number rest }
-    {
-        match error {
-            NextError::TooLong => self.fault(LineFault::TooLong),
-            NextError::Read => TraceError::Read,
-            NextError::NoMemory => TraceError::NoMemory,
-        }
-    }
-
-    // Reads the next line. The answer is false where there is none.
-    fn next_line(&mut self) -> Result<bool, TraceError>
-        requires { self.old.number < 2 ^ 64 - 1 }
-        ensures ok { IfOk result (λ more. MatchLine more self.new.line.items (unread R.remaining self.old.lines) (unread R.remaining self.new.lines)) }
-        ensures short { OnOk result (length self.new.line.items ≤ longest_line) }
-        ensures number { self.new.number ≡ self.old.number }
-        ensures err { IfErr result (λ e. IsHeadFault e self.old.number (unread R.remaining self.old.lines) × IsEventFault e self.old.number (unread R.remaining self.old.lines)) }
-    {
-        match self.lines.next_line(&mut self.line) {
-            Ok(more) => Ok(more),
-            Err(error) => Err(self.stop(error)),
-        }
+        self.number
     }
 
     /// Reads the head, the first line.
     pub fn head(&mut self, alloc: Global) -> Result<Head, TraceError>
         requires { self.old.number ≡ 0 }
-        ensures ok { IfOk result (λ head. TakesLine (λ line. head_of_line line ≡ Ok head) (unread R.remaining self.old.lines) (unread R.remaining self.new.lines)) }
+        ensures ok { IfOk result (λ head. TakesLine (λ line. head_of_line line ≡ Ok head) self.old.rest self.new.rest) }
         ensures number { OnOk result (self.new.number ≡ 1) }
-        ensures err { IfErr result (λ e. IsHeadFault e 0 (unread R.remaining self.old.lines)) }
+        ensures err { IfErr result (λ e. IsHeadFault e 0 self.old.rest) }
     {
-        if !self.next_line()? {
-            return Err(self.fault(LineFault::NoHead));
+        if !line_after(self.number, &mut self.lines, &mut self.line)? {
+            return Err(fault_after(self.number, LineFault::NoHead));
         }
         match head_of_line(alloc, &self.line) {
             Ok(head) => {
                 self.number += 1;
                 Ok(head)
             }
-            Err(fault) => Err(self.fault(fault)),
+            Err(fault) => Err(fault_after(self.number, fault)),
         }
     }
 
     /// Reads the next line after the head, `None` where there is none.
     pub fn event(&mut self, alloc: Global) -> Result<Option<TraceEvent>, TraceError>
         requires { self.old.number < 2 ^ 64 - 1 }
-        ensures ok { IfOk result (λ o. MatchOption o (HasNoLine (unread R.remaining self.old.lines)) (λ e. TakesLine (λ line. event_of_line line ≡ Ok (event_view e)) (unread R.remaining self.old.lines) (unread R.remaining self.new.lines))) }
+        ensures ok { IfOk result (λ o. MatchOption o (HasNoLine self.old.rest) (λ e. TakesLine (λ line. event_of_line line ≡ Ok (event_view e)) self.old.rest self.new.rest)) }
         ensures observed { IfOk result (λ o. IfSome o (λ e. IsObserved (event_view e))) }
         ensures number { IfOk result (λ o. IfSome o (λ _. self.new.number ≡ self.old.number + 1)) }
-        ensures err { IfErr result (λ e. IsEventFault e self.old.number (unread R.remaining self.old.lines)) }
+        ensures err { IfErr result (λ e. IsEventFault e self.old.number self.old.rest) }
     {
-        if !self.next_line()? {
+        if !line_after(self.number, &mut self.lines, &mut self.line)? {
             return Ok(None);
         }
         match event_of_line(alloc, &self.line) {
@@ -108,7 +128,7 @@ impl<R: Read> Trace<R> {
                 self.number += 1;
                 Ok(Some(event))
             }
-            Err(fault) => Err(self.fault(fault)),
+            Err(fault) => Err(fault_after(self.number, fault)),
         }
     }
 }

@@ -1,5 +1,5 @@
 use Rattle.std.proofs.Common.{◌≡◌, ℕ, List, Option, Ok, subst}
-use Rattle.nvme_trace.specs.Lines.{unread, TakesLine}
+use Rattle.nvme_trace.specs.Lines.{TakesLine}
 use Rattle.nvme_trace.specs.Format.{head_of_line}
 use Rattle.nvme_trace.proofs.CheckLemmas.{all_answers, all_faults}
 use Rattle.nvme_trace.proofs.checking.check.Goals as goal
@@ -7,11 +7,11 @@ use Rattle.nvme_trace.proofs.checking.check.Goals as goal
 pub returns-in-Ok-clause-answer : goal.returns-in-Ok-clause-answer
 returns-in-Ok-clause-answer g c =
     let known = g.R.Read.remaining c.args.reader in
-    let new = unread g.R.Read.remaining c.head.new.self.lines in
-    all_answers known new c.in-Ok.head c.judged.result (subst (λ (k : Option (List ℕ)). TakesLine (λ line. head_of_line line ≡ Ok c.in-Ok.head) k new) c.new-trace.ensures.unread c.in-Ok.ensures.ok) c.judged.ensures.answer
+    let new = c.head.new.self.rest in
+    all_answers known new c.in-Ok.head c.judged.result (subst (λ (k : Option (List ℕ)). TakesLine (λ line. head_of_line line ≡ Ok c.in-Ok.head) k new) c.new-trace.ensures.rest c.in-Ok.ensures.ok) c.judged.ensures.answer
 
 pub returns-in-Ok-clause-fault : goal.returns-in-Ok-clause-fault
 returns-in-Ok-clause-fault g c =
     let known = g.R.Read.remaining c.args.reader in
-    let new = unread g.R.Read.remaining c.head.new.self.lines in
-    all_faults known new c.in-Ok.head c.judged.result (subst (λ (k : Option (List ℕ)). TakesLine (λ line. head_of_line line ≡ Ok c.in-Ok.head) k new) c.new-trace.ensures.unread c.in-Ok.ensures.ok) c.judged.ensures.fault
+    let new = c.head.new.self.rest in
+    all_faults known new c.in-Ok.head c.judged.result (subst (λ (k : Option (List ℕ)). TakesLine (λ line. head_of_line line ≡ Ok c.in-Ok.head) k new) c.new-trace.ensures.rest c.in-Ok.ensures.ok) c.judged.ensures.fault

@@ -1,8 +1,8 @@
-use Rattle.std.proofs.Common.{◌≡◌, ◌+◌, ℕ, None, Ok, sym, subst, arith, rules}
+use Rattle.std.proofs.Common.{◌≡◌, ◌+◌, ℕ, None, Ok, sym, subst, ◌∙◌, arith, rules}
 use Rattle.std.proofs.lemmas.Result.{err_from_is_err_and}
 use Rattle.nvme_arbiter.specs.History.{History}
 use Rattle.nvme_arbiter.specs.Standing.{StandsAt}
-use Rattle.nvme_trace.specs.Lines.{unread, TakesLine, HasNoLine}
+use Rattle.nvme_trace.specs.Lines.{TakesLine, HasNoLine}
 use Rattle.nvme_trace.specs.Format.{event_of_line, event_view}
 use Rattle.nvme_trace.specs.Judged.{IsObserved, IsLawfulEvent, picks_of}
 use Rattle.nvme_trace.specs.Checks.{JudgedUpTo}
@@ -12,7 +12,7 @@ use Rattle.nvme_trace.proofs.checking.judged.Goals as goal
 
 pub loop-init : goal.loop-init
 loop-init g c =
-    let new = unread g.R.Read.remaining c.args.trace.now.lines in
+    let new = c.args.trace.now.rest in
     record {
       judged = λ text t. subst (λ (n : ℕ). JudgedUpTo text new n c.args.head c.new-judge.result) (sym c.requires.number) (judged_head text new c.args.head c.new-judge.result t c.new-judge.ensures.stands c.new-judge.ensures.picks);
       number = c.requires.number;
@@ -26,24 +26,25 @@ returns-in_err-event-clause-fault g c =
 
 pub returns-in_default-clause-answer : goal.returns-in_default-clause-answer
 returns-in_default-clause-answer g c = λ text t.
-    let old = unread g.R.Read.remaining c.loop.trace.lines in
+    let old = c.loop.trace.rest in
     let none : HasNoLine old = search rules in
     judged_all text old c.loop.trace.number c.args.head c.loop.judge c.picks.result (c.loop.invariant.judged text t) none c.picks.ensures
 
 pub returns-in-Some-judge-clause-answer : goal.returns-in-Some-judge-clause-answer
 returns-in-Some-judge-clause-answer g c = λ text t.
-    let old = unread g.R.Read.remaining c.loop.trace.lines in
-    let new = unread g.R.Read.remaining c.event.new.self.lines in
+    let old = c.loop.trace.rest in
+    let new = c.event.new.self.rest in
     let event = event_view c.in-Some.event in
     let took : TakesLine (λ line. event_of_line line ≡ Ok event) old new = search rules in
     let next : c.event.new.self.number ≡ c.loop.trace.number + 1 = search rules in
-    judged_finding text old new c.loop.trace.number c.event.new.self.number c.args.head c.loop.judge event c.in-Some-judge.finding (c.loop.invariant.judged text t) took
-    (λ past s. c.in-Some-judge.ensures.lawful c.args.head.mechanism c.args.head.settings past s) next
+    let told : c.number.result ≡ c.loop.trace.number + 1 = c.number.ensures ∙ next in
+    judged_finding text old new c.loop.trace.number c.number.result c.args.head c.loop.judge event c.in-Some-judge.finding (c.loop.invariant.judged text t) took
+    (λ past s. c.in-Some-judge.ensures.lawful c.args.head.mechanism c.args.head.settings past s) told
 
 pub loop-preserved : goal.loop-preserved
 loop-preserved g c =
-    let old = unread g.R.Read.remaining c.loop.trace.lines in
-    let new = unread g.R.Read.remaining c.event.new.self.lines in
+    let old = c.loop.trace.rest in
+    let new = c.event.new.self.rest in
     let event = event_view c.in-Some.event in
     let head = c.args.head in
     let took : TakesLine (λ line. event_of_line line ≡ Ok event) old new = search rules in

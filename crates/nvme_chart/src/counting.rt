@@ -1,12 +1,7 @@
 // What a trace shows in numbers.
-use crate::fault::{TraceError, WriteFault};
-use crate::lanes::{
-    CLASSES, IO_QUEUES, LANES, Watch, class_name, lane_of, lane_of_pick, mechanism_name,
-    queue_of_lane, show,
-};
-use crate::reading::{Head, TraceEvent};
-use crate::trace::Trace;
+use crate::lanes::{CLASSES, IO_QUEUES, LANES, Watch, lane_of, lane_of_pick, queue_of_lane, show};
 use nvme_arbiter::{Class, Mechanism, Pick, QUEUE_LIMIT, Seen, Settings};
+use nvme_trace::{Head, Trace, TraceError, TraceEvent, WriteFault, class_name, mechanism_name};
 use std::alloc::Global;
 use std::io::{self, Read, Write};
 

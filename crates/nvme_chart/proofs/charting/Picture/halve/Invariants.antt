@@ -1,5 +1,5 @@
 use Rattle.std.proofs.Common.{◌*◌, ◌≤◌, length}
-use Rattle.nvme_trace.proofs.charting.Picture.halve.Given as goal
+use Rattle.nvme_chart.proofs.charting.Picture.halve.Given as goal
 
 -- the columns stay as many
 abbrev pub invariant-loop-at : goal.invariant-loop-at

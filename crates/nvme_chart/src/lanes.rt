@@ -1,10 +1,8 @@
 // The rows that a trace shows: one for each queue and class in which it was seen.
 ghost use Rattle.std.specs.Prelude.{◌≡◌, ◌<◌, IfSome};
 
-use crate::fault::TraceError;
-use crate::reading::TraceEvent;
-use crate::trace::Trace;
-use nvme_arbiter::{Class, Mechanism, QUEUE_LIMIT, Seen};
+use nvme_arbiter::{Class, QUEUE_LIMIT, Seen};
+use nvme_trace::{Trace, TraceError, TraceEvent};
 use std::alloc::Global;
 use std::io::Read;
 
@@ -22,25 +20,6 @@ pub const CLASSES: [Class; 5] = [
     Class::Medium,
     Class::Low,
 ];
-
-/// The name of a class.
-pub fn class_name(class: Class) -> &'static str {
-    match class {
-        Class::Admin => "admin",
-        Class::Urgent => "urgent",
-        Class::High => "high",
-        Class::Medium => "medium",
-        Class::Low => "low",
-    }
-}
-
-/// The name of a mechanism.
-pub fn mechanism_name(mechanism: Mechanism) -> &'static str {
-    match mechanism {
-        Mechanism::RoundRobin => "round-robin",
-        Mechanism::Weighted => "weighted",
-    }
-}
 
 // How many classes of I/O queues come before a class.
 fn rank(class: Class) -> Option<usize>
