@@ -1,1 +1,4 @@
 pub mod Faults
+pub mod Lines
+pub mod Playing
+pub mod Regions

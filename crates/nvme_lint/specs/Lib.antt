@@ -1,1 +1,4 @@
 pub mod Lints
+pub mod Places
+pub mod Warnings
+pub mod inside

@@ -1,5 +1,7 @@
 ghost use Rattle.std.specs.Prelude.{◌≡◌, IfOk, IfErr};
 ghost use Rattle.nvme_lint.specs.Lints.{IsLawful, IsToldAs, TellsFault};
+ghost use Rattle.nvme_lint.specs.Places.{IsPlaceIn, TellsPlace, place_behind};
+ghost use Rattle.nvme_lint.specs.Warnings.{AreWarningsOf};
 ghost use Rattle.nvme_lint.specs.declared.lints.LintError.TheVariants as told;
 
 use crate::fault::{Fault, Why};
@@ -31,12 +33,16 @@ impl From<AllocError> for LintError {
 }
 
 // The place and the cause in bytes that are not UTF-8, of which so many at the front are.
-fn in_bytes(front: &[u8]) -> (Place, Why) {
+fn in_bytes(front: &[u8]) -> (Place, Why)
+    ensures { result.0 ≡ place_behind front.now }
+{
     (behind(front), Why::NotUtf8)
 }
 
 // The place and the cause in a text that is no TOML document.
-fn in_text(text: &str, error: toml::de::Error) -> (Place, Why) {
+fn in_text(text: &str, error: toml::de::Error) -> (Place, Why)
+    ensures { IsPlaceIn text.now result.0 }
+{
     let start = error.span().map_or(0, |span| span.start);
     let bytes = text.as_bytes();
     let place = behind(&bytes[..start.min(bytes.len())]);
@@ -44,7 +50,9 @@ fn in_text(text: &str, error: toml::de::Error) -> (Place, Why) {
 }
 
 // The place and the cause of the first fault of a file.
-fn located(alloc: Global, bytes: &[u8], error: WorkloadError) -> Result<(Place, Why), AllocError> {
+fn located(alloc: Global, bytes: &[u8], error: WorkloadError) -> Result<(Place, Why), AllocError>
+    ensures { IfOk result (λ found. IsPlaceIn bytes.now found.0) }
+{
     let text = match std::str::from_utf8(bytes) {
         Ok(text) => text,
         Err(fault) => {
@@ -61,7 +69,8 @@ fn located(alloc: Global, bytes: &[u8], error: WorkloadError) -> Result<(Place, 
 
 // The first fault of a file, with its place.
 fn told(alloc: Global, bytes: &[u8], error: WorkloadError) -> LintError
-    ensures { IsToldAs error result }
+    ensures fault { IsToldAs error result }
+    ensures place { TellsPlace bytes.now result }
 {
     match located(alloc, bytes, error) {
         Ok((place, why)) => LintError::Fault(Fault { error, place, why }),
@@ -73,7 +82,9 @@ fn told(alloc: Global, bytes: &[u8], error: WorkloadError) -> LintError
 /// that of `nvme_workload::read`, with its place and what was expected there. It reads the file as `read` does.
 pub fn lint(alloc: Global, bytes: &[u8]) -> Result<Vec<Warning>, LintError>
     ensures lawful { IfOk result (λ _. IsLawful bytes.now) }
+    ensures warnings { IfOk result (λ ws. AreWarningsOf bytes.now ws.items) }
     ensures fault { IfErr result (TellsFault bytes.now) }
+    ensures place { IfErr result (TellsPlace bytes.now) }
 {
     match read(alloc, bytes) {
         Ok(workload) => Ok(warnings_of(alloc, &workload)?),

@@ -1,3 +1,6 @@
+ghost use Rattle.std.specs.Prelude.{◌≡◌};
+ghost use Rattle.nvme_lint.specs.Places.{begins_character, place_behind};
+
 use std::fmt;
 
 /// Where a fault of a workload file stands. Regions of a kind and items of a script count from 0.
@@ -27,16 +30,25 @@ impl fmt::Display for Place {
     }
 }
 
+// Whether a byte begins a character, or goes on with one.
+fn begins_character(byte: u8) -> bool
+    ensures { result ≡ begins_character byte }
+{
+    byte < 0x80 || 0xc0 <= byte
+}
+
 /// The place of the text that stands right behind these bytes.
-pub(crate) fn behind(bytes: &[u8]) -> Place {
+pub(crate) fn behind(bytes: &[u8]) -> Place
+    ensures { result ≡ place_behind bytes.now }
+{
     let mut line = 1usize;
     let mut column = 1usize;
     for byte in bytes {
         if *byte == b'\n' {
-            line = line.saturating_add(1);
+            line += 1;
             column = 1;
-        } else if *byte & 0xc0 != 0x80 {
-            column = column.saturating_add(1);
+        } else if begins_character(*byte) {
+            column += 1;
         }
     }
     Place::Text { line, column }

@@ -1,5 +1,8 @@
 // Where the first fault of a workload file stands. No fault stands before it, so that it is found as the first place, in
 // the order of reading, at which this very fault stands.
+ghost use Rattle.std.specs.Prelude.{IfOk, IfSome};
+ghost use Rattle.nvme_lint.specs.inside.Tables.{IsOfTable};
+
 use crate::fault::Why;
 use crate::place::Place;
 use crate::tables::{COMPLETION, ITEM, SUBMISSION, TOP, is_good, items_at, unknown_key};
@@ -46,7 +49,9 @@ fn script_of(item: &Value) -> &[Value] {
 }
 
 // The first place of the submission regions at which it stands.
-fn in_submissions(items: &[Value], fault: WorkloadError) -> Option<Place> {
+fn in_submissions(items: &[Value], fault: WorkloadError) -> Option<Place>
+    ensures { IfSome result IsOfTable }
+{
     for (region, entry) in items.iter().enumerate() {
         if stands_at(entry, Key::Submission, SUBMISSION, fault) {
             return Some(Place::Submission(region));
@@ -59,7 +64,9 @@ fn in_submissions(items: &[Value], fault: WorkloadError) -> Option<Place> {
 }
 
 // The first completion region at which it stands.
-fn in_completions(items: &[Value], fault: WorkloadError) -> Option<Place> {
+fn in_completions(items: &[Value], fault: WorkloadError) -> Option<Place>
+    ensures { IfSome result IsOfTable }
+{
     let found = items
         .iter()
         .position(|item| stands_at(item, Key::Completion, COMPLETION, fault));
@@ -91,7 +98,9 @@ fn past_limit(script: &[Value], before: usize) -> Result<usize, usize> {
 }
 
 // The item of a script with which all scripts have too many commands.
-fn past_limit_in(submissions: &[Value]) -> Option<Place> {
+fn past_limit_in(submissions: &[Value]) -> Option<Place>
+    ensures { IfSome result IsOfTable }
+{
     let mut commands = 0;
     for (region, entry) in submissions.iter().enumerate() {
         match past_limit(script_of(entry), commands) {
@@ -103,7 +112,9 @@ fn past_limit_in(submissions: &[Value]) -> Option<Place> {
 }
 
 // The first place at which there are too many, and of what.
-fn of_limit(table: &Table) -> (Place, Key) {
+fn of_limit(table: &Table) -> (Place, Key)
+    ensures { IsOfTable result.0 }
+{
     let submissions = items_at(table, Key::Submission);
     if items_at(table, Key::Namespaces).len() > MAX_NAMESPACES {
         return (Place::Top, Key::Namespaces);
@@ -130,7 +141,9 @@ fn push_addresses(addresses: &mut Vec<Option<i64>>, items: &[Value]) -> Result<(
 }
 
 // The first region whose address is that of a region before it.
-fn of_repeated(alloc: Global, table: &Table) -> Result<Place, AllocError> {
+fn of_repeated(alloc: Global, table: &Table) -> Result<Place, AllocError>
+    ensures { IfOk result IsOfTable }
+{
     let submissions = items_at(table, Key::Submission);
     let mut addresses = Vec::new(alloc);
     push_addresses(&mut addresses, submissions)?;
@@ -149,7 +162,9 @@ fn of_repeated(alloc: Global, table: &Table) -> Result<Place, AllocError> {
 }
 
 // The first table in which it stands. It stands in one; if it stood in none, the file's own table were told.
-fn table_of(table: &Table, fault: WorkloadError) -> Place {
+fn table_of(table: &Table, fault: WorkloadError) -> Place
+    ensures { IsOfTable result }
+{
     if stands_in(table, TOP, fault) {
         return Place::Top;
     }
@@ -200,7 +215,9 @@ pub(crate) fn place_of(
     alloc: Global,
     table: &Table,
     fault: WorkloadError,
-) -> Result<(Place, Why), AllocError> {
+) -> Result<(Place, Why), AllocError>
+    ensures { IfOk result (λ found. IsOfTable found.0) }
+{
     match fault {
         WorkloadError::Missing(key) | WorkloadError::Bad(key) => {
             Ok((table_of(table, fault), Why::Value(key)))

@@ -1,134 +1,192 @@
 // What of a lawful workload comes to nothing. The admin commands are played in their order: a front begins none before
 // the deletion of the one before it is finished, so that their answers depend on nothing else.
+ghost use Rattle.std.specs.Prelude.{◌≡◌, ℕ, ◌≤◌, ◌++◌, [], length, map, IfOk, OnOk};
+ghost use Rattle.std.specs.List.{All};
+ghost use Rattle.nvme_entry.specs.AdminCommand.{qid_of};
+ghost use Rattle.nvme_admin.specs.Checks.{is_success};
+ghost use Rattle.nvme_admin.specs.declared.bounds.TheConstants.{MAX_REGIONS};
+ghost use Rattle.nvme_admin.specs.History.{Start, TableHistory};
+ghost use Rattle.nvme_admin.specs.Accepted.{status_of};
+ghost use Rattle.nvme_admin.specs.Standing.{StandsAt, used_at};
+ghost use Rattle.nvme_workload.specs.Plan.{plan_of};
+ghost use Rattle.nvme_workload.specs.Sound.{IsSound, AreSlots, AreSubmissions, AreApart, IsRegionCount};
+ghost use Rattle.nvme_lint.specs.Warnings.{start_of, with_sqs, with_cqs, first_history, history_after, history_of, refusals_of, unused_sqs, unused_cqs, warning_unless, warnings_of};
+ghost use Rattle.nvme_lint.specs.inside.Regions.{sq_site, cq_site};
+
 use crate::warning::{Kind, Warning};
 use nvme_admin::{MAX_REGIONS, Table, Verdict};
 use nvme_entry::{Sqe, Status};
-use nvme_workload::Workload;
+use nvme_workload::{CqPlan, SqPlan, Workload};
 use std::alloc::{AllocError, Global};
 
-// The queue table while the admin commands are played, and on which regions queues were created. Those of the admin
-// queue are there from the start.
-#[derive(Drop)]
-struct Play {
-    table: Table,
-    sqs: [bool; MAX_REGIONS],
-    cqs: [bool; MAX_REGIONS],
-}
-
-impl Play {
-    // Before the first command.
-    fn new(workload: &Workload) -> Play {
-        let mut table = Table::new(workload.limits, workload.settings);
-        for region in workload.submissions.as_slice() {
-            let _ = table.add_sq_region(region.address, region.slots);
+// Adds the submission regions of a workload to a table without regions.
+fn add_sqs(table: &mut Table, plans: &[SqPlan])
+    requires first { (table.old.sq_regions ≡ []) × (table.old.cq_regions ≡ []) }
+    requires regions { AreSubmissions plans.now }
+    requires few { IsRegionCount (length plans.now) }
+    ensures stands { (start : Start) (h : TableHistory) → StandsAt start table.old h → StandsAt start table.new (with_sqs h plans.now) }
+    ensures sqs { table.new.sq_regions ≡ map sq_site plans.now }
+    ensures cqs { table.new.cq_regions ≡ [] }
+{
+    for plan in plans {
+        match table.add_sq_region(plan.address, plan.slots) {
+            Ok(_) => {}
+            Err(_) => unreachable!(),
         }
-        for region in workload.completions.as_slice() {
-            let _ = table.add_cq_region(region.address, region.slots);
-        }
-        let mut sqs = [false; MAX_REGIONS];
-        let mut cqs = [false; MAX_REGIONS];
-        sqs[0] = true;
-        cqs[0] = true;
-        Play { table, sqs, cqs }
-    }
-
-    // Finishes the deletion of a queue.
-    fn finish(&mut self, qid: u16) {
-        if self.table.sq(qid).is_some_and(|queue| queue.closing) {
-            self.table.finish_delete(qid);
-        }
-    }
-
-    // Plays one command more, and gives its status.
-    fn step(&mut self, command: &Sqe) -> Status {
-        match self.table.apply(command) {
-            Verdict::Done(status, _) => return status,
-            Verdict::OpenSq { region, .. } => mark(&mut self.sqs, region),
-            Verdict::OpenCq { region, .. } => mark(&mut self.cqs, region),
-            Verdict::BeginDelete { qid } => self.finish(qid),
-            Verdict::CloseCq { .. } | Verdict::SetArbitration(_) => {}
-        }
-        Status::SUCCESS
     }
 }
 
-// Notes that a queue was created on a region.
-fn mark(used: &mut [bool; MAX_REGIONS], region: u8) {
-    if let Some(place) = used.get_mut(usize::from(region)) {
-        *place = true;
+// Adds the completion regions of a workload after its submission regions.
+fn add_cqs(table: &mut Table, sqs: &[SqPlan], plans: &[CqPlan])
+    requires first { (table.old.sq_regions ≡ map sq_site sqs.now) × (table.old.cq_regions ≡ []) }
+    requires slots { All (λ (c : CqPlan). AreSlots c.slots) plans.now }
+    requires apart { AreApart sqs.now plans.now }
+    requires few { IsRegionCount (length plans.now) }
+    ensures stands { (start : Start) (h : TableHistory) → StandsAt start table.old h → StandsAt start table.new (with_cqs h plans.now) }
+{
+    for plan in plans {
+        match table.add_cq_region(plan.address, plan.slots) {
+            Ok(_) => {}
+            Err(_) => unreachable!(),
+        }
     }
 }
 
-// Whether a queue was created on a region.
-fn is_used(used: &[bool; MAX_REGIONS], region: usize) -> bool {
-    used.get(region).copied().unwrap_or(true)
+// The queue table before the first admin command.
+fn first_table(workload: &Workload) -> Table
+    requires sound { IsSound (plan_of workload.now) }
+    ensures stands { StandsAt (start_of (plan_of workload.now)) result (first_history (plan_of workload.now)) }
+{
+    let mut table = Table::new(workload.limits, workload.settings);
+    add_sqs(&mut table, workload.submissions.as_slice());
+    add_cqs(
+        &mut table,
+        workload.submissions.as_slice(),
+        workload.completions.as_slice(),
+    );
+    table
 }
 
-// Tells the commands that are refused.
+// Plays one command more, and gives its status.
+fn play(table: &mut Table, entry: &Sqe) -> Status
+    requires stands { (start : Start) × (h : TableHistory) × StandsAt start table.old h }
+    ensures status { (start : Start) (h : TableHistory) → StandsAt start table.old h → result ≡ status_of start h entry.now }
+    ensures stands { (start : Start) (h : TableHistory) → StandsAt start table.old h → StandsAt start table.new (history_after start h entry.now) }
+{
+    match table.apply(entry) {
+        Verdict::Done(status, _) => status,
+        Verdict::BeginDelete { qid } => {
+            table.finish_delete(qid);
+            Status::SUCCESS
+        }
+        _ => Status::SUCCESS,
+    }
+}
+
+// The identifier of a queue that an admin command names.
+fn qid_of(entry: &Sqe) -> u16
+    ensures { result ≡ qid_of entry.now }
+{
+    (entry.cdw10 % 0x1_0000) as u16
+}
+
+// Whether a command was accepted.
+fn is_success(status: Status) -> bool
+    ensures { result ≡ is_success status }
+{
+    status == Status::SUCCESS
+}
+
+// Tells a warning, unless all is well.
+fn push_unless(
+    warnings: &mut Vec<Warning>,
+    is_well: bool,
+    warning: Warning,
+) -> Result<(), AllocError>
+    ensures told { OnOk result (warnings.new.items ≡ warnings.old.items ++ warning_unless is_well warning) }
+{
+    if !is_well {
+        warnings.push(warning)?;
+    }
+    Ok(())
+}
+
+// Plays the admin commands, and tells those that are refused.
 fn push_refused(
     warnings: &mut Vec<Warning>,
-    play: &mut Play,
+    table: &mut Table,
     script: &[Sqe],
-) -> Result<(), AllocError> {
+) -> Result<(), AllocError>
+    requires stands { (start : Start) × (h : TableHistory) × StandsAt start table.old h }
+    ensures told { OnOk result ((start : Start) (h : TableHistory) → StandsAt start table.old h → warnings.new.items ≡ warnings.old.items ++ refusals_of start h 0 script.now) }
+    ensures stands { OnOk result ((start : Start) (h : TableHistory) → StandsAt start table.old h → StandsAt start table.new (history_of start h script.now)) }
+{
     for (command, entry) in script.iter().enumerate() {
-        let status = play.step(entry);
-        if status != Status::SUCCESS {
-            warnings.push(Warning::Refused {
-                command,
-                opcode: entry.opcode,
-                qid: (entry.cdw10 % 0x1_0000) as u16,
-                status,
-            })?;
-        }
+        let status = play(table, entry);
+        let refused = Warning::Refused {
+            command,
+            opcode: entry.opcode,
+            qid: qid_of(entry),
+            status,
+        };
+        push_unless(warnings, is_success(status), refused)?;
     }
     Ok(())
 }
 
-// Tells the submission regions that no queue is created on.
+// Tells the submission regions that no queue was created on.
 fn push_unused_sqs(
     warnings: &mut Vec<Warning>,
-    play: &Play,
-    workload: &Workload,
-) -> Result<(), AllocError> {
-    for (region, plan) in workload.submissions.as_slice().iter().enumerate() {
-        if !is_used(&play.sqs, region) {
-            warnings.push(Warning::Unused {
-                kind: Kind::Submission,
-                region,
-                commands: plan.script.as_slice().len(),
-            })?;
-        }
+    used: &[bool; MAX_REGIONS],
+    plans: &[SqPlan],
+) -> Result<(), AllocError>
+    requires few { length plans.now ≤ MAX_REGIONS }
+    ensures told { OnOk result (warnings.new.items ≡ warnings.old.items ++ unused_sqs (used_at used.now) 0 plans.now) }
+{
+    for (region, plan) in plans.iter().enumerate() {
+        let unused = Warning::Unused {
+            kind: Kind::Submission,
+            region,
+            commands: plan.script.as_slice().len(),
+        };
+        push_unless(warnings, used[region], unused)?;
     }
     Ok(())
 }
 
-// Tells the completion regions that no queue is created on.
+// Tells the completion regions that no queue was created on.
 fn push_unused_cqs(
     warnings: &mut Vec<Warning>,
-    play: &Play,
-    workload: &Workload,
-) -> Result<(), AllocError> {
-    for region in 0..workload.completions.as_slice().len() {
-        if !is_used(&play.cqs, region) {
-            warnings.push(Warning::Unused {
-                kind: Kind::Completion,
-                region,
-                commands: 0,
-            })?;
-        }
+    used: &[bool; MAX_REGIONS],
+    plans: &[CqPlan],
+) -> Result<(), AllocError>
+    requires few { length plans.now ≤ MAX_REGIONS }
+    ensures told { OnOk result (warnings.new.items ≡ warnings.old.items ++ unused_cqs (used_at used.now) 0 plans.now) }
+{
+    for (region, _) in plans.iter().enumerate() {
+        let unused = Warning::Unused {
+            kind: Kind::Completion,
+            region,
+            commands: 0,
+        };
+        push_unless(warnings, used[region], unused)?;
     }
     Ok(())
 }
 
 /// What of a workload comes to nothing: first the admin commands that are refused, in order, then the regions that no
 /// queue is created on, submission regions first.
-pub(crate) fn warnings_of(alloc: Global, workload: &Workload) -> Result<Vec<Warning>, AllocError> {
+pub(crate) fn warnings_of(alloc: Global, workload: &Workload) -> Result<Vec<Warning>, AllocError>
+    requires sound { IsSound (plan_of workload.now) }
+    ensures told { IfOk result (λ ws. ws.items ≡ warnings_of (plan_of workload.now)) }
+{
+    let submissions = workload.submissions.as_slice();
+    let completions = workload.completions.as_slice();
     let mut warnings = Vec::new(alloc);
-    let mut play = Play::new(workload);
-    if let Some(admin) = workload.submissions.as_slice().first() {
-        push_refused(&mut warnings, &mut play, admin.script.as_slice())?;
-    }
-    push_unused_sqs(&mut warnings, &play, workload)?;
-    push_unused_cqs(&mut warnings, &play, workload)?;
+    let mut table = first_table(workload);
+    push_refused(&mut warnings, &mut table, submissions[0].script.as_slice())?;
+    let parts = table.into_parts();
+    push_unused_sqs(&mut warnings, &parts.sq_used, submissions)?;
+    push_unused_cqs(&mut warnings, &parts.cq_used, completions)?;
     Ok(warnings)
 }

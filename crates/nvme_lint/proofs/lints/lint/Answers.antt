@@ -7,4 +7,4 @@ use Rattle.nvme_lint.proofs.lints.lint.Goals as goal
 pub returns-in-Err : goal.returns-in-Err
 returns-in-Err c =
     let other : c.in-Err.error ≡ why.NoMemory → ⊥ = search rules in
-    record { lawful = tt; fault = tells c.args.bytes.now c.in-Err.error c.told.result other c.in-Err.ensures.value c.told.ensures }
+    record { lawful = tt; warnings = tt; place = c.told.ensures.place; fault = tells c.args.bytes.now c.in-Err.error c.told.result other c.in-Err.ensures.value c.told.ensures.fault }

@@ -1,0 +1,41 @@
+-- Places of a text, by looking back from them. (profile)
+use Rattle.std.specs.Prelude.{◌≡◌, ℕ, ◌+◌, ◌≤◌, ◌==◌, ◌||◌, Bool, not, nat_lt, nat_le, List, length, take, reverse}
+use Rattle.std.specs.List.{count_by, take_while}
+use Rattle.nvme_lint.specs.declared.place.Place.{Place}
+use Rattle.nvme_lint.specs.declared.place.Place.TheVariants.{Text}
+use Rattle.nvme_lint.specs.declared.lints.LintError.{LintError}
+use Rattle.nvme_lint.specs.declared.lints.LintError.TheVariants as told
+
+-- a byte that ends a line
+abbrev pub is_newline : ℕ → Bool
+is_newline byte = byte == 0x0a
+
+-- a byte that begins a character, which those from 80h to BFh go on with (UTF-8)
+abbrev pub begins_character : ℕ → Bool
+begins_character byte = nat_lt byte 0x80 || nat_le 0xc0 byte
+
+-- the number of the line behind these bytes: a line more than newlines
+abbrev pub line_behind : List ℕ → ℕ
+line_behind bytes = count_by is_newline bytes + 1
+
+-- the bytes back to the last newline, the last one first
+abbrev pub line_back : List ℕ → List ℕ
+line_back bytes = take_while (λ byte. not (is_newline byte)) (reverse bytes)
+
+-- the number of the column behind these bytes: a column more than characters since the last newline
+abbrev pub column_behind : List ℕ → ℕ
+column_behind bytes = count_by begins_character (line_back bytes) + 1
+
+-- the place behind these bytes
+abbrev pub place_behind : List ℕ → Place
+place_behind bytes = Text (line_behind bytes) (column_behind bytes)
+
+-- a place of a text is that behind some of its first bytes, and every other one that of a table
+abbrev pub IsPlaceIn : List ℕ → Place → Type 0
+IsPlaceIn bytes (Text line column) = (count : ℕ) × (count ≤ length bytes) × (Text line column ≡ place_behind (take count bytes))
+IsPlaceIn bytes place = Unit {0}
+
+-- a fault is told at a place of these bytes
+abbrev pub TellsPlace : List ℕ → LintError → Type 0
+TellsPlace bytes (told.Fault f) = IsPlaceIn bytes f.place
+TellsPlace bytes told.NoMemory = Unit {0}
