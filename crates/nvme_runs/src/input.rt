@@ -46,6 +46,7 @@ pub fn take_input<R: Read + Drop>(alloc: Global, reader: R) -> Result<Vec<u8>, I
 fn taken<R: Read>(alloc: Global, reader: &mut Counted<R>) -> Result<Vec<u8>, InputError>
     requires reads { reader.old.reads ≡ 0 }
     requires given { reader.old.given ≡ 0 }
+    requires interruptions { reader.old.interruptions ≡ 0 }
     requires failed { reader.old.failed ≡ false }
     ensures reads { reader.new.reads ≤ MAX_READS }
     ensures whole { IfOk result (λ bytes. IfSome (R.remaining reader.old.reader) (λ rest. bytes.items ≡ rest)) }
@@ -54,6 +55,7 @@ fn taken<R: Read>(alloc: Global, reader: &mut Counted<R>) -> Result<Vec<u8>, Inp
     ensures given { IfSome (R.remaining reader.old.reader) (λ rest. reader.new.given ≤ length rest) }
     ensures failed { reader.new.failed ≡ true → IsErrOf result InputError.Read }
     ensures read { IsErrOf result InputError.Read → (reader.new.failed ≡ true) ⊎ (reader.new.reads ≡ MAX_READS) }
+    ensures no_memory { IsErrOf result InputError.NoMemory → 0 < reader.new.given }
 {
     let mut bytes = Vec::new(alloc);
     let mut chunk = [0; CHUNK];

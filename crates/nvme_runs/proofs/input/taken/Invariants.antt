@@ -8,6 +8,7 @@ invariant-loop g l = record {
   taken : Consumes (g.R.Read.remaining l.fn.reader.reader) (g.R.Read.remaining l.reader.reader) l.bytes.items;
   short : length l.bytes.items ≤ 16777216;
   reads : l.reader.reads ≡ l.counter;
+  interruptions : l.reader.interruptions ≤ l.counter;
   given : l.reader.given ≡ length l.bytes.items;
   failed : l.reader.failed ≡ false;
 }
