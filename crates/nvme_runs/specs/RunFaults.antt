@@ -2,6 +2,9 @@
 use Rattle.std.specs.Prelude.{◌≡◌, ◌≢◌, ℕ, false, List, [], Ok, Err}
 use Rattle.nvme_workload.specs.Plan.{Plan, workload_of}
 use Rattle.nvme_workload.specs.declared.error.WorkloadError.TheVariants as why
+use Rattle.std.specs.List.{All}
+use Rattle.nvme_pool.specs.Pool.{IsFreshEnd}
+use Rattle.nvme_log.specs.Limits.{most_events}
 use Rattle.nvme_front.specs.View.{FrontView}
 use Rattle.nvme_front.specs.declared.front.FrontError.{FrontError}
 use Rattle.nvme_front.specs.declared.front.FrontError.TheVariants as front
@@ -27,12 +30,16 @@ IsTextFault text mode (fault.Workload w) = workload_of text ≡ Err w
 IsTextFault text mode (fault.TooLong r) = IsTooLong text mode r
 IsTextFault text mode e = ⊥
 
--- a turn of a front failed so, which was made for a plan and until then had only gone on
+-- a turn of a front failed so, which has the rules and the limit of a front that is made for a plan, and until its turns had logged nothing,
+-- handed no job and gained no result
 pub record FrontFails (plan : Plan) (e : FrontError) : Type 0 where
   pub given : FrontView
   pub rules : given.rules ≡ rules_for plan
+  pub limit : given.limit ≡ most_events
   pub log : given.log ≡ []
   pub not_late : given.late ≡ false
+  pub none_handed : given.hands.seat.handed ≡ []
+  pub none_gained : All IsFreshEnd given.hands.seat.ends
   pub fails : TurnFails given e
 
 -- the faults that come while a workload runs, or after it. Want of memory is told as such
