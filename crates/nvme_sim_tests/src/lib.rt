@@ -24,6 +24,8 @@ mod starved;
 #[cfg(test)]
 mod streams;
 #[cfg(test)]
+mod tallies;
+#[cfg(test)]
 mod wanted;
 #[cfg(test)]
 mod workloads;
