@@ -1,5 +1,13 @@
 // A picture of a trace.
-use crate::lanes::{CLASSES, LANES, Watch, lane_of, lane_of_pick, queue_of_lane, show};
+ghost use Rattle.std.specs.Prelude.{◌≡◌, [], ◌∷◌, OnOk, IfOk, IfErr, IfSome};
+ghost use Rattle.nvme_arbiter.specs.History.{History, Picked};
+ghost use Rattle.nvme_trace.specs.declared.reading.Head.{Head};
+ghost use Rattle.nvme_trace.specs.declared.fault.TraceError.TheVariants as fault;
+ghost use Rattle.nvme_chart.specs.Shown.{IsShown, IsReadFault};
+ghost use Rattle.nvme_chart.specs.Counted.{IsPictured};
+
+use crate::lanes::{CLASSES, LANES, lane_of, lane_of_pick, queue_of_lane};
+use crate::watching::{Watch, more, show};
 use nvme_arbiter::{Class, Mechanism, Pick, Seen};
 use nvme_trace::{Head, Trace, TraceError, TraceEvent, WriteFault, class_name, mechanism_name};
 use std::alloc::Global;
@@ -52,14 +60,20 @@ pub struct Picture {
     mechanism: Mechanism,
     picks: u64,
     commands: u64,
-    columns: Vec<Column>,
-    // How many picks a column sums up, and how many the last one has.
-    step: u64,
-    filled: u64,
+    columns: Columns,
     // The rows that were seen.
     seen: [bool; LANES],
     // The settings changed after the latest pick.
     set: bool,
+}
+
+// The columns of a picture.
+#[derive(Drop)]
+struct Columns {
+    all: Vec<Column>,
+    // How many picks a column sums up, and how many the last one has.
+    step: u64,
+    filled: u64,
 }
 
 // The colour of a class.
@@ -73,73 +87,97 @@ fn colour(class: Class) -> &'static str {
     }
 }
 
-impl Picture {
-    // Nothing was picked.
-    fn new(alloc: Global, head: Head) -> Picture {
-        Picture {
-            mechanism: head.mechanism,
-            picks: 0,
-            commands: 0,
-            columns: Vec::new(alloc),
-            step: 1,
-            filled: 0,
-            seen: [false; LANES],
-            set: false,
+// Notes which rows were seen.
+fn note_rows(rows: &mut [bool; LANES], seen: &[Seen]) {
+    for queue in seen {
+        if let Some(lane) = lane_of(queue) {
+            rows[lane] = true;
         }
     }
+}
 
+impl Columns {
     // Sums up the columns by twos.
     fn halve(&mut self) {
-        let half = self.columns.len() / 2;
+        let half = self.all.len() / 2;
         for at in 0..half {
-            let mut sum = self.columns[2 * at];
-            sum.add(&self.columns[2 * at + 1]);
-            self.columns[at] = sum;
+            let mut sum = self.all[2 * at];
+            sum.add(&self.all[2 * at + 1]);
+            self.all[at] = sum;
         }
-        self.columns.truncate(half);
+        self.all.truncate(half);
         self.step = self.step.saturating_mul(2);
         self.filled = self.step;
     }
 
     // Makes room for one pick in the last column.
-    fn make_room(&mut self) -> Result<(), TraceError> {
-        if !self.columns.is_empty() && self.filled < self.step {
+    fn make_room(&mut self) -> Result<(), TraceError>
+        ensures { IfErr result (λ e. e ≡ fault.NoMemory) }
+    {
+        if !self.all.is_empty() && self.filled < self.step {
             return Ok(());
         }
-        if self.columns.len() >= COLUMNS {
+        if self.all.len() >= COLUMNS {
             self.halve();
         }
-        self.columns.push(EMPTY)?;
+        self.all.push(EMPTY)?;
         self.filled = 0;
         Ok(())
     }
 
-    // Adds a pick.
-    fn note_pick(&mut self, seen: &[Seen], pick: &Pick) -> Result<(), TraceError> {
+    // Adds a pick, before which the settings changed or not.
+    fn add(&mut self, seen: &[Seen], pick: &Pick, set: bool) -> Result<(), TraceError>
+        ensures { IfErr result (λ e. e ≡ fault.NoMemory) }
+    {
         self.make_room()?;
-        for queue in seen {
-            if let Some(lane) = lane_of(queue) {
-                self.seen[lane] = true;
-            }
-        }
-        self.picks = self.picks.saturating_add(1);
-        self.commands = self.commands.saturating_add(u64::from(pick.n));
         self.filled = self.filled.saturating_add(1);
-        if let Some(column) = self.columns.last_mut() {
+        if let Some(column) = self.all.last_mut() {
             column.fresh |= pick.fresh;
-            column.set |= self.set;
+            column.set |= set;
             if let Some(lane) = lane_of_pick(seen, pick.qid) {
                 let commands = column.commands[lane];
                 column.commands[lane] = commands.saturating_add(u32::from(pick.n));
             }
         }
+        Ok(())
+    }
+}
+
+impl Picture {
+    // Nothing was picked.
+    fn new(alloc: Global, head: Head) -> Picture
+        ensures { IsPictured head [] result }
+    {
+        Picture {
+            mechanism: head.mechanism,
+            picks: 0,
+            commands: 0,
+            columns: Columns {
+                all: Vec::new(alloc),
+                step: 1,
+                filled: 0,
+            },
+            seen: [false; LANES],
+            set: false,
+        }
+    }
+
+    // Adds a pick.
+    fn note_pick(&mut self, seen: &[Seen], pick: &Pick) -> Result<(), TraceError>
+        ensures stands { OnOk result ((head : Head) (past : History) → IsPictured head past self.old → IsPictured head (Picked seen.now pick.now ∷ past) self.new) }
+        ensures fault { IfErr result (λ e. e ≡ fault.NoMemory) }
+    {
+        self.columns.add(seen, pick, self.set)?;
+        note_rows(&mut self.seen, seen);
+        self.picks = more(self.picks, 1);
+        self.commands = more(self.commands, pick.n);
         self.set = false;
         Ok(())
     }
 
     // How many pixels a column is wide.
     fn column_width(&self) -> u64 {
-        let columns = self.columns.len() as u64;
+        let columns = self.columns.all.len() as u64;
         if columns == 0 {
             return WIDE;
         }
@@ -170,7 +208,7 @@ impl Picture {
     // The most commands of a bar, at least 1.
     fn most(&self) -> u64 {
         let mut most = 1;
-        for column in &self.columns {
+        for column in &self.columns.all {
             for commands in &column.commands {
                 most = most.max(u64::from(*commands));
             }
@@ -182,7 +220,7 @@ impl Picture {
     fn put_bars<W: Write>(&self, lane: usize, y: u64, most: u64, writer: &mut W) -> io::Result<()> {
         let width = self.column_width();
         let bar = if width > 2 { width - 1 } else { width };
-        for (at, column) in self.columns.iter().enumerate() {
+        for (at, column) in self.columns.all.iter().enumerate() {
             let commands = column.commands.get(lane).copied().unwrap_or(0);
             if commands > 0 {
                 let long = (u64::from(commands).saturating_mul(BAR) / most.max(1)).max(2);
@@ -200,7 +238,7 @@ impl Picture {
     fn put_row<W: Write>(&self, lane: usize, y: u64, most: u64, writer: &mut W) -> io::Result<()> {
         let queue = queue_of_lane(lane);
         let (qid, class, fill) = (queue.qid, class_name(queue.class), colour(queue.class));
-        let (left, right) = (LEFT, self.left_of(self.columns.len()));
+        let (left, right) = (LEFT, self.left_of(self.columns.all.len()));
         let text = y.saturating_sub(12);
         writeln!(
             writer,
@@ -228,7 +266,7 @@ impl Picture {
     fn put_marks<W: Write>(&self, writer: &mut W) -> io::Result<()> {
         let bottom = self.bottom();
         let end = if self.column_width() > 4 { bottom } else { TOP };
-        for (at, column) in self.columns.iter().enumerate() {
+        for (at, column) in self.columns.all.iter().enumerate() {
             let x = self.left_of(at);
             if column.fresh {
                 writeln!(
@@ -261,10 +299,14 @@ impl Picture {
     fn put_numbers<W: Write>(&self, writer: &mut W) -> io::Result<()> {
         let y = self.bottom().saturating_add(18);
         let every = self.numbered().max(1);
-        for at in 0..self.columns.len() {
+        for at in 0..self.columns.all.len() {
             if at as u64 % every == 0 {
                 let x = self.left_of(at);
-                let pick = self.step.saturating_mul(at as u64).saturating_add(1);
+                let pick = self
+                    .columns
+                    .step
+                    .saturating_mul(at as u64)
+                    .saturating_add(1);
                 writeln!(writer, "<text x=\"{x}\" y=\"{y}\">{pick}</text>")?;
             }
         }
@@ -293,7 +335,12 @@ impl Picture {
     // Writes the title, and what a bar is.
     fn put_title<W: Write>(&self, writer: &mut W) -> io::Result<()> {
         let mechanism = mechanism_name(self.mechanism);
-        let (picks, commands, step, most) = (self.picks, self.commands, self.step, self.most());
+        let (picks, commands, step, most) = (
+            self.picks,
+            self.commands,
+            self.columns.step,
+            self.most(),
+        );
         writeln!(
             writer,
             "<text x=\"8\" y=\"22\" font-size=\"16\">{mechanism}: {picks} picks, {commands} commands</text>"
@@ -313,7 +360,10 @@ impl Picture {
 
     // Writes the whole picture.
     fn put_svg<W: Write>(&self, writer: &mut W) -> io::Result<()> {
-        let width = self.left_of(self.columns.len()).saturating_add(40).max(680);
+        let width = self
+            .left_of(self.columns.all.len())
+            .saturating_add(40)
+            .max(680);
         let height = self.bottom().saturating_add(32);
         writeln!(
             writer,
@@ -338,6 +388,8 @@ impl Picture {
 }
 
 impl Watch for Picture {
+    ghost stands = { λ head past picture. IsPictured head past picture };
+
     fn watch(&mut self, event: &TraceEvent) -> Result<(), TraceError> {
         match event {
             TraceEvent::Pick { seen, pick } => self.note_pick(seen, pick),
@@ -350,7 +402,10 @@ impl Watch for Picture {
 }
 
 /// A picture of a trace. It is read as a stream, and its picks are not judged.
-pub fn chart<R: Read + Drop>(alloc: Global, reader: R) -> Result<Picture, TraceError> {
+pub fn chart<R: Read + Drop>(alloc: Global, reader: R) -> Result<Picture, TraceError>
+    ensures pictured { IfOk result (λ picture. IfSome (R.remaining reader) (λ text. IsShown text (λ head past. IsPictured head past picture))) }
+    ensures fault { IfErr result (λ error. IfSome (R.remaining reader) (λ text. IsReadFault text error)) }
+{
     let mut trace = Trace::new(alloc, reader);
     let head = trace.head(alloc)?;
     let mut picture = Picture::new(alloc, head);

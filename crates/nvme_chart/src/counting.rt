@@ -1,5 +1,12 @@
 // What a trace shows in numbers.
-use crate::lanes::{CLASSES, IO_QUEUES, LANES, Watch, lane_of, lane_of_pick, queue_of_lane, show};
+ghost use Rattle.std.specs.Prelude.{[], ◌∷◌, IfOk, IfErr, IfSome};
+ghost use Rattle.nvme_arbiter.specs.History.{History, Picked, Changed};
+ghost use Rattle.nvme_trace.specs.declared.reading.Head.{Head};
+ghost use Rattle.nvme_chart.specs.Shown.{IsShown, IsReadFault};
+ghost use Rattle.nvme_chart.specs.Counted.{IsCounted};
+
+use crate::lanes::{CLASSES, IO_QUEUES, LANES, lane_of, lane_of_pick, queue_of_lane};
+use crate::watching::{Watch, more, show};
 use nvme_arbiter::{Class, Mechanism, Pick, QUEUE_LIMIT, Seen, Settings};
 use nvme_trace::{Head, Trace, TraceError, TraceEvent, WriteFault, class_name, mechanism_name};
 use std::alloc::Global;
@@ -35,11 +42,16 @@ pub struct Statistics {
     commands: u64,
     changes: u64,
     tallies: [Tally; LANES],
-    // The commands of High and Medium that were picked in a row while a low queue was ready and no admin or urgent one.
-    behind: u64,
+    behind: Behind,
+}
+
+// The commands of High and Medium that are picked in a row while a low queue is ready and no admin or urgent one.
+#[derive(Clone, Copy)]
+struct Behind {
+    commands: u64,
     // The most of them, and the bound of the settings then.
-    longest_behind: u64,
-    bound_behind: u64,
+    longest: u64,
+    bound: u64,
 }
 
 // Which rows are ready.
@@ -61,9 +73,87 @@ fn is_ready(seen: &[Seen], class: Class) -> bool {
         .any(|queue| queue.class == class && queue.count > 0)
 }
 
+// Counts what a pick takes of its row.
+fn count_pick(tallies: &mut [Tally; LANES], lane: usize, n: u16) {
+    if let Some(tally) = tallies.get_mut(lane) {
+        tally.picks = tally.picks.saturating_add(1);
+        tally.commands = tally.commands.saturating_add(u64::from(n));
+    }
+}
+
+// Notes which rows were seen.
+fn note_seen(tallies: &mut [Tally; LANES], seen: &[Seen]) {
+    for queue in seen {
+        if let Some(lane) = lane_of(queue)
+            && let Some(tally) = tallies.get_mut(lane)
+        {
+            tally.seen = true;
+        }
+    }
+}
+
+// Lets the ready rows wait that compete with the pick: all of them under round robin, those of its class else.
+fn wait(tallies: &mut [Tally; LANES], mechanism: Mechanism, seen: &[Seen], picked: usize) {
+    let class = queue_of_lane(picked).class;
+    let ready = ready_lanes(seen);
+    for (lane, tally) in tallies.iter_mut().enumerate() {
+        if mechanism == Mechanism::Weighted && queue_of_lane(lane).class != class {
+            continue;
+        }
+        if lane == picked || ready.get(lane) != Some(&true) {
+            tally.waits = 0;
+        } else {
+            tally.waits = tally.waits.saturating_add(1);
+            tally.longest = tally.longest.max(tally.waits);
+        }
+    }
+}
+
+// Lets all rows wait anew.
+fn wait_anew(tallies: &mut [Tally; LANES]) {
+    for tally in tallies.iter_mut() {
+        tally.waits = 0;
+    }
+}
+
+// Twice the weights of High and Medium.
+fn low_bound(settings: &Settings) -> u64 {
+    let high = settings.weight(Class::High);
+    let medium = settings.weight(Class::Medium);
+    2 * (u64::from(high) + u64::from(medium))
+}
+
+impl Behind {
+    // Lets the low level wait behind a pick of High or Medium under the weighted mechanism.
+    fn wait(
+        &mut self,
+        mechanism: Mechanism,
+        settings: &Settings,
+        seen: &[Seen],
+        class: Class,
+        n: u16,
+    ) {
+        let waits = mechanism == Mechanism::Weighted
+            && !is_ready(seen, Class::Admin)
+            && !is_ready(seen, Class::Urgent)
+            && is_ready(seen, Class::Low);
+        if !waits || class == Class::Low {
+            self.commands = 0;
+            return;
+        }
+        self.commands = self.commands.saturating_add(u64::from(n));
+        if self.commands > self.longest {
+            self.longest = self.commands;
+            self.bound = low_bound(settings);
+        }
+    }
+}
+
 impl Statistics {
     // Nothing was picked.
-    fn new(head: Head) -> Statistics {
+    fn new(head: Head) -> Statistics
+        ensures { IsCounted head [] result }
+    {
         Statistics {
             mechanism: head.mechanism,
             settings: head.settings,
@@ -71,92 +161,50 @@ impl Statistics {
             commands: 0,
             changes: 0,
             tallies: [NO_TALLY; LANES],
-            behind: 0,
-            longest_behind: 0,
-            bound_behind: 0,
+            behind: Behind {
+                commands: 0,
+                longest: 0,
+                bound: 0,
+            },
         }
     }
 
-    // Counts what a pick takes of its row.
-    fn count_pick(&mut self, lane: usize, n: u16) {
-        if let Some(tally) = self.tallies.get_mut(lane) {
-            tally.picks = tally.picks.saturating_add(1);
-            tally.commands = tally.commands.saturating_add(u64::from(n));
-        }
-    }
-
-    // Notes which rows were seen.
-    fn note_seen(&mut self, seen: &[Seen]) {
-        for queue in seen {
-            if let Some(lane) = lane_of(queue)
-                && let Some(tally) = self.tallies.get_mut(lane)
-            {
-                tally.seen = true;
-            }
-        }
-    }
-
-    // Lets the ready rows wait that compete with the pick: all of them under round robin, those of its class else.
-    fn wait(&mut self, seen: &[Seen], picked: usize) {
-        let class = queue_of_lane(picked).class;
-        let ready = ready_lanes(seen);
-        for (lane, tally) in self.tallies.iter_mut().enumerate() {
-            if self.mechanism == Mechanism::Weighted && queue_of_lane(lane).class != class {
-                continue;
-            }
-            if lane == picked || ready.get(lane) != Some(&true) {
-                tally.waits = 0;
-            } else {
-                tally.waits = tally.waits.saturating_add(1);
-                tally.longest = tally.longest.max(tally.waits);
-            }
-        }
-    }
-
-    // Twice the weights of High and Medium.
-    fn low_bound(&self) -> u64 {
-        let high = self.settings.weight(Class::High);
-        let medium = self.settings.weight(Class::Medium);
-        2 * (u64::from(high) + u64::from(medium))
-    }
-
-    // Lets the low level wait behind High and Medium.
-    fn wait_behind(&mut self, seen: &[Seen], class: Class, n: u16) {
-        let waits = self.mechanism == Mechanism::Weighted
-            && !is_ready(seen, Class::Admin)
-            && !is_ready(seen, Class::Urgent)
-            && is_ready(seen, Class::Low);
-        if !waits || class == Class::Low {
-            self.behind = 0;
+    // Notes for each row what a pick takes of it, and what waits.
+    fn note_rows(&mut self, seen: &[Seen], pick: &Pick)
+        ensures { (head : Head) (past : History) → IsCounted head past self.old → IsCounted head past self.new }
+    {
+        note_seen(&mut self.tallies, seen);
+        let Some(lane) = lane_of_pick(seen, pick.qid) else {
             return;
-        }
-        self.behind = self.behind.saturating_add(u64::from(n));
-        if self.behind > self.longest_behind {
-            self.longest_behind = self.behind;
-            self.bound_behind = self.low_bound();
-        }
+        };
+        count_pick(&mut self.tallies, lane, pick.n);
+        wait(&mut self.tallies, self.mechanism, seen, lane);
+        self.behind.wait(
+            self.mechanism,
+            &self.settings,
+            seen,
+            queue_of_lane(lane).class,
+            pick.n,
+        );
     }
 
     // Counts a pick.
-    fn note_pick(&mut self, seen: &[Seen], pick: &Pick) {
-        self.picks = self.picks.saturating_add(1);
-        self.commands = self.commands.saturating_add(u64::from(pick.n));
-        self.note_seen(seen);
-        if let Some(lane) = lane_of_pick(seen, pick.qid) {
-            self.count_pick(lane, pick.n);
-            self.wait(seen, lane);
-            self.wait_behind(seen, queue_of_lane(lane).class, pick.n);
-        }
+    fn note_pick(&mut self, seen: &[Seen], pick: &Pick)
+        ensures { (head : Head) (past : History) → IsCounted head past self.old → IsCounted head (Picked seen.now pick.now ∷ past) self.new }
+    {
+        self.note_rows(seen, pick);
+        self.picks = more(self.picks, 1);
+        self.commands = more(self.commands, pick.n);
     }
 
     // Takes new settings. What waited begins anew, since the bounds are of settings that stay.
-    fn note_set(&mut self, settings: Settings) {
+    fn note_set(&mut self, settings: Settings)
+        ensures { (head : Head) (past : History) → IsCounted head past self.old → IsCounted head (Changed settings ∷ past) self.new }
+    {
+        wait_anew(&mut self.tallies);
+        self.behind.commands = 0;
         self.settings = settings;
-        self.changes = self.changes.saturating_add(1);
-        self.behind = 0;
-        for tally in self.tallies.iter_mut() {
-            tally.waits = 0;
-        }
+        self.changes = more(self.changes, 1);
     }
 
     // What all rows of a class come to.
@@ -262,7 +310,7 @@ impl Statistics {
         self.put_queues(writer)?;
         self.put_classes(writer)?;
         if self.mechanism == Mechanism::Weighted {
-            let (longest, bound) = (self.longest_behind, self.bound_behind);
+            let (longest, bound) = (self.behind.longest, self.behind.bound);
             writeln!(
                 writer,
                 "low behind high and medium: {longest} commands, at most {bound}"
@@ -326,7 +374,7 @@ impl Statistics {
         self.put_queue_objects(writer)?;
         writer.write_all(b"],\"classes\":[")?;
         self.put_class_objects(writer)?;
-        let (longest, bound) = (self.longest_behind, self.bound_behind);
+        let (longest, bound) = (self.behind.longest, self.behind.bound);
         let jain = self.jain();
         let (whole, part) = (jain / 10_000, jain % 10_000);
         writeln!(
@@ -355,17 +403,27 @@ impl Statistics {
 }
 
 impl Watch for Statistics {
+    ghost stands = { λ head past counted. IsCounted head past counted };
+
     fn watch(&mut self, event: &TraceEvent) -> Result<(), TraceError> {
         match event {
-            TraceEvent::Pick { seen, pick } => self.note_pick(seen, pick),
-            TraceEvent::Set { settings } => self.note_set(*settings),
+            TraceEvent::Pick { seen, pick } => {
+                self.note_pick(seen, pick);
+                Ok(())
+            }
+            TraceEvent::Set { settings } => {
+                self.note_set(*settings);
+                Ok(())
+            }
         }
-        Ok(())
     }
 }
 
 /// What a trace shows in numbers. It is read as a stream, and its picks are not judged.
-pub fn stats<R: Read + Drop>(alloc: Global, reader: R) -> Result<Statistics, TraceError> {
+pub fn stats<R: Read + Drop>(alloc: Global, reader: R) -> Result<Statistics, TraceError>
+    ensures counted { IfOk result (λ counted. IfSome (R.remaining reader) (λ text. IsShown text (λ head past. IsCounted head past counted))) }
+    ensures fault { IfErr result (λ error. IfSome (R.remaining reader) (λ text. IsReadFault text error)) }
+{
     let mut trace = Trace::new(alloc, reader);
     let head = trace.head(alloc)?;
     let mut counted = Statistics::new(head);

@@ -1,10 +1,7 @@
 // The rows that a trace shows: one for each queue and class in which it was seen.
-ghost use Rattle.std.specs.Prelude.{◌≡◌, ◌<◌, IfSome};
+ghost use Rattle.std.specs.Prelude.{◌<◌, IfSome};
 
 use nvme_arbiter::{Class, QUEUE_LIMIT, Seen};
-use nvme_trace::{Trace, TraceError, TraceEvent};
-use std::alloc::Global;
-use std::io::Read;
 
 /// How many I/O queues there can be.
 pub const IO_QUEUES: usize = QUEUE_LIMIT - 1;
@@ -73,27 +70,4 @@ pub fn lane_of_pick(seen: &[Seen], qid: u16) -> Option<usize>
 {
     let queue = seen.iter().find(|queue| queue.qid == qid)?;
     lane_of(queue)
-}
-
-/// What goes through a trace, event by event.
-pub trait Watch {
-    /// Takes the next event.
-    fn watch(&mut self, event: &TraceEvent) -> Result<(), TraceError>;
-}
-
-/// Shows all events after the head.
-pub fn show<R: Read, W: Watch>(
-    alloc: Global,
-    trace: &mut Trace<R>,
-    watcher: &mut W,
-) -> Result<(), TraceError>
-    requires { trace.old.number ≡ 1 }
-{
-    for _ in 1..u64::MAX {
-        let Some(event) = trace.event(alloc)? else {
-            return Ok(());
-        };
-        watcher.watch(&event)?;
-    }
-    Err(TraceError::Read)
 }

@@ -4,6 +4,7 @@
 mod charting;
 mod counting;
 mod lanes;
+mod watching;
 
 pub use charting::{Picture, chart};
 pub use counting::{Statistics, stats};

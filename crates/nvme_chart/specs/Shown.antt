@@ -1,0 +1,36 @@
+-- The events of a text that is a trace, and its first fault. That the picks are lawful is not asked. (profile)
+use Rattle.std.specs.Prelude.{◌≡◌, ◌⊎◌, ℕ, List, ◌++◌, length, reverse, Some}
+use Rattle.nvme_arbiter.specs.History.{History}
+use Rattle.nvme_trace.specs.Lines.{lines_of}
+use Rattle.nvme_trace.specs.Faults.{IsHeadFault, IsEventFault}
+use Rattle.nvme_trace.specs.Checks.{Tells}
+use Rattle.nvme_trace.specs.declared.fault.TraceError.{TraceError}
+use Rattle.nvme_trace.specs.declared.reading.Head.{Head}
+
+-- the text is a head and events of which this holds
+pub record IsShown (text : List ℕ) (P : Head → History → Type 0) : Type 0 where
+  pub head : Head
+  pub past : History
+  pub tells : Tells head past (reverse (lines_of text))
+  pub holds : P head past
+
+-- so many lines of a text are a head and events, and then the other bytes follow
+pub record IsReadUpTo (text rest : List ℕ) (number : ℕ) (head : Head) (past : History) : Type 0 where
+  -- the last one first
+  pub lines : List (List ℕ)
+  pub split : lines_of text ≡ reverse lines ++ lines_of rest
+  pub count : length lines ≡ number
+  pub tells : Tells head past lines
+
+-- a fault in a later line: all lines before it are a head and events
+pub record IsLaterReadFault (text : List ℕ) (error : TraceError) : Type 0 where
+  pub head : Head
+  pub past : History
+  pub number : ℕ
+  pub rest : List ℕ
+  pub before : IsReadUpTo text rest number head past
+  pub fault : IsEventFault error number (Some rest)
+
+-- the error is of the first line that is faulty
+abbrev pub IsReadFault : List ℕ → TraceError → Type 0
+IsReadFault text error = IsHeadFault error 0 (Some text) ⊎ IsLaterReadFault text error
