@@ -1,5 +1,8 @@
 -- What an input that was taken says of the program's answer.
-use Rattle.std.proofs.Common.{◌≡◌, ◌≢◌, ◌↔◌, ℕ, inl, inr, refl, subst, List, length, Option, None, Some, Result, Ok, Err, IfSome, IfErr, IsErrOf}
+use Rattle.std.proofs.Common.{◌≡◌, ◌≢◌, ◌↔◌, ℕ, Bool, true, false, inl, inr, refl, ap, subst, List, [], ◌∷◌, length, Option, None, Some, Result, Ok, Err, IfSome, IfErr, IsErrOf}
+use Rattle.std.specs.Prelude.{◌&&◌, ◌||◌, not, nat_eq, String, string_bytes, codes}
+use Rattle.std.specs.Cmp.Lexicographic.{pointwise, bytes_decides}
+use Rattle.std.specs.Global.{Global}
 use Rattle.std.specs.List.{AllPass}
 use Rattle.std.specs.Io.KnownBytes.{Appends}
 use Rattle.hex.specs.Hex.{is_hex_digit}
@@ -14,8 +17,19 @@ use Rattle.nvme_runs.specs.declared.entries.OnceError.{OnceError}
 use Rattle.nvme_runs.specs.declared.entries.OnceError.TheVariants as entry
 use Rattle.nvme_runs.specs.declared.runs.RunError.{RunError}
 use Rattle.nvme_runs.specs.declared.runs.RunError.TheVariants as run
+use Rattle.nvme_runs.specs.Ran.{BeginsAs}
+use Rattle.nvme_runs.specs.declared.runs.Ran.{Ran}
+use Rattle.nvme_trace.specs.Checks.{IsFaultOf, IsLawfulText, IsUnlawfulText}
+use Rattle.nvme_trace.specs.declared.fault.TraceError.{TraceError}
+use Rattle.nvme_trace.specs.declared.fault.TraceError.TheVariants as trace
+use Rattle.nvme_trace.specs.declared.judge.Finding.{Finding}
 use Rattle.nvme_sim.specs.declared.faults.Fault.{Fault}
-use Rattle.nvme_sim.specs.Statuses.{IsBadEntry, IsBadWorkload, run_status, status_of}
+use Rattle.nvme_sim.specs.Inputs.{IsBadInput, IsBadTrace, IsFaultyTrace, IsToldLawful, IsUnlawfulCheck, IsUnlawfulTrace, lawful_line}
+use Rattle.nvme_sim.specs.Statuses.{IsBadEntry, IsBadWorkload, run_status, status_of, trace_status}
+use Rattle.nvme_sim.specs.Requests.{IsAskedBy}
+use Rattle.nvme_sim.specs.declared.words.Request.{Request}
+use Rattle.nvme_sim.specs.declared.words.Request.TheVariants as request
+use Rattle.nvme_sim.specs.Words.{asks, asks_alone, is_option, reads_workload, shows_trace}
 
 -- an entry that is none is one of the faults of an entry
 pub bad_entry : {T : Type 0} (input : Option (List ℕ)) (bytes : List ℕ) (e : OnceError) → IfSome input (λ rest. bytes ≡ rest)
@@ -48,9 +62,135 @@ pub run_done : (input : Option (List ℕ)) (bytes : List ℕ) (mode : Mode) (s :
 run_done None bytes mode s old new whole ran appends = tt
 run_done (Some rest) bytes mode s old new whole ran appends = (s, subst (λ (bs : List ℕ). IsRun bs mode s) whole ran, appends)
 
--- a fault of one kind of request is a fault of one of the two
-pub one_of_two : {T : Type 0} (result : Result T Fault) (input : Option (List ℕ)) (P Q : List ℕ → Type 0) → ((bs : List ℕ) → P bs → Q bs)
+-- a line of a trace that has a fault
+pub faulty_trace : (input : Option (List ℕ)) (e : TraceError) → IfSome input (λ text. IsFaultOf text e) → trace_status e ≡ 1 → IfSome input IsFaultyTrace
+faulty_trace None e h one = tt
+faulty_trace (Some text) (trace.Line line f) h one = (line, f, h)
+faulty_trace (Some text) trace.Read h one = absurd (cc one)
+faulty_trace (Some text) trace.NoMemory h one = absurd (cc one)
+
+-- a trace is lawful, and that was written
+pub told_lawful : (input : Option (List ℕ)) (picks : ℕ) (old new : Option (List ℕ)) → IfSome input (λ text. IsLawfulText text picks) → Appends old new (lawful_line picks)
+    → IfSome input (IsToldLawful old new)
+told_lawful None picks old new h w = tt
+told_lawful (Some text) picks old new h w = (picks, h, w)
+
+-- a trace has a pick that isn't the lawful one
+pub unlawful_trace : (input : Option (List ℕ)) (line : ℕ) (finding : Finding) → IfSome input (λ text. IsUnlawfulText text line finding) → IfSome input IsUnlawfulTrace
+unlawful_trace None line finding h = tt
+unlawful_trace (Some text) line finding h = (line, finding, h)
+
+-- the trace of a run was asked for
+pub run_traced : (input : Option (List ℕ)) (bytes : List ℕ) (mode : Mode) (r : Ran) → IfSome input (λ rest. bytes ≡ rest) → BeginsAs bytes r → IsRun bytes mode r.settled
+    → IfSome input (λ rest. (x : Ran) × BeginsAs rest x × IsRun rest mode x.settled)
+run_traced None bytes mode r whole begins ran = tt
+run_traced (Some rest) bytes mode r whole begins ran =
+    (r, subst (λ (bs : List ℕ). BeginsAs bs r) whole begins, subst (λ (bs : List ℕ). IsRun bs mode r.settled) whole ran)
+
+-- a fault of one kind of input is one of another kind
+pub of_kind : {T : Type 0} (result : Result T Fault) (input : Option (List ℕ)) (P Q : List ℕ → Type 0) → ((bs : List ℕ) → P bs → Q bs)
     → IfErr result (λ e. status_of e ≡ 1 → IfSome input P) → IfErr result (λ e. status_of e ≡ 1 → IfSome input Q)
-one_of_two (Ok t) input P Q more h = tt
-one_of_two (Err e) None P Q more h = λ one. tt
-one_of_two (Err e) (Some bs) P Q more h = λ one. more bs (h one)
+of_kind (Ok t) input P Q more h = tt
+of_kind (Err e) None P Q more h = λ one. tt
+of_kind (Err e) (Some bs) P Q more h = λ one. more bs (h one)
+
+-- a bad input by the word that asks for it
+pub bad_once : (words : List (String Global)) (bytes : List ℕ) → asks (codes "once") words ≡ true → IsBadEntry bytes → IsBadInput words bytes
+bad_once words bytes asked bad = inl (asked, bad)
+
+pub bad_run : (words : List (String Global)) (bytes : List ℕ) → reads_workload words ≡ true → IsBadWorkload bytes → IsBadInput words bytes
+bad_run words bytes asked bad = inr (inl (asked, bad))
+
+pub bad_check : (words : List (String Global)) (bytes : List ℕ) → asks (codes "check") words ≡ true → IsBadTrace bytes → IsBadInput words bytes
+bad_check words bytes asked bad = inr (inr (inl (asked, bad)))
+
+pub bad_shown : (words : List (String Global)) (bytes : List ℕ) → shows_trace words ≡ true → IsBadInput words bytes
+bad_shown words bytes asked = inr (inr (inr asked))
+
+pub faulty_is_bad : (bytes : List ℕ) → IsFaultyTrace bytes → IsBadTrace bytes
+faulty_is_bad bytes h = inl h
+
+-- a check that found a pick was of a bad input
+pub bad_pick : (words : List (String Global)) (input : Option (List ℕ)) → IsUnlawfulCheck words input → IfSome input (IsBadInput words)
+bad_pick words None h = tt
+bad_pick words (Some bytes) h = bad_check words bytes h.0 (inr h.1)
+
+-- a choice with a true part is true
+last_of : (a b : Bool) → b ≡ true → (a || b) ≡ true
+last_of true b h = refl
+last_of false b h = h
+
+first_of_two : (a b : Bool) → a ≡ true → (a || b) ≡ true
+first_of_two true b h = refl
+first_of_two false b h = absurd (cc h)
+
+by_four : (a b c d e : Bool) → d ≡ true → (a || b || c || d || e) ≡ true
+by_four a b c d e h = first_of_two (a || b || c || d) e (last_of (a || b || c) d h)
+
+-- two of the words that read a workload
+pub lint_reads_workload : (words : List (String Global)) → asks (codes "lint") words ≡ true → reads_workload words ≡ true
+lint_reads_workload words asked = by_four (asks (codes "run") words) (asks (codes "loaded") words) (asks (codes "live") words) (asks (codes "lint") words) (asks (codes "trace") words) asked
+
+pub trace_reads_workload : (words : List (String Global)) → asks (codes "trace") words ≡ true → reads_workload words ≡ true
+trace_reads_workload words asked =
+    last_of (asks (codes "run") words || asks (codes "loaded") words || asks (codes "live") words || asks (codes "lint") words) (asks (codes "trace") words) asked
+
+-- of a trace that is only shown nothing is told
+pub shown_fault : {T : Type 0} (result : Result T Fault) (input : Option (List ℕ)) (words : List (String Global)) → shows_trace words ≡ true
+    → IfErr result (λ e. status_of e ≡ 1 → IfSome input (IsBadInput words))
+shown_fault (Ok t) input words shown = tt
+shown_fault (Err e) None words shown = λ one. tt
+shown_fault (Err e) (Some bytes) words shown = λ one. bad_shown words bytes shown
+
+-- ---- words that ask for a check alone
+
+and_left : (a b : Bool) → (a && b) ≡ true → a ≡ true
+and_left true b h = refl
+and_left false b h = absurd (cc h)
+
+not_both : (b : Bool) → b ≡ true → b ≡ false → ⊥
+not_both true p q = absurd (cc q)
+not_both false p q = absurd (cc p)
+
+alone_asks : (name : List ℕ) (words : List (String Global)) → asks_alone name words ≡ true → asks name words ≡ true
+alone_asks name [] h = absurd (cc h)
+alone_asks name (p ∷ []) h = absurd (cc h)
+alone_asks name (p ∷ w ∷ []) h = h
+alone_asks name (p ∷ w ∷ f ∷ []) h = and_left (pointwise nat_eq (string_bytes w) name) (not (is_option (string_bytes f))) h
+alone_asks name (p ∷ w ∷ f ∷ m ∷ rest) h = absurd (cc h)
+
+-- whether they ask for another word
+check_is : (words : List (String Global)) → asks (codes "check") words ≡ true → (name : List ℕ) → asks name words ≡ pointwise nat_eq (codes "check") name
+check_is [] h name = absurd (cc h)
+check_is (p ∷ []) h name = absurd (cc h)
+check_is (p ∷ w ∷ rest) h name = ap (λ (v : List ℕ). pointwise nat_eq v name) ((bytes_decides (string_bytes w) (codes "check")).0 h)
+
+check_reads_none : (words : List (String Global)) → asks (codes "check") words ≡ true → reads_workload words ≡ false
+check_reads_none words h =
+    let run : asks (codes "run") words ≡ false = check_is words h (codes "run") in
+    let loaded : asks (codes "loaded") words ≡ false = check_is words h (codes "loaded") in
+    let live : asks (codes "live") words ≡ false = check_is words h (codes "live") in
+    let lint : asks (codes "lint") words ≡ false = check_is words h (codes "lint") in
+    let traced : asks (codes "trace") words ≡ false = check_is words h (codes "trace") in
+    rw (run, loaded, live, lint, traced) refl
+
+check_shows_none : (words : List (String Global)) → asks (codes "check") words ≡ true → shows_trace words ≡ false
+check_shows_none words h =
+    let chart : asks (codes "chart") words ≡ false = check_is words h (codes "chart") in
+    let stats : asks (codes "stats") words ≡ false = check_is words h (codes "stats") in
+    rw (chart, stats) refl
+
+abbrev pub IsCheck : Request → Type 0
+IsCheck request.Check = Unit {0}
+IsCheck r = ⊥
+
+-- they ask for a check, and for nothing else
+pub only_check : (words : List (String Global)) (r : Request) → IsAskedBy words r → asks_alone (codes "check") words ≡ true → IsCheck r
+only_check words (request.Once blocks) asked a = not_both (asks (codes "once") words) asked (check_is words (alone_asks (codes "check") words a) (codes "once"))
+only_check words (request.Run mode workers) asked a = not_both (reads_workload words) asked (check_reads_none words (alone_asks (codes "check") words a))
+only_check words request.Lint asked a = not_both (asks (codes "lint") words) asked (check_is words (alone_asks (codes "check") words a) (codes "lint"))
+only_check words request.Check asked a = tt
+only_check words (request.Trace mode workers) asked a = not_both (asks (codes "trace") words) asked (check_is words (alone_asks (codes "check") words a) (codes "trace"))
+only_check words request.Chart asked a = not_both (shows_trace words) asked (check_shows_none words (alone_asks (codes "check") words a))
+only_check words (request.Stats format) asked a = not_both (shows_trace words) asked (check_shows_none words (alone_asks (codes "check") words a))
+only_check words (request.Help text) asked a = not_both (asks_alone (codes "check") words) a asked

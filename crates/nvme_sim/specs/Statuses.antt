@@ -12,6 +12,8 @@ use Rattle.nvme_runs.specs.declared.input.InputError.TheVariants as untaken
 use Rattle.nvme_runs.specs.declared.input.TheConstants.{MAX_INPUT}
 use Rattle.nvme_runs.specs.declared.runs.RunError.{RunError}
 use Rattle.nvme_runs.specs.declared.runs.RunError.TheVariants as run
+use Rattle.nvme_trace.specs.declared.fault.TraceError.{TraceError}
+use Rattle.nvme_trace.specs.declared.fault.TraceError.TheVariants as trace
 use Rattle.nvme_sim.specs.declared.faults.Fault.{Fault}
 use Rattle.nvme_sim.specs.declared.faults.Fault.TheVariants as fault
 
@@ -36,6 +38,12 @@ run_status (run.Front e) = 3
 run_status run.GaveUp = 3
 run_status run.Write = 3
 
+-- a trace that wasn't read to its end: a line that is faulty is the input's fault
+abbrev pub trace_status : TraceError → ℕ
+trace_status (trace.Line line f) = 1
+trace_status trace.Read = 3
+trace_status trace.NoMemory = 3
+
 -- the status of each fault of the program
 abbrev pub status_of : Fault → ℕ
 status_of (fault.CommandLine e) = 2
@@ -46,6 +54,7 @@ status_of (fault.NoMemory e) = 3
 status_of fault.Write = 3
 status_of (fault.Run e) = run_status e
 status_of (fault.Workload f) = 1
+status_of (fault.Trace e) = trace_status e
 
 -- an input has more bytes than are taken
 abbrev pub IsTooLong : List ℕ → Type 0

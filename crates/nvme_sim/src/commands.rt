@@ -1,16 +1,25 @@
 ghost use Rattle.std.specs.Prelude.{◌≡◌, ◌≤◌, ◌⊎◌, true, Ok, IfErr, IfSome, codes};
-ghost use Rattle.nvme_sim.specs.Statuses.{IsBadEntry, IsBadWorkload, status_of};
-ghost use Rattle.nvme_sim.specs.Words.{asks};
+ghost use Rattle.nvme_sim.specs.Inputs.{IsBadInput, IsToldLawful, IsUnlawfulCheck};
+ghost use Rattle.nvme_sim.specs.Requests.{IsAskedBy};
+ghost use Rattle.nvme_sim.specs.Statuses.{status_of};
+ghost use Rattle.nvme_sim.specs.Words.{asks, asks_alone};
 ghost use Rattle.nvme_sim.specs.declared.faults.Fault.TheVariants as fault;
 ghost use Rattle.nvme_sim.specs.declared.commands.Answer.TheVariants as answer;
 ghost use Rattle.nvme_runs.specs.declared.runs.RunError.TheVariants as run_fault;
 
+mod charting;
+mod checking;
+mod counting;
 mod entry;
 mod linting;
 mod running;
+mod tracing;
 
 use crate::faults::Fault;
-use crate::words::{Request, asked_of, asks};
+use crate::words::{Request, asked_of};
+use charting::charted;
+use checking::checked;
+use counting::counted;
 use entry::answered;
 use linting::linted;
 use running::ran;
@@ -18,16 +27,30 @@ use std::alloc::Global;
 use std::io::{Read, Write};
 use std::sync::Wait;
 use std::thread::Threads;
+use tracing::traced;
 
 // How the program ends where it meets no fault.
 #[derive(Clone, Copy, Debug, PartialEq, Eq)]
 enum Answer {
     Done,
+    // A pick of a trace is not the lawful one.
+    Unlawful,
     // There are warnings of a lawful workload.
     Warned,
 }
 
-// Does what the words ask for, where that isn't help.
+// Writes the text of the help, or of the version.
+fn helped<W: Write>(text: clap::Error, output: &mut W) -> Result<Answer, Fault>
+    ensures no_other { (result ≡ Ok answer.Warned) ⊎ (result ≡ Ok answer.Unlawful) → ⊥ }
+    ensures write { IfErr result (λ e. e ≡ fault.Write) }
+{
+    match write!(output, "{text}") {
+        Ok(()) => Ok(Answer::Done),
+        Err(_) => Err(Fault::Write),
+    }
+}
+
+// Does what the words ask for.
 fn done<R: Read + Drop, W: Write, T: Threads + Wait + Sync>(
     rt: &T,
     alloc: Global,
@@ -36,20 +59,22 @@ fn done<R: Read + Drop, W: Write, T: Threads + Wait + Sync>(
     input: R,
     output: &mut W,
 ) -> Result<Answer, Fault>
-    ensures input { IfErr result (λ e. status_of e ≡ 1 → IfSome (R.remaining input) (λ bytes. IsBadEntry bytes ⊎ IsBadWorkload bytes)) }
+    requires { IsAskedBy words.now request }
+    ensures input { IfErr result (λ e. status_of e ≡ 1 → IfSome (R.remaining input) (IsBadInput words.now)) }
     ensures warned { result ≡ Ok answer.Warned → asks (codes "lint") words.now ≡ true }
+    ensures unlawful { result ≡ Ok answer.Unlawful → IsUnlawfulCheck words.now (R.remaining input) }
+    ensures lawful { result ≡ Ok answer.Done → asks_alone (codes "check") words.now ≡ true → IfSome (R.remaining input) (IsToldLawful (W.contents output.old) (W.contents output.new)) }
     ensures untouched { IfErr result (λ e. (e ≡ fault.Write) ⊎ (e ≡ fault.Run run_fault.Write) ⊎ (output.new ≡ output.old)) }
 {
     match request {
-        Request::Help(text) => match write!(output, "{text}") {
-            Ok(()) => Ok(Answer::Done),
-            Err(_) => Err(Fault::Write),
-        },
+        Request::Help(text) => helped(text, output),
         Request::Once(blocks) => answered(alloc, blocks, input, output),
         Request::Run(mode, workers) => ran(rt, alloc, mode, workers, input, output),
-        Request::Lint if asks(words, "lint") => linted(alloc, input, output),
-        // The word isn't that which `clap` took.
-        Request::Lint => Err(Fault::Words),
+        Request::Lint => linted(alloc, input, output),
+        Request::Check => checked(alloc, input, output),
+        Request::Trace(mode, workers) => traced(rt, alloc, mode, workers, input, output),
+        Request::Chart => charted(alloc, input, output),
+        Request::Stats(format) => counted(alloc, format, input, output),
     }
 }
 
@@ -61,8 +86,10 @@ fn served<R: Read + Drop, W: Write, T: Threads + Wait + Sync>(
     input: R,
     output: &mut W,
 ) -> Result<Answer, Fault>
-    ensures input { IfErr result (λ e. status_of e ≡ 1 → IfSome (R.remaining input) (λ bytes. IsBadEntry bytes ⊎ IsBadWorkload bytes)) }
+    ensures input { IfErr result (λ e. status_of e ≡ 1 → IfSome (R.remaining input) (IsBadInput words.now)) }
     ensures warned { result ≡ Ok answer.Warned → asks (codes "lint") words.now ≡ true }
+    ensures unlawful { result ≡ Ok answer.Unlawful → IsUnlawfulCheck words.now (R.remaining input) }
+    ensures lawful { result ≡ Ok answer.Done → asks_alone (codes "check") words.now ≡ true → IfSome (R.remaining input) (IsToldLawful (W.contents output.old) (W.contents output.new)) }
     ensures untouched { IfErr result (λ e. (e ≡ fault.Write) ⊎ (e ≡ fault.Run run_fault.Write) ⊎ (output.new ≡ output.old)) }
 {
     match asked_of(alloc, words) {
@@ -71,12 +98,17 @@ fn served<R: Read + Drop, W: Write, T: Threads + Wait + Sync>(
     }
 }
 
-/// The whole program `nvmearb` over its words (the program's name first), its input, its output and its
-/// standard error. The input is that of the file that the words name (`file_named`), else standard input. The
-/// answer is its status: 0 done; 1 the input is at fault; 2 the command line; 3 the run: a read or a write failed, memory was refused, or a workload couldn't be run to its end; 4 there are
-/// warnings of a lawful workload. With status 1 to 3 one line, or the words of `clap`, went to `errors`, and a write that
-/// failed there is ignored. It may wait for another
-/// thread.
+/// The whole program `nvmearb` over its words (the program's name first), its input, its output and its standard error.
+/// The input is that of the file that the words name (`file_named`), else standard input. The answer is its status:
+///
+/// - 0: done;
+/// - 1: the input is at fault, or with `check` a pick is not the lawful one, and that is on the output;
+/// - 2: the command line is at fault;
+/// - 3: the run is: a read or a write failed, memory was refused, or a workload couldn't be run to its end;
+/// - 4: there are warnings of a lawful workload.
+///
+/// With a fault one line, or the words of `clap`, went to `errors`, and a write that failed there is ignored. It may wait
+/// for another thread.
 pub fn command<R: Read + Drop, W: Write, E: Write, T: Threads + Wait + Sync>(
     rt: &T,
     alloc: Global,
@@ -87,11 +119,14 @@ pub fn command<R: Read + Drop, W: Write, E: Write, T: Threads + Wait + Sync>(
 ) -> u8
     ensures status { result ≤ 4 }
     ensures warned { result ≡ 4 → asks (codes "lint") words.now ≡ true }
-    ensures input { result ≡ 1 → IfSome (R.remaining input) (λ bytes. IsBadEntry bytes ⊎ IsBadWorkload bytes) }
-    ensures untouched { (result ≡ 1) ⊎ (result ≡ 2) → output.new ≡ output.old }
+    ensures input { result ≡ 1 → IfSome (R.remaining input) (IsBadInput words.now) }
+    ensures lawful { result ≡ 0 → asks_alone (codes "check") words.now ≡ true → IfSome (R.remaining input) (IsToldLawful (W.contents output.old) (W.contents output.new)) }
+    ensures untouched { result ≡ 1 → (output.new ≡ output.old) ⊎ IsUnlawfulCheck words.now (R.remaining input) }
+    ensures refused { result ≡ 2 → output.new ≡ output.old }
 {
     match served(rt, alloc, words, input, output) {
         Ok(Answer::Done) => 0,
+        Ok(Answer::Unlawful) => 1,
         Ok(Answer::Warned) => 4,
         Err(fault) => {
             let _ = fault.tell(errors);

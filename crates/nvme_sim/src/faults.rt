@@ -4,6 +4,7 @@ ghost use Rattle.nvme_sim.specs.declared.faults.Fault.TheVariants as fault;
 ghost use Rattle.nvme_runs.specs.declared.runs.RunError.TheVariants as run_fault;
 
 use nvme_runs::{InputError, OnceError, RunError};
+use nvme_trace::TraceError;
 use std::alloc::AllocError;
 use std::io::Write;
 use thiserror::Error;
@@ -27,6 +28,8 @@ pub(crate) enum Fault {
     Run(RunError),
     #[error("nvmearb: workload: {0}")]
     Workload(nvme_lint::Fault),
+    #[error("nvmearb: {0}")]
+    Trace(TraceError),
 }
 
 impl Fault {
@@ -39,10 +42,10 @@ impl Fault {
         match self {
             Fault::Entry(_) | Fault::Input(InputError::TooLong) => 1,
             Fault::Run(RunError::Workload(_)) => 1,
-            Fault::Workload(_) => 1,
+            Fault::Workload(_) | Fault::Trace(TraceError::Line { .. }) => 1,
             Fault::CommandLine(_) | Fault::Words | Fault::Run(RunError::Workers) => 2,
             Fault::Input(_) | Fault::NoMemory(_) | Fault::Write => 3,
-            Fault::Run(_) => 3,
+            Fault::Run(_) | Fault::Trace(_) => 3,
         }
     }
 

@@ -1,7 +1,8 @@
 // The command line of the program, by `clap`.
-ghost use Rattle.std.specs.Prelude.{◌≡◌, ◌≢◌, true, None, IfErr, IfOk, codes};
+ghost use Rattle.std.specs.Prelude.{◌≡◌, ◌≢◌, true, None, IfErr, IfOk, IfSome, codes};
+ghost use Rattle.nvme_sim.specs.Requests.{IsAskedBy};
 ghost use Rattle.nvme_sim.specs.Statuses.{status_of};
-ghost use Rattle.nvme_sim.specs.Words.{asks, reads_input};
+ghost use Rattle.nvme_sim.specs.Words.{asks, asks_alone, is_option, names_no_trace, reads_input, reads_input_alone};
 
 use crate::faults::Fault;
 use clap::error::ErrorKind;
@@ -14,28 +15,43 @@ const VERSION: &str = "0";
 
 const STANDARD_INPUT: &str = "-";
 
+const FORMATS: &[&str] = &["text", "json"];
+
 // What stands below the help.
 const AFTER_HELP: &str = "\
 Input:
-  FILE            a file, or - for standard input
+  FILE            a file, or - for standard input; without FILE check, chart
+                  and stats read standard input
   once            a submission entry: 128 hexadecimal digits
-  run, loaded, live, lint
+  run, loaded, live, lint, trace
                   a workload file: TOML, at most 16777216 bytes
+  check, chart, stats
+                  a trace: JSON, a line of at most 4096 bytes for each event
 
 Ranges:
   N               1 to 8 workers
   B               1 to 9223372036854775807 logical blocks
 
 Exit status:
-  0  done; with lint there is nothing to say
-  1  the input is at fault
+  0  done; with lint there is nothing to say, with check each pick is lawful
+  1  the input is at fault; with check also: a pick is not the lawful one
   2  the command line is at fault
   3  the run is: a file, a read or a write failed, memory was refused, or not all was done
   4  with lint: the workload is lawful, and there are warnings
 
 Example:
   nvmearb lint examples/five-queues.toml
-  nvmearb run examples/five-queues.toml --workers 2";
+  nvmearb run examples/five-queues.toml --workers 2
+  nvmearb trace examples/five-queues.toml | nvmearb check";
+
+/// How statistics are written.
+#[derive(Clone, Copy, Debug, PartialEq, Eq)]
+pub(crate) enum Format {
+    /// A table for people.
+    Text,
+    /// One JSON object.
+    Json,
+}
 
 /// What the words ask for.
 pub(crate) enum Request {
@@ -45,6 +61,14 @@ pub(crate) enum Request {
     Run(Mode, u8),
     /// What the writer of a workload wants to know.
     Lint,
+    /// Whether each pick of a trace is the lawful one.
+    Check,
+    /// The trace of a run of a workload with so many workers.
+    Trace(Mode, u8),
+    /// A picture of a trace.
+    Chart,
+    /// What a trace shows in numbers.
+    Stats(Format),
     /// The text of the help, or of the version.
     Help(clap::Error),
 }
@@ -92,15 +116,19 @@ fn mode_command<'a>(
         .arg(workers_arg(alloc).required(true))
 }
 
-// The subcommand that runs the workload of a file.
-fn run_command<'a>(alloc: Global) -> Result<Command<'a>, AllocError> {
+// A subcommand that runs the workload of a file.
+fn run_command<'a>(
+    alloc: Global,
+    name: &'a str,
+    about: &'a str,
+) -> Result<Command<'a>, AllocError> {
     let file = file_arg(alloc, "The workload file, or - for standard input");
     let live = Arg::new(alloc, "live")
         .long("live")
         .help("Let the hosts submit while the front works")
         .action(ArgAction::SetTrue);
-    Command::new(alloc, "run")
-        .about("Runs the workload of a file, and prints its report")
+    Command::new(alloc, name)
+        .about(about)
         .arg(file.required(true))?
         .arg(live)?
         .arg(workers_arg(alloc).default_value("1"))
@@ -112,6 +140,36 @@ fn lint_command<'a>(alloc: Global) -> Result<Command<'a>, AllocError> {
     Command::new(alloc, "lint")
         .about("Tells where a workload file is at fault, or what of it comes to nothing")
         .arg(file.required(true))
+}
+
+// A subcommand that reads a trace.
+fn trace_command<'a>(
+    alloc: Global,
+    name: &'a str,
+    about: &'a str,
+) -> Result<Command<'a>, AllocError> {
+    let file = file_arg(
+        alloc,
+        "The trace; standard input where it is - or is left out",
+    );
+    Command::new(alloc, name).about(about).arg(file)
+}
+
+// The subcommand that tells what a trace shows in numbers.
+fn stats_command<'a>(alloc: Global) -> Result<Command<'a>, AllocError> {
+    let format = Arg::new(alloc, "format")
+        .long("format")
+        .value_name("FORMAT")
+        .help("A table for people, or one JSON object")
+        .action(ArgAction::Set)
+        .value_parser(FORMATS)
+        .default_value("text");
+    trace_command(
+        alloc,
+        "stats",
+        "Prints picks, shares and waits of each queue of a trace",
+    )?
+    .arg(format)
 }
 
 // The subcommands that read standard input alone.
@@ -134,9 +192,34 @@ fn with_input<'a>(alloc: Global, program: Command<'a>) -> Result<Command<'a>, Al
 
 // The subcommands that read a workload file.
 fn with_file<'a>(alloc: Global, program: Command<'a>) -> Result<Command<'a>, AllocError> {
+    let run = run_command(
+        alloc,
+        "run",
+        "Runs the workload of a file, and prints its report",
+    )?;
+    let trace = run_command(
+        alloc,
+        "trace",
+        "Runs the workload of a file, and prints its trace",
+    )?;
     program
-        .subcommand(run_command(alloc)?)?
-        .subcommand(lint_command(alloc)?)
+        .subcommand(run)?
+        .subcommand(lint_command(alloc)?)?
+        .subcommand(trace)
+}
+
+// The subcommands that read a trace.
+fn with_trace<'a>(alloc: Global, program: Command<'a>) -> Result<Command<'a>, AllocError> {
+    let check = trace_command(
+        alloc,
+        "check",
+        "Tells whether each pick of a trace is the lawful one",
+    )?;
+    let chart = trace_command(alloc, "chart", "Prints a picture of a trace as SVG")?;
+    program
+        .subcommand(check)?
+        .subcommand(chart)?
+        .subcommand(stats_command(alloc)?)
 }
 
 // The command line of the program.
@@ -146,7 +229,7 @@ fn program<'a>(alloc: Global) -> Result<Command<'a>, AllocError> {
         .about("The command-fetching and arbitration front of an NVMe controller")
         .after_help(AFTER_HELP)
         .subcommand_required(true);
-    with_file(alloc, with_input(alloc, program)?)
+    with_trace(alloc, with_file(alloc, with_input(alloc, program)?)?)
 }
 
 // How the hosts of a run submit.
@@ -158,39 +241,61 @@ fn mode_of(matches: &ArgMatches) -> Mode {
     }
 }
 
-// What the subcommand asks for.
-fn asked_in(matches: &ArgMatches) -> Option<Request> {
+// How statistics are to be written.
+fn format_of(matches: &ArgMatches) -> Format {
+    match matches.get_str("format") {
+        Some("json") => Format::Json,
+        _ => Format::Text,
+    }
+}
+
+// What the subcommand asks for: none where it isn't the word after the program's name.
+fn asked_in(words: &[String], matches: &ArgMatches) -> Option<Request>
+    ensures { IfSome result (IsAskedBy words.now) }
+{
     let (name, asked) = matches.subcommand()?;
+    if !asks(words, name) {
+        return None;
+    }
     match name {
         "once" => Some(Request::Once(asked.get_one::<u64>("blocks")?)),
         "loaded" => Some(Request::Run(Mode::Loaded, asked.get_one::<u8>("workers")?)),
         "live" => Some(Request::Run(Mode::Live, asked.get_one::<u8>("workers")?)),
         "run" => Some(Request::Run(mode_of(asked), asked.get_one::<u8>("workers")?)),
         "lint" => Some(Request::Lint),
+        "check" => Some(Request::Check),
+        "trace" => Some(Request::Trace(mode_of(asked), asked.get_one::<u8>("workers")?)),
+        "chart" => Some(Request::Chart),
+        "stats" => Some(Request::Stats(format_of(asked))),
         _ => None,
     }
 }
 
 /// What the words ask for, the program's name first.
 pub(crate) fn asked_of(alloc: Global, words: &[String]) -> Result<Request, Fault>
+    ensures asked { IfOk result (IsAskedBy words.now) }
     ensures no_input { IfErr result (λ e. status_of e ≢ 1) }
 {
     let Ok(program) = program(alloc) else {
         return Err(Fault::NoMemory(AllocError));
     };
     match program.try_get_matches_from(words) {
-        Ok(matches) => asked_in(&matches).ok_or(Fault::Words),
-        Err(error) => refused(error),
+        Ok(matches) => match asked_in(words, &matches) {
+            Some(request) => Ok(request),
+            None => Err(Fault::Words),
+        },
+        Err(error) => refused(words, error),
     }
 }
 
 // What `clap` gives in place of matches: a request for help or for the version, want of memory, or a fault of the words.
-fn refused(error: clap::Error) -> Result<Request, Fault>
+fn refused(words: &[String], error: clap::Error) -> Result<Request, Fault>
+    ensures asked { IfOk result (IsAskedBy words.now) }
     ensures no_input { IfErr result (λ e. status_of e ≢ 1) }
 {
     if error.kind() == ErrorKind::OutOfMemory {
         Err(Fault::NoMemory(AllocError))
-    } else if error.use_stderr() {
+    } else if error.use_stderr() || asks_alone(words, "check") {
         Err(Fault::CommandLine(error))
     } else {
         Ok(Request::Help(error))
@@ -207,19 +312,46 @@ pub(crate) fn asks(words: &[String], name: &str) -> bool
     }
 }
 
+// Whether a word begins with a dash, and isn't the dash alone.
+fn is_option(word: &str) -> bool
+    ensures { result ≡ is_option word.now }
+{
+    let bytes = word.as_bytes();
+    bytes.len() > 1 && bytes[0] == b'-'
+}
+
+// Whether the words are the program's name, this one and at most the name of a file.
+fn asks_alone(words: &[String], name: &str) -> bool
+    ensures { result ≡ asks_alone name.now words.now }
+{
+    match words {
+        [_, word] => word.as_str() == name,
+        [_, word, file] => word.as_str() == name && !is_option(file.as_str()),
+        _ => false,
+    }
+}
+
 // Whether the words are of a subcommand that reads standard input alone.
-fn reads_input(words: &[String]) -> bool
-    ensures { result ≡ reads_input words.now }
+fn reads_input_alone(words: &[String]) -> bool
+    ensures { result ≡ reads_input_alone words.now }
 {
     asks(words, "once") || asks(words, "loaded") || asks(words, "live")
 }
 
-/// The name of the file that the words give as the input: none with `once`, `loaded` and `live`, with `-`, where no file
-/// is named, and where the words are refused or ask for help. The first word is the program's name.
+// Whether the words are of a subcommand that reads a trace and isn't given a file.
+fn names_no_trace(words: &[String]) -> bool
+    ensures { result ≡ names_no_trace words.now }
+{
+    words.len() == 2 && (asks(words, "check") || asks(words, "chart") || asks(words, "stats"))
+}
+
+/// The name of the file that the words give as the input. There is none with `once`, `loaded` and `live`, nor with
+/// `check`, `chart` and `stats` where nothing follows them, nor with `-`, nor where the words are refused or ask for
+/// help. The first word is the program's name.
 pub fn file_named<'a>(alloc: Global, words: &'a [String]) -> Result<Option<&'a str>, AllocError>
     ensures standing { reads_input words.now ≡ true → IfOk result (λ name. name ≡ None) }
 {
-    if reads_input(words) {
+    if reads_input_alone(words) || names_no_trace(words) {
         return Ok(None);
     }
     let matches = match program(alloc)?.try_get_matches_from(words) {

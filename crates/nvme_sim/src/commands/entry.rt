@@ -17,7 +17,7 @@ pub(super) fn answered<R: Read + Drop, W: Write>(
     input: R,
     output: &mut W,
 ) -> Result<Answer, Fault>
-    ensures no_warning { result ≡ Ok answer.Warned → ⊥ }
+    ensures no_other { (result ≡ Ok answer.Warned) ⊎ (result ≡ Ok answer.Unlawful) → ⊥ }
     ensures input { IfErr result (λ e. status_of e ≡ 1 → IfSome (R.remaining input) IsBadEntry) }
     ensures untouched { IfErr result (λ e. (e ≡ fault.Write) ⊎ (output.new ≡ output.old)) }
 {

@@ -26,6 +26,7 @@ pub(super) fn linted<R: Read + Drop, W: Write>(
     input: R,
     output: &mut W,
 ) -> Result<Answer, Fault>
+    ensures no_pick { result ≡ Ok answer.Unlawful → ⊥ }
     ensures input { IfErr result (λ e. status_of e ≡ 1 → IfSome (R.remaining input) IsBadWorkload) }
     ensures quiet { result ≡ Ok answer.Done → output.new ≡ output.old }
     ensures untouched { IfErr result (λ e. (e ≡ fault.Write) ⊎ (output.new ≡ output.old)) }

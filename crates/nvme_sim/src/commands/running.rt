@@ -27,7 +27,7 @@ pub(super) fn ran<R: Read + Drop, W: Write, T: Threads + Wait + Sync>(
     input: R,
     output: &mut W,
 ) -> Result<Answer, Fault>
-    ensures no_warning { result ≡ Ok answer.Warned → ⊥ }
+    ensures no_other { (result ≡ Ok answer.Warned) ⊎ (result ≡ Ok answer.Unlawful) → ⊥ }
     ensures done { OnOk result (IfSome (R.remaining input) (λ bytes. (settled : Settled) × IsRun bytes mode settled × Appends (W.contents output.old) (W.contents output.new) (report_text mode settled))) }
     ensures input { IfErr result (λ e. status_of e ≡ 1 → IfSome (R.remaining input) IsBadWorkload) }
     ensures untouched { IfErr result (λ e. (e ≡ fault.Run run_fault.Write) ⊎ (output.new ≡ output.old)) }

@@ -1,0 +1,39 @@
+-- The inputs at fault by what the words ask for, and what is written of a trace. (profile)
+use Rattle.std.specs.Prelude.{◌≡◌, ◌⊎◌, ℕ, true, List, ◌++◌, Option, IfSome, String, codes, decimal}
+use Rattle.std.specs.Global.{Global}
+use Rattle.std.specs.Io.KnownBytes.{Appends}
+use Rattle.nvme_trace.specs.Checks.{IsFaultOf, IsLawfulText, IsUnlawfulText}
+use Rattle.nvme_trace.specs.declared.fault.LineFault.{LineFault}
+use Rattle.nvme_trace.specs.declared.fault.TraceError.TheVariants as trace
+use Rattle.nvme_trace.specs.declared.judge.Finding.{Finding}
+use Rattle.nvme_sim.specs.Statuses.{IsBadEntry, IsBadWorkload}
+use Rattle.nvme_sim.specs.Words.{asks, reads_workload, shows_trace}
+
+-- a trace has a line with a fault, and each pick before it is lawful
+abbrev pub IsFaultyTrace : List ℕ → Type 0
+IsFaultyTrace bytes = (line : ℕ) × (fault : LineFault) × IsFaultOf bytes (trace.Line line fault)
+
+-- a trace has a pick that isn't the lawful one, and each pick before it is
+abbrev pub IsUnlawfulTrace : List ℕ → Type 0
+IsUnlawfulTrace bytes = (line : ℕ) × (finding : Finding) × IsUnlawfulText bytes line finding
+
+-- a trace at fault where a check is asked for
+abbrev pub IsBadTrace : List ℕ → Type 0
+IsBadTrace bytes = IsFaultyTrace bytes ⊎ IsUnlawfulTrace bytes
+
+-- the line that tells that so many picks are lawful
+abbrev pub lawful_line : ℕ → List ℕ
+lawful_line picks = codes "lawful: " ++ decimal picks ++ codes " picks\n"
+
+-- a trace is lawful, and the line of the number of its picks was written
+abbrev pub IsToldLawful : Option (List ℕ) → Option (List ℕ) → List ℕ → Type 0
+IsToldLawful old new bytes = (picks : ℕ) × IsLawfulText bytes picks × Appends old new (lawful_line picks)
+
+-- an input at fault, by the word that asks for it. Of a trace that is only shown nothing is told
+abbrev pub IsBadInput : List (String Global) → List ℕ → Type 0
+IsBadInput words bytes = ((asks (codes "once") words ≡ true) × IsBadEntry bytes) ⊎ ((reads_workload words ≡ true) × IsBadWorkload bytes)
+    ⊎ ((asks (codes "check") words ≡ true) × IsBadTrace bytes) ⊎ (shows_trace words ≡ true)
+
+-- the words ask for a check, and a pick of the input isn't the lawful one
+abbrev pub IsUnlawfulCheck : List (String Global) → Option (List ℕ) → Type 0
+IsUnlawfulCheck words known = (asks (codes "check") words ≡ true) × IfSome known IsUnlawfulTrace

@@ -1,0 +1,26 @@
+// The picture of a trace.
+ghost use Rattle.std.specs.Prelude.{◌≡◌, ◌⊎◌, Ok, IfErr};
+ghost use Rattle.nvme_sim.specs.declared.faults.Fault.TheVariants as fault;
+ghost use Rattle.nvme_sim.specs.declared.commands.Answer.TheVariants as answer;
+
+use super::Answer;
+use crate::faults::Fault;
+use nvme_trace::chart;
+use std::alloc::Global;
+use std::io::{Read, Write};
+
+/// Writes a picture of a trace.
+pub(super) fn charted<R: Read + Drop, W: Write>(
+    alloc: Global,
+    input: R,
+    output: &mut W,
+) -> Result<Answer, Fault>
+    ensures no_other { (result ≡ Ok answer.Warned) ⊎ (result ≡ Ok answer.Unlawful) → ⊥ }
+    ensures untouched { IfErr result (λ e. (e ≡ fault.Write) ⊎ (output.new ≡ output.old)) }
+{
+    let picture = chart(alloc, input).map_err(Fault::Trace)?;
+    match picture.write_svg(output) {
+        Ok(()) => Ok(Answer::Done),
+        Err(_) => Err(Fault::Write),
+    }
+}

@@ -1,0 +1,54 @@
+// The check of a trace.
+ghost use Rattle.std.specs.Prelude.{◌≡◌, ◌⊎◌, Ok, IfErr, IfSome, OnOk};
+ghost use Rattle.std.specs.Io.KnownBytes.{Appends};
+ghost use Rattle.nvme_sim.specs.Inputs.{IsFaultyTrace, IsToldLawful, IsUnlawfulTrace, lawful_line};
+ghost use Rattle.nvme_sim.specs.Statuses.{status_of};
+ghost use Rattle.nvme_sim.specs.declared.faults.Fault.TheVariants as fault;
+ghost use Rattle.nvme_sim.specs.declared.commands.Answer.TheVariants as answer;
+
+use super::Answer;
+use crate::faults::Fault;
+use nvme_trace::{Checked, Unlawful, check};
+use std::alloc::Global;
+use std::io::{Read, Write};
+
+// Writes that so many picks are lawful.
+fn put_lawful<W: Write>(picks: u64, output: &mut W) -> Result<Answer, Fault>
+    ensures done { OnOk result ((result ≡ Ok answer.Done) × Appends (W.contents output.old) (W.contents output.new) (lawful_line picks)) }
+    ensures write { IfErr result (λ e. e ≡ fault.Write) }
+{
+    match writeln!(output, "lawful: {picks} picks") {
+        Ok(()) => Ok(Answer::Done),
+        Err(_) => Err(Fault::Write),
+    }
+}
+
+// Writes the first pick that is not the lawful one.
+fn put_unlawful<W: Write>(unlawful: &Unlawful, output: &mut W) -> Result<Answer, Fault>
+    ensures unlawful { OnOk result (result ≡ Ok answer.Unlawful) }
+    ensures write { IfErr result (λ e. e ≡ fault.Write) }
+{
+    match writeln!(output, "{unlawful}") {
+        Ok(()) => Ok(Answer::Unlawful),
+        Err(_) => Err(Fault::Write),
+    }
+}
+
+/// Checks a trace, and writes whether each pick is the lawful one, or the first that is not.
+pub(super) fn checked<R: Read + Drop, W: Write>(
+    alloc: Global,
+    input: R,
+    output: &mut W,
+) -> Result<Answer, Fault>
+    ensures no_warning { result ≡ Ok answer.Warned → ⊥ }
+    ensures lawful { result ≡ Ok answer.Done → IfSome (R.remaining input) (IsToldLawful (W.contents output.old) (W.contents output.new)) }
+    ensures unlawful { result ≡ Ok answer.Unlawful → IfSome (R.remaining input) IsUnlawfulTrace }
+    ensures input { IfErr result (λ e. status_of e ≡ 1 → IfSome (R.remaining input) IsFaultyTrace) }
+    ensures untouched { IfErr result (λ e. (e ≡ fault.Write) ⊎ (output.new ≡ output.old)) }
+{
+    match check(alloc, input) {
+        Ok(Checked::Lawful { picks }) => put_lawful(picks, output),
+        Ok(Checked::Unlawful(unlawful)) => put_unlawful(&unlawful, output),
+        Err(error) => Err(Fault::Trace(error)),
+    }
+}
