@@ -1,4 +1,4 @@
--- What a check of a text answers.
+-- What a check of a text answers. (Base Specification, Command Arbitration; texts and answers: profile)
 use Rattle.std.specs.Prelude.{◌≡◌, ◌⊎◌, ℕ, ◌+◌, List, [], ◌∷◌, ◌++◌, length, reverse, Option, Some, None, Ok}
 use Rattle.nvme_arbiter.specs.History.{History}
 use Rattle.nvme_arbiter.specs.Lawful.{IsLawfulRun}

@@ -1,4 +1,4 @@
--- The faults of a text, each of the line that comes next.
+-- The faults of a text, each of the line that comes next. (profile)
 use Rattle.std.specs.Prelude.{◌≡◌, ◌≢◌, ◌⊎◌, ℕ, ◌+◌, List, [], Option, Some, None, Err}
 use Rattle.nvme_trace.specs.Lines.{lines_of, StartsWithLine}
 use Rattle.nvme_trace.specs.Format.{head_of_line, event_of_line}

@@ -1,4 +1,4 @@
--- What is judged of an event after a history.
+-- What is judged of an event after a history. (Base Specification, Command Arbitration; what is told: profile)
 use Rattle.std.specs.Prelude.{◌≡◌, ◌≢◌, ℕ, ◌+◌, List, [], ◌∷◌, Some, option_and_then}
 use Rattle.nvme_arbiter.specs.Settings.{ArbitrationFields}
 use Rattle.nvme_arbiter.specs.Observation.{IsObservation, class_in}

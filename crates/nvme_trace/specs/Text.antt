@@ -1,4 +1,4 @@
--- The text of a trace that is written: a line for the head, one for each pick and one for each change of the settings. (profile)
+-- The text of a trace: a line for the head, and one for each pick and each change of the settings. (profile)
 use Rattle.std.specs.Prelude.{ℕ, Bool, true, false, List, [], ◌∷◌, ◌++◌, codes, decimal}
 use Rattle.std.specs.List.{concat, flat_map}
 use Rattle.nvme_arbiter.specs.Settings.{ArbitrationFields, cdw11_of}
