@@ -13,6 +13,9 @@ use std::sync::Wait;
 use std::thread::Threads;
 use std::{env, fs, io};
 
+// The status of an input at fault, or of a trace with a pick that is not the lawful one.
+const AT_FAULT: u8 = 1;
+
 // The status of a lawful workload with warnings.
 const WARNED: u8 = 4;
 
@@ -21,17 +24,17 @@ fn words_of(rt: &HostRuntime) -> io::Result<Vec<String>> {
     Ok(env::args(rt)?.collect(rt.alloc())?)
 }
 
-// Whether a program that ends with this status has an answer: it is done, or has warnings.
+// Whether a program that ends with this status may have an answer: it is done, or tells of its input.
 fn has_answer(status: u8) -> bool
-    ensures { IsTrue result ↔ ((status ≡ 0) ⊎ (status ≡ WARNED)) }
+    ensures { IsTrue result ↔ ((status ≡ 0) ⊎ (status ≡ AT_FAULT) ⊎ (status ≡ WARNED)) }
 {
-    status == 0 || status == WARNED
+    status == 0 || status == AT_FAULT || status == WARNED
 }
 
-// Writes what is left in the buffer of a program that has an answer, and gives the status: 3 where that fails.
+// Writes what is left in the buffer of a program that may have an answer, and gives the status: 3 where that fails.
 fn flushed<W: Write + Drop, E: Write>(status: u8, output: &mut BufWriter<W>, errors: &mut E) -> u8
-    ensures status { (result ≡ status) ⊎ (((status ≡ 0) ⊎ (status ≡ WARNED)) × (result ≡ 3)) }
-    ensures written { (result ≡ 0) ⊎ (result ≡ WARNED) → writer_buffer output.new ≡ [] }
+    ensures status { (result ≡ status) ⊎ (((status ≡ 0) ⊎ (status ≡ AT_FAULT) ⊎ (status ≡ WARNED)) × (result ≡ 3)) }
+    ensures written { (result ≡ 0) ⊎ (result ≡ AT_FAULT) ⊎ (result ≡ WARNED) → writer_buffer output.new ≡ [] }
     ensures bytes { Keeps (writer_contents W.contents output.old) (writer_contents W.contents output.new) }
 {
     if has_answer(status) && output.flush().is_err() {
