@@ -107,8 +107,8 @@ fn served<R: Read + Drop, W: Write, T: Threads + Wait + Sync>(
 /// - 3: the run is: a read or a write failed, memory was refused, or a workload couldn't be run to its end;
 /// - 4: there are warnings of a lawful workload.
 ///
-/// With a fault one line, or the words of `clap`, went to `errors`, and a write that failed there is ignored. It may wait
-/// for another thread.
+/// With a fault one line, or the words of `clap`, went to `errors`, and a write that failed there is ignored. It may
+/// wait for another thread.
 pub fn command<R: Read + Drop, W: Write, E: Write, T: Threads + Wait + Sync>(
     rt: &T,
     alloc: Global,

@@ -288,7 +288,8 @@ pub(crate) fn asked_of(alloc: Global, words: &[String]) -> Result<Request, Fault
     }
 }
 
-// What `clap` gives in place of matches: a request for help or for the version, want of memory, or a fault of the words.
+// What `clap` gives in place of matches: a request for help or for the version, want of memory, or a fault of the
+// words. Words that ask for a check alone don't ask for help.
 fn refused(words: &[String], error: clap::Error) -> Result<Request, Fault>
     ensures asked { IfOk result (IsAskedBy words.now) }
     ensures no_input { IfErr result (λ e. status_of e ≢ 1) }
