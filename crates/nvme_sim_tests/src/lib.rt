@@ -26,6 +26,8 @@ mod streams;
 #[cfg(test)]
 mod tallies;
 #[cfg(test)]
+mod traces;
+#[cfg(test)]
 mod wanted;
 #[cfg(test)]
 mod workloads;

@@ -98,7 +98,7 @@ fn version_and_help(rt: HostRuntime) -> Result<(), Fail> {
             "{start}"
         );
     }
-    for name in ["run", "lint"] {
+    for name in ["run", "lint", "check", "trace", "chart", "stats"] {
         let left = program_again(&rt, rt.alloc(), &["nvmearb", name, "--help"], b"")?;
         assert_eq!(rt; (left.errors.len(), left.status), (0, 0));
         assert!(rt; !left.output.is_empty());
@@ -134,6 +134,10 @@ fn named_files(rt: HostRuntime) -> Result<(), Fail> {
     names(&rt, alloc, &["nvmearb", "run", "a.toml"], Some("a.toml"))?;
     names(&rt, alloc, &["nvmearb", "run", "--live", "-"], None)?;
     names(&rt, alloc, &["nvmearb", "lint", "lint"], Some("lint"))?;
+    names(&rt, alloc, &["nvmearb", "check", "a.json"], Some("a.json"))?;
+    names(&rt, alloc, &["nvmearb", "trace", "a.toml"], Some("a.toml"))?;
+    names(&rt, alloc, &["nvmearb", "chart", "-"], None)?;
+    names(&rt, alloc, &["nvmearb", "stats"], None)?;
     names(&rt, alloc, &["nvmearb", "run"], None)?;
     names(&rt, alloc, &["nvmearb", "run", "a.toml", "--help"], None)?;
     names(&rt, alloc, &["nvmearb", "loaded", "--workers", "2"], None)?;
