@@ -21,8 +21,8 @@ fn open(board: &mut Board, qid: u16) {
     }
 }
 
-// One more command waits, where the queue is open and has room for it.
-fn come(board: &mut Board, qid: u16) {
+/// One more command waits, where the queue is open and has room for it.
+pub fn come(board: &mut Board, qid: u16) {
     if let Some(queue) = board.queue(qid)
         && queue.count < HIGHEST_COUNT
     {
@@ -30,9 +30,9 @@ fn come(board: &mut Board, qid: u16) {
     }
 }
 
-// A board with so many queues, in each of which two commands wait: the I/O queues from identifier 1 on, and the admin
-// queue where there is no other left.
-fn ready_board(mechanism: Mechanism, queues: u16) -> Board {
+/// A board with so many queues, in each of which two commands wait: the I/O queues from identifier 1 on, and the admin
+/// queue where there is no other left.
+pub fn ready_board(mechanism: Mechanism, queues: u16) -> Board {
     let mut board = Board::new(mechanism, Settings::from_cdw11(0));
     let first = if queues > HIGHEST_QID { 0 } else { 1 };
     for qid in first..=queues.min(HIGHEST_QID) {
@@ -43,8 +43,8 @@ fn ready_board(mechanism: Mechanism, queues: u16) -> Board {
     board
 }
 
-// Picks so often, each time with one command that comes again.
-fn pick_from_board(board: &mut Board, count: u32) {
+/// Picks so often, each time with one command that comes again.
+pub fn pick_from_board(board: &mut Board, count: u32) {
     for _ in 0..count {
         if let Some(pick) = board.pick() {
             come(board, pick.qid);

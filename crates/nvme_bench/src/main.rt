@@ -3,6 +3,7 @@
 #![tactic(auto)]
 
 mod boards;
+mod checks;
 mod jobs;
 mod picks;
 mod rates;
@@ -29,6 +30,7 @@ fn measure<R: Clock + Eprint + Alloc<A = Global> + Threads + Wait + Sync>(
     match name {
         "picks" => picks::measure(rt, yardstick, count)?,
         "boards" => boards::measure(rt, yardstick, count)?,
+        "checks" => checks::measure(rt, yardstick, count)?,
         "tables" => tables::measure(rt, yardstick, count)?,
         "rings" => rings::measure(rt, yardstick, count)?,
         "jobs" => jobs::measure(rt, yardstick, count)?,
@@ -36,6 +38,7 @@ fn measure<R: Clock + Eprint + Alloc<A = Global> + Threads + Wait + Sync>(
         "all" => {
             picks::measure(rt, yardstick, count)?;
             boards::measure(rt, yardstick, count)?;
+            checks::measure(rt, yardstick, count)?;
             tables::measure(rt, yardstick, count)?;
             rings::measure(rt, yardstick, count)?;
             jobs::measure(rt, yardstick, count)?;

@@ -6,7 +6,7 @@ use std::alloc::{AllocError, Global};
 pub fn program<'a>(alloc: Global) -> Result<Command<'a>, AllocError> {
     let measurement = Arg::new(alloc, "measurement")
         .value_name("MEASUREMENT")
-        .help("picks, boards, tables, rings, jobs, runs or all")
+        .help("picks, boards, checks, tables, rings, jobs, runs or all")
         .required(true)
         .action(ArgAction::Set);
     let count = Arg::new(alloc, "count")

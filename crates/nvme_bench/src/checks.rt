@@ -1,0 +1,71 @@
+// Checks of a trace of a board over 16 queues, beside the board's own picks.
+use crate::boards::{come, pick_from_board, ready_board};
+use crate::rates::{Yardstick, tell};
+use anyhow::Result;
+use nvme_arbiter::{Mechanism, Settings};
+use nvme_log::Event;
+use nvme_trace::{check, write_trace};
+use std::alloc::Global;
+use std::rt::Clock;
+use std::time::Instant;
+
+const QUEUES: u16 = 16;
+
+// How many picks a trace has that is checked over and over, at most.
+const PART: u32 = 10_000;
+
+// The trace of so many picks of a board, each with one command that comes again.
+fn trace_of(alloc: Global, mechanism: Mechanism, count: u32) -> Result<Vec<u8>> {
+    let mut board = ready_board(mechanism, QUEUES);
+    let mut log = Vec::new(alloc);
+    for _ in 0..count {
+        let seen = board.seen();
+        if let Some(pick) = board.pick() {
+            log.push(Event::Pick { seen, pick })?;
+            come(&mut board, pick.qid);
+        }
+    }
+    let mut text = Vec::new(alloc);
+    let settings = Settings::from_cdw11(0);
+    write_trace(mechanism, settings, log.as_slice(), &mut text)?;
+    Ok(text)
+}
+
+// Checks a trace so often.
+fn check_often(alloc: Global, text: &[u8], times: u32) -> Result<()> {
+    for _ in 0..times {
+        let _ = check(alloc, text)?;
+    }
+    Ok(())
+}
+
+/// Measures checks of both mechanisms, with burst 1.
+pub fn measure<R: Clock + Eprint + Alloc<A = Global>>(
+    rt: &R,
+    yardstick: Yardstick,
+    count: u32,
+) -> Result<()> {
+    for (mechanism, name) in [
+        (Mechanism::RoundRobin, "round robin"),
+        (Mechanism::Weighted, "weighted"),
+    ] {
+        let part = count.min(PART);
+        let times = count / part.max(1);
+        let checked = part.saturating_mul(times);
+        let text = trace_of(rt.alloc(), mechanism, part)?;
+        let start = Instant::now(rt)?;
+        check_often(rt.alloc(), text.as_slice(), times)?;
+        let check_took = start.elapsed(rt)?;
+        let mut board = ready_board(mechanism, QUEUES);
+        let start = Instant::now(rt)?;
+        pick_from_board(&mut board, checked);
+        let board_took = start.elapsed(rt)?;
+        let what = format!(in rt.alloc(); "check, {name}, 16 ready queues: picks")?;
+        tell(rt, yardstick, what.as_str(), checked, check_took)?;
+        let what = format!(in rt.alloc(); "board over the same queues: picks")?;
+        tell(rt, yardstick, what.as_str(), checked, board_took)?;
+        let times = check_took.as_nanos() / board_took.as_nanos().max(1);
+        eprintln!(rt; "check to board: {times} times")?;
+    }
+    Ok(())
+}
