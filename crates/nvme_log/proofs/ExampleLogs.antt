@@ -14,7 +14,7 @@ use Rattle.nvme_log.specs.Account.{IndexCounts, ServedWhileOpen, Observed, Delet
 use Rattle.nvme_log.specs.Laws.{StartsWithAdmin}
 use Rattle.nvme_log.specs.Examples.{two_slots, at_admin, four_commands, four_completions, two_slots_past, admin_posted, get_arbitration, at_two, one_deletion, create_cq, create_sq, delete_sq, admin_script, reads, read, admin_done, reads_done, deleted}
 
-true_or_false : (b : Bool) → (b ≡ true) ⊎ (b ≡ false)
+pub true_or_false : (b : Bool) → (b ≡ true) ⊎ (b ≡ false)
 true_or_false true = inl refl
 true_or_false false = inr refl
 

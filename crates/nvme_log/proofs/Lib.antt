@@ -2,6 +2,7 @@ pub mod Prefixes
 pub mod Fates
 pub mod Posts
 pub mod ExampleLogs
+pub mod FourNumbers
 pub mod Tables
 pub mod Waiting
 pub mod Counting

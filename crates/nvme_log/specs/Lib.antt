@@ -9,4 +9,5 @@ pub mod Account
 pub mod Loaded
 pub mod Laws
 pub mod Examples
+pub mod FourNumbers
 pub mod Dispatches

@@ -1,19 +1,23 @@
 //! Laws of logs, over the definitions alone. Each function does nothing: its contract is the law.
-ghost use Rattle.nvme_log.specs.Account.{Deletes, IndexCounts, IsAccount, LeavesPlaces, Observed, PostsOwn, ServedWhileOpen};
+ghost use Rattle.nvme_log.specs.Account.{Deletes, IndexCounts, IsAccount, LeavesPlaces, Observed, PostsOwn, ServedWhileOpen, IsWholeAccount, deleting_place, latest_admin_place};
 ghost use Rattle.nvme_log.specs.Limits.{max_outstanding};
 ghost use Rattle.nvme_log.specs.Effects.{EffectsAtOnce, effects_since, made_last};
-ghost use Rattle.nvme_log.specs.Completions.{outstanding, posted_to};
-ghost use Rattle.nvme_log.specs.Histories.{arbitration_of};
-ghost use Rattle.nvme_log.specs.Places.{fetched};
+ghost use Rattle.nvme_log.specs.Completions.{outstanding, posted_to, posts_of, unposted_of};
+ghost use Rattle.nvme_log.specs.Histories.{arbitration_of, picks_in};
+ghost use Rattle.nvme_log.specs.Places.{fetched, is_served};
 ghost use Rattle.nvme_log.specs.Examples.{admin_posted, arbitration_told, at_admin, four_commands, four_completions, last_picked, two_slots, two_slots_past};
 ghost use Rattle.nvme_log.specs.Examples.{at_two, one_deletion, admin_script, reads, read, delete_sq, done, admin_done, reads_done, admin_seen, reads_seen, picked_of, admin_fetched, reads_fetched, one_picked, delete_picked, closing, aborted_posted, all_posted, deleted, queue_created, closed, read_done, window_filled};
+ghost use Rattle.nvme_log.specs.Dispatches.{AreJobs, dispatched, place_at};
+ghost use Rattle.nvme_log.specs.Queues.{is_serving};
+ghost use Rattle.nvme_log.specs.FourNumbers.{four_numbers, admin_five, four_reads, at_zero_and_two, five_told, four_told, all_closed, three_jobs};
+ghost use Rattle.nvme_log.specs.FourNumbers.{three_fetched, burst_set, one_more_picked, delete_4_picked, closing_4, posted_4, closed_4, last_unposted, four_told_first, five_told_first};
 ghost use Rattle.nvme_log.specs.declared.event.Event.TheVariants.{Fetch, OpenSq, Closing, Abort, Post, ClosedSq};
 ghost use Rattle.nvme_arbiter.specs.Lawful.{IsLawfulRun};
 ghost use Rattle.nvme_arbiter.specs.declared.settings.Class.TheVariants.{Urgent};
 ghost use Rattle.nvme_entry.specs.Status.{success, aborted_by_deletion, invalid_field};
 ghost use mathlib.Core.List.{IsPrefix};
 ghost use Rattle.nvme_log.specs.Rules.{Each, Past};
-ghost use Rattle.std.specs.Prelude.{◌≡◌, ◌+◌, [], ◌∷◌, true, false};
+ghost use Rattle.std.specs.Prelude.{◌≡◌, ◌+◌, [], ◌∷◌, ◌++◌, Some, None, true, false};
 ghost use Rattle.nvme_log.specs.Laws.{QueuesAreTheTables, StartsWithAdmin, OneFateEach, PrefixesAreAccounted, OnePostEach, WholeAccountsAnswer, WholeAccountsKeepThePromise};
 
 /// Each fetched place has exactly one fate: it waits, was picked or was aborted.
@@ -116,4 +120,51 @@ pub fn window_holds_seven()
 /// While two places are picked and not posted, and two aborted, two are outstanding.
 pub fn aborted_places_are_not_outstanding()
     ensures { outstanding one_deletion closing ≡ 2 }
+{}
+
+/// A queue, its region, its completion queue and that queue's region have four different numbers; two of its commands are
+/// picked at once, the settings change, and both queues are deleted. The log is accounted.
+pub fn four_numbers_are_told_apart()
+    ensures accounted { IsAccount four_numbers (at_zero_and_two admin_five four_reads) all_closed (at_two five_told four_told) }
+{}
+
+/// What a deletion forbids, one by one: a pick while it is pending, the end of another queue's or of another region's, and a
+/// fetch or an abort after it.
+pub fn deletions_forbid()
+    ensures picked_while_pending { Deletes closing_4 (picked_of (admin_seen 1 ∷ []) 0) → ⊥ }
+    ensures end_of_another_queue { Deletes posted_4 (ClosedSq 2 2) → ⊥ }
+    ensures end_of_another_region { Deletes posted_4 (ClosedSq 4 1) → ⊥ }
+    ensures fetched_after_closed { Deletes closed_4 (Fetch 2 4 (read 14)) → ⊥ }
+    ensures aborted_after_closed { Deletes closed_4 (Abort 2 3) → ⊥ }
+{}
+
+/// What stands at steps of that log: the places that workers get, in order, with their jobs; how many commands were picked,
+/// are outstanding and have no post; which command deletes; and which regions and places are served.
+pub fn worked_steps_are_counted()
+    ensures dispatched { dispatched all_closed ≡ place_at 2 0 ∷ place_at 2 1 ∷ place_at 2 2 ∷ [] }
+    ensures jobs { AreJobs four_numbers.sizes all_closed 0 (dispatched all_closed) three_jobs }
+    ensures picks { picks_in all_closed ≡ 7 }
+    ensures posts { posts_of all_closed 2 3 ≡ 1 }
+    ensures unposted { unposted_of closing_4 2 ≡ 4 }
+    ensures none_unposted { unposted_of one_more_picked 0 ≡ 0 }
+    ensures outstanding { outstanding four_numbers closing_4 ≡ 4 }
+    ensures latest { latest_admin_place one_more_picked ≡ Some 2 }
+    ensures deleting { deleting_place closing_4 ≡ Some 3 }
+    ensures none_deleting { deleting_place closed_4 ≡ None }
+    ensures open { is_serving three_fetched 2 ≡ true }
+    ensures closing { is_serving closing_4 2 ≡ true }
+    ensures closed { is_serving closed_4 2 ≡ false }
+    ensures aborted { is_served closing_4 2 3 ≡ true }
+    ensures waiting { is_served burst_set 2 2 ≡ false }
+    ensures unfetched { is_served closing_4 2 4 ≡ false }
+{}
+
+/// What is missing from the whole account, one by one: a post, a collected completion, a command that wasn't fetched, one
+/// that wasn't submitted, and one that wasn't submitted before the first turn.
+pub fn whole_accounts_have_all()
+    ensures post { IsWholeAccount four_numbers false (at_zero_and_two admin_five four_reads) (at_zero_and_two admin_five four_reads) last_unposted (at_two five_told_first four_told) → ⊥ }
+    ensures collected { IsWholeAccount four_numbers false (at_zero_and_two admin_five four_reads) (at_zero_and_two admin_five four_reads) all_closed (at_two five_told four_told_first) → ⊥ }
+    ensures fetched { IsWholeAccount four_numbers false (at_zero_and_two (admin_five ++ delete_sq ∷ []) four_reads) (at_zero_and_two (admin_five ++ delete_sq ∷ []) four_reads) all_closed (at_two five_told four_told) → ⊥ }
+    ensures submitted { IsWholeAccount four_numbers false (at_zero_and_two (admin_five ++ delete_sq ∷ []) four_reads) (at_zero_and_two admin_five four_reads) all_closed (at_two five_told four_told) → ⊥ }
+    ensures loaded { IsWholeAccount four_numbers true (at_zero_and_two admin_five (four_reads ++ read 14 ∷ [])) (at_zero_and_two admin_five four_reads) all_closed (at_two five_told four_told) → ⊥ }
 {}
