@@ -30,8 +30,8 @@ IsTextFault text mode (fault.Workload w) = workload_of text ≡ Err w
 IsTextFault text mode (fault.TooLong r) = IsTooLong text mode r
 IsTextFault text mode e = ⊥
 
--- a turn of a front failed so, which has the rules and the limit of a front that is made for a plan, and until its turns had logged nothing,
--- handed no job and gained no result
+-- a turn of a front failed so, which has the rules and the limit of a front that is made for a plan, and until its
+-- turns had logged nothing, handed no job and gained no result
 pub record FrontFails (plan : Plan) (e : FrontError) : Type 0 where
   pub given : FrontView
   pub rules : given.rules ≡ rules_for plan
