@@ -235,16 +235,23 @@ impl Hosted {
         Ok(())
     }
 
+    // One turn.
+    fn turn_once<R: Wait>(&mut self, rt: &R, lanes: &Lanes) -> Result<Step, FrontError>
+        requires { self.old.front.hands.seat.lane ≡ lanes.now }
+        ensures { SameSeat self.old.front.hands.seat self.new.front.hands.seat }
+    {
+        self.front.turn(rt, lanes)
+    }
+
     /// One turn. Where it is refused memory it goes on in another.
     pub fn turn<R: Wait>(&mut self, rt: &R, lanes: &Lanes) -> Result<Step, FrontError>
         requires { self.old.front.hands.seat.lane ≡ lanes.now }
         ensures { SameSeat self.old.front.hands.seat self.new.front.hands.seat }
     {
-        let step = self.front.turn(rt, lanes);
-        if step == Err(FrontError::NoMemory) {
-            return self.front.turn(rt, lanes);
+        match self.turn_once(rt, lanes) {
+            Err(FrontError::NoMemory) => self.turn_once(rt, lanes),
+            step => step,
         }
-        step
     }
 
     /// The front's log.

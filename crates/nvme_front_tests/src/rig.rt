@@ -172,13 +172,9 @@ impl Rig {
 
     /// Settles the front with its hosts and workers. Where that is refused memory, what came back is settled.
     pub fn settle<R: Wait>(self, rt: &R, alloc: Global) -> Result<Settled, (SettleError, Rig)> {
-        match settle(rt, alloc, parts_of(self)) {
-            Ok(settled) => Ok(settled),
-            Err((SettleError::NoMemory, back)) => match settle(rt, alloc, back) {
-                Ok(settled) => Ok(settled),
-                Err((error, again)) => Err((error, rig_of(again))),
-            },
-            Err((error, back)) => Err((error, rig_of(back))),
+        match settle_once(rt, alloc, self) {
+            Err((SettleError::NoMemory, back)) => settle_once(rt, alloc, back),
+            settled => settled,
         }
     }
 
@@ -211,6 +207,14 @@ impl Rig {
             }
             Err(refused) => Ok(refused),
         }
+    }
+}
+
+// Settles a rig, by one call.
+fn settle_once<R: Wait>(rt: &R, alloc: Global, rig: Rig) -> Result<Settled, (SettleError, Rig)> {
+    match settle(rt, alloc, parts_of(rig)) {
+        Ok(settled) => Ok(settled),
+        Err((error, back)) => Err((error, rig_of(back))),
     }
 }
 

@@ -109,7 +109,25 @@ fn work<R: Wait>(rt: &R, lanes: &Lanes, worker: Worker, flags: &Flags) -> Worker
     worker
 }
 
-type Handles = Vec<PromisedHandle<Worker, ComesBack>>;
+type Handle = PromisedHandle<Worker, ComesBack>;
+
+// A thread for a worker.
+fn start_one<'s, E: 's, R: Wait + Sync + 's>(
+    scope: &Scope<'s, E>,
+    rt: &'s R,
+    lanes: &'s Lanes,
+    worker: Worker,
+    flags: &'s Flags,
+) -> Result<Handle, AllocError>
+    requires { worker.lane ≡ lanes.now }
+    ensures { IfOk result (λ h. h.promise.0.value ≡ worker) }
+{
+    let promise = ComesBack(Snapshot::of(&worker));
+    match scope.spawn_with(promise, move || work(rt, lanes, worker, flags)) {
+        Ok(handle) => Ok(handle),
+        Err(_) => Err(AllocError),
+    }
+}
 
 // A thread for each worker. Where one can't be started the others are told to end.
 fn start<'s, E: 's, R: Wait + Sync + 's>(
@@ -119,15 +137,13 @@ fn start<'s, E: 's, R: Wait + Sync + 's>(
     lanes: &'s Lanes,
     workers: Vec<Worker>,
     flags: &'s Flags,
-) -> Result<Handles, AllocError>
+) -> Result<Vec<Handle>, AllocError>
     requires { All (λ (w : WorkerView). w.lane ≡ lanes.now) workers.items }
     ensures { IfOk result (λ v. map (λ h. h.promise.0.value) v.items ≡ workers.items) }
 {
     let mut handles = Vec::with_capacity(alloc, workers.len())?;
     for worker in workers {
-        let promise = ComesBack(Snapshot::of(&worker));
-        let started = scope.spawn_with(promise, move || work(rt, lanes, worker, flags));
-        let Ok(handle) = started else {
+        let Ok(handle) = start_one(scope, rt, lanes, worker, flags) else {
             flags.stop.store(1, Ordering::SeqCst);
             return Err(AllocError);
         };
@@ -137,7 +153,7 @@ fn start<'s, E: 's, R: Wait + Sync + 's>(
 }
 
 // Joins the threads. The workers come back in order.
-fn join_all<R: Threads>(rt: &R, handles: Handles) -> Result<Vec<Worker>, AllocError>
+fn join_all<R: Threads>(rt: &R, handles: Vec<Handle>) -> Result<Vec<Worker>, AllocError>
     ensures { IfOk result (λ v. SameWorkers (map (λ h. h.promise.0.value) handles.items) v.items) }
 {
     match thread::join_promised(rt, handles) {
