@@ -29,13 +29,8 @@ fn entry(opcode: u8, prp1: u64, cdw10: u32, cdw11: u32) -> Sqe {
     }
 }
 
-// Regions of 8 slots at 0x1000 to 0x3000 and 0x8000 to 0xa000, one of 16 slots of each kind, and
-// completion queue 1 and submission queue 1 open.
-fn prepared(rt: &impl Abort, nsq: u16, ncq: u16) -> Result<Table, AdminError>
-    requires nsq { (1 ≤ nsq) × (nsq ≤ 16) }
-    requires ncq { (1 ≤ ncq) × (ncq ≤ 16) }
-{
-    let mut table = Table::new(Limits { nsq, ncq }, Settings::from_cdw11(0));
+// Adds regions of 8 slots at 0x1000 to 0x3000 and 0x8000 to 0xa000, and one of 16 slots of each kind.
+fn add_regions(table: &mut Table) -> Result<(), AdminError> {
     table.add_sq_region(0x1000, 8)?;
     table.add_sq_region(0x2000, 8)?;
     table.add_sq_region(0x3000, 8)?;
@@ -44,6 +39,16 @@ fn prepared(rt: &impl Abort, nsq: u16, ncq: u16) -> Result<Table, AdminError>
     table.add_cq_region(0x9000, 8)?;
     table.add_cq_region(0xa000, 8)?;
     table.add_cq_region(0xb000, 16)?;
+    Ok(())
+}
+
+// A table with these regions, with completion queue 1 and submission queue 1 open.
+fn prepared(rt: &impl Abort, nsq: u16, ncq: u16) -> Result<Table, AdminError>
+    requires nsq { (1 ≤ nsq) × (nsq ≤ 16) }
+    requires ncq { (1 ≤ ncq) × (ncq ≤ 16) }
+{
+    let mut table = Table::new(Limits { nsq, ncq }, Settings::from_cdw11(0));
+    add_regions(&mut table)?;
     assert_eq!(rt;
         table.apply(&entry(5, 0x9000, 0x0007_0001, 1)),
         Verdict::OpenCq { qid: 1, region: 1 }

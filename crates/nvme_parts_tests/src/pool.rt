@@ -278,6 +278,26 @@ fn lead<R: Wait>(rt: &R, lanes: &Lanes, mut seat: FrontSeat, count: u32, spaces:
     gain_to(rt, lanes, &mut seat, gained, u64::from(count))
 }
 
+// A thread for a worker.
+fn start_one<'s, E: 's, R: Wait + Sync + 's>(
+    scope: &Scope<'s, E>,
+    rt: &'s R,
+    lanes: &'s Lanes,
+    worker: Worker,
+    counts: &'s [AtomicU64],
+    stop: &'s AtomicU64,
+) -> Result<(), AllocError>
+    requires { worker.lane ≡ lanes.now }
+{
+    if scope
+        .spawn(move || work(rt, lanes, worker, counts, stop))
+        .is_err()
+    {
+        return Err(AllocError);
+    }
+    Ok(())
+}
+
 // A thread for each worker. Where one can't be started the others are told to end.
 fn start<'s, E: 's, R: Wait + Sync + 's>(
     scope: &Scope<'s, E>,
@@ -290,8 +310,7 @@ fn start<'s, E: 's, R: Wait + Sync + 's>(
     requires { All (λ (w : WorkerView). w.lane ≡ lanes.now) workers.items }
 {
     for worker in workers {
-        let started = scope.spawn(move || work(rt, lanes, worker, counts, stop));
-        if started.is_err() {
+        if start_one(scope, rt, lanes, worker, counts, stop).is_err() {
             stop.store(1, Ordering::SeqCst);
             return Err(AllocError);
         }

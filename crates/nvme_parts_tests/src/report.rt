@@ -91,9 +91,8 @@ fn delete_queue(log: &mut Vec<Event>) -> std::result::Result<(), AllocError> {
     Ok(())
 }
 
-// The log of two queues of three commands each. The deletion of queue 1 aborts two of its commands.
-fn log_of_deletion(alloc: Global) -> std::result::Result<Vec<Event>, AllocError> {
-    let mut log = Vec::new(alloc);
+// Adds the events of queue 0 and, among them, those of queue 1.
+fn add_events(log: &mut Vec<Event>) -> std::result::Result<(), AllocError> {
     for index in 0..3 {
         log.push(fetched(0, index))?;
     }
@@ -107,8 +106,15 @@ fn log_of_deletion(alloc: Global) -> std::result::Result<Vec<Event>, AllocError>
         class: Class::Urgent,
     })?;
     log.push(answered(0, 1, Status::SUCCESS))?;
-    delete_queue(&mut log)?;
+    delete_queue(log)?;
     log.push(answered(0, 2, Status::SUCCESS))?;
+    Ok(())
+}
+
+// The log of two queues of three commands each. The deletion of queue 1 aborts two of its commands.
+fn log_of_deletion(alloc: Global) -> std::result::Result<Vec<Event>, AllocError> {
+    let mut log = Vec::new(alloc);
+    add_events(&mut log)?;
     Ok(log)
 }
 
@@ -146,6 +152,38 @@ fn is_posted_once(log: &[Event]) -> bool
     is_posted_once(rest)
 }
 
+// The completions that a log posts to a completion region.
+fn posted_to(
+    alloc: Global,
+    log: &[Event],
+    region: u8,
+) -> std::result::Result<Vec<Cqe>, AllocError> {
+    let mut cqes = Vec::new(alloc);
+    for event in log {
+        if let Event::Post { cq_region, cqe, .. } = event {
+            if *cq_region == region {
+                cqes.push(*cqe)?;
+            }
+        }
+    }
+    Ok(cqes)
+}
+
+// Adds what the hosts of two regions of each kind submitted and collected.
+fn add_hosts(
+    alloc: Global,
+    log: &[Event],
+    sent: &mut Vec<Sent>,
+    collected: &mut Vec<Vec<Cqe>>,
+) -> std::result::Result<(), AllocError> {
+    for region in 0..2 {
+        let script = vec![in alloc; Sqe::default(); 3]?;
+        sent.push(Sent { script, count: 3 })?;
+        collected.push(posted_to(alloc, log, region)?)?;
+    }
+    Ok(())
+}
+
 // What is left when they are settled.
 fn deletion(alloc: Global) -> std::result::Result<Settled, AllocError>
     ensures { IfOk result (λ settled. (r i : ℕ) → posts_of (reverse settled.log.items) r i ≤ 1) }
@@ -153,20 +191,8 @@ fn deletion(alloc: Global) -> std::result::Result<Settled, AllocError>
     let log = log_of_deletion(alloc)?;
     let mut sent = Vec::new(alloc);
     let mut collected = Vec::new(alloc);
-    for at in 0..2 {
-        let script = vec![in alloc; Sqe::default(); 3]?;
-        sent.push(Sent { script, count: 3 })?;
-        let mut cqes = Vec::new(alloc);
-        for event in &log {
-            if let Event::Post { cq_region, cqe, .. } = event {
-                if *cq_region == at {
-                    cqes.push(*cqe)?;
-                }
-            }
-        }
-        collected.push(cqes)?;
-    }
-    if !is_posted_once(log.as_slice()) {
+    let added = add_hosts(alloc, log.as_slice(), &mut sent, &mut collected);
+    if added.is_err() || !is_posted_once(log.as_slice()) {
         return Err(AllocError);
     }
     Ok(Settled {
