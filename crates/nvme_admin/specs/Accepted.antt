@@ -1,4 +1,5 @@
 -- The queue table, the statuses and the answers of a table history. An entry is accepted where its status after the history before it is success.
+-- (Base Specification, Admin Command Set; histories: profile)
 use Rattle.std.specs.Prelude.{ℕ, Bool, if◌then◌else◌, [], ◌∷◌, Option}
 use Rattle.nvme_entry.specs.Status.{StatusCode}
 use Rattle.nvme_entry.specs.AdminCommand.{admin_command_of}

@@ -1,4 +1,5 @@
 -- What each step of a table history changes, and when a verdict is due.
+-- (Base Specification, Create and Delete I/O Submission and Completion Queue; when a verdict is due: profile)
 use Rattle.std.specs.Prelude.{◌≡◌, ◌≢◌, ℕ, ◌<◌, ◌==◌, if◌then◌else◌, true, false, length, ◌∷◌, Option, Some, None, is_some, option_map}
 use Rattle.nvme_entry.specs.declared.submission.Sqe.{Sqe}
 use Rattle.nvme_arbiter.specs.Settings.{ArbitrationFields}

@@ -1,4 +1,5 @@
 -- Worked table histories, for which the definitions compute.
+-- (Base Specification, Create and Delete I/O Submission and Completion Queue, Get and Set Features)
 use Rattle.std.specs.Prelude.{◌≡◌, ℕ, ◌+◌, ◌*◌, true, false, List, [], ◌∷◌, map, Some, None}
 use Rattle.nvme_entry.specs.Status.{StatusCode, success, invalid_opcode, invalid_field, sequence_error, completion_queue_invalid, invalid_queue_identifier, invalid_queue_size, invalid_queue_deletion, feature_not_saveable}
 use Rattle.nvme_entry.specs.declared.submission.Sqe.{Sqe}

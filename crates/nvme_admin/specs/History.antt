@@ -1,4 +1,4 @@
--- Table histories: what happened to a queue table.
+-- Table histories: what happened to a queue table (profile).
 use Rattle.std.specs.Prelude.{ℕ, List}
 use Rattle.nvme_arbiter.specs.Settings.{ArbitrationFields}
 use Rattle.nvme_entry.specs.declared.submission.Sqe.{Sqe}

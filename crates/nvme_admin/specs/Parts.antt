@@ -1,4 +1,4 @@
--- The parts of a table.
+-- The parts of a table (profile).
 use Rattle.nvme_admin.specs.Standing.{TableView}
 use Rattle.nvme_admin.specs.declared.table.parts.TableParts.{TableParts}
 

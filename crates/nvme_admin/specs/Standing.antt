@@ -1,4 +1,4 @@
--- What a contract sees of a `Table`, and when a table stands at a table history.
+-- What a contract sees of a `Table`, and when a table stands at a table history (profile).
 use Rattle.std.specs.Prelude.{◌≡◌, ℕ, ◌==◌, Bool, true, false, nat_lt, ◌||◌, if◌then◌else◌, List, ◌∷◌, length, Option, Some, None, is_some, slice_index_or}
 use Rattle.nvme_entry.specs.Status.{StatusCode}
 use Rattle.nvme_entry.specs.declared.admin.AdminCommand.{AdminCommand}

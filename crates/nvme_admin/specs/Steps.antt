@@ -1,4 +1,5 @@
 -- What a step makes of a queue table, by that queue table alone.
+-- (Base Specification, Create and Delete I/O Submission and Completion Queue, Arbitration feature, Number of Queues feature)
 use Rattle.std.specs.Prelude.{ℕ, ◌+◌, ◌==◌, ◌&&◌, ◌||◌, Bool, true, false, not, min, if◌then◌else◌, [], Option, Some, None, option_map, unwrap_or}
 use Rattle.nvme_entry.specs.declared.admin.AdminCommand.{AdminCommand}
 use Rattle.nvme_entry.specs.declared.admin.AdminCommand.TheVariants.{DeleteSq, CreateSq, DeleteCq, CreateCq, SetFeatures}

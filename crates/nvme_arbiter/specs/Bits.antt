@@ -1,4 +1,4 @@
--- Masks of queues: bit i is for the queue of identifier i.
+-- Masks of queues: bit i is for the queue of identifier i (profile).
 use Rattle.std.specs.Prelude.{◌≡◌, ℕ, ◌*◌, ◌%◌, ◌^◌, ◌<◌, Bool, true, false, nat_lt, if◌then◌else◌, bit_and, bit_or}
 use Rattle.std.specs.Int.{bit_at, bit_not, w128}
 

@@ -1,4 +1,4 @@
--- A board: what an arbiter keeps, and the open queues with the number of commands that wait in each.
+-- A board: what an arbiter keeps, and the open queues with the number of commands that wait in each (profile).
 use Rattle.std.specs.Prelude.{◌≡◌, List, length, Option, option_map, slice_set}
 use Rattle.nvme_arbiter.specs.Limits.{queue_limit}
 use Rattle.nvme_arbiter.specs.Settings.{ArbitrationFields}

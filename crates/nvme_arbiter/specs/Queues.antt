@@ -1,4 +1,4 @@
--- The open submission queues of a board, by identifier.
+-- The open submission queues of a board, by identifier (profile).
 use Rattle.std.specs.Prelude.{◌≡◌, ℕ, ◌+◌, ◌-◌, ◌<◌, Bool, false, nat_lt, if◌then◌else◌, List, [], ◌∷◌, length, slice_index_or, Option, Some, None, option_map}
 use Rattle.std.specs.Int.{bit_at}
 use Rattle.nvme_arbiter.specs.Limits.{queue_limit}

@@ -1,4 +1,4 @@
--- Bounds on service by count, over stretches of lawful runs in which the settings stay.
+-- Bounds on service by count, over stretches of lawful runs in which the settings stay (profile).
 use Rattle.std.specs.Prelude.{ℕ, ◌+◌, ◌*◌, ◌≤◌, ◌==◌, ◌&&◌, Bool, true, false, not, List, [], ◌∷◌, ◌++◌, length, map, filter, IsTrue}
 use Rattle.std.specs.List.{list_any, list_all}
 use Rattle.nvme_arbiter.specs.Limits.{highest_qid, queue_limit}

@@ -1,4 +1,5 @@
 -- Worked instances of the bounds on service: the first queue behind them waits for as long as the bound allows.
+-- (profile)
 use Rattle.std.specs.Prelude.{◌≡◌, ◌+◌, ◌*◌, ◌==◌, ◌&&◌, List, [], ◌∷◌, ◌++◌, length, filter, IsTrue, IsFalse}
 use Rattle.std.specs.List.{list_any, list_all}
 use Rattle.nvme_arbiter.specs.Settings.{settings_of, weight_of}

@@ -1,4 +1,4 @@
--- What an arbiter keeps, and the histories at which it stands.
+-- What an arbiter keeps, and the histories at which it stands (profile).
 use Rattle.std.specs.Prelude.{◌≡◌, ℕ, ◌+◌, ◌≤◌, Bool, if◌then◌else◌, List, Option, Some, None}
 use Rattle.nvme_arbiter.specs.Settings.{ArbitrationFields, weight_of, IsLevel}
 use Rattle.nvme_arbiter.specs.History.{History, settings_after, last_served, last_served_of, used_in_round}

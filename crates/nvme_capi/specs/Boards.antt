@@ -1,4 +1,4 @@
--- What a board of C says, in the library's terms.
+-- What a board of C says, in the library's terms (profile).
 use Rattle.std.specs.Prelude.{ℕ, ◌==◌, if◌then◌else◌, IsTrue, Option, Some, None, List, map}
 use Rattle.nvme_arbiter.specs.Queues.{queue_at, FitsUnder}
 use Rattle.nvme_arbiter.specs.Board.{BoardView}

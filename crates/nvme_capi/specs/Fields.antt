@@ -1,4 +1,4 @@
--- What the structs of C say, in the libraries' terms.
+-- What the structs of C say, in the libraries' terms (profile).
 use Rattle.std.specs.Prelude.{ℕ, ◌≤◌, ◌==◌, Bool, if◌then◌else◌, unwrap_or}
 use Rattle.nvme_entry.specs.Status.{StatusCode}
 use Rattle.nvme_entry.specs.declared.submission.Sqe.{Sqe}

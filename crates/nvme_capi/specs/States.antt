@@ -1,4 +1,4 @@
--- What a state of C says, in the library's terms.
+-- What a state of C says, in the library's terms (profile).
 use Rattle.std.specs.Prelude.{ℕ, ◌-◌, ◌≤◌, ◌==◌, length, ◌&&◌, ◌||◌, nat_le, Bool, if◌then◌else◌, Option, Some, None, List, map}
 use Rattle.nvme_arbiter.specs.Settings.{settings_of}
 use Rattle.nvme_arbiter.specs.Limits.{queue_limit}

@@ -1,4 +1,4 @@
--- What a queue table of C says, in the library's terms.
+-- What a queue table of C says, in the library's terms (profile).
 use Rattle.std.specs.Prelude.{ℕ, ◌==◌, ◌&&◌, nat_le, Bool, true, false, Option, Some, None, List, map, take}
 use Rattle.std.specs.List.{list_all}
 use Rattle.nvme_entry.specs.Status.{StatusCode, success}

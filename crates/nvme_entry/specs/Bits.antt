@@ -1,4 +1,4 @@
--- Fields by their places, as the specification writes them.
+-- Fields by their places, as the specification writes them (Base Specification, Byte, Word, and Dword Relationships).
 use Rattle.std.specs.Prelude.{ℕ, ◌+◌, ◌-◌, ◌*◌, ◌/◌, ◌%◌, ◌^◌, ◌<◌, List, slice_index}
 use Rattle.byteorder.specs.Endian.{little_from}
 

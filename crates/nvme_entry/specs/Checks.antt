@@ -1,4 +1,4 @@
--- Checks of a command, and what they come to.
+-- Checks of a command, and what they come to (profile).
 use Rattle.std.specs.Prelude.{List, [], ◌∷◌, Bool, if◌then◌else◌}
 use Rattle.nvme_entry.specs.Status.{StatusCode, success}
 

@@ -1,4 +1,4 @@
--- What only private contracts cite: no public clause reaches it.
+-- What only private contracts cite: no public clause reaches it (profile).
 pub mod Applied
 pub mod Clear
 pub mod Goes

@@ -1,4 +1,5 @@
 -- The rule of a lane, which each step keeps: what was pushed over all passes is what was popped over all passes and what the lane holds, however the items are weighed.
+-- (profile)
 use Rattle.std.specs.Prelude.{◌≡◌, ℕ, ◌+◌, List, [], sum_by}
 use mathlib.Core.Option.{some}
 use lib.ListN.{get_elem?}

@@ -1,4 +1,4 @@
--- What a contract sees of a drainer.
+-- What a contract sees of a drainer (profile).
 use Rattle.std.specs.Prelude.{List}
 use Rattle.nvme_lane.specs.View.{GetView}
 use Rattle.nvme_lane.specs.declared.drainer.Drainer.{Drainer}

@@ -1,4 +1,4 @@
--- What a contract sees of a feeder.
+-- What a contract sees of a feeder (profile).
 use Rattle.std.specs.Prelude.{ℕ, List}
 use Rattle.nvme_lane.specs.View.{PutView}
 use Rattle.nvme_lane.specs.declared.feeder.Feeder.{Feeder}

@@ -1,4 +1,4 @@
--- What a pass of a lane has done, as the rule of the lane sees it.
+-- What a pass of a lane has done, as the rule of the lane sees it (profile).
 use Rattle.std.specs.Prelude.{ℕ, List}
 use Rattle.nvme_lane.specs.declared.rule.Hand.{Hand}
 

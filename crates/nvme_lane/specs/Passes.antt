@@ -1,4 +1,4 @@
--- What contracts see of a lane and of its passes.
+-- What contracts see of a lane and of its passes (profile).
 use Rattle.std.specs.Prelude.{◌≡◌, ℕ, ◌+◌, ◌<◌, List, [], length, sum_by, slice_index_or}
 use Rattle.std.specs.List.{All}
 use Rattle.atomic_table.specs.Seated.{TableId}

@@ -1,4 +1,4 @@
--- Worked logs, for which the definitions compute.
+-- Worked logs, for which the definitions compute (profile).
 use Rattle.std.specs.Prelude.{ℕ, ◌==◌, Bool, true, false, if◌then◌else◌, List, [], ◌∷◌}
 use Rattle.nvme_entry.specs.Status.{StatusCode, success, aborted_by_deletion}
 use Rattle.nvme_entry.specs.declared.submission.Sqe.{Sqe}

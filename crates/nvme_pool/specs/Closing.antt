@@ -1,4 +1,4 @@
--- What the caller of a close learns.
+-- What the caller of a close learns (profile).
 use Rattle.std.specs.Prelude.{◌≡◌, ℕ, ◌+◌, List, [], ◌∷◌, ◌++◌, length, sum_by, None}
 use Rattle.std.specs.List.{All}
 use Rattle.nvme_pool.specs.declared.jobs.Job.{Job}

@@ -1,4 +1,4 @@
--- The passes of a pool's lane.
+-- The passes of a pool's lane (profile).
 use Rattle.std.specs.Prelude.{List, map}
 use Rattle.nvme_lane.specs.Passes.{PassView}
 use Rattle.nvme_pool.specs.declared.jobs.Job.{Job}

@@ -1,4 +1,5 @@
 -- Where an end of a result ring stands: of which ring it is, at which address, with how many slots. Two ends are those of one ring where these are equal.
+-- (profile)
 use Rattle.std.specs.Prelude.{ℕ}
 use Rattle.nvme_lane.specs.View.{RingName, PutView, GetView}
 

@@ -1,4 +1,4 @@
--- What ties the lane, the seat and the workers of one pool.
+-- What ties the lane, the seat and the workers of one pool (profile).
 use Rattle.std.specs.Prelude.{◌≡◌, ◌+◌, ◌≤◌, List, [], map, length, sum_by}
 use Rattle.std.specs.List.{All, range_with_len}
 use Rattle.nvme_lane.specs.View.{GetView}

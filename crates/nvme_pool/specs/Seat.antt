@@ -1,4 +1,4 @@
--- What contracts see of the front's seat at a pool.
+-- What contracts see of the front's seat at a pool (profile).
 use Rattle.std.specs.Prelude.{◌≡◌, ℕ, ◌<◌, List, [], ◌∷◌, ◌++◌, length, map}
 use Rattle.std.specs.List.{All}
 use Rattle.nvme_lane.specs.View.{GetView, SameGet}

@@ -1,4 +1,4 @@
--- What a step of a worker does, to the worker and to its gate.
+-- What a step of a worker does, to the worker and to its gate (profile).
 use Rattle.std.specs.Prelude.{◌≡◌, ℕ, ◌-◌, [], ◌∷◌, ◌++◌, Option, Some, None}
 use Rattle.nvme_pool.specs.declared.jobs.Job.{Job}
 use Rattle.nvme_pool.specs.declared.jobs.Finished.{Finished}

@@ -1,4 +1,4 @@
--- What contracts see of a worker.
+-- What contracts see of a worker (profile).
 use Rattle.std.specs.Prelude.{◌≡◌, ℕ, ◌+◌, List, [], ◌∷◌, ◌++◌, map, Option, Some, None}
 use Rattle.nvme_lane.specs.Passes.{LaneView}
 use Rattle.nvme_pool.specs.declared.jobs.Job.{Job}

@@ -1,4 +1,4 @@
--- What a function that writes a text leaves in its writer, where the writer tells its bytes.
+-- What a function that writes a text leaves in its writer, where the writer tells its bytes (profile).
 use Rattle.std.specs.Prelude.{ℕ, List, Option, Result, MatchResult}
 use Rattle.std.specs.Io.KnownBytes.{Appends}
 use mathlib.Core.List.{IsPrefix}

@@ -1,4 +1,4 @@
--- The pieces of a line.
+-- The pieces of a line (profile).
 use Rattle.std.specs.Prelude.{ℕ, List, decimal}
 use Rattle.nvme_report.specs.declared.reports.pieces.Piece.{Piece}
 use Rattle.nvme_report.specs.declared.reports.pieces.Piece.TheVariants.{Words, Number, Byte, Dword}

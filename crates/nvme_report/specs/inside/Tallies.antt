@@ -1,4 +1,4 @@
--- What the report counts as it goes through a log.
+-- What the report counts as it goes through a log (profile).
 use Rattle.std.specs.Prelude.{◌≡◌, ℕ, ◌*◌, ◌-◌, ◌^◌, ◌<◌, ◌≤◌, List, [], ◌∷◌, Option, Some, None, length, get_or, codes, decimal}
 use Rattle.nvme_front.specs.declared.settled.Sent.{Sent}
 use Rattle.nvme_log.specs.Rules.{Past}
