@@ -71,7 +71,7 @@ TakesSq s t x = (start : Start) (h : TableHistory) → StandsAt start s.table h 
 abbrev TakesCq : FrontState → FrontState → CqRegion → Type 0
 TakesCq s t x = (start : Start) (h : TableHistory) → StandsAt start s.table h → StandsAt start t.table (RegionAdded Completion x.end.address x.end.slots ∷ h)
 
--- what a table takes at an address and of so many slots, told of the region that has them
+-- what a table takes at an address and of a number of slots, told of the region that has them
 takes_sq : (s t : FrontState) (x : SqRegion) (v : TableView) (a n : ℕ) → t.table ≡ v → a ≡ x.end.address → n ≡ x.end.slots
     → ((start : Start) (h : TableHistory) → StandsAt start s.table h → StandsAt start v (RegionAdded Submission a n ∷ h)) → TakesSq s t x
 takes_sq s t x v a n table address slots takes start h before =

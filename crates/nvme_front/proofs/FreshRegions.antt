@@ -22,7 +22,7 @@ use Rattle.nvme_front.specs.inside.State.{sq_kept, cq_kept, sq_in, cq_in, gets_o
 use Rattle.nvme_state.specs.inside.Standing.{IsFresh, IsFreshSq, IsFreshCq, first_on_board}
 use Rattle.nvme_front.proofs.RegionLists.{rules_with, kept_with, slots_of_sq, slots_of_cq, number_of_sq, number_of_cq, sq_more-stands, cq_more-stands, sq_in-before, sq_in-last, sq_in-past, cq_in-before, cq_in-last, cq_in-past}
 
--- the board after a submission region was added to so many: the first one opens the admin queue
+-- the board after a submission region was added to those before it: the first one opens the admin queue
 abbrev pub board_with_sq : ℕ → BoardView → BoardView
 board_with_sq n board = if n == 0 then record board { queues = slice_set board.queues 0 (Some (record { class = Admin; count = 0 })) } else board
 

@@ -67,7 +67,7 @@ kept_quietly a b k admin g log table fresh stands =
     }
 
 -- ---- a job is handed
--- a front with other jobs, whose limit of events is known anew
+-- a front with other jobs, whose limit of events is known again
 abbrev pub with_jobs : (s : FrontState) → s.config.max_events ≤ most_events → JobsView → FrontState
 with_jobs s few jobs = record s { config = with_few s.config few; jobs = jobs }
 

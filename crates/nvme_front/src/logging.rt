@@ -5,7 +5,7 @@ ghost use Rattle.nvme_front.specs.declared.front.FrontError.TheVariants.{NoMemor
 use crate::front::FrontError;
 use nvme_log::Event;
 
-/// Makes room for so many events: within the limit of the log, and in memory.
+/// Makes room for the given number of events: within the limit of the log, and in memory.
 pub fn make_room(log: &mut Vec<Event>, limit: u32, events: u32) -> Result<(), FrontError>
     ensures same { log.new.items ≡ log.old.items }
     ensures within { OnOk result (length log.old.items + events ≤ limit) }

@@ -9,7 +9,8 @@ use nvme_entry::{Cqe, complete};
 use nvme_log::Event;
 use nvme_state::Ready;
 
-// The phase tag of the next completion in a ring of so many slots, after so many. (Base Specification, Phase Tag)
+// The phase tag of the next completion in a ring with the given number of slots, after the given number of posts. (Base
+// Specification, Phase Tag)
 fn phase_of(posted: u32, slots: u16) -> bool
     requires { 0 < slots }
     ensures { result ≡ phase_after posted slots }

@@ -94,8 +94,8 @@ fn look(front: &mut Front, feeders: &mut Vec<Feeder<Sqe>>) -> bool
     quiet
 }
 
-// Takes so many completions, all that rest in a drainer's ring. False where memory was refused; those that were taken
-// stand in the drainer then.
+// Takes the given number of completions, all that rest in a drainer's ring. False where memory was refused; those that
+// were taken stand in the drainer then.
 fn take_all(drainer: &mut Drainer<Cqe>, rests: u16) -> bool
     requires { rests ≡ length (get_of drainer.old).known }
     ensures ring { SameGet (get_of drainer.old) (get_of drainer.new) }

@@ -21,7 +21,7 @@ max_passes = 8
 abbrev pub IsOutside : ℕ → ℕ → ℕ → Type 0
 IsOutside n low high = (n < low) ⊎ (high < n)
 
--- no lane may have this capacity with so many producers and consumers
+-- no lane may have this capacity with these numbers of producers and consumers
 abbrev pub IsNoLaneSize : ℕ → ℕ → ℕ → Type 0
 IsNoLaneSize cap producers consumers =
     IsOutside cap 1 max_capacity ⊎ (IsOutside producers 1 max_passes ⊎ IsOutside consumers 1 max_passes)

@@ -67,7 +67,7 @@ fn build<T: Copy>(
     Ok((Lane { queue }, pushes, pops))
 }
 
-// So many passes of one part each, of a lane of that capacity, in a list with room for one more.
+// The given number of passes of one part each, of a lane of that capacity, in a list with room for one more.
 fn push_passes<T>(
     alloc: Global,
     queue: &Queue<T>,
@@ -90,7 +90,7 @@ fn push_passes<T>(
     Ok(passes)
 }
 
-// So many passes of one part each, of a lane of that capacity.
+// The given number of passes of one part each, of a lane of that capacity.
 fn pop_passes<T>(
     alloc: Global,
     queue: &Queue<T>,

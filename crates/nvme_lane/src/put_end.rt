@@ -10,7 +10,7 @@ pub struct PutEnd<T: Copy> {
     pub(crate) producer: Producer<T>,
     pub(crate) address: u64,
     pub(crate) slots: u16,
-    // So many places were free when both ends were last looked at together, less those filled since.
+    // The number of places that were free when both ends were last looked at together, less those filled since.
     pub(crate) free: u16,
 }
 

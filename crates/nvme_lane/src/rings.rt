@@ -10,7 +10,7 @@ use crate::put_end::PutEnd;
 use rtrb::RingBuffer;
 use std::alloc::Global;
 
-/// A ring at an address, with so many slots: it holds one item less. `Size` exactly where the number of
+/// A ring at an address with the given number of slots: it holds one item less. `Size` exactly where the number of
 /// slots is outside `MIN_SLOTS` to `MAX_SLOTS`; `NoMemory` where an allocation was refused.
 pub fn ring<T: Copy>(
     alloc: Global,

@@ -57,7 +57,7 @@ arbitration_told cid phase = record { dw0 = 0x03010001; sqhd = 4; sqid = 0; cid 
 abbrev pub four_completions : List Cqe
 four_completions = arbitration_told 0 true ∷ arbitration_told 1 true ∷ arbitration_told 2 false ∷ arbitration_told 3 false ∷ []
 
--- the admin queue is picked while so many of its commands wait
+-- the admin queue is picked while this number of its commands waits
 abbrev pub admin_picked : ℕ → Event
 admin_picked count = Pick (record { items = record { qid = 0; class = Admin; count = count } ∷ [] }) (record { qid = 0; n = 1; fresh = false })
 

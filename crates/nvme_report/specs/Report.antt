@@ -57,7 +57,7 @@ sq_line past r sent =
     ∷ codes " fetched " ∷ decimal (length (fetched past r)) ∷ codes " picked " ∷ decimal (picked past r)
     ∷ codes " aborted " ∷ decimal (aborts_of past r) ∷ [])
 
--- the line of a completion region, where so many completions were collected
+-- the line of a completion region, with the number of completions that were collected
 abbrev pub cq_line_of : ℕ → ℕ → List ℕ
 cq_line_of c count = line (codes "cq " ∷ decimal c ∷ codes " collected " ∷ decimal count ∷ [])
 

@@ -38,7 +38,7 @@ sum-in_hand f h held =
       sum_by-append (λ (d : Dispatched). f (dispatched_place d)) h.running h.unhanded,
     )
 
--- so many places are in hand
+-- how many places are in hand
 pub length-in_hand : (h : Hands) (held : List Place) → length (map dispatched_place (in_hand h) ++ held) ≡ length h.running + length h.unhanded + length held
 length-in_hand h held =
     omega (

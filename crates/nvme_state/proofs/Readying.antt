@@ -122,7 +122,7 @@ sum_by-none {X = X} (x ∷ xs) = omega (arith, sum_by-cons (λ (y : X). 0) x xs,
 abbrev pub Moves : (i moved : ℕ) → SqKept → SqKept → Type 0
 Moves i moved s t = one_if (nat_lt i (length t.got)) + times_in_window i s.window ≡ one_if (nat_lt i (length s.got)) + times_in_window i t.window + moved
 
--- so many are served more in the log
+-- this number more are served in the log
 pub served-moves : (past later : Past) (r i moved : ℕ) (s t : SqKept) → HoldsSq past r s → HoldsSq later r t → Moves i moved s t
     → one_if (is_served later r i) ≡ one_if (is_served past r i) + moved
 served-moves past later r i moved s t before after e =

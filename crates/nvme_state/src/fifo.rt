@@ -3,7 +3,8 @@ use std::alloc::Global;
 use std::collections::VecDeque;
 use std::marker::Model;
 
-/// Items in the order in which they came. It has room for so many from the start on, and never takes memory again.
+/// Items in the order in which they came. It has room for a fixed number of them from the start on, and never takes
+/// memory again.
 #[derive(Drop)]
 pub struct Fifo<T: Copy> {
     items: VecDeque<T>,
@@ -25,7 +26,7 @@ impl<T: Copy> Model for Fifo<T> {
 impl<T: Copy> Fifo<T> {
     ghost use Rattle.std.specs.Prelude.{◌≡◌, ◌+◌, ◌^◌, ◌<◌, ◌≤◌, ◌==◌, [], ◌∷◌, ◌++◌, length, drop, slice_get, IfSome, option_to_list};
 
-    /// An empty queue with room for so many items. None where memory for them was refused.
+    /// An empty queue with room for the given number of items. None where memory for them was refused.
     pub fn new(alloc: Global, room: usize) -> Option<Fifo<T>>
         ensures empty { IfSome result (λ f. f.items ≡ []) }
         ensures room { IfSome result (λ f. f.room ≡ room) }

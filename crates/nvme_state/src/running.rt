@@ -102,7 +102,7 @@ impl Running {
         }
     }
 
-    /// Makes room for so many more. Where memory was refused, nothing changed.
+    /// Makes room for the given number more. Where memory was refused, nothing changed.
     pub fn reserve(&mut self, more: usize) -> Result<(), AllocError>
         ensures same { self.new.items ≡ self.old.items }
         ensures room { OnOk result (length self.old.items + more ≤ self.new.room) }

@@ -20,7 +20,7 @@ abbrev pub ◌>>◌ : {A B : Type 0} → Result A WorkloadError → Result B Wor
 (Ok x) >> r = r
 (Err e) >> r = Err e
 
--- What a function answered is what reading gives. Want of memory alone may come in its place.
+-- What a function answered is what reading gives. Only that memory was refused may come in its place.
 abbrev pub Fails : {Y : Type 0} → WorkloadError → Result Y WorkloadError → Type 0
 Fails NoMemory reading = Unit {0}
 Fails e reading = reading ≡ Err e

@@ -13,7 +13,7 @@ use Rattle.nvme_workload.specs.Readings.{◌>>=◌, ◌>>◌, in_turn, array_of,
 abbrev pub most_commands : ℕ
 most_commands = 65536
 
--- an item, after so many commands of all scripts: the command, and how often it stands there
+-- an item, after a number of commands of all scripts: the command, and how often it stands there
 unfoldable pub command_of : ℕ → Data → Result (Sqe × ℕ) WorkloadError
 command_of before d = do
   table ← table_of key.Script d

@@ -5,7 +5,7 @@ use crate::key::Key;
 use std::alloc::{AllocError, AllocFailed};
 use thiserror::Error;
 
-/// The first fault of a workload file, or want of memory. Nothing is read after it, and nothing is
+/// The first fault of a workload file, or that memory was refused. Nothing is read after it, and nothing is
 /// kept of what was read before.
 #[derive(Clone, Copy, Debug, PartialEq, Eq, Error)]
 pub enum WorkloadError {

@@ -18,7 +18,7 @@ pub struct Workload {
     pub limits: Limits,
     /// The namespaces.
     pub spaces: Namespaces,
-    /// After so many turns in a row that found nothing to do a run gives up. At least 1.
+    /// How many turns in a row may find nothing to do before a run gives up. At least 1.
     pub patience: u32,
     /// The submission regions, 1 to 17, that of the admin queue first.
     pub submissions: Sequence<SqPlan>,

@@ -66,7 +66,7 @@ fn slots_in(table: &Table) -> Result<u16, WorkloadError>
     Ok(slots as u16)
 }
 
-// A submission region, after those before it, whose scripts have so many commands.
+// A submission region, after those before it, whose scripts have the given number of commands.
 #[tactic(auto, unfolding(crate::specs::Regions::submission_of))]
 fn submission_of(
     alloc: Global,
@@ -128,7 +128,7 @@ fn regions_of(value: &Value, key: Key) -> Result<&Array, WorkloadError>
     Ok(items)
 }
 
-// Appends one more submission region. The scripts of those before it have so many commands.
+// Appends one more submission region. The scripts of those before it have the given number of commands.
 #[tactic(auto, unfolding(crate::specs::Regions::with_submission))]
 fn push_submission(
     alloc: Global,

@@ -26,7 +26,7 @@ const KEYS: [Key; 8] = [
     Key::Count,
 ];
 
-// An item of a script, after so many commands of all scripts: the command, and how often it stands there.
+// An item of a script, after the given number of commands of all scripts: the command, and how often it stands there.
 #[tactic(auto, unfolding(crate::specs::Scripts::command_of))]
 fn command_of(item: &Value, before: usize) -> Result<(Sqe, usize), WorkloadError>
     requires { before ≤ most_commands }
@@ -89,7 +89,7 @@ fn push_item(script: &mut Vec<Sqe>, earlier: usize, item: &Value) -> Result<(), 
     Ok(())
 }
 
-// A script, after so many commands of the scripts before it.
+// A script, after the given number of commands in the scripts before it.
 #[tactic(auto, unfolding(crate::specs::Scripts::script_of))]
 pub(crate) fn script_of(
     alloc: Global,

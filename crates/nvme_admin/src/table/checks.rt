@@ -22,7 +22,7 @@ pub(super) fn is_address(regions: &[Region], address: u64) -> bool
     number_of(regions, address).is_some()
 }
 
-// Whether a region has so many slots and is unused.
+// Whether a region has the given number of slots and is unused.
 fn is_fit_at(regions: &[Region], used: &[bool], number: usize, slots: u16) -> bool
     requires there { number < length regions.now }
     requires covered { length regions.now ≤ length used.now }
@@ -31,7 +31,7 @@ fn is_fit_at(regions: &[Region], used: &[bool], number: usize, slots: u16) -> bo
     regions[number].slots == slots && !used[number]
 }
 
-// The number of the unused region at an address, where it has so many slots.
+// The number of the unused region at an address, where it has the given number of slots.
 pub(super) fn free_region(regions: &[Region], used: &[bool], address: u64, slots: u16) -> Option<u8>
     requires covered { length regions.now ≤ length used.now }
     requires few { length used.now ≤ MAX_REGIONS }

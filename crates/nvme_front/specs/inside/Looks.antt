@@ -11,7 +11,7 @@ use Rattle.nvme_lane.specs.declared.drainer.Drainer.{Drainer}
 use Rattle.nvme_front.specs.Ends.{get_place, put_place}
 use Rattle.nvme_front.specs.View.{FrontView}
 
--- at a submission ring, in which so many commands rest
+-- at a submission ring, in which this number of commands rests
 pub record LooksAtSq (r : ℕ) (f f' : Feeder Sqe) (v w : FrontView) (rests : ℕ) : Type 0 where
   -- the front's end, as it is now: it knows all that rests in its ring
   pub end : GetView Sqe
@@ -26,7 +26,7 @@ pub record LooksAtSq (r : ℕ) (f f' : Feeder Sqe) (v w : FrontView) (rests : �
   pub put : SamePut (put_of f) (put_of f')
   pub free : (put_of f).free ≤ (put_of f').free
 
--- at a completion ring, in which so many completions rest
+-- at a completion ring, in which this number of completions rests
 pub record LooksAtCq (c : ℕ) (d d' : Drainer Cqe) (v w : FrontView) (rests : ℕ) : Type 0 where
   -- the front's end, as it is now
   pub end : PutView Cqe

@@ -31,7 +31,7 @@ pub record Tallies (past : Past) (counts : List Counts) (regions : List (Option 
   pub counted : AreCounted past counts
   pub opened : (q : ℕ) → q < 2 ^ 16 → get_or regions q None ≡ region_in (open_sq past q)
 
--- the counts of a region tell of at most so many events
+-- the counts of a region tell of at most this number of events
 pub record IsMost (n : ℕ) (counts : Counts) : Type 0 where
   pub fetched : counts.fetched ≤ n
   pub picked : counts.picked ≤ n * 65535

@@ -1,4 +1,4 @@
--- What a contract sees of a queue of items with room for so many (profile).
+-- What a contract sees of a queue of items with room for a fixed number (profile).
 use Rattle.std.specs.Prelude.{ℕ, List}
 
 -- the items, the oldest first, and how many there is room for
