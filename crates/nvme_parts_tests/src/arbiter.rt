@@ -8,10 +8,12 @@ use nvme_arbiter::{
 };
 use std::process::Abort;
 
+// A queue as it is seen.
 fn queue(qid: u16, class: Class, count: u16) -> Seen {
     Seen { qid, class, count }
 }
 
+// A pick within a round.
 fn pick(qid: u16, n: u16) -> Option<Pick> {
     Some(Pick {
         qid,
@@ -20,6 +22,7 @@ fn pick(qid: u16, n: u16) -> Option<Pick> {
     })
 }
 
+// A pick that begins a round.
 fn fresh(qid: u16, n: u16) -> Option<Pick> {
     Some(Pick {
         qid,
@@ -174,6 +177,7 @@ fn came(board: &mut Board, qid: u16) {
     }
 }
 
+// Closes a queue, where it is open.
 fn close(board: &mut Board, qid: u16) {
     if board.queue(qid).is_some() {
         board.close(qid);
@@ -188,6 +192,7 @@ fn board_of(rt: &impl Abort, mechanism: Mechanism, cdw11: u32, queues: &[Seen]) 
     board
 }
 
+// Opens these queues, and tells of their commands.
 fn add(rt: &impl Abort, board: &mut Board, queues: &[Seen]) {
     for queue in queues {
         let class = match queue.class {
@@ -286,16 +291,19 @@ fn low_is_bounded(rt: HostRuntime) {
 struct Numbers(u32);
 
 impl Numbers {
+    // The next number of a linear congruential generator, by its upper bits.
     fn next(&mut self) -> u32 {
         self.0 = self.0.wrapping_mul(1_664_525).wrapping_add(1_013_904_223);
         self.0 >> 12
     }
 
+    // The identifier of a queue.
     fn qid(&mut self) -> u16 {
         (self.next() % 17) as u16
     }
 }
 
+// Opens, closes, changes and picks at random, on a board and on an arbiter.
 fn play_at_random(rt: &impl Abort, mechanism: Mechanism, numbers: &mut Numbers) {
     let settings = Settings::from_cdw11(numbers.next());
     let mut board = Board::new(mechanism, settings);

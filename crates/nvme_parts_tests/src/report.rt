@@ -53,6 +53,7 @@ fn answered(region: u8, index: u32, status: Status) -> Event {
     }
 }
 
+// A pick of one command.
 fn picked(qid: u16) -> Event {
     let pick = Pick {
         qid,
@@ -65,6 +66,7 @@ fn picked(qid: u16) -> Event {
     }
 }
 
+// The Fetch of an entry of zeros.
 fn fetched(region: u8, index: u32) -> Event {
     Event::Fetch {
         region,
@@ -202,6 +204,7 @@ fn deletion(alloc: Global) -> std::result::Result<Settled, AllocError>
     })
 }
 
+// The report of a run in which queue 1 is deleted with two commands waiting.
 const DELETION: &str = "loaded
 pick q0 1
 pick q0 1

@@ -7,6 +7,7 @@ use nvme_workload::{CqPlan, SqPlan, Workload, read};
 use std::process::Abort;
 use std::test::Fail;
 
+// Four I/O queues beside the admin queue, under the weighted mechanism.
 const FIVE_QUEUES_WEIGHTED: &str = "mechanism = \"weighted\"
 arbitration = 0x03010001
 sq_limit = 16
@@ -50,6 +51,7 @@ address = 0x9000
 slots = 64
 ";
 
+/// The admin regions alone, with nothing to submit.
 pub const EMPTY_WORKLOAD: &str = "mechanism = \"round-robin\"
 arbitration = 0
 sq_limit = 16
@@ -65,6 +67,7 @@ address = 0x8000
 slots = 16
 ";
 
+// A queue that is deleted while three of its commands wait.
 const DELETE_WITH_THREE_WAITING: &str = "mechanism = \"round-robin\"
 arbitration = 0
 sq_limit = 16
@@ -91,6 +94,7 @@ address = 0x9000
 slots = 64
 ";
 
+// A thousand commands of a queue whose rings have two slots each.
 const THOUSAND_THROUGH_TWO_SLOTS: &str = "mechanism = \"round-robin\"
 arbitration = 0
 sq_limit = 16
@@ -116,6 +120,7 @@ address = 0x9000
 slots = 2
 ";
 
+// A submission queue that is deleted, and created again at another region.
 const QUEUE_CREATED_ANEW: &str = "mechanism = \"round-robin\"
 arbitration = 0
 sq_limit = 16
@@ -187,6 +192,7 @@ fn io(cid: u16, opcode: u8, nsid: u32, cdw10: u32, cdw12: u32) -> Sqe {
     }
 }
 
+// The settings of a workload, of which these two differ.
 fn expect_head(rt: &impl Abort, workload: &Workload, mechanism: Mechanism, cdw11: u32) {
     assert_eq!(rt; workload.mechanism, mechanism);
     assert_eq!(rt; workload.settings, Settings::from_cdw11(cdw11));
@@ -196,6 +202,7 @@ fn expect_head(rt: &impl Abort, workload: &Workload, mechanism: Mechanism, cdw11
     assert_eq!(rt; workload.patience, 100_000_000);
 }
 
+// A submission region with its script, command by command.
 fn expect_submission(rt: &impl Abort, region: &SqPlan, address: u64, slots: u16, script: &[Sqe]) {
     assert_eq!(rt; region.address, address);
     assert_eq!(rt; region.slots, slots);
@@ -220,10 +227,12 @@ pub fn expect_equal(
     }
 }
 
+// The completion regions, in order.
 fn expect_completions(rt: &impl Abort, workload: &Workload, regions: &[CqPlan]) {
     assert_eq!(rt; workload.completions.as_slice(), regions);
 }
 
+// A completion region.
 const fn completion(address: u64, slots: u16) -> CqPlan {
     CqPlan { address, slots }
 }

@@ -9,13 +9,16 @@ use std::alloc::Global;
 use std::process::Abort;
 use std::test::Fail;
 
+// How many I/O submission queues there may be.
 const NSQ: u16 = 7;
 
+// How many I/O completion queues there may be.
 const NCQ: u16 = 5;
 // Submission region k is at address k, completion region k at 10 + k. Each has 2 slots where k is
 // even, and else 3.
 const REGIONS: u8 = 6;
 
+// What was accepted, by what it changed.
 #[derive(Clone, Copy, Debug)]
 enum Kept {
     Sq { qid: u16, cqid: u16, prp1: u64 },
@@ -28,10 +31,12 @@ enum Kept {
     Nothing,
 }
 
+// Bits 15:00 of a dword.
 fn low(dword: u32) -> u16 {
     (dword % 0x1_0000) as u16
 }
 
+// Bits 31:16 of a dword.
 fn high(dword: u32) -> u16 {
     (dword / 0x1_0000) as u16
 }
@@ -50,6 +55,7 @@ fn sq_of(kept: &[Kept], qid: u16) -> Option<(u16, bool)> {
     None
 }
 
+// A completion queue is there.
 fn is_cq(kept: &[Kept], qid: u16) -> bool {
     for step in kept.iter().rev() {
         match step {
@@ -61,6 +67,7 @@ fn is_cq(kept: &[Kept], qid: u16) -> bool {
     false
 }
 
+// A submission queue posts to a completion queue.
 fn is_attached(kept: &[Kept], cqid: u16) -> bool {
     for qid in 1..20u16 {
         if let Some((to, _)) = sq_of(kept, qid) {
@@ -86,6 +93,7 @@ fn numbers(kept: &[Kept]) -> (u16, u16) {
     numbers
 }
 
+// Command Dword 11 of the arbitration settings in force.
 fn settings(kept: &[Kept]) -> u32 {
     for step in kept.iter().rev() {
         if let Kept::Arbitration(cdw11) = step {
@@ -95,6 +103,7 @@ fn settings(kept: &[Kept]) -> u32 {
     0
 }
 
+// A region was named in a Create. Its address isn't free for another, whatever was deleted since.
 fn is_named(kept: &[Kept], address: u64) -> bool {
     kept.iter().rev().any(|step| match step {
         Kept::Sq { prp1, .. } | Kept::Cq { prp1, .. } => *prp1 == address,
@@ -102,6 +111,7 @@ fn is_named(kept: &[Kept], address: u64) -> bool {
     })
 }
 
+// A queue was created before.
 fn is_created(kept: &[Kept]) -> bool {
     kept.iter()
         .rev()
@@ -118,6 +128,7 @@ fn is_free(kept: &[Kept], e: &Sqe, first: u8) -> bool {
         && !is_named(kept, e.prp1)
 }
 
+// The status of a Create I/O Completion Queue.
 fn create_cq(kept: &[Kept], e: &Sqe) -> Status {
     let qid = low(e.cdw10);
     let qsize = high(e.cdw10);
@@ -134,6 +145,7 @@ fn create_cq(kept: &[Kept], e: &Sqe) -> Status {
     }
 }
 
+// The status of a Create I/O Submission Queue.
 fn create_sq(kept: &[Kept], e: &Sqe) -> Status {
     let qid = low(e.cdw10);
     let qsize = high(e.cdw10);
@@ -155,6 +167,7 @@ fn create_sq(kept: &[Kept], e: &Sqe) -> Status {
     }
 }
 
+// The status of a Set Features.
 fn set_features(kept: &[Kept], e: &Sqe) -> Status {
     let fid = e.cdw10 % 256;
     if fid != 1 && fid != 7 {
@@ -170,6 +183,7 @@ fn set_features(kept: &[Kept], e: &Sqe) -> Status {
     }
 }
 
+// The status of an admin command.
 fn status(kept: &[Kept], e: &Sqe) -> Status {
     let qid = low(e.cdw10);
     if e.flags % 4 != 0 {
@@ -261,6 +275,7 @@ fn drawn_id(seed: &mut u64) -> u32
     }
 }
 
+// A Create, most of whose fields are lawful.
 fn drawn_create(seed: &mut u64, opcode: u8) -> Sqe {
     let first = if opcode == 5 { 10 } else { 0 };
     let prp1 = if draw(seed, 8) == 0 {
@@ -285,6 +300,7 @@ fn drawn_create(seed: &mut u64, opcode: u8) -> Sqe {
     )
 }
 
+// A Get or Set Features, of one of the two features or of another.
 fn drawn_feature(seed: &mut u64, opcode: u8) -> Sqe {
     let fid = [1, 1, 7, 7, 2][draw(seed, 5) as usize];
     let sv = if draw(seed, 8) == 0 { 0x8000_0000 } else { 0 };
@@ -301,6 +317,7 @@ fn drawn_feature(seed: &mut u64, opcode: u8) -> Sqe {
     entry(opcode, 0, fid + sv, nsqr + 0x1_0000 * ncqr)
 }
 
+// An admin command, fused now and then.
 fn drawn(seed: &mut u64) -> Sqe {
     let opcode = draw(seed, 12) as u8;
     let e = match opcode {
