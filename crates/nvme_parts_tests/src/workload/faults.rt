@@ -3,6 +3,7 @@ use super::{EMPTY_WORKLOAD, ONE_COMMAND, expect_equal};
 use nvme_entry::Sqe;
 use nvme_workload::{Key, WorkloadError, read};
 use std::alloc::{AllocError, Global};
+use std::process::Abort;
 use std::test::Fail;
 
 // The fault of a text with one part replaced, and then another.
@@ -17,7 +18,27 @@ fn fault_of(
     Ok(read(alloc, twice.as_str().as_bytes()).err())
 }
 
+// A part of every text, replaced by itself.
 const NO_CHANGE: (&str, &str) = ("\n\n", "\n\n");
+
+// Each pair of changes of a text makes its fault.
+fn expect_faults(
+    rt: &impl Abort,
+    alloc: Global,
+    text: &str,
+    cases: &[((&str, &str), (&str, &str), WorkloadError)],
+) -> Result<(), AllocError> {
+    for (first, second, fault) in cases {
+        assert_eq!(rt;
+            fault_of(alloc, text, *first, *second)?,
+            Some(*fault),
+            "{} {}",
+            first.1,
+            second.1
+        );
+    }
+    Ok(())
+}
 
 // The bytes and the document.
 #[test]
@@ -92,9 +113,9 @@ fn limits(rt: HostRuntime) -> Result<(), Fail> {
     Ok(())
 }
 
-// What the forms of TOML can hide.
+// Texts that are written in other forms and read alike.
 #[test]
-fn forms_of_toml(rt: HostRuntime) -> Result<(), Fail> {
+fn forms_that_read_alike(rt: HostRuntime) -> Result<(), Fail> {
     let alloc = rt.alloc();
     let read_alike = [
         ("\n", "\r\n"),
@@ -118,73 +139,119 @@ fn forms_of_toml(rt: HostRuntime) -> Result<(), Fail> {
             change.1
         );
     }
+    Ok(())
+}
+
+// Texts that TOML refuses, though each line of theirs is one that it takes.
+#[test]
+fn repeated_keys_and_wide_numbers(rt: HostRuntime) -> Result<(), Fail> {
     let faults = [
         (
             ("patience", "sq_limit = 16\npatience"),
+            NO_CHANGE,
             WorkloadError::NotToml,
         ),
         (
             ("patience", "\"sq_limit\" = 16\npatience"),
+            NO_CHANGE,
             WorkloadError::NotToml,
         ),
-        (("100000000", "9223372036854775808"), WorkloadError::NotToml),
+        (
+            ("100000000", "9223372036854775808"),
+            NO_CHANGE,
+            WorkloadError::NotToml,
+        ),
         (
             ("[[submission]]", "submission = []\n[[submission]]"),
+            NO_CHANGE,
             WorkloadError::NotToml,
         ),
-        (("100000000", "1.0"), WorkloadError::Bad(Key::Patience)),
+    ];
+    expect_faults(&rt, rt.alloc(), EMPTY_WORKLOAD, &faults)?;
+    Ok(())
+}
+
+// Values of other types, and numbers outside their ranges.
+#[test]
+fn values_of_other_types(rt: HostRuntime) -> Result<(), Fail> {
+    let faults = [
         (
-            ("100000000", "1979-05-27"),
+            ("100000000", "1.0"),
+            NO_CHANGE,
             WorkloadError::Bad(Key::Patience),
         ),
-        (("100000000", "true"), WorkloadError::Bad(Key::Patience)),
-        (("100000000", "\"1\""), WorkloadError::Bad(Key::Patience)),
-        (("100000000", "-1"), WorkloadError::Bad(Key::Patience)),
+        (
+            ("100000000", "1979-05-27"),
+            NO_CHANGE,
+            WorkloadError::Bad(Key::Patience),
+        ),
+        (
+            ("100000000", "true"),
+            NO_CHANGE,
+            WorkloadError::Bad(Key::Patience),
+        ),
+        (
+            ("100000000", "\"1\""),
+            NO_CHANGE,
+            WorkloadError::Bad(Key::Patience),
+        ),
+        (
+            ("100000000", "-1"),
+            NO_CHANGE,
+            WorkloadError::Bad(Key::Patience),
+        ),
         (
             ("100000000", "4294967296"),
+            NO_CHANGE,
             WorkloadError::Bad(Key::Patience),
         ),
         (
             ("arbitration = 0", "arbitration.burst = 0"),
+            NO_CHANGE,
             WorkloadError::Bad(Key::Arbitration),
         ),
         (
             ("[1000]", "[1000, \"1000\"]"),
+            NO_CHANGE,
             WorkloadError::Bad(Key::Namespaces),
         ),
-        (("[1000]", "[[1000]]"), WorkloadError::Bad(Key::Namespaces)),
-        (("[1000]", "[0]"), WorkloadError::Bad(Key::Namespaces)),
+        (
+            ("[1000]", "[[1000]]"),
+            NO_CHANGE,
+            WorkloadError::Bad(Key::Namespaces),
+        ),
+        (
+            ("[1000]", "[0]"),
+            NO_CHANGE,
+            WorkloadError::Bad(Key::Namespaces),
+        ),
         (
             ("[[submission]]", "[submission]"),
+            NO_CHANGE,
             WorkloadError::Bad(Key::Submission),
         ),
         (
             ("script = []", "script = [0]"),
+            NO_CHANGE,
             WorkloadError::Bad(Key::Script),
         ),
         (
             ("script = []", "script = {}"),
+            NO_CHANGE,
             WorkloadError::Bad(Key::Script),
         ),
     ];
-    for (change, fault) in faults {
-        assert_eq!(rt;
-            fault_of(alloc, EMPTY_WORKLOAD, change, NO_CHANGE)?,
-            Some(fault),
-            "{}",
-            change.1
-        );
-    }
+    expect_faults(&rt, rt.alloc(), EMPTY_WORKLOAD, &faults)?;
     Ok(())
 }
 
-// Two faults of the file's own table: the first in order is answered.
+// Two faults of the file's own settings: the first in order is answered.
 #[test]
-fn two_faults_of_a_file(rt: HostRuntime) -> Result<(), Fail> {
-    let alloc = rt.alloc();
-    assert_eq!(rt; read(alloc, b"\xff =").err(), Some(WorkloadError::NotUtf8));
-    let no_regions =
-        "[[submission]]\naddress = 0x1000\nslots = 16\nscript = []\n[[completion]]\naddress = 0x8000\nslots = 16\n";
+fn two_faults_of_settings(rt: HostRuntime) -> Result<(), Fail> {
+    assert_eq!(rt;
+        read(rt.alloc(), b"\xff =").err(),
+        Some(WorkloadError::NotUtf8)
+    );
     let mechanism = "mechanism = \"round-robin\"\n";
     let cases = [
         (
@@ -228,6 +295,17 @@ fn two_faults_of_a_file(rt: HostRuntime) -> Result<(), Fail> {
             ("namespaces = [1000]\n", ""),
             WorkloadError::Bad(Key::Patience),
         ),
+    ];
+    expect_faults(&rt, rt.alloc(), EMPTY_WORKLOAD, &cases)?;
+    Ok(())
+}
+
+// Two faults of the namespaces and of the lists of regions.
+#[test]
+fn two_faults_of_lists(rt: HostRuntime) -> Result<(), Fail> {
+    let no_regions =
+        "[[submission]]\naddress = 0x1000\nslots = 16\nscript = []\n[[completion]]\naddress = 0x8000\nslots = 16\n";
+    let cases = [
         (
             ("namespaces = [1000]\n", ""),
             (no_regions, ""),
@@ -280,22 +358,13 @@ fn two_faults_of_a_file(rt: HostRuntime) -> Result<(), Fail> {
             WorkloadError::Missing(Key::Completion),
         ),
     ];
-    for (first, second, fault) in cases {
-        assert_eq!(rt;
-            fault_of(alloc, EMPTY_WORKLOAD, first, second)?,
-            Some(fault),
-            "{} {}",
-            first.1,
-            second.1
-        );
-    }
+    expect_faults(&rt, rt.alloc(), EMPTY_WORKLOAD, &cases)?;
     Ok(())
 }
 
-// Two faults of a region.
+// A fault of a region's keys or address, and a later one.
 #[test]
-fn two_faults_of_a_region(rt: HostRuntime) -> Result<(), Fail> {
-    let alloc = rt.alloc();
+fn two_faults_of_an_address(rt: HostRuntime) -> Result<(), Fail> {
     let cases = [
         (
             ("address = 0x1000", "zone = 1"),
@@ -327,6 +396,15 @@ fn two_faults_of_a_region(rt: HostRuntime) -> Result<(), Fail> {
             ("0x8000", "0x1000"),
             WorkloadError::Missing(Key::Script),
         ),
+    ];
+    expect_faults(&rt, rt.alloc(), EMPTY_WORKLOAD, &cases)?;
+    Ok(())
+}
+
+// A fault of a region's slots or script, or a repeated address, and a later one.
+#[test]
+fn two_faults_of_slots(rt: HostRuntime) -> Result<(), Fail> {
+    let cases = [
         (
             ("0x8000\nslots = 16", "0x1000\nslots = 257"),
             NO_CHANGE,
@@ -366,22 +444,13 @@ fn two_faults_of_a_region(rt: HostRuntime) -> Result<(), Fail> {
             WorkloadError::Repeated,
         ),
     ];
-    for (first, second, fault) in cases {
-        assert_eq!(rt;
-            fault_of(alloc, EMPTY_WORKLOAD, first, second)?,
-            Some(fault),
-            "{} {}",
-            first.1,
-            second.1
-        );
-    }
+    expect_faults(&rt, rt.alloc(), EMPTY_WORKLOAD, &cases)?;
     Ok(())
 }
 
-// Two faults of a script's item.
+// Two faults of the fields of a script's item.
 #[test]
 fn two_faults_of_a_command(rt: HostRuntime) -> Result<(), Fail> {
-    let alloc = rt.alloc();
     let cases = [
         (("op = 2", "zone = 1"), NO_CHANGE, WorkloadError::Unknown),
         (
@@ -424,6 +493,15 @@ fn two_faults_of_a_command(rt: HostRuntime) -> Result<(), Fail> {
             ("count = 1", "count = 0"),
             WorkloadError::Bad(Key::Cdw12),
         ),
+    ];
+    expect_faults(&rt, rt.alloc(), ONE_COMMAND, &cases)?;
+    Ok(())
+}
+
+// A fault of an item's count or of the limit of commands, and a later one; two faulty items.
+#[test]
+fn two_faults_of_a_script(rt: HostRuntime) -> Result<(), Fail> {
+    let cases = [
         (
             ("count = 1", "count = 0"),
             (" }]", " }, 0]"),
@@ -458,15 +536,7 @@ fn two_faults_of_a_command(rt: HostRuntime) -> Result<(), Fail> {
             WorkloadError::Bad(Key::Op),
         ),
     ];
-    for (first, second, fault) in cases {
-        assert_eq!(rt;
-            fault_of(alloc, ONE_COMMAND, first, second)?,
-            Some(fault),
-            "{} {}",
-            first.1,
-            second.1
-        );
-    }
+    expect_faults(&rt, rt.alloc(), ONE_COMMAND, &cases)?;
     Ok(())
 }
 
