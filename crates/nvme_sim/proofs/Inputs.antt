@@ -23,8 +23,9 @@ use Rattle.nvme_trace.specs.Checks.{IsFaultOf, IsLawfulText, IsUnlawfulText}
 use Rattle.nvme_trace.specs.declared.fault.TraceError.{TraceError}
 use Rattle.nvme_trace.specs.declared.fault.TraceError.TheVariants as trace
 use Rattle.nvme_trace.specs.declared.judge.Finding.{Finding}
+use Rattle.nvme_chart.specs.Shown.{IsReadFault}
 use Rattle.nvme_sim.specs.declared.faults.Fault.{Fault}
-use Rattle.nvme_sim.specs.Inputs.{IsBadInput, IsBadTrace, IsFaultyTrace, IsToldLawful, IsUnlawfulCheck, IsUnlawfulTrace, lawful_line}
+use Rattle.nvme_sim.specs.Inputs.{IsBadInput, IsBadTrace, IsFaultyShown, IsFaultyTrace, IsToldLawful, IsUnlawfulCheck, IsUnlawfulTrace, lawful_line}
 use Rattle.nvme_sim.specs.Statuses.{IsBadEntry, IsBadWorkload, run_status, status_of, trace_status}
 use Rattle.nvme_sim.specs.Requests.{IsAskedBy}
 use Rattle.nvme_sim.specs.declared.words.Request.{Request}
@@ -69,6 +70,13 @@ faulty_trace (Some text) (trace.Line line f) h one = (line, f, h)
 faulty_trace (Some text) trace.Read h one = absurd (cc one)
 faulty_trace (Some text) trace.NoMemory h one = absurd (cc one)
 
+-- a line of a trace that is shown has a fault
+pub faulty_shown : (input : Option (List ℕ)) (e : TraceError) → IfSome input (λ text. IsReadFault text e) → trace_status e ≡ 1 → IfSome input IsFaultyShown
+faulty_shown None e h one = tt
+faulty_shown (Some text) (trace.Line line f) h one = (line, f, h)
+faulty_shown (Some text) trace.Read h one = absurd (cc one)
+faulty_shown (Some text) trace.NoMemory h one = absurd (cc one)
+
 -- a trace is lawful, and that was written
 pub told_lawful : (input : Option (List ℕ)) (picks : ℕ) (old new : Option (List ℕ)) → IfSome input (λ text. IsLawfulText text picks) → Appends old new (lawful_line picks)
     → IfSome input (IsToldLawful old new)
@@ -104,8 +112,8 @@ bad_run words bytes asked bad = inr (inl (asked, bad))
 pub bad_check : (words : List (String Global)) (bytes : List ℕ) → asks (codes "check") words ≡ true → IsBadTrace bytes → IsBadInput words bytes
 bad_check words bytes asked bad = inr (inr (inl (asked, bad)))
 
-pub bad_shown : (words : List (String Global)) (bytes : List ℕ) → shows_trace words ≡ true → IsBadInput words bytes
-bad_shown words bytes asked = inr (inr (inr asked))
+pub bad_shown : (words : List (String Global)) (bytes : List ℕ) → shows_trace words ≡ true → IsFaultyShown bytes → IsBadInput words bytes
+bad_shown words bytes asked bad = inr (inr (inr (asked, bad)))
 
 pub faulty_is_bad : (bytes : List ℕ) → IsFaultyTrace bytes → IsBadTrace bytes
 faulty_is_bad bytes h = inl h
@@ -134,13 +142,6 @@ lint_reads_workload words asked = by_four (asks (codes "run") words) (asks (code
 pub trace_reads_workload : (words : List (String Global)) → asks (codes "trace") words ≡ true → reads_workload words ≡ true
 trace_reads_workload words asked =
     last_of (asks (codes "run") words || asks (codes "loaded") words || asks (codes "live") words || asks (codes "lint") words) (asks (codes "trace") words) asked
-
--- of a trace that is only shown nothing is told
-pub shown_fault : {T : Type 0} (result : Result T Fault) (input : Option (List ℕ)) (words : List (String Global)) → shows_trace words ≡ true
-    → IfErr result (λ e. status_of e ≡ 1 → IfSome input (IsBadInput words))
-shown_fault (Ok t) input words shown = tt
-shown_fault (Err e) None words shown = λ one. tt
-shown_fault (Err e) (Some bytes) words shown = λ one. bad_shown words bytes shown
 
 -- ---- words that ask for a check alone
 

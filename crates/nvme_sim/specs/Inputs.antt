@@ -6,6 +6,7 @@ use Rattle.nvme_trace.specs.Checks.{IsFaultOf, IsLawfulText, IsUnlawfulText}
 use Rattle.nvme_trace.specs.declared.fault.LineFault.{LineFault}
 use Rattle.nvme_trace.specs.declared.fault.TraceError.TheVariants as trace
 use Rattle.nvme_trace.specs.declared.judge.Finding.{Finding}
+use Rattle.nvme_chart.specs.Shown.{IsReadFault}
 use Rattle.nvme_sim.specs.Statuses.{IsBadEntry, IsBadWorkload}
 use Rattle.nvme_sim.specs.Words.{asks, reads_workload, shows_trace}
 
@@ -29,10 +30,14 @@ lawful_line picks = codes "lawful: " ++ decimal picks ++ codes " picks\n"
 abbrev pub IsToldLawful : Option (List ℕ) → Option (List ℕ) → List ℕ → Type 0
 IsToldLawful old new bytes = (picks : ℕ) × IsLawfulText bytes picks × Appends old new (lawful_line picks)
 
--- an input at fault, by the word that asks for it. Of a trace that is only shown nothing is told
+-- a trace that is shown has a line with a fault, and the lines before it are a head and events
+abbrev pub IsFaultyShown : List ℕ → Type 0
+IsFaultyShown bytes = (line : ℕ) × (fault : LineFault) × IsReadFault bytes (trace.Line line fault)
+
+-- an input at fault, by the word that asks for it
 abbrev pub IsBadInput : List (String Global) → List ℕ → Type 0
 IsBadInput words bytes = ((asks (codes "once") words ≡ true) × IsBadEntry bytes) ⊎ ((reads_workload words ≡ true) × IsBadWorkload bytes)
-    ⊎ ((asks (codes "check") words ≡ true) × IsBadTrace bytes) ⊎ (shows_trace words ≡ true)
+    ⊎ ((asks (codes "check") words ≡ true) × IsBadTrace bytes) ⊎ ((shows_trace words ≡ true) × IsFaultyShown bytes)
 
 -- the words ask for a check, and a pick of the input isn't the lawful one
 abbrev pub IsUnlawfulCheck : List (String Global) → Option (List ℕ) → Type 0

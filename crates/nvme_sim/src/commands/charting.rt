@@ -1,11 +1,13 @@
 // The picture of a trace.
-ghost use Rattle.std.specs.Prelude.{◌≡◌, ◌⊎◌, Ok, IfErr};
+ghost use Rattle.std.specs.Prelude.{◌≡◌, ◌⊎◌, Ok, IfErr, IfSome};
+ghost use Rattle.nvme_sim.specs.Inputs.{IsFaultyShown};
+ghost use Rattle.nvme_sim.specs.Statuses.{status_of};
 ghost use Rattle.nvme_sim.specs.declared.faults.Fault.TheVariants as fault;
 ghost use Rattle.nvme_sim.specs.declared.commands.Answer.TheVariants as answer;
 
 use super::Answer;
 use crate::faults::Fault;
-use nvme_trace::chart;
+use nvme_chart::chart;
 use std::alloc::Global;
 use std::io::{Read, Write};
 
@@ -16,9 +18,13 @@ pub(super) fn charted<R: Read + Drop, W: Write>(
     output: &mut W,
 ) -> Result<Answer, Fault>
     ensures no_other { (result ≡ Ok answer.Warned) ⊎ (result ≡ Ok answer.Unlawful) → ⊥ }
+    ensures input { IfErr result (λ e. status_of e ≡ 1 → IfSome (R.remaining input) IsFaultyShown) }
     ensures untouched { IfErr result (λ e. (e ≡ fault.Write) ⊎ (output.new ≡ output.old)) }
 {
-    let picture = chart(alloc, input).map_err(Fault::Trace)?;
+    let picture = match chart(alloc, input) {
+        Ok(picture) => picture,
+        Err(error) => return Err(Fault::Trace(error)),
+    };
     match picture.write_svg(output) {
         Ok(()) => Ok(Answer::Done),
         Err(_) => Err(Fault::Write),

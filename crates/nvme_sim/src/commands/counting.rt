@@ -1,12 +1,14 @@
 // What a trace shows in numbers.
-ghost use Rattle.std.specs.Prelude.{◌≡◌, ◌⊎◌, Ok, IfErr};
+ghost use Rattle.std.specs.Prelude.{◌≡◌, ◌⊎◌, Ok, IfErr, IfSome};
+ghost use Rattle.nvme_sim.specs.Inputs.{IsFaultyShown};
+ghost use Rattle.nvme_sim.specs.Statuses.{status_of};
 ghost use Rattle.nvme_sim.specs.declared.faults.Fault.TheVariants as fault;
 ghost use Rattle.nvme_sim.specs.declared.commands.Answer.TheVariants as answer;
 
 use super::Answer;
 use crate::faults::Fault;
 use crate::words::Format;
-use nvme_trace::stats;
+use nvme_chart::stats;
 use std::alloc::Global;
 use std::io::{Read, Write};
 
@@ -18,9 +20,13 @@ pub(super) fn counted<R: Read + Drop, W: Write>(
     output: &mut W,
 ) -> Result<Answer, Fault>
     ensures no_other { (result ≡ Ok answer.Warned) ⊎ (result ≡ Ok answer.Unlawful) → ⊥ }
+    ensures input { IfErr result (λ e. status_of e ≡ 1 → IfSome (R.remaining input) IsFaultyShown) }
     ensures untouched { IfErr result (λ e. (e ≡ fault.Write) ⊎ (output.new ≡ output.old)) }
 {
-    let statistics = stats(alloc, input).map_err(Fault::Trace)?;
+    let statistics = match stats(alloc, input) {
+        Ok(statistics) => statistics,
+        Err(error) => return Err(Fault::Trace(error)),
+    };
     let written = match format {
         Format::Text => statistics.write_text(output),
         Format::Json => statistics.write_json(output),

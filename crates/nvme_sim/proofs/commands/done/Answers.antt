@@ -1,11 +1,11 @@
 -- A fault of each request is a fault of an input, by its word.
 use Rattle.std.proofs.Common.{◌≡◌, true}
 use Rattle.std.specs.Prelude.{codes}
-use Rattle.nvme_sim.specs.Inputs.{IsBadInput, IsFaultyTrace}
+use Rattle.nvme_sim.specs.Inputs.{IsBadInput, IsFaultyShown, IsFaultyTrace}
 use Rattle.nvme_sim.specs.Requests.{IsAskedBy}
 use Rattle.nvme_sim.specs.Statuses.{IsBadEntry, IsBadWorkload}
 use Rattle.nvme_sim.specs.Words.{asks, reads_workload, shows_trace}
-use Rattle.nvme_sim.proofs.Inputs.{bad_check, bad_once, bad_run, faulty_is_bad, lint_reads_workload, of_kind, only_check, shown_fault, trace_reads_workload}
+use Rattle.nvme_sim.proofs.Inputs.{bad_check, bad_once, bad_run, bad_shown, faulty_is_bad, lint_reads_workload, of_kind, only_check, trace_reads_workload}
 use Rattle.nvme_sim.proofs.commands.done.Goals as goal
 
 pub returns-in-Once-clause-input : goal.returns-in-Once-clause-input
@@ -42,13 +42,13 @@ pub returns-in-Chart-clause-input : goal.returns-in-Chart-clause-input
 returns-in-Chart-clause-input g c =
     let words = c.args.words.now in
     let shown : shows_trace words ≡ true = rw c.in-Chart.is at c.requires in
-    shown_fault c.charted.result (g.R.Read.remaining c.args.input) words shown
+    of_kind c.charted.result (g.R.Read.remaining c.args.input) IsFaultyShown (IsBadInput words) (λ bs h. bad_shown words bs shown h) c.charted.ensures.input
 
 pub returns-in-Stats-clause-input : goal.returns-in-Stats-clause-input
 returns-in-Stats-clause-input g c =
     let words = c.args.words.now in
     let shown : shows_trace words ≡ true = rw c.in-Stats.is at c.requires in
-    shown_fault c.counted.result (g.R.Read.remaining c.args.input) words shown
+    of_kind c.counted.result (g.R.Read.remaining c.args.input) IsFaultyShown (IsBadInput words) (λ bs h. bad_shown words bs shown h) c.counted.ensures.input
 
 pub returns-in-Once-clause-lawful : goal.returns-in-Once-clause-lawful
 returns-in-Once-clause-lawful g c = λ is alone.
