@@ -104,11 +104,14 @@ fn play_narrow<R: Wait + Abort>(rt: &R, rig: &mut Rig) -> Result<(), Fail> {
 // The same with its regions added first.
 fn add_and_play_narrow<R: Wait + Abort>(rt: &R, alloc: Global, rig: &mut Rig) -> Result<(), Fail> {
     add_narrow(alloc, rig)?;
-    play_narrow(rt, rig)
+    play_narrow(rt, rig)?;
+    let all = picks(alloc, rig.log())?;
+    assert_eq!(rt; all.as_slice(), [(0, 1), (0, 1), (1, 1), (0, 1)].as_slice());
+    Ok(())
 }
 
 #[test]
-fn delete_waits_for_a_running_command(rt: HostRuntime) -> Result<(), Fail> {
+fn deletion_step_by_step(rt: HostRuntime) -> Result<(), Fail> {
     let script = [
         admin(0, 5, 0x9000, 0x0001_0001, 1),
         admin(1, 1, 0x2000, 0x0007_0001, 0x0001_0001),
