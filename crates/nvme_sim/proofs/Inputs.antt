@@ -1,6 +1,7 @@
 -- What an input that was taken says of the program's answer.
-use Rattle.std.proofs.Common.{◌≡◌, ◌≢◌, ◌↔◌, ℕ, Bool, true, false, inl, inr, refl, ap, subst, List, [], ◌∷◌, length, Option, None, Some, Result, Ok, Err, IfSome, IfErr, IsErrOf}
-use Rattle.std.specs.Prelude.{◌&&◌, ◌||◌, not, nat_eq, String, string_bytes, codes}
+use Rattle.std.proofs.Common.{◌≡◌, ◌≢◌, ◌↔◌, ℕ, arith, Bool, true, false, inl, inr, refl, ap, subst, List, [], ◌∷◌, length, Option, None, Some, Result, Ok, Err, IfSome, IfErr, IsErrOf}
+use Rattle.std.specs.Prelude.{suc, ◌==◌, ◌&&◌, ◌||◌, not, nat_eq, String, string_bytes, codes}
+use Rattle.std.proofs.lemmas.Bool.Decides.{eqb_tells}
 use Rattle.std.specs.Cmp.Lexicographic.{pointwise, bytes_decides}
 use Rattle.std.specs.Global.{Global}
 use Rattle.std.specs.List.{AllPass}
@@ -24,8 +25,10 @@ use Rattle.nvme_trace.specs.declared.fault.TraceError.{TraceError}
 use Rattle.nvme_trace.specs.declared.fault.TraceError.TheVariants as trace
 use Rattle.nvme_trace.specs.declared.judge.Finding.{Finding}
 use Rattle.nvme_chart.specs.Shown.{IsReadFault}
+use Rattle.nvme_lint.specs.Warnings.{AreWarningsOf}
+use Rattle.nvme_lint.specs.declared.warning.Warning.{Warning}
 use Rattle.nvme_sim.specs.declared.faults.Fault.{Fault}
-use Rattle.nvme_sim.specs.Inputs.{IsBadInput, IsBadTrace, IsFaultyShown, IsFaultyTrace, IsToldLawful, IsUnlawfulCheck, IsUnlawfulTrace, lawful_line}
+use Rattle.nvme_sim.specs.Inputs.{HasNoWarning, HasWarnings, IsBadInput, IsBadTrace, IsFaultyShown, IsFaultyTrace, IsToldLawful, IsUnlawfulCheck, IsUnlawfulTrace, lawful_line, trace_of}
 use Rattle.nvme_sim.specs.Statuses.{IsBadEntry, IsBadWorkload, run_status, status_of, trace_status}
 use Rattle.nvme_sim.specs.Requests.{IsAskedBy}
 use Rattle.nvme_sim.specs.declared.words.Request.{Request}
@@ -56,6 +59,30 @@ bad_workload (Some rest) bytes run.Write whole told one = absurd (cc one)
 pub bad_file : (input : Option (List ℕ)) (bytes : List ℕ) (w : WorkloadError) → IfSome input (λ rest. bytes ≡ rest) → workload_of bytes ≡ Err w → IfSome input IsBadWorkload
 bad_file None bytes w whole is = tt
 bad_file (Some rest) bytes w whole is = subst (λ (bs : List ℕ). IsBadWorkload bs) whole (inr (w, is))
+
+-- a lawful file of which something is told has warnings
+pub has_warnings : (input : Option (List ℕ)) (bytes : List ℕ) (ws : List Warning) → IfSome input (λ rest. bytes ≡ rest) → AreWarningsOf bytes ws → (length ws == 0) ≡ false → IfSome input HasWarnings
+has_warnings None bytes ws whole are some = tt
+has_warnings (Some rest) bytes [] whole are some = absurd (cc some)
+has_warnings (Some rest) bytes (w ∷ ws) whole are some = (w, ws, subst (λ (bs : List ℕ). AreWarningsOf bs (w ∷ ws)) whole are)
+
+-- nothing is true and false
+not_both : (b : Bool) → b ≡ true → b ≡ false → ⊥
+not_both true p q = absurd (cc q)
+not_both false p q = absurd (cc p)
+
+-- a list with an item has not length 0
+not_empty : (w : Warning) (ws : List Warning) → (length (w ∷ ws) == 0) ≡ true → ⊥
+not_empty w ws h = elim (eqb_tells (length (w ∷ ws)) 0) [
+  | inl q ↦ let e : suc (length ws) ≡ 0 = q.1 in omega (arith, e)
+  | inr q ↦ not_both (length (w ∷ ws) == 0) h q.0
+]
+
+-- and one of which nothing is told has none
+pub has_no_warning : (input : Option (List ℕ)) (bytes : List ℕ) (ws : List Warning) → IfSome input (λ rest. bytes ≡ rest) → AreWarningsOf bytes ws → (length ws == 0) ≡ true → IfSome input HasNoWarning
+has_no_warning None bytes ws whole are none = tt
+has_no_warning (Some rest) bytes [] whole are none = subst (λ (bs : List ℕ). AreWarningsOf bs []) whole are
+has_no_warning (Some rest) bytes (w ∷ ws) whole are none = absurd (not_empty w ws none)
 
 -- the report of a run was written
 pub run_done : (input : Option (List ℕ)) (bytes : List ℕ) (mode : Mode) (s : Settled) (old new : Option (List ℕ)) → IfSome input (λ rest. bytes ≡ rest)
@@ -88,12 +115,12 @@ pub unlawful_trace : (input : Option (List ℕ)) (line : ℕ) (finding : Finding
 unlawful_trace None line finding h = tt
 unlawful_trace (Some text) line finding h = (line, finding, h)
 
--- the trace of a run was asked for
-pub run_traced : (input : Option (List ℕ)) (bytes : List ℕ) (mode : Mode) (r : Ran) → IfSome input (λ rest. bytes ≡ rest) → BeginsAs bytes r → IsRun bytes mode r.settled
-    → IfSome input (λ rest. (x : Ran) × BeginsAs rest x × IsRun rest mode x.settled)
-run_traced None bytes mode r whole begins ran = tt
-run_traced (Some rest) bytes mode r whole begins ran =
-    (r, subst (λ (bs : List ℕ). BeginsAs bs r) whole begins, subst (λ (bs : List ℕ). IsRun bs mode r.settled) whole ran)
+-- the trace of a run was written
+pub run_traced : (input : Option (List ℕ)) (bytes : List ℕ) (mode : Mode) (r : Ran) (old new : Option (List ℕ)) → IfSome input (λ rest. bytes ≡ rest) → BeginsAs bytes r → IsRun bytes mode r.settled
+    → Appends old new (trace_of r) → IfSome input (λ rest. (x : Ran) × BeginsAs rest x × IsRun rest mode x.settled × Appends old new (trace_of x))
+run_traced None bytes mode r old new whole begins ran appends = tt
+run_traced (Some rest) bytes mode r old new whole begins ran appends =
+    (r, subst (λ (bs : List ℕ). BeginsAs bs r) whole begins, subst (λ (bs : List ℕ). IsRun bs mode r.settled) whole ran, appends)
 
 -- a fault of one kind of input is one of another kind
 pub of_kind : {T : Type 0} (result : Result T Fault) (input : Option (List ℕ)) (P Q : List ℕ → Type 0) → ((bs : List ℕ) → P bs → Q bs)
@@ -148,10 +175,6 @@ trace_reads_workload words asked =
 and_left : (a b : Bool) → (a && b) ≡ true → a ≡ true
 and_left true b h = refl
 and_left false b h = absurd (cc h)
-
-not_both : (b : Bool) → b ≡ true → b ≡ false → ⊥
-not_both true p q = absurd (cc q)
-not_both false p q = absurd (cc p)
 
 alone_asks : (name : List ℕ) (words : List (String Global)) → asks_alone name words ≡ true → asks name words ≡ true
 alone_asks name [] h = absurd (cc h)

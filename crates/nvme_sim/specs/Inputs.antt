@@ -1,12 +1,16 @@
 -- The inputs at fault by what the words ask for, and what is written of a trace. (profile)
-use Rattle.std.specs.Prelude.{◌≡◌, ◌⊎◌, ℕ, true, List, ◌++◌, Option, IfSome, String, codes, decimal}
+use Rattle.std.specs.Prelude.{◌≡◌, ◌⊎◌, ℕ, true, List, [], ◌∷◌, ◌++◌, Option, IfSome, String, codes, decimal}
 use Rattle.std.specs.Global.{Global}
 use Rattle.std.specs.Io.KnownBytes.{Appends}
 use Rattle.nvme_trace.specs.Checks.{IsFaultOf, IsLawfulText, IsUnlawfulText}
+use Rattle.nvme_trace.specs.Text.{trace_text}
 use Rattle.nvme_trace.specs.declared.fault.LineFault.{LineFault}
 use Rattle.nvme_trace.specs.declared.fault.TraceError.TheVariants as trace
 use Rattle.nvme_trace.specs.declared.judge.Finding.{Finding}
 use Rattle.nvme_chart.specs.Shown.{IsReadFault}
+use Rattle.nvme_runs.specs.declared.runs.Ran.{Ran}
+use Rattle.nvme_lint.specs.Warnings.{AreWarningsOf}
+use Rattle.nvme_lint.specs.declared.warning.Warning.{Warning}
 use Rattle.nvme_sim.specs.Statuses.{IsBadEntry, IsBadWorkload}
 use Rattle.nvme_sim.specs.Words.{asks, reads_workload, shows_trace}
 
@@ -22,6 +26,10 @@ IsUnlawfulTrace bytes = (line : ℕ) × (finding : Finding) × IsUnlawfulText by
 abbrev pub IsBadTrace : List ℕ → Type 0
 IsBadTrace bytes = IsFaultyTrace bytes ⊎ IsUnlawfulTrace bytes
 
+-- the trace of a run
+abbrev pub trace_of : Ran → List ℕ
+trace_of ran = trace_text ran.mechanism ran.settings ran.settled.log.items
+
 -- the line that tells that so many picks are lawful
 abbrev pub lawful_line : ℕ → List ℕ
 lawful_line picks = codes "lawful: " ++ decimal picks ++ codes " picks\n"
@@ -33,6 +41,14 @@ IsToldLawful old new bytes = (picks : ℕ) × IsLawfulText bytes picks × Append
 -- a trace that is shown has a line with a fault, and the lines before it are a head and events
 abbrev pub IsFaultyShown : List ℕ → Type 0
 IsFaultyShown bytes = (line : ℕ) × (fault : LineFault) × IsReadFault bytes (trace.Line line fault)
+
+-- a workload has warnings
+abbrev pub HasWarnings : List ℕ → Type 0
+HasWarnings bytes = (first : Warning) × (others : List Warning) × AreWarningsOf bytes (first ∷ others)
+
+-- a workload has no warning
+abbrev pub HasNoWarning : List ℕ → Type 0
+HasNoWarning bytes = AreWarningsOf bytes []
 
 -- an input at fault, by the word that asks for it
 abbrev pub IsBadInput : List (String Global) → List ℕ → Type 0

@@ -1,5 +1,5 @@
 ghost use Rattle.std.specs.Prelude.{◌≡◌, ◌≤◌, ◌⊎◌, true, Ok, IfErr, IfSome, codes};
-ghost use Rattle.nvme_sim.specs.Inputs.{IsBadInput, IsToldLawful, IsUnlawfulCheck};
+ghost use Rattle.nvme_sim.specs.Inputs.{HasWarnings, IsBadInput, IsToldLawful, IsUnlawfulCheck};
 ghost use Rattle.nvme_sim.specs.Requests.{IsAskedBy};
 ghost use Rattle.nvme_sim.specs.Statuses.{status_of};
 ghost use Rattle.nvme_sim.specs.Words.{asks, asks_alone};
@@ -62,6 +62,7 @@ fn done<R: Read + Drop, W: Write, T: Threads + Wait + Sync>(
     requires { IsAskedBy words.now request }
     ensures input { IfErr result (λ e. status_of e ≡ 1 → IfSome (R.remaining input) (IsBadInput words.now)) }
     ensures warned { result ≡ Ok answer.Warned → asks (codes "lint") words.now ≡ true }
+    ensures warnings { result ≡ Ok answer.Warned → IfSome (R.remaining input) HasWarnings }
     ensures unlawful { result ≡ Ok answer.Unlawful → IsUnlawfulCheck words.now (R.remaining input) }
     ensures lawful { result ≡ Ok answer.Done → asks_alone (codes "check") words.now ≡ true → IfSome (R.remaining input) (IsToldLawful (W.contents output.old) (W.contents output.new)) }
     ensures untouched { IfErr result (λ e. (e ≡ fault.Write) ⊎ (e ≡ fault.Run run_fault.Write) ⊎ (output.new ≡ output.old)) }
@@ -88,6 +89,7 @@ fn served<R: Read + Drop, W: Write, T: Threads + Wait + Sync>(
 ) -> Result<Answer, Fault>
     ensures input { IfErr result (λ e. status_of e ≡ 1 → IfSome (R.remaining input) (IsBadInput words.now)) }
     ensures warned { result ≡ Ok answer.Warned → asks (codes "lint") words.now ≡ true }
+    ensures warnings { result ≡ Ok answer.Warned → IfSome (R.remaining input) HasWarnings }
     ensures unlawful { result ≡ Ok answer.Unlawful → IsUnlawfulCheck words.now (R.remaining input) }
     ensures lawful { result ≡ Ok answer.Done → asks_alone (codes "check") words.now ≡ true → IfSome (R.remaining input) (IsToldLawful (W.contents output.old) (W.contents output.new)) }
     ensures untouched { IfErr result (λ e. (e ≡ fault.Write) ⊎ (e ≡ fault.Run run_fault.Write) ⊎ (output.new ≡ output.old)) }
@@ -119,6 +121,7 @@ pub fn command<R: Read + Drop, W: Write, E: Write, T: Threads + Wait + Sync>(
 ) -> u8
     ensures status { result ≤ 4 }
     ensures warned { result ≡ 4 → asks (codes "lint") words.now ≡ true }
+    ensures warnings { result ≡ 4 → IfSome (R.remaining input) HasWarnings }
     ensures input { result ≡ 1 → IfSome (R.remaining input) (IsBadInput words.now) }
     ensures lawful { result ≡ 0 → asks_alone (codes "check") words.now ≡ true → IfSome (R.remaining input) (IsToldLawful (W.contents output.old) (W.contents output.new)) }
     ensures untouched { result ≡ 1 → (output.new ≡ output.old) ⊎ IsUnlawfulCheck words.now (R.remaining input) }

@@ -1,5 +1,6 @@
 // What the writer of a workload wants to know.
 ghost use Rattle.std.specs.Prelude.{◌≡◌, ◌⊎◌, Ok, IfErr, IfSome};
+ghost use Rattle.nvme_sim.specs.Inputs.{HasNoWarning, HasWarnings};
 ghost use Rattle.nvme_sim.specs.Statuses.{IsBadWorkload, status_of};
 ghost use Rattle.nvme_sim.specs.declared.faults.Fault.TheVariants as fault;
 ghost use Rattle.nvme_sim.specs.declared.commands.Answer.TheVariants as answer;
@@ -20,13 +21,15 @@ fn write_warnings<W: Write>(warnings: &[Warning], output: &mut W) -> io::Result<
 }
 
 /// Tells where a workload is at fault, or writes what of it comes to nothing.
-#[tactic(auto, using(crate::proofs::Inputs::bad_file))]
+#[tactic(auto, using(crate::proofs::Inputs::bad_file, crate::proofs::Inputs::has_warnings, crate::proofs::Inputs::has_no_warning))]
 pub(super) fn linted<R: Read + Drop, W: Write>(
     alloc: Global,
     input: R,
     output: &mut W,
 ) -> Result<Answer, Fault>
     ensures no_pick { result ≡ Ok answer.Unlawful → ⊥ }
+    ensures warned { result ≡ Ok answer.Warned → IfSome (R.remaining input) HasWarnings }
+    ensures none { result ≡ Ok answer.Done → IfSome (R.remaining input) HasNoWarning }
     ensures input { IfErr result (λ e. status_of e ≡ 1 → IfSome (R.remaining input) IsBadWorkload) }
     ensures quiet { result ≡ Ok answer.Done → output.new ≡ output.old }
     ensures untouched { IfErr result (λ e. (e ≡ fault.Write) ⊎ (output.new ≡ output.old)) }

@@ -1,8 +1,10 @@
 // Traces of runs.
 ghost use Rattle.std.specs.Prelude.{◌≡◌, ◌⊎◌, Ok, IfErr, IfSome, OnOk};
+ghost use Rattle.std.specs.Io.KnownBytes.{Appends};
 ghost use Rattle.nvme_runs.specs.Ran.{BeginsAs};
 ghost use Rattle.nvme_runs.specs.Runs.{IsRun};
 ghost use Rattle.nvme_runs.specs.declared.runs.Ran.{Ran};
+ghost use Rattle.nvme_sim.specs.Inputs.{trace_of};
 ghost use Rattle.nvme_sim.specs.Statuses.{IsBadWorkload, status_of};
 ghost use Rattle.nvme_sim.specs.declared.faults.Fault.TheVariants as fault;
 ghost use Rattle.nvme_sim.specs.declared.commands.Answer.TheVariants as answer;
@@ -27,7 +29,7 @@ pub(super) fn traced<R: Read + Drop, W: Write, T: Threads + Wait + Sync>(
     output: &mut W,
 ) -> Result<Answer, Fault>
     ensures no_other { (result ≡ Ok answer.Warned) ⊎ (result ≡ Ok answer.Unlawful) → ⊥ }
-    ensures done { OnOk result (IfSome (R.remaining input) (λ bytes. (ran : Ran) × BeginsAs bytes ran × IsRun bytes mode ran.settled)) }
+    ensures done { OnOk result (IfSome (R.remaining input) (λ bytes. (ran : Ran) × BeginsAs bytes ran × IsRun bytes mode ran.settled × Appends (W.contents output.old) (W.contents output.new) (trace_of ran))) }
     ensures input { IfErr result (λ e. status_of e ≡ 1 → IfSome (R.remaining input) IsBadWorkload) }
     ensures untouched { IfErr result (λ e. (e ≡ fault.Write) ⊎ (output.new ≡ output.old)) }
 {
