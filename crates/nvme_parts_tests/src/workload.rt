@@ -152,7 +152,7 @@ address = 0x9000
 slots = 64
 ";
 
-// The empty workload with one command, all its keys written.
+/// The empty workload with one command, all its keys written.
 pub const ONE_COMMAND: &str = "mechanism = \"round-robin\"
 arbitration = 0
 sq_limit = 16
@@ -209,7 +209,7 @@ fn expect_submission(rt: &impl Abort, region: &SqPlan, address: u64, slots: u16,
     assert_eq!(rt; region.script.as_slice(), script);
 }
 
-// A region of n equal commands.
+/// A region of n equal commands.
 pub fn expect_equal(
     rt: &impl Abort,
     region: &SqPlan,
