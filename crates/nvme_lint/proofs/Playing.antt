@@ -1,7 +1,8 @@
 -- Admin commands that are played one by one, and the regions that they leave unused.
-use Rattle.std.proofs.Common.{◌≡◌, ℕ, suc, ◌+◌, ◌<◌, ◌≤◌, Bool, List, ◌++◌, length, drop, get_or, refl, sym, ap, ◌∙◌, subst, arith, append_assoc}
+use Rattle.std.proofs.Common.{◌≡◌, ℕ, suc, ◌+◌, ◌<◌, ◌≤◌, Bool, List, [], ◌∷◌, ◌++◌, length, drop, get_or, refl, sym, ap, ◌∙◌, subst, arith, append_assoc}
 use Rattle.std.proofs.Math.Seq.{drop-cons}
-use Rattle.std.proofs.lemmas.List.{append-nil, drop_all}
+use Rattle.std.specs.Prelude.{reverse}
+use Rattle.std.proofs.lemmas.List.{append-nil, drop_all, reverse-append}
 use Rattle.nvme_entry.specs.declared.submission.Sqe.{Sqe}
 use Rattle.nvme_admin.specs.History.{Start, TableHistory}
 use Rattle.nvme_admin.specs.Accepted.{status_of}
@@ -13,13 +14,93 @@ use Rattle.nvme_lint.specs.declared.warning.Warning.{Warning}
 use Rattle.nvme_lint.specs.declared.warning.Warning.TheVariants.{Unused}
 use Rattle.nvme_lint.specs.declared.warning.Kind.TheVariants as kind
 
+-- ---- from the front
+-- the same, of commands and regions that are still to come, the first of which has this number
+abbrev pub history_then : Start → TableHistory → List Sqe → TableHistory
+history_then start h [] = h
+history_then start h (entry ∷ script) = history_then start (history_after start h entry) script
+
+abbrev pub refusals_then : Start → TableHistory → ℕ → List Sqe → List Warning
+refusals_then start h number [] = []
+refusals_then start h number (entry ∷ script) =
+    refusal number entry (status_of start h entry) ++ refusals_then start (history_after start h entry) (suc number) script
+
+abbrev pub sqs_then : (ℕ → Bool) → ℕ → List SqPlan → List Warning
+sqs_then used number [] = []
+sqs_then used number (region ∷ regions) =
+    warning_unless (used number) (Unused kind.Submission number (length region.script)) ++ sqs_then used (suc number) regions
+
+abbrev pub cqs_then : (ℕ → Bool) → ℕ → List CqPlan → List Warning
+cqs_then used number [] = []
+cqs_then used number (region ∷ regions) =
+    warning_unless (used number) (Unused kind.Completion number 0) ++ cqs_then used (suc number) regions
+
+-- the first of what is still to come is the latest of what came
+first_moves : {X : Type 0} (x : X) (xs earlier : List X) → reverse (x ∷ xs) ++ earlier ≡ reverse xs ++ x ∷ earlier
+first_moves x xs earlier =
+    ap (λ ys. ys ++ earlier) (reverse-append (x ∷ []) xs) ∙ append_assoc (reverse xs) (x ∷ []) earlier
+
+-- what comes after what came, together
+history_from : (start : Start) (h : TableHistory) (script earlier : List Sqe)
+    → history_then start (history_of start h earlier) script ≡ history_of start h (reverse script ++ earlier)
+unfolding history_of
+history_from start h [] earlier = refl
+history_from start h (entry ∷ script) earlier =
+    history_from start h script (entry ∷ earlier) ∙ ap (λ es. history_of start h es) (sym (first_moves entry script earlier))
+
+refusals_from : (start : Start) (h : TableHistory) (script earlier : List Sqe)
+    → refusals_of start h earlier ++ refusals_then start (history_of start h earlier) (length earlier) script ≡ refusals_of start h (reverse script ++ earlier)
+unfolding history_of refusals_of
+refusals_from start h [] earlier = append-nil (refusals_of start h earlier)
+refusals_from start h (entry ∷ script) earlier =
+    let now : TableHistory = history_of start h earlier in
+    sym (append_assoc (refusals_of start h earlier) (refusal (length earlier) entry (status_of start now entry))
+    (refusals_then start (history_after start now entry) (suc (length earlier)) script))
+    ∙ refusals_from start h script (entry ∷ earlier) ∙ ap (λ es. refusals_of start h es) (sym (first_moves entry script earlier))
+
+sqs_from : (used : ℕ → Bool) (plans earlier : List SqPlan)
+    → unused_sqs used earlier ++ sqs_then used (length earlier) plans ≡ unused_sqs used (reverse plans ++ earlier)
+unfolding unused_sqs
+sqs_from used [] earlier = append-nil (unused_sqs used earlier)
+sqs_from used (region ∷ plans) earlier =
+    sym (append_assoc (unused_sqs used earlier) (warning_unless (used (length earlier)) (Unused kind.Submission (length earlier) (length region.script)))
+    (sqs_then used (suc (length earlier)) plans))
+    ∙ sqs_from used plans (region ∷ earlier) ∙ ap (λ rs. unused_sqs used rs) (sym (first_moves region plans earlier))
+
+cqs_from : (used : ℕ → Bool) (plans earlier : List CqPlan)
+    → unused_cqs used earlier ++ cqs_then used (length earlier) plans ≡ unused_cqs used (reverse plans ++ earlier)
+unfolding unused_cqs
+cqs_from used [] earlier = append-nil (unused_cqs used earlier)
+cqs_from used (region ∷ plans) earlier =
+    sym (append_assoc (unused_cqs used earlier) (warning_unless (used (length earlier)) (Unused kind.Completion (length earlier) 0))
+    (cqs_then used (suc (length earlier)) plans))
+    ∙ cqs_from used plans (region ∷ earlier) ∙ ap (λ rs. unused_cqs used rs) (sym (first_moves region plans earlier))
+
+-- where nothing came before, they are all
+pub history_all : (start : Start) (h : TableHistory) (script : List Sqe) → history_then start h script ≡ history_of start h (reverse script)
+unfolding history_of
+history_all start h script = history_from start h script [] ∙ ap (λ es. history_of start h es) (append-nil (reverse script))
+
+refusals_all : (start : Start) (h : TableHistory) (script : List Sqe) → refusals_then start h 0 script ≡ refusals_of start h (reverse script)
+unfolding history_of refusals_of
+refusals_all start h script = refusals_from start h script [] ∙ ap (λ es. refusals_of start h es) (append-nil (reverse script))
+
+pub sqs_are_all : (used : ℕ → Bool) (plans : List SqPlan) → sqs_then used 0 plans ≡ unused_sqs used (reverse plans)
+unfolding unused_sqs
+sqs_are_all used plans = sqs_from used plans [] ∙ ap (λ rs. unused_sqs used rs) (append-nil (reverse plans))
+
+pub cqs_are_all : (used : ℕ → Bool) (plans : List CqPlan) → cqs_then used 0 plans ≡ unused_cqs used (reverse plans)
+unfolding unused_cqs
+cqs_are_all used plans = cqs_from used plans [] ∙ ap (λ rs. unused_cqs used rs) (append-nil (reverse plans))
+
+-- ---- commands that are played
 -- a table stands at a history after the commands before this number, and these warnings are those of these commands: what is left of the
 -- script leads from there to the same warnings and to the same history
 pub record Plays (start : Start) (h : TableHistory) (before : List Warning) (script : List Sqe) (number : ℕ) (table : TableView) (warnings : List Warning) : Type 0 where
   pub now : TableHistory
   pub stands : StandsAt start table now
-  pub told : warnings ++ refusals_of start now number (drop number script) ≡ before ++ refusals_of start h 0 script
-  pub history : history_of start now (drop number script) ≡ history_of start h script
+  pub told : warnings ++ refusals_then start now number (drop number script) ≡ before ++ refusals_then start h 0 script
+  pub history : history_then start now (drop number script) ≡ history_then start h script
 
 -- what stands where there is no command
 abbrev pub no_entry : Sqe
@@ -34,19 +115,18 @@ pub plays_one : (start : Start) (h : TableHistory) (before : List Warning) (scri
     → number < length script → (p : Plays start h before script number old warnings)
     → StandsAt start new (history_after start p.now (get_or script number d)) → told ≡ warnings ++ refusal number (get_or script number d) (status_of start p.now (get_or script number d))
     → Plays start h before script (number + 1) new told
-unfolding refusals_of history_of
 plays_one start h before script number d old new warnings told there p stands more =
     let entry = get_or script number d in
     let later = history_after start p.now entry in
     record {
       now = later;
       stands = stands;
-      told = ap (λ n. told ++ refusals_of start later n (drop n script)) (next number)
-          ∙ ap (λ ws. ws ++ refusals_of start later (suc number) (drop (suc number) script)) more
-          ∙ append_assoc warnings (refusal number entry (status_of start p.now entry)) (refusals_of start later (suc number) (drop (suc number) script))
-          ∙ sym (ap (λ es. warnings ++ refusals_of start p.now number es) (drop-cons script number d there))
+      told = ap (λ n. told ++ refusals_then start later n (drop n script)) (next number)
+          ∙ ap (λ ws. ws ++ refusals_then start later (suc number) (drop (suc number) script)) more
+          ∙ append_assoc warnings (refusal number entry (status_of start p.now entry)) (refusals_then start later (suc number) (drop (suc number) script))
+          ∙ sym (ap (λ es. warnings ++ refusals_then start p.now number es) (drop-cons script number d there))
           ∙ p.told;
-      history = ap (λ n. history_of start later (drop n script)) (next number) ∙ sym (ap (λ es. history_of start p.now es) (drop-cons script number d there)) ∙ p.history;
+      history = ap (λ n. history_then start later (drop n script)) (next number) ∙ sym (ap (λ es. history_then start p.now es) (drop-cons script number d there)) ∙ p.history;
     }
 
 -- nothing is played at first
@@ -56,47 +136,42 @@ plays_none start h before script table stands = record { now = h; stands = stand
 -- where nothing is left, all is played
 pub plays_all : (start : Start) (h : TableHistory) (before : List Warning) (script : List Sqe) (number : ℕ) (table : TableView) (warnings : List Warning)
     → length script ≤ number → Plays start h before script number table warnings
-    → (warnings ≡ before ++ refusals_of start h 0 script) × StandsAt start table (history_of start h script)
-unfolding refusals_of history_of
+    → (warnings ≡ before ++ refusals_of start h (reverse script)) × StandsAt start table (history_of start h (reverse script))
 plays_all start h before script number table warnings over p =
     let none = drop_all number script over in (
-      sym (append-nil warnings) ∙ sym (ap (λ es. warnings ++ refusals_of start p.now number es) none) ∙ p.told,
-      subst (λ (g : TableHistory). StandsAt start table g) (sym (ap (λ es. history_of start p.now es) none) ∙ p.history) p.stands,
+      sym (append-nil warnings) ∙ sym (ap (λ es. warnings ++ refusals_then start p.now number es) none) ∙ p.told ∙ ap (λ ws. before ++ ws) (refusals_all start h script),
+      subst (λ (g : TableHistory). StandsAt start table g) (sym (ap (λ es. history_then start p.now es) none) ∙ p.history ∙ history_all start h script) p.stands,
     )
 
 -- ---- regions
 -- a submission region more
 pub sqs_one : (used : ℕ → Bool) (plans : List SqPlan) (i : ℕ) (d : SqPlan) (before warnings told : List Warning) → i < length plans
     → told ≡ warnings ++ warning_unless (used i) (Unused kind.Submission i (length (get_or plans i d).script))
-    → warnings ++ unused_sqs used i (drop i plans) ≡ before ++ unused_sqs used 0 plans → told ++ unused_sqs used (i + 1) (drop (i + 1) plans) ≡ before ++ unused_sqs used 0 plans
-unfolding unused_sqs
+    → warnings ++ sqs_then used i (drop i plans) ≡ before ++ sqs_then used 0 plans → told ++ sqs_then used (i + 1) (drop (i + 1) plans) ≡ before ++ sqs_then used 0 plans
 sqs_one used plans i d before warnings told there more was =
-    ap (λ n. told ++ unused_sqs used n (drop n plans)) (next i)
-    ∙ ap (λ ws. ws ++ unused_sqs used (suc i) (drop (suc i) plans)) more
-    ∙ append_assoc warnings (warning_unless (used i) (Unused kind.Submission i (length (get_or plans i d).script))) (unused_sqs used (suc i) (drop (suc i) plans))
-    ∙ sym (ap (λ rs. warnings ++ unused_sqs used i rs) (drop-cons plans i d there))
+    ap (λ n. told ++ sqs_then used n (drop n plans)) (next i)
+    ∙ ap (λ ws. ws ++ sqs_then used (suc i) (drop (suc i) plans)) more
+    ∙ append_assoc warnings (warning_unless (used i) (Unused kind.Submission i (length (get_or plans i d).script))) (sqs_then used (suc i) (drop (suc i) plans))
+    ∙ sym (ap (λ rs. warnings ++ sqs_then used i rs) (drop-cons plans i d there))
     ∙ was
 
 pub sqs_all : (used : ℕ → Bool) (plans : List SqPlan) (i : ℕ) (before warnings : List Warning) → length plans ≤ i
-    → warnings ++ unused_sqs used i (drop i plans) ≡ before ++ unused_sqs used 0 plans → warnings ≡ before ++ unused_sqs used 0 plans
-unfolding unused_sqs
+    → warnings ++ sqs_then used i (drop i plans) ≡ before ++ sqs_then used 0 plans → warnings ≡ before ++ unused_sqs used (reverse plans)
 sqs_all used plans i before warnings over was =
-    sym (append-nil warnings) ∙ sym (ap (λ rs. warnings ++ unused_sqs used i rs) (drop_all i plans over)) ∙ was
+    sym (append-nil warnings) ∙ sym (ap (λ rs. warnings ++ sqs_then used i rs) (drop_all i plans over)) ∙ was ∙ ap (λ ws. before ++ ws) (sqs_are_all used plans)
 
 -- a completion region more
 pub cqs_one : (used : ℕ → Bool) (plans : List CqPlan) (i : ℕ) (before warnings told : List Warning) → i < length plans
     → told ≡ warnings ++ warning_unless (used i) (Unused kind.Completion i 0)
-    → warnings ++ unused_cqs used i (drop i plans) ≡ before ++ unused_cqs used 0 plans → told ++ unused_cqs used (i + 1) (drop (i + 1) plans) ≡ before ++ unused_cqs used 0 plans
-unfolding unused_cqs
+    → warnings ++ cqs_then used i (drop i plans) ≡ before ++ cqs_then used 0 plans → told ++ cqs_then used (i + 1) (drop (i + 1) plans) ≡ before ++ cqs_then used 0 plans
 cqs_one used plans i before warnings told there more was =
-    ap (λ n. told ++ unused_cqs used n (drop n plans)) (next i)
-    ∙ ap (λ ws. ws ++ unused_cqs used (suc i) (drop (suc i) plans)) more
-    ∙ append_assoc warnings (warning_unless (used i) (Unused kind.Completion i 0)) (unused_cqs used (suc i) (drop (suc i) plans))
-    ∙ sym (ap (λ rs. warnings ++ unused_cqs used i rs) (drop-cons plans i (record { address = 0; slots = 0 }) there))
+    ap (λ n. told ++ cqs_then used n (drop n plans)) (next i)
+    ∙ ap (λ ws. ws ++ cqs_then used (suc i) (drop (suc i) plans)) more
+    ∙ append_assoc warnings (warning_unless (used i) (Unused kind.Completion i 0)) (cqs_then used (suc i) (drop (suc i) plans))
+    ∙ sym (ap (λ rs. warnings ++ cqs_then used i rs) (drop-cons plans i (record { address = 0; slots = 0 }) there))
     ∙ was
 
 pub cqs_all : (used : ℕ → Bool) (plans : List CqPlan) (i : ℕ) (before warnings : List Warning) → length plans ≤ i
-    → warnings ++ unused_cqs used i (drop i plans) ≡ before ++ unused_cqs used 0 plans → warnings ≡ before ++ unused_cqs used 0 plans
-unfolding unused_cqs
+    → warnings ++ cqs_then used i (drop i plans) ≡ before ++ cqs_then used 0 plans → warnings ≡ before ++ unused_cqs used (reverse plans)
 cqs_all used plans i before warnings over was =
-    sym (append-nil warnings) ∙ sym (ap (λ rs. warnings ++ unused_cqs used i rs) (drop_all i plans over)) ∙ was
+    sym (append-nil warnings) ∙ sym (ap (λ rs. warnings ++ cqs_then used i rs) (drop_all i plans over)) ∙ was ∙ ap (λ ws. before ++ ws) (cqs_are_all used plans)

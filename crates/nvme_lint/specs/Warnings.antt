@@ -1,6 +1,6 @@
 -- What of a lawful workload comes to nothing, by the queue table after its admin commands. A front begins none of them before
 -- the deletion that the one before began is finished, so that their answers depend on nothing else. (profile)
-use Rattle.std.specs.Prelude.{◌≡◌, ℕ, suc, Bool, if◌then◌else◌, List, [], ◌∷◌, ◌++◌, length, Ok}
+use Rattle.std.specs.Prelude.{◌≡◌, ℕ, Bool, if◌then◌else◌, List, [], ◌∷◌, ◌++◌, length, reverse, Ok}
 use Rattle.nvme_entry.specs.Status.{StatusCode}
 use Rattle.nvme_entry.specs.AdminCommand.{qid_of}
 use Rattle.nvme_entry.specs.declared.submission.Sqe.{Sqe}
@@ -44,10 +44,10 @@ finished_after verdict h = h
 abbrev pub history_after : Start → TableHistory → Sqe → TableHistory
 history_after start h entry = finished_after (verdict_of start h entry) (EntryApplied entry ∷ h)
 
--- the history after these admin commands more
+-- the history after these admin commands more, of which the latest comes first
 unfoldable pub history_of : Start → TableHistory → List Sqe → TableHistory
 history_of start h [] = h
-history_of start h (entry ∷ script) = history_of start (history_after start h entry) script
+history_of start h (entry ∷ earlier) = history_after start (history_of start h earlier) entry
 
 -- a warning, unless all is well
 abbrev pub warning_unless : Bool → Warning → List Warning
@@ -57,23 +57,23 @@ warning_unless well warning = if well then [] else warning ∷ []
 abbrev pub refusal : ℕ → Sqe → StatusCode → List Warning
 refusal number entry status = warning_unless (is_success status) (Refused number entry.opcode (qid_of entry) status)
 
--- the warnings of these admin commands, the first of which has this number
-unfoldable pub refusals_of : Start → TableHistory → ℕ → List Sqe → List Warning
-refusals_of start h number [] = []
-refusals_of start h number (entry ∷ script) =
-    refusal number entry (status_of start h entry) ++ refusals_of start (history_after start h entry) (suc number) script
+-- the warnings of these admin commands, of which the latest comes first. The number of a command is that of the commands before it
+unfoldable pub refusals_of : Start → TableHistory → List Sqe → List Warning
+refusals_of start h [] = []
+refusals_of start h (entry ∷ earlier) =
+    refusals_of start h earlier ++ refusal (length earlier) entry (status_of start (history_of start h earlier) entry)
 
--- the warnings of these submission regions, the first of which has this number, where `used` tells on which a queue was created
-unfoldable pub unused_sqs : (ℕ → Bool) → ℕ → List SqPlan → List Warning
-unused_sqs used number [] = []
-unused_sqs used number (region ∷ regions) =
-    warning_unless (used number) (Unused kind.Submission number (length region.script)) ++ unused_sqs used (suc number) regions
+-- the warnings of these submission regions, of which the last comes first, where `used` tells on which a queue was created
+unfoldable pub unused_sqs : (ℕ → Bool) → List SqPlan → List Warning
+unused_sqs used [] = []
+unused_sqs used (region ∷ earlier) =
+    unused_sqs used earlier ++ warning_unless (used (length earlier)) (Unused kind.Submission (length earlier) (length region.script))
 
 -- the warnings of these completion regions
-unfoldable pub unused_cqs : (ℕ → Bool) → ℕ → List CqPlan → List Warning
-unused_cqs used number [] = []
-unused_cqs used number (region ∷ regions) =
-    warning_unless (used number) (Unused kind.Completion number 0) ++ unused_cqs used (suc number) regions
+unfoldable pub unused_cqs : (ℕ → Bool) → List CqPlan → List Warning
+unused_cqs used [] = []
+unused_cqs used (region ∷ earlier) =
+    unused_cqs used earlier ++ warning_unless (used (length earlier)) (Unused kind.Completion (length earlier) 0)
 
 -- the script of the admin queue, whose region is the first
 abbrev pub admin_script : List SqPlan → List Sqe
@@ -82,15 +82,15 @@ admin_script (region ∷ regions) = region.script
 
 -- the queue table after all admin commands. A region is used in it where an accepted Create named it, and region 0 is the admin queue's
 abbrev pub last_table : Plan → QueueTable
-last_table p = queue_table (start_of p) (history_of (start_of p) (first_history p) (admin_script p.submissions))
+last_table p = queue_table (start_of p) (history_of (start_of p) (first_history p) (reverse (admin_script p.submissions)))
 
 -- the warnings of a workload: the admin commands that are refused, in order, then the submission regions that no queue was created
 -- on, then such completion regions
 abbrev pub warnings_of : Plan → List Warning
 warnings_of p =
-    refusals_of (start_of p) (first_history p) 0 (admin_script p.submissions)
-    ++ unused_sqs (last_table p).sq_region_used 0 p.submissions
-    ++ unused_cqs (last_table p).cq_region_used 0 p.completions
+    refusals_of (start_of p) (first_history p) (reverse (admin_script p.submissions))
+    ++ unused_sqs (last_table p).sq_region_used (reverse p.submissions)
+    ++ unused_cqs (last_table p).cq_region_used (reverse p.completions)
 
 -- these are the warnings of the workload of the bytes
 abbrev pub AreWarningsOf : List ℕ → List Warning → Type 0

@@ -1,6 +1,6 @@
 // What of a lawful workload comes to nothing. The admin commands are played in their order: a front begins none before
 // the deletion of the one before it is finished, so that their answers depend on nothing else.
-ghost use Rattle.std.specs.Prelude.{◌≡◌, ℕ, ◌≤◌, ◌++◌, [], length, map, IfOk, OnOk};
+ghost use Rattle.std.specs.Prelude.{◌≡◌, ℕ, ◌≤◌, ◌++◌, [], length, map, reverse, IfOk, OnOk};
 ghost use Rattle.std.specs.List.{All};
 ghost use Rattle.nvme_entry.specs.AdminCommand.{qid_of};
 ghost use Rattle.nvme_admin.specs.Checks.{is_success};
@@ -118,8 +118,8 @@ fn push_refused(
     script: &[Sqe],
 ) -> Result<(), AllocError>
     requires stands { (start : Start) × (h : TableHistory) × StandsAt start table.old h }
-    ensures told { OnOk result ((start : Start) (h : TableHistory) → StandsAt start table.old h → warnings.new.items ≡ warnings.old.items ++ refusals_of start h 0 script.now) }
-    ensures stands { OnOk result ((start : Start) (h : TableHistory) → StandsAt start table.old h → StandsAt start table.new (history_of start h script.now)) }
+    ensures told { OnOk result ((start : Start) (h : TableHistory) → StandsAt start table.old h → warnings.new.items ≡ warnings.old.items ++ refusals_of start h (reverse script.now)) }
+    ensures stands { OnOk result ((start : Start) (h : TableHistory) → StandsAt start table.old h → StandsAt start table.new (history_of start h (reverse script.now))) }
 {
     for (command, entry) in script.iter().enumerate() {
         let status = play(table, entry);
@@ -141,7 +141,7 @@ fn push_unused_sqs(
     plans: &[SqPlan],
 ) -> Result<(), AllocError>
     requires few { length plans.now ≤ MAX_REGIONS }
-    ensures told { OnOk result (warnings.new.items ≡ warnings.old.items ++ unused_sqs (used_at used.now) 0 plans.now) }
+    ensures told { OnOk result (warnings.new.items ≡ warnings.old.items ++ unused_sqs (used_at used.now) (reverse plans.now)) }
 {
     for (region, plan) in plans.iter().enumerate() {
         let unused = Warning::Unused {
@@ -161,7 +161,7 @@ fn push_unused_cqs(
     plans: &[CqPlan],
 ) -> Result<(), AllocError>
     requires few { length plans.now ≤ MAX_REGIONS }
-    ensures told { OnOk result (warnings.new.items ≡ warnings.old.items ++ unused_cqs (used_at used.now) 0 plans.now) }
+    ensures told { OnOk result (warnings.new.items ≡ warnings.old.items ++ unused_cqs (used_at used.now) (reverse plans.now)) }
 {
     for (region, _) in plans.iter().enumerate() {
         let unused = Warning::Unused {

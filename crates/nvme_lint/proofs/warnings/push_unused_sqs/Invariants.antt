@@ -1,10 +1,10 @@
 -- The warnings so far, and those of the regions that are left, are all.
 use Rattle.std.proofs.Common.{◌≡◌, ◌++◌, drop}
 use Rattle.nvme_admin.specs.Standing.{used_at}
-use Rattle.nvme_lint.specs.Warnings.{unused_sqs}
+use Rattle.nvme_lint.proofs.Playing.{sqs_then}
 use Rattle.nvme_lint.proofs.warnings.push_unused_sqs.Given as goal
 
 abbrev pub invariant-loop-region : goal.invariant-loop-region
 invariant-loop-region l = record {
-  told : l.warnings.items ++ unused_sqs (used_at l.used) l.region (drop l.region l.plans) ≡ l.fn.warnings.items ++ unused_sqs (used_at l.used) 0 l.plans;
+  told : l.warnings.items ++ sqs_then (used_at l.used) l.region (drop l.region l.plans) ≡ l.fn.warnings.items ++ sqs_then (used_at l.used) 0 l.plans;
 }
