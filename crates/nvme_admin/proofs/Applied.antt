@@ -8,7 +8,7 @@ use Rattle.nvme_entry.specs.Submission.{fuse_of}
 use Rattle.nvme_entry.specs.AdminCommand.{admin_command_of}
 use Rattle.nvme_entry.specs.declared.submission.Sqe.{Sqe}
 use Rattle.nvme_entry.specs.declared.admin.AdminCommand.{AdminCommand}
-use Rattle.nvme_entry.specs.declared.admin.AdminCommand.TheVariants.{DeleteSq, CreateSq, DeleteCq, CreateCq, SetFeatures, GetFeatures, Other}
+use Rattle.nvme_entry.specs.declared.admin.AdminCommand.TheVariants.{DeleteSq, CreateSq, DeleteCq, CreateCq, Abort, SetFeatures, GetFeatures, Other}
 use Rattle.nvme_admin.specs.declared.verdict.SqEntry.{SqEntry}
 use Rattle.nvme_admin.specs.declared.verdict.Verdict.{Verdict}
 use Rattle.nvme_admin.specs.declared.verdict.Verdict.TheVariants.{Done, SetArbitration}
@@ -75,6 +75,7 @@ status_in-after t (DeleteSq qid) = refl
 status_in-after t (DeleteCq qid) = refl
 status_in-after t (SetFeatures fid sv cdw11) = (choice (fid == number_of_queues) (dw0_after t (SetFeatures fid sv cdw11)) (SetArbitration t.settings) refl refl).0
 status_in-after t (GetFeatures fid) = refl
+status_in-after t (Abort sqid cid) = refl
 status_in-after t Other = refl
 
 dw0_twice : (b : Bool) (n : ℕ) → (if b then (if b then n else 0) else 0) ≡ (if b then n else 0)
@@ -90,6 +91,7 @@ dw0_in-after t (SetFeatures fid sv cdw11) =
     (choice (fid == number_of_queues) (dw0_after t (SetFeatures fid sv cdw11)) (SetArbitration t.settings) refl refl).1
     ∙ dw0_twice (fid == number_of_queues) (dw0_after t (SetFeatures number_of_queues sv cdw11))
 dw0_in-after t (GetFeatures fid) = refl
+dw0_in-after t (Abort sqid cid) = refl
 dw0_in-after t Other = refl
 
 status_in-choice : (b : Bool) (s : StatusCode) (v : Verdict) → status_in v ≡ success → (b ≡ true → s ≡ success) → status_in (if b then v else Done s 0) ≡ s

@@ -4,7 +4,7 @@ use Rattle.std.proofs.lemmas.Bool.{cases_eq, cases_Bool}
 use Rattle.nvme_entry.specs.Status.{StatusCode, success}
 use Rattle.nvme_entry.specs.AdminCommand.{admin_command_of}
 use Rattle.nvme_entry.specs.declared.admin.AdminCommand.{AdminCommand}
-use Rattle.nvme_entry.specs.declared.admin.AdminCommand.TheVariants.{DeleteSq, CreateSq, DeleteCq, CreateCq, SetFeatures, GetFeatures, Other}
+use Rattle.nvme_entry.specs.declared.admin.AdminCommand.TheVariants.{DeleteSq, CreateSq, DeleteCq, CreateCq, Abort, SetFeatures, GetFeatures, Other}
 use Rattle.nvme_arbiter.specs.declared.settings.Class.TheVariants.{Admin, Urgent, High, Medium, Low}
 use Rattle.nvme_admin.specs.declared.region.Region.{Region}
 use Rattle.nvme_admin.specs.declared.verdict.SqEntry.{SqEntry}
@@ -143,6 +143,7 @@ module _ (start : Start) (e : Effects) where
       or_true-left true b h n = refl
       or_true-left false b h n = sym n ∙ h
   tells (GetFeatures fid) h = record { due = tt; sqs = λ q. refl; cqs = λ q. refl; settings = refl }
+  tells (Abort sqid cid) h = record { due = tt; sqs = λ q. refl; cqs = λ q. refl; settings = refl }
   tells Other h = record { due = tt; sqs = λ q. refl; cqs = λ q. refl; settings = refl }
 
 -- an entry that passes its checks, or doesn't

@@ -5,7 +5,7 @@ use Rattle.std.proofs.lemmas.Bool.{cases_Bool, cases_eq, eqb-false}
 use Rattle.std.proofs.lemmas.Option.{none-some, same_Some}
 use Rattle.nvme_entry.specs.AdminCommand.{admin_command_of}
 use Rattle.nvme_entry.specs.declared.admin.AdminCommand.{AdminCommand}
-use Rattle.nvme_entry.specs.declared.admin.AdminCommand.TheVariants.{DeleteSq, CreateSq, DeleteCq, CreateCq, SetFeatures, GetFeatures, Other}
+use Rattle.nvme_entry.specs.declared.admin.AdminCommand.TheVariants.{DeleteSq, CreateSq, DeleteCq, CreateCq, Abort, SetFeatures, GetFeatures, Other}
 use Rattle.nvme_admin.specs.declared.bounds.TheConstants.{MAX_REGIONS}
 use Rattle.nvme_admin.specs.declared.region.Region.{Region}
 use Rattle.nvme_admin.specs.declared.verdict.SqEntry.{SqEntry}
@@ -104,6 +104,7 @@ attached-step start small e (DeleteCq qid) p passes q queue h =
     (a.0, a.1, a.2, (λ i. is_some (if apart i then None else io_cq_in e queue.cqid)) ∙ a.3)
 attached-step start small e (SetFeatures fid sv cdw11) p passes q queue h = p q queue h
 attached-step start small e (GetFeatures fid) p passes q queue h = p q queue h
+attached-step start small e (Abort sqid cid) p passes q queue h = p q queue h
 attached-step start small e Other p passes q queue h = p q queue h
 
 attached : (start : Start) → start.nsq < MAX_REGIONS → (h : TableHistory) (q : ℕ) (queue : SqEntry) → io_sq_in (effects_of start h) q ≡ Some queue → AttachedAt start (effects_of start h) q queue
@@ -134,6 +135,7 @@ named-step start e (DeleteSq qid) p passes = p
 named-step start e (DeleteCq qid) p passes = p
 named-step start e (SetFeatures fid sv cdw11) p passes = p
 named-step start e (GetFeatures fid) p passes = p
+named-step start e (Abort sqid cid) p passes = p
 named-step start e Other p passes = p
 
 pub regions-are_used_once : RegionsAreUsedOnce
@@ -148,6 +150,7 @@ created-step e (DeleteSq qid) h = h
 created-step e (DeleteCq qid) h = h
 created-step e (SetFeatures fid sv cdw11) h = h
 created-step e (GetFeatures fid) h = h
+created-step e (Abort sqid cid) h = h
 created-step e Other h = h
 
 created-entry : (b : Bool) (e : Effects) (command : AdminCommand) → created_in e ≡ true → created_in (if b then Accepted command ∷ e else e) ≡ true
@@ -194,6 +197,7 @@ fixed-step start e (CreateCq qid qsize prp1 pc) f passes = (inr refl, refl)
 fixed-step start e (DeleteSq qid) f passes = (f, refl)
 fixed-step start e (DeleteCq qid) f passes = (f, refl)
 fixed-step start e (GetFeatures fid) f passes = (f, refl)
+fixed-step start e (Abort sqid cid) f passes = (f, refl)
 fixed-step start e Other f passes = (f, refl)
 fixed-step start e (SetFeatures fid sv cdw11) f passes =
     let r = none-matches (rows_of (table_in start e) (SetFeatures fid sv cdw11)) (refl, (refl, (refl, (refl, tt)))) passes in
@@ -312,6 +316,7 @@ module _ (start : Start) where
   regions-step e (DeleteCq qid) p passes = p
   regions-step e (SetFeatures fid sv cdw11) p passes = p
   regions-step e (GetFeatures fid) p passes = p
+  regions-step e (Abort sqid cid) p passes = p
   regions-step e Other p passes = p
 
   regions-reached : (h : TableHistory) → HasUsed (effects_of start h) × TellsQueue (effects_of start h)

@@ -2,7 +2,7 @@
 use Rattle.std.proofs.Common.{◌≡◌, ℕ, zero, suc, ◌+◌, ◌≤◌, ◌==◌, ◌⊎◌, Bool, true, false, if◌then◌else◌, List, [], ◌∷◌, ◌++◌, Option, Some, None, refl, sym, ◌∙◌, ap, subst, inl, inr, unwrap_or, slice_get, eqb-true}
 use Rattle.std.proofs.lemmas.Option.{none-some, same_Some}
 use Rattle.nvme_entry.specs.declared.admin.AdminCommand.{AdminCommand}
-use Rattle.nvme_entry.specs.declared.admin.AdminCommand.TheVariants.{DeleteSq, CreateSq, DeleteCq, CreateCq, SetFeatures, GetFeatures, Other}
+use Rattle.nvme_entry.specs.declared.admin.AdminCommand.TheVariants.{DeleteSq, CreateSq, DeleteCq, CreateCq, Abort, SetFeatures, GetFeatures, Other}
 use Rattle.nvme_admin.specs.declared.region.Region.{Region}
 use Rattle.nvme_admin.specs.declared.verdict.SqEntry.{SqEntry}
 use Rattle.nvme_admin.specs.History.{Start, TableHistory, Kind, Submission, Completion, Effects, Added, Accepted}
@@ -69,6 +69,7 @@ module _ (start : Start) where
   allotted-step e (DeleteCq qid) p passes = (p.0, (λ q k h. p.1 q k (unless-closed (qid == q) (io_cq_in e q) k h)))
   allotted-step e (SetFeatures fid sv cdw11) p passes = allotted-set e fid sv cdw11 p passes
   allotted-step e (GetFeatures fid) p passes = p
+  allotted-step e (Abort sqid cid) p passes = p
   allotted-step e Other p passes = p
 
   allotted : (h : TableHistory) → AreAllotted start (effects_of start h)
@@ -149,6 +150,7 @@ module _ (start : Start) where
   has_regions-step e (DeleteCq qid) p passes = (p.0, (λ q k h. p.1 q k (unless-closed (qid == q) (io_cq_in e q) k h)))
   has_regions-step e (SetFeatures fid sv cdw11) p passes = p
   has_regions-step e (GetFeatures fid) p passes = p
+  has_regions-step e (Abort sqid cid) p passes = p
   has_regions-step e Other p passes = p
 
   has_regions : (h : TableHistory) → HaveRegions (effects_of start h)

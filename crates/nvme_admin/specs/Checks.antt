@@ -7,12 +7,13 @@ use Rattle.nvme_entry.specs.AdminCommand.{admin_command_of}
 use Rattle.nvme_entry.specs.declared.submission.Sqe.{Sqe}
 use Rattle.nvme_entry.specs.declared.admin.AdminCommand.{AdminCommand}
 use Rattle.nvme_entry.specs.declared.admin.AdminCommand.TheVariants.{DeleteSq, CreateSq, DeleteCq, CreateCq, SetFeatures, GetFeatures, Other}
+use Rattle.nvme_entry.specs.declared.admin.AdminCommand.TheVariants as command
 use Rattle.nvme_arbiter.specs.Settings.{cdw11_of}
 use Rattle.nvme_admin.specs.declared.bounds.TheConstants.{MAX_REGIONS, MAX_QSIZE}
 use Rattle.nvme_admin.specs.declared.region.Region.{Region}
 use Rattle.nvme_admin.specs.declared.verdict.SqEntry.{SqEntry}
 use Rattle.nvme_admin.specs.declared.verdict.Verdict.{Verdict}
-use Rattle.nvme_admin.specs.declared.verdict.Verdict.TheVariants.{Done, OpenSq, OpenCq, BeginDelete, CloseCq, SetArbitration}
+use Rattle.nvme_admin.specs.declared.verdict.Verdict.TheVariants.{Done, OpenSq, OpenCq, BeginDelete, CloseCq, Abort, SetArbitration}
 use Rattle.nvme_admin.specs.QueueTable.{QueueTable, region_number, arbitration, number_of_queues, nsqr_of, ncqr_of}
 
 -- a row of the checks: when a command fails it, and the status that answers it then
@@ -88,6 +89,8 @@ rows_of t (DeleteCq qid) =
     -- no submission queue, open or closing, is attached to it. (Delete I/O Completion Queue)
     ∷ row (is_attached t qid) invalid_queue_deletion
     ∷ []
+-- an Abort always succeeds: one that finds nothing says so in Dword 0 (Abort)
+rows_of t (command.Abort sqid cid) = []
 rows_of t (SetFeatures fid sv cdw11) =
     -- the features that are supported. (Set Features; profile)
     row (not (fid == arbitration || fid == number_of_queues)) invalid_field
@@ -123,7 +126,7 @@ is_success status = status.sct == 0 && status.sc == 0
 abbrev pub numbers_dw0 : QueueTable → ℕ
 numbers_dw0 t = (t.nsq - 1) + 2 ^ 16 * (t.ncq - 1)
 
--- Dword 0 of an accepted command, over the queue table after it. (Set Features, Get Features, Arbitration feature, Number of Queues feature)
+-- Dword 0 of an accepted command, over the queue table after it; that of an Abort is the front's, and 0 here. (Set Features, Get Features, Arbitration feature, Number of Queues feature)
 abbrev pub dw0_after : QueueTable → AdminCommand → ℕ
 dw0_after after (SetFeatures fid sv cdw11) = if fid == number_of_queues then numbers_dw0 after else 0
 dw0_after after (GetFeatures fid) = if fid == number_of_queues then numbers_dw0 after else cdw11_of after.settings
@@ -147,6 +150,7 @@ verdict_after after (CreateSq qid qsize prp1 cqid qprio pc) = opened_sq qid (aft
 verdict_after after (CreateCq qid qsize prp1 pc) = opened_cq qid (after.cq qid)
 verdict_after after (DeleteSq qid) = BeginDelete qid
 verdict_after after (DeleteCq qid) = CloseCq qid
+verdict_after after (command.Abort sqid cid) = Abort sqid cid
 verdict_after after (SetFeatures fid sv cdw11) =
     if fid == number_of_queues then Done success (dw0_after after (SetFeatures fid sv cdw11)) else SetArbitration after.settings
 verdict_after after (GetFeatures fid) = Done success (dw0_after after (GetFeatures fid))
@@ -156,7 +160,7 @@ verdict_after after Other = Done success 0
 abbrev pub verdict_by : StatusCode → QueueTable → AdminCommand → Verdict
 verdict_by status after command = if is_success status then verdict_after after command else Done status 0
 
--- the status and Dword 0 that a verdict answers: all but `Done` mean success with 0
+-- the status and Dword 0 that a verdict answers: all but `Done` mean success with 0, but for Dword 0 of an Abort, which the front answers
 abbrev pub status_in : Verdict → StatusCode
 status_in (Done status dw0) = status
 status_in verdict = success

@@ -5,7 +5,7 @@ use Rattle.nvme_entry.specs.Status.{StatusCode, success, invalid_opcode, invalid
 use Rattle.nvme_entry.specs.declared.submission.Sqe.{Sqe}
 use Rattle.nvme_arbiter.specs.Settings.{settings_of}
 use Rattle.nvme_arbiter.specs.declared.settings.Class.TheVariants.{Urgent, High, Medium, Low}
-use Rattle.nvme_admin.specs.declared.verdict.Verdict.TheVariants.{Done, OpenSq, OpenCq, BeginDelete, CloseCq, SetArbitration}
+use Rattle.nvme_admin.specs.declared.verdict.Verdict.TheVariants.{Done, OpenSq, OpenCq, BeginDelete, CloseCq, Abort, SetArbitration}
 use Rattle.nvme_admin.specs.History.{Start, TableHistory, Submission, Completion, RegionAdded, EntryApplied, DeletionFinished}
 use Rattle.nvme_admin.specs.Accepted.{queue_table, status_of, dw0_of, verdict_of, sq_at, cq_at, nsq_at, ncq_at, settings_at}
 use Rattle.nvme_admin.specs.Changes.{admin_queue}
@@ -53,6 +53,9 @@ save_feature fid cdw11 = entry_of 0x09 0 0 (0x80000000 + fid) cdw11
 
 abbrev pub get_feature : ℕ → Sqe
 get_feature fid = entry_of 0x0a 0 0 fid 0
+
+abbrev pub abort : (sqid cid : ℕ) → Sqe
+abort sqid cid = entry_of 0x08 0 0 (sqid + 0x10000 * cid) 0
 
 -- an entry, and the status that answers it
 pub record Case : Type 0 where
@@ -192,8 +195,11 @@ get_feature_cases =
 abbrev pub other_cases : List Case
 other_cases =
     gives (entry_of 0x06 0 0 0 0) invalid_opcode
-    ∷ gives (entry_of 0x08 0 0 0 0) invalid_opcode
-    ∷ gives (entry_of 0x08 1 0 0 0) invalid_field
+    ∷ gives (entry_of 0x0c 0 0 0 0) invalid_opcode
+    ∷ gives (entry_of 0x0c 1 0 0 0) invalid_field
+    ∷ gives (abort 0 0) success
+    ∷ gives (abort 9 0xffff) success
+    ∷ gives (entry_of 0x08 1 0 1 0) invalid_field
     ∷ gives (entry_of 0x00 1 0 1 0) invalid_field
     ∷ gives (entry_of 0x00 2 0 0 0) invalid_field
     ∷ gives (entry_of 0x00 0x40 0 1 0) success
@@ -262,6 +268,7 @@ pub record CommandsComeTo : Type 0 where
   pub opens_cq : verdict_of four_and_three queues_made (create_cq 3 31 0xa000 1) ≡ OpenCq 3 2
   pub begins : verdict_of four_and_three queues_made (delete_sq 1) ≡ BeginDelete 1
   pub closes : verdict_of four_and_three both_finished (delete_cq 1) ≡ CloseCq 1
+  pub aborts : verdict_of four_and_three queues_made (abort 1 5) ≡ Abort 1 5
   pub sets : verdict_of four_and_three queues_made (set_feature 1 0x01020304) ≡ SetArbitration (settings_of 0x01020304)
   pub numbers : verdict_of four_and_three regions_added (set_feature 7 0x00070007) ≡ Done success 0x00020003
   pub gets : verdict_of four_and_three queues_made (get_feature 1) ≡ Done success 0x03010001

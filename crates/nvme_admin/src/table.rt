@@ -225,6 +225,7 @@ impl Table {
                 prp1,
                 pc,
             } => self.create_cq(qid, qsize, prp1, pc),
+            AdminCommand::Abort { sqid, cid } => Verdict::Abort { sqid, cid },
             AdminCommand::SetFeatures { fid, sv, cdw11 } => self.set_features(fid, sv, cdw11),
             AdminCommand::GetFeatures { fid } => self.get_features(fid),
             AdminCommand::Other => Verdict::Done(Status::INVALID_OPCODE, 0),

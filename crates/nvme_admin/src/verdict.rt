@@ -15,7 +15,7 @@ pub struct SqEntry {
     pub closing: bool,
 }
 
-/// What an admin command comes to. All but `Done` mean success with 0 as DW0.
+/// What an admin command comes to. All but `Done` mean success, and all but `Done` and `Abort` 0 as DW0.
 #[derive(Clone, Copy, Debug, PartialEq, Eq)]
 pub enum Verdict {
     /// Answer at once with this status and this DW0.
@@ -39,6 +39,12 @@ pub enum Verdict {
     /// The completion queue was deleted.
     CloseCq {
         qid: u16,
+    },
+    /// The oldest waiting command of the submission queue with this command identifier is to be aborted. DW0 of the
+    /// Abort is 0 where there was one, and 1 otherwise, which the table can't know.
+    Abort {
+        sqid: u16,
+        cid: u16,
     },
     /// The settings of the Arbitration feature were set.
     SetArbitration(Settings),

@@ -4,7 +4,7 @@ use Rattle.std.specs.Prelude.{ℕ, Bool, ◌==◌, if◌then◌else◌}
 use Rattle.nvme_entry.specs.Bits.{bits_of}
 use Rattle.nvme_entry.specs.declared.submission.Sqe.{Sqe}
 use Rattle.nvme_entry.specs.declared.admin.AdminCommand.{AdminCommand}
-use Rattle.nvme_entry.specs.declared.admin.AdminCommand.TheVariants.{DeleteSq, CreateSq, DeleteCq, CreateCq, SetFeatures, GetFeatures, Other}
+use Rattle.nvme_entry.specs.declared.admin.AdminCommand.TheVariants.{DeleteSq, CreateSq, DeleteCq, CreateCq, Abort, SetFeatures, GetFeatures, Other}
 
 -- QID: bits 15:00 of Command Dword 10
 abbrev pub qid_of : Sqe → ℕ
@@ -26,6 +26,14 @@ qprio_of entry = bits_of 2 1 entry.cdw11
 abbrev pub pc_of : Sqe → Bool
 pc_of entry = bits_of 0 0 entry.cdw11 == 1
 
+-- SQID of an Abort: bits 15:00 of Command Dword 10
+abbrev pub sqid_of : Sqe → ℕ
+sqid_of entry = bits_of 15 0 entry.cdw10
+
+-- CID of an Abort: bits 31:16 of Command Dword 10
+abbrev pub cid_of : Sqe → ℕ
+cid_of entry = bits_of 31 16 entry.cdw10
+
 -- the feature identifier: bits 07:00 of Command Dword 10
 abbrev pub fid_of : Sqe → ℕ
 fid_of entry = bits_of 7 0 entry.cdw10
@@ -41,6 +49,7 @@ admin_command_of entry =
     else (if entry.opcode == 0x01 then CreateSq (qid_of entry) (qsize_of entry) entry.prp1 (cqid_of entry) (qprio_of entry) (pc_of entry)
     else (if entry.opcode == 0x04 then DeleteCq (qid_of entry)
     else (if entry.opcode == 0x05 then CreateCq (qid_of entry) (qsize_of entry) entry.prp1 (pc_of entry)
+    else (if entry.opcode == 0x08 then Abort (sqid_of entry) (cid_of entry)
     else (if entry.opcode == 0x09 then SetFeatures (fid_of entry) (sv_of entry) entry.cdw11
     else (if entry.opcode == 0x0a then GetFeatures (fid_of entry)
-    else Other)))))
+    else Other))))))

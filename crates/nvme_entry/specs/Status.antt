@@ -19,6 +19,9 @@ invalid_opcode = code 0 0x01
 abbrev pub invalid_field : StatusCode
 invalid_field = code 0 0x02
 
+abbrev pub abort_requested : StatusCode
+abort_requested = code 0 0x07
+
 abbrev pub aborted_by_deletion : StatusCode
 aborted_by_deletion = code 0 0x08
 

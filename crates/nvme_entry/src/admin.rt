@@ -33,6 +33,11 @@ pub enum AdminCommand {
         prp1: u64,
         pc: bool,
     },
+    /// Abort of the command `cid` of submission queue `sqid`.
+    Abort {
+        sqid: u16,
+        cid: u16,
+    },
     /// Set Features of the feature identifier `fid`. `sv` is Save.
     SetFeatures {
         fid: u8,
@@ -100,6 +105,10 @@ pub fn admin_of(entry: &Sqe) -> AdminCommand
             qsize,
             prp1,
             pc,
+        },
+        0x08 => AdminCommand::Abort {
+            sqid: low_half(entry.cdw10),
+            cid: high_half(entry.cdw10),
         },
         0x09 => AdminCommand::SetFeatures {
             fid: low_byte(entry.cdw10),

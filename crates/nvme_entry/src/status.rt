@@ -33,6 +33,8 @@ impl Status {
     pub const INVALID_OPCODE: Status = Status { sct: 0, sc: 0x01 };
     /// Invalid Field in Command.
     pub const INVALID_FIELD: Status = Status { sct: 0, sc: 0x02 };
+    /// Command Abort Requested.
+    pub const ABORT_REQUESTED: Status = Status { sct: 0, sc: 0x07 };
     /// Command Aborted due to SQ Deletion.
     pub const ABORTED_BY_DELETION: Status = Status { sct: 0, sc: 0x08 };
     /// Invalid Namespace or Format.

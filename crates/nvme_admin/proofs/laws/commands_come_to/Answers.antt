@@ -5,4 +5,4 @@ use Rattle.nvme_admin.proofs.laws.commands_come_to.Goals as goal
 
 pub returns : goal.returns
 unfolding some_below effects_of queue_table status_of dw0_of verdict_of
-returns c = record { opens_sq = refl; opens_cq = refl; begins = refl; closes = refl; sets = refl; numbers = refl; gets = refl; refused = refl }
+returns c = record { opens_sq = refl; opens_cq = refl; begins = refl; closes = refl; aborts = refl; sets = refl; numbers = refl; gets = refl; refused = refl }
