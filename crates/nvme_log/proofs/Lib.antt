@@ -3,8 +3,14 @@ pub mod Fates
 pub mod Posts
 pub mod ExampleLogs
 pub mod FourNumbers
+pub mod AbortLogs
+pub mod Members
+pub mod Aborting
+pub mod AbortEntries
 pub mod Tables
 pub mod Waiting
+pub mod Turns
+pub mod AbortLaws
 pub mod Counting
 pub mod UsedRegions
 pub mod PickCounts

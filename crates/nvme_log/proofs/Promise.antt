@@ -14,9 +14,10 @@ use Rattle.nvme_log.specs.Rules.{Past, FrontRules, Each}
 use Rattle.nvme_log.specs.Queues.{Queue, open_sq, open_cq, Deletion, pending, is_closed_region}
 use Rattle.nvme_log.specs.Places.{fetched, waiting}
 use Rattle.nvme_log.specs.Histories.{table_history, admin_entry}
-use Rattle.nvme_log.specs.Effects.{closing_of, closed_cq_of, made_by, made_of, made_last, effects_since, EffectsAtOnce}
+use Rattle.nvme_log.specs.Effects.{abort_of, closing_of, closed_cq_of, made_by, made_of, made_last, effects_since, EffectsAtOnce}
 use Rattle.nvme_log.specs.Account.{Deletes}
 use Rattle.nvme_log.specs.Laws.{WholeAccountsKeepThePromise}
+use Rattle.nvme_log.proofs.Aborting.{makes_aborts}
 use Rattle.nvme_log.proofs.Prefixes.{Each-after}
 use Rattle.nvme_log.proofs.Posts.{whole_answers}
 
@@ -49,6 +50,11 @@ aborts_close_none : (r : ℕ) (is : List ℕ) → NoClosing (map (λ (i : ℕ). 
 aborts_close_none r [] = All-nil IsOther
 aborts_close_none r (i ∷ is) = All-cons IsOther (Abort r i) (map (λ (k : ℕ). Abort r k) is) refl (aborts_close_none r is)
 
+-- where none is a Closing, none but the first is one
+others_stay : (es : List Event) → NoClosing es → NoClosing (all_but_first es)
+others_stay [] h = h
+others_stay (e ∷ es) h = All-tail IsOther e es h
+
 -- a deletion makes a Closing only as its first effect
 closing_once : (past : Past) (qid : ℕ) (o : Option Queue) → NoClosing (all_but_first (closing_of past qid o))
 closing_once past qid None = All-nil IsOther
@@ -66,6 +72,9 @@ made_once past (verdict.OpenSq qid region cqid class) = All-nil IsOther
 made_once past (verdict.OpenCq qid region) = All-nil IsOther
 made_once past (BeginDelete qid) = closing_once past qid (open_sq past qid)
 made_once past (CloseCq qid) = closed_cq_once qid (open_cq past qid)
+made_once past (verdict.Abort sqid cid) =
+    let aborts = makes_aborts past sqid cid in
+    others_stay (abort_of past sqid cid) (subst NoClosing (sym aborts.are) (aborts_close_none aborts.region aborts.indices))
 made_once past (verdict.SetArbitration settings) = All-nil IsOther
 
 -- an admin entry makes a Closing only as its first effect

@@ -19,8 +19,9 @@ use Rattle.nvme_log.specs.Rules.{Past, FrontRules, Each}
 use Rattle.nvme_log.specs.Queues.{Queue, open_sq, open_cq}
 use Rattle.nvme_log.specs.Places.{waiting}
 use Rattle.nvme_log.specs.Histories.{table_history, admin_entry, applied}
-use Rattle.nvme_log.specs.Effects.{closing_of, closed_cq_of, made_by, made_of, made_last, effects_since, EffectsAtOnce}
+use Rattle.nvme_log.specs.Effects.{abort_of, closing_of, closed_cq_of, made_by, made_of, made_last, effects_since, EffectsAtOnce}
 use Rattle.nvme_log.specs.Laws.{as_open, StartsWithAdmin, QueuesAre, QueuesAreTheTables}
+use Rattle.nvme_log.proofs.Aborting.{makes_aborts}
 
 -- a log with some events after it, in their order
 abbrev with_events : List Event → Past → Past
@@ -35,6 +36,17 @@ aborts_leave_sq r q (i ∷ is) past = aborts_leave_sq r q is (Abort r i ∷ past
 aborts_leave_cq : (r q : ℕ) (is : List ℕ) (past : Past) → open_cq (with_events (map (λ (i : ℕ). Abort r i) is) past) q ≡ open_cq past q
 aborts_leave_cq r q [] past = refl
 aborts_leave_cq r q (i ∷ is) past = aborts_leave_cq r q is (Abort r i ∷ past)
+
+-- so do those that an Abort command makes
+aborts_leave_sqs : (past : Past) (sqid cid q : ℕ) → open_sq (with_events (abort_of past sqid cid) past) q ≡ open_sq past q
+aborts_leave_sqs past sqid cid q =
+    let aborts = makes_aborts past sqid cid in
+    ap (λ (es : List Event). open_sq (with_events es past) q) aborts.are ∙ aborts_leave_sq aborts.region q aborts.indices past
+
+aborts_leave_cqs : (past : Past) (sqid cid q : ℕ) → open_cq (with_events (abort_of past sqid cid) past) q ≡ open_cq past q
+aborts_leave_cqs past sqid cid q =
+    let aborts = makes_aborts past sqid cid in
+    ap (λ (es : List Event). open_cq (with_events es past) q) aborts.are ∙ aborts_leave_cq aborts.region q aborts.indices past
 
 -- a closing queue isn't open
 as_open-closing : (o : Option SqEntry) → as_open (option_map as_closing o) ≡ None
@@ -113,6 +125,8 @@ module _ (rules : FrontRules) where
         ∙ ap as_open (sym (sqs q));
     cq = λ q. closes_leave_cq past qid (open_sq past qid) q ∙ h.cq q ∙ sym (cqs q);
   }
+  step t u past (verdict.Abort sqid cid) h sqs cqs =
+      same_queues t u past (with_events (abort_of past sqid cid) past) h (aborts_leave_sqs past sqid cid) (aborts_leave_cqs past sqid cid) sqs cqs
   step t u past (CloseCq qid) h sqs cqs = record {
     sq = λ q. closes_leave_sq past qid (open_cq past qid) q ∙ h.sq q ∙ ap as_open (sym (sqs q));
     cq = λ q. closes_cq past qid (open_cq past qid) refl q

@@ -5,7 +5,7 @@ use Rattle.nvme_entry.specs.Status.{StatusCode}
 use Rattle.nvme_entry.specs.AdminCommand.{admin_command_of}
 use Rattle.nvme_entry.specs.declared.submission.Sqe.{Sqe}
 use Rattle.nvme_entry.specs.declared.admin.AdminCommand.{AdminCommand}
-use Rattle.nvme_entry.specs.declared.admin.AdminCommand.TheVariants.{DeleteSq, CreateSq, DeleteCq, CreateCq, SetFeatures, GetFeatures, Other}
+use Rattle.nvme_entry.specs.declared.admin.AdminCommand.TheVariants.{DeleteSq, CreateSq, DeleteCq, CreateCq, Abort, SetFeatures, GetFeatures, Other}
 use Rattle.nvme_arbiter.specs.Settings.{ArbitrationFields}
 use Rattle.nvme_admin.specs.declared.verdict.SqEntry.{SqEntry}
 use Rattle.nvme_admin.specs.declared.verdict.Verdict.{Verdict}
@@ -62,6 +62,7 @@ module _ (start : Start) (e : Effects) where
   uses (CreateCq qid qsize prp1 pc) h r = opens_cq qid _ (is_used (sq_named_in e)) r
   uses (DeleteSq qid) h r = refl
   uses (DeleteCq qid) h r = refl
+  uses (Abort sqid cid) h r = refl
   uses (SetFeatures fid sv cdw11) h r = sets (fid == number_of_queues) _ _ _ (is_used (sq_named_in e)) r
   uses (GetFeatures fid) h r = refl
   uses Other h r = refl

@@ -2,7 +2,8 @@
 use Rattle.std.proofs.Common.{◌≡◌, ℕ, zero, suc, ◌+◌, ◌<◌, ◌≤◌, ◌==◌, ◌&&◌, ◌||◌, nat_lt, Bool, true, false, not, if◌then◌else◌, List, [], ◌∷◌, ◌++◌, length, get_or, take, drop, ap, sym, refl, ◌∙◌, arith, add-one, add-zero, length-append, length-drop, inl, inr, ◌⊎◌}
 use Rattle.std.specs.Prelude.{filter, sum_by}
 use Rattle.std.specs.List.{All, AllPairs, Contains}
-use Rattle.std.proofs.lemmas.List.{append-nil, drop-append-le, drop-drop, drop_all, drop_at, length_push, take-append-drop, length-take-le}
+use Rattle.std.proofs.Math.Seq.{take-append_seam}
+use Rattle.std.proofs.lemmas.List.{append-nil, drop-append-le, drop-drop, drop-take, drop_all, drop_at, length_push, take-append-drop, length-take-le}
 use Rattle.std.proofs.lemmas.List.Sums.{sum_by-append, sum_by-cons, get_or-le-sum_by}
 use Rattle.std.proofs.lemmas.List.Elements.{filter-append, All-filter, filter_passes, All-nil, All-weaker, All-push}
 use Rattle.std.proofs.lemmas.List.Quantifiers.{all_pairs_push}
@@ -273,37 +274,56 @@ takes_out p i xs rest once from =
     ∙ filter-append (λ (j : ℕ). not (i == j)) (take p xs) (i ∷ rest)
     ∙ (λ t. (filter-without i (take p xs) first) t ++ (here ∙ filter-without i rest later) t)
 
--- the oldest place that waits is aborted: those that were picked are left, and the others that wait
-pub unaborted-abort : (past : Past) (r i : ℕ) (rest : List ℕ) → waiting past r ≡ i ∷ rest
-    → unaborted (event.Abort r i ∷ past) r ≡ take (picked past r) (unaborted past r) ++ rest
-unaborted-abort past r i rest oldest =
+-- what is left from a place that waits on
+from_place : (past : Past) (r i : ℕ) (xs ys : List ℕ) → waiting past r ≡ xs ++ i ∷ ys → drop (picked past r + length xs) (unaborted past r) ≡ i ∷ ys
+from_place past r i xs ys split =
+    sym (drop-drop (length xs) (picked past r) (unaborted past r))
+    ∙ ap (drop (length xs)) (sym (waiting_is-drop past r) ∙ split) ∙ drop_at xs (i ∷ ys) (length xs) refl
+
+-- a place that waits is aborted: those that were picked and those that wait before it are left, and those behind it
+pub unaborted-abort_at : (past : Past) (r i : ℕ) (xs ys : List ℕ) → waiting past r ≡ xs ++ i ∷ ys
+    → unaborted (event.Abort r i ∷ past) r ≡ take (picked past r + length xs) (unaborted past r) ++ ys
+unaborted-abort_at past r i xs ys split =
     let same : (λ (j : ℕ). not (is_aborted (event.Abort r i ∷ past) r j)) ≡ (λ (j : ℕ). not ((i == j) || is_aborted past r j)) = λ t j. not (is_aborted-abort past r i j t) in
     ap (λ (f : ℕ → Bool). filter f (upto (length (fetched past r)))) same
     ∙ filter-either (λ (j : ℕ). i == j) (λ (j : ℕ). is_aborted past r j) (upto (length (fetched past r)))
-    ∙ takes_out (picked past r) i (unaborted past r) rest
+    ∙ takes_out (picked past r + length xs) i (unaborted past r) ys
     (few (nat_lt i (length (fetched past r)) && not (is_aborted past r i)) (times-upto (λ (j : ℕ). not (is_aborted past r j)) i (length (fetched past r))))
-    (sym (waiting_is-drop past r) ∙ oldest) where
+    (from_place past r i xs ys split) where
       few : (b : Bool) → times_among i (unaborted past r) ≡ one_if b → times_among i (unaborted past r) ≤ 1
       few true e = omega (arith, e)
       few false e = omega (arith, e)
 
--- more places are left than were picked, where one waits
-more_left : (past : Past) (r i : ℕ) (rest : List ℕ) → waiting past r ≡ i ∷ rest → length (take (picked past r) (unaborted past r)) ≡ picked past r
-more_left past r i rest oldest =
-    length-take-le (picked past r) (unaborted past r) (omega (arith, length-drop (picked past r) (unaborted past r), ap length (sym (waiting_is-drop past r) ∙ oldest)))
+-- more places are left than were picked and wait before it
+more_left : (past : Past) (r i : ℕ) (xs ys : List ℕ) → waiting past r ≡ xs ++ i ∷ ys
+    → length (take (picked past r + length xs) (unaborted past r)) ≡ picked past r + length xs
+more_left past r i xs ys split =
+    length-take-le (picked past r + length xs) (unaborted past r)
+    (omega (arith, length-drop (picked past r + length xs) (unaborted past r), ap length (from_place past r i xs ys split)))
 
 -- then the others wait
-pub waiting-abort : (past : Past) (r i : ℕ) (rest : List ℕ) → waiting past r ≡ i ∷ rest → waiting (event.Abort r i ∷ past) r ≡ rest
-waiting-abort past r i rest oldest =
+pub waiting-abort_at : (past : Past) (r i : ℕ) (xs ys : List ℕ) → waiting past r ≡ xs ++ i ∷ ys → waiting (event.Abort r i ∷ past) r ≡ xs ++ ys
+waiting-abort_at past r i xs ys split =
     waiting_is-drop (event.Abort r i ∷ past) r
-    ∙ ap (drop (picked past r)) (unaborted-abort past r i rest oldest)
-    ∙ drop_at (take (picked past r) (unaborted past r)) rest (picked past r) (more_left past r i rest oldest)
+    ∙ ap (drop (picked past r)) (unaborted-abort_at past r i xs ys split)
+    ∙ drop-append-le (picked past r) (take (picked past r + length xs) (unaborted past r)) ys (omega (arith, more_left past r i xs ys split))
+    ∙ ap (λ (z : List ℕ). z ++ ys)
+    (drop-take (picked past r) (length xs) (unaborted past r)
+    ∙ ap (take (length xs)) (sym (waiting_is-drop past r) ∙ split) ∙ take-append_seam xs (i ∷ ys))
 
 -- and as many are left as were picked and wait
+pub few_picked-abort_at : (past : Past) (r i : ℕ) (xs ys : List ℕ) → waiting past r ≡ xs ++ i ∷ ys
+    → picked past r ≤ unaborted_below (event.Abort r i ∷ past) r (length (fetched past r))
+few_picked-abort_at past r i xs ys split =
+    omega (arith, ap length (unaborted-abort_at past r i xs ys split), length-append (take (picked past r + length xs) (unaborted past r)) ys, more_left past r i xs ys split)
+
+-- the same of the oldest place that waits
+pub waiting-abort : (past : Past) (r i : ℕ) (rest : List ℕ) → waiting past r ≡ i ∷ rest → waiting (event.Abort r i ∷ past) r ≡ rest
+waiting-abort past r i rest oldest = waiting-abort_at past r i [] rest oldest
+
 pub few_picked-abort : (past : Past) (r i : ℕ) (rest : List ℕ) → waiting past r ≡ i ∷ rest
     → picked past r ≤ unaborted_below (event.Abort r i ∷ past) r (length (fetched past r))
-few_picked-abort past r i rest oldest =
-    omega (arith, ap length (unaborted-abort past r i rest oldest), length-append (take (picked past r) (unaborted past r)) rest, more_left past r i rest oldest)
+few_picked-abort past r i rest oldest = few_picked-abort_at past r i [] rest oldest
 
 -- ---- fates
 -- a log with the same picks and aborts of a region has the same fates

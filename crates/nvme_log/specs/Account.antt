@@ -13,7 +13,8 @@ use Rattle.nvme_log.specs.Rules.{Past, FrontRules, Each, window_at}
 use Rattle.nvme_log.specs.Queues.{open_sq, is_open_region, pending, is_closed_region}
 use Rattle.nvme_log.specs.Places.{fetched, waiting, places, fate_of, is_waiting, observation_of}
 use Rattle.nvme_log.specs.Histories.{arbitration_of}
-use Rattle.nvme_log.specs.Completions.{is_posted, posted_to, outstanding, is_index, IsOwn}
+use Rattle.nvme_log.specs.Aborts.{is_index}
+use Rattle.nvme_log.specs.Completions.{is_posted, posted_to, outstanding, IsOwn}
 use Rattle.nvme_log.specs.Effects.{made_last, effects_since, EffectsAtOnce}
 
 -- indexes count each region's fetches from 0 (profile)
@@ -63,9 +64,10 @@ abbrev pub PostsOwn : FrontRules → Past → Event → Type 0
 PostsOwn rules past (Post c r i cqe) = (is_posted past r i ≡ false) × (is_waiting (fate_of past r i) ≡ false) × IsOwn rules past c r i cqe
 PostsOwn rules past e = Unit {0}
 
--- a pick leaves no more places outstanding than there may be (profile)
+-- a pick and an abort leave no more places outstanding than there may be (profile)
 abbrev pub LeavesPlaces : FrontRules → Past → Event → Type 0
 LeavesPlaces rules past (Pick seen pick) = nat_le (outstanding rules (Pick seen pick ∷ past)) max_outstanding ≡ true
+LeavesPlaces rules past (Abort r i) = nat_le (outstanding rules (Abort r i ∷ past)) max_outstanding ≡ true
 LeavesPlaces rules past e = Unit {0}
 
 -- the account of what was sent to each submission region, a log, and what was collected from each completion region

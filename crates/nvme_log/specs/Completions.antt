@@ -1,16 +1,17 @@
 -- Posts, and the own completion of a place. (Base Specification, Completion Queue Entry)
-use Rattle.std.specs.Prelude.{◌≡◌, ℕ, ◌+◌, ◌/◌, ◌%◌, ◌==◌, ◌&&◌, ◌||◌, Bool, false, not, if◌then◌else◌, List, [], ◌∷◌, ◌++◌, length, filter, Option, Some, None, slice_get, sum_by}
-use Rattle.nvme_entry.specs.Status.{StatusCode, aborted_by_deletion}
+use Rattle.std.specs.Prelude.{◌≡◌, ℕ, ◌+◌, ◌/◌, ◌%◌, ◌==◌, ◌&&◌, ◌||◌, Bool, false, not, if◌then◌else◌, List, [], ◌∷◌, ◌++◌, length, filter, Some, slice_get, sum_by}
+use Rattle.nvme_entry.specs.Status.{StatusCode, abort_requested, aborted_by_deletion}
 use Rattle.nvme_entry.specs.Outcome.{outcome_of}
 use Rattle.nvme_entry.specs.declared.submission.Sqe.{Sqe}
 use Rattle.nvme_entry.specs.declared.completion.Cqe.{Cqe}
 use Rattle.nvme_admin.specs.History.{TableHistory}
-use Rattle.nvme_admin.specs.Accepted.{status_of, dw0_of}
+use Rattle.nvme_admin.specs.Accepted.{status_of, dw0_of, verdict_of}
 use Rattle.nvme_log.specs.declared.event.Event.TheVariants.{Pick, Post}
 use Rattle.nvme_log.specs.Rules.{Past, FrontRules, upto, sq_regions_of, cq_regions_of, slots_at}
 use Rattle.nvme_log.specs.Queues.{qid_of_region, cq_region_of}
 use Rattle.nvme_log.specs.Places.{fetched, waiting, places, entry_at, fate_of, is_picked, is_aborted, is_waiting}
 use Rattle.nvme_log.specs.Histories.{table_history}
+use Rattle.nvme_log.specs.Aborts.{is_index, is_abort_requested, has_aborted, told_dw0}
 
 -- a completion of the place was posted
 abbrev pub is_posted : Past → ℕ → ℕ → Bool
@@ -30,16 +31,15 @@ posted_to [] c = []
 posted_to (Post cq_region region index cqe ∷ past) c = if cq_region == c then posted_to past c ++ cqe ∷ [] else posted_to past c
 posted_to (e ∷ past) c = posted_to past c
 
--- how many picked places have no completion posted
+-- a place was picked, or an Abort command aborted it
+abbrev pub takes_place : Past → ℕ → ℕ → Bool
+takes_place past r i = is_picked (fate_of past r i) || is_abort_requested past r i
+
+-- how many places that were picked, or that an Abort command aborted, have no completion posted
 abbrev pub outstanding : FrontRules → Past → ℕ
 outstanding rules past =
-    sum_by (λ (r : ℕ). length (filter (λ (i : ℕ). is_picked (fate_of past r i) && not (is_posted past r i)) (places past r)))
+    sum_by (λ (r : ℕ). length (filter (λ (i : ℕ). takes_place past r i && not (is_posted past r i)) (places past r)))
     (upto (length (sq_regions_of rules)))
-
--- two indices are the same
-abbrev pub is_index : ℕ → Option ℕ → Bool
-is_index i None = false
-is_index i (Some j) = j == i
 
 -- the table history before the command of an admin place: that at its pick
 abbrev pub table_before : FrontRules → Past → ℕ → TableHistory
@@ -47,17 +47,26 @@ table_before rules [] i = rules.regions
 table_before rules (Pick seen pick ∷ past) i = if pick.qid == 0 && is_index i (slice_get (waiting past 0) 0) then table_history rules past else table_before rules past i
 table_before rules (e ∷ past) i = table_before rules past i
 
--- the status of a place: aborted with its queue, else that of the admin checks, else the outcome of an I/O command
+-- the status of an aborted place: by an Abort command, else with its queue
+abbrev pub aborted_status : Past → ℕ → ℕ → StatusCode
+aborted_status past r i = if is_abort_requested past r i then abort_requested else aborted_by_deletion
+
+-- the status of a place: that of an aborted one, else that of the admin checks, else the outcome of an I/O command
 abbrev pub own_status : FrontRules → Past → ℕ → ℕ → Sqe → StatusCode
 own_status rules past r i entry =
-    if is_aborted past r i then aborted_by_deletion
+    if is_aborted past r i then aborted_status past r i
     else (if r == 0 then status_of rules.start (table_before rules past i) entry else outcome_of entry rules.sizes)
+
+-- Command Dword 0 of the command of an admin place
+abbrev pub admin_dw0 : FrontRules → Past → ℕ → Sqe → ℕ
+admin_dw0 rules past i entry =
+    told_dw0 (has_aborted past i) (verdict_of rules.start (table_before rules past i) entry) (dw0_of rules.start (table_before rules past i) entry)
 
 -- Command Dword 0 of a place
 abbrev pub own_dw0 : FrontRules → Past → ℕ → ℕ → Sqe → ℕ
 own_dw0 rules past r i entry =
     if is_aborted past r i then 0
-    else (if r == 0 then dw0_of rules.start (table_before rules past i) entry else 0)
+    else (if r == 0 then admin_dw0 rules past i entry else 0)
 
 -- the phase tag of the next completion in a ring of this many slots, after n completions: it turns at each pass, and is 1 at first
 -- (Base Specification, Phase Tag)

@@ -3,6 +3,7 @@ pub mod Rules
 pub mod Queues
 pub mod Places
 pub mod Histories
+pub mod Aborts
 pub mod Completions
 pub mod Effects
 pub mod Account
@@ -11,3 +12,5 @@ pub mod Laws
 pub mod Examples
 pub mod FourNumbers
 pub mod Dispatches
+pub mod AbortExamples
+pub mod AbortLaws

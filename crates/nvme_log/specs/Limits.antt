@@ -1,7 +1,7 @@
 -- The limits of this profile. A later profile raises them here and in src/limits.rt.
 use Rattle.std.specs.Prelude.{ℕ, ◌-◌}
 
--- the most places that are picked and whose completion isn't posted yet
+-- the most places that were picked, or that an Abort command aborted, and whose completion isn't posted yet
 abbrev pub max_outstanding : ℕ
 max_outstanding = 256
 

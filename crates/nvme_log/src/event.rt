@@ -39,7 +39,8 @@ pub enum Event {
         qid: u16,
         region: u8,
     },
-    /// A candidate of a submission queue that is being deleted was aborted.
+    /// A candidate was aborted: by the Abort command that was picked just before, or with its submission queue, whose
+    /// deletion began.
     Abort {
         region: u8,
         index: u32,

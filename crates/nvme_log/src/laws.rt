@@ -4,20 +4,24 @@ ghost use Rattle.nvme_log.specs.Limits.{max_outstanding};
 ghost use Rattle.nvme_log.specs.Effects.{EffectsAtOnce, effects_since, made_last};
 ghost use Rattle.nvme_log.specs.Completions.{outstanding, posted_to, posts_of, unposted_of};
 ghost use Rattle.nvme_log.specs.Histories.{arbitration_of, picks_in};
-ghost use Rattle.nvme_log.specs.Places.{fetched, is_served};
+ghost use Rattle.nvme_log.specs.Places.{fetched, waiting, is_served};
 ghost use Rattle.nvme_log.specs.Examples.{admin_posted, arbitration_told, at_admin, four_commands, four_completions, last_picked, two_slots, two_slots_past};
 ghost use Rattle.nvme_log.specs.Examples.{at_two, one_deletion, admin_script, reads, read, delete_sq, done, admin_done, reads_done, admin_seen, reads_seen, picked_of, admin_fetched, reads_fetched, one_picked, delete_picked, closing, aborted_posted, all_posted, deleted, queue_created, closed, read_done, window_filled};
 ghost use Rattle.nvme_log.specs.Dispatches.{AreJobs, dispatched, place_at};
 ghost use Rattle.nvme_log.specs.Queues.{is_serving};
 ghost use Rattle.nvme_log.specs.FourNumbers.{four_numbers, admin_five, four_reads, at_zero_and_two, five_told, four_told, all_closed, three_jobs};
 ghost use Rattle.nvme_log.specs.FourNumbers.{three_fetched, burst_set, one_more_picked, delete_4_picked, closing_4, posted_4, closed_4, last_unposted, four_told_first, five_told_first};
+ghost use Rattle.nvme_log.specs.Aborts.{is_aborted_with_queue, places_for};
+ghost use Rattle.nvme_log.specs.AbortExamples.{abort, abort_1_1, fused_abort, two_aborts, reads_and, told, two_aborts_told, reads_told, two_waiting, abort_picked, one_aborted, abort_posted, second_picked, both_told, one_of};
+ghost use Rattle.nvme_log.specs.AbortExamples.{abort_and_delete, six_reads, six_done, abort_and_delete_told, six_told, abort_4_picked, one_aborted_4, delete_after_abort, both_aborted, both_posted, abort_and_deleted};
 ghost use Rattle.nvme_log.specs.declared.event.Event.TheVariants.{Fetch, OpenSq, Closing, Abort, Post, ClosedSq};
 ghost use Rattle.nvme_arbiter.specs.Lawful.{IsLawfulRun};
 ghost use Rattle.nvme_arbiter.specs.declared.settings.Class.TheVariants.{Urgent};
-ghost use Rattle.nvme_entry.specs.Status.{success, aborted_by_deletion, invalid_field};
+ghost use Rattle.nvme_entry.specs.Status.{success, abort_requested, aborted_by_deletion, invalid_field};
 ghost use mathlib.Core.List.{IsPrefix};
 ghost use Rattle.nvme_log.specs.Rules.{Each, Past};
-ghost use Rattle.std.specs.Prelude.{◌≡◌, ◌+◌, [], ◌∷◌, ◌++◌, Some, None, true, false};
+ghost use Rattle.std.specs.Prelude.{◌≡◌, ℕ, ◌+◌, [], ◌∷◌, ◌++◌, Some, None, true, false};
+ghost use Rattle.nvme_log.specs.AbortLaws.{AbortedAreNotDispatched, AdminIsNotAborted, AbortedAreTold, AbortsTakeTheOldest, AbortsAreTold};
 ghost use Rattle.nvme_log.specs.Laws.{QueuesAreTheTables, StartsWithAdmin, OneFateEach, PrefixesAreAccounted, OnePostEach, WholeAccountsAnswer, WholeAccountsKeepThePromise};
 
 /// Each fetched place has exactly one fate: it waits, was picked or was aborted.
@@ -167,4 +171,105 @@ pub fn whole_accounts_have_all()
     ensures fetched { IsWholeAccount four_numbers false (at_zero_and_two (admin_five ++ delete_sq ∷ []) four_reads) (at_zero_and_two (admin_five ++ delete_sq ∷ []) four_reads) all_closed (at_two five_told four_told) → ⊥ }
     ensures submitted { IsWholeAccount four_numbers false (at_zero_and_two (admin_five ++ delete_sq ∷ []) four_reads) (at_zero_and_two admin_five four_reads) all_closed (at_two five_told four_told) → ⊥ }
     ensures loaded { IsWholeAccount four_numbers true (at_zero_and_two admin_five (four_reads ++ read 14 ∷ [])) (at_zero_and_two admin_five four_reads) all_closed (at_two five_told four_told) → ⊥ }
+{}
+
+/// An Abort command is picked while two commands of its queue wait: it takes the older of those with its identifier,
+/// whatever identifier the third command has, and a second Abort command finds nothing. The log is accounted.
+pub fn abort_with_two_waiting()
+    ensures accounted { (third : ℕ) → IsAccount one_deletion (at_two two_aborts (reads_and third)) (both_told third) (at_two two_aborts_told (reads_told third)) }
+{}
+
+/// An Abort command takes the second of three waiting commands, and then their queue is deleted while one waits. The log
+/// is accounted.
+pub fn abort_and_delete_in_one_log()
+    ensures accounted { IsAccount four_numbers (at_zero_and_two abort_and_delete six_reads) abort_and_deleted (at_two abort_and_delete_told six_told) }
+{}
+
+/// What an Abort command makes: the older of two commands with its identifier is aborted, at once, and nothing else is; one
+/// that a deletion took stays its own. Nothing is aborted where no command has the identifier, none of a queue that isn't
+/// open, none of the admin queue, and none by a command with FUSE.
+pub fn changed_aborts_are_refused()
+    ensures older { EffectsAtOnce one_deletion (abort_picked abort_1_1 1) (Abort 1 1) }
+    ensures newer_of_two { EffectsAtOnce one_deletion (abort_picked abort_1_1 1) (Abort 1 2) → ⊥ }
+    ensures both_of_two { EffectsAtOnce one_deletion (one_aborted 1) (Abort 1 2) → ⊥ }
+    ensures not_at_once { EffectsAtOnce one_deletion (abort_picked abort_1_1 2) (Post 1 1 0 read_done) → ⊥ }
+    ensures not_at_all { effects_since (abort_picked abort_1_1 2) ≡ made_last one_deletion (abort_picked abort_1_1 2) → ⊥ }
+    ensures of_another_identifier { EffectsAtOnce one_deletion (abort_picked (abort 2 1 5) 2) (Abort 1 1) → ⊥ }
+    ensures picked_before { EffectsAtOnce one_deletion (abort_picked (abort 2 1 0) 2) (Abort 1 0) → ⊥ }
+    ensures nothing_left { EffectsAtOnce one_deletion (second_picked 2) (Abort 1 1) → ⊥ }
+    ensures of_no_queue { EffectsAtOnce one_deletion (abort_picked (abort 2 9 1) 2) (Abort 1 1) → ⊥ }
+    ensures of_admin_queue { EffectsAtOnce one_deletion (abort_picked (abort 2 0 3) 2) (Abort 0 3) → ⊥ }
+    ensures by_a_fused_command { EffectsAtOnce one_deletion (abort_picked fused_abort 2) (Abort 1 1) → ⊥ }
+    ensures region_for_queue { EffectsAtOnce four_numbers abort_4_picked (Abort 4 3) → ⊥ }
+    ensures oldest_of_all { EffectsAtOnce four_numbers abort_4_picked (Abort 2 2) → ⊥ }
+    ensures counted_after { Observed (one_aborted 2) (picked_of (admin_seen 1 ∷ reads_seen 2 ∷ []) 1) → ⊥ }
+    ensures one_place_too_many { (past : Past) → outstanding one_deletion (Abort 1 1 ∷ past) ≡ max_outstanding + 1 → LeavesPlaces one_deletion past (Abort 1 1) → ⊥ }
+{}
+
+/// The completion of a command that an Abort command aborted says so, and that of one that went with its queue says that.
+/// Command Dword 0 of an Abort command is 0 where it aborted a command and 1 otherwise, and 0 where it was refused.
+pub fn aborts_are_told()
+    ensures aborted { PostsOwn one_deletion (one_aborted 2) (Post 1 1 1 (done 1 1 abort_requested)) }
+    ensures aborted_told_deleted { PostsOwn one_deletion (one_aborted 2) (Post 1 1 1 (done 1 1 aborted_by_deletion)) → ⊥ }
+    ensures aborted_told_done { PostsOwn one_deletion (one_aborted 2) (Post 1 1 1 (done 1 1 success)) → ⊥ }
+    ensures aborted_told_dw0 { PostsOwn one_deletion (one_aborted 2) (Post 1 1 1 (record (done 1 1 abort_requested) { dw0 = 1 })) → ⊥ }
+    ensures deleted_told_aborted { PostsOwn one_deletion closing (Post 1 1 1 (done 1 1 abort_requested)) → ⊥ }
+    ensures deleted_after_abort { PostsOwn four_numbers both_aborted (Post 1 2 5 (six_done 15 true aborted_by_deletion)) }
+    ensures deleted_after_abort_told_aborted { PostsOwn four_numbers both_aborted (Post 1 2 5 (six_done 15 true abort_requested)) → ⊥ }
+    ensures aborted_before_delete { PostsOwn four_numbers both_aborted (Post 1 2 3 (six_done 13 true abort_requested)) }
+    ensures aborted_before_delete_told_deleted { PostsOwn four_numbers both_aborted (Post 1 2 3 (six_done 13 true aborted_by_deletion)) → ⊥ }
+    ensures found { PostsOwn one_deletion (one_aborted 2) (Post 0 0 2 (told 2 0 success)) }
+    ensures found_told_none { PostsOwn one_deletion (one_aborted 2) (Post 0 0 2 (told 2 1 success)) → ⊥ }
+    ensures none { PostsOwn one_deletion (second_picked 2) (Post 0 0 3 (told 3 1 success)) }
+    ensures none_told_found { PostsOwn one_deletion (second_picked 2) (Post 0 0 3 (told 3 0 success)) → ⊥ }
+    ensures of_no_queue { PostsOwn one_deletion (abort_picked (abort 2 9 1) 2) (Post 0 0 2 (told 2 1 success)) }
+    ensures of_admin_queue { PostsOwn one_deletion (abort_picked (abort 2 0 3) 2) (Post 0 0 2 (told 2 1 success)) }
+    ensures fused { PostsOwn one_deletion (abort_picked fused_abort 2) (Post 0 0 2 (told 2 0 invalid_field)) }
+    ensures fused_told_none { PostsOwn one_deletion (abort_picked fused_abort 2) (Post 0 0 2 (told 2 1 invalid_field)) → ⊥ }
+    ensures delete { PostsOwn four_numbers both_posted (Post 0 0 3 (told 23 0 success)) }
+{}
+
+/// What stands at steps of these logs: a place that an Abort command aborted is outstanding until its completion is posted,
+/// and no worker gets it; one that went with its queue isn't. A pick of an Abort command needs two places.
+pub fn aborted_places_are_counted()
+    ensures picked { outstanding one_deletion (abort_picked abort_1_1 2) ≡ 2 }
+    ensures aborted { outstanding one_deletion (one_aborted 2) ≡ 3 }
+    ensures posted { outstanding one_deletion (abort_posted 2) ≡ 2 }
+    ensures before_delete { outstanding four_numbers delete_after_abort ≡ 7 }
+    ensures after_delete { outstanding four_numbers both_aborted ≡ 7 }
+    ensures dispatched { dispatched (both_told 2) ≡ place_at 1 0 ∷ place_at 1 2 ∷ [] }
+    ensures dispatched_two { dispatched abort_and_deleted ≡ place_at 2 0 ∷ place_at 2 1 ∷ place_at 2 2 ∷ place_at 2 4 ∷ [] }
+    ensures waits { waiting (one_aborted 2) 1 ≡ 2 ∷ [] }
+    ensures waits_around { waiting one_aborted_4 2 ≡ 2 ∷ 4 ∷ [] }
+    ensures unposted { unposted_of both_aborted 2 ≡ 6 }
+    ensures with_queue { is_aborted_with_queue both_aborted 2 5 ≡ true }
+    ensures by_command { is_aborted_with_queue both_aborted 2 3 ≡ false }
+    ensures not_aborted { is_aborted_with_queue both_aborted 2 2 ≡ false }
+    ensures for_abort { places_for (two_waiting abort_1_1 2) (one_of 0) ≡ 2 }
+    ensures for_read { places_for (two_waiting abort_1_1 2) (one_of 1) ≡ 1 }
+    ensures for_delete { places_for reads_fetched (one_of 0) ≡ 1 }
+{}
+
+/// No worker ever gets a place that was aborted, and no command of the admin queue is aborted.
+pub fn aborted_places_are_not_served()
+    ensures dispatched { AbortedAreNotDispatched }
+    ensures admin { AdminIsNotAborted }
+{}
+
+/// A place is aborted by an Abort command or with its queue, and the status of its completion says by which: Command Abort
+/// Requested, or Command Aborted due to SQ Deletion. Its Command Dword 0 is 0.
+pub fn aborted_places_are_told()
+    ensures { AbortedAreTold }
+{}
+
+/// An Abort command aborts, at once, the oldest waiting command with its identifier of the I/O queue that it names, where
+/// there is one, and makes nothing else.
+pub fn aborts_take_the_oldest()
+    ensures { AbortsTakeTheOldest }
+{}
+
+/// The completion of an Abort command says success, and its Command Dword 0 is 0 where an abort followed its pick at once,
+/// and 1 otherwise.
+pub fn aborts_say_what_they_found()
+    ensures { AbortsAreTold }
 {}
