@@ -1,5 +1,5 @@
 -- The clauses of the account, of what a picked admin command makes.
-use Rattle.std.proofs.Common.{◌≡◌, ℕ, Bool, true, false, List, [], ◌∷◌, ◌++◌, map, Option, Some, None, refl, sym, ap, ◌∙◌, append_assoc}
+use Rattle.std.proofs.Common.{◌≡◌, ℕ, ◌||◌, Bool, true, false, List, [], ◌∷◌, ◌++◌, map, take, Option, Some, None, refl, sym, ap, ◌∙◌, append_assoc}
 use Rattle.std.specs.Prelude.{MatchBool}
 use Rattle.std.proofs.lemmas.List.{append-nil}
 use mathlib.Core.List.{IsPrefix}
@@ -7,15 +7,17 @@ use Rattle.nvme_admin.specs.declared.verdict.Verdict.{Verdict}
 use Rattle.nvme_admin.specs.declared.verdict.Verdict.TheVariants.{Done, BeginDelete, CloseCq}
 use Rattle.nvme_admin.specs.declared.verdict.Verdict.TheVariants as verdict
 use Rattle.nvme_log.specs.declared.event.Event.{Event}
-use Rattle.nvme_log.specs.declared.event.Event.TheVariants.{Fetch, Pick, Closing, Abort, Post, ClosedSq}
+use Rattle.nvme_log.specs.declared.event.Event.TheVariants.{Fetch, Pick, SetArbitration, OpenSq, OpenCq, Closing, Abort, Post, ClosedSq, ClosedCq}
 use Rattle.nvme_log.specs.Rules.{Past, FrontRules, Each}
 use Rattle.nvme_log.specs.Queues.{Queue, open_sq, open_cq, is_closed_region}
 use Rattle.nvme_log.specs.Places.{waiting, fate_of, is_waiting, is_aborted}
 use Rattle.nvme_log.specs.Completions.{table_before}
-use Rattle.nvme_log.specs.Effects.{is_effect, closing_of, closed_cq_of, made_by, made_last, effects_since, EffectsAtOnce}
-use Rattle.nvme_log.specs.Account.{IndexCounts, ServedWhileOpen, Observed, Deletes, PostsOwn, LeavesPlaces}
+use Rattle.nvme_log.specs.Effects.{is_effect, closing_of, closed_cq_of, made_by, made_last, effects_since, EffectsAtOnce, abort_in, named, target_of}
+use Rattle.nvme_log.specs.Account.{IndexCounts, ServedWhileOpen, Observed, Deletes, PostsOwn}
 use Rattle.nvme_state.proofs.AfterSteps.{with_events}
-use Rattle.nvme_state.proofs.OwnStatus.{aborts_leave_done, aborts_leave_region}
+use Rattle.nvme_state.proofs.OwnStatus.{aborts_leave_done, aborts_leave_region, aborts_leave, requests_leave, waits_apart, waiting_wait, named_wait}
+use Rattle.nvme_log.specs.Aborts.{is_index, is_abort_requested, just_picked, has_aborted}
+use Rattle.nvme_state.proofs.Regions.{target_is}
 
 -- something holds of each of some events that come one after another, with the events before it
 abbrev pub EachNext : (Past → Event → Type 0) → List Event → Past → Type 0
@@ -47,6 +49,11 @@ closed_effects : (qid : ℕ) (o : Option ℕ) → AreEffects (closed_cq_of qid o
 closed_effects qid None = tt
 closed_effects qid (Some region) = (refl, tt)
 
+-- and what an Abort command makes
+abort_effects : (past : Past) (cid : ℕ) (o : Option Queue) → AreEffects (abort_in past cid o)
+abort_effects past cid None = tt
+abort_effects past cid (Some queue) = aborts_are_effects queue.region (take 1 (named past queue.region cid))
+
 -- what a verdict makes are effects
 pub made_are_effects : (past : Past) (v : Verdict) → AreEffects (made_by past v)
 made_are_effects past (Done status dw0) = tt
@@ -54,6 +61,7 @@ made_are_effects past (verdict.OpenSq qid region cqid class) = (refl, tt)
 made_are_effects past (verdict.OpenCq qid region) = (refl, tt)
 made_are_effects past (BeginDelete qid) = closing_effects past qid (open_sq past qid)
 made_are_effects past (CloseCq qid) = closed_effects qid (open_cq past qid)
+made_are_effects past (verdict.Abort sqid cid) = abort_effects past cid (target_of past sqid)
 made_are_effects past (verdict.SetArbitration settings) = (refl, tt)
 
 -- what holds of each effect
@@ -82,11 +90,6 @@ effect_is_observed past e h = tt
 pub effect_posts_own : (rules : FrontRules) (past : Past) (e : Event) → is_effect e ≡ true → PostsOwn rules past e
 effect_posts_own rules past (Post cq_region region index cqe) h = cc h
 effect_posts_own rules past e h = tt
-
--- nor does it leave more places outstanding
-pub effect_leaves_places : (rules : FrontRules) (past : Past) (e : Event) → is_effect e ≡ true → LeavesPlaces rules past e
-effect_leaves_places rules past (Pick seen pick) h = cc h
-effect_leaves_places rules past e h = tt
 
 -- ---- effects at once
 -- an effect comes after those since the latest pick
@@ -156,6 +159,12 @@ closed_deletes : (mid : Past) (qid : ℕ) (o : Option ℕ) → EachNext Deletes 
 closed_deletes mid qid None = tt
 closed_deletes mid qid (Some region) = (tt, tt)
 
+-- an Abort command aborts a candidate of an open queue
+abort_deletes : (past mid : Past) (cid : ℕ) (o : Option Queue) → ((queue : Queue) → o ≡ Some queue → is_closed_region mid queue.region ≡ false)
+    → EachNext Deletes (abort_in past cid o) mid
+abort_deletes past mid cid None h = tt
+abort_deletes past mid cid (Some queue) h = aborts_delete queue.region (take 1 (named past queue.region cid)) mid (h queue refl)
+
 -- what a verdict makes aborts candidates of open queues alone
 pub made_delete : (past mid : Past) (v : Verdict) → ((q : ℕ) (queue : Queue) → open_sq past q ≡ Some queue → is_closed_region mid queue.region ≡ false)
     → EachNext Deletes (made_by past v) mid
@@ -164,6 +173,7 @@ made_delete past mid (verdict.OpenSq qid region cqid class) h = (tt, tt)
 made_delete past mid (verdict.OpenCq qid region) h = (tt, tt)
 made_delete past mid (BeginDelete qid) h = closing_deletes past mid qid (open_sq past qid) (h qid)
 made_delete past mid (CloseCq qid) h = closed_deletes mid qid (open_cq past qid)
+made_delete past mid (verdict.Abort sqid cid) h = abort_deletes past mid cid (target_of past sqid) (λ queue is. h sqid queue (target_is past sqid queue is).1)
 made_delete past mid (verdict.SetArbitration settings) h = (tt, tt)
 
 -- ---- aborts
@@ -178,6 +188,14 @@ closing_leave_done : (past mid : Past) (qid x i : ℕ) (o : Option Queue) → is
 closing_leave_done past mid qid x i None h = refl
 closing_leave_done past mid qid x i (Some queue) h = aborts_leave_done queue.region x i past (Closing qid queue.region ∷ mid) h
 
+-- nor does an Abort command
+abort_leave_done : (past mid : Past) (cid x i : ℕ) (o : Option Queue) → is_waiting (fate_of past x i) ≡ false
+    → is_aborted (with_events (abort_in past cid o) mid) x i ≡ is_aborted mid x i
+abort_leave_done past mid cid x i None h = refl
+abort_leave_done past mid cid x i (Some queue) h =
+    aborts_leave queue.region x i (take 1 (named past queue.region cid)) mid
+    (waits_apart queue.region x i past (take 1 (named past queue.region cid)) (named_wait past queue.region cid) h)
+
 -- what a verdict makes aborts no place that doesn't wait
 pub made_leave_done : (past mid : Past) (v : Verdict) (x i : ℕ) → is_waiting (fate_of past x i) ≡ false
     → is_aborted (with_events (made_by past v) mid) x i ≡ is_aborted mid x i
@@ -186,7 +204,53 @@ made_leave_done past mid (verdict.OpenSq qid region cqid class) x i h = refl
 made_leave_done past mid (verdict.OpenCq qid region) x i h = refl
 made_leave_done past mid (BeginDelete qid) x i h = closing_leave_done past mid qid x i (open_sq past qid) h
 made_leave_done past mid (CloseCq qid) x i h = closed_leave_aborts mid qid x i (open_cq past qid)
+made_leave_done past mid (verdict.Abort sqid cid) x i h = abort_leave_done past mid cid x i (target_of past sqid) h
 made_leave_done past mid (verdict.SetArbitration settings) x i h = refl
+
+-- by whatever command
+closing_leave_requests : (past mid : Past) (qid x i : ℕ) (o : Option Queue) → is_waiting (fate_of past x i) ≡ false
+    → is_abort_requested (with_events (closing_of past qid o) mid) x i ≡ is_abort_requested mid x i
+closing_leave_requests past mid qid x i None h = refl
+closing_leave_requests past mid qid x i (Some queue) h =
+    requests_leave queue.region x i (waiting past queue.region) (Closing qid queue.region ∷ mid)
+    (waits_apart queue.region x i past (waiting past queue.region) (waiting_wait past queue.region) h)
+
+closed_leave_requests : (mid : Past) (qid x i : ℕ) (o : Option ℕ) → is_abort_requested (with_events (closed_cq_of qid o) mid) x i ≡ is_abort_requested mid x i
+closed_leave_requests mid qid x i None = refl
+closed_leave_requests mid qid x i (Some region) = refl
+
+abort_leave_requests : (past mid : Past) (cid x i : ℕ) (o : Option Queue) → is_waiting (fate_of past x i) ≡ false
+    → is_abort_requested (with_events (abort_in past cid o) mid) x i ≡ is_abort_requested mid x i
+abort_leave_requests past mid cid x i None h = refl
+abort_leave_requests past mid cid x i (Some queue) h =
+    requests_leave queue.region x i (take 1 (named past queue.region cid)) mid
+    (waits_apart queue.region x i past (take 1 (named past queue.region cid)) (named_wait past queue.region cid) h)
+
+pub made_leave_requests : (past mid : Past) (v : Verdict) (x i : ℕ) → is_waiting (fate_of past x i) ≡ false
+    → is_abort_requested (with_events (made_by past v) mid) x i ≡ is_abort_requested mid x i
+made_leave_requests past mid (Done status dw0) x i h = refl
+made_leave_requests past mid (verdict.OpenSq qid region cqid class) x i h = refl
+made_leave_requests past mid (verdict.OpenCq qid region) x i h = refl
+made_leave_requests past mid (BeginDelete qid) x i h = closing_leave_requests past mid qid x i (open_sq past qid) h
+made_leave_requests past mid (CloseCq qid) x i h = closed_leave_requests mid qid x i (open_cq past qid)
+made_leave_requests past mid (verdict.Abort sqid cid) x i h = abort_leave_requests past mid cid x i (target_of past sqid) h
+made_leave_requests past mid (verdict.SetArbitration settings) x i h = refl
+
+-- what a command makes is told of the place that it was picked with alone
+pub effects_leave_told : (i : ℕ) (rest : List Event) (past : Past) → AreEffects rest → is_index i (just_picked past) ≡ false
+    → has_aborted (with_events rest past) i ≡ has_aborted past i
+effects_leave_told i [] past are apart = refl
+effects_leave_told i (Fetch region index entry ∷ rest) past are apart = cc (are.0)
+effects_leave_told i (Pick seen pick ∷ rest) past are apart = cc (are.0)
+effects_leave_told i (Post cq_region region index cqe ∷ rest) past are apart = cc (are.0)
+effects_leave_told i (ClosedSq qid region ∷ rest) past are apart = cc (are.0)
+effects_leave_told i (Abort region index ∷ rest) past are apart =
+    effects_leave_told i rest (Abort region index ∷ past) are.1 refl ∙ ap (λ (b : Bool). b || has_aborted past i) apart
+effects_leave_told i (SetArbitration settings ∷ rest) past are apart = effects_leave_told i rest (SetArbitration settings ∷ past) are.1 refl
+effects_leave_told i (OpenSq qid region cqid class ∷ rest) past are apart = effects_leave_told i rest (OpenSq qid region cqid class ∷ past) are.1 refl
+effects_leave_told i (OpenCq qid region ∷ rest) past are apart = effects_leave_told i rest (OpenCq qid region ∷ past) are.1 refl
+effects_leave_told i (Closing qid region ∷ rest) past are apart = effects_leave_told i rest (Closing qid region ∷ past) are.1 refl
+effects_leave_told i (ClosedCq qid region ∷ rest) past are apart = effects_leave_told i rest (ClosedCq qid region ∷ past) are.1 refl
 
 -- nor a place of another region
 closing_leave_region : (past mid : Past) (qid x i : ℕ) (o : Option Queue) → ((queue : Queue) → o ≡ Some queue → queue.region ≡ x → ⊥)
@@ -194,13 +258,21 @@ closing_leave_region : (past mid : Past) (qid x i : ℕ) (o : Option Queue) → 
 closing_leave_region past mid qid x i None h = refl
 closing_leave_region past mid qid x i (Some queue) h = aborts_leave_region queue.region x i (waiting past queue.region) (Closing qid queue.region ∷ mid) (h queue refl)
 
--- what a verdict makes aborts no place of a region whose queue it doesn't delete
+-- nor does an Abort command
+abort_leave_region : (past mid : Past) (cid x i : ℕ) (o : Option Queue) → ((queue : Queue) → o ≡ Some queue → queue.region ≡ x → ⊥)
+    → is_aborted (with_events (abort_in past cid o) mid) x i ≡ is_aborted mid x i
+abort_leave_region past mid cid x i None h = refl
+abort_leave_region past mid cid x i (Some queue) h = aborts_leave_region queue.region x i (take 1 (named past queue.region cid)) mid (h queue refl)
+
+-- what a verdict makes aborts no place of a region whose queue it doesn't delete, and whose candidates it doesn't name
 pub made_leave_region : (past mid : Past) (v : Verdict) (x i : ℕ)
     → ((qid : ℕ) (queue : Queue) → v ≡ BeginDelete qid → open_sq past qid ≡ Some queue → queue.region ≡ x → ⊥)
+    → ((sqid : ℕ) (queue : Queue) → target_of past sqid ≡ Some queue → queue.region ≡ x → ⊥)
     → is_aborted (with_events (made_by past v) mid) x i ≡ is_aborted mid x i
-made_leave_region past mid (Done status dw0) x i h = refl
-made_leave_region past mid (verdict.OpenSq qid region cqid class) x i h = refl
-made_leave_region past mid (verdict.OpenCq qid region) x i h = refl
-made_leave_region past mid (BeginDelete qid) x i h = closing_leave_region past mid qid x i (open_sq past qid) (λ queue is same. h qid queue refl is same)
-made_leave_region past mid (CloseCq qid) x i h = closed_leave_aborts mid qid x i (open_cq past qid)
-made_leave_region past mid (verdict.SetArbitration settings) x i h = refl
+made_leave_region past mid (Done status dw0) x i h g = refl
+made_leave_region past mid (verdict.OpenSq qid region cqid class) x i h g = refl
+made_leave_region past mid (verdict.OpenCq qid region) x i h g = refl
+made_leave_region past mid (verdict.Abort sqid cid) x i h g = abort_leave_region past mid cid x i (target_of past sqid) (g sqid)
+made_leave_region past mid (BeginDelete qid) x i h g = closing_leave_region past mid qid x i (open_sq past qid) (λ queue is same. h qid queue refl is same)
+made_leave_region past mid (CloseCq qid) x i h g = closed_leave_aborts mid qid x i (open_cq past qid)
+made_leave_region past mid (verdict.SetArbitration settings) x i h g = refl

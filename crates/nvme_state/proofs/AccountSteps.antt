@@ -28,7 +28,8 @@ use Rattle.nvme_log.specs.Limits.{max_outstanding}
 use Rattle.nvme_log.specs.Rules.{Past, FrontRules, upto, window_at}
 use Rattle.nvme_log.specs.Queues.{Queue, admin_queue, open_sq, has_region, is_open_region, pending, is_closed_region}
 use Rattle.nvme_log.specs.Places.{Place, fetched, waiting, places, fate_of, is_waiting}
-use Rattle.nvme_log.specs.Completions.{is_posted, posted_to, phase_after, is_index, outstanding}
+use Rattle.nvme_log.specs.Completions.{is_posted, posted_to, phase_after, outstanding}
+use Rattle.nvme_log.specs.Aborts.{is_index}
 use Rattle.nvme_log.specs.Laws.{as_open}
 use Rattle.nvme_state.specs.inside.Kept.{SqKept, Kept}
 use Rattle.nvme_state.specs.inside.Standing.{HasOwnStatus, IsOwnDeletion, Stands, held_by, hand_of, as_deletion, times_held, IsReady}
@@ -130,8 +131,8 @@ accounted-fetch rules late past k q queue entry known s can regions on_time =
       deletes = ((none_is_pending rules late past k s can.none_pending, not_closed_region rules late past k s q queue can.is_open), a.deletes);
       posts_own = (tt, a.posts_own);
       leaves_places = (tt, a.leaves_places);
-      own_statuses = statuses_stay rules past (fetch_event k queue entry ∷ past) k (λ c j d lt. record { aborted = refl; table = λ z. refl }) a.own_statuses;
-      own_deletion = λ d is. deletion_stays rules past (fetch_event k queue entry ∷ past) d (record { aborted = refl; table = λ z. refl }) (a.own_deletion d is);
+      own_statuses = statuses_stay rules past (fetch_event k queue entry ∷ past) k (λ c j d lt. record { aborted = refl; requested = refl; table = λ z. refl; told = λ z. refl }) a.own_statuses;
+      own_deletion = λ d is. deletion_stays rules past (fetch_event k queue entry ∷ past) d (record { aborted = refl; requested = refl; table = λ z. refl; told = λ z. refl }) (a.own_deletion d is);
     }
 
 -- ---- a pick
@@ -162,7 +163,7 @@ accounted-io more rules late past k queue seen pick board c s can saw io attache
       deletes = (none_is_pending rules late past k s can.none_pending, a.deletes);
       posts_own = (tt, a.posts_own);
       leaves_places = (leaves_places more rules late past k queue seen pick board s can, a.leaves_places);
-      own_statuses = statuses_stay rules past later k (λ c j d lt. record { aborted = refl; table = λ z. rw apart refl }) a.own_statuses;
+      own_statuses = statuses_stay rules past later k (λ c j d lt. record { aborted = refl; requested = refl; table = λ z. rw apart refl; told = λ z. rw apart refl }) a.own_statuses;
       own_deletion = λ d is. cc (can.none_pending, is);
     }
 
@@ -255,9 +256,9 @@ accounted-post rules late past k c t rest cqe qid free s can regions on_time =
       );
       leaves_places = (tt, a.leaves_places);
       own_statuses = λ x. all_chosen (HasOwnStatus rules later) (x == c) (posted_cq (k.cq c) rest cqe free) (k.cq x)
-          (All-weaker (HasOwnStatus rules past) (HasOwnStatus rules later) (λ y h. HasOwnStatus-stays rules past later y (record { aborted = refl; table = λ z. refl }) h) rest (All-tail (HasOwnStatus rules past) t rest owns))
-          (statuses_stay rules past later k (λ c j d lt. record { aborted = refl; table = λ z. refl }) a.own_statuses x);
-      own_deletion = λ d is. deletion_stays rules past later d (record { aborted = refl; table = λ z. refl }) (a.own_deletion d is);
+          (All-weaker (HasOwnStatus rules past) (HasOwnStatus rules later) (λ y h. HasOwnStatus-stays rules past later y (record { aborted = refl; requested = refl; table = λ z. refl; told = λ z. refl }) h) rest (All-tail (HasOwnStatus rules past) t rest owns))
+          (statuses_stay rules past later k (λ c j d lt. record { aborted = refl; requested = refl; table = λ z. refl; told = λ z. refl }) a.own_statuses x);
+      own_deletion = λ d is. deletion_stays rules past later d (record { aborted = refl; requested = refl; table = λ z. refl; told = λ z. refl }) (a.own_deletion d is);
     }
 
 -- ---- the end of a deletion
@@ -303,7 +304,7 @@ accounted-close rules late past k d table s can regions on_time =
       leaves_places = (tt, a.leaves_places);
       own_statuses =
           all_with_readies (HasOwnStatus rules later) (record k { deletion = None; table = table }) 0 (deleted d ∷ [])
-          (statuses_stay rules past later k (λ c j x lt. record { aborted = refl; table = λ z. refl }) a.own_statuses)
+          (statuses_stay rules past later k (λ c j x lt. record { aborted = refl; requested = refl; table = λ z. refl; told = λ z. refl }) a.own_statuses)
           (All-cons (HasOwnStatus rules later) (deleted d) [] (record { status = sym own.status; dw0 = sym own.dw0 }) (All-nil (HasOwnStatus rules later)));
       own_deletion = λ x is. cc is;
     }

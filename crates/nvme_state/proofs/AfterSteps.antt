@@ -22,11 +22,11 @@ use Rattle.nvme_state.specs.declared.candidate.PendingDelete.{PendingDelete}
 use Rattle.nvme_log.specs.Rules.{FrontRules, Past}
 use Rattle.nvme_log.specs.Queues.{Queue, open_sq, open_cq}
 use Rattle.nvme_log.specs.Completions.{phase_after}
-use Rattle.nvme_log.specs.Effects.{made_by}
+use Rattle.nvme_log.specs.Effects.{made_by, target_of}
 use Rattle.nvme_state.specs.inside.Kept.{SqKept, CqKept, Kept, with_sq, with_cq, with_ready}
 use Rattle.nvme_log.specs.Places.{Place}
 use Rattle.nvme_log.specs.Places.{one_if}
-use Rattle.nvme_state.specs.inside.Steps.{aborted, after_pick}
+use Rattle.nvme_state.specs.inside.Steps.{aborted, after_pick, oldest_named, requested, without_oldest}
 use Rattle.nvme_state.specs.inside.Jobs.{with_picked, gained_jobs}
 use Rattle.nvme_pool.specs.Seat.{SeatView}
 use Rattle.nvme_pool.specs.declared.jobs.Finished.{Finished}
@@ -78,7 +78,7 @@ after_io k queue n board = record (after_pick k queue n board) { jobs = with_pic
 -- ---- a result is gained, which makes no event
 -- its completion is then ready
 abbrev pub completed : Dispatched → Finished → Ready
-completed d result = record { region = d.region; index = d.index; entry = d.entry; aborted = false; status = result.status; dw0 = 0 }
+completed d result = record { region = d.region; index = d.index; entry = d.entry; with_queue = false; status = result.status; dw0 = 0 }
 
 -- the completion region c is that of the queue
 abbrev pub after_gain : Kept → Dispatched → List Dispatched → SeatView → ℕ → Finished → Kept
@@ -87,7 +87,7 @@ after_gain k d running seat c result = with_ready (record k { jobs = gained_jobs
 -- the answer of an admin command
 abbrev pub answered : Candidate → Verdict → Ready
 answered candidate v =
-    record { region = 0; index = candidate.index; entry = candidate.entry; aborted = false; status = status_in v; dw0 = dw0_in v }
+    record { region = 0; index = candidate.index; entry = candidate.entry; with_queue = false; status = status_in v; dw0 = dw0_in v }
 
 -- what a verdict makes of what the front keeps. The answer of a deletion waits
 abbrev pub with_opened : Kept → (qid region cq_region : ℕ) → Class → Kept
@@ -103,6 +103,30 @@ with_deleting k qid region c candidate =
       board = record k.board { queues = slice_set k.board.queues qid None };
       deletion = Some (record { qid = qid; region = region; index = candidate.index; entry = candidate.entry });
     }
+
+-- the answer of an Abort command: Command Dword 0 is 0 where it aborted a candidate, and 1 otherwise
+abbrev pub told_abort : Candidate → ℕ → Ready
+told_abort candidate dw0 =
+    record { region = 0; index = candidate.index; entry = candidate.entry; with_queue = false; status = success; dw0 = dw0 }
+
+-- an Abort command took a candidate of a region. `board` is the board with a candidate less
+abbrev pub with_requested : Kept → (region c cid : ℕ) → BoardView → Candidate → Kept
+with_requested k region c cid board found =
+    record (with_ready (with_sq k region (record (k.sq region) { window = without_oldest cid (k.sq region).window; unposted = (k.sq region).unposted + 1 })) c
+    (requested region found)) {
+      board = board;
+      outstanding = k.outstanding + 1;
+    }
+
+-- an Abort command found a candidate in a region, or none
+abbrev pub aborting_in : Kept → Candidate → (region c cid : ℕ) → BoardView → Option Candidate → Kept
+aborting_in k candidate region c cid board None = with_ready k 0 (told_abort candidate 1)
+aborting_in k candidate region c cid board (Some found) = with_ready (with_requested k region c cid board found) 0 (told_abort candidate 0)
+
+-- what an Abort command leaves, by the queue whose candidates it may abort
+abbrev pub aborting_from : Kept → Candidate → (c cid : ℕ) → BoardView → Option Queue → Kept
+aborting_from k candidate c cid board None = with_ready k 0 (told_abort candidate 1)
+aborting_from k candidate c cid board (Some queue) = aborting_in k candidate queue.region c cid board (oldest_named cid (k.sq queue.region).window)
 
 -- the events of an admin pick, after those before it
 abbrev pub admin_past : Past → Event → Verdict → Past
@@ -129,7 +153,7 @@ post_event c t cqe = event.Post c t.region t.index cqe
 abbrev pub after_post : Kept → ℕ → Ready → List Ready → Cqe → ℕ → Kept
 after_post k c t rest cqe free =
     record (with_cq (with_sq k t.region (record (k.sq t.region) { unposted = (k.sq t.region).unposted - 1 })) c (posted_cq (k.cq c) rest cqe free)) {
-      outstanding = k.outstanding - one_if (not t.aborted);
+      outstanding = k.outstanding - one_if (not t.with_queue);
     }
 
 -- ---- the end of a deletion
@@ -142,13 +166,13 @@ abbrev pub closed_event : PendingDelete → Event
 closed_event d = event.ClosedSq d.qid d.region
 
 abbrev pub deleted : PendingDelete → Ready
-deleted d = record { region = 0; index = d.index; entry = d.entry; aborted = false; status = success; dw0 = 0 }
+deleted d = record { region = 0; index = d.index; entry = d.entry; with_queue = false; status = success; dw0 = 0 }
 
 abbrev pub after_closed : Kept → PendingDelete → TableView → Kept
 after_closed k d table = with_ready (record k { deletion = None; table = table }) 0 (deleted d)
 
--- what an admin command leaves, by its verdict. c is the completion region of a queue that is opened or deleted, and `board` is the board with
--- new settings
+-- what an admin command leaves, by its verdict. c is the completion region of a queue that is opened or deleted, or whose candidate is aborted, and
+-- `board` is the board with new settings, or with a candidate less
 abbrev pub deleting_from : Kept → (qid c : ℕ) → Candidate → Option Queue → Kept
 deleting_from k qid c candidate None = with_ready k 0 (answered candidate (BeginDelete qid))
 deleting_from k qid c candidate (Some queue) = with_deleting k qid queue.region c candidate
@@ -162,12 +186,22 @@ after_admin past k candidate c board (CloseCq qid) = with_ready k 0 (answered ca
 after_admin past k candidate c board (verdict.SetArbitration settings) =
     with_ready (record k { board = board }) 0 (answered candidate (verdict.SetArbitration settings))
 after_admin past k candidate c board (BeginDelete qid) = deleting_from k qid c candidate (open_sq past qid)
+after_admin past k candidate c board (verdict.Abort sqid cid) = aborting_from k candidate c cid board (target_of past sqid)
+
+-- what c and `board` are where an Abort command takes a candidate of a queue
+pub record IsAbortChosen (rules : FrontRules) (k : Kept) (sqid cid c : ℕ) (picked board : BoardView) (queue : Queue) : Type 0 where
+  pub attached : (k.sq queue.region).queue ≡ Some (record { qid = sqid; cq_region = c })
+  pub queues : board.queues ≡ slice_set picked.queues sqid (Some (record { class = queue.class; count = length (without_oldest cid (k.sq queue.region).window) }))
+  pub stands : (h : History) → BoardStandsAt rules.mechanism rules.start.settings h picked → BoardStandsAt rules.mechanism rules.start.settings h board
 
 -- what c and `board` are
 abbrev pub IsChosen : FrontRules → Past → Kept → ℕ → BoardView → BoardView → Verdict → Type 0
 IsChosen rules past k c picked board (verdict.OpenSq qid region cqid class) = open_cq past cqid ≡ Some c
 IsChosen rules past k c picked board (BeginDelete qid) =
     (queue : Queue) → open_sq past qid ≡ Some queue → (k.sq queue.region).queue ≡ Some (record { qid = qid; cq_region = c })
+IsChosen rules past k c picked board (verdict.Abort sqid cid) =
+    (queue : Queue) (found : Candidate) → target_of past sqid ≡ Some queue → oldest_named cid (k.sq queue.region).window ≡ Some found
+    → IsAbortChosen rules k sqid cid c picked board queue
 IsChosen rules past k c picked board (verdict.SetArbitration settings) =
     (board.queues ≡ picked.queues)
     × ((h : History) → BoardStandsAt rules.mechanism rules.start.settings h picked → BoardStandsAt rules.mechanism rules.start.settings (Changed settings ∷ h) board)

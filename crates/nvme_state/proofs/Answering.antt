@@ -12,7 +12,8 @@ use Rattle.nvme_state.specs.declared.candidate.PendingDelete.{PendingDelete}
 use Rattle.nvme_log.specs.Rules.{Past, FrontRules, upto}
 use Rattle.nvme_log.specs.Queues.{cq_region_of}
 use Rattle.nvme_log.specs.Places.{Place, fetched, fate_of, is_waiting}
-use Rattle.nvme_log.specs.Completions.{is_posted, posts_of, is_index}
+use Rattle.nvme_log.specs.Completions.{is_posted, posts_of}
+use Rattle.nvme_log.specs.Aborts.{is_index}
 use Rattle.nvme_log.specs.Account.{deleting_place}
 use Rattle.nvme_state.specs.Hands.{in_hand, is_in_hand}
 use Rattle.nvme_state.specs.inside.Jobs.{dispatched_place}

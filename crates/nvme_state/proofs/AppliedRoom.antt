@@ -1,7 +1,7 @@
 -- How many completions are ready, and how many places are unposted, where no deletion is pending.
-use Rattle.std.proofs.Common.{◌≡◌, ℕ, zero, suc, ◌+◌, ◌<◌, ◌≤◌, ◌==◌, ◌&&◌, nat_lt, Bool, true, false, not, List, [], ◌∷◌, map, length, Option, None, refl, sym, ap, ◌∙◌, arith, inl, inr, true≢false}
+use Rattle.std.proofs.Common.{◌≡◌, ℕ, zero, suc, ◌+◌, ◌<◌, ◌≤◌, ◌==◌, ◌&&◌, ◌||◌, nat_lt, Bool, true, false, not, List, [], ◌∷◌, map, length, Option, None, refl, sym, ap, ◌∙◌, arith, inl, inr, true≢false}
 use Rattle.std.specs.Prelude.{All, sum_by, slice_index_or}
-use Rattle.std.proofs.lemmas.Bool.{cases_lt, cases_eq, eqb-true, and_parts, lt-ltb}
+use Rattle.std.proofs.lemmas.Bool.{cases_lt, cases_eq, eqb-true, and_parts, and_from, not_from_false, lt-ltb}
 use Rattle.std.proofs.lemmas.List.Sums.{sum_by-cons, sum_by-le, sum_by-append}
 use Rattle.nvme_admin.specs.declared.bounds.TheConstants.{MAX_REGIONS}
 use Rattle.nvme_pool.proofs.Retiring.{sum_by_map}
@@ -12,7 +12,8 @@ use Rattle.nvme_log.specs.Rules.{FrontRules, Past, upto, sq_regions_of}
 use Rattle.nvme_state.specs.Hands.{in_hand}
 use Rattle.nvme_state.specs.inside.Jobs.{dispatched_place}
 use Rattle.nvme_log.specs.Places.{Place, fetched, picked, fate_of, is_waiting, is_picked, is_aborted, unaborted_below, places}
-use Rattle.nvme_log.specs.Completions.{is_posted}
+use Rattle.nvme_log.specs.Aborts.{is_abort_requested, is_aborted_with_queue}
+use Rattle.nvme_log.specs.Completions.{is_posted, takes_place}
 use Rattle.nvme_state.specs.inside.Kept.{Kept}
 use Rattle.nvme_state.specs.inside.Standing.{HoldsSq, HoldsReady, IsReady, Stands, times_in, times_ready, times_held, held_by, hand_of, IsDispatched}
 use Rattle.nvme_log.specs.Places.{one_if, is_served}
@@ -25,16 +26,16 @@ use Rattle.nvme_state.proofs.ReadyChange.{picked-sum, aborted-sum}
 use Rattle.nvme_state.proofs.ReadyAdmin.{none-aborted, not_deleting}
 
 -- ---- ready completions
--- the ready completions are those of picked places and those of aborted ones
-both_kinds : (ts : List Ready) → sum_by (λ (t : Ready). one_if (not t.aborted)) ts + sum_by (λ (t : Ready). one_if t.aborted) ts ≡ length ts
+-- the ready completions are those that hold an outstanding place and those of places that were aborted with their queue
+both_kinds : (ts : List Ready) → sum_by (λ (t : Ready). one_if (not t.with_queue)) ts + sum_by (λ (t : Ready). one_if t.with_queue) ts ≡ length ts
 both_kinds [] = refl
 both_kinds (t ∷ ts) =
     omega (
       arith,
-      sum_by-cons (λ (u : Ready). one_if (not u.aborted)) t ts,
-      sum_by-cons (λ (u : Ready). one_if u.aborted) t ts,
+      sum_by-cons (λ (u : Ready). one_if (not u.with_queue)) t ts,
+      sum_by-cons (λ (u : Ready). one_if u.with_queue) t ts,
       both_kinds ts,
-      one t.aborted,
+      one t.with_queue,
     ) where
       one : (b : Bool) → one_if (not b) + one_if b ≡ 1
       one true = refl
@@ -47,8 +48,8 @@ few_ready past k h none c = elim (cases_lt c MAX_REGIONS) [
       omega (
         arith,
         both_kinds (k.cq c).ready,
-        over_at (λ (x : ℕ). sum_by (λ (t : Ready). one_if (not t.aborted)) (k.cq x).ready) c MAX_REGIONS small,
-        over_at (λ (x : ℕ). sum_by (λ (t : Ready). one_if t.aborted) (k.cq x).ready) c MAX_REGIONS small,
+        over_at (λ (x : ℕ). sum_by (λ (t : Ready). one_if (not t.with_queue)) (k.cq x).ready) c MAX_REGIONS small,
+        over_at (λ (x : ℕ). sum_by (λ (t : Ready). one_if t.with_queue) (k.cq x).ready) c MAX_REGIONS small,
         picked-sum k,
         aborted-sum k,
         none-aborted past k (hand_of k) h none,
@@ -63,8 +64,9 @@ counts_none : (b : Bool) → (b ≡ true → ⊥) → one_if b ≤ 0
 counts_none true n = absurd (n refl)
 counts_none false n = omega arith
 
--- where no deletion is pending, no ready completion is that of an aborted place
-ready-unaborted : (past : Past) (k : Kept) (r i : ℕ) → HoldsReady past k (hand_of k) → k.deletion ≡ None → is_aborted past r i ≡ true → times_ready k r i ≡ 0
+-- where no deletion is pending, no ready completion is that of a place that was aborted with its queue
+ready-unaborted : (past : Past) (k : Kept) (r i : ℕ) → HoldsReady past k (hand_of k) → k.deletion ≡ None → is_aborted_with_queue past r i ≡ true
+    → times_ready k r i ≡ 0
 ready-unaborted past k r i h none gone =
     over_none (λ (c : ℕ). times_in r i (k.cq c).ready) MAX_REGIONS (λ c l.
     omega (
@@ -75,7 +77,8 @@ ready-unaborted past k r i h none gone =
           counts_none (t.region == r && t.index == i) (λ e.
           let same = and_parts (t.region == r) (t.index == i) e in
           not_deleting past k.deletion c t is none
-          (is.aborted ∙ ap (λ (z : ℕ). is_aborted past z t.index) (eqb-true t.region r same.0) ∙ ap (is_aborted past r) (eqb-true t.index i same.1) ∙ gone))),
+          (is.with_queue ∙ ap (λ (z : ℕ). is_aborted_with_queue past z t.index) (eqb-true t.region r same.0)
+          ∙ ap (λ (z : ℕ). is_aborted_with_queue past r z) (eqb-true t.index i same.1) ∙ gone))),
     ))
 
 -- no picked command that has no result yet is of an aborted place
@@ -103,21 +106,22 @@ hand-unaborted past k r i each none gone =
       jobs-unaborted past (in_hand k.jobs.hands) r i each gone,
     )
 
--- so an aborted place has its completion posted
+-- so a place that was aborted with its queue has its completion posted
 aborted-posted : (past : Past) (k : Kept) (r i : ℕ) → ((x : ℕ) → HoldsSq past x (k.sq x)) → HoldsReady past k (hand_of k)
-    → All (IsDispatched past) (in_hand k.jobs.hands) → k.deletion ≡ None → is_aborted past r i ≡ true → is_posted past r i ≡ false → ⊥
+    → All (IsDispatched past) (in_hand k.jobs.hands) → k.deletion ≡ None → is_aborted_with_queue past r i ≡ true → is_posted past r i ≡ false → ⊥
 aborted-posted past k r i regions h each none gone fresh =
+    let named : is_aborted past r i ≡ true = (and_parts (is_aborted past r i) (not (is_abort_requested past r i)) gone).0 in
     elim (cases_lt i (length (k.sq r).got)) [
       | inl there ↦
           let many : length (fetched past r) ≡ length (k.sq r).got = ap length (regions r).fetched_is in
           let fetched_there : nat_lt i (length (fetched past r)) ≡ true = lt-ltb i (length (fetched past r)) (omega arith) in
-          let served : one_if (is_served past r i) ≡ 1 = rw (gone, fetched_there) refl in
+          let served : one_if (is_served past r i) ≡ 1 = rw (named, fetched_there) refl in
           let once = h.once r i in
           let unready = ready-unaborted past k r i h none gone in
           let unposted = posts_of-none past r i fresh in
-          let hand = hand-unaborted past k r i each none gone in
+          let hand = hand-unaborted past k r i each none named in
           absurd (omega arith)
-      | inr beyond ↦ true≢false (sym gone ∙ (regions r).none_aborted i beyond)
+      | inr beyond ↦ true≢false (sym named ∙ (regions r).none_aborted i beyond)
     ]
 
 -- a part of a sum is within it
@@ -135,14 +139,17 @@ pub few_unposted : (rules : FrontRules) (late : Bool) (past : Past) (k : Kept) �
     → (k.sq r).unposted ≤ k.outstanding
 few_unposted rules late past k s none r there =
     let picks : unposted_of past r ≤ outstanding_of past r =
-    counts_less (λ (i : ℕ). not (is_waiting (fate_of past r i)) && not (is_posted past r i)) (λ (i : ℕ). is_picked (fate_of past r i) && not (is_posted past r i))
-    (λ (i : ℕ). was_picked (is_aborted past r i) (nat_lt (unaborted_below past r i) (picked past r)) (is_posted past r i)
-    (λ gone fresh. aborted-posted past k r i s.regions s.ready s.jobs.each none gone fresh))
+    counts_less (λ (i : ℕ). not (is_waiting (fate_of past r i)) && not (is_posted past r i)) (λ (i : ℕ). takes_place past r i && not (is_posted past r i))
+    (λ (i : ℕ). takes (is_aborted past r i) (nat_lt (unaborted_below past r i) (picked past r)) (is_posted past r i) (is_abort_requested past r i)
+    (λ gone kept fresh. aborted-posted past k r i s.regions s.ready s.jobs.each none
+    (and_from (is_aborted past r i) (not (is_abort_requested past r i)) gone (not_from_false (is_abort_requested past r i) kept)) fresh))
     (places past r) in
     let all = part_of (λ (x : ℕ). outstanding_of past x) r (length (sq_regions_of rules)) (omega (arith, s.tabled.sq_number)) in
     omega (arith, s.counts.unposted r, s.counts.outstanding_is) where
-      was_picked : (a b p : Bool) → (a ≡ true → p ≡ false → ⊥) → (not (is_waiting (fate_by a b)) && not p) ≡ true → (is_picked (fate_by a b) && not p) ≡ true
-      was_picked true b false n e = absurd (n refl refl)
-      was_picked true b true n e = cc e
-      was_picked false true p n e = e
-      was_picked false false p n e = cc e
+      takes : (a b p q : Bool) → (a ≡ true → q ≡ false → p ≡ false → ⊥) → (not (is_waiting (fate_by a b)) && not p) ≡ true
+          → ((is_picked (fate_by a b) || q) && not p) ≡ true
+      takes true b false true n e = refl
+      takes true b false false n e = absurd (n refl refl refl)
+      takes true b true q n e = cc e
+      takes false true p q n e = e
+      takes false false p q n e = cc e

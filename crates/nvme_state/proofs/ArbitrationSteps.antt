@@ -1,5 +1,5 @@
 -- The steps of a front keep its board at the arbitration history of the log, which is a lawful run.
-use Rattle.std.proofs.Common.{◌≡◌, ℕ, ◌+◌, ◌<◌, ◌==◌, Bool, List, [], ◌∷◌, map, length, set, Option, Some, None, refl, sym, ap, subst, ◌∙◌, inl, inr, arith}
+use Rattle.std.proofs.Common.{◌≡◌, ℕ, ◌+◌, ◌<◌, ◌==◌, Bool, List, [], ◌∷◌, map, length, set, Option, Some, None, refl, sym, ap, subst, ◌∙◌, inl, inr, arith, take}
 use Rattle.std.specs.Prelude.{option_map, slice_set, IfSome}
 use Rattle.std.proofs.lemmas.Bool.{cases_eq, cases_lt}
 use Rattle.std.proofs.lemmas.List.{get_or-set_same, get_or-set_other, set_past, length-set}
@@ -32,13 +32,14 @@ use Rattle.nvme_log.specs.Rules.{FrontRules, Past}
 use Rattle.nvme_log.specs.Queues.{Queue, admin_queue, open_sq, open_cq}
 use Rattle.nvme_log.specs.Places.{waiting, observation_of}
 use Rattle.nvme_log.specs.Histories.{arbitration_of}
-use Rattle.nvme_log.specs.Effects.{closed_cq_of, closing_of}
-use Rattle.nvme_state.specs.inside.Kept.{Kept}
+use Rattle.nvme_log.specs.Effects.{closed_cq_of, closing_of, abort_in, named, target_of}
+use Rattle.nvme_state.specs.inside.Kept.{Kept, SqKept}
 use Rattle.nvme_state.specs.inside.Standing.{HoldsArbitration, Stands, on_board}
 use Rattle.nvme_state.proofs.Observing.{seen_is_observed}
-use Rattle.nvme_state.specs.inside.Steps.{CanPick, applied_to, verdict_at}
-use Rattle.nvme_state.proofs.AfterSteps.{with_events, IsChosen, admin_past, after_admin, deleting_from}
+use Rattle.nvme_state.specs.inside.Steps.{CanPick, applied_to, verdict_at, oldest_named, picked_sq}
+use Rattle.nvme_state.proofs.AfterSteps.{with_events, IsChosen, admin_past, after_admin, deleting_from, aborting_from, aborting_in}
 use Rattle.nvme_state.proofs.StepKeeps.{KeepsFetch, KeepsIo, KeepsAdmin, KeepsPost, KeepsClose, Arbitration}
+use Rattle.nvme_state.proofs.Regions.{target_left}
 
 -- ---- boards
 -- an open queue of a board that makes an observation was seen
@@ -150,17 +151,49 @@ module _ (rules : FrontRules) (late : Bool) (past : Past) (k : Kept) (seen : Arr
   by_sq qid None = record { stands = is.stands; lawful = is.lawful }
   by_sq qid (Some queue) = closes qid queue
 
+  -- a candidate leaves the window of a queue, or none is found
+  by_found : (queue : Queue) (cid : ℕ) (o : Option Candidate)
+      → ((found : Candidate) → o ≡ Some found → (h : History) → BoardStandsAt rules.mechanism rules.start.settings h picked → BoardStandsAt rules.mechanism rules.start.settings h after)
+      → HoldsArbitration rules (with_events (abort_in past cid (Some queue)) (event.Pick seen pick ∷ past)) (aborting_in (applied_to k picked table) candidate queue.region c cid after o)
+  by_found queue cid None chosen =
+      let same : arbitration_of (with_events (abort_in past cid (Some queue)) (event.Pick seen pick ∷ past)) ≡ arbitration_of (event.Pick seen pick ∷ past) =
+      aborts_leave_arbitration queue.region (take 1 (named past queue.region cid)) (event.Pick seen pick ∷ past) in
+      record {
+        stands = subst (λ (h : History). BoardStandsAt rules.mechanism rules.start.settings h picked) (sym same) is.stands;
+        lawful = subst (IsLawfulRun rules.mechanism rules.start.settings) (sym same) is.lawful;
+      }
+  by_found queue cid (Some found) chosen =
+      let same : arbitration_of (with_events (abort_in past cid (Some queue)) (event.Pick seen pick ∷ past)) ≡ arbitration_of (event.Pick seen pick ∷ past) =
+      aborts_leave_arbitration queue.region (take 1 (named past queue.region cid)) (event.Pick seen pick ∷ past) in
+      record {
+        stands = subst (λ (h : History). BoardStandsAt rules.mechanism rules.start.settings h after) (sym same)
+            (chosen found refl (arbitration_of (event.Pick seen pick ∷ past)) is.stands);
+        lawful = subst (IsLawfulRun rules.mechanism rules.start.settings) (sym same) is.lawful;
+      }
+
+  -- an Abort command, by the queue that it names
+  by_target : (sqid cid : ℕ) (o : Option Queue)
+      → ((queue : Queue) (found : Candidate) → o ≡ Some queue → oldest_named cid ((applied_to k picked table).sq queue.region).window ≡ Some found
+      → (h : History) → BoardStandsAt rules.mechanism rules.start.settings h picked → BoardStandsAt rules.mechanism rules.start.settings h after)
+      → HoldsArbitration rules (with_events (abort_in past cid o) (event.Pick seen pick ∷ past)) (aborting_from (applied_to k picked table) candidate c cid after o)
+  by_target sqid cid None chosen = record { stands = is.stands; lawful = is.lawful }
+  by_target sqid cid (Some queue) chosen =
+      by_found queue cid (oldest_named cid ((applied_to k picked table).sq queue.region).window) (λ found e. chosen queue found refl e)
+
   -- what a verdict makes keeps the board at the arbitration history
   by_verdict : (h : TableHistory) (v : Verdict) → TellsChange rules.start h candidate.entry v → IsChosen rules past k c picked after v
+      → ((sqid : ℕ) (queue : Queue) → target_of past sqid ≡ Some queue → (applied_to k picked table).sq queue.region ≡ k.sq queue.region)
       → HoldsArbitration rules (admin_past past (event.Pick seen pick) v) (after_admin past (applied_to k picked table) candidate c after v)
-  by_verdict h (Done status dw0) tells chosen = record { stands = is.stands; lawful = is.lawful }
-  by_verdict h (verdict.OpenSq qid region cqid class) tells chosen =
+  by_verdict h (Done status dw0) tells chosen left = record { stands = is.stands; lawful = is.lawful }
+  by_verdict h (verdict.OpenSq qid region cqid class) tells chosen left =
       let stands = opens qid class tells.due.not_admin tells.due.class_of_io in
       record { stands = stands; lawful = is.lawful }
-  by_verdict h (verdict.OpenCq qid region) tells chosen = record { stands = is.stands; lawful = is.lawful }
-  by_verdict h (verdict.SetArbitration settings) tells chosen = record { stands = chosen.1 (arbitration_of (event.Pick seen pick ∷ past)) is.stands; lawful = is.lawful }
-  by_verdict h (CloseCq qid) tells chosen = by_cq qid (open_cq past qid)
-  by_verdict h (BeginDelete qid) tells chosen = by_sq qid (open_sq past qid)
+  by_verdict h (verdict.OpenCq qid region) tells chosen left = record { stands = is.stands; lawful = is.lawful }
+  by_verdict h (verdict.Abort sqid cid) tells chosen left =
+      by_target sqid cid (target_of past sqid) (λ queue found e named. (chosen queue found e (ap (λ (z : SqKept). oldest_named cid z.window) (sym (left sqid queue e)) ∙ named)).stands)
+  by_verdict h (verdict.SetArbitration settings) tells chosen left = record { stands = chosen.1 (arbitration_of (event.Pick seen pick ∷ past)) is.stands; lawful = is.lawful }
+  by_verdict h (CloseCq qid) tells chosen left = by_cq qid (open_cq past qid)
+  by_verdict h (BeginDelete qid) tells chosen left = by_sq qid (open_sq past qid)
 
 -- an admin pick is a lawful one, and what its command makes keeps the board
 pub arbitration-admin : KeepsAdmin Arbitration
@@ -168,6 +201,7 @@ arbitration-admin rules late past k seen pick picked candidate rest table c boar
     by_verdict rules late past k seen pick picked candidate table c board (picks rules late past k admin_queue seen pick picked s can seen_is)
     (pick_size rules past k admin_queue pick picked can s.queues.board_size) s.tabled.history (verdict_at rules s.tabled.history candidate)
     (TellsChange-entry rules.start s.tabled.history candidate.entry) chosen
+    (λ sqid queue e. target_left past k s.queues (subst (λ (q : ℕ). open_sq past q ≡ Some admin_queue) z can.is_open) sqid queue e (picked_sq (k.sq 0) 1))
 
 -- ---- a post, and the end of a deletion
 -- a post leaves the board

@@ -1,5 +1,5 @@
 -- How the steps of jobs weigh what was gained against what was handed.
-use Rattle.std.proofs.Common.{◌≡◌, ℕ, ◌+◌, List, [], ◌∷◌, ◌++◌, refl, sym, ap, ◌∙◌, subst, arith}
+use Rattle.std.proofs.Common.{◌≡◌, ℕ, List, [], ◌∷◌, sym, ap, subst, arith}
 use Rattle.std.specs.Prelude.{sum_by}
 use Rattle.std.proofs.lemmas.List.Sums.{sum_by-append}
 use Rattle.nvme_lane.specs.View.{GetView}
@@ -9,7 +9,7 @@ use Rattle.nvme_pool.specs.declared.jobs.Job.{Job}
 use Rattle.nvme_pool.specs.declared.jobs.Finished.{Finished}
 use Rattle.nvme_state.specs.declared.candidate.Dispatched.{Dispatched}
 use Rattle.nvme_state.specs.Hands.{Hands, job_in}
-use Rattle.nvme_state.specs.inside.Jobs.{JobsView, handed_jobs, gained_jobs, HandsOne, GainsOne, GainsStray}
+use Rattle.nvme_state.specs.inside.Jobs.{JobsView, HandsOne, GainsOne, GainsStray}
 use Rattle.nvme_state.specs.Balance.{Balances}
 use Rattle.nvme_state.proofs.JobAccounts.{result_is, sum_by-gained_one, sum_by-gained, sum_by-one}
 

@@ -13,8 +13,8 @@ use Rattle.nvme_state.specs.declared.candidate.Ready.{Ready}
 use Rattle.nvme_state.specs.declared.candidate.PendingDelete.{PendingDelete}
 use Rattle.nvme_log.specs.Rules.{Past, FrontRules, upto, sq_regions_of}
 use Rattle.nvme_log.specs.Queues.{pending}
-use Rattle.nvme_log.specs.Places.{Place, fetched, waiting, places, fate_of, is_waiting, is_picked}
-use Rattle.nvme_log.specs.Completions.{is_posted, posts_of}
+use Rattle.nvme_log.specs.Places.{Place, fetched, waiting, places, fate_of, is_waiting}
+use Rattle.nvme_log.specs.Completions.{is_posted, posts_of, takes_place}
 use Rattle.nvme_log.specs.Account.{IsClear}
 use Rattle.nvme_state.specs.inside.Kept.{Kept}
 use Rattle.nvme_log.specs.Places.{one_if, is_served}
@@ -99,11 +99,11 @@ module _ (rules : FrontRules) (late : Bool) (past : Past) (k : Kept) (s : Stands
   clear-none_outstanding : IsClear past → k.outstanding ≡ 0
   clear-none_outstanding clear =
       s.counts.outstanding_is
-      ∙ sum_by-none (λ (r : ℕ). length (filter (λ (i : ℕ). is_picked (fate_of past r i) && not (is_posted past r i)) (places past r)))
+      ∙ sum_by-none (λ (r : ℕ). length (filter (λ (i : ℕ). takes_place past r i && not (is_posted past r i)) (places past r)))
       (upto (length (sq_regions_of rules)))
       (λ r. ap (λ (xs : List ℕ). length xs)
-      (kept_none (λ (i : ℕ). is_picked (fate_of past r i) && not (is_posted past r i)) (length (fetched past r))
-      (λ i lt. and_right (is_picked (fate_of past r i)) (not (is_posted past r i)) (not_from_true (is_posted past r i) (all_below (λ (j : ℕ). is_posted past r j) (length (fetched past r)) (clear.all_posted r) i lt)))))
+      (kept_none (λ (i : ℕ). takes_place past r i && not (is_posted past r i)) (length (fetched past r))
+      (λ i lt. and_right (takes_place past r i) (not (is_posted past r i)) (not_from_true (is_posted past r i) (all_below (λ (j : ℕ). is_posted past r j) (length (fetched past r)) (clear.all_posted r) i lt)))))
 
   -- no deletion is pending
   clear-no_deletion : IsClear past → (o : Option PendingDelete) → pending past ≡ option_map as_deletion o → o ≡ None

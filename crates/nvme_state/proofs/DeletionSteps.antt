@@ -1,5 +1,5 @@
 -- The steps of a front keep what it keeps of a pending deletion.
-use Rattle.std.proofs.Common.{◌≡◌, ℕ, ◌-◌, ◌==◌, ◌&&◌, ◌||◌, Bool, true, false, List, [], ◌∷◌, map, Option, Some, None, refl, sym, ap, subst, ◌∙◌, inl, inr, eq-eqb, eqb-true, true≢false}
+use Rattle.std.proofs.Common.{◌≡◌, ℕ, ◌-◌, ◌==◌, ◌&&◌, ◌||◌, Bool, true, false, List, [], ◌∷◌, map, take, Option, Some, None, refl, sym, ap, subst, ◌∙◌, inl, inr, eq-eqb, eqb-true, true≢false}
 use Rattle.std.specs.Prelude.{option_map, if◌then◌else◌, slice_get}
 use Rattle.std.proofs.lemmas.Bool.{ne_eqb, cond-true, cond-false, false_from_ne_true}
 use Rattle.nvme_arbiter.specs.Board.{BoardView}
@@ -26,15 +26,15 @@ use Rattle.nvme_state.specs.declared.attachment.Attachment.{Attachment}
 use Rattle.nvme_log.specs.Rules.{FrontRules, Past}
 use Rattle.nvme_log.specs.Queues.{Queue, admin_queue, open_sq, open_cq, pending, is_closed_region}
 use Rattle.nvme_log.specs.Places.{fetched, waiting, is_aborted, entry_at}
-use Rattle.nvme_log.specs.Effects.{closed_cq_of, closing_of}
+use Rattle.nvme_log.specs.Effects.{abort_in, closed_cq_of, closing_of, named, target_of}
 use Rattle.nvme_log.specs.Account.{deleting_place, latest_admin_place}
 use Rattle.nvme_log.specs.Laws.{as_open}
 use Rattle.nvme_state.specs.inside.Kept.{SqKept, Kept, put_sq}
 use Rattle.nvme_state.specs.inside.Standing.{HoldsQueues, HoldsDeletion, IsPending, Stands, as_deletion}
 use Rattle.nvme_state.proofs.Oldest.{oldest_place, oldest_entry, oldest_unaborted}
 use Rattle.nvme_state.proofs.QueueWords.{chosen, put-queue}
-use Rattle.nvme_state.specs.inside.Steps.{CanPick, CanApply, picked_sq, applied_to, verdict_at}
-use Rattle.nvme_state.proofs.AfterSteps.{with_events, admin_past, after_admin, deleting_from}
+use Rattle.nvme_state.specs.inside.Steps.{CanPick, CanApply, picked_sq, applied_to, verdict_at, oldest_named}
+use Rattle.nvme_state.proofs.AfterSteps.{with_events, admin_past, after_admin, aborting_from, aborting_in, deleting_from}
 use Rattle.nvme_state.proofs.StepKeeps.{KeepsFetch, KeepsIo, KeepsAdmin, KeepsPost, KeepsClose, Deleting}
 
 -- ---- where no deletion is pending
@@ -201,6 +201,7 @@ none_closes-after : (v : Verdict) (sqs : ℕ → Option SqEntry) → ((qid : ℕ
 none_closes-after (Done status dw0) sqs no_begin none q e is closes = none q e is closes
 none_closes-after (verdict.OpenCq qid region) sqs no_begin none q e is closes = none q e is closes
 none_closes-after (CloseCq qid) sqs no_begin none q e is closes = none q e is closes
+none_closes-after (verdict.Abort sqid cid) sqs no_begin none q e is closes = none q e is closes
 none_closes-after (verdict.SetArbitration settings) sqs no_begin none q e is closes = none q e is closes
 none_closes-after (BeginDelete qid) sqs no_begin none q e is closes = no_begin qid refl
 none_closes-after (verdict.OpenSq qid region cqid class) sqs no_begin none q e is closes =
@@ -274,6 +275,31 @@ begun rules late past k seen pick picked candidate rest table c qid queue s admi
       ];
     }
 
+-- an Abort command leaves the pending deletion
+aborting_leaves_deletion : (k : Kept) (candidate : Candidate) (c cid : ℕ) (board : BoardView) (o : Option Queue) → (aborting_from k candidate c cid board o).deletion ≡ k.deletion
+aborting_leaves_deletion k candidate c cid board None = refl
+aborting_leaves_deletion k candidate c cid board (Some queue) = found (oldest_named cid (k.sq queue.region).window) where
+  found : (o : Option Candidate) → (aborting_in k candidate queue.region c cid board o).deletion ≡ k.deletion
+  found None = refl
+  found (Some it) = refl
+
+-- and the table
+aborting_leaves_table : (k : Kept) (candidate : Candidate) (c cid : ℕ) (board : BoardView) (o : Option Queue) → (aborting_from k candidate c cid board o).table ≡ k.table
+aborting_leaves_table k candidate c cid board None = refl
+aborting_leaves_table k candidate c cid board (Some queue) = found (oldest_named cid (k.sq queue.region).window) where
+  found : (o : Option Candidate) → (aborting_in k candidate queue.region c cid board o).table ≡ k.table
+  found None = refl
+  found (Some it) = refl
+
+-- so does what it makes
+abort_leaves_pending : (past later : Past) (cid : ℕ) (o : Option Queue) → pending (with_events (abort_in past cid o) later) ≡ pending later
+abort_leaves_pending past later cid None = refl
+abort_leaves_pending past later cid (Some queue) = aborts_leave_pending queue.region (take 1 (named past queue.region cid)) later
+
+abort_leaves_deleting : (past later : Past) (cid : ℕ) (o : Option Queue) → deleting_place (with_events (abort_in past cid o) later) ≡ deleting_place later
+abort_leaves_deleting past later cid None = refl
+abort_leaves_deleting past later cid (Some queue) = aborts_leave_deleting queue.region (take 1 (named past queue.region cid)) later
+
 -- an admin pick, by the verdict of its command
 by_verdict : (rules : FrontRules) (late : Bool) (past : Past) (k : Kept) (seen : ArrayVec Seen) (pick : Pick) (picked : BoardView)
     (candidate : Candidate) (rest : List Candidate) (table : TableView) (c : ℕ) (board : BoardView) (v : Verdict)
@@ -289,6 +315,13 @@ by_verdict rules late past k seen pick picked candidate rest table c board (verd
     none_kept past _ k _ s.deletion can.none_pending refl refl refl (later (λ q e. cc))
 by_verdict rules late past k seen pick picked candidate rest table c board (verdict.SetArbitration settings) s can z apply tells none later =
     none_kept past _ k _ s.deletion can.none_pending refl refl refl (later (λ q e. cc))
+by_verdict rules late past k seen pick picked candidate rest table c board (verdict.Abort sqid cid) s can z apply tells none later =
+    let o : Option Queue = target_of past sqid in
+    let after : Kept = aborting_from (applied_to k picked table) candidate c cid board o in
+    none_kept past (with_events (abort_in past cid o) (event.Pick seen pick ∷ past)) k after s.deletion can.none_pending
+    (aborting_leaves_deletion (applied_to k picked table) candidate c cid board o)
+    (abort_leaves_pending past (event.Pick seen pick ∷ past) cid o) (abort_leaves_deleting past (event.Pick seen pick ∷ past) cid o)
+    (subst (λ (t : TableView). NoneCloses (sq_of t)) (sym (aborting_leaves_table (applied_to k picked table) candidate c cid board o)) (later (λ q e. cc)))
 by_verdict rules late past k seen pick picked candidate rest table c board (CloseCq qid) s can z apply tells none later = by_cq (open_cq past qid) where
   by_cq : (o : Option ℕ) → HoldsDeletion (with_events (closed_cq_of qid o) (event.Pick seen pick ∷ past)) (after_admin past (applied_to k picked table) candidate c board (CloseCq qid))
   by_cq None = none_kept past _ k _ s.deletion can.none_pending refl refl refl (later (λ q e. cc))

@@ -1,7 +1,7 @@
 -- What a job that is handed and a result that is gained leave.
-use Rattle.std.proofs.Common.{◌≡◌, ℕ, ◌==◌, Bool, true, false, if◌then◌else◌, List, [], ◌∷◌, ◌++◌, refl, sym, ap, ◌∙◌, append_assoc, eqb-true}
+use Rattle.std.proofs.Common.{◌≡◌, ℕ, ◌==◌, Bool, true, false, if◌then◌else◌, List, [], ◌∷◌, ◌++◌, refl, sym, ap, ◌∙◌, eqb-true}
 use Rattle.std.specs.Prelude.{All}
-use Rattle.std.proofs.lemmas.List.Elements.{All-nil, All-cons, All-head, All-tail, All-same}
+use Rattle.std.proofs.lemmas.List.Elements.{All-nil, All-cons, All-head}
 use Rattle.nvme_entry.specs.Outcome.{outcome_of}
 use Rattle.nvme_pool.specs.declared.jobs.Job.{Job}
 use Rattle.nvme_pool.specs.declared.jobs.Finished.{Finished}
@@ -9,7 +9,6 @@ use Rattle.nvme_state.specs.declared.candidate.Dispatched.{Dispatched}
 use Rattle.nvme_state.specs.declared.candidate.Ready.{Ready}
 use Rattle.nvme_log.specs.Rules.{FrontRules, Past}
 use Rattle.nvme_state.specs.inside.Jobs.{JobsView, IsResultOf, handed_jobs, gained_jobs}
-use Rattle.nvme_state.specs.Hands.{in_hand}
 use Rattle.nvme_state.specs.inside.Kept.{CqKept, Kept}
 use Rattle.nvme_state.specs.inside.Standing.{IsDispatched, HoldsJobs, HoldsCounts, HoldsQueues, HoldsDeletion, HoldsArbitration, HoldsTable, HasOwnStatus, Accounts}
 use Rattle.nvme_state.proofs.AfterSteps.{completed, after_gain}

@@ -9,8 +9,8 @@ use Rattle.nvme_admin.specs.declared.bounds.TheConstants.{MAX_REGIONS}
 use Rattle.nvme_state.specs.declared.candidate.PendingDelete.{PendingDelete}
 use Rattle.nvme_state.specs.declared.attachment.Attachment.{Attachment}
 use Rattle.nvme_log.specs.Rules.{FrontRules, Past, upto, sq_regions_of, cq_regions_of, slots_at}
-use Rattle.nvme_log.specs.Places.{fetched, places, fate_of, is_picked}
-use Rattle.nvme_log.specs.Completions.{is_posted}
+use Rattle.nvme_log.specs.Places.{fetched, places}
+use Rattle.nvme_log.specs.Completions.{is_posted, takes_place}
 use Rattle.nvme_log.specs.Laws.{as_open}
 use Rattle.nvme_state.specs.inside.Kept.{Kept}
 use Rattle.nvme_state.specs.inside.Standing.{HoldsSq, HoldsReady, HoldsCounts, HoldsPosts, HoldsQueues, HoldsDeletion, HoldsTable, IsPending, hand_of, Stands}
@@ -51,9 +51,9 @@ sum_by-further f m (suc n) le none = elim (cases_lt m (suc n)) [
   | inr from ↦ let same : m ≡ suc n = omega arith in ap (λ (x : ℕ). sum_by f (upto x)) (sym same)
 ]
 
--- how many picked places of a region have no completion posted
+-- how many places of a region that were picked, or that an Abort command aborted, have no completion posted
 abbrev outstanding_in : Past → ℕ → ℕ
-outstanding_in past r = length (filter (λ (i : ℕ). is_picked (fate_of past r i) && not (is_posted past r i)) (places past r))
+outstanding_in past r = length (filter (λ (i : ℕ). takes_place past r i && not (is_posted past r i)) (places past r))
 
 module _ (rules : FrontRules) (late : Bool) (past : Past) (k : Kept) (s : Stands rules late past k)
     (regions : TableHistory) (known : ℕ → List Sqe) (sq_slots free cq_slots : ℕ → ℕ) (nsq ncq : ℕ) (table : TableView)
@@ -101,7 +101,7 @@ module _ (rules : FrontRules) (late : Bool) (past : Past) (k : Kept) (s : Stands
     outstanding_is =
         s.counts.outstanding_is ∙ ap (λ (n : ℕ). sum_by (outstanding_in past) (upto n)) s.tabled.sq_number
         ∙ sym (ap (λ (n : ℕ). sum_by (outstanding_in past) (upto n)) g.sq_number
-        ∙ sum_by-further (outstanding_in past) k.nsq nsq g.sqs (λ r past_end. ap (λ (xs : List Sqe). length (filter (λ (i : ℕ). is_picked (fate_of past r i) && not (is_posted past r i)) (upto (length xs)))) (none_fetched r past_end)));
+        ∙ sum_by-further (outstanding_in past) k.nsq nsq g.sqs (λ r past_end. ap (λ (xs : List Sqe). length (filter (λ (i : ℕ). takes_place past r i && not (is_posted past r i)) (upto (length xs)))) (none_fetched r past_end)));
   }
 
   -- what was posted stays

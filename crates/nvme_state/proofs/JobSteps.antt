@@ -1,5 +1,5 @@
 -- The jobs stand after each step of a front.
-use Rattle.std.proofs.Common.{◌≡◌, ℕ, ◌+◌, Bool, List, [], ◌∷◌, ◌++◌, length, map, take, Option, Some, None, refl, sym, ap, ◌∙◌, subst, arith}
+use Rattle.std.proofs.Common.{◌≡◌, ℕ, ◌+◌, Bool, List, [], ◌∷◌, ◌++◌, length, map, take, Option, Some, None, refl, sym, ap, ◌∙◌, subst, arith, ◌==◌, ◌&&◌}
 use Rattle.std.specs.Prelude.{sum_by, option_map}
 use Rattle.std.specs.List.{flat_map}
 use Rattle.std.proofs.lemmas.Bool.{eq-eqb, ne_eqb}
@@ -27,22 +27,23 @@ use Rattle.nvme_state.specs.declared.candidate.Dispatched.{Dispatched}
 use Rattle.nvme_state.specs.declared.attachment.Attachment.{Attachment}
 use Rattle.nvme_log.specs.Rules.{FrontRules, Past}
 use Rattle.nvme_log.specs.Queues.{Queue, open_sq, open_cq, cq_region_of}
-use Rattle.nvme_log.specs.Places.{Place, waiting, entry_at}
-use Rattle.nvme_log.specs.Effects.{closing_of, closed_cq_of}
+use Rattle.nvme_log.specs.Places.{Place, waiting, entry_at, one_if}
+use Rattle.nvme_log.specs.Effects.{closing_of, closed_cq_of, abort_in, named, target_of}
 use Rattle.nvme_state.specs.inside.Jobs.{JobsView, dispatched_from}
 use Rattle.nvme_state.specs.Hands.{in_hand, job_in}
 use Rattle.nvme_log.specs.Dispatches.{place_at, dispatched_by, dispatched, AreJobs}
 use Rattle.nvme_state.specs.inside.Kept.{Kept}
 use Rattle.nvme_state.specs.inside.Standing.{HoldsJobs, IsDispatched, AreFreshJobs, Stands}
-use Rattle.nvme_state.specs.inside.Steps.{applied_to, verdict_at}
+use Rattle.nvme_state.specs.inside.Steps.{applied_to, verdict_at, oldest_named}
 use Rattle.nvme_state.proofs.Windows.{sum_by-map}
 use Rattle.nvme_state.proofs.Served.{aborts-leave, entry_stays}
 use Rattle.nvme_state.proofs.Readying.{waiting-unaborted}
 use Rattle.nvme_state.proofs.ReadyAdmin.{aborts-other, served-apart, unused_apart}
 use Rattle.nvme_state.proofs.AccountSteps.{io_region}
-use Rattle.nvme_state.proofs.AfterSteps.{with_events, admin_past, after_admin, deleting_from, fetch_event, post_event, closed_event}
+use Rattle.nvme_state.proofs.AfterSteps.{with_events, admin_past, after_admin, deleting_from, fetch_event, post_event, closed_event, aborting_from, aborting_in}
 use Rattle.nvme_state.proofs.StepKeeps.{KeepsFetch, KeepsIo, KeepsHand, KeepsGain, KeepsStray, KeepsAdmin, KeepsPost, KeepsClose, Jobs}
 use Rattle.nvme_state.proofs.JobAccounts.{each-gained, Leaves, with_events-longer, jobs_left, AreJobs-stay, AreJobs-append, AreJobs-picked, dispatched-each, sum_by-flat_map, sum_by-gained_one, sum_by-one, sum_by-gained, result_is}
+use Rattle.nvme_state.proofs.Named.{named_among}
 
 -- where no command was picked there are no jobs
 pub jobs-when-fresh : (sizes : List ℕ) (j : JobsView) → AreFreshJobs j → HoldsJobs sizes [] j
@@ -274,6 +275,22 @@ module _ (rules : FrontRules) (late : Bool) (past : Past) (k : Kept) (seen : Arr
         unaborted = λ r i served h. aborts-other region r i ws middle (served-apart past region r i served) ∙ h;
       }
 
+  -- an Abort command aborts a place that waits
+  aborting-leaves : (cid : ℕ) (o : Option Queue) → Leaves past (with_events (abort_in past cid o) (event.Pick seen pick ∷ past))
+  aborting-leaves cid None = pick-leaves
+  aborting-leaves cid (Some queue) =
+      let region : ℕ = queue.region in
+      let ws : List ℕ = take 1 (named past region cid) in
+      let middle : Past = event.Pick seen pick ∷ past in
+      record {
+        none_dispatched = aborts-leave (λ (p : Past). dispatched p) (λ p r i. refl) region ws middle ∙ none_picked;
+        longer = omega (arith, with_events-longer (map (λ (i : ℕ). event.Abort region i) ws) middle);
+        entries = λ r i e h. aborts-leave (λ (p : Past). entry_at p r i) (λ p x j. refl) region ws middle ∙ h;
+        cq_regions = λ r c h. aborts-leave (λ (p : Past). cq_region_of p r) (λ p x j. refl) region ws middle ∙ h;
+        unaborted = λ r i served h. aborts-other region r i ws middle
+            (named_among (λ (j : ℕ). one_if (region == r && j == i)) past region cid (served-apart past region r i served)) ∙ h;
+      }
+
   -- what a verdict makes
   verdict-leaves : (v : Verdict) → IsDue (queue_table rules.start s.tabled.history) v → Leaves past (admin_past past (event.Pick seen pick) v)
   verdict-leaves (Done status dw0) due = pick-leaves
@@ -287,6 +304,7 @@ module _ (rules : FrontRules) (late : Bool) (past : Past) (k : Kept) (seen : Arr
   verdict-leaves (verdict.OpenCq qid region) due =
       record { none_dispatched = none_picked; longer = omega arith; entries = λ r i e h. h; cq_regions = λ r c h. h; unaborted = λ r i served h. h }
   verdict-leaves (CloseCq qid) due = closing-leaves qid (open_cq past qid)
+  verdict-leaves (verdict.Abort sqid cid) due = aborting-leaves cid (target_of past sqid)
   verdict-leaves (verdict.SetArbitration settings) due =
       record { none_dispatched = none_picked; longer = omega arith; entries = λ r i e h. h; cq_regions = λ r c h. h; unaborted = λ r i served h. h }
   verdict-leaves (BeginDelete qid) due = deleting-leaves qid (open_sq past qid)
@@ -298,6 +316,14 @@ same_jobs past k candidate c board (verdict.OpenSq qid region cqid class) = refl
 same_jobs past k candidate c board (verdict.OpenCq qid region) = refl
 same_jobs past k candidate c board (CloseCq qid) = refl
 same_jobs past k candidate c board (verdict.SetArbitration settings) = refl
+same_jobs past k candidate c board (verdict.Abort sqid cid) = same (target_of past sqid) where
+  found : (queue : Queue) (o : Option Candidate) → (aborting_in k candidate queue.region c cid board o).jobs ≡ k.jobs
+  found queue None = refl
+  found queue (Some it) = refl
+
+  same : (o : Option Queue) → (aborting_from k candidate c cid board o).jobs ≡ k.jobs
+  same None = refl
+  same (Some queue) = found queue (oldest_named cid (k.sq queue.region).window)
 same_jobs past k candidate c board (BeginDelete qid) = same (open_sq past qid) where
   same : (o : Option Queue) → (deleting_from k qid c candidate o).jobs ≡ k.jobs
   same None = refl

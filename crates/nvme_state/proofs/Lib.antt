@@ -1,9 +1,13 @@
 pub mod AfterSteps
 pub mod StepKeeps
 pub mod Windows
+pub mod Named
 pub mod Regions
 pub mod Served
+pub mod AbortRequests
 pub mod PostedPlaces
+pub mod AdminPick
+pub mod AbortCounts
 pub mod Counts
 pub mod QueueWords
 pub mod QueueChanges
@@ -17,12 +21,14 @@ pub mod ArbitrationSteps
 pub mod OwnStatus
 pub mod AccountSteps
 pub mod AccountEvents
+pub mod MadePlaces
 pub mod AccountAdmin
 pub mod Accounted
 pub mod Readying
 pub mod ReadyChange
 pub mod ReadyAdmin
 pub mod ReadyGains
+pub mod AbortReady
 pub mod ReadySteps
 pub mod JobAccounts
 pub mod Balances
@@ -38,4 +44,5 @@ pub mod ReadyRoom
 pub mod AppliedRoom
 pub mod Knowing
 pub mod JobLists
+pub mod NamedPositions
 pub mod Taken

@@ -1,14 +1,14 @@
 -- The own status of a place that doesn't wait stays, and that of a picked admin command is what its verdict answers.
-use Rattle.std.proofs.Common.{◌≡◌, ℕ, zero, suc, ◌+◌, ◌<◌, ◌≤◌, ◌==◌, ◌&&◌, ◌||◌, not, nat_lt, Bool, true, false, if◌then◌else◌, List, [], ◌∷◌, ◌++◌, length, map, Option, Some, None, refl, sym, ap, ◌∙◌, subst, arith, inl, inr, eqb-true, eq-eqb, get_or}
+use Rattle.std.proofs.Common.{◌≡◌, ℕ, zero, suc, ◌+◌, ◌<◌, ◌≤◌, ◌==◌, ◌&&◌, ◌||◌, not, nat_lt, Bool, true, false, if◌then◌else◌, List, [], ◌∷◌, ◌++◌, length, map, take, Option, Some, None, refl, sym, ap, ◌∙◌, subst, arith, inl, inr, eqb-true, eq-eqb, get_or}
 use Rattle.std.specs.Prelude.{slice_get, All}
 use Rattle.std.proofs.lemmas.Bool.{cases_lt, and_parts, not-true, and_from, or_left, or_right, false_from_ne_true, ne_eqb}
-use Rattle.std.proofs.lemmas.List.Elements.{All-nil, All-cons, All-head, All-tail, All-weaker, All-append, filter_passes, All-same}
+use Rattle.std.proofs.lemmas.List.Elements.{All-nil, All-cons, All-head, All-tail, All-weaker, All-append, All-filter, All-take, filter_passes, All-same}
 use Rattle.std.proofs.lemmas.List.Sums.{get_or-le-sum_by}
-use Rattle.nvme_entry.specs.Status.{StatusCode, success}
+use Rattle.nvme_entry.specs.Status.{StatusCode, success, abort_requested, aborted_by_deletion}
 use Rattle.nvme_entry.specs.AdminCommand.{admin_command_of}
 use Rattle.nvme_entry.specs.declared.submission.Sqe.{Sqe}
 use Rattle.nvme_entry.specs.declared.admin.AdminCommand.{AdminCommand}
-use Rattle.nvme_entry.specs.declared.admin.AdminCommand.TheVariants.{DeleteSq, CreateSq, DeleteCq, CreateCq, SetFeatures, GetFeatures, Other}
+use Rattle.nvme_entry.specs.declared.admin.AdminCommand.TheVariants.{DeleteSq, CreateSq, DeleteCq, CreateCq, Abort, SetFeatures, GetFeatures, Other}
 use Rattle.nvme_arbiter.specs.Settings.{ArbitrationFields}
 use Rattle.nvme_admin.specs.declared.bounds.TheConstants.{MAX_REGIONS}
 use Rattle.nvme_admin.specs.declared.verdict.SqEntry.{SqEntry}
@@ -18,45 +18,54 @@ use Rattle.nvme_admin.specs.Accepted.{queue_table, status_of, dw0_of, verdict_of
 use Rattle.nvme_admin.specs.declared.verdict.Verdict.TheVariants.{Done}
 use Rattle.nvme_admin.specs.declared.verdict.Verdict.TheVariants as verdict
 use Rattle.nvme_admin.specs.Checks.{is_success, numbers_dw0, dw0_after, verdict_after, opened_sq, opened_cq, status_in, dw0_in}
-use Rattle.nvme_log.specs.declared.event.Event.TheVariants.{Abort}
+use Rattle.nvme_log.specs.declared.event.Event.TheVariants as event
 use Rattle.nvme_state.specs.declared.candidate.Candidate.{Candidate}
 use Rattle.nvme_state.specs.declared.candidate.Ready.{Ready}
 use Rattle.nvme_log.specs.Rules.{Past, FrontRules}
-use Rattle.nvme_log.specs.Places.{Place, fetched, waiting, places, WasAborted, WasPicked, Waits, fate_of, is_waiting, is_aborted, unaborted_below, picked, Fate}
+use Rattle.nvme_log.specs.Places.{Place, fetched, entry_at, waiting, places, WasAborted, WasPicked, Waits, fate_of, is_waiting, is_aborted, unaborted_below, picked, Fate}
 use Rattle.nvme_log.specs.Completions.{is_posted, posts_of, table_before, own_status, own_dw0}
 use Rattle.nvme_state.specs.inside.Kept.{SqKept, CqKept, Kept}
 use Rattle.nvme_log.specs.Places.{one_if, is_served}
 use Rattle.nvme_state.specs.inside.Standing.{times_in, times_held, over_regions, times_ready, HoldsSq, HoldsReady, HasOwnStatus}
 use Rattle.nvme_log.proofs.Posts.{posts_of-some}
 use Rattle.nvme_state.proofs.AfterSteps.{with_events, with_readies}
+use Rattle.nvme_log.specs.Aborts.{took_abort, is_abort_requested, has_aborted, told_dw0}
+use Rattle.nvme_log.specs.Effects.{has_cid, named}
 
 -- ---- the own status of a place
--- a choice with the same test, whose inner result is the same where it is asked for
-same_choice : {A : Type 0} (b c z : Bool) (x p q y : A) → c ≡ b → (z ≡ true → q ≡ p) → (if c then x else (if z then q else y)) ≡ (if b then x else (if z then p else y))
-same_choice true true z x p q y e h = refl
-same_choice false false true x p q y e h = h refl
-same_choice false false false x p q y e h = refl
-same_choice true false z x p q y e h = cc
-same_choice false true z x p q y e h = cc
+-- a choice with the same test and the same first result, whose inner result is the same where it is asked for
+same_choice : {A : Type 0} (b c z : Bool) (x w p q y : A) → c ≡ b → w ≡ x → (z ≡ true → q ≡ p) → (if c then w else (if z then q else y)) ≡ (if b then x else (if z then p else y))
+same_choice true true z x w p q y e f h = f
+same_choice false false true x w p q y e f h = h refl
+same_choice false false false x w p q y e f h = refl
+same_choice true false z x w p q y e f h = cc
+same_choice false true z x w p q y e f h = cc
 
--- what a place's own completion says stays in a later log: its being aborted, and of an admin place the table history at its pick
+-- what a place's own completion says stays in a later log: its being aborted, and by what, and of an admin place the table history at its pick and
+-- whether it aborted another
 pub record Stays (rules : FrontRules) (past later : Past) (r i : ℕ) : Type 0 where
   pub aborted : is_aborted later r i ≡ is_aborted past r i
+  pub requested : is_abort_requested later r i ≡ is_abort_requested past r i
   pub table : r ≡ 0 → table_before rules later i ≡ table_before rules past i
+  pub told : r ≡ 0 → has_aborted later i ≡ has_aborted past i
 
 -- the status of a place that stays so is the same
 pub own_status-stays : (rules : FrontRules) (past later : Past) (r i : ℕ) (entry : Sqe) → Stays rules past later r i
     → own_status rules later r i entry ≡ own_status rules past r i entry
 own_status-stays rules past later r i entry h =
-    same_choice (is_aborted past r i) (is_aborted later r i) (r == 0) _ _ _ _ h.aborted
+    same_choice (is_aborted past r i) (is_aborted later r i) (r == 0) _ _ _ _ _ h.aborted
+    (ap (λ (b : Bool). if b then abort_requested else aborted_by_deletion) h.requested)
     (λ zero. ap (λ (t : TableHistory). status_of rules.start t entry) (h.table (eqb-true r 0 zero)))
 
 -- so is its Command Dword 0
 pub own_dw0-stays : (rules : FrontRules) (past later : Past) (r i : ℕ) (entry : Sqe) → Stays rules past later r i
     → own_dw0 rules later r i entry ≡ own_dw0 rules past r i entry
 own_dw0-stays rules past later r i entry h =
-    same_choice (is_aborted past r i) (is_aborted later r i) (r == 0) _ _ _ _ h.aborted
-    (λ zero. ap (λ (t : TableHistory). dw0_of rules.start t entry) (h.table (eqb-true r 0 zero)))
+    same_choice (is_aborted past r i) (is_aborted later r i) (r == 0) _ _ _ _ _ h.aborted refl
+    (λ zero.
+    let told = h.told (eqb-true r 0 zero) in
+    let table = h.table (eqb-true r 0 zero) in
+    (λ t. told_dw0 (told t) (verdict_of rules.start (table t) entry) (dw0_of rules.start (table t) entry)))
 
 -- a ready completion keeps the status of its place in a later log
 pub HasOwnStatus-stays : (rules : FrontRules) (past later : Past) (t : Ready) → Stays rules past later t.region t.index
@@ -157,48 +166,67 @@ oldest_waits past r s c rest h w = rw (h.waiting_is, w) refl
 -- ---- aborts
 -- a place that isn't among those aborted
 pub aborts_leave : (r x i : ℕ) (is : List ℕ) (past : Past) → All (λ (j : ℕ). (r == x && j == i) ≡ false) is
-    → is_aborted (with_events (map (λ (j : ℕ). Abort r j) is) past) x i ≡ is_aborted past x i
+    → is_aborted (with_events (map (λ (j : ℕ). event.Abort r j) is) past) x i ≡ is_aborted past x i
 aborts_leave r x i [] past h = refl
 aborts_leave r x i (j ∷ is) past h =
-    aborts_leave r x i is (Abort r j ∷ past) (All-tail (λ (j : ℕ). (r == x && j == i) ≡ false) j is h)
+    aborts_leave r x i is (event.Abort r j ∷ past) (All-tail (λ (j : ℕ). (r == x && j == i) ≡ false) j is h)
     ∙ ap (λ (b : Bool). b || is_aborted past x i) (All-head (λ (j : ℕ). (r == x && j == i) ≡ false) j is h)
 
--- aborts leave what doesn't wait
-pub aborts_leave_done : (r x i : ℕ) (past later : Past) → is_waiting (fate_of past x i) ≡ false
-    → is_aborted (with_events (map (λ (j : ℕ). Abort r j) (waiting past r)) later) x i ≡ is_aborted later x i
-aborts_leave_done r x i past later h = aborts_leave r x i (waiting past r) later
-    (All-weaker (λ (j : ℕ). is_waiting (fate_of past r j) ≡ true) (λ (j : ℕ). (r == x && j == i) ≡ false)
+-- whichever commands they are of
+pub requests_leave : (r x i : ℕ) (is : List ℕ) (past : Past) → All (λ (j : ℕ). (r == x && j == i) ≡ false) is
+    → is_abort_requested (with_events (map (λ (j : ℕ). event.Abort r j) is) past) x i ≡ is_abort_requested past x i
+requests_leave r x i [] past h = refl
+requests_leave r x i (j ∷ is) past h =
+    requests_leave r x i is (event.Abort r j ∷ past) (All-tail (λ (j : ℕ). (r == x && j == i) ≡ false) j is h)
+    ∙ ap (λ (b : Bool). (b && took_abort past) || is_abort_requested past x i) (All-head (λ (j : ℕ). (r == x && j == i) ≡ false) j is h)
+
+-- a place that doesn't wait is none of some that do
+pub waits_apart : (r x i : ℕ) (past : Past) (is : List ℕ) → All (λ (j : ℕ). is_waiting (fate_of past r j) ≡ true) is → is_waiting (fate_of past x i) ≡ false
+    → All (λ (j : ℕ). (r == x && j == i) ≡ false) is
+waits_apart r x i past is wait h =
+    All-weaker (λ (j : ℕ). is_waiting (fate_of past r j) ≡ true) (λ (j : ℕ). (r == x && j == i) ≡ false)
     (λ j w. false_from_ne_true (r == x && j == i) (λ same. let parts = and_parts (r == x) (j == i) same in
     let er : r ≡ x = eqb-true r x parts.0 in
     let ej : j ≡ i = eqb-true j i parts.1 in
     let moved : is_waiting (fate_of past x i) ≡ true = subst (λ (z : ℕ). is_waiting (fate_of past x z) ≡ true) ej (subst (λ (z : ℕ). is_waiting (fate_of past z j) ≡ true) er w) in
-    cc (moved, h))) (waiting past r) (waiting_wait past r))
+    cc (moved, h))) is wait
+
+-- the place that an Abort command names waits
+pub named_wait : (past : Past) (r cid : ℕ) → All (λ (i : ℕ). is_waiting (fate_of past r i) ≡ true) (take 1 (named past r cid))
+named_wait past r cid =
+    All-take (λ (i : ℕ). is_waiting (fate_of past r i) ≡ true) 1 (named past r cid)
+    (All-filter (λ (i : ℕ). has_cid cid (entry_at past r i)) (λ (i : ℕ). is_waiting (fate_of past r i) ≡ true) (waiting past r) (waiting_wait past r))
+
+-- aborts leave what doesn't wait
+pub aborts_leave_done : (r x i : ℕ) (past later : Past) → is_waiting (fate_of past x i) ≡ false
+    → is_aborted (with_events (map (λ (j : ℕ). event.Abort r j) (waiting past r)) later) x i ≡ is_aborted later x i
+aborts_leave_done r x i past later h = aborts_leave r x i (waiting past r) later (waits_apart r x i past (waiting past r) (waiting_wait past r) h)
 
 -- aborts leave every other region
 pub aborts_leave_region : (r x i : ℕ) (is : List ℕ) (past : Past) → (r ≡ x → ⊥)
-    → is_aborted (with_events (map (λ (j : ℕ). Abort r j) is) past) x i ≡ is_aborted past x i
+    → is_aborted (with_events (map (λ (j : ℕ). event.Abort r j) is) past) x i ≡ is_aborted past x i
 aborts_leave_region r x i is past n = aborts_leave r x i is past (λ k d lt. rw (ne_eqb r x n) refl)
 
 -- an aborted place stays aborted
 aborts_keep : (r x i : ℕ) (is : List ℕ) (past : Past) → is_aborted past x i ≡ true
-    → is_aborted (with_events (map (λ (j : ℕ). Abort r j) is) past) x i ≡ true
+    → is_aborted (with_events (map (λ (j : ℕ). event.Abort r j) is) past) x i ≡ true
 aborts_keep r x i [] past h = h
-aborts_keep r x i (j ∷ is) past h = aborts_keep r x i is (Abort r j ∷ past) (or_right (r == x && j == i) (is_aborted past x i) h)
+aborts_keep r x i (j ∷ is) past h = aborts_keep r x i is (event.Abort r j ∷ past) (or_right (r == x && j == i) (is_aborted past x i) h)
 
 -- all those that are aborted
 pub aborts_all : (r : ℕ) (is : List ℕ) (past : Past)
-    → All (λ (i : ℕ). is_aborted (with_events (map (λ (j : ℕ). Abort r j) is) past) r i ≡ true) is
+    → All (λ (i : ℕ). is_aborted (with_events (map (λ (j : ℕ). event.Abort r j) is) past) r i ≡ true) is
 aborts_all r [] past = All-nil (λ (i : ℕ). is_aborted past r i ≡ true)
 aborts_all r (j ∷ is) past =
-    All-cons (λ (i : ℕ). is_aborted (with_events (map (λ (j : ℕ). Abort r j) is) (Abort r j ∷ past)) r i ≡ true) j is
-    (aborts_keep r r j is (Abort r j ∷ past) (or_left (r == r && j == j) (is_aborted past r j) (and_from (r == r) (j == j) (eq-eqb r r refl) (eq-eqb j j refl))))
-    (aborts_all r is (Abort r j ∷ past))
+    All-cons (λ (i : ℕ). is_aborted (with_events (map (λ (j : ℕ). event.Abort r j) is) (event.Abort r j ∷ past)) r i ≡ true) j is
+    (aborts_keep r r j is (event.Abort r j ∷ past) (or_left (r == r && j == j) (is_aborted past r j) (and_from (r == r) (j == j) (eq-eqb r r refl) (eq-eqb j j refl))))
+    (aborts_all r is (event.Abort r j ∷ past))
 
 -- aborts leave the table history at a pick
 pub aborts_leave_table : (rules : FrontRules) (r i : ℕ) (is : List ℕ) (past : Past)
-    → table_before rules (with_events (map (λ (j : ℕ). Abort r j) is) past) i ≡ table_before rules past i
+    → table_before rules (with_events (map (λ (j : ℕ). event.Abort r j) is) past) i ≡ table_before rules past i
 aborts_leave_table rules r i [] past = refl
-aborts_leave_table rules r i (j ∷ is) past = aborts_leave_table rules r i is (Abort r j ∷ past)
+aborts_leave_table rules r i (j ∷ is) past = aborts_leave_table rules r i is (event.Abort r j ∷ past)
 
 -- ---- verdicts
 -- what counts as success is success
@@ -231,6 +259,7 @@ accepted-answers t (CreateSq qid qsize prp1 cqid qprio pc) = opened_sq-answers q
 accepted-answers t (CreateCq qid qsize prp1 pc) = opened_cq-answers qid (t.cq qid)
 accepted-answers t (DeleteSq qid) = (refl, refl)
 accepted-answers t (DeleteCq qid) = (refl, refl)
+accepted-answers t (Abort sqid cid) = (refl, refl)
 accepted-answers t (SetFeatures fid sv cdw11) = set-answers (fid == number_of_queues) (dw0_after t (SetFeatures fid sv cdw11)) (numbers_dw0 t) t.settings refl
 accepted-answers t (GetFeatures fid) = (refl, refl)
 accepted-answers t Other = (refl, refl)

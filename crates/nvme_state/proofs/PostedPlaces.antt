@@ -1,7 +1,7 @@
 -- The posted places of a region, and how many places are unposted by them.
 use Rattle.std.proofs.Common.{◌≡◌, ℕ, zero, suc, ◌+◌, ◌<◌, ◌≤◌, Bool, true, false, not, ◌&&◌, ◌||◌, nat_lt, ◌==◌, if◌then◌else◌, List, [], ◌∷◌, map, length, refl, sym, ap, ◌∙◌, subst, arith, ⊎_elim, All}
 use Rattle.std.proofs.lemmas.Bool.{ltb-true, lt-ltb, and_parts, and_left, eqb-true, eq-eqb, ne_eqb, cases_eq, cases_lt, or_right, or_cases, false_from_ne_true, false≢true}
-use Rattle.std.proofs.lemmas.List.Elements.{All-head, All-tail, filter_passes}
+use Rattle.std.proofs.lemmas.List.Elements.{filter_passes}
 use Rattle.std.proofs.lemmas.List.Sums.{sum_by-cons}
 use Rattle.std.specs.Prelude.{slice_index_or}
 use Rattle.nvme_entry.specs.declared.completion.Cqe.{Cqe}
@@ -15,13 +15,15 @@ use Rattle.arrayvec.specs.ArrayVec.{ArrayVec}
 use Rattle.nvme_log.specs.Rules.{Past, upto}
 use Rattle.nvme_log.specs.Queues.{has_region, open_sq}
 use Rattle.nvme_log.specs.Places.{Place, fetched, places, waiting, picked, fate_of, is_waiting, is_picked, is_aborted, unaborted_below}
-use Rattle.nvme_log.specs.Completions.{is_posted, posts_of}
+use Rattle.nvme_log.specs.Aborts.{is_abort_requested, is_aborted_with_queue}
+use Rattle.nvme_log.specs.Completions.{is_posted, posts_of, takes_place}
 use Rattle.nvme_log.specs.Laws.{count_of}
 use Rattle.nvme_state.specs.inside.Kept.{Kept}
 use Rattle.nvme_log.specs.Places.{one_if, is_served}
 use Rattle.nvme_log.specs.Completions.{unposted_of}
 use Rattle.nvme_state.specs.inside.Standing.{HoldsReady, over_regions, times_in}
 use Rattle.nvme_state.proofs.AfterSteps.{with_events}
+use Rattle.nvme_state.proofs.AbortRequests.{requested_aborted}
 use Rattle.nvme_log.proofs.Fates.{length-upto}
 use Rattle.nvme_log.proofs.Posts.{posts_of-some}
 use Rattle.nvme_log.proofs.Counting.{counts_add, counts_all, counts_same, counts_less, counts_change, fate_by, picked_among}
@@ -30,13 +32,17 @@ use Rattle.nvme_log.proofs.Counting.{counts_add, counts_all, counts_same, counts
 abbrev pub posted_places : Past → ℕ → ℕ
 posted_places past r = count_of (λ (i : ℕ). is_posted past r i) (places past r)
 
--- and how many of those weren't aborted
-abbrev pub posted_picks : Past → ℕ → ℕ
-posted_picks past r = count_of (λ (i : ℕ). is_posted past r i && not (is_aborted past r i)) (places past r)
+-- and how many of those weren't aborted with their queue
+abbrev pub posted_takers : Past → ℕ → ℕ
+posted_takers past r = count_of (λ (i : ℕ). is_posted past r i && not (is_aborted_with_queue past r i)) (places past r)
 
--- how many places of a region are picked and have no post
+-- how many places of a region Abort commands aborted
+abbrev pub requested_places : Past → ℕ → ℕ
+requested_places past r = count_of (λ (i : ℕ). is_abort_requested past r i) (places past r)
+
+-- how many places of a region that were picked, or that an Abort command aborted, have no post
 abbrev pub outstanding_of : Past → ℕ → ℕ
-outstanding_of past r = count_of (λ (i : ℕ). is_picked (fate_of past r i) && not (is_posted past r i)) (places past r)
+outstanding_of past r = count_of (λ (i : ℕ). takes_place past r i && not (is_posted past r i)) (places past r)
 
 -- what is posted doesn't wait
 abbrev pub PostedServed : Past → ℕ → Type 0
@@ -73,22 +79,38 @@ unaborted_are past r n =
       parts false true = refl
       parts false false = refl
 
--- the outstanding places of a region, and its posted picks, are as many as its picked commands
+-- the outstanding places of a region, and the posted ones that weren't aborted with their queue, are its picked ones and those that Abort commands
+-- aborted
 pub outstanding_by : (past : Past) (r : ℕ) → PostedServed past r → picked past r ≤ unaborted_below past r (length (fetched past r))
-    → outstanding_of past r + posted_picks past r ≡ picked past r
+    → outstanding_of past r + posted_takers past r ≡ picked past r + requested_places past r
 outstanding_by past r h few =
-    counts_add (λ (i : ℕ). is_picked (fate_of past r i) && not (is_posted past r i)) (λ (i : ℕ). is_posted past r i && not (is_aborted past r i))
-    (λ (i : ℕ). is_picked (fate_of past r i))
-    (λ (i : ℕ). parts (is_aborted past r i) (nat_lt (unaborted_below past r i) (picked past r)) (is_posted past r i) (h i)) (places past r)
-    ∙ picked_are past r (length (fetched past r)) few where
-      parts : (a b p : Bool) → (p ≡ true → is_waiting (fate_by a b) ≡ false)
-          → one_if (is_picked (fate_by a b) && not p) + one_if (p && not a) ≡ one_if (is_picked (fate_by a b))
-      parts true b true k = refl
-      parts true b false k = refl
-      parts false true true k = refl
-      parts false true false k = refl
-      parts false false true k = absurd (cc (k refl))
-      parts false false false k = refl
+    let unposted = counts_add (λ (i : ℕ). takes_place past r i && not (is_posted past r i)) (λ (i : ℕ). is_posted past r i && not (is_aborted_with_queue past r i))
+    (λ (i : ℕ). takes_place past r i)
+    (λ (i : ℕ). parts (is_aborted past r i) (nat_lt (unaborted_below past r i) (picked past r)) (is_posted past r i) (is_abort_requested past r i) (h i) (requested_aborted past r i))
+    (places past r) in
+    let takers = counts_add (λ (i : ℕ). is_picked (fate_of past r i)) (λ (i : ℕ). is_abort_requested past r i) (λ (i : ℕ). takes_place past r i)
+    (λ (i : ℕ). either (is_aborted past r i) (nat_lt (unaborted_below past r i) (picked past r)) (is_abort_requested past r i) (requested_aborted past r i))
+    (places past r) in
+    let picks = picked_are past r (length (fetched past r)) few in
+    omega (arith, unposted, takers, picks) where
+      parts : (a b p q : Bool) → (p ≡ true → is_waiting (fate_by a b) ≡ false) → (q ≡ true → a ≡ true)
+          → one_if ((is_picked (fate_by a b) || q) && not p) + one_if (p && not (a && not q)) ≡ one_if (is_picked (fate_by a b) || q)
+      parts true b true true k l = refl
+      parts true b true false k l = refl
+      parts true b false true k l = refl
+      parts true b false false k l = refl
+      parts false b p true k l = absurd (false≢true (l refl))
+      parts false true true false k l = refl
+      parts false true false false k l = refl
+      parts false false true false k l = absurd (cc (k refl))
+      parts false false false false k l = refl
+
+      either : (a b q : Bool) → (q ≡ true → a ≡ true) → one_if (is_picked (fate_by a b)) + one_if q ≡ one_if (is_picked (fate_by a b) || q)
+      either true b true l = refl
+      either true b false l = refl
+      either false b true l = absurd (false≢true (l refl))
+      either false true false l = refl
+      either false false false l = refl
 
 -- ---- what is posted doesn't wait
 -- each part of a sum over regions is within it
@@ -156,16 +178,6 @@ abort_served past r0 i0 r h i posted =
 abbrev pub aborts : ℕ → List ℕ → Past → Past
 aborts r0 is past = with_events (map (λ (i : ℕ). Abort r0 i) is) past
 
--- aborts leave the fetched entries
-pub aborts_fetched : (r0 : ℕ) (is : List ℕ) (past : Past) (r : ℕ) → fetched (aborts r0 is past) r ≡ fetched past r
-aborts_fetched r0 [] past r = refl
-aborts_fetched r0 (i ∷ is) past r = aborts_fetched r0 is (Abort r0 i ∷ past) r
-
--- aborts leave the picks
-pub aborts_picked : (r0 : ℕ) (is : List ℕ) (past : Past) (r : ℕ) → picked (aborts r0 is past) r ≡ picked past r
-aborts_picked r0 [] past r = refl
-aborts_picked r0 (i ∷ is) past r = aborts_picked r0 is (Abort r0 i ∷ past) r
-
 -- aborts leave the posted places
 pub aborts_posted : (r0 : ℕ) (is : List ℕ) (past : Past) (r : ℕ) → posted_places (aborts r0 is past) r ≡ posted_places past r
 aborts_posted r0 [] past r = refl
@@ -176,26 +188,6 @@ pub aborts_served : (r0 : ℕ) (is : List ℕ) (past : Past) (r : ℕ) → Poste
 aborts_served r0 [] past r h = h
 aborts_served r0 (i ∷ is) past r h = aborts_served r0 is (Abort r0 i ∷ past) r (abort_served past r0 i r h)
 
--- an abort of a place with no post leaves the posted picks
-pub abort_picks : (past : Past) (r0 i0 r : ℕ) → is_posted past r0 i0 ≡ false → posted_picks (Abort r0 i0 ∷ past) r ≡ posted_picks past r
-abort_picks past r0 i0 r none =
-    counts_same (λ (i : ℕ). is_posted past r i && not (is_aborted past r i)) (λ (i : ℕ). is_posted past r i && not (is_aborted (Abort r0 i0 ∷ past) r i))
-    (λ (i : ℕ). leaves (r0 == r && i0 == i) (is_posted past r i) (is_aborted past r i)
-    (λ here. let same = and_parts (r0 == r) (i0 == i) here in
-    subst (λ (z : ℕ). is_posted past r z ≡ false) (eqb-true i0 i same.1) (subst (λ (z : ℕ). is_posted past z i0 ≡ false) (eqb-true r0 r same.0) none)))
-    (places past r) where
-      leaves : (x p a : Bool) → (x ≡ true → p ≡ false) → (p && not (x || a)) ≡ (p && not a)
-      leaves true true a h = absurd (cc (h refl))
-      leaves true false a h = refl
-      leaves false p a h = refl
-
--- so do aborts of places with no post
-pub aborts_picks : (r0 : ℕ) (is : List ℕ) (past : Past) (r : ℕ) → All (λ (i : ℕ). is_posted past r0 i ≡ false) is → posted_picks (aborts r0 is past) r ≡ posted_picks past r
-aborts_picks r0 [] past r h = refl
-aborts_picks r0 (i ∷ is) past r h =
-    aborts_picks r0 is (Abort r0 i ∷ past) r (All-tail (λ (z : ℕ). is_posted past r0 z ≡ false) i is h)
-    ∙ abort_picks past r0 i r (All-head (λ (z : ℕ). is_posted past r0 z ≡ false) i is h)
-
 -- what waits has no post
 pub waiting_unposted : (past : Past) (r : ℕ) → PostedServed past r → All (λ (i : ℕ). is_posted past r i ≡ false) (waiting past r)
 waiting_unposted past r h k d lt =
@@ -204,8 +196,8 @@ waiting_unposted past r h k d lt =
     false_from_ne_true (is_posted past r i) (λ posted. false≢true (sym (h i posted) ∙ waits))
 
 -- ---- a post
--- tests that agree but at one index of a region, which passes only the second
-count_one : (t u : ℕ → Bool) (b : Bool) (i n : ℕ) → (b ≡ true → i < n) → (b ≡ true → t i ≡ false) → ((j : ℕ) → (b && i == j) ≡ false → u j ≡ t j)
+-- tests that agree but at one index of a region, which fails the first
+pub count_one : (t u : ℕ → Bool) (b : Bool) (i n : ℕ) → (b ≡ true → i < n) → (b ≡ true → t i ≡ false) → ((j : ℕ) → (b && i == j) ≡ false → u j ≡ t j)
     → count_of u (upto n) ≡ count_of t (upto n) + (if b then one_if (u i) else 0)
 count_one t u true i n lt none other =
     let change = counts_change t u i n (lt refl) (λ (j : ℕ) apart. other j (ne_eqb i j apart)) in
@@ -229,18 +221,19 @@ post_places past c r0 i0 r cqe lt none =
       by true = rw (eq-eqb i0 i0 refl) refl
       by false = refl
 
--- a first post of a fetched place counts it as a posted pick where it wasn't aborted
-pub post_picks : (past : Past) (c r0 i0 r : ℕ) (cqe : Cqe) → i0 < length (fetched past r0) → is_posted past r0 i0 ≡ false
-    → posted_picks (Post c r0 i0 cqe ∷ past) r ≡ posted_picks past r + (if r0 == r then one_if (not (is_aborted past r0 i0)) else 0)
-post_picks past c r0 i0 r cqe lt none =
-    count_one (λ (i : ℕ). is_posted past r i && not (is_aborted past r i)) (λ (i : ℕ). is_posted (Post c r0 i0 cqe ∷ past) r i && not (is_aborted past r i))
+-- and among those that weren't aborted with their queue where it wasn't
+pub post_takers : (past : Past) (c r0 i0 r : ℕ) (cqe : Cqe) → i0 < length (fetched past r0) → is_posted past r0 i0 ≡ false
+    → posted_takers (Post c r0 i0 cqe ∷ past) r ≡ posted_takers past r + (if r0 == r then one_if (not (is_aborted_with_queue past r0 i0)) else 0)
+post_takers past c r0 i0 r cqe lt none =
+    count_one (λ (i : ℕ). is_posted past r i && not (is_aborted_with_queue past r i))
+    (λ (i : ℕ). is_posted (Post c r0 i0 cqe ∷ past) r i && not (is_aborted_with_queue past r i))
     (r0 == r) i0 (length (fetched past r))
     (λ here. subst (λ (z : ℕ). i0 < length (fetched past z)) (eqb-true r0 r here) lt)
-    (λ here. and_left (is_posted past r i0) (not (is_aborted past r i0)) (at_region past r0 i0 r none here))
+    (λ here. and_left (is_posted past r i0) (not (is_aborted_with_queue past r i0)) (at_region past r0 i0 r none here))
     (λ (j : ℕ) apart. rw apart refl)
-    ∙ ap (λ (z : ℕ). posted_picks past r + z) (by (r0 == r) refl) where
-      by : (b : Bool) → (r0 == r) ≡ b → (if b then one_if (((b && i0 == i0) || is_posted past r i0) && not (is_aborted past r i0)) else 0)
-          ≡ (if b then one_if (not (is_aborted past r0 i0)) else 0)
+    ∙ ap (λ (z : ℕ). posted_takers past r + z) (by (r0 == r) refl) where
+      by : (b : Bool) → (r0 == r) ≡ b → (if b then one_if (((b && i0 == i0) || is_posted past r i0) && not (is_aborted_with_queue past r i0)) else 0)
+          ≡ (if b then one_if (not (is_aborted_with_queue past r0 i0)) else 0)
       by true e = rw (eq-eqb i0 i0 refl, eqb-true r0 r e) refl
       by false e = refl
 

@@ -32,6 +32,7 @@ use Rattle.nvme_state.specs.inside.Steps.{picked_sq, after_pick, applied_to, ver
 use Rattle.nvme_state.proofs.AfterSteps.{fetched_sq, after_admin, with_events}
 use Rattle.nvme_state.proofs.StepKeeps.{Queues, KeepsFetch, KeepsIo, KeepsAdmin, KeepsPost, KeepsClose}
 use Rattle.nvme_state.proofs.QueueWords.{in_log, in_kept, counted, OpenedFor, Agree, at_same, put-queue}
+use Rattle.nvme_state.proofs.Regions.{target_is, target_left}
 use Rattle.nvme_state.proofs.QueueVerdicts.{few_queues, verdict-agrees, verdict-table, verdict-unused}
 use Rattle.nvme_state.proofs.QueueChanges.{serve, post, finish}
 
@@ -189,7 +190,14 @@ queues-admin rules late past k seen pick picked candidate rest table c board s c
       unused = λ r e. still r ∙ h.unused r (was.sq_used r ∙ e);
       few = λ qid region cqid class e. few_queues table apply.sized qid _
           (now.sq qid ∙ tells.sqs qid ∙ ap (λ (w : Verdict). sq_after w (sq_at rules.start t) qid) e ∙ at_same qid qid _ _ refl);
-    }) chosen refl agrees)
+    }) chosen refl (λ sqid queue e.
+    let admin : open_sq past 0 ≡ Some admin_queue = subst (λ (q : ℕ). open_sq past q ≡ Some admin_queue) zero can.is_open in
+    let left : kept.sq queue.region ≡ k.sq queue.region = target_left past k h admin sqid queue e (picked_sq (k.sq 0) 1) in
+    record {
+      is_open = (target_is past sqid queue e).1;
+      left = left;
+      held = subst (λ (z : SqKept). HoldsSq past queue.region z) (sym left) (s.regions queue.region);
+    }) agrees)
     (λ q. events_sq rules (made_by past v) taken past (λ p. refl) q ∙ are.sq q ∙ ap as_open (sym (now.sq q)) ∙ ap (λ (w : TableView). as_open (sq_of w q)) (sym table_is))
     (λ q. events_cq rules (made_by past v) taken past (λ p. refl) q ∙ are.cq q ∙ sym (now.cq q) ∙ ap (λ (w : TableView). cq_of w q) (sym table_is))
     (λ r e. verdict-unused past kept candidate c board (queue_table rules.start t).sq_region_used (λ x f. still x ∙ h.unused x (was.sq_used x ∙ f)) v r

@@ -1,5 +1,6 @@
 -- What the verdict of an admin command makes of the queues.
-use Rattle.std.proofs.Common.{◌≡◌, ℕ, ◌≤◌, ◌<◌, ◌==◌, Bool, false, List, [], ◌∷◌, map, length, Option, Some, None, refl, sym, ◌∙◌, ap, subst, arith}
+use Rattle.std.proofs.Common.{◌≡◌, ℕ, ◌+◌, ◌≤◌, ◌<◌, ◌==◌, Bool, false, List, [], ◌∷◌, map, length, Option, Some, None, refl, sym, ◌∙◌, ap, subst, arith}
+use Rattle.std.specs.Prelude.{slice_set}
 use Rattle.std.proofs.lemmas.Bool.{eqb-false}
 use Rattle.nvme_arbiter.specs.Limits.{highest_qid}
 use Rattle.nvme_arbiter.specs.Board.{BoardView}
@@ -18,17 +19,21 @@ use Rattle.nvme_admin.specs.declared.verdict.Verdict.TheVariants.{Done, BeginDel
 use Rattle.nvme_admin.specs.declared.verdict.Verdict.TheVariants as verdict
 use Rattle.nvme_admin.proofs.Reached.{or_false-parts}
 use Rattle.nvme_admin.proofs.Slots.{within}
+use Rattle.nvme_log.specs.declared.event.Event.{Event}
 use Rattle.nvme_log.specs.declared.event.Event.TheVariants as event
 use Rattle.nvme_state.specs.declared.candidate.Candidate.{Candidate}
 use Rattle.nvme_log.specs.Rules.{FrontRules, Past}
 use Rattle.nvme_log.specs.Queues.{Queue, open_sq, open_cq}
 use Rattle.nvme_log.specs.Places.{waiting}
-use Rattle.nvme_log.specs.Effects.{closing_of, closed_cq_of, made_by}
-use Rattle.nvme_state.specs.inside.Kept.{SqKept, Kept}
-use Rattle.nvme_state.proofs.AfterSteps.{IsChosen, after_admin, deleting_from, with_events}
+use Rattle.nvme_log.specs.Effects.{abort_in, closing_of, closed_cq_of, made_by, target_of}
+use Rattle.nvme_state.specs.inside.Kept.{SqKept, Kept, put_sq}
+use Rattle.nvme_state.specs.inside.Standing.{HoldsSq}
+use Rattle.nvme_state.specs.inside.Steps.{oldest_named, without_oldest}
+use Rattle.nvme_state.proofs.AfterSteps.{IsAbortChosen, IsChosen, aborting_from, aborting_in, after_admin, deleting_from, with_events}
+use Rattle.nvme_state.proofs.Named.{made_abort, made_none}
 use Rattle.nvme_log.proofs.UsedRegions.{used_after}
 use Rattle.nvme_state.proofs.QueueWords.{KeptQueues, in_log, in_kept, Agree, at_other, put-queue}
-use Rattle.nvme_state.proofs.QueueChanges.{open_one, open_other, close_other, begin_delete}
+use Rattle.nvme_state.proofs.QueueChanges.{serve, open_one, open_other, close_other, begin_delete}
 
 -- the identifier of a queue of a table is one that a board has
 pub few_queues : (table : TableView) → IsSized table → (q : ℕ) (entry : SqEntry) → sq_of table q ≡ Some entry → q ≤ highest_qid
@@ -65,21 +70,60 @@ pub record Applies (rules : FrontRules) (history : TableHistory) (before k : Kep
   pub unused : (r : ℕ) → (queue_table rules.start history).sq_region_used r ≡ false → (k.sq r).queue ≡ None
   pub few : (qid region cqid : ℕ) (class : Class) → v ≡ verdict.OpenSq qid region cqid class → qid ≤ highest_qid
 
+-- of the queue whose candidates an Abort command may abort: it is open, and the pick of the command left its region
+pub record IsTarget (past : Past) (before k : Kept) (sqid : ℕ) (queue : Queue) : Type 0 where
+  pub is_open : open_sq past sqid ≡ Some queue
+  pub left : k.sq queue.region ≡ before.sq queue.region
+  pub held : HoldsSq past queue.region (k.sq queue.region)
+
 -- the queues agree after a verdict, where they do when its place is picked
 module _ (rules : FrontRules) (history : TableHistory) (past : Past) (seen : ArrayVec Seen) (pick : Pick) (before k : Kept) (candidate : Candidate) (c : ℕ) (picked board : BoardView) where
+  -- a candidate leaves the window of a queue, on the board too
+  found-agrees : (queue : Queue) (sqid cid : ℕ) (o : Option Candidate) → oldest_named cid (k.sq queue.region).window ≡ o
+      → ((found : Candidate) → o ≡ Some found → IsAbortChosen rules before sqid cid c picked board queue)
+      → k.board.queues ≡ picked.queues → IsTarget past before k sqid queue
+      → Agree (in_log (event.Pick seen pick ∷ past)) (in_kept k)
+      → Agree (in_log (with_events (abort_in past cid (Some queue)) (event.Pick seen pick ∷ past))) (in_kept (aborting_in k candidate queue.region c cid board o))
+  found-agrees queue sqid cid None is chosen same target h =
+      subst (λ (es : List Event). Agree (in_log (with_events es (event.Pick seen pick ∷ past))) (in_kept k))
+      (sym (made_none past cid queue (k.sq queue.region) target.held is)) h
+  found-agrees queue sqid cid (Some found) is chosen same target h =
+      let s : SqKept = record (k.sq queue.region) { window = without_oldest cid (k.sq queue.region).window; unposted = (k.sq queue.region).unposted + 1 } in
+      let choice = chosen found refl in
+      let queues : slice_set k.board.queues sqid (Some (record { class = queue.class; count = length s.window })) ≡ board.queues =
+      (λ t. slice_set (same t) sqid (Some (record { class = queue.class; count = length (without_oldest cid (target.left t).window) }))) ∙ sym choice.queues in
+      subst (λ (es : List Event). Agree (in_log (with_events es (event.Pick seen pick ∷ past))) (in_kept (aborting_in k candidate queue.region c cid board (Some found))))
+      (sym (made_abort past cid queue (k.sq queue.region) found target.held is))
+      (subst (λ (z : List (Option OpenQueue)). Agree (in_log past) (record (in_kept k) { sq = put_sq k.sq queue.region s; board = z })) queues
+      (serve (in_log past) (in_kept k) h sqid queue s target.is_open refl))
+
+  target-agrees : (o : Option Queue) (sqid cid : ℕ)
+      → ((queue : Queue) (found : Candidate) → o ≡ Some queue → oldest_named cid (before.sq queue.region).window ≡ Some found → IsAbortChosen rules before sqid cid c picked board queue)
+      → k.board.queues ≡ picked.queues → ((queue : Queue) → o ≡ Some queue → IsTarget past before k sqid queue)
+      → Agree (in_log (event.Pick seen pick ∷ past)) (in_kept k)
+      → Agree (in_log (with_events (abort_in past cid o) (event.Pick seen pick ∷ past))) (in_kept (aborting_from k candidate c cid board o))
+  target-agrees None sqid cid chosen same target h = h
+  target-agrees (Some queue) sqid cid chosen same target h =
+      let is = target queue refl in
+      found-agrees queue sqid cid (oldest_named cid (k.sq queue.region).window) refl
+      (λ found e. chosen queue found refl (ap (λ (z : SqKept). oldest_named cid z.window) (sym is.left) ∙ e)) same is h
+
   pub verdict-agrees : (v : Verdict) → Applies rules history before k v → IsChosen rules past before c picked board v → k.board.queues ≡ picked.queues
+      → ((sqid : ℕ) (queue : Queue) → target_of past sqid ≡ Some queue → IsTarget past before k sqid queue)
       → Agree (in_log (event.Pick seen pick ∷ past)) (in_kept k)
       → Agree (in_log (with_events (made_by past v) (event.Pick seen pick ∷ past))) (in_kept (after_admin past k candidate c board v))
-  verdict-agrees (Done status dw0) a chosen same h = h
-  verdict-agrees (verdict.SetArbitration settings) a chosen same h =
+  verdict-agrees (Done status dw0) a chosen same target h = h
+  verdict-agrees (verdict.Abort sqid cid) a chosen same target h =
+      target-agrees (target_of past sqid) sqid cid chosen same (target sqid) h
+  verdict-agrees (verdict.SetArbitration settings) a chosen same target h =
       subst (λ (z : List (Option OpenQueue)). Agree (in_log past) (record (in_kept k) { board = z })) (same ∙ sym chosen.0) h
-  verdict-agrees (verdict.OpenCq qid region) a chosen same h =
+  verdict-agrees (verdict.OpenCq qid region) a chosen same target h =
       open_other (in_log past) (in_kept k) h qid region (subst (λ (n : ℕ). region < n) a.cqs_there a.due.there)
-  verdict-agrees (CloseCq qid) a chosen same h = closes-agree qid (open_cq past qid) (event.Pick seen pick ∷ past) (in_kept k) h
-  verdict-agrees (verdict.OpenSq qid region cqid class) a chosen same h =
+  verdict-agrees (CloseCq qid) a chosen same target h = closes-agree qid (open_cq past qid) (event.Pick seen pick ∷ past) (in_kept k) h
+  verdict-agrees (verdict.OpenSq qid region cqid class) a chosen same target h =
       open_one (in_log past) (in_kept k) h qid region cqid c class (a.unused region a.due.unused) chosen
       (subst (λ (n : ℕ). region < n) a.sqs_there a.due.there) (a.few qid region cqid class refl)
-  verdict-agrees (BeginDelete qid) a chosen same h =
+  verdict-agrees (BeginDelete qid) a chosen same target h =
       deletes-agree past (event.Pick seen pick ∷ past) k candidate qid c (open_sq past qid) h refl (λ queue e. a.still queue.region ∙ chosen queue e)
 
 -- ---- the table
@@ -94,9 +138,26 @@ deleting-queue k qid c candidate None r = refl
 deleting-queue k qid c candidate (Some queue) r = put-queue k.sq queue.region _ refl r
 
 module _ (past : Past) (k : Kept) (candidate : Candidate) (c : ℕ) (board : BoardView) where
+  -- an Abort command changes no table
+  target-table : (cid : ℕ) (o : Option Queue) → (aborting_from k candidate c cid board o).table ≡ k.table
+  target-table cid None = refl
+  target-table cid (Some queue) = found (oldest_named cid (k.sq queue.region).window) where
+    found : (o : Option Candidate) → (aborting_in k candidate queue.region c cid board o).table ≡ k.table
+    found None = refl
+    found (Some it) = refl
+
+  -- nor what each region was opened for
+  target-queue : (cid : ℕ) (o : Option Queue) (r : ℕ) → ((aborting_from k candidate c cid board o).sq r).queue ≡ (k.sq r).queue
+  target-queue cid None r = refl
+  target-queue cid (Some queue) r = found (oldest_named cid (k.sq queue.region).window) where
+    found : (o : Option Candidate) → ((aborting_in k candidate queue.region c cid board o).sq r).queue ≡ (k.sq r).queue
+    found None = refl
+    found (Some it) = put-queue k.sq queue.region _ refl r
+
   -- a verdict leaves the table, which its command changed
   pub verdict-table : (v : Verdict) → (after_admin past k candidate c board v).table ≡ k.table
   verdict-table (Done status dw0) = refl
+  verdict-table (verdict.Abort sqid cid) = target-table cid (target_of past sqid)
   verdict-table (verdict.SetArbitration settings) = refl
   verdict-table (verdict.OpenCq qid region) = refl
   verdict-table (CloseCq qid) = refl
@@ -107,6 +168,7 @@ module _ (past : Past) (k : Kept) (candidate : Candidate) (c : ℕ) (board : Boa
   pub verdict-unused : (used : ℕ → Bool) → ((r : ℕ) → used r ≡ false → (k.sq r).queue ≡ None)
       → (v : Verdict) (r : ℕ) → used_after v used r ≡ false → ((after_admin past k candidate c board v).sq r).queue ≡ None
   verdict-unused used none (Done status dw0) r e = none r e
+  verdict-unused used none (verdict.Abort sqid cid) r e = target-queue cid (target_of past sqid) r ∙ none r e
   verdict-unused used none (verdict.SetArbitration settings) r e = none r e
   verdict-unused used none (verdict.OpenCq qid region) r e = none r e
   verdict-unused used none (CloseCq qid) r e = none r e

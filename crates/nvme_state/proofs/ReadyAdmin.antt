@@ -6,13 +6,13 @@ use Rattle.std.proofs.lemmas.List.{length-drop}
 use Rattle.std.proofs.lemmas.List.Sums.{sum_by-cons, sum_by-le}
 use Rattle.std.proofs.lemmas.List.Elements.{All-nil, All-cons, All-drop, All-map, All-same, All-head}
 use Rattle.arrayvec.specs.ArrayVec.{ArrayVec}
+use Rattle.nvme_entry.specs.Status.{StatusCode}
 use Rattle.nvme_arbiter.specs.Board.{BoardView}
 use Rattle.nvme_arbiter.specs.declared.pick.Pick.{Pick}
 use Rattle.nvme_arbiter.specs.declared.pick.Seen.{Seen}
 use Rattle.nvme_admin.specs.Standing.{TableView}
 use Rattle.nvme_admin.specs.Accepted.{queue_table}
 use Rattle.nvme_admin.specs.declared.bounds.TheConstants.{MAX_REGIONS}
-use Rattle.nvme_admin.specs.declared.verdict.Verdict.{Verdict}
 use Rattle.nvme_log.specs.declared.event.Event.TheVariants.{Abort, Closing}
 use Rattle.nvme_log.specs.declared.event.Event.TheVariants as event
 use Rattle.nvme_state.specs.declared.candidate.Candidate.{Candidate}
@@ -24,6 +24,7 @@ use Rattle.nvme_log.specs.Rules.{FrontRules, Past}
 use Rattle.nvme_log.specs.Queues.{cq_region_of}
 use Rattle.nvme_log.specs.Places.{Place, fetched, fate_of, is_waiting, waiting, entry_at, is_aborted}
 use Rattle.nvme_log.specs.Completions.{posts_of}
+use Rattle.nvme_log.specs.Aborts.{took_abort, is_abort_requested, is_aborted_with_queue}
 use Rattle.nvme_state.specs.inside.Jobs.{JobsView, dispatched_place}
 use Rattle.nvme_state.specs.Hands.{in_hand}
 use Rattle.nvme_state.specs.inside.Kept.{SqKept, Kept, put_sq}
@@ -32,11 +33,12 @@ use Rattle.nvme_log.specs.Places.{is_served, one_if}
 use Rattle.nvme_log.proofs.Waiting.{times-upto}
 use Rattle.nvme_state.proofs.Windows.{times_in_window, All-from_map, sum_by-map}
 use Rattle.nvme_state.proofs.Served.{aborts-leave}
+use Rattle.nvme_state.proofs.AbortRequests.{unrequested, not_with_queue, requests-aborts}
 use Rattle.nvme_state.proofs.Readying.{over_none, GrowsBy, put-grows, readies, sum_by-none, sum_by-ones, IsMade, times_in-own, times_in-other, Moves, served-moves, at_put, waiting-unaborted}
 use Rattle.nvme_state.proofs.ReadyChange.{aborted-sum, becomes-ready, pick-moves}
 use Rattle.nvme_state.proofs.ReadyGains.{sum-in_hand, length-in_hand}
 use Rattle.nvme_state.specs.inside.Steps.{picked_sq, aborted, applied_to}
-use Rattle.nvme_state.proofs.AfterSteps.{with_events, place_of, answered, with_deleting}
+use Rattle.nvme_state.proofs.AfterSteps.{with_events, place_of, with_deleting}
 
 -- ---- regions
 -- the region of a queue that is opened was opened for none before, so it posts nowhere
@@ -79,7 +81,11 @@ pub record SamePlaces (past later : Past) : Type 0 where
   pub posts : (r i : ℕ) → posts_of later r i ≡ posts_of past r i
   pub cq_regions : (r c : ℕ) → cq_region_of past r ≡ Some c → cq_region_of later r ≡ Some c
   pub entries : (r i : ℕ) → entry_at later r i ≡ entry_at past r i
-  pub aborts : (r i : ℕ) → is_aborted later r i ≡ is_aborted past r i
+  pub with_queue : (r i : ℕ) → is_aborted_with_queue later r i ≡ is_aborted_with_queue past r i
+
+-- the answer of an admin command
+abbrev pub told : Candidate → StatusCode → ℕ → Ready
+told candidate status dw0 = record { region = 0; index = candidate.index; entry = candidate.entry; with_queue = false; status = status; dw0 = dw0 }
 
 -- the admin queue's oldest candidate was picked, and its answer t is ready in completion region 0
 pub record Answers (k after : Kept) (t : Ready) : Type 0 where
@@ -91,7 +97,7 @@ pub record Answers (k after : Kept) (t : Ready) : Type 0 where
   pub got : (r : ℕ) → (after.sq r).got ≡ (put_sq k.sq 0 (picked_sq (k.sq 0) 1) r).got
 
 -- the picked candidate is no candidate any more
-oldest-moves : (k : Kept) (candidate : Candidate) (rest : List Candidate) → (k.sq 0).window ≡ candidate ∷ rest → (r i : ℕ)
+pub oldest-moves : (k : Kept) (candidate : Candidate) (rest : List Candidate) → (k.sq 0).window ≡ candidate ∷ rest → (r i : ℕ)
     → Moves i (one_if (0 == r && candidate.index == i)) (k.sq r) (put_sq k.sq 0 (picked_sq (k.sq 0) 1) r)
 oldest-moves k candidate rest oldest r i =
     at_put (λ (x : ℕ) (u v : SqKept). Moves i (one_if (0 == x && candidate.index == i)) u v) k.sq 0 (picked_sq (k.sq 0) 1)
@@ -100,15 +106,15 @@ oldest-moves k candidate rest oldest r i =
     (λ x d. rw (ne_eqb 0 x (λ e. d (sym e))) (omega arith)) r
 
 -- what holds of each candidate holds of the oldest
-at_oldest : {X : Type 0} (P : X → Type 0) (xs : List X) (x : X) (rest : List X) → xs ≡ x ∷ rest → All P xs → P x
+pub at_oldest : {X : Type 0} (P : X → Type 0) (xs : List X) (x : X) (rest : List X) → xs ≡ x ∷ rest → All P xs → P x
 at_oldest P xs x rest e h = All-head P x rest (All-same P (x ∷ rest) xs (sym e) h)
 
 -- the relation of what is ready to the log is kept
-pub answers-ready : (past later : Past) (k after : Kept) (candidate : Candidate) (rest : List Candidate) (v : Verdict)
+pub answers-ready : (past later : Past) (k after : Kept) (candidate : Candidate) (rest : List Candidate) (status : StatusCode) (dw0 : ℕ)
     → HoldsReady past k (hand_of k) → ((r : ℕ) → HoldsSq past r (k.sq r)) → (k.sq 0).window ≡ candidate ∷ rest → k.deletion ≡ None
-    → k.outstanding + 1 ≤ max_outstanding → SamePlaces past later → Answers k after (answered candidate v) → ((r : ℕ) → HoldsSq later r (after.sq r))
+    → k.outstanding + 1 ≤ max_outstanding → SamePlaces past later → Answers k after (told candidate status dw0) → ((r : ℕ) → HoldsSq later r (after.sq r))
     → HoldsReady later after (hand_of after)
-answers-ready past later k after candidate rest v ready before oldest none few same a regions =
+answers-ready past later k after candidate rest status dw0 ready before oldest none few same a regions =
     let hand : hand_of after ≡ hand_of k =
     ap (λ (j : JobsView). map dispatched_place (in_hand j.hands) ++ held_by after.deletion) a.jobs
     ∙ ap (λ (d : Option PendingDelete). map dispatched_place (in_hand k.jobs.hands) ++ held_by d) a.deletion in
@@ -116,7 +122,7 @@ answers-ready past later k after candidate rest v ready before oldest none few s
     at_oldest (λ (c : Candidate). entry_at past 0 c.index ≡ Some c.entry) (k.sq 0).window candidate rest oldest (before 0).entries in
     let fresh : is_aborted past 0 candidate.index ≡ false =
     at_oldest (λ (c : Candidate). is_aborted past 0 c.index ≡ false) (k.sq 0).window candidate rest oldest (waiting-unaborted past 0 (k.sq 0) (before 0)) in
-    becomes-ready past later k after (hand_of k) (hand_of after) 0 (answered candidate v ∷ []) ready (record {
+    becomes-ready past later k after (hand_of k) (hand_of after) 0 (told candidate status dw0 ∷ []) ready (record {
       small = omega arith;
       grows = a.grows;
       posts = same.posts;
@@ -131,13 +137,13 @@ answers-ready past later k after candidate rest v ready before oldest none few s
       stay = λ c t served h. record {
         region = same.cq_regions t.region c h.region;
         entry = same.entries t.region t.index ∙ h.entry;
-        aborted = h.aborted ∙ sym (same.aborts t.region t.index);
+        with_queue = h.with_queue ∙ sym (same.with_queue t.region t.index);
         deleting = λ e. ap (option_map (λ (d : PendingDelete). d.region)) a.deletion ∙ h.deleting e;
       };
-      new = All-cons (IsReady later after.deletion 0) (answered candidate v) [] (record {
+      new = All-cons (IsReady later after.deletion 0) (told candidate status dw0) [] (record {
         region = same.cq_regions 0 0 ready.admin_region;
         entry = same.entries 0 candidate.index ∙ entry;
-        aborted = sym (same.aborts 0 candidate.index ∙ fresh);
+        with_queue = sym (same.with_queue 0 candidate.index ∙ not_with_queue past 0 candidate.index fresh);
         deleting = λ e. cc;
       }) (All-nil (IsReady later after.deletion 0));
       taken = omega (arith, a.outstanding, ap (λ (xs : List Place). length xs) hand);
@@ -147,8 +153,8 @@ answers-ready past later k after candidate rest v ready before oldest none few s
     })
 
 -- ---- a deletion that begins
--- where no deletion is pending, no ready completion is that of an aborted place
-pub not_deleting : (past : Past) (deletion : Option PendingDelete) (c : ℕ) (t : Ready) → IsReady past deletion c t → deletion ≡ None → t.aborted ≡ true → ⊥
+-- where no deletion is pending, no ready completion is that of a place that was aborted with its queue
+pub not_deleting : (past : Past) (deletion : Option PendingDelete) (c : ℕ) (t : Ready) → IsReady past deletion c t → deletion ≡ None → t.with_queue ≡ true → ⊥
 not_deleting past deletion c t h none e =
     let here : option_map (λ (d : PendingDelete). d.region) deletion ≡ None = ap (option_map (λ (d : PendingDelete). d.region)) none in
     let there = h.deleting e in
@@ -157,11 +163,11 @@ not_deleting past deletion c t h none e =
 -- so there is none
 pub none-aborted : (past : Past) (k : Kept) (hand : List Place) → HoldsReady past k hand → k.deletion ≡ None → ready_aborted k ≡ 0
 none-aborted past k hand h none =
-    aborted-sum k ∙ over_none (λ (c : ℕ). sum_by (λ (t : Ready). one_if t.aborted) (k.cq c).ready) MAX_REGIONS (λ c l.
+    aborted-sum k ∙ over_none (λ (c : ℕ). sum_by (λ (t : Ready). one_if t.with_queue) (k.cq c).ready) MAX_REGIONS (λ c l.
     omega (
       arith,
-      sum_by-le (λ (t : Ready). one_if t.aborted) 0 (k.cq c).ready (λ j d m.
-          counts_none (slice_index_or (k.cq c).ready j d).aborted (not_deleting past k.deletion c (slice_index_or (k.cq c).ready j d) (h.each c j d m) none)),
+      sum_by-le (λ (t : Ready). one_if t.with_queue) 0 (k.cq c).ready (λ j d m.
+          counts_none (slice_index_or (k.cq c).ready j d).with_queue (not_deleting past k.deletion c (slice_index_or (k.cq c).ready j d) (h.each c j d m) none)),
     )) where
       counts_none : (b : Bool) → (b ≡ true → ⊥) → one_if b ≤ 0
       counts_none true n = absurd (n refl)
@@ -203,11 +209,11 @@ left-fewer k = at_put (λ (x : ℕ) (u v : SqKept). length v.window ≤ length u
 -- the relation of what is ready to the log is kept
 pub deletes-ready : (past : Past) (k : Kept) (candidate : Candidate) (rest : List Candidate) (seen : ArrayVec Seen) (pick : Pick) (board : BoardView) (table : TableView) (region qid c : ℕ)
     → HoldsReady past k (hand_of k) → ((r : ℕ) → HoldsSq past r (k.sq r)) → (k.sq 0).window ≡ candidate ∷ rest → k.deletion ≡ None
-    → k.outstanding + 1 ≤ max_outstanding → c < MAX_REGIONS → cq_region_of past region ≡ Some c
+    → k.outstanding + 1 ≤ max_outstanding → c < MAX_REGIONS → cq_region_of past region ≡ Some c → took_abort (event.Pick seen pick ∷ past) ≡ false
     → ((r : ℕ) → HoldsSq (with_events (map (λ (i : ℕ). Abort region i) (waiting past region)) (Closing qid region ∷ event.Pick seen pick ∷ past)) r ((with_deleting (applied_to k board table) qid region c candidate).sq r))
     → HoldsReady (with_events (map (λ (i : ℕ). Abort region i) (waiting past region)) (Closing qid region ∷ event.Pick seen pick ∷ past))
     (with_deleting (applied_to k board table) qid region c candidate) (hand_of (with_deleting (applied_to k board table) qid region c candidate))
-deletes-ready past k candidate rest seen pick board table region qid c ready before oldest none few small attached regions =
+deletes-ready past k candidate rest seen pick board table region qid c ready before oldest none few small attached took regions =
     let ws : List ℕ = waiting past region in
     let middle : Past = Closing qid region ∷ event.Pick seen pick ∷ past in
     let later : Past = with_events (map (λ (i : ℕ). Abort region i) ws) middle in
@@ -220,6 +226,9 @@ deletes-ready past k candidate rest seen pick board table region qid c ready bef
     let named : All (λ (x : Candidate). is_aborted later region x.index ≡ true) (k.sq region).window =
     All-from_map (λ (x : Candidate). x.index) (λ (j : ℕ). is_aborted later region j ≡ true) (k.sq region).window
     (All-same (λ (j : ℕ). is_aborted later region j ≡ true) _ _ (sym (before region).waiting_is) (aborts-abort region ws middle)) in
+    let unasked : All (λ (x : Candidate). is_abort_requested later region x.index ≡ false) (k.sq region).window = λ j d l.
+    requests-aborts region region (slice_index_or (k.sq region).window j d).index ws middle took
+    ∙ unrequested past region (slice_index_or (k.sq region).window j d).index (waiting-unaborted past region (k.sq region) (before region) j d l) in
     becomes-ready past later k after (hand_of k) (hand_of after) c ts ready (record {
       small = small;
       grows = put-grows k.cq c ts;
@@ -238,7 +247,9 @@ deletes-ready past k candidate rest seen pick board table region qid c ready bef
       stay = λ x t served h. record {
         region = region_stays t.region ∙ h.region;
         entry = entry_stays t.region t.index ∙ h.entry;
-        aborted = h.aborted ∙ sym (aborts-other region t.region t.index ws middle (served-apart past region t.region t.index served.served));
+        with_queue = h.with_queue ∙ sym (λ p.
+            aborts-other region t.region t.index ws middle (served-apart past region t.region t.index served.served) p
+            && not (requests-aborts region t.region t.index ws middle took p));
         deleting = λ e. absurd (not_deleting past k.deletion x t h none e);
       };
       new = All-map (IsReady later after.deletion c) (aborted region) (mid region).window
@@ -246,11 +257,11 @@ deletes-ready past k candidate rest seen pick board table region qid c ready bef
           (λ j d l. record {
             region = region_stays region ∙ attached;
             entry = entry_stays region (slice_index_or (k.sq region).window j d).index ∙ (before region).entries j d l;
-            aborted = sym (named j d l);
+            with_queue = sym (λ p. named j d l p && not (unasked j d l p));
             deleting = λ e. refl;
           }));
       taken =
-          let each = sum_by-map (λ (t : Ready). one_if (not t.aborted)) (aborted region) (mid region).window in
+          let each = sum_by-map (λ (t : Ready). one_if (not t.with_queue)) (aborted region) (mid region).window in
           let nothing = sum_by-none (mid region).window in
           omega (
             arith,
@@ -259,7 +270,7 @@ deletes-ready past k candidate rest seen pick board table region qid c ready bef
             ap (λ (xs : List Place). length xs) hand,
           );
       few_aborted =
-          let each = sum_by-map (λ (t : Ready). one_if t.aborted) (aborted region) (mid region).window in
+          let each = sum_by-map (λ (t : Ready). one_if t.with_queue) (aborted region) (mid region).window in
           let ones = sum_by-ones (mid region).window in
           omega (arith, none-aborted past k (hand_of k) ready none, left-fewer k region, (before region).few_waiting);
       few_taken = few;

@@ -21,15 +21,15 @@ use Rattle.nvme_state.proofs.Windows.{times_in_window}
 use Rattle.nvme_state.specs.inside.Steps.{picked_sq}
 use Rattle.nvme_state.proofs.Readying.{Moves, over_same, over_at, GrowsBy, readies, sum_ready, sum_ready-grows}
 
--- the ready completions of picked places are a sum over all that are ready
-pub picked-sum : (k : Kept) → ready_picked k ≡ sum_ready (λ (t : Ready). one_if (not t.aborted)) (readies k.cq) MAX_REGIONS
+-- the ready completions that hold an outstanding place are a sum over all that are ready
+pub picked-sum : (k : Kept) → ready_picked k ≡ sum_ready (λ (t : Ready). one_if (not t.with_queue)) (readies k.cq) MAX_REGIONS
 picked-sum k =
-    over_same _ _ MAX_REGIONS (λ c l. length-filter (λ (t : Ready). not t.aborted) (k.cq c).ready)
+    over_same _ _ MAX_REGIONS (λ c l. length-filter (λ (t : Ready). not t.with_queue) (k.cq c).ready)
 
--- so are those of aborted places
-pub aborted-sum : (k : Kept) → ready_aborted k ≡ sum_ready (λ (t : Ready). one_if t.aborted) (readies k.cq) MAX_REGIONS
+-- so are those of places that were aborted with their queue
+pub aborted-sum : (k : Kept) → ready_aborted k ≡ sum_ready (λ (t : Ready). one_if t.with_queue) (readies k.cq) MAX_REGIONS
 aborted-sum k =
-    over_same _ _ MAX_REGIONS (λ c l. length-filter (λ (t : Ready). t.aborted) (k.cq c).ready)
+    over_same _ _ MAX_REGIONS (λ c l. length-filter (λ (t : Ready). t.with_queue) (k.cq c).ready)
 
 -- a test that counts passes
 counts_true : (b : Bool) → 1 ≤ one_if b → b ≡ true
@@ -74,8 +74,8 @@ pub record Becomes (past later : Past) (k after : Kept) (hand held : List Place)
   pub served : (r i : ℕ) → one_if (is_served past r i) + times_in r i ts + times_held r i held ≡ one_if (is_served later r i) + times_held r i hand
   pub stay : (c : ℕ) (t : Ready) → IsServed past t → IsReady past k.deletion c t → IsReady later after.deletion c t
   pub new : All (IsReady later after.deletion a) ts
-  pub taken : sum_by (λ (t : Ready). one_if (not t.aborted)) ts + length held + k.outstanding ≡ after.outstanding + length hand
-  pub few_aborted : ready_aborted k + sum_by (λ (t : Ready). one_if t.aborted) ts ≤ highest_count
+  pub taken : sum_by (λ (t : Ready). one_if (not t.with_queue)) ts + length held + k.outstanding ≡ after.outstanding + length hand
+  pub few_aborted : ready_aborted k + sum_by (λ (t : Ready). one_if t.with_queue) ts ≤ highest_count
   pub few_taken : after.outstanding ≤ max_outstanding
   pub admin_region : cq_region_of later 0 ≡ Some 0
 
@@ -96,8 +96,8 @@ becomes-ready past later k after hand held a ts h b = record {
         (All-same (IsReady later after.deletion a) _ _ b.grows.here (All-append (IsReady later after.deletion a) (k.cq a).ready ts (kept a) b.new))
     | inr d ↦ All-same (IsReady later after.deletion c) _ _ (b.grows.elsewhere c d) (kept c)
   ];
-  taken = omega (arith, h.taken, b.taken, picked-sum k, picked-sum after, sum_ready-grows (λ (t : Ready). one_if (not t.aborted)) (readies k.cq) (readies after.cq) a MAX_REGIONS ts b.grows b.small);
-  few_aborted = omega (arith, b.few_aborted, aborted-sum k, aborted-sum after, sum_ready-grows (λ (t : Ready). one_if t.aborted) (readies k.cq) (readies after.cq) a MAX_REGIONS ts b.grows b.small);
+  taken = omega (arith, h.taken, b.taken, picked-sum k, picked-sum after, sum_ready-grows (λ (t : Ready). one_if (not t.with_queue)) (readies k.cq) (readies after.cq) a MAX_REGIONS ts b.grows b.small);
+  few_aborted = omega (arith, b.few_aborted, aborted-sum k, aborted-sum after, sum_ready-grows (λ (t : Ready). one_if t.with_queue) (readies k.cq) (readies after.cq) a MAX_REGIONS ts b.grows b.small);
   few_taken = b.few_taken;
   none_beyond = λ c l. b.grows.elsewhere c (λ e. absurd (omega (arith, b.small))) ∙ h.none_beyond c l;
   admin_region = b.admin_region;

@@ -1,8 +1,8 @@
 -- What the steps of jobs make ready and post, and the places in hand that they leave.
 use Rattle.std.proofs.Common.{◌≡◌, ℕ, ◌+◌, ◌==◌, ◌&&◌, List, [], ◌∷◌, ◌++◌, map, length, refl, sym, ap, ◌∙◌, subst, arith}
-use Rattle.std.specs.Prelude.{sum_by, All, option_map}
+use Rattle.std.specs.Prelude.{sum_by, option_map}
 use Rattle.std.proofs.lemmas.Bool.{eq-eqb, ne_eqb}
-use Rattle.std.proofs.lemmas.List.{append_assoc, length-append}
+use Rattle.std.proofs.lemmas.List.{append_assoc}
 use Rattle.std.proofs.lemmas.List.Sums.{sum_by-cons, sum_by-append}
 use Rattle.std.proofs.lemmas.List.Elements.{All-nil, All-cons, All-head}
 use Rattle.std.proofs.lemmas.List.Sorted.{length_permutation}
@@ -20,6 +20,7 @@ use Rattle.nvme_state.specs.inside.Standing.{HoldsPosts, HoldsReady, IsDispatche
 use Rattle.nvme_log.specs.Places.{one_if}
 use Rattle.nvme_state.proofs.Windows.{times_in_window, sum_by-map}
 use Rattle.nvme_state.proofs.Readying.{put-grows, sum_by-ones, at_put_cq}
+use Rattle.nvme_state.proofs.AbortRequests.{not_with_queue}
 use Rattle.nvme_state.proofs.ReadyChange.{becomes-ready}
 use Rattle.nvme_state.proofs.AfterSteps.{completed, after_gain}
 use Rattle.nvme_state.proofs.JobAccounts.{each-gained, sum_by-gained_one}
@@ -140,7 +141,7 @@ ready-gain rules late past k d rest result seat c qid s can its attached regions
       new = All-cons (IsReady past k.deletion c) t [] (record {
         region = s.queues.cq_region_is d.region ∙ ap (option_map (λ (a : Attachment). a.cq_region)) attached;
         entry = at.entry;
-        aborted = sym at.not_aborted;
+        with_queue = sym (not_with_queue past d.region d.index at.not_aborted);
         deleting = λ e. cc;
       }) (All-nil (IsReady past k.deletion c));
       taken =

@@ -16,11 +16,11 @@ one_more : (b : Bool) (t : Ready) (p a : List Ready) → length (if not b then t
 one_more true t p a = omega arith
 one_more false t p a = omega arith
 
--- what is ready is of picked places or of aborted ones
-pub ready-split : (ready : List Ready) → length (filter (λ (t : Ready). not t.aborted) ready) + length (filter (λ (t : Ready). t.aborted) ready) ≡ length ready
+-- what is ready holds an outstanding place, or was aborted with its queue
+pub ready-split : (ready : List Ready) → length (filter (λ (t : Ready). not t.with_queue) ready) + length (filter (λ (t : Ready). t.with_queue) ready) ≡ length ready
 ready-split [] = refl
 ready-split (t ∷ rest) =
-    let one = one_more t.aborted t (filter (λ (t : Ready). not t.aborted) rest) (filter (λ (t : Ready). t.aborted) rest) in
+    let one = one_more t.with_queue t (filter (λ (t : Ready). not t.with_queue) rest) (filter (λ (t : Ready). t.with_queue) rest) in
     let others = ready-split rest in
     omega (arith, one, others)
 
@@ -29,8 +29,8 @@ pub ready_is_few : (past : Past) (k : Kept) (hand : List Place) → HoldsReady p
 ready_is_few past k hand h c = elim (cases_lt c MAX_REGIONS) [
   | inl below ↦
       let split = ready-split (k.cq c).ready in
-      let picked = over_regions_at (λ (x : ℕ). length (filter (λ (t : Ready). not t.aborted) (k.cq x).ready)) c MAX_REGIONS below in
-      let aborted = over_regions_at (λ (x : ℕ). length (filter (λ (t : Ready). t.aborted) (k.cq x).ready)) c MAX_REGIONS below in
+      let picked = over_regions_at (λ (x : ℕ). length (filter (λ (t : Ready). not t.with_queue) (k.cq x).ready)) c MAX_REGIONS below in
+      let aborted = over_regions_at (λ (x : ℕ). length (filter (λ (t : Ready). t.with_queue) (k.cq x).ready)) c MAX_REGIONS below in
       omega (arith, split, picked, aborted, h.taken, h.few_taken, h.few_aborted)
   | inr beyond ↦
       let none = ap (λ (xs : List Ready). length xs) (h.none_beyond c beyond) in

@@ -1,10 +1,11 @@
 -- What is ready and what is posted stand after each step of a front.
-use Rattle.std.proofs.Common.{◌≡◌, ℕ, ◌+◌, ◌<◌, ◌≤◌, ◌==◌, ◌&&◌, Bool, true, false, not, if◌then◌else◌, List, [], ◌∷◌, ◌++◌, length, take, Option, Some, None, refl, sym, ap, ◌∙◌, subst, arith, inl, inr}
-use Rattle.std.specs.Prelude.{All, option_map}
+use Rattle.std.proofs.Common.{◌≡◌, ℕ, ◌+◌, ◌<◌, ◌≤◌, ◌==◌, ◌&&◌, Bool, true, false, not, if◌then◌else◌, List, [], ◌∷◌, ◌++◌, map, length, take, Option, Some, None, refl, sym, ap, ◌∙◌, subst, arith, inl, inr}
+use Rattle.std.specs.Prelude.{All, option_map, option_to_list}
 use Rattle.std.proofs.lemmas.Bool.{cases_eq, false_from_ne_true, eq-eqb, ne_eqb}
 use Rattle.std.proofs.lemmas.List.{length-append, length-take-le}
 use Rattle.std.proofs.lemmas.List.Sums.{sum_by-append}
 use Rattle.std.proofs.lemmas.List.Elements.{All-nil, All-cons, All-tail, All-same}
+use Rattle.nvme_entry.specs.Status.{StatusCode, success}
 use Rattle.nvme_entry.specs.declared.submission.Sqe.{Sqe}
 use Rattle.nvme_entry.specs.declared.completion.Cqe.{Cqe}
 use Rattle.arrayvec.specs.ArrayVec.{ArrayVec}
@@ -15,6 +16,7 @@ use Rattle.nvme_admin.specs.declared.bounds.TheConstants.{MAX_REGIONS}
 use Rattle.nvme_admin.specs.Standing.{TableView}
 use Rattle.nvme_admin.specs.Accepted.{queue_table}
 use Rattle.nvme_admin.specs.Changes.{IsDue}
+use Rattle.nvme_admin.specs.Checks.{status_in, dw0_in}
 use Rattle.nvme_admin.specs.declared.verdict.Verdict.{Verdict}
 use Rattle.nvme_admin.specs.declared.verdict.Verdict.TheVariants.{Done, BeginDelete, CloseCq}
 use Rattle.nvme_admin.specs.declared.verdict.Verdict.TheVariants as verdict
@@ -28,22 +30,27 @@ use Rattle.nvme_state.specs.declared.candidate.PendingDelete.{PendingDelete}
 use Rattle.nvme_state.specs.declared.attachment.Attachment.{Attachment}
 use Rattle.nvme_log.specs.Rules.{FrontRules, Past}
 use Rattle.nvme_log.specs.Queues.{Queue, admin_queue, open_sq, open_cq}
-use Rattle.nvme_log.specs.Places.{Place, waiting}
+use Rattle.nvme_log.specs.Places.{Place, waiting, entry_at, is_aborted}
 use Rattle.nvme_log.specs.Completions.{is_posted, posts_of, posted_to}
-use Rattle.nvme_log.specs.Effects.{closing_of, closed_cq_of}
+use Rattle.nvme_log.specs.Effects.{abort_in, closing_of, closed_cq_of, named, target_of}
+use Rattle.nvme_log.proofs.AbortEntries.{verdict_is_abort}
 use Rattle.nvme_state.specs.inside.Jobs.{dispatched_from}
 use Rattle.nvme_state.specs.inside.Kept.{SqKept, CqKept, Kept, put_sq, with_ready}
 use Rattle.nvme_state.specs.inside.Standing.{HoldsSq, HoldsPosts, IsReady, times_held, held_by, hand_of, deleted_place, Stands}
 use Rattle.nvme_log.specs.Places.{one_if, is_served}
+use Rattle.nvme_state.proofs.AbortRequests.{not_with_queue}
 use Rattle.nvme_state.proofs.Served.{served-fetch, aborts-leave, entry_stays}
-use Rattle.nvme_state.proofs.Readying.{unposted-counts, Pops, readies, sum_ready-pops, at_put_cq, put-grows, none-grows, Moves, served-moves, at_put}
+use Rattle.nvme_state.proofs.Readying.{unposted-counts, waiting-unaborted, Pops, readies, sum_ready-pops, at_put_cq, put-grows, none-grows, Moves, served-moves, at_put}
 use Rattle.nvme_state.proofs.ReadyChange.{picked-sum, aborted-sum, pick-moves, becomes-ready}
 use Rattle.nvme_log.proofs.Posts.{posts_of-some}
 use Rattle.nvme_state.proofs.JobLists.{length-dispatched}
 use Rattle.nvme_state.proofs.ReadyGains.{sum-in_hand, length-in_hand, times_dispatched, dispatched-own, dispatched-other, same_posts}
-use Rattle.nvme_state.proofs.ReadyAdmin.{unused_apart, SamePlaces, Answers, answers-ready, deletes-ready}
-use Rattle.nvme_state.specs.inside.Steps.{CanPick, applied_to, verdict_at, picked_sq}
-use Rattle.nvme_state.proofs.AfterSteps.{with_events, answered, deleting_from, after_admin, admin_past, IsChosen, closed_event, after_closed, deleted, fetch_event, after_fetch, after_io, post_event, posted_cq, after_post}
+use Rattle.nvme_state.proofs.ReadyAdmin.{unused_apart, SamePlaces, told, Answers, answers-ready, deletes-ready}
+use Rattle.nvme_state.proofs.Named.{found_is, found_times}
+use Rattle.nvme_state.proofs.AdminPick.{took_delete, took_request, made_request, found_before}
+use Rattle.nvme_state.proofs.AbortReady.{aborts-ready}
+use Rattle.nvme_state.specs.inside.Steps.{CanPick, CanApply, applied_to, oldest_named, verdict_at, picked_sq}
+use Rattle.nvme_state.proofs.AfterSteps.{with_events, answered, told_abort, with_requested, aborting_in, aborting_from, deleting_from, after_admin, admin_past, IsChosen, closed_event, after_closed, deleted, fetch_event, after_fetch, after_io, post_event, posted_cq, after_post}
 use Rattle.nvme_state.proofs.StepKeeps.{KeepsFetch, KeepsIo, KeepsAdmin, KeepsPost, KeepsClose, ReadyOnes, Posts}
 
 -- ---- a fetch
@@ -69,7 +76,7 @@ ready-fetch rules late past k q queue entry known s can after =
       stay = λ c t served h. record {
         region = h.region;
         entry = entry_stays past queue.region (k.sq queue.region).fetched t.region t.index entry t.entry h.entry;
-        aborted = h.aborted;
+        with_queue = h.with_queue;
         deleting = h.deleting;
       };
       new = λ j d l. absurd (omega arith);
@@ -107,7 +114,7 @@ ready-io rules late past k queue seen pick board c s can observed io attached af
             sum-in_hand place new.jobs.hands (held_by k.deletion),
             sum_by-append (λ (d : Dispatched). one_if (d.region == r && d.index == i)) k.jobs.hands.unhanded ds,
           );
-      stay = λ x t served h. record { region = h.region; entry = h.entry; aborted = h.aborted; deleting = h.deleting };
+      stay = λ x t served h. record { region = h.region; entry = h.entry; with_queue = h.with_queue; deleting = h.deleting };
       new = λ j d l. absurd (omega arith);
       taken =
           let size : length taken ≡ pick.n = length-take-le pick.n (k.sq region).window can.enough in
@@ -147,8 +154,8 @@ ready-post rules late past k c t rest cqe qid free s can after =
     let later : Past = post_event c t cqe ∷ past in
     let small : c < MAX_REGIONS = omega (arith, can.there, s.tabled.few_cqs) in
     let pops = post-pops k c t rest cqe free can.oldest in
-    let picked = sum_ready-pops (λ (u : Ready). one_if (not u.aborted)) (readies k.cq) (readies (after_post k c t rest cqe free).cq) c MAX_REGIONS t pops small in
-    let aborts = sum_ready-pops (λ (u : Ready). one_if u.aborted) (readies k.cq) (readies (after_post k c t rest cqe free).cq) c MAX_REGIONS t pops small in
+    let picked = sum_ready-pops (λ (u : Ready). one_if (not u.with_queue)) (readies k.cq) (readies (after_post k c t rest cqe free).cq) c MAX_REGIONS t pops small in
+    let aborts = sum_ready-pops (λ (u : Ready). one_if u.with_queue) (readies k.cq) (readies (after_post k c t rest cqe free).cq) c MAX_REGIONS t pops small in
     let picked_before = picked-sum k in
     let picked_after = picked-sum (after_post k c t rest cqe free) in
     record {
@@ -172,7 +179,7 @@ ready-post rules late past k c t rest cqe qid free s can after =
       stays : (x : ℕ) → All (IsReady (post_event c t cqe ∷ past) k.deletion x) (k.cq x).ready
       stays x j d l =
           let h = s.ready.each x j d l in
-          record { region = h.region; entry = h.entry; aborted = h.aborted; deleting = h.deleting }
+          record { region = h.region; entry = h.entry; with_queue = h.with_queue; deleting = h.deleting }
 
 -- a post puts one completion more into its region
 pub posts-post : KeepsPost Posts
@@ -205,7 +212,7 @@ ready-close rules late past k d table s can after =
       stay = λ c t served h. record {
         region = h.region;
         entry = h.entry;
-        aborted = h.aborted;
+        with_queue = h.with_queue;
         deleting = λ e.
             let same : Some d.region ≡ Some t.region = sym region ∙ h.deleting e in
             let at : d.region ≡ t.region = cc in
@@ -215,7 +222,7 @@ ready-close rules late past k d table s can after =
       new = All-cons (IsReady (closed_event d ∷ past) None 0) (deleted d) [] (record {
         region = s.ready.admin_region;
         entry = (s.deletion.stands d can.pending).entry;
-        aborted = sym (s.deletion.stands d can.pending).not_aborted;
+        with_queue = sym (not_with_queue past 0 d.index (s.deletion.stands d can.pending).not_aborted);
         deleting = λ e. cc;
       }) (All-nil (IsReady (closed_event d ∷ past) None 0));
       taken = omega (arith, length-in_hand k.jobs.hands (held_by k.deletion), length-in_hand k.jobs.hands [], ap (λ (xs : List Place). length xs) held);
@@ -231,11 +238,15 @@ posts-close rules late past k d table s can = same_posts past (closed_event d �
 -- ---- an admin pick
 module _ (rules : FrontRules) (late : Bool) (past : Past) (k : Kept) (seen : ArrayVec Seen) (pick : Pick) (picked : BoardView)
     (candidate : Candidate) (rest : List Candidate) (table : TableView) (c : ℕ) (board : BoardView) (s : Stands rules late past k)
-    (can : CanPick rules past k admin_queue pick picked) (one : pick.n ≡ 1) (oldest : (k.sq 0).window ≡ candidate ∷ rest) where
+    (can : CanPick rules past k admin_queue pick picked) (first : pick.qid ≡ 0) (one : pick.n ≡ 1) (apply : CanApply rules past k s.tabled.history candidate rest table) where
   -- the answer of a command is ready, where the places of the log are as before
-  answer : (later : Past) (after : Kept) (v : Verdict) → SamePlaces past later → Answers k after (answered candidate v) → ReadyOnes rules late later after
-  answer later after v same a regions =
-      answers-ready past later k after candidate rest v s.ready s.regions oldest can.none_pending (omega (arith, can.places)) same a regions
+  answer : (later : Past) (after : Kept) (status : StatusCode) (dw0 : ℕ) → SamePlaces past later → Answers k after (told candidate status dw0) → ReadyOnes rules late later after
+  answer later after status dw0 same a regions =
+      answers-ready past later k after candidate rest status dw0 s.ready s.regions apply.oldest can.none_pending (omega (arith, can.places)) same a regions
+
+  -- with the status and the Command Dword 0 of a verdict
+  answer_by : (later : Past) (after : Kept) (v : Verdict) → SamePlaces past later → Answers k after (answered candidate v) → ReadyOnes rules late later after
+  answer_by later after v same a regions = answer later after (status_in v) (dw0_in v) same a regions
 
   -- nothing but the board, the table and the oldest candidate is changed
   leaves_answer : (b : BoardView) (t : Ready) → Answers k (with_ready (record (applied_to k picked table) { board = b }) 0 t) t
@@ -243,37 +254,71 @@ module _ (rules : FrontRules) (late : Bool) (past : Past) (k : Kept) (seen : Arr
 
   -- a pick alone leaves the places
   pick-leaves : SamePlaces past (event.Pick seen pick ∷ past)
-  pick-leaves = record { posts = λ r i. refl; cq_regions = λ r x h. h; entries = λ r i. refl; aborts = λ r i. refl }
+  pick-leaves = record { posts = λ r i. refl; cq_regions = λ r x h. h; entries = λ r i. refl; with_queue = λ r i. refl }
 
   -- the deletion of a queue, where it is open
-  begins_delete : (qid : ℕ) (o : Option Queue) → open_sq past qid ≡ o
+  begins_delete : (qid : ℕ) (o : Option Queue) → open_sq past qid ≡ o → verdict_at rules s.tabled.history candidate ≡ BeginDelete qid
       → ((queue : Queue) → open_sq past qid ≡ Some queue → (k.sq queue.region).queue ≡ Some (record { qid = qid; cq_region = c }))
       → ReadyOnes rules late (with_events (closing_of past qid o) (event.Pick seen pick ∷ past)) (deleting_from (applied_to k picked table) qid c candidate o)
-  begins_delete qid None e chosen = answer _ _ (BeginDelete qid) pick-leaves (leaves_answer picked (answered candidate (BeginDelete qid)))
-  begins_delete qid (Some queue) e chosen =
+  begins_delete qid None e is chosen = answer_by _ _ (BeginDelete qid) pick-leaves (leaves_answer picked (answered candidate (BeginDelete qid)))
+  begins_delete qid (Some queue) e is chosen =
       let attached = chosen queue e in
-      deletes-ready past k candidate rest seen pick picked table queue.region qid c s.ready s.regions oldest can.none_pending (omega (arith, can.places))
+      deletes-ready past k candidate rest seen pick picked table queue.region qid c s.ready s.regions apply.oldest can.none_pending (omega (arith, can.places))
       (omega (arith, s.queues.posts_there queue.region (record { qid = qid; cq_region = c }) attached, s.tabled.few_cqs))
       (s.queues.cq_region_is queue.region ∙ ap (option_map (λ (a : Attachment). a.cq_region)) attached)
+      (took_delete rules late past k seen pick picked s can first candidate rest qid apply.oldest is)
 
   -- the closing of a completion queue, where it is open, leaves the places
   closing-leaves : (qid : ℕ) (o : Option ℕ) → SamePlaces past (with_events (closed_cq_of qid o) (event.Pick seen pick ∷ past))
   closing-leaves qid None = pick-leaves
-  closing-leaves qid (Some region) = record { posts = λ r i. refl; cq_regions = λ r x h. h; entries = λ r i. refl; aborts = λ r i. refl }
+  closing-leaves qid (Some region) = record { posts = λ r i. refl; cq_regions = λ r x h. h; entries = λ r i. refl; with_queue = λ r i. refl }
 
   -- a region that is opened keeps its candidates
   opened-keeps : {T : Type 0} (F : SqKept → T) (sq : ℕ → SqKept) (region : ℕ) (x : SqKept) → F x ≡ F (sq region) → (r : ℕ) → F (put_sq sq region x r) ≡ F (sq r)
   opened-keeps F sq region x e = at_put (λ (y : ℕ) (u v : SqKept). F v ≡ F u) sq region x e (λ y d. refl)
 
+  -- an Abort command finds a candidate of a queue, or none
+  aborts_one : (sqid cid : ℕ) (queue : Queue) → target_of past sqid ≡ Some queue → verdict_at rules s.tabled.history candidate ≡ verdict.Abort sqid cid
+      → IsChosen rules past k c picked board (verdict.Abort sqid cid)
+      → (o : Option Candidate) → oldest_named cid ((applied_to k picked table).sq queue.region).window ≡ o
+      → ReadyOnes rules late (with_events (map (λ (i : ℕ). event.Abort queue.region i) (map (λ (d : Candidate). d.index) (option_to_list o))) (event.Pick seen pick ∷ past))
+      (aborting_in (applied_to k picked table) candidate queue.region c cid board o)
+  aborts_one sqid cid queue target is chosen None finds = answer _ _ success 1 pick-leaves (leaves_answer picked (told_abort candidate 1))
+  aborts_one sqid cid queue target is chosen (Some found) finds =
+      let before = found_before rules late past k seen pick picked s can first table sqid cid queue found target finds in
+      let attached = (chosen queue found target before).attached in
+      aborts-ready past k candidate rest seen pick picked board table queue.region c cid found s.ready s.regions apply.oldest
+      (apply.second (verdict_is_abort rules.start s.tabled.history candidate.entry sqid cid is))
+      (omega (arith, s.queues.posts_there queue.region (record { qid = sqid; cq_region = c }) attached, s.tabled.few_cqs))
+      (s.queues.cq_region_is queue.region ∙ ap (option_map (λ (a : Attachment). a.cq_region)) attached)
+      (took_request rules late past k seen pick picked s can first candidate rest sqid cid apply.oldest is)
+      (found_is cid (k.sq queue.region).window found before (λ (d : Candidate). entry_at past queue.region d.index ≡ Some d.entry) (s.regions queue.region).entries)
+      (found_is cid (k.sq queue.region).window found before (λ (d : Candidate). is_aborted past queue.region d.index ≡ false)
+      (waiting-unaborted past queue.region (k.sq queue.region) (s.regions queue.region)))
+      (found_times cid ((applied_to k picked table).sq queue.region).window found finds)
+
+  -- an Abort command, by the queue whose candidates it may abort
+  aborts : (sqid cid : ℕ) (o : Option Queue) → target_of past sqid ≡ o → verdict_at rules s.tabled.history candidate ≡ verdict.Abort sqid cid
+      → IsChosen rules past k c picked board (verdict.Abort sqid cid)
+      → ReadyOnes rules late (with_events (abort_in past cid o) (event.Pick seen pick ∷ past)) (aborting_from (applied_to k picked table) candidate c cid board o)
+  aborts sqid cid None target is chosen = answer _ _ success 1 pick-leaves (leaves_answer picked (told_abort candidate 1))
+  aborts sqid cid (Some queue) target is chosen =
+      let now : Kept = applied_to k picked table in
+      let o : Option Candidate = oldest_named cid (now.sq queue.region).window in
+      subst (λ (ds : List ℕ). ReadyOnes rules late (with_events (map (λ (i : ℕ). event.Abort queue.region i) ds) (event.Pick seen pick ∷ past))
+      (aborting_in now candidate queue.region c cid board o))
+      (sym (made_request rules late past k seen pick picked s can first table sqid cid queue target))
+      (aborts_one sqid cid queue target is chosen o refl)
+
   -- a command of each verdict
-  commands : (v : Verdict) → IsDue (queue_table rules.start s.tabled.history) v → IsChosen rules past k c picked board v
+  commands : (v : Verdict) → verdict_at rules s.tabled.history candidate ≡ v → IsDue (queue_table rules.start s.tabled.history) v → IsChosen rules past k c picked board v
       → ReadyOnes rules late (admin_past past (event.Pick seen pick) v) (after_admin past (applied_to k picked table) candidate c board v)
-  commands (Done status dw0) due chosen = answer _ _ (Done status dw0) pick-leaves (leaves_answer picked (answered candidate (Done status dw0)))
-  commands (verdict.OpenSq qid region cqid class) due chosen = answer _ _ (verdict.OpenSq qid region cqid class) (record {
+  commands (Done status dw0) is due chosen = answer_by _ _ (Done status dw0) pick-leaves (leaves_answer picked (answered candidate (Done status dw0)))
+  commands (verdict.OpenSq qid region cqid class) is due chosen = answer_by _ _ (verdict.OpenSq qid region cqid class) (record {
     posts = λ r i. refl;
     cq_regions = λ r x h. rw (ne_eqb region r (unused_apart rules late past k s region due.unused r x h)) h;
     entries = λ r i. refl;
-    aborts = λ r i. refl;
+    with_queue = λ r i. refl;
   }) (record {
     grows = put-grows k.cq 0 (answered candidate (verdict.OpenSq qid region cqid class) ∷ []);
     jobs = refl;
@@ -282,25 +327,27 @@ module _ (rules : FrontRules) (late : Bool) (past : Past) (k : Kept) (seen : Arr
     windows = opened-keeps (λ (x : SqKept). x.window) (put_sq k.sq 0 (picked_sq (k.sq 0) 1)) region _ refl;
     got = opened-keeps (λ (x : SqKept). x.got) (put_sq k.sq 0 (picked_sq (k.sq 0) 1)) region _ refl;
   })
-  commands (verdict.OpenCq qid region) due chosen = answer _ _ (verdict.OpenCq qid region) (record {
+  commands (verdict.OpenCq qid region) is due chosen = answer_by _ _ (verdict.OpenCq qid region) (record {
     posts = λ r i. refl;
     cq_regions = λ r x h. h;
     entries = λ r i. refl;
-    aborts = λ r i. refl;
+    with_queue = λ r i. refl;
   }) (leaves_answer picked (answered candidate (verdict.OpenCq qid region)))
-  commands (CloseCq qid) due chosen = answer _ _ (CloseCq qid) (closing-leaves qid (open_cq past qid)) (leaves_answer picked (answered candidate (CloseCq qid)))
-  commands (verdict.SetArbitration settings) due chosen = answer _ _ (verdict.SetArbitration settings) (record {
+  commands (CloseCq qid) is due chosen = answer_by _ _ (CloseCq qid) (closing-leaves qid (open_cq past qid)) (leaves_answer picked (answered candidate (CloseCq qid)))
+  commands (verdict.SetArbitration settings) is due chosen = answer_by _ _ (verdict.SetArbitration settings) (record {
     posts = λ r i. refl;
     cq_regions = λ r x h. h;
     entries = λ r i. refl;
-    aborts = λ r i. refl;
+    with_queue = λ r i. refl;
   }) (leaves_answer board (answered candidate (verdict.SetArbitration settings)))
-  commands (BeginDelete qid) due chosen = begins_delete qid (open_sq past qid) refl chosen
+  commands (BeginDelete qid) is due chosen = begins_delete qid (open_sq past qid) refl is chosen
+  commands (verdict.Abort sqid cid) is due chosen = aborts sqid cid (target_of past sqid) refl is chosen
 
--- an admin pick makes its answer ready, or where it begins a deletion the completions of the aborted candidates
+-- an admin pick makes its answer ready, and the completion of what an Abort command aborts, or where it begins a deletion the completions of the
+-- aborted candidates
 pub ready-admin : KeepsAdmin ReadyOnes
 ready-admin rules late past k seen pick picked candidate rest table c board s can observed admin one apply chosen =
-    commands rules late past k seen pick picked candidate rest table c board s can one apply.oldest (verdict_at rules s.tabled.history candidate)
+    commands rules late past k seen pick picked candidate rest table c board s can admin one apply (verdict_at rules s.tabled.history candidate) refl
     (TellsChange-entry rules.start s.tabled.history candidate.entry).due chosen
 
 -- what a verdict makes posts nothing
@@ -318,6 +365,10 @@ made_posts past pick (BeginDelete qid) h x = deleting (open_sq past qid) where
   deleting None = h x
   deleting (Some queue) =
       aborts-leave (λ (p : Past). posted_to p x) (λ p r i. refl) queue.region (waiting past queue.region) (event.Closing qid queue.region ∷ pick ∷ past) ∙ h x
+made_posts past pick (verdict.Abort sqid cid) h x = aborting (target_of past sqid) where
+  aborting : (o : Option Queue) → posted_to (with_events (abort_in past cid o) (pick ∷ past)) x ≡ posted_to past x
+  aborting None = h x
+  aborting (Some queue) = aborts-leave (λ (p : Past). posted_to p x) (λ p r i. refl) queue.region (take 1 (named past queue.region cid)) (pick ∷ past) ∙ h x
 
 -- what each verdict leaves posts nothing
 left_posts : (rules : FrontRules) (past later : Past) (k : Kept) (candidate : Candidate) (c : ℕ) (picked board : BoardView) (table : TableView) (v : Verdict)
@@ -331,6 +382,18 @@ left_posts rules past later k candidate c picked board table (BeginDelete qid) h
   left : (o : Option Queue) → HoldsPosts later (deleting_from (applied_to k picked table) qid c candidate o)
   left None = same_posts past later k _ 0 _ h refl same
   left (Some queue) = same_posts past later k _ c _ h refl same
+left_posts rules past later k candidate c picked board table (verdict.Abort sqid cid) h same = left (target_of past sqid) where
+  now : Kept
+  now = applied_to k picked table
+
+  found : (region : ℕ) (o : Option Candidate) → HoldsPosts later (aborting_in now candidate region c cid board o)
+  found region None = same_posts past later k _ 0 _ h refl same
+  found region (Some d) =
+      same_posts later later (with_requested now region c cid board d) _ 0 _ (same_posts past later k _ c _ h refl same) refl (λ x. refl)
+
+  left : (o : Option Queue) → HoldsPosts later (aborting_from now candidate c cid board o)
+  left None = same_posts past later k _ 0 _ h refl same
+  left (Some queue) = found queue.region (oldest_named cid (now.sq queue.region).window)
 
 -- an admin pick posts nothing
 pub posts-admin : KeepsAdmin Posts

@@ -1,7 +1,7 @@
 -- What each event leaves of a region's places and its window.
-use Rattle.std.proofs.Common.{◌≡◌, ℕ, zero, suc, ◌+◌, ◌-◌, ◌<◌, ◌≤◌, true, false, if◌then◌else◌, List, [], ◌∷◌, ◌++◌, map, length, drop, Option, Some, None, ap, sym, refl, ◌∙◌, subst, arith, length-append, length-drop, inl, inr}
+use Rattle.std.proofs.Common.{◌≡◌, ℕ, zero, suc, ◌+◌, ◌-◌, ◌<◌, ◌≤◌, Bool, true, false, if◌then◌else◌, List, [], ◌∷◌, ◌++◌, map, length, drop, Option, Some, None, ap, sym, refl, ◌∙◌, subst, arith, length-append, length-drop, inl, inr}
 use Rattle.std.specs.Prelude.{slice_get}
-use Rattle.std.proofs.lemmas.List.{length_push, length-map, map_push, drop-map}
+use Rattle.std.proofs.lemmas.List.{length_push, length-map, map-append, map_push, drop-map}
 use Rattle.std.proofs.lemmas.List.Elements.{All-push, All-weaker, All-drop, All-head, All-tail, All-same}
 use Rattle.std.proofs.lemmas.Bool.{eq-eqb, ne_eqb}
 use Rattle.std.proofs.lemmas.Bool.Decides.{eqb_tells}
@@ -29,13 +29,14 @@ use Rattle.nvme_log.specs.Queues.{Queue, admin_queue, open_sq, open_cq, has_regi
 use Rattle.nvme_log.specs.Places.{fetched, picked, is_aborted, unaborted_below, entry_at, waiting}
 use Rattle.nvme_log.specs.Completions.{is_posted}
 use Rattle.nvme_state.specs.inside.Kept.{SqKept, Kept, put_sq}
-use Rattle.nvme_log.specs.Effects.{made_by, closing_of, closed_cq_of}
+use Rattle.nvme_log.specs.Effects.{made_by, abort_in, target_of, closing_of, closed_cq_of}
 use Rattle.nvme_state.specs.inside.Standing.{HoldsSq, HoldsQueues, IsReady}
-use Rattle.nvme_state.specs.inside.Steps.{picked_sq, applied_to, verdict_at}
-use Rattle.nvme_state.proofs.AfterSteps.{with_events, fetched_sq, after_admin, deleting_from}
+use Rattle.nvme_state.specs.inside.Steps.{picked_sq, applied_to, verdict_at, oldest_named, without_oldest}
+use Rattle.nvme_state.proofs.AfterSteps.{with_events, fetched_sq, after_admin, aborting_from, aborting_in, deleting_from}
 use Rattle.nvme_state.proofs.StepKeeps.{Regions, KeepsFetch, KeepsIo, KeepsAdmin, KeepsPost, KeepsClose}
-use Rattle.nvme_log.proofs.Waiting.{left, left-more, unaborted, waiting_is-drop, fetched-fetch, fetched-fetch_other, waiting-fetch, waiting-same, unaborted_below-same, picked-pick, picked-pick_other, waiting-pick, waiting-abort, is_aborted-abort, is_aborted-abort_other, few_picked-abort}
+use Rattle.nvme_log.proofs.Waiting.{left, left-more, unaborted, waiting_is-drop, fetched-fetch, fetched-fetch_other, waiting-fetch, waiting-same, unaborted_below-same, picked-pick, picked-pick_other, waiting-pick, waiting-abort, waiting-abort_at, few_picked-abort_at, is_aborted-abort, is_aborted-abort_other, few_picked-abort}
 use Rattle.nvme_state.proofs.Windows.{window-below}
+use Rattle.nvme_state.proofs.Named.{splits, waiting_splits, found_is, found_one, left_hold, made_abort, made_none}
 
 -- ---- entries
 -- an item of a list is one of a longer list
@@ -180,6 +181,27 @@ HoldsSq-abort past r s c rest h oldest =
       none_posted = h.none_posted;
     }
 
+-- a candidate that an Abort command takes is aborted
+pub HoldsSq-abort_named : (past : Past) (r : ℕ) (s : SqKept) (cid : ℕ) (c : Candidate) → HoldsSq past r s → oldest_named cid s.window ≡ Some c
+    → HoldsSq (event.Abort r c.index ∷ past) r (record s { window = without_oldest cid s.window })
+HoldsSq-abort_named past r s cid c h oldest =
+    let p = splits cid s.window c oldest in
+    let xs : List ℕ = map (λ (d : Candidate). d.index) p.before in
+    let ys : List ℕ = map (λ (d : Candidate). d.index) p.behind in
+    let waits : waiting past r ≡ xs ++ c.index ∷ ys = waiting_splits past r s cid c h p in
+    let below : c.index < length (fetched past r) = found_is cid s.window c oldest (λ (d : Candidate). d.index < length (fetched past r)) (window-below past r s h) in
+    record {
+      fetched_is = h.fetched_is;
+      counted = h.counted;
+      waiting_is = waiting-abort_at past r c.index xs ys waits ∙ sym (ap (map (λ (d : Candidate). d.index)) p.left ∙ map-append (λ (d : Candidate). d.index) p.before p.behind);
+      entries = left_hold (λ (d : Candidate). entry_at past r d.index ≡ Some d.entry) cid s.window h.entries;
+      few_waiting = omega (arith, h.few_waiting, found_one cid s.window c oldest);
+      few_picked = subst (λ (z : List Sqe). picked past r ≤ unaborted_below (event.Abort r c.index ∷ past) r (length z)) h.fetched_is
+          (few_picked-abort_at past r c.index xs ys waits);
+      none_aborted = λ i from. is_aborted-abort past r c.index i ∙ rw (ne_eqb c.index i (λ e. omega (arith, e, below, from, ap length h.fetched_is))) (h.none_aborted i from);
+      none_posted = h.none_posted;
+    }
+
 -- an abort in another region
 pub HoldsSq-abort_other : (past : Past) (region i r : ℕ) (s : SqKept) → (region ≡ r → ⊥) → HoldsSq past r s → HoldsSq (event.Abort region i ∷ past) r s
 HoldsSq-abort_other past region i r s other h =
@@ -305,22 +327,48 @@ closed_cq_regions : (now : Past) (sq : ℕ → SqKept) (qid : ℕ) (o : Option �
 closed_cq_regions now sq qid None h = h
 closed_cq_regions now sq qid (Some region) h = made_regions (event.ClosedCq qid region) now sq (λ r. refl) (λ r. refl) (λ r i. refl) (λ r i. refl) h
 
+-- an Abort command takes a candidate of a region, or finds none
+aborting_regions : (past now : Past) (k : Kept) (candidate : Candidate) (c cid : ℕ) (board : BoardView) (queue : Queue) (o : Option Candidate)
+    → oldest_named cid (k.sq queue.region).window ≡ o → HoldsSq past queue.region (k.sq queue.region)
+    → ((r : ℕ) → HoldsSq now r (k.sq r)) → (r : ℕ) → HoldsSq (with_events (abort_in past cid (Some queue)) now) r ((aborting_in k candidate queue.region c cid board o).sq r)
+aborting_regions past now k candidate c cid board queue None is held h r =
+    subst (λ (es : List Event). HoldsSq (with_events es now) r (k.sq r)) (sym (made_none past cid queue (k.sq queue.region) held is)) (h r)
+aborting_regions past now k candidate c cid board queue (Some found) is held h r =
+    let later : Past = event.Abort queue.region found.index ∷ now in
+    let left : SqKept = record (k.sq queue.region) { window = without_oldest cid (k.sq queue.region).window } in
+    let counted : SqKept = record left { unposted = (k.sq queue.region).unposted + 1 } in
+    subst (λ (es : List Event). HoldsSq (with_events es now) r (put_sq k.sq queue.region counted r)) (sym (made_abort past cid queue (k.sq queue.region) found held is))
+    (put_sq-holds later k.sq queue.region counted
+    (HoldsSq-kept later queue.region left counted refl refl refl (HoldsSq-abort_named now queue.region (k.sq queue.region) cid found (h queue.region) is))
+    (λ x other. HoldsSq-abort_other now queue.region found.index x (k.sq x) other (h x)) r)
+
+-- of the queue that it names, where that is open
+target_regions : (past now : Past) (k : Kept) (candidate : Candidate) (c cid : ℕ) (board : BoardView) (o : Option Queue)
+    → ((queue : Queue) → o ≡ Some queue → HoldsSq past queue.region (k.sq queue.region))
+    → ((r : ℕ) → HoldsSq now r (k.sq r)) → (r : ℕ) → HoldsSq (with_events (abort_in past cid o) now) r ((aborting_from k candidate c cid board o).sq r)
+target_regions past now k candidate c cid board None held h = h
+target_regions past now k candidate c cid board (Some queue) held h =
+    aborting_regions past now k candidate c cid board queue (oldest_named cid (k.sq queue.region).window) refl (held queue refl) h
+
 -- whatever the verdict makes
 verdict_regions : (past now : Past) (k : Kept) (candidate : Candidate) (c : ℕ) (board : BoardView) (v : Verdict)
     → ((qid : ℕ) (queue : Queue) → v ≡ BeginDelete qid → open_sq past qid ≡ Some queue → waiting past queue.region ≡ map (λ (d : Candidate). d.index) (k.sq queue.region).window)
+    → ((sqid : ℕ) (queue : Queue) → target_of past sqid ≡ Some queue → HoldsSq past queue.region (k.sq queue.region))
     → ((r : ℕ) → HoldsSq now r (k.sq r)) → (r : ℕ) → HoldsSq (with_events (made_by past v) now) r ((after_admin past k candidate c board v).sq r)
-verdict_regions past now k candidate c board (Done status dw0) waits h = h
-verdict_regions past now k candidate c board (verdict.OpenSq qid region cqid class) waits h =
+verdict_regions past now k candidate c board (Done status dw0) waits held h = h
+verdict_regions past now k candidate c board (verdict.OpenSq qid region cqid class) waits held h =
     let made = made_regions (event.OpenSq qid region cqid class) now k.sq (λ r. refl) (λ r. refl) (λ r i. refl) (λ r i. refl) h in
     put_sq-holds (event.OpenSq qid region cqid class ∷ now) k.sq region (record (k.sq region) { queue = Some (record { qid = qid; cq_region = c }) })
     (HoldsSq-kept (event.OpenSq qid region cqid class ∷ now) region (k.sq region) (record (k.sq region) { queue = Some (record { qid = qid; cq_region = c }) }) refl refl refl (made region))
     (λ r other. made r)
-verdict_regions past now k candidate c board (verdict.OpenCq qid region) waits h =
+verdict_regions past now k candidate c board (verdict.OpenCq qid region) waits held h =
     made_regions (event.OpenCq qid region) now k.sq (λ r. refl) (λ r. refl) (λ r i. refl) (λ r i. refl) h
-verdict_regions past now k candidate c board (BeginDelete qid) waits h =
+verdict_regions past now k candidate c board (verdict.Abort sqid cid) waits held h =
+    target_regions past now k candidate c cid board (target_of past sqid) (held sqid) h
+verdict_regions past now k candidate c board (BeginDelete qid) waits held h =
     deleting_regions past now k candidate c qid (open_sq past qid) (λ queue is. waits qid queue refl is) h
-verdict_regions past now k candidate c board (CloseCq qid) waits h = closed_cq_regions now k.sq qid (open_cq past qid) h
-verdict_regions past now k candidate c board (verdict.SetArbitration settings) waits h =
+verdict_regions past now k candidate c board (CloseCq qid) waits held h = closed_cq_regions now k.sq qid (open_cq past qid) h
+verdict_regions past now k candidate c board (verdict.SetArbitration settings) waits held h =
     made_regions (event.SetArbitration settings) now k.sq (λ r. refl) (λ r. refl) (λ r i. refl) (λ r i. refl) h
 
 -- two open queues with one region have one identifier
@@ -331,6 +379,31 @@ one_queue past k q p queue other h one two same =
     let b = h.attached p other two in
     ap (λ (x : Attachment). x.qid) (same_Some _ _ (sym a.attached ∙ ap (λ (z : ℕ). (k.sq z).queue) same ∙ b.attached))
 
+-- the queue whose candidates an Abort command may abort is open, and isn't the admin queue
+pub target_is : (past : Past) (sqid : ℕ) (queue : Queue) → target_of past sqid ≡ Some queue → (sqid ≡ 0 → ⊥) × (open_sq past sqid ≡ Some queue)
+target_is past sqid queue h = elim (eqb_tells sqid 0) [
+  | inl same ↦ let none : None ≡ Some queue = sym (ap (λ (b : Bool). if b then None else open_sq past sqid) same.0) ∙ h in absurd (cc none)
+  | inr apart ↦ (apart.1, sym (ap (λ (b : Bool). if b then None else open_sq past sqid) apart.0) ∙ h)
+]
+
+-- so it has another region than the admin queue
+pub target_apart : (past : Past) (k : Kept) → HoldsQueues past k → open_sq past 0 ≡ Some admin_queue → (sqid : ℕ) (queue : Queue) → target_of past sqid ≡ Some queue
+    → queue.region ≡ 0 → ⊥
+target_apart past k h admin sqid queue is e =
+    let target = target_is past sqid queue is in
+    target.0 (one_queue past k sqid 0 queue admin_queue h target.1 admin e)
+
+-- and a pick of the admin queue leaves that region
+pub target_left : (past : Past) (k : Kept) → HoldsQueues past k → open_sq past 0 ≡ Some admin_queue → (sqid : ℕ) (queue : Queue) → target_of past sqid ≡ Some queue
+    → (x : SqKept) → put_sq k.sq 0 x queue.region ≡ k.sq queue.region
+target_left past k h admin sqid queue is x = put_sq-other k.sq 0 x queue.region (λ e. target_apart past k h admin sqid queue is (sym e))
+
+-- so it still holds what waited
+pub target_holds : (past : Past) (k : Kept) → HoldsQueues past k → ((r : ℕ) → HoldsSq past r (k.sq r)) → open_sq past 0 ≡ Some admin_queue → (sqid : ℕ) (queue : Queue)
+    → target_of past sqid ≡ Some queue → (n : ℕ) → HoldsSq past queue.region (put_sq k.sq 0 (picked_sq (k.sq 0) n) queue.region)
+target_holds past k h regions admin sqid queue is n =
+    subst (λ (z : SqKept). HoldsSq past queue.region z) (sym (target_left past k h admin sqid queue is (picked_sq (k.sq 0) n))) (regions queue.region)
+
 -- the queue of a due deletion isn't the admin queue
 pub not_admin_queue : (rules : FrontRules) (history : TableHistory) (entry : Sqe) (qid : ℕ) → verdict_of rules.start history entry ≡ BeginDelete qid → qid ≡ 0 → ⊥
 not_admin_queue rules history entry qid is =
@@ -340,6 +413,7 @@ not_admin_queue rules history entry qid is =
 pub regions-admin : KeepsAdmin Regions
 regions-admin rules late past k seen pick picked candidate rest table c board s can saw admin one apply chosen =
     verdict_regions past (event.Pick seen pick ∷ past) (applied_to k picked table) candidate c board (verdict_at rules s.tabled.history candidate) waits
+    (λ sqid queue is. target_holds past k s.queues s.regions (subst (λ (q : ℕ). open_sq past q ≡ Some admin_queue) admin can.is_open) sqid queue is 1)
     (picked_regions past k.sq admin_queue seen pick 1 s.regions can.is_open one (omega (arith, can.enough, one))) where
       waits : (qid : ℕ) (queue : Queue) → verdict_at rules s.tabled.history candidate ≡ BeginDelete qid → open_sq past qid ≡ Some queue
           → waiting past queue.region ≡ map (λ (d : Candidate). d.index) ((applied_to k picked table).sq queue.region).window

@@ -14,7 +14,7 @@ use Rattle.nvme_log.specs.Rules.{Past}
 use Rattle.nvme_log.specs.Queues.{open_sq, has_region}
 use Rattle.nvme_log.specs.Places.{fetched, entry_at, picked, is_aborted, unaborted_below, fate_of, is_waiting, is_picked, waiting}
 use Rattle.nvme_log.specs.Places.{one_if, is_served}
-use Rattle.nvme_log.proofs.Waiting.{times_among, times-waiting, served-or_waits, one_fate_of, fetched-fetch, waiting-fetch, waiting-pick, waiting-abort, is_aborted-abort, is_aborted-abort_other}
+use Rattle.nvme_log.proofs.Waiting.{times_among, times-waiting, served-or_waits, one_fate_of, fetched-fetch, waiting-fetch, waiting-pick, waiting-abort, waiting-abort_at, is_aborted-abort, is_aborted-abort_other}
 use Rattle.nvme_state.proofs.AfterSteps.{with_events}
 use Rattle.nvme_state.proofs.Regions.{slice_get-append_left, aborts_of}
 
@@ -74,18 +74,33 @@ served-pick past seen pick r own i =
       sum_by-take-drop (λ (j : ℕ). one_if (j == i)) (waiting past r) pick.n,
     )
 
--- an abort serves the oldest place that waits
-pub served-abort : (past : Past) (r c : ℕ) (rest : List ℕ) → waiting past r ≡ c ∷ rest → (i : ℕ)
+-- a place stands once more in a list with it between others than in these
+times_between : (i c : ℕ) (xs ys : List ℕ) → times_among i (xs ++ c ∷ ys) ≡ times_among i (xs ++ ys) + one_if (c == i)
+times_between i c xs ys =
+    omega (
+      arith,
+      sum_by-append (λ (j : ℕ). one_if (j == i)) xs (c ∷ ys),
+      sum_by-append (λ (j : ℕ). one_if (j == i)) xs ys,
+      sum_by-cons (λ (j : ℕ). one_if (j == i)) c ys,
+    )
+
+-- an abort serves a place that waits
+pub served-abort_at : (past : Past) (r c : ℕ) (xs ys : List ℕ) → waiting past r ≡ xs ++ c ∷ ys → (i : ℕ)
     → one_if (is_served (event.Abort r c ∷ past) r i) ≡ one_if (is_served past r i) + one_if (c == i)
-served-abort past r c rest oldest i =
+served-abort_at past r c xs ys split i =
     omega (
       arith,
       served-or_waits (event.Abort r c ∷ past) r i,
       served-or_waits past r i,
-      ap (times_among i) (waiting-abort past r c rest oldest),
-      ap (times_among i) oldest,
-      sum_by-cons (λ (j : ℕ). one_if (j == i)) c rest,
+      ap (times_among i) (waiting-abort_at past r c xs ys split),
+      ap (times_among i) split,
+      times_between i c xs ys,
     )
+
+-- also the oldest
+pub served-abort : (past : Past) (r c : ℕ) (rest : List ℕ) → waiting past r ≡ c ∷ rest → (i : ℕ)
+    → one_if (is_served (event.Abort r c ∷ past) r i) ≡ one_if (is_served past r i) + one_if (c == i)
+served-abort past r c rest oldest i = served-abort_at past r c [] rest oldest i
 
 -- ---- which fetched places were picked, and which wait
 -- after a pick of the region's queue the first places that waited wait no more
@@ -106,17 +121,17 @@ pub is_picked-pick : (past : Past) (seen : ArrayVec Seen) (pick : Pick) (r : ℕ
 is_picked-pick past seen pick r own i lt =
     omega (arith, waits-pick past seen pick r own i lt, one_fate_of past r i, one_fate_of (event.Pick seen pick ∷ past) r i)
 
--- after an abort of the oldest place that waits it waits no more
-pub waits-abort : (past : Past) (r c : ℕ) (rest : List ℕ) → waiting past r ≡ c ∷ rest → (i : ℕ) → i < length (fetched past r)
+-- after an abort of a place that waits it waits no more
+pub waits-abort_at : (past : Past) (r c : ℕ) (xs ys : List ℕ) → waiting past r ≡ xs ++ c ∷ ys → (i : ℕ) → i < length (fetched past r)
     → one_if (is_waiting (fate_of past r i)) ≡ one_if (is_waiting (fate_of (event.Abort r c ∷ past) r i)) + one_if (c == i)
-waits-abort past r c rest oldest i lt =
+waits-abort_at past r c xs ys split i lt =
     omega (
       arith,
       waits-times past r i lt,
       waits-times (event.Abort r c ∷ past) r i lt,
-      ap (times_among i) (waiting-abort past r c rest oldest),
-      ap (times_among i) oldest,
-      sum_by-cons (λ (j : ℕ). one_if (j == i)) c rest,
+      ap (times_among i) (waiting-abort_at past r c xs ys split),
+      ap (times_among i) split,
+      times_between i c xs ys,
     )
 
 -- either of two tests counts as both, where at most one passes
@@ -125,16 +140,21 @@ either-count true true h = absurd (omega (arith, h))
 either-count true false h = omega arith
 either-count false a h = omega arith
 
--- an abort of the oldest place that waits leaves which places are picked
-pub is_picked-abort : (past : Past) (r c : ℕ) (rest : List ℕ) → waiting past r ≡ c ∷ rest → (i : ℕ) → i < length (fetched past r)
+-- an abort of a place that waits leaves which places are picked
+pub is_picked-abort_at : (past : Past) (r c : ℕ) (xs ys : List ℕ) → waiting past r ≡ xs ++ c ∷ ys → (i : ℕ) → i < length (fetched past r)
     → is_picked (fate_of (event.Abort r c ∷ past) r i) ≡ is_picked (fate_of past r i)
-is_picked-abort past r c rest oldest i lt =
-    let waits = waits-abort past r c rest oldest i lt in
+is_picked-abort_at past r c xs ys split i lt =
+    let waits = waits-abort_at past r c xs ys split i lt in
     let before = one_fate_of past r i in
     let named : one_if (is_aborted (event.Abort r c ∷ past) r i) ≡ one_if (c == i) + one_if (is_aborted past r i) =
     ap one_if (is_aborted-abort past r c i) ∙ either-count (c == i) (is_aborted past r i) (omega (arith, waits, before)) in
     one_if-same (is_picked (fate_of (event.Abort r c ∷ past) r i)) (is_picked (fate_of past r i))
     (omega (arith, waits, before, named, one_fate_of (event.Abort r c ∷ past) r i))
+
+-- also of the oldest
+pub is_picked-abort : (past : Past) (r c : ℕ) (rest : List ℕ) → waiting past r ≡ c ∷ rest → (i : ℕ) → i < length (fetched past r)
+    → is_picked (fate_of (event.Abort r c ∷ past) r i) ≡ is_picked (fate_of past r i)
+is_picked-abort past r c rest oldest i lt = is_picked-abort_at past r c [] rest oldest i lt
 
 -- ---- aborts of several places
 -- what an abort leaves, aborts leave

@@ -1,5 +1,5 @@
 -- The steps of a front keep its table at the table history of the log.
-use Rattle.std.proofs.Common.{◌≡◌, ℕ, ◌+◌, ◌-◌, ◌==◌, ◌≤◌, Bool, true, false, List, [], ◌∷◌, ◌++◌, map, length, Option, Some, None, refl, sym, ap, subst, ◌∙◌, eq-eqb, eqb-true}
+use Rattle.std.proofs.Common.{◌≡◌, ℕ, ◌+◌, ◌-◌, ◌==◌, ◌≤◌, Bool, true, false, List, [], ◌∷◌, ◌++◌, map, length, Option, Some, None, refl, sym, ap, subst, ◌∙◌, eq-eqb, eqb-true, take}
 use Rattle.nvme_admin.specs.declared.bounds.TheConstants.{MAX_REGIONS}
 use Rattle.std.specs.Prelude.{if◌then◌else◌}
 use Rattle.std.proofs.lemmas.Bool.{ne_eqb, cond-true, cond-false}
@@ -23,12 +23,12 @@ use Rattle.nvme_log.specs.Rules.{FrontRules, Past}
 use Rattle.nvme_log.specs.Queues.{Queue, admin_queue, open_sq, open_cq}
 use Rattle.nvme_log.specs.Places.{waiting}
 use Rattle.nvme_log.specs.Histories.{table_history, admin_entry, applied}
-use Rattle.nvme_log.specs.Effects.{closed_cq_of, closing_of, made_by}
+use Rattle.nvme_log.specs.Effects.{closed_cq_of, closing_of, made_by, abort_in, named, target_of}
 use Rattle.nvme_state.specs.inside.Kept.{SqKept, CqKept, Kept, with_sq, with_cq, with_ready}
 use Rattle.nvme_state.specs.inside.Standing.{HoldsTable}
 use Rattle.nvme_state.proofs.Oldest.{admin_entry_is}
-use Rattle.nvme_state.specs.inside.Steps.{applied_to, aborted, verdict_at, after_pick, picked_sq}
-use Rattle.nvme_state.proofs.AfterSteps.{with_events, with_readies, admin_past, after_admin, deleting_from, with_opened, with_deleting, after_io, after_post, after_closed, posted_cq, post_event, closed_event}
+use Rattle.nvme_state.specs.inside.Steps.{applied_to, aborted, verdict_at, after_pick, picked_sq, oldest_named, requested, without_oldest}
+use Rattle.nvme_state.proofs.AfterSteps.{with_events, with_readies, admin_past, after_admin, deleting_from, with_opened, with_deleting, after_io, after_post, after_closed, posted_cq, post_event, closed_event, aborting_from, aborting_in, with_requested}
 use Rattle.nvme_state.proofs.StepKeeps.{KeepsFetch, KeepsIo, KeepsAdmin, KeepsPost, KeepsClose, Tabled}
 
 -- ---- the regions
@@ -180,6 +180,20 @@ leaves_verdict past k candidate c board (CloseCq qid) = leaves_ready k 0 _
 leaves_verdict past k candidate c board (verdict.SetArbitration settings) =
     let one : Kept = record k { board = board } in
     leaves_both k one _ (leaves_none k one refl refl refl refl) (leaves_ready one 0 _)
+leaves_verdict past k candidate c board (verdict.Abort sqid cid) = by_target (target_of past sqid) where
+  by_found : (queue : Queue) (o : Option Candidate) → LeavesRegions k (aborting_in k candidate queue.region c cid board o)
+  by_found queue None = leaves_ready k 0 _
+  by_found queue (Some found) =
+      let one : Kept = with_sq k queue.region (record (k.sq queue.region) { window = without_oldest cid (k.sq queue.region).window; unposted = (k.sq queue.region).unposted + 1 }) in
+      let two : Kept = with_ready one c (requested queue.region found) in
+      let three : Kept = with_requested k queue.region c cid board found in
+      leaves_both k three _
+      (leaves_both k one three (leaves_sq k queue.region _ refl) (leaves_both one two three (leaves_ready one c _) (leaves_none two three refl refl refl refl)))
+      (leaves_ready three 0 _)
+
+  by_target : (o : Option Queue) → LeavesRegions k (aborting_from k candidate c cid board o)
+  by_target None = leaves_ready k 0 _
+  by_target (Some queue) = by_found queue (oldest_named cid (k.sq queue.region).window)
 leaves_verdict past k candidate c board (BeginDelete qid) = by_sq (open_sq past qid) where
   by_sq : (o : Option Queue) → LeavesRegions k (deleting_from k qid c candidate o)
   by_sq None = leaves_ready k 0 _
@@ -196,6 +210,14 @@ leaves_table past k candidate c board (verdict.OpenSq qid region cqid class) = r
 leaves_table past k candidate c board (verdict.OpenCq qid region) = refl
 leaves_table past k candidate c board (CloseCq qid) = refl
 leaves_table past k candidate c board (verdict.SetArbitration settings) = refl
+leaves_table past k candidate c board (verdict.Abort sqid cid) = by_target (target_of past sqid) where
+  by_found : (queue : Queue) (o : Option Candidate) → (aborting_in k candidate queue.region c cid board o).table ≡ k.table
+  by_found queue None = refl
+  by_found queue (Some found) = refl
+
+  by_target : (o : Option Queue) → (aborting_from k candidate c cid board o).table ≡ k.table
+  by_target None = refl
+  by_target (Some queue) = by_found queue (oldest_named cid (k.sq queue.region).window)
 leaves_table past k candidate c board (BeginDelete qid) = by_sq (open_sq past qid) where
   by_sq : (o : Option Queue) → (deleting_from k qid c candidate o).table ≡ k.table
   by_sq None = refl
@@ -213,6 +235,10 @@ made_leave_history rules past later (Done status dw0) = refl
 made_leave_history rules past later (verdict.OpenSq qid region cqid class) = refl
 made_leave_history rules past later (verdict.OpenCq qid region) = refl
 made_leave_history rules past later (verdict.SetArbitration settings) = refl
+made_leave_history rules past later (verdict.Abort sqid cid) = by_target (target_of past sqid) where
+  by_target : (o : Option Queue) → table_history rules (with_events (abort_in past cid o) later) ≡ table_history rules later
+  by_target None = refl
+  by_target (Some queue) = aborts_leave_history rules queue.region (take 1 (named past queue.region cid)) later
 made_leave_history rules past later (CloseCq qid) = by_cq (open_cq past qid) where
   by_cq : (o : Option ℕ) → table_history rules (with_events (closed_cq_of qid o) later) ≡ table_history rules later
   by_cq None = refl

@@ -1,5 +1,5 @@
 -- The picked I/O commands that have no result yet, and the seat at their workers (profile).
-use Rattle.std.specs.Prelude.{◌≢◌, ℕ, ◌+◌, ◌==◌, ◌&&◌, Bool, List, ◌++◌, length, sum_by}
+use Rattle.std.specs.Prelude.{◌≢◌, ℕ, ◌==◌, ◌&&◌, Bool, List, ◌++◌, length, sum_by}
 use Rattle.std.specs.List.{All, list_any}
 use Rattle.nvme_lane.specs.View.{GetView}
 use Rattle.nvme_pool.specs.Jobs.{job_of}

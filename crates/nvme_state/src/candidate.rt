@@ -12,13 +12,13 @@ impl Candidate {
 
     /// The completion of an admin command that was executed, with its status and Dword 0.
     pub fn answered(&self, status: Status, dw0: u32) -> Ready
-        ensures { result ≡ record { region = 0; index = self.now.index; entry = self.now.entry; aborted = false; status = status; dw0 = dw0 } }
+        ensures { result ≡ record { region = 0; index = self.now.index; entry = self.now.entry; with_queue = false; status = status; dw0 = dw0 } }
     {
         Ready {
             region: 0,
             index: self.index,
             entry: self.entry,
-            aborted: false,
+            with_queue: false,
             status,
             dw0,
         }
@@ -40,7 +40,8 @@ pub struct Ready {
     pub region: u8,
     pub index: u32,
     pub entry: Sqe,
-    pub aborted: bool,
+    // It was aborted with its queue, and takes no outstanding place.
+    pub with_queue: bool,
     pub status: Status,
     pub dw0: u32,
 }

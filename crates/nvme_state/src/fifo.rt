@@ -1,4 +1,7 @@
 // A queue of items, with room that was made when it was made.
+ghost use Rattle.std.specs.Prelude.{◌≡◌, ◌==◌, position};
+
+use crate::candidate::Candidate;
 use std::alloc::Global;
 use std::collections::VecDeque;
 use std::marker::Model;
@@ -96,5 +99,27 @@ impl<T: Copy> Fifo<T> {
         ensures room { self.new.room ≡ self.old.room }
     {
         self.items.pop_front()
+    }
+}
+
+// The position of the oldest candidate with a command identifier.
+fn position_of(candidates: &VecDeque<Candidate>, cid: u16) -> Option<usize>
+    ensures { result ≡ position (λ c. c.entry.cid == cid) candidates.now.items }
+{
+    candidates.iter().position(|c| c.entry.cid == cid)
+}
+
+impl Fifo<Candidate> {
+    ghost use Rattle.std.specs.Prelude.{◌≡◌, IfNone};
+    ghost use Rattle.nvme_state.specs.inside.Steps.{oldest_named, without_oldest};
+
+    /// Takes the oldest candidate with a command identifier out. None where there is none; nothing changed then.
+    pub fn take_named(&mut self, cid: u16) -> Option<Candidate>
+        ensures value { result ≡ oldest_named cid self.old.items }
+        ensures rest { self.new ≡ record self.old { items = without_oldest cid self.old.items } }
+        ensures none { IfNone result (self.new ≡ self.old) }
+    {
+        let i = position_of(&self.items, cid)?;
+        self.items.remove(i)
     }
 }

@@ -21,6 +21,7 @@ use Rattle.nvme_log.specs.Rules.{FrontRules, Past, Each, sq_regions_of, cq_regio
 use Rattle.nvme_log.specs.Queues.{Queue, Deletion, open_sq, open_cq, pending, is_closed_region, qid_of_region, cq_region_of}
 use Rattle.nvme_log.specs.Places.{Place, fetched, waiting, picked, is_aborted, unaborted_below, entry_at, is_served, one_if}
 use Rattle.nvme_log.specs.Histories.{arbitration_of, table_history}
+use Rattle.nvme_log.specs.Aborts.{is_aborted_with_queue}
 use Rattle.nvme_log.specs.Completions.{is_posted, posts_of, posted_to, outstanding, own_status, own_dw0, unposted_of}
 use Rattle.nvme_log.specs.Effects.{EffectsAtOnce, effects_since, made_last}
 use Rattle.nvme_log.specs.Account.{IndexCounts, ServedWhileOpen, Observed, Deletes, PostsOwn, LeavesPlaces, deleting_place}
@@ -59,12 +60,12 @@ over_regions f (suc n) = over_regions f n + f n
 abbrev pub times_ready : Kept → ℕ → ℕ → ℕ
 times_ready k r i = over_regions (λ (c : ℕ). times_in r i (k.cq c).ready) MAX_REGIONS
 
--- the ready completions of picked places, and of aborted ones
+-- the ready completions that hold an outstanding place, and those of places that were aborted with their queue
 abbrev pub ready_picked : Kept → ℕ
-ready_picked k = over_regions (λ (c : ℕ). length (filter (λ (t : Ready). not t.aborted) (k.cq c).ready)) MAX_REGIONS
+ready_picked k = over_regions (λ (c : ℕ). length (filter (λ (t : Ready). not t.with_queue) (k.cq c).ready)) MAX_REGIONS
 
 abbrev pub ready_aborted : Kept → ℕ
-ready_aborted k = over_regions (λ (c : ℕ). length (filter (λ (t : Ready). t.aborted) (k.cq c).ready)) MAX_REGIONS
+ready_aborted k = over_regions (λ (c : ℕ). length (filter (λ (t : Ready). t.with_queue) (k.cq c).ready)) MAX_REGIONS
 
 -- the place of the command of a deletion, which is answered when the deletion is finished
 abbrev pub deleted_place : PendingDelete → Place
@@ -77,12 +78,13 @@ held_by deletion = option_to_list (option_map deleted_place deletion)
 abbrev pub hand_of : Kept → List Place
 hand_of k = map dispatched_place (in_hand k.jobs.hands) ++ held_by k.deletion
 
--- what is ready in a completion region is a completion of a place that goes there. An aborted one is of the queue that is being deleted
+-- what is ready in a completion region is a completion of a place that goes there. One that was aborted with its queue is of the queue that is
+-- being deleted
 pub record IsReady (past : Past) (deletion : Option PendingDelete) (c : ℕ) (t : Ready) : Type 0 where
   pub region : cq_region_of past t.region ≡ Some c
   pub entry : entry_at past t.region t.index ≡ Some t.entry
-  pub aborted : t.aborted ≡ is_aborted past t.region t.index
-  pub deleting : t.aborted ≡ true → option_map (λ (d : PendingDelete). d.region) deletion ≡ Some t.region
+  pub with_queue : t.with_queue ≡ is_aborted_with_queue past t.region t.index
+  pub deleting : t.with_queue ≡ true → option_map (λ (d : PendingDelete). d.region) deletion ≡ Some t.region
 
 -- each picked or aborted place is once ready, once posted or once in hand: picked, but neither ready nor posted
 pub record HoldsReady (past : Past) (k : Kept) (hand : List Place) : Type 0 where

@@ -1,6 +1,6 @@
--- An aborted candidate, and what a front keeps after a pick and after its admin command was applied (profile).
-use Rattle.std.proofs.Common.{◌≡◌, ℕ, ◌+◌, ◌≤◌, true, List, ◌∷◌, length, drop, Some, None}
-use Rattle.nvme_entry.specs.Status.{aborted_by_deletion}
+-- The candidate that an Abort command takes, aborted candidates, and what a front keeps after a pick and after its admin command was applied (profile).
+use Rattle.std.specs.Prelude.{◌≡◌, ℕ, ◌+◌, ◌≤◌, ◌==◌, true, false, if◌then◌else◌, List, [], ◌∷◌, length, drop, Option, Some, None}
+use Rattle.nvme_entry.specs.Status.{abort_requested, aborted_by_deletion}
 use Rattle.nvme_arbiter.specs.History.{Picked}
 use Rattle.nvme_arbiter.specs.Lawful.{lawful_pick}
 use Rattle.nvme_arbiter.specs.Board.{BoardView, BoardStandsAt, queues_after}
@@ -16,6 +16,7 @@ use Rattle.nvme_log.specs.Rules.{FrontRules, Past}
 use Rattle.nvme_log.specs.Queues.{Queue, admin_queue, open_sq}
 use Rattle.nvme_log.specs.Places.{observation_of}
 use Rattle.nvme_log.specs.Histories.{arbitration_of}
+use Rattle.nvme_log.specs.Aborts.{is_abort_entry}
 use Rattle.nvme_state.specs.inside.Kept.{SqKept, Kept, with_sq}
 
 -- a pick, after which n places are in hand: picked, and neither ready nor posted
@@ -35,11 +36,12 @@ abbrev pub after_pick : Kept → Queue → ℕ → BoardView → Kept
 after_pick k queue n board =
     record (with_sq k queue.region (picked_sq (k.sq queue.region) n)) { board = board; outstanding = k.outstanding + n }
 
--- an admin pick: its command is applied to the table
+-- an admin pick: its command is applied to the table. An Abort command needs a second place, for what it may abort
 pub record CanApply (rules : FrontRules) (past : Past) (k : Kept) (history : TableHistory) (candidate : Candidate) (rest : List Candidate) (table : TableView) : Type 0 where
   pub oldest : (k.sq 0).window ≡ candidate ∷ rest
   pub table_stands : StandsAt rules.start table (EntryApplied candidate.entry ∷ history)
   pub sized : IsSized table
+  pub second : is_abort_entry (Some candidate.entry) ≡ true → k.outstanding + 2 ≤ max_outstanding
 
 abbrev pub verdict_at : FrontRules → TableHistory → Candidate → Verdict
 verdict_at rules history candidate = verdict_of rules.start history candidate.entry
@@ -48,6 +50,20 @@ verdict_at rules history candidate = verdict_of rules.start history candidate.en
 abbrev pub applied_to : Kept → BoardView → TableView → Kept
 applied_to k board table = record (after_pick k admin_queue 1 board) { table = table }
 
--- an aborted candidate
+-- a candidate that was aborted with its queue
 abbrev pub aborted : ℕ → Candidate → Ready
-aborted r c = record { region = r; index = c.index; entry = c.entry; aborted = true; status = aborted_by_deletion; dw0 = 0 }
+aborted r c = record { region = r; index = c.index; entry = c.entry; with_queue = true; status = aborted_by_deletion; dw0 = 0 }
+
+-- a candidate that an Abort command aborted
+abbrev pub requested : ℕ → Candidate → Ready
+requested r c = record { region = r; index = c.index; entry = c.entry; with_queue = false; status = abort_requested; dw0 = 0 }
+
+-- the oldest candidate of a window with a command identifier
+abbrev pub oldest_named : ℕ → List Candidate → Option Candidate
+oldest_named cid [] = None
+oldest_named cid (c ∷ rest) = if c.entry.cid == cid then Some c else oldest_named cid rest
+
+-- the window without it
+abbrev pub without_oldest : ℕ → List Candidate → List Candidate
+without_oldest cid [] = []
+without_oldest cid (c ∷ rest) = if c.entry.cid == cid then rest else c ∷ without_oldest cid rest
