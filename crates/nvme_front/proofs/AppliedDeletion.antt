@@ -1,11 +1,10 @@
 -- A front whose picked admin command begins the deletion of a submission queue.
 use Rattle.std.proofs.Common.{◌≡◌, ℕ, ◌+◌, ◌<◌, ◌≤◌, Bool, true, false, not, List, [], ◌∷◌, ◌++◌, map, length, set, get_or, Option, Some, None, refl, sym, ap, subst, ◌∙◌, arith, append_assoc}
 use Rattle.std.specs.Prelude.{option_map, slice_set, IsSome}
-use Rattle.std.proofs.lemmas.List.{get_or-set_other, length-set, length-map}
+use Rattle.std.proofs.lemmas.List.{length-set, length-map}
 use Rattle.std.proofs.lemmas.Simd.{map-map}
 use Rattle.nvme_arbiter.specs.Board.{BoardView}
-use Rattle.nvme_arbiter.specs.Queues.{queue_at, fewer}
-use Rattle.nvme_arbiter.specs.declared.pick.OpenQueue.{OpenQueue}
+use Rattle.nvme_arbiter.specs.Queues.{queue_at}
 use Rattle.nvme_admin.specs.QueueTable.{as_closing}
 use Rattle.nvme_admin.specs.Checks.{is_open}
 use Rattle.nvme_admin.specs.Accepted.{queue_table, sq_at}
@@ -22,31 +21,23 @@ use Rattle.nvme_state.specs.declared.region.SqRegion.{SqRegion}
 use Rattle.nvme_state.specs.declared.region.CqRegion.{CqRegion}
 use Rattle.nvme_front.specs.declared.state.FrontState.{FrontState}
 use Rattle.nvme_state.specs.inside.Fifo.{FifoView}
-use Rattle.nvme_log.specs.Queues.{Queue, admin_queue, open_sq}
+use Rattle.nvme_log.specs.Queues.{Queue, open_sq}
 use Rattle.nvme_log.specs.Places.{waiting}
 use Rattle.nvme_log.specs.Effects.{made_by, closing_of}
 use Rattle.nvme_log.specs.Laws.{as_open}
 use Rattle.nvme_front.specs.inside.Applied.{IsApplied}
 use Rattle.nvme_state.specs.inside.Kept.{SqKept, Kept, with_sq, put_sq}
-use Rattle.nvme_front.specs.inside.State.{sq_kept, sq_in, cq_in, gets_of, kept_of, rules_of}
-use Rattle.nvme_front.specs.inside.Room.{IsKept, window_room}
-use Rattle.nvme_state.specs.inside.Standing.{IsAttached, on_board}
-use Rattle.nvme_front.specs.inside.Goes.{coming_at, Goes}
-use Rattle.nvme_front.specs.Ends.{get_place}
+use Rattle.nvme_front.specs.inside.State.{sq_kept, sq_in, cq_in, kept_of, rules_of}
+use Rattle.nvme_front.specs.inside.Room.{IsKept}
+use Rattle.nvme_front.specs.inside.Goes.{Goes}
 use Rattle.nvme_log.specs.Histories.{picks_in}
-use Rattle.nvme_state.specs.inside.Steps.{aborted, picked_sq}
+use Rattle.nvme_state.specs.inside.Steps.{aborted}
 use Rattle.nvme_state.proofs.AfterSteps.{with_deleting, with_readies, deleting_from, IsChosen}
-use Rattle.nvme_state.proofs.QueueWords.{at_same, at_other}
-use Rattle.nvme_state.proofs.DeletionSteps.{io_region}
-use Rattle.nvme_front.proofs.Comes.{coming-set}
-use Rattle.nvme_front.proofs.States.{sq_in-set, sq_in-read, places-set, windows-set}
-use Rattle.nvme_state.proofs.AppliedRoom.{few_unposted}
-use Rattle.nvme_front.proofs.AppliedStates.{kept_readied, kept_applied, goes_readied}
-use Rattle.nvme_front.proofs.AppliedTables.{tells, sqs_now, sqs_before, same_sqs, same_cqs, Stays}
-
--- a queue of the table, as an open queue of the log
-abbrev pub queue_of : SqEntry → Queue
-queue_of e = record { region = e.region; cqid = e.cqid; class = e.class }
+use Rattle.nvme_state.proofs.QueueWords.{at_same}
+use Rattle.nvme_front.proofs.States.{sq_in-set, sq_in-read}
+use Rattle.nvme_front.proofs.AppliedStates.{kept_readied, kept_applied, goes_aborted}
+use Rattle.nvme_front.proofs.AppliedTables.{tells, sqs_now, sqs_before, Stays}
+use Rattle.nvme_front.proofs.AppliedQueues.{queue_of, named_there, named_on_board, named_attached, named_some, named_attachment, named_posts, named_few, named_unposted, named_holds}
 
 -- an open queue of the table is there when it is closing
 closing_there : (o : Option SqEntry) → is_open o ≡ true → option_map as_closing o ≡ None → ⊥
@@ -129,90 +120,35 @@ module _ (a : FrontState) (candidate : Candidate) (qid : ℕ) (closing : Option 
         sqs_before a candidate (BeginDelete qid) closing h qid
         ∙ closing_was (sq_at (rules_of a).start h.stands.tabled.history qid) may_begin.open_sq e (sym closing_now ∙ is)
 
-    -- its region isn't that of the admin queue
-    apart : e.region ≡ 0 → ⊥
-    apart =
-        io_region h.past h.before qid (queue_of e) h.stands.queues (subst (λ (q : ℕ). open_sq h.past q ≡ Some admin_queue) h.of_admin h.can_pick.is_open) was_open
-        may_begin.not_admin
-
-    -- so the pick left it
-    region_is : sq_in a.sqs.items e.region ≡ h.before.sq e.region
-    region_is =
-        ap (λ (k : Kept). k.sq e.region) h.kept_is ∙ at_other e.region 0 (picked_sq (h.before.sq 0) 1) (h.before.sq e.region) apart
-
-    -- it was opened for the queue
-    attached_to : IsAttached h.past h.before qid (queue_of e)
-    attached_to = h.stands.queues.attached qid (queue_of e) was_open
-
-    -- it is one of the front's
-    begins_below : e.region < h.before.nsq
-    begins_below = h.stands.queues.sq_there e.region (record { qid = qid; cq_region = attached_to.cq_region }) attached_to.attached
-
-    -- so its number is below theirs
+    -- what is known of the queue
     pub begins_there : (r : ℕ) → r ≡ e.region → r < length a.sqs.items
-    begins_there r same =
-        let all = same_sqs a candidate (BeginDelete qid) closing h in
-        let below = begins_below in
-        omega arith
+    begins_there = named_there a candidate (BeginDelete qid) closing h qid (queue_of e) was_open may_begin.not_admin
 
-    -- the queue is on the board
+    -- it is on the board
     pub begins_on_board : IsSome (queue_at a.board.queues qid)
     begins_on_board =
-        let io : qid ≡ h.pick.qid → ⊥ = λ p. may_begin.not_admin (p ∙ h.of_admin) in
-        let picked : a.board.queues ≡ slice_set h.before.board.queues h.pick.qid (option_map (fewer h.pick.n) (queue_at h.before.board.queues h.pick.qid)) =
-        ap (λ (k : Kept). k.board.queues) h.kept_is ∙ h.can_pick.board_queues in
-        let here : queue_at a.board.queues qid ≡ Some (on_board h.before (queue_of e)) =
-        ap (λ (queues : List (Option OpenQueue)). queue_at queues qid) picked
-        ∙ get_or-set_other h.before.board.queues h.pick.qid qid (option_map (fewer h.pick.n) (queue_at h.before.board.queues h.pick.qid)) None io
-        ∙ h.stands.queues.board qid
-        ∙ ap (option_map (on_board h.before)) was_open in
+        let here = named_on_board a candidate (BeginDelete qid) closing h qid (queue_of e) was_open may_begin.not_admin in
         rw here refl
 
     -- the region, as it is read
     module _ (r : ℕ) (same : r ≡ e.region) (s : SqRegion) (read : s ≡ get_or a.sqs.items r s) where
-      -- it is what was kept before the pick
-      read_is : sq_kept s ≡ h.before.sq e.region
-      read_is = sym (sq_in-read a.sqs.items r s (begins_there r same) read) ∙ ap (sq_in a.sqs.items) same ∙ region_is
-
-      -- it was opened for the queue
-      queue_is : s.queue ≡ Some (record { qid = qid; cq_region = attached_to.cq_region })
-      queue_is = ap (λ (k : SqKept). k.queue) read_is ∙ attached_to.attached
-
-      -- so it has an attachment
       pub begins_attached : s.queue ≡ None → ⊥
-      begins_attached none = let both = sym none ∙ queue_is in cc
+      begins_attached = named_some a candidate (BeginDelete qid) closing h qid (queue_of e) was_open may_begin.not_admin r same s read
 
-      -- which is that of the queue
-      posts_to : (x : Attachment) → s.queue ≡ Some x → x ≡ record { qid = qid; cq_region = attached_to.cq_region }
-      posts_to x at = let both = sym at ∙ queue_is in cc
-
-      -- it posts to a completion region of the front's
       pub begins_posts : (x : Attachment) → s.queue ≡ Some x → (c : ℕ) → c ≡ x.cq_region → c < length a.cqs.items
-      begins_posts x at c is_c =
-          let to : x.cq_region ≡ attached_to.cq_region = ap (λ (y : Attachment). y.cq_region) (posts_to x at) in
-          let below = h.stands.queues.posts_there e.region (record { qid = qid; cq_region = attached_to.cq_region }) attached_to.attached in
-          let all = same_cqs a candidate (BeginDelete qid) closing h in
-          omega arith
+      begins_posts = named_posts a candidate (BeginDelete qid) closing h qid (queue_of e) was_open may_begin.not_admin r same s read
 
-      -- its candidates are few
       pub begins_few : length s.window.items ≤ 255
-      begins_few =
-          let window = ap (λ (k : SqKept). length k.window) read_is in
-          let few = (h.stands.regions e.region).few_waiting in
-          omega arith
+      begins_few = named_few a candidate (BeginDelete qid) closing h qid (queue_of e) was_open may_begin.not_admin r same s read
 
-      -- and so are its unposted places
       pub begins_unposted : s.unposted ≤ 255
-      begins_unposted =
-          let unposted = ap (λ (k : SqKept). k.unposted) read_is in
-          let few = few_unposted (rules_of a) a.late h.past h.before h.stands h.can_pick.none_pending e.region begins_below in
-          omega (arith, h.can_pick.places, h.one)
+      begins_unposted = named_unposted a candidate (BeginDelete qid) closing h qid (queue_of e) was_open may_begin.not_admin r same s read
 
       -- the events of the command
       begins_made : made_by h.past (BeginDelete qid) ≡ Closing qid e.region ∷ map (λ (c : Candidate). Abort e.region c.index) s.window.items
       begins_made =
           let waits : waiting h.past e.region ≡ map (λ (c : Candidate). c.index) s.window.items =
-          (h.stands.regions e.region).waiting_is ∙ ap (λ (k : SqKept). map (λ (c : Candidate). c.index) k.window) (sym read_is) in
+          (named_holds a candidate (BeginDelete qid) closing h qid (queue_of e) was_open may_begin.not_admin r same s read).waiting_is in
           ap (closing_of h.past qid) was_open
           ∙ ap (λ (is : List ℕ). Closing qid e.region ∷ map (λ (i : ℕ). Abort e.region i) is) waits
           ∙ ap (λ (es : List Event). Closing qid e.region ∷ es) (map-map (λ (i : ℕ). Abort e.region i) (λ (c : Candidate). c.index) s.window.items)
@@ -237,9 +173,10 @@ module _ (a : FrontState) (candidate : Candidate) (qid : ℕ) (closing : Option 
           rw begins_made (omega (arith, begins_few, length-map s.window.items (λ (c : Candidate). Abort e.region c.index))) in
           let chosen : IsChosen (rules_of a) h.past h.before c h.picked board (BeginDelete qid) = λ queue is_open.
           let one : queue_of e ≡ queue = (let both = sym was_open ∙ is_open in cc) in
-          let to = posts_to x at in
+          let attached = named_attached a candidate (BeginDelete qid) closing h qid (queue_of e) was_open may_begin.not_admin in
+          let to = named_attachment a candidate (BeginDelete qid) closing h qid (queue_of e) was_open may_begin.not_admin r same s read x at in
           subst (λ (q : Queue). (h.before.sq q.region).queue ≡ Some (record { qid = qid; cq_region = c })) one
-          (attached_to.attached ∙ ap (λ (z : ℕ). Some (record { qid = qid; cq_region = z })) (sym (is_c ∙ ap (λ (y : Attachment). y.cq_region) to))) in
+          (attached.attached ∙ ap (λ (z : ℕ). Some (record { qid = qid; cq_region = z })) (sym (is_c ∙ ap (λ (y : Attachment). y.cq_region) to))) in
           let kept : kept_of b ≡ with_deleting (kept_of a) qid e.region c candidate =
           kept_deleting a b candidate qid e.region c n s w d ready (begins_there e.region refl) (subst (λ (z : ℕ). s ≡ get_or a.sqs.items z s) same read) posts read_cq is_n is_w
           (subst (λ (z : ℕ). b.sqs.items ≡ set a.sqs.items z (record s { window = w; unposted = s.unposted + n })) same sqs) is_ready cqs is_board deletion stays.table stays.outstanding stays.jobs in
@@ -254,7 +191,4 @@ pub goes_deleting : (a b : FrontState) (r c n : ℕ) (s : SqRegion) (w : FifoVie
     → log ≡ a.log.items ++ e ∷ [] → b.log.items ≡ log ++ es → Stays a b → Goes a b
 goes_deleting a b r c n s w d ready ts log e es read is_w sqs read_cq is_ready cqs noted aborts stays =
     let events : b.log.items ≡ a.log.items ++ e ∷ es = aborts ∙ ap (λ (xs : List Event). xs ++ es) noted ∙ append_assoc a.log.items (e ∷ []) es in
-    goes_readied a b (e ∷ es) c d ready ts read_cq is_ready cqs events stays.config stays.alloc stays.late stays.jobs
-    (ap (λ (xs : List SqRegion). map get_place (gets_of xs)) sqs ∙ places-set a.sqs.items r s (record s { window = w; unposted = n }) read refl)
-    (ap (λ (xs : List SqRegion). map window_room xs) sqs ∙ windows-set a.sqs.items r s (record s { window = w; unposted = n }) read (ap (λ (z : FifoView Candidate). z.room) is_w))
-    (ap (λ (xs : List SqRegion). map coming_at xs) sqs ∙ coming-set a.sqs.items r s (record s { window = w; unposted = n }) read refl)
+    goes_aborted a b r c n s w d ready ts (e ∷ es) read (ap (λ (z : FifoView Candidate). z.room) is_w) sqs read_cq is_ready cqs events stays.config stays.alloc stays.late stays.jobs

@@ -9,6 +9,7 @@ use Rattle.nvme_log.specs.declared.event.Event.{Event}
 use Rattle.nvme_log.specs.declared.event.Event.TheVariants as event
 use Rattle.nvme_state.specs.declared.candidate.Candidate.{Candidate}
 use Rattle.nvme_state.specs.declared.candidate.Ready.{Ready}
+use Rattle.nvme_state.specs.declared.region.SqRegion.{SqRegion}
 use Rattle.nvme_state.specs.declared.region.CqRegion.{CqRegion}
 use Rattle.nvme_front.specs.declared.state.FrontState.{FrontState}
 use Rattle.nvme_state.specs.inside.Fifo.{FifoView}
@@ -25,8 +26,8 @@ use Rattle.nvme_log.specs.Histories.{picks_in}
 use Rattle.nvme_state.specs.inside.Steps.{applied_to}
 use Rattle.nvme_state.proofs.AfterSteps.{IsChosen, after_admin, admin_past, answered, with_events, with_readies}
 use Rattle.nvme_state.proofs.Standing.{stands-admin}
-use Rattle.nvme_front.proofs.Comes.{comes-same}
-use Rattle.nvme_front.proofs.States.{cq_in-set, cq_in-read, put_places-set, readies-set, ready_room-is, SameSeat-refl, kept_after, roomy-goes, past-events}
+use Rattle.nvme_front.proofs.Comes.{comes-same, coming-set}
+use Rattle.nvme_front.proofs.States.{cq_in-set, cq_in-read, places-set, windows-set, put_places-set, readies-set, ready_room-is, SameSeat-refl, kept_after, roomy-goes, past-events}
 use Rattle.nvme_state.proofs.AppliedRoom.{few_ready}
 
 -- ---- ready completions more
@@ -134,6 +135,17 @@ goes_readied a b es c d ready ts read e cqs log config alloc late jobs gets wind
   gained = omega (arith, ap (λ (j : JobsView). gained_count j.hands) jobs);
   room = ap (λ (j : JobsView). j.room) jobs;
 }
+
+-- the same where candidates left the window of a region too
+pub goes_aborted : (a b : FrontState) (r c n : ℕ) (s : SqRegion) (w : FifoView Candidate) (d : CqRegion) (ready : FifoView Ready) (ts : List Ready) (es : List Event)
+    → s ≡ get_or a.sqs.items r s → w.room ≡ s.window.room → b.sqs.items ≡ set a.sqs.items r (record s { window = w; unposted = n })
+    → d ≡ get_or a.cqs.items c d → ready ≡ record d.ready { items = d.ready.items ++ ts } → b.cqs.items ≡ set a.cqs.items c (record d { ready = ready })
+    → b.log.items ≡ a.log.items ++ es → b.config ≡ a.config → b.alloc ≡ a.alloc → b.late ≡ a.late → b.jobs ≡ a.jobs → Goes a b
+goes_aborted a b r c n s w d ready ts es read room sqs read_cq is_ready cqs log config alloc late jobs =
+    goes_readied a b es c d ready ts read_cq is_ready cqs log config alloc late jobs
+    (ap (λ (xs : List SqRegion). map get_place (gets_of xs)) sqs ∙ places-set a.sqs.items r s (record s { window = w; unposted = n }) read refl)
+    (ap (λ (xs : List SqRegion). map window_room xs) sqs ∙ windows-set a.sqs.items r s (record s { window = w; unposted = n }) read room)
+    (ap (λ (xs : List SqRegion). map coming_at xs) sqs ∙ coming-set a.sqs.items r s (record s { window = w; unposted = n }) read refl)
 
 -- a command that was carried out is kept, where its answer became ready last
 pub kept_answered : (a b : FrontState) (candidate : Candidate) (v : Verdict) (closing : Option ℕ) (c : ℕ) (board : BoardView) (h : IsApplied a candidate v closing)

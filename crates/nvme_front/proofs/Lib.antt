@@ -13,7 +13,9 @@ pub mod PostOne
 pub mod CloseOne
 pub mod AppliedStates
 pub mod AppliedTables
+pub mod AppliedQueues
 pub mod AppliedDeletion
+pub mod AppliedAbort
 pub mod Addresses
 pub mod AddedRegions
 pub mod Picks

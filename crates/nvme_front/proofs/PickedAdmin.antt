@@ -1,5 +1,5 @@
 -- A front after an admin pick whose command was applied to the table.
-use Rattle.std.specs.Prelude.{slice_get, vec_capacity, ◌==◌, if◌then◌else◌}
+use Rattle.std.specs.Prelude.{slice_get, option_map, vec_capacity, ◌==◌, ◌&&◌, if◌then◌else◌}
 use Rattle.std.proofs.Common.{◌≡◌, ℕ, ◌+◌, ◌≤◌, Bool, true, false, List, [], ◌∷◌, ◌++◌, map, length, set, get_or, Option, Some, None, refl, sym, ap, subst, ◌∙◌, arith}
 use Rattle.std.proofs.lemmas.List.{length-set, length_push}
 use Rattle.arrayvec.specs.ArrayVec.{ArrayVec}
@@ -7,7 +7,7 @@ use Rattle.nvme_entry.specs.Status.{StatusCode, success}
 use Rattle.nvme_entry.specs.AdminCommand.{admin_command_of}
 use Rattle.nvme_entry.specs.declared.submission.Sqe.{Sqe}
 use Rattle.nvme_entry.specs.declared.admin.AdminCommand.{AdminCommand}
-use Rattle.nvme_entry.specs.declared.admin.AdminCommand.TheVariants.{DeleteSq, CreateSq, DeleteCq, CreateCq, SetFeatures, GetFeatures, Other}
+use Rattle.nvme_entry.specs.declared.admin.AdminCommand.TheVariants.{DeleteSq, CreateSq, DeleteCq, CreateCq, Abort, SetFeatures, GetFeatures, Other}
 use Rattle.nvme_arbiter.specs.Settings.{ArbitrationFields}
 use Rattle.nvme_arbiter.specs.Board.{BoardStandsAt, queues_after}
 use Rattle.nvme_arbiter.specs.History.{History, Picked}
@@ -33,6 +33,7 @@ use Rattle.nvme_front.specs.declared.state.FrontState.{FrontState}
 use Rattle.nvme_log.specs.Limits.{max_outstanding, admin_events}
 use Rattle.nvme_log.specs.Rules.{FrontRules}
 use Rattle.nvme_log.specs.Queues.{Queue, admin_queue, open_sq}
+use Rattle.nvme_log.specs.Aborts.{is_abort_entry}
 use Rattle.nvme_state.specs.inside.Jobs.{JobsView}
 use Rattle.nvme_state.specs.Hands.{gained_count}
 use Rattle.nvme_state.specs.inside.Kept.{SqKept, put_sq}
@@ -42,6 +43,7 @@ use Rattle.nvme_front.specs.Ends.{get_place, put_place}
 use Rattle.nvme_state.specs.inside.Standing.{Stands}
 use Rattle.nvme_front.specs.inside.Room.{IsKept, IsRoomy, window_room, ready_room}
 use Rattle.nvme_front.specs.inside.Applied.{IsApplied}
+use Rattle.nvme_front.specs.inside.Turn.{oldest_admin, places_in}
 use Rattle.nvme_state.specs.inside.Steps.{CanPick, picked_sq}
 use Rattle.nvme_state.proofs.AccountSteps.{admin_is_open}
 use Rattle.nvme_state.proofs.Observing.{seen_is_observed}
@@ -77,6 +79,7 @@ closes_after t (DeleteSq q) qid h = absurd (cc h)
 closes_after t (DeleteCq q) qid h = cc h
 closes_after t (SetFeatures fid sv cdw11) qid h = absurd (not_set (fid == number_of_queues) (dw0_after t (SetFeatures fid sv cdw11)) qid t.settings h)
 closes_after t (GetFeatures fid) qid h = absurd (cc h)
+closes_after t (Abort sqid cid) qid h = absurd (cc h)
 closes_after t Other qid h = absurd (cc h)
 
 closes_by : (accepted : Bool) (status : StatusCode) (t : QueueTable) (command : AdminCommand) (qid : ℕ)
@@ -110,11 +113,32 @@ module _ (s : FrontState) (kept : IsKept s) (rules : FrontRules) {late : Bool} (
       let same = ap (λ (x : SqKept). length x.window) (sq_in-read s.sqs.items 0 d admin.0 read) in
       omega (arith, enough, one, same)
 
+  -- its place is free where the places that it needs are
+  pub due-places : s.outstanding + places_in s.sqs.items pick ≤ max_outstanding → s.outstanding + pick.n ≤ max_outstanding
+  due-places places =
+      let one = (due s kept rules st none pick lawful).one_of_admin zero_is in
+      by (pick.qid == 0 && is_abort_entry (oldest_admin s.sqs.items)) one places where
+        by : (b : Bool) → pick.n ≡ 1 → s.outstanding + (if b then 2 else pick.n) ≤ max_outstanding → s.outstanding + pick.n ≤ max_outstanding
+        by true one places = omega arith
+        by false one places = places
+
+  -- and an Abort command has a second one
+  pub due-second : (d : SqRegion) → d ≡ get_or s.sqs.items 0 d → (candidate : Candidate) (rest : List Candidate) → d.window.items ≡ candidate ∷ rest
+      → s.outstanding + places_in s.sqs.items pick ≤ max_outstanding → is_abort_entry (Some candidate.entry) ≡ true → s.outstanding + 2 ≤ max_outstanding
+  due-second d read candidate rest oldest places aborts =
+      let window : (sq_in s.sqs.items 0).window ≡ candidate ∷ rest = ap (λ (x : SqKept). x.window) (sq_in-read s.sqs.items 0 d admin.0 read) ∙ oldest in
+      let first : oldest_admin s.sqs.items ≡ Some candidate.entry = ap (λ (w : List Candidate). option_map (λ (c : Candidate). c.entry) (slice_get w 0)) window in
+      let two : places_in s.sqs.items pick ≡ 2 =
+      ap (λ (n : ℕ). if n == 0 && is_abort_entry (oldest_admin s.sqs.items) then 2 else pick.n) zero_is
+      ∙ ap (λ (o : Option Sqe). if is_abort_entry o then 2 else pick.n) first
+      ∙ ap (λ (x : Bool). if x then 2 else pick.n) aborts in
+      subst (λ (n : ℕ). s.outstanding + n ≤ max_outstanding) two places
+
 module _ (s b : FrontState) (kept : IsKept s) (admin : HasAdmin s) (none : s.deletion ≡ None) (pick : Pick)
     (lawful : (m : Mechanism) (first : ArbitrationFields) (h : History) → BoardStandsAt m first h s.board → Some pick ≡ lawful_pick m first h (seen_of s.board.queues))
     (board_stands : (m : Mechanism) (first : ArbitrationFields) (h : History) → BoardStandsAt m first h s.board → BoardStandsAt m first (Picked (seen_of s.board.queues) pick ∷ h) b.board)
     (board_queues : b.board.queues ≡ queues_after s.board.queues pick)
-    (places : s.outstanding + pick.n ≤ max_outstanding)
+    (places : s.outstanding + places_in s.sqs.items pick ≤ max_outstanding)
     (zero_is : pick.qid ≡ 0)
     (seen : ArrayVec Seen) (seen_is : seen.items ≡ seen_of s.board.queues)
     (d : SqRegion) (read : d ≡ get_or s.sqs.items 0 d)
@@ -187,7 +211,8 @@ module _ (s b : FrontState) (kept : IsKept s) (admin : HasAdmin s) (none : s.del
           pick = pick;
           picked = b.board;
           can_pick = subst (λ (q : Queue). CanPick (rules_of b) (past_of s) (kept_of s) q pick b.board) (due-admin s kept (rules_of b) before admin none pick lawful zero_is)
-              (can_pick s kept (rules_of b) before none pick lawful b.board board_stands board_queues places);
+              (can_pick s kept (rules_of b) before none pick lawful b.board board_stands board_queues
+              (due-places s kept (rules_of b) before admin none pick lawful zero_is places));
           seen_is = seen_is ∙ seen_is_observed (past_of s) (kept_of s) before.regions before.queues;
           of_admin = zero_is;
           one = (due s kept (rules_of b) before none pick lawful).one_of_admin zero_is;
@@ -196,6 +221,7 @@ module _ (s b : FrontState) (kept : IsKept s) (admin : HasAdmin s) (none : s.del
             oldest = ap (λ (x : SqKept). x.window) (sq_in-read s.sqs.items 0 d admin.0 read) ∙ oldest;
             table_stands = table_stands start h stood;
             sized = sized;
+            second = due-second s kept (rules_of b) before admin none pick lawful zero_is d read candidate rest oldest places;
           };
           verdict_is = verdict_is start h stood;
           closing_is = λ (qid : ℕ) e. closed qid (closes start h candidate.entry qid (sym (verdict_is start h stood) ∙ e)) ∙ sym (before.queues.cqs qid);

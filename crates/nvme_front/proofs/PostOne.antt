@@ -70,7 +70,7 @@ pub record IsForemost (k : Kept) (c : ℕ) (t : Ready) : Type 0 where
   pub attached : (k.sq t.region).queue ≡ Some (record { qid = qid; cq_region = c })
   pub there : t.region < k.nsq
   pub unposted : 1 ≤ (k.sq t.region).unposted
-  pub outstanding : one_if (not t.aborted) ≤ k.outstanding
+  pub outstanding : one_if (not t.with_queue) ≤ k.outstanding
 
 -- a queue that posts to a region
 pub record PostsTo (o : Option Attachment) (c : ℕ) : Type 0 where
@@ -83,8 +83,8 @@ posts_to None c e = cc e
 posts_to (Some a) c e = let same : a.cq_region ≡ c = cc e in record { qid = a.qid; is = λ i. Some (record { qid = a.qid; cq_region = same i }) }
 
 -- the first item of a list is counted
-first_counted : (xs : List Ready) (t : Ready) (rest : List Ready) → xs ≡ t ∷ rest → one_if (not t.aborted) ≤ length (filter (λ (x : Ready). not x.aborted) xs)
-first_counted xs t rest e = rw e (by t.aborted (filter (λ (x : Ready). not x.aborted) rest)) where
+first_counted : (xs : List Ready) (t : Ready) (rest : List Ready) → xs ≡ t ∷ rest → one_if (not t.with_queue) ≤ length (filter (λ (x : Ready). not x.with_queue) xs)
+first_counted xs t rest e = rw e (by t.with_queue (filter (λ (x : Ready). not x.with_queue) rest)) where
   by : (b : Bool) (p : List Ready) → one_if (not b) ≤ length (if not b then t ∷ p else p)
   by true p = omega arith
   by false p = omega arith
@@ -106,7 +106,7 @@ foremost rules late past k c t rest s there first =
     (All-same (λ (x : Ready). IsAnswerable past (hand_of k) x.region x.index) (t ∷ rest) (k.cq c).ready (sym first)
     (ready_is_answerable past k (hand_of k) s.ready c)) in
     let at = posts_to (k.sq t.region).queue c (sym (s.queues.cq_region_is t.region) ∙ ready.region) in
-    let picked = over_regions_at (λ (x : ℕ). length (filter (λ (u : Ready). not u.aborted) (k.cq x).ready)) c MAX_REGIONS small in
+    let picked = over_regions_at (λ (x : ℕ). length (filter (λ (u : Ready). not u.with_queue) (k.cq x).ready)) c MAX_REGIONS small in
     let here = first_counted (k.cq c).ready t rest first in
     let open_places = answerable_counted past (hand_of k) t.region t.index answer in
     let counted = s.counts.unposted t.region in
@@ -180,7 +180,7 @@ pub record IsPosted (a b : FrontState) (c : ℕ) (t : Ready) (cqe : Cqe) : Type 
   pub posted : g.posted ≡ d.posted + 1
   pub sqs : b.sqs.items ≡ set a.sqs.items t.region (record e { unposted = e.unposted - 1 })
   pub cqs : b.cqs.items ≡ set a.cqs.items c g
-  pub outstanding : b.outstanding ≡ a.outstanding - one_if (not t.aborted)
+  pub outstanding : b.outstanding ≡ a.outstanding - one_if (not t.with_queue)
   pub log : b.log.items ≡ a.log.items ++ post_event c t cqe ∷ []
   pub room : length a.log.items + 1 ≤ a.config.max_events
   pub board : b.board ≡ a.board

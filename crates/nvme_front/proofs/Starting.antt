@@ -129,9 +129,9 @@ module _ (rules : FrontRules) (late : Bool) (k : Kept) (f : IsFresh rules late k
             (λ j. readies j + 0 + held j) ∙ sym (none_served i (not (is_waiting (fate_of [] r i))));
         each = λ c. All-same (IsReady [] k.deletion c) (k.cq c).ready [] (f.cqs c).ready (All-nil (IsReady [] k.deletion c));
         taken =
-            (λ j. over_regions-none (λ (c : ℕ). length (filter (λ (t : Ready). not t.aborted) (k.cq c).ready)) MAX_REGIONS (λ c. ap (λ (xs : List Ready). length (filter (λ (t : Ready). not t.aborted) xs)) (f.cqs c).ready) j
+            (λ j. over_regions-none (λ (c : ℕ). length (filter (λ (t : Ready). not t.with_queue) (k.cq c).ready)) MAX_REGIONS (λ c. ap (λ (xs : List Ready). length (filter (λ (t : Ready). not t.with_queue) xs)) (f.cqs c).ready) j
             + length (no_hand j)) ∙ sym f.none_outstanding;
-        few_aborted = rw (over_regions-none (λ (c : ℕ). length (filter (λ (t : Ready). t.aborted) (k.cq c).ready)) MAX_REGIONS (λ c. ap (λ (xs : List Ready). length (filter (λ (t : Ready). t.aborted) xs)) (f.cqs c).ready)) (omega arith);
+        few_aborted = rw (over_regions-none (λ (c : ℕ). length (filter (λ (t : Ready). t.with_queue) (k.cq c).ready)) MAX_REGIONS (λ c. ap (λ (xs : List Ready). length (filter (λ (t : Ready). t.with_queue) xs)) (f.cqs c).ready)) (omega arith);
         few_taken = rw f.none_outstanding (omega arith);
         none_beyond = λ c le. (f.cqs c).ready;
         admin_region = refl;

@@ -259,21 +259,25 @@ kept_after a b admin g roomy some stands = record {
   roomy = roomy;
 }
 
+-- what is kept where nothing changed
+pub same_kept : (a b : FrontState) → IsSame a b → kept_of b ≡ kept_of a
+same_kept a b s = λ t. record {
+  sq = sq_in (s.sqs t);
+  cq = cq_in (s.cqs t);
+  nsq = length (s.sqs t);
+  ncq = length (s.cqs t);
+  board = s.board t;
+  table = s.table t;
+  outstanding = s.outstanding t;
+  deletion = s.deletion t;
+  jobs = s.jobs t;
+}
+
 -- nothing changed but the room of the log
 pub kept_same : (a b : FrontState) → IsSame a b → IsKept a → IsKept b
 kept_same a b s k =
     let rules : rules_of b ≡ rules_of a = rules-goes a b (Goes-same a b s) in
-    let kept : kept_of b ≡ kept_of a = λ t. record {
-      sq = sq_in (s.sqs t);
-      cq = cq_in (s.cqs t);
-      nsq = length (s.sqs t);
-      ncq = length (s.cqs t);
-      board = s.board t;
-      table = s.table t;
-      outstanding = s.outstanding t;
-      deletion = s.deletion t;
-      jobs = s.jobs t;
-    } in
+    let kept : kept_of b ≡ kept_of a = same_kept a b s in
     let past : past_of b ≡ past_of a = ap reverse s.log in
     record {
       fresh = λ e. rw (rules, s.late, kept) (k.fresh (sym s.log ∙ e));

@@ -31,7 +31,7 @@ use Rattle.nvme_front.specs.inside.Goes.{Goes, IsSame, HasAdmin, AllDrained, All
 use Rattle.nvme_log.specs.Histories.{picks_in}
 use Rattle.nvme_front.specs.inside.State.{view_of}
 use Rattle.nvme_front.specs.View.{HasMoved, IsStill, GainedStray, IsIdleFront, IsStalledFront, StepMeans, ErrorMeans}
-use Rattle.nvme_front.specs.inside.Turn.{Balanced, LacksAdminEvents, IsQuiet, HasDone, IsWaiting, NeedsPlaces, Proceeds, told_after}
+use Rattle.nvme_front.specs.inside.Turn.{places_in, Balanced, LacksAdminEvents, IsQuiet, HasDone, IsWaiting, NeedsPlaces, Proceeds, told_after}
 use Rattle.nvme_front.proofs.States.{Goes-same, IsSame-trans, admin-goes}
 use Rattle.nvme_front.proofs.Turns.{idle_front, deleting_front, stalled_front, admin_log_full}
 
@@ -130,7 +130,8 @@ stalled_by : (b c : FrontState) → HasAdmin c → IsKept c → AllDrained c →
     → IsStalledFront (view_of c)
 stalled_by b c admin kept drained none_gained bc needs =
     stalled_front c kept admin drained none_gained (next_pick b) (pick_same b c bc)
-    (subst (λ (n : ℕ). IfSome (next_pick b) (λ (pick : Pick). max_outstanding < n + pick.n)) (sym bc.outstanding) needs.0) needs.1
+    (subst (λ (n : ℕ). IfSome (next_pick b) (λ (pick : Pick). max_outstanding < n + places_in c.sqs.items pick)) (sym bc.outstanding)
+    (subst (λ (sqs : List SqRegion). IfSome (next_pick b) (λ (pick : Pick). max_outstanding < b.outstanding + places_in sqs pick)) (sym bc.sqs) needs.0)) needs.1
 
 module _ (a b c : FrontState) (admin : HasAdmin a) (kept : IsKept c) (ab : Goes a b) (bc : Goes b c) (picks : picks_in b.log.items ≡ picks_in a.log.items) where
   -- where nothing was done before
@@ -193,8 +194,9 @@ module _ (a b c : FrontState) (bc : Goes b c) (none : a.deletion ≡ None) (pick
   -- the next pick of a front that is the same needs as many places
   needs_before : IsSame a b → NeedsPlaces b → NeedsPlaces a
   needs_before ab needs = (
-    subst (λ (o : Option Pick). IfSome o (λ (pick : Pick). max_outstanding < a.outstanding + pick.n)) (pick_same a b ab)
-        (subst (λ (n : ℕ). IfSome (next_pick b) (λ (pick : Pick). max_outstanding < n + pick.n)) ab.outstanding needs.0),
+    subst (λ (o : Option Pick). IfSome o (λ (pick : Pick). max_outstanding < a.outstanding + places_in a.sqs.items pick)) (pick_same a b ab)
+        (subst (λ (n : ℕ). IfSome (next_pick b) (λ (pick : Pick). max_outstanding < n + places_in a.sqs.items pick)) ab.outstanding
+        (subst (λ (sqs : List SqRegion). IfSome (next_pick b) (λ (pick : Pick). max_outstanding < b.outstanding + places_in sqs pick)) ab.sqs needs.0)),
     subst (λ (o : Option Pick). IsSome o) (pick_same a b ab) needs.1,
   )
 
@@ -283,7 +285,8 @@ pick_error_means a c d LogFull admin none kept balanced picks full one = elim (f
       let same : IsSame c d = few.0 in
       let free : d.config.max_events < length d.log.items + admin_events = rw (same.config, same.log) few.1.0 in (
         admin_log_full d kept (admin-goes c d (Goes-same c d same) admin) (same.deletion ∙ none) free (next_pick c) (pick_same c d same)
-            (subst (λ (n : ℕ). IfSome (next_pick c) (λ (pick : Pick). (pick.qid ≡ 0) × (n + pick.n ≤ max_outstanding))) (sym same.outstanding) few.1.1) few.1.2,
+            (subst (λ (n : ℕ). IfSome (next_pick c) (λ (pick : Pick). (pick.qid ≡ 0) × (n + places_in d.sqs.items pick ≤ max_outstanding))) (sym same.outstanding)
+            (subst (λ (sqs : List SqRegion). IfSome (next_pick c) (λ (pick : Pick). (pick.qid ≡ 0) × (c.outstanding + places_in sqs pick ≤ max_outstanding))) (sym same.sqs) few.1.1)) few.1.2,
         picks,
         balanced,
       )

@@ -1,9 +1,10 @@
 -- What a turn's answer means, from what its parts leave.
-use Rattle.std.proofs.Common.{◌≡◌, ◌≢◌, ℕ, ◌+◌, ◌<◌, ◌≤◌, Bool, true, false, if◌then◌else◌, List, [], map, length, Option, Some, None, refl, sym, ap, ◌∙◌, subst, ◌⊎◌, inl, inr, option_map, ⊎_elim}
+use Rattle.std.proofs.Common.{◌≡◌, ◌≢◌, ℕ, ◌+◌, ◌<◌, ◌≤◌, Bool, true, false, if◌then◌else◌, List, [], ◌∷◌, map, length, Option, Some, None, refl, sym, ap, ◌∙◌, subst, ◌⊎◌, inl, inr, option_map, ⊎_elim}
 use Rattle.std.specs.List.{All}
-use Rattle.std.specs.Prelude.{IfSome, IsSome, IsNone, ◌==◌}
+use Rattle.std.specs.Prelude.{IfSome, IsSome, IsNone, ◌==◌, ◌&&◌, slice_get, option_and_then}
 use Rattle.std.proofs.lemmas.Bool.{cases_lt}
 use Rattle.std.proofs.lemmas.List.{nil_from_length}
+use Rattle.nvme_entry.specs.declared.submission.Sqe.{Sqe}
 use Rattle.nvme_pool.specs.Seat.{IsUnknown}
 use Rattle.nvme_arbiter.specs.Limits.{highest_qid}
 use Rattle.nvme_arbiter.specs.Lawful.{lawful_pick}
@@ -23,18 +24,21 @@ use Rattle.nvme_state.specs.declared.candidate.PendingDelete.{PendingDelete}
 use Rattle.nvme_front.specs.declared.state.FrontState.{FrontState}
 use Rattle.nvme_log.specs.Limits.{max_outstanding, admin_events}
 use Rattle.nvme_log.specs.Queues.{Queue, Deletion, open_sq, pending}
-use Rattle.nvme_log.specs.Places.{waiting}
-use Rattle.nvme_log.specs.Histories.{arbitration_of}
+use Rattle.nvme_log.specs.Places.{waiting, entry_at}
+use Rattle.nvme_log.specs.Histories.{arbitration_of, admin_entry}
+use Rattle.nvme_log.specs.Aborts.{is_abort_entry, places_for}
 use Rattle.nvme_log.specs.Laws.{as_open}
 use Rattle.nvme_state.specs.inside.Kept.{CqKept}
 use Rattle.nvme_front.specs.inside.State.{kept_of, rules_of, past_of, sq_in}
 use Rattle.nvme_state.specs.inside.Standing.{Stands, on_board, as_deletion}
 use Rattle.nvme_front.specs.inside.Room.{IsKept}
 use Rattle.nvme_front.specs.inside.Goes.{HasAdmin, IsDrained, IsScanned, IsTaken, IsFullSq, next_pick}
+use Rattle.nvme_front.specs.inside.Turn.{oldest_admin, places_in}
 use Rattle.nvme_front.specs.inside.State.{view_of}
 use Rattle.nvme_front.specs.View.{known_in, NoneCanBePosted, WaitsForNothing, IsIdleFront, IsStalledFront, IsFullLog, next_lawful}
 use Rattle.nvme_state.proofs.Answering.{ready_waits_there, unposted_place}
 use Rattle.nvme_state.proofs.Observing.{seen_is_observed}
+use Rattle.nvme_state.proofs.Oldest.{admin_entry_is}
 use Rattle.nvme_front.proofs.RegionLists.{cq_in-past}
 use Rattle.nvme_front.proofs.EndsSeen.{known_in-kept, free_in-kept}
 
@@ -115,6 +119,19 @@ module _ (s : FrontState) (h : Stands (rules_of s) s.late (past_of s) (kept_of s
       ap (λ seen. lawful_pick s.config.mechanism (rules_of s).start.settings (arbitration_of (past_of s)) seen) (sym (seen_is_observed (past_of s) (kept_of s) h.regions h.queues))
       ∙ sym (lawful s.config.mechanism (rules_of s).start.settings (arbitration_of (past_of s)) s.board.kept (seen_of s.board.queues) h.arbitration.stands.stands)
 
+  -- the oldest admin candidate is that of the log
+  oldest_is : oldest_admin s.sqs.items ≡ admin_entry (past_of s)
+  oldest_is = by (sq_in s.sqs.items 0).window refl where
+    by : (w : List Candidate) → (sq_in s.sqs.items 0).window ≡ w → option_map (λ (c : Candidate). c.entry) (slice_get w 0) ≡ admin_entry (past_of s)
+    by [] e =
+        sym (ap (λ (is : List ℕ). option_and_then (entry_at (past_of s) 0) (slice_get is 0))
+        ((h.regions 0).waiting_is ∙ ap (λ (w : List Candidate). map (λ (c : Candidate). c.index) w) e))
+    by (c ∷ rest) e = sym (admin_entry_is (past_of s) (sq_in s.sqs.items 0) c rest (h.regions 0) e)
+
+  -- so a pick needs as many places as the log says
+  places_are : (pick : Pick) → places_in s.sqs.items pick ≡ places_for (past_of s) pick
+  places_are pick = ap (λ (o : Option Sqe). if pick.qid == 0 && is_abort_entry o then 2 else pick.n) oldest_is
+
 -- ---- what the answers mean
 -- an idle front with no pending deletion
 pub idle_front : (s : FrontState) → IsKept s → HasAdmin s → s.deletion ≡ None → ((c : ℕ) → c < length s.cqs.items → IsDrained s c)
@@ -146,21 +163,22 @@ deleting_front s d kept admin some drained none_gained unposted =
 -- a front whose next pick needs more places than are free
 pub stalled_front : (s : FrontState) → IsKept s → HasAdmin s → ((c : ℕ) → c < length s.cqs.items → IsDrained s c)
     → All IsUnknown s.jobs.hands.seat.ends
-    → (o : Option Pick) → next_pick s ≡ o → IfSome o (λ (pick : Pick). max_outstanding < s.outstanding + pick.n) → IsSome o → IsStalledFront (view_of s)
+    → (o : Option Pick) → next_pick s ≡ o → IfSome o (λ (pick : Pick). max_outstanding < s.outstanding + places_in s.sqs.items pick) → IsSome o → IsStalledFront (view_of s)
 stalled_front s kept admin drained none_gained None is many some = absurd (cc some)
 stalled_front s kept admin drained none_gained (Some pick) is many some =
     let h = kept.stands admin.0 admin.1 in
     record {
       pick = pick;
       next = next_is s h ∙ is;
-      too_many = subst (λ (n : ℕ). max_outstanding < n + pick.n) h.counts.outstanding_is many;
+      too_many = subst (λ (n : ℕ). max_outstanding < n + places_for (past_of s) pick) h.counts.outstanding_is
+          (subst (λ (n : ℕ). max_outstanding < s.outstanding + n) (places_are s h pick) many);
       none_posted = none_can_be_posted s kept admin drained;
       none_gained = none_gained;
     }
 
 -- a log with too few free events for the next admin pick
 pub admin_log_full : (s : FrontState) → IsKept s → HasAdmin s → s.deletion ≡ None → s.config.max_events < length s.log.items + admin_events
-    → (o : Option Pick) → next_pick s ≡ o → IfSome o (λ (pick : Pick). (pick.qid ≡ 0) × (s.outstanding + pick.n ≤ max_outstanding)) → IsSome o → IsFullLog (view_of s)
+    → (o : Option Pick) → next_pick s ≡ o → IfSome o (λ (pick : Pick). (pick.qid ≡ 0) × (s.outstanding + places_in s.sqs.items pick ≤ max_outstanding)) → IsSome o → IsFullLog (view_of s)
 admin_log_full s kept admin none few None is it some = absurd (cc some)
 admin_log_full s kept admin none few (Some pick) is it some =
     let h = kept.stands admin.0 admin.1 in
@@ -169,6 +187,7 @@ admin_log_full s kept admin none few (Some pick) is it some =
       none_pending = h.deletion.pending_is ∙ ap (λ (o : Option PendingDelete). option_map as_deletion o) none;
       next = next_is s h ∙ is;
       of_admin = it.0;
-      place = subst (λ (n : ℕ). n + pick.n ≤ max_outstanding) h.counts.outstanding_is it.1;
+      place = subst (λ (n : ℕ). n + places_for (past_of s) pick ≤ max_outstanding) h.counts.outstanding_is
+          (subst (λ (n : ℕ). s.outstanding + n ≤ max_outstanding) (places_are s h pick) it.1);
       too_few = few;
     })

@@ -22,7 +22,8 @@ use Rattle.nvme_log.specs.Rules.{FrontRules, Past, window_at}
 use Rattle.nvme_log.specs.Queues.{Queue, Deletion, open_sq, pending, cq_region_of}
 use Rattle.nvme_log.specs.Places.{fetched, waiting, observation_of, is_served}
 use Rattle.nvme_log.specs.Histories.{arbitration_of, picks_in}
-use Rattle.nvme_log.specs.Completions.{is_posted, posted_to, outstanding, is_index}
+use Rattle.nvme_log.specs.Completions.{is_posted, posted_to, outstanding}
+use Rattle.nvme_log.specs.Aborts.{is_index, places_for}
 use Rattle.nvme_log.specs.Account.{IsAccount, deleting_place}
 use Rattle.nvme_state.specs.Hands.{Hands, IsOfNone, is_in_hand, gained_count}
 use Rattle.nvme_state.specs.Balance.{Balances}
@@ -118,17 +119,17 @@ next_lawful v = lawful_pick v.rules.mechanism v.rules.start.settings (arbitratio
 pub record IsStalledFront (v : FrontView) : Type 0 where
   pub pick : Pick
   pub next : next_lawful v ≡ Some pick
-  pub too_many : max_outstanding < outstanding v.rules (past_in v) + pick.n
+  pub too_many : max_outstanding < outstanding v.rules (past_in v) + places_for (past_in v) pick
   pub none_posted : NoneCanBePosted v
   pub none_gained : All IsUnknown v.hands.seat.ends
 
--- the log has too few free events for the admin command that arbitration picks next, where no deletion is pending and its place is free
+-- the log has too few free events for the admin command that arbitration picks next, where no deletion is pending and its places are free
 pub record NeedsAdminEvents (v : FrontView) : Type 0 where
   pub pick : Pick
   pub none_pending : pending (past_in v) ≡ None
   pub next : next_lawful v ≡ Some pick
   pub of_admin : pick.qid ≡ 0
-  pub place : outstanding v.rules (past_in v) + pick.n ≤ max_outstanding
+  pub place : outstanding v.rules (past_in v) + places_for (past_in v) pick ≤ max_outstanding
   pub too_few : v.limit < length v.log + admin_events
 
 abbrev pub IsFullLog : FrontView → Type 0

@@ -1,5 +1,5 @@
 // What picked admin commands make of the queues.
-use crate::executing::abort_all;
+use crate::executing::{abort_all, requested};
 use crate::logging::note;
 use crate::state::FrontState;
 use nvme_admin::Verdict;
@@ -9,11 +9,12 @@ use nvme_log::Event;
 use nvme_state::{Attachment, Candidate, PendingDelete, Ready};
 
 impl FrontState {
-    ghost use Rattle.std.specs.Prelude.{◌≡◌, ℕ, Option};
+    ghost use Rattle.std.specs.Prelude.{◌≡◌, ℕ, Option, true, false};
     ghost use Rattle.nvme_admin.specs.declared.verdict.Verdict.TheVariants as verdict;
-    ghost use Rattle.nvme_front.specs.inside.Applied.{IsApplied};
+    ghost use Rattle.nvme_state.specs.declared.candidate.Candidate.{Candidate};
+    ghost use Rattle.nvme_front.specs.inside.Applied.{IsApplied, HasAborted, HasNoneNamed};
     ghost use Rattle.nvme_front.specs.inside.Room.{IsKept};
-    ghost use Rattle.nvme_front.specs.inside.Goes.{Goes};
+    ghost use Rattle.nvme_front.specs.inside.Goes.{Goes, IsSame};
     ghost use Rattle.nvme_front.specs.inside.State.{gets_of};
     ghost use Rattle.nvme_log.specs.Histories.{picks_in};
 
@@ -142,6 +143,57 @@ impl FrontState {
         });
     }
 
+    // Aborts the oldest waiting command of an open I/O submission queue with a command identifier: its completion is then
+    // ready. False where there is none; nothing changed then. (Abort)
+    fn abort_oldest(&mut self, sqid: u16, cid: u16) -> bool
+        requires applied { (candidate : Candidate) × (closing : Option ℕ) × IsApplied self.old candidate (verdict.Abort sqid cid) closing }
+        ensures none { result ≡ false → IsSame self.old self.new × HasNoneNamed self.old sqid cid }
+        ensures aborted { result ≡ true → HasAborted self.old self.new sqid cid }
+        ensures goes { Goes self.old self.new }
+        ensures jobs { self.new.jobs ≡ self.old.jobs }
+        ensures gets { gets_of self.new.sqs.items ≡ gets_of self.old.sqs.items }
+        ensures picks { picks_in self.new.log.items ≡ picks_in self.old.log.items }
+    {
+        if sqid == 0 {
+            return false;
+        }
+        let Some(queue) = self.table.sq(sqid) else {
+            return false;
+        };
+        let region = queue.region;
+        let sq = &mut self.sqs[usize::from(region)];
+        let Some(found) = sq.window.take_named(cid) else {
+            return false;
+        };
+        let Some(attachment) = sq.queue else {
+            unreachable!()
+        };
+        sq.unposted += 1;
+        self.outstanding += 1;
+        self.cqs[usize::from(attachment.cq_region)]
+            .ready
+            .push(requested(region, &found));
+        let index = found.index;
+        note(&mut self.log, Event::Abort { region, index });
+        self.board.went(sqid);
+        true
+    }
+
+    // A waiting command is aborted, where there is one. Command Dword 0 of the answer says whether there was. (Abort)
+    fn abort(&mut self, candidate: Candidate, sqid: u16, cid: u16)
+        requires applied { (closing : Option ℕ) × IsApplied self.old candidate (verdict.Abort sqid cid) closing }
+        ensures kept { IsKept self.new }
+        ensures goes { Goes self.old self.new }
+        ensures jobs { self.new.jobs ≡ self.old.jobs }
+        ensures gets { gets_of self.new.sqs.items ≡ gets_of self.old.sqs.items }
+        ensures picks { picks_in self.new.log.items ≡ picks_in self.old.log.items }
+    {
+        let dw0 = if self.abort_oldest(sqid, cid) { 0 } else { 1 };
+        self.cqs[0]
+            .ready
+            .push(candidate.answered(Status::SUCCESS, dw0));
+    }
+
     /// Makes of the queues what a picked admin command comes to. `closing` is the region of the completion queue that
     /// the command deletes, where it does.
     pub fn carry_out(&mut self, candidate: Candidate, verdict: Verdict, closing: Option<u8>)
@@ -163,6 +215,7 @@ impl FrontState {
             Verdict::OpenCq { qid, region } => self.open_cq(candidate, qid, region),
             Verdict::BeginDelete { qid } => self.begin_delete(candidate, qid),
             Verdict::CloseCq { qid } => self.close_cq(candidate, qid, closing),
+            Verdict::Abort { sqid, cid } => self.abort(candidate, sqid, cid),
             Verdict::SetArbitration(settings) => self.set_arbitration(candidate, settings),
         }
     }

@@ -1,6 +1,6 @@
 // What becomes of the candidates of an I/O queue: they are picked, or aborted.
 ghost use Rattle.std.specs.Prelude.{◌≡◌, ◌+◌, ◌^◌, ◌<◌, ◌≤◌, [], ◌++◌, map, length, take, drop, vec_capacity};
-ghost use Rattle.nvme_state.specs.inside.Steps.{aborted};
+ghost use Rattle.nvme_state.specs.inside.Steps.{aborted, requested as requested_at};
 ghost use Rattle.nvme_state.specs.inside.Jobs.{with_picked};
 ghost use Rattle.nvme_log.specs.declared.event.Event.TheVariants.{Abort};
 ghost use Rattle.nvme_state.specs.declared.candidate.Candidate.{Candidate};
@@ -23,6 +23,20 @@ pub fn dispatch_oldest(window: &mut Fifo<Candidate>, jobs: &mut Jobs, region: u8
             unreachable!()
         };
         jobs.add(region, candidate);
+    }
+}
+
+/// The completion of a candidate that an Abort command aborted. (Base Specification, Abort)
+pub fn requested(region: u8, candidate: &Candidate) -> Ready
+    ensures { result ≡ requested_at region candidate.now }
+{
+    Ready {
+        region,
+        index: candidate.index,
+        entry: candidate.entry,
+        with_queue: false,
+        status: Status::ABORT_REQUESTED,
+        dw0: 0,
     }
 }
 
@@ -56,7 +70,7 @@ pub fn abort_all(
             region,
             index: candidate.index,
             entry: candidate.entry,
-            aborted: true,
+            with_queue: true,
             status: Status::ABORTED_BY_DELETION,
             dw0: 0,
         });

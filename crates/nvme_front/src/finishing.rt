@@ -40,7 +40,7 @@ impl FrontState {
             region: 0,
             index: deletion.index,
             entry: deletion.entry,
-            aborted: false,
+            with_queue: false,
             status: Status::SUCCESS,
             dw0: 0,
         });

@@ -38,7 +38,8 @@ pub enum Step {
     Moved,
     /// Nothing could be done.
     Idle,
-    /// A pick waits for free outstanding places.
+    /// A pick waits for free outstanding places: one for each command, and for an Abort command a second one, which what
+    /// it aborts takes.
     Stalled,
 }
 

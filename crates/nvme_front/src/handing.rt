@@ -89,7 +89,7 @@ impl FrontState {
                 region: dispatched.region,
                 index: dispatched.index,
                 entry: dispatched.entry,
-                aborted: false,
+                with_queue: false,
                 status,
                 dw0: 0,
             });

@@ -10,6 +10,7 @@ use crate::limits::ADMIN_EVENTS;
 use crate::logging::{make_room, note};
 use crate::state::FrontState;
 use nvme_admin::Table;
+use nvme_arbiter::Pick;
 use nvme_entry::{AdminCommand, Sqe, admin_of};
 use nvme_log::{Event, MAX_OUTSTANDING};
 
@@ -25,15 +26,40 @@ fn deleted_region(table: &Table, entry: &Sqe) -> Option<u8>
 
 impl FrontState {
     ghost use Rattle.std.specs.Prelude.{◌≡◌, ◌≢◌, ◌⊎◌, ◌+◌, ◌<◌, ◌≤◌, length, None, IsSome, OnOk, IfSome, IfErr, OnErr};
+    ghost use Rattle.nvme_log.specs.Aborts.{is_abort_entry};
     ghost use Rattle.nvme_log.specs.Limits.{max_outstanding, admin_events};
     ghost use Rattle.nvme_front.specs.inside.Room.{IsKept};
     ghost use Rattle.nvme_front.specs.inside.Goes.{Goes, IsSame, HasAdmin, next_pick};
     ghost use Rattle.nvme_front.specs.inside.State.{gets_of};
-    ghost use Rattle.nvme_front.specs.inside.Turn.{IsPickOf, LacksAdminEvents};
+    ghost use Rattle.nvme_front.specs.inside.Turn.{oldest_admin, places_in, IsPickOf, NeedsPlaces, LacksAdminEvents};
     ghost use Rattle.nvme_log.specs.Histories.{picks_in};
     ghost use Rattle.nvme_front.specs.declared.front.FrontError.TheVariants.{NoMemory, LogFull};
     ghost use Rattle.nvme_front.specs.declared.front.Step.TheVariants as step;
     ghost use Rattle.nvme_arbiter.specs.declared.pick.Pick.{Pick};
+
+    // The oldest candidate of the admin queue is an Abort command. (Base Specification, Opcodes for Admin Commands)
+    fn is_abort_next(&self) -> bool
+        requires admin { HasAdmin self.now }
+        ensures { result ≡ is_abort_entry (oldest_admin self.now.sqs.items) }
+    {
+        match self.sqs[0].window.front() {
+            Some(candidate) => candidate.entry.opcode == 0x08,
+            None => false,
+        }
+    }
+
+    // How many outstanding places a pick needs: one for each command, and for an Abort command a second one, which what
+    // it aborts takes.
+    fn places_for(&self, pick: Pick) -> u16
+        requires admin { HasAdmin self.now }
+        ensures { result ≡ places_in self.now.sqs.items pick }
+    {
+        if pick.qid == 0 && self.is_abort_next() {
+            2
+        } else {
+            pick.n
+        }
+    }
 
     // Picks of an I/O queue. The jobs of the picked commands are then to be handed.
     fn pick_io(&mut self) -> Result<(), FrontError>
@@ -76,7 +102,7 @@ impl FrontState {
         requires admin { HasAdmin self.old }
         requires none_pending { self.old.deletion ≡ None }
         requires of_admin { IfSome (next_pick self.old) (λ pick. pick.qid ≡ 0) }
-        requires places { IfSome (next_pick self.old) (λ pick. self.old.outstanding + pick.n ≤ max_outstanding) }
+        requires places { IfSome (next_pick self.old) (λ pick. self.old.outstanding + places_in self.old.sqs.items pick ≤ max_outstanding) }
         requires there { IsSome (next_pick self.old) }
         ensures kept { IsKept self.new }
         ensures goes { Goes self.old self.new }
@@ -121,7 +147,7 @@ impl FrontState {
         ensures never_moved { result ≡ Ok step.Moved → ⊥ }
         ensures picked { result ≡ Ok step.Picked → picks_in self.new.log.items ≡ picks_in self.old.log.items + 1 }
         ensures idle { result ≡ Ok step.Idle → IsSame self.old self.new × (next_pick self.old ≡ None) }
-        ensures stalled { result ≡ Ok step.Stalled → IsSame self.old self.new × IfSome (next_pick self.old) (λ pick. max_outstanding < self.old.outstanding + pick.n) × IsSome (next_pick self.old) }
+        ensures stalled { result ≡ Ok step.Stalled → IsSame self.old self.new × NeedsPlaces self.old }
         ensures full { result ≡ Err LogFull → (self.new.config.max_events < length self.new.log.items + 1)
             ⊎ (IsSame self.old self.new × LacksAdminEvents self.old) }
         ensures none_picked { OnErr result (picks_in self.new.log.items ≡ picks_in self.old.log.items) }
@@ -130,7 +156,7 @@ impl FrontState {
         let Some(pick) = self.board.peek() else {
             return Ok(Step::Idle);
         };
-        if pick.n > MAX_OUTSTANDING - self.outstanding {
+        if self.places_for(pick) > MAX_OUTSTANDING - self.outstanding {
             return Ok(Step::Stalled);
         }
         if pick.qid == 0 {

@@ -73,7 +73,7 @@ impl FrontState {
         let Ready {
             region: sq_region,
             index,
-            aborted,
+            with_queue,
             ..
         } = ready;
         make_room(&mut self.log, self.config.max_events, 1)?;
@@ -86,7 +86,7 @@ impl FrontState {
         }
         let sq = &mut self.sqs[usize::from(sq_region)];
         sq.unposted -= 1;
-        self.outstanding -= if aborted { 0 } else { 1 };
+        self.outstanding -= if with_queue { 0 } else { 1 };
         note(
             &mut self.log,
             Event::Post {

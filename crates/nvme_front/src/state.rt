@@ -21,7 +21,7 @@ pub struct FrontState {
     pub board: Board,
     pub sqs: Vec<SqRegion>,
     pub cqs: Vec<CqRegion>,
-    // How many picked places have no completion posted.
+    // How many places that were picked, or that an Abort command aborted, have no completion posted.
     pub outstanding: u16,
     pub deletion: Option<PendingDelete>,
     pub jobs: Jobs,

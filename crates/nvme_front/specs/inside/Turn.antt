@@ -1,16 +1,20 @@
 -- What the parts of a turn leave (profile).
-use Rattle.std.specs.Prelude.{◌≡◌, ◌≢◌, ◌+◌, ◌<◌, ◌≤◌, Bool, true, false, List, [], ◌∷◌, ◌++◌, length, Option, Some, None, IfSome, IsSome}
+use Rattle.std.specs.Prelude.{◌≡◌, ◌≢◌, ℕ, ◌+◌, ◌<◌, ◌≤◌, ◌==◌, ◌&&◌, Bool, true, false, if◌then◌else◌, List, [], ◌∷◌, ◌++◌, length, slice_get, Option, Some, None, option_map, IfSome, IsSome}
 use Rattle.std.specs.List.{All}
+use Rattle.nvme_entry.specs.declared.submission.Sqe.{Sqe}
 use Rattle.nvme_pool.specs.Seat.{IsUnknown}
 use Rattle.arrayvec.specs.ArrayVec.{ArrayVec}
 use Rattle.nvme_arbiter.specs.declared.pick.Pick.{Pick}
 use Rattle.nvme_arbiter.specs.declared.pick.Seen.{Seen}
 use Rattle.nvme_log.specs.declared.event.Event.{Event}
 use Rattle.nvme_log.specs.declared.event.Event.TheVariants as event
+use Rattle.nvme_state.specs.declared.candidate.Candidate.{Candidate}
 use Rattle.nvme_state.specs.declared.candidate.PendingDelete.{PendingDelete}
+use Rattle.nvme_state.specs.declared.region.SqRegion.{SqRegion}
 use Rattle.nvme_state.specs.Balance.{Balances}
 use Rattle.nvme_log.specs.Limits.{max_outstanding, admin_events}
 use Rattle.nvme_log.specs.Histories.{picks_in}
+use Rattle.nvme_log.specs.Aborts.{is_abort_entry}
 use Rattle.nvme_front.specs.declared.front.Step.{Step}
 use Rattle.nvme_front.specs.declared.front.Step.TheVariants.{Picked, Moved, Idle, Stalled}
 use Rattle.nvme_front.specs.declared.state.FrontState.{FrontState}
@@ -39,15 +43,23 @@ abbrev pub IsWaiting : FrontState → Option PendingDelete → Type 0
 IsWaiting s (Some deletion) = (sq_in s.sqs.items deletion.region).unposted ≢ 0
 IsWaiting s None = AllScanned s × (next_pick s ≡ None)
 
+-- the entry of the oldest candidate of the admin queue
+abbrev pub oldest_admin : List SqRegion → Option Sqe
+oldest_admin sqs = option_map (λ (c : Candidate). c.entry) (slice_get (sq_in sqs 0).window 0)
+
+-- how many outstanding places a pick needs: one for each command, and a second one for what an Abort command may abort
+abbrev pub places_in : List SqRegion → Pick → ℕ
+places_in sqs pick = if pick.qid == 0 && is_abort_entry (oldest_admin sqs) then 2 else pick.n
+
 -- the next pick needs more places than are free
 abbrev pub NeedsPlaces : FrontState → Type 0
-NeedsPlaces s = IfSome (next_pick s) (λ (pick : Pick). max_outstanding < s.outstanding + pick.n) × IsSome (next_pick s)
+NeedsPlaces s = IfSome (next_pick s) (λ (pick : Pick). max_outstanding < s.outstanding + places_in s.sqs.items pick) × IsSome (next_pick s)
 
--- the log has too few free events for the admin pick that is next, whose place is free
+-- the log has too few free events for the admin pick that is next, whose places are free
 abbrev pub LacksAdminEvents : FrontState → Type 0
 LacksAdminEvents s =
     (s.config.max_events < length s.log.items + admin_events)
-    × IfSome (next_pick s) (λ (pick : Pick). (pick.qid ≡ 0) × (s.outstanding + pick.n ≤ max_outstanding)) × IsSome (next_pick s)
+    × IfSome (next_pick s) (λ (pick : Pick). (pick.qid ≡ 0) × (s.outstanding + places_in s.sqs.items pick ≤ max_outstanding)) × IsSome (next_pick s)
 
 -- what a turn did with the pending deletion, or with the queues where none is pending
 abbrev pub Proceeds : Step → FrontState → FrontState → Type 0

@@ -6,6 +6,7 @@ use Rattle.nvme_log.specs.declared.event.Event.TheVariants as event
 use Rattle.nvme_log.specs.Histories.{picks_in}
 use Rattle.nvme_log.specs.Limits.{max_outstanding, admin_events}
 use Rattle.nvme_front.specs.inside.State.{rules_of}
+use Rattle.nvme_front.specs.inside.Turn.{places_in}
 use Rattle.nvme_front.proofs.Comes.{gets-set}
 use Rattle.nvme_front.proofs.States.{Goes-trans}
 use Rattle.nvme_front.proofs.Picks.{picks_in-push, of_next, admin_unposted}
@@ -32,7 +33,7 @@ carry_out-requires c =
     let room : length c.args.self.now.log.items + admin_events ≤ vec_capacity c.note.new.log = omega (arith, c.in_ok-make_room.ensures.room, c.note.ensures.room) in
     record {
       applied = is_applied c.args.self.now _ c.requires.kept c.requires.admin c.requires.none_pending c.in-Some.pick c.in-Some.ensures.lawful c.in-Some.ensures.stands c.in-Some.ensures.queues
-          (of_next c.args.self.now c.in-Some.pick (λ (p : Pick). c.args.self.now.outstanding + p.n ≤ max_outstanding) c.in-Some.ensures.by_what_is_kept c.requires.places)
+          (of_next c.args.self.now c.in-Some.pick (λ (p : Pick). c.args.self.now.outstanding + places_in c.args.self.now.sqs.items p ≤ max_outstanding) c.in-Some.ensures.by_what_is_kept c.requires.places)
           (of_next c.args.self.now c.in-Some.pick (λ (p : Pick). p.qid ≡ 0) c.in-Some.ensures.by_what_is_kept c.requires.of_admin)
           c.seen-seen.result c.seen-seen.ensures.seen c.index_mut-sq.result.now c.index_mut-sq.ensures.value
           c.in-Some-pop.candidate c.pop.new.self.items c.in-Some-pop.ensures.items
@@ -55,7 +56,7 @@ returns-clause-goes c =
     let room : length c.args.self.now.log.items + admin_events ≤ vec_capacity c.note.new.log = omega (arith, c.in_ok-make_room.ensures.room, c.note.ensures.room) in
     Goes-trans c.args.self.now _ c.carry_out.new.self
     (admin_pick-goes c.args.self.now _ c.requires.kept c.requires.admin c.requires.none_pending c.in-Some.pick c.in-Some.ensures.lawful c.in-Some.ensures.stands c.in-Some.ensures.queues
-    (of_next c.args.self.now c.in-Some.pick (λ (p : Pick). c.args.self.now.outstanding + p.n ≤ max_outstanding) c.in-Some.ensures.by_what_is_kept c.requires.places)
+    (of_next c.args.self.now c.in-Some.pick (λ (p : Pick). c.args.self.now.outstanding + places_in c.args.self.now.sqs.items p ≤ max_outstanding) c.in-Some.ensures.by_what_is_kept c.requires.places)
     (of_next c.args.self.now c.in-Some.pick (λ (p : Pick). p.qid ≡ 0) c.in-Some.ensures.by_what_is_kept c.requires.of_admin)
     c.seen-seen.result c.seen-seen.ensures.seen c.index_mut-sq.result.now c.index_mut-sq.ensures.value
     c.in-Some-pop.candidate c.pop.new.self.items c.in-Some-pop.ensures.items

@@ -8,7 +8,7 @@ use Rattle.nvme_front.proofs.States.{IsSame-refl, kept_same, Goes-same}
 use Rattle.nvme_front.proofs.PostOne.{IsPosted, none_ready, front_foremost, few_posted, put_back, same_first, front_unposted, posted-kept, posted-goes, others_drained, drained_by}
 use Rattle.nvme_log.proofs.PickCounts.{picks-noted}
 use Rattle.nvme_front.proofs.state.FrontState.post_one.Goals as goal
-use Rattle.nvme_front.proofs.state.FrontState.post_one.Goals.{then-aborted, else-aborted}
+use Rattle.nvme_front.proofs.state.FrontState.post_one.Goals.{then-with_queue, else-with_queue}
 
 pub returns-in_default-clause-still : goal.returns-in_default-clause-still
 returns-in_default-clause-still c = λ _.
@@ -73,9 +73,9 @@ overflow_sub-self c =
     let f = front_foremost c.args.self.now c.args.c c.index-region.result.now c.in-Some.ready c.requires.kept c.requires.admin c.requires.there (rw c.from.ensures at c.index-region.ensures)
     (sym c.front.ensures ∙ c.in-Some.is) in
     let few = f.outstanding in
-    elim c.if-aborted.branch [
-      | then-aborted w ↦ omega (arith, w.self-is)
-      | else-aborted w ↦ let one = ap (λ (b : Bool). one_if (not b)) w.if-aborted.false in omega (arith, w.self-is, few, one)
+    elim c.if-with_queue.branch [
+      | then-with_queue w ↦ omega (arith, w.self-is)
+      | else-with_queue w ↦ let one = ap (λ (b : Bool). one_if (not b)) w.if-with_queue.false in omega (arith, w.self-is, few, one)
     ]
 
 -- the front at the end
@@ -83,7 +83,7 @@ abbrev after : goal.After-note → FrontState
 after c = record c.args.self.now {
   sqs = with_item c.args.self.now.sqs c.from-3.result (record c.index_mut-sq.result.now { unposted = c.index_mut-sq.result.now.unposted - 1 });
   cqs = with_item c.args.self.now.cqs c.from-2.result c.post.new.self;
-  outstanding = c.args.self.now.outstanding - c.if-aborted.self;
+  outstanding = c.args.self.now.outstanding - c.if-with_queue.self;
   log = c.note.new.log;
 }
 
@@ -105,9 +105,9 @@ posted c = record {
   sqs = ap (λ z. set c.args.self.now.sqs.items z (record c.index_mut-sq.result.now { unposted = c.index_mut-sq.result.now.unposted - 1 })) c.from-3.ensures;
   cqs = ap (λ z. set c.args.self.now.cqs.items z c.post.new.self) c.from-2.ensures;
   outstanding = ap (λ z. c.args.self.now.outstanding - z)
-      (elim c.if-aborted.branch [
-        | then-aborted w ↦ w.self-is ∙ sym (ap (λ (b : Bool). one_if (not b)) w.if-aborted.true)
-        | else-aborted w ↦ w.self-is ∙ sym (ap (λ (b : Bool). one_if (not b)) w.if-aborted.false)
+      (elim c.if-with_queue.branch [
+        | then-with_queue w ↦ w.self-is ∙ sym (ap (λ (b : Bool). one_if (not b)) w.if-with_queue.true)
+        | else-with_queue w ↦ w.self-is ∙ sym (ap (λ (b : Bool). one_if (not b)) w.if-with_queue.false)
       ]);
   log = c.note.ensures.items ∙ ap (λ z. z ++ post_event c.args.c c.in-Some.ready c.in-Some-completion_of.cqe ∷ []) c.make_room.ensures.same;
   room = c.in_ok-make_room.ensures.within;

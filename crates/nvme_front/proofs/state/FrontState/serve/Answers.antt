@@ -48,7 +48,7 @@ returns-in_default-clause-step g c =
     let pick = c.in_ok-picked.ensures in
     served_means c.args.self.now c.scan.new.self c.pick.new.self pick.goes c.requires.none_pending scan.picks
     c.in_ok-fetched.fetched (λ t. scan.more (ap Ok t)) (λ f. let same = scan.still (ap Ok f) in (same, λ q few. scanned_same c.args.self.now c.scan.new.self same q (scan.scanned q few))) c.in_ok-picked.picked
-    (λ e. pick.picked (ap Ok e)) (λ e. pick.never_moved (ap Ok e)) (λ e. pick.idle (ap Ok e)) (λ e. let s = pick.stalled (ap Ok e) in (s.0, (s.1, s.2))) c.step_after.result c.step_after.ensures
+    (λ e. pick.picked (ap Ok e)) (λ e. pick.never_moved (ap Ok e)) (λ e. pick.idle (ap Ok e)) (λ e. pick.stalled (ap Ok e)) c.step_after.result c.step_after.ensures
 
 pub returns-in_err-fetched-clause-balanced : goal.returns-in_err-fetched-clause-balanced
 returns-in_err-fetched-clause-balanced g c = balanced_still c.args.self.now c.scan.new.self c.scan.ensures.jobs
