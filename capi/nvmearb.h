@@ -85,19 +85,21 @@ typedef struct nvmearb_cqe {
 #define NVMEARB_ADMIN_CREATE_CQ 4u
 #define NVMEARB_ADMIN_SET_FEATURES 5u
 #define NVMEARB_ADMIN_GET_FEATURES 6u
+#define NVMEARB_ADMIN_ABORT 7u
 
 /* An admin command with the fields that the controller reads of it. A field that commands of this kind don't have is 0. */
 typedef struct nvmearb_admin {
     uint32_t kind;  /* NVMEARB_ADMIN_.. */
     uint32_t cdw11; /* set features: the value */
     uint64_t prp1;  /* create: the address of the queue */
-    uint16_t qid;   /* create, delete: the queue identifier */
+    uint16_t qid;   /* create, delete: the queue identifier; abort: that of the command's submission queue */
     uint16_t qsize; /* create: the number of slots, less 1 */
     uint16_t cqid;  /* create sq: the identifier of its completion queue */
     uint8_t qprio;  /* create sq: 0 urgent, 1 high, 2 medium, 3 low */
     uint8_t pc;     /* create: 1 where it is physically contiguous, else 0 */
     uint8_t fid;    /* features: the feature identifier */
     uint8_t sv;     /* set features: 1 where Save is asked for, else 0 */
+    uint16_t cid;   /* abort: the command identifier of the command */
 } nvmearb_admin;
 
 /* What Command Dword 11 of the Arbitration feature says. */
@@ -190,24 +192,29 @@ typedef struct nvmearb_table {
     uint8_t sq_count, cq_count, numbers_set, created;
 } nvmearb_table;
 
-/* What an admin command comes to. All but NVMEARB_DONE mean success with 0 as Command Dword 0. */
+/*
+ * What an admin command comes to. All but NVMEARB_DONE mean success, and all but NVMEARB_DONE and NVMEARB_ABORT with 0 as
+ * Command Dword 0. That of an Abort is the caller's, who knows which commands wait: 0 where it aborted one, else 1.
+ */
 #define NVMEARB_DONE 0u            /* answer with status and dw0 */
 #define NVMEARB_OPEN_SQ 1u         /* a submission queue was created */
 #define NVMEARB_OPEN_CQ 2u         /* a completion queue was created */
 #define NVMEARB_BEGIN_DELETE 3u    /* the submission queue is closing: nvmearb_table_finish_delete ends its deletion */
 #define NVMEARB_CLOSE_CQ 4u        /* the completion queue was deleted */
 #define NVMEARB_SET_ARBITRATION 5u /* the settings of the Arbitration feature were set */
+#define NVMEARB_ABORT 6u           /* abort the oldest waiting command with this identifier of this queue, where one waits */
 
 /* The answer to an admin command. What a verdict doesn't have is 0. */
 typedef struct nvmearb_answer {
     uint32_t verdict;      /* NVMEARB_DONE .. */
-    uint32_t dw0;          /* Command Dword 0 of its completion */
+    uint32_t dw0;          /* Command Dword 0 of its completion; abort: 0, and the caller's */
     uint32_t cdw11;        /* set arbitration: the settings, with bits 07:03 as 0 */
-    uint16_t qid;          /* open, begin delete, close: the queue identifier */
+    uint16_t qid;          /* open, begin delete, close: the queue identifier; abort: the submission queue identifier */
     uint16_t region;       /* open: the number of the region */
     uint16_t cqid;         /* open sq: its completion queue */
     uint16_t priority;     /* open sq: NVMEARB_URGENT .. NVMEARB_LOW */
     nvmearb_status status; /* of its completion */
+    uint16_t cid;          /* abort: the command identifier */
 } nvmearb_answer;
 
 /* A submission queue that is open or closing. */
@@ -286,7 +293,10 @@ uint32_t nvmearb_board_close(nvmearb_board *board, uint16_t qid);
 /* One more command waits in a queue. NVMEARB_EARG exactly where it isn't open or NVMEARB_MAX_COUNT commands wait. */
 uint32_t nvmearb_board_came(nvmearb_board *board, uint16_t qid);
 
-/* One waiting command of a queue left without being picked. NVMEARB_EARG exactly where it isn't open or none waits. */
+/*
+ * One waiting command of a queue left without being picked, as one that an Abort command aborts. NVMEARB_EARG exactly
+ * where it isn't open or none waits.
+ */
 uint32_t nvmearb_board_went(nvmearb_board *board, uint16_t qid);
 
 /* Writes what nvmearb_board_pick would pick. NVMEARB_NONE exactly where no command waits. */

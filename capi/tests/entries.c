@@ -13,6 +13,7 @@ _Static_assert(sizeof(nvmearb_cqe) == 16, "nvmearb_cqe");
 _Static_assert(offsetof(nvmearb_cqe, status) == 11, "nvmearb_cqe");
 _Static_assert(sizeof(nvmearb_admin) == 32, "nvmearb_admin");
 _Static_assert(offsetof(nvmearb_admin, sv) == 25, "nvmearb_admin");
+_Static_assert(offsetof(nvmearb_admin, cid) == 26, "nvmearb_admin");
 _Static_assert(sizeof(nvmearb_settings) == 12, "nvmearb_settings");
 
 static void submission_fields_by_place(void)
@@ -144,7 +145,7 @@ static void admin_fields(void)
     nvmearb_admin it = admin(0x01, 0x00ff0003, 0x00050003, 0x1234567890);
     CHECK(it.kind == NVMEARB_ADMIN_CREATE_SQ && it.qid == 3 && it.qsize == 255 && it.cqid == 5);
     CHECK(it.qprio == 1 && it.pc == 1 && it.prp1 == 0x1234567890);
-    CHECK(it.fid == 0 && it.sv == 0 && it.cdw11 == 0);
+    CHECK(it.fid == 0 && it.sv == 0 && it.cdw11 == 0 && it.cid == 0);
     it = admin(0x05, 0x00010002, 0x00050002, 0x1000);
     CHECK(it.kind == NVMEARB_ADMIN_CREATE_CQ && it.qid == 2 && it.qsize == 1 && it.pc == 0 && it.prp1 == 0x1000);
     CHECK(it.cqid == 0 && it.qprio == 0);
@@ -156,8 +157,11 @@ static void admin_fields(void)
     CHECK(it.kind == NVMEARB_ADMIN_SET_FEATURES && it.fid == 7 && it.sv == 1 && it.cdw11 == 0x00030003);
     it = admin(0x0a, 0x00000001, 0, 0);
     CHECK(it.kind == NVMEARB_ADMIN_GET_FEATURES && it.fid == 1 && it.qid == 0);
+    it = admin(0x08, 0x12340056, 0xffffffff, 0xffff);
+    CHECK(it.kind == NVMEARB_ADMIN_ABORT && it.qid == 0x56 && it.cid == 0x1234);
+    CHECK(it.qsize == 0 && it.cqid == 0 && it.prp1 == 0 && it.cdw11 == 0 && it.fid == 0 && it.pc == 0);
     it = admin(0x0c, 1, 1, 1);
-    CHECK(it.kind == NVMEARB_ADMIN_OTHER && it.qid == 0 && it.prp1 == 0 && it.cdw11 == 0);
+    CHECK(it.kind == NVMEARB_ADMIN_OTHER && it.qid == 0 && it.cid == 0 && it.prp1 == 0 && it.cdw11 == 0);
 }
 
 static void settings(void)
@@ -216,7 +220,7 @@ static void random_calls(void)
         }
         wrong += nvmearb_outcome(&entry, sizes, count, &status) != (reserved ? NVMEARB_EARG : NVMEARB_OK);
         nvmearb_admin_of(&entry, &command);
-        wrong += command.kind > 6;
+        wrong += command.kind > NVMEARB_ADMIN_ABORT;
         nvmearb_settings_of((uint32_t)word, &values);
         wrong += values.cdw11 != ((uint32_t)word & 0xffffff07);
     }

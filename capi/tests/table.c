@@ -8,9 +8,10 @@
 _Static_assert(sizeof(nvmearb_region) == 16, "nvmearb_region");
 _Static_assert(sizeof(nvmearb_table) == 728, "nvmearb_table");
 _Static_assert(sizeof(nvmearb_answer) == 24, "nvmearb_answer");
+_Static_assert(offsetof(nvmearb_answer, cid) == 22, "nvmearb_answer");
 _Static_assert(sizeof(nvmearb_queue) == 8, "nvmearb_queue");
 
-enum { DELETE_SQ = 0x00, CREATE_SQ = 0x01, DELETE_CQ = 0x04, CREATE_CQ = 0x05, SET_FEATURES = 0x09, GET_FEATURES = 0x0a };
+enum { DELETE_SQ = 0x00, CREATE_SQ = 0x01, DELETE_CQ = 0x04, CREATE_CQ = 0x05, ABORT = 0x08, SET_FEATURES = 0x09, GET_FEATURES = 0x0a };
 
 /* Applies an entry of an opcode and flags, with PRP1 and Command Dwords 10 and 11. */
 static nvmearb_answer applied(nvmearb_table *table, uint16_t opcode, uint64_t prp1, uint32_t cdw10, uint32_t cdw11)
@@ -38,7 +39,7 @@ static int is_refused(nvmearb_table *table, uint16_t opcode, uint64_t prp1, uint
     memcpy(&before, table, sizeof before);
     a = applied(table, opcode, prp1, cdw10, cdw11);
     return a.verdict == NVMEARB_DONE && a.status.sct == sct && a.status.sc == sc && a.dw0 == 0 && a.cdw11 == 0 &&
-           a.qid == 0 && a.region == 0 && a.cqid == 0 && a.priority == 0 && memcmp(&before, table, sizeof before) == 0;
+           a.qid == 0 && a.region == 0 && a.cqid == 0 && a.priority == 0 && a.cid == 0 && memcmp(&before, table, sizeof before) == 0;
 }
 
 /* Whether an entry is accepted with a verdict over a queue, and Command Dword 0. */
@@ -102,6 +103,27 @@ static void deletions(void)
     CHECK(comes_to(applied(&t, DELETE_CQ, 0, 1, 0), NVMEARB_CLOSE_CQ, 1, 0, 0));
     CHECK(nvmearb_table_cq(&t, 1, &region) == NVMEARB_NONE);
     CHECK(is_refused(&t, DELETE_CQ, 0, 1, 0, 1, 0x01));
+}
+
+/* An Abort is told with its queue and command, whether or not the queue is open, and leaves the table. */
+static void aborts(void)
+{
+    nvmearb_table t, before;
+    nvmearb_answer a;
+    prepare(&t, 16, 16);
+    memcpy(&before, &t, sizeof before);
+    a = applied(&t, ABORT, 0, 0x00050001, 0);
+    CHECK(comes_to(a, NVMEARB_ABORT, 1, 0, 0) && a.cid == 5 && a.cqid == 0 && a.priority == 0 && a.cdw11 == 0);
+    a = applied(&t, ABORT, 0, 0xffff0000, 0);
+    CHECK(comes_to(a, NVMEARB_ABORT, 0, 0, 0) && a.cid == 0xffff);
+    a = applied(&t, ABORT, 0, 0x00010009, 0);
+    CHECK(comes_to(a, NVMEARB_ABORT, 9, 0, 0) && a.cid == 1);
+    CHECK(memcmp(&before, &t, sizeof t) == 0);
+    CHECK(is_refused(&t, 0x100 | ABORT, 0, 0x00050001, 0, 0, 0x02));
+    a = applied(&t, DELETE_SQ, 0, 1, 0);
+    CHECK(comes_to(a, NVMEARB_BEGIN_DELETE, 1, 0, 0) && a.cid == 0);
+    a = applied(&t, ABORT, 0, 0x00050001, 0);
+    CHECK(comes_to(a, NVMEARB_ABORT, 1, 0, 0) && a.cid == 5);
 }
 
 static void features(void)
@@ -229,7 +251,7 @@ static void random_calls(void)
             bytes[44] = (uint8_t)(more >> 32);
             bytes[46] = (uint8_t)(more >> 40) % 20;
             told = nvmearb_table_apply(&table, bytes, &answer);
-            wrong += told == NVMEARB_OK && (answer.verdict > NVMEARB_SET_ARBITRATION || answer.status.sct > 1);
+            wrong += told == NVMEARB_OK && (answer.verdict > NVMEARB_ABORT || answer.status.sct > 1);
             accepted += told == NVMEARB_OK && answer.verdict != NVMEARB_DONE;
             if (told == NVMEARB_OK && (answer.status.sct || answer.status.sc)) {
                 wrong += memcmp(&before, &table, sizeof before) != 0;
@@ -257,6 +279,7 @@ int main(void)
 {
     create_refusals();
     deletions();
+    aborts();
     features();
     regions();
     random_calls();

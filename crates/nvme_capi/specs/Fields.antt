@@ -4,7 +4,7 @@ use Rattle.nvme_entry.specs.Status.{StatusCode}
 use Rattle.nvme_entry.specs.declared.submission.Sqe.{Sqe}
 use Rattle.nvme_entry.specs.declared.completion.Cqe.{Cqe}
 use Rattle.nvme_entry.specs.declared.admin.AdminCommand.{AdminCommand}
-use Rattle.nvme_entry.specs.declared.admin.AdminCommand.TheVariants.{DeleteSq, CreateSq, DeleteCq, CreateCq, SetFeatures, GetFeatures, Other}
+use Rattle.nvme_entry.specs.declared.admin.AdminCommand.TheVariants.{DeleteSq, CreateSq, DeleteCq, CreateCq, Abort, SetFeatures, GetFeatures, Other}
 use Rattle.nvme_arbiter.specs.Settings.{ArbitrationFields, cdw11_of, burst_of, weight_of}
 use Rattle.nvme_arbiter.specs.declared.settings.Class.TheVariants.{High, Medium, Low}
 use Rattle.nvme_capi.specs.declared.fields.SubmissionFields.{SubmissionFields}
@@ -55,7 +55,7 @@ pub record FitsCompletion (f : CompletionFields) : Type 0 where
 
 -- no field of an admin command
 abbrev pub no_fields : AdminFields
-no_fields = record { kind = 0; cdw11 = 0; prp1 = 0; qid = 0; qsize = 0; cqid = 0; qprio = 0; pc = 0; fid = 0; sv = 0 }
+no_fields = record { kind = 0; cdw11 = 0; prp1 = 0; qid = 0; qsize = 0; cqid = 0; qprio = 0; pc = 0; fid = 0; sv = 0; cid = 0 }
 
 abbrev pub bit : Bool → ℕ
 bit b = if b then 1 else 0
@@ -69,6 +69,7 @@ admin_fields_of (DeleteCq qid) = record no_fields { kind = 3; qid = qid }
 admin_fields_of (CreateCq qid qsize prp1 pc) = record no_fields { kind = 4; qid = qid; qsize = qsize; prp1 = prp1; pc = bit pc }
 admin_fields_of (SetFeatures fid sv cdw11) = record no_fields { kind = 5; fid = fid; sv = bit sv; cdw11 = cdw11 }
 admin_fields_of (GetFeatures fid) = record no_fields { kind = 6; fid = fid }
+admin_fields_of (Abort sqid cid) = record no_fields { kind = 7; qid = sqid; cid = cid }
 admin_fields_of Other = no_fields
 
 -- what settings say. No limit of the burst is 0

@@ -8,7 +8,7 @@ use Rattle.nvme_arbiter.specs.declared.settings.Class.TheVariants.{Admin, Urgent
 use Rattle.nvme_admin.specs.declared.bounds.TheConstants.{MAX_REGIONS, MAX_IO_QUEUES}
 use Rattle.nvme_admin.specs.declared.verdict.SqEntry.{SqEntry}
 use Rattle.nvme_admin.specs.declared.verdict.Verdict.{Verdict}
-use Rattle.nvme_admin.specs.declared.verdict.Verdict.TheVariants.{Done, OpenSq, OpenCq, BeginDelete, CloseCq, SetArbitration}
+use Rattle.nvme_admin.specs.declared.verdict.Verdict.TheVariants.{Done, OpenSq, OpenCq, BeginDelete, CloseCq, Abort, SetArbitration}
 use Rattle.nvme_admin.specs.Standing.{TableView}
 use Rattle.nvme_capi.specs.Fields.{bit}
 use Rattle.nvme_capi.specs.Boards.{class_of_slot}
@@ -101,9 +101,9 @@ status_fields_of s = record { sct = s.sct; sc = s.sc }
 
 -- the answer that says success, and nothing else
 abbrev pub plain_answer : ℕ → AnswerFields
-plain_answer verdict = record { verdict = verdict; dw0 = 0; cdw11 = 0; qid = 0; region = 0; cqid = 0; priority = 0; status = status_fields_of success }
+plain_answer verdict = record { verdict = verdict; dw0 = 0; cdw11 = 0; qid = 0; region = 0; cqid = 0; priority = 0; status = status_fields_of success; cid = 0 }
 
--- what a verdict says, with 0 for what verdicts of its kind don't have
+-- what a verdict says, with 0 for what verdicts of its kind don't have. Command Dword 0 of an Abort is the caller's, and 0 here
 abbrev pub answer_of : Verdict → AnswerFields
 answer_of (Done status dw0) = record (plain_answer 0) { status = status_fields_of status; dw0 = dw0 }
 answer_of (OpenSq qid region cqid class) = record (plain_answer 1) { qid = qid; region = region; cqid = cqid; priority = number_of_class class }
@@ -111,6 +111,7 @@ answer_of (OpenCq qid region) = record (plain_answer 2) { qid = qid; region = re
 answer_of (BeginDelete qid) = record (plain_answer 3) { qid = qid }
 answer_of (CloseCq qid) = record (plain_answer 4) { qid = qid }
 answer_of (SetArbitration settings) = record (plain_answer 5) { cdw11 = cdw11_of settings }
+answer_of (Abort sqid cid) = record (plain_answer 6) { qid = sqid; cid = cid }
 
 -- what is said of a submission queue
 abbrev pub queue_answer_of : SqEntry → QueueAnswer

@@ -21,6 +21,7 @@ const fn no_fields() -> AdminFields
         pc: 0,
         fid: 0,
         sv: 0,
+        cid: 0,
     }
 }
 
@@ -79,6 +80,12 @@ fn fields_of_admin(command: AdminCommand) -> AdminFields
         AdminCommand::GetFeatures { fid } => AdminFields {
             kind: 6,
             fid,
+            ..no_fields()
+        },
+        AdminCommand::Abort { sqid, cid } => AdminFields {
+            kind: 7,
+            qid: sqid,
+            cid,
             ..no_fields()
         },
         AdminCommand::Other => no_fields(),

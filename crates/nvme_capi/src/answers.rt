@@ -10,7 +10,7 @@ use nvme_entry::Status;
 
 /// `nvmearb_answer`: what an admin command comes to. The verdicts are 0 done, 1 a submission queue was created, 2 a
 /// completion queue was created, 3 the submission queue is closing, 4 the completion queue was deleted, 5 the settings
-/// were set. What verdicts of its kind don't have is 0.
+/// were set, 6 a waiting command of the submission queue is to be aborted. What verdicts of its kind don't have is 0.
 #[repr(C)]
 #[derive(Clone, Copy, Drop)]
 pub struct AnswerFields {
@@ -22,6 +22,7 @@ pub struct AnswerFields {
     pub cqid: u16,
     pub priority: u16,
     pub status: StatusFields,
+    pub cid: u16,
 }
 
 /// `nvmearb_queue`: a submission queue that is open or closing.
@@ -70,6 +71,7 @@ const fn plain_answer(verdict: u32) -> AnswerFields
         cqid: 0,
         priority: 0,
         status: StatusFields { sct: 0, sc: 0 },
+        cid: 0,
     }
 }
 
@@ -111,6 +113,11 @@ pub fn answer_of(verdict: Verdict) -> AnswerFields
         Verdict::SetArbitration(settings) => AnswerFields {
             cdw11: settings.to_cdw11(),
             ..plain_answer(5)
+        },
+        Verdict::Abort { sqid, cid } => AnswerFields {
+            qid: sqid,
+            cid,
+            ..plain_answer(6)
         },
     }
 }

@@ -60,6 +60,7 @@ pub struct AdminFields {
     pub pc: u8,
     pub fid: u8,
     pub sv: u8,
+    pub cid: u16,
 }
 
 /// `nvmearb_settings`: what a CDW11 of the Arbitration feature says. A burst of 0 is no limit.
