@@ -33,6 +33,7 @@ fn name_of(opcode: u8) -> &'static str {
         0x01 => "Create I/O Submission Queue",
         0x04 => "Delete I/O Completion Queue",
         0x05 => "Create I/O Completion Queue",
+        0x08 => "Abort",
         0x09 => "Set Features",
         0x0a => "Get Features",
         _ => "opcode",
@@ -53,7 +54,7 @@ impl fmt::Display for Warning {
                 write!(f, "command 0.{command}: {name}")?;
                 match *opcode {
                     0x00 | 0x01 | 0x04 | 0x05 => write!(f, " {qid}")?,
-                    0x09 | 0x0a => {}
+                    0x08 | 0x09 | 0x0a => {}
                     other => write!(f, " {other:02x}h")?,
                 }
                 write!(f, " is refused with {sct}/{sc:02x}")
