@@ -1,6 +1,6 @@
 // What a log says.
 use crate::again::push_again;
-use nvme_entry::Status;
+use nvme_entry::{Cqe, Status};
 use nvme_front::Event;
 use std::alloc::{AllocError, Global};
 
@@ -41,6 +41,12 @@ pub fn was_closed(log: &[Event], of: u8) -> bool {
 
 /// The status of the completion of a place, where it was posted.
 pub fn status_of(log: &[Event], of: u8, at: u32) -> Option<Status> {
+    let cqe = completion_of(log, of, at)?;
+    Some(cqe.status)
+}
+
+/// The completion of a place, where it was posted.
+pub fn completion_of(log: &[Event], of: u8, at: u32) -> Option<Cqe> {
     for event in log {
         if let Event::Post {
             region,
@@ -51,7 +57,7 @@ pub fn status_of(log: &[Event], of: u8, at: u32) -> Option<Status> {
             && *region == of
             && *index == at
         {
-            return Some(cqe.status);
+            return Some(*cqe);
         }
     }
     None

@@ -3,7 +3,7 @@ ghost use Rattle.std.specs.Prelude.{◌≡◌, []};
 
 use crate::again::{add_cq_again, add_sq_again, pool_again, ring_again};
 use crate::commands::{admin, get_arbitration, read};
-use crate::events::{picks, posted, status_of, was_closed};
+use crate::events::{completion_of, picks, posted, status_of, was_closed};
 use crate::hosted::{ADMIN_CQ, ADMIN_SQ, config};
 use crate::rig::{Rig, WORKERS};
 use nvme_entry::{Namespaces, Status};
@@ -169,6 +169,46 @@ fn capacities(rt: HostRuntime) -> Result<(), Fail> {
     // No limit on bursts.
     let mut rig = Rig::new(rt.alloc(), config(7, 2000)?, 16, 16, &script)?;
     let played = play_wide(&rt, rt.alloc(), &mut rig);
+    let _settled = rig.settled(&rt, rt.alloc(), played)?;
+    Ok(())
+}
+
+// Fills all places but one, so that an Abort waits until one more is free. All commands are picked, so that it finds none.
+fn play_two_places<R: Wait + Abort>(rt: &R, alloc: Global, rig: &mut Rig) -> Result<(), Fail> {
+    rig.add_sq(alloc, 0x2000, 256, &[read(7); 255])?;
+    rig.add_cq(alloc, 0x9000, 2)?;
+    rig.submit_all(255);
+    rig.run_until_stalled(rt)?;
+    let all = picks(alloc, rig.log())?;
+    assert_eq!(rt; all.as_slice(), [(0, 1), (0, 1), (1, 255)].as_slice());
+    turns(rt, rig, &[Step::Stalled])?;
+    assert_eq!(rt; (rig.work(rt, 1), rig.work(rt, 0)), (255, 0));
+    // The ring of completions takes one, whose place is free then.
+    turns(rt, rig, &[Step::Picked, Step::Moved])?;
+    assert_eq!(rt; posted(rig.log()), 4);
+    let answer = completion_of(rig.log(), 0, 2);
+    assert_eq!(rt;
+        answer.map(|cqe| (cqe.status, cqe.dw0)),
+        Some((Status::SUCCESS, 1))
+    );
+    for _ in 0..300 {
+        rig.run(rt)?;
+        rig.collect_all()?;
+    }
+    assert!(rt; rig.is_clear());
+    Ok(())
+}
+
+#[test]
+fn abort_needs_two_places(rt: HostRuntime) -> Result<(), Fail> {
+    let script = [
+        admin(0, 5, 0x9000, 0x0001_0001, 1),
+        admin(1, 1, 0x2000, 0x00ff_0001, 0x0001_0001),
+        admin(2, 8, 0, 0x0007_0001, 0),
+    ];
+    // No limit on bursts.
+    let mut rig = Rig::new(rt.alloc(), config(7, 2000)?, 16, 16, &script)?;
+    let played = play_two_places(&rt, rt.alloc(), &mut rig);
     let _settled = rig.settled(&rt, rt.alloc(), played)?;
     Ok(())
 }

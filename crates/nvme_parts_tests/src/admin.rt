@@ -281,8 +281,8 @@ fn features(rt: HostRuntime) -> Result<(), Fail> {
         Verdict::Done(Status::INVALID_OPCODE, 0)
     );
     assert_eq!(rt;
-        table.apply(&entry(8, 0, 0, 0)),
-        Verdict::Done(Status::INVALID_OPCODE, 0)
+        table.apply(&entry(8, 0, 0x0007_0003, 0)),
+        Verdict::Abort { sqid: 3, cid: 7 }
     );
     let settings = Settings::from_cdw11(0xffff_ffff);
     assert_eq!(rt;

@@ -42,6 +42,38 @@ fn delete_with_three_waiting(rt: HostRuntime) -> Result<(), Fail> {
     loads(&rt, rt.alloc(), DELETE_THREE, DELETE_THREE_REPORT)
 }
 
+// The same with these admin commands in the place of the Delete.
+fn loads_instead<R: Threads + Wait + Sync + Abort>(
+    rt: &R,
+    alloc: Global,
+    commands: &str,
+    want: &str,
+) -> Result<(), Fail> {
+    let text = changed(
+        alloc,
+        DELETE_THREE,
+        &[("  { op = 0, cdw10 = 1 },\n", commands)],
+    )?;
+    loads(rt, alloc, text.as_str(), want)
+}
+
+#[test]
+fn abort_one_of_three(rt: HostRuntime) -> Result<(), Fail> {
+    let twice = "  { op = 8, cdw10 = 0x00010001 },\n  { op = 8, cdw10 = 0x00010001 },\n";
+    loads_instead(&rt, rt.alloc(), twice, ABORT_ONE_REPORT)
+}
+
+#[test]
+fn abort_finds_nothing(rt: HostRuntime) -> Result<(), Fail> {
+    // Of the admin queue, of a queue that isn't open, of a command that was picked, and a fused one.
+    let commands = "  { op = 8 },
+  { op = 8, cdw10 = 9 },
+  { op = 8, cdw10 = 1 },
+  { op = 8, flags = 1, cdw10 = 0x00020001 },
+";
+    loads_instead(&rt, rt.alloc(), commands, ABORT_NONE_REPORT)
+}
+
 #[test]
 fn delete_after_a_burst_of_two(rt: HostRuntime) -> Result<(), Fail> {
     let text = changed(

@@ -128,6 +128,55 @@ cmd 2.1 0/00 00000000
 end
 ";
 
+/// Of three commands of which an Abort takes the second.
+pub const ABORT_ONE_REPORT: &str = "loaded
+pick q0 1
+pick q0 1
+pick q1 1
+pick q0 1
+pick q1 1
+pick q0 1
+sq 0 script 4 submitted 4 fetched 4 picked 4 aborted 0
+sq 1 script 3 submitted 3 fetched 3 picked 2 aborted 1
+cq 0 collected 4
+cq 1 collected 3
+cmd 0.0 0/00 00000000
+cmd 0.1 0/00 00000000
+cmd 0.2 0/00 00000000
+cmd 0.3 0/00 00000001
+cmd 1.0 0/00 00000000
+cmd 1.1 0/07 00000000
+cmd 1.2 0/00 00000000
+end
+";
+
+/// Of Aborts that find nothing.
+pub const ABORT_NONE_REPORT: &str = "loaded
+pick q0 1
+pick q0 1
+pick q1 1
+pick q0 1
+pick q1 1
+pick q0 1
+pick q1 1
+pick q0 1
+pick q0 1
+sq 0 script 6 submitted 6 fetched 6 picked 6 aborted 0
+sq 1 script 3 submitted 3 fetched 3 picked 3 aborted 0
+cq 0 collected 6
+cq 1 collected 3
+cmd 0.0 0/00 00000000
+cmd 0.1 0/00 00000000
+cmd 0.2 0/00 00000001
+cmd 0.3 0/00 00000001
+cmd 0.4 0/00 00000001
+cmd 0.5 0/02 00000000
+cmd 1.0 0/00 00000000
+cmd 1.1 0/00 00000000
+cmd 1.2 0/00 00000000
+end
+";
+
 // So many lines, each the same.
 fn push_lines(text: &mut String, line: &str, count: u16) -> Result<(), AllocError> {
     for _ in 0..count {

@@ -199,6 +199,7 @@ fn status(kept: &[Kept], e: &Sqe) -> Status {
         4 if is_attached(kept, qid) => Status::INVALID_QUEUE_DELETION,
         4 => Status::SUCCESS,
         5 => create_cq(kept, e),
+        8 => Status::SUCCESS,
         9 => set_features(kept, e),
         10 if e.cdw10 % 256 == 1 || e.cdw10 % 256 == 7 => Status::SUCCESS,
         10 => Status::INVALID_FIELD,
@@ -246,6 +247,10 @@ fn verdict(kept: &[Kept], e: &Sqe) -> Verdict {
         5 => Verdict::OpenCq {
             qid,
             region: (e.prp1 % 10) as u8,
+        },
+        8 => Verdict::Abort {
+            sqid: qid,
+            cid: high(e.cdw10),
         },
         9 if e.cdw10 % 256 == 1 => Verdict::SetArbitration(Settings::from_cdw11(settings(kept))),
         10 if e.cdw10 % 256 == 1 => Verdict::Done(Status::SUCCESS, settings(kept) & 0xffff_ff07),
@@ -322,6 +327,7 @@ fn drawn(seed: &mut u64) -> Sqe {
     let opcode = draw(seed, 12) as u8;
     let e = match opcode {
         1 | 5 => drawn_create(seed, opcode),
+        8 => entry(opcode, 0, draw(seed, 4) * 0x1_0000 + drawn_id(seed), 0),
         9 | 10 => drawn_feature(seed, opcode),
         _ => entry(opcode, 0, drawn_id(seed), 0),
     };
