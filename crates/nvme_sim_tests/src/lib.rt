@@ -2,8 +2,6 @@
 #![tactic(auto)]
 
 #[cfg(test)]
-mod aborts;
-#[cfg(test)]
 mod again;
 #[cfg(test)]
 mod commands;
