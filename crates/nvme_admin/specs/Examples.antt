@@ -107,9 +107,10 @@ create_cq_cases =
     ∷ gives (create_cq 1 31 0xa000 1) invalid_queue_identifier
     ∷ gives (create_cq 4 0 0xa000 1) invalid_queue_identifier
     ∷ gives (create_cq 2 0 0xa000 1) invalid_queue_size
-    ∷ gives (create_cq 2 256 0xa000 1) invalid_queue_size
+    ∷ gives (create_cq 2 4096 0xa000 1) invalid_queue_size
     ∷ gives (create_cq 2 0 0xb000 1) invalid_queue_size
-    ∷ gives (create_cq 2 255 0xa000 1) invalid_field
+    ∷ gives (create_cq 2 4095 0xa000 1) invalid_field
+    ∷ gives (create_cq 2 256 0xa000 1) invalid_field
     ∷ gives (create_cq 2 30 0xa000 1) invalid_field
     ∷ gives (create_cq 2 31 0xb000 1) invalid_field
     ∷ gives (create_cq 2 63 0x9000 1) invalid_field
@@ -129,14 +130,15 @@ create_sq_cases =
     ∷ gives (create_sq 2 7 0x4000 1 0 1) invalid_queue_identifier
     ∷ gives (create_sq 5 0 0x4000 1 0 1) invalid_queue_identifier
     ∷ gives (create_sq 3 0 0x4000 1 0 1) invalid_queue_size
-    ∷ gives (create_sq 3 256 0x4000 1 0 1) invalid_queue_size
+    ∷ gives (create_sq 3 4096 0x4000 1 0 1) invalid_queue_size
     ∷ gives (create_sq 3 0 0x4000 0 0 1) invalid_queue_size
     ∷ gives (create_sq 3 7 0x4000 0 0 1) invalid_queue_identifier
     ∷ gives (create_sq 3 7 0x4000 4 0 1) invalid_queue_identifier
     ∷ gives (create_sq 3 7 0xb000 0 0 1) invalid_queue_identifier
     ∷ gives (create_sq 3 7 0x4000 2 0 1) completion_queue_invalid
     ∷ gives (create_sq 3 7 0xb000 2 0 1) completion_queue_invalid
-    ∷ gives (create_sq 3 255 0x4000 1 0 1) invalid_field
+    ∷ gives (create_sq 3 4095 0x4000 1 0 1) invalid_field
+    ∷ gives (create_sq 3 256 0x4000 1 0 1) invalid_field
     ∷ gives (create_sq 3 6 0x4000 1 0 1) invalid_field
     ∷ gives (create_sq 3 7 0xb000 1 0 1) invalid_field
     ∷ gives (create_sq 3 7 0x2000 1 0 1) invalid_field

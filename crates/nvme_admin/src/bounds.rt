@@ -1,15 +1,15 @@
 /// The largest identifier of an I/O queue, and the largest limit on the number of queues of a kind.
-pub const MAX_IO_QUEUES: u16 = 16;
+pub const MAX_IO_QUEUES: u16 = 64;
 
 /// The largest number of regions of a kind: that of the admin queue, and one for each I/O queue. It
 /// is also the number of queue identifiers of a kind.
-pub const MAX_REGIONS: usize = 17;
+pub const MAX_REGIONS: usize = MAX_IO_QUEUES as usize + 1;
 
 /// The least number of slots of a region.
 pub const MIN_SLOTS: u16 = 2;
 
 /// The largest number of slots of a region.
-pub const MAX_SLOTS: u16 = 256;
+pub const MAX_SLOTS: u16 = 4096;
 
 /// The largest QSIZE, which is zero based.
-pub const MAX_QSIZE: u16 = 255;
+pub const MAX_QSIZE: u16 = MAX_SLOTS - 1;

@@ -52,7 +52,7 @@ four_queues_restarted = q 0 1 ∷ q 1 1 ∷ q 0 1 ∷ []
 
 -- one queue, no burst limit
 abbrev pub full_queue : List Seen
-full_queue = queue 1 High 255 ∷ []
+full_queue = queue 1 High 256 ∷ []
 
 -- two rounds: burst 2, High 4, Medium 2, Low 1
 abbrev pub two_rounds : List Seen
@@ -120,7 +120,7 @@ two_admin_at_once = q 0 2 ∷ []
 
 -- an observation with the highest identifier and the highest count
 abbrev pub at_limits : List Seen
-at_limits = queue 0 Admin 255 ∷ queue 1 Urgent 0 ∷ queue 16 Low 255 ∷ []
+at_limits = queue 0 Admin 256 ∷ queue 1 Urgent 0 ∷ queue 64 Low 256 ∷ []
 
 -- queues in no order
 abbrev pub in_no_order : List Seen

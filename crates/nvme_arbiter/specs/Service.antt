@@ -37,7 +37,7 @@ is_of_class class t = is_in_class class (class_in t.seen t.pick.qid)
 abbrev pub is_picked : ℕ → List Turn → Bool
 is_picked qid turns = list_any (λ t. t.pick.qid == qid) turns
 
--- (round robin) a queue that is seen ready at every pick of a stretch is picked within any 17 picks in a row
+-- (round robin) a queue that is seen ready at every pick of a stretch is picked within any 65 picks in a row
 abbrev pub RoundRobinServes : Type 0
 RoundRobinServes = (first : ArbitrationFields) (past : History) (turns : List Turn) (qid : ℕ) → IsLawfulRun RoundRobin first (events_of turns ++ past) → IsTrue (list_all (sees_ready qid) turns) → queue_limit ≤ length turns → IsTrue (is_picked qid turns)
 
@@ -45,7 +45,7 @@ RoundRobinServes = (first : ArbitrationFields) (past : History) (turns : List Tu
 abbrev pub sees_where_of : Class → ℕ → Turn → Bool
 sees_where_of class qid t = not (is_of_class class t && not (sees_ready_in class qid t))
 
--- (weighted) a queue that is seen ready in a class at every pick of that class is picked, in it, within any 16 picks of the class in a row
+-- (weighted) a queue that is seen ready in a class at every pick of that class is picked, in it, within any 64 picks of the class in a row
 abbrev pub ClassServes : Type 0
 ClassServes = (first : ArbitrationFields) (past : History) (turns : List Turn) (class : Class) (qid : ℕ) → IsLawfulRun Weighted first (events_of turns ++ past) → IsTrue (list_all (sees_where_of class qid) turns) → highest_qid ≤ length (filter (is_of_class class) turns) → IsTrue (list_any (λ t. is_of_class class t && (t.pick.qid == qid)) turns)
 

@@ -1,7 +1,8 @@
 -- Worked instances of the bounds on service: the first queue behind them waits for as long as the bound allows.
 -- (profile)
-use Rattle.std.specs.Prelude.{◌≡◌, ◌+◌, ◌*◌, ◌==◌, ◌&&◌, List, [], ◌∷◌, ◌++◌, length, filter, IsTrue, IsFalse}
+use Rattle.std.specs.Prelude.{◌≡◌, ℕ, zero, suc, ◌+◌, ◌-◌, ◌*◌, ◌==◌, ◌&&◌, List, [], ◌∷◌, ◌++◌, length, filter, IsTrue, IsFalse}
 use Rattle.std.specs.List.{list_any, list_all}
+use Rattle.nvme_arbiter.specs.Limits.{highest_qid, queue_limit}
 use Rattle.nvme_arbiter.specs.Settings.{settings_of, weight_of}
 use Rattle.nvme_arbiter.specs.History.{Picked, History}
 use Rattle.nvme_arbiter.specs.Lawful.{IsLawfulRun, IsLawfulPick}
@@ -18,37 +19,49 @@ abbrev pub turns_on : List Turn → List Seen → List Pick → List Turn
 turns_on turns seen [] = turns
 turns_on turns seen (pick ∷ picks) = turns_on (record { seen = seen; pick = pick } ∷ turns) seen picks
 
--- sixteen I/O queues of a class
-abbrev pub sixteen : Class → List Seen
-sixteen class = queue 1 class 1 ∷ queue 2 class 1 ∷ queue 3 class 1 ∷ queue 4 class 1 ∷ queue 5 class 1 ∷ queue 6 class 1 ∷ queue 7 class 1 ∷ queue 8 class 1 ∷ queue 9 class 1 ∷ queue 10 class 1 ∷ queue 11 class 1 ∷ queue 12 class 1 ∷ queue 13 class 1 ∷ queue 14 class 1 ∷ queue 15 class 1 ∷ queue 16 class 1 ∷ []
+-- the I/O queues 1 to n, all of a class, each with one command
+abbrev pub queues_to : ℕ → Class → List Seen
+queues_to zero class = []
+queues_to (suc n) class = queues_to n class ++ queue (suc n) class 1 ∷ []
 
-abbrev pub fifteen_picks : List Pick
-fifteen_picks = q 1 1 ∷ q 2 1 ∷ q 3 1 ∷ q 4 1 ∷ q 5 1 ∷ q 6 1 ∷ q 7 1 ∷ q 8 1 ∷ q 9 1 ∷ q 10 1 ∷ q 11 1 ∷ q 12 1 ∷ q 13 1 ∷ q 14 1 ∷ q 15 1 ∷ []
+-- a pick of each of them in turn
+abbrev pub picks_to : ℕ → List Pick
+picks_to zero = []
+picks_to (suc n) = picks_to n ++ q (suc n) 1 ∷ []
 
-abbrev pub seventeen : List Seen
-seventeen = queue 0 Admin 1 ∷ sixteen Low
+-- every I/O queue that there may be, all of a class
+abbrev pub all_of : Class → List Seen
+all_of class = queues_to highest_qid class
 
-abbrev pub sixteen_turns : List Turn
-sixteen_turns = turns_on [] seventeen (q 0 1 ∷ fifteen_picks)
+-- every queue that there may be
+abbrev pub every_queue : List Seen
+every_queue = queue 0 Admin 1 ∷ all_of Low
 
--- (round robin) q16 is ready at sixteen picks in a row and none of them picks it; the seventeenth does
+-- a pick of each I/O queue but the last
+abbrev pub all_but_last : List Pick
+all_but_last = picks_to (highest_qid - 1)
+
+abbrev pub turns_of_all : List Turn
+turns_of_all = turns_on [] every_queue (q 0 1 ∷ all_but_last)
+
+-- (round robin) the last queue is ready at 64 picks in a row and none of them picks it; the next does
 pub record RoundRobinBoundIsLeast : Type 0 where
-  pub lawful : IsLawfulRun RoundRobin (settings_of 0) (events_of sixteen_turns ++ [])
-  pub is_ready : IsTrue (list_all (sees_ready 16) sixteen_turns)
-  pub picks : length sixteen_turns ≡ 16
-  pub waits : IsFalse (is_picked 16 sixteen_turns)
-  pub then_picked : IsLawfulPick RoundRobin (settings_of 0) (events_of sixteen_turns ++ []) seventeen (q 16 1)
+  pub lawful : IsLawfulRun RoundRobin (settings_of 0) (events_of turns_of_all ++ [])
+  pub is_ready : IsTrue (list_all (sees_ready highest_qid) turns_of_all)
+  pub picks : length turns_of_all + 1 ≡ queue_limit
+  pub waits : IsFalse (is_picked highest_qid turns_of_all)
+  pub then_picked : IsLawfulPick RoundRobin (settings_of 0) (events_of turns_of_all ++ []) every_queue (q highest_qid 1)
 
-abbrev pub fifteen_turns : List Turn
-fifteen_turns = turns_on [] (sixteen Urgent) fifteen_picks
+abbrev pub turns_of_class : List Turn
+turns_of_class = turns_on [] (all_of Urgent) all_but_last
 
--- (weighted) q16 is ready at fifteen picks of its class in a row and none of them picks it; the sixteenth does
+-- (weighted) the last queue is ready at 63 picks of its class in a row and none of them picks it; the next does
 pub record ClassBoundIsLeast : Type 0 where
-  pub lawful : IsLawfulRun Weighted (settings_of 0) (events_of fifteen_turns ++ [])
-  pub is_ready : IsTrue (list_all (sees_where_of Urgent 16) fifteen_turns)
-  pub picks : length (filter (is_of_class Urgent) fifteen_turns) ≡ 15
-  pub waits : IsFalse (list_any (λ t. is_of_class Urgent t && (t.pick.qid == 16)) fifteen_turns)
-  pub then_picked : IsLawfulPick Weighted (settings_of 0) (events_of fifteen_turns ++ []) (sixteen Urgent) (q 16 1)
+  pub lawful : IsLawfulRun Weighted (settings_of 0) (events_of turns_of_class ++ [])
+  pub is_ready : IsTrue (list_all (sees_where_of Urgent highest_qid) turns_of_class)
+  pub picks : length (filter (is_of_class Urgent) turns_of_class) + 1 ≡ highest_qid
+  pub waits : IsFalse (list_any (λ t. is_of_class Urgent t && (t.pick.qid == highest_qid)) turns_of_class)
+  pub then_picked : IsLawfulPick Weighted (settings_of 0) (events_of turns_of_class ++ []) (all_of Urgent) (q highest_qid 1)
 
 -- the low queue used its credit before the others had commands
 abbrev pub low_first : History

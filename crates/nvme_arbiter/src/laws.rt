@@ -61,7 +61,7 @@ pub fn round_robin_four_queues()
 
 /// No burst limit: round robin takes all of a queue, the weighted mechanism one a round at weight 1.
 pub fn no_burst_limit()
-    ensures round_robin { EndsWith RoundRobin (settings_of 7) [] full_queue (q 1 255 ∷ []) }
+    ensures round_robin { EndsWith RoundRobin (settings_of 7) [] full_queue (q 1 256 ∷ []) }
     ensures weighted { IsLawfulRun Weighted (settings_of 7) (played [] full_queue (q 1 1 ∷ fresh 1 1 ∷ fresh 1 1 ∷ [])) }
     ensures other { IsLawfulRun RoundRobin (settings_of 7) (played [] full_queue (q 1 128 ∷ [])) → ⊥ }
 {}
@@ -96,13 +96,13 @@ pub fn two_admin_commands()
     ensures not_by_burst_weighted { IsLawfulRun Weighted (settings_of 0x0200_0002) (played [] two_admin two_admin_at_once) → ⊥ }
 {}
 
-/// An observation at its limits, and lists that are none: an identifier above 16, a count above 255, another class
+/// An observation at its limits, and lists that are none: an identifier above 64, a count above 256, another class
 /// for queue 0, class Admin for another queue, an identifier twice, and identifiers that descend.
 pub fn limits_of_observations()
     ensures at_limits { IsObservation at_limits }
     ensures limits { queue_limit ≡ highest_qid + 1 }
-    ensures qid_too_high { IsObservation (queue 17 Low 1 ∷ []) → ⊥ }
-    ensures count_too_high { IsObservation (queue 1 Low 256 ∷ []) → ⊥ }
+    ensures qid_too_high { IsObservation (queue 65 Low 1 ∷ []) → ⊥ }
+    ensures count_too_high { IsObservation (queue 1 Low 257 ∷ []) → ⊥ }
     ensures admin_of_a_level { IsObservation (queue 0 Low 1 ∷ []) → ⊥ }
     ensures other_admin { IsObservation (queue 1 Admin 1 ∷ []) → ⊥ }
     ensures twice { IsObservation (queue 1 Low 1 ∷ queue 1 Urgent 1 ∷ []) → ⊥ }

@@ -2,12 +2,12 @@
 ghost use Rattle.nvme_arbiter.specs.Service.{RoundRobinServes, ClassServes, LowIsServed};
 ghost use Rattle.nvme_arbiter.specs.ServiceExamples.{RoundRobinBoundIsLeast, ClassBoundIsLeast, LowBoundIsLeast};
 
-/// Round robin: a queue that is seen ready at every pick of a stretch is picked within any 17 picks in a row.
+/// Round robin: a queue that is seen ready at every pick of a stretch is picked within any 65 picks in a row.
 pub fn round_robin_serves()
     ensures { RoundRobinServes }
 {}
 
-/// Weighted: a queue that is seen ready in a class at every pick of that class is picked within any 16 picks of the
+/// Weighted: a queue that is seen ready in a class at every pick of that class is picked within any 64 picks of the
 /// class in a row.
 pub fn class_serves()
     ensures { ClassServes }
@@ -19,12 +19,12 @@ pub fn low_is_served()
     ensures { LowIsServed }
 {}
 
-/// Round robin: of 17 ready queues the last waits for 16 picks, so the bound of 17 can't be smaller.
+/// Round robin: of 65 ready queues the last waits for 64 picks, so the bound of 65 can't be smaller.
 pub fn round_robin_bound_is_least()
     ensures { RoundRobinBoundIsLeast }
 {}
 
-/// Weighted: of 16 ready queues of a class the last waits for 15 picks, so the bound of 16 can't be smaller.
+/// Weighted: of 64 ready queues of a class the last waits for 63 picks, so the bound of 64 can't be smaller.
 pub fn class_bound_is_least()
     ensures { ClassBoundIsLeast }
 {}

@@ -7,7 +7,7 @@ min_slots = 2
 
 -- the most slots of a ring
 abbrev pub max_slots : ℕ
-max_slots = 256
+max_slots = 4096
 
 -- the most items that a lane may hold
 abbrev pub max_capacity : ℕ

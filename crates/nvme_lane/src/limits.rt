@@ -6,7 +6,7 @@ ghost use Rattle.nvme_lane.specs.Limits.{IsOutside};
 pub const MIN_SLOTS: u16 = 2;
 
 /// The most slots of a ring.
-pub const MAX_SLOTS: u16 = 256;
+pub const MAX_SLOTS: u16 = 4096;
 
 /// The most items that a lane may hold. The fewest is 1.
 pub const MAX_CAPACITY: u16 = 256;

@@ -1,7 +1,7 @@
 -- What a pick does to what a board served.
-use Rattle.std.proofs.Common.{◌≡◌, ℕ, ◌+◌, ◌-◌, ◌<◌, ◌≤◌, ◌==◌, inl, inr, true, false, cond, if◌then◌else◌, List, [], ◌∷◌, ◌++◌, length, set, find, refl, sym, ap, subst, ◌∙◌, arith}
-use Rattle.std.specs.Prelude.{Option, Some, None, option_map, reverse}
-use Rattle.std.proofs.lemmas.List.{get_or-set_same, get_or-set_other, get_or_past, reverse-append}
+use Rattle.std.proofs.Common.{◌≡◌, ℕ, ◌+◌, ◌-◌, ◌<◌, ◌≤◌, ◌==◌, inl, inr, if◌then◌else◌, List, [], ◌∷◌, ◌++◌, length, set, refl, sym, ap, ◌∙◌, arith}
+use Rattle.std.specs.Prelude.{Option, Some, None, option_map, reverse, replicate, slice_set}
+use Rattle.std.proofs.lemmas.List.{get_or-set_same, get_or-set_other, get_or_past, get_or-replicate, length-replicate, length-set, reverse-append}
 use Rattle.std.proofs.lemmas.Bool.{eq-eqb, ne_eqb, cases_eq, cases_lt, cond-true, cond-false}
 use Rattle.nvme_arbiter.specs.Settings.{ArbitrationFields}
 use Rattle.nvme_arbiter.specs.History.{History, Picked, settings_after}
@@ -10,12 +10,13 @@ use Rattle.nvme_arbiter.specs.Laws.{IsMeasured}
 use Rattle.nvme_arbiter.specs.Queues.{queue_at, seen_of, seen_as, fewer}
 use Rattle.nvme_arbiter.specs.Board.{BoardView, BoardStandsAt, queues_after}
 use Rattle.nvme_arbiter.specs.declared.settings.Mechanism.{Mechanism}
+use Rattle.nvme_arbiter.specs.declared.settings.Class.{Class}
 use Rattle.nvme_arbiter.specs.declared.pick.OpenQueue.{OpenQueue}
 use Rattle.nvme_arbiter.specs.declared.pick.Pick.{Pick}
 use Rattle.nvme_arbiter.specs.declared.pick.Seen.{Seen}
 use Rattle.nvme_arbiter.proofs.PickLaws.{picks_are_measured}
 use Rattle.nvme_arbiter.proofs.MaskLemmas.{find_qid}
-use Rattle.nvme_uses.specs.Served.{HasServed, waits, count_of, taken, picks_of}
+use Rattle.nvme_uses.specs.Served.{HasServed, waits, count_of, taken}
 
 -- an open queue stands in the list
 open_within : (queues : List (Option OpenQueue)) (q : ℕ) (o : OpenQueue) → queue_at queues q ≡ Some o → q < length queues
@@ -23,6 +24,31 @@ open_within queues q o e =
     elim (cases_lt q (length queues)) [
       | inl l ↦ l
       | inr l ↦ (let none : None ≡ Some o = sym (get_or_past queues q None l) ∙ e in absurd (cc))
+    ]
+
+-- in no queue a command waits
+abbrev AreEmpty : List (Option OpenQueue) → Type 0
+AreEmpty queues = (q : ℕ) → count_of (queue_at queues q) ≡ 0
+
+-- so it is where none is open
+pub none_waits : (n : ℕ) → AreEmpty (replicate n None)
+none_waits n q =
+    elim (cases_lt q n) [
+      | inl l ↦ ap count_of (get_or-replicate n q None None l)
+      | inr g ↦ (let none : Option OpenQueue = None in ap count_of (get_or_past (replicate n none) q None (omega (arith, length-replicate n none, g))))
+    ]
+
+-- and where one is opened
+pub opened_waits : (queues : List (Option OpenQueue)) (qid : ℕ) (class : Class) → AreEmpty queues → AreEmpty (slice_set queues qid (Some (record { class = class; count = 0 })))
+opened_waits queues qid class none q =
+    let it : Option OpenQueue = Some (record { class = class; count = 0 }) in
+    elim (cases_eq q qid) [
+      | inl same ↦
+          elim (cases_lt qid (length queues)) [
+            | inl l ↦ ap (λ (i : ℕ). count_of (queue_at (set queues qid it) i)) same ∙ ap count_of (get_or-set_same queues qid it None l)
+            | inr g ↦ ap count_of (get_or_past (set queues qid it) q None (omega (arith, length-set queues qid it, g, same)))
+          ]
+      | inr other ↦ ap count_of (get_or-set_other queues qid q it None other) ∙ none q
     ]
 
 -- what a pick takes of a queue

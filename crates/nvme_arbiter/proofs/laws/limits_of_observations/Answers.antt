@@ -8,8 +8,8 @@ pub returns : goal.returns
 returns c = record {
   at_limits = observation_by_test at_limits refl;
   limits = refl;
-  qid_too_high = no_observation (queue 17 Low 1 ∷ []) refl;
-  count_too_high = no_observation (queue 1 Low 256 ∷ []) refl;
+  qid_too_high = no_observation (queue 65 Low 1 ∷ []) refl;
+  count_too_high = no_observation (queue 1 Low 257 ∷ []) refl;
   admin_of_a_level = no_observation (queue 0 Low 1 ∷ []) refl;
   other_admin = no_observation (queue 1 Admin 1 ∷ []) refl;
   twice = no_observation (queue 1 Low 1 ∷ queue 1 Urgent 1 ∷ []) refl;

@@ -8,7 +8,7 @@ use Rattle.nvme_arbiter.proofs.laws.no_burst_limit.Goals as goal
 pub returns : goal.returns
 unfolding is_pick is_lawful_run
 returns c = record {
-  round_robin = record { lawful = run_by_test RoundRobin (settings_of 7) (played [] full_queue (q 1 255 ∷ [])) refl; idle = refl };
+  round_robin = record { lawful = run_by_test RoundRobin (settings_of 7) (played [] full_queue (q 1 256 ∷ [])) refl; idle = refl };
   weighted = run_by_test Weighted (settings_of 7) (played [] full_queue (q 1 1 ∷ fresh 1 1 ∷ fresh 1 1 ∷ [])) refl;
   other = λ h. not_lawful RoundRobin (settings_of 7) [] full_queue (q 1 128) refl h.1;
 }

@@ -1,11 +1,11 @@
 use Rattle.std.proofs.Common.{[], ◌++◌, refl}
 use Rattle.nvme_arbiter.specs.Settings.{settings_of}
 use Rattle.nvme_arbiter.specs.Service.{events_of}
-use Rattle.nvme_arbiter.specs.ServiceExamples.{sixteen_turns}
+use Rattle.nvme_arbiter.specs.ServiceExamples.{turns_of_all}
 use Rattle.nvme_arbiter.specs.declared.settings.Mechanism.TheVariants.{RoundRobin}
 use Rattle.nvme_arbiter.proofs.ExampleRuns.{is_pick, is_lawful_run, run_by_test}
 use Rattle.nvme_arbiter.proofs.service.round_robin_bound_is_least.Goals as goal
 
 pub returns : goal.returns
 unfolding is_pick is_lawful_run
-returns c = record { lawful = run_by_test RoundRobin (settings_of 0) (events_of sixteen_turns ++ []) refl; is_ready = refl; picks = refl; waits = refl; then_picked = refl }
+returns c = record { lawful = run_by_test RoundRobin (settings_of 0) (events_of turns_of_all ++ []) refl; is_ready = refl; picks = refl; waits = refl; then_picked = refl }
