@@ -18,7 +18,7 @@ use Rattle.nvme_front.specs.declared.front.AddError.TheVariants.{TooMany, NoMemo
 use Rattle.nvme_state.specs.declared.region.SqRegion.{SqRegion}
 use Rattle.nvme_state.specs.declared.region.CqRegion.{CqRegion}
 use Rattle.nvme_front.specs.declared.state.FrontState.{FrontState}
-use Rattle.nvme_log.specs.Limits.{max_outstanding, max_ready}
+use Rattle.nvme_log.specs.Limits.{max_outstanding, max_ready, window_of}
 use Rattle.nvme_front.specs.inside.Room.{IsKept, sq_region}
 use Rattle.nvme_state.specs.inside.Standing.{first_queue}
 use Rattle.nvme_front.specs.View.{FrontView}
@@ -55,7 +55,7 @@ pub record IsNewSq (x : SqRegion) : Type 0 where
   pub window : x.window.items ≡ []
   pub fetched : x.fetched ≡ 0
   pub unposted : x.unposted ≡ 0
-  pub room : x.window.room + 1 ≡ x.end.slots
+  pub room : x.window.room ≡ window_of x.end.slots
 
 -- the same of a completion region
 pub record IsNewCq (x : CqRegion) : Type 0 where

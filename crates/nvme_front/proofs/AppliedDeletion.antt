@@ -138,7 +138,7 @@ module _ (a : FrontState) (candidate : Candidate) (qid : ℕ) (closing : Option 
       pub begins_posts : (x : Attachment) → s.queue ≡ Some x → (c : ℕ) → c ≡ x.cq_region → c < length a.cqs.items
       begins_posts = named_posts a candidate (BeginDelete qid) closing h qid (queue_of e) was_open may_begin.not_admin r same s read
 
-      pub begins_few : length s.window.items ≤ 255
+      pub begins_few : length s.window.items ≤ 256
       begins_few = named_few a candidate (BeginDelete qid) closing h qid (queue_of e) was_open may_begin.not_admin r same s read
 
       pub begins_unposted : s.unposted ≤ 255

@@ -90,7 +90,7 @@ module _ (a : FrontState) (candidate : Candidate) (v : Verdict) (closing : Optio
         omega arith
 
     -- its candidates are few
-    pub named_few : length s.window.items ≤ 255
+    pub named_few : length s.window.items ≤ 256
     named_few =
         let window = ap (λ (k : SqKept). length k.window) named_read in
         let few = (h.stands.regions queue.region).few_waiting in

@@ -1,8 +1,8 @@
 -- The end of a deletion: what it asks of the table and of the ready completions, and what it leaves.
-use Rattle.std.proofs.Common.{◌≡◌, ℕ, ◌+◌, ◌<◌, ◌≤◌, List, [], ◌∷◌, ◌++◌, length, set, map, get_or, Some, None, refl, sym, ap, ◌∙◌, subst, arith}
+use Rattle.std.proofs.Common.{◌≡◌, ℕ, ◌+◌, ◌<◌, ◌≤◌, List, [], ◌∷◌, ◌++◌, length, set, map, get_or, Option, Some, None, refl, sym, ap, ◌∙◌, subst, arith}
 use Rattle.std.specs.Prelude.{reverse, IsTrue}
 use Rattle.std.specs.Option.{IsSomeAnd}
-use Rattle.std.proofs.lemmas.List.{length-set, length_push}
+use Rattle.std.proofs.lemmas.List.{length-append, length-set, length_push}
 use Rattle.nvme_admin.specs.History.{Start, TableHistory, DeletionFinished}
 use Rattle.nvme_admin.specs.Standing.{StandsAt, sq_of}
 use Rattle.nvme_admin.specs.declared.verdict.SqEntry.{SqEntry}
@@ -15,7 +15,9 @@ use Rattle.nvme_state.specs.inside.Fifo.{FifoView}
 use Rattle.nvme_log.specs.Rules.{Past}
 use Rattle.nvme_state.specs.inside.Kept.{Kept, SqKept, CqKept, put_cq}
 use Rattle.nvme_front.specs.inside.State.{sq_in, cq_in, cq_kept, gets_of, puts_of, kept_of, rules_of, past_of}
-use Rattle.nvme_state.specs.inside.Standing.{Stands, IsPending, hand_of}
+use Rattle.nvme_state.specs.Hands.{in_hand}
+use Rattle.nvme_state.specs.inside.Jobs.{dispatched_place}
+use Rattle.nvme_state.specs.inside.Standing.{Stands, IsPending, hand_of, held_by}
 use Rattle.nvme_front.specs.inside.Room.{IsKept, window_room, ready_room}
 use Rattle.nvme_front.specs.inside.Goes.{coming_at, Goes, HasAdmin}
 use Rattle.nvme_front.specs.Ends.{get_place, put_place}
@@ -39,13 +41,19 @@ deletion_closing s d k admin is =
     let p : IsPending (past_of s) (kept_of s) d = (k.stands admin.0 admin.1).deletion.stands d is in
     rw (p.in_table, p.is_closing) refl
 
--- a completion region that was read has room for one ready completion more
+-- the place of a pending deletion is in hand
+pub pending_held : (s : FrontState) (d : PendingDelete) → s.deletion ≡ Some d → 0 < length (hand_of (kept_of s))
+pending_held s d is =
+    let one : length (held_by s.deletion) ≡ 1 = ap (λ (o : Option PendingDelete). length (held_by o)) is in
+    omega (arith, length-append (map dispatched_place (in_hand s.jobs.hands)) (held_by s.deletion), one)
+
+-- a completion region that was read has room for one ready completion more, where a place is in hand
 pub region_has_room : (s : FrontState) (c : ℕ) (d : CqRegion) → IsKept s → HasAdmin s → c < length s.cqs.items → d ≡ get_or s.cqs.items c d
-    → length d.ready.items < d.ready.room
-region_has_room s c d k admin there read =
+    → 0 < length (hand_of (kept_of s)) → length d.ready.items < d.ready.room
+region_has_room s c d k admin there read held =
     let room = ready_room-is s k.roomy c d there read in
     let same = ap (λ (z : CqKept). length z.ready) (cq_in-read s.cqs.items c d there read) in
-    let few = ready_has_room (past_of s) (kept_of s) (hand_of (kept_of s)) (k.stands admin.0 admin.1).ready c in
+    let few = ready_has_room (past_of s) (kept_of s) (hand_of (kept_of s)) (k.stands admin.0 admin.1).ready held c in
     omega (arith, room, same, few)
 
 -- the unposted places of a region that was read

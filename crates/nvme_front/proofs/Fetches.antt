@@ -6,6 +6,7 @@ use Rattle.std.proofs.lemmas.Bool.{leb-false}
 use Rattle.std.proofs.lemmas.Bool.Decides.{eqb_tells}
 use Rattle.nvme_lane.specs.View.{SameGet}
 use Rattle.nvme_arbiter.specs.Limits.{highest_count}
+use Rattle.nvme_log.specs.Limits.{window_of}
 use Rattle.nvme_arbiter.specs.Queues.{queue_at}
 use Rattle.nvme_arbiter.specs.declared.pick.OpenQueue.{OpenQueue}
 use Rattle.nvme_admin.specs.Standing.{sq_of}
@@ -93,17 +94,16 @@ module _ (a : FrontState) (kept : IsKept a) (admin : HasAdmin a) (q : ℕ) (entr
     region_is = sq_in-read a.sqs.items entry.region d region_there read
 
     -- where its window isn't full, a command may be fetched
-    pub can_fetch : a.deletion ≡ None → nat_le d.end.slots (length d.window.items + 1) ≡ false → d.end.slots ≤ highest_count + 1 → CanFetch (past_of a) (kept_of a) q (queue_of entry)
-    can_fetch none full few = record {
+    pub can_fetch : a.deletion ≡ None → nat_le (window_of d.end.slots) (length d.window.items) ≡ false → CanFetch (past_of a) (kept_of a) q (queue_of entry)
+    can_fetch none full = record {
       is_open = open_is;
       none_pending = none;
-      room = rw region_is (leb-false d.end.slots (length d.window.items + 1) full);
-      few_slots = rw region_is few;
+      room = rw region_is (leb-false (window_of d.end.slots) (length d.window.items) full);
     }
 
     -- the window has room for it
     pub window_fits : CanFetch (past_of a) (kept_of a) q (queue_of entry) → length d.window.items < d.window.room
-    window_fits can = let room = rw region_is at can.room in omega (arith, window_room-is a kept.roomy entry.region d region_there read)
+    window_fits can = rw (window_room-is a kept.roomy entry.region d region_there read) (rw region_is at can.room)
 
     -- and its index fits
     pub index_fits : d.fetched + 1 < 4294967296
@@ -115,7 +115,7 @@ module _ (a : FrontState) (kept : IsKept a) (admin : HasAdmin a) (q : ℕ) (entr
 
   -- its board may count one more
   pub came_fits : CanFetch (past_of a) (kept_of a) q (queue_of entry) → IsSomeAnd (queue_at a.board.queues q) (λ (x : OpenQueue). x.count < highest_count)
-  came_fits can = rw on_board_at (let room = can.room in let few = can.few_slots in omega arith)
+  came_fits can = rw on_board_at (omega (arith, can.room))
 
   -- after the next command was got into the window, the log and the board have it
   module _ (b : FrontState) (same : IsElseSame a b) (d g : SqRegion) (read : d ≡ get_or a.sqs.items entry.region d) (candidate : Candidate)

@@ -22,7 +22,7 @@ use Rattle.nvme_log.specs.Histories.{picks_in}
 use Rattle.nvme_state.specs.inside.Standing.{Stands, as_deletion}
 use Rattle.nvme_front.specs.inside.State.{kept_of, rules_of, past_of, gets_of, cq_in}
 use Rattle.nvme_front.specs.inside.Room.{IsKept}
-use Rattle.nvme_front.specs.inside.Goes.{Goes, IsSame, HasAdmin, AllDrained, AllScanned, IsTaken, IsFullSq}
+use Rattle.nvme_front.specs.inside.Goes.{Goes, IsSame, HasAdmin, AllDrained, AllScanned, IsScanned, IsTaken, IsFullSq}
 use Rattle.nvme_front.specs.View.{FrontView, known_in, IsFilled, AreFilled, PicksOne, EndsSteps, GoesToEnd}
 use Rattle.nvme_front.specs.inside.State.{view_of}
 use Rattle.nvme_front.specs.inside.Turn.{IsPickOf, told_after}
@@ -37,21 +37,22 @@ module _ (s : FrontState) (h : Stands (rules_of s) s.late (past_of s) (kept_of s
   full_window : (r : ℕ) → IsFullSq ((kept_of s).sq r) → window_at (rules_of s) r ≤ length (waiting (past_of s) r)
   full_window r full =
       let candidates = ap (λ (xs : List ℕ). length xs) (h.regions r).waiting_is ∙ length-map ((kept_of s).sq r).window (λ (c : Candidate). c.index) in
-      let slots = h.tabled.sq_slots r in
-      omega (arith, full.0, candidates, slots)
+      rw (h.tabled.sq_slots r, candidates) full.0
 
   -- an open queue that was scanned is filled
-  queue_filled : AllScanned s → (q : ℕ) (queue : Queue) → open_sq (past_of s) q ≡ Some queue → IsFilled (view_of s) (past_of s) queue
-  queue_filled scanned q queue is =
+  pub queue_filled : (q : ℕ) (queue : Queue) → open_sq (past_of s) q ≡ Some queue → IsScanned s q → IsFilled (view_of s) (past_of s) queue
+  queue_filled q queue is scanned =
       let it = open_entry (sq_of s.table q) queue (sym (h.queues.sqs q) ∙ is) in
-      let taken = subst (λ (o : Option SqEntry). IsTaken s o) it.there (scanned q (h.queues.few q queue is)) in
+      let taken = subst (λ (o : Option SqEntry). IsTaken s o) it.there scanned in
       let one : IsFullSq ((kept_of s).sq queue.region) ⊎ ((kept_of s).sq queue.region).known ≡ [] =
       subst (λ (r : ℕ). IsFullSq ((kept_of s).sq r) ⊎ ((kept_of s).sq r).known ≡ []) it.region (taken it.is_open) in
       ⊎_elim (λ full. inl (full_window queue.region full)) (λ known. inr (known_in-kept s queue.region ∙ known)) one
 
 -- where each queue was scanned, each is filled
 pub all_filled : (s : FrontState) → IsKept s → HasAdmin s → AllScanned s → AreFilled (view_of s) (past_of s)
-all_filled s kept admin scanned = queue_filled s (kept.stands admin.0 admin.1) scanned
+all_filled s kept admin scanned = λ q queue is.
+    let h = kept.stands admin.0 admin.1 in
+    queue_filled s h q queue is (scanned q (h.queues.few q queue is))
 
 -- and stays so as long as the ends stay
 pub filled_later : (s t : FrontState) → Goes s t → gets_of t.sqs.items ≡ gets_of s.sqs.items → AreFilled (view_of s) (past_of s) → AreFilled (view_of t) (past_of s)

@@ -28,7 +28,7 @@ use Rattle.nvme_state.proofs.JobAccounts.{each-gained}
 use Rattle.nvme_state.proofs.Balances.{balances-handed, balances-stray, balances-still}
 use Rattle.nvme_state.specs.inside.Kept.{Kept, SqKept, CqKept, put_cq}
 use Rattle.nvme_front.specs.inside.State.{sq_in, cq_in, cq_kept, gets_of, puts_of, kept_of, rules_of, past_of}
-use Rattle.nvme_state.specs.inside.Standing.{Stands, IsDispatched, IsFresh, held_by}
+use Rattle.nvme_state.specs.inside.Standing.{Stands, IsDispatched, IsFresh, hand_of, held_by}
 use Rattle.nvme_front.specs.inside.Room.{IsKept, window_room, ready_room}
 use Rattle.nvme_front.specs.inside.Goes.{coming_at, Goes, IsSame, HasAdmin}
 use Rattle.nvme_front.specs.Ends.{get_place, put_place}
@@ -226,6 +226,17 @@ module _ (s : FrontState) (k : IsKept s) (admin : HasAdmin s) (jobs : JobsView) 
   its_command =
       All-head (IsDispatched (past_of s)) d (h.rest ++ s.jobs.hands.unhanded)
       (each-gained (IsDispatched (past_of s)) s.jobs.hands d h.rest h.its.running_is (k.stands admin.0 admin.1).jobs.each)
+
+  -- its place is in hand
+  pub its_place_held : 0 < length (hand_of (kept_of s))
+  its_place_held =
+      omega (
+        arith,
+        length-append (map dispatched_place (in_hand s.jobs.hands)) (held_by s.deletion),
+        length-map (in_hand s.jobs.hands) dispatched_place,
+        length-append s.jobs.hands.running s.jobs.hands.unhanded,
+        length_permutation s.jobs.hands.running (d ∷ h.rest) h.its.running_is,
+      )
 
   -- its region was opened for a queue
   its_queue : HasQueue (sq_in s.sqs.items d.region).queue

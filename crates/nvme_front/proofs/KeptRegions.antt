@@ -20,10 +20,10 @@ use Rattle.nvme_admin.specs.QueueTable.{QueueTable}
 use Rattle.nvme_admin.specs.Accepted.{effects_of, queue_table}
 use Rattle.nvme_admin.specs.declared.region.Region.{Region}
 use Rattle.nvme_front.specs.declared.front.FrontConfig.{FrontConfig}
-use Rattle.nvme_log.specs.Limits.{max_outstanding, max_ready}
+use Rattle.nvme_log.specs.Limits.{max_outstanding, max_ready, window_of}
 use Rattle.nvme_log.specs.Rules.{FrontRules, Past}
 use Rattle.nvme_state.proofs.RegionSteps.{first_table, table_of-additions}
-use Rattle.nvme_front.specs.inside.Room.{sq_region, cq_region, window_room, ready_room, IsRoomy, IsKept}
+use Rattle.nvme_front.specs.inside.Room.{sq_region, cq_region, window_room, window_limit, ready_room, IsRoomy, IsKept}
 use Rattle.nvme_state.specs.inside.Standing.{Stands, IsFresh, IsFreshSq, IsFreshCq, AreFreshJobs}
 use Rattle.nvme_front.proofs.Starting.{stands_when_first}
 use Rattle.nvme_front.proofs.Newly.{fresh_at_new}
@@ -145,7 +145,7 @@ module _ (s : FrontState) (kept : IsKept s) (t : FrontState) (m : HasMadeRoom s 
   room-roomy =
       let r = kept.roomy in
       record {
-        windows = subst (λ (xs : List SqRegion). map (λ (n : ℕ). n + 1) (map window_room xs) ≡ map (λ (z : SqRegion). z.end.slots) xs) (sym m.sqs) r.windows;
+        windows = subst (λ (xs : List SqRegion). map window_room xs ≡ map window_limit xs) (sym m.sqs) r.windows;
         ready = subst (λ (xs : List CqRegion). map ready_room xs ≡ map (λ (z : CqRegion). max_ready) xs) (sym m.cqs) r.ready;
         sq_table = ap (λ (v : TableView). v.sq_regions) m.table ∙ r.sq_table ∙ ap (λ (xs : List SqRegion). map sq_region xs) (sym m.sqs);
         cq_table = ap (λ (v : TableView). v.cq_regions) m.table ∙ r.cq_table ∙ ap (λ (xs : List CqRegion). map cq_region xs) (sym m.cqs);
@@ -201,7 +201,7 @@ pub record HasSqMore (s t : FrontState) (x : SqRegion) : Type 0 where
   pub late : (s.log.items ≡ [] → ⊥) → t.late ≡ true
   pub room : length s.sqs.items < MAX_REGIONS
   pub fresh : IsFreshSq (length s.sqs.items) (sq_kept x)
-  pub window : x.window.room + 1 ≡ x.end.slots
+  pub window : x.window.room ≡ window_of x.end.slots
   pub has_room : t.jobs.room ≡ max_outstanding
   pub board : t.board ≡ board_with_sq (length s.sqs.items) s.board
   pub board_stands : (mechanism : Mechanism) (first : ArbitrationFields) (past : History) → BoardStandsAt mechanism first past s.board → BoardStandsAt mechanism first past t.board
@@ -225,11 +225,6 @@ pub record HasCqMore (s t : FrontState) (x : CqRegion) : Type 0 where
   pub table : (start : Start) (h : TableHistory) → StandsAt start s.table h → StandsAt start t.table (RegionAdded Completion x.end.address x.end.slots ∷ h)
 
 -- what maps say of a list, with one more
-maps_push : {A B C : Type 0} (f : B → C) (g : A → B) (h : A → C) (xs : List A) (x : A) → map f (map g xs) ≡ map h xs → f (g x) ≡ h x
-    → map f (map g (xs ++ x ∷ [])) ≡ map h (xs ++ x ∷ [])
-maps_push f g h xs x before one =
-    ap (map f) (map-append g xs (x ∷ [])) ∙ map-append f (map g xs) (g x ∷ []) ∙ (λ i. before i ++ one i ∷ []) ∙ sym (map-append h xs (x ∷ []))
-
 -- the same of two maps
 map_push : {A B : Type 0} (f g : A → B) (xs : List A) (x : A) → map f xs ≡ map g xs → f x ≡ g x → map f (xs ++ x ∷ []) ≡ map g (xs ++ x ∷ [])
 map_push f g xs x before one = map-append f xs (x ∷ []) ∙ (λ i. before i ++ one i ∷ []) ∙ sym (map-append g xs (x ∷ []))
@@ -304,8 +299,8 @@ module _ (s : FrontState) (kept : IsKept s) (t : FrontState) (x : SqRegion) (m :
       let longer : length t.sqs.items ≡ length s.sqs.items + 1 = ap (λ (xs : List SqRegion). length xs) m.sqs ∙ length_push s.sqs.items x in
       let r = kept.roomy in
       record {
-        windows = subst (λ (xs : List SqRegion). map (λ (n : ℕ). n + 1) (map window_room xs) ≡ map (λ (z : SqRegion). z.end.slots) xs) (sym m.sqs)
-            (maps_push (λ (n : ℕ). n + 1) window_room (λ (z : SqRegion). z.end.slots) s.sqs.items x r.windows m.window);
+        windows = subst (λ (xs : List SqRegion). map window_room xs ≡ map window_limit xs) (sym m.sqs)
+            (map_push window_room window_limit s.sqs.items x r.windows m.window);
         ready = subst (λ (xs : List CqRegion). map ready_room xs ≡ map (λ (z : CqRegion). max_ready) xs) (sym m.cqs) r.ready;
         sq_table = more.0 ∙ ap (λ (rs : List Region). rs ++ sq_region x ∷ []) r.sq_table ∙ sym (map-append sq_region s.sqs.items (x ∷ []))
             ∙ ap (λ (xs : List SqRegion). map sq_region xs) (sym m.sqs);
@@ -368,7 +363,7 @@ module _ (s : FrontState) (kept : IsKept s) (t : FrontState) (x : CqRegion) (m :
       let longer : length t.cqs.items ≡ length s.cqs.items + 1 = ap (λ (xs : List CqRegion). length xs) m.cqs ∙ length_push s.cqs.items x in
       let r = kept.roomy in
       record {
-        windows = subst (λ (xs : List SqRegion). map (λ (n : ℕ). n + 1) (map window_room xs) ≡ map (λ (z : SqRegion). z.end.slots) xs) (sym m.sqs) r.windows;
+        windows = subst (λ (xs : List SqRegion). map window_room xs ≡ map window_limit xs) (sym m.sqs) r.windows;
         ready = subst (λ (xs : List CqRegion). map ready_room xs ≡ map (λ (z : CqRegion). max_ready) xs) (sym m.cqs)
             (map_push ready_room (λ (z : CqRegion). max_ready) s.cqs.items x r.ready m.ready);
         sq_table = more.0 ∙ r.sq_table ∙ ap (λ (xs : List SqRegion). map sq_region xs) (sym m.sqs);

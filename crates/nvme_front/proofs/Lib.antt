@@ -34,3 +34,6 @@ pub mod ClearAnswer
 pub mod Executions
 pub mod GainOne
 pub mod HostPairs
+pub mod Loading
+pub mod LoadedFetch
+pub mod LoadedPick

@@ -2,7 +2,6 @@
 use Rattle.std.specs.Prelude.{slice_get, option_map, vec_capacity, ◌==◌, ◌&&◌, if◌then◌else◌}
 use Rattle.std.proofs.Common.{◌≡◌, ℕ, ◌+◌, ◌≤◌, Bool, true, false, List, [], ◌∷◌, ◌++◌, map, length, set, get_or, Option, Some, None, refl, sym, ap, subst, ◌∙◌, arith}
 use Rattle.std.proofs.lemmas.List.{length-set, length_push}
-use Rattle.arrayvec.specs.ArrayVec.{ArrayVec}
 use Rattle.nvme_entry.specs.Status.{StatusCode, success}
 use Rattle.nvme_entry.specs.AdminCommand.{admin_command_of}
 use Rattle.nvme_entry.specs.declared.submission.Sqe.{Sqe}
@@ -140,7 +139,7 @@ module _ (s b : FrontState) (kept : IsKept s) (admin : HasAdmin s) (none : s.del
     (board_queues : b.board.queues ≡ queues_after s.board.queues pick)
     (places : s.outstanding + places_in s.sqs.items pick ≤ max_outstanding)
     (zero_is : pick.qid ≡ 0)
-    (seen : ArrayVec Seen) (seen_is : seen.items ≡ seen_of s.board.queues)
+    (seen : List Seen) (seen_is : seen ≡ seen_of s.board.queues)
     (d : SqRegion) (read : d ≡ get_or s.sqs.items 0 d)
     (candidate : Candidate) (rest : List Candidate) (oldest : d.window.items ≡ candidate ∷ rest)
     (config : b.config ≡ s.config) (alloc : b.alloc ≡ s.alloc) (same_late : b.late ≡ s.late) (deletion : b.deletion ≡ s.deletion)

@@ -2,7 +2,6 @@
 use Rattle.std.specs.Prelude.{reverse}
 use Rattle.std.proofs.Common.{◌≡◌, ℕ, ◌+◌, ◌≤◌, Bool, List, [], ◌∷◌, ◌++◌, map, length, take, drop, set, get_or, Some, None, refl, sym, ap, subst, ◌∙◌, arith}
 use Rattle.std.proofs.lemmas.List.{length-set, length_push}
-use Rattle.arrayvec.specs.ArrayVec.{ArrayVec}
 use Rattle.nvme_arbiter.specs.Settings.{ArbitrationFields}
 use Rattle.nvme_arbiter.specs.Board.{BoardView, BoardStandsAt, queues_after}
 use Rattle.nvme_arbiter.specs.History.{History, Picked}
@@ -75,7 +74,7 @@ module _ (s b : FrontState) (kept : IsKept s) (admin : HasAdmin s) (none : s.del
     (board_queues : b.board.queues ≡ queues_after s.board.queues pick)
     (places : s.outstanding + pick.n ≤ max_outstanding)
     (io : pick.qid ≡ 0 → ⊥)
-    (seen : ArrayVec Seen) (seen_is : seen.items ≡ seen_of s.board.queues)
+    (seen : List Seen) (seen_is : seen ≡ seen_of s.board.queues)
     (entry : SqEntry) (found : sq_of s.table pick.qid ≡ Some entry)
     (r : ℕ) (r_is : r ≡ entry.region) (d : SqRegion) (read : d ≡ get_or s.sqs.items r d)
     (config : b.config ≡ s.config) (alloc : b.alloc ≡ s.alloc) (late : b.late ≡ s.late) (table : b.table ≡ s.table) (deletion : b.deletion ≡ s.deletion)

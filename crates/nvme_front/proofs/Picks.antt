@@ -3,7 +3,6 @@ use Rattle.std.proofs.Common.{◌≡◌, ℕ, ◌+◌, ◌<◌, ◌≤◌, Bool,
 use Rattle.std.specs.Prelude.{if◌then◌else◌, IfSome}
 use Rattle.std.proofs.lemmas.List.{length-map, length-reverse}
 use Rattle.std.proofs.Math.Bridge.{le_prop}
-use Rattle.arrayvec.specs.ArrayVec.{ArrayVec}
 use Rattle.nvme_arbiter.specs.Settings.{ArbitrationFields}
 use Rattle.nvme_arbiter.specs.Board.{BoardStandsAt}
 use Rattle.nvme_arbiter.specs.History.{History}
@@ -39,7 +38,7 @@ use Rattle.nvme_log.proofs.PickCounts.{picks_in-append}
 use Rattle.nvme_front.proofs.States.{sq_in-read}
 
 -- a log with a pick more has a pick more
-pub picks_in-push : (xs : List Event) (seen : ArrayVec Seen) (pick : Pick) → picks_in (xs ++ event.Pick seen pick ∷ []) ≡ picks_in xs + 1
+pub picks_in-push : (xs : List Event) (seen : List Seen) (pick : Pick) → picks_in (xs ++ event.Pick seen pick ∷ []) ≡ picks_in xs + 1
 picks_in-push xs seen pick = picks_in-append xs (event.Pick seen pick ∷ [])
 
 -- where no deletion is pending, no more places of the admin queue are unposted than are outstanding

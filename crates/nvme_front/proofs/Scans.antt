@@ -10,6 +10,7 @@ use Rattle.nvme_state.specs.declared.region.SqRegion.{SqRegion}
 use Rattle.nvme_front.specs.declared.state.FrontState.{FrontState}
 use Rattle.nvme_state.specs.declared.attachment.Attachment.{Attachment}
 use Rattle.nvme_state.specs.inside.Kept.{SqKept, no_sq}
+use Rattle.nvme_log.specs.Limits.{window_of}
 use Rattle.nvme_front.specs.inside.State.{sq_in, sq_kept}
 use Rattle.nvme_front.specs.inside.Room.{IsKept}
 use Rattle.nvme_front.proofs.States.{sq_in-read, look-set, IsSame-sym}
@@ -39,9 +40,15 @@ taken_closing s o entry is closing = rw is (λ open_now. absurd (cc (closing, op
 
 -- nor does a queue whose window is full
 pub taken_full : (s : FrontState) (o : Option SqEntry) (entry : SqEntry) (d : SqRegion) → o ≡ Some entry → entry.region < length s.sqs.items
-    → d ≡ get_or s.sqs.items entry.region d → nat_le d.end.slots (length d.window.items + 1) ≡ true → (d.window.items ≡ [] → ⊥) → IsTaken s o
+    → d ≡ get_or s.sqs.items entry.region d → nat_le (window_of d.end.slots) (length d.window.items) ≡ true → (d.window.items ≡ [] → ⊥) → IsTaken s o
 taken_full s o entry d is there read full some =
-    rw is (λ open_now. inl (subst (λ (x : SqKept). IsFullSq x) (sym (sq_in-read s.sqs.items entry.region d there read)) (leb-true d.end.slots (length d.window.items + 1) full, some)))
+    rw is (λ open_now. inl (subst (λ (x : SqKept). IsFullSq x) (sym (sq_in-read s.sqs.items entry.region d there read)) (leb-true (window_of d.end.slots) (length d.window.items) full, some)))
+
+-- nor does a queue whose ring is known to give nothing
+pub taken_empty : (s : FrontState) (o : Option SqEntry) (entry : SqEntry) (d : SqRegion) → o ≡ Some entry → entry.region < length s.sqs.items
+    → d ≡ get_or s.sqs.items entry.region d → d.end.known ≡ [] → IsTaken s o
+taken_empty s o entry d is there read none =
+    rw is (λ open_now. inr (ap (λ (x : SqKept). x.known) (sq_in-read s.sqs.items entry.region d there read) ∙ none))
 
 -- a queue that gives nothing still gives nothing in the same front later on
 pub scanned_on : (a b : FrontState) → IsSame a b → (q : ℕ) → IsScanned a q → IsScanned b q

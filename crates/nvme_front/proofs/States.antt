@@ -15,7 +15,7 @@ use Rattle.nvme_log.specs.declared.event.Event.{Event}
 use Rattle.nvme_state.specs.declared.region.SqRegion.{SqRegion}
 use Rattle.nvme_state.specs.declared.region.CqRegion.{CqRegion}
 use Rattle.nvme_front.specs.declared.state.FrontState.{FrontState}
-use Rattle.nvme_log.specs.Limits.{max_ready}
+use Rattle.nvme_log.specs.Limits.{max_ready, window_of}
 use Rattle.nvme_log.specs.Rules.{FrontRules}
 use Rattle.nvme_pool.specs.Seat.{SeatView, SameSeat, rings_at}
 use Rattle.nvme_state.specs.inside.Jobs.{JobsView}
@@ -24,7 +24,7 @@ use Rattle.nvme_state.specs.inside.Kept.{no_sq, no_cq, put_sq, put_cq}
 use Rattle.nvme_state.specs.Regions.{sq_steps, cq_steps}
 use Rattle.nvme_front.specs.inside.State.{sq_kept, cq_kept, sq_in, cq_in, gets_of, puts_of, kept_of, rules_of, past_of}
 use Rattle.nvme_state.specs.inside.Standing.{Stands}
-use Rattle.nvme_front.specs.inside.Room.{IsKept, IsRoomy, window_room, ready_room, sq_region, cq_region}
+use Rattle.nvme_front.specs.inside.Room.{IsKept, IsRoomy, window_room, window_limit, ready_room, sq_region, cq_region}
 use Rattle.nvme_front.specs.inside.Goes.{Goes, IsSame, HasAdmin, coming_at, coming_in}
 use Rattle.nvme_front.specs.Ends.{get_place, put_place}
 use Rattle.nvme_front.proofs.Comes.{comes-same}
@@ -228,7 +228,10 @@ constant-map n (x ∷ a) (y ∷ b) e = ap (λ (z : List ℕ). n ∷ z) (constant
 pub roomy-goes : (a b : FrontState) → IsRoomy a → Goes a b → b.table.sq_regions ≡ a.table.sq_regions → b.table.cq_regions ≡ a.table.cq_regions
     → length b.log.items ≤ b.config.max_events → IsRoomy b
 roomy-goes a b r g sq cq few = record {
-  windows = ap (map (λ (n : ℕ). n + 1)) g.windows ∙ r.windows ∙ slots_of_places a.sqs.items ∙ ap (map (λ (p : RingName × ℕ × ℕ). p.2)) (sym g.gets) ∙ sym (slots_of_places b.sqs.items);
+  windows =
+      g.windows ∙ r.windows ∙ sym (map-map window_of (λ (d : SqRegion). d.end.slots) a.sqs.items)
+      ∙ ap (map window_of) (slots_of_places a.sqs.items ∙ ap (map (λ (p : RingName × ℕ × ℕ). p.2)) (sym g.gets) ∙ sym (slots_of_places b.sqs.items))
+      ∙ map-map window_of (λ (d : SqRegion). d.end.slots) b.sqs.items;
   ready = g.readies ∙ r.ready ∙ sym (constant-map max_ready a.cqs.items b.cqs.items (cqs-goes a b g));
   sq_table = sq ∙ r.sq_table ∙ sq_regions-places a.sqs.items ∙ ap (map sq_region_at) (sym g.gets) ∙ sym (sq_regions-places b.sqs.items);
   cq_table = cq ∙ r.cq_table ∙ cq_regions-places a.cqs.items ∙ ap (map sq_region_at) (sym g.puts) ∙ sym (cq_regions-places b.cqs.items);
@@ -239,10 +242,9 @@ roomy-goes a b r g sq cq few = record {
 }
 
 -- the room of a window and of a list of ready completions
-pub window_room-is : (s : FrontState) → IsRoomy s → (r : ℕ) (d : SqRegion) → r < length s.sqs.items → d ≡ get_or s.sqs.items r d → d.window.room + 1 ≡ d.end.slots
+pub window_room-is : (s : FrontState) → IsRoomy s → (r : ℕ) (d : SqRegion) → r < length s.sqs.items → d ≡ get_or s.sqs.items r d → d.window.room ≡ window_of d.end.slots
 window_room-is s h r d l read =
-    sym (ap (λ (z : List ℕ). get_or z r 0) (map-map (λ (n : ℕ). n + 1) window_room s.sqs.items) ∙ look-read (λ (x : SqRegion). x.window.room + 1) 0 s.sqs.items r d l d read)
-    ∙ ap (λ (z : List ℕ). get_or z r 0) h.windows ∙ look-read (λ (x : SqRegion). x.end.slots) 0 s.sqs.items r d l d read
+    sym (look-read window_room 0 s.sqs.items r d l d read) ∙ ap (λ (z : List ℕ). get_or z r 0) h.windows ∙ look-read window_limit 0 s.sqs.items r d l d read
 
 pub ready_room-is : (s : FrontState) → IsRoomy s → (c : ℕ) (d : CqRegion) → c < length s.cqs.items → d ≡ get_or s.cqs.items c d → d.ready.room ≡ max_ready
 ready_room-is s h c d l read =

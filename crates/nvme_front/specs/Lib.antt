@@ -1,5 +1,6 @@
 pub mod Ends
 pub mod Hosts
+pub mod LoadedFront
 pub mod Settles
 pub mod Unsettled
 pub mod View

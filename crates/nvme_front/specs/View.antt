@@ -8,7 +8,6 @@ use Rattle.nvme_lane.specs.View.{GetView, PutView}
 use Rattle.nvme_pool.specs.declared.jobs.Finished.{Finished}
 use Rattle.nvme_pool.specs.Seat.{SameSeat, Ends, IsUnknown}
 use Rattle.nvme_arbiter.specs.Lawful.{lawful_pick}
-use Rattle.arrayvec.specs.ArrayVec.{ArrayVec}
 use Rattle.nvme_arbiter.specs.declared.pick.Pick.{Pick}
 use Rattle.nvme_arbiter.specs.declared.pick.Seen.{Seen}
 use Rattle.nvme_log.specs.declared.event.Event.{Event}
@@ -194,7 +193,7 @@ AreFilled v past = (q : ℕ) (queue : Queue) → open_sq past q ≡ Some queue �
 -- events that its effect may need
 pub record PicksOne (old new : FrontView) : Type 0 where
   pub before : List Event
-  pub seen : ArrayVec Seen
+  pub seen : List Seen
   pub pick : Pick
   pub after : List Event
   pub log_is : new.log ≡ before ++ event.Pick seen pick ∷ after

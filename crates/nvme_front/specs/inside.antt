@@ -2,6 +2,7 @@
 pub mod Applied
 pub mod Clear
 pub mod Goes
+pub mod Loads
 pub mod Looks
 pub mod Resting
 pub mod Room

@@ -6,6 +6,7 @@ use nvme_admin::{MAX_REGIONS, Table};
 use nvme_arbiter::{Board, Class};
 use nvme_entry::{Cqe, Sqe};
 use nvme_lane::{GetEnd, PutEnd};
+use nvme_log::window_of;
 use nvme_pool::FrontSeat;
 use nvme_state::{Attachment, CqRegion, Fifo, Jobs, SqRegion};
 use std::alloc::Global;
@@ -84,7 +85,7 @@ impl FrontState {
         if self.sqs.len() == MAX_REGIONS {
             return Err((AddError::TooMany, end));
         }
-        let Some(window) = Fifo::new(self.alloc, usize::from(end.slots()) - 1) else {
+        let Some(window) = Fifo::new(self.alloc, usize::from(window_of(end.slots()))) else {
             return Err((AddError::NoMemory, end));
         };
         if !self.jobs.make_room(self.alloc) || self.sqs.reserve(1).is_err() {

@@ -10,6 +10,7 @@ impl FrontState {
     ghost use Rattle.std.specs.Prelude.{◌≡◌, ◌≢◌, ℕ, ◌+◌, ◌<◌, ◌≤◌, length, Option, Some, None, OnOk, IfErr, true, false, ◌⊎◌};
     ghost use Rattle.nvme_front.specs.inside.Room.{IsKept};
     ghost use Rattle.nvme_front.specs.inside.Goes.{Goes, IsSame, HasAdmin, IsScanned, AllScanned};
+    ghost use Rattle.nvme_front.specs.inside.Loads.{Loads};
     ghost use Rattle.nvme_log.specs.Histories.{picks_in};
     ghost use Rattle.nvme_front.specs.declared.front.FrontError.TheVariants.{NoMemory, LogFull};
 
@@ -20,6 +21,7 @@ impl FrontState {
         requires none_pending { self.old.deletion ≡ None }
         ensures kept { IsKept self.new }
         ensures goes { Goes self.old self.new }
+        ensures loads { ((q : ℕ) → q < qid → IsScanned self.old q) → Loads self.old self.new }
         ensures cqs { self.new.cqs.items ≡ self.old.cqs.items }
         ensures jobs { self.new.jobs ≡ self.old.jobs }
         ensures picks { picks_in self.new.log.items ≡ picks_in self.old.log.items }
@@ -60,6 +62,7 @@ impl FrontState {
         requires none_pending { self.old.deletion ≡ None }
         ensures kept { IsKept self.new }
         ensures goes { Goes self.old self.new }
+        ensures loads { ((q : ℕ) → q < qid → IsScanned self.old q) → Loads self.old self.new }
         ensures cqs { self.new.cqs.items ≡ self.old.cqs.items }
         ensures jobs { self.new.jobs ≡ self.old.jobs }
         ensures picks { picks_in self.new.log.items ≡ picks_in self.old.log.items }
@@ -85,6 +88,7 @@ impl FrontState {
         requires none_pending { self.old.deletion ≡ None }
         ensures kept { IsKept self.new }
         ensures goes { Goes self.old self.new }
+        ensures loads { Loads self.old self.new }
         ensures cqs { self.new.cqs.items ≡ self.old.cqs.items }
         ensures jobs { self.new.jobs ≡ self.old.jobs }
         ensures picks { picks_in self.new.log.items ≡ picks_in self.old.log.items }

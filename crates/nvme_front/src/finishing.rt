@@ -7,7 +7,8 @@ use nvme_log::Event;
 use nvme_state::{PendingDelete, Ready};
 
 impl FrontState {
-    ghost use Rattle.std.specs.Prelude.{◌≡◌, ◌≢◌, ℕ, ◌+◌, ◌<◌, length, Option, Some, None, true, false, ◌⊎◌, IfErr};
+    ghost use Rattle.std.specs.Prelude.{◌≡◌, ◌≢◌, ℕ, ◌+◌, ◌<◌, [], ◌∷◌, ◌++◌, length, Option, Some, None, true, false, ◌⊎◌, IfErr, OnErr};
+    ghost use Rattle.nvme_log.specs.declared.event.Event.TheVariants.{ClosedSq};
     ghost use Rattle.nvme_front.specs.inside.State.{sq_in};
     ghost use Rattle.nvme_front.specs.inside.Room.{IsKept};
     ghost use Rattle.nvme_front.specs.inside.Goes.{Goes, IsSame, HasAdmin};
@@ -23,6 +24,9 @@ impl FrontState {
         ensures kept { IsKept self.new }
         ensures goes { Goes self.old self.new }
         ensures jobs { self.new.jobs ≡ self.old.jobs }
+        ensures sqs { self.new.sqs.items ≡ self.old.sqs.items }
+        ensures closed { result ≡ Ok true → self.new.log.items ≡ self.old.log.items ++ ClosedSq deletion.qid deletion.region ∷ [] }
+        ensures unclosed { OnErr result (self.new.log.items ≡ self.old.log.items) }
         ensures picks { picks_in self.new.log.items ≡ picks_in self.old.log.items }
         ensures finished { result ≡ Ok true → self.new.deletion ≡ None }
         ensures more { result ≡ Ok true → length self.new.log.items ≡ length self.old.log.items + 1 }

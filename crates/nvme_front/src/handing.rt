@@ -68,6 +68,7 @@ impl FrontState {
         ensures kept { IsKept self.new }
         ensures goes { Goes self.old self.new }
         ensures log { self.new.log.items ≡ self.old.log.items }
+        ensures sqs { self.new.sqs.items ≡ self.old.sqs.items }
         ensures deletion { self.new.deletion ≡ self.old.deletion }
         ensures fewer { result ≡ Ok true → length self.new.jobs.hands.running < length self.old.jobs.hands.running }
         ensures more { result ≡ Ok true → gained_count self.old.jobs.hands < gained_count self.new.jobs.hands }
@@ -104,6 +105,7 @@ impl FrontState {
         ensures kept { IsKept self.new }
         ensures goes { Goes self.old self.new }
         ensures log { self.new.log.items ≡ self.old.log.items }
+        ensures sqs { self.new.sqs.items ≡ self.old.sqs.items }
         ensures deletion { self.new.deletion ≡ self.old.deletion }
         ensures more { result ≡ Ok true → gained_count self.old.jobs.hands < gained_count self.new.jobs.hands }
         ensures still { result ≡ Ok false → IsSame self.old self.new × All IsUnknown self.old.jobs.hands.seat.ends }

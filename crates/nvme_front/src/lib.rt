@@ -19,6 +19,6 @@ mod settling;
 mod state;
 
 pub use front::{AddError, Front, FrontConfig, FrontError, Step};
-pub use nvme_log::{Event, MAX_EVENTS, MAX_OUTSTANDING};
+pub use nvme_log::{Event, Listed, MAX_EVENTS, MAX_OUTSTANDING};
 pub use settled::{Sent, SettleError, Settled};
 pub use settling::{Parts, settle};

@@ -1,5 +1,7 @@
 // The picks of arbitration, and what is done with the commands that they pick.
-ghost use Rattle.std.specs.Prelude.{◌≡◌, ℕ};
+ghost use Rattle.std.specs.Prelude.{◌≡◌, ℕ, IfOk, IfErr};
+ghost use Rattle.nvme_arbiter.specs.Queues.{seen_of};
+ghost use Rattle.nvme_front.specs.declared.front.FrontError.TheVariants.{NoMemory};
 ghost use Rattle.nvme_entry.specs.AdminCommand.{admin_command_of};
 ghost use Rattle.nvme_entry.specs.declared.admin.AdminCommand.TheVariants.{DeleteCq};
 ghost use Rattle.nvme_admin.specs.Standing.{cq_of};
@@ -10,9 +12,10 @@ use crate::limits::ADMIN_EVENTS;
 use crate::logging::{make_room, note};
 use crate::state::FrontState;
 use nvme_admin::Table;
-use nvme_arbiter::Pick;
+use nvme_arbiter::{Board, Pick, Seen};
 use nvme_entry::{AdminCommand, Sqe, admin_of};
-use nvme_log::{Event, MAX_OUTSTANDING};
+use nvme_log::{Event, Listed, MAX_OUTSTANDING};
+use std::alloc::Global;
 
 // The region of the completion queue that an admin command is to delete, where it is open.
 fn deleted_region(table: &Table, entry: &Sqe) -> Option<u8>
@@ -21,6 +24,17 @@ fn deleted_region(table: &Table, entry: &Sqe) -> Option<u8>
     match admin_of(entry) {
         AdminCommand::DeleteCq { qid } => table.cq(qid),
         _ => None,
+    }
+}
+
+// What a board shows, in memory of its own.
+fn observed(alloc: Global, board: &Board) -> Result<Listed<Seen>, FrontError>
+    ensures seen { IfOk result (λ o. o ≡ seen_of board.now.queues) }
+    ensures no_memory { IfErr result (λ e. e ≡ NoMemory) }
+{
+    match Listed::of(alloc, &board.seen()) {
+        Ok(seen) => Ok(seen),
+        Err(_) => Err(FrontError::NoMemory),
     }
 }
 
@@ -78,10 +92,11 @@ impl FrontState {
         ensures picked { OnOk result (picks_in self.new.log.items ≡ picks_in self.old.log.items + 1) }
         ensures full { result ≡ Err LogFull → self.new.config.max_events < length self.new.log.items + 1 }
         ensures none_picked { OnErr result (picks_in self.new.log.items ≡ picks_in self.old.log.items) }
+        ensures unpicked { OnErr result (self.new.log.items ≡ self.old.log.items) }
         ensures no_stray { IfErr result (λ e. (e ≡ LogFull) ⊎ (e ≡ NoMemory)) }
     {
         make_room(&mut self.log, self.config.max_events, 1)?;
-        let seen = self.board.seen();
+        let seen = observed(self.alloc, &self.board)?;
         let Some(pick) = self.board.pick() else {
             unreachable!()
         };
@@ -113,10 +128,11 @@ impl FrontState {
         ensures picked { OnOk result (picks_in self.new.log.items ≡ picks_in self.old.log.items + 1) }
         ensures full { result ≡ Err LogFull → IsSame self.old self.new × (self.new.config.max_events < length self.new.log.items + admin_events) }
         ensures none_picked { OnErr result (picks_in self.new.log.items ≡ picks_in self.old.log.items) }
+        ensures unpicked { OnErr result (self.new.log.items ≡ self.old.log.items) }
         ensures no_stray { IfErr result (λ e. (e ≡ LogFull) ⊎ (e ≡ NoMemory)) }
     {
         make_room(&mut self.log, self.config.max_events, ADMIN_EVENTS)?;
-        let seen = self.board.seen();
+        let seen = observed(self.alloc, &self.board)?;
         let Some(pick) = self.board.pick() else {
             unreachable!()
         };
@@ -151,6 +167,7 @@ impl FrontState {
         ensures full { result ≡ Err LogFull → (self.new.config.max_events < length self.new.log.items + 1)
             ⊎ (IsSame self.old self.new × LacksAdminEvents self.old) }
         ensures none_picked { OnErr result (picks_in self.new.log.items ≡ picks_in self.old.log.items) }
+        ensures unpicked { OnErr result (self.new.log.items ≡ self.old.log.items) }
         ensures no_stray { IfErr result (λ e. (e ≡ LogFull) ⊎ (e ≡ NoMemory)) }
     {
         let Some(pick) = self.board.peek() else {

@@ -23,6 +23,7 @@ impl FrontState {
     ghost use Rattle.nvme_front.specs.inside.State.{sq_in, cq_in};
     ghost use Rattle.nvme_front.specs.inside.Room.{IsKept};
     ghost use Rattle.nvme_front.specs.inside.Goes.{Goes, IsSame, HasAdmin, IsDrained, AllDrained, IsCompletionOf};
+    ghost use Rattle.nvme_front.specs.inside.Loads.{PostsOnly};
     ghost use Rattle.nvme_log.specs.Histories.{picks_in};
     ghost use Rattle.nvme_front.specs.declared.front.FrontError.TheVariants.{NoMemory, LogFull};
 
@@ -59,6 +60,7 @@ impl FrontState {
         ensures goes { Goes self.old self.new }
         ensures jobs { self.new.jobs ≡ self.old.jobs }
         ensures picks { picks_in self.new.log.items ≡ picks_in self.old.log.items }
+        ensures posts { PostsOnly self.old self.new }
         ensures deletion { self.new.deletion ≡ self.old.deletion }
         ensures more { result ≡ Ok true → length self.new.log.items ≡ length self.old.log.items + 1 }
         ensures others { (x : ℕ) → x ≢ c → IsDrained self.old x → IsDrained self.new x }
@@ -108,6 +110,7 @@ impl FrontState {
         ensures goes { Goes self.old self.new }
         ensures jobs { self.new.jobs ≡ self.old.jobs }
         ensures picks { picks_in self.new.log.items ≡ picks_in self.old.log.items }
+        ensures posts { PostsOnly self.old self.new }
         ensures deletion { self.new.deletion ≡ self.old.deletion }
         ensures more { result ≡ Ok true → length self.old.log.items < length self.new.log.items }
         ensures others { (x : ℕ) → x ≢ c → IsDrained self.old x → IsDrained self.new x }
@@ -131,6 +134,7 @@ impl FrontState {
         ensures goes { Goes self.old self.new }
         ensures jobs { self.new.jobs ≡ self.old.jobs }
         ensures picks { picks_in self.new.log.items ≡ picks_in self.old.log.items }
+        ensures posts { PostsOnly self.old self.new }
         ensures deletion { self.new.deletion ≡ self.old.deletion }
         ensures more { result ≡ Ok true → length self.old.log.items < length self.new.log.items }
         ensures drained { OnOk result (AllDrained self.new) }

@@ -40,6 +40,7 @@ impl FrontState {
     ghost use Rattle.std.specs.List.{All};
     ghost use Rattle.nvme_pool.specs.Seat.{IsUnknown};
     ghost use Rattle.nvme_front.specs.inside.Turn.{HasDone, Proceeds, Balanced};
+    ghost use Rattle.nvme_front.specs.inside.Loads.{PostsOnly, Loads};
     ghost use Rattle.nvme_log.specs.Account.{IsClear};
     ghost use Rattle.nvme_log.specs.Queues.{is_serving};
 
@@ -50,6 +51,7 @@ impl FrontState {
         requires seat { self.old.jobs.hands.seat.lane ≡ lanes.now }
         ensures kept { IsKept self.new }
         ensures goes { Goes self.old self.new }
+        ensures loads { Loads self.old self.new }
         ensures step { IfOk result (λ step. StepMeans step (view_of self.old) (view_of self.new)) }
         ensures to_end { IfOk result (λ step. GoesToEnd step (view_of self.old) (view_of self.new)) }
         ensures balanced { OnOk result (Balanced self.old self.new) }
@@ -68,6 +70,7 @@ impl FrontState {
         requires seat { self.old.jobs.hands.seat.lane ≡ lanes.now }
         ensures kept { IsKept self.new }
         ensures goes { Goes self.old self.new }
+        ensures posts { PostsOnly self.old self.new }
         ensures drained { OnOk result (AllDrained self.new) }
         ensures picks { HasNoPickMore (view_of self.old) (view_of self.new) }
         ensures done { IfOk result (λ moved. HasDone moved self.old self.new) }
@@ -90,6 +93,7 @@ impl FrontState {
         requires drained { AllDrained self.old }
         ensures kept { IsKept self.new }
         ensures goes { Goes self.old self.new }
+        ensures loads { Loads self.old self.new }
         ensures step { IfOk result (λ step. Proceeds step self.old self.new) }
         ensures to_end { IfOk result (λ step. GoesToEnd step (view_of self.old) (view_of self.new)) }
         ensures balanced { Balanced self.old self.new }
@@ -112,6 +116,7 @@ impl FrontState {
         requires none_pending { self.old.deletion ≡ None }
         ensures kept { IsKept self.new }
         ensures goes { Goes self.old self.new }
+        ensures loads { Loads self.old self.new }
         ensures step { IfOk result (λ step. Proceeds step self.old self.new) }
         ensures to_end { IfOk result (λ step. GoesToEnd step (view_of self.old) (view_of self.new)) }
         ensures balanced { Balanced self.old self.new }

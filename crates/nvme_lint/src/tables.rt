@@ -1,4 +1,5 @@
 // The tables of a workload file: their keys, and the values that each may have.
+use nvme_admin::{MAX_IO_QUEUES, MAX_SLOTS, MIN_SLOTS};
 use nvme_workload::Key;
 use toml::{Table, Value};
 
@@ -65,12 +66,12 @@ pub(crate) fn is_good(key: Key, value: &Value) -> bool {
         Key::Arbitration | Key::Nsid | Key::Cdw10 | Key::Cdw11 | Key::Cdw12 => {
             is_within(value, 0, 0xffff_ffff)
         }
-        Key::SqLimit | Key::CqLimit => is_within(value, 1, 16),
+        Key::SqLimit | Key::CqLimit => is_within(value, 1, i64::from(MAX_IO_QUEUES)),
         Key::Patience => is_within(value, 1, 0xffff_ffff),
         Key::Namespaces => are_sizes(value),
         Key::Submission | Key::Completion => has_items(value),
         Key::Address | Key::Prp1 => is_within(value, 0, i64::MAX),
-        Key::Slots => is_within(value, 2, 256),
+        Key::Slots => is_within(value, i64::from(MIN_SLOTS), i64::from(MAX_SLOTS)),
         Key::Script => value.is_array(),
         Key::Op | Key::Flags => is_within(value, 0, 255),
         Key::Count => is_within(value, 1, 65_536),

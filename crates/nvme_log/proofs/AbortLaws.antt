@@ -6,7 +6,6 @@ use Rattle.std.proofs.lemmas.Option.{none-some, same_Some, slice_get_within}
 use Rattle.std.proofs.lemmas.List.{append-nil, nil_from_length}
 use Rattle.std.proofs.lemmas.List.Elements.{All-nil, All-weaker, All-append, All-map}
 use mathlib.Core.List.{IsPrefix}
-use Rattle.arrayvec.specs.ArrayVec.{ArrayVec}
 use Rattle.nvme_entry.specs.Status.{success, abort_requested, aborted_by_deletion}
 use Rattle.nvme_entry.specs.declared.submission.Sqe.{Sqe}
 use Rattle.nvme_entry.specs.declared.completion.Cqe.{Cqe}
@@ -53,7 +52,7 @@ abbrev IsOther : ℕ → ℕ → Place → Type 0
 IsOther r i p = p ≡ place_at r i → ⊥
 
 -- an I/O pick dispatches places that wait no longer
-dispatched_by-waits_not : (past : Past) (seen : ArrayVec Seen) (pick : Pick) (o : Option Queue) → open_sq past pick.qid ≡ o
+dispatched_by-waits_not : (past : Past) (seen : List Seen) (pick : Pick) (o : Option Queue) → open_sq past pick.qid ≡ o
     → All (WaitsNot (event.Pick seen pick ∷ past)) (dispatched_by past pick o)
 dispatched_by-waits_not past seen pick None is = All-nil (WaitsNot (event.Pick seen pick ∷ past))
 dispatched_by-waits_not past seen pick (Some queue) is = by (pick.qid == 0) where
@@ -80,7 +79,7 @@ dispatched-waits_not (event.Pick seen pick ∷ past) =
 dispatched-waits_not (e ∷ past) = still-waits_not e past (dispatched past) (dispatched-waits_not past)
 
 -- the pick of an admin command dispatches nothing, nor do the events after it
-dispatched-turn : (between before : Past) (seen : ArrayVec Seen) (pick : Pick) → picks_in between ≡ 0 → pick.qid ≡ 0
+dispatched-turn : (between before : Past) (seen : List Seen) (pick : Pick) → picks_in between ≡ 0 → pick.qid ≡ 0
     → dispatched (between ++ event.Pick seen pick ∷ before) ≡ dispatched before
 dispatched-turn [] before seen pick none admin = ap (λ (z : List Place). dispatched before ++ z) (nothing (open_sq before pick.qid)) ∙ append-nil (dispatched before) where
   nothing : (o : Option Queue) → dispatched_by before pick o ≡ []
@@ -156,7 +155,7 @@ less_due : (rules : FrontRules) (past : Past) (e : Event) (r i : ℕ) → IsSett
 less_due rules past e r i s rest is h = s.not_due (e ∷ rest) (sym (append_assoc (effects_since past) (e ∷ []) rest) ∙ is) (inr h)
 
 -- after a pick nothing is due that doesn't wait
-not_due-pick : (rules : FrontRules) (past : Past) (seen : ArrayVec Seen) (pick : Pick) (r i : ℕ) → is_waiting (fate_of past r i) ≡ false
+not_due-pick : (rules : FrontRules) (past : Past) (seen : List Seen) (pick : Pick) (r i : ℕ) → is_waiting (fate_of past r i) ≡ false
     → IsIn (Abort r i) (made_last rules (event.Pick seen pick ∷ past)) → ⊥
 not_due-pick rules past seen pick r i none h = by (pick.qid == 0) (admin_entry past) h where
   by : (b : Bool) (o : Option Sqe) → IsIn (Abort r i) (if b then made_of rules past o else []) → ⊥
@@ -374,7 +373,7 @@ cause-of rules (Abort region index ∷ past) h r i a = elim (or_cases (region ==
 cause-of rules (e ∷ past) h r i a = cause-later rules e past r i (cause-of rules past h.1 r i a)
 
 -- whether the latest pick took an Abort command
-took-turn : (between before : Past) (seen : ArrayVec Seen) (pick : Pick) → picks_in between ≡ 0
+took-turn : (between before : Past) (seen : List Seen) (pick : Pick) → picks_in between ≡ 0
     → took_abort (between ++ event.Pick seen pick ∷ before) ≡ (pick.qid == 0 && is_abort_entry (admin_entry before))
 took-turn [] before seen pick none = refl
 took-turn (event.Pick s p ∷ between) before seen pick none = absurd (omega (arith, none))
@@ -460,7 +459,7 @@ aborted_are_told rules sent past collected h r i a = record {
 
 -- ---- what an Abort command takes
 -- what a taken command makes
-made-pick : (rules : FrontRules) (before : Past) (seen : ArrayVec Seen) (pick : Pick) (i : ℕ) (v : Verdict) → TakesCommand rules before pick i v
+made-pick : (rules : FrontRules) (before : Past) (seen : List Seen) (pick : Pick) (i : ℕ) (v : Verdict) → TakesCommand rules before pick i v
     → made_last rules (event.Pick seen pick ∷ before) ≡ made_by before v
 made-pick rules before seen pick i v t =
     ap (λ (b : Bool). if b then made_of rules before (admin_entry before) else []) (eq-eqb pick.qid 0 t.of_admin)
@@ -468,14 +467,14 @@ made-pick rules before seen pick i v t =
     ∙ ap (made_by before) t.comes_to
 
 -- is what it makes until the next pick
-made-turn : (rules : FrontRules) (between before : Past) (seen : ArrayVec Seen) (pick : Pick) → picks_in between ≡ 0
+pub made-turn : (rules : FrontRules) (between before : Past) (seen : List Seen) (pick : Pick) → picks_in between ≡ 0
     → made_last rules (between ++ event.Pick seen pick ∷ before) ≡ made_last rules (event.Pick seen pick ∷ before)
 made-turn rules [] before seen pick none = refl
 made-turn rules (event.Pick s p ∷ between) before seen pick none = absurd (omega (arith, none))
 made-turn rules (e ∷ between) before seen pick none = made-turn rules between before seen pick none
 
 -- a command that makes something makes its first at once
-at-first : (rules : FrontRules) (between before : Past) (seen : ArrayVec Seen) (pick : Pick) → picks_in between ≡ 0
+at-first : (rules : FrontRules) (between before : Past) (seen : List Seen) (pick : Pick) → picks_in between ≡ 0
     → Each (EffectsAtOnce rules) (between ++ event.Pick seen pick ∷ before) → effects_since (between ++ event.Pick seen pick ∷ before) ≡ []
     → (made_last rules (event.Pick seen pick ∷ before) ≡ [] → ⊥) → between ≡ []
 at-first rules [] before seen pick none h empty some = refl
@@ -646,14 +645,14 @@ TakesSome past e = Unit {0}
 picks-take_some : (m : Mechanism) (first : ArbitrationFields) (past : Past) → IsLawfulRun m first (arbitration_of past) → Each TakesSome past
 picks-take_some m first [] h = tt
 picks-take_some m first (event.Pick seen pick ∷ past) h = (
-  let one : 1 ≤ pick.n = (picks_are_measured m first (arbitration_of past) seen.items pick h.0 h.1).at_least_one in omega (arith, one),
+  let one : 1 ≤ pick.n = (picks_are_measured m first (arbitration_of past) seen pick h.0 h.1).at_least_one in omega (arith, one),
   picks-take_some m first past h.2,
 )
 picks-take_some m first (SetArbitration settings ∷ past) h = (tt, picks-take_some m first past h)
 picks-take_some m first (e ∷ past) h = (tt, picks-take_some m first past h)
 
 -- the place that an admin pick takes doesn't wait after it
-admin-taken : (rules : FrontRules) (past : Past) (seen : ArrayVec Seen) (pick : Pick) (i : ℕ) → Each (EffectsAtOnce rules) past → 0 < pick.n → pick.qid ≡ 0
+admin-taken : (rules : FrontRules) (past : Past) (seen : List Seen) (pick : Pick) (i : ℕ) → Each (EffectsAtOnce rules) past → 0 < pick.n → pick.qid ≡ 0
     → slice_get (waiting past 0) 0 ≡ Some i → is_waiting (fate_of (event.Pick seen pick ∷ past) 0 i) ≡ false
 admin-taken rules past seen pick i h some admin oldest =
     taken-waits_not past seen pick 0 i
@@ -688,7 +687,7 @@ not-just_picked (event.Pick seen pick) past i none = by (pick.qid == 0) where
 not-just_picked f past i none = refl
 
 -- after the pick of an admin command
-module _ (rules : FrontRules) (before : Past) (seen : ArrayVec Seen) (pick : Pick) (i : ℕ) (admin : pick.qid ≡ 0) (oldest : slice_get (waiting before 0) 0 ≡ Some i)
+module _ (rules : FrontRules) (before : Past) (seen : List Seen) (pick : Pick) (i : ℕ) (admin : pick.qid ≡ 0) (oldest : slice_get (waiting before 0) 0 ≡ Some i)
     (taken : is_waiting (fate_of (event.Pick seen pick ∷ before) 0 i) ≡ false) where
   -- the table before its command is that at the pick
   table-at : (later : Past) → table_before rules (later ++ event.Pick seen pick ∷ before) i ≡ table_history rules before
@@ -765,7 +764,7 @@ unfolding verdict_of
 status-of start h entry = status_in-verdict (status_of start h entry) (queue_table start (EntryApplied entry ∷ h)) (admin_command_of entry)
 
 -- the completion of an Abort command
-told-found : (rules : FrontRules) (earlier before between : Past) (seen : ArrayVec Seen) (pick : Pick) (i sqid cid c : ℕ) (cqe : Cqe)
+told-found : (rules : FrontRules) (earlier before between : Past) (seen : List Seen) (pick : Pick) (i sqid cid c : ℕ) (cqe : Cqe)
     → earlier ≡ between ++ event.Pick seen pick ∷ before → Each (EffectsAtOnce rules) earlier → Each TakesSome earlier
     → TakesCommand rules before pick i (verdict.Abort sqid cid) → IsOwn rules earlier c 0 i cqe
     → (cqe.status ≡ success) × (cqe.dw0 ≡ (if abort_first between then 0 else 1))

@@ -15,3 +15,13 @@ pub mod Counting
 pub mod UsedRegions
 pub mod PickCounts
 pub mod Promise
+pub mod LoadedPlaces
+pub mod LoadedRegions
+pub mod LoadedSteps
+pub mod LoadedLaws
+pub mod LoadedExamples
+pub mod WithoutPosts
+pub mod LoadedTurns
+pub mod PostsApart
+pub mod OwnStays
+pub mod PostCounts

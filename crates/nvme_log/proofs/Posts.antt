@@ -106,7 +106,7 @@ all_below test (suc n) h i lt =
     (cases_lt i n)
 
 -- the next item of a list that begins with another
-slice_get-next : {T : Type 0} (xs rest : List T) (x : T) → slice_get ((xs ++ x ∷ []) ++ rest) (length xs) ≡ Some x
+pub slice_get-next : {T : Type 0} (xs rest : List T) (x : T) → slice_get ((xs ++ x ∷ []) ++ rest) (length xs) ≡ Some x
 slice_get-next [] rest x = refl
 slice_get-next (y ∷ xs) rest x = slice_get-next xs rest x
 

@@ -108,7 +108,7 @@ abbrev IsEnding : Past → ℕ → ℕ → Type 0
 IsEnding past qid r = IsBegun past qid r ⊎ (is_closed_region past r ≡ true)
 
 -- a list that ends with an event isn't empty
-pushed_some : (es : List Event) (e : Event) → es ++ e ∷ [] ≡ [] → ⊥
+pub pushed_some : (es : List Event) (e : Event) → es ++ e ∷ [] ≡ [] → ⊥
 pushed_some [] e h = cc h
 pushed_some (x ∷ es) e h = cc h
 

@@ -24,7 +24,7 @@ use Rattle.nvme_log.specs.Laws.{as_open, StartsWithAdmin, QueuesAre, QueuesAreTh
 use Rattle.nvme_log.proofs.Aborting.{makes_aborts}
 
 -- a log with some events after it, in their order
-abbrev with_events : List Event → Past → Past
+abbrev pub with_events : List Event → Past → Past
 with_events [] past = past
 with_events (e ∷ rest) past = with_events rest (e ∷ past)
 

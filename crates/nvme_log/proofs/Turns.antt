@@ -2,7 +2,6 @@
 use Rattle.std.proofs.Common.{◌≡◌, ℕ, ◌+◌, ◌<◌, ◌≤◌, ◌==◌, ◌&&◌, ◌||◌, Bool, true, false, not, nat_lt, if◌then◌else◌, List, [], ◌∷◌, ◌++◌, length, map, take, Option, Some, None, refl, sym, ap, ◌∙◌, subst, arith, ◌⊎◌, inl, inr}
 use Rattle.std.proofs.lemmas.Bool.{eqb-true, eqb-false, ne_eqb, ltb-true, lt-ltb, or_cases, and_parts, false_from_ne_true}
 use Rattle.std.proofs.lemmas.Option.{none-some, same_Some}
-use Rattle.arrayvec.specs.ArrayVec.{ArrayVec}
 use Rattle.nvme_entry.specs.declared.submission.Sqe.{Sqe}
 use Rattle.nvme_arbiter.specs.declared.pick.Seen.{Seen}
 use Rattle.nvme_arbiter.specs.declared.pick.Pick.{Pick}
@@ -76,7 +75,7 @@ stays_on [] past r i w = w
 stays_on (e ∷ later) past r i w = stays e (later ++ past) r i (stays_on later past r i w)
 
 -- the places that a pick takes don't wait after it
-pub taken-waits_not : (past : Past) (seen : ArrayVec Seen) (pick : Pick) (r i : ℕ) → has_region r (open_sq past pick.qid) ≡ true → IsIn i (take pick.n (waiting past r))
+pub taken-waits_not : (past : Past) (seen : List Seen) (pick : Pick) (r i : ℕ) → has_region r (open_sq past pick.qid) ≡ true → IsIn i (take pick.n (waiting past r))
     → is_waiting (fate_of (event.Pick seen pick ∷ past) r i) ≡ false
 taken-waits_not past seen pick r i own h =
     false_from_ne_true (is_waiting (fate_of (event.Pick seen pick ∷ past) r i))
@@ -102,7 +101,7 @@ closing_not_abort qid region r (k ∷ is) (inl e) = cc e
 closing_not_abort qid region r (k ∷ is) (inr h) = closing_not_abort qid region r is h
 
 -- a queue is opened by its Create
-opened-by : (past : Past) (v : Verdict) (qid region cqid : ℕ) (class : Class) → IsIn (OpenSq qid region cqid class) (made_by past v) → v ≡ verdict.OpenSq qid region cqid class
+pub opened-by : (past : Past) (v : Verdict) (qid region cqid : ℕ) (class : Class) → IsIn (OpenSq qid region cqid class) (made_by past v) → v ≡ verdict.OpenSq qid region cqid class
 opened-by past (Done status dw0) qid region cqid class h = absurd h
 opened-by past (verdict.OpenSq q r c k) qid region cqid class h = let e : OpenSq q r c k ≡ OpenSq qid region cqid class = only _ _ h in cc
 opened-by past (verdict.OpenCq q r) qid region cqid class h = absurd (let e : OpenCq q r ≡ OpenSq qid region cqid class = only _ _ h in cc)
@@ -191,7 +190,7 @@ target-is past sqid queue io is = rw (ne_eqb sqid 0 io) is
 pub record IsMadeBy (rules : FrontRules) (past : Past) (e : Event) : Type 0 where
   pub between : Past
   pub before : Past
-  pub seen : ArrayVec Seen
+  pub seen : List Seen
   pub pick : Pick
   pub stands : past ≡ between ++ event.Pick seen pick ∷ before
   pub no_pick : picks_in between ≡ 0
@@ -239,7 +238,7 @@ before-pick P between before e past is h = (Each-after P between (e ∷ before) 
 
 -- ---- the admin queue stays, and no other queue has its region
 -- region 0 is used from the beginning
-region_0-used : (start : Start) (h : TableHistory) → (queue_table start h).sq_region_used 0 ≡ true
+pub region_0-used : (start : Start) (h : TableHistory) → (queue_table start h).sq_region_used 0 ≡ true
 unfolding queue_table
 region_0-used start h = refl
 

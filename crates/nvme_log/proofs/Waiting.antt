@@ -11,7 +11,6 @@ use Rattle.std.proofs.lemmas.List.Kept.{AllPairs-filter}
 use Rattle.std.proofs.lemmas.Bool.{eq-eqb, ne_eqb, cases_lt, cases_order, lt-ltb, le-ltb}
 use Rattle.std.proofs.lemmas.Bool.Decides.{eqb_tells}
 use Rattle.nvme_entry.specs.declared.submission.Sqe.{Sqe}
-use Rattle.arrayvec.specs.ArrayVec.{ArrayVec}
 use Rattle.nvme_arbiter.specs.declared.pick.Pick.{Pick}
 use Rattle.nvme_arbiter.specs.declared.pick.Seen.{Seen}
 use Rattle.nvme_log.specs.declared.event.Event.TheVariants as event
@@ -201,17 +200,17 @@ waiting-fetch_other past region index entry r other =
 
 -- ---- a pick
 -- how many were picked, after a pick of the region's queue
-pub picked-pick : (past : Past) (seen : ArrayVec Seen) (pick : Pick) (r : ℕ) → has_region r (open_sq past pick.qid) ≡ true
+pub picked-pick : (past : Past) (seen : List Seen) (pick : Pick) (r : ℕ) → has_region r (open_sq past pick.qid) ≡ true
     → picked (event.Pick seen pick ∷ past) r ≡ picked past r + pick.n
 picked-pick past seen pick r own = rw own refl
 
 -- and of another queue
-pub picked-pick_other : (past : Past) (seen : ArrayVec Seen) (pick : Pick) (r : ℕ) → has_region r (open_sq past pick.qid) ≡ false
+pub picked-pick_other : (past : Past) (seen : List Seen) (pick : Pick) (r : ℕ) → has_region r (open_sq past pick.qid) ≡ false
     → picked (event.Pick seen pick ∷ past) r ≡ picked past r
 picked-pick_other past seen pick r other = rw other refl
 
 -- a pick of the region's queue takes the first places that wait
-pub waiting-pick : (past : Past) (seen : ArrayVec Seen) (pick : Pick) (r : ℕ) → has_region r (open_sq past pick.qid) ≡ true
+pub waiting-pick : (past : Past) (seen : List Seen) (pick : Pick) (r : ℕ) → has_region r (open_sq past pick.qid) ≡ true
     → waiting (event.Pick seen pick ∷ past) r ≡ drop pick.n (waiting past r)
 waiting-pick past seen pick r own =
     waiting_is-drop (event.Pick seen pick ∷ past) r
@@ -220,7 +219,7 @@ waiting-pick past seen pick r own =
     ∙ ap (drop pick.n) (sym (waiting_is-drop past r))
 
 -- a pick of another queue takes none of them
-pub waiting-pick_other : (past : Past) (seen : ArrayVec Seen) (pick : Pick) (r : ℕ) → has_region r (open_sq past pick.qid) ≡ false
+pub waiting-pick_other : (past : Past) (seen : List Seen) (pick : Pick) (r : ℕ) → has_region r (open_sq past pick.qid) ≡ false
     → waiting (event.Pick seen pick ∷ past) r ≡ waiting past r
 waiting-pick_other past seen pick r other = waiting-same past (event.Pick seen pick ∷ past) r refl (picked-pick_other past seen pick r other) (λ i. refl)
 

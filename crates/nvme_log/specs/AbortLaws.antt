@@ -2,7 +2,6 @@
 -- (Base Specification, Abort)
 use Rattle.std.specs.Prelude.{◌≡◌, ◌≢◌, ℕ, ◌<◌, ◌⊎◌, true, List, [], ◌∷◌, ◌++◌, Some, slice_get}
 use Rattle.std.specs.List.{All}
-use Rattle.arrayvec.specs.ArrayVec.{ArrayVec}
 use Rattle.nvme_entry.specs.Status.{success, abort_requested, aborted_by_deletion}
 use Rattle.nvme_entry.specs.declared.submission.Sqe.{Sqe}
 use Rattle.nvme_entry.specs.declared.completion.Cqe.{Cqe}
@@ -34,7 +33,7 @@ pub record IsAbortedBy (rules : FrontRules) (past : Past) (v : Verdict) (r i : �
   pub later : Past
   pub between : Past
   pub before : Past
-  pub seen : ArrayVec Seen
+  pub seen : List Seen
   pub pick : Pick
   pub stands : past ≡ later ++ event.Abort r i ∷ (between ++ event.Pick seen pick ∷ before)
   pub no_pick : picks_in between ≡ 0
@@ -90,7 +89,7 @@ pub record TakesOldest (later before : Past) (sqid cid : ℕ) : Type 0 where
 
 abbrev pub AbortsTakeTheOldest : Type 0
 AbortsTakeTheOldest = (rules : FrontRules) (sent : ℕ → List Sqe) (past : Past) (collected : ℕ → List Cqe) → IsAccount rules sent past collected
-    → (later before : Past) (seen : ArrayVec Seen) (pick : Pick) (i sqid cid : ℕ) → past ≡ later ++ event.Pick seen pick ∷ before
+    → (later before : Past) (seen : List Seen) (pick : Pick) (i sqid cid : ℕ) → past ≡ later ++ event.Pick seen pick ∷ before
     → TakesCommand rules before pick i (verdict.Abort sqid cid) → TakesOldest later before sqid cid
 
 -- ---- what an Abort command is told
@@ -102,6 +101,6 @@ pub record TellsFound (later : Past) (cqe : Cqe) : Type 0 where
 
 abbrev pub AbortsAreTold : Type 0
 AbortsAreTold = (rules : FrontRules) (sent : ℕ → List Sqe) (past : Past) (collected : ℕ → List Cqe) → IsAccount rules sent past collected
-    → (later before : Past) (seen : ArrayVec Seen) (pick : Pick) (i sqid cid : ℕ) → past ≡ later ++ event.Pick seen pick ∷ before
+    → (later before : Past) (seen : List Seen) (pick : Pick) (i sqid cid : ℕ) → past ≡ later ++ event.Pick seen pick ∷ before
     → TakesCommand rules before pick i (verdict.Abort sqid cid)
     → (rest earlier : Past) (c : ℕ) (cqe : Cqe) → past ≡ rest ++ event.Post c 0 i cqe ∷ earlier → TellsFound later cqe

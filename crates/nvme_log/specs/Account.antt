@@ -32,7 +32,7 @@ ServedWhileOpen rules past e = Unit {0}
 
 -- arbitration sees exactly the open queues and their candidates (Command Arbitration)
 abbrev pub Observed : Past → Event → Type 0
-Observed past (Pick seen pick) = seen.items ≡ observation_of past
+Observed past (Pick seen pick) = seen ≡ observation_of past
 Observed past e = Unit {0}
 
 -- the place of the latest picked admin command

@@ -59,7 +59,7 @@ four_completions = arbitration_told 0 true ∷ arbitration_told 1 true ∷ arbit
 
 -- the admin queue is picked while this number of its commands waits
 abbrev pub admin_picked : ℕ → Event
-admin_picked count = Pick (record { items = record { qid = 0; class = Admin; count = count } ∷ [] }) (record { qid = 0; n = 1; fresh = false })
+admin_picked count = Pick (record { qid = 0; class = Admin; count = count } ∷ []) (record { qid = 0; n = 1; fresh = false })
 
 -- the completion of an admin place
 abbrev pub admin_posted : ℕ → Bool → Event
@@ -148,7 +148,7 @@ reads_seen count = record { qid = 1; class = Urgent; count = count }
 
 -- a pick of one command
 abbrev pub picked_of : List Seen → ℕ → Event
-picked_of seen qid = Pick (record { items = seen }) (record { qid = qid; n = 1; fresh = false })
+picked_of seen qid = Pick seen (record { qid = qid; n = 1; fresh = false })
 
 -- the log up to the first pick, up to the opening of queue 1, up to the answer to its Create, up to the fetches from it, up to its pick,
 -- up to the pick of the Delete, up to its aborts, up to the posts of queue 1, up to the end of the deletion, and whole

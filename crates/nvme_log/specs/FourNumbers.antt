@@ -72,7 +72,7 @@ seen_4 count = record { qid = 4; class = Medium; count = count }
 
 -- two commands of queue 4 are picked at once
 abbrev pub two_picked_of : List Seen → Event
-two_picked_of seen = Pick (record { items = seen }) (record { qid = 4; n = 2; fresh = false })
+two_picked_of seen = Pick seen (record { qid = 4; n = 2; fresh = false })
 
 -- the log up to the fetches from queue 4, up to the pick of two, up to the answer to the change of settings, up to the
 -- next pick, up to the pick of the Delete, up to its abort, up to the posts of queue 4, up to the end of the deletion,

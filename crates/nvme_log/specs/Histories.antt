@@ -12,7 +12,7 @@ use Rattle.nvme_log.specs.declared.event.Event.{Event}
 -- the arbitration history of a log: its picks, each with what was seen, and its changes of the settings
 abbrev pub arbitration_of : Past → History
 arbitration_of [] = []
-arbitration_of (Pick seen pick ∷ past) = Picked seen.items pick ∷ arbitration_of past
+arbitration_of (Pick seen pick ∷ past) = Picked seen pick ∷ arbitration_of past
 arbitration_of (SetArbitration settings ∷ past) = Changed settings ∷ arbitration_of past
 arbitration_of (e ∷ past) = arbitration_of past
 

@@ -14,3 +14,5 @@ pub mod FourNumbers
 pub mod Dispatches
 pub mod AbortExamples
 pub mod AbortLaws
+pub mod LoadedLaws
+pub mod LoadedExamples

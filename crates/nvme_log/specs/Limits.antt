@@ -1,5 +1,6 @@
 -- The limits of this profile. A later profile raises them here and in src/limits.rt.
-use Rattle.std.specs.Prelude.{ℕ, ◌-◌}
+use Rattle.std.specs.Prelude.{ℕ, ◌-◌, min}
+use Rattle.nvme_arbiter.specs.Limits.{highest_count}
 
 -- the most places that were picked, or that an Abort command aborted, and whose completion isn't posted yet
 abbrev pub max_outstanding : ℕ
@@ -9,9 +10,9 @@ max_outstanding = 256
 abbrev pub most_events : ℕ
 most_events = 1048576
 
--- the most candidates of a queue of this many slots: a ring of S slots holds S - 1 entries, and so does a window
+-- the most candidates of a queue of this many slots: a ring of S slots holds S - 1 entries, and a window as many, but no more than arbitration counts
 abbrev pub window_of : ℕ → ℕ
-window_of slots = slots - 1
+window_of slots = min (slots - 1) highest_count
 
 -- the most events of an admin pick: the pick, the beginning of a deletion and one for each candidate that it aborts
 abbrev pub admin_events : ℕ

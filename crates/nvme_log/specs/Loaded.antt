@@ -1,5 +1,5 @@
 -- The loaded log: the log of a front whose hosts had submitted their whole scripts before its first turn, posts left out (profile).
-use Rattle.std.specs.Prelude.{◌≡◌, ℕ, ◌==◌, ◌&&◌, ◌||◌, nat_le, Bool, true, false, List, [], ◌∷◌, length, Option, Some, None, unwrap_or, MatchOption}
+use Rattle.std.specs.Prelude.{◌≡◌, ℕ, ◌==◌, ◌&&◌, ◌||◌, nat_le, Bool, true, false, not, List, [], ◌∷◌, length, filter, Option, Some, None, unwrap_or, MatchOption}
 use Rattle.std.specs.List.{list_all}
 use mathlib.Core.List.{IsPrefix}
 use Rattle.nvme_entry.specs.declared.submission.Sqe.{Sqe}
@@ -14,6 +14,15 @@ use Rattle.nvme_log.specs.Histories.{arbitration_of}
 use Rattle.nvme_log.specs.Effects.{made_last, effects_since, EffectsAtOnce}
 use Rattle.nvme_log.specs.Account.{IndexCounts, ServedWhileOpen, Observed}
 
+-- an event is a post
+abbrev pub is_post : Event → Bool
+is_post (Post c r i cqe) = true
+is_post e = false
+
+-- a log without its posts
+abbrev pub without_posts : Past → Past
+without_posts past = filter (λ (e : Event). not (is_post e)) past
+
 -- posts are left out
 abbrev pub IsNoPost : Past → Event → Type 0
 IsNoPost past (Post c r i cqe) = ⊥
@@ -26,6 +35,7 @@ is_filled rules scripts past (Some queue) =
     nat_le (length (scripts queue.region)) (length (fetched past queue.region))
     || nat_le (window_at rules queue.region) (length (waiting past queue.region))
 
+-- each open queue is filled
 abbrev pub are_filled : FrontRules → (ℕ → List Sqe) → Past → Bool
 are_filled rules scripts past = list_all (λ (q : ℕ). is_filled rules scripts past (open_sq past q)) (upto queue_limit)
 
@@ -46,20 +56,23 @@ FetchesLast [] e = Unit {0}
 FetchesLast (Fetch r i entry ∷ past) e = may_follow_fetch past r e ≡ true
 FetchesLast (other ∷ past) e = Unit {0}
 
--- what comes while a deletion is pending: its aborts, and then at once its end
+-- an event is an abort
 abbrev pub is_abort : Event → Bool
 is_abort (Abort r i) = true
 is_abort e = false
 
+-- an event is the end of a deletion
 abbrev pub is_closed_of : Deletion → Event → Bool
 is_closed_of deletion (ClosedSq qid region) = qid == deletion.qid && region == deletion.region
 is_closed_of deletion e = false
 
+-- what may come while a deletion is pending, an abort or its end, and while none is, anything but an end
 abbrev pub ends_deletion : Option Deletion → Event → Bool
 ends_deletion None (ClosedSq qid region) = false
 ends_deletion None e = true
 ends_deletion (Some deletion) e = is_abort e || is_closed_of deletion e
 
+-- a deletion ends at once, after its aborts
 abbrev pub ClosedAtOnce : Past → Event → Type 0
 ClosedAtOnce past e = ends_deletion (pending past) e ≡ true
 
@@ -69,23 +82,35 @@ NothingAfterClosed past (Fetch r i entry) = is_closed_region past r ≡ false
 NothingAfterClosed past (Abort r i) = is_closed_region past r ≡ false
 NothingAfterClosed past e = Unit {0}
 
--- the log, without posts, of a workload with these scripts
-pub record IsLoadedLog (rules : FrontRules) (scripts : ℕ → List Sqe) (past : Past) : Type 0 where
+-- no candidate is left
+abbrev pub NoneWaits : Past → Type 0
+NoneWaits past = (q : ℕ) → MatchOption (open_sq past q) (Unit {0}) (λ queue. waiting past queue.region ≡ [])
+
+-- what a loaded log says at every moment
+pub record LoadedSoFar (rules : FrontRules) (scripts : ℕ → List Sqe) (past : Past) : Type 0 where
   pub no_post : Each IsNoPost past
   pub fetched_in_order : (r : ℕ) → IsPrefix (fetched past r) (scripts r)
   pub indexes_count : Each IndexCounts past
   pub served_while_open : Each (ServedWhileOpen rules) past
   pub observed : Each Observed past
   pub effects_at_once : Each (EffectsAtOnce rules) past
-  pub effects_whole : effects_since past ≡ made_last rules past
   pub lawful : IsLawfulRun rules.mechanism rules.start.settings (arbitration_of past)
-  -- each open queue is filled before each pick and at the end
+  -- each open queue is filled before each pick
   pub filled_before : Each (FilledBefore rules scripts) past
-  pub filled : are_filled rules scripts past ≡ true
   pub fetches_last : Each FetchesLast past
   -- each deletion is finished at once
   pub closed_at_once : Each ClosedAtOnce past
   pub nothing_after_closed : Each NothingAfterClosed past
+
+-- and at its end, where nothing is left to do
+pub record LoadedAtEnd (rules : FrontRules) (scripts : ℕ → List Sqe) (past : Past) : Type 0 where
+  pub effects_whole : effects_since past ≡ made_last rules past
+  -- each open queue is filled
+  pub filled : are_filled rules scripts past ≡ true
   pub none_pending : pending past ≡ None
-  -- no candidate is left
-  pub none_waits : (q : ℕ) → MatchOption (open_sq past q) (Unit {0}) (λ queue. waiting past queue.region ≡ [])
+  pub none_waits : NoneWaits past
+
+-- the log, without posts, of a workload with these scripts
+pub record IsLoadedLog (rules : FrontRules) (scripts : ℕ → List Sqe) (past : Past) : Type 0 where
+  pub so_far : LoadedSoFar rules scripts past
+  pub at_end : LoadedAtEnd rules scripts past

@@ -1,5 +1,5 @@
-use arrayvec::ArrayVec;
-use nvme_arbiter::{Class, Pick, QUEUE_LIMIT, Seen, Settings};
+use crate::listed::Listed;
+use nvme_arbiter::{Class, Pick, Seen, Settings};
 use nvme_entry::{Cqe, Sqe};
 
 /// What a front did, in the order in which it did it. A place is a submission region with an index, which counts
@@ -12,10 +12,10 @@ pub enum Event {
         index: u32,
         entry: Sqe,
     },
-    /// Arbitration picked the `n` oldest candidates of a queue, on what it saw.
+    /// Arbitration picked the `n` oldest candidates of a queue, on what it saw: the open queues.
     /// (Base Specification, Command Arbitration)
     Pick {
-        seen: ArrayVec<Seen, QUEUE_LIMIT>,
+        seen: Listed<Seen>,
         pick: Pick,
     },
     /// The settings of the Arbitration feature were set.

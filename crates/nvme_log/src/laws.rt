@@ -8,9 +8,9 @@ ghost use Rattle.nvme_log.specs.Places.{fetched, waiting, is_served};
 ghost use Rattle.nvme_log.specs.Examples.{admin_posted, arbitration_told, at_admin, four_commands, four_completions, last_picked, two_slots, two_slots_past};
 ghost use Rattle.nvme_log.specs.Examples.{at_two, one_deletion, admin_script, reads, read, delete_sq, done, admin_done, reads_done, admin_seen, reads_seen, picked_of, admin_fetched, reads_fetched, one_picked, delete_picked, closing, aborted_posted, all_posted, deleted, queue_created, closed, read_done, window_filled};
 ghost use Rattle.nvme_log.specs.Dispatches.{AreJobs, dispatched, place_at};
-ghost use Rattle.nvme_log.specs.Queues.{is_serving};
+ghost use Rattle.nvme_log.specs.Queues.{is_serving, pending};
 ghost use Rattle.nvme_log.specs.FourNumbers.{four_numbers, admin_five, four_reads, at_zero_and_two, five_told, four_told, all_closed, three_jobs};
-ghost use Rattle.nvme_log.specs.FourNumbers.{three_fetched, burst_set, one_more_picked, delete_4_picked, closing_4, posted_4, closed_4, last_unposted, four_told_first, five_told_first};
+ghost use Rattle.nvme_log.specs.FourNumbers.{seen_4, two_picked, three_fetched, burst_set, one_more_picked, delete_4_picked, closing_4, posted_4, closed_4, last_unposted, four_told_first, five_told_first};
 ghost use Rattle.nvme_log.specs.Aborts.{is_aborted_with_queue, places_for};
 ghost use Rattle.nvme_log.specs.AbortExamples.{abort, abort_1_1, fused_abort, two_aborts, reads_and, told, two_aborts_told, reads_told, two_waiting, abort_picked, one_aborted, abort_posted, second_picked, both_told, one_of};
 ghost use Rattle.nvme_log.specs.AbortExamples.{abort_and_delete, six_reads, six_done, abort_and_delete_told, six_told, abort_4_picked, one_aborted_4, delete_after_abort, both_aborted, both_posted, abort_and_deleted};
@@ -19,9 +19,12 @@ ghost use Rattle.nvme_arbiter.specs.Lawful.{IsLawfulRun};
 ghost use Rattle.nvme_arbiter.specs.declared.settings.Class.TheVariants.{Urgent};
 ghost use Rattle.nvme_entry.specs.Status.{success, abort_requested, aborted_by_deletion, invalid_field};
 ghost use mathlib.Core.List.{IsPrefix};
-ghost use Rattle.nvme_log.specs.Rules.{Each, Past};
+ghost use Rattle.nvme_log.specs.Rules.{Each, FrontRules, Past};
 ghost use Rattle.std.specs.Prelude.{◌≡◌, ℕ, ◌+◌, [], ◌∷◌, ◌++◌, Some, None, true, false};
 ghost use Rattle.nvme_log.specs.AbortLaws.{AbortedAreNotDispatched, AdminIsNotAborted, AbortedAreTold, AbortsTakeTheOldest, AbortsAreTold};
+ghost use Rattle.nvme_log.specs.Loaded.{IsNoPost, without_posts, are_filled, FilledBefore, FetchesLast, ClosedAtOnce, NothingAfterClosed, NoneWaits, IsLoadedLog};
+ghost use Rattle.nvme_log.specs.LoadedExamples.{no_scripts, small_windows, small_script, create_picked, small_opened, small_delete_fetched, small_fetched, small_picked, small_refilled, small_delete_picked, small_aborted, small_closed, crosswise};
+ghost use Rattle.nvme_log.specs.LoadedLaws.{LoadedStepIsOne, LoadedLogIsOne};
 ghost use Rattle.nvme_log.specs.Laws.{QueuesAreTheTables, StartsWithAdmin, OneFateEach, PrefixesAreAccounted, OnePostEach, WholeAccountsAnswer, WholeAccountsKeepThePromise};
 
 /// Each fetched place has exactly one fate: it waits, was picked or was aborted.
@@ -272,4 +275,66 @@ pub fn aborts_take_the_oldest()
 /// and 1 otherwise.
 pub fn aborts_say_what_they_found()
     ensures { AbortsAreTold }
+{}
+
+/// Where two loaded logs of one workload begin with the same events, either both end there or both go on with the same event.
+pub fn loaded_step_is_one()
+    ensures { LoadedStepIsOne }
+{}
+
+/// The log of a front whose hosts had submitted their whole scripts before its first turn is, posts left out, one function of
+/// its workload: two such logs of the same rules and scripts are equal.
+pub fn loaded_log_is_one()
+    ensures { LoadedLogIsOne }
+{}
+
+/// Worked loaded logs: a queue is deleted while two of its commands wait; an Abort command takes one of two commands and a
+/// second finds nothing, whatever identifier the third Read has; and the windows are smaller than their scripts.
+pub fn worked_logs_are_loaded()
+    ensures deletion { IsLoadedLog one_deletion (at_two admin_script reads) (without_posts deleted) }
+    ensures aborts { (third : ℕ) → IsLoadedLog one_deletion (at_two two_aborts (reads_and third)) (without_posts (both_told third)) }
+    ensures windows { IsLoadedLog small_windows (at_two small_script reads) small_closed }
+{}
+
+/// Where nothing is submitted the loaded log is empty. So it is where commands are submitted only to a region on which no
+/// queue is ever opened.
+pub fn loaded_logs_can_be_empty()
+    ensures nothing_submitted { (rules : FrontRules) → IsLoadedLog rules no_scripts [] }
+    ensures never_opened { IsLoadedLog one_deletion (at_two [] reads) [] }
+{}
+
+/// One small change of a worked loaded log for each clause of what is so at every moment, which the clause refuses.
+pub fn changed_loaded_logs_are_refused()
+    ensures with_a_post { Each IsNoPost deleted → ⊥ }
+    ensures fetched_in_another_order { IsPrefix (fetched small_closed 1) (read 1 ∷ read 0 ∷ read 2 ∷ []) → ⊥ }
+    ensures fetched_index_skipped { IndexCounts small_picked (Fetch 1 3 (read 2)) → ⊥ }
+    ensures fetched_before_opened { ServedWhileOpen small_windows create_picked (Fetch 1 0 (read 0)) → ⊥ }
+    ensures fetched_above_window { ServedWhileOpen small_windows small_fetched (Fetch 1 2 (read 2)) → ⊥ }
+    ensures counts_invented { Observed small_fetched (picked_of (admin_seen 1 ∷ reads_seen 3 ∷ []) 1) → ⊥ }
+    ensures aborted_out_of_turn { EffectsAtOnce small_windows (Closing 1 1 ∷ small_delete_picked) (Abort 1 2) → ⊥ }
+    ensures fetched_before_the_effect { EffectsAtOnce small_windows create_picked (Fetch 0 2 delete_sq) → ⊥ }
+    ensures picked_out_of_turn { IsLawfulRun small_windows.mechanism small_windows.start.settings (arbitration_of (picked_of (admin_seen 1 ∷ reads_seen 2 ∷ []) 0 ∷ small_fetched)) → ⊥ }
+    ensures picked_before_the_first_fetch { FilledBefore small_windows (at_two small_script reads) small_delete_fetched (picked_of (admin_seen 1 ∷ reads_seen 0 ∷ []) 0) → ⊥ }
+    ensures picked_before_refilled { FilledBefore small_windows (at_two small_script reads) small_picked (picked_of (admin_seen 1 ∷ reads_seen 1 ∷ []) 0) → ⊥ }
+    ensures fetched_a_pick_too_late { FilledBefore four_numbers (at_zero_and_two admin_five four_reads) (without_posts two_picked) (picked_of (admin_seen 3 ∷ seen_4 1 ∷ []) 0) → ⊥ }
+    ensures higher_queue_first { FetchesLast (Fetch 1 0 (read 0) ∷ small_opened) (Fetch 0 2 delete_sq) → ⊥ }
+    ensures by_identifier { FetchesLast (Fetch 2 0 (read 0) ∷ crosswise) (Fetch 1 0 (read 1)) }
+    ensures by_region { FetchesLast (Fetch 1 0 (read 0) ∷ crosswise) (Fetch 2 0 (read 1)) → ⊥ }
+    ensures effect_after_a_fetch { FetchesLast (Fetch 0 2 delete_sq ∷ create_picked) (OpenSq 1 1 1 Urgent) → ⊥ }
+    ensures picked_while_pending { ClosedAtOnce small_aborted (picked_of (admin_seen 0 ∷ []) 0) → ⊥ }
+    ensures fetched_while_pending { ClosedAtOnce small_aborted (Fetch 0 3 delete_sq) → ⊥ }
+    ensures end_of_another_queue { ClosedAtOnce closing_4 (ClosedSq 2 2) → ⊥ }
+    ensures end_of_another_region { ClosedAtOnce closing_4 (ClosedSq 4 4) → ⊥ }
+    ensures end_of_none { ClosedAtOnce small_closed (ClosedSq 1 1) → ⊥ }
+    ensures fetched_after_closed { NothingAfterClosed small_closed (Fetch 1 3 (read 3)) → ⊥ }
+    ensures aborted_after_closed { NothingAfterClosed small_closed (Abort 1 2) → ⊥ }
+{}
+
+/// One loaded log that ends too early for each clause of what is so at its end: an abort is missing, a command has room in a
+/// window and isn't fetched, a deletion isn't finished, and candidates are left.
+pub fn loaded_logs_that_end_early_are_refused()
+    ensures abort_missing { effects_since (Abort 1 1 ∷ Closing 1 1 ∷ small_delete_picked) ≡ made_last small_windows (Abort 1 1 ∷ Closing 1 1 ∷ small_delete_picked) → ⊥ }
+    ensures unfetched { are_filled small_windows (at_two small_script reads) small_picked ≡ true → ⊥ }
+    ensures unfinished { pending small_aborted ≡ None → ⊥ }
+    ensures candidates_left { NoneWaits small_refilled → ⊥ }
 {}

@@ -5,6 +5,8 @@
 mod event;
 pub mod laws;
 mod limits;
+mod listed;
 
 pub use event::Event;
-pub use limits::{MAX_EVENTS, MAX_OUTSTANDING};
+pub use limits::{MAX_EVENTS, MAX_OUTSTANDING, window_of};
+pub use listed::Listed;

@@ -1,4 +1,5 @@
 pub mod Completions
+pub mod LoadedReports
 pub mod Counted
 pub mod Loops
 pub mod Parts

@@ -1,3 +1,4 @@
 pub mod Report
+pub mod Laws
 pub mod Written
 pub mod inside

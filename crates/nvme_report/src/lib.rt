@@ -1,6 +1,7 @@
-//! The report of a run: its picks, its regions, and the completion of each fetched command.
+//! The report of a run: its picks, its regions, and the completion of each fetched command. The law of it stands in `laws`.
 #![tactic(auto)]
 
+pub mod laws;
 mod reports;
 
 pub use reports::{Mode, WriteFault, report};

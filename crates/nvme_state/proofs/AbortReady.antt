@@ -3,7 +3,6 @@ use Rattle.std.proofs.Common.{◌≡◌, ℕ, ◌+◌, ◌<◌, ◌≤◌, ◌==
 use Rattle.std.proofs.lemmas.Bool.{eq-eqb, ne_eqb}
 use Rattle.std.proofs.lemmas.List.Sums.{sum_by-cons}
 use Rattle.std.proofs.lemmas.List.Elements.{All-nil, All-cons}
-use Rattle.arrayvec.specs.ArrayVec.{ArrayVec}
 use Rattle.nvme_arbiter.specs.Board.{BoardView}
 use Rattle.nvme_arbiter.specs.declared.pick.Pick.{Pick}
 use Rattle.nvme_arbiter.specs.declared.pick.Seen.{Seen}
@@ -36,7 +35,7 @@ taken-moves sq region i r s found got left =
     (rw (got, eq-eqb region region refl) (omega (arith, left)))
     (λ x d. rw (ne_eqb region x (λ e. d (sym e))) (omega arith)) r
 
-module _ (past : Past) (k : Kept) (candidate : Candidate) (rest : List Candidate) (seen : ArrayVec Seen) (pick : Pick) (picked board : BoardView) (table : TableView)
+module _ (past : Past) (k : Kept) (candidate : Candidate) (rest : List Candidate) (seen : List Seen) (pick : Pick) (picked board : BoardView) (table : TableView)
     (region c cid : ℕ) (found : Candidate) where
   -- the log with the abort
   abbrev later : Past

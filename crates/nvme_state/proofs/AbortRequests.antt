@@ -1,7 +1,6 @@
 -- Which places Abort commands aborted, and which were aborted with their queue, after more events.
 use Rattle.std.proofs.Common.{◌≡◌, ℕ, ◌==◌, ◌&&◌, ◌||◌, Bool, true, false, not, List, [], ◌∷◌, map, Option, Some, refl, sym, ap, ◌∙◌, subst, eqb-true, eq-eqb, true≢false}
 use Rattle.std.proofs.lemmas.Bool.{and_left, and_right, and_parts, false_from_ne_true}
-use Rattle.arrayvec.specs.ArrayVec.{ArrayVec}
 use Rattle.nvme_entry.specs.declared.submission.Sqe.{Sqe}
 use Rattle.nvme_arbiter.specs.declared.pick.Pick.{Pick}
 use Rattle.nvme_arbiter.specs.declared.pick.Seen.{Seen}
@@ -31,7 +30,7 @@ pub not_with_queue : (past : Past) (r i : ℕ) → is_aborted past r i ≡ false
 not_with_queue past r i h = and_left (is_aborted past r i) (not (is_abort_requested past r i)) h
 
 -- a pick of the admin queue takes an Abort command where its entry is one
-pub took_pick : (past : Past) (seen : ArrayVec Seen) (pick : Pick) (entry : Sqe) → pick.qid ≡ 0 → admin_entry past ≡ Some entry
+pub took_pick : (past : Past) (seen : List Seen) (pick : Pick) (entry : Sqe) → pick.qid ≡ 0 → admin_entry past ≡ Some entry
     → took_abort (event.Pick seen pick ∷ past) ≡ is_abort_entry (Some entry)
 took_pick past seen pick entry first taken =
     ap (λ (b : Bool). b && is_abort_entry (admin_entry past)) (eq-eqb pick.qid 0 first) ∙ ap (λ (o : Option Sqe). is_abort_entry o) taken

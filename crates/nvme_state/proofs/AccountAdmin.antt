@@ -4,7 +4,6 @@ use Rattle.std.specs.Prelude.{slice_get, All}
 use Rattle.std.proofs.lemmas.Bool.{false_from_ne_true, ne_eqb, cond-true}
 use Rattle.std.proofs.lemmas.Option.{same_Some}
 use Rattle.std.proofs.lemmas.List.Elements.{All-nil, All-cons, All-head, All-map, All-same}
-use Rattle.arrayvec.specs.ArrayVec.{ArrayVec}
 use Rattle.nvme_entry.specs.declared.submission.Sqe.{Sqe}
 use Rattle.nvme_arbiter.specs.Board.{BoardView}
 use Rattle.nvme_arbiter.specs.declared.pick.Pick.{Pick}
@@ -73,7 +72,7 @@ record IsPicked (rules : FrontRules) (past mid : Past) (candidate : Candidate) (
   not_target : (sqid : ℕ) (queue : Queue) → target_of past sqid ≡ Some queue → queue.region ≡ 0 → ⊥
 
 -- the oldest admin candidate is picked
-is_picked : (rules : FrontRules) (late : Bool) (past : Past) (k : Kept) (seen : ArrayVec Seen) (pick : Pick) (candidate : Candidate) (rest : List Candidate)
+is_picked : (rules : FrontRules) (late : Bool) (past : Past) (k : Kept) (seen : List Seen) (pick : Pick) (candidate : Candidate) (rest : List Candidate)
     → (s : Stands rules late past k) → late ≡ false → pick.qid ≡ 0 → (k.sq 0).window ≡ candidate ∷ rest
     → IsPicked rules past (event.Pick seen pick ∷ past) candidate (verdict_at rules s.tabled.history candidate)
 is_picked rules late past k seen pick candidate rest s on_time first oldest =

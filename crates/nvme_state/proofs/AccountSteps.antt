@@ -8,7 +8,6 @@ use Rattle.std.proofs.lemmas.Option.{same_Some}
 use Rattle.std.proofs.lemmas.List.Elements.{All-nil, All-cons, All-tail, All-head, All-weaker, All-same, filter-append}
 use Rattle.std.proofs.lemmas.List.Folds.{list_any-append}
 use Rattle.std.proofs.lemmas.List.Sums.{sum_by-append}
-use Rattle.arrayvec.specs.ArrayVec.{ArrayVec}
 use Rattle.nvme_entry.specs.declared.submission.Sqe.{Sqe}
 use Rattle.nvme_entry.specs.declared.completion.Cqe.{Cqe}
 use Rattle.nvme_arbiter.specs.Board.{BoardView}
@@ -121,7 +120,7 @@ accounted-fetch rules late past k q queue entry known s can regions on_time =
     ∙ length-map ((after_fetch k q queue entry known).sq r).window (λ (c : Candidate). c.index)
     ∙ ap (λ (xs : List Candidate). length xs) (put_window (r == r) (fetched_sq (k.sq r) entry known) (k.sq r) (eq-eqb r r refl))
     ∙ length_push (k.sq r).window (record { index = (k.sq r).fetched; entry = entry }) in
-    let fits : length (waiting (fetch_event k queue entry ∷ past) r) ≤ window_at rules r = omega (arith, longer, can.room, s.tabled.sq_slots r) in
+    let fits : length (waiting (fetch_event k queue entry ∷ past) r) ≤ window_at rules r = rw (longer, s.tabled.sq_slots r) (omega (arith, can.room)) in
     record {
       indexes_count = (region.counted ∙ ap (λ (xs : List Sqe). length xs) (sym region.fetched_is), a.indexes_count);
       served_while_open = ((open_region rules late past k s q queue can.is_open, le-leb (length (waiting (fetch_event k queue entry ∷ past) r)) (window_at rules r) fits), a.served_while_open);
@@ -138,11 +137,11 @@ accounted-fetch rules late past k q queue entry known s can regions on_time =
 -- ---- a pick
 -- a pick of n places makes n more outstanding
 abbrev pub PickedAreOutstanding : Type 0
-PickedAreOutstanding = (rules : FrontRules) (late : Bool) (past : Past) (k : Kept) (queue : Queue) (seen : ArrayVec Seen) (pick : Pick) (board : BoardView)
+PickedAreOutstanding = (rules : FrontRules) (late : Bool) (past : Past) (k : Kept) (queue : Queue) (seen : List Seen) (pick : Pick) (board : BoardView)
     → Stands rules late past k → CanPick rules past k queue pick board → outstanding rules (event.Pick seen pick ∷ past) ≡ outstanding rules past + pick.n
 
 -- a pick leaves no more places outstanding than there may be
-pub leaves_places : PickedAreOutstanding → (rules : FrontRules) (late : Bool) (past : Past) (k : Kept) (queue : Queue) (seen : ArrayVec Seen) (pick : Pick) (board : BoardView)
+pub leaves_places : PickedAreOutstanding → (rules : FrontRules) (late : Bool) (past : Past) (k : Kept) (queue : Queue) (seen : List Seen) (pick : Pick) (board : BoardView)
     → Stands rules late past k → CanPick rules past k queue pick board → nat_le (outstanding rules (event.Pick seen pick ∷ past)) max_outstanding ≡ true
 leaves_places more rules late past k queue seen pick board s can =
     le-leb (outstanding rules (event.Pick seen pick ∷ past)) max_outstanding

@@ -2,7 +2,6 @@
 use Rattle.std.proofs.Common.{◌≡◌, ℕ, Bool, true, false, List, ◌∷◌, map, take, Option, Some, refl, sym, ap, ◌∙◌}
 use Rattle.std.specs.Prelude.{option_to_list}
 use Rattle.std.proofs.lemmas.Bool.{ne_eqb}
-use Rattle.arrayvec.specs.ArrayVec.{ArrayVec}
 use Rattle.nvme_arbiter.specs.Board.{BoardView}
 use Rattle.nvme_arbiter.specs.declared.pick.Pick.{Pick}
 use Rattle.nvme_arbiter.specs.declared.pick.Seen.{Seen}
@@ -26,7 +25,7 @@ use Rattle.nvme_state.proofs.Named.{first_named}
 use Rattle.nvme_state.proofs.Oldest.{admin_entry_is}
 use Rattle.nvme_state.proofs.Regions.{one_queue, not_admin_queue, put_sq-other, target_is}
 
-module _ (rules : FrontRules) (late : Bool) (past : Past) (k : Kept) (seen : ArrayVec Seen) (pick : Pick) (picked : BoardView)
+module _ (rules : FrontRules) (late : Bool) (past : Past) (k : Kept) (seen : List Seen) (pick : Pick) (picked : BoardView)
     (s : Stands rules late past k) (can : CanPick rules past k admin_queue pick picked) (first : pick.qid ≡ 0) where
   -- another queue has another region
   pub other_region : (q : ℕ) (queue : Queue) → open_sq past q ≡ Some queue → (q ≡ 0 → ⊥) → 0 ≡ queue.region → ⊥

@@ -1,11 +1,11 @@
 -- The steps of a front: when each may be made, its event, and what the front keeps after it.
-use Rattle.std.proofs.Common.{◌≡◌, ℕ, ◌+◌, ◌-◌, ◌%◌, ◌<◌, ◌≤◌, false, not, List, [], ◌∷◌, ◌++◌, map, length, take, Option, Some, None}
+use Rattle.std.proofs.Common.{◌≡◌, ℕ, ◌+◌, ◌-◌, ◌%◌, ◌<◌, false, not, List, [], ◌∷◌, ◌++◌, map, length, take, Option, Some, None}
 use Rattle.std.specs.Prelude.{slice_set}
 use Rattle.nvme_entry.specs.Status.{success}
 use Rattle.nvme_entry.specs.declared.submission.Sqe.{Sqe}
 use Rattle.nvme_entry.specs.declared.completion.Cqe.{Cqe}
 use Rattle.nvme_arbiter.specs.History.{History, Changed}
-use Rattle.nvme_arbiter.specs.Limits.{highest_count}
+use Rattle.nvme_log.specs.Limits.{window_of}
 use Rattle.nvme_arbiter.specs.Board.{BoardView, BoardStandsAt}
 use Rattle.nvme_arbiter.specs.declared.settings.Class.{Class}
 use Rattle.nvme_admin.specs.History.{TableHistory, DeletionFinished}
@@ -45,8 +45,7 @@ with_readies k c ts = with_cq k c (record (k.cq c) { ready = (k.cq c).ready ++ t
 pub record CanFetch (past : Past) (k : Kept) (q : ℕ) (queue : Queue) : Type 0 where
   pub is_open : open_sq past q ≡ Some queue
   pub none_pending : k.deletion ≡ None
-  pub room : length (k.sq queue.region).window + 1 < (k.sq queue.region).slots
-  pub few_slots : (k.sq queue.region).slots ≤ highest_count + 1
+  pub room : length (k.sq queue.region).window < window_of (k.sq queue.region).slots
 
 abbrev pub fetched_sq : SqKept → Sqe → List Sqe → SqKept
 fetched_sq s entry known = record s {

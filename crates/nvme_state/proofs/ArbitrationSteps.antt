@@ -3,7 +3,6 @@ use Rattle.std.proofs.Common.{◌≡◌, ℕ, ◌+◌, ◌<◌, ◌==◌, Bool, 
 use Rattle.std.specs.Prelude.{option_map, slice_set, IfSome}
 use Rattle.std.proofs.lemmas.Bool.{cases_eq, cases_lt}
 use Rattle.std.proofs.lemmas.List.{get_or-set_same, get_or-set_other, set_past, length-set}
-use Rattle.arrayvec.specs.ArrayVec.{ArrayVec}
 use Rattle.nvme_arbiter.specs.Limits.{queue_limit}
 use Rattle.nvme_arbiter.specs.Board.{BoardView, BoardStandsAt}
 use Rattle.nvme_arbiter.specs.History.{History, Picked}
@@ -70,7 +69,6 @@ arbitration-fetch rules late past k q queue entry known s can =
     let here : queue_at k.board.queues q ≡ Some (on_board k queue) = s.queues.board q ∙ ap (option_map (on_board k)) can.is_open in
     let was : FitsUnder q (Some (on_board k queue)) = subst (FitsUnder q) here (fits_of k.board.queues q s.arbitration.stands.observed) in
     let room = can.room in
-    let few = can.few_slots in
     let fits : FitsUnder q (Some (record { class = queue.class; count = length (k.sq queue.region).window + 1 })) = record { qid = was.qid; count = omega arith; admin = was.admin } in
     record {
       stands = record { stands = s.arbitration.stands.stands; observed = put_observed k.board.queues q _ s.arbitration.stands.observed (λ l. fits) };
@@ -79,15 +77,15 @@ arbitration-fetch rules late past k q queue entry known s can =
 
 -- ---- picks
 -- what holds after a pick: the board stands at the history with it, which is a lawful run
-record HoldsPick (rules : FrontRules) (past : Past) (seen : ArrayVec Seen) (pick : Pick) (after : BoardView) : Type 0 where
+record HoldsPick (rules : FrontRules) (past : Past) (seen : List Seen) (pick : Pick) (after : BoardView) : Type 0 where
   stands : BoardStandsAt rules.mechanism rules.start.settings (arbitration_of (event.Pick seen pick ∷ past)) after
   lawful : IsLawfulRun rules.mechanism rules.start.settings (arbitration_of (event.Pick seen pick ∷ past))
 
 -- a pick of the board is a lawful pick of the observation
-picks : (rules : FrontRules) (late : Bool) (past : Past) (k : Kept) (queue : Queue) (seen : ArrayVec Seen) (pick : Pick) (after : BoardView)
-    → Stands rules late past k → CanPick rules past k queue pick after → seen.items ≡ observation_of past → HoldsPick rules past seen pick after
+picks : (rules : FrontRules) (late : Bool) (past : Past) (k : Kept) (queue : Queue) (seen : List Seen) (pick : Pick) (after : BoardView)
+    → Stands rules late past k → CanPick rules past k queue pick after → seen ≡ observation_of past → HoldsPick rules past seen pick after
 picks rules late past k queue seen pick after s can seen_is =
-    let observed : seen_of k.board.queues ≡ seen.items = seen_is_observed past k s.regions s.queues ∙ sym seen_is in
+    let observed : seen_of k.board.queues ≡ seen = seen_is_observed past k s.regions s.queues ∙ sym seen_is in
     record {
       stands = subst (λ (xs : List Seen). BoardStandsAt rules.mechanism rules.start.settings (Picked xs pick ∷ arbitration_of past) after) (sym seen_is) can.board_stands;
       lawful = (
@@ -115,7 +113,7 @@ pick_size : (rules : FrontRules) (past : Past) (k : Kept) (queue : Queue) (pick 
 pick_size rules past k queue pick after can size =
     ap length can.board_queues ∙ length-set k.board.queues pick.qid (option_map (board.fewer pick.n) (queue_at k.board.queues pick.qid)) ∙ size
 
-module _ (rules : FrontRules) (late : Bool) (past : Past) (k : Kept) (seen : ArrayVec Seen) (pick : Pick) (picked : BoardView)
+module _ (rules : FrontRules) (late : Bool) (past : Past) (k : Kept) (seen : List Seen) (pick : Pick) (picked : BoardView)
     (candidate : Candidate) (table : TableView) (c : ℕ) (after : BoardView) (is : HoldsPick rules past seen pick picked) (size : length picked.queues ≡ queue_limit) where
   -- a queue is opened with no candidate
   opens : (qid : ℕ) (class : Class) → (qid ≡ 0 → ⊥) → (class ≡ Admin → ⊥)

@@ -4,7 +4,6 @@ use Rattle.std.specs.Prelude.{option_to_list}
 use Rattle.std.proofs.lemmas.Bool.{cases_eq, eqb-true, eq-eqb, ne_eqb, false_from_ne_true}
 use Rattle.std.proofs.lemmas.List.{length-append, length-map, length-drop}
 use Rattle.std.proofs.lemmas.List.Elements.{All-head}
-use Rattle.arrayvec.specs.ArrayVec.{ArrayVec}
 use Rattle.nvme_entry.specs.declared.submission.Sqe.{Sqe}
 use Rattle.nvme_arbiter.specs.Board.{BoardView}
 use Rattle.nvme_arbiter.specs.declared.pick.Pick.{Pick}
@@ -145,7 +144,7 @@ module _ (rules : FrontRules) (late : Bool) (past : Past) (k : Kept) (s : Stands
       omega (arith, there, many)
 
   -- a pick of an open queue takes its number of commands more from the queue's region
-  picks_more : (queue : Queue) (seen : ArrayVec Seen) (pick : Pick) → open_sq past pick.qid ≡ Some queue → PicksMore past (event.Pick seen pick ∷ past) queue.region pick.n
+  picks_more : (queue : Queue) (seen : List Seen) (pick : Pick) → open_sq past pick.qid ≡ Some queue → PicksMore past (event.Pick seen pick ∷ past) queue.region pick.n
   picks_more queue seen pick e = record {
     takers = λ r. refl;
     asked = λ r. refl;
@@ -157,7 +156,7 @@ module _ (rules : FrontRules) (late : Bool) (past : Past) (k : Kept) (s : Stands
     more false n = omega arith
 
   -- a pick takes no more commands than wait
-  few_picked_after : (queue : Queue) (seen : ArrayVec Seen) (pick : Pick) → open_sq past pick.qid ≡ Some queue → pick.n ≤ length (k.sq queue.region).window
+  few_picked_after : (queue : Queue) (seen : List Seen) (pick : Pick) → open_sq past pick.qid ≡ Some queue → pick.n ≤ length (k.sq queue.region).window
       → (r : ℕ) → FewPicked (event.Pick seen pick ∷ past) r
   few_picked_after queue seen pick e enough r = rw e (by (queue.region == r) refl) where
     by : (b : Bool) → (queue.region == r) ≡ b → (if b then picked past r + pick.n else picked past r) ≤ unaborted_below past r (length (fetched past r))
@@ -178,7 +177,7 @@ module _ (rules : FrontRules) (late : Bool) (past : Past) (k : Kept) (s : Stands
       omega (arith, left, le)
 
 -- a pick leaves as many places more outstanding as it picks
-pub outstanding-pick : (rules : FrontRules) (late : Bool) (past : Past) (k : Kept) (queue : Queue) (seen : ArrayVec Seen) (pick : Pick) (board : BoardView)
+pub outstanding-pick : (rules : FrontRules) (late : Bool) (past : Past) (k : Kept) (queue : Queue) (seen : List Seen) (pick : Pick) (board : BoardView)
     → Stands rules late past k → CanPick rules past k queue pick board → outstanding rules (event.Pick seen pick ∷ past) ≡ outstanding rules past + pick.n
 outstanding-pick rules late past k queue seen pick board s can =
     outstanding_more rules past (event.Pick seen pick ∷ past) queue.region pick.n (served_now rules late past k s)
@@ -256,13 +255,13 @@ counts-close rules late past k d table s can after = record { unposted = s.count
 
 -- ---- an admin pick
 -- one place more is outstanding after an admin pick
-pub outstanding-admin : (rules : FrontRules) (late : Bool) (past : Past) (k : Kept) (seen : ArrayVec Seen) (pick : Pick) (board : BoardView)
+pub outstanding-admin : (rules : FrontRules) (late : Bool) (past : Past) (k : Kept) (seen : List Seen) (pick : Pick) (board : BoardView)
     → Stands rules late past k → CanPick rules past k admin_queue pick board → pick.n ≡ 1 → outstanding rules (event.Pick seen pick ∷ past) ≡ outstanding rules past + 1
 outstanding-admin rules late past k seen pick board s can one =
     outstanding-pick rules late past k admin_queue seen pick board s can ∙ ap (λ (z : ℕ). outstanding rules past + z) one
 
 -- the abort of an Abort command leaves one place more outstanding
-pub outstanding-request : (rules : FrontRules) (late : Bool) (past : Past) (k : Kept) (seen : ArrayVec Seen) (pick : Pick) (picked : BoardView)
+pub outstanding-request : (rules : FrontRules) (late : Bool) (past : Past) (k : Kept) (seen : List Seen) (pick : Pick) (picked : BoardView)
     (candidate : Candidate) (rest : List Candidate) (table : TableView) (s : Stands rules late past k) → CanPick rules past k admin_queue pick picked
     → pick.qid ≡ 0 → (k.sq 0).window ≡ candidate ∷ rest → (sqid cid : ℕ) (queue : Queue) (found : Candidate) → target_of past sqid ≡ Some queue
     → oldest_named cid ((applied_to k picked table).sq queue.region).window ≡ Some found → verdict_at rules s.tabled.history candidate ≡ verdict.Abort sqid cid
@@ -279,7 +278,7 @@ outstanding-request rules late past k seen pick picked candidate rest table s ca
     (region_there rules late past k s sqid queue (target_is past sqid queue target).1)
     ∙ ap (λ (b : Bool). outstanding rules mid + one_if b) (took_request rules late past k seen pick picked s can first candidate rest sqid cid oldest is)
 
-module _ (rules : FrontRules) (late : Bool) (past : Past) (k : Kept) (seen : ArrayVec Seen) (pick : Pick) (picked : BoardView)
+module _ (rules : FrontRules) (late : Bool) (past : Past) (k : Kept) (seen : List Seen) (pick : Pick) (picked : BoardView)
     (candidate : Candidate) (rest : List Candidate) (table : TableView) (c : ℕ) (board : BoardView) (s : Stands rules late past k)
     (can : CanPick rules past k admin_queue pick picked) (first : pick.qid ≡ 0) (one : pick.n ≡ 1) (oldest : (k.sq 0).window ≡ candidate ∷ rest) where
   -- the log after the pick, and what is kept

@@ -17,7 +17,6 @@ use Rattle.nvme_admin.specs.declared.verdict.Verdict.TheVariants.{Done, BeginDel
 use Rattle.nvme_admin.specs.declared.verdict.Verdict.TheVariants as verdict
 use Rattle.nvme_admin.proofs.Changed.{TellsChange-entry, finish-takes_one}
 use Rattle.nvme_entry.specs.declared.submission.Sqe.{Sqe}
-use Rattle.arrayvec.specs.ArrayVec.{ArrayVec}
 use Rattle.nvme_log.specs.declared.event.Event.TheVariants.{Abort}
 use Rattle.nvme_log.specs.declared.event.Event.TheVariants as event
 use Rattle.nvme_state.specs.declared.candidate.Candidate.{Candidate}
@@ -223,7 +222,7 @@ open_in_log (Some entry) e none = by_closing entry.closing refl where
       cc
 
 -- the deletion of a queue begins: it is pending afterwards, on the region of the queue, with the place of the picked command
-begun : (rules : FrontRules) (late : Bool) (past : Past) (k : Kept) (seen : ArrayVec Seen) (pick : Pick) (picked : BoardView)
+begun : (rules : FrontRules) (late : Bool) (past : Past) (k : Kept) (seen : List Seen) (pick : Pick) (picked : BoardView)
     (candidate : Candidate) (rest : List Candidate) (table : TableView) (c qid : ℕ) (queue : Queue)
     → (s : Stands rules late past k) → open_sq past 0 ≡ Some admin_queue → pick.qid ≡ 0
     → CanApply rules past k s.tabled.history candidate rest table → TellsChange rules.start s.tabled.history candidate.entry (BeginDelete qid)
@@ -301,7 +300,7 @@ abort_leaves_deleting past later cid None = refl
 abort_leaves_deleting past later cid (Some queue) = aborts_leave_deleting queue.region (take 1 (named past queue.region cid)) later
 
 -- an admin pick, by the verdict of its command
-by_verdict : (rules : FrontRules) (late : Bool) (past : Past) (k : Kept) (seen : ArrayVec Seen) (pick : Pick) (picked : BoardView)
+by_verdict : (rules : FrontRules) (late : Bool) (past : Past) (k : Kept) (seen : List Seen) (pick : Pick) (picked : BoardView)
     (candidate : Candidate) (rest : List Candidate) (table : TableView) (c : ℕ) (board : BoardView) (v : Verdict)
     → (s : Stands rules late past k) → CanPick rules past k admin_queue pick picked → pick.qid ≡ 0
     → CanApply rules past k s.tabled.history candidate rest table → TellsChange rules.start s.tabled.history candidate.entry v

@@ -7,7 +7,6 @@ use Rattle.std.proofs.lemmas.List.{append-nil, append_assoc, map-append, length-
 use Rattle.std.proofs.lemmas.Simd.{map-map}
 use Rattle.std.proofs.lemmas.List.Sums.{sum_by-append, sum_by-cons}
 use Rattle.std.proofs.lemmas.List.Elements.{All-nil, All-append, All-take, All-same, All-tail}
-use Rattle.arrayvec.specs.ArrayVec.{ArrayVec}
 use Rattle.nvme_lane.specs.View.{GetView}
 use Rattle.nvme_arbiter.specs.Board.{BoardView}
 use Rattle.nvme_arbiter.specs.declared.pick.Pick.{Pick}
@@ -242,7 +241,7 @@ jobs-stray rules late past k result seat s can regions =
     }
 
 -- ---- an admin pick
-module _ (rules : FrontRules) (late : Bool) (past : Past) (k : Kept) (seen : ArrayVec Seen) (pick : Pick) (s : Stands rules late past k) (admin : pick.qid ≡ 0) where
+module _ (rules : FrontRules) (late : Bool) (past : Past) (k : Kept) (seen : List Seen) (pick : Pick) (s : Stands rules late past k) (admin : pick.qid ≡ 0) where
   -- an admin pick dispatches nothing
   none_picked : dispatched (event.Pick seen pick ∷ past) ≡ dispatched past
   none_picked = ap (λ (ps : List Place). dispatched past ++ ps) (none (open_sq past pick.qid)) ∙ append-nil (dispatched past) where

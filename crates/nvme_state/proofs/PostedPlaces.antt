@@ -11,7 +11,6 @@ use Rattle.nvme_log.specs.declared.event.Event.TheVariants as event
 use Rattle.nvme_state.specs.declared.candidate.Ready.{Ready}
 use Rattle.nvme_arbiter.specs.declared.pick.Seen.{Seen}
 use Rattle.nvme_arbiter.specs.declared.pick.Pick.{Pick}
-use Rattle.arrayvec.specs.ArrayVec.{ArrayVec}
 use Rattle.nvme_log.specs.Rules.{Past, upto}
 use Rattle.nvme_log.specs.Queues.{has_region, open_sq}
 use Rattle.nvme_log.specs.Places.{Place, fetched, places, waiting, picked, fate_of, is_waiting, is_picked, is_aborted, unaborted_below}
@@ -149,7 +148,7 @@ still_first : (u u' p p' : ℕ) → u' ≤ u → p ≤ p' → nat_lt u p ≡ tru
 still_first u u' p p' lu lp e = lt-ltb u' p' (omega (arith, ltb-true u p e))
 
 -- a pick takes no place back
-pub pick_served : (past : Past) (seen : ArrayVec Seen) (pick : Pick) (r : ℕ) → PostedServed past r → PostedServed (event.Pick seen pick ∷ past) r
+pub pick_served : (past : Past) (seen : List Seen) (pick : Pick) (r : ℕ) → PostedServed past r → PostedServed (event.Pick seen pick ∷ past) r
 pick_served past seen pick r h i posted =
     still_served (is_aborted past r i) (nat_lt (unaborted_below past r i) (picked past r)) (is_aborted past r i)
     (nat_lt (unaborted_below past r i) (picked (event.Pick seen pick ∷ past) r)) (λ e. e)

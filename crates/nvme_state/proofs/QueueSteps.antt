@@ -2,7 +2,6 @@
 use Rattle.std.proofs.Common.{◌≡◌, ℕ, ◌+◌, ◌==◌, Bool, true, false, if◌then◌else◌, List, [], ◌∷◌, filter, length, Option, Some, None, refl, sym, ◌∙◌, ap, subst}
 use Rattle.std.specs.Prelude.{option_map, slice_set}
 use Rattle.std.proofs.lemmas.List.{length-drop, length-map, length_push, nil_from_length}
-use Rattle.arrayvec.specs.ArrayVec.{ArrayVec}
 use Rattle.nvme_entry.specs.declared.submission.Sqe.{Sqe}
 use Rattle.nvme_arbiter.specs.Queues.{fewer, queue_at}
 use Rattle.nvme_arbiter.specs.Board.{BoardView, queues_after}
@@ -96,7 +95,7 @@ abbrev counted_as : Queue → ℕ → OpenQueue
 counted_as queue n = record { class = queue.class; count = n }
 
 -- a pick takes the oldest candidates of an open queue
-pub pick-agrees : (past : Past) (k : Kept) (queue : Queue) (seen : ArrayVec Seen) (pick : Pick) (board : BoardView) → Agree (in_log past) (in_kept k)
+pub pick-agrees : (past : Past) (k : Kept) (queue : Queue) (seen : List Seen) (pick : Pick) (board : BoardView) → Agree (in_log past) (in_kept k)
     → open_sq past pick.qid ≡ Some queue → board.queues ≡ queues_after k.board.queues pick
     → Agree (in_log (event.Pick seen pick ∷ past)) (in_kept (after_pick k queue pick.n board))
 pick-agrees past k queue seen pick board h is after =

@@ -6,7 +6,6 @@ use Rattle.nvme_arbiter.specs.Limits.{highest_qid}
 use Rattle.nvme_arbiter.specs.Board.{BoardView}
 use Rattle.nvme_arbiter.specs.declared.pick.OpenQueue.{OpenQueue}
 use Rattle.nvme_arbiter.specs.declared.settings.Class.{Class}
-use Rattle.arrayvec.specs.ArrayVec.{ArrayVec}
 use Rattle.nvme_arbiter.specs.declared.pick.Pick.{Pick}
 use Rattle.nvme_arbiter.specs.declared.pick.Seen.{Seen}
 use Rattle.nvme_admin.specs.History.{TableHistory}
@@ -77,7 +76,7 @@ pub record IsTarget (past : Past) (before k : Kept) (sqid : ℕ) (queue : Queue)
   pub held : HoldsSq past queue.region (k.sq queue.region)
 
 -- the queues agree after a verdict, where they do when its place is picked
-module _ (rules : FrontRules) (history : TableHistory) (past : Past) (seen : ArrayVec Seen) (pick : Pick) (before k : Kept) (candidate : Candidate) (c : ℕ) (picked board : BoardView) where
+module _ (rules : FrontRules) (history : TableHistory) (past : Past) (seen : List Seen) (pick : Pick) (before k : Kept) (candidate : Candidate) (c : ℕ) (picked board : BoardView) where
   -- a candidate leaves the window of a queue, on the board too
   found-agrees : (queue : Queue) (sqid cid : ℕ) (o : Option Candidate) → oldest_named cid (k.sq queue.region).window ≡ o
       → ((found : Candidate) → o ≡ Some found → IsAbortChosen rules before sqid cid c picked board queue)

@@ -5,7 +5,6 @@ use Rattle.std.proofs.lemmas.Bool.{cases_eq, eq-eqb, ne_eqb, or_right}
 use Rattle.std.proofs.lemmas.List.{length-drop}
 use Rattle.std.proofs.lemmas.List.Sums.{sum_by-cons, sum_by-le}
 use Rattle.std.proofs.lemmas.List.Elements.{All-nil, All-cons, All-drop, All-map, All-same, All-head}
-use Rattle.arrayvec.specs.ArrayVec.{ArrayVec}
 use Rattle.nvme_entry.specs.Status.{StatusCode}
 use Rattle.nvme_arbiter.specs.Board.{BoardView}
 use Rattle.nvme_arbiter.specs.declared.pick.Pick.{Pick}
@@ -207,7 +206,7 @@ left-fewer : (k : Kept) (r : ℕ) → length (put_sq k.sq 0 (picked_sq (k.sq 0) 
 left-fewer k = at_put (λ (x : ℕ) (u v : SqKept). length v.window ≤ length u.window) k.sq 0 (picked_sq (k.sq 0) 1) (omega (arith, length-drop 1 (k.sq 0).window)) (λ x d. omega arith)
 
 -- the relation of what is ready to the log is kept
-pub deletes-ready : (past : Past) (k : Kept) (candidate : Candidate) (rest : List Candidate) (seen : ArrayVec Seen) (pick : Pick) (board : BoardView) (table : TableView) (region qid c : ℕ)
+pub deletes-ready : (past : Past) (k : Kept) (candidate : Candidate) (rest : List Candidate) (seen : List Seen) (pick : Pick) (board : BoardView) (table : TableView) (region qid c : ℕ)
     → HoldsReady past k (hand_of k) → ((r : ℕ) → HoldsSq past r (k.sq r)) → (k.sq 0).window ≡ candidate ∷ rest → k.deletion ≡ None
     → k.outstanding + 1 ≤ max_outstanding → c < MAX_REGIONS → cq_region_of past region ≡ Some c → took_abort (event.Pick seen pick ∷ past) ≡ false
     → ((r : ℕ) → HoldsSq (with_events (map (λ (i : ℕ). Abort region i) (waiting past region)) (Closing qid region ∷ event.Pick seen pick ∷ past)) r ((with_deleting (applied_to k board table) qid region c candidate).sq r))

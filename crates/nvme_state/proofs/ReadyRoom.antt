@@ -24,8 +24,8 @@ ready-split (t ∷ rest) =
     let others = ready-split rest in
     omega (arith, one, others)
 
--- the completions that are ready in one region, and the places in hand, are no more than 511
-pub ready_is_few : (past : Past) (k : Kept) (hand : List Place) → HoldsReady past k hand → (c : ℕ) → length (k.cq c).ready + length hand ≤ 511
+-- the completions that are ready in one region, and the places in hand, are no more than there is room for
+pub ready_is_few : (past : Past) (k : Kept) (hand : List Place) → HoldsReady past k hand → (c : ℕ) → length (k.cq c).ready + length hand ≤ max_ready
 ready_is_few past k hand h c = elim (cases_lt c MAX_REGIONS) [
   | inl below ↦
       let split = ready-split (k.cq c).ready in
@@ -37,6 +37,6 @@ ready_is_few past k hand h c = elim (cases_lt c MAX_REGIONS) [
       omega (arith, none, h.taken, h.few_taken)
 ]
 
--- there is room for one more
-pub ready_has_room : (past : Past) (k : Kept) (hand : List Place) → HoldsReady past k hand → (c : ℕ) → length (k.cq c).ready < max_ready
-ready_has_room past k hand h c = let few = ready_is_few past k hand h c in omega (arith, few)
+-- where a place is in hand, there is room for its completion
+pub ready_has_room : (past : Past) (k : Kept) (hand : List Place) → HoldsReady past k hand → 0 < length hand → (c : ℕ) → length (k.cq c).ready < max_ready
+ready_has_room past k hand h held c = omega (arith, ready_is_few past k hand h c, held)

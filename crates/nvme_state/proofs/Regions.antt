@@ -6,7 +6,6 @@ use Rattle.std.proofs.lemmas.List.Elements.{All-push, All-weaker, All-drop, All-
 use Rattle.std.proofs.lemmas.Bool.{eq-eqb, ne_eqb}
 use Rattle.std.proofs.lemmas.Bool.Decides.{eqb_tells}
 use Rattle.std.proofs.lemmas.Option.{slice_get_within, same_Some}
-use Rattle.arrayvec.specs.ArrayVec.{ArrayVec}
 use Rattle.nvme_entry.specs.declared.submission.Sqe.{Sqe}
 use Rattle.nvme_entry.specs.declared.completion.Cqe.{Cqe}
 use Rattle.nvme_arbiter.specs.Limits.{highest_count}
@@ -128,7 +127,7 @@ HoldsSq-fetch_other past region index entry r s other h =
 
 -- ---- a pick
 -- a pick of the region's queue takes its first candidates
-pub HoldsSq-pick : (past : Past) (seen : ArrayVec Seen) (pick : Pick) (n : ℕ) (r : ℕ) (s : SqKept) → HoldsSq past r s → pick.n ≡ n → n ≤ length s.window
+pub HoldsSq-pick : (past : Past) (seen : List Seen) (pick : Pick) (n : ℕ) (r : ℕ) (s : SqKept) → HoldsSq past r s → pick.n ≡ n → n ≤ length s.window
     → has_region r (open_sq past pick.qid) ≡ true → HoldsSq (event.Pick seen pick ∷ past) r (picked_sq s n)
 HoldsSq-pick past seen pick n r s h is enough own = record {
   fetched_is = h.fetched_is;
@@ -155,7 +154,7 @@ HoldsSq-pick past seen pick n r s h is enough own = record {
   )
 
 -- a pick of another queue
-pub HoldsSq-pick_other : (past : Past) (seen : ArrayVec Seen) (pick : Pick) (r : ℕ) (s : SqKept) → has_region r (open_sq past pick.qid) ≡ false → HoldsSq past r s
+pub HoldsSq-pick_other : (past : Past) (seen : List Seen) (pick : Pick) (r : ℕ) (s : SqKept) → has_region r (open_sq past pick.qid) ≡ false → HoldsSq past r s
     → HoldsSq (event.Pick seen pick ∷ past) r s
 HoldsSq-pick_other past seen pick r s other h =
     HoldsSq-later past (event.Pick seen pick ∷ past) r s h refl (picked-pick_other past seen pick r other) (λ i. refl) h.none_posted
@@ -259,11 +258,11 @@ other_region o queue r is other = rw is (ne_eqb queue.region r other)
 pub regions-fetch : KeepsFetch Regions
 regions-fetch rules late past k q queue entry known s can =
     put_sq-holds (event.Fetch queue.region (k.sq queue.region).fetched entry ∷ past) k.sq queue.region (fetched_sq (k.sq queue.region) entry known)
-    (HoldsSq-fetch past queue.region (k.sq queue.region) entry known (s.regions queue.region) (omega (arith, can.room, can.few_slots)))
+    (HoldsSq-fetch past queue.region (k.sq queue.region) entry known (s.regions queue.region) (omega (arith, can.room)))
     (λ r other. HoldsSq-fetch_other past queue.region (k.sq queue.region).fetched entry r (k.sq r) other (s.regions r))
 
 -- a pick of a queue takes the first candidates of its region, and leaves the other regions
-picked_regions : (past : Past) (sq : ℕ → SqKept) (queue : Queue) (seen : ArrayVec Seen) (pick : Pick) (n : ℕ) → ((r : ℕ) → HoldsSq past r (sq r))
+picked_regions : (past : Past) (sq : ℕ → SqKept) (queue : Queue) (seen : List Seen) (pick : Pick) (n : ℕ) → ((r : ℕ) → HoldsSq past r (sq r))
     → open_sq past pick.qid ≡ Some queue → pick.n ≡ n → n ≤ length (sq queue.region).window
     → (r : ℕ) → HoldsSq (event.Pick seen pick ∷ past) r (put_sq sq queue.region (picked_sq (sq queue.region) n) r)
 picked_regions past sq queue seen pick n h is_open is enough =

@@ -6,7 +6,6 @@ use Rattle.std.proofs.lemmas.List.{length_push}
 use Rattle.std.proofs.lemmas.List.Sums.{sum_by-append, sum_by-cons, sum_by-take-drop}
 use Rattle.std.proofs.lemmas.Bool.{eq-eqb, ne_eqb, cases_order, lt-ltb, le-ltb}
 use Rattle.nvme_entry.specs.declared.submission.Sqe.{Sqe}
-use Rattle.arrayvec.specs.ArrayVec.{ArrayVec}
 use Rattle.nvme_arbiter.specs.declared.pick.Pick.{Pick}
 use Rattle.nvme_arbiter.specs.declared.pick.Seen.{Seen}
 use Rattle.nvme_log.specs.declared.event.Event.TheVariants as event
@@ -63,7 +62,7 @@ served-fetch past r index entry fresh few i =
     (omega (arith, later, bound, more, served-or_waits past r i))
 
 -- a pick of the region's queue serves the first places that wait
-pub served-pick : (past : Past) (seen : ArrayVec Seen) (pick : Pick) (r : ℕ) → has_region r (open_sq past pick.qid) ≡ true → (i : ℕ)
+pub served-pick : (past : Past) (seen : List Seen) (pick : Pick) (r : ℕ) → has_region r (open_sq past pick.qid) ≡ true → (i : ℕ)
     → one_if (is_served (event.Pick seen pick ∷ past) r i) ≡ one_if (is_served past r i) + times_among i (take pick.n (waiting past r))
 served-pick past seen pick r own i =
     omega (
@@ -104,7 +103,7 @@ served-abort past r c rest oldest i = served-abort_at past r c [] rest oldest i
 
 -- ---- which fetched places were picked, and which wait
 -- after a pick of the region's queue the first places that waited wait no more
-pub waits-pick : (past : Past) (seen : ArrayVec Seen) (pick : Pick) (r : ℕ) → has_region r (open_sq past pick.qid) ≡ true → (i : ℕ) → i < length (fetched past r)
+pub waits-pick : (past : Past) (seen : List Seen) (pick : Pick) (r : ℕ) → has_region r (open_sq past pick.qid) ≡ true → (i : ℕ) → i < length (fetched past r)
     → one_if (is_waiting (fate_of past r i)) ≡ one_if (is_waiting (fate_of (event.Pick seen pick ∷ past) r i)) + times_among i (take pick.n (waiting past r))
 waits-pick past seen pick r own i lt =
     omega (
@@ -116,7 +115,7 @@ waits-pick past seen pick r own i lt =
     )
 
 -- the first places that wait are picked
-pub is_picked-pick : (past : Past) (seen : ArrayVec Seen) (pick : Pick) (r : ℕ) → has_region r (open_sq past pick.qid) ≡ true → (i : ℕ) → i < length (fetched past r)
+pub is_picked-pick : (past : Past) (seen : List Seen) (pick : Pick) (r : ℕ) → has_region r (open_sq past pick.qid) ≡ true → (i : ℕ) → i < length (fetched past r)
     → one_if (is_picked (fate_of (event.Pick seen pick ∷ past) r i)) ≡ one_if (is_picked (fate_of past r i)) + times_among i (take pick.n (waiting past r))
 is_picked-pick past seen pick r own i lt =
     omega (arith, waits-pick past seen pick r own i lt, one_fate_of past r i, one_fate_of (event.Pick seen pick ∷ past) r i)

@@ -1,6 +1,5 @@
 -- What a step of a front keeps: the types of the lemmas on each part of what stands.
 use Rattle.std.proofs.Common.{◌≡◌, ℕ, Bool, false, List, ◌∷◌, Some}
-use Rattle.arrayvec.specs.ArrayVec.{ArrayVec}
 use Rattle.nvme_entry.specs.declared.submission.Sqe.{Sqe}
 use Rattle.nvme_entry.specs.declared.completion.Cqe.{Cqe}
 use Rattle.nvme_arbiter.specs.Board.{BoardView}
@@ -33,8 +32,8 @@ KeepsFetch X = (rules : FrontRules) (late : Bool) (past : Past) (k : Kept) (q : 
     → X rules late (fetch_event k queue entry ∷ past) (after_fetch k q queue entry known)
 
 abbrev pub KeepsIo : Invariant → Type 0
-KeepsIo X = (rules : FrontRules) (late : Bool) (past : Past) (k : Kept) (queue : Queue) (seen : ArrayVec Seen) (pick : Pick) (board : BoardView) (c : ℕ)
-    → Stands rules late past k → CanPick rules past k queue pick board → seen.items ≡ observation_of past → (pick.qid ≡ 0 → ⊥)
+KeepsIo X = (rules : FrontRules) (late : Bool) (past : Past) (k : Kept) (queue : Queue) (seen : List Seen) (pick : Pick) (board : BoardView) (c : ℕ)
+    → Stands rules late past k → CanPick rules past k queue pick board → seen ≡ observation_of past → (pick.qid ≡ 0 → ⊥)
     → (k.sq queue.region).queue ≡ Some (record { qid = pick.qid; cq_region = c })
     → X rules late (event.Pick seen pick ∷ past) (after_io k queue pick.n board)
 
@@ -59,9 +58,9 @@ KeepsStray X = (rules : FrontRules) (late : Bool) (past : Past) (k : Kept) (resu
     → X rules late past (record k { jobs = gained_jobs k.jobs k.jobs.hands.running seat })
 
 abbrev pub KeepsAdmin : Invariant → Type 0
-KeepsAdmin X = (rules : FrontRules) (late : Bool) (past : Past) (k : Kept) (seen : ArrayVec Seen) (pick : Pick) (picked : BoardView)
+KeepsAdmin X = (rules : FrontRules) (late : Bool) (past : Past) (k : Kept) (seen : List Seen) (pick : Pick) (picked : BoardView)
     (candidate : Candidate) (rest : List Candidate) (table : TableView) (c : ℕ) (board : BoardView)
-    → (s : Stands rules late past k) → CanPick rules past k admin_queue pick picked → seen.items ≡ observation_of past → pick.qid ≡ 0 → pick.n ≡ 1
+    → (s : Stands rules late past k) → CanPick rules past k admin_queue pick picked → seen ≡ observation_of past → pick.qid ≡ 0 → pick.n ≡ 1
     → CanApply rules past k s.tabled.history candidate rest table
     → IsChosen rules past k c picked board (verdict_at rules s.tabled.history candidate)
     → X rules late (admin_past past (event.Pick seen pick) (verdict_at rules s.tabled.history candidate))

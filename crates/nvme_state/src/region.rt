@@ -3,6 +3,7 @@ use crate::candidate::{Candidate, Ready};
 use crate::fifo::Fifo;
 use nvme_entry::{Cqe, Sqe};
 use nvme_lane::{GetEnd, PutEnd};
+use nvme_log::window_of;
 
 /// A submission region: its ring, the window of its queue, how many commands were fetched, and how many of those that
 /// were picked or aborted have no completion posted.
@@ -27,15 +28,14 @@ pub struct CqRegion {
 impl SqRegion {
     ghost use Rattle.std.specs.Prelude.{◌≡◌, ◌+◌, ◌^◌, ◌<◌, ◌≤◌, [], ◌∷◌, ◌++◌, length, IfSome, IfNone, nat_le, ◌≢◌, true};
     ghost use Rattle.nvme_lane.specs.View.{SameGet};
-    ghost use Rattle.nvme_arbiter.specs.Limits.{highest_count};
+    ghost use Rattle.nvme_log.specs.Limits.{window_of};
 
     /// The window has no room for a candidate more.
     pub fn is_full(&self) -> bool
-        ensures value { result ≡ nat_le self.now.end.slots (length self.now.window.items + 1) }
-        ensures few_slots { self.now.end.slots ≤ highest_count + 1 }
+        ensures value { result ≡ nat_le (window_of self.now.end.slots) (length self.now.window.items) }
         ensures some { result ≡ true → self.now.window.items ≢ [] }
     {
-        self.window.len() + 1 >= usize::from(self.end.slots())
+        self.window.len() >= usize::from(window_of(self.end.slots()))
     }
 
     /// Gets the next command of the ring into the window. None where the ring gave none; nothing changed then.

@@ -40,7 +40,7 @@ text_of_set settings = concat (codes "{\"set\":" ∷ decimal (cdw11_of settings)
 
 -- the line of an event of a log, where it is of arbitration
 abbrev pub text_of_event : Event → List ℕ
-text_of_event (log.Pick seen pick) = text_of_pick seen.items pick
+text_of_event (log.Pick seen pick) = text_of_pick seen pick
 text_of_event (log.SetArbitration settings) = text_of_set settings
 text_of_event e = []
 

@@ -86,7 +86,7 @@ fn put_event<W: Write>(event: &Event, writer: &mut W) -> io::Result<()>
     ensures { OnOk result (Appends (W.contents writer.old) (W.contents writer.new) (text_of_event event.now)) }
 {
     match event {
-        Event::Pick { seen, pick } => put_pick(seen, pick, writer),
+        Event::Pick { seen, pick } => put_pick(seen.as_slice(), pick, writer),
         Event::SetArbitration { settings } => put_set(settings, writer),
         _ => Ok(()),
     }

@@ -24,7 +24,7 @@ pub enum WorkloadError {
     /// A table has a key that is not one of its own.
     #[error("W5 unknown key")]
     Unknown,
-    /// More than 16 namespaces, 17 regions of a kind, or 65,536 commands.
+    /// More than 16 namespaces, 65 regions of a kind, or 65,536 commands.
     #[error("W6 over a limit")]
     Limit,
     /// Two regions have one address.

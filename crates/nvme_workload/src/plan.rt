@@ -20,9 +20,9 @@ pub struct Workload {
     pub spaces: Namespaces,
     /// How many turns in a row may find nothing to do before a run gives up. At least 1.
     pub patience: u32,
-    /// The submission regions, 1 to 17, that of the admin queue first.
+    /// The submission regions, 1 to 65, that of the admin queue first.
     pub submissions: Sequence<SqPlan>,
-    /// The completion regions, 1 to 17, that of the admin queue first.
+    /// The completion regions, 1 to 65, that of the admin queue first.
     pub completions: Sequence<CqPlan>,
 }
 
@@ -31,7 +31,7 @@ pub struct Workload {
 pub struct SqPlan {
     /// The address, at most 2^63 - 1, that of no other region of either kind.
     pub address: u64,
-    /// 2 to 256.
+    /// 2 to 4,096.
     pub slots: u16,
     /// What the host submits.
     pub script: Sequence<Sqe>,
@@ -42,7 +42,7 @@ pub struct SqPlan {
 pub struct CqPlan {
     /// The address, at most 2^63 - 1, that of no other region of either kind.
     pub address: u64,
-    /// 2 to 256.
+    /// 2 to 4,096.
     pub slots: u16,
 }
 

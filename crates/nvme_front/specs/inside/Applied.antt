@@ -1,7 +1,6 @@
 -- A front whose admin queue's oldest candidate was picked and applied to the table, and whose log has the pick alone so far; and what an Abort
 -- command aborts of it (profile).
 use Rattle.std.specs.Prelude.{◌≡◌, ℕ, ◌+◌, ◌<◌, ◌≤◌, List, [], ◌∷◌, ◌++◌, length, slice_set, Option, Some, None, vec_capacity}
-use Rattle.arrayvec.specs.ArrayVec.{ArrayVec}
 use Rattle.nvme_arbiter.specs.Settings.{ArbitrationFields}
 use Rattle.nvme_arbiter.specs.History.{History}
 use Rattle.nvme_arbiter.specs.Board.{BoardView, BoardStandsAt}
@@ -32,11 +31,11 @@ pub record IsApplied (s : FrontState) (candidate : Candidate) (v : Verdict) (clo
   pub past : Past
   pub stands : Stands (rules_of s) s.late past before
   -- the pick, on what was seen, and the board after it
-  pub seen : ArrayVec Seen
+  pub seen : List Seen
   pub pick : Pick
   pub picked : BoardView
   pub can_pick : CanPick (rules_of s) past before admin_queue pick picked
-  pub seen_is : seen.items ≡ observation_of past
+  pub seen_is : seen ≡ observation_of past
   pub of_admin : pick.qid ≡ 0
   pub one : pick.n ≡ 1
   -- the candidate, and the table after it

@@ -12,6 +12,7 @@ use Rattle.nvme_admin.specs.Standing.{sq_of}
 use Rattle.nvme_state.specs.declared.candidate.Ready.{Ready}
 use Rattle.nvme_state.specs.declared.region.SqRegion.{SqRegion}
 use Rattle.nvme_front.specs.declared.state.FrontState.{FrontState}
+use Rattle.nvme_log.specs.Limits.{window_of}
 use Rattle.nvme_log.specs.Completions.{phase_after}
 use Rattle.nvme_front.specs.inside.Room.{window_room, ready_room}
 use Rattle.nvme_pool.specs.Seat.{SameSeat}
@@ -64,7 +65,7 @@ HasAdmin s = (0 < length s.sqs.items) × (0 < length s.cqs.items)
 
 -- the window of a region is full, and not empty: a ring has at least two slots
 abbrev pub IsFullSq : SqKept → Type 0
-IsFullSq sq = (sq.slots ≤ length sq.window + 1) × (sq.window ≢ [])
+IsFullSq sq = (window_of sq.slots ≤ length sq.window) × (sq.window ≢ [])
 
 -- the queue of an identifier is not open, or its window is full, or its ring is known to give nothing
 abbrev pub IsTaken : FrontState → Option SqEntry → Type 0

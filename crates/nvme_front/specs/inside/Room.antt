@@ -5,12 +5,16 @@ use Rattle.nvme_admin.specs.declared.region.Region.{Region}
 use Rattle.nvme_state.specs.declared.region.SqRegion.{SqRegion}
 use Rattle.nvme_state.specs.declared.region.CqRegion.{CqRegion}
 use Rattle.nvme_front.specs.declared.state.FrontState.{FrontState}
-use Rattle.nvme_log.specs.Limits.{max_outstanding, max_ready}
+use Rattle.nvme_log.specs.Limits.{max_outstanding, max_ready, window_of}
 use Rattle.nvme_front.specs.inside.State.{kept_of, rules_of, past_of}
 use Rattle.nvme_state.specs.inside.Standing.{IsFresh, Stands}
 
 abbrev pub window_room : SqRegion → ℕ
 window_room r = r.window.room
+
+-- the most candidates that may wait in it
+abbrev pub window_limit : SqRegion → ℕ
+window_limit r = window_of r.end.slots
 
 abbrev pub ready_room : CqRegion → ℕ
 ready_room c = c.ready.room
@@ -22,7 +26,7 @@ abbrev pub cq_region : CqRegion → Region
 cq_region c = record { address = c.end.address; slots = c.end.slots }
 
 pub record IsRoomy (s : FrontState) : Type 0 where
-  pub windows : map (λ (n : ℕ). n + 1) (map window_room s.sqs.items) ≡ map (λ (r : SqRegion). r.end.slots) s.sqs.items
+  pub windows : map window_room s.sqs.items ≡ map window_limit s.sqs.items
   pub ready : map ready_room s.cqs.items ≡ map (λ (c : CqRegion). max_ready) s.cqs.items
   pub sq_table : s.table.sq_regions ≡ map sq_region s.sqs.items
   pub cq_table : s.table.cq_regions ≡ map cq_region s.cqs.items

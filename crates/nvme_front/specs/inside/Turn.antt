@@ -3,7 +3,6 @@ use Rattle.std.specs.Prelude.{◌≡◌, ◌≢◌, ℕ, ◌+◌, ◌<◌, ◌�
 use Rattle.std.specs.List.{All}
 use Rattle.nvme_entry.specs.declared.submission.Sqe.{Sqe}
 use Rattle.nvme_pool.specs.Seat.{IsUnknown}
-use Rattle.arrayvec.specs.ArrayVec.{ArrayVec}
 use Rattle.nvme_arbiter.specs.declared.pick.Pick.{Pick}
 use Rattle.nvme_arbiter.specs.declared.pick.Seen.{Seen}
 use Rattle.nvme_log.specs.declared.event.Event.{Event}
@@ -78,7 +77,7 @@ told_after true Stalled = Moved
 
 -- the log went on with a pick, with what an admin command made of it behind, for which the log had room
 pub record IsPickOf (old new : FrontState) : Type 0 where
-  pub seen : ArrayVec Seen
+  pub seen : List Seen
   pub pick : Pick
   pub after : List Event
   pub log_is : new.log.items ≡ old.log.items ++ event.Pick seen pick ∷ after

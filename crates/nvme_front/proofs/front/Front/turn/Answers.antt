@@ -1,6 +1,8 @@
-use Rattle.std.proofs.Common.{subst}
+use Rattle.std.proofs.Common.{ℕ, List, subst}
+use Rattle.nvme_entry.specs.declared.submission.Sqe.{Sqe}
 use Rattle.nvme_front.specs.View.{FrontView, GoesOn}
 use Rattle.nvme_front.specs.inside.State.{view_of}
+use Rattle.nvme_front.specs.LoadedFront.{IsLoadedFront, GotWithin}
 use Rattle.nvme_front.proofs.States.{admin-goes}
 use Rattle.nvme_front.proofs.EndsSeen.{accounts_for_ends, admin_there, view_goes_on}
 use Rattle.nvme_front.proofs.front.Front.turn.Goals as goal
@@ -21,3 +23,8 @@ returns-clause-jobs g c =
 
 pub returns-clause-within : goal.returns-clause-within
 returns-clause-within g c = c.turn.ensures.kept.roomy.few_events
+
+pub returns-clause-loaded : goal.returns-clause-loaded
+returns-clause-loaded g c =
+    subst (λ (v : FrontView). (scripts : ℕ → List Sqe) → GotWithin scripts (view_of c.turn.new.self) → IsLoadedFront scripts v → IsLoadedFront scripts (view_of c.turn.new.self))
+    c.self.view_is c.turn.ensures.loads

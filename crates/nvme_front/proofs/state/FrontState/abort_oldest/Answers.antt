@@ -1,10 +1,15 @@
-use Rattle.std.proofs.Common.{[], ◌∷◌, ◌++◌, refl, sym, ap, ◌∙◌, arith}
+use Rattle.std.proofs.Common.{ℕ, [], ◌∷◌, ◌++◌, refl, sym, ap, ◌∙◌, arith}
 use Rattle.nvme_state.specs.declared.candidate.Candidate.{Candidate}
 use Rattle.nvme_state.specs.declared.candidate.Ready.{Ready}
+use Rattle.std.proofs.lemmas.Option.{same_Some}
+use Rattle.nvme_admin.specs.declared.verdict.SqEntry.{SqEntry}
 use Rattle.nvme_state.specs.inside.Fifo.{FifoView}
+use Rattle.nvme_state.specs.inside.Kept.{SqKept}
+use Rattle.nvme_state.specs.inside.Steps.{oldest_named}
+use Rattle.nvme_front.specs.inside.State.{sq_in}
 use Rattle.nvme_log.specs.declared.event.Event.TheVariants as event
 use Rattle.nvme_front.proofs.Comes.{gets-set}
-use Rattle.nvme_front.proofs.States.{Goes-same}
+use Rattle.nvme_front.proofs.States.{sq_in-read, Goes-same}
 use Rattle.nvme_front.proofs.AppliedStates.{has_room, picks_noted, goes_aborted}
 use Rattle.nvme_front.proofs.AppliedAbort.{aborts_there, aborts_attached, aborts_posts, aborts_unposted, aborts_counted, aborts_found, put_sq_back}
 use Rattle.nvme_front.proofs.state.FrontState.abort_oldest.Goals as goal
@@ -29,6 +34,34 @@ returns-in_default-take_named-clause-goes c =
       config = refl;
       alloc = refl;
     })
+
+pub returns-in_default-take_named-clause-none : goal.returns-in_default-take_named-clause-none
+returns-in_default-take_named-clause-none c = λ _.
+    let items = c.args.self.now.sqs.items in
+    let d = c.index_mut-sq.result.now in
+    let in_table = sym c.sq.ensures ∙ c.in-Some.is in
+    let there = aborts_there _ _ _ _ _ c.requires.applied.2 _ in_table c.if-sqid-eq0.false _ c.from.ensures in (
+      record {
+        log = refl;
+        sqs = put_sq_back items c.from.result d (record d { window = c.take_named.new.self }) c.index_mut-sq.ensures.value
+            (ap (λ (w : FifoView Candidate). record d { window = w }) c.in_default-take_named.ensures.none);
+        cqs = refl;
+        board = refl;
+        table = refl;
+        outstanding = refl;
+        deletion = refl;
+        jobs = refl;
+        late = refl;
+        config = refl;
+        alloc = refl;
+      },
+      λ entry io is.
+          let same = same_Some entry c.in-Some.queue (sym is ∙ in_table) in
+          ap (λ (q : SqEntry). oldest_named c.args.cid (sq_in items q.region).window) same
+          ∙ ap (λ (r : ℕ). oldest_named c.args.cid (sq_in items r).window) (sym c.from.ensures)
+          ∙ ap (λ (x : SqKept). oldest_named c.args.cid x.window) (sq_in-read items c.from.result d there c.index_mut-sq.ensures.value)
+          ∙ sym c.take_named.ensures.value ∙ c.in_default-take_named.is,
+    )
 
 pub unreachable-requires : goal.unreachable-requires
 unreachable-requires c =

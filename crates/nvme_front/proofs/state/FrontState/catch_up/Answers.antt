@@ -3,6 +3,7 @@ use Rattle.std.proofs.lemmas.Result.{err_from_is_err_and}
 use Rattle.nvme_log.specs.Histories.{picks_in}
 use Rattle.nvme_front.proofs.States.{Goes-trans, admin-goes}
 use Rattle.nvme_front.proofs.Still.{done_by, drained_before, stray_means, log_error_means, caught_up_balanced}
+use Rattle.nvme_front.proofs.Loading.{posts-by, posts-trans}
 use Rattle.nvme_front.proofs.state.FrontState.catch_up.Goals as goal
 
 pub gain-requires-clause-admin : goal.gain-requires-clause-admin
@@ -61,3 +62,18 @@ pub returns-clause-balanced : goal.returns-clause-balanced
 returns-clause-balanced g c =
     caught_up_balanced c.args.self.now c.hand-handed.new.self c.gain.new.self c.post.new.self c.hand-handed.ensures.goes c.gain.ensures.goes
     c.hand-handed.ensures.balanced c.in_ok-gained.ensures.balanced c.post.ensures.jobs
+
+-- handing and gaining leave the log and the submission regions
+pub returns-in_err-gained-clause-posts : goal.returns-in_err-gained-clause-posts
+returns-in_err-gained-clause-posts g c =
+    posts-by c.args.self.now c.gain.new.self (c.gain.ensures.log ∙ c.hand-handed.ensures.log) (c.gain.ensures.sqs ∙ c.hand-handed.ensures.sqs)
+
+pub returns-in_err-posted-clause-posts : goal.returns-in_err-posted-clause-posts
+returns-in_err-posted-clause-posts g c =
+    posts-trans c.args.self.now c.gain.new.self c.post.new.self
+    (posts-by c.args.self.now c.gain.new.self (c.gain.ensures.log ∙ c.hand-handed.ensures.log) (c.gain.ensures.sqs ∙ c.hand-handed.ensures.sqs)) c.post.ensures.posts
+
+pub returns-clause-posts : goal.returns-clause-posts
+returns-clause-posts g c =
+    posts-trans c.args.self.now c.gain.new.self c.post.new.self
+    (posts-by c.args.self.now c.gain.new.self (c.gain.ensures.log ∙ c.hand-handed.ensures.log) (c.gain.ensures.sqs ∙ c.hand-handed.ensures.sqs)) c.post.ensures.posts

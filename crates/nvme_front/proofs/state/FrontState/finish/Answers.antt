@@ -2,7 +2,7 @@
 use Rattle.std.proofs.Common.{◌∙◌, [], ◌∷◌, ◌++◌, sym, refl, ap, arith}
 use Rattle.nvme_state.proofs.AfterSteps.{closed_event}
 use Rattle.nvme_front.proofs.States.{IsSame-refl}
-use Rattle.nvme_front.proofs.CloseOne.{deletion_there, deletion_closing, region_has_room, region_unposted, closed-kept}
+use Rattle.nvme_front.proofs.CloseOne.{deletion_there, deletion_closing, pending_held, region_has_room, region_unposted, closed-kept}
 use Rattle.nvme_log.proofs.PickCounts.{picks-noted}
 use Rattle.nvme_front.proofs.state.FrontState.finish.Goals as goal
 
@@ -21,7 +21,9 @@ pub finish_delete-requires : goal.finish_delete-requires
 finish_delete-requires c = deletion_closing c.args.self.now c.args.deletion c.requires.kept c.requires.admin c.requires.pending
 
 pub push-requires : goal.push-requires
-push-requires c = region_has_room c.args.self.now 0 c.index_mut.result.now c.requires.kept c.requires.admin c.requires.admin.1 c.index_mut.ensures.value
+push-requires c =
+    region_has_room c.args.self.now 0 c.index_mut.result.now c.requires.kept c.requires.admin c.requires.admin.1 c.index_mut.ensures.value
+    (pending_held c.args.self.now c.args.deletion c.requires.pending)
 
 pub returns-clause-kept : goal.returns-clause-kept
 returns-clause-kept c = closed-kept c.args.self.now _ c.args.deletion c.requires.kept c.requires.admin (record {

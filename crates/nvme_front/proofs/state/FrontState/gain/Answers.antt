@@ -1,5 +1,5 @@
 -- A result after another: each is weighed against what waited for it. A stray result is the last that was gained since the start.
-use Rattle.std.proofs.Common.{◌≡◌, ◌∙◌, true, false, Ok, ap, arith}
+use Rattle.std.proofs.Common.{◌∙◌, Ok, ap, arith}
 use Rattle.std.proofs.lemmas.Result.{err_from_is_err_and}
 use Rattle.nvme_front.proofs.States.{Goes-trans, admin-goes}
 use Rattle.nvme_front.proofs.Still.{balanced_trans, stray_since}
@@ -15,6 +15,7 @@ loop-gained-preserved c =
       goes = Goes-trans c.args.self.now c.loop-gained.self c.gain_one.new.self i.goes e.goes;
       balanced = balanced_trans c.args.self.now c.loop-gained.self c.gain_one.new.self i.goes i.balanced e.balanced;
       log = e.log ∙ i.log;
+      sqs = e.sqs ∙ i.sqs;
       deletion = e.deletion ∙ i.deletion;
       admin = admin-goes c.loop-gained.self c.gain_one.new.self e.goes i.admin;
       seat = e.goes.seat.lane ∙ i.seat;

@@ -12,6 +12,7 @@ invariant-loop-gained l = record {
   goes : Goes l.fn.self l.self;
   balanced : Balanced l.fn.self l.self;
   log : l.self.log.items ≡ l.fn.self.log.items;
+  sqs : l.self.sqs.items ≡ l.fn.self.sqs.items;
   deletion : l.self.deletion ≡ l.fn.self.deletion;
   admin : HasAdmin l.self;
   seat : l.self.jobs.hands.seat.lane ≡ l.fn.lanes;

@@ -2,7 +2,7 @@
 use Rattle.std.proofs.Common.{refl, arith}
 use Rattle.nvme_front.proofs.CloseOne.{region_has_room}
 use Rattle.nvme_front.proofs.States.{Goes-same}
-use Rattle.nvme_front.proofs.GainOne.{same_jobs, stray-goes, stray-kept, stray-seen, its_region, its_queue_there, its_cq_region, is_gained, gained-fewer, gained-goes, gained-kept}
+use Rattle.nvme_front.proofs.GainOne.{same_jobs, stray-goes, stray-kept, stray-seen, its_place_held, its_region, its_queue_there, its_cq_region, is_gained, gained-fewer, gained-goes, gained-kept}
 use Rattle.nvme_state.proofs.Balances.{balances-still, balances-gained}
 use Rattle.nvme_front.proofs.state.FrontState.gain_one.Goals as goal
 
@@ -41,6 +41,7 @@ push-requires c =
     let there = its_cq_region c.args.self.now c.requires.kept c.requires.admin c.gain.new.self c.in-Result.dispatched c.in-Result.ensures.0 c.in-Result.ensures.2
     c.index.result.now (rw c.from.ensures at c.index.ensures) c.in-Some.attachment c.in-Some.is c.from-2.result c.from-2.ensures in
     region_has_room c.args.self.now c.from-2.result c.index_mut.result.now c.requires.kept c.requires.admin there c.index_mut.ensures.value
+    (its_place_held c.args.self.now c.requires.kept c.requires.admin c.gain.new.self c.in-Result.dispatched c.in-Result.ensures.0 c.in-Result.ensures.2)
 
 pub returns-clause-kept : goal.returns-clause-kept
 returns-clause-kept c =

@@ -35,12 +35,12 @@ carry_out-requires c =
       applied = is_applied c.args.self.now _ c.requires.kept c.requires.admin c.requires.none_pending c.in-Some.pick c.in-Some.ensures.lawful c.in-Some.ensures.stands c.in-Some.ensures.queues
           (of_next c.args.self.now c.in-Some.pick (λ (p : Pick). c.args.self.now.outstanding + places_in c.args.self.now.sqs.items p ≤ max_outstanding) c.in-Some.ensures.by_what_is_kept c.requires.places)
           (of_next c.args.self.now c.in-Some.pick (λ (p : Pick). p.qid ≡ 0) c.in-Some.ensures.by_what_is_kept c.requires.of_admin)
-          c.seen-seen.result c.seen-seen.ensures.seen c.index_mut-sq.result.now c.index_mut-sq.ensures.value
+          c.in_ok-seen.seen c.in_ok-seen.ensures.seen c.index_mut-sq.result.now c.index_mut-sq.ensures.value
           c.in-Some-pop.candidate c.pop.new.self.items c.in-Some-pop.ensures.items
           refl refl refl refl refl
           (λ t. set c.args.self.now.sqs.items 0 (record c.index_mut-sq.result.now { window = record { items = c.pop.ensures.rest t; room = c.pop.ensures.room t }; unposted = c.index_mut-sq.result.now.unposted + 1 }))
           refl refl
-          (c.note.ensures.items ∙ ap (λ (xs : List Event). xs ++ event.Pick c.seen-seen.result c.in-Some.pick ∷ []) c.make_room.ensures.same)
+          (c.note.ensures.items ∙ ap (λ (xs : List Event). xs ++ event.Pick c.in_ok-seen.seen c.in-Some.pick ∷ []) c.make_room.ensures.same)
           c.in_ok-make_room.ensures.within
           room
           c.apply-verdict.result c.deleted_region-closing.result c.apply-verdict.ensures.verdict c.apply-verdict.ensures.stands c.apply-verdict.ensures.sized c.deleted_region-closing.ensures;
@@ -48,8 +48,8 @@ carry_out-requires c =
 
 pub returns-clause-picked : goal.returns-clause-picked
 returns-clause-picked c =
-    c.carry_out.ensures.picks ∙ ap picks_in c.note.ensures.items ∙ ap (λ (xs : List Event). picks_in (xs ++ event.Pick c.seen-seen.result c.in-Some.pick ∷ [])) c.make_room.ensures.same
-    ∙ picks_in-push c.args.self.now.log.items c.seen-seen.result c.in-Some.pick
+    c.carry_out.ensures.picks ∙ ap picks_in c.note.ensures.items ∙ ap (λ (xs : List Event). picks_in (xs ++ event.Pick c.in_ok-seen.seen c.in-Some.pick ∷ [])) c.make_room.ensures.same
+    ∙ picks_in-push c.args.self.now.log.items c.in_ok-seen.seen c.in-Some.pick
 
 pub returns-clause-goes : goal.returns-clause-goes
 returns-clause-goes c =
@@ -58,12 +58,12 @@ returns-clause-goes c =
     (admin_pick-goes c.args.self.now _ c.requires.kept c.requires.admin c.requires.none_pending c.in-Some.pick c.in-Some.ensures.lawful c.in-Some.ensures.stands c.in-Some.ensures.queues
     (of_next c.args.self.now c.in-Some.pick (λ (p : Pick). c.args.self.now.outstanding + places_in c.args.self.now.sqs.items p ≤ max_outstanding) c.in-Some.ensures.by_what_is_kept c.requires.places)
     (of_next c.args.self.now c.in-Some.pick (λ (p : Pick). p.qid ≡ 0) c.in-Some.ensures.by_what_is_kept c.requires.of_admin)
-    c.seen-seen.result c.seen-seen.ensures.seen c.index_mut-sq.result.now c.index_mut-sq.ensures.value
+    c.in_ok-seen.seen c.in_ok-seen.ensures.seen c.index_mut-sq.result.now c.index_mut-sq.ensures.value
     c.in-Some-pop.candidate c.pop.new.self.items c.in-Some-pop.ensures.items
     refl refl refl refl refl
     (λ t. set c.args.self.now.sqs.items 0 (record c.index_mut-sq.result.now { window = record { items = c.pop.ensures.rest t; room = c.pop.ensures.room t }; unposted = c.index_mut-sq.result.now.unposted + 1 }))
     refl refl
-    (c.note.ensures.items ∙ ap (λ (xs : List Event). xs ++ event.Pick c.seen-seen.result c.in-Some.pick ∷ []) c.make_room.ensures.same)
+    (c.note.ensures.items ∙ ap (λ (xs : List Event). xs ++ event.Pick c.in_ok-seen.seen c.in-Some.pick ∷ []) c.make_room.ensures.same)
     c.in_ok-make_room.ensures.within
     room)
     c.carry_out.ensures.goes
@@ -75,9 +75,9 @@ pub returns-clause-picks_of : goal.returns-clause-picks_of
 returns-clause-picks_of c =
     let s = c.args.self.now in
     let grew = c.carry_out.ensures.goes.grew in
-    let picked : List Event = event.Pick c.seen-seen.result c.in-Some.pick ∷ [] in
+    let picked : List Event = event.Pick c.in_ok-seen.seen c.in-Some.pick ∷ [] in
     record {
-      seen = c.seen-seen.result;
+      seen = c.in_ok-seen.seen;
       pick = c.in-Some.pick;
       after = grew.0;
       log_is = sym grew.1 ∙ ap (λ (xs : List Event). xs ++ grew.0) (c.note.ensures.items ∙ ap (λ (xs : List Event). xs ++ picked) c.make_room.ensures.same)

@@ -53,30 +53,30 @@ pub returns-clause-kept : goal.returns-clause-kept
 returns-clause-kept c = io-kept c.args.self.now _ c.requires.kept c.requires.admin c.requires.none_pending c.in-Some.pick c.in-Some.ensures.lawful c.in-Some.ensures.stands c.in-Some.ensures.queues
     (of_next c.args.self.now c.in-Some.pick (λ (p : Pick). c.args.self.now.outstanding + p.n ≤ max_outstanding) c.in-Some.ensures.by_what_is_kept c.requires.places)
     (of_next c.args.self.now c.in-Some.pick (λ (p : Pick). p.qid ≢ 0) c.in-Some.ensures.by_what_is_kept c.requires.io)
-    c.seen-seen.result c.seen-seen.ensures.seen
+    c.in_ok-seen.seen c.in_ok-seen.ensures.seen
     c.in-Some-sq.queue (sym c.sq.ensures ∙ c.in-Some-sq.is) c.from.result c.from.ensures c.index_mut-sq.result.now c.index_mut-sq.ensures.value
     (config_by c.args.self.now.config _) refl refl refl refl refl
     (λ t. set c.args.self.now.sqs.items c.from.result (record c.index_mut-sq.result.now { window = c.dispatch_oldest.ensures.window t; unposted = c.index_mut-sq.result.now.unposted + c.in-Some.pick.n }))
     refl c.dispatch_oldest.ensures.jobs
-    (c.note.ensures.items ∙ ap (λ (xs : List Event). xs ++ event.Pick c.seen-seen.result c.in-Some.pick ∷ []) c.make_room.ensures.same)
+    (c.note.ensures.items ∙ ap (λ (xs : List Event). xs ++ event.Pick c.in_ok-seen.seen c.in-Some.pick ∷ []) c.make_room.ensures.same)
     c.in_ok-make_room.ensures.within
 
 pub returns-clause-goes : goal.returns-clause-goes
 returns-clause-goes c = io-goes c.args.self.now _ c.requires.kept c.requires.admin c.requires.none_pending c.in-Some.pick c.in-Some.ensures.lawful c.in-Some.ensures.stands c.in-Some.ensures.queues
     (of_next c.args.self.now c.in-Some.pick (λ (p : Pick). c.args.self.now.outstanding + p.n ≤ max_outstanding) c.in-Some.ensures.by_what_is_kept c.requires.places)
     (of_next c.args.self.now c.in-Some.pick (λ (p : Pick). p.qid ≢ 0) c.in-Some.ensures.by_what_is_kept c.requires.io)
-    c.seen-seen.result c.seen-seen.ensures.seen
+    c.in_ok-seen.seen c.in_ok-seen.ensures.seen
     c.in-Some-sq.queue (sym c.sq.ensures ∙ c.in-Some-sq.is) c.from.result c.from.ensures c.index_mut-sq.result.now c.index_mut-sq.ensures.value
     (config_by c.args.self.now.config _) refl refl refl refl refl
     (λ t. set c.args.self.now.sqs.items c.from.result (record c.index_mut-sq.result.now { window = c.dispatch_oldest.ensures.window t; unposted = c.index_mut-sq.result.now.unposted + c.in-Some.pick.n }))
     refl c.dispatch_oldest.ensures.jobs
-    (c.note.ensures.items ∙ ap (λ (xs : List Event). xs ++ event.Pick c.seen-seen.result c.in-Some.pick ∷ []) c.make_room.ensures.same)
+    (c.note.ensures.items ∙ ap (λ (xs : List Event). xs ++ event.Pick c.in_ok-seen.seen c.in-Some.pick ∷ []) c.make_room.ensures.same)
     c.in_ok-make_room.ensures.within
 
 pub returns-clause-picked : goal.returns-clause-picked
 returns-clause-picked c =
-    ap picks_in c.note.ensures.items ∙ ap (λ (xs : List Event). picks_in (xs ++ event.Pick c.seen-seen.result c.in-Some.pick ∷ [])) c.make_room.ensures.same
-    ∙ picks_in-push c.args.self.now.log.items c.seen-seen.result c.in-Some.pick
+    ap picks_in c.note.ensures.items ∙ ap (λ (xs : List Event). picks_in (xs ++ event.Pick c.in_ok-seen.seen c.in-Some.pick ∷ [])) c.make_room.ensures.same
+    ∙ picks_in-push c.args.self.now.log.items c.in_ok-seen.seen c.in-Some.pick
 
 pub returns-clause-gets : goal.returns-clause-gets
 returns-clause-gets c = gets-set _ _ _ _ c.index_mut-sq.ensures.value refl

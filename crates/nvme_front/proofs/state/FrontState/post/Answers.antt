@@ -2,6 +2,7 @@
 use Rattle.std.proofs.Common.{◌≡◌, ◌∙◌, true, false, Ok, sym, ap, arith, below_more}
 use Rattle.nvme_front.specs.inside.Goes.{IsDrained}
 use Rattle.nvme_front.proofs.States.{Goes-trans, IsSame-trans, cqs-goes}
+use Rattle.nvme_front.proofs.Loading.{posts-trans}
 use Rattle.nvme_front.proofs.PostOne.{goes-longer}
 use Rattle.nvme_front.proofs.state.FrontState.post.Goals as goal
 use Rattle.nvme_front.proofs.state.FrontState.post.Goals.{then-branch, else-branch}
@@ -15,6 +16,7 @@ loop-c-preserved c =
     let goes = Goes-trans c.args.self.now c.loop-c.self c.post_region.new.self i.goes e.goes in
     let jobs = e.jobs ∙ i.jobs in
     let picks = e.picks ∙ i.picks in
+    let posts = posts-trans c.args.self.now c.loop-c.self c.post_region.new.self i.posts e.posts in
     let deletion = e.deletion ∙ i.deletion in
     let drained = below_more (λ x. IsDrained c.post_region.new.self x) c.loop-c.c (λ x below. e.others x (λ same. omega (arith, below, same)) (i.drained x below)) c.in_ok-post_region.ensures.drained in
     elim c.if-branch.branch [
@@ -27,6 +29,7 @@ loop-c-preserved c =
             goes = goes;
             jobs = jobs;
             picks = picks;
+            posts = posts;
             deletion = deletion;
             more = λ _. omega (arith, before, more);
             still = λ f. cc (f, w.posted-is);
@@ -40,6 +43,7 @@ loop-c-preserved c =
             goes = goes;
             jobs = jobs;
             picks = picks;
+            posts = posts;
             deletion = deletion;
             more = λ t. let before = i.more (sym w.posted-is ∙ t) in omega (arith, before, here);
             still = λ f. IsSame-trans c.args.self.now c.loop-c.self c.post_region.new.self (i.still (sym w.posted-is ∙ f)) (e.still r);
@@ -61,3 +65,6 @@ returns-clause-drained c = λ x within.
 
 pub returns-in_err-post_region-clause-goes : goal.returns-in_err-post_region-clause-goes
 returns-in_err-post_region-clause-goes c = Goes-trans c.args.self.now c.loop-c.self c.post_region.new.self c.loop-c.invariant.goes c.post_region.ensures.goes
+
+pub returns-in_err-post_region-clause-posts : goal.returns-in_err-post_region-clause-posts
+returns-in_err-post_region-clause-posts c = posts-trans c.args.self.now c.loop-c.self c.post_region.new.self c.loop-c.invariant.posts c.post_region.ensures.posts

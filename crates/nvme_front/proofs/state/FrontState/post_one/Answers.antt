@@ -1,5 +1,5 @@
 -- The place of the completion that became ready first is known from what stands; a post changes its two regions, and nothing where the ring is full.
-use Rattle.std.proofs.Common.{◌-◌, ◌++◌, [], ◌∷◌, ◌∙◌, Bool, not, set, sym, refl, ap, arith, inl}
+use Rattle.std.proofs.Common.{◌-◌, ◌++◌, List, [], ◌∷◌, reverse, ◌∙◌, Bool, not, set, sym, refl, ap, arith, inl}
 use Rattle.std.specs.Vec.{with_item}
 use Rattle.nvme_front.specs.declared.state.FrontState.{FrontState}
 use Rattle.nvme_log.specs.Places.{one_if}
@@ -7,6 +7,12 @@ use Rattle.nvme_state.proofs.AfterSteps.{post_event}
 use Rattle.nvme_front.proofs.States.{IsSame-refl, kept_same, Goes-same}
 use Rattle.nvme_front.proofs.PostOne.{IsPosted, none_ready, front_foremost, few_posted, put_back, same_first, front_unposted, posted-kept, posted-goes, others_drained, drained_by}
 use Rattle.nvme_log.proofs.PickCounts.{picks-noted}
+use Rattle.nvme_front.proofs.Comes.{gets-set}
+use Rattle.nvme_front.proofs.States.{past-push}
+use Rattle.nvme_front.proofs.Fetches.{noted}
+use Rattle.nvme_front.proofs.Loading.{posts-by}
+use Rattle.nvme_log.specs.declared.event.Event.{Event}
+use Rattle.nvme_log.specs.Loaded.{without_posts}
 use Rattle.nvme_front.proofs.state.FrontState.post_one.Goals as goal
 use Rattle.nvme_front.proofs.state.FrontState.post_one.Goals.{then-with_queue, else-with_queue}
 
@@ -138,3 +144,13 @@ returns-then-not-post-clause-others c = λ x other was.
     let s = c.args.self.now in
     drained_by s (record s { cqs = with_item s.cqs c.from-2.result c.post.new.self }) x
     (sym (put_back s.cqs.items c.from-2.result c.index_mut-region.result.now c.post.new.self c.index_mut-region.ensures.value (c.post.ensures.full c.if-not-post.true).0)) was
+
+pub returns-clause-posts : goal.returns-clause-posts
+returns-clause-posts c = record {
+  gets = gets-set _ _ _ _ c.index_mut-sq.ensures.value refl;
+  log = ap (λ (xs : List Event). without_posts (reverse xs)) (noted _ _ _ _ c.make_room.ensures.same c.note.ensures.items)
+      ∙ ap without_posts (past-push c.args.self.now.log.items _);
+}
+
+pub returns-then-not-post-clause-posts : goal.returns-then-not-post-clause-posts
+returns-then-not-post-clause-posts c = posts-by c.args.self.now _ c.make_room.ensures.same refl

@@ -1,6 +1,7 @@
 -- A completion after another: each makes the log longer, and where none was posted nothing changed.
 use Rattle.std.proofs.Common.{◌≡◌, ◌∙◌, true, false, Ok, ap, arith}
 use Rattle.nvme_front.proofs.States.{Goes-trans, IsSame-trans, admin-goes, cqs-goes}
+use Rattle.nvme_front.proofs.Loading.{posts-trans}
 use Rattle.nvme_front.proofs.PostOne.{goes-longer, drained_on}
 use Rattle.nvme_front.proofs.state.FrontState.post_region.Goals as goal
 
@@ -24,6 +25,7 @@ loop-posted-preserved c =
       goes = Goes-trans c.args.self.now c.loop-posted.self c.post_one.new.self i.goes e.goes;
       jobs = e.jobs ∙ i.jobs;
       picks = e.picks ∙ i.picks;
+      posts = posts-trans c.args.self.now c.loop-posted.self c.post_one.new.self i.posts e.posts;
       deletion = e.deletion ∙ i.deletion;
       others = λ x other was. e.others x other (i.others x other was);
       more = λ t. omega (arith, before, more);
@@ -60,3 +62,9 @@ returns-clause-still c = λ r.
     let none : c.loop-posted.posted ≡ false = cc r in
     let last : c.post_one.result ≡ Ok false = c.in_ok-post_one.was ∙ ap Ok c.if-branch.false in
     IsSame-trans c.args.self.now c.loop-posted.self c.post_one.new.self (c.loop-posted.invariant.still none) (c.post_one.ensures.still last).0
+
+pub returns-in_err-post_one-clause-posts : goal.returns-in_err-post_one-clause-posts
+returns-in_err-post_one-clause-posts c = posts-trans c.args.self.now c.loop-posted.self c.post_one.new.self c.loop-posted.invariant.posts c.post_one.ensures.posts
+
+pub returns-clause-posts : goal.returns-clause-posts
+returns-clause-posts c = posts-trans c.args.self.now c.loop-posted.self c.post_one.new.self c.loop-posted.invariant.posts c.post_one.ensures.posts

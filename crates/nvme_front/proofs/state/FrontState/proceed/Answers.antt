@@ -5,6 +5,8 @@ use Rattle.nvme_front.specs.inside.State.{view_of}
 use Rattle.nvme_front.specs.declared.front.Step.{Step}
 use Rattle.nvme_front.proofs.Filling.{closes_to_end}
 use Rattle.nvme_front.proofs.Still.{closed_means, log_error_means, balanced_still}
+use Rattle.nvme_front.proofs.Loading.{posts-by, posts-load}
+use Rattle.nvme_front.proofs.LoadedPick.{finish-load}
 use Rattle.nvme_front.proofs.state.FrontState.proceed.Goals as goal
 
 pub returns-in_err-finished-clause-error : goal.returns-in_err-finished-clause-error
@@ -31,3 +33,13 @@ returns-clause-to_end g c =
     subst (λ (s : Step). GoesToEnd s (view_of c.args.self.now) (view_of c.finish.new.self)) (sym c.step_after.ensures)
     (closes_to_end c.args.self.now c.finish.new.self c.in-Some.deletion c.requires.kept c.requires.admin finish.kept finish.goes c.requires.drained c.in-Some.is
     c.in_ok-finished.finished (λ t. finish.finished (ap Ok t)) (λ f. (finish.still (ap Ok f)).0))
+
+pub returns-in_err-finished-clause-loads : goal.returns-in_err-finished-clause-loads
+returns-in_err-finished-clause-loads g c =
+    posts-load c.args.self.now c.finish.new.self c.finish.ensures.goes (posts-by c.args.self.now c.finish.new.self c.in_err-finished.ensures.unclosed c.finish.ensures.sqs)
+
+pub returns-clause-loads : goal.returns-clause-loads
+returns-clause-loads g c =
+    let finish = c.in_ok-finished.ensures in
+    finish-load c.args.self.now c.finish.new.self c.in-Some.deletion c.requires.kept c.requires.admin finish.kept finish.goes finish.sqs c.in-Some.is c.in_ok-finished.finished
+    (λ t. finish.closed (ap Ok t)) (λ f. (finish.still (ap Ok f)).0)

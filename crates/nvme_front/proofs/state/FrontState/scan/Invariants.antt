@@ -1,6 +1,7 @@
 use Rattle.std.proofs.Common.{◌≡◌, ℕ, ◌<◌, length, None, true, false}
 use Rattle.nvme_front.specs.inside.Room.{IsKept}
 use Rattle.nvme_front.specs.inside.Goes.{Goes, IsSame, HasAdmin, IsScanned}
+use Rattle.nvme_front.specs.inside.Loads.{Loads}
 use Rattle.nvme_log.specs.Histories.{picks_in}
 use Rattle.nvme_front.proofs.state.FrontState.scan.Given as goal
 
@@ -11,6 +12,7 @@ invariant-loop-qid l = record {
   cqs : l.self.cqs.items ≡ l.fn.self.cqs.items;
   jobs : l.self.jobs ≡ l.fn.self.jobs;
   picks : picks_in l.self.log.items ≡ picks_in l.fn.self.log.items;
+  loads : Loads l.fn.self l.self;
   admin : HasAdmin l.self;
   none_pending : l.self.deletion ≡ None;
   more : l.fetched ≡ true → length l.fn.self.log.items < length l.self.log.items;

@@ -1,8 +1,19 @@
 -- A command after another: each makes the log longer, and where none was fetched nothing changed.
-use Rattle.std.proofs.Common.{◌≡◌, ◌∙◌, true, false, Ok, ap, arith}
+use Rattle.std.proofs.Common.{◌≡◌, ◌≢◌, ◌∙◌, ℕ, ◌<◌, true, false, Ok, ap, arith}
 use Rattle.nvme_front.proofs.States.{Goes-trans, IsSame-trans, admin-goes}
 use Rattle.nvme_front.proofs.Scans.{goes_longer, scanned_on}
+use Rattle.nvme_front.specs.declared.state.FrontState.{FrontState}
+use Rattle.nvme_front.specs.inside.Room.{IsKept}
+use Rattle.nvme_front.specs.inside.Goes.{Goes, IsScanned}
+use Rattle.nvme_front.specs.inside.Loads.{Loads}
+use Rattle.nvme_front.proofs.Loading.{loads-trans}
 use Rattle.nvme_front.proofs.state.FrontState.scan_queue.Goals as goal
+
+-- a fetch more leaves a loaded front
+next : (a b c : FrontState) (qid : ℕ) → (((q : ℕ) → q < qid → IsScanned a q) → Loads a b) → ((q : ℕ) → q ≢ qid → IsScanned a q → IsScanned b q) → IsKept b → IsKept c → Goes b c
+    → (((q : ℕ) → q < qid → IsScanned b q) → Loads b c) → ((q : ℕ) → q < qid → IsScanned a q) → Loads a c
+next a b c qid first others kept kept' goes second lower =
+    loads-trans a b c kept kept' goes (first lower) (second (λ q below. others q (λ same. omega (arith, below, same)) (lower q below)))
 
 pub loop-fetched-preserved : goal.loop-fetched-preserved
 loop-fetched-preserved c =
@@ -20,6 +31,7 @@ loop-fetched-preserved c =
       admin = admin-goes c.loop-fetched.self c.fetch_one.new.self e.goes i.admin;
       none_pending = e.none_pending;
       others = λ q other was. e.others q other (i.others q other was);
+      loads = λ lower. next c.args.self.now c.loop-fetched.self c.fetch_one.new.self c.args.qid i.loads i.others i.kept e.kept e.goes e.loads lower;
       more = λ t. omega (arith, before, more);
       still = λ f. cc f;
     }
@@ -54,3 +66,15 @@ returns-clause-still c = λ r.
     let none : c.loop-fetched.fetched ≡ false = cc r in
     let last : c.fetch_one.result ≡ Ok false = c.in_ok-fetch_one.was ∙ ap Ok c.if-branch.false in
     IsSame-trans c.args.self.now c.loop-fetched.self c.fetch_one.new.self (c.loop-fetched.invariant.still none) (c.fetch_one.ensures.still last).0
+
+pub returns-in_err-fetch_one-clause-loads : goal.returns-in_err-fetch_one-clause-loads
+returns-in_err-fetch_one-clause-loads c = λ lower.
+    let i = c.loop-fetched.invariant in
+    let e = c.fetch_one.ensures in
+    next c.args.self.now c.loop-fetched.self c.fetch_one.new.self c.args.qid i.loads i.others i.kept e.kept e.goes e.loads lower
+
+pub returns-clause-loads : goal.returns-clause-loads
+returns-clause-loads c = λ lower.
+    let i = c.loop-fetched.invariant in
+    let e = c.fetch_one.ensures in
+    next c.args.self.now c.loop-fetched.self c.fetch_one.new.self c.args.qid i.loads i.others i.kept e.kept e.goes e.loads lower

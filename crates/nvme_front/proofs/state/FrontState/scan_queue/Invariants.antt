@@ -1,6 +1,7 @@
 use Rattle.std.proofs.Common.{◌≡◌, ◌≢◌, ℕ, ◌-◌, ◌<◌, length, None, true, false}
 use Rattle.nvme_front.specs.inside.Room.{IsKept}
 use Rattle.nvme_front.specs.inside.Goes.{Goes, IsSame, HasAdmin, IsScanned}
+use Rattle.nvme_front.specs.inside.Loads.{Loads}
 use Rattle.nvme_log.specs.Histories.{picks_in}
 use Rattle.nvme_front.proofs.state.FrontState.scan_queue.Given as goal
 
@@ -14,6 +15,7 @@ invariant-loop-fetched l = record {
   admin : HasAdmin l.self;
   none_pending : l.self.deletion ≡ None;
   others : (q : ℕ) → q ≢ l.fn.qid → IsScanned l.fn.self q → IsScanned l.self q;
+  loads : ((q : ℕ) → q < l.fn.qid → IsScanned l.fn.self q) → Loads l.fn.self l.self;
   more : l.fetched ≡ true → length l.fn.self.log.items < length l.self.log.items;
   still : l.fetched ≡ false → IsSame l.fn.self l.self;
 }

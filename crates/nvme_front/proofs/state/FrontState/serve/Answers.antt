@@ -1,4 +1,4 @@
-use Rattle.std.proofs.Common.{ℕ, ◌+◌, Ok, Err, ap, sym, subst, ◌∙◌}
+use Rattle.std.proofs.Common.{ℕ, ◌+◌, List, reverse, Ok, Err, ap, sym, subst, ◌∙◌}
 use Rattle.std.proofs.lemmas.Result.{err_from_is_err_and}
 use Rattle.nvme_log.specs.Histories.{picks_in}
 use Rattle.nvme_front.proofs.States.{Goes-trans, admin-goes}
@@ -9,6 +9,10 @@ use Rattle.nvme_front.specs.inside.State.{view_of}
 use Rattle.nvme_front.specs.declared.front.Step.{Step}
 use Rattle.nvme_front.proofs.Filling.{drained_later, picks_one, serves_to_end}
 use Rattle.nvme_front.proofs.Scans.{scanned_same}
+use Rattle.nvme_log.specs.declared.event.Event.{Event}
+use Rattle.nvme_log.specs.Loaded.{without_posts}
+use Rattle.nvme_front.proofs.Loading.{posts-by, posts-load, loads-trans}
+use Rattle.nvme_front.proofs.LoadedPick.{pick-load, look-load}
 use Rattle.nvme_front.proofs.state.FrontState.serve.Goals as goal
 
 pub returns-in_err-fetched-clause-error : goal.returns-in_err-fetched-clause-error
@@ -81,3 +85,34 @@ returns-in_default-clause-to_end g c =
     (serves_to_end c.args.self.now c.scan.new.self c.pick.new.self scan.kept (admin-goes c.args.self.now c.scan.new.self scan.goes c.requires.admin)
     scan.scanned drained pick.kept scan.goes pick.goes scan.picks pick.gets c.in_ok-fetched.fetched c.in_ok-picked.picked
     (λ e. pick.picks_of (ap Ok e)) (λ e. pick.never_moved (ap Ok e)) (λ e. (pick.idle (ap Ok e)).0) (λ e. (pick.stalled (ap Ok e)).0))
+
+pub returns-in_err-picked-clause-loads : goal.returns-in_err-picked-clause-loads
+returns-in_err-picked-clause-loads g c =
+    let pick = c.pick.ensures in
+    loads-trans c.args.self.now c.scan.new.self c.pick.new.self c.scan.ensures.kept pick.kept pick.goes c.scan.ensures.loads
+    (posts-load c.scan.new.self c.pick.new.self pick.goes
+    (record { gets = pick.gets; log = ap (λ (xs : List Event). without_posts (reverse xs)) c.in_err-picked.ensures.unpicked }))
+
+pub returns-in-Picked-clause-loads : goal.returns-in-Picked-clause-loads
+returns-in-Picked-clause-loads g c =
+    let a = c.args.self.now in
+    let s = c.scan.new.self in
+    let p = c.pick.new.self in
+    let t = c.hand.new.self in
+    let scan = c.in_ok-fetched.ensures in
+    let pick = c.in_ok-picked.ensures in
+    let picked = pick-load s p scan.kept (admin-goes a s scan.goes c.requires.admin) pick.kept pick.goes scan.scanned pick.gets
+    (pick.picks_of (ap Ok c.in-Picked.is)) (pick.picked (ap Ok c.in-Picked.is)) in
+    loads-trans a p t pick.kept c.hand.ensures.kept c.hand.ensures.goes (loads-trans a s p scan.kept pick.kept pick.goes scan.loads picked)
+    (posts-load p t c.hand.ensures.goes (posts-by p t c.hand.ensures.log c.hand.ensures.sqs))
+
+pub returns-in_default-clause-loads : goal.returns-in_default-clause-loads
+returns-in_default-clause-loads g c =
+    let a = c.args.self.now in
+    let s = c.scan.new.self in
+    let p = c.pick.new.self in
+    let scan = c.in_ok-fetched.ensures in
+    let pick = c.in_ok-picked.ensures in
+    loads-trans a s p scan.kept pick.kept pick.goes scan.loads
+    (look-load s p scan.kept (admin-goes a s scan.goes c.requires.admin) pick.kept pick.goes scan.scanned pick.gets c.in_ok-picked.picked
+    (λ e. pick.picks_of (ap Ok e)) (λ e. pick.picked (ap Ok e)) (λ e. pick.never_moved (ap Ok e)) (λ e. (pick.idle (ap Ok e)).0) (λ e. (pick.stalled (ap Ok e)).0))

@@ -6,6 +6,7 @@ use Rattle.nvme_front.specs.inside.State.{view_of}
 use Rattle.nvme_front.specs.declared.front.Step.{Step}
 use Rattle.nvme_front.proofs.Filling.{to_end_after}
 use Rattle.nvme_front.proofs.Still.{turn_means, error_since, balanced_trans}
+use Rattle.nvme_front.proofs.Loading.{posts-load, loads-trans}
 use Rattle.nvme_front.proofs.state.FrontState.turn.Goals as goal
 
 pub proceed-requires-clause-admin : goal.proceed-requires-clause-admin
@@ -40,3 +41,16 @@ returns-clause-to_end g c =
     subst (λ (s : Step). GoesToEnd s (view_of c.args.self.now) (view_of c.proceed.new.self)) (sym c.step_after.ensures)
     (to_end_after c.args.self.now c.catch_up.new.self c.requires.kept c.requires.admin up.kept up.goes up.deletion up.picks c.proceed.new.self
     c.in_ok-moved.moved c.in_ok-step.step c.in_ok-step.ensures.to_end)
+
+pub returns-in_err-moved-clause-loads : goal.returns-in_err-moved-clause-loads
+returns-in_err-moved-clause-loads g c = posts-load c.args.self.now c.catch_up.new.self c.catch_up.ensures.goes c.catch_up.ensures.posts
+
+pub returns-in_err-step-clause-loads : goal.returns-in_err-step-clause-loads
+returns-in_err-step-clause-loads g c =
+    loads-trans c.args.self.now c.catch_up.new.self c.proceed.new.self c.catch_up.ensures.kept c.proceed.ensures.kept c.proceed.ensures.goes
+    (posts-load c.args.self.now c.catch_up.new.self c.catch_up.ensures.goes c.catch_up.ensures.posts) c.proceed.ensures.loads
+
+pub returns-clause-loads : goal.returns-clause-loads
+returns-clause-loads g c =
+    loads-trans c.args.self.now c.catch_up.new.self c.proceed.new.self c.catch_up.ensures.kept c.proceed.ensures.kept c.proceed.ensures.goes
+    (posts-load c.args.self.now c.catch_up.new.self c.catch_up.ensures.goes c.catch_up.ensures.posts) c.proceed.ensures.loads
