@@ -56,9 +56,8 @@ static void boards(uint32_t mechanism, uint16_t queues, const char *what)
     nvmearb_board board;
     nvmearb_pick pick;
     nvmearb_board_init(&board, mechanism, 0);
-    for (uint16_t qid = queues > 16 ? 0 : 1; qid <= (queues > 16 ? 16 : queues); qid++) {
-        uint16_t priority = qid ? (uint16_t)(qid % 4 + 1) : NVMEARB_ADMIN;
-        if (nvmearb_board_open(&board, qid, priority) || nvmearb_board_came(&board, qid) || nvmearb_board_came(&board, qid)) {
+    for (uint16_t qid = 1; qid <= queues; qid++) {
+        if (nvmearb_board_open(&board, qid, (uint16_t)(qid % 4 + 1)) || nvmearb_board_came(&board, qid) || nvmearb_board_came(&board, qid)) {
             give_up();
         }
     }
@@ -79,20 +78,20 @@ static void put_entry(uint8_t bytes[NVMEARB_SQE_BYTES], uint8_t opcode, uint64_t
     nvmearb_sqe_encode(&entry, bytes);
 }
 
-/* Applies an admin entry again and again to a table of 17 regions of each kind, all of them used. */
+/* Applies an admin entry again and again to a table of 65 regions of each kind, all of them used. */
 static void applies(uint8_t opcode, uint64_t prp1, uint32_t cdw10, uint32_t cdw11, const char *what)
 {
     nvmearb_table table;
     nvmearb_answer answer;
     uint8_t bytes[NVMEARB_SQE_BYTES];
     uint16_t number;
-    nvmearb_table_init(&table, 16, 16, 0);
-    for (uint16_t k = 0; k <= 16; k++) {
+    nvmearb_table_init(&table, NVMEARB_MAX_IO_QUEUES, NVMEARB_MAX_IO_QUEUES, 0);
+    for (uint16_t k = 0; k < NVMEARB_MAX_REGIONS; k++) {
         if (nvmearb_table_add_sq_region(&table, k, 8, &number) || nvmearb_table_add_cq_region(&table, 100u + k, 8, &number)) {
             give_up();
         }
     }
-    for (uint32_t q = 1; q <= 16; q++) {
+    for (uint32_t q = 1; q <= NVMEARB_MAX_IO_QUEUES; q++) {
         put_entry(bytes, 0x05, 100 + q, 0x00070000 + q, 1);
         nvmearb_table_apply(&table, bytes, &answer);
         put_entry(bytes, 0x01, q, 0x00070000 + q, q * 0x10000 + 1);
@@ -118,9 +117,9 @@ int main(int words, char **word)
     picks(NVMEARB_ROUND_ROBIN, "arbiter, round robin, 16 ready queues: picks");
     picks(NVMEARB_WEIGHTED, "arbiter, weighted, 16 ready queues: picks");
     boards(NVMEARB_ROUND_ROBIN, 2, "board, round robin, 2 ready queues: picks");
-    boards(NVMEARB_ROUND_ROBIN, 17, "board, round robin, 17 ready queues: picks");
+    boards(NVMEARB_ROUND_ROBIN, 64, "board, round robin, 64 ready queues: picks");
     boards(NVMEARB_WEIGHTED, 2, "board, weighted, 2 ready queues: picks");
-    boards(NVMEARB_WEIGHTED, 17, "board, weighted, 17 ready queues: picks");
+    boards(NVMEARB_WEIGHTED, 64, "board, weighted, 64 ready queues: picks");
     applies(0x0a, 0, 0x01, 0, "table, get features: entries");
     applies(0x09, 0, 0x01, 0x03010001, "table, set features: entries");
     applies(0x01, 99, 0x00070010, 0x00010001, "table, create refused: entries");

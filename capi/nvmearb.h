@@ -123,8 +123,8 @@ typedef struct nvmearb_settings {
 #define NVMEARB_LOW 4u
 
 /* The most submission queues, the admin queue among them, and the most commands that are seen of one. */
-#define NVMEARB_MAX_QUEUES 17
-#define NVMEARB_MAX_COUNT 255
+#define NVMEARB_MAX_QUEUES 65
+#define NVMEARB_MAX_COUNT 256
 
 /*
  * An arbiter. nvmearb_arbiter_init writes it, and it may be copied. Its fields are the library's: a caller that writes
@@ -139,7 +139,7 @@ typedef struct nvmearb_arbiter {
 
 /* A submission queue as arbitration sees it. */
 typedef struct nvmearb_seen {
-    uint16_t qid;      /* 0 is the admin queue, 1 to 16 an I/O queue */
+    uint16_t qid;      /* 0 is the admin queue, 1 to 64 an I/O queue */
     uint16_t priority; /* NVMEARB_ADMIN for queue 0 and for no other, .. NVMEARB_LOW */
     uint16_t count;    /* how many of its commands wait, 0 to NVMEARB_MAX_COUNT */
 } nvmearb_seen;
@@ -163,13 +163,13 @@ typedef struct nvmearb_board {
 } nvmearb_board;
 
 /* The most regions of a kind, the admin queue's among them, and the most I/O queues of a kind. */
-#define NVMEARB_MAX_REGIONS 17
-#define NVMEARB_MAX_IO_QUEUES 16
+#define NVMEARB_MAX_REGIONS 65
+#define NVMEARB_MAX_IO_QUEUES 64
 
 /* A region: the place of one ring. A Create command names it by its address. */
 typedef struct nvmearb_region {
     uint64_t address;
-    uint16_t slots; /* 2 to 256 */
+    uint16_t slots; /* 2 to 4096 */
 } nvmearb_region;
 
 /*
@@ -282,7 +282,7 @@ uint32_t nvmearb_board_init(nvmearb_board *board, uint32_t mechanism, uint32_t c
 
 /*
  * Opens a queue, in which no command waits. Of each board function: NVMEARB_ESTATE where the board is none.
- * NVMEARB_EARG where it is open, `qid` is above 16, there is no such priority, or one but not the other is the admin
+ * NVMEARB_EARG where it is open, `qid` is above 64, there is no such priority, or one but not the other is the admin
  * queue's.
  */
 uint32_t nvmearb_board_open(nvmearb_board *board, uint16_t qid, uint16_t priority);
@@ -320,7 +320,7 @@ uint32_t nvmearb_table_init(nvmearb_table *table, uint16_t nsq, uint16_t ncq, ui
  * which is open from then on. A region is used by at most one queue, once.
  * Of each table function: NVMEARB_ESTATE exactly where the table is none. Then the first of these that is the case:
  * NVMEARB_EUSED where a region of either kind has the address, NVMEARB_EMANY where NVMEARB_MAX_REGIONS of this kind are
- * there, NVMEARB_ESIZE where `slots` isn't 2 to 256.
+ * there, NVMEARB_ESIZE where `slots` isn't 2 to 4096.
  */
 uint32_t nvmearb_table_add_sq_region(nvmearb_table *table, uint64_t address, uint16_t slots, uint16_t *number);
 

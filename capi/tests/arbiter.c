@@ -81,7 +81,7 @@ static void refused(void)
     static const nvmearb_seen bad[][2] = {
         {{1, NVMEARB_HIGH, 1}, {1, NVMEARB_HIGH, 1}}, {{2, NVMEARB_HIGH, 1}, {1, NVMEARB_HIGH, 1}},
         {{0, NVMEARB_HIGH, 1}, {1, NVMEARB_HIGH, 1}}, {{1, NVMEARB_ADMIN, 1}, {2, NVMEARB_HIGH, 1}},
-        {{1, NVMEARB_HIGH, 1}, {17, NVMEARB_HIGH, 1}}, {{1, NVMEARB_HIGH, 256}, {2, NVMEARB_HIGH, 1}},
+        {{1, NVMEARB_HIGH, 1}, {65, NVMEARB_HIGH, 1}}, {{1, NVMEARB_HIGH, 257}, {2, NVMEARB_HIGH, 1}},
         {{1, 5, 1}, {2, NVMEARB_HIGH, 1}},
     };
     nvmearb_seen many[NVMEARB_MAX_QUEUES + 1] = {{0, 0, 0}};

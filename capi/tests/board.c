@@ -5,7 +5,7 @@
 
 #include "tell.h"
 
-_Static_assert(sizeof(nvmearb_board) == 108, "nvmearb_board");
+_Static_assert(sizeof(nvmearb_board) == 300, "nvmearb_board");
 
 static void open_and_close(void)
 {
@@ -14,7 +14,7 @@ static void open_and_close(void)
     CHECK(nvmearb_board_init(&board, NVMEARB_WEIGHTED, 0x03010001) == NVMEARB_OK);
     CHECK(nvmearb_board_open(&board, 0, NVMEARB_HIGH) == NVMEARB_EARG);
     CHECK(nvmearb_board_open(&board, 1, NVMEARB_ADMIN) == NVMEARB_EARG);
-    CHECK(nvmearb_board_open(&board, 17, NVMEARB_HIGH) == NVMEARB_EARG);
+    CHECK(nvmearb_board_open(&board, 65, NVMEARB_HIGH) == NVMEARB_EARG);
     CHECK(nvmearb_board_open(&board, 1, 5) == NVMEARB_EARG);
     CHECK(nvmearb_board_open(&board, 1, NVMEARB_HIGH) == NVMEARB_OK);
     CHECK(nvmearb_board_open(&board, 1, NVMEARB_HIGH) == NVMEARB_EARG);
@@ -32,7 +32,7 @@ static void open_and_close(void)
     CHECK(pick.qid == 1 && pick.n == 2 && pick.fresh == 0);
     CHECK(nvmearb_board_close(&board, 1) == NVMEARB_OK);
     CHECK(nvmearb_board_close(&board, 1) == NVMEARB_EARG);
-    CHECK(nvmearb_board_close(&board, 17) == NVMEARB_EARG);
+    CHECK(nvmearb_board_close(&board, 65) == NVMEARB_EARG);
     CHECK(nvmearb_board_pick(&board, &pick) == NVMEARB_NONE);
     memset(&board, 0, sizeof board);
     CHECK(nvmearb_board_open(&board, 1, NVMEARB_HIGH) == NVMEARB_ESTATE);

@@ -6,7 +6,7 @@
 #include "tell.h"
 
 _Static_assert(sizeof(nvmearb_region) == 16, "nvmearb_region");
-_Static_assert(sizeof(nvmearb_table) == 728, "nvmearb_table");
+_Static_assert(sizeof(nvmearb_table) == 2744, "nvmearb_table");
 _Static_assert(sizeof(nvmearb_answer) == 24, "nvmearb_answer");
 _Static_assert(offsetof(nvmearb_answer, cid) == 22, "nvmearb_answer");
 _Static_assert(sizeof(nvmearb_queue) == 8, "nvmearb_queue");
@@ -70,7 +70,8 @@ static void create_refusals(void)
     nvmearb_table t;
     prepare(&t, 16, 16);
     CHECK(is_refused(&t, CREATE_SQ, 0x3000, 0x00000003, 0x00010003, 1, 0x02));
-    CHECK(is_refused(&t, CREATE_SQ, 0x3000, 0x01000003, 0x00010003, 1, 0x02));
+    CHECK(is_refused(&t, CREATE_SQ, 0x3000, 0x10000003, 0x00010003, 1, 0x02));
+    CHECK(is_refused(&t, CREATE_SQ, 0x3000, 0x01000003, 0x00010003, 0, 0x02));
     CHECK(is_refused(&t, CREATE_SQ, 0x3000, 0x00070001, 0x00010003, 1, 0x01));
     CHECK(is_refused(&t, CREATE_SQ, 0x3000, 0x00070011, 0x00010003, 1, 0x01));
     CHECK(is_refused(&t, CREATE_SQ, 0x3000, 0x00070003, 0x00020003, 1, 0x00));
@@ -162,15 +163,15 @@ static void regions(void)
     uint16_t number = 0xeeee, region;
     memset(&t, 0xee, sizeof t);
     memcpy(&before, &t, sizeof before);
-    CHECK(nvmearb_table_init(&t, 0, 1, 0) == NVMEARB_EARG && nvmearb_table_init(&t, 1, 17, 0) == NVMEARB_EARG);
+    CHECK(nvmearb_table_init(&t, 0, 1, 0) == NVMEARB_EARG && nvmearb_table_init(&t, 1, 65, 0) == NVMEARB_EARG);
     CHECK(memcmp(&before, &t, sizeof t) == 0);
     CHECK(nvmearb_table_add_sq_region(&t, 0, 8, &number) == NVMEARB_ESTATE && number == 0xeeee);
     CHECK(nvmearb_table_init(&t, 1, 1, 0) == NVMEARB_OK);
     CHECK(nvmearb_table_sq(&t, 0, &queue) == NVMEARB_NONE && nvmearb_table_cq(&t, 0, &region) == NVMEARB_NONE);
     CHECK(nvmearb_table_add_sq_region(&t, 1, 1, &number) == NVMEARB_ESIZE);
-    CHECK(nvmearb_table_add_cq_region(&t, 1, 257, &number) == NVMEARB_ESIZE);
+    CHECK(nvmearb_table_add_cq_region(&t, 1, 4097, &number) == NVMEARB_ESIZE);
     for (uint16_t k = 0; k < NVMEARB_MAX_REGIONS; k++) {
-        CHECK(nvmearb_table_add_sq_region(&t, k, 256, &number) == NVMEARB_OK && number == k);
+        CHECK(nvmearb_table_add_sq_region(&t, k, 4096, &number) == NVMEARB_OK && number == k);
         CHECK(nvmearb_table_add_cq_region(&t, k, 2, &number) == NVMEARB_EUSED && number == k);
     }
     memcpy(&before, &t, sizeof before);
@@ -178,7 +179,7 @@ static void regions(void)
     CHECK(nvmearb_table_add_sq_region(&t, 99, 0, &number) == NVMEARB_EMANY);
     CHECK(memcmp(&before, &t, sizeof t) == 0);
     CHECK(nvmearb_table_sq(&t, 0, &queue) == NVMEARB_OK && queue.priority == NVMEARB_ADMIN && queue.closing == 0);
-    CHECK(nvmearb_table_sq(&t, 17, &queue) == NVMEARB_NONE && nvmearb_table_cq(&t, 65535, &region) == NVMEARB_NONE);
+    CHECK(nvmearb_table_sq(&t, 65, &queue) == NVMEARB_NONE && nvmearb_table_cq(&t, 65535, &region) == NVMEARB_NONE);
     CHECK(nvmearb_table_add_cq_region(&t, 99, 2, &number) == NVMEARB_OK && number == 0);
     CHECK(nvmearb_table_cq(&t, 0, &region) == NVMEARB_OK && region == 0);
 }
@@ -186,12 +187,12 @@ static void regions(void)
 /* Makes drawn bytes a state that is taken. */
 static void mend(nvmearb_table *t)
 {
-    t->nsq = 1 + t->nsq % 16, t->ncq = 1 + t->ncq % 16;
+    t->nsq = 1 + t->nsq % NVMEARB_MAX_IO_QUEUES, t->ncq = 1 + t->ncq % NVMEARB_MAX_IO_QUEUES;
     t->sq_count %= NVMEARB_MAX_REGIONS + 1, t->cq_count %= NVMEARB_MAX_REGIONS + 1;
     t->numbers_set &= 1, t->created &= 1;
     for (int k = 0; k < NVMEARB_MAX_REGIONS; k++) {
-        t->sq_regions[k].address %= 64, t->sq_regions[k].slots %= 4;
-        t->cq_regions[k].address %= 64, t->cq_regions[k].slots %= 4;
+        t->sq_regions[k].address %= 512, t->sq_regions[k].slots %= 4;
+        t->cq_regions[k].address %= 512, t->cq_regions[k].slots %= 4;
         t->sqs[k].priority %= 6, t->sqs[k].cqid %= 20, t->sqs[k].closing &= 1;
         t->cqs[k].open &= 1;
         t->sq_used[k] &= 1, t->cq_used[k] &= 1;
@@ -221,16 +222,16 @@ static void random_calls(void)
         if (is_taken) {
             mend(&table);
         } else {
-            table.nsq = (uint16_t)(word | 32);
+            table.nsq = (uint16_t)(word | 128);
         }
         memcpy(&before, &table, sizeof before);
         memset(&answer, 0xee, sizeof answer);
         switch (word % 8) {
         case 0:
-            told = nvmearb_table_add_sq_region(&table, more % 64, (uint16_t)(word >> 32) % 300, &a);
+            told = nvmearb_table_add_sq_region(&table, more % 512, (uint16_t)(word >> 32) % 8192, &a);
             break;
         case 1:
-            told = nvmearb_table_add_cq_region(&table, more % 64, (uint16_t)(word >> 32) % 300, &a);
+            told = nvmearb_table_add_cq_region(&table, more % 512, (uint16_t)(word >> 32) % 8192, &a);
             break;
         case 2:
             told = nvmearb_table_finish_delete(&table, qid);
@@ -245,7 +246,7 @@ static void random_calls(void)
             break;
         default:
             bytes[0] = (uint8_t)(more % 12);
-            bytes[24] = (uint8_t)(more >> 8) % 64;
+            bytes[24] = (uint8_t)(more >> 8), bytes[25] = (uint8_t)(more >> 48) % 2;
             bytes[40] = (uint8_t)(more >> 16) % 20;
             bytes[42] = (uint8_t)(more >> 24) % 4;
             bytes[44] = (uint8_t)(more >> 32);

@@ -1,6 +1,6 @@
 // The board over a state of the caller's.
 ghost use Rattle.std.specs.Prelude.{◌≡◌, ◌≢◌, ◌+◌, ◌-◌, ◌≤◌, ◌⊎◌, ◌↔◌, [], ◌∷◌, Some, None, IsTrue, IsFalse, IsNone, IsSome, IfSome, slice_set, replicate};
-ghost use Rattle.nvme_arbiter.specs.Limits.{highest_qid, queue_limit};
+ghost use Rattle.nvme_arbiter.specs.Limits.{highest_qid, highest_count, queue_limit};
 ghost use Rattle.nvme_arbiter.specs.Settings.{ArbitrationFields, settings_of};
 ghost use Rattle.nvme_arbiter.specs.Observation.{IsObservation, IsSeen};
 ghost use Rattle.nvme_arbiter.specs.History.{History, Picked, Changed};
@@ -111,7 +111,7 @@ pub extern "C" fn nvmearb_board_close(board: &mut BoardFields, qid: u16) -> u32
     OK
 }
 
-/// One more command waits in an open queue, 255 at most.
+/// One more command waits in an open queue, 256 at most.
 #[unsafe(no_mangle)]
 pub extern "C" fn nvmearb_board_came(board: &mut BoardFields, qid: u16) -> u32
     ensures bad_state { result ≡ BAD_STATE → IsBoard board.old → ⊥ }
@@ -120,7 +120,7 @@ pub extern "C" fn nvmearb_board_came(board: &mut BoardFields, qid: u16) -> u32
     ensures was_open { result ≡ OK → IsSome (queue_at (slots_of board.old.queues) qid) }
     ensures came { result ≡ OK → IfSome (queue_at (slots_of board.old.queues) qid) (λ it. board_of board.new ≡ record (board_of board.old) { queues = slice_set (slots_of board.old.queues) qid (Some (record it { count = it.count + 1 })) }) }
     ensures board { result ≡ OK → IsBoard board.new }
-    ensures refused { result ≡ BAD_ARGUMENT → IfSome (queue_at (slots_of board.old.queues) qid) (λ it. 255 ≤ it.count) }
+    ensures refused { result ≡ BAD_ARGUMENT → IfSome (queue_at (slots_of board.old.queues) qid) (λ it. highest_count ≤ it.count) }
     ensures unchanged { result ≢ OK → board.new ≡ board.old }
 {
     if !is_board(board) {

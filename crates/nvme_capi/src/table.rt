@@ -29,7 +29,7 @@ fn keep(state: &mut TableFields, table: Table)
     *state = fields_of_parts(&table.into_parts());
 }
 
-/// Makes a queue table with no region. It allots at most so many I/O queues of each kind, 1 to 16.
+/// Makes a queue table with no region. It allots at most so many I/O queues of each kind, 1 to 64.
 #[unsafe(no_mangle)]
 pub extern "C" fn nvmearb_table_init(state: &mut TableFields, nsq: u16, ncq: u16, cdw11: u32) -> u32
     ensures refused { (result ≡ BAD_ARGUMENT) ↔ (IsFalse (is_limit nsq) ⊎ IsFalse (is_limit ncq)) }
@@ -63,8 +63,8 @@ fn refusal(error: AdminError) -> u32
 }
 
 /// Adds a submission region, and writes its number, which counts from 0. Region 0 is the admin queue's. The first
-/// refusal that is the case is answered: the address is that of a region of either kind, 17 regions of this kind are
-/// there, the number of slots is outside 2 to 256.
+/// refusal that is the case is answered: the address is that of a region of either kind, 65 regions of this kind are
+/// there, the number of slots is outside 2 to 4,096.
 #[unsafe(no_mangle)]
 pub extern "C" fn nvmearb_table_add_sq_region(
     state: &mut TableFields,
@@ -227,7 +227,7 @@ pub extern "C" fn nvmearb_table_cq(state: &TableFields, qid: u16, region: &mut u
     }
 }
 
-/// Writes how many I/O queues of each kind are allotted, 1 to 16.
+/// Writes how many I/O queues of each kind are allotted, 1 to 64.
 #[unsafe(no_mangle)]
 pub extern "C" fn nvmearb_table_allotted(state: &TableFields, nsq: &mut u16, ncq: &mut u16) -> u32
     ensures bad_state { (result ≡ BAD_STATE) ↔ IsFalse (is_table state.now) }
