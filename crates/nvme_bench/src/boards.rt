@@ -62,7 +62,7 @@ fn pick_from_list(arbiter: &mut Arbiter, board: &Board, count: u32) {
     }
 }
 
-/// Measures picks of both mechanisms over 2, 8 and 17 queues with burst 1.
+/// Measures picks of both mechanisms over 2, 16 and 64 queues with burst 1.
 pub fn measure<R: Clock + Eprint + Alloc>(
     rt: &R,
     yardstick: Yardstick,
@@ -72,7 +72,7 @@ pub fn measure<R: Clock + Eprint + Alloc>(
         (Mechanism::RoundRobin, "round robin"),
         (Mechanism::Weighted, "weighted"),
     ] {
-        for queues in [2, 8, 17] {
+        for queues in [2, 16, 64] {
             let mut board = ready_board(mechanism, queues);
             let start = Instant::now(rt)?;
             pick_from_board(&mut board, count);

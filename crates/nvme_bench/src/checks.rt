@@ -3,7 +3,7 @@ use crate::boards::{come, pick_from_board, ready_board};
 use crate::rates::{Yardstick, tell};
 use anyhow::Result;
 use nvme_arbiter::{Mechanism, Settings};
-use nvme_log::Event;
+use nvme_log::{Event, Listed};
 use nvme_trace::{check, write_trace};
 use std::alloc::Global;
 use std::rt::Clock;
@@ -21,6 +21,7 @@ fn trace_of(alloc: Global, mechanism: Mechanism, count: u32) -> Result<Vec<u8>> 
     for _ in 0..count {
         let seen = board.seen();
         if let Some(pick) = board.pick() {
+            let seen = Listed::of(alloc, &seen)?;
             log.push(Event::Pick { seen, pick })?;
             come(&mut board, pick.qid);
         }

@@ -103,13 +103,13 @@ fn measure_one<R: Clock + Eprint + Alloc<A = std::alloc::Global> + Threads>(
     tell(rt, yardstick, what.as_str(), count, took)
 }
 
-/// Measures rings of 2, 16 and 256 slots.
+/// Measures rings of 2, 256 and 4,096 slots.
 pub fn measure<R: Clock + Eprint + Alloc<A = std::alloc::Global> + Threads>(
     rt: &R,
     yardstick: Yardstick,
     count: u32,
 ) -> io::Result<()> {
-    for slots in [2, 16, 256] {
+    for slots in [2, 256, 4096] {
         measure_one(rt, yardstick, slots, count)?;
     }
     Ok(())

@@ -63,7 +63,7 @@ impl<R: Clock> Write for Counter<'_, R> {
 // The settings and limits of a workload, and the table of the admin queue, which creates so many queues of each kind.
 fn put_admin(text: &mut String, queues: u16, burst: u32) -> Result<()> {
     writeln!(text, "mechanism = \"round-robin\"\narbitration = {burst}")?;
-    text.push_str("sq_limit = 16\ncq_limit = 16\n")?;
+    text.push_str("sq_limit = 64\ncq_limit = 64\n")?;
     text.push_str("patience = 4294967295\nnamespaces = [1000]\n")?;
     text.push_str("[[submission]]\naddress = 0\nslots = 64\nscript = [\n")?;
     for queue in 1..=queues {
@@ -185,7 +185,7 @@ fn measure_growth<R: Clock + Eprint + Alloc<A = Global> + Threads + Wait + Sync>
     Ok(())
 }
 
-/// Measures commands through front, workers and rings: with 1, 4 and 16 I/O queues and 1, 2 and 4 workers at a burst of
+/// Measures commands through front, workers and rings: with 1, 16 and 64 I/O queues and 1, 2 and 4 workers at a burst of
 /// 16, with 2 workers at a burst of 1, and in longer and longer runs.
 pub fn measure<R: Clock + Eprint + Alloc<A = Global> + Threads + Wait + Sync>(
     rt: &R,
@@ -193,7 +193,7 @@ pub fn measure<R: Clock + Eprint + Alloc<A = Global> + Threads + Wait + Sync>(
     count: u32,
 ) -> Result<()> {
     let commands = count.min(MOST);
-    for queues in [1u16, 4, 16] {
+    for queues in [1u16, 16, 64] {
         for (workers, burst) in [(1, 4), (2, 4), (4, 4), (2, 0)] {
             let shape = Shape {
                 queues,

@@ -1,4 +1,4 @@
-// Admin entries that are applied to a queue table of 17 regions of each kind, all of them used.
+// Admin entries that are applied to a queue table of 65 regions of each kind, all of them used.
 use crate::rates::{Yardstick, tell};
 use nvme_admin::{Limits, MAX_IO_QUEUES, Table};
 use nvme_arbiter::Settings;
@@ -20,7 +20,13 @@ fn entry(opcode: u8, prp1: u64, cdw10: u32, cdw11: u32) -> Sqe {
 
 // The table, with a queue of each kind on each region.
 fn full_table() -> Table {
-    let mut table = Table::new(Limits { nsq: 16, ncq: 16 }, Settings::from_cdw11(0));
+    let mut table = Table::new(
+        Limits {
+            nsq: MAX_IO_QUEUES,
+            ncq: MAX_IO_QUEUES,
+        },
+        Settings::from_cdw11(0),
+    );
     for k in 0..=MAX_IO_QUEUES {
         let _ = table.add_sq_region(u64::from(k), 8);
         let _ = table.add_cq_region(100 + u64::from(k), 8);

@@ -27,4 +27,6 @@ mod starved;
 #[cfg(test)]
 mod threads;
 #[cfg(test)]
+mod windows;
+#[cfg(test)]
 mod working;

@@ -72,9 +72,9 @@ fn put_end(alloc: Global, address: u64, slots: u16) -> Result<PutEnd<Cqe>, Fail>
     Ok(put)
 }
 
-// Adds 17 submission regions, then a completion region with the address of one, and then an 18th.
+// Adds 65 submission regions, then a completion region with the address of one, and then a 66th.
 fn add_too_many(rt: &impl Abort, alloc: Global, front: &mut Front) -> Result<(), Fail> {
-    for region in 0..17 {
+    for region in 0..65 {
         let end = get_end(alloc, 0x1000 * u64::from(region), 8)?;
         assert_eq!(rt; add_sq_again(front, end)?, region);
     }

@@ -80,7 +80,7 @@ fn is_as_prepared(table: &Table) -> bool {
         && table.sq(3).is_none()
         && table.cq(2).is_none()
         && table.cq(3).is_none()
-        && table.sq(17).is_none()
+        && table.sq(65).is_none()
         && table.cq(0) == Some(0)
         && table.sq(0).is_some()
 }
@@ -94,8 +94,12 @@ fn create_sq_refusals(rt: HostRuntime) -> Result<(), Fail> {
             Status::INVALID_QUEUE_SIZE,
         ),
         (
-            entry(1, 0x3000, 0x0100_0003, 0x0001_0003),
+            entry(1, 0x3000, 0x1000_0003, 0x0001_0003),
             Status::INVALID_QUEUE_SIZE,
+        ),
+        (
+            entry(1, 0x3000, 0x0100_0003, 0x0001_0003),
+            Status::INVALID_FIELD,
         ),
         (
             entry(1, 0x3000, 0x0007_0001, 0x0001_0003),
@@ -170,7 +174,8 @@ fn create_cq_refusals(rt: HostRuntime) -> Result<(), Fail> {
     let mut table = prepared(&rt, 16, 16)?;
     let refused = [
         (entry(5, 0xa000, 0x0000_0003, 1), Status::INVALID_QUEUE_SIZE),
-        (entry(5, 0xa000, 0x0100_0003, 1), Status::INVALID_QUEUE_SIZE),
+        (entry(5, 0xa000, 0x1000_0003, 1), Status::INVALID_QUEUE_SIZE),
+        (entry(5, 0xa000, 0x0100_0003, 1), Status::INVALID_FIELD),
         (
             entry(5, 0xa000, 0x0007_0001, 1),
             Status::INVALID_QUEUE_IDENTIFIER,
@@ -298,13 +303,13 @@ fn features(rt: HostRuntime) -> Result<(), Fail> {
 fn region_refusals(rt: HostRuntime) -> Result<(), Fail> {
     let mut table = Table::new(Limits { nsq: 1, ncq: 1 }, Settings::from_cdw11(0));
     assert_eq!(rt; table.add_sq_region(64, 1), Err(AdminError::Size));
-    assert_eq!(rt; table.add_sq_region(64, 257), Err(AdminError::Size));
+    assert_eq!(rt; table.add_sq_region(64, 4097), Err(AdminError::Size));
     assert!(rt; table.sq(0).is_none());
     assert_eq!(rt; table.add_sq_region(64, 2), Ok(0));
     assert_eq!(rt; table.add_cq_region(64, 2), Err(AdminError::Used));
-    assert_eq!(rt; table.add_cq_region(65, 256), Ok(0));
+    assert_eq!(rt; table.add_cq_region(65, 4096), Ok(0));
     assert_eq!(rt; table.add_sq_region(65, 2), Err(AdminError::Used));
-    for k in 1..17u8 {
+    for k in 1..65u8 {
         let place = u64::from(k);
         assert_eq!(rt; table.add_sq_region(100 + place, 2), Ok(k));
         assert_eq!(rt; table.add_cq_region(200 + place, 2), Ok(k));
@@ -320,8 +325,8 @@ fn fault_messages(rt: HostRuntime) -> Result<(), Fail> {
     let alloc = rt.alloc();
     let cases = [
         (AdminError::Used, "the address is that of another region"),
-        (AdminError::TooMany, "17 regions of this kind are there"),
-        (AdminError::Size, "the number of slots is outside 2 to 256"),
+        (AdminError::TooMany, "65 regions of this kind are there"),
+        (AdminError::Size, "the number of slots is outside 2 to 4096"),
     ];
     for (fault, line) in cases {
         assert_eq!(rt; fault.to_string(alloc)?.as_str(), line);

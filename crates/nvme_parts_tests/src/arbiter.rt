@@ -299,7 +299,7 @@ impl Numbers {
 
     // The identifier of a queue.
     fn qid(&mut self) -> u16 {
-        (self.next() % 17) as u16
+        (self.next() % 65) as u16
     }
 }
 
@@ -334,4 +334,24 @@ fn board_and_arbiter_agree(rt: HostRuntime) {
     let mut numbers = Numbers(1);
     play_at_random(&rt, Mechanism::RoundRobin, &mut numbers);
     play_at_random(&rt, Mechanism::Weighted, &mut numbers);
+}
+
+// A board on which each queue is open and has two commands.
+fn full_board() -> Board {
+    let mut board = Board::new(Mechanism::RoundRobin, Settings::from_cdw11(0));
+    for qid in 0..=HIGHEST_QID {
+        open(&mut board, qid, u32::from(qid));
+        came(&mut board, qid);
+        came(&mut board, qid);
+    }
+    board
+}
+
+#[test]
+fn every_queue_in_turn(rt: HostRuntime) {
+    let mut board = full_board();
+    for qid in 0..=64 {
+        assert_eq!(rt; board.pick(), pick(qid, 1));
+    }
+    assert_eq!(rt; board.pick(), pick(0, 1));
 }

@@ -66,7 +66,9 @@ fn ring_of_two_a_thousand_times(rt: HostRuntime) -> Result<(), Fail> {
 #[test]
 fn capacities(rt: HostRuntime) -> Result<(), Fail> {
     assert!(rt; matches!(ring::<u32>(rt.alloc(), 0, 1), Err(LaneError::Size)));
-    assert!(rt; matches!(ring::<u32>(rt.alloc(), 0, 257), Err(LaneError::Size)));
+    assert!(rt; matches!(ring::<u32>(rt.alloc(), 0, 4097), Err(LaneError::Size)));
+    let (put, _get) = ring_again(rt.alloc(), 0, 257)?;
+    assert_eq!(rt; put.slots(), 257);
     let (mut put, mut get) = ring_again(rt.alloc(), 0, 2)?;
     assert_eq!(rt; put.put(5), Ok(()));
     assert_eq!(rt; put.put(6), Err(Full(6)));
@@ -157,7 +159,7 @@ fn move_all<R: Threads>(
 
 #[test]
 fn two_threads_move_in_order(rt: HostRuntime) -> Result<(), Fail> {
-    for slots in [2, 256] {
+    for slots in [2, 4096] {
         let (put, get) = ring_again(rt.alloc(), 0, slots)?;
         let mut drainer = Drainer::new(rt.alloc(), get);
         let feeder = Feeder::new(numbers(rt.alloc(), 100_000)?, put);

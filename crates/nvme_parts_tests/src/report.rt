@@ -2,10 +2,9 @@ ghost use Rattle.std.specs.Prelude.{◌≡◌, ℕ, ◌≤◌, [], reverse, fals
 ghost use Rattle.nvme_log.specs.Completions.{posts_of};
 ghost use Rattle.nvme_report.specs.Report.{completions_of};
 
-use arrayvec::ArrayVec;
 use nvme_arbiter::{Class, Pick};
 use nvme_entry::{Cqe, Sqe, Status};
-use nvme_front::{Event, Sent, Settled};
+use nvme_front::{Event, Listed, Sent, Settled};
 use nvme_report::{Mode, WriteFault, report};
 use std::alloc::{AllocError, Global};
 use std::io::{Error, ErrorKind, Result, Write};
@@ -54,16 +53,14 @@ fn answered(region: u8, index: u32, status: Status) -> Event {
 }
 
 // A pick of one command.
-fn picked(qid: u16) -> Event {
+fn picked(alloc: Global, qid: u16) -> std::result::Result<Event, AllocError> {
     let pick = Pick {
         qid,
         n: 1,
         fresh: false,
     };
-    Event::Pick {
-        seen: ArrayVec::new(),
-        pick,
-    }
+    let seen = Listed::of(alloc, &[])?;
+    Ok(Event::Pick { seen, pick })
 }
 
 // The Fetch of an entry of zeros.
@@ -76,12 +73,12 @@ fn fetched(region: u8, index: u32) -> Event {
 }
 
 // Adds the events of queue 1: three commands are fetched and one is picked, and then it is deleted.
-fn delete_queue(log: &mut Vec<Event>) -> std::result::Result<(), AllocError> {
+fn delete_queue(alloc: Global, log: &mut Vec<Event>) -> std::result::Result<(), AllocError> {
     for index in 0..3 {
         log.push(fetched(1, index))?;
     }
-    log.push(picked(1))?;
-    log.push(picked(0))?;
+    log.push(picked(alloc, 1)?)?;
+    log.push(picked(alloc, 0)?)?;
     log.push(Event::Closing { qid: 1, region: 1 })?;
     for index in 1..3 {
         log.push(Event::Abort { region: 1, index })?;
@@ -94,13 +91,13 @@ fn delete_queue(log: &mut Vec<Event>) -> std::result::Result<(), AllocError> {
 }
 
 // Adds the events of queue 0 and, among them, those of queue 1.
-fn add_events(log: &mut Vec<Event>) -> std::result::Result<(), AllocError> {
+fn add_events(alloc: Global, log: &mut Vec<Event>) -> std::result::Result<(), AllocError> {
     for index in 0..3 {
         log.push(fetched(0, index))?;
     }
-    log.push(picked(0))?;
+    log.push(picked(alloc, 0)?)?;
     log.push(answered(0, 0, Status::SUCCESS))?;
-    log.push(picked(0))?;
+    log.push(picked(alloc, 0)?)?;
     log.push(Event::OpenSq {
         qid: 1,
         region: 1,
@@ -108,7 +105,7 @@ fn add_events(log: &mut Vec<Event>) -> std::result::Result<(), AllocError> {
         class: Class::Urgent,
     })?;
     log.push(answered(0, 1, Status::SUCCESS))?;
-    delete_queue(log)?;
+    delete_queue(alloc, log)?;
     log.push(answered(0, 2, Status::SUCCESS))?;
     Ok(())
 }
@@ -116,7 +113,7 @@ fn add_events(log: &mut Vec<Event>) -> std::result::Result<(), AllocError> {
 // The log of two queues of three commands each. The deletion of queue 1 aborts two of its commands.
 fn log_of_deletion(alloc: Global) -> std::result::Result<Vec<Event>, AllocError> {
     let mut log = Vec::new(alloc);
-    add_events(&mut log)?;
+    add_events(alloc, &mut log)?;
     Ok(log)
 }
 

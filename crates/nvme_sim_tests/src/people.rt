@@ -167,7 +167,7 @@ fn faults_with_their_places(rt: HostRuntime) -> Result<(), Fail> {
         ),
         (
             ("slots = 8\nscript", "slots = 1\nscript"),
-            "nvmearb: workload: W4 bad slots: submission 1: expected a whole number from 2 to 256\n",
+            "nvmearb: workload: W4 bad slots: submission 1: expected a whole number from 2 to 4096\n",
         ),
         (
             ("op = 0, cdw10 = 1", "op = 256"),

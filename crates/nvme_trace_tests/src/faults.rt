@@ -86,11 +86,11 @@ fn events(rt: HostRuntime) -> Result<(), Fail> {
             "seen is no observation",
         ),
         (
-            "{\"pick\":1,\"n\":1,\"fresh\":false,\"seen\":[[1,\"high\",256]]}",
+            "{\"pick\":1,\"n\":1,\"fresh\":false,\"seen\":[[1,\"high\",257]]}",
             "seen is no observation",
         ),
         (
-            "{\"pick\":1,\"n\":1,\"fresh\":false,\"seen\":[[17,\"high\",1]]}",
+            "{\"pick\":1,\"n\":1,\"fresh\":false,\"seen\":[[65,\"high\",1]]}",
             "seen is no observation",
         ),
         (

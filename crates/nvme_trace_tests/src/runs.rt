@@ -1,7 +1,7 @@
 // Logs of random runs, whose traces are lawful.
 use arrayvec::ArrayVec;
 use nvme_arbiter::{Arbiter, Class, Mechanism, QUEUE_LIMIT, Seen, Settings, is_observation};
-use nvme_log::Event;
+use nvme_log::{Event, Listed};
 use nvme_trace::{Checked, WriteFault, check, write_trace};
 use std::alloc::Global;
 use std::io::{Error, ErrorKind, Write};
@@ -68,6 +68,7 @@ pub fn random_log(
             continue;
         }
         if let Some(pick) = arbiter.pick(&seen) {
+            let seen = Listed::of(alloc, &seen)?;
             log.push(Event::Pick { seen, pick })?;
         }
         log.push(Event::OpenCq { qid: 1, region: 1 })?;
@@ -107,20 +108,19 @@ fn random_runs(rt: HostRuntime) -> Result<(), Fail> {
 
 #[test]
 fn trace_text(rt: HostRuntime) -> Result<(), Fail> {
-    let mut seen = ArrayVec::new();
-    for (qid, class, count) in [
+    let queues = [
         (0, Class::Admin, 0),
         (1, Class::High, 5),
         (16, Class::Low, 255),
-    ] {
-        let _ = seen.try_push(Seen { qid, class, count });
-    }
+    ];
+    let queues = queues.map(|(qid, class, count)| Seen { qid, class, count });
     let pick = nvme_arbiter::Pick {
         qid: 1,
         n: 2,
         fresh: true,
     };
     let settings = Settings::from_cdw11(33_554_690);
+    let seen = Listed::of(rt.alloc(), &queues)?;
     let log = vec![in rt.alloc();
         Event::Pick { seen, pick },
         Event::OpenCq { qid: 1, region: 1 },

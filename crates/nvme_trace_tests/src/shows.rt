@@ -24,17 +24,17 @@ fn statistics(rt: HostRuntime) -> Result<(), Fail> {
     assert!(rt; counted.write_text(&mut text).is_ok());
     let want = "round-robin: 4 picks, 4 commands, 0 changes of the settings
 queue class        picks  commands    share    wait   below
-q1    high             3         3    75.00%       1      17
-q2    low              1         1    25.00%       2      17
-all   high             3         3    75.00%       1      17
-all   low              1         1    25.00%       2      17
+q1    high             3         3    75.00%       1      65
+q2    low              1         1    25.00%       2      65
+all   high             3         3    75.00%       1      65
+all   low              1         1    25.00%       2      65
 Jain's index of the I/O queues: 0.8000
 ";
     assert_eq!(rt; text.as_slice(), want.as_bytes());
     let mut json = Vec::new(rt.alloc());
     assert!(rt; counted.write_json(&mut json).is_ok());
     let want =
-        "{\"mechanism\":\"round-robin\",\"picks\":4,\"commands\":4,\"changes\":0,\"queues\":[{\"queue\":1,\"class\":\"high\",\"picks\":3,\"commands\":3,\"share\":0.7500,\"wait\":1,\"below\":17},{\"queue\":2,\"class\":\"low\",\"picks\":1,\"commands\":1,\"share\":0.2500,\"wait\":2,\"below\":17}],\"classes\":[{\"class\":\"high\",\"picks\":3,\"commands\":3,\"share\":0.7500,\"wait\":1,\"below\":17},{\"class\":\"low\",\"picks\":1,\"commands\":1,\"share\":0.2500,\"wait\":2,\"below\":17}],\"low_behind\":{\"commands\":0,\"at_most\":0},\"jain\":0.8000}\n";
+        "{\"mechanism\":\"round-robin\",\"picks\":4,\"commands\":4,\"changes\":0,\"queues\":[{\"queue\":1,\"class\":\"high\",\"picks\":3,\"commands\":3,\"share\":0.7500,\"wait\":1,\"below\":65},{\"queue\":2,\"class\":\"low\",\"picks\":1,\"commands\":1,\"share\":0.2500,\"wait\":2,\"below\":65}],\"classes\":[{\"class\":\"high\",\"picks\":3,\"commands\":3,\"share\":0.7500,\"wait\":1,\"below\":65},{\"class\":\"low\",\"picks\":1,\"commands\":1,\"share\":0.2500,\"wait\":2,\"below\":65}],\"low_behind\":{\"commands\":0,\"at_most\":0},\"jain\":0.8000}\n";
     assert_eq!(rt; json.as_slice(), want.as_bytes());
     Ok(())
 }

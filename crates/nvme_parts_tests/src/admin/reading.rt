@@ -136,7 +136,7 @@ fn create_cq(kept: &[Kept], e: &Sqe) -> Status {
         Status::INVALID_FIELD
     } else if qid == 0 || qid > numbers(kept).1 || is_cq(kept, qid) {
         Status::INVALID_QUEUE_IDENTIFIER
-    } else if qsize == 0 || qsize > 255 {
+    } else if qsize == 0 || qsize > 4095 {
         Status::INVALID_QUEUE_SIZE
     } else if !is_free(kept, e, 10) {
         Status::INVALID_FIELD
@@ -154,7 +154,7 @@ fn create_sq(kept: &[Kept], e: &Sqe) -> Status {
         Status::INVALID_FIELD
     } else if qid == 0 || qid > numbers(kept).0 || sq_of(kept, qid).is_some() {
         Status::INVALID_QUEUE_IDENTIFIER
-    } else if qsize == 0 || qsize > 255 {
+    } else if qsize == 0 || qsize > 4095 {
         Status::INVALID_QUEUE_SIZE
     } else if cqid == 0 || cqid > numbers(kept).1 {
         Status::INVALID_QUEUE_IDENTIFIER
@@ -289,7 +289,7 @@ fn drawn_create(seed: &mut u64, opcode: u8) -> Sqe {
         first + 1 + draw(seed, 5)
     };
     let qsize = match draw(seed, 8) {
-        0 => 256,
+        0 => 4096,
         1 => draw(seed, 4),
         _ => 1 + prp1 % 2,
     };

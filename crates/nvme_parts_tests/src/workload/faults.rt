@@ -58,7 +58,7 @@ fn workload_faults(rt: HostRuntime) -> Result<(), Fail> {
         (("patience", "zone = 1\npatience"), WorkloadError::Unknown),
         (("100000000", "0"), WorkloadError::Bad(Key::Patience)),
         (
-            ("sq_limit = 16", "sq_limit = 17"),
+            ("sq_limit = 16", "sq_limit = 65"),
             WorkloadError::Bad(Key::SqLimit),
         ),
         (("0x8000", "0x1000"), WorkloadError::Repeated),
@@ -89,7 +89,7 @@ fn workload_faults(rt: HostRuntime) -> Result<(), Fail> {
 fn limits(rt: HostRuntime) -> Result<(), Fail> {
     let alloc = rt.alloc();
     let mut text = String::from_str(alloc, EMPTY_WORKLOAD)?;
-    for index in 1..17u32 {
+    for index in 1..65u32 {
         write!(text, "[[completion]]\naddress = {index}\nslots = 16\n")?;
     }
     assert_eq!(rt;
@@ -97,9 +97,9 @@ fn limits(rt: HostRuntime) -> Result<(), Fail> {
             .completions
             .as_slice()
             .len(),
-        17
+        65
     );
-    text.push_str("[[completion]]\naddress = 17\nslots = 16\n")?;
+    text.push_str("[[completion]]\naddress = 65\nslots = 16\n")?;
     assert_eq!(rt;
         read(alloc, text.as_str().as_bytes()).err(),
         Some(WorkloadError::Limit)
@@ -286,7 +286,7 @@ fn two_faults_of_settings(rt: HostRuntime) -> Result<(), Fail> {
             WorkloadError::Bad(Key::SqLimit),
         ),
         (
-            ("cq_limit = 16", "cq_limit = 17"),
+            ("cq_limit = 16", "cq_limit = 65"),
             ("patience = 100000000\n", ""),
             WorkloadError::Bad(Key::CqLimit),
         ),
@@ -299,6 +299,14 @@ fn two_faults_of_settings(rt: HostRuntime) -> Result<(), Fail> {
     expect_faults(&rt, rt.alloc(), EMPTY_WORKLOAD, &cases)?;
     Ok(())
 }
+
+// One item more than there may be regions.
+const MANY_REGIONS: &str = "submission = [
+0, 0, 0, 0, 0, 0, 0, 0, 0, 0, 0, 0, 0, 0, 0, 0, 0, 0, 0, 0, 0, 0,
+0, 0, 0, 0, 0, 0, 0, 0, 0, 0, 0, 0, 0, 0, 0, 0, 0, 0, 0, 0, 0, 0,
+0, 0, 0, 0, 0, 0, 0, 0, 0, 0, 0, 0, 0, 0, 0, 0, 0, 0, 0, 0, 0, 0,
+]
+";
 
 // Two faults of the namespaces and of the lists of regions.
 #[test]
@@ -334,14 +342,7 @@ fn two_faults_of_lists(rt: HostRuntime) -> Result<(), Fail> {
             NO_CHANGE,
             WorkloadError::Bad(Key::Submission),
         ),
-        (
-            (
-                no_regions,
-                "submission = [0, 0, 0, 0, 0, 0, 0, 0, 0, 0, 0, 0, 0, 0, 0, 0, 0, 0]\n",
-            ),
-            NO_CHANGE,
-            WorkloadError::Limit,
-        ),
+        ((no_regions, MANY_REGIONS), NO_CHANGE, WorkloadError::Limit),
         (
             (no_regions, "submission = [0]\n"),
             NO_CHANGE,
@@ -406,12 +407,12 @@ fn two_faults_of_an_address(rt: HostRuntime) -> Result<(), Fail> {
 fn two_faults_of_slots(rt: HostRuntime) -> Result<(), Fail> {
     let cases = [
         (
-            ("0x8000\nslots = 16", "0x1000\nslots = 257"),
+            ("0x8000\nslots = 16", "0x1000\nslots = 4097"),
             NO_CHANGE,
             WorkloadError::Repeated,
         ),
         (
-            ("0x1000\nslots = 16", "0x1000\nslots = 257"),
+            ("0x1000\nslots = 16", "0x1000\nslots = 4097"),
             ("script = []\n", ""),
             WorkloadError::Bad(Key::Slots),
         ),
