@@ -5,7 +5,9 @@ ghost use Rattle.nvme_pool.specs.Pool.{IsPool};
 use crate::again::{list_again, pool_again};
 use crate::commands::get_arbitration;
 use crate::hosted::{Hosted, config};
+use nvme_entry::Sqe;
 use nvme_front::{FrontError, Parts};
+use nvme_lane::Feeder;
 use nvme_pool::NoGate;
 use nvme_threads::{DriveError, Feeding, drive};
 use std::alloc::Global;
@@ -18,8 +20,22 @@ const COMMANDS: usize = 200;
 // The events of the log, which are too few for the commands.
 const EVENTS: u32 = 257;
 
-// A front with its hosts and two workers.
-fn parts(alloc: Global) -> Result<Parts, Fail>
+// Submits the script of a host, which fits its ring.
+fn submit(feeder: &mut Feeder<Sqe>) {
+    for _ in 0..COMMANDS {
+        feeder.step();
+    }
+}
+
+// Submits the scripts of all hosts.
+fn submit_all(feeders: &mut Vec<Feeder<Sqe>>) {
+    for feeder in feeders.iter_mut() {
+        submit(feeder);
+    }
+}
+
+// A front with its hosts and two workers. The hosts have submitted where they are to do so before the drive.
+fn parts(alloc: Global, feeding: Feeding) -> Result<Parts, Fail>
     ensures admin_sq { IfOk result (λ p. 0 < length p.front.gets) }
     ensures admin_cq { IfOk result (λ p. 0 < length p.front.puts) }
     ensures pool { IfOk result (λ p. IsPool p.lanes p.front.hands.seat p.workers.items) }
@@ -37,9 +53,12 @@ fn parts(alloc: Global) -> Result<Parts, Fail>
     )?;
     let Hosted {
         front,
-        feeders,
+        mut feeders,
         drainers,
     } = hosted;
+    if feeding == Feeding::Before {
+        submit_all(&mut feeders);
+    }
     Ok(Parts {
         front,
         feeders,
@@ -59,7 +78,7 @@ fn driven_once<R: Threads + Wait + Sync>(
     if gates.len() != 2 {
         return Err("two gates are wanted".into());
     }
-    let parts = parts(alloc)?;
+    let parts = parts(alloc, feeding)?;
     match drive(rt, alloc, parts, gates, feeding, 1_000_000) {
         Ok(_) => Ok(None),
         Err(error) => Ok(Some(error)),

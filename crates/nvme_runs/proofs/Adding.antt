@@ -7,16 +7,17 @@ use Rattle.std.proofs.lemmas.List.Folds.{list_any_none, list_any-append}
 use Rattle.nvme_entry.specs.declared.submission.Sqe.{Sqe}
 use Rattle.nvme_entry.specs.declared.completion.Cqe.{Cqe}
 use Rattle.nvme_lane.specs.View.{GetView, PutView, RingName}
-use Rattle.nvme_lane.specs.Feeder.{script_of}
 use Rattle.nvme_lane.specs.declared.feeder.Feeder.{Feeder}
 use Rattle.nvme_lane.specs.declared.drainer.Drainer.{Drainer}
 use Rattle.nvme_workload.specs.declared.plan.SqPlan.{SqPlan}
 use Rattle.nvme_workload.specs.declared.plan.CqPlan.{CqPlan}
 use Rattle.nvme_front.specs.Ends.{get_place, put_place}
-use Rattle.nvme_front.specs.Hosts.{feeder_place, drainer_place}
+use Rattle.nvme_front.specs.Hosts.{drainer_place}
 use Rattle.nvme_front.specs.View.{FrontView, is_address}
 use Rattle.nvme_front.proofs.Addresses.{any_in_map}
-use Rattle.nvme_runs.specs.inside.Prepared.{StaysFresh, AddsSq, AddsCq, AddsSqs, AddsCqs, sq_site, cq_site, get_site, put_site}
+use Rattle.nvme_threads.specs.Hosts.{feeder_seen}
+use Rattle.nvme_threads.specs.declared.loading.SqEnds.{SqEnds}
+use Rattle.nvme_runs.specs.inside.Prepared.{StaysFresh, AddsSq, AddsCq, AddsSqs, AddsCqs, sent_by, sq_site, cq_site, get_site, put_site}
 
 -- ---- maps
 -- an element more on both sides
@@ -62,6 +63,13 @@ pub sq_addresses : (v : FrontView) (plans : List SqPlan) → map get_site v.gets
     → map (λ (g : GetView Sqe). g.address) v.gets ≡ map (λ (s : SqPlan). s.address) plans
 sq_addresses v plans sites = sym (map-map (λ (z : ℕ × ℕ). z.0) get_site v.gets) ∙ ap (λ zs. map (λ (z : ℕ × ℕ). z.0) zs) sites ∙ map-map (λ (z : ℕ × ℕ). z.0) sq_site plans
 
+-- and those of their rings
+pub ring_addresses : (v : FrontView) (rings : List SqEnds) → map get_place v.gets ≡ map (λ (e : SqEnds). get_place e.get) rings
+    → map (λ (g : GetView Sqe). g.address) v.gets ≡ map (λ (e : SqEnds). e.get.address) rings
+ring_addresses v rings places =
+    sym (map-map (λ (z : RingName × ℕ × ℕ). z.1) get_place v.gets) ∙ ap (λ zs. map (λ (z : RingName × ℕ × ℕ). z.1) zs) places
+    ∙ map-map (λ (z : RingName × ℕ × ℕ). z.1) (λ (e : SqEnds). get_place e.get) rings
+
 -- the same of completion regions
 pub cq_addresses : (v : FrontView) (plans : List CqPlan) → map put_site v.puts ≡ map cq_site plans
     → map (λ (p : PutView Cqe). p.address) v.puts ≡ map (λ (c : CqPlan). c.address) plans
@@ -86,18 +94,7 @@ pub fresh_after : (a b : FrontView) → StaysFresh a b → StaysFresh b b
 fresh_after a b stays = record { log = stays.log; not_late = stays.not_late; mechanism = refl; start = refl; sizes = refl; regions = stays.regions; hands = refl; limit = refl }
 
 -- ---- a region more
--- the sites of submission regions, one more added
-sq_sites_more : (old new : FrontView) (f : Feeder Sqe) (plans : List SqPlan) (plan : SqPlan) → AddsSq plan.address plan.slots f old new
-    → map get_site old.gets ≡ map sq_site plans → map get_site new.gets ≡ map sq_site (plans ++ plan ∷ [])
-sq_sites_more old new f plans plan adds before =
-    let site : RingName × ℕ × ℕ → ℕ × ℕ = λ z. (z.1, z.2) in
-    sym (map-map site get_place new.gets)
-    ∙ ap (λ zs. map site zs) adds.gets
-    ∙ map-append site (map get_place old.gets) (feeder_place f ∷ [])
-    ∙ (λ i. (map-map site get_place old.gets ∙ before) i ++ (adds.address_is i, adds.slots_are i) ∷ [])
-    ∙ sym (map-append sq_site plans (plan ∷ []))
-
--- the same of completion regions
+-- the sites of completion regions, one more added
 cq_sites_more : (old new : FrontView) (d : Drainer Cqe) (plans : List CqPlan) (plan : CqPlan) → AddsCq plan.address plan.slots d old new
     → map put_site old.puts ≡ map cq_site plans → map put_site new.puts ≡ map cq_site (plans ++ plan ∷ [])
 cq_sites_more old new d plans plan adds before =
@@ -109,14 +106,13 @@ cq_sites_more old new d plans plan adds before =
     ∙ sym (map-append cq_site plans (plan ∷ []))
 
 -- submission regions were added, and one more
-pub sqs_more : (first old new : FrontView) (plans : List SqPlan) (plan : SqPlan) (feeders now : List (Feeder Sqe)) (f : Feeder Sqe)
-    → AddsSqs plans feeders first old → AddsSq plan.address plan.slots f old new → script_of f ≡ plan.script → now ≡ feeders ++ f ∷ []
-    → AddsSqs (plans ++ plan ∷ []) now first new
-sqs_more first old new plans plan feeders now f before adds script is_now =
-    subst (λ fs. AddsSqs (plans ++ plan ∷ []) fs first new) (sym is_now) (record {
-      gets = adds.gets ∙ ap (λ zs. zs ++ feeder_place f ∷ []) before.gets ∙ sym (map-append feeder_place feeders (f ∷ []));
-      sites = sq_sites_more old new f plans plan adds before.sites;
-      scripts = maps_more (λ (z : Feeder Sqe). script_of z) (λ (s : SqPlan). s.script) feeders plans f plan before.scripts script;
+pub sqs_more : (first old new : FrontView) (rings : List SqEnds) (ends : SqEnds) (feeders now : List (Feeder Sqe)) (f : Feeder Sqe)
+    → AddsSqs rings feeders first old → AddsSq ends f old new → now ≡ feeders ++ f ∷ [] → AddsSqs (rings ++ ends ∷ []) now first new
+sqs_more first old new rings ends feeders now f before adds is_now =
+    subst (λ fs. AddsSqs (rings ++ ends ∷ []) fs first new) (sym is_now) (record {
+      hosts = maps_more feeder_seen (λ (e : SqEnds). feeder_seen e.feeder) feeders rings f ends before.hosts adds.host;
+      gets = adds.gets ∙ ap (λ zs. zs ++ get_place ends.get ∷ []) before.gets ∙ sym (map-append (λ (e : SqEnds). get_place e.get) rings (ends ∷ []));
+      rests = adds.rests ∙ ap (λ zs. zs ++ sent_by f ∷ []) before.rests ∙ sym (map-append sent_by feeders (f ∷ []));
       puts = adds.puts ∙ before.puts;
       stays = fresh_then first old new before.stays adds.stays;
     })

@@ -2,8 +2,10 @@ pub mod Accounts
 pub mod Adding
 pub mod Driven
 pub mod Fitting
+pub mod LoadedRuns
 pub mod Meaning
 pub mod Reading
+pub mod Rings
 pub mod Settled
 pub mod Sites
 pub mod Telling

@@ -21,7 +21,7 @@ use Rattle.nvme_runs.specs.RunMeans.{RunMeans}
 use Rattle.nvme_runs.proofs.TooLong.{none_longer, one_first}
 
 -- a text has one workload
-one_plan : (text : List ℕ) (p q : Plan) → workload_of text ≡ Ok p → workload_of text ≡ Ok q → p ≡ q
+pub one_plan : (text : List ℕ) (p q : Plan) → workload_of text ≡ Ok p → workload_of text ≡ Ok q → p ≡ q
 one_plan text p q first second = let e = sym first ∙ second in cc
 
 -- a text with a workload has no fault

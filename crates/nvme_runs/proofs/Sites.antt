@@ -1,13 +1,15 @@
 -- A front to which the regions of a workload were added, with its hosts and its workers.
-use Rattle.std.proofs.Common.{◌≡◌, ◌≢◌, ℕ, ◌≤◌, List, [], ◌++◌, length, map, reverse, sym, ap, ◌∙◌, subst, arith}
-use Rattle.std.specs.List.{AllPairs}
-use Rattle.std.proofs.lemmas.List.{length-map}
+use Rattle.std.proofs.Common.{◌≡◌, ◌≢◌, ℕ, ◌≤◌, List, [], ◌++◌, length, map, reverse, get_or, sym, ap, ◌∙◌, subst, arith}
+use Rattle.std.specs.List.{AllPairs, AllZip}
+use Rattle.std.proofs.lemmas.List.{append-nil, length-map}
 use Rattle.std.proofs.lemmas.Simd.{map-map}
 use Rattle.nvme_entry.specs.declared.submission.Sqe.{Sqe}
 use Rattle.nvme_entry.specs.declared.completion.Cqe.{Cqe}
-use Rattle.nvme_lane.specs.View.{GetView, PutView}
+use Rattle.nvme_lane.specs.View.{GetView, PutView, RingName}
+use Rattle.nvme_lane.specs.Feeder.{script_of}
 use Rattle.nvme_pool.specs.Pool.{IsPool, IsBlank}
 use Rattle.nvme_pool.specs.Seat.{SeatView}
+use Rattle.nvme_admin.specs.declared.bounds.TheConstants.{MAX_REGIONS}
 use Rattle.nvme_admin.specs.History.{TableStep, RegionAdded, Submission, Completion}
 use Rattle.nvme_workload.specs.declared.plan.SqPlan.{SqPlan}
 use Rattle.nvme_workload.specs.declared.plan.CqPlan.{CqPlan}
@@ -20,8 +22,11 @@ use Rattle.nvme_front.specs.Hosts.{drainer_place}
 use Rattle.nvme_state.specs.Regions.{sq_steps, cq_steps}
 use Rattle.nvme_front.specs.View.{FrontView}
 use Rattle.nvme_runs.specs.Runs.{sq_additions, cq_additions}
-use Rattle.nvme_runs.specs.inside.Prepared.{IsPrepared, AddsSqs, AddsCqs, sq_site, cq_site, get_site, put_site}
+use Rattle.nvme_threads.specs.Hosts.{feeder_seen}
+use Rattle.nvme_threads.specs.declared.loading.SqEnds.{SqEnds}
+use Rattle.nvme_runs.specs.inside.Prepared.{IsPrepared, IsRingOf, AddsSqs, AddsCqs, seen_in, sq_site, cq_site, get_site, put_site}
 use Rattle.nvme_runs.proofs.Adding.{fresh_then, sq_addresses}
+use Rattle.nvme_runs.proofs.Rings.{one_place, seen_at, zip_maps}
 
 -- the steps of a front's submission regions are the additions of those of the workload
 sq_steps_are : (gets : List (GetView Sqe)) (plans : List SqPlan) → map get_site gets ≡ map sq_site plans → sq_steps gets ≡ sq_additions plans
@@ -45,16 +50,39 @@ pub still_apart : (v : FrontView) (plans : List SqPlan) (completions all : List 
 still_apart v plans completions all sites is_all apart =
     subst (λ zs. AllPairs (λ (a b : ℕ). a ≢ b) zs) (sym (λ i. sq_addresses v plans sites i ++ map (λ (c : CqPlan). c.address) (is_all i))) apart
 
+-- the sites of rings are those of their workload
+pub ring_sites : (v : FrontView) (rings : List SqEnds) (plans : List SqPlan) → map get_place v.gets ≡ map (λ (e : SqEnds). get_place e.get) rings → AllZip IsRingOf plans rings
+    → map get_site v.gets ≡ map sq_site plans
+ring_sites v rings plans places are =
+    let site : RingName × ℕ × ℕ → ℕ × ℕ = λ z. (z.1, z.2) in
+    sym (map-map site get_place v.gets) ∙ ap (map site) places ∙ map-map site (λ (e : SqEnds). get_place e.get) rings
+    ∙ zip_maps IsRingOf sq_site (λ (e : SqEnds). get_site e.get) (λ p e is i. (is.address i, is.slots i)) plans rings are
+
+-- they are as many as its regions may be
+pub rings_few : (rings : List SqEnds) (plans all : List SqPlan) → all ≡ plans → AllZip IsRingOf all rings → length plans ≤ MAX_REGIONS → length rings ≤ MAX_REGIONS
+rings_few rings plans all is_all are few =
+    let same : length rings ≡ length all = as_long (λ (e : SqEnds). e.get.address) (λ (s : SqPlan). s.address) rings all
+    (zip_maps IsRingOf (λ (s : SqPlan). s.address) (λ (e : SqEnds). e.get.address) (λ p e is. is.address) all rings are) in
+    subst (λ k. k ≤ MAX_REGIONS) (sym (same ∙ ap (λ ps. length ps) is_all)) few
+
+-- the addresses of the rings of a workload are apart
+pub rings_apart : (rings : List SqEnds) (plans all : List SqPlan) → all ≡ plans → AllZip IsRingOf all rings → AreApart plans []
+    → AllPairs (λ (a b : ℕ). a ≢ b) (map (λ (e : SqEnds). e.get.address) rings)
+rings_apart rings plans all is_all are apart =
+    subst (λ zs. AllPairs (λ (a b : ℕ). a ≢ b) zs)
+    (append-nil (map (λ (s : SqPlan). s.address) plans) ∙ ap (map (λ (s : SqPlan). s.address)) (sym is_all)
+    ∙ sym (zip_maps IsRingOf (λ (s : SqPlan). s.address) (λ (e : SqEnds). e.get.address) (λ p e is. is.address) all rings are)) apart
+
 -- a new front with the regions of a workload, and with the workers of its pool, is prepared
-pub prepared_by : (plan : Plan) (parts : Parts) (seat : SeatView) (first middle : FrontView)
+pub prepared_by : (plan : Plan) (parts : Parts) (rings : List SqEnds) (seat : SeatView) (first middle : FrontView)
     → first.rules.mechanism ≡ plan.mechanism → first.rules.start ≡ record { nsq = plan.nsq; ncq = plan.ncq; settings = plan.settings } → first.rules.sizes ≡ plan.sizes
     → first.hands ≡ record { came = seat; seat = seat; unhanded = []; running = [] } → first.limit ≡ most_events
-    → AddsSqs plan.submissions parts.feeders.items first middle → AddsCqs plan.completions parts.drainers.items middle parts.front
+    → AllZip IsRingOf plan.submissions rings → AddsSqs rings parts.feeders.items first middle → AddsCqs plan.completions parts.drainers.items middle parts.front
     → IsPool parts.lanes seat parts.workers.items → IsBlank seat parts.workers.items → 1 ≤ length plan.submissions → 1 ≤ length plan.completions
     → IsPrepared plan parts
-prepared_by plan parts seat first middle mechanism start sizes hands limit sqs cqs pool blank some_sq some_cq =
+prepared_by plan parts rings seat first middle mechanism start sizes hands limit are sqs cqs pool blank some_sq some_cq =
     let stays = fresh_then first middle parts.front sqs.stays cqs.stays in
-    let sites : map get_site parts.front.gets ≡ map sq_site plan.submissions = ap (λ gs. map get_site gs) cqs.gets ∙ sqs.sites in
+    let sites : map get_site parts.front.gets ≡ map sq_site plan.submissions = ap (λ gs. map get_site gs) cqs.gets ∙ ring_sites middle rings plan.submissions sqs.gets are in
     let handed = stays.hands ∙ hands in
     let seated : parts.front.hands.seat ≡ seat = ap (λ h. h.seat) handed in
     let regions = stays.regions ∙ (λ i. cq_steps_are parts.front.puts plan.completions cqs.sites i ++ sq_steps_are parts.front.gets plan.submissions sites i) in
@@ -65,9 +93,16 @@ prepared_by plan parts seat first middle mechanism start sizes hands limit sqs c
       log = stays.log;
       not_late = stays.not_late;
       limit = stays.limit ∙ limit;
-      fed = sym (ap (λ gs. map get_place gs) cqs.gets ∙ sqs.gets);
+      fed =
+          sym (map-map (λ (p : List Sqe × (RingName × ℕ × ℕ)). p.1) feeder_seen parts.feeders.items) ∙ ap (map (λ (p : List Sqe × (RingName × ℕ × ℕ)). p.1)) sqs.hosts
+          ∙ map-map (λ (p : List Sqe × (RingName × ℕ × ℕ)). p.1) (λ (e : SqEnds). feeder_seen e.feeder) rings ∙ one_place rings plan.submissions are ∙ sym sqs.gets
+          ∙ sym (ap (λ gs. map get_place gs) cqs.gets);
       drained = sym cqs.puts;
-      scripts = sqs.scripts;
+      scripts =
+          sym (map-map (λ (p : List Sqe × (RingName × ℕ × ℕ)). p.0) feeder_seen parts.feeders.items) ∙ ap (map (λ (p : List Sqe × (RingName × ℕ × ℕ)). p.0)) sqs.hosts
+          ∙ map-map (λ (p : List Sqe × (RingName × ℕ × ℕ)). p.0) (λ (e : SqEnds). feeder_seen e.feeder) rings
+          ∙ zip_maps IsRingOf (λ (s : SqPlan). s.script) (λ (e : SqEnds). script_of e.feeder) (λ p e is. is.script) plan.submissions rings are;
+      rests = λ r. seen_at parts.front.gets r ∙ ap (λ gs. get_or (map seen_in gs) r []) cqs.gets ∙ ap (λ zs. get_or zs r []) sqs.rests;
       lists = sym (as_long put_place drainer_place parts.front.puts parts.drainers.items cqs.puts) ∙ as_long put_site cq_site parts.front.puts plan.completions cqs.sites;
       pool = record {
         pool = subst (λ (s : SeatView). IsPool parts.lanes s parts.workers.items) (sym seated) pool;

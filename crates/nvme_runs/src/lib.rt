@@ -1,8 +1,9 @@
-//! Runs of a workload, the answer to one entry, and the input of the program.
+//! Runs of a workload, the answer to one entry, and the input of the program. The law of loaded runs stands in `laws`.
 #![tactic(auto)]
 
 mod entries;
 mod input;
+pub mod laws;
 mod runs;
 
 pub use entries::{OnceError, once};

@@ -3,6 +3,7 @@ ghost use Rattle.std.specs.Prelude.{◌≡◌, ◌↔◌, ◌≤◌, Ok, IfOk, I
 ghost use Rattle.nvme_lane.specs.Limits.{IsOutside};
 ghost use Rattle.nvme_pool.specs.Limits.{max_workers};
 ghost use Rattle.nvme_log.specs.Account.{IsWholeAccount};
+ghost use Rattle.nvme_log.specs.Loaded.{IsLoadedLog, without_posts};
 ghost use Rattle.nvme_front.specs.Hosts.{sent_at, collected_at};
 ghost use Rattle.nvme_front.specs.Settles.{settled_past};
 ghost use Rattle.nvme_workload.specs.Plan.{plan_of, workload_of};
@@ -24,7 +25,7 @@ use nvme_report::{Mode, WriteFault, report};
 use nvme_threads::{DriveError, Feeding, drive};
 use nvme_workload::{Workload, WorkloadError, read};
 use preparing::{first_too_long, prepare};
-use settling::settle_run;
+use settling::{are_loaded, settle_run};
 use std::alloc::{AllocError, Global};
 use std::io::Write;
 use std::sync::Wait;
@@ -105,7 +106,7 @@ fn is_outside(workers: usize) -> bool
     workers == 0 || workers > usize::from(MAX_WORKERS)
 }
 
-// When the hosts of a run submit.
+// When the hosts of a run submit: with `Mode::Loaded` they did when its front was prepared.
 fn feeding_of(mode: Mode) -> Feeding {
     match mode {
         Mode::Loaded => Feeding::Before,
@@ -141,11 +142,15 @@ fn settled_by<G: Gate + Send + Drop, R: Threads + Wait + Sync>(
     requires number { (1 ≤ vec_len gates) × (vec_len gates ≤ max_workers) }
     ensures hosts { IfOk result (λ r. HasItsHosts (plan_of workload) r.0) }
     ensures account { IfOk result (λ r. IsWholeAccount (rules_for (plan_of workload)) (is_loaded mode) (script_for (plan_of workload)) (sent_at r.0.sent.items) (settled_past r.0) (collected_at r.0.collected.items)) }
+    ensures loaded { IfOk result (λ r. mode ≡ Loaded → IsLoadedLog (rules_for (plan_of workload)) (script_for (plan_of workload)) (without_posts (settled_past r.0))) }
     ensures gates { IfOk result (λ r. GatesRan (λ view ticket. G.left (G.entered view ticket) ticket) gates.items r.1.items (settled_past r.0)) }
     ensures faults { IfErr result (IsLateFault (plan_of workload)) }
 {
     let patience = workload.patience;
-    let parts = prepare(alloc, workload, gates.len() as u8)?;
+    let parts = prepare(rt, alloc, workload, mode, gates.len() as u8)?;
+    if !are_loaded(&parts, mode) {
+        return Err(RunError::GaveUp);
+    }
     let (parts, gates) = drive(rt, alloc, parts, gates, feeding_of(mode), patience)?;
     let settled = settle_run(rt, alloc, parts, mode)?;
     Ok((settled, gates))

@@ -1,3 +1,4 @@
 pub mod Joins
+pub mod LoadedTurns
 pub mod Running
 pub mod Turned

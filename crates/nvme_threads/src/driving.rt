@@ -4,6 +4,7 @@ ghost use Rattle.nvme_pool.specs.Pool.{IsPool};
 ghost use Rattle.nvme_front.specs.View.{GoesOn};
 ghost use Rattle.nvme_threads.specs.inside.Drives.{CanDrive, Drove, ArePartsOf};
 ghost use Rattle.nvme_threads.specs.Faults.{IsDriveFault, fault_of};
+ghost use Rattle.nvme_threads.specs.Loaded.{StaysLoaded};
 ghost use Rattle.nvme_threads.specs.declared.driving.DriveError.TheVariants as drive_is;
 ghost use Rattle.nvme_threads.specs.Hosts.{feeder_seen, drainer_seen};
 ghost use Rattle.nvme_threads.specs.Runs.{AllRan};
@@ -24,7 +25,7 @@ use thiserror::Error;
 /// When the hosts submit their scripts.
 #[derive(Clone, Copy, Debug, PartialEq, Eq)]
 pub enum Feeding {
-    /// All of them, before the first turn of the front.
+    /// All of them before the drive, as `load` does.
     Before,
     /// While the front works.
     Meanwhile,
@@ -216,11 +217,11 @@ fn given_back<G: Gate + Drop>(
 }
 
 /// Drives a front with its hosts and its workers: each feeder, each drainer and each worker on a thread of its own, each
-/// worker with the gate at its place, and the front's turns on the calling thread. With `Feeding::Before` the feeders are
-/// joined before the first turn, so that it waits for ever where a script has more commands than its ring holds. It ends
-/// where the front is clear after a turn that could do nothing and was begun when all feeders had ended, or after
-/// `patience` turns in a row that could do nothing, or where a turn failed or memory was refused. All threads are joined
-/// before it answers. It may wait for another thread.
+/// worker with the gate at its place, and the front's turns on the calling thread. With `Feeding::Before` no thread is
+/// started for a feeder, and none submits. It ends where the front is clear after a turn that could do nothing and was
+/// begun when all feeders had ended, or after `patience` turns in a row that could do nothing, or where a turn failed or
+/// memory was refused. All threads are joined before it answers. A front that began with the whole scripts in its rings,
+/// and knew it, is one still. It may wait for another thread.
 pub fn drive<G: Gate + Send + Drop, R: Threads + Wait + Sync>(
     rt: &R,
     alloc: Global,
@@ -235,6 +236,7 @@ pub fn drive<G: Gate + Send + Drop, R: Threads + Wait + Sync>(
     requires number { vec_len parts.workers ≡ vec_len gates }
     ensures lanes { IfOk result (λ r. r.0.lanes ≡ parts.lanes) }
     ensures front { IfOk result (λ r. GoesOn parts.front r.0.front) }
+    ensures loaded { IfOk result (λ r. StaysLoaded parts.front r.0.front) }
     ensures feeders { IfOk result (λ r. map feeder_seen r.0.feeders.items ≡ map feeder_seen parts.feeders.items) }
     ensures drainers { IfOk result (λ r. map drainer_seen r.0.drainers.items ≡ map drainer_seen parts.drainers.items) }
     ensures workers { IfOk result (λ r. AllRan (λ view ticket. G.left (G.entered view ticket) ticket) parts.workers.items gates.items r.0.workers.items r.1.items) }

@@ -19,8 +19,8 @@ impl Task for Feeder<Sqe> {
     }
 }
 
-// Submits a script, until it is submitted or the feeder is told to end.
-fn feed<R: Wait>(rt: &R, feeder: Feeder<Sqe>, region: usize, flags: &Flags) -> Feeder<Sqe>
+/// Submits a script, until it is submitted or the feeder is told to end.
+pub fn feed<R: Wait>(rt: &R, feeder: Feeder<Sqe>, region: usize, flags: &Flags) -> Feeder<Sqe>
     ensures { IsSameFeeder feeder result }
 {
     let mut feeder = feeder;

@@ -44,6 +44,12 @@ impl Flags {
         self.fed.fetch_add(1, Ordering::SeqCst);
     }
 
+    /// The feeders of all regions had ended before.
+    pub fn tell_all_fed(&self) {
+        self.admin_fed.store(true, Ordering::SeqCst);
+        self.fed.store(self.feeders, Ordering::SeqCst);
+    }
+
     /// All feeders have ended.
     pub fn are_all_fed(&self) -> bool {
         self.fed.load(Ordering::SeqCst) >= self.feeders

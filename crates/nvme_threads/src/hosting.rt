@@ -28,8 +28,8 @@ pub struct Hosts<G: Gate + Drop> {
 pub enum Feeders {
     /// They submit.
     AtWork(Started<Feeder<Sqe>>),
-    /// They are joined.
-    Ended(Joined<Feeder<Sqe>>),
+    /// They had submitted before, and have no threads.
+    Ended(Vec<Feeder<Sqe>>),
 }
 
 /// The threads of what runs beside the front. It can't be dropped, so that each way out of a drive leads through
@@ -40,21 +40,7 @@ pub struct Running<G: Gate + Drop> {
     crew: Started<Crewman<G>>,
 }
 
-// Joins feeders before anything else runs. Where not all were started, they are told to end.
-fn joined_first<R: Threads>(
-    rt: &R,
-    shared: &Shared,
-    started: Started<Feeder<Sqe>>,
-) -> Joined<Feeder<Sqe>>
-    ensures { (tasks : _) → AreThreads tasks started → HaveFed tasks result }
-{
-    if !started.is_whole {
-        shared.flags.end();
-    }
-    join_all(rt, started)
-}
-
-// Starts a thread for each feeder. With `Feeding::Before` the threads are joined.
+// Starts a thread for each feeder. With `Feeding::Before` there is nothing left for them to do.
 fn start_feeders<'s, E: 's, R: Threads + Wait + Sync + 's>(
     scope: &Scope<'s, E>,
     rt: &'s R,
@@ -65,15 +51,16 @@ fn start_feeders<'s, E: 's, R: Threads + Wait + Sync + 's>(
 ) -> Feeders
     ensures { AreFeeders feeders.items result }
 {
-    let started = start_all(scope, rt, alloc, shared, feeders);
     match feeding {
-        Feeding::Before => Feeders::Ended(joined_first(rt, shared, started)),
-        Feeding::Meanwhile => Feeders::AtWork(started),
+        Feeding::Before => {
+            shared.flags.tell_all_fed();
+            Feeders::Ended(feeders)
+        }
+        Feeding::Meanwhile => { Feeders::AtWork(start_all(scope, rt, alloc, shared, feeders)) }
     }
 }
 
-/// Starts a thread for each host and each worker. With `Feeding::Before` those of the feeders are joined before the
-/// others are started.
+/// Starts a thread for each host and each worker, but with `Feeding::Before` none for a feeder.
 pub fn start<'s, E: 's, G: Gate + Send + Drop + 's, R: Threads + Wait + Sync + 's>(
     scope: &Scope<'s, E>,
     rt: &'s R,
@@ -97,13 +84,16 @@ pub fn start<'s, E: 's, G: Gate + Send + Drop + 's, R: Threads + Wait + Sync + '
     }
 }
 
-// Joins the threads of feeders, unless they are joined.
+// Joins the threads of feeders, where they have some.
 fn join_feeders<R: Threads>(rt: &R, feeders: Feeders) -> Joined<Feeder<Sqe>>
     ensures { (tasks : _) → AreFeeders tasks feeders → HaveFed tasks result }
 {
     match feeders {
         Feeders::AtWork(started) => join_all(rt, started),
-        Feeders::Ended(joined) => joined,
+        Feeders::Ended(tasks) => Joined {
+            tasks,
+            is_whole: true,
+        },
     }
 }
 

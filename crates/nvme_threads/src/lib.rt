@@ -7,6 +7,7 @@ mod feeding;
 mod flags;
 mod hosting;
 mod joining;
+mod loading;
 mod pausing;
 mod serving;
 mod starting;
@@ -14,3 +15,4 @@ mod tasks;
 mod working;
 
 pub use driving::{DriveError, Feeding, drive};
+pub use loading::{SqEnds, load};

@@ -2,6 +2,7 @@
 ghost use Rattle.std.specs.Prelude.{◌≡◌, ◌<◌, length, IfErr};
 ghost use Rattle.nvme_front.specs.View.{GoesOn};
 ghost use Rattle.nvme_threads.specs.Faults.{Accounts, IsDriveFault};
+ghost use Rattle.nvme_threads.specs.Loaded.{StaysLoaded};
 ghost use Rattle.nvme_threads.specs.declared.driving.DriveError.TheVariants as drive_is;
 
 use crate::driving::DriveError;
@@ -106,6 +107,7 @@ fn turn<R: Wait>(
     requires admin_cq { 0 < length front.old.puts }
     requires seat { front.old.hands.seat.lane ≡ shared.now.lanes }
     ensures goes_on { GoesOn front.old front.new }
+    ensures loaded { StaysLoaded front.old front.new }
     ensures accounts { Accounts front.new }
     ensures fault { IfErr result (IsDriveFault front.old) }
 {
@@ -134,6 +136,7 @@ pub fn serve<R: Wait>(
     requires admin_cq { 0 < length front.old.puts }
     requires seat { front.old.hands.seat.lane ≡ shared.now.lanes }
     ensures goes_on { GoesOn front.old front.new }
+    ensures loaded { StaysLoaded front.old front.new }
     ensures fault { IfErr result (IsDriveFault front.old) }
 {
     refuse_starved(&shared.flags)?;

@@ -1,9 +1,9 @@
 -- A front with its hosts and workers that was made for a workload. (profile)
-use Rattle.std.specs.Prelude.{◌≡◌, ℕ, ◌<◌, false, List, [], ◌∷◌, ◌++◌, length, map}
+use Rattle.std.specs.Prelude.{◌≡◌, ℕ, ◌<◌, false, List, [], ◌∷◌, ◌++◌, length, map, take}
 use Rattle.nvme_entry.specs.declared.submission.Sqe.{Sqe}
 use Rattle.nvme_entry.specs.declared.completion.Cqe.{Cqe}
 use Rattle.nvme_lane.specs.View.{GetView, PutView}
-use Rattle.nvme_lane.specs.Feeder.{script_of, put_of}
+use Rattle.nvme_lane.specs.Feeder.{script_of, count_of}
 use Rattle.nvme_lane.specs.Drainer.{get_of}
 use Rattle.nvme_lane.specs.declared.feeder.Feeder.{Feeder}
 use Rattle.nvme_lane.specs.declared.drainer.Drainer.{Drainer}
@@ -14,9 +14,11 @@ use Rattle.nvme_workload.specs.Plan.{Plan}
 use Rattle.nvme_log.specs.Limits.{most_events}
 use Rattle.nvme_front.specs.declared.settling.Parts.{Parts}
 use Rattle.nvme_front.specs.Ends.{get_place, put_place}
-use Rattle.nvme_front.specs.Hosts.{IsFedBy, IsDrainedBy, feeder_place, drainer_place}
+use Rattle.nvme_front.specs.Hosts.{IsFedBy, IsDrainedBy, feeder_place, drainer_place, submitted_at}
 use Rattle.nvme_front.specs.Settles.{HasItsPool}
-use Rattle.nvme_front.specs.View.{FrontView, HasItsRegions}
+use Rattle.nvme_front.specs.View.{FrontView, HasItsRegions, got_in, known_in}
+use Rattle.nvme_threads.specs.Hosts.{feeder_seen}
+use Rattle.nvme_threads.specs.declared.loading.SqEnds.{SqEnds}
 use Rattle.nvme_runs.specs.Runs.{rules_for}
 
 -- a front that did nothing has a region more, and nothing else changed
@@ -30,12 +32,32 @@ pub record StaysFresh (old new : FrontView) : Type 0 where
   pub hands : new.hands ≡ old.hands
   pub limit : new.limit ≡ old.limit
 
--- the region is the last of its kind, at this address with so many slots, and the host has the other end of its ring
-pub record AddsSq (address slots : ℕ) (f : Feeder Sqe) (old new : FrontView) : Type 0 where
-  pub gets : map get_place new.gets ≡ map get_place old.gets ++ feeder_place f ∷ []
+-- the two ends are those of one ring, and nothing was got
+pub record IsFreshRing (ends : SqEnds) : Type 0 where
+  pub pair : feeder_place ends.feeder ≡ get_place ends.get
+  pub nothing_got : ends.get.got ≡ []
+
+-- so it is, and the ring is that of a submission region of a workload, with the script of its host
+pub record IsRingOf (plan : SqPlan) (ends : SqEnds) : Type 0 where
+  pub fresh : IsFreshRing ends
+  pub address : ends.get.address ≡ plan.address
+  pub slots : ends.get.slots ≡ plan.slots
+  pub script : script_of ends.feeder ≡ plan.script
+
+-- what was got of a submission ring, and what is known to rest in it
+abbrev pub seen_in : GetView Sqe → List Sqe
+seen_in g = g.got ++ g.known
+
+-- what a feeder submitted of its script
+abbrev pub sent_by : Feeder Sqe → List Sqe
+sent_by f = take (count_of f) (script_of f)
+
+-- the region is the last of its kind, the host has the other end of its ring, and what rests in it is known
+pub record AddsSq (ends : SqEnds) (f : Feeder Sqe) (old new : FrontView) : Type 0 where
+  pub host : feeder_seen f ≡ feeder_seen ends.feeder
+  pub gets : map get_place new.gets ≡ map get_place old.gets ++ get_place ends.get ∷ []
+  pub rests : map seen_in new.gets ≡ map seen_in old.gets ++ sent_by f ∷ []
   pub puts : new.puts ≡ old.puts
-  pub address_is : (put_of f).address ≡ address
-  pub slots_are : (put_of f).slots ≡ slots
   pub stays : StaysFresh old new
 
 pub record AddsCq (address slots : ℕ) (d : Drainer Cqe) (old new : FrontView) : Type 0 where
@@ -58,11 +80,11 @@ get_site g = (g.address, g.slots)
 abbrev pub put_site : PutView Cqe → ℕ × ℕ
 put_site p = (p.address, p.slots)
 
--- the regions of a workload were added, in order, and each host has the other end of its region's ring
-pub record AddsSqs (plans : List SqPlan) (feeders : List (Feeder Sqe)) (old new : FrontView) : Type 0 where
-  pub gets : map get_place new.gets ≡ map feeder_place feeders
-  pub sites : map get_site new.gets ≡ map sq_site plans
-  pub scripts : map (λ (f : Feeder Sqe). script_of f) feeders ≡ map (λ (s : SqPlan). s.script) plans
+-- the regions of rings were added, in order, each host has the other end of its region's ring, and what rests in it is known
+pub record AddsSqs (rings : List SqEnds) (feeders : List (Feeder Sqe)) (old new : FrontView) : Type 0 where
+  pub hosts : map feeder_seen feeders ≡ map (λ (e : SqEnds). feeder_seen e.feeder) rings
+  pub gets : map get_place new.gets ≡ map (λ (e : SqEnds). get_place e.get) rings
+  pub rests : map seen_in new.gets ≡ map sent_by feeders
   pub puts : new.puts ≡ old.puts
   pub stays : StaysFresh old new
 
@@ -81,6 +103,8 @@ pub record IsPrepared (plan : Plan) (parts : Parts) : Type 0 where
   pub fed : IsFedBy parts.front parts.feeders.items
   pub drained : IsDrainedBy parts.front parts.drainers.items
   pub scripts : map (λ (f : Feeder Sqe). script_of f) parts.feeders.items ≡ map (λ (s : SqPlan). s.script) plan.submissions
+  -- what a feeder submitted is known to rest in its ring
+  pub rests : (r : ℕ) → got_in parts.front r ++ known_in parts.front r ≡ submitted_at parts.feeders.items r
   pub lists : length parts.drainers.items ≡ length plan.completions
   pub pool : HasItsPool parts
   pub blank : IsBlank parts.front.hands.seat parts.workers.items

@@ -1,24 +1,31 @@
 // A front with its hosts and its workers, as a workload has them.
 ghost use Rattle.std.specs.Prelude.{◌≡◌, ◌≢◌, ℕ, ◌≤◌, ◌<◌, ◌++◌, false, [], length, map, vec_len, IfOk, IfSome, IfNone};
-ghost use Rattle.std.specs.List.{All, AllPairs};
+ghost use Rattle.std.specs.List.{All, AllPairs, AllZip};
 ghost use Rattle.nvme_entry.specs.declared.submission.Sqe.{Sqe};
 ghost use Rattle.nvme_lane.specs.View.{GetView};
-ghost use Rattle.nvme_lane.specs.Feeder.{script_of};
 ghost use Rattle.nvme_admin.specs.declared.bounds.TheConstants.{MAX_REGIONS};
 ghost use Rattle.nvme_pool.specs.Limits.{max_workers};
+ghost use Rattle.nvme_front.specs.Ends.{get_place};
+ghost use Rattle.nvme_front.specs.Hosts.{feeder_place};
 ghost use Rattle.nvme_front.specs.View.{is_address};
+ghost use Rattle.nvme_threads.specs.declared.loading.SqEnds.{SqEnds};
+ghost use Rattle.nvme_workload.specs.declared.plan.SqPlan.{SqPlan};
 ghost use Rattle.nvme_workload.specs.declared.plan.CqPlan.{CqPlan};
 ghost use Rattle.nvme_workload.specs.Plan.{plan_of};
-ghost use Rattle.nvme_workload.specs.Sound.{IsSound, AreSlots, AreSubmissions};
+ghost use Rattle.nvme_workload.specs.Sound.{IsSound, AreSlots};
 ghost use Rattle.nvme_runs.specs.Runs.{IsFirstTooLong, FitsAll};
-ghost use Rattle.nvme_runs.specs.inside.Prepared.{IsPrepared, StaysFresh, AddsSq, AddsCq, AddsSqs, AddsCqs};
+ghost use Rattle.nvme_runs.specs.inside.Prepared.{IsPrepared, StaysFresh, IsRingOf, IsFreshRing, AddsSq, AddsCq, AddsSqs, AddsCqs};
 
 use nvme_entry::{Cqe, Sqe};
 use nvme_front::{AddError, Front, FrontConfig, MAX_EVENTS, Parts};
 use nvme_lane::{Drainer, Feeder, LaneError, ring};
-use nvme_pool::{PoolError, pool};
+use nvme_pool::{Lanes, PoolError, pool};
+use nvme_report::Mode;
+use nvme_threads::{SqEnds, load};
 use nvme_workload::{CqPlan, SqPlan, Workload};
 use std::alloc::{AllocError, Global};
+use std::sync::Wait;
+use std::thread::Threads;
 
 /// The first submission region whose script has more commands than its ring holds.
 pub fn first_too_long(submissions: &[SqPlan]) -> Option<u8>
@@ -36,27 +43,73 @@ pub fn first_too_long(submissions: &[SqPlan]) -> Option<u8>
     None
 }
 
-// Adds a submission region to a front, and gives the host's end of its ring with the host's script.
-fn add_sq(alloc: Global, front: &mut Front, plan: SqPlan) -> Result<Feeder<Sqe>, AllocError>
+// The ring of a submission region, with the host's script at the host's end.
+fn sq_ring(alloc: Global, plan: SqPlan) -> Result<SqEnds, AllocError>
     requires slots { AreSlots plan.slots }
-    requires apart { is_address front.old plan.address ≡ false }
-    requires few { length front.old.gets < MAX_REGIONS }
-    requires fresh { front.old.log ≡ [] }
-    ensures added { IfOk result (λ f. AddsSq plan.address plan.slots f front.old front.new) }
-    ensures script { IfOk result (λ f. script_of f ≡ plan.script) }
+    ensures { IfOk result (λ e. IsRingOf plan e) }
 {
     let SqPlan {
         address,
         slots,
         script,
     } = plan;
-    let (put, get) = match ring(alloc, address, slots) {
-        Ok(ends) => ends,
-        Err(LaneError::NoMemory) => return Err(AllocError),
+    match ring(alloc, address, slots) {
+        Ok((put, get)) => Ok(SqEnds {
+            feeder: Feeder::new(script.into_vec(), put),
+            get,
+        }),
+        Err(LaneError::NoMemory) => Err(AllocError),
         Err(LaneError::Size) => unreachable!(),
-    };
+    }
+}
+
+// The rings of submission regions.
+fn sq_rings(alloc: Global, plans: Vec<SqPlan>) -> Result<Vec<SqEnds>, AllocError>
+    requires slots { All (λ (s : SqPlan). AreSlots s.slots) plans.items }
+    ensures { IfOk result (λ es. AllZip IsRingOf plans.items es.items) }
+{
+    let mut rings = Vec::with_capacity(alloc, plans.len())?;
+    for plan in plans {
+        rings.push_reserved(sq_ring(alloc, plan)?);
+    }
+    Ok(rings)
+}
+
+// The rings of submission regions, whose scripts are submitted with `Mode::Loaded`. The lanes come back.
+fn fed_rings<R: Threads + Wait + Sync>(
+    rt: &R,
+    alloc: Global,
+    mode: Mode,
+    lanes: Lanes,
+    plans: Vec<SqPlan>,
+) -> Result<(Lanes, Vec<SqEnds>), AllocError>
+    requires slots { All (λ (s : SqPlan). AreSlots s.slots) plans.items }
+    ensures lanes { IfOk result (λ r. r.0 ≡ lanes) }
+    ensures rings { IfOk result (λ r. AllZip IsRingOf plans.items r.1.items) }
+{
+    let rings = sq_rings(alloc, plans)?;
+    match mode {
+        Mode::Loaded => load(rt, alloc, lanes, rings),
+        Mode::Live => Ok((lanes, rings)),
+    }
+}
+
+// Adds a submission region to a front, whose end knows then what rests in the ring, and gives the host's end.
+fn add_sq(front: &mut Front, ends: SqEnds) -> Result<Feeder<Sqe>, AllocError>
+    requires pair { feeder_place ends.feeder ≡ get_place ends.get }
+    requires nothing_got { ends.get.got ≡ [] }
+    requires apart { is_address front.old ends.get.address ≡ false }
+    requires few { length front.old.gets < MAX_REGIONS }
+    requires fresh { front.old.log ≡ [] }
+    ensures { IfOk result (λ f. AddsSq ends f front.old front.new) }
+{
+    let SqEnds {
+        mut feeder,
+        mut get,
+    } = ends;
+    feeder.beside(&mut get);
     match front.add_sq_region(get) {
-        Ok(_) => Ok(Feeder::new(script.into_vec(), put)),
+        Ok(_) => Ok(feeder),
         Err((AddError::NoMemory, _)) => Err(AllocError),
         Err((AddError::Used | AddError::TooMany, _)) => unreachable!(),
     }
@@ -86,16 +139,18 @@ fn add_cq(alloc: Global, front: &mut Front, plan: CqPlan) -> Result<Drainer<Cqe>
 fn add_sqs(
     alloc: Global,
     front: &mut Front,
-    plans: Vec<SqPlan>,
+    rings: Vec<SqEnds>,
 ) -> Result<Vec<Feeder<Sqe>>, AllocError>
     requires first { (front.old.gets ≡ []) × (front.old.puts ≡ []) }
     requires fresh { StaysFresh front.old front.old }
-    requires regions { AreSubmissions plans.items × (length plans.items ≤ MAX_REGIONS) }
-    ensures added { IfOk result (λ fs. AddsSqs plans.items fs.items front.old front.new) }
+    requires rings { All IsFreshRing rings.items }
+    requires apart { AllPairs (λ (a b : ℕ). a ≢ b) (map (λ (e : SqEnds). e.get.address) rings.items) }
+    requires few { length rings.items ≤ MAX_REGIONS }
+    ensures added { IfOk result (λ fs. AddsSqs rings.items fs.items front.old front.new) }
 {
-    let mut feeders = Vec::with_capacity(alloc, plans.len())?;
-    for plan in plans {
-        feeders.push_reserved(add_sq(alloc, front, plan)?);
+    let mut feeders = Vec::with_capacity(alloc, rings.len())?;
+    for ends in rings {
+        feeders.push_reserved(add_sq(front, ends)?);
     }
     Ok(feeders)
 }
@@ -120,8 +175,15 @@ fn add_cqs(
     Ok(drainers)
 }
 
-/// A front with its hosts and so many workers, as a workload has them.
-pub fn prepare(alloc: Global, workload: Workload, workers: u8) -> Result<Parts, AllocError>
+/// A front with its hosts and so many workers, as a workload has them. With `Mode::Loaded` the hosts have submitted, and
+/// are joined.
+pub fn prepare<R: Threads + Wait + Sync>(
+    rt: &R,
+    alloc: Global,
+    workload: Workload,
+    mode: Mode,
+    workers: u8,
+) -> Result<Parts, AllocError>
     requires sound { IsSound (plan_of workload) }
     requires workers { (1 ≤ workers) × (workers ≤ max_workers) }
     ensures prepared { IfOk result (λ p. IsPrepared (plan_of workload) p) }
@@ -141,6 +203,7 @@ pub fn prepare(alloc: Global, workload: Workload, workers: u8) -> Result<Parts, 
         Err(PoolError::NoMemory) => return Err(AllocError),
         Err(PoolError::Workers) => unreachable!(),
     };
+    let (lanes, rings) = fed_rings(rt, alloc, mode, lanes, submissions.into_vec())?;
     let config = FrontConfig {
         mechanism,
         settings,
@@ -149,7 +212,7 @@ pub fn prepare(alloc: Global, workload: Workload, workers: u8) -> Result<Parts, 
         max_events: MAX_EVENTS,
     };
     let mut front = Front::new(alloc, config, seat);
-    let feeders = add_sqs(alloc, &mut front, submissions.into_vec())?;
+    let feeders = add_sqs(alloc, &mut front, rings)?;
     let drainers = add_cqs(alloc, &mut front, completions.into_vec())?;
     Ok(Parts {
         front,

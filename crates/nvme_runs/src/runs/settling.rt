@@ -6,6 +6,7 @@ ghost use Rattle.nvme_front.specs.Settles.{HasItsPool, AreAtRest, IsSettled, IsS
 ghost use Rattle.nvme_log.specs.Dispatches.{ExecutesOnce};
 ghost use Rattle.nvme_lane.specs.Feeder.{script_of, count_of};
 ghost use Rattle.nvme_front.specs.declared.settled.SettleError.TheVariants as settling;
+ghost use Rattle.nvme_report.specs.declared.reports.Mode.TheVariants.{Loaded};
 ghost use Rattle.nvme_runs.specs.Runs.{AllSubmitted, IsDue};
 ghost use Rattle.nvme_runs.specs.declared.runs.RunError.TheVariants as fault;
 
@@ -55,6 +56,15 @@ fn all_submitted(parts: &Parts, mode: Mode) -> bool
         region += 1;
     }
     true
+}
+
+/// With `Mode::Loaded` each script is wholly submitted.
+pub fn are_loaded(parts: &Parts, mode: Mode) -> bool
+    requires few { length parts.now.feeders.items ≤ MAX_REGIONS }
+    requires fed { IsFedBy parts.now.front parts.now.feeders.items }
+    ensures { IsTrue result → mode ≡ Loaded → AllSubmitted mode parts.now.front parts.now.feeders.items }
+{
+    mode == Mode::Live || all_submitted(parts, mode)
 }
 
 // How a settling that came to nothing is told, of hosts that are those of the front.

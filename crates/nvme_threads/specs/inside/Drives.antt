@@ -12,11 +12,13 @@ use Rattle.nvme_threads.specs.declared.hosting.Feeders.TheVariants.{AtWork, Ende
 use Rattle.nvme_threads.specs.declared.hosting.Hosts.{Hosts}
 use Rattle.nvme_threads.specs.declared.hosting.Running.{Running}
 use Rattle.nvme_threads.specs.declared.joining.Joined.{Joined}
+use Rattle.nvme_threads.specs.declared.loading.SqEnds.{SqEnds}
 use Rattle.nvme_threads.specs.declared.starting.Started.{Started}
 use Rattle.nvme_threads.specs.declared.tasks.Shared.{Shared}
 use Rattle.nvme_threads.specs.declared.working.Crewman.{Crewman}
 use Rattle.nvme_threads.specs.Faults.{IsDriveFault}
-use Rattle.nvme_threads.specs.Hosts.{feeder_seen, drainer_seen}
+use Rattle.nvme_threads.specs.Hosts.{feeder_seen, drainer_seen, ends_seen}
+use Rattle.nvme_threads.specs.Loaded.{StaysLoaded}
 use Rattle.nvme_pool.specs.Runs.{Ran}
 
 -- where all threads of these tasks were started, there is one for each, in order
@@ -27,10 +29,14 @@ AreThreads tasks started = started.is_whole ≡ true → map (λ h. h.promise.0.
 abbrev pub HaveFed : List (Feeder Sqe) → Joined (Feeder Sqe) → Type 0
 HaveFed tasks joined = joined.is_whole ≡ true → map feeder_seen joined.tasks.items ≡ map feeder_seen tasks
 
--- the threads of these feeders are at work, or are joined
+-- these feeders have threads at work, or are those that had submitted before
 abbrev pub AreFeeders : List (Feeder Sqe) → Feeders → Type 0
 AreFeeders tasks (AtWork started) = AreThreads tasks started
-AreFeeders tasks (Ended joined) = HaveFed tasks joined
+AreFeeders tasks (Ended feeders) = feeders.items ≡ tasks
+
+-- where all threads of these rings were started, the rings came back
+abbrev pub CameBack : List SqEnds → Joined SqEnds → Type 0
+CameBack rings joined = joined.is_whole ≡ true → map ends_seen joined.tasks.items ≡ map ends_seen rings
 
 -- the threads of these hosts and workers
 pub record AreThreadsOf {G : Type 0} (hosts : Hosts G) (running : Running G) : Type 0 where
@@ -65,5 +71,6 @@ module _ {G : Type 0} (runs : G → ℕ → G) where
   -- the front went on, and all that ran beside it came back, unless the drive came to nothing, which had its cause
   pub record Drove {U : Type 0} (driven back : Driven G) (ended : Result U DriveError) : Type 0 where
     pub front : GoesOn driven.front back.front
+    pub loaded : StaysLoaded driven.front back.front
     pub hosts : IfOk ended (λ _. HaveRun driven.hosts back.hosts)
     pub fault : IfErr ended (IsDriveFault driven.front)

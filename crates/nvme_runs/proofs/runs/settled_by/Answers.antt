@@ -3,8 +3,13 @@ use Rattle.nvme_runs.proofs.Driven.{few_feeders, gets_still, pool_kept, puts_sti
 use Rattle.nvme_runs.proofs.Accounts.{whole_account}
 use Rattle.nvme_runs.proofs.Settled.{has_its_hosts}
 use Rattle.nvme_runs.proofs.Told.{gates_ran}
-use Rattle.std.proofs.Common.{◌∙◌}
+use Rattle.std.proofs.Common.{List, reverse, ap, ◌∙◌, subst}
+use Rattle.nvme_log.specs.declared.event.Event.{Event}
+use Rattle.nvme_front.specs.Hosts.{sent_at, collected_at}
 use Rattle.nvme_front.specs.Settles.{settled_past}
+use Rattle.nvme_report.specs.declared.reports.Mode.{Mode}
+use Rattle.nvme_runs.specs.Runs.{AllSubmitted, is_loaded}
+use Rattle.nvme_runs.proofs.LoadedRuns.{run_is_loaded}
 use Rattle.nvme_workload.specs.Plan.{plan_of}
 use Rattle.nvme_runs.proofs.runs.settled_by.Goals as goal
 
@@ -62,3 +67,12 @@ returns-clause-gates g c =
     gates_ran (λ view ticket. g.G.Gate.left (g.G.Gate.entered view ticket) ticket) after.front.rules.sizes (settled_past c.in_ok-settled.settled) after.front.hands.seat
     before.workers.items c.args.gates.items after.workers.items c.in_ok-parts-2.gates.items c.in_ok-parts.ensures.prepared.blank.worked c.in_ok-parts-2.ensures.workers
     c.in_ok-settled.ensures.executed
+
+pub returns-clause-loaded : goal.returns-clause-loaded
+returns-clause-loaded g c = λ is.
+    let before = c.in_ok-parts.parts in
+    let after = c.in_ok-parts-2.parts in
+    run_is_loaded (plan_of c.args.workload) before after.front (is_loaded c.args.mode) (sent_at c.in_ok-settled.settled.sent.items) (settled_past c.in_ok-settled.settled)
+    (collected_at c.in_ok-settled.settled.collected.items) c.in_ok-parts.ensures.prepared
+    (subst (λ (m : Mode). AllSubmitted m before.front before.feeders.items) is (c.are_loaded.ensures c.if-not-are_loaded.false is))
+    c.in_ok-parts-2.ensures.front c.in_ok-parts-2.ensures.loaded (ap (λ (log : List Event). reverse log) c.in_ok-settled.ensures.log) (returns-clause-account g c)

@@ -31,6 +31,7 @@ returns g c =
     record {
       lanes = ok-so _ Are _ back.parts (λ r is. rw (is.lanes, put.lanes) refl);
       front = ok-so _ Are _ back.parts (λ r is. rw (is.front, put.front) ran.front);
+      loaded = ok-so _ Are _ back.parts (λ r is. rw (is.front, put.front) ran.loaded);
       feeders = both-ok _ _ Are _ Have back.ended ran.hosts back.parts (λ r hosts is. rw (is.feeders, put.feeders) hosts.feeders);
       drainers = both-ok _ _ Are _ Have back.ended ran.hosts back.parts (λ r hosts is. rw (is.drainers, put.drainers) hosts.drainers);
       workers = both-ok _ _ Are _ Have back.ended ran.hosts back.parts (λ r hosts is. rw (put.workers, put.gates_of, is.workers, is.gates_of) (all_ran _ _ _ hosts.crew));

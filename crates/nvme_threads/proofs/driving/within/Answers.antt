@@ -7,6 +7,7 @@ returns g c =
     let ended = c.outcome.ensures in
     record {
       front = c.serve-served.ensures.goes_on;
+      loaded = c.serve-served.ensures.loaded;
       hosts = ok-so _ _ _ ended.ok (λ _ whole. c.finish-hosts.ensures _ c.start-running.ensures whole);
       fault = outcome-fault _ _ _ c.serve-served.ensures.fault ended.fault;
     }
