@@ -6,12 +6,16 @@ use std::time::Duration;
 
 // The longest sleep of a waiting thread, in microseconds.
 const LONGEST: u64 = 1000;
+// How often a waiting thread spins before it sleeps, twice as long each time.
+const SPINS: u32 = 7;
 
-/// How long a thread has found nothing to do. It spins first, then lets other threads run, and then sleeps, longer each
-/// time and at most a millisecond, or until all is over.
+/// How long a thread has found nothing to do. It spins first, and then sleeps, longer each time and at most a
+/// millisecond, or until all is over.
 #[derive(Drop)]
 pub struct Pause {
     backoff: Backoff,
+    // How often it has spun.
+    spins: u32,
     // The next sleep, in microseconds.
     sleep: u64,
 }
@@ -21,6 +25,7 @@ impl Pause {
     pub fn new() -> Pause {
         Pause {
             backoff: Backoff::new(),
+            spins: 0,
             sleep: 1,
         }
     }
@@ -28,13 +33,15 @@ impl Pause {
     /// Something was done.
     pub fn reset(&mut self) {
         self.backoff.reset();
+        self.spins = 0;
         self.sleep = 1;
     }
 
     /// Waits a while.
     pub fn rest<R: Wait>(&mut self, rt: &R, flags: &Flags) {
-        if !self.backoff.is_completed() {
-            self.backoff.snooze();
+        if self.spins < SPINS {
+            self.spins += 1;
+            self.backoff.spin();
             return;
         }
         flags
