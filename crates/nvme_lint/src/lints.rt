@@ -32,11 +32,11 @@ impl From<AllocError> for LintError {
     }
 }
 
-// The place and the cause in bytes that are not UTF-8, of which so many at the front are.
-fn in_bytes(front: &[u8]) -> (Place, Why)
-    ensures { result.0 ≡ place_behind front.now }
+// The place and the cause in bytes that are not UTF-8, of which those up to the first fault are.
+fn in_bytes(valid: &[u8]) -> (Place, Why)
+    ensures { result.0 ≡ place_behind valid.now }
 {
-    (behind(front), Why::NotUtf8)
+    (behind(valid), Why::NotUtf8)
 }
 
 // The place and the cause in a text that is no TOML document.
@@ -56,8 +56,8 @@ fn located(alloc: Global, bytes: &[u8], error: WorkloadError) -> Result<(Place, 
     let text = match std::str::from_utf8(bytes) {
         Ok(text) => text,
         Err(fault) => {
-            let front = fault.valid_up_to().min(bytes.len());
-            return Ok(in_bytes(&bytes[..front]));
+            let valid = fault.valid_up_to().min(bytes.len());
+            return Ok(in_bytes(&bytes[..valid]));
         }
     };
     match toml::table_from_str(alloc, text) {

@@ -32,14 +32,14 @@ at_most_one x [] l = refl
 at_most_one x (y ∷ rest) l = absurd (omega arith)
 
 -- a list of at most one whose back has a first
-only_back : {A : Type 0} (front back : List A) (x : A) → length (front ++ back) ≤ 1 → IsFirst x back → front ++ back ≡ x ∷ []
+only_back : {A : Type 0} (prefix back : List A) (x : A) → length (prefix ++ back) ≤ 1 → IsFirst x back → prefix ++ back ≡ x ∷ []
 only_back [] back x l (rest, e) = e ∙ at_most_one x rest (rw e at l)
 only_back (y ∷ ys) back x l (rest, e) = absurd (omega (arith, length-append ys back, ap length e))
 
--- a list of at most one whose front has a first
-only_front : {A : Type 0} (front back : List A) (x : A) → length (front ++ back) ≤ 1 → IsFirst x front → front ++ back ≡ x ∷ []
-only_front [] back x l (rest, e) = cc
-only_front (y ∷ ys) back x l (rest, e) = at_most_one y (ys ++ back) l ∙ cc
+-- a list of at most one whose prefix has a first
+only_prefix : {A : Type 0} (prefix back : List A) (x : A) → length (prefix ++ back) ≤ 1 → IsFirst x prefix → prefix ++ back ≡ x ∷ []
+only_prefix [] back x l (rest, e) = cc
+only_prefix (y ∷ ys) back x l (rest, e) = at_most_one y (ys ++ back) l ∙ cc
 
 -- a log from some event on, and before it
 pub completions_split : (log : List Event) (r i n : ℕ) → completions_of log r i ≡ completions_of (take n log) r i ++ completions_of (drop n log) r i
@@ -61,7 +61,7 @@ posted_before cqe_of None log r i n l none h =
     completions_split log r i n ∙ (ap (λ (v : List Cqe). v ++ completions_of (drop n log) r i) h ∙ rw (take_rest log n) at none)
 posted_before cqe_of (Some found) log r i n l none h =
     let e = completions_split log r i n in
-    e ∙ only_front (completions_of (take n log) r i) (completions_of (drop n log) r i) (cqe_of found) (rw e at l) h
+    e ∙ only_prefix (completions_of (take n log) r i) (completions_of (drop n log) r i) (cqe_of found) (rw e at l) h
 
 -- one post more or not
 more_posts : (b : Bool) (m n k : ℕ) → m ≡ n + k → (if b then m + 1 else m) ≡ (if b then n + 1 else n) + k

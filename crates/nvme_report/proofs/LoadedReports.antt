@@ -61,24 +61,24 @@ one-completion : (later before : Past) (c r i : ℕ) (cqe : Cqe) → posts_of (l
 one-completion later before c r i cqe once =
     let post : Event = Post c r i cqe in
     let past : Past = later ++ post ∷ before in
-    let front : List Cqe = completions_of (reverse before) r i in
+    let prefix : List Cqe = completions_of (reverse before) r i in
     let back : List Cqe = completions_of (reverse later) r i in
     let order : reverse past ≡ (reverse before ++ post ∷ []) ++ reverse later =
     reverse-append later (post ∷ before) ∙ ap (λ (z : List Event). z ++ reverse later) (reverse-append (post ∷ []) before) in
     let own : completions_of (post ∷ []) r i ≡ cqe ∷ [] = ap (λ (z : List Cqe). z ++ []) (completion_is r i c r i cqe refl refl) in
-    let split : completions_of (reverse past) r i ≡ front ++ cqe ∷ back =
+    let split : completions_of (reverse past) r i ≡ prefix ++ cqe ∷ back =
     ap (λ (z : List Event). completions_of z r i) order
     ∙ flat_map-append (completion_in r i) (reverse before ++ post ∷ []) (reverse later)
-    ∙ ap (λ (z : List Cqe). z ++ back) (flat_map-append (completion_in r i) (reverse before) (post ∷ []) ∙ ap (λ (z : List Cqe). front ++ z) own)
-    ∙ append_assoc front (cqe ∷ []) back in
+    ∙ ap (λ (z : List Cqe). z ++ back) (flat_map-append (completion_in r i) (reverse before) (post ∷ []) ∙ ap (λ (z : List Cqe). prefix ++ z) own)
+    ∙ append_assoc prefix (cqe ∷ []) back in
     let few : length (completions_of (reverse past) r i) ≡ 1 = completions_are_posts (reverse past) r i ∙ ap (λ (z : Past). posts_of z r i) (reverse-reverse past) ∙ once in
-    split ∙ one-middle front back cqe (omega (arith, few, ap length split))
+    split ∙ one-middle prefix back cqe (omega (arith, few, ap length split))
 
--- what stands in the front of a list stands in it
-in-front : {A : Type 0} (xs ys : List A) (i : ℕ) (x : A) → slice_get xs i ≡ Some x → slice_get (xs ++ ys) i ≡ Some x
-in-front [] ys i x h = absurd (none-some x h)
-in-front (y ∷ xs) ys zero x h = h
-in-front (y ∷ xs) ys (suc i) x h = in-front xs ys i x h
+-- what stands in the prefix of a list stands in it
+in-prefix : {A : Type 0} (xs ys : List A) (i : ℕ) (x : A) → slice_get xs i ≡ Some x → slice_get (xs ++ ys) i ≡ Some x
+in-prefix [] ys i x h = absurd (none-some x h)
+in-prefix (y ∷ xs) ys zero x h = h
+in-prefix (y ∷ xs) ys (suc i) x h = in-prefix xs ys i x h
 
 -- texts that are equal below n are together equal
 texts-below : (f g : ℕ → List ℕ) (n : ℕ) → ((i : ℕ) → i < n → f i ≡ g i) → flat_map f (upto n) ≡ flat_map g (upto n)
@@ -110,7 +110,7 @@ module _ (rules : FrontRules) (loaded : Bool) (scripts sent : ℕ → List Sqe) 
       let dw0 : it.cqe.dw0 ≡ own_dw0 rules (without_posts past) r i entry =
       it.own.dw0 ∙ sym stays.dw0 ∙ ap (λ (z : Past). own_dw0 rules z r i entry) it.stands ∙ sym (own_dw0-posts rules past r i entry h.account.effects_at_once) in
       let more = fetched-after it.later (Post it.region r i it.cqe ∷ it.before) r in
-      let there : entry_at stands r i ≡ Some entry = ap (λ (z : List Sqe). slice_get z i) (sym more.1) ∙ in-front (fetched it.before r) more.0 i entry it.own.is_there in
+      let there : entry_at stands r i ≡ Some entry = ap (λ (z : List Sqe). slice_get z i) (sym more.1) ∙ in-prefix (fetched it.before r) more.0 i entry it.own.is_there in
       let now : entry_at (without_posts past) r i ≡ Some entry = entry-posts past r i ∙ ap (λ (z : Past). entry_at z r i) (sym it.stands) ∙ there in
       one_line (cmd_line r i) (reverse past) r i it.cqe one
       ∙ (λ t. told_line r i (status t) (dw0 t))

@@ -7,7 +7,7 @@ use Rattle.std.proofs.lemmas.List.{append-nil, take-append-drop, take_more, drop
 use Rattle.std.proofs.lemmas.List.Concat.{flat_map-append}
 use Rattle.nvme_log.specs.Rules.{upto}
 use Rattle.nvme_report.specs.Report.{numbered}
-use Rattle.nvme_report.specs.Written.{AppendsFront, Writes}
+use Rattle.nvme_report.specs.Written.{AppendsPrefix, Writes}
 use Rattle.nvme_report.proofs.Writing.{appends_then, fails_at}
 use mathlib.Core.List.{append_assoc}
 
@@ -70,13 +70,13 @@ upto_at f (suc n) i l =
 
 -- an item's text failed to be written after those before it
 pub items_fail : {A T E : Type 0} (f : A → List ℕ) (xs : List A) (i : ℕ) (d : A) (a b c : Option (List ℕ)) (r : Result T E) → IsErr r → i < length xs
-    → Appends a b (flat_map f (take i xs)) → AppendsFront b c (f (get_or xs i d)) → Writes a c r (flat_map f xs)
+    → Appends a b (flat_map f (take i xs)) → AppendsPrefix b c (f (get_or xs i d)) → Writes a c r (flat_map f xs)
 items_fail f xs i d a b c r failed l p q =
     fails_at a b c r (flat_map f (take i xs)) (f (get_or xs i d)) (flat_map f (drop (i + 1) xs)) (flat_map f xs) failed (flat_map_at f xs i d l) p q
 
 -- the same, where a text follows the items
 pub items_fail_before : {A T E : Type 0} (f : A → List ℕ) (xs : List A) (i : ℕ) (d : A) (last : List ℕ) (a b c : Option (List ℕ)) (r : Result T E) → IsErr r → i < length xs
-    → Appends a b (flat_map f (take i xs)) → AppendsFront b c (f (get_or xs i d)) → Writes a c r (flat_map f xs ++ last)
+    → Appends a b (flat_map f (take i xs)) → AppendsPrefix b c (f (get_or xs i d)) → Writes a c r (flat_map f xs ++ last)
 items_fail_before f xs i d last a b c r failed l p q =
     let s = flat_map f (take i xs) in
     let x = f (get_or xs i d) in
@@ -86,10 +86,10 @@ items_fail_before f xs i d last a b c r failed l p q =
 
 -- a numbered text failed to be written after those before it
 pub numbered_fail : {A T E : Type 0} (f : ℕ → A → List ℕ) (xs : List A) (i : ℕ) (x : A) (a b c : Option (List ℕ)) (r : Result T E) → IsErr r → i < length xs
-    → x ≡ get_or xs i x → Appends a b (numbered f 0 (take i xs)) → AppendsFront b c (f i x) → Writes a c r (numbered f 0 xs)
+    → x ≡ get_or xs i x → Appends a b (numbered f 0 (take i xs)) → AppendsPrefix b c (f i x) → Writes a c r (numbered f 0 xs)
 numbered_fail f xs i x a b c r failed l e p q =
     fails_at a b c r (numbered f 0 (take i xs)) (f i (get_or xs i x)) (numbered f (i + 1) (drop (i + 1) xs)) (numbered f 0 xs) failed (numbered_at f xs i x l) p
-    (subst (λ z. AppendsFront b c (f i z)) e q)
+    (subst (λ z. AppendsPrefix b c (f i z)) e q)
 
 -- a numbered text was written after those before it
 pub numbered_written : {A : Type 0} (f : ℕ → A → List ℕ) (xs : List A) (i : ℕ) (x : A) (a b c : Option (List ℕ)) → i < length xs
@@ -99,7 +99,7 @@ numbered_written f xs i x a b c l e p q =
 
 -- a number's text failed to be written after those before it
 pub upto_fail : {T E : Type 0} (f : ℕ → List ℕ) (n i : ℕ) (a b c : Option (List ℕ)) (r : Result T E) → IsErr r → i < n
-    → Appends a b (flat_map f (upto i)) → AppendsFront b c (f i) → Writes a c r (flat_map f (upto n))
+    → Appends a b (flat_map f (upto i)) → AppendsPrefix b c (f i) → Writes a c r (flat_map f (upto n))
 upto_fail f n i a b c r failed l p q =
     let at = upto_at f n i l in
     fails_at a b c r (flat_map f (upto i)) (f i) at.0 (flat_map f (upto n)) failed at.1 p q

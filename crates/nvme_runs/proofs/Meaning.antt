@@ -12,7 +12,7 @@ use Rattle.nvme_front.specs.declared.settled.Settled.{Settled}
 use Rattle.nvme_report.specs.declared.reports.Mode.{Mode}
 use Rattle.nvme_report.specs.declared.reports.Mode.TheVariants.{Loaded}
 use Rattle.nvme_report.specs.Report.{report_text}
-use Rattle.nvme_report.specs.Written.{AppendsFront}
+use Rattle.nvme_report.specs.Written.{AppendsPrefix}
 use Rattle.nvme_runs.specs.declared.runs.RunError.{RunError}
 use Rattle.nvme_runs.specs.declared.runs.RunError.TheVariants as fault
 use Rattle.nvme_runs.specs.Runs.{FitsAll, IsRun, IsFirstTooLong}
@@ -163,7 +163,7 @@ module _ {T W : Type 0} (settled_in : T → Settled) (bytes_of : W → Option (L
 
   -- a run whose report wasn't written whole
   pub of_write : (now : W) (s : Settled) (plan : Plan) → (IsOutside workers 1 max_workers → ⊥) → workload_of text ≡ Ok plan → (mode ≡ Loaded → FitsAll plan.submissions)
-      → IsRun text mode s → AppendsFront (bytes_of w) (bytes_of now) (report_text mode s) → RunMeans (Err fault.Write) settled_in w now bytes_of text mode workers
+      → IsRun text mode s → AppendsPrefix (bytes_of w) (bytes_of now) (report_text mode s) → RunMeans (Err fault.Write) settled_in w now bytes_of text mode workers
   of_write now s plan inside read fit ran appends = record {
     account = tt;
     written = tt;

@@ -10,7 +10,7 @@ use Rattle.nvme_front.specs.declared.front.FrontError.{FrontError}
 use Rattle.nvme_front.specs.declared.settled.Settled.{Settled}
 use Rattle.nvme_report.specs.declared.reports.Mode.{Mode}
 use Rattle.nvme_report.specs.Report.{report_text}
-use Rattle.nvme_report.specs.Written.{AppendsFront}
+use Rattle.nvme_report.specs.Written.{AppendsPrefix}
 use Rattle.nvme_runs.specs.declared.runs.RunError.{RunError}
 use Rattle.nvme_runs.specs.declared.runs.RunError.TheVariants as fault
 use Rattle.nvme_runs.specs.Runs.{IsRun}
@@ -23,9 +23,9 @@ pub record RunMeans {T W : Type 0} (result : Result T RunError) (settled_in : T 
   -- with Ok the run is the whole account of the workload, and its report was written
   pub account : IfOk result (λ r. IsRun text mode (settled_in r))
   pub written : IfOk result (λ r. Appends (bytes_of old) (bytes_of new) (report_text mode (settled_in r)))
-  -- nothing was written where the fault isn't that of a write, and then a front of the report of a run that is as after Ok
+  -- nothing was written where the fault isn't that of a write, and then a prefix of the report of a run that is as after Ok
   pub untouched : IfErr result (λ e. e ≢ fault.Write → new ≡ old)
-  pub write_failed : IfErr result (λ e. e ≡ fault.Write → (s : Settled) × IsRun text mode s × AppendsFront (bytes_of old) (bytes_of new) (report_text mode s))
+  pub write_failed : IfErr result (λ e. e ≡ fault.Write → (s : Settled) × IsRun text mode s × AppendsPrefix (bytes_of old) (bytes_of new) (report_text mode s))
   -- the number of workers
   pub workers_are : IsErrOf result fault.Workers ↔ IsOutside workers 1 max_workers
   -- the faults of the workload, of which want of memory is none

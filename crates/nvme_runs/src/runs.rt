@@ -53,7 +53,7 @@ pub enum RunError {
     /// The front had found nothing to do for too many turns, and not all was done.
     #[error("gave up")]
     GaveUp,
-    /// A write of the report failed, or took no byte. A front of the report was written.
+    /// A write of the report failed, or took no byte. A prefix of the report was written.
     #[error("write failed")]
     Write,
 }

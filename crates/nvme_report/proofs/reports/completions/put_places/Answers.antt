@@ -3,7 +3,7 @@ use Rattle.std.specs.Io.KnownBytes.{Appends}
 use Rattle.std.specs.List.{flat_map}
 use Rattle.nvme_log.specs.Rules.{upto}
 use Rattle.nvme_report.specs.Report.{cmd_line, completions_of}
-use Rattle.nvme_report.specs.Written.{AppendsFront, Writes}
+use Rattle.nvme_report.specs.Written.{AppendsPrefix, Writes}
 use Rattle.nvme_report.proofs.Completions.{completions_are_posts, no_line, one_line}
 use Rattle.nvme_report.proofs.Loops.{upto_fail, upto_written}
 use Rattle.nvme_report.proofs.Writing.{appends_nothing}
@@ -23,9 +23,9 @@ returns-in_err-put_completion g c =
     let old = g.W.Write.contents c.loop-index.writer in
     let new = g.W.Write.contents c.put_completion.new.writer in
     let lines : ℕ → List ℕ = λ (k : ℕ). flat_map (cmd_line r k) (completions_of log r k) in
-    let front = subst (λ (z : List ℕ). AppendsFront old new z) (sym (one_line (cmd_line r i) log r i c.in-Some.found.cqe c.in-Some.ensures)) c.in_err-put_completion.ensures in
+    let prefix = subst (λ (z : List ℕ). AppendsPrefix old new z) (sym (one_line (cmd_line r i) log r i c.in-Some.found.cqe c.in-Some.ensures)) c.in_err-put_completion.ensures in
     subst (λ (n : ℕ). Writes start new c.from_residual.result (flat_map lines (upto n))) c.requires.count
-    (upto_fail lines c.args.count i start old new c.from_residual.result c.from_residual.ensures.0 (search rules) c.loop-index.invariant front)
+    (upto_fail lines c.args.count i start old new c.from_residual.result c.from_residual.ensures.0 (search rules) c.loop-index.invariant prefix)
 
 pub loop-index-preserved : goal.loop-index-preserved
 loop-index-preserved g c =

@@ -1,7 +1,7 @@
 use Rattle.std.proofs.Common.{rules, subst, List, ℕ}
 use Rattle.std.specs.Io.KnownBytes.{Appends}
 use Rattle.nvme_report.specs.Report.{sq_line}
-use Rattle.nvme_report.specs.Written.{AppendsFront}
+use Rattle.nvme_report.specs.Written.{AppendsPrefix}
 use Rattle.nvme_report.proofs.Counted.{sq_line_is}
 use Rattle.nvme_report.proofs.Loops.{numbered_fail, numbered_written}
 use Rattle.nvme_report.proofs.reports.counts.put_submissions.Goals as goal
@@ -14,7 +14,7 @@ returns-in_err-put_submission g c past counted =
     let sent = c.index-sent-region.result in
     numbered_fail (sq_line past) c.args.sent.now r sent (g.W.Write.contents c.args.writer.now) old new c.from_residual.result
     c.from_residual.ensures.0 (search rules) c.index-sent-region.is (c.loop-region.invariant past counted)
-    (subst (λ (z : List ℕ). AppendsFront old new z) (sq_line_is past r sent c.counts_at.result (c.counts_at.ensures past counted)) c.in_err-put_submission.ensures)
+    (subst (λ (z : List ℕ). AppendsPrefix old new z) (sq_line_is past r sent c.counts_at.result (c.counts_at.ensures past counted)) c.in_err-put_submission.ensures)
 
 pub loop-region-preserved : goal.loop-region-preserved
 loop-region-preserved g c past counted =

@@ -1,7 +1,7 @@
 use Rattle.std.proofs.Common.{rules, subst, ℕ}
 use Rattle.std.specs.Io.KnownBytes.{Appends}
 use Rattle.nvme_report.specs.Report.{cq_line, cq_line_of}
-use Rattle.nvme_report.specs.Written.{AppendsFront}
+use Rattle.nvme_report.specs.Written.{AppendsPrefix}
 use Rattle.nvme_report.proofs.Loops.{numbered_fail, numbered_written}
 use Rattle.nvme_report.proofs.reports.lines.put_collected.Goals as goal
 
@@ -13,7 +13,7 @@ returns-in_err-put_collection g c =
     let cqes = c.index-collected-region.result in
     numbered_fail cq_line c.args.collected.now r cqes (g.W.Write.contents c.args.writer.now) old new c.from_residual.result
     c.from_residual.ensures.0 (search rules) c.index-collected-region.is c.loop-region.invariant
-    (subst (λ (z : ℕ). AppendsFront old new (cq_line_of r z)) (search rules) c.in_err-put_collection.ensures)
+    (subst (λ (z : ℕ). AppendsPrefix old new (cq_line_of r z)) (search rules) c.in_err-put_collection.ensures)
 
 pub loop-region-preserved : goal.loop-region-preserved
 loop-region-preserved g c =
