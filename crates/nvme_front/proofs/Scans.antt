@@ -5,13 +5,14 @@ use Rattle.std.proofs.lemmas.Bool.{leb-true}
 use Rattle.std.proofs.lemmas.Bool.Decides.{eqb_tells}
 use Rattle.std.proofs.lemmas.List.{length-append}
 use Rattle.nvme_admin.specs.Standing.{sq_of, TableView}
+use Rattle.nvme_admin.proofs.Queues.{sqs-are_allotted}
 use Rattle.nvme_admin.specs.declared.verdict.SqEntry.{SqEntry}
 use Rattle.nvme_state.specs.declared.region.SqRegion.{SqRegion}
 use Rattle.nvme_front.specs.declared.state.FrontState.{FrontState}
 use Rattle.nvme_state.specs.declared.attachment.Attachment.{Attachment}
 use Rattle.nvme_state.specs.inside.Kept.{SqKept, no_sq}
 use Rattle.nvme_log.specs.Limits.{window_of}
-use Rattle.nvme_front.specs.inside.State.{sq_in, sq_kept}
+use Rattle.nvme_front.specs.inside.State.{sq_in, sq_kept, rules_of}
 use Rattle.nvme_front.specs.inside.Room.{IsKept}
 use Rattle.nvme_front.proofs.States.{sq_in-read, look-set, IsSame-sym}
 use Rattle.nvme_front.proofs.Fetches.{queue_of, open_is, region_there}
@@ -49,6 +50,20 @@ pub taken_empty : (s : FrontState) (o : Option SqEntry) (entry : SqEntry) (d : S
     → d ≡ get_or s.sqs.items entry.region d → d.end.known ≡ [] → IsTaken s o
 taken_empty s o entry d is there read none =
     rw is (λ open_now. inr (ap (λ (x : SqKept). x.known) (sq_in-read s.sqs.items entry.region d there read) ∙ none))
+
+-- nor does one that isn't there
+taken_none : (s : FrontState) (o : Option SqEntry) → ((entry : SqEntry) → o ≡ Some entry → ⊥) → IsTaken s o
+taken_none s None none = tt
+taken_none s (Some entry) none = absurd (none entry refl)
+
+-- no queue above the allotted number is there
+pub scanned_above : (s : FrontState) → IsKept s → HasAdmin s → (q : ℕ) → s.table.nsq < q → IsScanned s q
+scanned_above s kept admin q above =
+    let tabled = (kept.stands admin.0 admin.1).tabled in
+    taken_none s (sq_of s.table q) (λ entry is.
+    let few = sqs-are_allotted (rules_of s).start tabled.history q entry (λ none. omega (arith, above, none)) (sym (tabled.stands.sq q) ∙ is) in
+    let same = tabled.stands.nsq in
+    omega (arith, above, few, same))
 
 -- a queue that gives nothing still gives nothing in the same front later on
 pub scanned_on : (a b : FrontState) → IsSame a b → (q : ℕ) → IsScanned a q → IsScanned b q

@@ -2,7 +2,6 @@
 use crate::front::FrontError;
 use crate::logging::{make_room, note};
 use crate::state::FrontState;
-use nvme_arbiter::HIGHEST_QID;
 use nvme_log::Event;
 use nvme_state::Candidate;
 
@@ -100,7 +99,9 @@ impl FrontState {
         ensures no_stray { IfErr result (λ e. (e ≡ LogFull) ⊎ (e ≡ NoMemory)) }
     {
         let mut fetched = false;
-        for qid in 0..=HIGHEST_QID {
+        // (no queue above the allotted number is open)
+        let end = self.table.allotted().nsq + 1;
+        for qid in 0..end {
             if self.scan_queue(qid)? {
                 fetched = true;
             }
