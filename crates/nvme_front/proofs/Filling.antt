@@ -1,13 +1,11 @@
 -- How far a turn goes: what a scan leaves of the windows, and a pick after it.
-use Rattle.std.proofs.Common.{◌≡◌, ◌≢◌, ℕ, ◌+◌, ◌-◌, ◌<◌, ◌≤◌, Bool, true, false, List, [], ◌∷◌, ◌++◌, length, map, get_or, Option, Some, None, refl, sym, ap, ◌∙◌, subst, arith, ◌⊎◌, inl, inr, ⊎_elim, option_map, reverse}
-use mathlib.Core.List.{IsPrefix}
+use Rattle.std.proofs.Common.{◌≡◌, ℕ, ◌+◌, ◌<◌, ◌≤◌, Bool, true, false, List, [], length, map, get_or, Option, Some, None, refl, sym, ap, ◌∙◌, subst, ◌⊎◌, inl, inr, ⊎_elim, option_map}
 use Rattle.std.proofs.lemmas.List.{length-map}
 use Rattle.nvme_lane.proofs.Prefixes.{IsPrefix-trans}
 use Rattle.nvme_lane.specs.View.{GetView}
 use Rattle.nvme_entry.specs.declared.submission.Sqe.{Sqe}
 use Rattle.nvme_admin.specs.Standing.{sq_of}
 use Rattle.nvme_admin.specs.declared.verdict.SqEntry.{SqEntry}
-use Rattle.nvme_log.specs.declared.event.Event.{Event}
 use Rattle.nvme_state.specs.declared.candidate.Candidate.{Candidate}
 use Rattle.nvme_state.specs.declared.candidate.PendingDelete.{PendingDelete}
 use Rattle.nvme_front.specs.declared.front.Step.{Step}
@@ -15,15 +13,15 @@ use Rattle.nvme_front.specs.declared.front.Step.TheVariants.{Picked, Moved, Idle
 use Rattle.nvme_state.specs.declared.region.CqRegion.{CqRegion}
 use Rattle.nvme_front.specs.declared.state.FrontState.{FrontState}
 use Rattle.nvme_log.specs.Limits.{admin_events}
-use Rattle.nvme_log.specs.Rules.{FrontRules, Past, window_at, slots_at, sq_regions_of}
-use Rattle.nvme_log.specs.Queues.{Queue, Deletion, open_sq, pending}
+use Rattle.nvme_log.specs.Rules.{FrontRules, window_at}
+use Rattle.nvme_log.specs.Queues.{Queue, open_sq, pending}
 use Rattle.nvme_log.specs.Places.{waiting}
 use Rattle.nvme_log.specs.Histories.{picks_in}
 use Rattle.nvme_state.specs.inside.Standing.{Stands, as_deletion}
 use Rattle.nvme_front.specs.inside.State.{kept_of, rules_of, past_of, gets_of, cq_in}
 use Rattle.nvme_front.specs.inside.Room.{IsKept}
 use Rattle.nvme_front.specs.inside.Goes.{Goes, IsSame, HasAdmin, AllDrained, AllScanned, IsScanned, IsTaken, IsFullSq}
-use Rattle.nvme_front.specs.View.{FrontView, known_in, IsFilled, AreFilled, PicksOne, EndsSteps, GoesToEnd}
+use Rattle.nvme_front.specs.View.{known_in, IsFilled, AreFilled, PicksOne, EndsSteps, GoesToEnd}
 use Rattle.nvme_front.specs.inside.State.{view_of}
 use Rattle.nvme_front.specs.inside.Turn.{IsPickOf, told_after}
 use Rattle.nvme_front.proofs.States.{rules-goes, admin-goes}

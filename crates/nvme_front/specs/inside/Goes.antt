@@ -1,5 +1,5 @@
 -- What the steps of a front leave (profile).
-use Rattle.std.specs.Prelude.{◌≡◌, ◌⊎◌, ◌≢◌, ℕ, ◌+◌, ◌%◌, ◌<◌, ◌≤◌, false, List, [], ◌++◌, length, map, slice_index_or, Option, Some, None}
+use Rattle.std.specs.Prelude.{◌≡◌, ◌⊎◌, ◌≢◌, ℕ, ◌%◌, ◌<◌, ◌≤◌, false, List, [], ◌++◌, length, map, slice_index_or, Option, Some, None}
 use mathlib.Core.List.{IsPrefix}
 use Rattle.nvme_entry.specs.declared.submission.Sqe.{Sqe}
 use Rattle.nvme_entry.specs.declared.completion.Cqe.{Cqe}

@@ -1,5 +1,5 @@
 -- The room of windows and of ready completions, and when a front is kept: what it keeps stands at its log (profile).
-use Rattle.std.specs.Prelude.{◌≡◌, ℕ, ◌+◌, ◌≤◌, ◌<◌, [], length, map}
+use Rattle.std.specs.Prelude.{◌≡◌, ℕ, ◌≤◌, ◌<◌, [], length, map}
 use Rattle.nvme_admin.specs.declared.bounds.TheConstants.{MAX_REGIONS}
 use Rattle.nvme_admin.specs.declared.region.Region.{Region}
 use Rattle.nvme_state.specs.declared.region.SqRegion.{SqRegion}

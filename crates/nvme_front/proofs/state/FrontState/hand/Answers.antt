@@ -1,5 +1,5 @@
 -- A job after another: each that is handed waits for its result.
-use Rattle.std.proofs.Common.{◌≡◌, ◌∙◌, true, false, arith}
+use Rattle.std.proofs.Common.{◌∙◌, arith}
 use Rattle.nvme_front.proofs.States.{Goes-trans, admin-goes}
 use Rattle.nvme_front.proofs.Still.{balanced_trans}
 use Rattle.nvme_front.proofs.state.FrontState.hand.Goals as goal
