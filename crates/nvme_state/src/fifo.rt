@@ -86,9 +86,7 @@ impl<T: Copy> Fifo<T> {
         requires { length self.old.items < self.old.room }
         ensures { self.new ≡ record self.old { items = self.old.items ++ item ∷ [] } }
     {
-        let Ok(()) = self.items.push_back(item) else {
-            unreachable!()
-        };
+        self.items.push_back_reserved(item);
     }
 
     /// Takes the oldest item.
