@@ -76,7 +76,7 @@ fn lacks_one<R: Wait + Abort>(rt: &R, alloc: Global) -> Result<(), Fail> {
 }
 
 #[test]
-fn delete_with_a_full_window(rt: HostRuntime) -> Result<(), Fail> {
+fn delete_at_the_log_limit(rt: HostRuntime) -> Result<(), Fail> {
     begins(&rt, rt.alloc())?;
     lacks_one(&rt, rt.alloc())
 }

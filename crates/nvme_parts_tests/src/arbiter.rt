@@ -348,7 +348,7 @@ fn full_board() -> Board {
 }
 
 #[test]
-fn every_queue_in_turn(rt: HostRuntime) {
+fn sixty_five_queues(rt: HostRuntime) {
     let mut board = full_board();
     for qid in 0..=64 {
         assert_eq!(rt; board.pick(), pick(qid, 1));
