@@ -25,3 +25,4 @@ pub mod LoadedTurns
 pub mod PostsApart
 pub mod OwnStays
 pub mod PostCounts
+pub mod Tickets

@@ -127,6 +127,9 @@ both_posted =
 abbrev pub abort_and_deleted : Past
 abort_and_deleted = Post 0 0 3 (told 23 0 success) ∷ both_posted
 
--- a pick of one command
+-- a pick of one command, and of two
 abbrev pub one_of : ℕ → Pick
 one_of qid = record { qid = qid; n = 1; fresh = false }
+
+abbrev pub two_of : ℕ → Pick
+two_of qid = record { qid = qid; n = 2; fresh = false }

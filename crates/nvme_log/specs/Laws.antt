@@ -1,18 +1,29 @@
 -- Laws of logs, which test the definitions (profile).
-use Rattle.std.specs.Prelude.{◌≡◌, ℕ, ◌+◌, ◌<◌, ◌≤◌, Bool, if◌then◌else◌, List, [], ◌∷◌, ◌++◌, length, filter, Option, Some, None, slice_get}
+use Rattle.std.specs.Prelude.{◌≡◌, ℕ, ◌+◌, ◌<◌, ◌≤◌, ◌==◌, Bool, if◌then◌else◌, List, [], ◌∷◌, ◌++◌, length, filter, Option, Some, None, slice_get, sum_by}
 use mathlib.Core.List.{IsPrefix}
 use Rattle.nvme_entry.specs.declared.submission.Sqe.{Sqe}
 use Rattle.nvme_entry.specs.declared.completion.Cqe.{Cqe}
+use Rattle.nvme_lane.specs.View.{GetView}
 use Rattle.nvme_arbiter.specs.Lawful.{IsLawfulRun}
+use Rattle.nvme_arbiter.specs.declared.pick.Pick.{Pick}
+use Rattle.nvme_arbiter.specs.declared.pick.Seen.{Seen}
 use Rattle.nvme_admin.specs.History.{TableHistory}
 use Rattle.nvme_admin.specs.Accepted.{sq_at, cq_at}
 use Rattle.nvme_admin.specs.declared.verdict.SqEntry.{SqEntry}
+use Rattle.nvme_pool.specs.declared.jobs.Job.{Job}
+use Rattle.nvme_pool.specs.declared.jobs.Finished.{Finished}
+use Rattle.nvme_pool.specs.Seat.{SeatView}
+use Rattle.nvme_pool.specs.Worker.{WorkerView}
+use Rattle.nvme_log.specs.declared.event.Event.{Event}
 use Rattle.nvme_log.specs.declared.event.Event.TheVariants.{Closing, Post}
+use Rattle.nvme_log.specs.declared.event.Event.TheVariants as event
+use Rattle.nvme_log.specs.Limits.{max_outstanding}
 use Rattle.nvme_log.specs.Rules.{Past, FrontRules, Each}
-use Rattle.nvme_log.specs.Places.{fetched, places, fate_of, is_waiting, is_picked, is_aborted}
+use Rattle.nvme_log.specs.Places.{fetched, places, fate_of, is_waiting, is_picked, is_aborted, one_if}
 use Rattle.nvme_log.specs.Queues.{Queue, open_sq, open_cq}
 use Rattle.nvme_log.specs.Histories.{arbitration_of, table_history}
-use Rattle.nvme_log.specs.Completions.{posted_to, posts_of, IsOwn}
+use Rattle.nvme_log.specs.Completions.{posted_to, posts_of, outstanding, IsOwn}
+use Rattle.nvme_log.specs.Dispatches.{dispatched, ExecutesOnce}
 use Rattle.nvme_log.specs.Effects.{EffectsAtOnce}
 use Rattle.nvme_log.specs.Account.{IndexCounts, ServedWhileOpen, Observed, Deletes, PostsOwn, LeavesPlaces, IsAccount, IsWholeAccount, latest_admin_place}
 
@@ -112,3 +123,24 @@ pub record QueuesAre (rules : FrontRules) (history : TableHistory) (past : Past)
 abbrev pub QueuesAreTheTables : Type 0
 QueuesAreTheTables = (rules : FrontRules) (sent : ℕ → List Sqe) (past : Past) (collected : ℕ → List Cqe)
     → StartsWithAdmin rules → IsAccount rules sent past collected → QueuesAre rules (table_history rules past) past
+
+-- the last outstanding place may be taken, and no place more
+pub record TakesThePlace (rules : FrontRules) (past : Past) (e : Event) : Type 0 where
+  pub last : outstanding rules (e ∷ past) ≡ max_outstanding → LeavesPlaces rules past e
+  pub one_more : outstanding rules (e ∷ past) ≡ max_outstanding + 1 → LeavesPlaces rules past e → ⊥
+
+-- by a pick and by an abort
+pub record PlacesAreTaken (rules : FrontRules) (past : Past) : Type 0 where
+  pub by_pick : (seen : List Seen) (pick : Pick) → TakesThePlace rules past (event.Pick seen pick)
+  pub by_abort : (r i : ℕ) → TakesThePlace rules past (event.Abort r i)
+
+-- over all workers the job with a ticket was taken once and executed once, and one result with it was gained
+pub record IsExecutedOnce (seat : SeatView) (workers : List WorkerView) (ticket : ℕ) : Type 0 where
+  pub taken : sum_by (λ (x : WorkerView). sum_by (λ (j : Job). one_if (j.ticket == ticket)) x.taken) workers ≡ 1
+  pub executed : sum_by (λ (x : WorkerView). sum_by (λ (j : Job). one_if (j.ticket == ticket)) x.executed) workers ≡ 1
+  pub gained : sum_by (λ (g : GetView Finished). sum_by (λ (f : Finished). one_if (f.ticket == ticket)) g.got) seat.ends ≡ 1
+
+-- the position of a picked I/O command among these is the ticket of its job, which is executed once
+abbrev pub EachIsExecutedOnce : Type 0
+EachIsExecutedOnce = (sizes : List ℕ) (past : Past) (seat : SeatView) (workers : List WorkerView) → ExecutesOnce sizes past seat workers
+    → (k : ℕ) → k < length (dispatched past) → IsExecutedOnce seat workers k

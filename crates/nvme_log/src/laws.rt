@@ -1,6 +1,8 @@
 //! Laws of logs, over the definitions alone. Each function does nothing: its contract is the law.
-ghost use Rattle.nvme_log.specs.Account.{Deletes, IndexCounts, IsAccount, LeavesPlaces, Observed, PostsOwn, ServedWhileOpen, IsWholeAccount, deleting_place, latest_admin_place};
-ghost use Rattle.nvme_log.specs.Limits.{max_outstanding};
+ghost use Rattle.nvme_log.specs.Account.{Deletes, IndexCounts, IsAccount, LeavesPlaces, Observed, PostsOwn, ServedWhileOpen, IsWholeAccount, IsClear, deleting_place, latest_admin_place};
+ghost use Rattle.nvme_arbiter.specs.Limits.{highest_count};
+ghost use Rattle.nvme_log.specs.Limits.{max_outstanding, most_events, admin_events, max_ready};
+ghost use Rattle.nvme_log.specs.declared.limits.TheConstants.{MAX_OUTSTANDING, MAX_EVENTS};
 ghost use Rattle.nvme_log.specs.Effects.{EffectsAtOnce, effects_since, made_last};
 ghost use Rattle.nvme_log.specs.Completions.{outstanding, posted_to, posts_of, unposted_of};
 ghost use Rattle.nvme_log.specs.Histories.{arbitration_of, picks_in};
@@ -9,23 +11,23 @@ ghost use Rattle.nvme_log.specs.Examples.{admin_posted, arbitration_told, at_adm
 ghost use Rattle.nvme_log.specs.Examples.{at_two, one_deletion, admin_script, reads, read, delete_sq, done, admin_done, reads_done, admin_seen, reads_seen, picked_of, admin_fetched, reads_fetched, one_picked, delete_picked, closing, aborted_posted, all_posted, deleted, queue_created, closed, read_done, window_filled};
 ghost use Rattle.nvme_log.specs.Dispatches.{AreJobs, dispatched, place_at};
 ghost use Rattle.nvme_log.specs.Queues.{is_serving, pending};
-ghost use Rattle.nvme_log.specs.FourNumbers.{four_numbers, admin_five, four_reads, at_zero_and_two, five_told, four_told, all_closed, three_jobs};
+ghost use Rattle.nvme_log.specs.FourNumbers.{four_numbers, admin_five, four_reads, at_zero_and_two, five_told, four_told, four_done, all_closed, three_jobs, job_with};
 ghost use Rattle.nvme_log.specs.FourNumbers.{seen_4, two_picked, three_fetched, burst_set, one_more_picked, delete_4_picked, closing_4, posted_4, closed_4, last_unposted, four_told_first, five_told_first};
 ghost use Rattle.nvme_log.specs.Aborts.{is_aborted_with_queue, places_for};
-ghost use Rattle.nvme_log.specs.AbortExamples.{abort, abort_1_1, fused_abort, two_aborts, reads_and, told, two_aborts_told, reads_told, two_waiting, abort_picked, one_aborted, abort_posted, second_picked, both_told, one_of};
+ghost use Rattle.nvme_log.specs.AbortExamples.{abort, abort_1_1, fused_abort, two_aborts, reads_and, told, two_aborts_told, reads_told, two_waiting, abort_picked, one_aborted, abort_posted, second_picked, both_told, one_of, two_of};
 ghost use Rattle.nvme_log.specs.AbortExamples.{abort_and_delete, six_reads, six_done, abort_and_delete_told, six_told, abort_4_picked, one_aborted_4, delete_after_abort, both_aborted, both_posted, abort_and_deleted};
 ghost use Rattle.nvme_log.specs.declared.event.Event.TheVariants.{Fetch, OpenSq, Closing, Abort, Post, ClosedSq};
 ghost use Rattle.nvme_arbiter.specs.Lawful.{IsLawfulRun};
 ghost use Rattle.nvme_arbiter.specs.declared.settings.Class.TheVariants.{Urgent};
 ghost use Rattle.nvme_entry.specs.Status.{success, abort_requested, aborted_by_deletion, invalid_field};
 ghost use mathlib.Core.List.{IsPrefix};
-ghost use Rattle.nvme_log.specs.Rules.{Each, FrontRules, Past};
+ghost use Rattle.nvme_log.specs.Rules.{Each, FrontRules, Past, slots_at, sq_regions_of};
 ghost use Rattle.std.specs.Prelude.{◌≡◌, ℕ, ◌+◌, [], ◌∷◌, ◌++◌, Some, None, true, false};
 ghost use Rattle.nvme_log.specs.AbortLaws.{AbortedAreNotDispatched, AdminIsNotAborted, AbortedAreTold, AbortsTakeTheOldest, AbortsAreTold};
 ghost use Rattle.nvme_log.specs.Loaded.{IsNoPost, without_posts, are_filled, FilledBefore, FetchesLast, ClosedAtOnce, NothingAfterClosed, NoneWaits, IsLoadedLog};
 ghost use Rattle.nvme_log.specs.LoadedExamples.{no_scripts, small_windows, small_script, create_picked, small_opened, small_delete_fetched, small_fetched, small_picked, small_refilled, small_delete_picked, small_aborted, small_closed, crosswise};
 ghost use Rattle.nvme_log.specs.LoadedLaws.{LoadedStepIsOne, LoadedLogIsOne};
-ghost use Rattle.nvme_log.specs.Laws.{QueuesAreTheTables, StartsWithAdmin, OneFateEach, PrefixesAreAccounted, OnePostEach, WholeAccountsAnswer, WholeAccountsKeepThePromise};
+ghost use Rattle.nvme_log.specs.Laws.{QueuesAreTheTables, StartsWithAdmin, OneFateEach, PlacesAreTaken, EachIsExecutedOnce, PrefixesAreAccounted, OnePostEach, WholeAccountsAnswer, WholeAccountsKeepThePromise};
 
 /// Each fetched place has exactly one fate: it waits, was picked or was aborted.
 pub fn each_place_has_one_fate()
@@ -136,20 +138,25 @@ pub fn four_numbers_are_told_apart()
 {}
 
 /// What a deletion forbids, one by one: a pick while it is pending, the end of another queue's or of another region's, and a
-/// fetch or an abort after it.
+/// fetch, an abort or a post after it.
 pub fn deletions_forbid()
     ensures picked_while_pending { Deletes closing_4 (picked_of (admin_seen 1 ∷ []) 0) → ⊥ }
     ensures end_of_another_queue { Deletes posted_4 (ClosedSq 2 2) → ⊥ }
     ensures end_of_another_region { Deletes posted_4 (ClosedSq 4 1) → ⊥ }
     ensures fetched_after_closed { Deletes closed_4 (Fetch 2 4 (read 14)) → ⊥ }
     ensures aborted_after_closed { Deletes closed_4 (Abort 2 3) → ⊥ }
+    ensures posted_after_closed { Deletes closed_4 (Post 1 2 0 (four_done 10 true success)) → ⊥ }
 {}
 
 /// What stands at steps of that log: the places that workers get, in order, with their jobs; how many commands were picked,
-/// are outstanding and have no post; which command deletes; and which regions and places are served.
+/// are outstanding and have no post; which command deletes; which regions and places are served; and that a region that
+/// isn't there has no slots.
 pub fn worked_steps_are_counted()
     ensures dispatched { dispatched all_closed ≡ place_at 2 0 ∷ place_at 2 1 ∷ place_at 2 2 ∷ [] }
     ensures jobs { AreJobs four_numbers.sizes all_closed 0 (dispatched all_closed) three_jobs }
+    ensures a_job_missing { AreJobs four_numbers.sizes all_closed 0 (dispatched all_closed) (job_with 0 10 ∷ job_with 1 11 ∷ []) → ⊥ }
+    ensures a_job_too_many { AreJobs four_numbers.sizes all_closed 0 (dispatched all_closed) (three_jobs ++ job_with 3 13 ∷ []) → ⊥ }
+    ensures jobs_over_other_spaces { AreJobs (999 ∷ []) all_closed 0 (dispatched all_closed) three_jobs → ⊥ }
     ensures picks { picks_in all_closed ≡ 7 }
     ensures posts { posts_of all_closed 2 3 ≡ 1 }
     ensures unposted { unposted_of closing_4 2 ≡ 4 }
@@ -164,16 +171,26 @@ pub fn worked_steps_are_counted()
     ensures aborted { is_served closing_4 2 3 ≡ true }
     ensures waiting { is_served burst_set 2 2 ≡ false }
     ensures unfetched { is_served closing_4 2 4 ≡ false }
+    ensures no_region { slots_at (sq_regions_of four_numbers) 3 ≡ 0 }
 {}
 
 /// What is missing from the whole account, one by one: a post, a collected completion, a command that wasn't fetched, one
-/// that wasn't submitted, and one that wasn't submitted before the first turn.
+/// that wasn't submitted, one that wasn't submitted before the first turn, and a script that begins with what was submitted.
 pub fn whole_accounts_have_all()
     ensures post { IsWholeAccount four_numbers false (at_zero_and_two admin_five four_reads) (at_zero_and_two admin_five four_reads) last_unposted (at_two five_told_first four_told) → ⊥ }
     ensures collected { IsWholeAccount four_numbers false (at_zero_and_two admin_five four_reads) (at_zero_and_two admin_five four_reads) all_closed (at_two five_told four_told_first) → ⊥ }
     ensures fetched { IsWholeAccount four_numbers false (at_zero_and_two (admin_five ++ delete_sq ∷ []) four_reads) (at_zero_and_two (admin_five ++ delete_sq ∷ []) four_reads) all_closed (at_two five_told four_told) → ⊥ }
     ensures submitted { IsWholeAccount four_numbers false (at_zero_and_two (admin_five ++ delete_sq ∷ []) four_reads) (at_zero_and_two admin_five four_reads) all_closed (at_two five_told four_told) → ⊥ }
     ensures loaded { IsWholeAccount four_numbers true (at_zero_and_two admin_five (four_reads ++ read 14 ∷ [])) (at_zero_and_two admin_five four_reads) all_closed (at_two five_told four_told) → ⊥ }
+    ensures in_order { IsWholeAccount four_numbers false (at_zero_and_two admin_five (read 14 ∷ [])) (at_zero_and_two admin_five four_reads) all_closed (at_two five_told four_told) → ⊥ }
+{}
+
+/// What keeps a log from being clear, one by one: a command that waits, one whose completion isn't posted, and a deletion
+/// that is pending.
+pub fn clear_logs_have_nothing_left()
+    ensures waiting { IsClear (Post 0 0 0 (done 0 0 success) ∷ Fetch 0 0 delete_sq ∷ []) → ⊥ }
+    ensures unposted { IsClear last_unposted → ⊥ }
+    ensures pending { IsClear (Closing 1 1 ∷ []) → ⊥ }
 {}
 
 /// An Abort command is picked while two commands of its queue wait: it takes the older of those with its identifier,
@@ -251,6 +268,7 @@ pub fn aborted_places_are_counted()
     ensures for_abort { places_for (two_waiting abort_1_1 2) (one_of 0) ≡ 2 }
     ensures for_read { places_for (two_waiting abort_1_1 2) (one_of 1) ≡ 1 }
     ensures for_delete { places_for reads_fetched (one_of 0) ≡ 1 }
+    ensures for_two_reads { places_for three_fetched (two_of 4) ≡ 2 }
 {}
 
 /// No worker ever gets a place that was aborted, and no command of the admin queue is aborted.
@@ -337,4 +355,23 @@ pub fn loaded_logs_that_end_early_are_refused()
     ensures unfetched { are_filled small_windows (at_two small_script reads) small_picked ≡ true → ⊥ }
     ensures unfinished { pending small_aborted ≡ None → ⊥ }
     ensures candidates_left { NoneWaits small_refilled → ⊥ }
+{}
+
+/// A pick and an abort may take the last outstanding place, and no place more.
+pub fn last_place_may_be_taken()
+    ensures { (rules : FrontRules) (past : Past) → PlacesAreTaken rules past }
+{}
+
+/// Each picked I/O command is executed once, whatever the number of workers, and one result of it is gained.
+pub fn each_is_executed_once()
+    ensures { EachIsExecutedOnce }
+{}
+
+/// The limits are the constants. An admin pick makes two events and one for each candidate of a full window; as many
+/// completions may be ready for a region as places may be outstanding and candidates may be aborted with their queue.
+pub fn limits_fit_together()
+    ensures outstanding { max_outstanding ≡ MAX_OUTSTANDING }
+    ensures events { most_events ≡ MAX_EVENTS }
+    ensures admin { admin_events ≡ 2 + highest_count }
+    ensures ready { max_ready ≡ max_outstanding + highest_count }
 {}

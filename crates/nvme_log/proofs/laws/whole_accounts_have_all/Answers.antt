@@ -15,3 +15,6 @@ returns-clause-submitted c h = let e : 5 ≡ 6 = ap length (h.open_done 0 refl).
 
 pub returns-clause-loaded : goal.returns-clause-loaded
 returns-clause-loaded c h = let e : 4 ≡ 5 = ap length (h.loaded_whole refl 2) in cc e
+
+pub returns-clause-in_order : goal.returns-clause-in_order
+returns-clause-in_order c h = let it = h.sent_in_order 2 in cc it.1

@@ -50,3 +50,7 @@ returns-clause-waiting c = refl
 
 pub returns-clause-unfetched : goal.returns-clause-unfetched
 returns-clause-unfetched c = refl
+
+pub returns-clause-no_region : goal.returns-clause-no_region
+unfolding effects_of queue_table
+returns-clause-no_region c = refl
