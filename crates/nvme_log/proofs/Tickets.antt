@@ -1,7 +1,9 @@
 -- Of the jobs of picked places each ticket is that of one job.
-use Rattle.std.proofs.Common.{◌≡◌, ◌∙◌, ◌==◌, ℕ, ◌+◌, ◌<◌, ◌≤◌, List, [], ◌∷◌, length, ap, refl, arith, ⊎_elim}
+use Rattle.std.proofs.Common.{◌≡◌, ◌∙◌, ◌==◌, ℕ, ◌+◌, ◌<◌, ◌≤◌, List, [], ◌∷◌, length, Some, zero, suc, ap, refl, subst, arith, ⊎_elim}
+use Rattle.std.specs.Prelude.{slice_get}
 use Rattle.std.specs.List.{sum_by}
 use Rattle.std.proofs.lemmas.Bool.{eq-eqb, ne_eqb}
+use Rattle.std.proofs.lemmas.Option.{none-some, same_Some, slice_get_within}
 use Rattle.std.proofs.lemmas.List.Sums.{sum_by-cons}
 use Rattle.std.proofs.Math.Nat.{eq-or-lt_of_le}
 use Rattle.nvme_pool.specs.declared.jobs.Job.{Job}
@@ -10,7 +12,7 @@ use Rattle.nvme_pool.specs.Jobs.{result_of}
 use Rattle.nvme_pool.proofs.Retiring.{sum_by_map}
 use Rattle.nvme_log.specs.Rules.{Past}
 use Rattle.nvme_log.specs.Places.{Place, one_if}
-use Rattle.nvme_log.specs.Dispatches.{AreJobs, dispatched}
+use Rattle.nvme_log.specs.Dispatches.{AreJobs, IsJobOf, dispatched}
 use Rattle.nvme_log.specs.Laws.{EachIsExecutedOnce}
 
 -- 1 for a job with a ticket
@@ -45,10 +47,27 @@ one_there sizes past t (p ∷ ps) (j ∷ js) h k from below =
 one_there sizes past t [] (j ∷ js) h k from below = absurd h
 one_there sizes past t (p ∷ ps) [] h k from below = absurd h
 
+-- the job of a place stands where the place stands
+job_there : (sizes : List ℕ) (past : Past) (t : ℕ) (ps : List Place) (js : List Job) → AreJobs sizes past t ps js → (k : ℕ) (place : Place) → slice_get ps k ≡ Some place
+    → (job : Job) × (slice_get js k ≡ Some job) × IsJobOf sizes past (t + k) place job
+job_there sizes past t [] [] h k place is = absurd (none-some place is)
+job_there sizes past t (p ∷ ps) (j ∷ js) h zero place is =
+    (j, refl, subst (λ (z : Place). IsJobOf sizes past (t + 0) z j) (same_Some p place is) (subst (λ (n : ℕ). IsJobOf sizes past n p j) (omega arith) h.0))
+job_there sizes past t (p ∷ ps) (j ∷ js) h (suc k) place is =
+    let rest = job_there sizes past (t + 1) ps js h.1 k place is in
+    (rest.0, rest.1, subst (λ (n : ℕ). IsJobOf sizes past n place rest.0) (omega arith) rest.2)
+job_there sizes past t [] (j ∷ js) h k place is = absurd h
+job_there sizes past t (p ∷ ps) [] h k place is = absurd h
+
 pub each-is_executed_once : EachIsExecutedOnce
-each-is_executed_once sizes past seat workers h k below =
+each-is_executed_once sizes past seat workers h k place is =
+    let there = job_there sizes past 0 (dispatched past) seat.handed h.jobs_are k place is in
+    let below = slice_get_within (dispatched past) k place is in
     let one : sum_by (with_ticket k) seat.handed ≡ 1 = one_there sizes past 0 (dispatched past) seat.handed h.jobs_are k (omega arith) (omega (arith, below)) in
     record {
+      job = there.0;
+      handed = there.1;
+      is_of_place = subst (λ (n : ℕ). IsJobOf sizes past n place there.0) (omega arith) there.2;
       taken = h.taken (with_ticket k) ∙ one;
       executed = h.executed (with_ticket k) ∙ one;
       gained = h.gained (λ (f : Finished). one_if (f.ticket == k)) ∙ (sum_by_map result_of (λ (f : Finished). one_if (f.ticket == k)) seat.handed ∙ one);

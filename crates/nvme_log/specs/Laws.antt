@@ -19,11 +19,11 @@ use Rattle.nvme_log.specs.declared.event.Event.TheVariants.{Closing, Post}
 use Rattle.nvme_log.specs.declared.event.Event.TheVariants as event
 use Rattle.nvme_log.specs.Limits.{max_outstanding}
 use Rattle.nvme_log.specs.Rules.{Past, FrontRules, Each}
-use Rattle.nvme_log.specs.Places.{fetched, places, fate_of, is_waiting, is_picked, is_aborted, one_if}
+use Rattle.nvme_log.specs.Places.{Place, fetched, places, fate_of, is_waiting, is_picked, is_aborted, one_if}
 use Rattle.nvme_log.specs.Queues.{Queue, open_sq, open_cq}
 use Rattle.nvme_log.specs.Histories.{arbitration_of, table_history}
 use Rattle.nvme_log.specs.Completions.{posted_to, posts_of, outstanding, IsOwn}
-use Rattle.nvme_log.specs.Dispatches.{dispatched, ExecutesOnce}
+use Rattle.nvme_log.specs.Dispatches.{dispatched, IsJobOf, ExecutesOnce}
 use Rattle.nvme_log.specs.Effects.{EffectsAtOnce}
 use Rattle.nvme_log.specs.Account.{IndexCounts, ServedWhileOpen, Observed, Deletes, PostsOwn, LeavesPlaces, IsAccount, IsWholeAccount, latest_admin_place}
 
@@ -134,13 +134,17 @@ pub record PlacesAreTaken (rules : FrontRules) (past : Past) : Type 0 where
   pub by_pick : (seen : List Seen) (pick : Pick) → TakesThePlace rules past (event.Pick seen pick)
   pub by_abort : (r i : ℕ) → TakesThePlace rules past (event.Abort r i)
 
--- over all workers the job with a ticket was taken once and executed once, and one result with it was gained
-pub record IsExecutedOnce (seat : SeatView) (workers : List WorkerView) (ticket : ℕ) : Type 0 where
+-- the job of a place was handed under a ticket, and no other job was: over all workers it was taken once and executed once, and one result
+-- of it was gained
+pub record IsExecutedOnce (sizes : List ℕ) (past : Past) (seat : SeatView) (workers : List WorkerView) (ticket : ℕ) (place : Place) : Type 0 where
+  pub job : Job
+  pub handed : slice_get seat.handed ticket ≡ Some job
+  pub is_of_place : IsJobOf sizes past ticket place job
   pub taken : sum_by (λ (x : WorkerView). sum_by (λ (j : Job). one_if (j.ticket == ticket)) x.taken) workers ≡ 1
   pub executed : sum_by (λ (x : WorkerView). sum_by (λ (j : Job). one_if (j.ticket == ticket)) x.executed) workers ≡ 1
   pub gained : sum_by (λ (g : GetView Finished). sum_by (λ (f : Finished). one_if (f.ticket == ticket)) g.got) seat.ends ≡ 1
 
--- the position of a picked I/O command among these is the ticket of its job, which is executed once
+-- each picked I/O command is executed once, and its position among them is the ticket of its job
 abbrev pub EachIsExecutedOnce : Type 0
 EachIsExecutedOnce = (sizes : List ℕ) (past : Past) (seat : SeatView) (workers : List WorkerView) → ExecutesOnce sizes past seat workers
-    → (k : ℕ) → k < length (dispatched past) → IsExecutedOnce seat workers k
+    → (k : ℕ) (place : Place) → slice_get (dispatched past) k ≡ Some place → IsExecutedOnce sizes past seat workers k place

@@ -362,7 +362,8 @@ pub fn last_place_may_be_taken()
     ensures { (rules : FrontRules) (past : Past) → PlacesAreTaken rules past }
 {}
 
-/// Each picked I/O command is executed once, whatever the number of workers, and one result of it is gained.
+/// Each picked I/O command's job was handed under its position among the picked ones as ticket. It was executed once,
+/// whatever the number of workers, and one result of it was gained.
 pub fn each_is_executed_once()
     ensures { EachIsExecutedOnce }
 {}
