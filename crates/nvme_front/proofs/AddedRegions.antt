@@ -1,8 +1,7 @@
 -- That a front to which a region was added keeps what stands at its log, by what its parts are then.
-use Rattle.std.proofs.Common.{◌≡◌, ℕ, ◌<◌, ◌==◌, Bool, true, false, not, if◌then◌else◌, List, [], ◌∷◌, ◌++◌, length, Some, None, refl, sym, ap, ◌∙◌, subst, arith, ne_eqb}
-use Rattle.std.specs.Prelude.{slice_set, Result, IfErr, OnOk}
-use Rattle.std.proofs.lemmas.List.{length-map}
-use Rattle.std.proofs.lemmas.Result.{IfErr-weaker}
+use Rattle.std.proofs.Common.{◌≡◌, ℕ, ◌<◌, ◌==◌, true, false, not, if◌then◌else◌, List, [], ◌∷◌, ◌++◌, length, Some, None, refl, sym, ap, ◌∙◌, subst, arith, ne_eqb}
+use Rattle.std.specs.Prelude.{slice_set}
+use Rattle.std.proofs.lemmas.List.{length-map, map-append}
 use Rattle.nvme_arbiter.specs.Settings.{ArbitrationFields}
 use Rattle.nvme_arbiter.specs.History.{History}
 use Rattle.nvme_arbiter.specs.Board.{BoardView, BoardStandsAt}
@@ -13,16 +12,13 @@ use Rattle.nvme_admin.specs.Standing.{TableView, StandsAt}
 use Rattle.nvme_admin.specs.declared.bounds.TheConstants.{MAX_REGIONS}
 use Rattle.nvme_admin.specs.declared.region.Region.{Region}
 use Rattle.nvme_log.specs.declared.event.Event.{Event}
-use Rattle.nvme_front.specs.declared.front.AddError.{AddError}
-use Rattle.nvme_front.specs.declared.front.AddError.TheVariants.{TooMany, NoMemory}
 use Rattle.nvme_state.specs.declared.region.SqRegion.{SqRegion}
 use Rattle.nvme_state.specs.declared.region.CqRegion.{CqRegion}
 use Rattle.nvme_front.specs.declared.state.FrontState.{FrontState}
 use Rattle.nvme_log.specs.Limits.{max_outstanding, max_ready, window_of}
 use Rattle.nvme_front.specs.inside.Room.{IsKept, sq_region}
 use Rattle.nvme_state.specs.inside.Standing.{first_queue}
-use Rattle.nvme_front.specs.View.{FrontView}
-use Rattle.nvme_front.specs.inside.State.{view_of}
+use Rattle.nvme_front.specs.inside.State.{gets_of}
 use Rattle.nvme_front.proofs.FreshRegions.{board_with_sq, board_with_sq-first, board_with_sq-later}
 use Rattle.nvme_front.proofs.KeptRegions.{is_kept-with_sq, is_kept-with_cq}
 
@@ -92,10 +88,10 @@ pub appended : {A : Type 0} (all now old : List A) (x : A) → all ≡ now ++ x 
 appended all now old x is same = is ∙ ap (λ xs. xs ++ x ∷ []) same
 
 -- a log with no event, and one with events
-no_event : (log : List Event) → log ≡ [] → not (length log == 0) ≡ false
+pub no_event : (log : List Event) → log ≡ [] → not (length log == 0) ≡ false
 no_event log none = ap (λ (es : List Event). not (length es == 0)) none
 
-some_event : (log : List Event) → (log ≡ [] → ⊥) → not (length log == 0) ≡ true
+pub some_event : (log : List Event) → (log ≡ [] → ⊥) → not (length log == 0) ≡ true
 some_event [] some = absurd (some refl)
 some_event (e ∷ log) some = ap not (ne_eqb (length (e ∷ log)) 0 (λ z. omega (arith, z)))
 
@@ -172,40 +168,15 @@ kept_with_cq s kept t x pushed new room v a n table address slots takes = is_kep
 })
 
 -- ---- what a caller sees
--- a region that was added after the first event made the front late, told of the log that a caller sees
-pub late_in_view : {T E : Type 0} (s : FrontState) (v : FrontView) (late : Bool) (r : Result T E) → view_of s ≡ v
-    → OnOk r ((s.log.items ≡ [] → ⊥) → late ≡ true) → OnOk r ((v.log ≡ [] → ⊥) → late ≡ true)
-late_in_view s v late r same told = subst (λ (z : FrontView). OnOk r ((z.log ≡ [] → ⊥) → late ≡ true)) same told
+-- as many submission regions are seen as the table has
+pub number_of_gets : (s : FrontState) → IsKept s → length s.table.sq_regions ≡ length (gets_of s.sqs.items)
+number_of_gets s kept =
+    ap (λ (rs : List Region). length rs) kept.roomy.sq_table ∙ length-map s.sqs.items sq_region
+    ∙ sym (length-map s.sqs.items (λ (x : SqRegion). x.end))
 
--- what a refusal says of the number of regions: that it is the greatest, or below it
-abbrev TellsNumber : ℕ → AddError → Type 0
-TellsNumber n e = (e ≡ TooMany → n ≡ MAX_REGIONS) × (e ≡ NoMemory → n < MAX_REGIONS)
+pub few_gets : (sqs : List SqRegion) (most : ℕ) → length sqs < most → length (gets_of sqs) < most
+few_gets sqs most few = omega (arith, few, length-map sqs (λ (x : SqRegion). x.end))
 
--- a caller sees as many submission regions as a front keeps
-number_of_gets : (s : FrontState) (v : FrontView) → view_of s ≡ v → length s.sqs.items ≡ length v.gets
-number_of_gets s v same = sym (length-map s.sqs.items (λ (x : SqRegion). x.end)) ∙ ap (λ (z : FrontView). length z.gets) same
-
--- and as many completion regions
-number_of_puts : (s : FrontState) (v : FrontView) → view_of s ≡ v → length s.cqs.items ≡ length v.puts
-number_of_puts s v same = sym (length-map s.cqs.items (λ (x : CqRegion). x.end)) ∙ ap (λ (z : FrontView). length z.puts) same
-
-module _ {T A : Type 0} (s : FrontState) (v : FrontView) (r : Result T (AddError × A)) (same : view_of s ≡ v) where
-  -- a refused submission region: all regions are there where there are too many,
-  pub too_many_gets : IfErr r (λ e. TellsNumber (length s.sqs.items) e.0) → IfErr r (λ e. e.0 ≡ TooMany → length v.gets ≡ MAX_REGIONS)
-  too_many_gets told = IfErr-weaker r (λ e. TellsNumber (length s.sqs.items) e.0) (λ e. e.0 ≡ TooMany → length v.gets ≡ MAX_REGIONS)
-      (λ e tells full. sym (number_of_gets s v same) ∙ tells.0 full) told
-
-  -- and not all where memory was refused
-  pub few_gets : IfErr r (λ e. TellsNumber (length s.sqs.items) e.0) → IfErr r (λ e. e.0 ≡ NoMemory → length v.gets < MAX_REGIONS)
-  few_gets told = IfErr-weaker r (λ e. TellsNumber (length s.sqs.items) e.0) (λ e. e.0 ≡ NoMemory → length v.gets < MAX_REGIONS)
-      (λ e tells none. subst (λ (n : ℕ). n < MAX_REGIONS) (number_of_gets s v same) (tells.1 none)) told
-
-  -- the same of a completion region
-  pub too_many_puts : IfErr r (λ e. TellsNumber (length s.cqs.items) e.0) → IfErr r (λ e. e.0 ≡ TooMany → length v.puts ≡ MAX_REGIONS)
-  too_many_puts told = IfErr-weaker r (λ e. TellsNumber (length s.cqs.items) e.0) (λ e. e.0 ≡ TooMany → length v.puts ≡ MAX_REGIONS)
-      (λ e tells full. sym (number_of_puts s v same) ∙ tells.0 full) told
-
-  -- and where memory was refused
-  pub few_puts : IfErr r (λ e. TellsNumber (length s.cqs.items) e.0) → IfErr r (λ e. e.0 ≡ NoMemory → length v.puts < MAX_REGIONS)
-  few_puts told = IfErr-weaker r (λ e. TellsNumber (length s.cqs.items) e.0) (λ e. e.0 ≡ NoMemory → length v.puts < MAX_REGIONS)
-      (λ e tells none. subst (λ (n : ℕ). n < MAX_REGIONS) (number_of_puts s v same) (tells.1 none)) told
+-- the ends that are seen with a region more
+pub gets_with : (old new : List SqRegion) (x : SqRegion) → new ≡ old ++ x ∷ [] → gets_of new ≡ gets_of old ++ x.end ∷ []
+gets_with old new x is = ap gets_of is ∙ map-append (λ (y : SqRegion). y.end) old (x ∷ [])

@@ -1,3 +1,4 @@
+pub mod Adding
 pub mod Ends
 pub mod Hosts
 pub mod LoadedFront

@@ -23,6 +23,7 @@ impl FrontState {
     ghost use Rattle.nvme_front.specs.inside.Room.{IsKept};
     ghost use Rattle.nvme_front.specs.inside.State.{gets_of, puts_of};
     ghost use Rattle.nvme_front.specs.inside.State.{view_of};
+    ghost use Rattle.nvme_front.specs.Adding.{IsAdded, IsNotAdded, submissions, completions};
     ghost use Rattle.nvme_front.specs.View.{is_address};
     ghost use Rattle.nvme_front.specs.declared.front.AddError.TheVariants.{Used, TooMany, NoMemory};
 
@@ -64,20 +65,8 @@ impl FrontState {
         requires kept { IsKept self.old }
         requires nothing_got { end.got ≡ [] }
         ensures kept { IsKept self.new }
-        ensures number { IfOk result (λ r. r ≡ length self.old.sqs.items) }
-        ensures gets { OnOk result (gets_of self.new.sqs.items ≡ gets_of self.old.sqs.items ++ end ∷ []) }
-        ensures puts { puts_of self.new.cqs.items ≡ puts_of self.old.cqs.items }
-        ensures log { self.new.log.items ≡ self.old.log.items }
-        ensures config { self.new.config ≡ self.old.config }
-        ensures hands { self.new.jobs.hands ≡ self.old.jobs.hands }
-        ensures late_after_events { OnOk result (self.old.log.items ≢ [] → self.new.late ≡ true) }
-        ensures in_time { OnOk result (self.old.log.items ≡ [] → self.new.late ≡ false) }
-        ensures end { IfErr result (λ e. e.1 ≡ end) }
-        ensures unchanged { OnErr result (view_of self.new ≡ view_of self.old) }
-        ensures used { IfErr result (λ e. (e.0 ≡ Used → is_address (view_of self.old) end.address ≡ true) × (is_address (view_of self.old) end.address ≡ true → e.0 ≡ Used)) }
-        ensures not_used { OnOk result (is_address (view_of self.old) end.address ≡ false) }
-        ensures too_many { IfErr result (λ e. (e.0 ≡ TooMany → length self.old.sqs.items ≡ MAX_REGIONS) × (e.0 ≡ NoMemory → length self.old.sqs.items < MAX_REGIONS)) }
-        ensures not_too_many { OnOk result (length self.old.sqs.items < MAX_REGIONS) }
+        ensures added { IfOk result (λ r. IsAdded submissions end r (view_of self.old) (view_of self.new)) }
+        ensures refused { IfErr result (λ e. (e.1 ≡ end) × IsNotAdded submissions end e.0 (view_of self.old) (view_of self.new)) }
     {
         if self.has_address(end.address()) {
             return Err((AddError::Used, end));
@@ -118,20 +107,8 @@ impl FrontState {
         requires kept { IsKept self.old }
         requires nothing_sent { end.sent ≡ [] }
         ensures kept { IsKept self.new }
-        ensures number { IfOk result (λ c. c ≡ length self.old.cqs.items) }
-        ensures puts { OnOk result (puts_of self.new.cqs.items ≡ puts_of self.old.cqs.items ++ end ∷ []) }
-        ensures gets { gets_of self.new.sqs.items ≡ gets_of self.old.sqs.items }
-        ensures log { self.new.log.items ≡ self.old.log.items }
-        ensures config { self.new.config ≡ self.old.config }
-        ensures hands { self.new.jobs.hands ≡ self.old.jobs.hands }
-        ensures late_after_events { OnOk result (self.old.log.items ≢ [] → self.new.late ≡ true) }
-        ensures in_time { OnOk result (self.old.log.items ≡ [] → self.new.late ≡ false) }
-        ensures end { IfErr result (λ e. e.1 ≡ end) }
-        ensures unchanged { OnErr result (view_of self.new ≡ view_of self.old) }
-        ensures used { IfErr result (λ e. (e.0 ≡ Used → is_address (view_of self.old) end.address ≡ true) × (is_address (view_of self.old) end.address ≡ true → e.0 ≡ Used)) }
-        ensures not_used { OnOk result (is_address (view_of self.old) end.address ≡ false) }
-        ensures too_many { IfErr result (λ e. (e.0 ≡ TooMany → length self.old.cqs.items ≡ MAX_REGIONS) × (e.0 ≡ NoMemory → length self.old.cqs.items < MAX_REGIONS)) }
-        ensures not_too_many { OnOk result (length self.old.cqs.items < MAX_REGIONS) }
+        ensures added { IfOk result (λ c. IsAdded completions end c (view_of self.old) (view_of self.new)) }
+        ensures refused { IfErr result (λ e. (e.1 ≡ end) × IsNotAdded completions end e.0 (view_of self.old) (view_of self.new)) }
     {
         if self.has_address(end.address()) {
             return Err((AddError::Used, end));

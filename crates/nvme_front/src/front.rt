@@ -95,6 +95,7 @@ impl Model for Front {
 impl Front {
     ghost use Rattle.std.specs.Prelude.{◌≡◌, ◌≢◌, ◌↔◌, ℕ, ◌<◌, ◌≤◌, List, [], ◌∷◌, ◌++◌, true, false, length, IfOk, OnOk, IfErr, OnErr, IsTrue, ◌==◌, ◌&&◌, nat_lt};
     ghost use Rattle.nvme_entry.specs.declared.submission.Sqe.{Sqe};
+    ghost use Rattle.nvme_front.specs.Adding.{IsAdded, IsNotAdded, submissions, completions};
     ghost use Rattle.nvme_front.specs.LoadedFront.{IsLoadedFront, GotWithin};
     ghost use Rattle.nvme_admin.specs.declared.bounds.TheConstants.{MAX_REGIONS};
     ghost use Rattle.nvme_state.specs.JobAccount.{AccountsForJobs};
@@ -129,25 +130,9 @@ impl Front {
     /// refused; the end comes back, and nothing changed. (profile)
     pub fn add_sq_region(&mut self, end: GetEnd<Sqe>) -> Result<u8, (AddError, GetEnd<Sqe>)>
         requires nothing_got { end.got ≡ [] }
-        ensures number { IfOk result (λ r. r ≡ length self.old.gets) }
-        ensures gets { OnOk result (self.new.gets ≡ self.old.gets ++ end ∷ []) }
-        ensures puts { self.new.puts ≡ self.old.puts }
-        ensures log { self.new.log ≡ self.old.log }
-        ensures limit { self.new.limit ≡ self.old.limit }
-        ensures mechanism { self.new.rules.mechanism ≡ self.old.rules.mechanism }
-        ensures start { self.new.rules.start ≡ self.old.rules.start }
-        ensures sizes { self.new.rules.sizes ≡ self.old.rules.sizes }
-        ensures hands { self.new.hands ≡ self.old.hands }
+        ensures added { IfOk result (λ r. IsAdded submissions end r self.old self.new) }
+        ensures refused { IfErr result (λ e. (e.1 ≡ end) × IsNotAdded submissions end e.0 self.old self.new) }
         ensures regions { HasItsRegions self.new }
-        ensures late_after_events { OnOk result (self.old.log ≢ [] → self.new.late ≡ true) }
-        ensures in_time { OnOk result (self.old.log ≡ [] → self.new.late ≡ false) }
-        ensures end { IfErr result (λ e. e.1 ≡ end) }
-        ensures unchanged { OnErr result (self.new ≡ self.old) }
-        ensures used { IfErr result (λ e. (e.0 ≡ Used) ↔ (is_address self.old end.address ≡ true)) }
-        ensures not_used { OnOk result (is_address self.old end.address ≡ false) }
-        ensures too_many { IfErr result (λ e. e.0 ≡ TooMany → length self.old.gets ≡ MAX_REGIONS) }
-        ensures not_too_many { IfErr result (λ e. e.0 ≡ NoMemory → length self.old.gets < MAX_REGIONS) }
-        ensures room { OnOk result (length self.old.gets < MAX_REGIONS) }
     {
         self.state.add_sq(end)
     }
@@ -155,25 +140,9 @@ impl Front {
     /// Adds a completion region, as `add_sq_region` does a submission region, with its refusals.
     pub fn add_cq_region(&mut self, end: PutEnd<Cqe>) -> Result<u8, (AddError, PutEnd<Cqe>)>
         requires nothing_sent { end.sent ≡ [] }
-        ensures number { IfOk result (λ c. c ≡ length self.old.puts) }
-        ensures puts { OnOk result (self.new.puts ≡ self.old.puts ++ end ∷ []) }
-        ensures gets { self.new.gets ≡ self.old.gets }
-        ensures log { self.new.log ≡ self.old.log }
-        ensures limit { self.new.limit ≡ self.old.limit }
-        ensures mechanism { self.new.rules.mechanism ≡ self.old.rules.mechanism }
-        ensures start { self.new.rules.start ≡ self.old.rules.start }
-        ensures sizes { self.new.rules.sizes ≡ self.old.rules.sizes }
-        ensures hands { self.new.hands ≡ self.old.hands }
+        ensures added { IfOk result (λ c. IsAdded completions end c self.old self.new) }
+        ensures refused { IfErr result (λ e. (e.1 ≡ end) × IsNotAdded completions end e.0 self.old self.new) }
         ensures regions { HasItsRegions self.new }
-        ensures late_after_events { OnOk result (self.old.log ≢ [] → self.new.late ≡ true) }
-        ensures in_time { OnOk result (self.old.log ≡ [] → self.new.late ≡ false) }
-        ensures end { IfErr result (λ e. e.1 ≡ end) }
-        ensures unchanged { OnErr result (self.new ≡ self.old) }
-        ensures used { IfErr result (λ e. (e.0 ≡ Used) ↔ (is_address self.old end.address ≡ true)) }
-        ensures not_used { OnOk result (is_address self.old end.address ≡ false) }
-        ensures too_many { IfErr result (λ e. e.0 ≡ TooMany → length self.old.puts ≡ MAX_REGIONS) }
-        ensures not_too_many { IfErr result (λ e. e.0 ≡ NoMemory → length self.old.puts < MAX_REGIONS) }
-        ensures room { OnOk result (length self.old.puts < MAX_REGIONS) }
     {
         self.state.add_cq(end)
     }

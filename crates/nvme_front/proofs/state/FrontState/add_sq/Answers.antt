@@ -1,11 +1,12 @@
 use Rattle.std.proofs.Common.{◌≡◌, ◌∙◌, not, ap, refl, sym, subst, rules, arith, ℕ, ◌==◌}
 use Rattle.std.specs.Prelude.{vec_len}
+use Rattle.nvme_admin.specs.declared.bounds.TheConstants.{MAX_REGIONS}
 use Rattle.nvme_front.specs.declared.state.FrontState.{FrontState}
 use Rattle.nvme_state.specs.inside.Jobs.{JobsView}
 use Rattle.nvme_front.specs.inside.Room.{IsKept}
 use Rattle.nvme_front.proofs.Addresses.{sq_not_refused}
 use Rattle.nvme_front.proofs.KeptRegions.{is_kept-with_room, kept_with_room, room_or_none}
-use Rattle.nvme_front.proofs.AddedRegions.{appended, kept_with_first_sq, kept_with_later_sq}
+use Rattle.nvme_front.proofs.AddedRegions.{appended, few_gets, gets_with, no_event, some_event, number_of_gets, kept_with_first_sq, kept_with_later_sq}
 use Rattle.nvme_front.proofs.state.FrontState.add_sq.Goals as goal
 use Rattle.nvme_front.proofs.state.FrontState.add_sq.Goals.{then-number-eq0, else-number-eq0, then-not-make_room-via-then-not-make_room, then-not-make_room-via-else-not-make_room+then-is_err}
 
@@ -91,4 +92,42 @@ returns-then-not-make_room-clause-kept c =
             log = ap (λ (z : FrontState). z.log.items) w.self-is;
             late = ap (λ (z : FrontState). z.late) w.self-is;
           })
+    ]
+
+pub returns-clause-added : goal.returns-clause-added
+returns-clause-added c =
+    let s = c.args.self.now in
+    elim c.if-number-eq0.branch [
+      | then-number-eq0 w ↦
+          record {
+            not_used = search rules;
+            room = few_gets s.sqs.items MAX_REGIONS (search rules);
+            number_is = c.in-Ok.ensures.number ∙ number_of_gets s c.requires.kept;
+            ends = gets_with s.sqs.items _ _ (appended _ _ _ _ c.in-Ok-push.ensures.items (ap (λ (z : FrontState). z.sqs.items) w.self-is ∙ c.reserve.ensures.items));
+            others = search rules;
+            log = search rules;
+            limit = search rules;
+            mechanism = search rules;
+            start = search rules;
+            sizes = search rules;
+            hands = search rules;
+            late_after_events = λ some. ap not c.is_empty.ensures ∙ ap (λ (z : FrontState). not (vec_len z.log == 0)) w.self-is ∙ ap (λ (n : ℕ). not (n == 0)) s.log.ok.0 ∙ some_event s.log.items some;
+            in_time = λ none. ap not c.is_empty.ensures ∙ ap (λ (z : FrontState). not (vec_len z.log == 0)) w.self-is ∙ ap (λ (n : ℕ). not (n == 0)) s.log.ok.0 ∙ no_event s.log.items none;
+          }
+      | else-number-eq0 w ↦
+          record {
+            not_used = search rules;
+            room = few_gets s.sqs.items MAX_REGIONS (search rules);
+            number_is = c.in-Ok.ensures.number ∙ number_of_gets s c.requires.kept;
+            ends = gets_with s.sqs.items _ _ (appended _ _ _ _ c.in-Ok-push.ensures.items (ap (λ (z : FrontState). z.sqs.items) w.self-is ∙ c.reserve.ensures.items));
+            others = search rules;
+            log = search rules;
+            limit = search rules;
+            mechanism = search rules;
+            start = search rules;
+            sizes = search rules;
+            hands = search rules;
+            late_after_events = λ some. ap not c.is_empty.ensures ∙ ap (λ (z : FrontState). not (vec_len z.log == 0)) w.self-is ∙ ap (λ (n : ℕ). not (n == 0)) s.log.ok.0 ∙ some_event s.log.items some;
+            in_time = λ none. ap not c.is_empty.ensures ∙ ap (λ (z : FrontState). not (vec_len z.log == 0)) w.self-is ∙ ap (λ (n : ℕ). not (n == 0)) s.log.ok.0 ∙ no_event s.log.items none;
+          }
     ]
