@@ -16,11 +16,11 @@ use Rattle.nvme_state.specs.declared.region.SqRegion.{SqRegion}
 use Rattle.nvme_state.specs.declared.region.CqRegion.{CqRegion}
 use Rattle.nvme_front.specs.declared.state.FrontState.{FrontState}
 use Rattle.nvme_log.specs.Limits.{max_outstanding, max_ready, window_of}
-use Rattle.nvme_front.specs.inside.Room.{IsKept, sq_region}
+use Rattle.nvme_front.specs.inside.Room.{IsConsistent, sq_region}
 use Rattle.nvme_state.specs.inside.Standing.{first_queue}
 use Rattle.nvme_front.specs.inside.State.{gets_of}
 use Rattle.nvme_front.proofs.FreshRegions.{board_with_sq, board_with_sq-first, board_with_sq-later}
-use Rattle.nvme_front.proofs.KeptRegions.{is_kept-with_sq, is_kept-with_cq}
+use Rattle.nvme_front.proofs.ConsistentRegions.{is_consistent-with_sq, is_consistent-with_cq}
 
 -- a state with a submission region more; its board and its table are told apart
 pub record IsPushedSq (s t : FrontState) (x : SqRegion) : Type 0 where
@@ -96,7 +96,7 @@ some_event [] some = absurd (some refl)
 some_event (e ∷ log) some = ap not (ne_eqb (length (e ∷ log)) 0 (λ z. omega (arith, z)))
 
 -- ---- a submission region more
-module _ (s : FrontState) (kept : IsKept s) (t : FrontState) (x : SqRegion) (pushed : IsPushedSq s t x) (new : IsNewSq x) (room : length s.sqs.items < MAX_REGIONS)
+module _ (s : FrontState) (kept : IsConsistent s) (t : FrontState) (x : SqRegion) (pushed : IsPushedSq s t x) (new : IsNewSq x) (room : length s.sqs.items < MAX_REGIONS)
     (has_room : t.jobs.room ≡ max_outstanding)
     (v : TableView) (a n : ℕ) (table : t.table ≡ v) (address : a ≡ x.end.address) (slots : n ≡ x.end.slots)
     (takes : (start : Start) (h : TableHistory) → StandsAt start s.table h → StandsAt start v (RegionAdded Submission a n ∷ h)) where
@@ -105,10 +105,10 @@ module _ (s : FrontState) (kept : IsKept s) (t : FrontState) (x : SqRegion) (pus
   sq_number = ap (λ (rs : List Region). length rs) kept.roomy.sq_table ∙ length-map s.sqs.items sq_region
 
   -- the region was opened for the admin queue where it is the first one, and its board says so
-  kept_with_sq : x.queue ≡ first_queue (length s.sqs.items) → t.board ≡ board_with_sq (length s.sqs.items) s.board
+  consistent_with_sq : x.queue ≡ first_queue (length s.sqs.items) → t.board ≡ board_with_sq (length s.sqs.items) s.board
       → ((mechanism : Mechanism) (first : ArbitrationFields) (past : History) → BoardStandsAt mechanism first past s.board → BoardStandsAt mechanism first past t.board)
-      → IsKept t
-  kept_with_sq queue board stands = is_kept-with_sq s kept t x (record {
+      → IsConsistent t
+  consistent_with_sq queue board stands = is_consistent-with_sq s kept t x (record {
     config = pushed.config;
     sqs = pushed.sqs;
     cqs = pushed.cqs;
@@ -128,29 +128,29 @@ module _ (s : FrontState) (kept : IsKept s) (t : FrontState) (x : SqRegion) (pus
   })
 
   -- the first region
-  pub kept_with_first_sq : length s.table.sq_regions ≡ 0 → x.queue ≡ Some (record { qid = 0; cq_region = 0 }) → (v : BoardView) → t.board ≡ v
+  pub consistent_with_first_sq : length s.table.sq_regions ≡ 0 → x.queue ≡ Some (record { qid = 0; cq_region = 0 }) → (v : BoardView) → t.board ≡ v
       → v ≡ record s.board { queues = slice_set s.board.queues 0 (Some (record { class = Admin; count = 0 })) }
       → ((mechanism : Mechanism) (first : ArbitrationFields) (past : History) → BoardStandsAt mechanism first past s.board → BoardStandsAt mechanism first past v)
-      → IsKept t
-  kept_with_first_sq first queue v board opened stands =
+      → IsConsistent t
+  consistent_with_first_sq first queue v board opened stands =
       let none : length s.sqs.items ≡ 0 = sym sq_number ∙ first in
-      kept_with_sq (queue ∙ sym (ap first_queue none)) (board ∙ opened ∙ sym (board_with_sq-first (length s.sqs.items) s.board none))
+      consistent_with_sq (queue ∙ sym (ap first_queue none)) (board ∙ opened ∙ sym (board_with_sq-first (length s.sqs.items) s.board none))
       (λ mechanism start past before. subst (λ (b : BoardView). BoardStandsAt mechanism start past b) (sym board) (stands mechanism start past before))
 
   -- a later region
-  pub kept_with_later_sq : (length s.table.sq_regions ≡ 0 → ⊥) → x.queue ≡ None → t.board ≡ s.board → IsKept t
-  kept_with_later_sq later queue board =
+  pub consistent_with_later_sq : (length s.table.sq_regions ≡ 0 → ⊥) → x.queue ≡ None → t.board ≡ s.board → IsConsistent t
+  consistent_with_later_sq later queue board =
       let some : length s.sqs.items ≡ 0 → ⊥ = λ none. later (sq_number ∙ none) in
-      kept_with_sq
+      consistent_with_sq
       (queue ∙ sym (λ j. if (ne_eqb (length s.sqs.items) 0 some) j then Some (record { qid = 0; cq_region = 0 }) else None))
       (board ∙ sym (board_with_sq-later (length s.sqs.items) s.board some))
       (λ mechanism first past stands. subst (λ (b : BoardView). BoardStandsAt mechanism first past b) (sym board) stands)
 
 -- ---- a completion region more
-pub kept_with_cq : (s : FrontState) → IsKept s → (t : FrontState) (x : CqRegion) → IsPushedCq s t x → IsNewCq x → length s.cqs.items < MAX_REGIONS
+pub consistent_with_cq : (s : FrontState) → IsConsistent s → (t : FrontState) (x : CqRegion) → IsPushedCq s t x → IsNewCq x → length s.cqs.items < MAX_REGIONS
     → (v : TableView) (a n : ℕ) → t.table ≡ v → a ≡ x.end.address → n ≡ x.end.slots
-    → ((start : Start) (h : TableHistory) → StandsAt start s.table h → StandsAt start v (RegionAdded Completion a n ∷ h)) → IsKept t
-kept_with_cq s kept t x pushed new room v a n table address slots takes = is_kept-with_cq s kept t x (record {
+    → ((start : Start) (h : TableHistory) → StandsAt start s.table h → StandsAt start v (RegionAdded Completion a n ∷ h)) → IsConsistent t
+consistent_with_cq s kept t x pushed new room v a n table address slots takes = is_consistent-with_cq s kept t x (record {
   config = pushed.config;
   sqs = pushed.sqs;
   cqs = pushed.cqs;
@@ -169,7 +169,7 @@ kept_with_cq s kept t x pushed new room v a n table address slots takes = is_kep
 
 -- ---- what a caller sees
 -- as many submission regions are seen as the table has
-pub number_of_gets : (s : FrontState) → IsKept s → length s.table.sq_regions ≡ length (gets_of s.sqs.items)
+pub number_of_gets : (s : FrontState) → IsConsistent s → length s.table.sq_regions ≡ length (gets_of s.sqs.items)
 number_of_gets s kept =
     ap (λ (rs : List Region). length rs) kept.roomy.sq_table ∙ length-map s.sqs.items sq_region
     ∙ sym (length-map s.sqs.items (λ (x : SqRegion). x.end))

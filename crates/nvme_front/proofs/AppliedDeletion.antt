@@ -26,9 +26,9 @@ use Rattle.nvme_log.specs.Places.{waiting}
 use Rattle.nvme_log.specs.Effects.{made_by, closing_of}
 use Rattle.nvme_log.specs.Laws.{as_open}
 use Rattle.nvme_front.specs.inside.Applied.{IsApplied}
-use Rattle.nvme_state.specs.inside.Kept.{SqKept, Kept, with_sq, put_sq}
-use Rattle.nvme_front.specs.inside.State.{sq_kept, sq_in, cq_in, kept_of, rules_of}
-use Rattle.nvme_front.specs.inside.Room.{IsKept}
+use Rattle.nvme_state.specs.inside.Content.{SqContent, Content, with_sq, put_sq}
+use Rattle.nvme_front.specs.inside.State.{sq_content, sq_in, cq_in, content_of, rules_of}
+use Rattle.nvme_front.specs.inside.Room.{IsConsistent}
 use Rattle.nvme_front.specs.inside.Goes.{Goes}
 use Rattle.nvme_log.specs.Histories.{picks_in}
 use Rattle.nvme_state.specs.inside.Steps.{aborted}
@@ -62,23 +62,23 @@ kept_deleting : (a b : FrontState) (candidate : Candidate) (qid r c n : ℕ) (s 
     → b.board ≡ record a.board { queues = slice_set a.board.queues qid None }
     → b.deletion ≡ Some (record { qid = qid; region = r; index = candidate.index; entry = candidate.entry })
     → b.table ≡ a.table → b.outstanding ≡ a.outstanding → b.jobs ≡ a.jobs
-    → kept_of b ≡ with_deleting (kept_of a) qid r c candidate
+    → content_of b ≡ with_deleting (content_of a) qid r c candidate
 kept_deleting a b candidate qid r c n s w d ready there read posts read_cq is_n is_w sqs is_ready cqs board deletion table outstanding jobs =
-    let was : sq_in a.sqs.items r ≡ sq_kept s = sq_in-read a.sqs.items r s there read in
-    let emptied : SqKept → SqKept = λ (z : SqKept). record z { window = []; unposted = z.unposted + length z.window } in
-    let now : sq_kept (record s { window = w; unposted = s.unposted + n }) ≡ emptied (sq_in a.sqs.items r) =
-    ap (λ (z : FifoView Candidate). record (sq_kept s) { window = z.items; unposted = s.unposted + n }) is_w
-    ∙ ap (λ (m : ℕ). record (sq_kept s) { window = []; unposted = s.unposted + m }) is_n
+    let was : sq_in a.sqs.items r ≡ sq_content s = sq_in-read a.sqs.items r s there read in
+    let emptied : SqContent → SqContent = λ (z : SqContent). record z { window = []; unposted = z.unposted + length z.window } in
+    let now : sq_content (record s { window = w; unposted = s.unposted + n }) ≡ emptied (sq_in a.sqs.items r) =
+    ap (λ (z : FifoView Candidate). record (sq_content s) { window = z.items; unposted = s.unposted + n }) is_w
+    ∙ ap (λ (m : ℕ). record (sq_content s) { window = []; unposted = s.unposted + m }) is_n
     ∙ ap emptied (sym was) in
     let sq : sq_in b.sqs.items ≡ put_sq (sq_in a.sqs.items) r (emptied (sq_in a.sqs.items r)) =
     ap sq_in sqs ∙ sq_in-set a.sqs.items r (record s { window = w; unposted = s.unposted + n }) there ∙ ap (put_sq (sq_in a.sqs.items) r) now in
     let nsq : length b.sqs.items ≡ length a.sqs.items =
     ap (λ (xs : List SqRegion). length xs) sqs ∙ length-set a.sqs.items r (record s { window = w; unposted = s.unposted + n }) in
-    let later : Kept = record (with_sq (kept_of a) r (emptied (sq_in a.sqs.items r))) {
+    let later : Content = record (with_sq (content_of a) r (emptied (sq_in a.sqs.items r))) {
       board = record a.board { queues = slice_set a.board.queues qid None };
       deletion = Some (record { qid = qid; region = r; index = candidate.index; entry = candidate.entry });
     } in
-    let all : kept_of (record b { cqs = a.cqs }) ≡ later = λ t. record {
+    let all : content_of (record b { cqs = a.cqs }) ≡ later = λ t. record {
       sq = sq t;
       cq = cq_in a.cqs.items;
       nsq = nsq t;
@@ -90,8 +90,8 @@ kept_deleting a b candidate qid r c n s w d ready there read posts read_cq is_n 
       jobs = jobs t;
     } in
     kept_readied a b c d ready (map (aborted r) s.window.items) posts read_cq is_ready cqs
-    ∙ ap (λ (k : Kept). with_readies k c (map (aborted r) s.window.items)) all
-    ∙ ap (λ (z : SqKept). with_readies later c (map (aborted r) z.window)) (sym was)
+    ∙ ap (λ (k : Content). with_readies k c (map (aborted r) s.window.items)) all
+    ∙ ap (λ (z : SqContent). with_readies later c (map (aborted r) z.window)) (sym was)
 
 -- aborts are no picks
 pub aborts_noted : (r : ℕ) (cs : List Candidate) → picks_in (map (λ (c : Candidate). Abort r c.index) cs) ≡ 0
@@ -162,7 +162,7 @@ module _ (a : FrontState) (candidate : Candidate) (qid : ℕ) (closing : Option 
           → log ≡ a.log.items ++ Closing qid e.region ∷ [] → b.log.items ≡ log ++ map (λ (c : Candidate). Abort e.region c.index) s.window.items
           → b.board ≡ record a.board { queues = slice_set a.board.queues qid None }
           → b.deletion ≡ Some (record { qid = qid; region = e.region; index = candidate.index; entry = candidate.entry })
-          → Stays a b → Goes a b → IsKept b
+          → Stays a b → Goes a b → IsConsistent b
       keeps_deleting b x c n w d ready log board at is_c is_n is_w sqs read_cq is_ready cqs noted aborts is_board deletion stays goes =
           let posts = begins_posts x at c is_c in
           let events : b.log.items ≡ a.log.items ++ made_by h.past (BeginDelete qid) =
@@ -177,11 +177,11 @@ module _ (a : FrontState) (candidate : Candidate) (qid : ℕ) (closing : Option 
           let to = named_attachment a candidate (BeginDelete qid) closing h qid (queue_of e) was_open may_begin.not_admin r same s read x at in
           subst (λ (q : Queue). (h.before.sq q.region).queue ≡ Some (record { qid = qid; cq_region = c })) one
           (attached.attached ∙ ap (λ (z : ℕ). Some (record { qid = qid; cq_region = z })) (sym (is_c ∙ ap (λ (y : Attachment). y.cq_region) to))) in
-          let kept : kept_of b ≡ with_deleting (kept_of a) qid e.region c candidate =
+          let kept : content_of b ≡ with_deleting (content_of a) qid e.region c candidate =
           kept_deleting a b candidate qid e.region c n s w d ready (begins_there e.region refl) (subst (λ (z : ℕ). s ≡ get_or a.sqs.items z s) same read) posts read_cq is_n is_w
           (subst (λ (z : ℕ). b.sqs.items ≡ set a.sqs.items z (record s { window = w; unposted = s.unposted + n })) same sqs) is_ready cqs is_board deletion stays.table stays.outstanding stays.jobs in
           kept_applied a b candidate (BeginDelete qid) closing c board h chosen events
-          (kept ∙ ap (deleting_from (kept_of a) qid c candidate) (sym was_open))
+          (kept ∙ ap (deleting_from (content_of a) qid c candidate) (sym was_open))
           goes stays.table few
 
 -- the front goes on where the candidates of a region were aborted

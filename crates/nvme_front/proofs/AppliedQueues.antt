@@ -12,8 +12,8 @@ use Rattle.nvme_state.specs.declared.region.SqRegion.{SqRegion}
 use Rattle.nvme_front.specs.declared.state.FrontState.{FrontState}
 use Rattle.nvme_log.specs.Queues.{Queue, admin_queue, open_sq}
 use Rattle.nvme_front.specs.inside.Applied.{IsApplied}
-use Rattle.nvme_state.specs.inside.Kept.{SqKept, Kept}
-use Rattle.nvme_front.specs.inside.State.{sq_kept, sq_in, rules_of}
+use Rattle.nvme_state.specs.inside.Content.{SqContent, Content}
+use Rattle.nvme_front.specs.inside.State.{sq_content, sq_in, rules_of}
 use Rattle.nvme_state.specs.inside.Standing.{HoldsSq, IsAttached, on_board}
 use Rattle.nvme_state.specs.inside.Steps.{picked_sq}
 use Rattle.nvme_state.proofs.QueueWords.{at_other}
@@ -35,7 +35,7 @@ module _ (a : FrontState) (candidate : Candidate) (v : Verdict) (closing : Optio
 
   -- so the pick left it
   pub named_region : sq_in a.sqs.items queue.region ≡ h.before.sq queue.region
-  named_region = ap (λ (k : Kept). k.sq queue.region) h.kept_is ∙ at_other queue.region 0 (picked_sq (h.before.sq 0) 1) (h.before.sq queue.region) named_apart
+  named_region = ap (λ (k : Content). k.sq queue.region) h.content_is ∙ at_other queue.region 0 (picked_sq (h.before.sq 0) 1) (h.before.sq queue.region) named_apart
 
   -- it was opened for the queue
   pub named_attached : IsAttached h.past h.before qid queue
@@ -57,7 +57,7 @@ module _ (a : FrontState) (candidate : Candidate) (v : Verdict) (closing : Optio
   named_on_board =
       let apart : qid ≡ h.pick.qid → ⊥ = λ p. io (p ∙ h.of_admin) in
       let picked : a.board.queues ≡ slice_set h.before.board.queues h.pick.qid (option_map (fewer h.pick.n) (queue_at h.before.board.queues h.pick.qid)) =
-      ap (λ (k : Kept). k.board.queues) h.kept_is ∙ h.can_pick.board_queues in
+      ap (λ (k : Content). k.board.queues) h.content_is ∙ h.can_pick.board_queues in
       ap (λ (queues : List (Option OpenQueue)). queue_at queues qid) picked
       ∙ get_or-set_other h.before.board.queues h.pick.qid qid (option_map (fewer h.pick.n) (queue_at h.before.board.queues h.pick.qid)) None apart
       ∙ h.stands.queues.board qid
@@ -66,12 +66,12 @@ module _ (a : FrontState) (candidate : Candidate) (v : Verdict) (closing : Optio
   -- the region, as it is read
   module _ (r : ℕ) (same : r ≡ queue.region) (s : SqRegion) (read : s ≡ get_or a.sqs.items r s) where
     -- it is what was kept before the pick
-    pub named_read : sq_kept s ≡ h.before.sq queue.region
+    pub named_read : sq_content s ≡ h.before.sq queue.region
     named_read = sym (sq_in-read a.sqs.items r s (named_there r same) read) ∙ ap (sq_in a.sqs.items) same ∙ named_region
 
     -- it was opened for the queue
     pub named_queue : s.queue ≡ Some (record { qid = qid; cq_region = named_attached.cq_region })
-    named_queue = ap (λ (k : SqKept). k.queue) named_read ∙ named_attached.attached
+    named_queue = ap (λ (k : SqContent). k.queue) named_read ∙ named_attached.attached
 
     -- so it has an attachment
     pub named_some : s.queue ≡ None → ⊥
@@ -92,17 +92,17 @@ module _ (a : FrontState) (candidate : Candidate) (v : Verdict) (closing : Optio
     -- its candidates are few
     pub named_few : length s.window.items ≤ 256
     named_few =
-        let window = ap (λ (k : SqKept). length k.window) named_read in
+        let window = ap (λ (k : SqContent). length k.window) named_read in
         let few = (h.stands.regions queue.region).few_waiting in
         omega arith
 
     -- and so are its unposted places
     pub named_unposted : s.unposted ≤ 255
     named_unposted =
-        let unposted = ap (λ (k : SqKept). k.unposted) named_read in
+        let unposted = ap (λ (k : SqContent). k.unposted) named_read in
         let few = few_unposted (rules_of a) a.late h.past h.before h.stands h.can_pick.none_pending queue.region named_below in
         omega (arith, h.can_pick.places, h.one)
 
     -- what is in its window waits in the log
-    pub named_holds : HoldsSq h.past queue.region (sq_kept s)
-    named_holds = subst (λ (k : SqKept). HoldsSq h.past queue.region k) (sym named_read) (h.stands.regions queue.region)
+    pub named_holds : HoldsSq h.past queue.region (sq_content s)
+    named_holds = subst (λ (k : SqContent). HoldsSq h.past queue.region k) (sym named_read) (h.stands.regions queue.region)

@@ -17,9 +17,9 @@ use Rattle.nvme_log.specs.Effects.{made_by}
 use Rattle.nvme_front.specs.inside.Applied.{IsApplied}
 use Rattle.nvme_state.specs.inside.Jobs.{JobsView}
 use Rattle.nvme_state.specs.Hands.{gained_count}
-use Rattle.nvme_state.specs.inside.Kept.{CqKept, Kept, put_cq, with_ready}
-use Rattle.nvme_front.specs.inside.State.{cq_kept, cq_in, gets_of, puts_of, kept_of, rules_of, past_of}
-use Rattle.nvme_front.specs.inside.Room.{IsKept, window_room, ready_room}
+use Rattle.nvme_state.specs.inside.Content.{CqContent, Content, put_cq, with_ready}
+use Rattle.nvme_front.specs.inside.State.{cq_content, cq_in, gets_of, puts_of, content_of, rules_of, past_of}
+use Rattle.nvme_front.specs.inside.Room.{IsConsistent, window_room, ready_room}
 use Rattle.nvme_front.specs.inside.Goes.{coming_at, Goes}
 use Rattle.nvme_front.specs.Ends.{get_place, put_place}
 use Rattle.nvme_log.specs.Histories.{picks_in}
@@ -38,8 +38,8 @@ pub readied : (cqs : List CqRegion) (c : ℕ) (d : CqRegion) (ready : FifoView R
 readied cqs c d ready ts there read e =
     cq_in-set cqs c (record d { ready = ready }) there
     ∙ ap (put_cq (cq_in cqs) c)
-    (ap (λ (x : FifoView Ready). cq_kept (record d { ready = x })) e
-    ∙ ap (λ (s : CqKept). record s { ready = s.ready ++ ts }) (sym (cq_in-read cqs c d there read)))
+    (ap (λ (x : FifoView Ready). cq_content (record d { ready = x })) e
+    ∙ ap (λ (s : CqContent). record s { ready = s.ready ++ ts }) (sym (cq_in-read cqs c d there read)))
 
 -- ---- the log
 -- a log that another follows has the picks of both
@@ -65,17 +65,17 @@ picks_noted xs ys es is none = let both : picks_in ys ≡ picks_in (xs ++ es) = 
 pub kept_applied : (a b : FrontState) (candidate : Candidate) (v : Verdict) (closing : Option ℕ) (c : ℕ) (board : BoardView) (h : IsApplied a candidate v closing)
     → IsChosen (rules_of a) h.past h.before c h.picked board v
     → b.log.items ≡ a.log.items ++ made_by h.past v
-    → kept_of b ≡ after_admin h.past (kept_of a) candidate c board v
+    → content_of b ≡ after_admin h.past (content_of a) candidate c board v
     → Goes a b → b.table ≡ a.table → length (made_by h.past v) ≤ 257
-    → IsKept b
+    → IsConsistent b
 kept_applied a b candidate v closing c board h chosen log kept goes table few =
     let many = length-append a.log.items (made_by h.past v) in
     let now : length b.log.items ≡ length (a.log.items ++ made_by h.past v) = ap length log in
     let room : length b.log.items ≤ b.config.max_events = rw goes.config (omega (arith, h.events_in_limit)) in
     let past : past_of b ≡ admin_past h.past (event.Pick h.seen h.pick) v =
     ap reverse log ∙ past-events (made_by h.past v) a.log.items ∙ ap (with_events (made_by h.past v)) h.past_is in
-    let is : kept_of b ≡ after_admin h.past (applied_to h.before h.picked a.table) candidate c board v =
-    kept ∙ ap (λ (k : Kept). after_admin h.past k candidate c board v) h.kept_is in
+    let is : content_of b ≡ after_admin h.past (applied_to h.before h.picked a.table) candidate c board v =
+    kept ∙ ap (λ (k : Content). after_admin h.past k candidate c board v) h.content_is in
     let stands =
     stands-admin (rules_of a) a.late h.past h.before h.seen h.pick h.picked candidate h.rest a.table c board h.stands h.can_pick h.seen_is h.of_admin h.one h.can_apply
     (subst (IsChosen (rules_of a) h.past h.before c h.picked board) h.verdict_is chosen) in
@@ -92,8 +92,8 @@ pub has_room : (a : FrontState) (candidate : Candidate) (v : Verdict) (closing :
     → c < length a.cqs.items → d ≡ get_or a.cqs.items c d → length d.ready.items + 256 ≤ d.ready.room
 has_room a candidate v closing h c d there read =
     let room = ready_room-is a h.roomy c d there read in
-    let kept : cq_in a.cqs.items ≡ h.before.cq = ap (λ (k : Kept). k.cq) h.kept_is in
-    let is : (h.before.cq c).ready ≡ d.ready.items = ap (λ (s : CqKept). s.ready) (sym (ap (λ (f : ℕ → CqKept). f c) kept) ∙ cq_in-read a.cqs.items c d there read) in
+    let kept : cq_in a.cqs.items ≡ h.before.cq = ap (λ (k : Content). k.cq) h.content_is in
+    let is : (h.before.cq c).ready ≡ d.ready.items = ap (λ (s : CqContent). s.ready) (sym (ap (λ (f : ℕ → CqContent). f c) kept) ∙ cq_in-read a.cqs.items c d there read) in
     let many = ap (λ (ts : List Ready). length ts) is in
     let few = few_ready h.past h.before h.stands.ready h.can_pick.none_pending c in
     omega (arith, h.can_pick.places, h.one)
@@ -106,12 +106,12 @@ answer_fits a candidate v closing h d read = let room = has_room a candidate v c
 -- what is kept after some completions became ready in a completion region
 pub kept_readied : (a b : FrontState) (c : ℕ) (d : CqRegion) (ready : FifoView Ready) (ts : List Ready) → c < length a.cqs.items → d ≡ get_or a.cqs.items c d
     → ready ≡ record d.ready { items = d.ready.items ++ ts } → b.cqs.items ≡ set a.cqs.items c (record d { ready = ready })
-    → kept_of b ≡ with_readies (kept_of (record b { cqs = a.cqs })) c ts
+    → content_of b ≡ with_readies (content_of (record b { cqs = a.cqs })) c ts
 kept_readied a b c d ready ts there read e cqs =
     let cq : cq_in b.cqs.items ≡ put_cq (cq_in a.cqs.items) c (record (cq_in a.cqs.items c) { ready = (cq_in a.cqs.items c).ready ++ ts }) =
     ap cq_in cqs ∙ readied a.cqs.items c d ready ts there read e in
     let ncq : length b.cqs.items ≡ length a.cqs.items = ap (λ (xs : List CqRegion). length xs) cqs ∙ length-set a.cqs.items c (record d { ready = ready }) in
-    λ t. record (kept_of b) { cq = cq t; ncq = ncq t }
+    λ t. record (content_of b) { cq = cq t; ncq = ncq t }
 
 -- the front goes on where some completions became ready
 pub goes_readied : (a b : FrontState) (es : List Event) (c : ℕ) (d : CqRegion) (ready : FifoView Ready) (ts : List Ready) → d ≡ get_or a.cqs.items c d
@@ -152,9 +152,9 @@ pub kept_answered : (a b : FrontState) (candidate : Candidate) (v : Verdict) (cl
     → IsChosen (rules_of a) h.past h.before c h.picked board v
     → (d : CqRegion) (ready : FifoView Ready) (t : Ready) → d ≡ get_or a.cqs.items 0 d → ready ≡ record d.ready { items = d.ready.items ++ t ∷ [] } → t ≡ answered candidate v
     → b.cqs.items ≡ set a.cqs.items 0 (record d { ready = ready }) → b.log.items ≡ a.log.items ++ made_by h.past v
-    → after_admin h.past (kept_of a) candidate c board v ≡ with_ready (kept_of (record b { cqs = a.cqs })) 0 (answered candidate v)
+    → after_admin h.past (content_of a) candidate c board v ≡ with_ready (content_of (record b { cqs = a.cqs })) 0 (answered candidate v)
     → Goes a b → b.table ≡ a.table → length (made_by h.past v) ≤ 257
-    → IsKept b
+    → IsConsistent b
 kept_answered a b candidate v closing c board h chosen d ready t read e is cqs log kept goes table few =
     let answer : ready ≡ record d.ready { items = d.ready.items ++ answered candidate v ∷ [] } =
     e ∙ ap (λ (x : Ready). record d.ready { items = d.ready.items ++ x ∷ [] }) is in
@@ -164,4 +164,4 @@ kept_answered a b candidate v closing c board h chosen d ready t read e is cqs l
 
 -- the board is that after the pick
 pub board_is : (a : FrontState) (candidate : Candidate) (v : Verdict) (closing : Option ℕ) (h : IsApplied a candidate v closing) → a.board ≡ h.picked
-board_is a candidate v closing h = ap (λ (k : Kept). k.board) h.kept_is
+board_is a candidate v closing h = ap (λ (k : Content). k.board) h.content_is

@@ -26,9 +26,9 @@ use Rattle.nvme_log.specs.Queues.{open_sq, open_cq}
 use Rattle.nvme_log.specs.Effects.{made_by, closed_cq_of}
 use Rattle.nvme_log.specs.Laws.{as_open}
 use Rattle.nvme_front.specs.inside.Applied.{IsApplied}
-use Rattle.nvme_state.specs.inside.Kept.{SqKept, Kept, with_ready, put_sq}
-use Rattle.nvme_front.specs.inside.State.{sq_in, cq_in, kept_of, rules_of}
-use Rattle.nvme_front.specs.inside.Room.{IsKept}
+use Rattle.nvme_state.specs.inside.Content.{SqContent, Content, with_ready, put_sq}
+use Rattle.nvme_front.specs.inside.State.{sq_in, cq_in, content_of, rules_of}
+use Rattle.nvme_front.specs.inside.Room.{IsConsistent}
 use Rattle.nvme_state.specs.inside.Standing.{on_board}
 use Rattle.nvme_front.specs.inside.Goes.{Goes}
 use Rattle.nvme_state.specs.inside.Fifo.{FifoView}
@@ -61,11 +61,11 @@ module _ (a : FrontState) (candidate : Candidate) (v : Verdict) (closing : Optio
 
   -- the submission regions are as many as before the pick
   pub same_sqs : length a.sqs.items ≡ h.before.nsq
-  same_sqs = ap (λ (k : Kept). k.nsq) h.kept_is
+  same_sqs = ap (λ (k : Content). k.nsq) h.content_is
 
   -- and so are the completion regions
   pub same_cqs : length a.cqs.items ≡ h.before.ncq
-  same_cqs = ap (λ (k : Kept). k.ncq) h.kept_is
+  same_cqs = ap (λ (k : Content). k.ncq) h.content_is
 
 -- ---- a completion queue is closed
 -- a completion queue that is closed was open
@@ -112,7 +112,7 @@ module _ (a : FrontState) (candidate : Candidate) (qid region cqid : ℕ) (class
   opens_free =
       let io : qid ≡ h.pick.qid → ⊥ = λ e. may_open.not_admin (e ∙ h.of_admin) in
       let picked : a.board.queues ≡ slice_set h.before.board.queues h.pick.qid (option_map (fewer h.pick.n) (queue_at h.before.board.queues h.pick.qid)) =
-      ap (λ (k : Kept). k.board.queues) h.kept_is ∙ h.can_pick.board_queues in
+      ap (λ (k : Content). k.board.queues) h.content_is ∙ h.can_pick.board_queues in
       let none : sq_of h.before.table qid ≡ None = h.stands.tabled.stands.sq qid ∙ may_open.free in
       ap (λ (queues : List (Option OpenQueue)). queue_at queues qid) picked
       ∙ get_or-set_other h.before.board.queues h.pick.qid qid (option_map (fewer h.pick.n) (queue_at h.before.board.queues h.pick.qid)) None io
@@ -137,14 +137,14 @@ pub kept_opened : (a b : FrontState) (qid r region c : ℕ) (class : Class) (d :
     → b.sqs.items ≡ set a.sqs.items r (record d { queue = Some (record { qid = qid; cq_region = c }) })
     → b.board ≡ record a.board { queues = slice_set a.board.queues qid (Some (record { class = class; count = 0 })) }
     → b.table ≡ a.table → b.outstanding ≡ a.outstanding → b.deletion ≡ a.deletion → b.jobs ≡ a.jobs
-    → kept_of (record b { cqs = a.cqs }) ≡ with_opened (kept_of a) qid region c class
+    → content_of (record b { cqs = a.cqs }) ≡ with_opened (content_of a) qid region c class
 kept_opened a b qid r region c class d same there read sqs board table outstanding deletion jobs =
     let attachment : Attachment = record { qid = qid; cq_region = c } in
     let sq : sq_in b.sqs.items ≡ put_sq (sq_in a.sqs.items) r (record (sq_in a.sqs.items r) { queue = Some attachment }) =
     ap sq_in sqs ∙ sq_in-set a.sqs.items r (record d { queue = Some attachment }) there
-    ∙ ap (λ (s : SqKept). put_sq (sq_in a.sqs.items) r (record s { queue = Some attachment })) (sym (sq_in-read a.sqs.items r d there read)) in
+    ∙ ap (λ (s : SqContent). put_sq (sq_in a.sqs.items) r (record s { queue = Some attachment })) (sym (sq_in-read a.sqs.items r d there read)) in
     let nsq : length b.sqs.items ≡ length a.sqs.items = ap (λ (xs : List SqRegion). length xs) sqs ∙ length-set a.sqs.items r (record d { queue = Some attachment }) in
-    subst (λ (z : ℕ). kept_of (record b { cqs = a.cqs }) ≡ with_opened (kept_of a) qid z c class) same
+    subst (λ (z : ℕ). content_of (record b { cqs = a.cqs }) ≡ with_opened (content_of a) qid z c class) same
     (λ t. record {
       sq = sq t;
       cq = cq_in a.cqs.items;
@@ -174,10 +174,10 @@ pub keeps_opened : (a b : FrontState) (candidate : Candidate) (qid region cqid :
     → b.board ≡ record a.board { queues = slice_set a.board.queues qid (Some (record { class = class; count = 0 })) }
     → d ≡ get_or a.cqs.items 0 d → ready ≡ record d.ready { items = d.ready.items ++ t ∷ [] } → t ≡ answered candidate (verdict.OpenSq qid region cqid class)
     → b.cqs.items ≡ set a.cqs.items 0 (record d { ready = ready })
-    → b.log.items ≡ a.log.items ++ event.OpenSq qid region cqid class ∷ [] → b.deletion ≡ a.deletion → Stays a b → Goes a b → IsKept b
+    → b.log.items ≡ a.log.items ++ event.OpenSq qid region cqid class ∷ [] → b.deletion ≡ a.deletion → Stays a b → Goes a b → IsConsistent b
 keeps_opened a b candidate qid region cqid class closing h c r s d ready t is same read sqs board read_cq e answer cqs log deletion stays goes =
     let v : Verdict = verdict.OpenSq qid region cqid class in
-    let kept : kept_of (record b { cqs = a.cqs }) ≡ with_opened (kept_of a) qid region c class =
+    let kept : content_of (record b { cqs = a.cqs }) ≡ with_opened (content_of a) qid region c class =
     kept_opened a b qid r region c class s same (opens_there a candidate qid region cqid class closing h r same) read sqs board stays.table stays.outstanding deletion stays.jobs in
     kept_answered a b candidate v closing c a.board h (opens_for a candidate qid region cqid class closing h c is) d ready t read_cq e answer cqs log
-    (ap (λ (k : Kept). with_ready k 0 (answered candidate v)) (sym kept)) goes stays.table (omega arith)
+    (ap (λ (k : Content). with_ready k 0 (answered candidate v)) (sym kept)) goes stays.table (omega arith)

@@ -11,9 +11,9 @@ use Rattle.nvme_lane.specs.View.{GetView, PutView, IsPair, SameGet, SamePut}
 use Rattle.nvme_state.specs.declared.region.SqRegion.{SqRegion}
 use Rattle.nvme_state.specs.declared.region.CqRegion.{CqRegion}
 use Rattle.nvme_front.specs.declared.state.FrontState.{FrontState}
-use Rattle.nvme_state.specs.inside.Kept.{SqKept, no_sq, no_cq}
-use Rattle.nvme_front.specs.inside.State.{sq_kept, cq_kept, sq_in, cq_in, gets_of, puts_of, kept_of, rules_of, past_of}
-use Rattle.nvme_front.specs.inside.Room.{IsKept}
+use Rattle.nvme_state.specs.inside.Content.{SqContent, no_sq, no_cq}
+use Rattle.nvme_front.specs.inside.State.{sq_content, cq_content, sq_in, cq_in, gets_of, puts_of, content_of, rules_of, past_of}
+use Rattle.nvme_front.specs.inside.Room.{IsConsistent}
 use Rattle.nvme_front.specs.inside.Goes.{Goes}
 use Rattle.nvme_front.specs.Ends.{get_place, put_place}
 use Rattle.nvme_front.specs.inside.State.{view_of}
@@ -29,15 +29,15 @@ abbrev pub looked_cq : FrontState → ℕ → CqRegion → PutView Cqe → Front
 looked_cq s c d e = record s { cqs = with_item s.cqs c (record d { end = e }) }
 
 -- a front that keeps the same but what its ends know is kept
-kept-knowing : (s s' : FrontState) (known : ℕ → List Sqe) (free : ℕ → ℕ) → IsKept s → Goes s s' → s'.log.items ≡ s.log.items
-    → kept_of s' ≡ knowing (kept_of s) known free → ((r : ℕ) → length s.sqs.items ≤ r → known r ≡ [])
-    → s'.table ≡ s.table → IsKept s'
+kept-knowing : (s s' : FrontState) (known : ℕ → List Sqe) (free : ℕ → ℕ) → IsConsistent s → Goes s s' → s'.log.items ≡ s.log.items
+    → content_of s' ≡ knowing (content_of s) known free → ((r : ℕ) → length s.sqs.items ≤ r → known r ≡ [])
+    → s'.table ≡ s.table → IsConsistent s'
 kept-knowing s s' known free k g log kept none table =
     let rules = rules-goes s s' g in
     let past : past_of s' ≡ past_of s = rw log refl in
     record {
-      fresh = λ e. rw (rules, g.late, kept) (fresh-knowing (rules_of s) s.late (past_of s) (kept_of s) known free none (k.fresh (sym log ∙ e)));
-      stands = λ x y. rw (rules, g.late, past, kept) (stands-knowing (rules_of s) s.late (past_of s) (kept_of s) known free (k.stands (rw (sqs-goes s s' g) at x) (rw (cqs-goes s s' g) at y)));
+      fresh = λ e. rw (rules, g.late, kept) (fresh-knowing (rules_of s) s.late (past_of s) (content_of s) known free none (k.fresh (sym log ∙ e)));
+      stands = λ x y. rw (rules, g.late, past, kept) (stands-knowing (rules_of s) s.late (past_of s) (content_of s) known free (k.stands (rw (sqs-goes s s' g) at x) (rw (cqs-goes s s' g) at y)));
       begun = λ n. admin-goes s s' g (k.begun (λ e. n (log ∙ e)));
       roomy = roomy-goes s s' k.roomy g (ap (λ z. z.sq_regions) table) (ap (λ z. z.cq_regions) table) (rw (log, g.config) k.roomy.few_events);
     }
@@ -67,18 +67,18 @@ module _ (s : FrontState) (r : ℕ) (d : SqRegion) (e : GetView Sqe) (l : r < le
   sq-same : (x : ℕ) → sq_in (set s.sqs.items r (record d { end = e })) x ≡ record (sq_in s.sqs.items x) { known = (sq_in (set s.sqs.items r (record d { end = e })) x).known }
   sq-same x = elim (eqb_tells x r) [
     | inl p ↦
-        let now : sq_in (set s.sqs.items r (record d { end = e })) x ≡ sq_kept (record d { end = e }) = look-set sq_kept no_sq s.sqs.items r (record d { end = e }) l x ∙ rw p.0 refl in
-        let was : sq_in s.sqs.items x ≡ sq_kept d = ap (sq_in s.sqs.items) p.1 ∙ look-read sq_kept no_sq s.sqs.items r d l d read in
+        let now : sq_in (set s.sqs.items r (record d { end = e })) x ≡ sq_content (record d { end = e }) = look-set sq_content no_sq s.sqs.items r (record d { end = e }) l x ∙ rw p.0 refl in
+        let was : sq_in s.sqs.items x ≡ sq_content d = ap (sq_in s.sqs.items) p.1 ∙ look-read sq_content no_sq s.sqs.items r d l d read in
         rw (now, was) (λ t. record { got = got t; known = e.known; window = d.window.items; fetched = d.fetched; unposted = d.unposted; queue = d.queue; slots = same.2 t })
     | inr p ↦
-        let now : sq_in (set s.sqs.items r (record d { end = e })) x ≡ sq_in s.sqs.items x = look-set sq_kept no_sq s.sqs.items r (record d { end = e }) l x ∙ rw p.0 refl in
+        let now : sq_in (set s.sqs.items r (record d { end = e })) x ≡ sq_in s.sqs.items x = look-set sq_content no_sq s.sqs.items r (record d { end = e }) l x ∙ rw p.0 refl in
         rw now refl
   ]
 
-  pub kept-sq : IsKept s → IsKept (looked_sq s r d e)
+  pub kept-sq : IsConsistent s → IsConsistent (looked_sq s r d e)
   kept-sq k = kept-knowing s (looked_sq s r d e) (λ x. (sq_in (set s.sqs.items r (record d { end = e })) x).known) (λ c. (cq_in s.cqs.items c).free) k goes-sq refl
-      (λ t. record (kept_of (looked_sq s r d e)) { sq = λ x. sq-same x t; nsq = length-set s.sqs.items r (record d { end = e }) t })
-      (λ x past. ap (λ (z : SqKept). z.known) (get_or_past (map sq_kept (set s.sqs.items r (record d { end = e }))) x no_sq (rw (length-map, length-set) past)))
+      (λ t. record (content_of (looked_sq s r d e)) { sq = λ x. sq-same x t; nsq = length-set s.sqs.items r (record d { end = e }) t })
+      (λ x past. ap (λ (z : SqContent). z.known) (get_or_past (map sq_content (set s.sqs.items r (record d { end = e }))) x no_sq (rw (length-map, length-set) past)))
       refl
 
   pub view-sq : (n : ℕ) → r ≡ n → view_of (looked_sq s r d e) ≡ record (view_of s) { gets = slice_set (gets_of s.sqs.items) n e }
@@ -121,18 +121,18 @@ module _ (s : FrontState) (c : ℕ) (d : CqRegion) (e : PutView Cqe) (l : c < le
   cq-same : (x : ℕ) → cq_in (set s.cqs.items c (record d { end = e })) x ≡ record (cq_in s.cqs.items x) { free = (cq_in (set s.cqs.items c (record d { end = e })) x).free }
   cq-same x = elim (eqb_tells x c) [
     | inl p ↦
-        let now : cq_in (set s.cqs.items c (record d { end = e })) x ≡ cq_kept (record d { end = e }) = look-set cq_kept no_cq s.cqs.items c (record d { end = e }) l x ∙ rw p.0 refl in
-        let was : cq_in s.cqs.items x ≡ cq_kept d = ap (cq_in s.cqs.items) p.1 ∙ look-read cq_kept no_cq s.cqs.items c d l d read in
+        let now : cq_in (set s.cqs.items c (record d { end = e })) x ≡ cq_content (record d { end = e }) = look-set cq_content no_cq s.cqs.items c (record d { end = e }) l x ∙ rw p.0 refl in
+        let was : cq_in s.cqs.items x ≡ cq_content d = ap (cq_in s.cqs.items) p.1 ∙ look-read cq_content no_cq s.cqs.items c d l d read in
         rw (now, was) (λ t. record { sent = sent t; free = e.free; posted = d.posted; ready = d.ready.items; slots = same.2 t })
     | inr p ↦
-        let now : cq_in (set s.cqs.items c (record d { end = e })) x ≡ cq_in s.cqs.items x = look-set cq_kept no_cq s.cqs.items c (record d { end = e }) l x ∙ rw p.0 refl in
+        let now : cq_in (set s.cqs.items c (record d { end = e })) x ≡ cq_in s.cqs.items x = look-set cq_content no_cq s.cqs.items c (record d { end = e }) l x ∙ rw p.0 refl in
         rw now refl
   ]
 
-  pub kept-cq : IsKept s → IsKept (looked_cq s c d e)
+  pub kept-cq : IsConsistent s → IsConsistent (looked_cq s c d e)
   kept-cq k = kept-knowing s (looked_cq s c d e) (λ r. (sq_in s.sqs.items r).known) (λ x. (cq_in (set s.cqs.items c (record d { end = e })) x).free) k goes-cq refl
-      (λ t. record (kept_of (looked_cq s c d e)) { cq = λ x. cq-same x t; ncq = length-set s.cqs.items c (record d { end = e }) t })
-      (λ x past. ap (λ (z : SqKept). z.known) (get_or_past (map sq_kept s.sqs.items) x no_sq (rw length-map past)))
+      (λ t. record (content_of (looked_cq s c d e)) { cq = λ x. cq-same x t; ncq = length-set s.cqs.items c (record d { end = e }) t })
+      (λ x past. ap (λ (z : SqContent). z.known) (get_or_past (map sq_content s.sqs.items) x no_sq (rw length-map past)))
       refl
 
   pub view-cq : (n : ℕ) → c ≡ n → view_of (looked_cq s c d e) ≡ record (view_of s) { puts = slice_set (puts_of s.cqs.items) n e }

@@ -11,11 +11,11 @@ use Rattle.nvme_state.specs.declared.region.SqRegion.{SqRegion}
 use Rattle.nvme_state.specs.declared.region.CqRegion.{CqRegion}
 use Rattle.nvme_front.specs.declared.state.FrontState.{FrontState}
 use Rattle.nvme_front.specs.inside.Clear.{no_window, no_ready}
-use Rattle.nvme_front.specs.inside.State.{sq_in, cq_in, kept_of, past_of}
-use Rattle.nvme_front.specs.inside.Room.{IsKept}
+use Rattle.nvme_front.specs.inside.State.{sq_in, cq_in, content_of, past_of}
+use Rattle.nvme_front.specs.inside.Room.{IsConsistent}
 use Rattle.nvme_log.specs.Account.{IsClear}
 use Rattle.nvme_state.proofs.Clearing.{KeepsNothing}
-use Rattle.nvme_front.proofs.KeptAnswers.{clear_is-kept}
+use Rattle.nvme_front.proofs.ConsistentAnswers.{clear_is-kept}
 
 -- where the test passes, no window has a candidate
 windows_empty : (sqs : List SqRegion) → list_all no_window sqs ≡ true → (r : ℕ) → (sq_in sqs r).window ≡ []
@@ -58,7 +58,7 @@ abbrev pub clear_test : FrontState → Bool → Bool
 clear_test s a = ((a && s.outstanding == 0) && list_all no_window s.sqs.items) && list_all no_ready s.cqs.items
 
 -- where they pass, nothing is kept
-nothing_tested : (s : FrontState) (a : Bool) → is_some s.deletion ≡ not a → clear_test s a ≡ true → KeepsNothing (kept_of s)
+nothing_tested : (s : FrontState) (a : Bool) → is_some s.deletion ≡ not a → clear_test s a ≡ true → KeepsNothing (content_of s)
 nothing_tested s a e h =
     let three = and_parts ((a && s.outstanding == 0) && list_all no_window s.sqs.items) (list_all no_ready s.cqs.items) h in
     let two = and_parts (a && s.outstanding == 0) (list_all no_window s.sqs.items) three.0 in
@@ -71,7 +71,7 @@ nothing_tested s a e h =
     }
 
 -- where nothing is kept, they pass
-test_of_nothing : (s : FrontState) (a : Bool) → is_some s.deletion ≡ not a → KeepsNothing (kept_of s) → clear_test s a ≡ true
+test_of_nothing : (s : FrontState) (a : Bool) → is_some s.deletion ≡ not a → KeepsNothing (content_of s) → clear_test s a ≡ true
 test_of_nothing s a e k =
     and_from ((a && s.outstanding == 0) && list_all no_window s.sqs.items) (list_all no_ready s.cqs.items)
     (and_from (a && s.outstanding == 0) (list_all no_window s.sqs.items)
@@ -79,7 +79,7 @@ test_of_nothing s a e k =
     (readies_tested s.cqs.items k.none_ready)
 
 -- a front is clear exactly where the four tests pass
-pub clear_answer : (s : FrontState) → IsKept s → (a : Bool) → is_some s.deletion ≡ not a → (b : Bool) → b ≡ clear_test s a
+pub clear_answer : (s : FrontState) → IsConsistent s → (a : Bool) → is_some s.deletion ≡ not a → (b : Bool) → b ≡ clear_test s a
     → (b ≡ true → IsClear (past_of s)) × (IsClear (past_of s) → b ≡ true)
 clear_answer s kept a e b is =
     let by = clear_is-kept s kept in

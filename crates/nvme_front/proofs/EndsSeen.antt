@@ -9,10 +9,10 @@ use Rattle.nvme_state.specs.declared.region.SqRegion.{SqRegion}
 use Rattle.nvme_state.specs.declared.region.CqRegion.{CqRegion}
 use Rattle.nvme_lane.specs.View.{GetView, PutView}
 use Rattle.nvme_log.specs.Account.{IsAccount}
-use Rattle.nvme_state.specs.inside.Kept.{SqKept, CqKept, no_sq, no_cq}
-use Rattle.nvme_front.specs.inside.State.{sq_kept, cq_kept, kept_of, rules_of, past_of}
+use Rattle.nvme_state.specs.inside.Content.{SqContent, CqContent, no_sq, no_cq}
+use Rattle.nvme_front.specs.inside.State.{sq_content, cq_content, content_of, rules_of, past_of}
 use Rattle.nvme_state.specs.inside.Standing.{Stands}
-use Rattle.nvme_front.specs.inside.Room.{IsKept}
+use Rattle.nvme_front.specs.inside.Room.{IsConsistent}
 use Rattle.nvme_front.specs.inside.Goes.{Goes, HasAdmin}
 use Rattle.nvme_front.specs.View.{FrontView, got_in, known_in, sent_in, free_in, AccountsForEnds, GoesOn}
 use Rattle.nvme_front.specs.inside.State.{view_of}
@@ -29,17 +29,17 @@ module _ {X Y Z W : Type 0} (f : Y → Z) (g : X → Y) (h : W → Z) (p : X →
   look-field (x ∷ xs) (suc k) = look-field xs k
 
 -- what the view says of a region's end is what is kept of the region
-pub got_in-kept : (s : FrontState) (r : ℕ) → got_in (view_of s) r ≡ ((kept_of s).sq r).got
-got_in-kept s r = look-field (λ (x : SqKept). x.got) sq_kept (λ (g : GetView Sqe). g.got) (λ (x : SqRegion). x.end) (λ x. refl) no_sq s.sqs.items r
+pub got_in-kept : (s : FrontState) (r : ℕ) → got_in (view_of s) r ≡ ((content_of s).sq r).got
+got_in-kept s r = look-field (λ (x : SqContent). x.got) sq_content (λ (g : GetView Sqe). g.got) (λ (x : SqRegion). x.end) (λ x. refl) no_sq s.sqs.items r
 
-pub known_in-kept : (s : FrontState) (r : ℕ) → known_in (view_of s) r ≡ ((kept_of s).sq r).known
-known_in-kept s r = look-field (λ (x : SqKept). x.known) sq_kept (λ (g : GetView Sqe). g.known) (λ (x : SqRegion). x.end) (λ x. refl) no_sq s.sqs.items r
+pub known_in-kept : (s : FrontState) (r : ℕ) → known_in (view_of s) r ≡ ((content_of s).sq r).known
+known_in-kept s r = look-field (λ (x : SqContent). x.known) sq_content (λ (g : GetView Sqe). g.known) (λ (x : SqRegion). x.end) (λ x. refl) no_sq s.sqs.items r
 
-pub sent_in-kept : (s : FrontState) (c : ℕ) → sent_in (view_of s) c ≡ ((kept_of s).cq c).sent
-sent_in-kept s c = look-field (λ (x : CqKept). x.sent) cq_kept (λ (g : PutView Cqe). g.sent) (λ (x : CqRegion). x.end) (λ x. refl) no_cq s.cqs.items c
+pub sent_in-kept : (s : FrontState) (c : ℕ) → sent_in (view_of s) c ≡ ((content_of s).cq c).sent
+sent_in-kept s c = look-field (λ (x : CqContent). x.sent) cq_content (λ (g : PutView Cqe). g.sent) (λ (x : CqRegion). x.end) (λ x. refl) no_cq s.cqs.items c
 
-pub free_in-kept : (s : FrontState) (c : ℕ) → free_in (view_of s) c ≡ ((kept_of s).cq c).free
-free_in-kept s c = look-field (λ (x : CqKept). x.free) cq_kept (λ (g : PutView Cqe). g.free) (λ (x : CqRegion). x.end) (λ x. refl) no_cq s.cqs.items c
+pub free_in-kept : (s : FrontState) (c : ℕ) → free_in (view_of s) c ≡ ((content_of s).cq c).free
+free_in-kept s c = look-field (λ (x : CqContent). x.free) cq_content (λ (g : PutView Cqe). g.free) (λ (x : CqRegion). x.end) (λ x. refl) no_cq s.cqs.items c
 
 -- the admin regions are there where the view has ends of both kinds
 pub admin_there : (s : FrontState) (v : FrontView) → view_of s ≡ v → 0 < length v.gets → 0 < length v.puts → HasAdmin s
@@ -49,23 +49,23 @@ admin_there s v is gets puts =
     (subst (λ (n : ℕ). 0 < n) sqs gets, subst (λ (n : ℕ). 0 < n) cqs puts)
 
 -- the log of a front that stands at it accounts for its ends, where no region was added late
-accounts_at : (s : FrontState) → Stands (rules_of s) false (past_of s) (kept_of s) → AccountsForEnds (view_of s)
+accounts_at : (s : FrontState) → Stands (rules_of s) false (past_of s) (content_of s) → AccountsForEnds (view_of s)
 accounts_at s h =
-    let got : got_in (view_of s) ≡ (λ (r : ℕ). ((kept_of s).sq r).got) = λ t r. got_in-kept s r t in
-    let sent : sent_in (view_of s) ≡ (λ (c : ℕ). ((kept_of s).cq c).sent) = λ t c. sent_in-kept s c t in
+    let got : got_in (view_of s) ≡ (λ (r : ℕ). ((content_of s).sq r).got) = λ t r. got_in-kept s r t in
+    let sent : sent_in (view_of s) ≡ (λ (c : ℕ). ((content_of s).cq c).sent) = λ t c. sent_in-kept s c t in
     record {
       account =
           subst (λ (f : ℕ → List Sqe). IsAccount (rules_of s) f (past_of s) (sent_in (view_of s))) (sym got)
-          (subst (λ (f : ℕ → List Cqe). IsAccount (rules_of s) (λ (r : ℕ). ((kept_of s).sq r).got) (past_of s) f) (sym sent)
-          (account_is (rules_of s) (past_of s) (kept_of s) h));
-      all_fetched = λ r. fetched_is_got (rules_of s) (past_of s) (kept_of s) h r ∙ sym (got_in-kept s r);
-      all_posted = λ c. posted_is_sent (rules_of s) (past_of s) (kept_of s) h c ∙ sym (sent_in-kept s c);
+          (subst (λ (f : ℕ → List Cqe). IsAccount (rules_of s) (λ (r : ℕ). ((content_of s).sq r).got) (past_of s) f) (sym sent)
+          (account_is (rules_of s) (past_of s) (content_of s) h));
+      all_fetched = λ r. fetched_is_got (rules_of s) (past_of s) (content_of s) h r ∙ sym (got_in-kept s r);
+      all_posted = λ c. posted_is_sent (rules_of s) (past_of s) (content_of s) h c ∙ sym (sent_in-kept s c);
     }
 
 -- the log of a front accounts for its ends, where both admin regions are there and no region was added late
-pub accounts_for_ends : (s : FrontState) → IsKept s → HasAdmin s → s.late ≡ false → AccountsForEnds (view_of s)
+pub accounts_for_ends : (s : FrontState) → IsConsistent s → HasAdmin s → s.late ≡ false → AccountsForEnds (view_of s)
 accounts_for_ends s kept admin late =
-    accounts_at s (subst (λ (b : Bool). Stands (rules_of s) b (past_of s) (kept_of s)) late (kept.stands admin.0 admin.1))
+    accounts_at s (subst (λ (b : Bool). Stands (rules_of s) b (past_of s) (content_of s)) late (kept.stands admin.0 admin.1))
 
 -- the view of the same front later on goes on from its view before
 pub view_goes_on : (a b : FrontState) → Goes a b → GoesOn (view_of a) (view_of b)

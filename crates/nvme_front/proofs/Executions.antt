@@ -21,8 +21,8 @@ use Rattle.nvme_log.specs.Dispatches.{dispatched, AreJobs, ExecutesOnce}
 use Rattle.nvme_state.specs.JobAccount.{AccountsForJobs}
 use Rattle.nvme_state.specs.Hands.{Hands, in_hand, job_in}
 use Rattle.nvme_state.specs.inside.Jobs.{IsClosed, dispatched_place}
-use Rattle.nvme_front.specs.inside.State.{kept_of, rules_of, past_of}
-use Rattle.nvme_front.specs.inside.Room.{IsKept}
+use Rattle.nvme_front.specs.inside.State.{content_of, rules_of, past_of}
+use Rattle.nvme_front.specs.inside.Room.{IsConsistent}
 use Rattle.nvme_state.specs.inside.Standing.{Stands, held_by, hand_of}
 use Rattle.nvme_front.specs.View.{FrontView, past_in}
 use Rattle.nvme_front.specs.inside.State.{view_of}
@@ -128,7 +128,7 @@ module _ (sizes : List ℕ) (past : Past) (h : Hands) (workers : List WorkerView
   }
 
 -- a kept front accounts for the jobs of the places that it picked
-pub accounts_for_jobs : (s : FrontState) → IsKept s → AccountsForJobs s.config.spaces (past_of s) s.jobs.hands
+pub accounts_for_jobs : (s : FrontState) → IsConsistent s → AccountsForJobs s.config.spaces (past_of s) s.jobs.hands
 accounts_for_jobs s k = elim (empty_or_not s.log.items) [
   | inl e ↦
       subst (λ (z : List Event). AccountsForJobs s.config.spaces (reverse z) s.jobs.hands) (sym e) (jobs-when-fresh s.config.spaces s.jobs (k.fresh e).jobs).account
@@ -136,24 +136,24 @@ accounts_for_jobs s k = elim (empty_or_not s.log.items) [
 ]
 
 -- what a front keeps at a clear log has no command that waits for its result
-none_waits_for_result : (s : FrontState) → Stands (rules_of s) s.late (past_of s) (kept_of s) → IsClear (past_of s) → in_hand s.jobs.hands ≡ []
+none_waits_for_result : (s : FrontState) → Stands (rules_of s) s.late (past_of s) (content_of s) → IsClear (past_of s) → in_hand s.jobs.hands ≡ []
 none_waits_for_result s h clear =
-    let nothing = (clear_is (rules_of s) s.late (past_of s) (kept_of s) h).0 clear in
+    let nothing = (clear_is (rules_of s) s.late (past_of s) (content_of s) h).0 clear in
     let none : s.outstanding ≡ 0 = nothing.none_outstanding in
-    let taken : length (hand_of (kept_of s)) ≤ s.outstanding = omega (arith, h.ready.taken) in
+    let taken : length (hand_of (content_of s)) ≤ s.outstanding = omega (arith, h.ready.taken) in
     nil_from_length (in_hand s.jobs.hands)
     (omega (arith, length-map (in_hand s.jobs.hands) dispatched_place, length-append (map dispatched_place (in_hand s.jobs.hands)) (held_by s.deletion)))
 
 -- in a clear front no command waits for its result
-pub none_in_hand : (s : FrontState) → IsKept s → IsClear (past_of s) → in_hand s.jobs.hands ≡ []
+pub none_in_hand : (s : FrontState) → IsConsistent s → IsClear (past_of s) → in_hand s.jobs.hands ≡ []
 none_in_hand s k clear = elim (empty_or_not s.log.items) [
   | inl e ↦ let f = (k.fresh e).jobs in (λ t. f.none_running t ++ f.none_unhanded t)
   | inr n ↦ let a = k.begun n in none_waits_for_result s (k.stands a.0 a.1) clear
 ]
 
 -- the same by the view
-pub jobs_seen : (s : FrontState) (v : FrontView) → view_of s ≡ v → IsKept s → AccountsForJobs v.rules.sizes (past_in v) v.hands
+pub jobs_seen : (s : FrontState) (v : FrontView) → view_of s ≡ v → IsConsistent s → AccountsForJobs v.rules.sizes (past_in v) v.hands
 jobs_seen s v e k = subst (λ (z : FrontView). AccountsForJobs z.rules.sizes (past_in z) z.hands) e (accounts_for_jobs s k)
 
-pub none_in_hand_seen : (s : FrontState) (v : FrontView) → view_of s ≡ v → IsKept s → IsClear (past_in v) → in_hand v.hands ≡ []
+pub none_in_hand_seen : (s : FrontState) (v : FrontView) → view_of s ≡ v → IsConsistent s → IsClear (past_in v) → in_hand v.hands ≡ []
 none_in_hand_seen s v e k = subst (λ (z : FrontView). IsClear (past_in z) → in_hand z.hands ≡ []) e (none_in_hand s k)

@@ -22,10 +22,10 @@ use Rattle.nvme_log.specs.Rules.{Past}
 use Rattle.nvme_log.specs.Queues.{Queue, open_sq}
 use Rattle.nvme_log.specs.Places.{fetched}
 use Rattle.nvme_log.specs.Laws.{as_open}
-use Rattle.nvme_state.specs.inside.Kept.{SqKept, Kept, put_sq}
-use Rattle.nvme_front.specs.inside.State.{sq_kept, sq_in, cq_in, gets_of, puts_of, kept_of, rules_of, past_of}
+use Rattle.nvme_state.specs.inside.Content.{SqContent, Content, put_sq}
+use Rattle.nvme_front.specs.inside.State.{sq_content, sq_in, cq_in, gets_of, puts_of, content_of, rules_of, past_of}
 use Rattle.nvme_state.specs.inside.Standing.{Stands, on_board}
-use Rattle.nvme_front.specs.inside.Room.{IsKept, window_room, ready_room}
+use Rattle.nvme_front.specs.inside.Room.{IsConsistent, window_room, ready_room}
 use Rattle.nvme_front.specs.inside.Goes.{coming_at, coming_in, Goes, HasAdmin}
 use Rattle.nvme_front.specs.Ends.{get_place, put_place}
 use Rattle.nvme_state.proofs.AfterSteps.{CanFetch, fetched_sq, came_board, fetch_event, after_fetch}
@@ -70,9 +70,9 @@ as_open-is : (entry : SqEntry) → entry.closing ≡ false → as_open (Some ent
 as_open-is entry h = rw h refl
 
 -- where a queue of the table isn't closing, when the front keeps what stands at its log
-module _ (a : FrontState) (kept : IsKept a) (admin : HasAdmin a) (q : ℕ) (entry : SqEntry) (in_table : sq_of a.table q ≡ Some entry) (not_closing : entry.closing ≡ false) where
+module _ (a : FrontState) (kept : IsConsistent a) (admin : HasAdmin a) (q : ℕ) (entry : SqEntry) (in_table : sq_of a.table q ≡ Some entry) (not_closing : entry.closing ≡ false) where
   -- what stands at the log
-  stands_at : Stands (rules_of a) a.late (past_of a) (kept_of a)
+  stands_at : Stands (rules_of a) a.late (past_of a) (content_of a)
   stands_at = kept.stands admin.0 admin.1
 
   -- it is an open queue
@@ -84,17 +84,17 @@ module _ (a : FrontState) (kept : IsKept a) (admin : HasAdmin a) (q : ℕ) (entr
   region_there = stands_at.queues.sq_there entry.region _ (stands_at.queues.attached q (queue_of entry) open_is).attached
 
   -- it is on the board
-  pub on_board_at : queue_at a.board.queues q ≡ Some (on_board (kept_of a) (queue_of entry))
-  on_board_at = stands_at.queues.board q ∙ ap (option_map (on_board (kept_of a))) open_is
+  pub on_board_at : queue_at a.board.queues q ≡ Some (on_board (content_of a) (queue_of entry))
+  on_board_at = stands_at.queues.board q ∙ ap (option_map (on_board (content_of a))) open_is
 
   -- its region, as it is read
   module _ (d : SqRegion) (read : d ≡ get_or a.sqs.items entry.region d) where
     -- what the front keeps of it
-    pub region_is : (kept_of a).sq entry.region ≡ sq_kept d
+    pub region_is : (content_of a).sq entry.region ≡ sq_content d
     region_is = sq_in-read a.sqs.items entry.region d region_there read
 
     -- where its window isn't full, a command may be fetched
-    pub can_fetch : a.deletion ≡ None → nat_le (window_of d.end.slots) (length d.window.items) ≡ false → CanFetch (past_of a) (kept_of a) q (queue_of entry)
+    pub can_fetch : a.deletion ≡ None → nat_le (window_of d.end.slots) (length d.window.items) ≡ false → CanFetch (past_of a) (content_of a) q (queue_of entry)
     can_fetch none full = record {
       is_open = open_is;
       none_pending = none;
@@ -102,19 +102,19 @@ module _ (a : FrontState) (kept : IsKept a) (admin : HasAdmin a) (q : ℕ) (entr
     }
 
     -- the window has room for it
-    pub window_fits : CanFetch (past_of a) (kept_of a) q (queue_of entry) → length d.window.items < d.window.room
+    pub window_fits : CanFetch (past_of a) (content_of a) q (queue_of entry) → length d.window.items < d.window.room
     window_fits can = rw (window_room-is a kept.roomy entry.region d region_there read) (rw region_is at can.room)
 
     -- and its index fits
     pub index_fits : d.fetched + 1 < 4294967296
     index_fits =
         let here = stands_at.regions entry.region in
-        let counted : d.fetched ≡ length ((kept_of a).sq entry.region).got = ap (λ (s : SqKept). s.fetched) (sym region_is) ∙ here.counted in
+        let counted : d.fetched ≡ length ((content_of a).sq entry.region).got = ap (λ (s : SqContent). s.fetched) (sym region_is) ∙ here.counted in
         let got = ap length here.fetched_is in
         omega (arith, few_fetched (past_of a) entry.region, length-reverse a.log.items, kept.roomy.few_events, a.config.few_events)
 
   -- its board may count one more
-  pub came_fits : CanFetch (past_of a) (kept_of a) q (queue_of entry) → IsSomeAnd (queue_at a.board.queues q) (λ (x : OpenQueue). x.count < highest_count)
+  pub came_fits : CanFetch (past_of a) (content_of a) q (queue_of entry) → IsSomeAnd (queue_at a.board.queues q) (λ (x : OpenQueue). x.count < highest_count)
   came_fits can = rw on_board_at (omega (arith, can.room))
 
   -- after the next command was got into the window, the log and the board have it
@@ -142,7 +142,7 @@ module _ (a : FrontState) (kept : IsKept a) (admin : HasAdmin a) (q : ℕ) (entr
     module _ (index : candidate.index ≡ d.fetched) (got : g.end.got ≡ d.end.got ++ candidate.entry ∷ []) (fetched_is : g.fetched ≡ d.fetched + 1)
         (unposted : g.unposted ≡ d.unposted) (queue : g.queue ≡ d.queue) where
       -- what the front keeps of its region then
-      fetched_region : sq_kept g ≡ fetched_sq (sq_kept d) candidate.entry g.end.known
+      fetched_region : sq_content g ≡ fetched_sq (sq_content d) candidate.entry g.end.known
       fetched_region = λ t. record {
         got = got t;
         known = g.end.known;
@@ -155,14 +155,14 @@ module _ (a : FrontState) (kept : IsKept a) (admin : HasAdmin a) (q : ℕ) (entr
 
       module _ (came : IfSome (queue_at a.board.queues q) (λ (x : OpenQueue). b.board ≡ record (a.board) { queues = slice_set a.board.queues q (Some (record x { count = x.count + 1 })) })) where
         -- its board
-        board_is : b.board ≡ came_board (kept_of a) q (queue_of entry)
+        board_is : b.board ≡ came_board (content_of a) q (queue_of entry)
         board_is = subst (λ (o : Option OpenQueue). IfSome o (λ (x : OpenQueue). b.board ≡ record (a.board) { queues = slice_set a.board.queues q (Some (record x { count = x.count + 1 })) })) on_board_at came
 
         -- all that it keeps
-        kept_is : kept_of b ≡ after_fetch (kept_of a) q (queue_of entry) candidate.entry g.end.known
-        kept_is = λ t. record {
+        content_is : content_of b ≡ after_fetch (content_of a) q (queue_of entry) candidate.entry g.end.known
+        content_is = λ t. record {
           sq = (ap sq_in sqs ∙ sq_in-set a.sqs.items entry.region g region_there
-              ∙ ap (put_sq (sq_in a.sqs.items) entry.region) (fetched_region ∙ ap (λ (s : SqKept). fetched_sq s candidate.entry g.end.known) (sym (region_is d read)))) t;
+              ∙ ap (put_sq (sq_in a.sqs.items) entry.region) (fetched_region ∙ ap (λ (s : SqContent). fetched_sq s candidate.entry g.end.known) (sym (region_is d read)))) t;
           cq = cq_in ((same.cqs t).items);
           nsq = (ap length sqs ∙ length-set a.sqs.items entry.region g) t;
           ncq = length ((same.cqs t).items);
@@ -174,20 +174,20 @@ module _ (a : FrontState) (kept : IsKept a) (admin : HasAdmin a) (q : ℕ) (entr
         }
 
         -- its event
-        event_is : Fetch entry.region candidate.index candidate.entry ≡ fetch_event (kept_of a) (queue_of entry) candidate.entry
-        event_is = ap (λ (i : ℕ). Fetch entry.region i candidate.entry) (index ∙ ap (λ (s : SqKept). s.fetched) (sym (region_is d read)))
+        event_is : Fetch entry.region candidate.index candidate.entry ≡ fetch_event (content_of a) (queue_of entry) candidate.entry
+        event_is = ap (λ (i : ℕ). Fetch entry.region i candidate.entry) (index ∙ ap (λ (s : SqContent). s.fetched) (sym (region_is d read)))
 
         -- what the front keeps stands at its log
-        pub fetch_kept : CanFetch (past_of a) (kept_of a) q (queue_of entry) → b.log.items ≡ a.log.items ++ Fetch entry.region candidate.index candidate.entry ∷ []
-            → length a.log.items + 1 ≤ a.config.max_events → IsKept b
+        pub fetch_kept : CanFetch (past_of a) (content_of a) q (queue_of entry) → b.log.items ≡ a.log.items ++ Fetch entry.region candidate.index candidate.entry ∷ []
+            → length a.log.items + 1 ≤ a.config.max_events → IsConsistent b
         fetch_kept can log within =
             let e = Fetch entry.region candidate.index candidate.entry in
             let goes : Goes a b = fetch_goes (e ∷ [], sym log) in
-            let past : past_of b ≡ fetch_event (kept_of a) (queue_of entry) candidate.entry ∷ past_of a = ap reverse log ∙ past-push a.log.items e ∙ ap (λ (z : Event). z ∷ past_of a) event_is in
-            let stands = stands-fetch (rules_of a) a.late (past_of a) (kept_of a) q (queue_of entry) candidate.entry g.end.known stands_at can in
+            let past : past_of b ≡ fetch_event (content_of a) (queue_of entry) candidate.entry ∷ past_of a = ap reverse log ∙ past-push a.log.items e ∙ ap (λ (z : Event). z ∷ past_of a) event_is in
+            let stands = stands-fetch (rules_of a) a.late (past_of a) (content_of a) q (queue_of entry) candidate.entry g.end.known stands_at can in
             kept_after a b admin goes
             (roomy-goes a b kept.roomy goes (ap (λ (v : _). v.sq_regions) same.table) (ap (λ (v : _). v.cq_regions) same.table)
             (rw (same.config) (omega (arith, ap length log, length_push a.log.items e))))
             (λ none. pushed-not_empty a.log.items e (sym log ∙ none))
-            (subst (λ (p : Past). Stands (rules_of a) a.late p (kept_of b)) (sym past)
-            (subst (λ (k : Kept). Stands (rules_of a) a.late (fetch_event (kept_of a) (queue_of entry) candidate.entry ∷ past_of a) k) (sym kept_is) stands))
+            (subst (λ (p : Past). Stands (rules_of a) a.late p (content_of b)) (sym past)
+            (subst (λ (k : Content). Stands (rules_of a) a.late (fetch_event (content_of a) (queue_of entry) candidate.entry ∷ past_of a) k) (sym content_is) stands))

@@ -18,8 +18,8 @@ use Rattle.nvme_log.specs.Queues.{Queue, open_sq, pending}
 use Rattle.nvme_log.specs.Places.{waiting}
 use Rattle.nvme_log.specs.Histories.{picks_in}
 use Rattle.nvme_state.specs.inside.Standing.{Stands, as_deletion}
-use Rattle.nvme_front.specs.inside.State.{kept_of, rules_of, past_of, gets_of, cq_in}
-use Rattle.nvme_front.specs.inside.Room.{IsKept}
+use Rattle.nvme_front.specs.inside.State.{content_of, rules_of, past_of, gets_of, cq_in}
+use Rattle.nvme_front.specs.inside.Room.{IsConsistent}
 use Rattle.nvme_front.specs.inside.Goes.{Goes, IsSame, HasAdmin, AllDrained, AllScanned, IsScanned, IsTaken, IsFullSq}
 use Rattle.nvme_front.specs.View.{known_in, IsFilled, AreFilled, PicksOne, EndsSteps, GoesToEnd}
 use Rattle.nvme_front.specs.inside.State.{view_of}
@@ -30,11 +30,11 @@ use Rattle.nvme_front.proofs.EndsSeen.{known_in-kept}
 use Rattle.nvme_front.proofs.Turns.{open_entry, none_can_be_posted}
 
 -- ---- windows that are filled
-module _ (s : FrontState) (h : Stands (rules_of s) s.late (past_of s) (kept_of s)) where
+module _ (s : FrontState) (h : Stands (rules_of s) s.late (past_of s) (content_of s)) where
   -- a full window has all candidates that it may have
-  full_window : (r : ℕ) → IsFullSq ((kept_of s).sq r) → window_at (rules_of s) r ≤ length (waiting (past_of s) r)
+  full_window : (r : ℕ) → IsFullSq ((content_of s).sq r) → window_at (rules_of s) r ≤ length (waiting (past_of s) r)
   full_window r full =
-      let candidates = ap (λ (xs : List ℕ). length xs) (h.regions r).waiting_is ∙ length-map ((kept_of s).sq r).window (λ (c : Candidate). c.index) in
+      let candidates = ap (λ (xs : List ℕ). length xs) (h.regions r).waiting_is ∙ length-map ((content_of s).sq r).window (λ (c : Candidate). c.index) in
       rw (h.tabled.sq_slots r, candidates) full.0
 
   -- an open queue that was scanned is filled
@@ -42,12 +42,12 @@ module _ (s : FrontState) (h : Stands (rules_of s) s.late (past_of s) (kept_of s
   queue_filled q queue is scanned =
       let it = open_entry (sq_of s.table q) queue (sym (h.queues.sqs q) ∙ is) in
       let taken = subst (λ (o : Option SqEntry). IsTaken s o) it.there scanned in
-      let one : IsFullSq ((kept_of s).sq queue.region) ⊎ ((kept_of s).sq queue.region).known ≡ [] =
-      subst (λ (r : ℕ). IsFullSq ((kept_of s).sq r) ⊎ ((kept_of s).sq r).known ≡ []) it.region (taken it.is_open) in
+      let one : IsFullSq ((content_of s).sq queue.region) ⊎ ((content_of s).sq queue.region).known ≡ [] =
+      subst (λ (r : ℕ). IsFullSq ((content_of s).sq r) ⊎ ((content_of s).sq r).known ≡ []) it.region (taken it.is_open) in
       ⊎_elim (λ full. inl (full_window queue.region full)) (λ known. inr (known_in-kept s queue.region ∙ known)) one
 
 -- where each queue was scanned, each is filled
-pub all_filled : (s : FrontState) → IsKept s → HasAdmin s → AllScanned s → AreFilled (view_of s) (past_of s)
+pub all_filled : (s : FrontState) → IsConsistent s → HasAdmin s → AllScanned s → AreFilled (view_of s) (past_of s)
 all_filled s kept admin scanned = λ q queue is.
     let h = kept.stands admin.0 admin.1 in
     queue_filled s h q queue is (scanned q (h.queues.few q queue is))
@@ -69,7 +69,7 @@ drained_later a b cqs h = subst (λ (xs : List CqRegion). (c : ℕ) → c < leng
 
 -- ---- what a turn's answer says of them
 -- a pick after a scan
-pub picks_one : (a s p t : FrontState) → IsKept s → HasAdmin s → AllScanned s → AllDrained s → IsKept t → Goes a s → Goes s t → picks_in s.log.items ≡ picks_in a.log.items
+pub picks_one : (a s p t : FrontState) → IsConsistent s → HasAdmin s → AllScanned s → AllDrained s → IsConsistent t → Goes a s → Goes s t → picks_in s.log.items ≡ picks_in a.log.items
     → gets_of t.sqs.items ≡ gets_of s.sqs.items → IsPickOf s p → t.log.items ≡ p.log.items → t.cqs.items ≡ p.cqs.items → PicksOne (view_of a) (view_of t)
 picks_one a s p t kept admin scanned drained kept' as_ goes picks gets pick log cqs = record {
   before = s.log.items;
@@ -85,7 +85,7 @@ picks_one a s p t kept admin scanned drained kept' as_ goes picks gets pick log 
 }
 
 -- a scan, and then a look for a pick
-pub serves_to_end : (a s p : FrontState) → IsKept s → HasAdmin s → AllScanned s → AllDrained s → IsKept p → Goes a s → Goes s p → picks_in s.log.items ≡ picks_in a.log.items
+pub serves_to_end : (a s p : FrontState) → IsConsistent s → HasAdmin s → AllScanned s → AllDrained s → IsConsistent p → Goes a s → Goes s p → picks_in s.log.items ≡ picks_in a.log.items
     → gets_of p.sqs.items ≡ gets_of s.sqs.items → (fetched : Bool) (picked : Step) → (picked ≡ Picked → IsPickOf s p) → (picked ≡ Moved → ⊥)
     → (picked ≡ Idle → IsSame s p) → (picked ≡ Stalled → IsSame s p) → GoesToEnd (told_after fetched picked) (view_of a) (view_of p)
 serves_to_end a s p kept admin scanned drained kept' as_ sp picks gets fetched picked one never idle stalled =
@@ -107,11 +107,11 @@ serves_to_end a s p kept admin scanned drained kept' as_ sp picks gets fetched p
       by false Stalled one never idle stalled = same_ends (stalled refl)
 
 -- the deletion that is pending, as the log has it
-pub pending_at : (s : FrontState) → IsKept s → HasAdmin s → (o : Option PendingDelete) → s.deletion ≡ o → pending (past_of s) ≡ option_map as_deletion o
+pub pending_at : (s : FrontState) → IsConsistent s → HasAdmin s → (o : Option PendingDelete) → s.deletion ≡ o → pending (past_of s) ≡ option_map as_deletion o
 pending_at s kept admin o is = (kept.stands admin.0 admin.1).deletion.pending_is ∙ ap (λ (x : Option PendingDelete). option_map as_deletion x) is
 
 -- a deletion that was pending, finished or not
-pub closes_to_end : (a t : FrontState) (d : PendingDelete) → IsKept a → HasAdmin a → IsKept t → Goes a t → AllDrained a → a.deletion ≡ Some d → (finished : Bool)
+pub closes_to_end : (a t : FrontState) (d : PendingDelete) → IsConsistent a → HasAdmin a → IsConsistent t → Goes a t → AllDrained a → a.deletion ≡ Some d → (finished : Bool)
     → (finished ≡ true → t.deletion ≡ None) → (finished ≡ false → IsSame a t) → GoesToEnd (told_after finished Idle) (view_of a) (view_of t)
 closes_to_end a t d kept admin kept' goes drained is finished done still =
     by finished done still where
@@ -133,7 +133,7 @@ closes_to_end a t d kept admin kept' goes drained is finished done still =
 
 -- ---- since a time before
 -- the same deletion was pending, or none
-module _ (a b : FrontState) (kept : IsKept a) (admin : HasAdmin a) (kept' : IsKept b) (goes : Goes a b) (same : b.deletion ≡ a.deletion)
+module _ (a b : FrontState) (kept : IsConsistent a) (admin : HasAdmin a) (kept' : IsConsistent b) (goes : Goes a b) (same : b.deletion ≡ a.deletion)
     (picks : picks_in b.log.items ≡ picks_in a.log.items) (c : FrontState) where
   pending_since : pending (past_of b) ≡ pending (past_of a)
   pending_since = pending_at b kept' (admin-goes a b goes admin) a.deletion same ∙ sym (pending_at a kept admin a.deletion refl)

@@ -16,11 +16,11 @@ use Rattle.nvme_state.specs.declared.candidate.PendingDelete.{PendingDelete}
 use Rattle.nvme_state.specs.declared.region.SqRegion.{SqRegion}
 use Rattle.nvme_state.specs.declared.region.CqRegion.{CqRegion}
 use Rattle.nvme_state.specs.inside.Jobs.{JobsView}
-use Rattle.nvme_state.specs.inside.Kept.{SqKept, CqKept}
+use Rattle.nvme_state.specs.inside.Content.{SqContent, CqContent}
 use Rattle.nvme_state.specs.Regions.{sq_steps, cq_steps}
-use Rattle.nvme_front.specs.inside.State.{sq_kept, cq_kept, sq_in, cq_in, gets_of, puts_of}
+use Rattle.nvme_front.specs.inside.State.{sq_content, cq_content, sq_in, cq_in, gets_of, puts_of}
 use Rattle.nvme_state.specs.inside.Standing.{IsFresh, IsFreshSq, IsFreshCq, first_on_board}
-use Rattle.nvme_front.proofs.RegionLists.{rules_with, kept_with, slots_of_sq, slots_of_cq, number_of_sq, number_of_cq, sq_more-stands, cq_more-stands, sq_in-before, sq_in-last, sq_in-past, cq_in-before, cq_in-last, cq_in-past}
+use Rattle.nvme_front.proofs.RegionLists.{rules_with, content_with, slots_of_sq, slots_of_cq, number_of_sq, number_of_cq, sq_more-stands, cq_more-stands, sq_in-before, sq_in-last, sq_in-past, cq_in-before, cq_in-last, cq_in-past}
 
 -- the board after a submission region was added to those before it: the first one opens the admin queue
 abbrev pub board_with_sq : ℕ → BoardView → BoardView
@@ -77,34 +77,34 @@ first_size n board = elim (cases_eq n 0) [
 -- ---- a submission region more
 module _ (mechanism : Mechanism) (start : Start) (sizes : List ℕ) (sqs : List SqRegion) (cqs : List CqRegion) (late : Bool)
     (board : BoardView) (table : TableView) (outstanding : ℕ) (deletion : Option PendingDelete) (jobs : JobsView)
-    (f : IsFresh (rules_with mechanism start sizes sqs cqs) late (kept_with sqs cqs board table outstanding deletion jobs)) where
+    (f : IsFresh (rules_with mechanism start sizes sqs cqs) late (content_with sqs cqs board table outstanding deletion jobs)) where
   -- every region is fresh, with one more
-  sq_fresh : (x : SqRegion) → IsFreshSq (length sqs) (sq_kept x) → (r : ℕ) → r < length (sqs ++ x ∷ []) → IsFreshSq r (sq_in (sqs ++ x ∷ []) r)
+  sq_fresh : (x : SqRegion) → IsFreshSq (length sqs) (sq_content x) → (r : ℕ) → r < length (sqs ++ x ∷ []) → IsFreshSq r (sq_in (sqs ++ x ∷ []) r)
   sq_fresh x fresh r lt = elim (cases_lt r (length sqs)) [
-    | inl before ↦ subst (λ (s : SqKept). IsFreshSq r s) (sym (sq_in-before sqs x r before)) (f.sqs r before)
+    | inl before ↦ subst (λ (s : SqContent). IsFreshSq r s) (sym (sq_in-before sqs x r before)) (f.sqs r before)
     | inr from ↦
         let one_more : length (sqs ++ x ∷ []) ≡ length sqs + 1 = length_push sqs x in
         let same : length sqs ≡ r = omega arith in
-        subst (λ (n : ℕ). IsFreshSq n (sq_in (sqs ++ x ∷ []) n)) same (subst (λ (s : SqKept). IsFreshSq (length sqs) s) (sym (sq_in-last sqs x)) fresh)
+        subst (λ (n : ℕ). IsFreshSq n (sq_in (sqs ++ x ∷ []) n)) same (subst (λ (s : SqContent). IsFreshSq (length sqs) s) (sym (sq_in-last sqs x)) fresh)
   ]
 
   -- the same of completion regions
-  cq_fresh : (x : CqRegion) → IsFreshCq (cq_kept x) → (c : ℕ) → IsFreshCq (cq_in (cqs ++ x ∷ []) c)
+  cq_fresh : (x : CqRegion) → IsFreshCq (cq_content x) → (c : ℕ) → IsFreshCq (cq_in (cqs ++ x ∷ []) c)
   cq_fresh x fresh c = elim (cases_order c (length cqs)) [
-    | inl same ↦ subst (λ (n : ℕ). IsFreshCq (cq_in (cqs ++ x ∷ []) n)) (sym same) (subst (λ (s : CqKept). IsFreshCq s) (sym (cq_in-last cqs x)) fresh)
-    | inr (inl before) ↦ subst (λ (s : CqKept). IsFreshCq s) (sym (cq_in-before cqs x c before)) (f.cqs c)
+    | inl same ↦ subst (λ (n : ℕ). IsFreshCq (cq_in (cqs ++ x ∷ []) n)) (sym same) (subst (λ (s : CqContent). IsFreshCq s) (sym (cq_in-last cqs x)) fresh)
+    | inr (inl before) ↦ subst (λ (s : CqContent). IsFreshCq s) (sym (cq_in-before cqs x c before)) (f.cqs c)
     | inr (inr after) ↦
         let one_more : length (cqs ++ x ∷ []) ≡ length cqs + 1 = length_push cqs x in
-        subst (λ (s : CqKept). IsFreshCq s) (sym (cq_in-past (cqs ++ x ∷ []) c (omega arith))) (record { sent = refl; posted = refl; ready = refl })
+        subst (λ (s : CqContent). IsFreshCq s) (sym (cq_in-past (cqs ++ x ∷ []) c (omega arith))) (record { sent = refl; posted = refl; ready = refl })
   ]
 
   -- a fresh front with a submission region more is fresh
   pub fresh_with_sq : (x : SqRegion) (all : List SqRegion) (after : BoardView) (added : TableView) → all ≡ sqs ++ x ∷ [] → length sqs < MAX_REGIONS
-      → IsFreshSq (length sqs) (sq_kept x) → after ≡ board_with_sq (length sqs) board → BoardStandsAt mechanism start.settings [] after
+      → IsFreshSq (length sqs) (sq_content x) → after ≡ board_with_sq (length sqs) board → BoardStandsAt mechanism start.settings [] after
       → StandsAt start added (RegionAdded Submission x.end.address x.end.slots ∷ (cq_steps (puts_of cqs) ++ sq_steps (gets_of sqs)))
-      → IsFresh (rules_with mechanism start sizes all cqs) late (kept_with all cqs after added outstanding deletion jobs)
+      → IsFresh (rules_with mechanism start sizes all cqs) late (content_with all cqs after added outstanding deletion jobs)
   fresh_with_sq x all after added is room fresh opened board_stands table_stands = subst
-      (λ (z : List SqRegion). IsFresh (rules_with mechanism start sizes z cqs) late (kept_with z cqs after added outstanding deletion jobs)) (sym is) (
+      (λ (z : List SqRegion). IsFresh (rules_with mechanism start sizes z cqs) late (content_with z cqs after added outstanding deletion jobs)) (sym is) (
       let stands = sq_more-stands start sqs cqs x added table_stands in
       let one_more : length (sqs ++ x ∷ []) ≡ length sqs + 1 = length_push sqs x in
       record {
@@ -131,11 +131,11 @@ module _ (mechanism : Mechanism) (start : Start) (sizes : List ℕ) (sqs : List 
 
   -- ---- a completion region more
   pub fresh_with_cq : (x : CqRegion) (all : List CqRegion) (added : TableView) → all ≡ cqs ++ x ∷ [] → length cqs < MAX_REGIONS
-      → IsFreshCq (cq_kept x)
+      → IsFreshCq (cq_content x)
       → StandsAt start added (RegionAdded Completion x.end.address x.end.slots ∷ (cq_steps (puts_of cqs) ++ sq_steps (gets_of sqs)))
-      → IsFresh (rules_with mechanism start sizes sqs all) late (kept_with sqs all board added outstanding deletion jobs)
+      → IsFresh (rules_with mechanism start sizes sqs all) late (content_with sqs all board added outstanding deletion jobs)
   fresh_with_cq x all added is room fresh table_stands = subst
-      (λ (z : List CqRegion). IsFresh (rules_with mechanism start sizes sqs z) late (kept_with sqs z board added outstanding deletion jobs)) (sym is) (
+      (λ (z : List CqRegion). IsFresh (rules_with mechanism start sizes sqs z) late (content_with sqs z board added outstanding deletion jobs)) (sym is) (
       let stands = cq_more-stands start sqs cqs x added table_stands in
       let one_more : length (cqs ++ x ∷ []) ≡ length cqs + 1 = length_push cqs x in
       record {

@@ -25,10 +25,10 @@ use Rattle.nvme_state.specs.Hands.{in_hand, job_in, gained_count}
 use Rattle.nvme_state.specs.Balance.{Balances}
 use Rattle.nvme_state.proofs.JobAccounts.{each-gained}
 use Rattle.nvme_state.proofs.Balances.{balances-handed, balances-stray, balances-still}
-use Rattle.nvme_state.specs.inside.Kept.{Kept, SqKept, CqKept, put_cq}
-use Rattle.nvme_front.specs.inside.State.{sq_in, cq_in, cq_kept, gets_of, puts_of, kept_of, rules_of, past_of}
+use Rattle.nvme_state.specs.inside.Content.{Content, SqContent, CqContent, put_cq}
+use Rattle.nvme_front.specs.inside.State.{sq_in, cq_in, cq_content, gets_of, puts_of, content_of, rules_of, past_of}
 use Rattle.nvme_state.specs.inside.Standing.{Stands, IsDispatched, IsFresh, hand_of, held_by}
-use Rattle.nvme_front.specs.inside.Room.{IsKept, window_room, ready_room}
+use Rattle.nvme_front.specs.inside.Room.{IsConsistent, window_room, ready_room}
 use Rattle.nvme_front.specs.inside.Goes.{coming_at, Goes, IsSame, HasAdmin}
 use Rattle.nvme_front.specs.Ends.{get_place, put_place}
 use Rattle.nvme_front.specs.inside.Turn.{Balanced}
@@ -53,8 +53,8 @@ one_gained old new x o =
 
 -- ---- what is kept where no event is logged
 -- what stands at the same log is kept
-pub kept_quietly : (a b : FrontState) → IsKept a → HasAdmin a → Goes a b → b.log.items ≡ a.log.items → b.table ≡ a.table
-    → (a.log.items ≡ [] → IsFresh (rules_of a) a.late (kept_of b)) → Stands (rules_of a) a.late (past_of a) (kept_of b) → IsKept b
+pub kept_quietly : (a b : FrontState) → IsConsistent a → HasAdmin a → Goes a b → b.log.items ≡ a.log.items → b.table ≡ a.table
+    → (a.log.items ≡ [] → IsFresh (rules_of a) a.late (content_of b)) → Stands (rules_of a) a.late (past_of a) (content_of b) → IsConsistent b
 kept_quietly a b k admin g log table fresh stands =
     let rules : rules_of b ≡ rules_of a = rules-goes a b g in
     let past : past_of b ≡ past_of a = ap reverse log in
@@ -91,12 +91,12 @@ module _ (s : FrontState) (few : s.config.max_events ≤ most_events) (jobs : Jo
   })
 
   -- and it is kept
-  pub handed-kept : IsKept s → HasAdmin s → IsKept (with_jobs s few jobs)
+  pub handed-kept : IsConsistent s → HasAdmin s → IsConsistent (with_jobs s few jobs)
   handed-kept k admin =
       kept_quietly s (with_jobs s few jobs) k admin handed-goes refl refl
       (λ none. let empty : s.jobs.hands.unhanded ≡ [] = (k.fresh none).jobs.none_unhanded in let oldest = h.can.oldest in absurd (cc))
-      (subst (λ (j : JobsView). Stands (rules_of s) s.late (past_of s) (record (kept_of s) { jobs = j })) (sym h.are)
-      (stands-hand (rules_of s) s.late (past_of s) (kept_of s) h.dispatched h.rest h.seat (k.stands admin.0 admin.1) h.can))
+      (subst (λ (j : JobsView). Stands (rules_of s) s.late (past_of s) (record (content_of s) { jobs = j })) (sym h.are)
+      (stands-hand (rules_of s) s.late (past_of s) (content_of s) h.dispatched h.rest h.seat (k.stands admin.0 admin.1) h.can))
 
 -- the same jobs are no change
 pub same_jobs : (s : FrontState) (few : s.config.max_events ≤ most_events) (jobs : JobsView) → jobs ≡ s.jobs → IsSame s (with_jobs s few jobs)
@@ -118,14 +118,14 @@ module _ (s : FrontState) (few : s.config.max_events ≤ most_events) (jobs : Jo
   ]
 
   -- and is kept
-  pub hand-kept : IsKept s → HasAdmin s → IsKept (with_jobs s few jobs)
+  pub hand-kept : IsConsistent s → HasAdmin s → IsConsistent (with_jobs s few jobs)
   hand-kept k admin = elim (cases_Bool handed) [
     | inl was ↦ handed-kept s few jobs (one was) k admin
     | inr not_so ↦ kept_same s (with_jobs s few jobs) (same_jobs s few jobs (none not_so)) k
   ]
 
 -- there is room for the jobs that may be handed
-pub jobs_have_room : (s : FrontState) → IsKept s → HasAdmin s → length s.jobs.hands.running + length s.jobs.hands.unhanded ≤ s.jobs.room
+pub jobs_have_room : (s : FrontState) → IsConsistent s → HasAdmin s → length s.jobs.hands.running + length s.jobs.hands.unhanded ≤ s.jobs.room
 jobs_have_room s k admin =
     let ready = (k.stands admin.0 admin.1).ready in
     let all = length-append (map dispatched_place (in_hand s.jobs.hands)) (held_by s.deletion) in
@@ -155,7 +155,7 @@ module _ (s : FrontState) (few : s.config.max_events ≤ most_events) (jobs : Jo
   })
 
   -- where it is fresh it stays so
-  stray-fresh : IsFresh (rules_of s) s.late (kept_of s) → IsFresh (rules_of s) s.late (record (kept_of s) { jobs = gained_jobs s.jobs s.jobs.hands.running h.seat })
+  stray-fresh : IsFresh (rules_of s) s.late (content_of s) → IsFresh (rules_of s) s.late (record (content_of s) { jobs = gained_jobs s.jobs s.jobs.hands.running h.seat })
   stray-fresh f = record {
     sqs = f.sqs;
     no_sqs = f.no_sqs;
@@ -184,12 +184,12 @@ module _ (s : FrontState) (few : s.config.max_events ≤ most_events) (jobs : Jo
   }
 
   -- and it is kept
-  pub stray-kept : IsKept s → HasAdmin s → IsKept (with_jobs s few jobs)
+  pub stray-kept : IsConsistent s → HasAdmin s → IsConsistent (with_jobs s few jobs)
   stray-kept k admin =
       kept_quietly s (with_jobs s few jobs) k admin stray-goes refl refl
-      (λ none. subst (λ (j : JobsView). IsFresh (rules_of s) s.late (record (kept_of s) { jobs = j })) (sym h.are) (stray-fresh (k.fresh none)))
-      (subst (λ (j : JobsView). Stands (rules_of s) s.late (past_of s) (record (kept_of s) { jobs = j })) (sym h.are)
-      (stands-stray (rules_of s) s.late (past_of s) (kept_of s) h.result h.seat (k.stands admin.0 admin.1) h.can))
+      (λ none. subst (λ (j : JobsView). IsFresh (rules_of s) s.late (record (content_of s) { jobs = j })) (sym h.are) (stray-fresh (k.fresh none)))
+      (subst (λ (j : JobsView). Stands (rules_of s) s.late (past_of s) (record (content_of s) { jobs = j })) (sym h.are)
+      (stands-stray (rules_of s) s.late (past_of s) (content_of s) h.result h.seat (k.stands admin.0 admin.1) h.can))
 
   -- it is seen as such
   pub stray-seen : GainedStray ticket (view_of s) (view_of (with_jobs s few jobs))
@@ -218,7 +218,7 @@ has_queue : (o : Option Attachment) (c : ℕ) → option_map (λ (a : Attachment
 has_queue None c e = cc e
 has_queue (Some a) c e = record { queue = a; is = refl }
 
-module _ (s : FrontState) (k : IsKept s) (admin : HasAdmin s) (jobs : JobsView) (d : Dispatched) (result : Finished)
+module _ (s : FrontState) (k : IsConsistent s) (admin : HasAdmin s) (jobs : JobsView) (d : Dispatched) (result : Finished)
     (h : GainsOne s.config.spaces s.jobs jobs d result) where
   -- the command is a picked one that had no result
   its_command : IsDispatched (past_of s) d
@@ -227,7 +227,7 @@ module _ (s : FrontState) (k : IsKept s) (admin : HasAdmin s) (jobs : JobsView) 
       (each-gained (IsDispatched (past_of s)) s.jobs.hands d h.rest h.its.running_is (k.stands admin.0 admin.1).jobs.each)
 
   -- its place is in hand
-  pub its_place_held : 0 < length (hand_of (kept_of s))
+  pub its_place_held : 0 < length (hand_of (content_of s))
   its_place_held =
       omega (
         arith,
@@ -248,13 +248,13 @@ module _ (s : FrontState) (k : IsKept s) (admin : HasAdmin s) (jobs : JobsView) 
   -- what is read of it says so
   pub its_queue_there : (e : SqRegion) → e ≡ get_or s.sqs.items d.region e → e.queue ≡ None → ⊥
   its_queue_there e read none =
-      let same = ap (λ (x : SqKept). x.queue) (sq_in-read s.sqs.items d.region e its_region read) in
+      let same = ap (λ (x : SqContent). x.queue) (sq_in-read s.sqs.items d.region e its_region read) in
       let is = its_queue.is in
       cc (same, none, is)
 
   -- its queue is the one that is read there
   pub its_attachment : (e : SqRegion) → e ≡ get_or s.sqs.items d.region e → (a : Attachment) → e.queue ≡ Some a → (sq_in s.sqs.items d.region).queue ≡ Some a
-  its_attachment e read a is = ap (λ (x : SqKept). x.queue) (sq_in-read s.sqs.items d.region e its_region read) ∙ is
+  its_attachment e read a is = ap (λ (x : SqContent). x.queue) (sq_in-read s.sqs.items d.region e its_region read) ∙ is
 
   -- and the completion region of its queue is there
   pub its_cq_region : (e : SqRegion) → e ≡ get_or s.sqs.items d.region e → (a : Attachment) → e.queue ≡ Some a → (n : ℕ) → n ≡ a.cq_region → n < length s.cqs.items
@@ -282,7 +282,7 @@ pub record IsGained (a b : FrontState) (d : Dispatched) (result : Finished) : Ty
   pub alloc : b.alloc ≡ a.alloc
 
 -- so it is with a front whose completion region n was read and got the completion
-pub is_gained : (s : FrontState) (few : s.config.max_events ≤ most_events) (k : IsKept s) (admin : HasAdmin s) (jobs : JobsView) (d : Dispatched) (result : Finished)
+pub is_gained : (s : FrontState) (few : s.config.max_events ≤ most_events) (k : IsConsistent s) (admin : HasAdmin s) (jobs : JobsView) (d : Dispatched) (result : Finished)
     → GainsOne s.config.spaces s.jobs jobs d result → (q : SqRegion) → q ≡ get_or s.sqs.items d.region q → (a : Attachment) → q.queue ≡ Some a
     → (n : ℕ) → n ≡ a.cq_region → (e : CqRegion) → e ≡ get_or s.cqs.items n e → (status : StatusCode) → status ≡ result.status → (f : FifoView Ready)
     → f ≡ record e.ready { items = e.ready.items ++ record (completed d result) { status = status } ∷ [] }
@@ -340,15 +340,15 @@ module _ (a b : FrontState) (d : Dispatched) (result : Finished) (p : IsGained a
   }
 
   -- what is kept is that after the result was gained
-  gained-kept_of : kept_of b ≡ after_gain (kept_of a) d p.one.rest p.one.seat p.queue.cq_region result
-  gained-kept_of =
+  gained-content_of : content_of b ≡ after_gain (content_of a) d p.one.rest p.one.seat p.queue.cq_region result
+  gained-content_of =
       let c : ℕ = p.queue.cq_region in
-      let now : cq_kept (record p.e { ready = p.f }) ≡ record (cq_kept p.e) { ready = p.e.ready.items ++ completed d result ∷ [] } =
-      λ i. record (cq_kept p.e) { ready = (p.ready i).items } in
+      let now : cq_content (record p.e { ready = p.f }) ≡ record (cq_content p.e) { ready = p.e.ready.items ++ completed d result ∷ [] } =
+      λ i. record (cq_content p.e) { ready = (p.ready i).items } in
       let cq : cq_in b.cqs.items ≡ put_cq (cq_in a.cqs.items) c (record (cq_in a.cqs.items c) { ready = (cq_in a.cqs.items c).ready ++ completed d result ∷ [] }) =
       ap cq_in p.cqs ∙ cq_in-set a.cqs.items c (record p.e { ready = p.f }) p.there
-      ∙ ap (λ (z : CqKept). put_cq (cq_in a.cqs.items) c z) now
-      ∙ ap (λ (z : CqKept). put_cq (cq_in a.cqs.items) c (record z { ready = z.ready ++ completed d result ∷ [] })) (sym (cq_in-read a.cqs.items c p.e p.there p.read)) in
+      ∙ ap (λ (z : CqContent). put_cq (cq_in a.cqs.items) c z) now
+      ∙ ap (λ (z : CqContent). put_cq (cq_in a.cqs.items) c (record z { ready = z.ready ++ completed d result ∷ [] })) (sym (cq_in-read a.cqs.items c p.e p.there p.read)) in
       let ncq : length b.cqs.items ≡ length a.cqs.items = ap length p.cqs ∙ length-set a.cqs.items c (record p.e { ready = p.f }) in
       λ i. record {
         sq = sq_in (p.sqs i);
@@ -363,13 +363,13 @@ module _ (a b : FrontState) (d : Dispatched) (result : Finished) (p : IsGained a
       }
 
   -- and it is kept
-  pub gained-kept : IsKept a → HasAdmin a → IsKept b
+  pub gained-kept : IsConsistent a → HasAdmin a → IsConsistent b
   gained-kept k admin =
       kept_quietly a b k admin gained-goes p.log p.table
       (λ none.
       let empty = ap (λ (ds : List Dispatched). length ds) (k.fresh none).jobs.none_running in
       let some = gained-fewer a.config.spaces a.jobs b.jobs d result p.one in
       absurd (omega (arith, empty, some)))
-      (subst (λ (x : Kept). Stands (rules_of a) a.late (past_of a) x) (sym gained-kept_of)
-      (stands-gain (rules_of a) a.late (past_of a) (kept_of a) d p.one.rest result p.one.seat p.queue.cq_region p.queue.qid
+      (subst (λ (x : Content). Stands (rules_of a) a.late (past_of a) x) (sym gained-content_of)
+      (stands-gain (rules_of a) a.late (past_of a) (content_of a) d p.one.rest result p.one.seat p.queue.cq_region p.queue.qid
       (k.stands admin.0 admin.1) p.one.can p.one.its p.attached))

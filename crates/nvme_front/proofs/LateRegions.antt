@@ -17,12 +17,12 @@ use Rattle.nvme_state.specs.declared.candidate.PendingDelete.{PendingDelete}
 use Rattle.nvme_state.specs.declared.region.SqRegion.{SqRegion}
 use Rattle.nvme_state.specs.declared.region.CqRegion.{CqRegion}
 use Rattle.nvme_state.specs.inside.Jobs.{JobsView}
-use Rattle.nvme_state.specs.inside.Kept.{SqKept, CqKept, no_sq, no_cq}
+use Rattle.nvme_state.specs.inside.Content.{SqContent, CqContent, no_sq, no_cq}
 use Rattle.nvme_state.specs.Regions.{sq_steps, cq_steps}
-use Rattle.nvme_front.specs.inside.State.{sq_kept, cq_kept, sq_in, cq_in, gets_of, puts_of}
+use Rattle.nvme_front.specs.inside.State.{sq_content, cq_content, sq_in, cq_in, gets_of, puts_of}
 use Rattle.nvme_state.specs.inside.Standing.{Stands, IsFreshSq, IsFreshCq}
 use Rattle.nvme_front.proofs.Starting.{admin_sq-some, admin_cq-some}
-use Rattle.nvme_front.proofs.RegionLists.{rules_with, kept_with, slots_of_sq, slots_of_cq, number_of_sq, number_of_cq, sq_in-before, sq_in-last, sq_in-past, cq_in-before, cq_in-last, cq_in-past}
+use Rattle.nvme_front.proofs.RegionLists.{rules_with, content_with, slots_of_sq, slots_of_cq, number_of_sq, number_of_cq, sq_in-before, sq_in-last, sq_in-past, cq_in-before, cq_in-last, cq_in-past}
 use Rattle.nvme_state.proofs.Growing.{Grows, stands_when_grown}
 
 -- ---- the table
@@ -101,42 +101,42 @@ module _ (start : Start) (h : TableHistory) (v w : TableView) (a n : ℕ) (befor
 
 -- ---- the lists
 -- the same region, with what comes from another one's ring
-abbrev sq_with : SqKept → SqKept → SqKept
+abbrev sq_with : SqContent → SqContent → SqContent
 sq_with a b = record a { known = b.known; slots = b.slots }
 
 -- the same of a completion region
-abbrev cq_with : CqKept → CqKept → CqKept
+abbrev cq_with : CqContent → CqContent → CqContent
 cq_with a b = record a { free = b.free; slots = b.slots }
 
 -- what is equal has all of it
-sq_with-same : (a b : SqKept) → b ≡ a → b ≡ sq_with a b
-sq_with-same a b e = subst (λ (x : SqKept). b ≡ sq_with x b) e refl
+sq_with-same : (a b : SqContent) → b ≡ a → b ≡ sq_with a b
+sq_with-same a b e = subst (λ (x : SqContent). b ≡ sq_with x b) e refl
 
 -- the same of completion regions
-cq_with-same : (a b : CqKept) → b ≡ a → b ≡ cq_with a b
-cq_with-same a b e = subst (λ (x : CqKept). b ≡ cq_with x b) e refl
+cq_with-same : (a b : CqContent) → b ≡ a → b ≡ cq_with a b
+cq_with-same a b e = subst (λ (x : CqContent). b ≡ cq_with x b) e refl
 
 -- a fresh region has what no region has, but for what comes from its ring
-sq_with-fresh : (r : ℕ) (a b : SqKept) → a ≡ no_sq → (r ≡ 0 → ⊥) → IsFreshSq r b → b ≡ sq_with a b
+sq_with-fresh : (r : ℕ) (a b : SqContent) → a ≡ no_sq → (r ≡ 0 → ⊥) → IsFreshSq r b → b ≡ sq_with a b
 sq_with-fresh r a b none other fresh =
     let no_queue : b.queue ≡ None = fresh.queue ∙ (λ j. if (ne_eqb r 0 other) j then Some (record { qid = 0; cq_region = 0 }) else None) in
-    subst (λ (x : SqKept). b ≡ sq_with x b) (sym none)
+    subst (λ (x : SqContent). b ≡ sq_with x b) (sym none)
     (λ i. record { got = fresh.got i; known = b.known; window = fresh.window i; fetched = fresh.fetched i; unposted = fresh.unposted i; queue = no_queue i; slots = b.slots })
 
 -- the same of completion regions
-cq_with-fresh : (a b : CqKept) → a ≡ no_cq → IsFreshCq b → b ≡ cq_with a b
+cq_with-fresh : (a b : CqContent) → a ≡ no_cq → IsFreshCq b → b ≡ cq_with a b
 cq_with-fresh a b none fresh =
-    subst (λ (x : CqKept). b ≡ cq_with x b) (sym none)
+    subst (λ (x : CqContent). b ≡ cq_with x b) (sym none)
     (λ i. record { sent = fresh.sent i; free = b.free; posted = fresh.posted i; ready = fresh.ready i; slots = b.slots })
 
 -- with a region more every region has what it had, but for what comes from its ring
-sq_in-more : (sqs : List SqRegion) (x : SqRegion) → (length sqs ≡ 0 → ⊥) → IsFreshSq (length sqs) (sq_kept x) → (r : ℕ)
+sq_in-more : (sqs : List SqRegion) (x : SqRegion) → (length sqs ≡ 0 → ⊥) → IsFreshSq (length sqs) (sq_content x) → (r : ℕ)
     → sq_in (sqs ++ x ∷ []) r ≡ sq_with (sq_in sqs r) (sq_in (sqs ++ x ∷ []) r)
 sq_in-more sqs x some fresh r = elim (cases_order r (length sqs)) [
   | inl same ↦
       subst (λ (n : ℕ). sq_in (sqs ++ x ∷ []) n ≡ sq_with (sq_in sqs n) (sq_in (sqs ++ x ∷ []) n)) (sym same)
       (sq_with-fresh (length sqs) (sq_in sqs (length sqs)) (sq_in (sqs ++ x ∷ []) (length sqs)) (sq_in-past sqs (length sqs) (omega arith)) some
-      (subst (λ (s : SqKept). IsFreshSq (length sqs) s) (sym (sq_in-last sqs x)) fresh))
+      (subst (λ (s : SqContent). IsFreshSq (length sqs) s) (sym (sq_in-last sqs x)) fresh))
   | inr (inl below) ↦ sq_with-same (sq_in sqs r) (sq_in (sqs ++ x ∷ []) r) (sq_in-before sqs x r below)
   | inr (inr above) ↦
       let one_more : length (sqs ++ x ∷ []) ≡ length sqs + 1 = length_push sqs x in
@@ -144,13 +144,13 @@ sq_in-more sqs x some fresh r = elim (cases_order r (length sqs)) [
 ]
 
 -- the same of completion regions
-cq_in-more : (cqs : List CqRegion) (x : CqRegion) → IsFreshCq (cq_kept x) → (c : ℕ)
+cq_in-more : (cqs : List CqRegion) (x : CqRegion) → IsFreshCq (cq_content x) → (c : ℕ)
     → cq_in (cqs ++ x ∷ []) c ≡ cq_with (cq_in cqs c) (cq_in (cqs ++ x ∷ []) c)
 cq_in-more cqs x fresh c = elim (cases_order c (length cqs)) [
   | inl same ↦
       subst (λ (n : ℕ). cq_in (cqs ++ x ∷ []) n ≡ cq_with (cq_in cqs n) (cq_in (cqs ++ x ∷ []) n)) (sym same)
       (cq_with-fresh (cq_in cqs (length cqs)) (cq_in (cqs ++ x ∷ []) (length cqs)) (cq_in-past cqs (length cqs) (omega arith))
-      (subst (λ (s : CqKept). IsFreshCq s) (sym (cq_in-last cqs x)) fresh))
+      (subst (λ (s : CqContent). IsFreshCq s) (sym (cq_in-last cqs x)) fresh))
   | inr (inl below) ↦ cq_with-same (cq_in cqs c) (cq_in (cqs ++ x ∷ []) c) (cq_in-before cqs x c below)
   | inr (inr above) ↦
       let one_more : length (cqs ++ x ∷ []) ≡ length cqs + 1 = length_push cqs x in
@@ -160,13 +160,13 @@ cq_in-more cqs x fresh c = elim (cases_order c (length cqs)) [
 -- ---- a front that has begun
 module _ (mechanism : Mechanism) (start : Start) (sizes : List ℕ) (sqs : List SqRegion) (cqs : List CqRegion) (late : Bool) (past : Past)
     (board : BoardView) (table : TableView) (outstanding : ℕ) (deletion : Option PendingDelete) (jobs : JobsView)
-    (s : Stands (rules_with mechanism start sizes sqs cqs) late past (kept_with sqs cqs board table outstanding deletion jobs))
+    (s : Stands (rules_with mechanism start sizes sqs cqs) late past (content_with sqs cqs board table outstanding deletion jobs))
     (some_sqs : 0 < length sqs) (some_cqs : 0 < length cqs) where
   -- the table after a submission region was added
   grows_by_sq : (x : SqRegion) (added : TableView) → length sqs < MAX_REGIONS
       → StandsAt start added (RegionAdded Submission x.end.address x.end.slots ∷ s.tabled.history)
       → Grows (rules_with mechanism start sizes sqs cqs) (cq_steps (puts_of cqs) ++ sq_steps (gets_of (sqs ++ x ∷ [])))
-      (kept_with sqs cqs board table outstanding deletion jobs) (λ r. (sq_in (sqs ++ x ∷ []) r).slots) (λ c. (cq_in cqs c).slots) (length (sqs ++ x ∷ [])) (length cqs) added
+      (content_with sqs cqs board table outstanding deletion jobs) (λ r. (sq_in (sqs ++ x ∷ []) r).slots) (λ c. (cq_in cqs c).slots) (length (sqs ++ x ∷ [])) (length cqs) added
   grows_by_sq x added room after =
       let one_more : length (sqs ++ x ∷ []) ≡ length sqs + 1 = length_push sqs x in
       let there : 0 < length table.sq_regions = subst (λ (n : ℕ). 0 < n) (sym s.tabled.sq_count) some_sqs in
@@ -193,7 +193,7 @@ module _ (mechanism : Mechanism) (start : Start) (sizes : List ℕ) (sqs : List 
   grows_by_cq : (x : CqRegion) (added : TableView) → length cqs < MAX_REGIONS
       → StandsAt start added (RegionAdded Completion x.end.address x.end.slots ∷ s.tabled.history)
       → Grows (rules_with mechanism start sizes sqs cqs) (cq_steps (puts_of (cqs ++ x ∷ [])) ++ sq_steps (gets_of sqs))
-      (kept_with sqs cqs board table outstanding deletion jobs) (λ r. (sq_in sqs r).slots) (λ c. (cq_in (cqs ++ x ∷ []) c).slots) (length sqs) (length (cqs ++ x ∷ [])) added
+      (content_with sqs cqs board table outstanding deletion jobs) (λ r. (sq_in sqs r).slots) (λ c. (cq_in (cqs ++ x ∷ []) c).slots) (length sqs) (length (cqs ++ x ∷ [])) added
   grows_by_cq x added room after =
       let one_more : length (cqs ++ x ∷ []) ≡ length cqs + 1 = length_push cqs x in
       let there : 0 < length table.cq_regions = subst (λ (n : ℕ). 0 < n) (sym s.tabled.cq_count) some_cqs in
@@ -218,30 +218,30 @@ module _ (mechanism : Mechanism) (start : Start) (sizes : List ℕ) (sqs : List 
 
   -- with a submission region more
   pub stands_with_sq : (x : SqRegion) (all : List SqRegion) (added : TableView) → all ≡ sqs ++ x ∷ [] → length sqs < MAX_REGIONS
-      → IsFreshSq (length sqs) (sq_kept x)
+      → IsFreshSq (length sqs) (sq_content x)
       → ((h : TableHistory) → StandsAt start table h → StandsAt start added (RegionAdded Submission x.end.address x.end.slots ∷ h))
-      → Stands (rules_with mechanism start sizes all cqs) true past (kept_with all cqs board added outstanding deletion jobs)
+      → Stands (rules_with mechanism start sizes all cqs) true past (content_with all cqs board added outstanding deletion jobs)
   stands_with_sq x all added is room fresh stands = subst
-      (λ (z : List SqRegion). Stands (rules_with mechanism start sizes z cqs) true past (kept_with z cqs board added outstanding deletion jobs)) (sym is)
-      (subst (λ (f : ℕ → SqKept). Stands (rules_with mechanism start sizes (sqs ++ x ∷ []) cqs) true past
+      (λ (z : List SqRegion). Stands (rules_with mechanism start sizes z cqs) true past (content_with z cqs board added outstanding deletion jobs)) (sym is)
+      (subst (λ (f : ℕ → SqContent). Stands (rules_with mechanism start sizes (sqs ++ x ∷ []) cqs) true past
       (record { sq = f; cq = cq_in cqs; nsq = length (sqs ++ x ∷ []); ncq = length cqs; board = board; table = added; outstanding = outstanding; deletion = deletion; jobs = jobs }))
       (sym (λ i r. sq_in-more sqs x (λ z. omega (arith, z)) fresh r i))
-      (stands_when_grown (rules_with mechanism start sizes sqs cqs) late past (kept_with sqs cqs board table outstanding deletion jobs) s
+      (stands_when_grown (rules_with mechanism start sizes sqs cqs) late past (content_with sqs cqs board table outstanding deletion jobs) s
       (cq_steps (puts_of cqs) ++ sq_steps (gets_of (sqs ++ x ∷ []))) (λ r. (sq_in (sqs ++ x ∷ []) r).known) (λ r. (sq_in (sqs ++ x ∷ []) r).slots)
       (λ c. (cq_in cqs c).free) (λ c. (cq_in cqs c).slots) (length (sqs ++ x ∷ [])) (length cqs) added
       (grows_by_sq x added room (stands s.tabled.history s.tabled.stands))))
 
   -- with a completion region more
   pub stands_with_cq : (x : CqRegion) (all : List CqRegion) (added : TableView) → all ≡ cqs ++ x ∷ [] → length cqs < MAX_REGIONS
-      → IsFreshCq (cq_kept x)
+      → IsFreshCq (cq_content x)
       → ((h : TableHistory) → StandsAt start table h → StandsAt start added (RegionAdded Completion x.end.address x.end.slots ∷ h))
-      → Stands (rules_with mechanism start sizes sqs all) true past (kept_with sqs all board added outstanding deletion jobs)
+      → Stands (rules_with mechanism start sizes sqs all) true past (content_with sqs all board added outstanding deletion jobs)
   stands_with_cq x all added is room fresh stands = subst
-      (λ (z : List CqRegion). Stands (rules_with mechanism start sizes sqs z) true past (kept_with sqs z board added outstanding deletion jobs)) (sym is)
-      (subst (λ (f : ℕ → CqKept). Stands (rules_with mechanism start sizes sqs (cqs ++ x ∷ [])) true past
+      (λ (z : List CqRegion). Stands (rules_with mechanism start sizes sqs z) true past (content_with sqs z board added outstanding deletion jobs)) (sym is)
+      (subst (λ (f : ℕ → CqContent). Stands (rules_with mechanism start sizes sqs (cqs ++ x ∷ [])) true past
       (record { sq = sq_in sqs; cq = f; nsq = length sqs; ncq = length (cqs ++ x ∷ []); board = board; table = added; outstanding = outstanding; deletion = deletion; jobs = jobs }))
       (sym (λ i c. cq_in-more cqs x fresh c i))
-      (stands_when_grown (rules_with mechanism start sizes sqs cqs) late past (kept_with sqs cqs board table outstanding deletion jobs) s
+      (stands_when_grown (rules_with mechanism start sizes sqs cqs) late past (content_with sqs cqs board table outstanding deletion jobs) s
       (cq_steps (puts_of (cqs ++ x ∷ [])) ++ sq_steps (gets_of sqs)) (λ r. (sq_in sqs r).known) (λ r. (sq_in sqs r).slots)
       (λ c. (cq_in (cqs ++ x ∷ []) c).free) (λ c. (cq_in (cqs ++ x ∷ []) c).slots) (length sqs) (length (cqs ++ x ∷ [])) added
       (grows_by_cq x added room (stands s.tabled.history s.tabled.stands))))

@@ -5,8 +5,8 @@ pub mod Starting
 pub mod Newly
 pub mod FreshRegions
 pub mod LateRegions
-pub mod KeptRegions
-pub mod KeptAnswers
+pub mod ConsistentRegions
+pub mod ConsistentAnswers
 pub mod Fetches
 pub mod Scans
 pub mod PostOne

@@ -20,10 +20,10 @@ use Rattle.nvme_log.proofs.LoadedRegions.{region-owned}
 use Rattle.nvme_log.proofs.LoadedSteps.{unfilled-before}
 use Rattle.nvme_state.specs.declared.candidate.Candidate.{Candidate}
 use Rattle.nvme_state.specs.declared.region.SqRegion.{SqRegion}
-use Rattle.nvme_state.specs.inside.Kept.{SqKept, no_sq}
+use Rattle.nvme_state.specs.inside.Content.{SqContent, no_sq}
 use Rattle.nvme_front.specs.declared.state.FrontState.{FrontState}
-use Rattle.nvme_front.specs.inside.State.{sq_kept, sq_in, rules_of, past_of, gets_of, view_of}
-use Rattle.nvme_front.specs.inside.Room.{IsKept}
+use Rattle.nvme_front.specs.inside.State.{sq_content, sq_in, rules_of, past_of, gets_of, view_of}
+use Rattle.nvme_front.specs.inside.Room.{IsConsistent}
 use Rattle.nvme_front.specs.inside.Goes.{coming_at, Goes, HasAdmin, IsScanned}
 use Rattle.nvme_front.specs.View.{got_in, known_in}
 use Rattle.nvme_front.specs.LoadedFront.{FilledBelow, IsLoadedFront, GotWithin}
@@ -53,7 +53,7 @@ comes-known got got' (y ∷ known) known' x more next within =
     ap (λ (xs : List Sqe). xs ++ known') more ∙ append_assoc got (x ∷ []) known' ∙ ap (λ (xs : List Sqe). got ++ xs) (sym (next (omega arith)))
 
 -- where a command was fetched from an open queue, and all queues of lower identifiers are scanned
-module _ (a b : FrontState) (kept : IsKept a) (admin : HasAdmin a) (kept' : IsKept b) (goes : Goes a b) (q : ℕ) (entry : SqEntry) (in_table : sq_of a.table q ≡ Some entry)
+module _ (a b : FrontState) (kept : IsConsistent a) (admin : HasAdmin a) (kept' : IsConsistent b) (goes : Goes a b) (q : ℕ) (entry : SqEntry) (in_table : sq_of a.table q ≡ Some entry)
     (is_open : entry.closing ≡ false) (d g : SqRegion) (read : d ≡ get_or a.sqs.items entry.region d) (candidate : Candidate) (sqs : b.sqs.items ≡ set a.sqs.items entry.region g)
     (got : g.end.got ≡ d.end.got ++ candidate.entry ∷ []) (next : 0 < length d.end.known → d.end.known ≡ candidate.entry ∷ g.end.known)
     (log : b.log.items ≡ a.log.items ++ Fetch entry.region candidate.index candidate.entry ∷ []) (lower : (p : ℕ) → p < q → IsScanned b p) where
@@ -71,10 +71,10 @@ module _ (a b : FrontState) (kept : IsKept a) (admin : HasAdmin a) (kept' : IsKe
     -- what was got of its region
     got_is : got_in (view_of b) entry.region ≡ g.end.got
     got_is =
-        let read_back : sq_in (set a.sqs.items entry.region g) entry.region ≡ sq_kept g =
-        look-set sq_kept no_sq a.sqs.items entry.region g there entry.region
-        ∙ ap (λ (b : Bool). if b then sq_kept g else sq_in a.sqs.items entry.region) (eq-eqb entry.region entry.region refl) in
-        got_in-kept b entry.region ∙ ap (λ (xs : List SqRegion). (sq_in xs entry.region).got) sqs ∙ ap (λ (s : SqKept). s.got) read_back
+        let read_back : sq_in (set a.sqs.items entry.region g) entry.region ≡ sq_content g =
+        look-set sq_content no_sq a.sqs.items entry.region g there entry.region
+        ∙ ap (λ (b : Bool). if b then sq_content g else sq_in a.sqs.items entry.region) (eq-eqb entry.region entry.region refl) in
+        got_in-kept b entry.region ∙ ap (λ (xs : List SqRegion). (sq_in xs entry.region).got) sqs ∙ ap (λ (s : SqContent). s.got) read_back
 
     -- its script is what was got and known before
     script_is : coming_at d ≡ scripts entry.region

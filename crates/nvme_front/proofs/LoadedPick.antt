@@ -21,7 +21,7 @@ use Rattle.nvme_front.specs.declared.state.FrontState.{FrontState}
 use Rattle.nvme_front.specs.declared.front.Step.{Step}
 use Rattle.nvme_front.specs.declared.front.Step.TheVariants.{Picked, Moved, Idle, Stalled}
 use Rattle.nvme_front.specs.inside.State.{rules_of, past_of, gets_of}
-use Rattle.nvme_front.specs.inside.Room.{IsKept}
+use Rattle.nvme_front.specs.inside.Room.{IsConsistent}
 use Rattle.nvme_front.specs.inside.Goes.{Goes, HasAdmin, AllScanned, IsSame}
 use Rattle.nvme_front.specs.inside.Turn.{IsPickOf}
 use Rattle.nvme_front.specs.inside.Loads.{Loads}
@@ -31,12 +31,12 @@ use Rattle.nvme_front.proofs.Filling.{pending_at}
 use Rattle.nvme_front.proofs.Loading.{posts-same, posts-load, past-later, others-load, scanned-filled}
 
 -- where the ends stay no more was fetched
-same-fetched : (s t : FrontState) → IsKept s → IsKept t → gets_of t.sqs.items ≡ gets_of s.sqs.items → (r : ℕ) → fetched (past_of t) r ≡ fetched (past_of s) r
+same-fetched : (s t : FrontState) → IsConsistent s → IsConsistent t → gets_of t.sqs.items ≡ gets_of s.sqs.items → (r : ℕ) → fetched (past_of t) r ≡ fetched (past_of s) r
 same-fetched s t kept kept' gets r =
     fetched_all t kept' r ∙ ap (λ (g : List (GetView _)). get_or (map (λ (x : GetView _). x.got) g) r []) gets ∙ sym (fetched_all s kept r)
 
 -- a pick, with what its command makes behind it
-pub pick-load : (s t : FrontState) → IsKept s → HasAdmin s → IsKept t → Goes s t → AllScanned s → gets_of t.sqs.items ≡ gets_of s.sqs.items → IsPickOf s t
+pub pick-load : (s t : FrontState) → IsConsistent s → HasAdmin s → IsConsistent t → Goes s t → AllScanned s → gets_of t.sqs.items ≡ gets_of s.sqs.items → IsPickOf s t
     → picks_in t.log.items ≡ picks_in s.log.items + 1 → Loads s t
 pick-load s t kept admin kept' goes scanned gets pick one = λ scripts within h.
     let e : Event = event.Pick pick.seen pick.pick in
@@ -53,7 +53,7 @@ pick-load s t kept admin kept' goes scanned gets pick one = λ scripts within h.
     (last-pick (without_posts (past_of s)) pick.seen pick.pick, h.so_far.fetches_last)
 
 -- the end of a deletion
-pub close-load : (s t : FrontState) (d : PendingDelete) → IsKept s → HasAdmin s → IsKept t → Goes s t → gets_of t.sqs.items ≡ gets_of s.sqs.items → s.deletion ≡ Some d
+pub close-load : (s t : FrontState) (d : PendingDelete) → IsConsistent s → HasAdmin s → IsConsistent t → Goes s t → gets_of t.sqs.items ≡ gets_of s.sqs.items → s.deletion ≡ Some d
     → t.log.items ≡ s.log.items ++ ClosedSq d.qid d.region ∷ [] → Loads s t
 close-load s t d kept admin kept' goes gets is log = λ scripts within h.
     let e : Event = ClosedSq d.qid d.region in
@@ -64,7 +64,7 @@ close-load s t d kept admin kept' goes gets is log = λ scripts within h.
     h.so_far.filled_before h.so_far.fetches_last
 
 -- so does a look for a pick
-pub look-load : (s t : FrontState) → IsKept s → HasAdmin s → IsKept t → Goes s t → AllScanned s → gets_of t.sqs.items ≡ gets_of s.sqs.items → (picked : Step)
+pub look-load : (s t : FrontState) → IsConsistent s → HasAdmin s → IsConsistent t → Goes s t → AllScanned s → gets_of t.sqs.items ≡ gets_of s.sqs.items → (picked : Step)
     → (picked ≡ Picked → IsPickOf s t) → (picked ≡ Picked → picks_in t.log.items ≡ picks_in s.log.items + 1) → (picked ≡ Moved → ⊥)
     → (picked ≡ Idle → IsSame s t) → (picked ≡ Stalled → IsSame s t) → Loads s t
 look-load s t kept admin kept' goes scanned gets Picked pick one never idle stalled = pick-load s t kept admin kept' goes scanned gets (pick refl) (one refl)
@@ -73,7 +73,7 @@ look-load s t kept admin kept' goes scanned gets Idle pick one never idle stalle
 look-load s t kept admin kept' goes scanned gets Stalled pick one never idle stalled = posts-load s t goes (posts-same s t (stalled refl))
 
 -- and a look at the pending deletion
-pub finish-load : (s t : FrontState) (d : PendingDelete) → IsKept s → HasAdmin s → IsKept t → Goes s t → t.sqs.items ≡ s.sqs.items → s.deletion ≡ Some d → (finished : Bool)
+pub finish-load : (s t : FrontState) (d : PendingDelete) → IsConsistent s → HasAdmin s → IsConsistent t → Goes s t → t.sqs.items ≡ s.sqs.items → s.deletion ≡ Some d → (finished : Bool)
     → (finished ≡ true → t.log.items ≡ s.log.items ++ ClosedSq d.qid d.region ∷ []) → (finished ≡ false → IsSame s t) → Loads s t
 finish-load s t d kept admin kept' goes sqs is true closed still = close-load s t d kept admin kept' goes (ap gets_of sqs) is (closed refl)
 finish-load s t d kept admin kept' goes sqs is false closed still = posts-load s t goes (posts-same s t (still refl))

@@ -18,7 +18,7 @@ use Rattle.nvme_log.proofs.LoadedTurns.{AreOther, EndsNoFetch, ends-others, last
 use Rattle.nvme_state.specs.declared.region.SqRegion.{SqRegion}
 use Rattle.nvme_front.specs.declared.state.FrontState.{FrontState}
 use Rattle.nvme_front.specs.inside.State.{rules_of, past_of, gets_of, view_of}
-use Rattle.nvme_front.specs.inside.Room.{IsKept}
+use Rattle.nvme_front.specs.inside.Room.{IsConsistent}
 use Rattle.nvme_front.specs.inside.Goes.{Goes, IsSame, HasAdmin, IsScanned}
 use Rattle.nvme_front.specs.View.{FrontView, past_in, got_in, known_in}
 use Rattle.nvme_front.specs.LoadedFront.{FilledBelow, IsLoadedFront, GotWithin}
@@ -59,7 +59,7 @@ posts-load a b goes posts = λ scripts within h.
 
 -- ---- one step after another
 -- no more was got before than later
-pub within-before : (a b : FrontState) → IsKept a → IsKept b → Goes a b → (scripts : ℕ → List Sqe) → GotWithin scripts (view_of b) → GotWithin scripts (view_of a)
+pub within-before : (a b : FrontState) → IsConsistent a → IsConsistent b → Goes a b → (scripts : ℕ → List Sqe) → GotWithin scripts (view_of b) → GotWithin scripts (view_of a)
 within-before a b kept kept' goes scripts within = λ r.
     let later : reverse goes.grew.0 ++ past_of a ≡ past_of b = sym (reverse-append a.log.items goes.grew.0) ∙ ap reverse goes.grew.1 in
     let more = fetched-after (reverse goes.grew.0) (past_of a) r in
@@ -69,7 +69,7 @@ within-before a b kept kept' goes scripts within = λ r.
     omega (arith, longer, within r, ap length (fetched_all a kept r), ap length (fetched_all b kept' r))
 
 -- so two steps keep a loaded front where each does
-pub loads-trans : (a b c : FrontState) → IsKept b → IsKept c → Goes b c → Loads a b → Loads b c → Loads a c
+pub loads-trans : (a b c : FrontState) → IsConsistent b → IsConsistent c → Goes b c → Loads a b → Loads b c → Loads a c
 loads-trans a b c kept kept' goes first second = λ scripts within h.
     second scripts within (first scripts (within-before b c kept kept' goes scripts within) h)
 
@@ -84,7 +84,7 @@ got-begins v scripts are r = elim (cases_lt r (length v.gets)) [
 ]
 
 -- a kept front is loaded where its picks and fetches came in turn
-pub loaded-by : (s : FrontState) → IsKept s → HasAdmin s → s.late ≡ false → (scripts : ℕ → List Sqe)
+pub loaded-by : (s : FrontState) → IsConsistent s → HasAdmin s → s.late ≡ false → (scripts : ℕ → List Sqe)
     → ((r : ℕ) → r < length (gets_of s.sqs.items) → got_in (view_of s) r ++ known_in (view_of s) r ≡ scripts r)
     → Each (FilledBefore (rules_of s) scripts) (without_posts (past_of s)) → Each FetchesLast (without_posts (past_of s))
     → FilledBelow (rules_of s) scripts (without_posts (past_of s)) → IsLoadedFront scripts (view_of s)
@@ -134,7 +134,7 @@ past-later [] xs = ap reverse (append-nil xs)
 past-later (e ∷ es) xs = ap reverse (sym (append_assoc xs (e ∷ []) es)) ∙ past-later es (xs ++ e ∷ []) ∙ ap (with_events es) (past-push xs e)
 
 -- they come behind events of which the newest is no fetch, and leave the ends
-pub others-load : (a b : FrontState) → IsKept b → HasAdmin b → Goes a b → gets_of b.sqs.items ≡ gets_of a.sqs.items → (scripts : ℕ → List Sqe) → IsLoadedFront scripts (view_of a)
+pub others-load : (a b : FrontState) → IsConsistent b → HasAdmin b → Goes a b → gets_of b.sqs.items ≡ gets_of a.sqs.items → (scripts : ℕ → List Sqe) → IsLoadedFront scripts (view_of a)
     → (es : List Event) (base : Past) → past_of b ≡ with_events es base → AreOther es → EndsNoFetch (without_posts base)
     → Each (FilledBefore (rules_of a) scripts) (without_posts base) → Each FetchesLast (without_posts base) → IsLoadedFront scripts (view_of b)
 others-load a b kept admin goes gets scripts h es base past others none filled last =
@@ -149,7 +149,7 @@ others-load a b kept admin goes gets scripts h es base past others none filled l
 
 -- ---- queues that were scanned
 -- a queue that was scanned is filled, where what was got and is known to come is the script
-pub scanned-filled : (s : FrontState) → IsKept s → HasAdmin s → (scripts : ℕ → List Sqe)
+pub scanned-filled : (s : FrontState) → IsConsistent s → HasAdmin s → (scripts : ℕ → List Sqe)
     → ((r : ℕ) → r < length (gets_of s.sqs.items) → got_in (view_of s) r ++ known_in (view_of s) r ≡ scripts r)
     → (q : ℕ) → IsScanned s q → is_filled (rules_of s) scripts (past_of s) (open_sq (past_of s) q) ≡ true
 scanned-filled s kept admin scripts are q scanned = by (open_sq (past_of s) q) refl where

@@ -17,9 +17,9 @@ use Rattle.nvme_front.specs.declared.state.FrontState.{FrontState}
 use Rattle.nvme_log.specs.Rules.{FrontRules, sq_regions_of, cq_regions_of, slots_at}
 use Rattle.nvme_pool.specs.Seat.{SeatView}
 use Rattle.nvme_state.specs.inside.Jobs.{JobsView}
-use Rattle.nvme_state.specs.inside.Kept.{SqKept, CqKept, no_sq, no_cq, Kept}
+use Rattle.nvme_state.specs.inside.Content.{SqContent, CqContent, no_sq, no_cq, Content}
 use Rattle.nvme_state.specs.Regions.{sq_steps, cq_steps}
-use Rattle.nvme_front.specs.inside.State.{sq_in, cq_in, gets_of, puts_of, kept_of, rules_of}
+use Rattle.nvme_front.specs.inside.State.{sq_in, cq_in, gets_of, puts_of, content_of, rules_of}
 use Rattle.nvme_state.specs.inside.Standing.{IsFresh, IsFreshCq, AreFreshJobs, first_on_board}
 use Rattle.nvme_state.proofs.RegionSteps.{first_table, table_of-additions}
 
@@ -34,7 +34,7 @@ none_first : (b : Bool) (x : OpenQueue) → None ≡ (if b && false then Some x 
 none_first true x = refl
 none_first false x = refl
 
-module _ (rules : FrontRules) (late : Bool) (k : Kept) (none : rules.regions ≡ []) where
+module _ (rules : FrontRules) (late : Bool) (k : Content) (none : rules.regions ≡ []) where
   -- the queue table of no region
   no_regions : queue_table rules.start rules.regions ≡ first_table rules.start [] []
   no_regions = ap (λ (h : TableHistory). queue_table rules.start h) none ∙ table_of-additions rules.start [] refl
@@ -67,8 +67,8 @@ module _ (rules : FrontRules) (late : Bool) (k : Kept) (none : rules.regions ≡
         cq_number = ap (λ (rs : List Region). length rs) cqs ∙ sym ncq;
         few_sqs = rw nsq (omega arith);
         few_cqs = rw ncq (omega arith);
-        sq_slots = λ r. ap (λ (rs : List Region). slots_at rs r) sqs ∙ ap (λ (s : SqKept). s.slots) (sym (sq r));
-        cq_slots = λ c. ap (λ (rs : List Region). slots_at rs c) cqs ∙ ap (λ (s : CqKept). s.slots) (sym (cq c));
+        sq_slots = λ r. ap (λ (rs : List Region). slots_at rs r) sqs ∙ ap (λ (s : SqContent). s.slots) (sym (sq r));
+        cq_slots = λ c. ap (λ (rs : List Region). slots_at rs c) cqs ∙ ap (λ (s : CqContent). s.slots) (sym (cq c));
       }
 
 -- jobs that were just made, by a seat, are fresh
@@ -84,9 +84,9 @@ are_fresh_jobs j seat is = record {
 pub fresh_at_new : (s : FrontState) → s.sqs.items ≡ [] → s.cqs.items ≡ [] → s.board.queues ≡ replicate queue_limit None
     → BoardStandsAt s.config.mechanism s.config.settings [] s.board
     → StandsAt (record { nsq = s.config.limits.nsq; ncq = s.config.limits.ncq; settings = s.config.settings }) s.table []
-    → s.outstanding ≡ 0 → s.deletion ≡ None → AreFreshJobs s.jobs → s.late ≡ false → IsFresh (rules_of s) s.late (kept_of s)
+    → s.outstanding ≡ 0 → s.deletion ≡ None → AreFreshJobs s.jobs → s.late ≡ false → IsFresh (rules_of s) s.late (content_of s)
 fresh_at_new s sqs cqs closed board table outstanding deletion jobs early =
-    fresh_at_first (rules_of s) s.late (kept_of s)
+    fresh_at_first (rules_of s) s.late (content_of s)
     (λ i. cq_steps (puts_of (cqs i)) ++ sq_steps (gets_of (sqs i)))
     (ap (λ (xs : List SqRegion). length xs) sqs) (ap (λ (xs : List CqRegion). length xs) cqs)
     (λ r. ap (λ (xs : List SqRegion). sq_in xs r) sqs) (λ c. ap (λ (xs : List CqRegion). cq_in xs c) cqs)

@@ -35,12 +35,12 @@ use Rattle.nvme_log.specs.Queues.{Queue, admin_queue, open_sq}
 use Rattle.nvme_log.specs.Aborts.{is_abort_entry}
 use Rattle.nvme_state.specs.inside.Jobs.{JobsView}
 use Rattle.nvme_state.specs.Hands.{gained_count}
-use Rattle.nvme_state.specs.inside.Kept.{SqKept, put_sq}
-use Rattle.nvme_front.specs.inside.State.{sq_in, cq_in, kept_of, rules_of, past_of, gets_of, puts_of}
+use Rattle.nvme_state.specs.inside.Content.{SqContent, put_sq}
+use Rattle.nvme_front.specs.inside.State.{sq_in, cq_in, content_of, rules_of, past_of, gets_of, puts_of}
 use Rattle.nvme_front.specs.inside.Goes.{coming_at, Goes, HasAdmin}
 use Rattle.nvme_front.specs.Ends.{get_place, put_place}
 use Rattle.nvme_state.specs.inside.Standing.{Stands}
-use Rattle.nvme_front.specs.inside.Room.{IsKept, IsRoomy, window_room, ready_room}
+use Rattle.nvme_front.specs.inside.Room.{IsConsistent, IsRoomy, window_room, ready_room}
 use Rattle.nvme_front.specs.inside.Applied.{IsApplied}
 use Rattle.nvme_front.specs.inside.Turn.{oldest_admin, places_in}
 use Rattle.nvme_state.specs.inside.Steps.{CanPick, picked_sq}
@@ -93,14 +93,14 @@ closes start h entry qid e =
     closes_by (is_success (status_of start h entry)) (status_of start h entry) (queue_table start (EntryApplied entry ∷ h)) (admin_command_of entry) qid e
 
 -- ---- the pick of the admin queue
-module _ (s : FrontState) (kept : IsKept s) (rules : FrontRules) {late : Bool} (st : Stands rules late (past_of s) (kept_of s)) (admin : HasAdmin s) (none : s.deletion ≡ None) (pick : Pick)
+module _ (s : FrontState) (kept : IsConsistent s) (rules : FrontRules) {late : Bool} (st : Stands rules late (past_of s) (content_of s)) (admin : HasAdmin s) (none : s.deletion ≡ None) (pick : Pick)
     (lawful : (m : Mechanism) (first : ArbitrationFields) (h : History) → BoardStandsAt m first h s.board → Some pick ≡ lawful_pick m first h (seen_of s.board.queues))
     (zero_is : pick.qid ≡ 0) where
   -- its queue is the admin queue
   pub due-admin : (due s kept rules st none pick lawful).queue ≡ admin_queue
   due-admin =
       let is = due s kept rules st none pick lawful in
-      let here = sym is.is_open ∙ ap (open_sq (past_of s)) zero_is ∙ admin_is_open rules late (past_of s) (kept_of s) st admin.0 in
+      let here = sym is.is_open ∙ ap (open_sq (past_of s)) zero_is ∙ admin_is_open rules late (past_of s) (content_of s) st admin.0 in
       cc here
 
   -- it has a candidate
@@ -109,7 +109,7 @@ module _ (s : FrontState) (kept : IsKept s) (rules : FrontRules) {late : Bool} (
       let is = due s kept rules st none pick lawful in
       let enough = subst (λ (q : Queue). pick.n ≤ length (sq_in s.sqs.items q.region).window) due-admin is.enough in
       let one = is.at_least_one in
-      let same = ap (λ (x : SqKept). length x.window) (sq_in-read s.sqs.items 0 d admin.0 read) in
+      let same = ap (λ (x : SqContent). length x.window) (sq_in-read s.sqs.items 0 d admin.0 read) in
       omega (arith, enough, one, same)
 
   -- its place is free where the places that it needs are
@@ -125,7 +125,7 @@ module _ (s : FrontState) (kept : IsKept s) (rules : FrontRules) {late : Bool} (
   pub due-second : (d : SqRegion) → d ≡ get_or s.sqs.items 0 d → (candidate : Candidate) (rest : List Candidate) → d.window.items ≡ candidate ∷ rest
       → s.outstanding + places_in s.sqs.items pick ≤ max_outstanding → is_abort_entry (Some candidate.entry) ≡ true → s.outstanding + 2 ≤ max_outstanding
   due-second d read candidate rest oldest places aborts =
-      let window : (sq_in s.sqs.items 0).window ≡ candidate ∷ rest = ap (λ (x : SqKept). x.window) (sq_in-read s.sqs.items 0 d admin.0 read) ∙ oldest in
+      let window : (sq_in s.sqs.items 0).window ≡ candidate ∷ rest = ap (λ (x : SqContent). x.window) (sq_in-read s.sqs.items 0 d admin.0 read) ∙ oldest in
       let first : oldest_admin s.sqs.items ≡ Some candidate.entry = ap (λ (w : List Candidate). option_map (λ (c : Candidate). c.entry) (slice_get w 0)) window in
       let two : places_in s.sqs.items pick ≡ 2 =
       ap (λ (n : ℕ). if n == 0 && is_abort_entry (oldest_admin s.sqs.items) then 2 else pick.n) zero_is
@@ -133,7 +133,7 @@ module _ (s : FrontState) (kept : IsKept s) (rules : FrontRules) {late : Bool} (
       ∙ ap (λ (x : Bool). if x then 2 else pick.n) aborts in
       subst (λ (n : ℕ). s.outstanding + n ≤ max_outstanding) two places
 
-module _ (s b : FrontState) (kept : IsKept s) (admin : HasAdmin s) (none : s.deletion ≡ None) (pick : Pick)
+module _ (s b : FrontState) (kept : IsConsistent s) (admin : HasAdmin s) (none : s.deletion ≡ None) (pick : Pick)
     (lawful : (m : Mechanism) (first : ArbitrationFields) (h : History) → BoardStandsAt m first h s.board → Some pick ≡ lawful_pick m first h (seen_of s.board.queues))
     (board_stands : (m : Mechanism) (first : ArbitrationFields) (h : History) → BoardStandsAt m first h s.board → BoardStandsAt m first (Picked (seen_of s.board.queues) pick ∷ h) b.board)
     (board_queues : b.board.queues ≡ queues_after s.board.queues pick)
@@ -168,14 +168,14 @@ module _ (s b : FrontState) (kept : IsKept s) (admin : HasAdmin s) (none : s.del
     room = ap (λ (j : JobsView). j.room) jobs;
   }
 
-  before : Stands (rules_of b) b.late (past_of s) (kept_of s)
-  before = subst (λ (r : FrontRules). Stands r b.late (past_of s) (kept_of s)) (sym (rules-goes s b admin_pick-goes))
-      (subst (λ (l : Bool). Stands (rules_of s) l (past_of s) (kept_of s)) (sym same_late) (kept.stands admin.0 admin.1))
+  before : Stands (rules_of b) b.late (past_of s) (content_of s)
+  before = subst (λ (r : FrontRules). Stands r b.late (past_of s) (content_of s)) (sym (rules-goes s b admin_pick-goes))
+      (subst (λ (l : Bool). Stands (rules_of s) l (past_of s) (content_of s)) (sym same_late) (kept.stands admin.0 admin.1))
 
   sqs_are : sq_in b.sqs.items ≡ put_sq (sq_in s.sqs.items) 0 (picked_sq (sq_in s.sqs.items 0) 1)
   sqs_are =
       ap sq_in sqs ∙ sq_in-set s.sqs.items 0 (picked_region d 1) admin.0
-      ∙ ap (λ (x : SqKept). put_sq (sq_in s.sqs.items) 0 (picked_sq x 1)) (sym (sq_in-read s.sqs.items 0 d admin.0 read))
+      ∙ ap (λ (x : SqContent). put_sq (sq_in s.sqs.items) 0 (picked_sq x 1)) (sym (sq_in-read s.sqs.items 0 d admin.0 read))
 
   module _ (v : Verdict) (closing : Option ℕ)
       (verdict_is : (start : Start) (h : TableHistory) → StandsAt start s.table h → v ≡ verdict_of start h candidate.entry)
@@ -203,21 +203,21 @@ module _ (s b : FrontState) (kept : IsKept s) (admin : HasAdmin s) (none : s.del
         let same = ap length log in
         let limit = ap (λ z. z.max_events) config in
         record {
-          before = kept_of s;
+          before = content_of s;
           past = past_of s;
           stands = before;
           seen = seen;
           pick = pick;
           picked = b.board;
-          can_pick = subst (λ (q : Queue). CanPick (rules_of b) (past_of s) (kept_of s) q pick b.board) (due-admin s kept (rules_of b) before admin none pick lawful zero_is)
+          can_pick = subst (λ (q : Queue). CanPick (rules_of b) (past_of s) (content_of s) q pick b.board) (due-admin s kept (rules_of b) before admin none pick lawful zero_is)
               (can_pick s kept (rules_of b) before none pick lawful b.board board_stands board_queues
               (due-places s kept (rules_of b) before admin none pick lawful zero_is places));
-          seen_is = seen_is ∙ seen_is_observed (past_of s) (kept_of s) before.regions before.queues;
+          seen_is = seen_is ∙ seen_is_observed (past_of s) (content_of s) before.regions before.queues;
           of_admin = zero_is;
           one = (due s kept (rules_of b) before none pick lawful).one_of_admin zero_is;
           rest = rest;
           can_apply = record {
-            oldest = ap (λ (x : SqKept). x.window) (sq_in-read s.sqs.items 0 d admin.0 read) ∙ oldest;
+            oldest = ap (λ (x : SqContent). x.window) (sq_in-read s.sqs.items 0 d admin.0 read) ∙ oldest;
             table_stands = table_stands start h stood;
             sized = sized;
             second = due-second s kept (rules_of b) before admin none pick lawful zero_is d read candidate rest oldest places;
@@ -225,7 +225,7 @@ module _ (s b : FrontState) (kept : IsKept s) (admin : HasAdmin s) (none : s.del
           verdict_is = verdict_is start h stood;
           closing_is = λ (qid : ℕ) e. closed qid (closes start h candidate.entry qid (sym (verdict_is start h stood) ∙ e)) ∙ sym (before.queues.cqs qid);
           past_is = past-picked s b (event.Pick seen pick) log;
-          kept_is = λ t. record {
+          content_is = λ t. record {
             sq = sqs_are t;
             cq = cq_in (cqs t);
             nsq = (ap length sqs ∙ length-set s.sqs.items 0 (picked_region d 1)) t;

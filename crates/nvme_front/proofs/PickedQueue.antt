@@ -24,12 +24,12 @@ use Rattle.nvme_log.specs.Queues.{Queue}
 use Rattle.nvme_log.specs.Histories.{arbitration_of}
 use Rattle.nvme_state.specs.inside.Jobs.{JobsView, with_picked}
 use Rattle.nvme_state.specs.Hands.{gained_count}
-use Rattle.nvme_state.specs.inside.Kept.{SqKept, put_sq, Kept}
-use Rattle.nvme_front.specs.inside.State.{sq_in, cq_in, kept_of, rules_of, past_of, gets_of, puts_of}
+use Rattle.nvme_state.specs.inside.Content.{SqContent, put_sq, Content}
+use Rattle.nvme_front.specs.inside.State.{sq_in, cq_in, content_of, rules_of, past_of, gets_of, puts_of}
 use Rattle.nvme_front.specs.inside.Goes.{coming_at, Goes, HasAdmin}
 use Rattle.nvme_front.specs.Ends.{get_place, put_place}
 use Rattle.nvme_state.specs.inside.Standing.{Stands}
-use Rattle.nvme_front.specs.inside.Room.{IsKept, IsRoomy, window_room, ready_room}
+use Rattle.nvme_front.specs.inside.Room.{IsConsistent, IsRoomy, window_room, ready_room}
 use Rattle.nvme_state.specs.inside.Steps.{CanPick, picked_sq}
 use Rattle.nvme_state.proofs.AfterSteps.{after_io}
 use Rattle.nvme_state.proofs.Observing.{seen_is_observed}
@@ -43,13 +43,13 @@ abbrev pub picked_region : SqRegion → ℕ → SqRegion
 picked_region d n = record d { window = record d.window { items = drop n d.window.items }; unposted = d.unposted + n }
 
 -- the pick of a board makes the pick that a front may make
-pub can_pick : (s : FrontState) (kept : IsKept s) (rules : FrontRules) {late : Bool} (st : Stands rules late (past_of s) (kept_of s)) (none : s.deletion ≡ None) (pick : Pick)
+pub can_pick : (s : FrontState) (kept : IsConsistent s) (rules : FrontRules) {late : Bool} (st : Stands rules late (past_of s) (content_of s)) (none : s.deletion ≡ None) (pick : Pick)
     (lawful : (m : Mechanism) (first : ArbitrationFields) (h : History) → BoardStandsAt m first h s.board → Some pick ≡ lawful_pick m first h (seen_of s.board.queues))
     (board : BoardView)
     → ((m : Mechanism) (first : ArbitrationFields) (h : History) → BoardStandsAt m first h s.board → BoardStandsAt m first (Picked (seen_of s.board.queues) pick ∷ h) board)
     → board.queues ≡ queues_after s.board.queues pick
     → s.outstanding + pick.n ≤ max_outstanding
-    → CanPick rules (past_of s) (kept_of s) (due s kept rules st none pick lawful).queue pick board
+    → CanPick rules (past_of s) (content_of s) (due s kept rules st none pick lawful).queue pick board
 can_pick s kept rules {late} st none pick lawful board stands queues places =
     let is = due s kept rules st none pick lawful in
     record {
@@ -60,7 +60,7 @@ can_pick s kept rules {late} st none pick lawful board stands queues places =
       lawful = due-lawful s kept rules st none pick lawful;
       board_queues = queues;
       board_stands = subst (λ (xs : List Seen). BoardStandsAt rules.mechanism rules.start.settings (Picked xs pick ∷ arbitration_of (past_of s)) board)
-          (seen_is_observed (past_of s) (kept_of s) st.regions st.queues)
+          (seen_is_observed (past_of s) (content_of s) st.regions st.queues)
           (stands rules.mechanism rules.start.settings (arbitration_of (past_of s)) st.arbitration.stands);
     }
 
@@ -68,7 +68,7 @@ can_pick s kept rules {late} st none pick lawful board stands queues places =
 pub past-picked : (s b : FrontState) (e : Event) → b.log.items ≡ s.log.items ++ e ∷ [] → past_of b ≡ e ∷ past_of s
 past-picked s b e log = ap reverse log ∙ past-push s.log.items e
 
-module _ (s b : FrontState) (kept : IsKept s) (admin : HasAdmin s) (none : s.deletion ≡ None) (pick : Pick)
+module _ (s b : FrontState) (kept : IsConsistent s) (admin : HasAdmin s) (none : s.deletion ≡ None) (pick : Pick)
     (lawful : (m : Mechanism) (first : ArbitrationFields) (h : History) → BoardStandsAt m first h s.board → Some pick ≡ lawful_pick m first h (seen_of s.board.queues))
     (board_stands : (m : Mechanism) (first : ArbitrationFields) (h : History) → BoardStandsAt m first h s.board → BoardStandsAt m first (Picked (seen_of s.board.queues) pick ∷ h) b.board)
     (board_queues : b.board.queues ≡ queues_after s.board.queues pick)
@@ -84,7 +84,7 @@ module _ (s b : FrontState) (kept : IsKept s) (admin : HasAdmin s) (none : s.del
     (jobs : b.jobs ≡ with_picked s.jobs entry.region (take pick.n d.window.items))
     (log : b.log.items ≡ s.log.items ++ event.Pick seen pick ∷ [])
     (within : length s.log.items + 1 ≤ s.config.max_events) where
-  st : Stands (rules_of s) s.late (past_of s) (kept_of s)
+  st : Stands (rules_of s) s.late (past_of s) (content_of s)
   st = kept.stands admin.0 admin.1
 
   queue : Queue
@@ -120,7 +120,7 @@ module _ (s b : FrontState) (kept : IsKept s) (admin : HasAdmin s) (none : s.del
       let region = due-region s kept (rules_of s) st none pick lawful entry found r r_is in
       ap sq_in sqs
       ∙ sq_in-set s.sqs.items r (picked_region d pick.n) (due-sq_there s kept (rules_of s) st none pick lawful entry found r r_is)
-      ∙ ap (λ (x : SqKept). put_sq (sq_in s.sqs.items) r (picked_sq x pick.n)) (sym (due-sq s kept (rules_of s) st none pick lawful entry found r r_is d read))
+      ∙ ap (λ (x : SqContent). put_sq (sq_in s.sqs.items) r (picked_sq x pick.n)) (sym (due-sq s kept (rules_of s) st none pick lawful entry found r r_is d read))
       ∙ ap (λ (x : ℕ). put_sq (sq_in s.sqs.items) x (picked_sq (sq_in s.sqs.items x) pick.n)) region
 
   -- its jobs, by what was kept of the region
@@ -130,11 +130,11 @@ module _ (s b : FrontState) (kept : IsKept s) (admin : HasAdmin s) (none : s.del
       let region = due-region s kept (rules_of s) st none pick lawful entry found r r_is in
       jobs
       ∙ ap (λ (n : ℕ). with_picked s.jobs n (take pick.n d.window.items)) (sym r_is)
-      ∙ ap (λ (y : SqKept). with_picked s.jobs r (take pick.n y.window)) (sym (due-sq s kept (rules_of s) st none pick lawful entry found r r_is d read))
+      ∙ ap (λ (y : SqContent). with_picked s.jobs r (take pick.n y.window)) (sym (due-sq s kept (rules_of s) st none pick lawful entry found r r_is d read))
       ∙ ap (λ (n : ℕ). with_picked s.jobs n (take pick.n (sq_in s.sqs.items n).window)) region
 
-  kept_is : kept_of b ≡ after_io (kept_of s) queue pick.n b.board
-  kept_is = λ t. record {
+  content_is : content_of b ≡ after_io (content_of s) queue pick.n b.board
+  content_is = λ t. record {
     sq = sqs_are t;
     cq = cq_in (cqs t);
     nsq = (ap length sqs ∙ length-set s.sqs.items r (picked_region d pick.n)) t;
@@ -158,12 +158,12 @@ module _ (s b : FrontState) (kept : IsKept s) (admin : HasAdmin s) (none : s.del
       (due-attached s kept (rules_of s) st none pick lawful entry found r r_is)
 
   -- what stands at its log is kept
-  pub io-kept : IsKept b
+  pub io-kept : IsConsistent b
   unfolding queue
   io-kept =
-      let stands = stands-io (rules_of s) s.late (past_of s) (kept_of s) queue seen pick b.board c st
+      let stands = stands-io (rules_of s) s.late (past_of s) (content_of s) queue seen pick b.board c st
       (can_pick s kept (rules_of s) st none pick lawful b.board board_stands board_queues places)
-      (seen_is ∙ seen_is_observed (past_of s) (kept_of s) st.regions st.queues) io attached in
+      (seen_is ∙ seen_is_observed (past_of s) (content_of s) st.regions st.queues) io attached in
       kept_after s b admin io-goes roomy (λ n. pushed-not_empty s.log.items (event.Pick seen pick) (sym log ∙ n))
-      (subst (λ (k : Kept). Stands (rules_of s) s.late (past_of b) k) (sym kept_is)
-      (subst (λ (p : Past). Stands (rules_of s) s.late p (after_io (kept_of s) queue pick.n b.board)) (sym (past-picked s b (event.Pick seen pick) log)) stands))
+      (subst (λ (k : Content). Stands (rules_of s) s.late (past_of b) k) (sym content_is)
+      (subst (λ (p : Past). Stands (rules_of s) s.late p (after_io (content_of s) queue pick.n b.board)) (sym (past-picked s b (event.Pick seen pick) log)) stands))

@@ -25,13 +25,13 @@ use Rattle.nvme_state.specs.Hands.{in_hand}
 use Rattle.nvme_state.specs.inside.Jobs.{dispatched_place}
 use Rattle.nvme_log.specs.Places.{observation_of}
 use Rattle.nvme_log.specs.Histories.{arbitration_of}
-use Rattle.nvme_state.specs.inside.Kept.{SqKept, Kept}
-use Rattle.nvme_front.specs.inside.State.{sq_kept, sq_in, kept_of, past_of}
+use Rattle.nvme_state.specs.inside.Content.{SqContent, Content}
+use Rattle.nvme_front.specs.inside.State.{sq_content, sq_in, content_of, past_of}
 use Rattle.nvme_log.specs.Laws.{as_open}
 use Rattle.nvme_front.specs.inside.Goes.{HasAdmin, next_pick}
 use Rattle.nvme_log.specs.Histories.{picks_in}
 use Rattle.nvme_state.specs.inside.Standing.{HoldsReady, Stands, held_by, hand_of}
-use Rattle.nvme_front.specs.inside.Room.{IsKept}
+use Rattle.nvme_front.specs.inside.Room.{IsConsistent}
 use Rattle.nvme_state.proofs.Observing.{seen_is_observed, IsPickable, pickable}
 use Rattle.nvme_state.proofs.AppliedRoom.{few_unposted}
 use Rattle.nvme_log.proofs.PickCounts.{picks_in-append}
@@ -42,13 +42,13 @@ pub picks_in-push : (xs : List Event) (seen : List Seen) (pick : Pick) → picks
 picks_in-push xs seen pick = picks_in-append xs (event.Pick seen pick ∷ [])
 
 -- where no deletion is pending, no more places of the admin queue are unposted than are outstanding
-pub admin_unposted : (s : FrontState) → IsKept s → (rules : FrontRules) {late : Bool} → Stands rules late (past_of s) (kept_of s) → HasAdmin s → s.deletion ≡ None
+pub admin_unposted : (s : FrontState) → IsConsistent s → (rules : FrontRules) {late : Bool} → Stands rules late (past_of s) (content_of s) → HasAdmin s → s.deletion ≡ None
     → (d : SqRegion) → d ≡ get_or s.sqs.items 0 d → d.unposted ≤ s.outstanding
 admin_unposted s kept rules {late} st admin none d read =
-    subst (λ (x : SqKept). x.unposted ≤ s.outstanding) (sq_in-read s.sqs.items 0 d admin.0 read) (few_unposted rules late (past_of s) (kept_of s) st none 0 admin.0)
+    subst (λ (x : SqContent). x.unposted ≤ s.outstanding) (sq_in-read s.sqs.items 0 d admin.0 read) (few_unposted rules late (past_of s) (content_of s) st none 0 admin.0)
 
 -- no more jobs are to be handed than places are outstanding
-few_unhanded : (past : Past) (k : Kept) → HoldsReady past k (hand_of k) → length k.jobs.hands.unhanded ≤ k.outstanding
+few_unhanded : (past : Past) (k : Content) → HoldsReady past k (hand_of k) → length k.jobs.hands.unhanded ≤ k.outstanding
 few_unhanded past k h =
     omega (
       arith,
@@ -59,12 +59,12 @@ few_unhanded past k h =
     )
 
 -- there is room for the jobs of what is picked
-pub jobs_fit : (s : FrontState) → IsKept s → (rules : FrontRules) {late : Bool} → Stands rules late (past_of s) (kept_of s) → HasAdmin s
+pub jobs_fit : (s : FrontState) → IsConsistent s → (rules : FrontRules) {late : Bool} → Stands rules late (past_of s) (content_of s) → HasAdmin s
     → (n : ℕ) → s.outstanding + n ≤ max_outstanding → length s.jobs.hands.unhanded + n ≤ s.jobs.room
-jobs_fit s kept rules st admin n places = omega (arith, few_unhanded (past_of s) (kept_of s) st.ready, kept.roomy.jobs admin.0, places)
+jobs_fit s kept rules st admin n places = omega (arith, few_unhanded (past_of s) (content_of s) st.ready, kept.roomy.jobs admin.0, places)
 
 -- tickets don't run out: there are few events
-pub few_tickets : (s : FrontState) → IsKept s → (rules : FrontRules) {late : Bool} → Stands rules late (past_of s) (kept_of s)
+pub few_tickets : (s : FrontState) → IsConsistent s → (rules : FrontRules) {late : Bool} → Stands rules late (past_of s) (content_of s)
     → (n : ℕ) → s.outstanding + n ≤ max_outstanding → s.jobs.tickets + n < 4294967296
 few_tickets s kept rules st n places = omega (arith, st.jobs.few, length-reverse s.log.items, kept.roomy.few_events, s.config.few_events, places)
 
@@ -89,17 +89,17 @@ region_of-open o entry queue h is =
     ap (λ (q : Queue). q.region) (by_closing entry.closing (record { region = entry.region; cqid = entry.cqid; class = entry.class }) queue (ap as_open (sym is) ∙ h))
 
 -- ---- the pick that arbitration makes next
-module _ (s : FrontState) (kept : IsKept s) (rules : FrontRules) {late : Bool} (st : Stands rules late (past_of s) (kept_of s)) (none : s.deletion ≡ None) (pick : Pick)
+module _ (s : FrontState) (kept : IsConsistent s) (rules : FrontRules) {late : Bool} (st : Stands rules late (past_of s) (content_of s)) (none : s.deletion ≡ None) (pick : Pick)
     (lawful : (m : Mechanism) (first : ArbitrationFields) (h : History) → BoardStandsAt m first h s.board → Some pick ≡ lawful_pick m first h (seen_of s.board.queues)) where
   -- its queue is open, and has the candidates
-  pub due : IsPickable (past_of s) (kept_of s) pick
-  due = pickable rules.mechanism rules.start.settings (arbitration_of (past_of s)) (past_of s) (kept_of s) pick st.queues st.arbitration.stands.observed
+  pub due : IsPickable (past_of s) (content_of s) pick
+  due = pickable rules.mechanism rules.start.settings (arbitration_of (past_of s)) (past_of s) (content_of s) pick st.queues st.arbitration.stands.observed
       (sym (lawful rules.mechanism rules.start.settings (arbitration_of (past_of s)) st.arbitration.stands))
 
   -- it is lawful on what the log observes
   pub due-lawful : lawful_pick rules.mechanism rules.start.settings (arbitration_of (past_of s)) (observation_of (past_of s)) ≡ Some pick
   due-lawful = subst (λ (xs : List Seen). lawful_pick rules.mechanism rules.start.settings (arbitration_of (past_of s)) xs ≡ Some pick)
-      (seen_is_observed (past_of s) (kept_of s) st.regions st.queues)
+      (seen_is_observed (past_of s) (content_of s) st.regions st.queues)
       (sym (lawful rules.mechanism rules.start.settings (arbitration_of (past_of s)) st.arbitration.stands))
 
   -- its queue is in the table
@@ -128,14 +128,14 @@ module _ (s : FrontState) (kept : IsKept s) (rules : FrontRules) {late : Bool} (
     due-sq_there = st.queues.sq_there r (record { qid = pick.qid; cq_region = due-cq_region }) due-attached
 
     module _ (d : SqRegion) (read : d ≡ get_or s.sqs.items r d) where
-      pub due-sq : sq_in s.sqs.items r ≡ sq_kept d
+      pub due-sq : sq_in s.sqs.items r ≡ sq_content d
       due-sq = sq_in-read s.sqs.items r d due-sq_there read
 
       -- the candidates are there
       pub due-enough : pick.n ≤ length d.window.items
-      due-enough = subst (λ (x : SqKept). pick.n ≤ length x.window) due-sq
+      due-enough = subst (λ (x : SqContent). pick.n ≤ length x.window) due-sq
           (subst (λ (x : ℕ). pick.n ≤ length (sq_in s.sqs.items x).window) (sym due-region) due.enough)
 
       -- there are few unposted places
       pub due-unposted : d.unposted ≤ s.outstanding
-      due-unposted = subst (λ (x : SqKept). x.unposted ≤ s.outstanding) due-sq (few_unposted rules late (past_of s) (kept_of s) st none r due-sq_there)
+      due-unposted = subst (λ (x : SqContent). x.unposted ≤ s.outstanding) due-sq (few_unposted rules late (past_of s) (content_of s) st none r due-sq_there)

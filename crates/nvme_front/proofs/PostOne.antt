@@ -19,10 +19,10 @@ use Rattle.nvme_log.specs.Rules.{FrontRules, Past, upto}
 use Rattle.nvme_log.specs.Places.{Place, fetched, fate_of, is_waiting}
 use Rattle.nvme_log.specs.Completions.{is_posted, posted_to}
 use Rattle.nvme_log.specs.Laws.{count_of}
-use Rattle.nvme_state.specs.inside.Kept.{Kept, SqKept, CqKept, no_cq, put_sq, put_cq}
-use Rattle.nvme_front.specs.inside.State.{sq_in, cq_in, cq_kept, gets_of, puts_of, kept_of, rules_of, past_of}
+use Rattle.nvme_state.specs.inside.Content.{Content, SqContent, CqContent, no_cq, put_sq, put_cq}
+use Rattle.nvme_front.specs.inside.State.{sq_in, cq_in, cq_content, gets_of, puts_of, content_of, rules_of, past_of}
 use Rattle.nvme_state.specs.inside.Standing.{Stands, IsReady, HoldsPosts, hand_of}
-use Rattle.nvme_front.specs.inside.Room.{IsKept, window_room, ready_room}
+use Rattle.nvme_front.specs.inside.Room.{IsConsistent, window_room, ready_room}
 use Rattle.nvme_log.specs.Places.{one_if}
 use Rattle.nvme_log.specs.Completions.{unposted_of}
 use Rattle.nvme_front.specs.inside.Goes.{coming_at, Goes, IsSame, IsDrained, HasAdmin, IsCompletionOf}
@@ -65,7 +65,7 @@ posted_few (e ∷ past) c = let rest = posted_few past c in omega (arith, rest)
 
 -- ---- what is known of the completion that became ready first
 -- its region was opened for a queue that posts to the completion region, its place is counted as unposted, and a picked one as outstanding
-pub record IsForemost (k : Kept) (c : ℕ) (t : Ready) : Type 0 where
+pub record IsForemost (k : Content) (c : ℕ) (t : Ready) : Type 0 where
   pub qid : ℕ
   pub attached : (k.sq t.region).queue ≡ Some (record { qid = qid; cq_region = c })
   pub there : t.region < k.nsq
@@ -97,7 +97,7 @@ answerable_counted past hand r i h =
     (rw (answerable_is_done past hand r i h, answerable_is_unposted past hand r i h) refl)
 
 -- so it is with the completion that became ready first, where what is kept stands
-pub foremost : (rules : FrontRules) (late : Bool) (past : Past) (k : Kept) (c : ℕ) (t : Ready) (rest : List Ready) → Stands rules late past k → c < k.ncq
+pub foremost : (rules : FrontRules) (late : Bool) (past : Past) (k : Content) (c : ℕ) (t : Ready) (rest : List Ready) → Stands rules late past k → c < k.ncq
     → (k.cq c).ready ≡ t ∷ rest → IsForemost k c t
 foremost rules late past k c t rest s there first =
     let small : c < MAX_REGIONS = let few = s.tabled.few_cqs in omega (arith, few, there) in
@@ -120,7 +120,7 @@ foremost rules late past k c t rest s there first =
     }
 
 -- its completion may be posted
-pub completion_can_be_posted : (past : Past) (k : Kept) (c : ℕ) (t : Ready) (rest : List Ready) (cqe : Cqe) → (k.cq c).ready ≡ t ∷ rest → c < k.ncq
+pub completion_can_be_posted : (past : Past) (k : Content) (c : ℕ) (t : Ready) (rest : List Ready) (cqe : Cqe) → (k.cq c).ready ≡ t ∷ rest → c < k.ncq
     → IsForemost k c t → IsCompletionOf (k.sq t.region) (k.cq c) t cqe → CanPost past k c t rest cqe cqe.sqid
 completion_can_be_posted past k c t rest cqe first there f h = record {
   oldest = first;
@@ -139,25 +139,25 @@ completion_can_be_posted past k c t rest cqe first there f h = record {
 -- the completion that became ready first in a region that was read
 pub first_ready : (s : FrontState) (c : ℕ) (d : CqRegion) (t : Ready) → c < length s.cqs.items → d ≡ get_or s.cqs.items c d → slice_get d.ready.items 0 ≡ Some t
     → (cq_in s.cqs.items c).ready ≡ t ∷ drop 1 d.ready.items
-first_ready s c d t there read first = ap (λ (z : CqKept). z.ready) (cq_in-read s.cqs.items c d there read) ∙ list_by_first d.ready.items t first
+first_ready s c d t there read first = ap (λ (z : CqContent). z.ready) (cq_in-read s.cqs.items c d there read) ∙ list_by_first d.ready.items t first
 
 -- no completion is ready in a region that was read
 pub none_ready : (s : FrontState) (c : ℕ) (d : CqRegion) → c < length s.cqs.items → d ≡ get_or s.cqs.items c d → slice_get d.ready.items 0 ≡ None
     → (cq_in s.cqs.items c).ready ≡ []
-none_ready s c d there read none = ap (λ (z : CqKept). z.ready) (cq_in-read s.cqs.items c d there read) ∙ list_without_first d.ready.items none
+none_ready s c d there read none = ap (λ (z : CqContent). z.ready) (cq_in-read s.cqs.items c d there read) ∙ list_without_first d.ready.items none
 
 -- what is known of it
-pub front_foremost : (s : FrontState) (c : ℕ) (d : CqRegion) (t : Ready) → IsKept s → HasAdmin s → c < length s.cqs.items → d ≡ get_or s.cqs.items c d
-    → slice_get d.ready.items 0 ≡ Some t → IsForemost (kept_of s) c t
+pub front_foremost : (s : FrontState) (c : ℕ) (d : CqRegion) (t : Ready) → IsConsistent s → HasAdmin s → c < length s.cqs.items → d ≡ get_or s.cqs.items c d
+    → slice_get d.ready.items 0 ≡ Some t → IsForemost (content_of s) c t
 front_foremost s c d t k admin there read first =
-    foremost (rules_of s) s.late (past_of s) (kept_of s) c t (drop 1 d.ready.items) (k.stands admin.0 admin.1) there (first_ready s c d t there read first)
+    foremost (rules_of s) s.late (past_of s) (content_of s) c t (drop 1 d.ready.items) (k.stands admin.0 admin.1) there (first_ready s c d t there read first)
 
 -- as few completions were posted as the log has events
-pub few_posted : (s : FrontState) (c : ℕ) (d : CqRegion) → IsKept s → HasAdmin s → c < length s.cqs.items → d ≡ get_or s.cqs.items c d → d.posted ≤ most_events
+pub few_posted : (s : FrontState) (c : ℕ) (d : CqRegion) → IsConsistent s → HasAdmin s → c < length s.cqs.items → d ≡ get_or s.cqs.items c d → d.posted ≤ most_events
 few_posted s c d k admin there read =
-    let posts : HoldsPosts (past_of s) (kept_of s) = (k.stands admin.0 admin.1).posts in
+    let posts : HoldsPosts (past_of s) (content_of s) = (k.stands admin.0 admin.1).posts in
     let was : d.posted ≡ length (posted_to (past_of s) c) =
-    ap (λ (z : CqKept). z.posted) (sym (cq_in-read s.cqs.items c d there read)) ∙ posts.counted c ∙ ap length (sym (posts.posted_is c)) in
+    ap (λ (z : CqContent). z.posted) (sym (cq_in-read s.cqs.items c d there read)) ∙ posts.counted c ∙ ap length (sym (posts.posted_is c)) in
     let few = posted_few (past_of s) c in
     let long : length (past_of s) ≡ length s.log.items = length-reverse s.log.items in
     let within = k.roomy.few_events in
@@ -212,37 +212,37 @@ posted-goes a b c t cqe p = record {
 }
 
 -- what is kept is that after a post
-posted-kept_of : (a b : FrontState) (c : ℕ) (t : Ready) (cqe : Cqe) → t.region < length a.sqs.items → (p : IsPosted a b c t cqe)
-    → kept_of b ≡ after_post (kept_of a) c t (drop 1 p.d.ready.items) cqe p.g.end.free
-posted-kept_of a b c t cqe there p =
+posted-content_of : (a b : FrontState) (c : ℕ) (t : Ready) (cqe : Cqe) → t.region < length a.sqs.items → (p : IsPosted a b c t cqe)
+    → content_of b ≡ after_post (content_of a) c t (drop 1 p.d.ready.items) cqe p.g.end.free
+posted-content_of a b c t cqe there p =
     let sq : sq_in b.sqs.items ≡ put_sq (sq_in a.sqs.items) t.region (record (sq_in a.sqs.items t.region) { unposted = (sq_in a.sqs.items t.region).unposted - 1 }) =
     ap sq_in p.sqs ∙ sq_in-set a.sqs.items t.region (record p.e { unposted = p.e.unposted - 1 }) there
-    ∙ ap (λ (z : SqKept). put_sq (sq_in a.sqs.items) t.region (record z { unposted = z.unposted - 1 })) (sym (sq_in-read a.sqs.items t.region p.e there p.sq_read)) in
-    let now : cq_kept p.g ≡ posted_cq (cq_kept p.d) (drop 1 p.d.ready.items) cqe p.g.end.free =
+    ∙ ap (λ (z : SqContent). put_sq (sq_in a.sqs.items) t.region (record z { unposted = z.unposted - 1 })) (sym (sq_in-read a.sqs.items t.region p.e there p.sq_read)) in
+    let now : cq_content p.g ≡ posted_cq (cq_content p.d) (drop 1 p.d.ready.items) cqe p.g.end.free =
     λ i. record { sent = p.sent i; free = p.g.end.free; posted = p.posted i; ready = (p.ready i).items; slots = p.same_end.2 i } in
     let cq : cq_in b.cqs.items ≡ put_cq (cq_in a.cqs.items) c (posted_cq (cq_in a.cqs.items c) (drop 1 p.d.ready.items) cqe p.g.end.free) =
     ap cq_in p.cqs ∙ cq_in-set a.cqs.items c p.g p.there
-    ∙ ap (λ (z : CqKept). put_cq (cq_in a.cqs.items) c z) now
-    ∙ ap (λ (z : CqKept). put_cq (cq_in a.cqs.items) c (posted_cq z (drop 1 p.d.ready.items) cqe p.g.end.free)) (sym (cq_in-read a.cqs.items c p.d p.there p.cq_read)) in
+    ∙ ap (λ (z : CqContent). put_cq (cq_in a.cqs.items) c z) now
+    ∙ ap (λ (z : CqContent). put_cq (cq_in a.cqs.items) c (posted_cq z (drop 1 p.d.ready.items) cqe p.g.end.free)) (sym (cq_in-read a.cqs.items c p.d p.there p.cq_read)) in
     let nsq : length b.sqs.items ≡ length a.sqs.items = ap length p.sqs ∙ length-set a.sqs.items t.region _ in
     let ncq : length b.cqs.items ≡ length a.cqs.items = ap length p.cqs ∙ length-set a.cqs.items c p.g in
     λ i. record { sq = sq i; cq = cq i; nsq = nsq i; ncq = ncq i; board = p.board i; table = p.table i; outstanding = p.outstanding i; deletion = p.deletion i; jobs = p.jobs i }
 
 -- and it is kept
-pub posted-kept : (a b : FrontState) (c : ℕ) (t : Ready) (cqe : Cqe) → IsKept a → HasAdmin a → IsPosted a b c t cqe → IsKept b
+pub posted-kept : (a b : FrontState) (c : ℕ) (t : Ready) (cqe : Cqe) → IsConsistent a → HasAdmin a → IsPosted a b c t cqe → IsConsistent b
 posted-kept a b c t cqe k admin p =
     let goes : Goes a b = posted-goes a b c t cqe p in
     let first : (cq_in a.cqs.items c).ready ≡ t ∷ drop 1 p.d.ready.items = first_ready a c p.d t p.there p.cq_read p.first in
-    let f : IsForemost (kept_of a) c t = front_foremost a c p.d t k admin p.there p.cq_read p.first in
+    let f : IsForemost (content_of a) c t = front_foremost a c p.d t k admin p.there p.cq_read p.first in
     let past : past_of b ≡ post_event c t cqe ∷ past_of a = ap reverse p.log ∙ past-push a.log.items (post_event c t cqe) in
     let long : length b.log.items ≡ length a.log.items + 1 = ap length p.log ∙ length_push a.log.items (post_event c t cqe) in
     let few : length b.log.items ≤ b.config.max_events = rw p.config (let room = p.room in omega (arith, long, room)) in
-    let kept : kept_of b ≡ after_post (kept_of a) c t (drop 1 p.d.ready.items) cqe p.g.end.free = posted-kept_of a b c t cqe f.there p in
-    let stands : Stands (rules_of a) a.late (past_of b) (kept_of b) =
-    subst (λ (z : Past). Stands (rules_of a) a.late z (kept_of b)) (sym past)
-    (subst (λ (z : Kept). Stands (rules_of a) a.late (post_event c t cqe ∷ past_of a) z) (sym kept)
-    (stands-post (rules_of a) a.late (past_of a) (kept_of a) c t (drop 1 p.d.ready.items) cqe cqe.sqid p.g.end.free (k.stands admin.0 admin.1)
-    (completion_can_be_posted (past_of a) (kept_of a) c t (drop 1 p.d.ready.items) cqe first p.there f p.completion))) in
+    let kept : content_of b ≡ after_post (content_of a) c t (drop 1 p.d.ready.items) cqe p.g.end.free = posted-content_of a b c t cqe f.there p in
+    let stands : Stands (rules_of a) a.late (past_of b) (content_of b) =
+    subst (λ (z : Past). Stands (rules_of a) a.late z (content_of b)) (sym past)
+    (subst (λ (z : Content). Stands (rules_of a) a.late (post_event c t cqe ∷ past_of a) z) (sym kept)
+    (stands-post (rules_of a) a.late (past_of a) (content_of a) c t (drop 1 p.d.ready.items) cqe cqe.sqid p.g.end.free (k.stands admin.0 admin.1)
+    (completion_can_be_posted (past_of a) (content_of a) c t (drop 1 p.d.ready.items) cqe first p.there f p.completion))) in
     kept_after a b admin goes
     (roomy-goes a b k.roomy goes (ap (λ z. z.sq_regions) p.table) (ap (λ z. z.cq_regions) p.table) few)
     (λ e. pushed-not_empty a.log.items (post_event c t cqe) (sym p.log ∙ e)) stands
@@ -255,11 +255,11 @@ put_back cqs c d g read same = ap (set cqs c) (same ∙ read) ∙ set-get_or cqs
 pub same_first : (s : FrontState) (c : ℕ) (d g : CqRegion) (t : Ready) → c < length s.cqs.items → d ≡ get_or s.cqs.items c d → g ≡ get_or s.cqs.items c g
     → slice_get d.ready.items 0 ≡ Some t → slice_get g.ready.items 0 ≡ Some t
 same_first s c d g t there read again first =
-    ap (λ (z : CqKept). slice_get z.ready 0) (sym (cq_in-read s.cqs.items c g there again) ∙ cq_in-read s.cqs.items c d there read) ∙ first
+    ap (λ (z : CqContent). slice_get z.ready 0) (sym (cq_in-read s.cqs.items c g there again) ∙ cq_in-read s.cqs.items c d there read) ∙ first
 
 -- the submission region of the completion that became ready first has an unposted place
-pub front_unposted : (s : FrontState) (c : ℕ) (t : Ready) (e : SqRegion) → IsForemost (kept_of s) c t → e ≡ get_or s.sqs.items t.region e → 1 ≤ e.unposted
-front_unposted s c t e f read = let same = ap (λ (z : SqKept). z.unposted) (sq_in-read s.sqs.items t.region e f.there read) in let some = f.unposted in omega (arith, same, some)
+pub front_unposted : (s : FrontState) (c : ℕ) (t : Ready) (e : SqRegion) → IsForemost (content_of s) c t → e ≡ get_or s.sqs.items t.region e → 1 ≤ e.unposted
+front_unposted s c t e f read = let same = ap (λ (z : SqContent). z.unposted) (sq_in-read s.sqs.items t.region e f.there read) in let some = f.unposted in omega (arith, same, some)
 
 -- ---- from step to step
 -- the log doesn't get shorter
@@ -283,9 +283,9 @@ pub others_drained : (a b : FrontState) (c : ℕ) (g : CqRegion) → c < length 
     → (x : ℕ) → (x ≡ c → ⊥) → IsDrained a x → IsDrained b x
 others_drained a b c g there cqs x other h =
     let same : cq_in b.cqs.items x ≡ cq_in a.cqs.items x =
-    ap (λ (z : List CqRegion). cq_in z x) cqs ∙ look-set cq_kept no_cq a.cqs.items c g there x
+    ap (λ (z : List CqRegion). cq_in z x) cqs ∙ look-set cq_content no_cq a.cqs.items c g there x
     ∙ elim (eqb_tells x c) [
       | inl p ↦ absurd (other p.1)
       | inr p ↦ rw p.0 refl
     ] in
-    subst (λ (z : CqKept). (z.ready ≡ []) ⊎ (z.free ≡ 0)) (sym same) h
+    subst (λ (z : CqContent). (z.ready ≡ []) ⊎ (z.free ≡ 0)) (sym same) h

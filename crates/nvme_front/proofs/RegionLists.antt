@@ -17,9 +17,9 @@ use Rattle.nvme_state.specs.declared.region.SqRegion.{SqRegion}
 use Rattle.nvme_state.specs.declared.region.CqRegion.{CqRegion}
 use Rattle.nvme_front.specs.declared.state.FrontState.{FrontState}
 use Rattle.nvme_state.specs.inside.Jobs.{JobsView}
-use Rattle.nvme_state.specs.inside.Kept.{no_sq, no_cq, Kept}
+use Rattle.nvme_state.specs.inside.Content.{no_sq, no_cq, Content}
 use Rattle.nvme_state.specs.Regions.{sq_steps, cq_steps}
-use Rattle.nvme_front.specs.inside.State.{sq_kept, cq_kept, sq_in, cq_in, kept_of, gets_of, puts_of, rules_of}
+use Rattle.nvme_front.specs.inside.State.{sq_content, cq_content, sq_in, cq_in, content_of, gets_of, puts_of, rules_of}
 use Rattle.nvme_state.proofs.RegionSteps.{region_of_get, region_of_put, first_table, table_of-additions, AddsRegions, adds_regions, sq-adds_more, cq-adds_more, table_of-regions}
 
 -- what a front with these regions is given
@@ -27,8 +27,8 @@ abbrev pub rules_with : Mechanism → Start → List ℕ → List SqRegion → L
 rules_with mechanism start sizes sqs cqs = record { mechanism = mechanism; start = start; sizes = sizes; regions = cq_steps (puts_of cqs) ++ sq_steps (gets_of sqs) }
 
 -- what a front with these regions keeps
-abbrev pub kept_with : List SqRegion → List CqRegion → BoardView → TableView → ℕ → Option PendingDelete → JobsView → Kept
-kept_with sqs cqs board table outstanding deletion jobs =
+abbrev pub content_with : List SqRegion → List CqRegion → BoardView → TableView → ℕ → Option PendingDelete → JobsView → Content
+content_with sqs cqs board table outstanding deletion jobs =
     record { sq = sq_in sqs; cq = cq_in cqs; nsq = length sqs; ncq = length cqs; board = board; table = table; outstanding = outstanding; deletion = deletion; jobs = jobs }
 
 -- those of a state
@@ -37,8 +37,8 @@ pub rules_of-lists : (s : FrontState)
 rules_of-lists s = refl
 
 -- and what it keeps
-pub kept_of-lists : (s : FrontState) → kept_of s ≡ kept_with s.sqs.items s.cqs.items s.board s.table s.outstanding s.deletion s.jobs
-kept_of-lists s = refl
+pub content_of-lists : (s : FrontState) → content_of s ≡ content_with s.sqs.items s.cqs.items s.board s.table s.outstanding s.deletion s.jobs
+content_of-lists s = refl
 
 -- ---- the regions of the rules
 module _ (mechanism : Mechanism) (start : Start) (sizes : List ℕ) (sqs : List SqRegion) (cqs : List CqRegion) where
@@ -117,7 +117,7 @@ sq_in-before (s ∷ sqs) x zero lt = refl
 sq_in-before (s ∷ sqs) x (suc r) lt = sq_in-before sqs x r (omega arith)
 
 -- the region that was added last
-pub sq_in-last : (sqs : List SqRegion) (x : SqRegion) → sq_in (sqs ++ x ∷ []) (length sqs) ≡ sq_kept x
+pub sq_in-last : (sqs : List SqRegion) (x : SqRegion) → sq_in (sqs ++ x ∷ []) (length sqs) ≡ sq_content x
 sq_in-last [] x = refl
 sq_in-last (s ∷ sqs) x = sq_in-last sqs x
 
@@ -134,7 +134,7 @@ cq_in-before (s ∷ cqs) x zero lt = refl
 cq_in-before (s ∷ cqs) x (suc c) lt = cq_in-before cqs x c (omega arith)
 
 -- the last one,
-pub cq_in-last : (cqs : List CqRegion) (x : CqRegion) → cq_in (cqs ++ x ∷ []) (length cqs) ≡ cq_kept x
+pub cq_in-last : (cqs : List CqRegion) (x : CqRegion) → cq_in (cqs ++ x ∷ []) (length cqs) ≡ cq_content x
 cq_in-last [] x = refl
 cq_in-last (s ∷ cqs) x = cq_in-last cqs x
 

@@ -10,10 +10,10 @@ use Rattle.nvme_admin.specs.declared.verdict.SqEntry.{SqEntry}
 use Rattle.nvme_state.specs.declared.region.SqRegion.{SqRegion}
 use Rattle.nvme_front.specs.declared.state.FrontState.{FrontState}
 use Rattle.nvme_state.specs.declared.attachment.Attachment.{Attachment}
-use Rattle.nvme_state.specs.inside.Kept.{SqKept, no_sq}
+use Rattle.nvme_state.specs.inside.Content.{SqContent, no_sq}
 use Rattle.nvme_log.specs.Limits.{window_of}
-use Rattle.nvme_front.specs.inside.State.{sq_in, sq_kept, rules_of}
-use Rattle.nvme_front.specs.inside.Room.{IsKept}
+use Rattle.nvme_front.specs.inside.State.{sq_in, sq_content, rules_of}
+use Rattle.nvme_front.specs.inside.Room.{IsConsistent}
 use Rattle.nvme_front.proofs.States.{sq_in-read, look-set, IsSame-sym}
 use Rattle.nvme_front.proofs.Fetches.{queue_of, open_is, region_there}
 use Rattle.nvme_front.specs.inside.Goes.{Goes, HasAdmin, IsSame, IsTaken, IsScanned, IsFullSq}
@@ -43,13 +43,13 @@ taken_closing s o entry is closing = rw is (λ open_now. absurd (cc (closing, op
 pub taken_full : (s : FrontState) (o : Option SqEntry) (entry : SqEntry) (d : SqRegion) → o ≡ Some entry → entry.region < length s.sqs.items
     → d ≡ get_or s.sqs.items entry.region d → nat_le (window_of d.end.slots) (length d.window.items) ≡ true → (d.window.items ≡ [] → ⊥) → IsTaken s o
 taken_full s o entry d is there read full some =
-    rw is (λ open_now. inl (subst (λ (x : SqKept). IsFullSq x) (sym (sq_in-read s.sqs.items entry.region d there read)) (leb-true (window_of d.end.slots) (length d.window.items) full, some)))
+    rw is (λ open_now. inl (subst (λ (x : SqContent). IsFullSq x) (sym (sq_in-read s.sqs.items entry.region d there read)) (leb-true (window_of d.end.slots) (length d.window.items) full, some)))
 
 -- nor does a queue whose ring is known to give nothing
 pub taken_empty : (s : FrontState) (o : Option SqEntry) (entry : SqEntry) (d : SqRegion) → o ≡ Some entry → entry.region < length s.sqs.items
     → d ≡ get_or s.sqs.items entry.region d → d.end.known ≡ [] → IsTaken s o
 taken_empty s o entry d is there read none =
-    rw is (λ open_now. inr (ap (λ (x : SqKept). x.known) (sq_in-read s.sqs.items entry.region d there read) ∙ none))
+    rw is (λ open_now. inr (ap (λ (x : SqContent). x.known) (sq_in-read s.sqs.items entry.region d there read) ∙ none))
 
 -- nor does one that isn't there
 taken_none : (s : FrontState) (o : Option SqEntry) → ((entry : SqEntry) → o ≡ Some entry → ⊥) → IsTaken s o
@@ -57,7 +57,7 @@ taken_none s None none = tt
 taken_none s (Some entry) none = absurd (none entry refl)
 
 -- no queue above the allotted number is there
-pub scanned_above : (s : FrontState) → IsKept s → HasAdmin s → (q : ℕ) → s.table.nsq < q → IsScanned s q
+pub scanned_above : (s : FrontState) → IsConsistent s → HasAdmin s → (q : ℕ) → s.table.nsq < q → IsScanned s q
 scanned_above s kept admin q above =
     let tabled = (kept.stands admin.0 admin.1).tabled in
     taken_none s (sq_of s.table q) (λ entry is.
@@ -85,7 +85,7 @@ qid_or None = 0
 qid_or (Some a) = a.qid
 
 -- where a queue of the table isn't closing, and its region was replaced
-module _ (a b : FrontState) (kept : IsKept a) (admin : HasAdmin a) (q : ℕ) (entry : SqEntry) (in_table : sq_of a.table q ≡ Some entry) (is_open : entry.closing ≡ false)
+module _ (a b : FrontState) (kept : IsConsistent a) (admin : HasAdmin a) (q : ℕ) (entry : SqEntry) (in_table : sq_of a.table q ≡ Some entry) (is_open : entry.closing ≡ false)
     (g : SqRegion) (table : b.table ≡ a.table) (sqs : b.sqs.items ≡ set a.sqs.items entry.region g) (x : ℕ) (other : x ≡ q → ⊥) where
   -- another open queue has another region
   other_region : (e : SqEntry) → sq_of a.table x ≡ Some e → e.closing ≡ false → e.region ≡ entry.region → ⊥
@@ -99,7 +99,7 @@ module _ (a b : FrontState) (kept : IsKept a) (admin : HasAdmin a) (q : ℕ) (en
   same_region : (e : SqEntry) → sq_of a.table x ≡ Some e → e.closing ≡ false → sq_in b.sqs.items e.region ≡ sq_in a.sqs.items e.region
   same_region e is open_now =
       let there = region_there a kept admin q entry in_table is_open in
-      ap (λ (xs : List SqRegion). sq_in xs e.region) sqs ∙ look-set sq_kept no_sq a.sqs.items entry.region g there e.region
+      ap (λ (xs : List SqRegion). sq_in xs e.region) sqs ∙ look-set sq_content no_sq a.sqs.items entry.region g there e.region
       ∙ elim (eqb_tells e.region entry.region) [
         | inl p ↦ absurd (other_region e is open_now p.1)
         | inr p ↦ rw p.0 refl
@@ -108,7 +108,7 @@ module _ (a b : FrontState) (kept : IsKept a) (admin : HasAdmin a) (q : ℕ) (en
   taken_other : (o : Option SqEntry) → sq_of a.table x ≡ o → IsTaken a o → IsTaken b o
   taken_other None is h = tt
   taken_other (Some e) is h = λ open_now.
-      subst (λ (s : SqKept). IsFullSq s ⊎ (s.known ≡ [])) (sym (same_region e is open_now)) (h open_now)
+      subst (λ (s : SqContent). IsFullSq s ⊎ (s.known ≡ [])) (sym (same_region e is open_now)) (h open_now)
 
   -- so it gives nothing where it gave nothing
   pub others_scanned : IsScanned a x → IsScanned b x

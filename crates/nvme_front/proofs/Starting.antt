@@ -20,8 +20,8 @@ use Rattle.nvme_log.specs.Queues.{Queue, admin_queue}
 use Rattle.nvme_log.specs.Places.{Place, entry_at, fate_of, is_waiting}
 use Rattle.nvme_log.specs.Laws.{as_open}
 use Rattle.nvme_state.specs.inside.Jobs.{dispatched_place}
-use Rattle.nvme_state.specs.inside.Kept.{SqKept, Kept}
-use Rattle.nvme_front.specs.inside.State.{kept_of, rules_of, gets_of, puts_of}
+use Rattle.nvme_state.specs.inside.Content.{SqContent, Content}
+use Rattle.nvme_front.specs.inside.State.{content_of, rules_of, gets_of, puts_of}
 use Rattle.nvme_state.specs.inside.Standing.{HoldsSq, HoldsReady, HoldsCounts, HoldsPosts, HoldsQueues, HoldsDeletion, HoldsTable, Accounts, HasOwnStatus, IsReady, Stands, on_board, as_deletion, held_by, hand_of, times_in, times_held, times_ready, IsFresh, IsFreshSq}
 use Rattle.nvme_log.specs.Places.{one_if}
 use Rattle.nvme_state.proofs.JobSteps.{jobs-when-fresh}
@@ -29,7 +29,7 @@ use Rattle.nvme_state.proofs.Clearing.{sum_by-none, over_regions-none}
 use Rattle.nvme_state.proofs.RegionSteps.{only_adds, added_sqs, added_cqs, first_table, table_of-additions, adds_regions}
 
 -- a region of which nothing was fetched holds no place of the empty log
-pub holds_first : (r : ℕ) (s : SqKept) → IsFreshSq r s → HoldsSq [] r s
+pub holds_first : (r : ℕ) (s : SqContent) → IsFreshSq r s → HoldsSq [] r s
 holds_first r s x = record {
   fetched_is = sym x.got;
   counted = x.fetched ∙ sym (ap (λ xs. length xs) x.got);
@@ -81,7 +81,7 @@ none_served i b = ap (λ (x : Bool). one_if (x && b)) (le-ltb i 0 (omega arith))
 abbrev pub first_attachment : Attachment
 first_attachment = record { qid = 0; cq_region = 0 }
 
-module _ (rules : FrontRules) (late : Bool) (k : Kept) (f : IsFresh rules late k) (adds : only_adds rules.regions ≡ true) (sqs : 0 < k.nsq) where
+module _ (rules : FrontRules) (late : Bool) (k : Content) (f : IsFresh rules late k) (adds : only_adds rules.regions ≡ true) (sqs : 0 < k.nsq) where
   -- the table is that of the regions alone
   pub shown : Shows k.table (first_table rules.start (added_sqs rules.regions) (added_cqs rules.regions))
   shown = subst (λ (t : QueueTable). Shows k.table t) (table_of-additions rules.start rules.regions adds) f.table
@@ -98,7 +98,7 @@ module _ (rules : FrontRules) (late : Bool) (k : Kept) (f : IsFresh rules late k
     | inl there ↦ f.sqs r there
     | inr past ↦
         let other : (r == 0) ≡ false = ne_eqb r 0 (λ z. omega (arith, z)) in
-        subst (λ (s : SqKept). IsFreshSq r s) (sym (f.no_sqs r past)) (record {
+        subst (λ (s : SqContent). IsFreshSq r s) (sym (f.no_sqs r past)) (record {
           got = refl;
           window = refl;
           fetched = refl;
@@ -111,7 +111,7 @@ module _ (rules : FrontRules) (late : Bool) (k : Kept) (f : IsFresh rules late k
   pub opened_first : (r : ℕ) (a : Attachment) → (k.sq r).queue ≡ Some a → (r ≡ 0) × (first_attachment ≡ a)
   opened_first r a h = only_zero r first_attachment a (sym (each_sq r).queue ∙ h)
 
-module _ (rules : FrontRules) (late : Bool) (k : Kept) (f : IsFresh rules late k) (adds : only_adds rules.regions ≡ true) (sqs : 0 < k.nsq) (cqs : 0 < k.ncq) where
+module _ (rules : FrontRules) (late : Bool) (k : Content) (f : IsFresh rules late k) (adds : only_adds rules.regions ≡ true) (sqs : 0 < k.nsq) (cqs : 0 < k.ncq) where
   -- the table has the admin completion queue alone
   table_cq : (q : ℕ) → cq_of k.table q ≡ (if q == 0 then Some 0 else None)
   table_cq q =
@@ -227,7 +227,7 @@ module _ (rules : FrontRules) (late : Bool) (k : Kept) (f : IsFresh rules late k
   }
 
 -- a front with both admin regions and no event stands at the empty log
-pub stands_when_fresh : (rules : FrontRules) (late : Bool) (k : Kept) → IsFresh rules late k → only_adds rules.regions ≡ true → 0 < k.nsq → 0 < k.ncq
+pub stands_when_fresh : (rules : FrontRules) (late : Bool) (k : Content) → IsFresh rules late k → only_adds rules.regions ≡ true → 0 < k.nsq → 0 < k.ncq
     → Stands rules late [] k
 stands_when_fresh rules late k f adds sqs cqs = record {
   regions = λ r. holds_first r (k.sq r) (each_sq rules late k f adds sqs r);
@@ -243,7 +243,7 @@ stands_when_fresh rules late k f adds sqs cqs = record {
 }
 
 -- the same of a state
-pub stands_when_first : (s : FrontState) → IsFresh (rules_of s) s.late (kept_of s) → 0 < length s.sqs.items → 0 < length s.cqs.items
-    → Stands (rules_of s) s.late [] (kept_of s)
+pub stands_when_first : (s : FrontState) → IsFresh (rules_of s) s.late (content_of s) → 0 < length s.sqs.items → 0 < length s.cqs.items
+    → Stands (rules_of s) s.late [] (content_of s)
 stands_when_first s f sqs cqs =
-    stands_when_fresh (rules_of s) s.late (kept_of s) f (adds_regions (gets_of s.sqs.items) (puts_of s.cqs.items)).only sqs cqs
+    stands_when_fresh (rules_of s) s.late (content_of s) f (adds_regions (gets_of s.sqs.items) (puts_of s.cqs.items)).only sqs cqs

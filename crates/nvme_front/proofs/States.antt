@@ -20,11 +20,11 @@ use Rattle.nvme_log.specs.Rules.{FrontRules}
 use Rattle.nvme_pool.specs.Seat.{SeatView, SameSeat, rings_at}
 use Rattle.nvme_state.specs.inside.Jobs.{JobsView}
 use Rattle.nvme_state.specs.Hands.{gained_count}
-use Rattle.nvme_state.specs.inside.Kept.{no_sq, no_cq, put_sq, put_cq}
+use Rattle.nvme_state.specs.inside.Content.{no_sq, no_cq, put_sq, put_cq}
 use Rattle.nvme_state.specs.Regions.{sq_steps, cq_steps}
-use Rattle.nvme_front.specs.inside.State.{sq_kept, cq_kept, sq_in, cq_in, gets_of, puts_of, kept_of, rules_of, past_of}
+use Rattle.nvme_front.specs.inside.State.{sq_content, cq_content, sq_in, cq_in, gets_of, puts_of, content_of, rules_of, past_of}
 use Rattle.nvme_state.specs.inside.Standing.{Stands}
-use Rattle.nvme_front.specs.inside.Room.{IsKept, IsRoomy, window_room, window_limit, ready_room, sq_region, cq_region}
+use Rattle.nvme_front.specs.inside.Room.{IsConsistent, IsRoomy, window_room, window_limit, ready_room, sq_region, cq_region}
 use Rattle.nvme_front.specs.inside.Goes.{Goes, IsSame, HasAdmin, coming_at, coming_in}
 use Rattle.nvme_front.specs.Ends.{get_place, put_place}
 use Rattle.nvme_front.proofs.Comes.{comes-same}
@@ -45,18 +45,18 @@ module _ {X Y : Type 0} (f : X → Y) (d : Y) (xs : List X) (k : ℕ) (x : X) wh
   look-read h y read = get_or-map f xs k y d h ∙ ap f (sym read)
 
 -- the submission regions after one was replaced
-pub sq_in-set : (sqs : List SqRegion) (r : ℕ) (g : SqRegion) → r < length sqs → sq_in (set sqs r g) ≡ put_sq (sq_in sqs) r (sq_kept g)
-sq_in-set sqs r g h = λ t n. look-set sq_kept no_sq sqs r g h n t
+pub sq_in-set : (sqs : List SqRegion) (r : ℕ) (g : SqRegion) → r < length sqs → sq_in (set sqs r g) ≡ put_sq (sq_in sqs) r (sq_content g)
+sq_in-set sqs r g h = λ t n. look-set sq_content no_sq sqs r g h n t
 
-pub cq_in-set : (cqs : List CqRegion) (c : ℕ) (g : CqRegion) → c < length cqs → cq_in (set cqs c g) ≡ put_cq (cq_in cqs) c (cq_kept g)
-cq_in-set cqs c g h = λ t n. look-set cq_kept no_cq cqs c g h n t
+pub cq_in-set : (cqs : List CqRegion) (c : ℕ) (g : CqRegion) → c < length cqs → cq_in (set cqs c g) ≡ put_cq (cq_in cqs) c (cq_content g)
+cq_in-set cqs c g h = λ t n. look-set cq_content no_cq cqs c g h n t
 
 -- a region that was read
-pub sq_in-read : (sqs : List SqRegion) (r : ℕ) (d : SqRegion) → r < length sqs → d ≡ get_or sqs r d → sq_in sqs r ≡ sq_kept d
-sq_in-read sqs r d h read = look-read sq_kept no_sq sqs r d h d read
+pub sq_in-read : (sqs : List SqRegion) (r : ℕ) (d : SqRegion) → r < length sqs → d ≡ get_or sqs r d → sq_in sqs r ≡ sq_content d
+sq_in-read sqs r d h read = look-read sq_content no_sq sqs r d h d read
 
-pub cq_in-read : (cqs : List CqRegion) (c : ℕ) (d : CqRegion) → c < length cqs → d ≡ get_or cqs c d → cq_in cqs c ≡ cq_kept d
-cq_in-read cqs c d h read = look-read cq_kept no_cq cqs c d h d read
+pub cq_in-read : (cqs : List CqRegion) (c : ℕ) (d : CqRegion) → c < length cqs → d ≡ get_or cqs c d → cq_in cqs c ≡ cq_content d
+cq_in-read cqs c d h read = look-read cq_content no_cq cqs c d h d read
 
 -- ---- the log backwards
 pub past-push : (xs : List Event) (e : Event) → reverse (xs ++ e ∷ []) ≡ e ∷ reverse xs
@@ -252,18 +252,18 @@ ready_room-is s h c d l read =
 
 -- ---- what is kept
 -- what stands at the longer log is kept
-pub kept_after : (a b : FrontState) → HasAdmin a → Goes a b → IsRoomy b → (b.log.items ≡ [] → ⊥) → Stands (rules_of a) a.late (past_of b) (kept_of b) → IsKept b
+pub kept_after : (a b : FrontState) → HasAdmin a → Goes a b → IsRoomy b → (b.log.items ≡ [] → ⊥) → Stands (rules_of a) a.late (past_of b) (content_of b) → IsConsistent b
 kept_after a b admin g roomy some stands = record {
   fresh = λ e. absurd (some e);
-  stands = λ _ _. subst (λ (l : Bool). Stands (rules_of b) l (past_of b) (kept_of b)) (sym g.late)
-      (subst (λ (r : FrontRules). Stands r a.late (past_of b) (kept_of b)) (sym (rules-goes a b g)) stands);
+  stands = λ _ _. subst (λ (l : Bool). Stands (rules_of b) l (past_of b) (content_of b)) (sym g.late)
+      (subst (λ (r : FrontRules). Stands r a.late (past_of b) (content_of b)) (sym (rules-goes a b g)) stands);
   begun = λ _. admin-goes a b g admin;
   roomy = roomy;
 }
 
 -- what is kept where nothing changed
-pub same_kept : (a b : FrontState) → IsSame a b → kept_of b ≡ kept_of a
-same_kept a b s = λ t. record {
+pub same_content : (a b : FrontState) → IsSame a b → content_of b ≡ content_of a
+same_content a b s = λ t. record {
   sq = sq_in (s.sqs t);
   cq = cq_in (s.cqs t);
   nsq = length (s.sqs t);
@@ -276,10 +276,10 @@ same_kept a b s = λ t. record {
 }
 
 -- nothing changed but the room of the log
-pub kept_same : (a b : FrontState) → IsSame a b → IsKept a → IsKept b
+pub kept_same : (a b : FrontState) → IsSame a b → IsConsistent a → IsConsistent b
 kept_same a b s k =
     let rules : rules_of b ≡ rules_of a = rules-goes a b (Goes-same a b s) in
-    let kept : kept_of b ≡ kept_of a = same_kept a b s in
+    let kept : content_of b ≡ content_of a = same_content a b s in
     let past : past_of b ≡ past_of a = ap reverse s.log in
     record {
       fresh = λ e. rw (rules, s.late, kept) (k.fresh (sym s.log ∙ e));

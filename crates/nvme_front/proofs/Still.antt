@@ -26,7 +26,7 @@ use Rattle.nvme_state.specs.inside.Jobs.{JobsView}
 use Rattle.nvme_state.specs.Balance.{Balances}
 use Rattle.nvme_state.proofs.Balances.{balances-same, balances-still, balances-trans}
 use Rattle.nvme_front.specs.inside.State.{sq_in, cq_in}
-use Rattle.nvme_front.specs.inside.Room.{IsKept}
+use Rattle.nvme_front.specs.inside.Room.{IsConsistent}
 use Rattle.nvme_front.specs.inside.Goes.{Goes, IsSame, HasAdmin, AllDrained, AllScanned, IsTaken, IsFullSq, next_pick}
 use Rattle.nvme_log.specs.Histories.{picks_in}
 use Rattle.nvme_front.specs.inside.State.{view_of}
@@ -117,7 +117,7 @@ done_by a h g b ah hg gb ends false false false more_handed none_handed more_gai
 
 -- ---- what is done after the jobs and the completions
 -- an idle front, by its pending deletion
-idle_by : (b c : FrontState) → HasAdmin c → IsKept c → AllDrained c → All IsUnknown c.jobs.hands.seat.ends → IsSame b c
+idle_by : (b c : FrontState) → HasAdmin c → IsConsistent c → AllDrained c → All IsUnknown c.jobs.hands.seat.ends → IsSame b c
     → (o : Option PendingDelete) → b.deletion ≡ o → IsWaiting b o → IsIdleFront (view_of c)
 idle_by b c admin kept drained none_gained bc None none waiting =
     idle_front c kept admin (bc.deletion ∙ none) drained none_gained (scanned_same b c bc waiting.0) (pick_same b c bc ∙ waiting.1)
@@ -126,14 +126,14 @@ idle_by b c admin kept drained none_gained bc (Some d) pending waiting =
     (subst (λ (sqs : List SqRegion). (sq_in sqs d.region).unposted ≢ 0) (sym bc.sqs) waiting)
 
 -- a stalled front
-stalled_by : (b c : FrontState) → HasAdmin c → IsKept c → AllDrained c → All IsUnknown c.jobs.hands.seat.ends → IsSame b c → NeedsPlaces b
+stalled_by : (b c : FrontState) → HasAdmin c → IsConsistent c → AllDrained c → All IsUnknown c.jobs.hands.seat.ends → IsSame b c → NeedsPlaces b
     → IsStalledFront (view_of c)
 stalled_by b c admin kept drained none_gained bc needs =
     stalled_front c kept admin drained none_gained (next_pick b) (pick_same b c bc)
     (subst (λ (n : ℕ). IfSome (next_pick b) (λ (pick : Pick). max_outstanding < n + places_in c.sqs.items pick)) (sym bc.outstanding)
     (subst (λ (sqs : List SqRegion). IfSome (next_pick b) (λ (pick : Pick). max_outstanding < b.outstanding + places_in sqs pick)) (sym bc.sqs) needs.0)) needs.1
 
-module _ (a b c : FrontState) (admin : HasAdmin a) (kept : IsKept c) (ab : Goes a b) (bc : Goes b c) (picks : picks_in b.log.items ≡ picks_in a.log.items) where
+module _ (a b c : FrontState) (admin : HasAdmin a) (kept : IsConsistent c) (ab : Goes a b) (bc : Goes b c) (picks : picks_in b.log.items ≡ picks_in a.log.items) where
   -- where nothing was done before
   quiet_means : IsQuiet a b → (step : Step) → Proceeds step b c → StepMeans step (view_of a) (view_of c)
   quiet_means quiet Picked it = it ∙ ap (λ (n : ℕ). n + 1) picks
@@ -275,7 +275,7 @@ stray_means ticket a h g goes balanced log log' e is s =
 
 -- ---- a pick that failed
 -- the log is full, or too full for an admin pick
-pub pick_error_means : (a c d : FrontState) (e : FrontError) → HasAdmin c → c.deletion ≡ None → IsKept d → Balanced a d → picks_in d.log.items ≡ picks_in a.log.items
+pub pick_error_means : (a c d : FrontState) (e : FrontError) → HasAdmin c → c.deletion ≡ None → IsConsistent d → Balanced a d → picks_in d.log.items ≡ picks_in a.log.items
     → (e ≡ LogFull → (d.config.max_events < length d.log.items + 1) ⊎ (IsSame c d × LacksAdminEvents c))
     → ((e ≡ LogFull) ⊎ (e ≡ NoMemory)) → ErrorMeans e (view_of a) (view_of d)
 pick_error_means a c d NoMemory admin none kept balanced picks full one = (picks, balanced)

@@ -28,10 +28,10 @@ use Rattle.nvme_log.specs.Places.{waiting, entry_at}
 use Rattle.nvme_log.specs.Histories.{arbitration_of, admin_entry}
 use Rattle.nvme_log.specs.Aborts.{is_abort_entry, places_for}
 use Rattle.nvme_log.specs.Laws.{as_open}
-use Rattle.nvme_state.specs.inside.Kept.{CqKept}
-use Rattle.nvme_front.specs.inside.State.{kept_of, rules_of, past_of, sq_in}
+use Rattle.nvme_state.specs.inside.Content.{CqContent}
+use Rattle.nvme_front.specs.inside.State.{content_of, rules_of, past_of, sq_in}
 use Rattle.nvme_state.specs.inside.Standing.{Stands, on_board, as_deletion}
-use Rattle.nvme_front.specs.inside.Room.{IsKept}
+use Rattle.nvme_front.specs.inside.Room.{IsConsistent}
 use Rattle.nvme_front.specs.inside.Goes.{HasAdmin, IsDrained, IsScanned, IsTaken, IsFullSq, next_pick}
 use Rattle.nvme_front.specs.inside.Turn.{oldest_admin, places_in}
 use Rattle.nvme_front.specs.inside.State.{view_of}
@@ -44,14 +44,14 @@ use Rattle.nvme_front.proofs.EndsSeen.{known_in-kept, free_in-kept}
 
 -- ---- completions
 -- a completion region that isn't there has no ready completion
-beyond_drained : (s : FrontState) (c : ℕ) → length s.cqs.items ≤ c → ((kept_of s).cq c).ready ≡ []
-beyond_drained s c beyond = ap (λ (x : CqKept). x.ready) (cq_in-past s.cqs.items c beyond)
+beyond_drained : (s : FrontState) (c : ℕ) → length s.cqs.items ≤ c → ((content_of s).cq c).ready ≡ []
+beyond_drained s c beyond = ap (λ (x : CqContent). x.ready) (cq_in-past s.cqs.items c beyond)
 
 -- where each completion region is drained, no ready completion can be posted
-pub none_can_be_posted : (s : FrontState) → IsKept s → HasAdmin s → ((c : ℕ) → c < length s.cqs.items → IsDrained s c) → NoneCanBePosted (view_of s)
+pub none_can_be_posted : (s : FrontState) → IsConsistent s → HasAdmin s → ((c : ℕ) → c < length s.cqs.items → IsDrained s c) → NoneCanBePosted (view_of s)
 none_can_be_posted s kept admin drained = λ r i ready c goes.
     free_in-kept s c ∙
-    ready_waits_there (rules_of s) s.late (past_of s) (kept_of s) (kept.stands admin.0 admin.1)
+    ready_waits_there (rules_of s) s.late (past_of s) (content_of s) (kept.stands admin.0 admin.1)
     (λ c'. elim (cases_lt c' (length s.cqs.items)) [
       | inl there ↦ drained c' there
       | inr beyond ↦ inl (beyond_drained s c' beyond)
@@ -84,25 +84,25 @@ pub open_entry : (o : Option SqEntry) (queue : Queue) → as_open o ≡ Some que
 open_entry None queue h = absurd (cc)
 open_entry (Some e) queue h = entry_by e queue (record { region = e.region; cqid = e.cqid; class = e.class }) e.closing refl refl h
 
-module _ (s : FrontState) (h : Stands (rules_of s) s.late (past_of s) (kept_of s)) where
+module _ (s : FrontState) (h : Stands (rules_of s) s.late (past_of s) (content_of s)) where
   -- where no command waits on the board, the window of an open queue is empty
-  idle_window : IsIdle (seen_of s.board.queues) → (q : ℕ) (queue : Queue) → open_sq (past_of s) q ≡ Some queue → ((kept_of s).sq queue.region).window ≡ []
+  idle_window : IsIdle (seen_of s.board.queues) → (q : ℕ) (queue : Queue) → open_sq (past_of s) q ≡ Some queue → ((content_of s).sq queue.region).window ≡ []
   idle_window none q queue is =
-      nil_from_length ((kept_of s).sq queue.region).window
-      (idle_count s.board.queues q (on_board (kept_of s) queue) none (h.queues.board q ∙ ap (λ (o : Option Queue). option_map (on_board (kept_of s)) o) is))
+      nil_from_length ((content_of s).sq queue.region).window
+      (idle_count s.board.queues q (on_board (content_of s) queue) none (h.queues.board q ∙ ap (λ (o : Option Queue). option_map (on_board (content_of s)) o) is))
 
   -- and no place of its region waits
   idle_waiting : IsIdle (seen_of s.board.queues) → (q : ℕ) (queue : Queue) → open_sq (past_of s) q ≡ Some queue → waiting (past_of s) queue.region ≡ []
   idle_waiting none q queue is = (h.regions queue.region).waiting_is ∙ ap (λ (xs : List Candidate). map (λ (c : Candidate). c.index) xs) (idle_window none q queue is)
 
   -- an open queue that was scanned, whose window is empty, is known to get nothing
-  scanned_known : (q : ℕ) (queue : Queue) → open_sq (past_of s) q ≡ Some queue → ((kept_of s).sq queue.region).window ≡ [] → IsScanned s q
-      → ((kept_of s).sq queue.region).known ≡ []
+  scanned_known : (q : ℕ) (queue : Queue) → open_sq (past_of s) q ≡ Some queue → ((content_of s).sq queue.region).window ≡ [] → IsScanned s q
+      → ((content_of s).sq queue.region).known ≡ []
   scanned_known q queue is none scanned =
       let it = open_entry (sq_of s.table q) queue (sym (h.queues.sqs q) ∙ is) in
       let taken = subst (λ (o : Option SqEntry). IsTaken s o) it.there scanned in
-      let one : IsFullSq ((kept_of s).sq queue.region) ⊎ ((kept_of s).sq queue.region).known ≡ [] =
-      subst (λ (r : ℕ). IsFullSq ((kept_of s).sq r) ⊎ ((kept_of s).sq r).known ≡ []) it.region (taken it.is_open) in
+      let one : IsFullSq ((content_of s).sq queue.region) ⊎ ((content_of s).sq queue.region).known ≡ [] =
+      subst (λ (r : ℕ). IsFullSq ((content_of s).sq r) ⊎ ((content_of s).sq r).known ≡ []) it.region (taken it.is_open) in
       ⊎_elim (λ full. absurd (full.1 none)) (λ known. known) one
 
   -- where no command waits on the board, and each queue was scanned, nothing waits for the front
@@ -116,7 +116,7 @@ module _ (s : FrontState) (h : Stands (rules_of s) s.late (past_of s) (kept_of s
   -- the pick that the board makes next is the lawful one
   next_is : next_lawful (view_of s) ≡ next_pick s
   next_is =
-      ap (λ seen. lawful_pick s.config.mechanism (rules_of s).start.settings (arbitration_of (past_of s)) seen) (sym (seen_is_observed (past_of s) (kept_of s) h.regions h.queues))
+      ap (λ seen. lawful_pick s.config.mechanism (rules_of s).start.settings (arbitration_of (past_of s)) seen) (sym (seen_is_observed (past_of s) (content_of s) h.regions h.queues))
       ∙ sym (lawful s.config.mechanism (rules_of s).start.settings (arbitration_of (past_of s)) s.board.kept (seen_of s.board.queues) h.arbitration.stands.stands)
 
   -- the oldest admin candidate is that of the log
@@ -134,7 +134,7 @@ module _ (s : FrontState) (h : Stands (rules_of s) s.late (past_of s) (kept_of s
 
 -- ---- what the answers mean
 -- an idle front with no pending deletion
-pub idle_front : (s : FrontState) → IsKept s → HasAdmin s → s.deletion ≡ None → ((c : ℕ) → c < length s.cqs.items → IsDrained s c)
+pub idle_front : (s : FrontState) → IsConsistent s → HasAdmin s → s.deletion ≡ None → ((c : ℕ) → c < length s.cqs.items → IsDrained s c)
     → All IsUnknown s.jobs.hands.seat.ends → ((q : ℕ) → q ≤ highest_qid → IsScanned s q) → next_pick s ≡ None → IsIdleFront (view_of s)
 idle_front s kept admin none drained none_gained scanned no_pick =
     let h = kept.stands admin.0 admin.1 in
@@ -147,12 +147,12 @@ idle_front s kept admin none drained none_gained scanned no_pick =
     }
 
 -- an idle front whose deletion waits for a completion
-pub deleting_front : (s : FrontState) (d : PendingDelete) → IsKept s → HasAdmin s → s.deletion ≡ Some d → ((c : ℕ) → c < length s.cqs.items → IsDrained s c)
+pub deleting_front : (s : FrontState) (d : PendingDelete) → IsConsistent s → HasAdmin s → s.deletion ≡ Some d → ((c : ℕ) → c < length s.cqs.items → IsDrained s c)
     → All IsUnknown s.jobs.hands.seat.ends → (sq_in s.sqs.items d.region).unposted ≢ 0 → IsIdleFront (view_of s)
 deleting_front s d kept admin some drained none_gained unposted =
     let h = kept.stands admin.0 admin.1 in
     let is_pending : pending (past_of s) ≡ Some (as_deletion d) = h.deletion.pending_is ∙ ap (λ (o : Option PendingDelete). option_map as_deletion o) some in
-    let place = unposted_place (rules_of s) s.late (past_of s) (kept_of s) h d some unposted in
+    let place = unposted_place (rules_of s) s.late (past_of s) (content_of s) h d some unposted in
     record {
       nothing = subst (λ (o : Option Deletion). WaitsForNothing (view_of s) o) (sym is_pending)
           (record { index = place.index; served = place.served; unposted = place.unposted });
@@ -161,7 +161,7 @@ deleting_front s d kept admin some drained none_gained unposted =
     }
 
 -- a front whose next pick needs more places than are free
-pub stalled_front : (s : FrontState) → IsKept s → HasAdmin s → ((c : ℕ) → c < length s.cqs.items → IsDrained s c)
+pub stalled_front : (s : FrontState) → IsConsistent s → HasAdmin s → ((c : ℕ) → c < length s.cqs.items → IsDrained s c)
     → All IsUnknown s.jobs.hands.seat.ends
     → (o : Option Pick) → next_pick s ≡ o → IfSome o (λ (pick : Pick). max_outstanding < s.outstanding + places_in s.sqs.items pick) → IsSome o → IsStalledFront (view_of s)
 stalled_front s kept admin drained none_gained None is many some = absurd (cc some)
@@ -177,7 +177,7 @@ stalled_front s kept admin drained none_gained (Some pick) is many some =
     }
 
 -- a log with too few free events for the next admin pick
-pub admin_log_full : (s : FrontState) → IsKept s → HasAdmin s → s.deletion ≡ None → s.config.max_events < length s.log.items + admin_events
+pub admin_log_full : (s : FrontState) → IsConsistent s → HasAdmin s → s.deletion ≡ None → s.config.max_events < length s.log.items + admin_events
     → (o : Option Pick) → next_pick s ≡ o → IfSome o (λ (pick : Pick). (pick.qid ≡ 0) × (s.outstanding + places_in s.sqs.items pick ≤ max_outstanding)) → IsSome o → IsFullLog (view_of s)
 admin_log_full s kept admin none few None is it some = absurd (cc some)
 admin_log_full s kept admin none few (Some pick) is it some =

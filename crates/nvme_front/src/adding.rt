@@ -20,7 +20,7 @@ const ADMIN: Attachment = Attachment {
 impl FrontState {
     ghost use Rattle.std.specs.Prelude.{◌≡◌, ◌≢◌, ◌+◌, ◌<◌, [], ◌∷◌, ◌++◌, ◌||◌, Bool, true, false, length, IfOk, OnOk, IfErr, OnErr};
     ghost use Rattle.nvme_admin.specs.declared.bounds.TheConstants.{MAX_REGIONS};
-    ghost use Rattle.nvme_front.specs.inside.Room.{IsKept};
+    ghost use Rattle.nvme_front.specs.inside.Room.{IsConsistent};
     ghost use Rattle.nvme_front.specs.inside.State.{gets_of, puts_of};
     ghost use Rattle.nvme_front.specs.inside.State.{view_of};
     ghost use Rattle.nvme_front.specs.Adding.{IsAdded, IsNotAdded, submissions, completions};
@@ -29,7 +29,7 @@ impl FrontState {
 
     /// A front with no region and an empty log.
     pub fn new(alloc: Global, config: FrontConfig, seat: FrontSeat) -> FrontState
-        ensures kept { IsKept result }
+        ensures consistent { IsConsistent result }
         ensures config { result.config ≡ config }
         ensures no_sqs { result.sqs.items ≡ [] }
         ensures no_cqs { result.cqs.items ≡ [] }
@@ -62,9 +62,9 @@ impl FrontState {
 
     /// Adds a submission region, with room for its window and for jobs. Region 0 is the admin queue's, which is open from then on.
     pub fn add_sq(&mut self, end: GetEnd<Sqe>) -> Result<u8, (AddError, GetEnd<Sqe>)>
-        requires kept { IsKept self.old }
+        requires consistent { IsConsistent self.old }
         requires nothing_got { end.got ≡ [] }
-        ensures kept { IsKept self.new }
+        ensures consistent { IsConsistent self.new }
         ensures added { IfOk result (λ r. IsAdded submissions end r (view_of self.old) (view_of self.new)) }
         ensures refused { IfErr result (λ e. (e.1 ≡ end) × IsNotAdded submissions end e.0 (view_of self.old) (view_of self.new)) }
     {
@@ -104,9 +104,9 @@ impl FrontState {
 
     /// Adds a completion region, with room for its ready completions.
     pub fn add_cq(&mut self, end: PutEnd<Cqe>) -> Result<u8, (AddError, PutEnd<Cqe>)>
-        requires kept { IsKept self.old }
+        requires consistent { IsConsistent self.old }
         requires nothing_sent { end.sent ≡ [] }
-        ensures kept { IsKept self.new }
+        ensures consistent { IsConsistent self.new }
         ensures added { IfOk result (λ c. IsAdded completions end c (view_of self.old) (view_of self.new)) }
         ensures refused { IfErr result (λ e. (e.1 ≡ end) × IsNotAdded completions end e.0 (view_of self.old) (view_of self.new)) }
     {

@@ -13,7 +13,7 @@ impl FrontState {
     ghost use Rattle.nvme_admin.specs.declared.verdict.Verdict.TheVariants as verdict;
     ghost use Rattle.nvme_state.specs.declared.candidate.Candidate.{Candidate};
     ghost use Rattle.nvme_front.specs.inside.Applied.{IsApplied, HasAborted, HasNoneNamed};
-    ghost use Rattle.nvme_front.specs.inside.Room.{IsKept};
+    ghost use Rattle.nvme_front.specs.inside.Room.{IsConsistent};
     ghost use Rattle.nvme_front.specs.inside.Goes.{Goes, IsSame};
     ghost use Rattle.nvme_front.specs.inside.State.{gets_of};
     ghost use Rattle.nvme_log.specs.Histories.{picks_in};
@@ -21,7 +21,7 @@ impl FrontState {
     // The answer of an admin command is ready.
     fn answer(&mut self, candidate: Candidate, status: Status, dw0: u32)
         requires applied { (closing : Option ℕ) × IsApplied self.old candidate (verdict.Done status dw0) closing }
-        ensures kept { IsKept self.new }
+        ensures consistent { IsConsistent self.new }
         ensures goes { Goes self.old self.new }
         ensures jobs { self.new.jobs ≡ self.old.jobs }
         ensures gets { gets_of self.new.sqs.items ≡ gets_of self.old.sqs.items }
@@ -33,7 +33,7 @@ impl FrontState {
     // A submission queue opens, with an empty window. (Create I/O Submission Queue)
     fn open_sq(&mut self, candidate: Candidate, qid: u16, region: u8, cqid: u16, class: Class)
         requires applied { (closing : Option ℕ) × IsApplied self.old candidate (verdict.OpenSq qid region cqid class) closing }
-        ensures kept { IsKept self.new }
+        ensures consistent { IsConsistent self.new }
         ensures goes { Goes self.old self.new }
         ensures jobs { self.new.jobs ≡ self.old.jobs }
         ensures gets { gets_of self.new.sqs.items ≡ gets_of self.old.sqs.items }
@@ -61,7 +61,7 @@ impl FrontState {
     // A completion queue opens. (Create I/O Completion Queue)
     fn open_cq(&mut self, candidate: Candidate, qid: u16, region: u8)
         requires applied { (closing : Option ℕ) × IsApplied self.old candidate (verdict.OpenCq qid region) closing }
-        ensures kept { IsKept self.new }
+        ensures consistent { IsConsistent self.new }
         ensures goes { Goes self.old self.new }
         ensures jobs { self.new.jobs ≡ self.old.jobs }
         ensures gets { gets_of self.new.sqs.items ≡ gets_of self.old.sqs.items }
@@ -76,7 +76,7 @@ impl FrontState {
     // A completion queue is closed, which was open on a region before. (Delete I/O Completion Queue)
     fn close_cq(&mut self, candidate: Candidate, qid: u16, closing: Option<u8>)
         requires applied { IsApplied self.old candidate (verdict.CloseCq qid) closing }
-        ensures kept { IsKept self.new }
+        ensures consistent { IsConsistent self.new }
         ensures goes { Goes self.old self.new }
         ensures jobs { self.new.jobs ≡ self.old.jobs }
         ensures gets { gets_of self.new.sqs.items ≡ gets_of self.old.sqs.items }
@@ -94,7 +94,7 @@ impl FrontState {
     // New settings of arbitration are in force. (Arbitration feature)
     fn set_arbitration(&mut self, candidate: Candidate, settings: Settings)
         requires applied { (closing : Option ℕ) × IsApplied self.old candidate (verdict.SetArbitration settings) closing }
-        ensures kept { IsKept self.new }
+        ensures consistent { IsConsistent self.new }
         ensures goes { Goes self.old self.new }
         ensures jobs { self.new.jobs ≡ self.old.jobs }
         ensures gets { gets_of self.new.sqs.items ≡ gets_of self.old.sqs.items }
@@ -111,7 +111,7 @@ impl FrontState {
     // (Delete I/O Submission Queue)
     fn begin_delete(&mut self, candidate: Candidate, qid: u16)
         requires applied { (closing : Option ℕ) × IsApplied self.old candidate (verdict.BeginDelete qid) closing }
-        ensures kept { IsKept self.new }
+        ensures consistent { IsConsistent self.new }
         ensures goes { Goes self.old self.new }
         ensures jobs { self.new.jobs ≡ self.old.jobs }
         ensures gets { gets_of self.new.sqs.items ≡ gets_of self.old.sqs.items }
@@ -182,7 +182,7 @@ impl FrontState {
     // A waiting command is aborted, where there is one. Command Dword 0 of the answer says whether there was. (Abort)
     fn abort(&mut self, candidate: Candidate, sqid: u16, cid: u16)
         requires applied { (closing : Option ℕ) × IsApplied self.old candidate (verdict.Abort sqid cid) closing }
-        ensures kept { IsKept self.new }
+        ensures consistent { IsConsistent self.new }
         ensures goes { Goes self.old self.new }
         ensures jobs { self.new.jobs ≡ self.old.jobs }
         ensures gets { gets_of self.new.sqs.items ≡ gets_of self.old.sqs.items }
@@ -198,7 +198,7 @@ impl FrontState {
     /// the command deletes, where it does.
     pub fn carry_out(&mut self, candidate: Candidate, verdict: Verdict, closing: Option<u8>)
         requires applied { IsApplied self.old candidate verdict closing }
-        ensures kept { IsKept self.new }
+        ensures consistent { IsConsistent self.new }
         ensures goes { Goes self.old self.new }
         ensures jobs { self.new.jobs ≡ self.old.jobs }
         ensures gets { gets_of self.new.sqs.items ≡ gets_of self.old.sqs.items }

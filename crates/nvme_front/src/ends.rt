@@ -17,17 +17,17 @@ impl FrontState {
     ghost use Rattle.nvme_lane.specs.Drainer.{get_of};
     ghost use Rattle.nvme_entry.specs.declared.submission.Sqe.{Sqe};
     ghost use Rattle.nvme_entry.specs.declared.completion.Cqe.{Cqe};
-    ghost use Rattle.nvme_front.specs.inside.Room.{IsKept};
+    ghost use Rattle.nvme_front.specs.inside.Room.{IsConsistent};
     ghost use Rattle.nvme_front.specs.inside.State.{gets_of, puts_of};
     ghost use Rattle.nvme_front.specs.inside.State.{view_of};
     ghost use Rattle.nvme_front.specs.inside.Looks.{LooksAtSq, LooksAtCq};
 
     /// The number of commands that rest in a submission ring, by a look at both of its ends.
     pub fn beside_sq(&mut self, r: u8, feeder: &mut Feeder<Sqe>) -> u16
-        requires kept { IsKept self.old }
+        requires consistent { IsConsistent self.old }
         requires there { r < length self.old.sqs.items }
         requires pair { (g : GetView Sqe) → IsPair (put_of feeder.old) (slice_index_or (gets_of self.old.sqs.items) r g) }
-        ensures kept { IsKept self.new }
+        ensures consistent { IsConsistent self.new }
         ensures looks { LooksAtSq r feeder.old feeder.new (view_of self.old) (view_of self.new) result }
     {
         let region = &mut self.sqs[usize::from(r)];
@@ -36,10 +36,10 @@ impl FrontState {
 
     /// The number of completions that rest in a completion ring, by a look at both of its ends.
     pub fn beside_cq(&mut self, c: u8, drainer: &mut Drainer<Cqe>) -> u16
-        requires kept { IsKept self.old }
+        requires consistent { IsConsistent self.old }
         requires there { c < length self.old.cqs.items }
         requires pair { (p : PutView Cqe) → IsPair (slice_index_or (puts_of self.old.cqs.items) c p) (get_of drainer.old) }
-        ensures kept { IsKept self.new }
+        ensures consistent { IsConsistent self.new }
         ensures looks { LooksAtCq c drainer.old drainer.new (view_of self.old) (view_of self.new) result }
     {
         let region = &mut self.cqs[usize::from(c)];

@@ -7,7 +7,7 @@ use nvme_state::Candidate;
 
 impl FrontState {
     ghost use Rattle.std.specs.Prelude.{◌≡◌, ◌≢◌, ℕ, ◌+◌, ◌<◌, ◌≤◌, length, Option, Some, None, OnOk, IfErr, true, false, ◌⊎◌};
-    ghost use Rattle.nvme_front.specs.inside.Room.{IsKept};
+    ghost use Rattle.nvme_front.specs.inside.Room.{IsConsistent};
     ghost use Rattle.nvme_front.specs.inside.Goes.{Goes, IsSame, HasAdmin, IsScanned, AllScanned};
     ghost use Rattle.nvme_front.specs.inside.Loads.{Loads};
     ghost use Rattle.nvme_log.specs.Histories.{picks_in};
@@ -15,10 +15,10 @@ impl FrontState {
 
     // Fetches one command of a queue, where it is open, its window has room and its ring gives one.
     fn fetch_one(&mut self, qid: u16) -> Result<bool, FrontError>
-        requires kept { IsKept self.old }
+        requires consistent { IsConsistent self.old }
         requires admin { HasAdmin self.old }
         requires none_pending { self.old.deletion ≡ None }
-        ensures kept { IsKept self.new }
+        ensures consistent { IsConsistent self.new }
         ensures goes { Goes self.old self.new }
         ensures loads { ((q : ℕ) → q < qid → IsScanned self.old q) → Loads self.old self.new }
         ensures cqs { self.new.cqs.items ≡ self.old.cqs.items }
@@ -56,10 +56,10 @@ impl FrontState {
 
     // Fetches from a queue until its window is full or its ring gives nothing.
     fn scan_queue(&mut self, qid: u16) -> Result<bool, FrontError>
-        requires kept { IsKept self.old }
+        requires consistent { IsConsistent self.old }
         requires admin { HasAdmin self.old }
         requires none_pending { self.old.deletion ≡ None }
-        ensures kept { IsKept self.new }
+        ensures consistent { IsConsistent self.new }
         ensures goes { Goes self.old self.new }
         ensures loads { ((q : ℕ) → q < qid → IsScanned self.old q) → Loads self.old self.new }
         ensures cqs { self.new.cqs.items ≡ self.old.cqs.items }
@@ -82,10 +82,10 @@ impl FrontState {
 
     /// Fetches from each open queue by ascending identifier, and says whether anything was fetched.
     pub fn scan(&mut self) -> Result<bool, FrontError>
-        requires kept { IsKept self.old }
+        requires consistent { IsConsistent self.old }
         requires admin { HasAdmin self.old }
         requires none_pending { self.old.deletion ≡ None }
-        ensures kept { IsKept self.new }
+        ensures consistent { IsConsistent self.new }
         ensures goes { Goes self.old self.new }
         ensures loads { Loads self.old self.new }
         ensures cqs { self.new.cqs.items ≡ self.old.cqs.items }

@@ -10,7 +10,7 @@ impl FrontState {
     ghost use Rattle.std.specs.Prelude.{◌≡◌, ◌≢◌, ℕ, ◌+◌, ◌<◌, [], ◌∷◌, ◌++◌, length, Option, Some, None, true, false, ◌⊎◌, IfErr, OnErr};
     ghost use Rattle.nvme_log.specs.declared.event.Event.TheVariants.{ClosedSq};
     ghost use Rattle.nvme_front.specs.inside.State.{sq_in};
-    ghost use Rattle.nvme_front.specs.inside.Room.{IsKept};
+    ghost use Rattle.nvme_front.specs.inside.Room.{IsConsistent};
     ghost use Rattle.nvme_front.specs.inside.Goes.{Goes, IsSame, HasAdmin};
     ghost use Rattle.nvme_log.specs.Histories.{picks_in};
     ghost use Rattle.nvme_front.specs.declared.front.FrontError.TheVariants.{NoMemory, LogFull};
@@ -18,10 +18,10 @@ impl FrontState {
     /// Finishes the pending deletion, where all places of its queue are posted: its answer is then ready.
     /// (Base Specification, Delete I/O Submission Queue)
     pub fn finish(&mut self, deletion: PendingDelete) -> Result<bool, FrontError>
-        requires kept { IsKept self.old }
+        requires consistent { IsConsistent self.old }
         requires admin { HasAdmin self.old }
         requires pending { self.old.deletion ≡ Some deletion }
-        ensures kept { IsKept self.new }
+        ensures consistent { IsConsistent self.new }
         ensures goes { Goes self.old self.new }
         ensures jobs { self.new.jobs ≡ self.old.jobs }
         ensures sqs { self.new.sqs.items ≡ self.old.sqs.items }

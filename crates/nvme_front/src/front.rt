@@ -83,13 +83,13 @@ pub struct Front {
 impl Model for Front {
     ghost use Rattle.nvme_front.specs.View.{FrontView};
     ghost use Rattle.nvme_front.specs.inside.State.{view_of};
-    ghost use Rattle.nvme_front.specs.inside.Room.{IsKept};
+    ghost use Rattle.nvme_front.specs.inside.Room.{IsConsistent};
 
     ghost Value = { FrontView };
 
     ghost view = { λ f. view_of f.state };
 
-    ghost invariant = { λ f. IsKept f.state };
+    ghost invariant = { λ f. IsConsistent f.state };
 }
 
 impl Front {

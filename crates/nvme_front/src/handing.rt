@@ -9,7 +9,7 @@ impl FrontState {
     ghost use Rattle.std.specs.Prelude.{◌≡◌, ℕ, ◌<◌, true, false, length, OnOk, IfErr};
     ghost use Rattle.std.specs.List.{All};
     ghost use Rattle.nvme_pool.specs.Seat.{IsUnknown};
-    ghost use Rattle.nvme_front.specs.inside.Room.{IsKept};
+    ghost use Rattle.nvme_front.specs.inside.Room.{IsConsistent};
     ghost use Rattle.nvme_state.specs.Hands.{gained_count};
     ghost use Rattle.nvme_front.specs.inside.Goes.{Goes, IsSame, HasAdmin};
     ghost use Rattle.nvme_front.specs.inside.Turn.{Balanced};
@@ -19,10 +19,10 @@ impl FrontState {
 
     // Hands the job of the oldest picked command that is not handed.
     fn hand_one<R: Wait>(&mut self, rt: &R, lanes: &Lanes) -> bool
-        requires kept { IsKept self.old }
+        requires consistent { IsConsistent self.old }
         requires admin { HasAdmin self.old }
         requires seat { self.old.jobs.hands.seat.lane ≡ lanes.now }
-        ensures kept { IsKept self.new }
+        ensures consistent { IsConsistent self.new }
         ensures goes { Goes self.old self.new }
         ensures log { self.new.log.items ≡ self.old.log.items }
         ensures sqs { self.new.sqs.items ≡ self.old.sqs.items }
@@ -39,10 +39,10 @@ impl FrontState {
 
     /// Hands the jobs that are not handed, the oldest first, until the lane is full, and says whether any was handed.
     pub fn hand<R: Wait>(&mut self, rt: &R, lanes: &Lanes) -> bool
-        requires kept { IsKept self.old }
+        requires consistent { IsConsistent self.old }
         requires admin { HasAdmin self.old }
         requires seat { self.old.jobs.hands.seat.lane ≡ lanes.now }
-        ensures kept { IsKept self.new }
+        ensures consistent { IsConsistent self.new }
         ensures goes { Goes self.old self.new }
         ensures log { self.new.log.items ≡ self.old.log.items }
         ensures sqs { self.new.sqs.items ≡ self.old.sqs.items }
@@ -62,10 +62,10 @@ impl FrontState {
 
     // Gains a result. Its completion is then ready.
     fn gain_one(&mut self, lanes: &Lanes) -> Result<bool, FrontError>
-        requires kept { IsKept self.old }
+        requires consistent { IsConsistent self.old }
         requires admin { HasAdmin self.old }
         requires seat { self.old.jobs.hands.seat.lane ≡ lanes.now }
-        ensures kept { IsKept self.new }
+        ensures consistent { IsConsistent self.new }
         ensures goes { Goes self.old self.new }
         ensures log { self.new.log.items ≡ self.old.log.items }
         ensures sqs { self.new.sqs.items ≡ self.old.sqs.items }
@@ -99,10 +99,10 @@ impl FrontState {
 
     /// Gains results until none is there, and says whether any was gained.
     pub fn gain(&mut self, lanes: &Lanes) -> Result<bool, FrontError>
-        requires kept { IsKept self.old }
+        requires consistent { IsConsistent self.old }
         requires admin { HasAdmin self.old }
         requires seat { self.old.jobs.hands.seat.lane ≡ lanes.now }
-        ensures kept { IsKept self.new }
+        ensures consistent { IsConsistent self.new }
         ensures goes { Goes self.old self.new }
         ensures log { self.new.log.items ≡ self.old.log.items }
         ensures sqs { self.new.sqs.items ≡ self.old.sqs.items }

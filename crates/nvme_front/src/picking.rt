@@ -42,7 +42,7 @@ impl FrontState {
     ghost use Rattle.std.specs.Prelude.{◌≡◌, ◌≢◌, ◌⊎◌, ◌+◌, ◌<◌, ◌≤◌, length, None, IsSome, OnOk, IfSome, IfErr, OnErr};
     ghost use Rattle.nvme_log.specs.Aborts.{is_abort_entry};
     ghost use Rattle.nvme_log.specs.Limits.{max_outstanding, admin_events};
-    ghost use Rattle.nvme_front.specs.inside.Room.{IsKept};
+    ghost use Rattle.nvme_front.specs.inside.Room.{IsConsistent};
     ghost use Rattle.nvme_front.specs.inside.Goes.{Goes, IsSame, HasAdmin, next_pick};
     ghost use Rattle.nvme_front.specs.inside.State.{gets_of};
     ghost use Rattle.nvme_front.specs.inside.Turn.{oldest_admin, places_in, IsPickOf, NeedsPlaces, LacksAdminEvents};
@@ -77,13 +77,13 @@ impl FrontState {
 
     // Picks of an I/O queue. The jobs of the picked commands are then to be handed.
     fn pick_io(&mut self) -> Result<(), FrontError>
-        requires kept { IsKept self.old }
+        requires consistent { IsConsistent self.old }
         requires admin { HasAdmin self.old }
         requires none_pending { self.old.deletion ≡ None }
         requires io { IfSome (next_pick self.old) (λ pick. pick.qid ≢ 0) }
         requires places { IfSome (next_pick self.old) (λ pick. self.old.outstanding + pick.n ≤ max_outstanding) }
         requires there { IsSome (next_pick self.old) }
-        ensures kept { IsKept self.new }
+        ensures consistent { IsConsistent self.new }
         ensures goes { Goes self.old self.new }
         ensures seat { self.new.jobs.hands.seat ≡ self.old.jobs.hands.seat }
         ensures running { self.new.jobs.hands.running ≡ self.old.jobs.hands.running }
@@ -113,13 +113,13 @@ impl FrontState {
 
     // Picks of the admin queue, and executes its command at once.
     fn pick_admin(&mut self) -> Result<(), FrontError>
-        requires kept { IsKept self.old }
+        requires consistent { IsConsistent self.old }
         requires admin { HasAdmin self.old }
         requires none_pending { self.old.deletion ≡ None }
         requires of_admin { IfSome (next_pick self.old) (λ pick. pick.qid ≡ 0) }
         requires places { IfSome (next_pick self.old) (λ pick. self.old.outstanding + places_in self.old.sqs.items pick ≤ max_outstanding) }
         requires there { IsSome (next_pick self.old) }
-        ensures kept { IsKept self.new }
+        ensures consistent { IsConsistent self.new }
         ensures goes { Goes self.old self.new }
         ensures seat { self.new.jobs.hands.seat ≡ self.old.jobs.hands.seat }
         ensures running { self.new.jobs.hands.running ≡ self.old.jobs.hands.running }
@@ -151,10 +151,10 @@ impl FrontState {
 
     /// Makes the next pick of arbitration, where there is one and its places are free.
     pub fn pick(&mut self) -> Result<Step, FrontError>
-        requires kept { IsKept self.old }
+        requires consistent { IsConsistent self.old }
         requires admin { HasAdmin self.old }
         requires none_pending { self.old.deletion ≡ None }
-        ensures kept { IsKept self.new }
+        ensures consistent { IsConsistent self.new }
         ensures goes { Goes self.old self.new }
         ensures seat { self.new.jobs.hands.seat ≡ self.old.jobs.hands.seat }
         ensures running { self.new.jobs.hands.running ≡ self.old.jobs.hands.running }

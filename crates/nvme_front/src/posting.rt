@@ -21,7 +21,7 @@ fn phase_of(posted: u32, slots: u16) -> bool
 impl FrontState {
     ghost use Rattle.std.specs.Prelude.{◌≡◌, ◌≢◌, ℕ, ◌+◌, ◌<◌, length, None, IfSome, IfNone, OnOk, true, false, ◌⊎◌, IfErr};
     ghost use Rattle.nvme_front.specs.inside.State.{sq_in, cq_in};
-    ghost use Rattle.nvme_front.specs.inside.Room.{IsKept};
+    ghost use Rattle.nvme_front.specs.inside.Room.{IsConsistent};
     ghost use Rattle.nvme_front.specs.inside.Goes.{Goes, IsSame, HasAdmin, IsDrained, AllDrained, IsCompletionOf};
     ghost use Rattle.nvme_front.specs.inside.Loads.{PostsOnly};
     ghost use Rattle.nvme_log.specs.Histories.{picks_in};
@@ -53,10 +53,10 @@ impl FrontState {
     // Posts the completion of a completion region that became ready first, where there is one and the ring takes it.
     // (Base Specification, Completion Queue Entry)
     fn post_one(&mut self, c: u8) -> Result<bool, FrontError>
-        requires kept { IsKept self.old }
+        requires consistent { IsConsistent self.old }
         requires admin { HasAdmin self.old }
         requires there { c < length self.old.cqs.items }
-        ensures kept { IsKept self.new }
+        ensures consistent { IsConsistent self.new }
         ensures goes { Goes self.old self.new }
         ensures jobs { self.new.jobs ≡ self.old.jobs }
         ensures picks { picks_in self.new.log.items ≡ picks_in self.old.log.items }
@@ -103,10 +103,10 @@ impl FrontState {
 
     // Posts the ready completions of a completion region until its ring is full.
     fn post_region(&mut self, c: u8) -> Result<bool, FrontError>
-        requires kept { IsKept self.old }
+        requires consistent { IsConsistent self.old }
         requires admin { HasAdmin self.old }
         requires there { c < length self.old.cqs.items }
-        ensures kept { IsKept self.new }
+        ensures consistent { IsConsistent self.new }
         ensures goes { Goes self.old self.new }
         ensures jobs { self.new.jobs ≡ self.old.jobs }
         ensures picks { picks_in self.new.log.items ≡ picks_in self.old.log.items }
@@ -128,9 +128,9 @@ impl FrontState {
 
     /// Posts the ready completions of each completion region until its ring is full, and says whether any was posted.
     pub fn post(&mut self) -> Result<bool, FrontError>
-        requires kept { IsKept self.old }
+        requires consistent { IsConsistent self.old }
         requires admin { HasAdmin self.old }
-        ensures kept { IsKept self.new }
+        ensures consistent { IsConsistent self.new }
         ensures goes { Goes self.old self.new }
         ensures jobs { self.new.jobs ≡ self.old.jobs }
         ensures picks { picks_in self.new.log.items ≡ picks_in self.old.log.items }

@@ -32,7 +32,7 @@ pub struct FrontState {
 
 impl FrontState {
     ghost use Rattle.std.specs.Prelude.{◌≡◌, ◌↔◌, length, None, IfOk, OnOk, IfErr, IsTrue, ◌&&◌, nat_lt};
-    ghost use Rattle.nvme_front.specs.inside.Room.{IsKept};
+    ghost use Rattle.nvme_front.specs.inside.Room.{IsConsistent};
     ghost use Rattle.nvme_front.specs.inside.State.{past_of};
     ghost use Rattle.nvme_front.specs.inside.Goes.{Goes, HasAdmin, AllDrained};
     ghost use Rattle.nvme_front.specs.inside.State.{view_of};
@@ -46,10 +46,10 @@ impl FrontState {
 
     /// One turn.
     pub fn turn<R: Wait>(&mut self, rt: &R, lanes: &Lanes) -> Result<Step, FrontError>
-        requires kept { IsKept self.old }
+        requires consistent { IsConsistent self.old }
         requires admin { HasAdmin self.old }
         requires seat { self.old.jobs.hands.seat.lane ≡ lanes.now }
-        ensures kept { IsKept self.new }
+        ensures consistent { IsConsistent self.new }
         ensures goes { Goes self.old self.new }
         ensures loads { Loads self.old self.new }
         ensures step { IfOk result (λ step. StepMeans step (view_of self.old) (view_of self.new)) }
@@ -65,10 +65,10 @@ impl FrontState {
 
     // Hands the jobs that were kept, gains results and posts the ready completions, and says whether it did any of it.
     fn catch_up<R: Wait>(&mut self, rt: &R, lanes: &Lanes) -> Result<bool, FrontError>
-        requires kept { IsKept self.old }
+        requires consistent { IsConsistent self.old }
         requires admin { HasAdmin self.old }
         requires seat { self.old.jobs.hands.seat.lane ≡ lanes.now }
-        ensures kept { IsKept self.new }
+        ensures consistent { IsConsistent self.new }
         ensures goes { Goes self.old self.new }
         ensures posts { PostsOnly self.old self.new }
         ensures drained { OnOk result (AllDrained self.new) }
@@ -87,11 +87,11 @@ impl FrontState {
 
     // Finishes the pending deletion, and where none is pending, serves the queues.
     fn proceed<R: Wait>(&mut self, rt: &R, lanes: &Lanes) -> Result<Step, FrontError>
-        requires kept { IsKept self.old }
+        requires consistent { IsConsistent self.old }
         requires admin { HasAdmin self.old }
         requires seat { self.old.jobs.hands.seat.lane ≡ lanes.now }
         requires drained { AllDrained self.old }
-        ensures kept { IsKept self.new }
+        ensures consistent { IsConsistent self.new }
         ensures goes { Goes self.old self.new }
         ensures loads { Loads self.old self.new }
         ensures step { IfOk result (λ step. Proceeds step self.old self.new) }
@@ -109,12 +109,12 @@ impl FrontState {
 
     // Fetches what has come, makes the next pick, and hands the jobs of what was picked.
     fn serve<R: Wait>(&mut self, rt: &R, lanes: &Lanes) -> Result<Step, FrontError>
-        requires kept { IsKept self.old }
+        requires consistent { IsConsistent self.old }
         requires admin { HasAdmin self.old }
         requires seat { self.old.jobs.hands.seat.lane ≡ lanes.now }
         requires drained { AllDrained self.old }
         requires none_pending { self.old.deletion ≡ None }
-        ensures kept { IsKept self.new }
+        ensures consistent { IsConsistent self.new }
         ensures goes { Goes self.old self.new }
         ensures loads { Loads self.old self.new }
         ensures step { IfOk result (λ step. Proceeds step self.old self.new) }
@@ -136,7 +136,7 @@ impl FrontState {
 
     /// No candidate waits, every fetched command has its completion posted, and no deletion is pending.
     pub fn is_clear(&self) -> bool
-        requires kept { IsKept self.now }
+        requires consistent { IsConsistent self.now }
         ensures { IsTrue result ↔ IsClear (past_of self.now) }
     {
         self.deletion.is_none()
@@ -147,7 +147,7 @@ impl FrontState {
 
     /// A queue of this submission region is open or closing.
     pub fn is_serving(&self, region: u8) -> bool
-        requires kept { IsKept self.now }
+        requires consistent { IsConsistent self.now }
         ensures { result ≡ (nat_lt region (length self.now.sqs.items) && is_serving (past_of self.now) region) }
     {
         let Some(sq) = self.sqs.get(usize::from(region)) else {

@@ -16,7 +16,7 @@ use Rattle.nvme_log.specs.Rules.{Past}
 use Rattle.nvme_log.specs.Queues.{cq_region_of}
 use Rattle.nvme_log.specs.Places.{Place, entry_at, is_aborted, one_if}
 use Rattle.nvme_log.specs.Aborts.{took_abort, is_aborted_with_queue}
-use Rattle.nvme_state.specs.inside.Kept.{SqKept, Kept, put_sq}
+use Rattle.nvme_state.specs.inside.Content.{SqContent, Content, put_sq}
 use Rattle.nvme_state.specs.inside.Standing.{HoldsSq, HoldsReady, IsReady, times_in, hand_of}
 use Rattle.nvme_state.specs.inside.Steps.{applied_to, requested, without_oldest}
 use Rattle.nvme_state.proofs.AfterSteps.{place_of, told_abort, with_requested, aborting_in}
@@ -27,28 +27,28 @@ use Rattle.nvme_state.proofs.ReadyChange.{becomes-ready}
 use Rattle.nvme_state.proofs.ReadyAdmin.{at_oldest, oldest-moves}
 
 -- a candidate that is taken out of a region is none of its candidates any more
-taken-moves : (sq : ℕ → SqKept) (region i r : ℕ) (s : SqKept) (found : Candidate) → s.got ≡ (sq region).got
+taken-moves : (sq : ℕ → SqContent) (region i r : ℕ) (s : SqContent) (found : Candidate) → s.got ≡ (sq region).got
     → times_in_window i (sq region).window ≡ one_if (found.index == i) + times_in_window i s.window
     → Moves i (times_in r i (requested region found ∷ [])) (sq r) (put_sq sq region s r)
 taken-moves sq region i r s found got left =
-    at_put (λ (x : ℕ) (u v : SqKept). Moves i (times_in x i (requested region found ∷ [])) u v) sq region s
+    at_put (λ (x : ℕ) (u v : SqContent). Moves i (times_in x i (requested region found ∷ [])) u v) sq region s
     (rw (got, eq-eqb region region refl) (omega (arith, left)))
     (λ x d. rw (ne_eqb region x (λ e. d (sym e))) (omega arith)) r
 
-module _ (past : Past) (k : Kept) (candidate : Candidate) (rest : List Candidate) (seen : List Seen) (pick : Pick) (picked board : BoardView) (table : TableView)
+module _ (past : Past) (k : Content) (candidate : Candidate) (rest : List Candidate) (seen : List Seen) (pick : Pick) (picked board : BoardView) (table : TableView)
     (region c cid : ℕ) (found : Candidate) where
   -- the log with the abort
   abbrev later : Past
   later = Abort region found.index ∷ event.Pick seen pick ∷ past
 
   -- what is kept after the pick, the region without the candidate, and what is kept where its completion is ready
-  abbrev now : Kept
+  abbrev now : Content
   now = applied_to k picked table
 
-  abbrev less : SqKept
+  abbrev less : SqContent
   less = record (now.sq region) { window = without_oldest cid (now.sq region).window; unposted = (now.sq region).unposted + 1 }
 
-  abbrev gone : Kept
+  abbrev gone : Content
   gone = with_requested now region c cid board found
 
   -- the abort leaves which places were aborted with their queue

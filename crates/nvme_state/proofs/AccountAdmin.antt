@@ -29,7 +29,7 @@ use Rattle.nvme_log.specs.Histories.{table_history, admin_entry}
 use Rattle.nvme_log.specs.Completions.{table_before, own_status, own_dw0}
 use Rattle.nvme_log.specs.Effects.{closing_of, made_by, made_of, made_last, EffectsAtOnce, abort_in, target_of}
 use Rattle.nvme_log.specs.Account.{IndexCounts, ServedWhileOpen, Observed, Deletes, PostsOwn, LeavesPlaces}
-use Rattle.nvme_state.specs.inside.Kept.{SqKept, Kept, with_sq}
+use Rattle.nvme_state.specs.inside.Content.{SqContent, Content, with_sq}
 use Rattle.nvme_state.specs.inside.Standing.{HoldsSq, HasOwnStatus, IsOwnDeletion, Stands, hand_of}
 use Rattle.nvme_state.specs.inside.Steps.{verdict_at, applied_to, aborted, oldest_named, without_oldest, requested}
 use Rattle.nvme_state.proofs.AfterSteps.{with_events, answered, with_opened, deleting_from, after_admin, told_abort, with_requested, aborting_in, aborting_from}
@@ -72,7 +72,7 @@ record IsPicked (rules : FrontRules) (past mid : Past) (candidate : Candidate) (
   not_target : (sqid : ℕ) (queue : Queue) → target_of past sqid ≡ Some queue → queue.region ≡ 0 → ⊥
 
 -- the oldest admin candidate is picked
-is_picked : (rules : FrontRules) (late : Bool) (past : Past) (k : Kept) (seen : List Seen) (pick : Pick) (candidate : Candidate) (rest : List Candidate)
+is_picked : (rules : FrontRules) (late : Bool) (past : Past) (k : Content) (seen : List Seen) (pick : Pick) (candidate : Candidate) (rest : List Candidate)
     → (s : Stands rules late past k) → late ≡ false → pick.qid ≡ 0 → (k.sq 0).window ≡ candidate ∷ rest
     → IsPicked rules past (event.Pick seen pick ∷ past) candidate (verdict_at rules s.tabled.history candidate)
 is_picked rules late past k seen pick candidate rest s on_time first oldest =
@@ -183,7 +183,7 @@ module _ (rules : FrontRules) (past mid : Past) (candidate : Candidate) (qid : �
       ∙ unrequested past r i (waiting_is_unaborted past r i (waiting_wait past r j d lt)))
 
   -- so the completions of a window that is aborted have the own status of their places
-  aborted_own : (queue : Queue) → open_sq past qid ≡ Some queue → (s : SqKept) → HoldsSq past queue.region s
+  aborted_own : (queue : Queue) → open_sq past qid ≡ Some queue → (s : SqContent) → HoldsSq past queue.region s
       → All (HasOwnStatus rules begun) (map (aborted queue.region) s.window)
   aborted_own queue is s h =
       let indices = λ (Q : ℕ → Type 0) (all : All Q (waiting past queue.region)).
@@ -194,7 +194,7 @@ module _ (rules : FrontRules) (past mid : Past) (candidate : Candidate) (qid : �
       (λ j d lt. record { status = rw (are j d lt, not j d lt) refl; dw0 = rw (are j d lt) refl })
 
   -- what is ready after the beginning of a deletion has the own status of its place
-  deleting_own : (now : Kept) (c : ℕ) (o : Option Queue) → open_sq past qid ≡ o → ((x : ℕ) → All (HasOwnStatus rules begun) (now.cq x).ready)
+  deleting_own : (now : Content) (c : ℕ) (o : Option Queue) → open_sq past qid ≡ o → ((x : ℕ) → All (HasOwnStatus rules begun) (now.cq x).ready)
       → ((r : ℕ) → (r ≡ 0 → ⊥) → HoldsSq past r (now.sq r))
       → (x : ℕ) → All (HasOwnStatus rules begun) ((deleting_from now qid c candidate o).cq x).ready
   deleting_own now c None is old regions =
@@ -206,7 +206,7 @@ module _ (rules : FrontRules) (past mid : Past) (candidate : Candidate) (qid : �
       (aborted_own queue is (now.sq queue.region) (regions queue.region (p.not_admin qid queue refl is)))
 
   -- the deletion is to be answered with success
-  deletion_own : (now : Kept) (c : ℕ) (o : Option Queue) → now.deletion ≡ None → (d : PendingDelete)
+  deletion_own : (now : Content) (c : ℕ) (o : Option Queue) → now.deletion ≡ None → (d : PendingDelete)
       → (deleting_from now qid c candidate o).deletion ≡ Some d → IsOwnDeletion rules begun d
   deletion_own now c None none d is = no_deletion rules begun now.deletion none d is
   deletion_own now c (Some queue) none d is =
@@ -254,7 +254,7 @@ module _ (rules : FrontRules) (past mid : Past) (candidate : Candidate) (sqid ci
       }) (All-nil (HasOwnStatus rules (Abort r found.index ∷ mid))))
 
   -- what is ready afterwards has the own status of its place
-  found_own : (now : Kept) (c : ℕ) (board : BoardView) (queue : Queue) → target_of past sqid ≡ Some queue → HoldsSq past queue.region (now.sq queue.region)
+  found_own : (now : Content) (c : ℕ) (board : BoardView) (queue : Queue) → target_of past sqid ≡ Some queue → HoldsSq past queue.region (now.sq queue.region)
       → ((x : ℕ) → All (HasOwnStatus rules ended) (now.cq x).ready)
       → (o : Option Candidate) → oldest_named cid (now.sq queue.region).window ≡ o
       → (x : ℕ) → All (HasOwnStatus rules ended) ((aborting_in now candidate queue.region c cid board o).cq x).ready
@@ -270,7 +270,7 @@ module _ (rules : FrontRules) (past mid : Past) (candidate : Candidate) (sqid ci
       (requested queue.region found ∷ []) old (requested_own queue.region found one))
       (told_one queue.region found.index one)
 
-  target_own : (now : Kept) (c : ℕ) (board : BoardView) (o : Option Queue) → target_of past sqid ≡ o → ((x : ℕ) → All (HasOwnStatus rules ended) (now.cq x).ready)
+  target_own : (now : Content) (c : ℕ) (board : BoardView) (o : Option Queue) → target_of past sqid ≡ o → ((x : ℕ) → All (HasOwnStatus rules ended) (now.cq x).ready)
       → ((r : ℕ) → (r ≡ 0 → ⊥) → HoldsSq past r (now.sq r))
       → (x : ℕ) → All (HasOwnStatus rules ended) ((aborting_from now candidate c cid board o).cq x).ready
   target_own now c board None is old regions =
@@ -279,7 +279,7 @@ module _ (rules : FrontRules) (past mid : Past) (candidate : Candidate) (sqid ci
       found_own now c board queue is (regions queue.region (p.not_target sqid queue is)) old (oldest_named cid (now.sq queue.region).window) refl
 
   -- it leaves the pending deletion
-  target_deletion : (now : Kept) (c : ℕ) (board : BoardView) (o : Option Queue) → (aborting_from now candidate c cid board o).deletion ≡ now.deletion
+  target_deletion : (now : Content) (c : ℕ) (board : BoardView) (o : Option Queue) → (aborting_from now candidate c cid board o).deletion ≡ now.deletion
   target_deletion now c board None = refl
   target_deletion now c board (Some queue) = found (oldest_named cid (now.sq queue.region).window) where
     found : (o : Option Candidate) → (aborting_in now candidate queue.region c cid board o).deletion ≡ now.deletion
@@ -287,7 +287,7 @@ module _ (rules : FrontRules) (past mid : Past) (candidate : Candidate) (sqid ci
     found (Some it) = refl
 
 -- the answers of an admin command, by its verdict
-module _ (rules : FrontRules) (past mid : Past) (candidate : Candidate) (now : Kept) (c : ℕ) (board : BoardView) where
+module _ (rules : FrontRules) (past mid : Past) (candidate : Candidate) (now : Content) (c : ℕ) (board : BoardView) where
   -- what is ready afterwards has the own status of its place
   readies_own : (v : Verdict) → IsPicked rules past mid candidate v → ((x : ℕ) → All (HasOwnStatus rules (with_events (made_by past v) mid)) (now.cq x).ready)
       → ((r : ℕ) → (r ≡ 0 → ⊥) → HoldsSq past r (now.sq r))
@@ -331,7 +331,7 @@ accounted-admin more rules late past k seen pick picked candidate rest table c b
     let mid : Past = event.Pick seen pick ∷ past in
     let made : List Event = made_by past v in
     let later : Past = with_events made mid in
-    let now : Kept = applied_to k picked table in
+    let now : Content = applied_to k picked table in
     let p : IsPicked rules past mid candidate v = is_picked rules late past k seen pick candidate rest s on_time first apply.oldest in
     let are = made_are_effects past v in
     record {

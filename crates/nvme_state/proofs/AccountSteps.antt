@@ -30,7 +30,7 @@ use Rattle.nvme_log.specs.Places.{Place, fetched, waiting, places, fate_of, is_w
 use Rattle.nvme_log.specs.Completions.{is_posted, posted_to, phase_after, outstanding}
 use Rattle.nvme_log.specs.Aborts.{is_index}
 use Rattle.nvme_log.specs.Laws.{as_open}
-use Rattle.nvme_state.specs.inside.Kept.{SqKept, Kept}
+use Rattle.nvme_state.specs.inside.Content.{SqContent, Content}
 use Rattle.nvme_state.specs.inside.Standing.{HasOwnStatus, IsOwnDeletion, Stands, held_by, hand_of, as_deletion, times_held, IsReady}
 use Rattle.nvme_log.specs.Completions.{unposted_of}
 use Rattle.nvme_log.specs.Places.{one_if}
@@ -43,7 +43,7 @@ use Rattle.nvme_state.proofs.OwnStatus.{Stays, own_status-stays, own_dw0-stays, 
 
 -- ---- what is answered stays so
 -- the ready completions keep their status in a later log
-pub statuses_stay : (rules : FrontRules) (past later : Past) (k : Kept)
+pub statuses_stay : (rules : FrontRules) (past later : Past) (k : Content)
     → ((c : ℕ) → All (λ (t : Ready). Stays rules past later t.region t.index) (k.cq c).ready)
     → ((c : ℕ) → All (HasOwnStatus rules past) (k.cq c).ready) → (c : ℕ) → All (HasOwnStatus rules later) (k.cq c).ready
 statuses_stay rules past later k stay own c j d lt = HasOwnStatus-stays rules past later (get_or (k.cq c).ready j d) (stay c j d lt) (own c j d lt)
@@ -72,11 +72,11 @@ admin_open [] there = absurd (omega arith)
 admin_open (r ∷ regions) there = refl
 
 -- a window, where another region is put in the place of one
-put_window : (b : Bool) (s u : SqKept) → b ≡ true → (if b then s else u).window ≡ s.window
+put_window : (b : Bool) (s u : SqContent) → b ≡ true → (if b then s else u).window ≡ s.window
 put_window true s u h = refl
 put_window false s u h = cc h
 
-module _ (rules : FrontRules) (late : Bool) (past : Past) (k : Kept) (s : Stands rules late past k) where
+module _ (rules : FrontRules) (late : Bool) (past : Past) (k : Content) (s : Stands rules late past k) where
   -- the region of an open queue is open
   pub open_region : (q : ℕ) (queue : Queue) → open_sq past q ≡ Some queue → is_open_region past queue.region ≡ true
   open_region q queue is = any_upto (λ (x : ℕ). has_region queue.region (open_sq past x)) queue_limit q (omega (arith, s.queues.few q queue is))
@@ -137,11 +137,11 @@ accounted-fetch rules late past k q queue entry known s can regions on_time =
 -- ---- a pick
 -- a pick of n places makes n more outstanding
 abbrev pub PickedAreOutstanding : Type 0
-PickedAreOutstanding = (rules : FrontRules) (late : Bool) (past : Past) (k : Kept) (queue : Queue) (seen : List Seen) (pick : Pick) (board : BoardView)
+PickedAreOutstanding = (rules : FrontRules) (late : Bool) (past : Past) (k : Content) (queue : Queue) (seen : List Seen) (pick : Pick) (board : BoardView)
     → Stands rules late past k → CanPick rules past k queue pick board → outstanding rules (event.Pick seen pick ∷ past) ≡ outstanding rules past + pick.n
 
 -- a pick leaves no more places outstanding than there may be
-pub leaves_places : PickedAreOutstanding → (rules : FrontRules) (late : Bool) (past : Past) (k : Kept) (queue : Queue) (seen : List Seen) (pick : Pick) (board : BoardView)
+pub leaves_places : PickedAreOutstanding → (rules : FrontRules) (late : Bool) (past : Past) (k : Content) (queue : Queue) (seen : List Seen) (pick : Pick) (board : BoardView)
     → Stands rules late past k → CanPick rules past k queue pick board → nat_le (outstanding rules (event.Pick seen pick ∷ past)) max_outstanding ≡ true
 leaves_places more rules late past k queue seen pick board s can =
     le-leb (outstanding rules (event.Pick seen pick ∷ past)) max_outstanding

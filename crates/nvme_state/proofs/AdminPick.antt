@@ -17,7 +17,7 @@ use Rattle.nvme_log.specs.Aborts.{is_abort_entry, took_abort}
 use Rattle.nvme_log.specs.Effects.{named, target_of}
 use Rattle.nvme_log.proofs.AbortEntries.{verdict_is_abort, verdict_is_delete}
 use Rattle.nvme_log.proofs.Waiting.{picked-pick_other, waiting-pick_other, fate_of-same}
-use Rattle.nvme_state.specs.inside.Kept.{SqKept, Kept}
+use Rattle.nvme_state.specs.inside.Content.{SqContent, Content}
 use Rattle.nvme_state.specs.inside.Standing.{Stands}
 use Rattle.nvme_state.specs.inside.Steps.{CanPick, applied_to, oldest_named, picked_sq, verdict_at}
 use Rattle.nvme_state.proofs.AbortRequests.{took_pick}
@@ -25,7 +25,7 @@ use Rattle.nvme_state.proofs.Named.{first_named}
 use Rattle.nvme_state.proofs.Oldest.{admin_entry_is}
 use Rattle.nvme_state.proofs.Regions.{one_queue, not_admin_queue, put_sq-other, target_is}
 
-module _ (rules : FrontRules) (late : Bool) (past : Past) (k : Kept) (seen : List Seen) (pick : Pick) (picked : BoardView)
+module _ (rules : FrontRules) (late : Bool) (past : Past) (k : Content) (seen : List Seen) (pick : Pick) (picked : BoardView)
     (s : Stands rules late past k) (can : CanPick rules past k admin_queue pick picked) (first : pick.qid ≡ 0) where
   -- another queue has another region
   pub other_region : (q : ℕ) (queue : Queue) → open_sq past q ≡ Some queue → (q ≡ 0 → ⊥) → 0 ≡ queue.region → ⊥
@@ -71,11 +71,11 @@ module _ (rules : FrontRules) (late : Bool) (past : Past) (k : Kept) (seen : Lis
       → take 1 (named past queue.region cid) ≡ map (λ (c : Candidate). c.index) (option_to_list (oldest_named cid ((applied_to k picked table).sq queue.region).window))
   made_request table sqid cid queue is =
       first_named past queue.region cid (k.sq queue.region) (s.regions queue.region)
-      ∙ ap (λ (z : SqKept). map (λ (c : Candidate). c.index) (option_to_list (oldest_named cid z.window)))
+      ∙ ap (λ (z : SqContent). map (λ (c : Candidate). c.index) (option_to_list (oldest_named cid z.window)))
       (sym (put_sq-other k.sq 0 (picked_sq (k.sq 0) 1) queue.region (target_region sqid queue is)))
 
   -- that candidate is one of its region before the pick
   pub found_before : (table : TableView) (sqid cid : ℕ) (queue : Queue) (found : Candidate) → target_of past sqid ≡ Some queue
       → oldest_named cid ((applied_to k picked table).sq queue.region).window ≡ Some found → oldest_named cid (k.sq queue.region).window ≡ Some found
   found_before table sqid cid queue found is here =
-      ap (λ (z : SqKept). oldest_named cid z.window) (sym (put_sq-other k.sq 0 (picked_sq (k.sq 0) 1) queue.region (target_region sqid queue is))) ∙ here
+      ap (λ (z : SqContent). oldest_named cid z.window) (sym (put_sq-other k.sq 0 (picked_sq (k.sq 0) 1) queue.region (target_region sqid queue is))) ∙ here

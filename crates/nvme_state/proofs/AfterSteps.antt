@@ -23,7 +23,7 @@ use Rattle.nvme_log.specs.Rules.{FrontRules, Past}
 use Rattle.nvme_log.specs.Queues.{Queue, open_sq, open_cq}
 use Rattle.nvme_log.specs.Completions.{phase_after}
 use Rattle.nvme_log.specs.Effects.{made_by, target_of}
-use Rattle.nvme_state.specs.inside.Kept.{SqKept, CqKept, Kept, with_sq, with_cq, with_ready}
+use Rattle.nvme_state.specs.inside.Content.{SqContent, CqContent, Content, with_sq, with_cq, with_ready}
 use Rattle.nvme_log.specs.Places.{Place}
 use Rattle.nvme_log.specs.Places.{one_if}
 use Rattle.nvme_state.specs.inside.Steps.{aborted, after_pick, oldest_named, requested, without_oldest}
@@ -38,16 +38,16 @@ with_events [] past = past
 with_events (e ∷ rest) past = with_events rest (e ∷ past)
 
 -- ready completions more in a completion region
-abbrev pub with_readies : Kept → ℕ → List Ready → Kept
+abbrev pub with_readies : Content → ℕ → List Ready → Content
 with_readies k c ts = with_cq k c (record (k.cq c) { ready = (k.cq c).ready ++ ts })
 
 -- ---- a fetch
-pub record CanFetch (past : Past) (k : Kept) (q : ℕ) (queue : Queue) : Type 0 where
+pub record CanFetch (past : Past) (k : Content) (q : ℕ) (queue : Queue) : Type 0 where
   pub is_open : open_sq past q ≡ Some queue
   pub none_pending : k.deletion ≡ None
   pub room : length (k.sq queue.region).window < window_of (k.sq queue.region).slots
 
-abbrev pub fetched_sq : SqKept → Sqe → List Sqe → SqKept
+abbrev pub fetched_sq : SqContent → Sqe → List Sqe → SqContent
 fetched_sq s entry known = record s {
   got = s.got ++ entry ∷ [];
   known = known;
@@ -55,15 +55,15 @@ fetched_sq s entry known = record s {
   fetched = s.fetched + 1;
 }
 
-abbrev pub came_board : Kept → ℕ → Queue → BoardView
+abbrev pub came_board : Content → ℕ → Queue → BoardView
 came_board k q queue = record k.board {
   queues = slice_set k.board.queues q (Some (record { class = queue.class; count = length (k.sq queue.region).window + 1 }));
 }
 
-abbrev pub fetch_event : Kept → Queue → Sqe → Event
+abbrev pub fetch_event : Content → Queue → Sqe → Event
 fetch_event k queue entry = event.Fetch queue.region (k.sq queue.region).fetched entry
 
-abbrev pub after_fetch : Kept → ℕ → Queue → Sqe → List Sqe → Kept
+abbrev pub after_fetch : Content → ℕ → Queue → Sqe → List Sqe → Content
 after_fetch k q queue entry known =
     record (with_sq k queue.region (fetched_sq (k.sq queue.region) entry known)) { board = came_board k q queue }
 
@@ -71,7 +71,7 @@ abbrev pub place_of : ℕ → Candidate → Place
 place_of r c = record { region = r; index = c.index }
 
 -- an I/O pick: its commands have jobs, which are handed later
-abbrev pub after_io : Kept → Queue → ℕ → BoardView → Kept
+abbrev pub after_io : Content → Queue → ℕ → BoardView → Content
 after_io k queue n board = record (after_pick k queue n board) { jobs = with_picked k.jobs queue.region (take n (k.sq queue.region).window) }
 
 -- ---- a result is gained, which makes no event
@@ -80,7 +80,7 @@ abbrev pub completed : Dispatched → Finished → Ready
 completed d result = record { region = d.region; index = d.index; entry = d.entry; with_queue = false; status = result.status; dw0 = 0 }
 
 -- the completion region c is that of the queue
-abbrev pub after_gain : Kept → Dispatched → List Dispatched → SeatView → ℕ → Finished → Kept
+abbrev pub after_gain : Content → Dispatched → List Dispatched → SeatView → ℕ → Finished → Content
 after_gain k d running seat c result = with_ready (record k { jobs = gained_jobs k.jobs running seat }) c (completed d result)
 
 -- the answer of an admin command
@@ -89,13 +89,13 @@ answered candidate v =
     record { region = 0; index = candidate.index; entry = candidate.entry; with_queue = false; status = status_in v; dw0 = dw0_in v }
 
 -- what a verdict makes of what the front keeps. The answer of a deletion waits
-abbrev pub with_opened : Kept → (qid region cq_region : ℕ) → Class → Kept
+abbrev pub with_opened : Content → (qid region cq_region : ℕ) → Class → Content
 with_opened k qid region cq_region class =
     record (with_sq k region (record (k.sq region) { queue = Some (record { qid = qid; cq_region = cq_region }) })) {
       board = record k.board { queues = slice_set k.board.queues qid (Some (record { class = class; count = 0 })) };
     }
 
-abbrev pub with_deleting : Kept → (qid region c : ℕ) → Candidate → Kept
+abbrev pub with_deleting : Content → (qid region c : ℕ) → Candidate → Content
 with_deleting k qid region c candidate =
     record (with_readies (with_sq k region (record (k.sq region) { window = []; unposted = (k.sq region).unposted + length (k.sq region).window })) c
     (map (aborted region) (k.sq region).window)) {
@@ -109,7 +109,7 @@ told_abort candidate dw0 =
     record { region = 0; index = candidate.index; entry = candidate.entry; with_queue = false; status = success; dw0 = dw0 }
 
 -- an Abort command took a candidate of a region. `board` is the board with a candidate less
-abbrev pub with_requested : Kept → (region c cid : ℕ) → BoardView → Candidate → Kept
+abbrev pub with_requested : Content → (region c cid : ℕ) → BoardView → Candidate → Content
 with_requested k region c cid board found =
     record (with_ready (with_sq k region (record (k.sq region) { window = without_oldest cid (k.sq region).window; unposted = (k.sq region).unposted + 1 })) c
     (requested region found)) {
@@ -118,12 +118,12 @@ with_requested k region c cid board found =
     }
 
 -- an Abort command found a candidate in a region, or none
-abbrev pub aborting_in : Kept → Candidate → (region c cid : ℕ) → BoardView → Option Candidate → Kept
+abbrev pub aborting_in : Content → Candidate → (region c cid : ℕ) → BoardView → Option Candidate → Content
 aborting_in k candidate region c cid board None = with_ready k 0 (told_abort candidate 1)
 aborting_in k candidate region c cid board (Some found) = with_ready (with_requested k region c cid board found) 0 (told_abort candidate 0)
 
 -- what an Abort command leaves, by the queue whose candidates it may abort
-abbrev pub aborting_from : Kept → Candidate → (c cid : ℕ) → BoardView → Option Queue → Kept
+abbrev pub aborting_from : Content → Candidate → (c cid : ℕ) → BoardView → Option Queue → Content
 aborting_from k candidate c cid board None = with_ready k 0 (told_abort candidate 1)
 aborting_from k candidate c cid board (Some queue) = aborting_in k candidate queue.region c cid board (oldest_named cid (k.sq queue.region).window)
 
@@ -132,7 +132,7 @@ abbrev pub admin_past : Past → Event → Verdict → Past
 admin_past past pick v = with_events (made_by past v) (pick ∷ past)
 
 -- ---- a post
-pub record CanPost (past : Past) (k : Kept) (c : ℕ) (t : Ready) (rest : List Ready) (cqe : Cqe) (qid : ℕ) : Type 0 where
+pub record CanPost (past : Past) (k : Content) (c : ℕ) (t : Ready) (rest : List Ready) (cqe : Cqe) (qid : ℕ) : Type 0 where
   pub oldest : (k.cq c).ready ≡ t ∷ rest
   pub there : c < k.ncq
   pub attached : (k.sq t.region).queue ≡ Some (record { qid = qid; cq_region = c })
@@ -143,20 +143,20 @@ pub record CanPost (past : Past) (k : Kept) (c : ℕ) (t : Ready) (rest : List R
   pub sqhd : cqe.sqhd ≡ (k.sq t.region).fetched % (k.sq t.region).slots
   pub phase : cqe.phase ≡ phase_after (k.cq c).posted (k.cq c).slots
 
-abbrev pub posted_cq : CqKept → List Ready → Cqe → ℕ → CqKept
+abbrev pub posted_cq : CqContent → List Ready → Cqe → ℕ → CqContent
 posted_cq s rest cqe free = record s { sent = s.sent ++ cqe ∷ []; free = free; posted = s.posted + 1; ready = rest }
 
 abbrev pub post_event : ℕ → Ready → Cqe → Event
 post_event c t cqe = event.Post c t.region t.index cqe
 
-abbrev pub after_post : Kept → ℕ → Ready → List Ready → Cqe → ℕ → Kept
+abbrev pub after_post : Content → ℕ → Ready → List Ready → Cqe → ℕ → Content
 after_post k c t rest cqe free =
     record (with_cq (with_sq k t.region (record (k.sq t.region) { unposted = (k.sq t.region).unposted - 1 })) c (posted_cq (k.cq c) rest cqe free)) {
       outstanding = k.outstanding - one_if (not t.with_queue);
     }
 
 -- ---- the end of a deletion
-pub record CanClose (rules : FrontRules) (k : Kept) (history : TableHistory) (d : PendingDelete) (table : TableView) : Type 0 where
+pub record CanClose (rules : FrontRules) (k : Content) (history : TableHistory) (d : PendingDelete) (table : TableView) : Type 0 where
   pub pending : k.deletion ≡ Some d
   pub all_posted : (k.sq d.region).unposted ≡ 0
   pub table_stands : StandsAt rules.start table (DeletionFinished d.qid ∷ history)
@@ -167,16 +167,16 @@ closed_event d = event.ClosedSq d.qid d.region
 abbrev pub deleted : PendingDelete → Ready
 deleted d = record { region = 0; index = d.index; entry = d.entry; with_queue = false; status = success; dw0 = 0 }
 
-abbrev pub after_closed : Kept → PendingDelete → TableView → Kept
+abbrev pub after_closed : Content → PendingDelete → TableView → Content
 after_closed k d table = with_ready (record k { deletion = None; table = table }) 0 (deleted d)
 
 -- what an admin command leaves, by its verdict. c is the completion region of a queue that is opened or deleted, or whose candidate is aborted, and
 -- `board` is the board with new settings, or with a candidate less
-abbrev pub deleting_from : Kept → (qid c : ℕ) → Candidate → Option Queue → Kept
+abbrev pub deleting_from : Content → (qid c : ℕ) → Candidate → Option Queue → Content
 deleting_from k qid c candidate None = with_ready k 0 (answered candidate (BeginDelete qid))
 deleting_from k qid c candidate (Some queue) = with_deleting k qid queue.region c candidate
 
-abbrev pub after_admin : Past → Kept → Candidate → (c : ℕ) → BoardView → Verdict → Kept
+abbrev pub after_admin : Past → Content → Candidate → (c : ℕ) → BoardView → Verdict → Content
 after_admin past k candidate c board (Done status dw0) = with_ready k 0 (answered candidate (Done status dw0))
 after_admin past k candidate c board (verdict.OpenSq qid region cqid class) =
     with_ready (with_opened k qid region c class) 0 (answered candidate (verdict.OpenSq qid region cqid class))
@@ -188,13 +188,13 @@ after_admin past k candidate c board (BeginDelete qid) = deleting_from k qid c c
 after_admin past k candidate c board (verdict.Abort sqid cid) = aborting_from k candidate c cid board (target_of past sqid)
 
 -- what c and `board` are where an Abort command takes a candidate of a queue
-pub record IsAbortChosen (rules : FrontRules) (k : Kept) (sqid cid c : ℕ) (picked board : BoardView) (queue : Queue) : Type 0 where
+pub record IsAbortChosen (rules : FrontRules) (k : Content) (sqid cid c : ℕ) (picked board : BoardView) (queue : Queue) : Type 0 where
   pub attached : (k.sq queue.region).queue ≡ Some (record { qid = sqid; cq_region = c })
   pub queues : board.queues ≡ slice_set picked.queues sqid (Some (record { class = queue.class; count = length (without_oldest cid (k.sq queue.region).window) }))
   pub stands : (h : History) → BoardStandsAt rules.mechanism rules.start.settings h picked → BoardStandsAt rules.mechanism rules.start.settings h board
 
 -- what c and `board` are
-abbrev pub IsChosen : FrontRules → Past → Kept → ℕ → BoardView → BoardView → Verdict → Type 0
+abbrev pub IsChosen : FrontRules → Past → Content → ℕ → BoardView → BoardView → Verdict → Type 0
 IsChosen rules past k c picked board (verdict.OpenSq qid region cqid class) = open_cq past cqid ≡ Some c
 IsChosen rules past k c picked board (BeginDelete qid) =
     (queue : Queue) → open_sq past qid ≡ Some queue → (k.sq queue.region).queue ≡ Some (record { qid = qid; cq_region = c })

@@ -17,7 +17,7 @@ use Rattle.nvme_log.specs.Aborts.{is_index}
 use Rattle.nvme_log.specs.Account.{deleting_place}
 use Rattle.nvme_state.specs.Hands.{in_hand, is_in_hand}
 use Rattle.nvme_state.specs.inside.Jobs.{dispatched_place}
-use Rattle.nvme_state.specs.inside.Kept.{Kept}
+use Rattle.nvme_state.specs.inside.Content.{Content}
 use Rattle.nvme_log.specs.Places.{one_if, is_served}
 use Rattle.nvme_state.specs.inside.Standing.{times_in, times_held, times_ready, over_regions, held_by, hand_of, IsReady, Stands}
 use Rattle.nvme_admin.specs.declared.bounds.TheConstants.{MAX_REGIONS}
@@ -85,7 +85,7 @@ none_held r i (d ∷ ds) h =
     omega (arith, sum_by-cons (λ (p : Place). one_if (p.region == r && p.index == i)) (dispatched_place d) (map dispatched_place ds))
 
 -- a place that has a result, if it needs one, and is not that of the pending deletion's command isn't in hand
-pub not_in_hand : (past : Past) (k : Kept) (r i : ℕ) → deleting_place past ≡ option_map (λ (d : PendingDelete). d.index) k.deletion
+pub not_in_hand : (past : Past) (k : Content) (r i : ℕ) → deleting_place past ≡ option_map (λ (d : PendingDelete). d.index) k.deletion
     → is_in_hand k.jobs.hands r i ≡ false → (r == 0 && is_index i (deleting_place past)) ≡ false → times_held r i (hand_of k) ≡ 0
 not_in_hand past k r i place has_result other =
     let jobs = none_held r i (in_hand k.jobs.hands) has_result in
@@ -93,7 +93,7 @@ not_in_hand past k r i place has_result other =
     omega (arith, sum_by-append (λ (p : Place). one_if (p.region == r && p.index == i)) (map dispatched_place (in_hand k.jobs.hands)) (held_by k.deletion))
 
 -- a place that was picked or aborted, has no completion posted and isn't in hand is ready somewhere
-pub record IsSomewhere (k : Kept) (past : Past) (r i : ℕ) : Type 0 where
+pub record IsSomewhere (k : Content) (past : Past) (r i : ℕ) : Type 0 where
   pub region : ℕ
   pub goes_there : cq_region_of past r ≡ Some region
   pub not_empty : (k.cq region).ready ≡ [] → ⊥
@@ -103,7 +103,7 @@ goes_where : (past : Past) (deletion : Option PendingDelete) (c r i : ℕ) (read
 goes_where past deletion c r i ready it = subst (λ (n : ℕ). cq_region_of past n ≡ Some c) it.region it.holds.region
 
 -- and goes to the completion region where it is ready
-pub ready_somewhere : (rules : FrontRules) (late : Bool) (past : Past) (k : Kept) → Stands rules late past k → (r i : ℕ)
+pub ready_somewhere : (rules : FrontRules) (late : Bool) (past : Past) (k : Content) → Stands rules late past k → (r i : ℕ)
     → is_served past r i ≡ true → is_posted past r i ≡ false → is_in_hand k.jobs.hands r i ≡ false → (r == 0 && is_index i (deleting_place past)) ≡ false → IsSomewhere k past r i
 ready_somewhere rules late past k s r i served unposted has_result other =
     let posts : posts_of past r i ≡ 0 = posts_of-none past r i unposted in
@@ -119,13 +119,13 @@ ready_somewhere rules late past k s r i served unposted has_result other =
     }
 
 -- where each completion region has nothing ready or no free place, every place that can be answered waits for a free place
-pub record WaitsForPlace (k : Kept) (past : Past) (r : ℕ) : Type 0 where
+pub record WaitsForPlace (k : Content) (past : Past) (r : ℕ) : Type 0 where
   pub region : ℕ
   pub goes_there : cq_region_of past r ≡ Some region
   pub full : (k.cq region).free ≡ 0
 
 -- each place that could be answered goes to a completion region with no free place
-pub all_ready_wait : (rules : FrontRules) (late : Bool) (past : Past) (k : Kept) → Stands rules late past k
+pub all_ready_wait : (rules : FrontRules) (late : Bool) (past : Past) (k : Content) → Stands rules late past k
     → ((c : ℕ) → ((k.cq c).ready ≡ []) ⊎ ((k.cq c).free ≡ 0)) → (r i : ℕ)
     → is_served past r i ≡ true → is_posted past r i ≡ false → is_in_hand k.jobs.hands r i ≡ false → (r == 0 && is_index i (deleting_place past)) ≡ false → WaitsForPlace k past r
 all_ready_wait rules late past k s blocked r i served unposted has_result other =
@@ -137,7 +137,7 @@ all_ready_wait rules late past k s blocked r i served unposted has_result other 
     }
 
 -- the same, of the completion region where its completion goes
-pub ready_waits_there : (rules : FrontRules) (late : Bool) (past : Past) (k : Kept) → Stands rules late past k
+pub ready_waits_there : (rules : FrontRules) (late : Bool) (past : Past) (k : Content) → Stands rules late past k
     → ((c : ℕ) → ((k.cq c).ready ≡ []) ⊎ ((k.cq c).free ≡ 0)) → (r i : ℕ)
     → is_served past r i ≡ true → is_posted past r i ≡ false → is_in_hand k.jobs.hands r i ≡ false → (r == 0 && is_index i (deleting_place past)) ≡ false
     → (c : ℕ) → cq_region_of past r ≡ Some c → (k.cq c).free ≡ 0
@@ -180,7 +180,7 @@ pub record IsUnposted (past : Past) (r : ℕ) : Type 0 where
   pub unposted : is_posted past r index ≡ false
 
 -- where the count of such places isn't 0, there is one
-pub unposted_in : (rules : FrontRules) (late : Bool) (past : Past) (k : Kept) → Stands rules late past k → (r : ℕ) → ((k.sq r).unposted ≡ 0 → ⊥) → IsUnposted past r
+pub unposted_in : (rules : FrontRules) (late : Bool) (past : Past) (k : Content) → Stands rules late past k → (r : ℕ) → ((k.sq r).unposted ≡ 0 → ⊥) → IsUnposted past r
 unposted_in rules late past k s r some =
     let test : ℕ → Bool = λ (i : ℕ). not (is_waiting (fate_of past r i)) && not (is_posted past r i) in
     let found = kept_below test (length (fetched past r)) (λ none. some (s.counts.unposted r ∙ ap (λ (xs : List ℕ). length xs) none)) in
@@ -192,6 +192,6 @@ unposted_in rules late past k s r some =
     }
 
 -- where the queue that is being deleted has places with no completion posted, there is one
-pub unposted_place : (rules : FrontRules) (late : Bool) (past : Past) (k : Kept) → Stands rules late past k → (d : PendingDelete) → k.deletion ≡ Some d
+pub unposted_place : (rules : FrontRules) (late : Bool) (past : Past) (k : Content) → Stands rules late past k → (d : PendingDelete) → k.deletion ≡ Some d
     → ((k.sq d.region).unposted ≡ 0 → ⊥) → IsUnposted past d.region
 unposted_place rules late past k s d pending some = unposted_in rules late past k s d.region some

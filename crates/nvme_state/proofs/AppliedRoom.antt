@@ -14,7 +14,7 @@ use Rattle.nvme_state.specs.inside.Jobs.{dispatched_place}
 use Rattle.nvme_log.specs.Places.{Place, fetched, picked, fate_of, is_waiting, is_picked, is_aborted, unaborted_below, places}
 use Rattle.nvme_log.specs.Aborts.{is_abort_requested, is_aborted_with_queue}
 use Rattle.nvme_log.specs.Completions.{is_posted, takes_place}
-use Rattle.nvme_state.specs.inside.Kept.{Kept}
+use Rattle.nvme_state.specs.inside.Content.{Content}
 use Rattle.nvme_state.specs.inside.Standing.{HoldsSq, HoldsReady, IsReady, Stands, times_in, times_ready, times_held, held_by, hand_of, IsDispatched}
 use Rattle.nvme_log.specs.Places.{one_if, is_served}
 use Rattle.nvme_log.specs.Completions.{unposted_of}
@@ -42,7 +42,7 @@ both_kinds (t ∷ ts) =
       one false = refl
 
 -- where no deletion is pending, no more completions are ready for a completion region than places are outstanding
-pub few_ready : (past : Past) (k : Kept) → HoldsReady past k (hand_of k) → k.deletion ≡ None → (c : ℕ) → length (k.cq c).ready ≤ k.outstanding
+pub few_ready : (past : Past) (k : Content) → HoldsReady past k (hand_of k) → k.deletion ≡ None → (c : ℕ) → length (k.cq c).ready ≤ k.outstanding
 few_ready past k h none c = elim (cases_lt c MAX_REGIONS) [
   | inl small ↦
       omega (
@@ -65,7 +65,7 @@ counts_none true n = absurd (n refl)
 counts_none false n = omega arith
 
 -- where no deletion is pending, no ready completion is that of a place that was aborted with its queue
-ready-unaborted : (past : Past) (k : Kept) (r i : ℕ) → HoldsReady past k (hand_of k) → k.deletion ≡ None → is_aborted_with_queue past r i ≡ true
+ready-unaborted : (past : Past) (k : Content) (r i : ℕ) → HoldsReady past k (hand_of k) → k.deletion ≡ None → is_aborted_with_queue past r i ≡ true
     → times_ready k r i ≡ 0
 ready-unaborted past k r i h none gone =
     over_none (λ (c : ℕ). times_in r i (k.cq c).ready) MAX_REGIONS (λ c l.
@@ -96,7 +96,7 @@ jobs-unaborted past ds r i each gone =
     )
 
 -- so no aborted place is in hand, where no deletion is pending
-hand-unaborted : (past : Past) (k : Kept) (r i : ℕ) → All (IsDispatched past) (in_hand k.jobs.hands) → k.deletion ≡ None → is_aborted past r i ≡ true
+hand-unaborted : (past : Past) (k : Content) (r i : ℕ) → All (IsDispatched past) (in_hand k.jobs.hands) → k.deletion ≡ None → is_aborted past r i ≡ true
     → times_held r i (hand_of k) ≡ 0
 hand-unaborted past k r i each none gone =
     let held : times_held r i (held_by k.deletion) ≡ 0 = ap (λ (d : Option PendingDelete). times_held r i (held_by d)) none in
@@ -107,7 +107,7 @@ hand-unaborted past k r i each none gone =
     )
 
 -- so a place that was aborted with its queue has its completion posted
-aborted-posted : (past : Past) (k : Kept) (r i : ℕ) → ((x : ℕ) → HoldsSq past x (k.sq x)) → HoldsReady past k (hand_of k)
+aborted-posted : (past : Past) (k : Content) (r i : ℕ) → ((x : ℕ) → HoldsSq past x (k.sq x)) → HoldsReady past k (hand_of k)
     → All (IsDispatched past) (in_hand k.jobs.hands) → k.deletion ≡ None → is_aborted_with_queue past r i ≡ true → is_posted past r i ≡ false → ⊥
 aborted-posted past k r i regions h each none gone fresh =
     let named : is_aborted past r i ≡ true = (and_parts (is_aborted past r i) (not (is_abort_requested past r i)) gone).0 in
@@ -135,7 +135,7 @@ part_of f r (suc n) l =
     ]
 
 -- where no deletion is pending, no more places of a region are unposted than are outstanding
-pub few_unposted : (rules : FrontRules) (late : Bool) (past : Past) (k : Kept) → Stands rules late past k → k.deletion ≡ None → (r : ℕ) → r < k.nsq
+pub few_unposted : (rules : FrontRules) (late : Bool) (past : Past) (k : Content) → Stands rules late past k → k.deletion ≡ None → (r : ℕ) → r < k.nsq
     → (k.sq r).unposted ≤ k.outstanding
 few_unposted rules late past k s none r there =
     let picks : unposted_of past r ≤ outstanding_of past r =

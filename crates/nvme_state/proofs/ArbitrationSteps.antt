@@ -32,7 +32,7 @@ use Rattle.nvme_log.specs.Queues.{Queue, admin_queue, open_sq, open_cq}
 use Rattle.nvme_log.specs.Places.{waiting, observation_of}
 use Rattle.nvme_log.specs.Histories.{arbitration_of}
 use Rattle.nvme_log.specs.Effects.{closed_cq_of, closing_of, abort_in, named, target_of}
-use Rattle.nvme_state.specs.inside.Kept.{Kept, SqKept}
+use Rattle.nvme_state.specs.inside.Content.{Content, SqContent}
 use Rattle.nvme_state.specs.inside.Standing.{HoldsArbitration, Stands, on_board}
 use Rattle.nvme_state.proofs.Observing.{seen_is_observed}
 use Rattle.nvme_state.specs.inside.Steps.{CanPick, applied_to, verdict_at, oldest_named, picked_sq}
@@ -82,7 +82,7 @@ record HoldsPick (rules : FrontRules) (past : Past) (seen : List Seen) (pick : P
   lawful : IsLawfulRun rules.mechanism rules.start.settings (arbitration_of (event.Pick seen pick ∷ past))
 
 -- a pick of the board is a lawful pick of the observation
-picks : (rules : FrontRules) (late : Bool) (past : Past) (k : Kept) (queue : Queue) (seen : List Seen) (pick : Pick) (after : BoardView)
+picks : (rules : FrontRules) (late : Bool) (past : Past) (k : Content) (queue : Queue) (seen : List Seen) (pick : Pick) (after : BoardView)
     → Stands rules late past k → CanPick rules past k queue pick after → seen ≡ observation_of past → HoldsPick rules past seen pick after
 picks rules late past k queue seen pick after s can seen_is =
     let observed : seen_of k.board.queues ≡ seen = seen_is_observed past k s.regions s.queues ∙ sym seen_is in
@@ -108,12 +108,12 @@ aborts_leave_arbitration r [] past = refl
 aborts_leave_arbitration r (i ∷ is) past = aborts_leave_arbitration r is (Abort r i ∷ past)
 
 -- the board of a pick has the places of the board before it
-pick_size : (rules : FrontRules) (past : Past) (k : Kept) (queue : Queue) (pick : Pick) (after : BoardView) → CanPick rules past k queue pick after
+pick_size : (rules : FrontRules) (past : Past) (k : Content) (queue : Queue) (pick : Pick) (after : BoardView) → CanPick rules past k queue pick after
     → length k.board.queues ≡ queue_limit → length after.queues ≡ queue_limit
 pick_size rules past k queue pick after can size =
     ap length can.board_queues ∙ length-set k.board.queues pick.qid (option_map (board.fewer pick.n) (queue_at k.board.queues pick.qid)) ∙ size
 
-module _ (rules : FrontRules) (late : Bool) (past : Past) (k : Kept) (seen : List Seen) (pick : Pick) (picked : BoardView)
+module _ (rules : FrontRules) (late : Bool) (past : Past) (k : Content) (seen : List Seen) (pick : Pick) (picked : BoardView)
     (candidate : Candidate) (table : TableView) (c : ℕ) (after : BoardView) (is : HoldsPick rules past seen pick picked) (size : length picked.queues ≡ queue_limit) where
   -- a queue is opened with no candidate
   opens : (qid : ℕ) (class : Class) → (qid ≡ 0 → ⊥) → (class ≡ Admin → ⊥)
@@ -188,7 +188,7 @@ module _ (rules : FrontRules) (late : Bool) (past : Past) (k : Kept) (seen : Lis
       record { stands = stands; lawful = is.lawful }
   by_verdict h (verdict.OpenCq qid region) tells chosen left = record { stands = is.stands; lawful = is.lawful }
   by_verdict h (verdict.Abort sqid cid) tells chosen left =
-      by_target sqid cid (target_of past sqid) (λ queue found e named. (chosen queue found e (ap (λ (z : SqKept). oldest_named cid z.window) (sym (left sqid queue e)) ∙ named)).stands)
+      by_target sqid cid (target_of past sqid) (λ queue found e named. (chosen queue found e (ap (λ (z : SqContent). oldest_named cid z.window) (sym (left sqid queue e)) ∙ named)).stands)
   by_verdict h (verdict.SetArbitration settings) tells chosen left = record { stands = chosen.1 (arbitration_of (event.Pick seen pick ∷ past)) is.stands; lawful = is.lawful }
   by_verdict h (CloseCq qid) tells chosen left = by_cq qid (open_cq past qid)
   by_verdict h (BeginDelete qid) tells chosen left = by_sq qid (open_sq past qid)

@@ -16,14 +16,14 @@ use Rattle.nvme_log.specs.Queues.{pending}
 use Rattle.nvme_log.specs.Places.{Place, fetched, waiting, places, fate_of, is_waiting}
 use Rattle.nvme_log.specs.Completions.{is_posted, posts_of, takes_place}
 use Rattle.nvme_log.specs.Account.{IsClear}
-use Rattle.nvme_state.specs.inside.Kept.{Kept}
+use Rattle.nvme_state.specs.inside.Content.{Content}
 use Rattle.nvme_log.specs.Places.{one_if, is_served}
 use Rattle.nvme_state.specs.inside.Standing.{times_in, times_held, times_ready, over_regions, ready_picked, hand_of, as_deletion, IsReady, Stands}
 use Rattle.nvme_log.proofs.Posts.{posts_of-none, posts_of-some, all_below}
 use Rattle.nvme_state.proofs.Answering.{kept_some}
 
 -- what a front keeps is empty: no candidate, nothing outstanding, no ready completion, no pending deletion
-pub record KeepsNothing (k : Kept) : Type 0 where
+pub record KeepsNothing (k : Content) : Type 0 where
   pub no_candidate : (r : ℕ) → (k.sq r).window ≡ []
   pub none_outstanding : k.outstanding ≡ 0
   pub none_ready : (c : ℕ) → (k.cq c).ready ≡ []
@@ -79,7 +79,7 @@ times_in-head t ready =
     omega (arith, sum_by-cons (λ (x : Ready). one_if (x.region == t.region && x.index == t.index)) t ready)
 
 -- ---- from the log
-module _ (rules : FrontRules) (late : Bool) (past : Past) (k : Kept) (s : Stands rules late past k) where
+module _ (rules : FrontRules) (late : Bool) (past : Past) (k : Content) (s : Stands rules late past k) where
   -- a place is ready and posted at most once
   once_only : (r i c : ℕ) → c < MAX_REGIONS → 1 ≤ times_in r i (k.cq c).ready → is_posted past r i ≡ true → ⊥
   once_only r i c lt there posted =
@@ -173,5 +173,5 @@ module _ (rules : FrontRules) (late : Bool) (past : Past) (k : Kept) (s : Stands
   }
 
 -- where what a front keeps stands at its log, the log is clear exactly where nothing is kept
-pub clear_is : (rules : FrontRules) (late : Bool) (past : Past) (k : Kept) → Stands rules late past k → IsClear past ↔ KeepsNothing k
+pub clear_is : (rules : FrontRules) (late : Bool) (past : Past) (k : Content) → Stands rules late past k → IsClear past ↔ KeepsNothing k
 clear_is rules late past k s = (kept_from_clear rules late past k s, clear_from_kept rules late past k s)

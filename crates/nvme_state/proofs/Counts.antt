@@ -24,7 +24,7 @@ use Rattle.nvme_log.specs.Aborts.{is_abort_requested, is_aborted_with_queue}
 use Rattle.nvme_log.specs.Completions.{is_posted, outstanding}
 use Rattle.nvme_log.specs.Effects.{abort_in, closing_of, closed_cq_of, made_by, target_of}
 use Rattle.nvme_log.specs.Laws.{count_of}
-use Rattle.nvme_state.specs.inside.Kept.{SqKept, Kept, put_sq, with_ready}
+use Rattle.nvme_state.specs.inside.Content.{SqContent, Content, put_sq, with_ready}
 use Rattle.nvme_log.specs.Places.{one_if}
 use Rattle.nvme_state.specs.inside.Standing.{IsReady, HoldsSq, HoldsCounts, hand_of, Stands}
 use Rattle.nvme_state.specs.inside.Steps.{picked_sq, applied_to, oldest_named, without_oldest, verdict_at, CanPick}
@@ -41,15 +41,15 @@ use Rattle.nvme_state.proofs.Regions.{target_is}
 
 -- ---- what a step without a post leaves
 -- a submission region has as many places that wait or are unposted as before, and those that were fetched since
-abbrev pub Balanced : SqKept → SqKept → Type 0
+abbrev pub Balanced : SqContent → SqContent → Type 0
 Balanced s t = t.unposted + length t.window + length s.got ≡ s.unposted + length s.window + length t.got
 
 -- one step after another
-Balanced-trans : (s t u : SqKept) → Balanced s t → Balanced t u → Balanced s u
+Balanced-trans : (s t u : SqContent) → Balanced s t → Balanced t u → Balanced s u
 Balanced-trans s t u h g = omega (arith, h, g)
 
 -- another region in the place of one
-Balanced-put : (sq : ℕ → SqKept) (x : ℕ) (s : SqKept) → Balanced (sq x) s → (r : ℕ) → Balanced (sq r) (put_sq sq x s r)
+Balanced-put : (sq : ℕ → SqContent) (x : ℕ) (s : SqContent) → Balanced (sq x) s → (r : ℕ) → Balanced (sq r) (put_sq sq x s r)
 Balanced-put sq x s h r = by (r == x) refl where
   by : (b : Bool) → (r == x) ≡ b → Balanced (sq r) (if b then s else sq r)
   by true e = subst (λ (z : ℕ). Balanced (sq z) s) (sym (eqb-true r x e)) h
@@ -67,7 +67,7 @@ abbrev pub FewPicked : Past → ℕ → Type 0
 FewPicked past r = picked past r ≤ unaborted_below past r (length (fetched past r))
 
 -- a region of which the kept places stand has no more picks
-few_picked : (past : Past) (r : ℕ) (s : SqKept) → HoldsSq past r s → FewPicked past r
+few_picked : (past : Past) (r : ℕ) (s : SqContent) → HoldsSq past r s → FewPicked past r
 few_picked past r s h = subst (λ (z : List Sqe). picked past r ≤ unaborted_below past r (length z)) (sym h.fetched_is) h.few_picked
 
 -- then d more places are outstanding
@@ -85,15 +85,15 @@ outstanding_more rules past later x d served few later_few more lt =
     (length (sq_regions_of rules)) lt
 
 -- as many places of a region wait as its window has candidates
-waiting_many : (past : Past) (r : ℕ) (s : SqKept) → HoldsSq past r s → length (waiting past r) ≡ length s.window
+waiting_many : (past : Past) (r : ℕ) (s : SqContent) → HoldsSq past r s → length (waiting past r) ≡ length s.window
 waiting_many past r s h = ap (λ (z : List ℕ). length z) h.waiting_is ∙ length-map s.window (λ (c : Candidate). c.index)
 
 -- as many entries of a region were fetched as were got
-fetched_many : (past : Past) (r : ℕ) (s : SqKept) → HoldsSq past r s → length (fetched past r) ≡ length s.got
+fetched_many : (past : Past) (r : ℕ) (s : SqContent) → HoldsSq past r s → length (fetched past r) ≡ length s.got
 fetched_many past r s h = ap (λ (z : List Sqe). length z) h.fetched_is
 
 -- a step without a post, after which d more places are outstanding
-pub record CountsMore (rules : FrontRules) (past later : Past) (k l : Kept) (d : ℕ) : Type 0 where
+pub record CountsMore (rules : FrontRules) (past later : Past) (k l : Content) (d : ℕ) : Type 0 where
   pub posted : (r : ℕ) → posted_places later r ≡ posted_places past r
   pub served : (r : ℕ) → PostedServed later r
   pub balanced : (r : ℕ) → Balanced (k.sq r) (l.sq r)
@@ -101,7 +101,7 @@ pub record CountsMore (rules : FrontRules) (past later : Past) (k l : Kept) (d :
   pub kept : l.outstanding ≡ k.outstanding + d
 
 -- one such step after another
-CountsMore-trans : (rules : FrontRules) (past mid later : Past) (k m l : Kept) (d e : ℕ) → CountsMore rules past mid k m d → CountsMore rules mid later m l e
+CountsMore-trans : (rules : FrontRules) (past mid later : Past) (k m l : Content) (d e : ℕ) → CountsMore rules past mid k m d → CountsMore rules mid later m l e
     → CountsMore rules past later k l (d + e)
 CountsMore-trans rules past mid later k m l d e h g = record {
   posted = λ (r : ℕ). g.posted r ∙ h.posted r;
@@ -112,7 +112,7 @@ CountsMore-trans rules past mid later k m l d e h g = record {
 }
 
 -- the counts after it
-counts_after : (rules : FrontRules) (past later : Past) (k l : Kept) (d : ℕ) → ((r : ℕ) → HoldsSq past r (k.sq r)) → ((r : ℕ) → HoldsSq later r (l.sq r))
+counts_after : (rules : FrontRules) (past later : Past) (k l : Content) (d : ℕ) → ((r : ℕ) → HoldsSq past r (k.sq r)) → ((r : ℕ) → HoldsSq later r (l.sq r))
     → ((r : ℕ) → PostedServed past r) → CountsMore rules past later k l d → HoldsCounts rules past k → HoldsCounts rules later l
 counts_after rules past later k l d before after served more h = record {
   unposted = λ (r : ℕ).
@@ -130,7 +130,7 @@ counts_after rules past later k l d before after served more h = record {
 }
 
 -- ---- what stands, for the steps
-module _ (rules : FrontRules) (late : Bool) (past : Past) (k : Kept) (s : Stands rules late past k) where
+module _ (rules : FrontRules) (late : Bool) (past : Past) (k : Content) (s : Stands rules late past k) where
   -- what is posted doesn't wait
   served_now : (r : ℕ) → PostedServed past r
   served_now r = posted_served past k (hand_of k) s.ready r
@@ -171,13 +171,13 @@ module _ (rules : FrontRules) (late : Bool) (past : Past) (k : Kept) (s : Stands
     by false here = few_picked past r (k.sq r) (s.regions r)
 
   -- what is picked from a window is unposted
-  picked_balanced : (t : SqKept) (n : ℕ) → n ≤ length t.window → Balanced t (picked_sq t n)
+  picked_balanced : (t : SqContent) (n : ℕ) → n ≤ length t.window → Balanced t (picked_sq t n)
   picked_balanced t n le =
       let left = length-drop n t.window in
       omega (arith, left, le)
 
 -- a pick leaves as many places more outstanding as it picks
-pub outstanding-pick : (rules : FrontRules) (late : Bool) (past : Past) (k : Kept) (queue : Queue) (seen : List Seen) (pick : Pick) (board : BoardView)
+pub outstanding-pick : (rules : FrontRules) (late : Bool) (past : Past) (k : Content) (queue : Queue) (seen : List Seen) (pick : Pick) (board : BoardView)
     → Stands rules late past k → CanPick rules past k queue pick board → outstanding rules (event.Pick seen pick ∷ past) ≡ outstanding rules past + pick.n
 outstanding-pick rules late past k queue seen pick board s can =
     outstanding_more rules past (event.Pick seen pick ∷ past) queue.region pick.n (served_now rules late past k s)
@@ -231,7 +231,7 @@ counts-fetch rules late past k q queue entry known s can after =
           let many = fetched_many past r (k.sq r) (s.regions r) in
           unrequested past r (length (fetched past r)) ((s.regions r).none_aborted (length (fetched past r)) (omega (arith, many)))
 
-      more : (t : SqKept) → Balanced t (fetched_sq t entry known)
+      more : (t : SqContent) → Balanced t (fetched_sq t entry known)
       more t =
           let got = length-append t.got (entry ∷ []) in
           let window = length-append t.window (record { index = t.fetched; entry = entry } ∷ []) in
@@ -255,13 +255,13 @@ counts-close rules late past k d table s can after = record { unposted = s.count
 
 -- ---- an admin pick
 -- one place more is outstanding after an admin pick
-pub outstanding-admin : (rules : FrontRules) (late : Bool) (past : Past) (k : Kept) (seen : List Seen) (pick : Pick) (board : BoardView)
+pub outstanding-admin : (rules : FrontRules) (late : Bool) (past : Past) (k : Content) (seen : List Seen) (pick : Pick) (board : BoardView)
     → Stands rules late past k → CanPick rules past k admin_queue pick board → pick.n ≡ 1 → outstanding rules (event.Pick seen pick ∷ past) ≡ outstanding rules past + 1
 outstanding-admin rules late past k seen pick board s can one =
     outstanding-pick rules late past k admin_queue seen pick board s can ∙ ap (λ (z : ℕ). outstanding rules past + z) one
 
 -- the abort of an Abort command leaves one place more outstanding
-pub outstanding-request : (rules : FrontRules) (late : Bool) (past : Past) (k : Kept) (seen : List Seen) (pick : Pick) (picked : BoardView)
+pub outstanding-request : (rules : FrontRules) (late : Bool) (past : Past) (k : Content) (seen : List Seen) (pick : Pick) (picked : BoardView)
     (candidate : Candidate) (rest : List Candidate) (table : TableView) (s : Stands rules late past k) → CanPick rules past k admin_queue pick picked
     → pick.qid ≡ 0 → (k.sq 0).window ≡ candidate ∷ rest → (sqid cid : ℕ) (queue : Queue) (found : Candidate) → target_of past sqid ≡ Some queue
     → oldest_named cid ((applied_to k picked table).sq queue.region).window ≡ Some found → verdict_at rules s.tabled.history candidate ≡ verdict.Abort sqid cid
@@ -278,14 +278,14 @@ outstanding-request rules late past k seen pick picked candidate rest table s ca
     (region_there rules late past k s sqid queue (target_is past sqid queue target).1)
     ∙ ap (λ (b : Bool). outstanding rules mid + one_if b) (took_request rules late past k seen pick picked s can first candidate rest sqid cid oldest is)
 
-module _ (rules : FrontRules) (late : Bool) (past : Past) (k : Kept) (seen : List Seen) (pick : Pick) (picked : BoardView)
+module _ (rules : FrontRules) (late : Bool) (past : Past) (k : Content) (seen : List Seen) (pick : Pick) (picked : BoardView)
     (candidate : Candidate) (rest : List Candidate) (table : TableView) (c : ℕ) (board : BoardView) (s : Stands rules late past k)
     (can : CanPick rules past k admin_queue pick picked) (first : pick.qid ≡ 0) (one : pick.n ≡ 1) (oldest : (k.sq 0).window ≡ candidate ∷ rest) where
   -- the log after the pick, and what is kept
   abbrev mid : Past
   mid = event.Pick seen pick ∷ past
 
-  abbrev now : Kept
+  abbrev now : Content
   now = applied_to k picked table
 
   -- what is posted doesn't wait
@@ -305,11 +305,11 @@ module _ (rules : FrontRules) (late : Bool) (past : Past) (k : Kept) (seen : Lis
   }
 
   -- what a command leaves: some number of places more outstanding
-  abbrev Leaves : List Event → Kept → Type 0
+  abbrev Leaves : List Event → Content → Type 0
   Leaves made after = (d : ℕ) × CountsMore rules mid (with_events made mid) now after d
 
   -- no place more
-  leaves_none : (made : List Event) (after : Kept) → ((r : ℕ) → posted_places (with_events made mid) r ≡ posted_places mid r) → ((r : ℕ) → PostedServed (with_events made mid) r)
+  leaves_none : (made : List Event) (after : Content) → ((r : ℕ) → posted_places (with_events made mid) r ≡ posted_places mid r) → ((r : ℕ) → PostedServed (with_events made mid) r)
       → ((r : ℕ) → Balanced (now.sq r) (after.sq r)) → outstanding rules (with_events made mid) ≡ outstanding rules mid → after.outstanding ≡ now.outstanding → Leaves made after
   leaves_none made after posted served balanced in_log kept = (
     0,
@@ -400,7 +400,7 @@ counts-admin rules late past k seen pick picked candidate rest table c board s c
 
 -- ---- a post
 -- a region of which a completion is posted
-post_kept : (sq : ℕ → SqKept) (r0 r : ℕ) → (put_sq sq r0 (record (sq r0) { unposted = (sq r0).unposted - 1 }) r).unposted ≡ (sq r).unposted - (if r0 == r then 1 else 0)
+post_kept : (sq : ℕ → SqContent) (r0 r : ℕ) → (put_sq sq r0 (record (sq r0) { unposted = (sq r0).unposted - 1 }) r).unposted ≡ (sq r).unposted - (if r0 == r then 1 else 0)
 post_kept sq r0 r =
     ⊎_elim
     (λ (same : r ≡ r0). rw (eq-eqb r r0 same, eq-eqb r0 r (sym same)) (ap (λ (z : ℕ). (sq z).unposted - 1) (sym same)))

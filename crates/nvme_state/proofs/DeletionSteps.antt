@@ -28,7 +28,7 @@ use Rattle.nvme_log.specs.Places.{fetched, waiting, is_aborted, entry_at}
 use Rattle.nvme_log.specs.Effects.{abort_in, closed_cq_of, closing_of, named, target_of}
 use Rattle.nvme_log.specs.Account.{deleting_place, latest_admin_place}
 use Rattle.nvme_log.specs.Laws.{as_open}
-use Rattle.nvme_state.specs.inside.Kept.{SqKept, Kept, put_sq}
+use Rattle.nvme_state.specs.inside.Content.{SqContent, Content, put_sq}
 use Rattle.nvme_state.specs.inside.Standing.{HoldsQueues, HoldsDeletion, IsPending, Stands, as_deletion}
 use Rattle.nvme_state.proofs.Oldest.{oldest_place, oldest_entry, oldest_unaborted}
 use Rattle.nvme_state.proofs.QueueWords.{chosen, put-queue}
@@ -38,7 +38,7 @@ use Rattle.nvme_state.proofs.StepKeeps.{KeepsFetch, KeepsIo, KeepsAdmin, KeepsPo
 
 -- ---- where no deletion is pending
 -- a deletion that isn't there stands
-none_stands : (past : Past) (k : Kept) → k.deletion ≡ None → (d : PendingDelete) → k.deletion ≡ Some d → IsPending past k d
+none_stands : (past : Past) (k : Content) → k.deletion ≡ None → (d : PendingDelete) → k.deletion ≡ Some d → IsPending past k d
 none_stands past k none d e = absurd (cc)
 
 -- no queue is closing
@@ -46,14 +46,14 @@ abbrev NoneCloses : (ℕ → Option SqEntry) → Type 0
 NoneCloses sqs = (q : ℕ) (e : SqEntry) → sqs q ≡ Some e → e.closing ≡ true → ⊥
 
 -- with no deletion pending, no queue of the table is closing
-none_closes : (past : Past) (k : Kept) → HoldsDeletion past k → k.deletion ≡ None → NoneCloses (sq_of k.table)
+none_closes : (past : Past) (k : Content) → HoldsDeletion past k → k.deletion ≡ None → NoneCloses (sq_of k.table)
 none_closes past k h none q e is closes =
     let qid : option_map (λ (d : PendingDelete). d.qid) k.deletion ≡ Some q = h.closing_is q e is closes in
     let no_qid : None ≡ Some q = sym (ap (option_map (λ (d : PendingDelete). d.qid)) none) ∙ qid in
     cc
 
 -- with no deletion pending, events that leave the pending deletion keep it, where no queue is closing afterwards
-none_kept : (past later : Past) (k after : Kept) → HoldsDeletion past k → k.deletion ≡ None → after.deletion ≡ k.deletion
+none_kept : (past later : Past) (k after : Content) → HoldsDeletion past k → k.deletion ≡ None → after.deletion ≡ k.deletion
     → pending later ≡ pending past → deleting_place later ≡ deleting_place past → NoneCloses (sq_of after.table) → HoldsDeletion later after
 none_kept past later k after h none same p q closes = record {
   pending_is = p ∙ h.pending_is ∙ ap (option_map as_deletion) (sym same);
@@ -74,13 +74,13 @@ deleting-io rules late past k queue seen pick board c s can seen_is io attached 
 
 -- ---- a post
 -- a region put in the place of one, with the same window, leaves each window
-put_window : (sq : ℕ → SqKept) (r : ℕ) (s : SqKept) (x : ℕ) (b : Bool) → s.window ≡ (sq r).window → (x == r) ≡ b
+put_window : (sq : ℕ → SqContent) (r : ℕ) (s : SqContent) (x : ℕ) (b : Bool) → s.window ≡ (sq r).window → (x == r) ≡ b
     → (if b then s else sq x).window ≡ (sq x).window
 put_window sq r s x true same e = same ∙ ap (λ (y : ℕ). (sq y).window) (sym (eqb-true x r e))
 put_window sq r s x false same e = refl
 
 -- a region that is put with no candidate has none
-put_emptied : (sq : ℕ → SqKept) (r : ℕ) (s : SqKept) → s.window ≡ [] → (put_sq sq r s r).window ≡ []
+put_emptied : (sq : ℕ → SqContent) (r : ℕ) (s : SqContent) → s.window ≡ [] → (put_sq sq r s r).window ≡ []
 put_emptied sq r s h = rw (eq-eqb r r refl) h
 
 -- a post leaves the pending deletion
@@ -116,7 +116,7 @@ left_open (Some x) e is closes = by_closing x.closing refl where
       true≢false (sym closes ∙ ap (λ (y : SqEntry). y.closing) (sym one) ∙ h)
 
 -- no queue but that of the pending deletion was closing, and it is taken away
-none_closes-finished : (rules : FrontRules) (past : Past) (k : Kept) (history : TableHistory) (d : PendingDelete) (table : TableView)
+none_closes-finished : (rules : FrontRules) (past : Past) (k : Content) (history : TableHistory) (d : PendingDelete) (table : TableView)
     → HoldsDeletion past k → k.deletion ≡ Some d → StandsAt rules.start k.table history → StandsAt rules.start table (DeletionFinished d.qid ∷ history)
     → NoneCloses (sq_of table)
 none_closes-finished rules past k history d table h pending_is before after q e is closes =
@@ -171,7 +171,7 @@ aborts_leave_aborted r x j (i ∷ is) past n = aborts_leave_aborted r x j is (Ab
 
 -- ---- an admin pick
 -- the region of an I/O queue isn't that of the admin queue
-pub io_region : (past : Past) (k : Kept) (qid : ℕ) (queue : Queue) → HoldsQueues past k → open_sq past 0 ≡ Some admin_queue → open_sq past qid ≡ Some queue
+pub io_region : (past : Past) (k : Content) (qid : ℕ) (queue : Queue) → HoldsQueues past k → open_sq past 0 ≡ Some admin_queue → open_sq past qid ≡ Some queue
     → (qid ≡ 0 → ⊥) → queue.region ≡ 0 → ⊥
 io_region past k qid queue h admin io not_admin e =
     let a = h.attached 0 admin_queue admin in
@@ -222,7 +222,7 @@ open_in_log (Some entry) e none = by_closing entry.closing refl where
       cc
 
 -- the deletion of a queue begins: it is pending afterwards, on the region of the queue, with the place of the picked command
-begun : (rules : FrontRules) (late : Bool) (past : Past) (k : Kept) (seen : List Seen) (pick : Pick) (picked : BoardView)
+begun : (rules : FrontRules) (late : Bool) (past : Past) (k : Content) (seen : List Seen) (pick : Pick) (picked : BoardView)
     (candidate : Candidate) (rest : List Candidate) (table : TableView) (c qid : ℕ) (queue : Queue)
     → (s : Stands rules late past k) → open_sq past 0 ≡ Some admin_queue → pick.qid ≡ 0
     → CanApply rules past k s.tabled.history candidate rest table → TellsChange rules.start s.tabled.history candidate.entry (BeginDelete qid)
@@ -232,7 +232,7 @@ begun rules late past k seen pick picked candidate rest table c qid queue s admi
     let r : ℕ = queue.region in
     let is : List ℕ = waiting past r in
     let before : Past = event.Closing qid r ∷ event.Pick seen pick ∷ past in
-    let after : Kept = deleting_from (applied_to k picked table) qid c candidate (Some queue) in
+    let after : Content = deleting_from (applied_to k picked table) qid c candidate (Some queue) in
     let found = open_entry (sq_of k.table qid) queue (sym (s.queues.sqs qid) ∙ is_open) in
     let apart : r ≡ 0 → ⊥ = io_region past k qid queue s.queues admin is_open tells.due.not_admin in
     let d : PendingDelete = record { qid = qid; region = r; index = candidate.index; entry = candidate.entry } in
@@ -275,7 +275,7 @@ begun rules late past k seen pick picked candidate rest table c qid queue s admi
     }
 
 -- an Abort command leaves the pending deletion
-aborting_leaves_deletion : (k : Kept) (candidate : Candidate) (c cid : ℕ) (board : BoardView) (o : Option Queue) → (aborting_from k candidate c cid board o).deletion ≡ k.deletion
+aborting_leaves_deletion : (k : Content) (candidate : Candidate) (c cid : ℕ) (board : BoardView) (o : Option Queue) → (aborting_from k candidate c cid board o).deletion ≡ k.deletion
 aborting_leaves_deletion k candidate c cid board None = refl
 aborting_leaves_deletion k candidate c cid board (Some queue) = found (oldest_named cid (k.sq queue.region).window) where
   found : (o : Option Candidate) → (aborting_in k candidate queue.region c cid board o).deletion ≡ k.deletion
@@ -283,7 +283,7 @@ aborting_leaves_deletion k candidate c cid board (Some queue) = found (oldest_na
   found (Some it) = refl
 
 -- and the table
-aborting_leaves_table : (k : Kept) (candidate : Candidate) (c cid : ℕ) (board : BoardView) (o : Option Queue) → (aborting_from k candidate c cid board o).table ≡ k.table
+aborting_leaves_table : (k : Content) (candidate : Candidate) (c cid : ℕ) (board : BoardView) (o : Option Queue) → (aborting_from k candidate c cid board o).table ≡ k.table
 aborting_leaves_table k candidate c cid board None = refl
 aborting_leaves_table k candidate c cid board (Some queue) = found (oldest_named cid (k.sq queue.region).window) where
   found : (o : Option Candidate) → (aborting_in k candidate queue.region c cid board o).table ≡ k.table
@@ -300,7 +300,7 @@ abort_leaves_deleting past later cid None = refl
 abort_leaves_deleting past later cid (Some queue) = aborts_leave_deleting queue.region (take 1 (named past queue.region cid)) later
 
 -- an admin pick, by the verdict of its command
-by_verdict : (rules : FrontRules) (late : Bool) (past : Past) (k : Kept) (seen : List Seen) (pick : Pick) (picked : BoardView)
+by_verdict : (rules : FrontRules) (late : Bool) (past : Past) (k : Content) (seen : List Seen) (pick : Pick) (picked : BoardView)
     (candidate : Candidate) (rest : List Candidate) (table : TableView) (c : ℕ) (board : BoardView) (v : Verdict)
     → (s : Stands rules late past k) → CanPick rules past k admin_queue pick picked → pick.qid ≡ 0
     → CanApply rules past k s.tabled.history candidate rest table → TellsChange rules.start s.tabled.history candidate.entry v
@@ -316,7 +316,7 @@ by_verdict rules late past k seen pick picked candidate rest table c board (verd
     none_kept past _ k _ s.deletion can.none_pending refl refl refl (later (λ q e. cc))
 by_verdict rules late past k seen pick picked candidate rest table c board (verdict.Abort sqid cid) s can z apply tells none later =
     let o : Option Queue = target_of past sqid in
-    let after : Kept = aborting_from (applied_to k picked table) candidate c cid board o in
+    let after : Content = aborting_from (applied_to k picked table) candidate c cid board o in
     none_kept past (with_events (abort_in past cid o) (event.Pick seen pick ∷ past)) k after s.deletion can.none_pending
     (aborting_leaves_deletion (applied_to k picked table) candidate c cid board o)
     (abort_leaves_pending past (event.Pick seen pick ∷ past) cid o) (abort_leaves_deleting past (event.Pick seen pick ∷ past) cid o)

@@ -9,7 +9,7 @@ use Rattle.nvme_state.specs.declared.candidate.Dispatched.{Dispatched}
 use Rattle.nvme_state.specs.declared.candidate.Ready.{Ready}
 use Rattle.nvme_log.specs.Rules.{FrontRules, Past}
 use Rattle.nvme_state.specs.inside.Jobs.{JobsView, IsResultOf, handed_jobs, gained_jobs}
-use Rattle.nvme_state.specs.inside.Kept.{CqKept, Kept}
+use Rattle.nvme_state.specs.inside.Content.{CqContent, Content}
 use Rattle.nvme_state.specs.inside.Standing.{IsDispatched, HoldsJobs, HoldsCounts, HoldsQueues, HoldsDeletion, HoldsArbitration, HoldsTable, HasOwnStatus, Accounts}
 use Rattle.nvme_state.proofs.AfterSteps.{completed, after_gain}
 use Rattle.nvme_state.proofs.StepKeeps.{KeepsHand, KeepsGain, KeepsStray, Regions, Counts, Queues, Deleting, Arbitration, Tabled, Accounted}
@@ -18,10 +18,10 @@ use Rattle.nvme_state.proofs.JobAccounts.{each-gained}
 
 -- ---- other jobs, and other completion regions
 -- what is kept, with these completion regions and jobs
-abbrev with_jobs : Kept → (ℕ → CqKept) → JobsView → Kept
+abbrev with_jobs : Content → (ℕ → CqContent) → JobsView → Content
 with_jobs k cq jobs = record k { cq = cq; jobs = jobs }
 
-module _ (rules : FrontRules) (late : Bool) (past : Past) (k : Kept) (cq : ℕ → CqKept) (jobs : JobsView) where
+module _ (rules : FrontRules) (late : Bool) (past : Past) (k : Content) (cq : ℕ → CqContent) (jobs : JobsView) where
   -- the counts are left
   counts-left : HoldsCounts rules past k → HoldsCounts rules past (with_jobs k cq jobs)
   counts-left h = record { unposted = h.unposted; outstanding_is = h.outstanding_is }
@@ -180,7 +180,7 @@ completed_own rules past d result h entry sizes = record {
 }
 
 -- a ready completion more leaves the slots of each completion region
-slots_left : (cq : ℕ → CqKept) (c : ℕ) (ready : List Ready) (x : ℕ) (b : Bool) → (x == c) ≡ b
+slots_left : (cq : ℕ → CqContent) (c : ℕ) (ready : List Ready) (x : ℕ) (b : Bool) → (x == c) ≡ b
     → (if b then record (cq c) { ready = ready } else cq x).slots ≡ (cq x).slots
 slots_left cq c ready x true e = ap (λ (y : ℕ). (cq y).slots) (sym (eqb-true x c e))
 slots_left cq c ready x false e = refl

@@ -12,11 +12,11 @@ use Rattle.nvme_log.specs.Rules.{FrontRules, Past, upto, sq_regions_of, cq_regio
 use Rattle.nvme_log.specs.Places.{fetched, places}
 use Rattle.nvme_log.specs.Completions.{is_posted, takes_place}
 use Rattle.nvme_log.specs.Laws.{as_open}
-use Rattle.nvme_state.specs.inside.Kept.{Kept}
+use Rattle.nvme_state.specs.inside.Content.{Content}
 use Rattle.nvme_state.specs.inside.Standing.{HoldsSq, HoldsReady, HoldsCounts, HoldsPosts, HoldsQueues, HoldsDeletion, HoldsTable, IsPending, hand_of, Stands}
 
 -- more regions, of which nothing is kept but what comes from them, and a table with the same queues
-abbrev pub grown : Kept → (ℕ → List Sqe) → (ℕ → ℕ) → (ℕ → ℕ) → (ℕ → ℕ) → ℕ → ℕ → TableView → Kept
+abbrev pub grown : Content → (ℕ → List Sqe) → (ℕ → ℕ) → (ℕ → ℕ) → (ℕ → ℕ) → ℕ → ℕ → TableView → Content
 grown k known sq_slots free cq_slots nsq ncq table = record k {
   sq = λ (r : ℕ). record (k.sq r) { known = known r; slots = sq_slots r };
   cq = λ (c : ℕ). record (k.cq c) { free = free c; slots = cq_slots c };
@@ -26,7 +26,7 @@ grown k known sq_slots free cq_slots nsq ncq table = record k {
 }
 
 -- the regions that there are then, and the table with them
-pub record Grows (rules : FrontRules) (regions : TableHistory) (k : Kept) (sq_slots cq_slots : ℕ → ℕ) (nsq ncq : ℕ) (table : TableView) : Type 0 where
+pub record Grows (rules : FrontRules) (regions : TableHistory) (k : Content) (sq_slots cq_slots : ℕ → ℕ) (nsq ncq : ℕ) (table : TableView) : Type 0 where
   pub sqs : k.nsq ≤ nsq
   pub cqs : k.ncq ≤ ncq
   pub same_sq : (q : ℕ) → sq_of table q ≡ sq_of k.table q
@@ -55,7 +55,7 @@ sum_by-further f m (suc n) le none = elim (cases_lt m (suc n)) [
 abbrev outstanding_in : Past → ℕ → ℕ
 outstanding_in past r = length (filter (λ (i : ℕ). takes_place past r i && not (is_posted past r i)) (places past r))
 
-module _ (rules : FrontRules) (late : Bool) (past : Past) (k : Kept) (s : Stands rules late past k)
+module _ (rules : FrontRules) (late : Bool) (past : Past) (k : Content) (s : Stands rules late past k)
     (regions : TableHistory) (known : ℕ → List Sqe) (sq_slots free cq_slots : ℕ → ℕ) (nsq ncq : ℕ) (table : TableView)
     (g : Grows rules regions k sq_slots cq_slots nsq ncq table) where
   -- nothing was got from a region that isn't there

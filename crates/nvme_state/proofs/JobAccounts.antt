@@ -26,7 +26,7 @@ use Rattle.nvme_log.specs.Places.{Place, entry_at, is_aborted}
 use Rattle.nvme_state.specs.Hands.{Hands, job_in, in_hand}
 use Rattle.nvme_state.specs.inside.Jobs.{dispatched_from, dispatched_place}
 use Rattle.nvme_log.specs.Dispatches.{place_at, AreJobs, dispatched}
-use Rattle.nvme_state.specs.inside.Kept.{Kept}
+use Rattle.nvme_state.specs.inside.Content.{Content}
 use Rattle.nvme_state.specs.inside.Standing.{HoldsReady, HoldsJobs, IsDispatched, times_held, held_by, hand_of}
 use Rattle.nvme_log.specs.Places.{one_if, is_served}
 use Rattle.nvme_state.proofs.Windows.{sum_by-map}
@@ -146,7 +146,7 @@ pub record Leaves (past later : Past) : Type 0 where
   pub unaborted : (r i : ℕ) → is_served past r i ≡ true → is_aborted past r i ≡ false → is_aborted later r i ≡ false
 
 -- a place in hand was served
-hand_served : (past : Past) (k : Kept) → HoldsReady past k (hand_of k) → All (λ (d : Dispatched). is_served past d.region d.index ≡ true) (in_hand k.jobs.hands)
+hand_served : (past : Past) (k : Content) → HoldsReady past k (hand_of k) → All (λ (d : Dispatched). is_served past d.region d.index ≡ true) (in_hand k.jobs.hands)
 hand_served past k ready j e lt =
     let d : Dispatched = slice_index_or (in_hand k.jobs.hands) j e in
     let own : Dispatched → ℕ = λ x. one_if (x.region == d.region && x.index == d.index) in
@@ -167,7 +167,7 @@ with_events-longer [] past = omega arith
 with_events-longer (e ∷ es) past = omega (arith, with_events-longer es (e ∷ past))
 
 -- events that leave them keep the jobs
-pub jobs_left : (sizes : List ℕ) (past later : Past) (k : Kept) → HoldsReady past k (hand_of k) → HoldsJobs sizes past k.jobs → Leaves past later → HoldsJobs sizes later k.jobs
+pub jobs_left : (sizes : List ℕ) (past later : Past) (k : Content) → HoldsReady past k (hand_of k) → HoldsJobs sizes past k.jobs → Leaves past later → HoldsJobs sizes later k.jobs
 jobs_left sizes past later k ready h l = record {
   tickets_are = h.tickets_are ∙ sym (ap (λ (ps : List Place). length ps) l.none_dispatched);
   few = omega (arith, h.few, l.longer);

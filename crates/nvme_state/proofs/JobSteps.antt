@@ -31,7 +31,7 @@ use Rattle.nvme_log.specs.Effects.{closing_of, closed_cq_of, abort_in, named, ta
 use Rattle.nvme_state.specs.inside.Jobs.{JobsView, dispatched_from}
 use Rattle.nvme_state.specs.Hands.{in_hand, job_in}
 use Rattle.nvme_log.specs.Dispatches.{place_at, dispatched_by, dispatched, AreJobs}
-use Rattle.nvme_state.specs.inside.Kept.{Kept}
+use Rattle.nvme_state.specs.inside.Content.{Content}
 use Rattle.nvme_state.specs.inside.Standing.{HoldsJobs, IsDispatched, AreFreshJobs, Stands}
 use Rattle.nvme_state.specs.inside.Steps.{applied_to, verdict_at, oldest_named}
 use Rattle.nvme_state.proofs.Windows.{sum_by-map}
@@ -241,7 +241,7 @@ jobs-stray rules late past k result seat s can regions =
     }
 
 -- ---- an admin pick
-module _ (rules : FrontRules) (late : Bool) (past : Past) (k : Kept) (seen : List Seen) (pick : Pick) (s : Stands rules late past k) (admin : pick.qid ≡ 0) where
+module _ (rules : FrontRules) (late : Bool) (past : Past) (k : Content) (seen : List Seen) (pick : Pick) (s : Stands rules late past k) (admin : pick.qid ≡ 0) where
   -- an admin pick dispatches nothing
   none_picked : dispatched (event.Pick seen pick ∷ past) ≡ dispatched past
   none_picked = ap (λ (ps : List Place). dispatched past ++ ps) (none (open_sq past pick.qid)) ∙ append-nil (dispatched past) where
@@ -309,7 +309,7 @@ module _ (rules : FrontRules) (late : Bool) (past : Past) (k : Kept) (seen : Lis
   verdict-leaves (BeginDelete qid) due = deleting-leaves qid (open_sq past qid)
 
 -- what an admin command leaves has the same jobs
-same_jobs : (past : Past) (k : Kept) (candidate : Candidate) (c : ℕ) (board : BoardView) (v : Verdict) → (after_admin past k candidate c board v).jobs ≡ k.jobs
+same_jobs : (past : Past) (k : Content) (candidate : Candidate) (c : ℕ) (board : BoardView) (v : Verdict) → (after_admin past k candidate c board v).jobs ≡ k.jobs
 same_jobs past k candidate c board (Done status dw0) = refl
 same_jobs past k candidate c board (verdict.OpenSq qid region cqid class) = refl
 same_jobs past k candidate c board (verdict.OpenCq qid region) = refl

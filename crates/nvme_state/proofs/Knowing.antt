@@ -2,14 +2,14 @@
 use Rattle.std.proofs.Common.{◌≡◌, ℕ, ◌≤◌, Bool, List, [], ap, ◌∙◌}
 use Rattle.nvme_entry.specs.declared.submission.Sqe.{Sqe}
 use Rattle.nvme_log.specs.Rules.{FrontRules, Past}
-use Rattle.nvme_state.specs.inside.Kept.{SqKept, Kept, no_sq}
+use Rattle.nvme_state.specs.inside.Content.{SqContent, Content, no_sq}
 use Rattle.nvme_state.specs.inside.Standing.{HoldsSq, HoldsReady, HoldsQueues, HoldsDeletion, HoldsTable, Accounts, Stands, IsFresh, hand_of}
 
 -- the same, but that the ends know other items to come, and other places to be free
-abbrev pub knowing : Kept → (ℕ → List Sqe) → (ℕ → ℕ) → Kept
+abbrev pub knowing : Content → (ℕ → List Sqe) → (ℕ → ℕ) → Content
 knowing k known free = record k { sq = λ (r : ℕ). record (k.sq r) { known = known r }; cq = λ (c : ℕ). record (k.cq c) { free = free c } }
 
-module _ (rules : FrontRules) (late : Bool) (past : Past) (k : Kept) (known : ℕ → List Sqe) (free : ℕ → ℕ) where
+module _ (rules : FrontRules) (late : Bool) (past : Past) (k : Content) (known : ℕ → List Sqe) (free : ℕ → ℕ) where
   holds_sq-knowing : (r : ℕ) → HoldsSq past r (k.sq r) → HoldsSq past r ((knowing k known free).sq r)
   holds_sq-knowing r h = record {
     fetched_is = h.fetched_is;
@@ -122,7 +122,7 @@ module _ (rules : FrontRules) (late : Bool) (past : Past) (k : Kept) (known : �
   pub fresh-knowing : ((r : ℕ) → k.nsq ≤ r → known r ≡ []) → IsFresh rules late k → IsFresh rules late (knowing k known free)
   fresh-knowing none f = record {
     sqs = λ r l. let s = f.sqs r l in record { got = s.got; window = s.window; fetched = s.fetched; unposted = s.unposted; queue = s.queue };
-    no_sqs = λ r l. ap (λ (z : SqKept). record z { known = known r }) (f.no_sqs r l) ∙ ap (λ (z : List Sqe). record no_sq { known = z }) (none r l);
+    no_sqs = λ r l. ap (λ (z : SqContent). record z { known = known r }) (f.no_sqs r l) ∙ ap (λ (z : List Sqe). record no_sq { known = z }) (none r l);
     cqs = λ c. let s = f.cqs c in record { sent = s.sent; posted = s.posted; ready = s.ready };
     board = f.board;
     board_size = f.board_size;

@@ -23,7 +23,7 @@ use Rattle.nvme_log.specs.Effects.{abort_in, closing_of, closed_cq_of, made_by, 
 use Rattle.nvme_log.specs.Account.{LeavesPlaces}
 use Rattle.nvme_log.proofs.AbortEntries.{verdict_is_abort}
 use Rattle.nvme_log.proofs.Waiting.{waiting-abort}
-use Rattle.nvme_state.specs.inside.Kept.{Kept}
+use Rattle.nvme_state.specs.inside.Content.{Content}
 use Rattle.nvme_state.specs.inside.Standing.{Stands, hand_of}
 use Rattle.nvme_state.specs.inside.Steps.{CanPick, CanApply, applied_to, oldest_named, verdict_at}
 use Rattle.nvme_state.proofs.AccountEvents.{EachNext}
@@ -44,7 +44,7 @@ aborts_leave_places rules r (i ∷ is) past e fresh took region few =
       aborts_leave_places rules r is (Abort r i ∷ past) (waiting-abort past r i is e) (All-tail (λ (j : ℕ). is_posted past r j ≡ false) i is fresh) took region still,
     )
 
-module _ (rules : FrontRules) (late : Bool) (past : Past) (k : Kept) (seen : List Seen) (pick : Pick) (picked : BoardView)
+module _ (rules : FrontRules) (late : Bool) (past : Past) (k : Content) (seen : List Seen) (pick : Pick) (picked : BoardView)
     (candidate : Candidate) (rest : List Candidate) (table : TableView) (s : Stands rules late past k)
     (can : CanPick rules past k admin_queue pick picked) (first : pick.qid ≡ 0) (one : pick.n ≡ 1) (apply : CanApply rules past k s.tabled.history candidate rest table) where
   -- the log after the pick

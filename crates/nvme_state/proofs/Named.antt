@@ -13,13 +13,13 @@ use Rattle.nvme_log.specs.Rules.{Past}
 use Rattle.nvme_log.specs.Queues.{Queue}
 use Rattle.nvme_log.specs.Places.{entry_at, one_if, waiting}
 use Rattle.nvme_log.specs.Effects.{abort_in, has_cid, named}
-use Rattle.nvme_state.specs.inside.Kept.{SqKept}
+use Rattle.nvme_state.specs.inside.Content.{SqContent}
 use Rattle.nvme_state.specs.inside.Standing.{HoldsSq}
 use Rattle.nvme_state.specs.inside.Steps.{oldest_named, without_oldest}
 use Rattle.nvme_state.proofs.Windows.{times_in_window}
 
 -- it is the first of the places that wait and are named
-pub first_named : (past : Past) (r cid : ℕ) (s : SqKept) → HoldsSq past r s
+pub first_named : (past : Past) (r cid : ℕ) (s : SqContent) → HoldsSq past r s
     → take 1 (named past r cid) ≡ map (λ (c : Candidate). c.index) (option_to_list (oldest_named cid s.window))
 first_named past r cid s h = ap (λ (is : List ℕ). take 1 (filter (λ (i : ℕ). has_cid cid (entry_at past r i)) is)) h.waiting_is ∙ first s.window h.entries where
   first : (cs : List Candidate) → All (λ (c : Candidate). entry_at past r c.index ≡ Some c.entry) cs
@@ -109,21 +109,21 @@ left_hold P cid (c ∷ rest) all = by (c.entry.cid == cid) (left_hold P cid rest
 
 -- ---- what an Abort command makes
 -- so an Abort command aborts it
-pub made_abort : (past : Past) (cid : ℕ) (queue : Queue) (s : SqKept) (found : Candidate) → HoldsSq past queue.region s → oldest_named cid s.window ≡ Some found
+pub made_abort : (past : Past) (cid : ℕ) (queue : Queue) (s : SqContent) (found : Candidate) → HoldsSq past queue.region s → oldest_named cid s.window ≡ Some found
     → abort_in past cid (Some queue) ≡ event.Abort queue.region found.index ∷ []
 made_abort past cid queue s found h is =
     ap (λ (is : List ℕ). map (λ (i : ℕ). event.Abort queue.region i) is)
     (first_named past queue.region cid s h ∙ ap (λ (o : Option Candidate). map (λ (c : Candidate). c.index) (option_to_list o)) is)
 
 -- and none where there is none
-pub made_none : (past : Past) (cid : ℕ) (queue : Queue) (s : SqKept) → HoldsSq past queue.region s → oldest_named cid s.window ≡ None
+pub made_none : (past : Past) (cid : ℕ) (queue : Queue) (s : SqContent) → HoldsSq past queue.region s → oldest_named cid s.window ≡ None
     → abort_in past cid (Some queue) ≡ []
 made_none past cid queue s h is =
     ap (λ (is : List ℕ). map (λ (i : ℕ). event.Abort queue.region i) is)
     (first_named past queue.region cid s h ∙ ap (λ (o : Option Candidate). map (λ (c : Candidate). c.index) (option_to_list o)) is)
 
 -- the places that wait split as the window does
-pub waiting_splits : (past : Past) (r : ℕ) (s : SqKept) (cid : ℕ) (found : Candidate) → HoldsSq past r s → (p : Splits cid s.window found)
+pub waiting_splits : (past : Past) (r : ℕ) (s : SqContent) (cid : ℕ) (found : Candidate) → HoldsSq past r s → (p : Splits cid s.window found)
     → waiting past r ≡ map (λ (c : Candidate). c.index) p.before ++ found.index ∷ map (λ (c : Candidate). c.index) p.behind
 waiting_splits past r s cid found h p =
     h.waiting_is ∙ ap (map (λ (c : Candidate). c.index)) p.whole ∙ map-append (λ (c : Candidate). c.index) p.before (found ∷ p.behind)

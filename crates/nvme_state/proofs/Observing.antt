@@ -29,28 +29,28 @@ use Rattle.nvme_state.specs.declared.candidate.Candidate.{Candidate}
 use Rattle.nvme_log.specs.Rules.{Past, upto}
 use Rattle.nvme_log.specs.Queues.{Queue, open_sq}
 use Rattle.nvme_log.specs.Places.{waiting, seen_as, observation_of}
-use Rattle.nvme_state.specs.inside.Kept.{Kept}
+use Rattle.nvme_state.specs.inside.Content.{Content}
 use Rattle.nvme_state.specs.inside.Standing.{HoldsSq, HoldsQueues, on_board}
 
 -- ---- the observation
 -- the window of a region is as long as the list of its places that wait
-pub waiting_length : (past : Past) (k : Kept) (r : ℕ) → HoldsSq past r (k.sq r) → length (waiting past r) ≡ length (k.sq r).window
+pub waiting_length : (past : Past) (k : Content) (r : ℕ) → HoldsSq past r (k.sq r) → length (waiting past r) ≡ length (k.sq r).window
 waiting_length past k r h = ap length h.waiting_is ∙ length-map (k.sq r).window (λ (c : Candidate). c.index)
 
 -- an open queue is seen on the board as it is seen in the log
-seen_one : (past : Past) (k : Kept) (q : ℕ) (queue : Queue) → ((r : ℕ) → HoldsSq past r (k.sq r))
+seen_one : (past : Past) (k : Content) (q : ℕ) (queue : Queue) → ((r : ℕ) → HoldsSq past r (k.sq r))
     → seen_as past q (Some queue) ≡ board.seen_as q (on_board k queue) ∷ []
 seen_one past k q queue h = rw (waiting_length past k queue.region (h queue.region)) refl
 
 -- one queue more of the board
-seen_more : (past : Past) (k : Kept) (n : ℕ) (xs : List Seen) (o : Option Queue) → ((r : ℕ) → HoldsSq past r (k.sq r))
+seen_more : (past : Past) (k : Content) (n : ℕ) (xs : List Seen) (o : Option Queue) → ((r : ℕ) → HoldsSq past r (k.sq r))
     → queue_at k.board.queues n ≡ option_map (on_board k) o → xs ≡ seen_of (take n k.board.queues)
     → xs ++ seen_as past n o ≡ seen_of (take (n + 1) k.board.queues)
 seen_more past k n xs None h e is = append-nil xs ∙ seen-none k.board.queues n xs e is
 seen_more past k n xs (Some queue) h e is = rw (seen_one past k n queue h) (seen-some k.board.queues n (on_board k queue) xs e is)
 
 -- the queues of the board below an identifier are seen as the open queues below it are, with their waiting places
-seen_below : (past : Past) (k : Kept) → ((r : ℕ) → HoldsSq past r (k.sq r))
+seen_below : (past : Past) (k : Content) → ((r : ℕ) → HoldsSq past r (k.sq r))
     → ((q : ℕ) → queue_at k.board.queues q ≡ option_map (on_board k) (open_sq past q)) → (n : ℕ)
     → flat_map (λ (q : ℕ). seen_as past q (open_sq past q)) (upto n) ≡ seen_of (take n k.board.queues)
 seen_below past k h b zero = refl
@@ -62,13 +62,13 @@ seen_below past k h b (suc n) =
     ∙ ap (λ (m : ℕ). seen_of (take m k.board.queues)) (sym more)
 
 -- what arbitration sees of the board, where it has this many places
-seen_all : (past : Past) (k : Kept) (n : ℕ) → ((r : ℕ) → HoldsSq past r (k.sq r))
+seen_all : (past : Past) (k : Content) (n : ℕ) → ((r : ℕ) → HoldsSq past r (k.sq r))
     → ((q : ℕ) → queue_at k.board.queues q ≡ option_map (on_board k) (open_sq past q)) → length k.board.queues ≡ n
     → flat_map (λ (q : ℕ). seen_as past q (open_sq past q)) (upto n) ≡ seen_of k.board.queues
 seen_all past k n h b size = seen-all k.board.queues n (flat_map (λ (q : ℕ). seen_as past q (open_sq past q)) (upto n)) (omega arith) (seen_below past k h b n)
 
 -- what arbitration sees of the board is the observation of the log
-pub seen_is_observed : (past : Past) (k : Kept) → ((r : ℕ) → HoldsSq past r (k.sq r)) → HoldsQueues past k
+pub seen_is_observed : (past : Past) (k : Content) → ((r : ℕ) → HoldsSq past r (k.sq r)) → HoldsQueues past k
     → seen_of k.board.queues ≡ observation_of past
 seen_is_observed past k h q = sym (seen_all past k queue_limit h q.board q.board_size)
 
@@ -141,7 +141,7 @@ peeked m first past queues pick o h =
 
 -- ---- the same, in the log
 -- the queue of a pick is open in the log, with as many candidates as are taken; of the admin queue one is taken
-pub record IsPickable (past : Past) (k : Kept) (pick : Pick) : Type 0 where
+pub record IsPickable (past : Past) (k : Content) (pick : Pick) : Type 0 where
   pub queue : Queue
   pub is_open : open_sq past pick.qid ≡ Some queue
   pub at_least_one : 1 ≤ pick.n
@@ -149,7 +149,7 @@ pub record IsPickable (past : Past) (k : Kept) (pick : Pick) : Type 0 where
   pub one_of_admin : pick.qid ≡ 0 → pick.n ≡ 1
 
 -- the queue of a pick in the log, where the board has the queues of the log
-pickable_at : (past : Past) (k : Kept) (pick : Pick) (o : Option Queue) → open_sq past pick.qid ≡ o
+pickable_at : (past : Past) (k : Content) (pick : Pick) (o : Option Queue) → open_sq past pick.qid ≡ o
     → queue_at k.board.queues pick.qid ≡ option_map (on_board k) o → IsPeeked k.board.queues pick → IsPickable past k pick
 pickable_at past k pick None e b is = let both : None ≡ Some is.queue = sym b ∙ is.is_open in absurd (cc)
 pickable_at past k pick (Some queue) e b is =
@@ -164,7 +164,7 @@ pickable_at past k pick (Some queue) e b is =
     }
 
 -- the pick of a board is of a queue that is open in the log
-pub pickable : (m : Mechanism) (first : ArbitrationFields) (history : History) (past : Past) (k : Kept) (pick : Pick)
+pub pickable : (m : Mechanism) (first : ArbitrationFields) (history : History) (past : Past) (k : Content) (pick : Pick)
     → HoldsQueues past k → IsObservation (seen_of k.board.queues) → lawful_pick m first history (seen_of k.board.queues) ≡ Some pick
     → IsPickable past k pick
 pickable m first history past k pick q o h =

@@ -6,7 +6,7 @@ use Rattle.nvme_state.specs.declared.candidate.Candidate.{Candidate}
 use Rattle.nvme_log.specs.Rules.{Past}
 use Rattle.nvme_log.specs.Places.{WasAborted, WasPicked, Waits, waiting, places, fate_of, is_waiting, is_aborted, picked, unaborted_below, entry_at}
 use Rattle.nvme_log.specs.Histories.{admin_entry}
-use Rattle.nvme_state.specs.inside.Kept.{SqKept}
+use Rattle.nvme_state.specs.inside.Content.{SqContent}
 use Rattle.nvme_state.specs.inside.Standing.{HoldsSq}
 
 -- a place that waits was not aborted
@@ -14,7 +14,7 @@ waits_unaborted : (aborted first : Bool) → is_waiting (if aborted then WasAbor
 waits_unaborted false first h = refl
 waits_unaborted true first h = absurd (cc)
 
-module _ (past : Past) (r : ℕ) (s : SqKept) (holds : HoldsSq past r s) (candidate : Candidate) (rest : List Candidate) (window : s.window ≡ candidate ∷ rest) where
+module _ (past : Past) (r : ℕ) (s : SqContent) (holds : HoldsSq past r s) (candidate : Candidate) (rest : List Candidate) (window : s.window ≡ candidate ∷ rest) where
   -- the places that wait begin with it
   pub waiting_from : waiting past r ≡ candidate.index ∷ map (λ (c : Candidate). c.index) rest
   waiting_from = holds.waiting_is ∙ ap (map (λ (c : Candidate). c.index)) window
@@ -38,7 +38,7 @@ module _ (past : Past) (r : ℕ) (s : SqKept) (holds : HoldsSq past r s) (candid
       waits_unaborted (is_aborted past r candidate.index) (nat_lt (unaborted_below past r candidate.index) (picked past r)) first
 
 -- the entry that a pick of the admin queue takes is that of the oldest admin candidate
-pub admin_entry_is : (past : Past) (s : SqKept) (candidate : Candidate) (rest : List Candidate) → HoldsSq past 0 s → s.window ≡ candidate ∷ rest
+pub admin_entry_is : (past : Past) (s : SqContent) (candidate : Candidate) (rest : List Candidate) → HoldsSq past 0 s → s.window ≡ candidate ∷ rest
     → admin_entry past ≡ Some candidate.entry
 admin_entry_is past s candidate rest holds window =
     ap (option_and_then (entry_at past 0)) (oldest_place past 0 s holds candidate rest window) ∙ oldest_entry past 0 s holds candidate rest window

@@ -24,7 +24,7 @@ use Rattle.nvme_state.specs.declared.candidate.Ready.{Ready}
 use Rattle.nvme_log.specs.Rules.{Past, FrontRules}
 use Rattle.nvme_log.specs.Places.{Place, fetched, entry_at, waiting, places, WasAborted, WasPicked, Waits, fate_of, is_waiting, is_aborted, unaborted_below, picked, Fate}
 use Rattle.nvme_log.specs.Completions.{is_posted, posts_of, table_before, own_status, own_dw0}
-use Rattle.nvme_state.specs.inside.Kept.{SqKept, CqKept, Kept}
+use Rattle.nvme_state.specs.inside.Content.{SqContent, CqContent, Content}
 use Rattle.nvme_log.specs.Places.{one_if, is_served}
 use Rattle.nvme_state.specs.inside.Standing.{times_in, times_held, over_regions, times_ready, HoldsSq, HoldsReady, HasOwnStatus}
 use Rattle.nvme_log.proofs.Posts.{posts_of-some}
@@ -77,12 +77,12 @@ HasOwnStatus-stays rules past later t s h = record {
 
 -- ---- what is ready in a completion region
 -- what holds of all that is ready in two regions holds of all in one of them
-pub all_chosen : (P : Ready → Type 0) (b : Bool) (s u : CqKept) → All P s.ready → All P u.ready → All P (if b then s else u).ready
+pub all_chosen : (P : Ready → Type 0) (b : Bool) (s u : CqContent) → All P s.ready → All P u.ready → All P (if b then s else u).ready
 all_chosen P true s u p q = p
 all_chosen P false s u p q = q
 
 -- what holds of all that is ready, and of what is made ready
-pub all_with_readies : (P : Ready → Type 0) (k : Kept) (c : ℕ) (ts : List Ready) → ((x : ℕ) → All P (k.cq x).ready) → All P ts
+pub all_with_readies : (P : Ready → Type 0) (k : Content) (c : ℕ) (ts : List Ready) → ((x : ℕ) → All P (k.cq x).ready) → All P ts
     → (x : ℕ) → All P ((with_readies k c ts).cq x).ready
 all_with_readies P k c ts h new x =
     all_chosen P (x == c) (record (k.cq c) { ready = (k.cq c).ready ++ ts }) (k.cq x) (All-append P (k.cq c).ready ts (h c) new) (h x)
@@ -112,7 +112,7 @@ same_place : (r i : ℕ) → one_if (r == r && i == i) ≡ 1
 same_place r i = rw (eq-eqb r r refl, eq-eqb i i refl) refl
 
 -- each place that is ready is one to answer
-pub ready_is_answerable : (past : Past) (k : Kept) (hand : List Place) → HoldsReady past k hand
+pub ready_is_answerable : (past : Past) (k : Content) (hand : List Place) → HoldsReady past k hand
     → (c : ℕ) → All (λ (t : Ready). IsAnswerable past hand t.region t.index) (k.cq c).ready
 ready_is_answerable past k hand h c j d lt = elim (cases_lt c MAX_REGIONS) [
   | inl below ↦
@@ -152,14 +152,14 @@ pub waiting_wait : (past : Past) (r : ℕ) → All (λ (i : ℕ). is_waiting (fa
 waiting_wait past r = filter_passes (λ (i : ℕ). is_waiting (fate_of past r i)) (places past r)
 
 -- each candidate of a window waits
-pub candidates_wait : (past : Past) (r : ℕ) (s : SqKept) → HoldsSq past r s
+pub candidates_wait : (past : Past) (r : ℕ) (s : SqContent) → HoldsSq past r s
     → All (λ (c : Candidate). is_waiting (fate_of past r c.index) ≡ true) s.window
 candidates_wait past r s h =
     All-unmap (λ (i : ℕ). is_waiting (fate_of past r i) ≡ true) (λ (c : Candidate). c.index) s.window
     (All-same (λ (i : ℕ). is_waiting (fate_of past r i) ≡ true) (map (λ (c : Candidate). c.index) s.window) (waiting past r) (sym h.waiting_is) (waiting_wait past r))
 
 -- the oldest candidate is the first place that waits
-pub oldest_waits : (past : Past) (r : ℕ) (s : SqKept) (c : Candidate) (rest : List Candidate) → HoldsSq past r s → s.window ≡ c ∷ rest
+pub oldest_waits : (past : Past) (r : ℕ) (s : SqContent) (c : Candidate) (rest : List Candidate) → HoldsSq past r s → s.window ≡ c ∷ rest
     → slice_get (waiting past r) 0 ≡ Some c.index
 oldest_waits past r s c rest h w = rw (h.waiting_is, w) refl
 

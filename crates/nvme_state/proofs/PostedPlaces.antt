@@ -17,7 +17,7 @@ use Rattle.nvme_log.specs.Places.{Place, fetched, places, waiting, picked, fate_
 use Rattle.nvme_log.specs.Aborts.{is_abort_requested, is_aborted_with_queue}
 use Rattle.nvme_log.specs.Completions.{is_posted, posts_of, takes_place}
 use Rattle.nvme_log.specs.Laws.{count_of}
-use Rattle.nvme_state.specs.inside.Kept.{Kept}
+use Rattle.nvme_state.specs.inside.Content.{Content}
 use Rattle.nvme_log.specs.Places.{one_if, is_served}
 use Rattle.nvme_log.specs.Completions.{unposted_of}
 use Rattle.nvme_state.specs.inside.Standing.{HoldsReady, over_regions, times_in}
@@ -128,7 +128,7 @@ served_not_waiting true false h = refl
 served_not_waiting false w h = absurd (omega (arith, h))
 
 -- where the ready completions stand, what is posted doesn't wait
-pub posted_served : (past : Past) (k : Kept) (hand : List Place) → HoldsReady past k hand → (r : ℕ) → PostedServed past r
+pub posted_served : (past : Past) (k : Content) (hand : List Place) → HoldsReady past k hand → (r : ℕ) → PostedServed past r
 posted_served past k hand h r i posted =
     let once = h.once r i in
     let some = posts_of-some past r i posted in
@@ -262,7 +262,7 @@ served_once past r i h = by (nat_lt i (length (fetched past r))) refl where
     zero_not_one k = omega arith
 
 -- the oldest ready completion is of such a place
-pub ready_unanswered : (past : Past) (k : Kept) (hand : List Place) → HoldsReady past k hand → (c : ℕ) (t : Ready) (rest : List Ready) → (k.cq c).ready ≡ t ∷ rest
+pub ready_unanswered : (past : Past) (k : Content) (hand : List Place) → HoldsReady past k hand → (c : ℕ) (t : Ready) (rest : List Ready) → (k.cq c).ready ≡ t ∷ rest
     → IsUnanswered past t.region t.index
 ready_unanswered past k hand h c t rest oldest =
     let first : times_in t.region t.index (t ∷ rest) ≡ one_if (t.region == t.region && t.index == t.index) + times_in t.region t.index rest =

@@ -10,28 +10,28 @@ use Rattle.nvme_arbiter.specs.declared.settings.Class.{Class}
 use Rattle.nvme_state.specs.declared.candidate.PendingDelete.{PendingDelete}
 use Rattle.nvme_state.specs.declared.attachment.Attachment.{Attachment}
 use Rattle.nvme_log.specs.Queues.{Queue}
-use Rattle.nvme_state.specs.inside.Kept.{SqKept, put_sq}
+use Rattle.nvme_state.specs.inside.Content.{SqContent, put_sq}
 use Rattle.nvme_state.specs.inside.Standing.{IsGone, IsOpenedFor}
-use Rattle.nvme_state.proofs.QueueWords.{LogQueues, KeptQueues, counted, OpenedFor, IsBlank, Agree, at_same, at_other, chosen, put-queue, one_queue, on_others, on_same, on_board-set}
+use Rattle.nvme_state.proofs.QueueWords.{LogQueues, QueueContent, counted, OpenedFor, IsBlank, Agree, at_same, at_other, chosen, put-queue, one_queue, on_others, on_same, on_board-set}
 
 -- a region that was opened for no queue isn't one that was
-unopened_apart : (sq : ℕ → SqKept) (r x q : ℕ) → OpenedFor (sq r) q → (sq x).queue ≡ None → x ≡ r → ⊥
+unopened_apart : (sq : ℕ → SqContent) (r x q : ℕ) → OpenedFor (sq r) q → (sq x).queue ≡ None → x ≡ r → ⊥
 unopened_apart sq r x q opened none e = none-some _ (sym none ∙ ap (λ (z : ℕ). (sq z).queue) e ∙ opened.opened)
 
 -- what is said of a region is said where another is put
-put_elsewhere : (P : SqKept → Type 0) (sq : ℕ → SqKept) (r : ℕ) (s : SqKept) (x : ℕ) → (x ≡ r → ⊥) → P (sq x) → P (put_sq sq r s x)
+put_elsewhere : (P : SqContent → Type 0) (sq : ℕ → SqContent) (r : ℕ) (s : SqContent) (x : ℕ) → (x ≡ r → ⊥) → P (sq x) → P (put_sq sq r s x)
 put_elsewhere P sq r s x n h = subst P (sym (at_other x r s (sq x) n)) h
 
 -- what is said of what is put is said at its region
-put_here : (P : SqKept → Type 0) (sq : ℕ → SqKept) (r : ℕ) (s : SqKept) (x : ℕ) → x ≡ r → P s → P (put_sq sq r s x)
+put_here : (P : SqContent → Type 0) (sq : ℕ → SqContent) (r : ℕ) (s : SqContent) (x : ℕ) → x ≡ r → P s → P (put_sq sq r s x)
 put_here P sq r s x e h = subst P (sym (at_same x r s (sq x) e)) h
 
 -- a region that keeps its queue was opened for what it was
-still_opened : (sq : ℕ → SqKept) (r : ℕ) (s : SqKept) (x q : ℕ) → s.queue ≡ (sq r).queue → OpenedFor (sq x) q → OpenedFor (put_sq sq r s x) q
+still_opened : (sq : ℕ → SqContent) (r : ℕ) (s : SqContent) (x q : ℕ) → s.queue ≡ (sq r).queue → OpenedFor (sq x) q → OpenedFor (put_sq sq r s x) q
 still_opened sq r s x q e h = record { cq_region = h.cq_region; opened = put-queue sq r s e x ∙ h.opened }
 
 -- so was the region of a deletion
-still_opened_for : (sq : ℕ → SqKept) (r : ℕ) (s : SqKept) (d : PendingDelete) → s.queue ≡ (sq r).queue → IsOpenedFor sq d → IsOpenedFor (put_sq sq r s) d
+still_opened_for : (sq : ℕ → SqContent) (r : ℕ) (s : SqContent) (d : PendingDelete) → s.queue ≡ (sq r).queue → IsOpenedFor sq d → IsOpenedFor (put_sq sq r s) d
 still_opened_for sq r s d e h = record { cq_region = h.cq_region; opened = put-queue sq r s e d.region ∙ h.opened }
 
 -- what a region was opened for
@@ -43,7 +43,7 @@ abbrev region_in : Option Queue → ℕ
 region_in None = 0
 region_in (Some queue) = queue.region
 
-module _ (l : LogQueues) (k : KeptQueues) (h : Agree l k) where
+module _ (l : LogQueues) (k : QueueContent) (h : Agree l k) where
   -- the identifier of an open queue is on the board
   on_board : (q : ℕ) → q ≤ highest_qid → q < length k.board
   on_board q few = omega (arith, h.board_size, few)
@@ -54,12 +54,12 @@ module _ (l : LogQueues) (k : KeptQueues) (h : Agree l k) where
       n (one_queue (k.sq queue.region) p q (subst (λ (z : ℕ). OpenedFor (k.sq z) p) e (h.attached p other is_other)) (h.attached q queue is))
 
   -- the candidates of an open queue change, on the board too
-  pub serve : (q : ℕ) (queue : Queue) (s : SqKept) → l.sqs q ≡ Some queue → s.queue ≡ (k.sq queue.region).queue
+  pub serve : (q : ℕ) (queue : Queue) (s : SqContent) → l.sqs q ≡ Some queue → s.queue ≡ (k.sq queue.region).queue
       → Agree l (record k { sq = put_sq k.sq queue.region s; board = slice_set k.board q (Some (record { class = queue.class; count = length s.window })) })
   serve q queue s is same =
       let here : OpenedFor (k.sq queue.region) q = h.attached q queue is in
       let entry : OpenQueue = record { class = queue.class; count = length s.window } in
-      let later : ℕ → SqKept = put_sq k.sq queue.region s in
+      let later : ℕ → SqContent = put_sq k.sq queue.region s in
       record {
         board = on_board-set k.board q (Some entry) (λ (p : ℕ). option_map (counted later) (l.sqs p)) (on_board q (h.few q queue is))
             (rw (is, eq-eqb queue.region queue.region refl) refl)
@@ -84,7 +84,7 @@ module _ (l : LogQueues) (k : KeptQueues) (h : Agree l k) where
   pub post : (r q : ℕ) → OpenedFor (k.sq r) q
       → Agree l (record k { sq = put_sq k.sq r (record (k.sq r) { unposted = (k.sq r).unposted - 1 }) })
   post r q here =
-      let s : SqKept = record (k.sq r) { unposted = (k.sq r).unposted - 1 } in
+      let s : SqContent = record (k.sq r) { unposted = (k.sq r).unposted - 1 } in
       record {
         board = λ p. h.board p ∙ on_same k.sq r s (l.sqs p) refl;
         board_size = h.board_size;
@@ -123,7 +123,7 @@ module _ (l : LogQueues) (k : KeptQueues) (h : Agree l k) where
   open_one qid region cqid c class none cq there few =
       let blank : IsBlank l.closed region (k.sq region) = h.unopened region none in
       let attachment : Attachment = record { qid = qid; cq_region = c } in
-      let s : SqKept = record (k.sq region) { queue = Some attachment } in
+      let s : SqContent = record (k.sq region) { queue = Some attachment } in
       let queue : Queue = record { region = region; cqid = cqid; class = class } in
       let sqs : ℕ → Option Queue = λ q. if qid == q then Some queue else l.sqs q in
       let others : (q : ℕ) (other : Queue) → l.sqs q ≡ Some other → other.region ≡ region → ⊥ =
@@ -140,34 +140,34 @@ module _ (l : LogQueues) (k : KeptQueues) (h : Agree l k) where
         ];
         cq_there = h.cq_there;
         qid_is = λ r. elim (cases_eq r region) [
-          | inl p ↦ at_same region r (Some qid) (l.qids r) (sym p) ∙ ap (λ (z : SqKept). option_map (λ (a : Attachment). a.qid) z.queue) (sym (at_same r region s (k.sq r) p))
+          | inl p ↦ at_same region r (Some qid) (l.qids r) (sym p) ∙ ap (λ (z : SqContent). option_map (λ (a : Attachment). a.qid) z.queue) (sym (at_same r region s (k.sq r) p))
           | inr n ↦ at_other region r (Some qid) (l.qids r) (λ e. n (sym e)) ∙ h.qid_is r
-              ∙ ap (λ (z : SqKept). option_map (λ (a : Attachment). a.qid) z.queue) (sym (at_other r region s (k.sq r) n))
+              ∙ ap (λ (z : SqContent). option_map (λ (a : Attachment). a.qid) z.queue) (sym (at_other r region s (k.sq r) n))
         ];
         cq_region_is = λ r. elim (cases_eq r region) [
           | inl p ↦ at_same region r (l.cqs cqid) (l.cq_regions r) (sym p) ∙ cq
-              ∙ ap (λ (z : SqKept). option_map (λ (a : Attachment). a.cq_region) z.queue) (sym (at_same r region s (k.sq r) p))
+              ∙ ap (λ (z : SqContent). option_map (λ (a : Attachment). a.cq_region) z.queue) (sym (at_same r region s (k.sq r) p))
           | inr n ↦ at_other region r (l.cqs cqid) (l.cq_regions r) (λ e. n (sym e)) ∙ h.cq_region_is r
-              ∙ ap (λ (z : SqKept). option_map (λ (a : Attachment). a.cq_region) z.queue) (sym (at_other r region s (k.sq r) n))
+              ∙ ap (λ (z : SqContent). option_map (λ (a : Attachment). a.cq_region) z.queue) (sym (at_other r region s (k.sq r) n))
         ];
         attached = λ q other is. elim (chosen qid q (Some queue) (l.sqs q) other is) [
-          | inl p ↦ put_here (λ (z : SqKept). OpenedFor z q) k.sq region s other.region (sym (ap region_in p.1))
+          | inl p ↦ put_here (λ (z : SqContent). OpenedFor z q) k.sq region s other.region (sym (ap region_in p.1))
               (record { cq_region = c; opened = ap (λ (z : ℕ). Some (opened_by z c)) p.0 })
-          | inr n ↦ put_elsewhere (λ (z : SqKept). OpenedFor z q) k.sq region s other.region (others q other n.1) (h.attached q other n.1)
+          | inr n ↦ put_elsewhere (λ (z : SqContent). OpenedFor z q) k.sq region s other.region (others q other n.1) (h.attached q other n.1)
         ];
         sq_there = λ r a e. elim (cases_eq r region) [
           | inl p ↦ subst (λ (z : ℕ). z < k.nsq) (sym p) there
-          | inr n ↦ h.sq_there r a (ap (λ (z : SqKept). z.queue) (sym (at_other r region s (k.sq r) n)) ∙ e)
+          | inr n ↦ h.sq_there r a (ap (λ (z : SqContent). z.queue) (sym (at_other r region s (k.sq r) n)) ∙ e)
         ];
         posts_there = λ r a e. elim (cases_eq r region) [
           | inl p ↦
-              let is : Some attachment ≡ Some a = ap (λ (z : SqKept). z.queue) (sym (at_same r region s (k.sq r) p)) ∙ e in
+              let is : Some attachment ≡ Some a = ap (λ (z : SqContent). z.queue) (sym (at_same r region s (k.sq r) p)) ∙ e in
               subst (λ (z : Attachment). z.cq_region < k.ncq) (ap (λ (o : Option Attachment). unwrap_or o attachment) is) (h.cq_there cqid c cq)
-          | inr n ↦ h.posts_there r a (ap (λ (z : SqKept). z.queue) (sym (at_other r region s (k.sq r) n)) ∙ e)
+          | inr n ↦ h.posts_there r a (ap (λ (z : SqContent). z.queue) (sym (at_other r region s (k.sq r) n)) ∙ e)
         ];
         unopened = λ r e. elim (cases_eq r region) [
-          | inl p ↦ absurd (none-some attachment (sym e ∙ ap (λ (z : SqKept). z.queue) (at_same r region s (k.sq r) p)))
-          | inr n ↦ put_elsewhere (IsBlank l.closed r) k.sq region s r n (h.unopened r (ap (λ (z : SqKept). z.queue) (sym (at_other r region s (k.sq r) n)) ∙ e))
+          | inl p ↦ absurd (none-some attachment (sym e ∙ ap (λ (z : SqContent). z.queue) (at_same r region s (k.sq r) p)))
+          | inr n ↦ put_elsewhere (IsBlank l.closed r) k.sq region s r n (h.unopened r (ap (λ (z : SqContent). z.queue) (sym (at_other r region s (k.sq r) n)) ∙ e))
         ];
         gone = λ r e. put_elsewhere IsGone k.sq region s r (λ p. true≢false (sym e ∙ ap l.closed p ∙ blank.not_closed)) (h.gone r e);
         closed = λ q r other e is same. elim (chosen qid q (Some queue) (l.sqs q) other is) [
@@ -178,7 +178,7 @@ module _ (l : LogQueues) (k : KeptQueues) (h : Agree l k) where
             let was : IsOpenedFor k.sq d = h.deleting d e in
             record {
               cq_region = was.cq_region;
-              opened = put_elsewhere (λ (z : SqKept). z.queue ≡ Some (opened_by d.qid was.cq_region)) k.sq region s d.region
+              opened = put_elsewhere (λ (z : SqContent). z.queue ≡ Some (opened_by d.qid was.cq_region)) k.sq region s d.region
                   (λ p. none-some _ (sym none ∙ ap (λ (z : ℕ). (k.sq z).queue) (sym p) ∙ was.opened)) was.opened;
             };
       }
@@ -235,10 +235,10 @@ module _ (l : LogQueues) (k : KeptQueues) (h : Agree l k) where
         deletion = Some d;
       })
   begin_delete qid c n queue d is opened qid_is region_is =
-      let s : SqKept = record (k.sq queue.region) { window = []; unposted = n } in
+      let s : SqContent = record (k.sq queue.region) { window = []; unposted = n } in
       let here : OpenedFor (k.sq queue.region) qid = record { cq_region = c; opened = opened } in
       let sqs : ℕ → Option Queue = λ q. if qid == q then None else l.sqs q in
-      let later : ℕ → SqKept = put_sq k.sq queue.region s in
+      let later : ℕ → SqContent = put_sq k.sq queue.region s in
       let still : (q : ℕ) (other : Queue) → sqs q ≡ Some other → (q ≡ qid → ⊥) × (l.sqs q ≡ Some other) =
       λ q other e. elim (chosen qid q None (l.sqs q) other e) [
         | inl p ↦ absurd (none-some other p.1)
@@ -263,7 +263,7 @@ module _ (l : LogQueues) (k : KeptQueues) (h : Agree l k) where
         gone = λ r e. put_elsewhere IsGone k.sq queue.region s r (λ p. h.closed qid r queue e is (sym p)) (h.gone r e);
         closed = λ q r other e was same. h.closed q r other e (still q other was).1 same;
         deleting = λ x e. subst (IsOpenedFor later) (ap (λ (o : Option PendingDelete). unwrap_or o d) e)
-            (record { cq_region = c; opened = put_here (λ (z : SqKept). z.queue ≡ Some (opened_by d.qid c)) k.sq queue.region s d.region region_is (opened ∙ ap (λ (z : ℕ). Some (opened_by z c)) (sym qid_is)) });
+            (record { cq_region = c; opened = put_here (λ (z : SqContent). z.queue ≡ Some (opened_by d.qid c)) k.sq queue.region s d.region region_is (opened ∙ ap (λ (z : ℕ). Some (opened_by z c)) (sym qid_is)) });
       }
 
   -- the deletion of a queue, which isn't open, is finished

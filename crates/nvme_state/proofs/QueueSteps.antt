@@ -22,7 +22,7 @@ use Rattle.nvme_log.specs.Rules.{FrontRules, Past, upto}
 use Rattle.nvme_log.specs.Queues.{Queue, admin_queue, open_sq, open_cq}
 use Rattle.nvme_log.specs.Places.{waiting, is_waiting, fate_of}
 use Rattle.nvme_log.specs.Laws.{as_open, QueuesAre}
-use Rattle.nvme_state.specs.inside.Kept.{SqKept, Kept, put_sq}
+use Rattle.nvme_state.specs.inside.Content.{SqContent, Content, put_sq}
 use Rattle.nvme_state.specs.inside.Standing.{HoldsSq, HoldsQueues, IsPending, IsOpenedFor, IsUnopened, Stands}
 use Rattle.nvme_log.specs.Effects.{made_by}
 use Rattle.nvme_log.proofs.Tables.{as_open-unless_closing, finished_cq, step, events_sq, events_cq}
@@ -30,20 +30,20 @@ use Rattle.nvme_log.proofs.UsedRegions.{used-entry, used-finished}
 use Rattle.nvme_state.specs.inside.Steps.{picked_sq, after_pick, applied_to, verdict_at}
 use Rattle.nvme_state.proofs.AfterSteps.{fetched_sq, after_admin, with_events}
 use Rattle.nvme_state.proofs.StepKeeps.{Queues, KeepsFetch, KeepsIo, KeepsAdmin, KeepsPost, KeepsClose}
-use Rattle.nvme_state.proofs.QueueWords.{in_log, in_kept, counted, OpenedFor, Agree, at_same, put-queue}
+use Rattle.nvme_state.proofs.QueueWords.{in_log, in_content, counted, OpenedFor, Agree, at_same, put-queue}
 use Rattle.nvme_state.proofs.Regions.{target_is, target_left}
 use Rattle.nvme_state.proofs.QueueVerdicts.{few_queues, verdict-agrees, verdict-table, verdict-unused}
 use Rattle.nvme_state.proofs.QueueChanges.{serve, post, finish}
 
 -- ---- the queues without the table, and with it
 -- a region with no fetch has no candidate
-none_waits : (past : Past) (r : ℕ) (s : SqKept) → HoldsSq past r s → s.got ≡ [] → s.window ≡ []
+none_waits : (past : Past) (r : ℕ) (s : SqContent) → HoldsSq past r s → s.got ≡ [] → s.window ≡ []
 none_waits past r s h e =
     let none : waiting past r ≡ [] = ap (λ (es : List Sqe). filter (λ (i : ℕ). is_waiting (fate_of past r i)) (upto (length es))) (h.fetched_is ∙ e) in
     nil_from_length s.window (sym (length-map s.window (λ (c : Candidate). c.index)) ∙ ap length (sym h.waiting_is ∙ none))
 
 -- the queues of what stands agree
-pub agreement : (rules : FrontRules) (late : Bool) (past : Past) (k : Kept) → Stands rules late past k → Agree (in_log past) (in_kept k)
+pub agreement : (rules : FrontRules) (late : Bool) (past : Past) (k : Content) → Stands rules late past k → Agree (in_log past) (in_content k)
 agreement rules late past k s =
     let h : HoldsQueues past k = s.queues in
     record {
@@ -65,7 +65,7 @@ agreement rules late past k s =
     }
 
 -- queues that agree are held, where they are those of the table
-pub holds_queues : (past : Past) (k : Kept) → Agree (in_log past) (in_kept k)
+pub holds_queues : (past : Past) (k : Content) → Agree (in_log past) (in_content k)
     → ((q : ℕ) → open_sq past q ≡ as_open (sq_of k.table q))
     → ((q : ℕ) → open_cq past q ≡ cq_of k.table q)
     → ((r : ℕ) → used_at k.table.sq_used r ≡ false → (k.sq r).queue ≡ None)
@@ -95,28 +95,28 @@ abbrev counted_as : Queue → ℕ → OpenQueue
 counted_as queue n = record { class = queue.class; count = n }
 
 -- a pick takes the oldest candidates of an open queue
-pub pick-agrees : (past : Past) (k : Kept) (queue : Queue) (seen : List Seen) (pick : Pick) (board : BoardView) → Agree (in_log past) (in_kept k)
+pub pick-agrees : (past : Past) (k : Content) (queue : Queue) (seen : List Seen) (pick : Pick) (board : BoardView) → Agree (in_log past) (in_content k)
     → open_sq past pick.qid ≡ Some queue → board.queues ≡ queues_after k.board.queues pick
-    → Agree (in_log (event.Pick seen pick ∷ past)) (in_kept (after_pick k queue pick.n board))
+    → Agree (in_log (event.Pick seen pick ∷ past)) (in_content (after_pick k queue pick.n board))
 pick-agrees past k queue seen pick board h is after =
-    let s : SqKept = picked_sq (k.sq queue.region) pick.n in
+    let s : SqContent = picked_sq (k.sq queue.region) pick.n in
     let was : queue_at k.board.queues pick.qid ≡ Some (counted k.sq queue) = h.board pick.qid ∙ ap (option_map (counted k.sq)) is in
     let now : board.queues ≡ slice_set k.board.queues pick.qid (Some (counted_as queue (length s.window))) =
     after ∙ ap (λ (o : Option OpenQueue). slice_set k.board.queues pick.qid (option_map (fewer pick.n) o)) was
     ∙ ap (λ (n : ℕ). slice_set k.board.queues pick.qid (Some (counted_as queue n))) (sym (length-drop pick.n (k.sq queue.region).window)) in
-    subst (λ (z : List (Option OpenQueue)). Agree (in_log past) (record (in_kept k) { sq = put_sq k.sq queue.region s; board = z })) (sym now)
-    (serve (in_log past) (in_kept k) h pick.qid queue s is refl)
+    subst (λ (z : List (Option OpenQueue)). Agree (in_log past) (record (in_content k) { sq = put_sq k.sq queue.region s; board = z })) (sym now)
+    (serve (in_log past) (in_content k) h pick.qid queue s is refl)
 
 -- a fetch brings a candidate to an open queue
 pub queues-fetch : KeepsFetch Queues
 queues-fetch rules late past k q queue entry known s can _ =
     let h : HoldsQueues past k = s.queues in
-    let a : Agree (in_log past) (in_kept k) = agreement rules late past k s in
-    let x : SqKept = fetched_sq (k.sq queue.region) entry known in
-    let later : Agree (in_log past) (record (in_kept k) { sq = put_sq k.sq queue.region x; board = slice_set k.board.queues q (Some (counted_as queue (length (k.sq queue.region).window + 1))) }) =
-    subst (λ (n : ℕ). Agree (in_log past) (record (in_kept k) { sq = put_sq k.sq queue.region x; board = slice_set k.board.queues q (Some (counted_as queue n)) }))
+    let a : Agree (in_log past) (in_content k) = agreement rules late past k s in
+    let x : SqContent = fetched_sq (k.sq queue.region) entry known in
+    let later : Agree (in_log past) (record (in_content k) { sq = put_sq k.sq queue.region x; board = slice_set k.board.queues q (Some (counted_as queue (length (k.sq queue.region).window + 1))) }) =
+    subst (λ (n : ℕ). Agree (in_log past) (record (in_content k) { sq = put_sq k.sq queue.region x; board = slice_set k.board.queues q (Some (counted_as queue n)) }))
     (length_push (k.sq queue.region).window _)
-    (serve (in_log past) (in_kept k) a q queue x can.is_open refl) in
+    (serve (in_log past) (in_content k) a q queue x can.is_open refl) in
     holds_queues _ _ later h.sqs h.cqs (λ r e. put-queue k.sq queue.region x refl r ∙ h.unused r e)
 
 -- an I/O pick leaves the table
@@ -130,7 +130,7 @@ queues-io rules late past k queue seen pick board c s can observed io attached _
 pub queues-post : KeepsPost Queues
 queues-post rules late past k c t rest cqe qid free s can _ =
     let h : HoldsQueues past k = s.queues in
-    holds_queues _ _ (post (in_log past) (in_kept k) (agreement rules late past k s) t.region qid (record { cq_region = c; opened = can.attached })) h.sqs h.cqs
+    holds_queues _ _ (post (in_log past) (in_content k) (agreement rules late past k s) t.region qid (record { cq_region = c; opened = can.attached })) h.sqs h.cqs
     (λ r e. put-queue k.sq t.region _ refl r ∙ h.unused r e)
 
 -- ---- the end of a deletion
@@ -154,7 +154,7 @@ queues-close rules late past k d table s can _ =
     let now : StandsAt rules.start table (DeletionFinished d.qid ∷ t) = can.table_stands in
     let none : open_sq past d.qid ≡ None = h.sqs d.qid ∙ ap as_open p.in_table ∙ closing_not_open p.closing p.is_closing in
     holds_queues _ _
-    (finish (in_log past) (in_kept k) (agreement rules late past k s) o.cq_region d o.opened none (record { all_posted = can.all_posted; none_waits = p.none_waits }))
+    (finish (in_log past) (in_content k) (agreement rules late past k s) o.cq_region d o.opened none (record { all_posted = can.all_posted; none_waits = p.none_waits }))
     (λ q. h.sqs q ∙ ap as_open (was.sq q) ∙ taken (d.qid == q) (sq_at rules.start t q) ∙ ap as_open (sym (finish-takes_one rules.start t d.qid q)) ∙ ap as_open (sym (now.sq q)))
     (λ q. h.cqs q ∙ was.cq q ∙ finished_cq rules t d.qid q ∙ sym (now.cq q))
     (λ r e. h.unused r (was.sq_used r ∙ sym (used-finished rules.start t d.qid r) ∙ sym (now.sq_used r) ∙ e))
@@ -170,13 +170,13 @@ queues-admin rules late past k seen pick picked candidate rest table c board s c
     let tells : TellsChange rules.start t candidate.entry v = TellsChange-entry rules.start t candidate.entry in
     let was : StandsAt rules.start k.table t = s.tabled.stands in
     let now : StandsAt rules.start table u = apply.table_stands in
-    let kept : Kept = applied_to k picked table in
+    let kept : Content = applied_to k picked table in
     let taken : Past = event.Pick seen pick ∷ past in
-    let later : Kept = after_admin past kept candidate c board v in
+    let later : Content = after_admin past kept candidate c board v in
     let still : (r : ℕ) → (kept.sq r).queue ≡ (k.sq r).queue = put-queue k.sq 0 (picked_sq (k.sq 0) 1) refl in
     let table_is : later.table ≡ table = verdict-table past kept candidate c board v in
-    let agrees : Agree (in_log taken) (in_kept kept) =
-    subst (λ (n : ℕ). Agree (in_log past) (in_kept (after_pick k admin_queue n picked))) one
+    let agrees : Agree (in_log taken) (in_content kept) =
+    subst (λ (n : ℕ). Agree (in_log past) (in_content (after_pick k admin_queue n picked))) one
     (pick-agrees past k admin_queue seen pick picked (agreement rules late past k s) can.is_open can.board_queues) in
     let are : QueuesAre rules u (with_events (made_by past v) past) =
     step rules t u past v (record { sq = λ q. h.sqs q ∙ ap as_open (was.sq q); cq = λ q. h.cqs q ∙ was.cq q }) tells.sqs tells.cqs in
@@ -195,7 +195,7 @@ queues-admin rules late past k seen pick picked candidate rest table c board s c
     record {
       is_open = (target_is past sqid queue e).1;
       left = left;
-      held = subst (λ (z : SqKept). HoldsSq past queue.region z) (sym left) (s.regions queue.region);
+      held = subst (λ (z : SqContent). HoldsSq past queue.region z) (sym left) (s.regions queue.region);
     }) agrees)
     (λ q. events_sq rules (made_by past v) taken past (λ p. refl) q ∙ are.sq q ∙ ap as_open (sym (now.sq q)) ∙ ap (λ (w : TableView). as_open (sq_of w q)) (sym table_is))
     (λ q. events_cq rules (made_by past v) taken past (λ p. refl) q ∙ are.cq q ∙ sym (now.cq q) ∙ ap (λ (w : TableView). cq_of w q) (sym table_is))

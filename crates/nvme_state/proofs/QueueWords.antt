@@ -12,7 +12,7 @@ use Rattle.nvme_state.specs.declared.candidate.PendingDelete.{PendingDelete}
 use Rattle.nvme_state.specs.declared.attachment.Attachment.{Attachment}
 use Rattle.nvme_log.specs.Rules.{Past}
 use Rattle.nvme_log.specs.Queues.{Queue, open_sq, open_cq, is_closed_region, qid_of_region, cq_region_of}
-use Rattle.nvme_state.specs.inside.Kept.{SqKept, Kept, put_sq}
+use Rattle.nvme_state.specs.inside.Content.{SqContent, Content, put_sq}
 use Rattle.nvme_state.specs.inside.Standing.{IsGone, IsOpenedFor}
 
 -- what a log says of queues: the open ones, the closed regions, and what each region was opened for
@@ -27,33 +27,33 @@ abbrev pub in_log : Past → LogQueues
 in_log past = record { sqs = open_sq past; cqs = open_cq past; closed = is_closed_region past; qids = qid_of_region past; cq_regions = cq_region_of past }
 
 -- what is kept of queues
-pub record KeptQueues : Type 0 where
-  pub sq : ℕ → SqKept
+pub record QueueContent : Type 0 where
+  pub sq : ℕ → SqContent
   pub nsq : ℕ
   pub ncq : ℕ
   pub board : List (Option OpenQueue)
   pub deletion : Option PendingDelete
 
-abbrev pub in_kept : Kept → KeptQueues
-in_kept k = record { sq = k.sq; nsq = k.nsq; ncq = k.ncq; board = k.board.queues; deletion = k.deletion }
+abbrev pub in_content : Content → QueueContent
+in_content k = record { sq = k.sq; nsq = k.nsq; ncq = k.ncq; board = k.board.queues; deletion = k.deletion }
 
 -- an open queue as the board has it
-abbrev pub counted : (ℕ → SqKept) → Queue → OpenQueue
+abbrev pub counted : (ℕ → SqContent) → Queue → OpenQueue
 counted sq queue = record { class = queue.class; count = length (sq queue.region).window }
 
 -- a region was opened for a queue
-pub record OpenedFor (s : SqKept) (q : ℕ) : Type 0 where
+pub record OpenedFor (s : SqContent) (q : ℕ) : Type 0 where
   pub cq_region : ℕ
   pub opened : s.queue ≡ Some (record { qid = q; cq_region = cq_region })
 
 -- nothing happened to a region
-pub record IsBlank (closed : ℕ → Bool) (r : ℕ) (s : SqKept) : Type 0 where
+pub record IsBlank (closed : ℕ → Bool) (r : ℕ) (s : SqContent) : Type 0 where
   pub nothing_got : s.got ≡ []
   pub none_waits : s.window ≡ []
   pub not_closed : closed r ≡ false
 
 -- the queues of a log are those that are kept, and those of the board
-pub record Agree (l : LogQueues) (k : KeptQueues) : Type 0 where
+pub record Agree (l : LogQueues) (k : QueueContent) : Type 0 where
   pub board : (q : ℕ) → queue_at k.board q ≡ option_map (counted k.sq) (l.sqs q)
   pub board_size : length k.board ≡ queue_limit
   pub few : (q : ℕ) (queue : Queue) → l.sqs q ≡ Some queue → q ≤ highest_qid
@@ -85,21 +85,21 @@ chosen x r a b y e = elim (cases_eq x r) [
 ]
 
 -- a region in whose place the same queue's region is put was opened for what it was
-pub put-queue : (sq : ℕ → SqKept) (r : ℕ) (s : SqKept) → s.queue ≡ (sq r).queue → (x : ℕ) → (put_sq sq r s x).queue ≡ (sq x).queue
+pub put-queue : (sq : ℕ → SqContent) (r : ℕ) (s : SqContent) → s.queue ≡ (sq r).queue → (x : ℕ) → (put_sq sq r s x).queue ≡ (sq x).queue
 put-queue sq r s e x = elim (cases_eq x r) [
-  | inl p ↦ ap (λ (z : SqKept). z.queue) (at_same x r s (sq x) p) ∙ e ∙ ap (λ (z : ℕ). (sq z).queue) (sym p)
-  | inr n ↦ ap (λ (z : SqKept). z.queue) (at_other x r s (sq x) n)
+  | inl p ↦ ap (λ (z : SqContent). z.queue) (at_same x r s (sq x) p) ∙ e ∙ ap (λ (z : ℕ). (sq z).queue) (sym p)
+  | inr n ↦ ap (λ (z : SqContent). z.queue) (at_other x r s (sq x) n)
 ]
 
 -- so are its candidates what they were, where they are those of what is put
-pub put-window : (sq : ℕ → SqKept) (r : ℕ) (s : SqKept) → s.window ≡ (sq r).window → (x : ℕ) → (put_sq sq r s x).window ≡ (sq x).window
+pub put-window : (sq : ℕ → SqContent) (r : ℕ) (s : SqContent) → s.window ≡ (sq r).window → (x : ℕ) → (put_sq sq r s x).window ≡ (sq x).window
 put-window sq r s e x = elim (cases_eq x r) [
-  | inl p ↦ ap (λ (z : SqKept). z.window) (at_same x r s (sq x) p) ∙ e ∙ ap (λ (z : ℕ). (sq z).window) (sym p)
-  | inr n ↦ ap (λ (z : SqKept). z.window) (at_other x r s (sq x) n)
+  | inl p ↦ ap (λ (z : SqContent). z.window) (at_same x r s (sq x) p) ∙ e ∙ ap (λ (z : ℕ). (sq z).window) (sym p)
+  | inr n ↦ ap (λ (z : SqContent). z.window) (at_other x r s (sq x) n)
 ]
 
 -- one region, opened for two queues, is opened for one
-pub one_queue : (s : SqKept) (p q : ℕ) → OpenedFor s p → OpenedFor s q → p ≡ q
+pub one_queue : (s : SqContent) (p q : ℕ) → OpenedFor s p → OpenedFor s q → p ≡ q
 one_queue s p q a b = ap (λ (o : Option Attachment). qid_in o) (sym a.opened ∙ b.opened) where
   qid_in : Option Attachment → ℕ
   qid_in None = 0
@@ -107,13 +107,13 @@ one_queue s p q a b = ap (λ (o : Option Attachment). qid_in o) (sym a.opened �
 
 -- ---- the board
 -- a queue whose region is another has on the board what it had
-pub on_others : (sq : ℕ → SqKept) (r : ℕ) (s : SqKept) (o : Option Queue) → ((queue : Queue) → o ≡ Some queue → queue.region ≡ r → ⊥)
+pub on_others : (sq : ℕ → SqContent) (r : ℕ) (s : SqContent) (o : Option Queue) → ((queue : Queue) → o ≡ Some queue → queue.region ≡ r → ⊥)
     → option_map (counted sq) o ≡ option_map (counted (put_sq sq r s)) o
 on_others sq r s None apart = refl
 on_others sq r s (Some queue) apart = rw (at_other queue.region r s (sq queue.region) (apart queue refl)) refl
 
 -- where the candidates of a region stay, every queue has what it had
-pub on_same : (sq : ℕ → SqKept) (r : ℕ) (s : SqKept) (o : Option Queue) → s.window ≡ (sq r).window
+pub on_same : (sq : ℕ → SqContent) (r : ℕ) (s : SqContent) (o : Option Queue) → s.window ≡ (sq r).window
     → option_map (counted sq) o ≡ option_map (counted (put_sq sq r s)) o
 on_same sq r s None e = refl
 on_same sq r s (Some queue) e = ap (λ (w : List Candidate). Some (queue_with queue.class (length w))) (sym (put-window sq r s e queue.region)) where

@@ -26,7 +26,7 @@ use Rattle.nvme_log.specs.Completions.{posts_of}
 use Rattle.nvme_log.specs.Aborts.{took_abort, is_abort_requested, is_aborted_with_queue}
 use Rattle.nvme_state.specs.inside.Jobs.{JobsView, dispatched_place}
 use Rattle.nvme_state.specs.Hands.{in_hand}
-use Rattle.nvme_state.specs.inside.Kept.{SqKept, Kept, put_sq}
+use Rattle.nvme_state.specs.inside.Content.{SqContent, Content, put_sq}
 use Rattle.nvme_state.specs.inside.Standing.{HoldsSq, HoldsReady, IsReady, times_in, times_held, held_by, hand_of, ready_aborted, Stands}
 use Rattle.nvme_log.specs.Places.{is_served, one_if}
 use Rattle.nvme_log.proofs.Waiting.{times-upto}
@@ -41,7 +41,7 @@ use Rattle.nvme_state.proofs.AfterSteps.{with_events, place_of, with_deleting}
 
 -- ---- regions
 -- the region of a queue that is opened was opened for none before, so it posts nowhere
-pub unused_apart : (rules : FrontRules) (late : Bool) (past : Past) (k : Kept) (s : Stands rules late past k) (region : ℕ)
+pub unused_apart : (rules : FrontRules) (late : Bool) (past : Past) (k : Content) (s : Stands rules late past k) (region : ℕ)
     → (queue_table rules.start s.tabled.history).sq_region_used region ≡ false → (r x : ℕ) → cq_region_of past r ≡ Some x → region ≡ r → ⊥
 unused_apart rules late past k s region unused r x h e =
     let none : (k.sq region).queue ≡ None = s.queues.unused region (s.tabled.stands.sq_used region ∙ unused) in
@@ -87,7 +87,7 @@ abbrev pub told : Candidate → StatusCode → ℕ → Ready
 told candidate status dw0 = record { region = 0; index = candidate.index; entry = candidate.entry; with_queue = false; status = status; dw0 = dw0 }
 
 -- the admin queue's oldest candidate was picked, and its answer t is ready in completion region 0
-pub record Answers (k after : Kept) (t : Ready) : Type 0 where
+pub record Answers (k after : Content) (t : Ready) : Type 0 where
   pub grows : GrowsBy (readies k.cq) (readies after.cq) 0 (t ∷ [])
   pub jobs : after.jobs ≡ k.jobs
   pub deletion : after.deletion ≡ k.deletion
@@ -96,10 +96,10 @@ pub record Answers (k after : Kept) (t : Ready) : Type 0 where
   pub got : (r : ℕ) → (after.sq r).got ≡ (put_sq k.sq 0 (picked_sq (k.sq 0) 1) r).got
 
 -- the picked candidate is no candidate any more
-pub oldest-moves : (k : Kept) (candidate : Candidate) (rest : List Candidate) → (k.sq 0).window ≡ candidate ∷ rest → (r i : ℕ)
+pub oldest-moves : (k : Content) (candidate : Candidate) (rest : List Candidate) → (k.sq 0).window ≡ candidate ∷ rest → (r i : ℕ)
     → Moves i (one_if (0 == r && candidate.index == i)) (k.sq r) (put_sq k.sq 0 (picked_sq (k.sq 0) 1) r)
 oldest-moves k candidate rest oldest r i =
-    at_put (λ (x : ℕ) (u v : SqKept). Moves i (one_if (0 == x && candidate.index == i)) u v) k.sq 0 (picked_sq (k.sq 0) 1)
+    at_put (λ (x : ℕ) (u v : SqContent). Moves i (one_if (0 == x && candidate.index == i)) u v) k.sq 0 (picked_sq (k.sq 0) 1)
     (let one : times_in_window i (take 1 (k.sq 0).window) ≡ 0 + one_if (candidate.index == i) = ap (λ (xs : List Candidate). times_in_window i (take 1 xs)) oldest in
     omega (arith, pick-moves (k.sq 0) 1 i))
     (λ x d. rw (ne_eqb 0 x (λ e. d (sym e))) (omega arith)) r
@@ -109,7 +109,7 @@ pub at_oldest : {X : Type 0} (P : X → Type 0) (xs : List X) (x : X) (rest : Li
 at_oldest P xs x rest e h = All-head P x rest (All-same P (x ∷ rest) xs (sym e) h)
 
 -- the relation of what is ready to the log is kept
-pub answers-ready : (past later : Past) (k after : Kept) (candidate : Candidate) (rest : List Candidate) (status : StatusCode) (dw0 : ℕ)
+pub answers-ready : (past later : Past) (k after : Content) (candidate : Candidate) (rest : List Candidate) (status : StatusCode) (dw0 : ℕ)
     → HoldsReady past k (hand_of k) → ((r : ℕ) → HoldsSq past r (k.sq r)) → (k.sq 0).window ≡ candidate ∷ rest → k.deletion ≡ None
     → k.outstanding + 1 ≤ max_outstanding → SamePlaces past later → Answers k after (told candidate status dw0) → ((r : ℕ) → HoldsSq later r (after.sq r))
     → HoldsReady later after (hand_of after)
@@ -160,7 +160,7 @@ not_deleting past deletion c t h none e =
     cc
 
 -- so there is none
-pub none-aborted : (past : Past) (k : Kept) (hand : List Place) → HoldsReady past k hand → k.deletion ≡ None → ready_aborted k ≡ 0
+pub none-aborted : (past : Past) (k : Content) (hand : List Place) → HoldsReady past k hand → k.deletion ≡ None → ready_aborted k ≡ 0
 none-aborted past k hand h none =
     aborted-sum k ∙ over_none (λ (c : ℕ). sum_by (λ (t : Ready). one_if t.with_queue) (k.cq c).ready) MAX_REGIONS (λ c l.
     omega (
@@ -190,23 +190,23 @@ aborted-made : (r : ℕ) → IsMade r (aborted r)
 aborted-made r = record { region = λ c. refl; index = λ c. refl }
 
 -- the candidates of a region go, after the admin queue's oldest candidate was picked
-closing-moves : (sq : ℕ → SqKept) (region i r : ℕ) (s : SqKept) → s.got ≡ (sq region).got → s.window ≡ []
+closing-moves : (sq : ℕ → SqContent) (region i r : ℕ) (s : SqContent) → s.got ≡ (sq region).got → s.window ≡ []
     → Moves i (times_in r i (map (aborted region) (sq region).window)) (sq r) (put_sq sq region s r)
 closing-moves sq region i r s got none =
-    at_put (λ (x : ℕ) (u v : SqKept). Moves i (times_in x i (map (aborted region) (sq region).window)) u v) sq region s
+    at_put (λ (x : ℕ) (u v : SqContent). Moves i (times_in x i (map (aborted region) (sq region).window)) u v) sq region s
     (rw (got, none) (omega (arith, times_in-own region i (aborted region) (sq region).window (aborted-made region))))
     (λ x d. omega (arith, times_in-other region x i (aborted region) (sq region).window (aborted-made region) d)) r
 
 -- what holds of each candidate holds of those that are left after the pick
-left-candidates : (k : Kept) (Q : Candidate → Type 0) (r : ℕ) → All Q (k.sq r).window → All Q (put_sq k.sq 0 (picked_sq (k.sq 0) 1) r).window
-left-candidates k Q = at_put (λ (x : ℕ) (u v : SqKept). All Q u.window → All Q v.window) k.sq 0 (picked_sq (k.sq 0) 1) (All-drop Q 1 (k.sq 0).window) (λ x d h. h)
+left-candidates : (k : Content) (Q : Candidate → Type 0) (r : ℕ) → All Q (k.sq r).window → All Q (put_sq k.sq 0 (picked_sq (k.sq 0) 1) r).window
+left-candidates k Q = at_put (λ (x : ℕ) (u v : SqContent). All Q u.window → All Q v.window) k.sq 0 (picked_sq (k.sq 0) 1) (All-drop Q 1 (k.sq 0).window) (λ x d h. h)
 
 -- and they are no more
-left-fewer : (k : Kept) (r : ℕ) → length (put_sq k.sq 0 (picked_sq (k.sq 0) 1) r).window ≤ length (k.sq r).window
-left-fewer k = at_put (λ (x : ℕ) (u v : SqKept). length v.window ≤ length u.window) k.sq 0 (picked_sq (k.sq 0) 1) (omega (arith, length-drop 1 (k.sq 0).window)) (λ x d. omega arith)
+left-fewer : (k : Content) (r : ℕ) → length (put_sq k.sq 0 (picked_sq (k.sq 0) 1) r).window ≤ length (k.sq r).window
+left-fewer k = at_put (λ (x : ℕ) (u v : SqContent). length v.window ≤ length u.window) k.sq 0 (picked_sq (k.sq 0) 1) (omega (arith, length-drop 1 (k.sq 0).window)) (λ x d. omega arith)
 
 -- the relation of what is ready to the log is kept
-pub deletes-ready : (past : Past) (k : Kept) (candidate : Candidate) (rest : List Candidate) (seen : List Seen) (pick : Pick) (board : BoardView) (table : TableView) (region qid c : ℕ)
+pub deletes-ready : (past : Past) (k : Content) (candidate : Candidate) (rest : List Candidate) (seen : List Seen) (pick : Pick) (board : BoardView) (table : TableView) (region qid c : ℕ)
     → HoldsReady past k (hand_of k) → ((r : ℕ) → HoldsSq past r (k.sq r)) → (k.sq 0).window ≡ candidate ∷ rest → k.deletion ≡ None
     → k.outstanding + 1 ≤ max_outstanding → c < MAX_REGIONS → cq_region_of past region ≡ Some c → took_abort (event.Pick seen pick ∷ past) ≡ false
     → ((r : ℕ) → HoldsSq (with_events (map (λ (i : ℕ). Abort region i) (waiting past region)) (Closing qid region ∷ event.Pick seen pick ∷ past)) r ((with_deleting (applied_to k board table) qid region c candidate).sq r))
@@ -216,8 +216,8 @@ deletes-ready past k candidate rest seen pick board table region qid c ready bef
     let ws : List ℕ = waiting past region in
     let middle : Past = Closing qid region ∷ event.Pick seen pick ∷ past in
     let later : Past = with_events (map (λ (i : ℕ). Abort region i) ws) middle in
-    let mid : ℕ → SqKept = put_sq k.sq 0 (picked_sq (k.sq 0) 1) in
-    let after : Kept = with_deleting (applied_to k board table) qid region c candidate in
+    let mid : ℕ → SqContent = put_sq k.sq 0 (picked_sq (k.sq 0) 1) in
+    let after : Content = with_deleting (applied_to k board table) qid region c candidate in
     let ts : List Ready = map (aborted region) (mid region).window in
     let hand : held_by k.deletion ≡ [] = ap held_by none in
     let region_stays = λ (r : ℕ). aborts-leave (λ (p : Past). cq_region_of p r) (λ p r i. refl) region ws middle in

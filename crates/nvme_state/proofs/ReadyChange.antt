@@ -13,7 +13,7 @@ use Rattle.nvme_log.specs.Limits.{max_outstanding}
 use Rattle.nvme_log.specs.Rules.{Past}
 use Rattle.nvme_log.specs.Queues.{cq_region_of}
 use Rattle.nvme_log.specs.Completions.{posts_of}
-use Rattle.nvme_state.specs.inside.Kept.{SqKept, Kept}
+use Rattle.nvme_state.specs.inside.Content.{SqContent, Content}
 use Rattle.nvme_log.specs.Places.{Place}
 use Rattle.nvme_state.specs.inside.Standing.{HoldsReady, IsReady, times_in, times_held, times_ready, ready_picked, ready_aborted}
 use Rattle.nvme_log.specs.Places.{is_served, one_if}
@@ -22,12 +22,12 @@ use Rattle.nvme_state.specs.inside.Steps.{picked_sq}
 use Rattle.nvme_state.proofs.Readying.{Moves, over_same, over_at, GrowsBy, readies, sum_ready, sum_ready-grows}
 
 -- the ready completions that hold an outstanding place are a sum over all that are ready
-pub picked-sum : (k : Kept) → ready_picked k ≡ sum_ready (λ (t : Ready). one_if (not t.with_queue)) (readies k.cq) MAX_REGIONS
+pub picked-sum : (k : Content) → ready_picked k ≡ sum_ready (λ (t : Ready). one_if (not t.with_queue)) (readies k.cq) MAX_REGIONS
 picked-sum k =
     over_same _ _ MAX_REGIONS (λ c l. length-filter (λ (t : Ready). not t.with_queue) (k.cq c).ready)
 
 -- so are those of places that were aborted with their queue
-pub aborted-sum : (k : Kept) → ready_aborted k ≡ sum_ready (λ (t : Ready). one_if t.with_queue) (readies k.cq) MAX_REGIONS
+pub aborted-sum : (k : Content) → ready_aborted k ≡ sum_ready (λ (t : Ready). one_if t.with_queue) (readies k.cq) MAX_REGIONS
 aborted-sum k =
     over_same _ _ MAX_REGIONS (λ c l. length-filter (λ (t : Ready). t.with_queue) (k.cq c).ready)
 
@@ -46,7 +46,7 @@ pub record IsServed (past : Past) (t : Ready) : Type 0 where
   pub no_post : posts_of past t.region t.index ≡ 0
 
 -- so it is with every ready completion
-pub ready-served : (past : Past) (k : Kept) (hand : List Place) → HoldsReady past k hand → (c : ℕ) → All (IsServed past) (k.cq c).ready
+pub ready-served : (past : Past) (k : Content) (hand : List Place) → HoldsReady past k hand → (c : ℕ) → All (IsServed past) (k.cq c).ready
 ready-served past k hand h c j d l =
     let t : Ready = slice_index_or (k.cq c).ready j d in
     let small : c < MAX_REGIONS = elim (cases_lt c MAX_REGIONS) [
@@ -67,7 +67,7 @@ ready-served past k hand h c j d l =
       few_posts false x y z l e = omega arith
 
 -- what is ready after some events, where ts is ready more in completion region a
-pub record Becomes (past later : Past) (k after : Kept) (hand held : List Place) (a : ℕ) (ts : List Ready) : Type 0 where
+pub record Becomes (past later : Past) (k after : Content) (hand held : List Place) (a : ℕ) (ts : List Ready) : Type 0 where
   pub small : a < MAX_REGIONS
   pub grows : GrowsBy (readies k.cq) (readies after.cq) a ts
   pub posts : (r i : ℕ) → posts_of later r i ≡ posts_of past r i
@@ -80,7 +80,7 @@ pub record Becomes (past later : Past) (k after : Kept) (hand held : List Place)
   pub admin_region : cq_region_of later 0 ≡ Some 0
 
 -- the relation of what is ready to the log is kept
-pub becomes-ready : (past later : Past) (k after : Kept) (hand held : List Place) (a : ℕ) (ts : List Ready)
+pub becomes-ready : (past later : Past) (k after : Content) (hand held : List Place) (a : ℕ) (ts : List Ready)
     → HoldsReady past k hand → Becomes past later k after hand held a ts → HoldsReady later after held
 becomes-ready past later k after hand held a ts h b = record {
   once = λ r i.
@@ -106,7 +106,7 @@ becomes-ready past later k after hand held a ts h b = record {
   kept c j d l = b.stay c (slice_index_or (k.cq c).ready j d) (ready-served past k hand h c j d l) (h.each c j d l)
 
 -- what is picked is no candidate any more
-pub pick-moves : (s : SqKept) (n i : ℕ) → Moves i (times_in_window i (take n s.window)) s (picked_sq s n)
+pub pick-moves : (s : SqContent) (n i : ℕ) → Moves i (times_in_window i (take n s.window)) s (picked_sq s n)
 pick-moves s n i =
     let here = λ (c : Candidate). one_if (c.index == i) in
     let split : times_in_window i s.window ≡ times_in_window i (take n s.window) + times_in_window i (drop n s.window) =

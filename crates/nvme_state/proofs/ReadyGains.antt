@@ -15,7 +15,7 @@ use Rattle.nvme_log.specs.Places.{Place}
 use Rattle.nvme_log.specs.Completions.{posted_to}
 use Rattle.nvme_state.specs.Hands.{Hands, in_hand}
 use Rattle.nvme_state.specs.inside.Jobs.{JobsView, dispatched_place, dispatched_from, gained_jobs}
-use Rattle.nvme_state.specs.inside.Kept.{CqKept, Kept, put_cq}
+use Rattle.nvme_state.specs.inside.Content.{CqContent, Content, put_cq}
 use Rattle.nvme_state.specs.inside.Standing.{HoldsPosts, HoldsReady, IsDispatched, IsReady, held_by, hand_of, times_held}
 use Rattle.nvme_log.specs.Places.{one_if}
 use Rattle.nvme_state.proofs.Windows.{times_in_window, sum_by-map}
@@ -84,7 +84,7 @@ dispatched-other a r i ticket (c ∷ cs) d =
 
 -- ---- a job is handed, or a result is dropped
 -- what is ready stands where the jobs change, and the places in hand are the same
-same-hand : (past : Past) (k : Kept) (jobs : JobsView) → in_hand jobs.hands ≡ in_hand k.jobs.hands → HoldsReady past k (hand_of k)
+same-hand : (past : Past) (k : Content) (jobs : JobsView) → in_hand jobs.hands ≡ in_hand k.jobs.hands → HoldsReady past k (hand_of k)
     → HoldsReady past (record k { jobs = jobs }) (hand_of (record k { jobs = jobs }))
 same-hand past k jobs e h =
     let same : hand_of (record k { jobs = jobs }) ≡ hand_of k = ap (λ (ds : List Dispatched). map dispatched_place ds ++ held_by k.deletion) e in
@@ -120,7 +120,7 @@ posts-stray rules late past k result seat s can = record { posted_is = s.posts.p
 -- the place of a gained result goes from those in hand to those that are ready
 pub ready-gain : KeepsGain ReadyOnes
 ready-gain rules late past k d rest result seat c qid s can its attached regions =
-    let new : Kept = after_gain k d rest seat c result in
+    let new : Content = after_gain k d rest seat c result in
     let t : Ready = completed d result in
     let at : IsDispatched past d =
     All-head (IsDispatched past) d (rest ++ k.jobs.hands.unhanded) (each-gained (IsDispatched past) k.jobs.hands d rest its.running_is s.jobs.each) in
@@ -157,13 +157,13 @@ ready-gain rules late past k d rest result seat c qid s can its attached regions
     })
 
 -- what is put and counted at a completion region isn't changed by what is ready
-pub same_posts : (past later : Past) (k after : Kept) (a : ℕ) (ts : List Ready) → HoldsPosts past k
+pub same_posts : (past later : Past) (k after : Content) (a : ℕ) (ts : List Ready) → HoldsPosts past k
     → put_cq k.cq a (record (k.cq a) { ready = ts }) ≡ after.cq → ((c : ℕ) → posted_to later c ≡ posted_to past c) → HoldsPosts later after
 same_posts past later k after a ts h is same = record {
-  posted_is = subst (λ (f : ℕ → CqKept). (c : ℕ) → posted_to later c ≡ (f c).sent) is
-      (at_put_cq (λ (c : ℕ) (s : CqKept). posted_to later c ≡ s.sent) k.cq a (record (k.cq a) { ready = ts }) (same a ∙ h.posted_is a) (λ c d. same c ∙ h.posted_is c));
-  counted = subst (λ (f : ℕ → CqKept). (c : ℕ) → (f c).posted ≡ length (f c).sent) is
-      (at_put_cq (λ (c : ℕ) (s : CqKept). s.posted ≡ length s.sent) k.cq a (record (k.cq a) { ready = ts }) (h.counted a) (λ c d. h.counted c));
+  posted_is = subst (λ (f : ℕ → CqContent). (c : ℕ) → posted_to later c ≡ (f c).sent) is
+      (at_put_cq (λ (c : ℕ) (s : CqContent). posted_to later c ≡ s.sent) k.cq a (record (k.cq a) { ready = ts }) (same a ∙ h.posted_is a) (λ c d. same c ∙ h.posted_is c));
+  counted = subst (λ (f : ℕ → CqContent). (c : ℕ) → (f c).posted ≡ length (f c).sent) is
+      (at_put_cq (λ (c : ℕ) (s : CqContent). s.posted ≡ length s.sent) k.cq a (record (k.cq a) { ready = ts }) (h.counted a) (λ c d. h.counted c));
 }
 
 -- a result that is gained posts nothing

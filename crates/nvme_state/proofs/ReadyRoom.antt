@@ -6,7 +6,7 @@ use Rattle.nvme_admin.specs.declared.bounds.TheConstants.{MAX_REGIONS}
 use Rattle.nvme_state.specs.declared.candidate.Ready.{Ready}
 use Rattle.nvme_log.specs.Limits.{max_ready}
 use Rattle.nvme_log.specs.Rules.{Past}
-use Rattle.nvme_state.specs.inside.Kept.{Kept}
+use Rattle.nvme_state.specs.inside.Content.{Content}
 use Rattle.nvme_log.specs.Places.{Place}
 use Rattle.nvme_state.specs.inside.Standing.{HoldsReady}
 use Rattle.nvme_state.proofs.PostedPlaces.{over_regions_at}
@@ -25,7 +25,7 @@ ready-split (t ∷ rest) =
     omega (arith, one, others)
 
 -- the completions that are ready in one region, and the places in hand, are no more than there is room for
-pub ready_is_few : (past : Past) (k : Kept) (hand : List Place) → HoldsReady past k hand → (c : ℕ) → length (k.cq c).ready + length hand ≤ max_ready
+pub ready_is_few : (past : Past) (k : Content) (hand : List Place) → HoldsReady past k hand → (c : ℕ) → length (k.cq c).ready + length hand ≤ max_ready
 ready_is_few past k hand h c = elim (cases_lt c MAX_REGIONS) [
   | inl below ↦
       let split = ready-split (k.cq c).ready in
@@ -38,5 +38,5 @@ ready_is_few past k hand h c = elim (cases_lt c MAX_REGIONS) [
 ]
 
 -- where a place is in hand, there is room for its completion
-pub ready_has_room : (past : Past) (k : Kept) (hand : List Place) → HoldsReady past k hand → 0 < length hand → (c : ℕ) → length (k.cq c).ready < max_ready
+pub ready_has_room : (past : Past) (k : Content) (hand : List Place) → HoldsReady past k hand → 0 < length hand → (c : ℕ) → length (k.cq c).ready < max_ready
 ready_has_room past k hand h held c = omega (arith, ready_is_few past k hand h c, held)

@@ -34,7 +34,7 @@ use Rattle.nvme_log.specs.Completions.{is_posted, posts_of, posted_to}
 use Rattle.nvme_log.specs.Effects.{abort_in, closing_of, closed_cq_of, named, target_of}
 use Rattle.nvme_log.proofs.AbortEntries.{verdict_is_abort}
 use Rattle.nvme_state.specs.inside.Jobs.{dispatched_from}
-use Rattle.nvme_state.specs.inside.Kept.{SqKept, CqKept, Kept, put_sq, with_ready}
+use Rattle.nvme_state.specs.inside.Content.{SqContent, CqContent, Content, put_sq, with_ready}
 use Rattle.nvme_state.specs.inside.Standing.{HoldsSq, HoldsPosts, IsReady, times_held, held_by, hand_of, deleted_place, Stands}
 use Rattle.nvme_log.specs.Places.{one_if, is_served}
 use Rattle.nvme_state.proofs.AbortRequests.{not_with_queue}
@@ -54,7 +54,7 @@ use Rattle.nvme_state.proofs.StepKeeps.{KeepsFetch, KeepsIo, KeepsAdmin, KeepsPo
 
 -- ---- a fetch
 -- a fetch serves no place of any region
-fetch_serves : (past : Past) (region index : ℕ) (entry : Sqe) (s : SqKept) → HoldsSq past region s → (r i : ℕ)
+fetch_serves : (past : Past) (region index : ℕ) (entry : Sqe) (s : SqContent) → HoldsSq past region s → (r i : ℕ)
     → is_served (event.Fetch region index entry ∷ past) r i ≡ is_served past r i
 fetch_serves past region index entry s h r i =
     elim (cases_eq region r) [
@@ -96,13 +96,13 @@ ready-io rules late past k queue seen pick board c s can observed io attached af
     let region : ℕ = queue.region in
     let taken : List Candidate = take pick.n (k.sq region).window in
     let ds : List Dispatched = dispatched_from region k.jobs.tickets taken in
-    let new : Kept = after_io k queue pick.n board in
+    let new : Content = after_io k queue pick.n board in
     becomes-ready past (event.Pick seen pick ∷ past) k new (hand_of k) (hand_of new) 0 [] s.ready (record {
       small = omega arith;
       grows = none-grows (λ (x : ℕ). (k.cq x).ready) 0;
       posts = λ r i. refl;
       served = λ r i.
-          let moves = at_put (λ (x : ℕ) (u v : SqKept). Moves i (times_dispatched x i ds) u v) k.sq region (picked_sq (k.sq region) pick.n)
+          let moves = at_put (λ (x : ℕ) (u v : SqContent). Moves i (times_dispatched x i ds) u v) k.sq region (picked_sq (k.sq region) pick.n)
           (rw (dispatched-own region i k.jobs.tickets taken) (pick-moves (k.sq region) pick.n i))
           (λ x d. omega (arith, dispatched-other region x i k.jobs.tickets taken d)) r in
           let place = λ (p : Place). one_if (p.region == r && p.index == i) in
@@ -140,7 +140,7 @@ more_if true n = refl
 more_if false n = omega arith
 
 -- the oldest ready completion is taken
-post-pops : (k : Kept) (c : ℕ) (t : Ready) (rest : List Ready) (cqe : Cqe) (free : ℕ) → (k.cq c).ready ≡ t ∷ rest
+post-pops : (k : Content) (c : ℕ) (t : Ready) (rest : List Ready) (cqe : Cqe) (free : ℕ) → (k.cq c).ready ≡ t ∷ rest
     → Pops (readies k.cq) (readies (after_post k c t rest cqe free).cq) c t
 post-pops k c t rest cqe free e = record {
   here = rw (eq-eqb c c refl, readies) e;
@@ -165,13 +165,13 @@ ready-post rules late past k c t rest cqe qid free s can after =
             more_if (t.region == r && t.index == i) (posts_of past r i),
             sum_ready-pops (λ (u : Ready). one_if (u.region == r && u.index == i)) (readies k.cq) (readies (after_post k c t rest cqe free).cq) c MAX_REGIONS t pops small,
           );
-      each = at_put_cq (λ (x : ℕ) (u : CqKept). All (IsReady later k.deletion x) u.ready) k.cq c (posted_cq (k.cq c) rest cqe free)
+      each = at_put_cq (λ (x : ℕ) (u : CqContent). All (IsReady later k.deletion x) u.ready) k.cq c (posted_cq (k.cq c) rest cqe free)
           (All-tail (IsReady later k.deletion c) t rest (All-same (IsReady later k.deletion c) _ _ (sym can.oldest) (stays c)))
           (λ x d. stays x);
       taken = omega (arith, s.ready.taken);
       few_aborted = omega (arith, aborted-sum k, aborted-sum (after_post k c t rest cqe free), s.ready.few_aborted);
       few_taken = omega (arith, s.ready.few_taken);
-      none_beyond = at_put_cq (λ (x : ℕ) (u : CqKept). MAX_REGIONS ≤ x → u.ready ≡ []) k.cq c (posted_cq (k.cq c) rest cqe free)
+      none_beyond = at_put_cq (λ (x : ℕ) (u : CqContent). MAX_REGIONS ≤ x → u.ready ≡ []) k.cq c (posted_cq (k.cq c) rest cqe free)
           (λ l. absurd (omega arith)) (λ x d. s.ready.none_beyond x);
       admin_region = s.ready.admin_region;
     } where
@@ -183,10 +183,10 @@ ready-post rules late past k c t rest cqe qid free s can after =
 -- a post puts one completion more into its region
 pub posts-post : KeepsPost Posts
 posts-post rules late past k c t rest cqe qid free s can = record {
-  posted_is = at_put_cq (λ (x : ℕ) (u : CqKept). posted_to (post_event c t cqe ∷ past) x ≡ u.sent) k.cq c (posted_cq (k.cq c) rest cqe free)
+  posted_is = at_put_cq (λ (x : ℕ) (u : CqContent). posted_to (post_event c t cqe ∷ past) x ≡ u.sent) k.cq c (posted_cq (k.cq c) rest cqe free)
       (rw (eq-eqb c c refl) (ap (λ (xs : List Cqe). xs ++ cqe ∷ []) (s.posts.posted_is c)))
       (λ x d. rw (ne_eqb c x (λ e. d (sym e))) (s.posts.posted_is x));
-  counted = at_put_cq (λ (x : ℕ) (u : CqKept). u.posted ≡ length u.sent) k.cq c (posted_cq (k.cq c) rest cqe free)
+  counted = at_put_cq (λ (x : ℕ) (u : CqContent). u.posted ≡ length u.sent) k.cq c (posted_cq (k.cq c) rest cqe free)
       (omega (arith, s.posts.counted c, length-append (k.cq c).sent (cqe ∷ [])))
       (λ x d. s.posts.counted x);
 }
@@ -235,16 +235,16 @@ pub posts-close : KeepsClose Posts
 posts-close rules late past k d table s can = same_posts past (closed_event d ∷ past) k (after_closed k d table) 0 _ s.posts refl (λ x. refl)
 
 -- ---- an admin pick
-module _ (rules : FrontRules) (late : Bool) (past : Past) (k : Kept) (seen : List Seen) (pick : Pick) (picked : BoardView)
+module _ (rules : FrontRules) (late : Bool) (past : Past) (k : Content) (seen : List Seen) (pick : Pick) (picked : BoardView)
     (candidate : Candidate) (rest : List Candidate) (table : TableView) (c : ℕ) (board : BoardView) (s : Stands rules late past k)
     (can : CanPick rules past k admin_queue pick picked) (first : pick.qid ≡ 0) (one : pick.n ≡ 1) (apply : CanApply rules past k s.tabled.history candidate rest table) where
   -- the answer of a command is ready, where the places of the log are as before
-  answer : (later : Past) (after : Kept) (status : StatusCode) (dw0 : ℕ) → SamePlaces past later → Answers k after (told candidate status dw0) → ReadyOnes rules late later after
+  answer : (later : Past) (after : Content) (status : StatusCode) (dw0 : ℕ) → SamePlaces past later → Answers k after (told candidate status dw0) → ReadyOnes rules late later after
   answer later after status dw0 same a regions =
       answers-ready past later k after candidate rest status dw0 s.ready s.regions apply.oldest can.none_pending (omega (arith, can.places)) same a regions
 
   -- with the status and the Command Dword 0 of a verdict
-  answer_by : (later : Past) (after : Kept) (v : Verdict) → SamePlaces past later → Answers k after (answered candidate v) → ReadyOnes rules late later after
+  answer_by : (later : Past) (after : Content) (v : Verdict) → SamePlaces past later → Answers k after (answered candidate v) → ReadyOnes rules late later after
   answer_by later after v same a regions = answer later after (status_in v) (dw0_in v) same a regions
 
   -- nothing but the board, the table and the oldest candidate is changed
@@ -273,8 +273,8 @@ module _ (rules : FrontRules) (late : Bool) (past : Past) (k : Kept) (seen : Lis
   closing-leaves qid (Some region) = record { posts = λ r i. refl; cq_regions = λ r x h. h; entries = λ r i. refl; with_queue = λ r i. refl }
 
   -- a region that is opened keeps its candidates
-  opened-keeps : {T : Type 0} (F : SqKept → T) (sq : ℕ → SqKept) (region : ℕ) (x : SqKept) → F x ≡ F (sq region) → (r : ℕ) → F (put_sq sq region x r) ≡ F (sq r)
-  opened-keeps F sq region x e = at_put (λ (y : ℕ) (u v : SqKept). F v ≡ F u) sq region x e (λ y d. refl)
+  opened-keeps : {T : Type 0} (F : SqContent → T) (sq : ℕ → SqContent) (region : ℕ) (x : SqContent) → F x ≡ F (sq region) → (r : ℕ) → F (put_sq sq region x r) ≡ F (sq r)
+  opened-keeps F sq region x e = at_put (λ (y : ℕ) (u v : SqContent). F v ≡ F u) sq region x e (λ y d. refl)
 
   -- an Abort command finds a candidate of a queue, or none
   aborts_one : (sqid cid : ℕ) (queue : Queue) → target_of past sqid ≡ Some queue → verdict_at rules s.tabled.history candidate ≡ verdict.Abort sqid cid
@@ -302,7 +302,7 @@ module _ (rules : FrontRules) (late : Bool) (past : Past) (k : Kept) (seen : Lis
       → ReadyOnes rules late (with_events (abort_in past cid o) (event.Pick seen pick ∷ past)) (aborting_from (applied_to k picked table) candidate c cid board o)
   aborts sqid cid None target is chosen = answer _ _ success 1 pick-leaves (leaves_answer picked (told_abort candidate 1))
   aborts sqid cid (Some queue) target is chosen =
-      let now : Kept = applied_to k picked table in
+      let now : Content = applied_to k picked table in
       let o : Option Candidate = oldest_named cid (now.sq queue.region).window in
       subst (λ (ds : List ℕ). ReadyOnes rules late (with_events (map (λ (i : ℕ). event.Abort queue.region i) ds) (event.Pick seen pick ∷ past))
       (aborting_in now candidate queue.region c cid board o))
@@ -323,8 +323,8 @@ module _ (rules : FrontRules) (late : Bool) (past : Past) (k : Kept) (seen : Lis
     jobs = refl;
     deletion = refl;
     outstanding = refl;
-    windows = opened-keeps (λ (x : SqKept). x.window) (put_sq k.sq 0 (picked_sq (k.sq 0) 1)) region _ refl;
-    got = opened-keeps (λ (x : SqKept). x.got) (put_sq k.sq 0 (picked_sq (k.sq 0) 1)) region _ refl;
+    windows = opened-keeps (λ (x : SqContent). x.window) (put_sq k.sq 0 (picked_sq (k.sq 0) 1)) region _ refl;
+    got = opened-keeps (λ (x : SqContent). x.got) (put_sq k.sq 0 (picked_sq (k.sq 0) 1)) region _ refl;
   })
   commands (verdict.OpenCq qid region) is due chosen = answer_by _ _ (verdict.OpenCq qid region) (record {
     posts = λ r i. refl;
@@ -370,7 +370,7 @@ made_posts past pick (verdict.Abort sqid cid) h x = aborting (target_of past sqi
   aborting (Some queue) = aborts-leave (λ (p : Past). posted_to p x) (λ p r i. refl) queue.region (take 1 (named past queue.region cid)) (pick ∷ past) ∙ h x
 
 -- what each verdict leaves posts nothing
-left_posts : (rules : FrontRules) (past later : Past) (k : Kept) (candidate : Candidate) (c : ℕ) (picked board : BoardView) (table : TableView) (v : Verdict)
+left_posts : (rules : FrontRules) (past later : Past) (k : Content) (candidate : Candidate) (c : ℕ) (picked board : BoardView) (table : TableView) (v : Verdict)
     → HoldsPosts past k → ((x : ℕ) → posted_to later x ≡ posted_to past x) → HoldsPosts later (after_admin past (applied_to k picked table) candidate c board v)
 left_posts rules past later k candidate c picked board table (Done status dw0) h same = same_posts past later k _ 0 _ h refl same
 left_posts rules past later k candidate c picked board table (verdict.OpenSq qid region cqid class) h same = same_posts past later k _ 0 _ h refl same
@@ -382,7 +382,7 @@ left_posts rules past later k candidate c picked board table (BeginDelete qid) h
   left None = same_posts past later k _ 0 _ h refl same
   left (Some queue) = same_posts past later k _ c _ h refl same
 left_posts rules past later k candidate c picked board table (verdict.Abort sqid cid) h same = left (target_of past sqid) where
-  now : Kept
+  now : Content
   now = applied_to k picked table
 
   found : (region : ℕ) (o : Option Candidate) → HoldsPosts later (aborting_in now candidate region c cid board o)

@@ -11,7 +11,7 @@ use Rattle.nvme_state.specs.declared.candidate.Ready.{Ready}
 use Rattle.nvme_log.specs.Rules.{Past}
 use Rattle.nvme_log.specs.Places.{fetched, places, WasAborted, WasPicked, Waits, fate_of, is_waiting, is_aborted, unaborted_below, picked}
 use Rattle.nvme_log.specs.Completions.{is_posted}
-use Rattle.nvme_state.specs.inside.Kept.{SqKept, CqKept, put_sq, put_cq}
+use Rattle.nvme_state.specs.inside.Content.{SqContent, CqContent, put_sq, put_cq}
 use Rattle.nvme_state.specs.inside.Standing.{HoldsSq, times_in, over_regions}
 use Rattle.nvme_log.specs.Places.{is_served, one_if}
 use Rattle.nvme_log.specs.Completions.{unposted_of}
@@ -60,7 +60,7 @@ pub record GrowsBy (before after : ℕ → List Ready) (a : ℕ) (ts : List Read
   pub elsewhere : (c : ℕ) → (c ≡ a → ⊥) → after c ≡ before c
 
 -- the ready completions of each region
-abbrev pub readies : (ℕ → CqKept) → ℕ → List Ready
+abbrev pub readies : (ℕ → CqContent) → ℕ → List Ready
 readies cq c = (cq c).ready
 
 -- a sum over the ready completions of all regions
@@ -76,7 +76,7 @@ sum_ready-grows f before after a n ts g l =
     omega arith
 
 -- what is put into a completion region grows it
-pub put-grows : (cq : ℕ → CqKept) (a : ℕ) (ts : List Ready)
+pub put-grows : (cq : ℕ → CqContent) (a : ℕ) (ts : List Ready)
     → GrowsBy (readies cq) (readies (put_cq cq a (record (cq a) { ready = (cq a).ready ++ ts }))) a ts
 put-grows cq a ts = record {
   here = rw (eq-eqb a a refl, readies) refl;
@@ -101,7 +101,7 @@ sum_ready-pops f before after a n t p l =
     omega arith
 
 -- what holds of each completion region holds where another was put at one place
-pub at_put_cq : (P : ℕ → CqKept → Type 0) (cq : ℕ → CqKept) (a : ℕ) (x : CqKept) → P a x → ((c : ℕ) → (c ≡ a → ⊥) → P c (cq c)) → (c : ℕ) → P c (put_cq cq a x c)
+pub at_put_cq : (P : ℕ → CqContent → Type 0) (cq : ℕ → CqContent) (a : ℕ) (x : CqContent) → P a x → ((c : ℕ) → (c ≡ a → ⊥) → P c (cq c)) → (c : ℕ) → P c (put_cq cq a x c)
 at_put_cq P cq a x here there c =
     elim (cases_eq c a) [
       | inl e ↦ subst (λ (z : ℕ). P z (put_cq cq a x z)) (sym e) (rw (eq-eqb a a refl, put_cq) here)
@@ -119,11 +119,11 @@ sum_by-none {X = X} [] = refl
 sum_by-none {X = X} (x ∷ xs) = omega (arith, sum_by-cons (λ (y : X). 0) x xs, sum_by-none xs)
 
 -- between two states of a region this many of a place's candidates were served
-abbrev pub Moves : (i moved : ℕ) → SqKept → SqKept → Type 0
+abbrev pub Moves : (i moved : ℕ) → SqContent → SqContent → Type 0
 Moves i moved s t = one_if (nat_lt i (length t.got)) + times_in_window i s.window ≡ one_if (nat_lt i (length s.got)) + times_in_window i t.window + moved
 
 -- this number more are served in the log
-pub served-moves : (past later : Past) (r i moved : ℕ) (s t : SqKept) → HoldsSq past r s → HoldsSq later r t → Moves i moved s t
+pub served-moves : (past later : Past) (r i moved : ℕ) (s t : SqContent) → HoldsSq past r s → HoldsSq later r t → Moves i moved s t
     → one_if (is_served later r i) ≡ one_if (is_served past r i) + moved
 served-moves past later r i moved s t before after e =
     let got_before = ap (λ (xs : List Sqe). one_if (nat_lt i (length xs))) before.fetched_is in
@@ -131,7 +131,7 @@ served-moves past later r i moved s t before after e =
     omega (arith, served-or_window past r s before i, served-or_window later r t after i)
 
 -- what holds of a region before and after another was put at one place
-pub at_put : (P : ℕ → SqKept → SqKept → Type 0) (sq : ℕ → SqKept) (a : ℕ) (x : SqKept) → P a (sq a) x
+pub at_put : (P : ℕ → SqContent → SqContent → Type 0) (sq : ℕ → SqContent) (a : ℕ) (x : SqContent) → P a (sq a) x
     → ((r : ℕ) → (r ≡ a → ⊥) → P r (sq r) (sq r)) → (r : ℕ) → P r (sq r) (put_sq sq a x r)
 at_put P sq a x here there r =
     elim (cases_eq r a) [
@@ -177,7 +177,7 @@ unposted-counts past r i served fresh none =
       counts false b c e f g = cc
 
 -- no candidate is aborted
-pub waiting-unaborted : (past : Past) (r : ℕ) (s : SqKept) → HoldsSq past r s → All (λ (c : Candidate). is_aborted past r c.index ≡ false) s.window
+pub waiting-unaborted : (past : Past) (r : ℕ) (s : SqContent) → HoldsSq past r s → All (λ (c : Candidate). is_aborted past r c.index ≡ false) s.window
 waiting-unaborted past r s h =
     All-weaker (λ (c : Candidate). is_waiting (fate_of past r c.index) ≡ true) (λ (c : Candidate). is_aborted past r c.index ≡ false)
     (λ c w. unaborted (is_aborted past r c.index) (nat_lt (unaborted_below past r c.index) (picked past r)) w) s.window (window-waits past r s h) where

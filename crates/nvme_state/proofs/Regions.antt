@@ -27,7 +27,7 @@ use Rattle.nvme_log.specs.Rules.{FrontRules, Past}
 use Rattle.nvme_log.specs.Queues.{Queue, admin_queue, open_sq, open_cq, has_region}
 use Rattle.nvme_log.specs.Places.{fetched, picked, is_aborted, unaborted_below, entry_at, waiting}
 use Rattle.nvme_log.specs.Completions.{is_posted}
-use Rattle.nvme_state.specs.inside.Kept.{SqKept, Kept, put_sq}
+use Rattle.nvme_state.specs.inside.Content.{SqContent, Content, put_sq}
 use Rattle.nvme_log.specs.Effects.{made_by, abort_in, target_of, closing_of, closed_cq_of}
 use Rattle.nvme_state.specs.inside.Standing.{HoldsSq, HoldsQueues, IsReady}
 use Rattle.nvme_state.specs.inside.Steps.{picked_sq, applied_to, verdict_at, oldest_named, without_oldest}
@@ -51,7 +51,7 @@ slice_get-push (y ∷ xs) x = slice_get-push xs x
 
 -- ---- a region's places after an event that says nothing of them
 -- the same fetches, picks and aborts, and no post of a place that wasn't fetched
-pub HoldsSq-later : (past later : Past) (r : ℕ) (s : SqKept) → HoldsSq past r s → fetched later r ≡ fetched past r → picked later r ≡ picked past r
+pub HoldsSq-later : (past later : Past) (r : ℕ) (s : SqContent) → HoldsSq past r s → fetched later r ≡ fetched past r → picked later r ≡ picked past r
     → ((i : ℕ) → is_aborted later r i ≡ is_aborted past r i) → ((i : ℕ) → length s.got ≤ i → is_posted later r i ≡ false) → HoldsSq later r s
 HoldsSq-later past later r s h f p a posted = record {
   fetched_is = f ∙ h.fetched_is;
@@ -68,7 +68,7 @@ HoldsSq-later past later r s h f p a posted = record {
   few = omega (arith, h.few_picked, p, unaborted_below-same past later r a (length s.got))
 
 -- another record with the same places
-pub HoldsSq-kept : (past : Past) (r : ℕ) (s t : SqKept) → t.got ≡ s.got → t.window ≡ s.window → t.fetched ≡ s.fetched → HoldsSq past r s → HoldsSq past r t
+pub HoldsSq-kept : (past : Past) (r : ℕ) (s t : SqContent) → t.got ≡ s.got → t.window ≡ s.window → t.fetched ≡ s.fetched → HoldsSq past r s → HoldsSq past r t
 HoldsSq-kept past r s t got window fetched h =
     subst (λ (z : ℕ). HoldsSq past r (record t { fetched = z })) (sym fetched)
     (subst (λ (z : List Candidate). HoldsSq past r (record t { window = z; fetched = s.fetched })) (sym window)
@@ -85,12 +85,12 @@ HoldsSq-kept past r s t got window fetched h =
     })))
 
 -- fewer places were picked than are left
-pub few_picked-left : (past : Past) (r : ℕ) (s : SqKept) → HoldsSq past r s → picked past r ≤ length (unaborted past r)
+pub few_picked-left : (past : Past) (r : ℕ) (s : SqContent) → HoldsSq past r s → picked past r ≤ length (unaborted past r)
 few_picked-left past r s h = omega (arith, h.few_picked, ap (λ (z : List Sqe). unaborted_below past r (length z)) h.fetched_is)
 
 -- ---- a fetch
 -- the fetched place is the newest candidate of its region
-pub HoldsSq-fetch : (past : Past) (r : ℕ) (s : SqKept) (entry : Sqe) (known : List Sqe) → HoldsSq past r s → length s.window + 1 ≤ highest_count
+pub HoldsSq-fetch : (past : Past) (r : ℕ) (s : SqContent) (entry : Sqe) (known : List Sqe) → HoldsSq past r s → length s.window + 1 ≤ highest_count
     → HoldsSq (event.Fetch r s.fetched entry ∷ past) r (fetched_sq s entry known)
 HoldsSq-fetch past r s entry known h room =
     let n : length (fetched past r) ≡ s.fetched = ap length h.fetched_is ∙ sym h.counted in
@@ -120,14 +120,14 @@ HoldsSq-fetch past r s entry known h room =
           omega (arith, h.few_picked, ap (unaborted_below past r) to, ap length a, length-append (left (λ (i : ℕ). is_aborted past r i) (length s.got)) (if is_aborted past r (length s.got) then [] else length s.got ∷ []))
 
 -- a fetch from another region
-pub HoldsSq-fetch_other : (past : Past) (region index : ℕ) (entry : Sqe) (r : ℕ) (s : SqKept) → (region ≡ r → ⊥) → HoldsSq past r s
+pub HoldsSq-fetch_other : (past : Past) (region index : ℕ) (entry : Sqe) (r : ℕ) (s : SqContent) → (region ≡ r → ⊥) → HoldsSq past r s
     → HoldsSq (event.Fetch region index entry ∷ past) r s
 HoldsSq-fetch_other past region index entry r s other h =
     HoldsSq-later past (event.Fetch region index entry ∷ past) r s h (fetched-fetch_other past region index entry r other) refl (λ i. refl) h.none_posted
 
 -- ---- a pick
 -- a pick of the region's queue takes its first candidates
-pub HoldsSq-pick : (past : Past) (seen : List Seen) (pick : Pick) (n : ℕ) (r : ℕ) (s : SqKept) → HoldsSq past r s → pick.n ≡ n → n ≤ length s.window
+pub HoldsSq-pick : (past : Past) (seen : List Seen) (pick : Pick) (n : ℕ) (r : ℕ) (s : SqContent) → HoldsSq past r s → pick.n ≡ n → n ≤ length s.window
     → has_region r (open_sq past pick.qid) ≡ true → HoldsSq (event.Pick seen pick ∷ past) r (picked_sq s n)
 HoldsSq-pick past seen pick n r s h is enough own = record {
   fetched_is = h.fetched_is;
@@ -154,14 +154,14 @@ HoldsSq-pick past seen pick n r s h is enough own = record {
   )
 
 -- a pick of another queue
-pub HoldsSq-pick_other : (past : Past) (seen : List Seen) (pick : Pick) (r : ℕ) (s : SqKept) → has_region r (open_sq past pick.qid) ≡ false → HoldsSq past r s
+pub HoldsSq-pick_other : (past : Past) (seen : List Seen) (pick : Pick) (r : ℕ) (s : SqContent) → has_region r (open_sq past pick.qid) ≡ false → HoldsSq past r s
     → HoldsSq (event.Pick seen pick ∷ past) r s
 HoldsSq-pick_other past seen pick r s other h =
     HoldsSq-later past (event.Pick seen pick ∷ past) r s h refl (picked-pick_other past seen pick r other) (λ i. refl) h.none_posted
 
 -- ---- an abort
 -- an abort of the oldest candidate takes it out of the window
-pub HoldsSq-abort : (past : Past) (r : ℕ) (s : SqKept) (c : Candidate) (rest : List Candidate) → HoldsSq past r s → s.window ≡ c ∷ rest
+pub HoldsSq-abort : (past : Past) (r : ℕ) (s : SqContent) (c : Candidate) (rest : List Candidate) → HoldsSq past r s → s.window ≡ c ∷ rest
     → HoldsSq (event.Abort r c.index ∷ past) r (record s { window = rest })
 HoldsSq-abort past r s c rest h oldest =
     let waits : waiting past r ≡ c.index ∷ map (λ (d : Candidate). d.index) rest = h.waiting_is ∙ ap (map (λ (d : Candidate). d.index)) oldest in
@@ -181,7 +181,7 @@ HoldsSq-abort past r s c rest h oldest =
     }
 
 -- a candidate that an Abort command takes is aborted
-pub HoldsSq-abort_named : (past : Past) (r : ℕ) (s : SqKept) (cid : ℕ) (c : Candidate) → HoldsSq past r s → oldest_named cid s.window ≡ Some c
+pub HoldsSq-abort_named : (past : Past) (r : ℕ) (s : SqContent) (cid : ℕ) (c : Candidate) → HoldsSq past r s → oldest_named cid s.window ≡ Some c
     → HoldsSq (event.Abort r c.index ∷ past) r (record s { window = without_oldest cid s.window })
 HoldsSq-abort_named past r s cid c h oldest =
     let p = splits cid s.window c oldest in
@@ -202,7 +202,7 @@ HoldsSq-abort_named past r s cid c h oldest =
     }
 
 -- an abort in another region
-pub HoldsSq-abort_other : (past : Past) (region i r : ℕ) (s : SqKept) → (region ≡ r → ⊥) → HoldsSq past r s → HoldsSq (event.Abort region i ∷ past) r s
+pub HoldsSq-abort_other : (past : Past) (region i r : ℕ) (s : SqContent) → (region ≡ r → ⊥) → HoldsSq past r s → HoldsSq (event.Abort region i ∷ past) r s
 HoldsSq-abort_other past region i r s other h =
     HoldsSq-later past (event.Abort region i ∷ past) r s h refl refl (λ j. is_aborted-abort_other past region i r j other) h.none_posted
 
@@ -211,20 +211,20 @@ abbrev pub aborts_of : ℕ → List ℕ → List Event
 aborts_of r is = map (λ (i : ℕ). event.Abort r i) is
 
 -- all candidates are aborted, the oldest first
-pub HoldsSq-aborts : (cs : List Candidate) (past : Past) (r : ℕ) (s : SqKept) → HoldsSq past r s → s.window ≡ cs
+pub HoldsSq-aborts : (cs : List Candidate) (past : Past) (r : ℕ) (s : SqContent) → HoldsSq past r s → s.window ≡ cs
     → HoldsSq (with_events (aborts_of r (map (λ (c : Candidate). c.index) cs)) past) r (record s { window = [] })
 HoldsSq-aborts [] past r s h window = subst (λ (z : List Candidate). HoldsSq past r (record s { window = z })) window h
 HoldsSq-aborts (c ∷ cs) past r s h window = HoldsSq-aborts cs (event.Abort r c.index ∷ past) r (record s { window = cs }) (HoldsSq-abort past r s c cs h window) refl
 
 -- aborts in another region
-pub HoldsSq-aborts_other : (is : List ℕ) (past : Past) (region r : ℕ) (s : SqKept) → (region ≡ r → ⊥) → HoldsSq past r s
+pub HoldsSq-aborts_other : (is : List ℕ) (past : Past) (region r : ℕ) (s : SqContent) → (region ≡ r → ⊥) → HoldsSq past r s
     → HoldsSq (with_events (aborts_of region is) past) r s
 HoldsSq-aborts_other [] past region r s other h = h
 HoldsSq-aborts_other (i ∷ is) past region r s other h = HoldsSq-aborts_other is (event.Abort region i ∷ past) region r s other (HoldsSq-abort_other past region i r s other h)
 
 -- ---- a post
 -- a post of a fetched place leaves what is said of every region's places
-pub HoldsSq-post : (past : Past) (c region index : ℕ) (cqe : Cqe) (r : ℕ) (s : SqKept) → (region ≡ r → index < length s.got) → HoldsSq past r s
+pub HoldsSq-post : (past : Past) (c region index : ℕ) (cqe : Cqe) (r : ℕ) (s : SqContent) → (region ≡ r → index < length s.got) → HoldsSq past r s
     → HoldsSq (event.Post c region index cqe ∷ past) r s
 HoldsSq-post past c region index cqe r s there h = HoldsSq-later past (event.Post c region index cqe ∷ past) r s h refl refl (λ i. refl) none where
   none : (i : ℕ) → length s.got ≤ i → is_posted (event.Post c region index cqe ∷ past) r i ≡ false
@@ -235,7 +235,7 @@ HoldsSq-post past c region index cqe r s there h = HoldsSq-later past (event.Pos
 
 -- ---- all regions
 -- another region in the place of one
-pub put_sq-holds : (later : Past) (sq : ℕ → SqKept) (region : ℕ) (t : SqKept) → HoldsSq later region t → ((r : ℕ) → (region ≡ r → ⊥) → HoldsSq later r (sq r))
+pub put_sq-holds : (later : Past) (sq : ℕ → SqContent) (region : ℕ) (t : SqContent) → HoldsSq later region t → ((r : ℕ) → (region ≡ r → ⊥) → HoldsSq later r (sq r))
     → (r : ℕ) → HoldsSq later r (put_sq sq region t r)
 put_sq-holds later sq region t here others r = elim (eqb_tells r region) [
   | inl same ↦ rw same.0 (subst (λ (z : ℕ). HoldsSq later z t) (sym same.1) here)
@@ -243,7 +243,7 @@ put_sq-holds later sq region t here others r = elim (eqb_tells r region) [
 ]
 
 -- one that is not in the place of another
-pub put_sq-other : (sq : ℕ → SqKept) (region : ℕ) (t : SqKept) (r : ℕ) → (region ≡ r → ⊥) → put_sq sq region t r ≡ sq r
+pub put_sq-other : (sq : ℕ → SqContent) (region : ℕ) (t : SqContent) (r : ℕ) → (region ≡ r → ⊥) → put_sq sq region t r ≡ sq r
 put_sq-other sq region t r other = rw (ne_eqb r region (λ e. other (sym e))) refl
 
 -- a queue has its own region
@@ -262,7 +262,7 @@ regions-fetch rules late past k q queue entry known s can =
     (λ r other. HoldsSq-fetch_other past queue.region (k.sq queue.region).fetched entry r (k.sq r) other (s.regions r))
 
 -- a pick of a queue takes the first candidates of its region, and leaves the other regions
-picked_regions : (past : Past) (sq : ℕ → SqKept) (queue : Queue) (seen : List Seen) (pick : Pick) (n : ℕ) → ((r : ℕ) → HoldsSq past r (sq r))
+picked_regions : (past : Past) (sq : ℕ → SqContent) (queue : Queue) (seen : List Seen) (pick : Pick) (n : ℕ) → ((r : ℕ) → HoldsSq past r (sq r))
     → open_sq past pick.qid ≡ Some queue → pick.n ≡ n → n ≤ length (sq queue.region).window
     → (r : ℕ) → HoldsSq (event.Pick seen pick ∷ past) r (put_sq sq queue.region (picked_sq (sq queue.region) n) r)
 picked_regions past sq queue seen pick n h is_open is enough =
@@ -293,14 +293,14 @@ regions-close rules late past k d table s can = λ r.
 
 -- ---- what an admin command makes
 -- an event that says nothing of places
-made_regions : (e : Event) (past : Past) (sq : ℕ → SqKept) → ((r : ℕ) → fetched (e ∷ past) r ≡ fetched past r) → ((r : ℕ) → picked (e ∷ past) r ≡ picked past r)
+made_regions : (e : Event) (past : Past) (sq : ℕ → SqContent) → ((r : ℕ) → fetched (e ∷ past) r ≡ fetched past r) → ((r : ℕ) → picked (e ∷ past) r ≡ picked past r)
     → ((r i : ℕ) → is_aborted (e ∷ past) r i ≡ is_aborted past r i) → ((r i : ℕ) → is_posted (e ∷ past) r i ≡ is_posted past r i)
     → ((r : ℕ) → HoldsSq past r (sq r)) → (r : ℕ) → HoldsSq (e ∷ past) r (sq r)
 made_regions e past sq f p a posted h r =
     HoldsSq-later past (e ∷ past) r (sq r) (h r) (f r) (p r) (a r) (λ i from. posted r i ∙ (h r).none_posted i from)
 
 -- the deletion of a queue of a region: all its candidates are aborted
-closing_regions : (past now : Past) (sq : ℕ → SqKept) (qid region unposted : ℕ) → waiting past region ≡ map (λ (c : Candidate). c.index) (sq region).window
+closing_regions : (past now : Past) (sq : ℕ → SqContent) (qid region unposted : ℕ) → waiting past region ≡ map (λ (c : Candidate). c.index) (sq region).window
     → ((r : ℕ) → HoldsSq now r (sq r)) → (r : ℕ)
     → HoldsSq (with_events (aborts_of region (waiting past region)) (event.Closing qid region ∷ now)) r
     (put_sq sq region (record (sq region) { window = []; unposted = unposted }) r)
@@ -314,7 +314,7 @@ closing_regions past now sq qid region unposted waits h =
     (λ r other. HoldsSq-aborts_other (waiting past region) (event.Closing qid region ∷ now) region r (sq r) other (closing r))
 
 -- the deletion of an identifier: that of its queue where one is open
-deleting_regions : (past now : Past) (k : Kept) (candidate : Candidate) (c qid : ℕ) (o : Option Queue)
+deleting_regions : (past now : Past) (k : Content) (candidate : Candidate) (c qid : ℕ) (o : Option Queue)
     → ((queue : Queue) → o ≡ Some queue → waiting past queue.region ≡ map (λ (d : Candidate). d.index) (k.sq queue.region).window)
     → ((r : ℕ) → HoldsSq now r (k.sq r)) → (r : ℕ) → HoldsSq (with_events (closing_of past qid o) now) r ((deleting_from k qid c candidate o).sq r)
 deleting_regions past now k candidate c qid None waits h = h
@@ -322,27 +322,27 @@ deleting_regions past now k candidate c qid (Some queue) waits h =
     closing_regions past now k.sq qid queue.region ((k.sq queue.region).unposted + length (k.sq queue.region).window) (waits queue refl) h
 
 -- a completion queue is closed
-closed_cq_regions : (now : Past) (sq : ℕ → SqKept) (qid : ℕ) (o : Option ℕ) → ((r : ℕ) → HoldsSq now r (sq r)) → (r : ℕ) → HoldsSq (with_events (closed_cq_of qid o) now) r (sq r)
+closed_cq_regions : (now : Past) (sq : ℕ → SqContent) (qid : ℕ) (o : Option ℕ) → ((r : ℕ) → HoldsSq now r (sq r)) → (r : ℕ) → HoldsSq (with_events (closed_cq_of qid o) now) r (sq r)
 closed_cq_regions now sq qid None h = h
 closed_cq_regions now sq qid (Some region) h = made_regions (event.ClosedCq qid region) now sq (λ r. refl) (λ r. refl) (λ r i. refl) (λ r i. refl) h
 
 -- an Abort command takes a candidate of a region, or finds none
-aborting_regions : (past now : Past) (k : Kept) (candidate : Candidate) (c cid : ℕ) (board : BoardView) (queue : Queue) (o : Option Candidate)
+aborting_regions : (past now : Past) (k : Content) (candidate : Candidate) (c cid : ℕ) (board : BoardView) (queue : Queue) (o : Option Candidate)
     → oldest_named cid (k.sq queue.region).window ≡ o → HoldsSq past queue.region (k.sq queue.region)
     → ((r : ℕ) → HoldsSq now r (k.sq r)) → (r : ℕ) → HoldsSq (with_events (abort_in past cid (Some queue)) now) r ((aborting_in k candidate queue.region c cid board o).sq r)
 aborting_regions past now k candidate c cid board queue None is held h r =
     subst (λ (es : List Event). HoldsSq (with_events es now) r (k.sq r)) (sym (made_none past cid queue (k.sq queue.region) held is)) (h r)
 aborting_regions past now k candidate c cid board queue (Some found) is held h r =
     let later : Past = event.Abort queue.region found.index ∷ now in
-    let left : SqKept = record (k.sq queue.region) { window = without_oldest cid (k.sq queue.region).window } in
-    let counted : SqKept = record left { unposted = (k.sq queue.region).unposted + 1 } in
+    let left : SqContent = record (k.sq queue.region) { window = without_oldest cid (k.sq queue.region).window } in
+    let counted : SqContent = record left { unposted = (k.sq queue.region).unposted + 1 } in
     subst (λ (es : List Event). HoldsSq (with_events es now) r (put_sq k.sq queue.region counted r)) (sym (made_abort past cid queue (k.sq queue.region) found held is))
     (put_sq-holds later k.sq queue.region counted
     (HoldsSq-kept later queue.region left counted refl refl refl (HoldsSq-abort_named now queue.region (k.sq queue.region) cid found (h queue.region) is))
     (λ x other. HoldsSq-abort_other now queue.region found.index x (k.sq x) other (h x)) r)
 
 -- of the queue that it names, where that is open
-target_regions : (past now : Past) (k : Kept) (candidate : Candidate) (c cid : ℕ) (board : BoardView) (o : Option Queue)
+target_regions : (past now : Past) (k : Content) (candidate : Candidate) (c cid : ℕ) (board : BoardView) (o : Option Queue)
     → ((queue : Queue) → o ≡ Some queue → HoldsSq past queue.region (k.sq queue.region))
     → ((r : ℕ) → HoldsSq now r (k.sq r)) → (r : ℕ) → HoldsSq (with_events (abort_in past cid o) now) r ((aborting_from k candidate c cid board o).sq r)
 target_regions past now k candidate c cid board None held h = h
@@ -350,7 +350,7 @@ target_regions past now k candidate c cid board (Some queue) held h =
     aborting_regions past now k candidate c cid board queue (oldest_named cid (k.sq queue.region).window) refl (held queue refl) h
 
 -- whatever the verdict makes
-verdict_regions : (past now : Past) (k : Kept) (candidate : Candidate) (c : ℕ) (board : BoardView) (v : Verdict)
+verdict_regions : (past now : Past) (k : Content) (candidate : Candidate) (c : ℕ) (board : BoardView) (v : Verdict)
     → ((qid : ℕ) (queue : Queue) → v ≡ BeginDelete qid → open_sq past qid ≡ Some queue → waiting past queue.region ≡ map (λ (d : Candidate). d.index) (k.sq queue.region).window)
     → ((sqid : ℕ) (queue : Queue) → target_of past sqid ≡ Some queue → HoldsSq past queue.region (k.sq queue.region))
     → ((r : ℕ) → HoldsSq now r (k.sq r)) → (r : ℕ) → HoldsSq (with_events (made_by past v) now) r ((after_admin past k candidate c board v).sq r)
@@ -371,7 +371,7 @@ verdict_regions past now k candidate c board (verdict.SetArbitration settings) w
     made_regions (event.SetArbitration settings) now k.sq (λ r. refl) (λ r. refl) (λ r i. refl) (λ r i. refl) h
 
 -- two open queues with one region have one identifier
-pub one_queue : (past : Past) (k : Kept) (q p : ℕ) (queue other : Queue) → HoldsQueues past k → open_sq past q ≡ Some queue → open_sq past p ≡ Some other → queue.region ≡ other.region
+pub one_queue : (past : Past) (k : Content) (q p : ℕ) (queue other : Queue) → HoldsQueues past k → open_sq past q ≡ Some queue → open_sq past p ≡ Some other → queue.region ≡ other.region
     → q ≡ p
 one_queue past k q p queue other h one two same =
     let a = h.attached q queue one in
@@ -386,22 +386,22 @@ target_is past sqid queue h = elim (eqb_tells sqid 0) [
 ]
 
 -- so it has another region than the admin queue
-pub target_apart : (past : Past) (k : Kept) → HoldsQueues past k → open_sq past 0 ≡ Some admin_queue → (sqid : ℕ) (queue : Queue) → target_of past sqid ≡ Some queue
+pub target_apart : (past : Past) (k : Content) → HoldsQueues past k → open_sq past 0 ≡ Some admin_queue → (sqid : ℕ) (queue : Queue) → target_of past sqid ≡ Some queue
     → queue.region ≡ 0 → ⊥
 target_apart past k h admin sqid queue is e =
     let target = target_is past sqid queue is in
     target.0 (one_queue past k sqid 0 queue admin_queue h target.1 admin e)
 
 -- and a pick of the admin queue leaves that region
-pub target_left : (past : Past) (k : Kept) → HoldsQueues past k → open_sq past 0 ≡ Some admin_queue → (sqid : ℕ) (queue : Queue) → target_of past sqid ≡ Some queue
-    → (x : SqKept) → put_sq k.sq 0 x queue.region ≡ k.sq queue.region
+pub target_left : (past : Past) (k : Content) → HoldsQueues past k → open_sq past 0 ≡ Some admin_queue → (sqid : ℕ) (queue : Queue) → target_of past sqid ≡ Some queue
+    → (x : SqContent) → put_sq k.sq 0 x queue.region ≡ k.sq queue.region
 target_left past k h admin sqid queue is x = put_sq-other k.sq 0 x queue.region (λ e. target_apart past k h admin sqid queue is (sym e))
 
 -- so it still holds what waited
-pub target_holds : (past : Past) (k : Kept) → HoldsQueues past k → ((r : ℕ) → HoldsSq past r (k.sq r)) → open_sq past 0 ≡ Some admin_queue → (sqid : ℕ) (queue : Queue)
+pub target_holds : (past : Past) (k : Content) → HoldsQueues past k → ((r : ℕ) → HoldsSq past r (k.sq r)) → open_sq past 0 ≡ Some admin_queue → (sqid : ℕ) (queue : Queue)
     → target_of past sqid ≡ Some queue → (n : ℕ) → HoldsSq past queue.region (put_sq k.sq 0 (picked_sq (k.sq 0) n) queue.region)
 target_holds past k h regions admin sqid queue is n =
-    subst (λ (z : SqKept). HoldsSq past queue.region z) (sym (target_left past k h admin sqid queue is (picked_sq (k.sq 0) n))) (regions queue.region)
+    subst (λ (z : SqContent). HoldsSq past queue.region z) (sym (target_left past k h admin sqid queue is (picked_sq (k.sq 0) n))) (regions queue.region)
 
 -- the queue of a due deletion isn't the admin queue
 pub not_admin_queue : (rules : FrontRules) (history : TableHistory) (entry : Sqe) (qid : ℕ) → verdict_of rules.start history entry ≡ BeginDelete qid → qid ≡ 0 → ⊥
@@ -420,4 +420,4 @@ regions-admin rules late past k seen pick picked candidate rest table c board s 
           let apart : 0 ≡ queue.region → ⊥ = λ e. not_admin_queue rules s.tabled.history candidate.entry qid begins
           (one_queue past k qid pick.qid queue admin_queue s.queues is_open can.is_open (sym e) ∙ admin) in
           (s.regions queue.region).waiting_is
-          ∙ ap (λ (z : SqKept). map (λ (d : Candidate). d.index) z.window) (sym (put_sq-other k.sq 0 (picked_sq (k.sq 0) 1) queue.region apart))
+          ∙ ap (λ (z : SqContent). map (λ (d : Candidate). d.index) z.window) (sym (put_sq-other k.sq 0 (picked_sq (k.sq 0) 1) queue.region apart))

@@ -14,7 +14,7 @@ use Rattle.nvme_log.specs.Queues.{Queue, Deletion, open_sq, has_region, is_open_
 use Rattle.nvme_log.specs.Laws.{as_open}
 use Rattle.nvme_log.specs.Queues.{is_deleted_region, is_serving}
 use Rattle.nvme_state.specs.inside.Standing.{is_on}
-use Rattle.nvme_state.specs.inside.Kept.{Kept}
+use Rattle.nvme_state.specs.inside.Content.{Content}
 use Rattle.nvme_state.specs.inside.Standing.{as_deletion, IsPending, Stands}
 
 -- a number below the bound passes
@@ -78,12 +78,12 @@ same_answers false true f g = g refl
 same_answers false false f g = refl
 
 -- a pending deletion of a region
-record IsDeletedOn (k : Kept) (r : ℕ) : Type 0 where
+record IsDeletedOn (k : Content) (r : ℕ) : Type 0 where
   deletion : PendingDelete
   is : k.deletion ≡ Some deletion
   region : deletion.region ≡ r
 
-module _ (rules : FrontRules) (late : Bool) (past : Past) (k : Kept) (s : Stands rules late past k) where
+module _ (rules : FrontRules) (late : Bool) (past : Past) (k : Content) (s : Stands rules late past k) where
   -- the queue that is open on a region is that which the region was opened for
   open_attached : (r : ℕ) → (on : IsOpenOn past r) → option_map (λ (a : Attachment). a.qid) (k.sq r).queue ≡ Some on.qid
   open_attached r on =
@@ -157,14 +157,14 @@ module _ (rules : FrontRules) (late : Bool) (past : Past) (k : Kept) (s : Stands
   from_table r q (Some e) there h = from_entry r q e e.closing refl there (eqb-true e.region r h)
 
 -- a region that was opened for a queue is served exactly where the table has that queue on it, open or closing
-pub serving_is : (rules : FrontRules) (late : Bool) (past : Past) (k : Kept) → Stands rules late past k → (r : ℕ) (a : Attachment) → (k.sq r).queue ≡ Some a
+pub serving_is : (rules : FrontRules) (late : Bool) (past : Past) (k : Content) → Stands rules late past k → (r : ℕ) (a : Attachment) → (k.sq r).queue ≡ Some a
     → is_serving past r ≡ is_on r (sq_of k.table a.qid)
 serving_is rules late past k s r a own =
     same_answers (is_serving past r) (is_on r (sq_of k.table a.qid)) (to_table rules late past k s r a own)
     (from_table rules late past k s r a.qid (sq_of k.table a.qid) refl)
 
 -- a region that was opened for no queue isn't served
-pub serving_is-none : (rules : FrontRules) (late : Bool) (past : Past) (k : Kept) → Stands rules late past k → (r : ℕ) → (k.sq r).queue ≡ None
+pub serving_is-none : (rules : FrontRules) (late : Bool) (past : Past) (k : Content) → Stands rules late past k → (r : ℕ) → (k.sq r).queue ≡ None
     → is_serving past r ≡ false
 serving_is-none rules late past k s r none = false_from_ne_true (is_serving past r) (λ h. elim (or_cases (is_open_region past r) (is_deleted_region (pending past) r) h) [
   | inl is_open ↦

@@ -16,7 +16,7 @@ use Rattle.nvme_pool.specs.Seat.{SeatView}
 use Rattle.nvme_log.specs.Rules.{FrontRules, Past}
 use Rattle.nvme_log.specs.Queues.{Queue, admin_queue}
 use Rattle.nvme_log.specs.Places.{observation_of}
-use Rattle.nvme_state.specs.inside.Kept.{Kept}
+use Rattle.nvme_state.specs.inside.Content.{Content}
 use Rattle.nvme_state.specs.inside.Jobs.{CanHand, handed_jobs, CanGain, IsResultOf, gained_jobs}
 use Rattle.nvme_state.specs.inside.Standing.{HoldsSq, HoldsReady, HoldsCounts, HoldsPosts, HoldsQueues, HoldsDeletion, HoldsArbitration, HoldsTable, HoldsJobs, Accounts, hand_of, Stands}
 use Rattle.nvme_state.specs.inside.Steps.{CanPick, CanApply, verdict_at, applied_to}
@@ -24,28 +24,28 @@ use Rattle.nvme_state.proofs.AfterSteps.{CanFetch, fetch_event, after_fetch, aft
 
 -- ---- what is kept by each step
 abbrev pub Invariant : Type 1
-Invariant = FrontRules → Bool → Past → Kept → Type 0
+Invariant = FrontRules → Bool → Past → Content → Type 0
 
 abbrev pub KeepsFetch : Invariant → Type 0
-KeepsFetch X = (rules : FrontRules) (late : Bool) (past : Past) (k : Kept) (q : ℕ) (queue : Queue) (entry : Sqe) (known : List Sqe)
+KeepsFetch X = (rules : FrontRules) (late : Bool) (past : Past) (k : Content) (q : ℕ) (queue : Queue) (entry : Sqe) (known : List Sqe)
     → Stands rules late past k → CanFetch past k q queue
     → X rules late (fetch_event k queue entry ∷ past) (after_fetch k q queue entry known)
 
 abbrev pub KeepsIo : Invariant → Type 0
-KeepsIo X = (rules : FrontRules) (late : Bool) (past : Past) (k : Kept) (queue : Queue) (seen : List Seen) (pick : Pick) (board : BoardView) (c : ℕ)
+KeepsIo X = (rules : FrontRules) (late : Bool) (past : Past) (k : Content) (queue : Queue) (seen : List Seen) (pick : Pick) (board : BoardView) (c : ℕ)
     → Stands rules late past k → CanPick rules past k queue pick board → seen ≡ observation_of past → (pick.qid ≡ 0 → ⊥)
     → (k.sq queue.region).queue ≡ Some (record { qid = pick.qid; cq_region = c })
     → X rules late (event.Pick seen pick ∷ past) (after_io k queue pick.n board)
 
 -- a job is handed
 abbrev pub KeepsHand : Invariant → Type 0
-KeepsHand X = (rules : FrontRules) (late : Bool) (past : Past) (k : Kept) (d : Dispatched) (rest : List Dispatched) (seat : SeatView)
+KeepsHand X = (rules : FrontRules) (late : Bool) (past : Past) (k : Content) (d : Dispatched) (rest : List Dispatched) (seat : SeatView)
     → Stands rules late past k → CanHand rules.sizes k.jobs d rest seat
     → X rules late past (record k { jobs = handed_jobs k.jobs d rest seat })
 
 -- a result is gained, and its completion is ready
 abbrev pub KeepsGain : Invariant → Type 0
-KeepsGain X = (rules : FrontRules) (late : Bool) (past : Past) (k : Kept) (d : Dispatched) (rest : List Dispatched)
+KeepsGain X = (rules : FrontRules) (late : Bool) (past : Past) (k : Content) (d : Dispatched) (rest : List Dispatched)
     (result : Finished) (seat : SeatView) (c qid : ℕ)
     → Stands rules late past k → CanGain k.jobs result seat → IsResultOf rules.sizes k.jobs d rest result
     → (k.sq d.region).queue ≡ Some (record { qid = qid; cq_region = c })
@@ -53,12 +53,12 @@ KeepsGain X = (rules : FrontRules) (late : Bool) (past : Past) (k : Kept) (d : D
 
 -- a result of no job is gained, and dropped
 abbrev pub KeepsStray : Invariant → Type 0
-KeepsStray X = (rules : FrontRules) (late : Bool) (past : Past) (k : Kept) (result : Finished) (seat : SeatView)
+KeepsStray X = (rules : FrontRules) (late : Bool) (past : Past) (k : Content) (result : Finished) (seat : SeatView)
     → Stands rules late past k → CanGain k.jobs result seat
     → X rules late past (record k { jobs = gained_jobs k.jobs k.jobs.hands.running seat })
 
 abbrev pub KeepsAdmin : Invariant → Type 0
-KeepsAdmin X = (rules : FrontRules) (late : Bool) (past : Past) (k : Kept) (seen : List Seen) (pick : Pick) (picked : BoardView)
+KeepsAdmin X = (rules : FrontRules) (late : Bool) (past : Past) (k : Content) (seen : List Seen) (pick : Pick) (picked : BoardView)
     (candidate : Candidate) (rest : List Candidate) (table : TableView) (c : ℕ) (board : BoardView)
     → (s : Stands rules late past k) → CanPick rules past k admin_queue pick picked → seen ≡ observation_of past → pick.qid ≡ 0 → pick.n ≡ 1
     → CanApply rules past k s.tabled.history candidate rest table
@@ -67,12 +67,12 @@ KeepsAdmin X = (rules : FrontRules) (late : Bool) (past : Past) (k : Kept) (seen
     (after_admin past (applied_to k picked table) candidate c board (verdict_at rules s.tabled.history candidate))
 
 abbrev pub KeepsPost : Invariant → Type 0
-KeepsPost X = (rules : FrontRules) (late : Bool) (past : Past) (k : Kept) (c : ℕ) (t : Ready) (rest : List Ready) (cqe : Cqe) (qid free : ℕ)
+KeepsPost X = (rules : FrontRules) (late : Bool) (past : Past) (k : Content) (c : ℕ) (t : Ready) (rest : List Ready) (cqe : Cqe) (qid free : ℕ)
     → Stands rules late past k → CanPost past k c t rest cqe qid
     → X rules late (post_event c t cqe ∷ past) (after_post k c t rest cqe free)
 
 abbrev pub KeepsClose : Invariant → Type 0
-KeepsClose X = (rules : FrontRules) (late : Bool) (past : Past) (k : Kept) (d : PendingDelete) (table : TableView)
+KeepsClose X = (rules : FrontRules) (late : Bool) (past : Past) (k : Content) (d : PendingDelete) (table : TableView)
     → (s : Stands rules late past k) → CanClose rules k s.tabled.history d table
     → X rules late (closed_event d ∷ past) (after_closed k d table)
 

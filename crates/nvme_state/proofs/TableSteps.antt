@@ -24,7 +24,7 @@ use Rattle.nvme_log.specs.Queues.{Queue, admin_queue, open_sq, open_cq}
 use Rattle.nvme_log.specs.Places.{waiting}
 use Rattle.nvme_log.specs.Histories.{table_history, admin_entry, applied}
 use Rattle.nvme_log.specs.Effects.{closed_cq_of, closing_of, made_by, abort_in, named, target_of}
-use Rattle.nvme_state.specs.inside.Kept.{SqKept, CqKept, Kept, with_sq, with_cq, with_ready}
+use Rattle.nvme_state.specs.inside.Content.{SqContent, CqContent, Content, with_sq, with_cq, with_ready}
 use Rattle.nvme_state.specs.inside.Standing.{HoldsTable}
 use Rattle.nvme_state.proofs.Oldest.{admin_entry_is}
 use Rattle.nvme_state.specs.inside.Steps.{applied_to, aborted, verdict_at, after_pick, picked_sq, oldest_named, requested, without_oldest}
@@ -33,33 +33,33 @@ use Rattle.nvme_state.proofs.StepKeeps.{KeepsFetch, KeepsIo, KeepsAdmin, KeepsPo
 
 -- ---- the regions
 -- a submission region put in the place of one, with as many slots, leaves each number of slots
-put_sq_slots : (sq : ℕ → SqKept) (r : ℕ) (s : SqKept) → s.slots ≡ (sq r).slots → (x : ℕ) (b : Bool) → (x == r) ≡ b → (if b then s else sq x).slots ≡ (sq x).slots
+put_sq_slots : (sq : ℕ → SqContent) (r : ℕ) (s : SqContent) → s.slots ≡ (sq r).slots → (x : ℕ) (b : Bool) → (x == r) ≡ b → (if b then s else sq x).slots ≡ (sq x).slots
 put_sq_slots sq r s same x true e = same ∙ ap (λ (y : ℕ). (sq y).slots) (sym (eqb-true x r e))
 put_sq_slots sq r s same x false e = refl
 
 -- and so does a completion region
-put_cq_slots : (cq : ℕ → CqKept) (c : ℕ) (s : CqKept) → s.slots ≡ (cq c).slots → (x : ℕ) (b : Bool) → (x == c) ≡ b → (if b then s else cq x).slots ≡ (cq x).slots
+put_cq_slots : (cq : ℕ → CqContent) (c : ℕ) (s : CqContent) → s.slots ≡ (cq c).slots → (x : ℕ) (b : Bool) → (x == c) ≡ b → (if b then s else cq x).slots ≡ (cq x).slots
 put_cq_slots cq c s same x true e = same ∙ ap (λ (y : ℕ). (cq y).slots) (sym (eqb-true x c e))
 put_cq_slots cq c s same x false e = refl
 
 -- what is kept afterwards has the same regions, with as many slots
-record LeavesRegions (k after : Kept) : Type 0 where
+record LeavesRegions (k after : Content) : Type 0 where
   nsq : after.nsq ≡ k.nsq
   ncq : after.ncq ≡ k.ncq
   sq : (r : ℕ) → (after.sq r).slots ≡ (k.sq r).slots
   cq : (c : ℕ) → (after.cq c).slots ≡ (k.cq c).slots
 
 -- where no region is put, the regions are left
-leaves_none : (k after : Kept) → after.nsq ≡ k.nsq → after.ncq ≡ k.ncq → after.sq ≡ k.sq → after.cq ≡ k.cq → LeavesRegions k after
+leaves_none : (k after : Content) → after.nsq ≡ k.nsq → after.ncq ≡ k.ncq → after.sq ≡ k.sq → after.cq ≡ k.cq → LeavesRegions k after
 leaves_none k after nsq ncq sq cq = record {
   nsq = nsq;
   ncq = ncq;
-  sq = λ r. ap (λ (f : ℕ → SqKept). (f r).slots) sq;
-  cq = λ c. ap (λ (f : ℕ → CqKept). (f c).slots) cq;
+  sq = λ r. ap (λ (f : ℕ → SqContent). (f r).slots) sq;
+  cq = λ c. ap (λ (f : ℕ → CqContent). (f c).slots) cq;
 }
 
 -- one change after another
-leaves_both : (k between after : Kept) → LeavesRegions k between → LeavesRegions between after → LeavesRegions k after
+leaves_both : (k between after : Content) → LeavesRegions k between → LeavesRegions between after → LeavesRegions k after
 leaves_both k between after a b = record {
   nsq = b.nsq ∙ a.nsq;
   ncq = b.ncq ∙ a.ncq;
@@ -68,11 +68,11 @@ leaves_both k between after a b = record {
 }
 
 -- a submission region is put, with as many slots
-leaves_sq : (k : Kept) (r : ℕ) (s : SqKept) → s.slots ≡ (k.sq r).slots → LeavesRegions k (with_sq k r s)
+leaves_sq : (k : Content) (r : ℕ) (s : SqContent) → s.slots ≡ (k.sq r).slots → LeavesRegions k (with_sq k r s)
 leaves_sq k r s same = record { nsq = refl; ncq = refl; sq = λ x. put_sq_slots k.sq r s same x (x == r) refl; cq = λ x. refl }
 
 -- a completion region is put, with as many slots
-leaves_cq : (k : Kept) (c : ℕ) (s : CqKept) → s.slots ≡ (k.cq c).slots → LeavesRegions k (with_cq k c s)
+leaves_cq : (k : Content) (c : ℕ) (s : CqContent) → s.slots ≡ (k.cq c).slots → LeavesRegions k (with_cq k c s)
 leaves_cq k c s same = record { nsq = refl; ncq = refl; sq = λ x. refl; cq = λ x. put_cq_slots k.cq c s same x (x == c) refl }
 
 -- an accepted command adds no region
@@ -105,7 +105,7 @@ finish-cq_regions start h qid = refl
 
 -- ---- what is kept of the table
 -- where the regions are left, the table stands at its new history
-held : (rules : FrontRules) (late : Bool) (past later : Past) (k after : Kept) → HoldsTable rules late past k → LeavesRegions k after
+held : (rules : FrontRules) (late : Bool) (past later : Past) (k after : Content) → HoldsTable rules late past k → LeavesRegions k after
     → after.table.sq_regions ≡ k.table.sq_regions → after.table.cq_regions ≡ k.table.cq_regions
     → (h : TableHistory) → StandsAt rules.start after.table h → (late ≡ false → h ≡ table_history rules later) → HoldsTable rules late later after
 held rules late past later k after t l sqs cqs h stands is = record {
@@ -128,7 +128,7 @@ tabled-fetch rules late past k q queue entry known s can =
     held rules late past _ k _ s.tabled (leaves_both k _ _ (leaves_sq k queue.region _ refl) (leaves_none _ _ refl refl refl refl)) refl refl s.tabled.history s.tabled.stands s.tabled.history_is
 
 -- a pick leaves the regions
-leaves_pick : (k : Kept) (queue : Queue) (n : ℕ) (board : BoardView) → LeavesRegions k (after_pick k queue n board)
+leaves_pick : (k : Content) (queue : Queue) (n : ℕ) (board : BoardView) → LeavesRegions k (after_pick k queue n board)
 leaves_pick k queue n board =
     leaves_both k (with_sq k queue.region (picked_sq (k.sq queue.region) n)) (after_pick k queue n board) (leaves_sq k queue.region (picked_sq (k.sq queue.region) n) refl)
     (leaves_none (with_sq k queue.region (picked_sq (k.sq queue.region) n)) (after_pick k queue n board) refl refl refl refl)
@@ -145,8 +145,8 @@ tabled-io rules late past k queue seen pick board c s can seen_is io attached =
 -- a post leaves the table
 pub tabled-post : KeepsPost Tabled
 tabled-post rules late past k c t rest cqe qid free s can =
-    let one : Kept = with_sq k t.region (record (k.sq t.region) { unposted = (k.sq t.region).unposted - 1 }) in
-    let two : Kept = with_cq one c (posted_cq (k.cq c) rest cqe free) in
+    let one : Content = with_sq k t.region (record (k.sq t.region) { unposted = (k.sq t.region).unposted - 1 }) in
+    let two : Content = with_cq one c (posted_cq (k.cq c) rest cqe free) in
     held rules late past (post_event c t cqe ∷ past) k (after_post k c t rest cqe free) s.tabled
     (leaves_both k one (after_post k c t rest cqe free) (leaves_sq k t.region _ refl)
     (leaves_both one two (after_post k c t rest cqe free) (leaves_cq one c _ refl) (leaves_none two (after_post k c t rest cqe free) refl refl refl refl)))
@@ -155,7 +155,7 @@ tabled-post rules late past k c t rest cqe qid free s can =
 -- the end of a deletion is a step of the table history
 pub tabled-close : KeepsClose Tabled
 tabled-close rules late past k d table s can =
-    let one : Kept = record k { deletion = None; table = table } in
+    let one : Content = record k { deletion = None; table = table } in
     held rules late past (closed_event d ∷ past) k (after_closed k d table) s.tabled
     (leaves_both k one (after_closed k d table) (leaves_none k one refl refl refl refl) (leaves_cq one 0 _ refl))
     (can.table_stands.sq_regions ∙ finish-sq_regions rules.start s.tabled.history d.qid ∙ sym s.tabled.stands.sq_regions)
@@ -165,28 +165,28 @@ tabled-close rules late past k d table s can =
 
 -- ---- an admin pick
 -- a ready completion more leaves the regions
-leaves_ready : (k : Kept) (c : ℕ) (t : Ready) → LeavesRegions k (with_ready k c t)
+leaves_ready : (k : Content) (c : ℕ) (t : Ready) → LeavesRegions k (with_ready k c t)
 leaves_ready k c t = leaves_cq k c _ refl
 
 -- what a verdict makes leaves the regions
-leaves_verdict : (past : Past) (k : Kept) (candidate : Candidate) (c : ℕ) (board : BoardView) (v : Verdict) → LeavesRegions k (after_admin past k candidate c board v)
+leaves_verdict : (past : Past) (k : Content) (candidate : Candidate) (c : ℕ) (board : BoardView) (v : Verdict) → LeavesRegions k (after_admin past k candidate c board v)
 leaves_verdict past k candidate c board (Done status dw0) = leaves_ready k 0 _
 leaves_verdict past k candidate c board (verdict.OpenSq qid region cqid class) =
-    let one : Kept = with_sq k region (record (k.sq region) { queue = Some (record { qid = qid; cq_region = c }) }) in
-    let two : Kept = with_opened k qid region c class in
+    let one : Content = with_sq k region (record (k.sq region) { queue = Some (record { qid = qid; cq_region = c }) }) in
+    let two : Content = with_opened k qid region c class in
     leaves_both k two _ (leaves_both k one two (leaves_sq k region _ refl) (leaves_none one two refl refl refl refl)) (leaves_ready two 0 _)
 leaves_verdict past k candidate c board (verdict.OpenCq qid region) = leaves_ready k 0 _
 leaves_verdict past k candidate c board (CloseCq qid) = leaves_ready k 0 _
 leaves_verdict past k candidate c board (verdict.SetArbitration settings) =
-    let one : Kept = record k { board = board } in
+    let one : Content = record k { board = board } in
     leaves_both k one _ (leaves_none k one refl refl refl refl) (leaves_ready one 0 _)
 leaves_verdict past k candidate c board (verdict.Abort sqid cid) = by_target (target_of past sqid) where
   by_found : (queue : Queue) (o : Option Candidate) → LeavesRegions k (aborting_in k candidate queue.region c cid board o)
   by_found queue None = leaves_ready k 0 _
   by_found queue (Some found) =
-      let one : Kept = with_sq k queue.region (record (k.sq queue.region) { window = without_oldest cid (k.sq queue.region).window; unposted = (k.sq queue.region).unposted + 1 }) in
-      let two : Kept = with_ready one c (requested queue.region found) in
-      let three : Kept = with_requested k queue.region c cid board found in
+      let one : Content = with_sq k queue.region (record (k.sq queue.region) { window = without_oldest cid (k.sq queue.region).window; unposted = (k.sq queue.region).unposted + 1 }) in
+      let two : Content = with_ready one c (requested queue.region found) in
+      let three : Content = with_requested k queue.region c cid board found in
       leaves_both k three _
       (leaves_both k one three (leaves_sq k queue.region _ refl) (leaves_both one two three (leaves_ready one c _) (leaves_none two three refl refl refl refl)))
       (leaves_ready three 0 _)
@@ -198,13 +198,13 @@ leaves_verdict past k candidate c board (BeginDelete qid) = by_sq (open_sq past 
   by_sq : (o : Option Queue) → LeavesRegions k (deleting_from k qid c candidate o)
   by_sq None = leaves_ready k 0 _
   by_sq (Some queue) =
-      let one : Kept = with_sq k queue.region (record (k.sq queue.region) { window = []; unposted = (k.sq queue.region).unposted + length (k.sq queue.region).window }) in
-      let two : Kept = with_readies one c (map (aborted queue.region) (k.sq queue.region).window) in
+      let one : Content = with_sq k queue.region (record (k.sq queue.region) { window = []; unposted = (k.sq queue.region).unposted + length (k.sq queue.region).window }) in
+      let two : Content = with_readies one c (map (aborted queue.region) (k.sq queue.region).window) in
       leaves_both k one (with_deleting k qid queue.region c candidate) (leaves_sq k queue.region _ refl)
       (leaves_both one two (with_deleting k qid queue.region c candidate) (leaves_cq one c _ refl) (leaves_none two (with_deleting k qid queue.region c candidate) refl refl refl refl))
 
 -- and the table
-leaves_table : (past : Past) (k : Kept) (candidate : Candidate) (c : ℕ) (board : BoardView) (v : Verdict) → (after_admin past k candidate c board v).table ≡ k.table
+leaves_table : (past : Past) (k : Content) (candidate : Candidate) (c : ℕ) (board : BoardView) (v : Verdict) → (after_admin past k candidate c board v).table ≡ k.table
 leaves_table past k candidate c board (Done status dw0) = refl
 leaves_table past k candidate c board (verdict.OpenSq qid region cqid class) = refl
 leaves_table past k candidate c board (verdict.OpenCq qid region) = refl
@@ -252,8 +252,8 @@ made_leave_history rules past later (BeginDelete qid) = by_sq (open_sq past qid)
 pub tabled-admin : KeepsAdmin Tabled
 tabled-admin rules late past k seen pick picked candidate rest table c board s can seen_is z one apply chosen =
     let v : Verdict = verdict_at rules s.tabled.history candidate in
-    let before : Kept = applied_to k picked table in
-    let after : Kept = after_admin past before candidate c board v in
+    let before : Content = applied_to k picked table in
+    let after : Content = after_admin past before candidate c board v in
     let same : after.table ≡ table = leaves_table past before candidate c board v in
     let picks : table_history rules (event.Pick seen pick ∷ past) ≡ EntryApplied candidate.entry ∷ table_history rules past =
     cond-true (pick.qid == 0) (applied (admin_entry past) ++ table_history rules past) (table_history rules past) (eq-eqb pick.qid 0 z)

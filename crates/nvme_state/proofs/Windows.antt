@@ -9,7 +9,7 @@ use Rattle.std.proofs.lemmas.Option.{slice_get-get_or, slice_get-map, same_Some}
 use Rattle.nvme_state.specs.declared.candidate.Candidate.{Candidate}
 use Rattle.nvme_log.specs.Rules.{Past}
 use Rattle.nvme_log.specs.Places.{fetched, waiting, fate_of, is_waiting}
-use Rattle.nvme_state.specs.inside.Kept.{SqKept}
+use Rattle.nvme_state.specs.inside.Content.{SqContent}
 use Rattle.nvme_log.specs.Places.{one_if, is_served}
 use Rattle.nvme_state.specs.inside.Standing.{HoldsSq}
 use Rattle.nvme_log.proofs.Waiting.{times_among, times-waiting, served-or_waits, waiting-below, waiting-ascending, waiting-waits, waiting-contains}
@@ -44,7 +44,7 @@ map-contains {X = X} f xs y h = found (slice_get xs h.0) refl (sym (slice_get-ma
 abbrev pub times_in_window : ℕ → List Candidate → ℕ
 times_in_window i cs = sum_by (λ (c : Candidate). one_if (c.index == i)) cs
 
-module _ (past : Past) (r : ℕ) (s : SqKept) (h : HoldsSq past r s) where
+module _ (past : Past) (r : ℕ) (s : SqContent) (h : HoldsSq past r s) where
   -- the indices of a window are those of fetched places
   pub window-below : All (λ (c : Candidate). c.index < length (fetched past r)) s.window
   window-below = All-from_map (λ (c : Candidate). c.index) (λ (i : ℕ). i < length (fetched past r)) s.window

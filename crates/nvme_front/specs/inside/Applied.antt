@@ -16,8 +16,8 @@ use Rattle.nvme_log.specs.Limits.{admin_events}
 use Rattle.nvme_log.specs.Rules.{Past}
 use Rattle.nvme_log.specs.Queues.{admin_queue, open_cq}
 use Rattle.nvme_log.specs.Places.{observation_of}
-use Rattle.nvme_state.specs.inside.Kept.{SqKept, Kept, with_sq, with_ready}
-use Rattle.nvme_front.specs.inside.State.{sq_in, kept_of, rules_of, past_of}
+use Rattle.nvme_state.specs.inside.Content.{SqContent, Content, with_sq, with_ready}
+use Rattle.nvme_front.specs.inside.State.{sq_in, content_of, rules_of, past_of}
 use Rattle.nvme_state.specs.inside.Standing.{Stands}
 use Rattle.nvme_front.specs.inside.Room.{IsRoomy}
 use Rattle.nvme_state.specs.inside.Steps.{CanPick, CanApply, verdict_at, applied_to, requested, oldest_named, without_oldest}
@@ -27,7 +27,7 @@ use Rattle.nvme_log.specs.declared.event.Event.TheVariants as event
 -- `closing` is the region of the completion queue that the command deletes
 pub record IsApplied (s : FrontState) (candidate : Candidate) (v : Verdict) (closing : Option ℕ) : Type 0 where
   -- before the pick
-  pub before : Kept
+  pub before : Content
   pub past : Past
   pub stands : Stands (rules_of s) s.late past before
   -- the pick, on what was seen, and the board after it
@@ -45,7 +45,7 @@ pub record IsApplied (s : FrontState) (candidate : Candidate) (v : Verdict) (clo
   pub closing_is : (qid : ℕ) → v ≡ verdict.CloseCq qid → closing ≡ open_cq past qid
   -- the front after the pick
   pub past_is : past_of s ≡ event.Pick seen pick ∷ past
-  pub kept_is : kept_of s ≡ applied_to before picked s.table
+  pub content_is : content_of s ≡ applied_to before picked s.table
   pub roomy : IsRoomy s
   pub admin : (0 < length s.sqs.items) × (0 < length s.cqs.items)
   -- there is room for what its command makes
@@ -58,7 +58,7 @@ HasNoneNamed s sqid cid =
     (entry : SqEntry) → (sqid ≡ 0 → ⊥) → sq_of s.table sqid ≡ Some entry → oldest_named cid (sq_in s.sqs.items entry.region).window ≡ None
 
 -- a submission region whose oldest candidate with a command identifier left
-abbrev pub without_named : ℕ → SqKept → SqKept
+abbrev pub without_named : ℕ → SqContent → SqContent
 without_named cid s = record s { window = without_oldest cid s.window; unposted = s.unposted + 1 }
 
 -- the oldest candidate of an open I/O submission queue with a command identifier was aborted: its completion is ready, and takes a place
@@ -73,7 +73,7 @@ pub record HasAborted (old new : FrontState) (sqid cid : ℕ) : Type 0 where
   pub oldest : oldest_named cid (sq_in old.sqs.items entry.region).window ≡ Some found
   -- the front afterwards
   pub log : new.log.items ≡ old.log.items ++ event.Abort entry.region found.index ∷ []
-  pub kept : kept_of new ≡ record (with_ready (with_sq (kept_of old) entry.region (without_named cid (sq_in old.sqs.items entry.region))) c (requested entry.region found)) {
+  pub kept : content_of new ≡ record (with_ready (with_sq (content_of old) entry.region (without_named cid (sq_in old.sqs.items entry.region))) c (requested entry.region found)) {
     board = new.board;
     outstanding = old.outstanding + 1;
   }

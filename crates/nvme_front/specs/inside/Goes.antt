@@ -17,8 +17,8 @@ use Rattle.nvme_log.specs.Completions.{phase_after}
 use Rattle.nvme_front.specs.inside.Room.{window_room, ready_room}
 use Rattle.nvme_pool.specs.Seat.{SameSeat}
 use Rattle.nvme_state.specs.Hands.{gained_count}
-use Rattle.nvme_state.specs.inside.Kept.{SqKept, CqKept}
-use Rattle.nvme_front.specs.inside.State.{kept_of, gets_of, puts_of}
+use Rattle.nvme_state.specs.inside.Content.{SqContent, CqContent}
+use Rattle.nvme_front.specs.inside.State.{content_of, gets_of, puts_of}
 use Rattle.nvme_front.specs.Ends.{get_place, put_place}
 
 -- what was got from a submission region and is known to come next
@@ -64,7 +64,7 @@ abbrev pub HasAdmin : FrontState → Type 0
 HasAdmin s = (0 < length s.sqs.items) × (0 < length s.cqs.items)
 
 -- the window of a region is full, and not empty: a ring has at least two slots
-abbrev pub IsFullSq : SqKept → Type 0
+abbrev pub IsFullSq : SqContent → Type 0
 IsFullSq sq = (window_of sq.slots ≤ length sq.window) × (sq.window ≢ [])
 
 -- the queue of an identifier is not open, or its window is full, or its ring is known to give nothing
@@ -72,7 +72,7 @@ abbrev pub IsTaken : FrontState → Option SqEntry → Type 0
 IsTaken s None = Unit {0}
 IsTaken s (Some entry) =
     entry.closing ≡ false
-    → IsFullSq ((kept_of s).sq entry.region) ⊎ ((kept_of s).sq entry.region).known ≡ []
+    → IsFullSq ((content_of s).sq entry.region) ⊎ ((content_of s).sq entry.region).known ≡ []
 
 abbrev pub IsScanned : FrontState → ℕ → Type 0
 IsScanned s q = IsTaken s (sq_of s.table q)
@@ -83,7 +83,7 @@ AllScanned s = (q : ℕ) → q ≤ highest_qid → IsScanned s q
 
 -- no completion is ready in a completion region, or its ring is full
 abbrev pub IsDrained : FrontState → ℕ → Type 0
-IsDrained s c = ((kept_of s).cq c).ready ≡ [] ⊎ ((kept_of s).cq c).free ≡ 0
+IsDrained s c = ((content_of s).cq c).ready ≡ [] ⊎ ((content_of s).cq c).free ≡ 0
 
 -- each completion region is drained
 abbrev pub AllDrained : FrontState → Type 0
@@ -94,7 +94,7 @@ abbrev pub next_pick : FrontState → Option Pick
 next_pick s = pick_of s.board.kept (seen_of s.board.queues)
 
 -- the completion of a ready place, where it is posted next to a completion region
-pub record IsCompletionOf (sq : SqKept) (cq : CqKept) (t : Ready) (cqe : Cqe) : Type 0 where
+pub record IsCompletionOf (sq : SqContent) (cq : CqContent) (t : Ready) (cqe : Cqe) : Type 0 where
   pub cq_region : ℕ
   pub queue : sq.queue ≡ Some (record { qid = cqe.sqid; cq_region = cq_region })
   pub cid : cqe.cid ≡ t.entry.cid

@@ -6,7 +6,7 @@ use Rattle.nvme_state.specs.declared.region.SqRegion.{SqRegion}
 use Rattle.nvme_state.specs.declared.region.CqRegion.{CqRegion}
 use Rattle.nvme_front.specs.declared.state.FrontState.{FrontState}
 use Rattle.nvme_log.specs.Limits.{max_outstanding, max_ready, window_of}
-use Rattle.nvme_front.specs.inside.State.{kept_of, rules_of, past_of}
+use Rattle.nvme_front.specs.inside.State.{content_of, rules_of, past_of}
 use Rattle.nvme_state.specs.inside.Standing.{IsFresh, Stands}
 
 abbrev pub window_room : SqRegion → ℕ
@@ -36,8 +36,8 @@ pub record IsRoomy (s : FrontState) : Type 0 where
   pub few_cqs : length s.cqs.items ≤ MAX_REGIONS
 
 -- a front keeps what stands at its log, and has room; the log begins when both admin regions are there
-pub record IsKept (s : FrontState) : Type 0 where
-  pub fresh : s.log.items ≡ [] → IsFresh (rules_of s) s.late (kept_of s)
-  pub stands : 0 < length s.sqs.items → 0 < length s.cqs.items → Stands (rules_of s) s.late (past_of s) (kept_of s)
+pub record IsConsistent (s : FrontState) : Type 0 where
+  pub fresh : s.log.items ≡ [] → IsFresh (rules_of s) s.late (content_of s)
+  pub stands : 0 < length s.sqs.items → 0 < length s.cqs.items → Stands (rules_of s) s.late (past_of s) (content_of s)
   pub begun : (s.log.items ≡ [] → ⊥) → (0 < length s.sqs.items) × (0 < length s.cqs.items)
   pub roomy : IsRoomy s

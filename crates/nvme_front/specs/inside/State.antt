@@ -8,24 +8,24 @@ use Rattle.nvme_state.specs.declared.region.SqRegion.{SqRegion}
 use Rattle.nvme_state.specs.declared.region.CqRegion.{CqRegion}
 use Rattle.nvme_front.specs.declared.state.FrontState.{FrontState}
 use Rattle.nvme_front.specs.View.{FrontView}
-use Rattle.nvme_state.specs.inside.Kept.{CqKept, Kept, SqKept, no_cq, no_sq}
+use Rattle.nvme_state.specs.inside.Content.{CqContent, Content, SqContent, no_cq, no_sq}
 use Rattle.nvme_state.specs.Regions.{cq_steps, sq_steps}
 
-abbrev pub sq_kept : SqRegion → SqKept
-sq_kept s = record { got = s.end.got; known = s.end.known; window = s.window.items; fetched = s.fetched; unposted = s.unposted; queue = s.queue; slots = s.end.slots }
+abbrev pub sq_content : SqRegion → SqContent
+sq_content s = record { got = s.end.got; known = s.end.known; window = s.window.items; fetched = s.fetched; unposted = s.unposted; queue = s.queue; slots = s.end.slots }
 
-abbrev pub cq_kept : CqRegion → CqKept
-cq_kept c = record { sent = c.end.sent; free = c.end.free; posted = c.posted; ready = c.ready.items; slots = c.end.slots }
+abbrev pub cq_content : CqRegion → CqContent
+cq_content c = record { sent = c.end.sent; free = c.end.free; posted = c.posted; ready = c.ready.items; slots = c.end.slots }
 
 -- the region of a number, and one with nothing where there is none
-abbrev pub sq_in : List SqRegion → ℕ → SqKept
-sq_in sqs r = slice_index_or (map sq_kept sqs) r no_sq
+abbrev pub sq_in : List SqRegion → ℕ → SqContent
+sq_in sqs r = slice_index_or (map sq_content sqs) r no_sq
 
-abbrev pub cq_in : List CqRegion → ℕ → CqKept
-cq_in cqs c = slice_index_or (map cq_kept cqs) c no_cq
+abbrev pub cq_in : List CqRegion → ℕ → CqContent
+cq_in cqs c = slice_index_or (map cq_content cqs) c no_cq
 
-abbrev pub kept_of : FrontState → Kept
-kept_of s = record { sq = sq_in s.sqs.items; cq = cq_in s.cqs.items; nsq = length s.sqs.items; ncq = length s.cqs.items; board = s.board; table = s.table; outstanding = s.outstanding; deletion = s.deletion; jobs = s.jobs }
+abbrev pub content_of : FrontState → Content
+content_of s = record { sq = sq_in s.sqs.items; cq = cq_in s.cqs.items; nsq = length s.sqs.items; ncq = length s.cqs.items; board = s.board; table = s.table; outstanding = s.outstanding; deletion = s.deletion; jobs = s.jobs }
 
 abbrev pub gets_of : List SqRegion → List (GetView Sqe)
 gets_of sqs = map (λ (s : SqRegion). s.end) sqs

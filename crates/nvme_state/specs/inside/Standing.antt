@@ -30,11 +30,11 @@ use Rattle.nvme_state.specs.inside.Jobs.{JobsView, dispatched_place}
 use Rattle.nvme_state.specs.Hands.{in_hand}
 use Rattle.nvme_log.specs.Dispatches.{dispatched}
 use Rattle.nvme_state.specs.JobAccount.{AccountsForJobs}
-use Rattle.nvme_state.specs.inside.Kept.{SqKept, CqKept, no_sq, Kept}
+use Rattle.nvme_state.specs.inside.Content.{SqContent, CqContent, no_sq, Content}
 
 -- ---- a submission region's places
 -- the window is the places that wait, each with its entry; what was got is what was fetched; nothing is said of places that were not fetched
-pub record HoldsSq (past : Past) (r : ℕ) (s : SqKept) : Type 0 where
+pub record HoldsSq (past : Past) (r : ℕ) (s : SqContent) : Type 0 where
   pub fetched_is : fetched past r ≡ s.got
   pub counted : s.fetched ≡ length s.got
   pub waiting_is : waiting past r ≡ map (λ (c : Candidate). c.index) s.window
@@ -57,14 +57,14 @@ unfoldable pub over_regions : (ℕ → ℕ) → ℕ → ℕ
 over_regions f zero = 0
 over_regions f (suc n) = over_regions f n + f n
 
-abbrev pub times_ready : Kept → ℕ → ℕ → ℕ
+abbrev pub times_ready : Content → ℕ → ℕ → ℕ
 times_ready k r i = over_regions (λ (c : ℕ). times_in r i (k.cq c).ready) MAX_REGIONS
 
 -- the ready completions that hold an outstanding place, and those of places that were aborted with their queue
-abbrev pub ready_picked : Kept → ℕ
+abbrev pub ready_picked : Content → ℕ
 ready_picked k = over_regions (λ (c : ℕ). length (filter (λ (t : Ready). not t.with_queue) (k.cq c).ready)) MAX_REGIONS
 
-abbrev pub ready_aborted : Kept → ℕ
+abbrev pub ready_aborted : Content → ℕ
 ready_aborted k = over_regions (λ (c : ℕ). length (filter (λ (t : Ready). t.with_queue) (k.cq c).ready)) MAX_REGIONS
 
 -- the place of the command of a deletion, which is answered when the deletion is finished
@@ -75,7 +75,7 @@ abbrev pub held_by : Option PendingDelete → List Place
 held_by deletion = option_to_list (option_map deleted_place deletion)
 
 -- the places that are picked and neither ready nor posted: those whose job has no result yet, and that of the deletion
-abbrev pub hand_of : Kept → List Place
+abbrev pub hand_of : Content → List Place
 hand_of k = map dispatched_place (in_hand k.jobs.hands) ++ held_by k.deletion
 
 -- what is ready in a completion region is a completion of a place that goes there. One that was aborted with its queue is of the queue that is
@@ -87,7 +87,7 @@ pub record IsReady (past : Past) (deletion : Option PendingDelete) (c : ℕ) (t 
   pub deleting : t.with_queue ≡ true → option_map (λ (d : PendingDelete). d.region) deletion ≡ Some t.region
 
 -- each picked or aborted place is once ready, once posted or once in hand: picked, but neither ready nor posted
-pub record HoldsReady (past : Past) (k : Kept) (hand : List Place) : Type 0 where
+pub record HoldsReady (past : Past) (k : Content) (hand : List Place) : Type 0 where
   pub once : (r i : ℕ) → times_ready k r i + posts_of past r i + times_held r i hand ≡ one_if (is_served past r i)
   pub each : (c : ℕ) → All (IsReady past k.deletion c) (k.cq c).ready
   pub taken : ready_picked k + length hand ≡ k.outstanding
@@ -114,21 +114,21 @@ pub record HoldsJobs (sizes : List ℕ) (past : Past) (j : JobsView) : Type 0 wh
   pub each : All (IsDispatched past) (in_hand j.hands)
 
 -- ---- counts and ends
-pub record HoldsCounts (rules : FrontRules) (past : Past) (k : Kept) : Type 0 where
+pub record HoldsCounts (rules : FrontRules) (past : Past) (k : Content) : Type 0 where
   pub unposted : (r : ℕ) → (k.sq r).unposted ≡ unposted_of past r
   pub outstanding_is : k.outstanding ≡ outstanding rules past
 
-pub record HoldsPosts (past : Past) (k : Kept) : Type 0 where
+pub record HoldsPosts (past : Past) (k : Content) : Type 0 where
   pub posted_is : (c : ℕ) → posted_to past c ≡ (k.cq c).sent
   pub counted : (c : ℕ) → (k.cq c).posted ≡ length (k.cq c).sent
 
 -- ---- queues
 -- an open queue as the board has it: its class, and its number of candidates
-abbrev pub on_board : Kept → Queue → OpenQueue
+abbrev pub on_board : Content → Queue → OpenQueue
 on_board k queue = record { class = queue.class; count = length (k.sq queue.region).window }
 
 -- a region was opened for the queue that is open on it, and posts to the region of its completion queue
-pub record IsAttached (past : Past) (k : Kept) (q : ℕ) (queue : Queue) : Type 0 where
+pub record IsAttached (past : Past) (k : Content) (q : ℕ) (queue : Queue) : Type 0 where
   pub cq_region : ℕ
   pub attached : (k.sq queue.region).queue ≡ Some (record { qid = q; cq_region = cq_region })
 
@@ -138,21 +138,21 @@ is_closing None = false
 is_closing (Some entry) = entry.closing
 
 -- a region that was opened for no queue: nothing happened to it
-pub record IsUnopened (past : Past) (r : ℕ) (s : SqKept) : Type 0 where
+pub record IsUnopened (past : Past) (r : ℕ) (s : SqContent) : Type 0 where
   pub nothing_got : s.got ≡ []
   pub not_closed : is_closed_region past r ≡ false
 
 -- a region whose queue was deleted: all its places are posted, none waits
-pub record IsGone (s : SqKept) : Type 0 where
+pub record IsGone (s : SqContent) : Type 0 where
   pub all_posted : s.unposted ≡ 0
   pub none_waits : s.window ≡ []
 
 -- the region of a deletion was opened for its queue
-pub record IsOpenedFor (sq : ℕ → SqKept) (d : PendingDelete) : Type 0 where
+pub record IsOpenedFor (sq : ℕ → SqContent) (d : PendingDelete) : Type 0 where
   pub cq_region : ℕ
   pub opened : (sq d.region).queue ≡ Some (record { qid = d.qid; cq_region = cq_region })
 
-pub record HoldsQueues (past : Past) (k : Kept) : Type 0 where
+pub record HoldsQueues (past : Past) (k : Content) : Type 0 where
   -- the open queues are those of the table, and of the board
   pub sqs : (q : ℕ) → open_sq past q ≡ as_open (sq_of k.table q)
   pub cqs : (q : ℕ) → open_cq past q ≡ cq_of k.table q
@@ -180,7 +180,7 @@ abbrev pub as_deletion : PendingDelete → Deletion
 as_deletion d = record { qid = d.qid; region = d.region }
 
 -- its queue is closing in the table, no candidate of it is left, and its region isn't closed yet
-pub record IsPending (past : Past) (k : Kept) (d : PendingDelete) : Type 0 where
+pub record IsPending (past : Past) (k : Content) (d : PendingDelete) : Type 0 where
   pub closing : SqEntry
   pub in_table : sq_of k.table d.qid ≡ Some closing
   pub is_closing : closing.closing ≡ true
@@ -193,7 +193,7 @@ pub record IsPending (past : Past) (k : Kept) (d : PendingDelete) : Type 0 where
   -- its region was opened for it
   pub attached : option_map (λ (a : Attachment). a.qid) (k.sq d.region).queue ≡ Some d.qid
 
-pub record HoldsDeletion (past : Past) (k : Kept) : Type 0 where
+pub record HoldsDeletion (past : Past) (k : Content) : Type 0 where
   pub pending_is : pending past ≡ option_map as_deletion k.deletion
   pub place_is : deleting_place past ≡ option_map (λ (d : PendingDelete). d.index) k.deletion
   pub stands : (d : PendingDelete) → k.deletion ≡ Some d → IsPending past k d
@@ -201,12 +201,12 @@ pub record HoldsDeletion (past : Past) (k : Kept) : Type 0 where
   pub closing_is : (q : ℕ) (e : SqEntry) → sq_of k.table q ≡ Some e → e.closing ≡ true → option_map (λ (d : PendingDelete). d.qid) k.deletion ≡ Some q
 
 -- ---- arbitration and the table
-pub record HoldsArbitration (rules : FrontRules) (past : Past) (k : Kept) : Type 0 where
+pub record HoldsArbitration (rules : FrontRules) (past : Past) (k : Content) : Type 0 where
   pub stands : BoardStandsAt rules.mechanism rules.start.settings (arbitration_of past) k.board
   pub lawful : IsLawfulRun rules.mechanism rules.start.settings (arbitration_of past)
 
 -- the table stands at a history. It is that of the log where no region was added after the first event
-pub record HoldsTable (rules : FrontRules) (late : Bool) (past : Past) (k : Kept) : Type 0 where
+pub record HoldsTable (rules : FrontRules) (late : Bool) (past : Past) (k : Content) : Type 0 where
   pub history : TableHistory
   pub stands : StandsAt rules.start k.table history
   pub history_is : late ≡ false → history ≡ table_history rules past
@@ -230,7 +230,7 @@ pub record IsOwnDeletion (rules : FrontRules) (past : Past) (d : PendingDelete) 
   pub status : own_status rules past 0 d.index d.entry ≡ success
   pub dw0 : own_dw0 rules past 0 d.index d.entry ≡ 0
 
-pub record Accounts (rules : FrontRules) (past : Past) (k : Kept) : Type 0 where
+pub record Accounts (rules : FrontRules) (past : Past) (k : Content) : Type 0 where
   pub indexes_count : Each IndexCounts past
   pub served_while_open : Each (ServedWhileOpen rules) past
   pub observed : Each Observed past
@@ -243,7 +243,7 @@ pub record Accounts (rules : FrontRules) (past : Past) (k : Kept) : Type 0 where
   pub own_deletion : (d : PendingDelete) → k.deletion ≡ Some d → IsOwnDeletion rules past d
 
 -- what a front keeps stands at its log
-pub record Stands (rules : FrontRules) (late : Bool) (past : Past) (k : Kept) : Type 0 where
+pub record Stands (rules : FrontRules) (late : Bool) (past : Past) (k : Content) : Type 0 where
   pub regions : (r : ℕ) → HoldsSq past r (k.sq r)
   pub ready : HoldsReady past k (hand_of k)
   pub jobs : HoldsJobs rules.sizes past k.jobs
@@ -260,14 +260,14 @@ pub record Stands (rules : FrontRules) (late : Bool) (past : Past) (k : Kept) : 
 abbrev pub first_queue : ℕ → Option Attachment
 first_queue r = if r == 0 then Some (record { qid = 0; cq_region = 0 }) else None
 
-pub record IsFreshSq (r : ℕ) (s : SqKept) : Type 0 where
+pub record IsFreshSq (r : ℕ) (s : SqContent) : Type 0 where
   pub got : s.got ≡ []
   pub window : s.window ≡ []
   pub fetched : s.fetched ≡ 0
   pub unposted : s.unposted ≡ 0
   pub queue : s.queue ≡ first_queue r
 
-pub record IsFreshCq (c : CqKept) : Type 0 where
+pub record IsFreshCq (c : CqContent) : Type 0 where
   pub sent : c.sent ≡ []
   pub posted : c.posted ≡ 0
   pub ready : c.ready ≡ []
@@ -283,7 +283,7 @@ pub record AreFreshJobs (j : JobsView) : Type 0 where
   pub none_running : j.hands.running ≡ []
   pub none_handed : j.hands.seat.handed ≡ j.hands.came.handed
 
-pub record IsFresh (rules : FrontRules) (late : Bool) (k : Kept) : Type 0 where
+pub record IsFresh (rules : FrontRules) (late : Bool) (k : Content) : Type 0 where
   pub sqs : (r : ℕ) → r < k.nsq → IsFreshSq r (k.sq r)
   pub no_sqs : (r : ℕ) → k.nsq ≤ r → k.sq r ≡ no_sq
   pub cqs : (c : ℕ) → IsFreshCq (k.cq c)

@@ -17,10 +17,10 @@ use Rattle.nvme_log.specs.Queues.{Queue, admin_queue, open_sq}
 use Rattle.nvme_log.specs.Places.{observation_of}
 use Rattle.nvme_log.specs.Histories.{arbitration_of}
 use Rattle.nvme_log.specs.Aborts.{is_abort_entry}
-use Rattle.nvme_state.specs.inside.Kept.{SqKept, Kept, with_sq}
+use Rattle.nvme_state.specs.inside.Content.{SqContent, Content, with_sq}
 
 -- a pick, after which n places are in hand: picked, and neither ready nor posted
-pub record CanPick (rules : FrontRules) (past : Past) (k : Kept) (queue : Queue) (pick : Pick) (board : BoardView) : Type 0 where
+pub record CanPick (rules : FrontRules) (past : Past) (k : Content) (queue : Queue) (pick : Pick) (board : BoardView) : Type 0 where
   pub is_open : open_sq past pick.qid ≡ Some queue
   pub none_pending : k.deletion ≡ None
   pub enough : pick.n ≤ length (k.sq queue.region).window
@@ -29,15 +29,15 @@ pub record CanPick (rules : FrontRules) (past : Past) (k : Kept) (queue : Queue)
   pub board_queues : board.queues ≡ queues_after k.board.queues pick
   pub board_stands : BoardStandsAt rules.mechanism rules.start.settings (Picked (observation_of past) pick ∷ arbitration_of past) board
 
-abbrev pub picked_sq : SqKept → ℕ → SqKept
+abbrev pub picked_sq : SqContent → ℕ → SqContent
 picked_sq s n = record s { window = drop n s.window; unposted = s.unposted + n }
 
-abbrev pub after_pick : Kept → Queue → ℕ → BoardView → Kept
+abbrev pub after_pick : Content → Queue → ℕ → BoardView → Content
 after_pick k queue n board =
     record (with_sq k queue.region (picked_sq (k.sq queue.region) n)) { board = board; outstanding = k.outstanding + n }
 
 -- an admin pick: its command is applied to the table. An Abort command needs a second place, for what it may abort
-pub record CanApply (rules : FrontRules) (past : Past) (k : Kept) (history : TableHistory) (candidate : Candidate) (rest : List Candidate) (table : TableView) : Type 0 where
+pub record CanApply (rules : FrontRules) (past : Past) (k : Content) (history : TableHistory) (candidate : Candidate) (rest : List Candidate) (table : TableView) : Type 0 where
   pub oldest : (k.sq 0).window ≡ candidate ∷ rest
   pub table_stands : StandsAt rules.start table (EntryApplied candidate.entry ∷ history)
   pub sized : IsSized table
@@ -47,7 +47,7 @@ abbrev pub verdict_at : FrontRules → TableHistory → Candidate → Verdict
 verdict_at rules history candidate = verdict_of rules.start history candidate.entry
 
 -- the admin queue's oldest candidate is picked, and the table is changed
-abbrev pub applied_to : Kept → BoardView → TableView → Kept
+abbrev pub applied_to : Content → BoardView → TableView → Content
 applied_to k board table = record (after_pick k admin_queue 1 board) { table = table }
 
 -- a candidate that was aborted with its queue

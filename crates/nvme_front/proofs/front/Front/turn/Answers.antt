@@ -14,15 +14,15 @@ returns-clause-goes_on g c =
 pub returns-clause-account : goal.returns-clause-account
 returns-clause-account g c = λ late.
     let admin = admin_there c.self.inside.state c.args.self.now c.self.view_is c.requires.admin_sq c.requires.admin_cq in
-    accounts_for_ends c.turn.new.self c.turn.ensures.kept (admin-goes c.self.inside.state c.turn.new.self c.turn.ensures.goes admin) late
+    accounts_for_ends c.turn.new.self c.turn.ensures.consistent (admin-goes c.self.inside.state c.turn.new.self c.turn.ensures.goes admin) late
 
 pub returns-clause-jobs : goal.returns-clause-jobs
 returns-clause-jobs g c =
     let admin = admin-goes c.self.inside.state c.turn.new.self c.turn.ensures.goes (admin_there c.self.inside.state c.args.self.now c.self.view_is c.requires.admin_sq c.requires.admin_cq) in
-    (c.turn.ensures.kept.stands admin.0 admin.1).jobs.account
+    (c.turn.ensures.consistent.stands admin.0 admin.1).jobs.account
 
 pub returns-clause-within : goal.returns-clause-within
-returns-clause-within g c = c.turn.ensures.kept.roomy.few_events
+returns-clause-within g c = c.turn.ensures.consistent.roomy.few_events
 
 pub returns-clause-loaded : goal.returns-clause-loaded
 returns-clause-loaded g c =

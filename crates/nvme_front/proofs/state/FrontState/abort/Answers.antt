@@ -16,8 +16,8 @@ push-requires c = elim c.if-abort_oldest.branch [
       (c.abort_oldest.ensures.none w.if-abort_oldest.false).0 c.index_mut.result.now c.index_mut.ensures.value
 ]
 
-pub returns-clause-kept : goal.returns-clause-kept
-returns-clause-kept c = elim c.if-abort_oldest.branch [
+pub returns-clause-consistent : goal.returns-clause-consistent
+returns-clause-consistent c = elim c.if-abort_oldest.branch [
   | then-abort_oldest w ↦
       keeps_found c.args.self.now c.args.candidate c.args.sqid c.args.cid c.requires.applied.0 c.requires.applied.1 c.abort_oldest.new.self _
       (c.abort_oldest.ensures.aborted w.if-abort_oldest.true) _ _ _ c.abort_oldest.ensures.goes (IsSame-refl c.abort_oldest.new.self) c.index_mut.ensures.value c.push.ensures

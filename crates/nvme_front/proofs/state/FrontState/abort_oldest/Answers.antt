@@ -4,7 +4,7 @@ use Rattle.nvme_state.specs.declared.candidate.Ready.{Ready}
 use Rattle.std.proofs.lemmas.Option.{same_Some}
 use Rattle.nvme_admin.specs.declared.verdict.SqEntry.{SqEntry}
 use Rattle.nvme_state.specs.inside.Fifo.{FifoView}
-use Rattle.nvme_state.specs.inside.Kept.{SqKept}
+use Rattle.nvme_state.specs.inside.Content.{SqContent}
 use Rattle.nvme_state.specs.inside.Steps.{oldest_named}
 use Rattle.nvme_front.specs.inside.State.{sq_in}
 use Rattle.nvme_log.specs.declared.event.Event.TheVariants as event
@@ -59,7 +59,7 @@ returns-in_default-take_named-clause-none c = λ _.
           let same = same_Some entry c.in-Some.queue (sym is ∙ in_table) in
           ap (λ (q : SqEntry). oldest_named c.args.cid (sq_in items q.region).window) same
           ∙ ap (λ (r : ℕ). oldest_named c.args.cid (sq_in items r).window) (sym c.from.ensures)
-          ∙ ap (λ (x : SqKept). oldest_named c.args.cid x.window) (sq_in-read items c.from.result d there c.index_mut-sq.ensures.value)
+          ∙ ap (λ (x : SqContent). oldest_named c.args.cid x.window) (sq_in-read items c.from.result d there c.index_mut-sq.ensures.value)
           ∙ sym c.take_named.ensures.value ∙ c.in_default-take_named.is,
     )
 

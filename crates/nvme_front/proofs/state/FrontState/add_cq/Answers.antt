@@ -1,17 +1,17 @@
 use Rattle.std.proofs.Common.{ℕ, ◌==◌, ◌∙◌, not, ap, refl, rules}
 use Rattle.nvme_front.proofs.Addresses.{cq_not_refused}
-use Rattle.nvme_front.proofs.AddedRegions.{appended, kept_with_cq}
+use Rattle.nvme_front.proofs.AddedRegions.{appended, consistent_with_cq}
 use Rattle.nvme_front.proofs.state.FrontState.add_cq.Goals as goal
 
 pub unreachable-requires : goal.unreachable-requires
 unreachable-requires c =
-    cq_not_refused c.args.self.now c.address-2.result c.slots.result c.requires.kept.roomy (search rules) (search rules) (search rules) (search rules)
+    cq_not_refused c.args.self.now c.address-2.result c.slots.result c.requires.consistent.roomy (search rules) (search rules) (search rules) (search rules)
     _ c.in_default-add_cq_region.ensures.refused
 
-pub returns-clause-kept : goal.returns-clause-kept
-returns-clause-kept c =
+pub returns-clause-consistent : goal.returns-clause-consistent
+returns-clause-consistent c =
     let s = c.args.self.now in
-    kept_with_cq s c.requires.kept _
+    consistent_with_cq s c.requires.consistent _
     (record { end = c.args.end; posted = 0; ready = c.in-Some.ready })
     (record {
       config = refl;

@@ -3,26 +3,26 @@ use Rattle.std.specs.Prelude.{vec_len}
 use Rattle.nvme_admin.specs.declared.bounds.TheConstants.{MAX_REGIONS}
 use Rattle.nvme_front.specs.declared.state.FrontState.{FrontState}
 use Rattle.nvme_state.specs.inside.Jobs.{JobsView}
-use Rattle.nvme_front.specs.inside.Room.{IsKept}
+use Rattle.nvme_front.specs.inside.Room.{IsConsistent}
 use Rattle.nvme_front.proofs.Addresses.{sq_not_refused}
-use Rattle.nvme_front.proofs.KeptRegions.{is_kept-with_room, kept_with_room, room_or_none}
-use Rattle.nvme_front.proofs.AddedRegions.{appended, few_gets, gets_with, no_event, some_event, number_of_gets, kept_with_first_sq, kept_with_later_sq}
+use Rattle.nvme_front.proofs.ConsistentRegions.{is_consistent-with_room, consistent_with_room, room_or_none}
+use Rattle.nvme_front.proofs.AddedRegions.{appended, few_gets, gets_with, no_event, some_event, number_of_gets, consistent_with_first_sq, consistent_with_later_sq}
 use Rattle.nvme_front.proofs.state.FrontState.add_sq.Goals as goal
 use Rattle.nvme_front.proofs.state.FrontState.add_sq.Goals.{then-number-eq0, else-number-eq0, then-not-make_room-via-then-not-make_room, then-not-make_room-via-else-not-make_room+then-is_err}
 
 pub unreachable-requires : goal.unreachable-requires
 unreachable-requires c =
-    sq_not_refused c.args.self.now c.address-2.result c.slots-2.result c.requires.kept.roomy (search rules) (search rules) (search rules) (search rules)
+    sq_not_refused c.args.self.now c.address-2.result c.slots-2.result c.requires.consistent.roomy (search rules) (search rules) (search rules) (search rules)
     _ c.in_default-add_sq_region.ensures.refused
 
-pub returns-clause-kept : goal.returns-clause-kept
-returns-clause-kept c =
+pub returns-clause-consistent : goal.returns-clause-consistent
+returns-clause-consistent c =
     let s = c.args.self.now in
     let made : FrontState = record s { jobs = c.make_room.new.self } in
-    let kept : IsKept made = kept_with_room s c.requires.kept c.make_room.new.self c.make_room.ensures.same c.make_room.ensures.kept in
+    let kept : IsConsistent made = consistent_with_room s c.requires.consistent c.make_room.new.self c.make_room.ensures.same c.make_room.ensures.kept in
     elim c.if-number-eq0.branch [
       | then-number-eq0 w ↦
-          kept_with_first_sq made kept _
+          consistent_with_first_sq made kept _
           (record { end = c.args.end; window = c.in-Some.window; fetched = 0; unposted = 0; queue = c.if-number-eq0.queue })
           (record {
             config = ap (λ (z : FrontState). z.config) w.self-is;
@@ -45,7 +45,7 @@ returns-clause-kept c =
           _ _ _ (ap (λ (z : FrontState). z.table) w.self-is) c.address-2.ensures c.slots-2.ensures.value c.in-Ok.ensures.stands
           (search rules) w.queue-is _ (ap (λ (z : FrontState). z.board) w.self-is) w.open.ensures.opened w.open.ensures.stands
       | else-number-eq0 w ↦
-          kept_with_later_sq made kept _
+          consistent_with_later_sq made kept _
           (record { end = c.args.end; window = c.in-Some.window; fetched = 0; unposted = 0; queue = c.if-number-eq0.queue })
           (record {
             config = ap (λ (z : FrontState). z.config) w.self-is;
@@ -70,16 +70,16 @@ returns-clause-kept c =
     ]
 
 pub make_room-requires : goal.make_room-requires
-make_room-requires c = room_or_none c.args.self.now c.requires.kept
+make_room-requires c = room_or_none c.args.self.now c.requires.consistent
 
-pub returns-then-not-make_room-clause-kept : goal.returns-then-not-make_room-clause-kept
-returns-then-not-make_room-clause-kept c =
+pub returns-then-not-make_room-clause-consistent : goal.returns-then-not-make_room-clause-consistent
+returns-then-not-make_room-clause-consistent c =
     let s = c.args.self.now in
-    let kept = kept_with_room s c.requires.kept c.make_room.new.self c.make_room.ensures.same c.make_room.ensures.kept in
+    let kept = consistent_with_room s c.requires.consistent c.make_room.new.self c.make_room.ensures.same c.make_room.ensures.kept in
     elim c.then-not-make_room.branch [
-      | then-not-make_room-via-then-not-make_room w ↦ subst (λ (z : FrontState). IsKept z) (sym w.self-is) kept
+      | then-not-make_room-via-then-not-make_room w ↦ subst (λ (z : FrontState). IsConsistent z) (sym w.self-is) kept
       | then-not-make_room-via-else-not-make_room+then-is_err w ↦
-          is_kept-with_room s c.requires.kept c.then-not-make_room.self (record {
+          is_consistent-with_room s c.requires.consistent c.then-not-make_room.self (record {
             config = ap (λ (z : FrontState). z.config) w.self-is;
             sqs = ap (λ (z : FrontState). z.sqs.items) w.self-is ∙ w.reserve.ensures.items;
             cqs = ap (λ (z : FrontState). z.cqs.items) w.self-is;
@@ -102,7 +102,7 @@ returns-clause-added c =
           record {
             not_used = search rules;
             room = few_gets s.sqs.items MAX_REGIONS (search rules);
-            number_is = c.in-Ok.ensures.number ∙ number_of_gets s c.requires.kept;
+            number_is = c.in-Ok.ensures.number ∙ number_of_gets s c.requires.consistent;
             ends = gets_with s.sqs.items _ _ (appended _ _ _ _ c.in-Ok-push.ensures.items (ap (λ (z : FrontState). z.sqs.items) w.self-is ∙ c.reserve.ensures.items));
             others = search rules;
             log = search rules;
@@ -118,7 +118,7 @@ returns-clause-added c =
           record {
             not_used = search rules;
             room = few_gets s.sqs.items MAX_REGIONS (search rules);
-            number_is = c.in-Ok.ensures.number ∙ number_of_gets s c.requires.kept;
+            number_is = c.in-Ok.ensures.number ∙ number_of_gets s c.requires.consistent;
             ends = gets_with s.sqs.items _ _ (appended _ _ _ _ c.in-Ok-push.ensures.items (ap (λ (z : FrontState). z.sqs.items) w.self-is ∙ c.reserve.ensures.items));
             others = search rules;
             log = search rules;

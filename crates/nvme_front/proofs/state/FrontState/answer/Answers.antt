@@ -10,8 +10,8 @@ push-requires c = answer_fits _ _ _ _ c.requires.applied.1 _ c.index_mut.ensures
 pub returns-clause-goes : goal.returns-clause-goes
 returns-clause-goes c = goes_readied _ _ [] 0 _ _ _ c.index_mut.ensures.value c.push.ensures refl (sym (append-nil _)) refl refl refl refl refl refl refl
 
-pub returns-clause-kept : goal.returns-clause-kept
-returns-clause-kept c =
+pub returns-clause-consistent : goal.returns-clause-consistent
+returns-clause-consistent c =
     kept_answered _ _ _ (verdict.Done c.args.status c.args.dw0) _ 0 c.args.self.now.board c.requires.applied.1 tt
     _ _ _ c.index_mut.ensures.value c.push.ensures c.answered.ensures refl (sym (append-nil _)) refl
     (goes_readied _ _ [] 0 _ _ _ c.index_mut.ensures.value c.push.ensures refl (sym (append-nil _)) refl refl refl refl refl refl refl) refl (omega arith)

@@ -66,8 +66,8 @@ returns-clause-picks c =
     picks_noted c.note.new.log.items _ _ c.abort_all.ensures.log (aborts_noted c.in-Some.queue.region c.index_mut-sq.result.now.window.items)
     ∙ picks_noted c.args.self.now.log.items _ (Closing c.args.qid c.in-Some.queue.region ∷ []) c.note.ensures.items refl
 
-pub returns-clause-kept : goal.returns-clause-kept
-returns-clause-kept c =
+pub returns-clause-consistent : goal.returns-clause-consistent
+returns-clause-consistent c =
     keeps_deleting _ _ _ _ c.requires.applied.1 _ (sym c.sq.ensures ∙ c.in-Some.is) _ c.from.ensures _ c.index_mut-sq.ensures.value _ _ _ _ _ _ _ _ c.args.self.now.board
     c.in-Some-queue.is c.from-2.ensures c.len.ensures.value c.abort_all.ensures.window refl c.index_mut-cq.ensures.value c.abort_all.ensures.ready refl
     c.note.ensures.items c.abort_all.ensures.log c.close.ensures.closed refl

@@ -7,10 +7,10 @@ beside-requires c =
     let l : c.from.result < length c.args.self.now.cqs.items = omega arith in
     pair-cq c.args.self.now _ _ l c.index_mut-region.ensures.value _ c.from.ensures c.args.drainer.now.end c.requires.pair
 
-pub returns-clause-kept : goal.returns-clause-kept
-returns-clause-kept c =
+pub returns-clause-consistent : goal.returns-clause-consistent
+returns-clause-consistent c =
     let l : c.from.result < length c.args.self.now.cqs.items = omega arith in
-    kept-cq c.args.self.now _ _ _ l c.index_mut-region.ensures.value c.beside.ensures.sent c.beside.ensures.put_ring c.requires.kept
+    kept-cq c.args.self.now _ _ _ l c.index_mut-region.ensures.value c.beside.ensures.sent c.beside.ensures.put_ring c.requires.consistent
 
 pub returns-clause-looks : goal.returns-clause-looks
 returns-clause-looks c =

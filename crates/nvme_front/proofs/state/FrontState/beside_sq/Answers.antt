@@ -7,10 +7,10 @@ beside-requires c =
     let l : c.from.result < length c.args.self.now.sqs.items = omega arith in
     pair-sq c.args.self.now _ _ l c.index_mut-region.ensures.value _ c.from.ensures c.args.feeder.now.end c.requires.pair
 
-pub returns-clause-kept : goal.returns-clause-kept
-returns-clause-kept c =
+pub returns-clause-consistent : goal.returns-clause-consistent
+returns-clause-consistent c =
     let l : c.from.result < length c.args.self.now.sqs.items = omega arith in
-    kept-sq c.args.self.now _ _ _ l c.index_mut-region.ensures.value c.beside.ensures.got c.beside.ensures.known c.beside.ensures.get_ring c.requires.kept
+    kept-sq c.args.self.now _ _ _ l c.index_mut-region.ensures.value c.beside.ensures.got c.beside.ensures.known c.beside.ensures.get_ring c.requires.consistent
 
 pub returns-clause-looks : goal.returns-clause-looks
 returns-clause-looks c =

@@ -17,8 +17,8 @@ returns-clause-goes c = goes_readied _ _ _ 0 _ _ _ c.index_mut.ensures.value c.p
 pub returns-clause-picks : goal.returns-clause-picks
 returns-clause-picks c = picks_noted c.args.self.now.log.items _ (event.ClosedCq c.args.qid c.in-Some.region ∷ []) c.note.ensures.items refl
 
-pub returns-clause-kept : goal.returns-clause-kept
-returns-clause-kept c =
+pub returns-clause-consistent : goal.returns-clause-consistent
+returns-clause-consistent c =
     let made = closes_made _ _ _ c.in-Some.region _ c.requires.applied c.in-Some.is in
     kept_answered _ _ _ (verdict.CloseCq c.args.qid) _ 0 c.args.self.now.board c.requires.applied tt
     _ _ _ c.index_mut.ensures.value c.push.ensures c.answered.ensures refl (c.note.ensures.items ∙ ap (λ z. c.args.self.now.log.items ++ z) (sym made)) refl

@@ -11,7 +11,7 @@ loop-gained-preserved c =
     let e = c.in_ok-gain_one.ensures in
     let more = e.more (ap Ok c.if-branch.true) in
     record {
-      kept = e.kept;
+      consistent = e.consistent;
       goes = Goes-trans c.args.self.now c.loop-gained.self c.gain_one.new.self i.goes e.goes;
       balanced = balanced_trans c.args.self.now c.loop-gained.self c.gain_one.new.self i.goes i.balanced e.balanced;
       log = e.log ∙ i.log;

@@ -1,14 +1,14 @@
 -- The front stays the same from result to result, and as long as none was gained nothing changed.
 use Rattle.std.proofs.Common.{◌≡◌, ◌<◌, length, true, false}
 use Rattle.nvme_state.specs.Hands.{gained_count}
-use Rattle.nvme_front.specs.inside.Room.{IsKept}
+use Rattle.nvme_front.specs.inside.Room.{IsConsistent}
 use Rattle.nvme_front.specs.inside.Goes.{Goes, IsSame, HasAdmin}
 use Rattle.nvme_front.specs.inside.Turn.{Balanced}
 use Rattle.nvme_front.proofs.state.FrontState.gain.Given as goal
 
 abbrev pub invariant-loop-gained : goal.invariant-loop-gained
 invariant-loop-gained l = record {
-  kept : IsKept l.self;
+  consistent : IsConsistent l.self;
   goes : Goes l.fn.self l.self;
   balanced : Balanced l.fn.self l.self;
   log : l.self.log.items ≡ l.fn.self.log.items;

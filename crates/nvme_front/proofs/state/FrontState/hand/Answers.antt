@@ -10,7 +10,7 @@ loop-handed-preserved g c =
     let e = c.hand_one.ensures in
     let more = e.more c.loop-handed-test.true in
     record {
-      kept = e.kept;
+      consistent = e.consistent;
       goes = Goes-trans c.args.self.now c.loop-handed.self c.hand_one.new.self i.goes e.goes;
       balanced = balanced_trans c.args.self.now c.loop-handed.self c.hand_one.new.self i.goes i.balanced e.balanced;
       log = e.log ∙ i.log;

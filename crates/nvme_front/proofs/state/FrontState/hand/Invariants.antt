@@ -1,13 +1,13 @@
 -- The front stays the same from job to job, and as long as none was handed nothing changed.
 use Rattle.std.proofs.Common.{◌≡◌, ◌<◌, length, true, false}
-use Rattle.nvme_front.specs.inside.Room.{IsKept}
+use Rattle.nvme_front.specs.inside.Room.{IsConsistent}
 use Rattle.nvme_front.specs.inside.Goes.{Goes, IsSame, HasAdmin}
 use Rattle.nvme_front.specs.inside.Turn.{Balanced}
 use Rattle.nvme_front.proofs.state.FrontState.hand.Given as goal
 
 abbrev pub invariant-loop-handed : goal.invariant-loop-handed
 invariant-loop-handed g l = record {
-  kept : IsKept l.self;
+  consistent : IsConsistent l.self;
   goes : Goes l.fn.self l.self;
   balanced : Balanced l.fn.self l.self;
   log : l.self.log.items ≡ l.fn.self.log.items;

@@ -2,8 +2,8 @@
 use Rattle.nvme_front.proofs.GainOne.{same_jobs, hand-goes, hand-balanced, hand-kept, jobs_have_room}
 use Rattle.nvme_front.proofs.state.FrontState.hand_one.Goals as goal
 
-pub returns-clause-kept : goal.returns-clause-kept
-returns-clause-kept g c = hand-kept c.args.self.now _ c.hand.new.self c.hand.result c.hand.ensures.none c.hand.ensures.one c.requires.kept c.requires.admin
+pub returns-clause-consistent : goal.returns-clause-consistent
+returns-clause-consistent g c = hand-kept c.args.self.now _ c.hand.new.self c.hand.result c.hand.ensures.none c.hand.ensures.one c.requires.consistent c.requires.admin
 
 pub returns-clause-goes : goal.returns-clause-goes
 returns-clause-goes g c = hand-goes c.args.self.now _ c.hand.new.self c.hand.result c.hand.ensures.none c.hand.ensures.one
@@ -12,7 +12,7 @@ pub returns-clause-still : goal.returns-clause-still
 returns-clause-still g c = λ no. same_jobs c.args.self.now _ c.hand.new.self (c.hand.ensures.none no)
 
 pub hand-requires-clause-room : goal.hand-requires-clause-room
-hand-requires-clause-room g c = jobs_have_room c.args.self.now c.requires.kept c.requires.admin
+hand-requires-clause-room g c = jobs_have_room c.args.self.now c.requires.consistent c.requires.admin
 
 pub returns-clause-balanced : goal.returns-clause-balanced
 returns-clause-balanced g c = hand-balanced c.args.self.now c.args.self.now.config.few_events c.hand.new.self c.hand.result c.hand.ensures.none c.hand.ensures.one

@@ -20,7 +20,7 @@ returns-then-none_waits c =
     let three : c.none_ready.result ≡ (c.if-self-eq0.value && list_all no_ready s.cqs.items) =
     and_then c.if-self-eq0.value (list_all no_ready s.cqs.items) c.none_ready.result c.if-none_waits.true
     (c.none_ready.ensures ∙ ap (list_all no_ready) c.deref-then-none_waits.ensures.value) in
-    clear_answer s c.requires.kept c.is_none.result c.is_none.ensures c.none_ready.result
+    clear_answer s c.requires.consistent c.is_none.result c.is_none.ensures c.none_ready.result
     (three ∙ ap (λ (b : Bool). b && list_all no_ready s.cqs.items) (two ∙ ap (λ (b : Bool). b && list_all no_window s.sqs.items) one))
 
 pub returns-else-none_waits : goal.returns-else-none_waits
@@ -37,5 +37,5 @@ returns-else-none_waits c =
     ] in
     let three : c.if-self-eq0.value ≡ (c.if-self-eq0.value && list_all no_ready s.cqs.items) =
     and_else c.if-self-eq0.value (list_all no_ready s.cqs.items) c.if-self-eq0.value c.if-none_waits.false refl in
-    clear_answer s c.requires.kept c.is_none.result c.is_none.ensures c.if-self-eq0.value
+    clear_answer s c.requires.consistent c.is_none.result c.is_none.ensures c.if-self-eq0.value
     (three ∙ ap (λ (b : Bool). b && list_all no_ready s.cqs.items) (two ∙ ap (λ (b : Bool). b && list_all no_window s.sqs.items) one))

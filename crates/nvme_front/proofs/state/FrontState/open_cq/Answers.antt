@@ -13,8 +13,8 @@ returns-clause-goes c = goes_readied _ _ _ 0 _ _ _ c.index_mut.ensures.value c.p
 pub returns-clause-picks : goal.returns-clause-picks
 returns-clause-picks c = picks_noted c.args.self.now.log.items _ (event.OpenCq c.args.qid c.args.region ∷ []) c.note.ensures.items refl
 
-pub returns-clause-kept : goal.returns-clause-kept
-returns-clause-kept c =
+pub returns-clause-consistent : goal.returns-clause-consistent
+returns-clause-consistent c =
     kept_answered _ _ _ (verdict.OpenCq c.args.qid c.args.region) _ 0 c.args.self.now.board c.requires.applied.1 tt
     _ _ _ c.index_mut.ensures.value c.push.ensures c.answered.ensures refl c.note.ensures.items refl
     (goes_readied _ _ _ 0 _ _ _ c.index_mut.ensures.value c.push.ensures refl c.note.ensures.items refl refl refl refl refl refl refl) refl (omega arith)

@@ -32,8 +32,8 @@ returns-clause-goes c =
 pub returns-clause-picks : goal.returns-clause-picks
 returns-clause-picks c = picks_noted c.args.self.now.log.items _ (event.OpenSq c.args.qid c.args.region c.args.cqid c.args.class ∷ []) c.note.ensures.items refl
 
-pub returns-clause-kept : goal.returns-clause-kept
-returns-clause-kept c =
+pub returns-clause-consistent : goal.returns-clause-consistent
+returns-clause-consistent c =
     keeps_opened _ _ _ _ _ _ _ _ c.requires.applied.1 _ _ _ _ _ _ (sym c.cq.ensures ∙ c.in-Some.is) c.from.ensures
     c.index_mut.ensures.value refl c.open.ensures.opened c.index_mut-2.ensures.value c.push.ensures c.answered.ensures refl c.note.ensures.items refl
     (record { config = refl; alloc = refl; late = refl; table = refl; outstanding = refl; jobs = refl })

@@ -17,22 +17,22 @@ pub unreachable-requires-in_default-pop : goal.unreachable-requires-in_default-p
 unreachable-requires-in_default-pop c =
     let s = c.args.self.now in
     some_first c.index_mut-sq.result.now.window.items
-    (due-candidate s c.requires.kept (rules_of s) (c.requires.kept.stands c.requires.admin.0 c.requires.admin.1) c.requires.admin c.requires.none_pending c.in-Some.pick c.in-Some.ensures.lawful
+    (due-candidate s c.requires.consistent (rules_of s) (c.requires.consistent.stands c.requires.admin.0 c.requires.admin.1) c.requires.admin c.requires.none_pending c.in-Some.pick c.in-Some.ensures.lawful
     (of_next s c.in-Some.pick (λ (p : Pick). p.qid ≡ 0) c.in-Some.ensures.by_what_is_kept c.requires.of_admin) c.index_mut-sq.result.now c.index_mut-sq.ensures.value)
     (sym c.pop.ensures.value ∙ c.in_default-pop.is)
 
 pub overflow_add-sq : goal.overflow_add-sq
 overflow_add-sq c =
     let s = c.args.self.now in
-    let few = admin_unposted s c.requires.kept (rules_of s) (c.requires.kept.stands c.requires.admin.0 c.requires.admin.1) c.requires.admin c.requires.none_pending c.index_mut-sq.result.now c.index_mut-sq.ensures.value in
-    let taken = (c.requires.kept.stands c.requires.admin.0 c.requires.admin.1).ready.few_taken in
+    let few = admin_unposted s c.requires.consistent (rules_of s) (c.requires.consistent.stands c.requires.admin.0 c.requires.admin.1) c.requires.admin c.requires.none_pending c.index_mut-sq.result.now c.index_mut-sq.ensures.value in
+    let taken = (c.requires.consistent.stands c.requires.admin.0 c.requires.admin.1).ready.few_taken in
     omega (arith, few, taken)
 
 pub carry_out-requires : goal.carry_out-requires
 carry_out-requires c =
     let room : length c.args.self.now.log.items + admin_events ≤ vec_capacity c.note.new.log = omega (arith, c.in_ok-make_room.ensures.room, c.note.ensures.room) in
     record {
-      applied = is_applied c.args.self.now _ c.requires.kept c.requires.admin c.requires.none_pending c.in-Some.pick c.in-Some.ensures.lawful c.in-Some.ensures.stands c.in-Some.ensures.queues
+      applied = is_applied c.args.self.now _ c.requires.consistent c.requires.admin c.requires.none_pending c.in-Some.pick c.in-Some.ensures.lawful c.in-Some.ensures.stands c.in-Some.ensures.queues
           (of_next c.args.self.now c.in-Some.pick (λ (p : Pick). c.args.self.now.outstanding + places_in c.args.self.now.sqs.items p ≤ max_outstanding) c.in-Some.ensures.by_what_is_kept c.requires.places)
           (of_next c.args.self.now c.in-Some.pick (λ (p : Pick). p.qid ≡ 0) c.in-Some.ensures.by_what_is_kept c.requires.of_admin)
           c.in_ok-seen.seen c.in_ok-seen.ensures.seen c.index_mut-sq.result.now c.index_mut-sq.ensures.value
@@ -55,7 +55,7 @@ pub returns-clause-goes : goal.returns-clause-goes
 returns-clause-goes c =
     let room : length c.args.self.now.log.items + admin_events ≤ vec_capacity c.note.new.log = omega (arith, c.in_ok-make_room.ensures.room, c.note.ensures.room) in
     Goes-trans c.args.self.now _ c.carry_out.new.self
-    (admin_pick-goes c.args.self.now _ c.requires.kept c.requires.admin c.requires.none_pending c.in-Some.pick c.in-Some.ensures.lawful c.in-Some.ensures.stands c.in-Some.ensures.queues
+    (admin_pick-goes c.args.self.now _ c.requires.consistent c.requires.admin c.requires.none_pending c.in-Some.pick c.in-Some.ensures.lawful c.in-Some.ensures.stands c.in-Some.ensures.queues
     (of_next c.args.self.now c.in-Some.pick (λ (p : Pick). c.args.self.now.outstanding + places_in c.args.self.now.sqs.items p ≤ max_outstanding) c.in-Some.ensures.by_what_is_kept c.requires.places)
     (of_next c.args.self.now c.in-Some.pick (λ (p : Pick). p.qid ≡ 0) c.in-Some.ensures.by_what_is_kept c.requires.of_admin)
     c.in_ok-seen.seen c.in_ok-seen.ensures.seen c.index_mut-sq.result.now c.index_mut-sq.ensures.value

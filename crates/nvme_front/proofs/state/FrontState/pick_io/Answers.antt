@@ -13,20 +13,20 @@ use Rattle.nvme_front.proofs.state.FrontState.pick_io.Goals as goal
 pub unreachable-requires-in_default-sq : goal.unreachable-requires-in_default-sq
 unreachable-requires-in_default-sq c =
     let s = c.args.self.now in
-    due-found s c.requires.kept (rules_of s) (c.requires.kept.stands c.requires.admin.0 c.requires.admin.1) c.requires.none_pending c.in-Some.pick c.in-Some.ensures.lawful
+    due-found s c.requires.consistent (rules_of s) (c.requires.consistent.stands c.requires.admin.0 c.requires.admin.1) c.requires.none_pending c.in-Some.pick c.in-Some.ensures.lawful
     (sym c.sq.ensures ∙ c.in_default-sq.is)
 
 pub index_mut-sq-requires : goal.index_mut-sq-requires
 index_mut-sq-requires c =
     let s = c.args.self.now in
-    let there = due-sq_there s c.requires.kept (rules_of s) (c.requires.kept.stands c.requires.admin.0 c.requires.admin.1) c.requires.none_pending c.in-Some.pick c.in-Some.ensures.lawful
+    let there = due-sq_there s c.requires.consistent (rules_of s) (c.requires.consistent.stands c.requires.admin.0 c.requires.admin.1) c.requires.none_pending c.in-Some.pick c.in-Some.ensures.lawful
     c.in-Some-sq.queue (sym c.sq.ensures ∙ c.in-Some-sq.is) c.from.result c.from.ensures in
     omega (arith, there, s.sqs.ok.0)
 
 pub overflow_add-sq : goal.overflow_add-sq
 overflow_add-sq c =
     let s = c.args.self.now in
-    let few = due-unposted s c.requires.kept (rules_of s) (c.requires.kept.stands c.requires.admin.0 c.requires.admin.1) c.requires.none_pending c.in-Some.pick c.in-Some.ensures.lawful
+    let few = due-unposted s c.requires.consistent (rules_of s) (c.requires.consistent.stands c.requires.admin.0 c.requires.admin.1) c.requires.none_pending c.in-Some.pick c.in-Some.ensures.lawful
     c.in-Some-sq.queue (sym c.sq.ensures ∙ c.in-Some-sq.is) c.from.result c.from.ensures c.index_mut-sq.result.now c.index_mut-sq.ensures.value in
     let places = of_next s c.in-Some.pick (λ (p : Pick). s.outstanding + p.n ≤ max_outstanding) c.in-Some.ensures.by_what_is_kept c.requires.places in
     omega (arith, few, places)
@@ -34,23 +34,23 @@ overflow_add-sq c =
 pub dispatch_oldest-requires-clause-there : goal.dispatch_oldest-requires-clause-there
 dispatch_oldest-requires-clause-there c =
     let s = c.args.self.now in
-    due-enough s c.requires.kept (rules_of s) (c.requires.kept.stands c.requires.admin.0 c.requires.admin.1) c.requires.none_pending c.in-Some.pick c.in-Some.ensures.lawful
+    due-enough s c.requires.consistent (rules_of s) (c.requires.consistent.stands c.requires.admin.0 c.requires.admin.1) c.requires.none_pending c.in-Some.pick c.in-Some.ensures.lawful
     c.in-Some-sq.queue (sym c.sq.ensures ∙ c.in-Some-sq.is) c.from.result c.from.ensures c.index_mut-sq.result.now c.index_mut-sq.ensures.value
 
 pub dispatch_oldest-requires-clause-room : goal.dispatch_oldest-requires-clause-room
 dispatch_oldest-requires-clause-room c =
     let s = c.args.self.now in
-    jobs_fit s c.requires.kept (rules_of s) (c.requires.kept.stands c.requires.admin.0 c.requires.admin.1) c.requires.admin c.in-Some.pick.n
+    jobs_fit s c.requires.consistent (rules_of s) (c.requires.consistent.stands c.requires.admin.0 c.requires.admin.1) c.requires.admin c.in-Some.pick.n
     (of_next s c.in-Some.pick (λ (p : Pick). s.outstanding + p.n ≤ max_outstanding) c.in-Some.ensures.by_what_is_kept c.requires.places)
 
 pub dispatch_oldest-requires-clause-few : goal.dispatch_oldest-requires-clause-few
 dispatch_oldest-requires-clause-few c =
     let s = c.args.self.now in
-    few_tickets s c.requires.kept (rules_of s) (c.requires.kept.stands c.requires.admin.0 c.requires.admin.1) c.in-Some.pick.n
+    few_tickets s c.requires.consistent (rules_of s) (c.requires.consistent.stands c.requires.admin.0 c.requires.admin.1) c.in-Some.pick.n
     (of_next s c.in-Some.pick (λ (p : Pick). s.outstanding + p.n ≤ max_outstanding) c.in-Some.ensures.by_what_is_kept c.requires.places)
 
-pub returns-clause-kept : goal.returns-clause-kept
-returns-clause-kept c = io-kept c.args.self.now _ c.requires.kept c.requires.admin c.requires.none_pending c.in-Some.pick c.in-Some.ensures.lawful c.in-Some.ensures.stands c.in-Some.ensures.queues
+pub returns-clause-consistent : goal.returns-clause-consistent
+returns-clause-consistent c = io-kept c.args.self.now _ c.requires.consistent c.requires.admin c.requires.none_pending c.in-Some.pick c.in-Some.ensures.lawful c.in-Some.ensures.stands c.in-Some.ensures.queues
     (of_next c.args.self.now c.in-Some.pick (λ (p : Pick). c.args.self.now.outstanding + p.n ≤ max_outstanding) c.in-Some.ensures.by_what_is_kept c.requires.places)
     (of_next c.args.self.now c.in-Some.pick (λ (p : Pick). p.qid ≢ 0) c.in-Some.ensures.by_what_is_kept c.requires.io)
     c.in_ok-seen.seen c.in_ok-seen.ensures.seen
@@ -62,7 +62,7 @@ returns-clause-kept c = io-kept c.args.self.now _ c.requires.kept c.requires.adm
     c.in_ok-make_room.ensures.within
 
 pub returns-clause-goes : goal.returns-clause-goes
-returns-clause-goes c = io-goes c.args.self.now _ c.requires.kept c.requires.admin c.requires.none_pending c.in-Some.pick c.in-Some.ensures.lawful c.in-Some.ensures.stands c.in-Some.ensures.queues
+returns-clause-goes c = io-goes c.args.self.now _ c.requires.consistent c.requires.admin c.requires.none_pending c.in-Some.pick c.in-Some.ensures.lawful c.in-Some.ensures.stands c.in-Some.ensures.queues
     (of_next c.args.self.now c.in-Some.pick (λ (p : Pick). c.args.self.now.outstanding + p.n ≤ max_outstanding) c.in-Some.ensures.by_what_is_kept c.requires.places)
     (of_next c.args.self.now c.in-Some.pick (λ (p : Pick). p.qid ≢ 0) c.in-Some.ensures.by_what_is_kept c.requires.io)
     c.in_ok-seen.seen c.in_ok-seen.ensures.seen

@@ -25,7 +25,7 @@ loop-c-preserved c =
           let more = e.more r in
           record {
             there = i.there;
-            kept = e.kept;
+            consistent = e.consistent;
             goes = goes;
             jobs = jobs;
             picks = picks;
@@ -39,7 +39,7 @@ loop-c-preserved c =
           let r : c.post_region.result ≡ Ok false = c.in_ok-post_region.was ∙ ap Ok w.if-branch.false in
           record {
             there = i.there;
-            kept = e.kept;
+            consistent = e.consistent;
             goes = goes;
             jobs = jobs;
             picks = picks;

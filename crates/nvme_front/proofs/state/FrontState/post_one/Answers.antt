@@ -22,22 +22,22 @@ returns-in_default-clause-still c = λ _.
 
 pub completion_of-requires-clause-sq_there : goal.completion_of-requires-clause-sq_there
 completion_of-requires-clause-sq_there c =
-    (front_foremost c.args.self.now c.args.c c.index-region.result.now c.in-Some.ready c.requires.kept c.requires.admin c.requires.there (rw c.from.ensures at c.index-region.ensures)
+    (front_foremost c.args.self.now c.args.c c.index-region.result.now c.in-Some.ready c.requires.consistent c.requires.admin c.requires.there (rw c.from.ensures at c.index-region.ensures)
     (sym c.front.ensures ∙ c.in-Some.is)).there
 
 pub unreachable-requires : goal.unreachable-requires
 unreachable-requires c =
-    let f = front_foremost c.args.self.now c.args.c c.index-region.result.now c.in-Some.ready c.requires.kept c.requires.admin c.requires.there (rw c.from.ensures at c.index-region.ensures)
+    let f = front_foremost c.args.self.now c.args.c c.index-region.result.now c.in-Some.ready c.requires.consistent c.requires.admin c.requires.there (rw c.from.ensures at c.index-region.ensures)
     (sym c.front.ensures ∙ c.in-Some.is) in
     cc (f.attached, c.in_default-completion_of.ensures.none)
 
 pub post-requires : goal.post-requires
 post-requires c =
-    let few = few_posted c.args.self.now c.args.c c.index_mut-region.result.now c.requires.kept c.requires.admin c.requires.there (rw c.from-2.ensures at c.index_mut-region.ensures.value) in
+    let few = few_posted c.args.self.now c.args.c c.index_mut-region.result.now c.requires.consistent c.requires.admin c.requires.there (rw c.from-2.ensures at c.index_mut-region.ensures.value) in
     record { few = omega (arith, few) }
 
-pub returns-then-not-post-clause-kept : goal.returns-then-not-post-clause-kept
-returns-then-not-post-clause-kept c =
+pub returns-then-not-post-clause-consistent : goal.returns-then-not-post-clause-consistent
+returns-then-not-post-clause-consistent c =
     kept_same c.args.self.now _ (record {
       log = c.make_room.ensures.same;
       sqs = refl;
@@ -50,7 +50,7 @@ returns-then-not-post-clause-kept c =
       late = refl;
       config = refl;
       alloc = refl;
-    }) c.requires.kept
+    }) c.requires.consistent
 
 pub returns-then-not-post-clause-goes : goal.returns-then-not-post-clause-goes
 returns-then-not-post-clause-goes c =
@@ -70,13 +70,13 @@ returns-then-not-post-clause-goes c =
 
 pub overflow_sub-sq : goal.overflow_sub-sq
 overflow_sub-sq c =
-    let f = front_foremost c.args.self.now c.args.c c.index-region.result.now c.in-Some.ready c.requires.kept c.requires.admin c.requires.there (rw c.from.ensures at c.index-region.ensures)
+    let f = front_foremost c.args.self.now c.args.c c.index-region.result.now c.in-Some.ready c.requires.consistent c.requires.admin c.requires.there (rw c.from.ensures at c.index-region.ensures)
     (sym c.front.ensures ∙ c.in-Some.is) in
     front_unposted c.args.self.now c.args.c c.in-Some.ready c.index_mut-sq.result.now f (rw c.from-3.ensures at c.index_mut-sq.ensures.value)
 
 pub overflow_sub-self : goal.overflow_sub-self
 overflow_sub-self c =
-    let f = front_foremost c.args.self.now c.args.c c.index-region.result.now c.in-Some.ready c.requires.kept c.requires.admin c.requires.there (rw c.from.ensures at c.index-region.ensures)
+    let f = front_foremost c.args.self.now c.args.c c.index-region.result.now c.in-Some.ready c.requires.consistent c.requires.admin c.requires.there (rw c.from.ensures at c.index-region.ensures)
     (sym c.front.ensures ∙ c.in-Some.is) in
     let few = f.outstanding in
     elim c.if-with_queue.branch [
@@ -126,8 +126,8 @@ posted c = record {
   alloc = refl;
 }
 
-pub returns-clause-kept : goal.returns-clause-kept
-returns-clause-kept c = posted-kept c.args.self.now (after c) c.args.c c.in-Some.ready c.in-Some-completion_of.cqe c.requires.kept c.requires.admin (posted c)
+pub returns-clause-consistent : goal.returns-clause-consistent
+returns-clause-consistent c = posted-kept c.args.self.now (after c) c.args.c c.in-Some.ready c.in-Some-completion_of.cqe c.requires.consistent c.requires.admin (posted c)
 
 pub returns-clause-goes : goal.returns-clause-goes
 returns-clause-goes c = posted-goes c.args.self.now (after c) c.args.c c.in-Some.ready c.in-Some-completion_of.cqe (posted c)

@@ -21,7 +21,7 @@ loop-posted-preserved c =
     let before = goes-longer c.args.self.now c.loop-posted.self i.goes in
     let more = e.more r in
     record {
-      kept = e.kept;
+      consistent = e.consistent;
       goes = Goes-trans c.args.self.now c.loop-posted.self c.post_one.new.self i.goes e.goes;
       jobs = e.jobs ∙ i.jobs;
       picks = e.picks ∙ i.picks;

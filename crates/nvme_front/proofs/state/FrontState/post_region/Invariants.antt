@@ -1,6 +1,6 @@
 -- The front stays the same while completions are posted, and nothing changed as long as none was.
 use Rattle.std.proofs.Common.{◌≡◌, ◌≢◌, ℕ, ◌<◌, ◌-◌, length, true, false}
-use Rattle.nvme_front.specs.inside.Room.{IsKept}
+use Rattle.nvme_front.specs.inside.Room.{IsConsistent}
 use Rattle.nvme_front.specs.inside.Goes.{Goes, IsSame, IsDrained}
 use Rattle.nvme_front.specs.inside.Loads.{PostsOnly}
 use Rattle.nvme_log.specs.Histories.{picks_in}
@@ -8,7 +8,7 @@ use Rattle.nvme_front.proofs.state.FrontState.post_region.Given as goal
 
 abbrev pub invariant-loop-posted : goal.invariant-loop-posted
 invariant-loop-posted l = record {
-  kept : IsKept l.self;
+  consistent : IsConsistent l.self;
   goes : Goes l.fn.self l.self;
   jobs : l.self.jobs ≡ l.fn.self.jobs;
   picks : picks_in l.self.log.items ≡ picks_in l.fn.self.log.items;

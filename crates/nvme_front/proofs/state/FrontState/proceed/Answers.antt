@@ -31,7 +31,7 @@ pub returns-clause-to_end : goal.returns-clause-to_end
 returns-clause-to_end g c =
     let finish = c.in_ok-finished.ensures in
     subst (λ (s : Step). GoesToEnd s (view_of c.args.self.now) (view_of c.finish.new.self)) (sym c.step_after.ensures)
-    (closes_to_end c.args.self.now c.finish.new.self c.in-Some.deletion c.requires.kept c.requires.admin finish.kept finish.goes c.requires.drained c.in-Some.is
+    (closes_to_end c.args.self.now c.finish.new.self c.in-Some.deletion c.requires.consistent c.requires.admin finish.consistent finish.goes c.requires.drained c.in-Some.is
     c.in_ok-finished.finished (λ t. finish.finished (ap Ok t)) (λ f. (finish.still (ap Ok f)).0))
 
 pub returns-in_err-finished-clause-loads : goal.returns-in_err-finished-clause-loads
@@ -41,5 +41,5 @@ returns-in_err-finished-clause-loads g c =
 pub returns-clause-loads : goal.returns-clause-loads
 returns-clause-loads g c =
     let finish = c.in_ok-finished.ensures in
-    finish-load c.args.self.now c.finish.new.self c.in-Some.deletion c.requires.kept c.requires.admin finish.kept finish.goes finish.sqs c.in-Some.is c.in_ok-finished.finished
+    finish-load c.args.self.now c.finish.new.self c.in-Some.deletion c.requires.consistent c.requires.admin finish.consistent finish.goes finish.sqs c.in-Some.is c.in_ok-finished.finished
     (λ t. finish.closed (ap Ok t)) (λ f. (finish.still (ap Ok f)).0)

@@ -13,14 +13,14 @@ loop-qid-preserved c =
     let e = c.scan_queue.ensures in
     let was = c.in_ok-scan_queue.was in
     record {
-      kept = e.kept;
+      consistent = e.consistent;
       goes = Goes-trans _ _ _ i.goes e.goes;
       cqs = e.cqs ∙ i.cqs;
       jobs = e.jobs ∙ i.jobs;
       picks = e.picks ∙ i.picks;
       admin = admin-goes _ _ e.goes i.admin;
       none_pending = e.none_pending;
-      loads = loads-trans c.args.self.now c.loop-qid.self c.scan_queue.new.self i.kept e.kept e.goes i.loads (e.loads i.scanned);
+      loads = loads-trans c.args.self.now c.loop-qid.self c.scan_queue.new.self i.consistent e.consistent e.goes i.loads (e.loads i.scanned);
       more = elim c.if-branch.branch [
         | then-branch w ↦ λ h. let before = goes_longer _ _ i.goes in let more = e.more (was ∙ ap Ok w.if-branch.true) in omega arith
         | else-branch w ↦ λ h. let before = i.more (sym w.fetched-is ∙ h) in let longer = goes_longer _ _ e.goes in omega arith
@@ -40,14 +40,14 @@ pub returns-in_err-scan_queue-clause-loads : goal.returns-in_err-scan_queue-clau
 returns-in_err-scan_queue-clause-loads c =
     let i = c.loop-qid.invariant in
     let e = c.scan_queue.ensures in
-    loads-trans c.args.self.now c.loop-qid.self c.scan_queue.new.self i.kept e.kept e.goes i.loads (e.loads i.scanned)
+    loads-trans c.args.self.now c.loop-qid.self c.scan_queue.new.self i.consistent e.consistent e.goes i.loads (e.loads i.scanned)
 
 pub loop-qid-init : goal.loop-qid-init
 loop-qid-init c =
     let a = c.args.self.now in
     let allotted = c.allotted-end.ensures.nsq in
     record {
-      kept = c.requires.kept;
+      consistent = c.requires.consistent;
       goes = Goes-refl a;
       cqs = refl;
       jobs = refl;
@@ -58,7 +58,7 @@ loop-qid-init c =
       more = λ h. absurd (cc h);
       still = λ h. IsSame-refl a;
       scanned = λ q below. absurd (omega (arith, below));
-      above = λ q from. scanned_above a c.requires.kept c.requires.admin q (omega (arith, from, allotted));
+      above = λ q from. scanned_above a c.requires.consistent c.requires.admin q (omega (arith, from, allotted));
     }
 
 pub returns-clause-scanned : goal.returns-clause-scanned

@@ -3,14 +3,14 @@ use Rattle.std.proofs.Common.{◌≡◌, ◌≢◌, ◌∙◌, ℕ, ◌<◌, tru
 use Rattle.nvme_front.proofs.States.{Goes-trans, IsSame-trans, admin-goes}
 use Rattle.nvme_front.proofs.Scans.{goes_longer, scanned_on}
 use Rattle.nvme_front.specs.declared.state.FrontState.{FrontState}
-use Rattle.nvme_front.specs.inside.Room.{IsKept}
+use Rattle.nvme_front.specs.inside.Room.{IsConsistent}
 use Rattle.nvme_front.specs.inside.Goes.{Goes, IsScanned}
 use Rattle.nvme_front.specs.inside.Loads.{Loads}
 use Rattle.nvme_front.proofs.Loading.{loads-trans}
 use Rattle.nvme_front.proofs.state.FrontState.scan_queue.Goals as goal
 
 -- a fetch more leaves a loaded front
-next : (a b c : FrontState) (qid : ℕ) → (((q : ℕ) → q < qid → IsScanned a q) → Loads a b) → ((q : ℕ) → q ≢ qid → IsScanned a q → IsScanned b q) → IsKept b → IsKept c → Goes b c
+next : (a b c : FrontState) (qid : ℕ) → (((q : ℕ) → q < qid → IsScanned a q) → Loads a b) → ((q : ℕ) → q ≢ qid → IsScanned a q → IsScanned b q) → IsConsistent b → IsConsistent c → Goes b c
     → (((q : ℕ) → q < qid → IsScanned b q) → Loads b c) → ((q : ℕ) → q < qid → IsScanned a q) → Loads a c
 next a b c qid first others kept kept' goes second lower =
     loads-trans a b c kept kept' goes (first lower) (second (λ q below. others q (λ same. omega (arith, below, same)) (lower q below)))
@@ -23,7 +23,7 @@ loop-fetched-preserved c =
     let before = goes_longer c.args.self.now c.loop-fetched.self i.goes in
     let more = e.more r in
     record {
-      kept = e.kept;
+      consistent = e.consistent;
       goes = Goes-trans c.args.self.now c.loop-fetched.self c.fetch_one.new.self i.goes e.goes;
       cqs = e.cqs ∙ i.cqs;
       jobs = e.jobs ∙ i.jobs;
@@ -31,7 +31,7 @@ loop-fetched-preserved c =
       admin = admin-goes c.loop-fetched.self c.fetch_one.new.self e.goes i.admin;
       none_pending = e.none_pending;
       others = λ q other was. e.others q other (i.others q other was);
-      loads = λ lower. next c.args.self.now c.loop-fetched.self c.fetch_one.new.self c.args.qid i.loads i.others i.kept e.kept e.goes e.loads lower;
+      loads = λ lower. next c.args.self.now c.loop-fetched.self c.fetch_one.new.self c.args.qid i.loads i.others i.consistent e.consistent e.goes e.loads lower;
       more = λ t. omega (arith, before, more);
       still = λ f. cc f;
     }
@@ -71,10 +71,10 @@ pub returns-in_err-fetch_one-clause-loads : goal.returns-in_err-fetch_one-clause
 returns-in_err-fetch_one-clause-loads c = λ lower.
     let i = c.loop-fetched.invariant in
     let e = c.fetch_one.ensures in
-    next c.args.self.now c.loop-fetched.self c.fetch_one.new.self c.args.qid i.loads i.others i.kept e.kept e.goes e.loads lower
+    next c.args.self.now c.loop-fetched.self c.fetch_one.new.self c.args.qid i.loads i.others i.consistent e.consistent e.goes e.loads lower
 
 pub returns-clause-loads : goal.returns-clause-loads
 returns-clause-loads c = λ lower.
     let i = c.loop-fetched.invariant in
     let e = c.fetch_one.ensures in
-    next c.args.self.now c.loop-fetched.self c.fetch_one.new.self c.args.qid i.loads i.others i.kept e.kept e.goes e.loads lower
+    next c.args.self.now c.loop-fetched.self c.fetch_one.new.self c.args.qid i.loads i.others i.consistent e.consistent e.goes e.loads lower

@@ -1,5 +1,5 @@
 use Rattle.std.proofs.Common.{◌≡◌, ◌≢◌, ℕ, ◌-◌, ◌<◌, length, None, true, false}
-use Rattle.nvme_front.specs.inside.Room.{IsKept}
+use Rattle.nvme_front.specs.inside.Room.{IsConsistent}
 use Rattle.nvme_front.specs.inside.Goes.{Goes, IsSame, HasAdmin, IsScanned}
 use Rattle.nvme_front.specs.inside.Loads.{Loads}
 use Rattle.nvme_log.specs.Histories.{picks_in}
@@ -7,7 +7,7 @@ use Rattle.nvme_front.proofs.state.FrontState.scan_queue.Given as goal
 
 abbrev pub invariant-loop-fetched : goal.invariant-loop-fetched
 invariant-loop-fetched l = record {
-  kept : IsKept l.self;
+  consistent : IsConsistent l.self;
   goes : Goes l.fn.self l.self;
   cqs : l.self.cqs.items ≡ l.fn.self.cqs.items;
   jobs : l.self.jobs ≡ l.fn.self.jobs;

@@ -32,7 +32,7 @@ returns-in_err-picked-clause-error g c =
     let p = err_from_is_err_and c.from_residual-in_err-picked.result c.from_residual-in_err-picked.ensures.1 in
     let pick = c.in_err-picked.ensures in
     rw (p.1, p.2) (pick_error_means c.args.self.now c.scan.new.self c.pick.new.self c.in_err-picked.field-0.0
-    (admin-goes c.args.self.now c.scan.new.self c.scan.ensures.goes c.requires.admin) c.scan.ensures.none_pending pick.kept
+    (admin-goes c.args.self.now c.scan.new.self c.scan.ensures.goes c.requires.admin) c.scan.ensures.none_pending pick.consistent
     (picked_balanced c.args.self.now c.scan.new.self c.pick.new.self c.scan.ensures.goes c.scan.ensures.jobs pick.seat pick.running)
     (pick.none_picked ∙ c.scan.ensures.picks) (λ e. pick.full (ap Err e)) pick.no_stray)
 
@@ -72,8 +72,8 @@ pub returns-in-Picked-clause-to_end : goal.returns-in-Picked-clause-to_end
 returns-in-Picked-clause-to_end g c =
     let scan = c.in_ok-fetched.ensures in
     let drained = drained_later c.args.self.now c.scan.new.self scan.cqs c.requires.drained in
-    picks_one c.args.self.now c.scan.new.self c.pick.new.self c.hand.new.self scan.kept (admin-goes c.args.self.now c.scan.new.self scan.goes c.requires.admin)
-    scan.scanned drained c.hand.ensures.kept scan.goes (Goes-trans c.scan.new.self c.pick.new.self c.hand.new.self c.pick.ensures.goes c.hand.ensures.goes) scan.picks
+    picks_one c.args.self.now c.scan.new.self c.pick.new.self c.hand.new.self scan.consistent (admin-goes c.args.self.now c.scan.new.self scan.goes c.requires.admin)
+    scan.scanned drained c.hand.ensures.consistent scan.goes (Goes-trans c.scan.new.self c.pick.new.self c.hand.new.self c.pick.ensures.goes c.hand.ensures.goes) scan.picks
     (ap gets_of c.hand.ensures.sqs ∙ c.pick.ensures.gets) (c.in_ok-picked.ensures.picks_of (ap Ok c.in-Picked.is)) c.hand.ensures.log c.hand.ensures.cqs
 
 pub returns-in_default-clause-to_end : goal.returns-in_default-clause-to_end
@@ -82,14 +82,14 @@ returns-in_default-clause-to_end g c =
     let pick = c.in_ok-picked.ensures in
     let drained = drained_later c.args.self.now c.scan.new.self scan.cqs c.requires.drained in
     subst (λ (s : Step). GoesToEnd s (view_of c.args.self.now) (view_of c.pick.new.self)) (sym c.step_after.ensures)
-    (serves_to_end c.args.self.now c.scan.new.self c.pick.new.self scan.kept (admin-goes c.args.self.now c.scan.new.self scan.goes c.requires.admin)
-    scan.scanned drained pick.kept scan.goes pick.goes scan.picks pick.gets c.in_ok-fetched.fetched c.in_ok-picked.picked
+    (serves_to_end c.args.self.now c.scan.new.self c.pick.new.self scan.consistent (admin-goes c.args.self.now c.scan.new.self scan.goes c.requires.admin)
+    scan.scanned drained pick.consistent scan.goes pick.goes scan.picks pick.gets c.in_ok-fetched.fetched c.in_ok-picked.picked
     (λ e. pick.picks_of (ap Ok e)) (λ e. pick.never_moved (ap Ok e)) (λ e. (pick.idle (ap Ok e)).0) (λ e. (pick.stalled (ap Ok e)).0))
 
 pub returns-in_err-picked-clause-loads : goal.returns-in_err-picked-clause-loads
 returns-in_err-picked-clause-loads g c =
     let pick = c.pick.ensures in
-    loads-trans c.args.self.now c.scan.new.self c.pick.new.self c.scan.ensures.kept pick.kept pick.goes c.scan.ensures.loads
+    loads-trans c.args.self.now c.scan.new.self c.pick.new.self c.scan.ensures.consistent pick.consistent pick.goes c.scan.ensures.loads
     (posts-load c.scan.new.self c.pick.new.self pick.goes
     (record { gets = pick.gets; log = ap (λ (xs : List Event). without_posts (reverse xs)) c.in_err-picked.ensures.unpicked }))
 
@@ -101,9 +101,9 @@ returns-in-Picked-clause-loads g c =
     let t = c.hand.new.self in
     let scan = c.in_ok-fetched.ensures in
     let pick = c.in_ok-picked.ensures in
-    let picked = pick-load s p scan.kept (admin-goes a s scan.goes c.requires.admin) pick.kept pick.goes scan.scanned pick.gets
+    let picked = pick-load s p scan.consistent (admin-goes a s scan.goes c.requires.admin) pick.consistent pick.goes scan.scanned pick.gets
     (pick.picks_of (ap Ok c.in-Picked.is)) (pick.picked (ap Ok c.in-Picked.is)) in
-    loads-trans a p t pick.kept c.hand.ensures.kept c.hand.ensures.goes (loads-trans a s p scan.kept pick.kept pick.goes scan.loads picked)
+    loads-trans a p t pick.consistent c.hand.ensures.consistent c.hand.ensures.goes (loads-trans a s p scan.consistent pick.consistent pick.goes scan.loads picked)
     (posts-load p t c.hand.ensures.goes (posts-by p t c.hand.ensures.log c.hand.ensures.sqs))
 
 pub returns-in_default-clause-loads : goal.returns-in_default-clause-loads
@@ -113,6 +113,6 @@ returns-in_default-clause-loads g c =
     let p = c.pick.new.self in
     let scan = c.in_ok-fetched.ensures in
     let pick = c.in_ok-picked.ensures in
-    loads-trans a s p scan.kept pick.kept pick.goes scan.loads
-    (look-load s p scan.kept (admin-goes a s scan.goes c.requires.admin) pick.kept pick.goes scan.scanned pick.gets c.in_ok-picked.picked
+    loads-trans a s p scan.consistent pick.consistent pick.goes scan.loads
+    (look-load s p scan.consistent (admin-goes a s scan.goes c.requires.admin) pick.consistent pick.goes scan.scanned pick.gets c.in_ok-picked.picked
     (λ e. pick.picks_of (ap Ok e)) (λ e. pick.picked (ap Ok e)) (λ e. pick.never_moved (ap Ok e)) (λ e. (pick.idle (ap Ok e)).0) (λ e. (pick.stalled (ap Ok e)).0))

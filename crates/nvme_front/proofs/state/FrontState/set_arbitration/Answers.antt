@@ -13,8 +13,8 @@ returns-clause-goes c = goes_readied _ _ _ 0 _ _ _ c.index_mut.ensures.value c.p
 pub returns-clause-picks : goal.returns-clause-picks
 returns-clause-picks c = picks_noted c.args.self.now.log.items _ (event.SetArbitration c.args.settings ∷ []) c.note.ensures.items refl
 
-pub returns-clause-kept : goal.returns-clause-kept
-returns-clause-kept c =
+pub returns-clause-consistent : goal.returns-clause-consistent
+returns-clause-consistent c =
     let same = board_is _ _ _ _ c.requires.applied.1 in
     kept_answered _ _ _ (verdict.SetArbitration c.args.settings) _ 0 c.set.new.self c.requires.applied.1
     (c.set.ensures.queues ∙ ap (λ z. z.queues) same, λ h stands. c.set.ensures.stands _ _ h (rw same stands))

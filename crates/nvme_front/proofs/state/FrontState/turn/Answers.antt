@@ -28,7 +28,7 @@ returns-clause-goes g c = Goes-trans _ _ _ c.catch_up.ensures.goes c.proceed.ens
 
 pub returns-clause-step : goal.returns-clause-step
 returns-clause-step g c =
-    turn_means c.args.self.now c.catch_up.new.self c.proceed.new.self c.requires.admin c.proceed.ensures.kept c.catch_up.ensures.goes c.proceed.ensures.goes
+    turn_means c.args.self.now c.catch_up.new.self c.proceed.new.self c.requires.admin c.proceed.ensures.consistent c.catch_up.ensures.goes c.proceed.ensures.goes
     c.catch_up.ensures.picks c.in_ok-moved.moved c.in_ok-moved.ensures.done c.in_ok-step.step c.in_ok-step.ensures.step c.step_after.result c.step_after.ensures
 
 pub returns-clause-balanced : goal.returns-clause-balanced
@@ -39,7 +39,7 @@ pub returns-clause-to_end : goal.returns-clause-to_end
 returns-clause-to_end g c =
     let up = c.catch_up.ensures in
     subst (λ (s : Step). GoesToEnd s (view_of c.args.self.now) (view_of c.proceed.new.self)) (sym c.step_after.ensures)
-    (to_end_after c.args.self.now c.catch_up.new.self c.requires.kept c.requires.admin up.kept up.goes up.deletion up.picks c.proceed.new.self
+    (to_end_after c.args.self.now c.catch_up.new.self c.requires.consistent c.requires.admin up.consistent up.goes up.deletion up.picks c.proceed.new.self
     c.in_ok-moved.moved c.in_ok-step.step c.in_ok-step.ensures.to_end)
 
 pub returns-in_err-moved-clause-loads : goal.returns-in_err-moved-clause-loads
@@ -47,10 +47,10 @@ returns-in_err-moved-clause-loads g c = posts-load c.args.self.now c.catch_up.ne
 
 pub returns-in_err-step-clause-loads : goal.returns-in_err-step-clause-loads
 returns-in_err-step-clause-loads g c =
-    loads-trans c.args.self.now c.catch_up.new.self c.proceed.new.self c.catch_up.ensures.kept c.proceed.ensures.kept c.proceed.ensures.goes
+    loads-trans c.args.self.now c.catch_up.new.self c.proceed.new.self c.catch_up.ensures.consistent c.proceed.ensures.consistent c.proceed.ensures.goes
     (posts-load c.args.self.now c.catch_up.new.self c.catch_up.ensures.goes c.catch_up.ensures.posts) c.proceed.ensures.loads
 
 pub returns-clause-loads : goal.returns-clause-loads
 returns-clause-loads g c =
-    loads-trans c.args.self.now c.catch_up.new.self c.proceed.new.self c.catch_up.ensures.kept c.proceed.ensures.kept c.proceed.ensures.goes
+    loads-trans c.args.self.now c.catch_up.new.self c.proceed.new.self c.catch_up.ensures.consistent c.proceed.ensures.consistent c.proceed.ensures.goes
     (posts-load c.args.self.now c.catch_up.new.self c.catch_up.ensures.goes c.catch_up.ensures.posts) c.proceed.ensures.loads

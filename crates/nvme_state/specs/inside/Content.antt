@@ -1,4 +1,4 @@
--- What a front keeps, as total look-ups by region (profile).
+-- The content of a front, as total look-ups by region (profile).
 use Rattle.std.specs.Prelude.{ℕ, ◌==◌, if◌then◌else◌, List, [], ◌∷◌, ◌++◌, Option, None}
 use Rattle.nvme_entry.specs.declared.submission.Sqe.{Sqe}
 use Rattle.nvme_entry.specs.declared.completion.Cqe.{Cqe}
@@ -12,7 +12,7 @@ use Rattle.nvme_state.specs.declared.attachment.Attachment.{Attachment}
 
 -- a submission region: what was got and is known to come, the candidates, the number of fetches, the number of picked and aborted places
 -- with no post, the queue that it was opened for, and its slots
-pub record SqKept : Type 0 where
+pub record SqContent : Type 0 where
   pub got : List Sqe
   pub known : List Sqe
   pub window : List Candidate
@@ -22,23 +22,23 @@ pub record SqKept : Type 0 where
   pub slots : ℕ
 
 -- a completion region: what was put, how many places are known to be free, the number of posts, the ready completions, and its slots
-pub record CqKept : Type 0 where
+pub record CqContent : Type 0 where
   pub sent : List Cqe
   pub free : ℕ
   pub posted : ℕ
   pub ready : List Ready
   pub slots : ℕ
 
-abbrev pub no_sq : SqKept
+abbrev pub no_sq : SqContent
 no_sq = record { got = []; known = []; window = []; fetched = 0; unposted = 0; queue = None; slots = 0 }
 
-abbrev pub no_cq : CqKept
+abbrev pub no_cq : CqContent
 no_cq = record { sent = []; free = 0; posted = 0; ready = []; slots = 0 }
 
 -- all of it
-pub record Kept : Type 0 where
-  pub sq : ℕ → SqKept
-  pub cq : ℕ → CqKept
+pub record Content : Type 0 where
+  pub sq : ℕ → SqContent
+  pub cq : ℕ → CqContent
   -- the number of regions of each kind
   pub nsq : ℕ
   pub ncq : ℕ
@@ -49,18 +49,18 @@ pub record Kept : Type 0 where
   pub jobs : JobsView
 
 -- another region in the place of one
-abbrev pub put_sq : (ℕ → SqKept) → ℕ → SqKept → ℕ → SqKept
+abbrev pub put_sq : (ℕ → SqContent) → ℕ → SqContent → ℕ → SqContent
 put_sq sq r s x = if x == r then s else sq x
 
-abbrev pub put_cq : (ℕ → CqKept) → ℕ → CqKept → ℕ → CqKept
+abbrev pub put_cq : (ℕ → CqContent) → ℕ → CqContent → ℕ → CqContent
 put_cq cq c s x = if x == c then s else cq x
 
-abbrev pub with_sq : Kept → ℕ → SqKept → Kept
+abbrev pub with_sq : Content → ℕ → SqContent → Content
 with_sq k r s = record k { sq = put_sq k.sq r s }
 
-abbrev pub with_cq : Kept → ℕ → CqKept → Kept
+abbrev pub with_cq : Content → ℕ → CqContent → Content
 with_cq k c s = record k { cq = put_cq k.cq c s }
 
 -- a ready completion more in a completion region
-abbrev pub with_ready : Kept → ℕ → Ready → Kept
+abbrev pub with_ready : Content → ℕ → Ready → Content
 with_ready k c t = with_cq k c (record (k.cq c) { ready = (k.cq c).ready ++ t ∷ [] })

@@ -14,8 +14,8 @@ use Rattle.nvme_state.specs.declared.region.SqRegion.{SqRegion}
 use Rattle.nvme_state.specs.declared.region.CqRegion.{CqRegion}
 use Rattle.nvme_front.specs.declared.state.FrontState.{FrontState}
 use Rattle.nvme_state.specs.inside.Jobs.{JobsView}
-use Rattle.nvme_state.specs.inside.Kept.{Kept}
-use Rattle.nvme_front.specs.inside.State.{sq_kept, cq_kept, kept_of, rules_of, past_of}
+use Rattle.nvme_state.specs.inside.Content.{Content}
+use Rattle.nvme_front.specs.inside.State.{sq_content, cq_content, content_of, rules_of, past_of}
 use Rattle.nvme_admin.specs.QueueTable.{QueueTable}
 use Rattle.nvme_admin.specs.Accepted.{effects_of, queue_table}
 use Rattle.nvme_admin.specs.declared.region.Region.{Region}
@@ -23,11 +23,11 @@ use Rattle.nvme_front.specs.declared.front.FrontConfig.{FrontConfig}
 use Rattle.nvme_log.specs.Limits.{max_outstanding, max_ready, window_of}
 use Rattle.nvme_log.specs.Rules.{FrontRules, Past}
 use Rattle.nvme_state.proofs.RegionSteps.{first_table, table_of-additions}
-use Rattle.nvme_front.specs.inside.Room.{sq_region, cq_region, window_room, window_limit, ready_room, IsRoomy, IsKept}
+use Rattle.nvme_front.specs.inside.Room.{sq_region, cq_region, window_room, window_limit, ready_room, IsRoomy, IsConsistent}
 use Rattle.nvme_state.specs.inside.Standing.{Stands, IsFresh, IsFreshSq, IsFreshCq, AreFreshJobs}
 use Rattle.nvme_front.proofs.Starting.{stands_when_first}
 use Rattle.nvme_front.proofs.Newly.{fresh_at_new}
-use Rattle.nvme_front.proofs.RegionLists.{rules_with, kept_with}
+use Rattle.nvme_front.proofs.RegionLists.{rules_with, content_with}
 use Rattle.nvme_front.proofs.FreshRegions.{board_with_sq, board_with_sq-later, fresh_with_sq, fresh_with_cq}
 use Rattle.nvme_front.proofs.LateRegions.{stands_with_sq, stands_with_cq}
 
@@ -41,16 +41,16 @@ abbrev start_of : FrontState → Start
 start_of s = record { nsq = s.config.limits.nsq; ncq = s.config.limits.ncq; settings = s.config.settings }
 
 -- the same front, told by equal parts
-fresh_told : (rules told : FrontRules) (late later : Bool) (k same : Kept) → rules ≡ told → late ≡ later → k ≡ same → IsFresh rules late k → IsFresh told later same
+fresh_told : (rules told : FrontRules) (late later : Bool) (k same : Content) → rules ≡ told → late ≡ later → k ≡ same → IsFresh rules late k → IsFresh told later same
 fresh_told rules told late later k same r l e f =
-    subst (λ (x : FrontRules). IsFresh x later same) r (subst (λ (x : Bool). IsFresh rules x same) l (subst (λ (x : Kept). IsFresh rules late x) e f))
+    subst (λ (x : FrontRules). IsFresh x later same) r (subst (λ (x : Bool). IsFresh rules x same) l (subst (λ (x : Content). IsFresh rules late x) e f))
 
 -- the same of a front that stands
-stands_told : (rules told : FrontRules) (late later : Bool) (past since : Past) (k same : Kept) → rules ≡ told → late ≡ later → past ≡ since → k ≡ same
+stands_told : (rules told : FrontRules) (late later : Bool) (past since : Past) (k same : Content) → rules ≡ told → late ≡ later → past ≡ since → k ≡ same
     → Stands rules late past k → Stands told later since same
 stands_told rules told late later past since k same r l p e f =
     subst (λ (x : FrontRules). Stands x later since same) r (subst (λ (x : Bool). Stands rules x since same) l
-    (subst (λ (x : Past). Stands rules late x same) p (subst (λ (x : Kept). Stands rules late past x) e f)))
+    (subst (λ (x : Past). Stands rules late x same) p (subst (λ (x : Content). Stands rules late past x) e f)))
 
 -- the table of no region has none
 no_regions : (start : Start) (v : TableView) → StandsAt start v [] → (v.sq_regions ≡ []) × (v.cq_regions ≡ [])
@@ -59,11 +59,11 @@ no_regions start v h =
     (h.sq_regions ∙ ap (λ (t : QueueTable). t.sq_regions) is, h.cq_regions ∙ ap (λ (t : QueueTable). t.cq_regions) is)
 
 -- a new front keeps what stands at its log
-pub is_kept-new : (s : FrontState) → s.sqs.items ≡ [] → s.cqs.items ≡ [] → s.log.items ≡ [] → s.board.queues ≡ replicate queue_limit None
+pub is_consistent-new : (s : FrontState) → s.sqs.items ≡ [] → s.cqs.items ≡ [] → s.log.items ≡ [] → s.board.queues ≡ replicate queue_limit None
     → BoardStandsAt s.config.mechanism s.config.settings [] s.board
     → StandsAt (record { nsq = s.config.limits.nsq; ncq = s.config.limits.ncq; settings = s.config.settings }) s.table []
-    → s.outstanding ≡ 0 → s.deletion ≡ None → AreFreshJobs s.jobs → s.late ≡ false → IsKept s
-is_kept-new s sqs cqs log closed board table outstanding deletion jobs early = record {
+    → s.outstanding ≡ 0 → s.deletion ≡ None → AreFreshJobs s.jobs → s.late ≡ false → IsConsistent s
+is_consistent-new s sqs cqs log closed board table outstanding deletion jobs early = record {
   fresh = λ h. fresh_at_new s sqs cqs closed board table outstanding deletion jobs early;
   stands = λ some others. let none : length s.sqs.items ≡ 0 = ap (λ (xs : List SqRegion). length xs) sqs in absurd (omega arith);
   begun = λ h. absurd (h log);
@@ -94,7 +94,7 @@ pub record HasMadeRoom (s t : FrontState) : Type 0 where
   pub late : t.late ≡ s.late
 
 -- with other room for jobs a fresh front is fresh
-fresh-room : (rules : FrontRules) (late : Bool) (k : Kept) (n : ℕ) → IsFresh rules late k → IsFresh rules late (record k { jobs = record k.jobs { room = n } })
+fresh-room : (rules : FrontRules) (late : Bool) (k : Content) (n : ℕ) → IsFresh rules late k → IsFresh rules late (record k { jobs = record k.jobs { room = n } })
 fresh-room rules late k n f = record {
   sqs = f.sqs;
   no_sqs = f.no_sqs;
@@ -117,14 +117,14 @@ fresh-room rules late k n f = record {
   cq_slots = f.cq_slots;
 }
 
-module _ (s : FrontState) (kept : IsKept s) (t : FrontState) (m : HasMadeRoom s t) where
+module _ (s : FrontState) (kept : IsConsistent s) (t : FrontState) (m : HasMadeRoom s t) where
   -- with no event the front is fresh
-  room-fresh : t.log.items ≡ [] → IsFresh (rules_of t) t.late (kept_of t)
+  room-fresh : t.log.items ≡ [] → IsFresh (rules_of t) t.late (content_of t)
   room-fresh none =
-      fresh_told (rules_of s) (rules_of t) s.late t.late (record (kept_of s) { jobs = record s.jobs { room = t.jobs.room } }) (kept_of t)
+      fresh_told (rules_of s) (rules_of t) s.late t.late (record (content_of s) { jobs = record s.jobs { room = t.jobs.room } }) (content_of t)
       (sym (λ i. rules_by (m.config i) (m.sqs i) (m.cqs i))) (sym m.late)
-      (sym (λ i. kept_with (m.sqs i) (m.cqs i) (m.board i) (m.table i) (m.outstanding i) (m.deletion i) (m.jobs i)))
-      (fresh-room (rules_of s) s.late (kept_of s) t.jobs.room (kept.fresh (sym m.log ∙ none)))
+      (sym (λ i. content_with (m.sqs i) (m.cqs i) (m.board i) (m.table i) (m.outstanding i) (m.deletion i) (m.jobs i)))
+      (fresh-room (rules_of s) s.late (content_of s) t.jobs.room (kept.fresh (sym m.log ∙ none)))
 
   -- the jobs are the same once there is a submission region, since there was room then
   room-same : 0 < length s.sqs.items → t.jobs ≡ s.jobs
@@ -133,11 +133,11 @@ module _ (s : FrontState) (kept : IsKept s) (t : FrontState) (m : HasMadeRoom s 
       m.jobs ∙ ap (λ (n : ℕ). record s.jobs { room = n }) (m.keeps_room full ∙ sym full)
 
   -- so what is kept stands
-  room-stands : 0 < length s.sqs.items → 0 < length s.cqs.items → Stands (rules_of t) t.late (past_of t) (kept_of t)
+  room-stands : 0 < length s.sqs.items → 0 < length s.cqs.items → Stands (rules_of t) t.late (past_of t) (content_of t)
   room-stands sqs cqs =
-      stands_told (rules_of s) (rules_of t) s.late t.late (past_of s) (past_of t) (kept_of s) (kept_of t)
+      stands_told (rules_of s) (rules_of t) s.late t.late (past_of s) (past_of t) (content_of s) (content_of t)
       (sym (λ i. rules_by (m.config i) (m.sqs i) (m.cqs i))) (sym m.late) (ap (λ (es : List Event). reverse es) (sym m.log))
-      (sym (λ i. kept_with (m.sqs i) (m.cqs i) (m.board i) (m.table i) (m.outstanding i) (m.deletion i) (room-same sqs i)))
+      (sym (λ i. content_with (m.sqs i) (m.cqs i) (m.board i) (m.table i) (m.outstanding i) (m.deletion i) (room-same sqs i)))
       (kept.stands sqs cqs)
 
   -- there is room
@@ -156,8 +156,8 @@ module _ (s : FrontState) (kept : IsKept s) (t : FrontState) (m : HasMadeRoom s 
       }
 
 -- a front with other room for jobs keeps what stands at its log
-pub is_kept-with_room : (s : FrontState) → IsKept s → (t : FrontState) → HasMadeRoom s t → IsKept t
-is_kept-with_room s kept t m = record {
+pub is_consistent-with_room : (s : FrontState) → IsConsistent s → (t : FrontState) → HasMadeRoom s t → IsConsistent t
+is_consistent-with_room s kept t m = record {
   fresh = room-fresh s kept t m;
   stands = λ sqs cqs. room-stands s kept t m (subst (λ (xs : List SqRegion). 0 < length xs) m.sqs sqs) (subst (λ (xs : List CqRegion). 0 < length xs) m.cqs cqs);
   begun = λ some.
@@ -167,9 +167,9 @@ is_kept-with_room s kept t m = record {
 }
 
 -- the same of the jobs alone
-pub kept_with_room : (s : FrontState) → IsKept s → (j : JobsView) → j ≡ record s.jobs { room = j.room } → (s.jobs.room ≡ max_outstanding → j.room ≡ max_outstanding)
-    → IsKept (record s { jobs = j })
-kept_with_room s kept j jobs keeps_room = is_kept-with_room s kept (record s { jobs = j }) (record {
+pub consistent_with_room : (s : FrontState) → IsConsistent s → (j : JobsView) → j ≡ record s.jobs { room = j.room } → (s.jobs.room ≡ max_outstanding → j.room ≡ max_outstanding)
+    → IsConsistent (record s { jobs = j })
+consistent_with_room s kept j jobs keeps_room = is_consistent-with_room s kept (record s { jobs = j }) (record {
   config = refl;
   sqs = refl;
   cqs = refl;
@@ -200,7 +200,7 @@ pub record HasSqMore (s t : FrontState) (x : SqRegion) : Type 0 where
   pub early : s.log.items ≡ [] → t.late ≡ false
   pub late : (s.log.items ≡ [] → ⊥) → t.late ≡ true
   pub room : length s.sqs.items < MAX_REGIONS
-  pub fresh : IsFreshSq (length s.sqs.items) (sq_kept x)
+  pub fresh : IsFreshSq (length s.sqs.items) (sq_content x)
   pub window : x.window.room ≡ window_of x.end.slots
   pub has_room : t.jobs.room ≡ max_outstanding
   pub board : t.board ≡ board_with_sq (length s.sqs.items) s.board
@@ -219,7 +219,7 @@ pub record HasCqMore (s t : FrontState) (x : CqRegion) : Type 0 where
   pub early : s.log.items ≡ [] → t.late ≡ false
   pub late : (s.log.items ≡ [] → ⊥) → t.late ≡ true
   pub room : length s.cqs.items < MAX_REGIONS
-  pub fresh : IsFreshCq (cq_kept x)
+  pub fresh : IsFreshCq (cq_content x)
   pub ready : x.ready.room ≡ max_ready
   pub board : t.board ≡ s.board
   pub table : (start : Start) (h : TableHistory) → StandsAt start s.table h → StandsAt start t.table (RegionAdded Completion x.end.address x.end.slots ∷ h)
@@ -248,7 +248,7 @@ unfolding effects_of queue_table
 cq-regions_more start h v w a n before after =
     (after.sq_regions ∙ sym before.sq_regions, after.cq_regions ∙ ap (λ (rs : List Region). rs ++ record { address = a; slots = n } ∷ []) (sym before.cq_regions))
 
-module _ (s : FrontState) (kept : IsKept s) where
+module _ (s : FrontState) (kept : IsConsistent s) where
   -- the table of a state stands at a history
   table_stands : StandsSomewhere s
   table_stands = elim (has_event s.log.items) [
@@ -256,15 +256,15 @@ module _ (s : FrontState) (kept : IsKept s) where
     | inr some ↦ let there = kept.begun some in let st = (kept.stands there.0 there.1).tabled in record { history = st.history; stands = st.stands }
   ]
 
-module _ (s : FrontState) (kept : IsKept s) (t : FrontState) (x : SqRegion) (m : HasSqMore s t x) where
+module _ (s : FrontState) (kept : IsConsistent s) (t : FrontState) (x : SqRegion) (m : HasSqMore s t x) where
   -- with no event the front is fresh, with the submission region
-  sq-fresh : t.log.items ≡ [] → IsFresh (rules_of t) t.late (kept_of t)
+  sq-fresh : t.log.items ≡ [] → IsFresh (rules_of t) t.late (content_of t)
   sq-fresh none =
       let before : s.log.items ≡ [] = sym m.log ∙ none in
       let f = kept.fresh before in
-      fresh_told (rules_by s.config t.sqs.items s.cqs.items) (rules_of t) s.late t.late (kept_with t.sqs.items s.cqs.items t.board t.table s.outstanding s.deletion s.jobs) (kept_of t)
+      fresh_told (rules_by s.config t.sqs.items s.cqs.items) (rules_of t) s.late t.late (content_with t.sqs.items s.cqs.items t.board t.table s.outstanding s.deletion s.jobs) (content_of t)
       (sym (λ i. rules_by (m.config i) t.sqs.items (m.cqs i))) (f.not_late ∙ sym (m.early before))
-      (sym (λ i. kept_with t.sqs.items (m.cqs i) t.board t.table (m.outstanding i) (m.deletion i) (m.jobs i)))
+      (sym (λ i. content_with t.sqs.items (m.cqs i) t.board t.table (m.outstanding i) (m.deletion i) (m.jobs i)))
       (fresh_with_sq s.config.mechanism (start_of s) s.config.spaces s.sqs.items s.cqs.items s.late s.board s.table s.outstanding s.deletion s.jobs f
       x t.sqs.items t.board t.table m.sqs m.room m.fresh m.board (m.board_stands s.config.mechanism s.config.settings [] f.stands)
       (m.table (start_of s) (rules_of s).regions f.table))
@@ -274,19 +274,19 @@ module _ (s : FrontState) (kept : IsKept s) (t : FrontState) (x : SqRegion) (m :
   sq-some = let more : length t.sqs.items ≡ length s.sqs.items + 1 = ap (λ (xs : List SqRegion). length xs) m.sqs ∙ length_push s.sqs.items x in omega arith
 
   -- what is kept stands, with the submission region
-  sq-stands : 0 < length t.cqs.items → Stands (rules_of t) t.late (past_of t) (kept_of t)
+  sq-stands : 0 < length t.cqs.items → Stands (rules_of t) t.late (past_of t) (content_of t)
   sq-stands cqs = elim (has_event t.log.items) [
     | inl none ↦
-        subst (λ (past : Past). Stands (rules_of t) t.late past (kept_of t)) (ap (λ (es : List Event). reverse es) (sym none))
+        subst (λ (past : Past). Stands (rules_of t) t.late past (content_of t)) (ap (λ (es : List Event). reverse es) (sym none))
         (stands_when_first t (sq-fresh none) sq-some cqs)
     | inr some ↦
         let was : s.log.items ≡ [] → ⊥ = λ none. some (m.log ∙ none) in
         let there = kept.begun was in
         let same_board : t.board ≡ s.board = m.board ∙ board_with_sq-later (length s.sqs.items) s.board (λ z. omega (arith, z, there.0)) in
         stands_told (rules_by s.config t.sqs.items s.cqs.items) (rules_of t) true t.late (past_of s) (past_of t)
-        (kept_with t.sqs.items s.cqs.items s.board t.table s.outstanding s.deletion s.jobs) (kept_of t)
+        (content_with t.sqs.items s.cqs.items s.board t.table s.outstanding s.deletion s.jobs) (content_of t)
         (sym (λ i. rules_by (m.config i) t.sqs.items (m.cqs i))) (sym (m.late was)) (ap (λ (es : List Event). reverse es) (sym m.log))
-        (sym (λ i. kept_with t.sqs.items (m.cqs i) (same_board i) t.table (m.outstanding i) (m.deletion i) (m.jobs i)))
+        (sym (λ i. content_with t.sqs.items (m.cqs i) (same_board i) t.table (m.outstanding i) (m.deletion i) (m.jobs i)))
         (stands_with_sq s.config.mechanism (start_of s) s.config.spaces s.sqs.items s.cqs.items s.late (past_of s) s.board s.table s.outstanding s.deletion s.jobs
         (kept.stands there.0 there.1) there.0 there.1 x t.sqs.items t.table m.sqs m.room m.fresh (m.table (start_of s)))
   ]
@@ -312,8 +312,8 @@ module _ (s : FrontState) (kept : IsKept s) (t : FrontState) (x : SqRegion) (m :
       }
 
 -- a front with a submission region more keeps what stands at its log
-pub is_kept-with_sq : (s : FrontState) → IsKept s → (t : FrontState) (x : SqRegion) → HasSqMore s t x → IsKept t
-is_kept-with_sq s kept t x m = record {
+pub is_consistent-with_sq : (s : FrontState) → IsConsistent s → (t : FrontState) (x : SqRegion) → HasSqMore s t x → IsConsistent t
+is_consistent-with_sq s kept t x m = record {
   fresh = sq-fresh s kept t x m;
   stands = λ sqs cqs. sq-stands s kept t x m cqs;
   begun = λ some.
@@ -322,15 +322,15 @@ is_kept-with_sq s kept t x m = record {
   roomy = sq-roomy s kept t x m;
 }
 
-module _ (s : FrontState) (kept : IsKept s) (t : FrontState) (x : CqRegion) (m : HasCqMore s t x) where
+module _ (s : FrontState) (kept : IsConsistent s) (t : FrontState) (x : CqRegion) (m : HasCqMore s t x) where
   -- with no event the front is fresh, with the completion region
-  cq-fresh : t.log.items ≡ [] → IsFresh (rules_of t) t.late (kept_of t)
+  cq-fresh : t.log.items ≡ [] → IsFresh (rules_of t) t.late (content_of t)
   cq-fresh none =
       let before : s.log.items ≡ [] = sym m.log ∙ none in
       let f = kept.fresh before in
-      fresh_told (rules_by s.config s.sqs.items t.cqs.items) (rules_of t) s.late t.late (kept_with s.sqs.items t.cqs.items s.board t.table s.outstanding s.deletion s.jobs) (kept_of t)
+      fresh_told (rules_by s.config s.sqs.items t.cqs.items) (rules_of t) s.late t.late (content_with s.sqs.items t.cqs.items s.board t.table s.outstanding s.deletion s.jobs) (content_of t)
       (sym (λ i. rules_by (m.config i) (m.sqs i) t.cqs.items)) (f.not_late ∙ sym (m.early before))
-      (sym (λ i. kept_with (m.sqs i) t.cqs.items (m.board i) t.table (m.outstanding i) (m.deletion i) (m.jobs i)))
+      (sym (λ i. content_with (m.sqs i) t.cqs.items (m.board i) t.table (m.outstanding i) (m.deletion i) (m.jobs i)))
       (fresh_with_cq s.config.mechanism (start_of s) s.config.spaces s.sqs.items s.cqs.items s.late s.board s.table s.outstanding s.deletion s.jobs f
       x t.cqs.items t.table m.cqs m.room m.fresh (m.table (start_of s) (rules_of s).regions f.table))
 
@@ -339,18 +339,18 @@ module _ (s : FrontState) (kept : IsKept s) (t : FrontState) (x : CqRegion) (m :
   cq-some = let more : length t.cqs.items ≡ length s.cqs.items + 1 = ap (λ (xs : List CqRegion). length xs) m.cqs ∙ length_push s.cqs.items x in omega arith
 
   -- what is kept stands, with the completion region
-  cq-stands : 0 < length t.sqs.items → Stands (rules_of t) t.late (past_of t) (kept_of t)
+  cq-stands : 0 < length t.sqs.items → Stands (rules_of t) t.late (past_of t) (content_of t)
   cq-stands sqs = elim (has_event t.log.items) [
     | inl none ↦
-        subst (λ (past : Past). Stands (rules_of t) t.late past (kept_of t)) (ap (λ (es : List Event). reverse es) (sym none))
+        subst (λ (past : Past). Stands (rules_of t) t.late past (content_of t)) (ap (λ (es : List Event). reverse es) (sym none))
         (stands_when_first t (cq-fresh none) sqs cq-some)
     | inr some ↦
         let was : s.log.items ≡ [] → ⊥ = λ none. some (m.log ∙ none) in
         let there = kept.begun was in
         stands_told (rules_by s.config s.sqs.items t.cqs.items) (rules_of t) true t.late (past_of s) (past_of t)
-        (kept_with s.sqs.items t.cqs.items s.board t.table s.outstanding s.deletion s.jobs) (kept_of t)
+        (content_with s.sqs.items t.cqs.items s.board t.table s.outstanding s.deletion s.jobs) (content_of t)
         (sym (λ i. rules_by (m.config i) (m.sqs i) t.cqs.items)) (sym (m.late was)) (ap (λ (es : List Event). reverse es) (sym m.log))
-        (sym (λ i. kept_with (m.sqs i) t.cqs.items (m.board i) t.table (m.outstanding i) (m.deletion i) (m.jobs i)))
+        (sym (λ i. content_with (m.sqs i) t.cqs.items (m.board i) t.table (m.outstanding i) (m.deletion i) (m.jobs i)))
         (stands_with_cq s.config.mechanism (start_of s) s.config.spaces s.sqs.items s.cqs.items s.late (past_of s) s.board s.table s.outstanding s.deletion s.jobs
         (kept.stands there.0 there.1) there.0 there.1 x t.cqs.items t.table m.cqs m.room m.fresh (m.table (start_of s)))
   ]
@@ -376,8 +376,8 @@ module _ (s : FrontState) (kept : IsKept s) (t : FrontState) (x : CqRegion) (m :
       }
 
 -- a front with a completion region more keeps what stands at its log
-pub is_kept-with_cq : (s : FrontState) → IsKept s → (t : FrontState) (x : CqRegion) → HasCqMore s t x → IsKept t
-is_kept-with_cq s kept t x m = record {
+pub is_consistent-with_cq : (s : FrontState) → IsConsistent s → (t : FrontState) (x : CqRegion) → HasCqMore s t x → IsConsistent t
+is_consistent-with_cq s kept t x m = record {
   fresh = cq-fresh s kept t x m;
   stands = λ sqs cqs. cq-stands s kept t x m sqs;
   begun = λ some.
@@ -387,7 +387,7 @@ is_kept-with_cq s kept t x m = record {
 }
 
 -- there is room for jobs, or no picked command waits to be handed
-pub room_or_none : (s : FrontState) → IsKept s → (s.jobs.room ≡ max_outstanding) ⊎ (s.jobs.hands.unhanded ≡ [])
+pub room_or_none : (s : FrontState) → IsConsistent s → (s.jobs.room ≡ max_outstanding) ⊎ (s.jobs.hands.unhanded ≡ [])
 room_or_none s kept = elim (has_event s.log.items) [
   | inl none ↦ inr (kept.fresh none).jobs.none_unhanded
   | inr some ↦ inl (kept.roomy.jobs (kept.begun some).0)
