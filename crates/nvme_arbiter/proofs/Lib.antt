@@ -1,4 +1,5 @@
 pub mod SettingsLemmas
+pub mod ClassLemmas
 pub mod NextLemmas
 pub mod Choices
 pub mod Stands

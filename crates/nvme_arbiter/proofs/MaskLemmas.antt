@@ -13,10 +13,11 @@ use Rattle.nvme_arbiter.specs.declared.pick.Seen.{Seen}
 use Rattle.nvme_arbiter.specs.declared.pick.OpenQueue.{OpenQueue}
 use Rattle.nvme_arbiter.specs.declared.masks.Masks.{Masks}
 use Rattle.nvme_arbiter.specs.declared.settings.Class.{Class}
-use Rattle.nvme_arbiter.specs.declared.settings.Class.TheVariants.{Admin, Urgent, High, Medium, Low}
 use Rattle.nvme_arbiter.specs.Observation.{is_class, is_wanted, IsSeen, IsObservation, class_in}
+use Rattle.nvme_arbiter.specs.ByClass.{same_for_all}
 use Rattle.nvme_arbiter.specs.Bits.{HasNoBit, IsLowest, KeepsAbove, with_bit}
 use Rattle.nvme_arbiter.specs.Queues.{seen_as, seen_from, seen_of, queue_at, FitsUnder, mask_of, masks_put, passes, bit_of, Marks, has_waiting, IsOf, AreMarked, shown}
+use Rattle.nvme_arbiter.proofs.ClassLemmas.{of_class_after, of_class_same}
 use Rattle.nvme_arbiter.proofs.NextLemmas.{Below}
 use Rattle.nvme_arbiter.proofs.Observations.{IsFromOn}
 
@@ -163,17 +164,8 @@ covers (Some c) class = is_class c class
 
 -- a mask after the bit is put in it and in that of all
 put_one : (masks : Masks) (wanted : Option Class) (class : Class) (qid : ℕ) (on : Bool) → mask_of (masks_put masks class qid on) wanted ≡ cond (covers wanted class) (with_bit (mask_of masks wanted) qid on) (mask_of masks wanted)
-put_one masks None Admin qid on = refl
-put_one masks None Urgent qid on = refl
-put_one masks None High qid on = refl
-put_one masks None Medium qid on = refl
-put_one masks None Low qid on = refl
-put_one masks (Some Admin) Admin qid on = refl
-put_one masks (Some Urgent) Urgent qid on = refl
-put_one masks (Some High) High qid on = refl
-put_one masks (Some Medium) Medium qid on = refl
-put_one masks (Some Low) Low qid on = refl
-put_one masks _ _ qid on = refl
+put_one masks None class qid on = refl
+put_one masks (Some c) class qid on = of_class_after masks.by_class class c (λ mask. with_bit mask qid on)
 
 -- a queue of a class is wanted where its class is, and it is ready
 wanted_of : (wanted : Option Class) (class : Class) (i : ℕ) (v : Option OpenQueue) → IsOf class v → passes (is_wanted wanted) i v ≡ covers wanted class && has_waiting v
@@ -216,15 +208,11 @@ marked_put queues masks qid class queue a within fits was is = record {
 no_queue : (n i : ℕ) → queue_at (replicate n None) i ≡ None
 no_queue n i = elim (cases_lt i n) [ inl l ↦ get_or-replicate n i None None l | inr g ↦ get_or_past (replicate n None) i None (let none : Option OpenQueue = None in let e = length-replicate n none in omega arith) ]
 
-no_mask : (wanted : Option Class) → mask_of (record { all = 0; admin = 0; urgent = 0; high = 0; medium = 0; low = 0 }) wanted ≡ 0
+no_mask : (wanted : Option Class) → mask_of (record { all = 0; by_class = same_for_all 0 }) wanted ≡ 0
 no_mask None = refl
-no_mask (Some Admin) = refl
-no_mask (Some Urgent) = refl
-no_mask (Some High) = refl
-no_mask (Some Medium) = refl
-no_mask (Some Low) = refl
+no_mask (Some class) = of_class_same 0 class
 
-pub marked_first : AreMarked (replicate queue_limit None) (record { all = 0; admin = 0; urgent = 0; high = 0; medium = 0; low = 0 })
+pub marked_first : AreMarked (replicate queue_limit None) (record { all = 0; by_class = same_for_all 0 })
 marked_first = record {
   length_is = (let none : Option OpenQueue = None in length-replicate queue_limit none);
   fit = λ qid. subst (FitsUnder qid) (sym (no_queue queue_limit qid)) tt;

@@ -11,11 +11,12 @@ use Rattle.nvme_arbiter.specs.declared.settings.Class.{Class}
 use Rattle.nvme_arbiter.specs.declared.settings.Class.TheVariants.{Admin, Urgent, High, Medium, Low}
 use Rattle.nvme_arbiter.specs.declared.settings.Mechanism.{Mechanism}
 use Rattle.nvme_arbiter.specs.declared.settings.Mechanism.TheVariants.{RoundRobin, Weighted}
-use Rattle.nvme_arbiter.specs.Observation.{IsObservation, IsIdle, class_in}
+use Rattle.nvme_arbiter.specs.Observation.{is_class, IsObservation, IsIdle, class_in}
 use Rattle.nvme_arbiter.specs.History.{Picked, Changed, History, settings_after, last_served_of, is_in_class, used_in_round}
 use Rattle.nvme_arbiter.specs.Rules.{within_burst, credit, round_robin_pick, weighted_pick}
 use Rattle.nvme_arbiter.specs.Lawful.{lawful_pick}
 use Rattle.nvme_arbiter.specs.Standing.{last_of, used_of, StandsAt, pick_by, pick_of, last_with, used_with, nothing_used, used_before, kept_after, StaysWithin, IsWithinWeight, first_kept}
+use Rattle.nvme_arbiter.proofs.ClassLemmas.{of_class_after, of_class_same}
 use Rattle.nvme_arbiter.proofs.Choices.{Choice, of_admin, of_urgent, of_level, weighted_some, class_of_next, weighted_idle, round_robin_idle, IsFrom}
 
 -- ---- the pick
@@ -60,12 +61,8 @@ idle k seen = idle_by k.mechanism k seen
 
 -- ---- after a pick
 last_step : (last : Last) (other : Option Class) (class : Class) (qid : ℕ) (r : Option ℕ) → last_of last class ≡ r → last_of (last_with last other qid) class ≡ (if is_in_class class other then Some qid else r)
-last_step last (Some Admin) Admin qid r h = refl
-last_step last (Some Urgent) Urgent qid r h = refl
-last_step last (Some High) High qid r h = refl
-last_step last (Some Medium) Medium qid r h = refl
-last_step last (Some Low) Low qid r h = refl
-last_step last _ _ qid r h = h
+last_step last None class qid r h = h
+last_step last (Some other) class qid r h = of_class_after last.by_class other class (λ v. Some qid) ∙ ap (λ v. if is_class class other then Some qid else v) h
 
 used_step : (used : Used) (other : Option Class) (level : Class) (n : ℕ) (fresh : Bool) (u : ℕ) → IsLevel level → used_of used level ≡ u → used_of (used_with (used_before fresh used) other n) level ≡ (if is_in_class level other then n else 0) + (if fresh then 0 else u)
 used_step used other Admin n fresh u l h = absurd l
@@ -111,17 +108,10 @@ pub stands_changed : (m : Mechanism) (first : ArbitrationFields) (past : History
 stands_changed RoundRobin first past k s h = record { mechanism_is = h.mechanism_is; settings_are = refl; recalls = h.recalls }
 stands_changed Weighted first past k s h = record { mechanism_is = h.mechanism_is; settings_are = refl; recalls = (h.recalls.0, λ level l. nothing_in level) }
 
-none_served : (class : Class) → last_of (record { all = None; admin = None; urgent = None; high = None; medium = None; low = None }) class ≡ None
-none_served Admin = refl
-none_served Urgent = refl
-none_served High = refl
-none_served Medium = refl
-none_served Low = refl
-
 -- at first
 pub stands_first : (m : Mechanism) (s : ArbitrationFields) → StandsAt m s [] (first_kept m s)
 stands_first RoundRobin s = record { mechanism_is = refl; settings_are = refl; recalls = refl }
-stands_first Weighted s = record { mechanism_is = refl; settings_are = refl; recalls = (none_served, λ level l. nothing_in level) }
+stands_first Weighted s = record { mechanism_is = refl; settings_are = refl; recalls = (λ class. of_class_same None class, λ level l. nothing_in level) }
 
 -- ---- a level stays within its weight
 level_within : (s : ArbitrationFields) (used : Used) (level : Class) (fresh : Bool) (n : ℕ) → 0 < credit s (used_of used) fresh level → n ≤ credit s (used_of used) fresh level → used_of (used_before fresh used) level + n ≤ weight_of s level

@@ -1,5 +1,6 @@
 pub mod Limits
 pub mod Settings
+pub mod ByClass
 pub mod Observation
 pub mod Next
 pub mod History

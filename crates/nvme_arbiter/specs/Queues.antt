@@ -4,8 +4,8 @@ use Rattle.std.specs.Int.{bit_at}
 use Rattle.nvme_arbiter.specs.Limits.{queue_limit}
 use Rattle.nvme_arbiter.specs.Observation.{is_wanted, IsSeen}
 use Rattle.nvme_arbiter.specs.Bits.{with_bit}
+use Rattle.nvme_arbiter.specs.ByClass.{of_class, with_class}
 use Rattle.nvme_arbiter.specs.declared.settings.Class.{Class}
-use Rattle.nvme_arbiter.specs.declared.settings.Class.TheVariants.{Admin, Urgent, High, Medium, Low}
 use Rattle.nvme_arbiter.specs.declared.pick.Seen.{Seen}
 use Rattle.nvme_arbiter.specs.declared.pick.OpenQueue.{OpenQueue}
 use Rattle.nvme_arbiter.specs.declared.masks.Masks.{Masks}
@@ -40,27 +40,11 @@ FitsUnder qid (Some queue) = IsSeen (seen_as qid queue)
 -- ---- masks
 abbrev pub mask_of : Masks → Option Class → ℕ
 mask_of masks None = masks.all
-mask_of masks (Some Admin) = masks.admin
-mask_of masks (Some Urgent) = masks.urgent
-mask_of masks (Some High) = masks.high
-mask_of masks (Some Medium) = masks.medium
-mask_of masks (Some Low) = masks.low
+mask_of masks (Some class) = of_class masks.by_class class
 
-abbrev pub with_mask : Masks → Option Class → ℕ → Masks
-with_mask masks None mask = record masks { all = mask }
-with_mask masks (Some Admin) mask = record masks { admin = mask }
-with_mask masks (Some Urgent) mask = record masks { urgent = mask }
-with_mask masks (Some High) mask = record masks { high = mask }
-with_mask masks (Some Medium) mask = record masks { medium = mask }
-with_mask masks (Some Low) mask = record masks { low = mask }
-
--- the bit of a queue set or cleared in one mask
-abbrev pub mask_put : Masks → Option Class → ℕ → Bool → Masks
-mask_put masks wanted qid on = with_mask masks wanted (with_bit (mask_of masks wanted) qid on)
-
--- in the mask of all, and in that of its class
+-- the bit of a queue set or cleared in the mask of all, and in that of its class
 abbrev pub masks_put : Masks → Class → ℕ → Bool → Masks
-masks_put masks class qid on = mask_put (mask_put masks None qid on) (Some class) qid on
+masks_put masks class qid on = record { all = with_bit masks.all qid on; by_class = with_class masks.by_class class (with_bit (of_class masks.by_class class) qid on) }
 
 -- whether an open queue passes a test
 abbrev pub passes : (Seen → Bool) → ℕ → Option OpenQueue → Bool

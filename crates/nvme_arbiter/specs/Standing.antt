@@ -1,6 +1,7 @@
 -- What an arbiter keeps, and the histories at which it stands (profile).
 use Rattle.std.specs.Prelude.{◌≡◌, ℕ, ◌+◌, ◌≤◌, Bool, if◌then◌else◌, List, Option, Some, None}
 use Rattle.nvme_arbiter.specs.Settings.{ArbitrationFields, weight_of, IsLevel}
+use Rattle.nvme_arbiter.specs.ByClass.{of_class, with_class, same_for_all}
 use Rattle.nvme_arbiter.specs.History.{History, settings_after, last_served, last_served_of, used_in_round}
 use Rattle.nvme_arbiter.specs.Rules.{round_robin_pick, weighted_pick}
 use Rattle.nvme_arbiter.specs.declared.settings.Class.{Class}
@@ -15,11 +16,7 @@ use Rattle.nvme_arbiter.specs.declared.pick.Pick.{Pick}
 
 -- the identifier served last of a class, as it is kept
 abbrev pub last_of : Last → Class → Option ℕ
-last_of last Admin = last.admin
-last_of last Urgent = last.urgent
-last_of last High = last.high
-last_of last Medium = last.medium
-last_of last Low = last.low
+last_of last class = of_class last.by_class class
 
 -- the commands used of a level, as they are kept
 abbrev pub used_of : Used → Class → ℕ
@@ -52,11 +49,7 @@ pick_of k seen = pick_by k.mechanism k seen
 -- ---- what is kept after a pick of a class
 abbrev pub last_with : Last → Option Class → ℕ → Last
 last_with last None qid = last
-last_with last (Some Admin) qid = record last { admin = Some qid }
-last_with last (Some Urgent) qid = record last { urgent = Some qid }
-last_with last (Some High) qid = record last { high = Some qid }
-last_with last (Some Medium) qid = record last { medium = Some qid }
-last_with last (Some Low) qid = record last { low = Some qid }
+last_with last (Some class) qid = record last { by_class = with_class last.by_class class (Some qid) }
 
 abbrev pub used_with : Used → Option Class → ℕ → Used
 used_with used None n = used
@@ -88,4 +81,4 @@ IsWithinWeight Weighted k class pick = StaysWithin k.settings (used_before pick.
 
 -- what is kept at first
 abbrev pub first_kept : Mechanism → ArbitrationFields → Kept
-first_kept mechanism settings = record { mechanism = mechanism; settings = settings; last = record { all = None; admin = None; urgent = None; high = None; medium = None; low = None }; used = nothing_used }
+first_kept mechanism settings = record { mechanism = mechanism; settings = settings; last = record { all = None; by_class = same_for_all None }; used = nothing_used }

@@ -1,4 +1,5 @@
 // What arbitration keeps between two picks.
+use crate::by_class::ByClass;
 use crate::pick::Pick;
 use crate::settings::{Class, Mechanism, Settings};
 
@@ -6,11 +7,7 @@ use crate::settings::{Class, Mechanism, Settings};
 #[derive(Clone, Copy, Debug, Default, PartialEq, Eq)]
 pub struct Last {
     pub all: Option<u16>,
-    pub admin: Option<u16>,
-    pub urgent: Option<u16>,
-    pub high: Option<u16>,
-    pub medium: Option<u16>,
-    pub low: Option<u16>,
+    pub by_class: ByClass<Option<u16>>,
 }
 
 impl Last {
@@ -21,13 +18,8 @@ impl Last {
     fn serve(&mut self, class: Option<Class>, qid: u16)
         ensures { self.new ≡ last_with self.old class qid }
     {
-        match class {
-            Some(Class::Admin) => self.admin = Some(qid),
-            Some(Class::Urgent) => self.urgent = Some(qid),
-            Some(Class::High) => self.high = Some(qid),
-            Some(Class::Medium) => self.medium = Some(qid),
-            Some(Class::Low) => self.low = Some(qid),
-            None => {}
+        if let Some(class) = class {
+            self.by_class.set(class, Some(qid));
         }
     }
 }
@@ -106,11 +98,7 @@ impl Kept {
             settings,
             last: Last {
                 all: None,
-                admin: None,
-                urgent: None,
-                high: None,
-                medium: None,
-                low: None,
+                by_class: ByClass::same(None),
             },
             used: Used::none(),
         }
@@ -120,13 +108,7 @@ impl Kept {
     pub fn last_of(&self, class: Class) -> Option<u16>
         ensures { result ≡ last_of self.now.last class }
     {
-        match class {
-            Class::Admin => self.last.admin,
-            Class::Urgent => self.last.urgent,
-            Class::High => self.last.high,
-            Class::Medium => self.last.medium,
-            Class::Low => self.last.low,
-        }
+        self.last.by_class.get(class)
     }
 
     /// How many commands of a level may be picked, in this round or in a new one.

@@ -4,6 +4,7 @@
 mod arbiter;
 mod bits;
 mod board;
+mod by_class;
 mod kept;
 mod laws;
 mod limits;
@@ -19,6 +20,7 @@ mod settings;
 
 pub use arbiter::Arbiter;
 pub use board::Board;
+pub use by_class::ByClass;
 pub use kept::{Kept, Last, Used};
 pub use laws::{
     fresh_where_due, lawful_picks_are_measured, limits_of_observations, next_by_identifier,

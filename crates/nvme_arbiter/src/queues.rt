@@ -3,6 +3,7 @@ ghost use Rattle.std.specs.Prelude.{◌≡◌};
 ghost use Rattle.nvme_arbiter.specs.Queues.{has_waiting};
 
 use crate::bits::{above, lowest};
+use crate::by_class::ByClass;
 use crate::limits::{HIGHEST_QID, QUEUE_LIMIT};
 use crate::masks::Masks;
 use crate::pick::{OpenQueue, Seen};
@@ -55,11 +56,7 @@ impl Queues {
             slots: [None; QUEUE_LIMIT],
             ready: Masks {
                 all: 0,
-                admin: 0,
-                urgent: 0,
-                high: 0,
-                medium: 0,
-                low: 0,
+                by_class: ByClass::same(0),
             },
         }
     }

@@ -81,7 +81,7 @@ impl Kept {
         requires { IsObservation (Q.seen queues.now) }
         ensures { result ≡ admin_pick self.now.settings (last_of self.now.last) (used_of self.now.used) (Q.seen queues.now) }
     {
-        let queue = queues.next_ready(Some(Class::Admin), self.last.admin)?;
+        let queue = queues.next_ready(Some(Class::Admin), self.last_of(Class::Admin))?;
         Some(Pick {
             qid: queue.qid,
             n: 1,
@@ -94,7 +94,7 @@ impl Kept {
         requires { IsObservation (Q.seen queues.now) }
         ensures { result ≡ urgent_pick self.now.settings (last_of self.now.last) (used_of self.now.used) (Q.seen queues.now) }
     {
-        let queue = queues.next_ready(Some(Class::Urgent), self.last.urgent)?;
+        let queue = queues.next_ready(Some(Class::Urgent), self.last_of(Class::Urgent))?;
         Some(Pick {
             qid: queue.qid,
             n: self.within_burst(queue.count),

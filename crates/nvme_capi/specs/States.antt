@@ -43,11 +43,13 @@ is_arbiter s = is_mechanism s.mechanism && are_places s.last
 abbrev pub last_in : LastFields → Last
 last_in f = record {
   all = last_of_place f.all;
-  admin = last_of_place f.admin;
-  urgent = last_of_place f.urgent;
-  high = last_of_place f.high;
-  medium = last_of_place f.medium;
-  low = last_of_place f.low;
+  by_class = record {
+    admin = last_of_place f.admin;
+    urgent = last_of_place f.urgent;
+    high = last_of_place f.high;
+    medium = last_of_place f.medium;
+    low = last_of_place f.low;
+  };
 }
 
 abbrev pub used_in : UsedFields → Used

@@ -3,7 +3,7 @@
 ghost use Rattle.std.specs.Prelude.{◌≡◌, IsTrue};
 ghost use Rattle.nvme_capi.specs.States.{last_of_place, is_place, are_places, mechanism_of, last_in, used_in, is_arbiter, kept_of, class_of, seen_of_fields, pick_of_fields};
 
-use nvme_arbiter::{Class, Kept, Last, Mechanism, Pick, Seen, Settings, Used};
+use nvme_arbiter::{ByClass, Class, Kept, Last, Mechanism, Pick, Seen, Settings, Used};
 
 /// The identifiers that were served last, each plus 1, and 0 for none: of all queues, and of each class.
 #[repr(C)]
@@ -119,11 +119,13 @@ pub fn kept_of(state: &ArbiterFields) -> Kept
         settings: Settings::from_cdw11(state.cdw11),
         last: Last {
             all: last_of_place(state.last.all),
-            admin: last_of_place(state.last.admin),
-            urgent: last_of_place(state.last.urgent),
-            high: last_of_place(state.last.high),
-            medium: last_of_place(state.last.medium),
-            low: last_of_place(state.last.low),
+            by_class: ByClass {
+                admin: last_of_place(state.last.admin),
+                urgent: last_of_place(state.last.urgent),
+                high: last_of_place(state.last.high),
+                medium: last_of_place(state.last.medium),
+                low: last_of_place(state.last.low),
+            },
         },
         used: Used {
             high: state.used.high,
@@ -140,11 +142,11 @@ pub fn fields_of_last(last: Last) -> LastFields
 {
     LastFields {
         all: place_of_last(last.all),
-        admin: place_of_last(last.admin),
-        urgent: place_of_last(last.urgent),
-        high: place_of_last(last.high),
-        medium: place_of_last(last.medium),
-        low: place_of_last(last.low),
+        admin: place_of_last(last.by_class.admin),
+        urgent: place_of_last(last.by_class.urgent),
+        high: place_of_last(last.by_class.high),
+        medium: place_of_last(last.by_class.medium),
+        low: place_of_last(last.by_class.low),
     }
 }
 

@@ -45,11 +45,12 @@ fn put_served<W: fmt::Write>(kept: &Kept, f: &mut fmt::Formatter<W>) -> fmt::Res
     if kept.mechanism == Mechanism::RoundRobin {
         return put_last(" of all", kept.last.all, f);
     }
-    put_last(" admin", kept.last.admin, f)?;
-    put_last(", urgent", kept.last.urgent, f)?;
-    put_last(", high", kept.last.high, f)?;
-    put_last(", medium", kept.last.medium, f)?;
-    put_last(", low", kept.last.low, f)
+    let last = &kept.last.by_class;
+    put_last(" admin", last.admin, f)?;
+    put_last(", urgent", last.urgent, f)?;
+    put_last(", high", last.high, f)?;
+    put_last(", medium", last.medium, f)?;
+    put_last(", low", last.low, f)
 }
 
 // What is used in the round, beside the weights.
