@@ -11,6 +11,7 @@ pub mod Tables
 pub mod Waiting
 pub mod Turns
 pub mod AbortLaws
+pub mod AbortAnswers
 pub mod Counting
 pub mod UsedRegions
 pub mod PickCounts
