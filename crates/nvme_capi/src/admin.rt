@@ -25,16 +25,60 @@ const fn no_fields() -> AdminFields
     }
 }
 
+// The fields of a command of this kind that names a queue and no more.
+fn fields_of_delete(kind: u32, qid: u16) -> AdminFields
+    ensures { result ≡ record no_fields { kind = kind; qid = qid } }
+{
+    AdminFields {
+        kind,
+        qid,
+        ..no_fields()
+    }
+}
+
+// The fields of a Create of a submission queue.
+fn fields_of_create_sq(
+    qid: u16,
+    qsize: u16,
+    prp1: u64,
+    cqid: u16,
+    qprio: u8,
+    pc: bool,
+) -> AdminFields
+    ensures { result ≡ admin_fields_of (AdminCommand.CreateSq qid qsize prp1 cqid qprio pc) }
+{
+    AdminFields {
+        kind: 2,
+        qid,
+        qsize,
+        prp1,
+        cqid,
+        qprio,
+        pc: u8::from(pc),
+        ..no_fields()
+    }
+}
+
+// The fields of a Create of a completion queue.
+fn fields_of_create_cq(qid: u16, qsize: u16, prp1: u64, pc: bool) -> AdminFields
+    ensures { result ≡ admin_fields_of (AdminCommand.CreateCq qid qsize prp1 pc) }
+{
+    AdminFields {
+        kind: 4,
+        qid,
+        qsize,
+        prp1,
+        pc: u8::from(pc),
+        ..no_fields()
+    }
+}
+
 // The fields of an admin command.
 fn fields_of_admin(command: AdminCommand) -> AdminFields
     ensures { result ≡ admin_fields_of command }
 {
     match command {
-        AdminCommand::DeleteSq { qid } => AdminFields {
-            kind: 1,
-            qid,
-            ..no_fields()
-        },
+        AdminCommand::DeleteSq { qid } => fields_of_delete(1, qid),
         AdminCommand::CreateSq {
             qid,
             qsize,
@@ -42,34 +86,14 @@ fn fields_of_admin(command: AdminCommand) -> AdminFields
             cqid,
             qprio,
             pc,
-        } => AdminFields {
-            kind: 2,
-            qid,
-            qsize,
-            prp1,
-            cqid,
-            qprio,
-            pc: u8::from(pc),
-            ..no_fields()
-        },
-        AdminCommand::DeleteCq { qid } => AdminFields {
-            kind: 3,
-            qid,
-            ..no_fields()
-        },
+        } => fields_of_create_sq(qid, qsize, prp1, cqid, qprio, pc),
+        AdminCommand::DeleteCq { qid } => fields_of_delete(3, qid),
         AdminCommand::CreateCq {
             qid,
             qsize,
             prp1,
             pc,
-        } => AdminFields {
-            kind: 4,
-            qid,
-            qsize,
-            prp1,
-            pc: u8::from(pc),
-            ..no_fields()
-        },
+        } => fields_of_create_cq(qid, qsize, prp1, pc),
         AdminCommand::SetFeatures { fid, sv, cdw11 } => AdminFields {
             kind: 5,
             fid,

@@ -13,13 +13,10 @@ ghost use Rattle.nvme_capi.specs.States.{kept_of, mechanism_of, pick_of_fields, 
 ghost use Rattle.nvme_capi.specs.Boards.{IsBoard, board_of, slots_of};
 
 use crate::arbiter::{nvmearb_arbiter_init, nvmearb_arbiter_set, write};
-use crate::queues::{
-    BoardFields, QueueFields, all_fit, clear, observed, open_at, put, shown, take,
-};
+use crate::queues::{BoardFields, QueueFields, all_fit, clear, open_at, put, seen_on, shown, take};
 use crate::results::{BAD_ARGUMENT, BAD_STATE, NOTHING, OK};
 use crate::states::{PickFields, class_of, fields_of_pick, is_arbiter, kept_of};
-use arrayvec::ArrayVec;
-use nvme_arbiter::{Arbiter, HIGHEST_COUNT, HIGHEST_QID, OpenQueue, QUEUE_LIMIT, Seen};
+use nvme_arbiter::{Arbiter, HIGHEST_COUNT, HIGHEST_QID, OpenQueue, QUEUE_LIMIT};
 
 // Whether this is a board.
 fn is_board(board: &BoardFields) -> bool
@@ -27,19 +24,6 @@ fn is_board(board: &BoardFields) -> bool
     ensures yes { IsTrue result → IsBoard board.now }
 {
     is_arbiter(&board.arbiter) && all_fit(&board.queues)
-}
-
-// The open queues as they are seen, where this is a board.
-fn seen_on(board: &BoardFields) -> Option<ArrayVec<Seen, QUEUE_LIMIT>>
-    ensures none { IsNone result → IsBoard board.now → ⊥ }
-    ensures board { IfSome result (λ seen. IsBoard board.now) }
-    ensures seen { IfSome result (λ seen. seen.items ≡ seen_of (slots_of board.now.queues)) }
-{
-    if is_arbiter(&board.arbiter) {
-        observed(&board.queues)
-    } else {
-        None
-    }
 }
 
 /// Makes a board on which no queue is open and that has served nothing yet. The mechanism is 1, round robin, or 2,
@@ -171,9 +155,10 @@ pub extern "C" fn nvmearb_board_peek(board: &BoardFields, pick: &mut PickFields)
     ensures picked { result ≡ OK → pick_of (kept_of board.now.arbiter) (seen_of (slots_of board.now.queues)) ≡ Some (pick_of_fields pick.new) }
     ensures unchanged { result ≢ OK → pick.new ≡ pick.old }
 {
-    let Some(seen) = seen_on(board) else {
+    if !is_board(board) {
         return BAD_STATE;
-    };
+    }
+    let seen = seen_on(&board.queues);
     match Arbiter::from_parts(kept_of(&board.arbiter)).peek(seen.as_slice()) {
         Some(it) => {
             *pick = fields_of_pick(it);
@@ -196,9 +181,10 @@ pub extern "C" fn nvmearb_board_pick(board: &mut BoardFields, pick: &mut PickFie
     ensures board { result ≡ OK → IsBoard board.new }
     ensures unchanged { result ≢ OK → (board.new ≡ board.old) × (pick.new ≡ pick.old) }
 {
-    let Some(seen) = seen_on(board) else {
+    if !is_board(board) {
         return BAD_STATE;
-    };
+    }
+    let seen = seen_on(&board.queues);
     let mut arbiter = Arbiter::from_parts(kept_of(&board.arbiter));
     match arbiter.pick(seen.as_slice()) {
         Some(it) => {

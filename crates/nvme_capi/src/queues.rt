@@ -1,13 +1,13 @@
 // The queues of a board, as C holds them: place q has queue q.
-ghost use Rattle.std.specs.Prelude.{◌≡◌, ◌≤◌, IsTrue, IsFalse, IsNone, IfSome, Some, None, slice_set, option_map};
+ghost use Rattle.std.specs.Prelude.{◌≡◌, ◌<◌, ◌≤◌, ◌↔◌, ℕ, IsTrue, IsFalse, IsNone, IfSome, Some, None, slice_set, option_map};
 ghost use Rattle.nvme_arbiter.specs.Limits.{highest_qid};
 ghost use Rattle.nvme_arbiter.specs.Observation.{IsSeen};
-ghost use Rattle.nvme_arbiter.specs.Queues.{seen_as, seen_of, queue_at, fewer};
+ghost use Rattle.nvme_arbiter.specs.Queues.{seen_as, seen_of, queue_at, fewer, FitsUnder};
 ghost use Rattle.nvme_capi.specs.Boards.{slot_of, slots_of, AllFit, class_of_slot};
 
 use crate::states::ArbiterFields;
 use arrayvec::ArrayVec;
-use nvme_arbiter::{Class, OpenQueue, QUEUE_LIMIT, Seen, is_observation};
+use nvme_arbiter::{Class, HIGHEST_COUNT, OpenQueue, QUEUE_LIMIT, Seen, is_observation};
 
 /// A queue of a board: 0 where it is closed, else its class plus 1, and how many of its commands wait.
 #[repr(C)]
@@ -99,37 +99,49 @@ pub fn shown(qid: u16, queue: OpenQueue) -> Option<Seen>
     }
 }
 
-/// Whether each open queue can be seen under its identifier.
+// Whether a place is closed, or has the admin queue as it can be seen.
+fn is_admin_place(queue: &QueueFields) -> bool
+    ensures { IsTrue result ↔ FitsUnder 0 (slot_of queue.now) }
+{
+    (queue.class == 0) | ((queue.class == 1) & (queue.count <= HIGHEST_COUNT))
+}
+
+// Whether a place is closed, or has an I/O queue as it can be seen.
+fn is_io_place(queue: &QueueFields) -> bool
+    ensures { (qid : ℕ) → 0 < qid → qid ≤ highest_qid → IsTrue result ↔ FitsUnder qid (slot_of queue.now) }
+{
+    (queue.class == 0) | ((queue.class >= 2) & (queue.class <= 5) & (queue.count <= HIGHEST_COUNT))
+}
+
+/// Whether each open queue can be seen under its identifier. It has no branch in its loop, so that several places are
+/// looked at at once.
 pub fn all_fit(queues: &[QueueFields; QUEUE_LIMIT]) -> bool
     ensures misfit { IsFalse result → AllFit queues.now → ⊥ }
     ensures fit { IsTrue result → AllFit queues.now }
 {
-    for qid in 0..QUEUE_LIMIT {
-        if let Some(open) = slot_of(&queues[qid]) {
-            let Some(_) = shown(qid as u16, open) else {
-                return false;
-            };
-        }
+    let mut fit = is_admin_place(&queues[0]);
+    for qid in 1..QUEUE_LIMIT {
+        fit &= is_io_place(&queues[qid]);
     }
-    true
+    fit
 }
 
-/// The open queues as they are seen, where each can be seen under its identifier.
-pub fn observed(queues: &[QueueFields; QUEUE_LIMIT]) -> Option<ArrayVec<Seen, QUEUE_LIMIT>>
-    ensures none { IsNone result → AllFit queues.now → ⊥ }
-    ensures fit { IfSome result (λ seen. AllFit queues.now) }
-    ensures seen { IfSome result (λ seen. seen.items ≡ seen_of (slots_of queues.now)) }
+/// The open queues as they are seen.
+pub fn seen_on(queues: &[QueueFields; QUEUE_LIMIT]) -> ArrayVec<Seen, QUEUE_LIMIT>
+    requires { AllFit queues.now }
+    ensures { result.items ≡ seen_of (slots_of queues.now) }
 {
     let mut seen = ArrayVec::new();
     for qid in 0..QUEUE_LIMIT {
-        if let Some(open) = slot_of(&queues[qid]) {
-            let Some(one) = shown(qid as u16, open) else {
-                return None;
-            };
-            seen.push(one);
+        if let Some(class) = class_of_slot(queues[qid].class) {
+            seen.push(Seen {
+                qid: qid as u16,
+                class,
+                count: queues[qid].count,
+            });
         }
     }
-    Some(seen)
+    seen
 }
 
 /// The open queue of an identifier, if one is open.

@@ -16,7 +16,7 @@ use crate::answers::{AnswerFields, QueueAnswer, answer_of, is_accepted, queue_an
 use crate::fields::SettingsFields;
 use crate::results::{BAD_ARGUMENT, BAD_SIZE, BAD_STATE, NOTHING, OK, TOO_MANY, USED};
 use crate::settings::nvmearb_settings_of;
-use crate::tables::{TableFields, cq_at, fields_of_parts, is_limit, is_table, parts_of, sq_at};
+use crate::tables::{TableFields, cq_at, is_limit, is_table, parts_of, sq_at, write_parts};
 use nvme_admin::{AdminError, Limits, Table};
 use nvme_arbiter::Settings;
 use nvme_entry::{Sqe, submission_layout_is_exact};
@@ -26,7 +26,7 @@ fn keep(state: &mut TableFields, table: Table)
     ensures kept { table_in state.new ≡ table }
     ensures is_table { IsTrue (is_table state.new) }
 {
-    *state = fields_of_parts(&table.into_parts());
+    write_parts(state, &table.into_parts());
 }
 
 /// Makes a queue table with no region. It allots at most so many I/O queues of each kind, 1 to 64.

@@ -1,6 +1,6 @@
 // A queue table, as C holds it. A state is taken where its numbers are in their ranges and its flags are 0 or 1. Every
 // such state is one that a table can keep, so nothing else has to hold of it.
-ghost use Rattle.std.specs.Prelude.{◌≡◌, ◌≤◌, ◌&&◌, nat_le, IsTrue, take};
+ghost use Rattle.std.specs.Prelude.{◌≡◌, ◌≤◌, [], ◌&&◌, nat_le, IsTrue, take};
 ghost use Rattle.std.specs.List.{list_all};
 ghost use Rattle.arrayvec.specs.ArrayVec.{array_vec_len};
 ghost use Rattle.nvme_admin.specs.declared.bounds.TheConstants.{MAX_REGIONS, MAX_IO_QUEUES};
@@ -68,7 +68,7 @@ pub fn is_limit(number: u16) -> bool
 fn is_sq(queue: &SqFields) -> bool
     ensures { result ≡ is_sq queue.now }
 {
-    queue.class <= 5 && is_flag(queue.closing)
+    (queue.class <= 5) & is_flag(queue.closing)
 }
 
 // Whether a place of completion queues is open or closed.
@@ -91,24 +91,36 @@ fn are_numbers(state: &TableFields) -> bool
 }
 
 // Whether each place of submission queues is one of a table.
-fn are_sqs(queues: &[SqFields]) -> bool
+fn are_sqs(queues: &[SqFields; MAX_REGIONS]) -> bool
     ensures { result ≡ list_all is_sq queues.now }
 {
-    queues.iter().all(|queue| is_sq(queue))
+    let mut are = true;
+    for queue in queues {
+        are &= is_sq(queue);
+    }
+    are
 }
 
 // Whether each place of completion queues is one of a table.
-fn are_cqs(queues: &[CqFields]) -> bool
+fn are_cqs(queues: &[CqFields; MAX_REGIONS]) -> bool
     ensures { result ≡ list_all is_cq queues.now }
 {
-    queues.iter().all(|queue| is_cq(queue))
+    let mut are = true;
+    for queue in queues {
+        are &= is_cq(queue);
+    }
+    are
 }
 
 // Whether each flag is 0 or 1.
-fn are_flags(flags: &[u8]) -> bool
+fn are_flags(flags: &[u8; MAX_REGIONS]) -> bool
     ensures { result ≡ list_all is_flag flags.now }
 {
-    flags.iter().all(|flag| is_flag(*flag))
+    let mut are = true;
+    for flag in flags {
+        are &= is_flag(*flag);
+    }
+    are
 }
 
 // Whether each place is one of a table.
@@ -116,9 +128,9 @@ fn are_places(state: &TableFields) -> bool
     ensures { result ≡ are_places state.now }
 {
     are_sqs(&state.sqs)
-        && are_cqs(&state.cqs)
-        && are_flags(&state.sq_used)
-        && are_flags(&state.cq_used)
+        & are_cqs(&state.cqs)
+        & are_flags(&state.sq_used)
+        & are_flags(&state.cq_used)
 }
 
 /// Whether a queue table can be kept so.
@@ -208,48 +220,44 @@ pub fn cq_at(state: &TableFields, qid: u16) -> Option<u8>
     }
 }
 
-// The submission queues of all places.
-fn sqs_of(fields: &[SqFields; MAX_REGIONS]) -> [Option<SqEntry>; MAX_REGIONS]
-    ensures { result ≡ sqs_of fields.now }
+// Reads the submission queues of all places.
+fn read_sqs(queues: &mut [Option<SqEntry>; MAX_REGIONS], fields: &[SqFields; MAX_REGIONS])
+    ensures { queues.new ≡ sqs_of fields.now }
 {
-    let mut queues = [None; MAX_REGIONS];
     for place in 0..MAX_REGIONS {
         queues[place] = sq_of_fields(&fields[place]);
     }
-    queues
 }
 
-// The regions of the completion queues of all places.
-fn cqs_of(fields: &[CqFields; MAX_REGIONS]) -> [Option<u8>; MAX_REGIONS]
-    ensures { result ≡ cqs_of fields.now }
+// Reads the regions of the completion queues of all places.
+fn read_cqs(queues: &mut [Option<u8>; MAX_REGIONS], fields: &[CqFields; MAX_REGIONS])
+    ensures { queues.new ≡ cqs_of fields.now }
 {
-    let mut queues = [None; MAX_REGIONS];
     for place in 0..MAX_REGIONS {
         queues[place] = cq_of_fields(&fields[place]);
     }
-    queues
 }
 
-// Which regions are used.
-fn used_of(fields: &[u8; MAX_REGIONS]) -> [bool; MAX_REGIONS]
-    ensures { result ≡ used_of fields.now }
+// Reads which regions are used.
+fn read_used(used: &mut [bool; MAX_REGIONS], fields: &[u8; MAX_REGIONS])
+    ensures { used.new ≡ used_of fields.now }
 {
-    let mut used = [false; MAX_REGIONS];
     for place in 0..MAX_REGIONS {
         used[place] = fields[place] == 1;
     }
-    used
 }
 
-// The first regions of a list.
-fn regions_of(regions: &[Region; MAX_REGIONS], count: u8) -> ArrayVec<Region, MAX_REGIONS>
-    requires { count ≤ MAX_REGIONS }
-    ensures { result.items ≡ take count regions.now }
+// Reads the first regions of a list, where there are none yet.
+fn read_regions(
+    found: &mut ArrayVec<Region, MAX_REGIONS>,
+    regions: &[Region; MAX_REGIONS],
+    count: u8,
+)
+    requires few { count ≤ MAX_REGIONS }
+    requires none { found.old.items ≡ [] }
+    ensures { found.new.items ≡ take count regions.now }
 {
-    let first = &regions[..usize::from(count)];
-    let mut found = ArrayVec::new();
-    let _ = found.try_extend_from_slice(first);
-    found
+    let _ = found.try_extend_from_slice(&regions[..usize::from(count)]);
 }
 
 /// The parts of a queue table.
@@ -257,17 +265,13 @@ pub fn parts_of(state: &TableFields) -> TableParts
     requires { IsTrue (is_table state.now) }
     ensures { view_of result ≡ table_in state.now }
 {
-    let sq_used = used_of(&state.sq_used);
-    let cq_used = used_of(&state.cq_used);
-    let sqs = sqs_of(&state.sqs);
-    let cqs = cqs_of(&state.cqs);
-    TableParts {
-        sq_regions: regions_of(&state.sq_regions, state.sq_count),
-        cq_regions: regions_of(&state.cq_regions, state.cq_count),
-        sq_used,
-        cq_used,
-        sqs,
-        cqs,
+    let mut parts = TableParts {
+        sq_regions: ArrayVec::new(),
+        cq_regions: ArrayVec::new(),
+        sq_used: [false; MAX_REGIONS],
+        cq_used: [false; MAX_REGIONS],
+        sqs: [None; MAX_REGIONS],
+        cqs: [None; MAX_REGIONS],
         allotted: Limits {
             nsq: state.nsq,
             ncq: state.ncq,
@@ -275,58 +279,54 @@ pub fn parts_of(state: &TableFields) -> TableParts
         numbers_set: state.numbers_set == 1,
         created: state.created == 1,
         settings: Settings::from_cdw11(state.cdw11),
-    }
+    };
+    read_regions(&mut parts.sq_regions, &state.sq_regions, state.sq_count);
+    read_regions(&mut parts.cq_regions, &state.cq_regions, state.cq_count);
+    read_used(&mut parts.sq_used, &state.sq_used);
+    read_used(&mut parts.cq_used, &state.cq_used);
+    read_sqs(&mut parts.sqs, &state.sqs);
+    read_cqs(&mut parts.cqs, &state.cqs);
+    parts
 }
 
-// The places of submission queues.
-fn fields_of_sqs(queues: &[Option<SqEntry>; MAX_REGIONS]) -> [SqFields; MAX_REGIONS]
-    ensures same { sqs_of result ≡ queues.now }
-    ensures fit { IsTrue (list_all is_sq result) }
+// Writes the places of submission queues.
+fn write_sqs(fields: &mut [SqFields; MAX_REGIONS], queues: &[Option<SqEntry>; MAX_REGIONS])
+    ensures same { sqs_of fields.new ≡ queues.now }
+    ensures fit { IsTrue (list_all is_sq fields.new) }
 {
-    let mut fields = [fields_of_sq(None); MAX_REGIONS];
     for place in 0..MAX_REGIONS {
         fields[place] = fields_of_sq(queues[place]);
     }
-    fields
 }
 
-// The places of completion queues.
-fn fields_of_cqs(queues: &[Option<u8>; MAX_REGIONS]) -> [CqFields; MAX_REGIONS]
-    ensures same { cqs_of result ≡ queues.now }
-    ensures fit { IsTrue (list_all is_cq result) }
+// Writes the places of completion queues.
+fn write_cqs(fields: &mut [CqFields; MAX_REGIONS], queues: &[Option<u8>; MAX_REGIONS])
+    ensures same { cqs_of fields.new ≡ queues.now }
+    ensures fit { IsTrue (list_all is_cq fields.new) }
 {
-    let mut fields = [fields_of_cq(None); MAX_REGIONS];
     for place in 0..MAX_REGIONS {
         fields[place] = fields_of_cq(queues[place]);
     }
-    fields
 }
 
-// The flags of used regions.
-fn fields_of_used(used: &[bool; MAX_REGIONS]) -> [u8; MAX_REGIONS]
-    ensures same { used_of result ≡ used.now }
-    ensures fit { IsTrue (list_all is_flag result) }
+// Writes the flags of used regions.
+fn write_used(fields: &mut [u8; MAX_REGIONS], used: &[bool; MAX_REGIONS])
+    ensures same { used_of fields.new ≡ used.now }
+    ensures fit { IsTrue (list_all is_flag fields.new) }
 {
-    let mut fields = [0; MAX_REGIONS];
     for place in 0..MAX_REGIONS {
         fields[place] = u8::from(used[place]);
     }
-    fields
 }
 
-// A list of regions in its first places.
-fn fields_of_regions(regions: &ArrayVec<Region, MAX_REGIONS>) -> [Region; MAX_REGIONS]
-    ensures { take (array_vec_len regions.now) result ≡ regions.now.items }
+// Writes a list of regions into the first places.
+fn write_regions(fields: &mut [Region; MAX_REGIONS], regions: &ArrayVec<Region, MAX_REGIONS>)
+    ensures { take (array_vec_len regions.now) fields.new ≡ regions.now.items }
 {
     let regions = regions.as_slice();
-    let mut fields = [Region {
-        address: 0,
-        slots: 0,
-    }; MAX_REGIONS];
     for place in 0..regions.len() {
         fields[place] = regions[place];
     }
-    fields
 }
 
 // How many regions there are.
@@ -337,30 +337,22 @@ fn count_of(regions: &ArrayVec<Region, MAX_REGIONS>) -> u8
     regions.len() as u8
 }
 
-/// The fields of a queue table's parts.
-pub fn fields_of_parts(parts: &TableParts) -> TableFields
-    ensures same { table_in result ≡ view_of parts.now }
-    ensures is_table { IsTrue (is_table result) }
+/// Writes the fields of a queue table's parts.
+pub fn write_parts(state: &mut TableFields, parts: &TableParts)
+    ensures same { table_in state.new ≡ view_of parts.now }
+    ensures is_table { IsTrue (is_table state.new) }
 {
-    let sq_regions = fields_of_regions(&parts.sq_regions);
-    let cq_regions = fields_of_regions(&parts.cq_regions);
-    let sqs = fields_of_sqs(&parts.sqs);
-    let cqs = fields_of_cqs(&parts.cqs);
-    let sq_used = fields_of_used(&parts.sq_used);
-    let cq_used = fields_of_used(&parts.cq_used);
-    TableFields {
-        sq_regions,
-        cq_regions,
-        cdw11: parts.settings.to_cdw11(),
-        nsq: parts.allotted.nsq,
-        ncq: parts.allotted.ncq,
-        sqs,
-        cqs,
-        sq_used,
-        cq_used,
-        sq_count: count_of(&parts.sq_regions),
-        cq_count: count_of(&parts.cq_regions),
-        numbers_set: u8::from(parts.numbers_set),
-        created: u8::from(parts.created),
-    }
+    write_regions(&mut state.sq_regions, &parts.sq_regions);
+    write_regions(&mut state.cq_regions, &parts.cq_regions);
+    state.cdw11 = parts.settings.to_cdw11();
+    state.nsq = parts.allotted.nsq;
+    state.ncq = parts.allotted.ncq;
+    write_sqs(&mut state.sqs, &parts.sqs);
+    write_cqs(&mut state.cqs, &parts.cqs);
+    write_used(&mut state.sq_used, &parts.sq_used);
+    write_used(&mut state.cq_used, &parts.cq_used);
+    state.sq_count = count_of(&parts.sq_regions);
+    state.cq_count = count_of(&parts.cq_regions);
+    state.numbers_set = u8::from(parts.numbers_set);
+    state.created = u8::from(parts.created);
 }

@@ -7,5 +7,5 @@ use Rattle.nvme_capi.proofs.board.nvmearb_board_peek.Goals as goal
 
 pub peek-requires : goal.peek-requires
 peek-requires c =
-    let e : c.as_slice.result.now ≡ seen_of (slots_of c.args.board.now.queues) = c.as_slice.ensures.value ∙ c.in-Some.ensures.seen in
-    subst IsObservation (sym e) (observed_of (slots_of c.args.board.now.queues) c.in-Some.ensures.board.fit)
+    let e : c.as_slice.result.now ≡ seen_of (slots_of c.args.board.now.queues) = c.as_slice.ensures.value ∙ c.seen_on-seen.ensures in
+    subst IsObservation (sym e) (observed_of (slots_of c.args.board.now.queues) (c.is_board.ensures.yes c.if-not-is_board.false).fit)

@@ -1,12 +1,11 @@
-use Rattle.std.proofs.Common.{◌≡◌, ℕ, ◌<◌, ◌≤◌, take}
+use Rattle.std.proofs.Common.{◌≡◌, ◌≤◌, take}
 use Rattle.arrayvec.specs.ArrayVec.{array_vec_len}
-use Rattle.nvme_arbiter.specs.Queues.{seen_of, queue_at, FitsUnder}
+use Rattle.nvme_arbiter.specs.Queues.{seen_of}
 use Rattle.nvme_capi.specs.Boards.{slots_of}
-use Rattle.nvme_capi.proofs.queues.observed.Given as goal
+use Rattle.nvme_capi.proofs.queues.seen_on.Given as goal
 
 abbrev pub invariant-loop-qid : goal.invariant-loop-qid
 invariant-loop-qid l = record {
   few : array_vec_len l.seen ≤ l.qid;
   seen_is : l.seen.items ≡ seen_of (take l.qid (slots_of l.queues));
-  fit : (q : ℕ) → q < l.qid → FitsUnder q (queue_at (slots_of l.queues) q);
 }

@@ -1,7 +1,7 @@
 use Rattle.std.proofs.Common.{◌≡◌, length, take}
 use Rattle.nvme_admin.specs.declared.bounds.TheConstants.{MAX_REGIONS}
 use Rattle.nvme_capi.specs.Tables.{sqs_of}
-use Rattle.nvme_capi.proofs.tables.sqs_of.Given as goal
+use Rattle.nvme_capi.proofs.tables.read_sqs.Given as goal
 
 abbrev pub invariant-loop-place : goal.invariant-loop-place
 invariant-loop-place l = record {

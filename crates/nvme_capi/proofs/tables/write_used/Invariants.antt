@@ -2,7 +2,7 @@ use Rattle.std.proofs.Common.{◌≡◌, true, length, take}
 use Rattle.std.specs.List.{list_all}
 use Rattle.nvme_admin.specs.declared.bounds.TheConstants.{MAX_REGIONS}
 use Rattle.nvme_capi.specs.Tables.{used_of, is_flag}
-use Rattle.nvme_capi.proofs.tables.fields_of_used.Given as goal
+use Rattle.nvme_capi.proofs.tables.write_used.Given as goal
 
 abbrev pub invariant-loop-place : goal.invariant-loop-place
 invariant-loop-place l = record {
