@@ -6,33 +6,9 @@ use nvme_arbiter::{Class, Pick};
 use nvme_entry::{Cqe, Sqe, Status};
 use nvme_front::{Event, Listed, Sent, Settled};
 use nvme_report::{Mode, WriteFault, report};
+use nvme_texts::{DELETE_THREE_REPORT, Takes};
 use std::alloc::{AllocError, Global};
-use std::io::{Error, ErrorKind, Result, Write};
 use std::test::Fail;
-
-// A writer that takes so many bytes and then fails, or answers 0.
-#[derive(Drop)]
-struct Takes {
-    taken: Vec<u8>,
-    room: usize,
-    fails: bool,
-}
-
-impl Write for Takes {
-    fn write(&mut self, buf: &[u8]) -> Result<usize> {
-        let count = buf.len().min(self.room);
-        if count == 0 && self.fails {
-            return Err(Error::from(ErrorKind::Other));
-        }
-        self.taken.extend_from_slice(&buf[..count])?;
-        self.room -= count;
-        Ok(count)
-    }
-
-    fn flush(&mut self) -> Result<()> {
-        Ok(())
-    }
-}
 
 // The Post of a place's completion.
 fn answered(region: u8, index: u32, status: Status) -> Event {
@@ -53,7 +29,7 @@ fn answered(region: u8, index: u32, status: Status) -> Event {
 }
 
 // A pick of one command.
-fn picked(alloc: Global, qid: u16) -> std::result::Result<Event, AllocError> {
+fn picked(alloc: Global, qid: u16) -> Result<Event, AllocError> {
     let pick = Pick {
         qid,
         n: 1,
@@ -73,7 +49,7 @@ fn fetched(region: u8, index: u32) -> Event {
 }
 
 // Adds the events of queue 1: three commands are fetched and one is picked, and then it is deleted.
-fn delete_queue(alloc: Global, log: &mut Vec<Event>) -> std::result::Result<(), AllocError> {
+fn delete_queue(alloc: Global, log: &mut Vec<Event>) -> Result<(), AllocError> {
     for index in 0..3 {
         log.push(fetched(1, index))?;
     }
@@ -91,7 +67,7 @@ fn delete_queue(alloc: Global, log: &mut Vec<Event>) -> std::result::Result<(), 
 }
 
 // Adds the events of queue 0 and, among them, those of queue 1.
-fn add_events(alloc: Global, log: &mut Vec<Event>) -> std::result::Result<(), AllocError> {
+fn add_events(alloc: Global, log: &mut Vec<Event>) -> Result<(), AllocError> {
     for index in 0..3 {
         log.push(fetched(0, index))?;
     }
@@ -111,7 +87,7 @@ fn add_events(alloc: Global, log: &mut Vec<Event>) -> std::result::Result<(), Al
 }
 
 // The log of two queues of three commands each. The deletion of queue 1 aborts two of its commands.
-fn log_of_deletion(alloc: Global) -> std::result::Result<Vec<Event>, AllocError> {
+fn log_of_deletion(alloc: Global) -> Result<Vec<Event>, AllocError> {
     let mut log = Vec::new(alloc);
     add_events(alloc, &mut log)?;
     Ok(log)
@@ -152,11 +128,7 @@ fn is_posted_once(log: &[Event]) -> bool
 }
 
 // The completions that a log posts to a completion region.
-fn posted_to(
-    alloc: Global,
-    log: &[Event],
-    region: u8,
-) -> std::result::Result<Vec<Cqe>, AllocError> {
+fn posted_to(alloc: Global, log: &[Event], region: u8) -> Result<Vec<Cqe>, AllocError> {
     let mut cqes = Vec::new(alloc);
     for event in log {
         if let Event::Post { cq_region, cqe, .. } = event {
@@ -174,7 +146,7 @@ fn add_hosts(
     log: &[Event],
     sent: &mut Vec<Sent>,
     collected: &mut Vec<Vec<Cqe>>,
-) -> std::result::Result<(), AllocError> {
+) -> Result<(), AllocError> {
     for region in 0..2 {
         let script = vec![in alloc; Sqe::default(); 3]?;
         sent.push(Sent { script, count: 3 })?;
@@ -184,7 +156,7 @@ fn add_hosts(
 }
 
 // What is left when they are settled.
-fn deletion(alloc: Global) -> std::result::Result<Settled, AllocError>
+fn deletion(alloc: Global) -> Result<Settled, AllocError>
     ensures { IfOk result (λ settled. (r i : ℕ) → posts_of (reverse settled.log.items) r i ≤ 1) }
 {
     let log = log_of_deletion(alloc)?;
@@ -201,36 +173,17 @@ fn deletion(alloc: Global) -> std::result::Result<Settled, AllocError>
     })
 }
 
-// The report of a run in which queue 1 is deleted with two commands waiting.
-const DELETION: &str = "loaded
-pick q0 1
-pick q0 1
-pick q1 1
-pick q0 1
-sq 0 script 3 submitted 3 fetched 3 picked 3 aborted 0
-sq 1 script 3 submitted 3 fetched 3 picked 1 aborted 2
-cq 0 collected 3
-cq 1 collected 3
-cmd 0.0 0/00 00000000
-cmd 0.1 0/00 00000000
-cmd 0.2 0/00 00000000
-cmd 1.0 0/00 00000000
-cmd 1.1 0/08 00000000
-cmd 1.2 0/08 00000000
-end
-";
-
 #[test]
-fn report_of_a_deletion(rt: HostRuntime) -> std::result::Result<(), Fail> {
+fn report_of_a_deletion(rt: HostRuntime) -> Result<(), Fail> {
     let settled = deletion(rt.alloc())?;
     let mut output = Vec::new(rt.alloc());
     assert_eq!(rt; report(&settled, Mode::Loaded, &mut output), Ok(()));
-    assert_eq!(rt; output.as_slice(), DELETION.as_bytes());
+    assert_eq!(rt; output.as_slice(), DELETE_THREE_REPORT.as_bytes());
     Ok(())
 }
 
 #[test]
-fn report_of_nothing(rt: HostRuntime) -> std::result::Result<(), Fail> {
+fn report_of_nothing(rt: HostRuntime) -> Result<(), Fail> {
     let alloc = rt.alloc();
     let settled = Settled {
         log: Vec::new(alloc),
@@ -251,7 +204,7 @@ fn report_of_nothing(rt: HostRuntime) -> std::result::Result<(), Fail> {
 }
 
 #[test]
-fn report_that_fails(rt: HostRuntime) -> std::result::Result<(), Fail> {
+fn report_that_fails(rt: HostRuntime) -> Result<(), Fail> {
     let settled = deletion(rt.alloc())?;
     for (room, fails) in [(10, true), (0, false), (200, false)] {
         let mut output = Takes {
@@ -263,7 +216,10 @@ fn report_that_fails(rt: HostRuntime) -> std::result::Result<(), Fail> {
             report(&settled, Mode::Loaded, &mut output),
             Err(WriteFault)
         );
-        assert_eq!(rt; output.taken.as_slice(), &DELETION.as_bytes()[..room]);
+        assert_eq!(rt;
+            output.taken.as_slice(),
+            &DELETE_THREE_REPORT.as_bytes()[..room]
+        );
     }
     Ok(())
 }

@@ -3,154 +3,10 @@ mod faults;
 
 use nvme_arbiter::{Mechanism, Settings};
 use nvme_entry::{Namespaces, Sqe};
+use nvme_texts::{CREATED_ANEW, DELETE_THREE, EMPTY, FIVE_QUEUES, THOUSAND};
 use nvme_workload::{CqPlan, SqPlan, Workload, read};
 use std::process::Abort;
 use std::test::Fail;
-
-// Four I/O queues beside the admin queue, under the weighted mechanism.
-const FIVE_QUEUES_WEIGHTED: &str = "mechanism = \"weighted\"
-arbitration = 0x03010001
-sq_limit = 16
-cq_limit = 16
-patience = 100000000
-namespaces = [1000]
-[[submission]]
-address = 0x1000
-slots = 16
-script = [
-  { op = 5, prp1 = 0x9000, cdw10 = 0x003f0001, cdw11 = 1 },
-  { op = 1, prp1 = 0x2000, cdw10 = 0x00070001, cdw11 = 0x00010003 },
-  { op = 1, prp1 = 0x3000, cdw10 = 0x00070002, cdw11 = 0x00010003 },
-  { op = 1, prp1 = 0x4000, cdw10 = 0x00070003, cdw11 = 0x00010005 },
-  { op = 1, prp1 = 0x5000, cdw10 = 0x00070004, cdw11 = 0x00010007 },
-]
-[[submission]]
-address = 0x2000
-slots = 8
-script = [{ op = 2, nsid = 1, cdw12 = 7, count = 5 }]
-[[submission]]
-address = 0x3000
-slots = 8
-script = [{ op = 1, nsid = 1, count = 5 }]
-[[submission]]
-address = 0x4000
-slots = 8
-script = [{ op = 0, nsid = 0xffffffff, count = 5 }]
-[[submission]]
-address = 0x5000
-slots = 8
-script = [
-  { op = 2, nsid = 1, cdw10 = 992, cdw12 = 7, count = 4 },
-  { op = 2, nsid = 1, cdw10 = 993, cdw12 = 7 },
-]
-[[completion]]
-address = 0x8000
-slots = 16
-[[completion]]
-address = 0x9000
-slots = 64
-";
-
-/// The admin regions alone, with nothing to submit.
-pub const EMPTY_WORKLOAD: &str = "mechanism = \"round-robin\"
-arbitration = 0
-sq_limit = 16
-cq_limit = 16
-patience = 100000000
-namespaces = [1000]
-[[submission]]
-address = 0x1000
-slots = 16
-script = []
-[[completion]]
-address = 0x8000
-slots = 16
-";
-
-// A queue that is deleted while three of its commands wait.
-const DELETE_WITH_THREE_WAITING: &str = "mechanism = \"round-robin\"
-arbitration = 0
-sq_limit = 16
-cq_limit = 16
-patience = 100000000
-namespaces = [1000]
-[[submission]]
-address = 0x1000
-slots = 16
-script = [
-  { op = 5, prp1 = 0x9000, cdw10 = 0x003f0001, cdw11 = 1 },
-  { op = 1, prp1 = 0x2000, cdw10 = 0x00070001, cdw11 = 0x00010001 },
-  { op = 0, cdw10 = 1 },
-]
-[[submission]]
-address = 0x2000
-slots = 8
-script = [{ op = 2, nsid = 1, count = 3 }]
-[[completion]]
-address = 0x8000
-slots = 16
-[[completion]]
-address = 0x9000
-slots = 64
-";
-
-// A thousand commands of a queue whose rings have two slots each.
-const THOUSAND_THROUGH_TWO_SLOTS: &str = "mechanism = \"round-robin\"
-arbitration = 0
-sq_limit = 16
-cq_limit = 16
-patience = 100000000
-namespaces = [1000]
-[[submission]]
-address = 0x1000
-slots = 16
-script = [
-  { op = 5, prp1 = 0x9000, cdw10 = 0x00010001, cdw11 = 1 },
-  { op = 1, prp1 = 0x2000, cdw10 = 0x00010001, cdw11 = 0x00010001 },
-]
-[[submission]]
-address = 0x2000
-slots = 2
-script = [{ op = 2, nsid = 1, count = 1000 }]
-[[completion]]
-address = 0x8000
-slots = 16
-[[completion]]
-address = 0x9000
-slots = 2
-";
-
-// A submission queue that is deleted, and created again at another region.
-const QUEUE_CREATED_ANEW: &str = "mechanism = \"round-robin\"
-arbitration = 0
-sq_limit = 16
-cq_limit = 16
-patience = 100000000
-namespaces = [1000]
-[[submission]]
-address = 0x1000
-slots = 16
-script = [
-  { op = 5, prp1 = 0x9000, cdw10 = 0x003f0001, cdw11 = 1 },
-  { op = 1, prp1 = 0x2000, cdw10 = 0x00070001, cdw11 = 0x00010001 },
-  { op = 0, cdw10 = 1 },
-  { op = 1, prp1 = 0x3000, cdw10 = 0x00070001, cdw11 = 0x00010001 },
-]
-[[submission]]
-address = 0x2000
-slots = 8
-script = [{ op = 2, nsid = 1, count = 3 }]
-[[submission]]
-address = 0x3000
-slots = 8
-script = [{ op = 2, nsid = 1, count = 2 }]
-[[completion]]
-address = 0x8000
-slots = 16
-[[completion]]
-address = 0x9000
-slots = 64
-";
 
 /// The empty workload with one command, all its keys written.
 pub const ONE_COMMAND: &str = "mechanism = \"round-robin\"
@@ -239,7 +95,7 @@ const fn completion(address: u64, slots: u16) -> CqPlan {
 
 #[test]
 fn five_queues_weighted(rt: HostRuntime) -> Result<(), Fail> {
-    let workload = read(rt.alloc(), FIVE_QUEUES_WEIGHTED.as_bytes())?;
+    let workload = read(rt.alloc(), FIVE_QUEUES.as_bytes())?;
     expect_head(&rt, &workload, Mechanism::Weighted, 0x0301_0001);
     let regions = workload.submissions.as_slice();
     assert_eq!(rt; regions.len(), 5);
@@ -272,7 +128,7 @@ fn five_queues_weighted(rt: HostRuntime) -> Result<(), Fail> {
 
 #[test]
 fn empty_workload(rt: HostRuntime) -> Result<(), Fail> {
-    let workload = read(rt.alloc(), EMPTY_WORKLOAD.as_bytes())?;
+    let workload = read(rt.alloc(), EMPTY.as_bytes())?;
     expect_head(&rt, &workload, Mechanism::RoundRobin, 0);
     let regions = workload.submissions.as_slice();
     assert_eq!(rt; regions.len(), 1);
@@ -285,7 +141,7 @@ fn empty_workload(rt: HostRuntime) -> Result<(), Fail> {
 
 #[test]
 fn delete_with_three_waiting(rt: HostRuntime) -> Result<(), Fail> {
-    let workload = read(rt.alloc(), DELETE_WITH_THREE_WAITING.as_bytes())?;
+    let workload = read(rt.alloc(), DELETE_THREE.as_bytes())?;
     expect_head(&rt, &workload, Mechanism::RoundRobin, 0);
     let regions = workload.submissions.as_slice();
     assert_eq!(rt; regions.len(), 2);
@@ -306,7 +162,7 @@ fn delete_with_three_waiting(rt: HostRuntime) -> Result<(), Fail> {
 
 #[test]
 fn thousand_through_two_slots(rt: HostRuntime) -> Result<(), Fail> {
-    let workload = read(rt.alloc(), THOUSAND_THROUGH_TWO_SLOTS.as_bytes())?;
+    let workload = read(rt.alloc(), THOUSAND.as_bytes())?;
     expect_head(&rt, &workload, Mechanism::RoundRobin, 0);
     let regions = workload.submissions.as_slice();
     assert_eq!(rt; regions.len(), 2);
@@ -326,7 +182,7 @@ fn thousand_through_two_slots(rt: HostRuntime) -> Result<(), Fail> {
 
 #[test]
 fn queue_created_anew(rt: HostRuntime) -> Result<(), Fail> {
-    let workload = read(rt.alloc(), QUEUE_CREATED_ANEW.as_bytes())?;
+    let workload = read(rt.alloc(), CREATED_ANEW.as_bytes())?;
     expect_head(&rt, &workload, Mechanism::RoundRobin, 0);
     let regions = workload.submissions.as_slice();
     assert_eq!(rt; regions.len(), 3);

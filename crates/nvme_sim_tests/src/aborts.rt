@@ -1,36 +1,27 @@
 // Random admin lists with Aborts among Creates and Deletes, against a plain second reading of the rules.
 use crate::again::report_again;
 use nvme_sim::Mode;
+use nvme_texts::workload_text;
 use std::alloc::{AllocError, Global};
 use std::process::Abort;
 use std::sync::Wait;
 use std::test::*;
 use std::thread::Threads;
 
-// What is before the scripts. Round robin, one command a pick.
-const HEAD: &str = "mechanism = \"round-robin\"
-arbitration = 0
-sq_limit = 16
-cq_limit = 16
-patience = 100000000
-namespaces = [1000]
-[[submission]]
-address = 0x1000
-slots = 16
-script = [
+// Three queues beside the admin queue, whose script has a place for commands. Round robin, one command a pick.
+const THREE_QUEUES: &str = workload_text!(
+    "round-robin", "0";
+    submission "0x1000", "16", "[
   { op = 5, prp1 = 0x9000, cdw10 = 0x003f0001, cdw11 = 1 },
-";
+COMMANDS]";
+    submission "0x2000", "8", "[{ op = 2, nsid = 1, count = 7 }]";
+    submission "0x3000", "8", "[{ op = 2, nsid = 1, count = 7 }]";
+    submission "0x4000", "8", "[{ op = 2, nsid = 1, count = 7 }]";
+    completion "0x8000", "16";
+    completion "0x9000", "64";
+);
 
-// What is behind them.
-const TAIL: &str = "[[completion]]
-address = 0x8000
-slots = 16
-[[completion]]
-address = 0x9000
-slots = 64
-";
-
-// The commands of a script. A ring of eight slots takes them all.
+// The commands of a queue. A ring of eight slots takes them all.
 const READS: usize = 7;
 
 // The next number of a linear congruential generator, below a bound, by its upper bits.
@@ -302,19 +293,11 @@ fn report_of(alloc: Global, commands: &[Command]) -> Result<String, AllocError> 
 
 // The workload of some commands.
 fn workload_of(alloc: Global, commands: &[Command]) -> Result<String, AllocError> {
-    let mut text = String::from_str(alloc, HEAD)?;
+    let mut items = String::new(alloc);
     for command in commands {
-        text.push_str(command.item(alloc)?.as_str())?;
+        items.push_str(command.item(alloc)?.as_str())?;
     }
-    text.push_str("]\n")?;
-    for address in [0x2000, 0x3000, 0x4000] {
-        let region = format!(in alloc;
-            "[[submission]]\naddress = {address}\nslots = 8\nscript = [{{ op = 2, nsid = 1, count = {READS} }}]\n"
-        )?;
-        text.push_str(region.as_str())?;
-    }
-    text.push_str(TAIL)?;
-    Ok(text)
+    THREE_QUEUES.replace(alloc, "COMMANDS", items.as_str())
 }
 
 // A workload with the report of its loaded run, once.

@@ -1,5 +1,6 @@
-// Readers and writers that fail, and a reader without an end.
-use std::io::{Error, ErrorKind, Read, Result, Write};
+// Readers that fail, a reader without an end, and a writer that fails.
+pub use nvme_texts::Takes;
+use std::io::{Error, ErrorKind, Read, Result};
 
 /// A reader whose read of a number, from 0, fails, and that gives up to ten bytes of text at each other.
 #[derive(Clone, Copy)]
@@ -40,29 +41,5 @@ impl Read for Endless {
     fn read(&mut self, buf: &mut [u8]) -> Result<usize> {
         buf.fill(b'0');
         Ok(buf.len())
-    }
-}
-
-/// A writer that takes so many bytes and then fails, or answers 0.
-#[derive(Drop)]
-pub struct Takes {
-    pub taken: Vec<u8>,
-    pub room: usize,
-    pub fails: bool,
-}
-
-impl Write for Takes {
-    fn write(&mut self, buf: &[u8]) -> Result<usize> {
-        let count = buf.len().min(self.room);
-        if count == 0 && self.fails {
-            return Err(Error::from(ErrorKind::Other));
-        }
-        self.taken.extend_from_slice(&buf[..count])?;
-        self.room -= count;
-        Ok(count)
-    }
-
-    fn flush(&mut self) -> Result<()> {
-        Ok(())
     }
 }

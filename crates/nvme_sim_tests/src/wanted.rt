@@ -1,4 +1,5 @@
-// The reports that are wanted of the stored workloads.
+// The reports that are wanted of the worked workloads.
+pub use nvme_texts::DELETE_THREE_REPORT;
 use std::alloc::{AllocError, Global};
 
 /// Of five queues under weighted round robin.
@@ -61,25 +62,6 @@ end
 pub const EMPTY_REPORT: &str = "loaded
 sq 0 script 0 submitted 0 fetched 0 picked 0 aborted 0
 cq 0 collected 0
-end
-";
-
-/// Of the deletion of a queue: one of its commands was picked before.
-pub const DELETE_THREE_REPORT: &str = "loaded
-pick q0 1
-pick q0 1
-pick q1 1
-pick q0 1
-sq 0 script 3 submitted 3 fetched 3 picked 3 aborted 0
-sq 1 script 3 submitted 3 fetched 3 picked 1 aborted 2
-cq 0 collected 3
-cq 1 collected 3
-cmd 0.0 0/00 00000000
-cmd 0.1 0/00 00000000
-cmd 0.2 0/00 00000000
-cmd 1.0 0/00 00000000
-cmd 1.1 0/08 00000000
-cmd 1.2 0/08 00000000
 end
 ";
 

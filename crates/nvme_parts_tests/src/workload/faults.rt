@@ -1,6 +1,7 @@
 // The faults of files: of two, the first in order is answered.
-use super::{EMPTY_WORKLOAD, ONE_COMMAND, expect_equal};
+use super::{ONE_COMMAND, expect_equal};
 use nvme_entry::Sqe;
+use nvme_texts::EMPTY;
 use nvme_workload::{Key, WorkloadError, read};
 use std::alloc::{AllocError, Global};
 use std::process::Abort;
@@ -76,7 +77,7 @@ fn workload_faults(rt: HostRuntime) -> Result<(), Fail> {
     ];
     for (change, fault) in cases {
         assert_eq!(rt;
-            fault_of(alloc, EMPTY_WORKLOAD, change, NO_CHANGE)?,
+            fault_of(alloc, EMPTY, change, NO_CHANGE)?,
             Some(fault),
             "{fault}"
         );
@@ -88,7 +89,7 @@ fn workload_faults(rt: HostRuntime) -> Result<(), Fail> {
 #[test]
 fn limits(rt: HostRuntime) -> Result<(), Fail> {
     let alloc = rt.alloc();
-    let mut text = String::from_str(alloc, EMPTY_WORKLOAD)?;
+    let mut text = String::from_str(alloc, EMPTY)?;
     for index in 1..65u32 {
         write!(text, "[[completion]]\naddress = {index}\nslots = 16\n")?;
     }
@@ -105,7 +106,7 @@ fn limits(rt: HostRuntime) -> Result<(), Fail> {
         Some(WorkloadError::Limit)
     );
 
-    let all = EMPTY_WORKLOAD.replace(alloc, "script = []", "script = [{ op = 0, count = 65536 }]")?;
+    let all = EMPTY.replace(alloc, "script = []", "script = [{ op = 0, count = 65536 }]")?;
     let workload = read(alloc, all.as_str().as_bytes())?;
     let regions = workload.submissions.as_slice();
     assert_eq!(rt; regions.len(), 1);
@@ -133,7 +134,7 @@ fn forms_that_read_alike(rt: HostRuntime) -> Result<(), Fail> {
     ];
     for change in read_alike {
         assert_eq!(rt;
-            fault_of(alloc, EMPTY_WORKLOAD, change, NO_CHANGE)?,
+            fault_of(alloc, EMPTY, change, NO_CHANGE)?,
             None,
             "{}",
             change.1
@@ -167,11 +168,11 @@ fn repeated_keys_and_wide_numbers(rt: HostRuntime) -> Result<(), Fail> {
             WorkloadError::NotToml,
         ),
     ];
-    expect_faults(&rt, rt.alloc(), EMPTY_WORKLOAD, &faults)?;
+    expect_faults(&rt, rt.alloc(), EMPTY, &faults)?;
     Ok(())
 }
 
-// Values of other types, and numbers outside their ranges.
+// Values of other types in place of a number, and numbers outside its range.
 #[test]
 fn values_of_other_types(rt: HostRuntime) -> Result<(), Fail> {
     let faults = [
@@ -205,6 +206,15 @@ fn values_of_other_types(rt: HostRuntime) -> Result<(), Fail> {
             NO_CHANGE,
             WorkloadError::Bad(Key::Patience),
         ),
+    ];
+    expect_faults(&rt, rt.alloc(), EMPTY, &faults)?;
+    Ok(())
+}
+
+// Settings of other types, and a namespace of no blocks.
+#[test]
+fn settings_of_other_types(rt: HostRuntime) -> Result<(), Fail> {
+    let faults = [
         (
             ("arbitration = 0", "arbitration.burst = 0"),
             NO_CHANGE,
@@ -225,6 +235,15 @@ fn values_of_other_types(rt: HostRuntime) -> Result<(), Fail> {
             NO_CHANGE,
             WorkloadError::Bad(Key::Namespaces),
         ),
+    ];
+    expect_faults(&rt, rt.alloc(), EMPTY, &faults)?;
+    Ok(())
+}
+
+// Lists of other types, and of other items.
+#[test]
+fn lists_of_other_types(rt: HostRuntime) -> Result<(), Fail> {
+    let faults = [
         (
             ("[[submission]]", "[submission]"),
             NO_CHANGE,
@@ -241,7 +260,7 @@ fn values_of_other_types(rt: HostRuntime) -> Result<(), Fail> {
             WorkloadError::Bad(Key::Script),
         ),
     ];
-    expect_faults(&rt, rt.alloc(), EMPTY_WORKLOAD, &faults)?;
+    expect_faults(&rt, rt.alloc(), EMPTY, &faults)?;
     Ok(())
 }
 
@@ -296,7 +315,7 @@ fn two_faults_of_settings(rt: HostRuntime) -> Result<(), Fail> {
             WorkloadError::Bad(Key::Patience),
         ),
     ];
-    expect_faults(&rt, rt.alloc(), EMPTY_WORKLOAD, &cases)?;
+    expect_faults(&rt, rt.alloc(), EMPTY, &cases)?;
     Ok(())
 }
 
@@ -359,7 +378,7 @@ fn two_faults_of_lists(rt: HostRuntime) -> Result<(), Fail> {
             WorkloadError::Missing(Key::Completion),
         ),
     ];
-    expect_faults(&rt, rt.alloc(), EMPTY_WORKLOAD, &cases)?;
+    expect_faults(&rt, rt.alloc(), EMPTY, &cases)?;
     Ok(())
 }
 
@@ -398,7 +417,7 @@ fn two_faults_of_an_address(rt: HostRuntime) -> Result<(), Fail> {
             WorkloadError::Missing(Key::Script),
         ),
     ];
-    expect_faults(&rt, rt.alloc(), EMPTY_WORKLOAD, &cases)?;
+    expect_faults(&rt, rt.alloc(), EMPTY, &cases)?;
     Ok(())
 }
 
@@ -445,7 +464,7 @@ fn two_faults_of_slots(rt: HostRuntime) -> Result<(), Fail> {
             WorkloadError::Repeated,
         ),
     ];
-    expect_faults(&rt, rt.alloc(), EMPTY_WORKLOAD, &cases)?;
+    expect_faults(&rt, rt.alloc(), EMPTY, &cases)?;
     Ok(())
 }
 

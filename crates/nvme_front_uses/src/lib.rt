@@ -1,0 +1,6 @@
+//! A use of a front, as a caller writes it: a device that one thread serves.
+#![tactic(auto)]
+
+pub mod device;
+#[cfg(test)]
+mod tests;

@@ -1,0 +1,53 @@
+// The device, played.
+use crate::device::Device;
+use nvme_admin::Limits;
+use nvme_arbiter::{Mechanism, Settings};
+use nvme_entry::{Namespaces, Sqe};
+use nvme_front::FrontConfig;
+use std::test::*;
+
+// An admin command.
+fn command(cid: u16, opcode: u8, cdw10: u32, cdw11: u32) -> Sqe {
+    Sqe {
+        opcode,
+        cid,
+        cdw10,
+        cdw11,
+        ..Sqe::default()
+    }
+}
+
+// Set Features asks for 8 submission and 2 completion queues, and gets 4 and 2; Dword 0 has each less 1. Identify is
+// answered with Invalid Command Opcode. Get Features tells the numbers again.
+const COMPLETIONS: [[u8; 16]; 3] = [
+    [3, 0, 1, 0, 0, 0, 0, 0, 1, 0, 0, 0, 0, 0, 1, 0],
+    [0, 0, 0, 0, 0, 0, 0, 0, 2, 0, 0, 0, 1, 0, 3, 0],
+    [3, 0, 1, 0, 0, 0, 0, 0, 3, 0, 0, 0, 2, 0, 1, 0],
+];
+
+#[test]
+fn numbers_of_queues(rt: HostRuntime) -> Result<(), Fail> {
+    let config = FrontConfig {
+        mechanism: Mechanism::RoundRobin,
+        settings: Settings::from_cdw11(0),
+        limits: Limits { nsq: 4, ncq: 4 },
+        spaces: Namespaces::new(&[1000])?,
+        max_events: 1000,
+    };
+    let script = [
+        command(0, 0x09, 7, 0x0001_0007),
+        command(1, 0x06, 1, 0),
+        command(2, 0x0a, 7, 0),
+    ];
+    let script = Vec::from_slice(rt.alloc(), &script)?;
+    let mut device = Device::new(rt.alloc(), config, script)?;
+    assert!(rt; !device.serve(&rt, 2)?);
+    assert!(rt; device.serve(&rt, 100)?);
+    let settled = device.settle(&rt, rt.alloc())?;
+    assert_eq!(rt; settled.collected.len(), 1);
+    assert_eq!(rt; settled.collected[0].len(), 3);
+    for (done, want) in settled.collected[0].iter().zip(COMPLETIONS.iter()) {
+        assert_eq!(rt; done.to_bytes(), *want);
+    }
+    Ok(())
+}
