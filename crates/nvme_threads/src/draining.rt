@@ -2,7 +2,7 @@
 ghost use Rattle.nvme_threads.specs.Hosts.{IsSameDrainer};
 
 use crate::flags::Flags;
-use crate::pausing::Pause;
+use crate::pausing::HostPause;
 use crate::tasks::{Shared, Task};
 use nvme_entry::Cqe;
 use nvme_lane::Drainer;
@@ -24,10 +24,10 @@ fn drain<R: Wait>(rt: &R, drainer: Drainer<Cqe>, flags: &Flags) -> Drainer<Cqe>
     ensures { IsSameDrainer drainer result }
 {
     let mut drainer = drainer;
-    let mut pause = Pause::new();
+    let mut pause = HostPause::new();
     for _ in rt.forever() {
         match drainer.take() {
-            Ok(true) => pause.reset(),
+            Ok(true) => pause.moved_one(),
             Ok(false) => {
                 if flags.is_over() {
                     break;

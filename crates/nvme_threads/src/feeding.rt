@@ -2,7 +2,7 @@
 ghost use Rattle.nvme_threads.specs.Hosts.{IsSameFeeder};
 
 use crate::flags::Flags;
-use crate::pausing::Pause;
+use crate::pausing::HostPause;
 use crate::tasks::{Shared, Task};
 use nvme_entry::Sqe;
 use nvme_lane::{Feed, Feeder};
@@ -24,11 +24,11 @@ pub fn feed<R: Wait>(rt: &R, feeder: Feeder<Sqe>, region: usize, flags: &Flags) 
     ensures { IsSameFeeder feeder result }
 {
     let mut feeder = feeder;
-    let mut pause = Pause::new();
+    let mut pause = HostPause::new();
     for _ in rt.forever() {
         match feeder.step() {
             Feed::Done => break,
-            Feed::Put => pause.reset(),
+            Feed::Put => pause.moved_one(),
             Feed::Full => {
                 if flags.is_unfed(region) {
                     break;
