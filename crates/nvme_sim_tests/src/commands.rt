@@ -1,5 +1,5 @@
-// The program by its words and streams: what fails, and a bad command line.
-use crate::again::{Left, page, program_again, told_again, words_again};
+// The program by its streams: what fails.
+use crate::again::{Left, page, told_again, words_again};
 use crate::entries::{ONCE, read_of};
 use crate::fakes::{Endless, FailsAt, Takes};
 use nvme_sim::command;
@@ -87,32 +87,5 @@ fn input_that_fails(rt: HostRuntime) -> Result<(), Fail> {
         status = deaf_status(&rt, alloc, words.as_slice(), &mut output);
     }
     assert_eq!(rt; (output.len(), status), (0, 1));
-    Ok(())
-}
-
-#[test]
-fn bad_command_line(rt: HostRuntime) -> Result<(), Fail> {
-    let alloc = rt.alloc();
-    let lines: [&[&str]; 7] = [
-        &["nvmearb"],
-        &["nvmearb", "loaded"],
-        &["nvmearb", "once"],
-        &["nvmearb", "once", "--blocks", "0"],
-        &["nvmearb", "once", "--blocks", "9223372036854775808"],
-        &["nvmearb", "once", "--blocks", "-1"],
-        &["nvmearb", "once", "--blocks", "1", "more"],
-    ];
-    for line in lines {
-        let left = program_again(&rt, alloc, line, b"")?;
-        assert_eq!(rt; left.status, 2);
-        assert_eq!(rt; left.output.len(), 0);
-        assert!(rt; left.errors.len() > 0);
-    }
-    let most = ["nvmearb", "once", "--blocks", "9223372036854775807"];
-    let most = program_again(&rt, alloc, &most, b"")?;
-    assert_eq!(rt; most.status, 1);
-    let help = program_again(&rt, alloc, &["nvmearb", "--help"], b"")?;
-    assert_eq!(rt; (help.status, help.errors.len()), (0, 0));
-    assert!(rt; help.output.len() > 0);
     Ok(())
 }

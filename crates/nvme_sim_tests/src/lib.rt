@@ -2,8 +2,6 @@
 #![tactic(auto)]
 
 #[cfg(test)]
-mod aborts;
-#[cfg(test)]
 mod again;
 #[cfg(test)]
 mod commands;
@@ -18,17 +16,13 @@ mod gates;
 #[cfg(test)]
 mod input;
 #[cfg(test)]
-mod people;
-#[cfg(test)]
-mod program;
+mod named;
 #[cfg(test)]
 mod starved;
 #[cfg(test)]
 mod streams;
 #[cfg(test)]
 mod tallies;
-#[cfg(test)]
-mod traces;
 #[cfg(test)]
 mod wanted;
 #[cfg(test)]

@@ -1,6 +1,6 @@
 // Writers and readers that fail, and refusals of a run in their order.
 use crate::again::{page, run_again, taken, told_again};
-use crate::fakes::{Endless, Fails, Takes};
+use crate::fakes::{Endless, Fails, FailsAt, Takes};
 use crate::workloads::{EMPTY, THOUSAND};
 use nvme_front::FrontError;
 use nvme_sim::{InputError, Mode, RunError};
@@ -115,6 +115,47 @@ fn words_of_refusals(rt: HostRuntime) -> Result<(), Fail> {
     ];
     for (error, words) in all {
         assert_eq!(rt; words_of(rt.alloc(), error)?.as_str(), words);
+    }
+    Ok(())
+}
+
+// The words that read a trace.
+const READERS: [&[&str]; 4] = [
+    &["nvmearb", "check"],
+    &["nvmearb", "chart", "-"],
+    &["nvmearb", "stats"],
+    &["nvmearb", "stats", "-", "--format", "json"],
+];
+
+// Weighted, burst 2, High 4, Medium 2, Low 1; then burst 4, High 3, Medium 1, Low 2.
+const CHANGED: &str = "{\"version\":1,\"mechanism\":\"weighted\",\"cdw11\":50397185}
+{\"pick\":0,\"n\":1,\"fresh\":false,\"seen\":[[0,\"admin\",1],[1,\"high\",5],[4,\"low\",5]]}
+{\"pick\":1,\"n\":2,\"fresh\":false,\"seen\":[[0,\"admin\",0],[1,\"high\",5],[4,\"low\",5]]}
+{\"set\":33554690}
+{\"pick\":1,\"n\":3,\"fresh\":false,\"seen\":[[0,\"admin\",0],[1,\"high\",3],[4,\"low\",5]]}
+";
+
+#[test]
+fn streams_of_a_trace_fail(rt: HostRuntime) -> Result<(), Fail> {
+    let alloc = rt.alloc();
+    for words in READERS {
+        let reader = FailsAt {
+            text: CHANGED.as_bytes(),
+            reads: 0,
+            fails_at: 12,
+        };
+        let mut output = page(alloc)?;
+        let (status, errors) = told_again(&rt, alloc, words, reader, &mut output)?;
+        assert_eq!(rt; errors.as_slice(), b"nvmearb: read failed\n".as_slice());
+        assert_eq!(rt; (output.len(), status), (0, 3));
+        let mut output = Takes {
+            taken: page(alloc)?,
+            room: 3,
+            fails: true,
+        };
+        let (status, errors) = told_again(&rt, alloc, words, CHANGED.as_bytes(), &mut output)?;
+        assert_eq!(rt; errors.as_slice(), b"nvmearb: write failed\n".as_slice());
+        assert_eq!(rt; (output.taken.len(), status), (3, 3));
     }
     Ok(())
 }
