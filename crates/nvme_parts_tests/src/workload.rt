@@ -1,15 +1,13 @@
-// Worked workloads, field by field.
-mod faults;
-
+// Worked workloads, field by field, and the texts of faults.
 use nvme_arbiter::{Mechanism, Settings};
 use nvme_entry::{Namespaces, Sqe};
 use nvme_texts::{CREATED_ANEW, DELETE_THREE, EMPTY, FIVE_QUEUES, THOUSAND};
-use nvme_workload::{CqPlan, SqPlan, Workload, read};
+use nvme_workload::{CqPlan, Key, SqPlan, Workload, WorkloadError, read};
 use std::process::Abort;
 use std::test::Fail;
 
-/// The empty workload with one command, all its keys written.
-pub const ONE_COMMAND: &str = "mechanism = \"round-robin\"
+// The empty workload with one command, all its keys written.
+const ONE_COMMAND: &str = "mechanism = \"round-robin\"
 arbitration = 0
 sq_limit = 16
 cq_limit = 16
@@ -65,8 +63,8 @@ fn expect_submission(rt: &impl Abort, region: &SqPlan, address: u64, slots: u16,
     assert_eq!(rt; region.script.as_slice(), script);
 }
 
-/// A region of n equal commands.
-pub fn expect_equal(
+// A region of n equal commands.
+fn expect_equal(
     rt: &impl Abort,
     region: &SqPlan,
     address: u64,
@@ -221,5 +219,28 @@ fn every_field_of_a_command(rt: HostRuntime) -> Result<(), Fail> {
         ..Sqe::default()
     };
     expect_submission(&rt, &regions[0], 0x1000, 16, &[command]);
+    Ok(())
+}
+
+// Each key by its text, and the line of each fault.
+#[test]
+fn texts(rt: HostRuntime) -> Result<(), Fail> {
+    let alloc = rt.alloc();
+    assert_eq!(rt; Key::SqLimit.name(), "sq_limit");
+    let lines = [
+        (WorkloadError::NotUtf8, "W1 not UTF-8"),
+        (WorkloadError::NotToml, "W2 not TOML"),
+        (
+            WorkloadError::Missing(Key::Mechanism),
+            "W3 missing mechanism",
+        ),
+        (WorkloadError::Bad(Key::CqLimit), "W4 bad cq_limit"),
+        (WorkloadError::Unknown, "W5 unknown key"),
+        (WorkloadError::Limit, "W6 over a limit"),
+        (WorkloadError::Repeated, "W7 repeated address"),
+    ];
+    for (fault, line) in lines {
+        assert_eq!(rt; fault.to_string(alloc)?.as_str(), line);
+    }
     Ok(())
 }
