@@ -3,6 +3,7 @@
 
 mod commands;
 mod faults;
+mod output;
 mod words;
 
 pub use commands::command;
@@ -11,4 +12,5 @@ pub use nvme_runs::{
     InputError, MAX_INPUT, MAX_READS, OnceError, Ran, RunError, once, run, run_with, settled_run,
     take_input,
 };
+pub use output::flushed;
 pub use words::file_named;

@@ -1,11 +1,9 @@
 //! The program `nvmearb`: `command` over its words and the three standard streams.
 #![tactic(auto)]
 
-ghost use Rattle.std.specs.Prelude.{◌≡◌, ◌≤◌, ◌⊎◌, ◌↔◌, [], IsTrue};
-ghost use Rattle.std.specs.Io.KnownBytes.{Keeps};
-ghost use Rattle.std.specs.Io.Buffered.{writer_buffer, writer_contents};
+ghost use Rattle.std.specs.Prelude.{◌≡◌, ◌≤◌};
 
-use nvme_sim::{command, file_named};
+use nvme_sim::{command, file_named, flushed};
 use std::io::{BufWriter, ErrorKind, Write};
 use std::process::ExitCode;
 use std::rt::Files;
@@ -13,35 +11,9 @@ use std::sync::Wait;
 use std::thread::Threads;
 use std::{env, fs, io};
 
-// The status of an input at fault, or of a trace with a pick that is not the lawful one.
-const AT_FAULT: u8 = 1;
-
-// The status of a lawful workload with warnings.
-const WARNED: u8 = 4;
-
 // The words of the command line, the program's name first.
 fn words_of(rt: &HostRuntime) -> io::Result<Vec<String>> {
     Ok(env::args(rt)?.collect(rt.alloc())?)
-}
-
-// Whether a program that ends with this status may have an answer: it is done, or tells of its input.
-fn has_answer(status: u8) -> bool
-    ensures { IsTrue result ↔ ((status ≡ 0) ⊎ (status ≡ AT_FAULT) ⊎ (status ≡ WARNED)) }
-{
-    status == 0 || status == AT_FAULT || status == WARNED
-}
-
-// Writes what is left in the buffer of a program that may have an answer, and gives the status: 3 where that fails.
-fn flushed<W: Write + Drop, E: Write>(status: u8, output: &mut BufWriter<W>, errors: &mut E) -> u8
-    ensures status { (result ≡ status) ⊎ (((status ≡ 0) ⊎ (status ≡ AT_FAULT) ⊎ (status ≡ WARNED)) × (result ≡ 3)) }
-    ensures written { (result ≡ 0) ⊎ (result ≡ AT_FAULT) ⊎ (result ≡ WARNED) → writer_buffer output.new ≡ [] }
-    ensures bytes { Keeps (writer_contents W.contents output.old) (writer_contents W.contents output.new) }
-{
-    if has_answer(status) && output.flush().is_err() {
-        let _ = writeln!(errors, "nvmearb: write failed");
-        return 3;
-    }
-    status
 }
 
 // Tells that a file can't be opened, and gives the status.

@@ -1,0 +1,38 @@
+// The end of the program's output.
+ghost use Rattle.std.specs.Prelude.{◌≡◌, ◌⊎◌, ◌↔◌, [], IsTrue};
+ghost use Rattle.std.specs.Io.KnownBytes.{Keeps};
+ghost use Rattle.std.specs.Io.Buffered.{writer_buffer, writer_contents};
+
+use std::io::{BufWriter, Write};
+
+// The status of an input at fault, or of a trace with a pick that is not the lawful one.
+const AT_FAULT: u8 = 1;
+
+// The status of a lawful workload with warnings.
+const WARNED: u8 = 4;
+
+// Whether a program that ends with this status may have an answer: it is done, or tells of its input.
+fn has_answer(status: u8) -> bool
+    ensures { IsTrue result ↔ ((status ≡ 0) ⊎ (status ≡ AT_FAULT) ⊎ (status ≡ WARNED)) }
+{
+    status == 0 || status == AT_FAULT || status == WARNED
+}
+
+/// Writes what `command` left in the buffer of the output, where it answered a status with which the program may have
+/// an answer, 0, 1 or 4. The program's status is that of `command`, or 3 where this fails: one line of it went to
+/// `errors`, and a write that failed there is ignored.
+pub fn flushed<W: Write + Drop, E: Write>(
+    status: u8,
+    output: &mut BufWriter<W>,
+    errors: &mut E,
+) -> u8
+    ensures status { (result ≡ status) ⊎ (((status ≡ 0) ⊎ (status ≡ AT_FAULT) ⊎ (status ≡ WARNED)) × (result ≡ 3)) }
+    ensures written { (result ≡ 0) ⊎ (result ≡ AT_FAULT) ⊎ (result ≡ WARNED) → writer_buffer output.new ≡ [] }
+    ensures bytes { Keeps (writer_contents W.contents output.old) (writer_contents W.contents output.new) }
+{
+    if has_answer(status) && output.flush().is_err() {
+        let _ = writeln!(errors, "nvmearb: write failed");
+        return 3;
+    }
+    status
+}
