@@ -153,13 +153,19 @@ typedef struct nvmearb_pick {
 
 /*
  * A board: an arbiter with the queues that are open and the number of commands that wait in each. nvmearb_board_init
- * writes it, and it may be copied. Its fields are the library's, as those of an arbiter.
+ * writes it, and it may be copied. Its fields are the library's. `mark` is what nvmearb_board_init writes, and each call
+ * looks whether it is there and whether the arbiter is one: where not, the board is none. A caller that writes the other
+ * fields gets the answers of a board that has what they say: whatever they are, some board has it.
  */
 typedef struct nvmearb_board {
-    nvmearb_arbiter arbiter;
+    uint64_t mark;
     struct {
-        uint16_t priority, count;
-    } queues[NVMEARB_MAX_QUEUES];
+        uint64_t ready[4];
+        struct {
+            uint16_t priority, count;
+        } places[NVMEARB_MAX_QUEUES];
+    } queues;
+    nvmearb_arbiter arbiter;
 } nvmearb_board;
 
 /* The most regions of a kind, the admin queue's among them, and the most I/O queues of a kind. */
@@ -174,11 +180,16 @@ typedef struct nvmearb_region {
 
 /*
  * A queue table: the regions, the queues and the features of a controller. nvmearb_table_init writes it, and it may be
- * copied. Its fields are the library's: a caller that writes them gets NVMEARB_ESTATE, or the answers of a table that
- * has what they say.
+ * copied. Its fields are the library's. `mark` is what nvmearb_table_init writes, and each call looks whether it is there:
+ * where it isn't, the table is none. A caller that writes the other fields gets the answers of a table that has what they
+ * say: whatever they are, some table has it.
  */
 typedef struct nvmearb_table {
-    nvmearb_region sq_regions[NVMEARB_MAX_REGIONS], cq_regions[NVMEARB_MAX_REGIONS];
+    uint64_t mark;
+    struct {
+        nvmearb_region places[NVMEARB_MAX_REGIONS];
+        uint8_t count;
+    } sq_regions, cq_regions;
     uint32_t cdw11;
     uint16_t nsq, ncq;
     struct {
@@ -189,7 +200,7 @@ typedef struct nvmearb_table {
         uint8_t open, region;
     } cqs[NVMEARB_MAX_REGIONS];
     uint8_t sq_used[NVMEARB_MAX_REGIONS], cq_used[NVMEARB_MAX_REGIONS];
-    uint8_t sq_count, cq_count, numbers_set, created;
+    uint8_t numbers_set, created;
 } nvmearb_table;
 
 /*

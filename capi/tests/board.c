@@ -5,7 +5,8 @@
 
 #include "tell.h"
 
-_Static_assert(sizeof(nvmearb_board) == 300, "nvmearb_board");
+_Static_assert(sizeof(nvmearb_board) == 344, "nvmearb_board");
+_Static_assert(offsetof(nvmearb_board, arbiter) == 304, "nvmearb_board");
 
 static void open_and_close(void)
 {
@@ -108,11 +109,13 @@ static void beside_an_arbiter(uint32_t mechanism)
     CHECK(picked > 10000);
 }
 
-/* A million calls on random states. */
+/* A million calls on random states. Half of them have a mark, and half of these are drawn bytes behind it. */
 static void random_calls(void)
 {
     uint64_t state = 3;
-    unsigned wrong = 0;
+    unsigned wrong = 0, picked = 0;
+    nvmearb_board made;
+    CHECK(nvmearb_board_init(&made, NVMEARB_WEIGHTED, 0) == NVMEARB_OK);
     for (int round = 0; round < 1000000; round++) {
         nvmearb_board board, before;
         nvmearb_pick pick = {0xeeee, 0xeeee, 0xeeee};
@@ -122,13 +125,16 @@ static void random_calls(void)
         memset(&board, 0, sizeof board);
         draw_into(&state, &board, sizeof board);
         if (word >> 63) {
-            board.arbiter.mechanism = NVMEARB_WEIGHTED;
+            board.mark = made.mark;
+            board.arbiter.mechanism = 1 + board.arbiter.mechanism % 2;
             for (int k = 0; k < 6; k++) {
                 board.arbiter.last[k] %= 18;
             }
+        }
+        if (word >> 62 & 1) {
             for (int k = 0; k < NVMEARB_MAX_QUEUES; k++) {
-                board.queues[k].priority = k ? (uint16_t)(2 + board.queues[k].priority % 4) : 1;
-                board.queues[k].count %= 256;
+                board.queues.places[k].priority %= 7;
+                board.queues.places[k].count %= 512;
             }
         }
         memcpy(&before, &board, sizeof before);
@@ -154,6 +160,7 @@ static void random_calls(void)
         default:
             told = nvmearb_board_pick(&board, &pick);
         }
+        picked += word % 7 == 6 && told == NVMEARB_OK && pick.n <= NVMEARB_MAX_COUNT && pick.qid < NVMEARB_MAX_QUEUES;
         wrong += told > NVMEARB_ESTATE;
         wrong += (told == NVMEARB_ESTATE) != !(word >> 63);
         if (told != NVMEARB_OK) {
@@ -161,6 +168,7 @@ static void random_calls(void)
         }
     }
     CHECK(wrong == 0);
+    CHECK(picked > 10000);
 }
 
 int main(void)

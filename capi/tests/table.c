@@ -6,7 +6,8 @@
 #include "tell.h"
 
 _Static_assert(sizeof(nvmearb_region) == 16, "nvmearb_region");
-_Static_assert(sizeof(nvmearb_table) == 2744, "nvmearb_table");
+_Static_assert(sizeof(nvmearb_table) == 2768, "nvmearb_table");
+_Static_assert(offsetof(nvmearb_table, created) == 2763, "nvmearb_table");
 _Static_assert(sizeof(nvmearb_answer) == 24, "nvmearb_answer");
 _Static_assert(offsetof(nvmearb_answer, cid) == 22, "nvmearb_answer");
 _Static_assert(sizeof(nvmearb_queue) == 8, "nvmearb_queue");
@@ -184,28 +185,29 @@ static void regions(void)
     CHECK(nvmearb_table_cq(&t, 0, &region) == NVMEARB_OK && region == 0);
 }
 
-/* Makes drawn bytes a state that is taken. */
+/* Makes drawn bytes those of a table in which commands are accepted now and then. */
 static void mend(nvmearb_table *t)
 {
     t->nsq = 1 + t->nsq % NVMEARB_MAX_IO_QUEUES, t->ncq = 1 + t->ncq % NVMEARB_MAX_IO_QUEUES;
-    t->sq_count %= NVMEARB_MAX_REGIONS + 1, t->cq_count %= NVMEARB_MAX_REGIONS + 1;
+    t->sq_regions.count %= NVMEARB_MAX_REGIONS + 1, t->cq_regions.count %= NVMEARB_MAX_REGIONS + 1;
     t->numbers_set &= 1, t->created &= 1;
     for (int k = 0; k < NVMEARB_MAX_REGIONS; k++) {
-        t->sq_regions[k].address %= 512, t->sq_regions[k].slots %= 4;
-        t->cq_regions[k].address %= 512, t->cq_regions[k].slots %= 4;
+        t->sq_regions.places[k].address %= 512, t->sq_regions.places[k].slots %= 4;
+        t->cq_regions.places[k].address %= 512, t->cq_regions.places[k].slots %= 4;
         t->sqs[k].priority %= 6, t->sqs[k].cqid %= 20, t->sqs[k].closing &= 1;
         t->cqs[k].open &= 1;
         t->sq_used[k] &= 1, t->cq_used[k] &= 1;
     }
 }
 
-/* A million calls on random states. Every fourth state is drawn bytes. */
+/* A million calls on random states. Every fourth state has no mark, and every eighth is drawn bytes behind one. */
 static void random_calls(void)
 {
     uint64_t state = 4;
     unsigned wrong = 0, accepted = 0, taken[7] = {0};
-    nvmearb_table drawn_table, table, before;
+    nvmearb_table drawn_table, table, before, made;
     memset(&drawn_table, 0, sizeof drawn_table);
+    CHECK(nvmearb_table_init(&made, 1, 1, 0) == NVMEARB_OK);
     for (int round = 0; round < 1000000; round++) {
         uint8_t bytes[NVMEARB_SQE_BYTES] = {0};
         nvmearb_answer answer;
@@ -220,9 +222,10 @@ static void random_calls(void)
         }
         memcpy(&table, &drawn_table, sizeof table);
         if (is_taken) {
+            table.mark = made.mark;
+        }
+        if (word >> 61 & 1) {
             mend(&table);
-        } else {
-            table.nsq = (uint16_t)(word | 128);
         }
         memcpy(&before, &table, sizeof before);
         memset(&answer, 0xee, sizeof answer);

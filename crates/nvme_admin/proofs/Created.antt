@@ -1,18 +1,18 @@
 -- A queue is created, or its deletion begins.
-use Rattle.std.proofs.Common.{◌≡◌, ℕ, ◌<◌, ◌==◌, ◌||◌, Bool, true, false, not, [], ◌∷◌, length, set, Option, Some, None, refl, sym, ◌∙◌, ap, subst, true≢false, get_or-set_same, unwrap_or, option_map}
+use Rattle.std.proofs.Common.{◌≡◌, ℕ, ◌<◌, ◌==◌, ◌||◌, Bool, true, false, not, [], ◌∷◌, length, set, Option, Some, None, refl, sym, ◌∙◌, ap, subst, true≢false, get_or-set_same, unwrap_or, option_map, is_none}
 use Rattle.nvme_arbiter.specs.declared.settings.Class.{Class}
 use Rattle.nvme_entry.specs.Checks.{first_failed}
-use Rattle.nvme_entry.specs.Status.{StatusCode, success, invalid_queue_identifier}
+use Rattle.nvme_entry.specs.Status.{StatusCode, success, invalid_queue_identifier, invalid_queue_deletion}
 use Rattle.nvme_entry.specs.declared.admin.AdminCommand.{AdminCommand}
-use Rattle.nvme_entry.specs.declared.admin.AdminCommand.TheVariants.{CreateSq, CreateCq, DeleteSq}
+use Rattle.nvme_entry.specs.declared.admin.AdminCommand.TheVariants.{CreateSq, CreateCq, DeleteSq, DeleteCq}
 use Rattle.nvme_admin.specs.declared.bounds.TheConstants.{MAX_REGIONS}
 use Rattle.nvme_admin.specs.declared.verdict.SqEntry.{SqEntry}
-use Rattle.nvme_admin.specs.declared.verdict.Verdict.TheVariants.{OpenSq, OpenCq, BeginDelete}
+use Rattle.nvme_admin.specs.declared.verdict.Verdict.TheVariants.{OpenSq, OpenCq, BeginDelete, CloseCq}
 use Rattle.nvme_admin.specs.QueueTable.{region_number, class_of, as_closing}
-use Rattle.nvme_admin.specs.Checks.{row, rows_of, is_success, is_open, verdict_by, opened_sq, opened_cq}
-use Rattle.nvme_admin.specs.Standing.{TableView, IsSized, Does, table_of, sq_of}
+use Rattle.nvme_admin.specs.Checks.{row, rows_of, is_success, is_open, is_attached, verdict_by, opened_sq, opened_cq}
+use Rattle.nvme_admin.specs.Standing.{TableView, IsSized, Does, table_of, sq_of, cq_of}
 use Rattle.nvme_admin.proofs.Slots.{other, within, slot-set, mark-set}
-use Rattle.nvme_admin.proofs.Shown.{Shows-create_sq, Shows-create_cq, Shows-delete_sq}
+use Rattle.nvme_admin.proofs.Shown.{Shows-create_sq, Shows-create_cq, Shows-delete_sq, Shows-delete_cq}
 
 -- a command that passes isn't refused
 passing : (s : StatusCode) → s ≡ success → is_success s ≡ false → ⊥
@@ -115,3 +115,34 @@ Does-delete_sq v w qid q queue opened q_is io found closing =
     } in
     subst (λ (u : TableView). Does u (record v { sqs = set v.sqs q (Some (record queue { closing = true })) }) (DeleteSq qid) (BeginDelete qid)) opened
     (subst (λ (j : ℕ). Does v (record v { sqs = set v.sqs j (Some (record queue { closing = true })) }) (DeleteSq qid) (BeginDelete qid)) (sym q_is) does)
+
+pub Does-delete_cq : (v w : TableView) (qid q region : ℕ) → v ≡ w → q ≡ qid → (qid ≡ 0 → ⊥) → cq_of w qid ≡ Some region → is_attached (table_of w) qid ≡ false
+    → Does w (record v { cqs = set v.cqs q None }) (DeleteCq qid) (CloseCq qid)
+Does-delete_cq v w qid q region opened q_is io found alone =
+    let command : AdminCommand = DeleteCq qid in
+    let new : TableView = record v { cqs = set v.cqs qid None } in
+    let here : cq_of v qid ≡ Some region = subst (λ (u : TableView). cq_of u qid ≡ Some region) (sym opened) found in
+    let attached : is_attached (table_of v) qid ≡ false = subst (λ (u : TableView). is_attached (table_of u) qid ≡ false) (sym opened) alone in
+    let test : (qid == 0 || is_none (cq_of v qid)) ≡ false = (λ i. (other qid 0 io) i || is_none (here i)) in
+    let passes : first_failed (rows_of (table_of v) command) ≡ success =
+    (λ i. first_failed (row (test i) invalid_queue_identifier ∷ row (attached i) invalid_queue_deletion ∷ [])) in
+    let does : Does v new command (CloseCq qid) = record {
+      verdict_is = sym (ap (λ (s : StatusCode). verdict_by s (table_of new) command) passes);
+      accepted = λ _ start e s. Shows-delete_cq start e v qid region io here s;
+      takes = λ _. record {
+        sq = λ p. refl;
+        cq = slot-set v.cqs qid None (λ _. None) (within v.cqs qid region here) refl;
+        sq_regions = refl;
+        cq_regions = refl;
+        sq_used = λ j. refl;
+        cq_used = λ j. refl;
+        nsq = refl;
+        ncq = refl;
+        numbers_set = refl;
+        created = refl;
+        settings = refl;
+      };
+      refused = λ h. absurd (passing (first_failed (rows_of (table_of v) command)) passes h);
+    } in
+    subst (λ (u : TableView). Does u (record v { cqs = set v.cqs q None }) (DeleteCq qid) (CloseCq qid)) opened
+    (subst (λ (j : ℕ). Does v (record v { cqs = set v.cqs j None }) (DeleteCq qid) (CloseCq qid)) (sym q_is) does)

@@ -2,6 +2,7 @@ pub mod Applied
 pub mod Changed
 pub mod Created
 pub mod LawLemmas
+pub mod PlaceLemmas
 pub mod Queues
 pub mod Reached
 pub mod Shown

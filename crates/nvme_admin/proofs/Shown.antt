@@ -1,13 +1,13 @@
 -- What a table shows after each step that takes effect.
 use Rattle.std.proofs.Common.{◌≡◌, ℕ, ◌<◌, Bool, true, false, if◌then◌else◌, List, [], ◌∷◌, ◌++◌, length, set, Option, Some, None, IsSomeAnd, refl, sym, ◌∙◌, ap, subst, arith, unwrap_or, option_map}
 use Rattle.nvme_arbiter.specs.declared.settings.Class.TheVariants.{Admin}
-use Rattle.nvme_entry.specs.declared.admin.AdminCommand.TheVariants.{DeleteSq, CreateSq, CreateCq}
+use Rattle.nvme_entry.specs.declared.admin.AdminCommand.TheVariants.{DeleteSq, DeleteCq, CreateSq, CreateCq}
 use Rattle.nvme_admin.specs.declared.bounds.TheConstants.{MAX_REGIONS}
 use Rattle.nvme_admin.specs.declared.region.Region.{Region}
 use Rattle.nvme_admin.specs.declared.verdict.SqEntry.{SqEntry}
 use Rattle.nvme_admin.specs.History.{Start, Effects, Submission, Completion, Added, Accepted, Finished}
 use Rattle.nvme_admin.specs.QueueTable.{table_in, region_number, class_of, as_closing, unless_closing, io_sq_in, sq_regions_in, cq_regions_in, sq_named_in, cq_named_in}
-use Rattle.nvme_admin.specs.Standing.{TableView, IsSized, Shows, sq_of}
+use Rattle.nvme_admin.specs.Standing.{TableView, IsSized, Shows, sq_of, cq_of}
 use Rattle.nvme_admin.proofs.Slots.{other, same, within, closing_some, admin_sq-open, admin_sq-append, admin_cq-append, sq-set, cq-set, sq-set-admin, cq-set-admin, used-set}
 
 module _ (start : Start) (e : Effects) (v : TableView) where
@@ -23,6 +23,25 @@ module _ (start : Start) (e : Effects) (v : TableView) where
         (λ q n. rw (other k q n) refl)
         s.sq;
     cq = s.cq;
+    sq_regions = s.sq_regions;
+    cq_regions = s.cq_regions;
+    sq_used = s.sq_used;
+    cq_used = s.cq_used;
+    nsq = s.nsq;
+    ncq = s.ncq;
+    numbers_set = s.numbers_set;
+    created = s.created;
+    settings = s.settings;
+  }
+
+  pub Shows-delete_cq : (k region : ℕ) → (k ≡ 0 → ⊥) → cq_of v k ≡ Some region → Shows v (table_in start e)
+      → Shows (record v { cqs = set v.cqs k None }) (table_in start (Accepted (DeleteCq k) ∷ e))
+  Shows-delete_cq k region io h s = record {
+    sq = s.sq;
+    cq = cq-set e (Accepted (DeleteCq k) ∷ e) v.cqs k None (within v.cqs k region h) io refl
+        (rw (same k) refl)
+        (λ q n. rw (other k q n) refl)
+        s.cq;
     sq_regions = s.sq_regions;
     cq_regions = s.cq_regions;
     sq_used = s.sq_used;

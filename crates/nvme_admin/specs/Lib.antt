@@ -4,7 +4,7 @@ pub mod Checks
 pub mod Examples
 pub mod History
 pub mod Laws
-pub mod Parts
+pub mod Layout
 pub mod QueueTable
 pub mod Standing
 pub mod Steps

@@ -2,14 +2,17 @@
 #![tactic(auto)]
 
 mod bounds;
+mod fields;
 pub mod laws;
+mod layout;
 mod limits;
 mod region;
 mod table;
 mod verdict;
 
 pub use bounds::{MAX_IO_QUEUES, MAX_QSIZE, MAX_REGIONS, MAX_SLOTS, MIN_SLOTS};
+pub use fields::TableFields;
 pub use limits::Limits;
 pub use region::{AdminError, Region};
-pub use table::{Table, TableParts};
+pub use table::Table;
 pub use verdict::{SqEntry, Verdict};

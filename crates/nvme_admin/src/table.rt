@@ -1,101 +1,46 @@
-mod checks;
-mod create;
-mod delete;
-mod features;
-mod parts;
-
-use crate::bounds::{MAX_REGIONS, MAX_SLOTS, MIN_SLOTS};
+use crate::fields::TableFields;
 use crate::limits::Limits;
-use crate::region::{AdminError, Region};
+use crate::region::AdminError;
 use crate::verdict::{SqEntry, Verdict};
-use arrayvec::ArrayVec;
-use checks::is_address;
-use nvme_arbiter::{Class, Settings};
-use nvme_entry::{AdminCommand, Sqe, Status, admin_of};
-pub use parts::TableParts;
+use nvme_arbiter::Settings;
+use nvme_entry::Sqe;
 use std::marker::Model;
 
 /// The queue table of a controller: its regions, its queues and its features. It keeps what stands,
 /// and no history. Nothing takes memory.
 #[derive(Drop)]
 pub struct Table {
-    sq_regions: ArrayVec<Region, MAX_REGIONS>,
-    cq_regions: ArrayVec<Region, MAX_REGIONS>,
-    sq_used: [bool; MAX_REGIONS],
-    cq_used: [bool; MAX_REGIONS],
-    sqs: [Option<SqEntry>; MAX_REGIONS],
-    cqs: [Option<u8>; MAX_REGIONS],
-    allotted: Limits,
-    numbers_set: bool,
-    created: bool,
-    settings: Settings,
+    fields: TableFields,
 }
 
 impl Model for Table {
+    ghost use Rattle.nvme_admin.specs.Layout.{view_of};
     ghost use Rattle.nvme_admin.specs.Standing.{TableView, IsSized};
 
     ghost Value = { TableView };
 
-    ghost view = { λ t. record {
-      sq_regions = t.sq_regions.items;
-      cq_regions = t.cq_regions.items;
-      sq_used = t.sq_used;
-      cq_used = t.cq_used;
-      sqs = t.sqs;
-      cqs = t.cqs;
-      nsq = t.allotted.nsq;
-      ncq = t.allotted.ncq;
-      numbers_set = t.numbers_set;
-      created = t.created;
-      settings = t.settings;
-    } };
+    ghost view = { λ t. view_of t.fields };
 
-    ghost invariant = { λ t. IsSized (record {
-      sq_regions = t.sq_regions.items;
-      cq_regions = t.cq_regions.items;
-      sq_used = t.sq_used;
-      cq_used = t.cq_used;
-      sqs = t.sqs;
-      cqs = t.cqs;
-      nsq = t.allotted.nsq;
-      ncq = t.allotted.ncq;
-      numbers_set = t.numbers_set;
-      created = t.created;
-      settings = t.settings;
-    }) };
+    ghost invariant = { λ t. IsSized (view_of t.fields) };
 }
 
 impl Table {
-    ghost use Rattle.std.specs.Prelude.{◌≡◌, ◌==◌, if◌then◌else◌, true, false, ℕ, List, [], ◌∷◌, ◌++◌, MatchResult, IfOk, IfErr, OnOk, OnErr, None, Some, length};
-    ghost use Rattle.nvme_admin.specs.declared.region.Region.{Region};
+    ghost use Rattle.std.specs.Prelude.{◌≡◌, ◌==◌, if◌then◌else◌, true, false, ℕ, [], ◌∷◌, ◌++◌, IfOk, IfErr, OnOk, OnErr, None, Some, length, IsTrue, IsSomeAnd};
     ghost use Rattle.nvme_admin.specs.History.{Start, TableHistory, RegionAdded, EntryApplied, DeletionFinished, Submission, Completion};
     ghost use Rattle.nvme_admin.specs.Accepted.{verdict_of, status_of, dw0_of};
     ghost use Rattle.nvme_entry.specs.AdminCommand.{admin_command_of};
     ghost use Rattle.nvme_admin.specs.Checks.{status_in, dw0_in, is_success, status_over, verdict_by};
     ghost use Rattle.nvme_admin.specs.Changes.{admin_queue};
     ghost use Rattle.nvme_admin.specs.Steps.{table_after, empty_table};
-    ghost use Rattle.nvme_admin.specs.Standing.{Does, StandsAt, Shows, IsSized, table_of, sq_of, cq_of, region_fault};
+    ghost use Rattle.nvme_admin.specs.Standing.{StandsAt, Shows, IsSized, table_of, sq_of, cq_of, used_at, region_fault};
 
     /// A table with no region, within the limits, with the settings of the Arbitration feature.
     pub fn new(limits: Limits, settings: Settings) -> Table
         ensures stands { StandsAt (record { nsq = limits.nsq; ncq = limits.ncq; settings = settings }) result [] }
         ensures empty { Shows result (empty_table (record { nsq = limits.nsq; ncq = limits.ncq; settings = settings })) }
     {
-        let mut sq_used = [false; MAX_REGIONS];
-        let mut cq_used = [false; MAX_REGIONS];
-        sq_used[0] = true;
-        cq_used[0] = true;
         Table {
-            sq_regions: ArrayVec::new(),
-            cq_regions: ArrayVec::new(),
-            sq_used,
-            cq_used,
-            sqs: [None; MAX_REGIONS],
-            cqs: [None; MAX_REGIONS],
-            allotted: limits,
-            numbers_set: false,
-            created: false,
-            settings,
+            fields: TableFields::new(limits, settings),
         }
     }
 
@@ -104,24 +49,28 @@ impl Table {
     pub fn sq(&self, qid: u16) -> Option<SqEntry>
         ensures { result ≡ sq_of self.now qid }
     {
-        let qid = usize::from(qid);
-        if qid < MAX_REGIONS {
-            self.sqs[qid]
-        } else {
-            None
-        }
+        self.fields.sq(qid)
     }
 
     /// The number of the region of the open completion queue of an identifier.
     pub fn cq(&self, qid: u16) -> Option<u8>
         ensures { result ≡ cq_of self.now qid }
     {
-        let qid = usize::from(qid);
-        if qid < MAX_REGIONS {
-            self.cqs[qid]
-        } else {
-            None
-        }
+        self.fields.cq(qid)
+    }
+
+    /// Whether a submission region is used: it is region 0, or a queue was created on it.
+    pub fn is_sq_region_used(&self, region: usize) -> bool
+        ensures { result ≡ used_at self.now.sq_used region }
+    {
+        self.fields.is_sq_region_used(region)
+    }
+
+    /// Whether a completion region is used, as `is_sq_region_used` tells it of a submission region.
+    pub fn is_cq_region_used(&self, region: usize) -> bool
+        ensures { result ≡ used_at self.now.cq_used region }
+    {
+        self.fields.is_cq_region_used(region)
     }
 
     /// The allotted numbers of I/O queues. (Base Specification, Number of Queues feature)
@@ -129,14 +78,14 @@ impl Table {
         ensures nsq { result.nsq ≡ self.now.nsq }
         ensures ncq { result.ncq ≡ self.now.ncq }
     {
-        self.allotted
+        self.fields.allotted()
     }
 
     /// The settings of the Arbitration feature.
     pub fn settings(&self) -> Settings
         ensures { result ≡ self.now.settings }
     {
-        self.settings
+        self.fields.settings()
     }
 
     /// Adds a submission region of `slots` slots and answers its number, which counts from 0 in the
@@ -153,16 +102,7 @@ impl Table {
         ensures rest { OnOk result (self.new ≡ record self.old { sq_regions = self.new.sq_regions; sqs = self.new.sqs }) }
         ensures unchanged { OnErr result (self.new ≡ self.old) }
     {
-        self.check_region(self.sq_regions.len(), address, slots)?;
-        let number = self.sq_regions.len() as u8;
-        self.sq_regions.push(Region { address, slots });
-        self.sqs[0] = Some(SqEntry {
-            region: 0,
-            cqid: 0,
-            class: Class::Admin,
-            closing: false,
-        });
-        Ok(number)
+        self.fields.add_sq_region(address, slots)
     }
 
     /// Adds a completion region, as `add_sq_region` does a submission region, with its refusals.
@@ -177,59 +117,7 @@ impl Table {
         ensures rest { OnOk result (self.new ≡ record self.old { cq_regions = self.new.cq_regions; cqs = self.new.cqs }) }
         ensures unchanged { OnErr result (self.new ≡ self.old) }
     {
-        self.check_region(self.cq_regions.len(), address, slots)?;
-        let number = self.cq_regions.len() as u8;
-        self.cq_regions.push(Region { address, slots });
-        self.cqs[0] = Some(0);
-        Ok(number)
-    }
-
-    // The checks of a region to be added to `count` regions of its kind.
-    fn check_region(&self, count: usize, address: u64, slots: u16) -> Result<(), AdminError>
-        ensures passes { (regions : List Region) → length regions ≡ count →
-            MatchResult result (λ _. region_fault self.now regions address slots ≡ None)
-            (λ e. region_fault self.now regions address slots ≡ Some e) }
-    {
-        if is_address(self.sq_regions.as_slice(), address)
-            || is_address(self.cq_regions.as_slice(), address)
-        {
-            return Err(AdminError::Used);
-        }
-        if count == MAX_REGIONS {
-            return Err(AdminError::TooMany);
-        }
-        if slots < MIN_SLOTS || slots > MAX_SLOTS {
-            return Err(AdminError::Size);
-        }
-        Ok(())
-    }
-
-    // What an entry does, FUSE aside.
-    fn run(&mut self, command: AdminCommand) -> Verdict
-        ensures { Does self.old self.new command result }
-    {
-        match command {
-            AdminCommand::DeleteSq { qid } => self.delete_sq(qid),
-            AdminCommand::CreateSq {
-                qid,
-                qsize,
-                prp1,
-                cqid,
-                qprio,
-                pc,
-            } => self.create_sq(qid, qsize, prp1, cqid, qprio, pc),
-            AdminCommand::DeleteCq { qid } => self.delete_cq(qid),
-            AdminCommand::CreateCq {
-                qid,
-                qsize,
-                prp1,
-                pc,
-            } => self.create_cq(qid, qsize, prp1, pc),
-            AdminCommand::Abort { sqid, cid } => Verdict::Abort { sqid, cid },
-            AdminCommand::SetFeatures { fid, sv, cdw11 } => self.set_features(fid, sv, cdw11),
-            AdminCommand::GetFeatures { fid } => self.get_features(fid),
-            AdminCommand::Other => Verdict::Done(Status::INVALID_OPCODE, 0),
-        }
+        self.fields.add_cq_region(address, slots)
     }
 
     /// Applies an admin entry: checks it, and changes the table where it is accepted. A command whose
@@ -251,13 +139,18 @@ impl Table {
         ensures unchanged { is_success (status_in result) ≡ false → self.new ≡ self.old }
         ensures sized { IsSized self.new }
     {
-        if entry.fuse() != 0 {
-            // a field is looked at, so that the proof knows the table's sizes
-            let _ = &self.created;
-            return Verdict::Done(Status::INVALID_FIELD, 0);
-        }
-        let verdict = self.run(admin_of(entry));
-        let _ = &self.created;
-        verdict
+        self.fields.apply(entry)
+    }
+
+    /// Finishes the deletion of a submission queue, which must be closing: its identifier is free.
+    /// (Base Specification, Delete I/O Submission Queue)
+    pub fn finish_delete(&mut self, qid: u16)
+        requires { IsSomeAnd (sq_of self.old qid) (λ queue. IsTrue queue.closing) }
+        ensures stands { (start : Start) (h : TableHistory) →
+            StandsAt start self.old h → StandsAt start self.new (DeletionFinished qid ∷ h) }
+        ensures gone { (q : ℕ) → sq_of self.new q ≡ (if qid == q then None else sq_of self.old q) }
+        ensures rest { self.new ≡ record self.old { sqs = self.new.sqs } }
+    {
+        self.fields.finish_delete(qid)
     }
 }

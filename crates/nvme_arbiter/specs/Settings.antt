@@ -41,6 +41,24 @@ weight_of s Low = s.low + 1
 weight_of s Admin = 0
 weight_of s Urgent = 0
 
+-- the number of a class (profile)
+abbrev pub number_of_class : Class → ℕ
+number_of_class Admin = 0
+number_of_class Urgent = 1
+number_of_class High = 2
+number_of_class Medium = 3
+number_of_class Low = 4
+
+-- the class of a number, where it is the number of one
+abbrev pub class_of_number : ℕ → Option Class
+class_of_number n =
+    if n == 0 then Some Admin
+    else (if n == 1 then Some Urgent
+    else (if n == 2 then Some High
+    else (if n == 3 then Some Medium
+    else (if n == 4 then Some Low
+    else None))))
+
 -- the weighted priority classes
 abbrev pub IsLevel : Class → Type 0
 IsLevel High = Unit {0}

@@ -31,4 +31,5 @@ pub use laws::{
 pub use limits::{HIGHEST_COUNT, HIGHEST_QID, QUEUE_LIMIT};
 pub use observation::is_observation;
 pub use pick::{OpenQueue, Pick, Seen};
+pub use ready::ReadyQueues;
 pub use settings::{Class, Mechanism, Settings};

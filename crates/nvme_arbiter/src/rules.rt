@@ -14,8 +14,9 @@ impl Kept {
     ghost use Rattle.nvme_arbiter.specs.Standing.{StandsAt, pick_of, last_of, used_of, kept_after};
     ghost use Rattle.nvme_arbiter.specs.declared.settings.Mechanism.{Mechanism};
 
-    /// The lawful pick of these queues, which is kept.
-    pub(crate) fn pick<Q: ReadyQueues>(&mut self, queues: &Q) -> Option<Pick>
+    /// The lawful pick of these queues after the picks and settings so far (NVM Express Base Specification, Command
+    /// Arbitration), which is kept. `None` exactly where no command waits; it changes nothing.
+    pub fn pick<Q: ReadyQueues>(&mut self, queues: &Q) -> Option<Pick>
         requires { IsObservation (Q.seen queues.now) }
         ensures by_what_is_kept { result ≡ pick_of self.old (Q.seen queues.now) }
         ensures lawful { (mechanism : Mechanism) (first : ArbitrationFields) (past : History) → StandsAt mechanism first past self.old → result ≡ lawful_pick mechanism first past (Q.seen queues.now) }
@@ -29,7 +30,7 @@ impl Kept {
     }
 
     /// What `pick` would answer.
-    pub(crate) fn peek<Q: ReadyQueues>(&self, queues: &Q) -> Option<Pick>
+    pub fn peek<Q: ReadyQueues>(&self, queues: &Q) -> Option<Pick>
         requires { IsObservation (Q.seen queues.now) }
         ensures by_what_is_kept { result ≡ pick_of self.now (Q.seen queues.now) }
         ensures lawful { (mechanism : Mechanism) (first : ArbitrationFields) (past : History) → StandsAt mechanism first past self.now → result ≡ lawful_pick mechanism first past (Q.seen queues.now) }

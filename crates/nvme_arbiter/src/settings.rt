@@ -17,6 +17,39 @@ pub enum Class {
     Low,
 }
 
+impl Class {
+    ghost use Rattle.std.specs.Prelude.{◌≡◌, Some};
+    ghost use Rattle.nvme_arbiter.specs.Settings.{class_of_number, number_of_class};
+
+    /// The class of a number (profile): 0 for `Admin`, 1 for `Urgent`, then 2 to 4 for the levels from `High` down.
+    pub fn of_number(number: u16) -> Option<Class>
+        ensures { result ≡ class_of_number number }
+    {
+        match number {
+            0 => Some(Class::Admin),
+            1 => Some(Class::Urgent),
+            2 => Some(Class::High),
+            3 => Some(Class::Medium),
+            4 => Some(Class::Low),
+            _ => None,
+        }
+    }
+
+    /// The number of the class, as `of_number` reads it.
+    pub fn number(self) -> u16
+        ensures number { result ≡ number_of_class self }
+        ensures reads_back { class_of_number result ≡ Some self }
+    {
+        match self {
+            Class::Admin => 0,
+            Class::Urgent => 1,
+            Class::High => 2,
+            Class::Medium => 3,
+            Class::Low => 4,
+        }
+    }
+}
+
 /// An arbitration mechanism (NVM Express Base Specification, Command Arbitration).
 #[derive(Clone, Copy, Debug, PartialEq, Eq)]
 pub enum Mechanism {

@@ -1,219 +1,461 @@
 -- The queues of a board, place by place.
-use Rattle.std.proofs.Common.{◌≡◌, ◌∙◌, ℕ, ◌+◌, ◌<◌, ◌≤◌, ◌==◌, ◌&&◌, ◌||◌, Bool, true, false, nat_le, inl, inr, List, length, set, slice_index_or, refl, sym, ap, subst, arith, eq-eqb}
-use Rattle.std.specs.Prelude.{◌↔◌, IsTrue, Option, Some, None, replicate}
-use Rattle.std.proofs.lemmas.Bool.{cases_eq, cases_lt, and_parts, and_from, and_cases, or_left, or_right, eqb-true, leb-true, le-leb, true≢false}
+use Rattle.std.proofs.Common.{◌≡◌, ◌∙◌, ℕ, zero, suc, ◌+◌, ◌-◌, ◌<◌, ◌≤◌, ◌==◌, ◌&&◌, min, Bool, true, false, nat_lt, bit_or, if◌then◌else◌, inl, inr, List, [], ◌∷◌, length, set, find, refl, sym, ap, subst, arith, eq-eqb}
+use Rattle.std.specs.Prelude.{◌↔◌, ◌*◌, ◌/◌, ◌%◌, ◌^◌, IsTrue, MatchOption, Option, Some, None, replicate, slice_index_or}
+use Rattle.std.specs.Int.{bit_at, trailing_zeros, w64}
+use Rattle.std.proofs.lemmas.Bool.{cases_eq, cases_lt, cond-true, cond-false, lt-ltb, le-ltb, and_parts, and_from, and_right}
+use Rattle.std.proofs.lemmas.List.{get_or_past, get_or-set_same, get_or-set_other, get_or-replicate, length-replicate, length-set, ext_get_or}
+use Rattle.std.proofs.lemmas.List.FromFn.{get_or-map-range_with_len, length-map-range_with_len}
+use Rattle.std.proofs.lemmas.Nat.{shr_split}
+use Rattle.std.proofs.lemmas.Nat.Bits.{bit_at-zero, bit_at-trailing_zeros, bit_at_or, bit_at_set_same, bit_at_set_other, bit_at_clear_same, bit_at_clear_other}
 use Rattle.std.proofs.lemmas.Option.{none-some}
 use Rattle.nvme_admin.proofs.Slots.{other}
-use Rattle.nvme_arbiter.specs.Limits.{highest_qid, highest_count}
-use Rattle.nvme_arbiter.specs.Observation.{IsSeen}
-use Rattle.nvme_arbiter.specs.Queues.{seen_as}
+use Rattle.nvme_arbiter.specs.Bits.{IsLowest}
+use Rattle.nvme_arbiter.specs.Limits.{highest_qid, highest_count, queue_limit}
+use Rattle.nvme_arbiter.specs.Settings.{number_of_class}
+use Rattle.nvme_arbiter.specs.Observation.{IsSeen, is_class, is_wanted}
+use Rattle.nvme_arbiter.specs.Queues.{seen_as, seen_from, seen_of, queue_at, passes, FitsUnder}
 use Rattle.nvme_arbiter.specs.declared.settings.Class.{Class}
 use Rattle.nvme_arbiter.specs.declared.settings.Class.TheVariants.{Admin, Urgent, High, Medium, Low}
-use Rattle.std.proofs.lemmas.List.{get_or-map, get_or_past, get_or-set_same, get_or-set_other, get_or-replicate, length-replicate, map-set, length-map}
-use Rattle.nvme_arbiter.specs.Queues.{queue_at, FitsUnder}
 use Rattle.nvme_arbiter.specs.declared.pick.OpenQueue.{OpenQueue}
-use Rattle.nvme_capi.specs.Boards.{class_of_slot, open_as, slot_of, slots_of, AllFit}
+use Rattle.nvme_arbiter.specs.declared.pick.Seen.{Seen}
+use Rattle.nvme_arbiter.proofs.MaskLemmas.{bit_at_above_of}
+use Rattle.nvme_capi.specs.States.{is_arbiter, is_mechanism, are_places}
+use Rattle.nvme_capi.specs.declared.board.BoardFields.{BoardFields}
+use Rattle.nvme_capi.specs.declared.board.TheConstants.{MARK}
+use Rattle.nvme_capi.specs.Boards.{is_board, class_under, mask_in, is_marked, waiting_in, open_in, closed, slot_in, slot_at, slots_in}
+use Rattle.nvme_capi.specs.inside.Masks.{IsFirstFrom, IsWantedAt, KeepsFrom, NoneFrom, with_bit, with_mask, marked_with, mask_for}
 use Rattle.nvme_capi.specs.declared.queues.QueueFields.{QueueFields}
+use Rattle.nvme_capi.specs.declared.queues.QueuesFields.{QueuesFields}
+
+-- ---- the list of them
+pub slots-length : (b : QueuesFields) → length (slots_in b) ≡ queue_limit
+unfolding slots_in
+slots-length b = length-map-range_with_len (slot_at b) 0 queue_limit
 
 -- the queue of a place
-pub slot-at : (fs : List QueueFields) (q : ℕ) (d : QueueFields) → q < length fs → (o : Option OpenQueue) → slot_of (slice_index_or fs q d) ≡ o → queue_at (slots_of fs) q ≡ o
-slot-at fs q d h o e = get_or-map slot_of fs q d None h ∙ e
+pub slot-at : (b : QueuesFields) (q : ℕ) → q < queue_limit → queue_at (slots_in b) q ≡ slot_at b q
+unfolding slots_in
+slot-at b q l = get_or-map-range_with_len (slot_at b) 0 queue_limit q q None l (omega arith)
 
 -- no queue stands past the last place
-pub none-past : (fs : List QueueFields) (q : ℕ) → length fs ≤ q → queue_at (slots_of fs) q ≡ None
-none-past fs q h = get_or_past (slots_of fs) q None (let n = length-map fs slot_of in omega arith)
+pub none-past : (b : QueuesFields) (q : ℕ) → queue_limit ≤ q → queue_at (slots_in b) q ≡ None
+none-past b q g = get_or_past (slots_in b) q None (let n = slots-length b in omega arith)
 
--- where every place has one queue, each place has it or none
-pub slot-of-one : (n : ℕ) (f : QueueFields) (q : ℕ) → slot_of f ≡ None → queue_at (slots_of (replicate n f)) q ≡ None
-slot-of-one n f q e =
-    elim (cases_lt q n) [
-      | inl l ↦ slot-at (replicate n f) q f (let it = length-replicate n f in omega arith) None (ap slot_of (get_or-replicate n q f f l) ∙ e)
-      | inr g ↦ none-past (replicate n f) q (let it = length-replicate n f in omega arith)
+-- ---- each queue can be seen
+class-fits : (q n : ℕ) (class : Class) → class_under q n ≡ Some class → (class ≡ Admin) ↔ (q ≡ 0)
+class-fits q n class h =
+    elim (cases_eq q 0) [
+      | inl z ↦
+          let h0 : (if n == 1 then Some Admin else None) ≡ Some class = rw (eq-eqb q 0 z) at h in
+          elim (cases_eq n 1) [
+            | inl e ↦ let is : Some Admin ≡ Some class = rw (eq-eqb n 1 e) at h0 in let same : class ≡ Admin = cc in (λ _. z, λ _. same)
+            | inr d ↦ let is : None ≡ Some class = rw (other n 1 d) at h0 in absurd (none-some class is)
+          ]
+      | inr d ↦
+          let h1 : (if n == 2 then Some Urgent else (if n == 3 then Some High else (if n == 4 then Some Medium else (if n == 5 then Some Low else None)))) ≡ Some class = rw (other q 0 d) at h in
+          (λ e. absurd (no-admin n class h1 e), λ e. absurd (d e))
     ]
+  where
+    no-admin : (n : ℕ) (class : Class) → (if n == 2 then Some Urgent else (if n == 3 then Some High else (if n == 4 then Some Medium else (if n == 5 then Some Low else None)))) ≡ Some class → class ≡ Admin → ⊥
+    no-admin n class h e =
+        elim (cases_eq n 2) [
+          | inl x ↦ let is : Some Urgent ≡ Some class = rw (eq-eqb n 2 x) at h in cc
+          | inr a ↦
+              let h2 : (if n == 3 then Some High else (if n == 4 then Some Medium else (if n == 5 then Some Low else None))) ≡ Some class = rw (other n 2 a) at h in
+              elim (cases_eq n 3) [
+                | inl x ↦ let is : Some High ≡ Some class = rw (eq-eqb n 3 x) at h2 in cc
+                | inr b ↦
+                    let h3 : (if n == 4 then Some Medium else (if n == 5 then Some Low else None)) ≡ Some class = rw (other n 3 b) at h2 in
+                    elim (cases_eq n 4) [
+                      | inl x ↦ let is : Some Medium ≡ Some class = rw (eq-eqb n 4 x) at h3 in cc
+                      | inr d ↦
+                          let h4 : (if n == 5 then Some Low else None) ≡ Some class = rw (other n 4 d) at h3 in
+                          elim (cases_eq n 5) [
+                            | inl x ↦ let is : Some Low ≡ Some class = rw (eq-eqb n 5 x) at h4 in cc
+                            | inr f ↦ let is : None ≡ Some class = rw (other n 5 f) at h4 in absurd (none-some class is)
+                          ]
+                    ]
+              ]
+        ]
 
--- a board without an open queue fits
-pub closed-fit : (n : ℕ) (f : QueueFields) → slot_of f ≡ None → AllFit (replicate n f)
-closed-fit n f e = λ q. subst (FitsUnder q) (sym (slot-of-one n f q e)) tt
+waiting-few : (b : QueuesFields) (q count : ℕ) (class : Class) → waiting_in b q count class ≤ highest_count
+waiting-few b q count class = elim (is_marked b q class) as (λ m. (if m then min count highest_count else 0) ≤ highest_count) [ true ↦ omega arith | false ↦ omega arith ]
 
--- one more place fits
-pub fit-more : (slots : List (Option OpenQueue)) (n : ℕ) → ((q : ℕ) → q < n → FitsUnder q (queue_at slots q)) → FitsUnder n (queue_at slots n) → (q : ℕ) → q < n + 1 → FitsUnder q (queue_at slots q)
-fit-more slots n f h q l =
-    elim (cases_eq q n) [
-      | inl e ↦ subst (λ i. FitsUnder i (queue_at slots i)) (sym e) h
-      | inr d ↦ f q (omega arith)
+fit-slot : (b : QueuesFields) (q : ℕ) (f : QueueFields) → q ≤ highest_qid → FitsUnder q (slot_in b q f)
+fit-slot b q f l = by_class (class_under q f.class) refl
+  where
+    by_class : (o : Option Class) → class_under q f.class ≡ o → FitsUnder q (open_in b q f.count o)
+    by_class None e = tt
+    by_class (Some class) e = record { qid = l; count = waiting-few b q f.count class; admin = class-fits q f.class class e }
+
+pub fits : (b : QueuesFields) (q : ℕ) → FitsUnder q (queue_at (slots_in b) q)
+fits b q = elim (cases_lt q queue_limit) [
+  | inl l ↦ subst (FitsUnder q) (sym (slot-at b q l)) (fit-slot b q (slice_index_or b.places q closed) (omega arith))
+  | inr g ↦ subst (FitsUnder q) (sym (none-past b q g)) tt
+]
+
+-- what the arbiter of a board keeps has a mechanism
+pub board-mechanism : (b : BoardFields) → is_board b ≡ true → IsTrue (is_mechanism b.arbiter.mechanism)
+board-mechanism b h = (and_parts (is_mechanism b.arbiter.mechanism) (are_places b.arbiter.last) (and_parts (b.mark == MARK) (is_arbiter b.arbiter) h).1).0
+
+-- a mask with the bits below one cleared
+pub keeps-from : (mask bit : ℕ) → mask < 2 ^ 64 → KeepsFrom mask bit (mask / 2 ^ bit * 2 ^ bit % 2 ^ 64)
+keeps-from mask bit h = λ i l.
+    let split = shr_split mask bit in
+    let x : ℕ = mask / 2 ^ bit * 2 ^ bit in
+    let small : x % 2 ^ 64 ≡ x = omega arith in
+    ap (λ n. bit_at n i) small ∙ bit_at_above_of mask bit i
+
+-- the lowest bit that is set
+pub is-lowest : (mask : ℕ) → 0 < mask → mask < 2 ^ 64 → IsLowest mask (trailing_zeros w64 mask)
+is-lowest mask p h =
+    let t = bit_at-trailing_zeros w64 mask p h in
+    let within = t.0 in
+    record { within = omega (arith, within); is_set = t.1; none_below = t.2 }
+
+-- ---- a place is written
+bit-other : (mask bit i : ℕ) (on : Bool) → bit < 64 → i < 64 → (i ≡ bit → ⊥) → bit_at (with_bit mask bit on) i ≡ bit_at mask i
+bit-other mask bit i true h k n = bit_at_set_other w64 mask bit h i n
+bit-other mask bit i false h k n = bit_at_clear_other w64 mask bit h i k n
+
+places-stay : (b : QueuesFields) (qid : ℕ) (class : Class) (on : Bool) → (marked_with b qid class on).places ≡ b.places
+places-stay b qid class on = elim (qid == 0) as (λ z. (if z then b else with_mask b class (with_bit (mask_in b class) (qid - 1) on)).places ≡ b.places) [ true ↦ refl | false ↦ by_class class ]
+  where
+    by_class : (c : Class) → (with_mask b c (with_bit (mask_in b c) (qid - 1) on)).places ≡ b.places
+    by_class Admin = refl
+    by_class Urgent = refl
+    by_class High = refl
+    by_class Medium = refl
+    by_class Low = refl
+
+-- the bit of another queue stays
+bits-other : (b : QueuesFields) (qid j : ℕ) (class c : Class) (on : Bool) → qid ≤ highest_qid → j ≤ highest_qid → (j ≡ 0 → ⊥) → (j ≡ qid → ⊥)
+    → bit_at (mask_in (marked_with b qid class on) c) (j - 1) ≡ bit_at (mask_in b c) (j - 1)
+bits-other b qid j class c on l k io n =
+    elim (cases_eq qid 0) [
+      | inl z ↦ rw (eq-eqb qid 0 z) refl
+      | inr d ↦ rw (other qid 0 d) (by_class class c (omega arith) (omega arith) (λ e. n (omega (arith, e))))
     ]
+  where
+    by_class : (class c : Class) → qid - 1 < 64 → j - 1 < 64 → (j - 1 ≡ qid - 1 → ⊥)
+        → bit_at (mask_in (with_mask b class (with_bit (mask_in b class) (qid - 1) on)) c) (j - 1) ≡ bit_at (mask_in b c) (j - 1)
+    by_class Admin c h k n = refl
+    by_class Urgent Admin h k n = refl
+    by_class Urgent Urgent h k n = bit-other b.urgent (qid - 1) (j - 1) on h k n
+    by_class Urgent High h k n = refl
+    by_class Urgent Medium h k n = refl
+    by_class Urgent Low h k n = refl
+    by_class High Admin h k n = refl
+    by_class High Urgent h k n = refl
+    by_class High High h k n = bit-other b.high (qid - 1) (j - 1) on h k n
+    by_class High Medium h k n = refl
+    by_class High Low h k n = refl
+    by_class Medium Admin h k n = refl
+    by_class Medium Urgent h k n = refl
+    by_class Medium High h k n = refl
+    by_class Medium Medium h k n = bit-other b.medium (qid - 1) (j - 1) on h k n
+    by_class Medium Low h k n = refl
+    by_class Low Admin h k n = refl
+    by_class Low Urgent h k n = refl
+    by_class Low High h k n = refl
+    by_class Low Medium h k n = refl
+    by_class Low Low h k n = bit-other b.low (qid - 1) (j - 1) on h k n
 
--- a queue is put into a place
-pub fit-set : (fs : List QueueFields) (q : ℕ) (f : QueueFields) → q < length fs → AllFit fs → FitsUnder q (slot_of f) → AllFit (set fs q f)
-fit-set fs q f h a fits = λ i.
-    let there : slots_of (set fs q f) ≡ set (slots_of fs) q (slot_of f) = map-set slot_of fs q f in
-    let inside : q < length (slots_of fs) = let n = length-map fs slot_of in omega arith in
-    subst (λ s. FitsUnder i (queue_at s i)) (sym there)
-    (elim (cases_eq i q) [
-      | inl e ↦ subst (λ n. FitsUnder n (queue_at (set (slots_of fs) q (slot_of f)) n)) (sym e) (subst (FitsUnder q) (sym (get_or-set_same (slots_of fs) q (slot_of f) None inside)) fits)
-      | inr n ↦ subst (FitsUnder i) (sym (get_or-set_other (slots_of fs) q i (slot_of f) None n)) (a i)
+-- so what waits in it stays
+waiting-other : (b d : QueuesFields) (j count : ℕ) (c : Class) → (c ≡ Admin → j ≡ 0) → (j ≡ 0 → c ≡ Admin)
+    → ((j ≡ 0 → ⊥) → bit_at (mask_in d c) (j - 1) ≡ bit_at (mask_in b c) (j - 1)) → waiting_in d j count c ≡ waiting_in b j count c
+waiting-other b d j count Admin z io same = refl
+waiting-other b d j count Urgent z io same = ap (λ n. if n == 1 then min count highest_count else 0) (same (λ e. let no = io e in cc))
+waiting-other b d j count High z io same = ap (λ n. if n == 1 then min count highest_count else 0) (same (λ e. let no = io e in cc))
+waiting-other b d j count Medium z io same = ap (λ n. if n == 1 then min count highest_count else 0) (same (λ e. let no = io e in cc))
+waiting-other b d j count Low z io same = ap (λ n. if n == 1 then min count highest_count else 0) (same (λ e. let no = io e in cc))
+
+mask-of-places : (b : QueuesFields) (ps : List QueueFields) (c : Class) → mask_in (record b { places = ps }) c ≡ mask_in b c
+mask-of-places b ps Admin = refl
+mask-of-places b ps Urgent = refl
+mask-of-places b ps High = refl
+mask-of-places b ps Medium = refl
+mask-of-places b ps Low = refl
+
+-- what is written into a place changes no other
+abbrev pub written : QueuesFields → ℕ → Class → QueueFields → Bool → QueuesFields
+written b qid class f on = marked_with (record b { places = set b.places qid f }) qid class on
+
+slot-other : (b : QueuesFields) (qid j : ℕ) (class : Class) (f : QueueFields) (on : Bool) → qid ≤ highest_qid → j ≤ highest_qid → (j ≡ qid → ⊥)
+    → slot_at (written b qid class f on) j ≡ slot_at b j
+slot-other b qid j class f on l k n =
+    let there : slice_index_or (written b qid class f on).places j closed ≡ slice_index_or b.places j closed =
+    ap (λ ps. slice_index_or ps j closed) (places-stay (record b { places = set b.places qid f }) qid class on) ∙ get_or-set_other b.places qid j f closed n in
+    ap (slot_in (written b qid class f on) j) there ∙ by_class (class_under j (slice_index_or b.places j closed).class) refl
+  where
+    by_class : (o : Option Class) → class_under j (slice_index_or b.places j closed).class ≡ o
+        → open_in (written b qid class f on) j (slice_index_or b.places j closed).count o ≡ open_in b j (slice_index_or b.places j closed).count o
+    by_class None e = refl
+    by_class (Some c) e =
+        let under = class-fits j (slice_index_or b.places j closed).class c e in
+        ap (λ w. Some (record { class = c; count = w }))
+        (waiting-other b (written b qid class f on) j (slice_index_or b.places j closed).count c under.0 under.1
+        (λ io. bits-other (record b { places = set b.places qid f }) qid j class c on l k io n ∙ ap (λ m. bit_at m (j - 1)) (mask-of-places b (set b.places qid f) c)))
+
+pub slots-written : (b : QueuesFields) (qid : ℕ) (class : Class) (f : QueueFields) (on : Bool) (o : Option OpenQueue) → qid ≤ highest_qid → length b.places ≡ queue_limit
+    → slot_in (written b qid class f on) qid f ≡ o → slots_in (written b qid class f on) ≡ set (slots_in b) qid o
+slots-written b qid class f on o l size is =
+    let new : QueuesFields = written b qid class f on in
+    let n = slots-length b in
+    let m = slots-length new in
+    ext_get_or None (slots_in new) (set (slots_in b) qid o) (m ∙ sym (length-set (slots_in b) qid o ∙ n))
+    (λ i lt. elim (cases_eq i qid) [
+      | inl e ↦
+          let there : slice_index_or new.places qid closed ≡ f = ap (λ ps. slice_index_or ps qid closed) (places-stay (record b { places = set b.places qid f }) qid class on) ∙ get_or-set_same b.places qid f closed (omega (arith, size, l)) in
+          let here : queue_at (slots_in new) qid ≡ o = slot-at new qid (omega arith) ∙ ap (slot_in new qid) there ∙ is in
+          subst (λ k. queue_at (slots_in new) k ≡ queue_at (set (slots_in b) qid o) k) (sym e)
+          (here ∙ sym (get_or-set_same (slots_in b) qid o None (omega (arith, n, l))))
+      | inr d ↦
+          slot-at new i (omega (arith, lt, m)) ∙ slot-other b qid i class f on l (omega (arith, lt, m)) d ∙ sym (slot-at b i (omega (arith, lt, m)))
+          ∙ sym (get_or-set_other (slots_in b) qid i o None d)
     ])
 
-pub put-slot : (fs : List QueueFields) (q : ℕ) (f : QueueFields) (o : Option OpenQueue) → slot_of f ≡ o → slots_of (set fs q f) ≡ set (slots_of fs) q o
-put-slot fs q f o e = map-set slot_of fs q f ∙ ap (set (slots_of fs) q) e
+-- ---- the place that is written
+bit-same : (mask bit : ℕ) (on : Bool) → bit < 64 → (bit_at (with_bit mask bit on) bit == 1) ≡ on
+bit-same mask bit true h = ap (λ n. n == 1) (bit_at_set_same w64 mask bit h)
+bit-same mask bit false h = ap (λ n. n == 1) (bit_at_clear_same w64 mask bit h)
 
--- ---- what stands in a place, by the number of its class
--- a number of a class of I/O queues
-pub record IsOfIo (n : ℕ) : Type 0 where
-  pub class : Class
-  pub is : class_of_slot n ≡ Some class
-  pub not_admin : class ≡ Admin → ⊥
+own-bit : (b : QueuesFields) (qid : ℕ) (class : Class) (on : Bool) → qid ≤ highest_qid → (class ≡ Admin → ⊥) → (qid ≡ 0 → ⊥) → is_marked (marked_with b qid class on) qid class ≡ on
+own-bit b qid class on l io d = rw (other qid 0 d) (by_class class io (omega arith))
+  where
+    by_class : (c : Class) → (c ≡ Admin → ⊥) → qid - 1 < 64 → is_marked (with_mask b c (with_bit (mask_in b c) (qid - 1) on)) qid c ≡ on
+    by_class Admin io h = absurd (io refl)
+    by_class Urgent io h = bit-same b.urgent (qid - 1) on h
+    by_class High io h = bit-same b.high (qid - 1) on h
+    by_class Medium io h = bit-same b.medium (qid - 1) on h
+    by_class Low io h = bit-same b.low (qid - 1) on h
 
-pub class_of_io : (n : ℕ) → 2 ≤ n → n ≤ 5 → IsOfIo n
-class_of_io n least most =
-    elim (cases_eq n 2) [
-      | inl e ↦ subst IsOfIo (sym e) (record { class = Urgent; is = refl; not_admin = λ p. cc })
-      | inr a ↦ elim (cases_eq n 3) [
-        | inl e ↦ subst IsOfIo (sym e) (record { class = High; is = refl; not_admin = λ p. cc })
-        | inr b ↦ elim (cases_eq n 4) [
-          | inl e ↦ subst IsOfIo (sym e) (record { class = Medium; is = refl; not_admin = λ p. cc })
-          | inr d ↦ let e : n ≡ 5 = omega arith in subst IsOfIo (sym e) (record { class = Low; is = refl; not_admin = λ p. cc })
-        ]
-      ]
+-- what is put waits
+put-waits : (b : QueuesFields) (qid count : ℕ) (class : Class) → IsSeen (seen_as qid (record { class = class; count = count }))
+    → waiting_in (marked_with b qid class (nat_lt 0 count)) qid count class ≡ count
+put-waits b qid count class seen =
+    elim (cases_eq qid 0) [
+      | inl z ↦ rw (seen.admin.1 z) (omega (arith, seen.count))
+      | inr d ↦
+          let marked = own-bit b qid class (nat_lt 0 count) seen.qid (λ e. d (seen.admin.0 e)) d in
+          ap (λ m. if m then min count highest_count else 0) marked ∙ by_count count seen.count
     ]
+  where
+    by_count : (n : ℕ) → n ≤ highest_count → (if nat_lt 0 n then min n highest_count else 0) ≡ n
+    by_count zero few = refl
+    by_count (suc n) few = rw (lt-ltb 0 (suc n) (omega arith)) (omega (arith, few))
 
--- no class has a higher number
-pub class_past : (n : ℕ) → 5 < n → class_of_slot n ≡ None
-class_past n h =
-    rw (other n 1 (λ e. absurd (omega (arith, e))))
-    (rw (other n 2 (λ e. absurd (omega (arith, e))))
-    (rw (other n 3 (λ e. absurd (omega (arith, e))))
-    (rw (other n 4 (λ e. absurd (omega (arith, e))))
-    (rw (other n 5 (λ e. absurd (omega (arith, e)))) refl))))
+-- the class of a place by the number that is written
+number-under : (qid : ℕ) (class : Class) (n : ℕ) → (class ≡ Admin) ↔ (qid ≡ 0) → n ≡ number_of_class class → class_under qid (n + 1) ≡ Some class
+number-under qid class n admin is =
+    rw is (elim (cases_eq qid 0) [
+      | inl z ↦ rw (admin.1 z) (rw (eq-eqb qid 0 z) refl)
+      | inr d ↦ rw (other qid 0 d) (by_class class (λ e. d (admin.0 e)))
+    ])
+  where
+    by_class : (c : Class) → (c ≡ Admin → ⊥)
+        → (if (number_of_class c + 1) == 2 then Some Urgent else (if (number_of_class c + 1) == 3 then Some High else (if (number_of_class c + 1) == 4 then Some Medium else (if (number_of_class c + 1) == 5 then Some Low else None)))) ≡ Some c
+    by_class Admin io = absurd (io refl)
+    by_class Urgent io = refl
+    by_class High io = refl
+    by_class Medium io = refl
+    by_class Low io = refl
 
-pub slot_closed : (f : QueueFields) → f.class ≡ 0 → slot_of f ≡ None
-slot_closed f e = rw (eq-eqb f.class 0 e) refl
+pub put-slot : (b : QueuesFields) (qid n count : ℕ) (class : Class) → IsSeen (seen_as qid (record { class = class; count = count })) → n ≡ number_of_class class
+    → slot_in (marked_with b qid class (nat_lt 0 count)) qid (record { class = n + 1; count = count }) ≡ Some (record { class = class; count = count })
+put-slot b qid n count class seen is =
+    ap (open_in (marked_with b qid class (nat_lt 0 count)) qid count) (number-under qid class n seen.admin is)
+    ∙ ap (λ w. Some (record { class = class; count = w })) (put-waits b qid count class seen)
 
-pub slot_open : (f : QueueFields) (o : Option Class) → (f.class ≡ 0 → ⊥) → class_of_slot f.class ≡ o → slot_of f ≡ Some (open_as f o)
-slot_open f o n e = rw (other f.class 0 n) (ap (λ (x : Option Class). Some (open_as f x)) e)
+pub closed-slot : (b : QueuesFields) (qid : ℕ) → slot_in b qid closed ≡ None
+closed-slot b qid = elim (qid == 0) as (λ z. open_in b qid 0 (if z then None else None) ≡ None) [ true ↦ refl | false ↦ refl ]
 
--- a place of an I/O queue fits exactly where its test says so
-abbrev pub is_io_place : QueueFields → Bool
-is_io_place f = f.class == 0 || ((nat_le 2 f.class && nat_le f.class 5) && nat_le f.count highest_count)
+pub slots-closed : (b : QueuesFields) → b.places ≡ replicate queue_limit closed → slots_in b ≡ replicate queue_limit None
+slots-closed b is =
+    let none : Option OpenQueue = None in
+    let n = slots-length b in
+    let m = length-replicate queue_limit none in
+    ext_get_or None (slots_in b) (replicate queue_limit None) (n ∙ sym m)
+    (λ i lt.
+    slot-at b i (omega (arith, lt, n)) ∙ ap (slot_in b i) (ap (λ ps. slice_index_or ps i closed) is ∙ get_or-replicate queue_limit i closed closed (omega (arith, lt, n)))
+    ∙ closed-slot b i ∙ sym (get_or-replicate queue_limit i None None (omega (arith, lt, n))))
 
-pub io_fits : (q : ℕ) (f : QueueFields) → 0 < q → q ≤ highest_qid → is_io_place f ≡ true → FitsUnder q (slot_of f)
-io_fits q f io within h =
-    elim (cases_eq f.class 0) [
-      | inl e ↦ subst (FitsUnder q) (sym (slot_closed f e)) tt
-      | inr n ↦
-          let opens : ((nat_le 2 f.class && nat_le f.class 5) && nat_le f.count highest_count) ≡ true = subst (λ b. (b || ((nat_le 2 f.class && nat_le f.class 5) && nat_le f.count highest_count)) ≡ true) (other f.class 0 n) h in
-          let parts = and_parts (nat_le 2 f.class && nat_le f.class 5) (nat_le f.count highest_count) opens in
-          let range = and_parts (nat_le 2 f.class) (nat_le f.class 5) parts.0 in
-          let of = class_of_io f.class (leb-true 2 f.class range.0) (leb-true f.class 5 range.1) in
-          subst (FitsUnder q) (sym (slot_open f (Some of.class) n of.is)) (record {
-            qid = within;
-            count = leb-true f.count highest_count parts.1;
-            admin = (λ e. absurd (of.not_admin e), λ e. absurd (omega (arith, io, e)));
-          })
-    ]
+-- ---- what isn't ready
+waits-none : (b : QueuesFields) (j count : ℕ) (c : Class) → (c ≡ Admin → ⊥) → bit_at (mask_in b c) (j - 1) ≡ 0 → waiting_in b j count c ≡ 0
+waits-none b j count Admin io h = absurd (io refl)
+waits-none b j count Urgent io h = ap (λ n. if n == 1 then min count highest_count else 0) h
+waits-none b j count High io h = ap (λ n. if n == 1 then min count highest_count else 0) h
+waits-none b j count Medium io h = ap (λ n. if n == 1 then min count highest_count else 0) h
+waits-none b j count Low io h = ap (λ n. if n == 1 then min count highest_count else 0) h
 
-pub io_tested : (q : ℕ) (f : QueueFields) → 0 < q → FitsUnder q (slot_of f) → is_io_place f ≡ true
-io_tested q f io fits =
-    elim (cases_eq f.class 0) [
-      | inl e ↦ or_left (f.class == 0) ((nat_le 2 f.class && nat_le f.class 5) && nat_le f.count highest_count) (eq-eqb f.class 0 e)
-      | inr n ↦ elim (cases_lt 5 f.class) [
-        | inl past ↦
-            let seen : IsSeen (seen_as q (open_as f None)) = subst (FitsUnder q) (slot_open f None n (class_past f.class past)) fits in
-            absurd (omega (arith, seen.count))
-        | inr most ↦ elim (cases_eq f.class 1) [
-          | inl one ↦
-              let is : class_of_slot f.class ≡ Some Admin = rw one refl in
-              let seen : IsSeen (seen_as q (open_as f (Some Admin))) = subst (FitsUnder q) (slot_open f (Some Admin) n is) fits in
-              absurd (omega (arith, io, seen.admin.0 refl))
-          | inr m ↦
-              let of = class_of_io f.class (omega arith) (omega arith) in
-              let seen : IsSeen (seen_as q (open_as f (Some of.class))) = subst (FitsUnder q) (slot_open f (Some of.class) n of.is) fits in
-              or_right (f.class == 0) ((nat_le 2 f.class && nat_le f.class 5) && nat_le f.count highest_count)
-              (and_from (nat_le 2 f.class && nat_le f.class 5) (nat_le f.count highest_count)
-              (and_from (nat_le 2 f.class) (nat_le f.class 5) (le-leb 2 f.class (omega arith)) (le-leb f.class 5 (omega arith)))
-              (le-leb f.count highest_count seen.count))
-        ]
-      ]
-    ]
+-- no bit of all is no bit of each
+record NoneOfEach (b : QueuesFields) (i : ℕ) : Type 0 where
+  urgent : bit_at b.urgent i ≡ 0
+  high : bit_at b.high i ≡ 0
+  medium : bit_at b.medium i ≡ 0
+  low : bit_at b.low i ≡ 0
 
--- and so does that of the admin queue
-abbrev pub is_admin_place : QueueFields → Bool
-is_admin_place f = f.class == 0 || (f.class == 1 && nat_le f.count highest_count)
-
-pub admin_fits : (f : QueueFields) → is_admin_place f ≡ true → FitsUnder 0 (slot_of f)
-admin_fits f h =
-    elim (cases_eq f.class 0) [
-      | inl e ↦ subst (FitsUnder 0) (sym (slot_closed f e)) tt
-      | inr n ↦
-          let opens : (f.class == 1 && nat_le f.count highest_count) ≡ true = subst (λ b. (b || (f.class == 1 && nat_le f.count highest_count)) ≡ true) (other f.class 0 n) h in
-          let parts = and_parts (f.class == 1) (nat_le f.count highest_count) opens in
-          let one : f.class ≡ 1 = eqb-true f.class 1 parts.0 in
-          let is : class_of_slot f.class ≡ Some Admin = rw one refl in
-          subst (FitsUnder 0) (sym (slot_open f (Some Admin) n is)) (record {
-            qid = omega arith;
-            count = leb-true f.count highest_count parts.1;
-            admin = (λ e. refl, λ e. refl);
-          })
-    ]
-
-pub admin_tested : (f : QueueFields) → FitsUnder 0 (slot_of f) → is_admin_place f ≡ true
-admin_tested f fits =
-    elim (cases_eq f.class 0) [
-      | inl e ↦ or_left (f.class == 0) (f.class == 1 && nat_le f.count highest_count) (eq-eqb f.class 0 e)
-      | inr n ↦ elim (cases_lt 5 f.class) [
-        | inl past ↦
-            let seen : IsSeen (seen_as 0 (open_as f None)) = subst (FitsUnder 0) (slot_open f None n (class_past f.class past)) fits in
-            absurd (omega (arith, seen.count))
-        | inr most ↦ elim (cases_eq f.class 1) [
-          | inl one ↦
-              let is : class_of_slot f.class ≡ Some Admin = rw one refl in
-              let seen : IsSeen (seen_as 0 (open_as f (Some Admin))) = subst (FitsUnder 0) (slot_open f (Some Admin) n is) fits in
-              or_right (f.class == 0) (f.class == 1 && nat_le f.count highest_count)
-              (and_from (f.class == 1) (nat_le f.count highest_count) (eq-eqb f.class 1 one) (le-leb f.count highest_count seen.count))
-          | inr m ↦
-              let of = class_of_io f.class (omega arith) (omega arith) in
-              let seen : IsSeen (seen_as 0 (open_as f (Some of.class))) = subst (FitsUnder 0) (slot_open f (Some of.class) n of.is) fits in
-              absurd (of.not_admin (seen.admin.1 refl))
-        ]
-      ]
-    ]
-
--- what a test of the first places says
-pub record IsTested (fs : List QueueFields) (n : ℕ) (fit : Bool) : Type 0 where
-  pub fits : fit ≡ true → (q : ℕ) → q < n → FitsUnder q (queue_at (slots_of fs) q)
-  pub misfits : fit ≡ false → AllFit fs → ⊥
-
-pub tested-first : (fs : List QueueFields) (d : QueueFields) (fit : Bool) → 0 < length fs → IsTrue fit ↔ FitsUnder 0 (slot_of (slice_index_or fs 0 d)) → IsTested fs 1 fit
-tested-first fs d fit h e =
-    let there : queue_at (slots_of fs) 0 ≡ slot_of (slice_index_or fs 0 d) = slot-at fs 0 d h (slot_of (slice_index_or fs 0 d)) refl in
+each : (b : QueuesFields) (i : ℕ) → bit_at (mask_for b None) i ≡ 0 → NoneOfEach b i
+each b i h =
+    let low = bit_at_or (bit_or (bit_or b.urgent b.high) b.medium) b.low i in
+    let medium = bit_at_or (bit_or b.urgent b.high) b.medium i in
+    let high = bit_at_or b.urgent b.high i in
     record {
-      fits = λ t q l. let zero : q ≡ 0 = omega arith in
-          subst (λ i. FitsUnder i (queue_at (slots_of fs) i)) (sym zero) (subst (FitsUnder 0) (sym there) (e.0 t));
-      misfits = λ no all. true≢false (sym (e.1 (subst (FitsUnder 0) there (all 0))) ∙ no);
+      urgent = omega (arith, h, low, medium, high);
+      high = omega (arith, h, low, medium, high);
+      medium = omega (arith, h, low, medium);
+      low = omega (arith, h, low);
     }
 
-pub tested-more : (fs : List QueueFields) (d : QueueFields) (n : ℕ) (fit one : Bool) → n < length fs → IsTrue one ↔ FitsUnder n (slot_of (slice_index_or fs n d)) → IsTested fs n fit → IsTested fs (n + 1) (fit && one)
-tested-more fs d n fit one h e was =
-    let there : queue_at (slots_of fs) n ≡ slot_of (slice_index_or fs n d) = slot-at fs n d h (slot_of (slice_index_or fs n d)) refl in
+bits-of-none : (b : QueuesFields) (c : Class) (i : ℕ) → bit_at (mask_for b None) i ≡ 0 → bit_at (mask_in b c) i ≡ 0
+bits-of-none b Admin i h = bit_at-zero i
+bits-of-none b Urgent i h = (each b i h).urgent
+bits-of-none b High i h = (each b i h).high
+bits-of-none b Medium i h = (each b i h).medium
+bits-of-none b Low i h = (each b i h).low
+
+not-wanted : (b : QueuesFields) (wanted : Option Class) (j count : ℕ) (c : Class) → (c ≡ Admin → ⊥) → bit_at (mask_for b wanted) (j - 1) ≡ 0
+    → is_wanted wanted (seen_as j (record { class = c; count = waiting_in b j count c })) ≡ false
+not-wanted b None j count c io h = ap (λ n. nat_lt 0 n) (waits-none b j count c io (bits-of-none b c (j - 1) h))
+not-wanted b (Some w) j count c io h = by_class w c io h
+  where
+    by_class : (w c : Class) → (c ≡ Admin → ⊥) → bit_at (mask_in b w) (j - 1) ≡ 0 → (is_class w c && nat_lt 0 (waiting_in b j count c)) ≡ false
+    by_class w Admin io h = absurd (io refl)
+    by_class Admin Urgent io h = refl
+    by_class Admin High io h = refl
+    by_class Admin Medium io h = refl
+    by_class Admin Low io h = refl
+    by_class Urgent Urgent io h = ap (λ n. nat_lt 0 n) (waits-none b j count Urgent io h)
+    by_class Urgent High io h = refl
+    by_class Urgent Medium io h = refl
+    by_class Urgent Low io h = refl
+    by_class High Urgent io h = refl
+    by_class High High io h = ap (λ n. nat_lt 0 n) (waits-none b j count High io h)
+    by_class High Medium io h = refl
+    by_class High Low io h = refl
+    by_class Medium Urgent io h = refl
+    by_class Medium High io h = refl
+    by_class Medium Medium io h = ap (λ n. nat_lt 0 n) (waits-none b j count Medium io h)
+    by_class Medium Low io h = refl
+    by_class Low Urgent io h = refl
+    by_class Low High io h = refl
+    by_class Low Medium io h = refl
+    by_class Low Low io h = ap (λ n. nat_lt 0 n) (waits-none b j count Low io h)
+
+-- an I/O queue without its bit isn't ready
+pub not-ready : (b : QueuesFields) (wanted : Option Class) (j : ℕ) → 1 ≤ j → j ≤ highest_qid → bit_at (mask_for b wanted) (j - 1) ≡ 0
+    → passes (is_wanted wanted) j (queue_at (slots_in b) j) ≡ false
+not-ready b wanted j some few h = ap (passes (is_wanted wanted) j) (slot-at b j (omega arith)) ∙ by_class (class_under j (slice_index_or b.places j closed).class) refl
+  where
+    by_class : (o : Option Class) → class_under j (slice_index_or b.places j closed).class ≡ o → passes (is_wanted wanted) j (open_in b j (slice_index_or b.places j closed).count o) ≡ false
+    by_class None e = refl
+    by_class (Some c) e =
+        let under = class-fits j (slice_index_or b.places j closed).class c e in
+        not-wanted b wanted j (slice_index_or b.places j closed).count c (λ a. absurd (omega (arith, some, under.0 a))) h
+
+-- nor is one past the last place
+pub past-wanted : (b : QueuesFields) (wanted : Option Class) (j : ℕ) → queue_limit ≤ j → passes (is_wanted wanted) j (queue_at (slots_in b) j) ≡ false
+past-wanted b wanted j g = ap (passes (is_wanted wanted) j) (none-past b j g)
+
+-- below the lowest bit from one on no queue is
+pub none-below : (b : QueuesFields) (wanted : Option Class) (least kept q : ℕ) → 1 ≤ least → KeepsFrom (mask_for b wanted) (least - 1) kept
+    → ((i : ℕ) → i + 1 < q → bit_at kept i ≡ 0) → (j : ℕ) → least ≤ j → j < q → passes (is_wanted wanted) j (queue_at (slots_in b) j) ≡ false
+none-below b wanted least kept q some keeps none j from below =
+    elim (cases_lt j queue_limit) [
+      | inl l ↦
+          let bit : bit_at kept (j - 1) ≡ (if nat_lt (j - 1) (least - 1) then 0 else bit_at (mask_for b wanted) (j - 1)) = keeps (j - 1) (omega (arith, l)) in
+          let over : nat_lt (j - 1) (least - 1) ≡ false = le-ltb (j - 1) (least - 1) (omega (arith, from)) in
+          not-ready b wanted j (omega (arith, some, from)) (omega (arith, l))
+          (sym (bit ∙ ap (λ x. if x then 0 else bit_at (mask_for b wanted) (j - 1)) over) ∙ none (j - 1) (omega (arith, some, from, below)))
+      | inr g ↦ past-wanted b wanted j g
+    ]
+
+-- the queue of the lowest bit from one on is the first, where it is wanted
+pub first-of-mask : (b : QueuesFields) (wanted : Option Class) (least kept bit : ℕ) (s : Seen) → 1 ≤ least → least ≤ queue_limit → KeepsFrom (mask_for b wanted) (least - 1) kept
+    → IsLowest kept bit → IsWantedAt (slots_in b) wanted (bit + 1) s → IsFirstFrom (slots_in b) wanted least s
+first-of-mask b wanted least kept bit s some few keeps low w =
+    let qid : s.qid ≡ bit + 1 = ap (λ (x : Seen). x.qid) w.is in
     record {
-      fits = λ t. let parts = and_parts fit one t in
-          fit-more (slots_of fs) n (was.fits parts.0) (subst (FitsUnder n) (sym there) (e.0 parts.1));
-      misfits = λ no all. elim (and_cases fit one no) [
-        | inl a ↦ was.misfits a all
-        | inr b ↦ true≢false (sym (e.1 (subst (FitsUnder n) there (all n))) ∙ b)
+      from = elim (cases_lt bit (least - 1)) [
+        | inl l ↦
+            let none : bit_at kept bit ≡ 0 = keeps bit (omega (arith, l, few)) ∙ ap (λ x. if x then 0 else bit_at (mask_for b wanted) bit) (lt-ltb bit (least - 1) l) in
+            absurd (omega (arith, none, low.is_set))
+        | inr g ↦ omega (arith, g, qid, some)
       ];
+      there = subst (λ q. IsWantedAt (slots_in b) wanted q s) (sym qid) w;
+      none_before = λ j from below. none-below b wanted least kept (bit + 1) some keeps (λ i l. low.none_below i (omega (arith, l))) j from (omega (arith, below, qid));
     }
 
--- the queue of a place by its class
-pub slot-of-class : (f : QueueFields) (class : Class) → class_of_slot f.class ≡ Some class → slot_of f ≡ Some (record { class = class; count = f.count })
-slot-of-class f class e =
-    slot_open f (Some class) (λ z. let none : None ≡ Some class = subst (λ (n : ℕ). class_of_slot n ≡ Some class) z e in absurd (none-some class none)) e
+-- ---- what is found
+find-first : (p : Seen → Bool) (i n : ℕ) (queues : List (Option OpenQueue)) (k : ℕ) (o : OpenQueue) → n ≡ i + k → queue_at queues k ≡ Some o → p (seen_as n o) ≡ true
+    → ((j m : ℕ) → j < k → m ≡ i + j → passes p m (queue_at queues j) ≡ false) → find p (seen_from i queues) ≡ Some (seen_as n o)
+find-first p i n [] k o a e t f = absurd (cc)
+find-first p i n (None ∷ rest) zero o a e t f = absurd (cc)
+find-first p i n (Some y ∷ rest) zero o a e t f =
+    let same : y ≡ o = cc in
+    let at : i ≡ n = omega arith in
+    let s : seen_as i y ≡ seen_as n o = λ d. seen_as (at d) (same d) in
+    cond-true (p (seen_as i y)) _ _ (ap p s ∙ t) ∙ ap Some s
+find-first p i n (None ∷ rest) (suc k) o a e t f = find-first p (i + 1) n rest k o (omega arith) e t (λ j m l b. f (suc j) m (omega arith) (omega arith))
+find-first p i n (Some y ∷ rest) (suc k) o a e t f =
+    cond-false (p (seen_as i y)) _ _ (f 0 i (omega arith) (omega arith)) ∙ find-first p (i + 1) n rest k o (omega arith) e t (λ j m l b. f (suc j) m (omega arith) (omega arith))
 
-pub slot-of-none : (q : ℕ) (f : QueueFields) → FitsUnder q (slot_of f) → class_of_slot f.class ≡ None → slot_of f ≡ None
-slot-of-none q f fits e =
-    elim (cases_eq f.class 0) [
-      | inl z ↦ slot_closed f z
-      | inr n ↦
-          let seen : IsSeen (seen_as q (open_as f None)) = subst (FitsUnder q) (slot_open f None n e) fits in
-          absurd (omega (arith, seen.count))
-    ]
+find-nothing : (p : Seen → Bool) (i : ℕ) (queues : List (Option OpenQueue)) → ((j m : ℕ) → m ≡ i + j → passes p m (queue_at queues j) ≡ false) → find p (seen_from i queues) ≡ None
+find-nothing p i [] f = refl
+find-nothing p i (None ∷ rest) f = find-nothing p (i + 1) rest (λ j m b. f (suc j) m (omega arith))
+find-nothing p i (Some y ∷ rest) f = cond-false (p (seen_as i y)) _ _ (f 0 i (omega arith)) ∙ find-nothing p (i + 1) rest (λ j m b. f (suc j) m (omega arith))
+
+pub found : (p : Seen → Bool) (queues : List (Option OpenQueue)) (q : ℕ) (o : OpenQueue) → queue_at queues q ≡ Some o → p (seen_as q o) ≡ true
+    → ((j : ℕ) → j < q → passes p j (queue_at queues j) ≡ false) → find p (seen_of queues) ≡ Some (seen_as q o)
+found p queues q o e t f = find-first p 0 q queues q o (omega arith) e t (λ j m l a. subst (λ k. passes p k (queue_at queues j) ≡ false) (omega arith) (f j l))
+
+pub nothing : (p : Seen → Bool) (queues : List (Option OpenQueue)) → ((j : ℕ) → passes p j (queue_at queues j) ≡ false) → find p (seen_of queues) ≡ None
+nothing p queues f = find-nothing p 0 queues (λ j m a. subst (λ k. passes p k (queue_at queues j) ≡ false) (omega arith) (f j))
+
+-- the first of all, where queue 0 isn't it
+pub first-found : (queues : List (Option OpenQueue)) (wanted : Option Class) (r : Option Seen) → passes (is_wanted wanted) 0 (queue_at queues 0) ≡ false
+    → MatchOption r (NoneFrom queues wanted 1) (IsFirstFrom queues wanted 1) → r ≡ find (is_wanted wanted) (seen_of queues)
+first-found queues wanted None z h =
+    sym (nothing (is_wanted wanted) queues (λ j. elim (cases_eq j 0) [
+      | inl e ↦ subst (λ k. passes (is_wanted wanted) k (queue_at queues k) ≡ false) (sym e) z
+      | inr d ↦ h j (omega arith)
+    ]))
+first-found queues wanted (Some s) z h =
+    ap Some h.there.is ∙ sym (found (is_wanted wanted) queues s.qid h.there.queue h.there.is_open (ap (is_wanted wanted) (sym h.there.is) ∙ h.there.is_wanted)
+    (λ j l. elim (cases_eq j 0) [
+      | inl e ↦ subst (λ k. passes (is_wanted wanted) k (queue_at queues k) ≡ false) (sym e) z
+      | inr d ↦ h.none_before j (omega arith) l
+    ]))
+
+-- queue 0 itself, or one that stands alone below none
+pub zero-found : (queues : List (Option OpenQueue)) (wanted : Option Class) (s : Seen) → IsWantedAt queues wanted 0 s → Some s ≡ find (is_wanted wanted) (seen_of queues)
+zero-found queues wanted s h =
+    ap Some h.is ∙ sym (found (is_wanted wanted) queues 0 h.queue h.is_open (ap (is_wanted wanted) (sym h.is) ∙ h.is_wanted) (λ j l. absurd (omega (arith, l))))
+
+-- the first above one
+passes-above : (wanted : Option Class) (last j : ℕ) (o : Option OpenQueue) → passes (λ s. is_wanted wanted s && nat_lt last s.qid) j o ≡ (passes (is_wanted wanted) j o && nat_lt last j)
+passes-above wanted last j None = refl
+passes-above wanted last j (Some o) = refl
+
+not-above : (queues : List (Option OpenQueue)) (wanted : Option Class) (last j : ℕ) → j ≤ last → passes (λ s. is_wanted wanted s && nat_lt last s.qid) j (queue_at queues j) ≡ false
+not-above queues wanted last j l =
+    passes-above wanted last j (queue_at queues j) ∙ and_right (passes (is_wanted wanted) j (queue_at queues j)) (nat_lt last j) (le-ltb last j l)
+
+above-not : (queues : List (Option OpenQueue)) (wanted : Option Class) (last j : ℕ) → passes (is_wanted wanted) j (queue_at queues j) ≡ false
+    → passes (λ s. is_wanted wanted s && nat_lt last s.qid) j (queue_at queues j) ≡ false
+above-not queues wanted last j h = passes-above wanted last j (queue_at queues j) ∙ ap (λ b. b && nat_lt last j) h
+
+pub first-above : (queues : List (Option OpenQueue)) (wanted : Option Class) (last : ℕ) (r : Option Seen)
+    → MatchOption r (NoneFrom queues wanted (last + 1)) (IsFirstFrom queues wanted (last + 1)) → r ≡ find (λ s. is_wanted wanted s && nat_lt last s.qid) (seen_of queues)
+first-above queues wanted last None h =
+    sym (nothing (λ s. is_wanted wanted s && nat_lt last s.qid) queues (λ j. elim (cases_lt last j) [
+      | inl l ↦ above-not queues wanted last j (h j (omega (arith, l)))
+      | inr g ↦ not-above queues wanted last j g
+    ]))
+first-above queues wanted last (Some s) h =
+    ap Some h.there.is ∙ sym (found (λ s. is_wanted wanted s && nat_lt last s.qid) queues s.qid h.there.queue h.there.is_open
+    (and_from (is_wanted wanted (seen_as s.qid h.there.queue)) (nat_lt last s.qid) (ap (is_wanted wanted) (sym h.there.is) ∙ h.there.is_wanted) (lt-ltb last s.qid (omega (arith, h.from))))
+    (λ j l. elim (cases_lt last j) [
+      | inl a ↦ above-not queues wanted last j (h.none_before j (omega (arith, a)) l)
+      | inr g ↦ not-above queues wanted last j g
+    ]))

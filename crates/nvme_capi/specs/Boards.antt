@@ -1,43 +1,68 @@
 -- What a board of C says, in the library's terms (profile).
-use Rattle.std.specs.Prelude.{ℕ, ◌==◌, if◌then◌else◌, IsTrue, Option, Some, None, List, map}
-use Rattle.nvme_arbiter.specs.Queues.{queue_at, FitsUnder}
+use Rattle.std.specs.Prelude.{ℕ, ◌-◌, ◌==◌, ◌&&◌, min, Bool, true, if◌then◌else◌, slice_index_or, Option, Some, None, List, map}
+use Rattle.std.specs.List.{range_with_len}
+use Rattle.std.specs.Int.{bit_at}
+use Rattle.nvme_arbiter.specs.Limits.{highest_count, queue_limit}
 use Rattle.nvme_arbiter.specs.Board.{BoardView}
 use Rattle.nvme_arbiter.specs.declared.settings.Class.{Class}
 use Rattle.nvme_arbiter.specs.declared.settings.Class.TheVariants.{Admin, Urgent, High, Medium, Low}
 use Rattle.nvme_arbiter.specs.declared.pick.OpenQueue.{OpenQueue}
 use Rattle.nvme_capi.specs.States.{is_arbiter, kept_of}
 use Rattle.nvme_capi.specs.declared.queues.QueueFields.{QueueFields}
-use Rattle.nvme_capi.specs.declared.queues.BoardFields.{BoardFields}
+use Rattle.nvme_capi.specs.declared.queues.QueuesFields.{QueuesFields}
+use Rattle.nvme_capi.specs.declared.board.BoardFields.{BoardFields}
+use Rattle.nvme_capi.specs.declared.board.TheConstants.{MARK}
 
-abbrev pub class_of_slot : ℕ → Option Class
-class_of_slot n =
-    if n == 1 then Some Admin
+-- the class of a place by its number: 1 is the admin queue's, which is queue 0, and 2 to 5 are those of the others
+abbrev pub class_under : ℕ → ℕ → Option Class
+class_under qid n =
+    if qid == 0 then (if n == 1 then Some Admin else None)
     else (if n == 2 then Some Urgent
     else (if n == 3 then Some High
     else (if n == 4 then Some Medium
     else (if n == 5 then Some Low
     else None))))
 
-abbrev pub open_as : QueueFields → Option Class → OpenQueue
-open_as f (Some class) = record { class = class; count = f.count }
-open_as f None = record { class = Low; count = 0xffff }
+-- the mask of a class: bit q - 1 is for queue q. The admin queue has none
+abbrev pub mask_in : QueuesFields → Class → ℕ
+mask_in b Admin = 0
+mask_in b Urgent = b.urgent
+mask_in b High = b.high
+mask_in b Medium = b.medium
+mask_in b Low = b.low
 
--- the open queue of a place, if one is open. A number that is no class is a queue that can't be seen
-abbrev pub slot_of : QueueFields → Option OpenQueue
-slot_of f = if f.class == 0 then None else Some (open_as f (class_of_slot f.class))
+-- whether a command of an open queue may wait: an I/O queue's bit in the mask of its class says so
+abbrev pub is_marked : QueuesFields → ℕ → Class → Bool
+is_marked b qid Admin = true
+is_marked b qid class = bit_at (mask_in b class) (qid - 1) == 1
 
-abbrev pub slots_of : List QueueFields → List (Option OpenQueue)
-slots_of fs = map {A = QueueFields} {B = Option OpenQueue} slot_of fs
+-- how many commands of an open queue wait: none without its bit, and no more than can be seen
+abbrev pub waiting_in : QueuesFields → (qid count : ℕ) → Class → ℕ
+waiting_in b qid count class = if is_marked b qid class then min count highest_count else 0
 
--- each queue that is open can be seen under its identifier
-abbrev pub AllFit : List QueueFields → Type 0
-AllFit fs = (qid : ℕ) → FitsUnder qid (queue_at (slots_of fs) qid)
+abbrev pub open_in : QueuesFields → (qid count : ℕ) → Option Class → Option OpenQueue
+open_in b qid count None = None
+open_in b qid count (Some class) = Some (record { class = class; count = waiting_in b qid count class })
 
--- a call wrote this
-pub record IsBoard (b : BoardFields) : Type 0 where
-  pub arbiter : IsTrue (is_arbiter b.arbiter)
-  pub fit : AllFit b.queues
+-- a place of no queue
+abbrev pub closed : QueueFields
+closed = record { class = 0; count = 0 }
+
+-- the queue of a place, where one of a class of its identifier is open there
+abbrev pub slot_in : QueuesFields → ℕ → QueueFields → Option OpenQueue
+slot_in b qid f = open_in b qid f.count (class_under qid f.class)
+
+abbrev pub slot_at : QueuesFields → ℕ → Option OpenQueue
+slot_at b qid = slot_in b qid (slice_index_or b.places qid closed)
+
+-- the open queues by identifier
+unfoldable pub slots_in : QueuesFields → List (Option OpenQueue)
+slots_in b = map {A = ℕ} {B = Option OpenQueue} (slot_at b) (range_with_len 0 queue_limit)
+
+-- a board is one that was made, by its mark, and what its arbiter keeps is in its ranges
+abbrev pub is_board : BoardFields → Bool
+is_board b = b.mark == MARK && is_arbiter b.arbiter
 
 -- what a board is
 abbrev pub board_of : BoardFields → BoardView
-board_of b = record { kept = kept_of b.arbiter; queues = slots_of b.queues }
+board_of b = record { kept = kept_of b.arbiter; queues = slots_in b.queues }

@@ -1,4 +1,5 @@
+pub mod Boards
 pub mod Fields
 pub mod States
-pub mod Boards
 pub mod Tables
+pub mod inside

@@ -1,10 +1,10 @@
 -- What a state of C says, in the library's terms (profile).
 use Rattle.std.specs.Prelude.{ℕ, ◌-◌, ◌≤◌, ◌==◌, length, ◌&&◌, ◌||◌, nat_le, Bool, if◌then◌else◌, Option, Some, None, List, map}
-use Rattle.nvme_arbiter.specs.Settings.{settings_of}
+use Rattle.nvme_arbiter.specs.Settings.{settings_of, class_of_number}
 use Rattle.nvme_arbiter.specs.Limits.{queue_limit}
 use Rattle.nvme_arbiter.specs.Observation.{IsObservation}
 use Rattle.nvme_arbiter.specs.declared.settings.Class.{Class}
-use Rattle.nvme_arbiter.specs.declared.settings.Class.TheVariants.{Admin, Urgent, High, Medium, Low}
+use Rattle.nvme_arbiter.specs.declared.settings.Class.TheVariants.{Low}
 use Rattle.nvme_arbiter.specs.declared.settings.Mechanism.{Mechanism}
 use Rattle.nvme_arbiter.specs.declared.settings.Mechanism.TheVariants.{RoundRobin, Weighted}
 use Rattle.nvme_arbiter.specs.declared.kept.Kept.{Kept}
@@ -59,22 +59,13 @@ used_in f = record { high = f.high; medium = f.medium; low = f.low }
 abbrev pub kept_of : ArbiterFields → Kept
 kept_of s = record { mechanism = mechanism_of s.mechanism; settings = settings_of s.cdw11; last = last_in s.last; used = used_in s.used }
 
-abbrev pub class_of : ℕ → Option Class
-class_of n =
-    if n == 0 then Some Admin
-    else (if n == 1 then Some Urgent
-    else (if n == 2 then Some High
-    else (if n == 3 then Some Medium
-    else (if n == 4 then Some Low
-    else None))))
-
 abbrev pub seen_in_class : SeenFields → Option Class → Seen
 seen_in_class f (Some class) = record { qid = f.qid; class = class; count = f.count }
 seen_in_class f None = record { qid = 0xffff; class = Low; count = 0 }
 
 -- a submission queue as it is seen. One of no class is none that can be seen
 abbrev pub seen_of_fields : SeenFields → Seen
-seen_of_fields f = seen_in_class f (class_of f.class)
+seen_of_fields f = seen_in_class f (class_of_number f.class)
 
 abbrev pub seen_in : List SeenFields → List Seen
 seen_in fs = map {A = SeenFields} {B = Seen} seen_of_fields fs

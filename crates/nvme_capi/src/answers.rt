@@ -1,11 +1,9 @@
 // What the queue table answers, as C sees it.
 ghost use Rattle.std.specs.Prelude.{◌≡◌};
-ghost use Rattle.nvme_admin.specs.Checks.{is_success, status_in};
-ghost use Rattle.nvme_capi.specs.Tables.{number_of_class, plain_answer, answer_of, queue_answer_of, status_fields_of};
+ghost use Rattle.nvme_capi.specs.Tables.{plain_answer, answer_of, queue_answer_of, status_fields_of};
 
 use crate::fields::StatusFields;
 use nvme_admin::{SqEntry, Verdict};
-use nvme_arbiter::Class;
 use nvme_entry::Status;
 
 /// `nvmearb_answer`: what an admin command comes to. The verdicts are 0 done, 1 a submission queue was created, 2 a
@@ -33,19 +31,6 @@ pub struct QueueAnswer {
     pub cqid: u16,
     pub priority: u16,
     pub closing: u16,
-}
-
-// The number of a class: 0 admin, 1 urgent, 2 high, 3 medium and 4 low.
-fn number_of_class(class: Class) -> u16
-    ensures { result ≡ number_of_class class }
-{
-    match class {
-        Class::Admin => 0,
-        Class::Urgent => 1,
-        Class::High => 2,
-        Class::Medium => 3,
-        Class::Low => 4,
-    }
 }
 
 // The fields of a status.
@@ -94,7 +79,7 @@ pub fn answer_of(verdict: Verdict) -> AnswerFields
             qid,
             region: u16::from(region),
             cqid,
-            priority: number_of_class(class),
+            priority: class.number(),
             ..plain_answer(1)
         },
         Verdict::OpenCq { qid, region } => AnswerFields {
@@ -122,16 +107,6 @@ pub fn answer_of(verdict: Verdict) -> AnswerFields
     }
 }
 
-/// Whether a verdict says success.
-pub fn is_accepted(verdict: &Verdict) -> bool
-    ensures { result ≡ is_success (status_in verdict.now) }
-{
-    match verdict {
-        Verdict::Done(status, _) => status.sct() == 0 && status.sc() == 0,
-        _ => true,
-    }
-}
-
 /// What is said of a submission queue.
 pub fn queue_answer_of(queue: SqEntry) -> QueueAnswer
     ensures { result ≡ queue_answer_of queue }
@@ -139,7 +114,7 @@ pub fn queue_answer_of(queue: SqEntry) -> QueueAnswer
     QueueAnswer {
         region: u16::from(queue.region),
         cqid: queue.cqid,
-        priority: number_of_class(queue.class),
+        priority: queue.class.number(),
         closing: u16::from(queue.closing),
     }
 }

@@ -1,8 +1,6 @@
 // The arbiter over a state of the caller's.
 ghost use Rattle.std.specs.Prelude.{◌≡◌, ◌≢◌, ◌≤◌, ◌⊎◌, ◌↔◌, [], ◌∷◌, length, Some, None, IsTrue, IsFalse, IsNone, IfSome};
-ghost use Rattle.nvme_arbiter.specs.Limits.{queue_limit};
 ghost use Rattle.nvme_arbiter.specs.Settings.{ArbitrationFields, settings_of};
-ghost use Rattle.nvme_arbiter.specs.Observation.{IsObservation};
 ghost use Rattle.nvme_arbiter.specs.History.{History, Picked, Changed};
 ghost use Rattle.nvme_arbiter.specs.Lawful.{IsLawfulPick};
 ghost use Rattle.nvme_arbiter.specs.Standing.{StandsAt, pick_of};
@@ -10,41 +8,12 @@ ghost use Rattle.nvme_arbiter.specs.declared.settings.Mechanism.{Mechanism};
 ghost use Rattle.nvme_capi.specs.States.{is_arbiter, is_mechanism, kept_of, mechanism_of, seen_in, pick_of_fields, IsShown};
 
 use crate::results::{BAD_ARGUMENT, BAD_STATE, NOTHING, OK};
+use crate::shown::{Shown, are_shown};
 use crate::states::{
     ArbiterFields, PickFields, SeenFields, fields_of_last, fields_of_pick, fields_of_used,
-    is_arbiter, kept_of, mechanism_of, seen_of_fields,
+    is_arbiter, kept_of, mechanism_of,
 };
-use arrayvec::ArrayVec;
-use nvme_arbiter::{Arbiter, Kept, QUEUE_LIMIT, Seen, Settings, is_observation};
-
-// The queues as they are seen.
-fn seen_in(queues: &[SeenFields]) -> ArrayVec<Seen, QUEUE_LIMIT>
-    requires { length queues.now ≤ queue_limit }
-    ensures { result.items ≡ seen_in queues.now }
-{
-    let mut seen = ArrayVec::new();
-    for queue in queues {
-        seen.push(seen_of_fields(queue));
-    }
-    seen
-}
-
-// The queues as they are seen, where they are an observation.
-fn observation_in(queues: &[SeenFields]) -> Option<ArrayVec<Seen, QUEUE_LIMIT>>
-    ensures none { IsNone result → IsShown queues.now → ⊥ }
-    ensures some { IfSome result (λ seen. seen.items ≡ seen_in queues.now) }
-    ensures shown { IfSome result (λ seen. IsShown queues.now) }
-{
-    if queues.len() > QUEUE_LIMIT {
-        return None;
-    }
-    let seen = seen_in(queues);
-    if is_observation(seen.as_slice()) {
-        Some(seen)
-    } else {
-        None
-    }
-}
+use nvme_arbiter::{Kept, Settings};
 
 /// Writes what an arbiter keeps, of this mechanism and with the settings of this CDW11.
 pub fn write(state: &mut ArbiterFields, mechanism: u32, cdw11: u32, kept: &Kept)
@@ -80,10 +49,10 @@ pub extern "C" fn nvmearb_arbiter_peek(
     if !is_arbiter(state) {
         return BAD_STATE;
     }
-    let Some(seen) = observation_in(queues) else {
+    if !are_shown(queues) {
         return BAD_ARGUMENT;
-    };
-    match Arbiter::from_parts(kept_of(state)).peek(seen.as_slice()) {
+    }
+    match kept_of(state).peek(&Shown { queues }) {
         Some(it) => {
             *pick = fields_of_pick(it);
             OK
@@ -112,14 +81,14 @@ pub extern "C" fn nvmearb_arbiter_pick(
     if !is_arbiter(state) {
         return BAD_STATE;
     }
-    let Some(seen) = observation_in(queues) else {
+    if !are_shown(queues) {
         return BAD_ARGUMENT;
-    };
-    let mut arbiter = Arbiter::from_parts(kept_of(state));
-    match arbiter.pick(seen.as_slice()) {
+    }
+    let mut kept = kept_of(state);
+    match kept.pick(&Shown { queues }) {
         Some(it) => {
             *pick = fields_of_pick(it);
-            write(state, state.mechanism, state.cdw11, &arbiter.parts());
+            write(state, state.mechanism, state.cdw11, &kept);
             OK
         }
         None => NOTHING,

@@ -1,7 +1,7 @@
 // The board over a state of the caller's.
 ghost use Rattle.std.specs.Prelude.{◌≡◌, ◌≢◌, ◌+◌, ◌-◌, ◌≤◌, ◌⊎◌, ◌↔◌, [], ◌∷◌, Some, None, IsTrue, IsFalse, IsNone, IsSome, IfSome, slice_set, replicate};
 ghost use Rattle.nvme_arbiter.specs.Limits.{highest_qid, highest_count, queue_limit};
-ghost use Rattle.nvme_arbiter.specs.Settings.{ArbitrationFields, settings_of};
+ghost use Rattle.nvme_arbiter.specs.Settings.{ArbitrationFields, settings_of, class_of_number};
 ghost use Rattle.nvme_arbiter.specs.Observation.{IsObservation, IsSeen};
 ghost use Rattle.nvme_arbiter.specs.History.{History, Picked, Changed};
 ghost use Rattle.nvme_arbiter.specs.Lawful.{IsLawfulPick};
@@ -9,21 +9,33 @@ ghost use Rattle.nvme_arbiter.specs.Standing.{pick_of};
 ghost use Rattle.nvme_arbiter.specs.Queues.{seen_of, queue_at, seen_as};
 ghost use Rattle.nvme_arbiter.specs.Board.{BoardStandsAt, queues_after};
 ghost use Rattle.nvme_arbiter.specs.declared.settings.Mechanism.{Mechanism};
-ghost use Rattle.nvme_capi.specs.States.{kept_of, mechanism_of, pick_of_fields, class_of};
-ghost use Rattle.nvme_capi.specs.Boards.{IsBoard, board_of, slots_of};
+ghost use Rattle.nvme_capi.specs.States.{kept_of, mechanism_of, pick_of_fields};
+ghost use Rattle.nvme_capi.specs.Boards.{is_board, board_of, slots_in};
 
 use crate::arbiter::{nvmearb_arbiter_init, nvmearb_arbiter_set, write};
-use crate::queues::{BoardFields, QueueFields, all_fit, clear, open_at, put, seen_on, shown, take};
+use crate::queues::{QueueFields, QueuesFields, shown};
 use crate::results::{BAD_ARGUMENT, BAD_STATE, NOTHING, OK};
-use crate::states::{PickFields, class_of, fields_of_pick, is_arbiter, kept_of};
-use nvme_arbiter::{Arbiter, HIGHEST_COUNT, HIGHEST_QID, OpenQueue, QUEUE_LIMIT};
+use crate::states::{ArbiterFields, PickFields, fields_of_pick, is_arbiter, kept_of};
+use nvme_arbiter::{Class, HIGHEST_COUNT, OpenQueue, QUEUE_LIMIT};
 
-// Whether this is a board.
+// What `nvmearb_board_init` writes before a board, and nothing else does.
+const MARK: u64 = 0x6e76_6d65_5f62_7264;
+
+/// `nvmearb_board`: a mark, the queues that are open, and an arbiter. Whatever the queues are, they are those of some
+/// board, so that mark and arbiter alone are looked at.
+#[repr(C)]
+#[derive(Clone, Copy, Drop)]
+pub struct BoardFields {
+    pub mark: u64,
+    pub queues: QueuesFields,
+    pub arbiter: ArbiterFields,
+}
+
+// Whether a board was made here.
 fn is_board(board: &BoardFields) -> bool
-    ensures no { IsFalse result → IsBoard board.now → ⊥ }
-    ensures yes { IsTrue result → IsBoard board.now }
+    ensures { result ≡ is_board board.now }
 {
-    is_arbiter(&board.arbiter) && all_fit(&board.queues)
+    board.mark == MARK && is_arbiter(&board.arbiter)
 }
 
 /// Makes a board on which no queue is open and that has served nothing yet. The mechanism is 1, round robin, or 2,
@@ -33,13 +45,20 @@ pub extern "C" fn nvmearb_board_init(board: &mut BoardFields, mechanism: u32, cd
     ensures refused { (result ≡ BAD_ARGUMENT) ↔ ((mechanism ≢ 1) × (mechanism ≢ 2)) }
     ensures answer { (result ≡ OK) ⊎ (result ≡ BAD_ARGUMENT) }
     ensures stands { result ≡ OK → BoardStandsAt (mechanism_of mechanism) (settings_of cdw11) [] (board_of board.new) }
-    ensures closed { result ≡ OK → slots_of board.new.queues ≡ replicate queue_limit None }
-    ensures board { result ≡ OK → IsBoard board.new }
+    ensures closed { result ≡ OK → slots_in board.new.queues ≡ replicate queue_limit None }
+    ensures board { result ≡ OK → IsTrue (is_board board.new) }
     ensures unchanged { result ≢ OK → board.new ≡ board.old }
 {
     let answer = nvmearb_arbiter_init(&mut board.arbiter, mechanism, cdw11);
     if answer == OK {
-        board.queues = [QueueFields { class: 0, count: 0 }; QUEUE_LIMIT];
+        board.mark = MARK;
+        board.queues = QueuesFields {
+            urgent: 0,
+            high: 0,
+            medium: 0,
+            low: 0,
+            places: [QueueFields { class: 0, count: 0 }; QUEUE_LIMIT],
+        };
     }
     answer
 }
@@ -47,119 +66,113 @@ pub extern "C" fn nvmearb_board_init(board: &mut BoardFields, mechanism: u32, cd
 /// Opens a queue, in which no command waits. The classes are 0 admin, 1 urgent, 2 high, 3 medium and 4 low.
 #[unsafe(no_mangle)]
 pub extern "C" fn nvmearb_board_open(board: &mut BoardFields, qid: u16, class: u16) -> u32
-    ensures bad_state { result ≡ BAD_STATE → IsBoard board.old → ⊥ }
-    ensures is_board { result ≢ BAD_STATE → IsBoard board.old }
+    ensures bad_state { (result ≡ BAD_STATE) ↔ IsFalse (is_board board.old) }
     ensures answer { (result ≡ OK) ⊎ ((result ≡ BAD_ARGUMENT) ⊎ (result ≡ BAD_STATE)) }
-    ensures was_closed { result ≡ OK → queue_at (slots_of board.old.queues) qid ≡ None }
-    ensures class { result ≡ OK → IsSome (class_of class) }
-    ensures opened { result ≡ OK → IfSome (class_of class) (λ it. board_of board.new ≡ record (board_of board.old) { queues = slice_set (slots_of board.old.queues) qid (Some (record { class = it; count = 0 })) }) }
-    ensures board { result ≡ OK → IsBoard board.new }
-    ensures refused { result ≡ BAD_ARGUMENT → IfSome (class_of class) (λ it. queue_at (slots_of board.old.queues) qid ≡ None → IsSeen (seen_as qid (record { class = it; count = 0 })) → ⊥) }
+    ensures was_closed { result ≡ OK → queue_at (slots_in board.old.queues) qid ≡ None }
+    ensures class { result ≡ OK → IsSome (class_of_number class) }
+    ensures opened { result ≡ OK → IfSome (class_of_number class) (λ it. board_of board.new ≡ record (board_of board.old) { queues = slice_set (slots_in board.old.queues) qid (Some (record { class = it; count = 0 })) }) }
+    ensures board { result ≡ OK → IsTrue (is_board board.new) }
+    ensures refused { result ≡ BAD_ARGUMENT → IfSome (class_of_number class) (λ it. queue_at (slots_in board.old.queues) qid ≡ None → IsSeen (seen_as qid (record { class = it; count = 0 })) → ⊥) }
     ensures unchanged { result ≢ OK → board.new ≡ board.old }
 {
     if !is_board(board) {
         return BAD_STATE;
     }
-    let Some(class) = class_of(class) else {
+    let Some(class) = Class::of_number(class) else {
         return BAD_ARGUMENT;
     };
-    if open_at(&board.queues, qid).is_some() {
+    if board.queues.queue(qid).is_some() {
         return BAD_ARGUMENT;
     }
     if shown(qid, OpenQueue { class, count: 0 }).is_none() {
         return BAD_ARGUMENT;
     }
-    put(&mut board.queues, qid, class, 0);
+    board.queues.put(qid, class, 0);
     OK
 }
 
 /// Closes a queue. Its count is gone; what was served stays.
 #[unsafe(no_mangle)]
 pub extern "C" fn nvmearb_board_close(board: &mut BoardFields, qid: u16) -> u32
-    ensures bad_state { result ≡ BAD_STATE → IsBoard board.old → ⊥ }
-    ensures is_board { result ≢ BAD_STATE → IsBoard board.old }
+    ensures bad_state { (result ≡ BAD_STATE) ↔ IsFalse (is_board board.old) }
     ensures answer { (result ≡ OK) ⊎ ((result ≡ BAD_ARGUMENT) ⊎ (result ≡ BAD_STATE)) }
-    ensures was_open { result ≡ OK → IsSome (queue_at (slots_of board.old.queues) qid) }
-    ensures closed { result ≡ OK → board_of board.new ≡ record (board_of board.old) { queues = slice_set (slots_of board.old.queues) qid None } }
-    ensures board { result ≡ OK → IsBoard board.new }
-    ensures refused { result ≡ BAD_ARGUMENT → queue_at (slots_of board.old.queues) qid ≡ None }
+    ensures was_open { result ≡ OK → IsSome (queue_at (slots_in board.old.queues) qid) }
+    ensures closed { result ≡ OK → board_of board.new ≡ record (board_of board.old) { queues = slice_set (slots_in board.old.queues) qid None } }
+    ensures board { result ≡ OK → IsTrue (is_board board.new) }
+    ensures refused { result ≡ BAD_ARGUMENT → queue_at (slots_in board.old.queues) qid ≡ None }
     ensures unchanged { result ≢ OK → board.new ≡ board.old }
 {
     if !is_board(board) {
         return BAD_STATE;
     }
-    if qid > HIGHEST_QID || open_at(&board.queues, qid).is_none() {
+    let Some(open) = board.queues.queue(qid) else {
         return BAD_ARGUMENT;
-    }
-    clear(&mut board.queues, qid);
+    };
+    board.queues.close(qid, open.class);
     OK
 }
 
 /// One more command waits in an open queue, 256 at most.
 #[unsafe(no_mangle)]
 pub extern "C" fn nvmearb_board_came(board: &mut BoardFields, qid: u16) -> u32
-    ensures bad_state { result ≡ BAD_STATE → IsBoard board.old → ⊥ }
-    ensures is_board { result ≢ BAD_STATE → IsBoard board.old }
+    ensures bad_state { (result ≡ BAD_STATE) ↔ IsFalse (is_board board.old) }
     ensures answer { (result ≡ OK) ⊎ ((result ≡ BAD_ARGUMENT) ⊎ (result ≡ BAD_STATE)) }
-    ensures was_open { result ≡ OK → IsSome (queue_at (slots_of board.old.queues) qid) }
-    ensures came { result ≡ OK → IfSome (queue_at (slots_of board.old.queues) qid) (λ it. board_of board.new ≡ record (board_of board.old) { queues = slice_set (slots_of board.old.queues) qid (Some (record it { count = it.count + 1 })) }) }
-    ensures board { result ≡ OK → IsBoard board.new }
-    ensures refused { result ≡ BAD_ARGUMENT → IfSome (queue_at (slots_of board.old.queues) qid) (λ it. highest_count ≤ it.count) }
+    ensures was_open { result ≡ OK → IsSome (queue_at (slots_in board.old.queues) qid) }
+    ensures came { result ≡ OK → IfSome (queue_at (slots_in board.old.queues) qid) (λ it. board_of board.new ≡ record (board_of board.old) { queues = slice_set (slots_in board.old.queues) qid (Some (record it { count = it.count + 1 })) }) }
+    ensures board { result ≡ OK → IsTrue (is_board board.new) }
+    ensures refused { result ≡ BAD_ARGUMENT → IfSome (queue_at (slots_in board.old.queues) qid) (λ it. highest_count ≤ it.count) }
     ensures unchanged { result ≢ OK → board.new ≡ board.old }
 {
     if !is_board(board) {
         return BAD_STATE;
     }
-    let Some(open) = open_at(&board.queues, qid) else {
+    let Some(open) = board.queues.queue(qid) else {
         return BAD_ARGUMENT;
     };
     if open.count >= HIGHEST_COUNT {
         return BAD_ARGUMENT;
     }
-    put(&mut board.queues, qid, open.class, open.count + 1);
+    board.queues.put(qid, open.class, open.count + 1);
     OK
 }
 
 /// One waiting command of an open queue left without being picked.
 #[unsafe(no_mangle)]
 pub extern "C" fn nvmearb_board_went(board: &mut BoardFields, qid: u16) -> u32
-    ensures bad_state { result ≡ BAD_STATE → IsBoard board.old → ⊥ }
-    ensures is_board { result ≢ BAD_STATE → IsBoard board.old }
+    ensures bad_state { (result ≡ BAD_STATE) ↔ IsFalse (is_board board.old) }
     ensures answer { (result ≡ OK) ⊎ ((result ≡ BAD_ARGUMENT) ⊎ (result ≡ BAD_STATE)) }
-    ensures was_open { result ≡ OK → IsSome (queue_at (slots_of board.old.queues) qid) }
-    ensures went { result ≡ OK → IfSome (queue_at (slots_of board.old.queues) qid) (λ it. board_of board.new ≡ record (board_of board.old) { queues = slice_set (slots_of board.old.queues) qid (Some (record it { count = it.count - 1 })) }) }
-    ensures board { result ≡ OK → IsBoard board.new }
-    ensures refused { result ≡ BAD_ARGUMENT → IfSome (queue_at (slots_of board.old.queues) qid) (λ it. it.count ≡ 0) }
+    ensures was_open { result ≡ OK → IsSome (queue_at (slots_in board.old.queues) qid) }
+    ensures went { result ≡ OK → IfSome (queue_at (slots_in board.old.queues) qid) (λ it. board_of board.new ≡ record (board_of board.old) { queues = slice_set (slots_in board.old.queues) qid (Some (record it { count = it.count - 1 })) }) }
+    ensures board { result ≡ OK → IsTrue (is_board board.new) }
+    ensures refused { result ≡ BAD_ARGUMENT → IfSome (queue_at (slots_in board.old.queues) qid) (λ it. it.count ≡ 0) }
     ensures unchanged { result ≢ OK → board.new ≡ board.old }
 {
     if !is_board(board) {
         return BAD_STATE;
     }
-    let Some(open) = open_at(&board.queues, qid) else {
+    let Some(open) = board.queues.queue(qid) else {
         return BAD_ARGUMENT;
     };
     if open.count == 0 {
         return BAD_ARGUMENT;
     }
-    put(&mut board.queues, qid, open.class, open.count - 1);
+    board.queues.put(qid, open.class, open.count - 1);
     OK
 }
 
 /// Writes what `nvmearb_board_pick` would pick.
 #[unsafe(no_mangle)]
 pub extern "C" fn nvmearb_board_peek(board: &BoardFields, pick: &mut PickFields) -> u32
-    ensures bad_state { result ≡ BAD_STATE → IsBoard board.now → ⊥ }
-    ensures is_board { result ≢ BAD_STATE → IsBoard board.now }
+    ensures bad_state { (result ≡ BAD_STATE) ↔ IsFalse (is_board board.now) }
     ensures answer { (result ≡ OK) ⊎ ((result ≡ NOTHING) ⊎ (result ≡ BAD_STATE)) }
-    ensures nothing { result ≡ NOTHING → pick_of (kept_of board.now.arbiter) (seen_of (slots_of board.now.queues)) ≡ None }
-    ensures picked { result ≡ OK → pick_of (kept_of board.now.arbiter) (seen_of (slots_of board.now.queues)) ≡ Some (pick_of_fields pick.new) }
+    ensures nothing { result ≡ NOTHING → pick_of (kept_of board.now.arbiter) (seen_of (slots_in board.now.queues)) ≡ None }
+    ensures picked { result ≡ OK → pick_of (kept_of board.now.arbiter) (seen_of (slots_in board.now.queues)) ≡ Some (pick_of_fields pick.new) }
     ensures unchanged { result ≢ OK → pick.new ≡ pick.old }
 {
     if !is_board(board) {
         return BAD_STATE;
     }
-    let seen = seen_on(&board.queues);
-    match Arbiter::from_parts(kept_of(&board.arbiter)).peek(seen.as_slice()) {
+    match kept_of(&board.arbiter).peek(&board.queues) {
         Some(it) => {
             *pick = fields_of_pick(it);
             OK
@@ -171,27 +184,25 @@ pub extern "C" fn nvmearb_board_peek(board: &BoardFields, pick: &mut PickFields)
 /// Picks: writes the next queue, and how many of its commands are taken. As many of them wait no longer.
 #[unsafe(no_mangle)]
 pub extern "C" fn nvmearb_board_pick(board: &mut BoardFields, pick: &mut PickFields) -> u32
-    ensures bad_state { result ≡ BAD_STATE → IsBoard board.old → ⊥ }
-    ensures is_board { result ≢ BAD_STATE → IsBoard board.old }
+    ensures bad_state { (result ≡ BAD_STATE) ↔ IsFalse (is_board board.old) }
     ensures answer { (result ≡ OK) ⊎ ((result ≡ NOTHING) ⊎ (result ≡ BAD_STATE)) }
-    ensures nothing { result ≡ NOTHING → pick_of (kept_of board.old.arbiter) (seen_of (slots_of board.old.queues)) ≡ None }
-    ensures picked { result ≡ OK → pick_of (kept_of board.old.arbiter) (seen_of (slots_of board.old.queues)) ≡ Some (pick_of_fields pick.new) }
-    ensures stands { result ≡ OK → (mechanism : Mechanism) (first : ArbitrationFields) (past : History) → BoardStandsAt mechanism first past (board_of board.old) → BoardStandsAt mechanism first (Picked (seen_of (slots_of board.old.queues)) (pick_of_fields pick.new) ∷ past) (board_of board.new) }
-    ensures queues { result ≡ OK → slots_of board.new.queues ≡ queues_after (slots_of board.old.queues) (pick_of_fields pick.new) }
-    ensures board { result ≡ OK → IsBoard board.new }
+    ensures nothing { result ≡ NOTHING → pick_of (kept_of board.old.arbiter) (seen_of (slots_in board.old.queues)) ≡ None }
+    ensures picked { result ≡ OK → pick_of (kept_of board.old.arbiter) (seen_of (slots_in board.old.queues)) ≡ Some (pick_of_fields pick.new) }
+    ensures stands { result ≡ OK → (mechanism : Mechanism) (first : ArbitrationFields) (past : History) → BoardStandsAt mechanism first past (board_of board.old) → BoardStandsAt mechanism first (Picked (seen_of (slots_in board.old.queues)) (pick_of_fields pick.new) ∷ past) (board_of board.new) }
+    ensures queues { result ≡ OK → slots_in board.new.queues ≡ queues_after (slots_in board.old.queues) (pick_of_fields pick.new) }
+    ensures board { result ≡ OK → IsTrue (is_board board.new) }
     ensures unchanged { result ≢ OK → (board.new ≡ board.old) × (pick.new ≡ pick.old) }
 {
     if !is_board(board) {
         return BAD_STATE;
     }
-    let seen = seen_on(&board.queues);
-    let mut arbiter = Arbiter::from_parts(kept_of(&board.arbiter));
-    match arbiter.pick(seen.as_slice()) {
+    let mut kept = kept_of(&board.arbiter);
+    match kept.pick(&board.queues) {
         Some(it) => {
             *pick = fields_of_pick(it);
             let (mechanism, cdw11) = (board.arbiter.mechanism, board.arbiter.cdw11);
-            write(&mut board.arbiter, mechanism, cdw11, &arbiter.parts());
-            take(&mut board.queues, it.qid, it.n);
+            write(&mut board.arbiter, mechanism, cdw11, &kept);
+            board.queues.take(it.qid, it.n);
             OK
         }
         None => NOTHING,
@@ -202,12 +213,11 @@ pub extern "C" fn nvmearb_board_pick(board: &mut BoardFields, pick: &mut PickFie
 /// last stay.
 #[unsafe(no_mangle)]
 pub extern "C" fn nvmearb_board_set(board: &mut BoardFields, cdw11: u32) -> u32
-    ensures bad_state { result ≡ BAD_STATE → IsBoard board.old → ⊥ }
-    ensures is_board { result ≢ BAD_STATE → IsBoard board.old }
+    ensures bad_state { (result ≡ BAD_STATE) ↔ IsFalse (is_board board.old) }
     ensures answer { (result ≡ OK) ⊎ (result ≡ BAD_STATE) }
     ensures stands { result ≡ OK → (mechanism : Mechanism) (first : ArbitrationFields) (past : History) → BoardStandsAt mechanism first past (board_of board.old) → BoardStandsAt mechanism first (Changed (settings_of cdw11) ∷ past) (board_of board.new) }
     ensures queues { result ≡ OK → board.new.queues ≡ board.old.queues }
-    ensures board { result ≡ OK → IsBoard board.new }
+    ensures board { result ≡ OK → IsTrue (is_board board.new) }
     ensures unchanged { result ≢ OK → board.new ≡ board.old }
 {
     if !is_board(board) {

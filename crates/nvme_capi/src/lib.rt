@@ -12,6 +12,6 @@ mod outcomes;
 mod queues;
 mod results;
 mod settings;
+mod shown;
 mod states;
 mod table;
-mod tables;

@@ -1,13 +1,16 @@
 // The queues of a board, as C holds them: place q has queue q.
-ghost use Rattle.std.specs.Prelude.{◌≡◌, ◌<◌, ◌≤◌, ◌↔◌, ℕ, IsTrue, IsFalse, IsNone, IfSome, Some, None, slice_set, option_map};
-ghost use Rattle.nvme_arbiter.specs.Limits.{highest_qid};
-ghost use Rattle.nvme_arbiter.specs.Observation.{IsSeen};
-ghost use Rattle.nvme_arbiter.specs.Queues.{seen_as, seen_of, queue_at, fewer, FitsUnder};
-ghost use Rattle.nvme_capi.specs.Boards.{slot_of, slots_of, AllFit, class_of_slot};
+ghost use Rattle.std.specs.Prelude.{◌≡◌, ◌≤◌, ◌<◌, ◌==◌, IsNone, IfNone, IfSome, MatchOption, Some, None, slice_set, option_map, false};
+ghost use Rattle.std.specs.Int.{bit_at};
+ghost use Rattle.nvme_arbiter.specs.Bits.{HasNoBit, IsLowest};
+ghost use Rattle.nvme_arbiter.specs.Limits.{highest_qid, queue_limit};
+ghost use Rattle.nvme_arbiter.specs.Observation.{IsSeen, is_wanted};
+ghost use Rattle.nvme_arbiter.specs.Queues.{seen_as, queue_at, fewer, passes, FitsUnder};
+ghost use Rattle.nvme_capi.specs.Boards.{class_under, mask_in, is_marked, slot_in, slots_in};
+ghost use Rattle.nvme_capi.specs.inside.Masks.{IsFirstFrom, IsWantedAt, KeepsFrom, NoneFrom, mask_for, marked_with, with_bit, with_mask};
 
-use crate::states::ArbiterFields;
-use arrayvec::ArrayVec;
-use nvme_arbiter::{Class, HIGHEST_COUNT, OpenQueue, QUEUE_LIMIT, Seen, is_observation};
+use nvme_arbiter::{
+    Class, HIGHEST_COUNT, HIGHEST_QID, OpenQueue, QUEUE_LIMIT, ReadyQueues, Seen, is_observation,
+};
 
 /// A queue of a board: 0 where it is closed, else its class plus 1, and how many of its commands wait.
 #[repr(C)]
@@ -17,20 +20,31 @@ pub struct QueueFields {
     pub count: u16,
 }
 
-/// `nvmearb_board`: an arbiter with the queues that are open.
+/// The queues of a board, with a mask of the ready I/O queues of each class: bit q - 1 is for queue q. Whatever these
+/// numbers are, they are the queues of some board: an I/O queue without its bit in the mask of its class has no command
+/// that waits, and a number that is no class of the identifier is that of no queue.
 #[repr(C)]
 #[derive(Clone, Copy, Drop)]
-pub struct BoardFields {
-    pub arbiter: ArbiterFields,
-    pub queues: [QueueFields; QUEUE_LIMIT],
+pub struct QueuesFields {
+    pub urgent: u64,
+    pub high: u64,
+    pub medium: u64,
+    pub low: u64,
+    pub places: [QueueFields; QUEUE_LIMIT],
 }
 
-/// The class of a number, where it is the number of one.
-pub fn class_of_slot(number: u16) -> Option<Class>
-    ensures { result ≡ class_of_slot number }
+// The class of a place by its number, where it is one of the identifier.
+fn class_under(qid: u16, number: u16) -> Option<Class>
+    ensures { result ≡ class_under qid number }
 {
+    if qid == 0 {
+        return if number == 1 {
+            Some(Class::Admin)
+        } else {
+            None
+        };
+    }
     match number {
-        1 => Some(Class::Admin),
         2 => Some(Class::Urgent),
         3 => Some(Class::High),
         4 => Some(Class::Medium),
@@ -39,46 +53,49 @@ pub fn class_of_slot(number: u16) -> Option<Class>
     }
 }
 
-/// The number of a class.
-pub fn number_of_class(class: Class) -> u16
-    ensures { class_of_slot result ≡ Some class }
+// Whether a bit is set.
+fn has_bit(mask: u64, bit: u16) -> bool
+    requires { bit < 64 }
+    ensures { result ≡ (bit_at mask bit == 1) }
 {
-    match class {
-        Class::Admin => 1,
-        Class::Urgent => 2,
-        Class::High => 3,
-        Class::Medium => 4,
-        Class::Low => 5,
+    (mask >> bit) % 2 == 1
+}
+
+// The mask with one bit set or cleared.
+fn with_bit(mask: u64, bit: u16, on: bool) -> u64
+    requires { bit < 64 }
+    ensures { result ≡ with_bit mask bit on }
+{
+    if on {
+        mask | (1 << bit)
+    } else {
+        mask & !(1 << bit)
     }
 }
 
-/// The open queue of a place, if one is open. A number that is no class is a queue that can't be seen.
-pub fn slot_of(queue: &QueueFields) -> Option<OpenQueue>
-    ensures { result ≡ slot_of queue.now }
+// The mask without the bits below one.
+fn from_bit(mask: u64, bit: u16) -> u64
+    ensures { KeepsFrom mask bit result }
 {
-    if queue.class == 0 {
-        return None;
-    }
-    match class_of_slot(queue.class) {
-        Some(class) => Some(OpenQueue {
-            class,
-            count: queue.count,
-        }),
-        None => Some(OpenQueue {
-            class: Class::Low,
-            count: 0xffff,
-        }),
+    if bit >= 64 { 0 } else { mask >> bit << bit }
+}
+
+// The lowest bit that is set.
+fn lowest(mask: u64) -> Option<u16>
+    ensures { MatchOption result (HasNoBit mask) (IsLowest mask) }
+{
+    if mask == 0 {
+        None
+    } else {
+        Some(mask.trailing_zeros() as u16)
     }
 }
 
-/// A queue of a place.
-pub fn queue_of(class: Class, count: u16) -> QueueFields
-    ensures { slot_of result ≡ Some (record { class = class; count = count }) }
+// Whether a queue is ready, in a class where one is given.
+fn is_wanted(queue: &Seen, class: Option<Class>) -> bool
+    ensures { result ≡ is_wanted class queue.now }
 {
-    QueueFields {
-        class: number_of_class(class),
-        count,
-    }
+    queue.count > 0 && class.is_none_or(|class| class == queue.class)
 }
 
 /// An open queue under an identifier, where it can be seen so.
@@ -99,89 +116,196 @@ pub fn shown(qid: u16, queue: OpenQueue) -> Option<Seen>
     }
 }
 
-// Whether a place is closed, or has the admin queue as it can be seen.
-fn is_admin_place(queue: &QueueFields) -> bool
-    ensures { IsTrue result ↔ FitsUnder 0 (slot_of queue.now) }
-{
-    (queue.class == 0) | ((queue.class == 1) & (queue.count <= HIGHEST_COUNT))
-}
-
-// Whether a place is closed, or has an I/O queue as it can be seen.
-fn is_io_place(queue: &QueueFields) -> bool
-    ensures { (qid : ℕ) → 0 < qid → qid ≤ highest_qid → IsTrue result ↔ FitsUnder qid (slot_of queue.now) }
-{
-    (queue.class == 0) | ((queue.class >= 2) & (queue.class <= 5) & (queue.count <= HIGHEST_COUNT))
-}
-
-/// Whether each open queue can be seen under its identifier. It has no branch in its loop, so that several places are
-/// looked at at once.
-pub fn all_fit(queues: &[QueueFields; QUEUE_LIMIT]) -> bool
-    ensures misfit { IsFalse result → AllFit queues.now → ⊥ }
-    ensures fit { IsTrue result → AllFit queues.now }
-{
-    let mut fit = is_admin_place(&queues[0]);
-    for qid in 1..QUEUE_LIMIT {
-        fit &= is_io_place(&queues[qid]);
-    }
-    fit
-}
-
-/// The open queues as they are seen.
-pub fn seen_on(queues: &[QueueFields; QUEUE_LIMIT]) -> ArrayVec<Seen, QUEUE_LIMIT>
-    requires { AllFit queues.now }
-    ensures { result.items ≡ seen_of (slots_of queues.now) }
-{
-    let mut seen = ArrayVec::new();
-    for qid in 0..QUEUE_LIMIT {
-        if let Some(class) = class_of_slot(queues[qid].class) {
-            seen.push(Seen {
-                qid: qid as u16,
-                class,
-                count: queues[qid].count,
-            });
+impl QueuesFields {
+    // The mask of a class.
+    fn mask_of(&self, class: Class) -> u64
+        ensures { result ≡ mask_in self.now class }
+    {
+        match class {
+            Class::Admin => 0,
+            Class::Urgent => self.urgent,
+            Class::High => self.high,
+            Class::Medium => self.medium,
+            Class::Low => self.low,
         }
     }
-    seen
-}
 
-/// The open queue of an identifier, if one is open.
-pub fn open_at(queues: &[QueueFields; QUEUE_LIMIT], qid: u16) -> Option<OpenQueue>
-    ensures { result ≡ queue_at (slots_of queues.now) qid }
-{
-    if usize::from(qid) < QUEUE_LIMIT {
-        slot_of(&queues[usize::from(qid)])
-    } else {
+    // The mask of a class, or of all.
+    fn mask_for(&self, class: Option<Class>) -> u64
+        ensures { result ≡ mask_for self.now class }
+    {
+        match class {
+            Some(class) => self.mask_of(class),
+            None => self.urgent | self.high | self.medium | self.low,
+        }
+    }
+
+    // Changes the mask of a class.
+    fn put_mask(&mut self, class: Class, mask: u64)
+        ensures { self.new ≡ with_mask self.old class mask }
+    {
+        match class {
+            Class::Admin => {}
+            Class::Urgent => self.urgent = mask,
+            Class::High => self.high = mask,
+            Class::Medium => self.medium = mask,
+            Class::Low => self.low = mask,
+        }
+    }
+
+    // Sets or clears the bit of a queue in the mask of a class.
+    fn mark(&mut self, qid: u16, class: Class, on: bool)
+        requires { qid ≤ highest_qid }
+        ensures { self.new ≡ marked_with self.old qid class on }
+    {
+        if qid > 0 {
+            let mask = with_bit(self.mask_of(class), qid - 1, on);
+            self.put_mask(class, mask);
+        }
+    }
+
+    // Whether a command of an open queue may wait.
+    fn is_marked(&self, qid: u16, class: Class) -> bool
+        requires { qid ≤ highest_qid }
+        ensures { result ≡ is_marked self.now qid class }
+    {
+        match class {
+            Class::Admin => true,
+            Class::Urgent | Class::High | Class::Medium | Class::Low => {
+                has_bit(self.mask_of(class), qid.saturating_sub(1))
+            }
+        }
+    }
+
+    // The queue of a place, where one of a class of the identifier is open there.
+    fn slot(&self, qid: u16, place: &QueueFields) -> Option<OpenQueue>
+        requires { qid ≤ highest_qid }
+        ensures { result ≡ slot_in self.now qid place.now }
+    {
+        let class = class_under(qid, place.class)?;
+        let count = if self.is_marked(qid, class) {
+            place.count.min(HIGHEST_COUNT)
+        } else {
+            0
+        };
+        Some(OpenQueue { class, count })
+    }
+
+    /// The queue of an identifier, where it is open.
+    pub fn queue(&self, qid: u16) -> Option<OpenQueue>
+        ensures is_there { result ≡ queue_at (slots_in self.now) qid }
+        ensures fits { FitsUnder qid result }
+    {
+        if qid > HIGHEST_QID {
+            None
+        } else {
+            self.slot(qid, &self.places[usize::from(qid)])
+        }
+    }
+
+    /// Puts an open queue under an identifier.
+    pub fn put(&mut self, qid: u16, class: Class, count: u16)
+        requires { IsSeen (seen_as qid (record { class = class; count = count })) }
+        ensures { slots_in self.new ≡ slice_set (slots_in self.old) qid (Some (record { class = class; count = count })) }
+    {
+        self.places[usize::from(qid)] = QueueFields {
+            class: class.number() + 1,
+            count,
+        };
+        self.mark(qid, class, count > 0);
+    }
+
+    /// Closes the queue of an identifier, of this class where it is open.
+    pub fn close(&mut self, qid: u16, class: Class)
+        requires { qid ≤ highest_qid }
+        ensures { slots_in self.new ≡ slice_set (slots_in self.old) qid None }
+    {
+        self.places[usize::from(qid)] = QueueFields { class: 0, count: 0 };
+        self.mark(qid, class, false);
+    }
+
+    /// Takes commands from the queue of an identifier, where it is open.
+    pub fn take(&mut self, qid: u16, n: u16)
+        ensures { slots_in self.new ≡ slice_set (slots_in self.old) qid (option_map (fewer n) (queue_at (slots_in self.old) qid)) }
+    {
+        if let Some(open) = self.queue(qid) {
+            self.put(qid, open.class, open.count.saturating_sub(n));
+        }
+    }
+
+    // The queue of an identifier as it is seen, where it is ready and of a wanted class.
+    fn wanted_at(&self, qid: u16, class: Option<Class>) -> Option<Seen>
+        ensures some { IfSome result (λ seen. IsWantedAt (slots_in self.now) class qid seen) }
+        ensures none { IfNone result (passes (is_wanted class) qid (queue_at (slots_in self.now) qid) ≡ false) }
+    {
+        let open = self.queue(qid)?;
+        let seen = Seen {
+            qid,
+            class: open.class,
+            count: open.count,
+        };
+        if is_wanted(&seen, class) {
+            Some(seen)
+        } else {
+            None
+        }
+    }
+
+    // The first wanted queue from an identifier on, looked for one after another.
+    fn scan(&self, class: Option<Class>, least: u16) -> Option<Seen>
+        requires { least ≤ queue_limit }
+        ensures { MatchOption result (NoneFrom (slots_in self.now) class least) (IsFirstFrom (slots_in self.now) class least) }
+    {
+        for qid in least..HIGHEST_QID + 1 {
+            if let Some(seen) = self.wanted_at(qid, class) {
+                return Some(seen);
+            }
+        }
         None
+    }
+
+    // The first wanted I/O queue from an identifier on. It is the first of the mask, but where a queue of that bit isn't
+    // ready, which no call leaves.
+    fn first_from(&self, class: Option<Class>, least: u16) -> Option<Seen>
+        requires some { 1 ≤ least }
+        requires few { least ≤ queue_limit }
+        ensures { MatchOption result (NoneFrom (slots_in self.now) class least) (IsFirstFrom (slots_in self.now) class least) }
+    {
+        let Some(bit) = lowest(from_bit(self.mask_for(class), least - 1)) else {
+            return None;
+        };
+        match self.wanted_at(bit + 1, class) {
+            Some(seen) => Some(seen),
+            None => self.scan(class, least),
+        }
     }
 }
 
-/// Puts an open queue under an identifier.
-pub fn put(queues: &mut [QueueFields; QUEUE_LIMIT], qid: u16, class: Class, count: u16)
-    requires fit { AllFit queues.old }
-    requires fits { IsSeen (seen_as qid (record { class = class; count = count })) }
-    ensures put { slots_of queues.new ≡ slice_set (slots_of queues.old) qid (Some (record { class = class; count = count })) }
-    ensures fit { AllFit queues.new }
-{
-    queues[usize::from(qid)] = queue_of(class, count);
-}
+impl ReadyQueues for QueuesFields {
+    ghost use Rattle.nvme_arbiter.specs.Queues.{seen_of};
+    ghost use Rattle.nvme_capi.specs.Boards.{slots_in};
 
-/// Closes the queue of an identifier.
-pub fn clear(queues: &mut [QueueFields; QUEUE_LIMIT], qid: u16)
-    requires fit { AllFit queues.old }
-    requires within { qid ≤ highest_qid }
-    ensures cleared { slots_of queues.new ≡ slice_set (slots_of queues.old) qid None }
-    ensures fit { AllFit queues.new }
-{
-    queues[usize::from(qid)] = QueueFields { class: 0, count: 0 };
-}
+    ghost seen = { λ b. seen_of (slots_in b) };
 
-/// Takes commands from the queue of an identifier, where it is open.
-pub fn take(queues: &mut [QueueFields; QUEUE_LIMIT], qid: u16, n: u16)
-    requires fit { AllFit queues.old }
-    ensures taken { slots_of queues.new ≡ slice_set (slots_of queues.old) qid (option_map (fewer n) (queue_at (slots_of queues.old) qid)) }
-    ensures fit { AllFit queues.new }
-{
-    if let Some(open) = open_at(queues, qid) {
-        put(queues, qid, open.class, open.count.saturating_sub(n));
+    fn first(&self, class: Option<Class>) -> Option<Seen> {
+        match self.wanted_at(0, class) {
+            Some(seen) => Some(seen),
+            None => self.first_from(class, 1),
+        }
+    }
+
+    fn first_above(&self, class: Option<Class>, last: u16) -> Option<Seen> {
+        if last >= HIGHEST_QID {
+            None
+        } else {
+            self.first_from(class, last + 1)
+        }
+    }
+
+    fn class_of(&self, qid: u16) -> Option<Class> {
+        match self.queue(qid) {
+            Some(queue) => Some(queue.class),
+            None => None,
+        }
     }
 }

@@ -1,7 +1,7 @@
 // What an arbiter keeps, as C holds it. A state is taken where its mechanism is one of the two and each identifier has
 // a place. Every such state is one that an arbiter can keep, so nothing else has to hold of it.
 ghost use Rattle.std.specs.Prelude.{◌≡◌, IsTrue};
-ghost use Rattle.nvme_capi.specs.States.{last_of_place, is_place, are_places, mechanism_of, last_in, used_in, is_arbiter, kept_of, class_of, seen_of_fields, pick_of_fields};
+ghost use Rattle.nvme_capi.specs.States.{last_of_place, is_place, are_places, mechanism_of, last_in, used_in, is_arbiter, kept_of, seen_of_fields, pick_of_fields};
 
 use nvme_arbiter::{ByClass, Class, Kept, Last, Mechanism, Pick, Seen, Settings, Used};
 
@@ -161,25 +161,11 @@ pub fn fields_of_used(used: Used) -> UsedFields
     }
 }
 
-/// The class of a number, where it is the number of one.
-pub fn class_of(number: u16) -> Option<Class>
-    ensures { result ≡ class_of number }
-{
-    match number {
-        0 => Some(Class::Admin),
-        1 => Some(Class::Urgent),
-        2 => Some(Class::High),
-        3 => Some(Class::Medium),
-        4 => Some(Class::Low),
-        _ => None,
-    }
-}
-
 /// A submission queue as it is seen. One of no class is none that can be seen.
 pub fn seen_of_fields(queue: &SeenFields) -> Seen
     ensures { result ≡ seen_of_fields queue.now }
 {
-    match class_of(queue.class) {
+    match Class::of_number(queue.class) {
         Some(class) => Seen {
             qid: queue.qid,
             class,

@@ -14,7 +14,7 @@ ghost use Rattle.nvme_lint.specs.Warnings.{start_of, with_sqs, with_cqs, first_h
 ghost use Rattle.nvme_lint.specs.inside.Regions.{sq_site, cq_site};
 
 use crate::warning::{Kind, Warning};
-use nvme_admin::{MAX_REGIONS, Table, Verdict};
+use nvme_admin::{Table, Verdict};
 use nvme_entry::{Sqe, Status};
 use nvme_workload::{CqPlan, SqPlan, Workload};
 use std::alloc::{AllocError, Global};
@@ -137,11 +137,11 @@ fn push_refused(
 // Tells the submission regions that no queue was created on.
 fn push_unused_sqs(
     warnings: &mut Vec<Warning>,
-    used: &[bool; MAX_REGIONS],
+    table: &Table,
     plans: &[SqPlan],
 ) -> Result<(), AllocError>
     requires few { length plans.now ≤ MAX_REGIONS }
-    ensures told { OnOk result (warnings.new.items ≡ warnings.old.items ++ unused_sqs (used_at used.now) (reverse plans.now)) }
+    ensures told { OnOk result (warnings.new.items ≡ warnings.old.items ++ unused_sqs (used_at table.now.sq_used) (reverse plans.now)) }
 {
     for (region, plan) in plans.iter().enumerate() {
         let unused = Warning::Unused {
@@ -149,7 +149,7 @@ fn push_unused_sqs(
             region,
             commands: plan.script.as_slice().len(),
         };
-        push_unless(warnings, used[region], unused)?;
+        push_unless(warnings, table.is_sq_region_used(region), unused)?;
     }
     Ok(())
 }
@@ -157,11 +157,11 @@ fn push_unused_sqs(
 // Tells the completion regions that no queue was created on.
 fn push_unused_cqs(
     warnings: &mut Vec<Warning>,
-    used: &[bool; MAX_REGIONS],
+    table: &Table,
     plans: &[CqPlan],
 ) -> Result<(), AllocError>
     requires few { length plans.now ≤ MAX_REGIONS }
-    ensures told { OnOk result (warnings.new.items ≡ warnings.old.items ++ unused_cqs (used_at used.now) (reverse plans.now)) }
+    ensures told { OnOk result (warnings.new.items ≡ warnings.old.items ++ unused_cqs (used_at table.now.cq_used) (reverse plans.now)) }
 {
     for (region, _) in plans.iter().enumerate() {
         let unused = Warning::Unused {
@@ -169,7 +169,7 @@ fn push_unused_cqs(
             region,
             commands: 0,
         };
-        push_unless(warnings, used[region], unused)?;
+        push_unless(warnings, table.is_cq_region_used(region), unused)?;
     }
     Ok(())
 }
@@ -185,8 +185,7 @@ pub(crate) fn warnings_of(alloc: Global, workload: &Workload) -> Result<Vec<Warn
     let mut warnings = Vec::new(alloc);
     let mut table = first_table(workload);
     push_refused(&mut warnings, &mut table, submissions[0].script.as_slice())?;
-    let parts = table.into_parts();
-    push_unused_sqs(&mut warnings, &parts.sq_used, submissions)?;
-    push_unused_cqs(&mut warnings, &parts.cq_used, completions)?;
+    push_unused_sqs(&mut warnings, &table, submissions)?;
+    push_unused_cqs(&mut warnings, &table, completions)?;
     Ok(warnings)
 }

@@ -1,11 +1,14 @@
 use Rattle.std.proofs.Common.{refl}
-use Rattle.nvme_arbiter.specs.Limits.{queue_limit}
-use Rattle.nvme_capi.proofs.Slots.{closed-fit}
+use Rattle.nvme_arbiter.proofs.MaskLemmas.{observed_of}
+use Rattle.nvme_capi.specs.Boards.{slots_in}
+use Rattle.nvme_capi.proofs.Slots.{fits, slots-closed}
 use Rattle.nvme_capi.proofs.board.nvmearb_board_init.Goals as goal
 
--- src/board.rt:47:1
-pub returns-then-answer-eq-OK-clause-board : goal.returns-then-answer-eq-OK-clause-board
-returns-then-answer-eq-OK-clause-board c = λ ok. record {
-  arbiter = c.nvmearb_arbiter_init-answer.ensures.kept ok;
-  fit = closed-fit queue_limit (record { class = 0; count = 0 }) refl;
+pub returns-then-answer-eq-OK-clause-stands : goal.returns-then-answer-eq-OK-clause-stands
+returns-then-answer-eq-OK-clause-stands c = λ ok. record {
+  stands = c.nvmearb_arbiter_init-answer.ensures.stands ok;
+  observed = observed_of (slots_in _) (fits _);
 }
+
+pub returns-then-answer-eq-OK-clause-closed : goal.returns-then-answer-eq-OK-clause-closed
+returns-then-answer-eq-OK-clause-closed c = λ ok. slots-closed _ refl

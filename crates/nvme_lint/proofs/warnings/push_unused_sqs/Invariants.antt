@@ -6,5 +6,5 @@ use Rattle.nvme_lint.proofs.warnings.push_unused_sqs.Given as goal
 
 abbrev pub invariant-loop-region : goal.invariant-loop-region
 invariant-loop-region l = record {
-  told : l.warnings.items ++ sqs_then (used_at l.used) l.region (drop l.region l.plans) ≡ l.fn.warnings.items ++ sqs_then (used_at l.used) 0 l.plans;
+  told : l.warnings.items ++ sqs_then (used_at l.table.sq_used) l.region (drop l.region l.plans) ≡ l.fn.warnings.items ++ sqs_then (used_at l.table.sq_used) 0 l.plans;
 }
