@@ -4,7 +4,6 @@ pub mod Driven
 pub mod Fitting
 pub mod LoadedRuns
 pub mod Meaning
-pub mod Reading
 pub mod Rings
 pub mod Settled
 pub mod Sites

@@ -12,10 +12,10 @@ use Rattle.nvme_report.specs.declared.reports.Mode.{Mode}
 use Rattle.nvme_report.specs.Report.{report_text}
 use Rattle.nvme_workload.specs.declared.error.WorkloadError.{WorkloadError}
 use Rattle.nvme_workload.specs.Plan.{workload_of}
-use Rattle.nvme_runs.specs.Once.{entry_text}
+use Rattle.nvme_input.specs.Once.{entry_text}
 use Rattle.nvme_runs.specs.Runs.{IsRun}
-use Rattle.nvme_runs.specs.declared.entries.OnceError.{OnceError}
-use Rattle.nvme_runs.specs.declared.entries.OnceError.TheVariants as entry
+use Rattle.nvme_input.specs.declared.entries.OnceError.{OnceError}
+use Rattle.nvme_input.specs.declared.entries.OnceError.TheVariants as entry
 use Rattle.nvme_runs.specs.declared.runs.RunError.{RunError}
 use Rattle.nvme_runs.specs.declared.runs.RunError.TheVariants as run
 use Rattle.nvme_runs.specs.Ran.{BeginsAs}

@@ -3,7 +3,8 @@ ghost use Rattle.nvme_sim.specs.Statuses.{status_of};
 ghost use Rattle.nvme_sim.specs.declared.faults.Fault.TheVariants as fault;
 ghost use Rattle.nvme_runs.specs.declared.runs.RunError.TheVariants as run_fault;
 
-use nvme_runs::{InputError, OnceError, RunError};
+use nvme_input::{InputError, OnceError};
+use nvme_runs::RunError;
 use nvme_trace::TraceError;
 use std::alloc::AllocError;
 use std::io::Write;

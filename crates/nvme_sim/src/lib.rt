@@ -7,10 +7,8 @@ mod output;
 mod words;
 
 pub use commands::command;
+pub use nvme_input::{InputError, MAX_INPUT, MAX_READS, OnceError, once, take_input};
 pub use nvme_report::{Mode, WriteFault, report};
-pub use nvme_runs::{
-    InputError, MAX_INPUT, MAX_READS, OnceError, Ran, RunError, once, run, run_with, settled_run,
-    take_input,
-};
+pub use nvme_runs::{Ran, RunError, run, run_with, settled_run};
 pub use output::flushed;
 pub use words::file_named;

@@ -1,5 +1,5 @@
 // The end of the program's output.
-ghost use Rattle.std.specs.Prelude.{◌≡◌, ◌⊎◌, ◌↔◌, [], IsTrue};
+ghost use Rattle.std.specs.Prelude.{◌≡◌, ◌≢◌, ◌⊎◌, ◌↔◌, [], IsTrue};
 ghost use Rattle.std.specs.Io.KnownBytes.{Keeps};
 ghost use Rattle.std.specs.Io.Buffered.{writer_buffer, writer_contents};
 
@@ -19,8 +19,8 @@ fn has_answer(status: u8) -> bool
 }
 
 /// Writes what `command` left in the buffer of the output, where it answered a status with which the program may have
-/// an answer, 0, 1 or 4. The program's status is that of `command`, or 3 where this fails: one line of it went to
-/// `errors`, and a write that failed there is ignored.
+/// an answer, 0, 1 or 4; with any other status the output stays as it is. The program's status is that of `command`, or
+/// 3 where this fails: one line of it went to `errors`, and a write that failed there is ignored.
 pub fn flushed<W: Write + Drop, E: Write>(
     status: u8,
     output: &mut BufWriter<W>,
@@ -28,6 +28,7 @@ pub fn flushed<W: Write + Drop, E: Write>(
 ) -> u8
     ensures status { (result ≡ status) ⊎ (((status ≡ 0) ⊎ (status ≡ AT_FAULT) ⊎ (status ≡ WARNED)) × (result ≡ 3)) }
     ensures written { (result ≡ 0) ⊎ (result ≡ AT_FAULT) ⊎ (result ≡ WARNED) → writer_buffer output.new ≡ [] }
+    ensures unchanged { (status ≢ 0) × (status ≢ AT_FAULT) × (status ≢ WARNED) → output.new ≡ output.old }
     ensures bytes { Keeps (writer_contents W.contents output.old) (writer_contents W.contents output.new) }
 {
     if has_answer(status) && output.flush().is_err() {

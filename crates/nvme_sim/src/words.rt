@@ -172,54 +172,40 @@ fn stats_command<'a>(alloc: Global) -> Result<Command<'a>, AllocError> {
     .arg(format)
 }
 
+// A program with one more subcommand. Want of memory stays want of memory, so that who calls this has one exit.
+fn with<'a>(
+    program: Result<Command<'a>, AllocError>,
+    subcommand: Result<Command<'a>, AllocError>,
+) -> Result<Command<'a>, AllocError> {
+    program?.subcommand(subcommand?)
+}
+
 // The subcommands that read standard input alone.
 fn with_input<'a>(alloc: Global, program: Command<'a>) -> Result<Command<'a>, AllocError> {
-    let loaded = mode_command(
-        alloc,
-        "loaded",
-        "Runs a workload whose hosts submit all before the front begins, and prints its report",
-    )?;
-    let live = mode_command(
-        alloc,
-        "live",
-        "Runs a workload whose hosts submit while the front works, and prints its report",
-    )?;
-    program
-        .subcommand(once_command(alloc)?)?
-        .subcommand(loaded)?
-        .subcommand(live)
+    let loaded =
+        "Runs a workload whose hosts submit all before the front begins, and prints its report";
+    let live = "Runs a workload whose hosts submit while the front works, and prints its report";
+    let program = with(Ok(program), once_command(alloc));
+    let program = with(program, mode_command(alloc, "loaded", loaded));
+    with(program, mode_command(alloc, "live", live))
 }
 
 // The subcommands that read a workload file.
 fn with_file<'a>(alloc: Global, program: Command<'a>) -> Result<Command<'a>, AllocError> {
-    let run = run_command(
-        alloc,
-        "run",
-        "Runs the workload of a file, and prints its report",
-    )?;
-    let trace = run_command(
-        alloc,
-        "trace",
-        "Runs the workload of a file, and prints its trace",
-    )?;
-    program
-        .subcommand(run)?
-        .subcommand(lint_command(alloc)?)?
-        .subcommand(trace)
+    let run = "Runs the workload of a file, and prints its report";
+    let trace = "Runs the workload of a file, and prints its trace";
+    let program = with(Ok(program), run_command(alloc, "run", run));
+    let program = with(program, lint_command(alloc));
+    with(program, run_command(alloc, "trace", trace))
 }
 
 // The subcommands that read a trace.
 fn with_trace<'a>(alloc: Global, program: Command<'a>) -> Result<Command<'a>, AllocError> {
-    let check = trace_command(
-        alloc,
-        "check",
-        "Tells whether each pick of a trace is the lawful one",
-    )?;
-    let chart = trace_command(alloc, "chart", "Prints a picture of a trace as SVG")?;
-    program
-        .subcommand(check)?
-        .subcommand(chart)?
-        .subcommand(stats_command(alloc)?)
+    let check = "Tells whether each pick of a trace is the lawful one";
+    let chart = "Prints a picture of a trace as SVG";
+    let program = with(Ok(program), trace_command(alloc, "check", check));
+    let program = with(program, trace_command(alloc, "chart", chart));
+    with(program, stats_command(alloc))
 }
 
 // The command line of the program.

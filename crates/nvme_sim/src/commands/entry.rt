@@ -6,7 +6,7 @@ ghost use Rattle.nvme_sim.specs.declared.commands.Answer.TheVariants as answer;
 
 use super::Answer;
 use crate::faults::Fault;
-use nvme_runs::{once, take_input};
+use nvme_input::{once, take_input};
 use std::alloc::Global;
 use std::io::{Read, Write};
 
