@@ -1,0 +1,82 @@
+"""What the scripts that call the prover themselves share: the crates, and the words of a check over built libraries."""
+import os
+import re
+import subprocess
+from collections import namedtuple
+
+TOP = os.path.dirname(os.path.dirname(os.path.realpath(__file__)))
+
+# How `rt ci` tells that a library is built.
+BUILT = re.compile(r"rt: (\w+) (?:proved$|is kept: )")
+
+# A crate's row of crates.txt: its words before the colon, the crates of this repository that it names, and others.
+Row = namedtuple("Row", "words uses others")
+
+
+def text_of(file):
+    with open(file, encoding="utf-8") as it:
+        return it.read()
+
+
+def folder_of(crate):
+    return f"{TOP}/crates/{crate}"
+
+
+def rows_of_list():
+    """Returns the rows of crates.txt by the crate's name."""
+    found = {}
+    for line in text_of(f"{TOP}/crates.txt").splitlines():
+        head, colon, uses = line.partition("#")[0].partition(":")
+        if colon:
+            found[head.split()[0]] = head.split(), uses.split()
+    own = lambda uses, are_own: [it for it in uses if (it in found) == are_own]
+    return {name: Row(words, own(uses, True), own(uses, False)) for name, (words, uses) in found.items()}
+
+
+def with_below(crate, rows):
+    """Returns the crate and all below it, each after those that it uses."""
+    found = []
+    for use in rows[crate].uses:
+        found += [it for it in with_below(use, rows) if it not in found]
+    return [*found, crate]
+
+
+def kit():
+    """Returns the folder of the toolchain."""
+    ran = subprocess.run(["rt", "doc"], check=True, capture_output=True, text=True)
+    return os.path.dirname(ran.stdout.strip())
+
+
+class Libraries:
+    """The built libraries below crates. Where `rt ci` builds them meanwhile, a file has its lines so far, and the line
+    'ended' once it ended."""
+
+    def __init__(self, file):
+        self.file = file
+
+    def lines(self):
+        return text_of(self.file).splitlines() if self.file else []
+
+    def is_under_way(self):
+        return bool(self.file) and "ended" not in self.lines()
+
+    def lacking(self, crates):
+        """Returns those of the crates that aren't built yet."""
+        said = {it[1] for it in map(BUILT.match, self.lines()) if it}
+        return [it for it in crates if it not in said] if self.file else []
+
+
+def words_of(command, crate, rows, kit, crates):
+    """Returns the words of a check or a build of the crate, to run in its folder or a copy. The folder `crates` has the
+    crates below it with their built libraries."""
+    root = "src/lib.rt" if os.path.isfile(f"{folder_of(crate)}/src/lib.rt") else "src/main.rt"
+    words = [f"{kit}/bin/rattle", command, "--crate-name", crate, root]
+    for it in ["std", *rows[crate].others]:
+        words += ["--extern", f"{it}={kit}/rlibs/{it}.rlib"]
+    words += ["-L", f"dependency={kit}/rlibs"]
+    for it in rows[crate].uses:
+        words += ["--extern", f"{it}={crates}/{it}/out/rlib/{it}.rlib"]
+    for it in with_below(crate, rows)[:-1]:
+        words += ["-L", f"dependency={crates}/{it}/out/rlib"]
+    words += ["--antt-project", f"{kit}/rattle/logic/antt-project.json", "--logic-built", f"{kit}/logic_built"]
+    return words + (["--crate-type", "staticlib"] if "staticlib" in rows[crate].words else [])
