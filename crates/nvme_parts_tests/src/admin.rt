@@ -42,6 +42,17 @@ fn add_regions(table: &mut Table) -> Result<(), AdminError> {
     Ok(())
 }
 
+// A table answers a command with this verdict.
+fn expect(rt: &impl Abort, table: &mut Table, entry: &Sqe, verdict: &Verdict) {
+    assert_eq!(rt; table.apply(entry), *verdict, "{entry:?}");
+}
+
+// A table refuses a command with this status, and has the queues that it had.
+fn refuse(rt: &impl Abort, table: &mut Table, entry: &Sqe, status: Status) {
+    expect(rt, table, entry, &Verdict::Done(status, 0));
+    assert!(rt; is_as_prepared(table), "{entry:?}");
+}
+
 // A table with these regions, with completion queue 1 and submission queue 1 open.
 fn prepared(rt: &impl Abort, nsq: u16, ncq: u16) -> Result<Table, AdminError>
     requires nsq { (1 ≤ nsq) × (nsq ≤ 16) }
@@ -49,20 +60,21 @@ fn prepared(rt: &impl Abort, nsq: u16, ncq: u16) -> Result<Table, AdminError>
 {
     let mut table = Table::new(Limits { nsq, ncq }, Settings::from_cdw11(0));
     add_regions(&mut table)?;
-    assert_eq!(rt;
-        table.apply(&entry(5, 0x9000, 0x0007_0001, 1)),
-        Verdict::OpenCq { qid: 1, region: 1 }
+    let create_cq = entry(5, 0x9000, 0x0007_0001, 1);
+    expect(
+        rt,
+        &mut table,
+        &create_cq,
+        &Verdict::OpenCq { qid: 1, region: 1 },
     );
+    let create_sq = entry(1, 0x2000, 0x0007_0001, 0x0001_0003);
     let opened = Verdict::OpenSq {
         qid: 1,
         region: 1,
         cqid: 1,
         class: Class::High,
     };
-    assert_eq!(rt;
-        table.apply(&entry(1, 0x2000, 0x0007_0001, 0x0001_0003)),
-        opened
-    );
+    expect(rt, &mut table, &create_sq, &opened);
     Ok(table)
 }
 
@@ -89,46 +101,18 @@ fn is_as_prepared(table: &Table) -> bool {
 fn create_sq_refusals(rt: HostRuntime) -> Result<(), Fail> {
     let mut table = prepared(&rt, 16, 16)?;
     let refused = [
-        (
-            entry(1, 0x3000, 0x0000_0003, 0x0001_0003),
-            Status::INVALID_QUEUE_SIZE,
-        ),
-        (
-            entry(1, 0x3000, 0x1000_0003, 0x0001_0003),
-            Status::INVALID_QUEUE_SIZE,
-        ),
-        (
-            entry(1, 0x3000, 0x0100_0003, 0x0001_0003),
-            Status::INVALID_FIELD,
-        ),
-        (
-            entry(1, 0x3000, 0x0007_0001, 0x0001_0003),
-            Status::INVALID_QUEUE_IDENTIFIER,
-        ),
-        (
-            entry(1, 0x3000, 0x0007_0011, 0x0001_0003),
-            Status::INVALID_QUEUE_IDENTIFIER,
-        ),
-        (
-            entry(1, 0x3000, 0x0007_0000, 0x0001_0003),
-            Status::INVALID_QUEUE_IDENTIFIER,
-        ),
-        (
-            entry(1, 0x3000, 0x0007_0003, 0x0002_0003),
-            Status::COMPLETION_QUEUE_INVALID,
-        ),
-        (
-            entry(1, 0x3000, 0x0007_0003, 0x0000_0003),
-            Status::INVALID_QUEUE_IDENTIFIER,
-        ),
-        (
-            entry(1, 0x3000, 0x0007_0003, 0x0011_0003),
-            Status::INVALID_QUEUE_IDENTIFIER,
-        ),
+        (0x0000_0003, 0x0001_0003, Status::INVALID_QUEUE_SIZE),
+        (0x1000_0003, 0x0001_0003, Status::INVALID_QUEUE_SIZE),
+        (0x0100_0003, 0x0001_0003, Status::INVALID_FIELD),
+        (0x0007_0001, 0x0001_0003, Status::INVALID_QUEUE_IDENTIFIER),
+        (0x0007_0011, 0x0001_0003, Status::INVALID_QUEUE_IDENTIFIER),
+        (0x0007_0000, 0x0001_0003, Status::INVALID_QUEUE_IDENTIFIER),
+        (0x0007_0003, 0x0002_0003, Status::COMPLETION_QUEUE_INVALID),
+        (0x0007_0003, 0x0000_0003, Status::INVALID_QUEUE_IDENTIFIER),
+        (0x0007_0003, 0x0011_0003, Status::INVALID_QUEUE_IDENTIFIER),
     ];
-    for (e, status) in refused {
-        assert_eq!(rt; table.apply(&e), Verdict::Done(status, 0), "{e:?}");
-        assert!(rt; is_as_prepared(&table), "{e:?}");
+    for &(cdw10, cdw11, status) in &refused {
+        refuse(&rt, &mut table, &entry(1, 0x3000, cdw10, cdw11), status);
     }
     Ok(())
 }
@@ -136,36 +120,25 @@ fn create_sq_refusals(rt: HostRuntime) -> Result<(), Fail> {
 #[test]
 fn create_sq_refuses_fields(rt: HostRuntime) -> Result<(), Fail> {
     let mut table = prepared(&rt, 16, 16)?;
-    let refused = [
-        entry(1, 0x3000, 0x0007_0003, 0x0001_0002),
-        entry(1, 0x2000, 0x0007_0003, 0x0001_0003),
-        entry(1, 0x1000, 0x0007_0003, 0x0001_0003),
-        entry(1, 0x4000, 0x0007_0003, 0x0001_0003),
-        entry(1, 0xa000, 0x0007_0003, 0x0001_0003),
-        entry(1, 0x5000, 0x0007_0003, 0x0001_0003),
-        Sqe {
-            flags: 1,
-            ..entry(1, 0x3000, 0x0007_0003, 0x0001_0003)
-        },
-    ];
-    for e in refused {
-        assert_eq!(rt;
-            table.apply(&e),
-            Verdict::Done(Status::INVALID_FIELD, 0),
-            "{e:?}"
-        );
-        assert!(rt; is_as_prepared(&table), "{e:?}");
+    for &prp1 in &[0x2000, 0x1000, 0x4000, 0xa000, 0x5000] {
+        let create = entry(1, prp1, 0x0007_0003, 0x0001_0003);
+        refuse(&rt, &mut table, &create, Status::INVALID_FIELD);
     }
+    let scattered = entry(1, 0x3000, 0x0007_0003, 0x0001_0002);
+    refuse(&rt, &mut table, &scattered, Status::INVALID_FIELD);
+    let fused = Sqe {
+        flags: 1,
+        ..entry(1, 0x3000, 0x0007_0003, 0x0001_0003)
+    };
+    refuse(&rt, &mut table, &fused, Status::INVALID_FIELD);
+    let create = entry(1, 0x3000, 0x0007_0003, 0x0001_0007);
     let opened = Verdict::OpenSq {
         qid: 3,
         region: 2,
         cqid: 1,
         class: Class::Low,
     };
-    assert_eq!(rt;
-        table.apply(&entry(1, 0x3000, 0x0007_0003, 0x0001_0007)),
-        opened
-    );
+    expect(&rt, &mut table, &create, &opened);
     Ok(())
 }
 
@@ -173,36 +146,25 @@ fn create_sq_refuses_fields(rt: HostRuntime) -> Result<(), Fail> {
 fn create_cq_refusals(rt: HostRuntime) -> Result<(), Fail> {
     let mut table = prepared(&rt, 16, 16)?;
     let refused = [
-        (entry(5, 0xa000, 0x0000_0003, 1), Status::INVALID_QUEUE_SIZE),
-        (entry(5, 0xa000, 0x1000_0003, 1), Status::INVALID_QUEUE_SIZE),
-        (entry(5, 0xa000, 0x0100_0003, 1), Status::INVALID_FIELD),
-        (
-            entry(5, 0xa000, 0x0007_0001, 1),
-            Status::INVALID_QUEUE_IDENTIFIER,
-        ),
-        (
-            entry(5, 0xa000, 0x0007_0011, 1),
-            Status::INVALID_QUEUE_IDENTIFIER,
-        ),
-        (
-            entry(5, 0xa000, 0x0007_0000, 1),
-            Status::INVALID_QUEUE_IDENTIFIER,
-        ),
-        (entry(5, 0xa000, 0x0007_0003, 0), Status::INVALID_FIELD),
-        (entry(5, 0x9000, 0x0007_0003, 1), Status::INVALID_FIELD),
-        (entry(5, 0x8000, 0x0007_0003, 1), Status::INVALID_FIELD),
-        (entry(5, 0xb000, 0x0007_0003, 1), Status::INVALID_FIELD),
-        (entry(5, 0x3000, 0x0007_0003, 1), Status::INVALID_FIELD),
-        (entry(5, 0x5000, 0x0007_0003, 1), Status::INVALID_FIELD),
+        (0xa000, 0x0000_0003, 1, Status::INVALID_QUEUE_SIZE),
+        (0xa000, 0x1000_0003, 1, Status::INVALID_QUEUE_SIZE),
+        (0xa000, 0x0100_0003, 1, Status::INVALID_FIELD),
+        (0xa000, 0x0007_0001, 1, Status::INVALID_QUEUE_IDENTIFIER),
+        (0xa000, 0x0007_0011, 1, Status::INVALID_QUEUE_IDENTIFIER),
+        (0xa000, 0x0007_0000, 1, Status::INVALID_QUEUE_IDENTIFIER),
+        (0xa000, 0x0007_0003, 0, Status::INVALID_FIELD),
+        (0x9000, 0x0007_0003, 1, Status::INVALID_FIELD),
+        (0x8000, 0x0007_0003, 1, Status::INVALID_FIELD),
+        (0xb000, 0x0007_0003, 1, Status::INVALID_FIELD),
+        (0x3000, 0x0007_0003, 1, Status::INVALID_FIELD),
+        (0x5000, 0x0007_0003, 1, Status::INVALID_FIELD),
     ];
-    for (e, status) in refused {
-        assert_eq!(rt; table.apply(&e), Verdict::Done(status, 0), "{e:?}");
-        assert!(rt; is_as_prepared(&table), "{e:?}");
+    for &(prp1, cdw10, cdw11, status) in &refused {
+        refuse(&rt, &mut table, &entry(5, prp1, cdw10, cdw11), status);
     }
-    assert_eq!(rt;
-        table.apply(&entry(5, 0xb000, 0x000f_0003, 1)),
-        Verdict::OpenCq { qid: 3, region: 3 }
-    );
+    let create = entry(5, 0xb000, 0x000f_0003, 1);
+    let opened = Verdict::OpenCq { qid: 3, region: 3 };
+    expect(&rt, &mut table, &create, &opened);
     Ok(())
 }
 
@@ -225,17 +187,41 @@ fn delete_order(rt: HostRuntime) -> Result<(), Fail> {
     let create_sq = entry(1, 0x3000, 0x0007_0001, 0x0001_0003);
     let attached = Verdict::Done(Status::INVALID_QUEUE_DELETION, 0);
     let no_such = Verdict::Done(Status::INVALID_QUEUE_IDENTIFIER, 0);
-    assert_eq!(rt; table.apply(&delete_cq), attached);
-    assert_eq!(rt; table.apply(&delete_sq), Verdict::BeginDelete { qid: 1 });
-    assert_eq!(rt; table.apply(&delete_cq), attached);
-    assert_eq!(rt; table.apply(&delete_sq), no_such);
-    assert_eq!(rt; table.apply(&create_sq), no_such);
+    expect(&rt, &mut table, &delete_cq, &attached);
+    expect(
+        &rt,
+        &mut table,
+        &delete_sq,
+        &Verdict::BeginDelete { qid: 1 },
+    );
+    expect(&rt, &mut table, &delete_cq, &attached);
+    expect(&rt, &mut table, &delete_sq, &no_such);
+    expect(&rt, &mut table, &create_sq, &no_such);
     assert!(rt; finish(&mut table, 1));
-    assert_eq!(rt; table.apply(&delete_cq), Verdict::CloseCq { qid: 1 });
-    assert_eq!(rt; table.apply(&delete_cq), no_such);
-    assert_eq!(rt; table.apply(&entry(0, 0, 0, 0)), no_such);
-    assert_eq!(rt; table.apply(&entry(4, 0, 0, 0)), no_such);
+    expect(&rt, &mut table, &delete_cq, &Verdict::CloseCq { qid: 1 });
+    expect(&rt, &mut table, &delete_cq, &no_such);
+    expect(&rt, &mut table, &entry(0, 0, 0, 0), &no_such);
+    expect(&rt, &mut table, &entry(4, 0, 0, 0), &no_such);
     Ok(())
+}
+
+// Of a table for 8 submission queues and 4 completion queues: their numbers, once they are set and a queue is there.
+fn set_numbers(rt: &impl Abort, table: &mut Table) {
+    let done = |dw0: u32| Verdict::Done(Status::SUCCESS, dw0);
+    let get_numbers = entry(10, 0, 7, 0);
+    expect(rt, table, &get_numbers, &done(0x0003_0007));
+    let too_many = Verdict::Done(Status::INVALID_FIELD, 0);
+    expect(rt, table, &entry(9, 0, 7, 0x0003_ffff), &too_many);
+    expect(rt, table, &entry(9, 0, 7, 0x0007_0003), &done(0x0003_0003));
+    expect(rt, table, &entry(9, 0, 7, 0), &done(0x0003_0003));
+    expect(rt, table, &get_numbers, &done(0x0003_0003));
+    assert_eq!(rt; table.allotted(), Limits { nsq: 4, ncq: 4 });
+    let too_high = Verdict::Done(Status::INVALID_QUEUE_IDENTIFIER, 0);
+    expect(rt, table, &entry(5, 0x9000, 0x0007_0005, 1), &too_high);
+    let opened = Verdict::OpenCq { qid: 4, region: 1 };
+    expect(rt, table, &entry(5, 0x9000, 0x0007_0004, 1), &opened);
+    let late = Verdict::Done(Status::SEQUENCE_ERROR, 0);
+    expect(rt, table, &entry(9, 0, 7, 0x0003_ffff), &late);
 }
 
 #[test]
@@ -244,80 +230,69 @@ fn features(rt: HostRuntime) -> Result<(), Fail> {
     table.add_sq_region(0x1000, 8)?;
     table.add_cq_region(0x8000, 8)?;
     table.add_cq_region(0x9000, 8)?;
-    let get_numbers = entry(10, 0, 7, 0);
+    set_numbers(&rt, &mut table);
     let done = |dw0: u32| Verdict::Done(Status::SUCCESS, dw0);
-    assert_eq!(rt; table.apply(&get_numbers), done(0x0003_0007));
-    assert_eq!(rt;
-        table.apply(&entry(9, 0, 7, 0x0003_ffff)),
-        Verdict::Done(Status::INVALID_FIELD, 0)
-    );
-    assert_eq!(rt;
-        table.apply(&entry(9, 0, 7, 0x0007_0003)),
-        done(0x0003_0003)
-    );
-    assert_eq!(rt; table.apply(&entry(9, 0, 7, 0)), done(0x0003_0003));
-    assert_eq!(rt; table.apply(&get_numbers), done(0x0003_0003));
-    assert_eq!(rt; table.allotted(), Limits { nsq: 4, ncq: 4 });
-    let too_high = Verdict::Done(Status::INVALID_QUEUE_IDENTIFIER, 0);
-    assert_eq!(rt; table.apply(&entry(5, 0x9000, 0x0007_0005, 1)), too_high);
-    assert_eq!(rt;
-        table.apply(&entry(5, 0x9000, 0x0007_0004, 1)),
-        Verdict::OpenCq { qid: 4, region: 1 }
-    );
-    assert_eq!(rt;
-        table.apply(&entry(9, 0, 7, 0x0003_ffff)),
-        Verdict::Done(Status::SEQUENCE_ERROR, 0)
-    );
-    assert_eq!(rt; table.apply(&entry(10, 0, 1, 0)), done(0x0301_0001));
-    assert_eq!(rt;
-        table.apply(&entry(9, 0, 0x8000_0001, 0)),
-        Verdict::Done(Status::FEATURE_NOT_SAVEABLE, 0)
-    );
-    assert_eq!(rt;
-        table.apply(&entry(9, 0, 2, 0)),
-        Verdict::Done(Status::INVALID_FIELD, 0)
-    );
-    assert_eq!(rt;
-        table.apply(&entry(10, 0, 2, 0)),
-        Verdict::Done(Status::INVALID_FIELD, 0)
-    );
-    assert_eq!(rt;
-        table.apply(&entry(6, 0, 0, 0)),
-        Verdict::Done(Status::INVALID_OPCODE, 0)
-    );
-    assert_eq!(rt;
-        table.apply(&entry(8, 0, 0x0007_0003, 0)),
-        Verdict::Abort { sqid: 3, cid: 7 }
-    );
+    expect(&rt, &mut table, &entry(10, 0, 1, 0), &done(0x0301_0001));
+    let refused = [
+        (9, 0x8000_0001, Status::FEATURE_NOT_SAVEABLE),
+        (9, 2, Status::INVALID_FIELD),
+        (10, 2, Status::INVALID_FIELD),
+        (6, 0, Status::INVALID_OPCODE),
+    ];
+    for &(opcode, cdw10, status) in &refused {
+        let verdict = Verdict::Done(status, 0);
+        expect(&rt, &mut table, &entry(opcode, 0, cdw10, 0), &verdict);
+    }
+    let abort = Verdict::Abort { sqid: 3, cid: 7 };
+    expect(&rt, &mut table, &entry(8, 0, 0x0007_0003, 0), &abort);
     let settings = Settings::from_cdw11(0xffff_ffff);
-    assert_eq!(rt;
-        table.apply(&entry(9, 0, 1, 0xffff_ffff)),
-        Verdict::SetArbitration(settings)
-    );
-    assert_eq!(rt; table.apply(&entry(10, 0, 1, 0)), done(0xffff_ff07));
+    let set = Verdict::SetArbitration(settings);
+    expect(&rt, &mut table, &entry(9, 0, 1, 0xffff_ffff), &set);
+    expect(&rt, &mut table, &entry(10, 0, 1, 0), &done(0xffff_ff07));
     assert_eq!(rt; table.settings(), settings);
     Ok(())
 }
 
+// A table answers this where a submission region is added.
+fn expect_sq(
+    rt: &impl Abort,
+    table: &mut Table,
+    address: u64,
+    slots: u16,
+    added: Result<u8, AdminError>,
+) {
+    assert_eq!(rt; table.add_sq_region(address, slots), added);
+}
+
+// A table answers this where a completion region is added.
+fn expect_cq(
+    rt: &impl Abort,
+    table: &mut Table,
+    address: u64,
+    slots: u16,
+    added: Result<u8, AdminError>,
+) {
+    assert_eq!(rt; table.add_cq_region(address, slots), added);
+}
+
 #[test]
-fn region_refusals(rt: HostRuntime) -> Result<(), Fail> {
+fn region_refusals(rt: HostRuntime) {
     let mut table = Table::new(Limits { nsq: 1, ncq: 1 }, Settings::from_cdw11(0));
-    assert_eq!(rt; table.add_sq_region(64, 1), Err(AdminError::Size));
-    assert_eq!(rt; table.add_sq_region(64, 4097), Err(AdminError::Size));
+    expect_sq(&rt, &mut table, 64, 1, Err(AdminError::Size));
+    expect_sq(&rt, &mut table, 64, 4097, Err(AdminError::Size));
     assert!(rt; table.sq(0).is_none());
-    assert_eq!(rt; table.add_sq_region(64, 2), Ok(0));
-    assert_eq!(rt; table.add_cq_region(64, 2), Err(AdminError::Used));
-    assert_eq!(rt; table.add_cq_region(65, 4096), Ok(0));
-    assert_eq!(rt; table.add_sq_region(65, 2), Err(AdminError::Used));
+    expect_sq(&rt, &mut table, 64, 2, Ok(0));
+    expect_cq(&rt, &mut table, 64, 2, Err(AdminError::Used));
+    expect_cq(&rt, &mut table, 65, 4096, Ok(0));
+    expect_sq(&rt, &mut table, 65, 2, Err(AdminError::Used));
     for k in 1..65u8 {
         let place = u64::from(k);
-        assert_eq!(rt; table.add_sq_region(100 + place, 2), Ok(k));
-        assert_eq!(rt; table.add_cq_region(200 + place, 2), Ok(k));
+        expect_sq(&rt, &mut table, 100 + place, 2, Ok(k));
+        expect_cq(&rt, &mut table, 200 + place, 2, Ok(k));
     }
-    assert_eq!(rt; table.add_sq_region(300, 1), Err(AdminError::TooMany));
-    assert_eq!(rt; table.add_cq_region(300, 2), Err(AdminError::TooMany));
-    assert_eq!(rt; table.add_cq_region(101, 2), Err(AdminError::Used));
-    Ok(())
+    expect_sq(&rt, &mut table, 300, 1, Err(AdminError::TooMany));
+    expect_cq(&rt, &mut table, 300, 2, Err(AdminError::TooMany));
+    expect_cq(&rt, &mut table, 101, 2, Err(AdminError::Used));
 }
 
 #[test]
@@ -328,8 +303,8 @@ fn fault_messages(rt: HostRuntime) -> Result<(), Fail> {
         (AdminError::TooMany, "65 regions of this kind are there"),
         (AdminError::Size, "the number of slots is outside 2 to 4096"),
     ];
-    for (fault, line) in cases {
-        assert_eq!(rt; fault.to_string(alloc)?.as_str(), line);
+    for (fault, line) in &cases {
+        assert_eq!(rt; fault.to_string(alloc)?.as_str(), *line);
     }
     Ok(())
 }

@@ -47,6 +47,13 @@ fn play(rt: &impl Abort, arbiter: &mut Arbiter, seen: &mut [Seen]) -> Option<Pic
     picked
 }
 
+// The next picks are these.
+fn expect(rt: &impl Abort, arbiter: &mut Arbiter, seen: &mut [Seen], picks: &[Option<Pick>]) {
+    for picked in picks {
+        assert_eq!(rt; play(rt, arbiter, seen), *picked);
+    }
+}
+
 #[test]
 fn round_robin_four_queues(rt: HostRuntime) {
     let mut arbiter = Arbiter::new(Mechanism::RoundRobin, Settings::from_cdw11(0));
@@ -56,10 +63,10 @@ fn round_robin_four_queues(rt: HostRuntime) {
         queue(2, Class::Low, 0),
         queue(3, Class::Medium, 1),
     ];
-    for qid in [0, 1, 3, 0, 1, 1, 1, 1] {
-        assert_eq!(rt; play(&rt, &mut arbiter, &mut seen), pick(qid, 1));
+    for &qid in &[0, 1, 3, 0, 1, 1, 1, 1] {
+        expect(&rt, &mut arbiter, &mut seen, &[pick(qid, 1)]);
     }
-    assert_eq!(rt; play(&rt, &mut arbiter, &mut seen), None);
+    expect(&rt, &mut arbiter, &mut seen, &[None]);
 }
 
 #[test]
@@ -67,14 +74,14 @@ fn no_burst_limit(rt: HostRuntime) {
     let settings = Settings::from_cdw11(7);
     let mut seen = [queue(1, Class::High, 255)];
     let mut arbiter = Arbiter::new(Mechanism::RoundRobin, settings);
-    assert_eq!(rt; play(&rt, &mut arbiter, &mut seen), pick(1, 255));
+    expect(&rt, &mut arbiter, &mut seen, &[pick(1, 255)]);
     let mut seen = [queue(1, Class::High, 255)];
     let mut arbiter = Arbiter::new(Mechanism::Weighted, settings);
-    assert_eq!(rt; play(&rt, &mut arbiter, &mut seen), pick(1, 1));
+    expect(&rt, &mut arbiter, &mut seen, &[pick(1, 1)]);
     for _ in 0..254 {
-        assert_eq!(rt; play(&rt, &mut arbiter, &mut seen), fresh(1, 1));
+        expect(&rt, &mut arbiter, &mut seen, &[fresh(1, 1)]);
     }
-    assert_eq!(rt; play(&rt, &mut arbiter, &mut seen), None);
+    expect(&rt, &mut arbiter, &mut seen, &[None]);
     let settings = Settings::from_cdw11(0xffff_ffff);
     assert_eq!(rt; settings.to_cdw11(), 0xffff_ff07);
     assert_eq!(rt; settings.burst(), None);
@@ -94,11 +101,9 @@ fn two_rounds() -> [Seen; 4] {
     ]
 }
 
-#[test]
-fn weighted_two_rounds(rt: HostRuntime) {
-    let mut arbiter = Arbiter::new(Mechanism::Weighted, Settings::from_cdw11(0x0301_0001));
-    let mut seen = two_rounds();
-    for picked in [
+// The picks of the two rounds, and of all that is left.
+fn two_rounds_picks() -> [Option<Pick>; 15] {
+    [
         pick(1, 2),
         pick(2, 2),
         pick(3, 2),
@@ -114,22 +119,25 @@ fn weighted_two_rounds(rt: HostRuntime) {
         fresh(4, 1),
         fresh(4, 1),
         None,
-    ] {
-        assert_eq!(rt; play(&rt, &mut arbiter, &mut seen), picked);
-    }
+    ]
+}
+
+#[test]
+fn weighted_two_rounds(rt: HostRuntime) {
+    let mut arbiter = Arbiter::new(Mechanism::Weighted, Settings::from_cdw11(0x0301_0001));
+    let mut seen = two_rounds();
+    expect(&rt, &mut arbiter, &mut seen, &two_rounds_picks());
 }
 
 #[test]
 fn urgent_cuts_in(rt: HostRuntime) {
     let mut arbiter = Arbiter::new(Mechanism::Weighted, Settings::from_cdw11(0x0301_0001));
     let mut seen = two_rounds();
-    assert_eq!(rt; play(&rt, &mut arbiter, &mut seen), pick(1, 2));
-    assert_eq!(rt; play(&rt, &mut arbiter, &mut seen), pick(2, 2));
+    expect(&rt, &mut arbiter, &mut seen, &[pick(1, 2), pick(2, 2)]);
     let [q1, q2, q3, q4] = seen;
     let mut seen = [q1, q2, q3, q4, queue(5, Class::Urgent, 3)];
-    for picked in [pick(5, 2), pick(5, 1), pick(3, 2), pick(4, 1), fresh(1, 2)] {
-        assert_eq!(rt; play(&rt, &mut arbiter, &mut seen), picked);
-    }
+    let picks = [pick(5, 2), pick(5, 1), pick(3, 2), pick(4, 1), fresh(1, 2)];
+    expect(&rt, &mut arbiter, &mut seen, &picks);
 }
 
 #[test]
@@ -137,12 +145,10 @@ fn new_settings_start_a_round(rt: HostRuntime) {
     let settings = Settings::from_cdw11(0x0301_0001);
     let mut arbiter = Arbiter::new(Mechanism::Weighted, settings);
     let mut seen = two_rounds();
-    assert_eq!(rt; play(&rt, &mut arbiter, &mut seen), pick(1, 2));
-    assert_eq!(rt; play(&rt, &mut arbiter, &mut seen), pick(2, 2));
+    expect(&rt, &mut arbiter, &mut seen, &[pick(1, 2), pick(2, 2)]);
     arbiter.set(settings);
-    assert_eq!(rt; play(&rt, &mut arbiter, &mut seen), pick(1, 2));
-    assert_eq!(rt; play(&rt, &mut arbiter, &mut seen), pick(2, 2));
-    assert_eq!(rt; play(&rt, &mut arbiter, &mut seen), pick(3, 2));
+    let picks = [pick(1, 2), pick(2, 2), pick(3, 2)];
+    expect(&rt, &mut arbiter, &mut seen, &picks);
 }
 
 // A class of an I/O queue.
@@ -219,8 +225,15 @@ fn step(rt: &impl Abort, board: &mut Board, arbiter: &mut Arbiter) -> Option<Pic
     picked
 }
 
+// The next picks of a board, and of the arbiter beside it, are these.
+fn expect_on(rt: &impl Abort, board: &mut Board, arbiter: &mut Arbiter, picks: &[Option<Pick>]) {
+    for picked in picks {
+        assert_eq!(rt; step(rt, board, arbiter), *picked);
+    }
+}
+
 #[test]
-fn board_replays(rt: HostRuntime) {
+fn board_replays_round_robin(rt: HostRuntime) {
     let mut arbiter = Arbiter::new(Mechanism::RoundRobin, Settings::from_cdw11(0));
     let queues = [
         queue(0, Class::Admin, 2),
@@ -229,46 +242,32 @@ fn board_replays(rt: HostRuntime) {
         queue(3, Class::Medium, 1),
     ];
     let mut board = board_of(&rt, Mechanism::RoundRobin, 0, &queues);
-    for qid in [0, 1, 3, 0, 1, 1, 1, 1] {
-        assert_eq!(rt; step(&rt, &mut board, &mut arbiter), pick(qid, 1));
+    for &qid in &[0, 1, 3, 0, 1, 1, 1, 1] {
+        expect_on(&rt, &mut board, &mut arbiter, &[pick(qid, 1)]);
     }
-    assert_eq!(rt; step(&rt, &mut board, &mut arbiter), None);
+    expect_on(&rt, &mut board, &mut arbiter, &[None]);
+}
 
+#[test]
+fn board_replays_two_rounds(rt: HostRuntime) {
+    let mut arbiter = Arbiter::new(Mechanism::Weighted, Settings::from_cdw11(0x0301_0001));
+    let mut board = board_of(&rt, Mechanism::Weighted, 0x0301_0001, &two_rounds());
+    expect_on(&rt, &mut board, &mut arbiter, &two_rounds_picks());
+    assert!(rt; board.seen().iter().all(|queue| queue.count == 0));
+}
+
+#[test]
+fn board_replays_urgent(rt: HostRuntime) {
     let settings = Settings::from_cdw11(0x0301_0001);
     let mut arbiter = Arbiter::new(Mechanism::Weighted, settings);
     let mut board = board_of(&rt, Mechanism::Weighted, 0x0301_0001, &two_rounds());
-    for picked in [
-        pick(1, 2),
-        pick(2, 2),
-        pick(3, 2),
-        pick(4, 1),
-        fresh(1, 2),
-        pick(2, 2),
-        pick(3, 2),
-        pick(4, 1),
-        fresh(1, 1),
-        pick(2, 1),
-        pick(3, 1),
-        pick(4, 1),
-        fresh(4, 1),
-        fresh(4, 1),
-        None,
-    ] {
-        assert_eq!(rt; step(&rt, &mut board, &mut arbiter), picked);
-    }
-    assert!(rt; board.seen().iter().all(|queue| queue.count == 0));
-
-    let mut arbiter = Arbiter::new(Mechanism::Weighted, settings);
-    let mut board = board_of(&rt, Mechanism::Weighted, 0x0301_0001, &two_rounds());
-    assert_eq!(rt; step(&rt, &mut board, &mut arbiter), pick(1, 2));
-    assert_eq!(rt; step(&rt, &mut board, &mut arbiter), pick(2, 2));
+    expect_on(&rt, &mut board, &mut arbiter, &[pick(1, 2), pick(2, 2)]);
     add(&rt, &mut board, &[queue(5, Class::Urgent, 3)]);
-    for picked in [pick(5, 2), pick(5, 1), pick(3, 2), pick(4, 1), fresh(1, 2)] {
-        assert_eq!(rt; step(&rt, &mut board, &mut arbiter), picked);
-    }
+    let picks = [pick(5, 2), pick(5, 1), pick(3, 2), pick(4, 1), fresh(1, 2)];
+    expect_on(&rt, &mut board, &mut arbiter, &picks);
     board.set(settings);
     arbiter.set(settings);
-    assert_eq!(rt; step(&rt, &mut board, &mut arbiter), pick(2, 2));
+    expect_on(&rt, &mut board, &mut arbiter, &[pick(2, 2)]);
 }
 
 #[test]

@@ -17,20 +17,28 @@ fn counted_bytes() -> [u8; 64] {
 #[test]
 fn submission_fields_by_place(rt: HostRuntime) {
     let entry = Sqe::from_bytes(&counted_bytes());
-    assert_eq!(rt; entry.opcode, 0x01);
-    assert_eq!(rt; entry.flags, 0x02);
-    assert_eq!(rt; entry.cid, 0x0403);
-    assert_eq!(rt; entry.nsid, 0x0807_0605);
-    assert_eq!(rt; entry.cdw2, 0x0c0b_0a09);
-    assert_eq!(rt; entry.cdw3, 0x100f_0e0d);
-    assert_eq!(rt; entry.mptr, 0x1817_1615_1413_1211);
-    assert_eq!(rt; entry.prp1, 0x201f_1e1d_1c1b_1a19);
-    assert_eq!(rt; entry.prp2, 0x2827_2625_2423_2221);
-    assert_eq!(rt; entry.cdw10, 0x2c2b_2a29);
-    assert_eq!(rt; entry.cdw15, 0x403f_3e3d);
-    assert_eq!(rt; entry.fuse(), 2);
-    assert_eq!(rt; entry.slba(), 0x302f_2e2d_2c2b_2a29);
-    assert_eq!(rt; entry.nlb(), 0x3231);
+    let fields = Sqe {
+        opcode: 0x01,
+        flags: 0x02,
+        cid: 0x0403,
+        nsid: 0x0807_0605,
+        cdw2: 0x0c0b_0a09,
+        cdw3: 0x100f_0e0d,
+        mptr: 0x1817_1615_1413_1211,
+        prp1: 0x201f_1e1d_1c1b_1a19,
+        prp2: 0x2827_2625_2423_2221,
+        cdw10: 0x2c2b_2a29,
+        cdw11: 0x302f_2e2d,
+        cdw12: 0x3433_3231,
+        cdw13: 0x3837_3635,
+        cdw14: 0x3c3b_3a39,
+        cdw15: 0x403f_3e3d,
+    };
+    assert_eq!(rt; entry, fields);
+    assert_eq!(rt;
+        (entry.fuse(), entry.slba(), entry.nlb()),
+        (2, 0x302f_2e2d_2c2b_2a29, 0x3231)
+    );
     assert!(rt; entry.to_bytes() == counted_bytes());
 }
 
@@ -113,8 +121,8 @@ fn fault_messages(rt: HostRuntime) -> Result<(), Fail> {
         (SpaceError::TooMany, "more than 16 namespaces"),
         (SpaceError::Empty, "a namespace of size 0"),
     ];
-    for (fault, line) in cases {
-        assert_eq!(rt; fault.to_string(alloc)?.as_str(), line);
+    for (fault, line) in &cases {
+        assert_eq!(rt; fault.to_string(alloc)?.as_str(), *line);
     }
     Ok(())
 }

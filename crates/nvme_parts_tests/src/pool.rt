@@ -98,13 +98,27 @@ fn step_times<R: Wait>(rt: &R, lanes: &Lanes, worker: &mut Worker, times: u32) -
     did
 }
 
+// Whether a pool with so many workers is refused for their number.
+fn is_refused(alloc: Global, workers: u8) -> bool {
+    matches!(pool(alloc, workers), Err(PoolError::Workers))
+}
+
+// The next step of a worker comes to this.
+fn expect_step<R: Wait + Abort>(rt: &R, lanes: &Lanes, worker: &mut Worker, worked: Worked)
+    requires { worker.old.lane ≡ lanes.now }
+    ensures { SameWorker worker.old worker.new }
+{
+    assert_eq!(rt; worker.step(rt, lanes, &mut NoGate), worked);
+}
+
 #[test]
 fn capacities(rt: HostRuntime) -> Result<(), Fail> {
-    assert!(rt; matches!(pool(rt.alloc(), 0), Err(PoolError::Workers)));
-    assert!(rt; matches!(pool(rt.alloc(), 9), Err(PoolError::Workers)));
+    assert!(rt; is_refused(rt.alloc(), 0));
+    assert!(rt; is_refused(rt.alloc(), 9));
     let (lanes, seat, mut workers) = pool_again(rt.alloc(), 2)?;
-    assert_eq!(rt; workers[0].step(&rt, &lanes, &mut NoGate), Worked::Nothing);
-    assert_eq!(rt; close_again(&rt, rt.alloc(), lanes, seat, workers)?, (0, 0));
+    expect_step(&rt, &lanes, &mut workers[0], Worked::Nothing);
+    let left = close_again(&rt, rt.alloc(), lanes, seat, workers)?;
+    assert_eq!(rt; left, (0, 0));
     Ok(())
 }
 
@@ -126,8 +140,8 @@ fn fill<R: Wait + Abort>(
         .map_err(|full| full.0.ticket);
     assert_eq!(rt; refused, Err(256));
     assert_eq!(rt; step_times(rt, lanes, worker, 255), 255);
-    assert_eq!(rt; worker.step(rt, lanes, &mut NoGate), Worked::Held);
-    assert_eq!(rt; worker.step(rt, lanes, &mut NoGate), Worked::Held);
+    expect_step(rt, lanes, worker, Worked::Held);
+    expect_step(rt, lanes, worker, Worked::Held);
     assert!(rt; worker.keeps());
 }
 
@@ -139,21 +153,20 @@ fn empty<R: Wait + Abort>(rt: &R, lanes: &Lanes, seat: &mut FrontSeat, worker: &
 {
     let gained = seat.gain(lanes).map(|done| (done.ticket(), done.status()));
     assert_eq!(rt; gained, Some((0, Status::SUCCESS)));
-    assert_eq!(rt; worker.step(rt, lanes, &mut NoGate), Worked::Did);
+    expect_step(rt, lanes, worker, Worked::Did);
     assert!(rt; !worker.keeps());
-    assert_eq!(rt; worker.step(rt, lanes, &mut NoGate), Worked::Nothing);
+    expect_step(rt, lanes, worker, Worked::Nothing);
 }
 
 #[test]
 fn result_ring_fills(rt: HostRuntime) -> Result<(), Fail> {
+    let spaces = one_space()?;
     let (lanes, mut seat, mut workers) = pool_again(rt.alloc(), 2)?;
     let worker = &mut workers[0];
-    fill(&rt, &lanes, &mut seat, worker, one_space()?);
+    fill(&rt, &lanes, &mut seat, worker, spaces);
     empty(&rt, &lanes, &mut seat, worker);
-    assert_eq!(rt;
-        close_again(&rt, rt.alloc(), lanes, seat, workers)?,
-        (0, 255)
-    );
+    let left = close_again(&rt, rt.alloc(), lanes, seat, workers)?;
+    assert_eq!(rt; left, (0, 255));
     Ok(())
 }
 
@@ -169,17 +182,16 @@ fn gain_in_order<R: Abort>(rt: &R, lanes: &Lanes, seat: &mut FrontSeat, tickets:
 
 #[test]
 fn results_in_worker_order(rt: HostRuntime) -> Result<(), Fail> {
+    let spaces = one_space()?;
     let (lanes, mut seat, mut workers) = pool_again(rt.alloc(), 2)?;
-    assert_eq!(rt; hand_to(&rt, &lanes, &mut seat, 4, one_space()?), 4);
-    assert_eq!(rt; step_times(&rt, &lanes, &mut workers[1], 2), 2);
-    assert_eq!(rt; step_times(&rt, &lanes, &mut workers[0], 2), 2);
-    gain_in_order(
-        &rt,
-        &lanes,
-        &mut seat,
-        &[Some(2), Some(3), Some(0), Some(1), None],
-    );
-    assert_eq!(rt; close_again(&rt, rt.alloc(), lanes, seat, workers)?, (0, 0));
+    let handed = hand_to(&rt, &lanes, &mut seat, 4, spaces);
+    let by_second = step_times(&rt, &lanes, &mut workers[1], 2);
+    let by_first = step_times(&rt, &lanes, &mut workers[0], 2);
+    let tickets = [Some(2), Some(3), Some(0), Some(1), None];
+    gain_in_order(&rt, &lanes, &mut seat, &tickets);
+    let left = close_again(&rt, rt.alloc(), lanes, seat, workers)?;
+    assert_eq!(rt; (handed, by_second, by_first), (4, 2, 2));
+    assert_eq!(rt; left, (0, 0));
     Ok(())
 }
 
@@ -345,26 +357,39 @@ fn eight_workers<R: Threads + Wait + Sync>(
     )
 }
 
-#[test]
-fn eight_workers_execute_each_job_once(rt: HostRuntime) -> Result<(), Fail> {
-    let spaces = one_space()?;
-    let mut counts = Vec::new(rt.alloc());
-    if counts.reserve(10_000).is_err() {
-        counts.reserve(10_000)?;
+// So many counts at 0.
+fn zeros(alloc: Global, number: usize) -> Result<Vec<AtomicU64>, AllocError> {
+    let mut counts = Vec::new(alloc);
+    if counts.reserve(number).is_err() {
+        counts.reserve(number)?;
     }
-    for _ in 0..10_000 {
+    for _ in 0..number {
         counts.push(AtomicU64::new(0))?;
     }
-    let done = eight_workers(&rt, rt.alloc(), counts.as_slice(), 10_000, spaces);
-    let gained = if let Ok(gained) = done {
-        gained
-    } else {
-        // No job was handed.
-        eight_workers(&rt, rt.alloc(), counts.as_slice(), 10_000, spaces)?
-    };
-    assert_eq!(rt; gained, 10_000);
-    for count in &counts {
+    Ok(counts)
+}
+
+// Each job is counted once, and its result gained. Where that is refused memory no job was handed, and it is done again.
+fn count_once<R: Threads + Wait + Sync + Abort>(
+    rt: &R,
+    alloc: Global,
+    counts: &[AtomicU64],
+    jobs: u32,
+) -> Result<(), Fail> {
+    let spaces = one_space()?;
+    let mut done = eight_workers(rt, alloc, counts, jobs, spaces);
+    if done.is_err() {
+        done = eight_workers(rt, alloc, counts, jobs, spaces);
+    }
+    assert_eq!(rt; done?, u64::from(jobs));
+    for count in counts {
         assert_eq!(rt; count.load(Ordering::SeqCst), 1);
     }
     Ok(())
+}
+
+#[test]
+fn eight_workers_execute_each_job_once(rt: HostRuntime) -> Result<(), Fail> {
+    let counts = zeros(rt.alloc(), 10_000)?;
+    count_once(&rt, rt.alloc(), counts.as_slice(), 10_000)
 }

@@ -1,4 +1,5 @@
 // Worked workloads, field by field, and the texts of faults.
+use nvme_admin::Limits;
 use nvme_arbiter::{Mechanism, Settings};
 use nvme_entry::{Namespaces, Sqe};
 use nvme_texts::{CREATED_ANEW, DELETE_THREE, EMPTY, FIVE_QUEUES, THOUSAND};
@@ -48,18 +49,19 @@ fn io(cid: u16, opcode: u8, nsid: u32, cdw10: u32, cdw12: u32) -> Sqe {
 
 // The settings of a workload, of which these two differ.
 fn expect_head(rt: &impl Abort, workload: &Workload, mechanism: Mechanism, cdw11: u32) {
-    assert_eq!(rt; workload.mechanism, mechanism);
-    assert_eq!(rt; workload.settings, Settings::from_cdw11(cdw11));
-    assert_eq!(rt; workload.limits.nsq, 16);
-    assert_eq!(rt; workload.limits.ncq, 16);
-    assert_eq!(rt; Some(workload.spaces), Namespaces::new(&[1000]).ok());
+    let settings = Settings::from_cdw11(cdw11);
+    assert_eq!(rt;
+        (workload.mechanism, workload.settings),
+        (mechanism, settings)
+    );
+    assert_eq!(rt; workload.limits, Limits { nsq: 16, ncq: 16 });
+    assert!(rt; Namespaces::new(&[1000]) == Ok(workload.spaces));
     assert_eq!(rt; workload.patience, 100_000_000);
 }
 
 // A submission region with its script, command by command.
 fn expect_submission(rt: &impl Abort, region: &SqPlan, address: u64, slots: u16, script: &[Sqe]) {
-    assert_eq!(rt; region.address, address);
-    assert_eq!(rt; region.slots, slots);
+    assert_eq!(rt; (region.address, region.slots), (address, slots));
     assert_eq!(rt; region.script.as_slice(), script);
 }
 
@@ -72,12 +74,11 @@ fn expect_equal(
     command: Sqe,
     n: usize,
 ) {
-    assert_eq!(rt; region.address, address);
-    assert_eq!(rt; region.slots, slots);
+    assert_eq!(rt; (region.address, region.slots), (address, slots));
     assert_eq!(rt; region.script.as_slice().len(), n);
     for (index, entry) in region.script.as_slice().iter().enumerate() {
-        assert_eq!(rt; usize::from(entry.cid), index);
-        assert_eq!(rt; Sqe { cid: 0, ..*entry }, command);
+        let cid = (index % 0x1_0000) as u16;
+        assert!(rt; *entry == Sqe { cid, ..command }, "{index}: {entry:?}");
     }
 }
 
@@ -239,8 +240,8 @@ fn texts(rt: HostRuntime) -> Result<(), Fail> {
         (WorkloadError::Limit, "W6 over a limit"),
         (WorkloadError::Repeated, "W7 repeated address"),
     ];
-    for (fault, line) in lines {
-        assert_eq!(rt; fault.to_string(alloc)?.as_str(), line);
+    for (fault, line) in &lines {
+        assert_eq!(rt; fault.to_string(alloc)?.as_str(), *line);
     }
     Ok(())
 }

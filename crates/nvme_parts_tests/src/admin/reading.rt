@@ -1,11 +1,11 @@
 // A second reading of the checks: what was accepted is kept in a list, which is searched from its end.
 ghost use Rattle.std.specs.Prelude.{◌<◌};
 
-use super::{entry, finish};
+use super::{entry, expect, expect_cq, expect_sq, finish};
 use nvme_admin::{Limits, Table, Verdict};
 use nvme_arbiter::{Class, Settings};
 use nvme_entry::{Sqe, Status};
-use std::alloc::Global;
+use std::alloc::{AllocError, Global};
 use std::process::Abort;
 use std::test::Fail;
 
@@ -335,35 +335,60 @@ fn drawn(seed: &mut u64) -> Sqe {
     Sqe { flags, ..e }
 }
 
-// One table, and a list beside it, over 100 entries: how many submission queues were created.
-fn play(rt: &impl Abort, alloc: Global, seed: &mut u64) -> Result<u32, Fail> {
+// A table with its regions, of 2 and 3 slots.
+fn table_of_regions(rt: &impl Abort) -> Table {
     let mut table = Table::new(Limits { nsq: NSQ, ncq: NCQ }, Settings::from_cdw11(0));
     for k in 0..REGIONS {
         let slots = if k % 2 == 0 { 2 } else { 3 };
-        assert_eq!(rt; table.add_sq_region(u64::from(k), slots), Ok(k));
-        assert_eq!(rt; table.add_cq_region(10 + u64::from(k), slots), Ok(k));
+        expect_sq(rt, &mut table, u64::from(k), slots, Ok(k));
+        expect_cq(rt, &mut table, 10 + u64::from(k), slots, Ok(k));
     }
+    table
+}
+
+// One entry, to a table and to the list beside it: whether a submission queue was created.
+fn apply_one(
+    rt: &impl Abort,
+    table: &mut Table,
+    kept: &mut Vec<Kept>,
+    entry: &Sqe,
+) -> Result<bool, AllocError> {
+    let expected = status(kept.as_slice(), entry);
+    if expected != Status::SUCCESS {
+        expect(rt, table, entry, &Verdict::Done(expected, 0));
+        return Ok(false);
+    }
+    kept.push(step(entry))?;
+    let answer = verdict(kept.as_slice(), entry);
+    expect(rt, table, entry, &answer);
+    Ok(entry.opcode == 1)
+}
+
+// Finishes the deletion of a queue, where it is closing.
+fn finish_one(
+    rt: &impl Abort,
+    table: &mut Table,
+    kept: &mut Vec<Kept>,
+    qid: u16,
+) -> Result<(), AllocError> {
+    let closing = matches!(sq_of(kept.as_slice(), qid), Some((_, true)));
+    assert_eq!(rt; finish(table, qid), closing);
+    if closing {
+        kept.push(Kept::Finished(qid))?;
+    }
+    Ok(())
+}
+
+// One table, and a list beside it, over 100 entries: how many submission queues were created.
+fn play(rt: &impl Abort, alloc: Global, seed: &mut u64) -> Result<u32, AllocError> {
+    let mut table = table_of_regions(rt);
     let mut kept: Vec<Kept> = Vec::new(alloc);
     let mut created: u32 = 0;
     for _ in 0..100u8 {
-        let e = drawn(seed);
-        let expected = status(kept.as_slice(), &e);
-        let answer = table.apply(&e);
-        if expected == Status::SUCCESS {
-            kept.push(step(&e))?;
-            assert_eq!(rt; answer, verdict(kept.as_slice(), &e), "{e:?}");
-            if e.opcode == 1 {
-                created = created.wrapping_add(1);
-            }
-        } else {
-            assert_eq!(rt; answer, Verdict::Done(expected, 0), "{e:?}");
+        if apply_one(rt, &mut table, &mut kept, &drawn(seed))? {
+            created = created.wrapping_add(1);
         }
-        let qid = drawn_id(seed) as u16;
-        let closing = matches!(sq_of(kept.as_slice(), qid), Some((_, true)));
-        assert_eq!(rt; finish(&mut table, qid), closing);
-        if closing {
-            kept.push(Kept::Finished(qid))?;
-        }
+        finish_one(rt, &mut table, &mut kept, drawn_id(seed) as u16)?;
     }
     Ok(created)
 }
