@@ -1,12 +1,12 @@
 // Picks of a board, which are followed by as many commands that come, beside an arbiter that is shown the board.
-use crate::picks::class_of;
+use crate::picks::{class_of, name_of};
 use crate::rates::{Yardstick, tell};
 use nvme_arbiter::{
     Arbiter, Board, Class, HIGHEST_COUNT, HIGHEST_QID, Mechanism, Settings, is_observation,
 };
 use std::io;
 use std::rt::Clock;
-use std::time::Instant;
+use std::time::{Duration, Instant};
 
 // Opens a queue, where its identifier is free: queue 0 as the admin queue, the others with the I/O classes in turn.
 fn open(board: &mut Board, qid: u16) {
@@ -62,31 +62,56 @@ fn pick_from_list(arbiter: &mut Arbiter, board: &Board, count: u32) {
     }
 }
 
+// The time of so many picks of a board with so many queues, and of an arbiter that is shown them.
+fn times<R: Clock>(
+    rt: &R,
+    mechanism: Mechanism,
+    queues: u16,
+    count: u32,
+) -> io::Result<(Duration, Duration)> {
+    let mut board = ready_board(mechanism, queues);
+    let start = Instant::now(rt)?;
+    pick_from_board(&mut board, count);
+    let board_took = start.elapsed(rt)?;
+    let mut arbiter = Arbiter::new(mechanism, Settings::from_cdw11(0));
+    let start = Instant::now(rt)?;
+    pick_from_list(&mut arbiter, &board, count);
+    let list_took = start.elapsed(rt)?;
+    Ok((board_took, list_took))
+}
+
+// Measures picks of one mechanism over so many queues.
+fn measure_one<R: Clock + Eprint + Alloc>(
+    rt: &R,
+    yardstick: Yardstick,
+    mechanism: Mechanism,
+    queues: u16,
+    count: u32,
+) -> io::Result<()> {
+    let (board_took, list_took) = times(rt, mechanism, queues, count)?;
+    let name = name_of(mechanism);
+    let what = format!(in rt.alloc(); "board, {name}, {queues} ready queues: picks")?;
+    tell(rt, yardstick, what.as_str(), count, board_took)?;
+    tell(
+        rt,
+        yardstick,
+        "arbiter over the same queues: picks",
+        count,
+        list_took,
+    )?;
+    let percent = board_took.as_nanos() * 100 / list_took.as_nanos().max(1);
+    eprintln!(rt; "board to arbiter: {percent} %")
+}
+
 /// Measures picks of both mechanisms over 2, 16 and 64 queues with burst 1.
 pub fn measure<R: Clock + Eprint + Alloc>(
     rt: &R,
     yardstick: Yardstick,
     count: u32,
 ) -> io::Result<()> {
-    for (mechanism, name) in [
-        (Mechanism::RoundRobin, "round robin"),
-        (Mechanism::Weighted, "weighted"),
-    ] {
+    for mechanism in [Mechanism::RoundRobin, Mechanism::Weighted] {
         for queues in [2, 16, 64] {
-            let mut board = ready_board(mechanism, queues);
-            let start = Instant::now(rt)?;
-            pick_from_board(&mut board, count);
-            let board_took = start.elapsed(rt)?;
-            let mut arbiter = Arbiter::new(mechanism, Settings::from_cdw11(0));
-            let start = Instant::now(rt)?;
-            pick_from_list(&mut arbiter, &board, count);
-            let list_took = start.elapsed(rt)?;
-            let what = format!(in rt.alloc(); "board, {name}, {queues} ready queues: picks")?;
-            tell(rt, yardstick, what.as_str(), count, board_took)?;
-            let what = format!(in rt.alloc(); "arbiter over the same queues: picks")?;
-            tell(rt, yardstick, what.as_str(), count, list_took)?;
-            let percent = board_took.as_nanos() * 100 / list_took.as_nanos().max(1);
-            eprintln!(rt; "board to arbiter: {percent} %")?;
+            measure_one(rt, yardstick, mechanism, queues, count)?;
         }
     }
     Ok(())

@@ -1,5 +1,6 @@
 // Checks of a trace of a board over 16 queues, beside the board's own picks.
 use crate::boards::{come, pick_from_board, ready_board};
+use crate::picks::name_of;
 use crate::rates::{Yardstick, tell};
 use anyhow::Result;
 use nvme_arbiter::{Mechanism, Settings};
@@ -7,7 +8,7 @@ use nvme_log::{Event, Listed};
 use nvme_trace::{check, write_trace};
 use std::alloc::Global;
 use std::rt::Clock;
-use std::time::Instant;
+use std::time::{Duration, Instant};
 
 const QUEUES: u16 = 16;
 
@@ -40,33 +41,47 @@ fn check_often(alloc: Global, text: &[u8], times: u32) -> Result<()> {
     Ok(())
 }
 
+// The time of so many checks of a trace, and of as many picks of a board.
+fn times<R: Clock + Alloc<A = Global>>(
+    rt: &R,
+    mechanism: Mechanism,
+    part: u32,
+    times: u32,
+) -> Result<(Duration, Duration)> {
+    let text = trace_of(rt.alloc(), mechanism, part)?;
+    let start = Instant::now(rt)?;
+    check_often(rt.alloc(), text.as_slice(), times)?;
+    let check_took = start.elapsed(rt)?;
+    let mut board = ready_board(mechanism, QUEUES);
+    let start = Instant::now(rt)?;
+    pick_from_board(&mut board, part.saturating_mul(times));
+    let board_took = start.elapsed(rt)?;
+    Ok((check_took, board_took))
+}
+
 /// Measures checks of both mechanisms, with burst 1.
 pub fn measure<R: Clock + Eprint + Alloc<A = Global>>(
     rt: &R,
     yardstick: Yardstick,
     count: u32,
 ) -> Result<()> {
-    for (mechanism, name) in [
-        (Mechanism::RoundRobin, "round robin"),
-        (Mechanism::Weighted, "weighted"),
-    ] {
-        let part = count.min(PART);
-        let times = count / part.max(1);
-        let checked = part.saturating_mul(times);
-        let text = trace_of(rt.alloc(), mechanism, part)?;
-        let start = Instant::now(rt)?;
-        check_often(rt.alloc(), text.as_slice(), times)?;
-        let check_took = start.elapsed(rt)?;
-        let mut board = ready_board(mechanism, QUEUES);
-        let start = Instant::now(rt)?;
-        pick_from_board(&mut board, checked);
-        let board_took = start.elapsed(rt)?;
+    let part = count.min(PART);
+    let often = count / part.max(1);
+    let checked = part.saturating_mul(often);
+    for mechanism in [Mechanism::RoundRobin, Mechanism::Weighted] {
+        let (check_took, board_took) = times(rt, mechanism, part, often)?;
+        let name = name_of(mechanism);
         let what = format!(in rt.alloc(); "check, {name}, 16 ready queues: picks")?;
         tell(rt, yardstick, what.as_str(), checked, check_took)?;
-        let what = format!(in rt.alloc(); "board over the same queues: picks")?;
-        tell(rt, yardstick, what.as_str(), checked, board_took)?;
-        let times = check_took.as_nanos() / board_took.as_nanos().max(1);
-        eprintln!(rt; "check to board: {times} times")?;
+        tell(
+            rt,
+            yardstick,
+            "board over the same queues: picks",
+            checked,
+            board_took,
+        )?;
+        let ratio = check_took.as_nanos() / board_took.as_nanos().max(1);
+        eprintln!(rt; "check to board: {ratio} times")?;
     }
     Ok(())
 }

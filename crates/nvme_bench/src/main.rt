@@ -20,13 +20,18 @@ use std::rt::Clock;
 use std::sync::Wait;
 use std::thread::Threads;
 
-// Makes a measurement by its name, with a yardstick that is taken first.
-fn measure<R: Clock + Eprint + Alloc<A = Global> + Threads + Wait + Sync>(
+// The measurements by their names.
+const NAMES: [&str; 7] = [
+    "picks", "boards", "checks", "tables", "rings", "jobs", "runs",
+];
+
+// Makes a measurement by its name.
+fn measure_one<R: Clock + Eprint + Alloc<A = Global> + Threads + Wait + Sync>(
     rt: &R,
+    yardstick: Yardstick,
     name: &str,
     count: u32,
 ) -> Result<()> {
-    let yardstick = Yardstick::take(rt)?;
     match name {
         "picks" => picks::measure(rt, yardstick, count)?,
         "boards" => boards::measure(rt, yardstick, count)?,
@@ -35,16 +40,23 @@ fn measure<R: Clock + Eprint + Alloc<A = Global> + Threads + Wait + Sync>(
         "rings" => rings::measure(rt, yardstick, count)?,
         "jobs" => jobs::measure(rt, yardstick, count)?,
         "runs" => runs::measure(rt, yardstick, count)?,
-        "all" => {
-            picks::measure(rt, yardstick, count)?;
-            boards::measure(rt, yardstick, count)?;
-            checks::measure(rt, yardstick, count)?;
-            tables::measure(rt, yardstick, count)?;
-            rings::measure(rt, yardstick, count)?;
-            jobs::measure(rt, yardstick, count)?;
-            runs::measure(rt, yardstick, count)?;
-        }
         _ => bail!("no measurement of this name"),
+    }
+    Ok(())
+}
+
+// Makes a measurement by its name, or all of them, with a yardstick that is taken first.
+fn measure<R: Clock + Eprint + Alloc<A = Global> + Threads + Wait + Sync>(
+    rt: &R,
+    name: &str,
+    count: u32,
+) -> Result<()> {
+    let yardstick = Yardstick::take(rt)?;
+    if name != "all" {
+        return measure_one(rt, yardstick, name, count);
+    }
+    for name in NAMES {
+        measure_one(rt, yardstick, name, count)?;
     }
     Ok(())
 }

@@ -15,6 +15,14 @@ pub fn class_of(k: usize) -> Class {
     }
 }
 
+/// How the figures call a mechanism.
+pub const fn name_of(mechanism: Mechanism) -> &'static str {
+    match mechanism {
+        Mechanism::RoundRobin => "round robin",
+        Mechanism::Weighted => "weighted",
+    }
+}
+
 // Sixteen ready queues, four of each class.
 fn ready_queues() -> [Seen; 16] {
     let mut seen = [Seen::default(); 16];
@@ -48,14 +56,12 @@ pub fn measure<R: Clock + Eprint + Alloc>(
     count: u32,
 ) -> io::Result<()> {
     let seen = ready_queues();
-    for (mechanism, name) in [
-        (Mechanism::RoundRobin, "round robin"),
-        (Mechanism::Weighted, "weighted"),
-    ] {
+    for mechanism in [Mechanism::RoundRobin, Mechanism::Weighted] {
         let mut arbiter = Arbiter::new(mechanism, Settings::from_cdw11(0x0301_0001));
         let start = Instant::now(rt)?;
         let taken = pick_often(&mut arbiter, &seen, count);
         let took = start.elapsed(rt)?;
+        let name = name_of(mechanism);
         let what = format!(in rt.alloc();
             "arbiter, {name}, 16 ready queues, {taken} commands: picks"
         )?;
