@@ -9,6 +9,8 @@ mod arbitrary;
 #[cfg(test)]
 mod commands;
 #[cfg(test)]
+mod device;
+#[cfg(test)]
 mod drive;
 #[cfg(test)]
 mod drives;

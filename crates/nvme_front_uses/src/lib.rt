@@ -2,5 +2,3 @@
 #![tactic(auto)]
 
 pub mod device;
-#[cfg(test)]
-mod tests;

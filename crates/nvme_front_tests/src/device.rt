@@ -1,9 +1,9 @@
-// The device, played.
-use crate::device::Device;
+// The device of `nvme_front_uses`, played.
 use nvme_admin::Limits;
 use nvme_arbiter::{Mechanism, Settings};
 use nvme_entry::{Namespaces, Sqe};
 use nvme_front::FrontConfig;
+use nvme_front_uses::device::Device;
 use std::test::*;
 
 // An admin command.
