@@ -22,6 +22,16 @@ def folder_of(crate):
     return f"{TOP}/crates/{crate}"
 
 
+def library_of_rt(crates):
+    """Returns what gives the built library of a crate, where `rt ci` built it among these crates."""
+    return lambda crate: f"{crates}/{crate}/out/rlib/{crate}.rlib"
+
+
+def library_of_build(crate):
+    """Returns the folder of the crate's built library, where `./build` built it."""
+    return f"{folder_of(crate)}/out/build/{crate}.rlib"
+
+
 def rows_of_list():
     """Returns the rows of crates.txt by the crate's name."""
     found = {}
@@ -66,17 +76,25 @@ class Libraries:
         return [it for it in crates if it not in said] if self.file else []
 
 
-def words_of(command, crate, rows, kit, crates):
-    """Returns the words of a check or a build of the crate, to run in its folder or a copy. The folder `crates` has the
-    crates below it with their built libraries."""
-    root = "src/lib.rt" if os.path.isfile(f"{folder_of(crate)}/src/lib.rt") else "src/main.rt"
+def is_program(crate):
+    return os.path.isfile(f"{folder_of(crate)}/src/main.rt")
+
+
+def is_archive(crate, rows):
+    """Returns whether the crate is a library for programs in C."""
+    return "staticlib" in rows[crate].words
+
+
+def words_of(command, crate, rows, kit, library_of):
+    """Returns the words of a check or a build of the crate over built libraries, to run in its folder or a copy."""
+    root = "src/main.rt" if is_program(crate) else "src/lib.rt"
     words = [f"{kit}/bin/rattle", command, "--crate-name", crate, root]
     for it in ["std", *rows[crate].others]:
         words += ["--extern", f"{it}={kit}/rlibs/{it}.rlib"]
     words += ["-L", f"dependency={kit}/rlibs"]
     for it in rows[crate].uses:
-        words += ["--extern", f"{it}={crates}/{it}/out/rlib/{it}.rlib"]
+        words += ["--extern", f"{it}={library_of(it)}"]
     for it in with_below(crate, rows)[:-1]:
-        words += ["-L", f"dependency={crates}/{it}/out/rlib"]
+        words += ["-L", f"dependency={os.path.dirname(library_of(it))}"]
     words += ["--antt-project", f"{kit}/rattle/logic/antt-project.json", "--logic-built", f"{kit}/logic_built"]
-    return words + (["--crate-type", "staticlib"] if "staticlib" in rows[crate].words else [])
+    return words + (["--crate-type", "staticlib"] if is_archive(crate, rows) else [])
