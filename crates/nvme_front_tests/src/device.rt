@@ -2,8 +2,11 @@
 use nvme_admin::Limits;
 use nvme_arbiter::{Mechanism, Settings};
 use nvme_entry::{Namespaces, Sqe};
-use nvme_front::FrontConfig;
+use nvme_front::{FrontConfig, Settled};
 use nvme_front_uses::device::Device;
+use std::alloc::Global;
+use std::process::Abort;
+use std::sync::Wait;
 use std::test::*;
 
 // An admin command.
@@ -25,25 +28,50 @@ const COMPLETIONS: [[u8; 16]; 3] = [
     [3, 0, 1, 0, 0, 0, 0, 0, 3, 0, 0, 0, 2, 0, 1, 0],
 ];
 
-#[test]
-fn numbers_of_queues(rt: HostRuntime) -> Result<(), Fail> {
-    let config = FrontConfig {
+// Four queues of each kind at most.
+fn config() -> Result<FrontConfig, Fail> {
+    let spaces = Namespaces::new(&[1000])?;
+    Ok(FrontConfig {
         mechanism: Mechanism::RoundRobin,
         settings: Settings::from_cdw11(0),
         limits: Limits { nsq: 4, ncq: 4 },
-        spaces: Namespaces::new(&[1000])?,
+        spaces,
         max_events: 1000,
-    };
+    })
+}
+
+// A device with the commands of these completions.
+fn device(alloc: Global) -> Result<Device, Fail> {
     let script = [
         command(0, 0x09, 7, 0x0001_0007),
         command(1, 0x06, 1, 0),
         command(2, 0x0a, 7, 0),
     ];
-    let script = Vec::from_slice(rt.alloc(), &script)?;
-    let mut device = Device::new(rt.alloc(), config, script)?;
-    assert!(rt; !device.serve(&rt, 2)?);
-    assert!(rt; device.serve(&rt, 100)?);
-    let settled = device.settle(&rt, rt.alloc())?;
+    let config = config()?;
+    let script = Vec::from_slice(alloc, &script)?;
+    Ok(Device::new(alloc, config, script)?)
+}
+
+// Two rounds don't serve all, and more do.
+fn play<R: Wait + Abort>(rt: &R, device: &mut Device) -> Result<(), Fail> {
+    assert!(rt; !device.serve(rt, 2)?);
+    assert!(rt; device.serve(rt, 100)?);
+    Ok(())
+}
+
+// The device is settled after its play, unless that failed.
+fn settled<R: Wait + Abort>(rt: &R, alloc: Global) -> Result<Settled, Fail> {
+    let mut device = device(alloc)?;
+    if let Err(fail) = play(rt, &mut device) {
+        drop(device);
+        return Err(fail);
+    }
+    Ok(device.settle(rt, alloc)?)
+}
+
+#[test]
+fn numbers_of_queues(rt: HostRuntime) -> Result<(), Fail> {
+    let settled = settled(&rt, rt.alloc())?;
     assert_eq!(rt; settled.collected.len(), 1);
     assert_eq!(rt; settled.collected[0].len(), 3);
     for (done, want) in settled.collected[0].iter().zip(COMPLETIONS.iter()) {

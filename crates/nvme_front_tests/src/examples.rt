@@ -44,15 +44,21 @@ fn check_picks(rt: &impl Abort, alloc: Global, rig: &Rig, want: &[(u16, u16)]) -
     Ok(())
 }
 
+// After so many completions one more is collected. The ring holds one, and so it was full.
+fn collect_one<R: Wait + Abort>(rt: &R, rig: &mut Rig, taken: u16) -> Result<(), Fail> {
+    rig.run(rt)?;
+    let is_clear = rig.is_clear();
+    let more = rig.collect(0, 2)?;
+    assert_eq!(rt; (is_clear, more), (taken == 3, 1), "with {taken} taken");
+    Ok(())
+}
+
 // Commands are executed through a ring of two slots, whose host collects one completion after another.
 fn play_two_slots<R: Wait + Abort>(rt: &R, rig: &mut Rig) -> Result<(), Fail> {
     assert!(rt; rig.is_clear());
     assert_eq!(rt; rig.submit(0, 4), 4);
     for taken in 0..4 {
-        rig.run(rt)?;
-        assert_eq!(rt; rig.is_clear(), taken == 3, "with {taken} taken");
-        // The ring holds one completion, and so it is full.
-        assert_eq!(rt; rig.collect(0, 2)?, 1, "with {taken} taken");
+        collect_one(rt, rig, taken)?;
     }
     Ok(())
 }
@@ -85,12 +91,18 @@ fn add_regions(alloc: Global, rig: &mut Rig, reads: &[Sqe]) -> Result<(), Fail> 
     Ok(())
 }
 
+// A turn, after which each command is executed and each completion collected.
+fn turn_and_collect<R: Wait>(rt: &R, rig: &mut Rig) -> Result<(), Fail> {
+    let _step = rig.turn(rt)?;
+    let _executed = rig.work_all(rt);
+    rig.collect_all()?;
+    Ok(())
+}
+
 // Turns and collects, and sees that region 1 is served from the creation of its queue to the end of its deletion.
 fn run_watched<R: Wait + Abort>(rt: &R, rig: &mut Rig) -> Result<(), Fail> {
     for _ in 0..20 {
-        let _step = rig.turn(rt)?;
-        let _executed = rig.work_all(rt);
-        rig.collect_all()?;
+        turn_and_collect(rt, rig)?;
         let is_open = was_opened(rig.log(), 1) && !was_closed(rig.log(), 1);
         assert_eq!(rt; rig.is_serving(1), is_open);
     }

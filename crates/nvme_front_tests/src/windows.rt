@@ -22,6 +22,14 @@ const BEFORE: u32 = 267;
 // The pick of the Delete, the beginning of the deletion and an abort for each candidate.
 const ITS_OWN: u32 = 258;
 
+// Adds the regions of queue 1, in a ring of 512 slots, and submits its commands.
+fn add_queue(alloc: Global, rig: &mut Rig) -> Result<(), Fail> {
+    rig.add_sq(alloc, 0x2000, 512, &[read(7); READS])?;
+    rig.add_cq(alloc, 0x9000, 2)?;
+    rig.submit_all(READS as u16);
+    Ok(())
+}
+
 // Queue 1 in a ring of 512 slots with its commands, and its Delete.
 fn rig_of_512(alloc: Global, max_events: u32) -> Result<Rig, Fail>
     requires { max_events ≤ most_events }
@@ -32,10 +40,13 @@ fn rig_of_512(alloc: Global, max_events: u32) -> Result<Rig, Fail>
         admin(2, 0, 0, 1, 0),
     ];
     let mut rig = Rig::new(alloc, config(0, max_events)?, 8, 8, &script)?;
-    rig.add_sq(alloc, 0x2000, 512, &[read(7); READS])?;
-    rig.add_cq(alloc, 0x9000, 2)?;
-    rig.submit_all(READS as u16);
-    Ok(rig)
+    match add_queue(alloc, &mut rig) {
+        Ok(()) => Ok(rig),
+        Err(fail) => {
+            drop(rig);
+            Err(fail)
+        }
+    }
 }
 
 // How many commands were aborted.

@@ -59,10 +59,17 @@ fn stray_result(rt: HostRuntime) -> Result<(), Fail> {
     gained
 }
 
+// The step of the next turn.
+fn turn<R: Wait + Abort>(rt: &R, rig: &mut Rig, want: Step) -> Result<(), Fail> {
+    let step = rig.turn(rt)?;
+    assert_eq!(rt; step, want);
+    Ok(())
+}
+
 // The steps of the next turns.
 fn turns<R: Wait + Abort>(rt: &R, rig: &mut Rig, want: &[Step]) -> Result<(), Fail> {
     for step in want {
-        assert_eq!(rt; rig.turn(rt)?, *step);
+        turn(rt, rig, *step)?;
     }
     Ok(())
 }
@@ -75,22 +82,23 @@ fn add_narrow(alloc: Global, rig: &mut Rig) -> Result<(), Fail> {
     Ok(())
 }
 
-// The deletion of a queue with three commands, of which one runs. Its ring of completions takes one at a time.
-fn play_narrow<R: Wait + Abort>(rt: &R, rig: &mut Rig) -> Result<(), Fail> {
+// The queue's Delete is picked while one of its commands runs. The first of the two that wait is answered.
+fn begin_deletion<R: Wait + Abort>(rt: &R, rig: &mut Rig) -> Result<(), Fail> {
     turns(rt, rig, &[Step::Picked; 4])?;
     turns(rt, rig, &[Step::Moved, Step::Idle])?;
     assert_eq!(rt; status_of(rig.log(), 1, 1), Status::new(0, 0x08));
     assert_eq!(rt; rig.work(rt, 0), 1);
-    turns(rt, rig, &[Step::Moved])?;
+    turn(rt, rig, Step::Moved)
+}
+
+// A completion is collected, and its ring takes the next.
+fn collect_one<R: Wait + Abort>(rt: &R, rig: &mut Rig) -> Result<(), Fail> {
     assert_eq!(rt; rig.collect(1, 1)?, 1);
-    turns(rt, rig, &[Step::Moved])?;
-    assert_eq!(rt; status_of(rig.log(), 1, 2), Status::new(0, 0x08));
-    assert_eq!(rt;
-        (was_closed(rig.log(), 1), status_of(rig.log(), 1, 0)),
-        (false, None)
-    );
-    assert_eq!(rt; rig.collect(1, 1)?, 1);
-    turns(rt, rig, &[Step::Moved])?;
+    turn(rt, rig, Step::Moved)
+}
+
+// The command that ran was answered last, and the Delete after it.
+fn end_deletion<R: Wait + Abort>(rt: &R, rig: &mut Rig) -> Result<(), Fail> {
     assert_eq!(rt; status_of(rig.log(), 1, 0), Status::new(0, 0));
     assert_eq!(rt;
         (was_closed(rig.log(), 1), status_of(rig.log(), 0, 2)),
@@ -99,6 +107,19 @@ fn play_narrow<R: Wait + Abort>(rt: &R, rig: &mut Rig) -> Result<(), Fail> {
     turns(rt, rig, &[Step::Moved, Step::Idle])?;
     assert_eq!(rt; status_of(rig.log(), 0, 2), Status::new(0, 0));
     Ok(())
+}
+
+// The deletion of a queue with three commands, of which one runs. Its ring of completions takes one at a time.
+fn play_narrow<R: Wait + Abort>(rt: &R, rig: &mut Rig) -> Result<(), Fail> {
+    begin_deletion(rt, rig)?;
+    collect_one(rt, rig)?;
+    assert_eq!(rt; status_of(rig.log(), 1, 2), Status::new(0, 0x08));
+    assert_eq!(rt;
+        (was_closed(rig.log(), 1), status_of(rig.log(), 1, 0)),
+        (false, None)
+    );
+    collect_one(rt, rig)?;
+    end_deletion(rt, rig)
 }
 
 // The same with its regions added first.
@@ -138,8 +159,8 @@ fn add_wide(alloc: Global, rig: &mut Rig) -> Result<(), Fail> {
     Ok(())
 }
 
-// All places are filled and freed.
-fn play_wide<R: Wait + Abort>(rt: &R, alloc: Global, rig: &mut Rig) -> Result<(), Fail> {
+// All places are filled.
+fn fill_all<R: Wait + Abort>(rt: &R, alloc: Global, rig: &mut Rig) -> Result<(), Fail> {
     add_wide(alloc, rig)?;
     assert_eq!(rt; (rig.work(rt, 0), rig.work(rt, 1)), (0, 0));
     rig.run_until_stalled(rt)?;
@@ -148,6 +169,12 @@ fn play_wide<R: Wait + Abort>(rt: &R, alloc: Global, rig: &mut Rig) -> Result<()
         all.as_slice(),
         [(0, 1), (0, 1), (1, 255), (0, 1)].as_slice()
     );
+    Ok(())
+}
+
+// All places are filled and freed.
+fn play_wide<R: Wait + Abort>(rt: &R, alloc: Global, rig: &mut Rig) -> Result<(), Fail> {
+    fill_all(rt, alloc, rig)?;
     // One worker executes what its ring holds and keeps nothing, and the other finds nothing.
     assert_eq!(rt; (rig.work(rt, 1), rig.work(rt, 0)), (255, 0));
     turns(rt, rig, &[Step::Picked, Step::Idle])?;
@@ -181,7 +208,7 @@ fn play_two_places<R: Wait + Abort>(rt: &R, alloc: Global, rig: &mut Rig) -> Res
     rig.run_until_stalled(rt)?;
     let all = picks(alloc, rig.log())?;
     assert_eq!(rt; all.as_slice(), [(0, 1), (0, 1), (1, 255)].as_slice());
-    turns(rt, rig, &[Step::Stalled])?;
+    turn(rt, rig, Step::Stalled)?;
     assert_eq!(rt; (rig.work(rt, 1), rig.work(rt, 0)), (255, 0));
     // The ring of completions takes one, whose place is free then.
     turns(rt, rig, &[Step::Picked, Step::Moved])?;
