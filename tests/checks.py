@@ -1,4 +1,5 @@
 """What the scripts that call the prover themselves share: the crates, and the words of a check over built libraries."""
+import contextlib
 import os
 import re
 import subprocess
@@ -16,6 +17,20 @@ Row = namedtuple("Row", "words uses others")
 def text_of(file):
     with open(file, encoding="utf-8") as it:
         return it.read()
+
+
+def free_memory():
+    """Returns the free memory in bytes, or the limit of the control group where that is less."""
+    free = 1024 * int(re.search(r"MemAvailable:\s+(\d+)", text_of("/proc/meminfo"))[1])
+    limit = ""
+    with contextlib.suppress(OSError):
+        limit = text_of("/sys/fs/cgroup/memory.max").strip()
+    return min(free, int(limit)) if limit.isdigit() else free
+
+
+def lanes(need):
+    """Returns how many checks may be begun at once, where each has a processor and so many bytes of memory."""
+    return max(1, min(len(os.sched_getaffinity(0)), free_memory() // need))
 
 
 def folder_of(crate):
