@@ -30,10 +30,10 @@ use Rattle.nvme_lint.specs.declared.warning.Warning.{Warning}
 use Rattle.nvme_sim.specs.declared.faults.Fault.{Fault}
 use Rattle.nvme_sim.specs.Inputs.{HasNoWarning, HasWarnings, IsBadInput, IsBadTrace, IsFaultyShown, IsFaultyTrace, IsToldLawful, IsUnlawfulCheck, IsUnlawfulTrace, lawful_line, trace_of}
 use Rattle.nvme_sim.specs.Statuses.{IsBadEntry, IsBadWorkload, run_status, status_of, trace_status}
-use Rattle.nvme_sim.specs.Requests.{IsAskedBy}
-use Rattle.nvme_sim.specs.declared.words.Request.{Request}
-use Rattle.nvme_sim.specs.declared.words.Request.TheVariants as request
-use Rattle.nvme_sim.specs.Words.{asks, asks_alone, is_option, reads_workload, shows_trace}
+use Rattle.nvme_words.specs.Requests.{IsAskedBy}
+use Rattle.nvme_words.specs.declared.requests.Request.{Request}
+use Rattle.nvme_words.specs.declared.requests.Request.TheVariants as request
+use Rattle.nvme_words.specs.Words.{asks, asks_alone, is_option, reads_workload, shows_trace}
 
 -- an entry that is none is one of the faults of an entry
 pub bad_entry : {T : Type 0} (input : Option (List ℕ)) (bytes : List ℕ) (e : OnceError) → IfSome input (λ rest. bytes ≡ rest)
@@ -211,10 +211,10 @@ IsCheck r = ⊥
 -- they ask for a check, and for nothing else
 pub only_check : (words : List (String Global)) (r : Request) → IsAskedBy words r → asks_alone (codes "check") words ≡ true → IsCheck r
 only_check words (request.Once blocks) asked a = not_both (asks (codes "once") words) asked (check_is words (alone_asks (codes "check") words a) (codes "once"))
-only_check words (request.Run mode workers) asked a = not_both (reads_workload words) asked (check_reads_none words (alone_asks (codes "check") words a))
+only_check words (request.Run submitting workers) asked a = not_both (reads_workload words) asked (check_reads_none words (alone_asks (codes "check") words a))
 only_check words request.Lint asked a = not_both (asks (codes "lint") words) asked (check_is words (alone_asks (codes "check") words a) (codes "lint"))
 only_check words request.Check asked a = tt
-only_check words (request.Trace mode workers) asked a = not_both (asks (codes "trace") words) asked (check_is words (alone_asks (codes "check") words a) (codes "trace"))
+only_check words (request.Trace submitting workers) asked a = not_both (asks (codes "trace") words) asked (check_is words (alone_asks (codes "check") words a) (codes "trace"))
 only_check words request.Chart asked a = not_both (shows_trace words) asked (check_shows_none words (alone_asks (codes "check") words a))
 only_check words (request.Stats format) asked a = not_both (shows_trace words) asked (check_shows_none words (alone_asks (codes "check") words a))
 only_check words (request.Help text) asked a = not_both (asks_alone (codes "check") words) a asked

@@ -12,7 +12,7 @@ use Rattle.nvme_runs.specs.declared.runs.Ran.{Ran}
 use Rattle.nvme_lint.specs.Warnings.{AreWarningsOf}
 use Rattle.nvme_lint.specs.declared.warning.Warning.{Warning}
 use Rattle.nvme_sim.specs.Statuses.{IsBadEntry, IsBadWorkload}
-use Rattle.nvme_sim.specs.Words.{asks, reads_workload, shows_trace}
+use Rattle.nvme_words.specs.Words.{asks, reads_workload, shows_trace}
 
 -- a trace has a line with a fault, and each pick before it is lawful
 abbrev pub IsFaultyTrace : List ℕ → Type 0

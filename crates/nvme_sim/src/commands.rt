@@ -1,8 +1,8 @@
 ghost use Rattle.std.specs.Prelude.{◌≡◌, ◌≤◌, ◌⊎◌, true, Ok, IfErr, IfSome, codes};
 ghost use Rattle.nvme_sim.specs.Inputs.{HasWarnings, IsBadInput, IsToldLawful, IsUnlawfulCheck};
-ghost use Rattle.nvme_sim.specs.Requests.{IsAskedBy};
+ghost use Rattle.nvme_words.specs.Requests.{IsAskedBy};
 ghost use Rattle.nvme_sim.specs.Statuses.{status_of};
-ghost use Rattle.nvme_sim.specs.Words.{asks, asks_alone};
+ghost use Rattle.nvme_words.specs.Words.{asks, asks_alone};
 ghost use Rattle.nvme_sim.specs.declared.faults.Fault.TheVariants as fault;
 ghost use Rattle.nvme_sim.specs.declared.commands.Answer.TheVariants as answer;
 ghost use Rattle.nvme_runs.specs.declared.runs.RunError.TheVariants as run_fault;
@@ -16,12 +16,13 @@ mod running;
 mod tracing;
 
 use crate::faults::Fault;
-use crate::words::{Request, asked_of};
 use charting::charted;
 use checking::checked;
 use counting::counted;
 use entry::answered;
 use linting::linted;
+use nvme_report::Mode;
+use nvme_words::{Request, Submitting, asked_of};
 use running::ran;
 use std::alloc::Global;
 use std::io::{Read, Write};
@@ -37,6 +38,14 @@ enum Answer {
     Unlawful,
     // There are warnings of a lawful workload.
     Warned,
+}
+
+// The mode of a run whose hosts submit so.
+fn mode_of(submitting: Submitting) -> Mode {
+    match submitting {
+        Submitting::First => Mode::Loaded,
+        Submitting::Meanwhile => Mode::Live,
+    }
 }
 
 // Writes the text of the help, or of the version.
@@ -70,10 +79,14 @@ fn done<R: Read + Drop, W: Write, T: Threads + Wait + Sync>(
     match request {
         Request::Help(text) => helped(text, output),
         Request::Once(blocks) => answered(alloc, blocks, input, output),
-        Request::Run(mode, workers) => ran(rt, alloc, mode, workers, input, output),
+        Request::Run(submitting, workers) => {
+            ran(rt, alloc, mode_of(submitting), workers, input, output)
+        }
         Request::Lint => linted(alloc, input, output),
         Request::Check => checked(alloc, input, output),
-        Request::Trace(mode, workers) => traced(rt, alloc, mode, workers, input, output),
+        Request::Trace(submitting, workers) => {
+            traced(rt, alloc, mode_of(submitting), workers, input, output)
+        }
         Request::Chart => charted(alloc, input, output),
         Request::Stats(format) => counted(alloc, format, input, output),
     }
@@ -96,7 +109,7 @@ fn served<R: Read + Drop, W: Write, T: Threads + Wait + Sync>(
 {
     match asked_of(alloc, words) {
         Ok(request) => done(rt, alloc, words, request, input, output),
-        Err(fault) => Err(fault),
+        Err(error) => Err(Fault::of_words(error)),
     }
 }
 

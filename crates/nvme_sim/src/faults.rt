@@ -1,4 +1,4 @@
-ghost use Rattle.std.specs.Prelude.{◌≡◌, ◌≤◌, ◌⊎◌};
+ghost use Rattle.std.specs.Prelude.{◌≡◌, ◌≢◌, ◌≤◌, ◌⊎◌};
 ghost use Rattle.nvme_sim.specs.Statuses.{status_of};
 ghost use Rattle.nvme_sim.specs.declared.faults.Fault.TheVariants as fault;
 ghost use Rattle.nvme_runs.specs.declared.runs.RunError.TheVariants as run_fault;
@@ -6,6 +6,7 @@ ghost use Rattle.nvme_runs.specs.declared.runs.RunError.TheVariants as run_fault
 use nvme_input::{InputError, OnceError};
 use nvme_runs::RunError;
 use nvme_trace::TraceError;
+use nvme_words::WordsError;
 use std::alloc::AllocError;
 use std::io::Write;
 use thiserror::Error;
@@ -34,6 +35,17 @@ pub(crate) enum Fault {
 }
 
 impl Fault {
+    /// The fault of words that ask for nothing.
+    pub(crate) fn of_words(error: WordsError) -> Fault
+        ensures no_input { status_of result ≢ 1 }
+    {
+        match error {
+            WordsError::CommandLine(error) => Fault::CommandLine(error),
+            WordsError::OtherWord => Fault::Words,
+            WordsError::NoMemory(error) => Fault::NoMemory(error),
+        }
+    }
+
     /// The program's status: 1 for the input, 2 for the command line, 3 for what the run met.
     pub(crate) fn status(&self) -> u8
         ensures table { result ≡ status_of self.now }

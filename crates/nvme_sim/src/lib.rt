@@ -4,11 +4,10 @@
 mod commands;
 mod faults;
 mod output;
-mod words;
 
 pub use commands::command;
 pub use nvme_input::{InputError, MAX_INPUT, MAX_READS, OnceError, once, take_input};
 pub use nvme_report::{Mode, WriteFault, report};
 pub use nvme_runs::{Ran, RunError, run, run_with, settled_run};
+pub use nvme_words::file_named;
 pub use output::flushed;
-pub use words::file_named;

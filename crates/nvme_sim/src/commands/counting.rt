@@ -7,8 +7,8 @@ ghost use Rattle.nvme_sim.specs.declared.commands.Answer.TheVariants as answer;
 
 use super::Answer;
 use crate::faults::Fault;
-use crate::words::Format;
 use nvme_chart::stats;
+use nvme_words::Format;
 use std::alloc::Global;
 use std::io::{Read, Write};
 

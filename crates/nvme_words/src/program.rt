@@ -1,0 +1,184 @@
+// The command line of the program, by `clap`.
+use clap::{Arg, ArgAction, Command, value_parser};
+use nvme_pool::MAX_WORKERS;
+use std::alloc::{AllocError, Global};
+
+const VERSION: &str = "0";
+
+const FORMATS: &[&str] = &["text", "json"];
+
+// What stands below the help.
+const AFTER_HELP: &str = "\
+Input:
+  FILE            a file, or - for standard input; without FILE check, chart
+                  and stats read standard input
+  once            a submission entry: 128 hexadecimal digits
+  run, loaded, live, lint, trace
+                  a workload file: TOML, at most 16777216 bytes
+  check, chart, stats
+                  a trace: JSON, a line of at most 4096 bytes for each event
+
+Ranges:
+  N               1 to 8 workers
+  B               1 to 9223372036854775807 logical blocks
+
+Exit status:
+  0  done; with lint there is nothing to say, with check each pick is lawful
+  1  the input is at fault; with check also: a pick is not the lawful one
+  2  the command line is at fault
+  3  the run is: a file, a read or a write failed, memory was refused, or not all was done
+  4  with lint: the workload is lawful, and there are warnings
+
+Example:
+  nvmearb lint examples/five-queues.toml
+  nvmearb run examples/five-queues.toml --workers 2
+  nvmearb trace examples/five-queues.toml | nvmearb check";
+
+// The number of workers.
+fn workers_arg<'a>(alloc: Global) -> Arg<'a> {
+    Arg::new(alloc, "workers")
+        .long("workers")
+        .value_name("N")
+        .help("The number of workers, 1 to 8")
+        .action(ArgAction::Set)
+        .value_parser(value_parser!(u8).range(1..=i64::from(MAX_WORKERS)))
+}
+
+// The name of the input's file.
+fn file_arg<'a>(alloc: Global, help: &'a str) -> Arg<'a> {
+    Arg::new(alloc, "file")
+        .value_name("FILE")
+        .help(help)
+        .action(ArgAction::Set)
+}
+
+// The size of the namespace.
+fn blocks_arg<'a>(alloc: Global) -> Arg<'a> {
+    Arg::new(alloc, "blocks")
+        .long("blocks")
+        .value_name("B")
+        .help("The size of namespace 1 in logical blocks")
+        .required(true)
+        .action(ArgAction::Set)
+        .value_parser(value_parser!(u64).range(1..=i64::MAX))
+}
+
+// The subcommand that answers one entry.
+fn once_command<'a>(alloc: Global) -> Result<Command<'a>, AllocError> {
+    Command::new(alloc, "once")
+        .about("Answers a submission entry, read in hexadecimal, by its completion entry")
+        .arg(blocks_arg(alloc))
+}
+
+// A subcommand that runs a workload of standard input.
+fn mode_command<'a>(
+    alloc: Global,
+    name: &'a str,
+    about: &'a str,
+) -> Result<Command<'a>, AllocError> {
+    Command::new(alloc, name)
+        .about(about)
+        .arg(workers_arg(alloc).required(true))
+}
+
+// A subcommand that runs the workload of a file.
+fn run_command<'a>(
+    alloc: Global,
+    name: &'a str,
+    about: &'a str,
+) -> Result<Command<'a>, AllocError> {
+    let file = file_arg(alloc, "The workload file, or - for standard input");
+    let live = Arg::new(alloc, "live")
+        .long("live")
+        .help("Let the hosts submit while the front works")
+        .action(ArgAction::SetTrue);
+    Command::new(alloc, name)
+        .about(about)
+        .arg(file.required(true))?
+        .arg(live)?
+        .arg(workers_arg(alloc).default_value("1"))
+}
+
+// The subcommand that looks at the workload of a file.
+fn lint_command<'a>(alloc: Global) -> Result<Command<'a>, AllocError> {
+    let file = file_arg(alloc, "The workload file, or - for standard input");
+    Command::new(alloc, "lint")
+        .about("Tells where a workload file is at fault, or what of it comes to nothing")
+        .arg(file.required(true))
+}
+
+// A subcommand that reads a trace.
+fn trace_command<'a>(
+    alloc: Global,
+    name: &'a str,
+    about: &'a str,
+) -> Result<Command<'a>, AllocError> {
+    let file = file_arg(
+        alloc,
+        "The trace; standard input where it is - or is left out",
+    );
+    Command::new(alloc, name).about(about).arg(file)
+}
+
+// The subcommand that tells what a trace shows in numbers.
+fn stats_command<'a>(alloc: Global) -> Result<Command<'a>, AllocError> {
+    let format = Arg::new(alloc, "format")
+        .long("format")
+        .value_name("FORMAT")
+        .help("A table for people, or one JSON object")
+        .action(ArgAction::Set)
+        .value_parser(FORMATS)
+        .default_value("text");
+    trace_command(
+        alloc,
+        "stats",
+        "Prints picks, shares and waits of each queue of a trace",
+    )?
+    .arg(format)
+}
+
+// A program with one more subcommand. Want of memory stays want of memory, so that who calls this has one exit.
+fn with<'a>(
+    program: Result<Command<'a>, AllocError>,
+    subcommand: Result<Command<'a>, AllocError>,
+) -> Result<Command<'a>, AllocError> {
+    program?.subcommand(subcommand?)
+}
+
+// The subcommands that read standard input alone.
+fn with_input<'a>(alloc: Global, program: Command<'a>) -> Result<Command<'a>, AllocError> {
+    let loaded =
+        "Runs a workload whose hosts submit all before the front begins, and prints its report";
+    let live = "Runs a workload whose hosts submit while the front works, and prints its report";
+    let program = with(Ok(program), once_command(alloc));
+    let program = with(program, mode_command(alloc, "loaded", loaded));
+    with(program, mode_command(alloc, "live", live))
+}
+
+// The subcommands that read a workload file.
+fn with_file<'a>(alloc: Global, program: Command<'a>) -> Result<Command<'a>, AllocError> {
+    let run = "Runs the workload of a file, and prints its report";
+    let trace = "Runs the workload of a file, and prints its trace";
+    let program = with(Ok(program), run_command(alloc, "run", run));
+    let program = with(program, lint_command(alloc));
+    with(program, run_command(alloc, "trace", trace))
+}
+
+// The subcommands that read a trace.
+fn with_trace<'a>(alloc: Global, program: Command<'a>) -> Result<Command<'a>, AllocError> {
+    let check = "Tells whether each pick of a trace is the lawful one";
+    let chart = "Prints a picture of a trace as SVG";
+    let program = with(Ok(program), trace_command(alloc, "check", check));
+    let program = with(program, trace_command(alloc, "chart", chart));
+    with(program, stats_command(alloc))
+}
+
+/// The command line of the program.
+pub(crate) fn program<'a>(alloc: Global) -> Result<Command<'a>, AllocError> {
+    let program = Command::new(alloc, "nvmearb")
+        .version(VERSION)
+        .about("The command-fetching and arbitration front of an NVMe controller")
+        .after_help(AFTER_HELP)
+        .subcommand_required(true);
+    with_trace(alloc, with_file(alloc, with_input(alloc, program)?)?)
+}

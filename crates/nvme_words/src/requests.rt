@@ -1,0 +1,131 @@
+// What the words of the command line ask for.
+ghost use Rattle.std.specs.Prelude.{IfOk, IfSome, codes};
+ghost use Rattle.nvme_words.specs.Requests.{IsAskedBy};
+
+use crate::asking::{asks, asks_alone};
+use crate::program::program;
+use clap::ArgMatches;
+use clap::error::ErrorKind;
+use std::alloc::{AllocError, Global};
+use thiserror::Error;
+
+/// How statistics are written.
+#[derive(Clone, Copy, Debug, PartialEq, Eq)]
+pub enum Format {
+    /// A table for people.
+    Text,
+    /// One JSON object.
+    Json,
+}
+
+/// When the hosts of a run submit.
+#[derive(Clone, Copy, Debug, PartialEq, Eq)]
+pub enum Submitting {
+    /// Before the front begins.
+    First,
+    /// While the front works.
+    Meanwhile,
+}
+
+/// What the words ask for.
+pub enum Request {
+    /// The completion of one entry over a namespace of so many blocks, at least 1.
+    Once(u64),
+    /// The report of a run of a workload with so many workers.
+    Run(Submitting, u8),
+    /// What the writer of a workload wants to know.
+    Lint,
+    /// Whether each pick of a trace is the lawful one.
+    Check,
+    /// The trace of a run of a workload with so many workers.
+    Trace(Submitting, u8),
+    /// A picture of a trace.
+    Chart,
+    /// What a trace shows in numbers.
+    Stats(Format),
+    /// The text of the help, or of the version.
+    Help(clap::Error),
+}
+
+/// Why the words ask for nothing.
+#[derive(Debug, Drop, Error)]
+pub enum WordsError {
+    /// They are no command line of the program. The text has lines of its own.
+    #[error("{0}")]
+    CommandLine(clap::Error),
+    /// The subcommand isn't the word after the program's name.
+    #[error("command line")]
+    OtherWord,
+    /// Memory was refused.
+    #[error("out of memory")]
+    NoMemory(AllocError),
+}
+
+// When the hosts of a run are to submit.
+fn submitting_of(matches: &ArgMatches) -> Submitting {
+    if matches.get_flag("live") {
+        Submitting::Meanwhile
+    } else {
+        Submitting::First
+    }
+}
+
+// How statistics are to be written.
+fn format_of(matches: &ArgMatches) -> Format {
+    match matches.get_str("format") {
+        Some("json") => Format::Json,
+        _ => Format::Text,
+    }
+}
+
+// What the subcommand asks for: none where it isn't the word after the program's name.
+fn asked_in(words: &[String], matches: &ArgMatches) -> Option<Request>
+    ensures { IfSome result (IsAskedBy words.now) }
+{
+    let (name, asked) = matches.subcommand()?;
+    if !asks(words, name) {
+        return None;
+    }
+    match name {
+        "once" => Some(Request::Once(asked.get_one::<u64>("blocks")?)),
+        "loaded" => Some(Request::Run(Submitting::First, asked.get_one::<u8>("workers")?)),
+        "live" => Some(Request::Run(Submitting::Meanwhile, asked.get_one::<u8>("workers")?)),
+        "run" => Some(Request::Run(submitting_of(asked), asked.get_one::<u8>("workers")?)),
+        "lint" => Some(Request::Lint),
+        "check" => Some(Request::Check),
+        "trace" => Some(Request::Trace(submitting_of(asked), asked.get_one::<u8>("workers")?)),
+        "chart" => Some(Request::Chart),
+        "stats" => Some(Request::Stats(format_of(asked))),
+        _ => None,
+    }
+}
+
+/// What the words ask for, the program's name first.
+pub fn asked_of(alloc: Global, words: &[String]) -> Result<Request, WordsError>
+    ensures asked { IfOk result (IsAskedBy words.now) }
+{
+    let Ok(program) = program(alloc) else {
+        return Err(WordsError::NoMemory(AllocError));
+    };
+    match program.try_get_matches_from(words) {
+        Ok(matches) => match asked_in(words, &matches) {
+            Some(request) => Ok(request),
+            None => Err(WordsError::OtherWord),
+        },
+        Err(error) => refused(words, error),
+    }
+}
+
+// What `clap` gives in place of matches: a request for help or for the version, want of memory, or a fault of the
+// words. Words that ask for a check alone don't ask for help.
+fn refused(words: &[String], error: clap::Error) -> Result<Request, WordsError>
+    ensures asked { IfOk result (IsAskedBy words.now) }
+{
+    if error.kind() == ErrorKind::OutOfMemory {
+        Err(WordsError::NoMemory(AllocError))
+    } else if error.use_stderr() || asks_alone(words, "check") {
+        Err(WordsError::CommandLine(error))
+    } else {
+        Ok(Request::Help(error))
+    }
+}
