@@ -1,2 +1,5 @@
+pub mod CommandLine
+pub mod Examples
 pub mod Requests
 pub mod Words
+pub mod inside

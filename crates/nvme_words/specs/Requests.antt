@@ -1,9 +1,21 @@
 -- Which words ask for what. (profile)
-use Rattle.std.specs.Prelude.{◌≡◌, true, false, List, String, codes}
+use Rattle.std.specs.Prelude.{⊤, ◌≡◌, ◌≢◌, ◌⊎◌, ◌<◌, ◌^◌, ℕ, true, false, ◌||◌, not, if◌then◌else◌, List, [], map, Option, Some, None, Result, Ok, Err, String, string_bytes, codes}
 use Rattle.std.specs.Global.{Global}
+use Rattle.std.specs.Str.{bytes_eq}
+use Rattle.std.specs.Str.Parse.{IsNumeral, digits_value, without_leading_plus}
+use Rattle.clap.specs.Walk.{is_empty}
+use Rattle.clap.specs.Words.{App, IsAmong, Kinds, Row, Text, fault_of, first_of, kind_of, one_of, subcommand_of}
+use Rattle.clap.specs.declared.error.kind.ErrorKind.{ErrorKind}
+use Rattle.clap.specs.declared.error.kind.ErrorKind.TheVariants.{DisplayHelp, DisplayVersion}
+use Rattle.nvme_words.specs.declared.requests.Format.{Format}
+use Rattle.nvme_words.specs.declared.requests.Format.TheVariants as format
 use Rattle.nvme_words.specs.declared.requests.Request.{Request}
 use Rattle.nvme_words.specs.declared.requests.Request.TheVariants as request
-use Rattle.nvme_words.specs.Words.{asks, asks_alone, reads_workload, shows_trace}
+use Rattle.nvme_words.specs.declared.requests.Submitting.{Submitting}
+use Rattle.nvme_words.specs.declared.requests.Submitting.TheVariants as submitting
+use Rattle.nvme_words.specs.declared.requests.WordsError.{WordsError}
+use Rattle.nvme_words.specs.declared.requests.WordsError.TheVariants as error
+use Rattle.nvme_words.specs.Words.{asks, asks_alone, reads_input, reads_workload, shows_trace}
 
 -- the word after the program's name is one that asks for this. Words that ask for a check alone don't ask for help
 abbrev pub IsAskedBy : List (String Global) → Request → Type 0
@@ -15,3 +27,89 @@ IsAskedBy words (request.Trace submitting workers) = asks (codes "trace") words 
 IsAskedBy words request.Chart = shows_trace words ≡ true
 IsAskedBy words (request.Stats format) = shows_trace words ≡ true
 IsAskedBy words (request.Help text) = asks_alone (codes "check") words ≡ false
+
+-- ---- what a subcommand and its values ask for
+
+-- a subcommand by its name, with the values of its options and files
+abbrev pub Given : Type 0
+Given = Text × List Row
+
+-- the value is a number of so many bits, in decimal digits
+abbrev pub IsNumber : ℕ → Text → List Row → ℕ → Type 0
+IsNumber bits id rows number = (text : Text) × (one_of id rows ≡ Some text) × IsNumeral 10 (without_leading_plus text)
+    × (digits_value 10 (without_leading_plus text) < 2 ^ bits) × (number ≡ digits_value 10 (without_leading_plus text))
+
+-- whether the hosts submit while the front works, as `--live` says
+abbrev pub SubmitsBy : List Row → Submitting → Type 0
+SubmitsBy rows submitting.First = one_of (codes "live") rows ≢ Some (codes "true")
+SubmitsBy rows submitting.Meanwhile = (one_of (codes "live") rows ≢ None) × (one_of (codes "live") rows ≢ Some (codes "false"))
+
+abbrev pub IsFormat : List Row → Format → Type 0
+IsFormat rows format.Json = first_of (codes "format") rows ≡ Some (codes "json")
+IsFormat rows format.Text = first_of (codes "format") rows ≢ Some (codes "json")
+
+-- when the hosts of a run submit, whose report is wanted
+abbrev pub RunsBy : Given → Submitting → Type 0
+RunsBy given when = ((given.0 ≡ codes "loaded") × (when ≡ submitting.First))
+    ⊎ (((given.0 ≡ codes "live") × (when ≡ submitting.Meanwhile))
+    ⊎ ((given.0 ≡ codes "run") × SubmitsBy given.1 when))
+
+abbrev pub IsRequestOf : Given → Request → Type 0
+IsRequestOf given (request.Once blocks) = (given.0 ≡ codes "once") × IsNumber 64 (codes "blocks") given.1 blocks
+IsRequestOf given (request.Run when workers) = RunsBy given when × IsNumber 8 (codes "workers") given.1 workers
+IsRequestOf given request.Lint = given.0 ≡ codes "lint"
+IsRequestOf given request.Check = given.0 ≡ codes "check"
+IsRequestOf given (request.Trace when workers) =
+    (given.0 ≡ codes "trace") × SubmitsBy given.1 when × IsNumber 8 (codes "workers") given.1 workers
+IsRequestOf given request.Chart = given.0 ≡ codes "chart"
+IsRequestOf given (request.Stats format) = (given.0 ≡ codes "stats") × IsFormat given.1 format
+IsRequestOf given (request.Help text) = ⊥
+
+-- ---- what words ask for
+
+-- what `clap` finds wrong with the words, and nothing where it takes them
+abbrev pub faults_of : App → List (String Global) → Kinds
+faults_of app words = fault_of app (map string_bytes words)
+
+-- the subcommand that the words name, with its values
+abbrev pub given_by : App → List (String Global) → Option Given
+given_by app words = subcommand_of app (map string_bytes words)
+
+-- the subcommand is the word after the program's name, and asks for this
+abbrev pub IsGivenBy : List (String Global) → Option Given → Request → Type 0
+IsGivenBy words None request = ⊥
+IsGivenBy words (Some given) request = (asks given.0 words ≡ true) × IsRequestOf given request
+
+-- the text is one that was asked for. Words that ask for a check alone ask for none
+abbrev pub IsHelp : List (String Global) → ErrorKind → Type 0
+IsHelp words kind = ((kind ≡ DisplayHelp) ⊎ (kind ≡ DisplayVersion)) × (asks_alone (codes "check") words ≡ false)
+
+abbrev pub IsHelpOf : App → List (String Global) → Request → Type 0
+IsHelpOf app words (request.Help text) = IsAmong (kind_of text) (faults_of app words) × IsHelp words (kind_of text)
+IsHelpOf app words request = ⊥
+
+-- the answer to words: their request where `clap` takes them, and else its text. Memory may be refused at any words
+abbrev pub IsAnswerTo : App → List (String Global) → Result Request WordsError → Type 0
+IsAnswerTo app words (Ok request) =
+    ((faults_of app words ≡ []) × IsGivenBy words (given_by app words) request) ⊎ IsHelpOf app words request
+IsAnswerTo app words (Err (error.CommandLine text)) =
+    IsAmong (kind_of text) (faults_of app words) × (IsHelp words (kind_of text) → ⊥)
+IsAnswerTo app words (Err error.OtherWord) =
+    (faults_of app words ≡ []) × ((request : Request) → IsGivenBy words (given_by app words) request → ⊥)
+IsAnswerTo app words (Err (error.NoMemory why)) = ⊤
+
+-- ---- the file
+
+-- the value of a file, where it isn't `-`
+abbrev pub named : Option Text → Option Text
+named None = None
+named (Some name) = if bytes_eq name (codes "-") then None else Some name
+
+abbrev pub file_given : Option Given → Option Text
+file_given None = None
+file_given (Some given) = named (first_of (codes "file") given.1)
+
+-- the file that the words name as the input
+abbrev pub file_of : App → List (String Global) → Option Text
+file_of app words =
+    if reads_input words || not (is_empty (faults_of app words)) then None else file_given (given_by app words)

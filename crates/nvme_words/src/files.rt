@@ -1,33 +1,44 @@
 // The file that the words name as the input.
-ghost use Rattle.std.specs.Prelude.{◌≡◌, true, None, IfOk};
+ghost use Rattle.std.specs.Prelude.{◌≡◌, true, None, IfOk, option_map};
+ghost use Rattle.clap.specs.Words.{subcommand_rows_of};
+ghost use Rattle.nvme_words.specs.CommandLine.{OnCommandLine};
+ghost use Rattle.nvme_words.specs.Requests.{file_given, file_of};
 ghost use Rattle.nvme_words.specs.Words.{reads_input};
 
 use crate::asking::{names_no_trace, reads_input_alone};
 use crate::program::program;
+use clap::ArgMatches;
 use clap::error::ErrorKind;
 use std::alloc::{AllocError, Global};
 
 const STANDARD_INPUT: &str = "-";
 
+// The file that the subcommand is given.
+fn file_in<'a>(matches: &ArgMatches<'a>) -> Option<&'a str>
+    ensures { option_map (λ text. text.now) result ≡ file_given (subcommand_rows_of matches.now) }
+{
+    let (_, asked) = matches.subcommand()?;
+    let name = asked.get_str("file")?;
+    if name == STANDARD_INPUT {
+        None
+    } else {
+        Some(name)
+    }
+}
+
 /// The name of the file that the words give as the input. There is none with `once`, `loaded` and `live`, nor with
 /// `check`, `chart` and `stats` where nothing follows them, nor with `-`, nor where the words are refused or ask for
 /// help. The first word is the program's name.
 pub fn file_named<'a>(alloc: Global, words: &'a [String]) -> Result<Option<&'a str>, AllocError>
+    ensures named { IfOk result (λ name. OnCommandLine (λ app. option_map (λ text. text.now) name ≡ file_of app words.now)) }
     ensures standing { reads_input words.now ≡ true → IfOk result (λ name. name ≡ None) }
 {
     if reads_input_alone(words) || names_no_trace(words) {
         return Ok(None);
     }
-    let matches = match program(alloc)?.try_get_matches_from(words) {
-        Ok(matches) => matches,
-        Err(error) if error.kind() == ErrorKind::OutOfMemory => return Err(AllocError),
-        Err(_) => return Ok(None),
-    };
-    let Some((_, asked)) = matches.subcommand() else {
-        return Ok(None);
-    };
-    match asked.get_str("file") {
-        Some(STANDARD_INPUT) => Ok(None),
-        name => Ok(name),
+    match program(alloc)?.try_get_matches_from(words) {
+        Ok(matches) => Ok(file_in(&matches)),
+        Err(error) if error.kind() == ErrorKind::OutOfMemory => Err(AllocError),
+        Err(_) => Ok(None),
     }
 }

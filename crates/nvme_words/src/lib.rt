@@ -3,8 +3,10 @@
 
 mod asking;
 mod files;
+mod laws;
 mod program;
 mod requests;
 
 pub use files::file_named;
+pub use laws::{lines_ask_for, lines_have_faults, lines_name_files, lines_show_text, one_request};
 pub use requests::{Format, Request, Submitting, WordsError, asked_of};

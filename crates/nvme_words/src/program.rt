@@ -1,4 +1,10 @@
 // The command line of the program, by `clap`.
+ghost use Rattle.std.specs.Prelude.{◌≡◌, IfOk, codes};
+ghost use Rattle.clap.specs.Words.{App, app_of};
+ghost use Rattle.nvme_words.specs.CommandLine.{OnCommandLine, blocks, file, lint, mode, once, option, run, stats, trace, with_file, with_input, with_trace, workers};
+ghost use Rattle.nvme_words.specs.inside.Built.{AddsIfMade, HasApp, HasRule};
+
+use clap::builder::ValueParser;
 use clap::{Arg, ArgAction, Command, value_parser};
 use nvme_pool::MAX_WORKERS;
 use std::alloc::{AllocError, Global};
@@ -34,18 +40,42 @@ Example:
   nvmearb run examples/five-queues.toml --workers 2
   nvmearb trace examples/five-queues.toml | nvmearb check";
 
-// The number of workers.
-fn workers_arg<'a>(alloc: Global) -> Arg<'a> {
-    Arg::new(alloc, "workers")
-        .long("workers")
-        .value_name("N")
-        .help("The number of workers, 1 to 8")
+// An option with one value.
+fn option_arg<'a>(
+    alloc: Global,
+    name: &'a str,
+    value: &'a str,
+    help: &'a str,
+    parser: ValueParser<'a>,
+) -> Arg<'a>
+    ensures { HasRule (option name.now parser.entry) result }
+{
+    Arg::new(alloc, name)
+        .long(name)
+        .value_name(value)
+        .help(help)
         .action(ArgAction::Set)
-        .value_parser(value_parser!(u8).range(1..=i64::from(MAX_WORKERS)))
+        .value_parser(parser)
+}
+
+// The number of workers.
+fn workers_arg<'a>(alloc: Global) -> Arg<'a>
+    ensures { HasRule workers result }
+{
+    let range = value_parser!(u8).range(1..=i64::from(MAX_WORKERS));
+    option_arg(
+        alloc,
+        "workers",
+        "N",
+        "The number of workers, 1 to 8",
+        range,
+    )
 }
 
 // The name of the input's file.
-fn file_arg<'a>(alloc: Global, help: &'a str) -> Arg<'a> {
+fn file_arg<'a>(alloc: Global, help: &'a str) -> Arg<'a>
+    ensures { HasRule file result }
+{
     Arg::new(alloc, "file")
         .value_name("FILE")
         .help(help)
@@ -53,40 +83,41 @@ fn file_arg<'a>(alloc: Global, help: &'a str) -> Arg<'a> {
 }
 
 // The size of the namespace.
-fn blocks_arg<'a>(alloc: Global) -> Arg<'a> {
-    Arg::new(alloc, "blocks")
-        .long("blocks")
-        .value_name("B")
-        .help("The size of namespace 1 in logical blocks")
-        .required(true)
-        .action(ArgAction::Set)
-        .value_parser(value_parser!(u64).range(1..=i64::MAX))
+fn blocks_arg<'a>(alloc: Global) -> Arg<'a>
+    ensures { HasRule blocks result }
+{
+    let range = value_parser!(u64).range(1..=i64::MAX);
+    option_arg(
+        alloc,
+        "blocks",
+        "B",
+        "The size of namespace 1 in logical blocks",
+        range,
+    )
 }
 
 // The subcommand that answers one entry.
-fn once_command<'a>(alloc: Global) -> Result<Command<'a>, AllocError> {
+fn once_command<'a>(alloc: Global) -> Result<Command<'a>, AllocError>
+    ensures { IfOk result (HasApp once) }
+{
     Command::new(alloc, "once")
         .about("Answers a submission entry, read in hexadecimal, by its completion entry")
-        .arg(blocks_arg(alloc))
+        .arg(blocks_arg(alloc).required(true))
 }
 
 // A subcommand that runs a workload of standard input.
-fn mode_command<'a>(
-    alloc: Global,
-    name: &'a str,
-    about: &'a str,
-) -> Result<Command<'a>, AllocError> {
+fn mode_command<'a>(alloc: Global, name: &'a str, about: &'a str) -> Result<Command<'a>, AllocError>
+    ensures { IfOk result (HasApp (mode name.now)) }
+{
     Command::new(alloc, name)
         .about(about)
         .arg(workers_arg(alloc).required(true))
 }
 
 // A subcommand that runs the workload of a file.
-fn run_command<'a>(
-    alloc: Global,
-    name: &'a str,
-    about: &'a str,
-) -> Result<Command<'a>, AllocError> {
+fn run_command<'a>(alloc: Global, name: &'a str, about: &'a str) -> Result<Command<'a>, AllocError>
+    ensures { IfOk result (HasApp (run name.now)) }
+{
     let file = file_arg(alloc, "The workload file, or - for standard input");
     let live = Arg::new(alloc, "live")
         .long("live")
@@ -100,7 +131,9 @@ fn run_command<'a>(
 }
 
 // The subcommand that looks at the workload of a file.
-fn lint_command<'a>(alloc: Global) -> Result<Command<'a>, AllocError> {
+fn lint_command<'a>(alloc: Global) -> Result<Command<'a>, AllocError>
+    ensures { IfOk result (HasApp lint) }
+{
     let file = file_arg(alloc, "The workload file, or - for standard input");
     Command::new(alloc, "lint")
         .about("Tells where a workload file is at fault, or what of it comes to nothing")
@@ -112,7 +145,9 @@ fn trace_command<'a>(
     alloc: Global,
     name: &'a str,
     about: &'a str,
-) -> Result<Command<'a>, AllocError> {
+) -> Result<Command<'a>, AllocError>
+    ensures { IfOk result (HasApp (trace name.now)) }
+{
     let file = file_arg(
         alloc,
         "The trace; standard input where it is - or is left out",
@@ -121,14 +156,12 @@ fn trace_command<'a>(
 }
 
 // The subcommand that tells what a trace shows in numbers.
-fn stats_command<'a>(alloc: Global) -> Result<Command<'a>, AllocError> {
-    let format = Arg::new(alloc, "format")
-        .long("format")
-        .value_name("FORMAT")
-        .help("A table for people, or one JSON object")
-        .action(ArgAction::Set)
-        .value_parser(FORMATS)
-        .default_value("text");
+fn stats_command<'a>(alloc: Global, formats: &'a [&'a str]) -> Result<Command<'a>, AllocError>
+    ensures { IfOk result (HasApp (stats formats.entry)) }
+{
+    let help = "A table for people, or one JSON object";
+    let names = ValueParser::Names(formats);
+    let format = option_arg(alloc, "format", "FORMAT", help, names).default_value("text");
     trace_command(
         alloc,
         "stats",
@@ -141,12 +174,16 @@ fn stats_command<'a>(alloc: Global) -> Result<Command<'a>, AllocError> {
 fn with<'a>(
     program: Result<Command<'a>, AllocError>,
     subcommand: Result<Command<'a>, AllocError>,
-) -> Result<Command<'a>, AllocError> {
+) -> Result<Command<'a>, AllocError>
+    ensures { AddsIfMade program.entry subcommand.entry result }
+{
     program?.subcommand(subcommand?)
 }
 
 // The subcommands that read standard input alone.
-fn with_input<'a>(alloc: Global, program: Command<'a>) -> Result<Command<'a>, AllocError> {
+fn with_input<'a>(alloc: Global, program: Command<'a>) -> Result<Command<'a>, AllocError>
+    ensures { (app : App) → HasApp app program.entry → IfOk result (HasApp (with_input app)) }
+{
     let loaded =
         "Runs a workload whose hosts submit all before the front begins, and prints its report";
     let live = "Runs a workload whose hosts submit while the front works, and prints its report";
@@ -156,7 +193,9 @@ fn with_input<'a>(alloc: Global, program: Command<'a>) -> Result<Command<'a>, Al
 }
 
 // The subcommands that read a workload file.
-fn with_file<'a>(alloc: Global, program: Command<'a>) -> Result<Command<'a>, AllocError> {
+fn with_file<'a>(alloc: Global, program: Command<'a>) -> Result<Command<'a>, AllocError>
+    ensures { (app : App) → HasApp app program.entry → IfOk result (HasApp (with_file app)) }
+{
     let run = "Runs the workload of a file, and prints its report";
     let trace = "Runs the workload of a file, and prints its trace";
     let program = with(Ok(program), run_command(alloc, "run", run));
@@ -165,20 +204,29 @@ fn with_file<'a>(alloc: Global, program: Command<'a>) -> Result<Command<'a>, All
 }
 
 // The subcommands that read a trace.
-fn with_trace<'a>(alloc: Global, program: Command<'a>) -> Result<Command<'a>, AllocError> {
+fn with_trace<'a>(
+    alloc: Global,
+    formats: &'a [&'a str],
+    program: Command<'a>,
+) -> Result<Command<'a>, AllocError>
+    ensures { (app : App) → HasApp app program.entry → IfOk result (HasApp (with_trace formats.entry app)) }
+{
     let check = "Tells whether each pick of a trace is the lawful one";
     let chart = "Prints a picture of a trace as SVG";
     let program = with(Ok(program), trace_command(alloc, "check", check));
     let program = with(program, trace_command(alloc, "chart", chart));
-    with(program, stats_command(alloc))
+    with(program, stats_command(alloc, formats))
 }
 
 /// The command line of the program.
-pub(crate) fn program<'a>(alloc: Global) -> Result<Command<'a>, AllocError> {
+pub(crate) fn program<'a>(alloc: Global) -> Result<Command<'a>, AllocError>
+    ensures { IfOk result (λ command. OnCommandLine (λ app. app_of command ≡ app)) }
+{
     let program = Command::new(alloc, "nvmearb")
         .version(VERSION)
         .about("The command-fetching and arbitration front of an NVMe controller")
         .after_help(AFTER_HELP)
         .subcommand_required(true);
-    with_trace(alloc, with_file(alloc, with_input(alloc, program)?)?)
+    let program = with_file(alloc, with_input(alloc, program)?)?;
+    with_trace(alloc, FORMATS, program)
 }

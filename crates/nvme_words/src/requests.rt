@@ -1,6 +1,9 @@
 // What the words of the command line ask for.
 ghost use Rattle.std.specs.Prelude.{IfOk, IfSome, codes};
-ghost use Rattle.nvme_words.specs.Requests.{IsAskedBy};
+ghost use Rattle.clap.specs.Words.{found_of, kind_of, rows_of, subcommand_rows_of};
+ghost use Rattle.nvme_words.specs.CommandLine.{OnCommandLine};
+ghost use Rattle.nvme_words.specs.Requests.{IsAnswerTo, IsAskedBy, IsFormat, SubmitsBy};
+ghost use Rattle.nvme_words.specs.inside.Found.{IsNumberIfAny, IsRequestIfAny, IsRequestOfIfAny, IsTextFor};
 
 use crate::asking::{asks, asks_alone};
 use crate::program::program;
@@ -62,7 +65,9 @@ pub enum WordsError {
 }
 
 // When the hosts of a run are to submit.
-fn submitting_of(matches: &ArgMatches) -> Submitting {
+fn submitting_of(matches: &ArgMatches) -> Submitting
+    ensures { SubmitsBy (rows_of (found_of matches.now)) result }
+{
     if matches.get_flag("live") {
         Submitting::Meanwhile
     } else {
@@ -71,38 +76,64 @@ fn submitting_of(matches: &ArgMatches) -> Submitting {
 }
 
 // How statistics are to be written.
-fn format_of(matches: &ArgMatches) -> Format {
+fn format_of(matches: &ArgMatches) -> Format
+    ensures { IsFormat (rows_of (found_of matches.now)) result }
+{
     match matches.get_str("format") {
         Some("json") => Format::Json,
         _ => Format::Text,
     }
 }
 
-// What the subcommand asks for: none where it isn't the word after the program's name.
-fn asked_in(words: &[String], matches: &ArgMatches) -> Option<Request>
-    ensures { IfSome result (IsAskedBy words.now) }
+// The number of logical blocks.
+fn blocks_of(matches: &ArgMatches) -> Option<u64>
+    ensures { IsNumberIfAny 64 (codes "blocks") (rows_of (found_of matches.now)) result }
 {
-    let (name, asked) = matches.subcommand()?;
-    if !asks(words, name) {
-        return None;
-    }
+    matches.get_one::<u64>("blocks")
+}
+
+// The number of workers.
+fn workers_of(matches: &ArgMatches) -> Option<u8>
+    ensures { IsNumberIfAny 8 (codes "workers") (rows_of (found_of matches.now)) result }
+{
+    matches.get_one::<u8>("workers")
+}
+
+// What a subcommand and its values ask for: none where that is no subcommand, or a number isn't there.
+fn request_of(name: &str, matches: &ArgMatches) -> Option<Request>
+    ensures { IsRequestOfIfAny (name.now, rows_of (found_of matches.now)) result }
+{
     match name {
-        "once" => Some(Request::Once(asked.get_one::<u64>("blocks")?)),
-        "loaded" => Some(Request::Run(Submitting::First, asked.get_one::<u8>("workers")?)),
-        "live" => Some(Request::Run(Submitting::Meanwhile, asked.get_one::<u8>("workers")?)),
-        "run" => Some(Request::Run(submitting_of(asked), asked.get_one::<u8>("workers")?)),
+        "once" => Some(Request::Once(blocks_of(matches)?)),
+        "loaded" => Some(Request::Run(Submitting::First, workers_of(matches)?)),
+        "live" => Some(Request::Run(Submitting::Meanwhile, workers_of(matches)?)),
+        "run" => Some(Request::Run(submitting_of(matches), workers_of(matches)?)),
         "lint" => Some(Request::Lint),
         "check" => Some(Request::Check),
-        "trace" => Some(Request::Trace(submitting_of(asked), asked.get_one::<u8>("workers")?)),
+        "trace" => Some(Request::Trace(submitting_of(matches), workers_of(matches)?)),
         "chart" => Some(Request::Chart),
-        "stats" => Some(Request::Stats(format_of(asked))),
+        "stats" => Some(Request::Stats(format_of(matches))),
         _ => None,
+    }
+}
+
+// What the subcommand asks for: none where it isn't the word after the program's name.
+fn asked_in(words: &[String], matches: &ArgMatches) -> Option<Request>
+    ensures asked { IfSome result (IsAskedBy words.now) }
+    ensures given { IsRequestIfAny words.now (subcommand_rows_of matches.now) result }
+{
+    let (name, asked) = matches.subcommand()?;
+    if asks(words, name) {
+        request_of(name, asked)
+    } else {
+        None
     }
 }
 
 /// What the words ask for, the program's name first.
 pub fn asked_of(alloc: Global, words: &[String]) -> Result<Request, WordsError>
     ensures asked { IfOk result (IsAskedBy words.now) }
+    ensures answer { OnCommandLine (λ app. IsAnswerTo app words.now result) }
 {
     let Ok(program) = program(alloc) else {
         return Err(WordsError::NoMemory(AllocError));
@@ -120,6 +151,7 @@ pub fn asked_of(alloc: Global, words: &[String]) -> Result<Request, WordsError>
 // words. Words that ask for a check alone don't ask for help.
 fn refused(words: &[String], error: clap::Error) -> Result<Request, WordsError>
     ensures asked { IfOk result (IsAskedBy words.now) }
+    ensures answer { IsTextFor words.now (kind_of error) result }
 {
     if error.kind() == ErrorKind::OutOfMemory {
         Err(WordsError::NoMemory(AllocError))

@@ -1,0 +1,6 @@
+mod Answering
+mod Building
+mod Lines
+mod Naming
+mod OneRequest
+mod Reading

@@ -1,0 +1,115 @@
+-- A subcommand with its values asks for one thing: the request that is picked by its name.
+use Rattle.std.proofs.Common.{◌<◌, ◌^◌, unwrap_or, subst, ◌≡◌, ◌≢◌, ◌∙◌, if◌then◌else◌, cond, ℕ, Bool, true, false, List, Option, Some, None, codes, refl, sym, ap, ap₂, inl, inr, ⊎_elim}
+use Rattle.std.proofs.lemmas.Slice.Eq.{bytes_eq-Decides}
+use Rattle.std.specs.Option.{option_map_or}
+use Rattle.std.specs.Str.{bytes_eq}
+use Rattle.std.specs.Str.Parse.{IsNumeral, digits_value, without_leading_plus}
+use Rattle.clap.specs.Words.{Row, Text, first_of, one_of}
+use Rattle.nvme_words.specs.Examples.{AsksForNothing, AsksForOneThing}
+use Rattle.nvme_words.specs.Requests.{Given, IsFormat, IsNumber, IsRequestOf, SubmitsBy}
+use Rattle.nvme_words.specs.declared.requests.Format.{Format}
+use Rattle.nvme_words.specs.declared.requests.Format.TheVariants as format
+use Rattle.nvme_words.specs.declared.requests.Request.{Request}
+use Rattle.nvme_words.specs.declared.requests.Request.TheVariants as request
+use Rattle.nvme_words.specs.declared.requests.Submitting.{Submitting}
+use Rattle.nvme_words.specs.declared.requests.Submitting.TheVariants as submitting
+use Rattle.nvme_words.proofs.Reading.{apart, no_blocks, no_workers}
+
+abbrev number_in : Text → List Row → ℕ
+number_in id rows = option_map_or (λ text. digits_value 10 (without_leading_plus text)) (one_of id rows) 0
+
+number_is : (bits : ℕ) (id : Text) (rows : List Row) (n : ℕ) → IsNumber bits id rows n → n ≡ number_in id rows
+number_is bits id rows n number =
+    number.4 ∙ ap (λ o. option_map_or (λ (text : Text). digits_value 10 (without_leading_plus text)) o 0) (sym number.1)
+
+abbrev is_json : Option Text → Bool
+is_json text = option_map_or (λ t. bytes_eq t (codes "json")) text false
+
+abbrev format_in : List Row → Format
+format_in rows = cond (is_json (first_of (codes "format") rows)) format.Json format.Text
+
+other_json : (text : Option Text) → text ≢ Some (codes "json") → is_json text ≡ false
+other_json None other = refl
+other_json (Some t) other = go (bytes_eq t (codes "json")) refl
+  where
+    go : (b : Bool) → bytes_eq t (codes "json") ≡ b → bytes_eq t (codes "json") ≡ false
+    go false e = e
+    go true e = absurd (other (ap (λ (x : Text). Some x) ((bytes_eq-Decides t (codes "json")).0 e)))
+
+format_is : (rows : List Row) (f : Format) → IsFormat rows f → f ≡ format_in rows
+format_is rows format.Json is = rw is refl
+format_is rows format.Text other = ap (λ b. cond b format.Json format.Text) (sym (other_json _ other))
+
+abbrev picked : Given → Submitting → Request
+picked given when =
+    if bytes_eq given.0 (codes "once") then request.Once (number_in (codes "blocks") given.1)
+    else if bytes_eq given.0 (codes "loaded") then request.Run submitting.First (number_in (codes "workers") given.1)
+    else if bytes_eq given.0 (codes "live") then request.Run submitting.Meanwhile (number_in (codes "workers") given.1)
+    else if bytes_eq given.0 (codes "run") then request.Run when (number_in (codes "workers") given.1)
+    else if bytes_eq given.0 (codes "lint") then request.Lint
+    else if bytes_eq given.0 (codes "check") then request.Check
+    else if bytes_eq given.0 (codes "trace") then request.Trace when (number_in (codes "workers") given.1)
+    else if bytes_eq given.0 (codes "chart") then request.Chart
+    else request.Stats (format_in given.1)
+
+module _ (given : Given) (when : Submitting) (only : (w : Submitting) → SubmitsBy given.1 w → w ≡ when) where
+  is_picked : (r : Request) → IsRequestOf given r → r ≡ picked given when
+  is_picked (request.Once n) h = rw h.0 (ap request.Once (number_is 64 (codes "blocks") given.1 n h.1))
+  is_picked (request.Run w n) h = ⊎_elim
+      (λ k. rw (k.0, k.1) (ap (request.Run submitting.First) (number_is 8 (codes "workers") given.1 n h.1)))
+      (⊎_elim
+      (λ k. rw (k.0, k.1) (ap (request.Run submitting.Meanwhile) (number_is 8 (codes "workers") given.1 n h.1)))
+      (λ k. rw k.0 (ap₂ request.Run (only w k.1) (number_is 8 (codes "workers") given.1 n h.1))))
+      h.0
+  is_picked request.Lint h = rw h refl
+  is_picked request.Check h = rw h refl
+  is_picked (request.Trace w n) h = rw h.0 (ap₂ request.Trace (only w h.1) (number_is 8 (codes "workers") given.1 n h.2))
+  is_picked request.Chart h = rw h refl
+  is_picked (request.Stats f) h = rw h.0 (ap request.Stats (format_is given.1 f h.1))
+  is_picked (request.Help text) h = absurd h
+
+  both_picked : (r s : Request) → IsRequestOf given r → IsRequestOf given s → r ≡ s
+  both_picked r s h k = is_picked r h ∙ sym (is_picked s k)
+
+on : (rows : List Row) → one_of (codes "live") rows ≡ Some (codes "true") → (w : Submitting) → SubmitsBy rows w → w ≡ submitting.Meanwhile
+on rows is submitting.First other = absurd (other is)
+on rows is submitting.Meanwhile h = refl
+
+off : (rows : List Row) → one_of (codes "live") rows ≡ Some (codes "false") → (w : Submitting) → SubmitsBy rows w → w ≡ submitting.First
+off rows is submitting.First h = refl
+off rows is submitting.Meanwhile h = absurd (h.1 is)
+
+left_out : (rows : List Row) → one_of (codes "live") rows ≡ None → (w : Submitting) → SubmitsBy rows w → w ≡ submitting.First
+left_out rows is submitting.First h = refl
+left_out rows is submitting.Meanwhile h = absurd (h.0 is)
+
+pub one_request : AsksForOneThing
+one_request given r s (inl is) h k = both_picked given submitting.Meanwhile (on given.1 is) r s h k
+one_request given r s (inr (inl is)) h k = both_picked given submitting.First (off given.1 is) r s h k
+one_request given r s (inr (inr is)) h k = both_picked given submitting.First (left_out given.1 is) r s h k
+
+-- ---- where the number is none
+
+text_of : (bits : ℕ) (id : Text) (rows : List Row) (n : ℕ) (text : Text) → one_of id rows ≡ Some text → IsNumber bits id rows n
+    → IsNumeral 10 (without_leading_plus text) × (digits_value 10 (without_leading_plus text) < 2 ^ bits)
+text_of bits id rows n text is number =
+    let same : number.0 ≡ text = ap (λ (o : Option Text). unwrap_or o text) (sym number.1 ∙ is) in
+    subst (λ (t : Text). IsNumeral 10 (without_leading_plus t) × (digits_value 10 (without_leading_plus t) < 2 ^ bits)) same (number.2, number.3)
+
+no_number : (bits : ℕ) (id : Text) (rows : List Row) (n : ℕ) (text : Text)
+    → (IsNumeral 10 (without_leading_plus text) × (digits_value 10 (without_leading_plus text) < 2 ^ bits) → ⊥)
+    → one_of id rows ≡ Some text → IsNumber bits id rows n → ⊥
+no_number bits id rows n text none is number = none (text_of bits id rows n text is number)
+
+pub none_of_once : (text : Text) → (IsNumeral 10 (without_leading_plus text) × (digits_value 10 (without_leading_plus text) < 2 ^ 64) → ⊥)
+    → AsksForNothing (codes "once") (codes "blocks") text
+none_of_once text none given name is = no_blocks given name (λ n. no_number 64 (codes "blocks") given.1 n text none is)
+
+pub none_of_workers : (name text : Text) → bytes_eq name (codes "once") ≡ false → bytes_eq name (codes "lint") ≡ false
+    → bytes_eq name (codes "check") ≡ false → bytes_eq name (codes "chart") ≡ false → bytes_eq name (codes "stats") ≡ false
+    → (IsNumeral 10 (without_leading_plus text) × (digits_value 10 (without_leading_plus text) < 2 ^ 8) → ⊥)
+    → AsksForNothing name (codes "workers") text
+none_of_workers name text once lint check chart stats none given same is = no_workers given
+    (apart given.0 name (codes "once") once same) (apart given.0 name (codes "lint") lint same) (apart given.0 name (codes "check") check same)
+    (apart given.0 name (codes "chart") chart same) (apart given.0 name (codes "stats") stats same)
+    (λ n. no_number 8 (codes "workers") given.1 n text none is)

@@ -1,0 +1,37 @@
+use Rattle.std.proofs.Common.{rules, ◌≢◌, ◌∙◌, ⊎_elim, refl, sym, ap, subst}
+use Rattle.clap.specs.Words.{IsAmong, kind_of}
+use Rattle.clap.specs.declared.error.kind.ErrorKind.TheVariants.{OutOfMemory}
+use Rattle.nvme_words.specs.CommandLine.{command_line}
+use Rattle.nvme_words.specs.Requests.{faults_of, file_given}
+use Rattle.nvme_words.proofs.Answering.{free, given_in, same_faults, some_names}
+use Rattle.nvme_words.proofs.Naming.{file_of_taken, input_alone, input_of_trace, none_of_refused, none_with_input}
+use Rattle.nvme_words.proofs.files.file_named.Goals as goal
+use Rattle.nvme_words.proofs.files.file_named.Goals.{then-reads_input_alone-via-then-reads_input_alone, then-reads_input_alone-via-else-reads_input_alone+then-names_no_trace}
+
+pub returns-then-reads_input_alone-clause-named : goal.returns-then-reads_input_alone-clause-named
+returns-then-reads_input_alone-clause-named c = elim c.then-reads_input_alone.branch [
+  | then-reads_input_alone-via-then-reads_input_alone w ↦
+      (some_names, refl, none_with_input (command_line some_names) c.args.words.now (input_alone c.args.words.now (search rules)))
+  | then-reads_input_alone-via-else-reads_input_alone+then-names_no_trace w ↦
+      (some_names, refl, none_with_input (command_line some_names) c.args.words.now (input_of_trace c.args.words.now (search rules)))
+]
+
+pub returns-in-Ok-clause-named : goal.returns-in-Ok-clause-named
+returns-in-Ok-clause-named c =
+    let line = c.in_ok-program.ensures in
+    let words = c.args.words.now in
+    let faults = same_faults _ line.0 line.2 words in
+    let none = sym faults ∙ c.in-Ok.ensures.kinds (free _ line.0 line.2 words) in
+    let given = given_in _ line.0 line.2 words _ c.in-Ok.ensures.matches in
+    (line.0, line.1, c.file_in.ensures ∙ (ap file_given given ∙ sym (file_of_taken (command_line line.0) words (search rules) (search rules) none)))
+
+pub returns-clause-named : goal.returns-clause-named
+returns-clause-named c =
+    let line = c.in_ok-program.ensures in
+    let words = c.args.words.now in
+    let faults = same_faults _ line.0 line.2 words in
+    let other : kind_of c.in-Err-2.field-0 ≢ OutOfMemory = search rules in
+    let kinds = c.in-Err-2.ensures.kinds (free _ line.0 line.2 words) in
+    let among : IsAmong (kind_of c.in-Err-2.field-0) (faults_of (command_line line.0) words) =
+    ⊎_elim (λ h. absurd (other h)) (λ h. subst (IsAmong _) faults h) kinds in
+    (line.0, line.1, none_of_refused (command_line line.0) words (kind_of c.in-Err-2.field-0) among)

@@ -1,0 +1,69 @@
+-- Each line is computed.
+use Rattle.std.proofs.Common.{◌≡◌, List, Some, codes, refl, inl, inr, arith}
+use Rattle.clap.specs.Words.{Text, first_of, one_of}
+use Rattle.clap.proofs.OnLiterals.{clap_on_literals}
+use Rattle.nvme_words.specs.Examples.{alone, chart_file, lint_input, live_8, loaded_2, once_8, once_most, run_file, run_live_3, stats_json, trace_2, trace_live}
+use Rattle.nvme_words.specs.Requests.{SubmitsBy}
+use Rattle.nvme_words.specs.declared.requests.Format.TheVariants as format
+use Rattle.nvme_words.specs.declared.requests.Request.TheVariants as request
+use Rattle.nvme_words.specs.declared.requests.Submitting.TheVariants as submitting
+use Rattle.nvme_words.proofs.Lines.{given_at, line_asks, number_of, other_text, some_text}
+use Rattle.nvme_words.proofs.laws.lines_ask_for.Goals as goal
+
+is_first : (line : List Text) → one_of (codes "live") (given_at line).1 ≡ Some (codes "false") → SubmitsBy (given_at line).1 submitting.First
+is_first line is = other_text _ (codes "false") (codes "true") is refl
+
+is_meanwhile : (line : List Text) → one_of (codes "live") (given_at line).1 ≡ Some (codes "true") → SubmitsBy (given_at line).1 submitting.Meanwhile
+is_meanwhile line is = (some_text _ (codes "true") is, other_text _ (codes "true") (codes "false") is refl)
+
+pub returns-clause-once : goal.returns-clause-once
+unfolding clap_on_literals
+returns-clause-once c = line_asks (codes "once") _ (given_at once_8) (request.Once 8) refl (refl, number_of 64 18446744073709551615 (codes "blocks") (codes "8") (given_at once_8).1 refl refl (omega arith)) (λ p q r. (refl, refl))
+
+pub returns-clause-most_blocks : goal.returns-clause-most_blocks
+unfolding clap_on_literals
+returns-clause-most_blocks c = line_asks (codes "once") _ (given_at once_most) (request.Once 9223372036854775807) refl (refl, number_of 64 18446744073709551615 (codes "blocks") (codes "9223372036854775807") (given_at once_most).1 refl refl (omega arith)) (λ p q r. (refl, refl))
+
+pub returns-clause-loaded : goal.returns-clause-loaded
+unfolding clap_on_literals
+returns-clause-loaded c = line_asks (codes "loaded") _ (given_at loaded_2) (request.Run submitting.First 2) refl (inl (refl, refl), number_of 8 255 (codes "workers") (codes "2") (given_at loaded_2).1 refl refl (omega arith)) (λ p q r. (refl, refl))
+
+pub returns-clause-live : goal.returns-clause-live
+unfolding clap_on_literals
+returns-clause-live c = line_asks (codes "live") _ (given_at live_8) (request.Run submitting.Meanwhile 8) refl (inr (inl (refl, refl)), number_of 8 255 (codes "workers") (codes "8") (given_at live_8).1 refl refl (omega arith)) (λ p q r. (refl, refl))
+
+pub returns-clause-run : goal.returns-clause-run
+unfolding clap_on_literals
+returns-clause-run c = line_asks (codes "run") _ (given_at run_file) (request.Run submitting.First 1) refl (inr (inr (refl, is_first run_file refl)), number_of 8 255 (codes "workers") (codes "1") (given_at run_file).1 refl refl (omega arith)) (λ p q r. (refl, refl))
+
+pub returns-clause-run_live : goal.returns-clause-run_live
+unfolding clap_on_literals
+returns-clause-run_live c = line_asks (codes "run") _ (given_at run_live_3) (request.Run submitting.Meanwhile 3) refl (inr (inr (refl, is_meanwhile run_live_3 refl)), number_of 8 255 (codes "workers") (codes "3") (given_at run_live_3).1 refl refl (omega arith)) (λ p q r. (refl, refl))
+
+pub returns-clause-lint : goal.returns-clause-lint
+unfolding clap_on_literals
+returns-clause-lint c = line_asks (codes "lint") _ (given_at lint_input) (request.Lint) refl refl (λ p q r. (refl, refl))
+
+pub returns-clause-check : goal.returns-clause-check
+unfolding clap_on_literals
+returns-clause-check c = line_asks (codes "check") _ (given_at (alone (codes "check"))) (request.Check) refl refl (λ p q r. (refl, refl))
+
+pub returns-clause-trace : goal.returns-clause-trace
+unfolding clap_on_literals
+returns-clause-trace c = line_asks (codes "trace") _ (given_at trace_2) (request.Trace submitting.First 2) refl (refl, is_first trace_2 refl, number_of 8 255 (codes "workers") (codes "2") (given_at trace_2).1 refl refl (omega arith)) (λ p q r. (refl, refl))
+
+pub returns-clause-trace_live : goal.returns-clause-trace_live
+unfolding clap_on_literals
+returns-clause-trace_live c = line_asks (codes "trace") _ (given_at trace_live) (request.Trace submitting.Meanwhile 1) refl (refl, is_meanwhile trace_live refl, number_of 8 255 (codes "workers") (codes "1") (given_at trace_live).1 refl refl (omega arith)) (λ p q r. (refl, refl))
+
+pub returns-clause-chart : goal.returns-clause-chart
+unfolding clap_on_literals
+returns-clause-chart c = line_asks (codes "chart") _ (given_at chart_file) (request.Chart) refl refl (λ p q r. (refl, refl))
+
+pub returns-clause-stats : goal.returns-clause-stats
+unfolding clap_on_literals
+returns-clause-stats c = line_asks (codes "stats") _ (given_at (alone (codes "stats"))) (request.Stats format.Text) refl (refl, other_text (first_of (codes "format") (given_at (alone (codes "stats"))).1) (codes "text") (codes "json") refl refl) (λ p q r. (refl, refl))
+
+pub returns-clause-stats_json : goal.returns-clause-stats_json
+unfolding clap_on_literals
+returns-clause-stats_json c = line_asks (codes "stats") _ (given_at stats_json) (request.Stats format.Json) refl (refl, refl) (λ p q r. (refl, refl))

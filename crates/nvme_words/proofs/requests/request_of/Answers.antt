@@ -1,0 +1,34 @@
+use Rattle.std.proofs.Common.{rules, ◌≡◌, None}
+use Rattle.clap.specs.Words.{found_of, rows_of}
+use Rattle.nvme_words.proofs.Reading.{no_blocks, no_workers}
+use Rattle.nvme_words.proofs.requests.request_of.Goals as goal
+
+pub returns-in_err-blocks_of-in-once : goal.returns-in_err-blocks_of-in-once
+returns-in_err-blocks_of-in-once c =
+    let none : c.blocks_of.result ≡ None = search rules in
+    let left : c.from_residual.result ≡ None = search rules in
+    rw left (no_blocks (c.args.name.now, rows_of (found_of c.args.matches.now)) (search rules) (rw none at c.blocks_of.ensures))
+
+pub returns-in_err-workers_of-in-loaded : goal.returns-in_err-workers_of-in-loaded
+returns-in_err-workers_of-in-loaded c =
+    let none : c.workers_of.result ≡ None = search rules in
+    let left : c.from_residual-in_err-workers_of-in-loaded.result ≡ None = search rules in
+    rw left (no_workers (c.args.name.now, rows_of (found_of c.args.matches.now)) (search rules) (search rules) (search rules) (search rules) (search rules) (rw none at c.workers_of.ensures))
+
+pub returns-in_err-workers_of-in-live : goal.returns-in_err-workers_of-in-live
+returns-in_err-workers_of-in-live c =
+    let none : c.workers_of-in-live.result ≡ None = search rules in
+    let left : c.from_residual-in_err-workers_of-in-live.result ≡ None = search rules in
+    rw left (no_workers (c.args.name.now, rows_of (found_of c.args.matches.now)) (search rules) (search rules) (search rules) (search rules) (search rules) (rw none at c.workers_of-in-live.ensures))
+
+pub returns-in_err-workers_of-in-run : goal.returns-in_err-workers_of-in-run
+returns-in_err-workers_of-in-run c =
+    let none : c.workers_of-in-run.result ≡ None = search rules in
+    let left : c.from_residual-in_err-workers_of-in-run.result ≡ None = search rules in
+    rw left (no_workers (c.args.name.now, rows_of (found_of c.args.matches.now)) (search rules) (search rules) (search rules) (search rules) (search rules) (rw none at c.workers_of-in-run.ensures))
+
+pub returns-in_err-workers_of-in-trace : goal.returns-in_err-workers_of-in-trace
+returns-in_err-workers_of-in-trace c =
+    let none : c.workers_of-in-trace.result ≡ None = search rules in
+    let left : c.from_residual-in_err-workers_of-in-trace.result ≡ None = search rules in
+    rw left (no_workers (c.args.name.now, rows_of (found_of c.args.matches.now)) (search rules) (search rules) (search rules) (search rules) (search rules) (rw none at c.workers_of-in-trace.ensures))

@@ -1,0 +1,95 @@
+-- The command line of the program, in the words of `clap`: its subcommands, with the options and the files that they
+-- take. (profile)
+use Rattle.std.specs.Prelude.{◌≡◌, true, List, [], ◌∷◌, Some, pos, codes}
+use Rattle.std.specs.Borrow.{Bor}
+use Rattle.clap.specs.Walk.{texts}
+use Rattle.clap.specs.Words.{App, Rule, Text, new_app, new_rule, with_rule, with_subcommand}
+use Rattle.clap.specs.Simple.{new_shape}
+use Rattle.clap.specs.declared.builder.action.ArgAction.TheVariants.{Set, SetTrue}
+use Rattle.clap.specs.declared.builder.value_parser.ValueParser.{ValueParser}
+use Rattle.clap.specs.declared.builder.value_parser.ValueParser.TheVariants as values
+
+-- an option with one value, and a file
+abbrev pub option : Text → ValueParser → Rule
+option name parser =
+    record (new_rule name) { long = Some name; action = Some Set; value_names = 1; parser = Some parser }
+
+abbrev pub file : Rule
+file = record (new_rule (codes "file")) { action = Some Set; value_names = 1 }
+
+abbrev pub required : Rule → Rule
+required rule = record rule { required = true }
+
+abbrev pub with_default : Text → Rule → Rule
+with_default text rule = record rule { defaults = text ∷ [] }
+
+-- from 1 to 8 workers
+abbrev pub workers : Rule
+workers = option (codes "workers") (values.Signed (pos 1) (pos 8))
+
+-- from 1 to 2^63 - 1 logical blocks
+abbrev pub blocks : Rule
+blocks = option (codes "blocks") (values.Unsigned 1 9223372036854775807)
+
+-- the hosts submit while the front works
+abbrev pub live : Rule
+live = record (new_rule (codes "live")) { long = Some (codes "live"); action = Some SetTrue }
+
+-- where the names of the formats lie
+abbrev pub Names : Type 0
+Names = Bor (List (Bor Text))
+
+abbrev pub AreFormats : Names → Type 0
+AreFormats names = texts names.now ≡ codes "text" ∷ codes "json" ∷ []
+
+abbrev pub format : Names → Rule
+format names = with_default (codes "text") (option (codes "format") (values.Names names))
+
+-- ---- the subcommands
+
+-- the subcommand that answers one entry
+abbrev pub once : App
+once = with_rule (new_app (codes "once")) (required blocks)
+
+-- a subcommand that runs a workload of standard input
+abbrev pub mode : Text → App
+mode name = with_rule (new_app name) (required workers)
+
+-- a subcommand that runs the workload of a file
+abbrev pub run : Text → App
+run name = with_rule (with_rule (with_rule (new_app name) (required file)) live) (with_default (codes "1") workers)
+
+abbrev pub lint : App
+lint = with_rule (new_app (codes "lint")) (required file)
+
+-- a subcommand that reads a trace
+abbrev pub trace : Text → App
+trace name = with_rule (new_app name) file
+
+abbrev pub stats : Names → App
+stats names = with_rule (trace (codes "stats")) (format names)
+
+-- ---- the program
+
+-- it has a version, and asks for a subcommand
+abbrev pub alone : App
+alone = record {
+  top = record (new_shape (codes "nvmearb")) { has_version = true; subcommand_required = true };
+  subs = [];
+}
+
+abbrev pub with_input : App → App
+with_input app = with_subcommand (with_subcommand (with_subcommand app once.top) (mode (codes "loaded")).top) (mode (codes "live")).top
+
+abbrev pub with_file : App → App
+with_file app = with_subcommand (with_subcommand (with_subcommand app (run (codes "run")).top) lint.top) (run (codes "trace")).top
+
+abbrev pub with_trace : Names → App → App
+with_trace names app = with_subcommand (with_subcommand (with_subcommand app (trace (codes "check")).top) (trace (codes "chart")).top) (stats names).top
+
+abbrev pub command_line : Names → App
+command_line names = with_trace names (with_file (with_input alone))
+
+-- P holds of the command line. Where the names of the formats lie is left open, and parsing doesn't ask for it
+abbrev pub OnCommandLine : (App → Type 0) → Type 0
+OnCommandLine P = (names : Names) × AreFormats names × P (command_line names)

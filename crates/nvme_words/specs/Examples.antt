@@ -1,0 +1,119 @@
+-- Worked command lines. (profile)
+use Rattle.std.specs.Prelude.{⊤, ◌≡◌, ◌⊎◌, List, [], ◌∷◌, map, Option, Some, Ok, Err, String, string_bytes, codes, None}
+use Rattle.std.specs.Global.{Global}
+use Rattle.clap.specs.Words.{App, Text, kind_of, one_of}
+use Rattle.clap.specs.declared.error.Error.{Error}
+use Rattle.clap.specs.declared.error.kind.ErrorKind.{ErrorKind}
+use Rattle.nvme_words.specs.CommandLine.{AreFormats, Names, command_line}
+use Rattle.nvme_words.specs.Requests.{Given, IsAnswerTo, IsRequestOf, faults_of, file_of}
+use Rattle.nvme_words.specs.declared.requests.Request.{Request}
+use Rattle.nvme_words.specs.declared.requests.Request.TheVariants as request
+use Rattle.nvme_words.specs.declared.requests.WordsError.{WordsError}
+use Rattle.nvme_words.specs.declared.requests.WordsError.TheVariants as error
+
+abbrev pub IsMemory : WordsError → Type 0
+IsMemory (error.CommandLine text) = ⊥
+IsMemory error.OtherWord = ⊥
+IsMemory (error.NoMemory why) = ⊤
+
+-- P holds of the words of a line, which stand after the program's name
+abbrev pub OverLine : List Text → (App → List (String Global) → Type 0) → Type 0
+OverLine line P = (names : Names) → AreFormats names → (words : List (String Global))
+    → map string_bytes words ≡ codes "nvmearb" ∷ line → P (command_line names) words
+
+-- the line asks for this, and isn't refused but for want of memory
+abbrev pub AsksFor : List Text → Request → Type 0
+AsksFor line request = OverLine line (λ app words. IsAnswerTo app words (Ok request))
+    × ((e : WordsError) → IsMemory e ⊎ OverLine line (λ app words. IsAnswerTo app words (Err e) → ⊥))
+
+abbrev pub HasFault : List Text → ErrorKind → Type 0
+HasFault line kind = OverLine line (λ app words. faults_of app words ≡ kind ∷ [])
+
+-- with an error of this kind the line asks for its text, and isn't refused
+abbrev pub ShowsText : List Text → ErrorKind → Type 0
+ShowsText line kind = (text : Error) → kind_of text ≡ kind
+    → OverLine line (λ app words. IsAnswerTo app words (Ok (request.Help text))) × OverLine line (λ app words. IsAnswerTo app words (Err (error.CommandLine text)) → ⊥)
+
+-- and the other way about
+abbrev pub RefusesBy : List Text → ErrorKind → Type 0
+RefusesBy line kind = (text : Error) → kind_of text ≡ kind
+    → OverLine line (λ app words. IsAnswerTo app words (Err (error.CommandLine text)))
+    × OverLine line (λ app words. IsAnswerTo app words (Ok (request.Help text)) → ⊥)
+    × OverLine line (λ app words. IsAnswerTo app words (Err error.OtherWord) → ⊥)
+
+-- the line names this file
+abbrev pub NamesFile : List Text → Option Text → Type 0
+NamesFile line file = OverLine line (λ app words. file_of app words ≡ file)
+
+-- a subcommand whose flag `--live` reads as true or false, or that has none, asks for one thing
+abbrev pub AsksForOneThing : Type 0
+AsksForOneThing = (given : Given) (r s : Request) → (one_of (codes "live") given.1 ≡ Some (codes "true"))
+    ⊎ ((one_of (codes "live") given.1 ≡ Some (codes "false")) ⊎ (one_of (codes "live") given.1 ≡ None))
+    → IsRequestOf given r → IsRequestOf given s → r ≡ s
+
+-- a subcommand of this name asks for nothing where its option has this value
+abbrev pub AsksForNothing : Text → Text → Text → Type 0
+AsksForNothing name id value = (given : Given) → given.0 ≡ name → one_of id given.1 ≡ Some value
+    → (r : Request) → IsRequestOf given r → ⊥
+
+-- ---- the lines
+
+abbrev pub once_8 : List Text
+once_8 = codes "once" ∷ codes "--blocks" ∷ codes "8" ∷ []
+
+abbrev pub once_most : List Text
+once_most = codes "once" ∷ codes "--blocks=9223372036854775807" ∷ []
+
+abbrev pub once_too_many : List Text
+once_too_many = codes "once" ∷ codes "--blocks=9223372036854775808" ∷ []
+
+abbrev pub once_none : List Text
+once_none = codes "once" ∷ codes "--blocks=0" ∷ []
+
+abbrev pub loaded_2 : List Text
+loaded_2 = codes "loaded" ∷ codes "--workers" ∷ codes "2" ∷ []
+
+abbrev pub live_8 : List Text
+live_8 = codes "live" ∷ codes "--workers=8" ∷ []
+
+abbrev pub loaded_9 : List Text
+loaded_9 = codes "loaded" ∷ codes "--workers" ∷ codes "9" ∷ []
+
+abbrev pub live_0 : List Text
+live_0 = codes "live" ∷ codes "--workers" ∷ codes "0" ∷ []
+
+abbrev pub run_file : List Text
+run_file = codes "run" ∷ codes "a.toml" ∷ []
+
+abbrev pub run_live_3 : List Text
+run_live_3 = codes "run" ∷ codes "--live" ∷ codes "a.toml" ∷ codes "--workers" ∷ codes "3" ∷ []
+
+abbrev pub run_two_files : List Text
+run_two_files = codes "run" ∷ codes "a.toml" ∷ codes "b.toml" ∷ []
+
+abbrev pub lint_input : List Text
+lint_input = codes "lint" ∷ codes "-" ∷ []
+
+abbrev pub lint_file : List Text
+lint_file = codes "lint" ∷ codes "lint" ∷ []
+
+abbrev pub alone : Text → List Text
+alone word = word ∷ []
+
+abbrev pub trace_2 : List Text
+trace_2 = codes "trace" ∷ codes "a.toml" ∷ codes "--workers=2" ∷ []
+
+abbrev pub trace_live : List Text
+trace_live = codes "trace" ∷ codes "a.toml" ∷ codes "--live" ∷ []
+
+abbrev pub check_file : List Text
+check_file = codes "check" ∷ codes "a.json" ∷ []
+
+abbrev pub chart_file : List Text
+chart_file = codes "chart" ∷ codes "a.json" ∷ []
+
+abbrev pub stats_json : List Text
+stats_json = codes "stats" ∷ codes "a.json" ∷ codes "--format" ∷ codes "json" ∷ []
+
+abbrev pub stats_xml : List Text
+stats_xml = codes "stats" ∷ codes "--format" ∷ codes "xml" ∷ []

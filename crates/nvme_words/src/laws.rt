@@ -1,0 +1,67 @@
+// Laws over the definitions.
+ghost use Rattle.std.specs.Prelude.{[], None, Some, codes};
+ghost use Rattle.clap.specs.declared.error.kind.ErrorKind.TheVariants as kind;
+ghost use Rattle.nvme_words.specs.Examples.{AsksFor, AsksForNothing, AsksForOneThing, HasFault, NamesFile, RefusesBy, ShowsText, alone, chart_file, check_file, lint_file, lint_input, live_0, live_8, loaded_2, loaded_9, once_8, once_most, once_none, once_too_many, run_file, run_live_3, run_two_files, stats_json, stats_xml, trace_2, trace_live};
+ghost use Rattle.nvme_words.specs.declared.requests.Format.TheVariants as format;
+ghost use Rattle.nvme_words.specs.declared.requests.Request.TheVariants as request;
+ghost use Rattle.nvme_words.specs.declared.requests.Submitting.TheVariants as submitting;
+
+/// Worked lines ask for what their subcommand is for, with the numbers, the mode and the format that they give or that
+/// stand for those left out.
+pub fn lines_ask_for()
+    ensures once { AsksFor once_8 (request.Once 8) }
+    ensures most_blocks { AsksFor once_most (request.Once 9223372036854775807) }
+    ensures loaded { AsksFor loaded_2 (request.Run submitting.First 2) }
+    ensures live { AsksFor live_8 (request.Run submitting.Meanwhile 8) }
+    ensures run { AsksFor run_file (request.Run submitting.First 1) }
+    ensures run_live { AsksFor run_live_3 (request.Run submitting.Meanwhile 3) }
+    ensures lint { AsksFor lint_input request.Lint }
+    ensures check { AsksFor (alone (codes "check")) request.Check }
+    ensures trace { AsksFor trace_2 (request.Trace submitting.First 2) }
+    ensures trace_live { AsksFor trace_live (request.Trace submitting.Meanwhile 1) }
+    ensures chart { AsksFor chart_file request.Chart }
+    ensures stats { AsksFor (alone (codes "stats")) (request.Stats format.Text) }
+    ensures stats_json { AsksFor stats_json (request.Stats format.Json) }
+{}
+
+/// Worked lines have the fault that is theirs.
+pub fn lines_have_faults()
+    ensures no_word { HasFault [] kind.MissingSubcommand }
+    ensures no_file { HasFault (alone (codes "lint")) kind.MissingRequiredArgument }
+    ensures no_blocks { HasFault (alone (codes "once")) kind.MissingRequiredArgument }
+    ensures no_workers { HasFault (alone (codes "live")) kind.MissingRequiredArgument }
+    ensures no_block { HasFault once_none kind.ValueValidation }
+    ensures no_worker { HasFault live_0 kind.ValueValidation }
+    ensures blocks { HasFault once_too_many kind.ValueValidation }
+    ensures workers { HasFault loaded_9 kind.ValueValidation }
+    ensures two_files { HasFault run_two_files kind.UnknownArgument }
+    ensures format { HasFault stats_xml kind.InvalidValue }
+{}
+
+/// A line that asks for help or for the version has the text for its answer, and one with a fault is refused.
+pub fn lines_show_text()
+    ensures help { ShowsText (alone (codes "--help")) kind.DisplayHelp }
+    ensures version { ShowsText (alone (codes "--version")) kind.DisplayVersion }
+    ensures no_file { RefusesBy (alone (codes "run")) kind.MissingRequiredArgument }
+{}
+
+/// Worked lines name the file that they give: none with `-`, where none is given, and where they are refused.
+pub fn lines_name_files()
+    ensures run { NamesFile run_live_3 (Some (codes "a.toml")) }
+    ensures lint { NamesFile lint_file (Some (codes "lint")) }
+    ensures check { NamesFile check_file (Some (codes "a.json")) }
+    ensures stats { NamesFile stats_json (Some (codes "a.json")) }
+    ensures dash { NamesFile lint_input None }
+    ensures none_given { NamesFile (alone (codes "chart")) None }
+    ensures no_option { NamesFile loaded_2 None }
+    ensures refused { NamesFile run_two_files None }
+{}
+
+/// A subcommand with its values asks for one thing, and for nothing where the number that it needs is none.
+pub fn one_request()
+    ensures one { AsksForOneThing }
+    ensures letters { AsksForNothing (codes "once") (codes "blocks") (codes "x") }
+    ensures blocks { AsksForNothing (codes "once") (codes "blocks") (codes "18446744073709551616") }
+    ensures workers { AsksForNothing (codes "run") (codes "workers") (codes "256") }
+    ensures traced { AsksForNothing (codes "trace") (codes "workers") (codes "-") }
+{}
