@@ -14,8 +14,16 @@ use Rattle.nvme_runs.specs.declared.runs.RunError.{RunError}
 use Rattle.nvme_runs.specs.declared.runs.RunError.TheVariants as run
 use Rattle.nvme_trace.specs.declared.fault.TraceError.{TraceError}
 use Rattle.nvme_trace.specs.declared.fault.TraceError.TheVariants as trace
+use Rattle.nvme_words.specs.declared.requests.WordsError.{WordsError}
+use Rattle.nvme_words.specs.declared.requests.WordsError.TheVariants as words
 use Rattle.nvme_sim.specs.declared.faults.Fault.{Fault}
 use Rattle.nvme_sim.specs.declared.faults.Fault.TheVariants as fault
+
+-- the fault of the program where its words ask for nothing
+abbrev pub fault_of_words : WordsError → Fault
+fault_of_words (words.CommandLine text) = fault.CommandLine text
+fault_of_words words.OtherWord = fault.Words
+fault_of_words (words.NoMemory why) = fault.NoMemory why
 
 -- an entry that is none: the input is at fault
 abbrev pub entry_status : OnceError → ℕ

@@ -4,6 +4,8 @@ ghost use Rattle.nvme_words.specs.Requests.{IsAskedBy};
 ghost use Rattle.nvme_sim.specs.Statuses.{status_of};
 ghost use Rattle.nvme_words.specs.Words.{asks, asks_alone};
 ghost use Rattle.nvme_sim.specs.declared.faults.Fault.TheVariants as fault;
+ghost use Rattle.nvme_report.specs.declared.reports.Mode.TheVariants as mode;
+ghost use Rattle.nvme_words.specs.declared.requests.Submitting.TheVariants as when;
 ghost use Rattle.nvme_sim.specs.declared.commands.Answer.TheVariants as answer;
 ghost use Rattle.nvme_runs.specs.declared.runs.RunError.TheVariants as run_fault;
 
@@ -41,7 +43,10 @@ enum Answer {
 }
 
 // The mode of a run whose hosts submit so.
-fn mode_of(submitting: Submitting) -> Mode {
+fn mode_of(submitting: Submitting) -> Mode
+    ensures loaded { submitting ≡ when.First → result ≡ mode.Loaded }
+    ensures live { submitting ≡ when.Meanwhile → result ≡ mode.Live }
+{
     match submitting {
         Submitting::First => Mode::Loaded,
         Submitting::Meanwhile => Mode::Live,

@@ -1,5 +1,5 @@
 ghost use Rattle.std.specs.Prelude.{◌≡◌, ◌≢◌, ◌≤◌, ◌⊎◌};
-ghost use Rattle.nvme_sim.specs.Statuses.{status_of};
+ghost use Rattle.nvme_sim.specs.Statuses.{fault_of_words, status_of};
 ghost use Rattle.nvme_sim.specs.declared.faults.Fault.TheVariants as fault;
 ghost use Rattle.nvme_runs.specs.declared.runs.RunError.TheVariants as run_fault;
 
@@ -37,6 +37,7 @@ pub(crate) enum Fault {
 impl Fault {
     /// The fault of words that ask for nothing.
     pub(crate) fn of_words(error: WordsError) -> Fault
+        ensures fault { result ≡ fault_of_words error }
         ensures no_input { status_of result ≢ 1 }
     {
         match error {

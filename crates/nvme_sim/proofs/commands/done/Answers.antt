@@ -2,7 +2,6 @@
 use Rattle.std.proofs.Common.{◌≡◌, true}
 use Rattle.std.specs.Prelude.{codes}
 use Rattle.nvme_sim.specs.Inputs.{IsBadInput, IsFaultyShown, IsFaultyTrace}
-use Rattle.nvme_words.specs.Requests.{IsAskedBy}
 use Rattle.nvme_sim.specs.Statuses.{IsBadEntry, IsBadWorkload}
 use Rattle.nvme_words.specs.Words.{asks, reads_workload, shows_trace}
 use Rattle.nvme_sim.proofs.Inputs.{bad_check, bad_once, bad_run, bad_shown, faulty_is_bad, lint_reads_workload, of_kind, only_check, trace_reads_workload}
