@@ -85,11 +85,11 @@ line_asks name rest given request is of at =
     over_names _ (λ p q r words e. (
       ap (fault_of (command_line (names_at p q r))) e ∙ (at p q r).0,
       subst (λ g. IsGivenBy words g request) (sym (ap (subcommand_of (command_line (names_at p q r))) e ∙ (at p q r).1))
-      (ap (λ n. asks n words) is ∙ second_asked words name rest e, of),
+          (ap (λ n. asks n words) is ∙ second_asked words name rest e, of),
     )) in (
       (λ names are words e. inl (both names are words e)),
       (λ e. for_all (name ∷ rest) e (λ names are words same.
-      let h = both names are words same in asks_so (command_line names) words request h.0 h.1 e)),
+          let h = both names are words same in asks_so (command_line names) words request h.0 h.1 e)),
     )
 
 -- a number in the digits of an option
