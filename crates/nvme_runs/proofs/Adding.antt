@@ -9,7 +9,6 @@ use Rattle.nvme_entry.specs.declared.completion.Cqe.{Cqe}
 use Rattle.nvme_lane.specs.View.{GetView, PutView, RingName}
 use Rattle.nvme_lane.specs.declared.feeder.Feeder.{Feeder}
 use Rattle.nvme_lane.specs.declared.drainer.Drainer.{Drainer}
-use Rattle.nvme_workload.specs.declared.plan.SqPlan.{SqPlan}
 use Rattle.nvme_workload.specs.declared.plan.CqPlan.{CqPlan}
 use Rattle.nvme_front.specs.Ends.{get_place, put_place}
 use Rattle.nvme_front.specs.Hosts.{drainer_place}
@@ -17,7 +16,7 @@ use Rattle.nvme_front.specs.View.{FrontView, is_address}
 use Rattle.nvme_front.proofs.Addresses.{any_in_map}
 use Rattle.nvme_threads.specs.Hosts.{feeder_seen}
 use Rattle.nvme_threads.specs.declared.loading.SqEnds.{SqEnds}
-use Rattle.nvme_runs.specs.inside.Prepared.{StaysFresh, AddsSq, AddsCq, AddsSqs, AddsCqs, sent_by, sq_site, cq_site, get_site, put_site}
+use Rattle.nvme_runs.specs.inside.Prepared.{StaysFresh, AddsSq, AddsCq, AddsSqs, AddsCqs, sent_by, cq_site, put_site}
 
 -- ---- maps
 -- an element more on both sides
@@ -58,12 +57,7 @@ apart_at f first yielded rest all x is_all apart =
     subst (λ zs. AllPairs (λ (a b : ℕ). a ≢ b) zs)
     (ap (λ zs. first ++ map f zs) (sym is_all) ∙ ap (λ zs. first ++ zs) (map-append f yielded (x ∷ rest)) ∙ sym (append_assoc first (map f yielded) (f x ∷ map f rest))) apart
 
--- the addresses of regions are those of their sites
-pub sq_addresses : (v : FrontView) (plans : List SqPlan) → map get_site v.gets ≡ map sq_site plans
-    → map (λ (g : GetView Sqe). g.address) v.gets ≡ map (λ (s : SqPlan). s.address) plans
-sq_addresses v plans sites = sym (map-map (λ (z : ℕ × ℕ). z.0) get_site v.gets) ∙ ap (λ zs. map (λ (z : ℕ × ℕ). z.0) zs) sites ∙ map-map (λ (z : ℕ × ℕ). z.0) sq_site plans
-
--- and those of their rings
+-- the addresses of regions are those of their rings
 pub ring_addresses : (v : FrontView) (rings : List SqEnds) → map get_place v.gets ≡ map (λ (e : SqEnds). get_place e.get) rings
     → map (λ (g : GetView Sqe). g.address) v.gets ≡ map (λ (e : SqEnds). e.get.address) rings
 ring_addresses v rings places =

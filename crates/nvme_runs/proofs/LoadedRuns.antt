@@ -1,5 +1,5 @@
 -- A loaded run is one function of its workload.
-use Rattle.std.proofs.Common.{◌≡◌, ℕ, zero, suc, ◌<◌, ◌≤◌, ◌||◌, ◌&&◌, Bool, true, false, nat_le, List, [], ◌∷◌, ◌++◌, length, get_or, map, Option, Some, None, Ok, refl, sym, ap, ◌∙◌, subst, arith, inl, inr, length-append}
+use Rattle.std.proofs.Common.{◌≡◌, ℕ, zero, suc, ◌<◌, ◌≤◌, ◌||◌, ◌&&◌, Bool, true, false, nat_le, List, [], ◌∷◌, length, get_or, Option, Some, None, refl, sym, ap, ◌∙◌, subst, arith, inl, inr, length-append}
 use Rattle.std.specs.Prelude.{MatchOption}
 use Rattle.std.specs.List.{list_all, list_any}
 use Rattle.std.proofs.Math.Bool.{or-true}
@@ -9,14 +9,13 @@ use Rattle.std.proofs.lemmas.List.Folds.{list_all-append, list_any-append}
 use Rattle.nvme_entry.specs.declared.submission.Sqe.{Sqe}
 use Rattle.nvme_entry.specs.declared.completion.Cqe.{Cqe}
 use Rattle.nvme_arbiter.specs.Limits.{queue_limit}
-use Rattle.nvme_lane.specs.declared.feeder.Feeder.{Feeder}
 use Rattle.nvme_workload.specs.declared.plan.SqPlan.{SqPlan}
-use Rattle.nvme_workload.specs.Plan.{Plan, workload_of}
+use Rattle.nvme_workload.specs.Plan.{Plan}
 use Rattle.nvme_log.specs.Rules.{FrontRules, Past, upto, window_at}
 use Rattle.nvme_log.specs.Queues.{Queue, open_sq, has_region, is_open_region}
 use Rattle.nvme_log.specs.Places.{fetched, waiting}
-use Rattle.nvme_log.specs.Account.{IsWholeAccount, IsDone}
-use Rattle.nvme_log.specs.Loaded.{without_posts, is_filled, are_filled, NoneWaits, LoadedSoFar, LoadedAtEnd, IsLoadedLog}
+use Rattle.nvme_log.specs.Account.{IsWholeAccount}
+use Rattle.nvme_log.specs.Loaded.{without_posts, is_filled, LoadedSoFar, LoadedAtEnd, IsLoadedLog}
 use Rattle.nvme_log.proofs.WithoutPosts.{effects_since-posts, made_last-posts, pending-posts, waiting-posts, is_filled-at}
 use Rattle.nvme_log.proofs.LoadedLaws.{loaded_log_is_one}
 use Rattle.nvme_front.specs.declared.settled.Sent.{Sent}
@@ -28,8 +27,6 @@ use Rattle.nvme_front.specs.LoadedFront.{IsLoadedFront}
 use Rattle.nvme_front.proofs.Loading.{loaded-at-start}
 use Rattle.nvme_threads.specs.Loaded.{FetchedWithin, StaysLoaded}
 use Rattle.nvme_report.specs.Laws.{IsLoadedRun}
-use Rattle.nvme_report.specs.Report.{report_text}
-use Rattle.nvme_report.specs.declared.reports.Mode.{Mode}
 use Rattle.nvme_report.specs.declared.reports.Mode.TheVariants.{Loaded}
 use Rattle.nvme_report.proofs.LoadedReports.{reports_are_one}
 use Rattle.nvme_runs.specs.Laws.{LoadedRunsAreOne}

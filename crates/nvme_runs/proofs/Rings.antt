@@ -4,18 +4,17 @@ use Rattle.std.specs.List.{All, AllZip}
 use Rattle.std.specs.Prelude.{Result, Ok, Err, IfOk}
 use Rattle.std.proofs.lemmas.List.{map-append}
 use Rattle.std.proofs.lemmas.List.Elements.{All-nil, All-cons}
-use Rattle.std.proofs.lemmas.Simd.{map-map}
 use Rattle.nvme_entry.specs.declared.submission.Sqe.{Sqe}
 use Rattle.nvme_lane.specs.View.{GetView, SamePut, SameGet}
-use Rattle.nvme_lane.specs.Feeder.{script_of, count_of, put_of}
+use Rattle.nvme_lane.specs.Feeder.{script_of, put_of}
 use Rattle.nvme_lane.specs.declared.feeder.Feeder.{Feeder}
 use Rattle.nvme_workload.specs.declared.plan.SqPlan.{SqPlan}
 use Rattle.nvme_front.specs.Ends.{get_place}
 use Rattle.nvme_front.specs.Hosts.{feeder_place}
 use Rattle.nvme_front.specs.View.{FrontView}
-use Rattle.nvme_threads.specs.Hosts.{feeder_seen, ends_seen}
+use Rattle.nvme_threads.specs.Hosts.{ends_seen}
 use Rattle.nvme_threads.specs.declared.loading.SqEnds.{SqEnds}
-use Rattle.nvme_runs.specs.inside.Prepared.{StaysFresh, IsFreshRing, IsRingOf, AddsSq, seen_in, sent_by}
+use Rattle.nvme_runs.specs.inside.Prepared.{StaysFresh, IsFreshRing, IsRingOf, AddsSq, seen_in}
 
 -- ---- lists that are related place by place
 -- what is the same of each pair is the same of both lists

@@ -14,8 +14,10 @@ use Rattle.nvme_admin.specs.History.{TableStep, RegionAdded, Submission, Complet
 use Rattle.nvme_workload.specs.declared.plan.SqPlan.{SqPlan}
 use Rattle.nvme_workload.specs.declared.plan.CqPlan.{CqPlan}
 use Rattle.nvme_workload.specs.Plan.{Plan}
-use Rattle.nvme_log.specs.Limits.{most_events}
 use Rattle.nvme_workload.specs.Sound.{AreApart}
+use Rattle.nvme_lane.specs.declared.feeder.Feeder.{Feeder}
+use Rattle.nvme_lane.specs.declared.drainer.Drainer.{Drainer}
+use Rattle.nvme_front.specs.declared.front.FrontConfig.{FrontConfig}
 use Rattle.nvme_front.specs.declared.settling.Parts.{Parts}
 use Rattle.nvme_front.specs.Ends.{get_place, put_place}
 use Rattle.nvme_front.specs.Hosts.{drainer_place}
@@ -24,8 +26,8 @@ use Rattle.nvme_front.specs.View.{FrontView}
 use Rattle.nvme_runs.specs.Runs.{sq_additions, cq_additions}
 use Rattle.nvme_threads.specs.Hosts.{feeder_seen}
 use Rattle.nvme_threads.specs.declared.loading.SqEnds.{SqEnds}
-use Rattle.nvme_runs.specs.inside.Prepared.{IsPrepared, IsRingOf, AddsSqs, AddsCqs, seen_in, sq_site, cq_site, get_site, put_site}
-use Rattle.nvme_runs.proofs.Adding.{fresh_then, sq_addresses}
+use Rattle.nvme_runs.specs.inside.Prepared.{IsPrepared, IsRingOf, AddsSqs, AddsCqs, AddsRegions, IsConfigOf, seen_in, sq_site, cq_site, get_site, put_site}
+use Rattle.nvme_runs.proofs.Adding.{fresh_then, ring_addresses}
 use Rattle.nvme_runs.proofs.Rings.{one_place, seen_at, zip_maps}
 
 -- the steps of a front's submission regions are the additions of those of the workload
@@ -44,11 +46,12 @@ cq_steps_are puts plans sites =
 as_long : {A B C : Type 0} (f : A → C) (g : B → C) (xs : List A) (ys : List B) → map f xs ≡ map g ys → length xs ≡ length ys
 as_long f g xs ys same = sym (length-map xs f) ∙ ap (λ zs. length zs) same ∙ length-map ys g
 
--- the addresses of a front's submission regions, and of the workload's completion regions, are apart
-pub still_apart : (v : FrontView) (plans : List SqPlan) (completions all : List CqPlan) → map get_site v.gets ≡ map sq_site plans → all ≡ completions → AreApart plans completions
-    → AllPairs (λ (a b : ℕ). a ≢ b) (map (λ (g : GetView Sqe). g.address) v.gets ++ map (λ (c : CqPlan). c.address) all)
-still_apart v plans completions all sites is_all apart =
-    subst (λ zs. AllPairs (λ (a b : ℕ). a ≢ b) zs) (sym (λ i. sq_addresses v plans sites i ++ map (λ (c : CqPlan). c.address) (is_all i))) apart
+-- the addresses of a front's submission regions are those of the rings that were added, so they and others are as apart
+pub gets_apart : (v : FrontView) (rings : List SqEnds) (plans : List CqPlan) → map get_place v.gets ≡ map (λ (e : SqEnds). get_place e.get) rings
+    → AllPairs (λ (a b : ℕ). a ≢ b) (map (λ (e : SqEnds). e.get.address) rings ++ map (λ (c : CqPlan). c.address) plans)
+    → AllPairs (λ (a b : ℕ). a ≢ b) (map (λ (g : GetView Sqe). g.address) v.gets ++ map (λ (c : CqPlan). c.address) plans)
+gets_apart v rings plans places apart =
+    subst (λ zs. AllPairs (λ (a b : ℕ). a ≢ b) zs) (sym (λ i. ring_addresses v rings places i ++ map (λ (c : CqPlan). c.address) plans)) apart
 
 -- the sites of rings are those of their workload
 pub ring_sites : (v : FrontView) (rings : List SqEnds) (plans : List SqPlan) → map get_place v.gets ≡ map (λ (e : SqEnds). get_place e.get) rings → AllZip IsRingOf plans rings
@@ -73,42 +76,61 @@ rings_apart rings plans all is_all are apart =
     (append-nil (map (λ (s : SqPlan). s.address) plans) ∙ ap (map (λ (s : SqPlan). s.address)) (sym is_all)
     ∙ sym (zip_maps IsRingOf (λ (s : SqPlan). s.address) (λ (e : SqEnds). e.get.address) (λ p e is. is.address) all rings are)) apart
 
+-- so are those of the rings and of the completion regions
+pub regions_apart : (rings : List SqEnds) (plans all : List SqPlan) (completions made : List CqPlan) → all ≡ plans → AllZip IsRingOf all rings → made ≡ completions
+    → AreApart plans completions
+    → AllPairs (λ (a b : ℕ). a ≢ b) (map (λ (e : SqEnds). e.get.address) rings ++ map (λ (c : CqPlan). c.address) made)
+regions_apart rings plans all completions made is_all are is_made apart =
+    let same = zip_maps IsRingOf (λ (s : SqPlan). s.address) (λ (e : SqEnds). e.get.address) (λ p e is. is.address) all rings are ∙ ap (map (λ (s : SqPlan). s.address)) is_all in
+    subst (λ zs. AllPairs (λ (a b : ℕ). a ≢ b) zs) (sym (λ i. same i ++ map (λ (c : CqPlan). c.address) (is_made i))) apart
+
+-- regions that were added in two steps
+pub both_added : (rings : List SqEnds) (plans : List CqPlan) (feeders : List (Feeder Sqe)) (drainers : List (Drainer Cqe)) (first middle last : FrontView)
+    → AddsSqs rings feeders first middle → AddsCqs plans drainers middle last → AddsRegions rings plans feeders drainers first last
+both_added rings plans feeders drainers first middle last sqs cqs = record {
+  hosts = sqs.hosts;
+  gets = ap (λ gs. map get_place gs) cqs.gets ∙ sqs.gets;
+  rests = ap (λ gs. map seen_in gs) cqs.gets ∙ sqs.rests;
+  puts = cqs.puts;
+  sites = cqs.sites;
+  stays = fresh_then first middle last sqs.stays cqs.stays;
+}
+
 -- a new front with the regions of a workload, and with the workers of its pool, is prepared
-pub prepared_by : (plan : Plan) (parts : Parts) (rings : List SqEnds) (seat : SeatView) (first middle : FrontView)
-    → first.rules.mechanism ≡ plan.mechanism → first.rules.start ≡ record { nsq = plan.nsq; ncq = plan.ncq; settings = plan.settings } → first.rules.sizes ≡ plan.sizes
-    → first.hands ≡ record { came = seat; seat = seat; unhanded = []; running = [] } → first.limit ≡ most_events
-    → AllZip IsRingOf plan.submissions rings → AddsSqs rings parts.feeders.items first middle → AddsCqs plan.completions parts.drainers.items middle parts.front
+pub prepared_by : (plan : Plan) (config : FrontConfig) (parts : Parts) (rings : List SqEnds) (seat : SeatView) (first : FrontView) → IsConfigOf plan config
+    → first.rules.mechanism ≡ config.mechanism → first.rules.start ≡ record { nsq = config.limits.nsq; ncq = config.limits.ncq; settings = config.settings } → first.rules.sizes ≡ config.spaces
+    → first.hands ≡ record { came = seat; seat = seat; unhanded = []; running = [] } → first.limit ≡ config.max_events
+    → AllZip IsRingOf plan.submissions rings → AddsRegions rings plan.completions parts.feeders.items parts.drainers.items first parts.front
     → IsPool parts.lanes seat parts.workers.items → IsBlank seat parts.workers.items → 1 ≤ length plan.submissions → 1 ≤ length plan.completions
     → IsPrepared plan parts
-prepared_by plan parts rings seat first middle mechanism start sizes hands limit are sqs cqs pool blank some_sq some_cq =
-    let stays = fresh_then first middle parts.front sqs.stays cqs.stays in
-    let sites : map get_site parts.front.gets ≡ map sq_site plan.submissions = ap (λ gs. map get_site gs) cqs.gets ∙ ring_sites middle rings plan.submissions sqs.gets are in
+prepared_by plan config parts rings seat first is_config mechanism start sizes hands limit are added pool blank some_sq some_cq =
+    let stays = added.stays in
+    let sites : map get_site parts.front.gets ≡ map sq_site plan.submissions = ring_sites parts.front rings plan.submissions added.gets are in
     let handed = stays.hands ∙ hands in
     let seated : parts.front.hands.seat ≡ seat = ap (λ h. h.seat) handed in
-    let regions = stays.regions ∙ (λ i. cq_steps_are parts.front.puts plan.completions cqs.sites i ++ sq_steps_are parts.front.gets plan.submissions sites i) in
-    let mechanism_is = stays.mechanism ∙ mechanism in
-    let start_is = stays.start ∙ start in
-    let sizes_are = stays.sizes ∙ sizes in record {
+    let regions = stays.regions ∙ (λ i. cq_steps_are parts.front.puts plan.completions added.sites i ++ sq_steps_are parts.front.gets plan.submissions sites i) in
+    let mechanism_is = stays.mechanism ∙ mechanism ∙ is_config.mechanism in
+    let start_is = stays.start ∙ start ∙ (λ i. record { nsq = is_config.nsq i; ncq = is_config.ncq i; settings = is_config.settings i }) in
+    let sizes_are = stays.sizes ∙ sizes ∙ is_config.sizes in record {
       rules = λ i. record { mechanism = mechanism_is i; start = start_is i; sizes = sizes_are i; regions = regions i };
       log = stays.log;
       not_late = stays.not_late;
-      limit = stays.limit ∙ limit;
+      limit = stays.limit ∙ limit ∙ is_config.limit;
       fed =
-          sym (map-map (λ (p : List Sqe × (RingName × ℕ × ℕ)). p.1) feeder_seen parts.feeders.items) ∙ ap (map (λ (p : List Sqe × (RingName × ℕ × ℕ)). p.1)) sqs.hosts
-          ∙ map-map (λ (p : List Sqe × (RingName × ℕ × ℕ)). p.1) (λ (e : SqEnds). feeder_seen e.feeder) rings ∙ one_place rings plan.submissions are ∙ sym sqs.gets
-          ∙ sym (ap (λ gs. map get_place gs) cqs.gets);
-      drained = sym cqs.puts;
+          sym (map-map (λ (p : List Sqe × (RingName × ℕ × ℕ)). p.1) feeder_seen parts.feeders.items) ∙ ap (map (λ (p : List Sqe × (RingName × ℕ × ℕ)). p.1)) added.hosts
+          ∙ map-map (λ (p : List Sqe × (RingName × ℕ × ℕ)). p.1) (λ (e : SqEnds). feeder_seen e.feeder) rings ∙ one_place rings plan.submissions are ∙ sym added.gets;
+      drained = sym added.puts;
       scripts =
-          sym (map-map (λ (p : List Sqe × (RingName × ℕ × ℕ)). p.0) feeder_seen parts.feeders.items) ∙ ap (map (λ (p : List Sqe × (RingName × ℕ × ℕ)). p.0)) sqs.hosts
+          sym (map-map (λ (p : List Sqe × (RingName × ℕ × ℕ)). p.0) feeder_seen parts.feeders.items) ∙ ap (map (λ (p : List Sqe × (RingName × ℕ × ℕ)). p.0)) added.hosts
           ∙ map-map (λ (p : List Sqe × (RingName × ℕ × ℕ)). p.0) (λ (e : SqEnds). feeder_seen e.feeder) rings
           ∙ zip_maps IsRingOf (λ (s : SqPlan). s.script) (λ (e : SqEnds). script_of e.feeder) (λ p e is. is.script) plan.submissions rings are;
-      rests = λ r. seen_at parts.front.gets r ∙ ap (λ gs. get_or (map seen_in gs) r []) cqs.gets ∙ ap (λ zs. get_or zs r []) sqs.rests;
-      lists = sym (as_long put_place drainer_place parts.front.puts parts.drainers.items cqs.puts) ∙ as_long put_site cq_site parts.front.puts plan.completions cqs.sites;
+      rests = λ r. seen_at parts.front.gets r ∙ ap (λ zs. get_or zs r []) added.rests;
+      lists = sym (as_long put_place drainer_place parts.front.puts parts.drainers.items added.puts) ∙ as_long put_site cq_site parts.front.puts plan.completions added.sites;
       pool = record {
         pool = subst (λ (s : SeatView). IsPool parts.lanes s parts.workers.items) (sym seated) pool;
         none_before = ap (λ h. h.came.handed) handed ∙ blank.handed;
       };
       blank = subst (λ (s : SeatView). IsBlank s parts.workers.items) (sym seated) blank;
       admin_sq = omega (arith, as_long get_site sq_site parts.front.gets plan.submissions sites);
-      admin_cq = omega (arith, as_long put_site cq_site parts.front.puts plan.completions cqs.sites);
+      admin_cq = omega (arith, as_long put_site cq_site parts.front.puts plan.completions added.sites);
     }

@@ -12,6 +12,7 @@ use Rattle.nvme_workload.specs.declared.plan.SqPlan.{SqPlan}
 use Rattle.nvme_workload.specs.declared.plan.CqPlan.{CqPlan}
 use Rattle.nvme_workload.specs.Plan.{Plan}
 use Rattle.nvme_log.specs.Limits.{most_events}
+use Rattle.nvme_front.specs.declared.front.FrontConfig.{FrontConfig}
 use Rattle.nvme_front.specs.declared.settling.Parts.{Parts}
 use Rattle.nvme_front.specs.Ends.{get_place, put_place}
 use Rattle.nvme_front.specs.Hosts.{IsFedBy, IsDrainedBy, feeder_place, drainer_place, submitted_at}
@@ -93,6 +94,24 @@ pub record AddsCqs (plans : List CqPlan) (drainers : List (Drainer Cqe)) (old ne
   pub sites : map put_site new.puts ≡ map cq_site plans
   pub gets : new.gets ≡ old.gets
   pub stays : StaysFresh old new
+
+-- so were the regions of rings and then of these plans, and each host has the other end of its region's ring
+pub record AddsRegions (rings : List SqEnds) (plans : List CqPlan) (feeders : List (Feeder Sqe)) (drainers : List (Drainer Cqe)) (old new : FrontView) : Type 0 where
+  pub hosts : map feeder_seen feeders ≡ map (λ (e : SqEnds). feeder_seen e.feeder) rings
+  pub gets : map get_place new.gets ≡ map (λ (e : SqEnds). get_place e.get) rings
+  pub rests : map seen_in new.gets ≡ map sent_by feeders
+  pub puts : map put_place new.puts ≡ map drainer_place drainers
+  pub sites : map put_site new.puts ≡ map cq_site plans
+  pub stays : StaysFresh old new
+
+-- what a front of a workload is given
+pub record IsConfigOf (plan : Plan) (config : FrontConfig) : Type 0 where
+  pub mechanism : config.mechanism ≡ plan.mechanism
+  pub settings : config.settings ≡ plan.settings
+  pub nsq : config.limits.nsq ≡ plan.nsq
+  pub ncq : config.limits.ncq ≡ plan.ncq
+  pub sizes : config.spaces ≡ plan.sizes
+  pub limit : config.max_events ≡ most_events
 
 -- the parts of a run before it begins
 pub record IsPrepared (plan : Plan) (parts : Parts) : Type 0 where

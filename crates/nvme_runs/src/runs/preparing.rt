@@ -14,7 +14,7 @@ ghost use Rattle.nvme_workload.specs.declared.plan.CqPlan.{CqPlan};
 ghost use Rattle.nvme_workload.specs.Plan.{plan_of};
 ghost use Rattle.nvme_workload.specs.Sound.{IsSound, AreSlots};
 ghost use Rattle.nvme_runs.specs.Runs.{IsFirstTooLong, FitsAll};
-ghost use Rattle.nvme_runs.specs.inside.Prepared.{IsPrepared, StaysFresh, IsRingOf, IsFreshRing, AddsSq, AddsCq, AddsSqs, AddsCqs};
+ghost use Rattle.nvme_runs.specs.inside.Prepared.{IsPrepared, StaysFresh, IsRingOf, IsFreshRing, AddsSq, AddsCq, AddsSqs, AddsCqs, AddsRegions, IsConfigOf};
 
 use nvme_entry::{Cqe, Sqe};
 use nvme_front::{AddError, Front, FrontConfig, MAX_EVENTS, Parts};
@@ -175,6 +175,41 @@ fn add_cqs(
     Ok(drainers)
 }
 
+// Adds the regions of a workload to a front that has none, and gives their hosts.
+fn add_regions(
+    alloc: Global,
+    front: &mut Front,
+    rings: Vec<SqEnds>,
+    plans: Vec<CqPlan>,
+) -> Result<(Vec<Feeder<Sqe>>, Vec<Drainer<Cqe>>), AllocError>
+    requires first { (front.old.gets ≡ []) × (front.old.puts ≡ []) }
+    requires fresh { StaysFresh front.old front.old }
+    requires rings { All IsFreshRing rings.items }
+    requires slots { All (λ (c : CqPlan). AreSlots c.slots) plans.items }
+    requires rings_apart { AllPairs (λ (a b : ℕ). a ≢ b) (map (λ (e : SqEnds). e.get.address) rings.items) }
+    requires apart { AllPairs (λ (a b : ℕ). a ≢ b) (map (λ (e : SqEnds). e.get.address) rings.items ++ map (λ (c : CqPlan). c.address) plans.items) }
+    requires few_rings { length rings.items ≤ MAX_REGIONS }
+    requires few_plans { length plans.items ≤ MAX_REGIONS }
+    ensures added { IfOk result (λ r. AddsRegions rings.items plans.items r.0.items r.1.items front.old front.new) }
+{
+    let feeders = add_sqs(alloc, front, rings)?;
+    let drainers = add_cqs(alloc, front, plans)?;
+    Ok((feeders, drainers))
+}
+
+// What a front of a workload is given.
+fn config_of(workload: &Workload) -> FrontConfig
+    ensures { IsConfigOf (plan_of workload.now) result }
+{
+    FrontConfig {
+        mechanism: workload.mechanism,
+        settings: workload.settings,
+        limits: workload.limits,
+        spaces: workload.spaces,
+        max_events: MAX_EVENTS,
+    }
+}
+
 /// A front with its hosts and so many workers, as a workload has them. With `Mode::Loaded` the hosts have submitted, and
 /// are joined.
 pub fn prepare<R: Threads + Wait + Sync>(
@@ -189,31 +224,19 @@ pub fn prepare<R: Threads + Wait + Sync>(
     ensures prepared { IfOk result (λ p. IsPrepared (plan_of workload) p) }
     ensures workers { IfOk result (λ p. vec_len p.workers ≡ workers) }
 {
-    let Workload {
-        mechanism,
-        settings,
-        limits,
-        spaces,
-        patience: _,
-        submissions,
-        completions,
-    } = workload;
     let (lanes, seat, workers) = match pool(alloc, workers) {
         Ok(made) => made,
         Err(PoolError::NoMemory) => return Err(AllocError),
         Err(PoolError::Workers) => unreachable!(),
     };
+    let mut front = Front::new(alloc, config_of(&workload), seat);
+    let Workload {
+        submissions,
+        completions,
+        ..
+    } = workload;
     let (lanes, rings) = fed_rings(rt, alloc, mode, lanes, submissions.into_vec())?;
-    let config = FrontConfig {
-        mechanism,
-        settings,
-        limits,
-        spaces,
-        max_events: MAX_EVENTS,
-    };
-    let mut front = Front::new(alloc, config, seat);
-    let feeders = add_sqs(alloc, &mut front, rings)?;
-    let drainers = add_cqs(alloc, &mut front, completions.into_vec())?;
+    let (feeders, drainers) = add_regions(alloc, &mut front, rings, completions.into_vec())?;
     Ok(Parts {
         front,
         feeders,

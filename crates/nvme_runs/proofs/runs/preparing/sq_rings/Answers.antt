@@ -1,7 +1,6 @@
 use Rattle.std.proofs.Common.{◌≡◌, ◌∷◌, [], ◌++◌, sym, ap, ◌∙◌, rules, arith, append_assoc}
 use Rattle.std.specs.Vec.Iter.{into_iter_items}
 use Rattle.std.proofs.lemmas.List.{length-append}
-use Rattle.nvme_runs.specs.inside.Prepared.{IsRingOf}
 use Rattle.nvme_runs.proofs.Rings.{rings_more}
 use Rattle.nvme_runs.proofs.runs.preparing.sq_rings.Goals as goal
 

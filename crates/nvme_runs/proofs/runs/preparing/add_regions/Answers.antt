@@ -1,0 +1,12 @@
+use Rattle.nvme_runs.proofs.Sites.{both_added, gets_apart}
+use Rattle.nvme_runs.proofs.runs.preparing.add_regions.Goals as goal
+
+pub add_cqs-requires-clause-apart : goal.add_cqs-requires-clause-apart
+add_cqs-requires-clause-apart c = gets_apart c.add_sqs.new.front c.args.rings.items c.args.plans.items c.in_ok-feeders.ensures.added.gets c.requires.apart
+
+pub returns : goal.returns
+returns c = record {
+  added =
+      both_added c.args.rings.items c.args.plans.items c.in_ok-feeders.feeders.items c.in_ok-drainers.drainers.items c.args.front.now c.add_sqs.new.front c.add_cqs.new.front
+      c.in_ok-feeders.ensures.added c.in_ok-drainers.ensures.added;
+}
