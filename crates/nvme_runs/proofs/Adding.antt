@@ -39,6 +39,12 @@ none_before before a after apart =
     apart i (length before) d l (omega (arith, length-append before (a ∷ after)))
     (get_or_append_left before (a ∷ after) d i l ∙ e ∙ sym (at_end before a after d))))
 
+-- numbers that are apart from one another and from others are apart from one another
+pub first_apart : (xs ys : List ℕ) → AllPairs (λ (x y : ℕ). x ≢ y) (xs ++ ys) → AllPairs (λ (x y : ℕ). x ≢ y) xs
+first_apart xs ys apart =
+    λ i j d l m e.
+    apart i j d l (omega (arith, length-append xs ys)) (get_or_append_left xs ys d i (omega (arith)) ∙ e ∙ sym (get_or_append_left xs ys d j m))
+
 -- the next address is that of no region of a front whose regions have the addresses before it
 pub is_new : (v : FrontView) (before after : List ℕ) (a : ℕ)
     → map (λ (g : GetView Sqe). g.address) v.gets ++ map (λ (p : PutView Cqe). p.address) v.puts ≡ before

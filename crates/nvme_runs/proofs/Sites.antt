@@ -1,12 +1,14 @@
 -- A front to which the regions of a workload were added, with its hosts and its workers.
 use Rattle.std.proofs.Common.{◌≡◌, ◌≢◌, ℕ, ◌≤◌, List, [], ◌++◌, length, map, reverse, get_or, sym, ap, ◌∙◌, subst, arith}
 use Rattle.std.specs.List.{AllPairs, AllZip}
-use Rattle.std.proofs.lemmas.List.{append-nil, length-map}
+use Rattle.std.proofs.lemmas.List.{length-map}
 use Rattle.std.proofs.lemmas.Simd.{map-map}
 use Rattle.nvme_entry.specs.declared.submission.Sqe.{Sqe}
 use Rattle.nvme_entry.specs.declared.completion.Cqe.{Cqe}
 use Rattle.nvme_lane.specs.View.{GetView, PutView, RingName}
 use Rattle.nvme_lane.specs.Feeder.{script_of}
+use Rattle.nvme_lane.specs.declared.feeder.Feeder.{Feeder}
+use Rattle.nvme_lane.specs.declared.drainer.Drainer.{Drainer}
 use Rattle.nvme_pool.specs.Pool.{IsPool, IsBlank}
 use Rattle.nvme_pool.specs.Seat.{SeatView}
 use Rattle.nvme_admin.specs.declared.bounds.TheConstants.{MAX_REGIONS}
@@ -15,8 +17,6 @@ use Rattle.nvme_workload.specs.declared.plan.SqPlan.{SqPlan}
 use Rattle.nvme_workload.specs.declared.plan.CqPlan.{CqPlan}
 use Rattle.nvme_workload.specs.Plan.{Plan}
 use Rattle.nvme_workload.specs.Sound.{AreApart}
-use Rattle.nvme_lane.specs.declared.feeder.Feeder.{Feeder}
-use Rattle.nvme_lane.specs.declared.drainer.Drainer.{Drainer}
 use Rattle.nvme_front.specs.declared.front.FrontConfig.{FrontConfig}
 use Rattle.nvme_front.specs.declared.settling.Parts.{Parts}
 use Rattle.nvme_front.specs.Ends.{get_place, put_place}
@@ -68,15 +68,7 @@ rings_few rings plans all is_all are few =
     (zip_maps IsRingOf (λ (s : SqPlan). s.address) (λ (e : SqEnds). e.get.address) (λ p e is. is.address) all rings are) in
     subst (λ k. k ≤ MAX_REGIONS) (sym (same ∙ ap (λ ps. length ps) is_all)) few
 
--- the addresses of the rings of a workload are apart
-pub rings_apart : (rings : List SqEnds) (plans all : List SqPlan) → all ≡ plans → AllZip IsRingOf all rings → AreApart plans []
-    → AllPairs (λ (a b : ℕ). a ≢ b) (map (λ (e : SqEnds). e.get.address) rings)
-rings_apart rings plans all is_all are apart =
-    subst (λ zs. AllPairs (λ (a b : ℕ). a ≢ b) zs)
-    (append-nil (map (λ (s : SqPlan). s.address) plans) ∙ ap (map (λ (s : SqPlan). s.address)) (sym is_all)
-    ∙ sym (zip_maps IsRingOf (λ (s : SqPlan). s.address) (λ (e : SqEnds). e.get.address) (λ p e is. is.address) all rings are)) apart
-
--- so are those of the rings and of the completion regions
+-- the addresses of the rings of a workload and of its completion regions are apart
 pub regions_apart : (rings : List SqEnds) (plans all : List SqPlan) (completions made : List CqPlan) → all ≡ plans → AllZip IsRingOf all rings → made ≡ completions
     → AreApart plans completions
     → AllPairs (λ (a b : ℕ). a ≢ b) (map (λ (e : SqEnds). e.get.address) rings ++ map (λ (c : CqPlan). c.address) made)

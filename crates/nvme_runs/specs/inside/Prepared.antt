@@ -95,7 +95,7 @@ pub record AddsCqs (plans : List CqPlan) (drainers : List (Drainer Cqe)) (old ne
   pub gets : new.gets ≡ old.gets
   pub stays : StaysFresh old new
 
--- so were the regions of rings and then of these plans, and each host has the other end of its region's ring
+-- the regions of rings were added and then those of these plans, each host has the other end of its region's ring, and what rests in it is known
 pub record AddsRegions (rings : List SqEnds) (plans : List CqPlan) (feeders : List (Feeder Sqe)) (drainers : List (Drainer Cqe)) (old new : FrontView) : Type 0 where
   pub hosts : map feeder_seen feeders ≡ map (λ (e : SqEnds). feeder_seen e.feeder) rings
   pub gets : map get_place new.gets ≡ map (λ (e : SqEnds). get_place e.get) rings

@@ -186,7 +186,6 @@ fn add_regions(
     requires fresh { StaysFresh front.old front.old }
     requires rings { All IsFreshRing rings.items }
     requires slots { All (λ (c : CqPlan). AreSlots c.slots) plans.items }
-    requires rings_apart { AllPairs (λ (a b : ℕ). a ≢ b) (map (λ (e : SqEnds). e.get.address) rings.items) }
     requires apart { AllPairs (λ (a b : ℕ). a ≢ b) (map (λ (e : SqEnds). e.get.address) rings.items ++ map (λ (c : CqPlan). c.address) plans.items) }
     requires few_rings { length rings.items ≤ MAX_REGIONS }
     requires few_plans { length plans.items ≤ MAX_REGIONS }

@@ -4,16 +4,11 @@ use Rattle.nvme_pool.specs.Pool.{IsPool}
 use Rattle.nvme_workload.specs.Plan.{plan_of}
 use Rattle.nvme_runs.specs.inside.Prepared.{IsRingOf, AddsRegions}
 use Rattle.nvme_runs.proofs.Rings.{are_fresh}
-use Rattle.nvme_runs.proofs.Sites.{prepared_by, regions_apart, rings_apart, rings_few}
+use Rattle.nvme_runs.proofs.Sites.{prepared_by, regions_apart, rings_few}
 use Rattle.nvme_runs.proofs.runs.preparing.prepare.Goals as goal
 
 pub add_regions-requires-clause-rings : goal.add_regions-requires-clause-rings
 add_regions-requires-clause-rings g c = are_fresh c.into_vec.result.items c.in_ok-lanes.rings.items c.in_ok-lanes.ensures.rings
-
-pub add_regions-requires-clause-rings_apart : goal.add_regions-requires-clause-rings_apart
-add_regions-requires-clause-rings_apart g c =
-    rings_apart c.in_ok-lanes.rings.items (plan_of c.args.workload).submissions c.into_vec.result.items c.into_vec.ensures.items c.in_ok-lanes.ensures.rings
-    c.requires.sound.submissions.apart
 
 pub add_regions-requires-clause-apart : goal.add_regions-requires-clause-apart
 add_regions-requires-clause-apart g c =
