@@ -16,7 +16,7 @@ use crate::arbiter::{nvmearb_arbiter_init, nvmearb_arbiter_set, write};
 use crate::queues::{QueueFields, QueuesFields, shown};
 use crate::results::{BAD_ARGUMENT, BAD_STATE, NOTHING, OK};
 use crate::states::{ArbiterFields, PickFields, fields_of_pick, is_arbiter, kept_of};
-use nvme_arbiter::{Class, HIGHEST_COUNT, OpenQueue, QUEUE_LIMIT};
+use nvme_arbiter::{Class, HIGHEST_COUNT, OpenQueue, Pick, QUEUE_LIMIT};
 
 // What `nvmearb_board_init` writes before a board, and nothing else does.
 const MARK: u64 = 0x6e76_6d65_5f62_7264;
@@ -181,6 +181,24 @@ pub extern "C" fn nvmearb_board_peek(board: &BoardFields, pick: &mut PickFields)
     }
 }
 
+// The next queue of a board, and how many of its commands are taken. As many of them wait no longer.
+fn picked(board: &mut BoardFields) -> Option<Pick>
+    requires { IsTrue (is_board board.old) }
+    ensures nothing { IsNone result → pick_of (kept_of board.old.arbiter) (seen_of (slots_in board.old.queues)) ≡ None }
+    ensures picked { IfSome result (λ it. pick_of (kept_of board.old.arbiter) (seen_of (slots_in board.old.queues)) ≡ Some it) }
+    ensures stands { IfSome result (λ it. (mechanism : Mechanism) (first : ArbitrationFields) (past : History) → BoardStandsAt mechanism first past (board_of board.old) → BoardStandsAt mechanism first (Picked (seen_of (slots_in board.old.queues)) it ∷ past) (board_of board.new)) }
+    ensures queues { IfSome result (λ it. slots_in board.new.queues ≡ queues_after (slots_in board.old.queues) it) }
+    ensures board { IsTrue (is_board board.new) }
+    ensures unchanged { IsNone result → board.new ≡ board.old }
+{
+    let mut kept = kept_of(&board.arbiter);
+    let it = kept.pick(&board.queues)?;
+    let (mechanism, cdw11) = (board.arbiter.mechanism, board.arbiter.cdw11);
+    write(&mut board.arbiter, mechanism, cdw11, &kept);
+    board.queues.take(it.qid, it.n);
+    Some(it)
+}
+
 /// Picks: writes the next queue, and how many of its commands are taken. As many of them wait no longer.
 #[unsafe(no_mangle)]
 pub extern "C" fn nvmearb_board_pick(board: &mut BoardFields, pick: &mut PickFields) -> u32
@@ -196,13 +214,9 @@ pub extern "C" fn nvmearb_board_pick(board: &mut BoardFields, pick: &mut PickFie
     if !is_board(board) {
         return BAD_STATE;
     }
-    let mut kept = kept_of(&board.arbiter);
-    match kept.pick(&board.queues) {
+    match picked(board) {
         Some(it) => {
             *pick = fields_of_pick(it);
-            let (mechanism, cdw11) = (board.arbiter.mechanism, board.arbiter.cdw11);
-            write(&mut board.arbiter, mechanism, cdw11, &kept);
-            board.queues.take(it.qid, it.n);
             OK
         }
         None => NOTHING,

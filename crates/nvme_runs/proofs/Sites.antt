@@ -26,7 +26,7 @@ use Rattle.nvme_front.specs.View.{FrontView}
 use Rattle.nvme_runs.specs.Runs.{sq_additions, cq_additions}
 use Rattle.nvme_threads.specs.Hosts.{feeder_seen}
 use Rattle.nvme_threads.specs.declared.loading.SqEnds.{SqEnds}
-use Rattle.nvme_runs.specs.inside.Prepared.{IsPrepared, IsRingOf, AddsSqs, AddsCqs, AddsRegions, IsConfigOf, seen_in, sq_site, cq_site, get_site, put_site}
+use Rattle.nvme_runs.specs.inside.Prepared.{IsPrepared, IsRingOf, AddsSqs, AddsCqs, AddsRegions, IsConfigOf, IsFrontOf, seen_in, sq_site, cq_site, get_site, put_site}
 use Rattle.nvme_runs.proofs.Adding.{fresh_then, ring_addresses}
 use Rattle.nvme_runs.proofs.Rings.{one_place, seen_at, zip_maps}
 
@@ -88,26 +88,26 @@ both_added rings plans feeders drainers first middle last sqs cqs = record {
   stays = fresh_then first middle last sqs.stays cqs.stays;
 }
 
--- a new front with the regions of a workload, and with the workers of its pool, is prepared
-pub prepared_by : (plan : Plan) (config : FrontConfig) (parts : Parts) (rings : List SqEnds) (seat : SeatView) (first : FrontView) → IsConfigOf plan config
-    → first.rules.mechanism ≡ config.mechanism → first.rules.start ≡ record { nsq = config.limits.nsq; ncq = config.limits.ncq; settings = config.settings } → first.rules.sizes ≡ config.spaces
-    → first.hands ≡ record { came = seat; seat = seat; unhanded = []; running = [] } → first.limit ≡ config.max_events
-    → AllZip IsRingOf plan.submissions rings → AddsRegions rings plan.completions parts.feeders.items parts.drainers.items first parts.front
+-- a front with the regions of a workload, and with the workers of its pool, is prepared
+pub prepared_by : (plan : Plan) (config : FrontConfig) (parts : Parts) (rings : List SqEnds) (seat : SeatView) → IsConfigOf plan config
+    → IsFrontOf config seat rings plan.completions parts.feeders.items parts.drainers.items parts.front → AllZip IsRingOf plan.submissions rings
     → IsPool parts.lanes seat parts.workers.items → IsBlank seat parts.workers.items → 1 ≤ length plan.submissions → 1 ≤ length plan.completions
     → IsPrepared plan parts
-prepared_by plan config parts rings seat first is_config mechanism start sizes hands limit are added pool blank some_sq some_cq =
+prepared_by plan config parts rings seat is_config is_front are pool blank some_sq some_cq =
+    let added = is_front.added in
+    let is_new = is_front.is_new in
     let stays = added.stays in
     let sites : map get_site parts.front.gets ≡ map sq_site plan.submissions = ring_sites parts.front rings plan.submissions added.gets are in
-    let handed = stays.hands ∙ hands in
+    let handed = stays.hands ∙ is_new.hands in
     let seated : parts.front.hands.seat ≡ seat = ap (λ h. h.seat) handed in
     let regions = stays.regions ∙ (λ i. cq_steps_are parts.front.puts plan.completions added.sites i ++ sq_steps_are parts.front.gets plan.submissions sites i) in
-    let mechanism_is = stays.mechanism ∙ mechanism ∙ is_config.mechanism in
-    let start_is = stays.start ∙ start ∙ (λ i. record { nsq = is_config.nsq i; ncq = is_config.ncq i; settings = is_config.settings i }) in
-    let sizes_are = stays.sizes ∙ sizes ∙ is_config.sizes in record {
+    let mechanism_is = stays.mechanism ∙ is_new.mechanism ∙ is_config.mechanism in
+    let start_is = stays.start ∙ is_new.start ∙ (λ i. record { nsq = is_config.nsq i; ncq = is_config.ncq i; settings = is_config.settings i }) in
+    let sizes_are = stays.sizes ∙ is_new.sizes ∙ is_config.sizes in record {
       rules = λ i. record { mechanism = mechanism_is i; start = start_is i; sizes = sizes_are i; regions = regions i };
       log = stays.log;
       not_late = stays.not_late;
-      limit = stays.limit ∙ limit ∙ is_config.limit;
+      limit = stays.limit ∙ is_new.limit ∙ is_config.limit;
       fed =
           sym (map-map (λ (p : List Sqe × (RingName × ℕ × ℕ)). p.1) feeder_seen parts.feeders.items) ∙ ap (map (λ (p : List Sqe × (RingName × ℕ × ℕ)). p.1)) added.hosts
           ∙ map-map (λ (p : List Sqe × (RingName × ℕ × ℕ)). p.1) (λ (e : SqEnds). feeder_seen e.feeder) rings ∙ one_place rings plan.submissions are ∙ sym added.gets;

@@ -8,6 +8,7 @@ use Rattle.nvme_lane.specs.Drainer.{get_of}
 use Rattle.nvme_lane.specs.declared.feeder.Feeder.{Feeder}
 use Rattle.nvme_lane.specs.declared.drainer.Drainer.{Drainer}
 use Rattle.nvme_pool.specs.Pool.{IsBlank}
+use Rattle.nvme_pool.specs.Seat.{SeatView}
 use Rattle.nvme_workload.specs.declared.plan.SqPlan.{SqPlan}
 use Rattle.nvme_workload.specs.declared.plan.CqPlan.{CqPlan}
 use Rattle.nvme_workload.specs.Plan.{Plan}
@@ -103,6 +104,20 @@ pub record AddsRegions (rings : List SqEnds) (plans : List CqPlan) (feeders : Li
   pub puts : map put_place new.puts ≡ map drainer_place drainers
   pub sites : map put_site new.puts ≡ map cq_site plans
   pub stays : StaysFresh old new
+
+-- a front has what it was given, and nothing was added to it
+pub record IsNewFront (config : FrontConfig) (seat : SeatView) (front : FrontView) : Type 0 where
+  pub mechanism : front.rules.mechanism ≡ config.mechanism
+  pub start : front.rules.start ≡ record { nsq = config.limits.nsq; ncq = config.limits.ncq; settings = config.settings }
+  pub sizes : front.rules.sizes ≡ config.spaces
+  pub hands : front.hands ≡ record { came = seat; seat = seat; unhanded = []; running = [] }
+  pub limit : front.limit ≡ config.max_events
+
+-- such a front, to which the regions of rings and of plans were added
+pub record IsFrontOf (config : FrontConfig) (seat : SeatView) (rings : List SqEnds) (plans : List CqPlan) (feeders : List (Feeder Sqe)) (drainers : List (Drainer Cqe)) (front : FrontView) : Type 0 where
+  pub first : FrontView
+  pub is_new : IsNewFront config seat first
+  pub added : AddsRegions rings plans feeders drainers first front
 
 -- what a front of a workload is given
 pub record IsConfigOf (plan : Plan) (config : FrontConfig) : Type 0 where

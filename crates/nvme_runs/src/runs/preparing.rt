@@ -14,12 +14,12 @@ ghost use Rattle.nvme_workload.specs.declared.plan.CqPlan.{CqPlan};
 ghost use Rattle.nvme_workload.specs.Plan.{plan_of};
 ghost use Rattle.nvme_workload.specs.Sound.{IsSound, AreSlots};
 ghost use Rattle.nvme_runs.specs.Runs.{IsFirstTooLong, FitsAll};
-ghost use Rattle.nvme_runs.specs.inside.Prepared.{IsPrepared, StaysFresh, IsRingOf, IsFreshRing, AddsSq, AddsCq, AddsSqs, AddsCqs, AddsRegions, IsConfigOf};
+ghost use Rattle.nvme_runs.specs.inside.Prepared.{IsPrepared, StaysFresh, IsRingOf, IsFreshRing, AddsSq, AddsCq, AddsSqs, AddsCqs, AddsRegions, IsConfigOf, IsFrontOf};
 
 use nvme_entry::{Cqe, Sqe};
 use nvme_front::{AddError, Front, FrontConfig, MAX_EVENTS, Parts};
 use nvme_lane::{Drainer, Feeder, LaneError, ring};
-use nvme_pool::{Lanes, PoolError, pool};
+use nvme_pool::{FrontSeat, Lanes, PoolError, pool};
 use nvme_report::Mode;
 use nvme_threads::{SqEnds, load};
 use nvme_workload::{CqPlan, SqPlan, Workload};
@@ -196,6 +196,26 @@ fn add_regions(
     Ok((feeders, drainers))
 }
 
+// A front with the regions of a workload, and their hosts.
+fn front_of(
+    alloc: Global,
+    config: FrontConfig,
+    seat: FrontSeat,
+    rings: Vec<SqEnds>,
+    plans: Vec<CqPlan>,
+) -> Result<(Front, Vec<Feeder<Sqe>>, Vec<Drainer<Cqe>>), AllocError>
+    requires rings { All IsFreshRing rings.items }
+    requires slots { All (λ (c : CqPlan). AreSlots c.slots) plans.items }
+    requires apart { AllPairs (λ (a b : ℕ). a ≢ b) (map (λ (e : SqEnds). e.get.address) rings.items ++ map (λ (c : CqPlan). c.address) plans.items) }
+    requires few_rings { length rings.items ≤ MAX_REGIONS }
+    requires few_plans { length plans.items ≤ MAX_REGIONS }
+    ensures made { IfOk result (λ r. IsFrontOf config seat rings.items plans.items r.1.items r.2.items r.0) }
+{
+    let mut front = Front::new(alloc, config, seat);
+    let (feeders, drainers) = add_regions(alloc, &mut front, rings, plans)?;
+    Ok((front, feeders, drainers))
+}
+
 // What a front of a workload is given.
 fn config_of(workload: &Workload) -> FrontConfig
     ensures { IsConfigOf (plan_of workload.now) result }
@@ -228,14 +248,14 @@ pub fn prepare<R: Threads + Wait + Sync>(
         Err(PoolError::NoMemory) => return Err(AllocError),
         Err(PoolError::Workers) => unreachable!(),
     };
-    let mut front = Front::new(alloc, config_of(&workload), seat);
+    let config = config_of(&workload);
     let Workload {
         submissions,
         completions,
         ..
     } = workload;
     let (lanes, rings) = fed_rings(rt, alloc, mode, lanes, submissions.into_vec())?;
-    let (feeders, drainers) = add_regions(alloc, &mut front, rings, completions.into_vec())?;
+    let (front, feeders, drainers) = front_of(alloc, config, seat, rings, completions.into_vec())?;
     Ok(Parts {
         front,
         feeders,
