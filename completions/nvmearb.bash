@@ -1,0 +1,41 @@
+# SPDX-License-Identifier: MIT
+# Completions of nvmearb for bash.
+
+_nvmearb() {
+    local cur=${COMP_WORDS[COMP_CWORD]} prev=${COMP_WORDS[COMP_CWORD - 1]} words="" files=""
+    COMPREPLY=()
+    if [ "$COMP_CWORD" = 1 ]; then
+        words="run trace lint check stats chart loaded live once help --help --version"
+    else
+        case $prev in
+            --workers) words="1 2 3 4 5 6 7 8" ;;
+            --format) words="text json" ;;
+            --blocks) return ;;
+            *)
+                case ${COMP_WORDS[1]} in
+                    run | trace) words="--live --workers --help" files=toml ;;
+                    lint) words="--help" files=toml ;;
+                    check | chart) words="--help" files=any ;;
+                    stats) words="--format --help" files=any ;;
+                    loaded | live) words="--workers --help" ;;
+                    once) words="--blocks --help" ;;
+                    help) words="run trace lint check stats chart loaded live once" ;;
+                esac
+                ;;
+        esac
+    fi
+    # Options come where one is begun, files elsewhere.
+    if [ -n "$files" ] && [[ $cur != -* ]]; then
+        local IFS=$'\n'
+        compopt -o filenames
+        if [ "$files" = toml ]; then
+            COMPREPLY=($(compgen -f -X '!*.toml' -- "$cur") $(compgen -d -- "$cur"))
+        else
+            COMPREPLY=($(compgen -f -- "$cur"))
+        fi
+    else
+        COMPREPLY=($(compgen -W "$words" -- "$cur"))
+    fi
+}
+
+complete -F _nvmearb nvmearb

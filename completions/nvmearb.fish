@@ -1,0 +1,27 @@
+# SPDX-License-Identifier: MIT
+# Completions of nvmearb for fish.
+
+set -l all run trace lint check stats chart loaded live once help
+
+complete -c nvmearb -f
+complete -c nvmearb -s h -l help -d 'Print help'
+complete -c nvmearb -n "not __fish_seen_subcommand_from $all" -s V -l version -d 'Print the version'
+
+complete -c nvmearb -n "not __fish_seen_subcommand_from $all" -a run -d 'Run the workload of a file and print its report'
+complete -c nvmearb -n "not __fish_seen_subcommand_from $all" -a trace -d 'Run the workload of a file and print its trace'
+complete -c nvmearb -n "not __fish_seen_subcommand_from $all" -a lint -d 'Look for faults of a workload file'
+complete -c nvmearb -n "not __fish_seen_subcommand_from $all" -a check -d 'Say whether each pick of a trace is the expected one'
+complete -c nvmearb -n "not __fish_seen_subcommand_from $all" -a stats -d 'Print picks, shares and waits of a trace'
+complete -c nvmearb -n "not __fish_seen_subcommand_from $all" -a chart -d 'Print a picture of a trace as SVG'
+complete -c nvmearb -n "not __fish_seen_subcommand_from $all" -a loaded -d 'Run a workload of standard input, submitted first'
+complete -c nvmearb -n "not __fish_seen_subcommand_from $all" -a live -d 'Run a workload of standard input, submitted meanwhile'
+complete -c nvmearb -n "not __fish_seen_subcommand_from $all" -a once -d 'Answer one submission entry'
+complete -c nvmearb -n "not __fish_seen_subcommand_from $all" -a help -d 'Print help'
+
+complete -c nvmearb -n '__fish_seen_subcommand_from run trace' -l live -d 'Let the hosts submit while the front works'
+complete -c nvmearb -n '__fish_seen_subcommand_from run trace loaded live' -l workers -x -a '1 2 3 4 5 6 7 8' -d 'Number of workers'
+complete -c nvmearb -n '__fish_seen_subcommand_from stats' -l format -x -a 'text json' -d 'How the numbers are written'
+complete -c nvmearb -n '__fish_seen_subcommand_from once' -l blocks -x -d 'Size of namespace 1 in logical blocks'
+complete -c nvmearb -n '__fish_seen_subcommand_from run trace lint' -k -a '(__fish_complete_suffix .toml)'
+complete -c nvmearb -n '__fish_seen_subcommand_from check chart stats' -F
+complete -c nvmearb -n '__fish_seen_subcommand_from help' -a 'run trace lint check stats chart loaded live once'
