@@ -12,8 +12,8 @@ use checks::is_address;
 use nvme_arbiter::{Class, Settings};
 use nvme_entry::{AdminCommand, Sqe, Status, admin_of};
 
-/// A queue table as it lies in memory: numbers alone, of which each pattern of bits is some table, so that it may lie
-/// where others write. Contracts see its content by `view_of`.
+/// A queue table as it lies in memory, of numbers alone. Each pattern of bits is some table, so that it may lie where
+/// others write. Contracts see its content by `view_of`.
 #[repr(C)]
 #[derive(Drop)]
 pub struct TableFields {

@@ -100,7 +100,7 @@ pub fn settings_are_kept()
     ensures { SettingsAreKept }
 {}
 
-/// Worked: what a command of each kind comes to.
+/// Worked: the effect of a command of each kind.
 pub fn commands_come_to()
     ensures { CommandsComeTo }
 {}

@@ -16,7 +16,7 @@ pub struct Flag {
 }
 
 impl Flag {
-    /// A flag that is up, or down.
+    /// A flag that is set, or cleared.
     pub fn of(is_up: bool) -> Flag
         ensures { up result ≡ is_up }
     {
@@ -25,7 +25,7 @@ impl Flag {
         }
     }
 
-    /// Whether it is up.
+    /// Whether it is set.
     pub fn is_up(self) -> bool
         ensures { result ≡ up self }
     {
@@ -41,7 +41,7 @@ pub struct Allotted {
 }
 
 impl Allotted {
-    /// So many.
+    /// This number.
     pub fn of(number: u16) -> Allotted
         requires some { 1 ≤ number }
         requires few { number ≤ MAX_IO_QUEUES }
@@ -50,7 +50,7 @@ impl Allotted {
         Allotted { number }
     }
 
-    /// How many they are.
+    /// The number.
     pub fn get(self) -> u16
         ensures number { result ≡ allotted_in self }
         ensures some { 1 ≤ result }
@@ -204,7 +204,7 @@ impl Regions {
         }
     }
 
-    /// Puts a region behind them.
+    /// Appends a region.
     pub fn push(&mut self, region: Region)
         requires { length (regions_in self.old) < MAX_REGIONS }
         ensures { regions_in self.new ≡ regions_in self.old ++ region ∷ [] }

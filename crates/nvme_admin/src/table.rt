@@ -6,8 +6,8 @@ use nvme_arbiter::Settings;
 use nvme_entry::Sqe;
 use std::marker::Model;
 
-/// The queue table of a controller: its regions, its queues and its features. It keeps what stands,
-/// and no history. Nothing takes memory.
+/// The queue table of a controller: its regions, its queues and its features. It keeps what stands, and no
+/// history, and allocates nothing.
 #[derive(Drop)]
 pub struct Table {
     fields: TableFields,

@@ -15,7 +15,7 @@ pub struct SqEntry {
     pub closing: bool,
 }
 
-/// What an admin command comes to. All but `Done` mean success, and all but `Done` and `Abort` 0 as DW0.
+/// The effect of an admin command. All but `Done` mean success, and all but `Done` and `Abort` mean 0 as DW0.
 #[derive(Clone, Copy, Debug, PartialEq, Eq)]
 pub enum Verdict {
     /// Answer at once with this status and this DW0.
@@ -41,7 +41,7 @@ pub enum Verdict {
         qid: u16,
     },
     /// The oldest waiting command of the submission queue with this command identifier is to be aborted. DW0 of the
-    /// Abort is 0 where there was one, and 1 otherwise, which the table can't know.
+    /// Abort is 0 where there was one and 1 otherwise, which the table can't know.
     Abort {
         sqid: u16,
         cid: u16,

@@ -1,4 +1,4 @@
--- Worked examples, for which the definitions compute (NVM Express Base Specification, Command Arbitration).
+-- Worked examples, for which the definitions compute (Base Specification, Command Arbitration).
 use Rattle.std.specs.Prelude.{◌≡◌, ℕ, ◌-◌, ◌==◌, true, false, if◌then◌else◌, List, [], ◌∷◌, map, Option, Some, None}
 use Rattle.nvme_arbiter.specs.Settings.{ArbitrationFields, settings_of}
 use Rattle.nvme_arbiter.specs.History.{Picked, Changed, History}

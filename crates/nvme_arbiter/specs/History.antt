@@ -1,5 +1,5 @@
 -- What an arbitration history says. A history is a list of events, the newest first: `e ∷ past` is e after the events of `past`.
--- (NVM Express Base Specification, Command Arbitration; histories: profile)
+-- (Base Specification, Command Arbitration; histories: profile)
 use Rattle.std.specs.Prelude.{ℕ, ◌+◌, Bool, false, if◌then◌else◌, List, [], ◌∷◌, Option, Some, None}
 use Rattle.nvme_arbiter.specs.Settings.{ArbitrationFields}
 use Rattle.nvme_arbiter.specs.Observation.{is_class, class_in}

@@ -1,4 +1,4 @@
--- Lawful picks and lawful runs (NVM Express Base Specification, Command Arbitration).
+-- Lawful picks and lawful runs (Base Specification, Command Arbitration).
 use Rattle.std.specs.Prelude.{◌≡◌, List, [], ◌∷◌, Option, Some}
 use Rattle.nvme_arbiter.specs.Settings.{ArbitrationFields}
 use Rattle.nvme_arbiter.specs.Observation.{IsObservation}

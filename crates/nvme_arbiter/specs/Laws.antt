@@ -1,5 +1,5 @@
 -- Laws of lawful picks and lawful runs, which test the definitions.
--- (NVM Express Base Specification, Command Arbitration)
+-- (Base Specification, Command Arbitration)
 use Rattle.std.specs.Prelude.{◌≡◌, ◌≢◌, ◌↔◌, ℕ, ◌≤◌, ◌==◌, ◌++◌, true, List, [], find, Some, IsNone}
 use Rattle.nvme_arbiter.specs.Settings.{ArbitrationFields, burst_of, weight_of, IsLevel}
 use Rattle.nvme_arbiter.specs.Observation.{IsObservation, IsIdle, ready_of}

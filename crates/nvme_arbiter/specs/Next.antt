@@ -1,4 +1,4 @@
--- The next queue among some, by ascending identifier (round robin: NVM Express Base Specification, Command Arbitration; the ascending order: profile).
+-- The next queue among some, by ascending identifier (round robin: Base Specification, Command Arbitration; the ascending order: profile).
 use Rattle.std.specs.Prelude.{ℕ, nat_lt, if◌then◌else◌, List, [], ◌∷◌, filter, Option, Some, None}
 use Rattle.std.specs.Option.{option_or}
 use Rattle.nvme_arbiter.specs.declared.pick.Seen.{Seen}

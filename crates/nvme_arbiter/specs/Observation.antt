@@ -1,5 +1,5 @@
 -- What arbitration sees of the submission queues at one moment.
--- (NVM Express Base Specification, Command Arbitration; the limits: profile)
+-- (Base Specification, Command Arbitration; the limits: profile)
 use Rattle.std.specs.Prelude.{◌≡◌, ℕ, ◌<◌, ◌≤◌, ◌↔◌, ◌==◌, ◌&&◌, ◌+◌, Bool, true, false, nat_lt, nat_le, List, [], ◌∷◌, filter, find, option_map, Option, Some, None, All, AllPairs}
 use mathlib.Core.Bool.{beq}
 use Rattle.nvme_arbiter.specs.Limits.{highest_qid, highest_count}

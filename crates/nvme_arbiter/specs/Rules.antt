@@ -1,4 +1,4 @@
--- The rules of one pick: which queue is served, and how many of its commands are taken (NVM Express Base Specification, Command Arbitration).
+-- The rules of one pick: which queue is served, and how many of its commands are taken (Base Specification, Command Arbitration).
 use Rattle.std.specs.Prelude.{ℕ, ◌-◌, ◌==◌, min, Bool, true, false, nat_lt, if◌then◌else◌, List, Option, Some, None, option_map}
 use Rattle.std.specs.Option.{option_or}
 use Rattle.nvme_arbiter.specs.Settings.{ArbitrationFields, burst_of, weight_of}

@@ -1,4 +1,4 @@
--- The settings of Command Arbitration: NVM Express Base Specification, Arbitration feature (identifier 01h), CDW11.
+-- The settings of Command Arbitration: Base Specification, Arbitration feature (identifier 01h), CDW11.
 use Rattle.std.specs.Prelude.{◌≡◌, ℕ, ◌+◌, ◌*◌, ◌/◌, ◌%◌, ◌^◌, ◌<◌, ◌==◌, Option, Some, None, if◌then◌else◌, bit_and}
 use Rattle.nvme_arbiter.specs.declared.settings.Class.{Class}
 use Rattle.nvme_arbiter.specs.declared.settings.Class.TheVariants.{Admin, Urgent, High, Medium, Low}

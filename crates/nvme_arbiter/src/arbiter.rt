@@ -66,7 +66,7 @@ impl Arbiter {
     }
 
     /// The lawful pick after the picks and settings so far: the next queue, and how many of its commands are taken
-    /// (NVM Express Base Specification, Command Arbitration). `None` exactly where no command waits; it changes
+    /// (Base Specification, Command Arbitration). `None` exactly where no command waits; it changes
     /// nothing.
     pub fn pick(&mut self, seen: &[Seen]) -> Option<Pick>
         requires { IsObservation seen.now }

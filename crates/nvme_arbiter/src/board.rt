@@ -131,7 +131,7 @@ impl Board {
         self.kept.peek(&self.queues)
     }
 
-    /// The lawful pick for `seen()` after the picks and settings so far (NVM Express Base Specification, Command
+    /// The lawful pick for `seen()` after the picks and settings so far (Base Specification, Command
     /// Arbitration). As many commands of its queue wait no longer. `None` exactly where no command waits; it changes
     /// nothing.
     pub fn pick(&mut self) -> Option<Pick>

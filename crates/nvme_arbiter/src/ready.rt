@@ -2,8 +2,8 @@
 use crate::pick::Seen;
 use crate::settings::Class;
 
-/// Submission queues in the form in which a caller keeps them, of which the next ready one is found. Contracts see what
-/// they show, by ascending identifier. A queue is ready where a command of it waits.
+/// Submission queues in the form in which a caller keeps them, among which the next ready one is found. Contracts see
+/// what they show, by ascending identifier. A queue is ready where a command of it waits.
 pub trait ReadyQueues {
     ghost use Rattle.std.specs.Prelude.{◌≡◌, ◌&&◌, nat_lt, List, find};
     ghost use Rattle.std.specs.List.{filter};

@@ -1,4 +1,4 @@
-// The rules of one pick, by what is kept (NVM Express Base Specification, Command Arbitration).
+// The rules of one pick, by what is kept (Base Specification, Command Arbitration).
 use crate::kept::Kept;
 use crate::pick::Pick;
 use crate::ready::ReadyQueues;
@@ -14,7 +14,7 @@ impl Kept {
     ghost use Rattle.nvme_arbiter.specs.Standing.{StandsAt, pick_of, last_of, used_of, kept_after};
     ghost use Rattle.nvme_arbiter.specs.declared.settings.Mechanism.{Mechanism};
 
-    /// The lawful pick of these queues after the picks and settings so far (NVM Express Base Specification, Command
+    /// The lawful pick of these queues after the picks and settings so far (Base Specification, Command
     /// Arbitration), which is kept. `None` exactly where no command waits; it changes nothing.
     pub fn pick<Q: ReadyQueues>(&mut self, queues: &Q) -> Option<Pick>
         requires { IsObservation (Q.seen queues.now) }

@@ -1,7 +1,7 @@
-// The settings of Command Arbitration (NVM Express Base Specification, Arbitration feature).
+// The settings of Command Arbitration (Base Specification, Arbitration feature).
 use std::marker::Model;
 
-/// A priority class of submission queues (NVM Express Base Specification, Command Arbitration).
+/// A priority class of submission queues (Base Specification, Command Arbitration).
 #[derive(Clone, Copy, Debug, Default, PartialEq, Eq)]
 pub enum Class {
     /// The admin submission queue.
@@ -50,7 +50,7 @@ impl Class {
     }
 }
 
-/// An arbitration mechanism (NVM Express Base Specification, Command Arbitration).
+/// An arbitration mechanism (Base Specification, Command Arbitration).
 #[derive(Clone, Copy, Debug, PartialEq, Eq)]
 pub enum Mechanism {
     /// Round robin arbitration.

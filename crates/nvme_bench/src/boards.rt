@@ -30,8 +30,8 @@ pub fn come(board: &mut Board, qid: u16) {
     }
 }
 
-/// A board with so many queues, in each of which two commands wait: the I/O queues from identifier 1 on, and the admin
-/// queue where there is no other left.
+/// A board with this number of queues, in each of which two commands wait: the I/O queues from identifier 1 on, and the
+/// admin queue where there is no other left.
 pub fn ready_board(mechanism: Mechanism, queues: u16) -> Board {
     let mut board = Board::new(mechanism, Settings::from_cdw11(0));
     let first = if queues > HIGHEST_QID { 0 } else { 1 };
@@ -43,7 +43,7 @@ pub fn ready_board(mechanism: Mechanism, queues: u16) -> Board {
     board
 }
 
-/// Picks so often, each time with one command that comes again.
+/// Picks `count` times, each followed by one command that comes.
 pub fn pick_from_board(board: &mut Board, count: u32) {
     for _ in 0..count {
         if let Some(pick) = board.pick() {
@@ -62,7 +62,7 @@ fn pick_from_list(arbiter: &mut Arbiter, board: &Board, count: u32) {
     }
 }
 
-// The time of so many picks of a board with so many queues, and of an arbiter that is shown them.
+// The time of picks of a board with this number of queues, and of an arbiter that is shown them.
 fn times<R: Clock>(
     rt: &R,
     mechanism: Mechanism,
@@ -80,7 +80,7 @@ fn times<R: Clock>(
     Ok((board_took, list_took))
 }
 
-// Measures picks of one mechanism over so many queues.
+// Measures picks of one mechanism over this number of queues.
 fn measure_one<R: Clock + Eprint + Alloc>(
     rt: &R,
     yardstick: Yardstick,

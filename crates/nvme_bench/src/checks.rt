@@ -15,7 +15,7 @@ const QUEUES: u16 = 16;
 // How many picks a trace has that is checked over and over, at most.
 const PART: u32 = 10_000;
 
-// The trace of so many picks of a board, each with one command that comes again.
+// The trace of this number of picks of a board, each followed by one command that comes.
 fn trace_of(alloc: Global, mechanism: Mechanism, count: u32) -> Result<Vec<u8>> {
     let mut board = ready_board(mechanism, QUEUES);
     let mut log = Vec::new(alloc);
@@ -33,7 +33,7 @@ fn trace_of(alloc: Global, mechanism: Mechanism, count: u32) -> Result<Vec<u8>> 
     Ok(text)
 }
 
-// Checks a trace so often.
+// Checks a trace `times` times.
 fn check_often(alloc: Global, text: &[u8], times: u32) -> Result<()> {
     for _ in 0..times {
         let _ = check(alloc, text)?;
@@ -41,7 +41,7 @@ fn check_often(alloc: Global, text: &[u8], times: u32) -> Result<()> {
     Ok(())
 }
 
-// The time of so many checks of a trace, and of as many picks of a board.
+// The time of this number of checks of a trace, and of as many picks of a board.
 fn times<R: Clock + Alloc<A = Global>>(
     rt: &R,
     mechanism: Mechanism,

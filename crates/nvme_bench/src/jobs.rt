@@ -29,7 +29,7 @@ fn work<R: Wait>(rt: &R, lanes: &Lanes, mut worker: Worker, stop: &AtomicU64)
     }
 }
 
-// Hands so many jobs, and gains their results.
+// Hands over `count` jobs, and gains their results.
 fn lead<R: Wait>(rt: &R, lanes: &Lanes, mut seat: FrontSeat, count: u32, spaces: Namespaces)
     requires { seat.lane ≡ lanes.now }
 {
@@ -74,7 +74,7 @@ fn start<'s, E: 's, R: Wait + Sync + 's>(
     Ok(())
 }
 
-// So many jobs through so many workers.
+// `count` jobs through `workers` workers.
 fn run<R: Threads + Wait + Sync>(
     rt: &R,
     alloc: Global,

@@ -37,7 +37,7 @@ fn ready_queues() -> [Seen; 16] {
     seen
 }
 
-// Picks so often, and answers how many commands were taken.
+// Picks `count` times, and answers how many commands were taken.
 fn pick_often(arbiter: &mut Arbiter, seen: &[Seen], count: u32) -> u64 {
     if !is_observation(seen) {
         return 0;

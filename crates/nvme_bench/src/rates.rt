@@ -40,7 +40,7 @@ impl Yardstick {
         Ok(Yardstick { took })
     }
 
-    /// How many yardsticks one of so many took, in tenths.
+    /// How many yardsticks one of `count` took, in tenths.
     pub fn tenths(self, count: u32, took: Duration) -> u128 {
         let whole = took.as_nanos().saturating_mul(10 * u128::from(ITEMS));
         let each = self.took.as_nanos().saturating_mul(u128::from(count));

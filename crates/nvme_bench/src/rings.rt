@@ -7,7 +7,7 @@ use std::rt::Clock;
 use std::thread::{self, Threads};
 use std::time::Instant;
 
-// Puts so many items.
+// Puts `count` items.
 fn put_all(put: &mut PutEnd<u64>, count: u32) {
     let mut left = count;
     for _ in 0..u64::MAX {
@@ -22,7 +22,7 @@ fn put_all(put: &mut PutEnd<u64>, count: u32) {
     }
 }
 
-// Gets so many items, and answers their sum.
+// Gets `count` items, and answers their sum.
 fn get_all(get: &mut GetEnd<u64>, count: u32) -> u64 {
     let mut left = count;
     let mut sum = 0u64;

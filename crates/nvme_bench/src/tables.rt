@@ -39,7 +39,7 @@ fn full_table() -> Table {
     table
 }
 
-// Applies an entry so often.
+// Applies an entry `count` times.
 fn apply_often(table: &mut Table, entry: &Sqe, count: u32) {
     for _ in 0..count {
         let _ = table.apply(entry);

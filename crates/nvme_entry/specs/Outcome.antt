@@ -1,5 +1,5 @@
 -- The outcome of an I/O command: the status of the first check that it fails, or success.
--- (NVM Command Set, Flush, Write and Read; the order, and the broadcast identifier in Read and
+-- (NVM Command Set Specification, Flush, Write and Read; the order, and the broadcast identifier in Read and
 -- Write: profile)
 use Rattle.std.specs.Prelude.{ℕ, ◌+◌, ◌==◌, nat_lt, List, [], ◌∷◌, Bool, not, ◌&&◌, ◌||◌, is_none, unwrap_or}
 use Rattle.nvme_entry.specs.Checks.{Check, first_failed}

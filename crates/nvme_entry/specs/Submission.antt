@@ -27,10 +27,10 @@ abbrev pub fuse_of : Sqe → ℕ
 fuse_of entry = bits_of 1 0 entry.flags
 
 -- SLBA: Command Dword 10 is its low half, Command Dword 11 its high half.
--- (NVM Command Set, Read and Write)
+-- (NVM Command Set Specification, Read and Write)
 abbrev pub slba_of : Sqe → ℕ
 slba_of entry = entry.cdw10 + entry.cdw11 * 2 ^ 32
 
--- NLB: bits 15:00 of Command Dword 12, zero based. (NVM Command Set, Read and Write)
+-- NLB: bits 15:00 of Command Dword 12, zero based. (NVM Command Set Specification, Read and Write)
 abbrev pub nlb_of : Sqe → ℕ
 nlb_of entry = bits_of 15 0 entry.cdw12

@@ -4,7 +4,7 @@ ghost use Rattle.nvme_entry.specs.Namespaces.{size_at};
 use std::marker::Model;
 use thiserror::Error;
 
-/// How many namespaces there may be.
+/// The most namespaces that there can be.
 pub const MAX_NAMESPACES: usize = 16;
 
 /// The sizes of the namespaces in logical blocks, each at least 1: the first is that of namespace identifier 1.
@@ -31,7 +31,7 @@ impl Model for Namespaces {
     ghost inverse_ok = { λ n h i. record { sizes = take-padded n.sizes n.count h i; count = length-take-padded n.sizes n.count h i } };
 }
 
-/// Why sizes were not taken as those of namespaces.
+/// Why sizes are no sizes of namespaces.
 #[derive(Clone, Copy, Debug, PartialEq, Eq, Error)]
 pub enum SpaceError {
     /// There are more than `MAX_NAMESPACES` sizes.

@@ -7,7 +7,7 @@ use crate::namespaces::Namespaces;
 use crate::status::Status;
 use crate::submission::Sqe;
 
-// The opcodes of the I/O commands. (NVM Command Set, Opcodes for NVM Commands)
+// The opcodes of the I/O commands. (NVM Command Set Specification, Opcodes for NVM Commands)
 const FLUSH: u8 = 0x00;
 
 const WRITE: u8 = 0x01;
@@ -18,7 +18,8 @@ const READ: u8 = 0x02;
 const BROADCAST: u32 = 0xffff_ffff;
 
 /// The status of an I/O command over these namespaces: that of the first check that it fails, or
-/// success. Nothing is moved. (NVM Command Set, Flush, Write and Read; the order of the checks: profile)
+/// success. No data is moved.
+/// (NVM Command Set Specification, Flush, Write and Read; the order of the checks: profile)
 pub fn outcome(entry: &Sqe, spaces: &Namespaces) -> Status
     ensures { result ≡ outcome_of entry.now spaces.now }
 {

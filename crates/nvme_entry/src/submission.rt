@@ -106,7 +106,7 @@ impl Sqe {
     }
 
     /// The starting logical block of a Read or Write.
-    /// (NVM Command Set, Read and Write, Command Dwords 10 and 11)
+    /// (NVM Command Set Specification, Read and Write, Command Dwords 10 and 11)
     pub fn slba(&self) -> u64
         ensures { result ≡ slba_of self.now }
     {
@@ -114,7 +114,7 @@ impl Sqe {
     }
 
     /// The number of logical blocks of a Read or Write, less 1.
-    /// (NVM Command Set, Read and Write, Command Dword 12)
+    /// (NVM Command Set Specification, Read and Write, Command Dword 12)
     pub fn nlb(&self) -> u16
         ensures { result ≡ nlb_of self.now }
     {

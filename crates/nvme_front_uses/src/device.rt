@@ -95,9 +95,8 @@ impl Device {
         self.front.is_clear() && self.drainer.items().len() == self.feeder.script().len()
     }
 
-    /// Makes rounds until the front is clear and all was collected, which it answers with true, or until so many were
-    /// made. Whatever it answers, what was done stands, and a later call goes on from there. It may wait for another
-    /// thread.
+    /// Makes at most `rounds` rounds, and answers true once the front is clear and all was collected. Whatever it
+    /// answers, what was done stands, and a later call goes on from there. It may wait for another thread.
     pub fn serve<R: Wait>(&mut self, rt: &R, rounds: u32) -> Result<bool, FrontError>
         ensures goes_on { GoesOn self.old.front self.new.front }
         ensures account { 0 < rounds → AccountsForEnds self.new.front }
@@ -114,7 +113,7 @@ impl Device {
         Ok(false)
     }
 
-    /// Ends the device. What is left keeps the promise of a run. Where work is outstanding or memory was refused the
+    /// Ends the device. What it answers keeps the promise of a run. Where work is outstanding or memory was refused, the
     /// device is dropped. It may wait for another thread.
     pub fn settle<R: Wait>(self, rt: &R, alloc: Global) -> Result<Settled, SettleError>
         ensures log { IfOk result (λ s. s.log.items ≡ self.front.log) }

@@ -9,7 +9,7 @@ use thiserror::Error;
 /// Why a text is no submission entry.
 #[derive(Clone, Copy, Debug, PartialEq, Eq, Error)]
 pub enum OnceError {
-    /// It hasn't 128 bytes, a final newline aside.
+    /// It doesn't have 128 bytes, a final newline aside.
     #[error("entry: not 128 digits")]
     Length,
     /// One of its 128 bytes is no hexadecimal digit.

@@ -16,7 +16,7 @@ pub const MAX_READS: u32 = 67_108_864;
 // How many bytes one read asks for.
 const CHUNK: usize = 16_384;
 
-/// Why an input was not taken.
+/// Why an input was refused.
 #[derive(Clone, Copy, Debug, PartialEq, Eq, Error)]
 pub enum InputError {
     /// A read failed, or `MAX_READS` reads were made without an end.
@@ -31,8 +31,8 @@ pub enum InputError {
 }
 
 /// All bytes of the reader up to its end. At each read a failure is found first, then a length over
-/// `MAX_INPUT`, then want of memory. A read that a signal interrupts is made again. It ends after at most `MAX_READS`
-/// reads.
+/// `MAX_INPUT`, then refused memory. A read that a signal interrupts is made again. It ends after at most
+/// `MAX_READS` reads.
 pub fn take_input<R: Read + Drop>(alloc: Global, reader: R) -> Result<Vec<u8>, InputError>
     ensures whole { IfOk result (λ bytes. IfSome (R.remaining reader) (λ rest. bytes.items ≡ rest)) }
     ensures within { IfOk result (λ bytes. length bytes.items ≤ MAX_INPUT) }

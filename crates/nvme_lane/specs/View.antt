@@ -1,4 +1,4 @@
--- What a contract sees of the two ends of a ring, which stands for a submission or a completion queue in memory (NVM Express Base Specification, Submission Queue and Completion Queue: one producer, one consumer).
+-- What a contract sees of the two ends of a ring, which stands for a submission or a completion queue in memory (Base Specification, Submission Queue and Completion Queue: one producer, one consumer).
 use Rattle.std.specs.Prelude.{◌≡◌, ℕ, List}
 use Rattle.std.specs.Global.{Global}
 use denote.RawPtr.{Ptr}

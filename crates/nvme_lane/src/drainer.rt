@@ -1,4 +1,4 @@
-//! What drives the end of a ring that gets, into a list.
+//! Drives the get end of a ring, and keeps what it gets in a list.
 ghost use Rattle.std.specs.Prelude.{◌≡◌};
 
 use crate::errors::NoMemory;
@@ -7,8 +7,8 @@ use crate::put_end::PutEnd;
 use crate::resting::beside;
 use std::alloc::Global;
 
-/// An end that gets, with the list of what it gave. Its type keeps that the list is all that was got,
-/// wherever the drainer comes from.
+/// A get end, with the list of what it got. Its type keeps that the list is all that was got, wherever
+/// the drainer comes from.
 #[derive(Drop)]
 pub struct Drainer<T: Copy> {
     items: Vec<T>,
@@ -35,9 +35,9 @@ impl<T: Copy> Drainer<T> {
         }
     }
 
-    /// Takes the next item: true where one was taken, false where none was found, never while an item is
-    /// `known`. Room is made first, so `NoMemory` loses nothing: nothing changed, and a later call takes
-    /// the item that was next.
+    /// Takes the next item. True where one was taken, false where none was found, which never happens while
+    /// an item is `known`. Room is made first, so `NoMemory` changes nothing, and a later call takes the
+    /// item that was next.
     pub fn take(&mut self) -> Result<bool, NoMemory>
         ensures ring { SameGet (get_of self.old) (get_of self.new) }
         ensures took { IfOk result (λ b. IsTrue b → (x : T) × (items_of self.new ≡ items_of self.old ++ x ∷ []) × (0 < length (get_of self.old).known → (get_of self.old).known ≡ x ∷ (get_of self.new).known)) }

@@ -1,4 +1,4 @@
-//! What rings and lanes answer in place of what was asked.
+//! The refusals of rings and lanes.
 use thiserror::Error;
 
 /// Why no ring or lane was made.

@@ -1,4 +1,4 @@
-//! What drives the end of a ring that puts, from a script.
+//! Drives the put end of a ring from a script.
 ghost use Rattle.std.specs.Prelude.{◌≡◌, ◌≤◌, length, take};
 
 use crate::errors::Full;
@@ -17,7 +17,7 @@ pub enum Feed {
     Done,
 }
 
-/// An end that puts, with the script that it sends. Its type keeps that what was sent is the first
+/// A put end, with the script that it sends. Its type keeps that what was sent is the first
 /// `count` items of the script, wherever the feeder comes from.
 #[derive(Drop)]
 pub struct Feeder<T: Copy> {
@@ -49,8 +49,8 @@ impl<T: Copy> Feeder<T> {
         }
     }
 
-    /// Puts the next item of the script, where there is one and the ring takes it. `Full` never while
-    /// `free` is above 0, `Done` exactly where the whole script was sent; both change nothing.
+    /// Puts the next item of the script, where there is one and the ring takes it. `Full`, which never
+    /// happens while `free` is above 0, and `Done`, exactly where the whole script was sent, change nothing.
     pub fn step(&mut self) -> Feed
         ensures script { script_of self.new ≡ script_of self.old }
         ensures ring { SamePut (put_of self.old) (put_of self.new) }

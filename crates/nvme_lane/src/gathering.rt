@@ -10,9 +10,8 @@ use crate::rule::{Cut, Hand, Total};
 use crossbeam_queue::Pass;
 use std::sync::Wait;
 
-/// Ends a lane, and answers how many items are left in it, which are dropped, at most its capacity. Each
-/// item was pushed, over all passes, as often as it was popped, over all passes, plus as often as it was
-/// left.
+/// Ends a lane, drops the items that are left in it, and answers how many there are, at most its capacity.
+/// Over all passes, each item was pushed as often as it was popped plus as often as it was left.
 pub fn gather<T: Copy, R: Wait>(
     rt: &R,
     lane: Lane<T>,

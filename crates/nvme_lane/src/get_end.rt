@@ -1,8 +1,8 @@
-//! The end of a ring that gets. It may move to a thread of its own, and no call on it waits for the other end.
+//! The get end of a ring. It may move to a thread of its own, and no call on it waits for the other end.
 use rtrb::{Consumer, PopError};
 use std::marker::Model;
 
-/// The end of a ring that gets. Contracts see the list of all that it got (`got`), the items that it
+/// The get end of a ring. Contracts see the list of all that it got (`got`), the items that it
 /// knows to come next (`known`), and the address, the slots and the ring that it is an end of.
 #[derive(Drop)]
 pub struct GetEnd<T: Copy> {
@@ -30,8 +30,8 @@ impl<T: Copy> GetEnd<T> {
     ghost use Rattle.nvme_lane.specs.Limits.{min_slots, max_slots};
     ghost use Rattle.nvme_lane.specs.View.{SameGet};
 
-    /// Gets the oldest item that was put and not got. None where no item was found, never while an item
-    /// is `known`; nothing changed then.
+    /// Gets the oldest item that was put and not got. `None`, which changes nothing, where no item was found:
+    /// never while an item is `known`.
     pub fn get(&mut self) -> Option<T>
         ensures ring { SameGet self.old self.new }
         ensures got { IfSome result (λ x. self.new.got ≡ self.old.got ++ x ∷ []) }
@@ -49,8 +49,8 @@ impl<T: Copy> GetEnd<T> {
         }
     }
 
-    /// Gets as many items as there are into the beginning of a slice, in order, and no more than it has
-    /// places for. The answer is how many. Fewer than that only where the ring was then found empty.
+    /// Gets items into the beginning of a slice, in order, until the slice is full or the ring is found empty.
+    /// Answers how many.
     pub fn get_some(&mut self, items: &mut [T]) -> usize
         ensures ring { SameGet self.old self.new }
         ensures few { result ≤ length items.old }

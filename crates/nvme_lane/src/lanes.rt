@@ -48,7 +48,7 @@ impl<T: Copy> Lane<T> {
         }
     }
 
-    /// Pops an item. None where the lane was found empty; the pass is unchanged then. It may wait for
+    /// Pops an item. `None` where the lane was found empty; the pass is unchanged then. It may wait for
     /// another thread.
     pub fn pop<R: Wait>(&self, rt: &R, pass: &mut PopPass<T>) -> Option<T>
         requires { pass.old.lane ≡ self.now }

@@ -1,6 +1,6 @@
-//! Queues between threads: rings with one end that puts and one that gets, by which hosts and the
-//! controller exchange entries, the feeders and drainers that drive a host's ends, and lanes with
-//! several producers and several consumers, by which workers take their jobs.
+//! Queues between threads: rings with a put end and a get end, through which hosts and the controller
+//! exchange entries; feeders and drainers, which drive a host's ends; and lanes with several producers
+//! and several consumers, from which workers take their jobs.
 #![tactic(auto)]
 
 mod drainer;

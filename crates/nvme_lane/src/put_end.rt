@@ -1,9 +1,9 @@
-//! The end of a ring that puts. It may move to a thread of its own, and no call on it waits for the other end.
+//! The put end of a ring. It may move to a thread of its own, and no call on it waits for the other end.
 use crate::errors::Full;
 use rtrb::{Producer, PushError};
 use std::marker::Model;
 
-/// The end of a ring that puts. Contracts see the list of all that it put (`sent`), how many places it
+/// The put end of a ring. Contracts see the list of all that it put (`sent`), how many places it
 /// knows to be free (`free`), and the address, the slots and the ring that it is an end of.
 #[derive(Drop)]
 pub struct PutEnd<T: Copy> {
@@ -32,8 +32,8 @@ impl<T: Copy> PutEnd<T> {
     ghost use Rattle.nvme_lane.specs.Limits.{min_slots, max_slots};
     ghost use Rattle.nvme_lane.specs.View.{SamePut};
 
-    /// Puts an item after those put before. `Full` hands the item back where no place was found free,
-    /// never while `free` is above 0; nothing changed then.
+    /// Puts an item after those put before. `Full`, which changes nothing, hands the item back where no place
+    /// was found free: never while `free` is above 0.
     pub fn put(&mut self, item: T) -> Result<(), Full<T>>
         ensures ring { SamePut self.old self.new }
         ensures sent { OnOk result (self.new.sent ≡ self.old.sent ++ item ∷ []) }
@@ -53,8 +53,8 @@ impl<T: Copy> PutEnd<T> {
         }
     }
 
-    /// Puts as many items from the beginning of a slice as there is room for, in order, after those put
-    /// before. The answer is how many. Fewer than all only where the ring was then found full.
+    /// Puts items from the beginning of a slice, in order, after those put before, until all are put or the
+    /// ring is found full. Answers how many.
     pub fn put_some(&mut self, items: &[T]) -> usize
         ensures ring { SamePut self.old self.new }
         ensures few { result ≤ length items.now }

@@ -7,8 +7,8 @@ ghost use Rattle.nvme_lane.specs.View.{IsPair, SamePut, SameGet};
 use crate::get_end::GetEnd;
 use crate::put_end::PutEnd;
 
-/// The number of items that were put into a ring and not got. They are then known to the end that gets,
-/// which gives just these next, in order, and the end that puts knows how many places are free, no fewer than it knew.
+/// The number of items that were put into a ring and not got. Afterwards the get end knows them, and gets just
+/// these next, in order, and the put end knows how many places are free, no fewer than before.
 pub fn beside<T: Copy>(put: &mut PutEnd<T>, get: &mut GetEnd<T>) -> u16
     requires { IsPair put.old get.old }
     ensures put_ring { SamePut put.old put.new }

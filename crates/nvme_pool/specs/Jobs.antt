@@ -1,4 +1,4 @@
--- The result of a job. The status is the outcome of the entry over the namespaces. (NVM Command Set, Flush, Write and Read)
+-- The result of a job. The status is the outcome of the entry over the namespaces. (NVM Command Set Specification, Flush, Write and Read)
 use Rattle.std.specs.Prelude.{refl}
 use Rattle.nvme_entry.specs.Outcome.{outcome_of}
 use Rattle.nvme_entry.specs.Status.{StatusCode}

@@ -16,9 +16,9 @@ use nvme_lane::{GetEnd, PopPass, beside, gather};
 use std::alloc::Global;
 use std::sync::Wait;
 
-/// Closes a pool, and answers how many jobs, at most its lane's capacity, and how many results are left,
-/// which are dropped. `NoMemory`
-/// hands all back, unchanged, before anything is joined. It may wait for another thread.
+/// Closes a pool, drops the jobs and the results that are left, and answers how many of each there are, at
+/// most its lane's capacity of jobs. `NoMemory` hands all back, unchanged, before anything is joined. It may
+/// wait for another thread.
 pub fn close<R: Wait>(
     rt: &R,
     alloc: Global,

@@ -1,8 +1,8 @@
-//! What is told of each execution.
+//! Gates, which are told of each execution.
 ghost use Rattle.std.specs.Prelude.{◌≡◌, ℕ};
 
-/// It is told of each execution, before and after. Contracts see a gate as a value, its view; what it
-/// waits for stands outside that view.
+/// It is told of each execution, before and after. Contracts see a gate as a value, its view. What it waits
+/// for isn't in that view.
 pub trait Gate {
     /// The view after `enter`, by the view before it and the ticket.
     ghost entered: { Self → ℕ → Self };

@@ -4,7 +4,7 @@ ghost use Rattle.nvme_entry.specs.Outcome.{outcome_of};
 
 use nvme_entry::{Namespaces, Sqe, Status, outcome};
 
-/// The whole of what a worker needs to execute an I/O command.
+/// All that a worker needs to execute an I/O command.
 #[derive(Clone, Copy, Debug, PartialEq, Eq)]
 pub struct Job {
     /// Which job it is. The front counts them from 0.

@@ -1,5 +1,5 @@
-//! What the caller of a close knows where nothing is left, and what many steps of a worker come to. The
-//! functions do nothing: their contracts are the laws.
+//! Laws of a close that leaves nothing, and of many steps of a worker. The functions do nothing: their
+//! contracts are the laws.
 ghost use Rattle.std.specs.Prelude.{◌≡◌, ℕ, List, map, sum_by};
 ghost use Rattle.std.specs.List.{All};
 ghost use Rattle.nvme_lane.specs.View.{GetView};

@@ -1,5 +1,5 @@
-//! The workers that execute I/O commands: the front hands jobs over one lane, each worker takes jobs
-//! from it, executes them, and gives their results to a ring of its own, from which the front gains them.
+//! The workers that execute I/O commands. The front hands over jobs on one lane. Each worker takes jobs from
+//! it, executes them, and gives their results to a ring of its own, from which the front gains them.
 #![tactic(auto)]
 
 mod closing;

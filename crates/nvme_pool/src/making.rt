@@ -17,7 +17,7 @@ use nvme_lane::{GetEnd, LaneError, PopPass, lane, ring};
 use std::alloc::Global;
 use thiserror::Error;
 
-/// Why no pool was made, or none was closed.
+/// Why a pool wasn't made, or wasn't closed.
 #[derive(Clone, Copy, PartialEq, Eq, Debug, Error)]
 pub enum PoolError {
     /// The number of workers is outside 1 to `MAX_WORKERS`. Nothing was made.
@@ -28,8 +28,8 @@ pub enum PoolError {
     NoMemory,
 }
 
-/// The lanes, the front's seat and the workers of a pool, whose lane holds `JOB_CAPACITY` jobs. `Workers` exactly where their number is outside
-/// 1 to `MAX_WORKERS`; `NoMemory` where an allocation was refused.
+/// The lanes, the front's seat and the workers of a pool, whose lane holds `JOB_CAPACITY` jobs. `Workers`
+/// exactly where their number is outside 1 to `MAX_WORKERS`; `NoMemory` where an allocation was refused.
 pub fn pool(alloc: Global, workers: u8) -> Result<(Lanes, FrontSeat, Vec<Worker>), PoolError>
     ensures workers { (result ≡ Err PoolError.Workers) ↔ IsOutside workers 1 max_workers }
     ensures count { IfOk result (λ r. vec_len r.2 ≡ workers) }

@@ -29,8 +29,8 @@ impl FrontSeat {
     ghost use Rattle.std.specs.List.{All};
     ghost use Rattle.nvme_pool.specs.Seat.{SameSeat, IsUnknown, OneGained};
 
-    /// Hands a job to the workers. `Full` hands it back where the lane was found full; nothing changed
-    /// then. It may wait for another thread.
+    /// Hands a job to the workers. `Full`, which changes nothing, hands it back where the lane was found full.
+    /// It may wait for another thread.
     pub fn hand<R: Wait>(&mut self, rt: &R, lanes: &Lanes, job: Job) -> Result<(), Full<Job>>
         requires { self.old.lane ≡ lanes.now }
         ensures same { SameSeat self.old self.new }
@@ -42,8 +42,8 @@ impl FrontSeat {
         lanes.jobs.push(rt, &mut self.jobs, job)
     }
 
-    /// Gains a result of the first worker whose ring gives one. None where no ring gives one, never while
-    /// an end knows a result; nothing changed then.
+    /// Gains a result from the first worker whose ring gives one. `None`, which changes nothing, where no ring
+    /// gives one: never while an end knows a result.
     pub fn gain(&mut self, _lanes: &Lanes) -> Option<Finished>
         requires { self.old.lane ≡ _lanes.now }
         ensures same { SameSeat self.old self.new }

@@ -1,4 +1,4 @@
--- What a drive answers where it comes to nothing (profile).
+-- What a drive answers where it fails (profile).
 use Rattle.std.specs.Prelude.{◌≡◌, ◌⊎◌, false}
 use Rattle.nvme_state.specs.JobAccount.{AccountsForJobs}
 use Rattle.nvme_front.specs.View.{FrontView, GoesOn, AccountsForEnds, ErrorMeans, past_in}
@@ -31,7 +31,7 @@ pub record TurnFails (given : FrontView) (e : FrontError) : Type 0 where
   pub accounts : Accounts after
   pub means : ErrorMeans e before after
 
--- a fault of the front is that of a turn. Want of memory is told as such, and never as a fault of the front
+-- a fault of the front is that of a turn. Refused memory is told as such, and never as a fault of the front
 abbrev pub IsDriveFault : FrontView → DriveError → Type 0
 IsDriveFault given drive.NoMemory = Unit {0}
 IsDriveFault given (drive.Front front.NoMemory) = ⊥

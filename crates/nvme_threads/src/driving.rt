@@ -1,4 +1,4 @@
-//! A whole drive.
+//! A drive: a front, its hosts and its workers on threads, from the first turn to the last.
 ghost use Rattle.std.specs.Prelude.{◌≡◌, ◌<◌, ◌⊎◌, Ok, Err, true, length, map, vec_len, IfOk, IfErr};
 ghost use Rattle.nvme_pool.specs.Pool.{IsPool};
 ghost use Rattle.nvme_front.specs.View.{GoesOn};
@@ -31,13 +31,13 @@ pub enum Feeding {
     Meanwhile,
 }
 
-/// Why a drive came to nothing. All threads are joined, and all that was driven is dropped.
+/// Why a drive failed. All threads are joined, and all that was driven is dropped.
 #[derive(Clone, Copy, Debug, PartialEq, Eq, Error)]
 pub enum DriveError {
     /// Memory was refused, or a thread couldn't be started.
     #[error("out of memory")]
     NoMemory,
-    /// A turn of the front failed so, and not for want of memory.
+    /// A turn of the front failed so, and memory wasn't the reason.
     #[error("front: {0}")]
     Front(FrontError),
 }
@@ -195,7 +195,7 @@ fn put_together<G: Gate + Drop>(
     Ok((parts, gates))
 }
 
-// The parts and the gates of what was driven, unless the drive came to nothing.
+// The parts and the gates of what was driven, unless the drive failed.
 fn given_back<G: Gate + Drop>(
     alloc: Global,
     shared: Shared,
@@ -218,10 +218,10 @@ fn given_back<G: Gate + Drop>(
 
 /// Drives a front with its hosts and its workers: each feeder, each drainer and each worker on a thread of its own, each
 /// worker with the gate at its place, and the front's turns on the calling thread. With `Feeding::Before` no thread is
-/// started for a feeder, and none submits. It ends where the front is clear after a turn that could do nothing and was
-/// begun when all feeders had ended, or after `patience` turns in a row that could do nothing, or where a turn failed or
-/// memory was refused. All threads are joined before it answers. A front that began with the whole scripts in its rings,
-/// and knew it, is one still. It may wait for another thread.
+/// started for a feeder, and none submits. It stops after an idle turn that began when all feeders had ended, if the
+/// front is clear; or after `patience` idle turns in a row; or where a turn failed or memory was refused. All threads
+/// are joined before it answers. A front that began with the whole scripts in its rings, and knew it, is one still. It
+/// may wait for another thread.
 pub fn drive<G: Gate + Send + Drop, R: Threads + Wait + Sync>(
     rt: &R,
     alloc: Global,

@@ -20,7 +20,7 @@ pub struct Flags {
 }
 
 impl Flags {
-    /// No feeder of so many has ended, and nothing was told.
+    /// Flags for this number of feeders: none has ended, and nothing was told.
     pub fn new(alloc: Global, feeders: usize) -> Result<Flags, AllocError> {
         let mut unfed = Vec::new(alloc);
         for _ in 0..feeders {
@@ -50,24 +50,24 @@ impl Flags {
         self.fed.store(self.feeders, Ordering::SeqCst);
     }
 
-    /// All feeders have ended.
+    /// Whether all feeders have ended.
     pub fn are_all_fed(&self) -> bool {
         self.fed.load(Ordering::SeqCst) >= self.feeders
     }
 
-    /// The feeder of the admin queue has ended.
+    /// Whether the feeder of the admin queue has ended.
     pub fn is_admin_fed(&self) -> bool {
         self.admin_fed.load(Ordering::SeqCst)
     }
 
-    /// The feeder of a region is to end.
+    /// Tells the feeder of a region to end.
     pub fn stop_feeding(&self, region: usize) {
         if let Some(flag) = self.unfed.get(region) {
             flag.store(true, Ordering::SeqCst);
         }
     }
 
-    /// The feeder of a region is to end.
+    /// Whether the feeder of a region is to end.
     pub fn is_unfed(&self, region: usize) -> bool {
         let is_told = self
             .unfed
@@ -76,13 +76,13 @@ impl Flags {
         is_told || self.is_over()
     }
 
-    /// Every thread is to end.
+    /// Tells every thread to end.
     pub fn end(&self) {
         self.over.store(1, Ordering::SeqCst);
         self.over.wake_all();
     }
 
-    /// Every thread is to end.
+    /// Whether every thread is to end.
     pub fn is_over(&self) -> bool {
         self.over.load(Ordering::SeqCst) > 0
     }
@@ -92,12 +92,12 @@ impl Flags {
         &self.over
     }
 
-    /// A thread was refused memory, or couldn't be started.
+    /// Tells that a thread was refused memory, or couldn't be started.
     pub fn tell_starved(&self) {
         self.starved.store(true, Ordering::SeqCst);
     }
 
-    /// A thread was refused memory, or couldn't be started.
+    /// Whether a thread was refused memory, or couldn't be started.
     pub fn is_starved(&self) -> bool {
         self.starved.load(Ordering::SeqCst)
     }

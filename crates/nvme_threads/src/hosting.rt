@@ -97,7 +97,7 @@ fn join_feeders<R: Threads>(rt: &R, feeders: Feeders) -> Joined<Feeder<Sqe>>
     }
 }
 
-// All three.
+// Whether all three are so.
 fn are_all(first: bool, second: bool, third: bool) -> bool
     ensures { result ≡ true → (first ≡ true) × (second ≡ true) × (third ≡ true) }
 {

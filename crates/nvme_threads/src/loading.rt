@@ -69,7 +69,7 @@ fn in_threads<R: Threads + Wait + Sync>(
     )
 }
 
-/// Submits the scripts of rings, each feeder on a thread of its own, and joins the threads. It waits for ever where a
+/// Submits the scripts of rings, each feeder on a thread of its own, and joins the threads. It never returns where a
 /// script has more commands than its ring holds. The lanes, which no feeder uses, and the rings come back in order;
 /// where memory is refused or a thread can't be started, all threads are joined and all is dropped.
 pub fn load<R: Threads + Wait + Sync>(

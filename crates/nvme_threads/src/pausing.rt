@@ -13,7 +13,7 @@ const HOST_SLEEPS: [u64; 5] = [1, 50, 100, 200, 400];
 // How many commands or completions a host moves after a sleep that is long enough.
 const ENOUGH: u32 = 32;
 
-// Sleeps so many microseconds, or until all is over.
+// Sleeps for this number of microseconds, or until all is over.
 fn sleep<R: Wait>(rt: &R, flags: &Flags, micros: u64) {
     flags
         .until_over()
@@ -48,7 +48,7 @@ impl Pause {
         self.sleep = 1;
     }
 
-    /// Waits a while.
+    /// Spins, or sleeps.
     pub fn rest<R: Wait>(&mut self, rt: &R, flags: &Flags) {
         if self.spins < SPINS {
             self.spins += 1;
@@ -110,7 +110,7 @@ impl HostPause {
         length.min(HOST_SLEEPS.len() - 1)
     }
 
-    /// Waits a while.
+    /// Spins, or sleeps.
     pub fn rest<R: Wait>(&mut self, rt: &R, flags: &Flags) {
         if self.spins < SPINS {
             self.spins += 1;

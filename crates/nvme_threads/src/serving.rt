@@ -38,7 +38,7 @@ impl Quiet {
         }
     }
 
-    // After a turn that could do nothing: whether it was the last. If not, it waits a while.
+    // After an idle turn: whether it was the last. If not, it pauses.
     fn is_last<R: Wait>(
         &mut self,
         rt: &R,
@@ -123,9 +123,8 @@ fn turn<R: Wait>(
     Ok(quiet.ends(rt, front, step, fed, &shared.flags))
 }
 
-/// Makes turns of the front, unless a thread was refused memory: until it is clear after a turn that could do nothing and
-/// was begun when all feeders had ended, or until so many turns in a row could do nothing, or a turn fails, or a thread was
-/// refused memory.
+/// Makes turns of the front, unless a thread was refused memory: until an idle turn that began when all feeders had ended
+/// leaves the front clear, or `patience` turns in a row were idle, or a turn fails, or a thread was refused memory.
 pub fn serve<R: Wait>(
     rt: &R,
     front: &mut Front,

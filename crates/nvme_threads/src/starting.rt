@@ -35,7 +35,7 @@ fn start_one<'s, E: 's, T: Task + Send + Drop + 's, R: Wait + Sync + 's>(
     }
 }
 
-// Room for the threads of so many tasks, and for what they give back.
+// Room for the threads of this number of tasks, and for what they give back.
 fn room<T: Task + Drop>(
     alloc: Global,
     number: usize,

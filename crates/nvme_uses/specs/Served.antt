@@ -1,4 +1,4 @@
--- What a board served of its queues (NVM Express Base Specification, Command Arbitration).
+-- What a board served of its queues (Base Specification, Command Arbitration).
 use Rattle.std.specs.Prelude.{◌≡◌, ℕ, ◌+◌, ◌==◌, if◌then◌else◌, List, [], ◌∷◌, Option, Some, None, reverse}
 use Rattle.nvme_arbiter.specs.Settings.{ArbitrationFields}
 use Rattle.nvme_arbiter.specs.History.{History, Picked, Changed}

@@ -43,7 +43,7 @@ pub fn doorbell(board: &mut Board, qid: u16, new: u16) -> bool
 }
 
 /// Takes commands until none waits, in at most `most` picks, and appends the picks. What came of each queue was taken or
-/// waits still, and each pick is the lawful one of what waited. Where memory is refused nothing is lost.
+/// still waits, and each pick is the lawful one of what waited. Where memory is refused, nothing is lost.
 pub fn serve(board: &mut Board, most: u32, picks: &mut Vec<Pick>) -> Result<(), AllocError>
     ensures served { (mechanism : Mechanism) (first : ArbitrationFields) (came : ℕ → ℕ) → HasServed mechanism first came picks.old.items board.old → HasServed mechanism first came picks.new.items board.new }
     ensures to_end { OnOk result (IsIdle (seen_of board.new.queues) ⊎ (length picks.new.items ≡ length picks.old.items + most)) }

@@ -1,4 +1,4 @@
-// The uses, played.
+// The use, played.
 use crate::board::{doorbell, opened, serve};
 use nvme_arbiter::{Pick, Settings};
 use std::test::*;

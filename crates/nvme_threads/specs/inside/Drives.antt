@@ -68,7 +68,7 @@ module _ {G : Type 0} (runs : G → ℕ → G) where
     pub drainers : map drainer_seen back.drainers.items ≡ map drainer_seen hosts.drainers.items
     pub crew : AllZip (λ (c d : Crewman G). Ran runs c.worker c.gate d.worker d.gate) hosts.crew.items back.crew.items
 
-  -- the front went on, and all that ran beside it came back, unless the drive came to nothing, which had its cause
+  -- the front went on, and all that ran beside it came back, unless the drive failed, which had its cause
   pub record Drove {U : Type 0} (driven back : Driven G) (ended : Result U DriveError) : Type 0 where
     pub front : GoesOn driven.front back.front
     pub loaded : StaysLoaded driven.front back.front
