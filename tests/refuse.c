@@ -1,3 +1,4 @@
+// SPDX-License-Identifier: MIT
 /* Loaded before a program: refuses memory and threads.
 
      REFUSE_NTH=N    refuses allocation N, counted from 1, and no other

@@ -1,3 +1,4 @@
+# SPDX-License-Identifier: MIT
 """What the tests over the built program share: rows that are counted, and small libraries that are loaded before it."""
 import os
 import shutil

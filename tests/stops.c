@@ -1,3 +1,4 @@
+// SPDX-License-Identifier: MIT
 /* Loaded before a program: stops its threads for a while, wherever they are. A signal has a thread go on instruction by
    instruction; at one of the program's own it sleeps. On x86-64 under Linux alone.
 

@@ -1,3 +1,4 @@
+// SPDX-License-Identifier: MIT
 /* Loaded before a program: changes what its standard input gives and its standard output takes.
 
      TAKE_ALL=N    the output takes N bytes in all, and then fails
