@@ -12,13 +12,13 @@ use Rattle.nvme_admin.proofs.Slots.{other}
 use Rattle.nvme_arbiter.specs.Bits.{IsLowest}
 use Rattle.nvme_arbiter.specs.Limits.{highest_qid, highest_count, queue_limit}
 use Rattle.nvme_arbiter.specs.Settings.{number_of_class}
-use Rattle.nvme_arbiter.specs.Observation.{IsSeen, is_class, is_wanted}
+use Rattle.nvme_arbiter.specs.Observation.{IsObservation, IsSeen, is_class, is_wanted}
 use Rattle.nvme_arbiter.specs.Queues.{seen_as, seen_from, seen_of, queue_at, passes, FitsUnder}
 use Rattle.nvme_arbiter.specs.declared.settings.Class.{Class}
 use Rattle.nvme_arbiter.specs.declared.settings.Class.TheVariants.{Admin, Urgent, High, Medium, Low}
 use Rattle.nvme_arbiter.specs.declared.pick.OpenQueue.{OpenQueue}
 use Rattle.nvme_arbiter.specs.declared.pick.Seen.{Seen}
-use Rattle.nvme_arbiter.proofs.MaskLemmas.{bit_at_above_of}
+use Rattle.nvme_arbiter.proofs.MaskLemmas.{bit_at_above_of, observed_of}
 use Rattle.nvme_capi.specs.States.{is_arbiter, is_mechanism, are_places}
 use Rattle.nvme_capi.specs.declared.board.BoardFields.{BoardFields}
 use Rattle.nvme_capi.specs.declared.board.TheConstants.{MARK}
@@ -93,6 +93,10 @@ fits b q = elim (cases_lt q queue_limit) [
   | inl l ↦ subst (FitsUnder q) (sym (slot-at b q l)) (fit-slot b q (slice_index_or b.places q closed) (omega arith))
   | inr g ↦ subst (FitsUnder q) (sym (none-past b q g)) tt
 ]
+
+-- so the queues of a board are an observation, whatever its numbers are
+pub observed : (b : QueuesFields) → IsObservation (seen_of (slots_in b))
+observed b = observed_of (slots_in b) (fits b)
 
 -- what the arbiter of a board keeps has a mechanism
 pub board-mechanism : (b : BoardFields) → is_board b ≡ true → IsTrue (is_mechanism b.arbiter.mechanism)

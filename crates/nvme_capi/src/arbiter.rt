@@ -1,9 +1,10 @@
 // The arbiter over a state of the caller's.
 ghost use Rattle.std.specs.Prelude.{◌≡◌, ◌≢◌, ◌≤◌, ◌⊎◌, ◌↔◌, [], ◌∷◌, length, Some, None, IsTrue, IsFalse, IsNone, IfSome};
 ghost use Rattle.nvme_arbiter.specs.Settings.{ArbitrationFields, settings_of};
+ghost use Rattle.nvme_arbiter.specs.Observation.{IsIdle, class_in};
 ghost use Rattle.nvme_arbiter.specs.History.{History, Picked, Changed};
 ghost use Rattle.nvme_arbiter.specs.Lawful.{IsLawfulPick};
-ghost use Rattle.nvme_arbiter.specs.Standing.{StandsAt, pick_of};
+ghost use Rattle.nvme_arbiter.specs.Standing.{StandsAt, pick_of, first_kept, kept_after, nothing_used};
 ghost use Rattle.nvme_arbiter.specs.declared.settings.Mechanism.{Mechanism};
 ghost use Rattle.nvme_capi.specs.States.{is_arbiter, is_mechanism, kept_of, mechanism_of, seen_in, pick_of_fields, IsShown};
 
@@ -42,7 +43,10 @@ pub extern "C" fn nvmearb_arbiter_peek(
     ensures answer { (result ≡ OK) ⊎ ((result ≡ NOTHING) ⊎ ((result ≡ BAD_ARGUMENT) ⊎ (result ≡ BAD_STATE))) }
     ensures bad_argument { result ≡ BAD_ARGUMENT → IsShown queues.now → ⊥ }
     ensures nothing { result ≡ NOTHING → IsShown queues.now × (pick_of (kept_of state.now) (seen_in queues.now) ≡ None) }
+    ensures idle { result ≡ NOTHING → IsIdle (seen_in queues.now) }
+    ensures waits { result ≡ OK → IsIdle (seen_in queues.now) → ⊥ }
     ensures picked { result ≡ OK → IsShown queues.now × (pick_of (kept_of state.now) (seen_in queues.now) ≡ Some (pick_of_fields pick.new)) }
+    ensures fits { result ≡ OK → pick.new.fresh ≤ 1 }
     ensures lawful { result ≡ OK → (mechanism : Mechanism) (first : ArbitrationFields) (past : History) → StandsAt mechanism first past (kept_of state.now) → IsLawfulPick mechanism first past (seen_in queues.now) (pick_of_fields pick.new) }
     ensures unchanged { result ≢ OK → pick.new ≡ pick.old }
 {
@@ -72,9 +76,13 @@ pub extern "C" fn nvmearb_arbiter_pick(
     ensures answer { (result ≡ OK) ⊎ ((result ≡ NOTHING) ⊎ ((result ≡ BAD_ARGUMENT) ⊎ (result ≡ BAD_STATE))) }
     ensures bad_argument { result ≡ BAD_ARGUMENT → IsShown queues.now → ⊥ }
     ensures nothing { result ≡ NOTHING → IsShown queues.now × (pick_of (kept_of state.old) (seen_in queues.now) ≡ None) }
+    ensures idle { result ≡ NOTHING → IsIdle (seen_in queues.now) }
+    ensures waits { result ≡ OK → IsIdle (seen_in queues.now) → ⊥ }
     ensures picked { result ≡ OK → IsShown queues.now × (pick_of (kept_of state.old) (seen_in queues.now) ≡ Some (pick_of_fields pick.new)) }
+    ensures fits { result ≡ OK → pick.new.fresh ≤ 1 }
     ensures lawful { result ≡ OK → (mechanism : Mechanism) (first : ArbitrationFields) (past : History) → StandsAt mechanism first past (kept_of state.old) → IsLawfulPick mechanism first past (seen_in queues.now) (pick_of_fields pick.new) }
     ensures stands { result ≡ OK → (mechanism : Mechanism) (first : ArbitrationFields) (past : History) → StandsAt mechanism first past (kept_of state.old) → StandsAt mechanism first (Picked (seen_in queues.now) (pick_of_fields pick.new) ∷ past) (kept_of state.new) }
+    ensures keeps { result ≡ OK → kept_of state.new ≡ kept_after (kept_of state.old).mechanism (kept_of state.old) (class_in (seen_in queues.now) pick.new.qid) (pick_of_fields pick.new) }
     ensures kept { result ≡ OK → IsTrue (is_arbiter state.new) }
     ensures unchanged { result ≢ OK → (state.new ≡ state.old) × (pick.new ≡ pick.old) }
 {
@@ -101,6 +109,7 @@ pub extern "C" fn nvmearb_arbiter_init(state: &mut ArbiterFields, mechanism: u32
     ensures refused { (result ≡ BAD_ARGUMENT) ↔ ((mechanism ≢ 1) × (mechanism ≢ 2)) }
     ensures answer { (result ≡ OK) ⊎ (result ≡ BAD_ARGUMENT) }
     ensures stands { result ≡ OK → StandsAt (mechanism_of mechanism) (settings_of cdw11) [] (kept_of state.new) }
+    ensures keeps { result ≡ OK → kept_of state.new ≡ first_kept (mechanism_of mechanism) (settings_of cdw11) }
     ensures kept { result ≡ OK → IsTrue (is_arbiter state.new) }
     ensures unchanged { result ≢ OK → state.new ≡ state.old }
 {
@@ -118,6 +127,7 @@ pub extern "C" fn nvmearb_arbiter_set(state: &mut ArbiterFields, cdw11: u32) -> 
     ensures bad_state { (result ≡ BAD_STATE) ↔ IsFalse (is_arbiter state.old) }
     ensures answer { (result ≡ OK) ⊎ (result ≡ BAD_STATE) }
     ensures stands { result ≡ OK → (mechanism : Mechanism) (first : ArbitrationFields) (past : History) → StandsAt mechanism first past (kept_of state.old) → StandsAt mechanism first (Changed (settings_of cdw11) ∷ past) (kept_of state.new) }
+    ensures keeps { result ≡ OK → kept_of state.new ≡ record (kept_of state.old) { settings = settings_of cdw11; used = nothing_used } }
     ensures kept { result ≡ OK → IsTrue (is_arbiter state.new) }
     ensures unchanged { result ≢ OK → state.new ≡ state.old }
 {

@@ -1,11 +1,11 @@
 // The board over a state of the caller's.
-ghost use Rattle.std.specs.Prelude.{◌≡◌, ◌≢◌, ◌+◌, ◌-◌, ◌≤◌, ◌⊎◌, ◌↔◌, [], ◌∷◌, Some, None, IsTrue, IsFalse, IsNone, IsSome, IfSome, slice_set, replicate};
+ghost use Rattle.std.specs.Prelude.{◌≡◌, ◌≢◌, ◌+◌, ◌-◌, ◌<◌, ◌≤◌, ◌⊎◌, ◌↔◌, [], ◌∷◌, Some, None, IsTrue, IsFalse, IsNone, IsSome, IfSome, slice_set, replicate};
 ghost use Rattle.nvme_arbiter.specs.Limits.{highest_qid, highest_count, queue_limit};
 ghost use Rattle.nvme_arbiter.specs.Settings.{ArbitrationFields, settings_of, class_of_number};
-ghost use Rattle.nvme_arbiter.specs.Observation.{IsObservation, IsSeen};
+ghost use Rattle.nvme_arbiter.specs.Observation.{IsObservation, IsIdle, IsSeen, class_in};
 ghost use Rattle.nvme_arbiter.specs.History.{History, Picked, Changed};
 ghost use Rattle.nvme_arbiter.specs.Lawful.{IsLawfulPick};
-ghost use Rattle.nvme_arbiter.specs.Standing.{pick_of};
+ghost use Rattle.nvme_arbiter.specs.Standing.{pick_of, first_kept, kept_after, nothing_used};
 ghost use Rattle.nvme_arbiter.specs.Queues.{seen_of, queue_at, seen_as};
 ghost use Rattle.nvme_arbiter.specs.Board.{BoardStandsAt, queues_after};
 ghost use Rattle.nvme_arbiter.specs.declared.settings.Mechanism.{Mechanism};
@@ -38,6 +38,26 @@ fn is_board(board: &BoardFields) -> bool
     board.mark == MARK && is_arbiter(&board.arbiter)
 }
 
+// Puts an open queue under an identifier of a board. The board stands where it stood.
+fn put(board: &mut BoardFields, qid: u16, class: Class, count: u16)
+    requires { IsSeen (seen_as qid (record { class = class; count = count })) }
+    ensures put { board_of board.new ≡ record (board_of board.old) { queues = slice_set (slots_in board.old.queues) qid (Some (record { class = class; count = count })) } }
+    ensures stands { (mechanism : Mechanism) (first : ArbitrationFields) (past : History) → BoardStandsAt mechanism first past (board_of board.old) → BoardStandsAt mechanism first past (board_of board.new) }
+    ensures board { is_board board.new ≡ is_board board.old }
+{
+    board.queues.put(qid, class, count);
+}
+
+// Closes the queue of an identifier of a board, of this class where it is open. The board stands where it stood.
+fn close(board: &mut BoardFields, qid: u16, class: Class)
+    requires { qid ≤ highest_qid }
+    ensures closed { board_of board.new ≡ record (board_of board.old) { queues = slice_set (slots_in board.old.queues) qid None } }
+    ensures stands { (mechanism : Mechanism) (first : ArbitrationFields) (past : History) → BoardStandsAt mechanism first past (board_of board.old) → BoardStandsAt mechanism first past (board_of board.new) }
+    ensures board { is_board board.new ≡ is_board board.old }
+{
+    board.queues.close(qid, class);
+}
+
 /// Makes a board on which no queue is open and that has served nothing yet. The mechanism is 1, round robin, or 2,
 /// weighted.
 #[unsafe(no_mangle)]
@@ -45,6 +65,7 @@ pub extern "C" fn nvmearb_board_init(board: &mut BoardFields, mechanism: u32, cd
     ensures refused { (result ≡ BAD_ARGUMENT) ↔ ((mechanism ≢ 1) × (mechanism ≢ 2)) }
     ensures answer { (result ≡ OK) ⊎ (result ≡ BAD_ARGUMENT) }
     ensures stands { result ≡ OK → BoardStandsAt (mechanism_of mechanism) (settings_of cdw11) [] (board_of board.new) }
+    ensures keeps { result ≡ OK → kept_of board.new.arbiter ≡ first_kept (mechanism_of mechanism) (settings_of cdw11) }
     ensures closed { result ≡ OK → slots_in board.new.queues ≡ replicate queue_limit None }
     ensures board { result ≡ OK → IsTrue (is_board board.new) }
     ensures unchanged { result ≢ OK → board.new ≡ board.old }
@@ -70,7 +91,9 @@ pub extern "C" fn nvmearb_board_open(board: &mut BoardFields, qid: u16, class: u
     ensures answer { (result ≡ OK) ⊎ ((result ≡ BAD_ARGUMENT) ⊎ (result ≡ BAD_STATE)) }
     ensures was_closed { result ≡ OK → queue_at (slots_in board.old.queues) qid ≡ None }
     ensures class { result ≡ OK → IsSome (class_of_number class) }
+    ensures seen { result ≡ OK → IfSome (class_of_number class) (λ it. IsSeen (seen_as qid (record { class = it; count = 0 }))) }
     ensures opened { result ≡ OK → IfSome (class_of_number class) (λ it. board_of board.new ≡ record (board_of board.old) { queues = slice_set (slots_in board.old.queues) qid (Some (record { class = it; count = 0 })) }) }
+    ensures stands { result ≡ OK → (mechanism : Mechanism) (first : ArbitrationFields) (past : History) → BoardStandsAt mechanism first past (board_of board.old) → BoardStandsAt mechanism first past (board_of board.new) }
     ensures board { result ≡ OK → IsTrue (is_board board.new) }
     ensures refused { result ≡ BAD_ARGUMENT → IfSome (class_of_number class) (λ it. queue_at (slots_in board.old.queues) qid ≡ None → IsSeen (seen_as qid (record { class = it; count = 0 })) → ⊥) }
     ensures unchanged { result ≢ OK → board.new ≡ board.old }
@@ -87,7 +110,7 @@ pub extern "C" fn nvmearb_board_open(board: &mut BoardFields, qid: u16, class: u
     if shown(qid, OpenQueue { class, count: 0 }).is_none() {
         return BAD_ARGUMENT;
     }
-    board.queues.put(qid, class, 0);
+    put(board, qid, class, 0);
     OK
 }
 
@@ -98,6 +121,7 @@ pub extern "C" fn nvmearb_board_close(board: &mut BoardFields, qid: u16) -> u32
     ensures answer { (result ≡ OK) ⊎ ((result ≡ BAD_ARGUMENT) ⊎ (result ≡ BAD_STATE)) }
     ensures was_open { result ≡ OK → IsSome (queue_at (slots_in board.old.queues) qid) }
     ensures closed { result ≡ OK → board_of board.new ≡ record (board_of board.old) { queues = slice_set (slots_in board.old.queues) qid None } }
+    ensures stands { result ≡ OK → (mechanism : Mechanism) (first : ArbitrationFields) (past : History) → BoardStandsAt mechanism first past (board_of board.old) → BoardStandsAt mechanism first past (board_of board.new) }
     ensures board { result ≡ OK → IsTrue (is_board board.new) }
     ensures refused { result ≡ BAD_ARGUMENT → queue_at (slots_in board.old.queues) qid ≡ None }
     ensures unchanged { result ≢ OK → board.new ≡ board.old }
@@ -108,7 +132,7 @@ pub extern "C" fn nvmearb_board_close(board: &mut BoardFields, qid: u16) -> u32
     let Some(open) = board.queues.queue(qid) else {
         return BAD_ARGUMENT;
     };
-    board.queues.close(qid, open.class);
+    close(board, qid, open.class);
     OK
 }
 
@@ -118,7 +142,9 @@ pub extern "C" fn nvmearb_board_came(board: &mut BoardFields, qid: u16) -> u32
     ensures bad_state { (result ≡ BAD_STATE) ↔ IsFalse (is_board board.old) }
     ensures answer { (result ≡ OK) ⊎ ((result ≡ BAD_ARGUMENT) ⊎ (result ≡ BAD_STATE)) }
     ensures was_open { result ≡ OK → IsSome (queue_at (slots_in board.old.queues) qid) }
+    ensures room { result ≡ OK → IfSome (queue_at (slots_in board.old.queues) qid) (λ it. it.count < highest_count) }
     ensures came { result ≡ OK → IfSome (queue_at (slots_in board.old.queues) qid) (λ it. board_of board.new ≡ record (board_of board.old) { queues = slice_set (slots_in board.old.queues) qid (Some (record it { count = it.count + 1 })) }) }
+    ensures stands { result ≡ OK → (mechanism : Mechanism) (first : ArbitrationFields) (past : History) → BoardStandsAt mechanism first past (board_of board.old) → BoardStandsAt mechanism first past (board_of board.new) }
     ensures board { result ≡ OK → IsTrue (is_board board.new) }
     ensures refused { result ≡ BAD_ARGUMENT → IfSome (queue_at (slots_in board.old.queues) qid) (λ it. highest_count ≤ it.count) }
     ensures unchanged { result ≢ OK → board.new ≡ board.old }
@@ -132,7 +158,7 @@ pub extern "C" fn nvmearb_board_came(board: &mut BoardFields, qid: u16) -> u32
     if open.count >= HIGHEST_COUNT {
         return BAD_ARGUMENT;
     }
-    board.queues.put(qid, open.class, open.count + 1);
+    put(board, qid, open.class, open.count + 1);
     OK
 }
 
@@ -142,7 +168,9 @@ pub extern "C" fn nvmearb_board_went(board: &mut BoardFields, qid: u16) -> u32
     ensures bad_state { (result ≡ BAD_STATE) ↔ IsFalse (is_board board.old) }
     ensures answer { (result ≡ OK) ⊎ ((result ≡ BAD_ARGUMENT) ⊎ (result ≡ BAD_STATE)) }
     ensures was_open { result ≡ OK → IsSome (queue_at (slots_in board.old.queues) qid) }
+    ensures some { result ≡ OK → IfSome (queue_at (slots_in board.old.queues) qid) (λ it. 0 < it.count) }
     ensures went { result ≡ OK → IfSome (queue_at (slots_in board.old.queues) qid) (λ it. board_of board.new ≡ record (board_of board.old) { queues = slice_set (slots_in board.old.queues) qid (Some (record it { count = it.count - 1 })) }) }
+    ensures stands { result ≡ OK → (mechanism : Mechanism) (first : ArbitrationFields) (past : History) → BoardStandsAt mechanism first past (board_of board.old) → BoardStandsAt mechanism first past (board_of board.new) }
     ensures board { result ≡ OK → IsTrue (is_board board.new) }
     ensures refused { result ≡ BAD_ARGUMENT → IfSome (queue_at (slots_in board.old.queues) qid) (λ it. it.count ≡ 0) }
     ensures unchanged { result ≢ OK → board.new ≡ board.old }
@@ -156,7 +184,7 @@ pub extern "C" fn nvmearb_board_went(board: &mut BoardFields, qid: u16) -> u32
     if open.count == 0 {
         return BAD_ARGUMENT;
     }
-    board.queues.put(qid, open.class, open.count - 1);
+    put(board, qid, open.class, open.count - 1);
     OK
 }
 
@@ -166,7 +194,11 @@ pub extern "C" fn nvmearb_board_peek(board: &BoardFields, pick: &mut PickFields)
     ensures bad_state { (result ≡ BAD_STATE) ↔ IsFalse (is_board board.now) }
     ensures answer { (result ≡ OK) ⊎ ((result ≡ NOTHING) ⊎ (result ≡ BAD_STATE)) }
     ensures nothing { result ≡ NOTHING → pick_of (kept_of board.now.arbiter) (seen_of (slots_in board.now.queues)) ≡ None }
+    ensures idle { result ≡ NOTHING → IsIdle (seen_of (slots_in board.now.queues)) }
+    ensures waits { result ≡ OK → IsIdle (seen_of (slots_in board.now.queues)) → ⊥ }
     ensures picked { result ≡ OK → pick_of (kept_of board.now.arbiter) (seen_of (slots_in board.now.queues)) ≡ Some (pick_of_fields pick.new) }
+    ensures fits { result ≡ OK → pick.new.fresh ≤ 1 }
+    ensures lawful { result ≡ OK → (mechanism : Mechanism) (first : ArbitrationFields) (past : History) → BoardStandsAt mechanism first past (board_of board.now) → IsLawfulPick mechanism first past (seen_of (slots_in board.now.queues)) (pick_of_fields pick.new) }
     ensures unchanged { result ≢ OK → pick.new ≡ pick.old }
 {
     if !is_board(board) {
@@ -185,8 +217,11 @@ pub extern "C" fn nvmearb_board_peek(board: &BoardFields, pick: &mut PickFields)
 fn picked(board: &mut BoardFields) -> Option<Pick>
     requires { IsTrue (is_board board.old) }
     ensures nothing { IsNone result → pick_of (kept_of board.old.arbiter) (seen_of (slots_in board.old.queues)) ≡ None }
+    ensures idle { IsNone result ↔ IsIdle (seen_of (slots_in board.old.queues)) }
     ensures picked { IfSome result (λ it. pick_of (kept_of board.old.arbiter) (seen_of (slots_in board.old.queues)) ≡ Some it) }
     ensures stands { IfSome result (λ it. (mechanism : Mechanism) (first : ArbitrationFields) (past : History) → BoardStandsAt mechanism first past (board_of board.old) → BoardStandsAt mechanism first (Picked (seen_of (slots_in board.old.queues)) it ∷ past) (board_of board.new)) }
+    ensures lawful { IfSome result (λ it. (mechanism : Mechanism) (first : ArbitrationFields) (past : History) → BoardStandsAt mechanism first past (board_of board.old) → IsLawfulPick mechanism first past (seen_of (slots_in board.old.queues)) it) }
+    ensures keeps { IfSome result (λ it. kept_of board.new.arbiter ≡ kept_after (kept_of board.old.arbiter).mechanism (kept_of board.old.arbiter) (class_in (seen_of (slots_in board.old.queues)) it.qid) it) }
     ensures queues { IfSome result (λ it. slots_in board.new.queues ≡ queues_after (slots_in board.old.queues) it) }
     ensures board { IsTrue (is_board board.new) }
     ensures unchanged { IsNone result → board.new ≡ board.old }
@@ -205,8 +240,13 @@ pub extern "C" fn nvmearb_board_pick(board: &mut BoardFields, pick: &mut PickFie
     ensures bad_state { (result ≡ BAD_STATE) ↔ IsFalse (is_board board.old) }
     ensures answer { (result ≡ OK) ⊎ ((result ≡ NOTHING) ⊎ (result ≡ BAD_STATE)) }
     ensures nothing { result ≡ NOTHING → pick_of (kept_of board.old.arbiter) (seen_of (slots_in board.old.queues)) ≡ None }
+    ensures idle { result ≡ NOTHING → IsIdle (seen_of (slots_in board.old.queues)) }
+    ensures waits { result ≡ OK → IsIdle (seen_of (slots_in board.old.queues)) → ⊥ }
     ensures picked { result ≡ OK → pick_of (kept_of board.old.arbiter) (seen_of (slots_in board.old.queues)) ≡ Some (pick_of_fields pick.new) }
+    ensures fits { result ≡ OK → pick.new.fresh ≤ 1 }
+    ensures lawful { result ≡ OK → (mechanism : Mechanism) (first : ArbitrationFields) (past : History) → BoardStandsAt mechanism first past (board_of board.old) → IsLawfulPick mechanism first past (seen_of (slots_in board.old.queues)) (pick_of_fields pick.new) }
     ensures stands { result ≡ OK → (mechanism : Mechanism) (first : ArbitrationFields) (past : History) → BoardStandsAt mechanism first past (board_of board.old) → BoardStandsAt mechanism first (Picked (seen_of (slots_in board.old.queues)) (pick_of_fields pick.new) ∷ past) (board_of board.new) }
+    ensures keeps { result ≡ OK → kept_of board.new.arbiter ≡ kept_after (kept_of board.old.arbiter).mechanism (kept_of board.old.arbiter) (class_in (seen_of (slots_in board.old.queues)) pick.new.qid) (pick_of_fields pick.new) }
     ensures queues { result ≡ OK → slots_in board.new.queues ≡ queues_after (slots_in board.old.queues) (pick_of_fields pick.new) }
     ensures board { result ≡ OK → IsTrue (is_board board.new) }
     ensures unchanged { result ≢ OK → (board.new ≡ board.old) × (pick.new ≡ pick.old) }
@@ -230,6 +270,7 @@ pub extern "C" fn nvmearb_board_set(board: &mut BoardFields, cdw11: u32) -> u32
     ensures bad_state { (result ≡ BAD_STATE) ↔ IsFalse (is_board board.old) }
     ensures answer { (result ≡ OK) ⊎ (result ≡ BAD_STATE) }
     ensures stands { result ≡ OK → (mechanism : Mechanism) (first : ArbitrationFields) (past : History) → BoardStandsAt mechanism first past (board_of board.old) → BoardStandsAt mechanism first (Changed (settings_of cdw11) ∷ past) (board_of board.new) }
+    ensures keeps { result ≡ OK → kept_of board.new.arbiter ≡ record (kept_of board.old.arbiter) { settings = settings_of cdw11; used = nothing_used } }
     ensures queues { result ≡ OK → board.new.queues ≡ board.old.queues }
     ensures board { result ≡ OK → IsTrue (is_board board.new) }
     ensures unchanged { result ≢ OK → board.new ≡ board.old }

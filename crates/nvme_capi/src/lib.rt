@@ -1,5 +1,6 @@
-//! The C library: an export for each call of the libraries that needs no thread and no memory. Each export is total,
-//! and states the clauses of the library's call again. `capi/nvmearb.h` declares them for C.
+//! The C library: an export for each call of the libraries that needs no thread and no memory. Each export is total.
+//! It states the clauses of the library's call again, for every state that it takes, those that no call made among them.
+//! `capi/nvmearb.h` declares the exports for C.
 #![tactic(auto)]
 
 mod admin;

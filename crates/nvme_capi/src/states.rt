@@ -1,6 +1,6 @@
 // What an arbiter keeps, as C holds it. A state is taken where its mechanism is one of the two and each identifier has
 // a place. Every such state is one that an arbiter can keep, so nothing else has to hold of it.
-ghost use Rattle.std.specs.Prelude.{◌≡◌, IsTrue};
+ghost use Rattle.std.specs.Prelude.{◌≡◌, ◌≤◌, IsTrue};
 ghost use Rattle.nvme_capi.specs.States.{last_of_place, is_place, are_places, mechanism_of, last_in, used_in, is_arbiter, kept_of, seen_of_fields, pick_of_fields};
 
 use nvme_arbiter::{ByClass, Class, Kept, Last, Mechanism, Pick, Seen, Settings, Used};
@@ -181,7 +181,8 @@ pub fn seen_of_fields(queue: &SeenFields) -> Seen
 
 /// The fields of a pick.
 pub fn fields_of_pick(pick: Pick) -> PickFields
-    ensures { pick_of_fields result ≡ pick }
+    ensures same { pick_of_fields result ≡ pick }
+    ensures fits { result.fresh ≤ 1 }
 {
     PickFields {
         qid: pick.qid,

@@ -9,7 +9,9 @@ ghost use Rattle.nvme_admin.specs.History.{Start, TableHistory, RegionAdded, Ent
 ghost use Rattle.nvme_admin.specs.Accepted.{verdict_of};
 ghost use Rattle.nvme_admin.specs.Checks.{status_over, verdict_by, is_success};
 ghost use Rattle.nvme_admin.specs.Layout.{view_of};
-ghost use Rattle.nvme_admin.specs.Standing.{StandsAt, table_of, sq_of, cq_of, region_fault};
+ghost use Rattle.nvme_admin.specs.Changes.{admin_queue};
+ghost use Rattle.nvme_admin.specs.Steps.{empty_table, table_after};
+ghost use Rattle.nvme_admin.specs.Standing.{Shows, StandsAt, table_of, sq_of, cq_of, region_fault};
 ghost use Rattle.nvme_capi.specs.Fields.{settings_fields_of, code_of};
 ghost use Rattle.nvme_capi.specs.Tables.{is_limit, is_table, answer_of, queue_answer_of};
 
@@ -53,6 +55,7 @@ pub extern "C" fn nvmearb_table_init(state: &mut TableState, nsq: u16, ncq: u16,
     ensures refused { (result ≡ BAD_ARGUMENT) ↔ (IsFalse (is_limit nsq) ⊎ IsFalse (is_limit ncq)) }
     ensures answer { (result ≡ OK) ⊎ (result ≡ BAD_ARGUMENT) }
     ensures stands { result ≡ OK → StandsAt (record { nsq = nsq; ncq = ncq; settings = settings_of cdw11 }) (view_of state.new.table) [] }
+    ensures empty { result ≡ OK → Shows (view_of state.new.table) (empty_table (record { nsq = nsq; ncq = ncq; settings = settings_of cdw11 })) }
     ensures kept { result ≡ OK → IsTrue (is_table state.new) }
     ensures unchanged { result ≢ OK → state.new ≡ state.old }
 {
@@ -96,6 +99,9 @@ pub extern "C" fn nvmearb_table_add_sq_region(
     ensures added { result ≡ OK → region_fault (view_of state.old.table) (view_of state.old.table).sq_regions address slots ≡ None }
     ensures number { result ≡ OK → number.new ≡ length (view_of state.old.table).sq_regions }
     ensures stands { result ≡ OK → (start : Start) (h : TableHistory) → StandsAt start (view_of state.old.table) h → StandsAt start (view_of state.new.table) (RegionAdded Submission address slots ∷ h) }
+    ensures regions { result ≡ OK → (view_of state.new.table).sq_regions ≡ (view_of state.old.table).sq_regions ++ record { address = address; slots = slots } ∷ [] }
+    ensures queues { result ≡ OK → (q : ℕ) → sq_of (view_of state.new.table) q ≡ (if q == 0 then Some admin_queue else sq_of (view_of state.old.table) q) }
+    ensures rest { result ≡ OK → view_of state.new.table ≡ record (view_of state.old.table) { sq_regions = (view_of state.new.table).sq_regions; sqs = (view_of state.new.table).sqs } }
     ensures kept { result ≡ OK → IsTrue (is_table state.new) }
     ensures unchanged { result ≢ OK → (state.new ≡ state.old) × (number.new ≡ number.old) }
 {
@@ -127,6 +133,9 @@ pub extern "C" fn nvmearb_table_add_cq_region(
     ensures added { result ≡ OK → region_fault (view_of state.old.table) (view_of state.old.table).cq_regions address slots ≡ None }
     ensures number { result ≡ OK → number.new ≡ length (view_of state.old.table).cq_regions }
     ensures stands { result ≡ OK → (start : Start) (h : TableHistory) → StandsAt start (view_of state.old.table) h → StandsAt start (view_of state.new.table) (RegionAdded Completion address slots ∷ h) }
+    ensures regions { result ≡ OK → (view_of state.new.table).cq_regions ≡ (view_of state.old.table).cq_regions ++ record { address = address; slots = slots } ∷ [] }
+    ensures queues { result ≡ OK → (q : ℕ) → cq_of (view_of state.new.table) q ≡ (if q == 0 then Some 0 else cq_of (view_of state.old.table) q) }
+    ensures rest { result ≡ OK → view_of state.new.table ≡ record (view_of state.old.table) { cq_regions = (view_of state.new.table).cq_regions; cqs = (view_of state.new.table).cqs } }
     ensures kept { result ≡ OK → IsTrue (is_table state.new) }
     ensures unchanged { result ≢ OK → (state.new ≡ state.old) × (number.new ≡ number.old) }
 {
@@ -155,6 +164,7 @@ pub extern "C" fn nvmearb_table_apply(
     ensures verdict { result ≡ OK → (entry : Sqe) → IsSubmissionEntry bytes.now entry → (start : Start) (h : TableHistory) → StandsAt start (view_of state.old.table) h → answer.new ≡ answer_of (verdict_of start h entry) }
     ensures stands { result ≡ OK → (entry : Sqe) → IsSubmissionEntry bytes.now entry → (start : Start) (h : TableHistory) → StandsAt start (view_of state.old.table) h → StandsAt start (view_of state.new.table) (EntryApplied entry ∷ h) }
     ensures answered { result ≡ OK → (entry : Sqe) → IsSubmissionEntry bytes.now entry → answer.new ≡ answer_of (verdict_by (status_over (table_of (view_of state.old.table)) entry) (table_of (view_of state.new.table)) (admin_command_of entry)) }
+    ensures accepted { result ≡ OK → (entry : Sqe) → IsSubmissionEntry bytes.now entry → is_success (status_over (table_of (view_of state.old.table)) entry) ≡ true → Shows (view_of state.new.table) (table_after (table_of (view_of state.old.table)) (admin_command_of entry)) }
     ensures refused { result ≡ OK → (entry : Sqe) → IsSubmissionEntry bytes.now entry → is_success (status_over (table_of (view_of state.old.table)) entry) ≡ false → state.new ≡ state.old }
     ensures kept { result ≡ OK → IsTrue (is_table state.new) }
     ensures unchanged { result ≢ OK → (state.new ≡ state.old) × (answer.new ≡ answer.old) }
@@ -174,6 +184,8 @@ pub extern "C" fn nvmearb_table_finish_delete(state: &mut TableState, qid: u16) 
     ensures answer { (result ≡ OK) ⊎ ((result ≡ BAD_ARGUMENT) ⊎ (result ≡ BAD_STATE)) }
     ensures closing { result ≡ OK → IsSomeAnd (sq_of (view_of state.old.table) qid) (λ queue. IsTrue queue.closing) }
     ensures stands { result ≡ OK → (start : Start) (h : TableHistory) → StandsAt start (view_of state.old.table) h → StandsAt start (view_of state.new.table) (DeletionFinished qid ∷ h) }
+    ensures gone { result ≡ OK → (q : ℕ) → sq_of (view_of state.new.table) q ≡ (if qid == q then None else sq_of (view_of state.old.table) q) }
+    ensures rest { result ≡ OK → view_of state.new.table ≡ record (view_of state.old.table) { sqs = (view_of state.new.table).sqs } }
     ensures refused { result ≡ BAD_ARGUMENT → IfSome (sq_of (view_of state.old.table) qid) (λ queue. IsFalse queue.closing) }
     ensures kept { result ≡ OK → IsTrue (is_table state.new) }
     ensures unchanged { result ≢ OK → state.new ≡ state.old }

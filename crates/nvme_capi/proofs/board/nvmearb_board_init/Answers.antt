@@ -1,13 +1,11 @@
 use Rattle.std.proofs.Common.{refl}
-use Rattle.nvme_arbiter.proofs.MaskLemmas.{observed_of}
-use Rattle.nvme_capi.specs.Boards.{slots_in}
-use Rattle.nvme_capi.proofs.Slots.{fits, slots-closed}
+use Rattle.nvme_capi.proofs.Slots.{observed, slots-closed}
 use Rattle.nvme_capi.proofs.board.nvmearb_board_init.Goals as goal
 
 pub returns-then-answer-eq-OK-clause-stands : goal.returns-then-answer-eq-OK-clause-stands
 returns-then-answer-eq-OK-clause-stands c = λ ok. record {
   stands = c.nvmearb_arbiter_init-answer.ensures.stands ok;
-  observed = observed_of (slots_in _) (fits _);
+  observed = observed _;
 }
 
 pub returns-then-answer-eq-OK-clause-closed : goal.returns-then-answer-eq-OK-clause-closed

@@ -8,4 +8,4 @@ use Rattle.nvme_capi.proofs.board.nvmearb_board_pick.Goals as goal
 pub returns-in-Some-clause-stands : goal.returns-in-Some-clause-stands
 returns-in-Some-clause-stands c = λ _ m first past h.
     let seen = seen_of (slots_in c.args.board.now.queues) in
-    subst (λ p. BoardStandsAt m first (Picked seen p ∷ past) (board_of c.picked.new.board)) (sym c.fields_of_pick.ensures) (c.in-Some.ensures.stands m first past h)
+    subst (λ p. BoardStandsAt m first (Picked seen p ∷ past) (board_of c.picked.new.board)) (sym c.fields_of_pick.ensures.same) (c.in-Some.ensures.stands m first past h)
