@@ -26,6 +26,12 @@
 extern "C" {
 #endif
 
+/* The version of this header. nvmearb_version answers that of the library. */
+#define NVMEARB_VERSION_MAJOR 0
+#define NVMEARB_VERSION_MINOR 1
+#define NVMEARB_VERSION_PATCH 0
+#define NVMEARB_VERSION (NVMEARB_VERSION_MAJOR * 0x10000u + NVMEARB_VERSION_MINOR * 0x100u + NVMEARB_VERSION_PATCH)
+
 /* What a function with a result answers. Where it isn't NVMEARB_OK, the call has written nothing. */
 #define NVMEARB_OK 0u     /* done */
 #define NVMEARB_NONE 1u   /* there is nothing to pick */
@@ -235,6 +241,9 @@ typedef struct nvmearb_queue {
     uint16_t priority; /* NVMEARB_ADMIN .. NVMEARB_LOW */
     uint16_t closing;  /* 1 where its deletion was accepted and isn't finished, else 0 */
 } nvmearb_queue;
+
+/* Returns the version of the library. Where it isn't NVMEARB_VERSION, this header is that of another library. */
+uint32_t nvmearb_version(void);
 
 /* Writes the fields of the entry that 64 bytes hold. Every byte belongs to a field. */
 void nvmearb_sqe_decode(const uint8_t bytes[NVMEARB_SQE_BYTES], nvmearb_sqe *fields);

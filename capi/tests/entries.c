@@ -1,4 +1,4 @@
-/* Entries, outcomes, admin fields and settings: worked examples, and a million random calls. */
+/* The version, entries, outcomes, admin fields and settings: worked examples, and a million random calls. */
 #include <nvmearb.h>
 
 #include <string.h>
@@ -15,6 +15,17 @@ _Static_assert(sizeof(nvmearb_admin) == 32, "nvmearb_admin");
 _Static_assert(offsetof(nvmearb_admin, sv) == 25, "nvmearb_admin");
 _Static_assert(offsetof(nvmearb_admin, cid) == 26, "nvmearb_admin");
 _Static_assert(sizeof(nvmearb_settings) == 12, "nvmearb_settings");
+
+/* The preprocessor can compare versions. */
+#if NVMEARB_VERSION / 0x10000 != NVMEARB_VERSION_MAJOR || NVMEARB_VERSION % 0x100 != NVMEARB_VERSION_PATCH
+#error "NVMEARB_VERSION"
+#endif
+
+/* The library is that of the header. */
+static void version(void)
+{
+    CHECK(nvmearb_version() == NVMEARB_VERSION);
+}
 
 static void submission_fields_by_place(void)
 {
@@ -229,6 +240,7 @@ static void random_calls(void)
 
 int main(void)
 {
+    version();
     submission_fields_by_place();
     completion_fields_by_place();
     refused_completions();

@@ -16,3 +16,4 @@ mod settings;
 mod shown;
 mod states;
 mod table;
+mod version;

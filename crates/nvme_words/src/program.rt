@@ -7,9 +7,8 @@ ghost use Rattle.nvme_words.specs.inside.Built.{AddsIfMade, HasApp, HasRule};
 use clap::builder::ValueParser;
 use clap::{Arg, ArgAction, Command, value_parser};
 use nvme_pool::MAX_WORKERS;
+use nvme_version::VERSION;
 use std::alloc::{AllocError, Global};
-
-const VERSION: &str = "0";
 
 const FORMATS: &[&str] = &["text", "json"];
 

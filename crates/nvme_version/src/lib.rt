@@ -1,0 +1,23 @@
+//! The version of nvmearb, which the program prints and the C library returns. `capi/nvmearb.h` has the same numbers, and
+//! the newest heading of `CHANGELOG.md` the same text: `tests/capi` and `tests/words` compare them.
+#![tactic(auto)]
+
+ghost use Rattle.std.specs.Prelude.{◌≡◌, ◌++◌, codes, decimal};
+ghost use Rattle.nvme_version.specs.declared.TheConstants.{MAJOR, MINOR, PATCH, VERSION};
+
+/// Rises with a change that breaks callers.
+pub const MAJOR: u32 = 0;
+
+/// Rises with what is new.
+pub const MINOR: u32 = 1;
+
+/// Rises with what is fixed.
+pub const PATCH: u32 = 0;
+
+/// The version as a text.
+pub const VERSION: &str = "0.1.0";
+
+/// Law: the text is the three numbers with dots between them.
+pub fn version_is_its_numbers()
+    ensures { VERSION.now ≡ decimal MAJOR ++ codes "." ++ decimal MINOR ++ codes "." ++ decimal PATCH }
+{}
