@@ -1,20 +1,69 @@
+/* SPDX-License-Identifier: MIT */
 /*
- * nvmearb.h: entries, arbitration and the queue table of NVMe queues, under somebody else's controller.
+ * nvmearb.h: the queues of an NVMe controller, for firmware, emulators and simulators that have a loop of their own.
+ * Terms are those of the NVM Express Base Specification 2.0 and the NVM Command Set Specification 1.0. A status is
+ * written as its type and its code in hexadecimal: 0/08.
  *
- * Every function is proved over the libraries of this repository (crates/nvme_capi). None allocates, waits, starts a
- * thread, or reads or writes anything but what its arguments point to, and all return. Every bit pattern of the
- * arguments is answered. Only this is left to the caller:
+ * Which layer to take. Each works without the others.
  *
- *   - a pointer isn't null and points to as many objects as its comment says, which live as long as the call. This is
- *     so of an array of length 0 too;
- *   - what a pointer to something that isn't const points to is touched by nothing else during the call, and is no
- *     other argument of it.
+ *   Entries  nvmearb_sqe_.., nvmearb_cqe_.., nvmearb_admin_of and nvmearb_settings_of give the fields of entries and
+ *            dwords, and nvmearb_outcome the status of an I/O command. They keep no state.
+ *   Arbiter  nvmearb_arbiter_..: which submission queue is served next, and how many of its commands. Each pick is
+ *            shown the open queues, and how many commands wait in each.
+ *   Board    nvmearb_board_..: an arbiter that keeps the open queues and these numbers itself. It is told of each
+ *            command that comes, and picks what an arbiter picks that is shown the same queues.
+ *   Table    nvmearb_table_..: the queues and features of a controller, and the answers to the admin commands that
+ *            create, delete, set and get them.
  *
- * The caller owns all memory, and no call keeps a pointer. Calls over different objects may be made at the same time
- * from any thread; of each state one call at a time. A signal handler calls nothing over what a running call was given.
+ * Rings, doorbells, phase tags, interrupts and data are the caller's.
  *
- * Numbers are in the machine's own order, and bytes in the order of the specification. Terms are those of the NVM
- * Express Base Specification. Link with -lnvmearb; the only other symbols are memcpy and memset.
+ * The order of calls, with a table and a board:
+ *
+ *   1. Compare nvmearb_version() with NVMEARB_VERSION.
+ *   2. nvmearb_table_init. Add a region of each kind for the admin queue, then one for each ring that a Create command
+ *      may name.
+ *   3. nvmearb_board_init, and nvmearb_board_open for queue 0.
+ *   4. nvmearb_board_came for each command that a submission queue tail doorbell announces. A board counts at most
+ *      NVMEARB_MAX_COUNT of a queue; tell it of further ones once some were picked.
+ *   5. nvmearb_board_pick writes a queue and a number n. Take the n oldest waiting commands out of its ring.
+ *        I/O:   nvmearb_sqe_decode, then nvmearb_outcome or an execution of one's own, then nvmearb_cqe_encode.
+ *        Admin: nvmearb_table_apply, then what the verdict asks for (NVMEARB_DONE and below it), then
+ *               nvmearb_cqe_encode.
+ *
+ * At a deletion (NVMEARB_BEGIN_DELETE) the Delete command isn't answered yet. The caller
+ *   - fetches and picks no more commands of the queue (nvmearb_board_close),
+ *   - answers each command of the queue that waits with 0/08, Command Aborted due to SQ Deletion,
+ *   - waits until the commands of the queue that were picked are answered too,
+ *   - calls nvmearb_table_finish_delete, and only then answers the Delete, with success.
+ *
+ * At an Abort (NVMEARB_ABORT) the caller looks for the oldest waiting command with this identifier in this queue.
+ *   - If one waits, the caller takes it out (nvmearb_board_went) and answers it with 0/07, Command Abort Requested.
+ *     The Abort is answered with 0 as Command Dword 0.
+ *   - Otherwise the Abort is answered with 1 as Command Dword 0. An Abort finds no command if its SQID is 0, if the
+ *     queue isn't open or is closing, or if the command was picked.
+ *
+ * Admin commands of the caller's own. nvmearb_table_apply answers an opcode that is none of the seven kinds below with
+ * 0/01, Invalid Command Opcode, and Set and Get Features with a feature identifier other than 01h and 07h with 0/02,
+ * Invalid Field in Command; an entry whose FUSE isn't 0 with 0/02 as well. A controller that has more of them, such as
+ * Identify, Get Log Page or Asynchronous Event Request, looks at `kind` and `fid` of nvmearb_admin_of first and keeps
+ * those entries from the table.
+ *
+ * Every function is proved (crates/nvme_capi). None allocates, waits, starts a thread, or reads or writes anything but
+ * what its arguments point to, and all return. Every bit pattern of the arguments is answered. Left to the caller:
+ *
+ *   - A pointer isn't null, is aligned for its type, and points to as many objects as its comment says, which live at
+ *     least as long as the call. This holds for an array of length 0 too.
+ *   - What a pointer points to, const or not, isn't written by anything else during the call. Copy an entry first that
+ *     lies where a guest or a device may write, and hand in the copy.
+ *   - What a pointer that isn't const points to isn't read by anything else during the call, and overlaps nothing that
+ *     another argument points to.
+ *
+ * The caller owns all memory, and no call keeps a pointer. Calls on different objects may run at the same time on any
+ * threads; calls on one state run one after another. A signal handler makes no call on an object that the call which it
+ * interrupts was given.
+ *
+ * Numbers are in the machine's byte order, and bytes of entries in the specification's. The library is built for x86-64
+ * (x86-64-v2, System V calling convention). Link with -lnvmearb; the only other symbols are memcpy and memset.
  */
 #ifndef NVMEARB_H
 #define NVMEARB_H
@@ -32,14 +81,14 @@ extern "C" {
 #define NVMEARB_VERSION_PATCH 0
 #define NVMEARB_VERSION (NVMEARB_VERSION_MAJOR * 0x10000u + NVMEARB_VERSION_MINOR * 0x100u + NVMEARB_VERSION_PATCH)
 
-/* What a function with a result answers. Where it isn't NVMEARB_OK, the call has written nothing. */
+/* What a function that returns a result returns. Where it isn't NVMEARB_OK, the call has written nothing. */
 #define NVMEARB_OK 0u     /* done */
-#define NVMEARB_NONE 1u   /* there is nothing to pick */
-#define NVMEARB_EARG 2u   /* an argument is none that the call takes */
-#define NVMEARB_ESTATE 3u /* the state is none that a call wrote */
-#define NVMEARB_EUSED 4u  /* the address is that of another region */
-#define NVMEARB_EMANY 5u  /* there is no place for one more region */
-#define NVMEARB_ESIZE 6u  /* no region has so many slots */
+#define NVMEARB_NONE 1u   /* there is nothing to pick, or no such queue */
+#define NVMEARB_EARG 2u   /* an argument isn't valid */
+#define NVMEARB_ESTATE 3u /* the state isn't valid: it wasn't initialised, or was overwritten */
+#define NVMEARB_EUSED 4u  /* another region has this address */
+#define NVMEARB_EMANY 5u  /* there are NVMEARB_MAX_REGIONS regions of this kind */
+#define NVMEARB_ESIZE 6u  /* a region has 2 to 4096 slots */
 
 /* The length of a submission and of a completion entry in bytes. */
 #define NVMEARB_SQE_BYTES 64
@@ -48,7 +97,7 @@ extern "C" {
 /* The most namespaces that nvmearb_outcome takes. */
 #define NVMEARB_MAX_NAMESPACES 16
 
-/* The fields of a submission entry. Each takes every value. */
+/* The fields of a submission queue entry. Each may have any value. */
 typedef struct nvmearb_sqe {
     uint8_t opcode;
     uint8_t flags; /* FUSE in bits 1:0, PSDT in bits 7:6 */
@@ -73,10 +122,10 @@ typedef struct nvmearb_status {
     uint8_t sc;  /* status code */
 } nvmearb_status;
 
-/* The fields of a completion entry. CRD, More and Do Not Retry have no field: this controller never sets them. */
+/* The fields of a completion queue entry. CRD, More and Do Not Retry have none: they are always 0. */
 typedef struct nvmearb_cqe {
     uint32_t dw0;  /* Command Dword 0 */
-    uint16_t sqhd; /* submission queue head pointer, a slot */
+    uint16_t sqhd; /* submission queue head pointer: the index of a slot */
     uint16_t sqid; /* submission queue identifier */
     uint16_t cid;  /* command identifier */
     uint8_t phase; /* phase tag, 0 or 1 */
@@ -93,31 +142,31 @@ typedef struct nvmearb_cqe {
 #define NVMEARB_ADMIN_GET_FEATURES 6u
 #define NVMEARB_ADMIN_ABORT 7u
 
-/* An admin command with the fields that the controller reads of it. A field that commands of this kind don't have is 0. */
+/* An admin command, and its fields that the queue table reads. A field that commands of this kind don't have is 0. */
 typedef struct nvmearb_admin {
     uint32_t kind;  /* NVMEARB_ADMIN_.. */
-    uint32_t cdw11; /* set features: the value */
-    uint64_t prp1;  /* create: the address of the queue */
-    uint16_t qid;   /* create, delete: the queue identifier; abort: that of the command's submission queue */
-    uint16_t qsize; /* create: the number of slots, less 1 */
-    uint16_t cqid;  /* create sq: the identifier of its completion queue */
-    uint8_t qprio;  /* create sq: 0 urgent, 1 high, 2 medium, 3 low */
-    uint8_t pc;     /* create: 1 where it is physically contiguous, else 0 */
-    uint8_t fid;    /* features: the feature identifier */
-    uint8_t sv;     /* set features: 1 where Save is asked for, else 0 */
-    uint16_t cid;   /* abort: the command identifier of the command */
+    uint32_t cdw11; /* Set Features: the value */
+    uint64_t prp1;  /* Create: the address of the queue */
+    uint16_t qid;   /* Create, Delete: the queue identifier; Abort: SQID, the queue of the command to abort */
+    uint16_t qsize; /* Create: QSIZE, the number of slots less 1 */
+    uint16_t cqid;  /* Create SQ: the identifier of its completion queue */
+    uint8_t qprio;  /* Create SQ: QPRIO, 0 urgent, 1 high, 2 medium, 3 low. NVMEARB_URGENT .. are 1 more */
+    uint8_t pc;     /* Create: 1 if the queue is physically contiguous, else 0 */
+    uint8_t fid;    /* Set and Get Features: the feature identifier */
+    uint8_t sv;     /* Set Features: 1 if the value is to be saved, else 0 */
+    uint16_t cid;   /* Abort: the command identifier of the command to abort */
 } nvmearb_admin;
 
-/* What Command Dword 11 of the Arbitration feature says. */
+/* The Arbitration feature: what its Command Dword 11 says. */
 typedef struct nvmearb_settings {
     uint32_t cdw11;  /* the dword as Get Features answers it: bits 07:03 are 0 */
-    uint16_t burst;  /* the most commands of one pick, 1 to 64 in powers of 2; 0 for no limit */
-    uint16_t high;   /* weights, in commands a round, 1 to 256 */
+    uint16_t burst;  /* the most commands of one pick: a power of 2 from 1 to 64, or 0 for no limit */
+    uint16_t high;   /* weights: the most commands of this class in one round, 1 to 256 */
     uint16_t medium;
     uint16_t low;
 } nvmearb_settings;
 
-/* The mechanisms of arbitration. */
+/* The arbitration mechanisms. */
 #define NVMEARB_ROUND_ROBIN 1u
 #define NVMEARB_WEIGHTED 2u /* weighted round robin with urgent priority class */
 
@@ -128,13 +177,14 @@ typedef struct nvmearb_settings {
 #define NVMEARB_MEDIUM 3u
 #define NVMEARB_LOW 4u
 
-/* The most submission queues, the admin queue among them, and the most commands that are seen of one. */
+/* The most submission queues, the admin queue included, and the most commands that may be said to wait in one. */
 #define NVMEARB_MAX_QUEUES 65
 #define NVMEARB_MAX_COUNT 256
 
 /*
- * An arbiter. nvmearb_arbiter_init writes it, and it may be copied. Its fields are the library's: a caller that writes
- * them gets NVMEARB_ESTATE, or the picks of an arbiter that served what they say.
+ * An arbiter. nvmearb_arbiter_init initialises it, and it may be copied. Its fields are the library's. It is valid if
+ * `mechanism` is one of the two and each of `last` is at most 65536, whoever wrote them: zeros aren't, and other memory
+ * that was never initialised may be. A valid arbiter picks as one that has served what its fields say.
  */
 typedef struct nvmearb_arbiter {
     uint32_t mechanism;
@@ -143,25 +193,25 @@ typedef struct nvmearb_arbiter {
     uint16_t used[3];
 } nvmearb_arbiter;
 
-/* A submission queue as arbitration sees it. */
+/* An open submission queue as a pick is shown it. */
 typedef struct nvmearb_seen {
-    uint16_t qid;      /* 0 is the admin queue, 1 to 64 an I/O queue */
-    uint16_t priority; /* NVMEARB_ADMIN for queue 0 and for no other, .. NVMEARB_LOW */
-    uint16_t count;    /* how many of its commands wait, 0 to NVMEARB_MAX_COUNT */
+    uint16_t qid;      /* 0 for the admin queue, 1 to 64 for an I/O queue */
+    uint16_t priority; /* NVMEARB_ADMIN for queue 0; NVMEARB_URGENT .. NVMEARB_LOW for the others */
+    uint16_t count;    /* how many of its commands wait, or NVMEARB_MAX_COUNT if more do */
 } nvmearb_seen;
 
 /* A pick: the next n commands of a submission queue. */
 typedef struct nvmearb_pick {
     uint16_t qid;
-    uint16_t n;     /* at least 1, and no more than wait */
-    uint16_t fresh; /* 1 where it starts a new round of the weighted levels, else 0 */
+    uint16_t n;     /* at least 1, and at most as many as wait */
+    uint16_t fresh; /* 1 if the pick starts a new round of weighted round robin, else 0 */
 } nvmearb_pick;
 
 /*
- * A board: an arbiter with the queues that are open and the number of commands that wait in each. nvmearb_board_init
- * writes it, and it may be copied. Its fields are the library's. `mark` is what nvmearb_board_init writes, and each call
- * looks whether it is there and whether the arbiter is one: where not, the board is none. A caller that writes the other
- * fields gets the answers of a board that has what they say: whatever they are, some board has it.
+ * A board: an arbiter with the open queues and the number of commands that wait in each. nvmearb_board_init initialises
+ * it, and it may be copied. Its fields are the library's. It is valid if `mark` is what nvmearb_board_init writes and
+ * the arbiter is valid. The other fields may have any value: a valid board answers as one with the queues that they
+ * say.
  */
 typedef struct nvmearb_board {
     uint64_t mark;
@@ -174,21 +224,20 @@ typedef struct nvmearb_board {
     nvmearb_arbiter arbiter;
 } nvmearb_board;
 
-/* The most regions of a kind, the admin queue's among them, and the most I/O queues of a kind. */
+/* The most regions of a kind, the admin queue's included, and the most I/O queues of a kind. */
 #define NVMEARB_MAX_REGIONS 65
 #define NVMEARB_MAX_IO_QUEUES 64
 
-/* A region: the place of one ring. A Create command names it by its address. */
+/* A region: the memory of one ring. A Create command names it by its address. */
 typedef struct nvmearb_region {
     uint64_t address;
     uint16_t slots; /* 2 to 4096 */
 } nvmearb_region;
 
 /*
- * A queue table: the regions, the queues and the features of a controller. nvmearb_table_init writes it, and it may be
- * copied. Its fields are the library's. `mark` is what nvmearb_table_init writes, and each call looks whether it is there:
- * where it isn't, the table is none. A caller that writes the other fields gets the answers of a table that has what they
- * say: whatever they are, some table has it.
+ * A queue table: the regions, queues and features of a controller. nvmearb_table_init initialises it, and it may be
+ * copied. Its fields are the library's. It is valid if `mark` is what nvmearb_table_init writes. The other fields may
+ * have any value: a valid table answers as one with the regions, queues and features that they say.
  */
 typedef struct nvmearb_table {
     uint64_t mark;
@@ -210,28 +259,28 @@ typedef struct nvmearb_table {
 } nvmearb_table;
 
 /*
- * What an admin command comes to. All but NVMEARB_DONE mean success, and all but NVMEARB_DONE and NVMEARB_ABORT with 0 as
- * Command Dword 0. That of an Abort is the caller's, who knows which commands wait: 0 where it aborted one, else 1.
+ * The verdict on an admin command: what the caller does before it answers the command. All but NVMEARB_DONE mean
+ * success, and all but NVMEARB_DONE and NVMEARB_ABORT are answered with 0 as Command Dword 0.
  */
-#define NVMEARB_DONE 0u            /* answer with status and dw0 */
-#define NVMEARB_OPEN_SQ 1u         /* a submission queue was created */
+#define NVMEARB_DONE 0u            /* nothing: answer with `status` and `dw0` */
+#define NVMEARB_OPEN_SQ 1u         /* a submission queue was created: fetch from it (nvmearb_board_open) */
 #define NVMEARB_OPEN_CQ 2u         /* a completion queue was created */
-#define NVMEARB_BEGIN_DELETE 3u    /* the submission queue is closing: nvmearb_table_finish_delete ends its deletion */
-#define NVMEARB_CLOSE_CQ 4u        /* the completion queue was deleted */
-#define NVMEARB_SET_ARBITRATION 5u /* the settings of the Arbitration feature were set */
-#define NVMEARB_ABORT 6u           /* abort the oldest waiting command with this identifier of this queue, where one waits */
+#define NVMEARB_BEGIN_DELETE 3u    /* a submission queue is closing: see "At a deletion" above */
+#define NVMEARB_CLOSE_CQ 4u        /* a completion queue was deleted */
+#define NVMEARB_SET_ARBITRATION 5u /* the Arbitration feature was set: hand `cdw11` on (nvmearb_board_set) */
+#define NVMEARB_ABORT 6u           /* abort a waiting command: see "At an Abort" above */
 
-/* The answer to an admin command. What a verdict doesn't have is 0. */
+/* The answer to an admin command. A field that a verdict of its kind doesn't have is 0. */
 typedef struct nvmearb_answer {
-    uint32_t verdict;      /* NVMEARB_DONE .. */
-    uint32_t dw0;          /* Command Dword 0 of its completion; abort: 0, and the caller's */
-    uint32_t cdw11;        /* set arbitration: the settings, with bits 07:03 as 0 */
-    uint16_t qid;          /* open, begin delete, close: the queue identifier; abort: the submission queue identifier */
-    uint16_t region;       /* open: the number of the region */
-    uint16_t cqid;         /* open sq: its completion queue */
-    uint16_t priority;     /* open sq: NVMEARB_URGENT .. NVMEARB_LOW */
-    nvmearb_status status; /* of its completion */
-    uint16_t cid;          /* abort: the command identifier */
+    uint32_t verdict;      /* NVMEARB_DONE .. NVMEARB_ABORT */
+    uint32_t dw0;          /* Command Dword 0 of its completion; NVMEARB_ABORT: 0, and the caller decides */
+    uint32_t cdw11;        /* NVMEARB_SET_ARBITRATION: the settings, with bits 07:03 as 0 */
+    uint16_t qid;          /* the queue identifier; NVMEARB_ABORT: SQID, the command's submission queue */
+    uint16_t region;       /* NVMEARB_OPEN_SQ, NVMEARB_OPEN_CQ: the number of its region */
+    uint16_t cqid;         /* NVMEARB_OPEN_SQ: its completion queue */
+    uint16_t priority;     /* NVMEARB_OPEN_SQ: NVMEARB_URGENT .. NVMEARB_LOW */
+    nvmearb_status status; /* the status of its completion */
+    uint16_t cid;          /* NVMEARB_ABORT: the command identifier */
 } nvmearb_answer;
 
 /* A submission queue that is open or closing. */
@@ -239,108 +288,124 @@ typedef struct nvmearb_queue {
     uint16_t region;   /* the number of its region */
     uint16_t cqid;     /* its completion queue */
     uint16_t priority; /* NVMEARB_ADMIN .. NVMEARB_LOW */
-    uint16_t closing;  /* 1 where its deletion was accepted and isn't finished, else 0 */
+    uint16_t closing;  /* 1 if its deletion began and isn't finished, else 0 */
 } nvmearb_queue;
 
 /* Returns the version of the library. Where it isn't NVMEARB_VERSION, this header is that of another library. */
 uint32_t nvmearb_version(void);
 
-/* Writes the fields of the entry that 64 bytes hold. Every byte belongs to a field. */
+/* Decodes a submission queue entry: writes its fields. Every bit of the entry belongs to a field. */
 void nvmearb_sqe_decode(const uint8_t bytes[NVMEARB_SQE_BYTES], nvmearb_sqe *fields);
 
-/* Writes the 64 bytes of an entry. It undoes nvmearb_sqe_decode, and is undone by it. */
+/* Encodes a submission queue entry: writes its bytes. Either of the two undoes the other. */
 void nvmearb_sqe_encode(const nvmearb_sqe *fields, uint8_t bytes[NVMEARB_SQE_BYTES]);
 
 /*
- * Writes the fields of the completion entry that 16 bytes hold.
- * NVMEARB_EARG exactly where Command Dword 1 isn't 0 or one of bits 31:28 of Command Dword 3 is set: no completion of
- * this controller has such bytes.
+ * Decodes a completion queue entry: writes its fields.
+ * NVMEARB_EARG if Command Dword 1 isn't 0 or one of bits 31:28 of Command Dword 3 is set, which have no field.
  */
 uint32_t nvmearb_cqe_decode(const uint8_t bytes[NVMEARB_CQE_BYTES], nvmearb_cqe *fields);
 
 /*
- * Writes the 16 bytes of a completion entry. It undoes nvmearb_cqe_decode, and is undone by it.
- * NVMEARB_EARG exactly where phase is above 1 or status.sct above 7.
+ * Encodes a completion queue entry: writes its bytes. Either of the two undoes the other.
+ * NVMEARB_EARG if `phase` is above 1 or `status.sct` above 7.
  */
 uint32_t nvmearb_cqe_encode(const nvmearb_cqe *fields, uint8_t bytes[NVMEARB_CQE_BYTES]);
 
 /*
- * Writes the status of an I/O command (Flush, Write or Read) over `count` namespaces, whose sizes in logical blocks
- * `sizes` has, that of namespace identifier 1 first: the status of the first check that the command fails, or success.
- * Nothing is moved.
- * NVMEARB_EARG exactly where `count` is above NVMEARB_MAX_NAMESPACES or a size is 0.
+ * Writes the status of an I/O command: that of the first check that it fails, or success. Flush, Write and Read are
+ * supported. `sizes` has the sizes of `count` namespaces in logical blocks, that of namespace identifier 1 first. No
+ * data is moved.
+ * NVMEARB_EARG if `count` is above NVMEARB_MAX_NAMESPACES or a size is 0.
  */
 uint32_t nvmearb_outcome(const nvmearb_sqe *entry, const uint64_t *sizes, size_t count, nvmearb_status *status);
 
-/* Writes the admin command of an entry by its fields. FUSE and the namespace identifier aren't looked at. */
+/* Writes the kind and the fields of an admin command. FUSE and the namespace identifier are ignored. */
 void nvmearb_admin_of(const nvmearb_sqe *entry, nvmearb_admin *command);
 
 /* Writes what a Command Dword 11 of the Arbitration feature says. Its bits 07:03 are ignored. */
 void nvmearb_settings_of(uint32_t cdw11, nvmearb_settings *settings);
 
 /*
- * Writes an arbiter that has served nothing, whatever was there. `cdw11` is that of the Arbitration feature; its bits
- * 07:03 are ignored. NVMEARB_EARG exactly where there is no such mechanism.
+ * Initialises an arbiter, which has served nothing yet. `cdw11` is that of the Arbitration feature; its bits 07:03 are
+ * ignored.
+ * NVMEARB_EARG if `mechanism` is neither NVMEARB_ROUND_ROBIN nor NVMEARB_WEIGHTED.
  */
 uint32_t nvmearb_arbiter_init(nvmearb_arbiter *arbiter, uint32_t mechanism, uint32_t cdw11);
 
-/* Takes new settings. They start a new round, and what was served last stays. NVMEARB_OK or NVMEARB_ESTATE. */
+/*
+ * Takes new settings. They start a new round; which queues were served last is kept.
+ * NVMEARB_ESTATE if `arbiter` isn't valid.
+ */
 uint32_t nvmearb_arbiter_set(nvmearb_arbiter *arbiter, uint32_t cdw11);
 
 /*
- * Writes what nvmearb_arbiter_pick would pick.
- * `seen` has `count` submission queues by ascending identifier, each once, and at most NVMEARB_MAX_QUEUES.
- * NVMEARB_NONE exactly where no command waits; NVMEARB_ESTATE, and else NVMEARB_EARG, where arbiter or `seen` is none.
+ * Writes what nvmearb_arbiter_pick would pick. `seen` has `count` queues.
+ * NVMEARB_ESTATE if `arbiter` isn't valid; otherwise NVMEARB_EARG if `count` is above NVMEARB_MAX_QUEUES, a queue of
+ * `seen` has a field outside its range, or the identifiers don't ascend; otherwise NVMEARB_NONE if no command waits.
  */
 uint32_t nvmearb_arbiter_peek(const nvmearb_arbiter *arbiter, const nvmearb_seen *seen, size_t count, nvmearb_pick *pick);
 
-/* Picks: the same, and the arbiter keeps that these commands were served. Then the caller takes them all. */
+/* Picks: as nvmearb_arbiter_peek, and the arbiter counts these commands as served. The caller takes all n of them. */
 uint32_t nvmearb_arbiter_pick(nvmearb_arbiter *arbiter, const nvmearb_seen *seen, size_t count, nvmearb_pick *pick);
 
-/* Writes a board on which no queue is open and that has served nothing; else as nvmearb_arbiter_init. */
+/* Initialises a board, on which no queue is open and which has served nothing; otherwise as nvmearb_arbiter_init. */
 uint32_t nvmearb_board_init(nvmearb_board *board, uint32_t mechanism, uint32_t cdw11);
 
 /*
- * Opens a queue, in which no command waits. Of each board function: NVMEARB_ESTATE where the board is none.
- * NVMEARB_EARG where it is open, `qid` is above 64, there is no such priority, or one but not the other is the admin
- * queue's.
+ * Opens a queue, in which no command waits.
+ * NVMEARB_ESTATE if `board` isn't valid; otherwise NVMEARB_EARG if the queue is open, `qid` is above 64, or `priority`
+ * is none of this queue: NVMEARB_ADMIN for queue 0, NVMEARB_URGENT .. NVMEARB_LOW for the others.
  */
 uint32_t nvmearb_board_open(nvmearb_board *board, uint16_t qid, uint16_t priority);
 
-/* Closes a queue. Its count is gone, and what was served stays. NVMEARB_EARG exactly where it isn't open. */
+/*
+ * Closes a queue. The number of its waiting commands is forgotten; what was served is kept.
+ * NVMEARB_ESTATE if `board` isn't valid; otherwise NVMEARB_EARG if the queue isn't open.
+ */
 uint32_t nvmearb_board_close(nvmearb_board *board, uint16_t qid);
 
-/* One more command waits in a queue. NVMEARB_EARG exactly where it isn't open or NVMEARB_MAX_COUNT commands wait. */
+/*
+ * One more command waits in a queue.
+ * NVMEARB_ESTATE if `board` isn't valid; otherwise NVMEARB_EARG if the queue isn't open or NVMEARB_MAX_COUNT commands
+ * wait in it.
+ */
 uint32_t nvmearb_board_came(nvmearb_board *board, uint16_t qid);
 
 /*
- * One waiting command of a queue left without being picked, as one that an Abort command aborts. NVMEARB_EARG exactly
- * where it isn't open or none waits.
+ * One waiting command left a queue without a pick, as one that was aborted.
+ * NVMEARB_ESTATE if `board` isn't valid; otherwise NVMEARB_EARG if the queue isn't open or no command waits in it.
  */
 uint32_t nvmearb_board_went(nvmearb_board *board, uint16_t qid);
 
-/* Writes what nvmearb_board_pick would pick. NVMEARB_NONE exactly where no command waits. */
+/*
+ * Writes what nvmearb_board_pick would pick.
+ * NVMEARB_ESTATE if `board` isn't valid; otherwise NVMEARB_NONE if no command waits.
+ */
 uint32_t nvmearb_board_peek(const nvmearb_board *board, nvmearb_pick *pick);
 
-/* Picks: the same, the board keeps that these commands were served, and as many wait no longer. */
+/*
+ * Picks: as nvmearb_board_peek, and the board counts these commands as served and no longer as waiting. The caller
+ * takes all n of them.
+ */
 uint32_t nvmearb_board_pick(nvmearb_board *board, nvmearb_pick *pick);
 
-/* Takes new settings, as nvmearb_arbiter_set. The queues stay. */
+/* Takes new settings, as nvmearb_arbiter_set. The queues stay. NVMEARB_ESTATE if `board` isn't valid. */
 uint32_t nvmearb_board_set(nvmearb_board *board, uint32_t cdw11);
 
 /*
- * Writes a queue table with no region and no queue, whatever was there. It allots `nsq` I/O submission queues and `ncq`
- * I/O completion queues at most. `cdw11` is that of the Arbitration feature; its bits 07:03 are ignored.
- * NVMEARB_EARG exactly where one of the numbers isn't 1 to NVMEARB_MAX_IO_QUEUES.
+ * Initialises a queue table, which has no region and no queue. `nsq` and `ncq` are the most I/O submission queues and
+ * I/O completion queues. `cdw11` is that of the Arbitration feature; its bits 07:03 are ignored.
+ * NVMEARB_EARG if `nsq` or `ncq` isn't 1 to NVMEARB_MAX_IO_QUEUES.
  */
 uint32_t nvmearb_table_init(nvmearb_table *table, uint16_t nsq, uint16_t ncq, uint32_t cdw11);
 
 /*
- * Adds a submission region of `slots` slots, and writes its number, which counts from 0. Region 0 is the admin queue's,
- * which is open from then on. A region is used by at most one queue, once.
- * Of each table function: NVMEARB_ESTATE exactly where the table is none. Then the first of these that is the case:
- * NVMEARB_EUSED where a region of either kind has the address, NVMEARB_EMANY where NVMEARB_MAX_REGIONS of this kind are
- * there, NVMEARB_ESIZE where `slots` isn't 2 to 4096.
+ * Adds a submission region of `slots` slots, and writes its number. Numbers count from 0. Region 0 is that of the admin
+ * queue, which is open from then on. A Create command takes one of the others, which no later Create can take again.
+ * NVMEARB_ESTATE if `table` isn't valid; otherwise the first of these: NVMEARB_EUSED if a region of either kind has
+ * this address, NVMEARB_EMANY if NVMEARB_MAX_REGIONS submission regions are there, NVMEARB_ESIZE if `slots` isn't 2 to
+ * 4096.
  */
 uint32_t nvmearb_table_add_sq_region(nvmearb_table *table, uint64_t address, uint16_t slots, uint16_t *number);
 
@@ -348,25 +413,37 @@ uint32_t nvmearb_table_add_sq_region(nvmearb_table *table, uint64_t address, uin
 uint32_t nvmearb_table_add_cq_region(nvmearb_table *table, uint64_t address, uint16_t slots, uint16_t *number);
 
 /*
- * Applies the admin entry that 64 bytes hold, and writes what it comes to: verdict, status and Command Dword 0. A
- * command whose status isn't success leaves every byte of the table. A controller applies entries once region 0 of both
- * kinds is there. NVMEARB_OK or NVMEARB_ESTATE.
+ * Applies an admin command, and writes the answer. A command whose status isn't success leaves every byte of the table
+ * as it was. Add region 0 of both kinds before the first command.
+ * NVMEARB_ESTATE if `table` isn't valid.
  */
 uint32_t nvmearb_table_apply(nvmearb_table *table, const uint8_t bytes[NVMEARB_SQE_BYTES], nvmearb_answer *answer);
 
-/* Finishes the deletion of a submission queue: its identifier is free. NVMEARB_EARG exactly where it isn't closing. */
+/*
+ * Finishes the deletion of a submission queue: its identifier is free again.
+ * NVMEARB_ESTATE if `table` isn't valid; otherwise NVMEARB_EARG if the queue isn't closing.
+ */
 uint32_t nvmearb_table_finish_delete(nvmearb_table *table, uint16_t qid);
 
-/* Writes what stands of a submission queue. NVMEARB_NONE exactly where it is neither open nor closing. */
+/*
+ * Writes what the table has of a submission queue.
+ * NVMEARB_ESTATE if `table` isn't valid; otherwise NVMEARB_NONE if the queue is neither open nor closing.
+ */
 uint32_t nvmearb_table_sq(const nvmearb_table *table, uint16_t qid, nvmearb_queue *queue);
 
-/* Writes the number of the region of a completion queue. NVMEARB_NONE exactly where it isn't open. */
+/*
+ * Writes the number of the region of a completion queue.
+ * NVMEARB_ESTATE if `table` isn't valid; otherwise NVMEARB_NONE if the queue isn't open.
+ */
 uint32_t nvmearb_table_cq(const nvmearb_table *table, uint16_t qid, uint16_t *region);
 
-/* Writes how many I/O submission queues and I/O completion queues are allotted, each 1 to NVMEARB_MAX_IO_QUEUES. */
+/*
+ * Writes how many I/O submission queues and I/O completion queues are allotted, each 1 to NVMEARB_MAX_IO_QUEUES.
+ * NVMEARB_ESTATE if `table` isn't valid.
+ */
 uint32_t nvmearb_table_allotted(const nvmearb_table *table, uint16_t *nsq, uint16_t *ncq);
 
-/* Writes the settings of the Arbitration feature. */
+/* Writes the settings of the Arbitration feature. NVMEARB_ESTATE if `table` isn't valid. */
 uint32_t nvmearb_table_settings(const nvmearb_table *table, nvmearb_settings *settings);
 
 #ifdef __cplusplus
