@@ -75,13 +75,16 @@
 extern "C" {
 #endif
 
-/* The version of this header. nvmearb_version answers that of the library. */
+/* The version of this header. nvmearb_version returns that of the library. */
 #define NVMEARB_VERSION_MAJOR 0
 #define NVMEARB_VERSION_MINOR 1
 #define NVMEARB_VERSION_PATCH 0
 #define NVMEARB_VERSION (NVMEARB_VERSION_MAJOR * 0x10000u + NVMEARB_VERSION_MINOR * 0x100u + NVMEARB_VERSION_PATCH)
 
-/* What a function that returns a result returns. Where it isn't NVMEARB_OK, the call has written nothing. */
+/*
+ * The results. A function returns NVMEARB_OK except in the cases that its comment names. Where a call doesn't return
+ * NVMEARB_OK, it has written nothing.
+ */
 #define NVMEARB_OK 0u     /* done */
 #define NVMEARB_NONE 1u   /* there is nothing to pick, or no such queue */
 #define NVMEARB_EARG 2u   /* an argument isn't valid */
@@ -291,7 +294,7 @@ typedef struct nvmearb_queue {
     uint16_t closing;  /* 1 if its deletion began and isn't finished, else 0 */
 } nvmearb_queue;
 
-/* Returns the version of the library. Where it isn't NVMEARB_VERSION, this header is that of another library. */
+/* Returns the version of the library. If it isn't NVMEARB_VERSION, this header is that of another library. */
 uint32_t nvmearb_version(void);
 
 /* Decodes a submission queue entry: writes its fields. Every bit of the entry belongs to a field. */
@@ -355,7 +358,7 @@ uint32_t nvmearb_board_init(nvmearb_board *board, uint32_t mechanism, uint32_t c
 /*
  * Opens a queue, in which no command waits.
  * NVMEARB_ESTATE if `board` isn't valid; otherwise NVMEARB_EARG if the queue is open, `qid` is above 64, or `priority`
- * is none of this queue: NVMEARB_ADMIN for queue 0, NVMEARB_URGENT .. NVMEARB_LOW for the others.
+ * isn't one that the queue can have: NVMEARB_ADMIN for queue 0, NVMEARB_URGENT .. NVMEARB_LOW for the others.
  */
 uint32_t nvmearb_board_open(nvmearb_board *board, uint16_t qid, uint16_t priority);
 
@@ -373,7 +376,7 @@ uint32_t nvmearb_board_close(nvmearb_board *board, uint16_t qid);
 uint32_t nvmearb_board_came(nvmearb_board *board, uint16_t qid);
 
 /*
- * One waiting command left a queue without a pick, as one that was aborted.
+ * One waiting command left a queue without being picked, for example because it was aborted.
  * NVMEARB_ESTATE if `board` isn't valid; otherwise NVMEARB_EARG if the queue isn't open or no command waits in it.
  */
 uint32_t nvmearb_board_went(nvmearb_board *board, uint16_t qid);
