@@ -1,7 +1,9 @@
 # SPDX-License-Identifier: MIT
 PREFIX = /usr/local
 DESTDIR =
-TO = $(DESTDIR)$(abspath $(PREFIX))
+# (a shell may leave a ~ here as it is)
+AT = $(abspath $(PREFIX:~/%=$(HOME)/%))
+TO = $(DESTDIR)$(AT)
 
 all: ## prove and build the program, crates/nvmearb/out/nvmearb
 	./build nvmearb
@@ -24,7 +26,7 @@ install: all ## install the program, its manual page and completions, and the C 
 	install -D -m 644 completions/nvmearb.bash $(TO)/share/bash-completion/completions/nvmearb
 	install -D -m 644 completions/_nvmearb $(TO)/share/zsh/site-functions/_nvmearb
 	install -D -m 644 completions/nvmearb.fish $(TO)/share/fish/vendor_completions.d/nvmearb.fish
-	$(MAKE) -C capi install PREFIX=$(abspath $(PREFIX)) DESTDIR=$(DESTDIR)
+	$(MAKE) -C capi install PREFIX=$(AT) DESTDIR=$(DESTDIR)
 
 help: ## list these
 	@awk -F ': [a-z ]*## ' '/^[a-z]+: .*## / { printf "make %-8s %s\n", $$1, $$2 }' $(MAKEFILE_LIST)
