@@ -1,9 +1,7 @@
 # SPDX-License-Identifier: MIT
 PREFIX = /usr/local
 DESTDIR =
-# (a shell may leave a ~ here as it is)
-AT = $(abspath $(PREFIX:~/%=$(HOME)/%))
-TO = $(DESTDIR)$(AT)
+TO = $(DESTDIR)$(abspath $(PREFIX))
 
 all: ## prove and build the program, crates/nvmearb/out/nvmearb
 	./build nvmearb
@@ -26,7 +24,7 @@ install: all ## install the program, its manual page and completions, and the C 
 	install -D -m 644 completions/nvmearb.bash $(TO)/share/bash-completion/completions/nvmearb
 	install -D -m 644 completions/_nvmearb $(TO)/share/zsh/site-functions/_nvmearb
 	install -D -m 644 completions/nvmearb.fish $(TO)/share/fish/vendor_completions.d/nvmearb.fish
-	$(MAKE) -C capi install PREFIX=$(AT) DESTDIR=$(DESTDIR)
+	$(MAKE) -C capi install PREFIX=$(abspath $(PREFIX)) DESTDIR=$(DESTDIR)
 
 help: ## list these
 	@awk -F ': [a-z ]*## ' '/^[a-z]+: .*## / { printf "make %-8s %s\n", $$1, $$2 }' $(MAKEFILE_LIST)
