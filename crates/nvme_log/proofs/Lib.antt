@@ -27,3 +27,5 @@ pub mod PostsApart
 pub mod OwnStays
 pub mod PostCounts
 pub mod Tickets
+pub mod PickedOnce
+pub mod BrokenPromises

@@ -16,3 +16,4 @@ pub mod AbortExamples
 pub mod AbortLaws
 pub mod LoadedLaws
 pub mod LoadedExamples
+pub mod PromiseExamples
