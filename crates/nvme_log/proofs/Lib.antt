@@ -29,3 +29,4 @@ pub mod PostCounts
 pub mod Tickets
 pub mod PickedOnce
 pub mod BrokenPromises
+pub mod LogLengths

@@ -17,3 +17,4 @@ pub mod AbortLaws
 pub mod LoadedLaws
 pub mod LoadedExamples
 pub mod PromiseExamples
+pub mod Bounds

@@ -27,6 +27,7 @@ ghost use Rattle.nvme_log.specs.AbortLaws.{AbortedAreNotDispatched, AdminIsNotAb
 ghost use Rattle.nvme_log.specs.Loaded.{IsNoPost, without_posts, are_filled, FilledBefore, FetchesLast, ClosedAtOnce, NothingAfterClosed, NoneWaits, IsLoadedLog};
 ghost use Rattle.nvme_log.specs.LoadedExamples.{no_scripts, small_windows, small_script, create_picked, small_opened, small_delete_fetched, small_fetched, small_picked, small_refilled, small_delete_picked, small_aborted, small_closed, crosswise};
 ghost use Rattle.nvme_log.specs.LoadedLaws.{LoadedStepIsOne, LoadedLogIsOne};
+ghost use Rattle.nvme_log.specs.Bounds.{LogsAreShort};
 ghost use Rattle.nvme_log.specs.PromiseExamples.{one_read, one_read_done, unclosed_answered, unclosed, one_too_many, unasked_set, unasked, unasked_done, abort_missing, answered_early, aborted_late};
 ghost use Rattle.nvme_log.specs.Laws.{KeepsThePromise, NoneAfterDelete, PickedOnce, AbortedUnpicked, CompletedAfter, PromisesServeOnce};
 ghost use Rattle.nvme_log.specs.Laws.{QueuesAreTheTables, StartsWithAdmin, OneFateEach, PlacesAreTaken, EachIsExecutedOnce, PrefixesAreAccounted, OnePostEach, WholeAccountsAnswer, WholeAccountsKeepThePromise};
@@ -93,6 +94,12 @@ pub fn broken_promises_are_refused()
     ensures one_abort_missing { KeepsThePromise one_deletion (at_two admin_script reads) abort_missing (at_two admin_done reads_done) → ⊥ }
     ensures answered_early { CompletedAfter answered_early → ⊥ }
     ensures aborted_late { AbortedUnpicked aborted_late → ⊥ }
+{}
+
+/// An accounted log has at most five events for each command that was submitted: its fetch, its pick or its abort, its
+/// completion, what it makes of queues or settings, and the end of the deletion that it begins.
+pub fn logs_are_short()
+    ensures { LogsAreShort }
 {}
 
 /// The queues that an accounted log opens and closes are those of its table history: its openings are the accepted
