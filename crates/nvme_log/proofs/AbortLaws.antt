@@ -451,7 +451,7 @@ aborted_are_told rules sent past collected h r i a = record {
 
 -- ---- what an Abort command takes
 -- what a taken command makes
-made-pick : (rules : FrontRules) (before : Past) (seen : List Seen) (pick : Pick) (i : ℕ) (v : Verdict) → TakesCommand rules before pick i v
+pub made-pick : (rules : FrontRules) (before : Past) (seen : List Seen) (pick : Pick) (i : ℕ) (v : Verdict) → TakesCommand rules before pick i v
     → made_last rules (event.Pick seen pick ∷ before) ≡ made_by before v
 made-pick rules before seen pick i v t =
     ap (λ (b : Bool). if b then made_of rules before (admin_entry before) else []) (eq-eqb pick.qid 0 t.of_admin)
@@ -563,12 +563,12 @@ oldest-made past sqid cid r i h =
     ∙ ap (λ (z : ℕ). Abort z i ∷ []) h.region
 
 -- the oldest event of some
-record EndsWith (xs : List Event) : Type 0 where
+pub record EndsWith (xs : List Event) : Type 0 where
   pub rest : List Event
   pub last : Event
   pub is : xs ≡ rest ++ last ∷ []
 
-ends-with : (x : Event) (xs : List Event) → EndsWith (x ∷ xs)
+pub ends-with : (x : Event) (xs : List Event) → EndsWith (x ∷ xs)
 ends-with x [] = record { rest = []; last = x; is = refl }
 ends-with x (y ∷ xs) = let it = ends-with y xs in record { rest = x ∷ it.rest; last = it.last; is = ap (λ (z : List Event). x ∷ z) it.is }
 

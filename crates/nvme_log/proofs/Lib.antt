@@ -27,3 +27,6 @@ pub mod PostsApart
 pub mod OwnStays
 pub mod PostCounts
 pub mod Tickets
+pub mod PickedOnce
+pub mod BrokenPromises
+pub mod LogLengths

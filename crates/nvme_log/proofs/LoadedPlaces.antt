@@ -172,7 +172,7 @@ region-of r None queue is h = absurd (none-some queue is)
 region-of r (Some other) queue is h = ap (λ (x : Queue). x.region) (sym (same_Some _ _ is)) ∙ eqb-true other.region r h
 
 -- a lawful pick takes no more than waits
-pick-few : (m : Mechanism) (s : ArbitrationFields) (past : Past) (pick : Pick) (r : ℕ) → has_region r (open_sq past pick.qid) ≡ true
+pub pick-few : (m : Mechanism) (s : ArbitrationFields) (past : Past) (pick : Pick) (r : ℕ) → has_region r (open_sq past pick.qid) ≡ true
     → IsMeasured m s (observation_of past) pick → pick.n ≤ length (waiting past r)
 pick-few m s past pick r own it =
     let found = find-in (λ (x : Seen). x.qid == pick.qid) it.queue (observation_of past) it.was_seen in
@@ -224,13 +224,13 @@ counted-pick past seen pick r few h = elim (cases_Bool (has_region r (open_sq pa
 ]
 
 -- an element cuts its list in two
-record Cut (x : ℕ) (xs : List ℕ) : Type 0 where
+pub record Cut (x : ℕ) (xs : List ℕ) : Type 0 where
   pub before : List ℕ
   pub behind : List ℕ
   pub is : xs ≡ before ++ x ∷ behind
 
 -- each element does
-cut-at : (x : ℕ) (xs : List ℕ) → IsIn x xs → Cut x xs
+pub cut-at : (x : ℕ) (xs : List ℕ) → IsIn x xs → Cut x xs
 cut-at x [] h = absurd h
 cut-at x (y ∷ xs) (inl e) = record { before = []; behind = xs; is = ap (λ (z : ℕ). z ∷ xs) e }
 cut-at x (y ∷ xs) (inr h) = let it = cut-at x xs h in record { before = y ∷ it.before; behind = it.behind; is = ap (λ (z : List ℕ). y ∷ z) it.is }

@@ -29,11 +29,11 @@ abbrev pub times_at : ℕ → ℕ → List Place → ℕ
 times_at r i ps = sum_by (λ (p : Place). one_if (p.region == r && p.index == i)) ps
 
 -- a place is taken out of a list in which it stands
-record TakesOut (x : Place) (ys : List Place) : Type 0 where
+pub record TakesOut (x : Place) (ys : List Place) : Type 0 where
   pub left : List Place
   pub weighs : (w : Place → ℕ) → sum_by w ys ≡ w x + sum_by w left
 
-taken-out : (x : Place) (ys : List Place) → 1 ≤ times_at x.region x.index ys → TakesOut x ys
+pub taken-out : (x : Place) (ys : List Place) → 1 ≤ times_at x.region x.index ys → TakesOut x ys
 taken-out x [] h = absurd (omega (arith, h))
 taken-out x (y ∷ ys) h = by (y.region == x.region && y.index == x.index) refl (λ k. taken-out x ys k) where
   by : (b : Bool) → (y.region == x.region && y.index == x.index) ≡ b → (1 ≤ times_at x.region x.index ys → TakesOut x ys) → TakesOut x (y ∷ ys)
@@ -49,7 +49,7 @@ taken-out x (y ∷ ys) h = by (y.region == x.region && y.index == x.index) refl 
       record { left = y ∷ it.left; weighs = λ w. omega (arith, sum_by-cons w y ys, it.weighs w, sum_by-cons w y it.left) }
 
 -- a place stands where its region and index are
-own-place : (x : Place) → one_if (x.region == x.region && x.index == x.index) ≡ 1
+pub own-place : (x : Place) → one_if (x.region == x.region && x.index == x.index) ≡ 1
 own-place x = rw (eq-eqb x.region x.region refl, eq-eqb x.index x.index refl) refl
 
 -- two lists in which each place stands as often weigh the same, whatever a place weighs
@@ -88,7 +88,7 @@ one-more true n = omega arith
 one-more false n = omega arith
 
 -- a place was posted as often as it stands among those posted
-posted-times : (past : Past) (r i : ℕ) → times_at r i (posted_places past) ≡ posts_of past r i
+pub posted-times : (past : Past) (r i : ℕ) → times_at r i (posted_places past) ≡ posts_of past r i
 posted-times [] r i = refl
 posted-times (Post c region index cqe ∷ past) r i =
     sum_by-cons (λ (p : Place). one_if (p.region == r && p.index == i)) (place_at region index) (posted_places past)
@@ -107,7 +107,7 @@ below-more i n = elim (cases_lt i n) [
 ]
 
 -- each fetched place stands once among those fetched
-fetched-times : (past : Past) → Each IndexCounts past → (r i : ℕ) → times_at r i (fetched_places past) ≡ one_if (nat_lt i (length (fetched past r)))
+pub fetched-times : (past : Past) → Each IndexCounts past → (r i : ℕ) → times_at r i (fetched_places past) ≡ one_if (nat_lt i (length (fetched past r)))
 fetched-times [] h r i = sym (ap one_if (le-ltb i 0 (omega arith)))
 fetched-times (Fetch region index entry ∷ past) h r i =
     sum_by-cons (λ (p : Place). one_if (p.region == r && p.index == i)) (place_at region index) (fetched_places past)
@@ -124,7 +124,7 @@ fetched-times (Fetch region index entry ∷ past) h r i =
 fetched-times (e ∷ past) h r i = fetched-times past h.1 r i
 
 -- a place that is posted was fetched
-posted-below : (rules : FrontRules) (past : Past) → Each (PostsOwn rules) past → (r i : ℕ) → is_posted past r i ≡ true → i < length (fetched past r)
+pub posted-below : (rules : FrontRules) (past : Past) → Each (PostsOwn rules) past → (r i : ℕ) → is_posted past r i ≡ true → i < length (fetched past r)
 posted-below rules past h r i p =
     let it = found rules past h r i p in
     let within = slice_get_within (fetched it.before r) i it.own.entry it.own.is_there in

@@ -1,9 +1,12 @@
 -- After the deletion of a queue began nothing is fetched from its region, and so a whole account keeps the promise of a run.
 use Rattle.std.proofs.Common.{◌≡◌, ℕ, ◌==◌, ◌||◌, Bool, true, false, List, [], ◌∷◌, ◌++◌, map, Option, Some, None, refl, sym, ap, ◌∙◌, subst, append_assoc, ◌⊎◌, inl, inr, All, if◌then◌else◌}
 use Rattle.std.proofs.lemmas.List.Elements.{All-head, All-tail, All-nil, All-cons}
-use Rattle.std.proofs.lemmas.Bool.{cases_Bool, eq-eqb, eqb-true}
+use Rattle.std.specs.Prelude.{slice_get}
+use Rattle.std.proofs.lemmas.Bool.{cases_Bool, eq-eqb, eqb-true, MatchBool-at_true, MatchBool-at_false}
 use Rattle.std.proofs.lemmas.Option.{same_Some}
+use mathlib.Core.List.{IsPrefix}
 use Rattle.nvme_entry.specs.declared.submission.Sqe.{Sqe}
+use Rattle.nvme_entry.specs.declared.completion.Cqe.{Cqe}
 use Rattle.nvme_admin.specs.Accepted.{verdict_of}
 use Rattle.nvme_admin.specs.declared.verdict.Verdict.{Verdict}
 use Rattle.nvme_admin.specs.declared.verdict.Verdict.TheVariants.{Done, BeginDelete, CloseCq}
@@ -12,14 +15,18 @@ use Rattle.nvme_log.specs.declared.event.Event.{Event}
 use Rattle.nvme_log.specs.declared.event.Event.TheVariants.{Fetch, Pick, SetArbitration, OpenSq, OpenCq, Closing, Abort, Post, ClosedSq, ClosedCq}
 use Rattle.nvme_log.specs.Rules.{Past, FrontRules, Each}
 use Rattle.nvme_log.specs.Queues.{Queue, open_sq, open_cq, Deletion, pending, is_closed_region}
-use Rattle.nvme_log.specs.Places.{fetched, waiting}
+use Rattle.nvme_log.specs.Places.{fetched, waiting, fate_of, is_waiting}
 use Rattle.nvme_log.specs.Histories.{table_history, admin_entry}
-use Rattle.nvme_log.specs.Effects.{abort_of, closing_of, closed_cq_of, made_by, made_of, made_last, effects_since, EffectsAtOnce}
-use Rattle.nvme_log.specs.Account.{Deletes}
-use Rattle.nvme_log.specs.Laws.{WholeAccountsKeepThePromise}
+use Rattle.nvme_log.specs.Effects.{is_effect, abort_of, closing_of, closed_cq_of, made_by, made_of, made_last, effects_since, EffectsAtOnce}
+use Rattle.nvme_log.specs.Account.{Deletes, PostsOwn}
+use Rattle.nvme_log.specs.Laws.{NoneAfterDelete, WholeAccountsKeepThePromise}
 use Rattle.nvme_log.proofs.Aborting.{makes_aborts}
 use Rattle.nvme_log.proofs.Prefixes.{Each-after}
 use Rattle.nvme_log.proofs.Posts.{whole_answers}
+use Rattle.nvme_log.proofs.AbortLaws.{made-pick, ends-with}
+use Rattle.nvme_log.proofs.Members.{in-first, cuts}
+use Rattle.nvme_log.proofs.Turns.{in-waits, stays, stays_on}
+use Rattle.nvme_log.proofs.PickedOnce.{picked_once, aborted_unpicked, completed_after}
 
 -- ---- a command makes a Closing only as its first effect
 -- at an event the deletion of a submission queue begins
@@ -182,6 +189,64 @@ answered_over rules past later middle before e qid r is at_once deletes =
     (Each-after Deletes (later ++ e ∷ []) _ (subst (Each Deletes) first deletes)) in
     ap (λ (p : Past). fetched p r) all ∙ whole.same ∙ sym part.same
 
+-- ---- the command that begins a deletion
+-- the first event after a pick whose command makes something is the first of what it makes
+first-is_made : (rules : FrontRules) (past : Past) (e one : Event) (more : List Event) → EffectsAtOnce rules past e → effects_since past ≡ [] → made_last rules past ≡ one ∷ more → e ≡ one
+first-is_made rules past e one more h none made = by (is_effect e) refl where
+  by : (b : Bool) → is_effect e ≡ b → e ≡ one
+  by true eff =
+      let p = MatchBool-at_true (IsPrefix (effects_since past ++ e ∷ []) (made_last rules past)) (effects_since past ≡ made_last rules past) eff h in
+      let all : e ∷ p.0 ≡ one ∷ more = ap (λ (z : List Event). (z ++ e ∷ []) ++ p.0) (sym none) ∙ p.1 ∙ made in
+      cc
+  by false eff =
+      let all = MatchBool-at_false (IsPrefix (effects_since past ++ e ∷ []) (made_last rules past)) (effects_since past ≡ made_last rules past) eff h in
+      let no : [] ≡ one ∷ more = sym none ∙ all ∙ made in
+      cc
+
+-- after the pick of a command that deletes a queue its deletion began, before anything else
+record Begins (between : Past) (qid r : ℕ) : Type 0 where
+  pub rest : Past
+  pub is : between ≡ rest ++ Closing qid r ∷ []
+
+begins : (rules : FrontRules) (between after : Past) (e : Event) (qid r : ℕ) (more : List Event) → is_effect e ≡ false → effects_since after ≡ [] → made_last rules after ≡ Closing qid r ∷ more
+    → Each (EffectsAtOnce rules) (e ∷ (between ++ after)) → Begins between qid r
+begins rules [] after e qid r more other none made h = absurd (let same : e ≡ Closing qid r = first-is_made rules after e (Closing qid r) more h.0 none made in let yes : is_effect e ≡ true = ap is_effect same in cc)
+begins rules (x ∷ between) after e qid r more other none made h =
+    let it = ends-with x between in
+    let split : (x ∷ between) ++ after ≡ it.rest ++ it.last ∷ after = ap (λ (z : Past). z ++ after) it.is ∙ append_assoc it.rest (it.last ∷ []) after in
+    let here : Each (EffectsAtOnce rules) (it.last ∷ after) = Each-after (EffectsAtOnce rules) it.rest (it.last ∷ after) (subst (Each (EffectsAtOnce rules)) split h.1) in
+    let same : it.last ≡ Closing qid r = first-is_made rules after it.last (Closing qid r) more here.0 none made in
+    record { rest = it.rest; is = it.is ∙ ap (λ (z : Event). it.rest ++ z ∷ []) same }
+
+-- a place that was posted never waits again, so its command isn't picked later
+never-later : (rules : FrontRules) (between before : Past) (c i : ℕ) (cqe : Cqe) → PostsOwn rules before (Post c 0 i cqe)
+    → slice_get (waiting (between ++ Post c 0 i cqe ∷ before) 0) 0 ≡ Some i → ⊥
+never-later rules between before c i cqe own oldest =
+    let now : Past = between ++ Post c 0 i cqe ∷ before in
+    let none : is_waiting (fate_of now 0 i) ≡ false = stays_on between (Post c 0 i cqe ∷ before) 0 i (stays (Post c 0 i cqe) before 0 i own.1) in
+    let waits : is_waiting (fate_of now 0 i) ≡ true = (in-waits now 0 i (in-first i (waiting now 0) oldest)).1 in
+    cc
+
+-- nothing is fetched from a queue after the command that deletes it was answered
+none_after_delete : (rules : FrontRules) (past : Past) → Each (EffectsAtOnce rules) past → Each Deletes past → Each (PostsOwn rules) past → NoneAfterDelete rules past
+none_after_delete rules past at_once deletes own i qid r d later before c cqe posted =
+    elim (cuts d.later d.before later before (Pick d.seen d.pick) (Post c 0 i cqe) (sym d.stands ∙ posted)) [
+      | inl it ↦
+          let after : Past = Pick d.seen d.pick ∷ d.before in
+          let at : Each (EffectsAtOnce rules) (Post c 0 i cqe ∷ before) = Each-after (EffectsAtOnce rules) later (Post c 0 i cqe ∷ before) (subst (Each (EffectsAtOnce rules)) posted at_once) in
+          let made : made_last rules after ≡ closing_of d.before qid (open_sq d.before qid) = made-pick rules d.before d.seen d.pick i (BeginDelete qid) d.taken in
+          let closes : made_last rules after ≡ Closing qid r ∷ map (λ (k : ℕ). Abort d.queue.region k) (waiting d.before d.queue.region) =
+          made ∙ ap (closing_of d.before qid) d.is_open ∙ ap (λ (z : ℕ). Closing qid z ∷ map (λ (k : ℕ). Abort d.queue.region k) (waiting d.before d.queue.region)) d.region in
+          let first = begins rules it.between after (Post c 0 i cqe) qid r _ refl refl closes (subst (λ (z : Past). Each (EffectsAtOnce rules) (Post c 0 i cqe ∷ z)) it.right at) in
+          let is : before ≡ first.rest ++ Closing qid r ∷ after = it.right ∙ ap (λ (z : Past). z ++ after) first.is ∙ append_assoc first.rest (Closing qid r ∷ []) after in
+          answered_over rules past later first.rest after (Post c 0 i cqe) qid r (posted ∙ ap (λ (z : Past). later ++ Post c 0 i cqe ∷ z) is) at_once deletes
+          ∙ sym (ap (λ (z : Past). fetched z r) is)
+      | inr (inl e) ↦ absurd (cc e)
+      | inr (inr it) ↦
+          let here : Each (PostsOwn rules) (Post c 0 i cqe ∷ before) = Each-after (PostsOwn rules) later (Post c 0 i cqe ∷ before) (subst (Each (PostsOwn rules)) posted own) in
+          absurd (never-later rules it.between before c i cqe here.0 (subst (λ (z : Past). slice_get (waiting z 0) 0 ≡ Some i) it.right d.taken.oldest))
+    ]
+
 -- a whole account keeps the promise of a run
 pub whole_promise : WholeAccountsKeepThePromise
 whole_promise rules loaded scripts sent past collected h =
@@ -196,4 +261,11 @@ whole_promise rules loaded scripts sent past collected h =
       one_completion = answers.one_completion;
       lawful = h.account.lawful;
       observed = h.account.observed;
+      effects_at_once = h.account.effects_at_once;
+      effects_whole = h.account.effects_whole;
+      none_after_delete = none_after_delete rules past h.account.effects_at_once h.account.deletes h.account.posts_own;
+      nothing_else = h.all_collected;
+      picked_once = picked_once past;
+      aborted_unpicked = aborted_unpicked rules past h.account.effects_at_once;
+      completed_after = completed_after rules sent past collected h.account;
     }

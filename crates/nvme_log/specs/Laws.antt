@@ -1,5 +1,5 @@
 -- Laws of logs, which test the definitions (profile).
-use Rattle.std.specs.Prelude.{◌≡◌, ℕ, ◌+◌, ◌<◌, ◌≤◌, ◌==◌, Bool, if◌then◌else◌, List, [], ◌∷◌, ◌++◌, length, filter, Option, Some, None, slice_get, sum_by}
+use Rattle.std.specs.Prelude.{◌≡◌, ℕ, ◌+◌, ◌<◌, ◌≤◌, ◌==◌, ◌⊎◌, Bool, true, false, if◌then◌else◌, List, [], ◌∷◌, ◌++◌, length, filter, Option, Some, None, slice_get, sum_by}
 use mathlib.Core.List.{IsPrefix}
 use Rattle.nvme_entry.specs.declared.submission.Sqe.{Sqe}
 use Rattle.nvme_entry.specs.declared.completion.Cqe.{Cqe}
@@ -10,6 +10,7 @@ use Rattle.nvme_arbiter.specs.declared.pick.Seen.{Seen}
 use Rattle.nvme_admin.specs.History.{TableHistory}
 use Rattle.nvme_admin.specs.Accepted.{sq_at, cq_at}
 use Rattle.nvme_admin.specs.declared.verdict.SqEntry.{SqEntry}
+use Rattle.nvme_admin.specs.declared.verdict.Verdict.TheVariants as verdict
 use Rattle.nvme_pool.specs.declared.jobs.Job.{Job}
 use Rattle.nvme_pool.specs.declared.jobs.Finished.{Finished}
 use Rattle.nvme_pool.specs.Seat.{SeatView}
@@ -19,13 +20,14 @@ use Rattle.nvme_log.specs.declared.event.Event.TheVariants.{Closing, Post}
 use Rattle.nvme_log.specs.declared.event.Event.TheVariants as event
 use Rattle.nvme_log.specs.Limits.{max_outstanding}
 use Rattle.nvme_log.specs.Rules.{Past, FrontRules, Each}
-use Rattle.nvme_log.specs.Places.{Place, fetched, places, fate_of, is_waiting, is_picked, is_aborted, one_if}
+use Rattle.nvme_log.specs.Places.{Place, fetched, waiting, places, fate_of, is_waiting, is_picked, is_aborted, one_if}
 use Rattle.nvme_log.specs.Queues.{Queue, open_sq, open_cq}
 use Rattle.nvme_log.specs.Histories.{arbitration_of, table_history}
 use Rattle.nvme_log.specs.Completions.{posted_to, posts_of, outstanding, IsOwn}
 use Rattle.nvme_log.specs.Dispatches.{dispatched, IsJobOf, ExecutesOnce}
-use Rattle.nvme_log.specs.Effects.{EffectsAtOnce}
+use Rattle.nvme_log.specs.Effects.{made_last, effects_since, EffectsAtOnce}
 use Rattle.nvme_log.specs.Account.{IndexCounts, ServedWhileOpen, Observed, Deletes, PostsOwn, LeavesPlaces, IsAccount, IsWholeAccount, latest_admin_place}
+use Rattle.nvme_log.specs.AbortLaws.{TakesCommand}
 
 -- a submission queue of the table, where it is open and not closing
 abbrev pub as_open : Option SqEntry → Option Queue
@@ -88,6 +90,57 @@ abbrev pub WholeAccountsAnswer : Type 0
 WholeAccountsAnswer = (rules : FrontRules) (loaded : Bool) (scripts sent : ℕ → List Sqe) (past : Past) (collected : ℕ → List Cqe)
     → IsWholeAccount rules loaded scripts sent past collected → IsAnswered rules sent past collected
 
+-- an admin command was picked that deletes an open submission queue: the command's place, the queue's identifier and its region
+pub record DeletesQueue (rules : FrontRules) (past : Past) (i qid r : ℕ) : Type 0 where
+  pub later : Past
+  pub before : Past
+  pub seen : List Seen
+  pub pick : Pick
+  pub stands : past ≡ later ++ event.Pick seen pick ∷ before
+  pub taken : TakesCommand rules before pick i (verdict.BeginDelete qid)
+  pub queue : Queue
+  pub is_open : open_sq before qid ≡ Some queue
+  pub region : queue.region ≡ r
+
+-- after the completion of a command that deletes a queue nothing is fetched from the queue's region. It names the command and no event
+-- that the command makes
+abbrev pub NoneAfterDelete : FrontRules → Past → Type 0
+NoneAfterDelete rules past = (i qid r : ℕ) → DeletesQueue rules past i qid r
+    → (later before : Past) (c : ℕ) (cqe : Cqe) → past ≡ later ++ Post c 0 i cqe ∷ before → fetched past r ≡ fetched before r
+
+-- a pick, after these events, takes a place: it is one of the oldest that wait, as many as the pick takes, of the queue that the pick names
+pub record PicksPlace (before : Past) (pick : Pick) (r i : ℕ) : Type 0 where
+  pub queue : Queue
+  pub is_open : open_sq before pick.qid ≡ Some queue
+  pub region : queue.region ≡ r
+  pub position : ℕ
+  pub among : position < pick.n
+  pub stands : slice_get (waiting before r) position ≡ Some i
+
+-- a pick took a place
+pub record HasPick (past : Past) (r i : ℕ) : Type 0 where
+  pub later : Past
+  pub before : Past
+  pub seen : List Seen
+  pub pick : Pick
+  pub stands : past ≡ later ++ event.Pick seen pick ∷ before
+  pub takes : PicksPlace before pick r i
+
+-- no two picks take one place
+abbrev pub PickedOnce : Past → Type 0
+PickedOnce past = (later middle before : Past) (seen others : List Seen) (pick first : Pick) (r i : ℕ)
+    → past ≡ later ++ event.Pick seen pick ∷ (middle ++ event.Pick others first ∷ before)
+    → PicksPlace before first r i → PicksPlace (middle ++ event.Pick others first ∷ before) pick r i → ⊥
+
+-- no pick takes a place that is aborted
+abbrev pub AbortedUnpicked : Past → Type 0
+AbortedUnpicked past = (r i : ℕ) → is_aborted past r i ≡ true → HasPick past r i → ⊥
+
+-- the completion of a place comes after the pick that took it or after its abort
+abbrev pub CompletedAfter : Past → Type 0
+CompletedAfter past = (later before : Past) (c r i : ℕ) (cqe : Cqe) → past ≡ later ++ Post c r i cqe ∷ before
+    → HasPick before r i ⊎ (is_aborted before r i ≡ true)
+
 -- what a run promises, sentence by sentence
 pub record KeepsThePromise (rules : FrontRules) (sent : ℕ → List Sqe) (past : Past) (collected : ℕ → List Cqe) : Type 0 where
   -- the commands fetched from each submission queue are a prefix of those submitted to it, in order, each once
@@ -103,10 +156,34 @@ pub record KeepsThePromise (rules : FrontRules) (sent : ℕ → List Sqe) (past 
   pub lawful : IsLawfulRun rules.mechanism rules.start.settings (arbitration_of past)
   -- over what the arbiter observed: the open queues, each with its number of candidates
   pub observed : Each Observed past
+  -- queues open and close, settings change and commands are aborted by admin commands alone: what one makes stands whole right after its
+  -- pick, and nowhere else
+  pub effects_at_once : Each (EffectsAtOnce rules) past
+  pub effects_whole : effects_since past ≡ made_last rules past
+  -- none is fetched from a queue after the command that deletes it was answered
+  pub none_after_delete : NoneAfterDelete rules past
+  -- nothing is collected but the completions that were posted
+  pub nothing_else : (c : ℕ) → collected c ≡ posted_to past c
+  -- each command is executed once, and answered afterwards. A log has no event for an execution: it says that a command is picked once or
+  -- aborted, never both, and that its completion comes afterwards
+  pub picked_once : PickedOnce past
+  pub aborted_unpicked : AbortedUnpicked past
+  pub completed_after : CompletedAfter past
 
 abbrev pub WholeAccountsKeepThePromise : Type 0
 WholeAccountsKeepThePromise = (rules : FrontRules) (loaded : Bool) (scripts sent : ℕ → List Sqe) (past : Past) (collected : ℕ → List Cqe)
     → IsWholeAccount rules loaded scripts sent past collected → KeepsThePromise rules sent past collected
+
+-- a place was picked once, or it was aborted and never picked; and each completion of it comes afterwards
+pub record IsServedOnce (past : Past) (r i : ℕ) : Type 0 where
+  pub served : (HasPick past r i × (is_aborted past r i ≡ false)) ⊎ ((is_aborted past r i ≡ true) × (HasPick past r i → ⊥))
+  pub one_pick : (p q : HasPick past r i) → p.before ≡ q.before
+  pub answered_after : (later before : Past) (c : ℕ) (cqe : Cqe) → past ≡ later ++ Post c r i cqe ∷ before → HasPick before r i ⊎ (is_aborted before r i ≡ true)
+
+-- it is so of each fetched command, by the promise alone
+abbrev pub PromisesServeOnce : Type 0
+PromisesServeOnce = (rules : FrontRules) (sent : ℕ → List Sqe) (past : Past) (collected : ℕ → List Cqe) → KeepsThePromise rules sent past collected
+    → (r i : ℕ) → i < length (fetched past r) → IsServedOnce past r i
 
 -- with its regions alone a front has just the admin queues
 pub record StartsWithAdmin (rules : FrontRules) : Type 0 where

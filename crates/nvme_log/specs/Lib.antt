@@ -16,3 +16,5 @@ pub mod AbortExamples
 pub mod AbortLaws
 pub mod LoadedLaws
 pub mod LoadedExamples
+pub mod PromiseExamples
+pub mod Bounds

@@ -27,6 +27,9 @@ ghost use Rattle.nvme_log.specs.AbortLaws.{AbortedAreNotDispatched, AdminIsNotAb
 ghost use Rattle.nvme_log.specs.Loaded.{IsNoPost, without_posts, are_filled, FilledBefore, FetchesLast, ClosedAtOnce, NothingAfterClosed, NoneWaits, IsLoadedLog};
 ghost use Rattle.nvme_log.specs.LoadedExamples.{no_scripts, small_windows, small_script, create_picked, small_opened, small_delete_fetched, small_fetched, small_picked, small_refilled, small_delete_picked, small_aborted, small_closed, crosswise};
 ghost use Rattle.nvme_log.specs.LoadedLaws.{LoadedStepIsOne, LoadedLogIsOne};
+ghost use Rattle.nvme_log.specs.Bounds.{LogsAreShort};
+ghost use Rattle.nvme_log.specs.PromiseExamples.{one_read, one_read_done, unclosed_answered, unclosed, one_too_many, unasked_set, unasked, unasked_done, abort_missing, answered_early, aborted_late};
+ghost use Rattle.nvme_log.specs.Laws.{KeepsThePromise, NoneAfterDelete, PickedOnce, AbortedUnpicked, CompletedAfter, PromisesServeOnce};
 ghost use Rattle.nvme_log.specs.Laws.{QueuesAreTheTables, StartsWithAdmin, OneFateEach, PlacesAreTaken, EachIsExecutedOnce, PrefixesAreAccounted, OnePostEach, WholeAccountsAnswer, WholeAccountsKeepThePromise};
 
 /// Each fetched place has exactly one fate: it waits, was picked or was aborted.
@@ -57,6 +60,46 @@ pub fn whole_accounts_answer()
 /// candidate counts that the arbiter observed.
 pub fn whole_accounts_keep_the_promise()
     ensures { WholeAccountsKeepThePromise }
+{}
+
+/// By the promise alone, each fetched command was picked once, or it was aborted and never picked; and its completion
+/// comes afterwards.
+pub fn promises_serve_once()
+    ensures { PromisesServeOnce }
+{}
+
+/// The worked log of a deletion keeps the promise.
+pub fn deletion_keeps_the_promise()
+    ensures { KeepsThePromise one_deletion (at_two admin_script reads) deleted (at_two admin_done reads_done) }
+{}
+
+/// No log picks a place twice.
+pub fn no_place_is_picked_twice()
+    ensures { (past : Past) → PickedOnce past }
+{}
+
+/// Logs that break a sentence of the promise, each with the field that refuses it: a Delete is answered while its queue
+/// stays open, and a command is fetched from it; a completion is collected that was never posted; the settings change
+/// by no command; a Delete makes only the beginning of what it makes; a command is answered before it is picked; and one
+/// is aborted after it was picked.
+pub fn broken_promises_are_refused()
+    ensures unclosed { KeepsThePromise one_deletion (at_two admin_script one_read) unclosed (at_two admin_done (one_read_done ∷ [])) → ⊥ }
+    ensures fetched_after_answer { NoneAfterDelete one_deletion unclosed → ⊥ }
+    ensures answered_unclosed { Each (EffectsAtOnce one_deletion) unclosed_answered → ⊥ }
+    ensures collected_too_many { KeepsThePromise one_deletion (at_two admin_script reads) deleted (at_two one_too_many reads_done) → ⊥ }
+    ensures unasked { KeepsThePromise one_deletion (at_two admin_script reads) unasked (at_two admin_done unasked_done) → ⊥ }
+    ensures set_by_no_command { Each (EffectsAtOnce one_deletion) unasked_set → ⊥ }
+    ensures lawful_then { IsLawfulRun one_deletion.mechanism one_deletion.start.settings (arbitration_of unasked) }
+    ensures observed_then { Each Observed unasked }
+    ensures one_abort_missing { KeepsThePromise one_deletion (at_two admin_script reads) abort_missing (at_two admin_done reads_done) → ⊥ }
+    ensures answered_early { CompletedAfter answered_early → ⊥ }
+    ensures aborted_late { AbortedUnpicked aborted_late → ⊥ }
+{}
+
+/// An accounted log has at most five events for each command that was submitted: its fetch, its pick or its abort, its
+/// completion, what it makes of queues or settings, and the end of the deletion that it begins.
+pub fn logs_are_short()
+    ensures { LogsAreShort }
 {}
 
 /// The queues that an accounted log opens and closes are those of its table history: its openings are the accepted
