@@ -187,6 +187,11 @@ ErrorMeans NoMemory old new = HasNoPickMore old new × HasNoStray old new
 ErrorMeans LogFull old new = IsFullLog new × HasNoPickMore old new × HasNoStray old new
 ErrorMeans (Stray ticket) old new = GainedStray ticket old new × HasNoPickMore old new
 
+-- ---- executions
+-- no command that has no result yet has its completion posted
+abbrev pub NoneInHandPosted : FrontView → Type 0
+NoneInHandPosted v = (r i : ℕ) → is_in_hand v.hands r i ≡ true → is_posted (past_in v) r i ≡ false
+
 -- ---- how far a turn goes
 -- the window of an open queue is full, or nothing is known to come for it
 abbrev pub IsFilled : FrontView → Past → Queue → Type 0
