@@ -1,10 +1,10 @@
 -- That each job was executed once, when a pool was closed.
-use Rattle.std.proofs.Common.{◌≡◌, ℕ, ◌+◌, ◌≤◌, List, [], ◌∷◌, ◌++◌, length, map, None, refl, sym, ap, subst, ◌∙◌, arith, inl, inr, sum_by, length-append}
+use Rattle.std.proofs.Common.{◌≡◌, ℕ, ◌+◌, ◌≤◌, Bool, true, false, ◌==◌, ◌&&◌, ◌||◌, List, [], ◌∷◌, ◌++◌, length, map, None, refl, sym, ap, subst, ◌∙◌, arith, inl, inr, sum_by, length-append}
 use Rattle.std.specs.Prelude.{reverse}
-use Rattle.std.specs.List.{All}
+use Rattle.std.specs.List.{All, list_any}
 use Rattle.std.proofs.lemmas.List.{append-nil, length-map, nil_from_length}
 use Rattle.std.proofs.lemmas.List.Elements.{All-head, All-tail}
-use Rattle.std.proofs.lemmas.List.Sums.{sum_by-cons}
+use Rattle.std.proofs.lemmas.List.Sums.{sum_by-cons, sum_by-append}
 use Rattle.nvme_lane.specs.View.{GetView}
 use Rattle.nvme_pool.specs.Closing.{GainedThenLeft, IsAllDone}
 use Rattle.nvme_pool.specs.Jobs.{result_of}
@@ -17,14 +17,18 @@ use Rattle.nvme_log.specs.declared.event.Event.{Event}
 use Rattle.nvme_state.specs.declared.candidate.Dispatched.{Dispatched}
 use Rattle.nvme_front.specs.declared.state.FrontState.{FrontState}
 use Rattle.nvme_log.specs.Rules.{Past}
+use Rattle.nvme_log.specs.Places.{Place, is_served, one_if}
+use Rattle.nvme_log.specs.Completions.{is_posted}
 use Rattle.nvme_log.specs.Dispatches.{dispatched, AreJobs, ExecutesOnce}
+use Rattle.nvme_log.proofs.Posts.{posts_of-some}
 use Rattle.nvme_state.specs.JobAccount.{AccountsForJobs}
-use Rattle.nvme_state.specs.Hands.{Hands, in_hand, job_in}
+use Rattle.nvme_state.specs.Hands.{Hands, in_hand, is_in_hand, job_in}
 use Rattle.nvme_state.specs.inside.Jobs.{IsClosed, dispatched_place}
+use Rattle.nvme_state.specs.inside.Content.{Content}
 use Rattle.nvme_front.specs.inside.State.{content_of, rules_of, past_of}
 use Rattle.nvme_front.specs.inside.Room.{IsConsistent}
-use Rattle.nvme_state.specs.inside.Standing.{Stands, held_by, hand_of}
-use Rattle.nvme_front.specs.View.{FrontView, past_in}
+use Rattle.nvme_state.specs.inside.Standing.{HoldsReady, Stands, times_held, held_by, hand_of}
+use Rattle.nvme_front.specs.View.{FrontView, NoneInHandPosted, past_in}
 use Rattle.nvme_front.specs.inside.State.{view_of}
 use Rattle.nvme_log.specs.Account.{IsClear}
 use Rattle.nvme_front.proofs.Ended.{empty_or_not}
@@ -135,6 +139,43 @@ accounts_for_jobs s k = elim (empty_or_not s.log.items) [
   | inr n ↦ let a = k.begun n in (k.stands a.0 a.1).jobs.account
 ]
 
+-- ---- completions of commands in hand
+-- a command that is one of some stands among their places
+some_held : (r i : ℕ) (ds : List Dispatched) → list_any (λ (d : Dispatched). d.region == r && d.index == i) ds ≡ true → 1 ≤ times_held r i (map dispatched_place ds)
+some_held r i [] h = absurd (cc)
+some_held r i (d ∷ ds) h = by (d.region == r && d.index == i) refl h (some_held r i ds) where
+  by : (b : Bool) → (d.region == r && d.index == i) ≡ b → (b || list_any (λ (x : Dispatched). x.region == r && x.index == i) ds) ≡ true
+      → (list_any (λ (x : Dispatched). x.region == r && x.index == i) ds ≡ true → 1 ≤ times_held r i (map dispatched_place ds))
+      → 1 ≤ times_held r i (map dispatched_place (d ∷ ds))
+  by true e h later = omega (arith, ap one_if e, sum_by-cons (λ (p : Place). one_if (p.region == r && p.index == i)) (dispatched_place d) (map dispatched_place ds))
+  by false e h later = omega (arith, later h, sum_by-cons (λ (p : Place). one_if (p.region == r && p.index == i)) (dispatched_place d) (map dispatched_place ds))
+
+-- a place in hand has no completion posted: it stands once among ready completions, posts and places in hand
+unposted_in_hand : (past : Past) (k : Content) → HoldsReady past k (hand_of k) → (r i : ℕ) → is_in_hand k.jobs.hands r i ≡ true → is_posted past r i ≡ false
+unposted_in_hand past k ready r i h = by (is_posted past r i) refl where
+  few : (b : Bool) → one_if b ≤ 1
+  few true = omega arith
+  few false = omega arith
+
+  held : 1 ≤ times_held r i (hand_of k)
+  held = omega (
+    arith,
+    some_held r i (in_hand k.jobs.hands) h,
+    sum_by-append (λ (p : Place). one_if (p.region == r && p.index == i)) (map dispatched_place (in_hand k.jobs.hands)) (held_by k.deletion),
+  )
+
+  by : (b : Bool) → is_posted past r i ≡ b → is_posted past r i ≡ false
+  by true e = absurd (omega (arith, held, posts_of-some past r i e, ready.once r i, few (is_served past r i)))
+  by false e = e
+
+-- a kept front posted none of those that it has in hand
+pub none_in_hand_posted : (s : FrontState) → IsConsistent s → NoneInHandPosted (view_of s)
+none_in_hand_posted s k r i h = elim (empty_or_not s.log.items) [
+  | inl e ↦ subst (λ (z : List Event). is_posted (reverse z) r i ≡ false) (sym e) refl
+  | inr n ↦ let a = k.begun n in unposted_in_hand (past_of s) (content_of s) (k.stands a.0 a.1).ready r i h
+]
+
+-- ---- clear fronts
 -- what a front keeps at a clear log has no command that waits for its result
 none_waits_for_result : (s : FrontState) → Stands (rules_of s) s.late (past_of s) (content_of s) → IsClear (past_of s) → in_hand s.jobs.hands ≡ []
 none_waits_for_result s h clear =

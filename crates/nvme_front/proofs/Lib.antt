@@ -32,6 +32,7 @@ pub mod Filling
 pub mod ServedAnswers
 pub mod ClearAnswer
 pub mod Executions
+pub mod Results
 pub mod GainOne
 pub mod HostPairs
 pub mod Loading

@@ -1,6 +1,7 @@
 -- What is known where a front picks.
-use Rattle.std.proofs.Common.{◌≡◌, ℕ, ◌+◌, ◌<◌, ◌≤◌, Bool, true, false, List, [], ◌∷◌, ◌++◌, map, length, get_or, Option, Some, None, sym, ap, subst, ◌∙◌, arith, length-append}
+use Rattle.std.proofs.Common.{◌≡◌, ℕ, ◌+◌, ◌<◌, ◌≤◌, Bool, true, false, List, [], ◌∷◌, ◌++◌, map, length, get_or, Option, Some, None, refl, sym, ap, subst, ◌∙◌, arith, length-append}
 use Rattle.std.specs.Prelude.{if◌then◌else◌, IfSome}
+use Rattle.std.proofs.lemmas.Bool.{ne_eqb}
 use Rattle.std.proofs.lemmas.List.{length-map, length-reverse}
 use Rattle.std.proofs.Math.Bridge.{le_prop}
 use Rattle.nvme_arbiter.specs.Settings.{ArbitrationFields}
@@ -29,6 +30,7 @@ use Rattle.nvme_state.specs.inside.Content.{SqContent, Content}
 use Rattle.nvme_front.specs.inside.State.{sq_content, sq_in, content_of, past_of}
 use Rattle.nvme_log.specs.Laws.{as_open}
 use Rattle.nvme_front.specs.inside.Goes.{HasAdmin, next_pick}
+use Rattle.nvme_front.specs.inside.Turn.{places_in}
 use Rattle.nvme_log.specs.Histories.{picks_in}
 use Rattle.nvme_state.specs.inside.Standing.{HoldsReady, Stands, held_by, hand_of}
 use Rattle.nvme_front.specs.inside.Room.{IsConsistent}
@@ -78,6 +80,10 @@ config_by f few = λ t. record { mechanism = f.mechanism; settings = f.settings;
 -- what is required of the next pick holds of the pick that is made
 pub of_next : (s : FrontState) (pick : Pick) (P : Pick → Type 0) → Some pick ≡ next_pick s → IfSome (next_pick s) P → P pick
 of_next s pick P is h = subst (λ (o : Option Pick). IfSome o P) (sym is) h
+
+-- a pick of an I/O queue needs a place for each command
+pub io_places : (sqs : List SqRegion) (pick : Pick) → (pick.qid ≡ 0 → ⊥) → places_in sqs pick ≡ pick.n
+io_places sqs pick io = rw (ne_eqb pick.qid 0 io) refl
 
 -- a queue that is open in the table
 by_closing : (b : Bool) (q queue : Queue) → (if b then None else Some q) ≡ Some queue → q ≡ queue

@@ -14,6 +14,7 @@ use Rattle.nvme_lane.specs.Feeder.{script_of, count_of, put_of}
 use Rattle.nvme_lane.specs.Drainer.{items_of, get_of}
 use Rattle.nvme_lane.specs.declared.feeder.Feeder.{Feeder}
 use Rattle.nvme_lane.specs.declared.drainer.Drainer.{Drainer}
+use Rattle.nvme_pool.specs.Seat.{SeatView}
 use Rattle.nvme_pool.specs.Worker.{WorkerView}
 use Rattle.nvme_front.specs.declared.settled.Settled.{Settled}
 use Rattle.nvme_front.specs.declared.settling.Parts.{Parts}
@@ -23,7 +24,9 @@ use Rattle.nvme_log.specs.Places.{fetched}
 use Rattle.nvme_log.specs.Completions.{posted_to}
 use Rattle.nvme_log.specs.Account.{IsAccount}
 use Rattle.nvme_state.specs.JobAccount.{AccountsForJobs}
-use Rattle.nvme_log.specs.Dispatches.{ExecutesOnce}
+use Rattle.nvme_log.specs.Dispatches.{ExecutesOnce, place_at}
+use Rattle.nvme_log.proofs.Tickets.{each-is_executed_once}
+use Rattle.nvme_state.specs.Answers.{AnswersHaveTickets}
 use Rattle.nvme_state.specs.Hands.{Hands, in_hand}
 use Rattle.nvme_state.specs.inside.Jobs.{IsClosed}
 use Rattle.nvme_front.specs.Ends.{get_place, put_place}
@@ -33,7 +36,7 @@ use Rattle.nvme_log.specs.Queues.{is_serving, is_deleted_region}
 use Rattle.nvme_front.specs.Hosts.{ArePaired, AreHosts, IsAtRest, drainer_place, told, told_by, submitted_at, sent_at, taken_at, collected_at}
 use Rattle.nvme_front.specs.Unsettled.{IsSameFront, TakesOf, Takes}
 use Rattle.nvme_front.specs.inside.Resting.{Rests, Collects}
-use Rattle.nvme_front.specs.Settles.{settled_past, IsSettled, IsSettledAccount, CollectsMore, HandsBack}
+use Rattle.nvme_front.specs.Settles.{settled_past, IsSettled, IsSettledAccount, AnswersWereExecuted, CollectsMore, HandsBack}
 use Rattle.nvme_front.proofs.Executions.{KeepsNone, executes_once}
 use Rattle.nvme_front.proofs.Hosted.{seen_length, paired_places, IsSameFront-trans}
 use Rattle.nvme_log.proofs.Prefixes.{IsPrefix-refl}
@@ -233,6 +236,13 @@ executes v u past workers same log account none before closed kept =
     subst (λ (z : FrontRules). ExecutesOnce z.sizes past v.hands.seat workers) same.rules
     (subst (λ (z : Hands). ExecutesOnce u.rules.sizes past z.seat workers) same.hands
     (subst (λ (z : Past). ExecutesOnce u.rules.sizes z u.hands.seat workers) (sym log) once))
+
+-- so each answered I/O command was executed once
+pub answers_executed : (sizes : List ℕ) (past later : Past) (seat : SeatView) (workers : List WorkerView) → past ≡ later → AnswersHaveTickets later
+    → ExecutesOnce sizes past seat workers → AnswersWereExecuted sizes past seat workers
+answers_executed sizes past later seat workers same tickets once r i answered =
+    let it = subst AnswersHaveTickets (sym same) tickets r i answered in
+    (it.0, it.1, each-is_executed_once sizes past seat workers once it.0 (place_at r i) it.1)
 
 -- ---- what was handed back may be settled again
 pub paired_again : (old new : Parts) → HandsBack old new → ArePaired old.front old.feeders.items old.drainers.items → ArePaired new.front new.feeders.items new.drainers.items

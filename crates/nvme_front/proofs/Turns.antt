@@ -35,7 +35,7 @@ use Rattle.nvme_front.specs.inside.Room.{IsConsistent}
 use Rattle.nvme_front.specs.inside.Goes.{HasAdmin, IsDrained, IsScanned, IsTaken, IsFullSq, next_pick}
 use Rattle.nvme_front.specs.inside.Turn.{oldest_admin, places_in}
 use Rattle.nvme_front.specs.inside.State.{view_of}
-use Rattle.nvme_front.specs.View.{known_in, NoneCanBePosted, WaitsForNothing, IsIdleFront, IsStalledFront, IsFullLog, next_lawful}
+use Rattle.nvme_front.specs.View.{known_in, NoneCanBePosted, HasUnposted, WaitsForNothing, IsIdleFront, IsStalledFront, IsFullLog, next_lawful, HasPlaces, LacksPlaces, NoneCanBePicked}
 use Rattle.nvme_state.proofs.Answering.{ready_waits_there, unposted_place}
 use Rattle.nvme_state.proofs.Observing.{seen_is_observed}
 use Rattle.nvme_state.proofs.Oldest.{admin_entry_is}
@@ -132,6 +132,23 @@ module _ (s : FrontState) (h : Stands (rules_of s) s.late (past_of s) (content_o
   places_are : (pick : Pick) → places_in s.sqs.items pick ≡ places_for (past_of s) pick
   places_are pick = ap (λ (o : Option Sqe). if pick.qid == 0 && is_abort_entry o then 2 else pick.n) oldest_is
 
+  -- its places are free, or not
+  pub has_places : (pick : Pick) → s.outstanding + places_in s.sqs.items pick ≤ max_outstanding → HasPlaces (rules_of s) (past_of s) pick
+  has_places pick few =
+      subst (λ (n : ℕ). n + places_for (past_of s) pick ≤ max_outstanding) h.counts.outstanding_is
+      (subst (λ (n : ℕ). s.outstanding + n ≤ max_outstanding) (places_are pick) few)
+
+  lacks_places : (pick : Pick) → max_outstanding < s.outstanding + places_in s.sqs.items pick → LacksPlaces (rules_of s) (past_of s) pick
+  lacks_places pick many =
+      subst (λ (n : ℕ). max_outstanding < n + places_for (past_of s) pick) h.counts.outstanding_is
+      (subst (λ (n : ℕ). max_outstanding < s.outstanding + n) (places_are pick) many)
+
+  -- where the board has no next pick, or one whose places are not free, no pick can be made
+  pub none_picked : (o : Option Pick) → next_pick s ≡ o → IfSome o (λ (pick : Pick). max_outstanding < s.outstanding + places_in s.sqs.items pick)
+      → NoneCanBePicked (view_of s)
+  none_picked None is many = subst (λ (o : Option Pick). IfSome o (LacksPlaces (rules_of s) (past_of s))) (sym (next_is ∙ is)) tt
+  none_picked (Some pick) is many = subst (λ (o : Option Pick). IfSome o (LacksPlaces (rules_of s) (past_of s))) (sym (next_is ∙ is)) (lacks_places pick many)
+
 -- ---- what the answers mean
 -- an idle front with no pending deletion
 pub idle_front : (s : FrontState) → IsConsistent s → HasAdmin s → s.deletion ≡ None → ((c : ℕ) → c < length s.cqs.items → IsDrained s c)
@@ -146,16 +163,21 @@ idle_front s kept admin none drained none_gained scanned no_pick =
       none_gained = none_gained;
     }
 
+-- a deletion whose region has a place with no post waits for a completion
+pub waits_for_post : (s : FrontState) (d : PendingDelete) → Stands (rules_of s) s.late (past_of s) (content_of s) → s.deletion ≡ Some d
+    → (sq_in s.sqs.items d.region).unposted ≢ 0 → HasUnposted (past_of s) d.region
+waits_for_post s d h some unposted =
+    let place = unposted_place (rules_of s) s.late (past_of s) (content_of s) h d some unposted in
+    record { index = place.index; served = place.served; unposted = place.unposted }
+
 -- an idle front whose deletion waits for a completion
 pub deleting_front : (s : FrontState) (d : PendingDelete) → IsConsistent s → HasAdmin s → s.deletion ≡ Some d → ((c : ℕ) → c < length s.cqs.items → IsDrained s c)
     → All IsUnknown s.jobs.hands.seat.ends → (sq_in s.sqs.items d.region).unposted ≢ 0 → IsIdleFront (view_of s)
 deleting_front s d kept admin some drained none_gained unposted =
     let h = kept.stands admin.0 admin.1 in
     let is_pending : pending (past_of s) ≡ Some (as_deletion d) = h.deletion.pending_is ∙ ap (λ (o : Option PendingDelete). option_map as_deletion o) some in
-    let place = unposted_place (rules_of s) s.late (past_of s) (content_of s) h d some unposted in
     record {
-      nothing = subst (λ (o : Option Deletion). WaitsForNothing (view_of s) o) (sym is_pending)
-          (record { index = place.index; served = place.served; unposted = place.unposted });
+      nothing = subst (λ (o : Option Deletion). WaitsForNothing (view_of s) o) (sym is_pending) (waits_for_post s d h some unposted);
       none_posted = none_can_be_posted s kept admin drained;
       none_gained = none_gained;
     }
@@ -170,8 +192,7 @@ stalled_front s kept admin drained none_gained (Some pick) is many some =
     record {
       pick = pick;
       next = next_is s h ∙ is;
-      too_many = subst (λ (n : ℕ). max_outstanding < n + places_for (past_of s) pick) h.counts.outstanding_is
-          (subst (λ (n : ℕ). max_outstanding < s.outstanding + n) (places_are s h pick) many);
+      too_many = lacks_places s h pick many;
       none_posted = none_can_be_posted s kept admin drained;
       none_gained = none_gained;
     }
@@ -187,7 +208,6 @@ admin_log_full s kept admin none few (Some pick) is it some =
       none_pending = h.deletion.pending_is ∙ ap (λ (o : Option PendingDelete). option_map as_deletion o) none;
       next = next_is s h ∙ is;
       of_admin = it.0;
-      place = subst (λ (n : ℕ). n + places_for (past_of s) pick ≤ max_outstanding) h.counts.outstanding_is
-          (subst (λ (n : ℕ). s.outstanding + n ≤ max_outstanding) (places_are s h pick) it.1);
+      place = has_places s h pick it.1;
       too_few = few;
     })

@@ -3,6 +3,7 @@ use Rattle.std.specs.Prelude.{◌≡◌, ℕ, ◌<◌, true, false, None, List, 
 use Rattle.std.specs.List.{All, list_all}
 use mathlib.Core.List.{IsPrefix}
 use Rattle.nvme_lane.specs.declared.drainer.Drainer.{Drainer}
+use Rattle.nvme_pool.specs.Seat.{SeatView}
 use Rattle.nvme_pool.specs.Worker.{WorkerView}
 use Rattle.nvme_pool.specs.Pool.{IsPool}
 use Rattle.nvme_entry.specs.declared.completion.Cqe.{Cqe}
@@ -15,6 +16,9 @@ use Rattle.nvme_log.specs.Queues.{is_open_region, pending}
 use Rattle.nvme_log.specs.Places.{fetched, waiting, places}
 use Rattle.nvme_log.specs.Completions.{is_posted, posted_to}
 use Rattle.nvme_log.specs.Account.{IsAccount}
+use Rattle.nvme_log.specs.Dispatches.{place_at}
+use Rattle.nvme_log.specs.Laws.{IsExecutedOnce}
+use Rattle.nvme_state.specs.Answers.{IsAnsweredIo, HasTicket}
 use Rattle.nvme_front.specs.View.{FrontView}
 use Rattle.nvme_front.specs.Hosts.{IsAtRest, sent_at, taken_at, collected_at}
 use Rattle.nvme_front.specs.Unsettled.{IsSameFront, AreSameFeeders, Takes}
@@ -37,6 +41,12 @@ abbrev pub IsSettledAccount : FrontView → Settled → Type 0
 IsSettledAccount v s =
     v.late ≡ false → 0 < length v.gets → 0 < length v.puts
     → IsAccount v.rules (sent_at s.sent.items) (settled_past s) (collected_at s.collected.items)
+
+-- each I/O command that was answered, and not as an aborted one, was executed once: its job was handed with its ticket, taken and executed once over all
+-- workers, and its result was gained once
+abbrev pub AnswersWereExecuted : List ℕ → Past → SeatView → List WorkerView → Type 0
+AnswersWereExecuted sizes past seat workers =
+    (r i : ℕ) → IsAnsweredIo past r i → (ticket : ℕ) × HasTicket past ticket r i × IsExecutedOnce sizes past seat workers ticket (place_at r i)
 
 -- the lists of the drainers, each as it was and gone on with what rested in its ring
 pub record CollectsMore (drainers : List (Drainer Cqe)) (s : Settled) : Type 0 where

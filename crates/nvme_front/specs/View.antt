@@ -1,5 +1,5 @@
 -- What a contract sees of a front, and what its answers mean (profile; Base Specification, Submission Queue and Completion Queue, Command Arbitration).
-use Rattle.std.specs.Prelude.{◌≡◌, ◌≢◌, ◌⊎◌, ℕ, ◌+◌, ◌<◌, ◌≤◌, ◌==◌, ◌&&◌, ◌||◌, Bool, true, false, List, [], ◌∷◌, ◌++◌, length, map, Option, Some, None, slice_index_or, reverse}
+use Rattle.std.specs.Prelude.{◌≡◌, ◌≢◌, ◌⊎◌, ℕ, ◌+◌, ◌<◌, ◌≤◌, ◌==◌, ◌&&◌, ◌||◌, Bool, true, false, List, [], ◌∷◌, ◌++◌, length, map, Option, Some, None, IfSome, slice_index_or, reverse}
 use Rattle.std.specs.List.{All, list_any}
 use mathlib.Core.List.{IsPrefix}
 use Rattle.nvme_entry.specs.declared.submission.Sqe.{Sqe}
@@ -114,11 +114,18 @@ pub record IsIdleFront (v : FrontView) : Type 0 where
 abbrev pub next_lawful : FrontView → Option Pick
 next_lawful v = lawful_pick v.rules.mechanism v.rules.start.settings (arbitration_of (past_in v)) (observation_of (past_in v))
 
+-- after these events the places of a pick are free, or it needs more places than are free
+abbrev pub HasPlaces : FrontRules → Past → Pick → Type 0
+HasPlaces rules past pick = outstanding rules past + places_for past pick ≤ max_outstanding
+
+abbrev pub LacksPlaces : FrontRules → Past → Pick → Type 0
+LacksPlaces rules past pick = max_outstanding < outstanding rules past + places_for past pick
+
 -- the next pick needs more places than are free
 pub record IsStalledFront (v : FrontView) : Type 0 where
   pub pick : Pick
   pub next : next_lawful v ≡ Some pick
-  pub too_many : max_outstanding < outstanding v.rules (past_in v) + places_for (past_in v) pick
+  pub too_many : LacksPlaces v.rules (past_in v) pick
   pub none_posted : NoneCanBePosted v
   pub none_gained : All IsUnknown v.hands.seat.ends
 
@@ -128,7 +135,7 @@ pub record NeedsAdminEvents (v : FrontView) : Type 0 where
   pub none_pending : pending (past_in v) ≡ None
   pub next : next_lawful v ≡ Some pick
   pub of_admin : pick.qid ≡ 0
-  pub place : outstanding v.rules (past_in v) + places_for (past_in v) pick ≤ max_outstanding
+  pub place : HasPlaces v.rules (past_in v) pick
   pub too_few : v.limit < length v.log + admin_events
 
 abbrev pub IsFullLog : FrontView → Type 0
@@ -180,6 +187,11 @@ ErrorMeans NoMemory old new = HasNoPickMore old new × HasNoStray old new
 ErrorMeans LogFull old new = IsFullLog new × HasNoPickMore old new × HasNoStray old new
 ErrorMeans (Stray ticket) old new = GainedStray ticket old new × HasNoPickMore old new
 
+-- ---- executions
+-- no command that has no result yet has its completion posted
+abbrev pub NoneInHandPosted : FrontView → Type 0
+NoneInHandPosted v = (r i : ℕ) → is_in_hand v.hands r i ≡ true → is_posted (past_in v) r i ≡ false
+
 -- ---- how far a turn goes
 -- the window of an open queue is full, or nothing is known to come for it
 abbrev pub IsFilled : FrontView → Past → Queue → Type 0
@@ -189,8 +201,12 @@ IsFilled v past queue = (window_at v.rules queue.region ≤ length (waiting past
 abbrev pub AreFilled : FrontView → Past → Type 0
 AreFilled v past = (q : ℕ) (queue : Queue) → open_sq past q ≡ Some queue → IsFilled v past queue
 
--- the one pick of a turn, made when each window was filled and no ready completion could be posted. The pick of an admin command had the
--- events that its effect may need
+-- no pick can be made: arbitration has none next, or the next one needs more places than are free
+abbrev pub NoneCanBePicked : FrontView → Type 0
+NoneCanBePicked v = IfSome (next_lawful v) (LacksPlaces v.rules (past_in v))
+
+-- the one pick of a turn, made when each window was filled, no ready completion could be posted and its places were free. The pick of an admin
+-- command had the events that its effect may need
 pub record PicksOne (old new : FrontView) : Type 0 where
   pub before : List Event
   pub seen : List Seen
@@ -200,13 +216,17 @@ pub record PicksOne (old new : FrontView) : Type 0 where
   pub since : IsPrefix old.log before
   pub first : picks_in before ≡ picks_in old.log
   pub room : pick.qid ≡ 0 → length before + admin_events ≤ new.limit
+  pub places : HasPlaces new.rules (reverse before) pick
   pub filled : AreFilled new (reverse before)
   pub posted : pick.qid ≢ 0 → NoneCanBePosted new
 
--- where no deletion was pending each window is filled, and where none was finished no ready completion can be posted
+-- where no deletion was pending each window is filled and no pick can be made; where none was finished no ready completion can be posted;
+-- and a deletion that is pending waits for a completion
 pub record EndsSteps (old new : FrontView) : Type 0 where
   pub filled : pending (past_in old) ≡ None → AreFilled new (past_in new)
+  pub unpicked : pending (past_in old) ≡ None → NoneCanBePicked new
   pub posted : pending (past_in new) ≡ pending (past_in old) → NoneCanBePosted new
+  pub waits : (deletion : Deletion) → pending (past_in new) ≡ Some deletion → HasUnposted (past_in new) deletion.region
 
 -- each step of a turn went on as far as it could
 abbrev pub GoesToEnd : Step → FrontView → FrontView → Type 0

@@ -96,6 +96,7 @@ impl FrontState {
 impl Front {
     ghost use Rattle.std.specs.Prelude.{◌≡◌, ℕ, ◌<◌, ◌≤◌, false, [], length, slice_index_or, IfOk, OnOk, IfErr};
     ghost use Rattle.nvme_pool.specs.Pool.{IsPool};
+    ghost use Rattle.nvme_state.specs.Answers.{AnswersHaveTickets};
     ghost use Rattle.nvme_state.specs.JobAccount.{AccountsForJobs};
     ghost use Rattle.nvme_state.specs.inside.Jobs.{IsClosed};
     ghost use Rattle.nvme_state.specs.Hands.{in_hand};
@@ -176,6 +177,7 @@ impl Front {
         ensures account { 0 < length self.gets → 0 < length self.puts → self.late ≡ false → AccountsForEnds self }
         ensures jobs { AccountsForJobs self.rules.sizes (past_in self) self.hands }
         ensures none_in_hand { IsClear (past_in self) → in_hand self.hands ≡ [] }
+        ensures tickets { AnswersHaveTickets (past_in self) }
         ensures fetched { (r : ℕ) → fetched (past_in self) r ≡ got_in self r }
         ensures posted { (c : ℕ) → posted_to (past_in self) c ≡ sent_in self c }
         ensures back { IfErr result (λ e. (e.0 ≡ self) × (e.1 ≡ lanes) × (e.2.items ≡ workers.items)) }

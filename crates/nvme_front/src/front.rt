@@ -98,10 +98,11 @@ impl Front {
     ghost use Rattle.nvme_front.specs.Adding.{IsAdded, IsNotAdded, submissions, completions};
     ghost use Rattle.nvme_front.specs.LoadedFront.{IsLoadedFront, GotWithin};
     ghost use Rattle.nvme_admin.specs.declared.bounds.TheConstants.{MAX_REGIONS};
+    ghost use Rattle.nvme_state.specs.Answers.{AnswersHaveResults};
     ghost use Rattle.nvme_state.specs.JobAccount.{AccountsForJobs};
     ghost use Rattle.std.specs.List.{All};
     ghost use Rattle.nvme_pool.specs.Seat.{IsUnknown};
-    ghost use Rattle.nvme_front.specs.View.{AccountsForEnds, GoesOn, HasItsRegions, HasNoStray, GoesToEnd, StepMeans, ErrorMeans, is_address, past_in};
+    ghost use Rattle.nvme_front.specs.View.{AccountsForEnds, GoesOn, HasItsRegions, HasNoStray, NoneInHandPosted, GoesToEnd, StepMeans, ErrorMeans, is_address, past_in};
     ghost use Rattle.nvme_log.specs.Account.{IsClear};
     ghost use Rattle.nvme_log.specs.Queues.{is_serving};
     ghost use Rattle.nvme_front.specs.declared.front.AddError.TheVariants.{Used, TooMany, NoMemory};
@@ -149,8 +150,9 @@ impl Front {
 
     /// One turn: hands the jobs that were kept, and gains results; posts the completions that are ready; finishes a
     /// pending deletion, and ends there where one is pending; fetches what has come; and makes the next pick of
-    /// arbitration, executes a picked admin command and hands the jobs of picked I/O commands. Whatever it answers, what
-    /// it did stands in the log, and a later turn goes on from there. Where the hosts had submitted their whole scripts
+    /// arbitration, executes a picked admin command and hands the jobs of picked I/O commands. No command that has no
+    /// result yet has a completion then. Whatever it answers, what it did stands in the log, and a later turn goes on
+    /// from there. Where the hosts had submitted their whole scripts
     /// before the first turn, the log goes on as that of such a workload. It may wait for another thread.
     pub fn turn<R: Wait>(&mut self, rt: &R, lanes: &Lanes) -> Result<Step, FrontError>
         requires admin_sq { 0 < length self.old.gets }
@@ -159,6 +161,8 @@ impl Front {
         ensures goes_on { GoesOn self.old self.new }
         ensures account { self.new.late ≡ false → AccountsForEnds self.new }
         ensures jobs { AccountsForJobs self.new.rules.sizes (past_in self.new) self.new.hands }
+        ensures executed { NoneInHandPosted self.new }
+        ensures results { AnswersHaveResults self.new.rules.sizes (past_in self.new) self.new.hands }
         ensures loaded { (scripts : ℕ → List Sqe) → GotWithin scripts self.new → IsLoadedFront scripts self.old → IsLoadedFront scripts self.new }
         ensures step { IfOk result (λ step. StepMeans step self.old self.new) }
         ensures to_end { IfOk result (λ step. GoesToEnd step self.old self.new) }

@@ -14,7 +14,7 @@ ghost use Rattle.nvme_front.specs.inside.Resting.{Rests, Collects};
 ghost use Rattle.nvme_log.specs.Dispatches.{ExecutesOnce};
 ghost use Rattle.nvme_pool.specs.Worker.{WorkerView};
 ghost use Rattle.std.specs.List.{All};
-ghost use Rattle.nvme_front.specs.Settles.{IsSettled, IsSettledAccount, CollectsMore, HasItsPool, AreAtRest, HandsBack, LeavesBy, settled_past};
+ghost use Rattle.nvme_front.specs.Settles.{IsSettled, IsSettledAccount, AnswersWereExecuted, CollectsMore, HasItsPool, AreAtRest, HandsBack, LeavesBy, settled_past};
 ghost use Rattle.nvme_front.specs.declared.settled.SettleError.TheVariants.{Strangers, Outstanding, NoMemory};
 
 use crate::front::Front;
@@ -203,6 +203,7 @@ pub fn settle<R: Wait>(rt: &R, alloc: Global, parts: Parts) -> Result<Settled, (
     ensures hosts { OnOk result (AreHosts parts.front parts.feeders.items parts.drainers.items) }
     ensures at_rest { OnOk result (AreAtRest parts) }
     ensures executed { IfOk result (λ s. ExecutesOnce parts.front.rules.sizes (settled_past s) parts.front.hands.seat parts.workers.items) }
+    ensures answered { IfOk result (λ s. AnswersWereExecuted parts.front.rules.sizes (settled_past s) parts.front.hands.seat parts.workers.items) }
     ensures back { IfErr result (λ e. HandsBack parts e.1) }
     ensures leaves { IfErr result (λ e. LeavesBy e.0 parts e.1) }
     ensures strangers { IfErr result (λ e. (e.0 ≡ Strangers) ↔ (AreHosts parts.front parts.feeders.items parts.drainers.items → ⊥)) }

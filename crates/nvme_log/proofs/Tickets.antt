@@ -48,7 +48,7 @@ one_there sizes past t [] (j ∷ js) h k from below = absurd h
 one_there sizes past t (p ∷ ps) [] h k from below = absurd h
 
 -- the job of a place stands where the place stands
-job_there : (sizes : List ℕ) (past : Past) (t : ℕ) (ps : List Place) (js : List Job) → AreJobs sizes past t ps js → (k : ℕ) (place : Place) → slice_get ps k ≡ Some place
+pub job_there : (sizes : List ℕ) (past : Past) (t : ℕ) (ps : List Place) (js : List Job) → AreJobs sizes past t ps js → (k : ℕ) (place : Place) → slice_get ps k ≡ Some place
     → (job : Job) × (slice_get js k ≡ Some job) × IsJobOf sizes past (t + k) place job
 job_there sizes past t [] [] h k place is = absurd (none-some place is)
 job_there sizes past t (p ∷ ps) (j ∷ js) h zero place is =

@@ -18,6 +18,7 @@ use Rattle.nvme_log.specs.Rules.{FrontRules, Past}
 use Rattle.nvme_log.specs.Account.{IsWholeAccount}
 use Rattle.nvme_log.specs.Loaded.{IsLoadedLog, without_posts}
 use Rattle.nvme_log.specs.Dispatches.{dispatched}
+use Rattle.nvme_state.specs.Answers.{AnswersHaveTickets}
 use Rattle.nvme_front.specs.Hosts.{sent_at, collected_at}
 use Rattle.nvme_front.specs.Settles.{settled_past}
 use Rattle.nvme_front.specs.View.{FrontView, past_in}
@@ -59,14 +60,15 @@ pub record HasItsHosts (plan : Plan) (settled : Settled) : Type 0 where
   pub counts : All (λ (s : Sent). s.count ≤ length s.script.items) settled.sent.items
   pub lists : length settled.collected.items ≡ length plan.completions
 
--- what is settled has the hosts of the workload of a text, and is its whole account. In a loaded run its log, posts left out, is the loaded
--- log of the workload, of which there is one
+-- what is settled has the hosts of the workload of a text, and is its whole account, in which each I/O command that was answered, and not as an
+-- aborted one, has a ticket. In a loaded run its log, posts left out, is the loaded log of the workload, of which there is one
 pub record IsRun (text : List ℕ) (mode : Mode) (settled : Settled) : Type 0 where
   pub plan : Plan
   pub is_workload : workload_of text ≡ Ok plan
   pub hosts : HasItsHosts plan settled
   pub account : IsWholeAccount (rules_for plan) (is_loaded mode) (script_for plan) (sent_at settled.sent.items) (settled_past settled)
       (collected_at settled.collected.items)
+  pub answered : AnswersHaveTickets (settled_past settled)
   pub loaded : mode ≡ Loaded → IsLoadedLog (rules_for plan) (script_for plan) (without_posts (settled_past settled))
 
 -- ---- what becomes of the gates

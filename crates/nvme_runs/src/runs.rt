@@ -4,6 +4,7 @@ ghost use Rattle.nvme_lane.specs.Limits.{IsOutside};
 ghost use Rattle.nvme_pool.specs.Limits.{max_workers};
 ghost use Rattle.nvme_log.specs.Account.{IsWholeAccount};
 ghost use Rattle.nvme_log.specs.Loaded.{IsLoadedLog, without_posts};
+ghost use Rattle.nvme_state.specs.Answers.{AnswersHaveTickets};
 ghost use Rattle.nvme_front.specs.Hosts.{sent_at, collected_at};
 ghost use Rattle.nvme_front.specs.Settles.{settled_past};
 ghost use Rattle.nvme_workload.specs.Plan.{plan_of, workload_of};
@@ -143,6 +144,7 @@ fn settled_by<G: Gate + Send + Drop, R: Threads + Wait + Sync>(
     ensures hosts { IfOk result (λ r. HasItsHosts (plan_of workload) r.0) }
     ensures account { IfOk result (λ r. IsWholeAccount (rules_for (plan_of workload)) (is_loaded mode) (script_for (plan_of workload)) (sent_at r.0.sent.items) (settled_past r.0) (collected_at r.0.collected.items)) }
     ensures loaded { IfOk result (λ r. mode ≡ Loaded → IsLoadedLog (rules_for (plan_of workload)) (script_for (plan_of workload)) (without_posts (settled_past r.0))) }
+    ensures answered { IfOk result (λ r. AnswersHaveTickets (settled_past r.0)) }
     ensures gates { IfOk result (λ r. GatesRan (λ view ticket. G.left (G.entered view ticket) ticket) gates.items r.1.items (settled_past r.0)) }
     ensures faults { IfErr result (IsLateFault (plan_of workload)) }
 {

@@ -1,9 +1,10 @@
 -- The jobs of places, sums over jobs and results, and events that leave the jobs.
-use Rattle.std.proofs.Common.{◌≡◌, ℕ, ◌+◌, ◌≤◌, List, [], ◌∷◌, ◌++◌, length, map, Some, refl, sym, ap, ◌∙◌, subst, arith, ◌==◌, ◌&&◌, Bool, true, false, slice_index_or}
+use Rattle.std.proofs.Common.{◌≡◌, ℕ, ◌+◌, ◌≤◌, List, [], ◌∷◌, ◌++◌, length, map, Some, refl, sym, ap, ◌∙◌, subst, arith, ◌==◌, ◌&&◌, Bool, true, false, slice_index_or, slice_get}
 use Rattle.std.specs.Prelude.{sum_by, All}
 use Rattle.std.specs.List.{flat_map}
 use Rattle.std.specs.List.Sorted.{IsPermutation}
 use Rattle.std.proofs.Math.Nat.{ℕ_set}
+use Rattle.std.proofs.lemmas.List.{append_assoc, length-append}
 use Rattle.std.proofs.lemmas.List.Concat.{flat_map-cons}
 use Rattle.std.proofs.lemmas.Bool.{eq-eqb}
 use Rattle.std.proofs.lemmas.List.Sums.{sum_by-append, sum_by-cons, get_or-le-sum_by}
@@ -27,8 +28,9 @@ use Rattle.nvme_state.specs.Hands.{Hands, job_in, in_hand}
 use Rattle.nvme_state.specs.inside.Jobs.{dispatched_from, dispatched_place}
 use Rattle.nvme_log.specs.Dispatches.{place_at, AreJobs, dispatched}
 use Rattle.nvme_state.specs.inside.Content.{Content}
-use Rattle.nvme_state.specs.inside.Standing.{HoldsReady, HoldsJobs, IsDispatched, times_held, held_by, hand_of}
+use Rattle.nvme_state.specs.inside.Standing.{HoldsReady, HoldsJobs, IsDispatched, IsPickedPlace, times_held, held_by, hand_of}
 use Rattle.nvme_log.specs.Places.{one_if, is_served}
+use Rattle.nvme_state.proofs.Regions.{slice_get-append_left, slice_get-push}
 use Rattle.nvme_state.proofs.Windows.{sum_by-map}
 use Rattle.nvme_state.proofs.AfterSteps.{with_events}
 
@@ -69,6 +71,21 @@ dispatched-each P r ticket [] h = All-nil P
 dispatched-each P r ticket (c ∷ cs) h =
     let Q : Candidate → Type 0 = λ c. (n : ℕ) → P (record { ticket = n; region = r; index = c.index; entry = c.entry }) in
     All-cons P _ _ (All-head Q c cs h ticket) (dispatched-each P r (ticket + 1) cs (All-tail Q c cs h))
+
+-- what is dispatched of picked candidates has the tickets of their places, which stand behind others
+pub dispatched-tickets : (r ticket : ℕ) (cs : List Candidate) (ps : List Place) → ticket ≡ length ps
+    → All (λ (d : Dispatched). slice_get (ps ++ map (λ (c : Candidate). place_at r c.index) cs) d.ticket ≡ Some (place_at d.region d.index)) (dispatched_from r ticket cs)
+dispatched-tickets r ticket [] ps at = All-nil (λ (d : Dispatched). slice_get (ps ++ []) d.ticket ≡ Some (place_at d.region d.index))
+dispatched-tickets r ticket (c ∷ cs) ps at =
+    let p : Place = place_at r c.index in
+    let rest : List Place = map (λ (x : Candidate). place_at r x.index) cs in
+    let same : (ps ++ p ∷ []) ++ rest ≡ ps ++ p ∷ rest = append_assoc ps (p ∷ []) rest in
+    let P : List Place → Dispatched → Type 0 = λ qs d. slice_get qs d.ticket ≡ Some (place_at d.region d.index) in
+    All-cons (P (ps ++ p ∷ rest)) (record { ticket = ticket; region = r; index = c.index; entry = c.entry }) (dispatched_from r (ticket + 1) cs)
+    (subst (λ (qs : List Place). slice_get qs ticket ≡ Some p) same
+    (slice_get-append_left (ps ++ p ∷ []) rest ticket p (ap (slice_get (ps ++ p ∷ [])) at ∙ slice_get-push ps p)))
+    (subst (λ (qs : List Place). All (P qs) (dispatched_from r (ticket + 1) cs)) same
+    (dispatched-tickets r (ticket + 1) cs (ps ++ p ∷ []) (omega (arith, at, length-append ps (p ∷ [])))))
 
 -- what holds of each command in hand holds of the one whose result is gained, and of each that is left in hand
 pub each-gained : (P : Dispatched → Type 0) (h : Hands) (d : Dispatched) (rest : List Dispatched) → IsPermutation h.running (d ∷ rest)
@@ -137,6 +154,10 @@ pub result_is : (f : Finished) (j : Job) → job_of f ≡ j → f ≡ result_of 
 result_is f j e = right_status f.ticket f.entry f.spaces f.status f.right ∙ ap (λ (x : Job). result_of x) e
 
 -- ---- events that pick no I/O command
+-- each place of an I/O queue that is picked was so before
+abbrev pub PicksNoMore : Past → Past → Type 0
+PicksNoMore past later = (r i : ℕ) → (r == 0) ≡ false → IsPickedPlace later r i → IsPickedPlace past r i
+
 -- a log goes on with such events, and the places that were served and aren't aborted stay so
 pub record Leaves (past later : Past) : Type 0 where
   pub none_dispatched : dispatched later ≡ dispatched past
@@ -144,6 +165,7 @@ pub record Leaves (past later : Past) : Type 0 where
   pub entries : (r i : ℕ) (e : Sqe) → entry_at past r i ≡ Some e → entry_at later r i ≡ Some e
   pub cq_regions : (r c : ℕ) → cq_region_of past r ≡ Some c → cq_region_of later r ≡ Some c
   pub unaborted : (r i : ℕ) → is_served past r i ≡ true → is_aborted past r i ≡ false → is_aborted later r i ≡ false
+  pub picks : PicksNoMore past later
 
 -- a place in hand was served
 hand_served : (past : Past) (k : Content) → HoldsReady past k (hand_of k) → All (λ (d : Dispatched). is_served past d.region d.index ≡ true) (in_hand k.jobs.hands)
@@ -180,6 +202,7 @@ jobs_left sizes past later k ready h l = record {
     each_handed = h.account.each_handed;
     others = h.account.others;
     each_gained = h.account.each_gained;
+    places = λ j e lt. ap (λ (ps : List Place). slice_get ps (slice_index_or (in_hand k.jobs.hands) j e).ticket) l.none_dispatched ∙ h.account.places j e lt;
   };
   each = λ j e lt.
       let d : Dispatched = slice_index_or (in_hand k.jobs.hands) j e in
@@ -191,4 +214,7 @@ jobs_left sizes past later k ready h l = record {
         cq_region = was.cq_region;
         attached = l.cq_regions d.region was.cq_region was.attached;
       };
+  covers = λ r i io later_picked.
+      let it = h.covers r i io (l.picks r i io later_picked) in
+      (it.0, ap (λ (ps : List Place). slice_get ps it.0) l.none_dispatched ∙ it.1);
 }

@@ -1,12 +1,13 @@
 -- The jobs stand after each step of a front.
-use Rattle.std.proofs.Common.{◌≡◌, ℕ, ◌+◌, Bool, List, [], ◌∷◌, ◌++◌, length, map, take, Option, Some, None, refl, sym, ap, ◌∙◌, subst, arith, ◌==◌, ◌&&◌}
+use Rattle.std.proofs.Common.{◌≡◌, ℕ, ◌+◌, Bool, List, [], ◌∷◌, ◌++◌, length, map, take, Option, Some, None, refl, sym, ap, ◌∙◌, subst, arith, ◌==◌, ◌&&◌, ◌<◌, true, false, inl, inr, slice_get, slice_index_or}
 use Rattle.std.specs.Prelude.{sum_by, option_map}
-use Rattle.std.specs.List.{flat_map}
-use Rattle.std.proofs.lemmas.Bool.{eq-eqb, ne_eqb}
+use Rattle.std.specs.List.{All, flat_map}
+use Rattle.std.proofs.lemmas.Bool.{cases_eq, eq-eqb, ne_eqb}
 use Rattle.std.proofs.lemmas.List.{append-nil, append_assoc, map-append, length-append, length-map, length-take-le, take-map}
 use Rattle.std.proofs.lemmas.Simd.{map-map}
 use Rattle.std.proofs.lemmas.List.Sums.{sum_by-append, sum_by-cons}
 use Rattle.std.proofs.lemmas.List.Elements.{All-nil, All-append, All-take, All-same, All-tail}
+use Rattle.nvme_entry.specs.declared.submission.Sqe.{Sqe}
 use Rattle.nvme_lane.specs.View.{GetView}
 use Rattle.nvme_arbiter.specs.Board.{BoardView}
 use Rattle.nvme_arbiter.specs.declared.pick.Pick.{Pick}
@@ -25,12 +26,14 @@ use Rattle.nvme_state.specs.declared.candidate.Candidate.{Candidate}
 use Rattle.nvme_state.specs.declared.candidate.Dispatched.{Dispatched}
 use Rattle.nvme_state.specs.declared.attachment.Attachment.{Attachment}
 use Rattle.nvme_log.specs.Rules.{FrontRules, Past}
-use Rattle.nvme_log.specs.Queues.{Queue, open_sq, open_cq, cq_region_of}
-use Rattle.nvme_log.specs.Places.{Place, waiting, entry_at, one_if}
+use Rattle.nvme_log.specs.Queues.{Queue, admin_queue, open_sq, open_cq, cq_region_of, has_region}
+use Rattle.nvme_log.specs.Places.{Place, fetched, waiting, entry_at, fate_of, is_picked, one_if}
 use Rattle.nvme_log.specs.Effects.{closing_of, closed_cq_of, abort_in, named, target_of}
 use Rattle.nvme_state.specs.inside.Jobs.{JobsView, dispatched_from}
 use Rattle.nvme_state.specs.Hands.{in_hand, job_in}
 use Rattle.nvme_log.specs.Dispatches.{place_at, dispatched_by, dispatched, AreJobs}
+use Rattle.nvme_state.specs.JobAccount.{HasItsTicket}
+use Rattle.nvme_log.proofs.Waiting.{fate_of-same, picked-pick_other}
 use Rattle.nvme_state.specs.inside.Content.{Content}
 use Rattle.nvme_state.specs.inside.Standing.{HoldsJobs, IsDispatched, AreFreshJobs, Stands}
 use Rattle.nvme_state.specs.inside.Steps.{applied_to, verdict_at, oldest_named}
@@ -41,8 +44,10 @@ use Rattle.nvme_state.proofs.ReadyAdmin.{aborts-other, served-apart, unused_apar
 use Rattle.nvme_state.proofs.AccountSteps.{io_region}
 use Rattle.nvme_state.proofs.AfterSteps.{with_events, admin_past, after_admin, deleting_from, fetch_event, post_event, closed_event, aborting_from, aborting_in}
 use Rattle.nvme_state.proofs.StepKeeps.{KeepsFetch, KeepsIo, KeepsHand, KeepsGain, KeepsStray, KeepsAdmin, KeepsPost, KeepsClose, Jobs}
-use Rattle.nvme_state.proofs.JobAccounts.{each-gained, Leaves, with_events-longer, jobs_left, AreJobs-stay, AreJobs-append, AreJobs-picked, dispatched-each, sum_by-flat_map, sum_by-gained_one, sum_by-one, sum_by-gained, result_is}
+use Rattle.nvme_state.proofs.JobAccounts.{each-gained, PicksNoMore, Leaves, with_events-longer, jobs_left, AreJobs-stay, AreJobs-append, AreJobs-picked, dispatched-each, dispatched-tickets, sum_by-flat_map, sum_by-gained_one, sum_by-one, sum_by-gained, result_is}
+use Rattle.nvme_state.proofs.PicksKept.{picks-fetch, picks-admin, picks-closing, picks-abort, io_picked}
 use Rattle.nvme_state.proofs.Named.{named_among}
+use Rattle.nvme_state.proofs.Regions.{slice_get-append_left}
 
 -- where no command was picked there are no jobs
 pub jobs-when-fresh : (sizes : List ℕ) (j : JobsView) → AreFreshJobs j → HoldsJobs sizes [] j
@@ -57,8 +62,10 @@ jobs-when-fresh sizes j fresh = record {
     each_handed = λ w. rw fresh.none_running refl;
     others = flat_map (λ (g : GetView Finished). g.got) j.hands.seat.ends;
     each_gained = λ w. omega (arith, sum_by-flat_map w (λ (g : GetView Finished). g.got) j.hands.seat.ends);
+    places = All-same (HasItsTicket []) (in_hand j.hands) [] (rw (fresh.none_running, fresh.none_unhanded) refl) (All-nil (HasItsTicket []));
   };
   each = All-same (IsDispatched []) (in_hand j.hands) [] (rw (fresh.none_running, fresh.none_unhanded) refl) (All-nil (IsDispatched []));
+  covers = λ r i io it. let none = it.there in absurd (omega arith);
 }
 
 -- ---- events that pick no I/O command
@@ -71,6 +78,7 @@ jobs-fetch rules late past k q queue entry known s can regions =
       entries = λ r i e h. entry_stays past queue.region (k.sq queue.region).fetched r i entry e h;
       cq_regions = λ r c h. h;
       unaborted = λ r i served h. h;
+      picks = picks-fetch past queue.region (k.sq queue.region).fetched entry (k.sq queue.region) (s.regions queue.region);
     })
 
 -- nor does a post
@@ -82,6 +90,7 @@ jobs-post rules late past k c t rest cqe qid free s can regions =
       entries = λ r i e h. h;
       cq_regions = λ r c h. h;
       unaborted = λ r i served h. h;
+      picks = λ r i io it. record { there = it.there; was_picked = it.was_picked };
     })
 
 -- nor the end of a deletion
@@ -93,6 +102,7 @@ jobs-close rules late past k d table s can regions =
       entries = λ r i e h. h;
       cq_regions = λ r c h. h;
       unaborted = λ r i served h. h;
+      picks = λ r i io it. record { there = it.there; was_picked = it.was_picked };
     })
 
 -- ---- an I/O pick
@@ -135,6 +145,12 @@ jobs-io rules late past k queue seen pick board c s can observed io attached reg
         each_handed = h.each_handed;
         others = h.others;
         each_gained = h.each_gained;
+        places = All-same (HasItsTicket later) _ (in_hand j.hands ++ new) (sym (append_assoc j.hands.running j.hands.unhanded new))
+            (subst (λ (ps : List Place). All (λ (d : Dispatched). slice_get ps d.ticket ≡ Some (place_at d.region d.index)) (in_hand j.hands ++ new)) (sym from)
+            (All-append (λ (d : Dispatched). slice_get (dispatched past ++ own) d.ticket ≡ Some (place_at d.region d.index)) (in_hand j.hands) new (λ i e lt.
+            let d : Dispatched = slice_index_or (in_hand j.hands) i e in
+            slice_get-append_left (dispatched past) own d.ticket (place_at d.region d.index) (h.places i e lt))
+            (dispatched-tickets r j.tickets taken (dispatched past) s.jobs.tickets_are)));
       };
       each = All-same (IsDispatched later) _ (in_hand j.hands ++ new) (sym (append_assoc j.hands.running j.hands.unhanded new))
           (All-append (IsDispatched later) (in_hand j.hands) new (λ i e lt.
@@ -149,6 +165,20 @@ jobs-io rules late past k queue seen pick board c s can observed io attached reg
             cq_region = c;
             attached = s.queues.cq_region_is r ∙ ap (option_map (λ (a : Attachment). a.cq_region)) attached;
           }))));
+      covers = λ x i apart it. elim (cases_eq r x) [
+        | inl e ↦
+            let own_queue : has_region x (open_sq past pick.qid) ≡ true = ap (has_region x) can.is_open ∙ eq-eqb r x e in
+            let found = io_picked past seen pick x own_queue (dispatched past) i (s.jobs.covers x i apart) it in
+            let places : map (place_at x) (take pick.n (waiting past x)) ≡ own =
+            subst (λ (z : ℕ). map (place_at z) (take pick.n (waiting past z)) ≡ own) e
+            (ap (map (place_at r)) named ∙ map-map (place_at r) (λ (y : Candidate). y.index) taken) in
+            (found.0, ap (λ (ps : List Place). slice_get ps found.0) from ∙ ap (λ (ps : List Place). slice_get (dispatched past ++ ps) found.0) (sym places) ∙ found.1)
+        | inr d ↦
+            let other_queue : has_region x (open_sq past pick.qid) ≡ false = ap (has_region x) can.is_open ∙ ne_eqb r x d in
+            let fate = fate_of-same past later x (picked-pick_other past seen pick x other_queue) (λ j. refl) i in
+            let was = s.jobs.covers x i apart (record { there = it.there; was_picked = ap is_picked (sym fate) ∙ it.was_picked }) in
+            (was.0, ap (λ (ps : List Place). slice_get ps was.0) from ∙ slice_get-append_left (dispatched past) own was.0 (place_at x i) was.1)
+      ];
     }
 
 -- ---- jobs that are handed, and results that are gained
@@ -179,9 +209,12 @@ jobs-hand rules late past k d rest seat s can regions =
             );
         others = h.others;
         each_gained = λ w. ap (sum_by (λ (g : GetView Finished). sum_by w g.got)) can.ends ∙ h.each_gained w;
+        places = All-same (HasItsTicket past) _ (in_hand hands)
+            (append_assoc hands.running (d ∷ []) rest ∙ ap (λ (ds : List Dispatched). hands.running ++ ds) (sym can.oldest)) h.places;
       };
       each = All-same (IsDispatched past) _ (in_hand hands)
           (append_assoc hands.running (d ∷ []) rest ∙ ap (λ (ds : List Dispatched). hands.running ++ ds) (sym can.oldest)) s.jobs.each;
+      covers = s.jobs.covers;
     }
 
 -- a result that is gained is that of a job that ran
@@ -217,8 +250,10 @@ jobs-gain rules late past k d rest result seat c qid s can its attached regions 
               ap w (result_is result job its.its_job),
               sum_by-cons w (result_of job) (map result_of h.done),
             );
+        places = All-tail (HasItsTicket past) d (rest ++ hands.unhanded) (each-gained (HasItsTicket past) hands d rest its.running_is h.places);
       };
       each = All-tail (IsDispatched past) d (rest ++ hands.unhanded) (each-gained (IsDispatched past) hands d rest its.running_is s.jobs.each);
+      covers = s.jobs.covers;
     }
 
 -- a result of no job is one of the others
@@ -236,12 +271,15 @@ jobs-stray rules late past k result seat s can regions =
         each_handed = h.each_handed;
         others = result ∷ h.others;
         each_gained = λ w. omega (arith, h.each_gained w, sum_by-gained w k.jobs.hands.seat.ends seat.ends result can.gained, sum_by-cons w result h.others);
+        places = h.places;
       };
       each = s.jobs.each;
+      covers = s.jobs.covers;
     }
 
 -- ---- an admin pick
-module _ (rules : FrontRules) (late : Bool) (past : Past) (k : Content) (seen : List Seen) (pick : Pick) (s : Stands rules late past k) (admin : pick.qid ≡ 0) where
+module _ (rules : FrontRules) (late : Bool) (past : Past) (k : Content) (seen : List Seen) (pick : Pick) (s : Stands rules late past k) (admin : pick.qid ≡ 0)
+    (is_open : open_sq past pick.qid ≡ Some admin_queue) where
   -- an admin pick dispatches nothing
   none_picked : dispatched (event.Pick seen pick ∷ past) ≡ dispatched past
   none_picked = ap (λ (ps : List Place). dispatched past ++ ps) (none (open_sq past pick.qid)) ∙ append-nil (dispatched past) where
@@ -251,13 +289,35 @@ module _ (rules : FrontRules) (late : Bool) (past : Past) (k : Content) (seen : 
 
   -- a pick alone leaves the rest
   pick-leaves : Leaves past (event.Pick seen pick ∷ past)
-  pick-leaves = record { none_dispatched = none_picked; longer = omega arith; entries = λ r i e h. h; cq_regions = λ r c h. h; unaborted = λ r i served h. h }
+  pick-leaves = record {
+    none_dispatched = none_picked;
+    longer = omega arith;
+    entries = λ r i e h. h;
+    cq_regions = λ r c h. h;
+    unaborted = λ r i served h. h;
+    picks = picks-admin past seen pick is_open;
+  }
+
+  -- and so does an event after it that neither fetches nor aborts
+  picks-event : (later : Past) → ((r : ℕ) → fetched later r ≡ fetched past r) → ((r i : ℕ) → fate_of later r i ≡ fate_of (event.Pick seen pick ∷ past) r i) → PicksNoMore past later
+  picks-event later same fates r i io it =
+      picks-admin past seen pick is_open r i io (record {
+        there = subst (λ (xs : List Sqe). i < length xs) (same r) it.there;
+        was_picked = ap is_picked (sym (fates r i)) ∙ it.was_picked;
+      })
 
   -- the closing of a completion queue, where it is open
   closing-leaves : (qid : ℕ) (o : Option ℕ) → Leaves past (with_events (closed_cq_of qid o) (event.Pick seen pick ∷ past))
   closing-leaves qid None = pick-leaves
   closing-leaves qid (Some region) =
-      record { none_dispatched = none_picked; longer = omega arith; entries = λ r i e h. h; cq_regions = λ r c h. h; unaborted = λ r i served h. h }
+      record {
+        none_dispatched = none_picked;
+        longer = omega arith;
+        entries = λ r i e h. h;
+        cq_regions = λ r c h. h;
+        unaborted = λ r i served h. h;
+        picks = picks-event _ (λ r. refl) (λ r i. refl);
+      }
 
   -- the beginning of a deletion aborts places that wait
   deleting-leaves : (qid : ℕ) (o : Option Queue) → Leaves past (with_events (closing_of past qid o) (event.Pick seen pick ∷ past))
@@ -272,6 +332,7 @@ module _ (rules : FrontRules) (late : Bool) (past : Past) (k : Content) (seen : 
         entries = λ r i e h. aborts-leave (λ (p : Past). entry_at p r i) (λ p x j. refl) region ws middle ∙ h;
         cq_regions = λ r c h. aborts-leave (λ (p : Past). cq_region_of p r) (λ p x j. refl) region ws middle ∙ h;
         unaborted = λ r i served h. aborts-other region r i ws middle (served-apart past region r i served) ∙ h;
+        picks = picks-closing past seen pick is_open qid region;
       }
 
   -- an Abort command aborts a place that waits
@@ -288,6 +349,7 @@ module _ (rules : FrontRules) (late : Bool) (past : Past) (k : Content) (seen : 
         cq_regions = λ r c h. aborts-leave (λ (p : Past). cq_region_of p r) (λ p x j. refl) region ws middle ∙ h;
         unaborted = λ r i served h. aborts-other region r i ws middle
             (named_among (λ (j : ℕ). one_if (region == r && j == i)) past region cid (served-apart past region r i served)) ∙ h;
+        picks = picks-abort past seen pick is_open queue (k.sq region) cid (s.regions region);
       }
 
   -- what a verdict makes
@@ -299,13 +361,28 @@ module _ (rules : FrontRules) (late : Bool) (past : Past) (k : Content) (seen : 
     entries = λ r i e h. h;
     cq_regions = λ r x h. rw (ne_eqb region r (unused_apart rules late past k s region due.unused r x h)) h;
     unaborted = λ r i served h. h;
+    picks = picks-event _ (λ r. refl) (λ r i. refl);
   }
   verdict-leaves (verdict.OpenCq qid region) due =
-      record { none_dispatched = none_picked; longer = omega arith; entries = λ r i e h. h; cq_regions = λ r c h. h; unaborted = λ r i served h. h }
+      record {
+        none_dispatched = none_picked;
+        longer = omega arith;
+        entries = λ r i e h. h;
+        cq_regions = λ r c h. h;
+        unaborted = λ r i served h. h;
+        picks = picks-event _ (λ r. refl) (λ r i. refl);
+      }
   verdict-leaves (CloseCq qid) due = closing-leaves qid (open_cq past qid)
   verdict-leaves (verdict.Abort sqid cid) due = aborting-leaves cid (target_of past sqid)
   verdict-leaves (verdict.SetArbitration settings) due =
-      record { none_dispatched = none_picked; longer = omega arith; entries = λ r i e h. h; cq_regions = λ r c h. h; unaborted = λ r i served h. h }
+      record {
+        none_dispatched = none_picked;
+        longer = omega arith;
+        entries = λ r i e h. h;
+        cq_regions = λ r c h. h;
+        unaborted = λ r i served h. h;
+        picks = picks-event _ (λ r. refl) (λ r i. refl);
+      }
   verdict-leaves (BeginDelete qid) due = deleting-leaves qid (open_sq past qid)
 
 -- what an admin command leaves has the same jobs
@@ -335,4 +412,4 @@ jobs-admin rules late past k seen pick picked candidate rest table c board s can
     let later : Past = admin_past past (event.Pick seen pick) v in
     subst (λ (j : JobsView). HoldsJobs rules.sizes later j) (sym (same_jobs past (applied_to k picked table) candidate c board v))
     (jobs_left rules.sizes past later k s.ready s.jobs
-    (verdict-leaves rules late past k seen pick s admin v (TellsChange-entry rules.start s.tabled.history candidate.entry).due))
+    (verdict-leaves rules late past k seen pick s admin can.is_open v (TellsChange-entry rules.start s.tabled.history candidate.entry).due))

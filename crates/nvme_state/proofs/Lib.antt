@@ -31,6 +31,7 @@ pub mod ReadyGains
 pub mod AbortReady
 pub mod ReadySteps
 pub mod JobAccounts
+pub mod PicksKept
 pub mod Balances
 pub mod JobSteps
 pub mod GainSteps

@@ -1,15 +1,23 @@
 -- That the jobs which a front handed, and those that it keeps, are those of its log (jobs and tickets: profile).
 use Rattle.std.specs.Prelude.{◌≡◌, ℕ, ◌+◌, List, ◌++◌, map, sum_by}
+use Rattle.std.specs.List.{All}
 use Rattle.nvme_lane.specs.View.{GetView}
 use Rattle.nvme_pool.specs.declared.jobs.Job.{Job}
 use Rattle.nvme_pool.specs.declared.jobs.Finished.{Finished}
 use Rattle.nvme_pool.specs.Jobs.{result_of}
 use Rattle.nvme_log.specs.Rules.{Past}
-use Rattle.nvme_state.specs.Hands.{Hands, job_in}
 use Rattle.nvme_log.specs.Dispatches.{AreJobs, dispatched}
+use Rattle.nvme_state.specs.declared.candidate.Dispatched.{Dispatched}
+use Rattle.nvme_state.specs.Answers.{HasTicket}
+use Rattle.nvme_state.specs.Hands.{Hands, job_in, in_hand}
+
+-- the place of a command in hand is the one that its ticket counts among the picked places of I/O queues
+abbrev pub HasItsTicket : Past → Dispatched → Type 0
+HasItsTicket past d = HasTicket past d.ticket d.region d.index
 
 -- the jobs that the front handed, followed by those that it keeps, are those of the picked places of I/O queues, with tickets that count from
--- 0; each job handed has its result gained or waits for it; and what was gained are the results of jobs, and others
+-- 0, so that each command in hand has the ticket of its place; each job handed has its result gained or waits for it; and what was gained are
+-- the results of jobs, and others
 pub record AccountsForJobs (sizes : List ℕ) (past : Past) (h : Hands) : Type 0 where
   pub handed : List Job
   pub seat_handed : h.seat.handed ≡ h.came.handed ++ handed
@@ -18,3 +26,4 @@ pub record AccountsForJobs (sizes : List ℕ) (past : Past) (h : Hands) : Type 0
   pub each_handed : (w : Job → ℕ) → sum_by w handed ≡ sum_by w (map (job_in sizes) h.running) + sum_by w done
   pub others : List Finished
   pub each_gained : (w : Finished → ℕ) → sum_by (λ (g : GetView Finished). sum_by w g.got) h.seat.ends ≡ sum_by w (map result_of done) + sum_by w others
+  pub places : All (HasItsTicket past) (in_hand h)

@@ -1,3 +1,4 @@
+pub mod Answers
 pub mod Balance
 pub mod Hands
 pub mod JobAccount

@@ -1,7 +1,8 @@
 -- What a drive answers where it fails (profile).
 use Rattle.std.specs.Prelude.{◌≡◌, ◌⊎◌, false}
+use Rattle.nvme_state.specs.Answers.{AnswersHaveResults}
 use Rattle.nvme_state.specs.JobAccount.{AccountsForJobs}
-use Rattle.nvme_front.specs.View.{FrontView, GoesOn, AccountsForEnds, ErrorMeans, past_in}
+use Rattle.nvme_front.specs.View.{FrontView, GoesOn, AccountsForEnds, NoneInHandPosted, ErrorMeans, past_in}
 use Rattle.nvme_front.specs.declared.front.FrontError.{FrontError}
 use Rattle.nvme_front.specs.declared.front.FrontError.TheVariants as front
 use Rattle.nvme_threads.specs.declared.driving.DriveError.{DriveError}
@@ -12,10 +13,12 @@ abbrev pub fault_of : FrontError → DriveError
 fault_of front.NoMemory = drive.NoMemory
 fault_of e = drive.Front e
 
--- the log of a front accounts for its ends and for its jobs
+-- the log of a front accounts for its ends and for its jobs, and each answered I/O command has its result
 pub record Accounts (v : FrontView) : Type 0 where
   pub ends : v.late ≡ false → AccountsForEnds v
   pub jobs : AccountsForJobs v.rules.sizes (past_in v) v.hands
+  pub executed : NoneInHandPosted v
+  pub results : AnswersHaveResults v.rules.sizes (past_in v) v.hands
 
 -- a front made no turn yet, or its log accounts for it
 abbrev pub HasTurned : FrontView → FrontView → Type 0

@@ -75,11 +75,12 @@ told_after true Moved = Moved
 told_after true Idle = Moved
 told_after true Stalled = Moved
 
--- the log went on with a pick, with what an admin command made of it behind, for which the log had room
+-- the log went on with a pick, whose places were free, with what an admin command made of it behind, for which the log had room
 pub record IsPickOf (old new : FrontState) : Type 0 where
   pub seen : List Seen
   pub pick : Pick
   pub after : List Event
   pub log_is : new.log.items ≡ old.log.items ++ event.Pick seen pick ∷ after
   pub room : pick.qid ≡ 0 → length old.log.items + admin_events ≤ old.config.max_events
+  pub places : old.outstanding + places_in old.sqs.items pick ≤ max_outstanding
   pub cqs : pick.qid ≢ 0 → new.cqs.items ≡ old.cqs.items

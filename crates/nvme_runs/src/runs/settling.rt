@@ -2,7 +2,7 @@
 ghost use Rattle.std.specs.Prelude.{◌≡◌, ◌≢◌, ◌↔◌, ◌⊎◌, ◌<◌, ◌≤◌, length, map, IfOk, IfErr, IsErrOf, IsTrue, IsFalse, OnOk};
 ghost use Rattle.nvme_admin.specs.declared.bounds.TheConstants.{MAX_REGIONS};
 ghost use Rattle.nvme_front.specs.Hosts.{IsFedBy, IsDrainedBy, told, told_by};
-ghost use Rattle.nvme_front.specs.Settles.{HasItsPool, AreAtRest, IsSettled, IsSettledAccount, settled_past};
+ghost use Rattle.nvme_front.specs.Settles.{HasItsPool, AreAtRest, IsSettled, IsSettledAccount, AnswersWereExecuted, settled_past};
 ghost use Rattle.nvme_log.specs.Dispatches.{ExecutesOnce};
 ghost use Rattle.nvme_lane.specs.Feeder.{script_of, count_of};
 ghost use Rattle.nvme_front.specs.declared.settled.SettleError.TheVariants as settling;
@@ -98,6 +98,7 @@ pub fn settle_run<R: Wait>(
     ensures settled { IfOk result (λ s. IsSettled s) }
     ensures submitted { OnOk result (AllSubmitted mode parts.front parts.feeders.items) }
     ensures executed { IfOk result (λ s. ExecutesOnce parts.front.rules.sizes (settled_past s) parts.front.hands.seat parts.workers.items) }
+    ensures answered { IfOk result (λ s. AnswersWereExecuted parts.front.rules.sizes (settled_past s) parts.front.hands.seat parts.workers.items) }
     ensures gave_up { IsErrOf result fault.GaveUp → AllSubmitted mode parts.front parts.feeders.items → AreAtRest parts → ⊥ }
     ensures faults { IfErr result (λ e. (e ≡ fault.GaveUp) ⊎ (e ≡ fault.NoMemory)) }
 {

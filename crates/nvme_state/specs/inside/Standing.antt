@@ -19,7 +19,7 @@ use Rattle.nvme_state.specs.declared.attachment.Attachment.{Attachment}
 use Rattle.nvme_log.specs.Limits.{max_outstanding}
 use Rattle.nvme_log.specs.Rules.{FrontRules, Past, Each, sq_regions_of, cq_regions_of, slots_at}
 use Rattle.nvme_log.specs.Queues.{Queue, Deletion, open_sq, open_cq, pending, is_closed_region, qid_of_region, cq_region_of}
-use Rattle.nvme_log.specs.Places.{Place, fetched, waiting, picked, is_aborted, unaborted_below, entry_at, is_served, one_if}
+use Rattle.nvme_log.specs.Places.{Place, fetched, waiting, picked, is_aborted, unaborted_below, fate_of, is_picked, entry_at, is_served, one_if}
 use Rattle.nvme_log.specs.Histories.{arbitration_of, table_history}
 use Rattle.nvme_log.specs.Aborts.{is_aborted_with_queue}
 use Rattle.nvme_log.specs.Completions.{is_posted, posts_of, posted_to, outstanding, own_status, own_dw0, unposted_of}
@@ -27,6 +27,7 @@ use Rattle.nvme_log.specs.Effects.{EffectsAtOnce, effects_since, made_last}
 use Rattle.nvme_log.specs.Account.{IndexCounts, ServedWhileOpen, Observed, Deletes, PostsOwn, LeavesPlaces, deleting_place}
 use Rattle.nvme_log.specs.Laws.{as_open}
 use Rattle.nvme_state.specs.inside.Jobs.{JobsView, dispatched_place}
+use Rattle.nvme_state.specs.Answers.{HasTicket}
 use Rattle.nvme_state.specs.Hands.{in_hand}
 use Rattle.nvme_log.specs.Dispatches.{dispatched}
 use Rattle.nvme_state.specs.JobAccount.{AccountsForJobs}
@@ -106,12 +107,19 @@ pub record IsDispatched (past : Past) (d : Dispatched) : Type 0 where
   pub cq_region : ℕ
   pub attached : cq_region_of past d.region ≡ Some cq_region
 
--- the jobs are those of the picked places of I/O queues. A pick takes at most the places that may be outstanding, so tickets don't run out
+-- a fetched place was picked
+pub record IsPickedPlace (past : Past) (r i : ℕ) : Type 0 where
+  pub there : i < length (fetched past r)
+  pub was_picked : is_picked (fate_of past r i) ≡ true
+
+-- the jobs are those of the picked places of I/O queues, of which each has its ticket. A pick takes at most the places that may be outstanding,
+-- so tickets don't run out
 pub record HoldsJobs (sizes : List ℕ) (past : Past) (j : JobsView) : Type 0 where
   pub tickets_are : j.tickets ≡ length (dispatched past)
   pub few : j.tickets ≤ max_outstanding * length past
   pub account : AccountsForJobs sizes past j.hands
   pub each : All (IsDispatched past) (in_hand j.hands)
+  pub covers : (r i : ℕ) → (r == 0) ≡ false → IsPickedPlace past r i → (ticket : ℕ) × HasTicket past ticket r i
 
 -- ---- counts and ends
 pub record HoldsCounts (rules : FrontRules) (past : Past) (k : Content) : Type 0 where

@@ -4,7 +4,7 @@ use Rattle.nvme_front.specs.Ends.{put_place}
 use Rattle.nvme_front.specs.Hosts.{AreHosts, drainer_place}
 use Rattle.nvme_log.specs.Account.{IsClear}
 use Rattle.nvme_front.proofs.Hosted.{fed_from_pairs, drained_from_pairs, seen_length, IsSameFront-trans}
-use Rattle.nvme_front.proofs.Rested.{at_rest, not_at_rest, not_clear, feeders_number, takes_from, collects_more, is_settled, is_account, executes}
+use Rattle.nvme_front.proofs.Rested.{at_rest, not_at_rest, not_clear, feeders_number, takes_from, collects_more, is_settled, is_account, executes, answers_executed}
 use Rattle.nvme_front.proofs.settling.settle.Goals as goal
 use Rattle.nvme_front.proofs.settling.settle.Goals.{then-not-quiet-via-then-not-quiet, then-not-quiet-via-else-not-quiet+then-not-is_clear, then-not-quiet-via-else-not-quiet+else-not-is_clear+then-not-none_kept}
 
@@ -154,3 +154,9 @@ returns-in-Ok-clause-executed g c =
     let done = c.in-Ok.ensures in
     executes c.args.parts.front c.collect.new.front _ c.args.parts.workers.items (IsSameFront-trans _ _ _ c.look-quiet.ensures.front collects.front) (ap reverse (c.settled_of.ensures.log ∙ done.log)) done.jobs
     (done.none_in_hand (subst IsClear (sym (ap reverse collects.front.log)) clear)) c.requires.pool.none_before done.closed kept
+
+pub returns-in-Ok-clause-answered : goal.returns-in-Ok-clause-answered
+returns-in-Ok-clause-answered g c =
+    let done = c.in-Ok.ensures in
+    answers_executed c.args.parts.front.rules.sizes _ _ c.args.parts.front.hands.seat c.args.parts.workers.items (ap reverse (c.settled_of.ensures.log ∙ done.log)) done.tickets
+    (returns-in-Ok-clause-executed g c)

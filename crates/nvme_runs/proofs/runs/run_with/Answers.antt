@@ -38,7 +38,7 @@ returns-in-Ok-clause-means g c =
     let read = c.in_ok-workload.ensures in
     let done = c.in_ok-settled.ensures in
     of_ok _ _ _ _ _ _ c.report.new.writer (c.in_ok-settled.settled, c.in_ok-settled.gates) plan inside read.read read.fit
-    (record { plan = plan; is_workload = read.read; hosts = done.hosts; account = done.account; loaded = done.loaded }) c.in-Ok.ensures
+    (record { plan = plan; is_workload = read.read; hosts = done.hosts; account = done.account; answered = done.answered; loaded = done.loaded }) c.in-Ok.ensures
 
 pub returns-in-Err-clause-means : goal.returns-in-Err-clause-means
 returns-in-Err-clause-means g c =
@@ -47,4 +47,4 @@ returns-in-Err-clause-means g c =
     let read = c.in_ok-workload.ensures in
     let done = c.in_ok-settled.ensures in
     of_write _ _ _ _ _ _ c.report.new.writer c.in_ok-settled.settled plan inside read.read read.fit
-    (record { plan = plan; is_workload = read.read; hosts = done.hosts; account = done.account; loaded = done.loaded }) c.in-Err.ensures
+    (record { plan = plan; is_workload = read.read; hosts = done.hosts; account = done.account; answered = done.answered; loaded = done.loaded }) c.in-Err.ensures

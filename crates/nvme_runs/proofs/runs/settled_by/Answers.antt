@@ -68,6 +68,9 @@ returns-clause-gates g c =
     before.workers.items c.args.gates.items after.workers.items c.in_ok-parts-2.gates.items c.in_ok-parts.ensures.prepared.blank.worked c.in_ok-parts-2.ensures.workers
     c.in_ok-settled.ensures.executed
 
+pub returns-clause-answered : goal.returns-clause-answered
+returns-clause-answered g c = λ r i answered. let it = c.in_ok-settled.ensures.answered r i answered in (it.0, it.1)
+
 pub returns-clause-loaded : goal.returns-clause-loaded
 returns-clause-loaded g c = λ is.
     let before = c.in_ok-parts.parts in

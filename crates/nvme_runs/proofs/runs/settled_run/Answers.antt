@@ -34,4 +34,4 @@ returns-clause-means g c =
     let done = c.in_ok-settled.ensures in
     of_ok {T = Ran} {W = Unit {0}} settled_in no_bytes c.args.text.now c.args.mode c.args.workers tt tt
     (record { mechanism = c.in_ok-workload.workload.mechanism; settings = c.in_ok-workload.workload.settings; settled = c.in_ok-settled.settled }) plan inside read.read read.fit
-    (record { plan = plan; is_workload = read.read; hosts = done.hosts; account = done.account; loaded = done.loaded }) tt
+    (record { plan = plan; is_workload = read.read; hosts = done.hosts; account = done.account; answered = done.answered; loaded = done.loaded }) tt

@@ -1,5 +1,6 @@
 use Rattle.nvme_front.proofs.Ended.{account_seen, fetched_seen, posted_seen}
 use Rattle.nvme_front.proofs.Executions.{jobs_seen, none_in_hand_seen}
+use Rattle.nvme_front.proofs.Results.{tickets_seen}
 use Rattle.nvme_front.proofs.front.Front.into_log.Goals as goal
 
 pub returns-in-Ok-clause-account : goal.returns-in-Ok-clause-account
@@ -10,6 +11,9 @@ returns-in-Ok-clause-jobs g c = jobs_seen c.self.inside.state c.args.self c.self
 
 pub returns-in-Ok-clause-none_in_hand : goal.returns-in-Ok-clause-none_in_hand
 returns-in-Ok-clause-none_in_hand g c = none_in_hand_seen c.self.inside.state c.args.self c.self.view_is c.self.invariant
+
+pub returns-in-Ok-clause-tickets : goal.returns-in-Ok-clause-tickets
+returns-in-Ok-clause-tickets g c = tickets_seen c.self.inside.state c.args.self c.self.view_is c.self.invariant
 
 pub returns-in-Ok-clause-fetched : goal.returns-in-Ok-clause-fetched
 returns-in-Ok-clause-fetched g c = fetched_seen c.self.inside.state c.args.self c.self.view_is c.self.invariant
@@ -25,6 +29,9 @@ returns-in-Err-clause-jobs g c = jobs_seen c.self.inside.state c.args.self c.sel
 
 pub returns-in-Err-clause-none_in_hand : goal.returns-in-Err-clause-none_in_hand
 returns-in-Err-clause-none_in_hand g c = none_in_hand_seen c.self.inside.state c.args.self c.self.view_is c.self.invariant
+
+pub returns-in-Err-clause-tickets : goal.returns-in-Err-clause-tickets
+returns-in-Err-clause-tickets g c = tickets_seen c.self.inside.state c.args.self c.self.view_is c.self.invariant
 
 pub returns-in-Err-clause-fetched : goal.returns-in-Err-clause-fetched
 returns-in-Err-clause-fetched g c = fetched_seen c.self.inside.state c.args.self c.self.view_is c.self.invariant

@@ -5,6 +5,8 @@ use Rattle.nvme_front.specs.inside.State.{view_of}
 use Rattle.nvme_front.specs.LoadedFront.{IsLoadedFront, GotWithin}
 use Rattle.nvme_front.proofs.States.{admin-goes}
 use Rattle.nvme_front.proofs.EndsSeen.{accounts_for_ends, admin_there, view_goes_on}
+use Rattle.nvme_front.proofs.Executions.{none_in_hand_posted}
+use Rattle.nvme_front.proofs.Results.{results_of}
 use Rattle.nvme_front.proofs.front.Front.turn.Goals as goal
 
 pub returns-clause-goes_on : goal.returns-clause-goes_on
@@ -20,6 +22,12 @@ pub returns-clause-jobs : goal.returns-clause-jobs
 returns-clause-jobs g c =
     let admin = admin-goes c.self.inside.state c.turn.new.self c.turn.ensures.goes (admin_there c.self.inside.state c.args.self.now c.self.view_is c.requires.admin_sq c.requires.admin_cq) in
     (c.turn.ensures.consistent.stands admin.0 admin.1).jobs.account
+
+pub returns-clause-executed : goal.returns-clause-executed
+returns-clause-executed g c = none_in_hand_posted c.turn.new.self c.turn.ensures.consistent
+
+pub returns-clause-results : goal.returns-clause-results
+returns-clause-results g c = results_of c.turn.new.self c.turn.ensures.consistent
 
 pub returns-clause-within : goal.returns-clause-within
 returns-clause-within g c = c.turn.ensures.consistent.roomy.few_events

@@ -83,5 +83,6 @@ returns-clause-picks_of c =
       log_is = sym grew.1 ∙ ap (λ (xs : List Event). xs ++ grew.0) (c.note.ensures.items ∙ ap (λ (xs : List Event). xs ++ picked) c.make_room.ensures.same)
           ∙ append_assoc s.log.items picked grew.0;
       room = λ _. c.in_ok-make_room.ensures.within;
+      places = of_next s c.in-Some.pick (λ (p : Pick). s.outstanding + places_in s.sqs.items p ≤ max_outstanding) c.in-Some.ensures.by_what_is_kept c.requires.places;
       cqs = λ io. absurd (io (of_next s c.in-Some.pick (λ (p : Pick). p.qid ≡ 0) c.in-Some.ensures.by_what_is_kept c.requires.of_admin));
     }

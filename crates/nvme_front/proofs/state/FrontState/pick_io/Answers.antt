@@ -1,4 +1,4 @@
-use Rattle.std.proofs.Common.{◌≢◌, ◌+◌, ◌≤◌, List, [], ◌∷◌, ◌++◌, set, refl, ap, sym, ◌∙◌, arith}
+use Rattle.std.proofs.Common.{◌≢◌, ℕ, ◌+◌, ◌≤◌, List, [], ◌∷◌, ◌++◌, set, refl, ap, sym, subst, ◌∙◌, arith}
 use Rattle.nvme_arbiter.specs.declared.pick.Pick.{Pick}
 use Rattle.nvme_log.specs.declared.event.Event.{Event}
 use Rattle.nvme_log.specs.declared.event.Event.TheVariants as event
@@ -6,7 +6,7 @@ use Rattle.nvme_log.specs.Histories.{picks_in}
 use Rattle.nvme_log.specs.Limits.{max_outstanding}
 use Rattle.nvme_front.specs.inside.State.{rules_of}
 use Rattle.nvme_front.proofs.Comes.{gets-set}
-use Rattle.nvme_front.proofs.Picks.{picks_in-push, of_next, config_by, jobs_fit, few_tickets, due-found, due-sq_there, due-unposted, due-enough}
+use Rattle.nvme_front.proofs.Picks.{picks_in-push, of_next, io_places, config_by, jobs_fit, few_tickets, due-found, due-sq_there, due-unposted, due-enough}
 use Rattle.nvme_front.proofs.PickedQueue.{io-kept, io-goes}
 use Rattle.nvme_front.proofs.state.FrontState.pick_io.Goals as goal
 
@@ -80,3 +80,18 @@ returns-clause-picked c =
 
 pub returns-clause-gets : goal.returns-clause-gets
 returns-clause-gets c = gets-set _ _ _ _ c.index_mut-sq.ensures.value refl
+
+pub returns-clause-picks_of : goal.returns-clause-picks_of
+returns-clause-picks_of c =
+    let s = c.args.self.now in
+    let io = of_next s c.in-Some.pick (λ (p : Pick). p.qid ≢ 0) c.in-Some.ensures.by_what_is_kept c.requires.io in
+    record {
+      seen = c.in_ok-seen.seen;
+      pick = c.in-Some.pick;
+      after = [];
+      log_is = c.note.ensures.items ∙ ap (λ (xs : List Event). xs ++ event.Pick c.in_ok-seen.seen c.in-Some.pick ∷ []) c.make_room.ensures.same;
+      room = λ of_admin. absurd (io of_admin);
+      places = subst (λ (n : ℕ). s.outstanding + n ≤ max_outstanding) (sym (io_places s.sqs.items c.in-Some.pick io))
+          (of_next s c.in-Some.pick (λ (p : Pick). s.outstanding + p.n ≤ max_outstanding) c.in-Some.ensures.by_what_is_kept c.requires.places);
+      cqs = λ _. refl;
+    }

@@ -32,7 +32,7 @@ returns-clause-to_end g c =
     let finish = c.in_ok-finished.ensures in
     subst (λ (s : Step). GoesToEnd s (view_of c.args.self.now) (view_of c.finish.new.self)) (sym c.step_after.ensures)
     (closes_to_end c.args.self.now c.finish.new.self c.in-Some.deletion c.requires.consistent c.requires.admin finish.consistent finish.goes c.requires.drained c.in-Some.is
-    c.in_ok-finished.finished (λ t. finish.finished (ap Ok t)) (λ f. (finish.still (ap Ok f)).0))
+    c.in_ok-finished.finished (λ t. finish.finished (ap Ok t)) (λ f. finish.still (ap Ok f)))
 
 pub returns-in_err-finished-clause-loads : goal.returns-in_err-finished-clause-loads
 returns-in_err-finished-clause-loads g c =

@@ -83,8 +83,8 @@ returns-in_default-clause-to_end g c =
     let drained = drained_later c.args.self.now c.scan.new.self scan.cqs c.requires.drained in
     subst (λ (s : Step). GoesToEnd s (view_of c.args.self.now) (view_of c.pick.new.self)) (sym c.step_after.ensures)
     (serves_to_end c.args.self.now c.scan.new.self c.pick.new.self scan.consistent (admin-goes c.args.self.now c.scan.new.self scan.goes c.requires.admin)
-    scan.scanned drained pick.consistent scan.goes pick.goes scan.picks pick.gets c.in_ok-fetched.fetched c.in_ok-picked.picked
-    (λ e. pick.picks_of (ap Ok e)) (λ e. pick.never_moved (ap Ok e)) (λ e. (pick.idle (ap Ok e)).0) (λ e. (pick.stalled (ap Ok e)).0))
+    c.scan.ensures.none_pending scan.scanned drained pick.consistent scan.goes pick.goes scan.picks pick.gets c.in_ok-fetched.fetched c.in_ok-picked.picked
+    (λ e. pick.picks_of (ap Ok e)) (λ e. pick.never_moved (ap Ok e)) (λ e. pick.idle (ap Ok e)) (λ e. pick.stalled (ap Ok e)))
 
 pub returns-in_err-picked-clause-loads : goal.returns-in_err-picked-clause-loads
 returns-in_err-picked-clause-loads g c =
