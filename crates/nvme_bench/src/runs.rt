@@ -10,8 +10,8 @@ use std::sync::Wait;
 use std::thread::Threads;
 use std::time::{Duration, Instant};
 
-// The most commands of a measurement: those of a workload, less those that create the queues.
-const MOST: u32 = 65_500;
+// The most commands of a measurement: those of a workload, less those that create 64 queues of each kind.
+const MOST: u32 = 65_536 - 2 * 64;
 // The commands of the runs that show how the time of a command grows.
 const GROWTH: [u32; 3] = [4_096, 16_384, MOST];
 
@@ -119,9 +119,10 @@ fn run_once<R: Clock + Eprint + Alloc<A = Global> + Threads + Wait + Sync>(
         shape.workers,
         &mut writer,
     );
-    if done.is_err() || writer.flush().is_err() {
-        bail!("a run came to nothing")
+    if let Err(error) = done {
+        bail!("a run came to nothing: {error}")
     }
+    writer.flush()?;
     let whole = start.elapsed(rt)?;
     let (counter, _) = writer.into_parts();
     let drive = counter

@@ -13,8 +13,13 @@ use nvme_trace::{Head, Trace, TraceError, TraceEvent, WriteFault, class_name, me
 use std::alloc::Global;
 use std::io::{self, Read, Write};
 
-// How many columns a picture has at most.
+// How many columns a picture has at most, and how many places for bars in all its rows.
 const COLUMNS: usize = 2_000;
+
+const BARS: u64 = 65_536;
+
+// How often the columns are halved at most until all rows have room.
+const HALVES: u32 = 11;
 
 // Measures of the picture, in pixels.
 const LEFT: u64 = 100;
@@ -53,8 +58,9 @@ impl Column {
     }
 }
 
-/// A picture of a trace: a row for each queue, and the picks from left to right. Its memory does not grow with the
-/// trace: where there are more than 2,000 picks, each step of the picture sums up 2, 4, 8 or more of them.
+/// A picture of a trace: a row for each queue, and the picks from left to right. Neither its memory nor its text grows with
+/// the trace: where there are more than 2,000 picks, or more than 65,536 of them times the rows, each step of the picture
+/// sums up 2, 4, 8 or more of them.
 #[derive(Drop)]
 pub struct Picture {
     mechanism: Mechanism,
@@ -97,17 +103,35 @@ fn note_rows(rows: &mut [bool; LANES], seen: &[Seen]) {
 }
 
 impl Columns {
-    // Sums up the columns by twos.
+    // Sums up the columns by twos. Of an odd number the last one stays as it is.
     fn halve(&mut self) {
         let half = self.all.len() / 2;
+        let last = self.all.last().copied();
         for at in 0..half {
             let mut sum = self.all[2 * at];
             sum.add(&self.all[2 * at + 1]);
             self.all[at] = sum;
         }
-        self.all.truncate(half);
+        if self.all.len() % 2 == 0 {
+            self.filled = self.filled.saturating_add(self.step);
+            self.all.truncate(half);
+        } else {
+            self.all.truncate(half + 1);
+            if let (Some(column), Some(last)) = (self.all.last_mut(), last) {
+                *column = last;
+            }
+        }
         self.step = self.step.saturating_mul(2);
-        self.filled = self.step;
+    }
+
+    // Sums up the columns until this number of rows has room.
+    fn fit(&mut self, rows: u64) {
+        for _ in 0..HALVES {
+            if rows.saturating_mul(self.all.len() as u64) <= BARS {
+                return;
+            }
+            self.halve();
+        }
     }
 
     // Makes room for one pick in the last column.
@@ -262,10 +286,22 @@ impl Picture {
         Ok(())
     }
 
-    // Writes the marks: where a round starts, and where settings change.
+    // Writes the mark of a change of the settings before a column.
+    fn put_change<W: Write>(&self, at: usize, writer: &mut W) -> io::Result<()> {
+        let (x, bottom) = (self.left_of(at), self.bottom());
+        writeln!(
+            writer,
+            "<path d=\"M{x} 72V{bottom}\" stroke=\"#8e24aa\" stroke-width=\"2\"/>"
+        )
+    }
+
+    // Writes the marks: where a round starts, and where settings change. A change after the last pick stands at the end.
     fn put_marks<W: Write>(&self, writer: &mut W) -> io::Result<()> {
-        let bottom = self.bottom();
-        let end = if self.column_width() > 4 { bottom } else { TOP };
+        let end = if self.column_width() > 4 {
+            self.bottom()
+        } else {
+            TOP
+        };
         for (at, column) in self.columns.all.iter().enumerate() {
             let x = self.left_of(at);
             if column.fresh {
@@ -275,11 +311,11 @@ impl Picture {
                 )?;
             }
             if column.set {
-                writeln!(
-                    writer,
-                    "<path d=\"M{x} 72V{bottom}\" stroke=\"#8e24aa\" stroke-width=\"2\"/>"
-                )?;
+                self.put_change(at, writer)?;
             }
+        }
+        if self.set {
+            self.put_change(self.columns.all.len(), writer)?;
         }
         Ok(())
     }
@@ -410,5 +446,7 @@ pub fn chart<R: Read + Drop>(alloc: Global, reader: R) -> Result<Picture, TraceE
     let head = trace.head(alloc)?;
     let mut picture = Picture::new(alloc, head);
     show(alloc, &mut trace, &mut picture)?;
+    let rows = picture.rows();
+    picture.columns.fit(rows);
     Ok(picture)
 }

@@ -5,7 +5,9 @@ ghost use Rattle.nvme_trace.specs.declared.reading.Head.{Head};
 ghost use Rattle.nvme_chart.specs.Shown.{IsShown, IsReadFault};
 ghost use Rattle.nvme_chart.specs.Counted.{IsCounted};
 
-use crate::lanes::{CLASSES, IO_QUEUES, LANES, lane_of, lane_of_pick, queue_of_lane};
+use crate::lanes::{
+    CLASSES, IO_QUEUES, LANES, class_of_lane, lane_of, lane_of_pick, queue_of_lane,
+};
 use crate::watching::{Watch, more, show};
 use nvme_arbiter::{Class, Mechanism, Pick, QUEUE_LIMIT, Seen, Settings};
 use nvme_trace::{Head, Trace, TraceError, TraceEvent, WriteFault, class_name, mechanism_name};
@@ -45,7 +47,8 @@ pub struct Statistics {
     behind: Behind,
 }
 
-// The commands of High and Medium that are picked in a row while a low queue is ready and no admin or urgent one.
+// The commands of High and Medium that are picked in a row while a low queue is ready and no admin or urgent one. Each
+// other pick ends the row.
 #[derive(Clone, Copy)]
 struct Behind {
     commands: u64,
@@ -92,15 +95,16 @@ fn note_seen(tallies: &mut [Tally; LANES], seen: &[Seen]) {
     }
 }
 
-// Lets the ready rows wait that compete with the pick: all of them under round robin, those of its class else.
-fn wait(tallies: &mut [Tally; LANES], mechanism: Mechanism, seen: &[Seen], picked: usize) {
-    let class = queue_of_lane(picked).class;
+// Lets the ready rows wait that compete with the pick: all of them under round robin, those of its class else. A pick of
+// a queue that isn't seen has no row, and no class.
+fn wait(tallies: &mut [Tally; LANES], mechanism: Mechanism, seen: &[Seen], picked: Option<usize>) {
+    let class = picked.map(class_of_lane);
     let ready = ready_lanes(seen);
     for (lane, tally) in tallies.iter_mut().enumerate() {
-        if mechanism == Mechanism::Weighted && queue_of_lane(lane).class != class {
+        if mechanism == Mechanism::Weighted && class != Some(class_of_lane(lane)) {
             continue;
         }
-        if lane == picked || ready.get(lane) != Some(&true) {
+        if picked == Some(lane) || ready.get(lane) != Some(&true) {
             tally.waits = 0;
         } else {
             tally.waits = tally.waits.saturating_add(1);
@@ -130,14 +134,14 @@ impl Behind {
         mechanism: Mechanism,
         settings: &Settings,
         seen: &[Seen],
-        class: Class,
+        class: Option<Class>,
         n: u16,
     ) {
         let waits = mechanism == Mechanism::Weighted
             && !is_ready(seen, Class::Admin)
             && !is_ready(seen, Class::Urgent)
             && is_ready(seen, Class::Low);
-        if !waits || class == Class::Low {
+        if !waits || !matches!(class, Some(Class::High | Class::Medium)) {
             self.commands = 0;
             return;
         }
@@ -174,18 +178,14 @@ impl Statistics {
         ensures { (head : Head) (past : History) → IsCounted head past self.old → IsCounted head past self.new }
     {
         note_seen(&mut self.tallies, seen);
-        let Some(lane) = lane_of_pick(seen, pick.qid) else {
-            return;
-        };
-        count_pick(&mut self.tallies, lane, pick.n);
+        let lane = lane_of_pick(seen, pick.qid);
+        if let Some(lane) = lane {
+            count_pick(&mut self.tallies, lane, pick.n);
+        }
         wait(&mut self.tallies, self.mechanism, seen, lane);
-        self.behind.wait(
-            self.mechanism,
-            &self.settings,
-            seen,
-            queue_of_lane(lane).class,
-            pick.n,
-        );
+        let class = lane.map(class_of_lane);
+        self.behind
+            .wait(self.mechanism, &self.settings, seen, class, pick.n);
     }
 
     // Counts a pick.
@@ -211,7 +211,7 @@ impl Statistics {
     fn of_class(&self, class: Class) -> Tally {
         let mut sum = NO_TALLY;
         for (lane, tally) in self.tallies.iter().enumerate() {
-            if tally.seen && queue_of_lane(lane).class == class {
+            if tally.seen && class_of_lane(lane) == class {
                 sum.seen = true;
                 sum.picks = sum.picks.saturating_add(tally.picks);
                 sum.commands = sum.commands.saturating_add(tally.commands);
@@ -221,15 +221,28 @@ impl Statistics {
         sum
     }
 
+    // The commands of an I/O queue, in whatever classes, where it was seen. The queue's row in a class stands as many rows
+    // behind that in the class before as there are I/O queues.
+    fn of_queue(&self, qid: usize) -> Option<u64> {
+        let mut commands = None;
+        for (lane, tally) in self.tallies.iter().enumerate() {
+            if tally.seen && lane > 0 && (lane - 1) % IO_QUEUES + 1 == qid {
+                let before = commands.unwrap_or(0u64);
+                commands = Some(before.saturating_add(tally.commands));
+            }
+        }
+        commands
+    }
+
     // Jain's index of the commands of the I/O queues, in ten thousandths: the square of their sum by the sum of their
     // squares, by their number. 10,000 where nothing was picked of them.
     fn jain(&self) -> u128 {
         let mut number = 0u128;
         let mut sum = 0u128;
         let mut squares = 0u128;
-        for (lane, tally) in self.tallies.iter().enumerate() {
-            if tally.seen && lane > 0 {
-                let commands = u128::from(tally.commands);
+        for qid in 1..=IO_QUEUES {
+            if let Some(commands) = self.of_queue(qid) {
+                let commands = u128::from(commands);
                 number = number.saturating_add(1);
                 sum = sum.saturating_add(commands);
                 squares = squares.saturating_add(commands.saturating_mul(commands));

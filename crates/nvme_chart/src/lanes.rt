@@ -64,6 +64,11 @@ pub fn queue_of_lane(lane: usize) -> Seen {
     }
 }
 
+/// The class of a row.
+pub fn class_of_lane(lane: usize) -> Class {
+    queue_of_lane(lane).class
+}
+
 /// The row of a pick, where its queue was seen.
 pub fn lane_of_pick(seen: &[Seen], qid: u16) -> Option<usize>
     ensures { IfSome result (λ lane. lane < LANES) }
