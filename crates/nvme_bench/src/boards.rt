@@ -1,4 +1,4 @@
-// Picks of a board, which are followed by as many commands that come, beside an arbiter that is shown the board.
+// Picks of a board, each followed by one command that arrives, beside an arbiter that is shown the board.
 use crate::picks::{class_of, name_of};
 use crate::rates::{Yardstick, tell};
 use nvme_arbiter::{
@@ -21,7 +21,7 @@ fn open(board: &mut Board, qid: u16) {
     }
 }
 
-/// One more command waits, where the queue is open and has room for it.
+/// Counts one more waiting command, where the queue is open and has room for it.
 pub fn come(board: &mut Board, qid: u16) {
     if let Some(queue) = board.queue(qid)
         && queue.count < HIGHEST_COUNT
@@ -43,7 +43,7 @@ pub fn ready_board(mechanism: Mechanism, queues: u16) -> Board {
     board
 }
 
-/// Picks `count` times, each followed by one command that comes.
+/// Picks `count` times. After each pick one command arrives.
 pub fn pick_from_board(board: &mut Board, count: u32) {
     for _ in 0..count {
         if let Some(pick) = board.pick() {

@@ -12,10 +12,10 @@ use std::time::{Duration, Instant};
 
 const QUEUES: u16 = 16;
 
-// How many picks a trace has that is checked over and over, at most.
+// The most picks of a trace that is checked over and over.
 const PART: u32 = 10_000;
 
-// The trace of this number of picks of a board, each followed by one command that comes.
+// The trace of this number of picks of a board. After each pick one command arrives.
 fn trace_of(alloc: Global, mechanism: Mechanism, count: u32) -> Result<Vec<u8>> {
     let mut board = ready_board(mechanism, QUEUES);
     let mut log = Vec::new(alloc);

@@ -1,4 +1,4 @@
-// Jobs handed to workers on threads of their own, and their results.
+// Jobs of workers on threads of their own, and their results.
 ghost use Rattle.std.specs.Prelude.{◌≡◌};
 ghost use Rattle.std.specs.List.{All};
 ghost use Rattle.nvme_pool.specs.Seat.{SameSeat};
@@ -15,7 +15,7 @@ use std::sync::atomic::{AtomicU64, Ordering};
 use std::thread::{self, Scope, Threads};
 use std::time::Instant;
 
-// Steps until there is nothing to do and no job will come.
+// Steps until there is nothing to do and no more jobs will come.
 fn work<R: Wait>(rt: &R, lanes: &Lanes, mut worker: Worker, stop: &AtomicU64)
     requires { worker.lane ≡ lanes.now }
 {

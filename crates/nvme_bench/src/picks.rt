@@ -15,7 +15,7 @@ pub fn class_of(k: usize) -> Class {
     }
 }
 
-/// How the figures call a mechanism.
+/// The name of a mechanism in the figures.
 pub const fn name_of(mechanism: Mechanism) -> &'static str {
     match mechanism {
         Mechanism::RoundRobin => "round robin",

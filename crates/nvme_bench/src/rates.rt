@@ -1,4 +1,4 @@
-// Times, beside one of the same run that no change of this repository changes.
+// Times, and a yardstick from the same run that no change of this repository affects.
 use rtrb::RingBuffer;
 use std::alloc::{AllocError, Global};
 use std::io;
@@ -8,8 +8,8 @@ use std::time::{Duration, Instant};
 // How many items the yardstick takes.
 const ITEMS: u32 = 100_000;
 
-/// The time of an item through a ring of `rtrb`, which is put and got on one thread. All times are told as multiples of
-/// it too, so that those of two builds can be compared where the machine was not as fast at both.
+/// The time of an item through a ring of `rtrb`, put and got on one thread. Every time is also printed as a multiple of
+/// it, so that two builds can be compared even if the machine wasn't equally fast for both.
 #[derive(Clone, Copy)]
 pub struct Yardstick {
     // The time of all its items.
@@ -28,7 +28,7 @@ fn pass_items(alloc: Global, count: u32) -> Result<u64, AllocError> {
 }
 
 impl Yardstick {
-    /// Takes the time of the yardstick.
+    /// Measures the yardstick.
     pub fn take<R: Clock + Eprint + Alloc<A = Global>>(rt: &R) -> io::Result<Yardstick> {
         let start = Instant::now(rt)?;
         let sum = pass_items(rt.alloc(), ITEMS)?;
@@ -40,7 +40,7 @@ impl Yardstick {
         Ok(Yardstick { took })
     }
 
-    /// How many yardsticks one of `count` took, in tenths.
+    /// How many tenths of a yardstick each of `count` took.
     pub fn tenths(self, count: u32, took: Duration) -> u128 {
         let whole = took.as_nanos().saturating_mul(10 * u128::from(ITEMS));
         let each = self.took.as_nanos().saturating_mul(u128::from(count));
@@ -48,7 +48,7 @@ impl Yardstick {
     }
 }
 
-/// Tells how many a second there were, and the nanoseconds and yardsticks of one.
+/// Prints the rate a second, and the nanoseconds and yardsticks of each.
 pub fn tell(
     rt: &(impl Eprint + Alloc),
     yardstick: Yardstick,

@@ -1,4 +1,4 @@
-// Items through a ring between two threads, beside the same over `rtrb` called directly.
+// Items through a ring between two threads, beside the same with direct calls of `rtrb`.
 use crate::rates::{Yardstick, tell};
 use nvme_lane::{GetEnd, PutEnd, ring};
 use rtrb::{Consumer, Producer, RingBuffer};

@@ -1,4 +1,4 @@
-// Whole runs: front, workers and rings, with a thread for each host; and their reports, apart.
+// Whole runs: front, workers and rings, with a thread for each host. Reports are measured apart.
 use crate::rates::{Yardstick, tell};
 use anyhow::{Result, bail};
 use nvme_sim::{Mode, run};
@@ -34,11 +34,11 @@ struct Took {
     // All but the report.
     drive: Duration,
     report: Duration,
-    // The calls by which a buffered writer gave the report on.
+    // The calls by which a buffered writer passed the report on.
     writes: u64,
 }
 
-// A writer that counts its calls, and takes the time of the first.
+// A writer that counts its calls, and records the time of the first.
 #[derive(Drop)]
 struct Counter<'a, R> {
     rt: &'a R,
@@ -60,7 +60,7 @@ impl<R: Clock> Write for Counter<'_, R> {
     }
 }
 
-// The settings and limits of a workload, and the table of the admin queue, which creates so many queues of each kind.
+// The settings and limits of a workload, and the table of the admin queue, which creates `queues` queues of each kind.
 fn put_admin(text: &mut String, queues: u16, burst: u32) -> Result<()> {
     writeln!(text, "mechanism = \"round-robin\"\narbitration = {burst}")?;
     text.push_str("sq_limit = 64\ncq_limit = 64\n")?;
@@ -81,7 +81,7 @@ fn put_admin(text: &mut String, queues: u16, burst: u32) -> Result<()> {
     Ok(())
 }
 
-// A workload of so many I/O queues with so many reads each.
+// A workload of `queues` I/O queues with `each` Reads in each.
 fn workload(alloc: Global, queues: u16, each: u32, burst: u32) -> Result<String> {
     let mut text = String::new(alloc);
     put_admin(&mut text, queues, burst)?;
@@ -136,7 +136,7 @@ fn run_once<R: Clock + Eprint + Alloc<A = Global> + Threads + Wait + Sync>(
     })
 }
 
-// Tells what a run took.
+// Prints what a run took.
 fn tell_run<R: Clock + Eprint + Alloc<A = Global> + Threads + Wait + Sync>(
     rt: &R,
     yardstick: Yardstick,
@@ -186,8 +186,8 @@ fn measure_growth<R: Clock + Eprint + Alloc<A = Global> + Threads + Wait + Sync>
     Ok(())
 }
 
-/// Measures commands through front, workers and rings: with 1, 16 and 64 I/O queues and 1, 2 and 4 workers at a burst of
-/// 16, with 2 workers at a burst of 1, and in longer and longer runs.
+/// Measures commands through front, workers and rings: with 1, 16 and 64 I/O queues and 1, 2 and 4 workers at a burst
+/// of 16, with 2 workers at a burst of 1, and in longer and longer runs.
 pub fn measure<R: Clock + Eprint + Alloc<A = Global> + Threads + Wait + Sync>(
     rt: &R,
     yardstick: Yardstick,

@@ -44,7 +44,7 @@ abbrev pub open_in : QueuesFields → (qid count : ℕ) → Option Class → Opt
 open_in b qid count None = None
 open_in b qid count (Some class) = Some (record { class = class; count = waiting_in b qid count class })
 
--- a place of no queue
+-- a place without a queue
 abbrev pub closed : QueueFields
 closed = record { class = 0; count = 0 }
 

@@ -63,7 +63,7 @@ abbrev pub seen_in_class : SeenFields → Option Class → Seen
 seen_in_class f (Some class) = record { qid = f.qid; class = class; count = f.count }
 seen_in_class f None = record { qid = 0xffff; class = Low; count = 0 }
 
--- a submission queue as it is seen. One of no class is none that can be seen
+-- a submission queue as arbitration sees it. A queue with an unknown class can't be seen
 abbrev pub seen_of_fields : SeenFields → Seen
 seen_of_fields f = seen_in_class f (class_of_number f.class)
 

@@ -6,7 +6,7 @@ ghost use Rattle.nvme_capi.specs.Fields.{submission_of, admin_fields_of, no_fiel
 use crate::fields::{AdminFields, SubmissionFields, submission_of};
 use nvme_entry::{AdminCommand, admin_of};
 
-// No field of a command.
+// An admin command with all fields 0.
 const fn no_fields() -> AdminFields
     ensures { result ≡ no_fields }
 {
@@ -25,7 +25,7 @@ const fn no_fields() -> AdminFields
     }
 }
 
-// The fields of a command of this kind that names a queue and no more.
+// The fields of a command of this kind that only names a queue.
 fn fields_of_delete(kind: u32, qid: u16) -> AdminFields
     ensures { result ≡ record no_fields { kind = kind; qid = qid } }
 {
@@ -116,7 +116,7 @@ fn fields_of_admin(command: AdminCommand) -> AdminFields
     }
 }
 
-/// The admin command of an entry, by its kind and its fields, for every entry.
+/// Decodes an admin command: its kind and its fields. Every entry has one.
 #[unsafe(no_mangle)]
 pub extern "C" fn nvmearb_admin_of(entry: &SubmissionFields, command: &mut AdminFields)
     ensures { command.new ≡ admin_fields_of (admin_command_of (submission_of entry.now)) }

@@ -1,4 +1,4 @@
-// What the queue table answers, as C sees it.
+// The answers of the queue table, as C sees them.
 ghost use Rattle.std.specs.Prelude.{◌≡◌};
 ghost use Rattle.nvme_capi.specs.Tables.{plain_answer, answer_of, queue_answer_of, status_fields_of};
 
@@ -6,9 +6,9 @@ use crate::fields::StatusFields;
 use nvme_admin::{SqEntry, Verdict};
 use nvme_entry::Status;
 
-/// `nvmearb_answer`: what an admin command comes to. The verdicts are 0 done, 1 a submission queue was created, 2 a
+/// `nvmearb_answer`: the effect of an admin command. The verdicts are 0 done, 1 a submission queue was created, 2 a
 /// completion queue was created, 3 the submission queue is closing, 4 the completion queue was deleted, 5 the settings
-/// were set, 6 a waiting command of the submission queue is to be aborted. What verdicts of its kind don't have is 0.
+/// were set, 6 a waiting command of the submission queue is to be aborted. Fields that a verdict doesn't have are 0.
 #[repr(C)]
 #[derive(Clone, Copy, Drop)]
 pub struct AnswerFields {
@@ -43,7 +43,7 @@ fn status_fields_of(status: Status) -> StatusFields
     }
 }
 
-// The answer that says success, and nothing else.
+// The answer with this verdict and success, and 0 in all other fields.
 const fn plain_answer(verdict: u32) -> AnswerFields
     ensures { result ≡ plain_answer verdict }
 {
@@ -60,7 +60,7 @@ const fn plain_answer(verdict: u32) -> AnswerFields
     }
 }
 
-/// What a verdict says.
+/// The answer of a verdict.
 pub fn answer_of(verdict: Verdict) -> AnswerFields
     ensures { result ≡ answer_of verdict }
 {
@@ -107,7 +107,7 @@ pub fn answer_of(verdict: Verdict) -> AnswerFields
     }
 }
 
-/// What is said of a submission queue.
+/// The answer about a submission queue.
 pub fn queue_answer_of(queue: SqEntry) -> QueueAnswer
     ensures { result ≡ queue_answer_of queue }
 {

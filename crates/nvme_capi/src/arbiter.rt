@@ -1,4 +1,4 @@
-// The arbiter over a state of the caller's.
+// The arbiter, over a state that the caller owns.
 ghost use Rattle.std.specs.Prelude.{◌≡◌, ◌≢◌, ◌≤◌, ◌⊎◌, ◌↔◌, [], ◌∷◌, length, Some, None, IsTrue, IsFalse, IsNone, IfSome};
 ghost use Rattle.nvme_arbiter.specs.Settings.{ArbitrationFields, settings_of};
 ghost use Rattle.nvme_arbiter.specs.Observation.{IsIdle, class_in};
@@ -16,7 +16,7 @@ use crate::states::{
 };
 use nvme_arbiter::{Kept, Settings};
 
-/// Writes what an arbiter keeps, of this mechanism and with the settings of this CDW11.
+/// Writes the state of an arbiter: its mechanism, the CDW11 of its settings, and what it keeps.
 pub fn write(state: &mut ArbiterFields, mechanism: u32, cdw11: u32, kept: &Kept)
     requires number { IsTrue (is_mechanism mechanism) }
     requires mechanism { kept.now.mechanism ≡ mechanism_of mechanism }
@@ -32,7 +32,7 @@ pub fn write(state: &mut ArbiterFields, mechanism: u32, cdw11: u32, kept: &Kept)
     };
 }
 
-/// Writes what `nvmearb_arbiter_pick` would pick.
+/// Writes what `nvmearb_arbiter_pick` would pick. The state stays as it was.
 #[unsafe(no_mangle)]
 pub extern "C" fn nvmearb_arbiter_peek(
     state: &ArbiterFields,
@@ -65,7 +65,7 @@ pub extern "C" fn nvmearb_arbiter_peek(
     }
 }
 
-/// Picks: writes the next queue, and how many of its commands are taken.
+/// Picks: writes the next queue, and how many of its commands are taken, and records the pick in the state.
 #[unsafe(no_mangle)]
 pub extern "C" fn nvmearb_arbiter_pick(
     state: &mut ArbiterFields,
@@ -103,7 +103,8 @@ pub extern "C" fn nvmearb_arbiter_pick(
     }
 }
 
-/// Makes an arbiter that has served nothing yet. A round starts. The mechanism is 1, round robin, or 2, weighted.
+/// Makes an arbiter that has picked nothing yet, at the start of a round. The mechanism is 1, round robin, or 2,
+/// weighted round robin with urgent priority class.
 #[unsafe(no_mangle)]
 pub extern "C" fn nvmearb_arbiter_init(state: &mut ArbiterFields, mechanism: u32, cdw11: u32) -> u32
     ensures refused { (result ≡ BAD_ARGUMENT) ↔ ((mechanism ≢ 1) × (mechanism ≢ 2)) }
@@ -121,7 +122,8 @@ pub extern "C" fn nvmearb_arbiter_init(state: &mut ArbiterFields, mechanism: u32
     OK
 }
 
-/// Takes new settings, by a CDW11 of the Arbitration feature. They start a new round, and what was served last stays.
+/// Sets the settings from a CDW11 of the Arbitration feature. A new round starts. The arbiter still knows which queues
+/// it served last.
 #[unsafe(no_mangle)]
 pub extern "C" fn nvmearb_arbiter_set(state: &mut ArbiterFields, cdw11: u32) -> u32
     ensures bad_state { (result ≡ BAD_STATE) ↔ IsFalse (is_arbiter state.old) }

@@ -1,4 +1,4 @@
-// The board over a state of the caller's.
+// The board, over a state that the caller owns.
 ghost use Rattle.std.specs.Prelude.{◌≡◌, ◌≢◌, ◌+◌, ◌-◌, ◌<◌, ◌≤◌, ◌⊎◌, ◌↔◌, [], ◌∷◌, Some, None, IsTrue, IsFalse, IsNone, IsSome, IfSome, slice_set, replicate};
 ghost use Rattle.nvme_arbiter.specs.Limits.{highest_qid, highest_count, queue_limit};
 ghost use Rattle.nvme_arbiter.specs.Settings.{ArbitrationFields, settings_of, class_of_number};
@@ -21,8 +21,8 @@ use nvme_arbiter::{Class, HIGHEST_COUNT, OpenQueue, Pick, QUEUE_LIMIT};
 // What `nvmearb_board_init` writes before a board, and nothing else does.
 const MARK: u64 = 0x6e76_6d65_5f62_7264;
 
-/// `nvmearb_board`: a mark, the queues that are open, and an arbiter. Whatever the queues are, they are those of some
-/// board, so that mark and arbiter alone are looked at.
+/// `nvmearb_board`: a mark, the open queues, and an arbiter. Any content of the queues is that of some board, so only
+/// mark and arbiter are checked.
 #[repr(C)]
 #[derive(Clone, Copy, Drop)]
 pub struct BoardFields {
@@ -38,7 +38,7 @@ fn is_board(board: &BoardFields) -> bool
     board.mark == MARK && is_arbiter(&board.arbiter)
 }
 
-// Puts an open queue under an identifier of a board. The board stands where it stood.
+// Puts an open queue under an identifier of a board. Mark and arbiter stay as they were.
 fn put(board: &mut BoardFields, qid: u16, class: Class, count: u16)
     requires { IsSeen (seen_as qid (record { class = class; count = count })) }
     ensures put { board_of board.new ≡ record (board_of board.old) { queues = slice_set (slots_in board.old.queues) qid (Some (record { class = class; count = count })) } }
@@ -48,7 +48,7 @@ fn put(board: &mut BoardFields, qid: u16, class: Class, count: u16)
     board.queues.put(qid, class, count);
 }
 
-// Closes the queue of an identifier of a board, of this class where it is open. The board stands where it stood.
+// Closes the queue of an identifier of a board, of this class where it is open. Mark and arbiter stay as they were.
 fn close(board: &mut BoardFields, qid: u16, class: Class)
     requires { qid ≤ highest_qid }
     ensures closed { board_of board.new ≡ record (board_of board.old) { queues = slice_set (slots_in board.old.queues) qid None } }
@@ -58,8 +58,8 @@ fn close(board: &mut BoardFields, qid: u16, class: Class)
     board.queues.close(qid, class);
 }
 
-/// Makes a board on which no queue is open and that has served nothing yet. The mechanism is 1, round robin, or 2,
-/// weighted.
+/// Makes a board with no open queue that has picked nothing yet. The mechanism is 1, round robin, or 2, weighted round
+/// robin with urgent priority class.
 #[unsafe(no_mangle)]
 pub extern "C" fn nvmearb_board_init(board: &mut BoardFields, mechanism: u32, cdw11: u32) -> u32
     ensures refused { (result ≡ BAD_ARGUMENT) ↔ ((mechanism ≢ 1) × (mechanism ≢ 2)) }
@@ -84,7 +84,7 @@ pub extern "C" fn nvmearb_board_init(board: &mut BoardFields, mechanism: u32, cd
     answer
 }
 
-/// Opens a queue, in which no command waits. The classes are 0 admin, 1 urgent, 2 high, 3 medium and 4 low.
+/// Opens a queue in which no command waits. The classes are 0 admin, 1 urgent, 2 high, 3 medium and 4 low.
 #[unsafe(no_mangle)]
 pub extern "C" fn nvmearb_board_open(board: &mut BoardFields, qid: u16, class: u16) -> u32
     ensures bad_state { (result ≡ BAD_STATE) ↔ IsFalse (is_board board.old) }
@@ -114,7 +114,7 @@ pub extern "C" fn nvmearb_board_open(board: &mut BoardFields, qid: u16, class: u
     OK
 }
 
-/// Closes a queue. Its count is gone; what was served stays.
+/// Closes a queue and drops its count. The board still knows which queues it served last.
 #[unsafe(no_mangle)]
 pub extern "C" fn nvmearb_board_close(board: &mut BoardFields, qid: u16) -> u32
     ensures bad_state { (result ≡ BAD_STATE) ↔ IsFalse (is_board board.old) }
@@ -136,7 +136,7 @@ pub extern "C" fn nvmearb_board_close(board: &mut BoardFields, qid: u16) -> u32
     OK
 }
 
-/// One more command waits in an open queue, 256 at most.
+/// Counts one more waiting command in an open queue, at most 256.
 #[unsafe(no_mangle)]
 pub extern "C" fn nvmearb_board_came(board: &mut BoardFields, qid: u16) -> u32
     ensures bad_state { (result ≡ BAD_STATE) ↔ IsFalse (is_board board.old) }
@@ -162,7 +162,7 @@ pub extern "C" fn nvmearb_board_came(board: &mut BoardFields, qid: u16) -> u32
     OK
 }
 
-/// One waiting command of an open queue left without being picked.
+/// Counts one waiting command less in an open queue: it left without being picked.
 #[unsafe(no_mangle)]
 pub extern "C" fn nvmearb_board_went(board: &mut BoardFields, qid: u16) -> u32
     ensures bad_state { (result ≡ BAD_STATE) ↔ IsFalse (is_board board.old) }
@@ -188,7 +188,7 @@ pub extern "C" fn nvmearb_board_went(board: &mut BoardFields, qid: u16) -> u32
     OK
 }
 
-/// Writes what `nvmearb_board_pick` would pick.
+/// Writes what `nvmearb_board_pick` would pick. The board stays as it was.
 #[unsafe(no_mangle)]
 pub extern "C" fn nvmearb_board_peek(board: &BoardFields, pick: &mut PickFields) -> u32
     ensures bad_state { (result ≡ BAD_STATE) ↔ IsFalse (is_board board.now) }
@@ -213,7 +213,7 @@ pub extern "C" fn nvmearb_board_peek(board: &BoardFields, pick: &mut PickFields)
     }
 }
 
-// The next queue of a board, and how many of its commands are taken. As many of them wait no longer.
+// The next queue of a board, and how many of its commands are taken. Its count falls by that number.
 fn picked(board: &mut BoardFields) -> Option<Pick>
     requires { IsTrue (is_board board.old) }
     ensures nothing { IsNone result → pick_of (kept_of board.old.arbiter) (seen_of (slots_in board.old.queues)) ≡ None }
@@ -234,7 +234,7 @@ fn picked(board: &mut BoardFields) -> Option<Pick>
     Some(it)
 }
 
-/// Picks: writes the next queue, and how many of its commands are taken. As many of them wait no longer.
+/// Picks: writes the next queue, and how many of its commands are taken. Its count falls by that number.
 #[unsafe(no_mangle)]
 pub extern "C" fn nvmearb_board_pick(board: &mut BoardFields, pick: &mut PickFields) -> u32
     ensures bad_state { (result ≡ BAD_STATE) ↔ IsFalse (is_board board.old) }
@@ -263,8 +263,8 @@ pub extern "C" fn nvmearb_board_pick(board: &mut BoardFields, pick: &mut PickFie
     }
 }
 
-/// Takes new settings, by a CDW11 of the Arbitration feature. They start a new round; the queues and what was served
-/// last stay.
+/// Sets the settings from a CDW11 of the Arbitration feature. A new round starts. The queues stay as they were, and the
+/// board still knows which it served last.
 #[unsafe(no_mangle)]
 pub extern "C" fn nvmearb_board_set(board: &mut BoardFields, cdw11: u32) -> u32
     ensures bad_state { (result ≡ BAD_STATE) ↔ IsFalse (is_board board.old) }

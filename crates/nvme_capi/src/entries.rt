@@ -12,7 +12,7 @@ use crate::fields::{
 use crate::results::{BAD_ARGUMENT, OK};
 use nvme_entry::{Cqe, Sqe};
 
-/// The fields of the submission entry that 64 bytes hold.
+/// Reads the fields of a submission entry from its 64 bytes.
 #[unsafe(no_mangle)]
 pub extern "C" fn nvmearb_sqe_decode(bytes: &[u8; 64], fields: &mut SubmissionFields)
     ensures layout { IsSubmissionEntry bytes.now (submission_of fields.new) }
@@ -20,7 +20,7 @@ pub extern "C" fn nvmearb_sqe_decode(bytes: &[u8; 64], fields: &mut SubmissionFi
     *fields = fields_of_submission(&Sqe::from_bytes(bytes));
 }
 
-/// The 64 bytes of a submission entry.
+/// Writes the 64 bytes of a submission entry.
 #[unsafe(no_mangle)]
 pub extern "C" fn nvmearb_sqe_encode(fields: &SubmissionFields, bytes: &mut [u8; 64])
     ensures layout { IsSubmissionEntry bytes.new (submission_of fields.now) }
@@ -28,7 +28,7 @@ pub extern "C" fn nvmearb_sqe_encode(fields: &SubmissionFields, bytes: &mut [u8;
     *bytes = submission_of(fields).to_bytes();
 }
 
-/// The fields of the completion entry that 16 bytes hold. Refused exactly where reserved bits are set.
+/// Reads the fields of a completion entry from its 16 bytes. Refused exactly where reserved bits are set.
 #[unsafe(no_mangle)]
 pub extern "C" fn nvmearb_cqe_decode(bytes: &[u8; 16], fields: &mut CompletionFields) -> u32
     ensures answer { (result ≡ OK) ⊎ (result ≡ BAD_ARGUMENT) }
@@ -46,7 +46,7 @@ pub extern "C" fn nvmearb_cqe_decode(bytes: &[u8; 16], fields: &mut CompletionFi
     }
 }
 
-/// The 16 bytes of a completion entry. Refused exactly where the phase tag or the status code type has no place there.
+/// Writes the 16 bytes of a completion entry. Refused exactly where the phase tag or the status code type doesn't fit.
 #[unsafe(no_mangle)]
 pub extern "C" fn nvmearb_cqe_encode(fields: &CompletionFields, bytes: &mut [u8; 16]) -> u32
     ensures answer { (result ≡ OK) ⊎ (result ≡ BAD_ARGUMENT) }

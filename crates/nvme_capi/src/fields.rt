@@ -63,7 +63,7 @@ pub struct AdminFields {
     pub cid: u16,
 }
 
-/// `nvmearb_settings`: what a CDW11 of the Arbitration feature says. A burst of 0 is no limit.
+/// `nvmearb_settings`: the fields of a CDW11 of the Arbitration feature. A burst of 0 is no limit.
 #[repr(C)]
 #[derive(Clone, Copy, Drop)]
 pub struct SettingsFields {

@@ -1,5 +1,5 @@
-//! The C library: an export for each call of the libraries that needs no thread and no memory. Each export is total.
-//! It states the clauses of the library's call again, for every state that it takes, those that no call made among them.
+//! The C library: an export for each call of the libraries that needs no thread and no memory. Each export is total: it
+//! states the clauses of the library's call for every state that it accepts, even one that no call made.
 //! `capi/nvmearb.h` declares the exports for C.
 #![tactic(auto)]
 

@@ -8,8 +8,8 @@ use crate::fields::{StatusFields, SubmissionFields, fields_of_status, submission
 use crate::results::{BAD_ARGUMENT, OK};
 use nvme_entry::{Namespaces, outcome};
 
-/// The status of an I/O command over namespaces of these sizes in logical blocks, the first with identifier 1. Refused
-/// exactly where there are more than 16 sizes or one of them is 0.
+/// Writes the status of an I/O command over namespaces of these sizes, in logical blocks. The first namespace has
+/// identifier 1. Refused exactly where there are more than 16 sizes or one of them is 0.
 #[unsafe(no_mangle)]
 pub extern "C" fn nvmearb_outcome(
     entry: &SubmissionFields,

@@ -1,4 +1,4 @@
-// The queues of a board, as C holds them: place q has queue q.
+// The queues of a board, as C holds them: queue q is at place q.
 ghost use Rattle.std.specs.Prelude.{◌≡◌, ◌≤◌, ◌<◌, ◌==◌, IsNone, IfNone, IfSome, MatchOption, Some, None, slice_set, option_map, false};
 ghost use Rattle.std.specs.Int.{bit_at};
 ghost use Rattle.nvme_arbiter.specs.Bits.{HasNoBit, IsLowest};
@@ -12,7 +12,7 @@ use nvme_arbiter::{
     Class, HIGHEST_COUNT, HIGHEST_QID, OpenQueue, QUEUE_LIMIT, ReadyQueues, Seen, is_observation,
 };
 
-/// A queue of a board: 0 where it is closed, else its class plus 1, and how many of its commands wait.
+/// A queue of a board: 0 where it is closed, otherwise its class plus 1, and how many of its commands wait.
 #[repr(C)]
 #[derive(Clone, Copy, Drop)]
 pub struct QueueFields {
@@ -20,9 +20,9 @@ pub struct QueueFields {
     pub count: u16,
 }
 
-/// The queues of a board, with a mask of the ready I/O queues of each class: bit q - 1 is for queue q. Whatever these
-/// numbers are, they are the queues of some board: an I/O queue without its bit in the mask of its class has no command
-/// that waits, and a number that is no class of the identifier is that of no queue.
+/// The queues of a board, with a mask of the ready I/O queues of each class: bit q - 1 is for queue q. Any numbers are
+/// the queues of some board. No command waits in an I/O queue whose bit isn't set in the mask of its class. A number
+/// that isn't a class of the identifier means that the queue is closed.
 #[repr(C)]
 #[derive(Clone, Copy, Drop)]
 pub struct QueuesFields {
@@ -33,7 +33,7 @@ pub struct QueuesFields {
     pub places: [QueueFields; QUEUE_LIMIT],
 }
 
-// The class of a place by its number, where it is one of the identifier.
+// The class with this number, where the queue of this identifier can have it.
 fn class_under(qid: u16, number: u16) -> Option<Class>
     ensures { result ≡ class_under qid number }
 {
@@ -73,7 +73,7 @@ fn with_bit(mask: u64, bit: u16, on: bool) -> u64
     }
 }
 
-// The mask without the bits below one.
+// The mask without the bits below this one.
 fn from_bit(mask: u64, bit: u16) -> u64
     ensures { KeepsFrom mask bit result }
 {
@@ -98,7 +98,7 @@ fn is_wanted(queue: &Seen, class: Option<Class>) -> bool
     queue.count > 0 && class.is_none_or(|class| class == queue.class)
 }
 
-/// An open queue under an identifier, where it can be seen so.
+/// An open queue as arbitration sees it under an identifier, where it can have that identifier.
 pub fn shown(qid: u16, queue: OpenQueue) -> Option<Seen>
     ensures none { IsNone result → IsSeen (seen_as qid queue) → ⊥ }
     ensures some { IfSome result (λ seen. seen ≡ seen_as qid queue) }
@@ -164,7 +164,7 @@ impl QueuesFields {
         }
     }
 
-    // Whether a command of an open queue may wait.
+    // Whether a command may wait in an open queue.
     fn is_marked(&self, qid: u16, class: Class) -> bool
         requires { qid ≤ highest_qid }
         ensures { result ≡ is_marked self.now qid class }
@@ -177,7 +177,7 @@ impl QueuesFields {
         }
     }
 
-    // The queue of a place, where one of a class of the identifier is open there.
+    // The queue at a place, where it is open with a class of its identifier.
     fn slot(&self, qid: u16, place: &QueueFields) -> Option<OpenQueue>
         requires { qid ≤ highest_qid }
         ensures { result ≡ slot_in self.now qid place.now }
@@ -251,7 +251,7 @@ impl QueuesFields {
         }
     }
 
-    // The first wanted queue from an identifier on, looked for one after another.
+    // The first wanted queue from an identifier on, by looking at one after another.
     fn scan(&self, class: Option<Class>, least: u16) -> Option<Seen>
         requires { least ≤ queue_limit }
         ensures { MatchOption result (NoneFrom (slots_in self.now) class least) (IsFirstFrom (slots_in self.now) class least) }
@@ -264,8 +264,8 @@ impl QueuesFields {
         None
     }
 
-    // The first wanted I/O queue from an identifier on. It is the first of the mask, but where a queue of that bit isn't
-    // ready, which no call leaves.
+    // The first wanted I/O queue from an identifier on. It is the first of the mask, unless the queue of that bit isn't
+    // ready, which no call leaves behind.
     fn first_from(&self, class: Option<Class>, least: u16) -> Option<Seen>
         requires some { 1 ≤ least }
         requires few { least ≤ queue_limit }

@@ -1,22 +1,22 @@
-// What an export answers.
+// The results of exports.
 
 /// The call was done.
 pub const OK: u32 = 0;
 
-/// There is nothing to answer, and nothing changed.
+/// There is nothing to answer: no command waits, or there is no such queue. Nothing changed.
 pub const NOTHING: u32 = 1;
 
-/// An argument is none that the call takes, and nothing changed.
+/// The call doesn't accept an argument. Nothing changed.
 pub const BAD_ARGUMENT: u32 = 2;
 
-/// The state is none that a call made, and nothing changed.
+/// No call made this state. Nothing changed.
 pub const BAD_STATE: u32 = 3;
 
-/// The address is that of another region, and nothing changed.
+/// The address is that of another region. Nothing changed.
 pub const USED: u32 = 4;
 
-/// There is no place for one more region of this kind, and nothing changed.
+/// There is no room for another region of this kind. Nothing changed.
 pub const TOO_MANY: u32 = 5;
 
-/// No region has so many slots, and nothing changed.
+/// The number of slots is out of range for a region, 2 to 4,096. Nothing changed.
 pub const BAD_SIZE: u32 = 6;

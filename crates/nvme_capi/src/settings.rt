@@ -6,7 +6,7 @@ ghost use Rattle.nvme_capi.specs.Fields.{settings_fields_of};
 use crate::fields::SettingsFields;
 use nvme_arbiter::{Class, Settings};
 
-/// What a CDW11 of the Arbitration feature says.
+/// Reads the fields of a CDW11 of the Arbitration feature.
 #[unsafe(no_mangle)]
 pub extern "C" fn nvmearb_settings_of(cdw11: u32, fields: &mut SettingsFields)
     ensures { fields.new ≡ settings_fields_of (settings_of cdw11) }

@@ -1,4 +1,4 @@
-// The submission queues that a caller shows, looked through where they are.
+// The submission queues that a caller shows, read in place.
 ghost use Rattle.std.specs.Prelude.{◌≡◌, ◌↔◌, ◌==◌, IsTrue, find};
 ghost use Rattle.nvme_arbiter.specs.Observation.{is_seen, can_follow, is_observation_from};
 ghost use Rattle.nvme_arbiter.specs.declared.pick.Seen.{Seen};
@@ -22,14 +22,14 @@ fn is_seen(queue: &Seen) -> bool
         & ((queue.class == Class::Admin) == (queue.qid == 0))
 }
 
-// Whether a queue can be seen, and its identifier is not below the least that may come.
+// Whether a queue can be seen, and its identifier is at least `least`.
 fn can_follow(least: u32, queue: &Seen) -> bool
     ensures { result ≡ can_follow least queue.now }
 {
     (u32::from(queue.qid) >= least) & is_seen(queue)
 }
 
-// Whether each queue can be seen, above those before it. It has no branch in its loop.
+// Whether each queue can be seen and its identifier is above those before it. The loop has no branch.
 fn ascend(queues: &[SeenFields]) -> bool
     ensures { result ≡ is_observation_from 0 (seen_in queues.now) }
 {
@@ -43,7 +43,7 @@ fn ascend(queues: &[SeenFields]) -> bool
     ascend
 }
 
-/// Whether these are an observation, of no more queues than there can be.
+/// Whether these are an observation: valid queues by ascending identifier, no more than there can be.
 pub fn are_shown(queues: &[SeenFields]) -> bool
     ensures { IsTrue result ↔ IsShown queues.now }
 {

@@ -1,5 +1,5 @@
-// What an arbiter keeps, as C holds it. A state is taken where its mechanism is one of the two and each identifier has
-// a place. Every such state is one that an arbiter can keep, so nothing else has to hold of it.
+// What an arbiter keeps, as C holds it. A state is accepted where its mechanism is one of the two and each identifier
+// is in range. An arbiter can keep every such state, so nothing else has to hold of it.
 ghost use Rattle.std.specs.Prelude.{◌≡◌, ◌≤◌, IsTrue};
 ghost use Rattle.nvme_capi.specs.States.{last_of_place, is_place, are_places, mechanism_of, last_in, used_in, is_arbiter, kept_of, seen_of_fields, pick_of_fields};
 
@@ -55,14 +55,14 @@ pub struct PickFields {
     pub fresh: u16,
 }
 
-// Whether an identifier has this place.
+// Whether this number is that of an identifier, or 0 for none.
 fn is_place(place: u32) -> bool
     ensures { result ≡ is_place place }
 {
     place <= 0x1_0000
 }
 
-// The identifier of a place, 0 for none.
+// The identifier with this number, 0 for none.
 fn last_of_place(place: u32) -> Option<u16>
     requires { IsTrue (is_place place) }
     ensures { result ≡ last_of_place place }
@@ -74,7 +74,7 @@ fn last_of_place(place: u32) -> Option<u16>
     }
 }
 
-// The place of an identifier.
+// The number of an identifier, 0 for none.
 fn place_of_last(last: Option<u16>) -> u32
     ensures back { last_of_place result ≡ last }
     ensures is_place { IsTrue (is_place result) }
@@ -85,7 +85,7 @@ fn place_of_last(last: Option<u16>) -> u32
     }
 }
 
-/// The mechanism of a number, where it is the number of one.
+/// The mechanism of a number: 1 is round robin, any other is weighted.
 pub fn mechanism_of(number: u32) -> Mechanism
     ensures { result ≡ mechanism_of number }
 {
@@ -96,7 +96,7 @@ pub fn mechanism_of(number: u32) -> Mechanism
     }
 }
 
-/// Whether an arbiter can keep this.
+/// Whether an arbiter can keep this state.
 pub fn is_arbiter(state: &ArbiterFields) -> bool
     ensures { result ≡ is_arbiter state.now }
 {
@@ -150,7 +150,7 @@ pub fn fields_of_last(last: Last) -> LastFields
     }
 }
 
-/// The fields of what was used.
+/// The fields of what was picked in this round.
 pub fn fields_of_used(used: Used) -> UsedFields
     ensures { used_in result ≡ used }
 {
@@ -161,7 +161,7 @@ pub fn fields_of_used(used: Used) -> UsedFields
     }
 }
 
-/// A submission queue as it is seen. One of no class is none that can be seen.
+/// A submission queue as arbitration sees it. A queue with an unknown class can't be seen.
 pub fn seen_of_fields(queue: &SeenFields) -> Seen
     ensures { result ≡ seen_of_fields queue.now }
 {

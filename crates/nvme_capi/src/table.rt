@@ -1,4 +1,4 @@
-// The queue table over a state of the caller's.
+// The queue table, over a state that the caller owns.
 ghost use Rattle.std.specs.Prelude.{◌≡◌, ◌≢◌, ◌≤◌, ◌<◌, ◌==◌, ◌⊎◌, ◌↔◌, if◌then◌else◌, true, false, ℕ, [], ◌∷◌, ◌++◌, length, Some, None, IsTrue, IsFalse, IsSomeAnd, IfSome};
 ghost use Rattle.nvme_entry.specs.Submission.{IsSubmissionEntry};
 ghost use Rattle.nvme_entry.specs.AdminCommand.{admin_command_of};
@@ -26,8 +26,7 @@ use nvme_entry::{Sqe, submission_layout_is_exact};
 // What `nvmearb_table_init` writes before a table, and nothing else does.
 const MARK: u64 = 0x6e76_6d65_5f74_626c;
 
-/// `nvmearb_table`: a mark, and a queue table. Whatever stands behind the mark is some table, so the mark alone is looked
-/// at.
+/// `nvmearb_table`: a mark, and a queue table. Any content behind the mark is some table, so only the mark is checked.
 #[repr(C)]
 #[derive(Drop)]
 pub struct TableState {
@@ -42,14 +41,15 @@ fn is_table(state: &TableState) -> bool
     state.mark == MARK
 }
 
-// Whether so many queues of a kind can be allotted.
+// Whether this number of queues of a kind can be allotted.
 fn is_limit(number: u16) -> bool
     ensures { result ≡ is_limit number }
 {
     number >= 1 && number <= MAX_IO_QUEUES
 }
 
-/// Makes a queue table with no region. It allots at most so many I/O queues of each kind, 1 to 64.
+/// Makes a queue table with no region. It allots at most `nsq` I/O submission queues and `ncq` I/O completion queues,
+/// 1 to 64 each. The settings are those of `cdw11`.
 #[unsafe(no_mangle)]
 pub extern "C" fn nvmearb_table_init(state: &mut TableState, nsq: u16, ncq: u16, cdw11: u32) -> u32
     ensures refused { (result ≡ BAD_ARGUMENT) ↔ (IsFalse (is_limit nsq) ⊎ IsFalse (is_limit ncq)) }
@@ -67,7 +67,7 @@ pub extern "C" fn nvmearb_table_init(state: &mut TableState, nsq: u16, ncq: u16,
     OK
 }
 
-// What is answered where a region can't be added.
+// The result where a region can't be added.
 fn refusal(error: AdminError) -> u32
     ensures used { (result ≡ USED) ↔ (error ≡ Used) }
     ensures too_many { (result ≡ TOO_MANY) ↔ (error ≡ TooMany) }
@@ -81,9 +81,9 @@ fn refusal(error: AdminError) -> u32
     }
 }
 
-/// Adds a submission region, and writes its number, which counts from 0. Region 0 is the admin queue's. The first
-/// refusal that is the case is answered: the address is that of a region of either kind, 65 regions of this kind are
-/// there, the number of slots is outside 2 to 4,096.
+/// Adds a submission region, and writes its number, which counts from 0. Region 0 is the admin queue's. The refusals,
+/// in this order: a region of either kind has the address, 65 regions of this kind exist, or the number of slots is
+/// outside 2 to 4,096.
 #[unsafe(no_mangle)]
 pub extern "C" fn nvmearb_table_add_sq_region(
     state: &mut TableState,
@@ -117,7 +117,7 @@ pub extern "C" fn nvmearb_table_add_sq_region(
     }
 }
 
-/// Adds a completion region, as `nvmearb_table_add_sq_region` a submission region.
+/// Adds a completion region, as `nvmearb_table_add_sq_region` adds a submission region.
 #[unsafe(no_mangle)]
 pub extern "C" fn nvmearb_table_add_cq_region(
     state: &mut TableState,
@@ -151,8 +151,8 @@ pub extern "C" fn nvmearb_table_add_cq_region(
     }
 }
 
-/// Applies the admin entry that 64 bytes hold, and writes its verdict, its status and its Command Dword 0. A command
-/// whose status isn't success leaves the table as it was.
+/// Applies the admin entry in 64 bytes, and writes its verdict, its status and its Command Dword 0. A command whose
+/// status isn't success leaves the table as it was.
 #[unsafe(no_mangle)]
 pub extern "C" fn nvmearb_table_apply(
     state: &mut TableState,
@@ -177,7 +177,7 @@ pub extern "C" fn nvmearb_table_apply(
     OK
 }
 
-/// Finishes the deletion of a submission queue, which is closing: its identifier is free.
+/// Finishes the deletion of a closing submission queue. Its identifier is then free.
 #[unsafe(no_mangle)]
 pub extern "C" fn nvmearb_table_finish_delete(state: &mut TableState, qid: u16) -> u32
     ensures bad_state { (result ≡ BAD_STATE) ↔ IsFalse (is_table state.old) }
@@ -202,7 +202,7 @@ pub extern "C" fn nvmearb_table_finish_delete(state: &mut TableState, qid: u16) 
     }
 }
 
-/// Writes what stands of the submission queue of an identifier, where it is open or closing.
+/// Writes the fields of the submission queue of an identifier, where it is open or closing.
 #[unsafe(no_mangle)]
 pub extern "C" fn nvmearb_table_sq(state: &TableState, qid: u16, queue: &mut QueueAnswer) -> u32
     ensures bad_state { (result ≡ BAD_STATE) ↔ IsFalse (is_table state.now) }
@@ -244,7 +244,7 @@ pub extern "C" fn nvmearb_table_cq(state: &TableState, qid: u16, region: &mut u1
     }
 }
 
-/// Writes how many I/O queues of each kind are allotted, 1 to 64.
+/// Writes how many I/O queues of each kind were allotted, 1 to 64.
 #[unsafe(no_mangle)]
 pub extern "C" fn nvmearb_table_allotted(state: &TableState, nsq: &mut u16, ncq: &mut u16) -> u32
     ensures bad_state { (result ≡ BAD_STATE) ↔ IsFalse (is_table state.now) }

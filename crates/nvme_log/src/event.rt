@@ -2,18 +2,18 @@ use crate::listed::Listed;
 use nvme_arbiter::{Class, Pick, Seen, Settings};
 use nvme_entry::{Cqe, Sqe};
 
-/// What a front did, in the order in which it did it. A place is a submission region with an index, which counts
-/// that region's fetches from 0.
+/// One step of a front. A log lists them in the order in which the front did them. A place is a submission region with
+/// an index, which counts that region's fetches from 0.
 #[derive(Debug, Drop, PartialEq, Eq)]
 pub enum Event {
-    /// An entry was got from a submission region's ring into its queue's window.
+    /// An entry was fetched from a submission region's ring into its queue's window.
     Fetch {
         region: u8,
         index: u32,
         entry: Sqe,
     },
-    /// Arbitration picked the `n` oldest candidates of a queue, on what it saw: the open queues.
-    /// (Base Specification, Command Arbitration)
+    /// Arbitration picked the `n` oldest candidates of a queue. `seen` is what it saw: the open queues, each with its
+    /// number of candidates. (Base Specification, Command Arbitration)
     Pick {
         seen: Listed<Seen>,
         pick: Pick,

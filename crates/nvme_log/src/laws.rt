@@ -37,8 +37,8 @@ pub fn each_place_has_one_fate()
     ensures { OneFateEach }
 {}
 
-/// The events of an accounted log up to any of them are accounted: all clauses but two, that what the latest picked
-/// command makes is all there, and that what was collected was posted.
+/// Every prefix of an accounted log is accounted, but for two clauses: that all effects of the latest picked command
+/// are there, and that what was collected was posted.
 pub fn prefixes_are_accounted()
     ensures { PrefixesAreAccounted }
 {}
@@ -48,22 +48,22 @@ pub fn each_place_has_one_post()
     ensures { OnePostEach }
 {}
 
-/// In a whole account what was fetched from each region is what was submitted first, in order, and every fetched
-/// command has exactly one collected completion, its own.
+/// In a whole account the commands fetched from each region are the first that were submitted to it, in order, and
+/// every fetched command has exactly one collected completion, its own.
 pub fn whole_accounts_answer()
     ensures { WholeAccountsAnswer }
 {}
 
-/// What a run promises, sentence by sentence, from the whole account alone: the commands fetched from each submission
-/// queue are a prefix of those submitted to it, in order, each once, none after its deletion began; every fetched command
-/// has exactly one collected completion, its own; and the picks are a lawful run of the configured arbitration over the
-/// candidate counts that the arbiter observed.
+/// What a run promises, sentence by sentence, from the whole account alone. The commands fetched from each submission
+/// queue are a prefix of those submitted to it, in order, each once, none after its deletion began. Every fetched
+/// command has exactly one collected completion, its own. The picks are a lawful run of the configured arbitration over
+/// the candidate counts that the arbiter observed.
 pub fn whole_accounts_keep_the_promise()
     ensures { WholeAccountsKeepThePromise }
 {}
 
-/// By the promise alone, each fetched command was picked once, or it was aborted and never picked; and its completion
-/// comes afterwards.
+/// By the promise alone, each fetched command was picked once, or was aborted and never picked. Its completion comes
+/// afterwards.
 pub fn promises_serve_once()
     ensures { PromisesServeOnce }
 {}
@@ -78,10 +78,10 @@ pub fn no_place_is_picked_twice()
     ensures { (past : Past) → PickedOnce past }
 {}
 
-/// Logs that break a sentence of the promise, each with the field that refuses it: a Delete is answered while its queue
+/// Logs that break a sentence of the promise, each with the field that refuses it. A Delete is answered while its queue
 /// stays open, and a command is fetched from it; a completion is collected that was never posted; the settings change
-/// by no command; a Delete makes only the beginning of what it makes; a command is answered before it is picked; and one
-/// is aborted after it was picked.
+/// without a command; a Delete has only a part of its effects; a command is answered before it is picked; and one is
+/// aborted after it was picked.
 pub fn broken_promises_are_refused()
     ensures unclosed { KeepsThePromise one_deletion (at_two admin_script one_read) unclosed (at_two admin_done (one_read_done ∷ [])) → ⊥ }
     ensures fetched_after_answer { NoneAfterDelete one_deletion unclosed → ⊥ }
@@ -97,26 +97,26 @@ pub fn broken_promises_are_refused()
 {}
 
 /// An accounted log has at most five events for each command that was submitted: its fetch, its pick or its abort, its
-/// completion, what it makes of queues or settings, and the end of the deletion that it begins.
+/// completion, its effect on queues or settings, and the end of the deletion that it begins.
 pub fn logs_are_short()
     ensures { LogsAreShort }
 {}
 
-/// The queues that an accounted log opens and closes are those of its table history: its openings are the accepted
-/// Creates.
+/// The queues that an accounted log opens and closes are those of its table history. Each opening is an accepted
+/// Create.
 pub fn queues_are_those_of_the_table()
     ensures { QueuesAreTheTables }
 {}
 
-/// Four completions through a ring of two slots: the phase tag is 1, 1, 0, 0. The log is accounted, and is not where the
-/// last completion keeps the phase tag of the first.
+/// Worked: four completions through a ring of two slots have the phase tags 1, 1, 0, 0. The log is accounted. With the
+/// phase tag of the first completion on the last it isn't.
 pub fn phase_wraps_in_two_slots()
     ensures accounted { IsAccount two_slots (at_admin four_commands) (two_slots_past (admin_posted 3 false)) (at_admin four_completions) }
     ensures phase_must_turn { Each (PostsOwn two_slots) (two_slots_past (admin_posted 3 true)) → ⊥ }
 {}
 
-/// A submission queue is deleted while one of its commands runs and two wait: the two are aborted, and the Delete is
-/// answered after the last post of the queue. The log is accounted.
+/// Worked: a submission queue is deleted while one of its commands runs and two wait. The two are aborted, and the
+/// Delete is answered after the last post of the queue. The log is accounted.
 pub fn delete_with_three_waiting()
     ensures accounted { IsAccount one_deletion (at_two admin_script reads) deleted (at_two admin_done reads_done) }
     ensures starts { StartsWithAdmin one_deletion }
@@ -143,8 +143,9 @@ pub fn changed_logs_are_refused()
     ensures collected_in_another_order { IsPrefix (done 1 0 success ∷ done 1 1 aborted_by_deletion ∷ []) (posted_to deleted 1) → ⊥ }
 {}
 
-/// The own completion of a place has its queue, its command's identifier, its status, its Command Dword 0, as many commands
-/// fetched and the phase tag of its turn. With any other it is refused. (Base Specification, Completion Queue Entry)
+/// The own completion of a place has its queue, its command's identifier, its status, its Command Dword 0, the number
+/// of commands fetched so far and the phase tag of its turn. One that differs in a field is refused. (Base
+/// Specification, Completion Queue Entry)
 pub fn each_field_of_a_completion_is_its_own()
     ensures own { PostsOwn one_deletion aborted_posted (Post 1 1 0 read_done) }
     ensures sqid { PostsOwn one_deletion aborted_posted (Post 1 1 0 (record read_done { sqid = 2 })) → ⊥ }
@@ -157,31 +158,31 @@ pub fn each_field_of_a_completion_is_its_own()
     ensures status_of_a_create { PostsOwn one_deletion queue_created (Post 0 0 1 (done 0 1 invalid_field)) → ⊥ }
 {}
 
-/// A completion is posted after its place was picked or aborted, and before its queue's deletion is finished.
+/// Worked: a completion is posted after its place was picked or aborted, and before its queue's deletion is finished.
 pub fn completions_are_posted_in_their_time()
     ensures while_it_waits { PostsOwn one_deletion reads_fetched (Post 1 1 0 read_done) → ⊥ }
     ensures after_its_queue_was_closed { Deletes closed (Post 1 1 0 read_done) → ⊥ }
 {}
 
-/// A window of seven takes the seventh candidate and not the eighth.
+/// Worked: a window of seven takes the seventh candidate and not the eighth.
 pub fn window_holds_seven()
     ensures seventh { Each (ServedWhileOpen one_deletion) window_filled }
     ensures eighth { ServedWhileOpen one_deletion window_filled (Fetch 1 7 (read 7)) → ⊥ }
 {}
 
-/// While two places are picked and not posted, and two aborted, two are outstanding.
+/// Worked: where two places were picked and aren't posted, and two were aborted with their queue, two are outstanding.
 pub fn aborted_places_are_not_outstanding()
     ensures { outstanding one_deletion closing ≡ 2 }
 {}
 
-/// A queue, its region, its completion queue and that queue's region have four different numbers; two of its commands are
-/// picked at once, the settings change, and both queues are deleted. The log is accounted.
+/// Worked: a queue, its region, its completion queue and that queue's region have four different numbers. Two of its
+/// commands are picked at once, the settings change, and both queues are deleted. The log is accounted.
 pub fn four_numbers_are_told_apart()
     ensures accounted { IsAccount four_numbers (at_zero_and_two admin_five four_reads) all_closed (at_two five_told four_told) }
 {}
 
-/// What a deletion forbids, one by one: a pick while it is pending, the end of another queue's or of another region's, and a
-/// fetch, an abort or a post after it.
+/// What a deletion forbids, one by one: a pick while it is pending, the end of another queue's deletion or of another
+/// region's, and a fetch, an abort or a post after it.
 pub fn deletions_forbid()
     ensures picked_while_pending { Deletes closing_4 (picked_of (admin_seen 1 ∷ []) 0) → ⊥ }
     ensures end_of_another_queue { Deletes posted_4 (ClosedSq 2 2) → ⊥ }
@@ -191,9 +192,9 @@ pub fn deletions_forbid()
     ensures posted_after_closed { Deletes closed_4 (Post 1 2 0 (four_done 10 true success)) → ⊥ }
 {}
 
-/// What stands at steps of that log: the places that workers get, in order, with their jobs; how many commands were picked,
-/// are outstanding and have no post; which command deletes; which regions and places are served; and that a region that
-/// isn't there has no slots.
+/// Worked steps of that log: the places that workers get, in order, with their jobs; how many commands were picked, are
+/// outstanding and have no post; which command deletes; which regions and places are served; and that a region that
+/// doesn't exist has no slots.
 pub fn worked_steps_are_counted()
     ensures dispatched { dispatched all_closed ≡ place_at 2 0 ∷ place_at 2 1 ∷ place_at 2 2 ∷ [] }
     ensures jobs { AreJobs four_numbers.sizes all_closed 0 (dispatched all_closed) three_jobs }
@@ -217,8 +218,8 @@ pub fn worked_steps_are_counted()
     ensures no_region { slots_at (sq_regions_of four_numbers) 3 ≡ 0 }
 {}
 
-/// What is missing from the whole account, one by one: a post, a collected completion, a command that wasn't fetched, one
-/// that wasn't submitted, one that wasn't submitted before the first turn, and a script that begins with what was submitted.
+/// A log is no whole account where one thing is missing: a post, a collected completion, the fetch of a command, the
+/// submission of one, its submission before the first turn, or a script that begins with what was submitted.
 pub fn whole_accounts_have_all()
     ensures post { IsWholeAccount four_numbers false (at_zero_and_two admin_five four_reads) (at_zero_and_two admin_five four_reads) last_unposted (at_two five_told_first four_told) → ⊥ }
     ensures collected { IsWholeAccount four_numbers false (at_zero_and_two admin_five four_reads) (at_zero_and_two admin_five four_reads) all_closed (at_two five_told four_told_first) → ⊥ }
@@ -228,29 +229,30 @@ pub fn whole_accounts_have_all()
     ensures in_order { IsWholeAccount four_numbers false (at_zero_and_two admin_five (read 14 ∷ [])) (at_zero_and_two admin_five four_reads) all_closed (at_two five_told four_told) → ⊥ }
 {}
 
-/// What keeps a log from being clear, one by one: a command that waits, one whose completion isn't posted, and a deletion
-/// that is pending.
+/// What keeps a log from being clear, one by one: a command that waits, one whose completion isn't posted, and a
+/// deletion that is pending.
 pub fn clear_logs_have_nothing_left()
     ensures waiting { IsClear (Post 0 0 0 (done 0 0 success) ∷ Fetch 0 0 delete_sq ∷ []) → ⊥ }
     ensures unposted { IsClear last_unposted → ⊥ }
     ensures pending { IsClear (Closing 1 1 ∷ []) → ⊥ }
 {}
 
-/// An Abort command is picked while two commands of its queue wait: it takes the older of those with its identifier,
-/// whatever identifier the third command has, and a second Abort command finds nothing. The log is accounted.
+/// Worked: an Abort command is picked while two commands of the queue that it names wait. It takes the older one with
+/// its identifier, whatever identifier the third command has. A second Abort command finds nothing. The log is
+/// accounted.
 pub fn abort_with_two_waiting()
     ensures accounted { (third : ℕ) → IsAccount one_deletion (at_two two_aborts (reads_and third)) (both_told third) (at_two two_aborts_told (reads_told third)) }
 {}
 
-/// An Abort command takes the second of three waiting commands, and then their queue is deleted while one waits. The log
-/// is accounted.
+/// Worked: an Abort command takes the second of three waiting commands, and then their queue is deleted while one
+/// waits. The log is accounted.
 pub fn abort_and_delete_in_one_log()
     ensures accounted { IsAccount four_numbers (at_zero_and_two abort_and_delete six_reads) abort_and_deleted (at_two abort_and_delete_told six_told) }
 {}
 
-/// What an Abort command makes: the older of two commands with its identifier is aborted, at once, and nothing else is; one
-/// that a deletion took stays its own. Nothing is aborted where no command has the identifier, none of a queue that isn't
-/// open, none of the admin queue, and none by a command with FUSE.
+/// Changed logs that the account refuses. An Abort command aborts the older of two commands with its identifier, at
+/// once, and nothing else; one that a deletion aborted counts for the deletion. Nothing is aborted where no command has
+/// the identifier, where the queue isn't open or is the admin queue, and where the Abort command has FUSE.
 pub fn changed_aborts_are_refused()
     ensures older { EffectsAtOnce one_deletion (abort_picked abort_1_1 1) (Abort 1 1) }
     ensures newer_of_two { EffectsAtOnce one_deletion (abort_picked abort_1_1 1) (Abort 1 2) → ⊥ }
@@ -269,8 +271,8 @@ pub fn changed_aborts_are_refused()
     ensures one_place_too_many { (past : Past) → outstanding one_deletion (Abort 1 1 ∷ past) ≡ max_outstanding + 1 → LeavesPlaces one_deletion past (Abort 1 1) → ⊥ }
 {}
 
-/// The completion of a command that an Abort command aborted says so, and that of one that went with its queue says that.
-/// Command Dword 0 of an Abort command is 0 where it aborted a command and 1 otherwise, and 0 where it was refused.
+/// The status of an aborted command tells whether an Abort command aborted it or the deletion of its queue. Command
+/// Dword 0 of an Abort command is 0 where it aborted a command or was refused, and 1 otherwise.
 pub fn aborts_are_told()
     ensures aborted { PostsOwn one_deletion (one_aborted 2) (Post 1 1 1 (done 1 1 abort_requested)) }
     ensures aborted_told_deleted { PostsOwn one_deletion (one_aborted 2) (Post 1 1 1 (done 1 1 aborted_by_deletion)) → ⊥ }
@@ -292,8 +294,9 @@ pub fn aborts_are_told()
     ensures delete { PostsOwn four_numbers both_posted (Post 0 0 3 (told 23 0 success)) }
 {}
 
-/// What stands at steps of these logs: a place that an Abort command aborted is outstanding until its completion is posted,
-/// and no worker gets it; one that went with its queue isn't. A pick of an Abort command needs two places.
+/// Worked steps of these logs: a place that an Abort command aborted is outstanding until its completion is posted, and
+/// no worker gets it. A place that was aborted with its queue isn't outstanding. A pick of an Abort command needs two
+/// places.
 pub fn aborted_places_are_counted()
     ensures picked { outstanding one_deletion (abort_picked abort_1_1 2) ≡ 2 }
     ensures aborted { outstanding one_deletion (one_aborted 2) ≡ 3 }
@@ -320,51 +323,51 @@ pub fn aborted_places_are_not_served()
     ensures admin { AdminIsNotAborted }
 {}
 
-/// A place is aborted by an Abort command or with its queue, and the status of its completion says by which: Command Abort
+/// A place is aborted by an Abort command or with its queue. The status of its completion tells which: Command Abort
 /// Requested, or Command Aborted due to SQ Deletion. Its Command Dword 0 is 0.
 pub fn aborted_places_are_told()
     ensures { AbortedAreTold }
 {}
 
-/// An Abort command aborts, at once, the oldest waiting command with its identifier of the I/O queue that it names, where
-/// there is one, and makes nothing else.
+/// An Abort command aborts, at once, the oldest waiting command with its identifier in the I/O queue that it names,
+/// where there is one. It has no other effect.
 pub fn aborts_take_the_oldest()
     ensures { AbortsTakeTheOldest }
 {}
 
-/// The completion of an Abort command says success, and its Command Dword 0 is 0 where an abort followed its pick at once,
+/// The completion of an Abort command says success. Its Command Dword 0 is 0 where an abort followed its pick at once,
 /// and 1 otherwise.
 pub fn aborts_say_what_they_found()
     ensures { AbortsAreTold }
 {}
 
-/// Where two loaded logs of one workload begin with the same events, either both end there or both go on with the same event.
+/// Where two loaded logs of one workload begin with the same events, both end there or both go on with the same event.
 pub fn loaded_step_is_one()
     ensures { LoadedStepIsOne }
 {}
 
-/// The log of a front whose hosts had submitted their whole scripts before its first turn is, posts left out, one function of
+/// The log of a front whose hosts submitted their whole scripts before its first turn is, posts left out, a function of
 /// its workload: two such logs of the same rules and scripts are equal.
 pub fn loaded_log_is_one()
     ensures { LoadedLogIsOne }
 {}
 
-/// Worked loaded logs: a queue is deleted while two of its commands wait; an Abort command takes one of two commands and a
-/// second finds nothing, whatever identifier the third Read has; and the windows are smaller than their scripts.
+/// Worked loaded logs: a queue is deleted while two of its commands wait; an Abort command takes one of two commands
+/// and a second finds nothing, whatever identifier the third Read has; and the windows are smaller than their scripts.
 pub fn worked_logs_are_loaded()
     ensures deletion { IsLoadedLog one_deletion (at_two admin_script reads) (without_posts deleted) }
     ensures aborts { (third : ℕ) → IsLoadedLog one_deletion (at_two two_aborts (reads_and third)) (without_posts (both_told third)) }
     ensures windows { IsLoadedLog small_windows (at_two small_script reads) small_closed }
 {}
 
-/// Where nothing is submitted the loaded log is empty. So it is where commands are submitted only to a region on which no
-/// queue is ever opened.
+/// Where nothing is submitted the loaded log is empty. So it is where commands are submitted only to a region on which
+/// no queue is ever opened.
 pub fn loaded_logs_can_be_empty()
     ensures nothing_submitted { (rules : FrontRules) → IsLoadedLog rules no_scripts [] }
     ensures never_opened { IsLoadedLog one_deletion (at_two [] reads) [] }
 {}
 
-/// One small change of a worked loaded log for each clause of what is so at every moment, which the clause refuses.
+/// One small change of a worked loaded log for each clause of `LoadedSoFar`, which the clause refuses.
 pub fn changed_loaded_logs_are_refused()
     ensures with_a_post { Each IsNoPost deleted → ⊥ }
     ensures fetched_in_another_order { IsPrefix (fetched small_closed 1) (read 1 ∷ read 0 ∷ read 2 ∷ []) → ⊥ }
@@ -391,8 +394,8 @@ pub fn changed_loaded_logs_are_refused()
     ensures aborted_after_closed { NothingAfterClosed small_closed (Abort 1 2) → ⊥ }
 {}
 
-/// One loaded log that ends too early for each clause of what is so at its end: an abort is missing, a command has room in a
-/// window and isn't fetched, a deletion isn't finished, and candidates are left.
+/// One loaded log that ends too early for each clause of `LoadedAtEnd`: an abort is missing, a command that its window
+/// has room for isn't fetched, a deletion isn't finished, and candidates are left.
 pub fn loaded_logs_that_end_early_are_refused()
     ensures abort_missing { effects_since (Abort 1 1 ∷ Closing 1 1 ∷ small_delete_picked) ≡ made_last small_windows (Abort 1 1 ∷ Closing 1 1 ∷ small_delete_picked) → ⊥ }
     ensures unfetched { are_filled small_windows (at_two small_script reads) small_picked ≡ true → ⊥ }
@@ -400,19 +403,20 @@ pub fn loaded_logs_that_end_early_are_refused()
     ensures candidates_left { NoneWaits small_refilled → ⊥ }
 {}
 
-/// A pick and an abort may take the last outstanding place, and no place more.
+/// A pick and an abort may take the last place that may be outstanding, and none beyond it.
 pub fn last_place_may_be_taken()
     ensures { (rules : FrontRules) (past : Past) → PlacesAreTaken rules past }
 {}
 
-/// Each picked I/O command's job was handed under its position among the picked ones as ticket. It was executed once,
-/// whatever the number of workers, and one result of it was gained.
+/// The ticket of each picked I/O command's job is its position among the picked ones. The job was handed over and
+/// executed once, whatever the number of workers, and one result of it was gained.
 pub fn each_is_executed_once()
     ensures { EachIsExecutedOnce }
 {}
 
-/// The limits are the constants. An admin pick makes two events and one for each candidate of a full window; as many
-/// completions may be ready for a region as places may be outstanding and candidates may be aborted with their queue.
+/// The limits are the constants. An admin pick logs at most two events and one for each candidate of a full window. At
+/// most as many completions are ready for a region as places may be outstanding and candidates aborted with their
+/// queue.
 pub fn limits_fit_together()
     ensures outstanding { max_outstanding ≡ MAX_OUTSTANDING }
     ensures events { most_events ≡ MAX_EVENTS }

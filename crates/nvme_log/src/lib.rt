@@ -1,5 +1,5 @@
-//! The log of a front: its events, and what they say of queues, places and completions. When a log accounts for what the
-//! hosts submitted and collected stands in `specs/`, and the laws of it in `laws`.
+//! The log of a front: its events, and what they say of queues, places and completions. `specs/` defines when a log
+//! accounts for what the hosts submitted and collected. `laws` has the laws of such logs.
 #![tactic(auto)]
 
 mod event;

@@ -10,8 +10,8 @@ pub const MAX_OUTSTANDING: u16 = 256;
 /// The most events that a front's log may be allowed to hold.
 pub const MAX_EVENTS: u32 = 1_048_576;
 
-/// The most candidates of a queue of so many slots: a ring of S slots holds S - 1 entries, and a window as many, but no
-/// more than arbitration counts.
+/// The most candidates of a queue with this many slots. A ring of S slots holds S - 1 entries, and so does its window,
+/// but at most 256, as many as arbitration counts.
 pub fn window_of(slots: u16) -> u16
     ensures { result ≡ window_of slots }
 {

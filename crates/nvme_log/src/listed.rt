@@ -1,9 +1,9 @@
-// A list in memory of its own, which contracts see as its items.
+// A list that owns its memory, which contracts see as its items.
 use nvme_arbiter::Seen;
 use std::alloc::{AllocError, Global};
 use std::marker::Model;
 
-/// Items in memory of their own: as many as there are, so that what holds them is small. Contracts see the list.
+/// Items on the heap, so that what holds them stays small. Contracts see the list of the items.
 #[derive(Debug, Drop)]
 pub struct Listed<T: Copy> {
     items: Vec<T>,
@@ -20,7 +20,7 @@ impl<T: Copy> Model for Listed<T> {
 impl Listed<Seen> {
     ghost use Rattle.std.specs.Prelude.{◌≡◌, IfOk};
 
-    /// A copy of what is seen. Refused where memory was.
+    /// A copy of what is seen. `AllocError` where memory was refused.
     pub fn of(alloc: Global, seen: &[Seen]) -> Result<Listed<Seen>, AllocError>
         ensures { IfOk result (λ l. l ≡ seen.now) }
     {

@@ -47,7 +47,7 @@ fn expect(rt: &impl Abort, table: &mut Table, entry: &Sqe, verdict: &Verdict) {
     assert_eq!(rt; table.apply(entry), *verdict, "{entry:?}");
 }
 
-// A table refuses a command with this status, and has the queues that it had.
+// A table refuses a command with this status, and keeps its queues.
 fn refuse(rt: &impl Abort, table: &mut Table, entry: &Sqe, status: Status) {
     expect(rt, table, entry, &Verdict::Done(status, 0));
     assert!(rt; is_as_prepared(table), "{entry:?}");
@@ -78,7 +78,7 @@ fn prepared(rt: &impl Abort, nsq: u16, ncq: u16) -> Result<Table, AdminError>
     Ok(table)
 }
 
-// Which queues of 0 to 3 are there.
+// Whether the queues are those of `prepared`.
 fn is_as_prepared(table: &Table) -> bool {
     let first = SqEntry {
         region: 1,
@@ -205,7 +205,7 @@ fn delete_order(rt: HostRuntime) -> Result<(), Fail> {
     Ok(())
 }
 
-// Of a table for 8 submission queues and 4 completion queues: their numbers, once they are set and a queue is there.
+// The numbers of queues of a table for 8 submission and 4 completion queues, once they are set and a queue exists.
 fn set_numbers(rt: &impl Abort, table: &mut Table) {
     let done = |dw0: u32| Verdict::Done(Status::SUCCESS, dw0);
     let get_numbers = entry(10, 0, 7, 0);
@@ -253,7 +253,7 @@ fn features(rt: HostRuntime) -> Result<(), Fail> {
     Ok(())
 }
 
-// A table answers this where a submission region is added.
+// Adding a submission region to a table has this result.
 fn expect_sq(
     rt: &impl Abort,
     table: &mut Table,
@@ -264,7 +264,7 @@ fn expect_sq(
     assert_eq!(rt; table.add_sq_region(address, slots), added);
 }
 
-// A table answers this where a completion region is added.
+// Adding a completion region to a table has this result.
 fn expect_cq(
     rt: &impl Abort,
     table: &mut Table,

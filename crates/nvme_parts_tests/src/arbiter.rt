@@ -31,7 +31,7 @@ fn fresh(qid: u16, n: u16) -> Option<Pick> {
     })
 }
 
-// The next pick, after which its queue has so many commands fewer. `peek` tells it before.
+// The next pick, which `peek` foretells. The count of its queue falls by the commands taken.
 fn play(rt: &impl Abort, arbiter: &mut Arbiter, seen: &mut [Seen]) -> Option<Pick> {
     assert!(rt; is_observation(seen));
     let peeked = arbiter.peek(seen);
@@ -174,7 +174,7 @@ fn open(board: &mut Board, qid: u16, class: u32) {
     }
 }
 
-// One more command waits, where the queue is open and has room.
+// Counts one more waiting command, where the queue is open and has room.
 fn came(board: &mut Board, qid: u16) {
     if let Some(queue) = board.queue(qid) {
         if queue.count < HIGHEST_COUNT {
@@ -190,7 +190,7 @@ fn close(board: &mut Board, qid: u16) {
     }
 }
 
-// A board on which these queues are open, with so many commands in each.
+// A board on which these queues are open, each with its number of commands.
 fn board_of(rt: &impl Abort, mechanism: Mechanism, cdw11: u32, queues: &[Seen]) -> Board {
     let mut board = Board::new(mechanism, Settings::from_cdw11(cdw11));
     add(rt, &mut board, queues);
@@ -198,7 +198,7 @@ fn board_of(rt: &impl Abort, mechanism: Mechanism, cdw11: u32, queues: &[Seen]) 
     board
 }
 
-// Opens these queues, and tells of their commands.
+// Opens these queues, and counts their commands.
 fn add(rt: &impl Abort, board: &mut Board, queues: &[Seen]) {
     for queue in queues {
         let class = match queue.class {
@@ -215,7 +215,7 @@ fn add(rt: &impl Abort, board: &mut Board, queues: &[Seen]) {
     }
 }
 
-// The next pick of a board, which is that of an arbiter that is shown the same.
+// The next pick of a board, which is also that of an arbiter that is shown the same queues.
 fn step(rt: &impl Abort, board: &mut Board, arbiter: &mut Arbiter) -> Option<Pick> {
     let seen = board.seen();
     let peeked = board.peek();

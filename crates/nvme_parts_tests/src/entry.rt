@@ -5,7 +5,7 @@ use nvme_entry::{
 };
 use std::test::Fail;
 
-// An entry whose bytes are all apart: byte k is k + 1.
+// An entry whose bytes all differ: byte k is k + 1.
 fn counted_bytes() -> [u8; 64] {
     let mut bytes = [0; 64];
     for (k, byte) in bytes.iter_mut().enumerate() {

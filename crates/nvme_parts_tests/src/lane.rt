@@ -1,5 +1,5 @@
-// Where an allocation is refused, each of these tests makes the call again, so that they pass too where
-// any one allocation fails.
+// Where an allocation is refused, these tests make the call again. So they pass even if any one allocation
+// fails.
 ghost use Rattle.std.specs.Prelude.{◌≡◌, ◌∷◌, [], take, IfOk, vec_len};
 ghost use Rattle.nvme_lane.specs.View.{IsPair, SamePut, SameGet};
 ghost use Rattle.nvme_lane.specs.Feeder.{script_of, count_of, put_of};
@@ -14,7 +14,7 @@ use std::test::*;
 use std::thread;
 use std::thread::Threads;
 
-// A ring of a size that is allowed.
+// A ring whose size is allowed.
 fn ring_again(
     alloc: Global,
     address: u64,
@@ -67,7 +67,7 @@ fn ring_of_two_a_thousand_times(rt: HostRuntime) -> Result<(), Fail> {
     Ok(())
 }
 
-// Whether a ring with so many slots is refused for its size.
+// Whether a ring with this many slots is refused for its size.
 fn is_ring_refused(alloc: Global, slots: u16) -> bool {
     matches!(ring::<u32>(alloc, 0, slots), Err(LaneError::Size))
 }
@@ -118,7 +118,7 @@ fn lane_again(
     lane(alloc, 1, 1, 1).map_err(|_| AllocError)
 }
 
-// Whether a lane of this capacity with so many passes is refused for its size.
+// Whether a lane with this capacity and these numbers of passes is refused for its size.
 fn is_lane_refused(alloc: Global, capacity: u16, pushers: u8, poppers: u8) -> bool {
     matches!(
         lane::<u32>(alloc, capacity, pushers, poppers),
@@ -155,7 +155,7 @@ fn feed_all(mut feeder: Feeder<u32>) -> Feeder<u32> {
     feeder
 }
 
-// Takes until there are `count` items. A call that was refused memory is made again.
+// Takes items until there are `count`. A call that was refused memory is made again.
 fn drain_all(drainer: &mut Drainer<u32>, count: usize) {
     for _ in 0..u64::MAX {
         if drainer.items().len() >= count {
@@ -167,7 +167,7 @@ fn drain_all(drainer: &mut Drainer<u32>, count: usize) {
     }
 }
 
-// The feeder goes to a thread of its own, and what the join gives back still accounts for what it sent.
+// The feeder moves to a thread of its own, and what the join returns still accounts for what it sent.
 fn move_all<R: Threads>(
     rt: &R,
     feeder: Feeder<u32>,

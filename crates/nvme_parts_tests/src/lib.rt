@@ -1,5 +1,5 @@
-//! Tests of entries, arbitration, rings and lanes, admin commands, workers, workload files and reports, each over the
-//! public names of its crate.
+//! Tests of entries, arbitration, rings and lanes, admin commands, workers, workload files and reports. Each test uses
+//! the public names of one crate.
 #![tactic(auto)]
 
 #[cfg(test)]

@@ -1,5 +1,5 @@
-// Where an allocation is refused, each of these tests makes the call again, so that they pass too where
-// any one allocation fails.
+// Where an allocation is refused, these tests make the call again. So they pass even if any one allocation
+// fails.
 ghost use Rattle.std.specs.Prelude.{◌≡◌, ℕ, ◌+◌, ◌%◌, ◌^◌, ◌<◌, IfOk, vec_len};
 ghost use Rattle.std.specs.List.{All};
 ghost use Rattle.nvme_pool.specs.Pool.{IsPool};
@@ -35,7 +35,7 @@ fn one_space() -> Result<Namespaces, Fail> {
     Namespaces::new(&[1000]).map_err(|_| Fail::from(AllocError))
 }
 
-// A pool with a number of workers that is allowed.
+// A pool whose number of workers is allowed.
 fn pool_again(alloc: Global, workers: u8) -> Result<(Lanes, FrontSeat, Vec<Worker>), AllocError>
     ensures pool { IfOk result (λ r. IsPool r.0 r.1 r.2.items) }
     ensures count { IfOk result (λ r. vec_len r.2 ≡ workers) }
@@ -64,7 +64,7 @@ fn close_again<R: Wait>(
     }
 }
 
-// Hands the jobs with the tickets below `end`. The answer is how many were handed.
+// Hands over the jobs with the tickets below `end`. The answer is how many were handed over.
 fn hand_to<R: Wait>(
     rt: &R,
     lanes: &Lanes,
@@ -84,7 +84,7 @@ fn hand_to<R: Wait>(
     handed
 }
 
-// Steps a worker so often. The answer is how many steps were `Did`.
+// Steps a worker `times` times. The answer is how many steps were `Did`.
 fn step_times<R: Wait>(rt: &R, lanes: &Lanes, worker: &mut Worker, times: u32) -> u64
     requires { worker.old.lane ≡ lanes.now }
     ensures { SameWorker worker.old worker.new }
@@ -98,12 +98,12 @@ fn step_times<R: Wait>(rt: &R, lanes: &Lanes, worker: &mut Worker, times: u32) -
     did
 }
 
-// Whether a pool with so many workers is refused for their number.
+// Whether a pool with this many workers is refused for their number.
 fn is_refused(alloc: Global, workers: u8) -> bool {
     matches!(pool(alloc, workers), Err(PoolError::Workers))
 }
 
-// The next step of a worker comes to this.
+// The next step of a worker has this result.
 fn expect_step<R: Wait + Abort>(rt: &R, lanes: &Lanes, worker: &mut Worker, worked: Worked)
     requires { worker.old.lane ≡ lanes.now }
     ensures { SameWorker worker.old worker.new }
@@ -122,7 +122,7 @@ fn capacities(rt: HostRuntime) -> Result<(), Fail> {
     Ok(())
 }
 
-// Hands 256 jobs, and steps one worker until its ring is full and it has one result too many.
+// Hands over 256 jobs, and steps one worker until its ring is full and it keeps one more result.
 fn fill<R: Wait + Abort>(
     rt: &R,
     lanes: &Lanes,
@@ -223,7 +223,7 @@ impl<'a> Gate for Tally<'a> {
     fn leave(&mut self, _ticket: u32) {}
 }
 
-// Steps until there is nothing to do and the front says that no job will come.
+// Steps until there is nothing to do and the front says that no more jobs will come.
 fn work<R: Wait>(rt: &R, lanes: &Lanes, mut worker: Worker, counts: &[AtomicU64], stop: &AtomicU64)
     requires { worker.lane ≡ lanes.now }
 {
@@ -242,7 +242,7 @@ fn work<R: Wait>(rt: &R, lanes: &Lanes, mut worker: Worker, counts: &[AtomicU64]
     }
 }
 
-// Hands a job, and gains results while the lane is full. The answer is how many were gained.
+// Hands over a job, and gains results while the lane is full. The answer is how many were gained.
 fn hand_one<R: Wait>(rt: &R, lanes: &Lanes, seat: &mut FrontSeat, job: &Job) -> u64
     requires { seat.old.lane ≡ lanes.now }
     ensures { SameSeat seat.old seat.new }
@@ -279,7 +279,7 @@ fn gain_to<R: Wait>(rt: &R, lanes: &Lanes, seat: &mut FrontSeat, from: u64, coun
     gained
 }
 
-// Hands the jobs with the tickets below `count`, and gains their results. The answer is how many.
+// Hands over the jobs with the tickets below `count`, and gains their results. The answer is how many were gained.
 fn lead<R: Wait>(rt: &R, lanes: &Lanes, mut seat: FrontSeat, count: u32, spaces: Namespaces) -> u64
     requires { seat.lane ≡ lanes.now }
 {
@@ -330,7 +330,7 @@ fn start<'s, E: 's, R: Wait + Sync + 's>(
     Ok(())
 }
 
-// So many jobs, each counted in its place, by eight workers on threads of their own. The answer is how
+// Eight workers on threads of their own execute `jobs` jobs, each counted in its place. The answer is how
 // many results were gained.
 fn eight_workers<R: Threads + Wait + Sync>(
     rt: &R,
@@ -357,7 +357,7 @@ fn eight_workers<R: Threads + Wait + Sync>(
     )
 }
 
-// So many counts at 0.
+// A list of counts at 0.
 fn zeros(alloc: Global, number: usize) -> Result<Vec<AtomicU64>, AllocError> {
     let mut counts = Vec::new(alloc);
     if counts.reserve(number).is_err() {
@@ -369,7 +369,8 @@ fn zeros(alloc: Global, number: usize) -> Result<Vec<AtomicU64>, AllocError> {
     Ok(counts)
 }
 
-// Each job is counted once, and its result gained. Where that is refused memory no job was handed, and it is done again.
+// Each job is counted once, and its result is gained. Where memory is refused no job was handed over, and the call is
+// made again.
 fn count_once<R: Threads + Wait + Sync + Abort>(
     rt: &R,
     alloc: Global,

@@ -93,7 +93,7 @@ fn log_of_deletion(alloc: Global) -> Result<Vec<Event>, AllocError> {
     Ok(log)
 }
 
-// Whether some events post a completion for a place.
+// Whether a log posts a completion for a place.
 fn is_answered(log: &[Event], region: u8, index: u32) -> bool
     ensures { result ≡ false → completions_of log.now region index ≡ [] }
 {
@@ -112,7 +112,7 @@ fn is_answered(log: &[Event], region: u8, index: u32) -> bool
     false
 }
 
-// No place of a log has two completions.
+// Whether no place of a log has two completions.
 fn is_posted_once(log: &[Event]) -> bool
     ensures { result ≡ true → (r i : ℕ) → posts_of (reverse log.now) r i ≤ 1 }
 {
@@ -155,7 +155,7 @@ fn add_hosts(
     Ok(())
 }
 
-// What is left when they are settled.
+// What settling them leaves.
 fn deletion(alloc: Global) -> Result<Settled, AllocError>
     ensures { IfOk result (λ settled. (r i : ℕ) → posts_of (reverse settled.log.items) r i ≤ 1) }
 {

@@ -7,7 +7,7 @@ use nvme_workload::{CqPlan, Key, SqPlan, Workload, WorkloadError, read};
 use std::process::Abort;
 use std::test::Fail;
 
-// The empty workload with one command, all its keys written.
+// The empty workload with one command, all of whose keys are written.
 const ONE_COMMAND: &str = "mechanism = \"round-robin\"
 arbitration = 0
 sq_limit = 16
@@ -47,7 +47,7 @@ fn io(cid: u16, opcode: u8, nsid: u32, cdw10: u32, cdw12: u32) -> Sqe {
     }
 }
 
-// The settings of a workload, of which these two differ.
+// A workload has this mechanism and these settings, and the values that all worked files share.
 fn expect_head(rt: &impl Abort, workload: &Workload, mechanism: Mechanism, cdw11: u32) {
     let settings = Settings::from_cdw11(cdw11);
     assert_eq!(rt;
@@ -223,7 +223,7 @@ fn every_field_of_a_command(rt: HostRuntime) -> Result<(), Fail> {
     Ok(())
 }
 
-// Each key by its text, and the line of each fault.
+// The text of each key, and the line of each fault.
 #[test]
 fn texts(rt: HostRuntime) -> Result<(), Fail> {
     let alloc = rt.alloc();

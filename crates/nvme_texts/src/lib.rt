@@ -1,4 +1,4 @@
-//! What tests of several crates share: worked workloads, a report, and a writer that fails.
+//! What the tests of several crates share: worked workloads, a report, and a writer that fails.
 #![tactic(auto)]
 
 mod reports;

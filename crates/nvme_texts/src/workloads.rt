@@ -1,7 +1,8 @@
 // Worked workloads.
 use crate::workload_text;
 
-/// Four I/O queues beside the admin queue, under weighted round robin. The last read goes past the end of its namespace.
+/// Four I/O queues beside the admin queue, under weighted round robin. The last Read goes past the end of its
+/// namespace.
 pub const FIVE_QUEUES: &str = workload_text!(
     "weighted", "0x03010001";
     submission "0x1000", "16", "[
@@ -42,7 +43,7 @@ pub const DELETE_THREE: &str = workload_text!(
     completion "0x9000", "64";
 );
 
-/// A thousand reads through rings of two slots.
+/// A thousand Reads through rings of two slots.
 pub const THOUSAND: &str = workload_text!(
     "round-robin", "0";
     submission "0x1000", "16", "[
@@ -54,7 +55,7 @@ pub const THOUSAND: &str = workload_text!(
     completion "0x9000", "2";
 );
 
-/// A queue is deleted and created anew on another region.
+/// A queue is deleted and created again on another region.
 pub const CREATED_ANEW: &str = workload_text!(
     "round-robin", "0";
     submission "0x1000", "16", "[

@@ -1,6 +1,6 @@
 use std::io::{Error, ErrorKind, Result, Write};
 
-/// A writer that takes so many bytes and then fails, or answers 0.
+/// A writer that takes a number of bytes and then fails, or answers 0.
 #[derive(Drop)]
 pub struct Takes {
     pub taken: Vec<u8>,

@@ -1,15 +1,15 @@
-// Each number of three traces is changed, and the line that has it is refused.
+// Changes each number of three traces: the check refuses the line that has it.
 use nvme_trace::{Checked, TraceError, check};
 use std::alloc::Global;
 use std::io::Write;
 use std::test::*;
 
-// What becomes of a number: one more, or above each range.
+// How a number is changed: to one more, or to one above each range.
 const ONE_MORE: u64 = 1;
 
 const TOO_LARGE: u64 = 4_294_967_296;
 
-// Each number of its picks is bound: one queue is seen, and all of its commands are taken.
+// No number of its picks can change: one queue is seen, and all of its commands are taken.
 const BOUND: [&str; 3] = [
     "{\"version\":1,\"mechanism\":\"round-robin\",\"cdw11\":7}
 {\"pick\":1,\"n\":3,\"fresh\":false,\"seen\":[[1,\"high\",3]]}
@@ -37,7 +37,7 @@ struct Change {
     line: u64,
 }
 
-// The text with the number at an index grown, or `None` where it has fewer numbers.
+// The text with the number at an index increased, or `None` where it has fewer numbers.
 fn changed(alloc: Global, text: &str, at: usize, more: u64) -> Result<Option<Change>, Fail> {
     let mut out = Vec::new(alloc);
     let mut found = None;
@@ -115,7 +115,7 @@ fn is_change(text: &str, number: u64) -> bool {
     false
 }
 
-// The line that is refused where a number is one more. Most are refused in their own.
+// The line that is refused where a number is one more: mostly the line that has it.
 fn refused_one_more(text: &str, at: usize, line: u64) -> u64 {
     match at {
         // Another version.

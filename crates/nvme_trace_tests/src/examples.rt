@@ -12,14 +12,14 @@ pub const CHANGED: &str = "{\"version\":1,\"mechanism\":\"weighted\",\"cdw11\":5
 {\"pick\":1,\"n\":3,\"fresh\":false,\"seen\":[[0,\"admin\",0],[1,\"high\",3],[4,\"low\",5]]}
 ";
 
-// Its first pick after the change is within what the pick before left of the credit.
+// The first pick after the change takes from the credit that the pick before it left.
 const OLD_CREDIT: &str = "{\"version\":1,\"mechanism\":\"weighted\",\"cdw11\":50397185}
 {\"pick\":1,\"n\":2,\"fresh\":false,\"seen\":[[1,\"high\",5]]}
 {\"set\":33554690}
 {\"pick\":1,\"n\":1,\"fresh\":false,\"seen\":[[1,\"high\",3]]}
 ";
 
-// A round starts, and the pick does not tell it.
+// A round starts, and the pick doesn't say so.
 const NOT_FRESH: &str = "{\"version\":1,\"mechanism\":\"weighted\",\"cdw11\":0}
 {\"pick\":4,\"n\":1,\"fresh\":false,\"seen\":[[4,\"low\",5]]}
 {\"pick\":4,\"n\":1,\"fresh\":false,\"seen\":[[4,\"low\",4]]}

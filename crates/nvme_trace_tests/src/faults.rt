@@ -117,7 +117,7 @@ fn events(rt: HostRuntime) -> Result<(), Fail> {
     Ok(())
 }
 
-// A head, and then a line of so many bytes.
+// A head, and then a line of `count` bytes.
 fn with_line(alloc: Global, count: usize, byte: u8) -> Result<Vec<u8>, Fail> {
     let mut text = Vec::new(alloc);
     text.extend_from_slice(HEAD.as_bytes())?;
@@ -146,7 +146,7 @@ fn bytes(rt: HostRuntime) -> Result<(), Fail> {
     Ok(())
 }
 
-// A reader of a head, which then fails.
+// A reader that gives a head and then fails.
 #[derive(Drop)]
 struct Fails(bool);
 

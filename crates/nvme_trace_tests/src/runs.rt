@@ -45,7 +45,7 @@ fn seen_by(random: &mut Random) -> ArrayVec<Seen, QUEUE_LIMIT> {
     seen
 }
 
-/// The log of a random run of so many events.
+/// The log of a random run of this many events.
 pub fn random_log(
     alloc: Global,
     mechanism: Mechanism,

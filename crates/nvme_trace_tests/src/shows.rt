@@ -1,4 +1,4 @@
-// What a trace shows: statistics and charts.
+// Statistics and charts of traces.
 use crate::examples::CHANGED;
 use crate::runs::random_log;
 use nvme_arbiter::{Mechanism, Settings};

@@ -1,17 +1,17 @@
-//! The version of nvmearb, which the program prints and the C library returns. `capi/nvmearb.h` has the same numbers, and
-//! the newest heading of `CHANGELOG.md` the same text: `tests/capi` and `tests/words` compare them.
+//! The version of nvmearb, which the program prints and the C library returns. `capi/nvmearb.h` has the same numbers,
+//! and the newest heading of `CHANGELOG.md` the same text: `tests/capi` and `tests/words` compare them.
 #![tactic(auto)]
 
 ghost use Rattle.std.specs.Prelude.{◌≡◌, ◌++◌, codes, decimal};
 ghost use Rattle.nvme_version.specs.declared.TheConstants.{MAJOR, MINOR, PATCH, VERSION};
 
-/// Rises with a change that breaks callers.
+/// Increases with a change that breaks callers.
 pub const MAJOR: u32 = 0;
 
-/// Rises with what is new.
+/// Increases with new features.
 pub const MINOR: u32 = 1;
 
-/// Rises with what is fixed.
+/// Increases with fixes.
 pub const PATCH: u32 = 0;
 
 /// The version as a text.

@@ -46,7 +46,7 @@ not_help : (words : List (String Global)) (kind : ErrorKind) → kind ≡ OutOfM
 not_help words kind memory (inl h, alone) = cc
 not_help words kind memory (inr h, alone) = cc
 
--- what becomes of an error that is want of memory, or among the faults
+-- what becomes of an error that is out of memory, or among the faults
 pub text_answers : (app : App) (words : List (String Global)) (kind : ErrorKind) (result : Result Request WordsError)
     → (kind ≡ OutOfMemory) ⊎ IsAmong kind (faults_of app words) → IsTextFor words kind result → IsAnswerTo app words result
 text_answers app words kind (Ok (request.Help text)) (inl memory) (same, help) = absurd (not_help words kind memory help)

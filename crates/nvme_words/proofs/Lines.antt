@@ -61,7 +61,7 @@ second_asked (w ∷ x ∷ xs) name rest e =
 abbrev pub given_at : List Text → Given
 given_at line = unwrap_or (subcommand_of (command_line (names_at (0, 0) (0, 0) (0, 0))) (codes "nvmearb" ∷ line)) ([], [])
 
--- words with no fault that ask for something are refused for want of memory alone
+-- words with no fault that ask for something are refused only for memory
 asks_so : (app : App) (words : List (String Global)) (request : Request) → faults_of app words ≡ []
     → IsGivenBy words (given_by app words) request → (e : WordsError) → IsMemory e ⊎ (IsAnswerTo app words (Err e) → ⊥)
 asks_so app words request none given (error.CommandLine text) = inr (λ answer. subst (IsAmong (kind_of text)) none answer.0)

@@ -88,7 +88,7 @@ one_request given r s (inl is) h k = both_picked given submitting.Meanwhile (on 
 one_request given r s (inr (inl is)) h k = both_picked given submitting.First (off given.1 is) r s h k
 one_request given r s (inr (inr is)) h k = both_picked given submitting.First (left_out given.1 is) r s h k
 
--- ---- where the number is none
+-- ---- where the value isn't a number
 
 text_of : (bits : ℕ) (id : Text) (rows : List Row) (n : ℕ) (text : Text) → one_of id rows ≡ Some text → IsNumber bits id rows n
     → IsNumeral 10 (without_leading_plus text) × (digits_value 10 (without_leading_plus text) < 2 ^ bits)

@@ -21,7 +21,7 @@ abbrev pub OverLine : List Text → (App → List (String Global) → Type 0) �
 OverLine line P = (names : Names) → AreFormats names → (words : List (String Global))
     → map string_bytes words ≡ codes "nvmearb" ∷ line → P (command_line names) words
 
--- the line asks for this, and isn't refused but for want of memory
+-- the line asks for this, and is refused only for memory
 abbrev pub AsksFor : List Text → Request → Type 0
 AsksFor line request = OverLine line (λ app words. IsAnswerTo app words (Ok request))
     × ((e : WordsError) → IsMemory e ⊎ OverLine line (λ app words. IsAnswerTo app words (Err e) → ⊥))
@@ -34,7 +34,7 @@ abbrev pub ShowsText : List Text → ErrorKind → Type 0
 ShowsText line kind = (text : Error) → kind_of text ≡ kind
     → OverLine line (λ app words. IsAnswerTo app words (Ok (request.Help text))) × OverLine line (λ app words. IsAnswerTo app words (Err (error.CommandLine text)) → ⊥)
 
--- and the other way about
+-- with an error of this kind the line is refused, and doesn't ask for a text
 abbrev pub RefusesBy : List Text → ErrorKind → Type 0
 RefusesBy line kind = (text : Error) → kind_of text ≡ kind
     → OverLine line (λ app words. IsAnswerTo app words (Err (error.CommandLine text)))

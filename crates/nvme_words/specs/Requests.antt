@@ -34,7 +34,7 @@ IsAskedBy words (request.Help text) = asks_alone (codes "check") words ≡ false
 abbrev pub Given : Type 0
 Given = Text × List Row
 
--- the value is a number of so many bits, in decimal digits
+-- the value is a number of this many bits, in decimal digits
 abbrev pub IsNumber : ℕ → Text → List Row → ℕ → Type 0
 IsNumber bits id rows number = (text : Text) × (one_of id rows ≡ Some text) × IsNumeral 10 (without_leading_plus text)
     × (digits_value 10 (without_leading_plus text) < 2 ^ bits) × (number ≡ digits_value 10 (without_leading_plus text))
@@ -88,7 +88,7 @@ abbrev pub IsHelpOf : App → List (String Global) → Request → Type 0
 IsHelpOf app words (request.Help text) = IsAmong (kind_of text) (faults_of app words) × IsHelp words (kind_of text)
 IsHelpOf app words request = ⊥
 
--- the answer to words: their request where `clap` takes them, and else its text. Memory may be refused at any words
+-- the answer to words: their request where `clap` takes them, otherwise its text. Any words may be refused for memory
 abbrev pub IsAnswerTo : App → List (String Global) → Result Request WordsError → Type 0
 IsAnswerTo app words (Ok request) =
     ((faults_of app words ≡ []) × IsGivenBy words (given_by app words) request) ⊎ IsHelpOf app words request

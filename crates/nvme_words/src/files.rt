@@ -26,9 +26,9 @@ fn file_in<'a>(matches: &ArgMatches<'a>) -> Option<&'a str>
     }
 }
 
-/// The name of the file that the words give as the input. There is none with `once`, `loaded` and `live`, nor with
-/// `check`, `chart` and `stats` where nothing follows them, nor with `-`, nor where the words are refused or ask for
-/// help. The first word is the program's name.
+/// The name of the input's file, by the words. The first word is the program's name. `None` means standard input: with
+/// `once`, `loaded` and `live`, with `-`, and with `check`, `chart` and `stats` where nothing follows them. It is
+/// `None` too where the words are refused or ask for help.
 pub fn file_named<'a>(alloc: Global, words: &'a [String]) -> Result<Option<&'a str>, AllocError>
     ensures named { IfOk result (λ name. OnCommandLine (λ app. option_map (λ text. text.now) name ≡ file_of app words.now)) }
     ensures standing { reads_input words.now ≡ true → IfOk result (λ name. name ≡ None) }

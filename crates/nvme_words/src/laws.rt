@@ -1,4 +1,4 @@
-// Laws over the definitions.
+//! Laws of the command line, over the definitions alone. Each function does nothing: its contract is the law.
 ghost use Rattle.std.specs.Prelude.{[], None, Some, codes};
 ghost use Rattle.clap.specs.declared.error.kind.ErrorKind.TheVariants as kind;
 ghost use Rattle.nvme_words.specs.Examples.{AsksFor, AsksForNothing, AsksForOneThing, HasFault, NamesFile, RefusesBy, ShowsText, alone, chart_file, check_file, lint_file, lint_input, live_0, live_8, loaded_2, loaded_9, once_8, once_most, once_none, once_too_many, run_file, run_live_3, run_two_files, stats_json, stats_xml, trace_2, trace_live};
@@ -6,8 +6,8 @@ ghost use Rattle.nvme_words.specs.declared.requests.Format.TheVariants as format
 ghost use Rattle.nvme_words.specs.declared.requests.Request.TheVariants as request;
 ghost use Rattle.nvme_words.specs.declared.requests.Submitting.TheVariants as submitting;
 
-/// Worked lines ask for what their subcommand is for, with the numbers, the mode and the format that they give or that
-/// stand for those left out.
+/// Each worked line asks for what its subcommand does, with the numbers, the mode and the format that it gives, or
+/// their defaults.
 pub fn lines_ask_for()
     ensures once { AsksFor once_8 (request.Once 8) }
     ensures most_blocks { AsksFor once_most (request.Once 9223372036854775807) }
@@ -24,7 +24,7 @@ pub fn lines_ask_for()
     ensures stats_json { AsksFor stats_json (request.Stats format.Json) }
 {}
 
-/// Worked lines have the fault that is theirs.
+/// Each worked line with a fault is refused for that fault.
 pub fn lines_have_faults()
     ensures no_word { HasFault [] kind.MissingSubcommand }
     ensures no_file { HasFault (alone (codes "lint")) kind.MissingRequiredArgument }
@@ -38,14 +38,14 @@ pub fn lines_have_faults()
     ensures format { HasFault stats_xml kind.InvalidValue }
 {}
 
-/// A line that asks for help or for the version has the text for its answer, and one with a fault is refused.
+/// A line that asks for help or for the version is answered with that text. A line with a fault is refused.
 pub fn lines_show_text()
     ensures help { ShowsText (alone (codes "--help")) kind.DisplayHelp }
     ensures version { ShowsText (alone (codes "--version")) kind.DisplayVersion }
     ensures no_file { RefusesBy (alone (codes "run")) kind.MissingRequiredArgument }
 {}
 
-/// Worked lines name the file that they give: none with `-`, where none is given, and where they are refused.
+/// Each worked line names the file that it gives. It names none with `-`, where none is given, and where it is refused.
 pub fn lines_name_files()
     ensures run { NamesFile run_live_3 (Some (codes "a.toml")) }
     ensures lint { NamesFile lint_file (Some (codes "lint")) }
@@ -57,7 +57,7 @@ pub fn lines_name_files()
     ensures refused { NamesFile run_two_files None }
 {}
 
-/// A subcommand with its values asks for one thing, and for nothing where the number that it needs is none.
+/// A subcommand with its values asks for one thing. It asks for nothing where the value that it needs isn't a number.
 pub fn one_request()
     ensures one { AsksForOneThing }
     ensures letters { AsksForNothing (codes "once") (codes "blocks") (codes "x") }

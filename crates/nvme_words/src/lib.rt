@@ -1,4 +1,4 @@
-//! The words of the command line of the program `nvmearb`: what they ask for, and the file that they name.
+//! The command line of the program `nvmearb`: what its words ask for, and which file they name.
 #![tactic(auto)]
 
 mod asking;

@@ -12,7 +12,7 @@ use std::alloc::{AllocError, Global};
 
 const FORMATS: &[&str] = &["text", "json"];
 
-// What stands below the help.
+// The text below the help.
 const AFTER_HELP: &str = "\
 Input:
   FILE            a file, or - for standard input; without FILE check, chart
@@ -169,7 +169,7 @@ fn stats_command<'a>(alloc: Global, formats: &'a [&'a str]) -> Result<Command<'a
     .arg(format)
 }
 
-// A program with one more subcommand. Want of memory stays want of memory, so that who calls this has one exit.
+// A program with one more subcommand. It takes and propagates `AllocError`, so that the caller has one exit.
 fn with<'a>(
     program: Result<Command<'a>, AllocError>,
     subcommand: Result<Command<'a>, AllocError>,

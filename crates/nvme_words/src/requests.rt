@@ -21,45 +21,45 @@ pub enum Format {
     Json,
 }
 
-/// When the hosts of a run submit.
+/// When the hosts of a run submit their commands.
 #[derive(Clone, Copy, Debug, PartialEq, Eq)]
 pub enum Submitting {
-    /// Before the front begins.
+    /// All of them before the front begins (a loaded run).
     First,
-    /// While the front works.
+    /// While the front works (a live run).
     Meanwhile,
 }
 
 /// What the words ask for.
 pub enum Request {
-    /// The completion of one entry over a namespace of so many blocks, at least 1.
+    /// The completion of one entry over a namespace of this many logical blocks, 1 to 2^63 - 1.
     Once(u64),
-    /// The report of a run of a workload with so many workers.
+    /// The report of a run of a workload, with this many workers, 1 to 8.
     Run(Submitting, u8),
-    /// What the writer of a workload wants to know.
+    /// The first fault of a workload, or what in a valid one has no effect.
     Lint,
     /// Whether each pick of a trace is the lawful one.
     Check,
-    /// The trace of a run of a workload with so many workers.
+    /// The trace of a run of a workload, with this many workers, 1 to 8.
     Trace(Submitting, u8),
-    /// A picture of a trace.
+    /// A picture of a trace, as SVG.
     Chart,
-    /// What a trace shows in numbers.
+    /// Statistics of a trace.
     Stats(Format),
-    /// The text of the help, or of the version.
+    /// The text of the help, or the version.
     Help(clap::Error),
 }
 
-/// Why the words ask for nothing.
+/// Why the words ask for nothing. Nothing was done.
 #[derive(Debug, Drop, Error)]
 pub enum WordsError {
-    /// They are no command line of the program. The text has lines of its own.
+    /// They aren't a command line of the program. The text, which may have several lines, says why.
     #[error("{0}")]
     CommandLine(clap::Error),
-    /// The subcommand isn't the word after the program's name.
+    /// The subcommand isn't the first word after the program's name.
     #[error("command line")]
     OtherWord,
-    /// Memory was refused.
+    /// Out of memory. The same words may be asked again.
     #[error("out of memory")]
     NoMemory(AllocError),
 }
@@ -99,7 +99,7 @@ fn workers_of(matches: &ArgMatches) -> Option<u8>
     matches.get_one::<u8>("workers")
 }
 
-// What a subcommand and its values ask for: none where that is no subcommand, or a number isn't there.
+// What a subcommand and its values ask for: none where there is no such subcommand, or a number is missing.
 fn request_of(name: &str, matches: &ArgMatches) -> Option<Request>
     ensures { IsRequestOfIfAny (name.now, rows_of (found_of matches.now)) result }
 {
@@ -130,7 +130,7 @@ fn asked_in(words: &[String], matches: &ArgMatches) -> Option<Request>
     }
 }
 
-/// What the words ask for, the program's name first.
+/// What the words ask for. The first word is the program's name.
 pub fn asked_of(alloc: Global, words: &[String]) -> Result<Request, WordsError>
     ensures asked { IfOk result (IsAskedBy words.now) }
     ensures answer { OnCommandLine (λ app. IsAnswerTo app words.now result) }
@@ -147,7 +147,7 @@ pub fn asked_of(alloc: Global, words: &[String]) -> Result<Request, WordsError>
     }
 }
 
-// What `clap` gives in place of matches: a request for help or for the version, want of memory, or a fault of the
+// What `clap` gives instead of matches: a request for help or for the version, out of memory, or a fault of the
 // words. Words that ask for a check alone don't ask for help.
 fn refused(words: &[String], error: clap::Error) -> Result<Request, WordsError>
     ensures asked { IfOk result (IsAskedBy words.now) }

@@ -1,4 +1,4 @@
-// A second reading of the checks: what was accepted is kept in a list, which is searched from its end.
+// A second reading of the checks. It keeps what was accepted in a list, and searches that from its end.
 ghost use Rattle.std.specs.Prelude.{◌<◌};
 
 use super::{entry, expect, expect_cq, expect_sq, finish};
@@ -14,8 +14,8 @@ const NSQ: u16 = 7;
 
 // How many I/O completion queues there may be.
 const NCQ: u16 = 5;
-// Submission region k is at address k, completion region k at 10 + k. Each has 2 slots where k is
-// even, and else 3.
+// Submission region k is at address k, completion region k at 10 + k. Each has 2 slots where k is even and 3
+// where it is odd.
 const REGIONS: u8 = 6;
 
 // What was accepted, by what it changed.
@@ -55,7 +55,7 @@ fn sq_of(kept: &[Kept], qid: u16) -> Option<(u16, bool)> {
     None
 }
 
-// A completion queue is there.
+// Whether a completion queue exists.
 fn is_cq(kept: &[Kept], qid: u16) -> bool {
     for step in kept.iter().rev() {
         match step {
@@ -67,7 +67,7 @@ fn is_cq(kept: &[Kept], qid: u16) -> bool {
     false
 }
 
-// A submission queue posts to a completion queue.
+// Whether a submission queue posts to this completion queue.
 fn is_attached(kept: &[Kept], cqid: u16) -> bool {
     for qid in 1..20u16 {
         if let Some((to, _)) = sq_of(kept, qid) {
@@ -103,7 +103,7 @@ fn settings(kept: &[Kept]) -> u32 {
     0
 }
 
-// A region was named in a Create. Its address isn't free for another, whatever was deleted since.
+// Whether a Create named a region. Its address isn't free for another, whatever was deleted since.
 fn is_named(kept: &[Kept], address: u64) -> bool {
     kept.iter().rev().any(|step| match step {
         Kept::Sq { prp1, .. } | Kept::Cq { prp1, .. } => *prp1 == address,
@@ -111,7 +111,7 @@ fn is_named(kept: &[Kept], address: u64) -> bool {
     })
 }
 
-// A queue was created before.
+// Whether a queue was created.
 fn is_created(kept: &[Kept]) -> bool {
     kept.iter()
         .rev()
@@ -258,7 +258,7 @@ fn verdict(kept: &[Kept], e: &Sqe) -> Verdict {
     }
 }
 
-// The next number below a bound of a linear congruential generator.
+// The next number of a linear congruential generator, below a bound.
 fn draw(seed: &mut u64, below: u32) -> u32
     requires { 0 < below }
     ensures { result < below }
@@ -269,7 +269,7 @@ fn draw(seed: &mut u64, below: u32) -> u32
     ((*seed / 0x2_0000_0000) % u64::from(below)) as u32
 }
 
-// A small identifier, now and then a larger one.
+// Mostly a small identifier, now and then a larger one.
 fn drawn_id(seed: &mut u64) -> u32
     ensures { result < 9 }
 {
@@ -280,7 +280,7 @@ fn drawn_id(seed: &mut u64) -> u32
     }
 }
 
-// A Create, most of whose fields are lawful.
+// A Create, most of whose fields are valid.
 fn drawn_create(seed: &mut u64, opcode: u8) -> Sqe {
     let first = if opcode == 5 { 10 } else { 0 };
     let prp1 = if draw(seed, 8) == 0 {
@@ -322,7 +322,7 @@ fn drawn_feature(seed: &mut u64, opcode: u8) -> Sqe {
     entry(opcode, 0, fid + sv, nsqr + 0x1_0000 * ncqr)
 }
 
-// An admin command, fused now and then.
+// An admin command, now and then with FUSE.
 fn drawn(seed: &mut u64) -> Sqe {
     let opcode = draw(seed, 12) as u8;
     let e = match opcode {
@@ -346,7 +346,7 @@ fn table_of_regions(rt: &impl Abort) -> Table {
     table
 }
 
-// One entry, to a table and to the list beside it: whether a submission queue was created.
+// Applies an entry to a table and to the list beside it. The answer is whether a submission queue was created.
 fn apply_one(
     rt: &impl Abort,
     table: &mut Table,
@@ -379,7 +379,7 @@ fn finish_one(
     Ok(())
 }
 
-// One table, and a list beside it, over 100 entries: how many submission queues were created.
+// Applies 100 entries to a table and to a list beside it. The answer is how many submission queues were created.
 fn play(rt: &impl Abort, alloc: Global, seed: &mut u64) -> Result<u32, AllocError> {
     let mut table = table_of_regions(rt);
     let mut kept: Vec<Kept> = Vec::new(alloc);

@@ -1,4 +1,4 @@
--- What is read of the matches: a number, a request, or none where there is none to be read.
+-- What is read of the matches: a number or a request, where there is one.
 use Rattle.std.specs.Prelude.{◌≡◌, ◌≢◌, ℕ, List, Option, Some, None, Result, Ok, Err, String}
 use Rattle.std.specs.Global.{Global}
 use Rattle.clap.specs.Words.{Row, Text, kind_of}
@@ -10,7 +10,7 @@ use Rattle.nvme_words.specs.declared.requests.WordsError.{WordsError}
 use Rattle.nvme_words.specs.declared.requests.WordsError.TheVariants as error
 use Rattle.nvme_words.specs.Requests.{Given, IsGivenBy, IsHelp, IsNumber, IsRequestOf}
 
--- the one that P holds of, and none where it holds of no one
+-- the one that P holds of, where there is one
 abbrev pub IsOneIfAny : {X : Type 0} → (X → Type 0) → Option X → Type 0
 IsOneIfAny P (Some x) = P x
 IsOneIfAny {X} P None = (x : X) → P x → ⊥
