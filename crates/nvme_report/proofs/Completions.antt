@@ -10,7 +10,7 @@ use Rattle.nvme_log.specs.Rules.{Past}
 use Rattle.nvme_log.specs.Completions.{posts_of}
 use Rattle.nvme_report.specs.Report.{completion_in, completions_of}
 use Rattle.nvme_report.specs.inside.Tallies.{IsFirst}
-use Rattle.nvme_report.proofs.Loops.{flat_map_at}
+use Rattle.nvme_output.proofs.Items.{flat_map_at}
 
 -- a Post of the place holds its completion
 pub completion_is : (r i c region index : ℕ) (cqe : Cqe) → region ≡ r → index ≡ i → completion_in r i (Post c region index cqe) ≡ cqe ∷ []

@@ -5,4 +5,3 @@ pub mod Loops
 pub mod Parts
 pub mod PostedOnce
 pub mod Tallied
-pub mod Writing

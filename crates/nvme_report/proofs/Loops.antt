@@ -7,23 +7,9 @@ use Rattle.std.proofs.lemmas.List.{append-nil, take-append-drop, take_more, drop
 use Rattle.std.proofs.lemmas.List.Concat.{flat_map-append}
 use Rattle.nvme_log.specs.Rules.{upto}
 use Rattle.nvme_report.specs.Report.{numbered}
-use Rattle.nvme_report.specs.Written.{AppendsPrefix, Writes}
-use Rattle.nvme_report.proofs.Writing.{appends_then, fails_at}
+use Rattle.nvme_output.specs.Written.{AppendsPrefix, Writes}
+use Rattle.nvme_output.proofs.Writing.{appends_then, fails_at}
 use mathlib.Core.List.{append_assoc}
-
--- the texts of the items up to one, that of it, and the others' are the whole
-pub flat_map_at : {A B : Type 0} (f : A → List B) (xs : List A) (i : ℕ) (d : A) → i < length xs
-    → flat_map f xs ≡ flat_map f (take i xs) ++ (f (get_or xs i d) ++ flat_map f (drop (i + 1) xs))
-flat_map_at f xs i d l =
-    ap (λ v. flat_map f v) (sym (take-append-drop i xs)) ∙ (flat_map-append f (take i xs) (drop i xs)
-    ∙ ap (λ v. flat_map f (take i xs) ++ flat_map f v) (drop_more xs i d l))
-
--- the text of one item more
-pub flat_map_next : {A B : Type 0} (f : A → List B) (xs : List A) (i : ℕ) (d : A) → i < length xs
-    → flat_map f (take (i + 1) xs) ≡ flat_map f (take i xs) ++ f (get_or xs i d)
-flat_map_next f xs i d l =
-    ap (λ v. flat_map f v) (take_more xs i d l) ∙ (flat_map-append f (take i xs) (get_or xs i d ∷ [])
-    ∙ ap (λ v. flat_map f (take i xs) ++ v) (append-nil (f (get_or xs i d))))
 
 -- numbered texts of two lists
 numbered_append : {A : Type 0} (f : ℕ → A → List ℕ) (n : ℕ) (xs ys : List A) → numbered f n (xs ++ ys) ≡ numbered f n xs ++ numbered f (n + length xs) ys
@@ -67,22 +53,6 @@ upto_at f (suc n) i l =
                 ∙ (append_assoc (flat_map f (upto i)) (f i ++ below.0) (f n ++ []) ∙ ap (λ (v : List ℕ). flat_map f (upto i) ++ v) (append_assoc (f i) below.0 (f n ++ [])))),
           )
     ]
-
--- an item's text failed to be written after those before it
-pub items_fail : {A T E : Type 0} (f : A → List ℕ) (xs : List A) (i : ℕ) (d : A) (a b c : Option (List ℕ)) (r : Result T E) → IsErr r → i < length xs
-    → Appends a b (flat_map f (take i xs)) → AppendsPrefix b c (f (get_or xs i d)) → Writes a c r (flat_map f xs)
-items_fail f xs i d a b c r failed l p q =
-    fails_at a b c r (flat_map f (take i xs)) (f (get_or xs i d)) (flat_map f (drop (i + 1) xs)) (flat_map f xs) failed (flat_map_at f xs i d l) p q
-
--- the same, where a text follows the items
-pub items_fail_before : {A T E : Type 0} (f : A → List ℕ) (xs : List A) (i : ℕ) (d : A) (last : List ℕ) (a b c : Option (List ℕ)) (r : Result T E) → IsErr r → i < length xs
-    → Appends a b (flat_map f (take i xs)) → AppendsPrefix b c (f (get_or xs i d)) → Writes a c r (flat_map f xs ++ last)
-items_fail_before f xs i d last a b c r failed l p q =
-    let s = flat_map f (take i xs) in
-    let x = f (get_or xs i d) in
-    let rest = flat_map f (drop (i + 1) xs) in
-    fails_at a b c r s x (rest ++ last) (flat_map f xs ++ last) failed
-    (ap (λ (v : List ℕ). v ++ last) (flat_map_at f xs i d l) ∙ (append_assoc s (x ++ rest) last ∙ ap (λ (v : List ℕ). s ++ v) (append_assoc x rest last))) p q
 
 -- a numbered text failed to be written after those before it
 pub numbered_fail : {A T E : Type 0} (f : ℕ → A → List ℕ) (xs : List A) (i : ℕ) (x : A) (a b c : Option (List ℕ)) (r : Result T E) → IsErr r → i < length xs

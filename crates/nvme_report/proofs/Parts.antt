@@ -1,8 +1,8 @@
 -- A text of parts, written in turn.
 use Rattle.std.proofs.Common.{ℕ, List, ◌++◌, Option, Result, IsErr}
 use Rattle.std.specs.Io.KnownBytes.{Appends}
-use Rattle.nvme_report.specs.Written.{AppendsPrefix, Writes}
-use Rattle.nvme_report.proofs.Writing.{fails_first, writes_then}
+use Rattle.nvme_output.specs.Written.{AppendsPrefix, Writes}
+use Rattle.nvme_output.proofs.Writing.{fails_first, writes_then}
 
 -- the second part failed to be written
 pub fails_second : {T E : Type 0} (a b c : Option (List ℕ)) (r : Result T E) (m p rest : List ℕ) → IsErr r

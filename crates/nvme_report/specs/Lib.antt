@@ -1,4 +1,3 @@
 pub mod Report
 pub mod Laws
-pub mod Written
 pub mod inside

@@ -2,8 +2,6 @@
 -- many completions each host collected, and how each fetched command was answered. (profile)
 use Rattle.std.specs.Prelude.{ℕ, ◌+◌, ◌==◌, ◌&&◌, if◌then◌else◌, List, [], ◌∷◌, ◌++◌, length, reverse, codes, decimal, Vec}
 use Rattle.std.specs.List.{concat, flat_map}
-use Rattle.std.specs.Int.{w32, to_be_bytes}
-use Rattle.hex.specs.Hex.{encode_lower}
 use Rattle.nvme_entry.specs.declared.completion.Cqe.{Cqe}
 use Rattle.nvme_log.specs.declared.event.Event.{Event}
 use Rattle.nvme_log.specs.declared.event.Event.TheVariants.{Pick, Abort, Post}
@@ -11,6 +9,7 @@ use Rattle.nvme_front.specs.declared.settled.Sent.{Sent}
 use Rattle.nvme_front.specs.declared.settled.Settled.{Settled}
 use Rattle.nvme_log.specs.Rules.{Past, upto}
 use Rattle.nvme_log.specs.Places.{fetched, picked, places}
+use Rattle.nvme_output.specs.Pieces.{hex_byte, hex_dword}
 use Rattle.nvme_report.specs.declared.reports.Mode.{Mode}
 use Rattle.nvme_report.specs.declared.reports.Mode.TheVariants.{Loaded, Live}
 
@@ -28,13 +27,6 @@ completion_in r i e = []
 -- the completions that a log posts for a place, in order
 abbrev pub completions_of : List Event → ℕ → ℕ → List Cqe
 completions_of log r i = flat_map (completion_in r i) log
-
--- a byte as two lower case hexadecimal digits, and a double word as eight
-abbrev pub hex_byte : ℕ → List ℕ
-hex_byte n = encode_lower (n ∷ [])
-
-abbrev pub hex_dword : ℕ → List ℕ
-hex_dword n = encode_lower (to_be_bytes w32 n)
 
 -- a line of some pieces
 abbrev pub line : List (List ℕ) → List ℕ

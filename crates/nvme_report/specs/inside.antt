@@ -1,3 +1,2 @@
 -- What only private contracts cite: no public clause reaches it (profile).
-pub mod Pieces
 pub mod Tallies

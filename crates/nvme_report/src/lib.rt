@@ -4,4 +4,5 @@
 pub mod laws;
 mod reports;
 
-pub use reports::{Mode, WriteFault, report};
+pub use nvme_output::WriteFault;
+pub use reports::{Mode, report};

@@ -1,22 +1,20 @@
 //! The report of a run.
 ghost use Rattle.std.specs.Prelude.{ℕ, ◌≤◌, reverse};
 ghost use Rattle.nvme_log.specs.Completions.{posts_of};
+ghost use Rattle.nvme_output.specs.Written.{Writes};
 ghost use Rattle.nvme_report.specs.Report.{report_text};
-ghost use Rattle.nvme_report.specs.Written.{Writes};
 
 pub mod completions;
 mod counts;
 mod hints;
 mod lines;
-mod pieces;
 
 use completions::put_completions;
 use counts::{counts_of, put_submissions};
 use lines::{put_collected, put_mode, put_picks};
 use nvme_front::Settled;
-use pieces::put;
+use nvme_output::{WriteFault, put};
 use std::io::Write;
-use thiserror::Error;
 
 /// When the hosts of a run submit their commands.
 #[derive(Clone, Copy, Debug, PartialEq, Eq)]
@@ -26,11 +24,6 @@ pub enum Mode {
     /// While the front works.
     Live,
 }
-
-/// A write failed, or took no byte.
-#[derive(Clone, Copy, Debug, PartialEq, Eq, Error)]
-#[error("write failed")]
-pub struct WriteFault;
 
 /// Writes the report of a run, whose log posts no place twice. It takes no memory. `WriteFault` comes only where a
 /// write failed or took no byte, and the writer got a prefix of the report then.

@@ -12,7 +12,7 @@ use Rattle.nvme_front.specs.declared.settled.Settled.{Settled}
 use Rattle.nvme_report.specs.declared.reports.Mode.{Mode}
 use Rattle.nvme_report.specs.declared.reports.Mode.TheVariants.{Loaded}
 use Rattle.nvme_report.specs.Report.{report_text}
-use Rattle.nvme_report.specs.Written.{AppendsPrefix}
+use Rattle.nvme_output.specs.Written.{AppendsPrefix}
 use Rattle.nvme_runs.specs.declared.runs.RunError.{RunError}
 use Rattle.nvme_runs.specs.declared.runs.RunError.TheVariants as fault
 use Rattle.nvme_runs.specs.Runs.{FitsAll, IsRun, IsFirstTooLong}

@@ -10,7 +10,7 @@ use Rattle.nvme_front.specs.declared.front.FrontError.{FrontError}
 use Rattle.nvme_front.specs.declared.settled.Settled.{Settled}
 use Rattle.nvme_report.specs.declared.reports.Mode.{Mode}
 use Rattle.nvme_report.specs.Report.{report_text}
-use Rattle.nvme_report.specs.Written.{AppendsPrefix}
+use Rattle.nvme_output.specs.Written.{AppendsPrefix}
 use Rattle.nvme_runs.specs.declared.runs.RunError.{RunError}
 use Rattle.nvme_runs.specs.declared.runs.RunError.TheVariants as fault
 use Rattle.nvme_runs.specs.Runs.{IsRun}

@@ -4,16 +4,15 @@ ghost use Rattle.std.specs.List.{flat_map};
 ghost use Rattle.nvme_log.specs.Completions.{posts_of};
 ghost use Rattle.nvme_log.specs.Places.{fetched};
 ghost use Rattle.nvme_log.specs.Rules.{upto};
+ghost use Rattle.nvme_output.specs.Written.{Writes};
 ghost use Rattle.nvme_report.specs.Report.{cmd_line, cmd_lines, completions_of};
 ghost use Rattle.nvme_report.specs.inside.Tallies.{AreCounted, IsFirst};
-ghost use Rattle.nvme_report.specs.Written.{Writes};
 
-use crate::reports::WriteFault;
 use crate::reports::counts::{Counts, counts_at};
 use crate::reports::hints::{Hints, PLACES};
-use crate::reports::pieces::{Piece, put_line};
 use nvme_entry::Cqe;
 use nvme_front::Event;
+use nvme_output::{Piece, WriteFault, put_line};
 use std::io::Write;
 
 /// A completion and where in a log it was posted.

@@ -1,13 +1,12 @@
 // What a log says of the submission regions, and their lines.
 ghost use Rattle.std.specs.Prelude.{◌≡◌, ℕ, ◌+◌, ◌∷◌, length, reverse};
 ghost use Rattle.nvme_log.specs.Rules.{Past};
+ghost use Rattle.nvme_output.specs.Written.{Writes};
 ghost use Rattle.nvme_report.specs.inside.Tallies.{AreCounted, AreFew, AreMost, IsCounted, Tallies, sq_line_of};
 ghost use Rattle.nvme_report.specs.Report.{numbered, sq_line};
-ghost use Rattle.nvme_report.specs.Written.{Writes};
 
-use crate::reports::WriteFault;
-use crate::reports::pieces::{Piece, put_line};
 use nvme_front::{Event, Sent};
+use nvme_output::{Piece, WriteFault, put_line};
 use std::io::Write;
 
 // How many submission queue identifiers there are.

@@ -1,12 +1,12 @@
 // The lines of the mode, of the picks and of the completion regions.
 ghost use Rattle.std.specs.List.{flat_map};
+ghost use Rattle.nvme_output.specs.Written.{Writes};
 ghost use Rattle.nvme_report.specs.Report.{cq_line, cq_line_of, mode_line, numbered, pick_line};
-ghost use Rattle.nvme_report.specs.Written.{Writes};
 
-use crate::reports::pieces::{Piece, put_line};
-use crate::reports::{Mode, WriteFault};
+use crate::reports::Mode;
 use nvme_entry::Cqe;
 use nvme_front::Event;
+use nvme_output::{Piece, WriteFault, put_line};
 use std::io::Write;
 
 /// Writes the line of the mode.

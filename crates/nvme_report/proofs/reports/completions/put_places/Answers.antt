@@ -3,10 +3,10 @@ use Rattle.std.specs.Io.KnownBytes.{Appends}
 use Rattle.std.specs.List.{flat_map}
 use Rattle.nvme_log.specs.Rules.{upto}
 use Rattle.nvme_report.specs.Report.{cmd_line, completions_of}
-use Rattle.nvme_report.specs.Written.{AppendsPrefix, Writes}
+use Rattle.nvme_output.specs.Written.{AppendsPrefix, Writes}
 use Rattle.nvme_report.proofs.Completions.{completions_are_posts, no_line, one_line}
 use Rattle.nvme_report.proofs.Loops.{upto_fail, upto_written}
-use Rattle.nvme_report.proofs.Writing.{appends_nothing}
+use Rattle.nvme_output.proofs.Writing.{appends_nothing}
 use Rattle.nvme_report.proofs.reports.completions.put_places.Goals as goal
 use Rattle.nvme_report.proofs.reports.completions.put_places.Goals.{in-Some+in_ok-put_completion, in_default}
 

@@ -1,7 +1,7 @@
 use Rattle.std.proofs.Common.{rules, subst, List, ℕ}
 use Rattle.std.specs.Io.KnownBytes.{Appends}
 use Rattle.nvme_report.specs.Report.{sq_line}
-use Rattle.nvme_report.specs.Written.{AppendsPrefix}
+use Rattle.nvme_output.specs.Written.{AppendsPrefix}
 use Rattle.nvme_report.proofs.Counted.{sq_line_is}
 use Rattle.nvme_report.proofs.Loops.{numbered_fail, numbered_written}
 use Rattle.nvme_report.proofs.reports.counts.put_submissions.Goals as goal

@@ -1,7 +1,7 @@
 use Rattle.std.proofs.Common.{rules, subst, ℕ}
 use Rattle.std.specs.Io.KnownBytes.{Appends}
 use Rattle.nvme_report.specs.Report.{cq_line, cq_line_of}
-use Rattle.nvme_report.specs.Written.{AppendsPrefix}
+use Rattle.nvme_output.specs.Written.{AppendsPrefix}
 use Rattle.nvme_report.proofs.Loops.{numbered_fail, numbered_written}
 use Rattle.nvme_report.proofs.reports.lines.put_collected.Goals as goal
 

@@ -1,7 +1,7 @@
 use Rattle.std.proofs.Common.{rules, subst}
 use Rattle.nvme_report.specs.Report.{pick_line}
-use Rattle.nvme_report.specs.Written.{AppendsPrefix}
-use Rattle.nvme_report.proofs.Loops.{items_fail}
+use Rattle.nvme_output.specs.Written.{AppendsPrefix}
+use Rattle.nvme_output.proofs.Items.{items_fail}
 use Rattle.nvme_report.proofs.reports.lines.put_picks.Goals as goal
 
 pub returns-in_err-put_pick : goal.returns-in_err-put_pick

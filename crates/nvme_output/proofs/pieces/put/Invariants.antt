@@ -1,6 +1,6 @@
 use Rattle.std.proofs.Common.{◌≡◌, List, ℕ, ◌++◌, length}
 use Rattle.std.specs.Io.KnownBytes.{Appends}
-use Rattle.nvme_report.proofs.reports.pieces.put.Given as goal
+use Rattle.nvme_output.proofs.pieces.put.Given as goal
 
 -- the prefix of the bytes that isn't left was written
 abbrev pub invariant-loop-rest : goal.invariant-loop-rest

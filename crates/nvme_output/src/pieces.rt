@@ -1,18 +1,22 @@
-// A line as pieces, and how it is written.
+// A text as pieces, and how it is written.
 ghost use Rattle.std.specs.Prelude.{◌≡◌, ◌++◌, codes};
 ghost use Rattle.std.specs.List.{flat_map};
-ghost use Rattle.nvme_report.specs.inside.Pieces.{piece_text};
-ghost use Rattle.nvme_report.specs.Report.{hex_byte, hex_dword};
-ghost use Rattle.nvme_report.specs.Written.{Writes};
+ghost use Rattle.nvme_output.specs.Pieces.{hex_byte, hex_dword, piece_text};
+ghost use Rattle.nvme_output.specs.Written.{Writes};
 
-use crate::reports::WriteFault;
 use arrayvec::ArrayVec;
 use std::io::Write;
+use thiserror::Error;
 
 // How many bytes of a line are put together before they are written.
 const LINE_ROOM: usize = 256;
 
-/// A piece of a line: words, a number in decimal, or a number in hexadecimal with all its digits.
+/// A write failed, or took no byte.
+#[derive(Clone, Copy, Debug, PartialEq, Eq, Error)]
+#[error("write failed")]
+pub struct WriteFault;
+
+/// A piece of a text: words, a number in decimal, or a number in hexadecimal with all its digits.
 #[derive(Clone, Copy)]
 pub enum Piece<'a> {
     Words(&'a str),
@@ -21,7 +25,7 @@ pub enum Piece<'a> {
     Dword(u32),
 }
 
-/// Writes all bytes.
+/// Writes all bytes. A write that a signal interrupts is a failed one.
 pub fn put<W: Write>(bytes: &[u8], writer: &mut W) -> Result<(), WriteFault>
     ensures { Writes (W.contents writer.old) (W.contents writer.new) result bytes.now }
 {
@@ -72,13 +76,21 @@ fn put_piece<W: Write>(piece: &Piece, writer: &mut W) -> Result<(), WriteFault>
     }
 }
 
-// Writes a line of pieces, piece by piece.
-fn put_pieces<W: Write>(pieces: &[Piece], writer: &mut W) -> Result<(), WriteFault>
-    ensures { Writes (W.contents writer.old) (W.contents writer.new) result (flat_map piece_text pieces.now ++ codes "\n") }
+/// Writes pieces, each by a write of its own.
+pub fn put_pieces<W: Write>(pieces: &[Piece], writer: &mut W) -> Result<(), WriteFault>
+    ensures { Writes (W.contents writer.old) (W.contents writer.new) result (flat_map piece_text pieces.now) }
 {
     for piece in pieces {
         put_piece(piece, writer)?;
     }
+    Ok(())
+}
+
+// Writes a line of pieces, piece by piece.
+fn put_long<W: Write>(pieces: &[Piece], writer: &mut W) -> Result<(), WriteFault>
+    ensures { Writes (W.contents writer.old) (W.contents writer.new) result (flat_map piece_text pieces.now ++ codes "\n") }
+{
+    put_pieces(pieces, writer)?;
     put(b"\n", writer)
 }
 
@@ -88,8 +100,8 @@ pub fn put_line<W: Write>(pieces: &[Piece], writer: &mut W) -> Result<(), WriteF
     ensures { Writes (W.contents writer.old) (W.contents writer.new) result (flat_map piece_text pieces.now ++ codes "\n") }
 {
     let mut line = ArrayVec::<u8, LINE_ROOM>::new();
-    match put_pieces(pieces, &mut line) {
+    match put_long(pieces, &mut line) {
         Ok(()) => put(line.as_slice(), writer),
-        Err(WriteFault) => put_pieces(pieces, writer),
+        Err(WriteFault) => put_long(pieces, writer),
     }
 }

@@ -2,7 +2,7 @@
 use Rattle.std.proofs.Common.{◌≡◌, ℕ, ◌-◌, List, [], ◌++◌, length, take, drop, Option, Some, None, Result, Ok, Err, IsErr, sym, ◌∙◌, ap, arith}
 use Rattle.std.specs.Io.KnownBytes.{Appends}
 use Rattle.std.proofs.lemmas.List.{append-nil, take-append-drop, take_rest}
-use Rattle.nvme_report.specs.Written.{AppendsPrefix, Writes}
+use Rattle.nvme_output.specs.Written.{AppendsPrefix, Writes}
 use mathlib.Core.List.{append_assoc}
 
 -- nothing was written yet

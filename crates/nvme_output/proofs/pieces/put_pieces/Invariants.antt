@@ -1,8 +1,8 @@
 use Rattle.std.proofs.Common.{take}
 use Rattle.std.specs.Io.KnownBytes.{Appends}
 use Rattle.std.specs.List.{flat_map}
-use Rattle.nvme_report.specs.inside.Pieces.{piece_text}
-use Rattle.nvme_report.proofs.reports.pieces.put_pieces.Given as goal
+use Rattle.nvme_output.specs.Pieces.{piece_text}
+use Rattle.nvme_output.proofs.pieces.put_pieces.Given as goal
 
 -- the pieces so far were written
 abbrev pub invariant-loop-piece : goal.invariant-loop-piece

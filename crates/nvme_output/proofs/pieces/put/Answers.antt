@@ -1,6 +1,6 @@
 use Rattle.std.proofs.Common.{rules}
-use Rattle.nvme_report.proofs.Writing.{took_some}
-use Rattle.nvme_report.proofs.reports.pieces.put.Goals as goal
+use Rattle.nvme_output.proofs.Writing.{took_some}
+use Rattle.nvme_output.proofs.pieces.put.Goals as goal
 
 pub loop-rest-preserved : goal.loop-rest-preserved
 loop-rest-preserved g c = took_some _ _ _ _ _ _ c.loop-rest.invariant (search rules)

@@ -1,9 +1,0 @@
-use Rattle.std.proofs.Common.{rules, ◌∷◌, []}
-use Rattle.nvme_report.specs.inside.Pieces.{piece_text}
-use Rattle.nvme_report.proofs.Loops.{items_fail_before}
-use Rattle.nvme_report.proofs.reports.pieces.put_pieces.Goals as goal
-
-pub returns-in_err-put_piece : goal.returns-in_err-put_piece
-returns-in_err-put_piece g c =
-    items_fail_before piece_text c.args.pieces.now c.loop-piece.piece-index _ (10 ∷ []) _ _ _ c.from_residual.result c.from_residual.ensures.0
-    (search rules) c.loop-piece.invariant c.in_err-put_piece.ensures
