@@ -4,4 +4,3 @@ pub mod TraceLemmas
 pub mod CheckLemmas
 pub mod JudgeLemmas
 pub mod Exactness
-pub mod WrittenLemmas

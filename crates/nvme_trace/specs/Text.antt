@@ -30,10 +30,14 @@ abbrev pub text_of_flag : Bool → List ℕ
 text_of_flag true = codes "true"
 text_of_flag false = codes "false"
 
-abbrev pub text_of_pick : List Seen → Pick → List ℕ
-text_of_pick seen pick =
+-- a pick, up to the open queues that it saw
+abbrev pub text_before_seen : Pick → List ℕ
+text_before_seen pick =
     concat (codes "{\"pick\":" ∷ decimal pick.qid ∷ codes ",\"n\":" ∷ decimal pick.n ∷ codes ",\"fresh\":" ∷ text_of_flag pick.fresh
-    ∷ codes ",\"seen\":[" ∷ text_of_seen seen ∷ codes "]}\n" ∷ [])
+    ∷ codes ",\"seen\":[" ∷ [])
+
+abbrev pub text_of_pick : List Seen → Pick → List ℕ
+text_of_pick seen pick = text_before_seen pick ++ (text_of_seen seen ++ codes "]}\n")
 
 abbrev pub text_of_set : ArbitrationFields → List ℕ
 text_of_set settings = concat (codes "{\"set\":" ∷ decimal (cdw11_of settings) ∷ codes "}\n" ∷ [])

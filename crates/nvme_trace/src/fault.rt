@@ -107,8 +107,3 @@ impl From<AllocError> for TraceError {
         TraceError::NoMemory
     }
 }
-
-/// A write failed, or took no byte.
-#[derive(Clone, Copy, Debug, PartialEq, Eq, Error)]
-#[error("write failed")]
-pub struct WriteFault;

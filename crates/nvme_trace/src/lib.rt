@@ -13,10 +13,11 @@ mod trace;
 mod writing;
 
 pub use checking::{Checked, Unlawful, check};
-pub use fault::{Field, LineFault, TraceError, WriteFault};
+pub use fault::{Field, LineFault, TraceError};
 pub use judge::{Finding, Judge};
 pub use laws::texts_have_one_answer;
 pub use names::{class_name, mechanism_name};
+pub use nvme_output::WriteFault;
 pub use reading::{Head, TraceEvent};
 pub use trace::Trace;
 pub use writing::write_trace;

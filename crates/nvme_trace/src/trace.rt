@@ -4,6 +4,8 @@ ghost use Rattle.nvme_trace.specs.Lines.{unread, MatchLine, MeetsError, TakesLin
 ghost use Rattle.nvme_trace.specs.Format.{longest_line, head_of_line, event_of_line, event_view};
 ghost use Rattle.nvme_trace.specs.Judged.{IsObserved};
 ghost use Rattle.nvme_trace.specs.Faults.{IsLineFault, IsHeadFault, IsEventFault};
+ghost use Rattle.nvme_trace.specs.declared.fault.TraceError.TheVariants as fault;
+ghost use Rattle.nvme_trace.specs.declared.lines.NextError.TheVariants as next;
 
 use crate::fault::{LineFault, TraceError};
 use crate::lines::{Lines, NextError};
@@ -47,7 +49,9 @@ fn fault_after(number: u64, fault: LineFault) -> TraceError
 // Why the line after so many was not taken.
 fn stop_after(number: u64, error: NextError) -> TraceError
     requires { number < 2 ^ 64 - 1 }
-    ensures { (rest : Option (List ℕ)) → MeetsError error rest → IsHeadFault result number rest × IsEventFault result number rest }
+    ensures line { (rest : Option (List ℕ)) → MeetsError error rest → IsHeadFault result number rest × IsEventFault result number rest }
+    ensures read { error ≡ next.Read → result ≡ fault.Read }
+    ensures no_memory { error ≡ next.NoMemory → result ≡ fault.NoMemory }
 {
     match error {
         NextError::TooLong => fault_after(number, LineFault::TooLong),

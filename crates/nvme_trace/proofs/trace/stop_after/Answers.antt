@@ -5,8 +5,8 @@ use Rattle.nvme_trace.specs.declared.lines.NextError.{NextError}
 use Rattle.nvme_trace.proofs.TraceLemmas.{head_too_long, event_too_long}
 use Rattle.nvme_trace.proofs.trace.stop_after.Goals as goal
 
-pub returns-in-TooLong : goal.returns-in-TooLong
-returns-in-TooLong c = λ rest m.
+pub returns-in-TooLong-clause-line : goal.returns-in-TooLong-clause-line
+returns-in-TooLong-clause-line c = λ rest m.
     let long : StartsWithLine (λ line. longest_line < length line) rest = subst (λ (e : NextError). MeetsError e rest) c.in-TooLong.is m in (
       head_too_long c.fault_after.result c.args.number rest c.fault_after.ensures long,
       event_too_long c.fault_after.result c.args.number rest c.fault_after.ensures long,
