@@ -1,4 +1,4 @@
-// Calls that are made once more where memory was refused, so that a test passes too where any one allocation fails.
+// Calls that are made again where memory was refused, so that a test passes even if any one allocation fails.
 ghost use Rattle.std.specs.Prelude.{◌≡◌, ◌++◌, ◌∷◌, ◌<◌, [], IfOk, OnOk, OnErr, vec_len, vec_capacity};
 ghost use Rattle.nvme_lane.specs.View.{IsPair, SameGet};
 ghost use Rattle.nvme_lane.specs.Drainer.{get_of};
@@ -18,7 +18,7 @@ pub fn push_again<T: Copy>(all: &mut Vec<T>, item: T) -> Result<(), AllocError> 
     Ok(())
 }
 
-/// Makes room for one item more.
+/// Makes room for one more item.
 pub fn reserve_again<T>(all: &mut Vec<T>) -> Result<(), AllocError>
     ensures items { all.new.items ≡ all.old.items }
     ensures room { OnOk result (vec_len all.new < vec_capacity all.new) }
@@ -37,7 +37,7 @@ pub fn list_again<T: Copy>(alloc: Global, items: &[T]) -> Result<Vec<T>, AllocEr
     Vec::from_slice(alloc, items)
 }
 
-/// A ring with nothing in it.
+/// An empty ring.
 pub fn ring_again<T: Copy>(
     alloc: Global,
     address: u64,
@@ -53,7 +53,7 @@ pub fn ring_again<T: Copy>(
     ring(alloc, address, slots)
 }
 
-/// A pool of so many workers.
+/// A pool of this many workers.
 pub fn pool_again(alloc: Global, workers: u8) -> Result<(Lanes, FrontSeat, Vec<Worker>), PoolError>
     ensures pool { IfOk result (λ r. IsPool r.0 r.1 r.2.items) }
     ensures none_handed { IfOk result (λ r. r.1.handed ≡ []) }
@@ -95,7 +95,7 @@ pub fn add_cq_again(front: &mut Front, end: PutEnd<Cqe>) -> Result<u8, AddError>
     }
 }
 
-/// Takes the next completion, where one is found.
+/// Takes the next completion. True where one was found.
 pub fn take_again(drainer: &mut Drainer<Cqe>) -> Result<bool, NoMemory>
     ensures { SameGet (get_of drainer.old) (get_of drainer.new) }
 {

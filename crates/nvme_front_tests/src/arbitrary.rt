@@ -1,4 +1,4 @@
-// Hosts that submit any bytes.
+// Hosts that submit arbitrary bytes.
 ghost use Rattle.std.specs.Prelude.{◌<◌};
 
 use crate::again::push_again;
@@ -50,7 +50,7 @@ fn arbitrary(seed: &mut u64) -> Sqe {
     Sqe::from_bytes(&bytes)
 }
 
-// Appends so many arbitrary entries, with the opcode modulo this.
+// Appends `ENTRIES` arbitrary entries, with their opcodes modulo `opcodes`.
 fn push_arbitrary(all: &mut Vec<Sqe>, seed: u64, opcodes: u8) -> Result<(), AllocError>
     requires { 0 < opcodes }
 {
@@ -63,14 +63,14 @@ fn push_arbitrary(all: &mut Vec<Sqe>, seed: u64, opcodes: u8) -> Result<(), Allo
     Ok(())
 }
 
-// How many completions rest in each ring, after so many events.
+// How many completions rest in each ring after the first `events` events.
 #[derive(Drop)]
 struct Rests {
     events: usize,
     rests: [u16; 2],
 }
 
-// Looks at the events that are new.
+// Counts the posts among the new events.
 fn look(rests: &mut Rests, log: &[Event]) -> Result<(), Fail> {
     let Some(fresh) = log.get(rests.events..) else {
         return Err("the log lost events".into());
@@ -85,7 +85,7 @@ fn look(rests: &mut Rests, log: &[Event]) -> Result<(), Fail> {
     Ok(())
 }
 
-// Each host collects where its ring is full.
+// Each host whose ring is full collects.
 fn collect_full(rig: &mut Rig, rests: &mut Rests) -> Result<(), Fail> {
     look(rests, rig.log())?;
     for region in 0..2 {

@@ -1,4 +1,4 @@
-// The device of `nvme_front_uses`, played.
+// Runs of the device of `nvme_front_uses`.
 use nvme_admin::Limits;
 use nvme_arbiter::{Mechanism, Settings};
 use nvme_entry::{Namespaces, Sqe};
@@ -20,15 +20,15 @@ fn command(cid: u16, opcode: u8, cdw10: u32, cdw11: u32) -> Sqe {
     }
 }
 
-// Set Features asks for 8 submission and 2 completion queues, and gets 4 and 2; Dword 0 has each less 1. Identify is
-// answered with Invalid Command Opcode. Get Features tells the numbers again.
+// Set Features asks for 8 submission and 2 completion queues, and gets 4 and 2. Dword 0 has each number minus 1.
+// Identify is answered with Invalid Command Opcode. Get Features answers with the same numbers.
 const COMPLETIONS: [[u8; 16]; 3] = [
     [3, 0, 1, 0, 0, 0, 0, 0, 1, 0, 0, 0, 0, 0, 1, 0],
     [0, 0, 0, 0, 0, 0, 0, 0, 2, 0, 0, 0, 1, 0, 3, 0],
     [3, 0, 1, 0, 0, 0, 0, 0, 3, 0, 0, 0, 2, 0, 1, 0],
 ];
 
-// Four queues of each kind at most.
+// At most four queues of each kind.
 fn config() -> Result<FrontConfig, Fail> {
     let spaces = Namespaces::new(&[1000])?;
     Ok(FrontConfig {
@@ -52,14 +52,14 @@ fn device(alloc: Global) -> Result<Device, Fail> {
     Ok(Device::new(alloc, config, script)?)
 }
 
-// Two rounds don't serve all, and more do.
+// Two rounds don't serve all commands, and more rounds do.
 fn play<R: Wait + Abort>(rt: &R, device: &mut Device) -> Result<(), Fail> {
     assert!(rt; !device.serve(rt, 2)?);
     assert!(rt; device.serve(rt, 100)?);
     Ok(())
 }
 
-// The device is settled after its play, unless that failed.
+// Settles a device after its play, unless that failed.
 fn settled<R: Wait + Abort>(rt: &R, alloc: Global) -> Result<Settled, Fail> {
     let mut device = device(alloc)?;
     if let Err(fail) = play(rt, &mut device) {

@@ -1,4 +1,4 @@
-// A long drive: 17 regions of each kind, some 20,000 commands, and drainers that are slow.
+// A long drive: 17 regions of each kind, some 20,000 commands, and slow drainers.
 use crate::again::push_again;
 use crate::commands::{admin, get_arbitration, read};
 use crate::events::{fetched, posted, was_closed};
@@ -79,7 +79,7 @@ fn add_regions(alloc: Global, rig: &mut Rig) -> Result<(), Fail> {
     Ok(())
 }
 
-// Where the drive has come: so many events were looked at, and so many of them are posts. Each hundredth has its time.
+// The progress of the drive: how many events were read, how many of them are posts, and the time of each hundredth.
 #[derive(Drop)]
 struct Marks {
     start: Instant,
@@ -88,7 +88,7 @@ struct Marks {
     times: Vec<Duration>,
 }
 
-// Looks at the events that are new.
+// Counts the posts among the new events, and notes the time of each hundredth.
 fn mark(clock: &impl Clock, marks: &mut Marks, log: &[Event]) -> Result<(), Fail> {
     let Some(fresh) = log.get(marks.events..) else {
         return Err("the log lost events".into());
@@ -105,8 +105,9 @@ fn mark(clock: &impl Clock, marks: &mut Marks, log: &[Event]) -> Result<(), Fail
     Ok(())
 }
 
-// Each host submits one command, the front makes a turn, every other turn another host collects four completions, and
-// two turns of three a worker executes what is there, until nothing happens for a hundred turns.
+// In each turn each host submits one command, and the front makes a turn. Every second turn the next host collects four
+// completions, and in two of three turns a worker executes what is there. It ends when nothing happens for a hundred
+// turns.
 fn drive<R: Clock + Wait>(rt: &R, rig: &mut Rig, marks: &mut Marks) -> Result<(), Fail> {
     let mut idle = 0u32;
     for turn in 0..2_000_000u32 {
@@ -154,7 +155,7 @@ fn check_counts(rt: &impl Abort, settled: &Settled) {
     assert!(rt; total > 19_000, "{total} commands");
 }
 
-// All regions are served but those of the queues that are deleted.
+// All regions are served, except those of the deleted queues.
 fn check_regions(rt: &impl Abort, rig: &Rig) {
     for region in 0..REGIONS {
         let is_deleted = 1 <= region && region <= DELETED;

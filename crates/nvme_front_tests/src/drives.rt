@@ -1,4 +1,4 @@
-// Drives that come to nothing.
+// Drives that fail.
 ghost use Rattle.std.specs.Prelude.{◌≡◌, ◌<◌, length, vec_len, IfOk};
 ghost use Rattle.nvme_pool.specs.Pool.{IsPool};
 
@@ -17,10 +17,10 @@ use std::thread::Threads;
 
 // The admin commands, which fit their ring. The events of each are its fetch, its pick and its post.
 const COMMANDS: usize = 200;
-// The events of the log, which are too few for the commands.
+// The most events of the log, which are too few for the commands.
 const EVENTS: u32 = 257;
 
-// Submits the script of a host, which fits its ring.
+// Submits the script of a host. It fits the ring.
 fn submit(feeder: &mut Feeder<Sqe>) {
     for _ in 0..COMMANDS {
         feeder.step();
@@ -34,7 +34,7 @@ fn submit_all(feeders: &mut Vec<Feeder<Sqe>>) {
     }
 }
 
-// A front with its hosts and two workers. The hosts have submitted where they are to do so before the drive.
+// A front with its hosts and two workers. With `Feeding::Before` the hosts have submitted.
 fn parts(alloc: Global, feeding: Feeding) -> Result<Parts, Fail>
     ensures admin_sq { IfOk result (λ p. 0 < length p.front.gets) }
     ensures admin_cq { IfOk result (λ p. 0 < length p.front.puts) }
@@ -68,7 +68,7 @@ fn parts(alloc: Global, feeding: Feeding) -> Result<Parts, Fail>
     })
 }
 
-// What the drive of the commands comes to, once.
+// Drives the commands once: the error, or `None`.
 fn driven_once<R: Threads + Wait + Sync>(
     rt: &R,
     alloc: Global,
@@ -85,7 +85,7 @@ fn driven_once<R: Threads + Wait + Sync>(
     }
 }
 
-// The same, made once more where memory was refused.
+// The same, made again where memory was refused.
 fn driven<R: Threads + Wait + Sync>(
     rt: &R,
     alloc: Global,

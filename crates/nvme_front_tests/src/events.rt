@@ -1,4 +1,4 @@
-// What a log says.
+// Reads what a log says.
 use crate::again::push_again;
 use nvme_entry::{Cqe, Status};
 use nvme_front::Event;
@@ -29,12 +29,12 @@ pub fn posted(log: &[Event]) -> usize {
         .count()
 }
 
-/// A submission queue was created on a region.
+/// Whether a submission queue was created on a region.
 pub fn was_opened(log: &[Event], of: u8) -> bool {
     log.iter().any(|event| matches!(event, Event::OpenSq { region, .. } if *region == of))
 }
 
-/// The deletion of a submission queue on a region was finished.
+/// Whether the deletion of the submission queue on a region was finished.
 pub fn was_closed(log: &[Event], of: u8) -> bool {
     log.iter().any(|event| matches!(event, Event::ClosedSq { region, .. } if *region == of))
 }

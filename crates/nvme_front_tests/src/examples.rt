@@ -1,4 +1,4 @@
-// Worked examples.
+// Worked examples: a ring of two slots, and queues that are deleted.
 use crate::commands::{admin, get_arbitration, read};
 use crate::events::{fetched, picks, posted, status_of, was_closed, was_opened};
 use crate::hosted::config;
@@ -18,7 +18,7 @@ const TWO_SLOTS: [[u8; 16]; 4] = [
     [1, 0, 1, 3, 0, 0, 0, 0, 4, 0, 0, 0, 3, 0, 0, 0],
 ];
 
-// So many entries each host submitted, and so many completions each collected.
+// Each host submitted and collected these numbers of entries.
 fn check_counts(
     rt: &impl Abort,
     alloc: Global,
@@ -37,14 +37,14 @@ fn check_counts(
     Ok(())
 }
 
-// The front picked so.
+// The front made these picks.
 fn check_picks(rt: &impl Abort, alloc: Global, rig: &Rig, want: &[(u16, u16)]) -> Result<(), Fail> {
     let all = picks(alloc, rig.log())?;
     assert_eq!(rt; all.as_slice(), want);
     Ok(())
 }
 
-// After so many completions one more is collected. The ring holds one, and so it was full.
+// Collects one more completion, after `taken`. The ring holds one, so it was full.
 fn collect_one<R: Wait + Abort>(rt: &R, rig: &mut Rig, taken: u16) -> Result<(), Fail> {
     rig.run(rt)?;
     let is_clear = rig.is_clear();
@@ -91,7 +91,7 @@ fn add_regions(alloc: Global, rig: &mut Rig, reads: &[Sqe]) -> Result<(), Fail> 
     Ok(())
 }
 
-// A turn, after which each command is executed and each completion collected.
+// Makes a turn, then executes each command and collects each completion.
 fn turn_and_collect<R: Wait>(rt: &R, rig: &mut Rig) -> Result<(), Fail> {
     let _step = rig.turn(rt)?;
     let _executed = rig.work_all(rt);
@@ -99,7 +99,7 @@ fn turn_and_collect<R: Wait>(rt: &R, rig: &mut Rig) -> Result<(), Fail> {
     Ok(())
 }
 
-// Turns and collects, and sees that region 1 is served from the creation of its queue to the end of its deletion.
+// Turns and collects, and checks that region 1 is served from the creation of its queue to the end of its deletion.
 fn run_watched<R: Wait + Abort>(rt: &R, rig: &mut Rig) -> Result<(), Fail> {
     for _ in 0..20 {
         turn_and_collect(rt, rig)?;
@@ -111,7 +111,7 @@ fn run_watched<R: Wait + Abort>(rt: &R, rig: &mut Rig) -> Result<(), Fail> {
     Ok(())
 }
 
-// Two of the reads of region 1 were aborted, and all else of these places succeeded.
+// Two of the reads of region 1 were aborted, and the other commands at these places succeeded.
 fn check_statuses(rt: &impl Abort, rig: &Rig, places: &[(u8, u32)]) {
     for (region, index) in places {
         let want = if *region == 1 && *index > 0 {
@@ -153,8 +153,8 @@ fn delete_with_three_waiting(rt: HostRuntime) -> Result<(), Fail> {
     check_counts(&rt, rt.alloc(), &settled, &[3, 3], &[3, 3])
 }
 
-// Adds the regions of a queue that is created anew on region 2. A fifth admin command and a fourth read of region 1 are
-// not submitted yet.
+// Adds the regions of a queue that is created again on region 2. A fifth admin command and a fourth read of region 1
+// aren't submitted yet.
 fn add_anew(alloc: Global, rig: &mut Rig) -> Result<(), Fail> {
     add_regions(alloc, rig, &[read(0), read(1), read(2), read(3)])?;
     rig.add_sq(alloc, 0x3000, 8, &[read(0), read(1)])?;
@@ -163,7 +163,7 @@ fn add_anew(alloc: Global, rig: &mut Rig) -> Result<(), Fail> {
     Ok(())
 }
 
-// A queue is deleted and created anew.
+// A queue is deleted and created again.
 fn play_anew<R: Wait + Abort>(rt: &R, alloc: Global, rig: &mut Rig) -> Result<(), Fail> {
     add_anew(alloc, rig)?;
     run_watched(rt, rig)?;

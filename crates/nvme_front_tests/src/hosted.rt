@@ -24,9 +24,9 @@ pub const ADMIN_SQ: u64 = 0x1000;
 /// The address of the admin queue's completion region.
 pub const ADMIN_CQ: u64 = 0x8000;
 
-/// A front, a feeder for each of its submission regions, and a drainer for each of its completion regions. Its type keeps
-/// that the hosts are the other ends of the front's rings, that both admin regions are there, and that no job was handed
-/// by the front's seat before the front was given it.
+/// A front, a feeder for each of its submission regions, and a drainer for each of its completion regions. Its type
+/// keeps that the hosts are the other ends of the front's rings, that both admin regions exist, and that the front's
+/// seat had handed over no job when the front got it.
 #[derive(Drop)]
 pub struct Hosted {
     pub front: Front,
@@ -89,7 +89,7 @@ fn cq_region(
     Ok(Drainer::new(alloc, get))
 }
 
-// Adds the admin regions, of so many slots each, and gives the hosts' ends of them.
+// Adds the admin regions, of these numbers of slots, and gives the hosts' ends of them.
 fn admin_hosts(
     alloc: Global,
     front: &mut Front,
@@ -116,7 +116,7 @@ fn admin_hosts(
     Ok((feeders, drainers))
 }
 
-// Puts so many entries at most, as the ring takes them. The answer is how many were put.
+// Puts at most `most` entries, while the ring takes them. The answer is how many were put.
 fn put_some(feeder: &mut Feeder<Sqe>, most: u16) -> u16
     ensures { SamePut (put_of feeder.old) (put_of feeder.new) }
 {
@@ -128,7 +128,7 @@ fn put_some(feeder: &mut Feeder<Sqe>, most: u16) -> u16
     most
 }
 
-// Takes so many completions at most. The answer is how many were taken.
+// Takes at most `most` completions. The answer is how many were taken.
 fn take_some(drainer: &mut Drainer<Cqe>, most: u16) -> Result<u16, NoMemory>
     ensures { SameGet (get_of drainer.old) (get_of drainer.new) }
 {
@@ -144,7 +144,7 @@ impl Hosted {
     ghost use Rattle.std.specs.Prelude.{◌≡◌, [], IfOk};
     ghost use Rattle.nvme_pool.specs.Seat.{SameSeat};
 
-    /// A front with its admin regions, of so many slots each, and with a seat that handed nothing.
+    /// A front with its admin regions, of these numbers of slots, and with a seat that has handed over no job.
     pub fn new(
         alloc: Global,
         config: FrontConfig,
@@ -196,7 +196,7 @@ impl Hosted {
         Ok(())
     }
 
-    /// The host of a submission region submits so many entries at most. The answer is how many it submitted.
+    /// The host of a submission region submits at most `most` entries. The answer is how many it submitted.
     pub fn submit(&mut self, region: usize, most: u16) -> u16
         ensures { self.new.front ≡ self.old.front }
     {
@@ -206,7 +206,7 @@ impl Hosted {
         put_some(&mut self.feeders[region], most)
     }
 
-    /// Each host submits so many entries at most.
+    /// Each host submits at most `most` entries.
     pub fn submit_all(&mut self, most: u16)
         ensures { self.new.front ≡ self.old.front }
     {
@@ -215,7 +215,7 @@ impl Hosted {
         }
     }
 
-    /// The host of a completion region collects so many completions at most. The answer is how many it collected.
+    /// The host of a completion region collects at most `most` completions. The answer is how many it collected.
     pub fn collect(&mut self, region: usize, most: u16) -> Result<u16, NoMemory>
         ensures { self.new.front ≡ self.old.front }
     {
@@ -243,7 +243,7 @@ impl Hosted {
         self.front.turn(rt, lanes)
     }
 
-    /// One turn. Where it is refused memory it goes on in another.
+    /// Makes a turn. Where it is refused memory, another turn goes on with it.
     pub fn turn<R: Wait>(&mut self, rt: &R, lanes: &Lanes) -> Result<Step, FrontError>
         requires { self.old.front.hands.seat.lane ≡ lanes.now }
         ensures { SameSeat self.old.front.hands.seat self.new.front.hands.seat }

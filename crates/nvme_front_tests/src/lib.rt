@@ -1,5 +1,5 @@
-//! Tests of a front with its hosts and workers: worked examples, refusals, long drives, hosts that submit any bytes, and
-//! refused memory.
+//! Tests of a front with its hosts and workers: worked examples, refusals, long drives, hosts that submit arbitrary
+//! bytes, and refused memory.
 #![tactic(auto)]
 
 #[cfg(test)]

@@ -1,4 +1,4 @@
-// What a front and a settling refuse.
+// The refusals of a front and of settling.
 ghost use Rattle.std.specs.Prelude.{◌≡◌, ◌≤◌, [], IfOk};
 ghost use Rattle.nvme_log.specs.Limits.{most_events};
 
@@ -15,7 +15,7 @@ use std::process::Abort;
 use std::sync::Wait;
 use std::test::*;
 
-// A rig with one admin command, which is submitted.
+// A rig with one admin command, already submitted.
 fn one_command(alloc: Global, max_events: u32) -> Result<Rig, Fail>
     requires { max_events ≤ most_events }
 {
@@ -25,7 +25,7 @@ fn one_command(alloc: Global, max_events: u32) -> Result<Rig, Fail>
     Ok(rig)
 }
 
-// A log with no free event but those that are kept for the end of a command stays as it is.
+// A log whose only free events are reserved for the end of a command stays as it is.
 fn refuses_events<R: Wait + Abort>(rt: &R, alloc: Global) -> Result<(), Fail> {
     let want = [Event::Fetch {
         region: 0,
@@ -42,7 +42,7 @@ fn refuses_events<R: Wait + Abort>(rt: &R, alloc: Global) -> Result<(), Fail> {
     Ok(())
 }
 
-// A log with two events more takes the first pick.
+// A log with two more events takes the first pick.
 fn takes_events<R: Wait + Abort>(rt: &R, alloc: Global) -> Result<(), Fail> {
     let mut rig = one_command(alloc, 259)?;
     assert_eq!(rt; rig.turn(rt), Ok(Step::Picked));
@@ -98,7 +98,7 @@ fn region_refusals(rt: HostRuntime) -> Result<(), Fail> {
     added
 }
 
-// A front with two hosts that submit, with its one command done, and what its log says.
+// Adds a second submission region with an empty script, does the one command, and answers the text of the log.
 fn play_exchange<R: Wait>(rt: &R, alloc: Global, rig: &mut Rig) -> Result<String, Fail> {
     rig.add_sq(alloc, 0x2000, 8, &[])?;
     rig.run_and_collect(rt)?;
@@ -140,7 +140,7 @@ fn exchange<R: Wait + Abort>(rt: &R, alloc: Global) -> Result<(), Fail> {
     }
 }
 
-// What came back of a settling that was refused is as it was, and goes on to its end.
+// What a refused settling hands back is as it was, and runs to its end.
 fn play_to_the_end<R: Wait + Abort>(rt: &R, rig: &mut Rig) -> Result<(), Fail> {
     assert_eq!(rt; (rig.hosts(), rig.log().len()), ((1, 1), 0));
     rig.run_and_collect(rt)?;

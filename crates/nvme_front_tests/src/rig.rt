@@ -44,7 +44,7 @@ fn work_off<R: Wait>(rt: &R, lanes: &Lanes, worker: &mut Worker) -> u32
 }
 
 impl Rig {
-    /// A front with its admin regions, of so many slots each.
+    /// A front with its admin regions, of these numbers of slots.
     pub fn new(
         alloc: Global,
         config: FrontConfig,
@@ -77,17 +77,17 @@ impl Rig {
         self.hosted.add_cq(alloc, address, slots)
     }
 
-    /// The host of a submission region submits so many entries at most. The answer is how many it submitted.
+    /// The host of a submission region submits at most `most` entries. The answer is how many it submitted.
     pub fn submit(&mut self, region: usize, most: u16) -> u16 {
         self.hosted.submit(region, most)
     }
 
-    /// Each host submits so many entries at most.
+    /// Each host submits at most `most` entries.
     pub fn submit_all(&mut self, most: u16) {
         self.hosted.submit_all(most);
     }
 
-    /// The host of a completion region collects so many completions at most. The answer is how many it collected.
+    /// The host of a completion region collects at most `most` completions. The answer is how many it collected.
     pub fn collect(&mut self, region: usize, most: u16) -> Result<u16, NoMemory> {
         self.hosted.collect(region, most)
     }
@@ -97,7 +97,7 @@ impl Rig {
         self.hosted.collect_all()
     }
 
-    /// One turn. Where it is refused memory it goes on in another.
+    /// Makes a turn. Where it is refused memory, another turn goes on with it.
     pub fn turn<R: Wait>(&mut self, rt: &R) -> Result<Step, FrontError> {
         self.hosted.turn(rt, &self.lanes)
     }
@@ -119,7 +119,7 @@ impl Rig {
         executed
     }
 
-    /// Turns of the front and steps of the workers until they can do no more.
+    /// Makes turns and steps the workers until they can do no more.
     pub fn run<R: Wait>(&mut self, rt: &R) -> Result<(), Fail> {
         for _ in 0..1000 {
             let step = self.turn(rt)?;
@@ -165,7 +165,7 @@ impl Rig {
         self.hosted.is_serving(region)
     }
 
-    /// How many hosts feed, and how many drain.
+    /// The numbers of feeders and of drainers.
     pub fn hosts(&self) -> (usize, usize) {
         (self.hosted.feeders.len(), self.hosted.drainers.len())
     }
@@ -198,7 +198,7 @@ impl Rig {
         }
     }
 
-    /// Settles a rig where that is refused, and gives why, with the rig.
+    /// Settles a rig that is to be refused. The answer is the refusal, with the rig.
     pub fn refused<R: Wait>(self, rt: &R, alloc: Global) -> Result<(SettleError, Rig), Fail> {
         match self.settle(rt, alloc) {
             Ok(settled) => {
@@ -290,7 +290,8 @@ fn rig_of(parts: Parts) -> Rig
     }
 }
 
-// Exchanges two feeders of different addresses. They are paired with a front's regions all the same.
+// Exchanges two feeders with different addresses. `ArePaired` still holds, since neither has the address of the region
+// at its new place.
 fn exchange(feeders: &mut Vec<Feeder<Sqe>>) -> Result<(), Fail>
     ensures { IfOk result (λ _. (v : FrontView) (drainers : List (Drainer Cqe)) → IsFedBy v feeders.old.items → IsDrainedBy v drainers → ArePaired v feeders.new.items drainers) }
 {
@@ -306,7 +307,7 @@ fn exchange(feeders: &mut Vec<Feeder<Sqe>>) -> Result<(), Fail>
     Ok(())
 }
 
-/// Settles a front with two feeders that are exchanged, and gives why that was refused, with what came back.
+/// Settles a front with two exchanged feeders. The answer is the refusal, with what came back.
 pub fn settle_exchanged<R: Wait>(
     rt: &R,
     alloc: Global,

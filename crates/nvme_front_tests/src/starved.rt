@@ -1,5 +1,5 @@
 // Calls that are refused memory. Between the lines `refuse` and `allow` on standard error memory may be refused from
-// outside, as `tests/memory` does; what a test prints is then the same. Alone each of these tests is refused nothing.
+// outside, as `tests/memory` does, and a test still prints the same. On its own each of these tests is refused nothing.
 ghost use Rattle.std.specs.Prelude.{◌≡◌, [], IfOk};
 ghost use Rattle.nvme_pool.specs.Pool.{IsPool};
 
@@ -26,7 +26,7 @@ fn allow(rt: &impl Eprint) {
     let _ = eprintln!(rt; "allow");
 }
 
-// A turn that may be refused memory, and then another. A rig's turn is made once more by itself.
+// A turn that may be refused memory, and then another. A rig makes its turn again by itself.
 fn turn_refused<R: Wait + Eprint>(rt: &R, rig: &mut Rig) -> Result<Step, FrontError> {
     refuse(rt);
     let step = rig.turn(rt);
@@ -37,7 +37,7 @@ fn turn_refused<R: Wait + Eprint>(rt: &R, rig: &mut Rig) -> Result<Step, FrontEr
     }
 }
 
-// Turns that may be refused memory, until nothing can be done.
+// Turns that may be refused memory, until nothing is left to do.
 fn run_refused<R: Wait + Eprint>(rt: &R, rig: &mut Rig) -> Result<(), Fail> {
     for _ in 0..1000 {
         match turn_refused(rt, rig)? {
@@ -80,7 +80,7 @@ fn turns_go_on_without_memory(rt: HostRuntime) -> Result<(), Fail> {
     Ok(())
 }
 
-// Settles a rig, and what comes back where that is refused memory.
+// Settles a rig, and again what comes back where memory is refused.
 fn settle_refused<R: Wait + Eprint>(rt: &R, alloc: Global, rig: Rig) -> Result<Settled, Fail> {
     refuse(rt);
     let settled = rig.settle(rt, alloc);
@@ -119,7 +119,7 @@ fn settling_goes_on_without_memory(rt: HostRuntime) -> Result<(), Fail> {
     Ok(())
 }
 
-// Adds a submission region, and what comes back where that is refused memory.
+// Adds a submission region, and again where memory is refused.
 fn add_sq_refused<R: Eprint + Abort>(
     rt: &R,
     front: &mut Front,
@@ -139,7 +139,7 @@ fn add_sq_refused<R: Eprint + Abort>(
     }
 }
 
-// Adds a completion region, and what comes back where that is refused memory.
+// Adds a completion region, and again where memory is refused.
 fn add_cq_refused<R: Eprint + Abort>(
     rt: &R,
     front: &mut Front,

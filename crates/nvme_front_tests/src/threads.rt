@@ -1,5 +1,5 @@
 // A front with eight workers on threads of their own: some 20,000 commands, slow drainers, and queues that are deleted
-// and created anew.
+// and created again.
 ghost use Rattle.std.specs.Prelude.{◌≡◌, ◌≤◌, [], map, IfOk};
 ghost use Rattle.std.specs.List.{All};
 ghost use Rattle.nvme_pool.specs.Pool.{IsPool};
@@ -24,29 +24,29 @@ use std::test::*;
 use std::thread;
 use std::thread::{Promise, PromisedHandle, Scope, Threads};
 
-// The identifiers of the queues, each of which is deleted and created anew on another region.
+// The queues have the identifiers 1 to `QUEUES`. Each is deleted and created again on another region.
 const QUEUES: u8 = 8;
 // The reads of each I/O submission region.
 const READS: u16 = 1500;
-// The turns at which a test fails.
+// The turns after which a test fails.
 const MOST_TURNS: u32 = 50_000_000;
 
-/// What the threads tell one another.
+/// The flags by which the threads tell one another what to do.
 #[derive(Drop)]
 struct Flags {
-    // The workers are to end.
+    // 1 once the workers are to end.
     stop: AtomicU64,
-    // The execution of this ticket waits until it is let go; none where it is `NO_TICKET`.
+    // The execution of this ticket is held until it is released. With `NO_TICKET` none is held.
     held: u32,
-    // It is let go.
+    // 1 once it is released.
     released: AtomicU64,
-    // It was begun.
+    // 1 once it was begun.
     entered: AtomicU64,
 }
 
 const NO_TICKET: u32 = 0xffff_ffff;
 
-/// A gate that holds one execution until it is let go.
+/// A gate that holds one execution until it is released.
 #[derive(Drop)]
 struct Hold<'a> {
     flags: &'a Flags,
@@ -79,7 +79,7 @@ impl<'a> Gate for Hold<'a> {
     fn leave(&mut self, _ticket: u32) {}
 }
 
-/// A worker comes back as the one that it was.
+/// What a thread promises: its worker comes back as the same worker.
 #[derive(Drop)]
 struct ComesBack(Snapshot<Worker>);
 
@@ -167,7 +167,7 @@ fn join_all<R: Threads>(rt: &R, handles: Vec<Handle>) -> Result<Vec<Worker>, All
     }
 }
 
-// The admin commands: the queues are created, the settings are asked for, and the queues are deleted and created anew.
+// The admin commands: the queues are created, the settings are asked for, and the queues are deleted and created again.
 fn admin_script(alloc: Global) -> Result<Vec<Sqe>, AllocError> {
     let mut all = Vec::new(alloc);
     for q in 1..=QUEUES {
@@ -185,7 +185,7 @@ fn admin_script(alloc: Global) -> Result<Vec<Sqe>, AllocError> {
     Ok(all)
 }
 
-// The submission queues are created, each on the region of its identifier and so many more.
+// Creates the submission queues, each on the region of its identifier plus `more`.
 fn create_queues(all: &mut Vec<Sqe>, more: u8) -> Result<(), AllocError>
     requires { more ≤ 8 }
 {
@@ -222,7 +222,7 @@ fn add_regions(alloc: Global, hosted: &mut Hosted) -> Result<(), Fail>
     Ok(())
 }
 
-// The front and its hosts: the rings of the completions are small.
+// The front and its hosts, with small completion rings.
 fn hosted(alloc: Global, seat: FrontSeat) -> Result<Hosted, Fail>
     requires { seat.handed ≡ [] }
     ensures { IfOk result (λ h. h.front.hands.seat ≡ seat) }
@@ -239,7 +239,7 @@ fn hosted(alloc: Global, seat: FrontSeat) -> Result<Hosted, Fail>
     }
 }
 
-// Lets the held execution go. Its queue's deletion was not finished before.
+// Releases the held execution. The deletion of its queue wasn't finished before.
 fn release(log: &[Event], flags: &Flags) -> Result<(), Fail> {
     let is_first = flags.released.swap(1, Ordering::SeqCst) == 0;
     if is_first && flags.held != NO_TICKET && was_closed(log, 1) {
@@ -248,9 +248,9 @@ fn release(log: &[Event], flags: &Flags) -> Result<(), Fail> {
     Ok(())
 }
 
-// Each host submits a few commands, the front makes a turn, and one host after the other collects two completions,
-// until nothing happens for a hundred turns. The held execution is let go after many turns in which its queue's
-// deletion was pending.
+// In each turn each host submits a few commands, the front makes a turn, and the next host collects two completions.
+// It ends when nothing happens for a hundred turns. The held execution is released after many turns in which the
+// deletion of its queue was pending.
 fn drive<R: Wait>(rt: &R, lanes: &Lanes, hosted: &mut Hosted, flags: &Flags) -> Result<(), Fail>
     requires { hosted.old.front.hands.seat.lane ≡ lanes.now }
     ensures { SameSeat hosted.old.front.hands.seat hosted.new.front.hands.seat }
@@ -298,7 +298,7 @@ fn work_beside<'s, E: 's, R: Threads + Wait + Sync + 's>(
     Ok(workers?)
 }
 
-// The same with a front that comes back too.
+// The same, and the front comes back too.
 fn within<'s, E: 's, R: Threads + Wait + Sync + 's>(
     scope: &Scope<'s, E>,
     rt: &'s R,
@@ -343,7 +343,7 @@ fn work_and_drive<R: Threads + Wait + Sync>(
     )
 }
 
-// A front with its hosts and all their regions, and eight workers, are run and settled.
+// Runs and settles a front with its hosts, all their regions and eight workers.
 fn run_flagged<R: Threads + Wait + Sync>(
     rt: &R,
     alloc: Global,
@@ -370,7 +370,7 @@ fn run<R: Threads + Wait + Sync>(rt: &R, alloc: Global, held: u32) -> Result<Set
     Ok(settled)
 }
 
-// Each queue was deleted and created anew, and all that was fetched was collected.
+// Each queue was deleted and created again, and all that was fetched was collected.
 fn check(rt: &impl Abort, settled: &Settled) {
     let log = settled.log.as_slice();
     let mut total = 0usize;
@@ -386,7 +386,7 @@ fn check(rt: &impl Abort, settled: &Settled) {
     }
     assert_eq!(rt; total, collected);
     assert!(rt; total > 20_000, "{total} commands");
-    // A region that is created anew is served to its end.
+    // A queue that is created again is served to its end.
     assert_eq!(rt; fetched(log, 2 * QUEUES), usize::from(READS));
 }
 

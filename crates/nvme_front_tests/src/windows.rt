@@ -1,4 +1,4 @@
-// A window that is as long as a window may be, in a ring that is longer.
+// A window of the greatest length, in a ring that is longer.
 ghost use Rattle.std.specs.Prelude.{◌≤◌};
 ghost use Rattle.nvme_log.specs.Limits.{most_events};
 
@@ -15,8 +15,8 @@ use std::test::*;
 // The commands of queue 1, of which 256 wait at a time.
 const READS: usize = 300;
 
-// The events before the pick of the Delete: 3 Fetches, twice a pick with a queue that opens and its Post, 256 Fetches, a
-// pick, and one Fetch more.
+// The events before the pick of the Delete: 3 Fetches, twice a pick with a queue that opens and its Post, 256 Fetches,
+// a pick, and one more Fetch.
 const BEFORE: u32 = 267;
 
 // The pick of the Delete, the beginning of the deletion and an abort for each candidate.
@@ -63,7 +63,7 @@ fn pick_three<R: Wait + Abort>(rt: &R, rig: &mut Rig) {
     }
 }
 
-// With exactly so many free events as it may need, the Delete is picked.
+// With exactly as many free events as it may need, the Delete is picked.
 fn begins<R: Wait + Abort>(rt: &R, alloc: Global) -> Result<(), Fail> {
     let mut rig = rig_of_512(alloc, BEFORE + ITS_OWN)?;
     pick_three(rt, &mut rig);
@@ -76,7 +76,7 @@ fn begins<R: Wait + Abort>(rt: &R, alloc: Global) -> Result<(), Fail> {
     Ok(())
 }
 
-// With one event less nothing is picked.
+// With one free event less nothing is picked.
 fn lacks_one<R: Wait + Abort>(rt: &R, alloc: Global) -> Result<(), Fail> {
     let mut rig = rig_of_512(alloc, BEFORE + ITS_OWN - 1)?;
     pick_three(rt, &mut rig);

@@ -1,4 +1,4 @@
-// A front whose workers are slow, and results that are of no job.
+// A front whose workers are slow, and results that belong to no job.
 ghost use Rattle.std.specs.Prelude.{◌≡◌, []};
 
 use crate::again::{add_cq_again, add_sq_again, pool_again, ring_again};
@@ -14,14 +14,14 @@ use std::process::Abort;
 use std::sync::Wait;
 use std::test::*;
 
-// The completions of the region that is deleted, in the order in which they are collected.
+// The completions of the region whose queue is deleted, in the order in which they are collected.
 const DELETED: [[u8; 16]; 3] = [
     [0, 0, 0, 0, 0, 0, 0, 0, 3, 0, 1, 0, 1, 0, 0x11, 0],
     [0, 0, 0, 0, 0, 0, 0, 0, 3, 0, 1, 0, 2, 0, 0x11, 0],
     [0, 0, 0, 0, 0, 0, 0, 0, 3, 0, 1, 0, 0, 0, 0, 0],
 ];
 
-// A front with its admin regions gains a result of no job of its own.
+// A front with its admin regions gains a result that belongs to none of its jobs.
 fn gain_stray<R: Wait + Abort>(
     rt: &R,
     alloc: Global,
@@ -74,7 +74,7 @@ fn turns<R: Wait + Abort>(rt: &R, rig: &mut Rig, want: &[Step]) -> Result<(), Fa
     Ok(())
 }
 
-// Adds the regions of a queue whose ring of completions has two slots, and submits its commands.
+// Adds the regions of a queue whose completion ring has two slots, and submits its commands.
 fn add_narrow(alloc: Global, rig: &mut Rig) -> Result<(), Fail> {
     rig.add_sq(alloc, 0x2000, 8, &[read(0), read(1), read(2)])?;
     rig.add_cq(alloc, 0x9000, 2)?;
@@ -109,7 +109,7 @@ fn end_deletion<R: Wait + Abort>(rt: &R, rig: &mut Rig) -> Result<(), Fail> {
     Ok(())
 }
 
-// The deletion of a queue with three commands, of which one runs. Its ring of completions takes one at a time.
+// The deletion of a queue with three commands, of which one runs. Its completion ring holds one at a time.
 fn play_narrow<R: Wait + Abort>(rt: &R, rig: &mut Rig) -> Result<(), Fail> {
     begin_deletion(rt, rig)?;
     collect_one(rt, rig)?;
@@ -200,7 +200,8 @@ fn capacities(rt: HostRuntime) -> Result<(), Fail> {
     Ok(())
 }
 
-// Fills all places but one, so that an Abort waits until one more is free. All commands are picked, so that it finds none.
+// Fills all places but one, so that an Abort waits until one more is free. All commands are picked, so the Abort finds
+// none.
 fn play_two_places<R: Wait + Abort>(rt: &R, alloc: Global, rig: &mut Rig) -> Result<(), Fail> {
     rig.add_sq(alloc, 0x2000, 256, &[read(7); 255])?;
     rig.add_cq(alloc, 0x9000, 2)?;
@@ -210,7 +211,7 @@ fn play_two_places<R: Wait + Abort>(rt: &R, alloc: Global, rig: &mut Rig) -> Res
     assert_eq!(rt; all.as_slice(), [(0, 1), (0, 1), (1, 255)].as_slice());
     turn(rt, rig, Step::Stalled)?;
     assert_eq!(rt; (rig.work(rt, 1), rig.work(rt, 0)), (255, 0));
-    // The ring of completions takes one, whose place is free then.
+    // The completion ring takes one, whose place is then free.
     turns(rt, rig, &[Step::Picked, Step::Moved])?;
     assert_eq!(rt; posted(rig.log()), 4);
     let answer = completion_of(rig.log(), 0, 2);

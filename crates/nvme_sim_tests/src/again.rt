@@ -1,4 +1,4 @@
-// Calls that are made once more where memory was refused, so that a test passes too where any one allocation fails.
+// Calls that are made again where memory was refused, so that a test passes even if any one allocation fails.
 use nvme_pool::Gate;
 use nvme_sim::{InputError, Mode, RunError, command, run, run_with, take_input};
 use std::alloc::{AllocError, Global};
@@ -6,7 +6,7 @@ use std::io::{Read, Write};
 use std::sync::Wait;
 use std::thread::Threads;
 
-// The bytes that a test has room for.
+// The bytes that a test makes room for.
 const PAGE: usize = 65_536;
 
 /// An empty list with room for a whole report.
@@ -17,7 +17,7 @@ pub fn page(alloc: Global) -> Result<Vec<u8>, AllocError> {
     Vec::with_capacity(alloc, PAGE)
 }
 
-/// A run of a workload with so many workers. Where memory was refused nothing was written.
+/// A run of a workload with this many workers. Where memory was refused nothing was written.
 pub fn run_again<W: Write, R: Threads + Wait + Sync>(
     rt: &R,
     alloc: Global,
@@ -36,7 +36,7 @@ pub fn run_again<W: Write, R: Threads + Wait + Sync>(
     }
 }
 
-/// What a run of a workload with so many workers writes.
+/// What a run of a workload with this many workers writes.
 pub fn report_again<R: Threads + Wait + Sync>(
     rt: &R,
     alloc: Global,
@@ -89,8 +89,8 @@ pub fn words_again(alloc: Global, line: &[&str]) -> Result<Vec<String>, AllocErr
     words_once(alloc, line)
 }
 
-// The status of the program over these words and streams, and what it told on standard error, once. Refused where it
-// told that memory was refused; nothing was written then.
+// The status of the program over these words and streams, and what it wrote to standard error, once. Refused where it
+// said that it was out of memory; it then wrote nothing else.
 fn told_once<I: Read + Drop, W: Write, R: Threads + Wait + Sync>(
     rt: &R,
     alloc: Global,
@@ -107,7 +107,7 @@ fn told_once<I: Read + Drop, W: Write, R: Threads + Wait + Sync>(
     Ok((status, errors))
 }
 
-/// The status of the program over these words and streams, and what it told on standard error.
+/// The status of the program over these words and streams, and what it wrote to standard error.
 pub fn told_again<I: Read + Copy + Drop, W: Write, R: Threads + Wait + Sync>(
     rt: &R,
     alloc: Global,
@@ -121,7 +121,7 @@ pub fn told_again<I: Read + Copy + Drop, W: Write, R: Threads + Wait + Sync>(
     told_once(rt, alloc, line, input, output)
 }
 
-/// What the program left.
+/// What the program left: its status and what it wrote.
 #[derive(Drop)]
 pub struct Left {
     pub status: u8,
@@ -129,7 +129,7 @@ pub struct Left {
     pub errors: Vec<u8>,
 }
 
-/// What the program left over these words and this input.
+/// What the program leaves with these words and this input.
 pub fn program_again<R: Threads + Wait + Sync>(
     rt: &R,
     alloc: Global,

@@ -1,4 +1,4 @@
-// The program by its streams: what fails.
+// The program with streams that fail.
 use crate::again::{Left, page, told_again, words_again};
 use crate::entries::{ONCE, read_of};
 use crate::fakes::{Endless, FailsAt, Takes};
@@ -8,7 +8,7 @@ use std::sync::Wait;
 use std::test::*;
 use std::thread::Threads;
 
-// What the program does with an output that takes so many bytes and then fails, or answers 0.
+// What the program does with an output that takes a number of bytes and then fails, or answers 0.
 fn run_into<R: Threads + Wait + Sync>(
     rt: &R,
     alloc: Global,
@@ -50,7 +50,7 @@ fn output_that_fails(rt: HostRuntime) -> Result<(), Fail> {
     Ok(())
 }
 
-// The status of the program over no input, where nothing can be told on standard error.
+// The status of the program with an empty input, where nothing can be written to standard error.
 fn deaf_status<R: Threads + Wait + Sync>(
     rt: &R,
     alloc: Global,

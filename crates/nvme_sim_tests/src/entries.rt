@@ -14,12 +14,12 @@ const READ: &str = "0200070001000000";
 /// The words that ask for the answer to one entry over 1,000 blocks.
 pub const ONCE: [&str; 4] = ["nvmearb", "once", "--blocks", "1000"];
 
-// A read of zeros, then the digits of CDW10 to CDW12, then an end.
+// A Read with zeros in CDW2 to CDW9, then the digits of CDW10 to CDW12, then an end.
 fn read_once(alloc: Global, dwords: &str, end: &str) -> Result<String, AllocError> {
     format!(in alloc; "{READ}{ZEROS}{dwords}000000000000000000000000{end}")
 }
 
-/// An entry that reads, with the digits of CDW10 to CDW12, and a text after it, made once more where memory was refused.
+/// A Read with the digits of CDW10 to CDW12, and a text after it. It is made again where memory was refused.
 pub fn read_of(alloc: Global, dwords: &str, end: &str) -> Result<String, AllocError> {
     if let Ok(text) = read_once(alloc, dwords, end) {
         return Ok(text);
@@ -27,7 +27,7 @@ pub fn read_of(alloc: Global, dwords: &str, end: &str) -> Result<String, AllocEr
     read_once(alloc, dwords, end)
 }
 
-// What the program answers to one read of 1,000 blocks.
+// What the program answers to one entry over 1,000 blocks.
 fn answer_to<R: Threads + Wait + Sync>(
     rt: &R,
     alloc: Global,
@@ -73,11 +73,11 @@ fn one_block_too_far(rt: HostRuntime) -> Result<(), Fail> {
     Ok(())
 }
 
-// A read in range, and two newlines.
+// A Read in range, and two newlines.
 const TWO_NEWLINES: &[u8; 130] =
     b"02000700010000000000000000000000000000000000000000000000000000000000000000000000100000000000000007000000000000000000000000000000\n\n";
 
-// The digits of the same entry, with another byte in place of the last.
+// The digits of the same entry, with this byte instead of the last.
 fn ending_in(last: u8) -> [u8; 128] {
     let mut text = [0; 128];
     text.copy_from_slice(&TWO_NEWLINES[..128]);

@@ -42,7 +42,7 @@ fn delete_with_three_waiting(rt: HostRuntime) -> Result<(), Fail> {
     loads(&rt, rt.alloc(), DELETE_THREE, DELETE_THREE_REPORT)
 }
 
-// The same with these admin commands in the place of the Delete.
+// The same with these admin commands instead of the Delete.
 fn loads_instead<R: Threads + Wait + Sync + Abort>(
     rt: &R,
     alloc: Global,
@@ -103,7 +103,7 @@ fn thousand_through_two_slots(rt: HostRuntime) -> Result<(), Fail> {
     Ok(())
 }
 
-// A run of one queue with so many reads does them all.
+// A run of one queue with this many reads does them all.
 fn reads_all<R: Threads + Wait + Sync + Abort>(
     rt: &R,
     alloc: Global,

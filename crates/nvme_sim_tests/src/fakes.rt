@@ -2,7 +2,7 @@
 pub use nvme_texts::Takes;
 use std::io::{Error, ErrorKind, Read, Result};
 
-/// A reader whose read of a number, from 0, fails, and that gives up to ten bytes of text at each other.
+/// A reader of which one read, by its number from 0, fails. Each other read gives up to ten bytes of text.
 #[derive(Clone, Copy)]
 pub struct FailsAt<'a> {
     pub text: &'a [u8],

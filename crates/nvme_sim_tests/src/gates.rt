@@ -14,7 +14,7 @@ use std::thread::Threads;
 
 // The turns for which a slow gate holds its first execution.
 const SLOW_TURNS: u32 = 50_000;
-// The turns after which a gate waits no longer for others, and its test fails.
+// The turns after which a gate stops waiting for others, and its test fails.
 const MOST_TURNS: u32 = 50_000_000;
 
 /// A gate that holds its first execution for a while.
@@ -60,7 +60,7 @@ fn run_slowly<R: Threads + Wait + Sync>(rt: &R, alloc: Global, text: &str) -> Re
     run_gated(rt, alloc, text, slow_gates(alloc)?)
 }
 
-// The same, made once more where memory was refused.
+// The same, made again where memory was refused.
 fn run_slowly_again<R: Threads + Wait + Sync>(
     rt: &R,
     alloc: Global,
@@ -93,7 +93,7 @@ fn patience_runs_out(rt: HostRuntime) -> Result<(), Fail> {
     Ok(())
 }
 
-/// Where executions wait until so many were begun.
+/// A place where executions wait until a number of them have begun.
 #[derive(Drop)]
 struct Meeting {
     wanted: u64,
@@ -103,7 +103,7 @@ struct Meeting {
 }
 
 impl Meeting {
-    // Waits until all that are wanted were begun.
+    // Waits until all that are wanted have begun.
     fn wait(&self) {
         for _ in 0..MOST_TURNS {
             if self.begun.load(Ordering::SeqCst) >= self.wanted {
@@ -115,7 +115,7 @@ impl Meeting {
     }
 }
 
-/// A gate at which each execution but the last of those that are wanted is held until all were begun.
+/// A gate that holds each execution until all that are wanted have begun.
 #[derive(Drop)]
 struct Meets<'a> {
     meeting: &'a Meeting,
@@ -140,7 +140,7 @@ impl<'a> Gate for Meets<'a> {
     fn leave(&mut self, _ticket: u32) {}
 }
 
-// So many gates of one meeting.
+// A gate of one meeting for each worker.
 fn meeting_gates<'a>(
     alloc: Global,
     meeting: &'a Meeting,
@@ -153,8 +153,8 @@ fn meeting_gates<'a>(
     Ok(gates)
 }
 
-// A run of a workload with so many workers, all of which execute at one time. Refused with `GaveUp` where one waited too
-// long for the others.
+// A run of a workload with this many workers, all of which execute at the same time. Refused with `GaveUp` where one
+// waited too long for the others.
 fn run_together<R: Threads + Wait + Sync>(
     rt: &R,
     alloc: Global,
@@ -174,7 +174,7 @@ fn run_together<R: Threads + Wait + Sync>(
     Ok(())
 }
 
-// The same, made once more where memory was refused, ends well.
+// Such a run, made again where memory was refused, succeeds.
 fn all_meet<R: Threads + Wait + Sync + Abort>(rt: &R, alloc: Global, text: &str, workers: u8) {
     let mut ran = run_together(rt, alloc, text, workers);
     if ran == Err(RunError::NoMemory) {

@@ -1,4 +1,4 @@
-// The input of the program, taken from readers that end, fail or go on for too long.
+// The input of the program, taken from readers that end, fail or give too much.
 use crate::again::taken;
 use crate::fakes::FailsAt;
 use nvme_sim::{InputError, MAX_INPUT, take_input};
@@ -6,7 +6,7 @@ use std::alloc::Global;
 use std::io::Read;
 use std::test::*;
 
-// So many zeros, taken once more where memory was refused.
+// `count` zeros, taken again where memory was refused.
 fn zeros(alloc: Global, count: u64) -> Result<Vec<u8>, InputError> {
     let taken = take_input(alloc, std::io::repeat(b'0').take(count));
     if matches!(taken, Err(InputError::NoMemory)) {

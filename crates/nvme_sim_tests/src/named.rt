@@ -14,7 +14,7 @@ fn named_again<'a>(alloc: Global, words: &'a [String]) -> Result<Option<&'a str>
     Ok(named)
 }
 
-// The file that the words name is this one.
+// The words name this file.
 fn names<R: Abort>(
     rt: &R,
     alloc: Global,

@@ -1,5 +1,5 @@
 // Calls that are refused memory. Between the lines `refuse` and `allow` on standard error memory may be refused from
-// outside, as `tests/memory` does; what a test prints is then the same. Alone each of these tests is refused nothing.
+// outside, as `tests/memory` does, and a test still prints the same. On its own each of these tests is refused nothing.
 use crate::workloads::FIVE_QUEUES;
 use nvme_sim::{InputError, take_input};
 use nvme_workload::{Workload, WorkloadError, read};

@@ -1,4 +1,4 @@
-// Writers and readers that fail, and refusals of a run in their order.
+// Writers and readers that fail, and the refusals of a run in their order.
 use crate::again::{page, run_again, taken, told_again};
 use crate::fakes::{Endless, Fails, FailsAt, Takes};
 use crate::workloads::{EMPTY, THOUSAND};
@@ -32,7 +32,7 @@ fn writer_and_reader_fail(rt: HostRuntime) -> Result<(), Fail> {
 
 const LOADED: [&str; 4] = ["nvmearb", "loaded", "--workers", "2"];
 
-// The program with this input, and an output of so much room, ends with this status and this line.
+// The program with this input, and an output with room for a number of bytes, ends with this status and this line.
 fn run_fails<I: Read + Copy + Drop, R: Threads + Wait + Sync + Abort>(
     rt: &R,
     alloc: Global,
@@ -91,7 +91,7 @@ fn refusals_in_order(rt: HostRuntime) -> Result<(), Fail> {
     Ok(())
 }
 
-// The words of a refusal, made once more where memory was refused.
+// The text of a refusal, made again where memory was refused.
 fn words_of(alloc: Global, error: RunError) -> Result<String, AllocError> {
     if let Ok(words) = format!(in alloc; "{error}") {
         return Ok(words);

@@ -1,4 +1,4 @@
-// Runs whose gates count the executions that they are told of, and sum their tickets.
+// Runs whose gates count executions and sum their tickets.
 use crate::again::page;
 use crate::workloads::{THOUSAND, reads_of_one_queue};
 use nvme_pool::Gate;
@@ -9,8 +9,8 @@ use std::sync::Wait;
 use std::test::*;
 use std::thread::Threads;
 
-/// A gate that counts the executions that it was told of, and sums the tickets of those that ended. All of it is what
-/// contracts see of it.
+/// A gate that counts the executions that it was told of, and sums the tickets of those that ended. Contracts see all
+/// of it.
 #[derive(Clone, Copy, Debug, PartialEq, Eq)]
 struct Tally {
     begun: u64,
@@ -41,7 +41,7 @@ impl Gate for Tally {
     }
 }
 
-// So many gates that were told of nothing.
+// A gate for each worker that was told of nothing.
 fn untold(alloc: Global, workers: u8) -> Result<Vec<Tally>, AllocError> {
     let mut gates = Vec::with_capacity(alloc, usize::from(workers))?;
     for _ in 0..workers {
@@ -61,7 +61,7 @@ fn together(gates: &[Tally]) -> Tally {
     all
 }
 
-// How many gates come back from a run of a workload with so many, and what they were told together, once.
+// How many gates come back from a run with that many, and what they were told together, once.
 fn told_once<R: Threads + Wait + Sync>(
     rt: &R,
     alloc: Global,
@@ -75,8 +75,8 @@ fn told_once<R: Threads + Wait + Sync>(
     Ok((gates.len(), together(gates.as_slice())))
 }
 
-// The gates of a run of so many reads, with 1 and with 8 workers, come back told of each ticket, 0, 1 and so on, once. A
-// run is made once more where memory was refused.
+// The gates of a run of this many reads, with 1 and with 8 workers, come back told once of each ticket from 0 on. A run
+// is made again where memory was refused.
 fn are_told<R: Threads + Wait + Sync + Abort>(
     rt: &R,
     alloc: Global,

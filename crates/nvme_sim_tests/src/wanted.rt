@@ -1,8 +1,8 @@
-// The reports that are wanted of the worked workloads.
+// The reports that runs of the worked workloads must write.
 pub use nvme_texts::DELETE_THREE_REPORT;
 use std::alloc::{AllocError, Global};
 
-/// Of five queues under weighted round robin.
+/// The report of five queues under weighted round robin.
 pub const FIVE_QUEUES_REPORT: &str = "loaded
 pick q0 1
 pick q0 1
@@ -58,7 +58,7 @@ cmd 4.4 0/80 00000000
 end
 ";
 
-/// Of the admin queue alone.
+/// The report of the admin queue alone.
 pub const EMPTY_REPORT: &str = "loaded
 sq 0 script 0 submitted 0 fetched 0 picked 0 aborted 0
 cq 0 collected 0
@@ -84,7 +84,7 @@ cmd 1.2 0/08 00000000
 end
 ";
 
-/// Of a queue that is created anew.
+/// The report of a queue that is deleted and created again.
 pub const CREATED_ANEW_REPORT: &str = "loaded
 pick q0 1
 pick q0 1
@@ -110,7 +110,7 @@ cmd 2.1 0/00 00000000
 end
 ";
 
-/// Of three commands of which an Abort takes the second.
+/// The report of three commands of which an Abort takes the second.
 pub const ABORT_ONE_REPORT: &str = "loaded
 pick q0 1
 pick q0 1
@@ -132,7 +132,7 @@ cmd 1.2 0/00 00000000
 end
 ";
 
-/// Of Aborts that find nothing.
+/// The report of Aborts that find nothing.
 pub const ABORT_NONE_REPORT: &str = "loaded
 pick q0 1
 pick q0 1
@@ -159,7 +159,7 @@ cmd 1.2 0/00 00000000
 end
 ";
 
-// So many lines, each the same.
+// Appends a line `count` times.
 fn push_lines(text: &mut String, line: &str, count: u16) -> Result<(), AllocError> {
     for _ in 0..count {
         text.push_str(line)?;
@@ -167,7 +167,7 @@ fn push_lines(text: &mut String, line: &str, count: u16) -> Result<(), AllocErro
     Ok(())
 }
 
-// The lines of so many commands of a region, each with success.
+// Appends the lines of the first `count` commands of a region, each with success.
 fn push_done(text: &mut String, alloc: Global, region: u8, count: u16) -> Result<(), AllocError> {
     for index in 0..count {
         let line = format!(in alloc; "cmd {region}.{index} 0/00 00000000\n")?;
@@ -187,7 +187,7 @@ cq 1 collected {count}
     )
 }
 
-// The report of so many reads of queue 1, each picked by itself and done.
+// The report of `count` reads of queue 1, each picked by itself and done.
 fn of_reads(alloc: Global, mode: &str, count: u16) -> Result<String, AllocError> {
     let mut text = String::from_str(alloc, mode)?;
     text.push_str("\n")?;
@@ -200,7 +200,7 @@ fn of_reads(alloc: Global, mode: &str, count: u16) -> Result<String, AllocError>
     Ok(text)
 }
 
-/// The same, made once more where memory was refused.
+/// The same, made again where memory was refused.
 pub fn report_of_reads(alloc: Global, mode: &str, count: u16) -> Result<String, AllocError> {
     if let Ok(text) = of_reads(alloc, mode, count) {
         return Ok(text);

@@ -1,8 +1,8 @@
-// The worked workloads, and changes of them.
+// The worked workloads, and changed ones.
 pub use nvme_texts::{CREATED_ANEW, DELETE_THREE, EMPTY, FIVE_QUEUES, THOUSAND};
 use std::alloc::{AllocError, Global};
 
-/// A text with each first text of these pairs replaced by its second.
+/// A text in which the first text of each of these pairs is replaced by the second.
 fn replaced(alloc: Global, text: &str, changes: &[(&str, &str)]) -> Result<String, AllocError> {
     let mut all = String::from_str(alloc, text)?;
     for (old, new) in changes {
@@ -11,7 +11,7 @@ fn replaced(alloc: Global, text: &str, changes: &[(&str, &str)]) -> Result<Strin
     Ok(all)
 }
 
-/// The same, made once more where memory was refused.
+/// The same, made again where memory was refused.
 pub fn changed(alloc: Global, text: &str, changes: &[(&str, &str)]) -> Result<String, AllocError> {
     if let Ok(all) = replaced(alloc, text, changes) {
         return Ok(all);
@@ -19,7 +19,7 @@ pub fn changed(alloc: Global, text: &str, changes: &[(&str, &str)]) -> Result<St
     replaced(alloc, text, changes)
 }
 
-// A text of a number, made once more where memory was refused.
+// A number as text, made again where memory was refused.
 fn count_of(alloc: Global, count: u16) -> Result<String, AllocError> {
     if let Ok(text) = format!(in alloc; "count = {count}") {
         return Ok(text);
@@ -27,7 +27,7 @@ fn count_of(alloc: Global, count: u16) -> Result<String, AllocError> {
     format!(in alloc; "count = {count}")
 }
 
-/// One I/O queue with so many reads, in a ring of eight slots, which isn't deleted.
+/// One I/O queue with `count` reads, in a ring of eight slots. The queue isn't deleted.
 pub fn reads_of_one_queue(alloc: Global, count: u16) -> Result<String, AllocError> {
     let count = count_of(alloc, count)?;
     changed(
