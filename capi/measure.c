@@ -1,5 +1,5 @@
 /*
- * Measures calls over the C library, for as many calls as the first word says. A row has the name of the row of
+ * Measures calls of the C library, as many as the first word says. A row has the name of the row of
  * nvme_bench that measures the same call from Rust.
  */
 #include <nvmearb.h>
@@ -50,7 +50,7 @@ static void picks(uint32_t mechanism, const char *what)
     tell(what);
 }
 
-/* Picks of a board with so many queues, each followed by as many commands that come. */
+/* Picks of a board with this many queues, each followed by the arrival of as many commands. */
 static void boards(uint32_t mechanism, uint16_t queues, const char *what)
 {
     nvmearb_board board;

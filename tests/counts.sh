@@ -1,11 +1,11 @@
 # SPDX-License-Identifier: MIT
-# What .ci/run and tests/run share: commands that end with a line `N passed, M failed`, and the sums of these lines.
+# What .ci/run and tests/run share: they run commands that end with a line `N passed, M failed`, and add up these lines.
 # shellcheck shell=bash
 shopt -s lastpipe
 passed=0 failed=0
 
-# part COMMAND ..: runs such a command, shows its name before that line, and adds what it counts. One that ends with no such
-# line, or with a bad status and no failure, counts as one failure.
+# part COMMAND ..: runs such a command, shows its name before that line, and adds its counts. A command that ends without
+# such a line, or with a bad status and no failure, counts as one failure.
 part() {
     local line last="" counts='^([0-9]+) passed, ([0-9]+) failed$' name=${*##*/} status
     "$@" | while IFS= read -r line || [ -n "$line" ]; do
@@ -22,7 +22,7 @@ part() {
     fi
 }
 
-# total: shows the sums, and tells whether nothing failed.
+# total: shows the sums, and succeeds if nothing failed.
 total() {
     echo "$passed passed, $failed failed"
     [ "$failed" = 0 ]

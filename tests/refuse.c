@@ -23,7 +23,7 @@
 #include <sys/syscall.h>
 #include <unistd.h>
 
-/* How many allocations and starts there were, and what is told at the end. Counted by all threads. */
+/* How many allocations and starts there were, which is told at the end. All threads count. */
 static atomic_ulong allocations, starts;
 static atomic_long blocks, threads;
 

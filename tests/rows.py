@@ -1,5 +1,5 @@
 # SPDX-License-Identifier: MIT
-"""What the tests over the built program share: rows that are counted, and small libraries that are loaded before it."""
+"""What the tests of the built program share: counted rows, and small libraries that are loaded before it."""
 import os
 import shutil
 import subprocess
@@ -10,10 +10,10 @@ from concurrent.futures import ThreadPoolExecutor
 
 TESTS = os.path.dirname(os.path.realpath(__file__))
 TOP = os.path.dirname(TESTS)
-# A run that takes longer hangs, in seconds.
+# A run that takes longer, in seconds, counts as hung.
 LONGEST = 120
 
-# What a run left.
+# What a run leaves.
 Left = namedtuple("Left", "status output errors")
 
 
@@ -44,7 +44,7 @@ class Rows:
         sys.exit(self.failed != 0)
 
     def program(self, crate, words):
-        """The program of a crate: the first word where there is one, else built first."""
+        """The program of a crate: the first word where there is one, otherwise built first."""
         if words:
             found = os.path.abspath(words[0])
         else:
@@ -65,7 +65,7 @@ class Rows:
 
 
 def run(words, stdin=b"", stdout=subprocess.PIPE, stderr=subprocess.PIPE, preexec_fn=None, **settings):
-    """Runs a program over these bytes, or over an open file. Settings of its environment are given by name."""
+    """Runs a program over these bytes, or over an open file, with these environment variables."""
     done = subprocess.run(
         words,
         **({"input": stdin} if isinstance(stdin, bytes) else {"stdin": stdin}),

@@ -1,5 +1,5 @@
 // SPDX-License-Identifier: MIT
-/* Loaded before a program: stops its threads for a while, wherever they are. A signal has a thread go on instruction by
+/* Loaded before a program: stops its threads for a while, wherever they are. A signal makes a thread go on instruction by
    instruction; at one of the program's own it sleeps. On x86-64 under Linux alone.
 
      STOP_SEED=N     which threads are stopped, when, and for how long
