@@ -1,21 +1,78 @@
--- A fault that reading a workload file answers is the first one of its bytes.
-use Rattle.std.proofs.Common.{◌≡◌, ℕ, refl, sym, ap, ◌∙◌, List, Err}
-use Rattle.nvme_workload.specs.Plan.{workload_of}
-use Rattle.nvme_workload.specs.Readings.{Fails}
+-- A fault of what a document is read as is the first one of its bytes, and so are its warnings.
+use Rattle.std.proofs.Common.{◌≡◌, ℕ, ◌≤◌, true, false, refl, sym, ap, subst, ◌∙◌, length, take, List, Some, None, Ok, Err, Result}
+use Rattle.std.specs.Prelude.{IfOk, IfErr}
+use Rattle.std.specs.Str.{is_utf8}
+use Rattle.toml.specs.Data.{Members}
+use Rattle.toml.specs.Parse.{parse_document}
+use Rattle.nvme_workload.specs.Plan.{Plan, plan_in, plan_of_text, workload_of}
 use Rattle.nvme_workload.specs.declared.error.WorkloadError.{WorkloadError}
 use Rattle.nvme_workload.specs.declared.error.WorkloadError.TheVariants as why
 use Rattle.nvme_lint.specs.declared.lints.LintError.{LintError}
 use Rattle.nvme_lint.specs.declared.lints.LintError.TheVariants as told
-use Rattle.nvme_lint.specs.Lints.{IsToldAs, TellsFault}
+use Rattle.nvme_lint.specs.declared.place.Place.{Place}
+use Rattle.nvme_lint.specs.declared.place.Place.TheVariants as at
+use Rattle.nvme_lint.specs.declared.warning.Warning.{Warning}
+use Rattle.nvme_lint.specs.Lints.{IsLawful, IsToldAs, TellsFault}
+use Rattle.nvme_lint.specs.Places.{IsPlaceIn, TellsPlace}
+use Rattle.nvme_lint.specs.Warnings.{AreWarningsOf}
+use Rattle.nvme_lint.specs.inside.Readings.{AreWarningsIn, IsToldBehind, IsToldOfTable, TellsFaultIn}
+use Rattle.nvme_lint.specs.inside.Tables.{IsOfTable}
 
--- where it isn't want of memory
-pub tells : (bytes : List ℕ) (e : WorkloadError) (r : LintError) → (e ≡ why.NoMemory → ⊥) → Fails e (workload_of bytes) → IsToldAs e r → TellsFault bytes r
-tells bytes e told.NoMemory other fails is = tt
-tells bytes why.NotUtf8 (told.Fault f) other fails is = fails ∙ ap (λ (x : WorkloadError). Err x) (sym is)
-tells bytes why.NotToml (told.Fault f) other fails is = fails ∙ ap (λ (x : WorkloadError). Err x) (sym is)
-tells bytes (why.Missing k) (told.Fault f) other fails is = fails ∙ ap (λ (x : WorkloadError). Err x) (sym is)
-tells bytes (why.Bad k) (told.Fault f) other fails is = fails ∙ ap (λ (x : WorkloadError). Err x) (sym is)
-tells bytes why.Unknown (told.Fault f) other fails is = fails ∙ ap (λ (x : WorkloadError). Err x) (sym is)
-tells bytes why.Limit (told.Fault f) other fails is = fails ∙ ap (λ (x : WorkloadError). Err x) (sym is)
-tells bytes why.Repeated (told.Fault f) other fails is = fails ∙ ap (λ (x : WorkloadError). Err x) (sym is)
-tells bytes why.NoMemory (told.Fault f) other fails is = absurd (other refl)
+-- ---- the bytes of a document
+
+-- they are read as the document
+pub of_document : (bytes : List ℕ) (members : Members) → is_utf8 bytes ≡ true → parse_document bytes ≡ Some members → workload_of bytes ≡ plan_in members
+unfolding workload_of plan_of_text
+of_document bytes members text parsed = rw (text, parsed) refl
+
+-- a text that is none
+pub of_no_document : (bytes : List ℕ) → is_utf8 bytes ≡ true → parse_document bytes ≡ None → workload_of bytes ≡ Err why.NotToml
+unfolding workload_of plan_of_text
+of_no_document bytes text parsed = rw (text, parsed) refl
+
+-- bytes that are no text
+pub of_no_text : (bytes : List ℕ) → is_utf8 bytes ≡ false → workload_of bytes ≡ Err why.NotUtf8
+unfolding workload_of
+of_no_text bytes no_text = rw no_text refl
+
+-- ---- what is told of the bytes
+
+pub told_fault : (bytes : List ℕ) (e : WorkloadError) (r : LintError) → workload_of bytes ≡ Err e → IsToldAs e r → TellsFault bytes r
+told_fault bytes e (told.Fault f) read is = read ∙ ap (λ (x : WorkloadError). Err x) (sym is)
+told_fault bytes e told.NoMemory read is = tt
+
+told_fault_in : (bytes : List ℕ) (reading : Result Plan WorkloadError) (r : LintError) → workload_of bytes ≡ reading → TellsFaultIn reading r → TellsFault bytes r
+told_fault_in bytes reading (told.Fault f) read is = read ∙ is
+told_fault_in bytes reading told.NoMemory read is = tt
+
+-- for all faults and warnings of an answer
+pub told_faults : {T : Type 0} (bytes : List ℕ) (reading : Result Plan WorkloadError) (r : Result T LintError) → workload_of bytes ≡ reading → IfErr r (TellsFaultIn reading) → IfErr r (TellsFault bytes)
+told_faults bytes reading (Ok ws) read told = tt
+told_faults bytes reading (Err e) read told = told_fault_in bytes reading e read told
+
+pub told_all : {T : Type 0} (bytes : List ℕ) (reading : Result Plan WorkloadError) (items : T → List Warning) (r : Result T LintError) → workload_of bytes ≡ reading
+    → IfOk r (λ ws. AreWarningsIn reading (items ws)) → IfOk r (λ ws. AreWarningsOf bytes (items ws))
+told_all bytes reading items (Ok ws) read (plan, is, all) = (plan, read ∙ is, all)
+told_all bytes reading items (Err e) read told = tt
+
+pub told_lawful : {T : Type 0} (bytes : List ℕ) (reading : Result Plan WorkloadError) (items : T → List Warning) (r : Result T LintError) → workload_of bytes ≡ reading
+    → IfOk r (λ ws. AreWarningsIn reading (items ws)) → IfOk r (λ ws. IsLawful bytes)
+told_lawful bytes reading items (Ok ws) read (plan, is, all) = (plan, read ∙ is)
+told_lawful bytes reading items (Err e) read told = tt
+
+-- a place of a table is one of any text
+of_table : (bytes : List ℕ) (place : Place) → IsOfTable place → IsPlaceIn bytes place
+of_table bytes (at.Text line column) h = absurd h
+of_table bytes at.Top h = tt
+of_table bytes (at.Submission region) h = tt
+of_table bytes (at.Item region item) h = tt
+of_table bytes (at.Completion region) h = tt
+
+pub told_of_table : (bytes : List ℕ) (r : LintError) → IsToldOfTable r → TellsPlace bytes r
+told_of_table bytes (told.Fault f) h = of_table bytes f.place h
+told_of_table bytes told.NoMemory h = tt
+
+-- and the place behind some of its first bytes is one of it
+pub told_behind : (bytes : List ℕ) (n : ℕ) (r : LintError) → n ≤ length bytes → IsToldBehind (take n bytes) r → TellsPlace bytes r
+told_behind bytes n (told.Fault f) within h = subst (λ (place : Place). IsPlaceIn bytes place) (sym h) (n, within, refl)
+told_behind bytes n told.NoMemory within h = tt

@@ -1,3 +1,4 @@
 -- What only private contracts cite: no public clause reaches it.
 pub mod Regions
+pub mod Readings
 pub mod Tables

@@ -12,7 +12,7 @@ pub enum Why {
     Syntax(toml::de::Error),
     /// This key, with a value of its kind and within its range.
     Value(Key),
-    /// One of these keys, and not this one.
+    /// One of these keys, and not this one, of which at most the first 100 characters are kept.
     Unknown { key: String, known: &'static [Key] },
     /// No more than so many at this key. At `Key::Count` it's the commands of all scripts that are too many.
     Most(Key),

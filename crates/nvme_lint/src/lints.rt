@@ -1,17 +1,22 @@
 ghost use Rattle.std.specs.Prelude.{◌≡◌, IfOk, IfErr};
+ghost use Rattle.toml.specs.View.{table_view};
+ghost use Rattle.nvme_workload.specs.Plan.{plan_in};
+ghost use Rattle.nvme_workload.specs.declared.error.WorkloadError.TheVariants as why;
 ghost use Rattle.nvme_lint.specs.Lints.{IsLawful, IsToldAs, TellsFault};
-ghost use Rattle.nvme_lint.specs.Places.{IsPlaceIn, TellsPlace, place_behind};
+ghost use Rattle.nvme_lint.specs.Places.{TellsPlace};
 ghost use Rattle.nvme_lint.specs.Warnings.{AreWarningsOf};
+ghost use Rattle.nvme_lint.specs.inside.Readings.{AreWarningsIn, IsToldBehind, IsToldOfTable, TellsFaultIn};
 ghost use Rattle.nvme_lint.specs.declared.lints.LintError.TheVariants as told;
 
 use crate::fault::{Fault, Why};
-use crate::place::{Place, behind};
+use crate::place::behind;
 use crate::places::place_of;
 use crate::warning::Warning;
 use crate::warnings::warnings_of;
-use nvme_workload::{WorkloadError, read};
+use nvme_workload::{DocumentError, WorkloadError, document, read_document};
 use std::alloc::{AllocError, Global};
 use thiserror::Error;
+use toml::Table;
 
 /// Why a workload file has no warnings.
 #[derive(Debug, Drop, Error)]
@@ -32,63 +37,74 @@ impl From<AllocError> for LintError {
     }
 }
 
-// The place and the cause in bytes that are not UTF-8, of which those up to the first fault are.
-fn in_bytes(valid: &[u8]) -> (Place, Why)
-    ensures { result.0 ≡ place_behind valid.now }
+// The fault of bytes that are not UTF-8, of which those up to the first fault are.
+fn in_bytes(valid: &[u8]) -> LintError
+    ensures fault { IsToldAs why.NotUtf8 result }
+    ensures place { IsToldBehind valid.now result }
 {
-    (behind(valid), Why::NotUtf8)
+    LintError::Fault(Fault {
+        error: WorkloadError::NotUtf8,
+        place: behind(valid),
+        why: Why::NotUtf8,
+    })
 }
 
-// The place and the cause in a text that is no TOML document.
-fn in_text(text: &str, error: toml::de::Error) -> (Place, Why)
-    ensures { IsPlaceIn text.now result.0 }
+// The fault of a text that is no TOML document.
+fn in_text(text: &str, error: toml::de::Error) -> LintError
+    ensures fault { IsToldAs why.NotToml result }
+    ensures place { TellsPlace text.now result }
 {
     let start = error.span().map_or(0, |span| span.start);
     let bytes = text.as_bytes();
-    let place = behind(&bytes[..start.min(bytes.len())]);
-    (place, Why::Syntax(error))
+    LintError::Fault(Fault {
+        error: WorkloadError::NotToml,
+        place: behind(&bytes[..start.min(bytes.len())]),
+        why: Why::Syntax(error),
+    })
 }
 
-// The place and the cause of the first fault of a file.
-fn located(alloc: Global, bytes: &[u8], error: WorkloadError) -> Result<(Place, Why), AllocError>
-    ensures { IfOk result (λ found. IsPlaceIn bytes.now found.0) }
-{
-    let text = match std::str::from_utf8(bytes) {
-        Ok(text) => text,
-        Err(fault) => {
-            let valid = fault.valid_up_to().min(bytes.len());
-            return Ok(in_bytes(&bytes[..valid]));
-        }
-    };
-    match toml::table_from_str(alloc, text) {
-        Ok(table) => place_of(alloc, &table, error),
-        Err(fault) if fault.is_memory() => Err(AllocError),
-        Err(fault) => Ok(in_text(text, fault)),
-    }
-}
-
-// The first fault of a file, with its place.
-fn told(alloc: Global, bytes: &[u8], error: WorkloadError) -> LintError
+// The first fault of a document, with its place.
+fn in_document(alloc: Global, table: &Table, error: WorkloadError) -> LintError
     ensures fault { IsToldAs error result }
-    ensures place { TellsPlace bytes.now result }
+    ensures place { IsToldOfTable result }
 {
-    match located(alloc, bytes, error) {
+    match place_of(alloc, table, error) {
         Ok((place, why)) => LintError::Fault(Fault { error, place, why }),
         Err(_) => LintError::NoMemory,
     }
 }
 
+// What comes to nothing of the workload of a document, or its first fault.
+fn lint_document(alloc: Global, table: &Table) -> Result<Vec<Warning>, LintError>
+    ensures warnings { IfOk result (λ ws. AreWarningsIn (plan_in (table_view table.now)) ws.items) }
+    ensures fault { IfErr result (TellsFaultIn (plan_in (table_view table.now))) }
+    ensures place { IfErr result IsToldOfTable }
+{
+    match read_document(alloc, table) {
+        Ok(workload) => Ok(warnings_of(alloc, &workload)?),
+        Err(WorkloadError::NoMemory) => Err(LintError::NoMemory),
+        Err(error) => Err(in_document(alloc, table, error)),
+    }
+}
+
 /// What the writer of a workload file wants to know: of a lawful one what comes to nothing, else its first fault, which is
-/// that of `nvme_workload::read`, with its place and what was expected there. It reads the file as `read` does.
+/// that of `nvme_workload::read`, with its place and what was expected there. It reads the file once, as `read` does.
 pub fn lint(alloc: Global, bytes: &[u8]) -> Result<Vec<Warning>, LintError>
     ensures lawful { IfOk result (λ _. IsLawful bytes.now) }
     ensures warnings { IfOk result (λ ws. AreWarningsOf bytes.now ws.items) }
     ensures fault { IfErr result (TellsFault bytes.now) }
     ensures place { IfErr result (TellsPlace bytes.now) }
 {
-    match read(alloc, bytes) {
-        Ok(workload) => Ok(warnings_of(alloc, &workload)?),
-        Err(WorkloadError::NoMemory) => Err(LintError::NoMemory),
-        Err(error) => Err(told(alloc, bytes, error)),
+    let text = match std::str::from_utf8(bytes) {
+        Ok(text) => text,
+        Err(fault) => {
+            let valid = fault.valid_up_to().min(bytes.len());
+            return Err(in_bytes(&bytes[..valid]));
+        }
+    };
+    match document(alloc, text) {
+        Ok(table) => lint_document(alloc, &table),
+        Err(DocumentError::NoMemory) => Err(LintError::NoMemory),
+        Err(DocumentError::NotToml(error)) => Err(in_text(text, error)),
     }
 }

@@ -12,6 +12,9 @@ use nvme_workload::{Key, MAX_COMMANDS, WorkloadError};
 use std::alloc::{AllocError, Global};
 use toml::{Table, Value};
 
+// How many characters of an unknown key are told.
+const KEY_CHARACTERS: usize = 100;
+
 // Whether the fault stands in this very table, which may have these keys.
 fn stands_in(table: &Table, keys: &[Key], fault: WorkloadError) -> bool {
     match fault {
@@ -199,6 +202,15 @@ fn at_place(table: &Table, place: Place) -> (Option<&Table>, &'static [Key]) {
     }
 }
 
+// The first characters of a key.
+fn beginning_of(alloc: Global, key: &str) -> Result<String, AllocError> {
+    let mut beginning = String::new(alloc);
+    for character in key.chars().take(KEY_CHARACTERS) {
+        beginning.push(character)?;
+    }
+    Ok(beginning)
+}
+
 // The unknown key at a place.
 fn unknown_at(alloc: Global, table: &Table, place: Place) -> Result<Why, AllocError> {
     let (found, known) = at_place(table, place);
@@ -206,7 +218,7 @@ fn unknown_at(alloc: Global, table: &Table, place: Place) -> Result<Why, AllocEr
         Some(found) => unknown_key(known, found).unwrap_or(""),
         None => "",
     };
-    let key = String::from_str(alloc, key)?;
+    let key = beginning_of(alloc, key)?;
     Ok(Why::Unknown { key, known })
 }
 

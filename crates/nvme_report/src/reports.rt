@@ -27,6 +27,7 @@ pub enum Mode {
 
 /// Writes the report of a run, whose log posts no place twice. It takes no memory. `WriteFault` comes only where a
 /// write failed or took no byte, and the writer got a prefix of the report then.
+#[inline(never)]
 pub fn report<W: Write>(settled: &Settled, mode: Mode, writer: &mut W) -> Result<(), WriteFault>
     requires posted_once { (r i : ℕ) → posts_of (reverse settled.now.log.items) r i ≤ 1 }
     ensures { Writes (W.contents writer.old) (W.contents writer.new) result (report_text mode settled.now) }

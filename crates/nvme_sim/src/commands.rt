@@ -64,7 +64,7 @@ fn helped<W: Write>(text: clap::Error, output: &mut W) -> Result<Answer, Fault>
     }
 }
 
-// Does what the words ask for.
+// Does what the words ask for. What it calls isn't inlined, so that the stack of a request isn't that of all requests.
 fn done<R: Read + Drop, W: Write, T: Threads + Wait + Sync>(
     rt: &T,
     alloc: Global,

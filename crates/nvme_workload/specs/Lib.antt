@@ -4,3 +4,4 @@ pub mod Scripts
 pub mod Regions
 pub mod Plan
 pub mod Sound
+pub mod Documents

@@ -1,11 +1,14 @@
-ghost use Rattle.std.specs.Prelude.{◌≡◌, ◌+◌, ◌≤◌, Ok, IfOk, IfErr, OnOk, IsErrOf, length, vec_len, IsUtf8};
+ghost use Rattle.std.specs.Prelude.{◌≡◌, ◌+◌, ◌≤◌, Ok, Some, IfOk, IfErr, OnOk, IsErrOf, length, vec_len, IsUtf8};
+ghost use Rattle.toml.specs.Parse.{parse_document};
 ghost use Rattle.toml.specs.View.{view, table_view};
 ghost use Rattle.nvme_workload.specs.Readings.{Fails, Gives, seen, number_at};
 ghost use Rattle.nvme_workload.specs.Plan.{plan_of, mechanism_of, with_size, sizes_of, plan_in, plan_of_text, workload_of};
+ghost use Rattle.nvme_workload.specs.Documents.{IsFaultOf};
 ghost use Rattle.nvme_workload.specs.Sound.{IsLimit, AreSizes, IsSound};
 
 use crate::error::WorkloadError;
 use crate::key::Key;
+use crate::memory::is_enough_for;
 use crate::plan::Workload;
 use crate::regions::{completions_of, submissions_of};
 use crate::values::{array_of, number_at, only_keys, value_at, whole};
@@ -81,9 +84,9 @@ fn limit_at(table: &Table, key: Key) -> Result<u16, WorkloadError>
     Ok(limit as u16)
 }
 
-// The file's own table.
+/// Reads a workload of the document of a file: what it says, or its first fault, as `read` does.
 #[tactic(auto, unfolding(crate::specs::Plan::plan_in))]
-fn workload_in(alloc: Global, table: &Table) -> Result<Workload, WorkloadError>
+pub fn read_document(alloc: Global, table: &Table) -> Result<Workload, WorkloadError>
     ensures value { Gives (seen plan_of result) (plan_in (table_view table.now)) }
     ensures sound { IfOk result (λ w. IsSound (plan_of w)) }
 {
@@ -111,16 +114,40 @@ fn workload_in(alloc: Global, table: &Table) -> Result<Workload, WorkloadError>
     })
 }
 
-// The document of a text.
+/// Why a text gives no document.
+#[derive(Debug, Drop)]
+pub enum DocumentError {
+    /// The text is not a TOML document.
+    NotToml(toml::de::Error),
+    /// Memory was refused, or `MAX_MEMORY` may not be enough.
+    NoMemory,
+}
+
+/// The document of a text. A text that may take more than `MAX_MEMORY` isn't read.
+pub fn document(alloc: Global, text: &str) -> Result<Table, DocumentError>
+    ensures value { IfOk result (λ t. parse_document text.now ≡ Some (table_view t)) }
+    ensures not_toml { IfErr result (IsFaultOf text.now) }
+{
+    if !is_enough_for(text.as_bytes()) {
+        return Err(DocumentError::NoMemory);
+    }
+    match toml::table_from_str(alloc, text) {
+        Ok(table) => Ok(table),
+        Err(fault) if fault.is_memory() => Err(DocumentError::NoMemory),
+        Err(fault) => Err(DocumentError::NotToml(fault)),
+    }
+}
+
+// The workload of a text.
 #[tactic(auto, unfolding(crate::specs::Plan::plan_of_text))]
 fn workload_of_text(alloc: Global, text: &str) -> Result<Workload, WorkloadError>
     ensures value { Gives (seen plan_of result) (plan_of_text text.now) }
     ensures sound { IfOk result (λ w. IsSound (plan_of w)) }
 {
-    match toml::table_from_str(alloc, text) {
-        Ok(table) => workload_in(alloc, &table),
-        Err(fault) if fault.is_memory() => Err(WorkloadError::NoMemory),
-        Err(_) => Err(WorkloadError::NotToml),
+    match document(alloc, text) {
+        Ok(table) => read_document(alloc, &table),
+        Err(DocumentError::NoMemory) => Err(WorkloadError::NoMemory),
+        Err(DocumentError::NotToml(_)) => Err(WorkloadError::NotToml),
     }
 }
 
@@ -129,8 +156,8 @@ fn workload_of_text(alloc: Global, text: &str) -> Result<Workload, WorkloadError
 /// keys in the order of `Key`, and an array item by item, but its length before its items. All of
 /// `submission`, scripts included, comes before `completion`.
 ///
-/// `NoMemory` comes in a fault's place only where memory was refused before that fault was found. On
-/// a fault nothing is kept.
+/// `NoMemory` comes in a fault's place only where memory was refused before that fault was found, or where `MAX_MEMORY`
+/// may not be enough for the text. On a fault nothing is kept.
 #[tactic(auto, unfolding(crate::specs::Plan::workload_of))]
 pub fn read(alloc: Global, bytes: &[u8]) -> Result<Workload, WorkloadError>
     ensures value { Gives (seen plan_of result) (workload_of bytes.now) }

@@ -4,13 +4,15 @@
 mod error;
 mod file;
 mod key;
+mod memory;
 mod plan;
 mod regions;
 mod scripts;
 mod values;
 
 pub use error::WorkloadError;
-pub use file::read;
+pub use file::{DocumentError, document, read, read_document};
 pub use key::Key;
+pub use memory::MAX_MEMORY;
 pub use plan::{CqPlan, Sequence, SqPlan, Workload};
 pub use scripts::MAX_COMMANDS;

@@ -105,7 +105,9 @@ fn put_places<W: Write>(
     Ok(())
 }
 
-/// Writes the lines of the fetched places of all regions.
+/// Writes the lines of the fetched places of all regions. (Not inlined, so that its notes and what the counting of the log
+/// takes don't lie on the stack at once.)
+#[inline(never)]
 pub fn put_completions<W: Write>(
     log: &[Event],
     counts: &[Counts],
@@ -116,7 +118,7 @@ pub fn put_completions<W: Write>(
     requires counted { AreCounted (reverse log.now) counts.now }
     ensures { Writes (W.contents writer.old) (W.contents writer.new) result (flat_map (cmd_lines log.now) (upto regions)) }
 {
-    let mut posted = [0; PLACES];
+    let mut posted = [0u16; PLACES];
     let hints = Hints::of(log, counts, &mut posted);
     for region in 0..regions {
         let count = counts_at(counts, region).fetched;

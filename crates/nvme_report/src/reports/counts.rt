@@ -53,7 +53,8 @@ fn add(counts: &mut [Counts], event: &Event, opened: &mut [Option<u8>])
     }
 }
 
-/// What a log says of each submission region that an event can name.
+/// What a log says of each submission region that an event can name. (Not inlined, as `put_completions`.)
+#[inline(never)]
 pub fn counts_of(log: &[Event]) -> [Counts; REGIONS]
     ensures { AreCounted (reverse log.now) result }
 {

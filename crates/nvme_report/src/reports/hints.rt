@@ -5,12 +5,15 @@ use nvme_front::Event;
 /// For how many places there is room: the commands of the largest workload.
 pub const PLACES: usize = 65_536;
 
-/// For each place, region by region, where in a log its completion is likely posted.
+// How many events in a row are noted as one, so that a note of the longest log has 16 bits.
+const RUN: usize = 32;
+
+/// For each place, region by region, in which run of events of a log its completion is likely posted.
 #[derive(Drop)]
 pub struct Hints<'a> {
     // The number of the first place of each region.
     first: [usize; REGIONS],
-    posted: &'a mut [u32],
+    posted: &'a mut [u16],
 }
 
 // The number of the first place of each region.
@@ -26,7 +29,7 @@ fn first_places(counts: &[Counts]) -> [usize; REGIONS] {
 
 impl<'a> Hints<'a> {
     /// What a log hints, with what it says of each region. `posted` is overwritten.
-    pub fn of(log: &[Event], counts: &[Counts], posted: &'a mut [u32]) -> Hints<'a> {
+    pub fn of(log: &[Event], counts: &[Counts], posted: &'a mut [u16]) -> Hints<'a> {
         let mut hints = Hints {
             first: first_places(counts),
             posted,
@@ -48,15 +51,15 @@ impl<'a> Hints<'a> {
     fn note(&mut self, region: usize, index: usize, at: usize) {
         if let Some(number) = self.number_of(region, index)
             && let Some(posted) = self.posted.get_mut(number)
-            && let Ok(at) = u32::try_from(at)
+            && let Ok(run) = u16::try_from(at / RUN)
         {
-            *posted = at;
+            *posted = run;
         }
     }
 
-    /// Where the completion of a place is likely posted.
+    /// The first event of the run in which the completion of a place is likely posted.
     pub fn posted_at(&self, region: usize, index: usize) -> Option<usize> {
         let number = self.number_of(region, index)?;
-        self.posted.get(number).map(|at| *at as usize)
+        self.posted.get(number).map(|run| usize::from(*run) * RUN)
     }
 }

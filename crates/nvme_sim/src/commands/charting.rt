@@ -12,6 +12,7 @@ use std::alloc::Global;
 use std::io::{Read, Write};
 
 /// Writes a picture of a trace.
+#[inline(never)]
 pub(super) fn charted<R: Read + Drop, W: Write>(
     alloc: Global,
     input: R,

@@ -35,6 +35,7 @@ fn put_unlawful<W: Write>(unlawful: &Unlawful, output: &mut W) -> Result<Answer,
 }
 
 /// Checks a trace, and writes whether each pick is the lawful one, or the first that is not.
+#[inline(never)]
 pub(super) fn checked<R: Read + Drop, W: Write>(
     alloc: Global,
     input: R,

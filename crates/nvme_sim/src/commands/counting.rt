@@ -13,6 +13,7 @@ use std::alloc::Global;
 use std::io::{Read, Write};
 
 /// Writes what a trace shows in numbers.
+#[inline(never)]
 pub(super) fn counted<R: Read + Drop, W: Write>(
     alloc: Global,
     format: Format,

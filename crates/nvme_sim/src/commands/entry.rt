@@ -11,6 +11,7 @@ use std::alloc::Global;
 use std::io::{Read, Write};
 
 /// Answers one entry over a namespace of so many blocks.
+#[inline(never)]
 pub(super) fn answered<R: Read + Drop, W: Write>(
     alloc: Global,
     blocks: u64,

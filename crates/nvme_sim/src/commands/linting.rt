@@ -22,6 +22,7 @@ fn write_warnings<W: Write>(warnings: &[Warning], output: &mut W) -> io::Result<
 
 /// Tells where a workload is at fault, or writes what of it comes to nothing.
 #[tactic(auto, using(crate::proofs::Inputs::bad_file, crate::proofs::Inputs::has_warnings, crate::proofs::Inputs::has_no_warning))]
+#[inline(never)]
 pub(super) fn linted<R: Read + Drop, W: Write>(
     alloc: Global,
     input: R,

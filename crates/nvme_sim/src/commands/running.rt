@@ -20,6 +20,7 @@ use std::sync::Wait;
 use std::thread::Threads;
 
 /// Runs a workload with so many workers, and writes its report.
+#[inline(never)]
 pub(super) fn ran<R: Read + Drop, W: Write, T: Threads + Wait + Sync>(
     rt: &T,
     alloc: Global,

@@ -21,6 +21,7 @@ use std::sync::Wait;
 use std::thread::Threads;
 
 /// Runs a workload with so many workers, and writes its trace.
+#[inline(never)]
 pub(super) fn traced<R: Read + Drop, W: Write, T: Threads + Wait + Sync>(
     rt: &T,
     alloc: Global,

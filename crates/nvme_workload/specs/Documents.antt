@@ -1,0 +1,10 @@
+-- Why a text gives no document.
+use Rattle.std.specs.Prelude.{◌≡◌, ℕ, List, None}
+use Rattle.toml.specs.Parse.{parse_document}
+use Rattle.nvme_workload.specs.declared.file.DocumentError.{DocumentError}
+use Rattle.nvme_workload.specs.declared.file.DocumentError.TheVariants as no_document
+
+-- that a text is no document is told of such a text alone. Want of memory is told as such
+abbrev pub IsFaultOf : List ℕ → DocumentError → Type 0
+IsFaultOf text (no_document.NotToml error) = parse_document text ≡ None
+IsFaultOf text no_document.NoMemory = Unit {0}
