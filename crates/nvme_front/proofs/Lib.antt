@@ -33,6 +33,7 @@ pub mod ServedAnswers
 pub mod ClearAnswer
 pub mod Executions
 pub mod Results
+pub mod ClosedRegions
 pub mod GainOne
 pub mod HostPairs
 pub mod Loading

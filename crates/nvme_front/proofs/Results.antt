@@ -1,5 +1,5 @@
 -- That each answered I/O command has its ticket, and that its result was gained.
-use Rattle.std.proofs.Common.{◌≡◌, ℕ, ◌+◌, ◌≤◌, Bool, true, false, not, nat_lt, if◌then◌else◌, ◌==◌, ◌&&◌, List, [], ◌∷◌, ◌++◌, length, map, Some, refl, sym, ap, subst, ◌∙◌, arith, inl, inr, sum_by, slice_index_or}
+use Rattle.std.proofs.Common.{◌≡◌, ℕ, ◌+◌, ◌≤◌, Bool, true, false, not, nat_lt, if◌then◌else◌, ◌==◌, ◌&&◌, List, [], ◌∷◌, ◌++◌, length, map, refl, sym, ap, subst, ◌∙◌, arith, inl, inr, sum_by, slice_index_or}
 use Rattle.std.specs.Prelude.{reverse, slice_get}
 use Rattle.std.specs.List.{All}
 use Rattle.std.proofs.lemmas.Bool.{eq-eqb, ne_eqb, ltb-true}
@@ -9,15 +9,14 @@ use Rattle.std.proofs.lemmas.List.Sums.{sum_by-cons, sum_by-append, sum_by-le-su
 use Rattle.std.proofs.lemmas.Option.{same_Some, slice_get_within, get_or_from_slice_get}
 use Rattle.nvme_pool.specs.Jobs.{result_of}
 use Rattle.nvme_pool.specs.declared.jobs.Job.{Job}
-use Rattle.nvme_pool.specs.declared.jobs.Finished.{Finished}
 use Rattle.nvme_log.specs.declared.event.Event.{Event}
 use Rattle.nvme_log.specs.Rules.{Past}
-use Rattle.nvme_log.specs.Places.{Place, fetched, fate_of, is_waiting, is_picked, is_aborted, is_served, one_if}
+use Rattle.nvme_log.specs.Places.{Place, fetched, fate_of, is_waiting, is_picked, is_served, one_if}
 use Rattle.nvme_log.specs.Dispatches.{dispatched, place_at, IsJobOf}
 use Rattle.nvme_log.proofs.Posts.{posts_of-some}
 use Rattle.nvme_log.proofs.Tickets.{job_there}
 use Rattle.nvme_log.proofs.Waiting.{one_fate_of}
-use Rattle.nvme_state.specs.Answers.{IsAnsweredIo, HasTicket, AnswersHaveTickets, HasResult, AnswersHaveResults}
+use Rattle.nvme_state.specs.Answers.{IsAnsweredIo, HasTicket, AnswersHaveTickets, AnswersHaveResults}
 use Rattle.nvme_state.specs.Hands.{Hands, in_hand, job_in}
 use Rattle.nvme_state.specs.declared.candidate.Dispatched.{Dispatched}
 use Rattle.nvme_state.specs.inside.Content.{Content}

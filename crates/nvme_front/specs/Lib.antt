@@ -1,6 +1,7 @@
 pub mod Adding
 pub mod Ends
 pub mod Hosts
+pub mod Laws
 pub mod LoadedFront
 pub mod Settles
 pub mod Unsettled

@@ -10,6 +10,7 @@ mod fetching;
 mod finishing;
 mod front;
 mod handing;
+pub mod laws;
 mod limits;
 mod logging;
 mod picking;

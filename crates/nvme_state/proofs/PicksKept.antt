@@ -1,7 +1,7 @@
 -- Which places are picked after an event that picks no I/O command, and which after an I/O pick.
-use Rattle.std.proofs.Common.{◌≡◌, ℕ, ◌+◌, ◌<◌, ◌≤◌, ◌==◌, nat_lt, Bool, true, false, if◌then◌else◌, List, [], ◌∷◌, ◌++◌, length, map, take, get_or, Option, Some, None, refl, sym, ap, subst, ◌∙◌, arith, inl, inr, length-append}
+use Rattle.std.proofs.Common.{◌≡◌, ℕ, ◌+◌, ◌<◌, ◌≤◌, ◌==◌, Bool, true, false, if◌then◌else◌, List, [], ◌∷◌, ◌++◌, length, map, take, Option, Some, None, refl, sym, ap, subst, ◌∙◌, arith, inl, inr, length-append}
 use Rattle.std.specs.Prelude.{slice_get, option_map}
-use Rattle.std.proofs.lemmas.Bool.{eq-eqb, ne_eqb, cases_eq, cases_lt, lt-ltb, le-ltb}
+use Rattle.std.proofs.lemmas.Bool.{eq-eqb, ne_eqb, cases_eq, cases_lt, le-ltb}
 use Rattle.std.proofs.lemmas.List.{length_push, length-map, get_or-append-add}
 use Rattle.std.proofs.lemmas.Option.{slice_get-map, slice_get-get_or, get_or_from_slice_get}
 use Rattle.nvme_entry.specs.declared.submission.Sqe.{Sqe}
@@ -12,9 +12,9 @@ use Rattle.nvme_log.specs.declared.event.Event.TheVariants as event
 use Rattle.nvme_log.specs.Rules.{Past}
 use Rattle.nvme_log.specs.Queues.{Queue, admin_queue, open_sq, has_region}
 use Rattle.nvme_log.specs.Places.{Place, fetched, picked, waiting, fate_of, is_picked, is_aborted, unaborted_below, one_if}
-use Rattle.nvme_log.specs.Effects.{abort_in, closing_of}
+use Rattle.nvme_log.specs.Effects.{abort_in}
 use Rattle.nvme_log.specs.Dispatches.{place_at}
-use Rattle.nvme_log.proofs.Waiting.{times_among, contains-times, fate_of-same, picked-pick_other, waiting-pick_other, is_aborted-abort_other}
+use Rattle.nvme_log.proofs.Waiting.{contains-times, fate_of-same, picked-pick_other, waiting-pick_other, is_aborted-abort_other}
 use Rattle.nvme_state.specs.declared.candidate.Candidate.{Candidate}
 use Rattle.nvme_state.specs.inside.Content.{SqContent}
 use Rattle.nvme_state.specs.inside.Standing.{HoldsSq, IsPickedPlace}
