@@ -204,8 +204,8 @@ fn report_of_nothing(rt: HostRuntime) -> Result<(), Fail> {
     Ok(())
 }
 
-// A report over a writer of so much room, which then fails or answers 0. The answer is whether all was written; else the
-// beginning was.
+// A report over a writer with room for `room` bytes, which then fails or answers 0. The first bytes of the report were
+// written. The answer is whether that was all of it.
 fn is_written(rt: &impl Abort, alloc: Global, settled: &Settled, room: usize, fails: bool) -> bool
     requires { (r i : ℕ) → posts_of (reverse settled.now.log.items) r i ≤ 1 }
 {

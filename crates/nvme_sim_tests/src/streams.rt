@@ -31,7 +31,8 @@ fn writer_and_reader_fail(rt: HostRuntime) -> Result<(), Fail> {
     Ok(())
 }
 
-// A run over a writer of so much room, which then fails or answers 0, ends so, and the beginning of its report was written.
+// A run over a writer with room for `room` bytes, which then fails or answers 0, ends as wanted. The first bytes of its
+// report were written.
 fn run_into<R: Threads + Wait + Sync + Abort>(
     rt: &R,
     alloc: Global,
