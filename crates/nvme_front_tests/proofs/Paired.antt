@@ -1,6 +1,6 @@
 -- Hosts whose feeders are exchanged are paired with a front's regions all the same; hosts that a settling
 -- hands back are the other ends of the rings of the front that comes back.
-use Rattle.std.proofs.Common.{◌≡◌, ℕ, zero, suc, ◌<◌, List, [], ◌∷◌, ◌++◌, length, get_or, remove, map, set, sym, ap, ◌∙◌, subst, arith}
+use Rattle.std.proofs.Common.{◌≡◌, ℕ, zero, suc, ◌<◌, List, [], ◌∷◌, ◌++◌, length, get_or, remove, reverse, map, set, sym, ap, ◌∙◌, subst, arith}
 use Rattle.std.proofs.lemmas.List.{get_or_default, length-map}
 use Rattle.nvme_entry.specs.declared.submission.Sqe.{Sqe}
 use Rattle.nvme_entry.specs.declared.completion.Cqe.{Cqe}
@@ -51,6 +51,14 @@ exchanged v (a ∷ b ∷ []) rest after drainers first second two i j k m differ
     subst (λ z. ArePaired v z drainers) (sym m')
     (exchanged_two v a b drainers (λ e. differ (ap (λ z. (put_of z).address) i ∙ e ∙ sym (ap (λ z. (put_of z).address) k'))) fed drained)
 exchanged v (a ∷ b ∷ c ∷ more) rest after drainers first second two i j k m differ fed drained = absurd (omega (arith, two))
+
+-- two feeders that are exchanged stand in reverse
+pub exchanged_is_reverse : (feeders rest after : List (Feeder Sqe)) (first : Feeder Sqe) → length feeders ≡ 2 → first ≡ get_or feeders 0 first
+    → rest ≡ remove feeders 0 → after ≡ rest ++ first ∷ [] → after ≡ reverse feeders
+exchanged_is_reverse [] rest after first two i j m = absurd (omega (arith, two))
+exchanged_is_reverse (a ∷ []) rest after first two i j m = absurd (omega (arith, two))
+exchanged_is_reverse (a ∷ b ∷ []) rest after first two i j m = m ∙ ap (λ z. z ++ first ∷ []) j ∙ ap (λ z. b ∷ z ∷ []) i
+exchanged_is_reverse (a ∷ b ∷ c ∷ more) rest after first two i j m = absurd (omega (arith, two))
 
 -- what is seen of each element stays, where one is replaced of which the same is seen
 pub seen_after : {X Y : Type 0} (f : X → Y) (xs : List X) (i : ℕ) (old new : X) → i < length xs → old ≡ get_or xs i old → f new ≡ f old → map f (set xs i new) ≡ map f xs

@@ -51,13 +51,13 @@ fn arbitrary(seed: &mut u64) -> Sqe {
 }
 
 // Appends `ENTRIES` arbitrary entries, with their opcodes modulo `opcodes`.
-fn push_arbitrary(all: &mut Vec<Sqe>, seed: u64, opcodes: u8) -> Result<(), AllocError>
+fn push_arbitrary(all: &mut Vec<Sqe>, seed: u64, opcodes: u16) -> Result<(), AllocError>
     requires { 0 < opcodes }
 {
     let mut seed = seed;
     for _ in 0..ENTRIES {
         let mut entry = arbitrary(&mut seed);
-        entry.opcode %= opcodes;
+        entry.opcode = (u16::from(entry.opcode) % opcodes) as u8;
         push_again(all, entry)?;
     }
     Ok(())
@@ -123,7 +123,7 @@ fn drive<R: Wait>(rt: &R, rig: &mut Rig) -> Result<(), Fail> {
 // Adds the regions of an I/O queue, and drives all.
 fn play_arbitrary<R: Wait + Abort>(rt: &R, alloc: Global, rig: &mut Rig) -> Result<(), Fail> {
     let mut commands = Vec::new(alloc);
-    push_arbitrary(&mut commands, 0x0123_4567_89ab_cdef, 255)?;
+    push_arbitrary(&mut commands, 0x0123_4567_89ab_cdef, 256)?;
     rig.add_sq(alloc, 0x2000, 32, commands.as_slice())?;
     rig.add_cq(alloc, 0x9000, CQ_SLOTS)?;
     drive(rt, rig)?;

@@ -8,7 +8,7 @@ use crate::events::posted;
 use crate::hosted::config;
 use crate::rig::{Rig, WORKERS, settle_exchanged};
 use nvme_entry::{Cqe, Sqe};
-use nvme_front::{AddError, Event, Front, FrontError, Parts, SettleError, Step};
+use nvme_front::{AddError, Event, Front, FrontError, SettleError, Step};
 use nvme_lane::{GetEnd, PutEnd};
 use std::alloc::Global;
 use std::process::Abort;
@@ -105,30 +105,32 @@ fn play_exchange<R: Wait>(rt: &R, alloc: Global, rig: &mut Rig) -> Result<String
     Ok(format!(in alloc; "{:?}", rig.log())?)
 }
 
-// The parts that came back are as they were.
-fn check_parts(rt: &impl Abort, alloc: Global, back: &Parts, log: &str) -> Result<(), Fail> {
-    assert_eq!(rt; (back.feeders.len(), back.drainers.len()), (2, 1));
-    let log_now = format!(in alloc; "{:?}", back.front.log())?;
+// The rig that came back is as it was.
+fn check_rig(rt: &impl Abort, alloc: Global, back: &Rig, log: &str) -> Result<(), Fail> {
+    assert_eq!(rt; back.hosts(), (2, 1));
+    let log_now = format!(in alloc; "{:?}", back.log())?;
     assert_eq!(rt; log_now.as_str(), log);
-    assert_eq!(rt; posted(back.front.log()), 1);
+    assert_eq!(rt; posted(back.log()), 1);
     Ok(())
 }
 
-// A front with exchanged feeders is refused, and comes back as it was.
+// A front with exchanged feeders is refused, and comes back as it was. With its feeders in their order it is settled.
 fn refuse_exchanged<R: Wait + Abort>(
     rt: &R,
     alloc: Global,
     rig: Rig,
     log: &str,
 ) -> Result<(), Fail> {
-    let (error, back) = settle_exchanged(rt, alloc, rig)?;
-    assert_eq!(rt; error, SettleError::Strangers);
-    let checked = check_parts(rt, alloc, &back, log);
-    drop(back);
-    checked
+    let back = settle_exchanged(rt, alloc, rig)?;
+    let checked = check_rig(rt, alloc, &back, log);
+    let settled = back.settled(rt, alloc, checked)?;
+    assert_eq!(rt; (settled.sent.len(), settled.collected.len()), (2, 1));
+    assert_eq!(rt; (settled.sent[0].count, settled.sent[1].count), (1, 0));
+    assert_eq!(rt; settled.collected[0].len(), 1);
+    Ok(())
 }
 
-// Settles a front with exchanged feeders.
+// Settles a front with exchanged feeders, and then with its own.
 fn exchange<R: Wait + Abort>(rt: &R, alloc: Global) -> Result<(), Fail> {
     let mut rig = one_command(alloc, 1000)?;
     match play_exchange(rt, alloc, &mut rig) {

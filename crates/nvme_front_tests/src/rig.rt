@@ -1,5 +1,5 @@
 // A front with its hosts and workers, which are driven from one thread.
-ghost use Rattle.std.specs.Prelude.{◌≡◌, ◌<◌, List, length, IfOk};
+ghost use Rattle.std.specs.Prelude.{◌≡◌, ◌<◌, List, length, reverse, IfOk, OnOk};
 ghost use Rattle.nvme_entry.specs.declared.completion.Cqe.{Cqe};
 ghost use Rattle.nvme_lane.specs.declared.drainer.Drainer.{Drainer};
 ghost use Rattle.nvme_front.specs.View.{FrontView};
@@ -293,7 +293,8 @@ fn rig_of(parts: Parts) -> Rig
 // Exchanges two feeders with different addresses. `ArePaired` still holds, since neither has the address of the region
 // at its new place.
 fn exchange(feeders: &mut Vec<Feeder<Sqe>>) -> Result<(), Fail>
-    ensures { IfOk result (λ _. (v : FrontView) (drainers : List (Drainer Cqe)) → IsFedBy v feeders.old.items → IsDrainedBy v drainers → ArePaired v feeders.new.items drainers) }
+    ensures paired { IfOk result (λ _. (v : FrontView) (drainers : List (Drainer Cqe)) → IsFedBy v feeders.old.items → IsDrainedBy v drainers → ArePaired v feeders.new.items drainers) }
+    ensures reversed { OnOk result (feeders.new.items ≡ reverse feeders.old.items) }
 {
     if feeders.len() != 2 {
         return Err("there are not two feeders".into());
@@ -307,12 +308,24 @@ fn exchange(feeders: &mut Vec<Feeder<Sqe>>) -> Result<(), Fail>
     Ok(())
 }
 
-/// Settles a front with two exchanged feeders. The answer is the refusal, with what came back.
-pub fn settle_exchanged<R: Wait>(
-    rt: &R,
-    alloc: Global,
-    rig: Rig,
-) -> Result<(SettleError, Parts), Fail> {
+// The rig of the parts that came back, with their feeders exchanged again.
+fn exchanged_again(parts: Parts) -> Result<Rig, Fail>
+    requires fed { IsFedBy parts.front (reverse parts.feeders.items) }
+    requires drained { IsDrainedBy parts.front parts.drainers.items }
+    requires admin_sq { 0 < length parts.front.gets }
+    requires admin_cq { 0 < length parts.front.puts }
+    requires pool { HasItsPool parts }
+{
+    let mut parts = parts;
+    if let Err(fail) = exchange(&mut parts.feeders) {
+        drop(parts);
+        return Err(fail);
+    }
+    Ok(rig_of(parts))
+}
+
+/// Settles a front with two exchanged feeders. That is refused, and the rig comes back as it was.
+pub fn settle_exchanged<R: Wait>(rt: &R, alloc: Global, rig: Rig) -> Result<Rig, Fail> {
     let mut parts = parts_of(rig);
     if let Err(fail) = exchange(&mut parts.feeders) {
         drop(parts);
@@ -323,6 +336,10 @@ pub fn settle_exchanged<R: Wait>(
             drop(settled);
             Err("exchanged feeders were settled".into())
         }
-        Err(refused) => Ok(refused),
+        Err((SettleError::Strangers, back)) => exchanged_again(back),
+        Err((error, back)) => {
+            drop(back);
+            Err(error.into())
+        }
     }
 }

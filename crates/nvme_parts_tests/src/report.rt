@@ -5,9 +5,10 @@ ghost use Rattle.nvme_report.specs.Report.{completions_of};
 use nvme_arbiter::{Class, Pick};
 use nvme_entry::{Cqe, Sqe, Status};
 use nvme_front::{Event, Listed, Sent, Settled};
-use nvme_report::{Mode, WriteFault, report};
-use nvme_texts::{DELETE_THREE_REPORT, Takes};
+use nvme_report::{Mode, report};
+use nvme_texts::{DELETE_THREE_REPORT, Takes, TakesOne};
 use std::alloc::{AllocError, Global};
+use std::process::Abort;
 use std::test::Fail;
 
 // The Post of a place's completion.
@@ -203,23 +204,45 @@ fn report_of_nothing(rt: HostRuntime) -> Result<(), Fail> {
     Ok(())
 }
 
+// A report over a writer with room for `room` bytes, which then fails or answers 0. The first bytes of the report were
+// written. The answer is whether that was all of it.
+fn is_written(rt: &impl Abort, alloc: Global, settled: &Settled, room: usize, fails: bool) -> bool
+    requires { (r i : ℕ) → posts_of (reverse settled.now.log.items) r i ≤ 1 }
+{
+    let mut output = Takes {
+        taken: Vec::new(alloc),
+        room,
+        fails,
+    };
+    let written = report(settled, Mode::Loaded, &mut output);
+    assert_eq!(rt;
+        Some(output.taken.as_slice()),
+        DELETE_THREE_REPORT.as_bytes().get(..room)
+    );
+    written == Ok(())
+}
+
 #[test]
-fn report_that_fails(rt: HostRuntime) -> Result<(), Fail> {
+fn writer_takes_a_part(rt: HostRuntime) -> Result<(), Fail> {
     let settled = deletion(rt.alloc())?;
-    for (room, fails) in [(10, true), (0, false), (200, false)] {
-        let mut output = Takes {
-            taken: Vec::new(rt.alloc()),
-            room,
-            fails,
-        };
-        assert_eq!(rt;
-            report(&settled, Mode::Loaded, &mut output),
-            Err(WriteFault)
-        );
-        assert_eq!(rt;
-            output.taken.as_slice(),
-            &DELETE_THREE_REPORT.as_bytes()[..room]
-        );
+    let whole = DELETE_THREE_REPORT.len();
+    for room in 0..whole {
+        for fails in [true, false] {
+            let all = is_written(&rt, rt.alloc(), &settled, room, fails);
+            assert!(rt; !all, "with room for {room}");
+        }
     }
+    assert!(rt; is_written(&rt, rt.alloc(), &settled, whole, true));
+    Ok(())
+}
+
+#[test]
+fn writer_takes_one_byte_at_a_time(rt: HostRuntime) -> Result<(), Fail> {
+    let settled = deletion(rt.alloc())?;
+    let mut output = TakesOne {
+        taken: Vec::new(rt.alloc()),
+    };
+    assert_eq!(rt; report(&settled, Mode::Loaded, &mut output), Ok(()));
+    assert_eq!(rt; output.taken.as_slice(), DELETE_THREE_REPORT.as_bytes());
     Ok(())
 }

@@ -1,5 +1,5 @@
-// Readers that fail, a reader without an end, and a writer that fails.
-pub use nvme_texts::Takes;
+// Readers that fail, a reader without an end, and writers that fail or take little.
+pub use nvme_texts::{Takes, TakesOne};
 use std::io::{Error, ErrorKind, Read, Result};
 
 /// A reader of which one read, by its number from 0, fails. Each other read gives up to ten bytes of text.

@@ -13,7 +13,7 @@ use std::thread;
 use std::thread::Threads;
 
 // The turns for which a slow gate holds its first execution.
-const SLOW_TURNS: u32 = 50_000;
+const SLOW_TURNS: u32 = 50_000_000;
 // The turns after which a gate stops waiting for others, and its test fails.
 const MOST_TURNS: u32 = 50_000_000;
 
@@ -21,6 +21,8 @@ const MOST_TURNS: u32 = 50_000_000;
 #[derive(Drop)]
 struct Slow {
     is_first: bool,
+    // What the turns come to, so that no compiler leaves them out.
+    mixed: u64,
 }
 
 impl Model for Slow {
@@ -36,8 +38,8 @@ impl Gate for Slow {
 
     fn enter(&mut self, _ticket: u32) {
         if self.is_first {
-            for _ in 0..SLOW_TURNS {
-                thread::yield_now();
+            for turn in 0..SLOW_TURNS {
+                self.mixed = self.mixed << 5 ^ self.mixed >> 2 ^ u64::from(turn);
             }
         }
         self.is_first = false;
@@ -50,7 +52,10 @@ impl Gate for Slow {
 fn slow_gates(alloc: Global) -> Result<Vec<Slow>, AllocError> {
     let mut gates = Vec::with_capacity(alloc, 2)?;
     for _ in 0..2 {
-        gates.push(Slow { is_first: true })?;
+        gates.push(Slow {
+            is_first: true,
+            mixed: 0,
+        })?;
     }
     Ok(gates)
 }

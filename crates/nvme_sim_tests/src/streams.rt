@@ -1,6 +1,7 @@
 // Writers and readers that fail, and the refusals of a run in their order.
 use crate::again::{page, run_again, taken, told_again};
-use crate::fakes::{Endless, Fails, FailsAt, Takes};
+use crate::fakes::{Endless, Fails, FailsAt, Takes, TakesOne};
+use crate::wanted::EMPTY_REPORT;
 use crate::workloads::{EMPTY, THOUSAND};
 use nvme_front::FrontError;
 use nvme_sim::{InputError, Mode, RunError};
@@ -27,6 +28,49 @@ fn writer_and_reader_fail(rt: HostRuntime) -> Result<(), Fail> {
     assert_eq!(rt; abc.as_slice(), b"abc".as_slice());
     assert_eq!(rt; taken(rt.alloc(), Endless).err(), Some(InputError::TooLong));
     assert_eq!(rt; taken(rt.alloc(), Fails).err(), Some(InputError::Read));
+    Ok(())
+}
+
+// A run over a writer with room for `room` bytes, which then fails or answers 0, ends as wanted. The first bytes of its
+// report were written.
+fn run_into<R: Threads + Wait + Sync + Abort>(
+    rt: &R,
+    alloc: Global,
+    room: usize,
+    fails: bool,
+    want: Result<(), RunError>,
+) -> Result<(), Fail> {
+    let mut writer = Takes {
+        taken: page(alloc)?,
+        room,
+        fails,
+    };
+    let ran = run_again(rt, alloc, EMPTY, Mode::Loaded, 2, &mut writer);
+    assert_eq!(rt; ran, want, "with room for {room}");
+    assert_eq!(rt;
+        Some(writer.taken.as_slice()),
+        EMPTY_REPORT.as_bytes().get(..room)
+    );
+    Ok(())
+}
+
+#[test]
+fn writer_takes_a_part(rt: HostRuntime) -> Result<(), Fail> {
+    for room in 0..83 {
+        run_into(&rt, rt.alloc(), room, true, Err(RunError::Write))?;
+    }
+    run_into(&rt, rt.alloc(), 83, true, Ok(()))?;
+    run_into(&rt, rt.alloc(), 0, false, Err(RunError::Write))
+}
+
+#[test]
+fn writer_takes_one_byte_at_a_time(rt: HostRuntime) -> Result<(), Fail> {
+    let mut writer = TakesOne {
+        taken: page(rt.alloc())?,
+    };
+    let ran = run_again(&rt, rt.alloc(), EMPTY, Mode::Loaded, 2, &mut writer);
+    assert_eq!(rt; ran, Ok(()));
+    assert_eq!(rt; writer.taken.as_slice(), EMPTY_REPORT.as_bytes());
     Ok(())
 }
 

@@ -1,4 +1,4 @@
-//! What the tests of several crates share: worked workloads, a report, and a writer that fails.
+//! What the tests of several crates share: worked workloads, a report, and writers that fail or take little.
 #![tactic(auto)]
 
 mod reports;
@@ -7,7 +7,7 @@ mod writers;
 
 pub use reports::DELETE_THREE_REPORT;
 pub use workloads::{CREATED_ANEW, DELETE_THREE, EMPTY, FIVE_QUEUES, THOUSAND};
-pub use writers::Takes;
+pub use writers::{Takes, TakesOne};
 
 /// The text of a workload: its mechanism, the settings of its arbitration, its submission regions with their scripts,
 /// and its completion regions.

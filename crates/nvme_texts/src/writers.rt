@@ -23,3 +23,21 @@ impl Write for Takes {
         Ok(())
     }
 }
+
+/// A writer that takes one byte at a time.
+#[derive(Drop)]
+pub struct TakesOne {
+    pub taken: Vec<u8>,
+}
+
+impl Write for TakesOne {
+    fn write(&mut self, buf: &[u8]) -> Result<usize> {
+        let count = buf.len().min(1);
+        self.taken.extend_from_slice(&buf[..count])?;
+        Ok(count)
+    }
+
+    fn flush(&mut self) -> Result<()> {
+        Ok(())
+    }
+}

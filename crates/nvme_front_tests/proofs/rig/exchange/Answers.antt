@@ -1,10 +1,10 @@
 use Rattle.std.proofs.Common.{◌≡◌, [], ◌∷◌, ◌++◌, length, ap, ◌∙◌, rules}
 use Rattle.nvme_lane.specs.Feeder.{put_of}
-use Rattle.nvme_front_tests.proofs.Paired.{exchanged}
+use Rattle.nvme_front_tests.proofs.Paired.{exchanged, exchanged_is_reverse}
 use Rattle.nvme_front_tests.proofs.rig.exchange.Goals as goal
 
-pub returns : goal.returns
-returns c = λ v drainers fed drained.
+pub returns-clause-paired : goal.returns-clause-paired
+returns-clause-paired c = λ v drainers fed drained.
     let feeders = c.args.feeders.now in
     let first = c.remove-first.result in
     let second = c.index.result.now in
@@ -14,3 +14,12 @@ returns c = λ v drainers fed drained.
     two c.remove-first.ensures.value c.remove-first.ensures.items c.index.ensures
     (c.push_reserved.ensures.items ∙ ap (λ z. z ++ first ∷ []) c.reserve_again.ensures.items)
     differ fed drained
+
+pub returns-clause-reversed : goal.returns-clause-reversed
+returns-clause-reversed c =
+    let feeders = c.args.feeders.now in
+    let first = c.remove-first.result in
+    let two : length feeders.items ≡ 2 = search rules in
+    exchanged_is_reverse feeders.items c.remove-first.new.self.items c.push_reserved.new.self.items first
+    two c.remove-first.ensures.value c.remove-first.ensures.items
+    (c.push_reserved.ensures.items ∙ ap (λ z. z ++ first ∷ []) c.reserve_again.ensures.items)
