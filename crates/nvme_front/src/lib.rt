@@ -12,6 +12,7 @@ mod front;
 mod handing;
 mod limits;
 mod logging;
+mod looking;
 mod picking;
 mod posting;
 mod settled;
@@ -19,6 +20,7 @@ mod settling;
 mod state;
 
 pub use front::{AddError, Front, FrontConfig, FrontError, Step};
+pub use looking::drop_beside;
 pub use nvme_log::{Event, Listed, MAX_EVENTS, MAX_OUTSTANDING};
 pub use settled::{Sent, SettleError, Settled};
 pub use settling::{Parts, settle};
