@@ -70,7 +70,7 @@ module _ (v w : FrontView) (f f' : List (Feeder Sqe)) (quiet : Bool) (rests : Re
   submitted_same : (r : ℕ) → submitted_at f' r ≡ submitted_at f r
   submitted_same r = ap (λ z. get_or z r []) (submitted_told f' ∙ ap (map (λ (p : List Sqe × ℕ). take p.1 p.0)) rests.feeders.told_is ∙ sym (submitted_told f))
 
-  got_same : (r : ℕ) → got_in w r ≡ got_in v r
+  pub got_same : (r : ℕ) → got_in w r ≡ got_in v r
   got_same r = ap (λ z. get_or z r []) rests.front.got
 
   past_same : past_in w ≡ past_in v
@@ -85,7 +85,7 @@ module _ (v w : FrontView) (f f' : List (Feeder Sqe)) (quiet : Bool) (rests : Re
   ]
 
   -- what was got begins what was submitted
-  got_first : (r : ℕ) → IsPrefix (got_in w r) (submitted_at f r)
+  pub got_first : (r : ℕ) → IsPrefix (got_in w r) (submitted_at f r)
   got_first r = elim (cases_lt r (length v.gets)) [
     | inl p ↦ (known_in w r, rests.rest r p ∙ submitted_same r)
     | inr p ↦ subst (λ z. IsPrefix z (submitted_at f r)) (sym (got_same r ∙ get_or_past (map (λ (g : GetView Sqe). g.got) v.gets) r [] (rw length-map p))) (submitted_at f r, refl)

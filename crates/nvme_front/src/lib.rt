@@ -13,6 +13,7 @@ mod handing;
 pub mod laws;
 mod limits;
 mod logging;
+mod looking;
 mod picking;
 mod posting;
 mod settled;
@@ -20,6 +21,7 @@ mod settling;
 mod state;
 
 pub use front::{AddError, Front, FrontConfig, FrontError, Step};
+pub use looking::drop_beside;
 pub use nvme_log::{Event, Listed, MAX_EVENTS, MAX_OUTSTANDING};
 pub use settled::{Sent, SettleError, Settled};
 pub use settling::{Parts, settle};

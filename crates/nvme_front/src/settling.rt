@@ -78,7 +78,7 @@ fn are_hosts(front: &Front, feeders: &[Feeder<Sqe>], drainers: &[Drainer<Cqe>]) 
 
 // Looks at each submission ring with both ends in hand, and says that nothing rests in those of open and closing
 // queues.
-fn look(front: &mut Front, feeders: &mut Vec<Feeder<Sqe>>) -> bool
+pub(crate) fn look(front: &mut Front, feeders: &mut Vec<Feeder<Sqe>>) -> bool
     requires { IsFedBy front.old feeders.old.items }
     ensures { Rests (length front.old.gets) result feeders.old.items feeders.new.items front.old front.new }
 {

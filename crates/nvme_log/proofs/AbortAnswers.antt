@@ -148,7 +148,7 @@ first-abort (e ∷ []) h = cc h
 first-abort (e ∷ f ∷ later) h = let it = first-abort (f ∷ later) h in (e ∷ it.0, it.1, it.2, ap (λ (z : Past). e ∷ z) it.3)
 
 -- the entry of a place stays
-entry-stays : (xs ys : List Sqe) (i : ℕ) (x : Sqe) → slice_get xs i ≡ Some x → slice_get (xs ++ ys) i ≡ Some x
+pub entry-stays : (xs ys : List Sqe) (i : ℕ) (x : Sqe) → slice_get xs i ≡ Some x → slice_get (xs ++ ys) i ≡ Some x
 entry-stays [] ys i x h = cc h
 entry-stays (y ∷ xs) ys zero x h = h
 entry-stays (y ∷ xs) ys (suc i) x h = entry-stays xs ys i x h

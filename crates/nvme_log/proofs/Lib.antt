@@ -30,3 +30,4 @@ pub mod Tickets
 pub mod PickedOnce
 pub mod BrokenPromises
 pub mod LogLengths
+pub mod Foreseen

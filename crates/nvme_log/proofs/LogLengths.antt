@@ -66,7 +66,7 @@ taken_places (Abort r i ∷ past) = place_at r i ∷ taken_places past
 taken_places (e ∷ past) = taken_places past
 
 -- each pick takes some places that wait of an open queue
-record TakesWaiting (past : Past) (pick : Pick) : Type 0 where
+pub record TakesWaiting (past : Past) (pick : Pick) : Type 0 where
   pub queue : Queue
   pub is_open : open_sq past pick.qid ≡ Some queue
   pub some : 0 < pick.n
@@ -74,7 +74,7 @@ record TakesWaiting (past : Past) (pick : Pick) : Type 0 where
   pub others : List ℕ
   pub wait : waiting past queue.region ≡ first ∷ others
 
-abbrev TakesSome : Past → Event → Type 0
+abbrev pub TakesSome : Past → Event → Type 0
 TakesSome past (event.Pick seen pick) = TakesWaiting past pick
 TakesSome past e = Unit {0}
 
@@ -88,7 +88,7 @@ split-of : (xs : List ℕ) → 0 < length xs → Split xs
 split-of [] h = absurd (omega (arith, h))
 split-of (x ∷ xs) h = record { first = x; others = xs; is = refl }
 
-takes-waiting : (rules : FrontRules) (past : Past) (seen : List Seen) (pick : Pick) → is_some (open_sq past pick.qid) ≡ true → seen ≡ observation_of past
+pub takes-waiting : (rules : FrontRules) (past : Past) (seen : List Seen) (pick : Pick) → is_some (open_sq past pick.qid) ≡ true → seen ≡ observation_of past
     → IsMeasured rules.mechanism (settings_after rules.start.settings (arbitration_of past)) seen pick → TakesWaiting past pick
 takes-waiting rules past seen pick opened observed measured = by (open_sq past pick.qid) refl opened where
   here : IsMeasured rules.mechanism (settings_after rules.start.settings (arbitration_of past)) (observation_of past) pick
@@ -103,7 +103,7 @@ takes-waiting rules past seen pick opened observed measured = by (open_sq past p
       let split = split-of (waiting past queue.region) (omega (arith, few, one)) in
       record { queue = queue; is_open = is; some = omega (arith, one); first = split.first; others = split.others; wait = split.is }
 
-each-takes : (rules : FrontRules) (past : Past) → Each (ServedWhileOpen rules) past → Each Observed past → IsLawfulRun rules.mechanism rules.start.settings (arbitration_of past)
+pub each-takes : (rules : FrontRules) (past : Past) → Each (ServedWhileOpen rules) past → Each Observed past → IsLawfulRun rules.mechanism rules.start.settings (arbitration_of past)
     → Each TakesSome past
 each-takes rules [] s o l = tt
 each-takes rules (event.Pick seen pick ∷ past) s o l = (
@@ -274,7 +274,7 @@ last-few rules past seen pick = by (pick.qid == 0) (admin_entry past) where
   by true (Some entry) = made-few past (verdict_of rules.start (table_history rules past) entry)
 
 -- nothing is left where all effects are there
-left-none : (xs rest made : List Event) → xs ≡ made → xs ++ rest ≡ made → rest ≡ []
+pub left-none : (xs rest made : List Event) → xs ≡ made → xs ++ rest ≡ made → rest ≡ []
 left-none xs [] made e f = refl
 left-none xs (y ∷ rest) made e f = absurd (omega (arith, length-append xs (y ∷ rest), ap length e, ap length f))
 

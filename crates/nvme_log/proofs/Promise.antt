@@ -191,7 +191,7 @@ answered_over rules past later middle before e qid r is at_once deletes =
 
 -- ---- the command that begins a deletion
 -- the first event after a pick whose command makes something is the first of what it makes
-first-is_made : (rules : FrontRules) (past : Past) (e one : Event) (more : List Event) → EffectsAtOnce rules past e → effects_since past ≡ [] → made_last rules past ≡ one ∷ more → e ≡ one
+pub first-is_made : (rules : FrontRules) (past : Past) (e one : Event) (more : List Event) → EffectsAtOnce rules past e → effects_since past ≡ [] → made_last rules past ≡ one ∷ more → e ≡ one
 first-is_made rules past e one more h none made = by (is_effect e) refl where
   by : (b : Bool) → is_effect e ≡ b → e ≡ one
   by true eff =

@@ -194,7 +194,7 @@ module _ (rules : FrontRules) where
     gone q false = refl
 
   -- the log, with what is left of what its latest picked command makes, has the queues of its table history
-  sync : StartsWithAdmin rules → (past : Past) → Each (EffectsAtOnce rules) past → (rest : List Event) → effects_since past ++ rest ≡ made_last rules past
+  pub sync : StartsWithAdmin rules → (past : Past) → Each (EffectsAtOnce rules) past → (rest : List Event) → effects_since past ++ rest ≡ made_last rules past
       → QueuesAre rules (table_history rules past) (with_events rest past)
   sync starts [] h rest e = subst (λ (z : List Event). QueuesAre rules rules.regions (with_events z [])) (sym e) (record { sq = starts.sq; cq = starts.cq })
   sync starts (Pick seen pick ∷ past) h rest e =

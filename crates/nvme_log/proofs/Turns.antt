@@ -95,7 +95,7 @@ open_not_abort qid region cqid r class [] h = h
 open_not_abort qid region cqid r class (k ∷ is) (inl e) = cc e
 open_not_abort qid region cqid r class (k ∷ is) (inr h) = open_not_abort qid region cqid r class is h
 
-closing_not_abort : (qid region r : ℕ) (is : List ℕ) → IsIn (Closing qid region) (map (λ (k : ℕ). Abort r k) is) → ⊥
+pub closing_not_abort : (qid region r : ℕ) (is : List ℕ) → IsIn (Closing qid region) (map (λ (k : ℕ). Abort r k) is) → ⊥
 closing_not_abort qid region r [] h = h
 closing_not_abort qid region r (k ∷ is) (inl e) = cc e
 closing_not_abort qid region r (k ∷ is) (inr h) = closing_not_abort qid region r is h
@@ -121,7 +121,7 @@ opened-by past (verdict.Abort s c) qid region cqid class h = by (target_of past 
 opened-by past (verdict.SetArbitration settings) qid region cqid class h = absurd (let e : SetArbitration settings ≡ OpenSq qid region cqid class = only _ _ h in cc)
 
 -- a deletion begins by its Delete
-begun-by : (past : Past) (v : Verdict) (qid region : ℕ) → IsIn (Closing qid region) (made_by past v) → v ≡ BeginDelete qid
+pub begun-by : (past : Past) (v : Verdict) (qid region : ℕ) → IsIn (Closing qid region) (made_by past v) → v ≡ BeginDelete qid
 begun-by past (Done status dw0) qid region h = absurd h
 begun-by past (verdict.OpenSq q r c k) qid region h = absurd (let e : OpenSq q r c k ≡ Closing qid region = only _ _ h in cc)
 begun-by past (verdict.OpenCq q r) qid region h = absurd (let e : OpenCq q r ≡ Closing qid region = only _ _ h in cc)

@@ -18,3 +18,4 @@ pub mod LoadedLaws
 pub mod LoadedExamples
 pub mod PromiseExamples
 pub mod Bounds
+pub mod Foreseen

@@ -27,6 +27,7 @@ ghost use Rattle.nvme_log.specs.AbortLaws.{AbortedAreNotDispatched, AdminIsNotAb
 ghost use Rattle.nvme_log.specs.Loaded.{IsNoPost, without_posts, are_filled, FilledBefore, FetchesLast, ClosedAtOnce, NothingAfterClosed, NoneWaits, IsLoadedLog};
 ghost use Rattle.nvme_log.specs.LoadedExamples.{no_scripts, small_windows, small_script, create_picked, small_opened, small_delete_fetched, small_fetched, small_picked, small_refilled, small_delete_picked, small_aborted, small_closed, crosswise};
 ghost use Rattle.nvme_log.specs.LoadedLaws.{LoadedStepIsOne, LoadedLogIsOne};
+ghost use Rattle.nvme_log.specs.Foreseen.{AnswersAreForeseen};
 ghost use Rattle.nvme_log.specs.Bounds.{LogsAreShort};
 ghost use Rattle.nvme_log.specs.PromiseExamples.{one_read, one_read_done, unclosed_answered, unclosed, one_too_many, unasked_set, unasked, unasked_done, abort_missing, answered_early, aborted_late};
 ghost use Rattle.nvme_log.specs.Laws.{KeepsThePromise, NoneAfterDelete, PickedOnce, AbortedUnpicked, CompletedAfter, PromisesServeOnce};
@@ -100,6 +101,12 @@ pub fn broken_promises_are_refused()
 /// completion, its effect on queues or settings, and the end of the deletion that it begins.
 pub fn logs_are_short()
     ensures { LogsAreShort }
+{}
+
+/// The completion of an admin command says the status that the commands submitted before it let foresee: no command
+/// begins before the deletion that the one before it began is finished.
+pub fn answers_are_foreseen()
+    ensures { AnswersAreForeseen }
 {}
 
 /// The queues that an accounted log opens and closes are those of its table history. Each opening is an accepted

@@ -1,6 +1,7 @@
 pub mod Accounts
 pub mod Adding
 pub mod Driven
+pub mod Failing
 pub mod Fitting
 pub mod LoadedRuns
 pub mod Meaning

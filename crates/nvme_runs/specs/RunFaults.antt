@@ -1,11 +1,13 @@
 -- Which faults of a run come from where. (profile)
 use Rattle.std.specs.Prelude.{◌≡◌, ◌≢◌, ℕ, false, List, [], Ok, Err}
+use mathlib.Core.List.{IsPrefix}
 use Rattle.nvme_workload.specs.Plan.{Plan, workload_of}
+use Rattle.nvme_workload.specs.Sound.{IsSound}
 use Rattle.nvme_workload.specs.declared.error.WorkloadError.TheVariants as why
 use Rattle.std.specs.List.{All}
 use Rattle.nvme_pool.specs.Pool.{IsFreshEnd}
 use Rattle.nvme_log.specs.Limits.{most_events}
-use Rattle.nvme_front.specs.View.{FrontView}
+use Rattle.nvme_front.specs.View.{FrontView, got_in}
 use Rattle.nvme_front.specs.declared.front.FrontError.{FrontError}
 use Rattle.nvme_front.specs.declared.front.FrontError.TheVariants as front
 use Rattle.nvme_report.specs.declared.reports.Mode.{Mode}
@@ -13,7 +15,7 @@ use Rattle.nvme_report.specs.declared.reports.Mode.TheVariants.{Loaded}
 use Rattle.nvme_runs.specs.declared.runs.RunError.{RunError}
 use Rattle.nvme_runs.specs.declared.runs.RunError.TheVariants as fault
 use Rattle.nvme_threads.specs.Faults.{TurnFails}
-use Rattle.nvme_runs.specs.Runs.{IsFirstTooLong, rules_for}
+use Rattle.nvme_runs.specs.Runs.{IsFirstTooLong, rules_for, script_for}
 
 -- a script of the workload of a text is too long for its ring
 pub record IsTooLong (text : List ℕ) (mode : Mode) (r : ℕ) : Type 0 where
@@ -41,6 +43,9 @@ pub record FrontFails (plan : Plan) (e : FrontError) : Type 0 where
   pub none_handed : given.hands.seat.handed ≡ []
   pub none_gained : All IsFreshEnd given.hands.seat.ends
   pub fails : TurnFails given e
+  -- the plan is one that is read, and what the front had got then from each region is the first of the region's script
+  pub sound : IsSound plan
+  pub scripts : (r : ℕ) → IsPrefix (got_in fails.after r) (script_for plan r)
 
 -- the faults that come while a workload runs, or after it. Want of memory is told as such
 abbrev pub IsLateFault : Plan → RunError → Type 0

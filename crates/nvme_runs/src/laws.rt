@@ -1,8 +1,14 @@
-//! The law of loaded runs, over the public contract alone. The function does nothing: its contract is the law.
-ghost use Rattle.nvme_runs.specs.Laws.{LoadedRunsAreOne};
+//! Laws of runs, over the public contract alone. Each function does nothing: its contract is the law.
+ghost use Rattle.nvme_runs.specs.Laws.{LoadedRunsAreOne, FrontFaultsAreStrays};
 
 /// A loaded run is one function of its workload: two runs of one text with `Mode::Loaded` have the same report, whatever
 /// the numbers of their workers and however their threads took turns.
 pub fn loaded_runs_are_one()
     ensures { LoadedRunsAreOne }
+{}
+
+/// The one fault of the front that a run can answer is a result that no job waits for. Its log is never full: a workload
+/// has too few commands to fill it.
+pub fn front_faults_are_strays()
+    ensures { FrontFaultsAreStrays }
 {}

@@ -1,4 +1,4 @@
-//! Runs of a workload. The law of loaded runs stands in `laws`.
+//! Runs of a workload. The laws of runs stand in `laws`.
 #![tactic(auto)]
 
 pub mod laws;

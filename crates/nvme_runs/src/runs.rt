@@ -23,7 +23,7 @@ use nvme_arbiter::{Mechanism, Settings};
 use nvme_front::{FrontError, Settled};
 use nvme_pool::{Gate, MAX_WORKERS, NoGate};
 use nvme_report::{Mode, WriteFault, report};
-use nvme_threads::{DriveError, Feeding, drive};
+use nvme_threads::{DriveError, Feeding, drive_fed};
 use nvme_workload::{Workload, WorkloadError, read};
 use preparing::{first_too_long, prepare};
 use settling::{are_loaded, settle_run};
@@ -153,7 +153,7 @@ fn settled_by<G: Gate + Send + Drop, R: Threads + Wait + Sync>(
     if !are_loaded(&parts, mode) {
         return Err(RunError::GaveUp);
     }
-    let (parts, gates) = drive(rt, alloc, parts, gates, feeding_of(mode), patience)?;
+    let (parts, gates) = drive_fed(rt, alloc, parts, gates, feeding_of(mode), patience)?;
     let settled = settle_run(rt, alloc, parts, mode)?;
     Ok((settled, gates))
 }

@@ -2,7 +2,7 @@
 use Rattle.std.proofs.Common.{◌≡◌, List, [], ◌∷◌, ◌++◌, map, refl, sym, ap, ◌∙◌, subst, append_assoc, append-nil}
 use Rattle.std.proofs.lemmas.List.{map-append}
 use Rattle.std.specs.List.{All, AllZip}
-use Rattle.std.specs.Prelude.{Result, Ok, Err, IfOk}
+use Rattle.std.specs.Prelude.{Result, Ok, Err, IfOk, IfErr}
 use Rattle.std.proofs.lemmas.List.Elements.{All-nil, All-cons, All-head, All-tail}
 
 -- one more item was moved, from what is left of a first list to those of a list
@@ -46,10 +46,19 @@ moved-handle e ended x left left' all first was = append_assoc ended (e x ∷ []
 pub ok-holds : {T E : Type 0} (r : Result T E) (P : T → Type 0) (x : T) → r ≡ Ok x → IfOk r P → P x
 ok-holds r P x is holds = subst (λ a. IfOk a P) is holds
 
+-- what holds of an answer's error, where that error is known
+pub err-holds : {T E : Type 0} (r : Result T E) (P : E → Type 0) (e : E) → r ≡ Err e → IfErr r P → P e
+err-holds r P e is holds = subst (λ a. IfErr a P) is holds
+
 -- what follows from what holds of an answer's value
 pub ok-so : {T E : Type 0} (r : Result T E) (P Q : T → Type 0) → IfOk r P → ((x : T) → P x → Q x) → IfOk r Q
 ok-so (Ok x) P Q holds so = so x holds
 ok-so (Err e) P Q holds so = tt
+
+-- what follows from what holds after some errors
+pub err-if : {T E : Type 0} (r : Result T E) (N : E → Type 0) (W H : Type 0) → IfErr r (λ e. N e → W) → (W → H) → IfErr r (λ e. N e → H)
+err-if (Ok x) N W H holds so = tt
+err-if (Err e) N W H holds so = λ n. so (holds n)
 
 -- what follows from what holds of an answer's value, and of another answer's that has a value where this one has
 pub both-ok : {T U E : Type 0} (r : Result T E) (ended : Result U E) (P Q : T → Type 0) (H : Type 0) → IfOk r (λ _. (done : U) × (ended ≡ Ok done)) → IfOk ended (λ _. H) → IfOk r P

@@ -1,3 +1,4 @@
+pub mod FedTurns
 pub mod Joins
 pub mod LoadedTurns
 pub mod Running

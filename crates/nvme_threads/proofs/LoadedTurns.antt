@@ -1,5 +1,5 @@
 -- Turns of a loaded front one after another.
-use Rattle.std.proofs.Common.{◌≡◌, ℕ, ◌≤◌, List, length, refl, sym, ap, ◌∙◌, subst, arith, reverse, ◌++◌, length-append}
+use Rattle.std.proofs.Common.{◌≡◌, ℕ, ◌≤◌, List, length, sym, ap, ◌∙◌, subst, arith, reverse, ◌++◌, length-append}
 use Rattle.std.proofs.lemmas.List.{reverse-append}
 use Rattle.nvme_entry.specs.declared.submission.Sqe.{Sqe}
 use Rattle.nvme_log.specs.Rules.{Past}

@@ -1,4 +1,5 @@
 pub mod Faults
+pub mod Fed
 pub mod Hosts
 pub mod Loaded
 pub mod Runs

@@ -1,5 +1,5 @@
 //! A drive: a front, its hosts and its workers on threads, from the first turn to the last.
-ghost use Rattle.std.specs.Prelude.{◌≡◌, ◌<◌, ◌⊎◌, Ok, Err, true, length, map, vec_len, IfOk, IfErr};
+ghost use Rattle.std.specs.Prelude.{◌≡◌, ◌≢◌, ◌<◌, ◌⊎◌, Ok, Err, true, length, map, vec_len, IfOk, IfErr};
 ghost use Rattle.nvme_pool.specs.Pool.{IsPool};
 ghost use Rattle.nvme_front.specs.View.{GoesOn};
 ghost use Rattle.nvme_threads.specs.inside.Drives.{CanDrive, Drove, ArePartsOf};
@@ -72,12 +72,12 @@ pub struct Driven<G: Gate + Drop> {
 fn outcome(served: Result<(), DriveError>, is_whole: bool) -> Result<(), DriveError>
     ensures ok { IfOk result (λ _. is_whole ≡ true) }
     ensures fault { IfErr result (λ e. (served ≡ Err e) ⊎ (e ≡ drive_is.NoMemory)) }
+    ensures whole { IfErr result (λ e. e ≢ drive_is.NoMemory → is_whole ≡ true) }
 {
-    served?;
     if !is_whole {
         return Err(DriveError::NoMemory);
     }
-    Ok(())
+    served
 }
 
 // Starts all threads of a scope, makes the front's turns, and joins the threads. What was driven comes back however it
@@ -102,7 +102,7 @@ fn within<'s, E: 's, G: Gate + Send + Drop + 's, R: Threads + Wait + Sync + 's>(
 }
 
 // Drives all in threads of a scope, which borrow what they share.
-fn in_threads<G: Gate + Send + Drop, R: Threads + Wait + Sync>(
+pub(crate) fn in_threads<G: Gate + Send + Drop, R: Threads + Wait + Sync>(
     rt: &R,
     alloc: Global,
     shared: &Shared,
@@ -140,7 +140,7 @@ fn prepared<G: Gate + Drop>(
 }
 
 // What is driven, of parts and gates.
-fn taken_apart<G: Gate + Drop>(
+pub(crate) fn taken_apart<G: Gate + Drop>(
     alloc: Global,
     parts: Parts,
     gates: Vec<G>,
@@ -168,7 +168,7 @@ fn taken_apart<G: Gate + Drop>(
 }
 
 // The parts and the gates of what was driven.
-fn put_together<G: Gate + Drop>(
+pub(crate) fn put_together<G: Gate + Drop>(
     alloc: Global,
     shared: Shared,
     driven: Driven<G>,

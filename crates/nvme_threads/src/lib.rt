@@ -3,6 +3,7 @@
 
 mod draining;
 mod driving;
+mod fed;
 mod feeding;
 mod flags;
 mod hosting;
@@ -15,4 +16,5 @@ mod tasks;
 mod working;
 
 pub use driving::{DriveError, Feeding, drive};
+pub use fed::drive_fed;
 pub use loading::{SqEnds, load};

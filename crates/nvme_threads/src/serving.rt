@@ -3,6 +3,7 @@ ghost use Rattle.std.specs.Prelude.{◌≡◌, ◌<◌, length, IfErr};
 ghost use Rattle.nvme_front.specs.View.{GoesOn};
 ghost use Rattle.nvme_threads.specs.Faults.{Accounts, IsDriveFault};
 ghost use Rattle.nvme_threads.specs.Loaded.{StaysLoaded};
+ghost use Rattle.nvme_threads.specs.inside.Drives.{IsFaultAt};
 ghost use Rattle.nvme_threads.specs.declared.driving.DriveError.TheVariants as drive_is;
 
 use crate::driving::DriveError;
@@ -110,6 +111,7 @@ fn turn<R: Wait>(
     ensures loaded { StaysLoaded front.old front.new }
     ensures accounts { Accounts front.new }
     ensures fault { IfErr result (IsDriveFault front.old) }
+    ensures fault_at { IfErr result (IsFaultAt front.old front.new) }
 {
     let fed = Fed {
         is_admin: shared.flags.is_admin_fed(),
@@ -137,6 +139,7 @@ pub fn serve<R: Wait>(
     ensures goes_on { GoesOn front.old front.new }
     ensures loaded { StaysLoaded front.old front.new }
     ensures fault { IfErr result (IsDriveFault front.old) }
+    ensures fault_at { IfErr result (IsFaultAt front.old front.new) }
 {
     refuse_starved(&shared.flags)?;
     let mut quiet = Quiet::new(patience);

@@ -1,12 +1,15 @@
 -- What is driven, and what comes back (profile).
-use Rattle.std.specs.Prelude.{◌≡◌, ◌<◌, ℕ, List, map, length, true, Result, IfOk, IfErr}
+use Rattle.std.specs.Prelude.{◌≡◌, ◌≢◌, ◌<◌, ℕ, List, map, length, true, Result, IfOk, IfErr}
 use Rattle.std.specs.List.{All, AllZip}
-use Rattle.nvme_front.specs.View.{GoesOn}
+use Rattle.nvme_front.specs.View.{FrontView, GoesOn}
+use Rattle.nvme_front.specs.declared.front.FrontError.{FrontError}
+use Rattle.nvme_front.specs.declared.front.FrontError.TheVariants as front
 use Rattle.nvme_front.specs.declared.settling.Parts.{Parts}
 use Rattle.nvme_threads.specs.declared.driving.Driven.{Driven}
 use Rattle.nvme_entry.specs.declared.submission.Sqe.{Sqe}
 use Rattle.nvme_lane.specs.declared.feeder.Feeder.{Feeder}
 use Rattle.nvme_threads.specs.declared.driving.DriveError.{DriveError}
+use Rattle.nvme_threads.specs.declared.driving.DriveError.TheVariants as drive
 use Rattle.nvme_threads.specs.declared.hosting.Feeders.{Feeders}
 use Rattle.nvme_threads.specs.declared.hosting.Feeders.TheVariants.{AtWork, Ended}
 use Rattle.nvme_threads.specs.declared.hosting.Hosts.{Hosts}
@@ -16,7 +19,7 @@ use Rattle.nvme_threads.specs.declared.loading.SqEnds.{SqEnds}
 use Rattle.nvme_threads.specs.declared.starting.Started.{Started}
 use Rattle.nvme_threads.specs.declared.tasks.Shared.{Shared}
 use Rattle.nvme_threads.specs.declared.working.Crewman.{Crewman}
-use Rattle.nvme_threads.specs.Faults.{IsDriveFault}
+use Rattle.nvme_threads.specs.Faults.{TurnFails, IsDriveFault}
 use Rattle.nvme_threads.specs.Hosts.{feeder_seen, drainer_seen, ends_seen}
 use Rattle.nvme_threads.specs.Loaded.{StaysLoaded}
 use Rattle.nvme_pool.specs.Runs.{Ran}
@@ -60,6 +63,16 @@ pub record ArePartsOf {G : Type 0} (shared : Shared) (driven : Driven G) (parts 
   pub workers : parts.workers.items ≡ map (λ (c : Crewman G). c.worker) driven.hosts.crew.items
   pub gates_of : gates ≡ map (λ (c : Crewman G). c.gate) driven.hosts.crew.items
 
+-- a turn failed so, and left the front as it is now
+pub record FailsAt (given now : FrontView) (e : FrontError) : Type 0 where
+  pub fails : TurnFails given e
+  pub is_now : fails.after ≡ now
+
+abbrev pub IsFaultAt : FrontView → FrontView → DriveError → Type 0
+IsFaultAt given now drive.NoMemory = Unit {0}
+IsFaultAt given now (drive.Front front.NoMemory) = ⊥
+IsFaultAt given now (drive.Front e) = FailsAt given now e
+
 -- `runs` is the view of a gate after one execution, by the view before it and the ticket
 module _ {G : Type 0} (runs : G → ℕ → G) where
   -- each feeder came back with its script as the same end, each drainer as the same end, and each worker with its gate as they ran
@@ -74,3 +87,6 @@ module _ {G : Type 0} (runs : G → ℕ → G) where
     pub loaded : StaysLoaded driven.front back.front
     pub hosts : IfOk ended (λ _. HaveRun driven.hosts back.hosts)
     pub fault : IfErr ended (IsDriveFault driven.front)
+    -- where a turn failed all that ran beside the front came back too
+    pub fault_at : IfErr ended (IsFaultAt driven.front back.front)
+    pub hosts_too : IfErr ended (λ e. e ≢ drive.NoMemory → HaveRun driven.hosts back.hosts)

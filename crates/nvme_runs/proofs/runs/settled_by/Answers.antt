@@ -1,6 +1,7 @@
 -- The parts that come back from a drive are those that were prepared, but for what was done, and what is settled of them is the whole account.
 use Rattle.nvme_runs.proofs.Driven.{few_feeders, gets_still, pool_kept, puts_still, scripts_seen, still_fed, still_drained}
 use Rattle.nvme_runs.proofs.Accounts.{whole_account}
+use Rattle.nvme_runs.proofs.Failing.{late_result}
 use Rattle.nvme_runs.proofs.Settled.{has_its_hosts}
 use Rattle.nvme_runs.proofs.Told.{gates_ran}
 use Rattle.std.proofs.Common.{List, reverse, ap, ◌∙◌, subst}
@@ -79,3 +80,8 @@ returns-clause-loaded g c = λ is.
     (collected_at c.in_ok-settled.settled.collected.items) c.in_ok-parts.ensures.prepared
     (subst (λ (m : Mode). AllSubmitted m before.front before.feeders.items) is (c.are_loaded.ensures c.if-not-are_loaded.false is))
     c.in_ok-parts-2.ensures.front c.in_ok-parts-2.ensures.loaded (ap (λ (log : List Event). reverse log) c.in_ok-settled.ensures.log) (returns-clause-account g c)
+
+pub returns-in_err-parts-2-clause-faults : goal.returns-in_err-parts-2-clause-faults
+returns-in_err-parts-2-clause-faults g c =
+    late_result (plan_of c.args.workload) c.in_ok-parts.parts c.in_err-parts-2.field-0.0 c.drive_fed.result c.from_residual-in_err-parts-2.result
+    c.requires.sound c.in_ok-parts.ensures.prepared c.in_err-parts-2.was c.drive_fed.ensures.fault c.from_residual-in_err-parts-2.ensures.1

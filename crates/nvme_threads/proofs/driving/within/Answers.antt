@@ -1,5 +1,8 @@
-use Rattle.nvme_threads.proofs.Joins.{ok-so}
-use Rattle.nvme_threads.proofs.Turned.{outcome-fault}
+use Rattle.std.specs.Prelude.{◌≢◌}
+use Rattle.nvme_threads.specs.declared.driving.DriveError.{DriveError}
+use Rattle.nvme_threads.specs.declared.driving.DriveError.TheVariants as drive
+use Rattle.nvme_threads.proofs.Joins.{ok-so, err-if}
+use Rattle.nvme_threads.proofs.Turned.{outcome-fault, outcome-fault_at}
 use Rattle.nvme_threads.proofs.driving.within.Goals as goal
 
 pub returns : goal.returns
@@ -10,4 +13,6 @@ returns g c =
       loaded = c.serve-served.ensures.loaded;
       hosts = ok-so _ _ _ ended.ok (λ _ whole. c.finish-hosts.ensures _ c.start-running.ensures whole);
       fault = outcome-fault _ _ _ c.serve-served.ensures.fault ended.fault;
+      fault_at = outcome-fault_at _ _ _ _ c.serve-served.ensures.fault_at ended.fault;
+      hosts_too = err-if _ (λ (e : DriveError). e ≢ drive.NoMemory) _ _ ended.whole (λ whole. c.finish-hosts.ensures _ c.start-running.ensures whole);
     }

@@ -1,13 +1,18 @@
 use Rattle.std.proofs.Common.{inl, inr, refl}
 use Rattle.nvme_front.proofs.EndsSeen.{GoesOn-refl, GoesOn-trans}
 use Rattle.nvme_threads.proofs.LoadedTurns.{stays-refl, stays-trans}
-use Rattle.nvme_threads.proofs.Turned.{told-later}
+use Rattle.nvme_threads.proofs.Turned.{told-later, told-later_at}
 use Rattle.nvme_threads.proofs.serving.serve.Goals as goal
 
 pub returns-in-Err-clause-fault : goal.returns-in-Err-clause-fault
 returns-in-Err-clause-fault g c =
     let inv = c.loop.invariant in
     told-later c.args.front.now c.loop.front c.in-Err.error inv.goes_on inv.stood c.in-Err.ensures.fault
+
+pub returns-in-Err-clause-fault_at : goal.returns-in-Err-clause-fault_at
+returns-in-Err-clause-fault_at g c =
+    let inv = c.loop.invariant in
+    told-later_at c.args.front.now c.loop.front _ c.in-Err.error inv.goes_on inv.stood c.in-Err.ensures.fault_at
 
 pub returns-in-Err-clause-goes_on : goal.returns-in-Err-clause-goes_on
 returns-in-Err-clause-goes_on g c = GoesOn-trans _ _ _ c.loop.invariant.goes_on c.turn.ensures.goes_on
