@@ -14,7 +14,7 @@ pub record IsShown (text : List ℕ) (P : Head → History → Type 0) : Type 0 
   pub tells : Tells head past (reverse (lines_of text))
   pub holds : P head past
 
--- so many lines of a text are a head and events, and then the other bytes follow
+-- this many lines of a text are a head and events, and then the other bytes follow
 pub record IsReadUpTo (text rest : List ℕ) (number : ℕ) (head : Head) (past : History) : Type 0 where
   -- the last one first
   pub lines : List (List ℕ)

@@ -1,4 +1,4 @@
-// A picture of a trace.
+// Draws a trace.
 ghost use Rattle.std.specs.Prelude.{◌≡◌, [], ◌∷◌, OnOk, IfOk, IfErr, IfSome};
 ghost use Rattle.nvme_arbiter.specs.History.{History, Picked};
 ghost use Rattle.nvme_trace.specs.declared.reading.Head.{Head};
@@ -13,12 +13,12 @@ use nvme_trace::{Head, Trace, TraceError, TraceEvent, WriteFault, class_name, me
 use std::alloc::Global;
 use std::io::{self, Read, Write};
 
-// How many columns a picture has at most, and how many places for bars in all its rows.
+// The most columns of a picture, and the most places for bars in all its rows.
 const COLUMNS: usize = 2_000;
 
 const BARS: u64 = 65_536;
 
-// How often the columns are halved at most until all rows have room.
+// The most times that the columns are halved until all rows have room.
 const HALVES: u32 = 11;
 
 // Measures of the picture, in pixels.
@@ -32,11 +32,11 @@ const BAR: u64 = 36;
 
 const WIDE: u64 = 24;
 
-// A step of the picture: what was picked in it from each row.
+// A column of the picture: what was picked in it from each row.
 #[derive(Clone, Copy)]
 struct Column {
     commands: [u32; LANES],
-    // A round starts in it, and settings change in it or before it.
+    // Whether a round starts in it, and whether settings change in it or before it.
     fresh: bool,
     set: bool,
 }
@@ -48,7 +48,7 @@ const EMPTY: Column = Column {
 };
 
 impl Column {
-    // Adds a later step.
+    // Adds a later column to this one.
     fn add(&mut self, other: &Column) {
         for (commands, more) in self.commands.iter_mut().zip(&other.commands) {
             *commands = commands.saturating_add(*more);
@@ -58,18 +58,18 @@ impl Column {
     }
 }
 
-/// A picture of a trace: a row for each queue, and the picks from left to right. Neither its memory nor its text grows with
-/// the trace: where there are more than 2,000 picks, or more than 65,536 of them times the rows, each step of the picture
-/// sums up 2, 4, 8 or more of them.
+/// A picture of a trace: a row for each queue and class, and the picks from left to right. Neither its memory nor its
+/// text grows with the trace: with more than 2,000 picks, or more than 65,536 picks times rows, each column sums up 2,
+/// 4, 8 or more picks.
 #[derive(Drop)]
 pub struct Picture {
     mechanism: Mechanism,
     picks: u64,
     commands: u64,
     columns: Columns,
-    // The rows that were seen.
+    // Whether each row was seen.
     seen: [bool; LANES],
-    // The settings changed after the latest pick.
+    // Whether the settings changed after the latest pick.
     set: bool,
 }
 
@@ -77,7 +77,7 @@ pub struct Picture {
 #[derive(Drop)]
 struct Columns {
     all: Vec<Column>,
-    // How many picks a column sums up, and how many the last one has.
+    // How many picks a column sums up, and how many picks the last column has so far.
     step: u64,
     filled: u64,
 }
@@ -103,7 +103,7 @@ fn note_rows(rows: &mut [bool; LANES], seen: &[Seen]) {
 }
 
 impl Columns {
-    // Sums up the columns by twos. Of an odd number the last one stays as it is.
+    // Sums up the columns in pairs. The last of an odd number stays as it is.
     fn halve(&mut self) {
         let half = self.all.len() / 2;
         let last = self.all.last().copied();
@@ -124,7 +124,7 @@ impl Columns {
         self.step = self.step.saturating_mul(2);
     }
 
-    // Sums up the columns until this number of rows has room.
+    // Sums up columns until this number of rows has room.
     fn fit(&mut self, rows: u64) {
         for _ in 0..HALVES {
             if rows.saturating_mul(self.all.len() as u64) <= BARS {
@@ -168,7 +168,7 @@ impl Columns {
 }
 
 impl Picture {
-    // Nothing was picked.
+    // A picture with no pick.
     fn new(alloc: Global, head: Head) -> Picture
         ensures { IsPictured head [] result }
     {
@@ -199,7 +199,7 @@ impl Picture {
         Ok(())
     }
 
-    // How many pixels a column is wide.
+    // The width of a column, in pixels.
     fn column_width(&self) -> u64 {
         let columns = self.columns.all.len() as u64;
         if columns == 0 {
@@ -208,12 +208,12 @@ impl Picture {
         (1_200 / columns).max(1).min(WIDE)
     }
 
-    // Where a column begins.
+    // The left edge of a column, in pixels.
     fn left_of(&self, at: usize) -> u64 {
         LEFT.saturating_add(self.column_width().saturating_mul(at as u64))
     }
 
-    // How many rows were seen.
+    // The number of rows that were seen.
     fn rows(&self) -> u64 {
         let mut rows = 0u64;
         for seen in &self.seen {
@@ -224,7 +224,7 @@ impl Picture {
         rows
     }
 
-    // Where the rows end.
+    // The lower edge of the rows, in pixels.
     fn bottom(&self) -> u64 {
         TOP.saturating_add(ROW.saturating_mul(self.rows()))
     }
@@ -295,7 +295,7 @@ impl Picture {
         )
     }
 
-    // Writes the marks: where a round starts, and where settings change. A change after the last pick stands at the end.
+    // Writes the marks: where a round starts, and where settings change. A change after the last pick is at the end.
     fn put_marks<W: Write>(&self, writer: &mut W) -> io::Result<()> {
         let end = if self.column_width() > 4 {
             self.bottom()
@@ -320,7 +320,7 @@ impl Picture {
         Ok(())
     }
 
-    // Every how many columns one is numbered.
+    // One of this many columns is numbered.
     fn numbered(&self) -> u64 {
         let width = self.column_width().max(1);
         for every in [1u64, 2, 5, 10, 20, 50, 100] {
@@ -414,7 +414,7 @@ impl Picture {
         writer.write_all(b"</svg>\n")
     }
 
-    /// Writes the picture as SVG.
+    /// Writes the picture as SVG. `WriteFault` where a write failed.
     pub fn write_svg<W: Write>(&self, writer: &mut W) -> Result<(), WriteFault> {
         match self.put_svg(writer) {
             Ok(()) => Ok(()),
@@ -437,7 +437,8 @@ impl Watch for Picture {
     }
 }
 
-/// A picture of a trace. It is read as a stream, and its picks are not judged.
+/// Draws a trace. It is read as a stream, and its picks aren't judged. Refused with the first faulty line, a failed
+/// read or no memory, as `nvme_trace::check` is.
 pub fn chart<R: Read + Drop>(alloc: Global, reader: R) -> Result<Picture, TraceError>
     ensures pictured { IfOk result (λ picture. IfSome (R.remaining reader) (λ text. IsShown text (λ head past. IsPictured head past picture))) }
     ensures fault { IfErr result (λ error. IfSome (R.remaining reader) (λ text. IsReadFault text error)) }

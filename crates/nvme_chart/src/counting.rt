@@ -1,4 +1,4 @@
-// What a trace shows in numbers.
+// Counts what a trace shows.
 ghost use Rattle.std.specs.Prelude.{[], ◌∷◌, IfOk, IfErr, IfSome};
 ghost use Rattle.nvme_arbiter.specs.History.{History, Picked, Changed};
 ghost use Rattle.nvme_trace.specs.declared.reading.Head.{Head};
@@ -14,19 +14,19 @@ use nvme_trace::{Head, Trace, TraceError, TraceEvent, WriteFault, class_name, me
 use std::alloc::Global;
 use std::io::{self, Read, Write};
 
-// What is counted of a queue in a class.
+// The counts of a queue in a class.
 #[derive(Clone, Copy, Default)]
 struct Tally {
-    // It was seen.
+    // Whether it was seen.
     seen: bool,
     picks: u64,
     commands: u64,
-    // For how many picks in a row it is ready and not picked, and for how many at most.
+    // For how many picks in a row it is now ready and not picked, and the most such picks.
     waits: u64,
     longest: u64,
 }
 
-// Nothing is counted.
+// Counts of nothing.
 const NO_TALLY: Tally = Tally {
     seen: false,
     picks: 0,
@@ -35,7 +35,7 @@ const NO_TALLY: Tally = Tally {
     longest: 0,
 };
 
-/// What a trace shows in numbers: for each queue in each class in which it was seen, and for each class.
+/// Statistics of a trace, for each queue in each class in which it was seen, and for each class.
 #[derive(Drop)]
 pub struct Statistics {
     mechanism: Mechanism,
@@ -47,12 +47,12 @@ pub struct Statistics {
     behind: Behind,
 }
 
-// The commands of High and Medium that are picked in a row while a low queue is ready and no admin or urgent one. Each
-// other pick ends the row.
+// The commands of High and Medium that are picked in a row while a low queue is ready and no admin or urgent one is.
+// Any other pick ends the row.
 #[derive(Clone, Copy)]
 struct Behind {
     commands: u64,
-    // The most of them, and the bound of the settings then.
+    // The most such commands, and the bound by the settings then.
     longest: u64,
     bound: u64,
 }
@@ -76,7 +76,7 @@ fn is_ready(seen: &[Seen], class: Class) -> bool {
         .any(|queue| queue.class == class && queue.count > 0)
 }
 
-// Counts what a pick takes of its row.
+// Counts what a pick takes from its row.
 fn count_pick(tallies: &mut [Tally; LANES], lane: usize, n: u16) {
     if let Some(tally) = tallies.get_mut(lane) {
         tally.picks = tally.picks.saturating_add(1);
@@ -95,8 +95,8 @@ fn note_seen(tallies: &mut [Tally; LANES], seen: &[Seen]) {
     }
 }
 
-// Lets the ready rows wait that compete with the pick: all of them under round robin, those of its class else. A pick of
-// a queue that isn't seen has no row, and no class.
+// Counts one more pick of waiting for the ready rows that compete with a pick: all rows under round robin, otherwise
+// those of its class. A pick of a queue that isn't seen has no row, and no class.
 fn wait(tallies: &mut [Tally; LANES], mechanism: Mechanism, seen: &[Seen], picked: Option<usize>) {
     let class = picked.map(class_of_lane);
     let ready = ready_lanes(seen);
@@ -113,7 +113,7 @@ fn wait(tallies: &mut [Tally; LANES], mechanism: Mechanism, seen: &[Seen], picke
     }
 }
 
-// Lets all rows wait anew.
+// Starts the waiting of all rows from 0 again.
 fn wait_anew(tallies: &mut [Tally; LANES]) {
     for tally in tallies.iter_mut() {
         tally.waits = 0;
@@ -128,7 +128,7 @@ fn low_bound(settings: &Settings) -> u64 {
 }
 
 impl Behind {
-    // Lets the low level wait behind a pick of High or Medium under the weighted mechanism.
+    // Counts the waiting of the low level behind a pick of High or Medium, under the weighted mechanism.
     fn wait(
         &mut self,
         mechanism: Mechanism,
@@ -154,7 +154,7 @@ impl Behind {
 }
 
 impl Statistics {
-    // Nothing was picked.
+    // Statistics of no pick.
     fn new(head: Head) -> Statistics
         ensures { IsCounted head [] result }
     {
@@ -173,7 +173,7 @@ impl Statistics {
         }
     }
 
-    // Notes for each row what a pick takes of it, and what waits.
+    // Notes for each row what a pick takes from it, and what waits.
     fn note_rows(&mut self, seen: &[Seen], pick: &Pick)
         ensures { (head : Head) (past : History) → IsCounted head past self.old → IsCounted head past self.new }
     {
@@ -197,7 +197,7 @@ impl Statistics {
         self.commands = more(self.commands, pick.n);
     }
 
-    // Takes new settings. What waited begins anew, since the bounds are of settings that stay.
+    // Takes new settings. All waiting starts from 0 again, since the bounds hold while settings stay.
     fn note_set(&mut self, settings: Settings)
         ensures { (head : Head) (past : History) → IsCounted head past self.old → IsCounted head (Changed settings ∷ past) self.new }
     {
@@ -207,7 +207,7 @@ impl Statistics {
         self.changes = more(self.changes, 1);
     }
 
-    // What all rows of a class come to.
+    // The sum of all rows of a class.
     fn of_class(&self, class: Class) -> Tally {
         let mut sum = NO_TALLY;
         for (lane, tally) in self.tallies.iter().enumerate() {
@@ -221,8 +221,8 @@ impl Statistics {
         sum
     }
 
-    // The commands of an I/O queue, in whatever classes, where it was seen. The queue's row in a class stands as many rows
-    // behind that in the class before as there are I/O queues.
+    // The commands of an I/O queue over all classes, where it was seen. The rows of a queue in two successive classes
+    // are as many rows apart as there are I/O queues.
     fn of_queue(&self, qid: usize) -> Option<u64> {
         let mut commands = None;
         for (lane, tally) in self.tallies.iter().enumerate() {
@@ -234,8 +234,8 @@ impl Statistics {
         commands
     }
 
-    // Jain's index of the commands of the I/O queues, in ten thousandths: the square of their sum by the sum of their
-    // squares, by their number. 10,000 where nothing was picked of them.
+    // Jain's index of the commands of the I/O queues, in ten thousandths: the square of their sum, divided by their
+    // number times the sum of their squares. 10,000 where none was picked.
     fn jain(&self) -> u128 {
         let mut number = 0u128;
         let mut sum = 0u128;
@@ -255,7 +255,7 @@ impl Statistics {
         sum.saturating_mul(sum).saturating_mul(10_000) / below
     }
 
-    // How much of all commands these are, in ten thousandths.
+    // The share of these in all commands, in ten thousandths.
     fn share(&self, commands: u64) -> u128 {
         if self.commands == 0 {
             return 0;
@@ -263,7 +263,7 @@ impl Statistics {
         u128::from(commands).saturating_mul(10_000) / u128::from(self.commands)
     }
 
-    // Below how many picks in a row a ready queue of a lawful run stays unpicked.
+    // A ready queue of a lawful run stays unpicked for fewer picks in a row than this.
     fn bound(&self) -> usize {
         match self.mechanism {
             Mechanism::RoundRobin => QUEUE_LIMIT,
@@ -396,9 +396,9 @@ impl Statistics {
         )
     }
 
-    /// Writes a table for people: a row for each queue and each class with its picks, its commands, its share of all
-    /// commands, and the most picks in a row for which a queue was ready and not picked, beside the number below which
-    /// this stays in a lawful run.
+    /// Writes a table for people. It has a row for each queue and each class: its picks, its commands, its share of all
+    /// commands, and the most picks in a row for which a queue was ready and not picked, beside the bound below which
+    /// this stays in a lawful run. `WriteFault` where a write failed.
     pub fn write_text<W: Write>(&self, writer: &mut W) -> Result<(), WriteFault> {
         match self.put_text(writer) {
             Ok(()) => Ok(()),
@@ -406,7 +406,7 @@ impl Statistics {
         }
     }
 
-    /// Writes the same as one JSON object and a newline.
+    /// Writes the same as one JSON object and a newline. `WriteFault` where a write failed.
     pub fn write_json<W: Write>(&self, writer: &mut W) -> Result<(), WriteFault> {
         match self.put_json(writer) {
             Ok(()) => Ok(()),
@@ -432,7 +432,8 @@ impl Watch for Statistics {
     }
 }
 
-/// What a trace shows in numbers. It is read as a stream, and its picks are not judged.
+/// Counts what a trace shows. It is read as a stream, and its picks aren't judged. Refused with the first faulty line,
+/// a failed read or no memory, as `nvme_trace::check` is.
 pub fn stats<R: Read + Drop>(alloc: Global, reader: R) -> Result<Statistics, TraceError>
     ensures counted { IfOk result (λ counted. IfSome (R.remaining reader) (λ text. IsShown text (λ head past. IsCounted head past counted))) }
     ensures fault { IfErr result (λ error. IfSome (R.remaining reader) (λ text. IsReadFault text error)) }

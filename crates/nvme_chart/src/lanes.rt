@@ -1,12 +1,12 @@
-// The rows that a trace shows: one for each queue and class in which it was seen.
+// The rows of a trace: one for each queue in each class.
 ghost use Rattle.std.specs.Prelude.{◌<◌, IfSome};
 
 use nvme_arbiter::{Class, QUEUE_LIMIT, Seen};
 
-/// How many I/O queues there can be.
+/// The most I/O queues.
 pub const IO_QUEUES: usize = QUEUE_LIMIT - 1;
 
-/// How many rows there can be: the admin queue, and each I/O queue in each other class.
+/// The number of rows: the admin queue, and each I/O queue in each other class.
 pub const LANES: usize = 1 + 4 * IO_QUEUES;
 
 /// The classes, in the order of their rows.
@@ -18,7 +18,7 @@ pub const CLASSES: [Class; 5] = [
     Class::Low,
 ];
 
-// How many classes of I/O queues come before a class.
+// The number of I/O classes before a class.
 fn rank(class: Class) -> Option<usize>
     ensures { IfSome result (λ rank. rank < 4) }
 {
@@ -31,7 +31,7 @@ fn rank(class: Class) -> Option<usize>
     }
 }
 
-/// The row of a queue in a class.
+/// The row of a queue in its class.
 pub fn lane_of(queue: &Seen) -> Option<usize>
     ensures { IfSome result (λ lane. lane < LANES) }
 {
@@ -69,7 +69,7 @@ pub fn class_of_lane(lane: usize) -> Class {
     queue_of_lane(lane).class
 }
 
-/// The row of a pick, where its queue was seen.
+/// The row of the queue that a pick names, where it was seen.
 pub fn lane_of_pick(seen: &[Seen], qid: u16) -> Option<usize>
     ensures { IfSome result (λ lane. lane < LANES) }
 {

@@ -1,4 +1,4 @@
-//! What a trace of arbitration shows: statistics, and a picture.
+//! Statistics and a picture of a trace of arbitration.
 #![tactic(auto)]
 
 mod charting;

@@ -1,4 +1,4 @@
-// What goes through a trace, event by event.
+// Goes through a trace, event by event.
 ghost use Rattle.std.specs.Prelude.{◌≡◌, ◌+◌, List, ℕ, Some, Ok, [], ◌∷◌, IfErr, OnOk};
 ghost use Rattle.nvme_arbiter.specs.History.{History};
 ghost use Rattle.nvme_trace.specs.Format.{event_view, head_of_line};
@@ -12,9 +12,9 @@ use nvme_trace::{Trace, TraceError, TraceEvent};
 use std::alloc::Global;
 use std::io::Read;
 
-/// What goes through a trace, event by event.
+/// Something that follows a trace, event by event.
 pub trait Watch: Drop {
-    /// That these are the head and the events so far, the newest first.
+    /// These are the head and the events so far, the newest first.
     ghost stands: { Head → History → Self → Type 0 };
 
     /// Takes the next event.
@@ -23,14 +23,14 @@ pub trait Watch: Drop {
         ensures fault { IfErr result (λ e. e ≡ fault.NoMemory) };
 }
 
-/// A count with more of them. It stops at its highest.
+/// The sum of a count and more, at most 2^64 - 1.
 pub fn more(count: u64, by: u16) -> u64
     ensures { (n : ℕ) → count ≡ capped n → result ≡ capped (n + by) }
 {
     count.saturating_add(u64::from(by))
 }
 
-/// Shows all events after the head.
+/// Shows all events after the head to a watcher.
 pub fn show<R: Read, W: Watch>(
     alloc: Global,
     trace: &mut Trace<R>,

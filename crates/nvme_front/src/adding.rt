@@ -1,4 +1,4 @@
-// How a front is made, and how regions are added.
+// Makes a front, and adds regions to it.
 use crate::front::{AddError, FrontConfig};
 use crate::limits::MAX_READY;
 use crate::state::FrontState;
@@ -52,7 +52,7 @@ impl FrontState {
         }
     }
 
-    // An address is that of a region of either kind.
+    // Whether an address is that of a region of either kind.
     fn has_address(&self, address: u64) -> bool
         ensures { result ≡ is_address (view_of self.now) address }
     {
@@ -60,7 +60,8 @@ impl FrontState {
             || self.cqs.iter().any(|cq| cq.end.address() == address)
     }
 
-    /// Adds a submission region, with room for its window and for jobs. Region 0 is the admin queue's, which is open from then on.
+    /// Adds a submission region, with room for its window and for jobs. Region 0 is the admin queue's, which is open
+    /// from then on.
     pub fn add_sq(&mut self, end: GetEnd<Sqe>) -> Result<u8, (AddError, GetEnd<Sqe>)>
         requires consistent { IsConsistent self.old }
         requires nothing_got { end.got ≡ [] }

@@ -1,4 +1,4 @@
-// What picked admin commands make of the queues.
+// The effects of picked admin commands on the queues.
 use crate::executing::{abort_all, requested};
 use crate::logging::note;
 use crate::state::FrontState;
@@ -18,7 +18,7 @@ impl FrontState {
     ghost use Rattle.nvme_front.specs.inside.State.{gets_of};
     ghost use Rattle.nvme_log.specs.Histories.{picks_in};
 
-    // The answer of an admin command is ready.
+    // Makes the completion of an admin command ready.
     fn answer(&mut self, candidate: Candidate, status: Status, dw0: u32)
         requires applied { (closing : Option ℕ) × IsApplied self.old candidate (verdict.Done status dw0) closing }
         ensures consistent { IsConsistent self.new }
@@ -30,7 +30,7 @@ impl FrontState {
         self.cqs[0].ready.push(candidate.answered(status, dw0));
     }
 
-    // A submission queue opens, with an empty window. (Create I/O Submission Queue)
+    // Opens a submission queue with an empty window. (Create I/O Submission Queue)
     fn open_sq(&mut self, candidate: Candidate, qid: u16, region: u8, cqid: u16, class: Class)
         requires applied { (closing : Option ℕ) × IsApplied self.old candidate (verdict.OpenSq qid region cqid class) closing }
         ensures consistent { IsConsistent self.new }
@@ -58,7 +58,7 @@ impl FrontState {
             .push(candidate.answered(Status::SUCCESS, 0));
     }
 
-    // A completion queue opens. (Create I/O Completion Queue)
+    // Opens a completion queue. (Create I/O Completion Queue)
     fn open_cq(&mut self, candidate: Candidate, qid: u16, region: u8)
         requires applied { (closing : Option ℕ) × IsApplied self.old candidate (verdict.OpenCq qid region) closing }
         ensures consistent { IsConsistent self.new }
@@ -73,7 +73,7 @@ impl FrontState {
             .push(candidate.answered(Status::SUCCESS, 0));
     }
 
-    // A completion queue is closed, which was open on a region before. (Delete I/O Completion Queue)
+    // Closes a completion queue, which was open on the region `closing`. (Delete I/O Completion Queue)
     fn close_cq(&mut self, candidate: Candidate, qid: u16, closing: Option<u8>)
         requires applied { IsApplied self.old candidate (verdict.CloseCq qid) closing }
         ensures consistent { IsConsistent self.new }
@@ -91,7 +91,7 @@ impl FrontState {
             .push(candidate.answered(Status::SUCCESS, 0));
     }
 
-    // New settings of arbitration are in force. (Arbitration feature)
+    // Puts new settings of arbitration in force. (Arbitration feature)
     fn set_arbitration(&mut self, candidate: Candidate, settings: Settings)
         requires applied { (closing : Option ℕ) × IsApplied self.old candidate (verdict.SetArbitration settings) closing }
         ensures consistent { IsConsistent self.new }
@@ -107,8 +107,8 @@ impl FrontState {
             .push(candidate.answered(Status::SUCCESS, 0));
     }
 
-    // The deletion of a submission queue begins: its candidates are aborted. It is answered when it is finished.
-    // (Delete I/O Submission Queue)
+    // Begins the deletion of a submission queue and aborts its candidates. The Delete is answered when the deletion is
+    // finished. (Delete I/O Submission Queue)
     fn begin_delete(&mut self, candidate: Candidate, qid: u16)
         requires applied { (closing : Option ℕ) × IsApplied self.old candidate (verdict.BeginDelete qid) closing }
         ensures consistent { IsConsistent self.new }
@@ -143,8 +143,8 @@ impl FrontState {
         });
     }
 
-    // Aborts the oldest waiting command of an open I/O submission queue with a command identifier: its completion is then
-    // ready. False where there is none; nothing changed then. (Abort)
+    // Aborts the oldest waiting command with a command identifier in an open I/O submission queue. Its completion is
+    // then ready. False, which changes nothing, where there is no such command. (Abort)
     fn abort_oldest(&mut self, sqid: u16, cid: u16) -> bool
         requires applied { (candidate : Candidate) × (closing : Option ℕ) × IsApplied self.old candidate (verdict.Abort sqid cid) closing }
         ensures none { result ≡ false → IsSame self.old self.new × HasNoneNamed self.old sqid cid }
@@ -179,7 +179,8 @@ impl FrontState {
         true
     }
 
-    // A waiting command is aborted, where there is one. Command Dword 0 of the answer says whether there was. (Abort)
+    // Aborts the waiting command that an Abort names, where there is one. Command Dword 0 of the answer says whether
+    // there was. (Abort)
     fn abort(&mut self, candidate: Candidate, sqid: u16, cid: u16)
         requires applied { (closing : Option ℕ) × IsApplied self.old candidate (verdict.Abort sqid cid) closing }
         ensures consistent { IsConsistent self.new }
@@ -194,8 +195,8 @@ impl FrontState {
             .push(candidate.answered(Status::SUCCESS, dw0));
     }
 
-    /// Makes of the queues what a picked admin command comes to. `closing` is the region of the completion queue that
-    /// the command deletes, where it does.
+    /// Carries out the verdict on a picked admin command. `closing` is the region of the completion queue that the
+    /// command deletes, where it deletes one.
     pub fn carry_out(&mut self, candidate: Candidate, verdict: Verdict, closing: Option<u8>)
         requires applied { IsApplied self.old candidate verdict closing }
         ensures consistent { IsConsistent self.new }

@@ -1,4 +1,4 @@
-// What a front shows of its ends, for a thread that holds its hosts too.
+// A front's ends, for a thread that also holds its hosts.
 use crate::front::Front;
 use crate::state::FrontState;
 use nvme_entry::{Cqe, Sqe};
@@ -46,8 +46,7 @@ impl FrontState {
         drainer.beside(&mut region.end)
     }
 
-    /// Closes the pool of the front's seat, and gives the log. Where memory for that was refused all comes back,
-    /// unchanged.
+    /// Closes the pool of the front's seat, and gives the log. Where memory was refused all comes back, unchanged.
     pub fn into_log<R: Wait>(
         self,
         rt: &R,
@@ -162,8 +161,8 @@ impl Front {
         self.state.beside_cq(c, drainer)
     }
 
-    /// Closes the front's pool, and gives what the front did, the oldest event first. All that it got is fetched, and all
-    /// that it put is posted. Where memory to close the pool was refused all comes back, unchanged.
+    /// Closes the front's pool, and gives the log, the oldest event first. The log has a fetch for all that the front
+    /// got, and a post for all that it put. Where memory was refused all comes back, unchanged.
     pub(crate) fn into_log<R: Wait>(
         self,
         rt: &R,

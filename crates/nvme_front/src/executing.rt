@@ -1,4 +1,4 @@
-// What becomes of the candidates of an I/O queue: they are picked, or aborted.
+// Takes candidates of an I/O queue out of its window: they were picked, or are aborted.
 ghost use Rattle.std.specs.Prelude.{◌≡◌, ◌+◌, ◌^◌, ◌<◌, ◌≤◌, [], ◌++◌, map, length, take, drop, vec_capacity};
 ghost use Rattle.nvme_state.specs.inside.Steps.{aborted, requested as requested_at};
 ghost use Rattle.nvme_state.specs.inside.Jobs.{with_picked};
@@ -10,7 +10,7 @@ use nvme_entry::Status;
 use nvme_log::Event;
 use nvme_state::{Candidate, Fifo, Jobs, Ready};
 
-/// Takes the `n` oldest candidates of a window, whose jobs are then to be handed to the workers.
+/// Takes the `n` oldest candidates out of a window. Their jobs are then to be handed over to the workers.
 pub fn dispatch_oldest(window: &mut Fifo<Candidate>, jobs: &mut Jobs, region: u8, n: u16)
     requires there { n ≤ length window.old.items }
     requires room { length jobs.old.hands.unhanded + n ≤ jobs.old.room }
@@ -40,7 +40,7 @@ pub fn requested(region: u8, candidate: &Candidate) -> Ready
     }
 }
 
-/// Aborts all candidates of a window, the oldest first: their completions are then ready.
+/// Aborts all candidates of a window, the oldest first. Their completions are then ready.
 /// (Base Specification, Delete I/O Submission Queue)
 pub fn abort_all(
     window: &mut Fifo<Candidate>,

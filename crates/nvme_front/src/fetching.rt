@@ -13,7 +13,7 @@ impl FrontState {
     ghost use Rattle.nvme_log.specs.Histories.{picks_in};
     ghost use Rattle.nvme_front.specs.declared.front.FrontError.TheVariants.{NoMemory, LogFull};
 
-    // Fetches one command of a queue, where it is open, its window has room and its ring gives one.
+    // Fetches one command of a queue, if the queue is open, its window has room and its ring gives one.
     fn fetch_one(&mut self, qid: u16) -> Result<bool, FrontError>
         requires consistent { IsConsistent self.old }
         requires admin { HasAdmin self.old }
@@ -80,7 +80,7 @@ impl FrontState {
         Ok(fetched)
     }
 
-    /// Fetches from each open queue by ascending identifier, and says whether anything was fetched.
+    /// Fetches from each open queue by ascending identifier. The answer is whether anything was fetched.
     pub fn scan(&mut self) -> Result<bool, FrontError>
         requires consistent { IsConsistent self.old }
         requires admin { HasAdmin self.old }

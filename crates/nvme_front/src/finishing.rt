@@ -15,8 +15,8 @@ impl FrontState {
     ghost use Rattle.nvme_log.specs.Histories.{picks_in};
     ghost use Rattle.nvme_front.specs.declared.front.FrontError.TheVariants.{NoMemory, LogFull};
 
-    /// Finishes the pending deletion, where all places of its queue are posted: its answer is then ready.
-    /// (Base Specification, Delete I/O Submission Queue)
+    /// Finishes the pending deletion, if all places of its queue are posted. The completion of the Delete is then
+    /// ready. (Base Specification, Delete I/O Submission Queue)
     pub fn finish(&mut self, deletion: PendingDelete) -> Result<bool, FrontError>
         requires consistent { IsConsistent self.old }
         requires admin { HasAdmin self.old }

@@ -20,7 +20,7 @@ pub struct FrontConfig {
     pub mechanism: Mechanism,
     /// The first settings of the Arbitration feature.
     pub settings: Settings,
-    /// The most I/O queues of each kind.
+    /// The most I/O queues of each kind, 1 to 64.
     pub limits: Limits,
     /// The namespaces of the I/O commands.
     pub spaces: Namespaces,
@@ -34,25 +34,25 @@ pub struct FrontConfig {
 pub enum Step {
     /// Candidates were picked.
     Picked,
-    /// Something was gained, posted, fetched, handed or closed.
+    /// Nothing was picked, but something was gained, posted, fetched, handed over or closed.
     Moved,
     /// Nothing could be done.
     Idle,
-    /// A pick waits for free outstanding places: one for each command, and for an Abort command a second one, which what
-    /// it aborts takes.
+    /// A pick waits for outstanding places to become free: one for each command, and for an Abort command a second one,
+    /// for the command that it aborts.
     Stalled,
 }
 
-/// Why a region was not added to a front. The end that was handed in comes back.
+/// Why a region wasn't added to a front. The end comes back, and nothing changed.
 #[derive(Clone, Copy, Debug, PartialEq, Eq, Error)]
 pub enum AddError {
     /// The address is that of a region of either kind.
     #[error("address already used")]
     Used,
-    /// All regions of this kind are there.
+    /// `MAX_REGIONS` regions of this kind exist.
     #[error("too many regions")]
     TooMany,
-    /// Memory was refused.
+    /// Out of memory.
     #[error("out of memory")]
     NoMemory,
 }
@@ -60,21 +60,21 @@ pub enum AddError {
 /// Why a turn stopped. What it did before stands, and a later turn goes on from there.
 #[derive(Clone, Copy, Debug, PartialEq, Eq, Error)]
 pub enum FrontError {
-    /// Memory for the log was refused.
+    /// Out of memory for the log.
     #[error("out of memory")]
     NoMemory,
-    /// The log has too few free events for the next step.
+    /// The log, at most `max_events` long, has no room for the next step.
     #[error("log full")]
     LogFull,
-    /// A result with this ticket is of no job that was handed and has no result. It was dropped.
+    /// A worker returned a result with this ticket that belongs to no job which waits for one. It was dropped.
     #[error("stray result with ticket {0}")]
     Stray(u32),
 }
 
-/// The front of a controller: it fetches commands from the submission rings of its regions, picks them by arbitration,
-/// executes admin commands, hands I/O commands to workers and gains their results, and posts completions. Contracts see
-/// its rules, its log, its ends, its seat at the workers and the commands that have no result yet, and its log accounts
-/// for its ends and for its jobs at any time.
+/// The front of a controller. It fetches commands from the submission rings of its regions, picks them by arbitration,
+/// executes admin commands, hands over I/O commands to workers and gains their results, and posts completions.
+/// Contracts see its rules, its log, its ends, its seat at the workers and the commands that have no result yet. At any
+/// time its log accounts for its jobs, and also for its ends if no region was added after the first event.
 #[derive(Drop)]
 pub struct Front {
     pub(crate) state: FrontState,
@@ -107,7 +107,7 @@ impl Front {
     ghost use Rattle.nvme_log.specs.Queues.{is_serving};
     ghost use Rattle.nvme_front.specs.declared.front.AddError.TheVariants.{Used, TooMany, NoMemory};
 
-    /// A front with no region and an empty log, which hands its jobs and gains their results by this seat.
+    /// A front with no region and an empty log. It hands over its jobs and gains their results through this seat.
     pub fn new(alloc: Global, config: FrontConfig, seat: FrontSeat) -> Front
         ensures mechanism { result.rules.mechanism ≡ config.mechanism }
         ensures start { result.rules.start ≡ record { nsq = config.limits.nsq; ncq = config.limits.ncq; settings = config.settings } }
@@ -126,9 +126,9 @@ impl Front {
     }
 
     /// Adds a submission region, and answers its number, which counts from 0 in the order of adding. Region 0 is the
-    /// admin queue's. Refused with `Used` exactly where the address is that of a region of either kind, else with
-    /// `TooMany` exactly where `MAX_REGIONS` submission regions are there, else with `NoMemory` where memory was
-    /// refused; the end comes back, and nothing changed. (profile)
+    /// admin queue's. Refused with `Used` exactly where the address is that of a region of either kind; otherwise with
+    /// `TooMany` exactly where `MAX_REGIONS` submission regions exist; otherwise with `NoMemory` where memory was
+    /// refused. A refusal hands the end back, and changes nothing. (profile)
     pub fn add_sq_region(&mut self, end: GetEnd<Sqe>) -> Result<u8, (AddError, GetEnd<Sqe>)>
         requires nothing_got { end.got ≡ [] }
         ensures added { IfOk result (λ r. IsAdded submissions end r self.old self.new) }
@@ -138,7 +138,7 @@ impl Front {
         self.state.add_sq(end)
     }
 
-    /// Adds a completion region, as `add_sq_region` does a submission region, with its refusals.
+    /// Adds a completion region, as `add_sq_region` adds a submission region, with the same refusals.
     pub fn add_cq_region(&mut self, end: PutEnd<Cqe>) -> Result<u8, (AddError, PutEnd<Cqe>)>
         requires nothing_sent { end.sent ≡ [] }
         ensures added { IfOk result (λ c. IsAdded completions end c self.old self.new) }
@@ -148,12 +148,14 @@ impl Front {
         self.state.add_cq(end)
     }
 
-    /// One turn: hands the jobs that were kept, and gains results; posts the completions that are ready; finishes a
-    /// pending deletion, and ends there where one is pending; fetches what has come; and makes the next pick of
-    /// arbitration, executes a picked admin command and hands the jobs of picked I/O commands. No command that has no
-    /// result yet has a completion then. Whatever it answers, what it did stands in the log, and a later turn goes on
-    /// from there. Where the hosts had submitted their whole scripts
-    /// before the first turn, the log goes on as that of such a workload. It may wait for another thread.
+    /// Makes one turn. It hands over the jobs that were kept, gains results and posts the ready completions. If a
+    /// deletion is pending, it then finishes it if it can, and the turn ends there. Otherwise it fetches what has come,
+    /// makes the next pick of arbitration, executes a picked admin command, and hands over the jobs of picked I/O
+    /// commands.
+    ///
+    /// Afterwards no command without a result has a completion. Whatever the turn answers, the log says what it did,
+    /// and a later turn goes on from there. If the hosts submitted their whole scripts before the first turn, the log
+    /// stays that of such a workload. It may wait for another thread.
     pub fn turn<R: Wait>(&mut self, rt: &R, lanes: &Lanes) -> Result<Step, FrontError>
         requires admin_sq { 0 < length self.old.gets }
         requires admin_cq { 0 < length self.old.puts }
@@ -174,7 +176,7 @@ impl Front {
         self.state.turn(rt, lanes)
     }
 
-    /// What the front did so far, the oldest event first.
+    /// The log: what the front did so far, the oldest event first.
     pub fn log(&self) -> &[Event]
         ensures log { result.now ≡ self.now.log }
         ensures account { 0 < length self.now.gets → 0 < length self.now.puts → self.now.late ≡ false → AccountsForEnds self.now }
@@ -182,14 +184,14 @@ impl Front {
         self.state.log.as_slice()
     }
 
-    /// No candidate waits, every fetched command has its completion posted, and no deletion is pending.
+    /// Whether no candidate waits, every fetched command has its completion posted, and no deletion is pending.
     pub fn is_clear(&self) -> bool
         ensures { IsTrue result ↔ IsClear (past_in self.now) }
     {
         self.state.is_clear()
     }
 
-    /// A queue of this submission region is open or closing. The admin queue is open from its region 0 on.
+    /// Whether the queue of this submission region is open or closing. The admin queue is open once region 0 is added.
     pub fn is_serving(&self, region: u8) -> bool
         ensures { result ≡ (nat_lt region (length self.now.gets) && is_serving (past_in self.now) region) }
     {

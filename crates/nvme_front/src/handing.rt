@@ -1,4 +1,4 @@
-// The jobs that are handed to the workers, and the results that are gained from them.
+// Hands over jobs to the workers, and gains their results.
 use crate::front::FrontError;
 use crate::state::FrontState;
 use nvme_pool::Lanes;
@@ -17,7 +17,7 @@ impl FrontState {
     ghost use Rattle.nvme_front.specs.View.{GainedStray};
     ghost use Rattle.nvme_front.specs.declared.front.FrontError.TheVariants.{Stray};
 
-    // Hands the job of the oldest picked command that is not handed.
+    // Hands over the job of the oldest picked command whose job isn't handed over yet.
     fn hand_one<R: Wait>(&mut self, rt: &R, lanes: &Lanes) -> bool
         requires consistent { IsConsistent self.old }
         requires admin { HasAdmin self.old }
@@ -37,7 +37,8 @@ impl FrontState {
         self.jobs.hand(rt, lanes, &self.config.spaces)
     }
 
-    /// Hands the jobs that are not handed, the oldest first, until the lane is full, and says whether any was handed.
+    /// Hands over the jobs that aren't handed over yet, the oldest first, until the lane is full. The answer is whether
+    /// any was handed over.
     pub fn hand<R: Wait>(&mut self, rt: &R, lanes: &Lanes) -> bool
         requires consistent { IsConsistent self.old }
         requires admin { HasAdmin self.old }
@@ -60,7 +61,7 @@ impl FrontState {
         handed
     }
 
-    // Gains a result. Its completion is then ready.
+    // Gains a result, where there is one. The completion of its command is then ready.
     fn gain_one(&mut self, lanes: &Lanes) -> Result<bool, FrontError>
         requires consistent { IsConsistent self.old }
         requires admin { HasAdmin self.old }
@@ -97,7 +98,7 @@ impl FrontState {
         Ok(true)
     }
 
-    /// Gains results until none is there, and says whether any was gained.
+    /// Gains results until none is left. The answer is whether any was gained.
     pub fn gain(&mut self, lanes: &Lanes) -> Result<bool, FrontError>
         requires consistent { IsConsistent self.old }
         requires admin { HasAdmin self.old }

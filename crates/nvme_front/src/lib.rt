@@ -1,5 +1,6 @@
-//! The front of an NVMe controller: windows, picks, deletions and posts, and the settling with its hosts. What its log
-//! says stands in `nvme_log`, and what it keeps beside the log in `nvme_state`.
+//! The front of an NVMe controller, which fetches commands, picks them by arbitration, has them executed and posts
+//! their completions, and is settled with its hosts at the end. `nvme_log` defines what its log says, and `nvme_state`
+//! what it keeps beside the log.
 #![tactic(auto)]
 
 mod adding;

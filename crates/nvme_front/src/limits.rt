@@ -1,9 +1,9 @@
-// What the limits of this profile make of a front's lists.
+// The most items of a front's lists, by the limits of this profile.
 use nvme_arbiter::HIGHEST_COUNT;
 use nvme_log::MAX_OUTSTANDING;
 
-// The most completions that are ready for one completion region: those of all places that may be outstanding, and of
-// the candidates of one queue that is deleted.
+// The most completions that are ready for one completion region: those of all places that may be outstanding, and those
+// of the candidates of one deleted queue.
 pub(crate) const MAX_READY: usize = MAX_OUTSTANDING as usize + HIGHEST_COUNT as usize;
 
 // The most events of an admin pick: the pick, the beginning of a deletion and one for each candidate that it aborts.

@@ -1,11 +1,12 @@
-// The log, which alone grows in a turn.
+// The log, the only list that grows in a turn.
 ghost use Rattle.std.specs.Prelude.{◌≡◌, ◌⊎◌, ◌+◌, ◌<◌, ◌≤◌, [], ◌∷◌, ◌++◌, length, OnOk, IfErr, vec_capacity};
 ghost use Rattle.nvme_front.specs.declared.front.FrontError.TheVariants.{NoMemory, LogFull};
 
 use crate::front::FrontError;
 use nvme_log::Event;
 
-/// Makes room for the given number of events: within the limit of the log, and in memory.
+/// Makes room for the given number of further events. `LogFull` where they exceed the limit, otherwise `NoMemory` where
+/// memory was refused. The events stay as they were.
 pub fn make_room(log: &mut Vec<Event>, limit: u32, events: u32) -> Result<(), FrontError>
     ensures same { log.new.items ≡ log.old.items }
     ensures within { OnOk result (length log.old.items + events ≤ limit) }

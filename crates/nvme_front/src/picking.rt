@@ -1,4 +1,4 @@
-// The picks of arbitration, and what is done with the commands that they pick.
+// Makes the picks of arbitration, and takes the commands that they pick.
 ghost use Rattle.std.specs.Prelude.{◌≡◌, ℕ, IfOk, IfErr};
 ghost use Rattle.nvme_arbiter.specs.Queues.{seen_of};
 ghost use Rattle.nvme_front.specs.declared.front.FrontError.TheVariants.{NoMemory};
@@ -27,7 +27,7 @@ fn deleted_region(table: &Table, entry: &Sqe) -> Option<u8>
     }
 }
 
-// What a board shows, in memory of its own.
+// A copy of what a board shows.
 fn observed(alloc: Global, board: &Board) -> Result<Listed<Seen>, FrontError>
     ensures seen { IfOk result (λ o. o ≡ seen_of board.now.queues) }
     ensures no_memory { IfErr result (λ e. e ≡ NoMemory) }
@@ -51,7 +51,8 @@ impl FrontState {
     ghost use Rattle.nvme_front.specs.declared.front.Step.TheVariants as step;
     ghost use Rattle.nvme_arbiter.specs.declared.pick.Pick.{Pick};
 
-    // The oldest candidate of the admin queue is an Abort command. (Base Specification, Opcodes for Admin Commands)
+    // Whether the oldest candidate of the admin queue is an Abort command. (Base Specification, Opcodes for Admin
+    // Commands)
     fn is_abort_next(&self) -> bool
         requires admin { HasAdmin self.now }
         ensures { result ≡ is_abort_entry (oldest_admin self.now.sqs.items) }
@@ -62,8 +63,8 @@ impl FrontState {
         }
     }
 
-    // How many outstanding places a pick needs: one for each command, and for an Abort command a second one, which what
-    // it aborts takes.
+    // How many outstanding places a pick needs: one for each command, and for an Abort command a second one, for the
+    // command that it aborts.
     fn places_for(&self, pick: Pick) -> u16
         requires admin { HasAdmin self.now }
         ensures { result ≡ places_in self.now.sqs.items pick }
@@ -75,7 +76,7 @@ impl FrontState {
         }
     }
 
-    // Picks of an I/O queue. The jobs of the picked commands are then to be handed.
+    // Picks from an I/O queue. The jobs of the picked commands are then to be handed over.
     fn pick_io(&mut self) -> Result<(), FrontError>
         requires consistent { IsConsistent self.old }
         requires admin { HasAdmin self.old }
@@ -111,7 +112,7 @@ impl FrontState {
         Ok(())
     }
 
-    // Picks of the admin queue, and executes its command at once.
+    // Picks from the admin queue, and executes the command at once.
     fn pick_admin(&mut self) -> Result<(), FrontError>
         requires consistent { IsConsistent self.old }
         requires admin { HasAdmin self.old }
@@ -149,7 +150,7 @@ impl FrontState {
         Ok(())
     }
 
-    /// Makes the next pick of arbitration, where there is one and its places are free.
+    /// Makes the next pick of arbitration, if there is one and its places are free.
     pub fn pick(&mut self) -> Result<Step, FrontError>
         requires consistent { IsConsistent self.old }
         requires admin { HasAdmin self.old }

@@ -1,4 +1,4 @@
-// The posting of ready completions.
+// Posts ready completions.
 ghost use Rattle.std.specs.Prelude.{◌≡◌, ◌<◌};
 ghost use Rattle.nvme_log.specs.Completions.{phase_after};
 
@@ -27,7 +27,7 @@ impl FrontState {
     ghost use Rattle.nvme_log.specs.Histories.{picks_in};
     ghost use Rattle.nvme_front.specs.declared.front.FrontError.TheVariants.{NoMemory, LogFull};
 
-    // The completion of a ready place, where it is posted next to a completion region. None where the place's region
+    // The completion of a ready place, if it is posted next to this completion region. None where the place's region
     // has no queue. (Base Specification, Completion Queue Entry)
     fn completion_of(&self, c: u8, ready: Ready) -> Option<Cqe>
         requires cq_there { c < length self.now.cqs.items }
@@ -50,7 +50,7 @@ impl FrontState {
         ))
     }
 
-    // Posts the completion of a completion region that became ready first, where there is one and the ring takes it.
+    // Posts the oldest ready completion of a completion region, if there is one and the ring takes it.
     // (Base Specification, Completion Queue Entry)
     fn post_one(&mut self, c: u8) -> Result<bool, FrontError>
         requires consistent { IsConsistent self.old }
@@ -126,7 +126,8 @@ impl FrontState {
         Ok(posted)
     }
 
-    /// Posts the ready completions of each completion region until its ring is full, and says whether any was posted.
+    /// Posts the ready completions of each completion region until its ring is full. The answer is whether any was
+    /// posted.
     pub fn post(&mut self) -> Result<bool, FrontError>
         requires consistent { IsConsistent self.old }
         requires admin { HasAdmin self.old }

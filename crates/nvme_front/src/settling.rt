@@ -1,4 +1,4 @@
-//! The settling of a front with its hosts, when all are in one thread again.
+//! Settles a front with its hosts and workers, when all are back on one thread.
 ghost use Rattle.std.specs.Prelude.{◌≡◌, ◌≢◌, ◌↔◌, ◌≤◌, ◌++◌, [], None, length, map, IfOk, OnOk, IfErr, IsTrue, vec_capacity, Vec};
 ghost use Rattle.std.specs.Global.{Global};
 ghost use mathlib.Core.List.{IsPrefix};
@@ -26,18 +26,22 @@ use nvme_pool::{Lanes, Worker};
 use std::alloc::Global;
 use std::sync::Wait;
 
-/// A front with its hosts and its workers: a feeder for each submission region, a drainer for each completion region, in
-/// region order, the lanes of its pool, and the workers in the order in which the pool was made.
+/// A front with its hosts and its workers.
 #[derive(Drop)]
 pub struct Parts {
+    /// The front.
     pub front: Front,
+    /// The feeder of each submission region, by its number.
     pub feeders: Vec<Feeder<Sqe>>,
+    /// The drainer of each completion region, by its number.
     pub drainers: Vec<Drainer<Cqe>>,
+    /// The lanes of the front's pool.
     pub lanes: Lanes,
+    /// The workers of the pool, in the order in which it made them.
     pub workers: Vec<Worker>,
 }
 
-// The addresses of the feeders are those of the submission regions, in order.
+// Whether the addresses of the feeders are those of the submission regions, in order.
 fn are_feeders(front: &Front, feeders: &[Feeder<Sqe>]) -> bool
     ensures { IsTrue result ↔ (map (λ (f : Feeder Sqe). (put_of f).address) feeders.now ≡ map (λ (g : GetView Sqe). g.address) front.now.gets) }
 {
@@ -53,7 +57,7 @@ fn are_feeders(front: &Front, feeders: &[Feeder<Sqe>]) -> bool
     true
 }
 
-// The addresses of the drainers are those of the completion regions, in order.
+// Whether the addresses of the drainers are those of the completion regions, in order.
 fn are_drainers(front: &Front, drainers: &[Drainer<Cqe>]) -> bool
     ensures { IsTrue result ↔ (map (λ (d : Drainer Cqe). (get_of d).address) drainers.now ≡ map (λ (p : PutView Cqe). p.address) front.now.puts) }
 {
@@ -69,15 +73,14 @@ fn are_drainers(front: &Front, drainers: &[Drainer<Cqe>]) -> bool
     true
 }
 
-// The addresses of the hosts are those of the regions, in order.
+// Whether the addresses of the hosts are those of the regions, in order.
 fn are_hosts(front: &Front, feeders: &[Feeder<Sqe>], drainers: &[Drainer<Cqe>]) -> bool
     ensures { IsTrue result ↔ AreHosts front.now feeders.now drainers.now }
 {
     are_feeders(front, feeders) && are_drainers(front, drainers)
 }
 
-// Looks at each submission ring with both ends in hand, and says that nothing rests in those of open and closing
-// queues.
+// Looks at both ends of each submission ring. The answer is whether nothing rests in those of open and closing queues.
 pub(crate) fn look(front: &mut Front, feeders: &mut Vec<Feeder<Sqe>>) -> bool
     requires { IsFedBy front.old feeders.old.items }
     ensures { Rests (length front.old.gets) result feeders.old.items feeders.new.items front.old front.new }
@@ -94,8 +97,8 @@ pub(crate) fn look(front: &mut Front, feeders: &mut Vec<Feeder<Sqe>>) -> bool
     quiet
 }
 
-// Takes the given number of completions, all that rest in a drainer's ring. False where memory was refused; those that
-// were taken stand in the drainer then.
+// Takes the given number of completions, all that rest in a drainer's ring. False where memory was refused; the drainer
+// then has those that were taken.
 fn take_all(drainer: &mut Drainer<Cqe>, rests: u16) -> bool
     requires { rests ≡ length (get_of drainer.old).known }
     ensures ring { SameGet (get_of drainer.old) (get_of drainer.new) }
@@ -111,8 +114,8 @@ fn take_all(drainer: &mut Drainer<Cqe>, rests: u16) -> bool
     true
 }
 
-// Takes what rests in each completion ring. False where memory was refused; the completions that were taken stand in
-// the drainers then.
+// Takes what rests in each completion ring. False where memory was refused; the drainers then have the completions that
+// were taken.
 fn collect(front: &mut Front, drainers: &mut Vec<Drainer<Cqe>>) -> bool
     requires { IsDrainedBy front.old drainers.old.items }
     ensures kept { Collects 0 drainers.old.items drainers.new.items front.old front.new }
@@ -129,7 +132,7 @@ fn collect(front: &mut Front, drainers: &mut Vec<Drainer<Cqe>>) -> bool
     true
 }
 
-// No worker keeps a result.
+// Whether no worker keeps a result.
 fn none_kept(workers: &[Worker]) -> bool
     ensures { IsTrue result ↔ All (λ (w : WorkerView). w.kept ≡ None) workers.now }
 {
@@ -166,7 +169,7 @@ fn collected_of(drainers: Vec<Drainer<Cqe>>, collected: Vec<Vec<Cqe>>) -> Vec<Ve
     collected
 }
 
-// What the hosts and the front leave.
+// What is left of the hosts and the front.
 fn settled_of(
     log: Vec<Event>,
     feeders: Vec<Feeder<Sqe>>,
@@ -187,11 +190,13 @@ fn settled_of(
     }
 }
 
-/// Takes what rests in the completion rings, closes the pool, and compares what was submitted, the log, what the workers
-/// executed, and what was collected. A refusal hands all parts back: `Strangers` exactly where the addresses of the hosts
-/// are not those of the regions, in order; then `Outstanding` exactly where the front isn't clear, a command rests in the
-/// ring of an open queue, or a worker keeps a result; then `NoMemory` where memory was refused, and what the drainers
-/// took until then stands in them. It may wait for another thread.
+/// Takes what rests in the completion rings and closes the pool. The log then accounts for what was submitted, what the
+/// workers executed and what was collected.
+///
+/// A refusal hands all parts back: `Strangers` exactly where the addresses of the hosts aren't those of the regions, in
+/// order; otherwise `Outstanding` exactly where the front isn't clear, a command rests in the ring of an open queue, or
+/// a worker keeps a result; otherwise `NoMemory` where memory was refused, and the drainers keep what they took until
+/// then. It may wait for another thread.
 pub fn settle<R: Wait>(rt: &R, alloc: Global, parts: Parts) -> Result<Settled, (SettleError, Parts)>
     requires hosts { ArePaired parts.front parts.feeders.items parts.drainers.items }
     requires pool { HasItsPool parts }

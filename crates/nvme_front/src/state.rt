@@ -21,11 +21,11 @@ pub struct FrontState {
     pub board: Board,
     pub sqs: Vec<SqRegion>,
     pub cqs: Vec<CqRegion>,
-    // How many places that were picked, or that an Abort command aborted, have no completion posted.
+    // How many places were picked, or aborted by an Abort command, and have no completion posted.
     pub outstanding: u16,
     pub deletion: Option<PendingDelete>,
     pub jobs: Jobs,
-    // A region was added after the first event.
+    // Whether a region was added after the first event.
     pub late: bool,
     pub log: Vec<Event>,
 }
@@ -44,7 +44,7 @@ impl FrontState {
     ghost use Rattle.nvme_log.specs.Account.{IsClear};
     ghost use Rattle.nvme_log.specs.Queues.{is_serving};
 
-    /// One turn.
+    /// Makes one turn, as `Front::turn` says.
     pub fn turn<R: Wait>(&mut self, rt: &R, lanes: &Lanes) -> Result<Step, FrontError>
         requires consistent { IsConsistent self.old }
         requires admin { HasAdmin self.old }
@@ -63,7 +63,8 @@ impl FrontState {
         Ok(step_after(moved, step))
     }
 
-    // Hands the jobs that were kept, gains results and posts the ready completions, and says whether it did any of it.
+    // Hands over the jobs that were kept, gains results and posts the ready completions. The answer is whether it did
+    // any of these.
     fn catch_up<R: Wait>(&mut self, rt: &R, lanes: &Lanes) -> Result<bool, FrontError>
         requires consistent { IsConsistent self.old }
         requires admin { HasAdmin self.old }
@@ -85,7 +86,7 @@ impl FrontState {
         Ok(handed | gained | posted)
     }
 
-    // Finishes the pending deletion, and where none is pending, serves the queues.
+    // Finishes the pending deletion, or serves the queues where none is pending.
     fn proceed<R: Wait>(&mut self, rt: &R, lanes: &Lanes) -> Result<Step, FrontError>
         requires consistent { IsConsistent self.old }
         requires admin { HasAdmin self.old }
@@ -107,7 +108,7 @@ impl FrontState {
         Ok(step_after(finished, Step::Idle))
     }
 
-    // Fetches what has come, makes the next pick, and hands the jobs of what was picked.
+    // Fetches what has come, makes the next pick, and hands over the jobs of what was picked.
     fn serve<R: Wait>(&mut self, rt: &R, lanes: &Lanes) -> Result<Step, FrontError>
         requires consistent { IsConsistent self.old }
         requires admin { HasAdmin self.old }
@@ -134,7 +135,7 @@ impl FrontState {
         }
     }
 
-    /// No candidate waits, every fetched command has its completion posted, and no deletion is pending.
+    /// Whether no candidate waits, every fetched command has its completion posted, and no deletion is pending.
     pub fn is_clear(&self) -> bool
         requires consistent { IsConsistent self.now }
         ensures { IsTrue result ↔ IsClear (past_of self.now) }
@@ -145,7 +146,7 @@ impl FrontState {
             && none_ready(&self.cqs)
     }
 
-    /// A queue of this submission region is open or closing.
+    /// Whether the queue of this submission region is open or closing.
     pub fn is_serving(&self, region: u8) -> bool
         requires consistent { IsConsistent self.now }
         ensures { result ≡ (nat_lt region (length self.now.sqs.items) && is_serving (past_of self.now) region) }
@@ -163,21 +164,21 @@ impl FrontState {
     }
 }
 
-// No candidate waits in the window of one of these regions.
+// Whether no candidate waits in the window of any of these regions.
 fn none_waits(sqs: &[SqRegion]) -> bool
     ensures { result ≡ list_all no_window sqs.now }
 {
     sqs.iter().all(|sq| sq.window.is_empty())
 }
 
-// No completion is ready for one of these regions.
+// Whether no completion is ready for any of these regions.
 fn none_ready(cqs: &[CqRegion]) -> bool
     ensures { result ≡ list_all no_ready cqs.now }
 {
     cqs.iter().all(|cq| cq.ready.is_empty())
 }
 
-// What a turn answers after it did something or nothing: a pick stays a pick.
+// The answer of a turn: a step without a pick is `Moved` where something was done before it, and a pick stays a pick.
 fn step_after(moved: bool, step: Step) -> Step
     ensures { result ≡ told_after moved step }
 {

@@ -9,12 +9,12 @@ use Rattle.nvme_lint.specs.declared.lints.LintError.TheVariants as told
 abbrev pub IsLawful : List ℕ → Type 0
 IsLawful bytes = (plan : Plan) × (workload_of bytes ≡ Ok plan)
 
--- the fault that is told is the first one of the bytes. Want of memory is told as such
+-- the fault that is told is the first one of the bytes. Out of memory is told as such
 abbrev pub TellsFault : List ℕ → LintError → Type 0
 TellsFault bytes (told.Fault f) = workload_of bytes ≡ Err f.error
 TellsFault bytes told.NoMemory = Unit {0}
 
--- this fault is told. Want of memory is told as such
+-- this fault is told. Out of memory is told as such
 abbrev pub IsToldAs : WorkloadError → LintError → Type 0
 IsToldAs e (told.Fault f) = f.error ≡ e
 IsToldAs e told.NoMemory = Unit {0}

@@ -1,6 +1,6 @@
 use nvme_workload::Key;
 
-/// What the value of a key has to be.
+/// What the value of a key must be, as text.
 pub(crate) fn value_of(key: Key) -> &'static str {
     match key {
         Key::Mechanism => "\"round-robin\" or \"weighted\"",
@@ -19,7 +19,7 @@ pub(crate) fn value_of(key: Key) -> &'static str {
     }
 }
 
-/// The most that there may be at a key.
+/// The most that a key may have, as text.
 pub(crate) fn most_of(key: Key) -> &'static str {
     match key {
         Key::Namespaces => "16 namespaces",

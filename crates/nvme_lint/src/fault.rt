@@ -8,15 +8,15 @@ use std::fmt;
 pub enum Why {
     /// Text in UTF-8.
     NotUtf8,
-    /// A TOML document, of which this can't be read.
+    /// A TOML document. The error says what isn't TOML.
     Syntax(toml::de::Error),
     /// This key, with a value of its kind and within its range.
     Value(Key),
-    /// One of these keys, and not this one, of which at most the first 100 characters are kept.
+    /// One of the keys `known`, and not `key`, of which at most the first 100 characters are kept.
     Unknown { key: String, known: &'static [Key] },
-    /// No more than so many at this key. At `Key::Count` it's the commands of all scripts that are too many.
+    /// At most as many as this key may have. At `Key::Count` the commands of all scripts are too many.
     Most(Key),
-    /// An address that no region before has.
+    /// An address that no earlier region has.
     Repeated,
 }
 
@@ -39,12 +39,12 @@ impl fmt::Display for Why {
     }
 }
 
-/// The first fault of a workload file: where it stands, and what was expected there.
+/// The first fault of a workload file: where it is, and what was expected there.
 #[derive(Debug, Drop)]
 pub struct Fault {
-    /// The fault, as a run tells it.
+    /// The fault, as a run reports it.
     pub error: WorkloadError,
-    /// Where it stands.
+    /// Where it is.
     pub place: Place,
     /// What was expected there.
     pub why: Why,

@@ -1,5 +1,5 @@
-//! What the writer of a workload file wants to know: where it is at fault and what was expected there, or what of a
-//! lawful one comes to nothing.
+//! Checks a workload file for its writer: where it is at fault and what was expected there, or what of a valid workload
+//! has no effect.
 #![tactic(auto)]
 
 mod expected;

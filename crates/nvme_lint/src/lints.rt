@@ -18,13 +18,13 @@ use std::alloc::{AllocError, Global};
 use thiserror::Error;
 use toml::Table;
 
-/// Why a workload file has no warnings.
+/// Why a workload file wasn't checked for warnings.
 #[derive(Debug, Drop, Error)]
 pub enum LintError {
     /// Its first fault.
     #[error("{0}")]
     Fault(Fault),
-    /// Memory was refused.
+    /// Out of memory.
     #[error("out of memory")]
     NoMemory,
 }
@@ -37,7 +37,7 @@ impl From<AllocError> for LintError {
     }
 }
 
-// The fault of bytes that are not UTF-8, of which those up to the first fault are.
+// The fault of bytes that aren't UTF-8. `valid` are those before the fault.
 fn in_bytes(valid: &[u8]) -> LintError
     ensures fault { IsToldAs why.NotUtf8 result }
     ensures place { IsToldBehind valid.now result }
@@ -49,7 +49,7 @@ fn in_bytes(valid: &[u8]) -> LintError
     })
 }
 
-// The fault of a text that is no TOML document.
+// The fault of a text that isn't a TOML document.
 fn in_text(text: &str, error: toml::de::Error) -> LintError
     ensures fault { IsToldAs why.NotToml result }
     ensures place { TellsPlace text.now result }
@@ -74,7 +74,7 @@ fn in_document(alloc: Global, table: &Table, error: WorkloadError) -> LintError
     }
 }
 
-// What comes to nothing of the workload of a document, or its first fault.
+// The warnings of the workload of a document, or its first fault.
 fn lint_document(alloc: Global, table: &Table) -> Result<Vec<Warning>, LintError>
     ensures warnings { IfOk result (λ ws. AreWarningsIn (plan_in (table_view table.now)) ws.items) }
     ensures fault { IfErr result (TellsFaultIn (plan_in (table_view table.now))) }
@@ -87,8 +87,9 @@ fn lint_document(alloc: Global, table: &Table) -> Result<Vec<Warning>, LintError
     }
 }
 
-/// What the writer of a workload file wants to know: of a lawful one what comes to nothing, else its first fault, which is
-/// that of `nvme_workload::read`, with its place and what was expected there. It reads the file once, as `read` does.
+/// Checks a workload file. The answer for a valid workload is what of it has no effect. `LintError::Fault` has the
+/// first fault, which is that of `nvme_workload::read`, with its place and what was expected there. It reads the file
+/// once, as `read` does.
 pub fn lint(alloc: Global, bytes: &[u8]) -> Result<Vec<Warning>, LintError>
     ensures lawful { IfOk result (λ _. IsLawful bytes.now) }
     ensures warnings { IfOk result (λ ws. AreWarningsOf bytes.now ws.items) }

@@ -3,10 +3,10 @@ ghost use Rattle.nvme_lint.specs.Places.{begins_character, place_behind};
 
 use std::fmt;
 
-/// Where a fault of a workload file stands. Regions of a kind and items of a script count from 0.
+/// Where a fault of a workload file is. Regions of a kind and items of a script count from 0.
 #[derive(Clone, Copy, Debug, PartialEq, Eq)]
 pub enum Place {
-    /// A place of the text. Lines and columns count from 1, and a column counts characters.
+    /// A place in the text. Lines and columns count from 1, and columns count characters.
     Text { line: usize, column: usize },
     /// The file's own table.
     Top,
@@ -30,14 +30,14 @@ impl fmt::Display for Place {
     }
 }
 
-// Whether a byte begins a character, or goes on with one.
+// Whether a byte begins a character, rather than continuing one.
 fn begins_character(byte: u8) -> bool
     ensures { result ≡ begins_character byte }
 {
     byte < 0x80 || 0xc0 <= byte
 }
 
-/// The place of the text that stands right behind these bytes.
+/// The place in the text right behind these bytes.
 pub(crate) fn behind(bytes: &[u8]) -> Place
     ensures { result ≡ place_behind bytes.now }
 {

@@ -1,5 +1,5 @@
-// Where the first fault of a workload file stands. No fault stands before it, so that it is found as the first place, in
-// the order of reading, at which this very fault stands.
+// Finds the first fault of a workload file. No fault comes before it, so it is at the first place, in the order of
+// reading, that has this very fault.
 ghost use Rattle.std.specs.Prelude.{IfOk, IfSome};
 ghost use Rattle.nvme_lint.specs.inside.Tables.{IsOfTable};
 
@@ -12,10 +12,10 @@ use nvme_workload::{Key, MAX_COMMANDS, WorkloadError};
 use std::alloc::{AllocError, Global};
 use toml::{Table, Value};
 
-// How many characters of an unknown key are told.
+// The most characters of an unknown key that are kept.
 const KEY_CHARACTERS: usize = 100;
 
-// Whether the fault stands in this very table, which may have these keys.
+// Whether the fault is in this very table, which may have these keys.
 fn stands_in(table: &Table, keys: &[Key], fault: WorkloadError) -> bool {
     match fault {
         WorkloadError::Unknown => unknown_key(keys, table).is_some(),
@@ -28,7 +28,7 @@ fn stands_in(table: &Table, keys: &[Key], fault: WorkloadError) -> bool {
     }
 }
 
-// Whether it stands at an item of an array of tables: that it is no table, or within.
+// Whether the fault is at an item of an array of tables: the item isn't a table, or the fault is within it.
 fn stands_at(item: &Value, array: Key, keys: &[Key], fault: WorkloadError) -> bool {
     match item.as_table() {
         Some(table) => stands_in(table, keys, fault),
@@ -36,7 +36,7 @@ fn stands_at(item: &Value, array: Key, keys: &[Key], fault: WorkloadError) -> bo
     }
 }
 
-// The first item of a script at which it stands.
+// The first item of a script that has the fault.
 fn item_in(script: &[Value], fault: WorkloadError) -> Option<usize> {
     script
         .iter()
@@ -51,7 +51,7 @@ fn script_of(item: &Value) -> &[Value] {
     }
 }
 
-// The first place of the submission regions at which it stands.
+// The first place of the submission regions that has the fault.
 fn in_submissions(items: &[Value], fault: WorkloadError) -> Option<Place>
     ensures { IfSome result IsOfTable }
 {
@@ -66,7 +66,7 @@ fn in_submissions(items: &[Value], fault: WorkloadError) -> Option<Place>
     None
 }
 
-// The first completion region at which it stands.
+// The first completion region that has the fault.
 fn in_completions(items: &[Value], fault: WorkloadError) -> Option<Place>
     ensures { IfSome result IsOfTable }
 {
@@ -88,7 +88,8 @@ fn count_of(item: &Value) -> usize {
     }
 }
 
-// The item of a script with which, after so many commands of all scripts, there are too many, or how many there are then.
+// `Err` with the item of a script at which all scripts together have too many commands, where `before` come before the
+// script. Otherwise `Ok` with the number of commands up to its end.
 fn past_limit(script: &[Value], before: usize) -> Result<usize, usize> {
     let mut commands = before;
     for (index, item) in script.iter().enumerate() {
@@ -114,7 +115,7 @@ fn past_limit_in(submissions: &[Value]) -> Option<Place>
     None
 }
 
-// The first place at which there are too many, and of what.
+// The first place that has too many, and of what.
 fn of_limit(table: &Table) -> (Place, Key)
     ensures { IsOfTable result.0 }
 {
@@ -143,7 +144,7 @@ fn push_addresses(addresses: &mut Vec<Option<i64>>, items: &[Value]) -> Result<(
     Ok(())
 }
 
-// The first region whose address is that of a region before it.
+// The first region whose address is that of an earlier region.
 fn of_repeated(alloc: Global, table: &Table) -> Result<Place, AllocError>
     ensures { IfOk result IsOfTable }
 {
@@ -164,7 +165,7 @@ fn of_repeated(alloc: Global, table: &Table) -> Result<Place, AllocError>
     Ok(Place::Top)
 }
 
-// The first table in which it stands. It stands in one; if it stood in none, the file's own table were told.
+// The first table that has the fault. One has it; without one the answer would be the file's own table.
 fn table_of(table: &Table, fault: WorkloadError) -> Place
     ensures { IsOfTable result }
 {
@@ -222,7 +223,7 @@ fn unknown_at(alloc: Global, table: &Table, place: Place) -> Result<Why, AllocEr
     Ok(Why::Unknown { key, known })
 }
 
-/// Where the first fault of a file stands that is a TOML document, and what was expected there.
+/// Where the first fault of a TOML document is, and what was expected there.
 pub(crate) fn place_of(
     alloc: Global,
     table: &Table,

@@ -29,7 +29,7 @@ pub(crate) const ITEM: &[Key] = &[
 
 pub(crate) const COMPLETION: &[Key] = &[Key::Address, Key::Slots];
 
-/// The first key of the table, in the order of bytes, that is none of these.
+/// The first key of the table, in the order of bytes, that isn't one of these.
 pub(crate) fn unknown_key<'t>(keys: &[Key], table: &'t Table) -> Option<&'t str> {
     for (name, _value) in table.iter() {
         if !keys.iter().any(|key| key.name() == name.as_str()) {
@@ -59,7 +59,7 @@ fn has_items(value: &Value) -> bool {
     value.as_array().is_some_and(|items| !items.is_empty())
 }
 
-/// Whether the value of a key is of its kind and within its range. Items that are tables aren't looked at.
+/// Whether the value of a key is of its kind and within its range. Items that are tables aren't checked.
 pub(crate) fn is_good(key: Key, value: &Value) -> bool {
     match key {
         Key::Mechanism => matches!(value.as_str(), Some("round-robin" | "weighted")),
@@ -78,7 +78,7 @@ pub(crate) fn is_good(key: Key, value: &Value) -> bool {
     }
 }
 
-/// The items of the array at a key. Without one there are none.
+/// The items of the array at a key, or no items where it has no array.
 pub(crate) fn items_at(table: &Table, key: Key) -> &[Value] {
     match table.get(key.name()) {
         Some(Value::Array(items)) => items.as_slice(),

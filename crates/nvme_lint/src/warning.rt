@@ -8,7 +8,7 @@ pub enum Kind {
     Completion,
 }
 
-/// What of a lawful workload comes to nothing. Regions of a kind and commands of a script count from 0.
+/// What of a valid workload has no effect. Regions of a kind and commands of a script count from 0.
 #[derive(Clone, Copy, Debug, PartialEq, Eq)]
 pub enum Warning {
     /// A command of the admin script is answered with a status that isn't success.
@@ -18,7 +18,7 @@ pub enum Warning {
         qid: u16,
         status: Status,
     },
-    /// No queue is created on a region. Of a submission region no command is fetched, and its script has so many.
+    /// No queue is created on a region. If it is a submission region, none of the `commands` of its script is fetched.
     Unused {
         kind: Kind,
         region: usize,
@@ -26,7 +26,7 @@ pub enum Warning {
     },
 }
 
-// The command of an admin opcode.
+// The name of the command with an admin opcode.
 fn name_of(opcode: u8) -> &'static str {
     match opcode {
         0x00 => "Delete I/O Submission Queue",

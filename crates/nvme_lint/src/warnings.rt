@@ -1,5 +1,5 @@
-// What of a lawful workload comes to nothing. The admin commands are played in their order: a front begins none before
-// the deletion of the one before it is finished, so that their answers depend on nothing else.
+// Finds what of a valid workload has no effect. The admin commands are applied in order: a front begins none before the
+// deletion of an earlier one is finished, so their answers depend on nothing else.
 ghost use Rattle.std.specs.Prelude.{◌≡◌, ℕ, ◌≤◌, ◌++◌, [], length, map, reverse, IfOk, OnOk};
 ghost use Rattle.std.specs.List.{All};
 ghost use Rattle.nvme_entry.specs.AdminCommand.{qid_of};
@@ -67,7 +67,7 @@ fn first_table(workload: &Workload) -> Table
     table
 }
 
-// Plays one command more, and gives its status.
+// Applies one more command, and gives its status.
 fn play(table: &mut Table, entry: &Sqe) -> Status
     requires stands { (start : Start) × (h : TableHistory) × StandsAt start table.old h }
     ensures status { (start : Start) (h : TableHistory) → StandsAt start table.old h → result ≡ status_of start h entry.now }
@@ -97,7 +97,7 @@ fn is_success(status: Status) -> bool
     status == Status::SUCCESS
 }
 
-// Tells a warning, unless all is well.
+// Appends a warning, unless all is well.
 fn push_unless(
     warnings: &mut Vec<Warning>,
     is_well: bool,
@@ -111,7 +111,7 @@ fn push_unless(
     Ok(())
 }
 
-// Plays the admin commands, and tells those that are refused.
+// Applies the admin commands, and appends a warning for each that is refused.
 fn push_refused(
     warnings: &mut Vec<Warning>,
     table: &mut Table,
@@ -134,7 +134,7 @@ fn push_refused(
     Ok(())
 }
 
-// Tells the submission regions that no queue was created on.
+// Appends a warning for each submission region that no queue was created on.
 fn push_unused_sqs(
     warnings: &mut Vec<Warning>,
     table: &Table,
@@ -154,7 +154,7 @@ fn push_unused_sqs(
     Ok(())
 }
 
-// Tells the completion regions that no queue was created on.
+// Appends a warning for each completion region that no queue was created on.
 fn push_unused_cqs(
     warnings: &mut Vec<Warning>,
     table: &Table,
@@ -174,7 +174,7 @@ fn push_unused_cqs(
     Ok(())
 }
 
-/// What of a workload comes to nothing: first the admin commands that are refused, in order, then the regions that no
+/// What of a workload has no effect: first the admin commands that are refused, in order, then the regions that no
 /// queue is created on, submission regions first.
 pub(crate) fn warnings_of(alloc: Global, workload: &Workload) -> Result<Vec<Warning>, AllocError>
     requires sound { IsSound (plan_of workload.now) }

@@ -1,4 +1,4 @@
-//! Writing of texts: a failed write leaves a prefix of the text.
+//! Writes texts piece by piece. Where a write fails, the writer has a prefix of the text.
 #![tactic(auto)]
 
 mod pieces;

@@ -1,4 +1,4 @@
-// A text as pieces, and how it is written.
+// Texts as pieces, and how they are written.
 ghost use Rattle.std.specs.Prelude.{◌≡◌, ◌++◌, codes};
 ghost use Rattle.std.specs.List.{flat_map};
 ghost use Rattle.nvme_output.specs.Pieces.{hex_byte, hex_dword, piece_text};
@@ -8,7 +8,7 @@ use arrayvec::ArrayVec;
 use std::io::Write;
 use thiserror::Error;
 
-// How many bytes of a line are put together before they are written.
+// The most bytes of a line that are put together before they are written.
 const LINE_ROOM: usize = 256;
 
 /// A write failed, or took no byte.
@@ -16,7 +16,7 @@ const LINE_ROOM: usize = 256;
 #[error("write failed")]
 pub struct WriteFault;
 
-/// A piece of a text: words, a number in decimal, or a number in hexadecimal with all its digits.
+/// A piece of a text: words, a number in decimal, or a byte or dword in hexadecimal with all its digits.
 #[derive(Clone, Copy)]
 pub enum Piece<'a> {
     Words(&'a str),
@@ -25,7 +25,8 @@ pub enum Piece<'a> {
     Dword(u32),
 }
 
-/// Writes all bytes. A write that a signal interrupts is a failed one.
+/// Writes all bytes. `WriteFault` where a write failed, was interrupted by a signal, or took no byte; the writer then
+/// has a prefix of the bytes.
 pub fn put<W: Write>(bytes: &[u8], writer: &mut W) -> Result<(), WriteFault>
     ensures { Writes (W.contents writer.old) (W.contents writer.new) result bytes.now }
 {
@@ -39,7 +40,7 @@ pub fn put<W: Write>(bytes: &[u8], writer: &mut W) -> Result<(), WriteFault>
     Ok(())
 }
 
-// The digits of a byte.
+// The two hexadecimal digits of a byte.
 fn byte_digits(n: u8) -> [u8; 2]
     ensures { result ≡ hex_byte n }
 {
@@ -50,7 +51,7 @@ fn byte_digits(n: u8) -> [u8; 2]
     digits
 }
 
-// The digits of a double word.
+// The eight hexadecimal digits of a dword.
 fn dword_digits(n: u32) -> [u8; 8]
     ensures { result ≡ hex_dword n }
 {
@@ -76,7 +77,7 @@ fn put_piece<W: Write>(piece: &Piece, writer: &mut W) -> Result<(), WriteFault>
     }
 }
 
-/// Writes pieces, each by a write of its own.
+/// Writes pieces, each by writes of its own. `WriteFault` as `put`.
 pub fn put_pieces<W: Write>(pieces: &[Piece], writer: &mut W) -> Result<(), WriteFault>
     ensures { Writes (W.contents writer.old) (W.contents writer.new) result (flat_map piece_text pieces.now) }
 {
@@ -94,8 +95,8 @@ fn put_long<W: Write>(pieces: &[Piece], writer: &mut W) -> Result<(), WriteFault
     put(b"\n", writer)
 }
 
-/// Writes a line of pieces, with a newline at its end, by one write where the writer takes it all. A line over
-/// `LINE_ROOM` bytes is written piece by piece.
+/// Writes a line of pieces, with a newline at its end, by one write if the writer takes it all. A line of more than 256
+/// bytes, its newline included, is written piece by piece. `WriteFault` as `put`.
 pub fn put_line<W: Write>(pieces: &[Piece], writer: &mut W) -> Result<(), WriteFault>
     ensures { Writes (W.contents writer.old) (W.contents writer.new) result (flat_map piece_text pieces.now ++ codes "\n") }
 {

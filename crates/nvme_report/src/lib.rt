@@ -1,4 +1,4 @@
-//! The report of a run: its picks, its regions, and the completion of each fetched command. The law of it stands in `laws`.
+//! The report of a run: its picks, its regions, and the completion of each fetched command. `laws` has its law.
 #![tactic(auto)]
 
 pub mod laws;

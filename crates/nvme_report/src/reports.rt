@@ -25,8 +25,8 @@ pub enum Mode {
     Live,
 }
 
-/// Writes the report of a run, whose log posts no place twice. It takes no memory. `WriteFault` comes only where a
-/// write failed or took no byte, and the writer got a prefix of the report then.
+/// Writes the report of a run, whose log posts no place twice. It allocates nothing. `WriteFault` comes only where a
+/// write failed or took no byte, and the writer then has a prefix of the report.
 #[inline(never)]
 pub fn report<W: Write>(settled: &Settled, mode: Mode, writer: &mut W) -> Result<(), WriteFault>
     requires posted_once { (r i : ℕ) → posts_of (reverse settled.now.log.items) r i ≤ 1 }

@@ -1,4 +1,4 @@
--- What adding regions one by one comes to.
+-- The front after its regions are added one by one.
 use Rattle.std.proofs.Common.{◌≡◌, ◌≢◌, ℕ, ◌==◌, ◌||◌, Bool, false, List, [], ◌∷◌, ◌++◌, length, map, get_or, refl, sym, ap, ◌∙◌, subst, arith, ne_eqb, append_assoc}
 use Rattle.std.specs.List.{AllPairs, list_any}
 use Rattle.std.proofs.lemmas.List.{map-append, length-append, get_or_append_left}

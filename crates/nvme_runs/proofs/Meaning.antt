@@ -39,7 +39,7 @@ text_workload text mode e why.Limit h is = subst (λ (x : RunError). IsTextFault
 text_workload text mode e why.Repeated h is = subst (λ (x : RunError). IsTextFault text mode x) is h
 text_workload text mode e why.NoMemory h is = absurd (subst (λ (x : RunError). IsTextFault text mode x) is h)
 
--- a text that has a fault tells it, or want of memory
+-- a text that has a fault tells it, or `NoMemory`
 text_faulty : {T : Type 0} (text : List ℕ) (mode : Mode) (e : RunError) (w : WorkloadError) → IsTextFault text mode e → workload_of text ≡ Err w
     → IsErrOf {T = T} (Err e) (fault.Workload w) ⊎ IsErrOf {T = T} (Err e) fault.NoMemory
 text_faulty text mode fault.NoMemory w h is = inr refl
@@ -50,7 +50,7 @@ text_faulty text mode (fault.Workload v) w h is =
 text_faulty text mode (fault.TooLong r) w h is = absurd (no_fault text h.plan w h.is_workload is)
 text_faulty text mode e w h is = absurd h
 
--- a text with a script that is too long tells it, or want of memory
+-- a text with a script that is too long tells it, or `NoMemory`
 text_longer : {T : Type 0} (text : List ℕ) (mode : Mode) (e : RunError) (r : ℕ) → IsTextFault text mode e → IsTooLong text mode r
     → IsErrOf {T = T} (Err e) (fault.TooLong r) ⊎ IsErrOf {T = T} (Err e) fault.NoMemory
 text_longer text mode fault.NoMemory r h long = inr refl
@@ -94,7 +94,7 @@ module _ {T W : Type 0} (settled_in : T → Settled) (bytes_of : W → Option (L
     front = λ e is. cc is;
   }
 
-  -- want of memory
+  -- `NoMemory`
   pub of_memory : (IsOutside workers 1 max_workers → ⊥) → RunMeans (Err fault.NoMemory) settled_in w w bytes_of text mode workers
   of_memory inside = record {
     account = tt;

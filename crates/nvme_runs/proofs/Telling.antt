@@ -5,7 +5,7 @@ use Rattle.nvme_front.specs.declared.settled.SettleError.TheVariants as settling
 use Rattle.nvme_runs.specs.declared.runs.RunError.{RunError}
 use Rattle.nvme_runs.specs.declared.runs.RunError.TheVariants as fault
 
--- it is told as giving up or as want of memory
+-- it is told as `GaveUp` or as `NoMemory`
 pub told_so : (e : SettleError) (r : RunError) → (e ≡ settling.Strangers → ⊥) → (e ≡ settling.Outstanding → r ≡ fault.GaveUp) → (e ≡ settling.NoMemory → r ≡ fault.NoMemory)
     → (r ≡ fault.GaveUp) ⊎ (r ≡ fault.NoMemory)
 told_so settling.Strangers r known outstanding memory = absurd (known refl)

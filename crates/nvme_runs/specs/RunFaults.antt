@@ -24,7 +24,7 @@ pub record IsTooLong (text : List ℕ) (mode : Mode) (r : ℕ) : Type 0 where
   pub is_loaded : mode ≡ Loaded
   pub first : IsFirstTooLong plan.submissions r
 
--- the faults that come of a text, before anything runs. Want of memory is told as such
+-- the faults of a text, before anything runs. A fault that is `NoMemory` is told as the run's `NoMemory`
 abbrev pub IsTextFault : List ℕ → Mode → RunError → Type 0
 IsTextFault text mode fault.NoMemory = Unit {0}
 IsTextFault text mode (fault.Workload why.NoMemory) = ⊥
@@ -47,7 +47,7 @@ pub record FrontFails (plan : Plan) (e : FrontError) : Type 0 where
   pub sound : IsSound plan
   pub scripts : (r : ℕ) → IsPrefix (got_in fails.after r) (script_for plan r)
 
--- the faults that come while a workload runs, or after it. Want of memory is told as such
+-- the faults that come while a workload runs, or after it. A front's `NoMemory` is told as the run's `NoMemory`
 abbrev pub IsLateFault : Plan → RunError → Type 0
 IsLateFault plan fault.NoMemory = Unit {0}
 IsLateFault plan (fault.Front front.NoMemory) = ⊥
@@ -55,7 +55,7 @@ IsLateFault plan (fault.Front e) = FrontFails plan e
 IsLateFault plan fault.GaveUp = Unit {0}
 IsLateFault plan e = ⊥
 
--- a turn of the front of the workload of a text failed so, and not for want of memory
+-- a turn of the front of the workload of a text failed with this error, which isn't `NoMemory`
 pub record RunFails (text : List ℕ) (e : FrontError) : Type 0 where
   pub plan : Plan
   pub is_workload : workload_of text ≡ Ok plan

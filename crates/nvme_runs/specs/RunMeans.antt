@@ -16,7 +16,7 @@ use Rattle.nvme_runs.specs.declared.runs.RunError.TheVariants as fault
 use Rattle.nvme_runs.specs.Runs.{IsRun}
 use Rattle.nvme_runs.specs.RunFaults.{RunFails, IsTooLong}
 
--- a run of a text with so many workers answers this, where `settled_in` is what was settled of what it answers with Ok, and its writer, whose
+-- a run of a text with this many workers answers this, where `settled_in` is what was settled of what it answers with Ok, and its writer, whose
 -- known bytes are `bytes_of`, was `old` and is `new`
 pub record RunMeans {T W : Type 0} (result : Result T RunError) (settled_in : T → Settled) (old new : W) (bytes_of : W → Option (List ℕ))
     (text : List ℕ) (mode : Mode) (workers : ℕ) : Type 0 where
@@ -28,7 +28,7 @@ pub record RunMeans {T W : Type 0} (result : Result T RunError) (settled_in : T 
   pub write_failed : IfErr result (λ e. e ≡ fault.Write → (s : Settled) × IsRun text mode s × AppendsPrefix (bytes_of old) (bytes_of new) (report_text mode s))
   -- the number of workers
   pub workers_are : IsErrOf result fault.Workers ↔ IsOutside workers 1 max_workers
-  -- the faults of the workload, of which want of memory is none
+  -- the faults of the workload, which are never `NoMemory`
   pub workload : (w : WorkloadError) → IsErrOf result (fault.Workload w) → workload_of text ≡ Err w
   pub never_memory : IsErrOf result (fault.Workload why.NoMemory) → ⊥
   pub faulty : (w : WorkloadError) → (IsOutside workers 1 max_workers → ⊥) → workload_of text ≡ Err w → IsErrOf result (fault.Workload w) ⊎ IsErrOf result fault.NoMemory

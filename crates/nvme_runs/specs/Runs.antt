@@ -1,4 +1,4 @@
--- What a run of a workload comes to. (profile)
+-- What a run of a workload is. (profile)
 use Rattle.std.specs.Prelude.{◌≡◌, ◌⊎◌, ℕ, ◌<◌, ◌≤◌, Bool, true, false, List, [], ◌∷◌, ◌++◌, length, map, reverse, slice_index_or, sum_by, Ok}
 use Rattle.std.specs.List.{All, fold, range_with_len}
 use Rattle.nvme_entry.specs.declared.submission.Sqe.{Sqe}
@@ -52,7 +52,7 @@ abbrev pub is_loaded : Mode → Bool
 is_loaded Loaded = true
 is_loaded Live = false
 
--- ---- what a run comes to
+-- ---- what a run is
 -- what is settled has the script of each submission region with how many of its commands were submitted, and a list for each completion
 -- region, and nothing else
 pub record HasItsHosts (plan : Plan) (settled : Settled) : Type 0 where

@@ -1,8 +1,8 @@
 //! Laws of runs, over the public contract alone. Each function does nothing: its contract is the law.
 ghost use Rattle.nvme_runs.specs.Laws.{LoadedRunsAreOne, FrontFaultsAreStrays};
 
-/// A loaded run is one function of its workload: two runs of one text with `Mode::Loaded` have the same report, whatever
-/// the numbers of their workers and however their threads took turns.
+/// A loaded run is a function of its workload: two runs of one text with `Mode::Loaded` have the same report, whatever
+/// the numbers of their workers and whatever the schedule of their threads.
 pub fn loaded_runs_are_one()
     ensures { LoadedRunsAreOne }
 {}

@@ -1,4 +1,4 @@
-//! Runs of a workload. The laws of runs stand in `laws`.
+//! Runs of a workload: it is read, driven on threads, settled and reported. `laws` has the laws of runs.
 #![tactic(auto)]
 
 pub mod laws;

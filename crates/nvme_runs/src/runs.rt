@@ -1,4 +1,4 @@
-//! Runs: a workload is read, driven on threads, settled and reported.
+//! Reads a workload, drives it on threads, settles and reports it.
 ghost use Rattle.std.specs.Prelude.{◌≡◌, ◌↔◌, ◌≤◌, Ok, IfOk, IfErr, IsErrOf, IsTrue, vec_len};
 ghost use Rattle.nvme_lane.specs.Limits.{IsOutside};
 ghost use Rattle.nvme_pool.specs.Limits.{max_workers};
@@ -33,40 +33,41 @@ use std::sync::Wait;
 use std::thread::Threads;
 use thiserror::Error;
 
-/// Why a run came to nothing. All threads were joined before it is told, and nothing was written but with `Write`.
+/// Why a run failed. All its threads are joined, and nothing was written, except with `Write`.
 #[derive(Clone, Copy, Debug, PartialEq, Eq, Error)]
 pub enum RunError {
     /// The number of workers is outside 1 to `nvme_pool::MAX_WORKERS`.
     #[error("workers")]
     Workers,
-    /// The first fault of the workload file, which isn't want of memory.
+    /// The first fault of the workload file. It is never `WorkloadError::NoMemory`.
     #[error("workload: {0}")]
     Workload(WorkloadError),
-    /// In `Mode::Loaded`: the script of this submission region, the first such, has more commands than its ring holds.
+    /// With `Mode::Loaded` only: this is the first submission region whose script has more commands than its ring
+    /// holds.
     #[error("script too long for ring {0}")]
     TooLong(u8),
-    /// Memory was refused, or a thread couldn't be started.
+    /// Out of memory, or a thread couldn't be started.
     #[error("out of memory")]
     NoMemory,
-    /// A turn of the front failed, and not for want of memory.
+    /// A turn of the front failed. The error is never `FrontError::NoMemory`.
     #[error("front")]
     Front(FrontError),
-    /// The front had found nothing to do for too many turns, and not all was done.
+    /// The front found nothing to do for too many turns in a row, and not all was done.
     #[error("gave up")]
     GaveUp,
-    /// A write of the report failed, or took no byte. A prefix of the report was written.
+    /// A write of the report failed, or took no byte. The writer has a prefix of the report.
     #[error("write failed")]
     Write,
 }
 
-/// What is left of a run that wrote nothing, with what its arbitration began with.
+/// What is left of a run that wrote no report, with the mechanism and the settings that its arbitration began with.
 #[derive(Debug, Drop)]
 pub struct Ran {
     /// The mechanism of the workload.
     pub mechanism: Mechanism,
     /// The settings of the workload, before any Set Features.
     pub settings: Settings,
-    /// The log, and what hosts submitted and collected.
+    /// The log, and what the hosts submitted and collected.
     pub settled: Settled,
 }
 
@@ -100,14 +101,14 @@ impl From<AllocError> for RunError {
     }
 }
 
-// Whether no run has so many workers.
+// Whether a run can't have this number of workers.
 fn is_outside(workers: usize) -> bool
     ensures { IsTrue result ↔ IsOutside workers 1 max_workers }
 {
     workers == 0 || workers > usize::from(MAX_WORKERS)
 }
 
-// When the hosts of a run submit: with `Mode::Loaded` they did when its front was prepared.
+// When the hosts of a run submit: with `Mode::Loaded` before the drive, when its front is prepared.
 fn feeding_of(mode: Mode) -> Feeding {
     match mode {
         Mode::Loaded => Feeding::Before,
@@ -115,7 +116,7 @@ fn feeding_of(mode: Mode) -> Feeding {
     }
 }
 
-// The workload of a text, whose scripts fit their rings where they are all submitted first.
+// The workload of a text. With `Mode::Loaded` its scripts must fit their rings.
 fn workload_for(alloc: Global, text: &[u8], mode: Mode) -> Result<Workload, RunError>
     ensures sound { IfOk result (λ w. IsSound (plan_of w)) }
     ensures read { IfOk result (λ w. workload_of text.now ≡ Ok (plan_of w)) }
@@ -131,7 +132,7 @@ fn workload_for(alloc: Global, text: &[u8], mode: Mode) -> Result<Workload, RunE
     Ok(workload)
 }
 
-// What a workload comes to with one worker for each gate, and the gates after it.
+// Runs a workload with one worker for each gate. Answers what is settled, and the gates.
 fn settled_by<G: Gate + Send + Drop, R: Threads + Wait + Sync>(
     rt: &R,
     alloc: Global,
@@ -158,11 +159,13 @@ fn settled_by<G: Gate + Send + Drop, R: Threads + Wait + Sync>(
     Ok((settled, gates))
 }
 
-/// Runs a workload with one worker for each gate, and writes its report. The gates come back, in order, and each was told
-/// of just the executions of its worker. Refused with `Workers` exactly where there are none or too many gates; then
-/// with the first fault of the workload; then, with `Mode::Loaded`, with the first submission region whose script is too
-/// long for its ring; then with want of memory or a front that fails where they arise, and with `GaveUp` where not all
-/// was done when the run ended. Until then nothing was written. It may wait for another thread.
+/// Runs a workload with one worker for each gate, and writes its report. The gates come back, in order, and each was
+/// told of just the executions of its worker.
+///
+/// Refused with `Workers` exactly where there are no gates or more than `nvme_pool::MAX_WORKERS`; otherwise with the
+/// first fault of the workload; otherwise, with `Mode::Loaded`, with the first submission region whose script is too
+/// long for its ring; otherwise with `NoMemory` or `Front` where they arise, and with `GaveUp` where not all was done
+/// when the run ended. None of these writes anything. Last comes `Write`. It may wait for another thread.
 pub fn run_with<G: Gate + Send + Drop, W: Write, R: Threads + Wait + Sync>(
     rt: &R,
     alloc: Global,
@@ -185,7 +188,8 @@ pub fn run_with<G: Gate + Send + Drop, W: Write, R: Threads + Wait + Sync>(
     }
 }
 
-/// `run_with` so many workers and gates that do nothing.
+/// Runs a workload as `run_with` does, with `workers` workers, 1 to `nvme_pool::MAX_WORKERS`, and gates that do
+/// nothing. It may wait for another thread.
 pub fn run<W: Write, R: Threads + Wait + Sync>(
     rt: &R,
     alloc: Global,
@@ -204,8 +208,8 @@ pub fn run<W: Write, R: Threads + Wait + Sync>(
     Ok(settled)
 }
 
-/// `run` without its report: what is settled, and what its arbitration began with. Refused as `run` is, but never with
-/// `Write`. It may wait for another thread.
+/// Runs a workload as `run` does, but writes no report: it answers what is settled, and what its arbitration began
+/// with. Refused as `run` is, but never with `Write`. It may wait for another thread.
 pub fn settled_run<R: Threads + Wait + Sync>(
     rt: &R,
     alloc: Global,
@@ -231,7 +235,7 @@ pub fn settled_run<R: Threads + Wait + Sync>(
     })
 }
 
-// So many gates that do nothing.
+// A gate that does nothing for each worker.
 fn idle_gates(alloc: Global, workers: u8) -> Result<Vec<NoGate>, AllocError>
     ensures { IfOk result (λ gates. vec_len gates ≡ workers) }
 {

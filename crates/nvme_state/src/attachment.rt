@@ -1,5 +1,5 @@
 /// The queue that a submission region was opened for, and the completion region that it posts to. They stay after the
-/// queue was deleted.
+/// queue is deleted.
 #[derive(Clone, Copy, Debug, PartialEq, Eq)]
 pub struct Attachment {
     pub qid: u16,

@@ -10,7 +10,7 @@ pub struct Candidate {
 impl Candidate {
     ghost use Rattle.std.specs.Prelude.{◌≡◌, false};
 
-    /// The completion of an admin command that was executed, with its status and Dword 0.
+    /// The completion of an executed admin command, with its status and Command Dword 0.
     pub fn answered(&self, status: Status, dw0: u32) -> Ready
         ensures { result ≡ record { region = 0; index = self.now.index; entry = self.now.entry; with_queue = false; status = status; dw0 = dw0 } }
     {
@@ -40,7 +40,7 @@ pub struct Ready {
     pub region: u8,
     pub index: u32,
     pub entry: Sqe,
-    // It was aborted with its queue, and takes no outstanding place.
+    // Whether it was aborted with its queue, so that it takes no outstanding place.
     pub with_queue: bool,
     pub status: Status,
     pub dw0: u32,

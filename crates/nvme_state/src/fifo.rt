@@ -1,4 +1,4 @@
-// A queue of items, with room that was made when it was made.
+// A queue of items, whose memory is allocated when it is made.
 ghost use Rattle.std.specs.Prelude.{◌≡◌, ◌==◌, position};
 
 use crate::candidate::Candidate;
@@ -6,8 +6,8 @@ use std::alloc::Global;
 use std::collections::VecDeque;
 use std::marker::Model;
 
-/// Items in the order in which they came. It has room for a fixed number of them from the start on, and never takes
-/// memory again.
+/// Items in the order in which they came. It has room for a fixed number of them from the start, and never allocates
+/// afterwards.
 #[derive(Drop)]
 pub struct Fifo<T: Copy> {
     items: VecDeque<T>,
@@ -29,7 +29,7 @@ impl<T: Copy> Model for Fifo<T> {
 impl<T: Copy> Fifo<T> {
     ghost use Rattle.std.specs.Prelude.{◌≡◌, ◌+◌, ◌^◌, ◌<◌, ◌≤◌, ◌==◌, [], ◌∷◌, ◌++◌, length, drop, slice_get, IfSome, option_to_list};
 
-    /// An empty queue with room for the given number of items. None where memory for them was refused.
+    /// An empty queue with room for the given number of items. `None` where memory was refused.
     pub fn new(alloc: Global, room: usize) -> Option<Fifo<T>>
         ensures empty { IfSome result (λ f. f.items ≡ []) }
         ensures room { IfSome result (λ f. f.room ≡ room) }
@@ -67,21 +67,21 @@ impl<T: Copy> Fifo<T> {
         self.items.len()
     }
 
-    /// There is no item.
+    /// Whether there is no item.
     pub fn is_empty(&self) -> bool
         ensures { result ≡ (length self.now.items == 0) }
     {
         self.items.is_empty()
     }
 
-    /// The oldest item.
+    /// The oldest item, which stays. `None` where the queue is empty.
     pub fn front(&self) -> Option<T>
         ensures { result ≡ slice_get self.now.items 0 }
     {
         self.items.front().copied()
     }
 
-    /// Appends an item.
+    /// Appends an item, for which there must be room.
     pub fn push(&mut self, item: T)
         requires { length self.old.items < self.old.room }
         ensures { self.new ≡ record self.old { items = self.old.items ++ item ∷ [] } }
@@ -89,7 +89,7 @@ impl<T: Copy> Fifo<T> {
         self.items.push_back_reserved(item);
     }
 
-    /// Takes the oldest item.
+    /// Takes the oldest item out. `None` where the queue is empty.
     pub fn pop(&mut self) -> Option<T>
         ensures items { self.old.items ≡ option_to_list result ++ self.new.items }
         ensures value { result ≡ slice_get self.old.items 0 }
@@ -111,7 +111,8 @@ impl Fifo<Candidate> {
     ghost use Rattle.std.specs.Prelude.{◌≡◌, IfNone};
     ghost use Rattle.nvme_state.specs.inside.Steps.{oldest_named, without_oldest};
 
-    /// Takes the oldest candidate with a command identifier out. None where there is none; nothing changed then.
+    /// Takes the oldest candidate with this command identifier out. `None`, which changes nothing, where no candidate
+    /// has it.
     pub fn take_named(&mut self, cid: u16) -> Option<Candidate>
         ensures value { result ≡ oldest_named cid self.old.items }
         ensures rest { self.new ≡ record self.old { items = without_oldest cid self.old.items } }

@@ -1,4 +1,4 @@
-// The jobs of picked I/O commands: which are handed to the workers, and which wait for their result.
+// The jobs of picked I/O commands: which were handed to the workers, and which wait for their result.
 ghost use Rattle.std.specs.Prelude.{◌≡◌};
 ghost use Rattle.nvme_state.specs.Hands.{job_in};
 
@@ -13,8 +13,8 @@ use std::marker::Model;
 use std::snapshot::Snapshot;
 use std::sync::Wait;
 
-/// The front's seat at its workers, the picked commands whose job isn't handed yet, the oldest first, and those whose job
-/// was handed and whose result isn't gained yet, in any order. Tickets count the picked commands from 0.
+/// The front's seat at its workers, the picked commands whose job isn't handed over yet, oldest first, and those whose
+/// job was handed over and whose result isn't gained yet, in any order. Tickets count the picked commands from 0.
 #[derive(Drop)]
 pub struct Jobs {
     seat: FrontSeat,
@@ -36,14 +36,14 @@ impl Model for Jobs {
     ghost invariant = { λ j. j.unhanded.room ≤ j.running.room };
 }
 
-/// What a look for a result came to.
+/// What a look for a result found.
 #[derive(Clone, Copy, Debug, PartialEq, Eq)]
 pub enum Gained {
-    /// No result was there.
+    /// No result.
     Nothing,
-    /// The result of a picked command, which doesn't wait for it any more: the command, and its status.
+    /// The result of a picked command, which no longer waits for it: the command, and its status.
     Result(Dispatched, Status),
-    /// A result with this ticket, which is of no command that waits for its result. It is dropped.
+    /// A result with this ticket that belongs to no command which waits for one. It was dropped.
     Stray(u32),
 }
 
@@ -65,7 +65,7 @@ impl Jobs {
     ghost use Rattle.nvme_state.specs.inside.Jobs.{HandsOne, IsClosed};
     ghost use Rattle.nvme_state.specs.inside.Gains.{GainsBy};
 
-    /// No job was handed, and there is no room yet.
+    /// Jobs of a seat that has handed over nothing since, without room for commands yet.
     pub fn new(alloc: Global, seat: FrontSeat) -> Jobs
         ensures { result ≡ record { hands = record { came = seat; seat = seat; unhanded = []; running = [] }; tickets = 0; room = 0 } }
     {
@@ -79,7 +79,7 @@ impl Jobs {
         }
     }
 
-    /// Makes room for as many commands of each kind as may be outstanding. False where memory for it was refused.
+    /// Makes room for as many commands of each kind as may be outstanding. False where memory was refused.
     pub fn make_room(&mut self, alloc: Global) -> bool
         requires { (self.old.room ≡ max_outstanding) ⊎ (self.old.hands.unhanded ≡ []) }
         ensures same { self.new ≡ record self.old { room = self.new.room } }
@@ -100,7 +100,7 @@ impl Jobs {
         true
     }
 
-    /// A command was picked: it gets the next ticket, and its job is to be handed.
+    /// Adds a picked command. It gets the next ticket, and its job is to be handed over.
     pub fn add(&mut self, region: u8, candidate: Candidate)
         requires room { length self.old.hands.unhanded < self.old.room }
         requires few { self.old.tickets + 1 < 2 ^ 32 }
@@ -118,8 +118,8 @@ impl Jobs {
         self.tickets += 1;
     }
 
-    /// Hands the job of the command that was picked first of those that are not handed. False where there is none or
-    /// the lane is full; nothing changed then.
+    /// Hands over the job of the oldest picked command whose job isn't handed over yet. False, which changes nothing,
+    /// where there is none or the lane is full.
     pub fn hand<R: Wait>(&mut self, rt: &R, lanes: &Lanes, spaces: &Namespaces) -> bool
         requires seat { self.old.hands.seat.lane ≡ lanes.now }
         requires room { length self.old.hands.running + length self.old.hands.unhanded ≤ self.old.room }
@@ -138,7 +138,7 @@ impl Jobs {
         true
     }
 
-    /// Closes the pool of the seat. Where memory for that was refused all comes back, unchanged.
+    /// Closes the pool of the seat. Where memory was refused all comes back, unchanged.
     pub fn close<R: Wait>(
         self,
         rt: &R,
@@ -170,7 +170,7 @@ impl Jobs {
         Err((jobs, lanes, workers))
     }
 
-    /// Gains a result, and finds the command that waits for it.
+    /// Gains a result, where there is one, and finds the command that waits for it.
     pub fn gain(&mut self, lanes: &Lanes, spaces: &Namespaces) -> Gained
         requires seat { self.old.hands.seat.lane ≡ lanes.now }
         ensures { GainsBy spaces.now self.old self.new result }

@@ -1,6 +1,6 @@
-//! What a front keeps beside its log: candidates in windows, picked commands with their jobs, ready completions, and the
-//! regions with the front's ends. `specs/` says when all this stands at a log, and `proofs/` that each step of a front
-//! keeps it so.
+//! What a front keeps beside its log: candidates in windows, picked commands with their jobs, ready completions, and
+//! the regions with the front's ends. `specs/` defines when all this agrees with a log, and `proofs/` shows that each
+//! step of a front keeps it so.
 #![tactic(auto)]
 
 mod attachment;

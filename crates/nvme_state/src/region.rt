@@ -5,8 +5,8 @@ use nvme_entry::{Cqe, Sqe};
 use nvme_lane::{GetEnd, PutEnd};
 use nvme_log::window_of;
 
-/// A submission region: its ring, the window of its queue, how many commands were fetched, and how many of those that
-/// were picked or aborted have no completion posted.
+/// A submission region: the front's end of its ring, the window of its queue, how many commands were fetched, how many
+/// picked or aborted commands have no completion posted, and the queue that it was opened for.
 #[derive(Drop)]
 pub struct SqRegion {
     pub end: GetEnd<Sqe>,
@@ -16,8 +16,8 @@ pub struct SqRegion {
     pub queue: Option<Attachment>,
 }
 
-/// A completion region: its ring, how many completions were posted, and those that are ready, in the order in which
-/// they became so.
+/// A completion region: the front's end of its ring, how many completions were posted, and those that are ready, in the
+/// order in which they became so.
 #[derive(Drop)]
 pub struct CqRegion {
     pub end: PutEnd<Cqe>,
@@ -30,7 +30,7 @@ impl SqRegion {
     ghost use Rattle.nvme_lane.specs.View.{SameGet};
     ghost use Rattle.nvme_log.specs.Limits.{window_of};
 
-    /// The window has no room for a candidate more.
+    /// Whether the window has no room for another candidate.
     pub fn is_full(&self) -> bool
         ensures value { result ≡ nat_le (window_of self.now.end.slots) (length self.now.window.items) }
         ensures some { result ≡ true → self.now.window.items ≢ [] }
@@ -38,7 +38,7 @@ impl SqRegion {
         self.window.len() >= usize::from(window_of(self.end.slots()))
     }
 
-    /// Gets the next command of the ring into the window. None where the ring gave none; nothing changed then.
+    /// Gets the next command of the ring into the window. `None`, which changes nothing, where the ring gave none.
     pub fn fetch(&mut self) -> Option<Candidate>
         requires room { length self.old.window.items < self.old.window.room }
         requires few { self.old.fetched + 1 < 2 ^ 32 }
@@ -67,8 +67,8 @@ impl CqRegion {
     ghost use Rattle.std.specs.Prelude.{◌≡◌, ◌+◌, ◌^◌, ◌<◌, [], ◌∷◌, ◌++◌, drop, length, true, false};
     ghost use Rattle.nvme_lane.specs.View.{SamePut};
 
-    /// Puts a completion into the ring, which is that of the oldest ready place. False where the ring is full; nothing
-    /// changed then.
+    /// Puts a completion, that of the oldest ready place, into the ring. That place is then no longer ready. False,
+    /// which changes nothing, where the ring is full.
     pub fn post(&mut self, cqe: &Cqe) -> bool
         requires few { self.old.posted + 1 < 2 ^ 32 }
         ensures full { result ≡ false → (self.new ≡ self.old) × (self.old.end.free ≡ 0) }

@@ -1,4 +1,4 @@
-// The picked commands whose job is handed and whose result isn't gained, found by their tickets.
+// The picked commands whose job was handed over and whose result isn't gained, found by their tickets.
 ghost use Rattle.std.specs.Prelude.{◌≡◌, ◌↔◌, ◌<◌, ◌∷◌, IsTrue, IfSome, IfNone, length, slice_index_or, vec_capacity};
 ghost use Rattle.std.specs.List.Sorted.{IsPermutation};
 ghost use Rattle.nvme_pool.specs.Jobs.{job_of};
@@ -11,15 +11,15 @@ use nvme_pool::Finished;
 use std::alloc::{AllocError, Global};
 use std::marker::Model;
 
-// How many hints there are.
+// The number of hints.
 const HINTS: usize = 512;
 
-/// Picked commands whose job was handed and whose result isn't gained yet, in any order. It takes memory only where room
-/// is asked for.
+/// Picked commands whose job was handed over and whose result isn't gained yet, in any order. It allocates only in
+/// `reserve`.
 #[derive(Drop)]
 pub struct Running {
     commands: Vec<Dispatched>,
-    // The position of a command, by the lowest bits of its ticket. It may be that of another command, so what stands
+    // The position of a command, by the lowest bits of its ticket. It may be that of another command, so the command
     // there is compared before it is used.
     hints: [u8; HINTS],
 }
@@ -34,8 +34,8 @@ impl Model for Running {
     ghost view = { λ r. record { items = r.commands.items; room = vec_capacity r.commands } };
 }
 
-// A result has the ticket, the command and the namespaces of a picked command's job. (Inline, so that a result needn't be
-// laid out in memory to be compared.)
+// Whether a result has the ticket, the command and the namespaces of a picked command's job. (Inline, so that a result
+// needn't be laid out in memory to be compared.)
 #[inline(always)]
 fn is_result_of(finished: &Finished, dispatched: &Dispatched, spaces: &Namespaces) -> bool
     ensures { IsTrue result ↔ (job_of finished.now ≡ job_in spaces.now dispatched.now) }
@@ -45,8 +45,8 @@ fn is_result_of(finished: &Finished, dispatched: &Dispatched, spaces: &Namespace
         && finished.spaces() == *spaces
 }
 
-// Which of the picked commands a result is of, where the one at a position is looked at first. (One place of comparison,
-// so that a result needn't be laid out in memory for it.)
+// The position of the picked command that a result belongs to. The one at `first` is compared first. (One place of
+// comparison, so that a result needn't be laid out in memory for it.)
 fn find(
     running: &[Dispatched],
     first: usize,
@@ -66,19 +66,19 @@ fn find(
     None
 }
 
-// Where the hint of a ticket stands.
+// The index of the hint of a ticket.
 fn place_of(ticket: u32) -> usize
     ensures { result < 512 }
 {
     ticket as usize % HINTS
 }
 
-// A position as a hint. No more than 256 commands run.
+// A position as a hint. At most 256 commands run.
 fn hint_of(position: usize) -> u8 {
     (position % 256) as u8
 }
 
-// Takes the one at a position out of a list. The last takes its place.
+// Takes the command at a position out of a list. The last one takes its place.
 fn take_at(commands: &mut Vec<Dispatched>, i: usize) -> Dispatched
     requires { i < length commands.old.items }
     ensures value { result ≡ slice_index_or commands.old.items i result }
@@ -92,7 +92,7 @@ impl Running {
     ghost use Rattle.std.specs.Prelude.{◌≡◌, ◌+◌, ◌<◌, ◌≤◌, [], ◌∷◌, ◌++◌, length, true, IfSome, IfNone, OnOk, OnErr};
     ghost use Rattle.std.specs.List.Sorted.{IsPermutation};
 
-    /// None, and no room.
+    /// No commands, and no room.
     pub fn empty(alloc: Global) -> Running
         ensures { result.items ≡ [] }
     {
@@ -102,7 +102,7 @@ impl Running {
         }
     }
 
-    /// Makes room for the given number more. Where memory was refused, nothing changed.
+    /// Makes room for `more` further commands. Where memory was refused, nothing changed.
     pub fn reserve(&mut self, more: usize) -> Result<(), AllocError>
         ensures same { self.new.items ≡ self.old.items }
         ensures room { OnOk result (length self.old.items + more ≤ self.new.room) }
@@ -111,7 +111,7 @@ impl Running {
         self.commands.reserve(more)
     }
 
-    /// Adds one.
+    /// Adds a command.
     pub fn push(&mut self, dispatched: Dispatched)
         requires { length self.old.items < self.old.room }
         ensures { self.new ≡ record self.old { items = self.old.items ++ dispatched ∷ [] } }
@@ -120,8 +120,8 @@ impl Running {
         self.commands.push_reserved(dispatched);
     }
 
-    /// Takes the one that a result is of, mostly by one look, however many run. None where it is of none of them; nothing
-    /// changed then.
+    /// Takes out the command that a result belongs to, mostly by one comparison, however many run. `None`, which
+    /// changes nothing, where it belongs to none of them.
     #[inline(always)]
     pub fn take(&mut self, finished: &Finished, spaces: &Namespaces) -> Option<Dispatched>
         ensures job { IfSome result (λ d. job_of finished.now ≡ job_in spaces.now d) }

@@ -25,7 +25,7 @@ starts_more : (P Q : List ℕ → Type 0) (a : Option (List ℕ)) → ((l : List
 starts_more P Q None f s = tt
 starts_more P Q (Some xs) f (l, rest, split, p) = (l, rest, split, f l p)
 
--- a fault that is not want of memory is the line's
+-- a fault that isn't `NoMemory` is the line's
 failed : {Y : Type 0} (fault : LineFault) (reading : Result Y LineFault) → Fails fault reading → fault ≢ faults.NoMemory → reading ≡ Err fault
 failed faults.NoMemory reading f n = absurd (n refl)
 failed faults.NoHead reading f n = f

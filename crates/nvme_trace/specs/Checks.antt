@@ -19,7 +19,7 @@ abbrev pub Tells : Head → History → List (List ℕ) → Type 0
 Tells head [] lines = (line : List ℕ) × (lines ≡ line ∷ []) × (head_of_line line ≡ Ok head)
 Tells head (e ∷ past) lines = (line : List ℕ) × (earlier : List (List ℕ)) × (lines ≡ line ∷ earlier) × (event_of_line line ≡ Ok e) × Tells head past earlier
 
--- so many lines of a text are a head and the events of a lawful history, and then the other bytes follow
+-- this many lines of a text are a head and the events of a lawful history, and then the other bytes follow
 pub record IsLawfulUpTo (text rest : List ℕ) (number : ℕ) (head : Head) (past : History) : Type 0 where
   -- the last one first
   pub lines : List (List ℕ)
@@ -28,7 +28,7 @@ pub record IsLawfulUpTo (text rest : List ℕ) (number : ℕ) (head : Head) (pas
   pub tells : Tells head past lines
   pub lawful : IsLawfulRun head.mechanism head.settings past
 
--- the text is a head and the events of a lawful run with so many picks
+-- the text is a head and the events of a lawful run with this many picks
 pub record IsLawfulText (text : List ℕ) (picks : ℕ) : Type 0 where
   pub head : Head
   pub past : History
@@ -71,7 +71,7 @@ pub record IsLaterFault (text : List ℕ) (error : TraceError) : Type 0 where
 abbrev pub IsFaultOf : List ℕ → TraceError → Type 0
 IsFaultOf text error = IsHeadFault error 0 (Some text) ⊎ IsLaterFault text error
 
--- a judge stands where so many lines were read
+-- a judge stands where this many lines were read
 pub record IsJudgedUpTo (text rest : List ℕ) (number : ℕ) (head : Head) (judge : JudgeView) : Type 0 where
   pub past : History
   pub before : IsLawfulUpTo text rest number head past

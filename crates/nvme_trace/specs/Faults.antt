@@ -7,7 +7,7 @@ use Rattle.nvme_trace.specs.declared.fault.LineFault.TheVariants.{NoHead, NoMemo
 use Rattle.nvme_trace.specs.declared.fault.TraceError.{TraceError}
 use Rattle.nvme_trace.specs.declared.fault.TraceError.TheVariants as error
 
--- the error tells this fault in the line of this number. Want of memory is told as such
+-- the error tells this fault in the line of this number. Out of memory is told as such
 abbrev pub IsLineFault : TraceError → ℕ → LineFault → Type 0
 IsLineFault (error.Line line fault) number told = (line ≡ number) × (fault ≡ told) × (told ≢ NoMemory)
 IsLineFault error.Read number told = ⊥
@@ -18,7 +18,7 @@ abbrev pub HasHeadFault : LineFault → Option (List ℕ) → Type 0
 HasHeadFault fault None = Unit {0}
 HasHeadFault fault (Some xs) = ((lines_of xs ≡ []) × (fault ≡ NoHead)) ⊎ StartsWithLine (λ line. head_of_line line ≡ Err fault) (Some xs)
 
--- after so many lines
+-- after this many lines
 abbrev pub IsHeadFault : TraceError → ℕ → Option (List ℕ) → Type 0
 IsHeadFault (error.Line line fault) number rest = (line ≡ number + 1) × HasHeadFault fault rest
 IsHeadFault error.Read number rest = Unit {0}

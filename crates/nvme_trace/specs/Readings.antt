@@ -19,7 +19,7 @@ abbrev pub ◌>>◌ : {A B : Type 0} → Result A LineFault → Result B LineFau
 (Ok x) >> r = r
 (Err e) >> r = Err e
 
--- What a function answered is what reading gives. Want of memory alone may come in its place.
+-- What a function answered is what reading gives, unless it is out of memory.
 abbrev pub Fails : {Y : Type 0} → LineFault → Result Y LineFault → Type 0
 Fails NoMemory reading = Unit {0}
 Fails e reading = reading ≡ Err e
@@ -51,7 +51,7 @@ field_count (string s) = 0
 field_count (array ds) = 0
 field_count (object ms) = member_count ms
 
--- a line that has each of so many fields has no other
+-- a line that has each of this many fields has no other
 abbrev pub only : ℕ → Data → Result (Unit {0}) LineFault
 only count d = if field_count d == count then Ok tt else Err Unknown
 

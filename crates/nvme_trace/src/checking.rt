@@ -1,4 +1,4 @@
-// The check of a trace.
+// Checks a trace.
 ghost use Rattle.std.specs.Prelude.{◌≡◌, ℕ, List, Some, Ok, IfOk, IfErr, IfSome};
 ghost use Rattle.nvme_trace.specs.Lines.{TakesLine};
 ghost use Rattle.nvme_trace.specs.Format.{head_of_line};
@@ -11,7 +11,7 @@ use crate::trace::Trace;
 use std::alloc::Global;
 use std::io::Read;
 
-/// The first pick of a trace that is not the lawful one.
+/// The first pick of a trace that isn't the lawful one.
 #[derive(Clone, Copy, Debug, PartialEq, Eq)]
 pub struct Unlawful {
     /// The number of its line, from 1 on.
@@ -23,14 +23,14 @@ pub struct Unlawful {
 /// The answer of a check.
 #[derive(Clone, Copy, Debug, PartialEq, Eq)]
 pub enum Checked {
-    /// Each pick is the lawful one.
+    /// Each of the `picks` picks is the lawful one.
     Lawful { picks: u64 },
-    /// Not each is.
+    /// A pick isn't the lawful one. It is the first such.
     Unlawful(Unlawful),
 }
 
-/// Checks a trace: whether its picks are a lawful run from the settings of its head. Otherwise the answer is the first
-/// pick that is not the lawful one, or the error is of the first line with a fault, where each pick before it is
+/// Checks whether the picks of a trace are a lawful run from the settings of its head. If they aren't, the answer is
+/// the first pick that isn't the lawful one. The error is of the first line with a fault, if each pick before it is
 /// lawful. The trace is read as a stream.
 #[tactic(auto, using(crate::proofs::CheckLemmas::head_fault))]
 pub fn check<R: Read + Drop>(alloc: Global, reader: R) -> Result<Checked, TraceError>

@@ -1,17 +1,17 @@
-// The text of a check's answer.
+// Writes the text of a check's answer.
 use crate::checking::{Checked, Unlawful};
 use crate::judge::Finding;
 use nvme_arbiter::{Class, Kept, Mechanism, Pick};
 use std::fmt;
 
-// A pick as words.
+// Writes a pick as words.
 fn put_pick<W: fmt::Write>(pick: &Pick, f: &mut fmt::Formatter<W>) -> fmt::Result {
     let (qid, n) = (pick.qid, pick.n);
     let fresh = if pick.fresh { " fresh" } else { "" };
     write!(f, "q{qid} {n}{fresh}")
 }
 
-// Which case of arbitration the lawful pick is.
+// The name of the case of arbitration that the lawful pick is.
 fn case_of(mechanism: Mechanism, class: Option<Class>, lawful: Option<Pick>) -> &'static str {
     let Some(pick) = lawful else {
         return "nothing is ready";
@@ -27,7 +27,7 @@ fn case_of(mechanism: Mechanism, class: Option<Class>, lawful: Option<Pick>) -> 
     }
 }
 
-// A queue that was served last.
+// Writes a queue that was served last.
 fn put_last<W: fmt::Write>(
     name: &str,
     last: Option<u16>,
@@ -39,7 +39,7 @@ fn put_last<W: fmt::Write>(
     }
 }
 
-// The queues that were served last.
+// Writes the queues that were served last.
 fn put_served<W: fmt::Write>(kept: &Kept, f: &mut fmt::Formatter<W>) -> fmt::Result {
     write!(f, "\nserved last:")?;
     if kept.mechanism == Mechanism::RoundRobin {
@@ -53,7 +53,7 @@ fn put_served<W: fmt::Write>(kept: &Kept, f: &mut fmt::Formatter<W>) -> fmt::Res
     put_last(", low", last.low, f)
 }
 
-// What is used in the round, beside the weights.
+// Writes what is used in the round, beside the weights.
 fn put_used<W: fmt::Write>(kept: &Kept, f: &mut fmt::Formatter<W>) -> fmt::Result {
     if kept.mechanism == Mechanism::RoundRobin {
         return Ok(());
@@ -70,7 +70,7 @@ fn put_used<W: fmt::Write>(kept: &Kept, f: &mut fmt::Formatter<W>) -> fmt::Resul
     )
 }
 
-// What was picked, what the lawful pick is, and why.
+// Writes what was picked, what the lawful pick is, and why.
 fn put_finding<W: fmt::Write>(finding: &Finding, f: &mut fmt::Formatter<W>) -> fmt::Result {
     let kept = &finding.kept;
     write!(f, "\npicked: ")?;

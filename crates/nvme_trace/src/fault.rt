@@ -5,7 +5,7 @@ ghost use Rattle.nvme_trace.specs.declared.fault.TraceError.TheVariants as fault
 use std::alloc::{AllocError, AllocFailed};
 use thiserror::Error;
 
-/// A field of a line, in the order in which each kind of line is looked at.
+/// A field of a line, in the order in which the fields of a line are checked.
 #[derive(Clone, Copy, Debug, PartialEq, Eq)]
 pub enum Field {
     /// `version` of the head: 1.
@@ -18,7 +18,7 @@ pub enum Field {
     Set,
     /// `pick` of a pick: the identifier of the submission queue.
     Pick,
-    /// `n` of a pick: how many commands it takes.
+    /// `n` of a pick: the number of commands that it takes.
     N,
     /// `fresh` of a pick: whether it starts a new round.
     Fresh,
@@ -29,7 +29,7 @@ pub enum Field {
 impl Field {
     ghost use Rattle.nvme_trace.specs.Fields.{text_of};
 
-    /// The field as it stands in a line.
+    /// The name of the field in a line.
     pub fn name(&self) -> &'static str
         ensures text { result.now ≡ text_of self.now }
     {
@@ -46,48 +46,49 @@ impl Field {
     }
 }
 
-/// The first fault of a line, or want of memory.
+/// The first fault of a line, or out of memory.
 #[derive(Clone, Copy, Debug, PartialEq, Eq, Error)]
 pub enum LineFault {
     /// The text has no line.
     #[error("no head")]
     NoHead,
-    /// The line has more than 4,096 bytes, its newline aside.
+    /// The line has more than 4,096 bytes, not counting its newline.
     #[error("more than 4096 bytes")]
     TooLong,
-    /// Its bytes are not UTF-8.
+    /// Its bytes aren't UTF-8.
     #[error("not UTF-8")]
     NotUtf8,
-    /// It is not one JSON value.
+    /// It isn't one JSON value.
     #[error("not JSON")]
     NotJson,
-    /// A field that the line has to have is not there.
+    /// A field that the line must have is missing.
     #[error("missing {name}", name = .0.name())]
     Missing(Field),
-    /// The value of a field is of a wrong kind or out of its range.
+    /// The value of a field is of the wrong kind or out of range.
     #[error("bad {name}", name = .0.name())]
     Bad(Field),
-    /// The line has a field that is not one of its own.
+    /// The line has a field that such a line doesn't have.
     #[error("unknown field")]
     Unknown,
-    /// What a pick saw is no observation.
+    /// What a pick saw isn't an observation: an identifier above 64, a count above 256, identifiers that don't ascend,
+    /// or a class that the queue can't have.
     #[error("seen is no observation")]
     NotObservation,
-    /// Memory was refused before a fault was found.
+    /// Out of memory, before a fault was found.
     #[error("out of memory")]
     NoMemory,
 }
 
-/// Why a trace was not read to its end.
+/// Why a trace wasn't read to its end.
 #[derive(Clone, Copy, Debug, PartialEq, Eq, Error)]
 pub enum TraceError {
-    /// The first fault of the text, in the line of this number, from 1 on.
+    /// The first fault of the text, and the number of its line, from 1.
     #[error("trace: line {line}: {fault}")]
     Line { line: u64, fault: LineFault },
     /// A read failed.
     #[error("read failed")]
     Read,
-    /// Memory was refused.
+    /// Out of memory.
     #[error("out of memory")]
     NoMemory,
 }

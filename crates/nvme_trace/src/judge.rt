@@ -1,4 +1,4 @@
-// Judging a history event by event.
+// Judges a history, event by event.
 ghost use Rattle.std.specs.Prelude.{◌≡◌};
 ghost use Rattle.nvme_arbiter.specs.Observation.{class_in};
 
@@ -6,7 +6,7 @@ use crate::reading::{Head, TraceEvent};
 use nvme_arbiter::{Arbiter, Class, Kept, Pick, Seen};
 use std::marker::Model;
 
-/// A pick that is not the lawful one.
+/// A pick that isn't the lawful one.
 #[derive(Clone, Copy, Debug, PartialEq, Eq)]
 pub struct Finding {
     /// The pick that was made.
@@ -15,11 +15,11 @@ pub struct Finding {
     pub lawful: Option<Pick>,
     /// The class in which the queue of the lawful pick was seen.
     pub class: Option<Class>,
-    /// What was served last and what was used in the round, before the pick.
+    /// What the arbiter kept before the pick: what was served last, and what was used in the round.
     pub kept: Kept,
 }
 
-/// An arbiter that makes each pick again, and the number of picks that were lawful.
+/// An arbiter that makes each pick again, and counts the lawful ones.
 #[derive(Drop)]
 pub struct Judge {
     arbiter: Arbiter,
@@ -34,7 +34,7 @@ impl Model for Judge {
     ghost view = { λ j. record { kept = j.arbiter; picks = j.picks } };
 }
 
-// The class of a queue that was seen.
+// The class in which a queue was seen.
 fn class_in(seen: &[Seen], qid: u16) -> Option<Class>
     ensures { result ≡ class_in seen.now qid }
 {
@@ -54,7 +54,7 @@ impl Judge {
     ghost use Rattle.nvme_trace.specs.Format.{event_view};
     ghost use Rattle.nvme_trace.specs.Judged.{IsObserved, IsLawfulEvent, IsFinding, picks_of};
 
-    /// A judge of what follows a head.
+    /// A judge of the events that follow a head.
     pub fn new(head: Head) -> Judge
         ensures stands { StandsAt head.mechanism head.settings [] result.kept }
         ensures picks { result.picks ≡ 0 }
@@ -65,15 +65,15 @@ impl Judge {
         }
     }
 
-    /// How many picks were lawful.
+    /// The number of lawful picks so far.
     pub fn picks(&self) -> u64
         ensures { result ≡ self.now.picks }
     {
         self.picks
     }
 
-    /// Judges the next event: `None` where it is lawful after the events so far, and then it is one of them. After a
-    /// pick that is not, nothing has changed.
+    /// Judges the next event. `None` where it is lawful after the events so far; it then counts among them. A pick that
+    /// isn't lawful changes nothing.
     pub fn judge(&mut self, event: &TraceEvent) -> Option<Finding>
         requires observed { IsObserved (event_view event.now) }
         requires few { self.old.picks < 2 ^ 64 - 1 }

@@ -1,4 +1,5 @@
-//! Traces of arbitration: a text that says what an arbiter saw and picked, and the check of each pick.
+//! Traces of arbitration, which say what an arbiter saw and picked: how they are written and read, and the check of
+//! each pick.
 #![tactic(auto)]
 
 mod checking;

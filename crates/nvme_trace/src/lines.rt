@@ -1,13 +1,13 @@
-// The lines of a text that is read as a stream.
+// Reads the lines of a text as a stream.
 ghost use Rattle.std.specs.Prelude.{◌≤◌};
 
 use std::alloc::AllocFailed;
 use std::io::Read;
 
-// How many bytes one read asks for.
+// The number of bytes that one read asks for.
 const CHUNK: usize = 16_384;
 
-// The most bytes of a line, its newline aside.
+// The most bytes of a line, not counting its newline.
 const LONGEST_LINE: usize = 4_096;
 
 // One byte more shows that a line is longer.
@@ -40,7 +40,7 @@ impl From<AllocFailed<u8>> for NextError {
 pub struct Lines<R> {
     reader: R,
     chunk: [u8; CHUNK],
-    // The bytes of the chunk that are not taken yet.
+    // The part of the chunk that isn't taken yet.
     start: usize,
     end: usize,
     ghost ordered: { start ≤ end },
@@ -54,7 +54,7 @@ impl<R: Read> Lines<R> {
     ghost use Rattle.nvme_trace.specs.Format.{longest_line};
     ghost use Rattle.nvme_trace.specs.declared.lines.NextError.TheVariants as error;
 
-    /// The lines of a reader of which nothing was read.
+    /// The lines of a reader that wasn't read yet.
     pub fn new(reader: R) -> Lines<R>
         ensures { unread R.remaining result ≡ R.remaining reader }
     {
@@ -66,7 +66,7 @@ impl<R: Read> Lines<R> {
         }
     }
 
-    // Reads a chunk where none is left. Where it is empty then, the text is at its end.
+    // Reads a chunk where none is left. If it is empty afterwards, the text is at its end.
     fn fill(&mut self) -> Result<(), NextError>
         requires { self.old.start ≡ self.old.end }
         ensures kept { Keeps (unread R.remaining self.old) (unread R.remaining self.new) }
@@ -84,7 +84,7 @@ impl<R: Read> Lines<R> {
         }
     }
 
-    // The first byte that is not taken yet.
+    // Takes the first byte that isn't taken yet.
     fn take(&mut self) -> u8
         requires { self.old.start < self.old.end }
         ensures { Consumes (unread R.remaining self.old) (unread R.remaining self.new) (result ∷ []) }
@@ -110,7 +110,7 @@ impl<R: Read> Lines<R> {
         Ok(Some(self.take()))
     }
 
-    /// Puts the next line into `line`, without its newline. The answer is false where there is none.
+    /// Puts the next line into `line`, without its newline. The answer is false at the end of the text.
     pub fn next_line(&mut self, line: &mut Vec<u8>) -> Result<bool, NextError>
         ensures ok { IfOk result (λ more. MatchLine more line.new.items (unread R.remaining self.old) (unread R.remaining self.new)) }
         ensures short { OnOk result (length line.new.items ≤ longest_line) }

@@ -1,4 +1,4 @@
-// The names of classes and mechanisms, as they stand in a trace.
+// The names of classes and mechanisms in a trace.
 ghost use Rattle.std.specs.Prelude.{◌≡◌};
 ghost use Rattle.nvme_trace.specs.Names.{class_text, mechanism_text};
 

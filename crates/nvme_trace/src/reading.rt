@@ -1,4 +1,4 @@
-// What a line says.
+// Reads what a line says.
 ghost use Rattle.std.specs.Prelude.{◌≡◌, ◌≤◌, length, option_map, ok_or, IfOk, IfSome};
 ghost use Rattle.serde_json.specs.View.{view};
 ghost use Rattle.nvme_trace.specs.Readings.{Gives, seen_by, only, value_at, whole, number_at, flag_at, field_count};
@@ -36,7 +36,7 @@ pub enum TraceEvent {
     },
 }
 
-// How many members an object has.
+// The number of members of an object.
 fn field_count(value: &Value) -> usize
     ensures { result ≡ field_count (view value.now) }
 {
@@ -46,7 +46,7 @@ fn field_count(value: &Value) -> usize
     }
 }
 
-// That a line has no more fields than these.
+// Refuses a line that doesn't have this number of fields.
 fn only(count: usize, line: &Value) -> Result<(), LineFault>
     ensures { result ≡ only count (view line.now) }
 {
@@ -57,7 +57,7 @@ fn only(count: usize, line: &Value) -> Result<(), LineFault>
     }
 }
 
-// The value of a field that the line has to have.
+// The value of a field that the line must have.
 fn value_at(line: &Value, field: Field) -> Result<&Value, LineFault>
     ensures { seen_by (λ v. view v.now) result ≡ value_at field (view line.now) }
 {
@@ -67,7 +67,7 @@ fn value_at(line: &Value, field: Field) -> Result<&Value, LineFault>
     }
 }
 
-// A whole number up to a highest.
+// A whole number, at most `most`.
 fn whole(value: &Value, most: u64) -> Option<u64>
     ensures value { result ≡ whole most (view value.now) }
 {
@@ -157,7 +157,7 @@ fn class_of_part(index: usize, parts: &Value) -> Option<Class>
     class_named(parts.get(index)?.as_str())
 }
 
-// How many items an array has.
+// The number of items of an array.
 #[tactic(auto, using(crate::proofs::ReadingLemmas::item_count_view))]
 fn part_count(parts: &Value) -> Option<usize>
     ensures { result ≡ part_count (view parts.now) }

@@ -1,4 +1,4 @@
-// A trace that is read as a stream, line by line.
+// Reads a trace as a stream, line by line.
 ghost use Rattle.std.specs.Prelude.{◌≡◌, ◌≤◌, ◌<◌, ◌+◌, ◌-◌, ◌^◌, ℕ, List, Option, Ok, length, IfOk, IfErr, IfSome, OnOk, MatchOption};
 ghost use Rattle.nvme_trace.specs.Lines.{unread, MatchLine, MeetsError, TakesLine, HasNoLine};
 ghost use Rattle.nvme_trace.specs.Format.{longest_line, head_of_line, event_of_line, event_view};
@@ -14,12 +14,12 @@ use std::alloc::Global;
 use std::io::Read;
 use std::marker::Model;
 
-/// A trace of which some lines were read. Contracts see it as the bytes that are left, where they are known, and the
-/// number of lines that were read.
+/// A trace of which some lines were read. Contracts see the bytes that are left, where they are known, and the number
+/// of lines that were read.
 #[derive(Drop)]
 pub struct Trace<R: Read> {
     lines: Lines<R>,
-    // The latest line, and how many were read.
+    // The latest line, and the number of lines that were read.
     line: Vec<u8>,
     number: u64,
 }
@@ -32,7 +32,7 @@ impl<R: Read> Model for Trace<R> {
     ghost view = { λ t. record { rest = unread R.remaining t.lines; number = t.number } };
 }
 
-// A fault of the line after so many.
+// A fault of the line after the first `number` lines.
 fn fault_after(number: u64, fault: LineFault) -> TraceError
     requires { number < 2 ^ 64 - 1 }
     ensures { IsLineFault result (number + 1) fault }
@@ -46,7 +46,7 @@ fn fault_after(number: u64, fault: LineFault) -> TraceError
     }
 }
 
-// Why the line after so many was not taken.
+// Why the line after the first `number` lines wasn't taken.
 fn stop_after(number: u64, error: NextError) -> TraceError
     requires { number < 2 ^ 64 - 1 }
     ensures line { (rest : Option (List ℕ)) → MeetsError error rest → IsHeadFault result number rest × IsEventFault result number rest }
@@ -60,7 +60,7 @@ fn stop_after(number: u64, error: NextError) -> TraceError
     }
 }
 
-// Reads the line after so many. The answer is false where there is none.
+// Reads the line after the first `number` lines. The answer is false at the end of the text.
 fn line_after<R: Read>(
     number: u64,
     lines: &mut Lines<R>,
@@ -78,7 +78,7 @@ fn line_after<R: Read>(
 }
 
 impl<R: Read> Trace<R> {
-    /// A trace of which nothing was read.
+    /// A trace that wasn't read yet.
     pub fn new(alloc: Global, reader: R) -> Trace<R>
         ensures rest { result.rest ≡ R.remaining reader }
         ensures number { result.number ≡ 0 }
@@ -90,7 +90,7 @@ impl<R: Read> Trace<R> {
         }
     }
 
-    /// How many lines were read.
+    /// The number of lines that were read.
     pub fn number(&self) -> u64
         ensures { result ≡ self.now.number }
     {
@@ -116,7 +116,7 @@ impl<R: Read> Trace<R> {
         }
     }
 
-    /// Reads the next line after the head, `None` where there is none.
+    /// Reads the next line after the head. `None` at the end of the trace.
     pub fn event(&mut self, alloc: Global) -> Result<Option<TraceEvent>, TraceError>
         requires { self.old.number < 2 ^ 64 - 1 }
         ensures ok { IfOk result (λ o. MatchOption o (HasNoLine self.old.rest) (λ e. TakesLine (λ line. event_of_line line ≡ Ok (event_view e)) self.old.rest self.new.rest)) }

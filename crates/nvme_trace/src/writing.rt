@@ -1,4 +1,4 @@
-// Writing a trace, line by line.
+// Writes a trace, line by line.
 ghost use Rattle.std.specs.List.{flat_map};
 ghost use Rattle.nvme_output.specs.Written.{Writes};
 ghost use Rattle.nvme_trace.specs.Text.{text_of_head, text_of_queue, text_of_next, text_of_seen, text_before_seen, text_of_pick, text_of_set, text_of_event, trace_text};
@@ -72,7 +72,7 @@ fn put_seen<W: Write>(seen: &[Seen], writer: &mut W) -> Result<(), WriteFault>
     put_more(more, writer)
 }
 
-// Writes what of the line of a pick stands before the open queues.
+// Writes the part of a pick's line before the open queues.
 fn put_picked<W: Write>(pick: &Pick, writer: &mut W) -> Result<(), WriteFault>
     ensures { Writes (W.contents writer.old) (W.contents writer.new) result (text_before_seen pick.now) }
 {
@@ -109,7 +109,7 @@ fn put_set<W: Write>(settings: &Settings, writer: &mut W) -> Result<(), WriteFau
     put_pieces(&pieces, writer)
 }
 
-// Writes the line of an event, where it is of arbitration.
+// Writes the line of an event, if it is a pick or a change of the settings.
 fn put_event<W: Write>(event: &Event, writer: &mut W) -> Result<(), WriteFault>
     ensures { Writes (W.contents writer.old) (W.contents writer.new) result (text_of_event event.now) }
 {
@@ -120,7 +120,7 @@ fn put_event<W: Write>(event: &Event, writer: &mut W) -> Result<(), WriteFault>
     }
 }
 
-// Writes the events of arbitration of a log.
+// Writes the picks and the changes of the settings of a log.
 fn put_events<W: Write>(log: &[Event], writer: &mut W) -> Result<(), WriteFault>
     ensures { Writes (W.contents writer.old) (W.contents writer.new) result (flat_map text_of_event log.now) }
 {
@@ -130,9 +130,9 @@ fn put_events<W: Write>(log: &[Event], writer: &mut W) -> Result<(), WriteFault>
     Ok(())
 }
 
-/// Writes the trace of a front's log: its mechanism and first settings, then its picks and its changes of the
-/// settings. At `Ok` just this was written. `WriteFault` comes only where a write failed or took no byte, and the writer
-/// got a prefix of the trace then.
+/// Writes the trace of a front's log: its mechanism and first settings, then its picks and its changes of the settings,
+/// and nothing else. `WriteFault` comes only where a write failed or took no byte, and the writer then has a prefix of
+/// the trace.
 pub fn write_trace<W: Write>(
     mechanism: Mechanism,
     settings: Settings,

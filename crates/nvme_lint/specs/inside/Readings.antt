@@ -13,7 +13,7 @@ use Rattle.nvme_lint.specs.inside.Tables.{IsOfTable}
 abbrev pub AreWarningsIn : Result Plan WorkloadError → List Warning → Type 0
 AreWarningsIn reading warnings = (plan : Plan) × (reading ≡ Ok plan) × (warnings ≡ warnings_of plan)
 
--- the fault that is told is that of reading. Want of memory is told as such
+-- the fault that is told is that of reading. Out of memory is told as such
 abbrev pub TellsFaultIn : Result Plan WorkloadError → LintError → Type 0
 TellsFaultIn reading (told.Fault f) = reading ≡ Err f.error
 TellsFaultIn reading told.NoMemory = Unit {0}

@@ -22,7 +22,7 @@ pub struct Found {
     pub cqe: Cqe,
 }
 
-/// The first completion that some events post for a place.
+/// The first completion that these events post for a place.
 pub fn first_posted(events: &[Event], region: usize, index: usize) -> Option<Found>
     ensures cqe { MatchOption result (completions_of events.now region index ≡ []) (λ found. IsFirst found.cqe (completions_of events.now region index)) }
     ensures at { IfSome result (λ found. found.at < length events.now) }
@@ -43,7 +43,7 @@ pub fn first_posted(events: &[Event], region: usize, index: usize) -> Option<Fou
     None
 }
 
-// The completion that a log posts for a place. It is looked for from a number of events on, and then before them.
+// The completion that a log posts for a place. The search begins at the event `from`, and goes on from the first event.
 fn completion_of(log: &[Event], region: usize, index: usize, from: usize) -> Option<Found>
     requires from { from ≤ length log.now }
     requires once { length (completions_of log.now region index) ≤ 1 }
@@ -105,8 +105,8 @@ fn put_places<W: Write>(
     Ok(())
 }
 
-/// Writes the lines of the fetched places of all regions. (Not inlined, so that its notes and what the counting of the log
-/// takes don't lie on the stack at once.)
+/// Writes the lines of the fetched places of all regions. (Not inlined, so that its notes and the arrays of the counts
+/// aren't on the stack at once.)
 #[inline(never)]
 pub fn put_completions<W: Write>(
     log: &[Event],

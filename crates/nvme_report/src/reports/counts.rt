@@ -1,4 +1,4 @@
-// What a log says of the submission regions, and their lines.
+// Counts what a log says of the submission regions, and writes their lines.
 ghost use Rattle.std.specs.Prelude.{◌≡◌, ℕ, ◌+◌, ◌∷◌, length, reverse};
 ghost use Rattle.nvme_log.specs.Rules.{Past};
 ghost use Rattle.nvme_output.specs.Written.{Writes};
@@ -9,10 +9,10 @@ use nvme_front::{Event, Sent};
 use nvme_output::{Piece, WriteFault, put_line};
 use std::io::Write;
 
-// How many submission queue identifiers there are.
+// The number of submission queue identifiers.
 const QIDS: usize = 65_536;
 
-/// How many submission regions an event can name.
+/// The number of submission regions that an event can name.
 pub const REGIONS: usize = 256;
 
 /// What a log says of a submission region.
@@ -23,7 +23,7 @@ pub struct Counts {
     pub aborted: usize,
 }
 
-// The counts of a region of which a log says nothing.
+// The counts of a region that a log doesn't name.
 const NO_COUNTS: Counts = Counts {
     fetched: 0,
     picked: 0,

@@ -1,14 +1,14 @@
-// Where a log is likely to post the completion of a place. Only the time of a search rests on it, not what is found.
+// Where a log is likely to post the completion of a place. Only the time of a search depends on it, not its result.
 use crate::reports::counts::{Counts, REGIONS};
 use nvme_front::Event;
 
-/// For how many places there is room: the commands of the largest workload.
+/// The most places with a hint: the commands of the largest workload.
 pub const PLACES: usize = 65_536;
 
-// How many events in a row are noted as one, so that a note of the longest log has 16 bits.
+// How many events in a row share a hint, so that 16 bits are enough for the longest log.
 const RUN: usize = 32;
 
-/// For each place, region by region, in which run of events of a log its completion is likely posted.
+/// For each place, region by region, the run of events in which a log likely posts its completion.
 #[derive(Drop)]
 pub struct Hints<'a> {
     // The number of the first place of each region.
@@ -28,7 +28,7 @@ fn first_places(counts: &[Counts]) -> [usize; REGIONS] {
 }
 
 impl<'a> Hints<'a> {
-    /// What a log hints, with what it says of each region. `posted` is overwritten.
+    /// The hints of a log with these counts. `posted` is overwritten.
     pub fn of(log: &[Event], counts: &[Counts], posted: &'a mut [u16]) -> Hints<'a> {
         let mut hints = Hints {
             first: first_places(counts),
@@ -47,7 +47,7 @@ impl<'a> Hints<'a> {
         self.first.get(region)?.checked_add(index)
     }
 
-    // Notes where the completion of a place is posted, where there is room for it.
+    // Notes where the completion of a place is posted, if there is room for it.
     fn note(&mut self, region: usize, index: usize, at: usize) {
         if let Some(number) = self.number_of(region, index)
             && let Some(posted) = self.posted.get_mut(number)

@@ -1,4 +1,4 @@
-// The lines of the mode, of the picks and of the completion regions.
+// Writes the lines of the mode, of the picks and of the completion regions.
 ghost use Rattle.std.specs.List.{flat_map};
 ghost use Rattle.nvme_output.specs.Written.{Writes};
 ghost use Rattle.nvme_report.specs.Report.{cq_line, cq_line_of, mode_line, numbered, pick_line};

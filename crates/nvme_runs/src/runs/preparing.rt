@@ -1,4 +1,4 @@
-// A front with its hosts and its workers, as a workload has them.
+// Makes a front with its hosts and its workers for a workload.
 ghost use Rattle.std.specs.Prelude.{◌≡◌, ◌≢◌, ℕ, ◌≤◌, ◌<◌, ◌++◌, false, [], length, map, vec_len, IfOk, IfSome, IfNone};
 ghost use Rattle.std.specs.List.{All, AllPairs, AllZip};
 ghost use Rattle.nvme_entry.specs.declared.submission.Sqe.{Sqe};
@@ -75,7 +75,7 @@ fn sq_rings(alloc: Global, plans: Vec<SqPlan>) -> Result<Vec<SqEnds>, AllocError
     Ok(rings)
 }
 
-// The rings of submission regions, whose scripts are submitted with `Mode::Loaded`. The lanes come back.
+// The rings of submission regions. With `Mode::Loaded` their scripts are submitted. The lanes come back.
 fn fed_rings<R: Threads + Wait + Sync>(
     rt: &R,
     alloc: Global,
@@ -94,7 +94,7 @@ fn fed_rings<R: Threads + Wait + Sync>(
     }
 }
 
-// Adds a submission region to a front, whose end knows then what rests in the ring, and gives the host's end.
+// Adds a submission region to a front, and gives the host's end. The front's end then knows what rests in the ring.
 fn add_sq(front: &mut Front, ends: SqEnds) -> Result<Feeder<Sqe>, AllocError>
     requires pair { feeder_place ends.feeder ≡ get_place ends.get }
     requires nothing_got { ends.get.got ≡ [] }
@@ -216,7 +216,7 @@ fn front_of(
     Ok((front, feeders, drainers))
 }
 
-// What a front of a workload is given.
+// The configuration of a workload's front.
 fn config_of(workload: &Workload) -> FrontConfig
     ensures { IsConfigOf (plan_of workload.now) result }
 {
@@ -229,8 +229,8 @@ fn config_of(workload: &Workload) -> FrontConfig
     }
 }
 
-/// A front with its hosts and so many workers, as a workload has them. With `Mode::Loaded` the hosts have submitted, and
-/// are joined.
+/// Makes the front of a workload with its hosts and this many workers, 1 to `nvme_pool::MAX_WORKERS`. With
+/// `Mode::Loaded` the hosts have submitted their scripts, and their threads are joined.
 pub fn prepare<R: Threads + Wait + Sync>(
     rt: &R,
     alloc: Global,

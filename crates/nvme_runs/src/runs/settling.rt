@@ -1,4 +1,4 @@
-// What is made of the parts of a run when its threads are joined.
+// Settles the parts of a run when its threads are joined.
 ghost use Rattle.std.specs.Prelude.{◌≡◌, ◌≢◌, ◌↔◌, ◌⊎◌, ◌<◌, ◌≤◌, length, map, IfOk, IfErr, IsErrOf, IsTrue, IsFalse, OnOk};
 ghost use Rattle.nvme_admin.specs.declared.bounds.TheConstants.{MAX_REGIONS};
 ghost use Rattle.nvme_front.specs.Hosts.{IsFedBy, IsDrainedBy, told, told_by};
@@ -18,7 +18,7 @@ use nvme_report::Mode;
 use std::alloc::Global;
 use std::sync::Wait;
 
-// Whether the script of a region is due: where the region is served, and in `Mode::Loaded` always.
+// Whether the script of a region is due: with `Mode::Loaded` always, otherwise where the region is served.
 fn is_due(front: &Front, mode: Mode, region: u8) -> bool
     requires there { region < length front.now.gets }
     ensures { IsTrue result ↔ IsDue mode front.now region }
@@ -42,7 +42,7 @@ fn is_left(front: &Front, mode: Mode, region: u8, feeder: &Feeder<Sqe>) -> bool
     is_due(front, mode, region) && !is_submitted(feeder)
 }
 
-// Each script that is due is wholly submitted.
+// Whether each script that is due is wholly submitted.
 fn all_submitted(parts: &Parts, mode: Mode) -> bool
     requires few { length parts.now.feeders.items ≤ MAX_REGIONS }
     requires fed { IsFedBy parts.now.front parts.now.feeders.items }
@@ -58,7 +58,7 @@ fn all_submitted(parts: &Parts, mode: Mode) -> bool
     true
 }
 
-/// With `Mode::Loaded` each script is wholly submitted.
+/// Whether each script is wholly submitted, with `Mode::Loaded`. With `Mode::Live` it is always true.
 pub fn are_loaded(parts: &Parts, mode: Mode) -> bool
     requires few { length parts.now.feeders.items ≤ MAX_REGIONS }
     requires fed { IsFedBy parts.now.front parts.now.feeders.items }
@@ -67,7 +67,7 @@ pub fn are_loaded(parts: &Parts, mode: Mode) -> bool
     mode == Mode::Live || all_submitted(parts, mode)
 }
 
-// How a settling that came to nothing is told, of hosts that are those of the front.
+// The error of a run whose settling failed, where the hosts are those of the front.
 fn told(error: SettleError) -> RunError
     requires hosts { error ≢ settling.Strangers }
     ensures outstanding { error ≡ settling.Outstanding → result ≡ fault.GaveUp }
@@ -80,7 +80,7 @@ fn told(error: SettleError) -> RunError
     }
 }
 
-/// Settles the parts of a run: `GaveUp` where not all was done, `NoMemory` where memory was refused.
+/// Settles the parts of a run. `GaveUp` where not all was done, `NoMemory` where memory was refused.
 pub fn settle_run<R: Wait>(
     rt: &R,
     alloc: Global,

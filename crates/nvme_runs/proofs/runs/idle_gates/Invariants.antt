@@ -1,4 +1,4 @@
--- So many gates were made as the loop has come.
+-- The loop has made one gate in each of its rounds.
 use Rattle.std.proofs.Common.{◌≡◌, ◌≤◌, vec_len, vec_capacity}
 use Rattle.nvme_runs.proofs.runs.idle_gates.Given as goal
 

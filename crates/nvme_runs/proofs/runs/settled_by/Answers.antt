@@ -1,4 +1,4 @@
--- The parts that come back from a drive are those that were prepared, but for what was done, and what is settled of them is the whole account.
+-- The parts that come back from a drive are those that were prepared, with what was done, and what is settled of them is the whole account.
 use Rattle.nvme_runs.proofs.Driven.{few_feeders, gets_still, pool_kept, puts_still, scripts_seen, still_fed, still_drained}
 use Rattle.nvme_runs.proofs.Accounts.{whole_account}
 use Rattle.nvme_runs.proofs.Failing.{late_result}
