@@ -96,7 +96,7 @@ pub fn two_admin_commands()
     ensures not_by_burst_weighted { IsLawfulRun Weighted (settings_of 0x0200_0002) (played [] two_admin two_admin_at_once) → ⊥ }
 {}
 
-/// An observation at its limits, and lists that are none: an identifier above 64, a count above 256, another class
+/// An observation at its limits, and lists that aren't one: an identifier above 64, a count above 256, another class
 /// for queue 0, class Admin for another queue, an identifier twice, and identifiers that descend.
 pub fn limits_of_observations()
     ensures at_limits { IsObservation at_limits }

@@ -1,6 +1,6 @@
 ghost use Rattle.std.specs.Prelude.{◌≡◌};
 
-/// A key of a workload file, in the order in which each table's keys are looked at.
+/// A key of a workload file, in the order in which each table's keys are checked.
 #[derive(Clone, Copy, Debug, PartialEq, Eq)]
 pub enum Key {
     /// `mechanism` of the file: the arbitration mechanism.

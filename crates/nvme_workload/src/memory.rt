@@ -32,7 +32,7 @@ enum Within {
     Opening { quote: u8, is_second: bool },
     // In a string of one line, which such a quote ends.
     Line { quote: u8 },
-    // In a string of several lines, behind so many quotes in a row. It ends behind the last of three to five.
+    // In a string of several lines, behind this many quotes in a row. It ends behind the last of three to five.
     Lines { quote: u8, count: u8 },
     // Behind a backslash in a string.
     Escape { is_lines: bool },
