@@ -109,7 +109,7 @@ pub fn limits_of_observations()
     ensures descending { IsObservation (queue 2 Low 1 ∷ queue 1 Low 1 ∷ []) → ⊥ }
 {}
 
-/// The next of q3, q1 and q2, which stand in no order.
+/// The next of q3, q1 and q2, which are in no order.
 pub fn next_by_identifier()
     ensures least { next None in_no_order ≡ Some (queue 1 Low 1) }
     ensures after { next (Some 1) in_no_order ≡ Some (queue 2 Low 1) }

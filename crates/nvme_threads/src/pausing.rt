@@ -1,4 +1,4 @@
-// How a thread waits that found nothing to do.
+// Waiting of a thread that found nothing to do.
 use crate::flags::Flags;
 use crossbeam_utils::Backoff;
 use std::sync::Wait;

@@ -46,7 +46,7 @@ pub enum Key {
 impl Key {
     ghost use Rattle.nvme_workload.specs.Keys.{text_of};
 
-    /// The key as it stands in a file.
+    /// The name of the key in a file.
     pub fn name(&self) -> &'static str
         ensures text { result.now ≡ text_of self.now }
     {
