@@ -40,7 +40,7 @@ is_accepted start h entry = is_success (status_of start h entry)
 unfoldable pub dw0_of : Start → TableHistory → Sqe → ℕ
 dw0_of start h entry = dw0_by (status_of start h entry) (queue_table start (EntryApplied entry ∷ h)) (admin_command_of entry)
 
--- what an entry comes to after a history. Its fields are those of the queue table after the entry
+-- the verdict on an entry after a history. Its fields are those of the queue table after the entry
 unfoldable pub verdict_of : Start → TableHistory → Sqe → Verdict
 verdict_of start h entry = verdict_by (status_of start h entry) (queue_table start (EntryApplied entry ∷ h)) (admin_command_of entry)
 

@@ -136,7 +136,7 @@ dw0_after after command = 0
 abbrev pub dw0_by : StatusCode → QueueTable → AdminCommand → ℕ
 dw0_by status after command = if is_success status then dw0_after after command else 0
 
--- what an accepted command comes to, over the queue table after it
+-- the verdict on an accepted command, over the queue table after it
 abbrev pub opened_sq : ℕ → Option SqEntry → Verdict
 opened_sq qid None = Done success 0
 opened_sq qid (Some queue) = OpenSq qid queue.region queue.cqid queue.class
@@ -156,11 +156,11 @@ verdict_after after (SetFeatures fid sv cdw11) =
 verdict_after after (GetFeatures fid) = Done success (dw0_after after (GetFeatures fid))
 verdict_after after Other = Done success 0
 
--- what a command of this status comes to: a refused one is answered with its status and 0
+-- the verdict on a command with this status: a refused one is answered with its status and 0
 abbrev pub verdict_by : StatusCode → QueueTable → AdminCommand → Verdict
 verdict_by status after command = if is_success status then verdict_after after command else Done status 0
 
--- the status and Dword 0 that a verdict answers: all but `Done` mean success with 0, but for Dword 0 of an Abort, which the front answers
+-- the status and Dword 0 of a verdict: all but `Done` mean success with 0, except that the front decides Dword 0 of an Abort
 abbrev pub status_in : Verdict → StatusCode
 status_in (Done status dw0) = status
 status_in verdict = success

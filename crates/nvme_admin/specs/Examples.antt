@@ -193,7 +193,7 @@ get_feature_cases =
     ∷ gives (get_feature 2) invalid_field
     ∷ []
 
--- other opcodes, and FUSE: of the flags it alone is looked at, and before all else
+-- other opcodes, and FUSE: it alone of the flags is checked, and before all else
 abbrev pub other_cases : List Case
 other_cases =
     gives (entry_of 0x06 0 0 0 0) invalid_opcode
@@ -264,7 +264,7 @@ pub record SettingsAreKept : Type 0 where
   pub answered : dw0_of four_and_three regions_added (set_feature 1 0x01020304) ≡ 0
   pub refused_changes_nothing : settings_at four_and_three (EntryApplied (save_feature 1 0x01020304) ∷ set_twice) ≡ settings_of 0x0a0b0cff
 
--- what each command comes to
+-- the verdict on each command
 pub record CommandsComeTo : Type 0 where
   pub opens_sq : verdict_of four_and_three queues_made (create_sq 3 7 0x5000 1 2 1) ≡ OpenSq 3 4 1 Medium
   pub opens_cq : verdict_of four_and_three queues_made (create_cq 3 31 0xa000 1) ≡ OpenCq 3 2

@@ -96,7 +96,7 @@ impl TableFields {
         region < MAX_REGIONS && self.sq_used[region].is_up()
     }
 
-    /// Whether a completion region is used, as `is_sq_region_used` tells it of a submission region.
+    /// Whether a completion region is used: it is region 0, or a queue was created on it.
     pub fn is_cq_region_used(&self, region: usize) -> bool
         ensures { result ≡ used_at (view_of self.now).cq_used region }
     {
@@ -123,7 +123,7 @@ impl TableFields {
 
     /// Adds a submission region of `slots` slots and answers its number, which counts from 0 in the
     /// order of adding. Region 0 is the admin queue's. Refused with `Used`, `TooMany` or `Size`, the
-    /// first that is the case, and a refusal changes nothing. (profile)
+    /// first that applies. A refusal changes nothing. (profile)
     pub fn add_sq_region(&mut self, address: u64, slots: u16) -> Result<u8, AdminError>
         ensures refused { IfErr result (λ e. region_fault (view_of self.old) (view_of self.old).sq_regions address slots ≡ Some e) }
         ensures added { OnOk result (region_fault (view_of self.old) (view_of self.old).sq_regions address slots ≡ None) }
@@ -148,7 +148,7 @@ impl TableFields {
         Ok(number as u8)
     }
 
-    /// Adds a completion region, as `add_sq_region` does a submission region, with its refusals.
+    /// Adds a completion region, as `add_sq_region` adds a submission region, with the same refusals.
     pub fn add_cq_region(&mut self, address: u64, slots: u16) -> Result<u8, AdminError>
         ensures refused { IfErr result (λ e. region_fault (view_of self.old) (view_of self.old).cq_regions address slots ≡ Some e) }
         ensures added { OnOk result (region_fault (view_of self.old) (view_of self.old).cq_regions address slots ≡ None) }
@@ -224,7 +224,7 @@ impl TableFields {
 
     /// Applies an admin entry: checks it, and changes the table where it is accepted. A command whose
     /// status isn't success changes nothing. A controller applies entries once region 0 of both kinds
-    /// is there. (Base Specification, Admin Command Set)
+    /// exists. (Base Specification, Admin Command Set)
     pub fn apply(&mut self, entry: &Sqe) -> Verdict
         ensures verdict { (start : Start) (h : TableHistory) →
             StandsAt start (view_of self.old) h → result ≡ verdict_of start h entry.now }

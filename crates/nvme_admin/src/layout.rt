@@ -95,7 +95,7 @@ impl SettingsWord {
 #[repr(C)]
 #[derive(Clone, Copy, Drop)]
 pub struct SqPlace {
-    // 0 where no queue is, else the number of its class plus 1.
+    // 0 for no queue, otherwise the number of its class plus 1.
     class: u16,
     cqid: u16,
     region: u8,

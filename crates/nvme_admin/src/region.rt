@@ -17,7 +17,7 @@ pub enum AdminError {
     /// The address is that of a region of either kind.
     #[error("the address is that of another region")]
     Used,
-    /// `MAX_REGIONS` regions of this kind are there.
+    /// `MAX_REGIONS` regions of this kind exist.
     #[error("{max} regions of this kind are there", max = MAX_REGIONS)]
     TooMany,
     /// The number of slots is outside `MIN_SLOTS` to `MAX_SLOTS`.

@@ -6,7 +6,7 @@ use nvme_arbiter::Settings;
 use nvme_entry::Sqe;
 use std::marker::Model;
 
-/// The queue table of a controller: its regions, its queues and its features. It keeps what stands, and no
+/// The queue table of a controller: its regions, its queues and its features. It keeps the current state and no
 /// history, and allocates nothing.
 #[derive(Drop)]
 pub struct Table {
@@ -66,7 +66,7 @@ impl Table {
         self.fields.is_sq_region_used(region)
     }
 
-    /// Whether a completion region is used, as `is_sq_region_used` tells it of a submission region.
+    /// Whether a completion region is used: it is region 0, or a queue was created on it.
     pub fn is_cq_region_used(&self, region: usize) -> bool
         ensures { result ≡ used_at self.now.cq_used region }
     {
@@ -90,7 +90,7 @@ impl Table {
 
     /// Adds a submission region of `slots` slots and answers its number, which counts from 0 in the
     /// order of adding. Region 0 is the admin queue's. Refused with `Used`, `TooMany` or `Size`, the
-    /// first that is the case, and a refusal changes nothing. (profile)
+    /// first that applies. A refusal changes nothing. (profile)
     pub fn add_sq_region(&mut self, address: u64, slots: u16) -> Result<u8, AdminError>
         ensures refused { IfErr result (λ e. region_fault self.old self.old.sq_regions address slots ≡ Some e) }
         ensures added { OnOk result (region_fault self.old self.old.sq_regions address slots ≡ None) }
@@ -105,7 +105,7 @@ impl Table {
         self.fields.add_sq_region(address, slots)
     }
 
-    /// Adds a completion region, as `add_sq_region` does a submission region, with its refusals.
+    /// Adds a completion region, as `add_sq_region` adds a submission region, with the same refusals.
     pub fn add_cq_region(&mut self, address: u64, slots: u16) -> Result<u8, AdminError>
         ensures refused { IfErr result (λ e. region_fault self.old self.old.cq_regions address slots ≡ Some e) }
         ensures added { OnOk result (region_fault self.old self.old.cq_regions address slots ≡ None) }
@@ -122,7 +122,7 @@ impl Table {
 
     /// Applies an admin entry: checks it, and changes the table where it is accepted. A command whose
     /// status isn't success changes nothing. A controller applies entries once region 0 of both kinds
-    /// is there. (Base Specification, Admin Command Set)
+    /// exists. (Base Specification, Admin Command Set)
     pub fn apply(&mut self, entry: &Sqe) -> Verdict
         ensures verdict { (start : Start) (h : TableHistory) →
             StandsAt start self.old h → result ≡ verdict_of start h entry.now }
@@ -142,7 +142,7 @@ impl Table {
         self.fields.apply(entry)
     }
 
-    /// Finishes the deletion of a submission queue, which must be closing: its identifier is free.
+    /// Finishes the deletion of a submission queue, which must be closing. Its identifier is then free.
     /// (Base Specification, Delete I/O Submission Queue)
     pub fn finish_delete(&mut self, qid: u16)
         requires { IsSomeAnd (sq_of self.old qid) (λ queue. IsTrue queue.closing) }

@@ -51,7 +51,7 @@ impl Board {
         }
     }
 
-    /// Opens a queue, in which no command waits. What was served and used stays.
+    /// Opens a queue in which no command waits. What was served last and used in the round stays.
     pub fn open(&mut self, qid: u16, class: Class)
         requires within { qid ≤ highest_qid }
         requires not_open { queue_at self.old.queues qid ≡ None }
@@ -65,7 +65,7 @@ impl Board {
             .put(qid, class, Some(OpenQueue { class, count: 0 }));
     }
 
-    /// Closes a queue. Its count is gone; what was served and used stays.
+    /// Closes a queue and drops its count. What was served last and used in the round stays.
     pub fn close(&mut self, qid: u16)
         requires { IsSome (queue_at self.old.queues qid) }
         ensures closed { self.new ≡ record self.old { queues = slice_set self.old.queues qid None } }
@@ -77,7 +77,7 @@ impl Board {
         }
     }
 
-    /// One more command waits in an open queue.
+    /// Counts one more waiting command in an open queue.
     pub fn came(&mut self, qid: u16)
         requires { IsSomeAnd (queue_at self.old.queues qid) (λ queue. queue.count < highest_count) }
         ensures came { IfSome (queue_at self.old.queues qid) (λ queue. self.new ≡ record self.old { queues = slice_set self.old.queues qid (Some (record queue { count = queue.count + 1 })) }) }
@@ -93,7 +93,7 @@ impl Board {
         }
     }
 
-    /// One waiting command of an open queue left without being picked.
+    /// Counts one waiting command less in an open queue: it left without being picked.
     pub fn went(&mut self, qid: u16)
         requires { IsSomeAnd (queue_at self.old.queues qid) (λ queue. 0 < queue.count) }
         ensures went { IfSome (queue_at self.old.queues qid) (λ queue. self.new ≡ record self.old { queues = slice_set self.old.queues qid (Some (record queue { count = queue.count - 1 })) }) }

@@ -96,7 +96,7 @@ pub fn two_admin_commands()
     ensures not_by_burst_weighted { IsLawfulRun Weighted (settings_of 0x0200_0002) (played [] two_admin two_admin_at_once) → ⊥ }
 {}
 
-/// An observation at its limits, and lists that are none: an identifier above 64, a count above 256, another class
+/// An observation at its limits, and lists that aren't one: an identifier above 64, a count above 256, another class
 /// for queue 0, class Admin for another queue, an identifier twice, and identifiers that descend.
 pub fn limits_of_observations()
     ensures at_limits { IsObservation at_limits }
@@ -109,7 +109,7 @@ pub fn limits_of_observations()
     ensures descending { IsObservation (queue 2 Low 1 ∷ queue 1 Low 1 ∷ []) → ⊥ }
 {}
 
-/// The next of q3, q1 and q2, which stand in no order.
+/// The next of q3, q1 and q2, which are in no order.
 pub fn next_by_identifier()
     ensures least { next None in_no_order ≡ Some (queue 1 Low 1) }
     ensures after { next (Some 1) in_no_order ≡ Some (queue 2 Low 1) }

@@ -3,7 +3,7 @@
 /// The highest identifier of an I/O submission queue.
 pub const HIGHEST_QID: u16 = 64;
 
-/// How many submission queues there can be: the admin queue and the I/O queues.
+/// The most submission queues: the admin queue and the I/O queues.
 pub const QUEUE_LIMIT: usize = HIGHEST_QID as usize + 1;
 
 /// The most candidates of one queue that an observation shows.

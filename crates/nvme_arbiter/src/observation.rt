@@ -36,8 +36,8 @@ fn ascend(seen: &[Seen]) -> bool
     true
 }
 
-/// Whether these are submission queues by ascending identifier, none above `HIGHEST_QID`, with class `Admin` for queue 0 and
-/// for no other, and no count above `HIGHEST_COUNT`: what `Arbiter::pick` and `peek` are to be shown.
+/// Whether these are submission queues by ascending identifier, none above `HIGHEST_QID`, with class `Admin` for queue
+/// 0 and for no other, and no count above `HIGHEST_COUNT`: what `Arbiter::pick` and `peek` are to be shown.
 pub fn is_observation(seen: &[Seen]) -> bool
     ensures { IsTrue result ↔ IsObservation seen.now }
 {

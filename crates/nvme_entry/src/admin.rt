@@ -80,7 +80,7 @@ fn low_byte(dword: u32) -> u8
     (dword % 0x100) as u8
 }
 
-/// The admin command of an entry, for every entry. FUSE and the namespace identifier aren't looked at.
+/// The admin command of an entry. Every entry has one. FUSE and the namespace identifier are ignored.
 /// (Base Specification, Opcodes for Admin Commands, and the command dwords of each command)
 pub fn admin_of(entry: &Sqe) -> AdminCommand
     ensures { result ≡ admin_command_of entry.now }

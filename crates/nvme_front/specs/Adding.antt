@@ -21,7 +21,7 @@ abbrev pub completions : Kind (PutView Cqe) (GetView Sqe)
 completions = record { ends = λ v. v.puts; others = λ v. v.gets; address = λ p. p.address }
 
 module _ {E O : Type 0} where
-  -- a region of a kind was added with this number, and nothing else changed but that the front is late where an event came before
+  -- a region of a kind was added with this number. Nothing else changed, except that the front is late where an event came before
   pub record IsAdded (kind : Kind E O) (end : E) (number : ℕ) (v w : FrontView) : Type 0 where
     pub not_used : is_address v (kind.address end) ≡ false
     pub room : length (kind.ends v) < MAX_REGIONS

@@ -1,4 +1,4 @@
--- What a settling gives, and what a refusal leaves (profile).
+-- What settling gives, and what a refusal leaves (profile).
 use Rattle.std.specs.Prelude.{◌≡◌, ℕ, ◌<◌, true, false, None, List, [], length, reverse}
 use Rattle.std.specs.List.{All, list_all}
 use mathlib.Core.List.{IsPrefix}
@@ -42,8 +42,8 @@ IsSettledAccount v s =
     v.late ≡ false → 0 < length v.gets → 0 < length v.puts
     → IsAccount v.rules (sent_at s.sent.items) (settled_past s) (collected_at s.collected.items)
 
--- each I/O command that was answered, and not as an aborted one, was executed once: its job was handed with its ticket, taken and executed once over all
--- workers, and its result was gained once
+-- each I/O command that was answered, and not as an aborted one, was executed once: its job was handed over with its ticket, taken and executed once
+-- over all workers, and its result was gained once
 abbrev pub AnswersWereExecuted : List ℕ → Past → SeatView → List WorkerView → Type 0
 AnswersWereExecuted sizes past seat workers =
     (r i : ℕ) → IsAnsweredIo past r i → (ticket : ℕ) × HasTicket past ticket r i × IsExecutedOnce sizes past seat workers ticket (place_at r i)
@@ -53,7 +53,7 @@ pub record CollectsMore (drainers : List (Drainer Cqe)) (s : Settled) : Type 0 w
   pub count : length s.collected.items ≡ length drainers
   pub grew : (c : ℕ) → IsPrefix (taken_at drainers c) (collected_at s.collected.items c)
 
--- the lanes, the seat and the workers are those of one pool, and no job was handed by the seat before the front was given it
+-- the lanes, the seat and the workers are those of one pool, and the seat had handed over no job when the front got it
 pub record HasItsPool (parts : Parts) : Type 0 where
   pub pool : IsPool parts.lanes parts.front.hands.seat parts.workers.items
   pub none_before : parts.front.hands.came.handed ≡ []
@@ -71,7 +71,7 @@ pub record HandsBack (old new : Parts) : Type 0 where
   pub feeders : AreSameFeeders old.feeders.items new.feeders.items
   pub drainers : Takes old.front old.drainers.items new.drainers.items
 
--- where nothing was looked at nothing changed, and where nothing was taken the drainers are the same
+-- `Strangers` changed nothing, since no ring was looked at. With `Outstanding` no completion was taken, so the drainers are the same
 abbrev pub LeavesBy : SettleError → Parts → Parts → Type 0
 LeavesBy Strangers old new = (new.front ≡ old.front) × (new.feeders.items ≡ old.feeders.items) × (new.drainers.items ≡ old.drainers.items)
 LeavesBy Outstanding old new = new.drainers.items ≡ old.drainers.items

@@ -1,4 +1,4 @@
--- What a refusal of settling leaves of a front and its hosts (profile).
+-- What a refusal to settle leaves of a front and its hosts (profile).
 use Rattle.std.specs.Prelude.{◌≡◌, ◌⊎◌, ◌≤◌, ℕ, List, map}
 use mathlib.Core.List.{IsPrefix}
 use Rattle.nvme_entry.specs.declared.submission.Sqe.{Sqe}
@@ -10,7 +10,7 @@ use Rattle.nvme_front.specs.Ends.{get_place, put_place}
 use Rattle.nvme_front.specs.View.{FrontView, known_in, sent_in, free_in}
 use Rattle.nvme_front.specs.Hosts.{feeder_place, drainer_place, told, free_at, taken_at}
 
--- nothing changed but what the ends know: of what comes next and of free places, no less than before
+-- nothing changed except what the ends know of what comes next and of free places, which is no less than before
 pub record IsSameFront (v w : FrontView) : Type 0 where
   pub rules : w.rules ≡ v.rules
   pub limit : w.limit ≡ v.limit
@@ -24,13 +24,13 @@ pub record IsSameFront (v w : FrontView) : Type 0 where
   pub frees : (c : ℕ) → free_in v c ≤ free_in w c
   pub hands : w.hands ≡ v.hands
 
--- nothing changed but what the feeders know: of free places, no less than before
+-- nothing changed except what the feeders know of free places, which is no less than before
 pub record AreSameFeeders (f f' : List (Feeder Sqe)) : Type 0 where
   pub told_is : map told f' ≡ map told f
   pub places : map feeder_place f' ≡ map feeder_place f
   pub frees : (r : ℕ) → free_at f r ≤ free_at f' r
 
--- a list of completions is as it was, or it went on with what came next from its ring
+-- a list of completions is as it was, or was extended by what came next from its ring
 abbrev pub TakesOf : List Cqe → List Cqe → List Cqe → Type 0
 TakesOf sent old new = (new ≡ old) ⊎ (IsPrefix old new × IsPrefix new sent)
 

@@ -145,23 +145,23 @@ IsFullLog v = (v.limit < length v.log + 1) ⊎ NeedsAdminEvents v
 abbrev pub HasNoPickMore : FrontView → FrontView → Type 0
 HasNoPickMore old new = picks_in new.log ≡ picks_in old.log
 
--- an event was logged, a job was handed, or a result was gained
+-- an event was logged, a job was handed over, or a result was gained
 abbrev pub HasMoved : FrontView → FrontView → Type 0
 HasMoved old new =
     (length old.log < length new.log)
     ⊎ (length old.hands.seat.handed < length new.hands.seat.handed)
     ⊎ (gained_count old.hands < gained_count new.hands)
 
--- no event was logged, no job was handed, and no result was gained
+-- no event was logged, no job was handed over, and no result was gained
 pub record IsStill (old new : FrontView) : Type 0 where
   pub log : new.log ≡ old.log
   pub hands : new.hands ≡ old.hands
 
--- each result that was gained since a time before is of a job that waited for it then or was handed since, and doesn't wait any more
+-- each result that was gained since an earlier time is of a job that waited for it then or was handed over since, and waits no longer
 abbrev pub HasNoStray : FrontView → FrontView → Type 0
 HasNoStray old new = Balances old.rules.sizes old.hands new.hands []
 
--- a result with this ticket was gained, the last of its end, and no job that was handed and has no result is its job. It is the one stray
+-- a result with this ticket was gained, the last of its end, and it belongs to no job that was handed over and has no result. It is the only stray
 pub record GainedStray (ticket : ℕ) (old new : FrontView) : Type 0 where
   pub result : Finished
   pub ticket_is : result.ticket ≡ ticket

@@ -57,7 +57,7 @@ pub enum AddError {
     NoMemory,
 }
 
-/// Why a turn stopped. What it did before stands, and a later turn goes on from there.
+/// Why a turn stopped. What it did before stays done, and a later turn goes on from there.
 #[derive(Clone, Copy, Debug, PartialEq, Eq, Error)]
 pub enum FrontError {
     /// Out of memory for the log.

@@ -9,8 +9,8 @@ use crate::settling::look;
 use nvme_entry::Sqe;
 use nvme_lane::Feeder;
 
-/// Looks at each submission ring with both of its ends in hand, and drops them: what the front got from a region is what
-/// was submitted to it first.
+/// Looks at both ends of each submission ring, and drops them. What the front got from a region is what was submitted
+/// to it first.
 pub fn drop_beside(front: Front, feeders: Vec<Feeder<Sqe>>)
     requires { IsFedBy front feeders.items }
     ensures { (r : ℕ) → IsPrefix (got_in front r) (submitted_at feeders.items r) }

@@ -113,8 +113,8 @@ impl Device {
         Ok(false)
     }
 
-    /// Ends the device. What it answers keeps the promise of a run. Where work is outstanding or memory was refused, the
-    /// device is dropped. It may wait for another thread.
+    /// Ends the device. What it answers keeps the promise of a run. Where work is outstanding or memory was refused,
+    /// the device is dropped. It may wait for another thread.
     pub fn settle<R: Wait>(self, rt: &R, alloc: Global) -> Result<Settled, SettleError>
         ensures log { IfOk result (λ s. s.log.items ≡ self.front.log) }
         ensures collected { IfOk result (λ s. IsPrefix (items_of self.drainer) (collected_at s.collected.items 0)) }

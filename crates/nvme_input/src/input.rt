@@ -42,7 +42,7 @@ pub fn take_input<R: Read + Drop>(alloc: Global, reader: R) -> Result<Vec<u8>, I
     taken(alloc, &mut Counted::new(reader))
 }
 
-// All bytes of a reader of which nothing was read, up to its end.
+// All bytes of a reader that wasn't read yet, up to its end.
 fn taken<R: Read>(alloc: Global, reader: &mut Counted<R>) -> Result<Vec<u8>, InputError>
     requires reads { reader.old.reads ≡ 0 }
     requires given { reader.old.given ≡ 0 }

@@ -35,7 +35,7 @@ module _ {V : Type 0} (parts f : V → ℕ) where
       let rest : sum_by parts xs ≡ 0 = omega arith in
       omega (arith, sum_by-cons f x xs, empty zero x refl here, none_total xs rest (λ port v at. empty (suc port) v at))
 
-  -- where one pass has every part, what the others did comes to nothing
+  -- where one pass has every part, what the others did adds nothing
   pub sole_total : (views : List V) (port : ℕ) (v : V) → get_elem? views port ≡ some v → sum_by parts views ≡ parts v → Empty views → sum_by f views ≡ f v
   sole_total [] port v at all empty = absurd (some-ne-none v (sym at))
   sole_total (x ∷ xs) zero v at all empty =

@@ -1,4 +1,4 @@
--- The shares of a lane: each item was pushed, over all passes, as often as it was popped, over all passes, plus as often as it was left.
+-- The shares of a lane: over all passes, each item was pushed as often as it was popped plus as often as it was left.
 -- (profile)
 use Rattle.std.specs.Prelude.{◌≡◌, ℕ, ◌+◌, List, length, sum_by}
 use Rattle.nvme_lane.specs.Passes.{PassView, weight_of}

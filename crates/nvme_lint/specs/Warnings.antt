@@ -1,4 +1,4 @@
--- What of a lawful workload comes to nothing, by the queue table after its admin commands. A front begins none of them before
+-- What of a valid workload has no effect, by the queue table after its admin commands. A front begins none of them before
 -- the deletion that the one before began is finished, so that their answers depend on nothing else. (profile)
 use Rattle.std.specs.Prelude.{◌≡◌, ℕ, Bool, if◌then◌else◌, List, [], ◌∷◌, ◌++◌, length, reverse, Ok}
 use Rattle.nvme_entry.specs.Status.{StatusCode}

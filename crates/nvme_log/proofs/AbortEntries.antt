@@ -15,7 +15,7 @@ use Rattle.nvme_admin.specs.Accepted.{queue_table, status_of, verdict_of}
 use Rattle.nvme_log.specs.Aborts.{is_abort_entry}
 
 -- ---- what has the opcode of Abort
--- a choice among commands that comes to an Abort
+-- a choice among commands whose result is an Abort
 abort_chosen : (b0 b1 b4 b5 b8 b9 ba : Bool) (delete_sq create_sq delete_cq create_cq set get : AdminCommand) (sqid cid s c : ℕ)
     → (delete_sq ≡ Abort s c → ⊥) → (create_sq ≡ Abort s c → ⊥) → (delete_cq ≡ Abort s c → ⊥) → (create_cq ≡ Abort s c → ⊥) → (set ≡ Abort s c → ⊥) → (get ≡ Abort s c → ⊥)
     → (if b0 then delete_sq else (if b1 then create_sq else (if b4 then delete_cq else (if b5 then create_cq
@@ -62,7 +62,7 @@ not_set : (b : Bool) (dw0 sqid cid : ℕ) (settings : ArbitrationFields) → (if
 not_set true dw0 sqid cid settings h = absurd (cc h)
 not_set false dw0 sqid cid settings h = absurd (cc h)
 
--- an accepted command that comes to an Abort is one
+-- an accepted command whose verdict is an Abort is an Abort command
 aborts_after : (t : QueueTable) (command : AdminCommand) (sqid cid : ℕ) → verdict_after t command ≡ verdict.Abort sqid cid → command ≡ Abort sqid cid
 aborts_after t (CreateSq q qsize prp1 cqid qprio pc) sqid cid h = absurd (not_opened_sq q sqid cid (t.sq q) h)
 aborts_after t (CreateCq q qsize prp1 pc) sqid cid h = absurd (not_opened_cq q sqid cid (t.cq q) h)
@@ -78,7 +78,7 @@ aborts_by : (accepted : Bool) (status : StatusCode) (t : QueueTable) (command : 
 aborts_by true status t command sqid cid h = aborts_after t command sqid cid h
 aborts_by false status t command sqid cid h = absurd (cc h)
 
--- an entry that comes to an Abort is an Abort command
+-- an entry whose verdict is an Abort is an Abort command
 pub verdict_is_abort : (start : Start) (h : TableHistory) (entry : Sqe) (sqid cid : ℕ) → verdict_of start h entry ≡ verdict.Abort sqid cid → is_abort_entry (Some entry) ≡ true
 unfolding verdict_of
 verdict_is_abort start h entry sqid cid e =

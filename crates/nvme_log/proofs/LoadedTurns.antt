@@ -1,4 +1,4 @@
--- What comes to a loaded log in a turn: events that are neither fetches nor picks, and a pick with what its command makes.
+-- What a turn adds to a loaded log: events that are neither fetches nor picks, and a pick with its command's effects.
 use Rattle.std.proofs.Common.{◌≡◌, ℕ, ◌≤◌, true, List, [], ◌∷◌, length, length-append, Some, refl, ap, subst, arith}
 use Rattle.std.proofs.lemmas.List.{length_push}
 use Rattle.nvme_entry.specs.declared.submission.Sqe.{Sqe}

@@ -20,7 +20,7 @@ use Rattle.nvme_log.specs.Effects.{is_effect}
 use Rattle.nvme_log.specs.Account.{IsAccount}
 use Rattle.nvme_log.specs.Dispatches.{dispatched, place_at}
 
--- a pick, after these events, takes an admin command: its place, and what it comes to
+-- a pick, after these events, takes an admin command: its place, and its verdict
 pub record TakesCommand (rules : FrontRules) (before : Past) (pick : Pick) (i : ℕ) (v : Verdict) : Type 0 where
   pub of_admin : pick.qid ≡ 0
   pub oldest : slice_get (waiting before 0) 0 ≡ Some i

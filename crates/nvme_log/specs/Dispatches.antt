@@ -1,4 +1,4 @@
--- The I/O commands that are picked, and their jobs: which job is handed for which place, and that each is executed once
+-- The I/O commands that are picked, and their jobs: which job is handed over for which place, and that each is executed once
 -- (Base Specification, Command Arbitration; jobs and tickets: profile).
 use Rattle.std.specs.Prelude.{◌≡◌, ℕ, ◌+◌, ◌==◌, if◌then◌else◌, List, [], ◌∷◌, ◌++◌, map, take, Option, Some, None, sum_by}
 use Rattle.nvme_lane.specs.View.{GetView}
@@ -40,9 +40,9 @@ AreJobs sizes past ticket [] [] = Unit {0}
 AreJobs sizes past ticket (p ∷ ps) (j ∷ js) = IsJobOf sizes past ticket p j × AreJobs sizes past (ticket + 1) ps js
 AreJobs sizes past ticket _ _ = ⊥
 
--- each picked I/O command was executed once: the jobs handed are those of the picked places of I/O queues, each once and in the order of the
--- picks, ticket k for the k-th; over all workers each was taken once and executed once; and the results gained are the results of these jobs,
--- each once. Jobs and results are weighed in any way, so that a weight of 1 for one job and of 0 for the others counts it
+-- each picked I/O command was executed once. The jobs handed over are those of the picked places of I/O queues, each once and in the order of the
+-- picks, ticket k for the k-th. Over all workers each was taken once and executed once. The results gained are the results of these jobs, each
+-- once. Jobs and results are weighed in any way, so that a weight of 1 for one job and of 0 for the others counts it
 pub record ExecutesOnce (sizes : List ℕ) (past : Past) (seat : SeatView) (workers : List WorkerView) : Type 0 where
   pub jobs_are : AreJobs sizes past 0 (dispatched past) seat.handed
   pub taken : (w : Job → ℕ) → sum_by (λ (x : WorkerView). sum_by w x.taken) workers ≡ sum_by w seat.handed

@@ -211,8 +211,8 @@ pub record PlacesAreTaken (rules : FrontRules) (past : Past) : Type 0 where
   pub by_pick : (seen : List Seen) (pick : Pick) → TakesThePlace rules past (event.Pick seen pick)
   pub by_abort : (r i : ℕ) → TakesThePlace rules past (event.Abort r i)
 
--- the job of a place was handed under a ticket, and no other job was: over all workers it was taken once and executed once, and one result
--- of it was gained
+-- the job of a place was handed over under a ticket, and no other job was. Over all workers it was taken once and executed once, and one
+-- result of it was gained
 pub record IsExecutedOnce (sizes : List ℕ) (past : Past) (seat : SeatView) (workers : List WorkerView) (ticket : ℕ) (place : Place) : Type 0 where
   pub job : Job
   pub handed : slice_get seat.handed ticket ≡ Some job

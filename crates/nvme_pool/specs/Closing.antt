@@ -6,7 +6,7 @@ use Rattle.nvme_pool.specs.declared.jobs.Finished.{Finished}
 use Rattle.nvme_pool.specs.Worker.{WorkerView, Accounts}
 use Rattle.nvme_pool.specs.Seat.{Ends}
 
--- each job was handed as often as it was taken, over all workers, plus as often as it was left, and `count` jobs are left; `shares` weighs the jobs in any way
+-- over all workers, each job was handed over as often as it was taken plus as often as it was left, and `count` jobs are left. `shares` weighs the jobs in any way
 pub record SharesJobs (handed : List Job) (workers : List WorkerView) (count : ℕ) : Type 0 where
   pub left : List Job
   pub number : length left ≡ count

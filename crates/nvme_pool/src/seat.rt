@@ -59,7 +59,7 @@ impl FrontSeat {
 
 ghost use Rattle.nvme_pool.specs.Seat.{IsUnknown, OneGained};
 
-// The item that the first end gives which gives one.
+// The item of the first end that gives one.
 fn first_of(ends: &mut [GetEnd<Finished>]) -> Option<Finished>
     ensures gained { IfSome result (OneGained ends.old ends.new) }
     ensures none_known { IfNone result (All IsUnknown ends.old) }

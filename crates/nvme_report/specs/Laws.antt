@@ -1,4 +1,4 @@
--- The law of reports: that of a loaded run is one function of its workload (profile).
+-- The law of reports: the report of a loaded run is a function of its workload (profile).
 use Rattle.std.specs.Prelude.{◌≡◌, ℕ, ◌≤◌, true, List, [], length, map, slice_index_or}
 use Rattle.std.specs.List.{All}
 use Rattle.nvme_entry.specs.declared.submission.Sqe.{Sqe}
@@ -16,14 +16,14 @@ use Rattle.nvme_report.specs.Report.{report_text}
 abbrev pub script_at : List Sent → ℕ → List Sqe
 script_at sent r = slice_index_or (map (λ (s : Sent). s.script.items) sent) r []
 
--- what is settled came of a loaded run: its hosts had these scripts, none of them submitted more than its own, and it is the whole account of
+-- what is settled is left of a loaded run: its hosts had these scripts, none of them submitted more than its own, and it is the whole account of
 -- the scripts, submitted before the first turn
 pub record IsLoadedRun (rules : FrontRules) (scripts : ℕ → List Sqe) (settled : Settled) : Type 0 where
   pub hosts : (r : ℕ) → script_at settled.sent.items r ≡ scripts r
   pub counts : All (λ (s : Sent). s.count ≤ length s.script.items) settled.sent.items
   pub account : IsWholeAccount rules true scripts (sent_at settled.sent.items) (settled_past settled) (collected_at settled.collected.items)
 
--- two loaded runs of the same rules and scripts, with as many hosts each, whose logs are equal but for their posts
+-- two loaded runs of the same rules and scripts, with the same numbers of hosts, whose logs are equal without their posts
 pub record AreAlike (rules : FrontRules) (scripts : ℕ → List Sqe) (one other : Settled) : Type 0 where
   pub one_run : IsLoadedRun rules scripts one
   pub other_run : IsLoadedRun rules scripts other

@@ -7,8 +7,8 @@ pub fn loaded_runs_are_one()
     ensures { LoadedRunsAreOne }
 {}
 
-/// The one fault of the front that a run can answer is a result that no job waits for. Its log is never full: a workload
-/// has too few commands to fill it.
+/// The only fault of the front that a run can answer is a result that no job waits for. Its log is never full, since a
+/// workload has too few commands to fill it.
 pub fn front_faults_are_strays()
     ensures { FrontFaultsAreStrays }
 {}

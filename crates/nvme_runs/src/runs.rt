@@ -49,7 +49,7 @@ pub enum RunError {
     /// Out of memory, or a thread couldn't be started.
     #[error("out of memory")]
     NoMemory,
-    /// A turn of the front failed. The error is never `FrontError::NoMemory`.
+    /// A turn of the front failed. The error is always `FrontError::Stray` (`laws::front_faults_are_strays`).
     #[error("front")]
     Front(FrontError),
     /// The front found nothing to do for too many turns in a row, and not all was done.

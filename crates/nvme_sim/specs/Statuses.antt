@@ -25,18 +25,18 @@ fault_of_words (words.CommandLine text) = fault.CommandLine text
 fault_of_words words.OtherWord = fault.Words
 fault_of_words (words.NoMemory why) = fault.NoMemory why
 
--- an entry that is none: the input is at fault
+-- a text that isn't an entry: the input is at fault
 abbrev pub entry_status : OnceError → ℕ
 entry_status entry.Length = 1
 entry_status entry.Digit = 1
 
--- an input that wasn't taken: that it is too long is its own fault
+-- an input that wasn't taken: it is at fault only where it is too long
 abbrev pub input_status : InputError → ℕ
 input_status untaken.TooLong = 1
 input_status untaken.Read = 3
 input_status untaken.NoMemory = 3
 
--- a run that came to nothing: the workload is the input's, the number of workers the command line's, and all else the run's
+-- a run that failed: the workload is the input's fault, the number of workers the command line's, and all else is a fault at run time
 abbrev pub run_status : RunError → ℕ
 run_status (run.Workload w) = 1
 run_status run.Workers = 2

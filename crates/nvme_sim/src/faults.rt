@@ -11,7 +11,8 @@ use std::alloc::AllocError;
 use std::io::Write;
 use thiserror::Error;
 
-/// Why the program does not answer. Each but that of the command line is told by one line.
+/// Why the program doesn't answer. Each fault is told in one line, except one of the command line, whose text may have
+/// several.
 #[derive(Debug, Drop, Error)]
 pub(crate) enum Fault {
     #[error("{0}")]
@@ -47,7 +48,7 @@ impl Fault {
         }
     }
 
-    /// The program's status: 1 for the input, 2 for the command line, 3 for what the run met.
+    /// The program's exit status: 1 for a fault of the input, 2 for one of the command line, 3 for one at run time.
     pub(crate) fn status(&self) -> u8
         ensures table { result ≡ status_of self.now }
         ensures range { result ≤ 3 }
@@ -63,7 +64,7 @@ impl Fault {
         }
     }
 
-    /// The text, with a newline at its end.
+    /// Writes the text, with a newline at its end.
     pub(crate) fn tell<E: Write>(&self, errors: &mut E) -> std::io::Result<()> {
         match self {
             Fault::CommandLine(error) => write!(errors, "{error}"),

@@ -1,4 +1,4 @@
-//! What the program `nvmearb` does, over values and streams that are handed in.
+//! The program `nvmearb` as a library: it does what a command line asks for, over the streams that it is given.
 #![tactic(auto)]
 
 mod commands;

@@ -1,26 +1,27 @@
-// The end of the program's output.
+// Ends the program's output.
 ghost use Rattle.std.specs.Prelude.{◌≡◌, ◌≢◌, ◌⊎◌, ◌↔◌, [], IsTrue};
 ghost use Rattle.std.specs.Io.KnownBytes.{Keeps};
 ghost use Rattle.std.specs.Io.Buffered.{writer_buffer, writer_contents};
 
 use std::io::{BufWriter, Write};
 
-// The status of an input at fault, or of a trace with a pick that is not the lawful one.
+// The exit status where the input is at fault, or a pick of a trace isn't the lawful one.
 const AT_FAULT: u8 = 1;
 
-// The status of a lawful workload with warnings.
+// The exit status where a valid workload has warnings.
 const WARNED: u8 = 4;
 
-// Whether a program that ends with this status may have an answer: it is done, or tells of its input.
+// Whether a program that ends with this status may have an answer: it succeeded, or says something of its input.
 fn has_answer(status: u8) -> bool
     ensures { IsTrue result ↔ ((status ≡ 0) ⊎ (status ≡ AT_FAULT) ⊎ (status ≡ WARNED)) }
 {
     status == 0 || status == AT_FAULT || status == WARNED
 }
 
-/// Writes what `command` left in the buffer of the output, where it answered a status with which the program may have
-/// an answer, 0, 1 or 4; with any other status the output stays as it is. The program's status is that of `command`, or
-/// 3 where this fails: one line of it went to `errors`, and a write that failed there is ignored.
+/// Writes what `command` left in the buffer of the output, if it answered a status with which the program may have an
+/// answer: 0, 1 or 4. With any other status the output stays as it is. The answer is the exit status of the program:
+/// that of `command`, or 3 where this write fails. It then writes one line to `errors`, and ignores a write that fails
+/// there.
 pub fn flushed<W: Write + Drop, E: Write>(
     status: u8,
     output: &mut BufWriter<W>,

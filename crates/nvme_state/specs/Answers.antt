@@ -1,4 +1,4 @@
--- That the completion of an I/O command comes after its execution: its place has a ticket, and the result with this ticket was gained (jobs and
+-- The completion of an I/O command comes after its execution: its place has a ticket, and the result with this ticket was gained (jobs and
 -- tickets: profile).
 use Rattle.std.specs.Prelude.{◌≡◌, ◌≢◌, ℕ, ◌≤◌, List, true, false, Some, slice_get, sum_by}
 use Rattle.nvme_lane.specs.View.{GetView}

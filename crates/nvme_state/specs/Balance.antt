@@ -1,4 +1,4 @@
--- What a front gained since a time before, weighed against what it handed since then and what waits for its result (profile).
+-- What a front gained since an earlier time, weighed against what it handed over since then and what waits for its result (profile).
 use Rattle.std.specs.Prelude.{◌≡◌, ℕ, ◌+◌, List, sum_by}
 use Rattle.nvme_lane.specs.View.{GetView}
 use Rattle.nvme_pool.specs.declared.jobs.Job.{Job}
@@ -7,7 +7,7 @@ use Rattle.nvme_pool.specs.Jobs.{result_of}
 use Rattle.nvme_state.specs.declared.candidate.Dispatched.{Dispatched}
 use Rattle.nvme_state.specs.Hands.{Hands, job_in}
 
--- by a weight of results: those that were gained, those that commands wait for, and those of the jobs that were handed
+-- by a weight of results: those that were gained, those that commands wait for, and those of the jobs that were handed over
 abbrev pub gained_weight : (Finished → ℕ) → Hands → ℕ
 gained_weight w h = sum_by (λ (g : GetView Finished). sum_by w g.got) h.seat.ends
 
@@ -17,8 +17,8 @@ awaited_weight sizes w h = sum_by (λ (d : Dispatched). w (result_of (job_in siz
 abbrev pub handed_weight : (Finished → ℕ) → Hands → ℕ
 handed_weight w h = sum_by (λ (j : Job). w (result_of j)) h.seat.handed
 
--- however results are weighed: what was gained since a time before is these strays, and results that were waited for then or are of jobs that
--- were handed since then, and are not waited for any more
+-- however results are weighed: what was gained since an earlier time is these strays, and results that were waited for then or are of jobs that
+-- were handed over since, and are no longer waited for
 abbrev pub Balances : List ℕ → Hands → Hands → List Finished → Type 0
 Balances sizes old new strays =
     (w : Finished → ℕ)

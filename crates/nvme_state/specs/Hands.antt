@@ -8,8 +8,8 @@ use Rattle.nvme_pool.specs.declared.jobs.Job.{Job}
 use Rattle.nvme_pool.specs.declared.jobs.Finished.{Finished}
 use Rattle.nvme_state.specs.declared.candidate.Dispatched.{Dispatched}
 
--- the seat as the front was given it and as it is, the picked commands whose job isn't handed yet, the oldest first, and those whose job was
--- handed and whose result isn't gained yet, in any order
+-- the seat as the front was given it and as it is, the picked commands whose job isn't handed over yet, the oldest first, and those whose job
+-- was handed over and whose result isn't gained yet, in any order
 pub record Hands : Type 0 where
   pub came : SeatView
   pub seat : SeatView

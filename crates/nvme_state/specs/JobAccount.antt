@@ -1,4 +1,4 @@
--- That the jobs which a front handed, and those that it keeps, are those of its log (jobs and tickets: profile).
+-- The jobs that a front handed over, and those that it keeps, are those of its log (jobs and tickets: profile).
 use Rattle.std.specs.Prelude.{◌≡◌, ℕ, ◌+◌, List, ◌++◌, map, sum_by}
 use Rattle.std.specs.List.{All}
 use Rattle.nvme_lane.specs.View.{GetView}
@@ -15,9 +15,9 @@ use Rattle.nvme_state.specs.Hands.{Hands, job_in, in_hand}
 abbrev pub HasItsTicket : Past → Dispatched → Type 0
 HasItsTicket past d = HasTicket past d.ticket d.region d.index
 
--- the jobs that the front handed, followed by those that it keeps, are those of the picked places of I/O queues, with tickets that count from
--- 0, so that each command in hand has the ticket of its place; each job handed has its result gained or waits for it; and what was gained are
--- the results of jobs, and others
+-- the jobs that the front handed over, followed by those that it keeps, are those of the picked places of I/O queues, with tickets that count
+-- from 0, so that each command in hand has the ticket of its place. Each job handed over has its result gained or waits for it. What was gained
+-- are the results of jobs, and others
 pub record AccountsForJobs (sizes : List ℕ) (past : Past) (h : Hands) : Type 0 where
   pub handed : List Job
   pub seat_handed : h.seat.handed ≡ h.came.handed ++ handed

@@ -61,14 +61,14 @@ told-later_at given mid now (drive.Front front.NoMemory) goes stood fault = absu
 told-later_at given mid now (drive.Front front.LogFull) goes stood fault = later-at given mid now front.LogFull goes stood fault
 told-later_at given mid now (drive.Front (front.Stray ticket)) goes stood fault = later-at given mid now (front.Stray ticket) goes stood fault
 
--- a drive that came to nothing did so by the fault of its front, which is left so, or for want of memory
+-- a drive failed by the fault of its front, which is left so, or was out of memory
 pub outcome-fault_at : {U V : Type 0} (given now : FrontView) (served : Result U DriveError) (ended : Result V DriveError) → IfErr served (IsFaultAt given now)
     → IfErr ended (λ e. (served ≡ Err e) ⊎ (e ≡ drive.NoMemory)) → IfErr ended (IsFaultAt given now)
 outcome-fault_at given now served (Ok x) fault so = tt
 outcome-fault_at given now served (Err e) fault (inl same) = subst (λ r. IfErr r (IsFaultAt given now)) same fault
 outcome-fault_at given now served (Err e) fault (inr none) = subst (IsFaultAt given now) (sym none) tt
 
--- a drive that came to nothing did so by the fault of its front, or for want of memory
+-- a drive failed by the fault of its front, or was out of memory
 pub outcome-fault : {U V : Type 0} (given : FrontView) (served : Result U DriveError) (ended : Result V DriveError) → IfErr served (IsDriveFault given) → IfErr ended (λ e. (served ≡ Err e) ⊎ (e ≡ drive.NoMemory))
     → IfErr ended (IsDriveFault given)
 outcome-fault given served (Ok x) fault so = tt

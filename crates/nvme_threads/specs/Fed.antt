@@ -1,4 +1,4 @@
--- What a drive answers where it comes to nothing, of a front with the feeders of its rings (profile).
+-- What a failed drive answers, of a front with the feeders of its rings (profile).
 use Rattle.std.specs.Prelude.{ℕ, List, [], map, slice_index_or}
 use mathlib.Core.List.{IsPrefix}
 use Rattle.nvme_entry.specs.declared.submission.Sqe.{Sqe}
@@ -20,7 +20,7 @@ pub record FedTurnFails (given : FrontView) (feeders : List (Feeder Sqe)) (e : F
   pub fails : TurnFails given e
   pub scripts : (r : ℕ) → IsPrefix (got_in fails.after r) (script_at feeders r)
 
--- a fault of the front is that of a turn. Want of memory is told as such, and never as a fault of the front
+-- a fault of the front is that of a turn. Out of memory is told as such, and never as a fault of the front
 abbrev pub IsFedFault : FrontView → List (Feeder Sqe) → DriveError → Type 0
 IsFedFault given feeders drive.NoMemory = Unit {0}
 IsFedFault given feeders (drive.Front front.NoMemory) = ⊥

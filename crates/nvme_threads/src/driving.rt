@@ -64,7 +64,9 @@ impl From<AllocError> for DriveError {
 /// A front, and what runs beside it.
 #[derive(Drop)]
 pub struct Driven<G: Gate + Drop> {
+    /// The front.
     pub front: Front,
+    /// The hosts, and the workers with their gates.
     pub hosts: Hosts<G>,
 }
 
@@ -216,12 +218,13 @@ fn given_back<G: Gate + Drop>(
     }
 }
 
-/// Drives a front with its hosts and its workers: each feeder, each drainer and each worker on a thread of its own, each
-/// worker with the gate at its place, and the front's turns on the calling thread. With `Feeding::Before` no thread is
-/// started for a feeder, and none submits. It stops after an idle turn that began when all feeders had ended, if the
-/// front is clear; or after `patience` idle turns in a row; or where a turn failed or memory was refused. All threads
-/// are joined before it answers. A front that began with the whole scripts in its rings, and knew it, is one still. It
-/// may wait for another thread.
+/// Drives a front with its hosts and its workers: each feeder, each drainer and each worker on a thread of its own,
+/// each worker with the gate at its place, and the front's turns on the calling thread. With `Feeding::Before` no
+/// feeder has a thread, and none submits.
+///
+/// It stops after an idle turn that began when all feeders had ended, if the front is clear; or after `patience` idle
+/// turns in a row; or where a turn failed or memory was refused. All threads are joined before it answers. A front that
+/// began with the whole scripts in its rings, and knew it, stays such a front. It may wait for another thread.
 pub fn drive<G: Gate + Send + Drop, R: Threads + Wait + Sync>(
     rt: &R,
     alloc: Global,

@@ -1,4 +1,4 @@
-//! A drive of a front with the feeders of its rings.
+//! Drives a front with the feeders of its rings.
 ghost use Rattle.std.specs.Prelude.{◌≡◌, ◌≢◌, ◌<◌, ℕ, length, map, vec_len, IfOk, IfErr};
 ghost use mathlib.Core.List.{IsPrefix};
 ghost use Rattle.nvme_pool.specs.Pool.{IsPool};
@@ -18,7 +18,7 @@ use std::alloc::Global;
 use std::sync::Wait;
 use std::thread::Threads;
 
-// Drops what was driven. Where a turn failed it looks at both ends of each submission ring first.
+// Drops what was driven. Where a turn failed, it first looks at both ends of each submission ring.
 fn given_up<G: Gate + Drop>(driven: Driven<G>, error: DriveError)
     requires { error ≢ drive_is.NoMemory → IsFedBy driven.front driven.hosts.feeders.items }
     ensures { error ≢ drive_is.NoMemory → (r : ℕ) → IsPrefix (got_in driven.front r) (submitted_at driven.hosts.feeders.items r) }
@@ -36,8 +36,9 @@ fn given_up<G: Gate + Drop>(driven: Driven<G>, error: DriveError)
     drop_beside(front, feeders);
 }
 
-/// Drives a front as `drive` does, each feeder being the other end of the submission ring at its place. Where a turn
-/// failed, what the front had got from each region is the first of its feeder's script. It may wait for another thread.
+/// Drives a front as `drive` does, where each feeder is the other end of the submission ring at its place. If a turn
+/// failed, what the front had got from each region is the beginning of its feeder's script. It may wait for another
+/// thread.
 pub fn drive_fed<G: Gate + Send + Drop, R: Threads + Wait + Sync>(
     rt: &R,
     alloc: Global,

@@ -17,10 +17,12 @@ use std::sync::Wait;
 use std::thread;
 use std::thread::Threads;
 
-/// Both ends of the ring of a submission region: the host's with its script, and the one that a front is given.
+/// Both ends of the ring of a submission region.
 #[derive(Drop)]
 pub struct SqEnds {
+    /// The host's end, with its script.
     pub feeder: Feeder<Sqe>,
+    /// The end that a front is given.
     pub get: GetEnd<Sqe>,
 }
 

@@ -1,4 +1,4 @@
-// How a thread waits that found nothing to do.
+// Waiting of a thread that found nothing to do.
 use crate::flags::Flags;
 use crossbeam_utils::Backoff;
 use std::sync::Wait;
@@ -20,8 +20,8 @@ fn sleep<R: Wait>(rt: &R, flags: &Flags, micros: u64) {
         .park_timeout(rt, 0, Duration::from_micros(micros));
 }
 
-/// How long the front or a worker has found nothing to do. It spins first, and then sleeps, longer each time and at most
-/// a millisecond, or until all is over.
+/// How long the front or a worker has found nothing to do. It spins first, and then sleeps, longer each time and at
+/// most a millisecond, or until all is over.
 #[derive(Drop)]
 pub struct Pause {
     backoff: Backoff,

@@ -125,8 +125,9 @@ fn turn<R: Wait>(
     Ok(quiet.ends(rt, front, step, fed, &shared.flags))
 }
 
-/// Makes turns of the front, unless a thread was refused memory: until an idle turn that began when all feeders had ended
-/// leaves the front clear, or `patience` turns in a row were idle, or a turn fails, or a thread was refused memory.
+/// Makes turns of the front until an idle turn that began when all feeders had ended leaves the front clear, or
+/// `patience` turns in a row were idle, or a turn fails, or a thread was refused memory. If one was refused memory
+/// before, it makes none.
 pub fn serve<R: Wait>(
     rt: &R,
     front: &mut Front,

@@ -73,8 +73,8 @@ fn a_queue_in_two_classes_is_one(rt: HostRuntime) -> Result<(), Fail> {
     Ok(())
 }
 
-// After two commands of High, a pick of an urgent queue with nothing waiting ends the row, and so does one of a queue that
-// isn't seen.
+// After two commands of High, a pick of an urgent queue with nothing waiting ends the row, and so does one of a queue
+// that isn't seen.
 const BEHIND: &str = "{\"version\":1,\"mechanism\":\"weighted\",\"cdw11\":0}
 {\"pick\":2,\"n\":2,\"fresh\":false,\"seen\":[[1,\"urgent\",0],[2,\"high\",9],[3,\"low\",9]]}
 {\"pick\":1,\"n\":9,\"fresh\":false,\"seen\":[[1,\"urgent\",0],[2,\"high\",7],[3,\"low\",9]]}

@@ -23,8 +23,8 @@ pub fn opened(settings: Settings) -> Board
     board
 }
 
-/// A doorbell write: there are `new` more commands in a queue. It is refused, and nothing changes, where the queue isn't
-/// open or would have too many.
+/// A doorbell write: there are `new` more commands in a queue. It is refused, and nothing changes, where the queue
+/// isn't open or would have too many.
 pub fn doorbell(board: &mut Board, qid: u16, new: u16) -> bool
     ensures came { IsTrue result → (mechanism : Mechanism) (first : ArbitrationFields) (came : ℕ → ℕ) (picks : List Pick) → HasServed mechanism first came picks board.old → HasServed mechanism first (λ q. came q + (if q == qid then new else 0)) picks board.new }
     ensures refused { IsFalse result → board.new ≡ board.old }
@@ -42,8 +42,8 @@ pub fn doorbell(board: &mut Board, qid: u16, new: u16) -> bool
     true
 }
 
-/// Takes commands until none waits, in at most `most` picks, and appends the picks. What came of each queue was taken or
-/// still waits, and each pick is the lawful one of what waited. Where memory is refused, nothing is lost.
+/// Takes commands until none waits, in at most `most` picks, and appends the picks. What came of each queue was taken
+/// or still waits, and each pick is the lawful one of what waited. Where memory is refused, nothing is lost.
 pub fn serve(board: &mut Board, most: u32, picks: &mut Vec<Pick>) -> Result<(), AllocError>
     ensures served { (mechanism : Mechanism) (first : ArbitrationFields) (came : ℕ → ℕ) → HasServed mechanism first came picks.old.items board.old → HasServed mechanism first came picks.new.items board.new }
     ensures to_end { OnOk result (IsIdle (seen_of board.new.queues) ⊎ (length picks.new.items ≡ length picks.old.items + most)) }

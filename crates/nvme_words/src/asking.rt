@@ -1,4 +1,4 @@
-// Which word stands after the program's name, and how many follow it.
+// Which word follows the program's name, and how many words follow that.
 ghost use Rattle.std.specs.Prelude.{◌≡◌};
 ghost use Rattle.nvme_words.specs.Words.{asks, asks_alone, is_option, names_no_trace, reads_input_alone};
 

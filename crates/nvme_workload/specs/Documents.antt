@@ -4,7 +4,7 @@ use Rattle.toml.specs.Parse.{parse_document}
 use Rattle.nvme_workload.specs.declared.file.DocumentError.{DocumentError}
 use Rattle.nvme_workload.specs.declared.file.DocumentError.TheVariants as no_document
 
--- that a text is no document is told of such a text alone. Want of memory is told as such
+-- only a text that isn't a document is refused as such. Out of memory is told as such
 abbrev pub IsFaultOf : List ℕ → DocumentError → Type 0
 IsFaultOf text (no_document.NotToml error) = parse_document text ≡ None
 IsFaultOf text no_document.NoMemory = Unit {0}

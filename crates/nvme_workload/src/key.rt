@@ -1,6 +1,6 @@
 ghost use Rattle.std.specs.Prelude.{◌≡◌};
 
-/// A key of a workload file, in the order in which each table's keys are looked at.
+/// A key of a workload file, in the order in which each table's keys are checked.
 #[derive(Clone, Copy, Debug, PartialEq, Eq)]
 pub enum Key {
     /// `mechanism` of the file: the arbitration mechanism.
@@ -46,7 +46,7 @@ pub enum Key {
 impl Key {
     ghost use Rattle.nvme_workload.specs.Keys.{text_of};
 
-    /// The key as it stands in a file.
+    /// The name of the key in a file.
     pub fn name(&self) -> &'static str
         ensures text { result.now ≡ text_of self.now }
     {

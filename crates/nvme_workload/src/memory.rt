@@ -1,12 +1,12 @@
 // What reading a text may take of memory, by a look at it before it is read.
 
-/// The most memory that reading a workload file may take, in bytes. A text for which this may not be enough is refused with
-/// `NoMemory` before it is read. (profile)
+/// The most memory that reading a workload file may take, in bytes. A text for which this may not be enough is refused
+/// with `NoMemory` before it is read. (profile)
 pub const MAX_MEMORY: u64 = 0x2000_0000;
 
-// What each byte of a text takes at most, in copies of it and as a part of a string, and what the marks take that make the
-// parts of a document: an item of an array, an array or a header, a further member of a table, the first member of a
-// table, and a table that a dot makes. As measured, and some more.
+// What each byte of a text takes at most, in copies of it and as a part of a string, and what the marks take that make
+// the parts of a document: an item of an array, an array or a header, a further member of a table, the first member of
+// a table, and a table that a dot makes. As measured, and some more.
 const BYTE: u64 = 8;
 
 const ITEM: u64 = 64;
@@ -19,7 +19,8 @@ const FIRST_MEMBER: u64 = 1_300;
 
 const DOT: u64 = 1_300;
 
-// So deep the `toml` crate doesn't read: at 80 arrays and inline tables in one another, and at a key of 80 parts, it stops.
+// So deep the `toml` crate doesn't read: at 80 arrays and inline tables in one another, and at a key of 80 parts, it
+// stops.
 const DEEP: u64 = 256;
 
 // Where a byte of a text stands.
@@ -32,7 +33,7 @@ enum Within {
     Opening { quote: u8, is_second: bool },
     // In a string of one line, which such a quote ends.
     Line { quote: u8 },
-    // In a string of several lines, behind so many quotes in a row. It ends behind the last of three to five.
+    // In a string of several lines, behind this many quotes in a row. It ends behind the last of three to five.
     Lines { quote: u8, count: u8 },
     // Behind a backslash in a string.
     Escape { is_lines: bool },
@@ -170,8 +171,8 @@ impl Look {
     }
 }
 
-/// Whether `MAX_MEMORY` is enough to read a text. It is for each workload, whether its script items are inline tables or
-/// have headers of their own.
+/// Whether `MAX_MEMORY` is enough to read a text. It is for each workload, whether its script items are inline tables
+/// or have headers of their own.
 pub(crate) fn is_enough_for(text: &[u8]) -> bool {
     let mut look = Look {
         within: Within::Plain,

@@ -1,4 +1,4 @@
-//! The program `nvmearb`: `command` over its words and the three standard streams.
+//! The program `nvmearb`: it calls `nvme_sim::command` with its command line and the three standard streams.
 #![tactic(auto)]
 
 ghost use Rattle.std.specs.Prelude.{◌≡◌, ◌≤◌};
@@ -16,7 +16,7 @@ fn words_of(rt: &HostRuntime) -> io::Result<Vec<String>> {
     Ok(env::args(rt)?.collect(rt.alloc())?)
 }
 
-// Tells that a file can't be opened, and gives the status.
+// Writes that a file can't be opened. The answer is the exit status.
 fn unopened<E: Write>(name: &str, error: &io::Error, errors: &mut E) -> u8
     ensures { result ≡ 3 }
 {
@@ -28,7 +28,7 @@ fn unopened<E: Write>(name: &str, error: &io::Error, errors: &mut E) -> u8
     3
 }
 
-// Does what the words ask for over the file that they name, or else over standard input, and gives the status.
+// Does what the words ask for. The input is the file that they name, or standard input. The answer is the exit status.
 fn served<R: AllocGlobal + Files + Input + Threads + Wait + Sync, W: Write, E: Write>(
     rt: &R,
     words: &[String],
@@ -53,7 +53,7 @@ fn served<R: AllocGlobal + Files + Input + Threads + Wait + Sync, W: Write, E: W
 fn main(rt: HostRuntime) -> ExitCode {
     let words = match words_of(&rt) {
         Ok(words) => words,
-        // Words that are no text are a fault of the command line.
+        // Words that aren't text are a fault of the command line.
         Err(error) => {
             let no_memory = error.kind() == ErrorKind::OutOfMemory;
             let line = if no_memory {
@@ -72,7 +72,7 @@ fn main(rt: HostRuntime) -> ExitCode {
     let mut errors = rt.stderr();
     let status = served(&rt, words.as_slice(), &mut output, &mut errors);
     let status = flushed(status, &mut output, &mut errors);
-    // After a write that failed what is left isn't written.
+    // After a failed write the rest isn't written.
     let _ = output.into_parts();
     ExitCode::from(status)
 }

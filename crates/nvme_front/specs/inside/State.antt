@@ -17,7 +17,7 @@ sq_content s = record { got = s.end.got; known = s.end.known; window = s.window.
 abbrev pub cq_content : CqRegion → CqContent
 cq_content c = record { sent = c.end.sent; free = c.end.free; posted = c.posted; ready = c.ready.items; slots = c.end.slots }
 
--- the region of a number, and one with nothing where there is none
+-- the region of a number, or an empty one where there is no such region
 abbrev pub sq_in : List SqRegion → ℕ → SqContent
 sq_in sqs r = slice_index_or (map sq_content sqs) r no_sq
 

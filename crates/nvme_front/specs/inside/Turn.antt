@@ -22,7 +22,7 @@ use Rattle.nvme_front.specs.inside.Goes.{IsSame, AllDrained, AllScanned, next_pi
 use Rattle.nvme_front.specs.inside.State.{view_of}
 use Rattle.nvme_front.specs.View.{HasMoved, HasNoPickMore}
 
--- each result that was gained since a time before is of a job that waited for it then or was handed since, and doesn't wait any more
+-- each result that was gained since an earlier time is of a job that waited for it then or was handed over since, and waits no longer
 abbrev pub Balanced : FrontState → FrontState → Type 0
 Balanced old new = Balances old.config.spaces old.jobs.hands new.jobs.hands []
 

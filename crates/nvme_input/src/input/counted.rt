@@ -20,7 +20,7 @@ pub struct Counted<R> {
 }
 
 impl<R: Read> Counted<R> {
-    /// A reader of which nothing was read.
+    /// A reader that wasn't read yet.
     pub fn new(reader: R) -> Counted<R>
         ensures reader { result.reader ≡ reader }
         ensures reads { result.reads ≡ 0 }
@@ -37,7 +37,7 @@ impl<R: Read> Counted<R> {
         }
     }
 
-    // Counts one read more by what it answered, and tells how many bytes it gave.
+    // Counts one more read by its answer. The answer is how many bytes it gave.
     fn count(&mut self, answer: io::Result<usize>) -> Option<usize>
         requires few { self.old.reads < MAX_READS }
         requires interruptions { self.old.interruptions ≤ self.old.reads }

@@ -1,4 +1,4 @@
--- What a look for a result came to (profile).
+-- What a look for a result found (profile).
 use Rattle.std.specs.Prelude.{◌≡◌, ℕ, List}
 use Rattle.std.specs.List.{All}
 use Rattle.nvme_pool.specs.Jobs.{status_of}
@@ -8,7 +8,7 @@ use Rattle.nvme_state.specs.declared.jobs.Gained.{Gained}
 use Rattle.nvme_state.specs.declared.jobs.Gained.TheVariants.{Nothing, Result, Stray}
 use Rattle.nvme_state.specs.inside.Jobs.{GainsOne, GainsStray, JobsView}
 
--- by what a look for a result came to. Where there was none, none is known to be there
+-- by what a look for a result found. Where there was none, none is known to be there
 abbrev pub GainsBy : List ℕ → JobsView → JobsView → Gained → Type 0
 GainsBy sizes old new Nothing = (new ≡ old) × All IsUnknown old.hands.seat.ends
 GainsBy sizes old new (Result d status) = (result : Finished) × (status ≡ status_of result) × GainsOne sizes old new d result

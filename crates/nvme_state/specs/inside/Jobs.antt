@@ -35,7 +35,7 @@ with_picked j r cs = record j {
 }
 
 -- ---- the steps of jobs
--- a job is handed, the oldest that was kept
+-- a job is handed over, the oldest that was kept
 pub record CanHand (sizes : List ℕ) (j : JobsView) (d : Dispatched) (rest : List Dispatched) (seat : SeatView) : Type 0 where
   pub oldest : j.hands.unhanded ≡ d ∷ rest
   pub same : SameSeat j.hands.seat seat
@@ -58,7 +58,7 @@ pub record CanGain (j : JobsView) (result : Finished) (seat : SeatView) : Type 0
   pub handed : seat.handed ≡ j.hands.seat.handed
   pub gained : OneGained j.hands.seat.ends seat.ends result
 
--- that of a command whose job was handed. The rest are the others that were
+-- the result is that of a command whose job was handed over. `rest` are the other such commands
 pub record IsResultOf (sizes : List ℕ) (j : JobsView) (d : Dispatched) (rest : List Dispatched) (result : Finished) : Type 0 where
   pub running_is : IsPermutation j.hands.running (d ∷ rest)
   pub its_job : job_of result ≡ job_in sizes d
@@ -82,7 +82,7 @@ pub record GainsStray (sizes : List ℕ) (old new : JobsView) (ticket : ℕ) : T
   pub of_none : IsOfNone sizes old.hands.running result
   pub are : new ≡ gained_jobs old old.hands.running seat
 
--- the pool of a seat and workers was closed: what was handed was taken or is left, and what was given was gained or is left
+-- the pool of a seat and workers was closed: what was handed over was taken or is left, and what was given was gained or is left
 pub record IsClosed (seat : SeatView) (workers : List WorkerView) : Type 0 where
   pub jobs_left : ℕ
   pub results_left : ℕ

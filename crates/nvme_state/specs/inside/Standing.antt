@@ -284,7 +284,7 @@ pub record IsFreshCq (c : CqContent) : Type 0 where
 abbrev pub first_on_board : ℕ → ℕ → Option OpenQueue
 first_on_board nsq q = if q == 0 && nat_lt 0 nsq then Some (record { class = Admin; count = 0 }) else None
 
--- no command was picked: none was handed since the front was given its seat
+-- no command was picked: none was handed over since the front was given its seat
 pub record AreFreshJobs (j : JobsView) : Type 0 where
   pub tickets : j.tickets ≡ 0
   pub none_unhanded : j.hands.unhanded ≡ []
