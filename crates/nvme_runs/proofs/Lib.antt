@@ -1,5 +1,6 @@
 pub mod Accounts
 pub mod Adding
+pub mod Answering
 pub mod Driven
 pub mod Failing
 pub mod Fitting

@@ -10,7 +10,7 @@ returns-in-Err-clause-fault g c =
 pub returns-in-Err-clause-fault_at : goal.returns-in-Err-clause-fault_at
 returns-in-Err-clause-fault_at g c =
     let turned = c.turn.ensures in
-    rw c.from.ensures (told_at c.args.front.now _ c.in-Err.error turned.goes_on (record { ends = turned.account; jobs = turned.jobs }) c.in-Err.ensures.error)
+    rw c.from.ensures (told_at c.args.front.now _ c.in-Err.error turned.goes_on (record { ends = turned.account; jobs = turned.jobs; executed = turned.executed; results = turned.results }) c.in-Err.ensures.error)
 
 pub returns-clause-loaded : goal.returns-clause-loaded
 returns-clause-loaded g c = let turned = c.turn.ensures in stays-turned _ _ turned.goes_on (record { ends = turned.account; jobs = turned.jobs; executed = turned.executed; results = turned.results }) turned.loaded
