@@ -1,7 +1,8 @@
-ghost use Rattle.std.specs.Prelude.{◌≡◌, IfOk, IfErr};
+ghost use Rattle.std.specs.Prelude.{◌≡◌, ◌≤◌, length, take, IfOk, IfErr};
 ghost use Rattle.nvme_lint.specs.Lints.{IsLawful, IsToldAs, TellsFault};
-ghost use Rattle.nvme_lint.specs.Places.{IsPlaceIn, TellsPlace, place_behind};
+ghost use Rattle.nvme_lint.specs.Places.{IsPlaced, TellsPlace, place_behind};
 ghost use Rattle.nvme_lint.specs.Warnings.{AreWarningsOf};
+ghost use Rattle.nvme_lint.specs.declared.fault.Why.TheVariants as cause;
 ghost use Rattle.nvme_lint.specs.declared.lints.LintError.TheVariants as told;
 
 use crate::fault::{Fault, Why};
@@ -34,36 +35,37 @@ impl From<AllocError> for LintError {
 
 // The place and the cause in bytes that are not UTF-8, of which those up to the first fault are.
 fn in_bytes(valid: &[u8]) -> (Place, Why)
-    ensures { result.0 ≡ place_behind valid.now }
+    ensures place { result.0 ≡ place_behind valid.now }
+    ensures cause { result.1 ≡ cause.NotUtf8 }
 {
     (behind(valid), Why::NotUtf8)
 }
 
-// The place and the cause in a text that is no TOML document.
-fn in_text(text: &str, error: toml::de::Error) -> (Place, Why)
-    ensures { IsPlaceIn text.now result.0 }
+// The place and the cause in a text that is no TOML document from this index on.
+fn in_text(text: &str, start: usize, error: toml::de::Error) -> (Place, Why)
+    requires { start ≤ length text.now }
+    ensures place { result.0 ≡ place_behind (take start text.now) }
+    ensures cause { result.1 ≡ cause.Syntax error }
 {
-    let start = error.span().map_or(0, |span| span.start);
-    let bytes = text.as_bytes();
-    let place = behind(&bytes[..start.min(bytes.len())]);
+    let place = behind(&text.as_bytes()[..start]);
     (place, Why::Syntax(error))
 }
 
 // The place and the cause of the first fault of a file.
+#[tactic(auto, using(crate::proofs::Placed::placed_bytes, crate::proofs::Placed::placed_text, crate::proofs::Placed::placed_table))]
 fn located(alloc: Global, bytes: &[u8], error: WorkloadError) -> Result<(Place, Why), AllocError>
-    ensures { IfOk result (λ found. IsPlaceIn bytes.now found.0) }
+    ensures { IfOk result (λ found. IsPlaced bytes.now found.0 found.1) }
 {
     let text = match std::str::from_utf8(bytes) {
         Ok(text) => text,
-        Err(fault) => {
-            let valid = fault.valid_up_to().min(bytes.len());
-            return Ok(in_bytes(&bytes[..valid]));
-        }
+        Err(fault) => return Ok(in_bytes(&bytes[..fault.valid_up_to()])),
     };
     match toml::table_from_str(alloc, text) {
         Ok(table) => place_of(alloc, &table, error),
-        Err(fault) if fault.is_memory() => Err(AllocError),
-        Err(fault) => Ok(in_text(text, fault)),
+        Err(fault) => match fault.span() {
+            Some(span) => Ok(in_text(text, span.start, fault)),
+            None => Err(AllocError),
+        },
     }
 }
 
