@@ -1,7 +1,10 @@
 -- A fault of what a document is read as is the first one of its bytes, and so are its warnings.
-use Rattle.std.proofs.Common.{◌≡◌, ℕ, ◌≤◌, true, false, refl, sym, ap, subst, ◌∙◌, length, take, List, Some, None, Ok, Err, Result}
+use Rattle.std.proofs.Common.{◌≡◌, ℕ, true, false, refl, sym, ap, ◌∙◌, take, arith, List, Some, None, Ok, Err, Result}
 use Rattle.std.specs.Prelude.{IfOk, IfErr}
-use Rattle.std.specs.Str.{is_utf8}
+use Rattle.std.specs.Prelude.{IsUtf8}
+use Rattle.std.specs.Str.{is_utf8, IsValidUpTo}
+use Rattle.toml.specs.declared.de.error.Error.{Error}
+use Rattle.toml.specs.Errors.{span_start, IsWithin}
 use Rattle.toml.specs.Data.{Members}
 use Rattle.toml.specs.Parse.{parse_document}
 use Rattle.nvme_workload.specs.Plan.{Plan, plan_in, plan_of_text, workload_of}
@@ -9,14 +12,12 @@ use Rattle.nvme_workload.specs.declared.error.WorkloadError.{WorkloadError}
 use Rattle.nvme_workload.specs.declared.error.WorkloadError.TheVariants as why
 use Rattle.nvme_lint.specs.declared.lints.LintError.{LintError}
 use Rattle.nvme_lint.specs.declared.lints.LintError.TheVariants as told
-use Rattle.nvme_lint.specs.declared.place.Place.{Place}
-use Rattle.nvme_lint.specs.declared.place.Place.TheVariants as at
 use Rattle.nvme_lint.specs.declared.warning.Warning.{Warning}
 use Rattle.nvme_lint.specs.Lints.{IsLawful, IsToldAs, TellsFault}
-use Rattle.nvme_lint.specs.Places.{IsPlaceIn, TellsPlace}
+use Rattle.nvme_lint.specs.Places.{TellsPlace}
 use Rattle.nvme_lint.specs.Warnings.{AreWarningsOf}
-use Rattle.nvme_lint.specs.inside.Readings.{AreWarningsIn, IsToldBehind, IsToldOfTable, TellsFaultIn}
-use Rattle.nvme_lint.specs.inside.Tables.{IsOfTable}
+use Rattle.nvme_lint.specs.inside.Readings.{AreWarningsIn, IsToldOfBytes, IsToldOfSyntax, IsToldOfTable, TellsFaultIn}
+use Rattle.nvme_lint.proofs.Placed.{placed_bytes, placed_table, placed_text}
 
 -- ---- the bytes of a document
 
@@ -60,19 +61,21 @@ pub told_lawful : {T : Type 0} (bytes : List ℕ) (reading : Result Plan Workloa
 told_lawful bytes reading items (Ok ws) read (plan, is, all) = (plan, read ∙ is)
 told_lawful bytes reading items (Err e) read told = tt
 
--- a place of a table is one of any text
-of_table : (bytes : List ℕ) (place : Place) → IsOfTable place → IsPlaceIn bytes place
-of_table bytes (at.Text line column) h = absurd h
-of_table bytes at.Top h = tt
-of_table bytes (at.Submission region) h = tt
-of_table bytes (at.Item region item) h = tt
-of_table bytes (at.Completion region) h = tt
+-- ---- where it is told
 
-pub told_of_table : (bytes : List ℕ) (r : LintError) → IsToldOfTable r → TellsPlace bytes r
-told_of_table bytes (told.Fault f) h = of_table bytes f.place h
-told_of_table bytes told.NoMemory h = tt
+pub told_of_table : (bytes : List ℕ) (r : LintError) → IsUtf8 bytes → IsToldOfTable r → TellsPlace bytes r
+told_of_table bytes (told.Fault f) good h = placed_table bytes f.place f.why good h.0 h.1
+told_of_table bytes told.NoMemory good h = tt
 
--- and the place behind some of its first bytes is one of it
-pub told_behind : (bytes : List ℕ) (n : ℕ) (r : LintError) → n ≤ length bytes → IsToldBehind (take n bytes) r → TellsPlace bytes r
-told_behind bytes n (told.Fault f) within h = subst (λ (place : Place). IsPlaceIn bytes place) (sym h) (n, within, refl)
-told_behind bytes n told.NoMemory within h = tt
+-- for all faults of an answer
+pub told_of_tables : {T : Type 0} (bytes : List ℕ) (r : Result T LintError) → IsUtf8 bytes → IfErr r IsToldOfTable → IfErr r (TellsPlace bytes)
+told_of_tables bytes (Ok ws) good told = tt
+told_of_tables bytes (Err e) good told = told_of_table bytes e good told
+
+pub told_of_bytes : (bytes : List ℕ) (n : ℕ) (r : LintError) → IsValidUpTo bytes n → IsToldOfBytes (take n bytes) r → TellsPlace bytes r
+told_of_bytes bytes n (told.Fault f) valid h = placed_bytes bytes n f.place f.why valid h.0 h.1
+told_of_bytes bytes n told.NoMemory valid h = tt
+
+pub told_of_syntax : (bytes : List ℕ) (e : Error) (r : LintError) → IsUtf8 bytes → IsWithin bytes e → IsToldOfSyntax bytes e r → TellsPlace bytes r
+told_of_syntax bytes e (told.Fault f) good within h = placed_text bytes (span_start e) f.place f.why e good (omega (arith, within.0, within.1)) h.0 h.1 refl
+told_of_syntax bytes e told.NoMemory good within h = tt

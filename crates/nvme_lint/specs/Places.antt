@@ -1,6 +1,10 @@
 -- Places of a text, by looking back from them. (profile)
-use Rattle.std.specs.Prelude.{◌≡◌, ℕ, ◌+◌, ◌≤◌, ◌==◌, ◌||◌, Bool, not, nat_lt, nat_le, List, length, take, reverse}
+use Rattle.std.specs.Prelude.{◌≡◌, ℕ, ◌+◌, ◌≤◌, ◌==◌, ◌||◌, Bool, not, nat_lt, nat_le, List, length, take, reverse, IsUtf8}
 use Rattle.std.specs.List.{count_by, take_while}
+use Rattle.std.specs.Str.{IsValidUpTo}
+use Rattle.toml.specs.Errors.{span_start}
+use Rattle.nvme_lint.specs.declared.fault.Why.{Why}
+use Rattle.nvme_lint.specs.declared.fault.Why.TheVariants as why
 use Rattle.nvme_lint.specs.declared.place.Place.{Place}
 use Rattle.nvme_lint.specs.declared.place.Place.TheVariants.{Text}
 use Rattle.nvme_lint.specs.declared.lints.LintError.{LintError}
@@ -35,7 +39,22 @@ abbrev pub IsPlaceIn : List ℕ → Place → Type 0
 IsPlaceIn bytes (Text line column) = (count : ℕ) × (count ≤ length bytes) × (Text line column ≡ place_behind (take count bytes))
 IsPlaceIn bytes place = Unit {0}
 
--- a fault is told at a place of these bytes
+-- a place is that behind the longest part of these bytes, from the first on, that is UTF-8
+abbrev pub IsBehindValid : List ℕ → Place → Type 0
+IsBehindValid bytes place = (count : ℕ) × IsValidUpTo bytes count × (place ≡ place_behind (take count bytes))
+
+-- what is no TOML document is told at the index that the TOML crate gives
+abbrev pub IsBehindSyntax : List ℕ → Why → Place → Type 0
+IsBehindSyntax bytes (why.Syntax e) place = place ≡ place_behind (take (span_start e) bytes)
+IsBehindSyntax bytes cause place = Unit {0}
+
+-- a place with this cause is that of a fault of these bytes
+pub record IsPlaced (bytes : List ℕ) (place : Place) (cause : Why) : Type 0 where
+  pub within : IsPlaceIn bytes place
+  pub not_utf8 : ¬ IsUtf8 bytes → IsBehindValid bytes place
+  pub syntax : IsBehindSyntax bytes cause place
+
+-- a fault is told at its place in these bytes
 abbrev pub TellsPlace : List ℕ → LintError → Type 0
-TellsPlace bytes (told.Fault f) = IsPlaceIn bytes f.place
+TellsPlace bytes (told.Fault f) = IsPlaced bytes f.place f.why
 TellsPlace bytes told.NoMemory = Unit {0}

@@ -1,11 +1,12 @@
 ghost use Rattle.std.specs.Prelude.{◌≡◌, IfOk, IfErr};
+ghost use Rattle.toml.specs.Errors.{IsWithin};
 ghost use Rattle.toml.specs.View.{table_view};
 ghost use Rattle.nvme_workload.specs.Plan.{plan_in};
 ghost use Rattle.nvme_workload.specs.declared.error.WorkloadError.TheVariants as why;
 ghost use Rattle.nvme_lint.specs.Lints.{IsLawful, IsToldAs, TellsFault};
 ghost use Rattle.nvme_lint.specs.Places.{TellsPlace};
 ghost use Rattle.nvme_lint.specs.Warnings.{AreWarningsOf};
-ghost use Rattle.nvme_lint.specs.inside.Readings.{AreWarningsIn, IsToldBehind, IsToldOfTable, TellsFaultIn};
+ghost use Rattle.nvme_lint.specs.inside.Readings.{AreWarningsIn, IsToldOfBytes, IsToldOfSyntax, IsToldOfTable, TellsFaultIn};
 ghost use Rattle.nvme_lint.specs.declared.lints.LintError.TheVariants as told;
 
 use crate::fault::{Fault, Why};
@@ -40,7 +41,7 @@ impl From<AllocError> for LintError {
 // The fault of bytes that aren't UTF-8. `valid` are those before the fault.
 fn in_bytes(valid: &[u8]) -> LintError
     ensures fault { IsToldAs why.NotUtf8 result }
-    ensures place { IsToldBehind valid.now result }
+    ensures place { IsToldOfBytes valid.now result }
 {
     LintError::Fault(Fault {
         error: WorkloadError::NotUtf8,
@@ -51,14 +52,16 @@ fn in_bytes(valid: &[u8]) -> LintError
 
 // The fault of a text that isn't a TOML document.
 fn in_text(text: &str, error: toml::de::Error) -> LintError
+    requires within { IsWithin text.now error }
     ensures fault { IsToldAs why.NotToml result }
-    ensures place { TellsPlace text.now result }
+    ensures place { IsToldOfSyntax text.now error result }
 {
-    let start = error.span().map_or(0, |span| span.start);
-    let bytes = text.as_bytes();
+    let Some(span) = error.span() else {
+        return LintError::NoMemory;
+    };
     LintError::Fault(Fault {
         error: WorkloadError::NotToml,
-        place: behind(&bytes[..start.min(bytes.len())]),
+        place: behind(&text.as_bytes()[..span.start]),
         why: Why::Syntax(error),
     })
 }
@@ -98,10 +101,7 @@ pub fn lint(alloc: Global, bytes: &[u8]) -> Result<Vec<Warning>, LintError>
 {
     let text = match std::str::from_utf8(bytes) {
         Ok(text) => text,
-        Err(fault) => {
-            let valid = fault.valid_up_to().min(bytes.len());
-            return Err(in_bytes(&bytes[..valid]));
-        }
+        Err(fault) => return Err(in_bytes(&bytes[..fault.valid_up_to()])),
     };
     match document(alloc, text) {
         Ok(table) => lint_document(alloc, &table),

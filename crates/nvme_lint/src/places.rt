@@ -1,7 +1,7 @@
 // Finds the first fault of a workload file. No fault comes before it, so it is at the first place, in the order of
 // reading, that has this very fault.
 ghost use Rattle.std.specs.Prelude.{IfOk, IfSome};
-ghost use Rattle.nvme_lint.specs.inside.Tables.{IsOfTable};
+ghost use Rattle.nvme_lint.specs.inside.Tables.{IsOfDocument, IsOfTable};
 
 use crate::fault::Why;
 use crate::place::Place;
@@ -213,7 +213,9 @@ fn beginning_of(alloc: Global, key: &str) -> Result<String, AllocError> {
 }
 
 // The unknown key at a place.
-fn unknown_at(alloc: Global, table: &Table, place: Place) -> Result<Why, AllocError> {
+fn unknown_at(alloc: Global, table: &Table, place: Place) -> Result<Why, AllocError>
+    ensures { IfOk result IsOfDocument }
+{
     let (found, known) = at_place(table, place);
     let key = match found {
         Some(found) => unknown_key(known, found).unwrap_or(""),
@@ -229,7 +231,8 @@ pub(crate) fn place_of(
     table: &Table,
     fault: WorkloadError,
 ) -> Result<(Place, Why), AllocError>
-    ensures { IfOk result (λ found. IsOfTable found.0) }
+    ensures place { IfOk result (λ found. IsOfTable found.0) }
+    ensures cause { IfOk result (λ found. IsOfDocument found.1) }
 {
     match fault {
         WorkloadError::Missing(key) | WorkloadError::Bad(key) => {

@@ -1,5 +1,5 @@
 -- What an input that was taken says of the program's answer.
-use Rattle.std.proofs.Common.{◌≡◌, ◌≢◌, ◌↔◌, ℕ, arith, Bool, true, false, inl, inr, refl, ap, subst, List, [], ◌∷◌, length, Option, None, Some, Result, Ok, Err, IfSome, IfErr, IsErrOf}
+use Rattle.std.proofs.Common.{◌≡◌, ◌≢◌, ◌↔◌, ◌⊎◌, ℕ, arith, Bool, true, false, inl, inr, refl, ap, subst, List, [], ◌∷◌, length, Option, None, Some, Result, Ok, Err, IfSome, IfErr, IfOk, IsErrOf, OnOk}
 use Rattle.std.specs.Prelude.{suc, ◌==◌, ◌&&◌, ◌||◌, not, nat_eq, String, string_bytes, codes}
 use Rattle.std.proofs.lemmas.Bool.Decides.{eqb_tells}
 use Rattle.std.specs.Cmp.Lexicographic.{pointwise, bytes_decides}
@@ -7,28 +7,30 @@ use Rattle.std.specs.Global.{Global}
 use Rattle.std.specs.List.{AllPass}
 use Rattle.std.specs.Io.KnownBytes.{Appends}
 use Rattle.hex.specs.Hex.{is_hex_digit}
+use Rattle.nvme_output.specs.Written.{AppendsPrefix}
+use Rattle.nvme_arbiter.specs.History.{History}
 use Rattle.nvme_front.specs.declared.settled.Settled.{Settled}
 use Rattle.nvme_report.specs.declared.reports.Mode.{Mode}
 use Rattle.nvme_report.specs.Report.{report_text}
 use Rattle.nvme_workload.specs.declared.error.WorkloadError.{WorkloadError}
 use Rattle.nvme_workload.specs.Plan.{workload_of}
-use Rattle.nvme_input.specs.Once.{entry_text}
+use Rattle.nvme_input.specs.Once.{IsAnswer, entry_text}
 use Rattle.nvme_runs.specs.Runs.{IsRun}
 use Rattle.nvme_input.specs.declared.entries.OnceError.{OnceError}
 use Rattle.nvme_input.specs.declared.entries.OnceError.TheVariants as entry
 use Rattle.nvme_runs.specs.declared.runs.RunError.{RunError}
 use Rattle.nvme_runs.specs.declared.runs.RunError.TheVariants as run
-use Rattle.nvme_runs.specs.Ran.{BeginsAs}
-use Rattle.nvme_runs.specs.declared.runs.Ran.{Ran}
 use Rattle.nvme_trace.specs.Checks.{IsFaultOf, IsLawfulText, IsUnlawfulText}
 use Rattle.nvme_trace.specs.declared.fault.TraceError.{TraceError}
 use Rattle.nvme_trace.specs.declared.fault.TraceError.TheVariants as trace
 use Rattle.nvme_trace.specs.declared.judge.Finding.{Finding}
-use Rattle.nvme_chart.specs.Shown.{IsReadFault}
+use Rattle.nvme_trace.specs.declared.reading.Head.{Head}
+use Rattle.nvme_chart.specs.Shown.{IsReadFault, IsShown}
 use Rattle.nvme_lint.specs.Warnings.{AreWarningsOf}
 use Rattle.nvme_lint.specs.declared.warning.Warning.{Warning}
 use Rattle.nvme_sim.specs.declared.faults.Fault.{Fault}
-use Rattle.nvme_sim.specs.Inputs.{HasNoWarning, HasWarnings, IsBadInput, IsBadTrace, IsFaultyShown, IsFaultyTrace, IsToldLawful, IsUnlawfulCheck, IsUnlawfulTrace, lawful_line, trace_of}
+use Rattle.nvme_sim.specs.Answers.{Appended, AppendedPart, FailsToWrite, HasAnswer, HasReport}
+use Rattle.nvme_sim.specs.Inputs.{HasNoWarning, HasWarnings, IsBadInput, IsBadTrace, IsFaultyShown, IsFaultyTrace, IsToldLawful, IsTrace, IsUnlawfulCheck, IsUnlawfulTrace, lawful_line}
 use Rattle.nvme_sim.specs.Statuses.{IsBadEntry, IsBadWorkload, run_status, status_of, trace_status}
 use Rattle.nvme_words.specs.Requests.{IsAskedBy}
 use Rattle.nvme_words.specs.declared.requests.Request.{Request}
@@ -84,11 +86,78 @@ has_no_warning None bytes ws whole are none = tt
 has_no_warning (Some rest) bytes [] whole are none = subst (λ (bs : List ℕ). AreWarningsOf bs []) whole are
 has_no_warning (Some rest) bytes (w ∷ ws) whole are none = absurd (not_empty w ws none)
 
--- the report of a run was written
-pub run_done : (input : Option (List ℕ)) (bytes : List ℕ) (mode : Mode) (s : Settled) (old new : Option (List ℕ)) → IfSome input (λ rest. bytes ≡ rest)
-    → IsRun bytes mode s → Appends old new (report_text mode s) → IfSome input (λ rest. (x : Settled) × IsRun rest mode x × Appends old new (report_text mode x))
-run_done None bytes mode s old new whole ran appends = tt
-run_done (Some rest) bytes mode s old new whole ran appends = (s, subst (λ (bs : List ℕ). IsRun bs mode s) whole ran, appends)
+-- what holds of the bytes that were taken holds of the input
+pub of_taken : (input : Option (List ℕ)) (bytes : List ℕ) (P : List ℕ → Type 0) → IfSome input (λ rest. bytes ≡ rest) → P bytes → IfSome input P
+of_taken None bytes P whole h = tt
+of_taken (Some rest) bytes P whole h = subst P whole h
+
+pub ok_of_taken : {T E : Type 0} (input : Option (List ℕ)) (bytes : List ℕ) (P : List ℕ → T → Type 0) (result : Result T E) → IfSome input (λ rest. bytes ≡ rest)
+    → IfOk result (P bytes) → IfOk result (λ x. IfSome input (λ rest. P rest x))
+ok_of_taken input bytes P (Ok x) whole h = of_taken input bytes (λ rest. P rest x) whole h
+ok_of_taken input bytes P (Err e) whole h = tt
+
+pub bad_of_taken : {T : Type 0} (input : Option (List ℕ)) (bytes : List ℕ) (P : List ℕ → Type 0) (result : Result T Fault) → IfSome input (λ rest. bytes ≡ rest)
+    → IfErr result (λ e. status_of e ≡ 1 → P bytes) → IfErr result (λ e. status_of e ≡ 1 → IfSome input P)
+bad_of_taken input bytes P (Ok x) whole h = tt
+bad_of_taken input bytes P (Err e) whole h = λ one. of_taken input bytes P whole (h one)
+
+-- a run that comes to nothing leaves the output as it was, or a prefix of a report
+pub run_failed : {W : Type 0} (contents : W → Option (List ℕ)) (old new : W) (input : Option (List ℕ)) (bytes : List ℕ) (mode : Mode) (e : RunError)
+    → IfSome input (λ rest. bytes ≡ rest) → (e ≢ run.Write → new ≡ old)
+    → (e ≡ run.Write → (s : Settled) × IsRun bytes mode s × AppendsPrefix (contents old) (contents new) (report_text mode s))
+    → (new ≡ old) ⊎ IfSome input (HasReport (AppendedPart contents old new) mode)
+run_failed contents old new input bytes mode run.Write whole untouched failed = inr (of_taken input bytes (HasReport (AppendedPart contents old new) mode) whole (failed refl))
+run_failed contents old new input bytes mode (run.Workload w) whole untouched failed = inl (untouched (λ q. cc q))
+run_failed contents old new input bytes mode run.Workers whole untouched failed = inl (untouched (λ q. cc q))
+run_failed contents old new input bytes mode (run.TooLong r) whole untouched failed = inl (untouched (λ q. cc q))
+run_failed contents old new input bytes mode run.NoMemory whole untouched failed = inl (untouched (λ q. cc q))
+run_failed contents old new input bytes mode (run.Front f) whole untouched failed = inl (untouched (λ q. cc q))
+run_failed contents old new input bytes mode run.GaveUp whole untouched failed = inl (untouched (λ q. cc q))
+
+-- a text that is shown is a head and events
+pub is_trace : (input : Option (List ℕ)) (P : Head → History → Type 0) → IfSome input (λ text. IsShown text P) → IfSome input IsTrace
+is_trace None P h = tt
+is_trace (Some text) P h = record { head = h.head; past = h.past; tells = h.tells; holds = tt }
+
+-- what follows from an answer
+pub on_done : {T : Type 0} (result : Result T Fault) (x : T) (P : Type 0) → OnOk result P → result ≡ Ok x → P
+on_done {T} result x P h is = subst (λ (r : Result T Fault). OnOk r P) is h
+
+-- the answer to one entry was written
+pub answer_came : {W T : Type 0} (contents : W → Option (List ℕ)) (old new : W) (input : Option (List ℕ)) (blocks : ℕ) (line : List ℕ) (result : Result T Fault) (x : T)
+    → IfSome input (λ bytes. IsAnswer (entry_text bytes) blocks line) → OnOk result ((result ≡ Ok x) × Appends (contents old) (contents new) line)
+    → OnOk result (IfSome input (HasAnswer (Appended contents old new) blocks))
+answer_came contents old new None blocks line (Ok y) x h w = tt
+answer_came contents old new (Some bytes) blocks line (Ok y) x h w = (line, h, w.1)
+answer_came contents old new input blocks line (Err e) x h w = tt
+
+-- or a write of it failed
+pub answer_came_in_part : {W T : Type 0} (contents : W → Option (List ℕ)) (old new : W) (input : Option (List ℕ)) (blocks : ℕ) (line : List ℕ) (result : Result T Fault)
+    → IfSome input (λ bytes. IsAnswer (entry_text bytes) blocks line) → IfErr result (λ e. AppendsPrefix (contents old) (contents new) line)
+    → IfErr result (λ e. (new ≡ old) ⊎ IfSome input (HasAnswer (AppendedPart contents old new) blocks))
+answer_came_in_part contents old new input blocks line (Ok y) h w = tt
+answer_came_in_part contents old new None blocks line (Err e) h w = inr tt
+answer_came_in_part contents old new (Some bytes) blocks line (Err e) h w = inr (line, h, w)
+
+-- a workload without warnings leaves the output as it was
+pub is_quiet : {W : Type 0} (old new : W) (input : Option (List ℕ)) → IfSome input HasNoWarning → new ≡ old → IfSome input (λ bytes. HasNoWarning bytes × (new ≡ old))
+is_quiet old new None none same = tt
+is_quiet old new (Some bytes) none same = (none, same)
+
+-- where nothing is said
+pub nothing_said : (input : Option (List ℕ)) → IfSome input (λ bytes. Unit {0})
+nothing_said None = tt
+nothing_said (Some bytes) = tt
+
+pub no_fault_said : {T : Type 0} (result : Result T Fault) (A : Type 0) (input : Option (List ℕ)) → IfErr result (λ e. A ⊎ IfSome input (λ bytes. Unit {0}))
+no_fault_said (Ok x) A input = tt
+no_fault_said (Err e) A input = inr (nothing_said input)
+
+-- another second case of a fault
+pub or_else : {T : Type 0} (result : Result T Fault) (A B C : Type 0) → (B → C) → IfErr result (λ e. A ⊎ B) → IfErr result (λ e. A ⊎ C)
+or_else (Ok x) A B C more h = tt
+or_else (Err e) A B C more (inl a) = inl a
+or_else (Err e) A B C more (inr b) = inr (more b)
 
 -- a line of a trace that has a fault
 pub faulty_trace : (input : Option (List ℕ)) (e : TraceError) → IfSome input (λ text. IsFaultOf text e) → trace_status e ≡ 1 → IfSome input IsFaultyTrace
@@ -110,17 +179,25 @@ pub told_lawful : (input : Option (List ℕ)) (picks : ℕ) (old new : Option (L
 told_lawful None picks old new h w = tt
 told_lawful (Some text) picks old new h w = (picks, h, w)
 
+-- or a write of that failed
+pub told_in_part : {W T : Type 0} (contents : W → Option (List ℕ)) (old new : W) (input : Option (List ℕ)) (picks : ℕ) (result : Result T Fault)
+    → IfSome input (λ text. IsLawfulText text picks) → IfErr result (λ e. AppendsPrefix (contents old) (contents new) (lawful_line picks))
+    → IfErr result (λ e. (new ≡ old) ⊎ IfSome input (FailsToWrite contents old new request.Check))
+told_in_part contents old new input picks (Ok x) h w = tt
+told_in_part contents old new None picks (Err e) h w = inr tt
+told_in_part contents old new (Some text) picks (Err e) h w = inr (inl (picks, h, w))
+
+-- or of a pick that isn't the lawful one
+pub told_unlawful : {W T : Type 0} (contents : W → Option (List ℕ)) (old new : W) (input : Option (List ℕ)) (result : Result T Fault) → IfSome input IsUnlawfulTrace
+    → IfErr result (λ e. (new ≡ old) ⊎ IfSome input (FailsToWrite contents old new request.Check))
+told_unlawful contents old new input (Ok x) h = tt
+told_unlawful contents old new None (Err e) h = inr tt
+told_unlawful contents old new (Some text) (Err e) h = inr (inr h)
+
 -- a trace has a pick that isn't the lawful one
 pub unlawful_trace : (input : Option (List ℕ)) (line : ℕ) (finding : Finding) → IfSome input (λ text. IsUnlawfulText text line finding) → IfSome input IsUnlawfulTrace
 unlawful_trace None line finding h = tt
 unlawful_trace (Some text) line finding h = (line, finding, h)
-
--- the trace of a run was written
-pub run_traced : (input : Option (List ℕ)) (bytes : List ℕ) (mode : Mode) (r : Ran) (old new : Option (List ℕ)) → IfSome input (λ rest. bytes ≡ rest) → BeginsAs bytes r → IsRun bytes mode r.settled
-    → Appends old new (trace_of r) → IfSome input (λ rest. (x : Ran) × BeginsAs rest x × IsRun rest mode x.settled × Appends old new (trace_of x))
-run_traced None bytes mode r old new whole begins ran appends = tt
-run_traced (Some rest) bytes mode r old new whole begins ran appends =
-    (r, subst (λ (bs : List ℕ). BeginsAs bs r) whole begins, subst (λ (bs : List ℕ). IsRun bs mode r.settled) whole ran, appends)
 
 -- a fault of one kind of input is one of another kind
 pub of_kind : {T : Type 0} (result : Result T Fault) (input : Option (List ℕ)) (P Q : List ℕ → Type 0) → ((bs : List ℕ) → P bs → Q bs)

@@ -7,7 +7,7 @@ use Rattle.nvme_trace.specs.Text.{trace_text}
 use Rattle.nvme_trace.specs.declared.fault.LineFault.{LineFault}
 use Rattle.nvme_trace.specs.declared.fault.TraceError.TheVariants as trace
 use Rattle.nvme_trace.specs.declared.judge.Finding.{Finding}
-use Rattle.nvme_chart.specs.Shown.{IsReadFault}
+use Rattle.nvme_chart.specs.Shown.{IsReadFault, IsShown}
 use Rattle.nvme_runs.specs.declared.runs.Ran.{Ran}
 use Rattle.nvme_lint.specs.Warnings.{AreWarningsOf}
 use Rattle.nvme_lint.specs.declared.warning.Warning.{Warning}
@@ -37,6 +37,10 @@ lawful_line picks = codes "lawful: " ++ decimal picks ++ codes " picks\n"
 -- a trace is lawful, and the line of the number of its picks was written
 abbrev pub IsToldLawful : Option (List ℕ) → Option (List ℕ) → List ℕ → Type 0
 IsToldLawful old new bytes = (picks : ℕ) × IsLawfulText bytes picks × Appends old new (lawful_line picks)
+
+-- a text is a head and events
+abbrev pub IsTrace : List ℕ → Type 0
+IsTrace bytes = IsShown bytes (λ head past. Unit {0})
 
 -- a trace that is shown has a line with a fault, and the lines before it are a head and events
 abbrev pub IsFaultyShown : List ℕ → Type 0

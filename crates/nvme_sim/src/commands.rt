@@ -1,11 +1,10 @@
 ghost use Rattle.std.specs.Prelude.{◌≡◌, ◌≤◌, ◌⊎◌, true, Ok, IfErr, IfSome, codes};
+ghost use Rattle.nvme_sim.specs.Answers.{Asked, Does, FailsToWrite, mode_for};
 ghost use Rattle.nvme_sim.specs.Inputs.{HasWarnings, IsBadInput, IsToldLawful, IsUnlawfulCheck};
 ghost use Rattle.nvme_words.specs.Requests.{IsAskedBy};
 ghost use Rattle.nvme_sim.specs.Statuses.{status_of};
 ghost use Rattle.nvme_words.specs.Words.{asks, asks_alone};
 ghost use Rattle.nvme_sim.specs.declared.faults.Fault.TheVariants as fault;
-ghost use Rattle.nvme_report.specs.declared.reports.Mode.TheVariants as mode;
-ghost use Rattle.nvme_words.specs.declared.requests.Submitting.TheVariants as when;
 ghost use Rattle.nvme_sim.specs.declared.commands.Answer.TheVariants as answer;
 ghost use Rattle.nvme_runs.specs.declared.runs.RunError.TheVariants as run_fault;
 
@@ -44,8 +43,7 @@ enum Answer {
 
 // The mode of a run whose hosts submit so.
 fn mode_of(submitting: Submitting) -> Mode
-    ensures loaded { submitting ≡ when.First → result ≡ mode.Loaded }
-    ensures live { submitting ≡ when.Meanwhile → result ≡ mode.Live }
+    ensures { result ≡ mode_for submitting }
 {
     match submitting {
         Submitting::First => Mode::Loaded,
@@ -79,7 +77,9 @@ fn done<R: Read + Drop, W: Write, T: Threads + Wait + Sync>(
     ensures warnings { result ≡ Ok answer.Warned → IfSome (R.remaining input) HasWarnings }
     ensures unlawful { result ≡ Ok answer.Unlawful → IsUnlawfulCheck words.now (R.remaining input) }
     ensures lawful { result ≡ Ok answer.Done → asks_alone (codes "check") words.now ≡ true → IfSome (R.remaining input) (IsToldLawful (W.contents output.old) (W.contents output.new)) }
+    ensures done { result ≡ Ok answer.Done → IfSome (R.remaining input) (Does W.contents output.old output.new request) }
     ensures untouched { IfErr result (λ e. (e ≡ fault.Write) ⊎ (e ≡ fault.Run run_fault.Write) ⊎ (output.new ≡ output.old)) }
+    ensures failed { IfErr result (λ e. (output.new ≡ output.old) ⊎ IfSome (R.remaining input) (FailsToWrite W.contents output.old output.new request)) }
 {
     match request {
         Request::Help(text) => helped(text, output),
@@ -110,7 +110,9 @@ fn served<R: Read + Drop, W: Write, T: Threads + Wait + Sync>(
     ensures warnings { result ≡ Ok answer.Warned → IfSome (R.remaining input) HasWarnings }
     ensures unlawful { result ≡ Ok answer.Unlawful → IsUnlawfulCheck words.now (R.remaining input) }
     ensures lawful { result ≡ Ok answer.Done → asks_alone (codes "check") words.now ≡ true → IfSome (R.remaining input) (IsToldLawful (W.contents output.old) (W.contents output.new)) }
+    ensures done { result ≡ Ok answer.Done → Asked words.now (λ asked. IfSome (R.remaining input) (Does W.contents output.old output.new asked)) }
     ensures untouched { IfErr result (λ e. (e ≡ fault.Write) ⊎ (e ≡ fault.Run run_fault.Write) ⊎ (output.new ≡ output.old)) }
+    ensures failed { IfErr result (λ e. (output.new ≡ output.old) ⊎ Asked words.now (λ asked. IfSome (R.remaining input) (FailsToWrite W.contents output.old output.new asked))) }
 {
     match asked_of(alloc, words) {
         Ok(request) => done(rt, alloc, words, request, input, output),
@@ -127,6 +129,11 @@ fn served<R: Read + Drop, W: Write, T: Threads + Wait + Sync>(
 /// - 3: the run is: a read or a write failed, memory was refused, or a workload couldn't be run to its end;
 /// - 4: there are warnings of a lawful workload.
 ///
+/// At 0 the output got the answer of what the words ask for, whole: the completion of the entry, the report or the trace
+/// of a run, nothing for a workload without warnings, or the line that tells how many picks are lawful; of a picture, of
+/// statistics and of the texts of `clap` the clauses don't say what they are. At 2 it is as it was, and so it is at 1, but
+/// for the answer of `check`, and at 3, unless a write failed: then it got a prefix of such an answer.
+///
 /// With a fault one line, or the words of `clap`, went to `errors`, and a write that failed there is ignored. It may
 /// wait for another thread.
 pub fn command<R: Read + Drop, W: Write, E: Write, T: Threads + Wait + Sync>(
@@ -142,8 +149,10 @@ pub fn command<R: Read + Drop, W: Write, E: Write, T: Threads + Wait + Sync>(
     ensures warnings { result ≡ 4 → IfSome (R.remaining input) HasWarnings }
     ensures input { result ≡ 1 → IfSome (R.remaining input) (IsBadInput words.now) }
     ensures lawful { result ≡ 0 → asks_alone (codes "check") words.now ≡ true → IfSome (R.remaining input) (IsToldLawful (W.contents output.old) (W.contents output.new)) }
+    ensures done { result ≡ 0 → Asked words.now (λ asked. IfSome (R.remaining input) (Does W.contents output.old output.new asked)) }
     ensures untouched { result ≡ 1 → (output.new ≡ output.old) ⊎ IsUnlawfulCheck words.now (R.remaining input) }
     ensures refused { result ≡ 2 → output.new ≡ output.old }
+    ensures failed { result ≡ 3 → (output.new ≡ output.old) ⊎ Asked words.now (λ asked. IfSome (R.remaining input) (FailsToWrite W.contents output.old output.new asked)) }
 {
     match served(rt, alloc, words, input, output) {
         Ok(Answer::Done) => 0,

@@ -1,13 +1,17 @@
 // The check of a trace.
 ghost use Rattle.std.specs.Prelude.{◌≡◌, ◌⊎◌, Ok, IfErr, IfSome, OnOk};
 ghost use Rattle.std.specs.Io.KnownBytes.{Appends};
+ghost use Rattle.nvme_output.specs.Written.{AppendsPrefix};
+ghost use Rattle.nvme_sim.specs.Answers.{FailsToWrite};
 ghost use Rattle.nvme_sim.specs.Inputs.{IsFaultyTrace, IsToldLawful, IsUnlawfulTrace, lawful_line};
 ghost use Rattle.nvme_sim.specs.Statuses.{status_of};
 ghost use Rattle.nvme_sim.specs.declared.faults.Fault.TheVariants as fault;
 ghost use Rattle.nvme_sim.specs.declared.commands.Answer.TheVariants as answer;
+ghost use Rattle.nvme_words.specs.declared.requests.Request.TheVariants as request;
 
 use super::Answer;
 use crate::faults::Fault;
+use nvme_output::{Piece, WriteFault, put_pieces};
 use nvme_trace::{Checked, Unlawful, check};
 use std::alloc::Global;
 use std::io::{Read, Write};
@@ -15,11 +19,17 @@ use std::io::{Read, Write};
 // Writes that so many picks are lawful.
 fn put_lawful<W: Write>(picks: u64, output: &mut W) -> Result<Answer, Fault>
     ensures done { OnOk result ((result ≡ Ok answer.Done) × Appends (W.contents output.old) (W.contents output.new) (lawful_line picks)) }
+    ensures failed { IfErr result (λ e. AppendsPrefix (W.contents output.old) (W.contents output.new) (lawful_line picks)) }
     ensures write { IfErr result (λ e. e ≡ fault.Write) }
 {
-    match writeln!(output, "lawful: {picks} picks") {
+    let pieces = [
+        Piece::Words("lawful: "),
+        Piece::Number(u128::from(picks)),
+        Piece::Words(" picks\n"),
+    ];
+    match put_pieces(&pieces, output) {
         Ok(()) => Ok(Answer::Done),
-        Err(_) => Err(Fault::Write),
+        Err(WriteFault) => Err(Fault::Write),
     }
 }
 
@@ -35,6 +45,7 @@ fn put_unlawful<W: Write>(unlawful: &Unlawful, output: &mut W) -> Result<Answer,
 }
 
 /// Checks a trace, and writes whether each pick is the lawful one, or the first that is not.
+#[tactic(auto, using(crate::proofs::Inputs::faulty_trace, crate::proofs::Inputs::told_lawful, crate::proofs::Inputs::unlawful_trace, crate::proofs::Inputs::told_in_part, crate::proofs::Inputs::told_unlawful))]
 #[inline(never)]
 pub(super) fn checked<R: Read + Drop, W: Write>(
     alloc: Global,
@@ -46,6 +57,7 @@ pub(super) fn checked<R: Read + Drop, W: Write>(
     ensures unlawful { result ≡ Ok answer.Unlawful → IfSome (R.remaining input) IsUnlawfulTrace }
     ensures input { IfErr result (λ e. status_of e ≡ 1 → IfSome (R.remaining input) IsFaultyTrace) }
     ensures untouched { IfErr result (λ e. (e ≡ fault.Write) ⊎ (output.new ≡ output.old)) }
+    ensures failed { IfErr result (λ e. (output.new ≡ output.old) ⊎ IfSome (R.remaining input) (FailsToWrite W.contents output.old output.new request.Check)) }
 {
     match check(alloc, input) {
         Ok(Checked::Lawful { picks }) => put_lawful(picks, output),

@@ -1,6 +1,6 @@
 // What a trace shows in numbers.
-ghost use Rattle.std.specs.Prelude.{◌≡◌, ◌⊎◌, Ok, IfErr, IfSome};
-ghost use Rattle.nvme_sim.specs.Inputs.{IsFaultyShown};
+ghost use Rattle.std.specs.Prelude.{◌≡◌, ◌⊎◌, Ok, IfErr, IfSome, OnOk};
+ghost use Rattle.nvme_sim.specs.Inputs.{IsFaultyShown, IsTrace};
 ghost use Rattle.nvme_sim.specs.Statuses.{status_of};
 ghost use Rattle.nvme_sim.specs.declared.faults.Fault.TheVariants as fault;
 ghost use Rattle.nvme_sim.specs.declared.commands.Answer.TheVariants as answer;
@@ -13,6 +13,7 @@ use std::alloc::Global;
 use std::io::{Read, Write};
 
 /// Writes what a trace shows in numbers.
+#[tactic(auto, using(crate::proofs::Inputs::faulty_shown, crate::proofs::Inputs::is_trace))]
 #[inline(never)]
 pub(super) fn counted<R: Read + Drop, W: Write>(
     alloc: Global,
@@ -22,7 +23,9 @@ pub(super) fn counted<R: Read + Drop, W: Write>(
 ) -> Result<Answer, Fault>
     ensures no_other { (result ≡ Ok answer.Warned) ⊎ (result ≡ Ok answer.Unlawful) → ⊥ }
     ensures input { IfErr result (λ e. status_of e ≡ 1 → IfSome (R.remaining input) IsFaultyShown) }
+    ensures done { OnOk result (IfSome (R.remaining input) IsTrace) }
     ensures untouched { IfErr result (λ e. (e ≡ fault.Write) ⊎ (output.new ≡ output.old)) }
+    ensures failed { IfErr result (λ e. (output.new ≡ output.old) ⊎ IfSome (R.remaining input) IsTrace) }
 {
     let statistics = match stats(alloc, input) {
         Ok(statistics) => statistics,

@@ -34,6 +34,7 @@ pub(super) fn linted<R: Read + Drop, W: Write>(
     ensures input { IfErr result (λ e. status_of e ≡ 1 → IfSome (R.remaining input) IsBadWorkload) }
     ensures quiet { result ≡ Ok answer.Done → output.new ≡ output.old }
     ensures untouched { IfErr result (λ e. (e ≡ fault.Write) ⊎ (output.new ≡ output.old)) }
+    ensures failed { IfErr result (λ e. (output.new ≡ output.old) ⊎ IfSome (R.remaining input) HasWarnings) }
 {
     let bytes = take_input(alloc, input).map_err(Fault::Input)?;
     let warnings = match lint(alloc, bytes.as_slice()) {

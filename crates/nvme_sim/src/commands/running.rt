@@ -1,9 +1,6 @@
 // Runs of a workload.
 ghost use Rattle.std.specs.Prelude.{◌≡◌, ◌⊎◌, Ok, IfErr, IfSome, OnOk};
-ghost use Rattle.std.specs.Io.KnownBytes.{Appends};
-ghost use Rattle.nvme_front.specs.declared.settled.Settled.{Settled};
-ghost use Rattle.nvme_report.specs.Report.{report_text};
-ghost use Rattle.nvme_runs.specs.Runs.{IsRun};
+ghost use Rattle.nvme_sim.specs.Answers.{Appended, AppendedPart, HasReport};
 ghost use Rattle.nvme_sim.specs.Statuses.{IsBadWorkload, status_of};
 ghost use Rattle.nvme_sim.specs.declared.faults.Fault.TheVariants as fault;
 ghost use Rattle.nvme_sim.specs.declared.commands.Answer.TheVariants as answer;
@@ -30,9 +27,10 @@ pub(super) fn ran<R: Read + Drop, W: Write, T: Threads + Wait + Sync>(
     output: &mut W,
 ) -> Result<Answer, Fault>
     ensures no_other { (result ≡ Ok answer.Warned) ⊎ (result ≡ Ok answer.Unlawful) → ⊥ }
-    ensures done { OnOk result (IfSome (R.remaining input) (λ bytes. (settled : Settled) × IsRun bytes mode settled × Appends (W.contents output.old) (W.contents output.new) (report_text mode settled))) }
+    ensures done { OnOk result (IfSome (R.remaining input) (HasReport (Appended W.contents output.old output.new) mode)) }
     ensures input { IfErr result (λ e. status_of e ≡ 1 → IfSome (R.remaining input) IsBadWorkload) }
     ensures untouched { IfErr result (λ e. (e ≡ fault.Run run_fault.Write) ⊎ (output.new ≡ output.old)) }
+    ensures failed { IfErr result (λ e. (output.new ≡ output.old) ⊎ IfSome (R.remaining input) (HasReport (AppendedPart W.contents output.old output.new) mode)) }
 {
     let text = take_input(alloc, input).map_err(Fault::Input)?;
     match run(rt, alloc, text.as_slice(), mode, workers, output) {

@@ -1,10 +1,6 @@
 // Traces of runs.
 ghost use Rattle.std.specs.Prelude.{◌≡◌, ◌⊎◌, Ok, IfErr, IfSome, OnOk};
-ghost use Rattle.std.specs.Io.KnownBytes.{Appends};
-ghost use Rattle.nvme_runs.specs.Ran.{BeginsAs};
-ghost use Rattle.nvme_runs.specs.Runs.{IsRun};
-ghost use Rattle.nvme_runs.specs.declared.runs.Ran.{Ran};
-ghost use Rattle.nvme_sim.specs.Inputs.{trace_of};
+ghost use Rattle.nvme_sim.specs.Answers.{Appended, AppendedPart, HasTrace};
 ghost use Rattle.nvme_sim.specs.Statuses.{IsBadWorkload, status_of};
 ghost use Rattle.nvme_sim.specs.declared.faults.Fault.TheVariants as fault;
 ghost use Rattle.nvme_sim.specs.declared.commands.Answer.TheVariants as answer;
@@ -31,9 +27,10 @@ pub(super) fn traced<R: Read + Drop, W: Write, T: Threads + Wait + Sync>(
     output: &mut W,
 ) -> Result<Answer, Fault>
     ensures no_other { (result ≡ Ok answer.Warned) ⊎ (result ≡ Ok answer.Unlawful) → ⊥ }
-    ensures done { OnOk result (IfSome (R.remaining input) (λ bytes. (ran : Ran) × BeginsAs bytes ran × IsRun bytes mode ran.settled × Appends (W.contents output.old) (W.contents output.new) (trace_of ran))) }
+    ensures done { OnOk result (IfSome (R.remaining input) (HasTrace (Appended W.contents output.old output.new) mode)) }
     ensures input { IfErr result (λ e. status_of e ≡ 1 → IfSome (R.remaining input) IsBadWorkload) }
     ensures untouched { IfErr result (λ e. (e ≡ fault.Write) ⊎ (output.new ≡ output.old)) }
+    ensures failed { IfErr result (λ e. (output.new ≡ output.old) ⊎ IfSome (R.remaining input) (HasTrace (AppendedPart W.contents output.old output.new) mode)) }
 {
     let text = take_input(alloc, input).map_err(Fault::Input)?;
     let ran = match settled_run(rt, alloc, text.as_slice(), mode, workers) {

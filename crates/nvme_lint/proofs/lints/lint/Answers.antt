@@ -10,7 +10,7 @@ use Rattle.nvme_workload.specs.Plan.{plan_in}
 use Rattle.nvme_workload.specs.declared.file.DocumentError.{DocumentError}
 use Rattle.nvme_workload.specs.declared.file.DocumentError.TheVariants as no_document
 use Rattle.nvme_workload.specs.declared.error.WorkloadError.TheVariants as why
-use Rattle.nvme_lint.proofs.Faults.{of_document, of_no_document, of_no_text, told_all, told_behind, told_fault, told_faults, told_lawful}
+use Rattle.nvme_lint.proofs.Faults.{of_document, of_no_document, of_no_text, told_all, told_fault, told_faults, told_lawful}
 use Rattle.nvme_lint.proofs.lints.lint.Goals as goal
 
 pub returns-in-Err-clause-fault : goal.returns-in-Err-clause-fault
@@ -22,9 +22,6 @@ returns-in-Err-clause-fault c =
       | inr not ↦ not
     ] in
     told_fault bytes why.NotUtf8 c.in_bytes.result (of_no_text bytes no) c.in_bytes.ensures.fault
-
-pub returns-in-Err-clause-place : goal.returns-in-Err-clause-place
-returns-in-Err-clause-place c = told_behind c.args.bytes.now c.min-valid.result c.in_bytes.result (search rules) c.in_bytes.ensures.place
 
 pub returns-in-Ok-document-clause-lawful : goal.returns-in-Ok-document-clause-lawful
 returns-in-Ok-document-clause-lawful c =
@@ -56,5 +53,5 @@ returns-in-Err-NotToml-clause-fault c =
     let text = is_utf8-from_IsUtf8 bytes c.in-Ok.ensures.cases.1 in
     let none : IsFaultOf c.in-Ok.text.now (no_document.NotToml c.in-Err-NotToml.error) =
     subst (λ (e : DocumentError). IsFaultOf c.in-Ok.text.now e) c.in-Err-NotToml.field-0-is c.in-Err-NotToml.ensures.not_toml in
-    let parsed = subst (λ (t : List ℕ). parse_document t ≡ None) c.in-Ok.ensures.cases.0 none in
+    let parsed = subst (λ (t : List ℕ). parse_document t ≡ None) c.in-Ok.ensures.cases.0 none.0 in
     told_fault bytes why.NotToml c.in_text.result (of_no_document bytes text parsed) c.in_text.ensures.fault

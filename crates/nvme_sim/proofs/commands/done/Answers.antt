@@ -3,8 +3,9 @@ use Rattle.std.proofs.Common.{◌≡◌, true}
 use Rattle.std.specs.Prelude.{codes}
 use Rattle.nvme_sim.specs.Inputs.{IsBadInput, IsFaultyShown, IsFaultyTrace}
 use Rattle.nvme_sim.specs.Statuses.{IsBadEntry, IsBadWorkload}
+use Rattle.nvme_sim.specs.declared.commands.Answer.TheVariants as answer
 use Rattle.nvme_words.specs.Words.{asks, reads_workload, shows_trace}
-use Rattle.nvme_sim.proofs.Inputs.{bad_check, bad_once, bad_run, bad_shown, faulty_is_bad, lint_reads_workload, of_kind, only_check, trace_reads_workload}
+use Rattle.nvme_sim.proofs.Inputs.{bad_check, bad_once, bad_run, bad_shown, faulty_is_bad, is_quiet, lint_reads_workload, no_fault_said, nothing_said, of_kind, on_done, only_check, trace_reads_workload}
 use Rattle.nvme_sim.proofs.commands.done.Goals as goal
 
 pub returns-in-Once-clause-input : goal.returns-in-Once-clause-input
@@ -76,3 +77,53 @@ returns-in-Stats-clause-lawful g c = λ is alone.
 pub returns-in-Help-clause-lawful : goal.returns-in-Help-clause-lawful
 returns-in-Help-clause-lawful g c = λ is alone.
     let none : ⊥ = rw c.in-Help.is at (only_check c.args.words.now c.args.request c.requires alone) in absurd none
+
+-- ---- what was written
+
+pub returns-in-Once-clause-done : goal.returns-in-Once-clause-done
+returns-in-Once-clause-done g c = λ is. rw c.in-Once.is (on_done c.answered.result answer.Done _ c.answered.ensures.done is)
+
+pub returns-in-Run-clause-done : goal.returns-in-Run-clause-done
+returns-in-Run-clause-done g c = λ is. rw c.in-Run.is (rw c.mode_of.ensures at (on_done c.ran.result answer.Done _ c.ran.ensures.done is))
+
+pub returns-in-Lint-clause-done : goal.returns-in-Lint-clause-done
+returns-in-Lint-clause-done g c = λ is. rw c.in-Lint.is (is_quiet c.args.output.now c.linted.new.output (g.R.Read.remaining c.args.input) (c.linted.ensures.none is) (c.linted.ensures.quiet is))
+
+pub returns-in-Check-clause-done : goal.returns-in-Check-clause-done
+returns-in-Check-clause-done g c = λ is. rw c.in-Check.is (c.checked.ensures.lawful is)
+
+pub returns-in-Trace-clause-done : goal.returns-in-Trace-clause-done
+returns-in-Trace-clause-done g c = λ is. rw c.in-Trace.is (rw c.mode_of-in-Trace.ensures at (on_done c.traced.result answer.Done _ c.traced.ensures.done is))
+
+pub returns-in-Chart-clause-done : goal.returns-in-Chart-clause-done
+returns-in-Chart-clause-done g c = λ is. rw c.in-Chart.is (on_done c.charted.result answer.Done _ c.charted.ensures.done is)
+
+pub returns-in-Stats-clause-done : goal.returns-in-Stats-clause-done
+returns-in-Stats-clause-done g c = λ is. rw c.in-Stats.is (on_done c.counted.result answer.Done _ c.counted.ensures.done is)
+
+pub returns-in-Help-clause-done : goal.returns-in-Help-clause-done
+returns-in-Help-clause-done g c = λ is. rw c.in-Help.is (nothing_said (g.R.Read.remaining c.args.input))
+
+pub returns-in-Once-clause-failed : goal.returns-in-Once-clause-failed
+returns-in-Once-clause-failed g c = rw c.in-Once.is c.answered.ensures.failed
+
+pub returns-in-Run-clause-failed : goal.returns-in-Run-clause-failed
+returns-in-Run-clause-failed g c = rw c.in-Run.is (rw c.mode_of.ensures at c.ran.ensures.failed)
+
+pub returns-in-Lint-clause-failed : goal.returns-in-Lint-clause-failed
+returns-in-Lint-clause-failed g c = rw c.in-Lint.is c.linted.ensures.failed
+
+pub returns-in-Check-clause-failed : goal.returns-in-Check-clause-failed
+returns-in-Check-clause-failed g c = rw c.in-Check.is c.checked.ensures.failed
+
+pub returns-in-Trace-clause-failed : goal.returns-in-Trace-clause-failed
+returns-in-Trace-clause-failed g c = rw c.in-Trace.is (rw c.mode_of-in-Trace.ensures at c.traced.ensures.failed)
+
+pub returns-in-Chart-clause-failed : goal.returns-in-Chart-clause-failed
+returns-in-Chart-clause-failed g c = rw c.in-Chart.is c.charted.ensures.failed
+
+pub returns-in-Stats-clause-failed : goal.returns-in-Stats-clause-failed
+returns-in-Stats-clause-failed g c = rw c.in-Stats.is c.counted.ensures.failed
+
+pub returns-in-Help-clause-failed : goal.returns-in-Help-clause-failed
+returns-in-Help-clause-failed g c = rw c.in-Help.is (no_fault_said c.helped.result _ (g.R.Read.remaining c.args.input))

@@ -1,0 +1,79 @@
+-- What the program writes for what its words ask for. (profile)
+use Rattle.std.specs.Prelude.{◌≡◌, ◌⊎◌, ℕ, List, Option, Ok, IfSome, String}
+use Rattle.std.specs.Global.{Global}
+use Rattle.std.specs.Io.KnownBytes.{Appends}
+use Rattle.nvme_output.specs.Written.{AppendsPrefix}
+use Rattle.nvme_front.specs.declared.settled.Settled.{Settled}
+use Rattle.nvme_report.specs.declared.reports.Mode.{Mode}
+use Rattle.nvme_report.specs.declared.reports.Mode.TheVariants.{Loaded, Live}
+use Rattle.nvme_report.specs.Report.{report_text}
+use Rattle.nvme_input.specs.Once.{IsAnswer, entry_text}
+use Rattle.nvme_runs.specs.Ran.{BeginsAs}
+use Rattle.nvme_runs.specs.Runs.{IsRun}
+use Rattle.nvme_runs.specs.declared.runs.Ran.{Ran}
+use Rattle.nvme_trace.specs.Checks.{IsLawfulText}
+use Rattle.nvme_words.specs.CommandLine.{OnCommandLine}
+use Rattle.nvme_words.specs.Requests.{IsAnswerTo}
+use Rattle.nvme_words.specs.declared.requests.Request.{Request}
+use Rattle.nvme_words.specs.declared.requests.Request.TheVariants as request
+use Rattle.nvme_words.specs.declared.requests.Submitting.{Submitting}
+use Rattle.nvme_words.specs.declared.requests.Submitting.TheVariants.{First, Meanwhile}
+use Rattle.nvme_sim.specs.Inputs.{HasNoWarning, HasWarnings, IsTrace, IsUnlawfulTrace, lawful_line, trace_of}
+
+-- the mode of a run whose hosts submit so
+abbrev pub mode_for : Submitting → Mode
+mode_for First = Loaded
+mode_for Meanwhile = Live
+
+-- ---- the text of an answer over an input, of which `came` says what was written
+
+-- the answer to one entry
+abbrev pub HasAnswer : (List ℕ → Type 0) → ℕ → List ℕ → Type 0
+HasAnswer came blocks bytes = (line : List ℕ) × IsAnswer (entry_text bytes) blocks line × came line
+
+-- the report of a run
+abbrev pub HasReport : (List ℕ → Type 0) → Mode → List ℕ → Type 0
+HasReport came mode bytes = (settled : Settled) × IsRun bytes mode settled × came (report_text mode settled)
+
+-- the trace of a run
+abbrev pub HasTrace : (List ℕ → Type 0) → Mode → List ℕ → Type 0
+HasTrace came mode bytes = (ran : Ran) × BeginsAs bytes ran × IsRun bytes mode ran.settled × came (trace_of ran)
+
+-- that each pick is the lawful one
+abbrev pub HasLawful : (List ℕ → Type 0) → List ℕ → Type 0
+HasLawful came bytes = (picks : ℕ) × IsLawfulText bytes picks × came (lawful_line picks)
+
+-- ---- what a request comes to, where the output was `old`, is `new`, and `contents` are its known bytes
+module _ {W : Type 0} (contents : W → Option (List ℕ)) (old new : W) where
+  abbrev pub Appended : List ℕ → Type 0
+  Appended text = Appends (contents old) (contents new) text
+
+  abbrev pub AppendedPart : List ℕ → Type 0
+  AppendedPart text = AppendsPrefix (contents old) (contents new) text
+
+  -- it is done. Of the texts of `clap`, of a picture and of statistics nothing is said
+  abbrev pub Does : Request → List ℕ → Type 0
+  Does (request.Once blocks) bytes = HasAnswer Appended blocks bytes
+  Does (request.Run when workers) bytes = HasReport Appended (mode_for when) bytes
+  Does request.Lint bytes = HasNoWarning bytes × (new ≡ old)
+  Does request.Check bytes = HasLawful Appended bytes
+  Does (request.Trace when workers) bytes = HasTrace Appended (mode_for when) bytes
+  Does request.Chart bytes = IsTrace bytes
+  Does (request.Stats format) bytes = IsTrace bytes
+  Does (request.Help text) bytes = Unit {0}
+
+  -- a write of its answer failed: a prefix of the answer was written. Of the texts of warnings and of a pick that isn't the lawful one
+  -- nothing is said either
+  abbrev pub FailsToWrite : Request → List ℕ → Type 0
+  FailsToWrite (request.Once blocks) bytes = HasAnswer AppendedPart blocks bytes
+  FailsToWrite (request.Run when workers) bytes = HasReport AppendedPart (mode_for when) bytes
+  FailsToWrite request.Lint bytes = HasWarnings bytes
+  FailsToWrite request.Check bytes = HasLawful AppendedPart bytes ⊎ IsUnlawfulTrace bytes
+  FailsToWrite (request.Trace when workers) bytes = HasTrace AppendedPart (mode_for when) bytes
+  FailsToWrite request.Chart bytes = IsTrace bytes
+  FailsToWrite (request.Stats format) bytes = IsTrace bytes
+  FailsToWrite (request.Help text) bytes = Unit {0}
+
+-- the words ask for something of which P holds
+abbrev pub Asked : List (String Global) → (Request → Type 0) → Type 0
+Asked words P = (asked : Request) × OnCommandLine (λ app. IsAnswerTo app words (Ok asked)) × P asked
