@@ -2,9 +2,9 @@
 use arrayvec::ArrayVec;
 use nvme_arbiter::{Arbiter, Class, Mechanism, QUEUE_LIMIT, Seen, Settings, is_observation};
 use nvme_log::{Event, Listed};
+use nvme_texts::Takes;
 use nvme_trace::{Checked, WriteFault, check, write_trace};
-use std::alloc::Global;
-use std::io::{Error, ErrorKind, Write};
+use std::alloc::{AllocError, Global};
 use std::test::*;
 
 // Numbers that look random (a linear congruential generator).
@@ -106,8 +106,8 @@ fn random_runs(rt: HostRuntime) -> Result<(), Fail> {
     Ok(())
 }
 
-#[test]
-fn trace_text(rt: HostRuntime) -> Result<(), Fail> {
+// A log with a pick, a change of the settings and an event that no trace tells.
+fn small_log(alloc: Global) -> Result<Vec<Event>, AllocError> {
     let queues = [
         (0, Class::Admin, 0),
         (1, Class::High, 5),
@@ -120,41 +120,47 @@ fn trace_text(rt: HostRuntime) -> Result<(), Fail> {
         fresh: true,
     };
     let settings = Settings::from_cdw11(33_554_690);
-    let seen = Listed::of(rt.alloc(), &queues)?;
-    let log = vec![in rt.alloc();
+    let seen = Listed::of(alloc, &queues)?;
+    Ok(vec![in alloc;
         Event::Pick { seen, pick },
         Event::OpenCq { qid: 1, region: 1 },
         Event::SetArbitration { settings },
-    ]?;
+    ]?)
+}
+
+const SMALL_TRACE: &str = "{\"version\":1,\"mechanism\":\"weighted\",\"cdw11\":50397185}
+{\"pick\":1,\"n\":2,\"fresh\":true,\"seen\":[[0,\"admin\",0],[1,\"high\",5],[16,\"low\",255]]}
+{\"set\":33554690}
+";
+
+#[test]
+fn trace_text(rt: HostRuntime) -> Result<(), Fail> {
+    let log = small_log(rt.alloc())?;
     let mut text = Vec::new(rt.alloc());
     let first = Settings::from_cdw11(50_397_185);
     assert_eq!(rt;
         write_trace(Mechanism::Weighted, first, log.as_slice(), &mut text),
         Ok(())
     );
-    let want =
-        "{\"version\":1,\"mechanism\":\"weighted\",\"cdw11\":50397185}\n{\"pick\":1,\"n\":2,\"fresh\":true,\"seen\":[[0,\"admin\",0],[1,\"high\",5],[16,\"low\",255]]}\n{\"set\":33554690}\n";
-    assert_eq!(rt; text.as_slice(), want.as_bytes());
+    assert_eq!(rt; text.as_slice(), SMALL_TRACE.as_bytes());
     Ok(())
 }
 
-// A writer that fails.
-#[derive(Drop)]
-struct Full;
-
-impl Write for Full {
-    fn write(&mut self, _buf: &[u8]) -> std::io::Result<usize> {
-        Err(Error::from(ErrorKind::Other))
-    }
-
-    fn flush(&mut self) -> std::io::Result<()> {
-        Ok(())
-    }
-}
-
 #[test]
-fn writer_fails(rt: HostRuntime) {
-    let settings = Settings::from_cdw11(0);
-    let written = write_trace(Mechanism::Weighted, settings, &[], &mut Full);
-    assert_eq!(rt; written, Err(WriteFault));
+fn writer_fails(rt: HostRuntime) -> Result<(), Fail> {
+    let log = small_log(rt.alloc())?;
+    let first = Settings::from_cdw11(50_397_185);
+    for room in 0..SMALL_TRACE.len() {
+        let mut output = Takes {
+            taken: Vec::new(rt.alloc()),
+            room,
+            fails: room % 2 == 0,
+        };
+        assert_eq!(rt;
+            write_trace(Mechanism::Weighted, first, log.as_slice(), &mut output),
+            Err(WriteFault)
+        );
+        assert_eq!(rt; output.taken.as_slice(), &SMALL_TRACE.as_bytes()[..room]);
+    }
+    Ok(())
 }
