@@ -1,8 +1,10 @@
-//! What the program `nvmearb` does, over values and streams that are handed in.
+//! What the program `nvmearb` does, over values and streams that are handed in. That lint foresees the
+//! answers of runs is a law in `laws`.
 #![tactic(auto)]
 
 mod commands;
 mod faults;
+pub mod laws;
 mod output;
 
 pub use commands::command;
