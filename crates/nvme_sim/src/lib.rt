@@ -3,6 +3,7 @@
 
 mod commands;
 mod faults;
+pub mod laws;
 mod output;
 
 pub use commands::command;
