@@ -13,7 +13,7 @@ pub fn front_faults_are_strays()
     ensures { FrontFaultsAreStrays }
 {}
 
-/// The completion of each admin command of a run says the status that the commands before it in its script let foresee.
+/// The completion of each admin command of a run has the status that follows from the commands before it in its script.
 pub fn runs_answer_as_foreseen()
     ensures { RunsAnswerAsForeseen }
 {}

@@ -1,12 +1,12 @@
-// What reading a text may take of memory, by a look at it before it is read.
+// Bounds the memory that reading a text takes, before the text is read.
 
 /// The most memory that reading a workload file may take, in bytes. A text for which this may not be enough is refused
 /// with `NoMemory` before it is read. (profile)
 pub const MAX_MEMORY: u64 = 0x2000_0000;
 
-// What each byte of a text takes at most, in copies of it and as a part of a string, and what the marks take that make
-// the parts of a document: an item of an array, an array or a header, a further member of a table, the first member of
-// a table, and a table that a dot makes. As measured, and some more.
+// The most bytes of memory that each byte of a text takes, in copies of it and as a part of a string. Then the most
+// that each mark takes which makes a part of a document: an item of an array, an array or a header, a further member of
+// a table, the first member of a table, and a table that a dot makes. Measured, with a margin.
 const BYTE: u64 = 8;
 
 const ITEM: u64 = 64;
@@ -19,11 +19,10 @@ const FIRST_MEMBER: u64 = 1_300;
 
 const DOT: u64 = 1_300;
 
-// So deep the `toml` crate doesn't read: at 80 arrays and inline tables in one another, and at a key of 80 parts, it
-// stops.
+// Deeper than the `toml` crate reads: it stops at 80 nested arrays and inline tables, and at a key of 80 parts.
 const DEEP: u64 = 256;
 
-// Where a byte of a text stands.
+// Where a byte of a text is.
 #[derive(Clone, Copy)]
 enum Within {
     // Outside of strings and comments.
@@ -39,7 +38,7 @@ enum Within {
     Escape { is_lines: bool },
 }
 
-// Behind a byte that stands outside.
+// Where the text is behind a byte outside of strings and comments.
 fn behind_plain(byte: u8) -> Within {
     match byte {
         b'#' => Within::Comment,
@@ -51,7 +50,7 @@ fn behind_plain(byte: u8) -> Within {
     }
 }
 
-// Behind a byte of a string of one line.
+// Where the text is behind a byte of a string of one line.
 fn behind_line(quote: u8, byte: u8) -> Within {
     if byte == quote || byte == b'\n' {
         Within::Plain
@@ -62,7 +61,7 @@ fn behind_line(quote: u8, byte: u8) -> Within {
     }
 }
 
-// Behind a byte of a string of several lines.
+// Where the text is behind a byte of a string of several lines.
 fn behind_lines(quote: u8, count: u8, byte: u8) -> Within {
     if byte == quote {
         Within::Lines {
@@ -77,7 +76,8 @@ fn behind_lines(quote: u8, count: u8, byte: u8) -> Within {
 }
 
 impl Within {
-    // Whether the next byte, which is this one, stands outside, where strings end behind their last quote.
+    // Whether the next byte, which is this one, is outside of strings and comments. A string ends behind its last
+    // quote.
     fn is_plain(self, byte: u8) -> bool {
         match self {
             Within::Plain => true,
@@ -87,7 +87,7 @@ impl Within {
         }
     }
 
-    // Behind the next byte, which doesn't stand outside.
+    // Where the text is behind the next byte, which is in a string or a comment.
     fn behind(self, byte: u8) -> Within {
         match self {
             Within::Comment if byte != b'\n' => Within::Comment,
@@ -119,7 +119,7 @@ struct Look {
     within: Within,
     // The memory of all marks so far.
     memory: u64,
-    // The next member is the first of a table.
+    // Whether the next member is the first of a table.
     is_first: bool,
     // How many brackets and braces are open, and how many dots the key has so far.
     open: u64,
@@ -127,7 +127,7 @@ struct Look {
 }
 
 impl Look {
-    // Takes a byte that stands outside of strings and comments.
+    // Takes a byte outside of strings and comments.
     fn take_plain(&mut self, byte: u8) {
         let memory = match byte {
             b'[' => BRACKET,
@@ -171,8 +171,8 @@ impl Look {
     }
 }
 
-/// Whether `MAX_MEMORY` is enough to read a text. It is for each workload, whether its script items are inline tables
-/// or have headers of their own.
+/// Whether `MAX_MEMORY` is enough to read a text. It is enough for every workload, whether its script items are inline
+/// tables or have headers of their own.
 pub(crate) fn is_enough_for(text: &[u8]) -> bool {
     let mut look = Look {
         within: Within::Plain,
