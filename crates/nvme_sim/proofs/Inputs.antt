@@ -37,7 +37,7 @@ use Rattle.nvme_words.specs.declared.requests.Request.{Request}
 use Rattle.nvme_words.specs.declared.requests.Request.TheVariants as request
 use Rattle.nvme_words.specs.Words.{asks, asks_alone, is_option, reads_workload, shows_trace}
 
--- an entry that is none is one of the faults of an entry
+-- a text that isn't an entry has one of the faults of an entry
 pub bad_entry : {T : Type 0} (input : Option (List ℕ)) (bytes : List ℕ) (e : OnceError) → IfSome input (λ rest. bytes ≡ rest)
     → (IsErrOf {T = T} (Err e) entry.Length ↔ (length (entry_text bytes) ≢ 128))
     → (IsErrOf {T = T} (Err e) entry.Digit ↔ ((length (entry_text bytes) ≡ 128) × ¬ AllPass is_hex_digit (entry_text bytes))) → IfSome input IsBadEntry

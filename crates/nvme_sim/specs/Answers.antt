@@ -20,12 +20,12 @@ use Rattle.nvme_words.specs.declared.requests.Submitting.{Submitting}
 use Rattle.nvme_words.specs.declared.requests.Submitting.TheVariants.{First, Meanwhile}
 use Rattle.nvme_sim.specs.Inputs.{HasNoWarning, HasWarnings, IsTrace, IsUnlawfulTrace, lawful_line, trace_of}
 
--- the mode of a run whose hosts submit so
+-- the mode of a run whose hosts submit at this time
 abbrev pub mode_for : Submitting → Mode
 mode_for First = Loaded
 mode_for Meanwhile = Live
 
--- ---- the text of an answer over an input, of which `came` says what was written
+-- ---- the text of an answer to an input, where `came` says what was written
 
 -- the answer to one entry
 abbrev pub HasAnswer : (List ℕ → Type 0) → ℕ → List ℕ → Type 0
@@ -39,11 +39,11 @@ HasReport came mode bytes = (settled : Settled) × IsRun bytes mode settled × c
 abbrev pub HasTrace : (List ℕ → Type 0) → Mode → List ℕ → Type 0
 HasTrace came mode bytes = (ran : Ran) × BeginsAs bytes ran × IsRun bytes mode ran.settled × came (trace_of ran)
 
--- that each pick is the lawful one
+-- the line that says that each pick is the lawful one
 abbrev pub HasLawful : (List ℕ → Type 0) → List ℕ → Type 0
 HasLawful came bytes = (picks : ℕ) × IsLawfulText bytes picks × came (lawful_line picks)
 
--- ---- what a request comes to, where the output was `old`, is `new`, and `contents` are its known bytes
+-- ---- the effect of a request, where the output was `old` and is `new`, and `contents` are its known bytes
 module _ {W : Type 0} (contents : W → Option (List ℕ)) (old new : W) where
   abbrev pub Appended : List ℕ → Type 0
   Appended text = Appends (contents old) (contents new) text
@@ -51,7 +51,7 @@ module _ {W : Type 0} (contents : W → Option (List ℕ)) (old new : W) where
   abbrev pub AppendedPart : List ℕ → Type 0
   AppendedPart text = AppendsPrefix (contents old) (contents new) text
 
-  -- it is done. Of the texts of `clap`, of a picture and of statistics nothing is said
+  -- it succeeded. Nothing is said of the texts of `clap`, of a picture and of statistics
   abbrev pub Does : Request → List ℕ → Type 0
   Does (request.Once blocks) bytes = HasAnswer Appended blocks bytes
   Does (request.Run when workers) bytes = HasReport Appended (mode_for when) bytes

@@ -1,4 +1,4 @@
--- The inputs at fault by what the words ask for, and what is written of a trace. (profile)
+-- The inputs that are at fault, by what the words ask for, and what is written of a trace. (profile)
 use Rattle.std.specs.Prelude.{◌≡◌, ◌⊎◌, ℕ, true, List, [], ◌∷◌, ◌++◌, Option, IfSome, String, codes, decimal}
 use Rattle.std.specs.Global.{Global}
 use Rattle.std.specs.Io.KnownBytes.{Appends}
@@ -30,7 +30,7 @@ IsBadTrace bytes = IsFaultyTrace bytes ⊎ IsUnlawfulTrace bytes
 abbrev pub trace_of : Ran → List ℕ
 trace_of ran = trace_text ran.mechanism ran.settings ran.settled.log.items
 
--- the line that tells that so many picks are lawful
+-- the line that says that this many picks are lawful
 abbrev pub lawful_line : ℕ → List ℕ
 lawful_line picks = codes "lawful: " ++ decimal picks ++ codes " picks\n"
 

@@ -31,17 +31,17 @@ use std::sync::Wait;
 use std::thread::Threads;
 use tracing::traced;
 
-// How the program ends where it meets no fault.
+// How the program ends where there is no fault.
 #[derive(Clone, Copy, Debug, PartialEq, Eq)]
 enum Answer {
     Done,
-    // A pick of a trace is not the lawful one.
+    // A pick of a trace isn't the lawful one.
     Unlawful,
-    // There are warnings of a lawful workload.
+    // A valid workload has warnings.
     Warned,
 }
 
-// The mode of a run whose hosts submit so.
+// The mode of a run whose hosts submit at this time.
 fn mode_of(submitting: Submitting) -> Mode
     ensures { result ≡ mode_for submitting }
 {
@@ -51,7 +51,7 @@ fn mode_of(submitting: Submitting) -> Mode
     }
 }
 
-// Writes the text of the help, or of the version.
+// Writes the text of the help, or the version.
 fn helped<W: Write>(text: clap::Error, output: &mut W) -> Result<Answer, Fault>
     ensures no_other { (result ≡ Ok answer.Warned) ⊎ (result ≡ Ok answer.Unlawful) → ⊥ }
     ensures write { IfErr result (λ e. e ≡ fault.Write) }
@@ -120,21 +120,22 @@ fn served<R: Read + Drop, W: Write, T: Threads + Wait + Sync>(
     }
 }
 
-/// The whole program `nvmearb` over its words (the program's name first), its input, its output and its standard error.
-/// The input is that of the file that the words name (`file_named`), else standard input. The answer is its status:
+/// The whole program `nvmearb`, over its words (the program's name first), its input, its output and its standard
+/// error. The input is the file that the words name (`file_named`), or standard input. The answer is the exit status:
 ///
-/// - 0: done;
-/// - 1: the input is at fault, or with `check` a pick is not the lawful one, and that is on the output;
+/// - 0: success;
+/// - 1: the input is at fault, or with `check` a pick isn't the lawful one, which the output says;
 /// - 2: the command line is at fault;
-/// - 3: the run is: a read or a write failed, memory was refused, or a workload couldn't be run to its end;
-/// - 4: there are warnings of a lawful workload.
+/// - 3: the run failed: a read or a write failed, memory was refused, or a workload couldn't be run to its end;
+/// - 4: a valid workload has warnings.
 ///
-/// At 0 the output got the answer of what the words ask for, whole: the completion of the entry, the report or the trace
-/// of a run, nothing for a workload without warnings, or the line that tells how many picks are lawful; of a picture, of
-/// statistics and of the texts of `clap` the clauses don't say what they are. At 2 it is as it was, and so it is at 1, but
-/// for the answer of `check`, and at 3, unless a write failed: then it got a prefix of such an answer.
+/// With 0 the output has the whole answer to what the words ask for: the completion of the entry, the report or the
+/// trace of a run, nothing for a workload without warnings, or the line with the number of lawful picks. Of a picture,
+/// of statistics and of the texts of `clap` the clauses don't say what they are. With 2 the output is as it was. So it
+/// is with 1, except for the answer of `check`, and with 3, unless a write failed: then it has a prefix of such an
+/// answer.
 ///
-/// With a fault one line, or the words of `clap`, went to `errors`, and a write that failed there is ignored. It may
+/// A fault is told on `errors` in one line, or in the text of `clap`, and a write that fails there is ignored. It may
 /// wait for another thread.
 pub fn command<R: Read + Drop, W: Write, E: Write, T: Threads + Wait + Sync>(
     rt: &T,

@@ -1,4 +1,4 @@
-// The picture of a trace.
+// Draws a trace.
 ghost use Rattle.std.specs.Prelude.{◌≡◌, ◌⊎◌, Ok, IfErr, IfSome, OnOk};
 ghost use Rattle.nvme_sim.specs.Inputs.{IsFaultyShown, IsTrace};
 ghost use Rattle.nvme_sim.specs.Statuses.{status_of};
@@ -11,7 +11,7 @@ use nvme_chart::chart;
 use std::alloc::Global;
 use std::io::{Read, Write};
 
-/// Writes a picture of a trace.
+/// Writes a picture of a trace, as SVG.
 #[tactic(auto, using(crate::proofs::Inputs::faulty_shown, crate::proofs::Inputs::is_trace))]
 #[inline(never)]
 pub(super) fn charted<R: Read + Drop, W: Write>(

@@ -1,4 +1,4 @@
-// The check of a trace.
+// Checks a trace.
 ghost use Rattle.std.specs.Prelude.{◌≡◌, ◌⊎◌, Ok, IfErr, IfSome, OnOk};
 ghost use Rattle.std.specs.Io.KnownBytes.{Appends};
 ghost use Rattle.nvme_output.specs.Written.{AppendsPrefix};
@@ -16,7 +16,7 @@ use nvme_trace::{Checked, Unlawful, check};
 use std::alloc::Global;
 use std::io::{Read, Write};
 
-// Writes that so many picks are lawful.
+// Writes that this many picks are lawful.
 fn put_lawful<W: Write>(picks: u64, output: &mut W) -> Result<Answer, Fault>
     ensures done { OnOk result ((result ≡ Ok answer.Done) × Appends (W.contents output.old) (W.contents output.new) (lawful_line picks)) }
     ensures failed { IfErr result (λ e. AppendsPrefix (W.contents output.old) (W.contents output.new) (lawful_line picks)) }
@@ -33,7 +33,7 @@ fn put_lawful<W: Write>(picks: u64, output: &mut W) -> Result<Answer, Fault>
     }
 }
 
-// Writes the first pick that is not the lawful one.
+// Writes the first pick that isn't the lawful one.
 fn put_unlawful<W: Write>(unlawful: &Unlawful, output: &mut W) -> Result<Answer, Fault>
     ensures unlawful { OnOk result (result ≡ Ok answer.Unlawful) }
     ensures write { IfErr result (λ e. e ≡ fault.Write) }
@@ -44,7 +44,7 @@ fn put_unlawful<W: Write>(unlawful: &Unlawful, output: &mut W) -> Result<Answer,
     }
 }
 
-/// Checks a trace, and writes whether each pick is the lawful one, or the first that is not.
+/// Checks a trace, and writes that each pick is the lawful one, or the first that isn't.
 #[tactic(auto, using(crate::proofs::Inputs::faulty_trace, crate::proofs::Inputs::told_lawful, crate::proofs::Inputs::unlawful_trace, crate::proofs::Inputs::told_in_part, crate::proofs::Inputs::told_unlawful))]
 #[inline(never)]
 pub(super) fn checked<R: Read + Drop, W: Write>(

@@ -1,4 +1,4 @@
-// What a trace shows in numbers.
+// Writes statistics of a trace.
 ghost use Rattle.std.specs.Prelude.{◌≡◌, ◌⊎◌, Ok, IfErr, IfSome, OnOk};
 ghost use Rattle.nvme_sim.specs.Inputs.{IsFaultyShown, IsTrace};
 ghost use Rattle.nvme_sim.specs.Statuses.{status_of};
@@ -12,7 +12,7 @@ use nvme_words::Format;
 use std::alloc::Global;
 use std::io::{Read, Write};
 
-/// Writes what a trace shows in numbers.
+/// Writes statistics of a trace, as text or as JSON.
 #[tactic(auto, using(crate::proofs::Inputs::faulty_shown, crate::proofs::Inputs::is_trace))]
 #[inline(never)]
 pub(super) fn counted<R: Read + Drop, W: Write>(

@@ -1,4 +1,4 @@
-// What the writer of a workload wants to know.
+// Checks a workload for its writer.
 ghost use Rattle.std.specs.Prelude.{◌≡◌, ◌⊎◌, Ok, IfErr, IfSome};
 ghost use Rattle.nvme_sim.specs.Inputs.{HasNoWarning, HasWarnings};
 ghost use Rattle.nvme_sim.specs.Statuses.{IsBadWorkload, status_of};
@@ -20,7 +20,7 @@ fn write_warnings<W: Write>(warnings: &[Warning], output: &mut W) -> io::Result<
     Ok(())
 }
 
-/// Tells where a workload is at fault, or writes what of it comes to nothing.
+/// Refuses a faulty workload with the place of its first fault, or writes what of a valid one has no effect.
 #[tactic(auto, using(crate::proofs::Inputs::bad_file, crate::proofs::Inputs::has_warnings, crate::proofs::Inputs::has_no_warning))]
 #[inline(never)]
 pub(super) fn linted<R: Read + Drop, W: Write>(
