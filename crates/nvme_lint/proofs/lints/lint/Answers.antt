@@ -10,7 +10,7 @@ use Rattle.nvme_workload.specs.Plan.{plan_in}
 use Rattle.nvme_workload.specs.declared.file.DocumentError.{DocumentError}
 use Rattle.nvme_workload.specs.declared.file.DocumentError.TheVariants as no_document
 use Rattle.nvme_workload.specs.declared.error.WorkloadError.TheVariants as why
-use Rattle.nvme_lint.proofs.Faults.{of_document, of_no_document, of_no_text, told_all, told_fault, told_faults, told_lawful}
+use Rattle.nvme_lint.proofs.Faults.{of_document, of_no_document, of_no_text, told_all, told_fault, told_faults, told_lawful, told_of_bytes}
 use Rattle.nvme_lint.proofs.lints.lint.Goals as goal
 
 pub returns-in-Err-clause-fault : goal.returns-in-Err-clause-fault
@@ -55,3 +55,6 @@ returns-in-Err-NotToml-clause-fault c =
     subst (λ (e : DocumentError). IsFaultOf c.in-Ok.text.now e) c.in-Err-NotToml.field-0-is c.in-Err-NotToml.ensures.not_toml in
     let parsed = subst (λ (t : List ℕ). parse_document t ≡ None) c.in-Ok.ensures.cases.0 none.0 in
     told_fault bytes why.NotToml c.in_text.result (of_no_document bytes text parsed) c.in_text.ensures.fault
+
+pub returns-in-Err-clause-place : goal.returns-in-Err-clause-place
+returns-in-Err-clause-place c = told_of_bytes c.args.bytes.now c.valid_up_to.result c.in_bytes.result (search rules) c.in_bytes.ensures.place
