@@ -116,6 +116,13 @@ takes_first (Some ys) front rest x e = ap (λ (l : List ℕ). l ++ ys) e
 pub takes_byte : (known : Option (List ℕ)) (xs : List ℕ) (a b x : ℕ) → a < b → b ≤ length xs → x ≡ get_or xs a x → Consumes (prepend_known (slice_range xs a b) known) (prepend_known (slice_range xs (a + 1) b) known) (x ∷ [])
 takes_byte known xs a b x lt le is = takes_first known _ _ x (range_first xs a b x lt le ∙ ap (λ (y : ℕ). y ∷ slice_range xs (a + 1) b) (sym is))
 
+-- what is kept twice is kept
+pub keeps_keeps : (a b c : Option (List ℕ)) → Keeps a b → Keeps b c → Keeps a c
+keeps_keeps None b c p q = tt
+keeps_keeps (Some xs) None c p q = absurd p
+keeps_keeps (Some xs) (Some ys) None p q = absurd q
+keeps_keeps (Some xs) (Some ys) (Some zs) p q = q ∙ p
+
 pub keeps_consumes : (a b c : Option (List ℕ)) (bs : List ℕ) → Keeps a b → Consumes b c bs → Consumes a c bs
 keeps_consumes None b c bs k p = tt
 keeps_consumes (Some xs) None c bs k p = absurd k

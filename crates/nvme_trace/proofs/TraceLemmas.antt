@@ -32,6 +32,7 @@ failed faults.NoHead reading f n = f
 failed faults.TooLong reading f n = f
 failed faults.NotUtf8 reading f n = f
 failed faults.NotJson reading f n = f
+failed faults.NotObject reading f n = f
 failed (faults.Missing field) reading f n = f
 failed (faults.Bad field) reading f n = f
 failed faults.Unknown reading f n = f

@@ -3,7 +3,7 @@ use Rattle.std.specs.Prelude.{ℕ, ◌==◌, nat_lt, if◌then◌else◌, codes,
 use Rattle.std.specs.Cmp.Lexicographic.{pointwise}
 use Rattle.std.specs.Str.{is_utf8}
 use Rattle.serde_json.specs.Data.{Data, Items, no_items, item}
-use Rattle.serde_json.specs.Find.{get, at, as_str, as_array}
+use Rattle.serde_json.specs.Find.{get, at, as_str, as_array, as_object}
 use Rattle.serde_json.specs.Read.{read}
 use Rattle.nvme_arbiter.specs.Limits.{queue_limit}
 use Rattle.nvme_arbiter.specs.Observation.{is_observation_from}
@@ -15,7 +15,7 @@ use Rattle.nvme_arbiter.specs.declared.settings.Mechanism.{Mechanism}
 use Rattle.nvme_arbiter.specs.declared.settings.Mechanism.TheVariants.{RoundRobin, Weighted}
 use Rattle.nvme_arbiter.specs.declared.pick.Seen.{Seen}
 use Rattle.nvme_trace.specs.declared.fault.LineFault.{LineFault}
-use Rattle.nvme_trace.specs.declared.fault.LineFault.TheVariants.{TooLong, NotUtf8, NotJson, Bad, NotObservation}
+use Rattle.nvme_trace.specs.declared.fault.LineFault.TheVariants.{TooLong, NotUtf8, NotJson, NotObject, Bad, NotObservation}
 use Rattle.nvme_trace.specs.declared.fault.Field.TheVariants as field
 use Rattle.nvme_trace.specs.declared.reading.Head.{Head}
 use Rattle.nvme_trace.specs.declared.reading.TraceEvent.{TraceEvent}
@@ -122,11 +122,21 @@ event_in d = if is_some (get (text_of field.Set) d) then set_in d else pick_in d
 unfoldable pub data_of : List ℕ → Result Data LineFault
 data_of line = if nat_lt longest_line (length line) then Err TooLong else (if is_utf8 line then ok_or (read line) NotJson else Err NotUtf8)
 
+-- its value is an object
+unfoldable pub object_in : Data → Result (Unit {0}) LineFault
+object_in d = if is_some (as_object d) then Ok tt else Err NotObject
+
 unfoldable pub head_of_line : List ℕ → Result Head LineFault
-head_of_line line = data_of line >>= head_in
+head_of_line line = do
+  d ← data_of line
+  object_in d
+  head_in d
 
 unfoldable pub event_of_line : List ℕ → Result ArbitrationEvent LineFault
-event_of_line line = data_of line >>= event_in
+event_of_line line = do
+  d ← data_of line
+  object_in d
+  event_in d
 
 -- an event of the code as one of a history
 abbrev pub event_view : TraceEvent → ArbitrationEvent

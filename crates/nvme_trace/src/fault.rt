@@ -61,6 +61,9 @@ pub enum LineFault {
     /// It isn't one JSON value.
     #[error("not JSON")]
     NotJson,
+    /// Its value is no object.
+    #[error("no object")]
+    NotObject,
     /// A field that the line must have is missing.
     #[error("missing {name}", name = .0.name())]
     Missing(Field),

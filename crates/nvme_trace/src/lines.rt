@@ -2,10 +2,13 @@
 ghost use Rattle.std.specs.Prelude.{◌≤◌};
 
 use std::alloc::AllocFailed;
-use std::io::Read;
+use std::io::{self, ErrorKind, Read};
 
 // The number of bytes that one read asks for.
 const CHUNK: usize = 16_384;
+
+// How often a read is made that is interrupted each time.
+const MAX_READS: u32 = 67_108_864;
 
 // The most bytes of a line, not counting its newline.
 const LONGEST_LINE: usize = 4_096;
@@ -66,22 +69,36 @@ impl<R: Read> Lines<R> {
         }
     }
 
-    // Reads a chunk where none is left. If it is empty afterwards, the text is at its end.
+    // Reads a chunk where none is left, by one read. If it is empty afterwards, the text is at its end.
+    fn read_chunk(&mut self) -> io::Result<()>
+        requires { self.old.start ≡ self.old.end }
+        ensures kept { Keeps (unread R.remaining self.old) (unread R.remaining self.new) }
+        ensures end { OnOk result (self.new.start ≡ self.new.end → IsAtEnd (unread R.remaining self.new)) }
+        ensures none { IfErr result (λ e. self.new.start ≡ self.new.end) }
+    {
+        self.start = 0;
+        self.end = 0;
+        self.end = self.reader.read(&mut self.chunk)?;
+        Ok(())
+    }
+
+    // Reads a chunk where none is left. If it is empty afterwards, the text is at its end. A read that a signal interrupts is
+    // made again.
+    #[tactic(auto, using(crate::proofs::LineLemmas::keeps_keeps))]
     fn fill(&mut self) -> Result<(), NextError>
         requires { self.old.start ≡ self.old.end }
         ensures kept { Keeps (unread R.remaining self.old) (unread R.remaining self.new) }
         ensures end { OnOk result (self.new.start ≡ self.new.end → IsAtEnd (unread R.remaining self.new)) }
         ensures err { IfErr result (λ e. e ≡ error.Read) }
     {
-        self.start = 0;
-        self.end = 0;
-        match self.reader.read(&mut self.chunk) {
-            Ok(count) => {
-                self.end = count;
-                Ok(())
+        for _ in 0..MAX_READS {
+            match self.read_chunk() {
+                Ok(()) => return Ok(()),
+                Err(error) if error.kind() == ErrorKind::Interrupted => {}
+                Err(_) => return Err(NextError::Read),
             }
-            Err(_) => Err(NextError::Read),
         }
+        Err(NextError::Read)
     }
 
     // Takes the first byte that isn't taken yet.

@@ -2,7 +2,7 @@
 ghost use Rattle.std.specs.Prelude.{◌≡◌, ◌≤◌, length, option_map, ok_or, IfOk, IfSome};
 ghost use Rattle.serde_json.specs.View.{view};
 ghost use Rattle.nvme_trace.specs.Readings.{Gives, seen_by, only, value_at, whole, number_at, flag_at, field_count};
-ghost use Rattle.nvme_trace.specs.Format.{longest_line, mechanism_of, head_in, class_named, number_of_part, class_of_part, part_count, triple_of, queue_of, queues_of, observation_of, set_in, pick_in, event_in, data_of, head_of_line, event_of_line, event_view};
+ghost use Rattle.nvme_trace.specs.Format.{longest_line, mechanism_of, head_in, class_named, number_of_part, class_of_part, part_count, triple_of, queue_of, queues_of, observation_of, set_in, pick_in, event_in, data_of, object_in, head_of_line, event_of_line, event_view};
 ghost use Rattle.serde_json.specs.Read.{read};
 ghost use Rattle.nvme_arbiter.specs.Observation.{IsObservation};
 ghost use Rattle.nvme_trace.specs.Judged.{IsObserved};
@@ -286,13 +286,26 @@ fn data_of(alloc: Global, line: &[u8]) -> Result<Value, LineFault>
     }
 }
 
+// That a line is an object.
+#[tactic(auto, unfolding(crate::specs::Format::object_in))]
+fn object_in(line: &Value) -> Result<(), LineFault>
+    ensures { result ≡ object_in (view line.now) }
+{
+    match line.as_object() {
+        Some(_) => Ok(()),
+        None => Err(LineFault::NotObject),
+    }
+}
+
 /// What the first line says.
 #[tactic(auto, unfolding(crate::specs::Format::head_of_line))]
 pub(crate) fn head_of_line(alloc: Global, line: &[u8]) -> Result<Head, LineFault>
     requires { length line.now ≤ longest_line }
     ensures { Gives result (head_of_line line.now) }
 {
-    head_in(&data_of(alloc, line)?)
+    let value = data_of(alloc, line)?;
+    object_in(&value)?;
+    head_in(&value)
 }
 
 /// What a later line says.
@@ -302,5 +315,7 @@ pub(crate) fn event_of_line(alloc: Global, line: &[u8]) -> Result<TraceEvent, Li
     ensures value { Gives (seen_by event_view result) (event_of_line line.now) }
     ensures observed { IfOk result (λ e. IsObserved (event_view e)) }
 {
-    event_in(&data_of(alloc, line)?)
+    let value = data_of(alloc, line)?;
+    object_in(&value)?;
+    event_in(&value)
 }

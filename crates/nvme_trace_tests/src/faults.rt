@@ -1,5 +1,6 @@
 // Each fault of a text, with its line.
-use nvme_trace::{TraceError, check};
+use crate::examples::CHANGED;
+use nvme_trace::{Checked, TraceError, check};
 use std::alloc::Global;
 use std::io::{Error, ErrorKind, Read};
 use std::test::*;
@@ -20,7 +21,8 @@ fn heads(rt: HostRuntime) -> Result<(), Fail> {
         ("", "trace: line 1: no head"),
         ("\n", "trace: line 1: not JSON"),
         ("{", "trace: line 1: not JSON"),
-        ("[1]", "trace: line 1: missing version"),
+        ("[1]", "trace: line 1: no object"),
+        ("{}", "trace: line 1: missing version"),
         (
             "{\"mechanism\":\"weighted\",\"cdw11\":0}",
             "trace: line 1: missing version",
@@ -61,6 +63,12 @@ fn events(rt: HostRuntime) -> Result<(), Fail> {
     for (line, want) in [
         ("", "not JSON"),
         ("{}", "missing pick"),
+        ("[]", "no object"),
+        ("5", "no object"),
+        ("null", "no object"),
+        ("\"pick\"", "no object"),
+        ("1e400", "not JSON"),
+        ("\"\\ud800\"", "not JSON"),
         ("{\"set\":-1}", "bad set"),
         ("{\"set\":0,\"pick\":1}", "unknown field"),
         ("{\"pick\":65536}", "bad pick"),
@@ -167,4 +175,34 @@ impl Read for Fails {
 fn reader_fails(rt: HostRuntime) {
     assert_eq!(rt; check(rt.alloc(), Fails(true)), Err(TraceError::Read));
     assert_eq!(rt; check(rt.alloc(), Fails(false)), Err(TraceError::Read));
+}
+
+// A reader of a text of which a signal interrupts each other read.
+#[derive(Drop)]
+struct Interrupted<'a> {
+    text: &'a [u8],
+    is_next: bool,
+}
+
+impl Read for Interrupted<'_> {
+    fn read(&mut self, buf: &mut [u8]) -> std::io::Result<usize> {
+        self.is_next = !self.is_next;
+        if self.is_next {
+            return Err(Error::from(ErrorKind::Interrupted));
+        }
+        let count = self.text.len().min(buf.len()).min(7);
+        buf[..count].copy_from_slice(&self.text[..count]);
+        self.text = &self.text[count..];
+        Ok(count)
+    }
+}
+
+#[test]
+fn interrupted_reads_are_made_again(rt: HostRuntime) -> Result<(), Fail> {
+    let reader = Interrupted {
+        text: CHANGED.as_bytes(),
+        is_next: false,
+    };
+    assert_eq!(rt; check(rt.alloc(), reader), Ok(Checked::Lawful { picks: 3 }));
+    Ok(())
 }
