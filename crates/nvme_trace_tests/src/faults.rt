@@ -57,9 +57,21 @@ fn heads(rt: HostRuntime) -> Result<(), Fail> {
     Ok(())
 }
 
+// That a line behind a head and a change of the settings is told so.
+fn is_told(rt: HostRuntime, line: &str, want: &str) -> Result<(), Fail> {
+    let alloc = rt.alloc();
+    let text = format!(in alloc; "{HEAD}\n{{\"set\":0}}\n{line}\n")?;
+    let want = format!(in alloc; "trace: line 3: {want}")?;
+    assert_eq!(rt;
+        error_of(alloc, text.as_bytes())?.as_str(),
+        want.as_str(),
+        "at {line}"
+    );
+    Ok(())
+}
+
 #[test]
 fn events(rt: HostRuntime) -> Result<(), Fail> {
-    let alloc = rt.alloc();
     for (line, want) in [
         ("", "not JSON"),
         ("{}", "missing pick"),
@@ -78,49 +90,31 @@ fn events(rt: HostRuntime) -> Result<(), Fail> {
         ("{\"pick\":1,\"n\":1,\"fresh\":0}", "bad fresh"),
         ("{\"pick\":1,\"n\":1,\"fresh\":false}", "missing seen"),
         (
-            "{\"pick\":1,\"n\":1,\"fresh\":false,\"seen\":1}",
-            "seen is no observation",
-        ),
-        (
-            "{\"pick\":1,\"n\":1,\"fresh\":false,\"seen\":[[1,\"high\"]]}",
-            "seen is no observation",
-        ),
-        (
-            "{\"pick\":1,\"n\":1,\"fresh\":false,\"seen\":[[1,\"High\",1]]}",
-            "seen is no observation",
-        ),
-        (
-            "{\"pick\":1,\"n\":1,\"fresh\":false,\"seen\":[[1,\"high\",1,1]]}",
-            "seen is no observation",
-        ),
-        (
-            "{\"pick\":1,\"n\":1,\"fresh\":false,\"seen\":[[1,\"high\",257]]}",
-            "seen is no observation",
-        ),
-        (
-            "{\"pick\":1,\"n\":1,\"fresh\":false,\"seen\":[[65,\"high\",1]]}",
-            "seen is no observation",
-        ),
-        (
-            "{\"pick\":1,\"n\":1,\"fresh\":false,\"seen\":[[1,\"admin\",1]]}",
-            "seen is no observation",
-        ),
-        (
-            "{\"pick\":1,\"n\":1,\"fresh\":false,\"seen\":[[2,\"low\",1],[1,\"low\",1]]}",
-            "seen is no observation",
-        ),
-        (
             "{\"pick\":1,\"n\":1,\"fresh\":false,\"seen\":[],\"x\":0}",
             "unknown field",
         ),
     ] {
-        let text = format!(in alloc; "{HEAD}\n{{\"set\":0}}\n{line}\n")?;
-        let want = format!(in alloc; "trace: line 3: {want}")?;
-        assert_eq!(rt;
-            error_of(alloc, text.as_bytes())?.as_str(),
-            want.as_str(),
-            "at {line}"
-        );
+        is_told(rt, line, want)?;
+    }
+    Ok(())
+}
+
+#[test]
+fn observations(rt: HostRuntime) -> Result<(), Fail> {
+    for seen in [
+        "1",
+        "[[1,\"high\"]]",
+        "[[1,\"High\",1]]",
+        "[[1,\"high\",1,1]]",
+        "[[1,\"high\",257]]",
+        "[[65,\"high\",1]]",
+        "[[1,\"admin\",1]]",
+        "[[2,\"low\",1],[1,\"low\",1]]",
+    ] {
+        let line = format!(in rt.alloc();
+            "{{\"pick\":1,\"n\":1,\"fresh\":false,\"seen\":{seen}}}"
+        )?;
+        is_told(rt, line.as_str(), "seen is no observation")?;
     }
     Ok(())
 }
