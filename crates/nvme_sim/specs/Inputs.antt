@@ -1,5 +1,5 @@
 -- The inputs that are at fault, by what the words ask for, and what is written of a trace. (profile)
-use Rattle.std.specs.Prelude.{◌≡◌, ◌⊎◌, ℕ, true, List, [], ◌∷◌, ◌++◌, Option, IfSome, String, codes, decimal}
+use Rattle.std.specs.Prelude.{◌≡◌, ◌⊎◌, ℕ, ◌==◌, if◌then◌else◌, true, List, [], ◌∷◌, ◌++◌, Option, IfSome, String, codes, decimal}
 use Rattle.std.specs.Global.{Global}
 use Rattle.std.specs.Io.KnownBytes.{Appends}
 use Rattle.nvme_trace.specs.Checks.{IsFaultOf, IsLawfulText, IsUnlawfulText}
@@ -31,8 +31,11 @@ abbrev pub trace_of : Ran → List ℕ
 trace_of ran = trace_text ran.mechanism ran.settings ran.settled.log.items
 
 -- the line that says that this many picks are lawful
+abbrev pub lawful_ending : ℕ → List ℕ
+lawful_ending picks = if picks == 1 then codes " pick\n" else codes " picks\n"
+
 abbrev pub lawful_line : ℕ → List ℕ
-lawful_line picks = codes "lawful: " ++ decimal picks ++ codes " picks\n"
+lawful_line picks = codes "lawful: " ++ decimal picks ++ lawful_ending picks
 
 -- a trace is lawful, and the line of the number of its picks was written
 abbrev pub IsToldLawful : Option (List ℕ) → Option (List ℕ) → List ℕ → Type 0

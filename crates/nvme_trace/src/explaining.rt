@@ -97,6 +97,7 @@ impl fmt::Display for Unlawful {
 impl fmt::Display for Checked {
     fn fmt<W: fmt::Write>(&self, f: &mut fmt::Formatter<W>) -> fmt::Result {
         match self {
+            Checked::Lawful { picks: 1 } => f.write_str("lawful: 1 pick"),
             Checked::Lawful { picks } => write!(f, "lawful: {picks} picks"),
             Checked::Unlawful(unlawful) => write!(f, "{unlawful}"),
         }

@@ -3,7 +3,7 @@ ghost use Rattle.std.specs.Prelude.{◌≡◌, ◌⊎◌, Ok, IfErr, IfSome, OnO
 ghost use Rattle.std.specs.Io.KnownBytes.{Appends};
 ghost use Rattle.nvme_output.specs.Written.{AppendsPrefix};
 ghost use Rattle.nvme_sim.specs.Answers.{FailsToWrite};
-ghost use Rattle.nvme_sim.specs.Inputs.{IsFaultyTrace, IsToldLawful, IsUnlawfulTrace, lawful_line};
+ghost use Rattle.nvme_sim.specs.Inputs.{IsFaultyTrace, IsToldLawful, IsUnlawfulTrace, lawful_ending, lawful_line};
 ghost use Rattle.nvme_sim.specs.Statuses.{status_of};
 ghost use Rattle.nvme_sim.specs.declared.faults.Fault.TheVariants as fault;
 ghost use Rattle.nvme_sim.specs.declared.commands.Answer.TheVariants as answer;
@@ -16,6 +16,13 @@ use nvme_trace::{Checked, Unlawful, check};
 use std::alloc::Global;
 use std::io::{Read, Write};
 
+// What stands behind the number of the lawful picks.
+fn lawful_ending(picks: u64) -> &'static str
+    ensures { result.now ≡ lawful_ending picks }
+{
+    if picks == 1 { " pick\n" } else { " picks\n" }
+}
+
 // Writes that this many picks are lawful.
 fn put_lawful<W: Write>(picks: u64, output: &mut W) -> Result<Answer, Fault>
     ensures done { OnOk result ((result ≡ Ok answer.Done) × Appends (W.contents output.old) (W.contents output.new) (lawful_line picks)) }
@@ -25,7 +32,7 @@ fn put_lawful<W: Write>(picks: u64, output: &mut W) -> Result<Answer, Fault>
     let pieces = [
         Piece::Words("lawful: "),
         Piece::Number(u128::from(picks)),
-        Piece::Words(" picks\n"),
+        Piece::Words(lawful_ending(picks)),
     ];
     match put_pieces(&pieces, output) {
         Ok(()) => Ok(Answer::Done),
