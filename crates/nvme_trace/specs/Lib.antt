@@ -7,3 +7,4 @@ pub mod Lines
 pub mod Judged
 pub mod Faults
 pub mod Checks
+pub mod Traces

@@ -16,7 +16,7 @@ mod writing;
 pub use checking::{Checked, Unlawful, check};
 pub use fault::{Field, LineFault, TraceError};
 pub use judge::{Finding, Judge};
-pub use laws::texts_have_one_answer;
+pub use laws::{texts_have_one_answer, written_traces_are_lawful};
 pub use names::{class_name, mechanism_name};
 pub use nvme_output::WriteFault;
 pub use reading::{Head, TraceEvent};
