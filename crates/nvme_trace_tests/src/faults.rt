@@ -57,21 +57,15 @@ fn heads(rt: HostRuntime) -> Result<(), Fail> {
     Ok(())
 }
 
-// That a line behind a head and a change of the settings is told so.
-fn is_told(rt: HostRuntime, line: &str, want: &str) -> Result<(), Fail> {
-    let alloc = rt.alloc();
+// What is told of a line behind a head and a change of the settings.
+fn told_of(alloc: Global, line: &str) -> Result<String, Fail> {
     let text = format!(in alloc; "{HEAD}\n{{\"set\":0}}\n{line}\n")?;
-    let want = format!(in alloc; "trace: line 3: {want}")?;
-    assert_eq!(rt;
-        error_of(alloc, text.as_bytes())?.as_str(),
-        want.as_str(),
-        "at {line}"
-    );
-    Ok(())
+    error_of(alloc, text.as_bytes())
 }
 
 #[test]
 fn events(rt: HostRuntime) -> Result<(), Fail> {
+    let alloc = rt.alloc();
     for (line, want) in [
         ("", "not JSON"),
         ("{}", "missing pick"),
@@ -94,13 +88,15 @@ fn events(rt: HostRuntime) -> Result<(), Fail> {
             "unknown field",
         ),
     ] {
-        is_told(rt, line, want)?;
+        let want = format!(in alloc; "trace: line 3: {want}")?;
+        assert_eq!(rt; told_of(alloc, line)?.as_str(), want.as_str(), "at {line}");
     }
     Ok(())
 }
 
 #[test]
 fn observations(rt: HostRuntime) -> Result<(), Fail> {
+    let alloc = rt.alloc();
     for seen in [
         "1",
         "[[1,\"high\"]]",
@@ -111,10 +107,12 @@ fn observations(rt: HostRuntime) -> Result<(), Fail> {
         "[[1,\"admin\",1]]",
         "[[2,\"low\",1],[1,\"low\",1]]",
     ] {
-        let line = format!(in rt.alloc();
-            "{{\"pick\":1,\"n\":1,\"fresh\":false,\"seen\":{seen}}}"
-        )?;
-        is_told(rt, line.as_str(), "seen is no observation")?;
+        let line = format!(in alloc; "{{\"pick\":1,\"n\":1,\"fresh\":false,\"seen\":{seen}}}")?;
+        assert_eq!(rt;
+            told_of(alloc, line.as_str())?.as_str(),
+            "trace: line 3: seen is no observation",
+            "at {line}"
+        );
     }
     Ok(())
 }
