@@ -15,8 +15,8 @@ use Rattle.nvme_admin.specs.declared.verdict.Verdict.TheVariants as verdict
 use Rattle.nvme_log.specs.declared.event.Event.{Event}
 use Rattle.nvme_log.specs.declared.event.Event.TheVariants as event
 use Rattle.nvme_state.specs.declared.candidate.Candidate.{Candidate}
-use Rattle.nvme_state.specs.declared.candidate.PendingDelete.{PendingDelete}
-use Rattle.nvme_state.specs.declared.candidate.Ready.{Ready}
+use Rattle.nvme_state.specs.declared.deletion.PendingDelete.{PendingDelete}
+use Rattle.nvme_state.specs.declared.ready.Ready.{Ready}
 use Rattle.nvme_state.specs.declared.attachment.Attachment.{Attachment}
 use Rattle.nvme_state.specs.declared.region.SqRegion.{SqRegion}
 use Rattle.nvme_state.specs.declared.region.CqRegion.{CqRegion}
@@ -56,15 +56,15 @@ target_is past sqid io = ap (λ (b : Bool). if b then None else open_sq past sqi
 
 -- ---- what is kept
 -- a candidate of a region left its window, and its completion is ready
-kept_aborted : (a b : FrontState) (cid r c : ℕ) (s : SqRegion) (w : FifoView Candidate) (d : CqRegion) (ready : FifoView Ready) (found : Candidate)
+kept_aborted : (a b : FrontState) (sqid cid r c : ℕ) (s : SqRegion) (w : FifoView Candidate) (d : CqRegion) (ready : FifoView Ready) (found : Candidate)
     → r < length a.sqs.items → s ≡ get_or a.sqs.items r s → c < length a.cqs.items → d ≡ get_or a.cqs.items c d
     → w ≡ record s.window { items = without_oldest cid s.window.items }
     → b.sqs.items ≡ set a.sqs.items r (record s { window = w; unposted = s.unposted + 1 })
-    → ready ≡ record d.ready { items = d.ready.items ++ requested r found ∷ [] }
+    → ready ≡ record d.ready { items = d.ready.items ++ requested sqid r found ∷ [] }
     → b.cqs.items ≡ set a.cqs.items c (record d { ready = ready })
     → b.outstanding ≡ a.outstanding + 1 → b.table ≡ a.table → b.deletion ≡ a.deletion → b.jobs ≡ a.jobs
-    → content_of b ≡ record (with_ready (with_sq (content_of a) r (without_named cid (sq_in a.sqs.items r))) c (requested r found)) { board = b.board; outstanding = a.outstanding + 1 }
-kept_aborted a b cid r c s w d ready found there read posts read_cq is_w sqs is_ready cqs outstanding table deletion jobs =
+    → content_of b ≡ record (with_ready (with_sq (content_of a) r (without_named cid (sq_in a.sqs.items r))) c (requested sqid r found)) { board = b.board; outstanding = a.outstanding + 1 }
+kept_aborted a b sqid cid r c s w d ready found there read posts read_cq is_w sqs is_ready cqs outstanding table deletion jobs =
     let was : sq_in a.sqs.items r ≡ sq_content s = sq_in-read a.sqs.items r s there read in
     let now : sq_content (record s { window = w; unposted = s.unposted + 1 }) ≡ without_named cid (sq_in a.sqs.items r) =
     ap (λ (z : FifoView Candidate). record (sq_content s) { window = z.items; unposted = s.unposted + 1 }) is_w ∙ ap (without_named cid) (sym was) in
@@ -84,7 +84,7 @@ kept_aborted a b cid r c s w d ready found there read posts read_cq is_w sqs is_
       deletion = deletion t;
       jobs = jobs t;
     } in
-    kept_readied a b c d ready (requested r found ∷ []) posts read_cq is_ready cqs ∙ ap (λ (k : Content). with_readies k c (requested r found ∷ [])) all
+    kept_readied a b c d ready (requested sqid r found ∷ []) posts read_cq is_ready cqs ∙ ap (λ (k : Content). with_readies k c (requested sqid r found ∷ [])) all
 
 -- what is ready in a region more, where few completions are ready in each
 few_more : (cq : ℕ → CqContent) (c : ℕ) (t : Ready) (n : ℕ) → ((x : ℕ) → length (cq x).ready ≤ n) → (x : ℕ) → length (put_cq cq c (record (cq c) { ready = (cq c).ready ++ t ∷ [] }) x).ready ≤ n + 1
@@ -163,9 +163,9 @@ module _ (a : FrontState) (candidate : Candidate) (sqid cid : ℕ) (closing : Op
   none_after : HasNoneNamed a sqid cid → after_admin h.past (content_of a) candidate 0 a.board (verdict.Abort sqid cid) ≡ with_ready (content_of a) 0 (told_abort candidate 1)
   none_after none = by (target_of h.past sqid) (none_there none) where
     by : (o : Option Queue) → ((queue : Queue) → o ≡ Some queue → (oldest_named cid (sq_in a.sqs.items queue.region).window ≡ None) × (oldest_named cid (h.before.sq queue.region).window ≡ None))
-        → aborting_from (content_of a) candidate 0 cid a.board o ≡ with_ready (content_of a) 0 (told_abort candidate 1)
+        → aborting_from (content_of a) candidate sqid 0 cid a.board o ≡ with_ready (content_of a) 0 (told_abort candidate 1)
     by None it = refl
-    by (Some queue) it = ap (aborting_in (content_of a) candidate queue.region 0 cid a.board) (it queue refl).0
+    by (Some queue) it = ap (aborting_in (content_of a) candidate sqid queue.region 0 cid a.board) (it queue refl).0
 
   -- ---- where one is found
   -- the queue that the command names
@@ -187,8 +187,8 @@ module _ (a : FrontState) (candidate : Candidate) (sqid cid : ℕ) (closing : Op
   found_after : (m : FrontState) (t : HasAborted a m sqid cid)
       → after_admin h.past (content_of a) candidate t.c m.board (verdict.Abort sqid cid) ≡ with_ready (content_of m) 0 (told_abort candidate 0)
   found_after m t =
-      ap (aborting_from (content_of a) candidate t.c cid m.board) (found_target m t)
-      ∙ ap (aborting_in (content_of a) candidate t.entry.region t.c cid m.board) t.oldest
+      ap (aborting_from (content_of a) candidate sqid t.c cid m.board) (found_target m t)
+      ∙ ap (aborting_in (content_of a) candidate sqid t.entry.region t.c cid m.board) t.oldest
       ∙ ap (λ (k : Content). with_ready k 0 (told_abort candidate 0)) (sym t.kept)
 
   -- the completion region and the board are those of the queue
@@ -252,9 +252,9 @@ module _ (a : FrontState) (candidate : Candidate) (sqid cid : ℕ) (closing : Op
       let roomy : IsRoomy m = roomy-goes a m h.roomy goes (ap (λ z. z.sq_regions) table) (ap (λ z. z.cq_regions) table) (omega (arith, h.events_in_limit)) in
       let room = ready_room-is m roomy 0 d there read in
       let is : (cq_in m.cqs.items 0).ready ≡ d.ready.items = ap (λ (s : CqContent). s.ready) (cq_in-read m.cqs.items 0 d there read) in
-      let after : length (cq_in m.cqs.items 0).ready ≡ length (put_cq (cq_in a.cqs.items) t.c (record (cq_in a.cqs.items t.c) { ready = (cq_in a.cqs.items t.c).ready ++ requested t.entry.region t.found ∷ [] }) 0).ready =
+      let after : length (cq_in m.cqs.items 0).ready ≡ length (put_cq (cq_in a.cqs.items) t.c (record (cq_in a.cqs.items t.c) { ready = (cq_in a.cqs.items t.c).ready ++ requested sqid t.entry.region t.found ∷ [] }) 0).ready =
       ap (λ (k : Content). length (k.cq 0).ready) t.kept in
-      let few = few_more (cq_in a.cqs.items) t.c (requested t.entry.region t.found) 255 few_before 0 in
+      let few = few_more (cq_in a.cqs.items) t.c (requested sqid t.entry.region t.found) 255 few_before 0 in
       let same = ap (λ (ts : List Ready). length ts) is in
       omega arith
 
@@ -309,7 +309,7 @@ module _ (a : FrontState) (candidate : Candidate) (sqid cid : ℕ) (closing : Op
       pub aborts_found : (b : FrontState) (x : Attachment) (c : ℕ) (found : Candidate) (w : FifoView Candidate) (d : CqRegion) (ready : FifoView Ready)
           → s.queue ≡ Some x → c ≡ x.cq_region → Some found ≡ oldest_named cid s.window.items → w ≡ record s.window { items = without_oldest cid s.window.items }
           → b.sqs.items ≡ set a.sqs.items r (record s { window = w; unposted = s.unposted + 1 })
-          → d ≡ get_or a.cqs.items c d → ready ≡ record d.ready { items = d.ready.items ++ requested e.region found ∷ [] }
+          → d ≡ get_or a.cqs.items c d → ready ≡ record d.ready { items = d.ready.items ++ requested sqid e.region found ∷ [] }
           → b.cqs.items ≡ set a.cqs.items c (record d { ready = ready })
           → b.log.items ≡ a.log.items ++ event.Abort e.region found.index ∷ []
           → IfSome (queue_at a.board.queues sqid) (λ (q : OpenQueue). b.board ≡ record a.board { queues = slice_set a.board.queues sqid (Some (record q { count = q.count - 1 })) })
@@ -337,9 +337,9 @@ module _ (a : FrontState) (candidate : Candidate) (sqid cid : ℕ) (closing : Op
             found = found;
             oldest = ap (λ (z : SqContent). oldest_named cid z.window) region_read ∙ sym oldest;
             log = log;
-            kept = subst (λ (z : ℕ). content_of b ≡ record (with_ready (with_sq (content_of a) z (without_named cid (sq_in a.sqs.items z))) c (requested z found)) { board = b.board; outstanding = a.outstanding + 1 }) same
-                (kept_aborted a b cid r c s w d ready found (aborts_there r same) read posts read_cq is_w sqs
-                (subst (λ (z : ℕ). ready ≡ record d.ready { items = d.ready.items ++ requested z found ∷ [] }) (sym same) is_ready) cqs outstanding table deletion jobs);
+            kept = subst (λ (z : ℕ). content_of b ≡ record (with_ready (with_sq (content_of a) z (without_named cid (sq_in a.sqs.items z))) c (requested sqid z found)) { board = b.board; outstanding = a.outstanding + 1 }) same
+                (kept_aborted a b sqid cid r c s w d ready found (aborts_there r same) read posts read_cq is_w sqs
+                (subst (λ (z : ℕ). ready ≡ record d.ready { items = d.ready.items ++ requested sqid z found ∷ [] }) (sym same) is_ready) cqs outstanding table deletion jobs);
             board = ap (λ (v : BoardView). v.queues) went
                 ∙ ap (λ (n : ℕ). slice_set a.board.queues sqid (Some (record { class = e.class; count = n }))) count;
             board_stands = stands;

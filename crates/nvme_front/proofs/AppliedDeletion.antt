@@ -15,7 +15,7 @@ use Rattle.nvme_admin.specs.declared.verdict.Verdict.TheVariants.{BeginDelete}
 use Rattle.nvme_log.specs.declared.event.Event.{Event}
 use Rattle.nvme_log.specs.declared.event.Event.TheVariants.{Closing, Abort}
 use Rattle.nvme_state.specs.declared.candidate.Candidate.{Candidate}
-use Rattle.nvme_state.specs.declared.candidate.Ready.{Ready}
+use Rattle.nvme_state.specs.declared.ready.Ready.{Ready}
 use Rattle.nvme_state.specs.declared.attachment.Attachment.{Attachment}
 use Rattle.nvme_state.specs.declared.region.SqRegion.{SqRegion}
 use Rattle.nvme_state.specs.declared.region.CqRegion.{CqRegion}
@@ -31,6 +31,7 @@ use Rattle.nvme_front.specs.inside.State.{sq_content, sq_in, cq_in, content_of, 
 use Rattle.nvme_front.specs.inside.Room.{IsConsistent}
 use Rattle.nvme_front.specs.inside.Goes.{Goes}
 use Rattle.nvme_log.specs.Histories.{picks_in}
+use Rattle.nvme_log.specs.Dispatches.{place_at}
 use Rattle.nvme_state.specs.inside.Steps.{aborted}
 use Rattle.nvme_state.proofs.AfterSteps.{with_deleting, with_readies, deleting_from, IsChosen}
 use Rattle.nvme_state.proofs.QueueWords.{at_same}
@@ -57,10 +58,10 @@ kept_deleting : (a b : FrontState) (candidate : Candidate) (qid r c n : ℕ) (s 
     → r < length a.sqs.items → s ≡ get_or a.sqs.items r s → c < length a.cqs.items → d ≡ get_or a.cqs.items c d
     → n ≡ length s.window.items → w ≡ record s.window { items = [] }
     → b.sqs.items ≡ set a.sqs.items r (record s { window = w; unposted = s.unposted + n })
-    → ready ≡ record d.ready { items = d.ready.items ++ map (aborted r) s.window.items }
+    → ready ≡ record d.ready { items = d.ready.items ++ map (aborted qid r) s.window.items }
     → b.cqs.items ≡ set a.cqs.items c (record d { ready = ready })
     → b.board ≡ record a.board { queues = slice_set a.board.queues qid None }
-    → b.deletion ≡ Some (record { qid = qid; region = r; index = candidate.index; entry = candidate.entry })
+    → b.deletion ≡ Some (record { place = place_at 0 candidate.index; cid = candidate.entry.cid; qid = qid; region = r })
     → b.table ≡ a.table → b.outstanding ≡ a.outstanding → b.jobs ≡ a.jobs
     → content_of b ≡ with_deleting (content_of a) qid r c candidate
 kept_deleting a b candidate qid r c n s w d ready there read posts read_cq is_n is_w sqs is_ready cqs board deletion table outstanding jobs =
@@ -76,7 +77,7 @@ kept_deleting a b candidate qid r c n s w d ready there read posts read_cq is_n 
     ap (λ (xs : List SqRegion). length xs) sqs ∙ length-set a.sqs.items r (record s { window = w; unposted = s.unposted + n }) in
     let later : Content = record (with_sq (content_of a) r (emptied (sq_in a.sqs.items r))) {
       board = record a.board { queues = slice_set a.board.queues qid None };
-      deletion = Some (record { qid = qid; region = r; index = candidate.index; entry = candidate.entry });
+      deletion = Some (record { place = place_at 0 candidate.index; cid = candidate.entry.cid; qid = qid; region = r });
     } in
     let all : content_of (record b { cqs = a.cqs }) ≡ later = λ t. record {
       sq = sq t;
@@ -89,9 +90,9 @@ kept_deleting a b candidate qid r c n s w d ready there read posts read_cq is_n 
       deletion = deletion t;
       jobs = jobs t;
     } in
-    kept_readied a b c d ready (map (aborted r) s.window.items) posts read_cq is_ready cqs
-    ∙ ap (λ (k : Content). with_readies k c (map (aborted r) s.window.items)) all
-    ∙ ap (λ (z : SqContent). with_readies later c (map (aborted r) z.window)) (sym was)
+    kept_readied a b c d ready (map (aborted qid r) s.window.items) posts read_cq is_ready cqs
+    ∙ ap (λ (k : Content). with_readies k c (map (aborted qid r) s.window.items)) all
+    ∙ ap (λ (z : SqContent). with_readies later c (map (aborted qid r) z.window)) (sym was)
 
 -- aborts are no picks
 pub aborts_noted : (r : ℕ) (cs : List Candidate) → picks_in (map (λ (c : Candidate). Abort r c.index) cs) ≡ 0
@@ -157,11 +158,11 @@ module _ (a : FrontState) (candidate : Candidate) (qid : ℕ) (closing : Option 
       pub keeps_deleting : (b : FrontState) (x : Attachment) (c n : ℕ) (w : FifoView Candidate) (d : CqRegion) (ready : FifoView Ready) (log : List Event) (board : BoardView)
           → s.queue ≡ Some x → c ≡ x.cq_region → n ≡ length s.window.items → w ≡ record s.window { items = [] }
           → b.sqs.items ≡ set a.sqs.items r (record s { window = w; unposted = s.unposted + n })
-          → d ≡ get_or a.cqs.items c d → ready ≡ record d.ready { items = d.ready.items ++ map (aborted e.region) s.window.items }
+          → d ≡ get_or a.cqs.items c d → ready ≡ record d.ready { items = d.ready.items ++ map (aborted qid e.region) s.window.items }
           → b.cqs.items ≡ set a.cqs.items c (record d { ready = ready })
           → log ≡ a.log.items ++ Closing qid e.region ∷ [] → b.log.items ≡ log ++ map (λ (c : Candidate). Abort e.region c.index) s.window.items
           → b.board ≡ record a.board { queues = slice_set a.board.queues qid None }
-          → b.deletion ≡ Some (record { qid = qid; region = e.region; index = candidate.index; entry = candidate.entry })
+          → b.deletion ≡ Some (record { place = place_at 0 candidate.index; cid = candidate.entry.cid; qid = qid; region = e.region })
           → Stays a b → Goes a b → IsConsistent b
       keeps_deleting b x c n w d ready log board at is_c is_n is_w sqs read_cq is_ready cqs noted aborts is_board deletion stays goes =
           let posts = begins_posts x at c is_c in

@@ -4,21 +4,19 @@ use Rattle.std.specs.Prelude.{slice_get}
 use Rattle.std.specs.List.{All, list_any}
 use Rattle.std.proofs.lemmas.Bool.{eqb-true, ne_eqb, cases_eq}
 use Rattle.std.proofs.lemmas.List.Elements.{All-head, All-tail}
-use Rattle.std.proofs.lemmas.Option.{same_Some, slice_get_within}
-use Rattle.nvme_entry.specs.declared.submission.Sqe.{Sqe}
-use Rattle.nvme_pool.specs.declared.jobs.Job.{Job}
+use Rattle.std.proofs.lemmas.Option.{slice_get_within}
 use Rattle.nvme_log.specs.declared.event.Event.TheVariants.{Fetch, Pick, SetArbitration, OpenSq, OpenCq, Closing, Abort, Post, ClosedSq, ClosedCq}
 use Rattle.nvme_log.specs.Rules.{Past, Each}
 use Rattle.nvme_log.specs.Queues.{is_closed_region}
-use Rattle.nvme_log.specs.Places.{Place, fetched}
+use Rattle.nvme_log.specs.Places.{fetched}
 use Rattle.nvme_log.specs.Completions.{is_posted}
 use Rattle.nvme_log.specs.Account.{Deletes}
 use Rattle.nvme_log.specs.Dispatches.{dispatched, place_at}
 use Rattle.nvme_log.proofs.Posts.{all_below}
 use Rattle.nvme_log.proofs.Tickets.{job_there}
 use Rattle.nvme_state.specs.Hands.{in_hand, is_in_hand, job_in}
-use Rattle.nvme_state.specs.JobAccount.{AccountsForJobs, HasItsTicket}
-use Rattle.nvme_state.specs.declared.candidate.Dispatched.{Dispatched}
+use Rattle.nvme_state.specs.JobAccount.{HasItsTicket}
+use Rattle.nvme_state.specs.declared.dispatched.Dispatched.{Dispatched}
 use Rattle.nvme_front.specs.View.{past_in}
 use Rattle.nvme_front.specs.Laws.{ClosedRegionsHaveResults}
 
@@ -56,15 +54,15 @@ pub record IsAmong (past : Past) (r i : ℕ) : Type 0 where
   pub ticket : ℕ
   pub place : slice_get (dispatched past) ticket ≡ Some (place_at r i)
 
-among : (past : Past) (r i : ℕ) (ds : List Dispatched) → All (HasItsTicket past) ds → list_any (λ (d : Dispatched). d.region == r && d.index == i) ds ≡ true → IsAmong past r i
+among : (past : Past) (r i : ℕ) (ds : List Dispatched) → All (HasItsTicket past) ds → list_any (λ (d : Dispatched). d.place.region == r && d.place.index == i) ds ≡ true → IsAmong past r i
 among past r i [] all h = cc h
 among past r i (d ∷ ds) all h =
-    by (d.region == r) (d.index == i) refl refl h (among past r i ds (All-tail (HasItsTicket past) d ds all)) where
-      by : (a b : Bool) → (d.region == r) ≡ a → (d.index == i) ≡ b → ((a && b) || list_any (λ (x : Dispatched). x.region == r && x.index == i) ds) ≡ true
-          → (list_any (λ (x : Dispatched). x.region == r && x.index == i) ds ≡ true → IsAmong past r i) → IsAmong past r i
+    by (d.place.region == r) (d.place.index == i) refl refl h (among past r i ds (All-tail (HasItsTicket past) d ds all)) where
+      by : (a b : Bool) → (d.place.region == r) ≡ a → (d.place.index == i) ≡ b → ((a && b) || list_any (λ (x : Dispatched). x.place.region == r && x.place.index == i) ds) ≡ true
+          → (list_any (λ (x : Dispatched). x.place.region == r && x.place.index == i) ds ≡ true → IsAmong past r i) → IsAmong past r i
       by true true e f or later = record {
         ticket = d.ticket;
-        place = All-head (HasItsTicket past) d ds all ∙ ap Some (λ t. place_at (eqb-true d.region r e t) (eqb-true d.index i f t));
+        place = All-head (HasItsTicket past) d ds all ∙ ap Some (λ t. place_at (eqb-true d.place.region r e t) (eqb-true d.place.index i f t));
       }
       by true false e f or later = later or
       by false b e f or later = later or

@@ -14,10 +14,11 @@ use Rattle.nvme_pool.specs.declared.jobs.Job.{Job}
 use Rattle.nvme_pool.specs.declared.jobs.Finished.{Finished}
 use Rattle.nvme_pool.proofs.Once.{each_executed, each_gained}
 use Rattle.nvme_log.specs.declared.event.Event.{Event}
-use Rattle.nvme_state.specs.declared.candidate.Dispatched.{Dispatched}
+use Rattle.nvme_state.specs.declared.dispatched.Dispatched.{Dispatched}
 use Rattle.nvme_front.specs.declared.state.FrontState.{FrontState}
 use Rattle.nvme_log.specs.Rules.{Past}
-use Rattle.nvme_log.specs.Places.{Place, is_served, one_if}
+use Rattle.nvme_log.specs.Places.{is_served, one_if}
+use Rattle.nvme_log.specs.declared.place.Place.{Place}
 use Rattle.nvme_log.specs.Completions.{is_posted}
 use Rattle.nvme_log.specs.Dispatches.{dispatched, AreJobs, ExecutesOnce}
 use Rattle.nvme_log.proofs.Posts.{posts_of-some}
@@ -141,11 +142,11 @@ accounts_for_jobs s k = elim (empty_or_not s.log.items) [
 
 -- ---- completions of commands in hand
 -- a command that is one of some stands among their places
-some_held : (r i : ℕ) (ds : List Dispatched) → list_any (λ (d : Dispatched). d.region == r && d.index == i) ds ≡ true → 1 ≤ times_held r i (map dispatched_place ds)
+some_held : (r i : ℕ) (ds : List Dispatched) → list_any (λ (d : Dispatched). d.place.region == r && d.place.index == i) ds ≡ true → 1 ≤ times_held r i (map dispatched_place ds)
 some_held r i [] h = absurd (cc)
-some_held r i (d ∷ ds) h = by (d.region == r && d.index == i) refl h (some_held r i ds) where
-  by : (b : Bool) → (d.region == r && d.index == i) ≡ b → (b || list_any (λ (x : Dispatched). x.region == r && x.index == i) ds) ≡ true
-      → (list_any (λ (x : Dispatched). x.region == r && x.index == i) ds ≡ true → 1 ≤ times_held r i (map dispatched_place ds))
+some_held r i (d ∷ ds) h = by (d.place.region == r && d.place.index == i) refl h (some_held r i ds) where
+  by : (b : Bool) → (d.place.region == r && d.place.index == i) ≡ b → (b || list_any (λ (x : Dispatched). x.place.region == r && x.place.index == i) ds) ≡ true
+      → (list_any (λ (x : Dispatched). x.place.region == r && x.place.index == i) ds ≡ true → 1 ≤ times_held r i (map dispatched_place ds))
       → 1 ≤ times_held r i (map dispatched_place (d ∷ ds))
   by true e h later = omega (arith, ap one_if e, sum_by-cons (λ (p : Place). one_if (p.region == r && p.index == i)) (dispatched_place d) (map dispatched_place ds))
   by false e h later = omega (arith, later h, sum_by-cons (λ (p : Place). one_if (p.region == r && p.index == i)) (dispatched_place d) (map dispatched_place ds))

@@ -12,7 +12,7 @@ use Rattle.nvme_admin.specs.History.{Start, RegionAdded, Submission, Completion}
 use Rattle.nvme_admin.specs.Standing.{TableView, StandsAt}
 use Rattle.nvme_admin.specs.declared.bounds.TheConstants.{MAX_REGIONS}
 use Rattle.nvme_admin.specs.declared.region.Region.{Region}
-use Rattle.nvme_state.specs.declared.candidate.PendingDelete.{PendingDelete}
+use Rattle.nvme_state.specs.declared.deletion.PendingDelete.{PendingDelete}
 use Rattle.nvme_state.specs.declared.region.SqRegion.{SqRegion}
 use Rattle.nvme_state.specs.declared.region.CqRegion.{CqRegion}
 use Rattle.nvme_state.specs.inside.Jobs.{JobsView}

@@ -12,8 +12,8 @@ use Rattle.nvme_lane.specs.View.{GetView}
 use Rattle.nvme_pool.specs.declared.jobs.Finished.{Finished}
 use Rattle.nvme_pool.specs.declared.jobs.Job.{Job}
 use Rattle.nvme_pool.specs.Seat.{Ends, SameSeat, OneGained}
-use Rattle.nvme_state.specs.declared.candidate.Dispatched.{Dispatched}
-use Rattle.nvme_state.specs.declared.candidate.Ready.{Ready}
+use Rattle.nvme_state.specs.declared.dispatched.Dispatched.{Dispatched}
+use Rattle.nvme_state.specs.declared.ready.Ready.{Ready}
 use Rattle.nvme_state.specs.declared.attachment.Attachment.{Attachment}
 use Rattle.nvme_state.specs.declared.region.SqRegion.{SqRegion}
 use Rattle.nvme_state.specs.declared.region.CqRegion.{CqRegion}
@@ -34,6 +34,7 @@ use Rattle.nvme_front.specs.Ends.{get_place, put_place}
 use Rattle.nvme_front.specs.inside.Turn.{Balanced}
 use Rattle.nvme_front.specs.View.{GainedStray}
 use Rattle.nvme_front.specs.inside.State.{view_of}
+use Rattle.nvme_state.specs.inside.Steps.{done}
 use Rattle.nvme_state.proofs.AfterSteps.{completed, after_gain}
 use Rattle.nvme_state.proofs.Standing.{stands-hand, stands-gain, stands-stray}
 use Rattle.nvme_front.proofs.Comes.{comes-same}
@@ -238,38 +239,38 @@ module _ (s : FrontState) (k : IsConsistent s) (admin : HasAdmin s) (jobs : Jobs
       )
 
   -- its region was opened for a queue
-  its_queue : HasQueue (sq_in s.sqs.items d.region).queue
-  its_queue = has_queue (sq_in s.sqs.items d.region).queue its_command.cq_region (sym ((k.stands admin.0 admin.1).queues.cq_region_is d.region) ∙ its_command.attached)
+  its_queue : HasQueue (sq_in s.sqs.items d.place.region).queue
+  its_queue = has_queue (sq_in s.sqs.items d.place.region).queue its_command.cq_region (sym ((k.stands admin.0 admin.1).queues.cq_region_is d.place.region) ∙ its_command.attached)
 
   -- so it is there
-  pub its_region : d.region < length s.sqs.items
-  its_region = (k.stands admin.0 admin.1).queues.sq_there d.region its_queue.queue its_queue.is
+  pub its_region : d.place.region < length s.sqs.items
+  its_region = (k.stands admin.0 admin.1).queues.sq_there d.place.region its_queue.queue its_queue.is
 
   -- what is read of it says so
-  pub its_queue_there : (e : SqRegion) → e ≡ get_or s.sqs.items d.region e → e.queue ≡ None → ⊥
+  pub its_queue_there : (e : SqRegion) → e ≡ get_or s.sqs.items d.place.region e → e.queue ≡ None → ⊥
   its_queue_there e read none =
-      let same = ap (λ (x : SqContent). x.queue) (sq_in-read s.sqs.items d.region e its_region read) in
+      let same = ap (λ (x : SqContent). x.queue) (sq_in-read s.sqs.items d.place.region e its_region read) in
       let is = its_queue.is in
       cc (same, none, is)
 
   -- its queue is the one that is read there
-  pub its_attachment : (e : SqRegion) → e ≡ get_or s.sqs.items d.region e → (a : Attachment) → e.queue ≡ Some a → (sq_in s.sqs.items d.region).queue ≡ Some a
-  its_attachment e read a is = ap (λ (x : SqContent). x.queue) (sq_in-read s.sqs.items d.region e its_region read) ∙ is
+  pub its_attachment : (e : SqRegion) → e ≡ get_or s.sqs.items d.place.region e → (a : Attachment) → e.queue ≡ Some a → (sq_in s.sqs.items d.place.region).queue ≡ Some a
+  its_attachment e read a is = ap (λ (x : SqContent). x.queue) (sq_in-read s.sqs.items d.place.region e its_region read) ∙ is
 
   -- and the completion region of its queue is there
-  pub its_cq_region : (e : SqRegion) → e ≡ get_or s.sqs.items d.region e → (a : Attachment) → e.queue ≡ Some a → (n : ℕ) → n ≡ a.cq_region → n < length s.cqs.items
-  its_cq_region e read a is n same = let there = (k.stands admin.0 admin.1).queues.posts_there d.region a (its_attachment e read a is) in omega (arith, there, same)
+  pub its_cq_region : (e : SqRegion) → e ≡ get_or s.sqs.items d.place.region e → (a : Attachment) → e.queue ≡ Some a → (n : ℕ) → n ≡ a.cq_region → n < length s.cqs.items
+  its_cq_region e read a is n same = let there = (k.stands admin.0 admin.1).queues.posts_there d.place.region a (its_attachment e read a is) in omega (arith, there, same)
 
 -- a front after a result was gained, from one before it: e is the completion region as it was read, and f its ready completions afterwards
 pub record IsGained (a b : FrontState) (d : Dispatched) (result : Finished) : Type 0 where
   pub one : GainsOne a.config.spaces a.jobs b.jobs d result
   pub queue : Attachment
-  pub attached : (sq_in a.sqs.items d.region).queue ≡ Some queue
+  pub attached : (sq_in a.sqs.items d.place.region).queue ≡ Some queue
   pub e : CqRegion
   pub f : FifoView Ready
   pub there : queue.cq_region < length a.cqs.items
   pub read : e ≡ get_or a.cqs.items queue.cq_region e
-  pub ready : f ≡ record e.ready { items = e.ready.items ++ completed d result ∷ [] }
+  pub ready : f ≡ record e.ready { items = e.ready.items ++ completed queue.qid d result ∷ [] }
   pub sqs : b.sqs.items ≡ a.sqs.items
   pub cqs : b.cqs.items ≡ set a.cqs.items queue.cq_region (record e { ready = f })
   pub log : b.log.items ≡ a.log.items
@@ -283,11 +284,11 @@ pub record IsGained (a b : FrontState) (d : Dispatched) (result : Finished) : Ty
 
 -- so it is with a front whose completion region n was read and got the completion
 pub is_gained : (s : FrontState) (few : s.config.max_events ≤ most_events) (k : IsConsistent s) (admin : HasAdmin s) (jobs : JobsView) (d : Dispatched) (result : Finished)
-    → GainsOne s.config.spaces s.jobs jobs d result → (q : SqRegion) → q ≡ get_or s.sqs.items d.region q → (a : Attachment) → q.queue ≡ Some a
-    → (n : ℕ) → n ≡ a.cq_region → (e : CqRegion) → e ≡ get_or s.cqs.items n e → (status : StatusCode) → status ≡ result.status → (f : FifoView Ready)
-    → f ≡ record e.ready { items = e.ready.items ++ record (completed d result) { status = status } ∷ [] }
+    → GainsOne s.config.spaces s.jobs jobs d result → (q : SqRegion) → q ≡ get_or s.sqs.items d.place.region q → (a : Attachment) → q.queue ≡ Some a
+    → (n : ℕ) → n ≡ a.cq_region → (e : CqRegion) → e ≡ get_or s.cqs.items n e → (status : StatusCode) → status ≡ result.status → (f : FifoView Ready) (t : Ready)
+    → f ≡ record e.ready { items = e.ready.items ++ t ∷ [] } → t ≡ done a.qid d status
     → IsGained s (record s { config = with_few s.config few; cqs = with_item s.cqs n (record e { ready = f }); jobs = jobs }) d result
-is_gained s few k admin jobs d result h q q_read a own n same e e_read status status_is f ready = record {
+is_gained s few k admin jobs d result h q q_read a own n same e e_read status status_is f t ready is = record {
   one = h;
   queue = a;
   attached = its_attachment s k admin jobs d result h q q_read a own;
@@ -295,7 +296,7 @@ is_gained s few k admin jobs d result h q q_read a own n same e e_read status st
   f = f;
   there = its_cq_region s k admin jobs d result h q q_read a own a.cq_region refl;
   read = subst (λ (x : ℕ). e ≡ get_or s.cqs.items x e) same e_read;
-  ready = ready ∙ (λ t. record e.ready { items = e.ready.items ++ record (completed d result) { status = status_is t } ∷ [] });
+  ready = ready ∙ ap (λ (x : Ready). record e.ready { items = e.ready.items ++ x ∷ [] }) (is ∙ ap (done a.qid d) status_is);
   sqs = refl;
   cqs = ap (λ (x : ℕ). set s.cqs.items x (record e { ready = f })) same;
   log = refl;
@@ -340,15 +341,15 @@ module _ (a b : FrontState) (d : Dispatched) (result : Finished) (p : IsGained a
   }
 
   -- what is kept is that after the result was gained
-  gained-content_of : content_of b ≡ after_gain (content_of a) d p.one.rest p.one.seat p.queue.cq_region result
+  gained-content_of : content_of b ≡ after_gain (content_of a) d p.one.rest p.one.seat p.queue.qid p.queue.cq_region result
   gained-content_of =
       let c : ℕ = p.queue.cq_region in
-      let now : cq_content (record p.e { ready = p.f }) ≡ record (cq_content p.e) { ready = p.e.ready.items ++ completed d result ∷ [] } =
+      let now : cq_content (record p.e { ready = p.f }) ≡ record (cq_content p.e) { ready = p.e.ready.items ++ completed p.queue.qid d result ∷ [] } =
       λ i. record (cq_content p.e) { ready = (p.ready i).items } in
-      let cq : cq_in b.cqs.items ≡ put_cq (cq_in a.cqs.items) c (record (cq_in a.cqs.items c) { ready = (cq_in a.cqs.items c).ready ++ completed d result ∷ [] }) =
+      let cq : cq_in b.cqs.items ≡ put_cq (cq_in a.cqs.items) c (record (cq_in a.cqs.items c) { ready = (cq_in a.cqs.items c).ready ++ completed p.queue.qid d result ∷ [] }) =
       ap cq_in p.cqs ∙ cq_in-set a.cqs.items c (record p.e { ready = p.f }) p.there
       ∙ ap (λ (z : CqContent). put_cq (cq_in a.cqs.items) c z) now
-      ∙ ap (λ (z : CqContent). put_cq (cq_in a.cqs.items) c (record z { ready = z.ready ++ completed d result ∷ [] })) (sym (cq_in-read a.cqs.items c p.e p.there p.read)) in
+      ∙ ap (λ (z : CqContent). put_cq (cq_in a.cqs.items) c (record z { ready = z.ready ++ completed p.queue.qid d result ∷ [] })) (sym (cq_in-read a.cqs.items c p.e p.there p.read)) in
       let ncq : length b.cqs.items ≡ length a.cqs.items = ap length p.cqs ∙ length-set a.cqs.items c (record p.e { ready = p.f }) in
       λ i. record {
         sq = sq_in (p.sqs i);

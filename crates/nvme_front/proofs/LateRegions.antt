@@ -13,7 +13,7 @@ use Rattle.nvme_admin.specs.declared.bounds.TheConstants.{MAX_REGIONS}
 use Rattle.nvme_admin.specs.declared.region.Region.{Region}
 use Rattle.nvme_admin.proofs.Changed.{region-opens_admin, cq_region-opens_admin}
 use Rattle.nvme_log.specs.Rules.{Past}
-use Rattle.nvme_state.specs.declared.candidate.PendingDelete.{PendingDelete}
+use Rattle.nvme_state.specs.declared.deletion.PendingDelete.{PendingDelete}
 use Rattle.nvme_state.specs.declared.region.SqRegion.{SqRegion}
 use Rattle.nvme_state.specs.declared.region.CqRegion.{CqRegion}
 use Rattle.nvme_state.specs.inside.Jobs.{JobsView}

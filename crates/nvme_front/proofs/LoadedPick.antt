@@ -14,7 +14,7 @@ use Rattle.nvme_log.proofs.PickCounts.{picks_in-append}
 use Rattle.nvme_log.proofs.Tables.{with_events}
 use Rattle.nvme_log.proofs.WithoutPosts.{is_filled-at, pending-posts}
 use Rattle.nvme_log.proofs.LoadedTurns.{AreOther, last-pick, pending-ends, others-in}
-use Rattle.nvme_state.specs.declared.candidate.PendingDelete.{PendingDelete}
+use Rattle.nvme_state.specs.declared.deletion.PendingDelete.{PendingDelete}
 use Rattle.nvme_state.specs.inside.Standing.{as_deletion}
 use Rattle.nvme_state.proofs.Clearing.{all_from_below}
 use Rattle.nvme_front.specs.declared.state.FrontState.{FrontState}

@@ -9,14 +9,15 @@ use Rattle.nvme_entry.specs.declared.completion.Cqe.{Cqe}
 use Rattle.nvme_lane.specs.View.{SamePut}
 use Rattle.nvme_admin.specs.declared.bounds.TheConstants.{MAX_REGIONS}
 use Rattle.nvme_log.specs.declared.event.Event.TheVariants as event
-use Rattle.nvme_state.specs.declared.candidate.Ready.{Ready}
+use Rattle.nvme_state.specs.declared.ready.Ready.{Ready}
 use Rattle.nvme_state.specs.declared.attachment.Attachment.{Attachment}
 use Rattle.nvme_state.specs.declared.region.SqRegion.{SqRegion}
 use Rattle.nvme_state.specs.declared.region.CqRegion.{CqRegion}
 use Rattle.nvme_front.specs.declared.state.FrontState.{FrontState}
 use Rattle.nvme_log.specs.Limits.{most_events}
 use Rattle.nvme_log.specs.Rules.{FrontRules, Past, upto}
-use Rattle.nvme_log.specs.Places.{Place, fetched, fate_of, is_waiting}
+use Rattle.nvme_log.specs.Places.{fetched, fate_of, is_waiting}
+use Rattle.nvme_log.specs.declared.place.Place.{Place}
 use Rattle.nvme_log.specs.Completions.{is_posted, posted_to}
 use Rattle.nvme_log.specs.Laws.{count_of}
 use Rattle.nvme_state.specs.inside.Content.{Content, SqContent, CqContent, no_cq, put_sq, put_cq}
@@ -64,23 +65,21 @@ posted_few (event.Post a r i cqe ∷ past) c = by (a == c) (posted_few past c) w
 posted_few (e ∷ past) c = let rest = posted_few past c in omega (arith, rest)
 
 -- ---- what is known of the completion that became ready first
--- its region was opened for a queue that posts to the completion region, its place is counted as unposted, and a picked one as outstanding
+-- its region was opened for its queue, which posts to the completion region, its place is counted as unposted, and a picked one as outstanding
 pub record IsForemost (k : Content) (c : ℕ) (t : Ready) : Type 0 where
-  pub qid : ℕ
-  pub attached : (k.sq t.region).queue ≡ Some (record { qid = qid; cq_region = c })
-  pub there : t.region < k.nsq
-  pub unposted : 1 ≤ (k.sq t.region).unposted
+  pub attached : (k.sq t.place.region).queue ≡ Some (record { qid = t.sqid; cq_region = c })
+  pub there : t.place.region < k.nsq
+  pub unposted : 1 ≤ (k.sq t.place.region).unposted
   pub outstanding : one_if (not t.with_queue) ≤ k.outstanding
 
--- a queue that posts to a region
-pub record PostsTo (o : Option Attachment) (c : ℕ) : Type 0 where
-  pub qid : ℕ
-  pub is : o ≡ Some (record { qid = qid; cq_region = c })
-
--- what posts to a region was opened for a queue
-posts_to : (o : Option Attachment) (c : ℕ) → option_map (λ (a : Attachment). a.cq_region) o ≡ Some c → PostsTo o c
-posts_to None c e = cc e
-posts_to (Some a) c e = let same : a.cq_region ≡ c = cc e in record { qid = a.qid; is = λ i. Some (record { qid = a.qid; cq_region = same i }) }
+-- what was opened for a queue, and posts to a region
+opened_for : (o : Option Attachment) (q c : ℕ) → option_map (λ (a : Attachment). a.qid) o ≡ Some q → option_map (λ (a : Attachment). a.cq_region) o ≡ Some c
+    → o ≡ Some (record { qid = q; cq_region = c })
+opened_for None q c named goes = cc named
+opened_for (Some a) q c named goes =
+    let qid : a.qid ≡ q = cc named in
+    let region : a.cq_region ≡ c = cc goes in
+    λ i. Some (record { qid = qid i; cq_region = region i })
 
 -- the first item of a list is counted
 first_counted : (xs : List Ready) (t : Ready) (rest : List Ready) → xs ≡ t ∷ rest → one_if (not t.with_queue) ≤ length (filter (λ (x : Ready). not x.with_queue) xs)
@@ -102,32 +101,30 @@ pub foremost : (rules : FrontRules) (late : Bool) (past : Past) (k : Content) (c
 foremost rules late past k c t rest s there first =
     let small : c < MAX_REGIONS = let few = s.tabled.few_cqs in omega (arith, few, there) in
     let ready = All-head (IsReady past k.deletion c) t rest (All-same (IsReady past k.deletion c) (t ∷ rest) (k.cq c).ready (sym first) (s.ready.each c)) in
-    let answer = All-head (λ (x : Ready). IsAnswerable past (hand_of k) x.region x.index) t rest
-    (All-same (λ (x : Ready). IsAnswerable past (hand_of k) x.region x.index) (t ∷ rest) (k.cq c).ready (sym first)
+    let answer = All-head (λ (x : Ready). IsAnswerable past (hand_of k) x.place.region x.place.index) t rest
+    (All-same (λ (x : Ready). IsAnswerable past (hand_of k) x.place.region x.place.index) (t ∷ rest) (k.cq c).ready (sym first)
     (ready_is_answerable past k (hand_of k) s.ready c)) in
-    let at = posts_to (k.sq t.region).queue c (sym (s.queues.cq_region_is t.region) ∙ ready.region) in
+    let at = opened_for (k.sq t.place.region).queue t.sqid c (sym (s.queues.qid_is t.place.region) ∙ ready.queue) (sym (s.queues.cq_region_is t.place.region) ∙ ready.region) in
     let picked = over_regions_at (λ (x : ℕ). length (filter (λ (u : Ready). not u.with_queue) (k.cq x).ready)) c MAX_REGIONS small in
     let here = first_counted (k.cq c).ready t rest first in
-    let open_places = answerable_counted past (hand_of k) t.region t.index answer in
-    let counted = s.counts.unposted t.region in
+    let open_places = answerable_counted past (hand_of k) t.place.region t.place.index answer in
+    let counted = s.counts.unposted t.place.region in
     let taken = s.ready.taken in
     record {
-      qid = at.qid;
-      attached = at.is;
-      there = s.queues.sq_there t.region (record { qid = at.qid; cq_region = c }) at.is;
+      attached = at;
+      there = s.queues.sq_there t.place.region (record { qid = t.sqid; cq_region = c }) at;
       unposted = omega (arith, open_places, counted);
       outstanding = omega (arith, picked, here, taken);
     }
 
 -- its completion may be posted
 pub completion_can_be_posted : (past : Past) (k : Content) (c : ℕ) (t : Ready) (rest : List Ready) (cqe : Cqe) → (k.cq c).ready ≡ t ∷ rest → c < k.ncq
-    → IsForemost k c t → IsCompletionOf (k.sq t.region) (k.cq c) t cqe → CanPost past k c t rest cqe cqe.sqid
+    → IsForemost k c t → IsCompletionOf (k.sq t.place.region) (k.cq c) t cqe → CanPost past k c t rest cqe
 completion_can_be_posted past k c t rest cqe first there f h = record {
   oldest = first;
   there = there;
-  attached = f.attached ∙ (let both : Some f.qid ≡ Some cqe.sqid = ap (option_map (λ (a : Attachment). a.qid)) (sym f.attached ∙ h.queue) in
-      let same : f.qid ≡ cqe.sqid = cc both in λ i. Some (record { qid = same i; cq_region = c }));
-  sqid = refl;
+  attached = f.attached;
+  sqid = h.sqid;
   cid = h.cid;
   status = h.status;
   dw0 = h.dw0;
@@ -171,14 +168,14 @@ pub record IsPosted (a b : FrontState) (c : ℕ) (t : Ready) (cqe : Cqe) : Type 
   pub g : CqRegion
   pub there : c < length a.cqs.items
   pub cq_read : d ≡ get_or a.cqs.items c d
-  pub sq_read : e ≡ get_or a.sqs.items t.region e
+  pub sq_read : e ≡ get_or a.sqs.items t.place.region e
   pub first : slice_get d.ready.items 0 ≡ Some t
-  pub completion : IsCompletionOf (sq_in a.sqs.items t.region) (cq_in a.cqs.items c) t cqe
+  pub completion : IsCompletionOf (sq_in a.sqs.items t.place.region) (cq_in a.cqs.items c) t cqe
   pub same_end : SamePut d.end g.end
   pub sent : g.end.sent ≡ d.end.sent ++ cqe ∷ []
   pub ready : g.ready ≡ record d.ready { items = drop 1 d.ready.items }
   pub posted : g.posted ≡ d.posted + 1
-  pub sqs : b.sqs.items ≡ set a.sqs.items t.region (record e { unposted = e.unposted - 1 })
+  pub sqs : b.sqs.items ≡ set a.sqs.items t.place.region (record e { unposted = e.unposted - 1 })
   pub cqs : b.cqs.items ≡ set a.cqs.items c g
   pub outstanding : b.outstanding ≡ a.outstanding - one_if (not t.with_queue)
   pub log : b.log.items ≡ a.log.items ++ post_event c t cqe ∷ []
@@ -198,11 +195,11 @@ posted-goes a b c t cqe p = record {
   config = p.config;
   alloc = p.alloc;
   late = p.late;
-  gets = ap (λ (z : List SqRegion). map get_place (gets_of z)) p.sqs ∙ places-set a.sqs.items t.region p.e _ p.sq_read refl;
+  gets = ap (λ (z : List SqRegion). map get_place (gets_of z)) p.sqs ∙ places-set a.sqs.items t.place.region p.e _ p.sq_read refl;
   puts = ap (λ (z : List CqRegion). map put_place (puts_of z)) p.cqs
       ∙ put_places-set a.cqs.items c p.d p.g p.cq_read (λ i. (p.same_end.0 i, p.same_end.1 i, p.same_end.2 i));
-  comes = comes-same a.sqs.items b.sqs.items (ap (map coming_at) p.sqs ∙ coming-set a.sqs.items t.region p.e _ p.sq_read refl);
-  windows = ap (map window_room) p.sqs ∙ windows-set a.sqs.items t.region p.e _ p.sq_read refl;
+  comes = comes-same a.sqs.items b.sqs.items (ap (map coming_at) p.sqs ∙ coming-set a.sqs.items t.place.region p.e _ p.sq_read refl);
+  windows = ap (map window_room) p.sqs ∙ windows-set a.sqs.items t.place.region p.e _ p.sq_read refl;
   readies = ap (map ready_room) p.cqs ∙ readies-set a.cqs.items c p.d p.g p.cq_read (ap (λ z. z.room) p.ready);
   came = rw p.jobs refl;
   seat = rw p.jobs (SameSeat-refl a.jobs.hands.seat);
@@ -212,19 +209,19 @@ posted-goes a b c t cqe p = record {
 }
 
 -- what is kept is that after a post
-posted-content_of : (a b : FrontState) (c : ℕ) (t : Ready) (cqe : Cqe) → t.region < length a.sqs.items → (p : IsPosted a b c t cqe)
+posted-content_of : (a b : FrontState) (c : ℕ) (t : Ready) (cqe : Cqe) → t.place.region < length a.sqs.items → (p : IsPosted a b c t cqe)
     → content_of b ≡ after_post (content_of a) c t (drop 1 p.d.ready.items) cqe p.g.end.free
 posted-content_of a b c t cqe there p =
-    let sq : sq_in b.sqs.items ≡ put_sq (sq_in a.sqs.items) t.region (record (sq_in a.sqs.items t.region) { unposted = (sq_in a.sqs.items t.region).unposted - 1 }) =
-    ap sq_in p.sqs ∙ sq_in-set a.sqs.items t.region (record p.e { unposted = p.e.unposted - 1 }) there
-    ∙ ap (λ (z : SqContent). put_sq (sq_in a.sqs.items) t.region (record z { unposted = z.unposted - 1 })) (sym (sq_in-read a.sqs.items t.region p.e there p.sq_read)) in
+    let sq : sq_in b.sqs.items ≡ put_sq (sq_in a.sqs.items) t.place.region (record (sq_in a.sqs.items t.place.region) { unposted = (sq_in a.sqs.items t.place.region).unposted - 1 }) =
+    ap sq_in p.sqs ∙ sq_in-set a.sqs.items t.place.region (record p.e { unposted = p.e.unposted - 1 }) there
+    ∙ ap (λ (z : SqContent). put_sq (sq_in a.sqs.items) t.place.region (record z { unposted = z.unposted - 1 })) (sym (sq_in-read a.sqs.items t.place.region p.e there p.sq_read)) in
     let now : cq_content p.g ≡ posted_cq (cq_content p.d) (drop 1 p.d.ready.items) cqe p.g.end.free =
     λ i. record { sent = p.sent i; free = p.g.end.free; posted = p.posted i; ready = (p.ready i).items; slots = p.same_end.2 i } in
     let cq : cq_in b.cqs.items ≡ put_cq (cq_in a.cqs.items) c (posted_cq (cq_in a.cqs.items c) (drop 1 p.d.ready.items) cqe p.g.end.free) =
     ap cq_in p.cqs ∙ cq_in-set a.cqs.items c p.g p.there
     ∙ ap (λ (z : CqContent). put_cq (cq_in a.cqs.items) c z) now
     ∙ ap (λ (z : CqContent). put_cq (cq_in a.cqs.items) c (posted_cq z (drop 1 p.d.ready.items) cqe p.g.end.free)) (sym (cq_in-read a.cqs.items c p.d p.there p.cq_read)) in
-    let nsq : length b.sqs.items ≡ length a.sqs.items = ap length p.sqs ∙ length-set a.sqs.items t.region _ in
+    let nsq : length b.sqs.items ≡ length a.sqs.items = ap length p.sqs ∙ length-set a.sqs.items t.place.region _ in
     let ncq : length b.cqs.items ≡ length a.cqs.items = ap length p.cqs ∙ length-set a.cqs.items c p.g in
     λ i. record { sq = sq i; cq = cq i; nsq = nsq i; ncq = ncq i; board = p.board i; table = p.table i; outstanding = p.outstanding i; deletion = p.deletion i; jobs = p.jobs i }
 
@@ -241,7 +238,7 @@ posted-kept a b c t cqe k admin p =
     let stands : Stands (rules_of a) a.late (past_of b) (content_of b) =
     subst (λ (z : Past). Stands (rules_of a) a.late z (content_of b)) (sym past)
     (subst (λ (z : Content). Stands (rules_of a) a.late (post_event c t cqe ∷ past_of a) z) (sym kept)
-    (stands-post (rules_of a) a.late (past_of a) (content_of a) c t (drop 1 p.d.ready.items) cqe cqe.sqid p.g.end.free (k.stands admin.0 admin.1)
+    (stands-post (rules_of a) a.late (past_of a) (content_of a) c t (drop 1 p.d.ready.items) cqe p.g.end.free (k.stands admin.0 admin.1)
     (completion_can_be_posted (past_of a) (content_of a) c t (drop 1 p.d.ready.items) cqe first p.there f p.completion))) in
     kept_after a b admin goes
     (roomy-goes a b k.roomy goes (ap (λ z. z.sq_regions) p.table) (ap (λ z. z.cq_regions) p.table) few)
@@ -258,8 +255,8 @@ same_first s c d g t there read again first =
     ap (λ (z : CqContent). slice_get z.ready 0) (sym (cq_in-read s.cqs.items c g there again) ∙ cq_in-read s.cqs.items c d there read) ∙ first
 
 -- the submission region of the completion that became ready first has an unposted place
-pub front_unposted : (s : FrontState) (c : ℕ) (t : Ready) (e : SqRegion) → IsForemost (content_of s) c t → e ≡ get_or s.sqs.items t.region e → 1 ≤ e.unposted
-front_unposted s c t e f read = let same = ap (λ (z : SqContent). z.unposted) (sq_in-read s.sqs.items t.region e f.there read) in let some = f.unposted in omega (arith, same, some)
+pub front_unposted : (s : FrontState) (c : ℕ) (t : Ready) (e : SqRegion) → IsForemost (content_of s) c t → e ≡ get_or s.sqs.items t.place.region e → 1 ≤ e.unposted
+front_unposted s c t e f read = let same = ap (λ (z : SqContent). z.unposted) (sq_in-read s.sqs.items t.place.region e f.there read) in let some = f.unposted in omega (arith, same, some)
 
 -- ---- from step to step
 -- the log doesn't get shorter

@@ -11,14 +11,15 @@ use Rattle.nvme_pool.specs.Jobs.{result_of}
 use Rattle.nvme_pool.specs.declared.jobs.Job.{Job}
 use Rattle.nvme_log.specs.declared.event.Event.{Event}
 use Rattle.nvme_log.specs.Rules.{Past}
-use Rattle.nvme_log.specs.Places.{Place, fetched, fate_of, is_waiting, is_picked, is_served, one_if}
+use Rattle.nvme_log.specs.Places.{fetched, fate_of, is_waiting, is_picked, is_served, one_if}
+use Rattle.nvme_log.specs.declared.place.Place.{Place}
 use Rattle.nvme_log.specs.Dispatches.{dispatched, place_at, IsJobOf}
 use Rattle.nvme_log.proofs.Posts.{posts_of-some}
 use Rattle.nvme_log.proofs.Tickets.{job_there}
 use Rattle.nvme_log.proofs.Waiting.{one_fate_of}
 use Rattle.nvme_state.specs.Answers.{IsAnsweredIo, HasTicket, AnswersHaveTickets, AnswersHaveResults}
 use Rattle.nvme_state.specs.Hands.{Hands, in_hand, job_in}
-use Rattle.nvme_state.specs.declared.candidate.Dispatched.{Dispatched}
+use Rattle.nvme_state.specs.declared.dispatched.Dispatched.{Dispatched}
 use Rattle.nvme_state.specs.inside.Content.{Content}
 use Rattle.nvme_state.specs.inside.Jobs.{dispatched_place}
 use Rattle.nvme_state.specs.inside.Standing.{HoldsReady, HoldsJobs, IsPickedPlace, times_held, held_by, hand_of}
@@ -78,10 +79,10 @@ module _ (past : Past) (k : Content) (ready : HoldsReady past k (hand_of k)) whe
     not_in_hand r i ticket a counts j e lt =
         let d : Dispatched = slice_index_or (in_hand k.jobs.hands) j e in
         ne_eqb d.ticket ticket (λ same.
-        let place : place_at d.region d.index ≡ place_at r i =
-        same_Some (place_at d.region d.index) (place_at r i) (sym (jobs.account.places j e lt) ∙ ap (slice_get (dispatched past)) same ∙ counts) in
-        let own : Dispatched → ℕ = λ x. one_if (x.region == r && x.index == i) in
-        let itself : own d ≡ 1 = rw (eq-eqb d.region r (ap (λ (p : Place). p.region) place), eq-eqb d.index i (ap (λ (p : Place). p.index) place)) refl in
+        let place : place_at d.place.region d.place.index ≡ place_at r i =
+        same_Some (place_at d.place.region d.place.index) (place_at r i) (sym (jobs.account.places j e lt) ∙ ap (slice_get (dispatched past)) same ∙ counts) in
+        let own : Dispatched → ℕ = λ x. one_if (x.place.region == r && x.place.index == i) in
+        let itself : own d ≡ 1 = rw (eq-eqb d.place.region r (ap (λ (p : Place). p.region) place), eq-eqb d.place.index i (ap (λ (p : Place). p.index) place)) refl in
         let here : own d ≤ sum_by own (in_hand k.jobs.hands) = get_or-le-sum_by own (in_hand k.jobs.hands) j e lt in
         let held : times_held r i (hand_of k) ≡ sum_by own (in_hand k.jobs.hands) + times_held r i (held_by k.deletion) =
         sum_by-append (λ (p : Place). one_if (p.region == r && p.index == i)) (map dispatched_place (in_hand k.jobs.hands)) (held_by k.deletion)

@@ -11,13 +11,14 @@ use Rattle.nvme_admin.specs.declared.bounds.TheConstants.{MAX_REGIONS}
 use Rattle.nvme_admin.specs.declared.region.Region.{Region}
 use Rattle.nvme_admin.specs.declared.verdict.SqEntry.{SqEntry}
 use Rattle.nvme_state.specs.declared.candidate.Candidate.{Candidate}
-use Rattle.nvme_state.specs.declared.candidate.Ready.{Ready}
-use Rattle.nvme_state.specs.declared.candidate.PendingDelete.{PendingDelete}
+use Rattle.nvme_state.specs.declared.ready.Ready.{Ready}
+use Rattle.nvme_state.specs.declared.deletion.PendingDelete.{PendingDelete}
 use Rattle.nvme_state.specs.declared.attachment.Attachment.{Attachment}
 use Rattle.nvme_front.specs.declared.state.FrontState.{FrontState}
 use Rattle.nvme_log.specs.Rules.{FrontRules, upto, sq_regions_of}
 use Rattle.nvme_log.specs.Queues.{Queue, admin_queue}
-use Rattle.nvme_log.specs.Places.{Place, entry_at, fate_of, is_waiting}
+use Rattle.nvme_log.specs.Places.{entry_at, fate_of, is_waiting}
+use Rattle.nvme_log.specs.declared.place.Place.{Place}
 use Rattle.nvme_log.specs.Laws.{as_open}
 use Rattle.nvme_state.specs.inside.Jobs.{dispatched_place}
 use Rattle.nvme_state.specs.inside.Content.{SqContent, Content}
@@ -134,6 +135,7 @@ module _ (rules : FrontRules) (late : Bool) (k : Content) (f : IsFresh rules lat
         few_aborted = rw (over_regions-none (λ (c : ℕ). length (filter (λ (t : Ready). t.with_queue) (k.cq c).ready)) MAX_REGIONS (λ c. ap (λ (xs : List Ready). length (filter (λ (t : Ready). t.with_queue) xs)) (f.cqs c).ready)) (omega arith);
         few_taken = rw f.none_outstanding (omega arith);
         none_beyond = λ c le. (f.cqs c).ready;
+        admin_qid = refl;
         admin_region = refl;
       }
 
@@ -187,7 +189,7 @@ module _ (rules : FrontRules) (late : Bool) (k : Content) (f : IsFresh rules lat
   first_deletion : HoldsDeletion [] k
   first_deletion = record {
     pending_is = ap (option_map as_deletion) (sym f.no_deletion);
-    place_is = ap (option_map (λ (d : PendingDelete). d.index)) (sym f.no_deletion);
+    place_is = ap (option_map (λ (d : PendingDelete). d.place.index)) (sym f.no_deletion);
     stands = λ d h. let none = f.no_deletion in cc;
     closing_is = λ q e there closes.
         let same : admin_entry ≡ e = (only_zero q admin_entry e (sym (table_sq rules late k f adds sqs q) ∙ there)).1 in

@@ -20,7 +20,7 @@ use Rattle.nvme_arbiter.proofs.NextLemmas.{IfSome-find}
 use Rattle.nvme_admin.specs.declared.verdict.SqEntry.{SqEntry}
 use Rattle.nvme_admin.specs.Standing.{sq_of}
 use Rattle.nvme_state.specs.declared.candidate.Candidate.{Candidate}
-use Rattle.nvme_state.specs.declared.candidate.PendingDelete.{PendingDelete}
+use Rattle.nvme_state.specs.declared.deletion.PendingDelete.{PendingDelete}
 use Rattle.nvme_front.specs.declared.state.FrontState.{FrontState}
 use Rattle.nvme_log.specs.Limits.{max_outstanding, admin_events}
 use Rattle.nvme_log.specs.Queues.{Queue, Deletion, open_sq, pending}

@@ -1,5 +1,5 @@
 // The effects of picked admin commands on the queues.
-use crate::executing::{abort_all, requested};
+use crate::executing::abort_all;
 use crate::logging::note;
 use crate::state::FrontState;
 use nvme_admin::Verdict;
@@ -133,13 +133,19 @@ impl FrontState {
             },
         );
         sq.unposted += sq.window.len() as u16;
-        abort_all(&mut sq.window, &mut cq.ready, queue.region, &mut self.log);
+        abort_all(
+            &mut sq.window,
+            &mut cq.ready,
+            qid,
+            queue.region,
+            &mut self.log,
+        );
         self.board.close(qid);
         self.deletion = Some(PendingDelete {
+            place: candidate.place(0),
+            cid: candidate.entry.cid,
             qid,
             region: queue.region,
-            index: candidate.index,
-            entry: candidate.entry,
         });
     }
 
@@ -172,7 +178,7 @@ impl FrontState {
         self.outstanding += 1;
         self.cqs[usize::from(attachment.cq_region)]
             .ready
-            .push(requested(region, &found));
+            .push(Ready::aborted(sqid, region, &found));
         let index = found.index;
         note(&mut self.log, Event::Abort { region, index });
         self.board.went(sqid);

@@ -1,12 +1,11 @@
 // Takes candidates of an I/O queue out of its window: they were picked, or are aborted.
 ghost use Rattle.std.specs.Prelude.{◌≡◌, ◌+◌, ◌^◌, ◌<◌, ◌≤◌, [], ◌++◌, map, length, take, drop, vec_capacity};
-ghost use Rattle.nvme_state.specs.inside.Steps.{aborted, requested as requested_at};
+ghost use Rattle.nvme_state.specs.inside.Steps.{aborted};
 ghost use Rattle.nvme_state.specs.inside.Jobs.{with_picked};
 ghost use Rattle.nvme_log.specs.declared.event.Event.TheVariants.{Abort};
 ghost use Rattle.nvme_state.specs.declared.candidate.Candidate.{Candidate};
 
 use crate::logging::note;
-use nvme_entry::Status;
 use nvme_log::Event;
 use nvme_state::{Candidate, Fifo, Jobs, Ready};
 
@@ -26,32 +25,19 @@ pub fn dispatch_oldest(window: &mut Fifo<Candidate>, jobs: &mut Jobs, region: u8
     }
 }
 
-/// The completion of a candidate that an Abort command aborted. (Base Specification, Abort)
-pub fn requested(region: u8, candidate: &Candidate) -> Ready
-    ensures { result ≡ requested_at region candidate.now }
-{
-    Ready {
-        region,
-        index: candidate.index,
-        entry: candidate.entry,
-        with_queue: false,
-        status: Status::ABORT_REQUESTED,
-        dw0: 0,
-    }
-}
-
-/// Aborts all candidates of a window, the oldest first. Their completions are then ready.
+/// Aborts all candidates of the window of queue `qid`, the oldest first. Their completions are then ready.
 /// (Base Specification, Delete I/O Submission Queue)
 pub fn abort_all(
     window: &mut Fifo<Candidate>,
     ready: &mut Fifo<Ready>,
+    qid: u16,
     region: u8,
     log: &mut Vec<Event>,
 )
     requires room { length ready.old.items + length window.old.items ≤ ready.old.room }
     requires events { length log.old.items + length window.old.items ≤ vec_capacity log.old }
     ensures window { window.new ≡ record window.old { items = [] } }
-    ensures ready { ready.new ≡ record ready.old { items = ready.old.items ++ map (aborted region) window.old.items } }
+    ensures ready { ready.new ≡ record ready.old { items = ready.old.items ++ map (aborted qid region) window.old.items } }
     ensures log { log.new.items ≡ log.old.items ++ map (λ (c : Candidate). Abort region c.index) window.old.items }
 {
     let count = window.len();
@@ -66,13 +52,6 @@ pub fn abort_all(
                 index: candidate.index,
             },
         );
-        ready.push(Ready {
-            region,
-            index: candidate.index,
-            entry: candidate.entry,
-            with_queue: true,
-            status: Status::ABORTED_BY_DELETION,
-            dw0: 0,
-        });
+        ready.push(Ready::aborted_with_queue(qid, region, &candidate));
     }
 }

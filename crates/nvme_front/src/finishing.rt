@@ -40,14 +40,8 @@ impl FrontState {
         make_room(&mut self.log, self.config.max_events, 1)?;
         self.table.finish_delete(deletion.qid);
         self.deletion = None;
-        self.cqs[0].ready.push(Ready {
-            region: 0,
-            index: deletion.index,
-            entry: deletion.entry,
-            with_queue: false,
-            status: Status::SUCCESS,
-            dw0: 0,
-        });
+        let answer = Ready::answered(deletion.place, deletion.cid, Status::SUCCESS, 0);
+        self.cqs[0].ready.push(answer);
         note(
             &mut self.log,
             Event::ClosedSq {

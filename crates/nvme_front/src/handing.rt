@@ -82,19 +82,12 @@ impl FrontState {
             Gained::Stray(ticket) => return Err(FrontError::Stray(ticket)),
             Gained::Result(dispatched, status) => (dispatched, status),
         };
-        let Some(attachment) = self.sqs[usize::from(dispatched.region)].queue else {
+        let Some(attachment) = self.sqs[usize::from(dispatched.place.region)].queue else {
             unreachable!()
         };
         self.cqs[usize::from(attachment.cq_region)]
             .ready
-            .push(Ready {
-                region: dispatched.region,
-                index: dispatched.index,
-                entry: dispatched.entry,
-                with_queue: false,
-                status,
-                dw0: 0,
-            });
+            .push(Ready::done(attachment.qid, &dispatched, status));
         Ok(true)
     }
 

@@ -5,8 +5,8 @@ ghost use Rattle.nvme_log.specs.Completions.{phase_after};
 use crate::front::FrontError;
 use crate::logging::{make_room, note};
 use crate::state::FrontState;
-use nvme_entry::{Cqe, complete};
-use nvme_log::Event;
+use nvme_entry::Cqe;
+use nvme_log::{Event, Place};
 use nvme_state::Ready;
 
 // The phase tag of the next completion in a ring with the given number of slots, after the given number of posts. (Base
@@ -19,7 +19,7 @@ fn phase_of(posted: u32, slots: u16) -> bool
 }
 
 impl FrontState {
-    ghost use Rattle.std.specs.Prelude.{◌≡◌, ◌≢◌, ℕ, ◌+◌, ◌<◌, length, None, IfSome, IfNone, OnOk, true, false, ◌⊎◌, IfErr};
+    ghost use Rattle.std.specs.Prelude.{◌≡◌, ◌≢◌, ℕ, ◌+◌, ◌<◌, length, OnOk, true, false, ◌⊎◌, IfErr};
     ghost use Rattle.nvme_front.specs.inside.State.{sq_in, cq_in};
     ghost use Rattle.nvme_front.specs.inside.Room.{IsConsistent};
     ghost use Rattle.nvme_front.specs.inside.Goes.{Goes, IsSame, HasAdmin, IsDrained, AllDrained, IsCompletionOf};
@@ -27,27 +27,18 @@ impl FrontState {
     ghost use Rattle.nvme_log.specs.Histories.{picks_in};
     ghost use Rattle.nvme_front.specs.declared.front.FrontError.TheVariants.{NoMemory, LogFull};
 
-    // The completion of a ready place, if it is posted next to this completion region. None where the place's region
-    // has no queue. (Base Specification, Completion Queue Entry)
-    fn completion_of(&self, c: u8, ready: Ready) -> Option<Cqe>
+    // The completion of a ready place, if it is posted next to this completion region. (Base Specification, Completion
+    // Queue Entry)
+    fn completion_of(&self, c: u8, ready: &Ready) -> Cqe
         requires cq_there { c < length self.now.cqs.items }
-        requires sq_there { ready.region < length self.now.sqs.items }
-        ensures none { IfNone result ((sq_in self.now.sqs.items ready.region).queue ≡ None) }
-        ensures some { IfSome result (λ cqe. IsCompletionOf (sq_in self.now.sqs.items ready.region) (cq_in self.now.cqs.items c) ready cqe) }
+        requires sq_there { ready.now.place.region < length self.now.sqs.items }
+        ensures { IsCompletionOf (sq_in self.now.sqs.items ready.now.place.region) (cq_in self.now.cqs.items c) ready.now result }
     {
-        let sq = &self.sqs[usize::from(ready.region)];
+        let sq = &self.sqs[usize::from(ready.place.region)];
         let cq = &self.cqs[usize::from(c)];
-        let queue = sq.queue?;
         let sqhd = (sq.fetched % u32::from(sq.end.slots())) as u16;
         let phase = phase_of(cq.posted, cq.end.slots());
-        Some(complete(
-            &ready.entry,
-            queue.qid,
-            sqhd,
-            phase,
-            ready.status,
-            ready.dw0,
-        ))
+        ready.completion(sqhd, phase)
     }
 
     // Posts the oldest ready completion of a completion region, if there is one and the ring takes it.
@@ -72,28 +63,21 @@ impl FrontState {
         let Some(ready) = region.ready.front() else {
             return Ok(false);
         };
-        let Ready {
-            region: sq_region,
-            index,
-            with_queue,
-            ..
-        } = ready;
         make_room(&mut self.log, self.config.max_events, 1)?;
-        let Some(cqe) = self.completion_of(c, ready) else {
-            unreachable!()
-        };
+        let cqe = self.completion_of(c, &ready);
         let region = &mut self.cqs[usize::from(c)];
         if !region.post(&cqe) {
             return Ok(false);
         }
-        let sq = &mut self.sqs[usize::from(sq_region)];
+        let Place { region, index } = ready.place;
+        let sq = &mut self.sqs[usize::from(region)];
         sq.unposted -= 1;
-        self.outstanding -= if with_queue { 0 } else { 1 };
+        self.outstanding -= if ready.with_queue { 0 } else { 1 };
         note(
             &mut self.log,
             Event::Post {
                 cq_region: c,
-                region: sq_region,
+                region,
                 index,
                 cqe,
             },

@@ -20,7 +20,8 @@ use Rattle.nvme_log.specs.declared.event.Event.TheVariants.{Fetch, SetArbitratio
 use Rattle.nvme_log.specs.declared.event.Event.TheVariants as event
 use Rattle.nvme_log.specs.Rules.{Past, FrontRules, Each}
 use Rattle.nvme_log.specs.Queues.{Queue, open_sq, has_region}
-use Rattle.nvme_log.specs.Places.{Place, Fate, WasAborted, WasPicked, Waits, fetched, waiting, fate_of, is_waiting, is_aborted, entry_at}
+use Rattle.nvme_log.specs.Places.{Fate, WasAborted, WasPicked, Waits, fetched, waiting, fate_of, is_waiting, is_aborted, entry_at}
+use Rattle.nvme_log.specs.declared.place.Place.{Place}
 use Rattle.nvme_log.specs.Histories.{table_history, admin_entry, picks_in}
 use Rattle.nvme_log.specs.Aborts.{is_abort_entry, took_abort, is_abort_requested}
 use Rattle.nvme_log.specs.Completions.{own_status, own_dw0, IsOwn}

@@ -20,7 +20,8 @@ use Rattle.nvme_log.specs.declared.event.Event.TheVariants.{Fetch, SetArbitratio
 use Rattle.nvme_log.specs.declared.event.Event.TheVariants as event
 use Rattle.nvme_log.specs.Rules.{Past, FrontRules, Each, upto}
 use Rattle.nvme_log.specs.Queues.{Queue, Deletion, open_sq, open_cq, has_region, pending}
-use Rattle.nvme_log.specs.Places.{Place, fetched, waiting, fate_of, is_waiting, observation_of, is_served, one_if}
+use Rattle.nvme_log.specs.Places.{fetched, waiting, fate_of, is_waiting, observation_of, is_served, one_if}
+use Rattle.nvme_log.specs.declared.place.Place.{Place}
 use Rattle.nvme_log.specs.Histories.{arbitration_of, table_history, admin_entry, picks_in}
 use Rattle.nvme_log.specs.Completions.{is_posted, posts_of}
 use Rattle.nvme_log.specs.Effects.{closing_of, closed_cq_of, made_by, made_of, made_last, effects_since, EffectsAtOnce}

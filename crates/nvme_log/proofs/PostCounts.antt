@@ -11,7 +11,8 @@ use Rattle.nvme_log.specs.declared.event.Event.{Event}
 use Rattle.nvme_log.specs.declared.event.Event.TheVariants.{Fetch, Post}
 use Rattle.nvme_log.specs.Rules.{Past, FrontRules, Each}
 use Rattle.nvme_log.specs.Queues.{cq_region_of}
-use Rattle.nvme_log.specs.Places.{Place, fetched, places, one_if}
+use Rattle.nvme_log.specs.Places.{fetched, places, one_if}
+use Rattle.nvme_log.specs.declared.place.Place.{Place}
 use Rattle.nvme_log.specs.Dispatches.{place_at}
 use Rattle.nvme_log.specs.Aborts.{is_index}
 use Rattle.nvme_log.specs.Completions.{is_posted, posts_of, posted_to}

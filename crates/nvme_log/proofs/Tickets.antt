@@ -11,7 +11,8 @@ use Rattle.nvme_pool.specs.declared.jobs.Finished.{Finished}
 use Rattle.nvme_pool.specs.Jobs.{result_of}
 use Rattle.nvme_pool.proofs.Retiring.{sum_by_map}
 use Rattle.nvme_log.specs.Rules.{Past}
-use Rattle.nvme_log.specs.Places.{Place, one_if}
+use Rattle.nvme_log.specs.Places.{one_if}
+use Rattle.nvme_log.specs.declared.place.Place.{Place}
 use Rattle.nvme_log.specs.Dispatches.{AreJobs, IsJobOf, dispatched}
 use Rattle.nvme_log.specs.Laws.{EachIsExecutedOnce}
 

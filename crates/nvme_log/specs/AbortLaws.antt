@@ -14,7 +14,8 @@ use Rattle.nvme_log.specs.declared.event.Event.{Event}
 use Rattle.nvme_log.specs.declared.event.Event.TheVariants as event
 use Rattle.nvme_log.specs.Rules.{Past, FrontRules}
 use Rattle.nvme_log.specs.Queues.{Queue, open_sq}
-use Rattle.nvme_log.specs.Places.{Place, Waits, waiting, entry_at, fate_of, is_aborted}
+use Rattle.nvme_log.specs.Places.{Waits, waiting, entry_at, fate_of, is_aborted}
+use Rattle.nvme_log.specs.declared.place.Place.{Place}
 use Rattle.nvme_log.specs.Histories.{table_history, picks_in}
 use Rattle.nvme_log.specs.Effects.{is_effect}
 use Rattle.nvme_log.specs.Account.{IsAccount}

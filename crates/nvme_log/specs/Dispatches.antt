@@ -10,7 +10,8 @@ use Rattle.nvme_pool.specs.Seat.{SeatView}
 use Rattle.nvme_pool.specs.Worker.{WorkerView}
 use Rattle.nvme_log.specs.Rules.{Past}
 use Rattle.nvme_log.specs.Queues.{Queue, open_sq}
-use Rattle.nvme_log.specs.Places.{Place, waiting, entry_at}
+use Rattle.nvme_log.specs.Places.{waiting, entry_at}
+use Rattle.nvme_log.specs.declared.place.Place.{Place}
 use Rattle.nvme_log.specs.declared.event.Event.TheVariants as event
 
 abbrev pub place_at : ℕ → ℕ → Place

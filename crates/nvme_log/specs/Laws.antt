@@ -20,7 +20,8 @@ use Rattle.nvme_log.specs.declared.event.Event.TheVariants.{Closing, Post}
 use Rattle.nvme_log.specs.declared.event.Event.TheVariants as event
 use Rattle.nvme_log.specs.Limits.{max_outstanding}
 use Rattle.nvme_log.specs.Rules.{Past, FrontRules, Each}
-use Rattle.nvme_log.specs.Places.{Place, fetched, waiting, places, fate_of, is_waiting, is_picked, is_aborted, one_if}
+use Rattle.nvme_log.specs.Places.{fetched, waiting, places, fate_of, is_waiting, is_picked, is_aborted, one_if}
+use Rattle.nvme_log.specs.declared.place.Place.{Place}
 use Rattle.nvme_log.specs.Queues.{Queue, open_sq, open_cq}
 use Rattle.nvme_log.specs.Histories.{arbitration_of, table_history}
 use Rattle.nvme_log.specs.Completions.{posted_to, posts_of, outstanding, IsOwn}

@@ -8,11 +8,6 @@ use Rattle.nvme_log.specs.declared.event.Event.TheVariants.{Fetch, Pick, Abort}
 use Rattle.nvme_log.specs.Rules.{Past, upto}
 use Rattle.nvme_log.specs.Queues.{Queue, open_sq, has_region}
 
--- a place: a submission region and an index
-pub record Place : Type 0 where
-  pub region : ℕ
-  pub index : ℕ
-
 -- the entries fetched from a region, in order
 abbrev pub fetched : Past → ℕ → List Sqe
 fetched [] r = []

@@ -2,8 +2,8 @@ use crate::listed::Listed;
 use nvme_arbiter::{Class, Pick, Seen, Settings};
 use nvme_entry::{Cqe, Sqe};
 
-/// One step of a front. A log lists them in the order in which the front did them. A place is a submission region with
-/// an index, which counts that region's fetches from 0.
+/// One step of a front. A log lists them in the order in which the front did them. A `region` with an `index` is a
+/// `Place`.
 #[derive(Debug, Drop, PartialEq, Eq)]
 pub enum Event {
     /// An entry was fetched from a submission region's ring into its queue's window.

@@ -6,7 +6,9 @@ mod event;
 pub mod laws;
 mod limits;
 mod listed;
+mod place;
 
 pub use event::Event;
 pub use limits::{MAX_EVENTS, MAX_OUTSTANDING, window_of};
 pub use listed::Listed;
+pub use place::Place;

@@ -8,7 +8,7 @@ use Rattle.nvme_pool.specs.Worker.{WorkerView, IsFresh}
 use Rattle.nvme_pool.specs.Seat.{SeatView}
 use Rattle.nvme_pool.proofs.Retiring.{sum_by_map}
 use Rattle.nvme_log.specs.Rules.{Past}
-use Rattle.nvme_log.specs.Places.{Place}
+use Rattle.nvme_log.specs.declared.place.Place.{Place}
 use Rattle.nvme_log.specs.Dispatches.{AreJobs, ExecutesOnce, dispatched}
 use Rattle.nvme_state.proofs.Readying.{sum_by-same}
 use Rattle.nvme_threads.specs.Runs.{AllRan}

@@ -20,11 +20,12 @@ use Rattle.nvme_log.specs.declared.event.Event.{Event}
 use Rattle.nvme_log.specs.declared.event.Event.TheVariants.{Closing, Abort}
 use Rattle.nvme_log.specs.declared.event.Event.TheVariants as event
 use Rattle.nvme_state.specs.declared.candidate.Candidate.{Candidate}
-use Rattle.nvme_state.specs.declared.candidate.Ready.{Ready}
-use Rattle.nvme_state.specs.declared.candidate.PendingDelete.{PendingDelete}
+use Rattle.nvme_state.specs.declared.ready.Ready.{Ready}
+use Rattle.nvme_state.specs.declared.deletion.PendingDelete.{PendingDelete}
 use Rattle.nvme_log.specs.Rules.{Past, FrontRules}
 use Rattle.nvme_log.specs.Queues.{Queue, admin_queue, open_sq}
-use Rattle.nvme_log.specs.Places.{waiting, entry_at, fate_of, is_waiting, is_aborted}
+use Rattle.nvme_log.specs.Places.{fetched, waiting, entry_at, fate_of, is_waiting, is_aborted}
+use Rattle.nvme_log.specs.Dispatches.{place_at}
 use Rattle.nvme_log.specs.Histories.{table_history, admin_entry}
 use Rattle.nvme_log.specs.Completions.{table_before, own_status, own_dw0}
 use Rattle.nvme_log.specs.Effects.{closing_of, made_by, made_of, made_last, EffectsAtOnce, abort_in, target_of}
@@ -36,17 +37,18 @@ use Rattle.nvme_state.proofs.AfterSteps.{with_events, answered, with_opened, del
 use Rattle.nvme_state.proofs.StepKeeps.{KeepsAdmin, Accounted}
 use Rattle.nvme_state.proofs.OwnStatus.{Stays, all_with_readies, ready_is_answerable, answerable_is_done, waiting_is_unaborted, candidates_wait, oldest_waits, All-unmap, aborts_all, verdict_answers_status, verdict_answers_dw0, waiting_wait}
 use Rattle.nvme_state.proofs.AccountSteps.{statuses_stay, none_is_pending, not_closed_region, io_region, PickedAreOutstanding, leaves_places}
-use Rattle.nvme_state.proofs.AccountEvents.{Each-with_events, next_effects, made_are_effects, index_of_effect, effect_is_served, effect_is_observed, effect_posts_own, effects_come_at_once, effects_are_whole, effects_leave_table, made_delete, made_leave_done, made_leave_requests, effects_leave_told, made_leave_region}
+use Rattle.nvme_state.proofs.AccountEvents.{Each-with_events, next_effects, made_are_effects, index_of_effect, effect_is_served, effect_is_observed, effect_posts_own, effects_come_at_once, effects_are_whole, effects_leave_fetched, effects_leave_table, made_delete, made_leave_done, made_leave_requests, effects_leave_told, made_leave_region}
 use Rattle.nvme_log.specs.Aborts.{is_index, is_abort_entry, is_abort_requested, took_abort, just_picked, has_aborted, told_dw0}
 use Rattle.nvme_log.proofs.AbortEntries.{verdict_is_abort, verdict_is_delete}
 use Rattle.nvme_state.proofs.AbortRequests.{unrequested, took_pick, requests-aborts}
-use Rattle.nvme_state.proofs.Named.{made_abort, made_none}
+use Rattle.nvme_state.proofs.Named.{found_is, made_abort, made_none}
 use Rattle.nvme_state.proofs.Regions.{target_is}
 use Rattle.nvme_state.proofs.MadePlaces.{made_leave_places}
 
 -- of the oldest admin candidate at its pick, and of what its verdict is: what follows from what stood before
 record IsPicked (rules : FrontRules) (past mid : Past) (candidate : Candidate) (v : Verdict) : Type 0 where
   -- the pick leaves the places
+  same_fetched : (r : ℕ) → fetched mid r ≡ fetched past r
   same_aborted : (r i : ℕ) → is_aborted mid r i ≡ is_aborted past r i
   same_requests : (r i : ℕ) → is_abort_requested mid r i ≡ is_abort_requested past r i
   -- a place that doesn't wait keeps the table history at its pick
@@ -57,6 +59,7 @@ record IsPicked (rules : FrontRules) (past mid : Past) (candidate : Candidate) (
   just : is_index candidate.index (just_picked mid) ≡ true
   untold : has_aborted mid candidate.index ≡ false
   -- the candidate waits, and its command is answered by the verdict
+  entry : entry_at past 0 candidate.index ≡ Some candidate.entry
   waits : is_waiting (fate_of past 0 candidate.index) ≡ true
   status : status_of rules.start (table_before rules mid candidate.index) candidate.entry ≡ status_in v
   dw0 : dw0_of rules.start (table_before rules mid candidate.index) candidate.entry ≡ dw0_in v
@@ -93,6 +96,7 @@ is_picked rules late past k seen pick candidate rest s on_time first oldest =
     cc (moved, done)) in
     let took : took_abort (event.Pick seen pick ∷ past) ≡ is_abort_entry (Some candidate.entry) = took_pick past seen pick candidate.entry first taken in
     record {
+      same_fetched = λ r. refl;
       same_aborted = λ r i. refl;
       same_requests = λ r i. refl;
       same_table = λ i done. rw (is_first, front, apart i done) refl;
@@ -100,6 +104,7 @@ is_picked rules late past k seen pick candidate rest s on_time first oldest =
       apart = λ i done. rw (is_first, front, apart i done) refl;
       just = rw (is_first, front, eq-eqb candidate.index candidate.index refl) refl;
       untold = rw (is_first, front, eq-eqb candidate.index candidate.index refl) refl;
+      entry = entry;
       waits = waits;
       status = rw before (sym (verdict_answers_status rules.start s.tabled.history candidate.entry));
       dw0 = rw before (sym (verdict_answers_dw0 rules.start s.tabled.history candidate.entry));
@@ -124,9 +129,15 @@ module _ (rules : FrontRules) (past mid : Past) (candidate : Candidate) (v : Ver
   abbrev after : Past
   after = with_events (made_by past v) mid
 
+  -- an entry stays
+  entry_after : (r i : ℕ) (entry : Sqe) → entry_at past r i ≡ Some entry → entry_at after r i ≡ Some entry
+  entry_after r i entry h =
+      ap (λ (xs : List Sqe). slice_get xs i) (effects_leave_fetched r (made_by past v) mid (made_are_effects past v) ∙ p.same_fetched r) ∙ h
+
   -- a place that doesn't wait stays
   done_stays : (r i : ℕ) → is_waiting (fate_of past r i) ≡ false → Stays rules past after r i
   done_stays r i done = record {
+    there = entry_after r i;
     aborted = made_leave_done past mid v r i done ∙ p.same_aborted r i;
     requested = made_leave_requests past mid v r i done ∙ p.same_requests r i;
     told = λ first.
@@ -153,7 +164,12 @@ module _ (rules : FrontRules) (past mid : Past) (candidate : Candidate) (v : Ver
   -- so the answer of a command, where nothing is told, has the own status of its place
   answer : told_dw0 (has_aborted after candidate.index) v (dw0_in v) ≡ dw0_in v → All (HasOwnStatus rules after) (answered candidate v ∷ [])
   answer plain =
-      All-cons (HasOwnStatus rules after) (answered candidate v) [] (record { status = sym own_status-answered; dw0 = sym (own_dw0-answered ∙ plain) })
+      All-cons (HasOwnStatus rules after) (answered candidate v) [] (record {
+        entry = candidate.entry;
+        is_there = entry_after 0 candidate.index candidate.entry p.entry;
+        status = sym own_status-answered;
+        dw0 = sym (own_dw0-answered ∙ plain);
+      })
       (All-nil (HasOwnStatus rules after))
 
 -- ---- the answers
@@ -184,14 +200,21 @@ module _ (rules : FrontRules) (past mid : Past) (candidate : Candidate) (qid : �
 
   -- so the completions of a window that is aborted have the own status of their places
   aborted_own : (queue : Queue) → open_sq past qid ≡ Some queue → (s : SqContent) → HoldsSq past queue.region s
-      → All (HasOwnStatus rules begun) (map (aborted queue.region) s.window)
+      → All (HasOwnStatus rules begun) (map (aborted qid queue.region) s.window)
   aborted_own queue is s h =
       let indices = λ (Q : ℕ → Type 0) (all : All Q (waiting past queue.region)).
       All-unmap Q (λ (c : Candidate). c.index) s.window (All-same Q (map (λ (c : Candidate). c.index) s.window) (waiting past queue.region) (sym h.waiting_is) all) in
       let are = indices (λ (i : ℕ). is_aborted begun queue.region i ≡ true) (all_aborted queue is) in
       let not = indices (λ (i : ℕ). is_abort_requested begun queue.region i ≡ false) (none_requested queue is) in
-      All-map (HasOwnStatus rules begun) (aborted queue.region) s.window
-      (λ j d lt. record { status = rw (are j d lt, not j d lt) refl; dw0 = rw (are j d lt) refl })
+      All-map (HasOwnStatus rules begun) (aborted qid queue.region) s.window
+      (λ j d lt.
+      let c : Candidate = get_or s.window j d in
+      record {
+        entry = c.entry;
+        is_there = entry_after rules past mid candidate (BeginDelete qid) p queue.region c.index c.entry (h.entries j d lt);
+        status = rw (are j d lt, not j d lt) refl;
+        dw0 = rw (are j d lt) refl;
+      })
 
   -- what is ready after the beginning of a deletion has the own status of its place
   deleting_own : (now : Content) (c : ℕ) (o : Option Queue) → open_sq past qid ≡ o → ((x : ℕ) → All (HasOwnStatus rules begun) (now.cq x).ready)
@@ -202,7 +225,7 @@ module _ (rules : FrontRules) (past mid : Past) (candidate : Candidate) (qid : �
   deleting_own now c (Some queue) is old regions =
       all_with_readies (HasOwnStatus rules begun)
       (with_sq now queue.region (record (now.sq queue.region) { window = []; unposted = (now.sq queue.region).unposted + length (now.sq queue.region).window })) c
-      (map (aborted queue.region) (now.sq queue.region).window) old
+      (map (aborted qid queue.region) (now.sq queue.region).window) old
       (aborted_own queue is (now.sq queue.region) (regions queue.region (p.not_admin qid queue refl is)))
 
   -- the deletion is to be answered with success
@@ -211,8 +234,10 @@ module _ (rules : FrontRules) (past mid : Past) (candidate : Candidate) (qid : �
   deletion_own now c None none d is = no_deletion rules begun now.deletion none d is
   deletion_own now c (Some queue) none d is =
       subst (λ (x : PendingDelete). IsOwnDeletion rules begun x)
-      (same_Some (record { qid = qid; region = queue.region; index = candidate.index; entry = candidate.entry }) d is)
+      (same_Some (record { place = place_at 0 candidate.index; cid = candidate.entry.cid; qid = qid; region = queue.region }) d is)
       (record {
+        entry = candidate.entry;
+        is_there = entry_after rules past mid candidate (BeginDelete qid) p 0 candidate.index candidate.entry p.entry;
         status = own_status-answered rules past mid candidate (BeginDelete qid) p;
         dw0 = own_dw0-answered rules past mid candidate (BeginDelete qid) p;
       })
@@ -227,6 +252,8 @@ module _ (rules : FrontRules) (past mid : Past) (candidate : Candidate) (sqid ci
   told_own : (dw0 : ℕ) → (if has_aborted ended candidate.index then 0 else 1) ≡ dw0 → All (HasOwnStatus rules ended) (told_abort candidate dw0 ∷ [])
   told_own dw0 told =
       All-cons (HasOwnStatus rules ended) (told_abort candidate dw0) [] (record {
+        entry = candidate.entry;
+        is_there = entry_after rules past mid candidate (verdict.Abort sqid cid) p 0 candidate.index candidate.entry p.entry;
         status = sym (own_status-answered rules past mid candidate (verdict.Abort sqid cid) p);
         dw0 = sym (own_dw0-answered rules past mid candidate (verdict.Abort sqid cid) p ∙ told);
       }) (All-nil (HasOwnStatus rules ended))
@@ -244,11 +271,14 @@ module _ (rules : FrontRules) (past mid : Past) (candidate : Candidate) (sqid ci
       ∙ ap (λ (b : Bool). if (b || has_aborted mid candidate.index) then 0 else 1) p.just)
 
   -- the candidate that it took has its own status
-  requested_own : (r : ℕ) (found : Candidate) → made_by past (verdict.Abort sqid cid) ≡ Abort r found.index ∷ [] → All (HasOwnStatus rules ended) (requested r found ∷ [])
-  requested_own r found one =
-      subst (λ (es : List Event). All (HasOwnStatus rules (with_events es mid)) (requested r found ∷ [])) (sym one)
-      (All-cons (HasOwnStatus rules (Abort r found.index ∷ mid)) (requested r found) []
+  requested_own : (r : ℕ) (found : Candidate) → made_by past (verdict.Abort sqid cid) ≡ Abort r found.index ∷ [] → entry_at past r found.index ≡ Some found.entry
+      → All (HasOwnStatus rules ended) (requested sqid r found ∷ [])
+  requested_own r found one entry =
+      subst (λ (es : List Event). All (HasOwnStatus rules (with_events es mid)) (requested sqid r found ∷ [])) (sym one)
+      (All-cons (HasOwnStatus rules (Abort r found.index ∷ mid)) (requested sqid r found) []
       (record {
+        entry = found.entry;
+        is_there = ap (λ (xs : List Sqe). slice_get xs found.index) (p.same_fetched r) ∙ entry;
         status = rw (eq-eqb r r refl, eq-eqb found.index found.index refl, p.took sqid cid refl) refl;
         dw0 = rw (eq-eqb r r refl, eq-eqb found.index found.index refl) refl;
       }) (All-nil (HasOwnStatus rules (Abort r found.index ∷ mid))))
@@ -257,32 +287,33 @@ module _ (rules : FrontRules) (past mid : Past) (candidate : Candidate) (sqid ci
   found_own : (now : Content) (c : ℕ) (board : BoardView) (queue : Queue) → target_of past sqid ≡ Some queue → HoldsSq past queue.region (now.sq queue.region)
       → ((x : ℕ) → All (HasOwnStatus rules ended) (now.cq x).ready)
       → (o : Option Candidate) → oldest_named cid (now.sq queue.region).window ≡ o
-      → (x : ℕ) → All (HasOwnStatus rules ended) ((aborting_in now candidate queue.region c cid board o).cq x).ready
+      → (x : ℕ) → All (HasOwnStatus rules ended) ((aborting_in now candidate sqid queue.region c cid board o).cq x).ready
   found_own now c board queue target held old None is =
       all_with_readies (HasOwnStatus rules ended) now 0 (told_abort candidate 1 ∷ []) old
       (told_none (ap (abort_in past cid) target ∙ made_none past cid queue (now.sq queue.region) held is))
   found_own now c board queue target held old (Some found) is =
       let one : made_by past (verdict.Abort sqid cid) ≡ Abort queue.region found.index ∷ [] =
       ap (abort_in past cid) target ∙ made_abort past cid queue (now.sq queue.region) found held is in
-      all_with_readies (HasOwnStatus rules ended) (with_requested now queue.region c cid board found) 0 (told_abort candidate 0 ∷ [])
+      all_with_readies (HasOwnStatus rules ended) (with_requested now sqid queue.region c cid board found) 0 (told_abort candidate 0 ∷ [])
       (all_with_readies (HasOwnStatus rules ended)
       (with_sq now queue.region (record (now.sq queue.region) { window = without_oldest cid (now.sq queue.region).window; unposted = (now.sq queue.region).unposted + 1 })) c
-      (requested queue.region found ∷ []) old (requested_own queue.region found one))
+      (requested sqid queue.region found ∷ []) old (requested_own queue.region found one
+      (found_is cid (now.sq queue.region).window found is (λ (d : Candidate). entry_at past queue.region d.index ≡ Some d.entry) held.entries)))
       (told_one queue.region found.index one)
 
   target_own : (now : Content) (c : ℕ) (board : BoardView) (o : Option Queue) → target_of past sqid ≡ o → ((x : ℕ) → All (HasOwnStatus rules ended) (now.cq x).ready)
       → ((r : ℕ) → (r ≡ 0 → ⊥) → HoldsSq past r (now.sq r))
-      → (x : ℕ) → All (HasOwnStatus rules ended) ((aborting_from now candidate c cid board o).cq x).ready
+      → (x : ℕ) → All (HasOwnStatus rules ended) ((aborting_from now candidate sqid c cid board o).cq x).ready
   target_own now c board None is old regions =
       all_with_readies (HasOwnStatus rules ended) now 0 (told_abort candidate 1 ∷ []) old (told_none (ap (abort_in past cid) is))
   target_own now c board (Some queue) is old regions =
       found_own now c board queue is (regions queue.region (p.not_target sqid queue is)) old (oldest_named cid (now.sq queue.region).window) refl
 
   -- it leaves the pending deletion
-  target_deletion : (now : Content) (c : ℕ) (board : BoardView) (o : Option Queue) → (aborting_from now candidate c cid board o).deletion ≡ now.deletion
+  target_deletion : (now : Content) (c : ℕ) (board : BoardView) (o : Option Queue) → (aborting_from now candidate sqid c cid board o).deletion ≡ now.deletion
   target_deletion now c board None = refl
   target_deletion now c board (Some queue) = found (oldest_named cid (now.sq queue.region).window) where
-    found : (o : Option Candidate) → (aborting_in now candidate queue.region c cid board o).deletion ≡ now.deletion
+    found : (o : Option Candidate) → (aborting_in now candidate sqid queue.region c cid board o).deletion ≡ now.deletion
     found None = refl
     found (Some it) = refl
 
@@ -351,7 +382,7 @@ accounted-admin more rules late past k seen pick picked candidate rest table c b
           readies_own rules past mid candidate now c board v p
           (statuses_stay rules past later k
           (λ x j d lt. let t : Ready = get_or (k.cq x).ready j d in
-          done_stays rules past mid candidate v p t.region t.index (answerable_is_done past (hand_of k) t.region t.index (ready_is_answerable past k (hand_of k) s.ready x j d lt)))
+          done_stays rules past mid candidate v p t.place.region t.place.index (answerable_is_done past (hand_of k) t.place.region t.place.index (ready_is_answerable past k (hand_of k) s.ready x j d lt)))
           a.own_statuses)
           (λ r io. rw (ne_eqb r 0 io) (s.regions r));
       own_deletion = pending_own rules past mid candidate now c board v p can.none_pending;

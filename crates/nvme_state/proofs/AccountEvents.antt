@@ -10,7 +10,7 @@ use Rattle.nvme_log.specs.declared.event.Event.{Event}
 use Rattle.nvme_log.specs.declared.event.Event.TheVariants.{Fetch, Pick, SetArbitration, OpenSq, OpenCq, Closing, Abort, Post, ClosedSq, ClosedCq}
 use Rattle.nvme_log.specs.Rules.{Past, FrontRules, Each}
 use Rattle.nvme_log.specs.Queues.{Queue, open_sq, open_cq, is_closed_region}
-use Rattle.nvme_log.specs.Places.{waiting, fate_of, is_waiting, is_aborted}
+use Rattle.nvme_log.specs.Places.{fetched, waiting, fate_of, is_waiting, is_aborted}
 use Rattle.nvme_log.specs.Completions.{table_before}
 use Rattle.nvme_log.specs.Effects.{is_effect, closing_of, closed_cq_of, made_by, made_last, effects_since, EffectsAtOnce, abort_in, named, target_of}
 use Rattle.nvme_log.specs.Account.{IndexCounts, ServedWhileOpen, Observed, Deletes, PostsOwn}
@@ -141,6 +141,16 @@ pub effects_leave_table : (rules : FrontRules) (i : ℕ) (rest : List Event) (pa
     → table_before rules (with_events rest past) i ≡ table_before rules past i
 effects_leave_table rules i [] past are = refl
 effects_leave_table rules i (e ∷ rest) past are = effects_leave_table rules i rest (e ∷ past) are.1 ∙ effect_leaves_table rules i e past are.0
+
+-- an effect fetches nothing
+effect_leaves_fetched : (r : ℕ) (e : Event) (past : Past) → is_effect e ≡ true → fetched (e ∷ past) r ≡ fetched past r
+effect_leaves_fetched r (Fetch region index entry) past h = cc h
+effect_leaves_fetched r e past h = refl
+
+-- effects leave what was fetched
+pub effects_leave_fetched : (r : ℕ) (rest : List Event) (past : Past) → AreEffects rest → fetched (with_events rest past) r ≡ fetched past r
+effects_leave_fetched r [] past are = refl
+effects_leave_fetched r (e ∷ rest) past are = effects_leave_fetched r rest (e ∷ past) are.1 ∙ effect_leaves_fetched r e past are.0
 
 -- ---- deletions
 -- the aborted candidates are of a region that isn't closed

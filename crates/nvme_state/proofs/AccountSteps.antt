@@ -20,13 +20,14 @@ use Rattle.nvme_admin.specs.QueueTable.{admin_sq}
 use Rattle.nvme_admin.specs.Accepted.{queue_table}
 use Rattle.nvme_log.specs.declared.event.Event.TheVariants as event
 use Rattle.nvme_state.specs.declared.candidate.Candidate.{Candidate}
-use Rattle.nvme_state.specs.declared.candidate.Ready.{Ready}
-use Rattle.nvme_state.specs.declared.candidate.PendingDelete.{PendingDelete}
+use Rattle.nvme_state.specs.declared.ready.Ready.{Ready}
+use Rattle.nvme_state.specs.declared.deletion.PendingDelete.{PendingDelete}
 use Rattle.nvme_state.specs.declared.attachment.Attachment.{Attachment}
 use Rattle.nvme_log.specs.Limits.{max_outstanding}
 use Rattle.nvme_log.specs.Rules.{Past, FrontRules, upto, window_at}
 use Rattle.nvme_log.specs.Queues.{Queue, admin_queue, open_sq, has_region, is_open_region, pending, is_closed_region}
-use Rattle.nvme_log.specs.Places.{Place, fetched, waiting, places, fate_of, is_waiting}
+use Rattle.nvme_log.specs.Places.{fetched, waiting, places, fate_of, is_waiting}
+use Rattle.nvme_log.specs.declared.place.Place.{Place}
 use Rattle.nvme_log.specs.Completions.{is_posted, posted_to, phase_after, outstanding}
 use Rattle.nvme_log.specs.Aborts.{is_index}
 use Rattle.nvme_log.specs.Laws.{as_open}
@@ -39,21 +40,24 @@ use Rattle.nvme_state.specs.inside.Jobs.{dispatched_place}
 use Rattle.nvme_state.specs.inside.Steps.{CanPick}
 use Rattle.nvme_state.proofs.AfterSteps.{fetch_event, fetched_sq, after_fetch, posted_cq, post_event, closed_event, deleted}
 use Rattle.nvme_state.proofs.StepKeeps.{KeepsFetch, KeepsIo, KeepsPost, KeepsClose, Accounted}
+use Rattle.nvme_state.proofs.Served.{entry_stays}
 use Rattle.nvme_state.proofs.OwnStatus.{Stays, own_status-stays, own_dw0-stays, HasOwnStatus-stays, all_with_readies, IsAnswerable, ready_is_answerable, answerable_is_done, answerable_is_unposted, all_chosen}
 
 -- ---- what is answered stays so
 -- the ready completions keep their status in a later log
 pub statuses_stay : (rules : FrontRules) (past later : Past) (k : Content)
-    → ((c : ℕ) → All (λ (t : Ready). Stays rules past later t.region t.index) (k.cq c).ready)
+    → ((c : ℕ) → All (λ (t : Ready). Stays rules past later t.place.region t.place.index) (k.cq c).ready)
     → ((c : ℕ) → All (HasOwnStatus rules past) (k.cq c).ready) → (c : ℕ) → All (HasOwnStatus rules later) (k.cq c).ready
 statuses_stay rules past later k stay own c j d lt = HasOwnStatus-stays rules past later (get_or (k.cq c).ready j d) (stay c j d lt) (own c j d lt)
 
 -- a pending deletion is still answered with success
-pub deletion_stays : (rules : FrontRules) (past later : Past) (d : PendingDelete) → Stays rules past later 0 d.index
+pub deletion_stays : (rules : FrontRules) (past later : Past) (d : PendingDelete) → Stays rules past later d.place.region d.place.index
     → IsOwnDeletion rules past d → IsOwnDeletion rules later d
 deletion_stays rules past later d s h = record {
-  status = own_status-stays rules past later 0 d.index d.entry s ∙ h.status;
-  dw0 = own_dw0-stays rules past later 0 d.index d.entry s ∙ h.dw0;
+  entry = h.entry;
+  is_there = s.there h.entry h.is_there;
+  status = own_status-stays rules past later d.place.region d.place.index h.entry s ∙ h.status;
+  dw0 = own_dw0-stays rules past later d.place.region d.place.index h.entry s ∙ h.dw0;
 }
 
 -- ---- queues
@@ -120,6 +124,13 @@ accounted-fetch rules late past k q queue entry known s can regions on_time =
     ∙ length-map ((after_fetch k q queue entry known).sq r).window (λ (c : Candidate). c.index)
     ∙ ap (λ (xs : List Candidate). length xs) (put_window (r == r) (fetched_sq (k.sq r) entry known) (k.sq r) (eq-eqb r r refl))
     ∙ length_push (k.sq r).window (record { index = (k.sq r).fetched; entry = entry }) in
+    let stays : (p : Place) → Stays rules past (fetch_event k queue entry ∷ past) p.region p.index = λ p. record {
+      there = λ e h. entry_stays past r (k.sq r).fetched p.region p.index entry e h;
+      aborted = refl;
+      requested = refl;
+      table = λ z. refl;
+      told = λ z. refl;
+    } in
     let fits : length (waiting (fetch_event k queue entry ∷ past) r) ≤ window_at rules r = rw (longer, s.tabled.sq_slots r) (omega (arith, can.room)) in
     record {
       indexes_count = (region.counted ∙ ap (λ (xs : List Sqe). length xs) (sym region.fetched_is), a.indexes_count);
@@ -130,8 +141,8 @@ accounted-fetch rules late past k q queue entry known s can regions on_time =
       deletes = ((none_is_pending rules late past k s can.none_pending, not_closed_region rules late past k s q queue can.is_open), a.deletes);
       posts_own = (tt, a.posts_own);
       leaves_places = (tt, a.leaves_places);
-      own_statuses = statuses_stay rules past (fetch_event k queue entry ∷ past) k (λ c j d lt. record { aborted = refl; requested = refl; table = λ z. refl; told = λ z. refl }) a.own_statuses;
-      own_deletion = λ d is. deletion_stays rules past (fetch_event k queue entry ∷ past) d (record { aborted = refl; requested = refl; table = λ z. refl; told = λ z. refl }) (a.own_deletion d is);
+      own_statuses = statuses_stay rules past (fetch_event k queue entry ∷ past) k (λ c j d lt. stays (get_or (k.cq c).ready j d).place) a.own_statuses;
+      own_deletion = λ d is. deletion_stays rules past (fetch_event k queue entry ∷ past) d (stays d.place) (a.own_deletion d is);
     }
 
 -- ---- a pick
@@ -162,7 +173,7 @@ accounted-io more rules late past k queue seen pick board c s can saw io attache
       deletes = (none_is_pending rules late past k s can.none_pending, a.deletes);
       posts_own = (tt, a.posts_own);
       leaves_places = (leaves_places more rules late past k queue seen pick board s can, a.leaves_places);
-      own_statuses = statuses_stay rules past later k (λ c j d lt. record { aborted = refl; requested = refl; table = λ z. rw apart refl; told = λ z. rw apart refl }) a.own_statuses;
+      own_statuses = statuses_stay rules past later k (λ c j d lt. record { there = λ e h. h; aborted = refl; requested = refl; table = λ z. rw apart refl; told = λ z. rw apart refl }) a.own_statuses;
       own_deletion = λ d is. cc (can.none_pending, is);
     }
 
@@ -194,24 +205,24 @@ not_held : (jobs held : List Place) (r i : ℕ) → times_held r i (jobs ++ held
 not_held jobs held r i h = omega (arith, h, sum_by-append (λ (p : Place). one_if (p.region == r && p.index == i)) jobs held)
 
 -- a place that isn't the held one isn't that of the pending deletion
-not_held_place : (o : Option PendingDelete) (r i : ℕ) → times_held r i (held_by o) ≡ 0 → (r == 0 && is_index i (option_map (λ (d : PendingDelete). d.index) o)) ≡ false
-not_held_place None r i h = and_right (r == 0) false refl
-not_held_place (Some d) r i h = false_from_ne_true (r == 0 && d.index == i) (λ same.
-    let parts = and_parts (r == 0) (d.index == i) same in
-    let held : one_if (0 == r && d.index == i) ≡ 1 = rw (eq-eqb 0 r (sym (eqb-true r 0 parts.0)), eq-eqb d.index i (eqb-true d.index i parts.1)) refl in
+not_held_place : (o : Option PendingDelete) (r i : ℕ) → ((d : PendingDelete) → o ≡ Some d → d.place.region ≡ 0) → times_held r i (held_by o) ≡ 0 → (r == 0 && is_index i (option_map (λ (d : PendingDelete). d.place.index) o)) ≡ false
+not_held_place None r i first h = and_right (r == 0) false refl
+not_held_place (Some d) r i first h = false_from_ne_true (r == 0 && d.place.index == i) (λ same.
+    let parts = and_parts (r == 0) (d.place.index == i) same in
+    let held : one_if (d.place.region == r && d.place.index == i) ≡ 1 = rw (eq-eqb d.place.region r (first d refl ∙ sym (eqb-true r 0 parts.0)), eq-eqb d.place.index i (eqb-true d.place.index i parts.1)) refl in
     absurd (omega (arith, held, h)))
 
 -- a post keeps the account: the completion is the own one of its place, which has no other
 pub accounted-post : KeepsPost Accounted
-accounted-post rules late past k c t rest cqe qid free s can regions on_time =
+accounted-post rules late past k c t rest cqe free s can regions on_time =
     let a = s.accounts on_time in
     let later : Past = post_event c t cqe ∷ past in
     let hand : List Place = hand_of k in
-    let r : ℕ = t.region in
-    let i : ℕ = t.index in
+    let r : ℕ = t.place.region in
+    let i : ℕ = t.place.index in
     let answerable : IsAnswerable past hand r i =
-    All-head (λ (x : Ready). IsAnswerable past hand x.region x.index) t rest
-    (All-same (λ (x : Ready). IsAnswerable past hand x.region x.index) (t ∷ rest) (k.cq c).ready (sym can.oldest) (ready_is_answerable past k hand s.ready c)) in
+    All-head (λ (x : Ready). IsAnswerable past hand x.place.region x.place.index) t rest
+    (All-same (λ (x : Ready). IsAnswerable past hand x.place.region x.place.index) (t ∷ rest) (k.cq c).ready (sym can.oldest) (ready_is_answerable past k hand s.ready c)) in
     let ready : IsReady past k.deletion c t =
     All-head (IsReady past k.deletion c) t rest (All-same (IsReady past k.deletion c) (t ∷ rest) (k.cq c).ready (sym can.oldest) (s.ready.each c)) in
     let owns : All (HasOwnStatus rules past) (t ∷ rest) =
@@ -230,7 +241,7 @@ accounted-post rules late past k c t rest cqe qid free s can regions on_time =
       deletes = (
         (
           unclosed,
-          subst (λ (o : Option ℕ). (r == 0 && is_index i o) ≡ false) (sym s.deletion.place_is) (not_held_place k.deletion r i
+          subst (λ (o : Option ℕ). (r == 0 && is_index i o) ≡ false) (sym s.deletion.place_is) (not_held_place k.deletion r i (λ d is. (s.deletion.stands d is).of_admin)
               (not_held (map dispatched_place (in_hand k.jobs.hands)) (held_by k.deletion) r i answerable.not_held)),
         ),
         a.deletes,
@@ -240,11 +251,11 @@ accounted-post rules late past k c t rest cqe qid free s can regions on_time =
           answerable_is_unposted past hand r i answerable,
           answerable_is_done past hand r i answerable,
           record {
-            entry = t.entry;
-            is_there = ready.entry;
+            entry = own.entry;
+            is_there = own.is_there;
             region = ready.region;
             sqid = s.queues.qid_is r ∙ ap (λ (o : Option Attachment). option_map (λ (x : Attachment). x.qid) o) can.attached ∙ ap (λ (q : ℕ). Some q) (sym can.sqid);
-            cid = can.cid;
+            cid = can.cid ∙ ready.cid ∙ ap (λ (e : Sqe). e.cid) (same_Some ready.entry own.entry (sym ready.is_there ∙ own.is_there));
             status = can.status ∙ own.status;
             dw0 = can.dw0 ∙ own.dw0;
             sqhd = can.sqhd ∙ (λ j. fetches j % (sym (s.tabled.sq_slots r)) j);
@@ -255,9 +266,9 @@ accounted-post rules late past k c t rest cqe qid free s can regions on_time =
       );
       leaves_places = (tt, a.leaves_places);
       own_statuses = λ x. all_chosen (HasOwnStatus rules later) (x == c) (posted_cq (k.cq c) rest cqe free) (k.cq x)
-          (All-weaker (HasOwnStatus rules past) (HasOwnStatus rules later) (λ y h. HasOwnStatus-stays rules past later y (record { aborted = refl; requested = refl; table = λ z. refl; told = λ z. refl }) h) rest (All-tail (HasOwnStatus rules past) t rest owns))
-          (statuses_stay rules past later k (λ c j d lt. record { aborted = refl; requested = refl; table = λ z. refl; told = λ z. refl }) a.own_statuses x);
-      own_deletion = λ d is. deletion_stays rules past later d (record { aborted = refl; requested = refl; table = λ z. refl; told = λ z. refl }) (a.own_deletion d is);
+          (All-weaker (HasOwnStatus rules past) (HasOwnStatus rules later) (λ y h. HasOwnStatus-stays rules past later y (record { there = λ e h. h; aborted = refl; requested = refl; table = λ z. refl; told = λ z. refl }) h) rest (All-tail (HasOwnStatus rules past) t rest owns))
+          (statuses_stay rules past later k (λ c j d lt. record { there = λ e h. h; aborted = refl; requested = refl; table = λ z. refl; told = λ z. refl }) a.own_statuses x);
+      own_deletion = λ d is. deletion_stays rules past later d (record { there = λ e h. h; aborted = refl; requested = refl; table = λ z. refl; told = λ z. refl }) (a.own_deletion d is);
     }
 
 -- ---- the end of a deletion
@@ -303,7 +314,7 @@ accounted-close rules late past k d table s can regions on_time =
       leaves_places = (tt, a.leaves_places);
       own_statuses =
           all_with_readies (HasOwnStatus rules later) (record k { deletion = None; table = table }) 0 (deleted d ∷ [])
-          (statuses_stay rules past later k (λ c j x lt. record { aborted = refl; requested = refl; table = λ z. refl; told = λ z. refl }) a.own_statuses)
-          (All-cons (HasOwnStatus rules later) (deleted d) [] (record { status = sym own.status; dw0 = sym own.dw0 }) (All-nil (HasOwnStatus rules later)));
+          (statuses_stay rules past later k (λ c j x lt. record { there = λ e h. h; aborted = refl; requested = refl; table = λ z. refl; told = λ z. refl }) a.own_statuses)
+          (All-cons (HasOwnStatus rules later) (deleted d) [] (record { entry = own.entry; is_there = own.is_there; status = sym own.status; dw0 = sym own.dw0 }) (All-nil (HasOwnStatus rules later)));
       own_deletion = λ x is. cc is;
     }

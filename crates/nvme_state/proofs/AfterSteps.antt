@@ -17,20 +17,21 @@ use Rattle.nvme_admin.specs.declared.verdict.Verdict.TheVariants as verdict
 use Rattle.nvme_log.specs.declared.event.Event.{Event}
 use Rattle.nvme_log.specs.declared.event.Event.TheVariants as event
 use Rattle.nvme_state.specs.declared.candidate.Candidate.{Candidate}
-use Rattle.nvme_state.specs.declared.candidate.Ready.{Ready}
-use Rattle.nvme_state.specs.declared.candidate.PendingDelete.{PendingDelete}
+use Rattle.nvme_state.specs.declared.ready.Ready.{Ready}
+use Rattle.nvme_state.specs.declared.deletion.PendingDelete.{PendingDelete}
 use Rattle.nvme_log.specs.Rules.{FrontRules, Past}
 use Rattle.nvme_log.specs.Queues.{Queue, open_sq, open_cq}
 use Rattle.nvme_log.specs.Completions.{phase_after}
 use Rattle.nvme_log.specs.Effects.{made_by, target_of}
 use Rattle.nvme_state.specs.inside.Content.{SqContent, CqContent, Content, with_sq, with_cq, with_ready}
-use Rattle.nvme_log.specs.Places.{Place}
+use Rattle.nvme_log.specs.declared.place.Place.{Place}
 use Rattle.nvme_log.specs.Places.{one_if}
-use Rattle.nvme_state.specs.inside.Steps.{aborted, after_pick, oldest_named, requested, without_oldest}
+use Rattle.nvme_log.specs.Dispatches.{place_at}
+use Rattle.nvme_state.specs.inside.Steps.{aborted, after_pick, done, oldest_named, requested, told, without_oldest}
 use Rattle.nvme_state.specs.inside.Jobs.{with_picked, gained_jobs}
 use Rattle.nvme_pool.specs.Seat.{SeatView}
 use Rattle.nvme_pool.specs.declared.jobs.Finished.{Finished}
-use Rattle.nvme_state.specs.declared.candidate.Dispatched.{Dispatched}
+use Rattle.nvme_state.specs.declared.dispatched.Dispatched.{Dispatched}
 
 -- a log with some events after it, in their order
 abbrev pub with_events : List Event → Past → Past
@@ -68,7 +69,7 @@ after_fetch k q queue entry known =
     record (with_sq k queue.region (fetched_sq (k.sq queue.region) entry known)) { board = came_board k q queue }
 
 abbrev pub place_of : ℕ → Candidate → Place
-place_of r c = record { region = r; index = c.index }
+place_of r c = place_at r c.index
 
 -- an I/O pick: its commands have jobs, which are handed later
 abbrev pub after_io : Content → Queue → ℕ → BoardView → Content
@@ -76,17 +77,16 @@ after_io k queue n board = record (after_pick k queue n board) { jobs = with_pic
 
 -- ---- a result is gained, which makes no event
 -- its completion is then ready
-abbrev pub completed : Dispatched → Finished → Ready
-completed d result = record { region = d.region; index = d.index; entry = d.entry; with_queue = false; status = result.status; dw0 = 0 }
+abbrev pub completed : (sqid : ℕ) → Dispatched → Finished → Ready
+completed sqid d result = done sqid d result.status
 
--- the completion region c is that of the queue
-abbrev pub after_gain : Content → Dispatched → List Dispatched → SeatView → ℕ → Finished → Content
-after_gain k d running seat c result = with_ready (record k { jobs = gained_jobs k.jobs running seat }) c (completed d result)
+-- sqid is the identifier of the queue, and the completion region c is that of the queue
+abbrev pub after_gain : Content → Dispatched → List Dispatched → SeatView → (sqid c : ℕ) → Finished → Content
+after_gain k d running seat sqid c result = with_ready (record k { jobs = gained_jobs k.jobs running seat }) c (completed sqid d result)
 
 -- the answer of an admin command
 abbrev pub answered : Candidate → Verdict → Ready
-answered candidate v =
-    record { region = 0; index = candidate.index; entry = candidate.entry; with_queue = false; status = status_in v; dw0 = dw0_in v }
+answered candidate v = told candidate (status_in v) (dw0_in v)
 
 -- what a verdict makes of what the front keeps. The answer of a deletion waits
 abbrev pub with_opened : Content → (qid region cq_region : ℕ) → Class → Content
@@ -98,60 +98,59 @@ with_opened k qid region cq_region class =
 abbrev pub with_deleting : Content → (qid region c : ℕ) → Candidate → Content
 with_deleting k qid region c candidate =
     record (with_readies (with_sq k region (record (k.sq region) { window = []; unposted = (k.sq region).unposted + length (k.sq region).window })) c
-    (map (aborted region) (k.sq region).window)) {
+    (map (aborted qid region) (k.sq region).window)) {
       board = record k.board { queues = slice_set k.board.queues qid None };
-      deletion = Some (record { qid = qid; region = region; index = candidate.index; entry = candidate.entry });
+      deletion = Some (record { place = place_at 0 candidate.index; cid = candidate.entry.cid; qid = qid; region = region });
     }
 
 -- the answer of an Abort command: Command Dword 0 is 0 where it aborted a candidate, and 1 otherwise
 abbrev pub told_abort : Candidate → ℕ → Ready
-told_abort candidate dw0 =
-    record { region = 0; index = candidate.index; entry = candidate.entry; with_queue = false; status = success; dw0 = dw0 }
+told_abort candidate dw0 = told candidate success dw0
 
--- an Abort command took a candidate of a region. `board` is the board with a candidate less
-abbrev pub with_requested : Content → (region c cid : ℕ) → BoardView → Candidate → Content
-with_requested k region c cid board found =
+-- an Abort command took a candidate of a queue. `board` is the board with a candidate less
+abbrev pub with_requested : Content → (sqid region c cid : ℕ) → BoardView → Candidate → Content
+with_requested k sqid region c cid board found =
     record (with_ready (with_sq k region (record (k.sq region) { window = without_oldest cid (k.sq region).window; unposted = (k.sq region).unposted + 1 })) c
-    (requested region found)) {
+    (requested sqid region found)) {
       board = board;
       outstanding = k.outstanding + 1;
     }
 
--- an Abort command found a candidate in a region, or none
-abbrev pub aborting_in : Content → Candidate → (region c cid : ℕ) → BoardView → Option Candidate → Content
-aborting_in k candidate region c cid board None = with_ready k 0 (told_abort candidate 1)
-aborting_in k candidate region c cid board (Some found) = with_ready (with_requested k region c cid board found) 0 (told_abort candidate 0)
+-- an Abort command found a candidate of a queue, or none
+abbrev pub aborting_in : Content → Candidate → (sqid region c cid : ℕ) → BoardView → Option Candidate → Content
+aborting_in k candidate sqid region c cid board None = with_ready k 0 (told_abort candidate 1)
+aborting_in k candidate sqid region c cid board (Some found) = with_ready (with_requested k sqid region c cid board found) 0 (told_abort candidate 0)
 
 -- what an Abort command leaves, by the queue whose candidates it may abort
-abbrev pub aborting_from : Content → Candidate → (c cid : ℕ) → BoardView → Option Queue → Content
-aborting_from k candidate c cid board None = with_ready k 0 (told_abort candidate 1)
-aborting_from k candidate c cid board (Some queue) = aborting_in k candidate queue.region c cid board (oldest_named cid (k.sq queue.region).window)
+abbrev pub aborting_from : Content → Candidate → (sqid c cid : ℕ) → BoardView → Option Queue → Content
+aborting_from k candidate sqid c cid board None = with_ready k 0 (told_abort candidate 1)
+aborting_from k candidate sqid c cid board (Some queue) = aborting_in k candidate sqid queue.region c cid board (oldest_named cid (k.sq queue.region).window)
 
 -- the events of an admin pick, after those before it
 abbrev pub admin_past : Past → Event → Verdict → Past
 admin_past past pick v = with_events (made_by past v) (pick ∷ past)
 
 -- ---- a post
-pub record CanPost (past : Past) (k : Content) (c : ℕ) (t : Ready) (rest : List Ready) (cqe : Cqe) (qid : ℕ) : Type 0 where
+pub record CanPost (past : Past) (k : Content) (c : ℕ) (t : Ready) (rest : List Ready) (cqe : Cqe) : Type 0 where
   pub oldest : (k.cq c).ready ≡ t ∷ rest
   pub there : c < k.ncq
-  pub attached : (k.sq t.region).queue ≡ Some (record { qid = qid; cq_region = c })
-  pub sqid : cqe.sqid ≡ qid
-  pub cid : cqe.cid ≡ t.entry.cid
+  pub attached : (k.sq t.place.region).queue ≡ Some (record { qid = t.sqid; cq_region = c })
+  pub sqid : cqe.sqid ≡ t.sqid
+  pub cid : cqe.cid ≡ t.cid
   pub status : cqe.status ≡ t.status
   pub dw0 : cqe.dw0 ≡ t.dw0
-  pub sqhd : cqe.sqhd ≡ (k.sq t.region).fetched % (k.sq t.region).slots
+  pub sqhd : cqe.sqhd ≡ (k.sq t.place.region).fetched % (k.sq t.place.region).slots
   pub phase : cqe.phase ≡ phase_after (k.cq c).posted (k.cq c).slots
 
 abbrev pub posted_cq : CqContent → List Ready → Cqe → ℕ → CqContent
 posted_cq s rest cqe free = record s { sent = s.sent ++ cqe ∷ []; free = free; posted = s.posted + 1; ready = rest }
 
 abbrev pub post_event : ℕ → Ready → Cqe → Event
-post_event c t cqe = event.Post c t.region t.index cqe
+post_event c t cqe = event.Post c t.place.region t.place.index cqe
 
 abbrev pub after_post : Content → ℕ → Ready → List Ready → Cqe → ℕ → Content
 after_post k c t rest cqe free =
-    record (with_cq (with_sq k t.region (record (k.sq t.region) { unposted = (k.sq t.region).unposted - 1 })) c (posted_cq (k.cq c) rest cqe free)) {
+    record (with_cq (with_sq k t.place.region (record (k.sq t.place.region) { unposted = (k.sq t.place.region).unposted - 1 })) c (posted_cq (k.cq c) rest cqe free)) {
       outstanding = k.outstanding - one_if (not t.with_queue);
     }
 
@@ -165,7 +164,7 @@ abbrev pub closed_event : PendingDelete → Event
 closed_event d = event.ClosedSq d.qid d.region
 
 abbrev pub deleted : PendingDelete → Ready
-deleted d = record { region = 0; index = d.index; entry = d.entry; with_queue = false; status = success; dw0 = 0 }
+deleted d = record { place = d.place; sqid = 0; cid = d.cid; with_queue = false; status = success; dw0 = 0 }
 
 abbrev pub after_closed : Content → PendingDelete → TableView → Content
 after_closed k d table = with_ready (record k { deletion = None; table = table }) 0 (deleted d)
@@ -185,7 +184,7 @@ after_admin past k candidate c board (CloseCq qid) = with_ready k 0 (answered ca
 after_admin past k candidate c board (verdict.SetArbitration settings) =
     with_ready (record k { board = board }) 0 (answered candidate (verdict.SetArbitration settings))
 after_admin past k candidate c board (BeginDelete qid) = deleting_from k qid c candidate (open_sq past qid)
-after_admin past k candidate c board (verdict.Abort sqid cid) = aborting_from k candidate c cid board (target_of past sqid)
+after_admin past k candidate c board (verdict.Abort sqid cid) = aborting_from k candidate sqid c cid board (target_of past sqid)
 
 -- what c and `board` are where an Abort command takes a candidate of a queue
 pub record IsAbortChosen (rules : FrontRules) (k : Content) (sqid cid c : ℕ) (picked board : BoardView) (queue : Queue) : Type 0 where

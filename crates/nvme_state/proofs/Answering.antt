@@ -6,12 +6,13 @@ use Rattle.std.proofs.lemmas.List.Elements.{All-head, All-tail, filter-append}
 use Rattle.std.proofs.lemmas.Bool.{cases_Bool, cases_eq, cases_lt, and_parts, and_from, or_parts, not-true}
 use Rattle.std.proofs.lemmas.List.{length-append, nil_from_length}
 use Rattle.std.proofs.lemmas.Option.{same_Some}
-use Rattle.nvme_state.specs.declared.candidate.Dispatched.{Dispatched}
-use Rattle.nvme_state.specs.declared.candidate.Ready.{Ready}
-use Rattle.nvme_state.specs.declared.candidate.PendingDelete.{PendingDelete}
+use Rattle.nvme_state.specs.declared.dispatched.Dispatched.{Dispatched}
+use Rattle.nvme_state.specs.declared.ready.Ready.{Ready}
+use Rattle.nvme_state.specs.declared.deletion.PendingDelete.{PendingDelete}
 use Rattle.nvme_log.specs.Rules.{Past, FrontRules, upto}
 use Rattle.nvme_log.specs.Queues.{cq_region_of}
-use Rattle.nvme_log.specs.Places.{Place, fetched, fate_of, is_waiting}
+use Rattle.nvme_log.specs.Places.{fetched, fate_of, is_waiting}
+use Rattle.nvme_log.specs.declared.place.Place.{Place}
 use Rattle.nvme_log.specs.Completions.{is_posted, posts_of}
 use Rattle.nvme_log.specs.Aborts.{is_index}
 use Rattle.nvme_log.specs.Account.{deleting_place}
@@ -36,19 +37,19 @@ over_regions-some f (suc n) h = elim (cases_lt 0 (f n)) [
 pub record IsAmong (P : Ready → Type 0) (r i : ℕ) (ready : List Ready) : Type 0 where
   pub one : Ready
   pub holds : P one
-  pub region : one.region ≡ r
-  pub index : one.index ≡ i
+  pub region : one.place.region ≡ r
+  pub index : one.place.index ≡ i
 
 -- the one among ready completions whose place it is
 pub times_in-some : (P : Ready → Type 0) (r i : ℕ) (ready : List Ready) → All P ready → 0 < times_in r i ready → IsAmong P r i ready
 times_in-some P r i [] each h = absurd (omega arith)
-times_in-some P r i (t ∷ ready) each h = elim (cases_Bool (t.region == r && t.index == i)) [
+times_in-some P r i (t ∷ ready) each h = elim (cases_Bool (t.place.region == r && t.place.index == i)) [
   | inl yes_here ↦
-      let both = and_parts (t.region == r) (t.index == i) yes_here in
-      record { one = t; holds = All-head P t ready each; region = eqb-true t.region r both.0; index = eqb-true t.index i both.1 }
+      let both = and_parts (t.place.region == r) (t.place.index == i) yes_here in
+      record { one = t; holds = All-head P t ready each; region = eqb-true t.place.region r both.0; index = eqb-true t.place.index i both.1 }
   | inr not_here ↦
       let rest : times_in r i (t ∷ ready) ≡ times_in r i ready =
-      sum_by-cons (λ (t : Ready). one_if (t.region == r && t.index == i)) t ready ∙ (λ j. one_if (not_here j) + times_in r i ready) ∙ omega arith in
+      sum_by-cons (λ (t : Ready). one_if (t.place.region == r && t.place.index == i)) t ready ∙ (λ j. one_if (not_here j) + times_in r i ready) ∙ omega arith in
       let further = times_in-some P r i ready (All-tail P t ready each) (subst (λ (n : ℕ). 0 < n) rest h) in
       record { one = further.one; holds = further.holds; region = further.region; index = further.index }
 ]
@@ -65,31 +66,32 @@ same_turned a b = elim (cases_eq a b) [
 ]
 
 -- a place that is not that of the pending deletion's command isn't held by it
-pub not_held : (past : Past) (deletion : Option PendingDelete) (r i : ℕ) → deleting_place past ≡ option_map (λ (d : PendingDelete). d.index) deletion
-    → (r == 0 && is_index i (deleting_place past)) ≡ false → times_held r i (held_by deletion) ≡ 0
-not_held past None r i place h = refl
-not_held past (Some d) r i place h =
-    let turned : (0 == r && d.index == i) ≡ (r == 0 && d.index == i) = ap (λ (b : Bool). b && d.index == i) (same_turned 0 r) in
-    let other : (0 == r && d.index == i) ≡ false = turned ∙ ap (λ (o : Option ℕ). r == 0 && is_index i o) (sym place) ∙ h in
-    let none_here : one_if (0 == r && d.index == i) ≡ 0 = ap one_if other in
+pub not_held : (past : Past) (deletion : Option PendingDelete) (r i : ℕ) → deleting_place past ≡ option_map (λ (d : PendingDelete). d.place.index) deletion
+    → ((d : PendingDelete) → deletion ≡ Some d → d.place.region ≡ 0) → (r == 0 && is_index i (deleting_place past)) ≡ false → times_held r i (held_by deletion) ≡ 0
+not_held past None r i place first h = refl
+not_held past (Some d) r i place first h =
+    let turned : (d.place.region == r && d.place.index == i) ≡ (r == 0 && d.place.index == i) =
+    ap (λ (n : ℕ). n == r && d.place.index == i) (first d refl) ∙ ap (λ (b : Bool). b && d.place.index == i) (same_turned 0 r) in
+    let other : (d.place.region == r && d.place.index == i) ≡ false = turned ∙ ap (λ (o : Option ℕ). r == 0 && is_index i o) (sym place) ∙ h in
+    let none_here : one_if (d.place.region == r && d.place.index == i) ≡ 0 = ap one_if other in
     omega arith
 
 -- a place that is that of none of some picked commands doesn't stand among their places
-pub none_held : (r i : ℕ) (ds : List Dispatched) → list_any (λ (d : Dispatched). d.region == r && d.index == i) ds ≡ false
+pub none_held : (r i : ℕ) (ds : List Dispatched) → list_any (λ (d : Dispatched). d.place.region == r && d.place.index == i) ds ≡ false
     → times_held r i (map dispatched_place ds) ≡ 0
 none_held r i [] h = refl
 none_held r i (d ∷ ds) h =
-    let parts = or_parts (d.region == r && d.index == i) (list_any (λ (x : Dispatched). x.region == r && x.index == i) ds) h in
-    let none_here : one_if (d.region == r && d.index == i) ≡ 0 = ap one_if parts.0 in
+    let parts = or_parts (d.place.region == r && d.place.index == i) (list_any (λ (x : Dispatched). x.place.region == r && x.place.index == i) ds) h in
+    let none_here : one_if (d.place.region == r && d.place.index == i) ≡ 0 = ap one_if parts.0 in
     let further = none_held r i ds parts.1 in
     omega (arith, sum_by-cons (λ (p : Place). one_if (p.region == r && p.index == i)) (dispatched_place d) (map dispatched_place ds))
 
 -- a place that has a result, if it needs one, and is not that of the pending deletion's command isn't in hand
-pub not_in_hand : (past : Past) (k : Content) (r i : ℕ) → deleting_place past ≡ option_map (λ (d : PendingDelete). d.index) k.deletion
-    → is_in_hand k.jobs.hands r i ≡ false → (r == 0 && is_index i (deleting_place past)) ≡ false → times_held r i (hand_of k) ≡ 0
-not_in_hand past k r i place has_result other =
+pub not_in_hand : (past : Past) (k : Content) (r i : ℕ) → deleting_place past ≡ option_map (λ (d : PendingDelete). d.place.index) k.deletion
+    → ((d : PendingDelete) → k.deletion ≡ Some d → d.place.region ≡ 0) → is_in_hand k.jobs.hands r i ≡ false → (r == 0 && is_index i (deleting_place past)) ≡ false → times_held r i (hand_of k) ≡ 0
+not_in_hand past k r i place first has_result other =
     let jobs = none_held r i (in_hand k.jobs.hands) has_result in
-    let held = not_held past k.deletion r i place other in
+    let held = not_held past k.deletion r i place first other in
     omega (arith, sum_by-append (λ (p : Place). one_if (p.region == r && p.index == i)) (map dispatched_place (in_hand k.jobs.hands)) (held_by k.deletion))
 
 -- a place that was picked or aborted, has no completion posted and isn't in hand is ready somewhere
@@ -107,7 +109,7 @@ pub ready_somewhere : (rules : FrontRules) (late : Bool) (past : Past) (k : Cont
     → is_served past r i ≡ true → is_posted past r i ≡ false → is_in_hand k.jobs.hands r i ≡ false → (r == 0 && is_index i (deleting_place past)) ≡ false → IsSomewhere k past r i
 ready_somewhere rules late past k s r i served unposted has_result other =
     let posts : posts_of past r i ≡ 0 = posts_of-none past r i unposted in
-    let held : times_held r i (hand_of k) ≡ 0 = not_in_hand past k r i s.deletion.place_is has_result other in
+    let held : times_held r i (hand_of k) ≡ 0 = not_in_hand past k r i s.deletion.place_is (λ d is. (s.deletion.stands d is).of_admin) has_result other in
     let one : one_if (is_served past r i) ≡ 1 = ap one_if served in
     let once : times_ready k r i + posts_of past r i + times_held r i (hand_of k) ≡ 1 = s.ready.once r i ∙ one in
     let found = over_regions-some (λ (c : ℕ). times_in r i (k.cq c).ready) MAX_REGIONS (omega arith) in

@@ -5,13 +5,14 @@ use Rattle.std.proofs.lemmas.Bool.{cases_lt, cases_eq, eqb-true, and_parts, and_
 use Rattle.std.proofs.lemmas.List.Sums.{sum_by-cons, sum_by-le, sum_by-append}
 use Rattle.nvme_admin.specs.declared.bounds.TheConstants.{MAX_REGIONS}
 use Rattle.nvme_pool.proofs.Retiring.{sum_by_map}
-use Rattle.nvme_state.specs.declared.candidate.Dispatched.{Dispatched}
-use Rattle.nvme_state.specs.declared.candidate.PendingDelete.{PendingDelete}
-use Rattle.nvme_state.specs.declared.candidate.Ready.{Ready}
+use Rattle.nvme_state.specs.declared.dispatched.Dispatched.{Dispatched}
+use Rattle.nvme_state.specs.declared.deletion.PendingDelete.{PendingDelete}
+use Rattle.nvme_state.specs.declared.ready.Ready.{Ready}
 use Rattle.nvme_log.specs.Rules.{FrontRules, Past, upto, sq_regions_of}
 use Rattle.nvme_state.specs.Hands.{in_hand}
 use Rattle.nvme_state.specs.inside.Jobs.{dispatched_place}
-use Rattle.nvme_log.specs.Places.{Place, fetched, picked, fate_of, is_waiting, is_picked, is_aborted, unaborted_below, places}
+use Rattle.nvme_log.specs.Places.{fetched, picked, fate_of, is_waiting, is_picked, is_aborted, unaborted_below, places}
+use Rattle.nvme_log.specs.declared.place.Place.{Place}
 use Rattle.nvme_log.specs.Aborts.{is_abort_requested, is_aborted_with_queue}
 use Rattle.nvme_log.specs.Completions.{is_posted, takes_place}
 use Rattle.nvme_state.specs.inside.Content.{Content}
@@ -71,14 +72,14 @@ ready-unaborted past k r i h none gone =
     over_none (λ (c : ℕ). times_in r i (k.cq c).ready) MAX_REGIONS (λ c l.
     omega (
       arith,
-      sum_by-le (λ (t : Ready). one_if (t.region == r && t.index == i)) 0 (k.cq c).ready (λ j d m.
+      sum_by-le (λ (t : Ready). one_if (t.place.region == r && t.place.index == i)) 0 (k.cq c).ready (λ j d m.
           let t : Ready = slice_index_or (k.cq c).ready j d in
           let is : IsReady past k.deletion c t = h.each c j d m in
-          counts_none (t.region == r && t.index == i) (λ e.
-          let same = and_parts (t.region == r) (t.index == i) e in
+          counts_none (t.place.region == r && t.place.index == i) (λ e.
+          let same = and_parts (t.place.region == r) (t.place.index == i) e in
           not_deleting past k.deletion c t is none
-          (is.with_queue ∙ ap (λ (z : ℕ). is_aborted_with_queue past z t.index) (eqb-true t.region r same.0)
-          ∙ ap (λ (z : ℕ). is_aborted_with_queue past r z) (eqb-true t.index i same.1) ∙ gone))),
+          (is.with_queue ∙ ap (λ (z : ℕ). is_aborted_with_queue past z t.place.index) (eqb-true t.place.region r same.0)
+          ∙ ap (λ (z : ℕ). is_aborted_with_queue past r z) (eqb-true t.place.index i same.1) ∙ gone))),
     ))
 
 -- no picked command that has no result yet is of an aborted place
@@ -87,12 +88,12 @@ jobs-unaborted past ds r i each gone =
     omega (
       arith,
       sum_by_map dispatched_place (λ (p : Place). one_if (p.region == r && p.index == i)) ds,
-      sum_by-le (λ (d : Dispatched). one_if (d.region == r && d.index == i)) 0 ds (λ j e m.
+      sum_by-le (λ (d : Dispatched). one_if (d.place.region == r && d.place.index == i)) 0 ds (λ j e m.
           let d : Dispatched = slice_index_or ds j e in
           let is : IsDispatched past d = each j e m in
-          counts_none (d.region == r && d.index == i) (λ h.
-          let same = and_parts (d.region == r) (d.index == i) h in
-          true≢false (sym gone ∙ ap (λ (z : ℕ). is_aborted past z i) (sym (eqb-true d.region r same.0)) ∙ ap (is_aborted past d.region) (sym (eqb-true d.index i same.1)) ∙ is.not_aborted))),
+          counts_none (d.place.region == r && d.place.index == i) (λ h.
+          let same = and_parts (d.place.region == r) (d.place.index == i) h in
+          true≢false (sym gone ∙ ap (λ (z : ℕ). is_aborted past z i) (sym (eqb-true d.place.region r same.0)) ∙ ap (is_aborted past d.place.region) (sym (eqb-true d.place.index i same.1)) ∙ is.not_aborted))),
     )
 
 -- so no aborted place is in hand, where no deletion is pending

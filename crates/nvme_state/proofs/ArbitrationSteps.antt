@@ -150,17 +150,17 @@ module _ (rules : FrontRules) (late : Bool) (past : Past) (k : Content) (seen : 
   by_sq qid (Some queue) = closes qid queue
 
   -- a candidate leaves the window of a queue, or none is found
-  by_found : (queue : Queue) (cid : ℕ) (o : Option Candidate)
+  by_found : (queue : Queue) (sqid cid : ℕ) (o : Option Candidate)
       → ((found : Candidate) → o ≡ Some found → (h : History) → BoardStandsAt rules.mechanism rules.start.settings h picked → BoardStandsAt rules.mechanism rules.start.settings h after)
-      → HoldsArbitration rules (with_events (abort_in past cid (Some queue)) (event.Pick seen pick ∷ past)) (aborting_in (applied_to k picked table) candidate queue.region c cid after o)
-  by_found queue cid None chosen =
+      → HoldsArbitration rules (with_events (abort_in past cid (Some queue)) (event.Pick seen pick ∷ past)) (aborting_in (applied_to k picked table) candidate sqid queue.region c cid after o)
+  by_found queue sqid cid None chosen =
       let same : arbitration_of (with_events (abort_in past cid (Some queue)) (event.Pick seen pick ∷ past)) ≡ arbitration_of (event.Pick seen pick ∷ past) =
       aborts_leave_arbitration queue.region (take 1 (named past queue.region cid)) (event.Pick seen pick ∷ past) in
       record {
         stands = subst (λ (h : History). BoardStandsAt rules.mechanism rules.start.settings h picked) (sym same) is.stands;
         lawful = subst (IsLawfulRun rules.mechanism rules.start.settings) (sym same) is.lawful;
       }
-  by_found queue cid (Some found) chosen =
+  by_found queue sqid cid (Some found) chosen =
       let same : arbitration_of (with_events (abort_in past cid (Some queue)) (event.Pick seen pick ∷ past)) ≡ arbitration_of (event.Pick seen pick ∷ past) =
       aborts_leave_arbitration queue.region (take 1 (named past queue.region cid)) (event.Pick seen pick ∷ past) in
       record {
@@ -173,10 +173,10 @@ module _ (rules : FrontRules) (late : Bool) (past : Past) (k : Content) (seen : 
   by_target : (sqid cid : ℕ) (o : Option Queue)
       → ((queue : Queue) (found : Candidate) → o ≡ Some queue → oldest_named cid ((applied_to k picked table).sq queue.region).window ≡ Some found
       → (h : History) → BoardStandsAt rules.mechanism rules.start.settings h picked → BoardStandsAt rules.mechanism rules.start.settings h after)
-      → HoldsArbitration rules (with_events (abort_in past cid o) (event.Pick seen pick ∷ past)) (aborting_from (applied_to k picked table) candidate c cid after o)
+      → HoldsArbitration rules (with_events (abort_in past cid o) (event.Pick seen pick ∷ past)) (aborting_from (applied_to k picked table) candidate sqid c cid after o)
   by_target sqid cid None chosen = record { stands = is.stands; lawful = is.lawful }
   by_target sqid cid (Some queue) chosen =
-      by_found queue cid (oldest_named cid ((applied_to k picked table).sq queue.region).window) (λ found e. chosen queue found refl e)
+      by_found queue sqid cid (oldest_named cid ((applied_to k picked table).sq queue.region).window) (λ found e. chosen queue found refl e)
 
   -- what a verdict makes keeps the board at the arbitration history
   by_verdict : (h : TableHistory) (v : Verdict) → TellsChange rules.start h candidate.entry v → IsChosen rules past k c picked after v
@@ -204,7 +204,7 @@ arbitration-admin rules late past k seen pick picked candidate rest table c boar
 -- ---- a post, and the end of a deletion
 -- a post leaves the board
 pub arbitration-post : KeepsPost Arbitration
-arbitration-post rules late past k c t rest cqe qid free s can = record { stands = s.arbitration.stands; lawful = s.arbitration.lawful }
+arbitration-post rules late past k c t rest cqe free s can = record { stands = s.arbitration.stands; lawful = s.arbitration.lawful }
 
 -- and so does the end of a deletion
 pub arbitration-close : KeepsClose Arbitration

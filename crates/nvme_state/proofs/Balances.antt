@@ -7,7 +7,7 @@ use Rattle.nvme_pool.specs.Seat.{Ends, SeatView}
 use Rattle.nvme_pool.specs.Jobs.{result_of}
 use Rattle.nvme_pool.specs.declared.jobs.Job.{Job}
 use Rattle.nvme_pool.specs.declared.jobs.Finished.{Finished}
-use Rattle.nvme_state.specs.declared.candidate.Dispatched.{Dispatched}
+use Rattle.nvme_state.specs.declared.dispatched.Dispatched.{Dispatched}
 use Rattle.nvme_state.specs.Hands.{Hands, job_in}
 use Rattle.nvme_state.specs.inside.Jobs.{JobsView, HandsOne, GainsOne, GainsStray}
 use Rattle.nvme_state.specs.Balance.{Balances}

@@ -9,11 +9,12 @@ use Rattle.std.proofs.lemmas.List.Elements.{All-head, filter-append}
 use Rattle.std.proofs.lemmas.Bool.{cases_Bool, cases_lt, and_from, and_right, not_from_true, not_from_false, false_from_ne_true}
 use Rattle.nvme_admin.specs.declared.bounds.TheConstants.{MAX_REGIONS}
 use Rattle.nvme_state.specs.declared.candidate.Candidate.{Candidate}
-use Rattle.nvme_state.specs.declared.candidate.Ready.{Ready}
-use Rattle.nvme_state.specs.declared.candidate.PendingDelete.{PendingDelete}
+use Rattle.nvme_state.specs.declared.ready.Ready.{Ready}
+use Rattle.nvme_state.specs.declared.deletion.PendingDelete.{PendingDelete}
 use Rattle.nvme_log.specs.Rules.{Past, FrontRules, upto, sq_regions_of}
 use Rattle.nvme_log.specs.Queues.{pending}
-use Rattle.nvme_log.specs.Places.{Place, fetched, waiting, places, fate_of, is_waiting}
+use Rattle.nvme_log.specs.Places.{fetched, waiting, places, fate_of, is_waiting}
+use Rattle.nvme_log.specs.declared.place.Place.{Place}
 use Rattle.nvme_log.specs.Completions.{is_posted, posts_of, takes_place}
 use Rattle.nvme_log.specs.Account.{IsClear}
 use Rattle.nvme_state.specs.inside.Content.{Content}
@@ -71,12 +72,12 @@ one_if-le true = omega arith
 one_if-le false = omega arith
 
 -- a ready completion is one of its place
-pub times_in-head : (t : Ready) (ready : List Ready) → 1 ≤ times_in t.region t.index (t ∷ ready)
+pub times_in-head : (t : Ready) (ready : List Ready) → 1 ≤ times_in t.place.region t.place.index (t ∷ ready)
 times_in-head t ready =
-    let yes_here : (t.region == t.region && t.index == t.index) ≡ true =
-    and_from (t.region == t.region) (t.index == t.index) (eq-eqb t.region t.region refl) (eq-eqb t.index t.index refl) in
-    let one : one_if (t.region == t.region && t.index == t.index) ≡ 1 = ap one_if yes_here in
-    omega (arith, sum_by-cons (λ (x : Ready). one_if (x.region == t.region && x.index == t.index)) t ready)
+    let yes_here : (t.place.region == t.place.region && t.place.index == t.place.index) ≡ true =
+    and_from (t.place.region == t.place.region) (t.place.index == t.place.index) (eq-eqb t.place.region t.place.region refl) (eq-eqb t.place.index t.place.index refl) in
+    let one : one_if (t.place.region == t.place.region && t.place.index == t.place.index) ≡ 1 = ap one_if yes_here in
+    omega (arith, sum_by-cons (λ (x : Ready). one_if (x.place.region == t.place.region && x.place.index == t.place.index)) t ready)
 
 -- ---- from the log
 module _ (rules : FrontRules) (late : Bool) (past : Past) (k : Content) (s : Stands rules late past k) where
@@ -116,9 +117,9 @@ module _ (rules : FrontRules) (late : Bool) (past : Past) (k : Content) (s : Sta
   clear-none_ready clear c (t ∷ ready) is = absurd (elim (cases_lt c MAX_REGIONS) [
     | inl below ↦
         let of_t : IsReady past k.deletion c t = All-head (IsReady past k.deletion c) t ready (subst (λ (xs : List Ready). All (IsReady past k.deletion c) xs) is (s.ready.each c)) in
-        let lt : t.index < length (fetched past t.region) = slice_get_within (fetched past t.region) t.index t.entry of_t.entry in
-        let posted : is_posted past t.region t.index ≡ true = all_below (λ (j : ℕ). is_posted past t.region j) (length (fetched past t.region)) (clear.all_posted t.region) t.index lt in
-        once_only t.region t.index c below (subst (λ (xs : List Ready). 1 ≤ times_in t.region t.index xs) (sym is) (times_in-head t ready)) posted
+        let lt : t.place.index < length (fetched past t.place.region) = slice_get_within (fetched past t.place.region) t.place.index of_t.entry of_t.is_there in
+        let posted : is_posted past t.place.region t.place.index ≡ true = all_below (λ (j : ℕ). is_posted past t.place.region j) (length (fetched past t.place.region)) (clear.all_posted t.place.region) t.place.index lt in
+        once_only t.place.region t.place.index c below (subst (λ (xs : List Ready). 1 ≤ times_in t.place.region t.place.index xs) (sym is) (times_in-head t ready)) posted
     | inr beyond ↦ let none = sym is ∙ s.ready.none_beyond c beyond in cc
   ])
 

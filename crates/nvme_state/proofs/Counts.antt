@@ -13,7 +13,7 @@ use Rattle.nvme_admin.specs.declared.verdict.Verdict.{Verdict}
 use Rattle.nvme_admin.specs.declared.verdict.Verdict.TheVariants.{Done, BeginDelete, CloseCq}
 use Rattle.nvme_admin.specs.declared.verdict.Verdict.TheVariants as verdict
 use Rattle.nvme_state.specs.declared.candidate.Candidate.{Candidate}
-use Rattle.nvme_state.specs.declared.candidate.Ready.{Ready}
+use Rattle.nvme_state.specs.declared.ready.Ready.{Ready}
 use Rattle.nvme_log.specs.declared.event.Event.{Event}
 use Rattle.nvme_log.specs.declared.event.Event.TheVariants.{Closing}
 use Rattle.nvme_log.specs.declared.event.Event.TheVariants as event
@@ -348,7 +348,7 @@ module _ (rules : FrontRules) (late : Bool) (past : Past) (k : Content) (seen : 
   -- an Abort command finds a candidate of a queue, or none
   aborts_one : (sqid cid : ℕ) (queue : Queue) → target_of past sqid ≡ Some queue → verdict_at rules s.tabled.history candidate ≡ verdict.Abort sqid cid
       → (o : Option Candidate) → oldest_named cid (now.sq queue.region).window ≡ o
-      → Leaves (map (λ (i : ℕ). event.Abort queue.region i) (map (λ (d : Candidate). d.index) (option_to_list o))) (aborting_in now candidate queue.region c cid board o)
+      → Leaves (map (λ (i : ℕ). event.Abort queue.region i) (map (λ (d : Candidate). d.index) (option_to_list o))) (aborting_in now candidate sqid queue.region c cid board o)
   aborts_one sqid cid queue target is None finds = leaves_none [] _ (λ r. refl) mid_served (λ r. refl) refl refl
   aborts_one sqid cid queue target is (Some found) finds = (
     1,
@@ -367,10 +367,10 @@ module _ (rules : FrontRules) (late : Bool) (past : Past) (k : Content) (seen : 
 
   -- an Abort command, by the queue whose candidates it may abort
   aborts : (sqid cid : ℕ) (o : Option Queue) → target_of past sqid ≡ o → verdict_at rules s.tabled.history candidate ≡ verdict.Abort sqid cid
-      → Leaves (abort_in past cid o) (aborting_from now candidate c cid board o)
+      → Leaves (abort_in past cid o) (aborting_from now candidate sqid c cid board o)
   aborts sqid cid None target is = leaves_none [] _ (λ r. refl) mid_served (λ r. refl) refl refl
   aborts sqid cid (Some queue) target is =
-      subst (λ (ds : List ℕ). Leaves (map (λ (i : ℕ). event.Abort queue.region i) ds) (aborting_in now candidate queue.region c cid board (oldest_named cid (now.sq queue.region).window)))
+      subst (λ (ds : List ℕ). Leaves (map (λ (i : ℕ). event.Abort queue.region i) ds) (aborting_in now candidate sqid queue.region c cid board (oldest_named cid (now.sq queue.region).window)))
       (sym (made_request rules late past k seen pick picked s can first table sqid cid queue target))
       (aborts_one sqid cid queue target is (oldest_named cid (now.sq queue.region).window) refl)
 
@@ -409,32 +409,32 @@ post_kept sq r0 r =
 
 -- a post keeps the counts: its place was unposted, and outstanding where it wasn't aborted with its queue
 pub counts-post : KeepsPost Counts
-counts-post rules late past k c t rest cqe qid free s can after =
+counts-post rules late past k c t rest cqe free s can after =
     let later = post_event c t cqe ∷ past in
     let it = ready_unanswered past k (hand_of k) s.ready c t rest can.oldest in
     let is = All-head (λ (z : Ready). IsReady past k.deletion c z) t rest (subst (λ (z : List Ready). All (λ (x : Ready). IsReady past k.deletion c x) z) can.oldest (s.ready.each c)) in
     let served = served_now rules late past k s in
-    let later_served = λ (r : ℕ). post_served past c t.region t.index r cqe it.was_served (served r) in
-    let there = s.queues.sq_there t.region (record { qid = qid; cq_region = c }) can.attached in
+    let later_served = λ (r : ℕ). post_served past c t.place.region t.place.index r cqe it.was_served (served r) in
+    let there = s.queues.sq_there t.place.region (record { qid = t.sqid; cq_region = c }) can.attached in
     record {
       unposted = λ (r : ℕ).
           let was = unposted_by past r (served r) in
           let now = unposted_by later r (later_served r) in
-          let more = post_places past c t.region t.index r cqe it.was_fetched it.no_post in
-          let kept = post_kept k.sq t.region r in
+          let more = post_places past c t.place.region t.place.index r cqe it.was_fetched it.no_post in
+          let kept = post_kept k.sq t.place.region r in
           let u = s.counts.unposted r in
           omega (arith, was, now, more, kept, u);
       outstanding_is =
           let many = s.tabled.sq_number in
-          let less = sums_differ (λ (r : ℕ). outstanding_of later r) (λ (r : ℕ). outstanding_of past r) t.region (one_if (not (is_aborted_with_queue past t.region t.index)))
+          let less = sums_differ (λ (r : ℕ). outstanding_of later r) (λ (r : ℕ). outstanding_of past r) t.place.region (one_if (not (is_aborted_with_queue past t.place.region t.place.index)))
           (λ (r : ℕ).
           let few = few_picked past r (k.sq r) (s.regions r) in
           let was = outstanding_by past r (served r) few in
           let now = outstanding_by later r (later_served r) few in
-          let more = post_takers past c t.region t.index r cqe it.was_fetched it.no_post in
+          let more = post_takers past c t.place.region t.place.index r cqe it.was_fetched it.no_post in
           omega (arith, was, now, more))
           (length (sq_regions_of rules)) (omega (arith, there, many)) in
           let o = s.counts.outstanding_is in
-          let a : one_if (not t.with_queue) ≡ one_if (not (is_aborted_with_queue past t.region t.index)) = ap (λ (z : Bool). one_if (not z)) is.with_queue in
+          let a : one_if (not t.with_queue) ≡ one_if (not (is_aborted_with_queue past t.place.region t.place.index)) = ap (λ (z : Bool). one_if (not z)) is.with_queue in
           omega (arith, less, o, a);
     }

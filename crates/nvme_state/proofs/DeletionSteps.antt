@@ -20,11 +20,12 @@ use Rattle.nvme_entry.specs.declared.submission.Sqe.{Sqe}
 use Rattle.nvme_log.specs.declared.event.Event.TheVariants.{Abort}
 use Rattle.nvme_log.specs.declared.event.Event.TheVariants as event
 use Rattle.nvme_state.specs.declared.candidate.Candidate.{Candidate}
-use Rattle.nvme_state.specs.declared.candidate.PendingDelete.{PendingDelete}
+use Rattle.nvme_state.specs.declared.deletion.PendingDelete.{PendingDelete}
 use Rattle.nvme_state.specs.declared.attachment.Attachment.{Attachment}
 use Rattle.nvme_log.specs.Rules.{FrontRules, Past}
 use Rattle.nvme_log.specs.Queues.{Queue, admin_queue, open_sq, open_cq, pending, is_closed_region}
 use Rattle.nvme_log.specs.Places.{fetched, waiting, is_aborted, entry_at}
+use Rattle.nvme_log.specs.Dispatches.{place_at}
 use Rattle.nvme_log.specs.Effects.{abort_in, closed_cq_of, closing_of, named, target_of}
 use Rattle.nvme_log.specs.Account.{deleting_place, latest_admin_place}
 use Rattle.nvme_log.specs.Laws.{as_open}
@@ -57,7 +58,7 @@ none_kept : (past later : Past) (k after : Content) → HoldsDeletion past k →
     → pending later ≡ pending past → deleting_place later ≡ deleting_place past → NoneCloses (sq_of after.table) → HoldsDeletion later after
 none_kept past later k after h none same p q closes = record {
   pending_is = p ∙ h.pending_is ∙ ap (option_map as_deletion) (sym same);
-  place_is = q ∙ h.place_is ∙ ap (option_map (λ (d : PendingDelete). d.index)) (sym same);
+  place_is = q ∙ h.place_is ∙ ap (option_map (λ (d : PendingDelete). d.place.index)) (sym same);
   stands = none_stands later after (same ∙ none);
   closing_is = λ x e is closing. absurd (closes x e is closing);
 }
@@ -85,7 +86,7 @@ put_emptied sq r s h = rw (eq-eqb r r refl) h
 
 -- a post leaves the pending deletion
 pub deleting-post : KeepsPost Deleting
-deleting-post rules late past k c t rest cqe qid free s can regions = record {
+deleting-post rules late past k c t rest cqe free s can regions = record {
   pending_is = s.deletion.pending_is;
   place_is = s.deletion.place_is;
   stands = λ d e. let is = s.deletion.stands d e in record {
@@ -93,12 +94,15 @@ deleting-post rules late past k c t rest cqe qid free s can regions = record {
     in_table = is.in_table;
     is_closing = is.is_closing;
     region = is.region;
+    of_admin = is.of_admin;
     entry = is.entry;
+    is_there = is.is_there;
+    cid = is.cid;
     not_aborted = is.not_aborted;
-    none_waits = put_window k.sq t.region (record (k.sq t.region) { unposted = (k.sq t.region).unposted - 1 }) d.region (d.region == t.region) refl refl ∙ is.none_waits;
+    none_waits = put_window k.sq t.place.region (record (k.sq t.place.region) { unposted = (k.sq t.place.region).unposted - 1 }) d.region (d.region == t.place.region) refl refl ∙ is.none_waits;
     not_closed = is.not_closed;
     not_admin = is.not_admin;
-    attached = ap (option_map (λ (a : Attachment). a.qid)) (put-queue k.sq t.region (record (k.sq t.region) { unposted = (k.sq t.region).unposted - 1 }) refl d.region) ∙ is.attached;
+    attached = ap (option_map (λ (a : Attachment). a.qid)) (put-queue k.sq t.place.region (record (k.sq t.place.region) { unposted = (k.sq t.place.region).unposted - 1 }) refl d.region) ∙ is.attached;
   };
   closing_is = s.deletion.closing_is;
 }
@@ -235,7 +239,7 @@ begun rules late past k seen pick picked candidate rest table c qid queue s admi
     let after : Content = deleting_from (applied_to k picked table) qid c candidate (Some queue) in
     let found = open_entry (sq_of k.table qid) queue (sym (s.queues.sqs qid) ∙ is_open) in
     let apart : r ≡ 0 → ⊥ = io_region past k qid queue s.queues admin is_open tells.due.not_admin in
-    let d : PendingDelete = record { qid = qid; region = r; index = candidate.index; entry = candidate.entry } in
+    let d : PendingDelete = record { place = place_at 0 candidate.index; cid = candidate.entry.cid; qid = qid; region = r } in
     let place : latest_admin_place (event.Pick seen pick ∷ past) ≡ Some candidate.index =
     cond-true (pick.qid == 0) (slice_get (waiting past 0) 0) (latest_admin_place past) (eq-eqb pick.qid 0 zero_is) ∙ oldest_place past 0 (k.sq 0) (s.regions 0) candidate rest can.oldest in
     let in_table : sq_of table qid ≡ Some (as_closing found.0) =
@@ -257,7 +261,10 @@ begun rules late past k seen pick picked candidate rest table c qid queue s admi
       in_table = in_table;
       is_closing = refl;
       region = found.2;
-      entry = entry;
+      of_admin = refl;
+      entry = candidate.entry;
+      is_there = entry;
+      cid = refl;
       not_aborted = not_aborted;
       none_waits = none_waits;
       not_closed = not_closed;
@@ -275,18 +282,18 @@ begun rules late past k seen pick picked candidate rest table c qid queue s admi
     }
 
 -- an Abort command leaves the pending deletion
-aborting_leaves_deletion : (k : Content) (candidate : Candidate) (c cid : ℕ) (board : BoardView) (o : Option Queue) → (aborting_from k candidate c cid board o).deletion ≡ k.deletion
-aborting_leaves_deletion k candidate c cid board None = refl
-aborting_leaves_deletion k candidate c cid board (Some queue) = found (oldest_named cid (k.sq queue.region).window) where
-  found : (o : Option Candidate) → (aborting_in k candidate queue.region c cid board o).deletion ≡ k.deletion
+aborting_leaves_deletion : (k : Content) (candidate : Candidate) (sqid c cid : ℕ) (board : BoardView) (o : Option Queue) → (aborting_from k candidate sqid c cid board o).deletion ≡ k.deletion
+aborting_leaves_deletion k candidate sqid c cid board None = refl
+aborting_leaves_deletion k candidate sqid c cid board (Some queue) = found (oldest_named cid (k.sq queue.region).window) where
+  found : (o : Option Candidate) → (aborting_in k candidate sqid queue.region c cid board o).deletion ≡ k.deletion
   found None = refl
   found (Some it) = refl
 
 -- and the table
-aborting_leaves_table : (k : Content) (candidate : Candidate) (c cid : ℕ) (board : BoardView) (o : Option Queue) → (aborting_from k candidate c cid board o).table ≡ k.table
-aborting_leaves_table k candidate c cid board None = refl
-aborting_leaves_table k candidate c cid board (Some queue) = found (oldest_named cid (k.sq queue.region).window) where
-  found : (o : Option Candidate) → (aborting_in k candidate queue.region c cid board o).table ≡ k.table
+aborting_leaves_table : (k : Content) (candidate : Candidate) (sqid c cid : ℕ) (board : BoardView) (o : Option Queue) → (aborting_from k candidate sqid c cid board o).table ≡ k.table
+aborting_leaves_table k candidate sqid c cid board None = refl
+aborting_leaves_table k candidate sqid c cid board (Some queue) = found (oldest_named cid (k.sq queue.region).window) where
+  found : (o : Option Candidate) → (aborting_in k candidate sqid queue.region c cid board o).table ≡ k.table
   found None = refl
   found (Some it) = refl
 
@@ -316,11 +323,11 @@ by_verdict rules late past k seen pick picked candidate rest table c board (verd
     none_kept past _ k _ s.deletion can.none_pending refl refl refl (later (λ q e. cc))
 by_verdict rules late past k seen pick picked candidate rest table c board (verdict.Abort sqid cid) s can z apply tells none later =
     let o : Option Queue = target_of past sqid in
-    let after : Content = aborting_from (applied_to k picked table) candidate c cid board o in
+    let after : Content = aborting_from (applied_to k picked table) candidate sqid c cid board o in
     none_kept past (with_events (abort_in past cid o) (event.Pick seen pick ∷ past)) k after s.deletion can.none_pending
-    (aborting_leaves_deletion (applied_to k picked table) candidate c cid board o)
+    (aborting_leaves_deletion (applied_to k picked table) candidate sqid c cid board o)
     (abort_leaves_pending past (event.Pick seen pick ∷ past) cid o) (abort_leaves_deleting past (event.Pick seen pick ∷ past) cid o)
-    (subst (λ (t : TableView). NoneCloses (sq_of t)) (sym (aborting_leaves_table (applied_to k picked table) candidate c cid board o)) (later (λ q e. cc)))
+    (subst (λ (t : TableView). NoneCloses (sq_of t)) (sym (aborting_leaves_table (applied_to k picked table) candidate sqid c cid board o)) (later (λ q e. cc)))
 by_verdict rules late past k seen pick picked candidate rest table c board (CloseCq qid) s can z apply tells none later = by_cq (open_cq past qid) where
   by_cq : (o : Option ℕ) → HoldsDeletion (with_events (closed_cq_of qid o) (event.Pick seen pick ∷ past)) (after_admin past (applied_to k picked table) candidate c board (CloseCq qid))
   by_cq None = none_kept past _ k _ s.deletion can.none_pending refl refl refl (later (λ q e. cc))

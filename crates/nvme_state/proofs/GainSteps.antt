@@ -5,8 +5,8 @@ use Rattle.std.proofs.lemmas.List.Elements.{All-nil, All-cons, All-head}
 use Rattle.nvme_entry.specs.Outcome.{outcome_of}
 use Rattle.nvme_pool.specs.declared.jobs.Job.{Job}
 use Rattle.nvme_pool.specs.declared.jobs.Finished.{Finished}
-use Rattle.nvme_state.specs.declared.candidate.Dispatched.{Dispatched}
-use Rattle.nvme_state.specs.declared.candidate.Ready.{Ready}
+use Rattle.nvme_state.specs.declared.dispatched.Dispatched.{Dispatched}
+use Rattle.nvme_state.specs.declared.ready.Ready.{Ready}
 use Rattle.nvme_log.specs.Rules.{FrontRules, Past}
 use Rattle.nvme_state.specs.inside.Jobs.{JobsView, IsResultOf, handed_jobs, gained_jobs}
 use Rattle.nvme_state.specs.inside.Content.{CqContent, Content}
@@ -57,7 +57,10 @@ module _ (rules : FrontRules) (late : Bool) (past : Past) (k : Content) (cq : �
       in_table = is.in_table;
       is_closing = is.is_closing;
       region = is.region;
+      of_admin = is.of_admin;
       entry = is.entry;
+      is_there = is.is_there;
+      cid = is.cid;
       not_aborted = is.not_aborted;
       none_waits = is.none_waits;
       not_closed = is.not_closed;
@@ -172,9 +175,11 @@ gained_is_dispatched sizes past j d rest result h its =
     All-head (IsDispatched past) d (rest ++ j.hands.unhanded) (each-gained (IsDispatched past) j.hands d rest its.running_is h.each)
 
 -- a result of a dispatched command has the own status of its place
-completed_own : (rules : FrontRules) (past : Past) (d : Dispatched) (result : Finished) → IsDispatched past d
-    → result.entry ≡ d.entry → result.spaces ≡ rules.sizes → HasOwnStatus rules past (completed d result)
-completed_own rules past d result h entry sizes = record {
+completed_own : (rules : FrontRules) (past : Past) (sqid : ℕ) (d : Dispatched) (result : Finished) → IsDispatched past d
+    → result.entry ≡ d.entry → result.spaces ≡ rules.sizes → HasOwnStatus rules past (completed sqid d result)
+completed_own rules past sqid d result h entry sizes = record {
+  entry = d.entry;
+  is_there = h.entry;
   status = rw (h.not_aborted, h.io) (result.right ∙ (λ t. outcome_of (entry t) (sizes t)));
   dw0 = rw (h.not_aborted, h.io) refl;
 }
@@ -192,36 +197,36 @@ regions-gain rules late past k d rest result seat c qid s can its at = s.regions
 -- and the counts
 pub counts-gain : KeepsGain Counts
 counts-gain rules late past k d rest result seat c qid s can its at regions =
-    counts-left rules late past k (after_gain k d rest seat c result).cq (gained_jobs k.jobs rest seat) s.counts
+    counts-left rules late past k (after_gain k d rest seat qid c result).cq (gained_jobs k.jobs rest seat) s.counts
 
 -- and the queues
 pub queues-gain : KeepsGain Queues
 queues-gain rules late past k d rest result seat c qid s can its at regions =
-    queues-left rules late past k (after_gain k d rest seat c result).cq (gained_jobs k.jobs rest seat) s.queues
+    queues-left rules late past k (after_gain k d rest seat qid c result).cq (gained_jobs k.jobs rest seat) s.queues
 
 -- and the pending deletion
 pub deleting-gain : KeepsGain Deleting
 deleting-gain rules late past k d rest result seat c qid s can its at regions =
-    deletion-left rules late past k (after_gain k d rest seat c result).cq (gained_jobs k.jobs rest seat) s.deletion
+    deletion-left rules late past k (after_gain k d rest seat qid c result).cq (gained_jobs k.jobs rest seat) s.deletion
 
 -- and the board
 pub arbitration-gain : KeepsGain Arbitration
 arbitration-gain rules late past k d rest result seat c qid s can its at =
-    arbitration-left rules late past k (after_gain k d rest seat c result).cq (gained_jobs k.jobs rest seat) s.arbitration
+    arbitration-left rules late past k (after_gain k d rest seat qid c result).cq (gained_jobs k.jobs rest seat) s.arbitration
 
 -- and the table
 pub tabled-gain : KeepsGain Tabled
 tabled-gain rules late past k d rest result seat c qid s can its at =
-    table-left rules late past k (after_gain k d rest seat c result).cq (gained_jobs k.jobs rest seat)
-    (λ x. slots_left k.cq c ((k.cq c).ready ++ completed d result ∷ []) x (x == c) refl) s.tabled
+    table-left rules late past k (after_gain k d rest seat qid c result).cq (gained_jobs k.jobs rest seat)
+    (λ x. slots_left k.cq c ((k.cq c).ready ++ completed qid d result ∷ []) x (x == c) refl) s.tabled
 
 -- and the account: what is ready then has the own status of its place
 pub accounted-gain : KeepsGain Accounted
 accounted-gain rules late past k d rest result seat c qid s can its at regions on_time =
     let a = s.accounts on_time in
-    let own : HasOwnStatus rules past (completed d result) =
-    completed_own rules past d result (gained_is_dispatched rules.sizes past k.jobs d rest result s.jobs its)
+    let own : HasOwnStatus rules past (completed qid d result) =
+    completed_own rules past qid d result (gained_is_dispatched rules.sizes past k.jobs d rest result s.jobs its)
     (ap (λ (j : Job). j.entry) its.its_job) (ap (λ (j : Job). j.spaces) its.its_job) in
-    accounts-left rules late past k (after_gain k d rest seat c result).cq (gained_jobs k.jobs rest seat)
-    (all_with_readies (HasOwnStatus rules past) k c (completed d result ∷ []) a.own_statuses
-    (All-cons (HasOwnStatus rules past) (completed d result) [] own (All-nil (HasOwnStatus rules past)))) a
+    accounts-left rules late past k (after_gain k d rest seat qid c result).cq (gained_jobs k.jobs rest seat)
+    (all_with_readies (HasOwnStatus rules past) k c (completed qid d result ∷ []) a.own_statuses
+    (All-cons (HasOwnStatus rules past) (completed qid d result) [] own (All-nil (HasOwnStatus rules past)))) a

@@ -6,7 +6,7 @@ use Rattle.nvme_entry.specs.declared.submission.Sqe.{Sqe}
 use Rattle.nvme_admin.specs.History.{TableHistory}
 use Rattle.nvme_admin.specs.Standing.{TableView, StandsAt, sq_of, cq_of, used_at}
 use Rattle.nvme_admin.specs.declared.bounds.TheConstants.{MAX_REGIONS}
-use Rattle.nvme_state.specs.declared.candidate.PendingDelete.{PendingDelete}
+use Rattle.nvme_state.specs.declared.deletion.PendingDelete.{PendingDelete}
 use Rattle.nvme_state.specs.declared.attachment.Attachment.{Attachment}
 use Rattle.nvme_log.specs.Rules.{FrontRules, Past, upto, sq_regions_of, cq_regions_of, slots_at}
 use Rattle.nvme_log.specs.Places.{fetched, places}
@@ -91,6 +91,7 @@ module _ (rules : FrontRules) (late : Bool) (past : Past) (k : Content) (s : Sta
     few_aborted = s.ready.few_aborted;
     few_taken = s.ready.few_taken;
     none_beyond = s.ready.none_beyond;
+    admin_qid = s.ready.admin_qid;
     admin_region = s.ready.admin_region;
   }
 
@@ -136,7 +137,10 @@ module _ (rules : FrontRules) (late : Bool) (past : Past) (k : Content) (s : Sta
     in_table = g.same_sq d.qid ∙ p.in_table;
     is_closing = p.is_closing;
     region = p.region;
+    of_admin = p.of_admin;
     entry = p.entry;
+    is_there = p.is_there;
+    cid = p.cid;
     not_aborted = p.not_aborted;
     none_waits = p.none_waits;
     not_closed = p.not_closed;

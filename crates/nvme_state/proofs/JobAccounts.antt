@@ -20,10 +20,11 @@ use Rattle.nvme_pool.specs.declared.jobs.Job.{Job}
 use Rattle.nvme_pool.specs.declared.jobs.Finished.{Finished}
 use Rattle.nvme_log.specs.declared.event.Event.{Event}
 use Rattle.nvme_state.specs.declared.candidate.Candidate.{Candidate}
-use Rattle.nvme_state.specs.declared.candidate.Dispatched.{Dispatched}
+use Rattle.nvme_state.specs.declared.dispatched.Dispatched.{Dispatched}
 use Rattle.nvme_log.specs.Rules.{Past}
 use Rattle.nvme_log.specs.Queues.{cq_region_of}
-use Rattle.nvme_log.specs.Places.{Place, entry_at, is_aborted}
+use Rattle.nvme_log.specs.Places.{entry_at, is_aborted}
+use Rattle.nvme_log.specs.declared.place.Place.{Place}
 use Rattle.nvme_state.specs.Hands.{Hands, job_in, in_hand}
 use Rattle.nvme_state.specs.inside.Jobs.{dispatched_from, dispatched_place}
 use Rattle.nvme_log.specs.Dispatches.{place_at, AreJobs, dispatched}
@@ -66,22 +67,22 @@ AreJobs-picked sizes past r ticket (c ∷ cs) h =
 
 -- what holds of each picked candidate, with any ticket, holds of what is dispatched of them
 pub dispatched-each : (P : Dispatched → Type 0) (r ticket : ℕ) (cs : List Candidate)
-    → All (λ (c : Candidate). (n : ℕ) → P (record { ticket = n; region = r; index = c.index; entry = c.entry })) cs → All P (dispatched_from r ticket cs)
+    → All (λ (c : Candidate). (n : ℕ) → P (record { ticket = n; place = place_at r c.index; entry = c.entry })) cs → All P (dispatched_from r ticket cs)
 dispatched-each P r ticket [] h = All-nil P
 dispatched-each P r ticket (c ∷ cs) h =
-    let Q : Candidate → Type 0 = λ c. (n : ℕ) → P (record { ticket = n; region = r; index = c.index; entry = c.entry }) in
+    let Q : Candidate → Type 0 = λ c. (n : ℕ) → P (record { ticket = n; place = place_at r c.index; entry = c.entry }) in
     All-cons P _ _ (All-head Q c cs h ticket) (dispatched-each P r (ticket + 1) cs (All-tail Q c cs h))
 
 -- what is dispatched of picked candidates has the tickets of their places, which stand behind others
 pub dispatched-tickets : (r ticket : ℕ) (cs : List Candidate) (ps : List Place) → ticket ≡ length ps
-    → All (λ (d : Dispatched). slice_get (ps ++ map (λ (c : Candidate). place_at r c.index) cs) d.ticket ≡ Some (place_at d.region d.index)) (dispatched_from r ticket cs)
-dispatched-tickets r ticket [] ps at = All-nil (λ (d : Dispatched). slice_get (ps ++ []) d.ticket ≡ Some (place_at d.region d.index))
+    → All (λ (d : Dispatched). slice_get (ps ++ map (λ (c : Candidate). place_at r c.index) cs) d.ticket ≡ Some (place_at d.place.region d.place.index)) (dispatched_from r ticket cs)
+dispatched-tickets r ticket [] ps at = All-nil (λ (d : Dispatched). slice_get (ps ++ []) d.ticket ≡ Some (place_at d.place.region d.place.index))
 dispatched-tickets r ticket (c ∷ cs) ps at =
     let p : Place = place_at r c.index in
     let rest : List Place = map (λ (x : Candidate). place_at r x.index) cs in
     let same : (ps ++ p ∷ []) ++ rest ≡ ps ++ p ∷ rest = append_assoc ps (p ∷ []) rest in
-    let P : List Place → Dispatched → Type 0 = λ qs d. slice_get qs d.ticket ≡ Some (place_at d.region d.index) in
-    All-cons (P (ps ++ p ∷ rest)) (record { ticket = ticket; region = r; index = c.index; entry = c.entry }) (dispatched_from r (ticket + 1) cs)
+    let P : List Place → Dispatched → Type 0 = λ qs d. slice_get qs d.ticket ≡ Some (place_at d.place.region d.place.index) in
+    All-cons (P (ps ++ p ∷ rest)) (record { ticket = ticket; place = place_at r c.index; entry = c.entry }) (dispatched_from r (ticket + 1) cs)
     (subst (λ (qs : List Place). slice_get qs ticket ≡ Some p) same
     (slice_get-append_left (ps ++ p ∷ []) rest ticket p (ap (slice_get (ps ++ p ∷ [])) at ∙ slice_get-push ps p)))
     (subst (λ (qs : List Place). All (P qs) (dispatched_from r (ticket + 1) cs)) same
@@ -168,17 +169,17 @@ pub record Leaves (past later : Past) : Type 0 where
   pub picks : PicksNoMore past later
 
 -- a place in hand was served
-hand_served : (past : Past) (k : Content) → HoldsReady past k (hand_of k) → All (λ (d : Dispatched). is_served past d.region d.index ≡ true) (in_hand k.jobs.hands)
+hand_served : (past : Past) (k : Content) → HoldsReady past k (hand_of k) → All (λ (d : Dispatched). is_served past d.place.region d.place.index ≡ true) (in_hand k.jobs.hands)
 hand_served past k ready j e lt =
     let d : Dispatched = slice_index_or (in_hand k.jobs.hands) j e in
-    let own : Dispatched → ℕ = λ x. one_if (x.region == d.region && x.index == d.index) in
-    let itself : own d ≡ 1 = rw (eq-eqb d.region d.region refl, eq-eqb d.index d.index refl) refl in
+    let own : Dispatched → ℕ = λ x. one_if (x.place.region == d.place.region && x.place.index == d.place.index) in
+    let itself : own d ≡ 1 = rw (eq-eqb d.place.region d.place.region refl, eq-eqb d.place.index d.place.index refl) refl in
     let here : own d ≤ sum_by own (in_hand k.jobs.hands) = get_or-le-sum_by own (in_hand k.jobs.hands) j e lt in
-    let held : times_held d.region d.index (hand_of k) ≡ sum_by own (in_hand k.jobs.hands) + times_held d.region d.index (held_by k.deletion) =
-    sum_by-append (λ (p : Place). one_if (p.region == d.region && p.index == d.index)) (map dispatched_place (in_hand k.jobs.hands)) (held_by k.deletion)
-    ∙ ap (λ (n : ℕ). n + times_held d.region d.index (held_by k.deletion))
-    (sum_by-map (λ (p : Place). one_if (p.region == d.region && p.index == d.index)) dispatched_place (in_hand k.jobs.hands)) in
-    counts_true (is_served past d.region d.index) (omega (arith, ready.once d.region d.index)) where
+    let held : times_held d.place.region d.place.index (hand_of k) ≡ sum_by own (in_hand k.jobs.hands) + times_held d.place.region d.place.index (held_by k.deletion) =
+    sum_by-append (λ (p : Place). one_if (p.region == d.place.region && p.index == d.place.index)) (map dispatched_place (in_hand k.jobs.hands)) (held_by k.deletion)
+    ∙ ap (λ (n : ℕ). n + times_held d.place.region d.place.index (held_by k.deletion))
+    (sum_by-map (λ (p : Place). one_if (p.region == d.place.region && p.index == d.place.index)) dispatched_place (in_hand k.jobs.hands)) in
+    counts_true (is_served past d.place.region d.place.index) (omega (arith, ready.once d.place.region d.place.index)) where
       counts_true : (b : Bool) → 1 ≤ one_if b → b ≡ true
       counts_true true l = refl
       counts_true false l = absurd (omega arith)
@@ -208,11 +209,11 @@ jobs_left sizes past later k ready h l = record {
       let d : Dispatched = slice_index_or (in_hand k.jobs.hands) j e in
       let was : IsDispatched past d = h.each j e lt in
       record {
-        entry = l.entries d.region d.index d.entry was.entry;
-        not_aborted = l.unaborted d.region d.index (hand_served past k ready j e lt) was.not_aborted;
+        entry = l.entries d.place.region d.place.index d.entry was.entry;
+        not_aborted = l.unaborted d.place.region d.place.index (hand_served past k ready j e lt) was.not_aborted;
         io = was.io;
         cq_region = was.cq_region;
-        attached = l.cq_regions d.region was.cq_region was.attached;
+        attached = l.cq_regions d.place.region was.cq_region was.attached;
       };
   covers = λ r i io later_picked.
       let it = h.covers r i io (l.picks r i io later_picked) in

@@ -23,11 +23,12 @@ use Rattle.nvme_pool.specs.declared.jobs.Job.{Job}
 use Rattle.nvme_pool.specs.declared.jobs.Finished.{Finished}
 use Rattle.nvme_log.specs.declared.event.Event.TheVariants as event
 use Rattle.nvme_state.specs.declared.candidate.Candidate.{Candidate}
-use Rattle.nvme_state.specs.declared.candidate.Dispatched.{Dispatched}
+use Rattle.nvme_state.specs.declared.dispatched.Dispatched.{Dispatched}
 use Rattle.nvme_state.specs.declared.attachment.Attachment.{Attachment}
 use Rattle.nvme_log.specs.Rules.{FrontRules, Past}
 use Rattle.nvme_log.specs.Queues.{Queue, admin_queue, open_sq, open_cq, cq_region_of, has_region}
-use Rattle.nvme_log.specs.Places.{Place, fetched, waiting, entry_at, fate_of, is_picked, one_if}
+use Rattle.nvme_log.specs.Places.{fetched, waiting, entry_at, fate_of, is_picked, one_if}
+use Rattle.nvme_log.specs.declared.place.Place.{Place}
 use Rattle.nvme_log.specs.Effects.{closing_of, closed_cq_of, abort_in, named, target_of}
 use Rattle.nvme_state.specs.inside.Jobs.{JobsView, dispatched_from}
 use Rattle.nvme_state.specs.Hands.{in_hand, job_in}
@@ -83,7 +84,7 @@ jobs-fetch rules late past k q queue entry known s can regions =
 
 -- nor does a post
 pub jobs-post : KeepsPost Jobs
-jobs-post rules late past k c t rest cqe qid free s can regions =
+jobs-post rules late past k c t rest cqe free s can regions =
     jobs_left rules.sizes past (post_event c t cqe ∷ past) k s.ready s.jobs (record {
       none_dispatched = refl;
       longer = omega arith;
@@ -146,10 +147,10 @@ jobs-io rules late past k queue seen pick board c s can observed io attached reg
         others = h.others;
         each_gained = h.each_gained;
         places = All-same (HasItsTicket later) _ (in_hand j.hands ++ new) (sym (append_assoc j.hands.running j.hands.unhanded new))
-            (subst (λ (ps : List Place). All (λ (d : Dispatched). slice_get ps d.ticket ≡ Some (place_at d.region d.index)) (in_hand j.hands ++ new)) (sym from)
-            (All-append (λ (d : Dispatched). slice_get (dispatched past ++ own) d.ticket ≡ Some (place_at d.region d.index)) (in_hand j.hands) new (λ i e lt.
+            (subst (λ (ps : List Place). All (λ (d : Dispatched). slice_get ps d.ticket ≡ Some (place_at d.place.region d.place.index)) (in_hand j.hands ++ new)) (sym from)
+            (All-append (λ (d : Dispatched). slice_get (dispatched past ++ own) d.ticket ≡ Some (place_at d.place.region d.place.index)) (in_hand j.hands) new (λ i e lt.
             let d : Dispatched = slice_index_or (in_hand j.hands) i e in
-            slice_get-append_left (dispatched past) own d.ticket (place_at d.region d.index) (h.places i e lt))
+            slice_get-append_left (dispatched past) own d.ticket (place_at d.place.region d.place.index) (h.places i e lt))
             (dispatched-tickets r j.tickets taken (dispatched past) s.jobs.tickets_are)));
       };
       each = All-same (IsDispatched later) _ (in_hand j.hands ++ new) (sym (append_assoc j.hands.running j.hands.unhanded new))
@@ -157,7 +158,7 @@ jobs-io rules late past k queue seen pick board c s can observed io attached reg
           let was = s.jobs.each i e lt in
           record { entry = was.entry; not_aborted = was.not_aborted; io = was.io; cq_region = was.cq_region; attached = was.attached })
           (dispatched-each (IsDispatched later) r j.tickets taken
-          (All-take (λ (x : Candidate). (n : ℕ) → IsDispatched later (record { ticket = n; region = r; index = x.index; entry = x.entry })) pick.n (k.sq r).window
+          (All-take (λ (x : Candidate). (n : ℕ) → IsDispatched later (record { ticket = n; place = place_at r x.index; entry = x.entry })) pick.n (k.sq r).window
           (λ i e lt n. record {
             entry = sq.entries i e lt;
             not_aborted = waiting-unaborted past r (k.sq r) sq i e lt;
@@ -393,11 +394,11 @@ same_jobs past k candidate c board (verdict.OpenCq qid region) = refl
 same_jobs past k candidate c board (CloseCq qid) = refl
 same_jobs past k candidate c board (verdict.SetArbitration settings) = refl
 same_jobs past k candidate c board (verdict.Abort sqid cid) = same (target_of past sqid) where
-  found : (queue : Queue) (o : Option Candidate) → (aborting_in k candidate queue.region c cid board o).jobs ≡ k.jobs
+  found : (queue : Queue) (o : Option Candidate) → (aborting_in k candidate sqid queue.region c cid board o).jobs ≡ k.jobs
   found queue None = refl
   found queue (Some it) = refl
 
-  same : (o : Option Queue) → (aborting_from k candidate c cid board o).jobs ≡ k.jobs
+  same : (o : Option Queue) → (aborting_from k candidate sqid c cid board o).jobs ≡ k.jobs
   same None = refl
   same (Some queue) = found queue (oldest_named cid (k.sq queue.region).window)
 same_jobs past k candidate c board (BeginDelete qid) = same (open_sq past qid) where

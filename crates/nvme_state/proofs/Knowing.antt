@@ -30,6 +30,7 @@ module _ (rules : FrontRules) (late : Bool) (past : Past) (k : Content) (known :
     few_aborted = h.few_aborted;
     few_taken = h.few_taken;
     none_beyond = h.none_beyond;
+    admin_qid = h.admin_qid;
     admin_region = h.admin_region;
   }
 
@@ -64,7 +65,10 @@ module _ (rules : FrontRules) (late : Bool) (past : Past) (k : Content) (known :
           in_table = a.in_table;
           is_closing = a.is_closing;
           region = a.region;
+          of_admin = a.of_admin;
           entry = a.entry;
+          is_there = a.is_there;
+          cid = a.cid;
           not_aborted = a.not_aborted;
           none_waits = a.none_waits;
           not_closed = a.not_closed;

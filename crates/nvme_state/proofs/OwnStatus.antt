@@ -20,9 +20,10 @@ use Rattle.nvme_admin.specs.declared.verdict.Verdict.TheVariants as verdict
 use Rattle.nvme_admin.specs.Checks.{is_success, numbers_dw0, dw0_after, verdict_after, opened_sq, opened_cq, status_in, dw0_in}
 use Rattle.nvme_log.specs.declared.event.Event.TheVariants as event
 use Rattle.nvme_state.specs.declared.candidate.Candidate.{Candidate}
-use Rattle.nvme_state.specs.declared.candidate.Ready.{Ready}
+use Rattle.nvme_state.specs.declared.ready.Ready.{Ready}
 use Rattle.nvme_log.specs.Rules.{Past, FrontRules}
-use Rattle.nvme_log.specs.Places.{Place, fetched, entry_at, waiting, places, WasAborted, WasPicked, Waits, fate_of, is_waiting, is_aborted, unaborted_below, picked, Fate}
+use Rattle.nvme_log.specs.Places.{fetched, entry_at, waiting, places, WasAborted, WasPicked, Waits, fate_of, is_waiting, is_aborted, unaborted_below, picked, Fate}
+use Rattle.nvme_log.specs.declared.place.Place.{Place}
 use Rattle.nvme_log.specs.Completions.{is_posted, posts_of, table_before, own_status, own_dw0}
 use Rattle.nvme_state.specs.inside.Content.{SqContent, CqContent, Content}
 use Rattle.nvme_log.specs.Places.{one_if, is_served}
@@ -41,9 +42,10 @@ same_choice false false false x w p q y e f h = refl
 same_choice true false z x w p q y e f h = cc
 same_choice false true z x w p q y e f h = cc
 
--- what a place's own completion says stays in a later log: its being aborted, and by what, and of an admin place the table history at its pick and
--- whether it aborted another
+-- what a place's own completion says stays in a later log: its entry, its being aborted, and by what, and of an admin place the table history at its
+-- pick and whether it aborted another
 pub record Stays (rules : FrontRules) (past later : Past) (r i : ℕ) : Type 0 where
+  pub there : (entry : Sqe) → entry_at past r i ≡ Some entry → entry_at later r i ≡ Some entry
   pub aborted : is_aborted later r i ≡ is_aborted past r i
   pub requested : is_abort_requested later r i ≡ is_abort_requested past r i
   pub table : r ≡ 0 → table_before rules later i ≡ table_before rules past i
@@ -68,11 +70,13 @@ own_dw0-stays rules past later r i entry h =
     (λ t. told_dw0 (told t) (verdict_of rules.start (table t) entry) (dw0_of rules.start (table t) entry)))
 
 -- a ready completion keeps the status of its place in a later log
-pub HasOwnStatus-stays : (rules : FrontRules) (past later : Past) (t : Ready) → Stays rules past later t.region t.index
+pub HasOwnStatus-stays : (rules : FrontRules) (past later : Past) (t : Ready) → Stays rules past later t.place.region t.place.index
     → HasOwnStatus rules past t → HasOwnStatus rules later t
 HasOwnStatus-stays rules past later t s h = record {
-  status = h.status ∙ sym (own_status-stays rules past later t.region t.index t.entry s);
-  dw0 = h.dw0 ∙ sym (own_dw0-stays rules past later t.region t.index t.entry s);
+  entry = h.entry;
+  is_there = s.there h.entry h.is_there;
+  status = h.status ∙ sym (own_status-stays rules past later t.place.region t.place.index h.entry s);
+  dw0 = h.dw0 ∙ sym (own_dw0-stays rules past later t.place.region t.place.index h.entry s);
 }
 
 -- ---- what is ready in a completion region
@@ -113,15 +117,15 @@ same_place r i = rw (eq-eqb r r refl, eq-eqb i i refl) refl
 
 -- each place that is ready is one to answer
 pub ready_is_answerable : (past : Past) (k : Content) (hand : List Place) → HoldsReady past k hand
-    → (c : ℕ) → All (λ (t : Ready). IsAnswerable past hand t.region t.index) (k.cq c).ready
+    → (c : ℕ) → All (λ (t : Ready). IsAnswerable past hand t.place.region t.place.index) (k.cq c).ready
 ready_is_answerable past k hand h c j d lt = elim (cases_lt c MAX_REGIONS) [
   | inl below ↦
       let t : Ready = get_or (k.cq c).ready j d in
-      let once = h.once t.region t.index in
-      let among = over_regions-at (λ (x : ℕ). times_in t.region t.index (k.cq x).ready) MAX_REGIONS c below in
-      let here = get_or-le-sum_by (λ (x : Ready). one_if (x.region == t.region && x.index == t.index)) (k.cq c).ready j d lt in
-      let first : 1 ≤ times_ready k t.region t.index = omega (arith, among, here, same_place t.region t.index) in
-      let parts = only_first (times_ready k t.region t.index) (posts_of past t.region t.index) (times_held t.region t.index hand) (is_served past t.region t.index) first once in
+      let once = h.once t.place.region t.place.index in
+      let among = over_regions-at (λ (x : ℕ). times_in t.place.region t.place.index (k.cq x).ready) MAX_REGIONS c below in
+      let here = get_or-le-sum_by (λ (x : Ready). one_if (x.place.region == t.place.region && x.place.index == t.place.index)) (k.cq c).ready j d lt in
+      let first : 1 ≤ times_ready k t.place.region t.place.index = omega (arith, among, here, same_place t.place.region t.place.index) in
+      let parts = only_first (times_ready k t.place.region t.place.index) (posts_of past t.place.region t.place.index) (times_held t.place.region t.place.index hand) (is_served past t.place.region t.place.index) first once in
       record { served = parts.0; no_posts = parts.1; not_held = parts.2 }
   | inr beyond ↦ let none = ap (λ (xs : List Ready). length xs) (h.none_beyond c beyond) in absurd (omega (arith, none, lt))
 ]

@@ -11,7 +11,8 @@ use Rattle.nvme_log.specs.declared.event.Event.{Event}
 use Rattle.nvme_log.specs.declared.event.Event.TheVariants as event
 use Rattle.nvme_log.specs.Rules.{Past}
 use Rattle.nvme_log.specs.Queues.{Queue, admin_queue, open_sq, has_region}
-use Rattle.nvme_log.specs.Places.{Place, fetched, picked, waiting, fate_of, is_picked, is_aborted, unaborted_below, one_if}
+use Rattle.nvme_log.specs.Places.{fetched, picked, waiting, fate_of, is_picked, is_aborted, unaborted_below, one_if}
+use Rattle.nvme_log.specs.declared.place.Place.{Place}
 use Rattle.nvme_log.specs.Effects.{abort_in}
 use Rattle.nvme_log.specs.Dispatches.{place_at}
 use Rattle.nvme_log.proofs.Waiting.{contains-times, fate_of-same, picked-pick_other, waiting-pick_other, is_aborted-abort_other}

@@ -8,12 +8,13 @@ use Rattle.nvme_entry.specs.declared.completion.Cqe.{Cqe}
 use Rattle.nvme_admin.specs.declared.bounds.TheConstants.{MAX_REGIONS}
 use Rattle.nvme_log.specs.declared.event.Event.TheVariants.{Abort, Post}
 use Rattle.nvme_log.specs.declared.event.Event.TheVariants as event
-use Rattle.nvme_state.specs.declared.candidate.Ready.{Ready}
+use Rattle.nvme_state.specs.declared.ready.Ready.{Ready}
 use Rattle.nvme_arbiter.specs.declared.pick.Seen.{Seen}
 use Rattle.nvme_arbiter.specs.declared.pick.Pick.{Pick}
 use Rattle.nvme_log.specs.Rules.{Past, upto}
 use Rattle.nvme_log.specs.Queues.{has_region, open_sq}
-use Rattle.nvme_log.specs.Places.{Place, fetched, places, waiting, picked, fate_of, is_waiting, is_picked, is_aborted, unaborted_below}
+use Rattle.nvme_log.specs.Places.{fetched, places, waiting, picked, fate_of, is_waiting, is_picked, is_aborted, unaborted_below}
+use Rattle.nvme_log.specs.declared.place.Place.{Place}
 use Rattle.nvme_log.specs.Aborts.{is_abort_requested, is_aborted_with_queue}
 use Rattle.nvme_log.specs.Completions.{is_posted, posts_of, takes_place}
 use Rattle.nvme_log.specs.Laws.{count_of}
@@ -263,25 +264,25 @@ served_once past r i h = by (nat_lt i (length (fetched past r))) refl where
 
 -- the oldest ready completion is of such a place
 pub ready_unanswered : (past : Past) (k : Content) (hand : List Place) → HoldsReady past k hand → (c : ℕ) (t : Ready) (rest : List Ready) → (k.cq c).ready ≡ t ∷ rest
-    → IsUnanswered past t.region t.index
+    → IsUnanswered past t.place.region t.place.index
 ready_unanswered past k hand h c t rest oldest =
-    let first : times_in t.region t.index (t ∷ rest) ≡ one_if (t.region == t.region && t.index == t.index) + times_in t.region t.index rest =
-    sum_by-cons (λ (z : Ready). one_if (z.region == t.region && z.index == t.index)) t rest in
-    let here : one_if (t.region == t.region && t.index == t.index) ≡ 1 = rw (eq-eqb t.region t.region refl, eq-eqb t.index t.index refl) refl in
-    let there : times_in t.region t.index (k.cq c).ready ≡ times_in t.region t.index (t ∷ rest) = ap (λ (z : List Ready). times_in t.region t.index z) oldest in
+    let first : times_in t.place.region t.place.index (t ∷ rest) ≡ one_if (t.place.region == t.place.region && t.place.index == t.place.index) + times_in t.place.region t.place.index rest =
+    sum_by-cons (λ (z : Ready). one_if (z.place.region == t.place.region && z.place.index == t.place.index)) t rest in
+    let here : one_if (t.place.region == t.place.region && t.place.index == t.place.index) ≡ 1 = rw (eq-eqb t.place.region t.place.region refl, eq-eqb t.place.index t.place.index refl) refl in
+    let there : times_in t.place.region t.place.index (k.cq c).ready ≡ times_in t.place.region t.place.index (t ∷ rest) = ap (λ (z : List Ready). times_in t.place.region t.place.index z) oldest in
     let within : c < MAX_REGIONS =
     ⊎_elim (λ (lt : c < MAX_REGIONS). lt)
     (λ (le : MAX_REGIONS ≤ c). absurd (let none = h.none_beyond c le in cc))
     (cases_lt c MAX_REGIONS) in
-    let part = over_regions_at (λ (z : ℕ). times_in t.region t.index (k.cq z).ready) c MAX_REGIONS within in
-    let once = h.once t.region t.index in
-    let some : 1 ≤ one_if (is_served past t.region t.index) = omega (arith, first, here, there, part, once) in
-    let few : one_if (is_served past t.region t.index) ≤ 1 = at_most (is_served past t.region t.index) in
-    let none : posts_of past t.region t.index ≡ 0 = omega (arith, first, here, there, part, once, few) in
+    let part = over_regions_at (λ (z : ℕ). times_in t.place.region t.place.index (k.cq z).ready) c MAX_REGIONS within in
+    let once = h.once t.place.region t.place.index in
+    let some : 1 ≤ one_if (is_served past t.place.region t.place.index) = omega (arith, first, here, there, part, once) in
+    let few : one_if (is_served past t.place.region t.place.index) ≤ 1 = at_most (is_served past t.place.region t.place.index) in
+    let none : posts_of past t.place.region t.place.index ≡ 0 = omega (arith, first, here, there, part, once, few) in
     record {
-      was_fetched = served_once past t.region t.index some;
-      was_served = served_not_waiting (nat_lt t.index (length (fetched past t.region))) (is_waiting (fate_of past t.region t.index)) some;
-      no_post = false_from_ne_true (is_posted past t.region t.index) (λ posted. let it = posts_of-some past t.region t.index posted in absurd (omega (arith, it, none)));
+      was_fetched = served_once past t.place.region t.place.index some;
+      was_served = served_not_waiting (nat_lt t.place.index (length (fetched past t.place.region))) (is_waiting (fate_of past t.place.region t.place.index)) some;
+      no_post = false_from_ne_true (is_posted past t.place.region t.place.index) (λ posted. let it = posts_of-some past t.place.region t.place.index posted in absurd (omega (arith, it, none)));
     } where
       at_most : (b : Bool) → one_if b ≤ 1
       at_most true = omega arith

@@ -128,10 +128,10 @@ queues-io rules late past k queue seen pick board c s can observed io attached _
 
 -- a post leaves the table
 pub queues-post : KeepsPost Queues
-queues-post rules late past k c t rest cqe qid free s can _ =
+queues-post rules late past k c t rest cqe free s can _ =
     let h : HoldsQueues past k = s.queues in
-    holds_queues _ _ (post (in_log past) (in_content k) (agreement rules late past k s) t.region qid (record { cq_region = c; opened = can.attached })) h.sqs h.cqs
-    (λ r e. put-queue k.sq t.region _ refl r ∙ h.unused r e)
+    holds_queues _ _ (post (in_log past) (in_content k) (agreement rules late past k s) t.place.region t.sqid (record { cq_region = c; opened = can.attached })) h.sqs h.cqs
+    (λ r e. put-queue k.sq t.place.region _ refl r ∙ h.unused r e)
 
 -- ---- the end of a deletion
 -- a queue that is closing isn't open

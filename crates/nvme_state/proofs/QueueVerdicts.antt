@@ -82,7 +82,7 @@ module _ (rules : FrontRules) (history : TableHistory) (past : Past) (seen : Lis
       → ((found : Candidate) → o ≡ Some found → IsAbortChosen rules before sqid cid c picked board queue)
       → k.board.queues ≡ picked.queues → IsTarget past before k sqid queue
       → Agree (in_log (event.Pick seen pick ∷ past)) (in_content k)
-      → Agree (in_log (with_events (abort_in past cid (Some queue)) (event.Pick seen pick ∷ past))) (in_content (aborting_in k candidate queue.region c cid board o))
+      → Agree (in_log (with_events (abort_in past cid (Some queue)) (event.Pick seen pick ∷ past))) (in_content (aborting_in k candidate sqid queue.region c cid board o))
   found-agrees queue sqid cid None is chosen same target h =
       subst (λ (es : List Event). Agree (in_log (with_events es (event.Pick seen pick ∷ past))) (in_content k))
       (sym (made_none past cid queue (k.sq queue.region) target.held is)) h
@@ -91,7 +91,7 @@ module _ (rules : FrontRules) (history : TableHistory) (past : Past) (seen : Lis
       let choice = chosen found refl in
       let queues : slice_set k.board.queues sqid (Some (record { class = queue.class; count = length s.window })) ≡ board.queues =
       (λ t. slice_set (same t) sqid (Some (record { class = queue.class; count = length (without_oldest cid (target.left t).window) }))) ∙ sym choice.queues in
-      subst (λ (es : List Event). Agree (in_log (with_events es (event.Pick seen pick ∷ past))) (in_content (aborting_in k candidate queue.region c cid board (Some found))))
+      subst (λ (es : List Event). Agree (in_log (with_events es (event.Pick seen pick ∷ past))) (in_content (aborting_in k candidate sqid queue.region c cid board (Some found))))
       (sym (made_abort past cid queue (k.sq queue.region) found target.held is))
       (subst (λ (z : List (Option OpenQueue)). Agree (in_log past) (record (in_content k) { sq = put_sq k.sq queue.region s; board = z })) queues
       (serve (in_log past) (in_content k) h sqid queue s target.is_open refl))
@@ -100,7 +100,7 @@ module _ (rules : FrontRules) (history : TableHistory) (past : Past) (seen : Lis
       → ((queue : Queue) (found : Candidate) → o ≡ Some queue → oldest_named cid (before.sq queue.region).window ≡ Some found → IsAbortChosen rules before sqid cid c picked board queue)
       → k.board.queues ≡ picked.queues → ((queue : Queue) → o ≡ Some queue → IsTarget past before k sqid queue)
       → Agree (in_log (event.Pick seen pick ∷ past)) (in_content k)
-      → Agree (in_log (with_events (abort_in past cid o) (event.Pick seen pick ∷ past))) (in_content (aborting_from k candidate c cid board o))
+      → Agree (in_log (with_events (abort_in past cid o) (event.Pick seen pick ∷ past))) (in_content (aborting_from k candidate sqid c cid board o))
   target-agrees None sqid cid chosen same target h = h
   target-agrees (Some queue) sqid cid chosen same target h =
       let is = target queue refl in
@@ -138,25 +138,25 @@ deleting-queue k qid c candidate (Some queue) r = put-queue k.sq queue.region _ 
 
 module _ (past : Past) (k : Content) (candidate : Candidate) (c : ℕ) (board : BoardView) where
   -- an Abort command changes no table
-  target-table : (cid : ℕ) (o : Option Queue) → (aborting_from k candidate c cid board o).table ≡ k.table
-  target-table cid None = refl
-  target-table cid (Some queue) = found (oldest_named cid (k.sq queue.region).window) where
-    found : (o : Option Candidate) → (aborting_in k candidate queue.region c cid board o).table ≡ k.table
+  target-table : (sqid cid : ℕ) (o : Option Queue) → (aborting_from k candidate sqid c cid board o).table ≡ k.table
+  target-table sqid cid None = refl
+  target-table sqid cid (Some queue) = found (oldest_named cid (k.sq queue.region).window) where
+    found : (o : Option Candidate) → (aborting_in k candidate sqid queue.region c cid board o).table ≡ k.table
     found None = refl
     found (Some it) = refl
 
   -- nor what each region was opened for
-  target-queue : (cid : ℕ) (o : Option Queue) (r : ℕ) → ((aborting_from k candidate c cid board o).sq r).queue ≡ (k.sq r).queue
-  target-queue cid None r = refl
-  target-queue cid (Some queue) r = found (oldest_named cid (k.sq queue.region).window) where
-    found : (o : Option Candidate) → ((aborting_in k candidate queue.region c cid board o).sq r).queue ≡ (k.sq r).queue
+  target-queue : (sqid cid : ℕ) (o : Option Queue) (r : ℕ) → ((aborting_from k candidate sqid c cid board o).sq r).queue ≡ (k.sq r).queue
+  target-queue sqid cid None r = refl
+  target-queue sqid cid (Some queue) r = found (oldest_named cid (k.sq queue.region).window) where
+    found : (o : Option Candidate) → ((aborting_in k candidate sqid queue.region c cid board o).sq r).queue ≡ (k.sq r).queue
     found None = refl
     found (Some it) = put-queue k.sq queue.region _ refl r
 
   -- a verdict leaves the table, which its command changed
   pub verdict-table : (v : Verdict) → (after_admin past k candidate c board v).table ≡ k.table
   verdict-table (Done status dw0) = refl
-  verdict-table (verdict.Abort sqid cid) = target-table cid (target_of past sqid)
+  verdict-table (verdict.Abort sqid cid) = target-table sqid cid (target_of past sqid)
   verdict-table (verdict.SetArbitration settings) = refl
   verdict-table (verdict.OpenCq qid region) = refl
   verdict-table (CloseCq qid) = refl
@@ -167,7 +167,7 @@ module _ (past : Past) (k : Content) (candidate : Candidate) (c : ℕ) (board : 
   pub verdict-unused : (used : ℕ → Bool) → ((r : ℕ) → used r ≡ false → (k.sq r).queue ≡ None)
       → (v : Verdict) (r : ℕ) → used_after v used r ≡ false → ((after_admin past k candidate c board v).sq r).queue ≡ None
   verdict-unused used none (Done status dw0) r e = none r e
-  verdict-unused used none (verdict.Abort sqid cid) r e = target-queue cid (target_of past sqid) r ∙ none r e
+  verdict-unused used none (verdict.Abort sqid cid) r e = target-queue sqid cid (target_of past sqid) r ∙ none r e
   verdict-unused used none (verdict.SetArbitration settings) r e = none r e
   verdict-unused used none (verdict.OpenCq qid region) r e = none r e
   verdict-unused used none (CloseCq qid) r e = none r e

@@ -15,13 +15,14 @@ use Rattle.nvme_admin.specs.declared.bounds.TheConstants.{MAX_REGIONS}
 use Rattle.nvme_log.specs.declared.event.Event.TheVariants.{Abort, Closing}
 use Rattle.nvme_log.specs.declared.event.Event.TheVariants as event
 use Rattle.nvme_state.specs.declared.candidate.Candidate.{Candidate}
-use Rattle.nvme_state.specs.declared.candidate.Ready.{Ready}
-use Rattle.nvme_state.specs.declared.candidate.PendingDelete.{PendingDelete}
+use Rattle.nvme_state.specs.declared.ready.Ready.{Ready}
+use Rattle.nvme_state.specs.declared.deletion.PendingDelete.{PendingDelete}
 use Rattle.nvme_state.specs.declared.attachment.Attachment.{Attachment}
 use Rattle.nvme_log.specs.Limits.{max_outstanding}
 use Rattle.nvme_log.specs.Rules.{FrontRules, Past}
-use Rattle.nvme_log.specs.Queues.{cq_region_of}
-use Rattle.nvme_log.specs.Places.{Place, fetched, fate_of, is_waiting, waiting, entry_at, is_aborted}
+use Rattle.nvme_log.specs.Queues.{cq_region_of, qid_of_region}
+use Rattle.nvme_log.specs.Places.{fetched, fate_of, is_waiting, waiting, entry_at, is_aborted}
+use Rattle.nvme_log.specs.declared.place.Place.{Place}
 use Rattle.nvme_log.specs.Completions.{posts_of}
 use Rattle.nvme_log.specs.Aborts.{took_abort, is_abort_requested, is_aborted_with_queue}
 use Rattle.nvme_state.specs.inside.Jobs.{JobsView, dispatched_place}
@@ -36,7 +37,7 @@ use Rattle.nvme_state.proofs.AbortRequests.{unrequested, not_with_queue, request
 use Rattle.nvme_state.proofs.Readying.{over_none, GrowsBy, put-grows, readies, sum_by-none, sum_by-ones, IsMade, times_in-own, times_in-other, Moves, served-moves, at_put, waiting-unaborted}
 use Rattle.nvme_state.proofs.ReadyChange.{aborted-sum, becomes-ready, pick-moves}
 use Rattle.nvme_state.proofs.ReadyGains.{sum-in_hand, length-in_hand}
-use Rattle.nvme_state.specs.inside.Steps.{picked_sq, aborted, applied_to}
+use Rattle.nvme_state.specs.inside.Steps.{picked_sq, aborted, applied_to, told}
 use Rattle.nvme_state.proofs.AfterSteps.{with_events, place_of, with_deleting}
 
 -- ---- regions
@@ -47,6 +48,15 @@ unused_apart rules late past k s region unused r x h e =
     let none : (k.sq region).queue ≡ None = s.queues.unused region (s.tabled.stands.sq_used region ∙ unused) in
     let nowhere : cq_region_of past region ≡ None = s.queues.cq_region_is region ∙ ap (option_map (λ (a : Attachment). a.cq_region)) none in
     let here : cq_region_of past region ≡ Some x = subst (λ (z : ℕ). cq_region_of past z ≡ Some x) (sym e) h in
+    cc
+
+-- and has no queue
+pub unused_unnamed : (rules : FrontRules) (late : Bool) (past : Past) (k : Content) (s : Stands rules late past k) (region : ℕ)
+    → (queue_table rules.start s.tabled.history).sq_region_used region ≡ false → (r x : ℕ) → qid_of_region past r ≡ Some x → region ≡ r → ⊥
+unused_unnamed rules late past k s region unused r x h e =
+    let none : (k.sq region).queue ≡ None = s.queues.unused region (s.tabled.stands.sq_used region ∙ unused) in
+    let nobody : qid_of_region past region ≡ None = s.queues.qid_is region ∙ ap (option_map (λ (a : Attachment). a.qid)) none in
+    let here : qid_of_region past region ≡ Some x = subst (λ (z : ℕ). qid_of_region past z ≡ Some x) (sym e) h in
     cc
 
 -- ---- aborts
@@ -75,16 +85,13 @@ aborts-abort r (i ∷ is) past =
     (aborts-abort r is (Abort r i ∷ past))
 
 -- ---- an answer
--- the places of a log are as before, and so are the completion regions of the queues
+-- the places of a log are as before, and so are the queues and completion regions of the regions
 pub record SamePlaces (past later : Past) : Type 0 where
   pub posts : (r i : ℕ) → posts_of later r i ≡ posts_of past r i
   pub cq_regions : (r c : ℕ) → cq_region_of past r ≡ Some c → cq_region_of later r ≡ Some c
+  pub qids : (r q : ℕ) → qid_of_region past r ≡ Some q → qid_of_region later r ≡ Some q
   pub entries : (r i : ℕ) → entry_at later r i ≡ entry_at past r i
   pub with_queue : (r i : ℕ) → is_aborted_with_queue later r i ≡ is_aborted_with_queue past r i
-
--- the answer of an admin command
-abbrev pub told : Candidate → StatusCode → ℕ → Ready
-told candidate status dw0 = record { region = 0; index = candidate.index; entry = candidate.entry; with_queue = false; status = status; dw0 = dw0 }
 
 -- the admin queue's oldest candidate was picked, and its answer t is ready in completion region 0
 pub record Answers (k after : Content) (t : Ready) : Type 0 where
@@ -134,20 +141,27 @@ answers-ready past later k after candidate rest status dw0 ready before oldest n
             ap (times_held r i) hand,
           );
       stay = λ c t served h. record {
-        region = same.cq_regions t.region c h.region;
-        entry = same.entries t.region t.index ∙ h.entry;
-        with_queue = h.with_queue ∙ sym (same.with_queue t.region t.index);
+        region = same.cq_regions t.place.region c h.region;
+        queue = same.qids t.place.region t.sqid h.queue;
+        entry = h.entry;
+        is_there = same.entries t.place.region t.place.index ∙ h.is_there;
+        cid = h.cid;
+        with_queue = h.with_queue ∙ sym (same.with_queue t.place.region t.place.index);
         deleting = λ e. ap (option_map (λ (d : PendingDelete). d.region)) a.deletion ∙ h.deleting e;
       };
       new = All-cons (IsReady later after.deletion 0) (told candidate status dw0) [] (record {
         region = same.cq_regions 0 0 ready.admin_region;
-        entry = same.entries 0 candidate.index ∙ entry;
+        queue = same.qids 0 0 ready.admin_qid;
+        entry = candidate.entry;
+        is_there = same.entries 0 candidate.index ∙ entry;
+        cid = refl;
         with_queue = sym (same.with_queue 0 candidate.index ∙ not_with_queue past 0 candidate.index fresh);
         deleting = λ e. cc;
       }) (All-nil (IsReady later after.deletion 0));
       taken = omega (arith, a.outstanding, ap (λ (xs : List Place). length xs) hand);
       few_aborted = omega (arith, ready.few_aborted);
       few_taken = omega (arith, a.outstanding);
+      admin_qid = same.qids 0 0 ready.admin_qid;
       admin_region = same.cq_regions 0 0 ready.admin_region;
     })
 
@@ -186,16 +200,16 @@ served-apart past r q j h =
       apart false b e = refl
 
 -- the completions of aborted candidates are made of them
-aborted-made : (r : ℕ) → IsMade r (aborted r)
-aborted-made r = record { region = λ c. refl; index = λ c. refl }
+aborted-made : (qid r : ℕ) → IsMade r (aborted qid r)
+aborted-made qid r = record { region = λ c. refl; index = λ c. refl }
 
 -- the candidates of a region go, after the admin queue's oldest candidate was picked
-closing-moves : (sq : ℕ → SqContent) (region i r : ℕ) (s : SqContent) → s.got ≡ (sq region).got → s.window ≡ []
-    → Moves i (times_in r i (map (aborted region) (sq region).window)) (sq r) (put_sq sq region s r)
-closing-moves sq region i r s got none =
-    at_put (λ (x : ℕ) (u v : SqContent). Moves i (times_in x i (map (aborted region) (sq region).window)) u v) sq region s
-    (rw (got, none) (omega (arith, times_in-own region i (aborted region) (sq region).window (aborted-made region))))
-    (λ x d. omega (arith, times_in-other region x i (aborted region) (sq region).window (aborted-made region) d)) r
+closing-moves : (sq : ℕ → SqContent) (qid region i r : ℕ) (s : SqContent) → s.got ≡ (sq region).got → s.window ≡ []
+    → Moves i (times_in r i (map (aborted qid region) (sq region).window)) (sq r) (put_sq sq region s r)
+closing-moves sq qid region i r s got none =
+    at_put (λ (x : ℕ) (u v : SqContent). Moves i (times_in x i (map (aborted qid region) (sq region).window)) u v) sq region s
+    (rw (got, none) (omega (arith, times_in-own region i (aborted qid region) (sq region).window (aborted-made qid region))))
+    (λ x d. omega (arith, times_in-other region x i (aborted qid region) (sq region).window (aborted-made qid region) d)) r
 
 -- what holds of each candidate holds of those that are left after the pick
 left-candidates : (k : Content) (Q : Candidate → Type 0) (r : ℕ) → All Q (k.sq r).window → All Q (put_sq k.sq 0 (picked_sq (k.sq 0) 1) r).window
@@ -208,19 +222,20 @@ left-fewer k = at_put (λ (x : ℕ) (u v : SqContent). length v.window ≤ lengt
 -- the relation of what is ready to the log is kept
 pub deletes-ready : (past : Past) (k : Content) (candidate : Candidate) (rest : List Candidate) (seen : List Seen) (pick : Pick) (board : BoardView) (table : TableView) (region qid c : ℕ)
     → HoldsReady past k (hand_of k) → ((r : ℕ) → HoldsSq past r (k.sq r)) → (k.sq 0).window ≡ candidate ∷ rest → k.deletion ≡ None
-    → k.outstanding + 1 ≤ max_outstanding → c < MAX_REGIONS → cq_region_of past region ≡ Some c → took_abort (event.Pick seen pick ∷ past) ≡ false
+    → k.outstanding + 1 ≤ max_outstanding → c < MAX_REGIONS → cq_region_of past region ≡ Some c → qid_of_region past region ≡ Some qid → took_abort (event.Pick seen pick ∷ past) ≡ false
     → ((r : ℕ) → HoldsSq (with_events (map (λ (i : ℕ). Abort region i) (waiting past region)) (Closing qid region ∷ event.Pick seen pick ∷ past)) r ((with_deleting (applied_to k board table) qid region c candidate).sq r))
     → HoldsReady (with_events (map (λ (i : ℕ). Abort region i) (waiting past region)) (Closing qid region ∷ event.Pick seen pick ∷ past))
     (with_deleting (applied_to k board table) qid region c candidate) (hand_of (with_deleting (applied_to k board table) qid region c candidate))
-deletes-ready past k candidate rest seen pick board table region qid c ready before oldest none few small attached took regions =
+deletes-ready past k candidate rest seen pick board table region qid c ready before oldest none few small attached named_by took regions =
     let ws : List ℕ = waiting past region in
     let middle : Past = Closing qid region ∷ event.Pick seen pick ∷ past in
     let later : Past = with_events (map (λ (i : ℕ). Abort region i) ws) middle in
     let mid : ℕ → SqContent = put_sq k.sq 0 (picked_sq (k.sq 0) 1) in
     let after : Content = with_deleting (applied_to k board table) qid region c candidate in
-    let ts : List Ready = map (aborted region) (mid region).window in
+    let ts : List Ready = map (aborted qid region) (mid region).window in
     let hand : held_by k.deletion ≡ [] = ap held_by none in
     let region_stays = λ (r : ℕ). aborts-leave (λ (p : Past). cq_region_of p r) (λ p r i. refl) region ws middle in
+    let qid_stays = λ (r : ℕ). aborts-leave (λ (p : Past). qid_of_region p r) (λ p r i. refl) region ws middle in
     let entry_stays = λ (r j : ℕ). aborts-leave (λ (p : Past). entry_at p r j) (λ p r i. refl) region ws middle in
     let named : All (λ (x : Candidate). is_aborted later region x.index ≡ true) (k.sq region).window =
     All-from_map (λ (x : Candidate). x.index) (λ (j : ℕ). is_aborted later region j ≡ true) (k.sq region).window
@@ -235,7 +250,7 @@ deletes-ready past k candidate rest seen pick board table region qid c ready bef
       served = λ r i.
           let first = oldest-moves k candidate rest oldest r i in
           let place = λ (p : Place). one_if (p.region == r && p.index == i) in
-          let second = closing-moves mid region i r (record (mid region) { window = []; unposted = (mid region).unposted + length (mid region).window }) refl refl in
+          let second = closing-moves mid qid region i r (record (mid region) { window = []; unposted = (mid region).unposted + length (mid region).window }) refl refl in
           omega (
             arith,
             served-moves past later r i (one_if (0 == r && candidate.index == i) + times_in r i ts) (k.sq r) (after.sq r) (before r) (regions r) (omega arith),
@@ -244,23 +259,29 @@ deletes-ready past k candidate rest seen pick board table region qid c ready bef
             ap (times_held r i) hand,
           );
       stay = λ x t served h. record {
-        region = region_stays t.region ∙ h.region;
-        entry = entry_stays t.region t.index ∙ h.entry;
+        region = region_stays t.place.region ∙ h.region;
+        queue = qid_stays t.place.region ∙ h.queue;
+        entry = h.entry;
+        is_there = entry_stays t.place.region t.place.index ∙ h.is_there;
+        cid = h.cid;
         with_queue = h.with_queue ∙ sym (λ p.
-            aborts-other region t.region t.index ws middle (served-apart past region t.region t.index served.served) p
-            && not (requests-aborts region t.region t.index ws middle took p));
+            aborts-other region t.place.region t.place.index ws middle (served-apart past region t.place.region t.place.index served.served) p
+            && not (requests-aborts region t.place.region t.place.index ws middle took p));
         deleting = λ e. absurd (not_deleting past k.deletion x t h none e);
       };
-      new = All-map (IsReady later after.deletion c) (aborted region) (mid region).window
-          (left-candidates k (λ (x : Candidate). IsReady later after.deletion c (aborted region x)) region
+      new = All-map (IsReady later after.deletion c) (aborted qid region) (mid region).window
+          (left-candidates k (λ (x : Candidate). IsReady later after.deletion c (aborted qid region x)) region
           (λ j d l. record {
             region = region_stays region ∙ attached;
-            entry = entry_stays region (slice_index_or (k.sq region).window j d).index ∙ (before region).entries j d l;
+            queue = qid_stays region ∙ named_by;
+            entry = (slice_index_or (k.sq region).window j d).entry;
+            is_there = entry_stays region (slice_index_or (k.sq region).window j d).index ∙ (before region).entries j d l;
+            cid = refl;
             with_queue = sym (λ p. named j d l p && not (unasked j d l p));
             deleting = λ e. refl;
           }));
       taken =
-          let each = sum_by-map (λ (t : Ready). one_if (not t.with_queue)) (aborted region) (mid region).window in
+          let each = sum_by-map (λ (t : Ready). one_if (not t.with_queue)) (aborted qid region) (mid region).window in
           let nothing = sum_by-none (mid region).window in
           omega (
             arith,
@@ -269,9 +290,10 @@ deletes-ready past k candidate rest seen pick board table region qid c ready bef
             ap (λ (xs : List Place). length xs) hand,
           );
       few_aborted =
-          let each = sum_by-map (λ (t : Ready). one_if t.with_queue) (aborted region) (mid region).window in
+          let each = sum_by-map (λ (t : Ready). one_if t.with_queue) (aborted qid region) (mid region).window in
           let ones = sum_by-ones (mid region).window in
           omega (arith, none-aborted past k (hand_of k) ready none, left-fewer k region, (before region).few_waiting);
       few_taken = few;
+      admin_qid = qid_stays 0 ∙ ready.admin_qid;
       admin_region = region_stays 0 ∙ ready.admin_region;
     })

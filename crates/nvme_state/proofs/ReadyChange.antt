@@ -8,13 +8,13 @@ use Rattle.std.proofs.lemmas.List.Elements.{All-append, All-same}
 use Rattle.nvme_arbiter.specs.Limits.{highest_count}
 use Rattle.nvme_admin.specs.declared.bounds.TheConstants.{MAX_REGIONS}
 use Rattle.nvme_state.specs.declared.candidate.Candidate.{Candidate}
-use Rattle.nvme_state.specs.declared.candidate.Ready.{Ready}
+use Rattle.nvme_state.specs.declared.ready.Ready.{Ready}
 use Rattle.nvme_log.specs.Limits.{max_outstanding}
 use Rattle.nvme_log.specs.Rules.{Past}
-use Rattle.nvme_log.specs.Queues.{cq_region_of}
+use Rattle.nvme_log.specs.Queues.{cq_region_of, qid_of_region}
 use Rattle.nvme_log.specs.Completions.{posts_of}
 use Rattle.nvme_state.specs.inside.Content.{SqContent, Content}
-use Rattle.nvme_log.specs.Places.{Place}
+use Rattle.nvme_log.specs.declared.place.Place.{Place}
 use Rattle.nvme_state.specs.inside.Standing.{HoldsReady, IsReady, times_in, times_held, times_ready, ready_picked, ready_aborted}
 use Rattle.nvme_log.specs.Places.{is_served, one_if}
 use Rattle.nvme_state.proofs.Windows.{times_in_window}
@@ -37,13 +37,13 @@ counts_true true l = refl
 counts_true false l = absurd (omega arith)
 
 -- a place is itself
-itself : (t : Ready) → one_if (t.region == t.region && t.index == t.index) ≡ 1
-itself t = rw (eq-eqb t.region t.region refl, eq-eqb t.index t.index refl) refl
+itself : (t : Ready) → one_if (t.place.region == t.place.region && t.place.index == t.place.index) ≡ 1
+itself t = rw (eq-eqb t.place.region t.place.region refl, eq-eqb t.place.index t.place.index refl) refl
 
 -- the place of a completion was served and has no post
 pub record IsServed (past : Past) (t : Ready) : Type 0 where
-  pub served : is_served past t.region t.index ≡ true
-  pub no_post : posts_of past t.region t.index ≡ 0
+  pub served : is_served past t.place.region t.place.index ≡ true
+  pub no_post : posts_of past t.place.region t.place.index ≡ 0
 
 -- so it is with every ready completion
 pub ready-served : (past : Past) (k : Content) (hand : List Place) → HoldsReady past k hand → (c : ℕ) → All (IsServed past) (k.cq c).ready
@@ -53,14 +53,14 @@ ready-served past k hand h c j d l =
       | inl p ↦ p
       | inr p ↦ absurd (omega (arith, ap (λ (xs : List Ready). length xs) (h.none_beyond c p)))
     ] in
-    let here : one_if (t.region == t.region && t.index == t.index) ≤ times_in t.region t.index (k.cq c).ready =
-    get_or-le-sum_by (λ (u : Ready). one_if (u.region == t.region && u.index == t.index)) (k.cq c).ready j d l in
-    let all : times_in t.region t.index (k.cq c).ready ≤ times_ready k t.region t.index =
-    over_at (λ (x : ℕ). times_in t.region t.index (k.cq x).ready) c MAX_REGIONS small in
-    let once = h.once t.region t.index in
+    let here : one_if (t.place.region == t.place.region && t.place.index == t.place.index) ≤ times_in t.place.region t.place.index (k.cq c).ready =
+    get_or-le-sum_by (λ (u : Ready). one_if (u.place.region == t.place.region && u.place.index == t.place.index)) (k.cq c).ready j d l in
+    let all : times_in t.place.region t.place.index (k.cq c).ready ≤ times_ready k t.place.region t.place.index =
+    over_at (λ (x : ℕ). times_in t.place.region t.place.index (k.cq x).ready) c MAX_REGIONS small in
+    let once = h.once t.place.region t.place.index in
     record {
-      served = counts_true (is_served past t.region t.index) (omega (arith, itself t, once));
-      no_post = few_posts (is_served past t.region t.index) _ (posts_of past t.region t.index) _ (omega (arith, itself t)) once;
+      served = counts_true (is_served past t.place.region t.place.index) (omega (arith, itself t, once));
+      no_post = few_posts (is_served past t.place.region t.place.index) _ (posts_of past t.place.region t.place.index) _ (omega (arith, itself t)) once;
     } where
       few_posts : (b : Bool) (x y z : ℕ) → 1 ≤ x → x + y + z ≡ one_if b → y ≡ 0
       few_posts true x y z l e = omega arith
@@ -77,6 +77,7 @@ pub record Becomes (past later : Past) (k after : Content) (hand held : List Pla
   pub taken : sum_by (λ (t : Ready). one_if (not t.with_queue)) ts + length held + k.outstanding ≡ after.outstanding + length hand
   pub few_aborted : ready_aborted k + sum_by (λ (t : Ready). one_if t.with_queue) ts ≤ highest_count
   pub few_taken : after.outstanding ≤ max_outstanding
+  pub admin_qid : qid_of_region later 0 ≡ Some 0
   pub admin_region : cq_region_of later 0 ≡ Some 0
 
 -- the relation of what is ready to the log is kept
@@ -89,7 +90,7 @@ becomes-ready past later k after hand held a ts h b = record {
         h.once r i,
         b.served r i,
         b.posts r i,
-        sum_ready-grows (λ (t : Ready). one_if (t.region == r && t.index == i)) (readies k.cq) (readies after.cq) a MAX_REGIONS ts b.grows b.small,
+        sum_ready-grows (λ (t : Ready). one_if (t.place.region == r && t.place.index == i)) (readies k.cq) (readies after.cq) a MAX_REGIONS ts b.grows b.small,
       );
   each = λ c. elim (cases_eq c a) [
     | inl e ↦ subst (λ (z : ℕ). All (IsReady later after.deletion z) (after.cq z).ready) (sym e)
@@ -100,6 +101,7 @@ becomes-ready past later k after hand held a ts h b = record {
   few_aborted = omega (arith, b.few_aborted, aborted-sum k, aborted-sum after, sum_ready-grows (λ (t : Ready). one_if t.with_queue) (readies k.cq) (readies after.cq) a MAX_REGIONS ts b.grows b.small);
   few_taken = b.few_taken;
   none_beyond = λ c l. b.grows.elsewhere c (λ e. absurd (omega (arith, b.small))) ∙ h.none_beyond c l;
+  admin_qid = b.admin_qid;
   admin_region = b.admin_region;
 } where
   kept : (c : ℕ) → All (IsReady later after.deletion c) (k.cq c).ready

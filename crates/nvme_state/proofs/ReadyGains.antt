@@ -7,11 +7,12 @@ use Rattle.std.proofs.lemmas.List.Sums.{sum_by-cons, sum_by-append}
 use Rattle.std.proofs.lemmas.List.Elements.{All-nil, All-cons, All-head}
 use Rattle.std.proofs.lemmas.List.Sorted.{length_permutation}
 use Rattle.nvme_state.specs.declared.candidate.Candidate.{Candidate}
-use Rattle.nvme_state.specs.declared.candidate.Dispatched.{Dispatched}
-use Rattle.nvme_state.specs.declared.candidate.Ready.{Ready}
+use Rattle.nvme_state.specs.declared.dispatched.Dispatched.{Dispatched}
+use Rattle.nvme_state.specs.declared.ready.Ready.{Ready}
 use Rattle.nvme_state.specs.declared.attachment.Attachment.{Attachment}
 use Rattle.nvme_log.specs.Rules.{Past}
-use Rattle.nvme_log.specs.Places.{Place}
+use Rattle.nvme_log.specs.declared.place.Place.{Place}
+use Rattle.nvme_log.specs.Dispatches.{place_at}
 use Rattle.nvme_log.specs.Completions.{posted_to}
 use Rattle.nvme_state.specs.Hands.{Hands, in_hand}
 use Rattle.nvme_state.specs.inside.Jobs.{JobsView, dispatched_place, dispatched_from, gained_jobs}
@@ -53,19 +54,19 @@ length-in_hand h held =
 
 -- how often a place stands among picked commands
 abbrev pub times_dispatched : ℕ → ℕ → List Dispatched → ℕ
-times_dispatched r i ds = sum_by (λ (d : Dispatched). one_if (d.region == r && d.index == i)) ds
+times_dispatched r i ds = sum_by (λ (d : Dispatched). one_if (d.place.region == r && d.place.index == i)) ds
 
 -- their places in that region are those of the candidates
 pub dispatched-own : (r i ticket : ℕ) (cs : List Candidate) → times_dispatched r i (dispatched_from r ticket cs) ≡ times_in_window i cs
 dispatched-own r i ticket [] = refl
 dispatched-own r i ticket (c ∷ cs) =
-    let first : Dispatched = record { ticket = ticket; region = r; index = c.index; entry = c.entry } in
+    let first : Dispatched = record { ticket = ticket; place = place_at r c.index; entry = c.entry } in
     let here : one_if (r == r && c.index == i) ≡ one_if (c.index == i) = rw (eq-eqb r r refl) refl in
     omega (
       arith,
       dispatched-own r i (ticket + 1) cs,
       here,
-      sum_by-cons (λ (d : Dispatched). one_if (d.region == r && d.index == i)) first (dispatched_from r (ticket + 1) cs),
+      sum_by-cons (λ (d : Dispatched). one_if (d.place.region == r && d.place.index == i)) first (dispatched_from r (ticket + 1) cs),
       sum_by-cons (λ (x : Candidate). one_if (x.index == i)) c cs,
     )
 
@@ -73,13 +74,13 @@ dispatched-own r i ticket (c ∷ cs) =
 pub dispatched-other : (a r i ticket : ℕ) (cs : List Candidate) → (r ≡ a → ⊥) → times_dispatched r i (dispatched_from a ticket cs) ≡ 0
 dispatched-other a r i ticket [] d = refl
 dispatched-other a r i ticket (c ∷ cs) d =
-    let first : Dispatched = record { ticket = ticket; region = a; index = c.index; entry = c.entry } in
+    let first : Dispatched = record { ticket = ticket; place = place_at a c.index; entry = c.entry } in
     let here : one_if (a == r && c.index == i) ≡ 0 = rw (ne_eqb a r (λ e. d (sym e))) refl in
     omega (
       arith,
       dispatched-other a r i (ticket + 1) cs d,
       here,
-      sum_by-cons (λ (x : Dispatched). one_if (x.region == r && x.index == i)) first (dispatched_from a (ticket + 1) cs),
+      sum_by-cons (λ (x : Dispatched). one_if (x.place.region == r && x.place.index == i)) first (dispatched_from a (ticket + 1) cs),
     )
 
 -- ---- a job is handed, or a result is dropped
@@ -95,6 +96,7 @@ same-hand past k jobs e h =
       few_aborted = h.few_aborted;
       few_taken = h.few_taken;
       none_beyond = h.none_beyond;
+      admin_qid = h.admin_qid;
       admin_region = h.admin_region;
     }
 
@@ -120,17 +122,17 @@ posts-stray rules late past k result seat s can = record { posted_is = s.posts.p
 -- the place of a gained result goes from those in hand to those that are ready
 pub ready-gain : KeepsGain ReadyOnes
 ready-gain rules late past k d rest result seat c qid s can its attached regions =
-    let new : Content = after_gain k d rest seat c result in
-    let t : Ready = completed d result in
+    let new : Content = after_gain k d rest seat qid c result in
+    let t : Ready = completed qid d result in
     let at : IsDispatched past d =
     All-head (IsDispatched past) d (rest ++ k.jobs.hands.unhanded) (each-gained (IsDispatched past) k.jobs.hands d rest its.running_is s.jobs.each) in
     becomes-ready past past k new (hand_of k) (hand_of new) c (t ∷ []) s.ready (record {
-      small = omega (arith, s.queues.posts_there d.region (record { qid = qid; cq_region = c }) attached, s.tabled.few_cqs);
+      small = omega (arith, s.queues.posts_there d.place.region (record { qid = qid; cq_region = c }) attached, s.tabled.few_cqs);
       grows = put-grows k.cq c (t ∷ []);
       posts = λ r i. refl;
       served = λ r i.
           let place = λ (p : Place). one_if (p.region == r && p.index == i) in
-          let runs = λ (x : Dispatched). one_if (x.region == r && x.index == i) in
+          let runs = λ (x : Dispatched). one_if (x.place.region == r && x.place.index == i) in
           omega (
             arith,
             sum-in_hand place k.jobs.hands (held_by k.deletion),
@@ -139,9 +141,12 @@ ready-gain rules late past k d rest result seat c qid s can its attached regions
           );
       stay = λ x u served h. h;
       new = All-cons (IsReady past k.deletion c) t [] (record {
-        region = s.queues.cq_region_is d.region ∙ ap (option_map (λ (a : Attachment). a.cq_region)) attached;
-        entry = at.entry;
-        with_queue = sym (not_with_queue past d.region d.index at.not_aborted);
+        region = s.queues.cq_region_is d.place.region ∙ ap (option_map (λ (a : Attachment). a.cq_region)) attached;
+        queue = s.queues.qid_is d.place.region ∙ ap (option_map (λ (a : Attachment). a.qid)) attached;
+        entry = d.entry;
+        is_there = at.entry;
+        cid = refl;
+        with_queue = sym (not_with_queue past d.place.region d.place.index at.not_aborted);
         deleting = λ e. cc;
       }) (All-nil (IsReady past k.deletion c));
       taken =
@@ -153,6 +158,7 @@ ready-gain rules late past k d rest result seat c qid s can its attached regions
           );
       few_aborted = omega (arith, s.ready.few_aborted);
       few_taken = s.ready.few_taken;
+      admin_qid = s.ready.admin_qid;
       admin_region = s.ready.admin_region;
     })
 
@@ -169,4 +175,4 @@ same_posts past later k after a ts h is same = record {
 -- a result that is gained posts nothing
 pub posts-gain : KeepsGain Posts
 posts-gain rules late past k d rest result seat c qid s can its attached =
-    same_posts past past k (after_gain k d rest seat c result) c _ s.posts refl (λ x. refl)
+    same_posts past past k (after_gain k d rest seat qid c result) c _ s.posts refl (λ x. refl)

@@ -3,11 +3,11 @@ use Rattle.std.proofs.Common.{◌≡◌, ℕ, ◌+◌, ◌<◌, ◌≤◌, Bool,
 use Rattle.std.specs.Prelude.{filter, if◌then◌else◌}
 use Rattle.std.proofs.lemmas.Bool.{cases_lt}
 use Rattle.nvme_admin.specs.declared.bounds.TheConstants.{MAX_REGIONS}
-use Rattle.nvme_state.specs.declared.candidate.Ready.{Ready}
+use Rattle.nvme_state.specs.declared.ready.Ready.{Ready}
 use Rattle.nvme_log.specs.Limits.{max_ready}
 use Rattle.nvme_log.specs.Rules.{Past}
 use Rattle.nvme_state.specs.inside.Content.{Content}
-use Rattle.nvme_log.specs.Places.{Place}
+use Rattle.nvme_log.specs.declared.place.Place.{Place}
 use Rattle.nvme_state.specs.inside.Standing.{HoldsReady}
 use Rattle.nvme_state.proofs.PostedPlaces.{over_regions_at}
 

@@ -23,19 +23,20 @@ use Rattle.nvme_admin.proofs.Changed.{TellsChange-entry}
 use Rattle.nvme_log.specs.declared.event.Event.{Event}
 use Rattle.nvme_log.specs.declared.event.Event.TheVariants as event
 use Rattle.nvme_state.specs.declared.candidate.Candidate.{Candidate}
-use Rattle.nvme_state.specs.declared.candidate.Dispatched.{Dispatched}
-use Rattle.nvme_state.specs.declared.candidate.Ready.{Ready}
-use Rattle.nvme_state.specs.declared.candidate.PendingDelete.{PendingDelete}
+use Rattle.nvme_state.specs.declared.dispatched.Dispatched.{Dispatched}
+use Rattle.nvme_state.specs.declared.ready.Ready.{Ready}
+use Rattle.nvme_state.specs.declared.deletion.PendingDelete.{PendingDelete}
 use Rattle.nvme_state.specs.declared.attachment.Attachment.{Attachment}
 use Rattle.nvme_log.specs.Rules.{FrontRules, Past}
-use Rattle.nvme_log.specs.Queues.{Queue, admin_queue, open_sq, open_cq}
-use Rattle.nvme_log.specs.Places.{Place, waiting, entry_at, is_aborted}
+use Rattle.nvme_log.specs.Queues.{Queue, admin_queue, open_sq, open_cq, cq_region_of, qid_of_region}
+use Rattle.nvme_log.specs.Places.{waiting, entry_at, is_aborted}
+use Rattle.nvme_log.specs.declared.place.Place.{Place}
 use Rattle.nvme_log.specs.Completions.{is_posted, posts_of, posted_to}
 use Rattle.nvme_log.specs.Effects.{abort_in, closing_of, closed_cq_of, named, target_of}
 use Rattle.nvme_log.proofs.AbortEntries.{verdict_is_abort}
 use Rattle.nvme_state.specs.inside.Jobs.{dispatched_from}
 use Rattle.nvme_state.specs.inside.Content.{SqContent, CqContent, Content, put_sq, with_ready}
-use Rattle.nvme_state.specs.inside.Standing.{HoldsSq, HoldsPosts, IsReady, times_held, held_by, hand_of, deleted_place, Stands}
+use Rattle.nvme_state.specs.inside.Standing.{HoldsSq, HoldsPosts, IsPending, IsReady, times_held, held_by, hand_of, Stands}
 use Rattle.nvme_log.specs.Places.{one_if, is_served}
 use Rattle.nvme_state.proofs.AbortRequests.{not_with_queue}
 use Rattle.nvme_state.proofs.Served.{served-fetch, aborts-leave, entry_stays}
@@ -44,11 +45,11 @@ use Rattle.nvme_state.proofs.ReadyChange.{picked-sum, aborted-sum, pick-moves, b
 use Rattle.nvme_log.proofs.Posts.{posts_of-some}
 use Rattle.nvme_state.proofs.JobLists.{length-dispatched}
 use Rattle.nvme_state.proofs.ReadyGains.{sum-in_hand, length-in_hand, times_dispatched, dispatched-own, dispatched-other, same_posts}
-use Rattle.nvme_state.proofs.ReadyAdmin.{unused_apart, SamePlaces, told, Answers, answers-ready, deletes-ready}
+use Rattle.nvme_state.proofs.ReadyAdmin.{unused_apart, unused_unnamed, SamePlaces, Answers, answers-ready, deletes-ready}
 use Rattle.nvme_state.proofs.Named.{found_is, found_times}
 use Rattle.nvme_state.proofs.AdminPick.{took_delete, took_request, made_request, found_before}
 use Rattle.nvme_state.proofs.AbortReady.{aborts-ready}
-use Rattle.nvme_state.specs.inside.Steps.{CanPick, CanApply, applied_to, oldest_named, verdict_at, picked_sq}
+use Rattle.nvme_state.specs.inside.Steps.{CanPick, CanApply, applied_to, oldest_named, told, verdict_at, picked_sq}
 use Rattle.nvme_state.proofs.AfterSteps.{with_events, answered, told_abort, with_requested, aborting_in, aborting_from, deleting_from, after_admin, admin_past, IsChosen, closed_event, after_closed, deleted, fetch_event, after_fetch, after_io, post_event, posted_cq, after_post}
 use Rattle.nvme_state.proofs.StepKeeps.{KeepsFetch, KeepsIo, KeepsAdmin, KeepsPost, KeepsClose, ReadyOnes, Posts}
 
@@ -74,7 +75,10 @@ ready-fetch rules late past k q queue entry known s can after =
           omega (arith, ap one_if (fetch_serves past queue.region (k.sq queue.region).fetched entry (k.sq queue.region) (s.regions queue.region) r i));
       stay = λ c t served h. record {
         region = h.region;
-        entry = entry_stays past queue.region (k.sq queue.region).fetched t.region t.index entry t.entry h.entry;
+        queue = h.queue;
+        entry = h.entry;
+        is_there = entry_stays past queue.region (k.sq queue.region).fetched t.place.region t.place.index entry h.entry h.is_there;
+        cid = h.cid;
         with_queue = h.with_queue;
         deleting = h.deleting;
       };
@@ -82,6 +86,7 @@ ready-fetch rules late past k q queue entry known s can after =
       taken = omega arith;
       few_aborted = omega (arith, s.ready.few_aborted);
       few_taken = s.ready.few_taken;
+      admin_qid = s.ready.admin_qid;
       admin_region = s.ready.admin_region;
     })
 
@@ -111,9 +116,9 @@ ready-io rules late past k queue seen pick board c s can observed io attached af
             served-moves past (event.Pick seen pick ∷ past) r i (times_dispatched r i ds) (k.sq r) _ (s.regions r) (after r) moves,
             sum-in_hand place k.jobs.hands (held_by k.deletion),
             sum-in_hand place new.jobs.hands (held_by k.deletion),
-            sum_by-append (λ (d : Dispatched). one_if (d.region == r && d.index == i)) k.jobs.hands.unhanded ds,
+            sum_by-append (λ (d : Dispatched). one_if (d.place.region == r && d.place.index == i)) k.jobs.hands.unhanded ds,
           );
-      stay = λ x t served h. record { region = h.region; entry = h.entry; with_queue = h.with_queue; deleting = h.deleting };
+      stay = λ x t served h. record { region = h.region; queue = h.queue; entry = h.entry; is_there = h.is_there; cid = h.cid; with_queue = h.with_queue; deleting = h.deleting };
       new = λ j d l. absurd (omega arith);
       taken =
           let size : length taken ≡ pick.n = length-take-le pick.n (k.sq region).window can.enough in
@@ -126,6 +131,7 @@ ready-io rules late past k queue seen pick board c s can observed io attached af
           );
       few_aborted = omega (arith, s.ready.few_aborted);
       few_taken = can.places;
+      admin_qid = s.ready.admin_qid;
       admin_region = s.ready.admin_region;
     })
 
@@ -149,7 +155,7 @@ post-pops k c t rest cqe free e = record {
 
 -- a post takes the oldest ready completion of its region, whose place is posted then
 pub ready-post : KeepsPost ReadyOnes
-ready-post rules late past k c t rest cqe qid free s can after =
+ready-post rules late past k c t rest cqe free s can after =
     let later : Past = post_event c t cqe ∷ past in
     let small : c < MAX_REGIONS = omega (arith, can.there, s.tabled.few_cqs) in
     let pops = post-pops k c t rest cqe free can.oldest in
@@ -162,8 +168,8 @@ ready-post rules late past k c t rest cqe qid free s can after =
           omega (
             arith,
             s.ready.once r i,
-            more_if (t.region == r && t.index == i) (posts_of past r i),
-            sum_ready-pops (λ (u : Ready). one_if (u.region == r && u.index == i)) (readies k.cq) (readies (after_post k c t rest cqe free).cq) c MAX_REGIONS t pops small,
+            more_if (t.place.region == r && t.place.index == i) (posts_of past r i),
+            sum_ready-pops (λ (u : Ready). one_if (u.place.region == r && u.place.index == i)) (readies k.cq) (readies (after_post k c t rest cqe free).cq) c MAX_REGIONS t pops small,
           );
       each = at_put_cq (λ (x : ℕ) (u : CqContent). All (IsReady later k.deletion x) u.ready) k.cq c (posted_cq (k.cq c) rest cqe free)
           (All-tail (IsReady later k.deletion c) t rest (All-same (IsReady later k.deletion c) _ _ (sym can.oldest) (stays c)))
@@ -173,16 +179,17 @@ ready-post rules late past k c t rest cqe qid free s can after =
       few_taken = omega (arith, s.ready.few_taken);
       none_beyond = at_put_cq (λ (x : ℕ) (u : CqContent). MAX_REGIONS ≤ x → u.ready ≡ []) k.cq c (posted_cq (k.cq c) rest cqe free)
           (λ l. absurd (omega arith)) (λ x d. s.ready.none_beyond x);
+      admin_qid = s.ready.admin_qid;
       admin_region = s.ready.admin_region;
     } where
       stays : (x : ℕ) → All (IsReady (post_event c t cqe ∷ past) k.deletion x) (k.cq x).ready
       stays x j d l =
           let h = s.ready.each x j d l in
-          record { region = h.region; entry = h.entry; with_queue = h.with_queue; deleting = h.deleting }
+          record { region = h.region; queue = h.queue; entry = h.entry; is_there = h.is_there; cid = h.cid; with_queue = h.with_queue; deleting = h.deleting }
 
 -- a post puts one completion more into its region
 pub posts-post : KeepsPost Posts
-posts-post rules late past k c t rest cqe qid free s can = record {
+posts-post rules late past k c t rest cqe free s can = record {
   posted_is = at_put_cq (λ (x : ℕ) (u : CqContent). posted_to (post_event c t cqe ∷ past) x ≡ u.sent) k.cq c (posted_cq (k.cq c) rest cqe free)
       (rw (eq-eqb c c refl) (ap (λ (xs : List Cqe). xs ++ cqe ∷ []) (s.posts.posted_is c)))
       (λ x d. rw (ne_eqb c x (λ e. d (sym e))) (s.posts.posted_is x));
@@ -199,7 +206,8 @@ not_posted past r i e = false_from_ne_true (is_posted past r i) (λ (p : is_post
 -- the end of a deletion makes its answer ready. No aborted place of the closed queue is ready any more, since all its places are posted
 pub ready-close : KeepsClose ReadyOnes
 ready-close rules late past k d table s can after =
-    let held : held_by k.deletion ≡ deleted_place d ∷ [] = ap held_by can.pending in
+    let held : held_by k.deletion ≡ d.place ∷ [] = ap held_by can.pending in
+    let pends : IsPending past k d = s.deletion.stands d can.pending in
     let region : option_map (λ (x : PendingDelete). x.region) k.deletion ≡ Some d.region = ap (option_map (λ (x : PendingDelete). x.region)) can.pending in
     becomes-ready past (closed_event d ∷ past) k (after_closed k d table) (hand_of k) (hand_of (after_closed k d table)) 0 (deleted d ∷ []) s.ready (record {
       small = omega arith;
@@ -210,23 +218,30 @@ ready-close rules late past k d table s can after =
           omega (arith, sum-in_hand place k.jobs.hands (held_by k.deletion), sum-in_hand place k.jobs.hands [], ap (times_held r i) held);
       stay = λ c t served h. record {
         region = h.region;
+        queue = h.queue;
         entry = h.entry;
+        is_there = h.is_there;
+        cid = h.cid;
         with_queue = h.with_queue;
         deleting = λ e.
-            let same : Some d.region ≡ Some t.region = sym region ∙ h.deleting e in
-            let at : d.region ≡ t.region = cc in
-            absurd (unposted-counts past t.region t.index served.served (not_posted past t.region t.index served.no_post)
-            (sym (s.counts.unposted t.region) ∙ ap (λ (r : ℕ). (k.sq r).unposted) (sym at) ∙ can.all_posted));
+            let same : Some d.region ≡ Some t.place.region = sym region ∙ h.deleting e in
+            let at : d.region ≡ t.place.region = cc in
+            absurd (unposted-counts past t.place.region t.place.index served.served (not_posted past t.place.region t.place.index served.no_post)
+            (sym (s.counts.unposted t.place.region) ∙ ap (λ (r : ℕ). (k.sq r).unposted) (sym at) ∙ can.all_posted));
       };
       new = All-cons (IsReady (closed_event d ∷ past) None 0) (deleted d) [] (record {
-        region = s.ready.admin_region;
-        entry = (s.deletion.stands d can.pending).entry;
-        with_queue = sym (not_with_queue past 0 d.index (s.deletion.stands d can.pending).not_aborted);
+        region = ap (λ (r : ℕ). cq_region_of past r) pends.of_admin ∙ s.ready.admin_region;
+        queue = ap (λ (r : ℕ). qid_of_region past r) pends.of_admin ∙ s.ready.admin_qid;
+        entry = pends.entry;
+        is_there = pends.is_there;
+        cid = pends.cid;
+        with_queue = sym (not_with_queue past d.place.region d.place.index pends.not_aborted);
         deleting = λ e. cc;
       }) (All-nil (IsReady (closed_event d ∷ past) None 0));
       taken = omega (arith, length-in_hand k.jobs.hands (held_by k.deletion), length-in_hand k.jobs.hands [], ap (λ (xs : List Place). length xs) held);
       few_aborted = omega (arith, s.ready.few_aborted);
       few_taken = s.ready.few_taken;
+      admin_qid = s.ready.admin_qid;
       admin_region = s.ready.admin_region;
     })
 
@@ -253,7 +268,7 @@ module _ (rules : FrontRules) (late : Bool) (past : Past) (k : Content) (seen : 
 
   -- a pick alone leaves the places
   pick-leaves : SamePlaces past (event.Pick seen pick ∷ past)
-  pick-leaves = record { posts = λ r i. refl; cq_regions = λ r x h. h; entries = λ r i. refl; with_queue = λ r i. refl }
+  pick-leaves = record { posts = λ r i. refl; cq_regions = λ r x h. h; qids = λ r x h. h; entries = λ r i. refl; with_queue = λ r i. refl }
 
   -- the deletion of a queue, where it is open
   begins_delete : (qid : ℕ) (o : Option Queue) → open_sq past qid ≡ o → verdict_at rules s.tabled.history candidate ≡ BeginDelete qid
@@ -265,12 +280,13 @@ module _ (rules : FrontRules) (late : Bool) (past : Past) (k : Content) (seen : 
       deletes-ready past k candidate rest seen pick picked table queue.region qid c s.ready s.regions apply.oldest can.none_pending (omega (arith, can.places))
       (omega (arith, s.queues.posts_there queue.region (record { qid = qid; cq_region = c }) attached, s.tabled.few_cqs))
       (s.queues.cq_region_is queue.region ∙ ap (option_map (λ (a : Attachment). a.cq_region)) attached)
+      (s.queues.qid_is queue.region ∙ ap (option_map (λ (a : Attachment). a.qid)) attached)
       (took_delete rules late past k seen pick picked s can first candidate rest qid apply.oldest is)
 
   -- the closing of a completion queue, where it is open, leaves the places
   closing-leaves : (qid : ℕ) (o : Option ℕ) → SamePlaces past (with_events (closed_cq_of qid o) (event.Pick seen pick ∷ past))
   closing-leaves qid None = pick-leaves
-  closing-leaves qid (Some region) = record { posts = λ r i. refl; cq_regions = λ r x h. h; entries = λ r i. refl; with_queue = λ r i. refl }
+  closing-leaves qid (Some region) = record { posts = λ r i. refl; cq_regions = λ r x h. h; qids = λ r x h. h; entries = λ r i. refl; with_queue = λ r i. refl }
 
   -- a region that is opened keeps its candidates
   opened-keeps : {T : Type 0} (F : SqContent → T) (sq : ℕ → SqContent) (region : ℕ) (x : SqContent) → F x ≡ F (sq region) → (r : ℕ) → F (put_sq sq region x r) ≡ F (sq r)
@@ -281,15 +297,16 @@ module _ (rules : FrontRules) (late : Bool) (past : Past) (k : Content) (seen : 
       → IsChosen rules past k c picked board (verdict.Abort sqid cid)
       → (o : Option Candidate) → oldest_named cid ((applied_to k picked table).sq queue.region).window ≡ o
       → ReadyOnes rules late (with_events (map (λ (i : ℕ). event.Abort queue.region i) (map (λ (d : Candidate). d.index) (option_to_list o))) (event.Pick seen pick ∷ past))
-      (aborting_in (applied_to k picked table) candidate queue.region c cid board o)
+      (aborting_in (applied_to k picked table) candidate sqid queue.region c cid board o)
   aborts_one sqid cid queue target is chosen None finds = answer _ _ success 1 pick-leaves (leaves_answer picked (told_abort candidate 1))
   aborts_one sqid cid queue target is chosen (Some found) finds =
       let before = found_before rules late past k seen pick picked s can first table sqid cid queue found target finds in
       let attached = (chosen queue found target before).attached in
-      aborts-ready past k candidate rest seen pick picked board table queue.region c cid found s.ready s.regions apply.oldest
+      aborts-ready past k candidate rest seen pick picked board table sqid queue.region c cid found s.ready s.regions apply.oldest
       (apply.second (verdict_is_abort rules.start s.tabled.history candidate.entry sqid cid is))
       (omega (arith, s.queues.posts_there queue.region (record { qid = sqid; cq_region = c }) attached, s.tabled.few_cqs))
       (s.queues.cq_region_is queue.region ∙ ap (option_map (λ (a : Attachment). a.cq_region)) attached)
+      (s.queues.qid_is queue.region ∙ ap (option_map (λ (a : Attachment). a.qid)) attached)
       (took_request rules late past k seen pick picked s can first candidate rest sqid cid apply.oldest is)
       (found_is cid (k.sq queue.region).window found before (λ (d : Candidate). entry_at past queue.region d.index ≡ Some d.entry) (s.regions queue.region).entries)
       (found_is cid (k.sq queue.region).window found before (λ (d : Candidate). is_aborted past queue.region d.index ≡ false)
@@ -299,13 +316,13 @@ module _ (rules : FrontRules) (late : Bool) (past : Past) (k : Content) (seen : 
   -- an Abort command, by the queue whose candidates it may abort
   aborts : (sqid cid : ℕ) (o : Option Queue) → target_of past sqid ≡ o → verdict_at rules s.tabled.history candidate ≡ verdict.Abort sqid cid
       → IsChosen rules past k c picked board (verdict.Abort sqid cid)
-      → ReadyOnes rules late (with_events (abort_in past cid o) (event.Pick seen pick ∷ past)) (aborting_from (applied_to k picked table) candidate c cid board o)
+      → ReadyOnes rules late (with_events (abort_in past cid o) (event.Pick seen pick ∷ past)) (aborting_from (applied_to k picked table) candidate sqid c cid board o)
   aborts sqid cid None target is chosen = answer _ _ success 1 pick-leaves (leaves_answer picked (told_abort candidate 1))
   aborts sqid cid (Some queue) target is chosen =
       let now : Content = applied_to k picked table in
       let o : Option Candidate = oldest_named cid (now.sq queue.region).window in
       subst (λ (ds : List ℕ). ReadyOnes rules late (with_events (map (λ (i : ℕ). event.Abort queue.region i) ds) (event.Pick seen pick ∷ past))
-      (aborting_in now candidate queue.region c cid board o))
+      (aborting_in now candidate sqid queue.region c cid board o))
       (sym (made_request rules late past k seen pick picked s can first table sqid cid queue target))
       (aborts_one sqid cid queue target is chosen o refl)
 
@@ -316,6 +333,7 @@ module _ (rules : FrontRules) (late : Bool) (past : Past) (k : Content) (seen : 
   commands (verdict.OpenSq qid region cqid class) is due chosen = answer_by _ _ (verdict.OpenSq qid region cqid class) (record {
     posts = λ r i. refl;
     cq_regions = λ r x h. rw (ne_eqb region r (unused_apart rules late past k s region due.unused r x h)) h;
+    qids = λ r x h. rw (ne_eqb region r (unused_unnamed rules late past k s region due.unused r x h)) h;
     entries = λ r i. refl;
     with_queue = λ r i. refl;
   }) (record {
@@ -329,6 +347,7 @@ module _ (rules : FrontRules) (late : Bool) (past : Past) (k : Content) (seen : 
   commands (verdict.OpenCq qid region) is due chosen = answer_by _ _ (verdict.OpenCq qid region) (record {
     posts = λ r i. refl;
     cq_regions = λ r x h. h;
+    qids = λ r x h. h;
     entries = λ r i. refl;
     with_queue = λ r i. refl;
   }) (leaves_answer picked (answered candidate (verdict.OpenCq qid region)))
@@ -336,6 +355,7 @@ module _ (rules : FrontRules) (late : Bool) (past : Past) (k : Content) (seen : 
   commands (verdict.SetArbitration settings) is due chosen = answer_by _ _ (verdict.SetArbitration settings) (record {
     posts = λ r i. refl;
     cq_regions = λ r x h. h;
+    qids = λ r x h. h;
     entries = λ r i. refl;
     with_queue = λ r i. refl;
   }) (leaves_answer board (answered candidate (verdict.SetArbitration settings)))
@@ -385,12 +405,12 @@ left_posts rules past later k candidate c picked board table (verdict.Abort sqid
   now : Content
   now = applied_to k picked table
 
-  found : (region : ℕ) (o : Option Candidate) → HoldsPosts later (aborting_in now candidate region c cid board o)
+  found : (region : ℕ) (o : Option Candidate) → HoldsPosts later (aborting_in now candidate sqid region c cid board o)
   found region None = same_posts past later k _ 0 _ h refl same
   found region (Some d) =
-      same_posts later later (with_requested now region c cid board d) _ 0 _ (same_posts past later k _ c _ h refl same) refl (λ x. refl)
+      same_posts later later (with_requested now sqid region c cid board d) _ 0 _ (same_posts past later k _ c _ h refl same) refl (λ x. refl)
 
-  left : (o : Option Queue) → HoldsPosts later (aborting_from now candidate c cid board o)
+  left : (o : Option Queue) → HoldsPosts later (aborting_from now candidate sqid c cid board o)
   left None = same_posts past later k _ 0 _ h refl same
   left (Some queue) = found queue.region (oldest_named cid (now.sq queue.region).window)
 

@@ -7,7 +7,7 @@ use Rattle.std.proofs.lemmas.List.Sums.{sum_by-cons, sum_by-append}
 use Rattle.std.proofs.lemmas.List.Elements.{All-weaker}
 use Rattle.nvme_entry.specs.declared.submission.Sqe.{Sqe}
 use Rattle.nvme_state.specs.declared.candidate.Candidate.{Candidate}
-use Rattle.nvme_state.specs.declared.candidate.Ready.{Ready}
+use Rattle.nvme_state.specs.declared.ready.Ready.{Ready}
 use Rattle.nvme_log.specs.Rules.{Past}
 use Rattle.nvme_log.specs.Places.{fetched, places, WasAborted, WasPicked, Waits, fate_of, is_waiting, is_aborted, unaborted_below, picked}
 use Rattle.nvme_log.specs.Completions.{is_posted}
@@ -146,19 +146,19 @@ sum_by-ones {X = X} (x ∷ xs) = omega (arith, sum_by-cons (λ (y : X). 1) x xs,
 
 -- completions that were made of candidates of region a
 pub record IsMade (a : ℕ) (f : Candidate → Ready) : Type 0 where
-  pub region : (c : Candidate) → (f c).region ≡ a
-  pub index : (c : Candidate) → (f c).index ≡ c.index
+  pub region : (c : Candidate) → (f c).place.region ≡ a
+  pub index : (c : Candidate) → (f c).place.index ≡ c.index
 
 -- are those of the candidates' places in that region
 pub times_in-own : (a i : ℕ) (f : Candidate → Ready) (xs : List Candidate) → IsMade a f → times_in a i (map f xs) ≡ times_in_window i xs
 times_in-own a i f xs m =
-    sum_by-map (λ (t : Ready). one_if (t.region == a && t.index == i)) f xs
+    sum_by-map (λ (t : Ready). one_if (t.place.region == a && t.place.index == i)) f xs
     ∙ sum_by-same _ (λ (c : Candidate). one_if (c.index == i)) xs (λ c. rw (m.region c, m.index c, eq-eqb a a refl) refl)
 
 -- and of none in another region
 pub times_in-other : (a r i : ℕ) (f : Candidate → Ready) (xs : List Candidate) → IsMade a f → (r ≡ a → ⊥) → times_in r i (map f xs) ≡ 0
 times_in-other a r i f xs m d =
-    sum_by-map (λ (t : Ready). one_if (t.region == r && t.index == i)) f xs
+    sum_by-map (λ (t : Ready). one_if (t.place.region == r && t.place.index == i)) f xs
     ∙ sum_by-same _ (λ (c : Candidate). 0) xs (λ c. rw (m.region c, ne_eqb a r (λ e. d (sym e))) refl)
     ∙ sum_by-none xs
 

@@ -277,14 +277,14 @@ regions-io rules late past k queue seen pick board c s can saw io attached =
 
 -- so does a post
 pub regions-post : KeepsPost Regions
-regions-post rules late past k c t rest cqe qid free s can =
+regions-post rules late past k c t rest cqe free s can =
     let ready : IsReady past k.deletion c t =
     All-head (IsReady past k.deletion c) t rest (All-same (IsReady past k.deletion c) (t ∷ rest) (k.cq c).ready (sym can.oldest) (s.ready.each c)) in
-    let there : t.index < length (fetched past t.region) = slice_get_within (fetched past t.region) t.index t.entry ready.entry in
-    put_sq-holds (event.Post c t.region t.index cqe ∷ past) k.sq t.region (record (k.sq t.region) { unposted = (k.sq t.region).unposted - 1 })
-    (HoldsSq-kept (event.Post c t.region t.index cqe ∷ past) t.region (k.sq t.region) (record (k.sq t.region) { unposted = (k.sq t.region).unposted - 1 }) refl refl refl
-    (HoldsSq-post past c t.region t.index cqe t.region (k.sq t.region) (λ e. omega (arith, there, ap length (s.regions t.region).fetched_is)) (s.regions t.region)))
-    (λ r other. HoldsSq-post past c t.region t.index cqe r (k.sq r) (λ e. absurd (other e)) (s.regions r))
+    let there : t.place.index < length (fetched past t.place.region) = slice_get_within (fetched past t.place.region) t.place.index ready.entry ready.is_there in
+    put_sq-holds (event.Post c t.place.region t.place.index cqe ∷ past) k.sq t.place.region (record (k.sq t.place.region) { unposted = (k.sq t.place.region).unposted - 1 })
+    (HoldsSq-kept (event.Post c t.place.region t.place.index cqe ∷ past) t.place.region (k.sq t.place.region) (record (k.sq t.place.region) { unposted = (k.sq t.place.region).unposted - 1 }) refl refl refl
+    (HoldsSq-post past c t.place.region t.place.index cqe t.place.region (k.sq t.place.region) (λ e. omega (arith, there, ap length (s.regions t.place.region).fetched_is)) (s.regions t.place.region)))
+    (λ r other. HoldsSq-post past c t.place.region t.place.index cqe r (k.sq r) (λ e. absurd (other e)) (s.regions r))
 
 -- so does the end of a deletion
 pub regions-close : KeepsClose Regions
@@ -327,12 +327,12 @@ closed_cq_regions now sq qid None h = h
 closed_cq_regions now sq qid (Some region) h = made_regions (event.ClosedCq qid region) now sq (λ r. refl) (λ r. refl) (λ r i. refl) (λ r i. refl) h
 
 -- an Abort command takes a candidate of a region, or finds none
-aborting_regions : (past now : Past) (k : Content) (candidate : Candidate) (c cid : ℕ) (board : BoardView) (queue : Queue) (o : Option Candidate)
+aborting_regions : (past now : Past) (k : Content) (candidate : Candidate) (sqid c cid : ℕ) (board : BoardView) (queue : Queue) (o : Option Candidate)
     → oldest_named cid (k.sq queue.region).window ≡ o → HoldsSq past queue.region (k.sq queue.region)
-    → ((r : ℕ) → HoldsSq now r (k.sq r)) → (r : ℕ) → HoldsSq (with_events (abort_in past cid (Some queue)) now) r ((aborting_in k candidate queue.region c cid board o).sq r)
-aborting_regions past now k candidate c cid board queue None is held h r =
+    → ((r : ℕ) → HoldsSq now r (k.sq r)) → (r : ℕ) → HoldsSq (with_events (abort_in past cid (Some queue)) now) r ((aborting_in k candidate sqid queue.region c cid board o).sq r)
+aborting_regions past now k candidate sqid c cid board queue None is held h r =
     subst (λ (es : List Event). HoldsSq (with_events es now) r (k.sq r)) (sym (made_none past cid queue (k.sq queue.region) held is)) (h r)
-aborting_regions past now k candidate c cid board queue (Some found) is held h r =
+aborting_regions past now k candidate sqid c cid board queue (Some found) is held h r =
     let later : Past = event.Abort queue.region found.index ∷ now in
     let left : SqContent = record (k.sq queue.region) { window = without_oldest cid (k.sq queue.region).window } in
     let counted : SqContent = record left { unposted = (k.sq queue.region).unposted + 1 } in
@@ -342,12 +342,12 @@ aborting_regions past now k candidate c cid board queue (Some found) is held h r
     (λ x other. HoldsSq-abort_other now queue.region found.index x (k.sq x) other (h x)) r)
 
 -- of the queue that it names, where that is open
-target_regions : (past now : Past) (k : Content) (candidate : Candidate) (c cid : ℕ) (board : BoardView) (o : Option Queue)
+target_regions : (past now : Past) (k : Content) (candidate : Candidate) (sqid c cid : ℕ) (board : BoardView) (o : Option Queue)
     → ((queue : Queue) → o ≡ Some queue → HoldsSq past queue.region (k.sq queue.region))
-    → ((r : ℕ) → HoldsSq now r (k.sq r)) → (r : ℕ) → HoldsSq (with_events (abort_in past cid o) now) r ((aborting_from k candidate c cid board o).sq r)
-target_regions past now k candidate c cid board None held h = h
-target_regions past now k candidate c cid board (Some queue) held h =
-    aborting_regions past now k candidate c cid board queue (oldest_named cid (k.sq queue.region).window) refl (held queue refl) h
+    → ((r : ℕ) → HoldsSq now r (k.sq r)) → (r : ℕ) → HoldsSq (with_events (abort_in past cid o) now) r ((aborting_from k candidate sqid c cid board o).sq r)
+target_regions past now k candidate sqid c cid board None held h = h
+target_regions past now k candidate sqid c cid board (Some queue) held h =
+    aborting_regions past now k candidate sqid c cid board queue (oldest_named cid (k.sq queue.region).window) refl (held queue refl) h
 
 -- whatever the verdict makes
 verdict_regions : (past now : Past) (k : Content) (candidate : Candidate) (c : ℕ) (board : BoardView) (v : Verdict)
@@ -363,7 +363,7 @@ verdict_regions past now k candidate c board (verdict.OpenSq qid region cqid cla
 verdict_regions past now k candidate c board (verdict.OpenCq qid region) waits held h =
     made_regions (event.OpenCq qid region) now k.sq (λ r. refl) (λ r. refl) (λ r i. refl) (λ r i. refl) h
 verdict_regions past now k candidate c board (verdict.Abort sqid cid) waits held h =
-    target_regions past now k candidate c cid board (target_of past sqid) (held sqid) h
+    target_regions past now k candidate sqid c cid board (target_of past sqid) (held sqid) h
 verdict_regions past now k candidate c board (BeginDelete qid) waits held h =
     deleting_regions past now k candidate c qid (open_sq past qid) (λ queue is. waits qid queue refl is) h
 verdict_regions past now k candidate c board (CloseCq qid) waits held h = closed_cq_regions now k.sq qid (open_cq past qid) h

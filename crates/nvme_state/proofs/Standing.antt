@@ -66,19 +66,19 @@ stands-admin rules late past k seen pick picked candidate rest table c board s c
     }
 
 pub stands-post : KeepsPost Standing
-stands-post rules late past k c t rest cqe qid free s can =
-    let r = regions-post rules late past k c t rest cqe qid free s can in
+stands-post rules late past k c t rest cqe free s can =
+    let r = regions-post rules late past k c t rest cqe free s can in
     record {
       regions = r;
-      ready = ready-post rules late past k c t rest cqe qid free s can r;
-      jobs = jobs-post rules late past k c t rest cqe qid free s can r;
-      counts = counts-post rules late past k c t rest cqe qid free s can r;
-      posts = posts-post rules late past k c t rest cqe qid free s can;
-      queues = queues-post rules late past k c t rest cqe qid free s can r;
-      deletion = deleting-post rules late past k c t rest cqe qid free s can r;
-      arbitration = arbitration-post rules late past k c t rest cqe qid free s can;
-      tabled = tabled-post rules late past k c t rest cqe qid free s can;
-      accounts = accounted-post rules late past k c t rest cqe qid free s can r;
+      ready = ready-post rules late past k c t rest cqe free s can r;
+      jobs = jobs-post rules late past k c t rest cqe free s can r;
+      counts = counts-post rules late past k c t rest cqe free s can r;
+      posts = posts-post rules late past k c t rest cqe free s can;
+      queues = queues-post rules late past k c t rest cqe free s can r;
+      deletion = deleting-post rules late past k c t rest cqe free s can r;
+      arbitration = arbitration-post rules late past k c t rest cqe free s can;
+      tabled = tabled-post rules late past k c t rest cqe free s can;
+      accounts = accounted-post rules late past k c t rest cqe free s can r;
     }
 
 pub stands-close : KeepsClose Standing

@@ -8,9 +8,9 @@ use Rattle.nvme_arbiter.specs.declared.pick.Seen.{Seen}
 use Rattle.nvme_admin.specs.Standing.{TableView}
 use Rattle.nvme_log.specs.declared.event.Event.TheVariants as event
 use Rattle.nvme_state.specs.declared.candidate.Candidate.{Candidate}
-use Rattle.nvme_state.specs.declared.candidate.Ready.{Ready}
-use Rattle.nvme_state.specs.declared.candidate.PendingDelete.{PendingDelete}
-use Rattle.nvme_state.specs.declared.candidate.Dispatched.{Dispatched}
+use Rattle.nvme_state.specs.declared.ready.Ready.{Ready}
+use Rattle.nvme_state.specs.declared.deletion.PendingDelete.{PendingDelete}
+use Rattle.nvme_state.specs.declared.dispatched.Dispatched.{Dispatched}
 use Rattle.nvme_pool.specs.declared.jobs.Finished.{Finished}
 use Rattle.nvme_pool.specs.Seat.{SeatView}
 use Rattle.nvme_log.specs.Rules.{FrontRules, Past}
@@ -48,8 +48,8 @@ abbrev pub KeepsGain : Invariant → Type 0
 KeepsGain X = (rules : FrontRules) (late : Bool) (past : Past) (k : Content) (d : Dispatched) (rest : List Dispatched)
     (result : Finished) (seat : SeatView) (c qid : ℕ)
     → Stands rules late past k → CanGain k.jobs result seat → IsResultOf rules.sizes k.jobs d rest result
-    → (k.sq d.region).queue ≡ Some (record { qid = qid; cq_region = c })
-    → X rules late past (after_gain k d rest seat c result)
+    → (k.sq d.place.region).queue ≡ Some (record { qid = qid; cq_region = c })
+    → X rules late past (after_gain k d rest seat qid c result)
 
 -- a result of no job is gained, and dropped
 abbrev pub KeepsStray : Invariant → Type 0
@@ -67,8 +67,8 @@ KeepsAdmin X = (rules : FrontRules) (late : Bool) (past : Past) (k : Content) (s
     (after_admin past (applied_to k picked table) candidate c board (verdict_at rules s.tabled.history candidate))
 
 abbrev pub KeepsPost : Invariant → Type 0
-KeepsPost X = (rules : FrontRules) (late : Bool) (past : Past) (k : Content) (c : ℕ) (t : Ready) (rest : List Ready) (cqe : Cqe) (qid free : ℕ)
-    → Stands rules late past k → CanPost past k c t rest cqe qid
+KeepsPost X = (rules : FrontRules) (late : Bool) (past : Past) (k : Content) (c : ℕ) (t : Ready) (rest : List Ready) (cqe : Cqe) (free : ℕ)
+    → Stands rules late past k → CanPost past k c t rest cqe
     → X rules late (post_event c t cqe ∷ past) (after_post k c t rest cqe free)
 
 abbrev pub KeepsClose : Invariant → Type 0

@@ -16,7 +16,7 @@ use Rattle.nvme_admin.specs.declared.verdict.Verdict.{Verdict}
 use Rattle.nvme_admin.specs.declared.verdict.Verdict.TheVariants.{Done, BeginDelete, CloseCq}
 use Rattle.nvme_admin.specs.declared.verdict.Verdict.TheVariants as verdict
 use Rattle.nvme_state.specs.declared.candidate.Candidate.{Candidate}
-use Rattle.nvme_state.specs.declared.candidate.Ready.{Ready}
+use Rattle.nvme_state.specs.declared.ready.Ready.{Ready}
 use Rattle.nvme_log.specs.declared.event.Event.TheVariants.{Abort}
 use Rattle.nvme_log.specs.declared.event.Event.TheVariants as event
 use Rattle.nvme_log.specs.Rules.{FrontRules, Past}
@@ -144,11 +144,11 @@ tabled-io rules late past k queue seen pick board c s can seen_is io attached =
 
 -- a post leaves the table
 pub tabled-post : KeepsPost Tabled
-tabled-post rules late past k c t rest cqe qid free s can =
-    let one : Content = with_sq k t.region (record (k.sq t.region) { unposted = (k.sq t.region).unposted - 1 }) in
+tabled-post rules late past k c t rest cqe free s can =
+    let one : Content = with_sq k t.place.region (record (k.sq t.place.region) { unposted = (k.sq t.place.region).unposted - 1 }) in
     let two : Content = with_cq one c (posted_cq (k.cq c) rest cqe free) in
     held rules late past (post_event c t cqe ∷ past) k (after_post k c t rest cqe free) s.tabled
-    (leaves_both k one (after_post k c t rest cqe free) (leaves_sq k t.region _ refl)
+    (leaves_both k one (after_post k c t rest cqe free) (leaves_sq k t.place.region _ refl)
     (leaves_both one two (after_post k c t rest cqe free) (leaves_cq one c _ refl) (leaves_none two (after_post k c t rest cqe free) refl refl refl refl)))
     refl refl s.tabled.history s.tabled.stands s.tabled.history_is
 
@@ -181,17 +181,17 @@ leaves_verdict past k candidate c board (verdict.SetArbitration settings) =
     let one : Content = record k { board = board } in
     leaves_both k one _ (leaves_none k one refl refl refl refl) (leaves_ready one 0 _)
 leaves_verdict past k candidate c board (verdict.Abort sqid cid) = by_target (target_of past sqid) where
-  by_found : (queue : Queue) (o : Option Candidate) → LeavesRegions k (aborting_in k candidate queue.region c cid board o)
+  by_found : (queue : Queue) (o : Option Candidate) → LeavesRegions k (aborting_in k candidate sqid queue.region c cid board o)
   by_found queue None = leaves_ready k 0 _
   by_found queue (Some found) =
       let one : Content = with_sq k queue.region (record (k.sq queue.region) { window = without_oldest cid (k.sq queue.region).window; unposted = (k.sq queue.region).unposted + 1 }) in
-      let two : Content = with_ready one c (requested queue.region found) in
-      let three : Content = with_requested k queue.region c cid board found in
+      let two : Content = with_ready one c (requested sqid queue.region found) in
+      let three : Content = with_requested k sqid queue.region c cid board found in
       leaves_both k three _
       (leaves_both k one three (leaves_sq k queue.region _ refl) (leaves_both one two three (leaves_ready one c _) (leaves_none two three refl refl refl refl)))
       (leaves_ready three 0 _)
 
-  by_target : (o : Option Queue) → LeavesRegions k (aborting_from k candidate c cid board o)
+  by_target : (o : Option Queue) → LeavesRegions k (aborting_from k candidate sqid c cid board o)
   by_target None = leaves_ready k 0 _
   by_target (Some queue) = by_found queue (oldest_named cid (k.sq queue.region).window)
 leaves_verdict past k candidate c board (BeginDelete qid) = by_sq (open_sq past qid) where
@@ -199,7 +199,7 @@ leaves_verdict past k candidate c board (BeginDelete qid) = by_sq (open_sq past 
   by_sq None = leaves_ready k 0 _
   by_sq (Some queue) =
       let one : Content = with_sq k queue.region (record (k.sq queue.region) { window = []; unposted = (k.sq queue.region).unposted + length (k.sq queue.region).window }) in
-      let two : Content = with_readies one c (map (aborted queue.region) (k.sq queue.region).window) in
+      let two : Content = with_readies one c (map (aborted qid queue.region) (k.sq queue.region).window) in
       leaves_both k one (with_deleting k qid queue.region c candidate) (leaves_sq k queue.region _ refl)
       (leaves_both one two (with_deleting k qid queue.region c candidate) (leaves_cq one c _ refl) (leaves_none two (with_deleting k qid queue.region c candidate) refl refl refl refl))
 
@@ -211,11 +211,11 @@ leaves_table past k candidate c board (verdict.OpenCq qid region) = refl
 leaves_table past k candidate c board (CloseCq qid) = refl
 leaves_table past k candidate c board (verdict.SetArbitration settings) = refl
 leaves_table past k candidate c board (verdict.Abort sqid cid) = by_target (target_of past sqid) where
-  by_found : (queue : Queue) (o : Option Candidate) → (aborting_in k candidate queue.region c cid board o).table ≡ k.table
+  by_found : (queue : Queue) (o : Option Candidate) → (aborting_in k candidate sqid queue.region c cid board o).table ≡ k.table
   by_found queue None = refl
   by_found queue (Some found) = refl
 
-  by_target : (o : Option Queue) → (aborting_from k candidate c cid board o).table ≡ k.table
+  by_target : (o : Option Queue) → (aborting_from k candidate sqid c cid board o).table ≡ k.table
   by_target None = refl
   by_target (Some queue) = by_found queue (oldest_named cid (k.sq queue.region).window)
 leaves_table past k candidate c board (BeginDelete qid) = by_sq (open_sq past qid) where

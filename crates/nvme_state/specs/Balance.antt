@@ -4,7 +4,7 @@ use Rattle.nvme_lane.specs.View.{GetView}
 use Rattle.nvme_pool.specs.declared.jobs.Job.{Job}
 use Rattle.nvme_pool.specs.declared.jobs.Finished.{Finished}
 use Rattle.nvme_pool.specs.Jobs.{result_of}
-use Rattle.nvme_state.specs.declared.candidate.Dispatched.{Dispatched}
+use Rattle.nvme_state.specs.declared.dispatched.Dispatched.{Dispatched}
 use Rattle.nvme_state.specs.Hands.{Hands, job_in}
 
 -- by a weight of results: those that were gained, those that commands wait for, and those of the jobs that were handed over

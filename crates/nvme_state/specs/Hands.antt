@@ -6,7 +6,7 @@ use Rattle.nvme_pool.specs.Jobs.{job_of}
 use Rattle.nvme_pool.specs.Seat.{SeatView}
 use Rattle.nvme_pool.specs.declared.jobs.Job.{Job}
 use Rattle.nvme_pool.specs.declared.jobs.Finished.{Finished}
-use Rattle.nvme_state.specs.declared.candidate.Dispatched.{Dispatched}
+use Rattle.nvme_state.specs.declared.dispatched.Dispatched.{Dispatched}
 
 -- the seat as the front was given it and as it is, the picked commands whose job isn't handed over yet, the oldest first, and those whose job
 -- was handed over and whose result isn't gained yet, in any order
@@ -26,7 +26,7 @@ job_in sizes d = record { ticket = d.ticket; entry = d.entry; spaces = sizes }
 
 -- the place has no result yet
 abbrev pub is_in_hand : Hands → ℕ → ℕ → Bool
-is_in_hand h r i = list_any (λ (d : Dispatched). d.region == r && d.index == i) (in_hand h)
+is_in_hand h r i = list_any (λ (d : Dispatched). d.place.region == r && d.place.index == i) (in_hand h)
 
 -- a result is the result of none of these commands
 abbrev pub IsOfNone : List ℕ → List Dispatched → Finished → Type 0

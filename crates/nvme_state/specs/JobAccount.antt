@@ -7,13 +7,13 @@ use Rattle.nvme_pool.specs.declared.jobs.Finished.{Finished}
 use Rattle.nvme_pool.specs.Jobs.{result_of}
 use Rattle.nvme_log.specs.Rules.{Past}
 use Rattle.nvme_log.specs.Dispatches.{AreJobs, dispatched}
-use Rattle.nvme_state.specs.declared.candidate.Dispatched.{Dispatched}
+use Rattle.nvme_state.specs.declared.dispatched.Dispatched.{Dispatched}
 use Rattle.nvme_state.specs.Answers.{HasTicket}
 use Rattle.nvme_state.specs.Hands.{Hands, job_in, in_hand}
 
 -- the place of a command in hand is the one that its ticket counts among the picked places of I/O queues
 abbrev pub HasItsTicket : Past → Dispatched → Type 0
-HasItsTicket past d = HasTicket past d.ticket d.region d.index
+HasItsTicket past d = HasTicket past d.ticket d.place.region d.place.index
 
 -- the jobs that the front handed over, followed by those that it keeps, are those of the picked places of I/O queues, with tickets that count
 -- from 0, so that each command in hand has the ticket of its place. Each job handed over has its result gained or waits for it. What was gained

@@ -1,4 +1,6 @@
+use crate::ready::Ready;
 use nvme_entry::{Sqe, Status};
+use nvme_log::Place;
 
 /// A fetched command that waits to be picked: its index among the fetches of its region, and its entry.
 #[derive(Clone, Copy, Debug, PartialEq, Eq)]
@@ -8,50 +10,24 @@ pub struct Candidate {
 }
 
 impl Candidate {
-    ghost use Rattle.std.specs.Prelude.{◌≡◌, false};
+    ghost use Rattle.std.specs.Prelude.{◌≡◌};
+    ghost use Rattle.nvme_log.specs.Dispatches.{place_at};
+    ghost use Rattle.nvme_state.specs.inside.Steps.{told};
 
-    /// The completion of an executed admin command, with its status and Command Dword 0.
-    pub fn answered(&self, status: Status, dw0: u32) -> Ready
-        ensures { result ≡ record { region = 0; index = self.now.index; entry = self.now.entry; with_queue = false; status = status; dw0 = dw0 } }
+    /// Its place, where it was fetched from this submission region.
+    pub fn place(&self, region: u8) -> Place
+        ensures { result ≡ place_at region self.now.index }
     {
-        Ready {
-            region: 0,
+        Place {
+            region,
             index: self.index,
-            entry: self.entry,
-            with_queue: false,
-            status,
-            dw0,
         }
     }
-}
 
-/// A picked I/O command that has no result yet: the ticket of its job, its place and its entry.
-#[derive(Clone, Copy, Debug, PartialEq, Eq)]
-pub struct Dispatched {
-    pub ticket: u32,
-    pub region: u8,
-    pub index: u32,
-    pub entry: Sqe,
-}
-
-/// A picked or aborted command whose completion waits to be posted.
-#[derive(Clone, Copy, Debug, PartialEq, Eq)]
-pub struct Ready {
-    pub region: u8,
-    pub index: u32,
-    pub entry: Sqe,
-    // Whether it was aborted with its queue, so that it takes no outstanding place.
-    pub with_queue: bool,
-    pub status: Status,
-    pub dw0: u32,
-}
-
-/// The deletion of a submission queue that began and isn't finished, with the place in region 0 and the entry of its
-/// command.
-#[derive(Clone, Copy, Debug, PartialEq, Eq)]
-pub struct PendingDelete {
-    pub qid: u16,
-    pub region: u8,
-    pub index: u32,
-    pub entry: Sqe,
+    /// The completion of an admin command that was carried out, with its status and Command Dword 0.
+    pub fn answered(&self, status: Status, dw0: u32) -> Ready
+        ensures { result ≡ told self.now status dw0 }
+    {
+        Ready::answered(self.place(0), self.entry.cid, status, dw0)
+    }
 }

@@ -2,7 +2,8 @@
 ghost use Rattle.std.specs.Prelude.{◌≡◌};
 ghost use Rattle.nvme_state.specs.Hands.{job_in};
 
-use crate::candidate::{Candidate, Dispatched};
+use crate::candidate::Candidate;
+use crate::dispatched::Dispatched;
 use crate::fifo::Fifo;
 use crate::running::Running;
 use nvme_entry::{Namespaces, Status};
@@ -61,6 +62,7 @@ fn job_for(dispatched: &Dispatched, spaces: &Namespaces) -> Job
 impl Jobs {
     ghost use Rattle.std.specs.Prelude.{◌≡◌, ◌⊎◌, ◌+◌, ◌^◌, ◌<◌, ◌≤◌, [], ◌∷◌, ◌++◌, length, true, false, OnOk, IfErr};
     ghost use Rattle.nvme_pool.specs.Pool.{IsPool};
+    ghost use Rattle.nvme_log.specs.Dispatches.{place_at};
     ghost use Rattle.nvme_log.specs.Limits.{max_outstanding};
     ghost use Rattle.nvme_state.specs.inside.Jobs.{HandsOne, IsClosed};
     ghost use Rattle.nvme_state.specs.inside.Gains.{GainsBy};
@@ -105,14 +107,13 @@ impl Jobs {
         requires room { length self.old.hands.unhanded < self.old.room }
         requires few { self.old.tickets + 1 < 2 ^ 32 }
         ensures { self.new ≡ record self.old {
-          hands = record self.old.hands { unhanded = self.old.hands.unhanded ++ record { ticket = self.old.tickets; region = region; index = candidate.index; entry = candidate.entry } ∷ [] };
+          hands = record self.old.hands { unhanded = self.old.hands.unhanded ++ record { ticket = self.old.tickets; place = place_at region candidate.index; entry = candidate.entry } ∷ [] };
           tickets = self.old.tickets + 1;
         } }
     {
         self.unhanded.push(Dispatched {
             ticket: self.tickets,
-            region,
-            index: candidate.index,
+            place: candidate.place(region),
             entry: candidate.entry,
         });
         self.tickets += 1;

@@ -5,13 +5,19 @@
 
 mod attachment;
 mod candidate;
+mod deletion;
+mod dispatched;
 mod fifo;
 mod jobs;
+mod ready;
 mod region;
 mod running;
 
 pub use attachment::Attachment;
-pub use candidate::{Candidate, Dispatched, PendingDelete, Ready};
+pub use candidate::Candidate;
+pub use deletion::PendingDelete;
+pub use dispatched::Dispatched;
 pub use fifo::Fifo;
 pub use jobs::{Gained, Jobs};
+pub use ready::Ready;
 pub use region::{CqRegion, SqRegion};

@@ -1,6 +1,7 @@
 use crate::attachment::Attachment;
-use crate::candidate::{Candidate, Ready};
+use crate::candidate::Candidate;
 use crate::fifo::Fifo;
+use crate::ready::Ready;
 use nvme_entry::{Cqe, Sqe};
 use nvme_lane::{GetEnd, PutEnd};
 use nvme_log::window_of;

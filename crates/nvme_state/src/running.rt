@@ -3,9 +3,9 @@ ghost use Rattle.std.specs.Prelude.{◌≡◌, ◌↔◌, ◌<◌, ◌∷◌, Is
 ghost use Rattle.std.specs.List.Sorted.{IsPermutation};
 ghost use Rattle.nvme_pool.specs.Jobs.{job_of};
 ghost use Rattle.nvme_state.specs.Hands.{job_in, IsOfNone};
-ghost use Rattle.nvme_state.specs.declared.candidate.Dispatched.{Dispatched};
+ghost use Rattle.nvme_state.specs.declared.dispatched.Dispatched.{Dispatched};
 
-use crate::candidate::Dispatched;
+use crate::dispatched::Dispatched;
 use nvme_entry::Namespaces;
 use nvme_pool::Finished;
 use std::alloc::{AllocError, Global};
@@ -27,7 +27,7 @@ pub struct Running {
 impl Model for Running {
     ghost use Rattle.std.specs.Prelude.{vec_capacity};
     ghost use Rattle.nvme_state.specs.inside.Fifo.{FifoView};
-    ghost use Rattle.nvme_state.specs.declared.candidate.Dispatched.{Dispatched};
+    ghost use Rattle.nvme_state.specs.declared.dispatched.Dispatched.{Dispatched};
 
     ghost Value = { FifoView Dispatched };
 

@@ -73,7 +73,7 @@ pub record HasAborted (old new : FrontState) (sqid cid : ℕ) : Type 0 where
   pub oldest : oldest_named cid (sq_in old.sqs.items entry.region).window ≡ Some found
   -- the front afterwards
   pub log : new.log.items ≡ old.log.items ++ event.Abort entry.region found.index ∷ []
-  pub kept : content_of new ≡ record (with_ready (with_sq (content_of old) entry.region (without_named cid (sq_in old.sqs.items entry.region))) c (requested entry.region found)) {
+  pub kept : content_of new ≡ record (with_ready (with_sq (content_of old) entry.region (without_named cid (sq_in old.sqs.items entry.region))) c (requested sqid entry.region found)) {
     board = new.board;
     outstanding = old.outstanding + 1;
   }

@@ -9,7 +9,7 @@ use Rattle.nvme_arbiter.specs.Queues.{seen_of}
 use Rattle.nvme_arbiter.specs.Standing.{pick_of}
 use Rattle.nvme_admin.specs.declared.verdict.SqEntry.{SqEntry}
 use Rattle.nvme_admin.specs.Standing.{sq_of}
-use Rattle.nvme_state.specs.declared.candidate.Ready.{Ready}
+use Rattle.nvme_state.specs.declared.ready.Ready.{Ready}
 use Rattle.nvme_state.specs.declared.region.SqRegion.{SqRegion}
 use Rattle.nvme_front.specs.declared.state.FrontState.{FrontState}
 use Rattle.nvme_log.specs.Limits.{window_of}
@@ -95,9 +95,8 @@ next_pick s = pick_of s.board.kept (seen_of s.board.queues)
 
 -- the completion of a ready place, where it is posted next to a completion region
 pub record IsCompletionOf (sq : SqContent) (cq : CqContent) (t : Ready) (cqe : Cqe) : Type 0 where
-  pub cq_region : ℕ
-  pub queue : sq.queue ≡ Some (record { qid = cqe.sqid; cq_region = cq_region })
-  pub cid : cqe.cid ≡ t.entry.cid
+  pub sqid : cqe.sqid ≡ t.sqid
+  pub cid : cqe.cid ≡ t.cid
   pub status : cqe.status ≡ t.status
   pub dw0 : cqe.dw0 ≡ t.dw0
   pub sqhd : cqe.sqhd ≡ sq.fetched % sq.slots

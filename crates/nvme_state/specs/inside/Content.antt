@@ -6,8 +6,8 @@ use Rattle.nvme_arbiter.specs.Board.{BoardView}
 use Rattle.nvme_admin.specs.Standing.{TableView}
 use Rattle.nvme_state.specs.inside.Jobs.{JobsView}
 use Rattle.nvme_state.specs.declared.candidate.Candidate.{Candidate}
-use Rattle.nvme_state.specs.declared.candidate.Ready.{Ready}
-use Rattle.nvme_state.specs.declared.candidate.PendingDelete.{PendingDelete}
+use Rattle.nvme_state.specs.declared.ready.Ready.{Ready}
+use Rattle.nvme_state.specs.declared.deletion.PendingDelete.{PendingDelete}
 use Rattle.nvme_state.specs.declared.attachment.Attachment.{Attachment}
 
 -- a submission region: what was got and is known to come, the candidates, the number of fetches, the number of picked and aborted places

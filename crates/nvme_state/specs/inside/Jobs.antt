@@ -8,8 +8,9 @@ use Rattle.nvme_pool.specs.Worker.{WorkerView, Accounts}
 use Rattle.nvme_pool.specs.Seat.{SeatView, SameSeat, OneGained}
 use Rattle.nvme_pool.specs.declared.jobs.Finished.{Finished}
 use Rattle.nvme_state.specs.declared.candidate.Candidate.{Candidate}
-use Rattle.nvme_state.specs.declared.candidate.Dispatched.{Dispatched}
-use Rattle.nvme_log.specs.Places.{Place}
+use Rattle.nvme_state.specs.declared.dispatched.Dispatched.{Dispatched}
+use Rattle.nvme_log.specs.declared.place.Place.{Place}
+use Rattle.nvme_log.specs.Dispatches.{place_at}
 use Rattle.nvme_state.specs.Hands.{Hands, job_in, IsOfNone}
 
 pub record JobsView : Type 0 where
@@ -20,12 +21,12 @@ pub record JobsView : Type 0 where
   pub room : ℕ
 
 abbrev pub dispatched_place : Dispatched → Place
-dispatched_place d = record { region = d.region; index = d.index }
+dispatched_place d = d.place
 
 -- candidates of a region that are picked, with tickets that count from a number
 abbrev pub dispatched_from : ℕ → ℕ → List Candidate → List Dispatched
 dispatched_from r ticket [] = []
-dispatched_from r ticket (c ∷ cs) = record { ticket = ticket; region = r; index = c.index; entry = c.entry } ∷ dispatched_from r (ticket + 1) cs
+dispatched_from r ticket (c ∷ cs) = record { ticket = ticket; place = place_at r c.index; entry = c.entry } ∷ dispatched_from r (ticket + 1) cs
 
 -- the jobs after candidates of a region were picked
 abbrev pub with_picked : JobsView → ℕ → List Candidate → JobsView

@@ -1,6 +1,7 @@
 -- When what a front keeps stands at its log (profile).
 use Rattle.std.specs.Prelude.{◌≡◌, ℕ, zero, suc, ◌+◌, ◌≤◌, ◌<◌, ◌*◌, ◌==◌, ◌&&◌, nat_lt, Bool, true, false, not, if◌then◌else◌, List, [], ◌++◌, length, filter, map, sum_by, Option, Some, None, option_map, option_to_list, All}
 use Rattle.nvme_entry.specs.Status.{success}
+use Rattle.nvme_entry.specs.declared.submission.Sqe.{Sqe}
 use Rattle.nvme_arbiter.specs.Limits.{highest_qid, highest_count, queue_limit}
 use Rattle.nvme_arbiter.specs.Lawful.{IsLawfulRun}
 use Rattle.nvme_arbiter.specs.Board.{BoardStandsAt}
@@ -12,14 +13,15 @@ use Rattle.nvme_admin.specs.Standing.{StandsAt, sq_of, cq_of, used_at}
 use Rattle.nvme_admin.specs.declared.bounds.TheConstants.{MAX_REGIONS}
 use Rattle.nvme_admin.specs.declared.verdict.SqEntry.{SqEntry}
 use Rattle.nvme_state.specs.declared.candidate.Candidate.{Candidate}
-use Rattle.nvme_state.specs.declared.candidate.Dispatched.{Dispatched}
-use Rattle.nvme_state.specs.declared.candidate.Ready.{Ready}
-use Rattle.nvme_state.specs.declared.candidate.PendingDelete.{PendingDelete}
+use Rattle.nvme_state.specs.declared.dispatched.Dispatched.{Dispatched}
+use Rattle.nvme_state.specs.declared.ready.Ready.{Ready}
+use Rattle.nvme_state.specs.declared.deletion.PendingDelete.{PendingDelete}
 use Rattle.nvme_state.specs.declared.attachment.Attachment.{Attachment}
 use Rattle.nvme_log.specs.Limits.{max_outstanding}
 use Rattle.nvme_log.specs.Rules.{FrontRules, Past, Each, sq_regions_of, cq_regions_of, slots_at}
 use Rattle.nvme_log.specs.Queues.{Queue, Deletion, open_sq, open_cq, pending, is_closed_region, qid_of_region, cq_region_of}
-use Rattle.nvme_log.specs.Places.{Place, fetched, waiting, picked, is_aborted, unaborted_below, fate_of, is_picked, entry_at, is_served, one_if}
+use Rattle.nvme_log.specs.Places.{fetched, waiting, picked, is_aborted, unaborted_below, fate_of, is_picked, entry_at, is_served, one_if}
+use Rattle.nvme_log.specs.declared.place.Place.{Place}
 use Rattle.nvme_log.specs.Histories.{arbitration_of, table_history}
 use Rattle.nvme_log.specs.Aborts.{is_aborted_with_queue}
 use Rattle.nvme_log.specs.Completions.{is_posted, posts_of, posted_to, outstanding, own_status, own_dw0, unposted_of}
@@ -48,7 +50,7 @@ pub record HoldsSq (past : Past) (r : ℕ) (s : SqContent) : Type 0 where
 -- ---- ready completions
 -- how often a place stands among ready completions, and among places
 abbrev pub times_in : ℕ → ℕ → List Ready → ℕ
-times_in r i ready = sum_by (λ (t : Ready). one_if (t.region == r && t.index == i)) ready
+times_in r i ready = sum_by (λ (t : Ready). one_if (t.place.region == r && t.place.index == i)) ready
 
 abbrev pub times_held : ℕ → ℕ → List Place → ℕ
 times_held r i hand = sum_by (λ (p : Place). one_if (p.region == r && p.index == i)) hand
@@ -69,23 +71,23 @@ abbrev pub ready_aborted : Content → ℕ
 ready_aborted k = over_regions (λ (c : ℕ). length (filter (λ (t : Ready). t.with_queue) (k.cq c).ready)) MAX_REGIONS
 
 -- the place of the command of a deletion, which is answered when the deletion is finished
-abbrev pub deleted_place : PendingDelete → Place
-deleted_place d = record { region = 0; index = d.index }
-
 abbrev pub held_by : Option PendingDelete → List Place
-held_by deletion = option_to_list (option_map deleted_place deletion)
+held_by deletion = option_to_list (option_map (λ (d : PendingDelete). d.place) deletion)
 
 -- the places that are picked and neither ready nor posted: those whose job has no result yet, and that of the deletion
 abbrev pub hand_of : Content → List Place
 hand_of k = map dispatched_place (in_hand k.jobs.hands) ++ held_by k.deletion
 
--- what is ready in a completion region is a completion of a place that goes there. One that was aborted with its queue is of the queue that is
--- being deleted
+-- what is ready in a completion region is a completion of a place that goes there: it has the identifiers of its queue and of its command. One
+-- that was aborted with its queue is of the queue that is being deleted
 pub record IsReady (past : Past) (deletion : Option PendingDelete) (c : ℕ) (t : Ready) : Type 0 where
-  pub region : cq_region_of past t.region ≡ Some c
-  pub entry : entry_at past t.region t.index ≡ Some t.entry
-  pub with_queue : t.with_queue ≡ is_aborted_with_queue past t.region t.index
-  pub deleting : t.with_queue ≡ true → option_map (λ (d : PendingDelete). d.region) deletion ≡ Some t.region
+  pub region : cq_region_of past t.place.region ≡ Some c
+  pub queue : qid_of_region past t.place.region ≡ Some t.sqid
+  pub entry : Sqe
+  pub is_there : entry_at past t.place.region t.place.index ≡ Some entry
+  pub cid : t.cid ≡ entry.cid
+  pub with_queue : t.with_queue ≡ is_aborted_with_queue past t.place.region t.place.index
+  pub deleting : t.with_queue ≡ true → option_map (λ (d : PendingDelete). d.region) deletion ≡ Some t.place.region
 
 -- each picked or aborted place is once ready, once posted or once in hand: picked, but neither ready nor posted
 pub record HoldsReady (past : Past) (k : Content) (hand : List Place) : Type 0 where
@@ -95,17 +97,18 @@ pub record HoldsReady (past : Past) (k : Content) (hand : List Place) : Type 0 w
   pub few_aborted : ready_aborted k ≤ highest_count
   pub few_taken : k.outstanding ≤ max_outstanding
   pub none_beyond : (c : ℕ) → MAX_REGIONS ≤ c → (k.cq c).ready ≡ []
-  -- the admin queue posts to completion region 0
+  -- the admin queue is that of region 0, and posts to completion region 0
+  pub admin_qid : qid_of_region past 0 ≡ Some 0
   pub admin_region : cq_region_of past 0 ≡ Some 0
 
 -- ---- jobs
 -- a picked I/O command that has no result yet: its place's entry, and the completion region of its queue
 pub record IsDispatched (past : Past) (d : Dispatched) : Type 0 where
-  pub entry : entry_at past d.region d.index ≡ Some d.entry
-  pub not_aborted : is_aborted past d.region d.index ≡ false
-  pub io : (d.region == 0) ≡ false
+  pub entry : entry_at past d.place.region d.place.index ≡ Some d.entry
+  pub not_aborted : is_aborted past d.place.region d.place.index ≡ false
+  pub io : (d.place.region == 0) ≡ false
   pub cq_region : ℕ
-  pub attached : cq_region_of past d.region ≡ Some cq_region
+  pub attached : cq_region_of past d.place.region ≡ Some cq_region
 
 -- a fetched place was picked
 pub record IsPickedPlace (past : Past) (r i : ℕ) : Type 0 where
@@ -193,8 +196,12 @@ pub record IsPending (past : Past) (k : Content) (d : PendingDelete) : Type 0 wh
   pub in_table : sq_of k.table d.qid ≡ Some closing
   pub is_closing : closing.closing ≡ true
   pub region : closing.region ≡ d.region
-  pub entry : entry_at past 0 d.index ≡ Some d.entry
-  pub not_aborted : is_aborted past 0 d.index ≡ false
+  -- its command is one of the admin queue, and wasn't aborted
+  pub of_admin : d.place.region ≡ 0
+  pub entry : Sqe
+  pub is_there : entry_at past d.place.region d.place.index ≡ Some entry
+  pub cid : d.cid ≡ entry.cid
+  pub not_aborted : is_aborted past d.place.region d.place.index ≡ false
   pub none_waits : (k.sq d.region).window ≡ []
   pub not_closed : is_closed_region past d.region ≡ false
   pub not_admin : d.region ≡ 0 → ⊥
@@ -203,7 +210,7 @@ pub record IsPending (past : Past) (k : Content) (d : PendingDelete) : Type 0 wh
 
 pub record HoldsDeletion (past : Past) (k : Content) : Type 0 where
   pub pending_is : pending past ≡ option_map as_deletion k.deletion
-  pub place_is : deleting_place past ≡ option_map (λ (d : PendingDelete). d.index) k.deletion
+  pub place_is : deleting_place past ≡ option_map (λ (d : PendingDelete). d.place.index) k.deletion
   pub stands : (d : PendingDelete) → k.deletion ≡ Some d → IsPending past k d
   -- a queue that is closing in the table is that whose deletion is pending
   pub closing_is : (q : ℕ) (e : SqEntry) → sq_of k.table q ≡ Some e → e.closing ≡ true → option_map (λ (d : PendingDelete). d.qid) k.deletion ≡ Some q
@@ -230,13 +237,17 @@ pub record HoldsTable (rules : FrontRules) (late : Bool) (past : Past) (k : Cont
 -- ---- the account
 -- a ready completion has the status and the Dword 0 of its place
 pub record HasOwnStatus (rules : FrontRules) (past : Past) (t : Ready) : Type 0 where
-  pub status : t.status ≡ own_status rules past t.region t.index t.entry
-  pub dw0 : t.dw0 ≡ own_dw0 rules past t.region t.index t.entry
+  pub entry : Sqe
+  pub is_there : entry_at past t.place.region t.place.index ≡ Some entry
+  pub status : t.status ≡ own_status rules past t.place.region t.place.index entry
+  pub dw0 : t.dw0 ≡ own_dw0 rules past t.place.region t.place.index entry
 
 -- the deletion that is pending is answered with success
 pub record IsOwnDeletion (rules : FrontRules) (past : Past) (d : PendingDelete) : Type 0 where
-  pub status : own_status rules past 0 d.index d.entry ≡ success
-  pub dw0 : own_dw0 rules past 0 d.index d.entry ≡ 0
+  pub entry : Sqe
+  pub is_there : entry_at past d.place.region d.place.index ≡ Some entry
+  pub status : own_status rules past d.place.region d.place.index entry ≡ success
+  pub dw0 : own_dw0 rules past d.place.region d.place.index entry ≡ 0
 
 pub record Accounts (rules : FrontRules) (past : Past) (k : Content) : Type 0 where
   pub indexes_count : Each IndexCounts past

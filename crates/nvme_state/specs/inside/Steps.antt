@@ -1,6 +1,6 @@
--- The candidate that an Abort command takes, aborted candidates, and what a front keeps after a pick and after its admin command was applied (profile).
+-- The candidate that an Abort command takes, commands that become ready, and what a front keeps after a pick and after its admin command was applied (profile).
 use Rattle.std.specs.Prelude.{◌≡◌, ℕ, ◌+◌, ◌≤◌, ◌==◌, true, false, if◌then◌else◌, List, [], ◌∷◌, length, drop, Option, Some, None}
-use Rattle.nvme_entry.specs.Status.{abort_requested, aborted_by_deletion}
+use Rattle.nvme_entry.specs.Status.{StatusCode, abort_requested, aborted_by_deletion}
 use Rattle.nvme_arbiter.specs.History.{Picked}
 use Rattle.nvme_arbiter.specs.Lawful.{lawful_pick}
 use Rattle.nvme_arbiter.specs.Board.{BoardView, BoardStandsAt, queues_after}
@@ -10,11 +10,13 @@ use Rattle.nvme_admin.specs.Accepted.{verdict_of}
 use Rattle.nvme_admin.specs.Standing.{TableView, StandsAt, IsSized}
 use Rattle.nvme_admin.specs.declared.verdict.Verdict.{Verdict}
 use Rattle.nvme_state.specs.declared.candidate.Candidate.{Candidate}
-use Rattle.nvme_state.specs.declared.candidate.Ready.{Ready}
+use Rattle.nvme_state.specs.declared.dispatched.Dispatched.{Dispatched}
+use Rattle.nvme_state.specs.declared.ready.Ready.{Ready}
 use Rattle.nvme_log.specs.Limits.{max_outstanding}
 use Rattle.nvme_log.specs.Rules.{FrontRules, Past}
 use Rattle.nvme_log.specs.Queues.{Queue, admin_queue, open_sq}
 use Rattle.nvme_log.specs.Places.{observation_of}
+use Rattle.nvme_log.specs.Dispatches.{place_at}
 use Rattle.nvme_log.specs.Histories.{arbitration_of}
 use Rattle.nvme_log.specs.Aborts.{is_abort_entry}
 use Rattle.nvme_state.specs.inside.Content.{SqContent, Content, with_sq}
@@ -50,13 +52,21 @@ verdict_at rules history candidate = verdict_of rules.start history candidate.en
 abbrev pub applied_to : Content → BoardView → TableView → Content
 applied_to k board table = record (after_pick k admin_queue 1 board) { table = table }
 
--- a candidate that was aborted with its queue
-abbrev pub aborted : ℕ → Candidate → Ready
-aborted r c = record { region = r; index = c.index; entry = c.entry; with_queue = true; status = aborted_by_deletion; dw0 = 0 }
+-- the answer of a command of the admin queue
+abbrev pub told : Candidate → StatusCode → ℕ → Ready
+told c status dw0 = record { place = place_at 0 c.index; sqid = 0; cid = c.entry.cid; with_queue = false; status = status; dw0 = dw0 }
 
--- a candidate that an Abort command aborted
-abbrev pub requested : ℕ → Candidate → Ready
-requested r c = record { region = r; index = c.index; entry = c.entry; with_queue = false; status = abort_requested; dw0 = 0 }
+-- a command of an I/O queue that has its result
+abbrev pub done : (sqid : ℕ) → Dispatched → StatusCode → Ready
+done sqid d status = record { place = d.place; sqid = sqid; cid = d.entry.cid; with_queue = false; status = status; dw0 = 0 }
+
+-- a candidate of a queue that was aborted with the queue
+abbrev pub aborted : (sqid r : ℕ) → Candidate → Ready
+aborted sqid r c = record { place = place_at r c.index; sqid = sqid; cid = c.entry.cid; with_queue = true; status = aborted_by_deletion; dw0 = 0 }
+
+-- a candidate of a queue that an Abort command aborted
+abbrev pub requested : (sqid r : ℕ) → Candidate → Ready
+requested sqid r c = record { place = place_at r c.index; sqid = sqid; cid = c.entry.cid; with_queue = false; status = abort_requested; dw0 = 0 }
 
 -- the oldest candidate of a window with a command identifier
 abbrev pub oldest_named : ℕ → List Candidate → Option Candidate

@@ -14,7 +14,7 @@ loop-preserved c =
     let oldest = c.in-Some.ensures.value ∙ ap (λ z. slice_get z.items 0) i.window in
     record {
       window = left_more xs n c.in-Some.candidate oldest c.args.window.now c.loop.window c.pop.new.self refl i.window c.in-Some.ensures.rest c.in-Some.ensures.room;
-      ready = gained_more xs n c.in-Some.candidate oldest (aborted c.args.region) c.args.ready.now c.loop.ready c.push.new.self _ i.ready refl c.push.ensures;
+      ready = gained_more xs n c.in-Some.candidate oldest (aborted c.args.qid c.args.region) c.args.ready.now c.loop.ready c.push.new.self _ i.ready c.aborted_with_queue.ensures c.push.ensures;
       log = c.note.ensures.items ∙ made_more xs n c.in-Some.candidate oldest (λ (a : Candidate). Abort c.args.region a.index) c.args.log.now.items c.loop.log.items _ i.log refl;
       room = let a = i.room in let b = c.note.ensures.room in omega arith;
       count = i.count;

@@ -1,6 +1,6 @@
 use Rattle.std.proofs.Common.{ℕ, [], ◌∷◌, ◌++◌, refl, sym, ap, ◌∙◌, arith}
 use Rattle.nvme_state.specs.declared.candidate.Candidate.{Candidate}
-use Rattle.nvme_state.specs.declared.candidate.Ready.{Ready}
+use Rattle.nvme_state.specs.declared.ready.Ready.{Ready}
 use Rattle.std.proofs.lemmas.Option.{same_Some}
 use Rattle.nvme_admin.specs.declared.verdict.SqEntry.{SqEntry}
 use Rattle.nvme_state.specs.inside.Fifo.{FifoView}
@@ -91,7 +91,7 @@ returns-clause-aborted c = λ _.
     aborts_found _ _ _ _ _ c.requires.applied.2 _ (sym c.sq.ensures ∙ c.in-Some.is) c.if-sqid-eq0.false _ c.from.ensures _ c.index_mut-sq.ensures.value
     _ _ _ c.in-Some-take_named.found _ _ _ c.in-Some-queue.is c.from-2.ensures c.in-Some-take_named.ensures.value c.take_named.ensures.rest refl
     c.index_mut.ensures.value
-    (c.push.ensures ∙ ap (λ (t : Ready). record c.index_mut.result.now.ready { items = c.index_mut.result.now.ready.items ++ t ∷ [] }) c.requested.ensures)
+    (c.push.ensures ∙ ap (λ (t : Ready). record c.index_mut.result.now.ready { items = c.index_mut.result.now.ready.items ++ t ∷ [] }) c.aborted.ensures)
     refl c.note.ensures.items c.went.ensures.went c.went.ensures.stands refl refl refl refl
 
 pub returns-clause-goes : goal.returns-clause-goes

@@ -1,4 +1,5 @@
-use Rattle.std.proofs.Common.{refl, sym, ap, ◌∙◌, [], ◌∷◌, arith, length, length-append}
+use Rattle.std.proofs.Common.{refl, sym, ap, ◌∙◌, [], ◌∷◌, Some, arith, length, length-append}
+use Rattle.nvme_log.specs.declared.place.Place.{Place}
 use Rattle.nvme_log.specs.declared.event.Event.TheVariants.{Closing}
 use Rattle.nvme_front.proofs.Comes.{gets-set}
 use Rattle.nvme_front.proofs.AppliedStates.{has_room, picks_noted}
@@ -70,7 +71,8 @@ pub returns-clause-consistent : goal.returns-clause-consistent
 returns-clause-consistent c =
     keeps_deleting _ _ _ _ c.requires.applied.1 _ (sym c.sq.ensures ∙ c.in-Some.is) _ c.from.ensures _ c.index_mut-sq.ensures.value _ _ _ _ _ _ _ _ c.args.self.now.board
     c.in-Some-queue.is c.from-2.ensures c.len.ensures.value c.abort_all.ensures.window refl c.index_mut-cq.ensures.value c.abort_all.ensures.ready refl
-    c.note.ensures.items c.abort_all.ensures.log c.close.ensures.closed refl
+    c.note.ensures.items c.abort_all.ensures.log c.close.ensures.closed
+    (ap (λ (p : Place). Some (record { place = p; cid = c.args.candidate.entry.cid; qid = c.args.qid; region = c.in-Some.queue.region })) c.place.ensures)
     (record { config = refl; alloc = refl; late = refl; table = refl; outstanding = refl; jobs = refl })
     (goes_deleting _ _ _ _ _ _ _ _ _ _ _ _ _ c.index_mut-sq.ensures.value c.abort_all.ensures.window refl c.index_mut-cq.ensures.value c.abort_all.ensures.ready refl
     c.note.ensures.items c.abort_all.ensures.log (record { config = refl; alloc = refl; late = refl; table = refl; outstanding = refl; jobs = refl }))

@@ -1,5 +1,6 @@
 -- The region of a deletion and its closing queue are known from what stands, and there is room for its answer.
 use Rattle.std.proofs.Common.{◌∙◌, [], ◌∷◌, ◌++◌, sym, refl, ap, arith}
+use Rattle.nvme_state.specs.declared.ready.Ready.{Ready}
 use Rattle.nvme_state.proofs.AfterSteps.{closed_event}
 use Rattle.nvme_front.proofs.States.{IsSame-refl}
 use Rattle.nvme_front.proofs.CloseOne.{deletion_there, deletion_closing, pending_held, region_has_room, region_unposted, closed-kept}
@@ -33,7 +34,7 @@ returns-clause-consistent c = closed-kept c.args.self.now _ c.args.deletion c.re
   all_posted = region_unposted c.args.self.now c.args.deletion.region c.index.result.now (deletion_there c.args.self.now c.args.deletion c.requires.consistent c.requires.admin c.requires.pending)
       (rw c.from.ensures at c.index.ensures) ∙ c.if-index-ne0.false;
   read = c.index_mut.ensures.value;
-  ready = c.push.ensures;
+  ready = c.push.ensures ∙ ap (λ (t : Ready). record c.index_mut.result.now.ready { items = c.index_mut.result.now.ready.items ++ t ∷ [] }) c.answered-answer.ensures;
   sqs = refl;
   cqs = refl;
   closes = c.finish_delete.ensures.stands;

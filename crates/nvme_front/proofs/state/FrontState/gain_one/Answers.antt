@@ -48,7 +48,7 @@ returns-clause-consistent c =
     gained-kept c.args.self.now _ c.in-Result.dispatched c.in-Result.ensures.0
     (is_gained c.args.self.now _ c.requires.consistent c.requires.admin c.gain.new.self c.in-Result.dispatched c.in-Result.ensures.0 c.in-Result.ensures.2
     c.index.result.now (rw c.from.ensures at c.index.ensures) c.in-Some.attachment c.in-Some.is c.from-2.result c.from-2.ensures
-    c.index_mut.result.now c.index_mut.ensures.value c.in-Result.status c.in-Result.ensures.1 c.push.new.self c.push.ensures)
+    c.index_mut.result.now c.index_mut.ensures.value c.in-Result.status c.in-Result.ensures.1 c.push.new.self _ c.push.ensures c.done.ensures)
     c.requires.consistent c.requires.admin
 
 pub returns-clause-goes : goal.returns-clause-goes
@@ -56,7 +56,7 @@ returns-clause-goes c =
     gained-goes c.args.self.now _ c.in-Result.dispatched c.in-Result.ensures.0
     (is_gained c.args.self.now _ c.requires.consistent c.requires.admin c.gain.new.self c.in-Result.dispatched c.in-Result.ensures.0 c.in-Result.ensures.2
     c.index.result.now (rw c.from.ensures at c.index.ensures) c.in-Some.attachment c.in-Some.is c.from-2.result c.from-2.ensures
-    c.index_mut.result.now c.index_mut.ensures.value c.in-Result.status c.in-Result.ensures.1 c.push.new.self c.push.ensures)
+    c.index_mut.result.now c.index_mut.ensures.value c.in-Result.status c.in-Result.ensures.1 c.push.new.self _ c.push.ensures c.done.ensures)
 
 pub returns-in-Nothing-clause-balanced : goal.returns-in-Nothing-clause-balanced
 returns-in-Nothing-clause-balanced c = balances-still c.args.self.now.config.spaces c.args.self.now.jobs c.gain.new.self c.in-Nothing.ensures.0

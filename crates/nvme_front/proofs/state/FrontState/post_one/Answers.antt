@@ -14,22 +14,16 @@ use Rattle.nvme_front.proofs.Loading.{posts-by}
 use Rattle.nvme_log.specs.declared.event.Event.{Event}
 use Rattle.nvme_log.specs.Loaded.{without_posts}
 use Rattle.nvme_front.proofs.state.FrontState.post_one.Goals as goal
-use Rattle.nvme_front.proofs.state.FrontState.post_one.Goals.{then-with_queue, else-with_queue}
+use Rattle.nvme_front.proofs.state.FrontState.post_one.Goals.{then-ready, else-ready}
 
 pub returns-in_default-clause-still : goal.returns-in_default-clause-still
 returns-in_default-clause-still c = λ _.
     (IsSame-refl c.args.self.now, inl (none_ready c.args.self.now c.args.c c.index-region.result.now c.requires.there (rw c.from.ensures at c.index-region.ensures) (sym c.front.ensures ∙ c.in_default.is)))
 
-pub completion_of-requires-clause-sq_there : goal.completion_of-requires-clause-sq_there
-completion_of-requires-clause-sq_there c =
+pub completion_of-cqe-requires-clause-sq_there : goal.completion_of-cqe-requires-clause-sq_there
+completion_of-cqe-requires-clause-sq_there c =
     (front_foremost c.args.self.now c.args.c c.index-region.result.now c.in-Some.ready c.requires.consistent c.requires.admin c.requires.there (rw c.from.ensures at c.index-region.ensures)
     (sym c.front.ensures ∙ c.in-Some.is)).there
-
-pub unreachable-requires : goal.unreachable-requires
-unreachable-requires c =
-    let f = front_foremost c.args.self.now c.args.c c.index-region.result.now c.in-Some.ready c.requires.consistent c.requires.admin c.requires.there (rw c.from.ensures at c.index-region.ensures)
-    (sym c.front.ensures ∙ c.in-Some.is) in
-    cc (f.attached, c.in_default-completion_of.ensures.none)
 
 pub post-requires : goal.post-requires
 post-requires c =
@@ -68,6 +62,13 @@ returns-then-not-post-clause-goes c =
       alloc = refl;
     })
 
+pub index_mut-sq-requires : goal.index_mut-sq-requires
+index_mut-sq-requires c =
+    let f = front_foremost c.args.self.now c.args.c c.index-region.result.now c.in-Some.ready c.requires.consistent c.requires.admin c.requires.there (rw c.from.ensures at c.index-region.ensures)
+    (sym c.front.ensures ∙ c.in-Some.is) in
+    let there = f.there in
+    omega (arith, there, c.args.self.now.sqs.ok.0, c.from-3.ensures)
+
 pub overflow_sub-sq : goal.overflow_sub-sq
 overflow_sub-sq c =
     let f = front_foremost c.args.self.now c.args.c c.index-region.result.now c.in-Some.ready c.requires.consistent c.requires.admin c.requires.there (rw c.from.ensures at c.index-region.ensures)
@@ -79,9 +80,9 @@ overflow_sub-self c =
     let f = front_foremost c.args.self.now c.args.c c.index-region.result.now c.in-Some.ready c.requires.consistent c.requires.admin c.requires.there (rw c.from.ensures at c.index-region.ensures)
     (sym c.front.ensures ∙ c.in-Some.is) in
     let few = f.outstanding in
-    elim c.if-with_queue.branch [
-      | then-with_queue w ↦ omega (arith, w.self-is)
-      | else-with_queue w ↦ let one = ap (λ (b : Bool). one_if (not b)) w.if-with_queue.false in omega (arith, w.self-is, few, one)
+    elim c.if-ready.branch [
+      | then-ready w ↦ omega (arith, w.self-is)
+      | else-ready w ↦ let one = ap (λ (b : Bool). one_if (not b)) w.if-ready.false in omega (arith, w.self-is, few, one)
     ]
 
 -- the front at the end
@@ -89,11 +90,11 @@ abbrev after : goal.After-note → FrontState
 after c = record c.args.self.now {
   sqs = with_item c.args.self.now.sqs c.from-3.result (record c.index_mut-sq.result.now { unposted = c.index_mut-sq.result.now.unposted - 1 });
   cqs = with_item c.args.self.now.cqs c.from-2.result c.post.new.self;
-  outstanding = c.args.self.now.outstanding - c.if-with_queue.self;
+  outstanding = c.args.self.now.outstanding - c.if-ready.self;
   log = c.note.new.log;
 }
 
-posted : (c : goal.After-note) → IsPosted c.args.self.now (after c) c.args.c c.in-Some.ready c.in-Some-completion_of.cqe
+posted : (c : goal.After-note) → IsPosted c.args.self.now (after c) c.args.c c.in-Some.ready c.completion_of-cqe.result
 posted c = record {
   d = c.index_mut-region.result.now;
   e = c.index_mut-sq.result.now;
@@ -103,7 +104,7 @@ posted c = record {
   sq_read = rw c.from-3.ensures at c.index_mut-sq.ensures.value;
   first = same_first c.args.self.now c.args.c c.index-region.result.now c.index_mut-region.result.now c.in-Some.ready c.requires.there (rw c.from.ensures at c.index-region.ensures)
       (rw c.from-2.ensures at c.index_mut-region.ensures.value) (sym c.front.ensures ∙ c.in-Some.is);
-  completion = c.in-Some-completion_of.ensures.some;
+  completion = c.completion_of-cqe.ensures;
   same_end = c.post.ensures.end;
   sent = c.post.ensures.sent c.if-not-post.false;
   ready = c.post.ensures.ready c.if-not-post.false;
@@ -111,11 +112,11 @@ posted c = record {
   sqs = ap (λ z. set c.args.self.now.sqs.items z (record c.index_mut-sq.result.now { unposted = c.index_mut-sq.result.now.unposted - 1 })) c.from-3.ensures;
   cqs = ap (λ z. set c.args.self.now.cqs.items z c.post.new.self) c.from-2.ensures;
   outstanding = ap (λ z. c.args.self.now.outstanding - z)
-      (elim c.if-with_queue.branch [
-        | then-with_queue w ↦ w.self-is ∙ sym (ap (λ (b : Bool). one_if (not b)) w.if-with_queue.true)
-        | else-with_queue w ↦ w.self-is ∙ sym (ap (λ (b : Bool). one_if (not b)) w.if-with_queue.false)
+      (elim c.if-ready.branch [
+        | then-ready w ↦ w.self-is ∙ sym (ap (λ (b : Bool). one_if (not b)) w.if-ready.true)
+        | else-ready w ↦ w.self-is ∙ sym (ap (λ (b : Bool). one_if (not b)) w.if-ready.false)
       ]);
-  log = c.note.ensures.items ∙ ap (λ z. z ++ post_event c.args.c c.in-Some.ready c.in-Some-completion_of.cqe ∷ []) c.make_room.ensures.same;
+  log = c.note.ensures.items ∙ ap (λ z. z ++ post_event c.args.c c.in-Some.ready c.completion_of-cqe.result ∷ []) c.make_room.ensures.same;
   room = c.in_ok-make_room.ensures.within;
   board = refl;
   table = refl;
@@ -127,10 +128,10 @@ posted c = record {
 }
 
 pub returns-clause-consistent : goal.returns-clause-consistent
-returns-clause-consistent c = posted-kept c.args.self.now (after c) c.args.c c.in-Some.ready c.in-Some-completion_of.cqe c.requires.consistent c.requires.admin (posted c)
+returns-clause-consistent c = posted-kept c.args.self.now (after c) c.args.c c.in-Some.ready c.completion_of-cqe.result c.requires.consistent c.requires.admin (posted c)
 
 pub returns-clause-goes : goal.returns-clause-goes
-returns-clause-goes c = posted-goes c.args.self.now (after c) c.args.c c.in-Some.ready c.in-Some-completion_of.cqe (posted c)
+returns-clause-goes c = posted-goes c.args.self.now (after c) c.args.c c.in-Some.ready c.completion_of-cqe.result (posted c)
 
 pub returns-clause-picks : goal.returns-clause-picks
 returns-clause-picks c = picks-noted _ _ _ _ c.make_room.ensures.same c.note.ensures.items refl
