@@ -1,5 +1,6 @@
 // Makes the picks of arbitration, and takes the commands that they pick.
-ghost use Rattle.std.specs.Prelude.{◌≡◌, ℕ, IfOk, IfErr};
+ghost use Rattle.std.specs.Prelude.{◌≡◌, ℕ, Some, IfOk, IfErr};
+ghost use Rattle.nvme_log.specs.Aborts.{is_abort_entry};
 ghost use Rattle.nvme_arbiter.specs.Queues.{seen_of};
 ghost use Rattle.nvme_front.specs.declared.front.FrontError.TheVariants.{NoMemory};
 ghost use Rattle.nvme_entry.specs.AdminCommand.{admin_command_of};
@@ -38,6 +39,13 @@ fn observed(alloc: Global, board: &Board) -> Result<Listed<Seen>, FrontError>
     }
 }
 
+// Whether an admin command is an Abort.
+fn is_abort(entry: &Sqe) -> bool
+    ensures { result ≡ is_abort_entry (Some entry.now) }
+{
+    matches!(admin_of(entry), AdminCommand::Abort { .. })
+}
+
 impl FrontState {
     ghost use Rattle.std.specs.Prelude.{◌≡◌, ◌≢◌, ◌⊎◌, ◌+◌, ◌<◌, ◌≤◌, length, None, IsSome, OnOk, IfSome, IfErr, OnErr};
     ghost use Rattle.nvme_log.specs.Aborts.{is_abort_entry};
@@ -51,14 +59,13 @@ impl FrontState {
     ghost use Rattle.nvme_front.specs.declared.front.Step.TheVariants as step;
     ghost use Rattle.nvme_arbiter.specs.declared.pick.Pick.{Pick};
 
-    // Whether the oldest candidate of the admin queue is an Abort command. (Base Specification, Opcodes for Admin
-    // Commands)
+    // Whether the oldest candidate of the admin queue is an Abort command.
     fn is_abort_next(&self) -> bool
         requires admin { HasAdmin self.now }
         ensures { result ≡ is_abort_entry (oldest_admin self.now.sqs.items) }
     {
         match self.sqs[0].window.front() {
-            Some(candidate) => candidate.entry.opcode == 0x08,
+            Some(candidate) => is_abort(&candidate.entry),
             None => false,
         }
     }
