@@ -22,7 +22,7 @@ impl Model for Arbiter {
 }
 
 impl Arbiter {
-    ghost use Rattle.std.specs.Prelude.{◌≡◌, ◌↔◌, [], ◌∷◌, List, Option, IsNone, IfSome, MatchOption};
+    ghost use Rattle.std.specs.Prelude.{◌≡◌, ◌↔◌, [], ◌∷◌, List, Option, Some, IsNone, IfSome, MatchOption};
     ghost use Rattle.nvme_arbiter.specs.Settings.{ArbitrationFields};
     ghost use Rattle.nvme_arbiter.specs.Observation.{IsObservation, IsIdle, class_in};
     ghost use Rattle.nvme_arbiter.specs.History.{History, Picked, Changed};
@@ -77,7 +77,19 @@ impl Arbiter {
         ensures kept { MatchOption result (self.new ≡ self.old) (λ pick. self.new ≡ kept_after self.old.mechanism self.old (class_in seen.now pick.qid) pick) }
         ensures none_changes_nothing { IsNone result → self.new ≡ self.old }
     {
-        self.kept.pick(&seen)
+        let pick = self.peek(seen)?;
+        self.keep(seen, pick);
+        Some(pick)
+    }
+
+    /// Keeps the pick that `peek` answers.
+    pub fn keep(&mut self, seen: &[Seen], pick: Pick)
+        requires observed { IsObservation seen.now }
+        requires peeked { pick_of self.old seen.now ≡ Some pick }
+        ensures stands { (mechanism : Mechanism) (first : ArbitrationFields) (past : History) → StandsAt mechanism first past self.old → StandsAt mechanism first (Picked seen.now pick ∷ past) self.new }
+        ensures kept { self.new ≡ kept_after self.old.mechanism self.old (class_in seen.now pick.qid) pick }
+    {
+        self.kept.keep(&seen, pick);
     }
 
     /// Takes new settings, which start a new round. The identifiers served last stay.

@@ -143,9 +143,21 @@ impl Board {
         ensures kept { MatchOption result (self.new.kept ≡ self.old.kept) (λ pick. self.new.kept ≡ kept_after self.old.kept.mechanism self.old.kept (class_in (seen_of self.old.queues) pick.qid) pick) }
         ensures is_board { IsBoard self.new }
     {
-        let pick = self.kept.pick(&self.queues)?;
-        self.queues.take(pick.qid, pick.n);
+        let pick = self.peek()?;
+        self.keep(pick);
         Some(pick)
+    }
+
+    /// Keeps the pick that `peek` answers. As many commands of its queue wait no longer.
+    pub fn keep(&mut self, pick: Pick)
+        requires { pick_of self.old.kept (seen_of self.old.queues) ≡ Some pick }
+        ensures stands { (mechanism : Mechanism) (first : ArbitrationFields) (past : History) → BoardStandsAt mechanism first past self.old → BoardStandsAt mechanism first (Picked (seen_of self.old.queues) pick ∷ past) self.new }
+        ensures queues { self.new.queues ≡ queues_after self.old.queues pick }
+        ensures kept { self.new.kept ≡ kept_after self.old.kept.mechanism self.old.kept (class_in (seen_of self.old.queues) pick.qid) pick }
+        ensures is_board { IsBoard self.new }
+    {
+        self.kept.keep(&self.queues, pick);
+        self.queues.take(pick.qid, pick.n);
     }
 
     /// Takes new settings, which start a new round. The identifiers served last and the queues stay.

@@ -5,7 +5,7 @@ use crate::ready::ReadyQueues;
 use crate::settings::{Class, Mechanism};
 
 impl Kept {
-    ghost use Rattle.std.specs.Prelude.{◌≡◌, ◌↔◌, ◌∷◌, IsNone, MatchOption};
+    ghost use Rattle.std.specs.Prelude.{◌≡◌, ◌↔◌, ◌∷◌, Some, IsNone, MatchOption};
     ghost use Rattle.nvme_arbiter.specs.Settings.{ArbitrationFields, IsLevel};
     ghost use Rattle.nvme_arbiter.specs.Observation.{IsObservation, IsIdle, class_in};
     ghost use Rattle.nvme_arbiter.specs.History.{History, Picked};
@@ -25,8 +25,18 @@ impl Kept {
         ensures kept { MatchOption result (self.new ≡ self.old) (λ pick. self.new ≡ kept_after self.old.mechanism self.old (class_in (Q.seen queues.now) pick.qid) pick) }
     {
         let pick = self.peek(queues)?;
-        self.note(queues.class_of(pick.qid), pick);
+        self.keep(queues, pick);
         Some(pick)
+    }
+
+    /// Keeps the pick that `peek` answers.
+    pub fn keep<Q: ReadyQueues>(&mut self, queues: &Q, pick: Pick)
+        requires observed { IsObservation (Q.seen queues.now) }
+        requires peeked { pick_of self.old (Q.seen queues.now) ≡ Some pick }
+        ensures stands { (mechanism : Mechanism) (first : ArbitrationFields) (past : History) → StandsAt mechanism first past self.old → StandsAt mechanism first (Picked (Q.seen queues.now) pick ∷ past) self.new }
+        ensures kept { self.new ≡ kept_after self.old.mechanism self.old (class_in (Q.seen queues.now) pick.qid) pick }
+    {
+        self.note(queues.class_of(pick.qid), pick);
     }
 
     /// What `pick` would answer.

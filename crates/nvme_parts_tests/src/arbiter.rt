@@ -221,8 +221,19 @@ fn step(rt: &impl Abort, board: &mut Board, arbiter: &mut Arbiter) -> Option<Pic
     let peeked = board.peek();
     let picked = board.pick();
     assert_eq!(rt; peeked, picked);
-    assert_eq!(rt; arbiter.pick(seen.as_slice()), picked);
+    let peeked = arbiter.peek(seen.as_slice());
+    assert_eq!(rt; peeked, picked);
+    if let Some(pick) = peeked {
+        arbiter.keep(seen.as_slice(), pick);
+    }
     picked
+}
+
+// The next pick of a board, peeked and then kept.
+fn keep(board: &mut Board) -> Option<Pick> {
+    let pick = board.peek()?;
+    board.keep(pick);
+    Some(pick)
 }
 
 // The next picks of a board, and of the arbiter beside it, are these.
@@ -253,6 +264,15 @@ fn board_replays_two_rounds(rt: HostRuntime) {
     let mut arbiter = Arbiter::new(Mechanism::Weighted, Settings::from_cdw11(0x0301_0001));
     let mut board = board_of(&rt, Mechanism::Weighted, 0x0301_0001, &two_rounds());
     expect_on(&rt, &mut board, &mut arbiter, &two_rounds_picks());
+    assert!(rt; board.seen().iter().all(|queue| queue.count == 0));
+}
+
+#[test]
+fn board_keeps_what_it_peeked(rt: HostRuntime) {
+    let mut board = board_of(&rt, Mechanism::Weighted, 0x0301_0001, &two_rounds());
+    for &picked in &two_rounds_picks() {
+        assert_eq!(rt; keep(&mut board), picked);
+    }
     assert!(rt; board.seen().iter().all(|queue| queue.count == 0));
 }
 
