@@ -1,6 +1,6 @@
 -- What is known where a front picks.
 use Rattle.std.proofs.Common.{◌≡◌, ℕ, ◌+◌, ◌<◌, ◌≤◌, Bool, true, false, List, [], ◌∷◌, ◌++◌, map, length, get_or, Option, Some, None, refl, sym, ap, subst, ◌∙◌, arith, length-append}
-use Rattle.std.specs.Prelude.{if◌then◌else◌, IfSome}
+use Rattle.std.specs.Prelude.{if◌then◌else◌}
 use Rattle.std.proofs.lemmas.Bool.{ne_eqb}
 use Rattle.std.proofs.lemmas.List.{length-map, length-reverse}
 use Rattle.std.proofs.Math.Bridge.{le_prop}
@@ -9,6 +9,7 @@ use Rattle.nvme_arbiter.specs.Board.{BoardStandsAt}
 use Rattle.nvme_arbiter.specs.History.{History}
 use Rattle.nvme_arbiter.specs.Lawful.{lawful_pick}
 use Rattle.nvme_arbiter.specs.Queues.{seen_of}
+use Rattle.nvme_arbiter.proofs.Stands.{lawful as lawful_where_stands}
 use Rattle.nvme_arbiter.specs.declared.pick.Pick.{Pick}
 use Rattle.nvme_arbiter.specs.declared.pick.Seen.{Seen}
 use Rattle.nvme_arbiter.specs.declared.settings.Mechanism.{Mechanism}
@@ -77,9 +78,10 @@ with_few f few = record { mechanism = f.mechanism; settings = f.settings; limits
 pub config_by : (f : FrontConfig) (few : f.max_events ≤ most_events) → with_few f few ≡ f
 config_by f few = λ t. record { mechanism = f.mechanism; settings = f.settings; limits = f.limits; spaces = f.spaces; max_events = f.max_events; few_events = le_prop few f.few_events t }
 
--- what is required of the next pick holds of the pick that is made
-pub of_next : (s : FrontState) (pick : Pick) (P : Pick → Type 0) → Some pick ≡ next_pick s → IfSome (next_pick s) P → P pick
-of_next s pick P is h = subst (λ (o : Option Pick). IfSome o P) (sym is) h
+-- the next pick is the lawful one
+pub next_is_lawful : (s : FrontState) (pick : Pick) → next_pick s ≡ Some pick
+    → (m : Mechanism) (first : ArbitrationFields) (h : History) → BoardStandsAt m first h s.board → Some pick ≡ lawful_pick m first h (seen_of s.board.queues)
+next_is_lawful s pick next m first h stands = sym next ∙ lawful_where_stands m first h s.board.kept (seen_of s.board.queues) stands.stands
 
 -- a pick of an I/O queue needs a place for each command
 pub io_places : (sqs : List SqRegion) (pick : Pick) → (pick.qid ≡ 0 → ⊥) → places_in sqs pick ≡ pick.n

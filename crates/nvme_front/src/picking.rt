@@ -47,7 +47,7 @@ fn is_abort(entry: &Sqe) -> bool
 }
 
 impl FrontState {
-    ghost use Rattle.std.specs.Prelude.{◌≡◌, ◌≢◌, ◌⊎◌, ◌+◌, ◌<◌, ◌≤◌, length, None, IsSome, OnOk, IfSome, IfErr, OnErr};
+    ghost use Rattle.std.specs.Prelude.{◌≡◌, ◌≢◌, ◌⊎◌, ◌+◌, ◌<◌, ◌≤◌, length, Some, None, OnOk, IfErr, OnErr};
     ghost use Rattle.nvme_log.specs.Aborts.{is_abort_entry};
     ghost use Rattle.nvme_log.specs.Limits.{max_outstanding, admin_events};
     ghost use Rattle.nvme_front.specs.inside.Room.{IsConsistent};
@@ -83,14 +83,14 @@ impl FrontState {
         }
     }
 
-    // Picks from an I/O queue. The jobs of the picked commands are then to be handed over.
-    fn pick_io(&mut self) -> Result<(), FrontError>
+    // Makes the next pick, which is of an I/O queue. The jobs of the picked commands are then to be handed over.
+    fn pick_io(&mut self, pick: Pick) -> Result<(), FrontError>
         requires consistent { IsConsistent self.old }
         requires admin { HasAdmin self.old }
         requires none_pending { self.old.deletion ≡ None }
-        requires io { IfSome (next_pick self.old) (λ pick. pick.qid ≢ 0) }
-        requires places { IfSome (next_pick self.old) (λ pick. self.old.outstanding + pick.n ≤ max_outstanding) }
-        requires there { IsSome (next_pick self.old) }
+        requires next { next_pick self.old ≡ Some pick }
+        requires io { pick.qid ≢ 0 }
+        requires places { self.old.outstanding + pick.n ≤ max_outstanding }
         ensures consistent { IsConsistent self.new }
         ensures goes { Goes self.old self.new }
         ensures seat { self.new.jobs.hands.seat ≡ self.old.jobs.hands.seat }
@@ -105,9 +105,7 @@ impl FrontState {
     {
         make_room(&mut self.log, self.config.max_events, 1)?;
         let seen = observed(self.alloc, &self.board)?;
-        let Some(pick) = self.board.pick() else {
-            unreachable!()
-        };
+        self.board.keep(pick);
         let Some(queue) = self.table.sq(pick.qid) else {
             unreachable!()
         };
@@ -119,14 +117,14 @@ impl FrontState {
         Ok(())
     }
 
-    // Picks from the admin queue, and executes the command at once.
-    fn pick_admin(&mut self) -> Result<(), FrontError>
+    // Makes the next pick, which is of the admin queue, and executes the command at once.
+    fn pick_admin(&mut self, pick: Pick) -> Result<(), FrontError>
         requires consistent { IsConsistent self.old }
         requires admin { HasAdmin self.old }
         requires none_pending { self.old.deletion ≡ None }
-        requires of_admin { IfSome (next_pick self.old) (λ pick. pick.qid ≡ 0) }
-        requires places { IfSome (next_pick self.old) (λ pick. self.old.outstanding + places_in self.old.sqs.items pick ≤ max_outstanding) }
-        requires there { IsSome (next_pick self.old) }
+        requires next { next_pick self.old ≡ Some pick }
+        requires of_admin { pick.qid ≡ 0 }
+        requires places { self.old.outstanding + places_in self.old.sqs.items pick ≤ max_outstanding }
         ensures consistent { IsConsistent self.new }
         ensures goes { Goes self.old self.new }
         ensures seat { self.new.jobs.hands.seat ≡ self.old.jobs.hands.seat }
@@ -141,9 +139,7 @@ impl FrontState {
     {
         make_room(&mut self.log, self.config.max_events, ADMIN_EVENTS)?;
         let seen = observed(self.alloc, &self.board)?;
-        let Some(pick) = self.board.pick() else {
-            unreachable!()
-        };
+        self.board.keep(pick);
         let sq = &mut self.sqs[0];
         let Some(candidate) = sq.window.pop() else {
             unreachable!()
@@ -185,9 +181,9 @@ impl FrontState {
             return Ok(Step::Stalled);
         }
         if pick.qid == 0 {
-            self.pick_admin()?;
+            self.pick_admin(pick)?;
         } else {
-            self.pick_io()?;
+            self.pick_io(pick)?;
         }
         Ok(Step::Picked)
     }
