@@ -1,5 +1,5 @@
 -- Lists of slots, and the small words of the queue table.
-use Rattle.std.proofs.Common.{◌≡◌, ℕ, zero, suc, ◌+◌, ◌<◌, ◌≤◌, ◌==◌, ◌||◌, Bool, true, false, if◌then◌else◌, List, [], ◌∷◌, ◌++◌, length, get_or, set, take, replicate, Option, Some, None, IsSomeAnd, is_none, true≢false, refl, sym, ◌∙◌, ap, subst, arith, inl, inr, eq-eqb, get_or-set_same, get_or-set_other, take_all, add-one, option_to_list}
+use Rattle.std.proofs.Common.{◌≡◌, ℕ, zero, suc, ◌+◌, ◌<◌, ◌≤◌, ◌==◌, ◌||◌, Bool, true, false, if◌then◌else◌, List, [], ◌∷◌, ◌++◌, length, get_or, set, take, replicate, Option, Some, None, IsSomeAnd, refl, sym, ◌∙◌, ap, subst, arith, inl, inr, eq-eqb, get_or-set_same, get_or-set_other, take_all, add-one, option_to_list}
 use Rattle.std.specs.List.{list_any}
 use Rattle.std.proofs.lemmas.Bool.{cases_eq}
 use Rattle.std.proofs.lemmas.Bool.Decides.{nat_tests}
@@ -35,11 +35,6 @@ pub list_any-below : {A : Type 0} (p : A → Bool) (xs : List A) (d : A) (n : �
 list_any-below p xs d n e =
     let full : length xs ≤ n = omega arith in
     ap (list_any p) (sym (take_all n xs full)) ∙ list_any-take p xs d n (omega arith)
-
--- a slot that isn't empty is filled
-pub some-there : {A : Type 0} (o : Option A) → is_none o ≡ false → (x : A) × (o ≡ Some x)
-some-there None h = absurd (true≢false h)
-some-there (Some x) h = (x, refl)
 
 -- what a slot that is filled by a closing queue holds
 pub closing_some : (o : Option SqEntry) → IsSomeAnd o (λ queue. queue.closing ≡ true) → (queue : SqEntry) × (o ≡ Some queue) × (queue.closing ≡ true)

@@ -1,6 +1,7 @@
 pub mod Accepted
 pub mod Changes
 pub mod Checks
+pub mod Effects
 pub mod Examples
 pub mod History
 pub mod Laws

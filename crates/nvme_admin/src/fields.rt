@@ -4,6 +4,7 @@ mod delete;
 mod features;
 
 use crate::bounds::{MAX_REGIONS, MAX_SLOTS, MIN_SLOTS};
+use crate::effect::Effect;
 use crate::layout::{Allotted, CqPlace, Flag, Regions, SettingsWord, SqPlace};
 use crate::limits::Limits;
 use crate::region::{AdminError, Region};
@@ -40,6 +41,7 @@ impl TableFields {
     ghost use Rattle.nvme_admin.specs.Checks.{status_in, dw0_in, is_success, status_over, verdict_by};
     ghost use Rattle.nvme_admin.specs.Changes.{admin_queue};
     ghost use Rattle.nvme_admin.specs.Steps.{table_after, empty_table};
+    ghost use Rattle.nvme_admin.specs.Effects.{verdict_in, NamesRegions};
     ghost use Rattle.nvme_admin.specs.Standing.{Does, StandsAt, Shows, IsSized, table_of, sq_of, cq_of, used_at, region_fault};
 
     /// A table with no region, within the limits, with the settings of the Arbitration feature.
@@ -194,9 +196,10 @@ impl TableFields {
     {}
 
     // What an entry does, FUSE aside.
-    fn run(&mut self, command: AdminCommand) -> Verdict
-        ensures does { Does (view_of self.old) (view_of self.new) command result }
-        ensures unchanged { is_success (status_in result) ≡ false → self.new ≡ self.old }
+    fn run(&mut self, command: AdminCommand) -> Effect
+        ensures does { Does (view_of self.old) (view_of self.new) command (verdict_in result) }
+        ensures regions { NamesRegions (view_of self.old) result }
+        ensures unchanged { is_success (status_in (verdict_in result)) ≡ false → self.new ≡ self.old }
     {
         match command {
             AdminCommand::DeleteSq { qid } => self.delete_sq(qid),
@@ -215,11 +218,38 @@ impl TableFields {
                 prp1,
                 pc,
             } => self.create_cq(qid, qsize, prp1, pc),
-            AdminCommand::Abort { sqid, cid } => Verdict::Abort { sqid, cid },
+            AdminCommand::Abort { sqid, cid } => Effect::Abort { sqid, cid },
             AdminCommand::SetFeatures { fid, sv, cdw11 } => self.set_features(fid, sv, cdw11),
             AdminCommand::GetFeatures { fid } => self.get_features(fid),
-            AdminCommand::Other => Verdict::Done(Status::INVALID_OPCODE, 0),
+            AdminCommand::Other => Effect::Done(Status::INVALID_OPCODE, 0),
         }
+    }
+
+    /// Applies an admin entry, as `apply` does. The effect tells the verdict, and the regions of the
+    /// queues that it is about.
+    pub fn execute(&mut self, entry: &Sqe) -> Effect
+        ensures verdict { (start : Start) (h : TableHistory) →
+            StandsAt start (view_of self.old) h → verdict_in result ≡ verdict_of start h entry.now }
+        ensures status { (start : Start) (h : TableHistory) →
+            StandsAt start (view_of self.old) h → status_in (verdict_in result) ≡ status_of start h entry.now }
+        ensures dw0 { (start : Start) (h : TableHistory) →
+            StandsAt start (view_of self.old) h → dw0_in (verdict_in result) ≡ dw0_of start h entry.now }
+        ensures stands { (start : Start) (h : TableHistory) →
+            StandsAt start (view_of self.old) h → StandsAt start (view_of self.new) (EntryApplied entry.now ∷ h) }
+        ensures checked { status_in (verdict_in result) ≡ status_over (table_of (view_of self.old)) entry.now }
+        ensures answered { verdict_in result ≡ verdict_by (status_over (table_of (view_of self.old)) entry.now) (table_of (view_of self.new)) (admin_command_of entry.now) }
+        ensures accepted { is_success (status_in (verdict_in result)) ≡ true
+            → Shows (view_of self.new) (table_after (table_of (view_of self.old)) (admin_command_of entry.now)) }
+        ensures unchanged { is_success (status_in (verdict_in result)) ≡ false → self.new ≡ self.old }
+        ensures regions { NamesRegions (view_of self.old) result }
+        ensures sized { IsSized (view_of self.new) }
+    {
+        if entry.fuse() != 0 {
+            return Effect::Done(Status::INVALID_FIELD, 0);
+        }
+        let effect = self.run(admin_of(entry));
+        self.has_its_places();
+        effect
     }
 
     /// Applies an admin entry: checks it, and changes the table where it is accepted. A command whose
@@ -241,11 +271,6 @@ impl TableFields {
         ensures unchanged { is_success (status_in result) ≡ false → self.new ≡ self.old }
         ensures sized { IsSized (view_of self.new) }
     {
-        if entry.fuse() != 0 {
-            return Verdict::Done(Status::INVALID_FIELD, 0);
-        }
-        let verdict = self.run(admin_of(entry));
-        self.has_its_places();
-        verdict
+        self.execute(entry).verdict()
     }
 }

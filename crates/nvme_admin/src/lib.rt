@@ -2,6 +2,7 @@
 #![tactic(auto)]
 
 mod bounds;
+mod effect;
 mod fields;
 pub mod laws;
 mod layout;
@@ -11,6 +12,7 @@ mod table;
 mod verdict;
 
 pub use bounds::{MAX_IO_QUEUES, MAX_QSIZE, MAX_REGIONS, MAX_SLOTS, MIN_SLOTS};
+pub use effect::Effect;
 pub use fields::TableFields;
 pub use limits::Limits;
 pub use region::{AdminError, Region};

@@ -1,3 +1,4 @@
+use crate::effect::Effect;
 use crate::fields::TableFields;
 use crate::limits::Limits;
 use crate::region::AdminError;
@@ -32,6 +33,7 @@ impl Table {
     ghost use Rattle.nvme_admin.specs.Checks.{status_in, dw0_in, is_success, status_over, verdict_by};
     ghost use Rattle.nvme_admin.specs.Changes.{admin_queue};
     ghost use Rattle.nvme_admin.specs.Steps.{table_after, empty_table};
+    ghost use Rattle.nvme_admin.specs.Effects.{verdict_in, NamesRegions};
     ghost use Rattle.nvme_admin.specs.Standing.{StandsAt, Shows, IsSized, table_of, sq_of, cq_of, used_at, region_fault};
 
     /// A table with no region, within the limits, with the settings of the Arbitration feature.
@@ -120,6 +122,28 @@ impl Table {
         self.fields.add_cq_region(address, slots)
     }
 
+    /// Applies an admin entry, as `apply` does. The effect tells the verdict, and the regions of the
+    /// queues that it is about.
+    pub fn execute(&mut self, entry: &Sqe) -> Effect
+        ensures verdict { (start : Start) (h : TableHistory) →
+            StandsAt start self.old h → verdict_in result ≡ verdict_of start h entry.now }
+        ensures status { (start : Start) (h : TableHistory) →
+            StandsAt start self.old h → status_in (verdict_in result) ≡ status_of start h entry.now }
+        ensures dw0 { (start : Start) (h : TableHistory) →
+            StandsAt start self.old h → dw0_in (verdict_in result) ≡ dw0_of start h entry.now }
+        ensures stands { (start : Start) (h : TableHistory) →
+            StandsAt start self.old h → StandsAt start self.new (EntryApplied entry.now ∷ h) }
+        ensures checked { status_in (verdict_in result) ≡ status_over (table_of self.old) entry.now }
+        ensures answered { verdict_in result ≡ verdict_by (status_over (table_of self.old) entry.now) (table_of self.new) (admin_command_of entry.now) }
+        ensures accepted { is_success (status_in (verdict_in result)) ≡ true
+            → Shows self.new (table_after (table_of self.old) (admin_command_of entry.now)) }
+        ensures unchanged { is_success (status_in (verdict_in result)) ≡ false → self.new ≡ self.old }
+        ensures regions { NamesRegions self.old result }
+        ensures sized { IsSized self.new }
+    {
+        self.fields.execute(entry)
+    }
+
     /// Applies an admin entry: checks it, and changes the table where it is accepted. A command whose
     /// status isn't success changes nothing. A controller applies entries once region 0 of both kinds
     /// exists. (Base Specification, Admin Command Set)
@@ -139,7 +163,7 @@ impl Table {
         ensures unchanged { is_success (status_in result) ≡ false → self.new ≡ self.old }
         ensures sized { IsSized self.new }
     {
-        self.fields.apply(entry)
+        self.execute(entry).verdict()
     }
 
     /// Finishes the deletion of a submission queue, which must be closing. Its identifier is then free.

@@ -15,7 +15,7 @@ pub struct SqEntry {
     pub closing: bool,
 }
 
-/// The effect of an admin command. All but `Done` mean success, and all but `Done` and `Abort` mean 0 as DW0.
+/// The verdict on an admin command. All but `Done` mean success, and all but `Done` and `Abort` mean 0 as DW0.
 #[derive(Clone, Copy, Debug, PartialEq, Eq)]
 pub enum Verdict {
     /// Answer at once with this status and this DW0.

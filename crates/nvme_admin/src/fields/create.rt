@@ -4,10 +4,18 @@ ghost use Rattle.std.specs.Prelude.{◌≡◌};
 use super::TableFields;
 use super::checks::{free_region, is_bad_size};
 use crate::bounds::MAX_REGIONS;
+use crate::effect::Effect;
 use crate::layout::{CqPlace, Flag, SqPlace};
-use crate::verdict::{SqEntry, Verdict};
+use crate::verdict::SqEntry;
 use nvme_arbiter::Class;
 use nvme_entry::{AdminCommand, Status};
+
+// Where a submission queue is created: its own region, and that of its completion queue.
+#[derive(Drop)]
+struct Placing {
+    region: u8,
+    cq_region: u8,
+}
 
 // The class of QPRIO, of two bits.
 fn class_of_qprio(qprio: u8) -> Class
@@ -28,6 +36,7 @@ impl TableFields {
     ghost use Rattle.nvme_admin.specs.QueueTable.{region_number};
     ghost use Rattle.nvme_admin.specs.Checks.{is_success, status_in};
     ghost use Rattle.nvme_admin.specs.Standing.{command_status, sq_of, cq_of, Does};
+    ghost use Rattle.nvme_admin.specs.Effects.{verdict_in, NamesRegions};
 
     // Whether a completion queue can't be created under an identifier.
     fn is_bad_cq(&self, qid: u16) -> bool
@@ -77,7 +86,7 @@ impl TableFields {
         }
     }
 
-    // The checks of Create I/O Submission Queue: the number of the region, or the status.
+    // The checks of Create I/O Submission Queue: the regions, or the status.
     fn check_create_sq(
         &self,
         qid: u16,
@@ -86,11 +95,12 @@ impl TableFields {
         cqid: u16,
         qprio: u8,
         pc: bool,
-    ) -> Result<u8, Status>
+    ) -> Result<Placing, Status>
         ensures passes { OnOk result (
             command_status (view_of self.now) (AdminCommand.CreateSq qid qsize prp1 cqid qprio pc) ≡ success) }
-        ensures region { IfOk result (λ k. region_number (view_of self.now).sq_regions prp1 ≡ Some k) }
-        ensures region_bound { IfOk result (λ k. k < MAX_REGIONS) }
+        ensures region { IfOk result (λ p. region_number (view_of self.now).sq_regions prp1 ≡ Some p.region) }
+        ensures region_bound { IfOk result (λ p. p.region < MAX_REGIONS) }
+        ensures cq_region { IfOk result (λ p. cq_of (view_of self.now) cqid ≡ Some p.cq_region) }
         ensures not_admin { OnOk result (qid ≢ 0) }
         ensures bound { OnOk result (qid < MAX_REGIONS) }
         ensures fails { IfErr result (λ s.
@@ -109,27 +119,28 @@ impl TableFields {
         if self.is_bad_cqid(cqid) {
             return Err(Status::INVALID_QUEUE_IDENTIFIER);
         }
-        if self.cq(cqid).is_none() {
+        let Some(cq_region) = self.cq(cqid) else {
             return Err(Status::COMPLETION_QUEUE_INVALID);
-        }
+        };
         match free_region(self.sq_regions.as_slice(), &self.sq_used, prp1, qsize + 1) {
-            Some(region) => Ok(region),
+            Some(region) => Ok(Placing { region, cq_region }),
             None => Err(Status::INVALID_FIELD),
         }
     }
 
     // Create I/O Completion Queue.
-    pub(super) fn create_cq(&mut self, qid: u16, qsize: u16, prp1: u64, pc: bool) -> Verdict
-        ensures does { Does (view_of self.old) (view_of self.new) (AdminCommand.CreateCq qid qsize prp1 pc) result }
-        ensures unchanged { is_success (status_in result) ≡ false → self.new ≡ self.old }
+    pub(super) fn create_cq(&mut self, qid: u16, qsize: u16, prp1: u64, pc: bool) -> Effect
+        ensures does { Does (view_of self.old) (view_of self.new) (AdminCommand.CreateCq qid qsize prp1 pc) (verdict_in result) }
+        ensures regions { NamesRegions (view_of self.old) result }
+        ensures unchanged { is_success (status_in (verdict_in result)) ≡ false → self.new ≡ self.old }
     {
         match self.check_create_cq(qid, qsize, prp1, pc) {
-            Err(status) => Verdict::Done(status, 0),
+            Err(status) => Effect::Done(status, 0),
             Ok(region) => {
                 self.cqs[usize::from(qid)] = CqPlace::of(Some(region));
                 self.cq_used[usize::from(region)] = Flag::of(true);
                 self.created = Flag::of(true);
-                Verdict::OpenCq { qid, region }
+                Effect::OpenCq { qid, region }
             }
         }
     }
@@ -143,13 +154,14 @@ impl TableFields {
         cqid: u16,
         qprio: u8,
         pc: bool,
-    ) -> Verdict
-        ensures does { Does (view_of self.old) (view_of self.new) (AdminCommand.CreateSq qid qsize prp1 cqid qprio pc) result }
-        ensures unchanged { is_success (status_in result) ≡ false → self.new ≡ self.old }
+    ) -> Effect
+        ensures does { Does (view_of self.old) (view_of self.new) (AdminCommand.CreateSq qid qsize prp1 cqid qprio pc) (verdict_in result) }
+        ensures regions { NamesRegions (view_of self.old) result }
+        ensures unchanged { is_success (status_in (verdict_in result)) ≡ false → self.new ≡ self.old }
     {
         match self.check_create_sq(qid, qsize, prp1, cqid, qprio, pc) {
-            Err(status) => Verdict::Done(status, 0),
-            Ok(region) => {
+            Err(status) => Effect::Done(status, 0),
+            Ok(Placing { region, cq_region }) => {
                 let class = class_of_qprio(qprio);
                 self.sqs[usize::from(qid)] = SqPlace::of(Some(SqEntry {
                     region,
@@ -159,10 +171,11 @@ impl TableFields {
                 }));
                 self.sq_used[usize::from(region)] = Flag::of(true);
                 self.created = Flag::of(true);
-                Verdict::OpenSq {
+                Effect::OpenSq {
                     qid,
                     region,
                     cqid,
+                    cq_region,
                     class,
                 }
             }

@@ -1,7 +1,8 @@
 use super::TableFields;
 use super::checks::any_attached;
+use crate::effect::Effect;
 use crate::layout::{CqPlace, SqPlace};
-use crate::verdict::{SqEntry, Verdict};
+use crate::verdict::SqEntry;
 use nvme_entry::{AdminCommand, Status};
 
 impl TableFields {
@@ -10,6 +11,7 @@ impl TableFields {
     ghost use Rattle.nvme_admin.specs.History.{Start, TableHistory, DeletionFinished};
     ghost use Rattle.nvme_admin.specs.Checks.{is_attached, is_success, status_in};
     ghost use Rattle.nvme_admin.specs.Standing.{table_of, sq_of, Does, StandsAt, IsSized};
+    ghost use Rattle.nvme_admin.specs.Effects.{verdict_in, NamesRegions};
 
     // Whether a submission queue, open or closing, is attached to a completion queue.
     fn is_attached_to(&self, cqid: u16) -> bool
@@ -19,12 +21,13 @@ impl TableFields {
     }
 
     // Delete I/O Submission Queue, which only begins the deletion.
-    pub(super) fn delete_sq(&mut self, qid: u16) -> Verdict
-        ensures does { Does (view_of self.old) (view_of self.new) (AdminCommand.DeleteSq qid) result }
-        ensures unchanged { is_success (status_in result) ≡ false → self.new ≡ self.old }
+    pub(super) fn delete_sq(&mut self, qid: u16) -> Effect
+        ensures does { Does (view_of self.old) (view_of self.new) (AdminCommand.DeleteSq qid) (verdict_in result) }
+        ensures regions { NamesRegions (view_of self.old) result }
+        ensures unchanged { is_success (status_in (verdict_in result)) ≡ false → self.new ≡ self.old }
     {
         if qid == 0 {
-            return Verdict::Done(Status::INVALID_QUEUE_IDENTIFIER, 0);
+            return Effect::Done(Status::INVALID_QUEUE_IDENTIFIER, 0);
         }
         match self.sq(qid) {
             Some(queue) if !queue.closing => {
@@ -32,25 +35,32 @@ impl TableFields {
                     closing: true,
                     ..queue
                 }));
-                Verdict::BeginDelete { qid }
+                Effect::BeginDelete {
+                    qid,
+                    region: queue.region,
+                }
             }
-            _ => Verdict::Done(Status::INVALID_QUEUE_IDENTIFIER, 0),
+            _ => Effect::Done(Status::INVALID_QUEUE_IDENTIFIER, 0),
         }
     }
 
     // Delete I/O Completion Queue.
-    pub(super) fn delete_cq(&mut self, qid: u16) -> Verdict
-        ensures does { Does (view_of self.old) (view_of self.new) (AdminCommand.DeleteCq qid) result }
-        ensures unchanged { is_success (status_in result) ≡ false → self.new ≡ self.old }
+    pub(super) fn delete_cq(&mut self, qid: u16) -> Effect
+        ensures does { Does (view_of self.old) (view_of self.new) (AdminCommand.DeleteCq qid) (verdict_in result) }
+        ensures regions { NamesRegions (view_of self.old) result }
+        ensures unchanged { is_success (status_in (verdict_in result)) ≡ false → self.new ≡ self.old }
     {
-        if qid == 0 || self.cq(qid).is_none() {
-            return Verdict::Done(Status::INVALID_QUEUE_IDENTIFIER, 0);
+        if qid == 0 {
+            return Effect::Done(Status::INVALID_QUEUE_IDENTIFIER, 0);
         }
+        let Some(region) = self.cq(qid) else {
+            return Effect::Done(Status::INVALID_QUEUE_IDENTIFIER, 0);
+        };
         if self.is_attached_to(qid) {
-            return Verdict::Done(Status::INVALID_QUEUE_DELETION, 0);
+            return Effect::Done(Status::INVALID_QUEUE_DELETION, 0);
         }
         self.cqs[usize::from(qid)] = CqPlace::of(None);
-        Verdict::CloseCq { qid }
+        Effect::CloseCq { qid, region }
     }
 
     /// Finishes the deletion of a submission queue, which must be closing: its identifier is free.

@@ -1,8 +1,8 @@
 use super::TableFields;
 use super::checks::is_bad_request;
+use crate::effect::Effect;
 use crate::layout::{Allotted, Flag, SettingsWord};
 use crate::limits::Limits;
-use crate::verdict::Verdict;
 use nvme_arbiter::Settings;
 use nvme_entry::{AdminCommand, Status};
 
@@ -17,6 +17,7 @@ impl TableFields {
     ghost use Rattle.nvme_admin.specs.QueueTable.{nsqr_of, ncqr_of};
     ghost use Rattle.nvme_admin.specs.Checks.{is_success, status_in, numbers_dw0};
     ghost use Rattle.nvme_admin.specs.Standing.{command_status, table_of, Does};
+    ghost use Rattle.nvme_admin.specs.Effects.{verdict_in, NamesRegions};
 
     // The checks of Set Features.
     fn check_set(&self, fid: u8, sv: bool, cdw11: u32) -> Result<(), Status>
@@ -63,36 +64,38 @@ impl TableFields {
     }
 
     // Set Features.
-    pub(super) fn set_features(&mut self, fid: u8, sv: bool, cdw11: u32) -> Verdict
-        ensures does { Does (view_of self.old) (view_of self.new) (AdminCommand.SetFeatures fid sv cdw11) result }
-        ensures unchanged { is_success (status_in result) ≡ false → self.new ≡ self.old }
+    pub(super) fn set_features(&mut self, fid: u8, sv: bool, cdw11: u32) -> Effect
+        ensures does { Does (view_of self.old) (view_of self.new) (AdminCommand.SetFeatures fid sv cdw11) (verdict_in result) }
+        ensures regions { NamesRegions (view_of self.old) result }
+        ensures unchanged { is_success (status_in (verdict_in result)) ≡ false → self.new ≡ self.old }
     {
         if let Err(status) = self.check_set(fid, sv, cdw11) {
-            return Verdict::Done(status, 0);
+            return Effect::Done(status, 0);
         }
         if fid == ARBITRATION {
             let settings = Settings::from_cdw11(cdw11);
             self.settings = SettingsWord::of(settings);
-            return Verdict::SetArbitration(settings);
+            return Effect::SetArbitration(settings);
         }
         if self.numbers_set.is_up() {
-            return Verdict::Done(Status::SUCCESS, self.numbers());
+            return Effect::Done(Status::SUCCESS, self.numbers());
         }
         let granted = self.granted(cdw11);
         self.nsq = Allotted::of(granted.nsq);
         self.ncq = Allotted::of(granted.ncq);
         self.numbers_set = Flag::of(true);
-        Verdict::Done(Status::SUCCESS, self.numbers())
+        Effect::Done(Status::SUCCESS, self.numbers())
     }
 
     // Get Features.
-    pub(super) fn get_features(&self, fid: u8) -> Verdict
-        ensures { Does (view_of self.now) (view_of self.now) (AdminCommand.GetFeatures fid) result }
+    pub(super) fn get_features(&self, fid: u8) -> Effect
+        ensures does { Does (view_of self.now) (view_of self.now) (AdminCommand.GetFeatures fid) (verdict_in result) }
+        ensures regions { NamesRegions (view_of self.now) result }
     {
         match fid {
-            ARBITRATION => Verdict::Done(Status::SUCCESS, self.settings.get().to_cdw11()),
-            NUMBER_OF_QUEUES => Verdict::Done(Status::SUCCESS, self.numbers()),
-            _ => Verdict::Done(Status::INVALID_FIELD, 0),
+            ARBITRATION => Effect::Done(Status::SUCCESS, self.settings.get().to_cdw11()),
+            NUMBER_OF_QUEUES => Effect::Done(Status::SUCCESS, self.numbers()),
+            _ => Effect::Done(Status::INVALID_FIELD, 0),
         }
     }
 }
