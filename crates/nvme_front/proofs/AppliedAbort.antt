@@ -12,6 +12,7 @@ use Rattle.nvme_arbiter.specs.declared.settings.Mechanism.{Mechanism}
 use Rattle.nvme_admin.specs.Standing.{sq_of}
 use Rattle.nvme_admin.specs.declared.verdict.SqEntry.{SqEntry}
 use Rattle.nvme_admin.specs.declared.verdict.Verdict.TheVariants as verdict
+use Rattle.nvme_admin.specs.declared.effect.Effect.TheVariants as effect
 use Rattle.nvme_log.specs.declared.event.Event.{Event}
 use Rattle.nvme_log.specs.declared.event.Event.TheVariants as event
 use Rattle.nvme_state.specs.declared.candidate.Candidate.{Candidate}
@@ -116,7 +117,7 @@ goes_told a m b d ready x goes same read e cqs =
     (ap (λ (xs : List SqRegion). map get_place (gets_of xs)) same.sqs) (ap (λ (xs : List SqRegion). map window_room xs) same.sqs)
     (ap (λ (xs : List SqRegion). map coming_at xs) same.sqs))
 
-module _ (a : FrontState) (candidate : Candidate) (sqid cid : ℕ) (closing : Option ℕ) (h : IsApplied a candidate (verdict.Abort sqid cid) closing) where
+module _ (a : FrontState) (candidate : Candidate) (sqid cid : ℕ) (h : IsApplied a candidate (effect.Abort sqid cid)) where
   -- ---- the table and the log
   -- no queue is closing in the table
   none_closing : (e : SqEntry) → sq_of a.table sqid ≡ Some e → e.closing ≡ false
@@ -125,7 +126,7 @@ module _ (a : FrontState) (candidate : Candidate) (sqid cid : ℕ) (closing : Op
     by false closes = refl
     by true closes =
         let before : sq_of h.before.table sqid ≡ Some e =
-        h.stands.tabled.stands.sq sqid ∙ sym (sqs_now a candidate (verdict.Abort sqid cid) closing h sqid) ∙ is in
+        h.stands.tabled.stands.sq sqid ∙ sym (sqs_now a candidate (effect.Abort sqid cid) h sqid) ∙ is in
         let pending = h.stands.deletion.closing_is sqid e before closes in
         let none : option_map (λ (d : PendingDelete). d.qid) h.before.deletion ≡ None = ap (option_map (λ (d : PendingDelete). d.qid)) h.can_pick.none_pending in
         let no = sym pending ∙ none in
@@ -133,7 +134,7 @@ module _ (a : FrontState) (candidate : Candidate) (sqid cid : ℕ) (closing : Op
 
   -- the open queue of the log is that of the table
   open_is : open_sq h.past sqid ≡ as_open (sq_of a.table sqid)
-  open_is = sqs_before a candidate (verdict.Abort sqid cid) closing h sqid ∙ ap as_open (sym (sqs_now a candidate (verdict.Abort sqid cid) closing h sqid))
+  open_is = sqs_before a candidate (effect.Abort sqid cid) h sqid ∙ ap as_open (sym (sqs_now a candidate (effect.Abort sqid cid) h sqid))
 
   -- so one of the table was open
   pub aborts_open : (e : SqEntry) → sq_of a.table sqid ≡ Some e → open_sq h.past sqid ≡ Some (queue_of e)
@@ -148,7 +149,7 @@ module _ (a : FrontState) (candidate : Candidate) (sqid cid : ℕ) (closing : Op
       let open_now : IsOpenEntry (sq_of a.table sqid) queue = open_entry (sq_of a.table sqid) queue (sym open_is ∙ target.1) in
       let now : oldest_named cid (sq_in a.sqs.items queue.region).window ≡ None =
       subst (λ (r : ℕ). oldest_named cid (sq_in a.sqs.items r).window ≡ None) open_now.region (none open_now.entry target.0 open_now.there) in
-      (now, subst (λ (s : SqContent). oldest_named cid s.window ≡ None) (named_region a candidate (verdict.Abort sqid cid) closing h sqid queue target.1 target.0) now)
+      (now, subst (λ (s : SqContent). oldest_named cid s.window ≡ None) (named_region a candidate (effect.Abort sqid cid) h sqid queue target.1 target.0) now)
 
   -- so the command makes no event
   none_made : HasNoneNamed a sqid cid → made_by h.past (verdict.Abort sqid cid) ≡ []
@@ -174,7 +175,7 @@ module _ (a : FrontState) (candidate : Candidate) (sqid cid : ℕ) (closing : Op
 
   -- its region, as it was before the pick
   found_region : (m : FrontState) (t : HasAborted a m sqid cid) → sq_in a.sqs.items t.entry.region ≡ h.before.sq t.entry.region
-  found_region m t = named_region a candidate (verdict.Abort sqid cid) closing h sqid (queue_of t.entry) (aborts_open t.entry t.in_table) t.io
+  found_region m t = named_region a candidate (effect.Abort sqid cid) h sqid (queue_of t.entry) (aborts_open t.entry t.in_table) t.io
 
   -- the event of the command
   found_made : (m : FrontState) (t : HasAborted a m sqid cid) → made_by h.past (verdict.Abort sqid cid) ≡ event.Abort t.entry.region t.found.index ∷ []
@@ -195,7 +196,7 @@ module _ (a : FrontState) (candidate : Candidate) (sqid cid : ℕ) (closing : Op
   found_chosen : (m : FrontState) (t : HasAborted a m sqid cid) → IsChosen (rules_of a) h.past h.before t.c h.picked m.board (verdict.Abort sqid cid)
   found_chosen m t = λ queue found is_target is_oldest.
       let one : queue_of t.entry ≡ queue = (let both = sym (found_target m t) ∙ is_target in cc) in
-      let board = board_is a candidate (verdict.Abort sqid cid) closing h in
+      let board = board_is a candidate (effect.Abort sqid cid) h in
       subst (λ (q : Queue). IsAbortChosen (rules_of a) h.before sqid cid t.c h.picked m.board q) one (record {
         attached = ap (λ (s : SqContent). s.queue) (sym (found_region m t)) ∙ t.attached;
         queues = t.board
@@ -212,7 +213,7 @@ module _ (a : FrontState) (candidate : Candidate) (sqid cid : ℕ) (closing : Op
       → b.cqs.items ≡ set m.cqs.items 0 (record d { ready = ready }) → IsConsistent b
   keeps_found m b t d ready x goes same read e is cqs =
       let made = found_made m t in
-      kept_applied a b candidate (verdict.Abort sqid cid) closing t.c m.board h (found_chosen m t)
+      kept_applied a b candidate (effect.Abort sqid cid) t.c m.board h (found_chosen m t)
       (same.log ∙ t.log ∙ ap (λ (es : List Event). a.log.items ++ es) (sym made))
       (kept_told m b d ready x (told_abort candidate 0) (admin-goes a m goes h.admin).1 same read e is cqs ∙ sym (found_after m t))
       (goes_told a m b d ready x goes same read e cqs) (same.table ∙ ap (λ (k : Content). k.table) t.kept) (rw made (omega arith))
@@ -226,7 +227,7 @@ module _ (a : FrontState) (candidate : Candidate) (sqid cid : ℕ) (closing : Op
       let nothing : (queue : Queue) (found : Candidate) → target_of h.past sqid ≡ Some queue → oldest_named cid (h.before.sq queue.region).window ≡ Some found
       → IsAbortChosen (rules_of a) h.before sqid cid 0 h.picked a.board queue =
       λ queue found is_target is_oldest. (let no = sym (none_there none queue is_target).1 ∙ is_oldest in absurd (cc no)) in
-      kept_applied a b candidate (verdict.Abort sqid cid) closing 0 a.board h nothing
+      kept_applied a b candidate (effect.Abort sqid cid) 0 a.board h nothing
       (same.log ∙ before.log ∙ sym (ap (λ (es : List Event). a.log.items ++ es) made ∙ append-nil a.log.items))
       (kept_told m b d ready x (told_abort candidate 1) (admin-goes a m goes h.admin).1 same read e is cqs
       ∙ ap (λ (k : Content). with_ready k 0 (told_abort candidate 1)) (same_content a m before) ∙ sym (none_after none))
@@ -260,32 +261,32 @@ module _ (a : FrontState) (candidate : Candidate) (sqid cid : ℕ) (closing : Op
 
   -- and where nothing was found
   pub none_fits : (m : FrontState) → IsSame a m → (d : CqRegion) → d ≡ get_or m.cqs.items 0 d → length d.ready.items < d.ready.room
-  none_fits m before d read = answer_fits a candidate (verdict.Abort sqid cid) closing h d (subst (λ (cqs : List CqRegion). d ≡ get_or cqs 0 d) before.cqs read)
+  none_fits m before d read = answer_fits a candidate (effect.Abort sqid cid) h d (subst (λ (cqs : List CqRegion). d ≡ get_or cqs 0 d) before.cqs read)
 
   -- ---- the abort
   module _ (e : SqEntry) (is : sq_of a.table sqid ≡ Some e) (io : sqid ≡ 0 → ⊥) where
     -- the queue is on the board, with the candidates of its window
     pub aborts_on_board : queue_at a.board.queues sqid ≡ Some (record { class = e.class; count = length (sq_in a.sqs.items e.region).window })
     aborts_on_board =
-        named_on_board a candidate (verdict.Abort sqid cid) closing h sqid (queue_of e) (aborts_open e is) io
+        named_on_board a candidate (effect.Abort sqid cid) h sqid (queue_of e) (aborts_open e is) io
         ∙ ap (λ (s : SqContent). Some (record { class = e.class; count = length s.window }))
-        (sym (named_region a candidate (verdict.Abort sqid cid) closing h sqid (queue_of e) (aborts_open e is) io))
+        (sym (named_region a candidate (effect.Abort sqid cid) h sqid (queue_of e) (aborts_open e is) io))
 
     -- its region is one of the front's
     pub aborts_there : (r : ℕ) → r ≡ e.region → r < length a.sqs.items
-    aborts_there = named_there a candidate (verdict.Abort sqid cid) closing h sqid (queue_of e) (aborts_open e is) io
+    aborts_there = named_there a candidate (effect.Abort sqid cid) h sqid (queue_of e) (aborts_open e is) io
 
     -- the region, as it is read
     module _ (r : ℕ) (same : r ≡ e.region) (s : SqRegion) (read : s ≡ get_or a.sqs.items r s) where
       -- it was opened for the queue
       pub aborts_attached : s.queue ≡ None → ⊥
-      aborts_attached = named_some a candidate (verdict.Abort sqid cid) closing h sqid (queue_of e) (aborts_open e is) io r same s read
+      aborts_attached = named_some a candidate (effect.Abort sqid cid) h sqid (queue_of e) (aborts_open e is) io r same s read
 
       pub aborts_posts : (x : Attachment) → s.queue ≡ Some x → (c : ℕ) → c ≡ x.cq_region → c < length a.cqs.items
-      aborts_posts = named_posts a candidate (verdict.Abort sqid cid) closing h sqid (queue_of e) (aborts_open e is) io r same s read
+      aborts_posts = named_posts a candidate (effect.Abort sqid cid) h sqid (queue_of e) (aborts_open e is) io r same s read
 
       pub aborts_unposted : s.unposted ≤ 255
-      aborts_unposted = named_unposted a candidate (verdict.Abort sqid cid) closing h sqid (queue_of e) (aborts_open e is) io r same s read
+      aborts_unposted = named_unposted a candidate (effect.Abort sqid cid) h sqid (queue_of e) (aborts_open e is) io r same s read
 
       -- the region that was read is that of the queue
       region_read : sq_in a.sqs.items e.region ≡ sq_content s
@@ -316,10 +317,10 @@ module _ (a : FrontState) (candidate : Candidate) (sqid cid : ℕ) (closing : Op
           → ((mechanism : Mechanism) (first : ArbitrationFields) (history : History) → BoardStandsAt mechanism first history a.board → BoardStandsAt mechanism first history b.board)
           → b.outstanding ≡ a.outstanding + 1 → b.table ≡ a.table → b.deletion ≡ a.deletion → b.jobs ≡ a.jobs → HasAborted a b sqid cid
       aborts_found b x c found w d ready at is_c oldest is_w sqs read_cq is_ready cqs log board stands outstanding table deletion jobs =
-          let attached = named_attached a candidate (verdict.Abort sqid cid) closing h sqid (queue_of e) (aborts_open e is) io in
-          let to = named_attachment a candidate (verdict.Abort sqid cid) closing h sqid (queue_of e) (aborts_open e is) io r same s read x at in
+          let attached = named_attached a candidate (effect.Abort sqid cid) h sqid (queue_of e) (aborts_open e is) io in
+          let to = named_attachment a candidate (effect.Abort sqid cid) h sqid (queue_of e) (aborts_open e is) io r same s read x at in
           let posts = aborts_posts x at c is_c in
-          let region = named_region a candidate (verdict.Abort sqid cid) closing h sqid (queue_of e) (aborts_open e is) io in
+          let region = named_region a candidate (effect.Abort sqid cid) h sqid (queue_of e) (aborts_open e is) io in
           let fewer = found_one cid s.window.items found (sym oldest) in
           let many : length (sq_in a.sqs.items e.region).window ≡ length s.window.items = ap (λ (z : SqContent). length z.window) region_read in
           let left : length (without_oldest cid (sq_in a.sqs.items e.region).window) ≡ length (without_oldest cid s.window.items) =

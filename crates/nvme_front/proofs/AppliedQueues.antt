@@ -5,7 +5,7 @@ use Rattle.std.proofs.lemmas.List.{get_or-set_other}
 use Rattle.nvme_arbiter.specs.Queues.{queue_at, fewer}
 use Rattle.nvme_arbiter.specs.declared.pick.OpenQueue.{OpenQueue}
 use Rattle.nvme_admin.specs.declared.verdict.SqEntry.{SqEntry}
-use Rattle.nvme_admin.specs.declared.verdict.Verdict.{Verdict}
+use Rattle.nvme_admin.specs.declared.effect.Effect.{Effect}
 use Rattle.nvme_state.specs.declared.candidate.Candidate.{Candidate}
 use Rattle.nvme_state.specs.declared.attachment.Attachment.{Attachment}
 use Rattle.nvme_state.specs.declared.region.SqRegion.{SqRegion}
@@ -26,7 +26,7 @@ use Rattle.nvme_front.proofs.AppliedTables.{same_sqs, same_cqs}
 abbrev pub queue_of : SqEntry → Queue
 queue_of e = record { region = e.region; cqid = e.cqid; class = e.class }
 
-module _ (a : FrontState) (candidate : Candidate) (v : Verdict) (closing : Option ℕ) (h : IsApplied a candidate v closing)
+module _ (a : FrontState) (candidate : Candidate) (did : Effect) (h : IsApplied a candidate did)
     (qid : ℕ) (queue : Queue) (was_open : open_sq h.past qid ≡ Some queue) (io : qid ≡ 0 → ⊥) where
   -- its region isn't that of the admin queue
   pub named_apart : queue.region ≡ 0 → ⊥
@@ -48,7 +48,7 @@ module _ (a : FrontState) (candidate : Candidate) (v : Verdict) (closing : Optio
   -- so its number is below theirs
   pub named_there : (r : ℕ) → r ≡ queue.region → r < length a.sqs.items
   named_there r same =
-      let all = same_sqs a candidate v closing h in
+      let all = same_sqs a candidate did h in
       let below = named_below in
       omega arith
 
@@ -86,7 +86,7 @@ module _ (a : FrontState) (candidate : Candidate) (v : Verdict) (closing : Optio
     named_posts x at c is_c =
         let to : x.cq_region ≡ named_attached.cq_region = ap (λ (y : Attachment). y.cq_region) (named_attachment x at) in
         let below = h.stands.queues.posts_there queue.region (record { qid = qid; cq_region = named_attached.cq_region }) named_attached.attached in
-        let all = same_cqs a candidate v closing h in
+        let all = same_cqs a candidate did h in
         omega arith
 
     -- its candidates are few

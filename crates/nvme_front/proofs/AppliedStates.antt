@@ -1,9 +1,10 @@
 -- What a front keeps after a picked admin command was carried out.
-use Rattle.std.proofs.Common.{◌≡◌, ℕ, ◌+◌, ◌<◌, ◌≤◌, List, [], ◌∷◌, ◌++◌, length, map, set, get_or, Option, refl, sym, ap, subst, ◌∙◌, arith}
+use Rattle.std.proofs.Common.{◌≡◌, ℕ, ◌+◌, ◌<◌, ◌≤◌, List, [], ◌∷◌, ◌++◌, length, map, set, get_or, refl, sym, ap, subst, ◌∙◌, arith}
 use Rattle.std.specs.Prelude.{reverse}
 use Rattle.std.proofs.lemmas.List.{length-append, length-set, nil_from_length}
 use Rattle.nvme_arbiter.specs.Board.{BoardView}
-use Rattle.nvme_admin.specs.declared.verdict.Verdict.{Verdict}
+use Rattle.nvme_admin.specs.declared.effect.Effect.{Effect}
+use Rattle.nvme_admin.specs.Effects.{verdict_in}
 use Rattle.nvme_pool.specs.Seat.{SameSeat}
 use Rattle.nvme_log.specs.declared.event.Event.{Event}
 use Rattle.nvme_log.specs.declared.event.Event.TheVariants as event
@@ -62,20 +63,20 @@ picks_noted xs ys es is none = let both : picks_in ys ≡ picks_in (xs ++ es) = 
 
 -- ---- what is kept
 -- what an applied command comes to is kept
-pub kept_applied : (a b : FrontState) (candidate : Candidate) (v : Verdict) (closing : Option ℕ) (c : ℕ) (board : BoardView) (h : IsApplied a candidate v closing)
-    → IsChosen (rules_of a) h.past h.before c h.picked board v
-    → b.log.items ≡ a.log.items ++ made_by h.past v
-    → content_of b ≡ after_admin h.past (content_of a) candidate c board v
-    → Goes a b → b.table ≡ a.table → length (made_by h.past v) ≤ 257
+pub kept_applied : (a b : FrontState) (candidate : Candidate) (did : Effect) (c : ℕ) (board : BoardView) (h : IsApplied a candidate did)
+    → IsChosen (rules_of a) h.past h.before c h.picked board (verdict_in did)
+    → b.log.items ≡ a.log.items ++ made_by h.past (verdict_in did)
+    → content_of b ≡ after_admin h.past (content_of a) candidate c board (verdict_in did)
+    → Goes a b → b.table ≡ a.table → length (made_by h.past (verdict_in did)) ≤ 257
     → IsConsistent b
-kept_applied a b candidate v closing c board h chosen log kept goes table few =
-    let many = length-append a.log.items (made_by h.past v) in
-    let now : length b.log.items ≡ length (a.log.items ++ made_by h.past v) = ap length log in
+kept_applied a b candidate did c board h chosen log kept goes table few =
+    let many = length-append a.log.items (made_by h.past (verdict_in did)) in
+    let now : length b.log.items ≡ length (a.log.items ++ made_by h.past (verdict_in did)) = ap length log in
     let room : length b.log.items ≤ b.config.max_events = rw goes.config (omega (arith, h.events_in_limit)) in
-    let past : past_of b ≡ admin_past h.past (event.Pick h.seen h.pick) v =
-    ap reverse log ∙ past-events (made_by h.past v) a.log.items ∙ ap (with_events (made_by h.past v)) h.past_is in
-    let is : content_of b ≡ after_admin h.past (applied_to h.before h.picked a.table) candidate c board v =
-    kept ∙ ap (λ (k : Content). after_admin h.past k candidate c board v) h.content_is in
+    let past : past_of b ≡ admin_past h.past (event.Pick h.seen h.pick) (verdict_in did) =
+    ap reverse log ∙ past-events (made_by h.past (verdict_in did)) a.log.items ∙ ap (with_events (made_by h.past (verdict_in did))) h.past_is in
+    let is : content_of b ≡ after_admin h.past (applied_to h.before h.picked a.table) candidate c board (verdict_in did) =
+    kept ∙ ap (λ (k : Content). after_admin h.past k candidate c board (verdict_in did)) h.content_is in
     let stands =
     stands-admin (rules_of a) a.late h.past h.before h.seen h.pick h.picked candidate h.rest a.table c board h.stands h.can_pick h.seen_is h.of_admin h.one h.can_apply
     (subst (IsChosen (rules_of a) h.past h.before c h.picked board) h.verdict_is chosen) in
@@ -88,9 +89,9 @@ kept_applied a b candidate v closing c board h chosen log kept goes table few =
 
 -- ---- an answer
 -- a completion region has room for all candidates of a queue, and one answer
-pub has_room : (a : FrontState) (candidate : Candidate) (v : Verdict) (closing : Option ℕ) (h : IsApplied a candidate v closing) (c : ℕ) (d : CqRegion)
+pub has_room : (a : FrontState) (candidate : Candidate) (did : Effect) (h : IsApplied a candidate did) (c : ℕ) (d : CqRegion)
     → c < length a.cqs.items → d ≡ get_or a.cqs.items c d → length d.ready.items + 256 ≤ d.ready.room
-has_room a candidate v closing h c d there read =
+has_room a candidate did h c d there read =
     let room = ready_room-is a h.roomy c d there read in
     let kept : cq_in a.cqs.items ≡ h.before.cq = ap (λ (k : Content). k.cq) h.content_is in
     let is : (h.before.cq c).ready ≡ d.ready.items = ap (λ (s : CqContent). s.ready) (sym (ap (λ (f : ℕ → CqContent). f c) kept) ∙ cq_in-read a.cqs.items c d there read) in
@@ -99,9 +100,9 @@ has_room a candidate v closing h c d there read =
     omega (arith, h.can_pick.places, h.one)
 
 -- so the answer of an admin command finds room
-pub answer_fits : (a : FrontState) (candidate : Candidate) (v : Verdict) (closing : Option ℕ) → IsApplied a candidate v closing → (d : CqRegion)
+pub answer_fits : (a : FrontState) (candidate : Candidate) (did : Effect) → IsApplied a candidate did → (d : CqRegion)
     → d ≡ get_or a.cqs.items 0 d → length d.ready.items < d.ready.room
-answer_fits a candidate v closing h d read = let room = has_room a candidate v closing h 0 d h.admin.1 read in omega arith
+answer_fits a candidate did h d read = let room = has_room a candidate did h 0 d h.admin.1 read in omega arith
 
 -- what is kept after some completions became ready in a completion region
 pub kept_readied : (a b : FrontState) (c : ℕ) (d : CqRegion) (ready : FifoView Ready) (ts : List Ready) → c < length a.cqs.items → d ≡ get_or a.cqs.items c d
@@ -148,20 +149,20 @@ goes_aborted a b r c n s w d ready ts es read room sqs read_cq is_ready cqs log 
     (ap (λ (xs : List SqRegion). map coming_at xs) sqs ∙ coming-set a.sqs.items r s (record s { window = w; unposted = n }) read refl)
 
 -- a command that was carried out is kept, where its answer became ready last
-pub kept_answered : (a b : FrontState) (candidate : Candidate) (v : Verdict) (closing : Option ℕ) (c : ℕ) (board : BoardView) (h : IsApplied a candidate v closing)
-    → IsChosen (rules_of a) h.past h.before c h.picked board v
-    → (d : CqRegion) (ready : FifoView Ready) (t : Ready) → d ≡ get_or a.cqs.items 0 d → ready ≡ record d.ready { items = d.ready.items ++ t ∷ [] } → t ≡ answered candidate v
-    → b.cqs.items ≡ set a.cqs.items 0 (record d { ready = ready }) → b.log.items ≡ a.log.items ++ made_by h.past v
-    → after_admin h.past (content_of a) candidate c board v ≡ with_ready (content_of (record b { cqs = a.cqs })) 0 (answered candidate v)
-    → Goes a b → b.table ≡ a.table → length (made_by h.past v) ≤ 257
+pub kept_answered : (a b : FrontState) (candidate : Candidate) (did : Effect) (c : ℕ) (board : BoardView) (h : IsApplied a candidate did)
+    → IsChosen (rules_of a) h.past h.before c h.picked board (verdict_in did)
+    → (d : CqRegion) (ready : FifoView Ready) (t : Ready) → d ≡ get_or a.cqs.items 0 d → ready ≡ record d.ready { items = d.ready.items ++ t ∷ [] } → t ≡ answered candidate (verdict_in did)
+    → b.cqs.items ≡ set a.cqs.items 0 (record d { ready = ready }) → b.log.items ≡ a.log.items ++ made_by h.past (verdict_in did)
+    → after_admin h.past (content_of a) candidate c board (verdict_in did) ≡ with_ready (content_of (record b { cqs = a.cqs })) 0 (answered candidate (verdict_in did))
+    → Goes a b → b.table ≡ a.table → length (made_by h.past (verdict_in did)) ≤ 257
     → IsConsistent b
-kept_answered a b candidate v closing c board h chosen d ready t read e is cqs log kept goes table few =
-    let answer : ready ≡ record d.ready { items = d.ready.items ++ answered candidate v ∷ [] } =
+kept_answered a b candidate did c board h chosen d ready t read e is cqs log kept goes table few =
+    let answer : ready ≡ record d.ready { items = d.ready.items ++ answered candidate (verdict_in did) ∷ [] } =
     e ∙ ap (λ (x : Ready). record d.ready { items = d.ready.items ++ x ∷ [] }) is in
-    kept_applied a b candidate v closing c board h chosen log
-    (kept_readied a b 0 d ready (answered candidate v ∷ []) h.admin.1 read answer cqs ∙ sym kept)
+    kept_applied a b candidate did c board h chosen log
+    (kept_readied a b 0 d ready (answered candidate (verdict_in did) ∷ []) h.admin.1 read answer cqs ∙ sym kept)
     goes table few
 
 -- the board is that after the pick
-pub board_is : (a : FrontState) (candidate : Candidate) (v : Verdict) (closing : Option ℕ) (h : IsApplied a candidate v closing) → a.board ≡ h.picked
-board_is a candidate v closing h = ap (λ (k : Content). k.board) h.content_is
+pub board_is : (a : FrontState) (candidate : Candidate) (did : Effect) (h : IsApplied a candidate did) → a.board ≡ h.picked
+board_is a candidate did h = ap (λ (k : Content). k.board) h.content_is

@@ -1,5 +1,5 @@
 -- What the table, the board and the regions say of an admin command that was applied.
-use Rattle.std.proofs.Common.{◌≡◌, ℕ, ◌<◌, ◌≤◌, true, false, List, [], ◌∷◌, ◌++◌, length, set, get_or, Option, Some, None, is_some, refl, sym, ap, subst, ◌∙◌, arith}
+use Rattle.std.proofs.Common.{◌≡◌, ℕ, ◌<◌, ◌≤◌, false, List, [], ◌∷◌, ◌++◌, length, set, get_or, Option, Some, None, refl, sym, ap, subst, ◌∙◌, arith}
 use Rattle.std.specs.Prelude.{option_map, slice_set}
 use Rattle.std.proofs.lemmas.List.{get_or-set_other, length-set}
 use Rattle.nvme_arbiter.specs.Limits.{highest_qid}
@@ -7,11 +7,13 @@ use Rattle.nvme_arbiter.specs.Queues.{queue_at, fewer}
 use Rattle.nvme_arbiter.specs.declared.pick.OpenQueue.{OpenQueue}
 use Rattle.nvme_arbiter.specs.declared.settings.Class.{Class}
 use Rattle.nvme_arbiter.specs.declared.settings.Class.TheVariants.{Admin}
-use Rattle.nvme_admin.specs.Accepted.{queue_table, sq_at, cq_at}
-use Rattle.nvme_admin.specs.Changes.{TellsChange, MayOpenSq, sq_after, cq_after}
-use Rattle.nvme_admin.specs.Standing.{sq_of, cq_of}
+use Rattle.nvme_admin.specs.Accepted.{queue_table, sq_at}
+use Rattle.nvme_admin.specs.Changes.{TellsChange, MayOpenSq, sq_after}
+use Rattle.nvme_admin.specs.Standing.{sq_of}
 use Rattle.nvme_admin.specs.declared.region.Region.{Region}
-use Rattle.nvme_admin.specs.declared.verdict.Verdict.{Verdict}
+use Rattle.nvme_admin.specs.declared.effect.Effect.{Effect}
+use Rattle.nvme_admin.specs.Effects.{verdict_in}
+use Rattle.nvme_admin.specs.declared.effect.Effect.TheVariants as effect
 use Rattle.nvme_admin.specs.declared.verdict.Verdict.TheVariants.{CloseCq}
 use Rattle.nvme_admin.specs.declared.verdict.Verdict.TheVariants as verdict
 use Rattle.nvme_admin.proofs.Changed.{TellsChange-entry}
@@ -38,26 +40,18 @@ use Rattle.nvme_front.proofs.States.{sq_in-set, sq_in-read}
 use Rattle.nvme_state.proofs.QueueWords.{at_same}
 use Rattle.nvme_state.proofs.QueueVerdicts.{few_queues}
 
-module _ (a : FrontState) (candidate : Candidate) (v : Verdict) (closing : Option ℕ) (h : IsApplied a candidate v closing) where
+module _ (a : FrontState) (candidate : Candidate) (did : Effect) (h : IsApplied a candidate did) where
   -- the verdict tells what its command changes
-  pub tells : TellsChange (rules_of a).start h.stands.tabled.history candidate.entry v
+  pub tells : TellsChange (rules_of a).start h.stands.tabled.history candidate.entry (verdict_in did)
   tells = subst (TellsChange (rules_of a).start h.stands.tabled.history candidate.entry) (sym h.verdict_is) (TellsChange-entry (rules_of a).start h.stands.tabled.history candidate.entry)
 
   -- the submission queues of the table, by those before the command
-  pub sqs_now : (q : ℕ) → sq_of a.table q ≡ sq_after v (sq_at (rules_of a).start h.stands.tabled.history) q
+  pub sqs_now : (q : ℕ) → sq_of a.table q ≡ sq_after (verdict_in did) (sq_at (rules_of a).start h.stands.tabled.history) q
   sqs_now q = h.can_apply.table_stands.sq q ∙ tells.sqs q
-
-  -- and the completion queues
-  cqs_now : (q : ℕ) → cq_of a.table q ≡ cq_after v (cq_at (rules_of a).start h.stands.tabled.history) q
-  cqs_now q = h.can_apply.table_stands.cq q ∙ tells.cqs q
 
   -- the queues of the log before the command are those of the table then
   pub sqs_before : (q : ℕ) → open_sq h.past q ≡ as_open (sq_at (rules_of a).start h.stands.tabled.history q)
   sqs_before q = h.stands.queues.sqs q ∙ ap as_open (h.stands.tabled.stands.sq q)
-
-  -- and so are the completion queues
-  cqs_before : (q : ℕ) → open_cq h.past q ≡ cq_at (rules_of a).start h.stands.tabled.history q
-  cqs_before q = h.stands.queues.cqs q ∙ h.stands.tabled.stands.cq q
 
   -- the submission regions are as many as before the pick
   pub same_sqs : length a.sqs.items ≡ h.before.nsq
@@ -68,43 +62,26 @@ module _ (a : FrontState) (candidate : Candidate) (v : Verdict) (closing : Optio
   same_cqs = ap (λ (k : Content). k.ncq) h.content_is
 
 -- ---- a completion queue is closed
--- a completion queue that is closed was open
-pub closes_some : (a : FrontState) (candidate : Candidate) (qid : ℕ) (closing : Option ℕ) → IsApplied a candidate (CloseCq qid) closing → closing ≡ None → ⊥
-closes_some a candidate qid closing h none =
-    let was = (tells a candidate (CloseCq qid) closing h).due.open_cq in
-    let is : ◌≡◌ {A = Option ℕ} None (cq_at (rules_of a).start h.stands.tabled.history qid) = sym none ∙ h.closing_is qid refl ∙ cqs_before a candidate (CloseCq qid) closing h qid in
-    let no : false ≡ true = ap (λ (o : Option ℕ). is_some o) is ∙ was in
-    cc
-
--- and the event names its region
-pub closes_made : (a : FrontState) (candidate : Candidate) (qid region : ℕ) (closing : Option ℕ) (h : IsApplied a candidate (CloseCq qid) closing) → closing ≡ Some region
+-- the event names its region
+pub closes_made : (a : FrontState) (candidate : Candidate) (qid region : ℕ) (h : IsApplied a candidate (effect.CloseCq qid region))
     → made_by h.past (CloseCq qid) ≡ event.ClosedCq qid region ∷ []
-closes_made a candidate qid region closing h is = ap (closed_cq_of qid) (sym (h.closing_is qid refl) ∙ is)
+closes_made a candidate qid region h = ap (closed_cq_of qid) (h.stands.queues.cqs qid ∙ h.names)
 
 -- ---- a submission queue is opened
-module _ (a : FrontState) (candidate : Candidate) (qid region cqid : ℕ) (class : Class) (closing : Option ℕ) (h : IsApplied a candidate (verdict.OpenSq qid region cqid class) closing) where
+module _ (a : FrontState) (candidate : Candidate) (qid region cqid cq_region : ℕ) (class : Class) (h : IsApplied a candidate (effect.OpenSq qid region cqid cq_region class)) where
   -- the queue may be opened over the table before the command
   may_open : MayOpenSq (queue_table (rules_of a).start h.stands.tabled.history) qid region cqid class
-  may_open = (tells a candidate (verdict.OpenSq qid region cqid class) closing h).due
+  may_open = (tells a candidate (effect.OpenSq qid region cqid cq_region class) h).due
 
-  -- the region of its completion queue is that which the table has after the command
-  pub opens_for : (c : ℕ) → cq_of a.table cqid ≡ Some c → open_cq h.past cqid ≡ Some c
-  opens_for c is =
-      cqs_before a candidate (verdict.OpenSq qid region cqid class) closing h cqid ∙ sym (cqs_now a candidate (verdict.OpenSq qid region cqid class) closing h cqid) ∙ is
-
-  -- which is open
-  pub opens_some : cq_of a.table cqid ≡ None → ⊥
-  opens_some none =
-      let is : ◌≡◌ {A = Option ℕ} None (cq_at (rules_of a).start h.stands.tabled.history cqid) =
-      sym none ∙ cqs_now a candidate (verdict.OpenSq qid region cqid class) closing h cqid in
-      let no : false ≡ true = ap (λ (o : Option ℕ). is_some o) is ∙ may_open.cq_open in
-      cc
+  -- the region of its completion queue is that of the log
+  pub opens_for : open_cq h.past cqid ≡ Some cq_region
+  opens_for = h.stands.queues.cqs cqid ∙ h.names
 
   -- its identifier is one that a board has
   pub opens_within : qid ≤ highest_qid
   opens_within =
       few_queues a.table h.can_apply.sized qid _
-      (sqs_now a candidate (verdict.OpenSq qid region cqid class) closing h qid
+      (sqs_now a candidate (effect.OpenSq qid region cqid cq_region class) h qid
       ∙ at_same qid qid (Some (record { region = region; cqid = cqid; class = class; closing = false })) (sq_at (rules_of a).start h.stands.tabled.history qid) refl)
 
   -- under which no queue is open on the board
@@ -129,7 +106,7 @@ module _ (a : FrontState) (candidate : Candidate) (qid region cqid : ℕ) (class
       let there = may_open.there in
       let table = ap (λ (xs : List Region). length xs) h.stands.tabled.stands.sq_regions in
       let count = h.stands.tabled.sq_count in
-      let same = same_sqs a candidate (verdict.OpenSq qid region cqid class) closing h in
+      let same = same_sqs a candidate (effect.OpenSq qid region cqid cq_region class) h in
       omega arith
 
 -- what is kept after a region was opened for a queue
@@ -167,17 +144,17 @@ pub record Stays (a b : FrontState) : Type 0 where
   pub jobs : b.jobs ≡ a.jobs
 
 -- a front with a submission queue more is kept
-pub keeps_opened : (a b : FrontState) (candidate : Candidate) (qid region cqid : ℕ) (class : Class) (closing : Option ℕ)
-    (h : IsApplied a candidate (verdict.OpenSq qid region cqid class) closing) (c r : ℕ) (s : SqRegion) (d : CqRegion) (ready : FifoView Ready) (t : Ready)
-    → cq_of a.table cqid ≡ Some c → r ≡ region
-    → s ≡ get_or a.sqs.items r s → b.sqs.items ≡ set a.sqs.items r (record s { queue = Some (record { qid = qid; cq_region = c }) })
+pub keeps_opened : (a b : FrontState) (candidate : Candidate) (qid region cqid cq_region : ℕ) (class : Class)
+    (h : IsApplied a candidate (effect.OpenSq qid region cqid cq_region class)) (r : ℕ) (s : SqRegion) (d : CqRegion) (ready : FifoView Ready) (t : Ready)
+    → r ≡ region
+    → s ≡ get_or a.sqs.items r s → b.sqs.items ≡ set a.sqs.items r (record s { queue = Some (record { qid = qid; cq_region = cq_region }) })
     → b.board ≡ record a.board { queues = slice_set a.board.queues qid (Some (record { class = class; count = 0 })) }
     → d ≡ get_or a.cqs.items 0 d → ready ≡ record d.ready { items = d.ready.items ++ t ∷ [] } → t ≡ answered candidate (verdict.OpenSq qid region cqid class)
     → b.cqs.items ≡ set a.cqs.items 0 (record d { ready = ready })
     → b.log.items ≡ a.log.items ++ event.OpenSq qid region cqid class ∷ [] → b.deletion ≡ a.deletion → Stays a b → Goes a b → IsConsistent b
-keeps_opened a b candidate qid region cqid class closing h c r s d ready t is same read sqs board read_cq e answer cqs log deletion stays goes =
-    let v : Verdict = verdict.OpenSq qid region cqid class in
-    let kept : content_of (record b { cqs = a.cqs }) ≡ with_opened (content_of a) qid region c class =
-    kept_opened a b qid r region c class s same (opens_there a candidate qid region cqid class closing h r same) read sqs board stays.table stays.outstanding deletion stays.jobs in
-    kept_answered a b candidate v closing c a.board h (opens_for a candidate qid region cqid class closing h c is) d ready t read_cq e answer cqs log
-    (ap (λ (k : Content). with_ready k 0 (answered candidate v)) (sym kept)) goes stays.table (omega arith)
+keeps_opened a b candidate qid region cqid cq_region class h r s d ready t same read sqs board read_cq e answer cqs log deletion stays goes =
+    let did : Effect = effect.OpenSq qid region cqid cq_region class in
+    let kept : content_of (record b { cqs = a.cqs }) ≡ with_opened (content_of a) qid region cq_region class =
+    kept_opened a b qid r region cq_region class s same (opens_there a candidate qid region cqid cq_region class h r same) read sqs board stays.table stays.outstanding deletion stays.jobs in
+    kept_answered a b candidate did cq_region a.board h (opens_for a candidate qid region cqid cq_region class h) d ready t read_cq e answer cqs log
+    (ap (λ (k : Content). with_ready k 0 (answered candidate (verdict_in did))) (sym kept)) goes stays.table (omega arith)

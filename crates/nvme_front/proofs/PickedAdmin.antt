@@ -2,11 +2,7 @@
 use Rattle.std.specs.Prelude.{slice_get, option_map, vec_capacity, ◌==◌, ◌&&◌, if◌then◌else◌}
 use Rattle.std.proofs.Common.{◌≡◌, ℕ, ◌+◌, ◌≤◌, Bool, true, false, List, [], ◌∷◌, ◌++◌, map, length, set, get_or, Option, Some, None, refl, sym, ap, subst, ◌∙◌, arith}
 use Rattle.std.proofs.lemmas.List.{length-set, length_push}
-use Rattle.nvme_entry.specs.Status.{StatusCode, success}
-use Rattle.nvme_entry.specs.AdminCommand.{admin_command_of}
 use Rattle.nvme_entry.specs.declared.submission.Sqe.{Sqe}
-use Rattle.nvme_entry.specs.declared.admin.AdminCommand.{AdminCommand}
-use Rattle.nvme_entry.specs.declared.admin.AdminCommand.TheVariants.{DeleteSq, CreateSq, DeleteCq, CreateCq, Abort, SetFeatures, GetFeatures, Other}
 use Rattle.nvme_arbiter.specs.Settings.{ArbitrationFields}
 use Rattle.nvme_arbiter.specs.Board.{BoardStandsAt, queues_after}
 use Rattle.nvme_arbiter.specs.History.{History, Picked}
@@ -16,13 +12,10 @@ use Rattle.nvme_arbiter.specs.declared.pick.Pick.{Pick}
 use Rattle.nvme_arbiter.specs.declared.pick.Seen.{Seen}
 use Rattle.nvme_arbiter.specs.declared.settings.Mechanism.{Mechanism}
 use Rattle.nvme_admin.specs.History.{Start, TableHistory, EntryApplied}
-use Rattle.nvme_admin.specs.QueueTable.{QueueTable, number_of_queues}
-use Rattle.nvme_admin.specs.Checks.{is_success, verdict_after, opened_sq, opened_cq, dw0_after}
-use Rattle.nvme_admin.specs.Accepted.{verdict_of, queue_table, status_of}
-use Rattle.nvme_admin.specs.Standing.{StandsAt, IsSized, cq_of}
-use Rattle.nvme_admin.specs.declared.verdict.SqEntry.{SqEntry}
-use Rattle.nvme_admin.specs.declared.verdict.Verdict.{Verdict}
-use Rattle.nvme_admin.specs.declared.verdict.Verdict.TheVariants as verdict
+use Rattle.nvme_admin.specs.Accepted.{verdict_of}
+use Rattle.nvme_admin.specs.Standing.{StandsAt, IsSized}
+use Rattle.nvme_admin.specs.declared.effect.Effect.{Effect}
+use Rattle.nvme_admin.specs.Effects.{verdict_in, NamesRegions}
 use Rattle.nvme_pool.specs.Seat.{SameSeat}
 use Rattle.nvme_log.specs.declared.event.Event.TheVariants as event
 use Rattle.nvme_state.specs.declared.candidate.Candidate.{Candidate}
@@ -56,41 +49,6 @@ use Rattle.nvme_front.proofs.PickedQueue.{picked_region, can_pick, past-picked}
 pub some_first : {X : Type 0} (xs : List X) → 1 ≤ length xs → slice_get xs 0 ≡ None → ⊥
 some_first [] some none = absurd (omega arith)
 some_first (x ∷ xs) some none = absurd (cc none)
-
--- ---- what deletes a completion queue
-not_opened_sq : (q qid : ℕ) (o : Option SqEntry) → opened_sq q o ≡ verdict.CloseCq qid → ⊥
-not_opened_sq q qid None h = absurd (cc h)
-not_opened_sq q qid (Some entry) h = absurd (cc h)
-
-not_opened_cq : (q qid : ℕ) (o : Option ℕ) → opened_cq q o ≡ verdict.CloseCq qid → ⊥
-not_opened_cq q qid None h = absurd (cc h)
-not_opened_cq q qid (Some region) h = absurd (cc h)
-
-not_set : (b : Bool) (dw0 qid : ℕ) (settings : ArbitrationFields) → (if b then verdict.Done success dw0 else verdict.SetArbitration settings) ≡ verdict.CloseCq qid → ⊥
-not_set true dw0 qid settings h = absurd (cc h)
-not_set false dw0 qid settings h = absurd (cc h)
-
--- an accepted command that closes a completion queue is its deletion
-closes_after : (t : QueueTable) (command : AdminCommand) (qid : ℕ) → verdict_after t command ≡ verdict.CloseCq qid → command ≡ DeleteCq qid
-closes_after t (CreateSq q qsize prp1 cqid qprio pc) qid h = absurd (not_opened_sq q qid (t.sq q) h)
-closes_after t (CreateCq q qsize prp1 pc) qid h = absurd (not_opened_cq q qid (t.cq q) h)
-closes_after t (DeleteSq q) qid h = absurd (cc h)
-closes_after t (DeleteCq q) qid h = cc h
-closes_after t (SetFeatures fid sv cdw11) qid h = absurd (not_set (fid == number_of_queues) (dw0_after t (SetFeatures fid sv cdw11)) qid t.settings h)
-closes_after t (GetFeatures fid) qid h = absurd (cc h)
-closes_after t (Abort sqid cid) qid h = absurd (cc h)
-closes_after t Other qid h = absurd (cc h)
-
-closes_by : (accepted : Bool) (status : StatusCode) (t : QueueTable) (command : AdminCommand) (qid : ℕ)
-    → (if accepted then verdict_after t command else verdict.Done status 0) ≡ verdict.CloseCq qid → command ≡ DeleteCq qid
-closes_by true status t command qid h = closes_after t command qid h
-closes_by false status t command qid h = absurd (cc h)
-
--- an entry that closes a completion queue is its deletion
-pub closes : (start : Start) (h : TableHistory) (entry : Sqe) (qid : ℕ) → verdict_of start h entry ≡ verdict.CloseCq qid → admin_command_of entry ≡ DeleteCq qid
-unfolding verdict_of
-closes start h entry qid e =
-    closes_by (is_success (status_of start h entry)) (status_of start h entry) (queue_table start (EntryApplied entry ∷ h)) (admin_command_of entry) qid e
 
 -- ---- the pick of the admin queue
 module _ (s : FrontState) (kept : IsConsistent s) (rules : FrontRules) {late : Bool} (st : Stands rules late (past_of s) (content_of s)) (admin : HasAdmin s) (none : s.deletion ≡ None) (pick : Pick)
@@ -177,11 +135,11 @@ module _ (s b : FrontState) (kept : IsConsistent s) (admin : HasAdmin s) (none :
       ap sq_in sqs ∙ sq_in-set s.sqs.items 0 (picked_region d 1) admin.0
       ∙ ap (λ (x : SqContent). put_sq (sq_in s.sqs.items) 0 (picked_sq x 1)) (sym (sq_in-read s.sqs.items 0 d admin.0 read))
 
-  module _ (v : Verdict) (closing : Option ℕ)
-      (verdict_is : (start : Start) (h : TableHistory) → StandsAt start s.table h → v ≡ verdict_of start h candidate.entry)
+  module _ (did : Effect)
+      (verdict_is : (start : Start) (h : TableHistory) → StandsAt start s.table h → verdict_in did ≡ verdict_of start h candidate.entry)
       (table_stands : (start : Start) (h : TableHistory) → StandsAt start s.table h → StandsAt start b.table (EntryApplied candidate.entry ∷ h))
       (sized : IsSized b.table)
-      (closed : (qid : ℕ) → admin_command_of candidate.entry ≡ DeleteCq qid → closing ≡ cq_of s.table qid) where
+      (names : NamesRegions s.table did) where
     roomy : IsRoomy b
     roomy =
         let start = (rules_of b).start in
@@ -194,7 +152,7 @@ module _ (s b : FrontState) (kept : IsConsistent s) (admin : HasAdmin s) (none :
         (omega (arith, ap length log, length_push s.log.items (event.Pick seen pick), ap (λ z. z.max_events) config, within))
 
     -- its command is applied
-    pub is_applied : IsApplied b candidate v closing
+    pub is_applied : IsApplied b candidate did
     is_applied =
         let start = (rules_of b).start in
         let h = before.tabled.history in
@@ -223,7 +181,7 @@ module _ (s b : FrontState) (kept : IsConsistent s) (admin : HasAdmin s) (none :
             second = due-second s kept (rules_of b) before admin none pick lawful zero_is d read candidate rest oldest places;
           };
           verdict_is = verdict_is start h stood;
-          closing_is = λ (qid : ℕ) e. closed qid (closes start h candidate.entry qid (sym (verdict_is start h stood) ∙ e)) ∙ sym (before.queues.cqs qid);
+          names = names;
           past_is = past-picked s b (event.Pick seen pick) log;
           content_is = λ t. record {
             sq = sqs_are t;

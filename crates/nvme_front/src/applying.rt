@@ -2,15 +2,15 @@
 use crate::executing::abort_all;
 use crate::logging::note;
 use crate::state::FrontState;
-use nvme_admin::Verdict;
+use nvme_admin::Effect;
 use nvme_arbiter::{Class, Settings};
 use nvme_entry::Status;
 use nvme_log::Event;
 use nvme_state::{Attachment, Candidate, PendingDelete, Ready};
 
 impl FrontState {
-    ghost use Rattle.std.specs.Prelude.{◌≡◌, ℕ, Option, true, false};
-    ghost use Rattle.nvme_admin.specs.declared.verdict.Verdict.TheVariants as verdict;
+    ghost use Rattle.std.specs.Prelude.{◌≡◌, true, false};
+    ghost use Rattle.nvme_admin.specs.declared.effect.Effect.TheVariants as effect;
     ghost use Rattle.nvme_state.specs.declared.candidate.Candidate.{Candidate};
     ghost use Rattle.nvme_front.specs.inside.Applied.{IsApplied, HasAborted, HasNoneNamed};
     ghost use Rattle.nvme_front.specs.inside.Room.{IsConsistent};
@@ -20,7 +20,7 @@ impl FrontState {
 
     // Makes the completion of an admin command ready.
     fn answer(&mut self, candidate: Candidate, status: Status, dw0: u32)
-        requires applied { (closing : Option ℕ) × IsApplied self.old candidate (verdict.Done status dw0) closing }
+        requires applied { IsApplied self.old candidate (effect.Done status dw0) }
         ensures consistent { IsConsistent self.new }
         ensures goes { Goes self.old self.new }
         ensures jobs { self.new.jobs ≡ self.old.jobs }
@@ -31,17 +31,22 @@ impl FrontState {
     }
 
     // Opens a submission queue with an empty window. (Create I/O Submission Queue)
-    fn open_sq(&mut self, candidate: Candidate, qid: u16, region: u8, cqid: u16, class: Class)
-        requires applied { (closing : Option ℕ) × IsApplied self.old candidate (verdict.OpenSq qid region cqid class) closing }
+    fn open_sq(
+        &mut self,
+        candidate: Candidate,
+        qid: u16,
+        region: u8,
+        cqid: u16,
+        cq_region: u8,
+        class: Class,
+    )
+        requires applied { IsApplied self.old candidate (effect.OpenSq qid region cqid cq_region class) }
         ensures consistent { IsConsistent self.new }
         ensures goes { Goes self.old self.new }
         ensures jobs { self.new.jobs ≡ self.old.jobs }
         ensures gets { gets_of self.new.sqs.items ≡ gets_of self.old.sqs.items }
         ensures picks { picks_in self.new.log.items ≡ picks_in self.old.log.items }
     {
-        let Some(cq_region) = self.table.cq(cqid) else {
-            unreachable!()
-        };
         self.board.open(qid, class);
         self.sqs[usize::from(region)].queue = Some(Attachment { qid, cq_region });
         note(
@@ -60,7 +65,7 @@ impl FrontState {
 
     // Opens a completion queue. (Create I/O Completion Queue)
     fn open_cq(&mut self, candidate: Candidate, qid: u16, region: u8)
-        requires applied { (closing : Option ℕ) × IsApplied self.old candidate (verdict.OpenCq qid region) closing }
+        requires applied { IsApplied self.old candidate (effect.OpenCq qid region) }
         ensures consistent { IsConsistent self.new }
         ensures goes { Goes self.old self.new }
         ensures jobs { self.new.jobs ≡ self.old.jobs }
@@ -73,18 +78,15 @@ impl FrontState {
             .push(candidate.answered(Status::SUCCESS, 0));
     }
 
-    // Closes a completion queue, which was open on the region `closing`. (Delete I/O Completion Queue)
-    fn close_cq(&mut self, candidate: Candidate, qid: u16, closing: Option<u8>)
-        requires applied { IsApplied self.old candidate (verdict.CloseCq qid) closing }
+    // Closes a completion queue. (Delete I/O Completion Queue)
+    fn close_cq(&mut self, candidate: Candidate, qid: u16, region: u8)
+        requires applied { IsApplied self.old candidate (effect.CloseCq qid region) }
         ensures consistent { IsConsistent self.new }
         ensures goes { Goes self.old self.new }
         ensures jobs { self.new.jobs ≡ self.old.jobs }
         ensures gets { gets_of self.new.sqs.items ≡ gets_of self.old.sqs.items }
         ensures picks { picks_in self.new.log.items ≡ picks_in self.old.log.items }
     {
-        let Some(region) = closing else {
-            unreachable!()
-        };
         note(&mut self.log, Event::ClosedCq { qid, region });
         self.cqs[0]
             .ready
@@ -93,7 +95,7 @@ impl FrontState {
 
     // Puts new settings of arbitration in force. (Arbitration feature)
     fn set_arbitration(&mut self, candidate: Candidate, settings: Settings)
-        requires applied { (closing : Option ℕ) × IsApplied self.old candidate (verdict.SetArbitration settings) closing }
+        requires applied { IsApplied self.old candidate (effect.SetArbitration settings) }
         ensures consistent { IsConsistent self.new }
         ensures goes { Goes self.old self.new }
         ensures jobs { self.new.jobs ≡ self.old.jobs }
@@ -109,50 +111,35 @@ impl FrontState {
 
     // Begins the deletion of a submission queue and aborts its candidates. The Delete is answered when the deletion is
     // finished. (Delete I/O Submission Queue)
-    fn begin_delete(&mut self, candidate: Candidate, qid: u16)
-        requires applied { (closing : Option ℕ) × IsApplied self.old candidate (verdict.BeginDelete qid) closing }
+    fn begin_delete(&mut self, candidate: Candidate, qid: u16, region: u8)
+        requires applied { IsApplied self.old candidate (effect.BeginDelete qid region) }
         ensures consistent { IsConsistent self.new }
         ensures goes { Goes self.old self.new }
         ensures jobs { self.new.jobs ≡ self.old.jobs }
         ensures gets { gets_of self.new.sqs.items ≡ gets_of self.old.sqs.items }
         ensures picks { picks_in self.new.log.items ≡ picks_in self.old.log.items }
     {
-        let Some(queue) = self.table.sq(qid) else {
-            unreachable!()
-        };
-        let sq = &mut self.sqs[usize::from(queue.region)];
+        let sq = &mut self.sqs[usize::from(region)];
         let Some(attachment) = sq.queue else {
             unreachable!()
         };
         let cq = &mut self.cqs[usize::from(attachment.cq_region)];
-        note(
-            &mut self.log,
-            Event::Closing {
-                qid,
-                region: queue.region,
-            },
-        );
+        note(&mut self.log, Event::Closing { qid, region });
         sq.unposted += sq.window.len() as u16;
-        abort_all(
-            &mut sq.window,
-            &mut cq.ready,
-            qid,
-            queue.region,
-            &mut self.log,
-        );
+        abort_all(&mut sq.window, &mut cq.ready, qid, region, &mut self.log);
         self.board.close(qid);
         self.deletion = Some(PendingDelete {
             place: candidate.place(0),
             cid: candidate.entry.cid,
             qid,
-            region: queue.region,
+            region,
         });
     }
 
     // Aborts the oldest waiting command with a command identifier in an open I/O submission queue. Its completion is
     // then ready. False, which changes nothing, where there is no such command. (Abort)
     fn abort_oldest(&mut self, sqid: u16, cid: u16) -> bool
-        requires applied { (candidate : Candidate) × (closing : Option ℕ) × IsApplied self.old candidate (verdict.Abort sqid cid) closing }
+        requires applied { (candidate : Candidate) × IsApplied self.old candidate (effect.Abort sqid cid) }
         ensures none { result ≡ false → IsSame self.old self.new × HasNoneNamed self.old sqid cid }
         ensures aborted { result ≡ true → HasAborted self.old self.new sqid cid }
         ensures goes { Goes self.old self.new }
@@ -188,7 +175,7 @@ impl FrontState {
     // Aborts the waiting command that an Abort names, where there is one. Command Dword 0 of the answer says whether
     // there was. (Abort)
     fn abort(&mut self, candidate: Candidate, sqid: u16, cid: u16)
-        requires applied { (closing : Option ℕ) × IsApplied self.old candidate (verdict.Abort sqid cid) closing }
+        requires applied { IsApplied self.old candidate (effect.Abort sqid cid) }
         ensures consistent { IsConsistent self.new }
         ensures goes { Goes self.old self.new }
         ensures jobs { self.new.jobs ≡ self.old.jobs }
@@ -201,29 +188,29 @@ impl FrontState {
             .push(candidate.answered(Status::SUCCESS, dw0));
     }
 
-    /// Carries out the verdict on a picked admin command. `closing` is the region of the completion queue that the
-    /// command deletes, where it deletes one.
-    pub fn carry_out(&mut self, candidate: Candidate, verdict: Verdict, closing: Option<u8>)
-        requires applied { IsApplied self.old candidate verdict closing }
+    /// Carries out the effect of a picked admin command.
+    pub fn carry_out(&mut self, candidate: Candidate, effect: Effect)
+        requires applied { IsApplied self.old candidate effect }
         ensures consistent { IsConsistent self.new }
         ensures goes { Goes self.old self.new }
         ensures jobs { self.new.jobs ≡ self.old.jobs }
         ensures gets { gets_of self.new.sqs.items ≡ gets_of self.old.sqs.items }
         ensures picks { picks_in self.new.log.items ≡ picks_in self.old.log.items }
     {
-        match verdict {
-            Verdict::Done(status, dw0) => self.answer(candidate, status, dw0),
-            Verdict::OpenSq {
+        match effect {
+            Effect::Done(status, dw0) => self.answer(candidate, status, dw0),
+            Effect::OpenSq {
                 qid,
                 region,
                 cqid,
+                cq_region,
                 class,
-            } => self.open_sq(candidate, qid, region, cqid, class),
-            Verdict::OpenCq { qid, region } => self.open_cq(candidate, qid, region),
-            Verdict::BeginDelete { qid } => self.begin_delete(candidate, qid),
-            Verdict::CloseCq { qid } => self.close_cq(candidate, qid, closing),
-            Verdict::Abort { sqid, cid } => self.abort(candidate, sqid, cid),
-            Verdict::SetArbitration(settings) => self.set_arbitration(candidate, settings),
+            } => self.open_sq(candidate, qid, region, cqid, cq_region, class),
+            Effect::OpenCq { qid, region } => self.open_cq(candidate, qid, region),
+            Effect::BeginDelete { qid, region } => self.begin_delete(candidate, qid, region),
+            Effect::CloseCq { qid, region } => self.close_cq(candidate, qid, region),
+            Effect::Abort { sqid, cid } => self.abort(candidate, sqid, cid),
+            Effect::SetArbitration(settings) => self.set_arbitration(candidate, settings),
         }
     }
 }

@@ -1,32 +1,18 @@
 // Makes the picks of arbitration, and takes the commands that they pick.
-ghost use Rattle.std.specs.Prelude.{◌≡◌, ℕ, Some, IfOk, IfErr};
+ghost use Rattle.std.specs.Prelude.{◌≡◌, Some, IfOk, IfErr};
 ghost use Rattle.nvme_log.specs.Aborts.{is_abort_entry};
 ghost use Rattle.nvme_arbiter.specs.Queues.{seen_of};
 ghost use Rattle.nvme_front.specs.declared.front.FrontError.TheVariants.{NoMemory};
-ghost use Rattle.nvme_entry.specs.AdminCommand.{admin_command_of};
-ghost use Rattle.nvme_entry.specs.declared.admin.AdminCommand.TheVariants.{DeleteCq};
-ghost use Rattle.nvme_admin.specs.Standing.{cq_of};
 
 use crate::executing::dispatch_oldest;
 use crate::front::{FrontError, Step};
 use crate::limits::ADMIN_EVENTS;
 use crate::logging::{make_room, note};
 use crate::state::FrontState;
-use nvme_admin::Table;
 use nvme_arbiter::{Board, Pick, Seen};
 use nvme_entry::{AdminCommand, Sqe, admin_of};
 use nvme_log::{Event, Listed, MAX_OUTSTANDING};
 use std::alloc::Global;
-
-// The region of the completion queue that an admin command is to delete, where it is open.
-fn deleted_region(table: &Table, entry: &Sqe) -> Option<u8>
-    ensures { (qid : ℕ) → admin_command_of entry.now ≡ DeleteCq qid → result ≡ cq_of table.now qid }
-{
-    match admin_of(entry) {
-        AdminCommand::DeleteCq { qid } => table.cq(qid),
-        _ => None,
-    }
-}
 
 // A copy of what a board shows.
 fn observed(alloc: Global, board: &Board) -> Result<Listed<Seen>, FrontError>
@@ -147,9 +133,8 @@ impl FrontState {
         sq.unposted += 1;
         self.outstanding += 1;
         note(&mut self.log, Event::Pick { seen, pick });
-        let closing = deleted_region(&self.table, &candidate.entry);
-        let verdict = self.table.apply(&candidate.entry);
-        self.carry_out(candidate, verdict, closing);
+        let effect = self.table.execute(&candidate.entry);
+        self.carry_out(candidate, effect);
         Ok(())
     }
 

@@ -1,6 +1,6 @@
 -- A front whose admin queue's oldest candidate was picked and applied to the table, and whose log has the pick alone so far; and what an Abort
 -- command aborts of it (profile).
-use Rattle.std.specs.Prelude.{◌≡◌, ℕ, ◌+◌, ◌<◌, ◌≤◌, List, [], ◌∷◌, ◌++◌, length, slice_set, Option, Some, None, vec_capacity}
+use Rattle.std.specs.Prelude.{◌≡◌, ℕ, ◌+◌, ◌<◌, ◌≤◌, List, [], ◌∷◌, ◌++◌, length, slice_set, Some, None, vec_capacity}
 use Rattle.nvme_arbiter.specs.Settings.{ArbitrationFields}
 use Rattle.nvme_arbiter.specs.History.{History}
 use Rattle.nvme_arbiter.specs.Board.{BoardView, BoardStandsAt}
@@ -8,24 +8,23 @@ use Rattle.nvme_arbiter.specs.declared.settings.Mechanism.{Mechanism}
 use Rattle.nvme_arbiter.specs.declared.pick.Pick.{Pick}
 use Rattle.nvme_arbiter.specs.declared.pick.Seen.{Seen}
 use Rattle.nvme_admin.specs.declared.verdict.SqEntry.{SqEntry}
-use Rattle.nvme_admin.specs.declared.verdict.Verdict.{Verdict}
+use Rattle.nvme_admin.specs.declared.effect.Effect.{Effect}
+use Rattle.nvme_admin.specs.Effects.{verdict_in, NamesRegions}
 use Rattle.nvme_admin.specs.Standing.{sq_of}
 use Rattle.nvme_state.specs.declared.candidate.Candidate.{Candidate}
 use Rattle.nvme_front.specs.declared.state.FrontState.{FrontState}
 use Rattle.nvme_log.specs.Limits.{admin_events}
 use Rattle.nvme_log.specs.Rules.{Past}
-use Rattle.nvme_log.specs.Queues.{admin_queue, open_cq}
+use Rattle.nvme_log.specs.Queues.{admin_queue}
 use Rattle.nvme_log.specs.Places.{observation_of}
 use Rattle.nvme_state.specs.inside.Content.{SqContent, Content, with_sq, with_ready}
 use Rattle.nvme_front.specs.inside.State.{sq_in, content_of, rules_of, past_of}
 use Rattle.nvme_state.specs.inside.Standing.{Stands}
 use Rattle.nvme_front.specs.inside.Room.{IsRoomy}
 use Rattle.nvme_state.specs.inside.Steps.{CanPick, CanApply, verdict_at, applied_to, requested, oldest_named, without_oldest}
-use Rattle.nvme_admin.specs.declared.verdict.Verdict.TheVariants as verdict
 use Rattle.nvme_log.specs.declared.event.Event.TheVariants as event
 
--- `closing` is the region of the completion queue that the command deletes
-pub record IsApplied (s : FrontState) (candidate : Candidate) (v : Verdict) (closing : Option ℕ) : Type 0 where
+pub record IsApplied (s : FrontState) (candidate : Candidate) (did : Effect) : Type 0 where
   -- before the pick
   pub before : Content
   pub past : Past
@@ -41,8 +40,9 @@ pub record IsApplied (s : FrontState) (candidate : Candidate) (v : Verdict) (clo
   -- the candidate, and the table after it
   pub rest : List Candidate
   pub can_apply : CanApply (rules_of s) past before stands.tabled.history candidate rest s.table
-  pub verdict_is : v ≡ verdict_at (rules_of s) stands.tabled.history candidate
-  pub closing_is : (qid : ℕ) → v ≡ verdict.CloseCq qid → closing ≡ open_cq past qid
+  -- its effect has its verdict, and the regions of queues of the table before it
+  pub verdict_is : verdict_in did ≡ verdict_at (rules_of s) stands.tabled.history candidate
+  pub names : NamesRegions before.table did
   -- the front after the pick
   pub past_is : past_of s ≡ event.Pick seen pick ∷ past
   pub content_is : content_of s ≡ applied_to before picked s.table

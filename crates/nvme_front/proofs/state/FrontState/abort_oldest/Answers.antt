@@ -16,7 +16,7 @@ use Rattle.nvme_front.proofs.state.FrontState.abort_oldest.Goals as goal
 
 pub index_mut-sq-requires : goal.index_mut-sq-requires
 index_mut-sq-requires c =
-    rw c.args.self.now.sqs.ok.0 (aborts_there _ _ _ _ _ c.requires.applied.2 _ (sym c.sq.ensures ∙ c.in-Some.is) c.if-sqid-eq0.false _ c.from.ensures)
+    rw c.args.self.now.sqs.ok.0 (aborts_there _ _ _ _ c.requires.applied.1 _ (sym c.sq.ensures ∙ c.in-Some.is) c.if-sqid-eq0.false _ c.from.ensures)
 
 pub returns-in_default-take_named-clause-goes : goal.returns-in_default-take_named-clause-goes
 returns-in_default-take_named-clause-goes c =
@@ -40,7 +40,7 @@ returns-in_default-take_named-clause-none c = λ _.
     let items = c.args.self.now.sqs.items in
     let d = c.index_mut-sq.result.now in
     let in_table = sym c.sq.ensures ∙ c.in-Some.is in
-    let there = aborts_there _ _ _ _ _ c.requires.applied.2 _ in_table c.if-sqid-eq0.false _ c.from.ensures in (
+    let there = aborts_there _ _ _ _ c.requires.applied.1 _ in_table c.if-sqid-eq0.false _ c.from.ensures in (
       record {
         log = refl;
         sqs = put_sq_back items c.from.result d (record d { window = c.take_named.new.self }) c.index_mut-sq.ensures.value
@@ -65,30 +65,30 @@ returns-in_default-take_named-clause-none c = λ _.
 
 pub unreachable-requires : goal.unreachable-requires
 unreachable-requires c =
-    aborts_attached _ _ _ _ _ c.requires.applied.2 _ (sym c.sq.ensures ∙ c.in-Some.is) c.if-sqid-eq0.false _ c.from.ensures _ c.index_mut-sq.ensures.value c.in_default-queue.is
+    aborts_attached _ _ _ _ c.requires.applied.1 _ (sym c.sq.ensures ∙ c.in-Some.is) c.if-sqid-eq0.false _ c.from.ensures _ c.index_mut-sq.ensures.value c.in_default-queue.is
 
 pub overflow_add-sq : goal.overflow_add-sq
 overflow_add-sq c =
-    omega (arith, aborts_unposted _ _ _ _ _ c.requires.applied.2 _ (sym c.sq.ensures ∙ c.in-Some.is) c.if-sqid-eq0.false _ c.from.ensures _ c.index_mut-sq.ensures.value)
+    omega (arith, aborts_unposted _ _ _ _ c.requires.applied.1 _ (sym c.sq.ensures ∙ c.in-Some.is) c.if-sqid-eq0.false _ c.from.ensures _ c.index_mut-sq.ensures.value)
 
 pub index_mut-requires : goal.index_mut-requires
 index_mut-requires c =
     rw c.args.self.now.cqs.ok.0
-    (aborts_posts _ _ _ _ _ c.requires.applied.2 _ (sym c.sq.ensures ∙ c.in-Some.is) c.if-sqid-eq0.false _ c.from.ensures _ c.index_mut-sq.ensures.value _ c.in-Some-queue.is _ c.from-2.ensures)
+    (aborts_posts _ _ _ _ c.requires.applied.1 _ (sym c.sq.ensures ∙ c.in-Some.is) c.if-sqid-eq0.false _ c.from.ensures _ c.index_mut-sq.ensures.value _ c.in-Some-queue.is _ c.from-2.ensures)
 
 pub push-requires : goal.push-requires
 push-requires c =
-    let posts = aborts_posts _ _ _ _ _ c.requires.applied.2 _ (sym c.sq.ensures ∙ c.in-Some.is) c.if-sqid-eq0.false _ c.from.ensures _ c.index_mut-sq.ensures.value _ c.in-Some-queue.is _ c.from-2.ensures in
-    omega (arith, has_room _ _ _ _ c.requires.applied.2 _ _ posts c.index_mut.ensures.value)
+    let posts = aborts_posts _ _ _ _ c.requires.applied.1 _ (sym c.sq.ensures ∙ c.in-Some.is) c.if-sqid-eq0.false _ c.from.ensures _ c.index_mut-sq.ensures.value _ c.in-Some-queue.is _ c.from-2.ensures in
+    omega (arith, has_room _ _ _ c.requires.applied.1 _ _ posts c.index_mut.ensures.value)
 
 pub went-requires : goal.went-requires
 went-requires c =
-    aborts_counted _ _ _ _ _ c.requires.applied.2 _ (sym c.sq.ensures ∙ c.in-Some.is) c.if-sqid-eq0.false _ c.from.ensures _ c.index_mut-sq.ensures.value
+    aborts_counted _ _ _ _ c.requires.applied.1 _ (sym c.sq.ensures ∙ c.in-Some.is) c.if-sqid-eq0.false _ c.from.ensures _ c.index_mut-sq.ensures.value
     c.in-Some-take_named.found c.in-Some-take_named.ensures.value
 
 pub returns-clause-aborted : goal.returns-clause-aborted
 returns-clause-aborted c = λ _.
-    aborts_found _ _ _ _ _ c.requires.applied.2 _ (sym c.sq.ensures ∙ c.in-Some.is) c.if-sqid-eq0.false _ c.from.ensures _ c.index_mut-sq.ensures.value
+    aborts_found _ _ _ _ c.requires.applied.1 _ (sym c.sq.ensures ∙ c.in-Some.is) c.if-sqid-eq0.false _ c.from.ensures _ c.index_mut-sq.ensures.value
     _ _ _ c.in-Some-take_named.found _ _ _ c.in-Some-queue.is c.from-2.ensures c.in-Some-take_named.ensures.value c.take_named.ensures.rest refl
     c.index_mut.ensures.value
     (c.push.ensures ∙ ap (λ (t : Ready). record c.index_mut.result.now.ready { items = c.index_mut.result.now.ready.items ++ t ∷ [] }) c.aborted.ensures)

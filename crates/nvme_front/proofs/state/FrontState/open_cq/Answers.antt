@@ -1,11 +1,11 @@
 use Rattle.std.proofs.Common.{refl, [], ◌∷◌, arith}
-use Rattle.nvme_admin.specs.declared.verdict.Verdict.TheVariants as verdict
+use Rattle.nvme_admin.specs.declared.effect.Effect.TheVariants as effect
 use Rattle.nvme_log.specs.declared.event.Event.TheVariants as event
 use Rattle.nvme_front.proofs.AppliedStates.{answer_fits, goes_readied, kept_answered, picks_noted}
 use Rattle.nvme_front.proofs.state.FrontState.open_cq.Goals as goal
 
 pub push-requires : goal.push-requires
-push-requires c = answer_fits _ _ _ _ c.requires.applied.1 _ c.index_mut.ensures.value
+push-requires c = answer_fits _ _ _ c.requires.applied _ c.index_mut.ensures.value
 
 pub returns-clause-goes : goal.returns-clause-goes
 returns-clause-goes c = goes_readied _ _ _ 0 _ _ _ c.index_mut.ensures.value c.push.ensures refl c.note.ensures.items refl refl refl refl refl refl refl
@@ -15,6 +15,6 @@ returns-clause-picks c = picks_noted c.args.self.now.log.items _ (event.OpenCq c
 
 pub returns-clause-consistent : goal.returns-clause-consistent
 returns-clause-consistent c =
-    kept_answered _ _ _ (verdict.OpenCq c.args.qid c.args.region) _ 0 c.args.self.now.board c.requires.applied.1 tt
+    kept_answered _ _ _ (effect.OpenCq c.args.qid c.args.region) 0 c.args.self.now.board c.requires.applied tt
     _ _ _ c.index_mut.ensures.value c.push.ensures c.answered.ensures refl c.note.ensures.items refl
     (goes_readied _ _ _ 0 _ _ _ c.index_mut.ensures.value c.push.ensures refl c.note.ensures.items refl refl refl refl refl refl refl) refl (omega arith)

@@ -41,7 +41,7 @@ carry_out-requires c =
           (c.note.ensures.items ∙ ap (λ (xs : List Event). xs ++ event.Pick c.in_ok-seen.seen c.args.pick ∷ []) c.make_room.ensures.same)
           c.in_ok-make_room.ensures.within
           room
-          c.apply-verdict.result c.deleted_region-closing.result c.apply-verdict.ensures.verdict c.apply-verdict.ensures.stands c.apply-verdict.ensures.sized c.deleted_region-closing.ensures;
+          c.execute-effect.result c.execute-effect.ensures.verdict c.execute-effect.ensures.stands c.execute-effect.ensures.sized c.execute-effect.ensures.regions;
     }
 
 pub returns-clause-picked : goal.returns-clause-picked
