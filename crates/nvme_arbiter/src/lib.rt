@@ -29,7 +29,7 @@ pub use laws::{
     two_admin_commands, urgent_cuts_in, used_is_within_weight, weighted_two_rounds,
 };
 pub use limits::{HIGHEST_COUNT, HIGHEST_QID, QUEUE_LIMIT};
-pub use observation::is_observation;
+pub use observation::{class_in, is_observation};
 pub use pick::{OpenQueue, Pick, Seen};
 pub use ready::ReadyQueues;
 pub use settings::{Class, Mechanism, Settings};

@@ -1,6 +1,6 @@
-// The test of an observation.
+// The test of an observation, and the classes in one.
 ghost use Rattle.std.specs.Prelude.{◌≡◌, ◌↔◌, IsTrue};
-ghost use Rattle.nvme_arbiter.specs.Observation.{IsObservation, is_seen, can_follow, is_observation_from};
+ghost use Rattle.nvme_arbiter.specs.Observation.{IsObservation, is_seen, can_follow, is_observation_from, class_in};
 
 use crate::limits::{HIGHEST_COUNT, HIGHEST_QID};
 use crate::pick::Seen;
@@ -42,4 +42,13 @@ pub fn is_observation(seen: &[Seen]) -> bool
     ensures { IsTrue result ↔ IsObservation seen.now }
 {
     ascend(seen)
+}
+
+/// The class in which a queue is seen, by its identifier. `None` where it isn't seen.
+pub fn class_in(seen: &[Seen], qid: u16) -> Option<Class>
+    ensures { result ≡ class_in seen.now qid }
+{
+    seen.iter()
+        .find(|queue| queue.qid == qid)
+        .map(|queue| queue.class)
 }

@@ -2,6 +2,7 @@
 ghost use Rattle.std.specs.Prelude.{◌≡◌};
 ghost use Rattle.nvme_arbiter.specs.Observation.{is_wanted};
 
+use crate::observation::class_in;
 use crate::pick::Seen;
 use crate::ready::ReadyQueues;
 use crate::settings::Class;
@@ -27,8 +28,6 @@ impl ReadyQueues for &[Seen] {
     }
 
     fn class_of(&self, qid: u16) -> Option<Class> {
-        self.iter()
-            .find(|queue| queue.qid == qid)
-            .map(|queue| queue.class)
+        class_in(self, qid)
     }
 }

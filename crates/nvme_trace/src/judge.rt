@@ -1,9 +1,8 @@
 // Judges a history, event by event.
 ghost use Rattle.std.specs.Prelude.{◌≡◌};
-ghost use Rattle.nvme_arbiter.specs.Observation.{class_in};
 
 use crate::reading::{Head, TraceEvent};
-use nvme_arbiter::{Arbiter, Class, Kept, Pick, Seen};
+use nvme_arbiter::{Arbiter, Class, Kept, Pick, Seen, class_in};
 use std::marker::Model;
 
 /// A pick that isn't the lawful one.
@@ -32,15 +31,6 @@ impl Model for Judge {
     ghost Value = { JudgeView };
 
     ghost view = { λ j. record { kept = j.arbiter; picks = j.picks } };
-}
-
-// The class in which a queue was seen.
-fn class_in(seen: &[Seen], qid: u16) -> Option<Class>
-    ensures { result ≡ class_in seen.now qid }
-{
-    seen.iter()
-        .find(|queue| queue.qid == qid)
-        .map(|queue| queue.class)
 }
 
 impl Judge {
