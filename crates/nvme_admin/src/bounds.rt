@@ -1,9 +1,12 @@
-/// The largest identifier of an I/O queue, and the largest limit on the number of queues of a kind.
-pub const MAX_IO_QUEUES: u16 = 64;
+// The limits of regions and queues (profile). The identifiers of I/O queues count from 1 to `HIGHEST_QID`.
+use nvme_arbiter::{HIGHEST_QID, QUEUE_LIMIT};
+
+/// The largest limit on the number of I/O queues of a kind.
+pub const MAX_IO_QUEUES: u16 = HIGHEST_QID;
 
 /// The largest number of regions of a kind: that of the admin queue, and one for each I/O queue. It
 /// is also the number of queue identifiers of a kind.
-pub const MAX_REGIONS: usize = MAX_IO_QUEUES as usize + 1;
+pub const MAX_REGIONS: usize = QUEUE_LIMIT;
 
 /// The least number of slots of a region.
 pub const MIN_SLOTS: u16 = 2;
