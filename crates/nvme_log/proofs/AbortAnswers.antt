@@ -27,10 +27,12 @@ use Rattle.nvme_log.specs.Queues.{open_sq, has_region}
 use Rattle.nvme_log.specs.Places.{fetched, waiting, fate_of, is_waiting, is_aborted, entry_at}
 use Rattle.nvme_log.specs.Histories.{arbitration_of, table_history}
 use Rattle.nvme_log.specs.Aborts.{just_picked, is_index, has_aborted, told_dw0}
-use Rattle.nvme_log.specs.Completions.{table_before, own_status, admin_dw0, own_dw0, IsOwn}
+use Rattle.nvme_log.specs.Answers.{Answer, Executor, by_outcome}
+use Rattle.nvme_log.specs.Completions.{table_before, own_status_by, admin_dw0, own_dw0_by, IsOwnBy}
 use Rattle.nvme_log.specs.Effects.{EffectsAtOnce}
-use Rattle.nvme_log.specs.Account.{PostsOwn}
-use Rattle.nvme_log.specs.AbortLaws.{TakesCommand, AbortsAreTold}
+use Rattle.nvme_log.specs.Account.{PostsOwnBy, IsAccountBy}
+use Rattle.nvme_log.specs.Dispatches.{place_at}
+use Rattle.nvme_log.specs.AbortLaws.{TakesCommand, TellsFound, AbortsAreTold}
 use Rattle.nvme_log.proofs.Members.{IsIn, in-first, in-take_first, cuts}
 use Rattle.nvme_log.proofs.Prefixes.{Each-after, fetched-after}
 use Rattle.nvme_log.proofs.Turns.{in-waits, stays, stays_on, taken-waits_not, admin-stays, admin-unaborted}
@@ -153,7 +155,7 @@ entry-stays [] ys i x h = cc h
 entry-stays (y ∷ xs) ys zero x h = h
 entry-stays (y ∷ xs) ys (suc i) x h = entry-stays xs ys i x h
 
-entry-later : (later past : Past) (r i : ℕ) (entry : Sqe) → entry_at past r i ≡ Some entry → entry_at (later ++ past) r i ≡ Some entry
+pub entry-later : (later past : Past) (r i : ℕ) (entry : Sqe) → entry_at past r i ≡ Some entry → entry_at (later ++ past) r i ≡ Some entry
 entry-later later past r i entry h =
     let p = fetched-after later past r in
     ap (λ (z : List Sqe). slice_get z i) (sym p.1) ∙ entry-stays (fetched past r) p.0 i entry h
@@ -164,11 +166,11 @@ unfolding verdict_of
 status-of start h entry = status_in-verdict (status_of start h entry) (queue_table start (EntryApplied entry ∷ h)) (admin_command_of entry)
 
 -- the completion of an Abort command
-told-found : (rules : FrontRules) (earlier before between : Past) (seen : List Seen) (pick : Pick) (i sqid cid c : ℕ) (cqe : Cqe)
+told-found : (rules : FrontRules) (answer : Sqe → Answer) (earlier before between : Past) (seen : List Seen) (pick : Pick) (i sqid cid c : ℕ) (cqe : Cqe)
     → earlier ≡ between ++ event.Pick seen pick ∷ before → Each (EffectsAtOnce rules) earlier → Each TakesSome earlier
-    → TakesCommand rules before pick i (verdict.Abort sqid cid) → IsOwn rules earlier c 0 i cqe
+    → TakesCommand rules before pick i (verdict.Abort sqid cid) → IsOwnBy rules answer earlier c 0 i cqe
     → (cqe.status ≡ success) × (cqe.dw0 ≡ (if abort_first between then 0 else 1))
-told-found rules earlier before between seen pick i sqid cid c cqe is effects some t own =
+told-found rules answer earlier before between seen pick i sqid cid c cqe is effects some t own =
     let after : Past = event.Pick seen pick ∷ before in
     let turn : Each (EffectsAtOnce rules) after = Each-after (EffectsAtOnce rules) between after (subst (Each (EffectsAtOnce rules)) is effects) in
     let takes : Each TakesSome after = Each-after TakesSome between after (subst (Each TakesSome) is some) in
@@ -178,8 +180,8 @@ told-found rules earlier before between seen pick i sqid cid c cqe is effects so
     let there : entry_at earlier 0 i ≡ Some t.entry = ap (λ (z : Past). entry_at z 0 i) is ∙ entry-later between after 0 i t.entry t.is_there in
     let same : own.entry ≡ t.entry = same_Some own.entry t.entry (sym own.is_there ∙ there) in
     let alone : is_aborted earlier 0 i ≡ false = false_from_ne_true (is_aborted earlier 0 i) (λ a. admin-unaborted rules earlier effects i a) in
-    let status : own_status rules earlier 0 i own.entry ≡ status_of rules.start (table_before rules earlier i) own.entry = rw alone refl in
-    let dw0 : own_dw0 rules earlier 0 i own.entry ≡ admin_dw0 rules earlier i own.entry = rw alone refl in
+    let status : own_status_by rules (answer own.entry) earlier 0 i own.entry ≡ status_of rules.start (table_before rules earlier i) own.entry = rw alone refl in
+    let dw0 : own_dw0_by rules (answer own.entry) earlier 0 i own.entry ≡ admin_dw0 rules earlier i own.entry = rw alone refl in
     let comes : verdict_of rules.start (table_before rules earlier i) own.entry ≡ verdict.Abort sqid cid =
     (λ j. verdict_of rules.start (table j) (same j)) ∙ t.comes_to in (
       own.status ∙ status ∙ sym (status-of rules.start (table_before rules earlier i) own.entry) ∙ ap status_in comes,
@@ -187,11 +189,15 @@ told-found rules earlier before between seen pick i sqid cid c cqe is effects so
           ∙ (λ j. told_dw0 (found j) (comes j) (dw0_of rules.start (table_before rules earlier i) own.entry)),
     )
 
-pub aborts_are_told : AbortsAreTold
-aborts_are_told rules sent past collected h later before seen pick i sqid cid is t rest earlier c cqe posted =
+pub aborts_are_told_by : (rules : FrontRules) (executor : Executor) (sent : ℕ → List Sqe) (past : Past) (collected : ℕ → List Cqe)
+    → IsAccountBy rules executor sent past collected
+    → (later before : Past) (seen : List Seen) (pick : Pick) (i sqid cid : ℕ) → past ≡ later ++ event.Pick seen pick ∷ before
+    → TakesCommand rules before pick i (verdict.Abort sqid cid)
+    → (rest earlier : Past) (c : ℕ) (cqe : Cqe) → past ≡ rest ++ event.Post c 0 i cqe ∷ earlier → TellsFound later cqe
+aborts_are_told_by rules executor sent past collected h later before seen pick i sqid cid is t rest earlier c cqe posted =
     elim (cuts later before rest earlier (event.Pick seen pick) (Post c 0 i cqe) (sym is ∙ posted)) [
       | inl it ↦
-          let told = told-found rules earlier before it.between seen pick i sqid cid c cqe it.right effects.1 some.1 t own.0.2 in
+          let told = told-found rules (executor (place_at 0 i)) earlier before it.between seen pick i sqid cid c cqe it.right effects.1 some.1 t own.0.2 in
           let same : abort_first later ≡ abort_first it.between = ap abort_first it.left ∙ abort_first-later rest (Post c 0 i cqe) it.between ∙ abort_first-post c 0 i cqe it.between in
           record {
             status = told.0;
@@ -217,5 +223,8 @@ aborts_are_told rules sent past collected h later before seen pick i sqid cid is
       some : Each TakesSome (Post c 0 i cqe ∷ earlier)
       some = Each-after TakesSome rest (Post c 0 i cqe ∷ earlier) (subst (Each TakesSome) posted (picks-take_some rules.mechanism rules.start.settings past h.lawful))
 
-      own : Each (PostsOwn rules) (Post c 0 i cqe ∷ earlier)
-      own = Each-after (PostsOwn rules) rest (Post c 0 i cqe ∷ earlier) (subst (Each (PostsOwn rules)) posted h.posts_own)
+      own : Each (PostsOwnBy rules executor) (Post c 0 i cqe ∷ earlier)
+      own = Each-after (PostsOwnBy rules executor) rest (Post c 0 i cqe ∷ earlier) (subst (Each (PostsOwnBy rules executor)) posted h.posts_own)
+
+pub aborts_are_told : AbortsAreTold
+aborts_are_told rules = aborts_are_told_by rules (by_outcome rules)

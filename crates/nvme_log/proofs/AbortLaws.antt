@@ -24,11 +24,12 @@ use Rattle.nvme_log.specs.Places.{Fate, WasAborted, WasPicked, Waits, fetched, w
 use Rattle.nvme_log.specs.declared.place.Place.{Place}
 use Rattle.nvme_log.specs.Histories.{table_history, admin_entry, picks_in}
 use Rattle.nvme_log.specs.Aborts.{is_abort_entry, took_abort, is_abort_requested}
-use Rattle.nvme_log.specs.Completions.{own_status, own_dw0, IsOwn}
+use Rattle.nvme_log.specs.Answers.{Answer, Executor, by_outcome}
+use Rattle.nvme_log.specs.Completions.{own_status_by, own_dw0_by, IsOwnBy}
 use Rattle.nvme_log.specs.Effects.{is_effect, has_cid, named, abort_in, abort_of, target_of, closing_of, made_by, made_of, made_last, effects_since, EffectsAtOnce}
-use Rattle.nvme_log.specs.Account.{PostsOwn}
+use Rattle.nvme_log.specs.Account.{PostsOwnBy}
 use Rattle.nvme_log.specs.Dispatches.{dispatched, dispatched_by, place_at}
-use Rattle.nvme_log.specs.AbortLaws.{TakesCommand, IsAbortedBy, AbortedAreNotDispatched, AdminIsNotAborted, AbortedAreTold, IsOldestNamed, AbortsTakeTheOldest}
+use Rattle.nvme_log.specs.AbortLaws.{TakesCommand, IsAbortedBy, AbortedAreNotDispatched, AdminIsNotAborted, TellsAbort, AbortedAreTold, IsOldestNamed, TakesOldest, AbortsTakeTheOldest}
 use Rattle.nvme_log.proofs.Aborting.{makes_aborts}
 use Rattle.nvme_log.proofs.AbortEntries.{verdict_is_abort, verdict_is_delete}
 use Rattle.nvme_log.proofs.Members.{IsIn, all-in, in-append_right, in-prefix, in-take, Ascending, first-is, is-first}
@@ -107,7 +108,7 @@ not_dispatched_by past r i pick (Some queue) a = by (pick.qid == 0) where
   by true = All-nil (IsOther r i)
   by false = not_taken past r i queue.region pick.n a
 
-aborted-not_dispatched : (rules : FrontRules) (past : Past) → Each (EffectsAtOnce rules) past → (r i : ℕ) → is_aborted past r i ≡ true → All (IsOther r i) (dispatched past)
+pub aborted-not_dispatched : (rules : FrontRules) (past : Past) → Each (EffectsAtOnce rules) past → (r i : ℕ) → is_aborted past r i ≡ true → All (IsOther r i) (dispatched past)
 aborted-not_dispatched rules [] h r i a = cc a
 aborted-not_dispatched rules (event.Pick seen pick ∷ past) h r i a =
     All-append (IsOther r i) (dispatched past) (dispatched_by past pick (open_sq past pick.qid))
@@ -210,9 +211,10 @@ settled-later rules (e ∷ later) past r i h s =
     record { settled = settled-next rules e (later ++ past) r i h.0 it.settled; aborted = it.aborted; requested = it.requested }
 
 -- a place is settled where its completion is posted
-settled-posted : (rules : FrontRules) (past : Past) (c r i : ℕ) (cqe : Cqe) → EffectsAtOnce rules past (Post c r i cqe) → PostsOwn rules past (Post c r i cqe) → IsSettled rules past r i
-settled-posted rules past c r i cqe h own = record {
-  waits_not = own.1;
+settled-posted : (rules : FrontRules) (past : Past) (c r i : ℕ) (cqe : Cqe) → EffectsAtOnce rules past (Post c r i cqe) → is_waiting (fate_of past r i) ≡ false
+    → IsSettled rules past r i
+settled-posted rules past c r i cqe h served = record {
+  waits_not = served;
   not_due = λ rest is among. nothing_left (effects_since past) rest (made_last rules past) (Abort r i) h is among;
 }
 
@@ -416,39 +418,44 @@ record IsToldStatus (past : Past) (r i : ℕ) (cqe : Cqe) : Type 0 where
   pub status : cqe.status ≡ (if is_abort_requested past r i then abort_requested else aborted_by_deletion)
   pub dw0 : cqe.dw0 ≡ 0
 
-told-status : (rules : FrontRules) (past : Past) → Each (EffectsAtOnce rules) past → Each (PostsOwn rules) past → (r i : ℕ) → is_aborted past r i ≡ true
+told-status : (rules : FrontRules) (executor : Executor) (past : Past) → Each (EffectsAtOnce rules) past → Each (PostsOwnBy rules executor) past → (r i : ℕ) → is_aborted past r i ≡ true
     → (later before : Past) (c : ℕ) (cqe : Cqe) → past ≡ later ++ Post c r i cqe ∷ before → IsToldStatus past r i cqe
-told-status rules past h own r i a later before c cqe is =
+told-status rules executor past h own r i a later before c cqe is =
     let all : Each (EffectsAtOnce rules) (later ++ Post c r i cqe ∷ before) = subst (Each (EffectsAtOnce rules)) is h in
     let here : Each (EffectsAtOnce rules) (Post c r i cqe ∷ before) = Each-after (EffectsAtOnce rules) later (Post c r i cqe ∷ before) all in
-    let posts : Each (PostsOwn rules) (Post c r i cqe ∷ before) = Each-after (PostsOwn rules) later (Post c r i cqe ∷ before) (subst (Each (PostsOwn rules)) is own) in
-    let settled = settled-next rules (Post c r i cqe) before r i here.0 (settled-posted rules before c r i cqe here.0 posts.0) in
+    let posts : Each (PostsOwnBy rules executor) (Post c r i cqe ∷ before) = Each-after (PostsOwnBy rules executor) later (Post c r i cqe ∷ before) (subst (Each (PostsOwnBy rules executor)) is own) in
+    let settled = settled-next rules (Post c r i cqe) before r i here.0 (settled-posted rules before c r i cqe here.0 posts.0.1) in
     let kept = settled-later rules later (Post c r i cqe ∷ before) r i all settled in
     let aborted : is_aborted before r i ≡ true = sym kept.aborted ∙ ap (λ (z : Past). is_aborted z r i) (sym is) ∙ a in
     let requested : is_abort_requested before r i ≡ is_abort_requested past r i = sym kept.requested ∙ ap (λ (z : Past). is_abort_requested z r i) (sym is) in
-    let it : IsOwn rules before c r i cqe = posts.0.2 in
-    let first : own_status rules before r i it.entry ≡ (if is_abort_requested before r i then abort_requested else aborted_by_deletion) = rw aborted refl in
-    let zero : own_dw0 rules before r i it.entry ≡ 0 = rw aborted refl in
+    let it : IsOwnBy rules (executor (place_at r i)) before c r i cqe = posts.0.2 in
+    let answer : Answer = executor (place_at r i) it.entry in
+    let first : own_status_by rules answer before r i it.entry ≡ (if is_abort_requested before r i then abort_requested else aborted_by_deletion) = rw aborted refl in
+    let zero : own_dw0_by rules answer before r i it.entry ≡ 0 = rw aborted refl in
     record {
       status = it.status ∙ first ∙ ap (λ (b : Bool). if b then abort_requested else aborted_by_deletion) requested;
       dw0 = it.dw0 ∙ zero;
     }
 
-pub aborted_are_told : AbortedAreTold
-aborted_are_told rules sent past collected h r i a = record {
-  aborted_by = cause-of rules past h.effects_at_once r i a;
+pub aborted_are_told_by : (rules : FrontRules) (executor : Executor) (past : Past) → Each (EffectsAtOnce rules) past → Each (PostsOwnBy rules executor) past
+    → (r i : ℕ) → is_aborted past r i ≡ true → TellsAbort rules past r i
+aborted_are_told_by rules executor past effects own r i a = record {
+  aborted_by = cause-of rules past effects r i a;
   by_command = λ sqid cid by later before c cqe is.
-      let t = told-status rules past h.effects_at_once h.posts_own r i a later before c cqe is in
-      let q = requested-by rules past h.effects_at_once (verdict.Abort sqid cid) r i by in
+      let t = told-status rules executor past effects own r i a later before c cqe is in
+      let q = requested-by rules past effects (verdict.Abort sqid cid) r i by in
       t.status ∙ ap (λ (b : Bool). if b then abort_requested else aborted_by_deletion)
       (q.requested ∙ verdict_is_abort rules.start (table_history rules by.before) by.taken.entry sqid cid by.taken.comes_to);
   with_queue = λ qid by later before c cqe is.
-      let t = told-status rules past h.effects_at_once h.posts_own r i a later before c cqe is in
-      let q = requested-by rules past h.effects_at_once (verdict.BeginDelete qid) r i by in
+      let t = told-status rules executor past effects own r i a later before c cqe is in
+      let q = requested-by rules past effects (verdict.BeginDelete qid) r i by in
       t.status ∙ ap (λ (b : Bool). if b then abort_requested else aborted_by_deletion)
       (q.requested ∙ verdict_is_delete rules.start (table_history rules by.before) by.taken.entry qid by.taken.comes_to);
-  dw0 = λ later before c cqe is. (told-status rules past h.effects_at_once h.posts_own r i a later before c cqe is).dw0;
+  dw0 = λ later before c cqe is. (told-status rules executor past effects own r i a later before c cqe is).dw0;
 }
+
+pub aborted_are_told : AbortedAreTold
+aborted_are_told rules sent past collected h = aborted_are_told_by rules (by_outcome rules) past h.effects_at_once h.posts_own
 
 -- ---- what an Abort command takes
 -- what a taken command makes
@@ -586,10 +593,12 @@ first-made rules past e one h none made = by (is_effect e) refl where
       let no : [] ≡ one ∷ [] = sym none ∙ all ∙ made in
       cc
 
-pub aborts_take_the_oldest : AbortsTakeTheOldest
-aborts_take_the_oldest rules sent past collected h later before seen pick i sqid cid is t =
+pub aborts_take_the_oldest_by : (rules : FrontRules) (past : Past) → Each (EffectsAtOnce rules) past → effects_since past ≡ made_last rules past
+    → (later before : Past) (seen : List Seen) (pick : Pick) (i sqid cid : ℕ) → past ≡ later ++ event.Pick seen pick ∷ before
+    → TakesCommand rules before pick i (verdict.Abort sqid cid) → TakesOldest later before sqid cid
+aborts_take_the_oldest_by rules past effects whole later before seen pick i sqid cid is t =
     let after : Past = event.Pick seen pick ∷ before in
-    let all : Each (EffectsAtOnce rules) (later ++ after) = subst (Each (EffectsAtOnce rules)) is h.effects_at_once in
+    let all : Each (EffectsAtOnce rules) (later ++ after) = subst (Each (EffectsAtOnce rules)) is effects in
     let made : made_last rules after ≡ abort_of before sqid cid = made-pick rules before seen pick i (verdict.Abort sqid cid) t in
     record {
       at_once = λ rest between e cut none eff.
@@ -616,7 +625,7 @@ aborts_take_the_oldest rules sent past collected h later before seen pick i sqid
           oldest-of before sqid cid r j (subst (IsIn (Abort r j)) made (in-prefix (effects_since after) (made_last rules after) (Abort r j) here.0));
       finds = λ r j oldest.
           let one : made_last rules after ≡ Abort r j ∷ [] = made ∙ oldest-made before sqid cid r j oldest in
-          follows rules past later after h.effects_whole is all one refl;
+          follows rules past later after whole is all one refl;
     } where
       follows : (rules : FrontRules) (past later after : Past) → effects_since past ≡ made_last rules past → past ≡ later ++ after → Each (EffectsAtOnce rules) (later ++ after)
           → {one : Event} → made_last rules after ≡ one ∷ [] → effects_since after ≡ [] → (rest : Past) × (later ≡ rest ++ one ∷ [])
@@ -628,3 +637,6 @@ aborts_take_the_oldest rules sent past collected h later before seen pick i sqid
           let here : Each (EffectsAtOnce rules) (it.last ∷ after) = Each-after (EffectsAtOnce rules) it.rest (it.last ∷ after) (subst (Each (EffectsAtOnce rules)) split all) in
           let same : it.last ≡ one = first-made rules after it.last one here.0 none made in
           (it.rest, it.is ∙ ap (λ (z : Event). it.rest ++ z ∷ []) same)
+
+pub aborts_take_the_oldest : AbortsTakeTheOldest
+aborts_take_the_oldest rules sent past collected h = aborts_take_the_oldest_by rules past h.effects_at_once h.effects_whole

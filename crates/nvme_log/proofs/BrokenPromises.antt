@@ -24,7 +24,7 @@ use Rattle.nvme_log.proofs.Promise.{whole_promise}
 
 -- ---- the deletion
 -- what holds of regions 0 and 1, and of any other, holds of each region
-by_region : (P : ℕ → Type 0) → P 0 → P 1 → ((r : ℕ) → (0 == r) ≡ false → (1 == r) ≡ false → P r) → (r : ℕ) → P r
+pub by_region : (P : ℕ → Type 0) → P 0 → P 1 → ((r : ℕ) → (0 == r) ≡ false → (1 == r) ≡ false → P r) → (r : ℕ) → P r
 by_region P zero one other r =
     ⊎_elim (λ (e : (0 == r) ≡ true). subst P (eqb-true 0 r e) zero)
     (λ (e : (0 == r) ≡ false). ⊎_elim (λ (f : (1 == r) ≡ true). subst P (eqb-true 1 r f) one) (λ (f : (1 == r) ≡ false). other r e f) (true_or_false (1 == r)))

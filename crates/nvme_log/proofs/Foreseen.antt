@@ -6,6 +6,7 @@ use Rattle.std.proofs.lemmas.Option.{none-some, same_Some, slice_get_within}
 use Rattle.std.proofs.lemmas.List.Elements.{All-filter, filter_passes}
 use Rattle.std.proofs.lemmas.List.{append-nil, take-append-le, reverse-append}
 use Rattle.nvme_entry.specs.declared.submission.Sqe.{Sqe}
+use Rattle.nvme_entry.specs.declared.completion.Cqe.{Cqe}
 use Rattle.nvme_arbiter.specs.Settings.{ArbitrationFields, burst_of, IsLevel}
 use Rattle.nvme_arbiter.specs.Observation.{IsObservation, IsSeen, ready, ready_of, is_class}
 use Rattle.nvme_arbiter.specs.History.{History, settings_after, last_served, last_served_of, used_in_round}
@@ -36,9 +37,11 @@ use Rattle.nvme_log.specs.Queues.{Queue, admin_queue, Deletion, open_sq, has_reg
 use Rattle.nvme_log.specs.Places.{fetched, picked, waiting, WasAborted, WasPicked, Waits, is_waiting, is_aborted, unaborted_below, entry_at}
 use Rattle.nvme_log.specs.Histories.{arbitration_of, table_history, admin_entry, applied}
 use Rattle.nvme_log.specs.Aborts.{is_index}
-use Rattle.nvme_log.specs.Completions.{table_before, own_status}
+use Rattle.nvme_log.specs.Answers.{Executor, by_outcome}
+use Rattle.nvme_log.specs.Completions.{table_before, own_status_by}
 use Rattle.nvme_log.specs.Effects.{closing_of, made_by, made_of, made_last, effects_since, EffectsAtOnce}
-use Rattle.nvme_log.specs.Account.{Observed, Deletes, PostsOwn, ServedWhileOpen, IsAccount}
+use Rattle.nvme_log.specs.Account.{Observed, Deletes, PostsOwnBy, ServedWhileOpen, IsAccountBy}
+use Rattle.nvme_log.specs.Dispatches.{place_at}
 use Rattle.nvme_log.specs.Laws.{as_open, StartsWithAdmin, QueuesAre}
 use Rattle.nvme_log.specs.Foreseen.{finished_after, foreseen, AnswersAreForeseen}
 use Rattle.nvme_log.proofs.AbortAnswers.{entry-stays}
@@ -46,7 +49,7 @@ use Rattle.nvme_log.proofs.Fates.{length-upto}
 use Rattle.nvme_log.proofs.LoadedPlaces.{are-counted}
 use Rattle.nvme_log.proofs.LogLengths.{TakesWaiting, TakesSome, each-takes}
 use Rattle.nvme_log.proofs.Members.{IsIn, in-first}
-use Rattle.nvme_log.proofs.Prefixes.{Each-after, accounted}
+use Rattle.nvme_log.proofs.Prefixes.{Each-after, accounted_by}
 use Rattle.nvme_log.proofs.Promise.{first-is_made}
 use Rattle.nvme_log.proofs.Tables.{sync}
 use Rattle.nvme_log.proofs.Turns.{in-waits, closing_not_abort, begun-by, admin-stays, region-io, admin-unaborted}
@@ -465,11 +468,14 @@ was-picked a u p k none same w = by (nat_lt u p) refl (subst (λ (b : Bool). is_
   by true e h = let lt : u < p = ltb-true u p e in omega (arith, lt, same)
   by false e h = cc h
 
-pub answers_are_foreseen : AnswersAreForeseen
-answers_are_foreseen rules sent past collected starts account later before c k cqe entry is there =
+pub answers_are_foreseen_by : (rules : FrontRules) (executor : Executor) (sent : ℕ → List Sqe) (past : Past) (collected : ℕ → List Cqe)
+    → StartsWithAdmin rules → IsAccountBy rules executor sent past collected
+    → (later before : Past) (c k : ℕ) (cqe : Cqe) (entry : Sqe) → past ≡ later ++ Post c 0 k cqe ∷ before → slice_get (sent 0) k ≡ Some entry
+    → cqe.status ≡ status_of rules.start (foreseen rules.start rules.regions (reverse (take k (sent 0)))) entry
+answers_are_foreseen_by rules executor sent past collected starts account later before c k cqe entry is there =
     let split : past ≡ (later ++ Post c 0 k cqe ∷ []) ++ before = is ∙ sym (append_assoc later (Post c 0 k cqe ∷ []) before) in
-    let so_far = accounted rules sent (later ++ Post c 0 k cqe ∷ []) before collected (subst (λ (z : Past). IsAccount rules sent z collected) split account) in
-    let own : PostsOwn rules before (Post c 0 k cqe) = (Each-after (PostsOwn rules) later (Post c 0 k cqe ∷ before) (subst (Each (PostsOwn rules)) is account.posts_own)).0 in
+    let so_far = accounted_by rules executor sent (later ++ Post c 0 k cqe ∷ []) before collected (subst (λ (z : Past). IsAccountBy rules executor sent z collected) split account) in
+    let own : PostsOwnBy rules executor before (Post c 0 k cqe) = (Each-after (PostsOwnBy rules executor) later (Post c 0 k cqe ∷ before) (subst (Each (PostsOwnBy rules executor)) is account.posts_own)).0 in
     let it = own.2 in
     let first = so_far.fetched_in_order 0 in
     let same : it.entry ≡ entry = same_Some _ _ (sym (entry-stays (fetched before 0) first.0 k it.entry it.is_there) ∙ ap (λ (xs : List Sqe). slice_get xs k) first.1 ∙ there) in
@@ -480,7 +486,10 @@ answers_are_foreseen rules sent past collected starts account later before c k c
     let table = before-is rules starts before so_far.effects_at_once so_far.deletes so_far.served_while_open so_far.observed so_far.lawful k lt in
     let within = slice_get_within (fetched before 0) k it.entry it.is_there in
     let grew : first_ones k (fetched before 0) ≡ first_ones k (sent 0) = sym (grown (fetched before 0) first.0 k (omega (arith, within))) ∙ ap (first_ones k) first.1 in
-    let status : own_status rules before 0 k it.entry ≡ status_of rules.start (table_before rules before k) it.entry = rw (alone k) refl in
+    let status : own_status_by rules (executor (place_at 0 k) it.entry) before 0 k it.entry ≡ status_of rules.start (table_before rules before k) it.entry = rw (alone k) refl in
     it.status ∙ status
     ∙ (λ t. status_of rules.start (table t) (same t))
     ∙ ap (λ (xs : List Sqe). status_of rules.start (foreseen rules.start rules.regions xs) entry) grew
+
+pub answers_are_foreseen : AnswersAreForeseen
+answers_are_foreseen rules = answers_are_foreseen_by rules (by_outcome rules)

@@ -31,3 +31,5 @@ pub mod PickedOnce
 pub mod BrokenPromises
 pub mod LogLengths
 pub mod Foreseen
+pub mod AnswerLaws
+pub mod AnswerExamples

@@ -1,10 +1,11 @@
 -- An accounted log has at most five events for each command that was submitted.
-use Rattle.std.proofs.Common.{◌≡◌, ℕ, zero, suc, ◌+◌, ◌<◌, ◌≤◌, ◌==◌, ◌&&◌, nat_lt, Bool, true, false, not, if◌then◌else◌, List, [], ◌∷◌, ◌++◌, length, map, take, sum_by, Option, Some, None, refl, sym, ap, ◌∙◌, subst, arith, append_assoc, length-append, inl, inr}
+use Rattle.std.proofs.Common.{◌≡◌, ℕ, zero, suc, ◌+◌, ◌*◌, ◌<◌, ◌≤◌, ◌==◌, ◌&&◌, nat_lt, Bool, true, false, not, if◌then◌else◌, List, [], ◌∷◌, ◌++◌, length, map, take, sum_by, Option, Some, None, refl, sym, ap, ◌∙◌, subst, arith, append_assoc, length-append, inl, inr}
 use Rattle.std.specs.Prelude.{is_some}
 use Rattle.std.proofs.lemmas.Bool.{eqb-true, eq-eqb, and_parts, cases_Bool, cases_lt, lt-ltb, ltb-true}
 use Rattle.std.proofs.lemmas.List.{append-nil, length_push}
 use Rattle.std.proofs.lemmas.List.Sums.{sum_by-append, sum_by-cons}
 use Rattle.nvme_entry.specs.declared.submission.Sqe.{Sqe}
+use Rattle.nvme_entry.specs.declared.completion.Cqe.{Cqe}
 use Rattle.nvme_arbiter.specs.Lawful.{IsLawfulRun}
 use Rattle.nvme_arbiter.specs.History.{settings_after}
 use Rattle.nvme_arbiter.specs.Laws.{IsMeasured}
@@ -23,11 +24,12 @@ use Rattle.nvme_log.specs.Queues.{Queue, Deletion, open_sq, open_cq, has_region,
 use Rattle.nvme_log.specs.Places.{fetched, waiting, fate_of, is_waiting, observation_of, is_served, one_if}
 use Rattle.nvme_log.specs.declared.place.Place.{Place}
 use Rattle.nvme_log.specs.Histories.{arbitration_of, table_history, admin_entry, picks_in}
+use Rattle.nvme_log.specs.Answers.{Executor, by_outcome}
 use Rattle.nvme_log.specs.Completions.{is_posted, posts_of}
 use Rattle.nvme_log.specs.Effects.{closing_of, closed_cq_of, made_by, made_of, made_last, effects_since, EffectsAtOnce}
-use Rattle.nvme_log.specs.Account.{ServedWhileOpen, Observed, Deletes, PostsOwn}
+use Rattle.nvme_log.specs.Account.{ServedWhileOpen, Observed, Deletes, PostsOwnBy, IsAccountBy}
 use Rattle.nvme_log.specs.Dispatches.{place_at}
-use Rattle.nvme_log.specs.Bounds.{LogsAreShort}
+use Rattle.nvme_log.specs.Bounds.{events_each, sent_below, LogsAreShort}
 use Rattle.nvme_log.proofs.Aborting.{makes_aborts}
 use Rattle.nvme_log.proofs.Counting.{sums_differ}
 use Rattle.nvme_log.proofs.LoadedPlaces.{aborted-waits, pick-few}
@@ -369,21 +371,22 @@ served-few past r i = by (nat_lt i (length (fetched past r))) (not (is_waiting (
   by true false = omega arith
   by false b = omega arith
 
-posts-few : (rules : FrontRules) (past : Past) → Each (PostsOwn rules) past → (r i : ℕ) → posts_of past r i ≤ one_if (nat_lt i (length (fetched past r)))
-posts-few rules past h r i = elim (cases_Bool (is_posted past r i)) [
+posts-few : (rules : FrontRules) (executor : Executor) (past : Past) → Each (PostsOwnBy rules executor) past → (r i : ℕ) → posts_of past r i ≤ one_if (nat_lt i (length (fetched past r)))
+posts-few rules executor past h r i = elim (cases_Bool (is_posted past r i)) [
   | inl is ↦
-      let one : one_if (nat_lt i (length (fetched past r))) ≡ 1 = ap one_if (lt-ltb i (length (fetched past r)) (posted-below rules past h r i is)) in
-      omega (arith, one, one_post rules past h r i)
+      let one : one_if (nat_lt i (length (fetched past r))) ≡ 1 = ap one_if (lt-ltb i (length (fetched past r)) (posted-below rules executor past h r i is)) in
+      omega (arith, one, one_post rules executor past h r i)
   | inr isnt ↦ omega (arith, posts_of-none past r i isnt)
 ]
 
-pub logs_are_short : LogsAreShort
-logs_are_short rules sent past collected h n others =
+pub logs_are_short_by : (rules : FrontRules) (executor : Executor) (sent : ℕ → List Sqe) (past : Past) (collected : ℕ → List Cqe)
+    → IsAccountBy rules executor sent past collected → (n : ℕ) → ((r : ℕ) → n ≤ r → sent r ≡ []) → length past ≤ events_each * sent_below sent n
+logs_are_short_by rules executor sent past collected h n others =
     let takes = each-takes rules past h.served_while_open h.observed h.lawful in
     let taken = fewer (taken_places past) (fetched_places past)
     (λ r i. let a = taken-served rules past h.effects_at_once takes r i in omega (arith, a, served-few past r i, fetched-times past h.indexes_count r i)) in
     let posted = fewer (posted_places past) (fetched_places past)
-    (λ r i. let a = posts-few rules past h.posts_own r i in omega (arith, a, posted-times past r i, fetched-times past h.indexes_count r i)) in
+    (λ r i. let a = posts-few rules executor past h.posts_own r i in omega (arith, a, posted-times past r i, fetched-times past h.indexes_count r i)) in
     let changed = changes-few rules past h.effects_at_once [] (append-nil (effects_since past) ∙ h.effects_whole) in
     let ended = ends-few past h.deletes in
     let below : FetchedBelow n past = λ r le.
@@ -391,3 +394,6 @@ logs_are_short rules sent past collected h n others =
     let less = sums-less (λ (r : ℕ). length (fetched past r)) (λ (r : ℕ). length (sent r))
     (λ r. let p = h.fetched_in_order r in omega (arith, ap length p.1, length-append (fetched past r) p.0)) (upto n) in
     omega (arith, all-events past takes, taken, posted, changed, ended, picks-few past takes, fetches-add n past below, less)
+
+pub logs_are_short : LogsAreShort
+logs_are_short rules = logs_are_short_by rules (by_outcome rules)

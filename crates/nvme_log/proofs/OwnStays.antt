@@ -4,7 +4,6 @@ use Rattle.std.specs.Prelude.{slice_get}
 use Rattle.std.proofs.lemmas.Bool.{eqb-true, eq-eqb, and_parts, and_right, false_from_ne_true}
 use Rattle.std.proofs.lemmas.Option.{none-some}
 use Rattle.nvme_entry.specs.Status.{abort_requested, aborted_by_deletion}
-use Rattle.nvme_entry.specs.Outcome.{outcome_of}
 use Rattle.nvme_entry.specs.declared.submission.Sqe.{Sqe}
 use Rattle.nvme_entry.specs.declared.completion.Cqe.{Cqe}
 use Rattle.nvme_arbiter.specs.declared.settings.Class.{Class}
@@ -24,9 +23,10 @@ use Rattle.nvme_log.specs.Queues.{open_cq, cq_region_of}
 use Rattle.nvme_log.specs.Places.{waiting, fate_of, is_waiting, is_aborted}
 use Rattle.nvme_log.specs.Histories.{table_history, admin_entry, applied}
 use Rattle.nvme_log.specs.Aborts.{is_abort_requested, taken_by, just_picked, is_index, has_aborted, told_dw0}
-use Rattle.nvme_log.specs.Completions.{table_before, own_status, own_dw0}
+use Rattle.nvme_log.specs.Answers.{Answer, Executor, outcome_answer}
+use Rattle.nvme_log.specs.Completions.{table_before, own_status_by, own_dw0_by}
 use Rattle.nvme_log.specs.Effects.{made_of, made_last, effects_since, EffectsAtOnce}
-use Rattle.nvme_log.specs.Account.{PostsOwn}
+use Rattle.nvme_log.specs.Account.{PostsOwn, PostsOwnBy}
 use Rattle.nvme_log.proofs.Members.{IsIn, in-prefix, in-first}
 use Rattle.nvme_log.proofs.Prefixes.{Each-after}
 use Rattle.nvme_log.proofs.Turns.{in-waits, stays, aborted-by, opened-by, IsMadeBy, made-by, region_0-used}
@@ -58,7 +58,7 @@ module _ (rules : FrontRules) where
 
   -- ---- aborts
   -- a place doesn't wait, and its abort isn't due
-  record IsOver (past : Past) (r i : ℕ) : Type 0 where
+  pub record IsOver (past : Past) (r i : ℕ) : Type 0 where
     pub waits_not : is_waiting (fate_of past r i) ≡ false
     pub not_due : IsNotDue past (Abort r i)
 
@@ -79,7 +79,7 @@ module _ (rules : FrontRules) where
   }
 
   -- whether it was aborted, and by whom, stays
-  record StaysOver (past now : Past) (r i : ℕ) : Type 0 where
+  pub record StaysOver (past now : Past) (r i : ℕ) : Type 0 where
     pub over : IsOver now r i
     pub aborted : is_aborted now r i ≡ is_aborted past r i
     pub requested : is_abort_requested now r i ≡ is_abort_requested past r i
@@ -98,6 +98,15 @@ module _ (rules : FrontRules) where
   over-later (e ∷ later) past r i h s =
       let it = over-later later past r i h.1 s in
       record { over = over-next e (later ++ past) r i h.0 it.over; aborted = it.aborted; requested = it.requested }
+
+  -- so it is from the post of its completion on
+  pub over-posted : (later before : Past) (c r i : ℕ) (cqe : Cqe) → Each (EffectsAtOnce rules) (later ++ Post c r i cqe ∷ before)
+      → is_waiting (fate_of before r i) ≡ false → StaysOver (Post c r i cqe ∷ before) (later ++ Post c r i cqe ∷ before) r i
+  over-posted later before c r i cqe h served =
+      let post : Past = Post c r i cqe ∷ before in
+      let here : EffectsAtOnce rules before (Post c r i cqe) = (Each-after (EffectsAtOnce rules) later post h).0 in
+      over-later later post r i h
+      (record { waits_not = served; not_due = λ rest is among. none-due (effects_since before) rest (made_last rules before) (Abort r i) here is among })
 
   -- ---- admin places
   -- a place that doesn't wait isn't the oldest that waits
@@ -150,28 +159,26 @@ module _ (rules : FrontRules) where
 
   -- ---- the completion of a place
   -- its status and Command Dword 0 at its post are those of any later moment
-  pub record StaysOwn (before now : Past) (r i : ℕ) (entry : Sqe) : Type 0 where
-    pub status : own_status rules now r i entry ≡ own_status rules before r i entry
-    pub dw0 : own_dw0 rules now r i entry ≡ own_dw0 rules before r i entry
+  pub record StaysOwnBy (answer : Answer) (before now : Past) (r i : ℕ) (entry : Sqe) : Type 0 where
+    pub status : own_status_by rules answer now r i entry ≡ own_status_by rules answer before r i entry
+    pub dw0 : own_dw0_by rules answer now r i entry ≡ own_dw0_by rules answer before r i entry
 
-  pub own-later : (later before : Past) (c r i : ℕ) (cqe : Cqe) → Each (EffectsAtOnce rules) (later ++ Post c r i cqe ∷ before)
-      → PostsOwn rules before (Post c r i cqe) → (entry : Sqe) → StaysOwn before (later ++ Post c r i cqe ∷ before) r i entry
-  own-later later before c r i cqe h own entry =
+  pub own-later_by : (answer : Answer) (later before : Past) (c r i : ℕ) (cqe : Cqe) → Each (EffectsAtOnce rules) (later ++ Post c r i cqe ∷ before)
+      → is_waiting (fate_of before r i) ≡ false → (entry : Sqe) → StaysOwnBy answer before (later ++ Post c r i cqe ∷ before) r i entry
+  own-later_by answer later before c r i cqe h served entry =
       let post : Past = Post c r i cqe ∷ before in
       let now : Past = later ++ post in
-      let here : EffectsAtOnce rules before (Post c r i cqe) = (Each-after (EffectsAtOnce rules) later post h).0 in
-      let over : IsOver post r i = record { waits_not = own.1; not_due = λ rest is among. none-due (effects_since before) rest (made_last rules before) (Abort r i) here is among } in
-      let it = over-later later post r i h over in
+      let it = over-posted later before c r i cqe h served in
       let told : (r ≡ 0) → StaysTold post now i = λ z.
-      told-later later post i (subst (λ (x : ℕ). is_waiting (fate_of before x i) ≡ false) z own.1) refl in
+      told-later later post i (subst (λ (x : ℕ). is_waiting (fate_of before x i) ≡ false) z served) refl in
       record {
         status = λ t.
             if it.aborted t then (if it.requested t then abort_requested else aborted_by_deletion) else by_status (r == 0) refl told t;
         dw0 = λ t. if it.aborted t then 0 else by_dw0 (r == 0) refl told t;
       } where
         by_status : (b : Bool) → (r == 0) ≡ b → ((r ≡ 0) → StaysTold (Post c r i cqe ∷ before) (later ++ Post c r i cqe ∷ before) i)
-            → (if b then status_of rules.start (table_before rules (later ++ Post c r i cqe ∷ before) i) entry else outcome_of entry rules.sizes)
-            ≡ (if b then status_of rules.start (table_before rules before i) entry else outcome_of entry rules.sizes)
+            → (if b then status_of rules.start (table_before rules (later ++ Post c r i cqe ∷ before) i) entry else answer.status)
+            ≡ (if b then status_of rules.start (table_before rules before i) entry else answer.status)
         by_status true e told = ap (λ (t : TableHistory). status_of rules.start t entry) (told (eqb-true r 0 e)).table
         by_status false e told = refl
 
@@ -179,10 +186,18 @@ module _ (rules : FrontRules) where
         told_by found t = told_dw0 found (verdict_of rules.start t entry) (dw0_of rules.start t entry)
 
         by_dw0 : (b : Bool) → (r == 0) ≡ b → ((r ≡ 0) → StaysTold (Post c r i cqe ∷ before) (later ++ Post c r i cqe ∷ before) i)
-            → (if b then told_by (has_aborted (later ++ Post c r i cqe ∷ before) i) (table_before rules (later ++ Post c r i cqe ∷ before) i) else 0)
-            ≡ (if b then told_by (has_aborted before i) (table_before rules before i) else 0)
+            → (if b then told_by (has_aborted (later ++ Post c r i cqe ∷ before) i) (table_before rules (later ++ Post c r i cqe ∷ before) i) else answer.dw0)
+            ≡ (if b then told_by (has_aborted before i) (table_before rules before i) else answer.dw0)
         by_dw0 true e told = let it = told (eqb-true r 0 e) in λ t. told_by (it.found t) (it.table t)
         by_dw0 false e told = refl
+
+  -- where commands are answered by their outcomes
+  abbrev pub StaysOwn : (before now : Past) (r i : ℕ) → Sqe → Type 0
+  StaysOwn before now r i entry = StaysOwnBy (outcome_answer rules entry) before now r i entry
+
+  pub own-later : (later before : Past) (c r i : ℕ) (cqe : Cqe) → Each (EffectsAtOnce rules) (later ++ Post c r i cqe ∷ before)
+      → PostsOwn rules before (Post c r i cqe) → (entry : Sqe) → StaysOwn before (later ++ Post c r i cqe ∷ before) r i entry
+  own-later later before c r i cqe h own entry = own-later_by (outcome_answer rules entry) later before c r i cqe h own.1 entry
 
   -- ---- the completion region of a submission region
   -- a region is used in the table of a log
@@ -282,9 +297,9 @@ module _ (rules : FrontRules) where
   served-next x past r h s = refl
 
   -- the region of a place is taken where its completion is posted
-  pub taken-posted : (past : Past) (c r i : ℕ) (cqe : Cqe) → Each (EffectsAtOnce rules) (Post c r i cqe ∷ past) → PostsOwn rules past (Post c r i cqe)
-      → IsTaken (Post c r i cqe ∷ past) r
-  taken-posted past c r i cqe h own = record {
+  pub taken-posted : (executor : Executor) (past : Past) (c r i : ℕ) (cqe : Cqe) → Each (EffectsAtOnce rules) (Post c r i cqe ∷ past)
+      → PostsOwnBy rules executor past (Post c r i cqe) → IsTaken (Post c r i cqe ∷ past) r
+  taken-posted executor past c r i cqe h own = record {
     used = served-used past h.1 r c own.2.region;
     not_due = λ qid cqid class rest is among. none-due (effects_since past) rest (made_last rules past) (OpenSq qid r cqid class) h.0 is among;
   }

@@ -17,11 +17,13 @@ use Rattle.nvme_log.specs.Queues.{Queue, open_sq, has_region}
 use Rattle.nvme_log.specs.Places.{fetched, waiting, fate_of, is_waiting, is_aborted}
 use Rattle.nvme_log.specs.Histories.{arbitration_of}
 use Rattle.nvme_log.specs.Effects.{EffectsAtOnce}
-use Rattle.nvme_log.specs.Account.{Observed, PostsOwn, IsAccount}
+use Rattle.nvme_log.specs.Answers.{Executor, by_outcome}
+use Rattle.nvme_log.specs.Account.{Observed, PostsOwnBy, IsAccountBy}
 use Rattle.nvme_log.specs.Laws.{PicksPlace, HasPick, PickedOnce, AbortedUnpicked, CompletedAfter, PromisesServeOnce}
+use Rattle.nvme_log.specs.AnswerLaws.{PromisesServeOnceBy}
 use Rattle.nvme_log.proofs.LoadedPlaces.{aborted-waits, are-counted, is-fresh, cut-at}
 use Rattle.nvme_log.proofs.Members.{IsIn, in-take, in-append_right, LiesLater}
-use Rattle.nvme_log.proofs.Prefixes.{Each-after, accounted}
+use Rattle.nvme_log.proofs.Prefixes.{Each-after, accounted_by}
 use Rattle.nvme_log.proofs.Turns.{waits-in, in-waits, stays_on, taken-waits_not}
 use Rattle.nvme_log.proofs.Waiting.{fetched-fetch, fetched-fetch_other, waiting-fetch, waiting-pick, waiting-abort_at, waiting-abort_other, fate_of-same, picked-pick_other}
 
@@ -222,11 +224,11 @@ module _ (rules : FrontRules) where
   served-picked (e ∷ past) h o l r i lt a w = pick-later e past r i (served-picked past h.1 o.1 l r i lt a w)
 
   -- ---- completions come afterwards
-  pub completed_after : (sent : ℕ → List Sqe) (past : Past) (collected : ℕ → List Cqe) → IsAccount rules sent past collected → CompletedAfter past
-  completed_after sent past collected h later before c r i cqe is =
+  pub completed_after : (executor : Executor) (sent : ℕ → List Sqe) (past : Past) (collected : ℕ → List Cqe) → IsAccountBy rules executor sent past collected → CompletedAfter past
+  completed_after executor sent past collected h later before c r i cqe is =
       let split : past ≡ (later ++ Post c r i cqe ∷ []) ++ before = is ∙ sym (append_assoc later (Post c r i cqe ∷ []) before) in
-      let so_far = accounted rules sent (later ++ Post c r i cqe ∷ []) before collected (subst (λ (z : Past). IsAccount rules sent z collected) split h) in
-      let own : PostsOwn rules before (Post c r i cqe) = (Each-after (PostsOwn rules) later (Post c r i cqe ∷ before) (subst (Each (PostsOwn rules)) is h.posts_own)).0 in
+      let so_far = accounted_by rules executor sent (later ++ Post c r i cqe ∷ []) before collected (subst (λ (z : Past). IsAccountBy rules executor sent z collected) split h) in
+      let own : PostsOwnBy rules executor before (Post c r i cqe) = (Each-after (PostsOwnBy rules executor) later (Post c r i cqe ∷ before) (subst (Each (PostsOwnBy rules executor)) is h.posts_own)).0 in
       elim (cases_Bool (is_aborted before r i)) [
         | inl aborted ↦ inr aborted
         | inr unaborted ↦ inl (served-picked before so_far.effects_at_once so_far.observed so_far.lawful r i
@@ -280,8 +282,8 @@ aborted-on (Abort region index ∷ later) before r i h = or_so (region == r && i
   or_so false k = k
 aborted-on (e ∷ later) before r i h = aborted-on later before r i h
 
-pub serve_once : PromisesServeOnce
-serve_once rules sent past collected h r i lt =
+pub serve_once_by : PromisesServeOnceBy
+serve_once_by rules executor sent past collected h r i lt =
     let it = h.one_completion r i lt in
     let split : past ≡ (it.later ++ Post it.region r i it.cqe ∷ []) ++ it.before = sym it.stands ∙ sym (append_assoc it.later (Post it.region r i it.cqe ∷ []) it.before) in
     record {
@@ -296,3 +298,6 @@ serve_once rules sent past collected h r i lt =
       one_pick = one-pick past h.picked_once r i;
       answered_after = λ later before c cqe is. h.completed_after later before c r i cqe is;
     }
+
+pub serve_once : PromisesServeOnce
+serve_once rules = serve_once_by rules (by_outcome rules)

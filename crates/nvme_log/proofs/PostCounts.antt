@@ -15,9 +15,10 @@ use Rattle.nvme_log.specs.Places.{fetched, places, one_if}
 use Rattle.nvme_log.specs.declared.place.Place.{Place}
 use Rattle.nvme_log.specs.Dispatches.{place_at}
 use Rattle.nvme_log.specs.Aborts.{is_index}
+use Rattle.nvme_log.specs.Answers.{Executor, by_outcome}
 use Rattle.nvme_log.specs.Completions.{is_posted, posts_of, posted_to}
 use Rattle.nvme_log.specs.Effects.{EffectsAtOnce}
-use Rattle.nvme_log.specs.Account.{IndexCounts, PostsOwn, IsWholeAccount}
+use Rattle.nvme_log.specs.Account.{IndexCounts, PostsOwnBy, IsWholeAccountBy, IsWholeAccount}
 use Rattle.nvme_log.specs.Loaded.{without_posts}
 use Rattle.nvme_log.proofs.Prefixes.{fetched-after}
 use Rattle.nvme_log.proofs.Posts.{posts_of-none, posts_of-some, one_post, found, all_below}
@@ -125,24 +126,24 @@ fetched-times (Fetch region index entry ∷ past) h r i =
 fetched-times (e ∷ past) h r i = fetched-times past h.1 r i
 
 -- a place that is posted was fetched
-pub posted-below : (rules : FrontRules) (past : Past) → Each (PostsOwn rules) past → (r i : ℕ) → is_posted past r i ≡ true → i < length (fetched past r)
-posted-below rules past h r i p =
-    let it = found rules past h r i p in
+pub posted-below : (rules : FrontRules) (executor : Executor) (past : Past) → Each (PostsOwnBy rules executor) past → (r i : ℕ) → is_posted past r i ≡ true → i < length (fetched past r)
+posted-below rules executor past h r i p =
+    let it = found rules executor past h r i p in
     let within = slice_get_within (fetched it.before r) i it.own.entry it.own.is_there in
     let more = fetched-after it.later (Post it.region r i it.cqe ∷ it.before) r in
     let whole : length (fetched (it.later ++ Post it.region r i it.cqe ∷ it.before) r) ≡ length (fetched past r) = ap (λ (z : Past). length (fetched z r)) it.stands in
     omega (arith, within, ap length more.1, length-append (fetched it.before r) more.0, whole)
 
 -- where each fetched place is posted, a place is posted once where it was fetched, and never otherwise
-posted-once : (rules : FrontRules) (past : Past) → Each (PostsOwn rules) past → ((r : ℕ) → list_all (λ (i : ℕ). is_posted past r i) (places past r) ≡ true)
+posted-once : (rules : FrontRules) (executor : Executor) (past : Past) → Each (PostsOwnBy rules executor) past → ((r : ℕ) → list_all (λ (i : ℕ). is_posted past r i) (places past r) ≡ true)
     → (r i : ℕ) → posts_of past r i ≡ one_if (nat_lt i (length (fetched past r)))
-posted-once rules past h all r i = elim (cases_lt i (length (fetched past r))) [
+posted-once rules executor past h all r i = elim (cases_lt i (length (fetched past r))) [
   | inl below ↦
       let posted = all_below (λ (k : ℕ). is_posted past r k) (length (fetched past r)) (all r) i below in
-      let once : posts_of past r i ≡ 1 = omega (arith, one_post rules past h r i, posts_of-some past r i posted) in
+      let once : posts_of past r i ≡ 1 = omega (arith, one_post rules executor past h r i, posts_of-some past r i posted) in
       once ∙ sym (ap one_if (lt-ltb i (length (fetched past r)) below))
   | inr from ↦
-      let none : is_posted past r i ≡ false = false_from_ne_true (is_posted past r i) (λ p. omega (arith, posted-below rules past h r i p, from)) in
+      let none : is_posted past r i ≡ false = false_from_ne_true (is_posted past r i) (λ p. omega (arith, posted-below rules executor past h r i p, from)) in
       posts_of-none past r i none ∙ sym (ap one_if (le-ltb i (length (fetched past r)) from))
 ]
 
@@ -162,15 +163,15 @@ goes-next : (rules : FrontRules) (x : Event) (now : Past) → EffectsAtOnce rule
 goes-next rules x now h past (Post c r i cqe) g = (served-next rules x now r h g.1 ∙ g.0, taken-next rules x now r h g.1)
 goes-next rules x now h past e g = tt
 
-goes-there : (rules : FrontRules) (past : Past) → Each (EffectsAtOnce rules) past → Each (PostsOwn rules) past → Each (GoesThere rules past) past
-goes-there rules [] effects own = tt
-goes-there rules (Post c r i cqe ∷ past) effects own = (
-  (own.0.2.region, taken-posted rules past c r i cqe effects own.0),
-  each-weaker (GoesThere rules past) (GoesThere rules (Post c r i cqe ∷ past)) (goes-next rules (Post c r i cqe) past effects.0) past (goes-there rules past effects.1 own.1),
+goes-there : (rules : FrontRules) (executor : Executor) (past : Past) → Each (EffectsAtOnce rules) past → Each (PostsOwnBy rules executor) past → Each (GoesThere rules past) past
+goes-there rules executor [] effects own = tt
+goes-there rules executor (Post c r i cqe ∷ past) effects own = (
+  (own.0.2.region, taken-posted rules executor past c r i cqe effects own.0),
+  each-weaker (GoesThere rules past) (GoesThere rules (Post c r i cqe ∷ past)) (goes-next rules (Post c r i cqe) past effects.0) past (goes-there rules executor past effects.1 own.1),
 )
-goes-there rules (e ∷ past) effects own = (
+goes-there rules executor (e ∷ past) effects own = (
   tt,
-  each-weaker (GoesThere rules past) (GoesThere rules (e ∷ past)) (goes-next rules e past effects.0) past (goes-there rules past effects.1 own.1),
+  each-weaker (GoesThere rules past) (GoesThere rules (e ∷ past)) (goes-next rules e past effects.0) past (goes-there rules executor past effects.1 own.1),
 )
 
 -- 1 where the queue of a place goes to a completion region
@@ -199,11 +200,16 @@ places_to-posts : (past : Past) (c : ℕ) → places_to (without_posts past) c �
 places_to-posts past c = λ t. sum_by (λ (p : Place). one_if (is_index c (cq_region_of-posts past p.region t))) (fetched_places-posts past t)
 
 -- in a whole account as many completions are posted to a region as fetched places go there
-pub posted-places : (rules : FrontRules) (loaded : Bool) (scripts sent : ℕ → List Sqe) (past : Past) (collected : ℕ → List Cqe)
-    → IsWholeAccount rules loaded scripts sent past collected → (c : ℕ) → length (posted_to past c) ≡ places_to (without_posts past) c
-posted-places rules loaded scripts sent past collected h c =
-    posted-weight rules past past (goes-there rules past h.account.effects_at_once h.account.posts_own) c
+pub posted-places_by : (rules : FrontRules) (executor : Executor) (loaded : Bool) (scripts sent : ℕ → List Sqe) (past : Past) (collected : ℕ → List Cqe)
+    → IsWholeAccountBy rules executor loaded scripts sent past collected → (c : ℕ) → length (posted_to past c) ≡ places_to (without_posts past) c
+posted-places_by rules executor loaded scripts sent past collected h c =
+    posted-weight rules past past (goes-there rules executor past h.account.effects_at_once h.account.posts_own) c
     ∙ same-weight (posted_places past) (fetched_places past)
-    (λ r i. posted-times past r i ∙ posted-once rules past h.account.posts_own h.all_posted r i ∙ sym (fetched-times past h.account.indexes_count r i))
+    (λ r i. posted-times past r i ∙ posted-once rules executor past h.account.posts_own h.all_posted r i ∙ sym (fetched-times past h.account.indexes_count r i))
     (goes_to past c)
     ∙ sym (places_to-posts past c)
+
+-- where commands are answered by their outcomes
+pub posted-places : (rules : FrontRules) (loaded : Bool) (scripts sent : ℕ → List Sqe) (past : Past) (collected : ℕ → List Cqe)
+    → IsWholeAccount rules loaded scripts sent past collected → (c : ℕ) → length (posted_to past c) ≡ places_to (without_posts past) c
+posted-places rules = posted-places_by rules (by_outcome rules)

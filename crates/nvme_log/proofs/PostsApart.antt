@@ -2,7 +2,6 @@
 use Rattle.std.proofs.Common.{◌≡◌, ℕ, ◌+◌, ◌==◌, ◌&&◌, ◌||◌, Bool, false, if◌then◌else◌, List, [], ◌∷◌, ◌++◌, length, Option, None, refl, ap, arith, length-append}
 use Rattle.std.specs.Prelude.{slice_get, option_and_then}
 use Rattle.nvme_entry.specs.Status.{abort_requested, aborted_by_deletion}
-use Rattle.nvme_entry.specs.Outcome.{outcome_of}
 use Rattle.nvme_entry.specs.declared.submission.Sqe.{Sqe}
 use Rattle.nvme_arbiter.specs.declared.pick.Pick.{Pick}
 use Rattle.nvme_admin.specs.Accepted.{status_of, dw0_of, verdict_of}
@@ -14,7 +13,8 @@ use Rattle.nvme_log.specs.Queues.{has_region, cq_region_of}
 use Rattle.nvme_log.specs.Places.{picked, is_aborted, entry_at}
 use Rattle.nvme_log.specs.Histories.{admin_entry}
 use Rattle.nvme_log.specs.Aborts.{is_abort_entry, took_abort, is_abort_requested, taken_by, just_picked, is_index, has_aborted, told_dw0}
-use Rattle.nvme_log.specs.Completions.{table_before, own_status, own_dw0}
+use Rattle.nvme_log.specs.Answers.{Answer, outcome_answer}
+use Rattle.nvme_log.specs.Completions.{table_before, own_status, own_dw0, own_status_by, own_dw0_by}
 use Rattle.nvme_log.specs.Effects.{made_last, effects_since, EffectsAtOnce}
 use Rattle.nvme_log.specs.Loaded.{without_posts}
 use Rattle.nvme_log.proofs.WithoutPosts.{open_cq-posts, open_sq-posts, fetched-posts, waiting-posts, table_history-posts}
@@ -93,16 +93,25 @@ table_before-posts rules (event.Pick seen pick ∷ past) i = λ t.
 table_before-posts rules (e ∷ past) i = table_before-posts rules past i
 
 -- the status of a place
-pub own_status-posts : (rules : FrontRules) (past : Past) (r i : ℕ) (entry : Sqe) → own_status rules (without_posts past) r i entry ≡ own_status rules past r i entry
-own_status-posts rules past r i entry = λ t.
+pub own_status_by-posts : (rules : FrontRules) (answer : Answer) (past : Past) (r i : ℕ) (entry : Sqe)
+    → own_status_by rules answer (without_posts past) r i entry ≡ own_status_by rules answer past r i entry
+own_status_by-posts rules answer past r i entry = λ t.
     if aborted-posts past r i t then (if is_abort_requested-posts past r i t then abort_requested else aborted_by_deletion)
-    else (if r == 0 then status_of rules.start (table_before-posts rules past i t) entry else outcome_of entry rules.sizes)
+    else (if r == 0 then status_of rules.start (table_before-posts rules past i t) entry else answer.status)
 
 -- and its Command Dword 0
-pub own_dw0-posts : (rules : FrontRules) (past : Past) (r i : ℕ) (entry : Sqe) → Each (EffectsAtOnce rules) past
-    → own_dw0 rules (without_posts past) r i entry ≡ own_dw0 rules past r i entry
-own_dw0-posts rules past r i entry h = λ t.
+pub own_dw0_by-posts : (rules : FrontRules) (answer : Answer) (past : Past) (r i : ℕ) (entry : Sqe) → Each (EffectsAtOnce rules) past
+    → own_dw0_by rules answer (without_posts past) r i entry ≡ own_dw0_by rules answer past r i entry
+own_dw0_by-posts rules answer past r i entry h = λ t.
     if aborted-posts past r i t then 0
     else (if r == 0
     then told_dw0 (has_aborted-posts rules past i h t) (verdict_of rules.start (table_before-posts rules past i t) entry) (dw0_of rules.start (table_before-posts rules past i t) entry)
-    else 0)
+    else answer.dw0)
+
+-- where commands are answered by their outcomes
+pub own_status-posts : (rules : FrontRules) (past : Past) (r i : ℕ) (entry : Sqe) → own_status rules (without_posts past) r i entry ≡ own_status rules past r i entry
+own_status-posts rules past r i entry = own_status_by-posts rules (outcome_answer rules entry) past r i entry
+
+pub own_dw0-posts : (rules : FrontRules) (past : Past) (r i : ℕ) (entry : Sqe) → Each (EffectsAtOnce rules) past
+    → own_dw0 rules (without_posts past) r i entry ≡ own_dw0 rules past r i entry
+own_dw0-posts rules past r i entry h = own_dw0_by-posts rules (outcome_answer rules entry) past r i entry h

@@ -9,8 +9,10 @@ use Rattle.nvme_log.specs.declared.event.Event.TheVariants.{Fetch, Pick, SetArbi
 use Rattle.nvme_log.specs.Rules.{Past, Each}
 use Rattle.nvme_log.specs.Places.{fetched}
 use Rattle.nvme_log.specs.Histories.{arbitration_of}
+use Rattle.nvme_log.specs.Answers.{by_outcome}
 use Rattle.nvme_log.specs.Completions.{posted_to}
 use Rattle.nvme_log.specs.Laws.{PrefixesAreAccounted}
+use Rattle.nvme_log.specs.AnswerLaws.{PrefixesAreAccountedBy}
 
 pub IsPrefix-refl : {T : Type 0} (xs : List T) → IsPrefix xs xs
 IsPrefix-refl xs = ([], append-nil xs)
@@ -39,8 +41,8 @@ arbitration_of-append (Pick seen pick ∷ later) past = rw (arbitration_of-appen
 arbitration_of-append (SetArbitration settings ∷ later) past = rw (arbitration_of-append later past) refl
 arbitration_of-append (e ∷ later) past = arbitration_of-append later past
 
-pub accounted : PrefixesAreAccounted
-accounted rules sent later past collected h = record {
+pub accounted_by : PrefixesAreAccountedBy
+accounted_by rules executor sent later past collected h = record {
   fetched_in_order = λ r. IsPrefix-trans (fetched past r) (fetched (later ++ past) r) (sent r) (fetched-after later past r) (h.fetched_in_order r);
   indexes_count = Each-after _ later past h.indexes_count;
   served_while_open = Each-after _ later past h.served_while_open;
@@ -51,3 +53,6 @@ accounted rules sent later past collected h = record {
   leaves_places = Each-after _ later past h.leaves_places;
   lawful = prefixes rules.mechanism rules.start.settings (arbitration_of later) (arbitration_of past) (rw (arbitration_of-append later past) at h.lawful);
 }
+
+pub accounted : PrefixesAreAccounted
+accounted rules = accounted_by rules (by_outcome rules)

@@ -18,11 +18,13 @@ use Rattle.nvme_log.specs.Queues.{Queue, open_sq, open_cq, Deletion, pending, is
 use Rattle.nvme_log.specs.Places.{fetched, waiting, fate_of, is_waiting}
 use Rattle.nvme_log.specs.Histories.{table_history, admin_entry}
 use Rattle.nvme_log.specs.Effects.{is_effect, abort_of, closing_of, closed_cq_of, made_by, made_of, made_last, effects_since, EffectsAtOnce}
-use Rattle.nvme_log.specs.Account.{Deletes, PostsOwn}
+use Rattle.nvme_log.specs.Answers.{Executor, by_outcome}
+use Rattle.nvme_log.specs.Account.{Deletes, PostsOwnBy}
 use Rattle.nvme_log.specs.Laws.{NoneAfterDelete, WholeAccountsKeepThePromise}
+use Rattle.nvme_log.specs.AnswerLaws.{WholeAccountsKeepThePromiseBy}
 use Rattle.nvme_log.proofs.Aborting.{makes_aborts}
 use Rattle.nvme_log.proofs.Prefixes.{Each-after}
-use Rattle.nvme_log.proofs.Posts.{whole_answers}
+use Rattle.nvme_log.proofs.Posts.{whole_answers_by}
 use Rattle.nvme_log.proofs.AbortLaws.{made-pick, ends-with}
 use Rattle.nvme_log.proofs.Members.{in-first, cuts}
 use Rattle.nvme_log.proofs.Turns.{in-waits, stays, stays_on}
@@ -177,8 +179,14 @@ fetches_over rules (e ∷ later) before qid r at_once deletes =
     ] in
     record { ending = next.ending; same = next.same ∙ earlier.same }
 
+pub none_after_deletion : (rules : FrontRules) (past : Past) → Each (EffectsAtOnce rules) past → Each Deletes past
+    → (later before : Past) (qid r : ℕ) → past ≡ later ++ Closing qid r ∷ before → fetched past r ≡ fetched before r
+none_after_deletion rules past at_once deletes later before qid r is =
+    ap (λ (p : Past). fetched p r) is
+    ∙ (fetches_over rules later before qid r (subst (Each (EffectsAtOnce rules)) is at_once) (subst (Each Deletes) is deletes)).same
+
 -- after the answer of the command that began a deletion nothing is fetched from its region, since nothing is from the beginning on
-answered_over : (rules : FrontRules) (past later middle before : Past) (e : Event) (qid r : ℕ) → past ≡ later ++ e ∷ (middle ++ Closing qid r ∷ before)
+pub answered_over : (rules : FrontRules) (past later middle before : Past) (e : Event) (qid r : ℕ) → past ≡ later ++ e ∷ (middle ++ Closing qid r ∷ before)
     → Each (EffectsAtOnce rules) past → Each Deletes past → fetched past r ≡ fetched (middle ++ Closing qid r ∷ before) r
 answered_over rules past later middle before e qid r is at_once deletes =
     let all : past ≡ (later ++ e ∷ middle) ++ Closing qid r ∷ before = is ∙ sym (append_assoc later (e ∷ middle) (Closing qid r ∷ before)) in
@@ -219,17 +227,18 @@ begins rules (x ∷ between) after e qid r more other none made h =
     record { rest = it.rest; is = it.is ∙ ap (λ (z : Event). it.rest ++ z ∷ []) same }
 
 -- a place that was posted never waits again, so its command isn't picked later
-never-later : (rules : FrontRules) (between before : Past) (c i : ℕ) (cqe : Cqe) → PostsOwn rules before (Post c 0 i cqe)
+never-later : (between before : Past) (c i : ℕ) (cqe : Cqe) → is_waiting (fate_of before 0 i) ≡ false
     → slice_get (waiting (between ++ Post c 0 i cqe ∷ before) 0) 0 ≡ Some i → ⊥
-never-later rules between before c i cqe own oldest =
+never-later between before c i cqe served oldest =
     let now : Past = between ++ Post c 0 i cqe ∷ before in
-    let none : is_waiting (fate_of now 0 i) ≡ false = stays_on between (Post c 0 i cqe ∷ before) 0 i (stays (Post c 0 i cqe) before 0 i own.1) in
+    let none : is_waiting (fate_of now 0 i) ≡ false = stays_on between (Post c 0 i cqe ∷ before) 0 i (stays (Post c 0 i cqe) before 0 i served) in
     let waits : is_waiting (fate_of now 0 i) ≡ true = (in-waits now 0 i (in-first i (waiting now 0) oldest)).1 in
     cc
 
 -- nothing is fetched from a queue after the command that deletes it was answered
-none_after_delete : (rules : FrontRules) (past : Past) → Each (EffectsAtOnce rules) past → Each Deletes past → Each (PostsOwn rules) past → NoneAfterDelete rules past
-none_after_delete rules past at_once deletes own i qid r d later before c cqe posted =
+pub none_after_delete : (rules : FrontRules) (executor : Executor) (past : Past) → Each (EffectsAtOnce rules) past → Each Deletes past → Each (PostsOwnBy rules executor) past
+    → NoneAfterDelete rules past
+none_after_delete rules executor past at_once deletes own i qid r d later before c cqe posted =
     elim (cuts d.later d.before later before (Pick d.seen d.pick) (Post c 0 i cqe) (sym d.stands ∙ posted)) [
       | inl it ↦
           let after : Past = Pick d.seen d.pick ∷ d.before in
@@ -243,19 +252,17 @@ none_after_delete rules past at_once deletes own i qid r d later before c cqe po
           ∙ sym (ap (λ (z : Past). fetched z r) is)
       | inr (inl e) ↦ absurd (cc e)
       | inr (inr it) ↦
-          let here : Each (PostsOwn rules) (Post c 0 i cqe ∷ before) = Each-after (PostsOwn rules) later (Post c 0 i cqe ∷ before) (subst (Each (PostsOwn rules)) posted own) in
-          absurd (never-later rules it.between before c i cqe here.0 (subst (λ (z : Past). slice_get (waiting z 0) 0 ≡ Some i) it.right d.taken.oldest))
+          let here : Each (PostsOwnBy rules executor) (Post c 0 i cqe ∷ before) = Each-after (PostsOwnBy rules executor) later (Post c 0 i cqe ∷ before) (subst (Each (PostsOwnBy rules executor)) posted own) in
+          absurd (never-later it.between before c i cqe here.0.1 (subst (λ (z : Past). slice_get (waiting z 0) 0 ≡ Some i) it.right d.taken.oldest))
     ]
 
 -- a whole account keeps the promise of a run
-pub whole_promise : WholeAccountsKeepThePromise
-whole_promise rules loaded scripts sent past collected h =
-    let answers = whole_answers rules loaded scripts sent past collected h in
+pub whole_promise_by : WholeAccountsKeepThePromiseBy
+whole_promise_by rules executor loaded scripts sent past collected h =
+    let answers = whole_answers_by rules executor loaded scripts sent past collected h in
     record {
       fetched_in_order = h.account.fetched_in_order;
-      none_after_deletion = λ later before qid r is.
-          ap (λ (p : Past). fetched p r) is
-          ∙ (fetches_over rules later before qid r (subst (Each (EffectsAtOnce rules)) is h.account.effects_at_once) (subst (Each Deletes) is h.account.deletes)).same;
+      none_after_deletion = none_after_deletion rules past h.account.effects_at_once h.account.deletes;
       none_after_answer = λ later middle before qid r c i cqe is _.
           answered_over rules past later middle before (Post c 0 i cqe) qid r is h.account.effects_at_once h.account.deletes;
       one_completion = answers.one_completion;
@@ -263,9 +270,12 @@ whole_promise rules loaded scripts sent past collected h =
       observed = h.account.observed;
       effects_at_once = h.account.effects_at_once;
       effects_whole = h.account.effects_whole;
-      none_after_delete = none_after_delete rules past h.account.effects_at_once h.account.deletes h.account.posts_own;
+      none_after_delete = none_after_delete rules executor past h.account.effects_at_once h.account.deletes h.account.posts_own;
       nothing_else = h.all_collected;
       picked_once = picked_once past;
       aborted_unpicked = aborted_unpicked rules past h.account.effects_at_once;
-      completed_after = completed_after rules sent past collected h.account;
+      completed_after = completed_after rules executor sent past collected h.account;
     }
+
+pub whole_promise : WholeAccountsKeepThePromise
+whole_promise rules = whole_promise_by rules (by_outcome rules)

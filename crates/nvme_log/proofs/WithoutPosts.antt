@@ -24,7 +24,8 @@ use Rattle.nvme_log.specs.Queues.{Queue, Deletion, open_sq, open_cq, has_region,
 use Rattle.nvme_log.specs.Places.{WasAborted, WasPicked, Waits, fetched, picked, is_aborted, fate_of, is_waiting, waiting, entry_at, seen_as, observation_of}
 use Rattle.nvme_log.specs.Histories.{arbitration_of, admin_entry, applied, table_history}
 use Rattle.nvme_log.specs.Effects.{is_effect, closing_of, closed_cq_of, has_cid, named, abort_in, target_of, made_by, made_of, made_last, effects_since, EffectsAtOnce}
-use Rattle.nvme_log.specs.Account.{IndexCounts, ServedWhileOpen, Observed, Deletes, IsAccount}
+use Rattle.nvme_log.specs.Answers.{Executor, by_outcome}
+use Rattle.nvme_log.specs.Account.{IndexCounts, ServedWhileOpen, Observed, Deletes, IsAccount, IsAccountBy}
 use Rattle.nvme_log.specs.Loaded.{is_post, without_posts, IsNoPost, is_filled, FilledBefore, FetchesLast, is_abort, is_closed_of, ends_deletion, ClosedAtOnce, NothingAfterClosed, LoadedSoFar}
 use Rattle.nvme_log.proofs.Members.{IsIn, in-append_right, in-append_left}
 
@@ -361,10 +362,11 @@ nothing_after_closed-posts past e is h = tt
 
 -- ---- all of it
 -- an accounted log, its posts left out, is a loaded log so far where its queues were filled before each pick and its fetches come last
-pub loaded-account : (rules : FrontRules) (sent scripts : ℕ → List Sqe) (past : Past) (collected : ℕ → List Cqe) → IsAccount rules sent past collected
+pub loaded-account_by : (rules : FrontRules) (executor : Executor) (sent scripts : ℕ → List Sqe) (past : Past) (collected : ℕ → List Cqe)
+    → IsAccountBy rules executor sent past collected
     → ((r : ℕ) → IsPrefix (fetched past r) (scripts r)) → Each (FilledBefore rules scripts) (without_posts past) → Each FetchesLast (without_posts past)
     → LoadedSoFar rules scripts (without_posts past)
-loaded-account rules sent scripts past collected h in_order filled last = record {
+loaded-account_by rules executor sent scripts past collected h in_order filled last = record {
   no_post = no_post-posts past;
   fetched_in_order = λ r. subst (λ (xs : List Sqe). IsPrefix xs (scripts r)) (sym (fetched-posts past r)) (in_order r);
   indexes_count = each-posts IndexCounts IndexCounts index_counts-posts past h.indexes_count;
@@ -377,3 +379,9 @@ loaded-account rules sent scripts past collected h in_order filled last = record
   closed_at_once = closed_at_once-each rules past h.effects_at_once h.deletes;
   nothing_after_closed = each-posts Deletes NothingAfterClosed nothing_after_closed-posts past h.deletes;
 }
+
+-- where commands are answered by their outcomes
+pub loaded-account : (rules : FrontRules) (sent scripts : ℕ → List Sqe) (past : Past) (collected : ℕ → List Cqe) → IsAccount rules sent past collected
+    → ((r : ℕ) → IsPrefix (fetched past r) (scripts r)) → Each (FilledBefore rules scripts) (without_posts past) → Each FetchesLast (without_posts past)
+    → LoadedSoFar rules scripts (without_posts past)
+loaded-account rules = loaded-account_by rules (by_outcome rules)

@@ -14,7 +14,9 @@ use Rattle.nvme_log.specs.Queues.{open_sq, is_open_region, pending, is_closed_re
 use Rattle.nvme_log.specs.Places.{fetched, waiting, places, fate_of, is_waiting, observation_of}
 use Rattle.nvme_log.specs.Histories.{arbitration_of}
 use Rattle.nvme_log.specs.Aborts.{is_index}
-use Rattle.nvme_log.specs.Completions.{is_posted, posted_to, outstanding, IsOwn}
+use Rattle.nvme_log.specs.Answers.{Executor, by_outcome}
+use Rattle.nvme_log.specs.Completions.{is_posted, posted_to, outstanding, IsOwnBy}
+use Rattle.nvme_log.specs.Dispatches.{place_at}
 use Rattle.nvme_log.specs.Effects.{made_last, effects_since, EffectsAtOnce}
 
 -- indexes count each region's fetches from 0 (profile)
@@ -60,9 +62,14 @@ Deletes past (ClosedSq qid r) =
 Deletes past e = Unit {0}
 
 -- a place has at most one completion, its own, after it was picked or aborted (Completion Queue Entry)
+abbrev pub PostsOwnBy : FrontRules → Executor → Past → Event → Type 0
+PostsOwnBy rules executor past (Post c r i cqe) =
+    (is_posted past r i ≡ false) × (is_waiting (fate_of past r i) ≡ false) × IsOwnBy rules (executor (place_at r i)) past c r i cqe
+PostsOwnBy rules executor past e = Unit {0}
+
+-- where commands are answered by their outcomes
 abbrev pub PostsOwn : FrontRules → Past → Event → Type 0
-PostsOwn rules past (Post c r i cqe) = (is_posted past r i ≡ false) × (is_waiting (fate_of past r i) ≡ false) × IsOwn rules past c r i cqe
-PostsOwn rules past e = Unit {0}
+PostsOwn rules past e = PostsOwnBy rules (by_outcome rules) past e
 
 -- a pick and an abort leave no more places outstanding than there may be (profile)
 abbrev pub LeavesPlaces : FrontRules → Past → Event → Type 0
@@ -70,8 +77,9 @@ LeavesPlaces rules past (Pick seen pick) = nat_le (outstanding rules (Pick seen 
 LeavesPlaces rules past (Abort r i) = nat_le (outstanding rules (Abort r i ∷ past)) max_outstanding ≡ true
 LeavesPlaces rules past e = Unit {0}
 
--- the account of what was sent to each submission region, a log, and what was collected from each completion region
-pub record IsAccount (rules : FrontRules) (sent : ℕ → List Sqe) (past : Past) (collected : ℕ → List Cqe) : Type 0 where
+-- the account of what was sent to each submission region, a log, and what was collected from each completion region, where an executor
+-- answers the picked I/O commands
+pub record IsAccountBy (rules : FrontRules) (executor : Executor) (sent : ℕ → List Sqe) (past : Past) (collected : ℕ → List Cqe) : Type 0 where
   -- what was fetched is what was sent first, in order
   pub fetched_in_order : (r : ℕ) → IsPrefix (fetched past r) (sent r)
   pub indexes_count : Each IndexCounts past
@@ -81,12 +89,16 @@ pub record IsAccount (rules : FrontRules) (sent : ℕ → List Sqe) (past : Past
   pub effects_at_once : Each (EffectsAtOnce rules) past
   pub effects_whole : effects_since past ≡ made_last rules past
   pub deletes : Each Deletes past
-  pub posts_own : Each (PostsOwn rules) past
+  pub posts_own : Each (PostsOwnBy rules executor) past
   pub leaves_places : Each (LeavesPlaces rules) past
   -- the picks are a lawful run of the configured arbitration
   pub lawful : IsLawfulRun rules.mechanism rules.start.settings (arbitration_of past)
   -- what was collected is what was posted first, in order
   pub collected_in_order : (c : ℕ) → IsPrefix (collected c) (posted_to past c)
+
+-- the account of a front that executes commands by itself: they are answered by their outcomes
+abbrev pub IsAccount : FrontRules → (ℕ → List Sqe) → Past → (ℕ → List Cqe) → Type 0
+IsAccount rules sent past collected = IsAccountBy rules (by_outcome rules) sent past collected
 
 -- a region's queue is open, so all that its host has is done
 pub record IsDone (past : Past) (script sent : List Sqe) (r : ℕ) : Type 0 where
@@ -95,8 +107,8 @@ pub record IsDone (past : Past) (script sent : List Sqe) (r : ℕ) : Type 0 wher
 
 -- the whole account of the scripts of a workload: everything that was fetched is answered, and what was answered is collected.
 -- `loaded` says that the hosts submitted their whole scripts before the first turn (profile)
-pub record IsWholeAccount (rules : FrontRules) (loaded : Bool) (scripts sent : ℕ → List Sqe) (past : Past) (collected : ℕ → List Cqe) : Type 0 where
-  pub account : IsAccount rules sent past collected
+pub record IsWholeAccountBy (rules : FrontRules) (executor : Executor) (loaded : Bool) (scripts sent : ℕ → List Sqe) (past : Past) (collected : ℕ → List Cqe) : Type 0 where
+  pub account : IsAccountBy rules executor sent past collected
   pub all_posted : (r : ℕ) → list_all (λ (i : ℕ). is_posted past r i) (places past r) ≡ true
   pub none_waits : (r : ℕ) → waiting past r ≡ []
   pub none_pending : pending past ≡ None
@@ -104,6 +116,10 @@ pub record IsWholeAccount (rules : FrontRules) (loaded : Bool) (scripts sent : �
   pub open_done : (r : ℕ) → is_open_region past r ≡ true → IsDone past (scripts r) (sent r) r
   pub sent_in_order : (r : ℕ) → IsPrefix (sent r) (scripts r)
   pub loaded_whole : loaded ≡ true → (r : ℕ) → sent r ≡ scripts r
+
+-- that of a front that executes commands by itself
+abbrev pub IsWholeAccount : FrontRules → Bool → (scripts sent : ℕ → List Sqe) → Past → (ℕ → List Cqe) → Type 0
+IsWholeAccount rules loaded scripts sent past collected = IsWholeAccountBy rules (by_outcome rules) loaded scripts sent past collected
 
 -- no candidate waits, every fetched place has its completion posted, and no deletion is pending
 pub record IsClear (past : Past) : Type 0 where

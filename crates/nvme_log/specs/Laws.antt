@@ -24,10 +24,11 @@ use Rattle.nvme_log.specs.Places.{fetched, waiting, places, fate_of, is_waiting,
 use Rattle.nvme_log.specs.declared.place.Place.{Place}
 use Rattle.nvme_log.specs.Queues.{Queue, open_sq, open_cq}
 use Rattle.nvme_log.specs.Histories.{arbitration_of, table_history}
-use Rattle.nvme_log.specs.Completions.{posted_to, posts_of, outstanding, IsOwn}
-use Rattle.nvme_log.specs.Dispatches.{dispatched, IsJobOf, ExecutesOnce}
+use Rattle.nvme_log.specs.Answers.{Executor, by_outcome}
+use Rattle.nvme_log.specs.Completions.{posted_to, posts_of, outstanding, IsOwnBy}
+use Rattle.nvme_log.specs.Dispatches.{place_at, dispatched, IsJobOf, ExecutesOnce}
 use Rattle.nvme_log.specs.Effects.{made_last, effects_since, EffectsAtOnce}
-use Rattle.nvme_log.specs.Account.{IndexCounts, ServedWhileOpen, Observed, Deletes, PostsOwn, LeavesPlaces, IsAccount, IsWholeAccount, latest_admin_place}
+use Rattle.nvme_log.specs.Account.{IndexCounts, ServedWhileOpen, Observed, Deletes, PostsOwnBy, LeavesPlaces, IsAccount, IsWholeAccount, latest_admin_place}
 use Rattle.nvme_log.specs.AbortLaws.{TakesCommand}
 
 -- a submission queue of the table, where it is open and not closing
@@ -47,16 +48,20 @@ OneFateEach = (past : Past) (r : ℕ) →
 
 -- what the account says of a log as far as it has come. What a picked command makes may not all be there yet, and more may have been
 -- collected
-pub record AccountsSoFar (rules : FrontRules) (sent : ℕ → List Sqe) (past : Past) : Type 0 where
+pub record AccountsSoFarBy (rules : FrontRules) (executor : Executor) (sent : ℕ → List Sqe) (past : Past) : Type 0 where
   pub fetched_in_order : (r : ℕ) → IsPrefix (fetched past r) (sent r)
   pub indexes_count : Each IndexCounts past
   pub served_while_open : Each (ServedWhileOpen rules) past
   pub observed : Each Observed past
   pub effects_at_once : Each (EffectsAtOnce rules) past
   pub deletes : Each Deletes past
-  pub posts_own : Each (PostsOwn rules) past
+  pub posts_own : Each (PostsOwnBy rules executor) past
   pub leaves_places : Each (LeavesPlaces rules) past
   pub lawful : IsLawfulRun rules.mechanism rules.start.settings (arbitration_of past)
+
+-- where commands are answered by their outcomes
+abbrev pub AccountsSoFar : FrontRules → (ℕ → List Sqe) → Past → Type 0
+AccountsSoFar rules sent past = AccountsSoFarBy rules (by_outcome rules) sent past
 
 -- the events of an accounted log up to any of them are accounted as far as they have come
 abbrev pub PrefixesAreAccounted : Type 0
@@ -69,7 +74,7 @@ OnePostEach = (rules : FrontRules) (sent : ℕ → List Sqe) (past : Past) (coll
     → IsAccount rules sent past collected → (r i : ℕ) → posts_of past r i ≤ 1
 
 -- a place has one completion: it is its own, it was collected, in its turn, and the place has no other
-pub record HasOneCompletion (rules : FrontRules) (past : Past) (collected : ℕ → List Cqe) (r i : ℕ) : Type 0 where
+pub record HasOneCompletionBy (rules : FrontRules) (executor : Executor) (past : Past) (collected : ℕ → List Cqe) (r i : ℕ) : Type 0 where
   -- the completion region, and the completion
   pub region : ℕ
   pub cqe : Cqe
@@ -77,15 +82,23 @@ pub record HasOneCompletion (rules : FrontRules) (past : Past) (collected : ℕ 
   pub before : Past
   pub later : Past
   pub stands : later ++ Post region r i cqe ∷ before ≡ past
-  pub own : IsOwn rules before region r i cqe
+  pub own : IsOwnBy rules (executor (place_at r i)) before region r i cqe
   pub was_collected : slice_get (collected region) (length (posted_to before region)) ≡ Some cqe
   pub only : posts_of past r i ≡ 1
 
+-- where commands are answered by their outcomes
+abbrev pub HasOneCompletion : FrontRules → Past → (ℕ → List Cqe) → (r i : ℕ) → Type 0
+HasOneCompletion rules past collected r i = HasOneCompletionBy rules (by_outcome rules) past collected r i
+
 -- in a whole account what was fetched from each region is what was submitted first, in order, and every fetched command has exactly one
 -- collected completion, its own
-pub record IsAnswered (rules : FrontRules) (sent : ℕ → List Sqe) (past : Past) (collected : ℕ → List Cqe) : Type 0 where
+pub record IsAnsweredBy (rules : FrontRules) (executor : Executor) (sent : ℕ → List Sqe) (past : Past) (collected : ℕ → List Cqe) : Type 0 where
   pub in_order : (r : ℕ) → IsPrefix (fetched past r) (sent r)
-  pub one_completion : (r i : ℕ) → i < length (fetched past r) → HasOneCompletion rules past collected r i
+  pub one_completion : (r i : ℕ) → i < length (fetched past r) → HasOneCompletionBy rules executor past collected r i
+
+-- where commands are answered by their outcomes
+abbrev pub IsAnswered : FrontRules → (ℕ → List Sqe) → Past → (ℕ → List Cqe) → Type 0
+IsAnswered rules sent past collected = IsAnsweredBy rules (by_outcome rules) sent past collected
 
 abbrev pub WholeAccountsAnswer : Type 0
 WholeAccountsAnswer = (rules : FrontRules) (loaded : Bool) (scripts sent : ℕ → List Sqe) (past : Past) (collected : ℕ → List Cqe)
@@ -143,7 +156,7 @@ CompletedAfter past = (later before : Past) (c r i : ℕ) (cqe : Cqe) → past �
     → HasPick before r i ⊎ (is_aborted before r i ≡ true)
 
 -- what a run promises, sentence by sentence
-pub record KeepsThePromise (rules : FrontRules) (sent : ℕ → List Sqe) (past : Past) (collected : ℕ → List Cqe) : Type 0 where
+pub record KeepsThePromiseBy (rules : FrontRules) (executor : Executor) (sent : ℕ → List Sqe) (past : Past) (collected : ℕ → List Cqe) : Type 0 where
   -- the commands fetched from each submission queue are a prefix of those submitted to it, in order, each once
   pub fetched_in_order : (r : ℕ) → IsPrefix (fetched past r) (sent r)
   -- none is fetched after the deletion of its queue began
@@ -152,7 +165,7 @@ pub record KeepsThePromise (rules : FrontRules) (sent : ℕ → List Sqe) (past 
   pub none_after_answer : (later middle before : Past) (qid r c i : ℕ) (cqe : Cqe) → past ≡ later ++ Post c 0 i cqe ∷ (middle ++ Closing qid r ∷ before)
       → latest_admin_place before ≡ Some i → fetched past r ≡ fetched (middle ++ Closing qid r ∷ before) r
   -- every fetched command has exactly one collected completion, its own
-  pub one_completion : (r i : ℕ) → i < length (fetched past r) → HasOneCompletion rules past collected r i
+  pub one_completion : (r i : ℕ) → i < length (fetched past r) → HasOneCompletionBy rules executor past collected r i
   -- the picks are a lawful run of the configured arbitration
   pub lawful : IsLawfulRun rules.mechanism rules.start.settings (arbitration_of past)
   -- over what the arbiter observed: the open queues, each with its number of candidates
@@ -170,6 +183,10 @@ pub record KeepsThePromise (rules : FrontRules) (sent : ℕ → List Sqe) (past 
   pub picked_once : PickedOnce past
   pub aborted_unpicked : AbortedUnpicked past
   pub completed_after : CompletedAfter past
+
+-- what a run of a front promises that executes commands by itself
+abbrev pub KeepsThePromise : FrontRules → (ℕ → List Sqe) → Past → (ℕ → List Cqe) → Type 0
+KeepsThePromise rules sent past collected = KeepsThePromiseBy rules (by_outcome rules) sent past collected
 
 abbrev pub WholeAccountsKeepThePromise : Type 0
 WholeAccountsKeepThePromise = (rules : FrontRules) (loaded : Bool) (scripts sent : ℕ → List Sqe) (past : Past) (collected : ℕ → List Cqe)

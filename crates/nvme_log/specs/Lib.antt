@@ -4,6 +4,7 @@ pub mod Queues
 pub mod Places
 pub mod Histories
 pub mod Aborts
+pub mod Answers
 pub mod Completions
 pub mod Effects
 pub mod Account
@@ -19,3 +20,5 @@ pub mod LoadedExamples
 pub mod PromiseExamples
 pub mod Bounds
 pub mod Foreseen
+pub mod AnswerLaws
+pub mod AnswerExamples

@@ -30,6 +30,10 @@ ghost use Rattle.nvme_log.specs.LoadedLaws.{LoadedStepIsOne, LoadedLogIsOne};
 ghost use Rattle.nvme_log.specs.Foreseen.{AnswersAreForeseen};
 ghost use Rattle.nvme_log.specs.Bounds.{LogsAreShort};
 ghost use Rattle.nvme_log.specs.PromiseExamples.{one_read, one_read_done, unclosed_answered, unclosed, one_too_many, unasked_set, unasked, unasked_done, abort_missing, answered_early, aborted_late};
+ghost use Rattle.nvme_log.specs.Answers.{by_answers};
+ghost use Rattle.nvme_log.specs.Account.{IsAccountBy, PostsOwnBy};
+ghost use Rattle.nvme_log.specs.AnswerLaws.{IsAnsweredPick, AccountsAnswerAlike, AccountsAnswerByOutcome, AnswersByOutcomeAreAccounted, AccountsKeepTheLaws, PrefixesAreAccountedBy, WholeAccountsAnswerBy, WholeAccountsKeepThePromiseBy, PromisesServeOnceBy};
+ghost use Rattle.nvme_log.specs.AnswerExamples.{faulty, failed, read_failed, creates_done, failed_told};
 ghost use Rattle.nvme_log.specs.Laws.{KeepsThePromise, NoneAfterDelete, PickedOnce, AbortedUnpicked, CompletedAfter, PromisesServeOnce};
 ghost use Rattle.nvme_log.specs.Laws.{QueuesAreTheTables, StartsWithAdmin, OneFateEach, PlacesAreTaken, EachIsExecutedOnce, PrefixesAreAccounted, OnePostEach, WholeAccountsAnswer, WholeAccountsKeepThePromise};
 
@@ -107,6 +111,46 @@ pub fn logs_are_short()
 /// begins before the deletion that the one before it began is finished.
 pub fn answers_are_foreseen()
     ensures { AnswersAreForeseen }
+{}
+
+/// A log is the account of a front that executes commands by itself exactly where it is accounted by their outcomes. So
+/// it is where the answers are the outcomes of the picked I/O commands whose completions were posted, whatever they are
+/// elsewhere: an account takes no answer from anywhere else.
+pub fn accounts_answer_by_outcome()
+    ensures exactly { AccountsAnswerByOutcome }
+    ensures agreeing { AnswersByOutcomeAreAccounted }
+    ensures alike { AccountsAnswerAlike }
+{}
+
+/// Whatever executes the I/O commands, and whatever it answers: the laws of accounts hold, prefixes are accounted, a
+/// whole account answers each command and keeps the promise of a run, and the promise serves each command once.
+pub fn laws_hold_whatever_executes()
+    ensures accounts { AccountsKeepTheLaws }
+    ensures prefixes { PrefixesAreAccountedBy }
+    ensures whole { WholeAccountsAnswerBy }
+    ensures promise { WholeAccountsKeepThePromiseBy }
+    ensures served { PromisesServeOnceBy }
+{}
+
+/// Worked: a device answers the Read that is picked with an error and a Command Dword 0. The log is accounted by its
+/// answers, and isn't the account of a front that executes by itself. Another status and another Command Dword 0 than
+/// the device's are refused. An admin command is told what its checks say, and an aborted one who aborted it, whatever
+/// the device has for their places.
+pub fn devices_answer_otherwise()
+    ensures accounted { IsAccountBy one_deletion (by_answers faulty) (at_two admin_script reads) read_failed (at_two creates_done failed_told) }
+    ensures not_by_outcome { IsAccount one_deletion (at_two admin_script reads) read_failed (at_two creates_done failed_told) → ⊥ }
+    ensures other_status { PostsOwnBy one_deletion (by_answers faulty) one_picked (Post 1 1 0 (record (failed read_done) { status = success })) → ⊥ }
+    ensures other_dw0 { PostsOwnBy one_deletion (by_answers faulty) one_picked (Post 1 1 0 (record (failed read_done) { dw0 = 0 })) → ⊥ }
+    ensures aborted { PostsOwnBy one_deletion (by_answers faulty) closing (Post 1 1 1 (done 1 1 aborted_by_deletion)) }
+{}
+
+/// Worked: answers matter for a picked I/O command whose completion was posted, as the Read of that log. They don't for
+/// an admin command, for a command that was aborted and for one without a completion.
+pub fn answered_picks_are_told_apart()
+    ensures read { IsAnsweredPick read_failed 1 0 }
+    ensures admin { IsAnsweredPick read_failed 0 0 → ⊥ }
+    ensures aborted { IsAnsweredPick aborted_posted 1 1 → ⊥ }
+    ensures unposted { IsAnsweredPick one_picked 1 0 → ⊥ }
 {}
 
 /// The queues that an accounted log opens and closes are those of its table history. Each opening is an accepted
