@@ -38,7 +38,7 @@ use Rattle.nvme_log.proofs.Turns.{target-is, aborts-in, aborted-by, waits-in, in
 
 -- ---- who isn't dispatched
 -- a place doesn't wait
-abbrev WaitsNot : Past → Place → Type 0
+abbrev pub WaitsNot : Past → Place → Type 0
 WaitsNot past p = is_waiting (fate_of past p.region p.index) ≡ false
 
 -- a place is another
@@ -64,7 +64,7 @@ dispatched_by-waits_not past seen pick (Some queue) is = by (pick.qid == 0) wher
 still-waits_not : (e : Event) (past : Past) (ps : List Place) → All (WaitsNot past) ps → All (WaitsNot (e ∷ past)) ps
 still-waits_not e past ps h = All-weaker (WaitsNot past) (WaitsNot (e ∷ past)) (λ p w. stays e past p.region p.index w) ps h
 
-dispatched-waits_not : (past : Past) → All (WaitsNot past) (dispatched past)
+pub dispatched-waits_not : (past : Past) → All (WaitsNot past) (dispatched past)
 dispatched-waits_not [] = All-nil (WaitsNot [])
 dispatched-waits_not (event.Pick seen pick ∷ past) =
     All-append (WaitsNot (event.Pick seen pick ∷ past)) (dispatched past) (dispatched_by past pick (open_sq past pick.qid))

@@ -33,3 +33,4 @@ pub mod LogLengths
 pub mod Foreseen
 pub mod AnswerLaws
 pub mod AnswerExamples
+pub mod DeletionAnswers

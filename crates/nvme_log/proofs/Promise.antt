@@ -32,20 +32,20 @@ use Rattle.nvme_log.proofs.PickedOnce.{picked_once, aborted_unpicked, completed_
 
 -- ---- a command makes a Closing only as its first effect
 -- at an event the deletion of a submission queue begins
-abbrev is_closing : Event → Bool
+abbrev pub is_closing : Event → Bool
 is_closing (Closing qid region) = true
 is_closing e = false
 
 -- an event is no Closing
-abbrev IsOther : Event → Type 0
+abbrev pub IsOther : Event → Type 0
 IsOther e = is_closing e ≡ false
 
 -- none of some events is a Closing
-abbrev NoClosing : List Event → Type 0
+abbrev pub NoClosing : List Event → Type 0
 NoClosing es = All IsOther es
 
 -- all but the first of some events
-abbrev all_but_first : List Event → List Event
+abbrev pub all_but_first : List Event → List Event
 all_but_first [] = []
 all_but_first (e ∷ es) = es
 
@@ -92,7 +92,7 @@ entry_once rules past None = All-nil IsOther
 entry_once rules past (Some entry) = made_once past (verdict_of rules.start (table_history rules past) entry)
 
 -- the latest picked command makes a Closing only as its first effect
-last_once : (rules : FrontRules) (past : Past) → NoClosing (all_but_first (made_last rules past))
+pub last_once : (rules : FrontRules) (past : Past) → NoClosing (all_but_first (made_last rules past))
 last_once rules [] = All-nil IsOther
 last_once rules (Pick seen pick ∷ past) = of_admin (pick.qid == 0) where
   -- an I/O command makes nothing
@@ -102,7 +102,7 @@ last_once rules (Pick seen pick ∷ past) = of_admin (pick.qid == 0) where
 last_once rules (e ∷ past) = last_once rules past
 
 -- no Closing comes after another effect of one command
-closing_is_first : (es rest made : List Event) (qid r : ℕ) → (es ≡ [] → ⊥) → (es ++ Closing qid r ∷ []) ++ rest ≡ made → NoClosing (all_but_first made) → ⊥
+pub closing_is_first : (es rest made : List Event) (qid r : ℕ) → (es ≡ [] → ⊥) → (es ++ Closing qid r ∷ []) ++ rest ≡ made → NoClosing (all_but_first made) → ⊥
 closing_is_first [] rest made qid r some is none = some refl
 closing_is_first (e ∷ es) rest made qid r some is none = closing_among es rest qid r (subst (λ (xs : List Event). NoClosing (all_but_first xs)) (sym is) none)
 

@@ -10,7 +10,8 @@ use Rattle.nvme_admin.specs.Accepted.{status_of}
 use Rattle.nvme_admin.specs.declared.verdict.Verdict.TheVariants as verdict
 use Rattle.nvme_log.specs.declared.event.Event.TheVariants as event
 use Rattle.nvme_log.specs.Rules.{Past, FrontRules}
-use Rattle.nvme_log.specs.Places.{Place, fetched, fate_of, is_picked, is_aborted, entry_at}
+use Rattle.nvme_log.specs.Places.{fetched, fate_of, is_picked, is_aborted, entry_at}
+use Rattle.nvme_log.specs.declared.place.Place.{Place}
 use Rattle.nvme_log.specs.Histories.{table_history}
 use Rattle.nvme_log.specs.Answers.{Executor, Answers, by_answers, outcomes}
 use Rattle.nvme_log.specs.Completions.{is_posted, posts_of}

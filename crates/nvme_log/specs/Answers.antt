@@ -5,7 +5,8 @@ use Rattle.nvme_entry.specs.Status.{StatusCode, success}
 use Rattle.nvme_entry.specs.Outcome.{outcome_of}
 use Rattle.nvme_entry.specs.declared.submission.Sqe.{Sqe}
 use Rattle.nvme_log.specs.Rules.{Past, FrontRules}
-use Rattle.nvme_log.specs.Places.{Place, entry_at}
+use Rattle.nvme_log.specs.Places.{entry_at}
+use Rattle.nvme_log.specs.declared.place.Place.{Place}
 
 -- the answer to an I/O command: its status and Command Dword 0
 pub record Answer : Type 0 where

@@ -1,11 +1,13 @@
-//! Tests of entries, arbitration, rings and lanes, admin commands, workers, workload files and reports. Each test uses
-//! the public names of one crate.
+//! Tests of entries, arbitration, rings and lanes, admin commands, workers, workload files, reports and the rings of
+//! a controller. Each test uses the public names of one crate.
 #![tactic(auto)]
 
 #[cfg(test)]
 mod admin;
 #[cfg(test)]
 mod arbiter;
+#[cfg(test)]
+mod ctrl;
 #[cfg(test)]
 mod entry;
 #[cfg(test)]

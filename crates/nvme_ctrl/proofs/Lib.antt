@@ -1,0 +1,9 @@
+pub mod Noted
+pub mod Served
+pub mod TagLaws
+pub mod Accounted
+pub mod Slots
+pub mod Deletions
+pub mod ExampleNotes
+pub mod WrongNotes
+pub mod Turns

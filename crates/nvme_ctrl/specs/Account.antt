@@ -1,0 +1,110 @@
+-- What a controller may note, after what it noted before.
+-- (Base Specification, Command Submission and Completion Mechanism, Command Arbitration, Admin Command Set; tags, windows, outstanding places: profile)
+use Rattle.std.specs.Prelude.{◌≡◌, ℕ, ◌+◌, ◌<◌, ◌≤◌, Bool, true, false, ◌∷◌, length, Some, None, slice_get, MatchBool, ◌==◌}
+use Rattle.std.specs.List.{list_any}
+use Rattle.nvme_entry.specs.declared.submission.Sqe.{Sqe}
+use Rattle.nvme_arbiter.specs.Lawful.{IsLawfulRun}
+use Rattle.nvme_log.specs.declared.event.Event.{Event}
+use Rattle.nvme_log.specs.declared.event.Event.TheVariants.{Fetch, Post}
+use Rattle.nvme_log.specs.Rules.{FrontRules}
+use Rattle.nvme_log.specs.Queues.{is_open_region, open_cq}
+use Rattle.nvme_log.specs.Places.{fetched, fate_of, is_picked, entry_at}
+use Rattle.nvme_log.specs.Histories.{arbitration_of}
+use Rattle.nvme_log.specs.Effects.{made_last, effects_since, EffectsAtOnce}
+use Rattle.nvme_log.specs.Dispatches.{place_at, dispatched}
+use Rattle.nvme_log.specs.Completions.{posted_to, own_status, own_dw0}
+use Rattle.nvme_log.specs.Answers.{Answer, by_answers}
+use Rattle.nvme_log.specs.Account.{IndexCounts, ServedWhileOpen, Observed, Deletes, PostsOwnBy, LeavesPlaces, deleting_place}
+use Rattle.nvme_arbiter.specs.Limits.{queue_limit}
+use Rattle.nvme_log.specs.Rules.{upto}
+use Rattle.nvme_log.specs.Aborts.{is_index}
+use Rattle.nvme_ctrl.specs.Notes.{Notes, Note, Logged, Tail, Head, Taken, Answered, EachNote, logged}
+use Rattle.nvme_ctrl.specs.Doorbells.{sq_slots, cq_slots, submitted, consumed}
+use Rattle.nvme_ctrl.specs.Tags.{taken, holder, answer_of, answers, is_through}
+
+-- ---- events
+-- a fetch takes a command that the host submitted (Submission Queue y Tail Doorbell)
+abbrev pub FetchesSubmitted : FrontRules → Notes → Event → Type 0
+FetchesSubmitted rules notes (Fetch r i entry) = length (fetched (logged notes) r) < submitted rules notes r
+FetchesSubmitted rules notes e = Unit {0}
+
+-- a completion goes into a slot that the host consumed. A full queue has one slot less than its ring (Completion Queue y Head Doorbell, Full Queue)
+abbrev pub PostsOnFreeSlot : FrontRules → Notes → Event → Type 0
+PostsOnFreeSlot rules notes (Post c r i cqe) = length (posted_to (logged notes) c) + 1 < consumed rules notes c + cq_slots rules c
+PostsOnFreeSlot rules notes e = Unit {0}
+
+-- a completion is posted when its command was answered or aborted
+abbrev pub PostsWhatIsThrough : Notes → Event → Type 0
+PostsWhatIsThrough notes (Post c r i cqe) = is_through notes r i ≡ true
+PostsWhatIsThrough notes e = Unit {0}
+
+-- an event is lawful: it is one of an accounted log, where commands are answered as the notes say, and follows the doorbells
+pub record IsLawfulEvent (rules : FrontRules) (notes : Notes) (e : Event) : Type 0 where
+  pub index_counts : IndexCounts (logged notes) e
+  pub served_while_open : ServedWhileOpen rules (logged notes) e
+  pub observed : Observed (logged notes) e
+  pub effects_at_once : EffectsAtOnce rules (logged notes) e
+  pub deletes : Deletes (logged notes) e
+  pub posts_own : PostsOwnBy rules (by_answers (answers notes)) (logged notes) e
+  pub leaves_places : LeavesPlaces rules (logged notes) e
+  pub fetches_submitted : FetchesSubmitted rules notes e
+  pub posts_on_free_slot : PostsOnFreeSlot rules notes e
+  pub posts_what_is_through : PostsWhatIsThrough notes e
+
+-- ---- doorbells
+-- a tail is a slot of an open queue, no further on than where the ring is full (Full Queue)
+pub record IsTail (rules : FrontRules) (notes : Notes) (r slot : ℕ) : Type 0 where
+  pub is_open : is_open_region (logged notes) r ≡ true
+  pub is_slot : slot < sq_slots rules r
+  pub fits : submitted rules (Tail r slot ∷ notes) r < length (fetched (logged notes) r) + sq_slots rules r
+
+-- a region is that of an open completion queue
+abbrev pub is_open_cq_region : Notes → ℕ → Bool
+is_open_cq_region notes c = list_any (λ (q : ℕ). is_index c (open_cq (logged notes) q)) (upto queue_limit)
+
+-- a head is a slot of an open queue, no further on than what was posted
+pub record IsHead (rules : FrontRules) (notes : Notes) (c slot : ℕ) : Type 0 where
+  pub is_open : is_open_cq_region notes c ≡ true
+  pub is_slot : slot < cq_slots rules c
+  pub posted : consumed rules (Head c slot ∷ notes) c ≤ length (posted_to (logged notes) c)
+
+-- ---- the device
+-- the device takes the picked commands of I/O queues in the order of the picks, each under a tag that stands for no command
+pub record IsTaken (notes : Notes) (tag r i : ℕ) : Type 0 where
+  pub next : slice_get (dispatched (logged notes)) (length (taken notes)) ≡ Some (place_at r i)
+  pub free : holder notes tag ≡ None
+
+-- the controller carried out an admin command: all that it makes is there, and a deletion that it began is finished
+pub record IsCarriedOut (rules : FrontRules) (notes : Notes) (i : ℕ) (answer : Answer) : Type 0 where
+  pub entry : Sqe
+  pub is_there : entry_at (logged notes) 0 i ≡ Some entry
+  pub picked : is_picked (fate_of (logged notes) 0 i) ≡ true
+  pub whole : effects_since (logged notes) ≡ made_last rules (logged notes)
+  pub finished : is_index i (deleting_place (logged notes)) ≡ false
+  pub status : answer.status ≡ own_status rules (logged notes) 0 i entry
+  pub dw0 : answer.dw0 ≡ own_dw0 rules (logged notes) 0 i entry
+
+-- the device has the command of a place
+pub record HasTag (notes : Notes) (r i : ℕ) : Type 0 where
+  pub tag : ℕ
+  pub stands : holder notes tag ≡ Some (place_at r i)
+
+-- a command is answered once: an admin command when it is carried out, any other by the device, which has it
+pub record IsAnswer (rules : FrontRules) (notes : Notes) (r i : ℕ) (answer : Answer) : Type 0 where
+  pub first : answer_of notes r i ≡ None
+  pub executed : MatchBool (r == 0) (IsCarriedOut rules notes i answer) (HasTag notes r i)
+
+-- ---- all of it
+abbrev pub IsLawful : FrontRules → Notes → Note → Type 0
+IsLawful rules notes (Logged e) = IsLawfulEvent rules notes e
+IsLawful rules notes (Tail r slot) = IsTail rules notes r slot
+IsLawful rules notes (Head c slot) = IsHead rules notes c slot
+IsLawful rules notes (Taken tag r i) = IsTaken notes tag r i
+IsLawful rules notes (Answered r i answer) = IsAnswer rules notes r i answer
+
+pub record IsAccount (rules : FrontRules) (notes : Notes) : Type 0 where
+  pub each : EachNote (IsLawful rules) notes
+  -- the picks are a lawful run of the configured arbitration
+  pub lawful : IsLawfulRun rules.mechanism rules.start.settings (arbitration_of (logged notes))
+  -- what the latest admin command makes is all there
+  pub effects_whole : effects_since (logged notes) ≡ made_last rules (logged notes)

@@ -1,0 +1,158 @@
+-- Worked logs of a controller, for which the definitions compute (profile).
+use Rattle.std.specs.Prelude.{ℕ, true, false, List, [], ◌∷◌}
+use Rattle.nvme_entry.specs.Status.{success, aborted_by_deletion, lba_out_of_range}
+use Rattle.nvme_entry.specs.declared.completion.Cqe.{Cqe}
+use Rattle.nvme_arbiter.specs.declared.settings.Class.TheVariants.{Urgent}
+use Rattle.nvme_log.specs.declared.event.Event.TheVariants.{Fetch, OpenSq, OpenCq, Closing, Abort, Post, ClosedSq}
+use Rattle.nvme_log.specs.Answers.{Answer}
+use Rattle.nvme_log.specs.Examples.{get_arbitration, admin_picked, admin_posted, create_cq, create_sq, delete_sq, read, done, admin_seen, reads_seen, picked_of}
+use Rattle.nvme_ctrl.specs.Notes.{Notes, Logged, Tail, Head, Taken, Answered}
+
+-- ---- four commands whose completions pass a ring of two slots twice
+-- the settings of the Arbitration feature, as an answer
+abbrev pub told : Answer
+told = record { status = success; dw0 = 0x03010001 }
+
+-- the host submitted four commands
+abbrev pub four_submitted : Notes
+four_submitted =
+    Tail 0 4 ∷ []
+
+-- three of them are fetched
+abbrev pub three_of_four : Notes
+three_of_four =
+    Logged (Fetch 0 2 (get_arbitration 2))
+    ∷ Logged (Fetch 0 1 (get_arbitration 1))
+    ∷ Logged (Fetch 0 0 (get_arbitration 0)) ∷ four_submitted
+
+-- and the fourth
+abbrev pub four_fetched : Notes
+four_fetched =
+    Logged (Fetch 0 3 (get_arbitration 3)) ∷ three_of_four
+
+-- the first is picked
+abbrev pub first_picked : Notes
+first_picked =
+    Logged (admin_picked 4) ∷ four_fetched
+
+-- and answered
+abbrev pub first_answered : Notes
+first_answered =
+    Answered 0 0 told ∷ first_picked
+
+-- its completion is posted, which fills the queue
+abbrev pub first_posted : Notes
+first_posted =
+    Logged (admin_posted 0 true) ∷ first_answered
+
+-- the host consumed it, and the second command is answered
+abbrev pub second_answered : Notes
+second_answered =
+    Answered 0 1 told
+    ∷ Logged (admin_picked 3) ∷ Head 0 1 ∷ first_posted
+
+-- so is the third, after the ring was passed
+abbrev pub third_answered : Notes
+third_answered =
+    Answered 0 2 told
+    ∷ Logged (admin_picked 2) ∷ Head 0 0
+    ∷ Logged (admin_posted 1 true) ∷ second_answered
+
+-- all four are posted
+abbrev pub two_passes : Notes
+two_passes =
+    Logged (admin_posted 3 false)
+    ∷ Answered 0 3 told
+    ∷ Logged (admin_picked 1) ∷ Head 0 1
+    ∷ Logged (admin_posted 2 false) ∷ third_answered
+
+-- ---- a queue that is deleted while the device has one of its commands and two wait
+abbrev pub succeeded : Answer
+succeeded = record { status = success; dw0 = 0 }
+
+abbrev pub out_of_range : Answer
+out_of_range = record { status = lba_out_of_range; dw0 = 0 }
+
+-- the completion of a Read that was aborted
+abbrev pub aborted_done : ℕ → Cqe
+aborted_done cid = done 1 cid aborted_by_deletion
+
+-- the Create of completion queue 1 is picked
+abbrev pub create_picked : Notes
+create_picked =
+    Logged (picked_of (admin_seen 3 ∷ []) 0)
+    ∷ Logged (Fetch 0 2 delete_sq)
+    ∷ Logged (Fetch 0 1 create_sq)
+    ∷ Logged (Fetch 0 0 create_cq) ∷ Tail 0 3 ∷ []
+
+-- completion queue 1 and submission queue 1 are there
+abbrev pub queue_made : Notes
+queue_made =
+    Logged (Post 0 0 1 (done 0 1 success))
+    ∷ Answered 0 1 succeeded
+    ∷ Logged (OpenSq 1 1 1 Urgent)
+    ∷ Logged (picked_of (admin_seen 2 ∷ []) 0)
+    ∷ Logged (Post 0 0 0 (done 0 0 success))
+    ∷ Answered 0 0 succeeded
+    ∷ Logged (OpenCq 1 1) ∷ create_picked
+
+-- the host submits three Reads
+abbrev pub reads_submitted : Notes
+reads_submitted =
+    Tail 1 3 ∷ queue_made
+
+-- which are fetched
+abbrev pub reads_waiting : Notes
+reads_waiting =
+    Logged (Fetch 1 2 (read 2))
+    ∷ Logged (Fetch 1 1 (read 1))
+    ∷ Logged (Fetch 1 0 (read 0)) ∷ reads_submitted
+
+-- one is picked
+abbrev pub read_picked : Notes
+read_picked =
+    Logged (picked_of (admin_seen 1 ∷ reads_seen 3 ∷ []) 1) ∷ reads_waiting
+
+-- and the device takes it under tag 7
+abbrev pub read_taken : Notes
+read_taken =
+    Taken 7 1 0 ∷ read_picked
+
+-- the deletion of the queue begins, and aborts the two that wait
+abbrev pub delete_begun : Notes
+delete_begun =
+    Logged (Abort 1 2)
+    ∷ Logged (Abort 1 1)
+    ∷ Logged (Closing 1 1)
+    ∷ Logged (picked_of (admin_seen 1 ∷ reads_seen 2 ∷ []) 0) ∷ read_taken
+
+-- their completions are posted
+abbrev pub aborts_posted : Notes
+aborts_posted =
+    Logged (Post 1 1 2 (aborted_done 2))
+    ∷ Logged (Post 1 1 1 (aborted_done 1)) ∷ delete_begun
+
+-- the device answers the third
+abbrev pub read_answered : Notes
+read_answered =
+    Answered 1 0 succeeded ∷ aborts_posted
+
+-- whose completion is posted
+abbrev pub reads_posted : Notes
+reads_posted =
+    Logged (Post 1 1 0 (done 1 0 success)) ∷ read_answered
+
+-- the deletion is finished
+abbrev pub queue_gone : Notes
+queue_gone =
+    Logged (ClosedSq 1 1) ∷ reads_posted
+
+-- and the command that began it is answered
+abbrev pub delete_told : Notes
+delete_told =
+    Answered 0 2 succeeded ∷ queue_gone
+
+-- whose completion is posted
+abbrev pub deletion_noted : Notes
+deletion_noted =
+    Logged (Post 0 0 2 (done 0 2 success)) ∷ delete_told

@@ -1,0 +1,94 @@
+-- Laws of the log of a controller, in the words of those who embed one. (profile)
+use Rattle.std.specs.Prelude.{◌≡◌, ◌≢◌, ◌⊎◌, ℕ, ◌+◌, ◌<◌, ◌≤◌, ◌%◌, true, List, ◌∷◌, ◌++◌, length, Some}
+use Rattle.std.specs.List.{list_all}
+use mathlib.Core.List.{IsPrefix}
+use Rattle.nvme_entry.specs.declared.submission.Sqe.{Sqe}
+use Rattle.nvme_entry.specs.declared.completion.Cqe.{Cqe}
+use Rattle.nvme_arbiter.specs.declared.pick.Seen.{Seen}
+use Rattle.nvme_arbiter.specs.declared.pick.Pick.{Pick}
+use Rattle.nvme_arbiter.specs.Lawful.{IsLawfulPick}
+use Rattle.nvme_log.specs.declared.event.Event.TheVariants as event
+use Rattle.nvme_log.specs.Rules.{FrontRules}
+use Rattle.nvme_log.specs.Places.{fetched, is_aborted, places, observation_of}
+use Rattle.nvme_log.specs.declared.place.Place.{Place}
+use Rattle.nvme_log.specs.Histories.{arbitration_of}
+use Rattle.nvme_log.specs.Completions.{is_posted, posted_to, posts_of, phase_after}
+use Rattle.nvme_log.specs.Answers.{Answer, by_answers}
+use Rattle.nvme_log.specs.Account.{IsAccountBy, latest_admin_place}
+use Rattle.nvme_log.specs.Laws.{PicksPlace}
+use Rattle.nvme_ctrl.specs.Notes.{Notes, Logged, logged}
+use Rattle.nvme_ctrl.specs.Doorbells.{sq_slots, cq_slots, submitted, consumed}
+use Rattle.nvme_ctrl.specs.Tags.{holder, answer_of, answers}
+use Rattle.nvme_ctrl.specs.Account.{IsAccount}
+
+-- the events of a controller's log are those of an accounted log, where the device answers: so every law of such logs holds of it
+abbrev pub EventsAreAccounted : Type 0
+EventsAreAccounted = (rules : FrontRules) (notes : Notes) (sent : ℕ → List Sqe) (collected : ℕ → List Cqe) → IsAccount rules notes
+    → ((r : ℕ) → IsPrefix (fetched (logged notes) r) (sent r)) → ((c : ℕ) → IsPrefix (collected c) (posted_to (logged notes) c))
+    → IsAccountBy rules (by_answers (answers notes)) sent (logged notes) collected
+
+-- a fetch takes the next command: its slot was submitted before, and the host may not write there again until it is fetched
+pub record FetchesTheNext (rules : FrontRules) (before : Notes) (r i : ℕ) : Type 0 where
+  pub next : i ≡ length (fetched (logged before) r)
+  pub was_submitted : i < submitted rules before r
+  pub is_kept : submitted rules before r < i + sq_slots rules r
+
+-- each submitted slot is fetched once, in order, and never before its doorbell
+abbrev pub SlotsAreFetchedInOrder : Type 0
+SlotsAreFetchedInOrder = (rules : FrontRules) (later before : Notes) (r i : ℕ) (entry : Sqe) → IsAccount rules (later ++ Logged (event.Fetch r i entry) ∷ before)
+    → FetchesTheNext rules before r i
+
+-- a place was aborted, or its command was answered; the completion of an I/O command has that answer
+pub record AnswersPlace (before : Notes) (r i : ℕ) (cqe : Cqe) : Type 0 where
+  pub answer : Answer
+  pub answered : answer_of before r i ≡ Some answer
+  pub status : r ≢ 0 → cqe.status ≡ answer.status
+  pub dw0 : r ≢ 0 → cqe.dw0 ≡ answer.dw0
+
+-- a completion is posted after the command's answer or its abort
+abbrev pub CompletionsFollowAnswers : Type 0
+CompletionsFollowAnswers = (rules : FrontRules) (later before : Notes) (c r i : ℕ) (cqe : Cqe) → IsAccount rules (later ++ Logged (event.Post c r i cqe) ∷ before)
+    → (is_aborted (logged before) r i ≡ true) ⊎ AnswersPlace before r i cqe
+
+-- a command has at most one completion
+abbrev pub OneCompletionEach : Type 0
+OneCompletionEach = (rules : FrontRules) (notes : Notes) → IsAccount rules notes → (r i : ℕ) → posts_of (logged notes) r i ≤ 1
+
+-- where a slot of a completion queue is written twice, the host had consumed the first completion before the second was written
+abbrev pub SlotsAreFree : Type 0
+SlotsAreFree = (rules : FrontRules) (later between before : Notes) (c r i s j : ℕ) (first second : Cqe)
+    → IsAccount rules (later ++ Logged (event.Post c s j second) ∷ (between ++ Logged (event.Post c r i first) ∷ before))
+    → length (posted_to (logged (between ++ Logged (event.Post c r i first) ∷ before)) c) % cq_slots rules c ≡ length (posted_to (logged before) c) % cq_slots rules c
+    → length (posted_to (logged before) c) < consumed rules (between ++ Logged (event.Post c r i first) ∷ before) c
+
+-- SQHD and phase tag of a completion (Completion Queue Entry, Phase Tag)
+abbrev pub CompletionsTellTheHead : Type 0
+CompletionsTellTheHead = (rules : FrontRules) (later before : Notes) (c r i : ℕ) (cqe : Cqe) → IsAccount rules (later ++ Logged (event.Post c r i cqe) ∷ before)
+    → (cqe.sqhd ≡ length (fetched (logged before) r) % sq_slots rules r) × (cqe.phase ≡ phase_after (length (posted_to (logged before) c)) (cq_slots rules c))
+
+-- a command that deletes a queue is answered when all of the queue's fetched commands have their completions
+abbrev pub DeletesAreAnsweredLast : Type 0
+DeletesAreAnsweredLast = (rules : FrontRules) (later middle before : Notes) (qid r c i : ℕ) (cqe : Cqe)
+    → IsAccount rules (later ++ Logged (event.Post c 0 i cqe) ∷ (middle ++ Logged (event.Closing qid r) ∷ before))
+    → latest_admin_place (logged before) ≡ Some i
+    → list_all (λ (k : ℕ). is_posted (logged (middle ++ Logged (event.Closing qid r) ∷ before)) r k) (places (logged (middle ++ Logged (event.Closing qid r) ∷ before)) r) ≡ true
+
+-- nothing is fetched from a queue after its deletion began (Delete I/O Submission Queue)
+abbrev pub NoneFetchedAfterDeletion : Type 0
+NoneFetchedAfterDeletion = (rules : FrontRules) (later before : Notes) (qid r : ℕ) → IsAccount rules (later ++ Logged (event.Closing qid r) ∷ before)
+    → fetched (logged (later ++ Logged (event.Closing qid r) ∷ before)) r ≡ fetched (logged before) r
+
+-- and no command of it is picked
+abbrev pub NonePickedAfterDeletion : Type 0
+NonePickedAfterDeletion = (rules : FrontRules) (later middle before : Notes) (seen : List Seen) (pick : Pick) (qid r i : ℕ)
+    → IsAccount rules (later ++ Logged (event.Pick seen pick) ∷ (middle ++ Logged (event.Closing qid r) ∷ before))
+    → PicksPlace (logged (middle ++ Logged (event.Closing qid r) ∷ before)) pick r i → ⊥
+
+-- each pick is the lawful one on the open queues with exactly their numbers of candidates (Command Arbitration)
+abbrev pub PicksAreLawful : Type 0
+PicksAreLawful = (rules : FrontRules) (later before : Notes) (seen : List Seen) (pick : Pick) → IsAccount rules (later ++ Logged (event.Pick seen pick) ∷ before)
+    → (seen ≡ observation_of (logged before)) × IsLawfulPick rules.mechanism rules.start.settings (arbitration_of (logged before)) seen pick
+
+-- a tag stands for one command at a time, and a command has one tag
+abbrev pub TagsAreApart : Type 0
+TagsAreApart = (rules : FrontRules) (notes : Notes) → IsAccount rules notes → (t u : ℕ) (place : Place) → holder notes t ≡ Some place → holder notes u ≡ Some place → t ≡ u

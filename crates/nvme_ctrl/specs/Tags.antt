@@ -1,0 +1,54 @@
+-- The commands that the device has, their tags and their answers.
+-- (Base Specification, Completion Queue Entry; tags: profile)
+use Rattle.std.specs.Prelude.{ℕ, ◌==◌, ◌&&◌, ◌||◌, Bool, false, if◌then◌else◌, List, [], ◌∷◌, ◌++◌, Option, Some, None, is_none, is_some}
+use Rattle.nvme_entry.specs.Status.{success}
+use Rattle.nvme_log.specs.declared.event.Event.TheVariants.{Post}
+use Rattle.nvme_log.specs.Places.{is_aborted}
+use Rattle.nvme_log.specs.declared.place.Place.{Place}
+use Rattle.nvme_log.specs.Dispatches.{place_at}
+use Rattle.nvme_log.specs.Answers.{Answer, Answers}
+use Rattle.nvme_ctrl.specs.Notes.{Notes, Logged, Taken, Answered, logged}
+
+-- the places whose commands the device took, in order
+abbrev pub taken : Notes → List Place
+taken [] = []
+taken (Taken tag r i ∷ notes) = taken notes ++ place_at r i ∷ []
+taken (note ∷ notes) = taken notes
+
+-- a place is this one
+abbrev pub is_place : ℕ → ℕ → Option Place → Bool
+is_place r i None = false
+is_place r i (Some place) = place.region == r && place.index == i
+
+-- the place that a tag stands for, from when the device took its command until its completion is posted
+abbrev pub holder : Notes → ℕ → Option Place
+holder [] t = None
+holder (Taken tag r i ∷ notes) t = if tag == t then Some (place_at r i) else holder notes t
+holder (Logged (Post c r i cqe) ∷ notes) t = if is_place r i (holder notes t) then None else holder notes t
+holder (note ∷ notes) t = holder notes t
+
+-- the answer to the command of a place
+abbrev pub answer_of : Notes → ℕ → ℕ → Option Answer
+answer_of [] r i = None
+answer_of (Answered region index answer ∷ notes) r i = if region == r && index == i then Some answer else answer_of notes r i
+answer_of (note ∷ notes) r i = answer_of notes r i
+
+-- a tag is out: the device took its command and hasn't answered it
+abbrev pub is_unanswered : Notes → Option Place → Bool
+is_unanswered notes None = false
+is_unanswered notes (Some place) = is_none (answer_of notes place.region place.index)
+
+abbrev pub is_out : Notes → ℕ → Bool
+is_out notes t = is_unanswered notes (holder notes t)
+
+-- the answers, for the account. Nothing is said of a place without one
+abbrev pub answer_or : Option Answer → Answer
+answer_or None = record { status = success; dw0 = 0 }
+answer_or (Some answer) = answer
+
+abbrev pub answers : Notes → Answers
+answers notes place = answer_or (answer_of notes place.region place.index)
+
+-- a command is through, so that its completion may be posted: it was aborted or answered
+abbrev pub is_through : Notes → ℕ → ℕ → Bool
+is_through notes r i = is_aborted (logged notes) r i || is_some (answer_of notes r i)

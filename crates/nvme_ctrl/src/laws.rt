@@ -1,0 +1,112 @@
+//! Laws of the log of a controller, over the definitions alone. Each function does nothing: its contract is the law.
+ghost use Rattle.std.specs.Prelude.{◌∷◌, [], true};
+ghost use Rattle.nvme_entry.specs.Status.{success, lba_out_of_range};
+ghost use Rattle.nvme_log.specs.declared.event.Event.TheVariants.{Fetch, OpenCq, Post, ClosedSq};
+ghost use Rattle.nvme_log.specs.Examples.{two_slots, one_deletion, get_arbitration, admin_picked, admin_posted, read, done, admin_seen, reads_seen, picked_of};
+ghost use Rattle.nvme_ctrl.specs.Notes.{Logged, Tail, Head, Taken, Answered};
+ghost use Rattle.nvme_ctrl.specs.Account.{IsLawful, IsAccount};
+ghost use Rattle.nvme_ctrl.specs.Examples.{told, three_of_four, four_fetched, first_picked, first_answered, first_posted, third_answered, two_passes, succeeded, out_of_range, create_picked, reads_submitted, reads_waiting, read_picked, read_taken, delete_begun, aborts_posted, read_answered, reads_posted, deletion_noted};
+ghost use Rattle.nvme_ctrl.specs.Laws.{EventsAreAccounted, SlotsAreFetchedInOrder, CompletionsFollowAnswers, OneCompletionEach, SlotsAreFree, CompletionsTellTheHead, DeletesAreAnsweredLast, NoneFetchedAfterDeletion, NonePickedAfterDeletion, PicksAreLawful, TagsAreApart};
+
+/// The events of a controller's log are those of an accounted log in which the device answers the I/O commands. So
+/// every law of such logs holds of it.
+pub fn events_are_accounted()
+    ensures { EventsAreAccounted }
+{}
+
+/// Each submitted slot is fetched once, in order, and never before its doorbell. The host can't have written there
+/// again.
+pub fn slots_are_fetched_in_order()
+    ensures { SlotsAreFetchedInOrder }
+{}
+
+/// A completion is posted after the answer of its command or its abort. That of an I/O command has the answer.
+pub fn completions_follow_answers()
+    ensures { CompletionsFollowAnswers }
+{}
+
+/// A command has at most one completion.
+pub fn each_command_has_one_completion()
+    ensures { OneCompletionEach }
+{}
+
+/// No completion is written onto one that the host hasn't consumed.
+pub fn slots_are_free()
+    ensures { SlotsAreFree }
+{}
+
+/// The submission queue head pointer and the phase tag of a completion are those of the specification.
+pub fn completions_tell_the_head()
+    ensures { CompletionsTellTheHead }
+{}
+
+/// A command that deletes a queue is answered after all commands that were fetched from the queue.
+pub fn deletes_are_answered_last()
+    ensures { DeletesAreAnsweredLast }
+{}
+
+/// Nothing is fetched from a queue after its deletion began, and no command of it is picked.
+pub fn nothing_is_served_after_deletion()
+    ensures fetched { NoneFetchedAfterDeletion }
+    ensures picked { NonePickedAfterDeletion }
+{}
+
+/// Each pick is the lawful one on the open queues, with exactly their numbers of candidates.
+pub fn picks_are_lawful()
+    ensures { PicksAreLawful }
+{}
+
+/// A tag stands for one command at a time, and a command has one tag.
+pub fn tags_are_apart()
+    ensures { TagsAreApart }
+{}
+
+/// Worked: four completions through a completion queue of two slots, and a queue that is deleted while the device has
+/// one of its commands. A device may answer otherwise than by the outcome of a command.
+pub fn worked_logs_are_accounted()
+    ensures two_passes { IsAccount two_slots two_passes }
+    ensures deletion { IsAccount one_deletion deletion_noted }
+    ensures other_answer { IsLawful one_deletion (Answered 1 0 out_of_range ∷ aborts_posted) (Logged (Post 1 1 0 (done 1 0 lba_out_of_range))) }
+{}
+
+/// A slot is fetched twice, or past the doorbell. A tail goes past the slots that the host may fill, and a head past
+/// what was posted.
+pub fn wrong_doorbells_are_refused()
+    ensures fetched_twice { IsLawful two_slots three_of_four (Logged (Fetch 0 2 (get_arbitration 2))) → ⊥ }
+    ensures fetched_past { IsLawful two_slots four_fetched (Logged (Fetch 0 4 (get_arbitration 4))) → ⊥ }
+    ensures tail_full { IsLawful one_deletion reads_submitted (Tail 1 0) → ⊥ }
+    ensures tail_past { IsLawful one_deletion reads_submitted (Tail 1 2) → ⊥ }
+    ensures tail_no_slot { IsLawful one_deletion reads_submitted (Tail 1 8) → ⊥ }
+    ensures tail_closing { IsLawful one_deletion delete_begun (Tail 1 4) → ⊥ }
+    ensures head_past { IsLawful two_slots first_answered (Head 0 1) → ⊥ }
+    ensures head_no_slot { IsLawful two_slots first_posted (Head 0 2) → ⊥ }
+    ensures head_no_queue { IsLawful two_slots first_posted (Head 1 0) → ⊥ }
+{}
+
+/// A completion goes into a slot that isn't free, its phase tag doesn't turn, it comes before the answer, or has
+/// another status.
+pub fn wrong_completions_are_refused()
+    ensures slot_not_free { IsLawful two_slots (Answered 0 1 told ∷ Logged (admin_picked 3) ∷ first_posted) (Logged (admin_posted 1 true)) → ⊥ }
+    ensures phase_stays { IsLawful two_slots third_answered (Logged (admin_posted 2 true)) → ⊥ }
+    ensures unanswered_admin { IsLawful two_slots first_picked (Logged (admin_posted 0 true)) → ⊥ }
+    ensures unanswered { IsLawful one_deletion aborts_posted (Logged (Post 1 1 0 (done 1 0 success))) → ⊥ }
+    ensures other_status { IsLawful one_deletion read_answered (Logged (Post 1 1 0 (done 1 0 lba_out_of_range))) → ⊥ }
+{}
+
+/// A command is taken out of turn or under a tag in use, is answered before it is picked or taken, twice, with another
+/// answer than its own or before all that it makes is there, or is picked on other counts. A deletion is finished or
+/// answered while a command of its queue has no completion.
+pub fn wrong_answers_are_refused()
+    ensures taken_out_of_turn { IsLawful one_deletion read_picked (Taken 7 1 1) → ⊥ }
+    ensures taken_twice { IsLawful one_deletion read_taken (Taken 8 1 0) → ⊥ }
+    ensures tag_in_use { IsLawful one_deletion (Logged (picked_of (admin_seen 1 ∷ reads_seen 2 ∷ []) 1) ∷ read_taken) (Taken 7 1 1) → ⊥ }
+    ensures untaken { IsLawful one_deletion read_picked (Answered 1 0 succeeded) → ⊥ }
+    ensures answered_twice { IsLawful one_deletion read_answered (Answered 1 0 succeeded) → ⊥ }
+    ensures unpicked { IsLawful two_slots four_fetched (Answered 0 0 told) → ⊥ }
+    ensures other_dw0 { IsLawful two_slots first_picked (Answered 0 0 succeeded) → ⊥ }
+    ensures other_status { IsLawful one_deletion (Logged (OpenCq 1 1) ∷ create_picked) (Answered 0 0 out_of_range) → ⊥ }
+    ensures unfinished { IsLawful one_deletion create_picked (Answered 0 0 succeeded) → ⊥ }
+    ensures other_counts { IsLawful one_deletion reads_waiting (Logged (picked_of (admin_seen 1 ∷ reads_seen 2 ∷ []) 1)) → ⊥ }
+    ensures closed_early { IsLawful one_deletion read_answered (Logged (ClosedSq 1 1)) → ⊥ }
+    ensures told_early { IsLawful one_deletion reads_posted (Answered 0 2 succeeded) → ⊥ }
+{}
