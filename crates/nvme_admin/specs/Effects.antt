@@ -17,8 +17,8 @@ verdict_in (CloseCq qid region) = verdict.CloseCq qid
 verdict_in (Abort sqid cid) = verdict.Abort sqid cid
 verdict_in (SetArbitration settings) = verdict.SetArbitration settings
 
--- the regions in an effect are those of the queues of the table before it: that of the completion queue of a new submission queue, and
--- that of a deleted queue. The region of a new queue is in the verdict
+-- the regions in an effect are those of the queues of the table before it: that of a deleted queue, and that of the
+-- completion queue of a new submission queue. The region of a new queue is in the verdict
 abbrev pub NamesRegions : TableView → Effect → Type 0
 NamesRegions before (OpenSq qid region cqid cq_region class) = cq_of before cqid ≡ Some cq_region
 NamesRegions before (BeginDelete qid region) = IsSomeAnd (sq_of before qid) (λ queue. queue.region ≡ region)

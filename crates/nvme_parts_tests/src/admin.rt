@@ -2,7 +2,7 @@ ghost use Rattle.std.specs.Prelude.{◌≤◌};
 
 mod reading;
 
-use nvme_admin::{AdminError, Limits, SqEntry, Table, Verdict};
+use nvme_admin::{AdminError, Effect, Limits, SqEntry, Table, Verdict};
 use nvme_arbiter::{Class, Settings};
 use nvme_entry::{Sqe, Status};
 use std::process::Abort;
@@ -202,6 +202,29 @@ fn delete_order(rt: HostRuntime) -> Result<(), Fail> {
     expect(&rt, &mut table, &delete_cq, &no_such);
     expect(&rt, &mut table, &entry(0, 0, 0, 0), &no_such);
     expect(&rt, &mut table, &entry(4, 0, 0, 0), &no_such);
+    Ok(())
+}
+
+#[test]
+fn effects_name_regions(rt: HostRuntime) -> Result<(), Fail> {
+    let mut table = prepared(&rt, 16, 16)?;
+    let created = Effect::OpenCq { qid: 2, region: 3 };
+    let create_cq = entry(5, 0xb000, 0x000f_0002, 1);
+    assert_eq!(rt; table.execute(&create_cq), created);
+    let opened = Effect::OpenSq {
+        qid: 3,
+        region: 2,
+        cqid: 2,
+        cq_region: 3,
+        class: Class::Low,
+    };
+    let create_sq = entry(1, 0x3000, 0x0007_0003, 0x0002_0007);
+    assert_eq!(rt; table.execute(&create_sq), opened);
+    let closing = Effect::BeginDelete { qid: 3, region: 2 };
+    assert_eq!(rt; table.execute(&entry(0, 0, 3, 0)), closing);
+    assert!(rt; finish(&mut table, 3));
+    let closed = Effect::CloseCq { qid: 2, region: 3 };
+    assert_eq!(rt; table.execute(&entry(4, 0, 2, 0)), closed);
     Ok(())
 }
 
