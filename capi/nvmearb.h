@@ -23,8 +23,9 @@
  *   2. nvmearb_table_init. Add a region of each kind for the admin queue, then one for each ring that a Create command
  *      may name.
  *   3. nvmearb_board_init, and nvmearb_board_open for queue 0.
- *   4. nvmearb_board_came for each command that a submission queue tail doorbell announces. A board counts at most
- *      NVMEARB_MAX_COUNT of a queue; tell it of further ones once some were picked.
+ *   4. nvmearb_board_came for each command that a submission queue tail doorbell announces, or nvmearb_board_came_n
+ *      for all of them. A board counts at most NVMEARB_MAX_COUNT of a queue; tell it of further ones once some were
+ *      picked.
  *   5. nvmearb_board_pick writes a queue and a number n. Take the n oldest waiting commands out of its ring.
  *        I/O:   nvmearb_sqe_decode, then nvmearb_outcome or an execution of one's own, then nvmearb_cqe_encode.
  *        Admin: nvmearb_table_apply, then what the verdict asks for (NVMEARB_DONE and below it), then
@@ -374,6 +375,13 @@ uint32_t nvmearb_board_close(nvmearb_board *board, uint16_t qid);
  * wait in it.
  */
 uint32_t nvmearb_board_came(nvmearb_board *board, uint16_t qid);
+
+/*
+ * `n` more commands wait in a queue, as after a doorbell write. An `n` of 0 changes nothing.
+ * NVMEARB_ESTATE if `board` isn't valid; otherwise NVMEARB_EARG if the queue isn't open or more than NVMEARB_MAX_COUNT
+ * commands would wait in it.
+ */
+uint32_t nvmearb_board_came_n(nvmearb_board *board, uint16_t qid, uint16_t n);
 
 /*
  * One waiting command left a queue without being picked, for example because it was aborted.

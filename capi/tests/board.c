@@ -31,6 +31,10 @@ static void open_and_close(void)
     CHECK(nvmearb_board_came(&board, 1) == NVMEARB_EARG);
     CHECK(nvmearb_board_pick(&board, &pick) == NVMEARB_OK);
     CHECK(pick.qid == 1 && pick.n == 2 && pick.fresh == 0);
+    CHECK(nvmearb_board_came_n(&board, 1, 3) == NVMEARB_EARG && nvmearb_board_came_n(&board, 2, 0) == NVMEARB_EARG);
+    CHECK(nvmearb_board_came_n(&board, 1, 65535) == NVMEARB_EARG);
+    CHECK(nvmearb_board_came_n(&board, 1, 2) == NVMEARB_OK && nvmearb_board_came_n(&board, 1, 0) == NVMEARB_OK);
+    CHECK(nvmearb_board_came_n(&board, 1, 1) == NVMEARB_EARG);
     CHECK(nvmearb_board_close(&board, 1) == NVMEARB_OK);
     CHECK(nvmearb_board_close(&board, 1) == NVMEARB_EARG);
     CHECK(nvmearb_board_close(&board, 65) == NVMEARB_EARG);
@@ -39,6 +43,7 @@ static void open_and_close(void)
     CHECK(nvmearb_board_open(&board, 1, NVMEARB_HIGH) == NVMEARB_ESTATE);
     CHECK(nvmearb_board_close(&board, 1) == NVMEARB_ESTATE);
     CHECK(nvmearb_board_came(&board, 1) == NVMEARB_ESTATE);
+    CHECK(nvmearb_board_came_n(&board, 1, 0) == NVMEARB_ESTATE);
     CHECK(nvmearb_board_went(&board, 1) == NVMEARB_ESTATE);
     CHECK(nvmearb_board_pick(&board, &pick) == NVMEARB_ESTATE);
     CHECK(nvmearb_board_peek(&board, &pick) == NVMEARB_ESTATE);
@@ -85,6 +90,13 @@ static void beside_an_arbiter(uint32_t mechanism)
             wrong += nvmearb_arbiter_set(&arbiter, (uint32_t)(word >> 16)) != NVMEARB_OK;
             break;
         default:
+            if (word % 4 == 1) {
+                uint16_t n = (uint16_t)(word >> 40) % 4;
+                told = is_open[qid] && counts[qid] + n <= NVMEARB_MAX_COUNT ? NVMEARB_OK : NVMEARB_EARG;
+                wrong += nvmearb_board_came_n(&board, qid, n) != told;
+                counts[qid] = (uint16_t)(counts[qid] + (told == NVMEARB_OK ? n : 0));
+                break;
+            }
             if (word % 4) {
                 told = is_open[qid] && counts[qid] < NVMEARB_MAX_COUNT ? NVMEARB_OK : NVMEARB_EARG;
                 wrong += nvmearb_board_came(&board, qid) != told;
@@ -138,7 +150,7 @@ static void random_calls(void)
             }
         }
         memcpy(&before, &board, sizeof before);
-        switch (word % 7) {
+        switch (word % 8) {
         case 0:
             told = nvmearb_board_open(&board, qid, (uint16_t)(word >> 32) % 7);
             break;
@@ -157,10 +169,13 @@ static void random_calls(void)
         case 5:
             told = nvmearb_board_peek(&board, &pick);
             break;
+        case 6:
+            told = nvmearb_board_came_n(&board, qid, (uint16_t)(word >> 32) % 300);
+            break;
         default:
             told = nvmearb_board_pick(&board, &pick);
         }
-        picked += word % 7 == 6 && told == NVMEARB_OK && pick.n <= NVMEARB_MAX_COUNT && pick.qid < NVMEARB_MAX_QUEUES;
+        picked += word % 8 == 7 && told == NVMEARB_OK && pick.n <= NVMEARB_MAX_COUNT && pick.qid < NVMEARB_MAX_QUEUES;
         wrong += told > NVMEARB_ESTATE;
         wrong += (told == NVMEARB_ESTATE) != !(word >> 63);
         if (told != NVMEARB_OK) {

@@ -1,36 +1,31 @@
--- Masks of queues mark the open queues that are ready.
-use Rattle.std.proofs.Common.{◌≡◌, ℕ, zero, suc, ◌+◌, ◌-◌, ◌*◌, ◌/◌, ◌%◌, ◌^◌, ◌<◌, ◌≤◌, ◌==◌, inl, inr, ◌&&◌, Bool, true, false, cond, nat_lt, List, [], ◌∷◌, ◌++◌, length, set, take, find, refl, sym, ap, subst, ◌∙◌, arith}
-use Rattle.std.specs.Prelude.{Option, Some, None, All, MatchOption, option_map, replicate}
-use Rattle.std.specs.Int.{bit_at, w128, trailing_zeros}
-use Rattle.std.proofs.lemmas.Bool.{lt-ltb, le-ltb, cases_eq, cases_lt, cond-true, cond-false, and_left, and_right, true≢false, eq-eqb, ne_eqb}
-use Rattle.std.proofs.lemmas.List.{append-nil, take_all, get_or-set_same, get_or-set_other, get_or_past, length-set, get_or-replicate, length-replicate}
+-- The open queues of a board as they are seen, place by place, and what is found of them by the masks.
+use Rattle.std.proofs.Common.{◌≡◌, ◌∙◌, ℕ, zero, suc, ◌+◌, ◌-◌, ◌*◌, ◌/◌, ◌%◌, ◌^◌, ◌<◌, ◌≤◌, ◌==◌, inl, inr, ◌&&◌, min, Bool, true, false, cond, nat_lt, bit_or, List, [], ◌∷◌, ◌++◌, length, set, take, find, refl, sym, ap, subst, arith}
+use Rattle.std.specs.Prelude.{◌↔◌, if◌then◌else◌, Option, Some, None, All, MatchOption, option_map, replicate, slice_index_or}
+use Rattle.std.specs.Int.{bit_at, w64, trailing_zeros}
+use Rattle.std.proofs.lemmas.Bool.{lt-ltb, le-ltb, cases_eq, cases_lt, cond-true, cond-false, and_from, and_right, eq-eqb, ne_eqb}
+use Rattle.std.proofs.lemmas.List.{append-nil, take_all, get_or-set_same, get_or-set_other, get_or_past, length-set, get_or-replicate, length-replicate, ext_get_or}
 use Rattle.std.proofs.lemmas.List.Elements.{All-nil, All-cons}
+use Rattle.std.proofs.lemmas.List.FromFn.{get_or-map-range_with_len, length-map-range_with_len}
 use Rattle.std.proofs.lemmas.List.Kept.{AllPairs-cons}
 use Rattle.std.proofs.lemmas.Nat.{pow_pos, shr-shr, shr_split}
-use Rattle.std.proofs.lemmas.Nat.Bits.{bit_at-zero, bit_at-trailing_zeros, bit_at_set_same, bit_at_set_other, bit_at_clear_same, bit_at_clear_other, bit_at_cat_low, bit_at_cat_high}
-use Rattle.nvme_arbiter.specs.Limits.{highest_qid, queue_limit}
+use Rattle.std.proofs.lemmas.Nat.Bits.{bit_at-zero, bit_at-trailing_zeros, bit_at_or, bit_at_set_same, bit_at_set_other, bit_at_clear_same, bit_at_clear_other, bit_at_cat_low, bit_at_cat_high}
+use Rattle.std.proofs.lemmas.Option.{none-some}
+use Rattle.nvme_arbiter.specs.Limits.{highest_qid, highest_count, queue_limit}
+use Rattle.nvme_arbiter.specs.Settings.{number_of_class}
 use Rattle.nvme_arbiter.specs.declared.pick.Seen.{Seen}
 use Rattle.nvme_arbiter.specs.declared.pick.OpenQueue.{OpenQueue}
-use Rattle.nvme_arbiter.specs.declared.masks.Masks.{Masks}
 use Rattle.nvme_arbiter.specs.declared.settings.Class.{Class}
+use Rattle.nvme_arbiter.specs.declared.settings.Class.TheVariants.{Admin, Urgent, High, Medium, Low}
+use Rattle.nvme_arbiter.specs.declared.queues.QueueFields.{QueueFields}
+use Rattle.nvme_arbiter.specs.declared.queues.QueuesFields.{QueuesFields}
 use Rattle.nvme_arbiter.specs.Observation.{is_class, is_wanted, IsSeen, IsObservation, class_in}
-use Rattle.nvme_arbiter.specs.ByClass.{same_for_all}
-use Rattle.nvme_arbiter.specs.Bits.{HasNoBit, IsLowest, KeepsAbove, with_bit}
-use Rattle.nvme_arbiter.specs.Queues.{seen_as, seen_from, seen_of, queue_at, FitsUnder, mask_of, masks_put, passes, bit_of, Marks, has_waiting, IsOf, AreMarked, shown}
-use Rattle.nvme_arbiter.proofs.ClassLemmas.{of_class_after, of_class_same}
+use Rattle.nvme_arbiter.specs.Queues.{seen_as, seen_from, seen_of, queue_at, FitsUnder, shown}
+use Rattle.nvme_arbiter.specs.Layout.{class_under, mask_in, is_marked, waiting_in, open_in, closed, slot_in, slot_at, slots_in}
+use Rattle.nvme_arbiter.specs.inside.Masks.{IsLowest, IsFirstFrom, IsWantedAt, KeepsFrom, NoneFrom, with_bit, with_mask, marked_with, mask_for, passes}
 use Rattle.nvme_arbiter.proofs.NextLemmas.{Below}
 use Rattle.nvme_arbiter.proofs.Observations.{IsFromOn}
 
 -- ---- bits
-pub bit_at_with : (mask bit : ℕ) (on : Bool) (i : ℕ) → bit < 128 → i < 128 → bit_at (with_bit mask bit on) i ≡ cond (i == bit) (bit_of on) (bit_at mask i)
-bit_at_with mask bit on i h k =
-    elim (cases_eq i bit) [
-      | inl e ↦ (let same : bit_at (with_bit mask bit on) bit ≡ bit_of on = elim on as (λ b. bit_at (with_bit mask bit b) bit ≡ bit_of b) [ true ↦ bit_at_set_same w128 mask bit h | false ↦ bit_at_clear_same w128 mask bit h ] in
-          rw e (same ∙ sym (cond-true (bit == bit) (bit_of on) (bit_at mask bit) (eq-eqb bit bit refl))))
-      | inr n ↦ (let other : bit_at (with_bit mask bit on) i ≡ bit_at mask i = elim on as (λ b. bit_at (with_bit mask bit b) i ≡ bit_at mask i) [ true ↦ bit_at_set_other w128 mask bit h i n | false ↦ bit_at_clear_other w128 mask bit h i k n ] in
-          other ∙ sym (cond-false (i == bit) (bit_of on) (bit_at mask i) (ne_eqb i bit n)))
-    ]
-
 -- the bits of a number that is shifted down and up again
 pub bit_at_above_of : (mask k i : ℕ) → bit_at (mask / 2 ^ k * 2 ^ k) i ≡ cond (nat_lt i k) 0 (bit_at mask i)
 bit_at_above_of mask k i =
@@ -43,19 +38,20 @@ bit_at_above_of mask k i =
           rw (le-ltb i k g) (ap (λ n. bit_at n i) e ∙ (bit_at_cat_high (mask / 2 ^ k) k 0 i p g ∙ ap (λ n. n % 2) s)))
     ]
 
-pub keeps_above : (mask bit : ℕ) → mask < 2 ^ 128 → KeepsAbove mask bit (mask / 2 ^ (bit + 1) * 2 ^ (bit + 1) % 2 ^ 128)
-keeps_above mask bit h = λ i l.
-    let split = shr_split mask (bit + 1) in
-    let x : ℕ = mask / 2 ^ (bit + 1) * 2 ^ (bit + 1) in
-    let small : x % 2 ^ 128 ≡ x = omega arith in
-    ap (λ n. bit_at n i) small ∙ (bit_at_above_of mask (bit + 1) i ∙
-    elim (cases_lt bit i) [
-      | inl a ↦ cond-false (nat_lt i (bit + 1)) 0 (bit_at mask i) (le-ltb i (bit + 1) (omega arith)) ∙ sym (cond-true (nat_lt bit i) (bit_at mask i) 0 (lt-ltb bit i a))
-      | inr b ↦ cond-true (nat_lt i (bit + 1)) 0 (bit_at mask i) (lt-ltb i (bit + 1) (omega arith)) ∙ sym (cond-false (nat_lt bit i) (bit_at mask i) 0 (le-ltb bit i b))
-    ])
+-- a mask with the bits below one cleared
+pub keeps-from : (mask bit : ℕ) → mask < 2 ^ 64 → KeepsFrom mask bit (mask / 2 ^ bit * 2 ^ bit % 2 ^ 64)
+keeps-from mask bit h = λ i l.
+    let split = shr_split mask bit in
+    let x : ℕ = mask / 2 ^ bit * 2 ^ bit in
+    let small : x % 2 ^ 64 ≡ x = omega arith in
+    ap (λ n. bit_at n i) small ∙ bit_at_above_of mask bit i
 
-pub is_lowest : (mask : ℕ) → 0 < mask → mask < 2 ^ 128 → IsLowest mask (trailing_zeros w128 mask)
-is_lowest mask p h = let t = bit_at-trailing_zeros w128 mask p h in record { within = t.0; is_set = t.1; none_below = t.2 }
+-- the lowest bit that is set
+pub is-lowest : (mask : ℕ) → 0 < mask → mask < 2 ^ 64 → IsLowest mask (trailing_zeros w64 mask)
+is-lowest mask p h =
+    let t = bit_at-trailing_zeros w64 mask p h in
+    let within = t.0 in
+    record { within = omega (arith, within); is_set = t.1; none_below = t.2 }
 
 -- ---- what is seen
 pub observed_queues : (i : ℕ) (queues : List (Option OpenQueue)) → ((j n : ℕ) → n ≡ i + j → FitsUnder n (queue_at queues j)) → IsFromOn i (seen_from i queues)
@@ -77,7 +73,7 @@ pub observed_of : (queues : List (Option OpenQueue)) → ((qid : ℕ) → FitsUn
 observed_of queues f = (observed_queues 0 queues (λ j n e. subst (λ m. FitsUnder m (queue_at queues j)) (omega arith) (f j))).observed
 
 -- the first open queue that passes
-find_first : (p : Seen → Bool) (i n : ℕ) (queues : List (Option OpenQueue)) (k : ℕ) (o : OpenQueue) → n ≡ i + k → queue_at queues k ≡ Some o → p (seen_as n o) ≡ true → ((j m : ℕ) → j < k → m ≡ i + j → passes p m (queue_at queues j) ≡ false) → find p (seen_from i queues) ≡ Some (seen_as n o)
+pub find_first : (p : Seen → Bool) (i n : ℕ) (queues : List (Option OpenQueue)) (k : ℕ) (o : OpenQueue) → n ≡ i + k → queue_at queues k ≡ Some o → p (seen_as n o) ≡ true → ((j m : ℕ) → j < k → m ≡ i + j → passes p m (queue_at queues j) ≡ false) → find p (seen_from i queues) ≡ Some (seen_as n o)
 find_first p i n [] k o a e t f = absurd (cc)
 find_first p i n (None ∷ rest) zero o a e t f = absurd (cc)
 find_first p i n (Some y ∷ rest) zero o a e t f =
@@ -89,7 +85,7 @@ find_first p i n (None ∷ rest) (suc k) o a e t f = find_first p (i + 1) n rest
 find_first p i n (Some y ∷ rest) (suc k) o a e t f =
     cond-false (p (seen_as i y)) _ _ (f 0 i (omega arith) (omega arith)) ∙ find_first p (i + 1) n rest k o (omega arith) e t (λ j m l b. f (suc j) m (omega arith) (omega arith))
 
-find_nothing : (p : Seen → Bool) (i : ℕ) (queues : List (Option OpenQueue)) → ((j m : ℕ) → m ≡ i + j → passes p m (queue_at queues j) ≡ false) → find p (seen_from i queues) ≡ None
+pub find_nothing : (p : Seen → Bool) (i : ℕ) (queues : List (Option OpenQueue)) → ((j m : ℕ) → m ≡ i + j → passes p m (queue_at queues j) ≡ false) → find p (seen_from i queues) ≡ None
 find_nothing p i [] f = refl
 find_nothing p i (None ∷ rest) f = find_nothing p (i + 1) rest (λ j m b. f (suc j) m (omega arith))
 find_nothing p i (Some y ∷ rest) f = cond-false (p (seen_as i y)) _ _ (f 0 i (omega arith)) ∙ find_nothing p (i + 1) rest (λ j m b. f (suc j) m (omega arith))
@@ -111,113 +107,6 @@ find_qid_as queues qid (Some o) e =
 -- the open queue of an identifier is the one found under it
 pub find_qid : (queues : List (Option OpenQueue)) (qid : ℕ) → find (λ s. s.qid == qid) (seen_of queues) ≡ shown queues (Some qid)
 find_qid queues qid = find_qid_as queues qid (queue_at queues qid) refl
-
-bit_true : (b : Bool) → bit_of b ≡ 1 → b ≡ true
-bit_true true h = refl
-bit_true false h = absurd (omega arith)
-
-bit_false : (b : Bool) → bit_of b ≡ 0 → b ≡ false
-bit_false false h = refl
-bit_false true h = absurd (omega arith)
-
-nothing_past : (p : Seen → Bool) (queues : List (Option OpenQueue)) (i : ℕ) → length queues ≤ i → passes p i (queue_at queues i) ≡ false
-nothing_past p queues i h = ap (passes p i) (get_or_past queues i None h)
-
-lowest_as : (p : Seen → Bool) (mask : ℕ) (queues : List (Option OpenQueue)) (q : ℕ) → Marks p mask queues → IsLowest mask q → (v : Option OpenQueue) → queue_at queues q ≡ v → find p (seen_of queues) ≡ shown queues (Some q)
-lowest_as p mask queues q m h None e =
-    let set : passes p q (queue_at queues q) ≡ true = bit_true (passes p q (queue_at queues q)) (sym (m q h.within) ∙ h.is_set) in
-    absurd (true≢false (sym set ∙ ap (passes p q) e))
-lowest_as p mask queues q m h (Some o) e =
-    let set : passes p q (queue_at queues q) ≡ true = bit_true (passes p q (queue_at queues q)) (sym (m q h.within) ∙ h.is_set) in
-    find_first p 0 q queues q o (omega arith) e (sym (ap (passes p q) e) ∙ set)
-    (λ j n b a. subst (λ x. passes p x (queue_at queues j) ≡ false) (omega arith) (let w = h.within in bit_false (passes p j (queue_at queues j)) (sym (m j (omega arith)) ∙ h.none_below j b)))
-    ∙ sym (ap (option_map (seen_as q)) e)
-
--- the lowest bit of a mask is the first queue that passes
-pub find_lowest : (p : Seen → Bool) (mask : ℕ) (queues : List (Option OpenQueue)) → Marks p mask queues → length queues ≤ 128 → (r : Option ℕ) → MatchOption r (HasNoBit mask) (IsLowest mask) → find p (seen_of queues) ≡ shown queues r
-find_lowest p mask queues m l None h =
-    find_nothing p 0 queues (λ j n e. subst (λ x. passes p x (queue_at queues j) ≡ false) (omega arith)
-    (elim (cases_lt j 128) [
-      | inl b ↦ bit_false (passes p j (queue_at queues j)) (sym (m j b) ∙ h j)
-      | inr g ↦ nothing_past p queues j (omega arith)
-    ]))
-find_lowest p mask queues m l (Some q) h = lowest_as p mask queues q m h (queue_at queues q) refl
-
-above_both : (a b : Bool) → cond b (bit_of a) 0 ≡ bit_of (a && b)
-above_both true true = refl
-above_both true false = refl
-above_both false true = refl
-above_both false false = refl
-
-above_as : (p : Seen → Bool) (last i : ℕ) (v : Option OpenQueue) → cond (nat_lt last i) (bit_of (passes p i v)) 0 ≡ bit_of (passes (λ s. p s && nat_lt last s.qid) i v)
-above_as p last i None = elim (nat_lt last i) as (λ b. cond b (bit_of false) 0 ≡ bit_of false) [ true ↦ refl | false ↦ refl ]
-above_as p last i (Some o) = above_both (p (seen_as i o)) (nat_lt last i)
-
--- the bits above one mark the queues that pass above it
-pub marks_above : (p : Seen → Bool) (mask last kept : ℕ) (queues : List (Option OpenQueue)) → Marks p mask queues → KeepsAbove mask last kept → Marks (λ s. p s && nat_lt last s.qid) kept queues
-marks_above p mask last kept queues m k = λ i l. k i l ∙ (ap (λ n. cond (nat_lt last i) n 0) (m i l) ∙ above_as p last i (queue_at queues i))
-
--- ---- a queue is put
-abbrev covers : Option Class → Class → Bool
-covers None class = true
-covers (Some c) class = is_class c class
-
--- a mask after the bit is put in it and in that of all
-put_one : (masks : Masks) (wanted : Option Class) (class : Class) (qid : ℕ) (on : Bool) → mask_of (masks_put masks class qid on) wanted ≡ cond (covers wanted class) (with_bit (mask_of masks wanted) qid on) (mask_of masks wanted)
-put_one masks None class qid on = refl
-put_one masks (Some c) class qid on = of_class_after masks.by_class class c (λ mask. with_bit mask qid on)
-
--- a queue of a class is wanted where its class is, and it is ready
-wanted_of : (wanted : Option Class) (class : Class) (i : ℕ) (v : Option OpenQueue) → IsOf class v → passes (is_wanted wanted) i v ≡ covers wanted class && has_waiting v
-wanted_of None class i None h = refl
-wanted_of (Some c) class i None h = sym (and_right (is_class c class) false refl)
-wanted_of None class i (Some o) h = refl
-wanted_of (Some c) class i (Some o) h = ap (λ k. is_class c k && nat_lt 0 o.count) h
-
-put_bit : (b on : Bool) (before here : ℕ) → (b ≡ false → before ≡ 0) → cond b (bit_of on) before ≡ bit_of (b && on)
-put_bit true on before here h = refl
-put_bit false on before here h = h refl
-
-pub marked_put : (queues : List (Option OpenQueue)) (masks : Masks) (qid : ℕ) (class : Class) (queue : Option OpenQueue) → AreMarked queues masks → qid ≤ highest_qid → FitsUnder qid queue → IsOf class (queue_at queues qid) → IsOf class queue → AreMarked (set queues qid queue) (masks_put masks class qid (has_waiting queue))
-marked_put queues masks qid class queue a within fits was is = record {
-  length_is = length-set queues qid queue ∙ a.length_is;
-  fit = λ i. elim (cases_eq i qid) [
-    | inl e ↦ subst (λ n. FitsUnder n (queue_at (set queues qid queue) n)) (sym e) (subst (FitsUnder qid) (sym (get_or-set_same queues qid queue None (let n = a.length_is in omega arith))) fits)
-    | inr n ↦ subst (FitsUnder i) (sym (get_or-set_other queues qid i queue None n)) (a.fit i)
-  ];
-  marked = λ wanted i l.
-      let on : Bool = has_waiting queue in
-      let small : qid < 128 = omega arith in
-      let inside : qid < length queues = let n = a.length_is in omega arith in
-      let new : bit_at (mask_of (masks_put masks class qid on) wanted) i ≡ cond (covers wanted class) (cond (i == qid) (bit_of on) (bit_at (mask_of masks wanted) i)) (bit_at (mask_of masks wanted) i) =
-      ap (λ n. bit_at n i) (put_one masks wanted class qid on) ∙
-      elim (covers wanted class) as (λ b. bit_at (cond b (with_bit (mask_of masks wanted) qid on) (mask_of masks wanted)) i ≡ cond b (cond (i == qid) (bit_of on) (bit_at (mask_of masks wanted) i)) (bit_at (mask_of masks wanted) i)) [ true ↦ bit_at_with (mask_of masks wanted) qid on i small l | false ↦ refl ] in
-      new ∙ elim (cases_eq i qid) [
-        | inl e ↦ (let before : bit_at (mask_of masks wanted) i ≡ bit_of (covers wanted class && has_waiting (queue_at queues i)) = a.marked wanted i l ∙ ap bit_of (wanted_of wanted class i (queue_at queues i) (subst (λ n. IsOf class (queue_at queues n)) (sym e) was)) in
-            let here : queue_at (set queues qid queue) i ≡ queue = ap (queue_at (set queues qid queue)) e ∙ get_or-set_same queues qid queue None inside in
-            let after : bit_of (passes (is_wanted wanted) i (queue_at (set queues qid queue) i)) ≡ bit_of (covers wanted class && on) = ap (λ v. bit_of (passes (is_wanted wanted) i v)) here ∙ ap bit_of (wanted_of wanted class i queue is) in
-            ap (λ b. cond (covers wanted class) (cond b (bit_of on) (bit_at (mask_of masks wanted) i)) (bit_at (mask_of masks wanted) i)) (eq-eqb i qid e) ∙
-            (put_bit (covers wanted class) on (bit_at (mask_of masks wanted) i) 0 (λ f. before ∙ ap bit_of (and_left (covers wanted class) (has_waiting (queue_at queues i)) f)) ∙ sym after))
-        | inr n ↦ (let before : bit_at (mask_of masks wanted) i ≡ bit_of (passes (is_wanted wanted) i (queue_at (set queues qid queue) i)) = a.marked wanted i l ∙ ap (λ v. bit_of (passes (is_wanted wanted) i v)) (sym (get_or-set_other queues qid i queue None n)) in
-            ap (λ b. cond (covers wanted class) (cond b (bit_of on) (bit_at (mask_of masks wanted) i)) (bit_at (mask_of masks wanted) i)) (ne_eqb i qid n) ∙
-            (elim (covers wanted class) as (λ b. cond b (bit_at (mask_of masks wanted) i) (bit_at (mask_of masks wanted) i) ≡ bit_at (mask_of masks wanted) i) [ true ↦ refl | false ↦ refl ] ∙ before))
-      ];
-}
-
--- no queue is open at first
-no_queue : (n i : ℕ) → queue_at (replicate n None) i ≡ None
-no_queue n i = elim (cases_lt i n) [ inl l ↦ get_or-replicate n i None None l | inr g ↦ get_or_past (replicate n None) i None (let none : Option OpenQueue = None in let e = length-replicate n none in omega arith) ]
-
-no_mask : (wanted : Option Class) → mask_of (record { all = 0; by_class = same_for_all 0 }) wanted ≡ 0
-no_mask None = refl
-no_mask (Some class) = of_class_same 0 class
-
-pub marked_first : AreMarked (replicate queue_limit None) (record { all = 0; by_class = same_for_all 0 })
-marked_first = record {
-  length_is = (let none : Option OpenQueue = None in length-replicate queue_limit none);
-  fit = λ qid. subst (FitsUnder qid) (sym (no_queue queue_limit qid)) tt;
-  marked = λ wanted i l. ap (λ n. bit_at n i) (no_mask wanted) ∙ (bit_at-zero i ∙ sym (ap (λ v. bit_of (passes (is_wanted wanted) i v)) (no_queue queue_limit i)));
-}
 
 -- ---- what is seen, one queue after another
 slot_list : ℕ → Option OpenQueue → List Seen
@@ -253,3 +142,403 @@ class_at_as queues qid (Some o) e = ap (option_map (λ s. s.class)) (find_qid qu
 
 pub class_at : (queues : List (Option OpenQueue)) (qid : ℕ) (v : Option OpenQueue) → v ≡ queue_at queues qid → class_in (seen_of queues) qid ≡ option_map (λ o. o.class) v
 class_at queues qid v e = class_at_as queues qid v (sym e)
+
+-- ---- the places of the queues
+pub slots-length : (b : QueuesFields) → length (slots_in b) ≡ queue_limit
+unfolding slots_in
+slots-length b = length-map-range_with_len (slot_at b) 0 queue_limit
+
+-- the queue of a place
+pub slot-at : (b : QueuesFields) (q : ℕ) → q < queue_limit → queue_at (slots_in b) q ≡ slot_at b q
+unfolding slots_in
+slot-at b q l = get_or-map-range_with_len (slot_at b) 0 queue_limit q q None l (omega arith)
+
+-- no queue stands past the last place
+pub none-past : (b : QueuesFields) (q : ℕ) → queue_limit ≤ q → queue_at (slots_in b) q ≡ None
+none-past b q g = get_or_past (slots_in b) q None (let n = slots-length b in omega arith)
+
+-- ---- each queue can be seen
+class-fits : (q n : ℕ) (class : Class) → class_under q n ≡ Some class → (class ≡ Admin) ↔ (q ≡ 0)
+class-fits q n class h =
+    elim (cases_eq q 0) [
+      | inl z ↦
+          let h0 : (if n == 1 then Some Admin else None) ≡ Some class = rw (eq-eqb q 0 z) at h in
+          elim (cases_eq n 1) [
+            | inl e ↦ let is : Some Admin ≡ Some class = rw (eq-eqb n 1 e) at h0 in let same : class ≡ Admin = cc in (λ _. z, λ _. same)
+            | inr d ↦ let is : None ≡ Some class = rw (ne_eqb n 1 d) at h0 in absurd (none-some class is)
+          ]
+      | inr d ↦
+          let h1 : (if n == 2 then Some Urgent else (if n == 3 then Some High else (if n == 4 then Some Medium else (if n == 5 then Some Low else None)))) ≡ Some class = rw (ne_eqb q 0 d) at h in
+          (λ e. absurd (no-admin n class h1 e), λ e. absurd (d e))
+    ]
+  where
+    no-admin : (n : ℕ) (class : Class) → (if n == 2 then Some Urgent else (if n == 3 then Some High else (if n == 4 then Some Medium else (if n == 5 then Some Low else None)))) ≡ Some class → class ≡ Admin → ⊥
+    no-admin n class h e =
+        elim (cases_eq n 2) [
+          | inl x ↦ let is : Some Urgent ≡ Some class = rw (eq-eqb n 2 x) at h in cc
+          | inr a ↦
+              let h2 : (if n == 3 then Some High else (if n == 4 then Some Medium else (if n == 5 then Some Low else None))) ≡ Some class = rw (ne_eqb n 2 a) at h in
+              elim (cases_eq n 3) [
+                | inl x ↦ let is : Some High ≡ Some class = rw (eq-eqb n 3 x) at h2 in cc
+                | inr b ↦
+                    let h3 : (if n == 4 then Some Medium else (if n == 5 then Some Low else None)) ≡ Some class = rw (ne_eqb n 3 b) at h2 in
+                    elim (cases_eq n 4) [
+                      | inl x ↦ let is : Some Medium ≡ Some class = rw (eq-eqb n 4 x) at h3 in cc
+                      | inr d ↦
+                          let h4 : (if n == 5 then Some Low else None) ≡ Some class = rw (ne_eqb n 4 d) at h3 in
+                          elim (cases_eq n 5) [
+                            | inl x ↦ let is : Some Low ≡ Some class = rw (eq-eqb n 5 x) at h4 in cc
+                            | inr f ↦ let is : None ≡ Some class = rw (ne_eqb n 5 f) at h4 in absurd (none-some class is)
+                          ]
+                    ]
+              ]
+        ]
+
+waiting-few : (b : QueuesFields) (q count : ℕ) (class : Class) → waiting_in b q count class ≤ highest_count
+waiting-few b q count class = elim (is_marked b q class) as (λ m. (if m then min count highest_count else 0) ≤ highest_count) [ true ↦ omega arith | false ↦ omega arith ]
+
+fit-slot : (b : QueuesFields) (q : ℕ) (f : QueueFields) → q ≤ highest_qid → FitsUnder q (slot_in b q f)
+fit-slot b q f l = by_class (class_under q f.class) refl
+  where
+    by_class : (o : Option Class) → class_under q f.class ≡ o → FitsUnder q (open_in b q f.count o)
+    by_class None e = tt
+    by_class (Some class) e = record { qid = l; count = waiting-few b q f.count class; admin = class-fits q f.class class e }
+
+pub fits : (b : QueuesFields) (q : ℕ) → FitsUnder q (queue_at (slots_in b) q)
+fits b q = elim (cases_lt q queue_limit) [
+  | inl l ↦ subst (FitsUnder q) (sym (slot-at b q l)) (fit-slot b q (slice_index_or b.places q closed) (omega arith))
+  | inr g ↦ subst (FitsUnder q) (sym (none-past b q g)) tt
+]
+
+-- so the queues of a board are an observation, whatever its numbers are
+pub observed : (b : QueuesFields) → IsObservation (seen_of (slots_in b))
+observed b = observed_of (slots_in b) (fits b)
+
+-- ---- a place is written
+bit-other : (mask bit i : ℕ) (on : Bool) → bit < 64 → i < 64 → (i ≡ bit → ⊥) → bit_at (with_bit mask bit on) i ≡ bit_at mask i
+bit-other mask bit i true h k n = bit_at_set_other w64 mask bit h i n
+bit-other mask bit i false h k n = bit_at_clear_other w64 mask bit h i k n
+
+places-stay : (b : QueuesFields) (qid : ℕ) (class : Class) (on : Bool) → (marked_with b qid class on).places ≡ b.places
+places-stay b qid class on = elim (qid == 0) as (λ z. (if z then b else with_mask b class (with_bit (mask_in b class) (qid - 1) on)).places ≡ b.places) [ true ↦ refl | false ↦ by_class class ]
+  where
+    by_class : (c : Class) → (with_mask b c (with_bit (mask_in b c) (qid - 1) on)).places ≡ b.places
+    by_class Admin = refl
+    by_class Urgent = refl
+    by_class High = refl
+    by_class Medium = refl
+    by_class Low = refl
+
+-- the bit of another queue stays
+bits-other : (b : QueuesFields) (qid j : ℕ) (class c : Class) (on : Bool) → qid ≤ highest_qid → j ≤ highest_qid → (j ≡ 0 → ⊥) → (j ≡ qid → ⊥)
+    → bit_at (mask_in (marked_with b qid class on) c) (j - 1) ≡ bit_at (mask_in b c) (j - 1)
+bits-other b qid j class c on l k io n =
+    elim (cases_eq qid 0) [
+      | inl z ↦ rw (eq-eqb qid 0 z) refl
+      | inr d ↦ rw (ne_eqb qid 0 d) (by_class class c (omega arith) (omega arith) (λ e. n (omega (arith, e))))
+    ]
+  where
+    by_class : (class c : Class) → qid - 1 < 64 → j - 1 < 64 → (j - 1 ≡ qid - 1 → ⊥)
+        → bit_at (mask_in (with_mask b class (with_bit (mask_in b class) (qid - 1) on)) c) (j - 1) ≡ bit_at (mask_in b c) (j - 1)
+    by_class Admin c h k n = refl
+    by_class Urgent Admin h k n = refl
+    by_class Urgent Urgent h k n = bit-other b.urgent (qid - 1) (j - 1) on h k n
+    by_class Urgent High h k n = refl
+    by_class Urgent Medium h k n = refl
+    by_class Urgent Low h k n = refl
+    by_class High Admin h k n = refl
+    by_class High Urgent h k n = refl
+    by_class High High h k n = bit-other b.high (qid - 1) (j - 1) on h k n
+    by_class High Medium h k n = refl
+    by_class High Low h k n = refl
+    by_class Medium Admin h k n = refl
+    by_class Medium Urgent h k n = refl
+    by_class Medium High h k n = refl
+    by_class Medium Medium h k n = bit-other b.medium (qid - 1) (j - 1) on h k n
+    by_class Medium Low h k n = refl
+    by_class Low Admin h k n = refl
+    by_class Low Urgent h k n = refl
+    by_class Low High h k n = refl
+    by_class Low Medium h k n = refl
+    by_class Low Low h k n = bit-other b.low (qid - 1) (j - 1) on h k n
+
+-- so what waits in it stays
+waiting-other : (b d : QueuesFields) (j count : ℕ) (c : Class) → (c ≡ Admin → j ≡ 0) → (j ≡ 0 → c ≡ Admin)
+    → ((j ≡ 0 → ⊥) → bit_at (mask_in d c) (j - 1) ≡ bit_at (mask_in b c) (j - 1)) → waiting_in d j count c ≡ waiting_in b j count c
+waiting-other b d j count Admin z io same = refl
+waiting-other b d j count Urgent z io same = ap (λ n. if n == 1 then min count highest_count else 0) (same (λ e. let no = io e in cc))
+waiting-other b d j count High z io same = ap (λ n. if n == 1 then min count highest_count else 0) (same (λ e. let no = io e in cc))
+waiting-other b d j count Medium z io same = ap (λ n. if n == 1 then min count highest_count else 0) (same (λ e. let no = io e in cc))
+waiting-other b d j count Low z io same = ap (λ n. if n == 1 then min count highest_count else 0) (same (λ e. let no = io e in cc))
+
+mask-of-places : (b : QueuesFields) (ps : List QueueFields) (c : Class) → mask_in (record b { places = ps }) c ≡ mask_in b c
+mask-of-places b ps Admin = refl
+mask-of-places b ps Urgent = refl
+mask-of-places b ps High = refl
+mask-of-places b ps Medium = refl
+mask-of-places b ps Low = refl
+
+-- what is written into a place changes no other
+abbrev pub written : QueuesFields → ℕ → Class → QueueFields → Bool → QueuesFields
+written b qid class f on = marked_with (record b { places = set b.places qid f }) qid class on
+
+slot-other : (b : QueuesFields) (qid j : ℕ) (class : Class) (f : QueueFields) (on : Bool) → qid ≤ highest_qid → j ≤ highest_qid → (j ≡ qid → ⊥)
+    → slot_at (written b qid class f on) j ≡ slot_at b j
+slot-other b qid j class f on l k n =
+    let there : slice_index_or (written b qid class f on).places j closed ≡ slice_index_or b.places j closed =
+    ap (λ ps. slice_index_or ps j closed) (places-stay (record b { places = set b.places qid f }) qid class on) ∙ get_or-set_other b.places qid j f closed n in
+    ap (slot_in (written b qid class f on) j) there ∙ by_class (class_under j (slice_index_or b.places j closed).class) refl
+  where
+    by_class : (o : Option Class) → class_under j (slice_index_or b.places j closed).class ≡ o
+        → open_in (written b qid class f on) j (slice_index_or b.places j closed).count o ≡ open_in b j (slice_index_or b.places j closed).count o
+    by_class None e = refl
+    by_class (Some c) e =
+        let under = class-fits j (slice_index_or b.places j closed).class c e in
+        ap (λ w. Some (record { class = c; count = w }))
+        (waiting-other b (written b qid class f on) j (slice_index_or b.places j closed).count c under.0 under.1
+        (λ io. bits-other (record b { places = set b.places qid f }) qid j class c on l k io n ∙ ap (λ m. bit_at m (j - 1)) (mask-of-places b (set b.places qid f) c)))
+
+pub slots-written : (b : QueuesFields) (qid : ℕ) (class : Class) (f : QueueFields) (on : Bool) (o : Option OpenQueue) → qid ≤ highest_qid → length b.places ≡ queue_limit
+    → slot_in (written b qid class f on) qid f ≡ o → slots_in (written b qid class f on) ≡ set (slots_in b) qid o
+slots-written b qid class f on o l size is =
+    let new : QueuesFields = written b qid class f on in
+    let n = slots-length b in
+    let m = slots-length new in
+    ext_get_or None (slots_in new) (set (slots_in b) qid o) (m ∙ sym (length-set (slots_in b) qid o ∙ n))
+    (λ i lt. elim (cases_eq i qid) [
+      | inl e ↦
+          let there : slice_index_or new.places qid closed ≡ f = ap (λ ps. slice_index_or ps qid closed) (places-stay (record b { places = set b.places qid f }) qid class on) ∙ get_or-set_same b.places qid f closed (omega (arith, size, l)) in
+          let here : queue_at (slots_in new) qid ≡ o = slot-at new qid (omega arith) ∙ ap (slot_in new qid) there ∙ is in
+          subst (λ k. queue_at (slots_in new) k ≡ queue_at (set (slots_in b) qid o) k) (sym e)
+          (here ∙ sym (get_or-set_same (slots_in b) qid o None (omega (arith, n, l))))
+      | inr d ↦
+          slot-at new i (omega (arith, lt, m)) ∙ slot-other b qid i class f on l (omega (arith, lt, m)) d ∙ sym (slot-at b i (omega (arith, lt, m)))
+          ∙ sym (get_or-set_other (slots_in b) qid i o None d)
+    ])
+
+-- ---- the place that is written
+bit-same : (mask bit : ℕ) (on : Bool) → bit < 64 → (bit_at (with_bit mask bit on) bit == 1) ≡ on
+bit-same mask bit true h = ap (λ n. n == 1) (bit_at_set_same w64 mask bit h)
+bit-same mask bit false h = ap (λ n. n == 1) (bit_at_clear_same w64 mask bit h)
+
+own-bit : (b : QueuesFields) (qid : ℕ) (class : Class) (on : Bool) → qid ≤ highest_qid → (class ≡ Admin → ⊥) → (qid ≡ 0 → ⊥) → is_marked (marked_with b qid class on) qid class ≡ on
+own-bit b qid class on l io d = rw (ne_eqb qid 0 d) (by_class class io (omega arith))
+  where
+    by_class : (c : Class) → (c ≡ Admin → ⊥) → qid - 1 < 64 → is_marked (with_mask b c (with_bit (mask_in b c) (qid - 1) on)) qid c ≡ on
+    by_class Admin io h = absurd (io refl)
+    by_class Urgent io h = bit-same b.urgent (qid - 1) on h
+    by_class High io h = bit-same b.high (qid - 1) on h
+    by_class Medium io h = bit-same b.medium (qid - 1) on h
+    by_class Low io h = bit-same b.low (qid - 1) on h
+
+-- what is put waits
+put-waits : (b : QueuesFields) (qid count : ℕ) (class : Class) → IsSeen (seen_as qid (record { class = class; count = count }))
+    → waiting_in (marked_with b qid class (nat_lt 0 count)) qid count class ≡ count
+put-waits b qid count class seen =
+    elim (cases_eq qid 0) [
+      | inl z ↦ rw (seen.admin.1 z) (omega (arith, seen.count))
+      | inr d ↦
+          let marked = own-bit b qid class (nat_lt 0 count) seen.qid (λ e. d (seen.admin.0 e)) d in
+          ap (λ m. if m then min count highest_count else 0) marked ∙ by_count count seen.count
+    ]
+  where
+    by_count : (n : ℕ) → n ≤ highest_count → (if nat_lt 0 n then min n highest_count else 0) ≡ n
+    by_count zero few = refl
+    by_count (suc n) few = rw (lt-ltb 0 (suc n) (omega arith)) (omega (arith, few))
+
+-- the class of a place by the number that is written
+number-under : (qid : ℕ) (class : Class) (n : ℕ) → (class ≡ Admin) ↔ (qid ≡ 0) → n ≡ number_of_class class → class_under qid (n + 1) ≡ Some class
+number-under qid class n admin is =
+    rw is (elim (cases_eq qid 0) [
+      | inl z ↦ rw (admin.1 z) (rw (eq-eqb qid 0 z) refl)
+      | inr d ↦ rw (ne_eqb qid 0 d) (by_class class (λ e. d (admin.0 e)))
+    ])
+  where
+    by_class : (c : Class) → (c ≡ Admin → ⊥)
+        → (if (number_of_class c + 1) == 2 then Some Urgent else (if (number_of_class c + 1) == 3 then Some High else (if (number_of_class c + 1) == 4 then Some Medium else (if (number_of_class c + 1) == 5 then Some Low else None)))) ≡ Some c
+    by_class Admin io = absurd (io refl)
+    by_class Urgent io = refl
+    by_class High io = refl
+    by_class Medium io = refl
+    by_class Low io = refl
+
+pub put-slot : (b : QueuesFields) (qid n count : ℕ) (class : Class) → IsSeen (seen_as qid (record { class = class; count = count })) → n ≡ number_of_class class
+    → slot_in (marked_with b qid class (nat_lt 0 count)) qid (record { class = n + 1; count = count }) ≡ Some (record { class = class; count = count })
+put-slot b qid n count class seen is =
+    ap (open_in (marked_with b qid class (nat_lt 0 count)) qid count) (number-under qid class n seen.admin is)
+    ∙ ap (λ w. Some (record { class = class; count = w })) (put-waits b qid count class seen)
+
+pub closed-slot : (b : QueuesFields) (qid : ℕ) → slot_in b qid closed ≡ None
+closed-slot b qid = elim (qid == 0) as (λ z. open_in b qid 0 (if z then None else None) ≡ None) [ true ↦ refl | false ↦ refl ]
+
+pub slots-closed : (b : QueuesFields) → b.places ≡ replicate queue_limit closed → slots_in b ≡ replicate queue_limit None
+slots-closed b is =
+    let none : Option OpenQueue = None in
+    let n = slots-length b in
+    let m = length-replicate queue_limit none in
+    ext_get_or None (slots_in b) (replicate queue_limit None) (n ∙ sym m)
+    (λ i lt.
+    slot-at b i (omega (arith, lt, n)) ∙ ap (slot_in b i) (ap (λ ps. slice_index_or ps i closed) is ∙ get_or-replicate queue_limit i closed closed (omega (arith, lt, n)))
+    ∙ closed-slot b i ∙ sym (get_or-replicate queue_limit i None None (omega (arith, lt, n))))
+
+-- ---- what isn't ready
+waits-none : (b : QueuesFields) (j count : ℕ) (c : Class) → (c ≡ Admin → ⊥) → bit_at (mask_in b c) (j - 1) ≡ 0 → waiting_in b j count c ≡ 0
+waits-none b j count Admin io h = absurd (io refl)
+waits-none b j count Urgent io h = ap (λ n. if n == 1 then min count highest_count else 0) h
+waits-none b j count High io h = ap (λ n. if n == 1 then min count highest_count else 0) h
+waits-none b j count Medium io h = ap (λ n. if n == 1 then min count highest_count else 0) h
+waits-none b j count Low io h = ap (λ n. if n == 1 then min count highest_count else 0) h
+
+-- no bit of all is no bit of each
+record NoneOfEach (b : QueuesFields) (i : ℕ) : Type 0 where
+  urgent : bit_at b.urgent i ≡ 0
+  high : bit_at b.high i ≡ 0
+  medium : bit_at b.medium i ≡ 0
+  low : bit_at b.low i ≡ 0
+
+each : (b : QueuesFields) (i : ℕ) → bit_at (mask_for b None) i ≡ 0 → NoneOfEach b i
+each b i h =
+    let low = bit_at_or (bit_or (bit_or b.urgent b.high) b.medium) b.low i in
+    let medium = bit_at_or (bit_or b.urgent b.high) b.medium i in
+    let high = bit_at_or b.urgent b.high i in
+    record {
+      urgent = omega (arith, h, low, medium, high);
+      high = omega (arith, h, low, medium, high);
+      medium = omega (arith, h, low, medium);
+      low = omega (arith, h, low);
+    }
+
+bits-of-none : (b : QueuesFields) (c : Class) (i : ℕ) → bit_at (mask_for b None) i ≡ 0 → bit_at (mask_in b c) i ≡ 0
+bits-of-none b Admin i h = bit_at-zero i
+bits-of-none b Urgent i h = (each b i h).urgent
+bits-of-none b High i h = (each b i h).high
+bits-of-none b Medium i h = (each b i h).medium
+bits-of-none b Low i h = (each b i h).low
+
+not-wanted : (b : QueuesFields) (wanted : Option Class) (j count : ℕ) (c : Class) → (c ≡ Admin → ⊥) → bit_at (mask_for b wanted) (j - 1) ≡ 0
+    → is_wanted wanted (seen_as j (record { class = c; count = waiting_in b j count c })) ≡ false
+not-wanted b None j count c io h = ap (λ n. nat_lt 0 n) (waits-none b j count c io (bits-of-none b c (j - 1) h))
+not-wanted b (Some w) j count c io h = by_class w c io h
+  where
+    by_class : (w c : Class) → (c ≡ Admin → ⊥) → bit_at (mask_in b w) (j - 1) ≡ 0 → (is_class w c && nat_lt 0 (waiting_in b j count c)) ≡ false
+    by_class w Admin io h = absurd (io refl)
+    by_class Admin Urgent io h = refl
+    by_class Admin High io h = refl
+    by_class Admin Medium io h = refl
+    by_class Admin Low io h = refl
+    by_class Urgent Urgent io h = ap (λ n. nat_lt 0 n) (waits-none b j count Urgent io h)
+    by_class Urgent High io h = refl
+    by_class Urgent Medium io h = refl
+    by_class Urgent Low io h = refl
+    by_class High Urgent io h = refl
+    by_class High High io h = ap (λ n. nat_lt 0 n) (waits-none b j count High io h)
+    by_class High Medium io h = refl
+    by_class High Low io h = refl
+    by_class Medium Urgent io h = refl
+    by_class Medium High io h = refl
+    by_class Medium Medium io h = ap (λ n. nat_lt 0 n) (waits-none b j count Medium io h)
+    by_class Medium Low io h = refl
+    by_class Low Urgent io h = refl
+    by_class Low High io h = refl
+    by_class Low Medium io h = refl
+    by_class Low Low io h = ap (λ n. nat_lt 0 n) (waits-none b j count Low io h)
+
+-- an I/O queue without its bit isn't ready
+pub not-ready : (b : QueuesFields) (wanted : Option Class) (j : ℕ) → 1 ≤ j → j ≤ highest_qid → bit_at (mask_for b wanted) (j - 1) ≡ 0
+    → passes (is_wanted wanted) j (queue_at (slots_in b) j) ≡ false
+not-ready b wanted j some few h = ap (passes (is_wanted wanted) j) (slot-at b j (omega arith)) ∙ by_class (class_under j (slice_index_or b.places j closed).class) refl
+  where
+    by_class : (o : Option Class) → class_under j (slice_index_or b.places j closed).class ≡ o → passes (is_wanted wanted) j (open_in b j (slice_index_or b.places j closed).count o) ≡ false
+    by_class None e = refl
+    by_class (Some c) e =
+        let under = class-fits j (slice_index_or b.places j closed).class c e in
+        not-wanted b wanted j (slice_index_or b.places j closed).count c (λ a. absurd (omega (arith, some, under.0 a))) h
+
+-- nor is one past the last place
+pub past-wanted : (b : QueuesFields) (wanted : Option Class) (j : ℕ) → queue_limit ≤ j → passes (is_wanted wanted) j (queue_at (slots_in b) j) ≡ false
+past-wanted b wanted j g = ap (passes (is_wanted wanted) j) (none-past b j g)
+
+-- below the lowest bit from one on no queue is
+pub none-below : (b : QueuesFields) (wanted : Option Class) (least kept q : ℕ) → 1 ≤ least → KeepsFrom (mask_for b wanted) (least - 1) kept
+    → ((i : ℕ) → i + 1 < q → bit_at kept i ≡ 0) → (j : ℕ) → least ≤ j → j < q → passes (is_wanted wanted) j (queue_at (slots_in b) j) ≡ false
+none-below b wanted least kept q some keeps none j from below =
+    elim (cases_lt j queue_limit) [
+      | inl l ↦
+          let bit : bit_at kept (j - 1) ≡ (if nat_lt (j - 1) (least - 1) then 0 else bit_at (mask_for b wanted) (j - 1)) = keeps (j - 1) (omega (arith, l)) in
+          let over : nat_lt (j - 1) (least - 1) ≡ false = le-ltb (j - 1) (least - 1) (omega (arith, from)) in
+          not-ready b wanted j (omega (arith, some, from)) (omega (arith, l))
+          (sym (bit ∙ ap (λ x. if x then 0 else bit_at (mask_for b wanted) (j - 1)) over) ∙ none (j - 1) (omega (arith, some, from, below)))
+      | inr g ↦ past-wanted b wanted j g
+    ]
+
+-- the queue of the lowest bit from one on is the first, where it is wanted
+pub first-of-mask : (b : QueuesFields) (wanted : Option Class) (least kept bit : ℕ) (s : Seen) → 1 ≤ least → least ≤ queue_limit → KeepsFrom (mask_for b wanted) (least - 1) kept
+    → IsLowest kept bit → IsWantedAt (slots_in b) wanted (bit + 1) s → IsFirstFrom (slots_in b) wanted least s
+first-of-mask b wanted least kept bit s some few keeps low w =
+    let qid : s.qid ≡ bit + 1 = ap (λ (x : Seen). x.qid) w.is in
+    record {
+      from = elim (cases_lt bit (least - 1)) [
+        | inl l ↦
+            let none : bit_at kept bit ≡ 0 = keeps bit (omega (arith, l, few)) ∙ ap (λ x. if x then 0 else bit_at (mask_for b wanted) bit) (lt-ltb bit (least - 1) l) in
+            absurd (omega (arith, none, low.is_set))
+        | inr g ↦ omega (arith, g, qid, some)
+      ];
+      there = subst (λ q. IsWantedAt (slots_in b) wanted q s) (sym qid) w;
+      none_before = λ j from below. none-below b wanted least kept (bit + 1) some keeps (λ i l. low.none_below i (omega (arith, l))) j from (omega (arith, below, qid));
+    }
+
+-- ---- what is found
+pub found : (p : Seen → Bool) (queues : List (Option OpenQueue)) (q : ℕ) (o : OpenQueue) → queue_at queues q ≡ Some o → p (seen_as q o) ≡ true
+    → ((j : ℕ) → j < q → passes p j (queue_at queues j) ≡ false) → find p (seen_of queues) ≡ Some (seen_as q o)
+found p queues q o e t f = find_first p 0 q queues q o (omega arith) e t (λ j m l a. subst (λ k. passes p k (queue_at queues j) ≡ false) (omega arith) (f j l))
+
+pub nothing : (p : Seen → Bool) (queues : List (Option OpenQueue)) → ((j : ℕ) → passes p j (queue_at queues j) ≡ false) → find p (seen_of queues) ≡ None
+nothing p queues f = find_nothing p 0 queues (λ j m a. subst (λ k. passes p k (queue_at queues j) ≡ false) (omega arith) (f j))
+
+-- the first of all, where queue 0 isn't it
+pub first-found : (queues : List (Option OpenQueue)) (wanted : Option Class) (r : Option Seen) → passes (is_wanted wanted) 0 (queue_at queues 0) ≡ false
+    → MatchOption r (NoneFrom queues wanted 1) (IsFirstFrom queues wanted 1) → r ≡ find (is_wanted wanted) (seen_of queues)
+first-found queues wanted None z h =
+    sym (nothing (is_wanted wanted) queues (λ j. elim (cases_eq j 0) [
+      | inl e ↦ subst (λ k. passes (is_wanted wanted) k (queue_at queues k) ≡ false) (sym e) z
+      | inr d ↦ h j (omega arith)
+    ]))
+first-found queues wanted (Some s) z h =
+    ap Some h.there.is ∙ sym (found (is_wanted wanted) queues s.qid h.there.queue h.there.is_open (ap (is_wanted wanted) (sym h.there.is) ∙ h.there.is_wanted)
+    (λ j l. elim (cases_eq j 0) [
+      | inl e ↦ subst (λ k. passes (is_wanted wanted) k (queue_at queues k) ≡ false) (sym e) z
+      | inr d ↦ h.none_before j (omega arith) l
+    ]))
+
+-- queue 0 itself, or one that stands alone below none
+pub zero-found : (queues : List (Option OpenQueue)) (wanted : Option Class) (s : Seen) → IsWantedAt queues wanted 0 s → Some s ≡ find (is_wanted wanted) (seen_of queues)
+zero-found queues wanted s h =
+    ap Some h.is ∙ sym (found (is_wanted wanted) queues 0 h.queue h.is_open (ap (is_wanted wanted) (sym h.is) ∙ h.is_wanted) (λ j l. absurd (omega (arith, l))))
+
+-- the first above one
+passes-above : (wanted : Option Class) (last j : ℕ) (o : Option OpenQueue) → passes (λ s. is_wanted wanted s && nat_lt last s.qid) j o ≡ (passes (is_wanted wanted) j o && nat_lt last j)
+passes-above wanted last j None = refl
+passes-above wanted last j (Some o) = refl
+
+not-above : (queues : List (Option OpenQueue)) (wanted : Option Class) (last j : ℕ) → j ≤ last → passes (λ s. is_wanted wanted s && nat_lt last s.qid) j (queue_at queues j) ≡ false
+not-above queues wanted last j l =
+    passes-above wanted last j (queue_at queues j) ∙ and_right (passes (is_wanted wanted) j (queue_at queues j)) (nat_lt last j) (le-ltb last j l)
+
+above-not : (queues : List (Option OpenQueue)) (wanted : Option Class) (last j : ℕ) → passes (is_wanted wanted) j (queue_at queues j) ≡ false
+    → passes (λ s. is_wanted wanted s && nat_lt last s.qid) j (queue_at queues j) ≡ false
+above-not queues wanted last j h = passes-above wanted last j (queue_at queues j) ∙ ap (λ b. b && nat_lt last j) h
+
+pub first-above : (queues : List (Option OpenQueue)) (wanted : Option Class) (last : ℕ) (r : Option Seen)
+    → MatchOption r (NoneFrom queues wanted (last + 1)) (IsFirstFrom queues wanted (last + 1)) → r ≡ find (λ s. is_wanted wanted s && nat_lt last s.qid) (seen_of queues)
+first-above queues wanted last None h =
+    sym (nothing (λ s. is_wanted wanted s && nat_lt last s.qid) queues (λ j. elim (cases_lt last j) [
+      | inl l ↦ above-not queues wanted last j (h j (omega (arith, l)))
+      | inr g ↦ not-above queues wanted last j g
+    ]))
+first-above queues wanted last (Some s) h =
+    ap Some h.there.is ∙ sym (found (λ s. is_wanted wanted s && nat_lt last s.qid) queues s.qid h.there.queue h.there.is_open
+    (and_from (is_wanted wanted (seen_as s.qid h.there.queue)) (nat_lt last s.qid) (ap (is_wanted wanted) (sym h.there.is) ∙ h.there.is_wanted) (lt-ltb last s.qid (omega (arith, h.from))))
+    (λ j l. elim (cases_lt last j) [
+      | inl a ↦ above-not queues wanted last j (h.none_before j (omega (arith, a)) l)
+      | inr g ↦ not-above queues wanted last j g
+    ]))

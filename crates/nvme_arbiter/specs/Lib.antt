@@ -9,8 +9,9 @@ pub mod Lawful
 pub mod Standing
 pub mod Laws
 pub mod Examples
-pub mod Bits
 pub mod Queues
 pub mod Board
+pub mod Layout
 pub mod Service
 pub mod ServiceExamples
+pub mod inside

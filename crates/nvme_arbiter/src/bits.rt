@@ -1,9 +1,18 @@
-// Bits of a mask of queues. A mask has room for 128 identifiers.
-ghost use Rattle.std.specs.Prelude.{◌≡◌, ◌<◌, MatchOption};
-ghost use Rattle.nvme_arbiter.specs.Bits.{HasNoBit, IsLowest, KeepsAbove, with_bit};
+// Bits of a mask of queues. A mask has room for 64 of them.
+ghost use Rattle.std.specs.Prelude.{◌≡◌, ◌==◌, ◌<◌, MatchOption};
+ghost use Rattle.std.specs.Int.{bit_at};
+ghost use Rattle.nvme_arbiter.specs.inside.Masks.{HasNoBit, IsLowest, KeepsFrom, with_bit};
+
+/// Whether a bit is set.
+pub fn has_bit(mask: u64, bit: u16) -> bool
+    requires { bit < 64 }
+    ensures { result ≡ (bit_at mask bit == 1) }
+{
+    (mask >> bit) % 2 == 1
+}
 
 /// The lowest bit that is set.
-pub fn lowest(mask: u128) -> Option<u16>
+pub fn lowest(mask: u64) -> Option<u16>
     ensures { MatchOption result (HasNoBit mask) (IsLowest mask) }
 {
     if mask == 0 {
@@ -13,20 +22,16 @@ pub fn lowest(mask: u128) -> Option<u16>
     }
 }
 
-/// The mask without the bits up to `bit`.
-pub fn above(mask: u128, bit: u16) -> u128
-    ensures { KeepsAbove mask bit result }
+/// The mask without the bits below this one.
+pub fn from_bit(mask: u64, bit: u16) -> u64
+    ensures { KeepsFrom mask bit result }
 {
-    if bit >= 127 {
-        0
-    } else {
-        mask >> (bit + 1) << (bit + 1)
-    }
+    if bit >= 64 { 0 } else { mask >> bit << bit }
 }
 
 /// The mask with one bit set or cleared.
-pub fn with_bit(mask: u128, bit: u16, on: bool) -> u128
-    requires { bit < 128 }
+pub fn with_bit(mask: u64, bit: u16, on: bool) -> u64
+    requires { bit < 64 }
     ensures { result ≡ with_bit mask bit on }
 {
     if on {

@@ -1,8 +1,7 @@
 // The board: an arbiter that keeps the counts of its queues itself.
-use crate::kept::Kept;
+use crate::board_fields::BoardFields;
 use crate::limits::QUEUE_LIMIT;
 use crate::pick::{OpenQueue, Pick, Seen};
-use crate::queues::Queues;
 use crate::settings::{Class, Mechanism, Settings};
 use arrayvec::ArrayVec;
 use std::marker::Model;
@@ -11,18 +10,19 @@ use std::marker::Model;
 /// so the cost of a pick doesn't grow with the number of queues. It picks what an `Arbiter` picks of `seen()`.
 #[derive(Debug, Drop)]
 pub struct Board {
-    kept: Kept,
-    queues: Queues,
+    fields: BoardFields,
 }
 
 impl Model for Board {
-    ghost use Rattle.nvme_arbiter.specs.Board.{BoardView, IsBoard};
+    ghost use Rattle.std.specs.Prelude.{IsTrue};
+    ghost use Rattle.nvme_arbiter.specs.Board.{BoardView};
+    ghost use Rattle.nvme_arbiter.specs.Layout.{board_of, is_arbiter};
 
     ghost Value = { BoardView };
 
-    ghost view = { λ b. record { kept = b.kept; queues = b.queues } };
+    ghost view = { λ b. board_of b.fields };
 
-    ghost invariant = { λ b. IsBoard (record { kept = b.kept; queues = b.queues }) };
+    ghost invariant = { λ b. IsTrue (is_arbiter b.fields.arbiter) };
 }
 
 impl Board {
@@ -46,8 +46,7 @@ impl Board {
         ensures is_board { IsBoard result }
     {
         Board {
-            kept: Kept::new(mechanism, settings),
-            queues: Queues::new(),
+            fields: BoardFields::new(mechanism, settings),
         }
     }
 
@@ -61,8 +60,7 @@ impl Board {
         ensures stands { (mechanism : Mechanism) (first : ArbitrationFields) (past : History) → BoardStandsAt mechanism first past self.old → BoardStandsAt mechanism first past self.new }
         ensures is_board { IsBoard self.new }
     {
-        self.queues
-            .put(qid, class, Some(OpenQueue { class, count: 0 }));
+        self.fields.open(qid, class);
     }
 
     /// Closes a queue and drops its count. What was served last and used in the round stays.
@@ -72,9 +70,7 @@ impl Board {
         ensures stands { (mechanism : Mechanism) (first : ArbitrationFields) (past : History) → BoardStandsAt mechanism first past self.old → BoardStandsAt mechanism first past self.new }
         ensures is_board { IsBoard self.new }
     {
-        if let Some(queue) = self.queues.queue(qid) {
-            self.queues.put(qid, queue.class, None);
-        }
+        self.fields.close(qid);
     }
 
     /// Counts one more waiting command in an open queue.
@@ -84,13 +80,17 @@ impl Board {
         ensures stands { (mechanism : Mechanism) (first : ArbitrationFields) (past : History) → BoardStandsAt mechanism first past self.old → BoardStandsAt mechanism first past self.new }
         ensures is_board { IsBoard self.new }
     {
-        if let Some(queue) = self.queues.queue(qid) {
-            let queue = OpenQueue {
-                class: queue.class,
-                count: queue.count + 1,
-            };
-            self.queues.put(qid, queue.class, Some(queue));
-        }
+        self.fields.came(qid);
+    }
+
+    /// Counts `n` more waiting commands in an open queue.
+    pub fn came_n(&mut self, qid: u16, n: u16)
+        requires { IsSomeAnd (queue_at self.old.queues qid) (λ queue. queue.count + n ≤ highest_count) }
+        ensures came { IfSome (queue_at self.old.queues qid) (λ queue. self.new ≡ record self.old { queues = slice_set self.old.queues qid (Some (record queue { count = queue.count + n })) }) }
+        ensures stands { (mechanism : Mechanism) (first : ArbitrationFields) (past : History) → BoardStandsAt mechanism first past self.old → BoardStandsAt mechanism first past self.new }
+        ensures is_board { IsBoard self.new }
+    {
+        self.fields.came_n(qid, n);
     }
 
     /// Counts one waiting command less in an open queue: it left without being picked.
@@ -100,7 +100,7 @@ impl Board {
         ensures stands { (mechanism : Mechanism) (first : ArbitrationFields) (past : History) → BoardStandsAt mechanism first past self.old → BoardStandsAt mechanism first past self.new }
         ensures is_board { IsBoard self.new }
     {
-        self.queues.take(qid, 1);
+        self.fields.went(qid);
     }
 
     /// The queue of an identifier, where it is open.
@@ -109,7 +109,7 @@ impl Board {
         ensures fits { FitsUnder qid result }
         ensures is_board { IsBoard self.now }
     {
-        self.queues.queue(qid)
+        self.fields.queue(qid)
     }
 
     /// The open queues by ascending identifier, each with its class and the number of commands that wait.
@@ -118,7 +118,7 @@ impl Board {
         ensures observed { IsObservation (seen_of self.now.queues) }
         ensures is_board { IsBoard self.now }
     {
-        self.queues.seen()
+        self.fields.seen()
     }
 
     /// What `pick` would answer.
@@ -128,7 +128,7 @@ impl Board {
         ensures none_where_idle { IsNone result ↔ IsIdle (seen_of self.now.queues) }
         ensures is_board { IsBoard self.now }
     {
-        self.kept.peek(&self.queues)
+        self.fields.peek()
     }
 
     /// The lawful pick for `seen()` after the picks and settings so far (Base Specification, Command
@@ -156,8 +156,7 @@ impl Board {
         ensures kept { self.new.kept ≡ kept_after self.old.kept.mechanism self.old.kept (class_in (seen_of self.old.queues) pick.qid) pick }
         ensures is_board { IsBoard self.new }
     {
-        self.kept.keep(&self.queues, pick);
-        self.queues.take(pick.qid, pick.n);
+        self.fields.keep(pick);
     }
 
     /// Takes new settings, which start a new round. The identifiers served last and the queues stay.
@@ -167,6 +166,6 @@ impl Board {
         ensures kept { self.new.kept ≡ record self.old.kept { settings = settings; used = nothing_used } }
         ensures is_board { IsBoard self.new }
     {
-        self.kept.set(settings);
+        self.fields.set(settings);
     }
 }

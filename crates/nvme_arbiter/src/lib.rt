@@ -2,13 +2,14 @@
 #![tactic(auto)]
 
 mod arbiter;
+mod arbiter_fields;
 mod bits;
 mod board;
+mod board_fields;
 mod by_class;
 mod kept;
 mod laws;
 mod limits;
-mod masks;
 mod observation;
 mod pick;
 mod queues;
@@ -19,7 +20,9 @@ pub mod service;
 mod settings;
 
 pub use arbiter::Arbiter;
+pub use arbiter_fields::{ArbiterFields, LastFields, UsedFields};
 pub use board::Board;
+pub use board_fields::BoardFields;
 pub use by_class::ByClass;
 pub use kept::{Kept, Last, Used};
 pub use laws::{
@@ -31,5 +34,6 @@ pub use laws::{
 pub use limits::{HIGHEST_COUNT, HIGHEST_QID, QUEUE_LIMIT};
 pub use observation::{class_in, is_observation};
 pub use pick::{OpenQueue, Pick, Seen};
+pub use queues::{QueueFields, QueuesFields};
 pub use ready::ReadyQueues;
 pub use settings::{Class, Mechanism, Settings};

@@ -1,116 +1,90 @@
-// The open queues, with the masks in which the next ready one is found.
+// The open queues as they lie in memory, with the masks in which the next ready one is found: queue q is at place q.
 ghost use Rattle.std.specs.Prelude.{◌≡◌};
-ghost use Rattle.nvme_arbiter.specs.Queues.{has_waiting};
+ghost use Rattle.nvme_arbiter.specs.Layout.{class_under};
 
-use crate::bits::{above, lowest};
-use crate::by_class::ByClass;
-use crate::limits::{HIGHEST_QID, QUEUE_LIMIT};
-use crate::masks::Masks;
+use crate::bits::{from_bit, has_bit, lowest, with_bit};
+use crate::limits::{HIGHEST_COUNT, HIGHEST_QID, QUEUE_LIMIT};
 use crate::pick::{OpenQueue, Seen};
 use crate::ready::ReadyQueues;
+use crate::seek::is_wanted;
 use crate::settings::Class;
 use arrayvec::ArrayVec;
-use std::marker::Model;
 
-// Whether an open queue is ready.
-fn has_waiting(queue: Option<OpenQueue>) -> bool
-    ensures { result ≡ has_waiting queue }
+/// A queue of a board: 0 where it is closed, otherwise its class plus 1, and how many of its commands wait.
+#[repr(C)]
+#[derive(Clone, Copy, Debug, Drop)]
+pub struct QueueFields {
+    pub class: u16,
+    pub count: u16,
+}
+
+/// The queues of a board, with a mask of the ready I/O queues of each class: bit q - 1 is for queue q. Any numbers are
+/// the queues of some board. No command waits in an I/O queue whose bit isn't set in the mask of its class. A number
+/// that isn't a class of the identifier means that the queue is closed.
+#[repr(C)]
+#[derive(Clone, Copy, Debug, Drop)]
+pub struct QueuesFields {
+    pub urgent: u64,
+    pub high: u64,
+    pub medium: u64,
+    pub low: u64,
+    pub places: [QueueFields; QUEUE_LIMIT],
+}
+
+// The class with this number, where the queue of this identifier can have it.
+fn class_under(qid: u16, number: u16) -> Option<Class>
+    ensures { result ≡ class_under qid number }
 {
-    match queue {
-        Some(queue) => queue.count > 0,
-        None => false,
+    if qid == 0 {
+        return if number == 1 {
+            Some(Class::Admin)
+        } else {
+            None
+        };
+    }
+    match number {
+        2 => Some(Class::Urgent),
+        3 => Some(Class::High),
+        4 => Some(Class::Medium),
+        5 => Some(Class::Low),
+        _ => None,
     }
 }
 
-/// The open queues by identifier. Contracts see the list of them.
-#[derive(Debug, Drop)]
-pub struct Queues {
-    slots: [Option<OpenQueue>; QUEUE_LIMIT],
-    ready: Masks,
-}
-
-impl Model for Queues {
-    ghost use Rattle.std.specs.Prelude.{List, Option};
-    ghost use Rattle.nvme_arbiter.specs.declared.pick.OpenQueue.{OpenQueue};
-
-    ghost Value = { List (Option OpenQueue) };
-
-    ghost use Rattle.nvme_arbiter.specs.Queues.{AreMarked};
-
-    ghost view = { λ q. q.slots };
-
-    ghost invariant = { λ q. AreMarked q.slots q.ready };
-}
-
-impl Queues {
-    ghost use Rattle.std.specs.Prelude.{◌≡◌, ◌≤◌, length, replicate, None, option_map, slice_set};
+impl QueuesFields {
+    ghost use Rattle.std.specs.Prelude.{◌≡◌, ◌≤◌, IfNone, IfSome, MatchOption, Some, None, length, replicate, slice_set, option_map, false};
     ghost use Rattle.nvme_arbiter.specs.Limits.{highest_qid, queue_limit};
-    ghost use Rattle.nvme_arbiter.specs.Observation.{IsObservation};
-    ghost use Rattle.nvme_arbiter.specs.Queues.{seen_of, queue_at, fewer, FitsUnder, IsOf, shown};
+    ghost use Rattle.nvme_arbiter.specs.Observation.{IsObservation, IsSeen, is_wanted};
+    ghost use Rattle.nvme_arbiter.specs.Queues.{seen_of, seen_as, queue_at, fewer, FitsUnder};
+    ghost use Rattle.nvme_arbiter.specs.Layout.{mask_in, is_marked, slot_in, slots_in};
+    ghost use Rattle.nvme_arbiter.specs.inside.Masks.{IsFirstFrom, IsWantedAt, NoneFrom, mask_for, marked_with, passes, with_mask};
 
     /// No queue is open.
-    pub fn new() -> Queues
-        ensures { result ≡ replicate queue_limit None }
+    pub fn new() -> QueuesFields
+        ensures { slots_in result ≡ replicate queue_limit None }
     {
-        Queues {
-            slots: [None; QUEUE_LIMIT],
-            ready: Masks {
-                all: 0,
-                by_class: ByClass::same(0),
-            },
+        QueuesFields {
+            urgent: 0,
+            high: 0,
+            medium: 0,
+            low: 0,
+            places: [QueueFields { class: 0, count: 0 }; QUEUE_LIMIT],
         }
     }
 
-    /// The queue of an identifier, where it is open.
-    pub fn queue(&self, qid: u16) -> Option<OpenQueue>
-        ensures is_there { result ≡ queue_at self.now qid }
-        ensures fits { FitsUnder qid result }
-    {
-        if qid > HIGHEST_QID {
-            None
-        } else {
-            self.slots[usize::from(qid)]
-        }
-    }
-
-    /// Takes commands from the queue of an identifier, where it is open.
-    pub fn take(&mut self, qid: u16, n: u16)
-        ensures taken { self.new ≡ slice_set self.old qid (option_map (fewer n) (queue_at self.old qid)) }
-        ensures observed { IsObservation (seen_of self.new) }
-        ensures size { length self.new ≡ queue_limit }
-    {
-        let _ = &self.slots;
-        if let Some(queue) = self.queue(qid) {
-            let queue = OpenQueue {
-                class: queue.class,
-                count: queue.count.saturating_sub(n),
-            };
-            self.put(qid, queue.class, Some(queue));
-        }
-    }
-
-    /// Puts what is open under an identifier, of the same class as what was open there.
-    pub fn put(&mut self, qid: u16, class: Class, queue: Option<OpenQueue>)
-        requires within { qid ≤ highest_qid }
-        requires fits { FitsUnder qid queue }
-        requires was_of { IsOf class (queue_at self.old qid) }
-        requires is_of { IsOf class queue }
-        ensures is_put { self.new ≡ slice_set self.old qid queue }
-        ensures observed { IsObservation (seen_of self.new) }
-        ensures size { length self.new ≡ queue_limit }
-    {
-        let ready = has_waiting(queue);
-        self.slots[usize::from(qid)] = queue;
-        self.ready.put(class, qid, ready);
-    }
+    /// Law: any numbers are an observation, with a place for each identifier.
+    pub fn are_observed(&self)
+        ensures observed { IsObservation (seen_of (slots_in self.now)) }
+        ensures size { length (slots_in self.now) ≡ queue_limit }
+    {}
 
     /// The open queues by ascending identifier, as they are seen.
     pub fn seen(&self) -> ArrayVec<Seen, QUEUE_LIMIT>
-        ensures { result.items ≡ seen_of self.now }
+        ensures { result.items ≡ seen_of (slots_in self.now) }
     {
         let mut seen = ArrayVec::new();
         for qid in 0..HIGHEST_QID + 1 {
-            if let Some(queue) = self.slots[usize::from(qid)] {
+            if let Some(queue) = self.queue(qid) {
                 seen.push(Seen {
                     qid,
                     class: queue.class,
@@ -121,31 +95,202 @@ impl Queues {
         seen
     }
 
-    // The open queue of an identifier, as it is seen.
-    fn show(&self, qid: Option<u16>) -> Option<Seen>
-        ensures { result ≡ shown self.now qid }
+    // The mask of a class.
+    fn mask_of(&self, class: Class) -> u64
+        ensures { result ≡ mask_in self.now class }
     {
-        let qid = qid?;
+        match class {
+            Class::Admin => 0,
+            Class::Urgent => self.urgent,
+            Class::High => self.high,
+            Class::Medium => self.medium,
+            Class::Low => self.low,
+        }
+    }
+
+    // The mask of a class, or of all.
+    fn mask_for(&self, class: Option<Class>) -> u64
+        ensures { result ≡ mask_for self.now class }
+    {
+        match class {
+            Some(class) => self.mask_of(class),
+            None => self.urgent | self.high | self.medium | self.low,
+        }
+    }
+
+    // Changes the mask of a class.
+    fn put_mask(&mut self, class: Class, mask: u64)
+        ensures { self.new ≡ with_mask self.old class mask }
+    {
+        match class {
+            Class::Admin => {}
+            Class::Urgent => self.urgent = mask,
+            Class::High => self.high = mask,
+            Class::Medium => self.medium = mask,
+            Class::Low => self.low = mask,
+        }
+    }
+
+    // Sets or clears the bit of a queue in the mask of a class.
+    fn mark(&mut self, qid: u16, class: Class, on: bool)
+        requires { qid ≤ highest_qid }
+        ensures { self.new ≡ marked_with self.old qid class on }
+    {
+        if qid > 0 {
+            let mask = with_bit(self.mask_of(class), qid - 1, on);
+            self.put_mask(class, mask);
+        }
+    }
+
+    // Whether a command may wait in an open queue.
+    fn is_marked(&self, qid: u16, class: Class) -> bool
+        requires { qid ≤ highest_qid }
+        ensures { result ≡ is_marked self.now qid class }
+    {
+        match class {
+            Class::Admin => true,
+            Class::Urgent | Class::High | Class::Medium | Class::Low => {
+                has_bit(self.mask_of(class), qid.saturating_sub(1))
+            }
+        }
+    }
+
+    // The queue at a place, where it is open with a class of its identifier.
+    fn slot(&self, qid: u16, place: &QueueFields) -> Option<OpenQueue>
+        requires { qid ≤ highest_qid }
+        ensures { result ≡ slot_in self.now qid place.now }
+    {
+        let class = class_under(qid, place.class)?;
+        let count = if self.is_marked(qid, class) {
+            place.count.min(HIGHEST_COUNT)
+        } else {
+            0
+        };
+        Some(OpenQueue { class, count })
+    }
+
+    /// The queue of an identifier, where it is open.
+    pub fn queue(&self, qid: u16) -> Option<OpenQueue>
+        ensures is_there { result ≡ queue_at (slots_in self.now) qid }
+        ensures fits { FitsUnder qid result }
+    {
+        if qid > HIGHEST_QID {
+            None
+        } else {
+            self.slot(qid, &self.places[usize::from(qid)])
+        }
+    }
+
+    /// Puts an open queue under an identifier.
+    pub fn put(&mut self, qid: u16, queue: OpenQueue)
+        requires { IsSeen (seen_as qid queue) }
+        ensures is_put { slots_in self.new ≡ slice_set (slots_in self.old) qid (Some queue) }
+        ensures observed { IsObservation (seen_of (slots_in self.new)) }
+        ensures size { length (slots_in self.new) ≡ queue_limit }
+    {
+        self.places[usize::from(qid)] = QueueFields {
+            class: queue.class.number() + 1,
+            count: queue.count,
+        };
+        self.mark(qid, queue.class, queue.count > 0);
+        self.are_observed();
+    }
+
+    /// Closes the queue of an identifier, of this class where it is open.
+    pub fn close(&mut self, qid: u16, class: Class)
+        requires { qid ≤ highest_qid }
+        ensures closed { slots_in self.new ≡ slice_set (slots_in self.old) qid None }
+        ensures observed { IsObservation (seen_of (slots_in self.new)) }
+        ensures size { length (slots_in self.new) ≡ queue_limit }
+    {
+        self.places[usize::from(qid)] = QueueFields { class: 0, count: 0 };
+        self.mark(qid, class, false);
+        self.are_observed();
+    }
+
+    /// Takes commands from the queue of an identifier, where it is open.
+    pub fn take(&mut self, qid: u16, n: u16)
+        ensures taken { slots_in self.new ≡ slice_set (slots_in self.old) qid (option_map (fewer n) (queue_at (slots_in self.old) qid)) }
+        ensures observed { IsObservation (seen_of (slots_in self.new)) }
+        ensures size { length (slots_in self.new) ≡ queue_limit }
+    {
+        self.are_observed();
+        if let Some(queue) = self.queue(qid) {
+            let queue = OpenQueue {
+                class: queue.class,
+                count: queue.count.saturating_sub(n),
+            };
+            self.put(qid, queue);
+        }
+    }
+
+    // The queue of an identifier as it is seen, where it is ready and of a wanted class.
+    fn wanted_at(&self, qid: u16, class: Option<Class>) -> Option<Seen>
+        ensures some { IfSome result (λ seen. IsWantedAt (slots_in self.now) class qid seen) }
+        ensures none { IfNone result (passes (is_wanted class) qid (queue_at (slots_in self.now) qid) ≡ false) }
+    {
         let open = self.queue(qid)?;
-        Some(Seen {
+        let seen = Seen {
             qid,
             class: open.class,
             count: open.count,
-        })
+        };
+        if is_wanted(&seen, class) {
+            Some(seen)
+        } else {
+            None
+        }
+    }
+
+    // The first wanted queue from an identifier on, by looking at one after another.
+    fn scan(&self, class: Option<Class>, least: u16) -> Option<Seen>
+        requires { least ≤ queue_limit }
+        ensures { MatchOption result (NoneFrom (slots_in self.now) class least) (IsFirstFrom (slots_in self.now) class least) }
+    {
+        for qid in least..HIGHEST_QID + 1 {
+            if let Some(seen) = self.wanted_at(qid, class) {
+                return Some(seen);
+            }
+        }
+        None
+    }
+
+    // The first wanted I/O queue from an identifier on. It is the first of the mask, unless the queue of that bit isn't
+    // ready, which no call leaves behind.
+    fn first_from(&self, class: Option<Class>, least: u16) -> Option<Seen>
+        requires some { 1 ≤ least }
+        requires few { least ≤ queue_limit }
+        ensures { MatchOption result (NoneFrom (slots_in self.now) class least) (IsFirstFrom (slots_in self.now) class least) }
+    {
+        let Some(bit) = lowest(from_bit(self.mask_for(class), least - 1)) else {
+            return None;
+        };
+        match self.wanted_at(bit + 1, class) {
+            Some(seen) => Some(seen),
+            None => self.scan(class, least),
+        }
     }
 }
 
-impl ReadyQueues for Queues {
+impl ReadyQueues for QueuesFields {
     ghost use Rattle.nvme_arbiter.specs.Queues.{seen_of};
+    ghost use Rattle.nvme_arbiter.specs.Layout.{slots_in};
 
-    ghost seen = { seen_of };
+    ghost seen = { λ b. seen_of (slots_in b) };
 
     fn first(&self, class: Option<Class>) -> Option<Seen> {
-        self.show(lowest(self.ready.mask(class)))
+        match self.wanted_at(0, class) {
+            Some(seen) => Some(seen),
+            None => self.first_from(class, 1),
+        }
     }
 
     fn first_above(&self, class: Option<Class>, last: u16) -> Option<Seen> {
-        self.show(lowest(above(self.ready.mask(class), last)))
+        if last >= HIGHEST_QID {
+            None
+        } else {
+            self.first_from(class, last + 1)
+        }
     }
 
     fn class_of(&self, qid: u16) -> Option<Class> {

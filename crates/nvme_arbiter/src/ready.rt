@@ -30,10 +30,12 @@ pub trait ReadyQueues {
         requires { IsObservation (seen self.now) }
         ensures { result ≡ next last (filter (is_wanted class) (seen self.now)) }
     {
-        let first = self.first(class);
         match last {
-            Some(last) => self.first_above(class, last).or(first),
-            None => first,
+            Some(last) => match self.first_above(class, last) {
+                Some(queue) => Some(queue),
+                None => self.first(class),
+            },
+            None => self.first(class),
         }
     }
 }

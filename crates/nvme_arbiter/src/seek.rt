@@ -7,8 +7,8 @@ use crate::pick::Seen;
 use crate::ready::ReadyQueues;
 use crate::settings::Class;
 
-// Whether a queue is ready, in a class where one is given.
-fn is_wanted(queue: &Seen, class: Option<Class>) -> bool
+/// Whether a queue is ready, in a class where one is given.
+pub fn is_wanted(queue: &Seen, class: Option<Class>) -> bool
     ensures { result ≡ is_wanted class queue.now }
 {
     queue.count > 0 && class.is_none_or(|class| class == queue.class)

@@ -1,5 +1,3 @@
-pub mod Boards
 pub mod Fields
 pub mod States
 pub mod Tables
-pub mod inside

@@ -1,63 +1,21 @@
 -- What a state of C says, in the library's terms (profile).
-use Rattle.std.specs.Prelude.{ℕ, ◌-◌, ◌≤◌, ◌==◌, length, ◌&&◌, ◌||◌, nat_le, Bool, if◌then◌else◌, Option, Some, None, List, map}
-use Rattle.nvme_arbiter.specs.Settings.{settings_of, class_of_number}
+use Rattle.std.specs.Prelude.{◌≤◌, ◌==◌, ◌&&◌, length, Bool, Option, Some, None, List, map}
+use Rattle.nvme_arbiter.specs.Settings.{class_of_number}
 use Rattle.nvme_arbiter.specs.Limits.{queue_limit}
 use Rattle.nvme_arbiter.specs.Observation.{IsObservation}
+use Rattle.nvme_arbiter.specs.Layout.{is_arbiter}
 use Rattle.nvme_arbiter.specs.declared.settings.Class.{Class}
 use Rattle.nvme_arbiter.specs.declared.settings.Class.TheVariants.{Low}
-use Rattle.nvme_arbiter.specs.declared.settings.Mechanism.{Mechanism}
-use Rattle.nvme_arbiter.specs.declared.settings.Mechanism.TheVariants.{RoundRobin, Weighted}
-use Rattle.nvme_arbiter.specs.declared.kept.Kept.{Kept}
-use Rattle.nvme_arbiter.specs.declared.kept.Last.{Last}
-use Rattle.nvme_arbiter.specs.declared.kept.Used.{Used}
 use Rattle.nvme_arbiter.specs.declared.pick.Seen.{Seen}
 use Rattle.nvme_arbiter.specs.declared.pick.Pick.{Pick}
-use Rattle.nvme_capi.specs.declared.states.LastFields.{LastFields}
-use Rattle.nvme_capi.specs.declared.states.UsedFields.{UsedFields}
-use Rattle.nvme_capi.specs.declared.states.ArbiterFields.{ArbiterFields}
+use Rattle.nvme_capi.specs.declared.board.BoardState.{BoardState}
+use Rattle.nvme_capi.specs.declared.board.TheConstants.{MARK}
 use Rattle.nvme_capi.specs.declared.states.SeenFields.{SeenFields}
 use Rattle.nvme_capi.specs.declared.states.PickFields.{PickFields}
 
--- an identifier of 16 bits has this place
-abbrev pub is_place : ℕ → Bool
-is_place n = nat_le n 0x10000
-
--- the identifier of a place, 0 for none
-abbrev pub last_of_place : ℕ → Option ℕ
-last_of_place n = if n == 0 then None else Some (n - 1)
-
--- a mechanism has this number
-abbrev pub is_mechanism : ℕ → Bool
-is_mechanism n = n == 1 || n == 2
-
-abbrev pub mechanism_of : ℕ → Mechanism
-mechanism_of n = if n == 1 then RoundRobin else Weighted
-
-abbrev pub are_places : LastFields → Bool
-are_places f = is_place f.all && (is_place f.admin && (is_place f.urgent && (is_place f.high && (is_place f.medium && is_place f.low))))
-
--- an arbiter can keep this
-abbrev pub is_arbiter : ArbiterFields → Bool
-is_arbiter s = is_mechanism s.mechanism && are_places s.last
-
-abbrev pub last_in : LastFields → Last
-last_in f = record {
-  all = last_of_place f.all;
-  by_class = record {
-    admin = last_of_place f.admin;
-    urgent = last_of_place f.urgent;
-    high = last_of_place f.high;
-    medium = last_of_place f.medium;
-    low = last_of_place f.low;
-  };
-}
-
-abbrev pub used_in : UsedFields → Used
-used_in f = record { high = f.high; medium = f.medium; low = f.low }
-
--- what an arbiter keeps
-abbrev pub kept_of : ArbiterFields → Kept
-kept_of s = record { mechanism = mechanism_of s.mechanism; settings = settings_of s.cdw11; last = last_in s.last; used = used_in s.used }
+-- a board is one that was made, by its mark, and what its arbiter keeps is in its ranges
+abbrev pub is_board : BoardState → Bool
+is_board s = s.mark == MARK && is_arbiter s.board.arbiter
 
 abbrev pub seen_in_class : SeenFields → Option Class → Seen
 seen_in_class f (Some class) = record { qid = f.qid; class = class; count = f.count }

@@ -6,31 +6,13 @@ ghost use Rattle.nvme_arbiter.specs.History.{History, Picked, Changed};
 ghost use Rattle.nvme_arbiter.specs.Lawful.{IsLawfulPick};
 ghost use Rattle.nvme_arbiter.specs.Standing.{StandsAt, pick_of, first_kept, kept_after, nothing_used};
 ghost use Rattle.nvme_arbiter.specs.declared.settings.Mechanism.{Mechanism};
-ghost use Rattle.nvme_capi.specs.States.{is_arbiter, is_mechanism, kept_of, mechanism_of, seen_in, pick_of_fields, IsShown};
+ghost use Rattle.nvme_arbiter.specs.Layout.{is_arbiter, kept_of, mechanism_of};
+ghost use Rattle.nvme_capi.specs.States.{seen_in, pick_of_fields, IsShown};
 
 use crate::results::{BAD_ARGUMENT, BAD_STATE, NOTHING, OK};
 use crate::shown::{Shown, are_shown};
-use crate::states::{
-    ArbiterFields, PickFields, SeenFields, fields_of_last, fields_of_pick, fields_of_used,
-    is_arbiter, kept_of, mechanism_of,
-};
-use nvme_arbiter::{Kept, Settings};
-
-/// Writes the state of an arbiter: its mechanism, the CDW11 of its settings, and what it keeps.
-pub fn write(state: &mut ArbiterFields, mechanism: u32, cdw11: u32, kept: &Kept)
-    requires number { IsTrue (is_mechanism mechanism) }
-    requires mechanism { kept.now.mechanism ≡ mechanism_of mechanism }
-    requires settings { kept.now.settings ≡ settings_of cdw11 }
-    ensures kept { kept_of state.new ≡ kept.now }
-    ensures is_arbiter { IsTrue (is_arbiter state.new) }
-{
-    *state = ArbiterFields {
-        mechanism,
-        cdw11,
-        last: fields_of_last(kept.last),
-        used: fields_of_used(kept.used),
-    };
-}
+use crate::states::{PickFields, SeenFields, fields_of_pick};
+use nvme_arbiter::{ArbiterFields, Mechanism, Settings};
 
 /// Writes what `nvmearb_arbiter_pick` would pick. The state stays as it was.
 #[unsafe(no_mangle)]
@@ -50,13 +32,13 @@ pub extern "C" fn nvmearb_arbiter_peek(
     ensures lawful { result ≡ OK → (mechanism : Mechanism) (first : ArbitrationFields) (past : History) → StandsAt mechanism first past (kept_of state.now) → IsLawfulPick mechanism first past (seen_in queues.now) (pick_of_fields pick.new) }
     ensures unchanged { result ≢ OK → pick.new ≡ pick.old }
 {
-    if !is_arbiter(state) {
+    if !state.is_arbiter() {
         return BAD_STATE;
     }
     if !are_shown(queues) {
         return BAD_ARGUMENT;
     }
-    match kept_of(state).peek(&Shown { queues }) {
+    match state.peek(&Shown { queues }) {
         Some(it) => {
             *pick = fields_of_pick(it);
             OK
@@ -86,20 +68,32 @@ pub extern "C" fn nvmearb_arbiter_pick(
     ensures kept { result ≡ OK → IsTrue (is_arbiter state.new) }
     ensures unchanged { result ≢ OK → (state.new ≡ state.old) × (pick.new ≡ pick.old) }
 {
-    if !is_arbiter(state) {
+    if !state.is_arbiter() {
         return BAD_STATE;
     }
     if !are_shown(queues) {
         return BAD_ARGUMENT;
     }
-    let mut kept = kept_of(state);
-    match kept.pick(&Shown { queues }) {
+    let shown = Shown { queues };
+    match state.peek(&shown) {
         Some(it) => {
+            state.keep(&shown, it);
             *pick = fields_of_pick(it);
-            write(state, state.mechanism, state.cdw11, &kept);
             OK
         }
         None => NOTHING,
+    }
+}
+
+/// The mechanism with this number: 1 is round robin, 2 is weighted round robin with urgent priority class.
+pub fn mechanism_with(number: u32) -> Option<Mechanism>
+    ensures none { IsNone result ↔ ((number ≢ 1) × (number ≢ 2)) }
+    ensures some { IfSome result (λ mechanism. mechanism ≡ mechanism_of number) }
+{
+    match number {
+        1 => Some(Mechanism::RoundRobin),
+        2 => Some(Mechanism::Weighted),
+        _ => None,
     }
 }
 
@@ -114,11 +108,10 @@ pub extern "C" fn nvmearb_arbiter_init(state: &mut ArbiterFields, mechanism: u32
     ensures kept { result ≡ OK → IsTrue (is_arbiter state.new) }
     ensures unchanged { result ≢ OK → state.new ≡ state.old }
 {
-    if mechanism != 1 && mechanism != 2 {
+    let Some(mechanism) = mechanism_with(mechanism) else {
         return BAD_ARGUMENT;
-    }
-    let kept = Kept::new(mechanism_of(mechanism), Settings::from_cdw11(cdw11));
-    write(state, mechanism, cdw11, &kept);
+    };
+    *state = ArbiterFields::new(mechanism, Settings::from_cdw11(cdw11));
     OK
 }
 
@@ -133,11 +126,9 @@ pub extern "C" fn nvmearb_arbiter_set(state: &mut ArbiterFields, cdw11: u32) -> 
     ensures kept { result ≡ OK → IsTrue (is_arbiter state.new) }
     ensures unchanged { result ≢ OK → state.new ≡ state.old }
 {
-    if !is_arbiter(state) {
+    if !state.is_arbiter() {
         return BAD_STATE;
     }
-    let mut kept = kept_of(state);
-    kept.set(Settings::from_cdw11(cdw11));
-    write(state, state.mechanism, cdw11, &kept);
+    state.set(Settings::from_cdw11(cdw11));
     OK
 }

@@ -10,7 +10,6 @@ mod board;
 mod entries;
 mod fields;
 mod outcomes;
-mod queues;
 mod results;
 mod settings;
 mod shown;

@@ -183,6 +183,17 @@ fn came(board: &mut Board, qid: u16) {
     }
 }
 
+// Counts `n` more waiting commands, where the queue is open and has room for them. Answers whether it is so.
+fn came_n(board: &mut Board, qid: u16, n: u16) -> bool {
+    match board.queue(qid) {
+        Some(queue) if n <= HIGHEST_COUNT - queue.count => {
+            board.came_n(qid, n);
+            true
+        }
+        _ => false,
+    }
+}
+
 // Closes a queue, where it is open.
 fn close(board: &mut Board, qid: u16) {
     if board.queue(qid).is_some() {
@@ -303,6 +314,20 @@ fn low_is_bounded(rt: HostRuntime) {
     }
     assert_eq!(rt; before, 6);
     assert!(rt; before <= 2 * (4 + 2));
+}
+
+#[test]
+fn several_commands_come(rt: HostRuntime) {
+    let queues = [queue(1, Class::High, 2), queue(64, Class::Low, 0)];
+    let mut board = board_of(&rt, Mechanism::RoundRobin, 7, &queues);
+    assert!(rt; came_n(&mut board, 1, 254) && came_n(&mut board, 64, 3));
+    assert!(rt; came_n(&mut board, 1, 0) && !came_n(&mut board, 1, 1));
+    assert!(rt; !came_n(&mut board, 64, 254) && !came_n(&mut board, 2, 0));
+    let seen = [queue(1, Class::High, 256), queue(64, Class::Low, 3)];
+    assert_eq!(rt; board.seen().as_slice(), &seen);
+    assert_eq!(rt; board.pick(), pick(1, 256));
+    assert_eq!(rt; board.pick(), pick(64, 3));
+    assert_eq!(rt; board.pick(), None);
 }
 
 // A small generator of numbers.
