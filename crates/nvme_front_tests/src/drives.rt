@@ -7,9 +7,9 @@ use crate::commands::get_arbitration;
 use crate::hosted::{Hosted, config};
 use nvme_entry::Sqe;
 use nvme_front::{FrontError, Parts};
-use nvme_lane::Feeder;
+use nvme_lane::{Feeder, Mode};
 use nvme_pool::NoGate;
-use nvme_threads::{DriveError, Feeding, drive};
+use nvme_threads::{DriveError, drive};
 use std::alloc::Global;
 use std::sync::Wait;
 use std::test::*;
@@ -34,8 +34,8 @@ fn submit_all(feeders: &mut Vec<Feeder<Sqe>>) {
     }
 }
 
-// A front with its hosts and two workers. With `Feeding::Before` the hosts have submitted.
-fn parts(alloc: Global, feeding: Feeding) -> Result<Parts, Fail>
+// A front with its hosts and two workers. With `Mode::Loaded` the hosts have submitted.
+fn parts(alloc: Global, mode: Mode) -> Result<Parts, Fail>
     ensures admin_sq { IfOk result (λ p. 0 < length p.front.gets) }
     ensures admin_cq { IfOk result (λ p. 0 < length p.front.puts) }
     ensures pool { IfOk result (λ p. IsPool p.lanes p.front.hands.seat p.workers.items) }
@@ -56,7 +56,7 @@ fn parts(alloc: Global, feeding: Feeding) -> Result<Parts, Fail>
         mut feeders,
         drainers,
     } = hosted;
-    if feeding == Feeding::Before {
+    if mode == Mode::Loaded {
         submit_all(&mut feeders);
     }
     Ok(Parts {
@@ -72,14 +72,14 @@ fn parts(alloc: Global, feeding: Feeding) -> Result<Parts, Fail>
 fn driven_once<R: Threads + Wait + Sync>(
     rt: &R,
     alloc: Global,
-    feeding: Feeding,
+    mode: Mode,
 ) -> Result<Option<DriveError>, Fail> {
     let gates = list_again(alloc, &[NoGate, NoGate])?;
     if gates.len() != 2 {
         return Err("two gates are wanted".into());
     }
-    let parts = parts(alloc, feeding)?;
-    match drive(rt, alloc, parts, gates, feeding, 1_000_000) {
+    let parts = parts(alloc, mode)?;
+    match drive(rt, alloc, parts, gates, mode, 1_000_000) {
         Ok(_) => Ok(None),
         Err(error) => Ok(Some(error)),
     }
@@ -89,19 +89,19 @@ fn driven_once<R: Threads + Wait + Sync>(
 fn driven<R: Threads + Wait + Sync>(
     rt: &R,
     alloc: Global,
-    feeding: Feeding,
+    mode: Mode,
 ) -> Result<Option<DriveError>, Fail> {
-    let error = driven_once(rt, alloc, feeding)?;
+    let error = driven_once(rt, alloc, mode)?;
     if error == Some(DriveError::NoMemory) {
-        return driven_once(rt, alloc, feeding);
+        return driven_once(rt, alloc, mode);
     }
     Ok(error)
 }
 
 #[test]
 fn drive_of_a_full_log_comes_back(rt: HostRuntime) -> Result<(), Fail> {
-    for feeding in [Feeding::Before, Feeding::Meanwhile] {
-        let error = driven(&rt, rt.alloc(), feeding)?;
+    for mode in [Mode::Loaded, Mode::Live] {
+        let error = driven(&rt, rt.alloc(), mode)?;
         assert_eq!(rt; error, Some(DriveError::Front(FrontError::LogFull)));
     }
     Ok(())

@@ -1,6 +1,6 @@
 //! Queues between threads: rings with a put end and a get end, through which hosts and the controller
 //! exchange entries; feeders and drainers, which drive a host's ends; and lanes with several producers
-//! and several consumers, from which workers take their jobs.
+//! and several consumers, from which workers take their jobs. `Mode` says when hosts submit.
 #![tactic(auto)]
 
 mod drainer;
@@ -11,6 +11,7 @@ mod get_end;
 mod lanes;
 mod limits;
 mod making;
+mod mode;
 mod passes;
 mod put_end;
 mod resting;
@@ -25,6 +26,7 @@ pub use get_end::GetEnd;
 pub use lanes::Lane;
 pub use limits::{MAX_CAPACITY, MAX_PASSES, MAX_SLOTS, MIN_SLOTS};
 pub use making::lane;
+pub use mode::Mode;
 pub use passes::{PopPass, PushPass};
 pub use put_end::PutEnd;
 pub use resting::beside;

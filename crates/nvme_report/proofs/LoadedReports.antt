@@ -28,7 +28,7 @@ use Rattle.nvme_front.specs.declared.settled.Sent.{Sent}
 use Rattle.nvme_front.specs.declared.settled.Settled.{Settled}
 use Rattle.nvme_front.specs.Hosts.{sent_at, collected_at}
 use Rattle.nvme_front.specs.Settles.{settled_past}
-use Rattle.nvme_report.specs.declared.reports.Mode.TheVariants.{Loaded}
+use Rattle.nvme_lane.specs.declared.mode.Mode.TheVariants.{Loaded}
 use Rattle.nvme_output.specs.Pieces.{hex_byte, hex_dword}
 use Rattle.nvme_report.specs.Report.{aborts_of, completion_in, completions_of, line, pick_line, sq_line, cq_line_of, cq_line, cmd_line, numbered, mode_line, picks_text, submissions_text, collected_text, completions_text, report_text}
 use Rattle.nvme_report.specs.Laws.{script_at, IsLoadedRun, ReportsAreOne}

@@ -9,7 +9,7 @@ use Rattle.nvme_front.specs.declared.settled.Sent.{Sent}
 use Rattle.nvme_front.specs.declared.settled.Settled.{Settled}
 use Rattle.nvme_front.specs.Hosts.{sent_at, collected_at}
 use Rattle.nvme_front.specs.Settles.{settled_past}
-use Rattle.nvme_report.specs.declared.reports.Mode.TheVariants.{Loaded}
+use Rattle.nvme_lane.specs.declared.mode.Mode.TheVariants.{Loaded}
 use Rattle.nvme_report.specs.Report.{report_text}
 
 -- the script of the host of a submission region

@@ -10,8 +10,8 @@ use Rattle.nvme_front.specs.declared.settled.Settled.{Settled}
 use Rattle.nvme_log.specs.Rules.{Past, upto}
 use Rattle.nvme_log.specs.Places.{fetched, picked, places}
 use Rattle.nvme_output.specs.Pieces.{hex_byte, hex_dword}
-use Rattle.nvme_report.specs.declared.reports.Mode.{Mode}
-use Rattle.nvme_report.specs.declared.reports.Mode.TheVariants.{Loaded, Live}
+use Rattle.nvme_lane.specs.declared.mode.Mode.{Mode}
+use Rattle.nvme_lane.specs.declared.mode.Mode.TheVariants.{Loaded, Live}
 
 -- how many Aborts name a place of a region
 abbrev pub aborts_of : Past → ℕ → ℕ

@@ -4,5 +4,6 @@
 pub mod laws;
 mod reports;
 
+pub use nvme_lane::Mode;
 pub use nvme_output::WriteFault;
-pub use reports::{Mode, report};
+pub use reports::report;

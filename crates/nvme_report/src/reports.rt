@@ -13,17 +13,9 @@ use completions::put_completions;
 use counts::{counts_of, put_submissions};
 use lines::{put_collected, put_mode, put_picks};
 use nvme_front::Settled;
+use nvme_lane::Mode;
 use nvme_output::{WriteFault, put};
 use std::io::Write;
-
-/// When the hosts of a run submit their commands.
-#[derive(Clone, Copy, Debug, PartialEq, Eq)]
-pub enum Mode {
-    /// All of them before the first turn of the front.
-    Loaded,
-    /// While the front works.
-    Live,
-}
 
 /// Writes the report of a run, whose log posts no place twice. It allocates nothing. `WriteFault` comes only where a
 /// write failed or took no byte, and the writer then has a prefix of the report.

@@ -20,8 +20,8 @@ use Rattle.nvme_front.specs.Hosts.{told, told_by, sent_at, submitted_at, collect
 use Rattle.nvme_front.specs.Settles.{IsSettled, settled_past}
 use Rattle.nvme_front.specs.View.{FrontView, past_in}
 use Rattle.nvme_log.specs.Queues.{is_serving, is_deleted_region}
-use Rattle.nvme_report.specs.declared.reports.Mode.{Mode}
-use Rattle.nvme_report.specs.declared.reports.Mode.TheVariants.{Loaded, Live}
+use Rattle.nvme_lane.specs.declared.mode.Mode.{Mode}
+use Rattle.nvme_lane.specs.declared.mode.Mode.TheVariants.{Loaded, Live}
 use Rattle.nvme_runs.specs.Runs.{AllSubmitted, IsDue, is_loaded, rules_for, script_for}
 
 -- what a feeder's pair of script and count says of what it submitted

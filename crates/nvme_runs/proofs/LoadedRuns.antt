@@ -27,7 +27,7 @@ use Rattle.nvme_front.specs.LoadedFront.{IsLoadedFront}
 use Rattle.nvme_front.proofs.Loading.{loaded-at-start}
 use Rattle.nvme_threads.specs.Loaded.{FetchedWithin, StaysLoaded}
 use Rattle.nvme_report.specs.Laws.{IsLoadedRun}
-use Rattle.nvme_report.specs.declared.reports.Mode.TheVariants.{Loaded}
+use Rattle.nvme_lane.specs.declared.mode.Mode.TheVariants.{Loaded}
 use Rattle.nvme_report.proofs.LoadedReports.{reports_are_one}
 use Rattle.nvme_runs.specs.Laws.{LoadedRunsAreOne}
 use Rattle.nvme_runs.specs.Runs.{AllSubmitted, IsRun, rules_for, script_for}

@@ -7,11 +7,11 @@ use Rattle.nvme_log.specs.declared.event.Event.TheVariants.{Post}
 use Rattle.nvme_log.specs.Rules.{Past}
 use Rattle.nvme_log.specs.Foreseen.{foreseen}
 use Rattle.nvme_front.specs.Settles.{settled_past}
-use Rattle.nvme_report.specs.declared.reports.Mode.{Mode}
+use Rattle.nvme_lane.specs.declared.mode.Mode.{Mode}
 use Rattle.nvme_front.specs.declared.front.FrontError.{FrontError}
 use Rattle.nvme_front.specs.declared.front.FrontError.TheVariants.{Stray}
 use Rattle.nvme_front.specs.declared.settled.Settled.{Settled}
-use Rattle.nvme_report.specs.declared.reports.Mode.TheVariants.{Loaded}
+use Rattle.nvme_lane.specs.declared.mode.Mode.TheVariants.{Loaded}
 use Rattle.nvme_report.specs.Report.{report_text}
 use Rattle.nvme_runs.specs.Runs.{IsRun, rules_for, script_for}
 use Rattle.nvme_runs.specs.RunFaults.{RunFails}

@@ -8,7 +8,7 @@ use Rattle.nvme_workload.specs.declared.error.WorkloadError.TheVariants as why
 use Rattle.nvme_workload.specs.Plan.{workload_of}
 use Rattle.nvme_front.specs.declared.front.FrontError.{FrontError}
 use Rattle.nvme_front.specs.declared.settled.Settled.{Settled}
-use Rattle.nvme_report.specs.declared.reports.Mode.{Mode}
+use Rattle.nvme_lane.specs.declared.mode.Mode.{Mode}
 use Rattle.nvme_report.specs.Report.{report_text}
 use Rattle.nvme_output.specs.Written.{AppendsPrefix}
 use Rattle.nvme_runs.specs.declared.runs.RunError.{RunError}

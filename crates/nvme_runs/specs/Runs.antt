@@ -23,8 +23,8 @@ use Rattle.nvme_front.specs.Hosts.{sent_at, collected_at}
 use Rattle.nvme_front.specs.Settles.{settled_past}
 use Rattle.nvme_front.specs.View.{FrontView, past_in}
 use Rattle.nvme_log.specs.Queues.{is_serving}
-use Rattle.nvme_report.specs.declared.reports.Mode.{Mode}
-use Rattle.nvme_report.specs.declared.reports.Mode.TheVariants.{Loaded, Live}
+use Rattle.nvme_lane.specs.declared.mode.Mode.{Mode}
+use Rattle.nvme_lane.specs.declared.mode.Mode.TheVariants.{Loaded, Live}
 use Rattle.nvme_runs.specs.declared.runs.RunError.{RunError}
 use Rattle.nvme_runs.specs.declared.runs.RunError.TheVariants as fault
 

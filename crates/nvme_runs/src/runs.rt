@@ -9,7 +9,7 @@ ghost use Rattle.nvme_front.specs.Hosts.{sent_at, collected_at};
 ghost use Rattle.nvme_front.specs.Settles.{settled_past};
 ghost use Rattle.nvme_workload.specs.Plan.{plan_of, workload_of};
 ghost use Rattle.nvme_workload.specs.Sound.{IsSound};
-ghost use Rattle.nvme_report.specs.declared.reports.Mode.TheVariants.{Loaded};
+ghost use Rattle.nvme_lane.specs.declared.mode.Mode.TheVariants.{Loaded};
 ghost use Rattle.nvme_runs.specs.Ran.{BeginsAs, settled_in, no_bytes};
 ghost use Rattle.nvme_runs.specs.Runs.{HasItsHosts, FitsAll, GatesRan, fault_of, fault_of_drive, rules_for, script_for, is_loaded};
 ghost use Rattle.nvme_runs.specs.RunFaults.{IsTextFault, IsLateFault};
@@ -21,9 +21,10 @@ mod settling;
 
 use nvme_arbiter::{Mechanism, Settings};
 use nvme_front::{FrontError, Settled};
+use nvme_lane::Mode;
 use nvme_pool::{Gate, MAX_WORKERS, NoGate};
-use nvme_report::{Mode, WriteFault, report};
-use nvme_threads::{DriveError, Feeding, drive_fed};
+use nvme_report::{WriteFault, report};
+use nvme_threads::{DriveError, drive_fed};
 use nvme_workload::{Workload, WorkloadError, read};
 use preparing::{first_too_long, prepare};
 use settling::{are_loaded, settle_run};
@@ -108,14 +109,6 @@ fn is_outside(workers: usize) -> bool
     workers == 0 || workers > usize::from(MAX_WORKERS)
 }
 
-// When the hosts of a run submit: with `Mode::Loaded` before the drive, when its front is prepared.
-fn feeding_of(mode: Mode) -> Feeding {
-    match mode {
-        Mode::Loaded => Feeding::Before,
-        Mode::Live => Feeding::Meanwhile,
-    }
-}
-
 // The workload of a text. With `Mode::Loaded` its scripts must fit their rings.
 fn workload_for(alloc: Global, text: &[u8], mode: Mode) -> Result<Workload, RunError>
     ensures sound { IfOk result (λ w. IsSound (plan_of w)) }
@@ -154,7 +147,7 @@ fn settled_by<G: Gate + Send + Drop, R: Threads + Wait + Sync>(
     if !are_loaded(&parts, mode) {
         return Err(RunError::GaveUp);
     }
-    let (parts, gates) = drive_fed(rt, alloc, parts, gates, feeding_of(mode), patience)?;
+    let (parts, gates) = drive_fed(rt, alloc, parts, gates, mode, patience)?;
     let settled = settle_run(rt, alloc, parts, mode)?;
     Ok((settled, gates))
 }

@@ -10,7 +10,7 @@ use Rattle.hex.specs.Hex.{is_hex_digit}
 use Rattle.nvme_output.specs.Written.{AppendsPrefix}
 use Rattle.nvme_arbiter.specs.History.{History}
 use Rattle.nvme_front.specs.declared.settled.Settled.{Settled}
-use Rattle.nvme_report.specs.declared.reports.Mode.{Mode}
+use Rattle.nvme_lane.specs.declared.mode.Mode.{Mode}
 use Rattle.nvme_report.specs.Report.{report_text}
 use Rattle.nvme_workload.specs.declared.error.WorkloadError.{WorkloadError}
 use Rattle.nvme_workload.specs.Plan.{workload_of}
@@ -288,10 +288,10 @@ IsCheck r = ⊥
 -- they ask for a check, and for nothing else
 pub only_check : (words : List (String Global)) (r : Request) → IsAskedBy words r → asks_alone (codes "check") words ≡ true → IsCheck r
 only_check words (request.Once blocks) asked a = not_both (asks (codes "once") words) asked (check_is words (alone_asks (codes "check") words a) (codes "once"))
-only_check words (request.Run submitting workers) asked a = not_both (reads_workload words) asked (check_reads_none words (alone_asks (codes "check") words a))
+only_check words (request.Run mode workers) asked a = not_both (reads_workload words) asked (check_reads_none words (alone_asks (codes "check") words a))
 only_check words request.Lint asked a = not_both (asks (codes "lint") words) asked (check_is words (alone_asks (codes "check") words a) (codes "lint"))
 only_check words request.Check asked a = tt
-only_check words (request.Trace submitting workers) asked a = not_both (asks (codes "trace") words) asked (check_is words (alone_asks (codes "check") words a) (codes "trace"))
+only_check words (request.Trace mode workers) asked a = not_both (asks (codes "trace") words) asked (check_is words (alone_asks (codes "check") words a) (codes "trace"))
 only_check words request.Chart asked a = not_both (shows_trace words) asked (check_shows_none words (alone_asks (codes "check") words a))
 only_check words (request.Stats format) asked a = not_both (shows_trace words) asked (check_shows_none words (alone_asks (codes "check") words a))
 only_check words (request.Help text) asked a = not_both (asks_alone (codes "check") words) a asked

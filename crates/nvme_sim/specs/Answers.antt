@@ -4,8 +4,7 @@ use Rattle.std.specs.Global.{Global}
 use Rattle.std.specs.Io.KnownBytes.{Appends}
 use Rattle.nvme_output.specs.Written.{AppendsPrefix}
 use Rattle.nvme_front.specs.declared.settled.Settled.{Settled}
-use Rattle.nvme_report.specs.declared.reports.Mode.{Mode}
-use Rattle.nvme_report.specs.declared.reports.Mode.TheVariants.{Loaded, Live}
+use Rattle.nvme_lane.specs.declared.mode.Mode.{Mode}
 use Rattle.nvme_report.specs.Report.{report_text}
 use Rattle.nvme_input.specs.Once.{IsAnswer, entry_text}
 use Rattle.nvme_runs.specs.Ran.{BeginsAs}
@@ -16,14 +15,7 @@ use Rattle.nvme_words.specs.CommandLine.{OnCommandLine}
 use Rattle.nvme_words.specs.Requests.{IsAnswerTo}
 use Rattle.nvme_words.specs.declared.requests.Request.{Request}
 use Rattle.nvme_words.specs.declared.requests.Request.TheVariants as request
-use Rattle.nvme_words.specs.declared.requests.Submitting.{Submitting}
-use Rattle.nvme_words.specs.declared.requests.Submitting.TheVariants.{First, Meanwhile}
 use Rattle.nvme_sim.specs.Inputs.{HasNoWarning, HasWarnings, IsTrace, IsUnlawfulTrace, lawful_line, trace_of}
-
--- the mode of a run whose hosts submit at this time
-abbrev pub mode_for : Submitting → Mode
-mode_for First = Loaded
-mode_for Meanwhile = Live
 
 -- ---- the text of an answer to an input, where `came` says what was written
 
@@ -54,10 +46,10 @@ module _ {W : Type 0} (contents : W → Option (List ℕ)) (old new : W) where
   -- it succeeded. Nothing is said of the texts of `clap`, of a picture and of statistics
   abbrev pub Does : Request → List ℕ → Type 0
   Does (request.Once blocks) bytes = HasAnswer Appended blocks bytes
-  Does (request.Run when workers) bytes = HasReport Appended (mode_for when) bytes
+  Does (request.Run mode workers) bytes = HasReport Appended mode bytes
   Does request.Lint bytes = HasNoWarning bytes × (new ≡ old)
   Does request.Check bytes = HasLawful Appended bytes
-  Does (request.Trace when workers) bytes = HasTrace Appended (mode_for when) bytes
+  Does (request.Trace mode workers) bytes = HasTrace Appended mode bytes
   Does request.Chart bytes = IsTrace bytes
   Does (request.Stats format) bytes = IsTrace bytes
   Does (request.Help text) bytes = Unit {0}
@@ -66,10 +58,10 @@ module _ {W : Type 0} (contents : W → Option (List ℕ)) (old new : W) where
   -- nothing is said either
   abbrev pub FailsToWrite : Request → List ℕ → Type 0
   FailsToWrite (request.Once blocks) bytes = HasAnswer AppendedPart blocks bytes
-  FailsToWrite (request.Run when workers) bytes = HasReport AppendedPart (mode_for when) bytes
+  FailsToWrite (request.Run mode workers) bytes = HasReport AppendedPart mode bytes
   FailsToWrite request.Lint bytes = HasWarnings bytes
   FailsToWrite request.Check bytes = HasLawful AppendedPart bytes ⊎ IsUnlawfulTrace bytes
-  FailsToWrite (request.Trace when workers) bytes = HasTrace AppendedPart (mode_for when) bytes
+  FailsToWrite (request.Trace mode workers) bytes = HasTrace AppendedPart mode bytes
   FailsToWrite request.Chart bytes = IsTrace bytes
   FailsToWrite (request.Stats format) bytes = IsTrace bytes
   FailsToWrite (request.Help text) bytes = Unit {0}

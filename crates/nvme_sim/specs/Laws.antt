@@ -9,7 +9,7 @@ use Rattle.nvme_log.specs.declared.event.Event.TheVariants.{Post}
 use Rattle.nvme_log.specs.Rules.{Past}
 use Rattle.nvme_front.specs.Settles.{settled_past}
 use Rattle.nvme_front.specs.declared.settled.Settled.{Settled}
-use Rattle.nvme_report.specs.declared.reports.Mode.{Mode}
+use Rattle.nvme_lane.specs.declared.mode.Mode.{Mode}
 use Rattle.nvme_runs.specs.Runs.{IsRun}
 use Rattle.nvme_lint.specs.Warnings.{start_of, first_history, history_of, admin_script}
 

@@ -1,5 +1,5 @@
 ghost use Rattle.std.specs.Prelude.{◌≡◌, ◌≤◌, ◌⊎◌, true, Ok, IfErr, IfSome, codes};
-ghost use Rattle.nvme_sim.specs.Answers.{Asked, Does, FailsToWrite, mode_for};
+ghost use Rattle.nvme_sim.specs.Answers.{Asked, Does, FailsToWrite};
 ghost use Rattle.nvme_sim.specs.Inputs.{HasWarnings, IsBadInput, IsToldLawful, IsUnlawfulCheck};
 ghost use Rattle.nvme_words.specs.Requests.{IsAskedBy};
 ghost use Rattle.nvme_sim.specs.Statuses.{status_of};
@@ -22,8 +22,7 @@ use checking::checked;
 use counting::counted;
 use entry::answered;
 use linting::linted;
-use nvme_report::Mode;
-use nvme_words::{Request, Submitting, asked_of};
+use nvme_words::{Request, asked_of};
 use running::ran;
 use std::alloc::Global;
 use std::io::{Read, Write};
@@ -39,16 +38,6 @@ enum Answer {
     Unlawful,
     // A valid workload has warnings.
     Warned,
-}
-
-// The mode of a run whose hosts submit at this time.
-fn mode_of(submitting: Submitting) -> Mode
-    ensures { result ≡ mode_for submitting }
-{
-    match submitting {
-        Submitting::First => Mode::Loaded,
-        Submitting::Meanwhile => Mode::Live,
-    }
 }
 
 // Writes the text of the help, or the version.
@@ -84,14 +73,10 @@ fn done<R: Read + Drop, W: Write, T: Threads + Wait + Sync>(
     match request {
         Request::Help(text) => helped(text, output),
         Request::Once(blocks) => answered(alloc, blocks, input, output),
-        Request::Run(submitting, workers) => {
-            ran(rt, alloc, mode_of(submitting), workers, input, output)
-        }
+        Request::Run(mode, workers) => ran(rt, alloc, mode, workers, input, output),
         Request::Lint => linted(alloc, input, output),
         Request::Check => checked(alloc, input, output),
-        Request::Trace(submitting, workers) => {
-            traced(rt, alloc, mode_of(submitting), workers, input, output)
-        }
+        Request::Trace(mode, workers) => traced(rt, alloc, mode, workers, input, output),
         Request::Chart => charted(alloc, input, output),
         Request::Stats(format) => counted(alloc, format, input, output),
     }

@@ -15,21 +15,13 @@ use crate::serving::serve;
 use crate::tasks::Shared;
 use crate::working::{Crewman, apart, together};
 use nvme_front::{Front, FrontError, Parts};
+use nvme_lane::Mode;
 use nvme_pool::{Gate, Worker};
 use std::alloc::{AllocError, Global};
 use std::sync::Wait;
 use std::thread;
 use std::thread::{Scope, Threads};
 use thiserror::Error;
-
-/// When the hosts submit their scripts.
-#[derive(Clone, Copy, Debug, PartialEq, Eq)]
-pub enum Feeding {
-    /// All of them before the drive, as `load` does.
-    Before,
-    /// While the front works.
-    Meanwhile,
-}
 
 /// Why a drive failed. All threads are joined, and all that was driven is dropped.
 #[derive(Clone, Copy, Debug, PartialEq, Eq, Error)]
@@ -90,14 +82,14 @@ fn within<'s, E: 's, G: Gate + Send + Drop + 's, R: Threads + Wait + Sync + 's>(
     alloc: Global,
     shared: &'s Shared,
     driven: Driven<G>,
-    feeding: Feeding,
+    mode: Mode,
     patience: u32,
 ) -> (Driven<G>, Result<(), DriveError>)
     requires { CanDrive shared.now driven }
     ensures { Drove (λ view ticket. G.left (G.entered view ticket) ticket) driven result.0 result.1 }
 {
     let Driven { mut front, hosts } = driven;
-    let running = start(scope, rt, alloc, shared, hosts, feeding);
+    let running = start(scope, rt, alloc, shared, hosts, mode);
     let served = serve(rt, &mut front, shared, patience);
     let (hosts, is_whole) = finish(rt, shared, running);
     (Driven { front, hosts }, outcome(served, is_whole))
@@ -109,7 +101,7 @@ pub(crate) fn in_threads<G: Gate + Send + Drop, R: Threads + Wait + Sync>(
     alloc: Global,
     shared: &Shared,
     driven: Driven<G>,
-    feeding: Feeding,
+    mode: Mode,
     patience: u32,
 ) -> (Driven<G>, Result<(), DriveError>)
     requires { CanDrive shared.now driven }
@@ -121,7 +113,7 @@ pub(crate) fn in_threads<G: Gate + Send + Drop, R: Threads + Wait + Sync>(
         move |scope| -> (Driven<G>, Result<(), DriveError>)
             requires { CanDrive shared.now driven }
             ensures { Drove (λ view ticket. G.left (G.entered view ticket) ticket) driven result.0 result.1 }
-        { within(scope, rt, alloc, shared, driven, feeding, patience) },
+        { within(scope, rt, alloc, shared, driven, mode, patience) },
     )
 }
 
@@ -219,8 +211,8 @@ fn given_back<G: Gate + Drop>(
 }
 
 /// Drives a front with its hosts and its workers: each feeder, each drainer and each worker on a thread of its own,
-/// each worker with the gate at its place, and the front's turns on the calling thread. With `Feeding::Before` no
-/// feeder has a thread, and none submits.
+/// each worker with the gate at its place, and the front's turns on the calling thread. With `Mode::Loaded`, where
+/// `load` has submitted the scripts, no feeder has a thread, and none submits.
 ///
 /// It stops after an idle turn that began when all feeders had ended, if the front is clear; or after `patience` idle
 /// turns in a row; or where a turn failed or memory was refused. All threads are joined before it answers. A front that
@@ -230,7 +222,7 @@ pub fn drive<G: Gate + Send + Drop, R: Threads + Wait + Sync>(
     alloc: Global,
     parts: Parts,
     gates: Vec<G>,
-    feeding: Feeding,
+    mode: Mode,
     patience: u32,
 ) -> Result<(Parts, Vec<G>), DriveError>
     requires admin_sq { 0 < length parts.front.gets }
@@ -246,6 +238,6 @@ pub fn drive<G: Gate + Send + Drop, R: Threads + Wait + Sync>(
     ensures fault { IfErr result (IsDriveFault parts.front) }
 {
     let (shared, driven) = taken_apart(alloc, parts, gates)?;
-    let (driven, ended) = in_threads(rt, alloc, &shared, driven, feeding, patience);
+    let (driven, ended) = in_threads(rt, alloc, &shared, driven, mode, patience);
     given_back(alloc, shared, driven, ended)
 }

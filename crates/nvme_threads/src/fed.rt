@@ -10,9 +10,10 @@ ghost use Rattle.nvme_threads.specs.declared.driving.DriveError.TheVariants as d
 ghost use Rattle.nvme_threads.specs.Hosts.{feeder_seen, drainer_seen};
 ghost use Rattle.nvme_threads.specs.Runs.{AllRan};
 
-use crate::driving::{DriveError, Driven, Feeding, in_threads, put_together, taken_apart};
+use crate::driving::{DriveError, Driven, in_threads, put_together, taken_apart};
 use crate::hosting::Hosts;
 use nvme_front::{Parts, drop_beside};
+use nvme_lane::Mode;
 use nvme_pool::Gate;
 use std::alloc::Global;
 use std::sync::Wait;
@@ -44,7 +45,7 @@ pub fn drive_fed<G: Gate + Send + Drop, R: Threads + Wait + Sync>(
     alloc: Global,
     parts: Parts,
     gates: Vec<G>,
-    feeding: Feeding,
+    mode: Mode,
     patience: u32,
 ) -> Result<(Parts, Vec<G>), DriveError>
     requires admin_sq { 0 < length parts.front.gets }
@@ -61,7 +62,7 @@ pub fn drive_fed<G: Gate + Send + Drop, R: Threads + Wait + Sync>(
     ensures fault { IfErr result (IsFedFault parts.front parts.feeders.items) }
 {
     let (shared, driven) = taken_apart(alloc, parts, gates)?;
-    let (driven, ended) = in_threads(rt, alloc, &shared, driven, feeding, patience);
+    let (driven, ended) = in_threads(rt, alloc, &shared, driven, mode, patience);
     match ended {
         Ok(()) => {
             let back = put_together(alloc, shared, driven)?;

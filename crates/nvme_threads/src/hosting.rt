@@ -4,13 +4,12 @@ ghost use Rattle.std.specs.List.{All};
 ghost use Rattle.nvme_threads.specs.inside.Drives.{AreThreadsOf, AreThreads, AreFeeders, HaveFed, HaveRun};
 ghost use Rattle.nvme_threads.specs.declared.hosting.Hosts.{Hosts};
 
-use crate::driving::Feeding;
 use crate::joining::{Joined, join_all};
 use crate::starting::{Started, start_all};
 use crate::tasks::Shared;
 use crate::working::Crewman;
 use nvme_entry::{Cqe, Sqe};
-use nvme_lane::{Drainer, Feeder};
+use nvme_lane::{Drainer, Feeder, Mode};
 use nvme_pool::Gate;
 use std::alloc::Global;
 use std::sync::Wait;
@@ -40,34 +39,34 @@ pub struct Running<G: Gate + Drop> {
     crew: Started<Crewman<G>>,
 }
 
-// Starts a thread for each feeder. With `Feeding::Before` there is nothing left for them to do.
+// Starts a thread for each feeder. With `Mode::Loaded` there is nothing left for them to do.
 fn start_feeders<'s, E: 's, R: Threads + Wait + Sync + 's>(
     scope: &Scope<'s, E>,
     rt: &'s R,
     alloc: Global,
     shared: &'s Shared,
     feeders: Vec<Feeder<Sqe>>,
-    feeding: Feeding,
+    mode: Mode,
 ) -> Feeders
     ensures { AreFeeders feeders.items result }
 {
-    match feeding {
-        Feeding::Before => {
+    match mode {
+        Mode::Loaded => {
             shared.flags.tell_all_fed();
             Feeders::Ended(feeders)
         }
-        Feeding::Meanwhile => { Feeders::AtWork(start_all(scope, rt, alloc, shared, feeders)) }
+        Mode::Live => { Feeders::AtWork(start_all(scope, rt, alloc, shared, feeders)) }
     }
 }
 
-/// Starts a thread for each host and each worker, but with `Feeding::Before` none for a feeder.
+/// Starts a thread for each host and each worker, but with `Mode::Loaded` none for a feeder.
 pub fn start<'s, E: 's, G: Gate + Send + Drop + 's, R: Threads + Wait + Sync + 's>(
     scope: &Scope<'s, E>,
     rt: &'s R,
     alloc: Global,
     shared: &'s Shared,
     hosts: Hosts<G>,
-    feeding: Feeding,
+    mode: Mode,
 ) -> Running<G>
     requires { All (λ c. c.worker.lane ≡ shared.now.lanes) hosts.crew.items }
     ensures { AreThreadsOf hosts result }
@@ -78,7 +77,7 @@ pub fn start<'s, E: 's, G: Gate + Send + Drop + 's, R: Threads + Wait + Sync + '
         crew,
     } = hosts;
     Running {
-        feeders: start_feeders(scope, rt, alloc, shared, feeders, feeding),
+        feeders: start_feeders(scope, rt, alloc, shared, feeders, mode),
         drainers: start_all(scope, rt, alloc, shared, drainers),
         crew: start_all(scope, rt, alloc, shared, crew),
     }

@@ -15,6 +15,6 @@ mod starting;
 mod tasks;
 mod working;
 
-pub use driving::{DriveError, Feeding, drive};
+pub use driving::{DriveError, drive};
 pub use fed::drive_fed;
 pub use loading::{SqEnds, load};

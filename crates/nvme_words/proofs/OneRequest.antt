@@ -11,8 +11,8 @@ use Rattle.nvme_words.specs.declared.requests.Format.{Format}
 use Rattle.nvme_words.specs.declared.requests.Format.TheVariants as format
 use Rattle.nvme_words.specs.declared.requests.Request.{Request}
 use Rattle.nvme_words.specs.declared.requests.Request.TheVariants as request
-use Rattle.nvme_words.specs.declared.requests.Submitting.{Submitting}
-use Rattle.nvme_words.specs.declared.requests.Submitting.TheVariants as submitting
+use Rattle.nvme_lane.specs.declared.mode.Mode.{Mode}
+use Rattle.nvme_lane.specs.declared.mode.Mode.TheVariants.{Loaded, Live}
 use Rattle.nvme_words.proofs.Reading.{apart, no_blocks, no_workers}
 
 abbrev number_in : Text → List Row → ℕ
@@ -40,11 +40,11 @@ format_is : (rows : List Row) (f : Format) → IsFormat rows f → f ≡ format_
 format_is rows format.Json is = rw is refl
 format_is rows format.Text other = ap (λ b. cond b format.Json format.Text) (sym (other_json _ other))
 
-abbrev picked : Given → Submitting → Request
+abbrev picked : Given → Mode → Request
 picked given when =
     if bytes_eq given.0 (codes "once") then request.Once (number_in (codes "blocks") given.1)
-    else if bytes_eq given.0 (codes "loaded") then request.Run submitting.First (number_in (codes "workers") given.1)
-    else if bytes_eq given.0 (codes "live") then request.Run submitting.Meanwhile (number_in (codes "workers") given.1)
+    else if bytes_eq given.0 (codes "loaded") then request.Run Loaded (number_in (codes "workers") given.1)
+    else if bytes_eq given.0 (codes "live") then request.Run Live (number_in (codes "workers") given.1)
     else if bytes_eq given.0 (codes "run") then request.Run when (number_in (codes "workers") given.1)
     else if bytes_eq given.0 (codes "lint") then request.Lint
     else if bytes_eq given.0 (codes "check") then request.Check
@@ -52,13 +52,13 @@ picked given when =
     else if bytes_eq given.0 (codes "chart") then request.Chart
     else request.Stats (format_in given.1)
 
-module _ (given : Given) (when : Submitting) (only : (w : Submitting) → SubmitsBy given.1 w → w ≡ when) where
+module _ (given : Given) (when : Mode) (only : (w : Mode) → SubmitsBy given.1 w → w ≡ when) where
   is_picked : (r : Request) → IsRequestOf given r → r ≡ picked given when
   is_picked (request.Once n) h = rw h.0 (ap request.Once (number_is 64 (codes "blocks") given.1 n h.1))
   is_picked (request.Run w n) h = ⊎_elim
-      (λ k. rw (k.0, k.1) (ap (request.Run submitting.First) (number_is 8 (codes "workers") given.1 n h.1)))
+      (λ k. rw (k.0, k.1) (ap (request.Run Loaded) (number_is 8 (codes "workers") given.1 n h.1)))
       (⊎_elim
-      (λ k. rw (k.0, k.1) (ap (request.Run submitting.Meanwhile) (number_is 8 (codes "workers") given.1 n h.1)))
+      (λ k. rw (k.0, k.1) (ap (request.Run Live) (number_is 8 (codes "workers") given.1 n h.1)))
       (λ k. rw k.0 (ap₂ request.Run (only w k.1) (number_is 8 (codes "workers") given.1 n h.1))))
       h.0
   is_picked request.Lint h = rw h refl
@@ -71,22 +71,22 @@ module _ (given : Given) (when : Submitting) (only : (w : Submitting) → Submit
   both_picked : (r s : Request) → IsRequestOf given r → IsRequestOf given s → r ≡ s
   both_picked r s h k = is_picked r h ∙ sym (is_picked s k)
 
-on : (rows : List Row) → one_of (codes "live") rows ≡ Some (codes "true") → (w : Submitting) → SubmitsBy rows w → w ≡ submitting.Meanwhile
-on rows is submitting.First other = absurd (other is)
-on rows is submitting.Meanwhile h = refl
+on : (rows : List Row) → one_of (codes "live") rows ≡ Some (codes "true") → (w : Mode) → SubmitsBy rows w → w ≡ Live
+on rows is Loaded other = absurd (other is)
+on rows is Live h = refl
 
-off : (rows : List Row) → one_of (codes "live") rows ≡ Some (codes "false") → (w : Submitting) → SubmitsBy rows w → w ≡ submitting.First
-off rows is submitting.First h = refl
-off rows is submitting.Meanwhile h = absurd (h.1 is)
+off : (rows : List Row) → one_of (codes "live") rows ≡ Some (codes "false") → (w : Mode) → SubmitsBy rows w → w ≡ Loaded
+off rows is Loaded h = refl
+off rows is Live h = absurd (h.1 is)
 
-left_out : (rows : List Row) → one_of (codes "live") rows ≡ None → (w : Submitting) → SubmitsBy rows w → w ≡ submitting.First
-left_out rows is submitting.First h = refl
-left_out rows is submitting.Meanwhile h = absurd (h.0 is)
+left_out : (rows : List Row) → one_of (codes "live") rows ≡ None → (w : Mode) → SubmitsBy rows w → w ≡ Loaded
+left_out rows is Loaded h = refl
+left_out rows is Live h = absurd (h.0 is)
 
 pub one_request : AsksForOneThing
-one_request given r s (inl is) h k = both_picked given submitting.Meanwhile (on given.1 is) r s h k
-one_request given r s (inr (inl is)) h k = both_picked given submitting.First (off given.1 is) r s h k
-one_request given r s (inr (inr is)) h k = both_picked given submitting.First (left_out given.1 is) r s h k
+one_request given r s (inl is) h k = both_picked given Live (on given.1 is) r s h k
+one_request given r s (inr (inl is)) h k = both_picked given Loaded (off given.1 is) r s h k
+one_request given r s (inr (inr is)) h k = both_picked given Loaded (left_out given.1 is) r s h k
 
 -- ---- where the value isn't a number
 

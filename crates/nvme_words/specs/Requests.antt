@@ -11,8 +11,8 @@ use Rattle.nvme_words.specs.declared.requests.Format.{Format}
 use Rattle.nvme_words.specs.declared.requests.Format.TheVariants as format
 use Rattle.nvme_words.specs.declared.requests.Request.{Request}
 use Rattle.nvme_words.specs.declared.requests.Request.TheVariants as request
-use Rattle.nvme_words.specs.declared.requests.Submitting.{Submitting}
-use Rattle.nvme_words.specs.declared.requests.Submitting.TheVariants as submitting
+use Rattle.nvme_lane.specs.declared.mode.Mode.{Mode}
+use Rattle.nvme_lane.specs.declared.mode.Mode.TheVariants.{Loaded, Live}
 use Rattle.nvme_words.specs.declared.requests.WordsError.{WordsError}
 use Rattle.nvme_words.specs.declared.requests.WordsError.TheVariants as error
 use Rattle.nvme_words.specs.Words.{asks, asks_alone, reads_input, reads_workload, shows_trace}
@@ -20,10 +20,10 @@ use Rattle.nvme_words.specs.Words.{asks, asks_alone, reads_input, reads_workload
 -- the word after the program's name is one that asks for this. Words that ask for a check alone don't ask for help
 abbrev pub IsAskedBy : List (String Global) → Request → Type 0
 IsAskedBy words (request.Once blocks) = asks (codes "once") words ≡ true
-IsAskedBy words (request.Run submitting workers) = reads_workload words ≡ true
+IsAskedBy words (request.Run mode workers) = reads_workload words ≡ true
 IsAskedBy words request.Lint = asks (codes "lint") words ≡ true
 IsAskedBy words request.Check = asks (codes "check") words ≡ true
-IsAskedBy words (request.Trace submitting workers) = asks (codes "trace") words ≡ true
+IsAskedBy words (request.Trace mode workers) = asks (codes "trace") words ≡ true
 IsAskedBy words request.Chart = shows_trace words ≡ true
 IsAskedBy words (request.Stats format) = shows_trace words ≡ true
 IsAskedBy words (request.Help text) = asks_alone (codes "check") words ≡ false
@@ -39,28 +39,28 @@ abbrev pub IsNumber : ℕ → Text → List Row → ℕ → Type 0
 IsNumber bits id rows number = (text : Text) × (one_of id rows ≡ Some text) × IsNumeral 10 (without_leading_plus text)
     × (digits_value 10 (without_leading_plus text) < 2 ^ bits) × (number ≡ digits_value 10 (without_leading_plus text))
 
--- whether the hosts submit while the front works, as `--live` says
-abbrev pub SubmitsBy : List Row → Submitting → Type 0
-SubmitsBy rows submitting.First = one_of (codes "live") rows ≢ Some (codes "true")
-SubmitsBy rows submitting.Meanwhile = (one_of (codes "live") rows ≢ None) × (one_of (codes "live") rows ≢ Some (codes "false"))
+-- the mode that `--live`, given or not, asks for
+abbrev pub SubmitsBy : List Row → Mode → Type 0
+SubmitsBy rows Loaded = one_of (codes "live") rows ≢ Some (codes "true")
+SubmitsBy rows Live = (one_of (codes "live") rows ≢ None) × (one_of (codes "live") rows ≢ Some (codes "false"))
 
 abbrev pub IsFormat : List Row → Format → Type 0
 IsFormat rows format.Json = first_of (codes "format") rows ≡ Some (codes "json")
 IsFormat rows format.Text = first_of (codes "format") rows ≢ Some (codes "json")
 
--- when the hosts of a run submit, whose report is wanted
-abbrev pub RunsBy : Given → Submitting → Type 0
-RunsBy given when = ((given.0 ≡ codes "loaded") × (when ≡ submitting.First))
-    ⊎ (((given.0 ≡ codes "live") × (when ≡ submitting.Meanwhile))
-    ⊎ ((given.0 ≡ codes "run") × SubmitsBy given.1 when))
+-- the mode of a run whose report is wanted
+abbrev pub RunsBy : Given → Mode → Type 0
+RunsBy given mode = ((given.0 ≡ codes "loaded") × (mode ≡ Loaded))
+    ⊎ (((given.0 ≡ codes "live") × (mode ≡ Live))
+    ⊎ ((given.0 ≡ codes "run") × SubmitsBy given.1 mode))
 
 abbrev pub IsRequestOf : Given → Request → Type 0
 IsRequestOf given (request.Once blocks) = (given.0 ≡ codes "once") × IsNumber 64 (codes "blocks") given.1 blocks
-IsRequestOf given (request.Run when workers) = RunsBy given when × IsNumber 8 (codes "workers") given.1 workers
+IsRequestOf given (request.Run mode workers) = RunsBy given mode × IsNumber 8 (codes "workers") given.1 workers
 IsRequestOf given request.Lint = given.0 ≡ codes "lint"
 IsRequestOf given request.Check = given.0 ≡ codes "check"
-IsRequestOf given (request.Trace when workers) =
-    (given.0 ≡ codes "trace") × SubmitsBy given.1 when × IsNumber 8 (codes "workers") given.1 workers
+IsRequestOf given (request.Trace mode workers) =
+    (given.0 ≡ codes "trace") × SubmitsBy given.1 mode × IsNumber 8 (codes "workers") given.1 workers
 IsRequestOf given request.Chart = given.0 ≡ codes "chart"
 IsRequestOf given (request.Stats format) = (given.0 ≡ codes "stats") × IsFormat given.1 format
 IsRequestOf given (request.Help text) = ⊥

@@ -4,21 +4,21 @@ ghost use Rattle.clap.specs.declared.error.kind.ErrorKind.TheVariants as kind;
 ghost use Rattle.nvme_words.specs.Examples.{AsksFor, AsksForNothing, AsksForOneThing, HasFault, NamesFile, RefusesBy, ShowsText, alone, chart_file, check_file, lint_file, lint_input, live_0, live_8, loaded_2, loaded_9, once_8, once_most, once_none, once_too_many, run_file, run_live_3, run_two_files, stats_json, stats_xml, trace_2, trace_live};
 ghost use Rattle.nvme_words.specs.declared.requests.Format.TheVariants as format;
 ghost use Rattle.nvme_words.specs.declared.requests.Request.TheVariants as request;
-ghost use Rattle.nvme_words.specs.declared.requests.Submitting.TheVariants as submitting;
+ghost use Rattle.nvme_lane.specs.declared.mode.Mode.TheVariants.{Loaded, Live};
 
 /// Each worked line asks for what its subcommand does, with the numbers, the mode and the format that it gives, or
 /// their defaults.
 pub fn lines_ask_for()
     ensures once { AsksFor once_8 (request.Once 8) }
     ensures most_blocks { AsksFor once_most (request.Once 9223372036854775807) }
-    ensures loaded { AsksFor loaded_2 (request.Run submitting.First 2) }
-    ensures live { AsksFor live_8 (request.Run submitting.Meanwhile 8) }
-    ensures run { AsksFor run_file (request.Run submitting.First 1) }
-    ensures run_live { AsksFor run_live_3 (request.Run submitting.Meanwhile 3) }
+    ensures loaded { AsksFor loaded_2 (request.Run Loaded 2) }
+    ensures live { AsksFor live_8 (request.Run Live 8) }
+    ensures run { AsksFor run_file (request.Run Loaded 1) }
+    ensures run_live { AsksFor run_live_3 (request.Run Live 3) }
     ensures lint { AsksFor lint_input request.Lint }
     ensures check { AsksFor (alone (codes "check")) request.Check }
-    ensures trace { AsksFor trace_2 (request.Trace submitting.First 2) }
-    ensures trace_live { AsksFor trace_live (request.Trace submitting.Meanwhile 1) }
+    ensures trace { AsksFor trace_2 (request.Trace Loaded 2) }
+    ensures trace_live { AsksFor trace_live (request.Trace Live 1) }
     ensures chart { AsksFor chart_file request.Chart }
     ensures stats { AsksFor (alone (codes "stats")) (request.Stats format.Text) }
     ensures stats_json { AsksFor stats_json (request.Stats format.Json) }

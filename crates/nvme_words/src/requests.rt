@@ -9,6 +9,7 @@ use crate::asking::{asks, asks_alone};
 use crate::program::program;
 use clap::ArgMatches;
 use clap::error::ErrorKind;
+use nvme_lane::Mode;
 use std::alloc::{AllocError, Global};
 use thiserror::Error;
 
@@ -21,27 +22,18 @@ pub enum Format {
     Json,
 }
 
-/// When the hosts of a run submit their commands.
-#[derive(Clone, Copy, Debug, PartialEq, Eq)]
-pub enum Submitting {
-    /// All of them before the front begins (a loaded run).
-    First,
-    /// While the front works (a live run).
-    Meanwhile,
-}
-
 /// What the words ask for.
 pub enum Request {
     /// The completion of one entry over a namespace of this many logical blocks, 1 to 2^63 - 1.
     Once(u64),
-    /// The report of a run of a workload, with this many workers, 1 to 8.
-    Run(Submitting, u8),
+    /// The report of a run of a workload in this mode, with this many workers, 1 to 8.
+    Run(Mode, u8),
     /// The first fault of a workload, or what in a valid one has no effect.
     Lint,
     /// Whether each pick of a trace is the lawful one.
     Check,
-    /// The trace of a run of a workload, with this many workers, 1 to 8.
-    Trace(Submitting, u8),
+    /// The trace of a run of a workload in this mode, with this many workers, 1 to 8.
+    Trace(Mode, u8),
     /// A picture of a trace, as SVG.
     Chart,
     /// Statistics of a trace.
@@ -64,14 +56,14 @@ pub enum WordsError {
     NoMemory(AllocError),
 }
 
-// When the hosts of a run are to submit.
-fn submitting_of(matches: &ArgMatches) -> Submitting
+// The mode of a run: live with the flag `--live`, otherwise loaded.
+fn mode_of(matches: &ArgMatches) -> Mode
     ensures { SubmitsBy (rows_of (found_of matches.now)) result }
 {
     if matches.get_flag("live") {
-        Submitting::Meanwhile
+        Mode::Live
     } else {
-        Submitting::First
+        Mode::Loaded
     }
 }
 
@@ -105,12 +97,12 @@ fn request_of(name: &str, matches: &ArgMatches) -> Option<Request>
 {
     match name {
         "once" => Some(Request::Once(blocks_of(matches)?)),
-        "loaded" => Some(Request::Run(Submitting::First, workers_of(matches)?)),
-        "live" => Some(Request::Run(Submitting::Meanwhile, workers_of(matches)?)),
-        "run" => Some(Request::Run(submitting_of(matches), workers_of(matches)?)),
+        "loaded" => Some(Request::Run(Mode::Loaded, workers_of(matches)?)),
+        "live" => Some(Request::Run(Mode::Live, workers_of(matches)?)),
+        "run" => Some(Request::Run(mode_of(matches), workers_of(matches)?)),
         "lint" => Some(Request::Lint),
         "check" => Some(Request::Check),
-        "trace" => Some(Request::Trace(submitting_of(matches), workers_of(matches)?)),
+        "trace" => Some(Request::Trace(mode_of(matches), workers_of(matches)?)),
         "chart" => Some(Request::Chart),
         "stats" => Some(Request::Stats(format_of(matches))),
         _ => None,

@@ -3,9 +3,9 @@ ghost use Rattle.std.specs.List.{flat_map};
 ghost use Rattle.nvme_output.specs.Written.{Writes};
 ghost use Rattle.nvme_report.specs.Report.{cq_line, cq_line_of, mode_line, numbered, pick_line};
 
-use crate::reports::Mode;
 use nvme_entry::Cqe;
 use nvme_front::Event;
+use nvme_lane::Mode;
 use nvme_output::{Piece, WriteFault, put_line};
 use std::io::Write;
 

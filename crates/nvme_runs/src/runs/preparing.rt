@@ -18,9 +18,8 @@ ghost use Rattle.nvme_runs.specs.inside.Prepared.{IsPrepared, StaysFresh, IsRing
 
 use nvme_entry::{Cqe, Sqe};
 use nvme_front::{AddError, Front, FrontConfig, MAX_EVENTS, Parts};
-use nvme_lane::{Drainer, Feeder, LaneError, ring};
+use nvme_lane::{Drainer, Feeder, LaneError, Mode, ring};
 use nvme_pool::{FrontSeat, Lanes, PoolError, pool};
-use nvme_report::Mode;
 use nvme_threads::{SqEnds, load};
 use nvme_workload::{CqPlan, SqPlan, Workload};
 use std::alloc::{AllocError, Global};

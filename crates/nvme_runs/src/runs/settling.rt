@@ -6,15 +6,14 @@ ghost use Rattle.nvme_front.specs.Settles.{HasItsPool, AreAtRest, IsSettled, IsS
 ghost use Rattle.nvme_log.specs.Dispatches.{ExecutesOnce};
 ghost use Rattle.nvme_lane.specs.Feeder.{script_of, count_of};
 ghost use Rattle.nvme_front.specs.declared.settled.SettleError.TheVariants as settling;
-ghost use Rattle.nvme_report.specs.declared.reports.Mode.TheVariants.{Loaded};
+ghost use Rattle.nvme_lane.specs.declared.mode.Mode.TheVariants.{Loaded};
 ghost use Rattle.nvme_runs.specs.Runs.{AllSubmitted, IsDue};
 ghost use Rattle.nvme_runs.specs.declared.runs.RunError.TheVariants as fault;
 
 use crate::runs::RunError;
 use nvme_entry::Sqe;
 use nvme_front::{Front, Parts, SettleError, Settled, settle};
-use nvme_lane::Feeder;
-use nvme_report::Mode;
+use nvme_lane::{Feeder, Mode};
 use std::alloc::Global;
 use std::sync::Wait;
 

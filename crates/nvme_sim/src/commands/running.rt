@@ -9,7 +9,7 @@ ghost use Rattle.nvme_runs.specs.declared.runs.RunError.TheVariants as run_fault
 use super::Answer;
 use crate::faults::Fault;
 use nvme_input::take_input;
-use nvme_report::Mode;
+use nvme_lane::Mode;
 use nvme_runs::run;
 use std::alloc::Global;
 use std::io::{Read, Write};

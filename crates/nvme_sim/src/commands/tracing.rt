@@ -8,7 +8,7 @@ ghost use Rattle.nvme_sim.specs.declared.commands.Answer.TheVariants as answer;
 use super::Answer;
 use crate::faults::Fault;
 use nvme_input::take_input;
-use nvme_report::Mode;
+use nvme_lane::Mode;
 use nvme_runs::settled_run;
 use nvme_trace::write_trace;
 use std::alloc::Global;

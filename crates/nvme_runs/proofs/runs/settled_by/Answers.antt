@@ -8,7 +8,7 @@ use Rattle.std.proofs.Common.{List, reverse, ap, ◌∙◌, subst}
 use Rattle.nvme_log.specs.declared.event.Event.{Event}
 use Rattle.nvme_front.specs.Hosts.{sent_at, collected_at}
 use Rattle.nvme_front.specs.Settles.{settled_past}
-use Rattle.nvme_report.specs.declared.reports.Mode.{Mode}
+use Rattle.nvme_lane.specs.declared.mode.Mode.{Mode}
 use Rattle.nvme_runs.specs.Runs.{AllSubmitted, is_loaded}
 use Rattle.nvme_runs.proofs.LoadedRuns.{run_is_loaded}
 use Rattle.nvme_workload.specs.Plan.{plan_of}

@@ -84,7 +84,7 @@ pub returns-in-Once-clause-done : goal.returns-in-Once-clause-done
 returns-in-Once-clause-done g c = λ is. rw c.in-Once.is (on_done c.answered.result answer.Done _ c.answered.ensures.done is)
 
 pub returns-in-Run-clause-done : goal.returns-in-Run-clause-done
-returns-in-Run-clause-done g c = λ is. rw c.in-Run.is (rw c.mode_of.ensures at (on_done c.ran.result answer.Done _ c.ran.ensures.done is))
+returns-in-Run-clause-done g c = λ is. rw c.in-Run.is (on_done c.ran.result answer.Done _ c.ran.ensures.done is)
 
 pub returns-in-Lint-clause-done : goal.returns-in-Lint-clause-done
 returns-in-Lint-clause-done g c = λ is. rw c.in-Lint.is (is_quiet c.args.output.now c.linted.new.output (g.R.Read.remaining c.args.input) (c.linted.ensures.none is) (c.linted.ensures.quiet is))
@@ -93,7 +93,7 @@ pub returns-in-Check-clause-done : goal.returns-in-Check-clause-done
 returns-in-Check-clause-done g c = λ is. rw c.in-Check.is (c.checked.ensures.lawful is)
 
 pub returns-in-Trace-clause-done : goal.returns-in-Trace-clause-done
-returns-in-Trace-clause-done g c = λ is. rw c.in-Trace.is (rw c.mode_of-in-Trace.ensures at (on_done c.traced.result answer.Done _ c.traced.ensures.done is))
+returns-in-Trace-clause-done g c = λ is. rw c.in-Trace.is (on_done c.traced.result answer.Done _ c.traced.ensures.done is)
 
 pub returns-in-Chart-clause-done : goal.returns-in-Chart-clause-done
 returns-in-Chart-clause-done g c = λ is. rw c.in-Chart.is (on_done c.charted.result answer.Done _ c.charted.ensures.done is)
@@ -108,7 +108,7 @@ pub returns-in-Once-clause-failed : goal.returns-in-Once-clause-failed
 returns-in-Once-clause-failed g c = rw c.in-Once.is c.answered.ensures.failed
 
 pub returns-in-Run-clause-failed : goal.returns-in-Run-clause-failed
-returns-in-Run-clause-failed g c = rw c.in-Run.is (rw c.mode_of.ensures at c.ran.ensures.failed)
+returns-in-Run-clause-failed g c = rw c.in-Run.is c.ran.ensures.failed
 
 pub returns-in-Lint-clause-failed : goal.returns-in-Lint-clause-failed
 returns-in-Lint-clause-failed g c = rw c.in-Lint.is c.linted.ensures.failed
@@ -117,7 +117,7 @@ pub returns-in-Check-clause-failed : goal.returns-in-Check-clause-failed
 returns-in-Check-clause-failed g c = rw c.in-Check.is c.checked.ensures.failed
 
 pub returns-in-Trace-clause-failed : goal.returns-in-Trace-clause-failed
-returns-in-Trace-clause-failed g c = rw c.in-Trace.is (rw c.mode_of-in-Trace.ensures at c.traced.ensures.failed)
+returns-in-Trace-clause-failed g c = rw c.in-Trace.is c.traced.ensures.failed
 
 pub returns-in-Chart-clause-failed : goal.returns-in-Chart-clause-failed
 returns-in-Chart-clause-failed g c = rw c.in-Chart.is c.charted.ensures.failed

@@ -6,15 +6,15 @@ use Rattle.nvme_words.specs.Examples.{alone, chart_file, lint_input, live_8, loa
 use Rattle.nvme_words.specs.Requests.{SubmitsBy}
 use Rattle.nvme_words.specs.declared.requests.Format.TheVariants as format
 use Rattle.nvme_words.specs.declared.requests.Request.TheVariants as request
-use Rattle.nvme_words.specs.declared.requests.Submitting.TheVariants as submitting
+use Rattle.nvme_lane.specs.declared.mode.Mode.TheVariants.{Loaded, Live}
 use Rattle.nvme_words.proofs.Lines.{given_at, line_asks, number_of, other_text, some_text}
 use Rattle.nvme_words.proofs.laws.lines_ask_for.Goals as goal
 
-is_first : (line : List Text) → one_of (codes "live") (given_at line).1 ≡ Some (codes "false") → SubmitsBy (given_at line).1 submitting.First
-is_first line is = other_text _ (codes "false") (codes "true") is refl
+is_loaded : (line : List Text) → one_of (codes "live") (given_at line).1 ≡ Some (codes "false") → SubmitsBy (given_at line).1 Loaded
+is_loaded line is = other_text _ (codes "false") (codes "true") is refl
 
-is_meanwhile : (line : List Text) → one_of (codes "live") (given_at line).1 ≡ Some (codes "true") → SubmitsBy (given_at line).1 submitting.Meanwhile
-is_meanwhile line is = (some_text _ (codes "true") is, other_text _ (codes "true") (codes "false") is refl)
+is_live : (line : List Text) → one_of (codes "live") (given_at line).1 ≡ Some (codes "true") → SubmitsBy (given_at line).1 Live
+is_live line is = (some_text _ (codes "true") is, other_text _ (codes "true") (codes "false") is refl)
 
 pub returns-clause-once : goal.returns-clause-once
 unfolding clap_on_literals
@@ -26,19 +26,19 @@ returns-clause-most_blocks c = line_asks (codes "once") _ (given_at once_most) (
 
 pub returns-clause-loaded : goal.returns-clause-loaded
 unfolding clap_on_literals
-returns-clause-loaded c = line_asks (codes "loaded") _ (given_at loaded_2) (request.Run submitting.First 2) refl (inl (refl, refl), number_of 8 255 (codes "workers") (codes "2") (given_at loaded_2).1 refl refl (omega arith)) (λ p q r. (refl, refl))
+returns-clause-loaded c = line_asks (codes "loaded") _ (given_at loaded_2) (request.Run Loaded 2) refl (inl (refl, refl), number_of 8 255 (codes "workers") (codes "2") (given_at loaded_2).1 refl refl (omega arith)) (λ p q r. (refl, refl))
 
 pub returns-clause-live : goal.returns-clause-live
 unfolding clap_on_literals
-returns-clause-live c = line_asks (codes "live") _ (given_at live_8) (request.Run submitting.Meanwhile 8) refl (inr (inl (refl, refl)), number_of 8 255 (codes "workers") (codes "8") (given_at live_8).1 refl refl (omega arith)) (λ p q r. (refl, refl))
+returns-clause-live c = line_asks (codes "live") _ (given_at live_8) (request.Run Live 8) refl (inr (inl (refl, refl)), number_of 8 255 (codes "workers") (codes "8") (given_at live_8).1 refl refl (omega arith)) (λ p q r. (refl, refl))
 
 pub returns-clause-run : goal.returns-clause-run
 unfolding clap_on_literals
-returns-clause-run c = line_asks (codes "run") _ (given_at run_file) (request.Run submitting.First 1) refl (inr (inr (refl, is_first run_file refl)), number_of 8 255 (codes "workers") (codes "1") (given_at run_file).1 refl refl (omega arith)) (λ p q r. (refl, refl))
+returns-clause-run c = line_asks (codes "run") _ (given_at run_file) (request.Run Loaded 1) refl (inr (inr (refl, is_loaded run_file refl)), number_of 8 255 (codes "workers") (codes "1") (given_at run_file).1 refl refl (omega arith)) (λ p q r. (refl, refl))
 
 pub returns-clause-run_live : goal.returns-clause-run_live
 unfolding clap_on_literals
-returns-clause-run_live c = line_asks (codes "run") _ (given_at run_live_3) (request.Run submitting.Meanwhile 3) refl (inr (inr (refl, is_meanwhile run_live_3 refl)), number_of 8 255 (codes "workers") (codes "3") (given_at run_live_3).1 refl refl (omega arith)) (λ p q r. (refl, refl))
+returns-clause-run_live c = line_asks (codes "run") _ (given_at run_live_3) (request.Run Live 3) refl (inr (inr (refl, is_live run_live_3 refl)), number_of 8 255 (codes "workers") (codes "3") (given_at run_live_3).1 refl refl (omega arith)) (λ p q r. (refl, refl))
 
 pub returns-clause-lint : goal.returns-clause-lint
 unfolding clap_on_literals
@@ -50,11 +50,11 @@ returns-clause-check c = line_asks (codes "check") _ (given_at (alone (codes "ch
 
 pub returns-clause-trace : goal.returns-clause-trace
 unfolding clap_on_literals
-returns-clause-trace c = line_asks (codes "trace") _ (given_at trace_2) (request.Trace submitting.First 2) refl (refl, is_first trace_2 refl, number_of 8 255 (codes "workers") (codes "2") (given_at trace_2).1 refl refl (omega arith)) (λ p q r. (refl, refl))
+returns-clause-trace c = line_asks (codes "trace") _ (given_at trace_2) (request.Trace Loaded 2) refl (refl, is_loaded trace_2 refl, number_of 8 255 (codes "workers") (codes "2") (given_at trace_2).1 refl refl (omega arith)) (λ p q r. (refl, refl))
 
 pub returns-clause-trace_live : goal.returns-clause-trace_live
 unfolding clap_on_literals
-returns-clause-trace_live c = line_asks (codes "trace") _ (given_at trace_live) (request.Trace submitting.Meanwhile 1) refl (refl, is_meanwhile trace_live refl, number_of 8 255 (codes "workers") (codes "1") (given_at trace_live).1 refl refl (omega arith)) (λ p q r. (refl, refl))
+returns-clause-trace_live c = line_asks (codes "trace") _ (given_at trace_live) (request.Trace Live 1) refl (refl, is_live trace_live refl, number_of 8 255 (codes "workers") (codes "1") (given_at trace_live).1 refl refl (omega arith)) (λ p q r. (refl, refl))
 
 pub returns-clause-chart : goal.returns-clause-chart
 unfolding clap_on_literals

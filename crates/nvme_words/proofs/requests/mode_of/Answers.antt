@@ -1,7 +1,7 @@
 use Rattle.std.proofs.Common.{rules, ◌≡◌, ◌∙◌, true, false, codes}
 use Rattle.clap.specs.Words.{found_of}
 use Rattle.clap.proofs.WalkLemmas.{one_text-rows}
-use Rattle.nvme_words.proofs.requests.submitting_of.Goals as goal
+use Rattle.nvme_words.proofs.requests.mode_of.Goals as goal
 
 pub returns-then-get_flag : goal.returns-then-get_flag
 returns-then-get_flag c = (
