@@ -92,8 +92,8 @@ fn done<R: Read + Drop, W: Write, T: Threads + Wait + Sync>(
         Request::Trace(submitting, workers) => {
             traced(rt, alloc, mode_of(submitting), workers, input, output)
         }
-        Request::Chart => charted(alloc, input, output),
-        Request::Stats(format) => counted(alloc, format, input, output),
+        Request::Chart(range) => charted(alloc, range, input, output),
+        Request::Stats(numbers) => counted(alloc, numbers, input, output),
     }
 }
 
