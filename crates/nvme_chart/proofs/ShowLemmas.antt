@@ -12,7 +12,7 @@ use Rattle.nvme_trace.specs.declared.fault.TraceError.TheVariants as error
 use Rattle.nvme_trace.specs.declared.reading.Head.{Head}
 use Rattle.nvme_chart.specs.Chosen.{chosen, chooses, number_after}
 use Rattle.nvme_chart.specs.declared.selection.Selection.{Selection}
-use Rattle.nvme_chart.specs.Shown.{IsShown, IsReadUpTo, IsLaterReadFault, IsReadFault}
+use Rattle.nvme_chart.specs.Shown.{IsShown, IsReadUpTo, IsReadFault}
 
 -- this many lines were read, and this holds of what they say
 pub record IsShownUpTo (text rest : List ℕ) (number : ℕ) (head : Head) (P : History → Type 0) : Type 0 where
