@@ -1,7 +1,7 @@
 use Rattle.std.proofs.Common.{rules}
 use Rattle.std.proofs.lemmas.Result.{IfOk-weaker}
-use Rattle.nvme_words.specs.CommandLine.{first, last, trace}
-use Rattle.nvme_words.specs.inside.Built.{HasApp, HasRule}
+use Rattle.nvme_words.specs.CommandLine.{trace}
+use Rattle.nvme_words.specs.inside.Built.{HasApp}
 use Rattle.nvme_words.proofs.Building.{rule_added}
 use Rattle.nvme_words.proofs.program.ranged_command.Goals as goal
 
