@@ -9,14 +9,15 @@ _nvmearb() {
     else
         case $prev in
             --workers) words="1 2 3 4 5 6 7 8" ;;
-            --format) words="text json" ;;
-            --blocks) return ;;
+            --format) words="text json csv" ;;
+            --blocks | --from | --to | --window) return ;;
             *)
                 case ${COMP_WORDS[1]} in
                     run | trace) words="--live --workers --help" files=toml ;;
                     lint) words="--help" files=toml ;;
-                    check | chart) words="--help" files=any ;;
-                    stats) words="--format --help" files=any ;;
+                    check) words="--help" files=any ;;
+                    chart) words="--from --to --help" files=any ;;
+                    stats) words="--from --to --backlogged --window --format --help" files=any ;;
                     loaded | live) words="--workers --help" ;;
                     once) words="--blocks --help" ;;
                     help) words="run trace lint check stats chart loaded live once" ;;

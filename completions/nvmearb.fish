@@ -20,7 +20,11 @@ complete -c nvmearb -n "not __fish_seen_subcommand_from $all" -a help -d 'Print 
 
 complete -c nvmearb -n '__fish_seen_subcommand_from run trace' -l live -d 'Let the hosts submit while the front works'
 complete -c nvmearb -n '__fish_seen_subcommand_from run trace loaded live' -l workers -x -a '1 2 3 4 5 6 7 8' -d 'Number of workers'
-complete -c nvmearb -n '__fish_seen_subcommand_from stats' -l format -x -a 'text json' -d 'How the numbers are written'
+complete -c nvmearb -n '__fish_seen_subcommand_from stats' -l format -x -a 'text json csv' -d 'How the numbers are written'
+complete -c nvmearb -n '__fish_seen_subcommand_from stats' -l backlogged -d 'Count only picks at which each I/O queue has waiting commands'
+complete -c nvmearb -n '__fish_seen_subcommand_from stats' -l window -x -d 'Tell shares by windows of so many picks'
+complete -c nvmearb -n '__fish_seen_subcommand_from stats chart' -l from -x -d 'Number of the first pick to look at'
+complete -c nvmearb -n '__fish_seen_subcommand_from stats chart' -l to -x -d 'Number of the last pick to look at'
 complete -c nvmearb -n '__fish_seen_subcommand_from once' -l blocks -x -d 'Size of namespace 1 in logical blocks'
 complete -c nvmearb -n '__fish_seen_subcommand_from run trace lint' -k -a '(__fish_complete_suffix .toml)'
 complete -c nvmearb -n '__fish_seen_subcommand_from check chart stats' -F

@@ -1,5 +1,5 @@
 -- A watcher goes through the lines of a text.
-use Rattle.std.proofs.Common.{◌≡◌, ℕ, ◌+◌, List, [], ◌∷◌, ◌++◌, length, reverse, Option, Some, None, Ok, inl, inr, refl, sym, ap, subst, ◌∙◌, append_assoc, append-nil, arith}
+use Rattle.std.proofs.Common.{◌≡◌, ℕ, ◌+◌, Bool, true, false, List, [], ◌∷◌, ◌++◌, length, reverse, Option, Some, None, Result, Ok, Err, OnOk, inl, inr, refl, sym, ap, subst, ◌∙◌, append_assoc, append-nil, arith}
 use Rattle.std.specs.Prelude.{IfSome}
 use mathlib.Core.List.{reverse-cons, reverse-reverse}
 use Rattle.nvme_arbiter.specs.History.{ArbitrationEvent, History}
@@ -10,7 +10,9 @@ use Rattle.nvme_trace.specs.Checks.{Tells}
 use Rattle.nvme_trace.specs.declared.fault.TraceError.{TraceError}
 use Rattle.nvme_trace.specs.declared.fault.TraceError.TheVariants as error
 use Rattle.nvme_trace.specs.declared.reading.Head.{Head}
-use Rattle.nvme_chart.specs.Shown.{IsShown, IsReadUpTo, IsLaterReadFault, IsReadFault}
+use Rattle.nvme_chart.specs.Chosen.{chosen, chooses, number_after}
+use Rattle.nvme_chart.specs.declared.selection.Selection.{Selection}
+use Rattle.nvme_chart.specs.Shown.{IsShown, IsReadUpTo, IsReadFault}
 
 -- this many lines were read, and this holds of what they say
 pub record IsShownUpTo (text rest : List ℕ) (number : ℕ) (head : Head) (P : History → Type 0) : Type 0 where
@@ -65,6 +67,12 @@ shown_all text (Some xs) number head P j n =
       holds = j.holds;
     }
 
+-- what follows of what holds
+pub shown_weaker : (text : List ℕ) (rest : Option (List ℕ)) (number : ℕ) (head : Head) (P Q : History → Type 0) → ShownUpTo text rest number head P
+    → ((past : History) → P past → Q past) → ShownUpTo text rest number head Q
+shown_weaker text None number head P Q j f = j
+shown_weaker text (Some xs) number head P Q j f = record { past = j.past; before = j.before; holds = f j.past j.holds }
+
 -- at a line that is faulty
 pub shown_fault : (text : List ℕ) (old : Option (List ℕ)) (number : ℕ) (head : Head) (P : History → Type 0) (e : TraceError) → ShownUpTo text old number head P → IsEventFault e number old → IsReadFault text e
 shown_fault text None number head P e j f = absurd j
@@ -76,6 +84,30 @@ no_memory text e is = subst (λ (x : TraceError). IsReadFault text x) (sym is) (
 
 pub no_read : (text : List ℕ) (e : TraceError) → e ≡ error.Read → IsReadFault text e
 no_read text e is = subst (λ (x : TraceError). IsReadFault text x) (sym is) (inl tt)
+
+-- ---- the chosen events
+
+-- the pick after these events has this number, and this holds of those that are chosen
+pub record IsFollowed (s : Selection) (next : ℕ) (P : History → Type 0) (past : History) : Type 0 where
+  pub next_is : next ≡ number_after past
+  pub holds : P (chosen s past)
+
+-- what follows where something is done
+pub after_ok : {T E : Type 0} (result : Result T E) (P Q : Type 0) → OnOk result P → (P → Q) → OnOk result Q
+after_ok (Ok t) P Q h f = f h
+after_ok (Err e) P Q h f = tt
+
+pub first_number : 1 ≡ number_after []
+first_number = refl
+
+-- an event that is chosen, and one that isn't
+pub more_chosen : (s : Selection) (past : History) (e : ArbitrationEvent) (b : Bool) (P : History → Type 0) → b ≡ chooses s past e → b ≡ true
+    → P (e ∷ chosen s past) → P (chosen s (e ∷ past))
+more_chosen s past e b P is on p = rw (sym is ∙ on) p
+
+pub none_chosen : (s : Selection) (past : History) (e : ArbitrationEvent) (b : Bool) (P : History → Type 0) → b ≡ chooses s past e → b ≡ false
+    → P (chosen s past) → P (chosen s (e ∷ past))
+none_chosen s past e b P is off p = rw (sym is ∙ off) p
 
 -- ---- the whole text
 

@@ -1,7 +1,7 @@
 // The rows of a trace: one for each queue in each class.
 ghost use Rattle.std.specs.Prelude.{◌<◌, IfSome};
 
-use nvme_arbiter::{Class, QUEUE_LIMIT, Seen};
+use nvme_arbiter::{Class, Mechanism, QUEUE_LIMIT, Seen};
 
 /// The most I/O queues.
 pub const IO_QUEUES: usize = QUEUE_LIMIT - 1;
@@ -64,6 +64,21 @@ pub fn queue_of_lane(lane: usize) -> Seen {
     }
 }
 
+/// The rows of a queue, one for each class: those of an I/O queue are as many rows apart as there are I/O queues. Rows
+/// from `LANES` on are none.
+pub fn lanes_of_queue(qid: u16) -> [usize; 4] {
+    let first = usize::from(qid);
+    if first == 0 || first > IO_QUEUES {
+        return [first.min(1) * LANES, LANES, LANES, LANES];
+    }
+    [
+        first,
+        first + IO_QUEUES,
+        first + 2 * IO_QUEUES,
+        first + 3 * IO_QUEUES,
+    ]
+}
+
 /// The class of a row.
 pub fn class_of_lane(lane: usize) -> Class {
     queue_of_lane(lane).class
@@ -75,4 +90,20 @@ pub fn lane_of_pick(seen: &[Seen], qid: u16) -> Option<usize>
 {
     let queue = seen.iter().find(|queue| queue.qid == qid)?;
     lane_of(queue)
+}
+
+/// The row of a queue in a picture. Round robin has no classes: there the rows are those of the first I/O class.
+pub fn row_of(mechanism: Mechanism, queue: &Seen) -> Option<usize> {
+    let qid = usize::from(queue.qid);
+    match mechanism {
+        Mechanism::Weighted => lane_of(queue),
+        Mechanism::RoundRobin if qid <= IO_QUEUES => Some(qid),
+        Mechanism::RoundRobin => None,
+    }
+}
+
+/// The row in a picture of the queue that a pick names, where it was seen.
+pub fn row_of_pick(mechanism: Mechanism, seen: &[Seen], qid: u16) -> Option<usize> {
+    let queue = seen.iter().find(|queue| queue.qid == qid)?;
+    row_of(mechanism, queue)
 }

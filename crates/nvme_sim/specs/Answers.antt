@@ -50,8 +50,8 @@ module _ {W : Type 0} (contents : W → Option (List ℕ)) (old new : W) where
   Does request.Lint bytes = HasNoWarning bytes × (new ≡ old)
   Does request.Check bytes = HasLawful Appended bytes
   Does (request.Trace mode workers) bytes = HasTrace Appended mode bytes
-  Does request.Chart bytes = IsTrace bytes
-  Does (request.Stats format) bytes = IsTrace bytes
+  Does (request.Chart range) bytes = IsTrace bytes
+  Does (request.Stats numbers) bytes = IsTrace bytes
   Does (request.Help text) bytes = Unit {0}
 
   -- a write of its answer failed: a prefix of the answer was written. Of the texts of warnings and of a pick that isn't the lawful one
@@ -62,8 +62,8 @@ module _ {W : Type 0} (contents : W → Option (List ℕ)) (old new : W) where
   FailsToWrite request.Lint bytes = HasWarnings bytes
   FailsToWrite request.Check bytes = HasLawful AppendedPart bytes ⊎ IsUnlawfulTrace bytes
   FailsToWrite (request.Trace mode workers) bytes = HasTrace AppendedPart mode bytes
-  FailsToWrite request.Chart bytes = IsTrace bytes
-  FailsToWrite (request.Stats format) bytes = IsTrace bytes
+  FailsToWrite (request.Chart range) bytes = IsTrace bytes
+  FailsToWrite (request.Stats numbers) bytes = IsTrace bytes
   FailsToWrite (request.Help text) bytes = Unit {0}
 
 -- the words ask for something of which P holds

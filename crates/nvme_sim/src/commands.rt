@@ -77,8 +77,8 @@ fn done<R: Read + Drop, W: Write, T: Threads + Wait + Sync>(
         Request::Lint => linted(alloc, input, output),
         Request::Check => checked(alloc, input, output),
         Request::Trace(mode, workers) => traced(rt, alloc, mode, workers, input, output),
-        Request::Chart => charted(alloc, input, output),
-        Request::Stats(format) => counted(alloc, format, input, output),
+        Request::Chart(range) => charted(alloc, range, input, output),
+        Request::Stats(numbers) => counted(alloc, numbers, input, output),
     }
 }
 

@@ -19,7 +19,7 @@ use Rattle.nvme_words.specs.inside.Found.{IsTextFor}
 abbrev pub some_names : Names
 some_names = record {
   ref_ptr = (0, 0);
-  now = (record { ref_ptr = (0, 0); now = codes "text" }) ∷ (record { ref_ptr = (0, 0); now = codes "json" }) ∷ [];
+  now = (record { ref_ptr = (0, 0); now = codes "text" }) ∷ (record { ref_ptr = (0, 0); now = codes "json" }) ∷ (record { ref_ptr = (0, 0); now = codes "csv" }) ∷ [];
 }
 
 -- `clap` says all of the command line
@@ -57,8 +57,8 @@ text_answers app words kind (Ok (request.Run when workers)) has h = absurd h
 text_answers app words kind (Ok request.Lint) has h = absurd h
 text_answers app words kind (Ok request.Check) has h = absurd h
 text_answers app words kind (Ok (request.Trace when workers)) has h = absurd h
-text_answers app words kind (Ok request.Chart) has h = absurd h
-text_answers app words kind (Ok (request.Stats format)) has h = absurd h
+text_answers app words kind (Ok (request.Chart range)) has h = absurd h
+text_answers app words kind (Ok (request.Stats numbers)) has h = absurd h
 text_answers app words kind (Err (error.CommandLine text)) (inl memory) (same, other, help) = absurd (other memory)
 text_answers app words kind (Err (error.CommandLine text)) (inr among) (same, other, help) =
     (subst (λ (k : ErrorKind). IsAmong k (faults_of app words)) (sym same) among, (λ h. help (subst (IsHelp words) same h)))

@@ -27,26 +27,29 @@ use Rattle.nvme_words.specs.declared.requests.WordsError.TheVariants as error
 abbrev pub Place : Type 0
 Place = ℕ × ℕ
 
-abbrev pub names_at : Place → Place → Place → Names
+abbrev pub names_at : Place → Place → Place × Place → Names
 names_at p q r = record {
   ref_ptr = p;
-  now = (record { ref_ptr = q; now = codes "text" }) ∷ (record { ref_ptr = r; now = codes "json" }) ∷ [];
+  now = (record { ref_ptr = q; now = codes "text" }) ∷ (record { ref_ptr = r.0; now = codes "json" }) ∷ (record { ref_ptr = r.1; now = codes "csv" }) ∷ [];
 }
 
 -- what holds wherever the names of the formats lie
-pub over_names : (P : Names → Type 0) → ((p q r : Place) → P (names_at p q r)) → (names : Names) → AreFormats names → P names
+pub over_names : (P : Names → Type 0) → ((p q : Place) (r : Place × Place) → P (names_at p q r)) → (names : Names) → AreFormats names → P names
 over_names P at names are = go names.ref_ptr names.now are
   where
-    go : (p : Place) (xs : List (Bor Text)) → texts xs ≡ codes "text" ∷ codes "json" ∷ [] → P (record { ref_ptr = p; now = xs })
+    go : (p : Place) (xs : List (Bor Text)) → texts xs ≡ codes "text" ∷ codes "json" ∷ codes "csv" ∷ [] → P (record { ref_ptr = p; now = xs })
     go p [] e = cc
     go p (x ∷ []) e = cc
-    go p (x ∷ y ∷ []) e =
+    go p (x ∷ y ∷ []) e = cc
+    go p (x ∷ y ∷ z ∷ []) e =
         let first : x.now ≡ codes "text" = cc in
         let second : y.now ≡ codes "json" = cc in
-        subst (λ (a : Text). P (record { ref_ptr = p; now = (record { ref_ptr = x.ref_ptr; now = a }) ∷ y ∷ [] })) (sym first)
-        (subst (λ (b : Text). P (record { ref_ptr = p; now = (record { ref_ptr = x.ref_ptr; now = codes "text" }) ∷ (record { ref_ptr = y.ref_ptr; now = b }) ∷ [] })) (sym second)
-        (at p x.ref_ptr y.ref_ptr))
-    go p (x ∷ y ∷ z ∷ zs) e = cc
+        let third : z.now ≡ codes "csv" = cc in
+        subst (λ (a : Text). P (record { ref_ptr = p; now = (record { ref_ptr = x.ref_ptr; now = a }) ∷ y ∷ z ∷ [] })) (sym first)
+        (subst (λ (b : Text). P (record { ref_ptr = p; now = (record { ref_ptr = x.ref_ptr; now = codes "text" }) ∷ (record { ref_ptr = y.ref_ptr; now = b }) ∷ z ∷ [] })) (sym second)
+        (subst (λ (d : Text). P (record { ref_ptr = p; now = (record { ref_ptr = x.ref_ptr; now = codes "text" }) ∷ (record { ref_ptr = y.ref_ptr; now = codes "json" }) ∷ (record { ref_ptr = z.ref_ptr; now = d }) ∷ [] })) (sym third)
+        (at p x.ref_ptr (y.ref_ptr, z.ref_ptr))))
+    go p (w ∷ x ∷ y ∷ z ∷ zs) e = cc
 
 -- the word after the program's name
 second_asked : (words : List (String Global)) (name : Text) (rest : List Text) → map string_bytes words ≡ codes "nvmearb" ∷ name ∷ rest
@@ -59,7 +62,7 @@ second_asked (w ∷ x ∷ xs) name rest e =
 
 -- the subcommand of a line with its values, in which the places of the names don't stand
 abbrev pub given_at : List Text → Given
-given_at line = unwrap_or (subcommand_of (command_line (names_at (0, 0) (0, 0) (0, 0))) (codes "nvmearb" ∷ line)) ([], [])
+given_at line = unwrap_or (subcommand_of (command_line (names_at (0, 0) (0, 0) ((0, 0), (0, 0)))) (codes "nvmearb" ∷ line)) ([], [])
 
 -- words with no fault that ask for something are refused only for memory
 asks_so : (app : App) (words : List (String Global)) (request : Request) → faults_of app words ≡ []
@@ -77,7 +80,7 @@ for_all line error.OtherWord h = inr (λ names are words e answer. ⊎_elim (λ 
 
 -- what a line with a subcommand asks for
 pub line_asks : (name : Text) (rest : List Text) (given : Given) (request : Request) → given.0 ≡ name → IsRequestOf given request
-    → ((p q r : Place) → (fault_of (command_line (names_at p q r)) (codes "nvmearb" ∷ name ∷ rest) ≡ [])
+    → ((p q : Place) (r : Place × Place) → (fault_of (command_line (names_at p q r)) (codes "nvmearb" ∷ name ∷ rest) ≡ [])
     × (subcommand_of (command_line (names_at p q r)) (codes "nvmearb" ∷ name ∷ rest) ≡ Some given))
     → AsksFor (name ∷ rest) request
 line_asks name rest given request is of at =
@@ -111,7 +114,7 @@ pub some_text : (o : Option Text) (a : Text) → o ≡ Some a → o ≢ None
 some_text o a is none = cc
 
 pub line_fault : (line : List Text) (kind : ErrorKind)
-    → ((p q r : Place) → fault_of (command_line (names_at p q r)) (codes "nvmearb" ∷ line) ≡ kind ∷ []) → HasFault line kind
+    → ((p q : Place) (r : Place × Place) → fault_of (command_line (names_at p q r)) (codes "nvmearb" ∷ line) ≡ kind ∷ []) → HasFault line kind
 line_fault line kind at = over_names _ (λ p q r words e. ap (fault_of (command_line (names_at p q r))) e ∙ at p q r)
 
 -- whether a line says of itself that standard input is read
@@ -132,12 +135,12 @@ line_reads (w ∷ x ∷ xs) name rest e =
     rw (same, two) refl
 
 -- the file that a line with a subcommand names
-abbrev pub file_at : Place → Place → Place → Text → List Text → Option Text
+abbrev pub file_at : Place → Place → Place × Place → Text → List Text → Option Text
 file_at p q r name rest =
     if reads_line name rest || not (is_empty (fault_of (command_line (names_at p q r)) (codes "nvmearb" ∷ name ∷ rest))) then None
     else file_given (subcommand_of (command_line (names_at p q r)) (codes "nvmearb" ∷ name ∷ rest))
 
-pub line_names : (name : Text) (rest : List Text) (file : Option Text) → ((p q r : Place) → file_at p q r name rest ≡ file)
+pub line_names : (name : Text) (rest : List Text) (file : Option Text) → ((p q : Place) (r : Place × Place) → file_at p q r name rest ≡ file)
     → NamesFile (name ∷ rest) file
 line_names name rest file at = over_names _ (λ p q r words e.
     ap₂ (λ (input : Bool) (line : List Text). cond (input || not (is_empty (fault_of (command_line (names_at p q r)) line))) None

@@ -6,9 +6,11 @@ use Rattle.std.specs.Str.{bytes_eq}
 use Rattle.std.specs.Str.Parse.{IsNumeral, digits_value, without_leading_plus}
 use Rattle.clap.specs.Words.{Row, Text, first_of, one_of}
 use Rattle.nvme_words.specs.Examples.{AsksForNothing, AsksForOneThing}
-use Rattle.nvme_words.specs.Requests.{Given, IsFormat, IsNumber, IsRequestOf, SubmitsBy}
+use Rattle.nvme_words.specs.Requests.{AreNumbers, Given, IsFlag, IsFormat, IsNumber, IsRange, IsRequestOf, SubmitsBy}
 use Rattle.nvme_words.specs.declared.requests.Format.{Format}
 use Rattle.nvme_words.specs.declared.requests.Format.TheVariants as format
+use Rattle.nvme_words.specs.declared.requests.Numbers.{Numbers}
+use Rattle.nvme_words.specs.declared.requests.Range.{Range}
 use Rattle.nvme_words.specs.declared.requests.Request.{Request}
 use Rattle.nvme_words.specs.declared.requests.Request.TheVariants as request
 use Rattle.nvme_lane.specs.declared.mode.Mode.{Mode}
@@ -22,23 +24,58 @@ number_is : (bits : ℕ) (id : Text) (rows : List Row) (n : ℕ) → IsNumber bi
 number_is bits id rows n number =
     number.4 ∙ ap (λ o. option_map_or (λ (text : Text). digits_value 10 (without_leading_plus text)) o 0) (sym number.1)
 
-abbrev is_json : Option Text → Bool
-is_json text = option_map_or (λ t. bytes_eq t (codes "json")) text false
+abbrev is_text : Text → Option Text → Bool
+is_text name text = option_map_or (λ t. bytes_eq t name) text false
+
+abbrev format_for : Bool → Bool → Format
+format_for json csv = cond json format.Json (cond csv format.Csv format.Text)
 
 abbrev format_in : List Row → Format
-format_in rows = cond (is_json (first_of (codes "format") rows)) format.Json format.Text
+format_in rows = format_for (is_text (codes "json") (first_of (codes "format") rows)) (is_text (codes "csv") (first_of (codes "format") rows))
 
-other_json : (text : Option Text) → text ≢ Some (codes "json") → is_json text ≡ false
-other_json None other = refl
-other_json (Some t) other = go (bytes_eq t (codes "json")) refl
+other_text : (name : Text) (text : Option Text) → text ≢ Some name → is_text name text ≡ false
+other_text name None other = refl
+other_text name (Some t) other = go (bytes_eq t name) refl
   where
-    go : (b : Bool) → bytes_eq t (codes "json") ≡ b → bytes_eq t (codes "json") ≡ false
+    go : (b : Bool) → bytes_eq t name ≡ b → bytes_eq t name ≡ false
     go false e = e
-    go true e = absurd (other (ap (λ (x : Text). Some x) ((bytes_eq-Decides t (codes "json")).0 e)))
+    go true e = absurd (other (ap (λ (x : Text). Some x) ((bytes_eq-Decides t name).0 e)))
 
 format_is : (rows : List Row) (f : Format) → IsFormat rows f → f ≡ format_in rows
 format_is rows format.Json is = rw is refl
-format_is rows format.Text other = ap (λ b. cond b format.Json format.Text) (sym (other_json _ other))
+format_is rows format.Csv is = rw is refl
+format_is rows format.Text other = ap₂ format_for (sym (other_text (codes "json") _ other.0)) (sym (other_text (codes "csv") _ other.1))
+
+flag_is : (id : Text) (rows : List Row) (b : Bool) → IsFlag id rows b → b ≡ is_text (codes "true") (first_of id rows)
+flag_is id rows true is = rw is refl
+flag_is id rows false other = sym (other_text (codes "true") _ other)
+
+abbrev range_from : ℕ → ℕ → Range
+range_from first last = record { first = first; last = last }
+
+abbrev range_in : List Row → Range
+range_in rows = range_from (number_in (codes "from") rows) (number_in (codes "to") rows)
+
+range_is : (rows : List Row) (range : Range) → IsRange rows range → range ≡ range_in rows
+range_is rows range is =
+    let one = number_is 64 (codes "from") rows range.first is.0 in
+    let two = number_is 64 (codes "to") rows range.last is.1 in ap₂ range_from one two
+
+abbrev numbers_from : Range → ℕ → Bool → Format → Numbers
+numbers_from range window backlogged format = record { range = range; window = window; backlogged = backlogged; format = format }
+
+abbrev numbers_in : List Row → Numbers
+numbers_in rows =
+    numbers_from (range_in rows) (number_in (codes "window") rows) (is_text (codes "true") (first_of (codes "backlogged") rows)) (format_in rows)
+
+numbers_are : (rows : List Row) (numbers : Numbers) → AreNumbers rows numbers → numbers ≡ numbers_in rows
+numbers_are rows numbers are =
+    let one = range_is rows numbers.range are.0 in
+    let two = number_is 64 (codes "window") rows numbers.window are.1 in
+    let three = flag_is (codes "backlogged") rows numbers.backlogged are.2 in
+    let four = format_is rows numbers.format are.3 in
+    ap₂ (λ (r : Range) (w : ℕ). numbers_from r w numbers.backlogged numbers.format) one two
+    ∙ ap₂ (λ (b : Bool) (f : Format). numbers_from (range_in rows) (number_in (codes "window") rows) b f) three four
 
 abbrev picked : Given → Mode → Request
 picked given when =
@@ -49,8 +86,8 @@ picked given when =
     else if bytes_eq given.0 (codes "lint") then request.Lint
     else if bytes_eq given.0 (codes "check") then request.Check
     else if bytes_eq given.0 (codes "trace") then request.Trace when (number_in (codes "workers") given.1)
-    else if bytes_eq given.0 (codes "chart") then request.Chart
-    else request.Stats (format_in given.1)
+    else if bytes_eq given.0 (codes "chart") then request.Chart (range_in given.1)
+    else request.Stats (numbers_in given.1)
 
 module _ (given : Given) (when : Mode) (only : (w : Mode) → SubmitsBy given.1 w → w ≡ when) where
   is_picked : (r : Request) → IsRequestOf given r → r ≡ picked given when
@@ -64,8 +101,8 @@ module _ (given : Given) (when : Mode) (only : (w : Mode) → SubmitsBy given.1 
   is_picked request.Lint h = rw h refl
   is_picked request.Check h = rw h refl
   is_picked (request.Trace w n) h = rw h.0 (ap₂ request.Trace (only w h.1) (number_is 8 (codes "workers") given.1 n h.2))
-  is_picked request.Chart h = rw h refl
-  is_picked (request.Stats f) h = rw h.0 (ap request.Stats (format_is given.1 f h.1))
+  is_picked (request.Chart range) h = rw h.0 (ap request.Chart (range_is given.1 range h.1))
+  is_picked (request.Stats numbers) h = rw h.0 (ap request.Stats (numbers_are given.1 numbers h.1))
   is_picked (request.Help text) h = absurd h
 
   both_picked : (r s : Request) → IsRequestOf given r → IsRequestOf given s → r ≡ s

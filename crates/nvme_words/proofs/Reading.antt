@@ -6,9 +6,11 @@ use Rattle.std.specs.Str.Parse.{ParsesUnsigned}
 use Rattle.clap.specs.Words.{ReadsOne, Text, found_of, one_text, rows_of}
 use Rattle.clap.specs.declared.parser.matches.ArgMatches.{ArgMatches}
 use Rattle.clap.proofs.WalkLemmas.{one_text-rows}
+use Rattle.nvme_words.specs.declared.requests.Numbers.{Numbers}
+use Rattle.nvme_words.specs.declared.requests.Range.{Range}
 use Rattle.nvme_words.specs.declared.requests.Request.{Request}
 use Rattle.nvme_words.specs.declared.requests.Request.TheVariants as request
-use Rattle.nvme_words.specs.Requests.{Given, IsNumber, IsRequestOf}
+use Rattle.nvme_words.specs.Requests.{AreNumbers, Given, IsNumber, IsRange, IsRequestOf}
 use Rattle.nvme_words.specs.inside.Found.{IsNumberIfAny}
 
 -- a number is read of the text that it parses from
@@ -47,8 +49,46 @@ no_blocks given is none = go
     go request.Lint h = not (codes "lint") refl h
     go request.Check h = not (codes "check") refl h
     go (request.Trace when workers) h = not (codes "trace") refl h.0
-    go request.Chart h = not (codes "chart") refl h
-    go (request.Stats format) h = not (codes "stats") refl h.0
+    go (request.Chart range) h = not (codes "chart") refl h.0
+    go (request.Stats numbers) h = not (codes "stats") refl h.0
+    go (request.Help text) h = h
+
+-- where there is no range, `chart` asks for nothing
+pub no_range : (given : Given) → given.0 ≡ codes "chart" → ((range : Range) → IsRange given.1 range → ⊥)
+    → (r : Request) → IsRequestOf given r → ⊥
+no_range given is none = go
+  where
+    not : (b : Text) → bytes_eq (codes "chart") b ≡ false → given.0 ≡ b → ⊥
+    not b differ = apart given.0 (codes "chart") b differ is
+
+    go : (r : Request) → IsRequestOf given r → ⊥
+    go (request.Once blocks) h = not (codes "once") refl h.0
+    go (request.Run when workers) h =
+        ⊎_elim (λ e. not (codes "loaded") refl e.0) (⊎_elim (λ e. not (codes "live") refl e.0) (λ e. not (codes "run") refl e.0)) h.0
+    go request.Lint h = not (codes "lint") refl h
+    go request.Check h = not (codes "check") refl h
+    go (request.Trace when workers) h = not (codes "trace") refl h.0
+    go (request.Chart range) h = none range h.1
+    go (request.Stats numbers) h = not (codes "stats") refl h.0
+    go (request.Help text) h = h
+
+-- where there are no numbers, `stats` asks for nothing
+pub no_numbers : (given : Given) → given.0 ≡ codes "stats" → ((numbers : Numbers) → AreNumbers given.1 numbers → ⊥)
+    → (r : Request) → IsRequestOf given r → ⊥
+no_numbers given is none = go
+  where
+    not : (b : Text) → bytes_eq (codes "stats") b ≡ false → given.0 ≡ b → ⊥
+    not b differ = apart given.0 (codes "stats") b differ is
+
+    go : (r : Request) → IsRequestOf given r → ⊥
+    go (request.Once blocks) h = not (codes "once") refl h.0
+    go (request.Run when workers) h =
+        ⊎_elim (λ e. not (codes "loaded") refl e.0) (⊎_elim (λ e. not (codes "live") refl e.0) (λ e. not (codes "run") refl e.0)) h.0
+    go request.Lint h = not (codes "lint") refl h
+    go request.Check h = not (codes "check") refl h
+    go (request.Trace when workers) h = not (codes "trace") refl h.0
+    go (request.Chart range) h = not (codes "chart") refl h.0
+    go (request.Stats numbers) h = none numbers h.1
     go (request.Help text) h = h
 
 -- where there is no number of workers, no run is asked for
@@ -59,6 +99,6 @@ no_workers given once lint check chart stats none (request.Run when workers) h =
 no_workers given once lint check chart stats none request.Lint h = lint h
 no_workers given once lint check chart stats none request.Check h = check h
 no_workers given once lint check chart stats none (request.Trace when workers) h = none workers h.2
-no_workers given once lint check chart stats none request.Chart h = chart h
-no_workers given once lint check chart stats none (request.Stats format) h = stats h.0
+no_workers given once lint check chart stats none (request.Chart range) h = chart h.0
+no_workers given once lint check chart stats none (request.Stats numbers) h = stats h.0
 no_workers given once lint check chart stats none (request.Help text) h = h

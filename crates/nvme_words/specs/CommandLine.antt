@@ -35,12 +35,27 @@ blocks = option (codes "blocks") (values.Unsigned 1 9223372036854775807)
 abbrev pub live : Rule
 live = record (new_rule (codes "live")) { long = Some (codes "live"); action = Some SetTrue }
 
+-- from which pick of a trace on it is looked at, and up to which
+abbrev pub first : Rule
+first = with_default (codes "1") (option (codes "from") (values.Unsigned 1 9223372036854775807))
+
+abbrev pub last : Rule
+last = with_default (codes "9223372036854775807") (option (codes "to") (values.Unsigned 1 9223372036854775807))
+
+-- how many picks a window has
+abbrev pub window : Rule
+window = with_default (codes "0") (option (codes "window") (values.Unsigned 0 9223372036854775807))
+
+-- only picks are looked at at which each I/O queue has waiting commands
+abbrev pub backlogged : Rule
+backlogged = record (new_rule (codes "backlogged")) { long = Some (codes "backlogged"); action = Some SetTrue }
+
 -- where the names of the formats lie
 abbrev pub Names : Type 0
 Names = Bor (List (Bor Text))
 
 abbrev pub AreFormats : Names → Type 0
-AreFormats names = texts names.now ≡ codes "text" ∷ codes "json" ∷ []
+AreFormats names = texts names.now ≡ codes "text" ∷ codes "json" ∷ codes "csv" ∷ []
 
 abbrev pub format : Names → Rule
 format names = with_default (codes "text") (option (codes "format") (values.Names names))
@@ -66,8 +81,12 @@ lint = with_rule (new_app (codes "lint")) (required file)
 abbrev pub trace : Text → App
 trace name = with_rule (new_app name) file
 
+-- a subcommand that shows a part of a trace
+abbrev pub ranged : Text → App
+ranged name = with_rule (with_rule (trace name) first) last
+
 abbrev pub stats : Names → App
-stats names = with_rule (trace (codes "stats")) (format names)
+stats names = with_rule (with_rule (with_rule (ranged (codes "stats")) backlogged) window) (format names)
 
 -- ---- the program
 
@@ -85,7 +104,7 @@ abbrev pub with_file : App → App
 with_file app = with_subcommand (with_subcommand (with_subcommand app (run (codes "run")).top) lint.top) (run (codes "trace")).top
 
 abbrev pub with_trace : Names → App → App
-with_trace names app = with_subcommand (with_subcommand (with_subcommand app (trace (codes "check")).top) (trace (codes "chart")).top) (stats names).top
+with_trace names app = with_subcommand (with_subcommand (with_subcommand app (trace (codes "check")).top) (ranged (codes "chart")).top) (stats names).top
 
 abbrev pub command_line : Names → App
 command_line names = with_trace names (with_file (with_input alone))

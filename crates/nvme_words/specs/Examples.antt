@@ -1,11 +1,14 @@
 -- Worked command lines. (profile)
-use Rattle.std.specs.Prelude.{⊤, ◌≡◌, ◌⊎◌, List, [], ◌∷◌, map, Option, Some, Ok, Err, String, string_bytes, codes, None}
+use Rattle.std.specs.Prelude.{⊤, ◌≡◌, ◌⊎◌, false, List, [], ◌∷◌, map, Option, Some, Ok, Err, String, string_bytes, codes, None}
 use Rattle.std.specs.Global.{Global}
 use Rattle.clap.specs.Words.{App, Text, kind_of, one_of}
 use Rattle.clap.specs.declared.error.Error.{Error}
 use Rattle.clap.specs.declared.error.kind.ErrorKind.{ErrorKind}
 use Rattle.nvme_words.specs.CommandLine.{AreFormats, Names, command_line}
 use Rattle.nvme_words.specs.Requests.{Given, IsAnswerTo, IsRequestOf, faults_of, file_of}
+use Rattle.nvme_words.specs.declared.requests.Format.{Format}
+use Rattle.nvme_words.specs.declared.requests.Numbers.{Numbers}
+use Rattle.nvme_words.specs.declared.requests.Range.{Range}
 use Rattle.nvme_words.specs.declared.requests.Request.{Request}
 use Rattle.nvme_words.specs.declared.requests.Request.TheVariants as request
 use Rattle.nvme_words.specs.declared.requests.WordsError.{WordsError}
@@ -20,6 +23,14 @@ IsMemory (error.NoMemory why) = ⊤
 abbrev pub OverLine : List Text → (App → List (String Global) → Type 0) → Type 0
 OverLine line P = (names : Names) → AreFormats names → (words : List (String Global))
     → map string_bytes words ≡ codes "nvmearb" ∷ line → P (command_line names) words
+
+-- all picks of a trace
+abbrev pub all_picks : Range
+all_picks = record { first = 1; last = 9223372036854775807 }
+
+-- the numbers of all picks of a trace, in one piece
+abbrev pub all_numbers : Format → Numbers
+all_numbers format = record { range = all_picks; window = 0; backlogged = false; format = format }
 
 -- the line asks for this, and is refused only for memory
 abbrev pub AsksFor : List Text → Request → Type 0
@@ -114,6 +125,12 @@ chart_file = codes "chart" ∷ codes "a.json" ∷ []
 
 abbrev pub stats_json : List Text
 stats_json = codes "stats" ∷ codes "a.json" ∷ codes "--format" ∷ codes "json" ∷ []
+
+abbrev pub stats_part : List Text
+stats_part = codes "stats" ∷ codes "--from" ∷ codes "2" ∷ codes "--to=9" ∷ codes "--window" ∷ codes "3" ∷ codes "--backlogged" ∷ codes "--format=csv" ∷ []
+
+abbrev pub chart_from_0 : List Text
+chart_from_0 = codes "chart" ∷ codes "--from" ∷ codes "0" ∷ []
 
 abbrev pub stats_xml : List Text
 stats_xml = codes "stats" ∷ codes "--format" ∷ codes "xml" ∷ []

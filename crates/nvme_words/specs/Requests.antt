@@ -1,5 +1,5 @@
 -- Which words ask for what. (profile)
-use Rattle.std.specs.Prelude.{⊤, ◌≡◌, ◌≢◌, ◌⊎◌, ◌<◌, ◌^◌, ℕ, true, false, ◌||◌, not, if◌then◌else◌, List, [], map, Option, Some, None, Result, Ok, Err, String, string_bytes, codes}
+use Rattle.std.specs.Prelude.{⊤, ◌≡◌, ◌≢◌, ◌⊎◌, ◌<◌, ◌^◌, ℕ, Bool, true, false, ◌||◌, not, if◌then◌else◌, List, [], map, Option, Some, None, Result, Ok, Err, String, string_bytes, codes}
 use Rattle.std.specs.Global.{Global}
 use Rattle.std.specs.Str.{bytes_eq}
 use Rattle.std.specs.Str.Parse.{IsNumeral, digits_value, without_leading_plus}
@@ -9,6 +9,8 @@ use Rattle.clap.specs.declared.error.kind.ErrorKind.{ErrorKind}
 use Rattle.clap.specs.declared.error.kind.ErrorKind.TheVariants.{DisplayHelp, DisplayVersion}
 use Rattle.nvme_words.specs.declared.requests.Format.{Format}
 use Rattle.nvme_words.specs.declared.requests.Format.TheVariants as format
+use Rattle.nvme_words.specs.declared.requests.Range.{Range}
+use Rattle.nvme_words.specs.declared.requests.Numbers.{Numbers}
 use Rattle.nvme_words.specs.declared.requests.Request.{Request}
 use Rattle.nvme_words.specs.declared.requests.Request.TheVariants as request
 use Rattle.nvme_lane.specs.declared.mode.Mode.{Mode}
@@ -24,8 +26,8 @@ IsAskedBy words (request.Run mode workers) = reads_workload words ≡ true
 IsAskedBy words request.Lint = asks (codes "lint") words ≡ true
 IsAskedBy words request.Check = asks (codes "check") words ≡ true
 IsAskedBy words (request.Trace mode workers) = asks (codes "trace") words ≡ true
-IsAskedBy words request.Chart = shows_trace words ≡ true
-IsAskedBy words (request.Stats format) = shows_trace words ≡ true
+IsAskedBy words (request.Chart range) = shows_trace words ≡ true
+IsAskedBy words (request.Stats numbers) = shows_trace words ≡ true
 IsAskedBy words (request.Help text) = asks_alone (codes "check") words ≡ false
 
 -- ---- what a subcommand and its values ask for
@@ -46,7 +48,22 @@ SubmitsBy rows Live = (one_of (codes "live") rows ≢ None) × (one_of (codes "l
 
 abbrev pub IsFormat : List Row → Format → Type 0
 IsFormat rows format.Json = first_of (codes "format") rows ≡ Some (codes "json")
-IsFormat rows format.Text = first_of (codes "format") rows ≢ Some (codes "json")
+IsFormat rows format.Csv = first_of (codes "format") rows ≡ Some (codes "csv")
+IsFormat rows format.Text = (first_of (codes "format") rows ≢ Some (codes "json")) × (first_of (codes "format") rows ≢ Some (codes "csv"))
+
+-- whether a flag is given
+abbrev pub IsFlag : Text → List Row → Bool → Type 0
+IsFlag id rows true = first_of id rows ≡ Some (codes "true")
+IsFlag id rows false = first_of id rows ≢ Some (codes "true")
+
+-- which picks of a trace are looked at
+abbrev pub IsRange : List Row → Range → Type 0
+IsRange rows range = IsNumber 64 (codes "from") rows range.first × IsNumber 64 (codes "to") rows range.last
+
+-- which numbers of a trace are wanted
+abbrev pub AreNumbers : List Row → Numbers → Type 0
+AreNumbers rows numbers = IsRange rows numbers.range × IsNumber 64 (codes "window") rows numbers.window
+    × IsFlag (codes "backlogged") rows numbers.backlogged × IsFormat rows numbers.format
 
 -- the mode of a run whose report is wanted
 abbrev pub RunsBy : Given → Mode → Type 0
@@ -61,8 +78,8 @@ IsRequestOf given request.Lint = given.0 ≡ codes "lint"
 IsRequestOf given request.Check = given.0 ≡ codes "check"
 IsRequestOf given (request.Trace mode workers) =
     (given.0 ≡ codes "trace") × SubmitsBy given.1 mode × IsNumber 8 (codes "workers") given.1 workers
-IsRequestOf given request.Chart = given.0 ≡ codes "chart"
-IsRequestOf given (request.Stats format) = (given.0 ≡ codes "stats") × IsFormat given.1 format
+IsRequestOf given (request.Chart range) = (given.0 ≡ codes "chart") × IsRange given.1 range
+IsRequestOf given (request.Stats numbers) = (given.0 ≡ codes "stats") × AreNumbers given.1 numbers
 IsRequestOf given (request.Help text) = ⊥
 
 -- ---- what words ask for

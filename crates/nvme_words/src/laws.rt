@@ -1,7 +1,7 @@
 //! Laws of the command line, over the definitions alone. Each function does nothing: its contract is the law.
-ghost use Rattle.std.specs.Prelude.{[], None, Some, codes};
+ghost use Rattle.std.specs.Prelude.{[], None, Some, codes, true};
 ghost use Rattle.clap.specs.declared.error.kind.ErrorKind.TheVariants as kind;
-ghost use Rattle.nvme_words.specs.Examples.{AsksFor, AsksForNothing, AsksForOneThing, HasFault, NamesFile, RefusesBy, ShowsText, alone, chart_file, check_file, lint_file, lint_input, live_0, live_8, loaded_2, loaded_9, once_8, once_most, once_none, once_too_many, run_file, run_live_3, run_two_files, stats_json, stats_xml, trace_2, trace_live};
+ghost use Rattle.nvme_words.specs.Examples.{AsksFor, AsksForNothing, AsksForOneThing, HasFault, NamesFile, RefusesBy, ShowsText, all_numbers, all_picks, alone, chart_file, chart_from_0, check_file, lint_file, lint_input, live_0, live_8, loaded_2, loaded_9, once_8, once_most, once_none, once_too_many, run_file, run_live_3, run_two_files, stats_json, stats_part, stats_xml, trace_2, trace_live};
 ghost use Rattle.nvme_words.specs.declared.requests.Format.TheVariants as format;
 ghost use Rattle.nvme_words.specs.declared.requests.Request.TheVariants as request;
 ghost use Rattle.nvme_lane.specs.declared.mode.Mode.TheVariants.{Loaded, Live};
@@ -19,9 +19,10 @@ pub fn lines_ask_for()
     ensures check { AsksFor (alone (codes "check")) request.Check }
     ensures trace { AsksFor trace_2 (request.Trace Loaded 2) }
     ensures trace_live { AsksFor trace_live (request.Trace Live 1) }
-    ensures chart { AsksFor chart_file request.Chart }
-    ensures stats { AsksFor (alone (codes "stats")) (request.Stats format.Text) }
-    ensures stats_json { AsksFor stats_json (request.Stats format.Json) }
+    ensures chart { AsksFor chart_file (request.Chart all_picks) }
+    ensures stats { AsksFor (alone (codes "stats")) (request.Stats (all_numbers format.Text)) }
+    ensures stats_json { AsksFor stats_json (request.Stats (all_numbers format.Json)) }
+    ensures stats_part { AsksFor stats_part (request.Stats (record { range = record { first = 2; last = 9 }; window = 3; backlogged = true; format = format.Csv })) }
 {}
 
 /// Each worked line with a fault is refused for that fault.
@@ -36,6 +37,7 @@ pub fn lines_have_faults()
     ensures workers { HasFault loaded_9 kind.ValueValidation }
     ensures two_files { HasFault run_two_files kind.UnknownArgument }
     ensures format { HasFault stats_xml kind.InvalidValue }
+    ensures first_pick { HasFault chart_from_0 kind.ValueValidation }
 {}
 
 /// A line that asks for help or for the version is answered with that text. A line with a fault is refused.

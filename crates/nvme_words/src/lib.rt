@@ -9,4 +9,4 @@ mod requests;
 
 pub use files::file_named;
 pub use laws::{lines_ask_for, lines_have_faults, lines_name_files, lines_show_text, one_request};
-pub use requests::{Format, Request, WordsError, asked_of};
+pub use requests::{Format, Numbers, Range, Request, WordsError, asked_of};

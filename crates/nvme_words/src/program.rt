@@ -1,7 +1,7 @@
 // The command line of the program, by `clap`.
 ghost use Rattle.std.specs.Prelude.{◌≡◌, IfOk, codes};
 ghost use Rattle.clap.specs.Words.{App, app_of};
-ghost use Rattle.nvme_words.specs.CommandLine.{OnCommandLine, blocks, file, lint, mode, once, option, run, stats, trace, with_file, with_input, with_trace, workers};
+ghost use Rattle.nvme_words.specs.CommandLine.{OnCommandLine, backlogged, blocks, file, first, last, lint, mode, once, option, ranged, run, stats, trace, window, with_file, with_input, with_trace, workers};
 ghost use Rattle.nvme_words.specs.inside.Built.{AddsIfMade, HasApp, HasRule};
 
 use clap::builder::ValueParser;
@@ -10,7 +10,7 @@ use nvme_pool::MAX_WORKERS;
 use nvme_version::VERSION;
 use std::alloc::{AllocError, Global};
 
-const FORMATS: &[&str] = &["text", "json"];
+const FORMATS: &[&str] = &["text", "json", "csv"];
 
 // The text below the help.
 const AFTER_HELP: &str = "\
@@ -26,6 +26,7 @@ Input:
 Ranges:
   N               1 to 8 workers
   B               1 to 9223372036854775807 logical blocks
+  FIRST, LAST     numbers of picks, counted from 1, both included
 
 Exit status:
   0  done; with lint there is nothing to say, with check each pick is lawful
@@ -154,19 +155,72 @@ fn trace_command<'a>(
     Command::new(alloc, name).about(about).arg(file)
 }
 
+// From which pick of a trace on it is looked at.
+fn first_arg<'a>(alloc: Global) -> Arg<'a>
+    ensures { HasRule first result }
+{
+    let range = value_parser!(u64).range(1..=i64::MAX);
+    let help = "The number of the first pick to look at";
+    option_arg(alloc, "from", "FIRST", help, range).default_value("1")
+}
+
+// Up to which pick of a trace it is looked at.
+fn last_arg<'a>(alloc: Global) -> Arg<'a>
+    ensures { HasRule last result }
+{
+    let range = value_parser!(u64).range(1..=i64::MAX);
+    let help = "The number of the last pick to look at";
+    option_arg(alloc, "to", "LAST", help, range)
+        .default_value("9223372036854775807")
+        .hide_default_value(true)
+}
+
+// How many picks a window has.
+fn window_arg<'a>(alloc: Global) -> Arg<'a>
+    ensures { HasRule window result }
+{
+    let range = value_parser!(u64).range(0..=i64::MAX);
+    let help = "Tell shares by windows of N picks, in at most 4096 rows";
+    option_arg(alloc, "window", "N", help, range)
+        .default_value("0")
+        .hide_default_value(true)
+}
+
+// Whether only picks count at which each I/O queue has waiting commands.
+fn backlogged_arg<'a>(alloc: Global) -> Arg<'a>
+    ensures { HasRule backlogged result }
+{
+    Arg::new(alloc, "backlogged")
+        .long("backlogged")
+        .help("Count only picks at which each I/O queue has waiting commands")
+        .action(ArgAction::SetTrue)
+}
+
+// A subcommand that shows a part of a trace.
+fn ranged_command<'a>(
+    alloc: Global,
+    name: &'a str,
+    about: &'a str,
+) -> Result<Command<'a>, AllocError>
+    ensures { IfOk result (HasApp (ranged name.now)) }
+{
+    trace_command(alloc, name, about)?
+        .arg(first_arg(alloc))?
+        .arg(last_arg(alloc))
+}
+
 // The subcommand that tells what a trace shows in numbers.
 fn stats_command<'a>(alloc: Global, formats: &'a [&'a str]) -> Result<Command<'a>, AllocError>
     ensures { IfOk result (HasApp (stats formats.entry)) }
 {
-    let help = "A table for people, or one JSON object";
+    let help = "Tables for people, one JSON object, or comma-separated values";
     let names = ValueParser::Names(formats);
     let format = option_arg(alloc, "format", "FORMAT", help, names).default_value("text");
-    trace_command(
-        alloc,
-        "stats",
-        "Prints picks, shares and waits of each queue of a trace",
-    )?
-    .arg(format)
+    let about = "Prints picks, shares and waits of each queue of a trace";
+    ranged_command(alloc, "stats", about)?
+        .arg(backlogged_arg(alloc))?
+        .arg(window_arg(alloc))?
+        .arg(format)
 }
 
 // A program with one more subcommand. It takes and propagates `AllocError`, so that the caller has one exit.
@@ -213,7 +267,7 @@ fn with_trace<'a>(
     let check = "Tells whether each pick of a trace is the lawful one";
     let chart = "Prints a picture of a trace as SVG";
     let program = with(Ok(program), trace_command(alloc, "check", check));
-    let program = with(program, trace_command(alloc, "chart", chart));
+    let program = with(program, ranged_command(alloc, "chart", chart));
     with(program, stats_command(alloc, formats))
 }
 

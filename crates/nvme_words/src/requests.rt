@@ -2,8 +2,8 @@
 ghost use Rattle.std.specs.Prelude.{IfOk, IfSome, codes};
 ghost use Rattle.clap.specs.Words.{found_of, kind_of, rows_of, subcommand_rows_of};
 ghost use Rattle.nvme_words.specs.CommandLine.{OnCommandLine};
-ghost use Rattle.nvme_words.specs.Requests.{IsAnswerTo, IsAskedBy, IsFormat, SubmitsBy};
-ghost use Rattle.nvme_words.specs.inside.Found.{IsNumberIfAny, IsRequestIfAny, IsRequestOfIfAny, IsTextFor};
+ghost use Rattle.nvme_words.specs.Requests.{AreNumbers, IsAnswerTo, IsAskedBy, IsFlag, IsFormat, IsRange, SubmitsBy};
+ghost use Rattle.nvme_words.specs.inside.Found.{IsNumberIfAny, IsOneIfAny, IsRequestIfAny, IsRequestOfIfAny, IsTextFor};
 
 use crate::asking::{asks, asks_alone};
 use crate::program::program;
@@ -13,6 +13,28 @@ use nvme_lane::Mode;
 use std::alloc::{AllocError, Global};
 use thiserror::Error;
 
+/// Which picks of a trace are looked at: from the first to the last, both included, counted from 1.
+#[derive(Clone, Copy, Debug, PartialEq, Eq)]
+pub struct Range {
+    /// The number of the first pick.
+    pub first: u64,
+    /// The number of the last pick.
+    pub last: u64,
+}
+
+/// Which numbers of a trace statistics tell.
+#[derive(Clone, Copy, Debug, PartialEq, Eq)]
+pub struct Numbers {
+    /// The picks that are looked at.
+    pub range: Range,
+    /// How many picks a window has, whose shares are told. 0 for no windows.
+    pub window: u64,
+    /// Whether only picks count at which each I/O queue has waiting commands.
+    pub backlogged: bool,
+    /// How they are written.
+    pub format: Format,
+}
+
 /// How statistics are written.
 #[derive(Clone, Copy, Debug, PartialEq, Eq)]
 pub enum Format {
@@ -20,6 +42,8 @@ pub enum Format {
     Text,
     /// One JSON object.
     Json,
+    /// Comma-separated values.
+    Csv,
 }
 
 /// What the words ask for.
@@ -35,9 +59,9 @@ pub enum Request {
     /// The trace of a run of a workload in this mode, with this many workers, 1 to 8.
     Trace(Mode, u8),
     /// A picture of a trace, as SVG.
-    Chart,
+    Chart(Range),
     /// Statistics of a trace.
-    Stats(Format),
+    Stats(Numbers),
     /// The text of the help, or the version.
     Help(clap::Error),
 }
@@ -73,6 +97,7 @@ fn format_of(matches: &ArgMatches) -> Format
 {
     match matches.get_str("format") {
         Some("json") => Format::Json,
+        Some("csv") => Format::Csv,
         _ => Format::Text,
     }
 }
@@ -91,6 +116,60 @@ fn workers_of(matches: &ArgMatches) -> Option<u8>
     matches.get_one::<u8>("workers")
 }
 
+// Whether only picks count at which each I/O queue has waiting commands.
+fn backlogged_of(matches: &ArgMatches) -> bool
+    ensures { IsFlag (codes "backlogged") (rows_of (found_of matches.now)) result }
+{
+    match matches.get_str("backlogged") {
+        Some("true") => true,
+        _ => false,
+    }
+}
+
+// The number of the first pick that is looked at.
+fn first_of(matches: &ArgMatches) -> Option<u64>
+    ensures { IsNumberIfAny 64 (codes "from") (rows_of (found_of matches.now)) result }
+{
+    matches.get_one::<u64>("from")
+}
+
+// The number of the last pick that is looked at.
+fn last_of(matches: &ArgMatches) -> Option<u64>
+    ensures { IsNumberIfAny 64 (codes "to") (rows_of (found_of matches.now)) result }
+{
+    matches.get_one::<u64>("to")
+}
+
+// How many picks a window has.
+fn window_of(matches: &ArgMatches) -> Option<u64>
+    ensures { IsNumberIfAny 64 (codes "window") (rows_of (found_of matches.now)) result }
+{
+    matches.get_one::<u64>("window")
+}
+
+// The picks that are looked at.
+fn range_of(matches: &ArgMatches) -> Option<Range>
+    ensures { IsOneIfAny (IsRange (rows_of (found_of matches.now))) result }
+{
+    let first = first_of(matches)?;
+    let last = last_of(matches)?;
+    Some(Range { first, last })
+}
+
+// The numbers that are told.
+fn numbers_of(matches: &ArgMatches) -> Option<Numbers>
+    ensures { IsOneIfAny (AreNumbers (rows_of (found_of matches.now))) result }
+{
+    let range = range_of(matches)?;
+    let window = window_of(matches)?;
+    Some(Numbers {
+        range,
+        window,
+        backlogged: backlogged_of(matches),
+        format: format_of(matches),
+    })
+}
+
 // What a subcommand and its values ask for: none where there is no such subcommand, or a number is missing.
 fn request_of(name: &str, matches: &ArgMatches) -> Option<Request>
     ensures { IsRequestOfIfAny (name.now, rows_of (found_of matches.now)) result }
@@ -103,8 +182,8 @@ fn request_of(name: &str, matches: &ArgMatches) -> Option<Request>
         "lint" => Some(Request::Lint),
         "check" => Some(Request::Check),
         "trace" => Some(Request::Trace(mode_of(matches), workers_of(matches)?)),
-        "chart" => Some(Request::Chart),
-        "stats" => Some(Request::Stats(format_of(matches))),
+        "chart" => Some(Request::Chart(range_of(matches)?)),
+        "stats" => Some(Request::Stats(numbers_of(matches)?)),
         _ => None,
     }
 }

@@ -7,15 +7,17 @@ ghost use Rattle.nvme_sim.specs.declared.commands.Answer.TheVariants as answer;
 
 use super::Answer;
 use crate::faults::Fault;
-use nvme_chart::chart;
+use nvme_chart::{Selection, chart};
+use nvme_words::Range;
 use std::alloc::Global;
 use std::io::{Read, Write};
 
-/// Writes a picture of a trace, as SVG.
+/// Writes a picture of the picks of a trace in a range, as SVG.
 #[tactic(auto, using(crate::proofs::Inputs::faulty_shown, crate::proofs::Inputs::is_trace))]
 #[inline(never)]
 pub(super) fn charted<R: Read + Drop, W: Write>(
     alloc: Global,
+    range: Range,
     input: R,
     output: &mut W,
 ) -> Result<Answer, Fault>
@@ -25,7 +27,12 @@ pub(super) fn charted<R: Read + Drop, W: Write>(
     ensures untouched { IfErr result (λ e. (e ≡ fault.Write) ⊎ (output.new ≡ output.old)) }
     ensures failed { IfErr result (λ e. (output.new ≡ output.old) ⊎ IfSome (R.remaining input) IsTrace) }
 {
-    let picture = match chart(alloc, input) {
+    let selection = Selection {
+        first: range.first,
+        last: range.last,
+        backlogged: false,
+    };
+    let picture = match chart(alloc, input, selection) {
         Ok(picture) => picture,
         Err(error) => return Err(Fault::Trace(error)),
     };

@@ -7,17 +7,17 @@ ghost use Rattle.nvme_sim.specs.declared.commands.Answer.TheVariants as answer;
 
 use super::Answer;
 use crate::faults::Fault;
-use nvme_chart::stats;
-use nvme_words::Format;
+use nvme_chart::{Selection, stats};
+use nvme_words::{Format, Numbers};
 use std::alloc::Global;
 use std::io::{Read, Write};
 
-/// Writes statistics of a trace, as text or as JSON.
+/// Writes statistics of a trace, as text, as JSON or as comma-separated values.
 #[tactic(auto, using(crate::proofs::Inputs::faulty_shown, crate::proofs::Inputs::is_trace))]
 #[inline(never)]
 pub(super) fn counted<R: Read + Drop, W: Write>(
     alloc: Global,
-    format: Format,
+    numbers: Numbers,
     input: R,
     output: &mut W,
 ) -> Result<Answer, Fault>
@@ -27,13 +27,20 @@ pub(super) fn counted<R: Read + Drop, W: Write>(
     ensures untouched { IfErr result (λ e. (e ≡ fault.Write) ⊎ (output.new ≡ output.old)) }
     ensures failed { IfErr result (λ e. (output.new ≡ output.old) ⊎ IfSome (R.remaining input) IsTrace) }
 {
-    let statistics = match stats(alloc, input) {
+    let selection = Selection {
+        first: numbers.range.first,
+        last: numbers.range.last,
+        backlogged: numbers.backlogged,
+    };
+    let window = Some(numbers.window).filter(|window| *window > 0);
+    let statistics = match stats(alloc, input, selection, window) {
         Ok(statistics) => statistics,
         Err(error) => return Err(Fault::Trace(error)),
     };
-    let written = match format {
+    let written = match numbers.format {
         Format::Text => statistics.write_text(output),
         Format::Json => statistics.write_json(output),
+        Format::Csv => statistics.write_csv(output),
     };
     match written {
         Ok(()) => Ok(Answer::Done),

@@ -2,6 +2,7 @@ use Rattle.std.proofs.Common.{[]}
 use Rattle.std.proofs.lemmas.Result.{err_from_is_err_and}
 use Rattle.nvme_arbiter.specs.History.{History}
 use Rattle.nvme_trace.specs.declared.reading.Head.{Head}
+use Rattle.nvme_chart.specs.Chosen.{chosen}
 use Rattle.nvme_chart.specs.Counted.{IsPictured}
 use Rattle.nvme_chart.specs.Shown.{IsShown}
 use Rattle.nvme_chart.proofs.ShowLemmas.{shown_at, fault_at, head_fault_at}
@@ -23,7 +24,7 @@ returns-clause-pictured g c =
     shown_at _ (λ (h : Head). IsPictured h [] c.new-picture.result) (g.R.Read.remaining c.args.reader) c.new-trace.result.rest c.head.new.self.rest c.in_ok-head.head
     c.new-trace.ensures.rest c.in_ok-head.ensures.ok c.new-picture.ensures
     (λ text h took starts.
-    let shown : IsShown text (λ (head : Head) (past : History). IsPictured head past c.show.new.watcher) = c.in_ok-show.ensures.shown text h took starts in
+    let shown : IsShown text (λ (head : Head) (past : History). IsPictured head (chosen c.args.selection past) c.show.new.watcher) = c.in_ok-show.ensures.shown text h took starts in
     let holds = shown.holds in
     record {
       head = shown.head;

@@ -1,6 +1,7 @@
 use Rattle.std.proofs.Common.{[]}
 use Rattle.std.proofs.lemmas.Result.{err_from_is_err_and}
 use Rattle.nvme_trace.specs.declared.reading.Head.{Head}
+use Rattle.nvme_chart.specs.Chosen.{chosen}
 use Rattle.nvme_chart.specs.Counted.{IsCounted}
 use Rattle.nvme_chart.proofs.ShowLemmas.{shown_at, fault_at, head_fault_at}
 use Rattle.nvme_chart.proofs.counting.stats.Goals as goal
@@ -18,5 +19,5 @@ returns-in_err-show-clause-fault g c =
 
 pub returns-clause-counted : goal.returns-clause-counted
 returns-clause-counted g c =
-    shown_at (λ h past. IsCounted h past c.show.new.watcher) (λ (h : Head). IsCounted h [] c.new-counted.result) (g.R.Read.remaining c.args.reader) c.new-trace.result.rest c.head.new.self.rest c.in_ok-head.head
+    shown_at (λ h past. IsCounted h (chosen c.args.selection past) c.show.new.watcher) (λ (h : Head). IsCounted h [] c.new-counted.result) (g.R.Read.remaining c.args.reader) c.new-trace.result.rest c.head.new.self.rest c.in_ok-head.head
     c.new-trace.ensures.rest c.in_ok-head.ensures.ok c.new-counted.ensures c.in_ok-show.ensures.shown

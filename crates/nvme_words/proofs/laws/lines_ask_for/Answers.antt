@@ -1,9 +1,12 @@
 -- Each line is computed.
-use Rattle.std.proofs.Common.{◌≡◌, List, Some, codes, refl, inl, inr, arith}
+use Rattle.std.proofs.Common.{◌≡◌, true, false, List, Some, codes, refl, inl, inr, arith}
+use Rattle.std.specs.Str.Parse.{digits_value, without_leading_plus}
+use Rattle.clap.specs.ValueTests.{accepts}
 use Rattle.clap.specs.Words.{Text, first_of, one_of}
+use Rattle.clap.specs.declared.builder.value_parser.ValueParser.TheVariants as vp
 use Rattle.clap.proofs.OnLiterals.{clap_on_literals}
-use Rattle.nvme_words.specs.Examples.{alone, chart_file, lint_input, live_8, loaded_2, once_8, once_most, run_file, run_live_3, stats_json, trace_2, trace_live}
-use Rattle.nvme_words.specs.Requests.{SubmitsBy}
+use Rattle.nvme_words.specs.Examples.{all_numbers, all_picks, alone, chart_file, lint_input, live_8, loaded_2, once_8, once_most, run_file, run_live_3, stats_json, stats_part, trace_2, trace_live}
+use Rattle.nvme_words.specs.Requests.{IsRange, SubmitsBy}
 use Rattle.nvme_words.specs.declared.requests.Format.TheVariants as format
 use Rattle.nvme_words.specs.declared.requests.Request.TheVariants as request
 use Rattle.nvme_lane.specs.declared.mode.Mode.TheVariants.{Loaded, Live}
@@ -56,14 +59,56 @@ pub returns-clause-trace_live : goal.returns-clause-trace_live
 unfolding clap_on_literals
 returns-clause-trace_live c = line_asks (codes "trace") _ (given_at trace_live) (request.Trace Live 1) refl (refl, is_live trace_live refl, number_of 8 255 (codes "workers") (codes "1") (given_at trace_live).1 refl refl (omega arith)) (λ p q r. (refl, refl))
 
+-- the range that a line gives
+range_given : (line : List Text) (f t : Text) → one_of (codes "from") (given_at line).1 ≡ Some f → one_of (codes "to") (given_at line).1 ≡ Some t
+    → accepts false (vp.Unsigned 0 18446744073709551615) f ≡ true → accepts false (vp.Unsigned 0 18446744073709551615) t ≡ true
+    → IsRange (given_at line).1 (record { first = digits_value 10 (without_leading_plus f); last = digits_value 10 (without_leading_plus t) })
+range_given line f t first last one two = (
+  number_of 64 18446744073709551615 (codes "from") f (given_at line).1 first one (omega arith),
+  number_of 64 18446744073709551615 (codes "to") t (given_at line).1 last two (omega arith),
+)
+
 pub returns-clause-chart : goal.returns-clause-chart
 unfolding clap_on_literals
-returns-clause-chart c = line_asks (codes "chart") _ (given_at chart_file) (request.Chart) refl refl (λ p q r. (refl, refl))
+returns-clause-chart c = line_asks (codes "chart") _ (given_at chart_file) (request.Chart all_picks) refl
+    (refl, range_given chart_file (codes "1") (codes "9223372036854775807") refl refl refl refl) (λ p q r. (refl, refl))
 
 pub returns-clause-stats : goal.returns-clause-stats
 unfolding clap_on_literals
-returns-clause-stats c = line_asks (codes "stats") _ (given_at (alone (codes "stats"))) (request.Stats format.Text) refl (refl, other_text (first_of (codes "format") (given_at (alone (codes "stats"))).1) (codes "text") (codes "json") refl refl) (λ p q r. (refl, refl))
+returns-clause-stats c = line_asks (codes "stats") _ (given_at (alone (codes "stats"))) (request.Stats (all_numbers format.Text)) refl (
+  refl,
+  (
+    range_given (alone (codes "stats")) (codes "1") (codes "9223372036854775807") refl refl refl refl,
+    number_of 64 18446744073709551615 (codes "window") (codes "0") (given_at (alone (codes "stats"))).1 refl refl (omega arith),
+    other_text (first_of (codes "backlogged") (given_at (alone (codes "stats"))).1) (codes "false") (codes "true") refl refl,
+    (
+      other_text (first_of (codes "format") (given_at (alone (codes "stats"))).1) (codes "text") (codes "json") refl refl,
+      other_text (first_of (codes "format") (given_at (alone (codes "stats"))).1) (codes "text") (codes "csv") refl refl,
+    ),
+  ),
+) (λ p q r. (refl, refl))
 
 pub returns-clause-stats_json : goal.returns-clause-stats_json
 unfolding clap_on_literals
-returns-clause-stats_json c = line_asks (codes "stats") _ (given_at stats_json) (request.Stats format.Json) refl (refl, refl) (λ p q r. (refl, refl))
+returns-clause-stats_json c = line_asks (codes "stats") _ (given_at stats_json) (request.Stats (all_numbers format.Json)) refl (
+  refl,
+  (
+    range_given stats_json (codes "1") (codes "9223372036854775807") refl refl refl refl,
+    number_of 64 18446744073709551615 (codes "window") (codes "0") (given_at stats_json).1 refl refl (omega arith),
+    other_text (first_of (codes "backlogged") (given_at stats_json).1) (codes "false") (codes "true") refl refl,
+    refl,
+  ),
+) (λ p q r. (refl, refl))
+
+pub returns-clause-stats_part : goal.returns-clause-stats_part
+unfolding clap_on_literals
+returns-clause-stats_part c = line_asks (codes "stats") _ (given_at stats_part)
+    (request.Stats (record { range = record { first = 2; last = 9 }; window = 3; backlogged = true; format = format.Csv })) refl (
+      refl,
+      (
+        range_given stats_part (codes "2") (codes "9") refl refl refl refl,
+        number_of 64 18446744073709551615 (codes "window") (codes "3") (given_at stats_part).1 refl refl (omega arith),
+        refl,
+        refl,
+      ),
+    ) (λ p q r. (refl, refl))

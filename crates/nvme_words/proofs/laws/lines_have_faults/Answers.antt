@@ -1,7 +1,7 @@
 -- Each line is computed.
 use Rattle.std.proofs.Common.{[], codes, refl}
 use Rattle.clap.proofs.OnLiterals.{clap_on_literals}
-use Rattle.nvme_words.specs.Examples.{alone, live_0, loaded_9, once_none, once_too_many, run_two_files, stats_xml}
+use Rattle.nvme_words.specs.Examples.{alone, chart_from_0, live_0, loaded_9, once_none, once_too_many, run_two_files, stats_xml}
 use Rattle.clap.specs.declared.error.kind.ErrorKind.TheVariants as kind
 use Rattle.nvme_words.proofs.Lines.{line_fault}
 use Rattle.nvme_words.proofs.laws.lines_have_faults.Goals as goal
@@ -45,3 +45,7 @@ returns-clause-no_block c = line_fault once_none kind.ValueValidation (λ p q r.
 pub returns-clause-no_worker : goal.returns-clause-no_worker
 unfolding clap_on_literals
 returns-clause-no_worker c = line_fault live_0 kind.ValueValidation (λ p q r. refl)
+
+pub returns-clause-first_pick : goal.returns-clause-first_pick
+unfolding clap_on_literals
+returns-clause-first_pick c = line_fault chart_from_0 kind.ValueValidation (λ p q r. refl)

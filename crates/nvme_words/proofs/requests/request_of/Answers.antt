@@ -1,6 +1,6 @@
 use Rattle.std.proofs.Common.{rules, ◌≡◌, None}
 use Rattle.clap.specs.Words.{found_of, rows_of}
-use Rattle.nvme_words.proofs.Reading.{no_blocks, no_workers}
+use Rattle.nvme_words.proofs.Reading.{no_blocks, no_numbers, no_range, no_workers}
 use Rattle.nvme_words.proofs.requests.request_of.Goals as goal
 
 pub returns-in_err-blocks_of-in-once : goal.returns-in_err-blocks_of-in-once
@@ -32,3 +32,15 @@ returns-in_err-workers_of-in-trace c =
     let none : c.workers_of-in-trace.result ≡ None = search rules in
     let left : c.from_residual-in_err-workers_of-in-trace.result ≡ None = search rules in
     rw left (no_workers (c.args.name.now, rows_of (found_of c.args.matches.now)) (search rules) (search rules) (search rules) (search rules) (search rules) (rw none at c.workers_of-in-trace.ensures))
+
+pub returns-in_err-range_of-in-chart : goal.returns-in_err-range_of-in-chart
+returns-in_err-range_of-in-chart c =
+    let none : c.range_of.result ≡ None = search rules in
+    let left : c.from_residual-in_err-range_of-in-chart.result ≡ None = search rules in
+    rw left (no_range (c.args.name.now, rows_of (found_of c.args.matches.now)) (search rules) (rw none at c.range_of.ensures))
+
+pub returns-in_err-numbers_of-in-stats : goal.returns-in_err-numbers_of-in-stats
+returns-in_err-numbers_of-in-stats c =
+    let none : c.numbers_of.result ≡ None = search rules in
+    let left : c.from_residual-in_err-numbers_of-in-stats.result ≡ None = search rules in
+    rw left (no_numbers (c.args.name.now, rows_of (found_of c.args.matches.now)) (search rules) (rw none at c.numbers_of.ensures))
