@@ -96,6 +96,10 @@ module _ (rules : FrontRules) (one other : Executor) (now : Past) (alike : Answe
       (own-too later past c r i cqe is h.0, posts-too (later ++ Post c r i cqe ∷ []) past (is ∙ sym (append_assoc later (Post c r i cqe ∷ []) past)) h.1)
   posts-too later (e ∷ past) is h = (tt, posts-too (later ++ e ∷ []) past (is ∙ sym (append_assoc later (e ∷ []) past)) h.1)
 
+pub posts-alike : (rules : FrontRules) (one other : Executor) (past : Past) → AnswerAlike past one other → Each (EffectsAtOnce rules) past
+    → Each (PostsOwnBy rules one) past → Each (PostsOwnBy rules other) past
+posts-alike rules one other past alike effects = posts-too rules one other past alike effects [] past refl
+
 pub accounts_answer_alike : AccountsAnswerAlike
 accounts_answer_alike rules one other sent past collected alike h = record {
   fetched_in_order = h.fetched_in_order;
@@ -105,7 +109,7 @@ accounts_answer_alike rules one other sent past collected alike h = record {
   effects_at_once = h.effects_at_once;
   effects_whole = h.effects_whole;
   deletes = h.deletes;
-  posts_own = posts-too rules one other past alike h.effects_at_once [] past refl h.posts_own;
+  posts_own = posts-alike rules one other past alike h.effects_at_once h.posts_own;
   leaves_places = h.leaves_places;
   lawful = h.lawful;
   collected_in_order = h.collected_in_order;
