@@ -14,3 +14,5 @@ pub mod Queues
 pub mod Board
 pub mod Service
 pub mod ServiceExamples
+pub mod Specified
+pub mod SpecifiedExamples

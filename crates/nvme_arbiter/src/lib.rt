@@ -17,6 +17,7 @@ mod rules;
 mod seek;
 pub mod service;
 mod settings;
+pub mod specified;
 
 pub use arbiter::Arbiter;
 pub use board::Board;
