@@ -133,7 +133,7 @@ pub record IsFrom (last : Class → Option ℕ) (seen : List Seen) (class : Clas
   pub next_is : next (last class) (ready_of class seen) ≡ Some queue
   pub taken_is : IsTaken fresh number queue p
 
-from_class : (last : Class → Option ℕ) (seen : List Seen) (class : Class) (fresh : Bool) (number : Seen → ℕ) (p : Pick) → take_from fresh number (next (last class) (ready_of class seen)) ≡ Some p → IsFrom last seen class fresh number p
+pub from_class : (last : Class → Option ℕ) (seen : List Seen) (class : Class) (fresh : Bool) (number : Seen → ℕ) (p : Pick) → take_from fresh number (next (last class) (ready_of class seen)) ≡ Some p → IsFrom last seen class fresh number p
 from_class last seen class fresh number p h =
     let t = take_from_some fresh number (next (last class) (ready_of class seen)) p h in
     record { queue = t.0; next_is = t.1; taken_is = t.2 }

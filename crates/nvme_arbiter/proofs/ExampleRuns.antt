@@ -43,7 +43,7 @@ run_by_test m first (Picked seen pick ∷ past) h =
     let b = and_parts (is_pick pick (lawful_pick m first past seen)) (is_lawful_run m first past) a.1 in
     (observation_by_test seen a.0, pick_from pick (lawful_pick m first past seen) b.0, run_by_test m first past b.1)
 
-picks_itself : (p : Pick) → is_pick p (Some p) ≡ true
+pub picks_itself : (p : Pick) → is_pick p (Some p) ≡ true
 unfolding is_pick
 picks_itself p = rw (eq-eqb p.qid p.qid refl) (rw (eq-eqb p.n p.n refl) (beq_itself p.fresh p.fresh refl))
 

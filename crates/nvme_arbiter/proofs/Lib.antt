@@ -9,3 +9,5 @@ pub mod RoundLaws
 pub mod ExampleRuns
 pub mod MaskLemmas
 pub mod ServiceLemmas
+pub mod SpecifiedLaws
+pub mod SpecifiedTests

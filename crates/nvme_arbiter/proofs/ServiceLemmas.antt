@@ -66,7 +66,7 @@ or_seen None b x h = inr (refl, h)
 or_seen (Some y) b x h = inl h
 
 -- ---- how far a queue is from the one served last
-dist : ℕ → Option ℕ → ℕ → ℕ
+pub dist : ℕ → Option ℕ → ℕ → ℕ
 dist base None q = q + 1 - base
 dist base (Some l) q = cond (nat_lt l q) (q - l) (q + 1 - base + (highest_qid - l))
 
@@ -96,7 +96,7 @@ pub record IsBetween (base : ℕ) (s : Seen) : Type 0 where
   pub to_highest : s.qid ≤ highest_qid
 
 -- the next queue is nearer to a ready one that isn't it
-nearer : (base : ℕ) (last : Option ℕ) (xs : List Seen) (p : Seen) (q : ℕ) → All (IsBetween base) xs → next last xs ≡ Some p → list_any (λ s. s.qid == q) xs ≡ true → p.qid ≢ q → dist base (Some p.qid) q < dist base last q
+pub nearer : (base : ℕ) (last : Option ℕ) (xs : List Seen) (p : Seen) (q : ℕ) → All (IsBetween base) xs → next last xs ≡ Some p → list_any (λ s. s.qid == q) xs ≡ true → p.qid ≢ q → dist base (Some p.qid) q < dist base last q
 nearer base None xs p q b h w n =
     let s = at_qid (λ s. p.qid ≤ s.qid) q xs (least_low xs p h) w in
     let low : p.qid ≤ s.0.qid = s.1 in
@@ -141,7 +141,7 @@ nearer base (Some l) xs p q b h w n =
     ]
 
 -- ---- round robin
-between_all : (seen : List Seen) → IsObservation seen → All (IsBetween 0) seen
+pub between_all : (seen : List Seen) → IsObservation seen → All (IsBetween 0) seen
 between_all seen o = λ k d h. let s = o.each k d h in record { from_base = omega arith; to_highest = s.qid }
 
 round_robin_falls : (first : ArbitrationFields) (past : History) (turns : List Turn) (q : ℕ) → IsLawfulRun RoundRobin first (events_of turns ++ past) → list_all (sees_ready q) turns ≡ true → is_picked q turns ≡ false → dist 0 (last_served (events_of turns ++ past)) q + length turns ≤ dist 0 (last_served past) q
@@ -205,7 +205,7 @@ next_chosen s past class t o w (of_admin f) = next_from past class Admin t false
 next_chosen s past class t o w (of_urgent f) = next_from past class Urgent t false (λ q. within_burst (burst_of s) q.count) o w f
 next_chosen s past class t o w (of_level fresh level f) = next_from past class level t fresh (λ q. min (within_burst (burst_of s) q.count) (credit s (λ l. used_in_round l past) fresh level)) o w f.from
 
-next_lawful : (first : ArbitrationFields) (past : History) (class : Class) (t : Turn) → IsObservation t.seen → IsLawfulPick Weighted first past t.seen t.pick → is_of_class class t ≡ true → IsNextOf past class t
+pub next_lawful : (first : ArbitrationFields) (past : History) (class : Class) (t : Turn) → IsObservation t.seen → IsLawfulPick Weighted first past t.seen t.pick → is_of_class class t ≡ true → IsNextOf past class t
 next_lawful first past class t o h w =
     next_chosen (settings_after first past) past class t o w (weighted_some (settings_after first past) (λ c. last_served_of c past) (λ l. used_in_round l past) t.seen t.pick h)
 

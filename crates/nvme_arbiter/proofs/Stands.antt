@@ -64,7 +64,7 @@ last_step : (last : Last) (other : Option Class) (class : Class) (qid : ℕ) (r 
 last_step last None class qid r h = h
 last_step last (Some other) class qid r h = of_class_after last.by_class other class (λ v. Some qid) ∙ ap (λ v. if is_class class other then Some qid else v) h
 
-used_step : (used : Used) (other : Option Class) (level : Class) (n : ℕ) (fresh : Bool) (u : ℕ) → IsLevel level → used_of used level ≡ u → used_of (used_with (used_before fresh used) other n) level ≡ (if is_in_class level other then n else 0) + (if fresh then 0 else u)
+pub used_step : (used : Used) (other : Option Class) (level : Class) (n : ℕ) (fresh : Bool) (u : ℕ) → IsLevel level → used_of used level ≡ u → used_of (used_with (used_before fresh used) other n) level ≡ (if is_in_class level other then n else 0) + (if fresh then 0 else u)
 used_step used other Admin n fresh u l h = absurd l
 used_step used other Urgent n fresh u l h = absurd l
 used_step used (Some High) High n true u l h = omega arith

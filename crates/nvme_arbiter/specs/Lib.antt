@@ -15,3 +15,5 @@ pub mod Layout
 pub mod Service
 pub mod ServiceExamples
 pub mod inside
+pub mod Specified
+pub mod SpecifiedExamples

@@ -18,6 +18,7 @@ mod rules;
 mod seek;
 pub mod service;
 mod settings;
+pub mod specified;
 
 pub use arbiter::Arbiter;
 pub use arbiter_fields::{ArbiterFields, LastFields, UsedFields};
