@@ -9,7 +9,7 @@ use Rattle.nvme_trace.specs.Faults.{IsHeadFault, IsEventFault}
 use Rattle.nvme_trace.specs.Checks.{Tells}
 use Rattle.nvme_trace.specs.declared.fault.TraceError.{TraceError}
 use Rattle.nvme_trace.specs.declared.fault.TraceError.TheVariants as error
-use Rattle.nvme_trace.specs.declared.reading.Head.{Head}
+use Rattle.nvme_trace.specs.declared.records.Head.{Head}
 use Rattle.nvme_chart.specs.Chosen.{chosen, chooses, number_after}
 use Rattle.nvme_chart.specs.declared.selection.Selection.{Selection}
 use Rattle.nvme_chart.specs.Shown.{IsShown, IsReadUpTo, IsReadFault}

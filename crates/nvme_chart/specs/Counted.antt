@@ -2,9 +2,9 @@
 use Rattle.std.specs.Prelude.{◌≡◌, ℕ, ◌+◌, ◌-◌, ◌^◌, min, [], ◌∷◌}
 use Rattle.nvme_arbiter.specs.History.{ArbitrationEvent, Picked, Changed, History, settings_after}
 use Rattle.nvme_trace.specs.Judged.{picks_in}
-use Rattle.nvme_trace.specs.declared.reading.Head.{Head}
-use Rattle.nvme_chart.specs.declared.counting.Statistics.{Statistics}
-use Rattle.nvme_chart.specs.declared.charting.Picture.{Picture}
+use Rattle.nvme_trace.specs.declared.records.Head.{Head}
+use Rattle.nvme_chart.specs.declared.statistics.Statistics.{Statistics}
+use Rattle.nvme_chart.specs.declared.picture.Picture.{Picture}
 
 -- a count of 64 bits stops at its highest
 abbrev pub capped : ℕ → ℕ

@@ -5,7 +5,7 @@ use Rattle.nvme_trace.specs.Lines.{lines_of}
 use Rattle.nvme_trace.specs.Faults.{IsHeadFault, IsEventFault}
 use Rattle.nvme_trace.specs.Checks.{Tells}
 use Rattle.nvme_trace.specs.declared.fault.TraceError.{TraceError}
-use Rattle.nvme_trace.specs.declared.reading.Head.{Head}
+use Rattle.nvme_trace.specs.declared.records.Head.{Head}
 
 -- the text is a head and events of which this holds
 pub record IsShown (text : List ℕ) (P : Head → History → Type 0) : Type 0 where

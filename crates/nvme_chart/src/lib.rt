@@ -2,18 +2,18 @@
 #![tactic(auto)]
 
 mod behind;
-mod charting;
-mod counting;
 mod heading;
 mod histogram;
 mod lanes;
+mod picture;
 mod selection;
 mod series;
 mod share;
+mod statistics;
 mod tally;
 mod waits;
-mod watching;
+mod watch;
 
-pub use charting::{Picture, chart};
-pub use counting::{Statistics, stats};
+pub use picture::{Picture, chart};
 pub use selection::Selection;
+pub use statistics::{Statistics, stats};

@@ -4,7 +4,7 @@ ghost use Rattle.nvme_arbiter.specs.History.{History};
 ghost use Rattle.nvme_chart.specs.Chosen.{chooses, is_backlogged, has_backlog, number_after};
 ghost use Rattle.nvme_trace.specs.Format.{event_view};
 
-use crate::watching::more;
+use crate::watch::more;
 use nvme_arbiter::Seen;
 use nvme_trace::TraceEvent;
 

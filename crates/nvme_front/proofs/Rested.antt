@@ -17,7 +17,7 @@ use Rattle.nvme_lane.specs.declared.drainer.Drainer.{Drainer}
 use Rattle.nvme_pool.specs.Seat.{SeatView}
 use Rattle.nvme_pool.specs.Worker.{WorkerView}
 use Rattle.nvme_front.specs.declared.settled.Settled.{Settled}
-use Rattle.nvme_front.specs.declared.settling.Parts.{Parts}
+use Rattle.nvme_front.specs.declared.settlement.Parts.{Parts}
 use Rattle.nvme_log.specs.Rules.{FrontRules, Past}
 use Rattle.nvme_log.specs.Queues.{Deletion, is_open_region, pending}
 use Rattle.nvme_log.specs.Places.{fetched}

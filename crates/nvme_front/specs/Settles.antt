@@ -10,7 +10,7 @@ use Rattle.nvme_entry.specs.declared.completion.Cqe.{Cqe}
 use Rattle.nvme_front.specs.declared.settled.Settled.{Settled}
 use Rattle.nvme_front.specs.declared.settled.SettleError.{SettleError}
 use Rattle.nvme_front.specs.declared.settled.SettleError.TheVariants.{Strangers, Outstanding, NoMemory}
-use Rattle.nvme_front.specs.declared.settling.Parts.{Parts}
+use Rattle.nvme_front.specs.declared.settlement.Parts.{Parts}
 use Rattle.nvme_log.specs.Rules.{Past}
 use Rattle.nvme_log.specs.Queues.{is_open_region, pending}
 use Rattle.nvme_log.specs.Places.{fetched, waiting, places}

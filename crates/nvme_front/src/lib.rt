@@ -3,26 +3,26 @@
 //! what it keeps beside the log.
 #![tactic(auto)]
 
-mod adding;
-mod applying;
+mod arbitration;
+mod candidates;
+mod completions;
+mod deletion;
+mod effects;
 mod ends;
-mod executing;
-mod fetching;
-mod finishing;
 mod front;
-mod handing;
+mod handover;
+mod last_look;
 pub mod laws;
 mod limits;
-mod logging;
-mod looking;
-mod picking;
-mod posting;
+mod log;
+mod regions;
+mod scan;
 mod settled;
-mod settling;
+mod settlement;
 mod state;
 
 pub use front::{AddError, Front, FrontConfig, FrontError, Step};
-pub use looking::drop_beside;
+pub use last_look::drop_beside;
 pub use nvme_log::{Event, Listed, MAX_EVENTS, MAX_OUTSTANDING};
 pub use settled::{Sent, SettleError, Settled};
-pub use settling::{Parts, settle};
+pub use settlement::{Parts, settle};

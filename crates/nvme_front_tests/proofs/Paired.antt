@@ -12,7 +12,7 @@ use Rattle.nvme_front.specs.Ends.{get_place, put_place}
 use Rattle.nvme_front.specs.View.{FrontView}
 use Rattle.nvme_front.specs.Hosts.{ArePaired, IsFedBy, IsDrainedBy, feeder_place, drainer_place}
 use Rattle.nvme_front.specs.Settles.{HandsBack}
-use Rattle.nvme_front.specs.declared.settling.Parts.{Parts}
+use Rattle.nvme_front.specs.declared.settlement.Parts.{Parts}
 use Rattle.nvme_front.proofs.Hosted.{seen_at, seen-set}
 
 -- a drainer and the completion region at its place are the two ends of one ring

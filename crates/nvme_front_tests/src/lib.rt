@@ -25,10 +25,10 @@ mod refusals;
 #[cfg(test)]
 mod rig;
 #[cfg(test)]
-mod starved;
+mod starvation;
 #[cfg(test)]
 mod threads;
 #[cfg(test)]
 mod windows;
 #[cfg(test)]
-mod working;
+mod workers;

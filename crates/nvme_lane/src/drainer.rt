@@ -1,10 +1,10 @@
 //! Drives the get end of a ring, and keeps what it gets in a list.
 ghost use Rattle.std.specs.Prelude.{◌≡◌};
 
+use crate::contents::beside;
 use crate::errors::NoMemory;
 use crate::get_end::GetEnd;
 use crate::put_end::PutEnd;
-use crate::resting::beside;
 use std::alloc::Global;
 
 /// A get end, with the list of what it got. Its type keeps that the list is all that was got, wherever

@@ -1,10 +1,10 @@
 //! Drives the put end of a ring from a script.
 ghost use Rattle.std.specs.Prelude.{◌≡◌, ◌≤◌, length, take};
 
+use crate::contents::beside;
 use crate::errors::Full;
 use crate::get_end::GetEnd;
 use crate::put_end::PutEnd;
-use crate::resting::beside;
 
 /// What a feeder's step did.
 #[derive(Clone, Copy, PartialEq, Eq, Debug)]

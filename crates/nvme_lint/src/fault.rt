@@ -1,5 +1,5 @@
-use crate::expected::{most_of, value_of};
 use crate::place::Place;
+use crate::values::{most_of, value_of};
 use nvme_workload::{Key, WorkloadError};
 use std::fmt;
 

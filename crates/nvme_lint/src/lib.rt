@@ -2,12 +2,12 @@
 //! has no effect.
 #![tactic(auto)]
 
-mod expected;
 mod fault;
 mod lints;
 mod place;
 mod places;
 mod tables;
+mod values;
 mod warning;
 mod warnings;
 

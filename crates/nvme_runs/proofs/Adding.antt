@@ -15,7 +15,7 @@ use Rattle.nvme_front.specs.Hosts.{drainer_place}
 use Rattle.nvme_front.specs.View.{FrontView, is_address}
 use Rattle.nvme_front.proofs.Addresses.{any_in_map}
 use Rattle.nvme_threads.specs.Hosts.{feeder_seen}
-use Rattle.nvme_threads.specs.declared.loading.SqEnds.{SqEnds}
+use Rattle.nvme_threads.specs.declared.loaded_rings.SqEnds.{SqEnds}
 use Rattle.nvme_runs.specs.inside.Prepared.{StaysFresh, AddsSq, AddsCq, AddsSqs, AddsCqs, sent_by, cq_site, put_site}
 
 -- ---- maps

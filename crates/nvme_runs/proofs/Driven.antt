@@ -13,7 +13,7 @@ use Rattle.nvme_pool.specs.Worker.{WorkerView, SameWorkers, identity_of}
 use Rattle.nvme_pool.proofs.Standing.{pool_stays, same_identity}
 use Rattle.nvme_admin.specs.declared.bounds.TheConstants.{MAX_REGIONS}
 use Rattle.nvme_workload.specs.declared.plan.SqPlan.{SqPlan}
-use Rattle.nvme_front.specs.declared.settling.Parts.{Parts}
+use Rattle.nvme_front.specs.declared.settlement.Parts.{Parts}
 use Rattle.nvme_front.specs.Ends.{get_place, put_place}
 use Rattle.nvme_front.specs.Hosts.{IsFedBy, IsDrainedBy, feeder_place}
 use Rattle.nvme_front.specs.Settles.{HasItsPool}

@@ -16,9 +16,9 @@ use Rattle.nvme_log.proofs.LogLengths.{logs_are_short, sums-less}
 use Rattle.nvme_front.specs.View.{FrontView, AccountsForEnds, got_in, sent_in, past_in}
 use Rattle.nvme_front.specs.declared.front.FrontError.{FrontError}
 use Rattle.nvme_front.specs.declared.front.FrontError.TheVariants as front
-use Rattle.nvme_front.specs.declared.settling.Parts.{Parts}
-use Rattle.nvme_threads.specs.declared.driving.DriveError.{DriveError}
-use Rattle.nvme_threads.specs.declared.driving.DriveError.TheVariants as drive
+use Rattle.nvme_front.specs.declared.settlement.Parts.{Parts}
+use Rattle.nvme_threads.specs.declared.drives.DriveError.{DriveError}
+use Rattle.nvme_threads.specs.declared.drives.DriveError.TheVariants as drive
 use Rattle.nvme_threads.specs.Fed.{FedTurnFails, IsFedFault}
 use Rattle.nvme_runs.specs.declared.runs.RunError.{RunError}
 use Rattle.nvme_runs.specs.Laws.{FrontFaultsAreStrays}

@@ -20,7 +20,7 @@ use Rattle.nvme_log.proofs.WithoutPosts.{effects_since-posts, made_last-posts, p
 use Rattle.nvme_log.proofs.LoadedLaws.{loaded_log_is_one}
 use Rattle.nvme_front.specs.declared.settled.Sent.{Sent}
 use Rattle.nvme_front.specs.declared.settled.Settled.{Settled}
-use Rattle.nvme_front.specs.declared.settling.Parts.{Parts}
+use Rattle.nvme_front.specs.declared.settlement.Parts.{Parts}
 use Rattle.nvme_front.specs.Settles.{settled_past}
 use Rattle.nvme_front.specs.View.{FrontView, GoesOn, past_in}
 use Rattle.nvme_front.specs.LoadedFront.{IsLoadedFront}

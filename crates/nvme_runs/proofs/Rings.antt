@@ -13,7 +13,7 @@ use Rattle.nvme_front.specs.Ends.{get_place}
 use Rattle.nvme_front.specs.Hosts.{feeder_place}
 use Rattle.nvme_front.specs.View.{FrontView}
 use Rattle.nvme_threads.specs.Hosts.{ends_seen}
-use Rattle.nvme_threads.specs.declared.loading.SqEnds.{SqEnds}
+use Rattle.nvme_threads.specs.declared.loaded_rings.SqEnds.{SqEnds}
 use Rattle.nvme_runs.specs.inside.Prepared.{StaysFresh, IsFreshRing, IsRingOf, AddsSq, seen_in}
 
 -- ---- lists that are related place by place

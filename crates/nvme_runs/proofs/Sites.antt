@@ -18,14 +18,14 @@ use Rattle.nvme_workload.specs.declared.plan.CqPlan.{CqPlan}
 use Rattle.nvme_workload.specs.Plan.{Plan}
 use Rattle.nvme_workload.specs.Sound.{AreApart}
 use Rattle.nvme_front.specs.declared.front.FrontConfig.{FrontConfig}
-use Rattle.nvme_front.specs.declared.settling.Parts.{Parts}
+use Rattle.nvme_front.specs.declared.settlement.Parts.{Parts}
 use Rattle.nvme_front.specs.Ends.{get_place, put_place}
 use Rattle.nvme_front.specs.Hosts.{drainer_place}
 use Rattle.nvme_state.specs.Regions.{sq_steps, cq_steps}
 use Rattle.nvme_front.specs.View.{FrontView}
 use Rattle.nvme_runs.specs.Runs.{sq_additions, cq_additions}
 use Rattle.nvme_threads.specs.Hosts.{feeder_seen}
-use Rattle.nvme_threads.specs.declared.loading.SqEnds.{SqEnds}
+use Rattle.nvme_threads.specs.declared.loaded_rings.SqEnds.{SqEnds}
 use Rattle.nvme_runs.specs.inside.Prepared.{IsPrepared, IsRingOf, AddsSqs, AddsCqs, AddsRegions, IsConfigOf, IsFrontOf, seen_in, sq_site, cq_site, get_site, put_site}
 use Rattle.nvme_runs.proofs.Adding.{fresh_then, ring_addresses}
 use Rattle.nvme_runs.proofs.Rings.{one_place, seen_at, zip_maps}

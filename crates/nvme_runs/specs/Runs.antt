@@ -10,8 +10,8 @@ use Rattle.nvme_workload.specs.declared.error.WorkloadError.TheVariants as why
 use Rattle.nvme_workload.specs.declared.plan.SqPlan.{SqPlan}
 use Rattle.nvme_workload.specs.declared.plan.CqPlan.{CqPlan}
 use Rattle.nvme_workload.specs.Plan.{Plan, workload_of}
-use Rattle.nvme_threads.specs.declared.driving.DriveError.{DriveError}
-use Rattle.nvme_threads.specs.declared.driving.DriveError.TheVariants as drive
+use Rattle.nvme_threads.specs.declared.drives.DriveError.{DriveError}
+use Rattle.nvme_threads.specs.declared.drives.DriveError.TheVariants as drive
 use Rattle.nvme_front.specs.declared.settled.Sent.{Sent}
 use Rattle.nvme_front.specs.declared.settled.Settled.{Settled}
 use Rattle.nvme_log.specs.Rules.{FrontRules, Past}

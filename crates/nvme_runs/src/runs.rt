@@ -16,8 +16,8 @@ ghost use Rattle.nvme_runs.specs.RunFaults.{IsTextFault, IsLateFault};
 ghost use Rattle.nvme_runs.specs.RunMeans.{RunMeans};
 ghost use Rattle.nvme_runs.specs.declared.runs.RunError.TheVariants as fault;
 
-mod preparing;
-mod settling;
+mod settlement;
+mod setup;
 
 use nvme_arbiter::{Mechanism, Settings};
 use nvme_front::{FrontError, Settled};
@@ -26,8 +26,8 @@ use nvme_pool::{Gate, MAX_WORKERS, NoGate};
 use nvme_report::{WriteFault, report};
 use nvme_threads::{DriveError, drive_fed};
 use nvme_workload::{Workload, WorkloadError, read};
-use preparing::{first_too_long, prepare};
-use settling::{are_loaded, settle_run};
+use settlement::{are_loaded, settle_run};
+use setup::{first_too_long, prepare};
 use std::alloc::{AllocError, Global};
 use std::io::Write;
 use std::sync::Wait;

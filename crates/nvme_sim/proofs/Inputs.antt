@@ -24,7 +24,7 @@ use Rattle.nvme_trace.specs.Checks.{IsFaultOf, IsLawfulText, IsUnlawfulText}
 use Rattle.nvme_trace.specs.declared.fault.TraceError.{TraceError}
 use Rattle.nvme_trace.specs.declared.fault.TraceError.TheVariants as trace
 use Rattle.nvme_trace.specs.declared.judge.Finding.{Finding}
-use Rattle.nvme_trace.specs.declared.reading.Head.{Head}
+use Rattle.nvme_trace.specs.declared.records.Head.{Head}
 use Rattle.nvme_chart.specs.Shown.{IsReadFault, IsShown}
 use Rattle.nvme_lint.specs.Warnings.{AreWarningsOf}
 use Rattle.nvme_lint.specs.declared.warning.Warning.{Warning}

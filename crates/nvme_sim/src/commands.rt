@@ -8,27 +8,27 @@ ghost use Rattle.nvme_sim.specs.declared.faults.Fault.TheVariants as fault;
 ghost use Rattle.nvme_sim.specs.declared.commands.Answer.TheVariants as answer;
 ghost use Rattle.nvme_runs.specs.declared.runs.RunError.TheVariants as run_fault;
 
-mod charting;
-mod checking;
-mod counting;
+mod chart;
+mod check;
 mod entry;
-mod linting;
-mod running;
-mod tracing;
+mod lint;
+mod run;
+mod stats;
+mod trace;
 
 use crate::faults::Fault;
-use charting::charted;
-use checking::checked;
-use counting::counted;
+use chart::charted;
+use check::checked;
 use entry::answered;
-use linting::linted;
+use lint::linted;
 use nvme_words::{Request, asked_of};
-use running::ran;
+use run::ran;
+use stats::counted;
 use std::alloc::Global;
 use std::io::{Read, Write};
 use std::sync::Wait;
 use std::thread::Threads;
-use tracing::traced;
+use trace::traced;
 
 // How the program ends where there is no fault.
 #[derive(Clone, Copy, Debug, PartialEq, Eq)]

@@ -1,6 +1,6 @@
 // Runs of the stored workloads, by their reports.
 use crate::again::{report_again, run_again};
-use crate::wanted::*;
+use crate::reports::*;
 use crate::workloads::*;
 use nvme_sim::{Mode, RunError};
 use std::alloc::Global;

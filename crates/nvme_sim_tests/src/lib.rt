@@ -12,18 +12,18 @@ mod examples;
 #[cfg(test)]
 mod fakes;
 #[cfg(test)]
+mod file_names;
+#[cfg(test)]
 mod gates;
 #[cfg(test)]
 mod input;
 #[cfg(test)]
-mod named;
+mod reports;
 #[cfg(test)]
-mod starved;
+mod starvation;
 #[cfg(test)]
 mod streams;
 #[cfg(test)]
 mod tallies;
-#[cfg(test)]
-mod wanted;
 #[cfg(test)]
 mod workloads;

@@ -1,7 +1,7 @@
 // Writers and readers that fail, and the refusals of a run in their order.
 use crate::again::{page, run_again, taken, told_again};
 use crate::fakes::{Endless, Fails, FailsAt, Takes, TakesOne};
-use crate::wanted::EMPTY_REPORT;
+use crate::reports::EMPTY_REPORT;
 use crate::workloads::{EMPTY, THOUSAND};
 use nvme_front::FrontError;
 use nvme_sim::{InputError, Mode, RunError};

@@ -12,8 +12,8 @@ use Rattle.nvme_front.specs.Hosts.{IsFedBy, submitted_at}
 use Rattle.nvme_front.specs.View.{FrontView, GoesOn, got_in}
 use Rattle.nvme_front.specs.declared.front.FrontError.{FrontError}
 use Rattle.nvme_front.specs.declared.front.FrontError.TheVariants as front
-use Rattle.nvme_threads.specs.declared.driving.DriveError.{DriveError}
-use Rattle.nvme_threads.specs.declared.driving.DriveError.TheVariants as drive
+use Rattle.nvme_threads.specs.declared.drives.DriveError.{DriveError}
+use Rattle.nvme_threads.specs.declared.drives.DriveError.TheVariants as drive
 use Rattle.nvme_threads.specs.Fed.{script_at, FedTurnFails, IsFedFault}
 use Rattle.nvme_threads.specs.Hosts.{feeder_seen}
 use Rattle.nvme_threads.specs.inside.Drives.{FailsAt, IsFaultAt}

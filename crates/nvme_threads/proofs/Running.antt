@@ -2,7 +2,7 @@
 use Rattle.std.proofs.Common.{ℕ, List, [], ◌∷◌, map}
 use Rattle.std.specs.List.{AllZip}
 use Rattle.nvme_pool.specs.Runs.{Ran}
-use Rattle.nvme_threads.specs.declared.working.Crewman.{Crewman}
+use Rattle.nvme_threads.specs.declared.crew.Crewman.{Crewman}
 use Rattle.nvme_threads.specs.Runs.{AllRan}
 
 module _ {G : Type 0} (runs : G → ℕ → G) where

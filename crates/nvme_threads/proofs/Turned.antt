@@ -5,8 +5,8 @@ use Rattle.nvme_front.specs.View.{FrontView, GoesOn, ErrorMeans}
 use Rattle.nvme_front.proofs.EndsSeen.{GoesOn-refl, GoesOn-trans}
 use Rattle.nvme_front.specs.declared.front.FrontError.{FrontError}
 use Rattle.nvme_front.specs.declared.front.FrontError.TheVariants as front
-use Rattle.nvme_threads.specs.declared.driving.DriveError.{DriveError}
-use Rattle.nvme_threads.specs.declared.driving.DriveError.TheVariants as drive
+use Rattle.nvme_threads.specs.declared.drives.DriveError.{DriveError}
+use Rattle.nvme_threads.specs.declared.drives.DriveError.TheVariants as drive
 use Rattle.nvme_threads.specs.inside.Drives.{FailsAt, IsFaultAt}
 use Rattle.nvme_threads.specs.Faults.{TurnFails, Accounts, HasTurned, IsDriveFault, fault_of}
 

@@ -5,8 +5,8 @@ use Rattle.nvme_state.specs.JobAccount.{AccountsForJobs}
 use Rattle.nvme_front.specs.View.{FrontView, GoesOn, AccountsForEnds, NoneInHandPosted, ErrorMeans, past_in}
 use Rattle.nvme_front.specs.declared.front.FrontError.{FrontError}
 use Rattle.nvme_front.specs.declared.front.FrontError.TheVariants as front
-use Rattle.nvme_threads.specs.declared.driving.DriveError.{DriveError}
-use Rattle.nvme_threads.specs.declared.driving.DriveError.TheVariants as drive
+use Rattle.nvme_threads.specs.declared.drives.DriveError.{DriveError}
+use Rattle.nvme_threads.specs.declared.drives.DriveError.TheVariants as drive
 
 -- how a turn that failed is told
 abbrev pub fault_of : FrontError → DriveError

@@ -8,8 +8,8 @@ use Rattle.nvme_front.specs.View.{FrontView, got_in}
 use Rattle.nvme_front.specs.declared.front.FrontError.{FrontError}
 use Rattle.nvme_front.specs.declared.front.FrontError.TheVariants as front
 use Rattle.nvme_threads.specs.Faults.{TurnFails}
-use Rattle.nvme_threads.specs.declared.driving.DriveError.{DriveError}
-use Rattle.nvme_threads.specs.declared.driving.DriveError.TheVariants as drive
+use Rattle.nvme_threads.specs.declared.drives.DriveError.{DriveError}
+use Rattle.nvme_threads.specs.declared.drives.DriveError.TheVariants as drive
 
 -- the script of the feeder of a submission region
 abbrev pub script_at : List (Feeder Sqe) → ℕ → List Sqe

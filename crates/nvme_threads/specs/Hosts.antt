@@ -7,7 +7,7 @@ use Rattle.nvme_lane.specs.Feeder.{script_of}
 use Rattle.nvme_lane.specs.declared.feeder.Feeder.{Feeder}
 use Rattle.nvme_lane.specs.declared.drainer.Drainer.{Drainer}
 use Rattle.nvme_front.specs.Hosts.{feeder_place, drainer_place}
-use Rattle.nvme_threads.specs.declared.loading.SqEnds.{SqEnds}
+use Rattle.nvme_threads.specs.declared.loaded_rings.SqEnds.{SqEnds}
 
 -- the script of a feeder, and the end that it has
 abbrev pub feeder_seen : Feeder Sqe → List Sqe × (RingName × ℕ × ℕ)

@@ -1,20 +1,20 @@
 //! Drives a front with its hosts and its workers, each on a thread of its own, and the front on the calling thread.
 #![tactic(auto)]
 
-mod draining;
-mod driving;
-mod fed;
-mod feeding;
+mod crew;
+mod drainer;
+mod drives;
+mod fed_drives;
+mod feeder;
 mod flags;
-mod hosting;
-mod joining;
-mod loading;
-mod pausing;
-mod serving;
-mod starting;
+mod hosts;
+mod join;
+mod loaded_rings;
+mod pauses;
+mod start;
 mod tasks;
-mod working;
+mod turns;
 
-pub use driving::{DriveError, drive};
-pub use fed::drive_fed;
-pub use loading::{SqEnds, load};
+pub use drives::{DriveError, drive};
+pub use fed_drives::drive_fed;
+pub use loaded_rings::{SqEnds, load};

@@ -13,9 +13,9 @@ use Rattle.nvme_trace.specs.Judged.{JudgeView, IsObserved, IsLawfulEvent, IsFind
 use Rattle.nvme_trace.specs.Faults.{IsHeadFault, IsEventFault}
 use Rattle.nvme_trace.specs.Checks.{Tells, IsLawfulText, IsUnlawfulText, IsFaultOf, IsAnswer, JudgedUpTo}
 use Rattle.nvme_trace.specs.declared.fault.TraceError.{TraceError}
-use Rattle.nvme_trace.specs.declared.reading.Head.{Head}
+use Rattle.nvme_trace.specs.declared.records.Head.{Head}
 use Rattle.nvme_trace.specs.declared.judge.Finding.{Finding}
-use Rattle.nvme_trace.specs.declared.checking.Checked.{Checked}
+use Rattle.nvme_trace.specs.declared.checks.Checked.{Checked}
 
 -- one line more, of those before the others
 reverse_more : (line : List ℕ) (lines rest : List (List ℕ)) → reverse lines ++ line ∷ rest ≡ reverse (line ∷ lines) ++ rest

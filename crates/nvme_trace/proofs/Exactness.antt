@@ -10,7 +10,7 @@ use Rattle.nvme_trace.specs.Lines.{lines_of}
 use Rattle.nvme_trace.specs.Format.{head_of_line, event_of_line}
 use Rattle.nvme_trace.specs.Judged.{IsFinding}
 use Rattle.nvme_trace.specs.Checks.{Tells, OneAnswer}
-use Rattle.nvme_trace.specs.declared.reading.Head.{Head}
+use Rattle.nvme_trace.specs.declared.records.Head.{Head}
 use Rattle.nvme_trace.specs.declared.judge.Finding.{Finding}
 
 nothing_told : (head : Head) (past : History) → Tells head past [] → ⊥

@@ -9,10 +9,10 @@ use Rattle.nvme_trace.specs.Format.{head_of_line, event_of_line}
 use Rattle.nvme_trace.specs.Faults.{IsHeadFault, IsEventFault}
 use Rattle.nvme_trace.specs.Judged.{JudgeView, IsFinding, picks_in}
 use Rattle.nvme_trace.specs.declared.fault.TraceError.{TraceError}
-use Rattle.nvme_trace.specs.declared.reading.Head.{Head}
+use Rattle.nvme_trace.specs.declared.records.Head.{Head}
 use Rattle.nvme_trace.specs.declared.judge.Finding.{Finding}
-use Rattle.nvme_trace.specs.declared.checking.Checked.{Checked}
-use Rattle.nvme_trace.specs.declared.checking.Checked.TheVariants.{Lawful, Unlawful}
+use Rattle.nvme_trace.specs.declared.checks.Checked.{Checked}
+use Rattle.nvme_trace.specs.declared.checks.Checked.TheVariants.{Lawful, Unlawful}
 
 -- some lines, the last one first, are a head and then the events of a history
 abbrev pub Tells : Head → History → List (List ℕ) → Type 0

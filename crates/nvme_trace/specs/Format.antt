@@ -17,9 +17,9 @@ use Rattle.nvme_arbiter.specs.declared.pick.Seen.{Seen}
 use Rattle.nvme_trace.specs.declared.fault.LineFault.{LineFault}
 use Rattle.nvme_trace.specs.declared.fault.LineFault.TheVariants.{TooLong, NotUtf8, NotJson, NotObject, Bad, NotObservation}
 use Rattle.nvme_trace.specs.declared.fault.Field.TheVariants as field
-use Rattle.nvme_trace.specs.declared.reading.Head.{Head}
-use Rattle.nvme_trace.specs.declared.reading.TraceEvent.{TraceEvent}
-use Rattle.nvme_trace.specs.declared.reading.TraceEvent.TheVariants.{Pick, Set}
+use Rattle.nvme_trace.specs.declared.records.Head.{Head}
+use Rattle.nvme_trace.specs.declared.records.TraceEvent.{TraceEvent}
+use Rattle.nvme_trace.specs.declared.records.TraceEvent.TheVariants.{Pick, Set}
 use Rattle.nvme_trace.specs.Fields.{text_of}
 use Rattle.nvme_trace.specs.Readings.{◌>>=◌, ◌>>◌, item_count, only, value_at, whole, number_at, flag_at}
 

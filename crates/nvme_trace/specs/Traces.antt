@@ -10,7 +10,7 @@ use Rattle.nvme_log.specs.Account.{IsAccount}
 use Rattle.nvme_trace.specs.Text.{trace_text}
 use Rattle.nvme_trace.specs.Lines.{lines_of}
 use Rattle.nvme_trace.specs.Checks.{Tells, IsLawfulText}
-use Rattle.nvme_trace.specs.declared.reading.Head.{Head}
+use Rattle.nvme_trace.specs.declared.records.Head.{Head}
 
 -- the trace that is written of a log
 abbrev pub trace_of : FrontRules → List Event → List ℕ

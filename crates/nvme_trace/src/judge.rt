@@ -1,7 +1,7 @@
 // Judges a history, event by event.
 ghost use Rattle.std.specs.Prelude.{◌≡◌};
 
-use crate::reading::{Head, TraceEvent};
+use crate::records::{Head, TraceEvent};
 use nvme_arbiter::{Arbiter, Class, Kept, Pick, Seen, class_in};
 use std::marker::Model;
 

@@ -2,23 +2,23 @@
 //! each pick.
 #![tactic(auto)]
 
-mod checking;
-mod explaining;
+mod checks;
+mod explanation;
 mod fault;
 mod judge;
 mod laws;
 mod lines;
 mod names;
-mod reading;
+mod records;
 mod trace;
-mod writing;
+mod writer;
 
-pub use checking::{Checked, Unlawful, check};
+pub use checks::{Checked, Unlawful, check};
 pub use fault::{Field, LineFault, TraceError};
 pub use judge::{Finding, Judge};
 pub use laws::{texts_have_one_answer, written_traces_are_lawful};
 pub use names::{class_name, mechanism_name};
 pub use nvme_output::WriteFault;
-pub use reading::{Head, TraceEvent};
+pub use records::{Head, TraceEvent};
 pub use trace::Trace;
-pub use writing::write_trace;
+pub use writer::write_trace;

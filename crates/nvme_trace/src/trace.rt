@@ -9,7 +9,7 @@ ghost use Rattle.nvme_trace.specs.declared.lines.NextError.TheVariants as next;
 
 use crate::fault::{LineFault, TraceError};
 use crate::lines::{Lines, NextError};
-use crate::reading::{Head, TraceEvent, event_of_line, head_of_line};
+use crate::records::{Head, TraceEvent, event_of_line, head_of_line};
 use std::alloc::Global;
 use std::io::Read;
 use std::marker::Model;

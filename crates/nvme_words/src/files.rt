@@ -5,8 +5,8 @@ ghost use Rattle.nvme_words.specs.CommandLine.{OnCommandLine};
 ghost use Rattle.nvme_words.specs.Requests.{file_given, file_of};
 ghost use Rattle.nvme_words.specs.Words.{reads_input};
 
-use crate::asking::{names_no_trace, reads_input_alone};
 use crate::program::program;
+use crate::words::{names_no_trace, reads_input_alone};
 use clap::ArgMatches;
 use clap::error::ErrorKind;
 use std::alloc::{AllocError, Global};

@@ -1,11 +1,11 @@
 //! The command line of the program `nvmearb`: what its words ask for, and which file they name.
 #![tactic(auto)]
 
-mod asking;
 mod files;
 mod laws;
 mod program;
 mod requests;
+mod words;
 
 pub use files::file_named;
 pub use laws::{lines_ask_for, lines_have_faults, lines_name_files, lines_show_text, one_request};

@@ -5,8 +5,8 @@ ghost use Rattle.nvme_words.specs.CommandLine.{OnCommandLine};
 ghost use Rattle.nvme_words.specs.Requests.{AreNumbers, IsAnswerTo, IsAskedBy, IsFlag, IsFormat, IsRange, SubmitsBy};
 ghost use Rattle.nvme_words.specs.inside.Found.{IsNumberIfAny, IsOneIfAny, IsRequestIfAny, IsRequestOfIfAny, IsTextFor};
 
-use crate::asking::{asks, asks_alone};
 use crate::program::program;
+use crate::words::{asks, asks_alone};
 use clap::ArgMatches;
 use clap::error::ErrorKind;
 use nvme_lane::Mode;

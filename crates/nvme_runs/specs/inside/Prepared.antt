@@ -14,13 +14,13 @@ use Rattle.nvme_workload.specs.declared.plan.CqPlan.{CqPlan}
 use Rattle.nvme_workload.specs.Plan.{Plan}
 use Rattle.nvme_log.specs.Limits.{most_events}
 use Rattle.nvme_front.specs.declared.front.FrontConfig.{FrontConfig}
-use Rattle.nvme_front.specs.declared.settling.Parts.{Parts}
+use Rattle.nvme_front.specs.declared.settlement.Parts.{Parts}
 use Rattle.nvme_front.specs.Ends.{get_place, put_place}
 use Rattle.nvme_front.specs.Hosts.{IsFedBy, IsDrainedBy, feeder_place, drainer_place, submitted_at}
 use Rattle.nvme_front.specs.Settles.{HasItsPool}
 use Rattle.nvme_front.specs.View.{FrontView, HasItsRegions, got_in, known_in}
 use Rattle.nvme_threads.specs.Hosts.{feeder_seen}
-use Rattle.nvme_threads.specs.declared.loading.SqEnds.{SqEnds}
+use Rattle.nvme_threads.specs.declared.loaded_rings.SqEnds.{SqEnds}
 use Rattle.nvme_runs.specs.Runs.{rules_for}
 
 -- a front that did nothing has a region more, and nothing else changed

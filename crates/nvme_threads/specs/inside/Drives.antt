@@ -4,21 +4,21 @@ use Rattle.std.specs.List.{All, AllZip}
 use Rattle.nvme_front.specs.View.{FrontView, GoesOn}
 use Rattle.nvme_front.specs.declared.front.FrontError.{FrontError}
 use Rattle.nvme_front.specs.declared.front.FrontError.TheVariants as front
-use Rattle.nvme_front.specs.declared.settling.Parts.{Parts}
-use Rattle.nvme_threads.specs.declared.driving.Driven.{Driven}
+use Rattle.nvme_front.specs.declared.settlement.Parts.{Parts}
+use Rattle.nvme_threads.specs.declared.drives.Driven.{Driven}
 use Rattle.nvme_entry.specs.declared.submission.Sqe.{Sqe}
 use Rattle.nvme_lane.specs.declared.feeder.Feeder.{Feeder}
-use Rattle.nvme_threads.specs.declared.driving.DriveError.{DriveError}
-use Rattle.nvme_threads.specs.declared.driving.DriveError.TheVariants as drive
-use Rattle.nvme_threads.specs.declared.hosting.Feeders.{Feeders}
-use Rattle.nvme_threads.specs.declared.hosting.Feeders.TheVariants.{AtWork, Ended}
-use Rattle.nvme_threads.specs.declared.hosting.Hosts.{Hosts}
-use Rattle.nvme_threads.specs.declared.hosting.Running.{Running}
-use Rattle.nvme_threads.specs.declared.joining.Joined.{Joined}
-use Rattle.nvme_threads.specs.declared.loading.SqEnds.{SqEnds}
-use Rattle.nvme_threads.specs.declared.starting.Started.{Started}
+use Rattle.nvme_threads.specs.declared.drives.DriveError.{DriveError}
+use Rattle.nvme_threads.specs.declared.drives.DriveError.TheVariants as drive
+use Rattle.nvme_threads.specs.declared.hosts.Feeders.{Feeders}
+use Rattle.nvme_threads.specs.declared.hosts.Feeders.TheVariants.{AtWork, Ended}
+use Rattle.nvme_threads.specs.declared.hosts.Hosts.{Hosts}
+use Rattle.nvme_threads.specs.declared.hosts.Running.{Running}
+use Rattle.nvme_threads.specs.declared.join.Joined.{Joined}
+use Rattle.nvme_threads.specs.declared.loaded_rings.SqEnds.{SqEnds}
+use Rattle.nvme_threads.specs.declared.start.Started.{Started}
 use Rattle.nvme_threads.specs.declared.tasks.Shared.{Shared}
-use Rattle.nvme_threads.specs.declared.working.Crewman.{Crewman}
+use Rattle.nvme_threads.specs.declared.crew.Crewman.{Crewman}
 use Rattle.nvme_threads.specs.Faults.{TurnFails, IsDriveFault}
 use Rattle.nvme_threads.specs.Hosts.{feeder_seen, drainer_seen, ends_seen}
 use Rattle.nvme_threads.specs.Loaded.{StaysLoaded}

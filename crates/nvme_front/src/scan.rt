@@ -1,0 +1,111 @@
+// The scan of the submission rings.
+use crate::front::FrontError;
+use crate::log::{make_room, note};
+use crate::state::FrontState;
+use nvme_log::Event;
+use nvme_state::Candidate;
+
+impl FrontState {
+    ghost use Rattle.std.specs.Prelude.{◌≡◌, ◌≢◌, ℕ, ◌+◌, ◌<◌, ◌≤◌, length, Option, Some, None, OnOk, IfErr, true, false, ◌⊎◌};
+    ghost use Rattle.nvme_front.specs.inside.Room.{IsConsistent};
+    ghost use Rattle.nvme_front.specs.inside.Goes.{Goes, IsSame, HasAdmin, IsScanned, AllScanned};
+    ghost use Rattle.nvme_front.specs.inside.Loads.{Loads};
+    ghost use Rattle.nvme_log.specs.Histories.{picks_in};
+    ghost use Rattle.nvme_front.specs.declared.front.FrontError.TheVariants.{NoMemory, LogFull};
+
+    // Fetches one command of a queue, if the queue is open, its window has room and its ring gives one.
+    fn fetch_one(&mut self, qid: u16) -> Result<bool, FrontError>
+        requires consistent { IsConsistent self.old }
+        requires admin { HasAdmin self.old }
+        requires none_pending { self.old.deletion ≡ None }
+        ensures consistent { IsConsistent self.new }
+        ensures goes { Goes self.old self.new }
+        ensures loads { ((q : ℕ) → q < qid → IsScanned self.old q) → Loads self.old self.new }
+        ensures cqs { self.new.cqs.items ≡ self.old.cqs.items }
+        ensures jobs { self.new.jobs ≡ self.old.jobs }
+        ensures picks { picks_in self.new.log.items ≡ picks_in self.old.log.items }
+        ensures none_pending { self.new.deletion ≡ None }
+        ensures more { result ≡ Ok true → length self.new.log.items ≡ length self.old.log.items + 1 }
+        ensures others { (q : ℕ) → q ≢ qid → IsScanned self.old q → IsScanned self.new q }
+        ensures still { result ≡ Ok false → IsSame self.old self.new × IsScanned self.old qid }
+        ensures full { result ≡ Err LogFull → self.new.config.max_events < length self.new.log.items + 1 }
+        ensures no_stray { IfErr result (λ e. (e ≡ LogFull) ⊎ (e ≡ NoMemory)) }
+    {
+        let Some(queue) = self.table.sq(qid) else {
+            return Ok(false);
+        };
+        let r = usize::from(queue.region);
+        if queue.closing || self.sqs[r].is_full() {
+            return Ok(false);
+        }
+        make_room(&mut self.log, self.config.max_events, 1)?;
+        let Some(candidate) = self.sqs[r].fetch() else {
+            return Ok(false);
+        };
+        self.board.came(qid);
+        note(
+            &mut self.log,
+            Event::Fetch {
+                region: queue.region,
+                index: candidate.index,
+                entry: candidate.entry,
+            },
+        );
+        Ok(true)
+    }
+
+    // Fetches from a queue until its window is full or its ring gives nothing.
+    fn scan_queue(&mut self, qid: u16) -> Result<bool, FrontError>
+        requires consistent { IsConsistent self.old }
+        requires admin { HasAdmin self.old }
+        requires none_pending { self.old.deletion ≡ None }
+        ensures consistent { IsConsistent self.new }
+        ensures goes { Goes self.old self.new }
+        ensures loads { ((q : ℕ) → q < qid → IsScanned self.old q) → Loads self.old self.new }
+        ensures cqs { self.new.cqs.items ≡ self.old.cqs.items }
+        ensures jobs { self.new.jobs ≡ self.old.jobs }
+        ensures picks { picks_in self.new.log.items ≡ picks_in self.old.log.items }
+        ensures none_pending { self.new.deletion ≡ None }
+        ensures more { result ≡ Ok true → length self.old.log.items < length self.new.log.items }
+        ensures others { (q : ℕ) → q ≢ qid → IsScanned self.old q → IsScanned self.new q }
+        ensures scanned { OnOk result (IsScanned self.new qid) }
+        ensures still { result ≡ Ok false → IsSame self.old self.new }
+        ensures full { result ≡ Err LogFull → self.new.config.max_events < length self.new.log.items + 1 }
+        ensures no_stray { IfErr result (λ e. (e ≡ LogFull) ⊎ (e ≡ NoMemory)) }
+    {
+        let mut fetched = false;
+        while self.fetch_one(qid)? {
+            fetched = true;
+        }
+        Ok(fetched)
+    }
+
+    /// Fetches from each open queue by ascending identifier. The answer is whether anything was fetched.
+    pub fn scan(&mut self) -> Result<bool, FrontError>
+        requires consistent { IsConsistent self.old }
+        requires admin { HasAdmin self.old }
+        requires none_pending { self.old.deletion ≡ None }
+        ensures consistent { IsConsistent self.new }
+        ensures goes { Goes self.old self.new }
+        ensures loads { Loads self.old self.new }
+        ensures cqs { self.new.cqs.items ≡ self.old.cqs.items }
+        ensures jobs { self.new.jobs ≡ self.old.jobs }
+        ensures picks { picks_in self.new.log.items ≡ picks_in self.old.log.items }
+        ensures none_pending { self.new.deletion ≡ None }
+        ensures more { result ≡ Ok true → length self.old.log.items < length self.new.log.items }
+        ensures scanned { OnOk result (AllScanned self.new) }
+        ensures still { result ≡ Ok false → IsSame self.old self.new }
+        ensures full { result ≡ Err LogFull → self.new.config.max_events < length self.new.log.items + 1 }
+        ensures no_stray { IfErr result (λ e. (e ≡ LogFull) ⊎ (e ≡ NoMemory)) }
+    {
+        let mut fetched = false;
+        // (no queue above the allotted number is open)
+        let end = self.table.allotted().nsq + 1;
+        for qid in 0..end {
+            if self.scan_queue(qid)? {
+                fetched = true;
+            }
+        }
+        Ok(fetched)
+    }
+}

@@ -1,5 +1,0 @@
-use Rattle.nvme_threads.specs.Hosts.{IsSameFeeder}
-use Rattle.nvme_threads.proofs.feeding.feed.Given as goal
-
-abbrev pub invariant-loop : goal.invariant-loop
-invariant-loop g l = IsSameFeeder l.fn.feeder l.feeder
