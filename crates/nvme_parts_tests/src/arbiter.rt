@@ -324,7 +324,7 @@ fn several_commands_come(rt: HostRuntime) {
     assert!(rt; came_n(&mut board, 1, 0) && !came_n(&mut board, 1, 1));
     assert!(rt; !came_n(&mut board, 64, 254) && !came_n(&mut board, 2, 0));
     let seen = [queue(1, Class::High, 256), queue(64, Class::Low, 3)];
-    assert_eq!(rt; board.seen().as_slice(), &seen);
+    assert_eq!(rt; board.seen().as_slice(), seen.as_slice());
     assert_eq!(rt; board.pick(), pick(1, 256));
     assert_eq!(rt; board.pick(), pick(64, 3));
     assert_eq!(rt; board.pick(), None);
