@@ -1,5 +1,5 @@
 -- Worked logs of a controller, for which the definitions compute (profile).
-use Rattle.std.specs.Prelude.{ℕ, true, false, List, [], ◌∷◌}
+use Rattle.std.specs.Prelude.{ℕ, true, false, [], ◌∷◌}
 use Rattle.nvme_entry.specs.Status.{success, aborted_by_deletion, lba_out_of_range}
 use Rattle.nvme_entry.specs.declared.completion.Cqe.{Cqe}
 use Rattle.nvme_arbiter.specs.declared.settings.Class.TheVariants.{Urgent}

@@ -1,5 +1,5 @@
 -- The command that deletes a queue is answered when all places of the queue are posted, and no place of the queue is picked after its deletion began.
-use Rattle.std.proofs.Common.{◌≡◌, ℕ, zero, suc, ◌==◌, ◌&&◌, ◌||◌, Bool, true, false, List, [], ◌∷◌, ◌++◌, length, Option, Some, None, refl, sym, ap, ◌∙◌, subst, ◌⊎◌, inl, inr, if◌then◌else◌}
+use Rattle.std.proofs.Common.{◌≡◌, ℕ, zero, suc, ◌==◌, ◌&&◌, ◌||◌, Bool, true, false, [], ◌∷◌, ◌++◌, length, Option, Some, None, refl, sym, ap, ◌∙◌, subst, ◌⊎◌, inl, inr}
 use Rattle.std.specs.List.{list_all}
 use Rattle.std.proofs.lemmas.Bool.{cases_Bool, eq-eqb, eqb-true, and_parts}
 use Rattle.std.proofs.lemmas.List.Folds.{list_all-append}
@@ -31,8 +31,10 @@ all-weaker p q h (suc n) a =
     both true true e = (refl, refl)
     both true false e = cc e
     both false b e = cc e
+
     join : (a b : Bool) → a ≡ true → b ≡ true → (a && b) ≡ true
     join a b e f = rw (e, f) refl
+
     last : (a b : Bool) → (a ≡ true → b ≡ true) → (a && true) ≡ true → (b && true) ≡ true
     last true b k e = rw (k refl) refl
     last false b k e = cc e
