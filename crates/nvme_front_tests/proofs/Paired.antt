@@ -11,7 +11,7 @@ use Rattle.nvme_lane.specs.declared.drainer.Drainer.{Drainer}
 use Rattle.nvme_front.specs.Ends.{get_place, put_place}
 use Rattle.nvme_front.specs.View.{FrontView}
 use Rattle.nvme_front.specs.Hosts.{ArePaired, IsFedBy, IsDrainedBy, feeder_place, drainer_place}
-use Rattle.nvme_front.specs.Settles.{HandsBack}
+use Rattle.nvme_front.specs.Settles.{HandsBack, HasItsPool}
 use Rattle.nvme_front.specs.declared.settlement.Parts.{Parts}
 use Rattle.nvme_front.proofs.Hosted.{seen_at, seen-set}
 
@@ -79,3 +79,10 @@ sqs_back old new back some = omega (arith, length-map old.front.gets get_place, 
 -- a front that comes back has its completion regions
 pub cqs_back : (old new : Parts) → HandsBack old new → 0 < length old.front.puts → 0 < length new.front.puts
 cqs_back old new back some = omega (arith, length-map old.front.puts put_place, length-map new.front.puts put_place, ap length back.front.put_places)
+
+-- the lane, the seat and the workers of a refused settling come back, so they are a pool as before
+pub pool_back : (old new : Parts) → HandsBack old new → HasItsPool old → HasItsPool new
+pool_back old new back h = record {
+  pool = rw (back.lanes, back.workers, back.front.hands) h.pool;
+  none_before = rw back.front.hands h.none_before;
+}

@@ -1,5 +1,5 @@
 use Rattle.nvme_front.proofs.HostPairs.{paired}
-use Rattle.nvme_front_tests.proofs.Paired.{fed_back, drained_back, sqs_back, cqs_back}
+use Rattle.nvme_front_tests.proofs.Paired.{sqs_back, cqs_back}
 use Rattle.nvme_front_tests.proofs.rig.settle_once.Goals as goal
 
 pub settle-requires-clause-hosts : goal.settle-requires-clause-hosts

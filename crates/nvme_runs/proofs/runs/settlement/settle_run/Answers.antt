@@ -1,4 +1,5 @@
 -- Hosts that have the other ends of a front's rings are paired with its regions, and are no strangers.
+use Rattle.std.proofs.Common.{rules}
 use Rattle.nvme_front.proofs.HostPairs.{paired, hosts_are}
 use Rattle.nvme_runs.proofs.Telling.{told_so, was_outstanding}
 use Rattle.nvme_runs.proofs.runs.settlement.settle_run.Goals as goal
@@ -22,3 +23,6 @@ pub returns-clause-faults : goal.returns-clause-faults
 returns-clause-faults g c =
     let hosts = hosts_are c.args.parts.front c.args.parts.feeders.items c.args.parts.drainers.items c.requires.fed c.requires.drained in
     told_so c.in-Err.error c.told.result (λ is. c.in-Err.ensures.strangers.0 is hosts) c.told.ensures.outstanding c.told.ensures.no_memory
+
+pub returns-in-Ok-clause-submitted : goal.returns-in-Ok-clause-submitted
+returns-in-Ok-clause-submitted g c = c.if-not-all_submitted.ensures.0 (search rules)
