@@ -5,7 +5,7 @@ _nvmearb() {
     local cur=${COMP_WORDS[COMP_CWORD]} prev=${COMP_WORDS[COMP_CWORD - 1]} words="" files=""
     COMPREPLY=()
     if [ "$COMP_CWORD" = 1 ]; then
-        words="run trace lint check stats chart loaded live once help --help --version"
+        words="run trace lint expand check stats chart loaded live once help --help --version"
     else
         case $prev in
             --workers) words="1 2 3 4 5 6 7 8" ;;
@@ -14,13 +14,13 @@ _nvmearb() {
             *)
                 case ${COMP_WORDS[1]} in
                     run | trace) words="--live --workers --help" files=toml ;;
-                    lint) words="--help" files=toml ;;
+                    lint | expand) words="--help" files=toml ;;
                     check) words="--help" files=any ;;
                     chart) words="--from --to --help" files=any ;;
                     stats) words="--from --to --backlogged --window --format --help" files=any ;;
                     loaded | live) words="--workers --help" ;;
                     once) words="--blocks --help" ;;
-                    help) words="run trace lint check stats chart loaded live once" ;;
+                    help) words="run trace lint expand check stats chart loaded live once" ;;
                 esac
                 ;;
         esac

@@ -1,7 +1,7 @@
 # SPDX-License-Identifier: MIT
 # Completions of nvmearb for fish.
 
-set -l all run trace lint check stats chart loaded live once help
+set -l all run trace lint expand check stats chart loaded live once help
 
 complete -c nvmearb -f
 complete -c nvmearb -s h -l help -d 'Print help'
@@ -10,6 +10,7 @@ complete -c nvmearb -n "not __fish_seen_subcommand_from $all" -s V -l version -d
 complete -c nvmearb -n "not __fish_seen_subcommand_from $all" -a run -d 'Run the workload of a file and print its report'
 complete -c nvmearb -n "not __fish_seen_subcommand_from $all" -a trace -d 'Run the workload of a file and print its trace'
 complete -c nvmearb -n "not __fish_seen_subcommand_from $all" -a lint -d 'Look for faults of a workload file'
+complete -c nvmearb -n "not __fish_seen_subcommand_from $all" -a expand -d 'Write a short workload file out'
 complete -c nvmearb -n "not __fish_seen_subcommand_from $all" -a check -d 'Say whether each pick of a trace is the expected one'
 complete -c nvmearb -n "not __fish_seen_subcommand_from $all" -a stats -d 'Print picks, shares and waits of a trace'
 complete -c nvmearb -n "not __fish_seen_subcommand_from $all" -a chart -d 'Print a picture of a trace as SVG'
@@ -26,6 +27,6 @@ complete -c nvmearb -n '__fish_seen_subcommand_from stats' -l window -x -d 'Tell
 complete -c nvmearb -n '__fish_seen_subcommand_from stats chart' -l from -x -d 'Number of the first pick to look at'
 complete -c nvmearb -n '__fish_seen_subcommand_from stats chart' -l to -x -d 'Number of the last pick to look at'
 complete -c nvmearb -n '__fish_seen_subcommand_from once' -l blocks -x -d 'Size of namespace 1 in logical blocks'
-complete -c nvmearb -n '__fish_seen_subcommand_from run trace lint' -k -a '(__fish_complete_suffix .toml)'
+complete -c nvmearb -n '__fish_seen_subcommand_from run trace lint expand' -k -a '(__fish_complete_suffix .toml)'
 complete -c nvmearb -n '__fish_seen_subcommand_from check chart stats' -F
-complete -c nvmearb -n '__fish_seen_subcommand_from help' -a 'run trace lint check stats chart loaded live once'
+complete -c nvmearb -n '__fish_seen_subcommand_from help' -a 'run trace lint expand check stats chart loaded live once'

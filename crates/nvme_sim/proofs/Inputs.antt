@@ -26,16 +26,21 @@ use Rattle.nvme_trace.specs.declared.fault.TraceError.TheVariants as trace
 use Rattle.nvme_trace.specs.declared.judge.Finding.{Finding}
 use Rattle.nvme_trace.specs.declared.records.Head.{Head}
 use Rattle.nvme_chart.specs.Shown.{IsReadFault, IsShown}
+use Rattle.nvme_lint.specs.Lints.{IsLawful}
 use Rattle.nvme_lint.specs.Warnings.{AreWarningsOf}
 use Rattle.nvme_lint.specs.declared.warning.Warning.{Warning}
 use Rattle.nvme_sim.specs.declared.faults.Fault.{Fault}
-use Rattle.nvme_sim.specs.Answers.{Appended, AppendedPart, FailsToWrite, HasAnswer, HasReport}
+use Rattle.nvme_sim.specs.Answers.{Appended, AppendedPart, FailsToWrite, HasAnswer, HasReport, HasWorkload}
 use Rattle.nvme_sim.specs.Inputs.{HasNoWarning, HasWarnings, IsBadInput, IsBadTrace, IsFaultyShown, IsFaultyTrace, IsToldLawful, IsTrace, IsUnlawfulCheck, IsUnlawfulTrace, lawful_line}
-use Rattle.nvme_sim.specs.Statuses.{IsBadEntry, IsBadWorkload, run_status, status_of, trace_status}
+use Rattle.nvme_short.specs.declared.told.ShortFault.{ShortFault}
+use Rattle.nvme_short.specs.declared.expansion.ExpandError.TheVariants as short
+use Rattle.nvme_short.specs.Expansion.{StandsFor, TellsShortFault}
+use Rattle.nvme_sim.specs.Files.{IsBadFile, OfFile}
+use Rattle.nvme_sim.specs.Statuses.{IsBadEntry, IsBadWorkload, IsNoWorkload, IsTooLong, run_status, status_of, trace_status}
 use Rattle.nvme_words.specs.Requests.{IsAskedBy}
 use Rattle.nvme_words.specs.declared.requests.Request.{Request}
 use Rattle.nvme_words.specs.declared.requests.Request.TheVariants as request
-use Rattle.nvme_words.specs.Words.{asks, asks_alone, is_option, reads_workload, shows_trace}
+use Rattle.nvme_words.specs.Words.{asks, asks_alone, is_option, reads_file, reads_workload, shows_trace}
 
 -- a text that isn't an entry has one of the faults of an entry
 pub bad_entry : {T : Type 0} (input : Option (List ℕ)) (bytes : List ℕ) (e : OnceError) → IfSome input (λ rest. bytes ≡ rest)
@@ -58,9 +63,9 @@ bad_workload (Some rest) bytes run.GaveUp whole told one = absurd (cc one)
 bad_workload (Some rest) bytes run.Write whole told one = absurd (cc one)
 
 -- a file whose fault is told is no workload
-pub bad_file : (input : Option (List ℕ)) (bytes : List ℕ) (w : WorkloadError) → IfSome input (λ rest. bytes ≡ rest) → workload_of bytes ≡ Err w → IfSome input IsBadWorkload
-bad_file None bytes w whole is = tt
-bad_file (Some rest) bytes w whole is = subst (λ (bs : List ℕ). IsBadWorkload bs) whole (inr (w, is))
+pub bad_file : (input : Option (List ℕ)) (bytes : List ℕ) → IfSome input (λ rest. bytes ≡ rest) → IsNoWorkload bytes → IfSome input IsBadWorkload
+bad_file None bytes whole bad = tt
+bad_file (Some rest) bytes whole bad = subst (λ (bs : List ℕ). IsBadWorkload bs) whole (inr bad)
 
 -- a lawful file of which something is told has warnings
 pub has_warnings : (input : Option (List ℕ)) (bytes : List ℕ) (ws : List Warning) → IfSome input (λ rest. bytes ≡ rest) → AreWarningsOf bytes ws → (length ws == 0) ≡ false → IfSome input HasWarnings
@@ -140,7 +145,7 @@ answer_came_in_part contents old new None blocks line (Err e) h w = inr tt
 answer_came_in_part contents old new (Some bytes) blocks line (Err e) h w = inr (line, h, w)
 
 -- a workload without warnings leaves the output as it was
-pub is_quiet : {W : Type 0} (old new : W) (input : Option (List ℕ)) → IfSome input HasNoWarning → new ≡ old → IfSome input (λ bytes. HasNoWarning bytes × (new ≡ old))
+pub is_quiet : {W : Type 0} (old new : W) (input : Option (List ℕ)) → IfSome input (OfFile HasNoWarning) → new ≡ old → IfSome input (λ bytes. OfFile HasNoWarning bytes × (new ≡ old))
 is_quiet old new None none same = tt
 is_quiet old new (Some bytes) none same = (none, same)
 
@@ -217,7 +222,10 @@ pub bad_check : (words : List (String Global)) (bytes : List ℕ) → asks (code
 bad_check words bytes asked bad = inr (inr (inl (asked, bad)))
 
 pub bad_shown : (words : List (String Global)) (bytes : List ℕ) → shows_trace words ≡ true → IsFaultyShown bytes → IsBadInput words bytes
-bad_shown words bytes asked bad = inr (inr (inr (asked, bad)))
+bad_shown words bytes asked bad = inr (inr (inr (inl (asked, bad))))
+
+pub bad_file_read : (words : List (String Global)) (bytes : List ℕ) → reads_file words ≡ true → IsBadFile bytes → IsBadInput words bytes
+bad_file_read words bytes asked bad = inr (inr (inr (inr (asked, bad))))
 
 pub faulty_is_bad : (bytes : List ℕ) → IsFaultyTrace bytes → IsBadTrace bytes
 faulty_is_bad bytes h = inl h
@@ -236,16 +244,63 @@ first_of_two : (a b : Bool) → a ≡ true → (a || b) ≡ true
 first_of_two true b h = refl
 first_of_two false b h = absurd (cc h)
 
-by_four : (a b c d e : Bool) → d ≡ true → (a || b || c || d || e) ≡ true
-by_four a b c d e h = first_of_two (a || b || c || d) e (last_of (a || b || c) d h)
+by_one : (a b c d : Bool) → (a ≡ true) ⊎ (b ≡ true) ⊎ (c ≡ true) ⊎ (d ≡ true) → (a || b || c || d) ≡ true
+by_one a b c d (inl h) = first_of_two (a || b || c) d (first_of_two (a || b) c (first_of_two a b h))
+by_one a b c d (inr (inl h)) = first_of_two (a || b || c) d (first_of_two (a || b) c (last_of a b h))
+by_one a b c d (inr (inr (inl h))) = first_of_two (a || b || c) d (last_of (a || b) c h)
+by_one a b c d (inr (inr (inr h))) = last_of (a || b || c) d h
 
--- two of the words that read a workload
-pub lint_reads_workload : (words : List (String Global)) → asks (codes "lint") words ≡ true → reads_workload words ≡ true
-lint_reads_workload words asked = by_four (asks (codes "run") words) (asks (codes "loaded") words) (asks (codes "live") words) (asks (codes "lint") words) (asks (codes "trace") words) asked
+-- the words that read a file of either form
+pub one_reads_file : (words : List (String Global))
+    → (asks (codes "run") words ≡ true) ⊎ (asks (codes "lint") words ≡ true) ⊎ (asks (codes "trace") words ≡ true) ⊎ (asks (codes "expand") words ≡ true)
+    → reads_file words ≡ true
+one_reads_file words asked = by_one (asks (codes "run") words) (asks (codes "lint") words) (asks (codes "trace") words) (asks (codes "expand") words) asked
 
-pub trace_reads_workload : (words : List (String Global)) → asks (codes "trace") words ≡ true → reads_workload words ≡ true
-trace_reads_workload words asked =
-    last_of (asks (codes "run") words || asks (codes "loaded") words || asks (codes "live") words || asks (codes "lint") words) (asks (codes "trace") words) asked
+-- ---- what holds of the text of a file holds of the file
+
+pub of_file : (input : Option (List ℕ)) (text : List ℕ) (P : List ℕ → Type 0) → IfSome input (λ bytes. StandsFor bytes text) → P text → IfSome input (OfFile P)
+of_file None text P stands h = tt
+of_file (Some bytes) text P stands h = (text, stands, h)
+
+pub bad_of_file : (input : Option (List ℕ)) (text : List ℕ) → IfSome input (λ bytes. StandsFor bytes text) → IsBadWorkload text → IfSome input IsBadFile
+bad_of_file None text stands h = tt
+bad_of_file (Some bytes) text stands h = inr (inr (text, stands, h))
+
+pub no_workload_of_file : (input : Option (List ℕ)) (text : List ℕ) → IfSome input (λ bytes. StandsFor bytes text) → IsNoWorkload text → IfSome input IsBadFile
+no_workload_of_file input text stands bad = bad_of_file input text stands (inr bad)
+
+-- the text that a file stands for was written, or a part of it
+pub written_of_file : {W : Type 0} (contents : W → Option (List ℕ)) (old new : W) (input : Option (List ℕ)) (text : List ℕ) → IfSome input (λ bytes. StandsFor bytes text)
+    → IsLawful text → Appends (contents old) (contents new) text → IfSome input (OfFile (HasWorkload (Appended contents old new)))
+written_of_file contents old new input text stands lawful h = of_file input text (HasWorkload (Appended contents old new)) stands (lawful, h)
+
+pub written_in_part : {W : Type 0} (contents : W → Option (List ℕ)) (old new : W) (input : Option (List ℕ)) (text : List ℕ) → IfSome input (λ bytes. StandsFor bytes text)
+    → IsLawful text → AppendsPrefix (contents old) (contents new) text → IfSome input (OfFile (HasWorkload (AppendedPart contents old new)))
+written_in_part contents old new input text stands lawful h = of_file input text (HasWorkload (AppendedPart contents old new)) stands (lawful, h)
+
+pub ok_of_file : {T : Type 0} (result : Result T Fault) (input : Option (List ℕ)) (text : List ℕ) (P : List ℕ → Type 0) → IfSome input (λ bytes. StandsFor bytes text)
+    → OnOk result (P text) → OnOk result (IfSome input (OfFile P))
+ok_of_file (Ok x) input text P stands h = of_file input text P stands h
+ok_of_file (Err e) input text P stands h = tt
+
+pub err_of_file : {T : Type 0} (result : Result T Fault) (input : Option (List ℕ)) (text : List ℕ) → IfSome input (λ bytes. StandsFor bytes text)
+    → IfErr result (λ e. status_of e ≡ 1 → IsBadWorkload text) → IfErr result (λ e. status_of e ≡ 1 → IfSome input IsBadFile)
+err_of_file (Ok x) input text stands h = tt
+err_of_file (Err e) input text stands h = λ one. bad_of_file input text stands (h one)
+
+pub failed_of_file : {T : Type 0} (result : Result T Fault) (A : Type 0) (input : Option (List ℕ)) (text : List ℕ) (P : List ℕ → Type 0) → IfSome input (λ bytes. StandsFor bytes text)
+    → IfErr result (λ e. A ⊎ P text) → IfErr result (λ e. A ⊎ IfSome input (OfFile P))
+failed_of_file (Ok x) A input text P stands h = tt
+failed_of_file (Err e) A input text P stands (inl a) = inl a
+failed_of_file (Err e) A input text P stands (inr h) = inr (of_file input text P stands h)
+
+pub short_is_bad : (input : Option (List ℕ)) (bytes : List ℕ) (fault : ShortFault) → IfSome input (λ rest. bytes ≡ rest) → TellsShortFault bytes (short.Fault fault) → IfSome input IsBadFile
+short_is_bad None bytes fault whole h = tt
+short_is_bad (Some rest) bytes fault whole h = subst (λ (bs : List ℕ). IsBadFile bs) whole (inr (inl (fault, h)))
+
+pub long_is_bad : (input : Option (List ℕ)) → IfSome input IsTooLong → IfSome input IsBadFile
+long_is_bad None h = tt
+long_is_bad (Some bytes) h = inl h
 
 -- ---- words that ask for a check alone
 
@@ -268,12 +323,9 @@ check_is (p ∷ w ∷ rest) h name = ap (λ (v : List ℕ). pointwise nat_eq v n
 
 check_reads_none : (words : List (String Global)) → asks (codes "check") words ≡ true → reads_workload words ≡ false
 check_reads_none words h =
-    let run : asks (codes "run") words ≡ false = check_is words h (codes "run") in
     let loaded : asks (codes "loaded") words ≡ false = check_is words h (codes "loaded") in
     let live : asks (codes "live") words ≡ false = check_is words h (codes "live") in
-    let lint : asks (codes "lint") words ≡ false = check_is words h (codes "lint") in
-    let traced : asks (codes "trace") words ≡ false = check_is words h (codes "trace") in
-    rw (run, loaded, live, lint, traced) refl
+    rw (loaded, live) refl
 
 check_shows_none : (words : List (String Global)) → asks (codes "check") words ≡ true → shows_trace words ≡ false
 check_shows_none words h =
@@ -289,6 +341,8 @@ IsCheck r = ⊥
 pub only_check : (words : List (String Global)) (r : Request) → IsAskedBy words r → asks_alone (codes "check") words ≡ true → IsCheck r
 only_check words (request.Once blocks) asked a = not_both (asks (codes "once") words) asked (check_is words (alone_asks (codes "check") words a) (codes "once"))
 only_check words (request.Run mode workers) asked a = not_both (reads_workload words) asked (check_reads_none words (alone_asks (codes "check") words a))
+only_check words (request.RunFile mode workers) asked a = not_both (asks (codes "run") words) asked (check_is words (alone_asks (codes "check") words a) (codes "run"))
+only_check words request.Expand asked a = not_both (asks (codes "expand") words) asked (check_is words (alone_asks (codes "check") words a) (codes "expand"))
 only_check words request.Lint asked a = not_both (asks (codes "lint") words) asked (check_is words (alone_asks (codes "check") words a) (codes "lint"))
 only_check words request.Check asked a = tt
 only_check words (request.Trace mode workers) asked a = not_both (asks (codes "trace") words) asked (check_is words (alone_asks (codes "check") words a) (codes "trace"))

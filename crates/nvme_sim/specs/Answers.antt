@@ -10,11 +10,13 @@ use Rattle.nvme_input.specs.Once.{IsAnswer, entry_text}
 use Rattle.nvme_runs.specs.Ran.{BeginsAs}
 use Rattle.nvme_runs.specs.Runs.{IsRun}
 use Rattle.nvme_runs.specs.declared.runs.Ran.{Ran}
+use Rattle.nvme_lint.specs.Lints.{IsLawful}
 use Rattle.nvme_trace.specs.Checks.{IsLawfulText}
 use Rattle.nvme_words.specs.CommandLine.{OnCommandLine}
 use Rattle.nvme_words.specs.Requests.{IsAnswerTo}
 use Rattle.nvme_words.specs.declared.requests.Request.{Request}
 use Rattle.nvme_words.specs.declared.requests.Request.TheVariants as request
+use Rattle.nvme_sim.specs.Files.{OfFile}
 use Rattle.nvme_sim.specs.Inputs.{HasNoWarning, HasWarnings, IsTrace, IsUnlawfulTrace, lawful_line, trace_of}
 
 -- ---- the text of an answer to an input, where `came` says what was written
@@ -30,6 +32,10 @@ HasReport came mode bytes = (settled : Settled) × IsRun bytes mode settled × c
 -- the trace of a run
 abbrev pub HasTrace : (List ℕ → Type 0) → Mode → List ℕ → Type 0
 HasTrace came mode bytes = (ran : Ran) × BeginsAs bytes ran × IsRun bytes mode ran.settled × came (trace_of ran)
+
+-- the text of a workload file itself
+abbrev pub HasWorkload : (List ℕ → Type 0) → List ℕ → Type 0
+HasWorkload came text = IsLawful text × came text
 
 -- the line that says that each pick is the lawful one
 abbrev pub HasLawful : (List ℕ → Type 0) → List ℕ → Type 0
@@ -47,9 +53,11 @@ module _ {W : Type 0} (contents : W → Option (List ℕ)) (old new : W) where
   abbrev pub Does : Request → List ℕ → Type 0
   Does (request.Once blocks) bytes = HasAnswer Appended blocks bytes
   Does (request.Run mode workers) bytes = HasReport Appended mode bytes
-  Does request.Lint bytes = HasNoWarning bytes × (new ≡ old)
+  Does (request.RunFile mode workers) bytes = OfFile (HasReport Appended mode) bytes
+  Does request.Lint bytes = OfFile HasNoWarning bytes × (new ≡ old)
+  Does request.Expand bytes = OfFile (HasWorkload Appended) bytes
   Does request.Check bytes = HasLawful Appended bytes
-  Does (request.Trace mode workers) bytes = HasTrace Appended mode bytes
+  Does (request.Trace mode workers) bytes = OfFile (HasTrace Appended mode) bytes
   Does (request.Chart range) bytes = IsTrace bytes
   Does (request.Stats numbers) bytes = IsTrace bytes
   Does (request.Help text) bytes = Unit {0}
@@ -59,9 +67,11 @@ module _ {W : Type 0} (contents : W → Option (List ℕ)) (old new : W) where
   abbrev pub FailsToWrite : Request → List ℕ → Type 0
   FailsToWrite (request.Once blocks) bytes = HasAnswer AppendedPart blocks bytes
   FailsToWrite (request.Run mode workers) bytes = HasReport AppendedPart mode bytes
-  FailsToWrite request.Lint bytes = HasWarnings bytes
+  FailsToWrite (request.RunFile mode workers) bytes = OfFile (HasReport AppendedPart mode) bytes
+  FailsToWrite request.Lint bytes = OfFile HasWarnings bytes
+  FailsToWrite request.Expand bytes = OfFile (HasWorkload AppendedPart) bytes
   FailsToWrite request.Check bytes = HasLawful AppendedPart bytes ⊎ IsUnlawfulTrace bytes
-  FailsToWrite (request.Trace mode workers) bytes = HasTrace AppendedPart mode bytes
+  FailsToWrite (request.Trace mode workers) bytes = OfFile (HasTrace AppendedPart mode) bytes
   FailsToWrite (request.Chart range) bytes = IsTrace bytes
   FailsToWrite (request.Stats numbers) bytes = IsTrace bytes
   FailsToWrite (request.Help text) bytes = Unit {0}

@@ -11,8 +11,9 @@ use Rattle.nvme_chart.specs.Shown.{IsReadFault, IsShown}
 use Rattle.nvme_runs.specs.declared.runs.Ran.{Ran}
 use Rattle.nvme_lint.specs.Warnings.{AreWarningsOf}
 use Rattle.nvme_lint.specs.declared.warning.Warning.{Warning}
+use Rattle.nvme_sim.specs.Files.{IsBadFile}
 use Rattle.nvme_sim.specs.Statuses.{IsBadEntry, IsBadWorkload}
-use Rattle.nvme_words.specs.Words.{asks, reads_workload, shows_trace}
+use Rattle.nvme_words.specs.Words.{asks, reads_file, reads_workload, shows_trace}
 
 -- a trace has a line with a fault, and each pick before it is lawful
 abbrev pub IsFaultyTrace : List ℕ → Type 0
@@ -61,6 +62,7 @@ HasNoWarning bytes = AreWarningsOf bytes []
 abbrev pub IsBadInput : List (String Global) → List ℕ → Type 0
 IsBadInput words bytes = ((asks (codes "once") words ≡ true) × IsBadEntry bytes) ⊎ ((reads_workload words ≡ true) × IsBadWorkload bytes)
     ⊎ ((asks (codes "check") words ≡ true) × IsBadTrace bytes) ⊎ ((shows_trace words ≡ true) × IsFaultyShown bytes)
+    ⊎ ((reads_file words ≡ true) × IsBadFile bytes)
 
 -- the words ask for a check, and a pick of the input isn't the lawful one
 abbrev pub IsUnlawfulCheck : List (String Global) → Option (List ℕ) → Type 0

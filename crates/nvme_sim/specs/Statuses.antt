@@ -62,6 +62,7 @@ status_of (fault.NoMemory e) = 3
 status_of fault.Write = 3
 status_of (fault.Run e) = run_status e
 status_of (fault.Workload f) = 1
+status_of (fault.Short f) = 1
 status_of (fault.Trace e) = trace_status e
 
 -- an input has more bytes than are taken

@@ -1,5 +1,6 @@
 ghost use Rattle.std.specs.Prelude.{◌≡◌, ◌≤◌, ◌⊎◌, true, Ok, IfErr, IfSome, codes};
 ghost use Rattle.nvme_sim.specs.Answers.{Asked, Does, FailsToWrite};
+ghost use Rattle.nvme_sim.specs.Files.{OfFile};
 ghost use Rattle.nvme_sim.specs.Inputs.{HasWarnings, IsBadInput, IsToldLawful, IsUnlawfulCheck};
 ghost use Rattle.nvme_words.specs.Requests.{IsAskedBy};
 ghost use Rattle.nvme_sim.specs.Statuses.{status_of};
@@ -11,6 +12,7 @@ ghost use Rattle.nvme_runs.specs.declared.runs.RunError.TheVariants as run_fault
 mod chart;
 mod check;
 mod entry;
+mod file;
 mod lint;
 mod run;
 mod stats;
@@ -20,7 +22,7 @@ use crate::faults::Fault;
 use chart::charted;
 use check::checked;
 use entry::answered;
-use lint::linted;
+use file::{expanded, linted_file, ran_file, traced_file};
 use nvme_words::{Request, asked_of};
 use run::ran;
 use stats::counted;
@@ -28,7 +30,6 @@ use std::alloc::Global;
 use std::io::{Read, Write};
 use std::sync::Wait;
 use std::thread::Threads;
-use trace::traced;
 
 // How the program ends where there is no fault.
 #[derive(Clone, Copy, Debug, PartialEq, Eq)]
@@ -63,7 +64,7 @@ fn done<R: Read + Drop, W: Write, T: Threads + Wait + Sync>(
     requires { IsAskedBy words.now request }
     ensures input { IfErr result (λ e. status_of e ≡ 1 → IfSome (R.remaining input) (IsBadInput words.now)) }
     ensures warned { result ≡ Ok answer.Warned → asks (codes "lint") words.now ≡ true }
-    ensures warnings { result ≡ Ok answer.Warned → IfSome (R.remaining input) HasWarnings }
+    ensures warnings { result ≡ Ok answer.Warned → IfSome (R.remaining input) (OfFile HasWarnings) }
     ensures unlawful { result ≡ Ok answer.Unlawful → IsUnlawfulCheck words.now (R.remaining input) }
     ensures lawful { result ≡ Ok answer.Done → asks_alone (codes "check") words.now ≡ true → IfSome (R.remaining input) (IsToldLawful (W.contents output.old) (W.contents output.new)) }
     ensures done { result ≡ Ok answer.Done → IfSome (R.remaining input) (Does W.contents output.old output.new request) }
@@ -74,9 +75,11 @@ fn done<R: Read + Drop, W: Write, T: Threads + Wait + Sync>(
         Request::Help(text) => helped(text, output),
         Request::Once(blocks) => answered(alloc, blocks, input, output),
         Request::Run(mode, workers) => ran(rt, alloc, mode, workers, input, output),
-        Request::Lint => linted(alloc, input, output),
+        Request::RunFile(mode, workers) => ran_file(rt, alloc, mode, workers, input, output),
+        Request::Lint => linted_file(alloc, input, output),
+        Request::Expand => expanded(alloc, input, output),
         Request::Check => checked(alloc, input, output),
-        Request::Trace(mode, workers) => traced(rt, alloc, mode, workers, input, output),
+        Request::Trace(mode, workers) => traced_file(rt, alloc, mode, workers, input, output),
         Request::Chart(range) => charted(alloc, range, input, output),
         Request::Stats(numbers) => counted(alloc, numbers, input, output),
     }
@@ -92,7 +95,7 @@ fn served<R: Read + Drop, W: Write, T: Threads + Wait + Sync>(
 ) -> Result<Answer, Fault>
     ensures input { IfErr result (λ e. status_of e ≡ 1 → IfSome (R.remaining input) (IsBadInput words.now)) }
     ensures warned { result ≡ Ok answer.Warned → asks (codes "lint") words.now ≡ true }
-    ensures warnings { result ≡ Ok answer.Warned → IfSome (R.remaining input) HasWarnings }
+    ensures warnings { result ≡ Ok answer.Warned → IfSome (R.remaining input) (OfFile HasWarnings) }
     ensures unlawful { result ≡ Ok answer.Unlawful → IsUnlawfulCheck words.now (R.remaining input) }
     ensures lawful { result ≡ Ok answer.Done → asks_alone (codes "check") words.now ≡ true → IfSome (R.remaining input) (IsToldLawful (W.contents output.old) (W.contents output.new)) }
     ensures done { result ≡ Ok answer.Done → Asked words.now (λ asked. IfSome (R.remaining input) (Does W.contents output.old output.new asked)) }
@@ -132,7 +135,7 @@ pub fn command<R: Read + Drop, W: Write, E: Write, T: Threads + Wait + Sync>(
 ) -> u8
     ensures status { result ≤ 4 }
     ensures warned { result ≡ 4 → asks (codes "lint") words.now ≡ true }
-    ensures warnings { result ≡ 4 → IfSome (R.remaining input) HasWarnings }
+    ensures warnings { result ≡ 4 → IfSome (R.remaining input) (OfFile HasWarnings) }
     ensures input { result ≡ 1 → IfSome (R.remaining input) (IsBadInput words.now) }
     ensures lawful { result ≡ 0 → asks_alone (codes "check") words.now ≡ true → IfSome (R.remaining input) (IsToldLawful (W.contents output.old) (W.contents output.new)) }
     ensures done { result ≡ 0 → Asked words.now (λ asked. IfSome (R.remaining input) (Does W.contents output.old output.new asked)) }

@@ -31,6 +31,8 @@ pub(crate) enum Fault {
     Run(RunError),
     #[error("nvmearb: workload: {0}")]
     Workload(nvme_lint::Fault),
+    #[error("nvmearb: workload: {0}")]
+    Short(nvme_short::ShortFault),
     #[error("nvmearb: {0}")]
     Trace(TraceError),
 }
@@ -57,7 +59,7 @@ impl Fault {
         match self {
             Fault::Entry(_) | Fault::Input(InputError::TooLong) => 1,
             Fault::Run(RunError::Workload(_)) => 1,
-            Fault::Workload(_) | Fault::Trace(TraceError::Line { .. }) => 1,
+            Fault::Workload(_) | Fault::Short(_) | Fault::Trace(TraceError::Line { .. }) => 1,
             Fault::CommandLine(_) | Fault::Words | Fault::Run(RunError::Workers) => 2,
             Fault::Input(_) | Fault::NoMemory(_) | Fault::Write => 3,
             Fault::Run(_) | Fault::Trace(_) => 3,

@@ -5,6 +5,7 @@ mod commands;
 mod faults;
 pub mod laws;
 mod output;
+mod pipes;
 
 pub use commands::command;
 pub use nvme_input::{InputError, MAX_INPUT, MAX_READS, OnceError, once, take_input};
@@ -12,3 +13,4 @@ pub use nvme_report::{Mode, WriteFault, report};
 pub use nvme_runs::{Ran, RunError, run, run_with, settled_run};
 pub use nvme_words::file_named;
 pub use output::flushed;
+pub use pipes::{Errors, Output};

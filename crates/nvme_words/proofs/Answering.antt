@@ -54,7 +54,9 @@ text_answers app words kind (Ok (request.Help text)) (inr among) (same, help) =
     inr (subst (λ (k : ErrorKind). IsAmong k (faults_of app words)) (sym same) among, subst (IsHelp words) (sym same) help)
 text_answers app words kind (Ok (request.Once blocks)) has h = absurd h
 text_answers app words kind (Ok (request.Run when workers)) has h = absurd h
+text_answers app words kind (Ok (request.RunFile when workers)) has h = absurd h
 text_answers app words kind (Ok request.Lint) has h = absurd h
+text_answers app words kind (Ok request.Expand) has h = absurd h
 text_answers app words kind (Ok request.Check) has h = absurd h
 text_answers app words kind (Ok (request.Trace when workers)) has h = absurd h
 text_answers app words kind (Ok (request.Chart range)) has h = absurd h

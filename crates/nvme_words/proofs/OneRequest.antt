@@ -82,8 +82,9 @@ picked given when =
     if bytes_eq given.0 (codes "once") then request.Once (number_in (codes "blocks") given.1)
     else if bytes_eq given.0 (codes "loaded") then request.Run Loaded (number_in (codes "workers") given.1)
     else if bytes_eq given.0 (codes "live") then request.Run Live (number_in (codes "workers") given.1)
-    else if bytes_eq given.0 (codes "run") then request.Run when (number_in (codes "workers") given.1)
+    else if bytes_eq given.0 (codes "run") then request.RunFile when (number_in (codes "workers") given.1)
     else if bytes_eq given.0 (codes "lint") then request.Lint
+    else if bytes_eq given.0 (codes "expand") then request.Expand
     else if bytes_eq given.0 (codes "check") then request.Check
     else if bytes_eq given.0 (codes "trace") then request.Trace when (number_in (codes "workers") given.1)
     else if bytes_eq given.0 (codes "chart") then request.Chart (range_in given.1)
@@ -94,11 +95,11 @@ module _ (given : Given) (when : Mode) (only : (w : Mode) → SubmitsBy given.1 
   is_picked (request.Once n) h = rw h.0 (ap request.Once (number_is 64 (codes "blocks") given.1 n h.1))
   is_picked (request.Run w n) h = ⊎_elim
       (λ k. rw (k.0, k.1) (ap (request.Run Loaded) (number_is 8 (codes "workers") given.1 n h.1)))
-      (⊎_elim
       (λ k. rw (k.0, k.1) (ap (request.Run Live) (number_is 8 (codes "workers") given.1 n h.1)))
-      (λ k. rw k.0 (ap₂ request.Run (only w k.1) (number_is 8 (codes "workers") given.1 n h.1))))
       h.0
+  is_picked (request.RunFile w n) h = rw h.0 (ap₂ request.RunFile (only w h.1) (number_is 8 (codes "workers") given.1 n h.2))
   is_picked request.Lint h = rw h refl
+  is_picked request.Expand h = rw h refl
   is_picked request.Check h = rw h refl
   is_picked (request.Trace w n) h = rw h.0 (ap₂ request.Trace (only w h.1) (number_is 8 (codes "workers") given.1 n h.2))
   is_picked (request.Chart range) h = rw h.0 (ap request.Chart (range_is given.1 range h.1))
@@ -142,11 +143,11 @@ pub none_of_once : (text : Text) → (IsNumeral 10 (without_leading_plus text) �
     → AsksForNothing (codes "once") (codes "blocks") text
 none_of_once text none given name is = no_blocks given name (λ n. no_number 64 (codes "blocks") given.1 n text none is)
 
-pub none_of_workers : (name text : Text) → bytes_eq name (codes "once") ≡ false → bytes_eq name (codes "lint") ≡ false
+pub none_of_workers : (name text : Text) → bytes_eq name (codes "once") ≡ false → bytes_eq name (codes "lint") ≡ false → bytes_eq name (codes "expand") ≡ false
     → bytes_eq name (codes "check") ≡ false → bytes_eq name (codes "chart") ≡ false → bytes_eq name (codes "stats") ≡ false
     → (IsNumeral 10 (without_leading_plus text) × (digits_value 10 (without_leading_plus text) < 2 ^ 8) → ⊥)
     → AsksForNothing name (codes "workers") text
-none_of_workers name text once lint check chart stats none given same is = no_workers given
-    (apart given.0 name (codes "once") once same) (apart given.0 name (codes "lint") lint same) (apart given.0 name (codes "check") check same)
+none_of_workers name text once lint expand check chart stats none given same is = no_workers given
+    (apart given.0 name (codes "once") once same) (apart given.0 name (codes "lint") lint same) (apart given.0 name (codes "expand") expand same) (apart given.0 name (codes "check") check same)
     (apart given.0 name (codes "chart") chart same) (apart given.0 name (codes "stats") stats same)
     (λ n. no_number 8 (codes "workers") given.1 n text none is)

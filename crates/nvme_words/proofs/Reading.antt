@@ -45,8 +45,10 @@ no_blocks given is none = go
     go : (r : Request) → IsRequestOf given r → ⊥
     go (request.Once blocks) h = none blocks h.1
     go (request.Run when workers) h =
-        ⊎_elim (λ e. not (codes "loaded") refl e.0) (⊎_elim (λ e. not (codes "live") refl e.0) (λ e. not (codes "run") refl e.0)) h.0
+        ⊎_elim (λ e. not (codes "loaded") refl e.0) (λ e. not (codes "live") refl e.0) h.0
+    go (request.RunFile when workers) h = not (codes "run") refl h.0
     go request.Lint h = not (codes "lint") refl h
+    go request.Expand h = not (codes "expand") refl h
     go request.Check h = not (codes "check") refl h
     go (request.Trace when workers) h = not (codes "trace") refl h.0
     go (request.Chart range) h = not (codes "chart") refl h.0
@@ -64,8 +66,10 @@ no_range given is none = go
     go : (r : Request) → IsRequestOf given r → ⊥
     go (request.Once blocks) h = not (codes "once") refl h.0
     go (request.Run when workers) h =
-        ⊎_elim (λ e. not (codes "loaded") refl e.0) (⊎_elim (λ e. not (codes "live") refl e.0) (λ e. not (codes "run") refl e.0)) h.0
+        ⊎_elim (λ e. not (codes "loaded") refl e.0) (λ e. not (codes "live") refl e.0) h.0
+    go (request.RunFile when workers) h = not (codes "run") refl h.0
     go request.Lint h = not (codes "lint") refl h
+    go request.Expand h = not (codes "expand") refl h
     go request.Check h = not (codes "check") refl h
     go (request.Trace when workers) h = not (codes "trace") refl h.0
     go (request.Chart range) h = none range h.1
@@ -83,8 +87,10 @@ no_numbers given is none = go
     go : (r : Request) → IsRequestOf given r → ⊥
     go (request.Once blocks) h = not (codes "once") refl h.0
     go (request.Run when workers) h =
-        ⊎_elim (λ e. not (codes "loaded") refl e.0) (⊎_elim (λ e. not (codes "live") refl e.0) (λ e. not (codes "run") refl e.0)) h.0
+        ⊎_elim (λ e. not (codes "loaded") refl e.0) (λ e. not (codes "live") refl e.0) h.0
+    go (request.RunFile when workers) h = not (codes "run") refl h.0
     go request.Lint h = not (codes "lint") refl h
+    go request.Expand h = not (codes "expand") refl h
     go request.Check h = not (codes "check") refl h
     go (request.Trace when workers) h = not (codes "trace") refl h.0
     go (request.Chart range) h = not (codes "chart") refl h.0
@@ -92,13 +98,15 @@ no_numbers given is none = go
     go (request.Help text) h = h
 
 -- where there is no number of workers, no run is asked for
-pub no_workers : (given : Given) → given.0 ≢ codes "once" → given.0 ≢ codes "lint" → given.0 ≢ codes "check" → given.0 ≢ codes "chart"
+pub no_workers : (given : Given) → given.0 ≢ codes "once" → given.0 ≢ codes "lint" → given.0 ≢ codes "expand" → given.0 ≢ codes "check" → given.0 ≢ codes "chart"
     → given.0 ≢ codes "stats" → ((n : ℕ) → IsNumber 8 (codes "workers") given.1 n → ⊥) → (r : Request) → IsRequestOf given r → ⊥
-no_workers given once lint check chart stats none (request.Once blocks) h = once h.0
-no_workers given once lint check chart stats none (request.Run when workers) h = none workers h.1
-no_workers given once lint check chart stats none request.Lint h = lint h
-no_workers given once lint check chart stats none request.Check h = check h
-no_workers given once lint check chart stats none (request.Trace when workers) h = none workers h.2
-no_workers given once lint check chart stats none (request.Chart range) h = chart h.0
-no_workers given once lint check chart stats none (request.Stats numbers) h = stats h.0
-no_workers given once lint check chart stats none (request.Help text) h = h
+no_workers given once lint expand check chart stats none (request.Once blocks) h = once h.0
+no_workers given once lint expand check chart stats none (request.Run when workers) h = none workers h.1
+no_workers given once lint expand check chart stats none (request.RunFile when workers) h = none workers h.2
+no_workers given once lint expand check chart stats none request.Lint h = lint h
+no_workers given once lint expand check chart stats none request.Expand h = expand h
+no_workers given once lint expand check chart stats none request.Check h = check h
+no_workers given once lint expand check chart stats none (request.Trace when workers) h = none workers h.2
+no_workers given once lint expand check chart stats none (request.Chart range) h = chart h.0
+no_workers given once lint expand check chart stats none (request.Stats numbers) h = stats h.0
+no_workers given once lint expand check chart stats none (request.Help text) h = h

@@ -77,6 +77,10 @@ run name = with_rule (with_rule (with_rule (new_app name) (required file)) live)
 abbrev pub lint : App
 lint = with_rule (new_app (codes "lint")) (required file)
 
+-- the subcommand that writes a workload file out
+abbrev pub expand : App
+expand = with_rule (new_app (codes "expand")) (required file)
+
 -- a subcommand that reads a trace
 abbrev pub trace : Text → App
 trace name = with_rule (new_app name) file
@@ -101,7 +105,7 @@ abbrev pub with_input : App → App
 with_input app = with_subcommand (with_subcommand (with_subcommand app once.top) (mode (codes "loaded")).top) (mode (codes "live")).top
 
 abbrev pub with_file : App → App
-with_file app = with_subcommand (with_subcommand (with_subcommand app (run (codes "run")).top) lint.top) (run (codes "trace")).top
+with_file app = with_subcommand (with_subcommand (with_subcommand (with_subcommand app (run (codes "run")).top) lint.top) (run (codes "trace")).top) expand.top
 
 abbrev pub with_trace : Names → App → App
 with_trace names app = with_subcommand (with_subcommand (with_subcommand app (trace (codes "check")).top) (ranged (codes "chart")).top) (stats names).top

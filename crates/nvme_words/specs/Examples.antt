@@ -108,6 +108,9 @@ lint_input = codes "lint" ∷ codes "-" ∷ []
 abbrev pub lint_file : List Text
 lint_file = codes "lint" ∷ codes "lint" ∷ []
 
+abbrev pub expand_file : List Text
+expand_file = codes "expand" ∷ codes "a.toml" ∷ []
+
 abbrev pub alone : Text → List Text
 alone word = word ∷ []
 

@@ -23,7 +23,9 @@ use Rattle.nvme_words.specs.Words.{asks, asks_alone, reads_input, reads_workload
 abbrev pub IsAskedBy : List (String Global) → Request → Type 0
 IsAskedBy words (request.Once blocks) = asks (codes "once") words ≡ true
 IsAskedBy words (request.Run mode workers) = reads_workload words ≡ true
+IsAskedBy words (request.RunFile mode workers) = asks (codes "run") words ≡ true
 IsAskedBy words request.Lint = asks (codes "lint") words ≡ true
+IsAskedBy words request.Expand = asks (codes "expand") words ≡ true
 IsAskedBy words request.Check = asks (codes "check") words ≡ true
 IsAskedBy words (request.Trace mode workers) = asks (codes "trace") words ≡ true
 IsAskedBy words (request.Chart range) = shows_trace words ≡ true
@@ -65,16 +67,18 @@ abbrev pub AreNumbers : List Row → Numbers → Type 0
 AreNumbers rows numbers = IsRange rows numbers.range × IsNumber 64 (codes "window") rows numbers.window
     × IsFlag (codes "backlogged") rows numbers.backlogged × IsFormat rows numbers.format
 
--- the mode of a run whose report is wanted
+-- the mode of a run of standard input whose report is wanted
 abbrev pub RunsBy : Given → Mode → Type 0
 RunsBy given mode = ((given.0 ≡ codes "loaded") × (mode ≡ Loaded))
-    ⊎ (((given.0 ≡ codes "live") × (mode ≡ Live))
-    ⊎ ((given.0 ≡ codes "run") × SubmitsBy given.1 mode))
+    ⊎ ((given.0 ≡ codes "live") × (mode ≡ Live))
 
 abbrev pub IsRequestOf : Given → Request → Type 0
 IsRequestOf given (request.Once blocks) = (given.0 ≡ codes "once") × IsNumber 64 (codes "blocks") given.1 blocks
 IsRequestOf given (request.Run mode workers) = RunsBy given mode × IsNumber 8 (codes "workers") given.1 workers
+IsRequestOf given (request.RunFile mode workers) =
+    (given.0 ≡ codes "run") × SubmitsBy given.1 mode × IsNumber 8 (codes "workers") given.1 workers
 IsRequestOf given request.Lint = given.0 ≡ codes "lint"
+IsRequestOf given request.Expand = given.0 ≡ codes "expand"
 IsRequestOf given request.Check = given.0 ≡ codes "check"
 IsRequestOf given (request.Trace mode workers) =
     (given.0 ≡ codes "trace") × SubmitsBy given.1 mode × IsNumber 8 (codes "workers") given.1 workers

@@ -21,10 +21,13 @@ asks_alone name (program ∷ word ∷ []) = pointwise nat_eq (string_bytes word)
 asks_alone name (program ∷ word ∷ file ∷ []) = pointwise nat_eq (string_bytes word) name && not (is_option (string_bytes file))
 asks_alone name (program ∷ word ∷ file ∷ more ∷ rest) = false
 
--- the words are of a subcommand that reads a workload
+-- the words are of a subcommand that reads a workload of standard input
 abbrev pub reads_workload : List (String Global) → Bool
-reads_workload words =
-    asks (codes "run") words || asks (codes "loaded") words || asks (codes "live") words || asks (codes "lint") words || asks (codes "trace") words
+reads_workload words = asks (codes "loaded") words || asks (codes "live") words
+
+-- the words are of a subcommand that reads the workload of a file, of either form
+abbrev pub reads_file : List (String Global) → Bool
+reads_file words = asks (codes "run") words || asks (codes "lint") words || asks (codes "trace") words || asks (codes "expand") words
 
 -- the words are of a subcommand that reads standard input alone
 abbrev pub reads_input_alone : List (String Global) → Bool

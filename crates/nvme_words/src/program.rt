@@ -1,7 +1,7 @@
 // The command line of the program, by `clap`.
 ghost use Rattle.std.specs.Prelude.{◌≡◌, IfOk, codes};
 ghost use Rattle.clap.specs.Words.{App, app_of};
-ghost use Rattle.nvme_words.specs.CommandLine.{OnCommandLine, backlogged, blocks, file, first, last, lint, mode, once, option, ranged, run, stats, trace, window, with_file, with_input, with_trace, workers};
+ghost use Rattle.nvme_words.specs.CommandLine.{OnCommandLine, backlogged, blocks, expand, file, first, last, lint, mode, once, option, ranged, run, stats, trace, window, with_file, with_input, with_trace, workers};
 ghost use Rattle.nvme_words.specs.inside.Built.{AddsIfMade, HasApp, HasRule};
 
 use clap::builder::ValueParser;
@@ -18,7 +18,7 @@ Input:
   FILE            a file, or - for standard input; without FILE check, chart
                   and stats read standard input
   once            a submission entry: 128 hexadecimal digits
-  run, loaded, live, lint, trace
+  run, loaded, live, lint, trace, expand
                   a workload file: TOML, at most 16777216 bytes
   check, chart, stats
                   a trace: JSON, a line of at most 4096 bytes for each event
@@ -34,6 +34,7 @@ Exit status:
   2  the command line is at fault
   3  the run is: a file, a read or a write failed, memory was refused, or not all was done
   4  with lint: the workload is lawful, and there are warnings
+  141  nobody reads the output any more, as after | head; nothing is told
 
 Example:
   nvmearb lint examples/five-queues.toml
@@ -137,6 +138,16 @@ fn lint_command<'a>(alloc: Global) -> Result<Command<'a>, AllocError>
     let file = file_arg(alloc, "The workload file, or - for standard input");
     Command::new(alloc, "lint")
         .about("Tells where a workload file is at fault, or what of it comes to nothing")
+        .arg(file.required(true))
+}
+
+// The subcommand that writes the workload of a file out.
+fn expand_command<'a>(alloc: Global) -> Result<Command<'a>, AllocError>
+    ensures { IfOk result (HasApp expand) }
+{
+    let file = file_arg(alloc, "The workload file, or - for standard input");
+    Command::new(alloc, "expand")
+        .about("Writes a short workload file out, entry by entry")
         .arg(file.required(true))
 }
 
@@ -253,7 +264,8 @@ fn with_file<'a>(alloc: Global, program: Command<'a>) -> Result<Command<'a>, All
     let trace = "Runs the workload of a file, and prints its trace";
     let program = with(Ok(program), run_command(alloc, "run", run));
     let program = with(program, lint_command(alloc));
-    with(program, run_command(alloc, "trace", trace))
+    let program = with(program, run_command(alloc, "trace", trace));
+    with(program, expand_command(alloc))
 }
 
 // The subcommands that read a trace.

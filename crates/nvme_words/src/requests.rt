@@ -52,8 +52,13 @@ pub enum Request {
     Once(u64),
     /// The report of a run of a workload in this mode, with this many workers, 1 to 8.
     Run(Mode, u8),
+    /// The report of a run of the workload that a file of either form stands for, in this mode, with this many
+    /// workers, 1 to 8.
+    RunFile(Mode, u8),
     /// The first fault of a workload, or what in a valid one has no effect.
     Lint,
+    /// The workload file that a short one stands for.
+    Expand,
     /// Whether each pick of a trace is the lawful one.
     Check,
     /// The trace of a run of a workload in this mode, with this many workers, 1 to 8.
@@ -178,8 +183,9 @@ fn request_of(name: &str, matches: &ArgMatches) -> Option<Request>
         "once" => Some(Request::Once(blocks_of(matches)?)),
         "loaded" => Some(Request::Run(Mode::Loaded, workers_of(matches)?)),
         "live" => Some(Request::Run(Mode::Live, workers_of(matches)?)),
-        "run" => Some(Request::Run(mode_of(matches), workers_of(matches)?)),
+        "run" => Some(Request::RunFile(mode_of(matches), workers_of(matches)?)),
         "lint" => Some(Request::Lint),
+        "expand" => Some(Request::Expand),
         "check" => Some(Request::Check),
         "trace" => Some(Request::Trace(mode_of(matches), workers_of(matches)?)),
         "chart" => Some(Request::Chart(range_of(matches)?)),

@@ -3,13 +3,18 @@
 
 ghost use Rattle.std.specs.Prelude.{◌≡◌, ◌≤◌};
 
-use nvme_sim::{command, file_named, flushed};
+use nvme_sim::{Errors, Output, command, file_named, flushed};
+use std::cell::Cell;
 use std::io::{BufWriter, ErrorKind, Write};
 use std::process::ExitCode;
 use std::rt::Files;
 use std::sync::Wait;
 use std::thread::Threads;
 use std::{env, fs, io};
+
+// The exit status where nobody reads the output any more: that of a program which the signal of a closed pipe ended, as
+// shells tell it.
+const UNREAD: u8 = 141;
 
 // The words of the command line, the program's name first.
 fn words_of(rt: &HostRuntime) -> io::Result<Vec<String>> {
@@ -50,9 +55,36 @@ fn served<R: AllocGlobal + Files + Input + Threads + Wait + Sync, W: Write, E: W
     }
 }
 
+// Does what the words ask for, over standard output and standard error. The answer is the exit status. Where nobody
+// reads the output any more nothing is told.
+fn answered<R, W: Write + Drop, E: Write + Drop>(
+    rt: &R,
+    words: &[String],
+    output: W,
+    errors: E,
+) -> u8
+where
+    R: AllocGlobal + Files + Input + Threads + Wait + Sync,
+{
+    let is_unread = Cell::new(false);
+    let mut errors = Errors::new(errors, &is_unread);
+    let Ok(mut output) = BufWriter::new(rt.alloc(), Output::new(output, &is_unread)) else {
+        let _ = writeln!(errors, "nvmearb: out of memory");
+        return 3;
+    };
+    let status = served(rt, words, &mut output, &mut errors);
+    let status = flushed(status, &mut output, &mut errors);
+    // After a failed write the rest isn't written.
+    let _ = output.into_parts();
+    if is_unread.get() { UNREAD } else { status }
+}
+
 fn main(rt: HostRuntime) -> ExitCode {
-    let words = match words_of(&rt) {
-        Ok(words) => words,
+    match words_of(&rt) {
+        Ok(words) => {
+            let status = answered(&rt, words.as_slice(), io::writer(&rt), rt.stderr());
+            ExitCode::from(status)
+        }
         // Words that aren't text are a fault of the command line.
         Err(error) => {
             let no_memory = error.kind() == ErrorKind::OutOfMemory;
@@ -62,17 +94,7 @@ fn main(rt: HostRuntime) -> ExitCode {
                 "command line"
             };
             let _ = eprintln!(rt; "nvmearb: {line}");
-            return ExitCode::from(if no_memory { 3 } else { 2 });
+            ExitCode::from(if no_memory { 3 } else { 2 })
         }
-    };
-    let Ok(mut output) = BufWriter::new(rt.alloc(), io::writer(&rt)) else {
-        let _ = eprintln!(rt; "nvmearb: out of memory");
-        return ExitCode::from(3);
-    };
-    let mut errors = rt.stderr();
-    let status = served(&rt, words.as_slice(), &mut output, &mut errors);
-    let status = flushed(status, &mut output, &mut errors);
-    // After a failed write the rest isn't written.
-    let _ = output.into_parts();
-    ExitCode::from(status)
+    }
 }

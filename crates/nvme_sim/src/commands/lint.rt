@@ -1,7 +1,9 @@
 // Checks a workload for its writer.
-ghost use Rattle.std.specs.Prelude.{◌≡◌, ◌⊎◌, Ok, IfErr, IfSome};
+ghost use Rattle.std.specs.Prelude.{◌≡◌, ◌⊎◌, Ok, IfErr, IfOk, IfSome};
+ghost use Rattle.nvme_lint.specs.Lints.{IsLawful};
+ghost use Rattle.nvme_lint.specs.Warnings.{AreWarningsOf};
 ghost use Rattle.nvme_sim.specs.Inputs.{HasNoWarning, HasWarnings};
-ghost use Rattle.nvme_sim.specs.Statuses.{IsBadWorkload, status_of};
+ghost use Rattle.nvme_sim.specs.Statuses.{IsBadWorkload, IsNoWorkload, status_of};
 ghost use Rattle.nvme_sim.specs.declared.faults.Fault.TheVariants as fault;
 ghost use Rattle.nvme_sim.specs.declared.commands.Answer.TheVariants as answer;
 
@@ -18,6 +20,19 @@ fn write_warnings<W: Write>(warnings: &[Warning], output: &mut W) -> io::Result<
         writeln!(output, "{warning}")?;
     }
     Ok(())
+}
+
+/// The warnings of a workload file, or its first fault.
+pub(super) fn warnings_of(alloc: Global, text: &[u8]) -> Result<Vec<Warning>, Fault>
+    ensures lawful { IfOk result (λ _. IsLawful text.now) }
+    ensures warnings { IfOk result (λ ws. AreWarningsOf text.now ws.items) }
+    ensures input { IfErr result (λ e. status_of e ≡ 1 → IsNoWorkload text.now) }
+{
+    match lint(alloc, text) {
+        Ok(warnings) => Ok(warnings),
+        Err(LintError::Fault(fault)) => Err(Fault::Workload(fault)),
+        Err(LintError::NoMemory) => Err(Fault::NoMemory(AllocError)),
+    }
 }
 
 /// Refuses a faulty workload with the place of its first fault, or writes what of a valid one has no effect.
@@ -37,11 +52,7 @@ pub(super) fn linted<R: Read + Drop, W: Write>(
     ensures failed { IfErr result (λ e. (output.new ≡ output.old) ⊎ IfSome (R.remaining input) HasWarnings) }
 {
     let bytes = take_input(alloc, input).map_err(Fault::Input)?;
-    let warnings = match lint(alloc, bytes.as_slice()) {
-        Ok(warnings) => warnings,
-        Err(LintError::Fault(fault)) => return Err(Fault::Workload(fault)),
-        Err(LintError::NoMemory) => return Err(Fault::NoMemory(AllocError)),
-    };
+    let warnings = warnings_of(alloc, bytes.as_slice())?;
     if warnings.is_empty() {
         return Ok(Answer::Done);
     }

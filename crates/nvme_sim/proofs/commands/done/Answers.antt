@@ -1,11 +1,12 @@
 -- A fault of each request is a fault of an input, by its word.
-use Rattle.std.proofs.Common.{◌≡◌, true}
+use Rattle.std.proofs.Common.{◌≡◌, true, inl, inr}
 use Rattle.std.specs.Prelude.{codes}
 use Rattle.nvme_sim.specs.Inputs.{IsBadInput, IsFaultyShown, IsFaultyTrace}
+use Rattle.nvme_sim.specs.Files.{IsBadFile}
 use Rattle.nvme_sim.specs.Statuses.{IsBadEntry, IsBadWorkload}
 use Rattle.nvme_sim.specs.declared.commands.Answer.TheVariants as answer
 use Rattle.nvme_words.specs.Words.{asks, reads_workload, shows_trace}
-use Rattle.nvme_sim.proofs.Inputs.{bad_check, bad_once, bad_run, bad_shown, faulty_is_bad, is_quiet, lint_reads_workload, no_fault_said, nothing_said, of_kind, on_done, only_check, trace_reads_workload}
+use Rattle.nvme_sim.proofs.Inputs.{bad_check, bad_file_read, bad_once, bad_run, bad_shown, faulty_is_bad, is_quiet, no_fault_said, nothing_said, of_kind, on_done, one_reads_file, only_check}
 use Rattle.nvme_sim.proofs.commands.done.Goals as goal
 
 pub returns-in-Once-clause-input : goal.returns-in-Once-clause-input
@@ -20,11 +21,23 @@ returns-in-Run-clause-input g c =
     let asked : reads_workload words ≡ true = rw c.in-Run.is at c.requires in
     of_kind c.ran.result (g.R.Read.remaining c.args.input) IsBadWorkload (IsBadInput words) (λ bs h. bad_run words bs asked h) c.ran.ensures.input
 
+pub returns-in-RunFile-clause-input : goal.returns-in-RunFile-clause-input
+returns-in-RunFile-clause-input g c =
+    let words = c.args.words.now in
+    let asked : asks (codes "run") words ≡ true = rw c.in-RunFile.is at c.requires in
+    of_kind c.ran_file.result (g.R.Read.remaining c.args.input) IsBadFile (IsBadInput words) (λ bs h. bad_file_read words bs (one_reads_file words (inl asked)) h) c.ran_file.ensures.input
+
+pub returns-in-Expand-clause-input : goal.returns-in-Expand-clause-input
+returns-in-Expand-clause-input g c =
+    let words = c.args.words.now in
+    let asked : asks (codes "expand") words ≡ true = rw c.in-Expand.is at c.requires in
+    of_kind c.expanded.result (g.R.Read.remaining c.args.input) IsBadFile (IsBadInput words) (λ bs h. bad_file_read words bs (one_reads_file words (inr (inr (inr asked)))) h) c.expanded.ensures.input
+
 pub returns-in-Lint-clause-input : goal.returns-in-Lint-clause-input
 returns-in-Lint-clause-input g c =
     let words = c.args.words.now in
     let asked : asks (codes "lint") words ≡ true = rw c.in-Lint.is at c.requires in
-    of_kind c.linted.result (g.R.Read.remaining c.args.input) IsBadWorkload (IsBadInput words) (λ bs h. bad_run words bs (lint_reads_workload words asked) h) c.linted.ensures.input
+    of_kind c.linted_file.result (g.R.Read.remaining c.args.input) IsBadFile (IsBadInput words) (λ bs h. bad_file_read words bs (one_reads_file words (inr (inl asked))) h) c.linted_file.ensures.input
 
 pub returns-in-Check-clause-input : goal.returns-in-Check-clause-input
 returns-in-Check-clause-input g c =
@@ -36,7 +49,7 @@ pub returns-in-Trace-clause-input : goal.returns-in-Trace-clause-input
 returns-in-Trace-clause-input g c =
     let words = c.args.words.now in
     let asked : asks (codes "trace") words ≡ true = rw c.in-Trace.is at c.requires in
-    of_kind c.traced.result (g.R.Read.remaining c.args.input) IsBadWorkload (IsBadInput words) (λ bs h. bad_run words bs (trace_reads_workload words asked) h) c.traced.ensures.input
+    of_kind c.traced_file.result (g.R.Read.remaining c.args.input) IsBadFile (IsBadInput words) (λ bs h. bad_file_read words bs (one_reads_file words (inr (inr (inl asked)))) h) c.traced_file.ensures.input
 
 pub returns-in-Chart-clause-input : goal.returns-in-Chart-clause-input
 returns-in-Chart-clause-input g c =
@@ -57,6 +70,14 @@ returns-in-Once-clause-lawful g c = λ is alone.
 pub returns-in-Run-clause-lawful : goal.returns-in-Run-clause-lawful
 returns-in-Run-clause-lawful g c = λ is alone.
     let none : ⊥ = rw c.in-Run.is at (only_check c.args.words.now c.args.request c.requires alone) in absurd none
+
+pub returns-in-RunFile-clause-lawful : goal.returns-in-RunFile-clause-lawful
+returns-in-RunFile-clause-lawful g c = λ is alone.
+    let none : ⊥ = rw c.in-RunFile.is at (only_check c.args.words.now c.args.request c.requires alone) in absurd none
+
+pub returns-in-Expand-clause-lawful : goal.returns-in-Expand-clause-lawful
+returns-in-Expand-clause-lawful g c = λ is alone.
+    let none : ⊥ = rw c.in-Expand.is at (only_check c.args.words.now c.args.request c.requires alone) in absurd none
 
 pub returns-in-Lint-clause-lawful : goal.returns-in-Lint-clause-lawful
 returns-in-Lint-clause-lawful g c = λ is alone.
@@ -86,14 +107,20 @@ returns-in-Once-clause-done g c = λ is. rw c.in-Once.is (on_done c.answered.res
 pub returns-in-Run-clause-done : goal.returns-in-Run-clause-done
 returns-in-Run-clause-done g c = λ is. rw c.in-Run.is (on_done c.ran.result answer.Done _ c.ran.ensures.done is)
 
+pub returns-in-RunFile-clause-done : goal.returns-in-RunFile-clause-done
+returns-in-RunFile-clause-done g c = λ is. rw c.in-RunFile.is (on_done c.ran_file.result answer.Done _ c.ran_file.ensures.done is)
+
+pub returns-in-Expand-clause-done : goal.returns-in-Expand-clause-done
+returns-in-Expand-clause-done g c = λ is. rw c.in-Expand.is (on_done c.expanded.result answer.Done _ c.expanded.ensures.done is)
+
 pub returns-in-Lint-clause-done : goal.returns-in-Lint-clause-done
-returns-in-Lint-clause-done g c = λ is. rw c.in-Lint.is (is_quiet c.args.output.now c.linted.new.output (g.R.Read.remaining c.args.input) (c.linted.ensures.none is) (c.linted.ensures.quiet is))
+returns-in-Lint-clause-done g c = λ is. rw c.in-Lint.is (is_quiet c.args.output.now c.linted_file.new.output (g.R.Read.remaining c.args.input) (c.linted_file.ensures.none is) (c.linted_file.ensures.quiet is))
 
 pub returns-in-Check-clause-done : goal.returns-in-Check-clause-done
 returns-in-Check-clause-done g c = λ is. rw c.in-Check.is (c.checked.ensures.lawful is)
 
 pub returns-in-Trace-clause-done : goal.returns-in-Trace-clause-done
-returns-in-Trace-clause-done g c = λ is. rw c.in-Trace.is (on_done c.traced.result answer.Done _ c.traced.ensures.done is)
+returns-in-Trace-clause-done g c = λ is. rw c.in-Trace.is (on_done c.traced_file.result answer.Done _ c.traced_file.ensures.done is)
 
 pub returns-in-Chart-clause-done : goal.returns-in-Chart-clause-done
 returns-in-Chart-clause-done g c = λ is. rw c.in-Chart.is (on_done c.charted.result answer.Done _ c.charted.ensures.done is)
@@ -110,14 +137,20 @@ returns-in-Once-clause-failed g c = rw c.in-Once.is c.answered.ensures.failed
 pub returns-in-Run-clause-failed : goal.returns-in-Run-clause-failed
 returns-in-Run-clause-failed g c = rw c.in-Run.is c.ran.ensures.failed
 
+pub returns-in-RunFile-clause-failed : goal.returns-in-RunFile-clause-failed
+returns-in-RunFile-clause-failed g c = rw c.in-RunFile.is c.ran_file.ensures.failed
+
+pub returns-in-Expand-clause-failed : goal.returns-in-Expand-clause-failed
+returns-in-Expand-clause-failed g c = rw c.in-Expand.is c.expanded.ensures.failed
+
 pub returns-in-Lint-clause-failed : goal.returns-in-Lint-clause-failed
-returns-in-Lint-clause-failed g c = rw c.in-Lint.is c.linted.ensures.failed
+returns-in-Lint-clause-failed g c = rw c.in-Lint.is c.linted_file.ensures.failed
 
 pub returns-in-Check-clause-failed : goal.returns-in-Check-clause-failed
 returns-in-Check-clause-failed g c = rw c.in-Check.is c.checked.ensures.failed
 
 pub returns-in-Trace-clause-failed : goal.returns-in-Trace-clause-failed
-returns-in-Trace-clause-failed g c = rw c.in-Trace.is c.traced.ensures.failed
+returns-in-Trace-clause-failed g c = rw c.in-Trace.is c.traced_file.ensures.failed
 
 pub returns-in-Chart-clause-failed : goal.returns-in-Chart-clause-failed
 returns-in-Chart-clause-failed g c = rw c.in-Chart.is c.charted.ensures.failed

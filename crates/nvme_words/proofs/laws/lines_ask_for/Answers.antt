@@ -5,7 +5,7 @@ use Rattle.clap.specs.ValueTests.{accepts}
 use Rattle.clap.specs.Words.{Text, first_of, one_of}
 use Rattle.clap.specs.declared.builder.value_parser.ValueParser.TheVariants as vp
 use Rattle.clap.proofs.OnLiterals.{clap_on_literals}
-use Rattle.nvme_words.specs.Examples.{all_numbers, all_picks, alone, chart_file, lint_input, live_8, loaded_2, once_8, once_most, run_file, run_live_3, stats_json, stats_part, trace_2, trace_live}
+use Rattle.nvme_words.specs.Examples.{all_numbers, all_picks, alone, chart_file, expand_file, lint_input, live_8, loaded_2, once_8, once_most, run_file, run_live_3, stats_json, stats_part, trace_2, trace_live}
 use Rattle.nvme_words.specs.Requests.{IsRange, SubmitsBy}
 use Rattle.nvme_words.specs.declared.requests.Format.TheVariants as format
 use Rattle.nvme_words.specs.declared.requests.Request.TheVariants as request
@@ -33,19 +33,23 @@ returns-clause-loaded c = line_asks (codes "loaded") _ (given_at loaded_2) (requ
 
 pub returns-clause-live : goal.returns-clause-live
 unfolding clap_on_literals
-returns-clause-live c = line_asks (codes "live") _ (given_at live_8) (request.Run Live 8) refl (inr (inl (refl, refl)), number_of 8 255 (codes "workers") (codes "8") (given_at live_8).1 refl refl (omega arith)) (λ p q r. (refl, refl))
+returns-clause-live c = line_asks (codes "live") _ (given_at live_8) (request.Run Live 8) refl (inr (refl, refl), number_of 8 255 (codes "workers") (codes "8") (given_at live_8).1 refl refl (omega arith)) (λ p q r. (refl, refl))
 
 pub returns-clause-run : goal.returns-clause-run
 unfolding clap_on_literals
-returns-clause-run c = line_asks (codes "run") _ (given_at run_file) (request.Run Loaded 1) refl (inr (inr (refl, is_loaded run_file refl)), number_of 8 255 (codes "workers") (codes "1") (given_at run_file).1 refl refl (omega arith)) (λ p q r. (refl, refl))
+returns-clause-run c = line_asks (codes "run") _ (given_at run_file) (request.RunFile Loaded 1) refl (refl, is_loaded run_file refl, number_of 8 255 (codes "workers") (codes "1") (given_at run_file).1 refl refl (omega arith)) (λ p q r. (refl, refl))
 
 pub returns-clause-run_live : goal.returns-clause-run_live
 unfolding clap_on_literals
-returns-clause-run_live c = line_asks (codes "run") _ (given_at run_live_3) (request.Run Live 3) refl (inr (inr (refl, is_live run_live_3 refl)), number_of 8 255 (codes "workers") (codes "3") (given_at run_live_3).1 refl refl (omega arith)) (λ p q r. (refl, refl))
+returns-clause-run_live c = line_asks (codes "run") _ (given_at run_live_3) (request.RunFile Live 3) refl (refl, is_live run_live_3 refl, number_of 8 255 (codes "workers") (codes "3") (given_at run_live_3).1 refl refl (omega arith)) (λ p q r. (refl, refl))
 
 pub returns-clause-lint : goal.returns-clause-lint
 unfolding clap_on_literals
 returns-clause-lint c = line_asks (codes "lint") _ (given_at lint_input) (request.Lint) refl refl (λ p q r. (refl, refl))
+
+pub returns-clause-expand : goal.returns-clause-expand
+unfolding clap_on_literals
+returns-clause-expand c = line_asks (codes "expand") _ (given_at expand_file) (request.Expand) refl refl (λ p q r. (refl, refl))
 
 pub returns-clause-check : goal.returns-clause-check
 unfolding clap_on_literals

@@ -1,0 +1,7 @@
+pub mod Keys
+pub mod Readings
+pub mod Commands
+pub mod Scripts
+pub mod Queues
+pub mod Admin
+pub mod Form

@@ -1,0 +1,25 @@
+//! The short workload file, a form that a person can write: what the table of one says, or its first fault.
+#![tactic(auto)]
+
+mod admin;
+mod command;
+mod error;
+mod form;
+mod key;
+mod place;
+mod queue;
+mod script;
+mod tables;
+mod values;
+
+pub use admin::Step;
+pub use command::{Item, Run};
+pub use error::{Fault, ShortError};
+pub use form::{Form, form_of, is_short};
+pub use key::Key;
+pub use place::Place;
+pub use queue::Queue;
+pub use tables::{
+    ABORT_KEYS, ACCESS_KEYS, FILE_KEYS, FLUSH_KEYS, GET_KEYS, QUEUE_KEYS, QUEUE_OP_KEYS, RAW_KEYS,
+    REPEAT_KEYS, SET_KEYS, SHARED_KEYS, WEIGHT_KEYS,
+};
