@@ -20,18 +20,19 @@ use Rattle.nvme_input.specs.declared.entries.OnceError.{OnceError}
 use Rattle.nvme_input.specs.declared.entries.OnceError.TheVariants as entry
 use Rattle.nvme_runs.specs.declared.runs.RunError.{RunError}
 use Rattle.nvme_runs.specs.declared.runs.RunError.TheVariants as run
-use Rattle.nvme_trace.specs.Checks.{IsFaultOf, IsLawfulText, IsUnlawfulText}
+use Rattle.nvme_trace.specs.Checks.{IsFaultBy, IsLawfulBy, IsRefusedBy}
 use Rattle.nvme_trace.specs.declared.fault.TraceError.{TraceError}
 use Rattle.nvme_trace.specs.declared.fault.TraceError.TheVariants as trace
-use Rattle.nvme_trace.specs.declared.judge.Finding.{Finding}
+use Rattle.nvme_trace.specs.declared.basis.Basis.{Basis}
+use Rattle.nvme_trace.specs.declared.judges.Reason.{Reason}
 use Rattle.nvme_trace.specs.declared.records.Head.{Head}
 use Rattle.nvme_chart.specs.Shown.{IsReadFault, IsShown}
 use Rattle.nvme_lint.specs.Lints.{IsLawful}
 use Rattle.nvme_lint.specs.Warnings.{AreWarningsOf}
 use Rattle.nvme_lint.specs.declared.warning.Warning.{Warning}
 use Rattle.nvme_sim.specs.declared.faults.Fault.{Fault}
-use Rattle.nvme_sim.specs.Answers.{Appended, AppendedPart, FailsToWrite, HasAnswer, HasReport, HasWorkload}
-use Rattle.nvme_sim.specs.Inputs.{HasNoWarning, HasWarnings, IsBadInput, IsBadTrace, IsFaultyShown, IsFaultyTrace, IsToldLawful, IsTrace, IsUnlawfulCheck, IsUnlawfulTrace, lawful_line}
+use Rattle.nvme_sim.specs.Answers.{Appended, AppendedPart, FailsToCheck, HasAnswer, HasReport, HasWorkload}
+use Rattle.nvme_sim.specs.Inputs.{HasNoWarning, HasWarnings, IsBadInput, IsBadTrace, IsFaultyShown, IsFaultyTrace, IsJudgedBy, IsRefusedCheck, IsRefusedTrace, IsToldBy, IsTrace, lawful_line}
 use Rattle.nvme_short.specs.declared.told.ShortFault.{ShortFault}
 use Rattle.nvme_short.specs.declared.expansion.ExpandError.TheVariants as short
 use Rattle.nvme_short.specs.Expansion.{StandsFor, TellsShortFault}
@@ -165,11 +166,11 @@ or_else (Err e) A B C more (inl a) = inl a
 or_else (Err e) A B C more (inr b) = inr (more b)
 
 -- a line of a trace that has a fault
-pub faulty_trace : (input : Option (List ℕ)) (e : TraceError) → IfSome input (λ text. IsFaultOf text e) → trace_status e ≡ 1 → IfSome input IsFaultyTrace
-faulty_trace None e h one = tt
-faulty_trace (Some text) (trace.Line line f) h one = (line, f, h)
-faulty_trace (Some text) trace.Read h one = absurd (cc one)
-faulty_trace (Some text) trace.NoMemory h one = absurd (cc one)
+pub faulty_trace : (basis : Basis) (input : Option (List ℕ)) (e : TraceError) → IfSome input (λ text. IsFaultBy basis text e) → trace_status e ≡ 1 → IfSome input (IsFaultyTrace basis)
+faulty_trace basis None e h one = tt
+faulty_trace basis (Some text) (trace.Line line f) h one = (line, f, h)
+faulty_trace basis (Some text) trace.Read h one = absurd (cc one)
+faulty_trace basis (Some text) trace.NoMemory h one = absurd (cc one)
 
 -- a line of a trace that is shown has a fault
 pub faulty_shown : (input : Option (List ℕ)) (e : TraceError) → IfSome input (λ text. IsReadFault text e) → trace_status e ≡ 1 → IfSome input IsFaultyShown
@@ -178,31 +179,31 @@ faulty_shown (Some text) (trace.Line line f) h one = (line, f, h)
 faulty_shown (Some text) trace.Read h one = absurd (cc one)
 faulty_shown (Some text) trace.NoMemory h one = absurd (cc one)
 
--- a trace is lawful, and that was written
-pub told_lawful : (input : Option (List ℕ)) (picks : ℕ) (old new : Option (List ℕ)) → IfSome input (λ text. IsLawfulText text picks) → Appends old new (lawful_line picks)
-    → IfSome input (IsToldLawful old new)
-told_lawful None picks old new h w = tt
-told_lawful (Some text) picks old new h w = (picks, h, w)
+-- each pick of a trace is allowed, and that was written
+pub told_lawful : (basis : Basis) (input : Option (List ℕ)) (picks : ℕ) (old new : Option (List ℕ)) → IfSome input (λ text. IsLawfulBy basis text picks) → Appends old new (lawful_line picks)
+    → IfSome input (IsToldBy basis old new)
+told_lawful basis None picks old new h w = tt
+told_lawful basis (Some text) picks old new h w = (picks, h, w)
 
 -- or a write of that failed
-pub told_in_part : {W T : Type 0} (contents : W → Option (List ℕ)) (old new : W) (input : Option (List ℕ)) (picks : ℕ) (result : Result T Fault)
-    → IfSome input (λ text. IsLawfulText text picks) → IfErr result (λ e. AppendsPrefix (contents old) (contents new) (lawful_line picks))
-    → IfErr result (λ e. (new ≡ old) ⊎ IfSome input (FailsToWrite contents old new request.Check))
-told_in_part contents old new input picks (Ok x) h w = tt
-told_in_part contents old new None picks (Err e) h w = inr tt
-told_in_part contents old new (Some text) picks (Err e) h w = inr (inl (picks, h, w))
+pub told_in_part : {W T : Type 0} (basis : Basis) (contents : W → Option (List ℕ)) (old new : W) (input : Option (List ℕ)) (picks : ℕ) (result : Result T Fault)
+    → IfSome input (λ text. IsLawfulBy basis text picks) → IfErr result (λ e. AppendsPrefix (contents old) (contents new) (lawful_line picks))
+    → IfErr result (λ e. (new ≡ old) ⊎ IfSome input (FailsToCheck contents old new basis))
+told_in_part basis contents old new input picks (Ok x) h w = tt
+told_in_part basis contents old new None picks (Err e) h w = inr tt
+told_in_part basis contents old new (Some text) picks (Err e) h w = inr (inl (picks, h, w))
 
--- or of a pick that isn't the lawful one
-pub told_unlawful : {W T : Type 0} (contents : W → Option (List ℕ)) (old new : W) (input : Option (List ℕ)) (result : Result T Fault) → IfSome input IsUnlawfulTrace
-    → IfErr result (λ e. (new ≡ old) ⊎ IfSome input (FailsToWrite contents old new request.Check))
-told_unlawful contents old new input (Ok x) h = tt
-told_unlawful contents old new None (Err e) h = inr tt
-told_unlawful contents old new (Some text) (Err e) h = inr (inr h)
+-- or of a pick that isn't allowed
+pub told_refused : {W T : Type 0} (basis : Basis) (contents : W → Option (List ℕ)) (old new : W) (input : Option (List ℕ)) (result : Result T Fault) → IfSome input (IsRefusedTrace basis)
+    → IfErr result (λ e. (new ≡ old) ⊎ IfSome input (FailsToCheck contents old new basis))
+told_refused basis contents old new input (Ok x) h = tt
+told_refused basis contents old new None (Err e) h = inr tt
+told_refused basis contents old new (Some text) (Err e) h = inr (inr h)
 
--- a trace has a pick that isn't the lawful one
-pub unlawful_trace : (input : Option (List ℕ)) (line : ℕ) (finding : Finding) → IfSome input (λ text. IsUnlawfulText text line finding) → IfSome input IsUnlawfulTrace
-unlawful_trace None line finding h = tt
-unlawful_trace (Some text) line finding h = (line, finding, h)
+-- a trace has a pick that isn't allowed
+pub refused_trace : (basis : Basis) (input : Option (List ℕ)) (line : ℕ) (reason : Reason) → IfSome input (λ text. IsRefusedBy basis text line reason) → IfSome input (IsRefusedTrace basis)
+refused_trace basis None line reason h = tt
+refused_trace basis (Some text) line reason h = (line, reason, h)
 
 -- a fault of one kind of input is one of another kind
 pub of_kind : {T : Type 0} (result : Result T Fault) (input : Option (List ℕ)) (P Q : List ℕ → Type 0) → ((bs : List ℕ) → P bs → Q bs)
@@ -218,8 +219,8 @@ bad_once words bytes asked bad = inl (asked, bad)
 pub bad_run : (words : List (String Global)) (bytes : List ℕ) → reads_workload words ≡ true → IsBadWorkload bytes → IsBadInput words bytes
 bad_run words bytes asked bad = inr (inl (asked, bad))
 
-pub bad_check : (words : List (String Global)) (bytes : List ℕ) → asks (codes "check") words ≡ true → IsBadTrace bytes → IsBadInput words bytes
-bad_check words bytes asked bad = inr (inr (inl (asked, bad)))
+pub bad_check : (basis : Basis) (words : List (String Global)) (bytes : List ℕ) → IsJudgedBy words basis → IsBadTrace basis bytes → IsBadInput words bytes
+bad_check basis words bytes asked bad = inr (inr (inl (basis, asked, bad)))
 
 pub bad_shown : (words : List (String Global)) (bytes : List ℕ) → shows_trace words ≡ true → IsFaultyShown bytes → IsBadInput words bytes
 bad_shown words bytes asked bad = inr (inr (inr (inl (asked, bad))))
@@ -227,13 +228,13 @@ bad_shown words bytes asked bad = inr (inr (inr (inl (asked, bad))))
 pub bad_file_read : (words : List (String Global)) (bytes : List ℕ) → reads_file words ≡ true → IsBadFile bytes → IsBadInput words bytes
 bad_file_read words bytes asked bad = inr (inr (inr (inr (asked, bad))))
 
-pub faulty_is_bad : (bytes : List ℕ) → IsFaultyTrace bytes → IsBadTrace bytes
-faulty_is_bad bytes h = inl h
+pub faulty_is_bad : (basis : Basis) (bytes : List ℕ) → IsFaultyTrace basis bytes → IsBadTrace basis bytes
+faulty_is_bad basis bytes h = inl h
 
 -- a check that found a pick was of a bad input
-pub bad_pick : (words : List (String Global)) (input : Option (List ℕ)) → IsUnlawfulCheck words input → IfSome input (IsBadInput words)
+pub bad_pick : (words : List (String Global)) (input : Option (List ℕ)) → IsRefusedCheck words input → IfSome input (IsBadInput words)
 bad_pick words None h = tt
-bad_pick words (Some bytes) h = bad_check words bytes h.0 (inr h.1)
+bad_pick words (Some bytes) h = bad_check h.0 words bytes h.1 (inr h.2)
 
 -- a choice with a true part is true
 last_of : (a b : Bool) → b ≡ true → (a || b) ≡ true
@@ -345,6 +346,7 @@ only_check words (request.RunFile mode workers) asked a = not_both (asks (codes 
 only_check words request.Expand asked a = not_both (asks (codes "expand") words) asked (check_is words (alone_asks (codes "check") words a) (codes "expand"))
 only_check words request.Lint asked a = not_both (asks (codes "lint") words) asked (check_is words (alone_asks (codes "check") words a) (codes "lint"))
 only_check words request.Check asked a = tt
+only_check words request.CheckSpec asked a = not_both (asks_alone (codes "check") words) a asked.1
 only_check words (request.Trace mode workers) asked a = not_both (asks (codes "trace") words) asked (check_is words (alone_asks (codes "check") words a) (codes "trace"))
 only_check words (request.Chart range) asked a = not_both (shows_trace words) asked (check_shows_none words (alone_asks (codes "check") words a))
 only_check words (request.Stats numbers) asked a = not_both (shows_trace words) asked (check_shows_none words (alone_asks (codes "check") words a))

@@ -1,5 +1,5 @@
 -- What the program writes for what its words ask for. (profile)
-use Rattle.std.specs.Prelude.{◌≡◌, ◌⊎◌, ℕ, List, Option, Ok, IfSome, String}
+use Rattle.std.specs.Prelude.{◌≡◌, ◌⊎◌, ℕ, List, Option, Ok, String}
 use Rattle.std.specs.Global.{Global}
 use Rattle.std.specs.Io.KnownBytes.{Appends}
 use Rattle.nvme_output.specs.Written.{AppendsPrefix}
@@ -11,13 +11,15 @@ use Rattle.nvme_runs.specs.Ran.{BeginsAs}
 use Rattle.nvme_runs.specs.Runs.{IsRun}
 use Rattle.nvme_runs.specs.declared.runs.Ran.{Ran}
 use Rattle.nvme_lint.specs.Lints.{IsLawful}
-use Rattle.nvme_trace.specs.Checks.{IsLawfulText}
+use Rattle.nvme_trace.specs.Checks.{IsLawfulBy}
+use Rattle.nvme_trace.specs.declared.basis.Basis.{Basis}
+use Rattle.nvme_trace.specs.declared.basis.Basis.TheVariants.{Profile, Specification}
 use Rattle.nvme_words.specs.CommandLine.{OnCommandLine}
 use Rattle.nvme_words.specs.Requests.{IsAnswerTo}
 use Rattle.nvme_words.specs.declared.requests.Request.{Request}
 use Rattle.nvme_words.specs.declared.requests.Request.TheVariants as request
 use Rattle.nvme_sim.specs.Files.{OfFile}
-use Rattle.nvme_sim.specs.Inputs.{HasNoWarning, HasWarnings, IsTrace, IsUnlawfulTrace, lawful_line, trace_of}
+use Rattle.nvme_sim.specs.Inputs.{HasNoWarning, HasWarnings, IsRefusedTrace, IsTrace, lawful_line, trace_of}
 
 -- ---- the text of an answer to an input, where `came` says what was written
 
@@ -37,9 +39,9 @@ HasTrace came mode bytes = (ran : Ran) × BeginsAs bytes ran × IsRun bytes mode
 abbrev pub HasWorkload : (List ℕ → Type 0) → List ℕ → Type 0
 HasWorkload came text = IsLawful text × came text
 
--- the line that says that each pick is the lawful one
-abbrev pub HasLawful : (List ℕ → Type 0) → List ℕ → Type 0
-HasLawful came bytes = (picks : ℕ) × IsLawfulText bytes picks × came (lawful_line picks)
+-- the line that says that each pick is allowed
+abbrev pub HasLawful : (List ℕ → Type 0) → Basis → List ℕ → Type 0
+HasLawful came basis bytes = (picks : ℕ) × IsLawfulBy basis bytes picks × came (lawful_line picks)
 
 -- ---- the effect of a request, where the output was `old` and is `new`, and `contents` are its known bytes
 module _ {W : Type 0} (contents : W → Option (List ℕ)) (old new : W) where
@@ -56,21 +58,26 @@ module _ {W : Type 0} (contents : W → Option (List ℕ)) (old new : W) where
   Does (request.RunFile mode workers) bytes = OfFile (HasReport Appended mode) bytes
   Does request.Lint bytes = OfFile HasNoWarning bytes × (new ≡ old)
   Does request.Expand bytes = OfFile (HasWorkload Appended) bytes
-  Does request.Check bytes = HasLawful Appended bytes
+  Does request.Check bytes = HasLawful Appended Profile bytes
+  Does request.CheckSpec bytes = HasLawful Appended Specification bytes
   Does (request.Trace mode workers) bytes = OfFile (HasTrace Appended mode) bytes
   Does (request.Chart range) bytes = IsTrace bytes
   Does (request.Stats numbers) bytes = IsTrace bytes
   Does (request.Help text) bytes = Unit {0}
 
-  -- a write of its answer failed: a prefix of the answer was written. Of the texts of warnings and of a pick that isn't the lawful one
-  -- nothing is said either
+  -- a write of what a check answers failed. Of the text of a pick that isn't allowed nothing is said
+  abbrev pub FailsToCheck : Basis → List ℕ → Type 0
+  FailsToCheck basis bytes = HasLawful AppendedPart basis bytes ⊎ IsRefusedTrace basis bytes
+
+  -- a write of its answer failed: a prefix of the answer was written. Of the texts of warnings nothing is said either
   abbrev pub FailsToWrite : Request → List ℕ → Type 0
   FailsToWrite (request.Once blocks) bytes = HasAnswer AppendedPart blocks bytes
   FailsToWrite (request.Run mode workers) bytes = HasReport AppendedPart mode bytes
   FailsToWrite (request.RunFile mode workers) bytes = OfFile (HasReport AppendedPart mode) bytes
   FailsToWrite request.Lint bytes = OfFile HasWarnings bytes
   FailsToWrite request.Expand bytes = OfFile (HasWorkload AppendedPart) bytes
-  FailsToWrite request.Check bytes = HasLawful AppendedPart bytes ⊎ IsUnlawfulTrace bytes
+  FailsToWrite request.Check bytes = FailsToCheck Profile bytes
+  FailsToWrite request.CheckSpec bytes = FailsToCheck Specification bytes
   FailsToWrite (request.Trace mode workers) bytes = OfFile (HasTrace AppendedPart mode) bytes
   FailsToWrite (request.Chart range) bytes = IsTrace bytes
   FailsToWrite (request.Stats numbers) bytes = IsTrace bytes

@@ -3,81 +3,87 @@ use Rattle.std.proofs.Common.{◌≡◌, ℕ, ◌+◌, List, [], ◌∷◌, ◌+
 use Rattle.std.specs.Prelude.{IfSome, IfOk, IfErr, Result, Err}
 use mathlib.Core.List.{reverse-cons, reverse-reverse}
 use Rattle.nvme_arbiter.specs.History.{ArbitrationEvent, Picked, Changed, History}
-use Rattle.nvme_arbiter.specs.Lawful.{IsLawfulRun}
-use Rattle.nvme_arbiter.specs.Settings.{ArbitrationFields}
-use Rattle.nvme_arbiter.specs.Standing.{StandsAt}
-use Rattle.nvme_arbiter.specs.declared.settings.Mechanism.{Mechanism}
 use Rattle.nvme_trace.specs.Lines.{lines_of, TakesLine, HasNoLine}
-use Rattle.nvme_trace.specs.Format.{head_of_line, event_of_line}
-use Rattle.nvme_trace.specs.Judged.{JudgeView, IsObserved, IsLawfulEvent, IsFinding, picks_of}
-use Rattle.nvme_trace.specs.Faults.{IsHeadFault, IsEventFault}
-use Rattle.nvme_trace.specs.Checks.{Tells, IsLawfulText, IsUnlawfulText, IsFaultOf, IsAnswer, JudgedUpTo}
+use Rattle.nvme_trace.specs.Format.{head_of_line, event_by}
+use Rattle.nvme_trace.specs.Judged.{IsObserved, picks_of}
+use Rattle.nvme_trace.specs.Bases.{IsRunBy, IsAllowedBy, IsReasonBy, StandsBy, picks_by}
+use Rattle.nvme_trace.specs.declared.basis.Basis.{Basis}
+use Rattle.nvme_trace.specs.declared.basis.Basis.TheVariants.{Profile, Specification}
+use Rattle.nvme_trace.specs.Faults.{IsHeadFault, IsEventFaultBy}
+use Rattle.nvme_trace.specs.Checks.{TellsBy, IsLawfulBy, IsRefusedBy, IsFaultBy, IsAnswer, JudgedUpTo}
 use Rattle.nvme_trace.specs.declared.fault.TraceError.{TraceError}
 use Rattle.nvme_trace.specs.declared.records.Head.{Head}
-use Rattle.nvme_trace.specs.declared.judge.Finding.{Finding}
+use Rattle.nvme_trace.specs.declared.judges.Reason.{Reason}
+use Rattle.nvme_trace.specs.declared.judges.BasisJudge.{BasisJudge}
 use Rattle.nvme_trace.specs.declared.checks.Checked.{Checked}
 
 -- one line more, of those before the others
 reverse_more : (line : List ℕ) (lines rest : List (List ℕ)) → reverse lines ++ line ∷ rest ≡ reverse (line ∷ lines) ++ rest
 reverse_more line lines rest = sym (append_assoc (reverse lines) (line ∷ []) rest) ∙ ap (λ (ls : List (List ℕ)). ls ++ rest) (sym (reverse-cons line lines))
 
-lawful_more : (mechanism : Mechanism) (first : ArbitrationFields) (past : History) (e : ArbitrationEvent) → IsObserved e → IsLawfulEvent mechanism first past e → IsLawfulRun mechanism first past → IsLawfulRun mechanism first (e ∷ past)
-lawful_more mechanism first past (Picked seen pick) o l h = (o, l, h)
-lawful_more mechanism first past (Changed settings) o l h = h
+run_more : (basis : Basis) (head : Head) (past : History) (e : ArbitrationEvent) → IsObserved e → IsAllowedBy basis head past e → IsRunBy basis head past → IsRunBy basis head (e ∷ past)
+run_more Profile head past (Picked seen pick) o l h = (o, l, h)
+run_more Profile head past (Changed settings) o l h = h
+run_more Specification head past (Picked seen pick) o l h = (o, l, h)
+run_more Specification head past (Changed settings) o l h = h
+
+run_first : (basis : Basis) (head : Head) → IsRunBy basis head []
+run_first Profile head = tt
+run_first Specification head = tt
 
 -- after the head
-pub judged_head : (text : List ℕ) (new : Option (List ℕ)) (head : Head) (judge : JudgeView) → TakesLine (λ line. head_of_line line ≡ Ok head) (Some text) new → StandsAt head.mechanism head.settings [] judge.kept → judge.picks ≡ 0 → JudgedUpTo text new 1 head judge
-judged_head text None head judge t s p = t
-judged_head text (Some rest) head judge (line, split, is) s p = record {
+pub judged_head : (basis : Basis) (text : List ℕ) (new : Option (List ℕ)) (head : Head) (judge : BasisJudge) → TakesLine (λ line. head_of_line line ≡ Ok head) (Some text) new → StandsBy basis head [] judge → picks_by judge ≡ 0 → JudgedUpTo basis text new 1 head judge
+judged_head basis text None head judge t s p = t
+judged_head basis text (Some rest) head judge (line, split, is) s p = record {
   past = [];
-  before = record { lines = line ∷ []; split = split; count = refl; tells = (line, refl, is); lawful = tt };
+  before = record { lines = line ∷ []; split = split; count = refl; tells = (line, refl, is); lawful = run_first basis head };
   stands = s;
   picks = p;
 }
 
 -- after one event more that is lawful
-pub judged_more : (text : List ℕ) (old new : Option (List ℕ)) (number : ℕ) (head : Head) (judge next : JudgeView) (e : ArbitrationEvent)
-    → JudgedUpTo text old number head judge → TakesLine (λ line. event_of_line line ≡ Ok e) old new → IsObserved e
-    → ((past : History) → StandsAt head.mechanism head.settings past judge.kept → IsLawfulEvent head.mechanism head.settings past e)
-    → ((past : History) → StandsAt head.mechanism head.settings past judge.kept → StandsAt head.mechanism head.settings (e ∷ past) next.kept)
-    → next.picks ≡ judge.picks + picks_of e → JudgedUpTo text new (number + 1) head next
-judged_more text None new number head judge next e j t o l s p = absurd j
-judged_more text (Some xs) None number head judge next e j t o l s p = absurd t
-judged_more text (Some xs) (Some ys) number head judge next e j (line, split, is) o l s p = record {
+pub judged_more : (basis : Basis) (text : List ℕ) (old new : Option (List ℕ)) (number : ℕ) (head : Head) (judge next : BasisJudge) (e : ArbitrationEvent)
+    → JudgedUpTo basis text old number head judge → TakesLine (λ line. event_by basis line ≡ Ok e) old new → IsObserved e
+    → ((past : History) → StandsBy basis head past judge → IsAllowedBy basis head past e)
+    → ((past : History) → StandsBy basis head past judge → StandsBy basis head (e ∷ past) next)
+    → picks_by next ≡ picks_by judge + picks_of e → JudgedUpTo basis text new (number + 1) head next
+judged_more basis text None new number head judge next e j t o l s p = absurd j
+judged_more basis text (Some xs) None number head judge next e j t o l s p = absurd t
+judged_more basis text (Some xs) (Some ys) number head judge next e j (line, split, is) o l s p = record {
   past = e ∷ j.past;
   before = record {
     lines = line ∷ j.before.lines;
     split = j.before.split ∙ ap (λ (ls : List (List ℕ)). reverse j.before.lines ++ ls) split ∙ reverse_more line j.before.lines (lines_of ys);
     count = let c : length j.before.lines ≡ number = j.before.count in omega arith;
     tells = (line, j.before.lines, refl, is, j.before.tells);
-    lawful = lawful_more head.mechanism head.settings j.past e o (l j.past j.stands) j.before.lawful;
+    lawful = run_more basis head j.past e o (l j.past j.stands) j.before.lawful;
   };
   stands = s j.past j.stands;
   picks = p ∙ ap (λ (n : ℕ). n + picks_of e) j.picks;
 }
 
 -- after the last line
-pub judged_all : (text : List ℕ) (old : Option (List ℕ)) (number : ℕ) (head : Head) (judge : JudgeView) (picks : ℕ) → JudgedUpTo text old number head judge → HasNoLine old → picks ≡ judge.picks → IsLawfulText text picks
-judged_all text None number head judge picks j n p = absurd j
-judged_all text (Some xs) number head judge picks j n p =
+pub judged_all : (basis : Basis) (text : List ℕ) (old : Option (List ℕ)) (number : ℕ) (head : Head) (judge : BasisJudge) (picks : ℕ) → JudgedUpTo basis text old number head judge → HasNoLine old → picks ≡ picks_by judge → IsLawfulBy basis text picks
+judged_all basis text None number head judge picks j n p = absurd j
+judged_all basis text (Some xs) number head judge picks j n p =
     let lines : List (List ℕ) = j.before.lines in
     let all : lines_of text ≡ reverse lines = j.before.split ∙ ap (λ (ls : List (List ℕ)). reverse lines ++ ls) n ∙ append-nil (reverse lines) in
     let back : lines ≡ reverse (lines_of text) = sym (ap reverse all ∙ reverse-reverse lines) in record {
       head = head;
       past = j.past;
-      tells = subst (Tells head j.past) back j.before.tells;
+      tells = subst (TellsBy basis head j.past) back j.before.tells;
       lawful = j.before.lawful;
       picks_are = p ∙ j.picks;
     }
 
--- at a pick that is not the lawful one
-pub judged_finding : (text : List ℕ) (old new : Option (List ℕ)) (number line : ℕ) (head : Head) (judge : JudgeView) (e : ArbitrationEvent) (finding : Finding)
-    → JudgedUpTo text old number head judge → TakesLine (λ line. event_of_line line ≡ Ok e) old new
-    → ((past : History) → StandsAt head.mechanism head.settings past judge.kept → IsFinding head.mechanism head.settings past e finding)
-    → line ≡ number + 1 → IsUnlawfulText text line finding
-judged_finding text None new number line head judge e finding j t f n = absurd j
-judged_finding text (Some xs) None number line head judge e finding j t f n = absurd t
-judged_finding text (Some xs) (Some ys) number line head judge e finding j (at, split, is) f n = record {
+-- at a pick that is not allowed
+pub judged_reason : (basis : Basis) (text : List ℕ) (old new : Option (List ℕ)) (number line : ℕ) (head : Head) (judge : BasisJudge) (e : ArbitrationEvent) (reason : Reason)
+    → JudgedUpTo basis text old number head judge → TakesLine (λ line. event_by basis line ≡ Ok e) old new
+    → ((past : History) → StandsBy basis head past judge → IsReasonBy basis head past e reason)
+    → line ≡ number + 1 → IsRefusedBy basis text line reason
+judged_reason basis text None new number line head judge e reason j t f n = absurd j
+judged_reason basis text (Some xs) None number line head judge e reason j t f n = absurd t
+judged_reason basis text (Some xs) (Some ys) number line head judge e reason j (at, split, is) f n = record {
   head = head;
   past = j.past;
   event = e;
@@ -89,33 +95,33 @@ judged_finding text (Some xs) (Some ys) number line head judge e finding j (at, 
   tells = j.before.tells;
   lawful = j.before.lawful;
   says = is;
-  finding_is = f j.past j.stands;
+  reason_is = f j.past j.stands;
 }
 
 -- at a line that is faulty
-pub judged_fault : (text : List ℕ) (old : Option (List ℕ)) (number : ℕ) (head : Head) (judge : JudgeView) (error : TraceError) → JudgedUpTo text old number head judge → IsEventFault error number old → IsFaultOf text error
-judged_fault text None number head judge error j f = absurd j
-judged_fault text (Some xs) number head judge error j f = inr (record { head = head; past = j.past; number = number; rest = xs; before = j.before; fault = f })
+pub judged_fault : (basis : Basis) (text : List ℕ) (old : Option (List ℕ)) (number : ℕ) (head : Head) (judge : BasisJudge) (error : TraceError) → JudgedUpTo basis text old number head judge → IsEventFaultBy basis error number old → IsFaultBy basis text error
+judged_fault basis text None number head judge error j f = absurd j
+judged_fault basis text (Some xs) number head judge error j f = inr (record { head = head; past = j.past; number = number; rest = xs; before = j.before; fault = f })
 
 -- ---- the whole text
 
-pub head_fault : (known : Option (List ℕ)) (error : TraceError) → IsHeadFault error 0 known → IfSome known (λ text. IsFaultOf text error)
-head_fault None error f = tt
-head_fault (Some text) error f = inl f
+pub head_fault : (basis : Basis) (known : Option (List ℕ)) (error : TraceError) → IsHeadFault error 0 known → IfSome known (λ text. IsFaultBy basis text error)
+head_fault basis None error f = tt
+head_fault basis (Some text) error f = inl f
 
 pub later : (P : List ℕ → Type 0) (known new : Option (List ℕ)) (head : Head) → TakesLine (λ line. head_of_line line ≡ Ok head) known new
     → ((text : List ℕ) → TakesLine (λ line. head_of_line line ≡ Ok head) (Some text) new → P text) → IfSome known P
 later P None new head t h = tt
 later P (Some text) new head t h = h text t
 
-pub all_answers : (known new : Option (List ℕ)) (head : Head) (r : Result Checked TraceError) → TakesLine (λ line. head_of_line line ≡ Ok head) known new
-    → IfOk r (λ checked. (text : List ℕ) → TakesLine (λ line. head_of_line line ≡ Ok head) (Some text) new → IsAnswer text checked)
-    → IfOk r (λ checked. IfSome known (λ text. IsAnswer text checked))
-all_answers known new head (Ok x) t h = later (λ text. IsAnswer text x) known new head t h
-all_answers known new head (Err e) t h = tt
+pub all_answers : (basis : Basis) (known new : Option (List ℕ)) (head : Head) (r : Result Checked TraceError) → TakesLine (λ line. head_of_line line ≡ Ok head) known new
+    → IfOk r (λ checked. (text : List ℕ) → TakesLine (λ line. head_of_line line ≡ Ok head) (Some text) new → IsAnswer basis text checked)
+    → IfOk r (λ checked. IfSome known (λ text. IsAnswer basis text checked))
+all_answers basis known new head (Ok x) t h = later (λ text. IsAnswer basis text x) known new head t h
+all_answers basis known new head (Err e) t h = tt
 
-pub all_faults : (known new : Option (List ℕ)) (head : Head) (r : Result Checked TraceError) → TakesLine (λ line. head_of_line line ≡ Ok head) known new
-    → IfErr r (λ error. (text : List ℕ) → TakesLine (λ line. head_of_line line ≡ Ok head) (Some text) new → IsFaultOf text error)
-    → IfErr r (λ error. IfSome known (λ text. IsFaultOf text error))
-all_faults known new head (Ok x) t h = tt
-all_faults known new head (Err e) t h = later (λ text. IsFaultOf text e) known new head t h
+pub all_faults : (basis : Basis) (known new : Option (List ℕ)) (head : Head) (r : Result Checked TraceError) → TakesLine (λ line. head_of_line line ≡ Ok head) known new
+    → IfErr r (λ error. (text : List ℕ) → TakesLine (λ line. head_of_line line ≡ Ok head) (Some text) new → IsFaultBy basis text error)
+    → IfErr r (λ error. IfSome known (λ text. IsFaultBy basis text error))
+all_faults basis known new head (Ok x) t h = tt
+all_faults basis known new head (Err e) t h = later (λ text. IsFaultBy basis text e) known new head t h

@@ -11,3 +11,4 @@ pub mod ReadLines
 pub mod TracedLines
 pub mod AccountedSettings
 pub mod TraceLaws
+pub mod Leniently

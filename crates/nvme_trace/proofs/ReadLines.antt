@@ -25,9 +25,10 @@ use Rattle.nvme_arbiter.specs.declared.settings.Mechanism.{Mechanism}
 use Rattle.nvme_arbiter.specs.declared.settings.Mechanism.TheVariants.{RoundRobin, Weighted}
 use Rattle.nvme_arbiter.specs.declared.pick.Seen.{Seen}
 use Rattle.nvme_arbiter.specs.declared.pick.Pick.{Pick}
+use Rattle.nvme_trace.specs.declared.basis.Basis.TheVariants.{Profile}
 use Rattle.nvme_trace.specs.Names.{class_text, mechanism_text}
 use Rattle.nvme_trace.specs.Readings.{item_count, number_at, flag_at}
-use Rattle.nvme_trace.specs.Format.{longest_line, class_named, queue_of, triple_of, queues_from, queues_of, observation_of, head_in, set_in, pick_in, event_in, data_of, object_in, head_of_line, event_of_line}
+use Rattle.nvme_trace.specs.Format.{longest_line, class_named, queue_of, triple_of, queues_from, queues_of, observation_of, head_in, set_in, pick_in, event_in, data_of, object_in, head_of_line, fresh_in, event_by, event_of_line}
 use Rattle.nvme_trace.proofs.PlainLines.{plain_utf8}
 use Rattle.nvme_trace.proofs.ShortLines.{IsShort, cdw11_small, short_head, short_set, short_pick}
 use Rattle.nvme_trace.proofs.WrittenJson.{head_json, queues_json, pick_json, set_json, line_of, head_bytes, set_bytes, pick_bytes, head_line, set_line, pick_line}
@@ -93,12 +94,12 @@ head_read mechanism settings f =
 set_is : (settings : ArbitrationFields) → cdw11_of settings < 4294967296 → of_json (set_json settings) ≡ Some (set_data settings)
 set_is settings small = rw (number_of-decimal (cdw11_of settings) (omega arith)) refl
 
-set_told : (settings : ArbitrationFields) → cdw11_of settings < 4294967296 → event_in (set_data settings) ≡ Ok (Changed (settings_of (cdw11_of settings)))
+set_told : (settings : ArbitrationFields) → cdw11_of settings < 4294967296 → event_in Profile (set_data settings) ≡ Ok (Changed (settings_of (cdw11_of settings)))
 unfolding event_in set_in number_at
 set_told settings small = let e : leb (cdw11_of settings) 4294967295 ≡ true = le-leb _ _ (omega arith) in rw e refl
 
 pub set_read : (settings : ArbitrationFields) → FitsFields settings → event_of_line (set_bytes settings) ≡ Ok (Changed settings)
-unfolding event_of_line object_in
+unfolding event_by object_in
 set_read settings f =
     let small = cdw11_small settings f in
     let d : data_of (set_bytes settings) ≡ Ok (set_data settings) =
@@ -158,15 +159,15 @@ observed_back seen o few =
 pick_is : (seen : List Seen) (pick : Pick) → All IsSeen seen → pick.qid < 65536 → pick.n < 65536 → of_json (pick_json seen pick) ≡ Some (pick_data seen pick)
 pick_is seen pick a qid n = rw (number_of-decimal pick.qid (omega arith), number_of-decimal pick.n (omega arith), queues_are seen a) refl
 
-pick_told : (seen : List Seen) (pick : Pick) → IsObservation seen → length seen ≤ 65 → pick.qid < 65536 → pick.n < 65536 → event_in (pick_data seen pick) ≡ Ok (Picked seen pick)
-unfolding event_in pick_in number_at flag_at
+pick_told : (seen : List Seen) (pick : Pick) → IsObservation seen → length seen ≤ 65 → pick.qid < 65536 → pick.n < 65536 → event_in Profile (pick_data seen pick) ≡ Ok (Picked seen pick)
+unfolding event_in pick_in fresh_in number_at flag_at
 pick_told seen pick o few qid n =
     let a : leb pick.qid 65535 ≡ true = le-leb _ _ (omega arith) in
     let b : leb pick.n 65535 ≡ true = le-leb _ _ (omega arith) in
     rw (a, b, observed_back seen o few) refl
 
 pub pick_read : (seen : List Seen) (pick : Pick) → IsObservation seen → length seen ≤ 65 → pick.qid < 65536 → pick.n < 65536 → event_of_line (pick_bytes seen pick) ≡ Ok (Picked seen pick)
-unfolding event_of_line object_in
+unfolding event_by object_in
 pick_read seen pick o few qid n =
     let d : data_of (pick_bytes seen pick) ≡ Ok (pick_data seen pick) =
     data_read _ (pick_data seen pick) (short_pick seen pick o.each few qid n)

@@ -3,8 +3,9 @@ use Rattle.std.proofs.Common.{◌≡◌, ◌≢◌, ℕ, ◌+◌, ◌<◌, ltb, 
 use Rattle.std.proofs.lemmas.Bool.{lt-ltb}
 use Rattle.nvme_trace.specs.Lines.{lines_of, TakesLine, StartsWithLine, HasNoLine}
 use Rattle.nvme_trace.specs.Readings.{Fails}
-use Rattle.nvme_trace.specs.Format.{longest_line, data_of, head_of_line, event_of_line}
-use Rattle.nvme_trace.specs.Faults.{IsLineFault, HasHeadFault, IsHeadFault, IsEventFault}
+use Rattle.nvme_trace.specs.Format.{longest_line, data_of, head_of_line, event_by}
+use Rattle.nvme_trace.specs.declared.basis.Basis.{Basis}
+use Rattle.nvme_trace.specs.Faults.{IsLineFault, HasHeadFault, IsHeadFault, IsEventFaultBy}
 use Rattle.nvme_trace.specs.declared.fault.LineFault.{LineFault}
 use Rattle.nvme_trace.specs.declared.fault.LineFault.TheVariants as faults
 use Rattle.nvme_trace.specs.declared.fault.TraceError.{TraceError}
@@ -47,32 +48,32 @@ told_head (error.Line line f) number fault a (n, is, other) h = (n, subst (λ (x
 told_head error.Read number fault a t h = tt
 told_head error.NoMemory number fault a t h = tt
 
-told_event : (e : TraceError) (number : ℕ) (fault : LineFault) (a : Option (List ℕ)) → IsLineFault e (number + 1) fault → (fault ≢ faults.NoMemory → StartsWithLine (λ line. event_of_line line ≡ Err fault) a) → IsEventFault e number a
-told_event (error.Line line f) number fault a (n, is, other) h = (n, subst (λ (x : LineFault). StartsWithLine (λ line. event_of_line line ≡ Err x) a) (sym is) (h other))
-told_event error.Read number fault a t h = tt
-told_event error.NoMemory number fault a t h = tt
+told_event : (basis : Basis) (e : TraceError) (number : ℕ) (fault : LineFault) (a : Option (List ℕ)) → IsLineFault e (number + 1) fault → (fault ≢ faults.NoMemory → StartsWithLine (λ line. event_by basis line ≡ Err fault) a) → IsEventFaultBy basis e number a
+told_event basis (error.Line line f) number fault a (n, is, other) h = (n, subst (λ (x : LineFault). StartsWithLine (λ line. event_by basis line ≡ Err x) a) (sym is) (h other))
+told_event basis error.Read number fault a t h = tt
+told_event basis error.NoMemory number fault a t h = tt
 
 -- a line that was read
 pub head_fails : (e : TraceError) (number : ℕ) (fault : LineFault) (line : List ℕ) (a b : Option (List ℕ)) → IsLineFault e (number + 1) fault → Fails fault (head_of_line line) → TakesLine (λ l. l ≡ line) a b → IsHeadFault e number a
 head_fails e number fault line a b told f t = told_head e number fault a told (λ n. head_starts fault a (starts_as (λ l. head_of_line l ≡ Err fault) line a b t (failed fault (head_of_line line) f n)))
 
-pub event_fails : (e : TraceError) (number : ℕ) (fault : LineFault) (line : List ℕ) (a b : Option (List ℕ)) → IsLineFault e (number + 1) fault → Fails fault (event_of_line line) → TakesLine (λ l. l ≡ line) a b → IsEventFault e number a
-event_fails e number fault line a b told f t = told_event e number fault a told (λ n. starts_as (λ l. event_of_line l ≡ Err fault) line a b t (failed fault (event_of_line line) f n))
+pub event_fails : (basis : Basis) (e : TraceError) (number : ℕ) (fault : LineFault) (line : List ℕ) (a b : Option (List ℕ)) → IsLineFault e (number + 1) fault → Fails fault (event_by basis line) → TakesLine (λ l. l ≡ line) a b → IsEventFaultBy basis e number a
+event_fails basis e number fault line a b told f t = told_event basis e number fault a told (λ n. starts_as (λ l. event_by basis l ≡ Err fault) line a b t (failed fault (event_by basis line) f n))
 
 -- a line that is too long
 long_head : (line : List ℕ) → longest_line < length line → head_of_line line ≡ Err faults.TooLong
 unfolding head_of_line data_of
 long_head line h = let e : ltb longest_line (length line) ≡ true = lt-ltb _ _ h in rw e
 
-long_event : (line : List ℕ) → longest_line < length line → event_of_line line ≡ Err faults.TooLong
-unfolding event_of_line data_of
-long_event line h = let e : ltb longest_line (length line) ≡ true = lt-ltb _ _ h in rw e
+long_event : (basis : Basis) (line : List ℕ) → longest_line < length line → event_by basis line ≡ Err faults.TooLong
+unfolding event_by data_of
+long_event basis line h = let e : ltb longest_line (length line) ≡ true = lt-ltb _ _ h in rw e
 
 pub head_too_long : (e : TraceError) (number : ℕ) (a : Option (List ℕ)) → IsLineFault e (number + 1) faults.TooLong → StartsWithLine (λ line. longest_line < length line) a → IsHeadFault e number a
 head_too_long e number a told s = told_head e number faults.TooLong a told (λ n. head_starts faults.TooLong a (starts_more _ (λ l. head_of_line l ≡ Err faults.TooLong) a long_head s))
 
-pub event_too_long : (e : TraceError) (number : ℕ) (a : Option (List ℕ)) → IsLineFault e (number + 1) faults.TooLong → StartsWithLine (λ line. longest_line < length line) a → IsEventFault e number a
-event_too_long e number a told s = told_event e number faults.TooLong a told (λ n. starts_more _ (λ l. event_of_line l ≡ Err faults.TooLong) a long_event s)
+pub event_too_long : (basis : Basis) (e : TraceError) (number : ℕ) (a : Option (List ℕ)) → IsLineFault e (number + 1) faults.TooLong → StartsWithLine (λ line. longest_line < length line) a → IsEventFaultBy basis e number a
+event_too_long basis e number a told s = told_event basis e number faults.TooLong a told (λ n. starts_more _ (λ l. event_by basis l ≡ Err faults.TooLong) a (long_event basis) s)
 
 -- a text of no line
 no_line : (a : Option (List ℕ)) → HasNoLine a → HasHeadFault faults.NoHead a

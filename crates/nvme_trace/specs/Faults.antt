@@ -1,7 +1,9 @@
 -- The faults of a text, each of the line that comes next. (profile)
 use Rattle.std.specs.Prelude.{◌≡◌, ◌≢◌, ◌⊎◌, ℕ, ◌+◌, List, [], Option, Some, None, Err}
 use Rattle.nvme_trace.specs.Lines.{lines_of, StartsWithLine}
-use Rattle.nvme_trace.specs.Format.{head_of_line, event_of_line}
+use Rattle.nvme_trace.specs.Format.{head_of_line, event_by}
+use Rattle.nvme_trace.specs.declared.basis.Basis.{Basis}
+use Rattle.nvme_trace.specs.declared.basis.Basis.TheVariants.{Profile}
 use Rattle.nvme_trace.specs.declared.fault.LineFault.{LineFault}
 use Rattle.nvme_trace.specs.declared.fault.LineFault.TheVariants.{NoHead, NoMemory}
 use Rattle.nvme_trace.specs.declared.fault.TraceError.{TraceError}
@@ -25,7 +27,10 @@ IsHeadFault error.Read number rest = Unit {0}
 IsHeadFault error.NoMemory number rest = Unit {0}
 
 -- the next line is no event, with this fault
+abbrev pub IsEventFaultBy : Basis → TraceError → ℕ → Option (List ℕ) → Type 0
+IsEventFaultBy basis (error.Line line fault) number rest = (line ≡ number + 1) × StartsWithLine (λ text. event_by basis text ≡ Err fault) rest
+IsEventFaultBy basis error.Read number rest = Unit {0}
+IsEventFaultBy basis error.NoMemory number rest = Unit {0}
+
 abbrev pub IsEventFault : TraceError → ℕ → Option (List ℕ) → Type 0
-IsEventFault (error.Line line fault) number rest = (line ≡ number + 1) × StartsWithLine (λ text. event_of_line text ≡ Err fault) rest
-IsEventFault error.Read number rest = Unit {0}
-IsEventFault error.NoMemory number rest = Unit {0}
+IsEventFault error number rest = IsEventFaultBy Profile error number rest

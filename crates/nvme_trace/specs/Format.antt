@@ -1,5 +1,5 @@
 -- What a line of a trace says, or its first fault. (profile)
-use Rattle.std.specs.Prelude.{ℕ, ◌==◌, nat_lt, if◌then◌else◌, codes, List, [], ◌∷◌, ◌++◌, length, Option, Some, None, is_some, ok_or, option_and_then, option_map, Result, Ok, Err, nat_eq}
+use Rattle.std.specs.Prelude.{ℕ, ◌==◌, Bool, false, nat_lt, if◌then◌else◌, codes, List, [], ◌∷◌, ◌++◌, length, Option, Some, None, is_some, ok_or, option_and_then, option_map, Result, Ok, Err, nat_eq}
 use Rattle.std.specs.Cmp.Lexicographic.{pointwise}
 use Rattle.std.specs.Str.{is_utf8}
 use Rattle.serde_json.specs.Data.{Data, Items, no_items, item}
@@ -17,6 +17,8 @@ use Rattle.nvme_arbiter.specs.declared.pick.Seen.{Seen}
 use Rattle.nvme_trace.specs.declared.fault.LineFault.{LineFault}
 use Rattle.nvme_trace.specs.declared.fault.LineFault.TheVariants.{TooLong, NotUtf8, NotJson, NotObject, Bad, NotObservation}
 use Rattle.nvme_trace.specs.declared.fault.Field.TheVariants as field
+use Rattle.nvme_trace.specs.declared.basis.Basis.{Basis}
+use Rattle.nvme_trace.specs.declared.basis.Basis.TheVariants.{Profile, Specification}
 use Rattle.nvme_trace.specs.declared.records.Head.{Head}
 use Rattle.nvme_trace.specs.declared.records.TraceEvent.{TraceEvent}
 use Rattle.nvme_trace.specs.declared.records.TraceEvent.TheVariants.{Pick, Set}
@@ -105,17 +107,26 @@ set_in d = do
   only 1 d
   Ok (Changed (settings_of cdw11))
 
-unfoldable pub pick_in : Data → Result ArbitrationEvent LineFault
-pick_in d = do
+-- whether a pick starts a round: no matter where the specification alone judges, so it may be missing there
+unfoldable pub fresh_in : Basis → Data → Result Bool LineFault
+fresh_in Profile d = flag_at field.Fresh d
+fresh_in Specification d = if is_some (get (text_of field.Fresh) d) then flag_at field.Fresh d else Ok false
+
+-- how many fields the line of a pick has
+abbrev pub pick_fields : Data → ℕ
+pick_fields d = if is_some (get (text_of field.Fresh) d) then 4 else 3
+
+unfoldable pub pick_in : Basis → Data → Result ArbitrationEvent LineFault
+pick_in basis d = do
   qid ← number_at field.Pick 65535 d
   n ← number_at field.N 65535 d
-  fresh ← flag_at field.Fresh d
+  fresh ← fresh_in basis d
   seen ← value_at field.Seen d >>= (λ v. ok_or (observation_of v) NotObservation)
-  only 4 d
+  only (pick_fields d) d
   Ok (Picked seen (record { qid = qid; n = n; fresh = fresh }))
 
-unfoldable pub event_in : Data → Result ArbitrationEvent LineFault
-event_in d = if is_some (get (text_of field.Set) d) then set_in d else pick_in d
+unfoldable pub event_in : Basis → Data → Result ArbitrationEvent LineFault
+event_in basis d = if is_some (get (text_of field.Set) d) then set_in d else pick_in basis d
 
 -- ---- a line
 
@@ -132,11 +143,15 @@ head_of_line line = do
   object_in d
   head_in d
 
-unfoldable pub event_of_line : List ℕ → Result ArbitrationEvent LineFault
-event_of_line line = do
+unfoldable pub event_by : Basis → List ℕ → Result ArbitrationEvent LineFault
+event_by basis line = do
   d ← data_of line
   object_in d
-  event_in d
+  event_in basis d
+
+-- what this front writes of an event, and reads
+abbrev pub event_of_line : List ℕ → Result ArbitrationEvent LineFault
+event_of_line line = event_by Profile line
 
 -- an event of the code as one of a history
 abbrev pub event_view : TraceEvent → ArbitrationEvent

@@ -8,3 +8,4 @@ pub mod Judged
 pub mod Faults
 pub mod Checks
 pub mod Traces
+pub mod Bases

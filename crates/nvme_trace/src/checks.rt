@@ -2,65 +2,85 @@
 ghost use Rattle.std.specs.Prelude.{◌≡◌, ℕ, List, Some, Ok, IfOk, IfErr, IfSome};
 ghost use Rattle.nvme_trace.specs.Lines.{TakesLine};
 ghost use Rattle.nvme_trace.specs.Format.{head_of_line};
-ghost use Rattle.nvme_trace.specs.Checks.{IsAnswer, IsFaultOf};
+ghost use Rattle.nvme_trace.specs.Checks.{IsAnswer, IsFaultBy};
+ghost use Rattle.nvme_trace.specs.declared.basis.Basis.TheVariants.{Profile};
 
+use crate::basis::Basis;
 use crate::fault::TraceError;
-use crate::judge::{Finding, Judge};
+use crate::judges::{BasisJudge, Reason};
 use crate::records::Head;
 use crate::trace::Trace;
 use std::alloc::Global;
 use std::io::Read;
 
-/// The first pick of a trace that isn't the lawful one.
+/// The first pick of a trace that isn't allowed.
 #[derive(Clone, Copy, Debug, PartialEq, Eq)]
-pub struct Unlawful {
+pub struct Refusal {
     /// The number of its line, from 1 on.
     pub line: u64,
-    /// What was picked, what the lawful pick is, and why.
-    pub finding: Finding,
+    /// What was picked, and why it isn't allowed.
+    pub reason: Reason,
 }
 
 /// The answer of a check.
 #[derive(Clone, Copy, Debug, PartialEq, Eq)]
 pub enum Checked {
-    /// Each of the `picks` picks is the lawful one.
+    /// Each of the `picks` picks is allowed.
     Lawful { picks: u64 },
-    /// A pick isn't the lawful one. It is the first such.
-    Unlawful(Unlawful),
+    /// A pick isn't allowed. It is the first such.
+    Refused(Refusal),
 }
 
-/// Checks whether the picks of a trace are a lawful run from the settings of its head. If they aren't, the answer is
-/// the first pick that isn't the lawful one. The error is of the first line with a fault, if each pick before it is
-/// lawful. The trace is read as a stream.
-#[tactic(auto, using(crate::proofs::CheckLemmas::head_fault))]
+/// Checks whether the picks of a trace are those that this front makes from the settings of its head: `check_by` the
+/// profile.
 pub fn check<R: Read + Drop>(alloc: Global, reader: R) -> Result<Checked, TraceError>
-    ensures answer { IfOk result (λ checked. IfSome (R.remaining reader) (λ text. IsAnswer text checked)) }
-    ensures fault { IfErr result (λ error. IfSome (R.remaining reader) (λ text. IsFaultOf text error)) }
+    ensures answer { IfOk result (λ checked. IfSome (R.remaining reader) (λ text. IsAnswer Profile text checked)) }
+    ensures fault { IfErr result (λ error. IfSome (R.remaining reader) (λ text. IsFaultBy Profile text error)) }
+{
+    check_by(alloc, Basis::Profile, reader)
+}
+
+/// Checks whether the picks of a trace are allowed, from the settings of its head on. If they aren't, the answer is the
+/// first pick that isn't. The error is of the first line with a fault, if each pick before it is allowed. The trace is
+/// read as a stream.
+#[tactic(auto, using(crate::proofs::CheckLemmas::head_fault))]
+pub fn check_by<R: Read + Drop>(
+    alloc: Global,
+    basis: Basis,
+    reader: R,
+) -> Result<Checked, TraceError>
+    ensures answer { IfOk result (λ checked. IfSome (R.remaining reader) (λ text. IsAnswer basis text checked)) }
+    ensures fault { IfErr result (λ error. IfSome (R.remaining reader) (λ text. IsFaultBy basis text error)) }
 {
     let mut trace = Trace::new(alloc, reader);
     match trace.head(alloc) {
-        Ok(head) => judged(alloc, head, &mut trace),
+        Ok(head) => judged(alloc, basis, head, &mut trace),
         Err(error) => Err(error),
     }
 }
 
 // Judges the events after a head.
-fn judged<R: Read>(alloc: Global, head: Head, trace: &mut Trace<R>) -> Result<Checked, TraceError>
+fn judged<R: Read>(
+    alloc: Global,
+    basis: Basis,
+    head: Head,
+    trace: &mut Trace<R>,
+) -> Result<Checked, TraceError>
     requires number { trace.old.number ≡ 1 }
-    ensures answer { IfOk result (λ checked. (text : List ℕ) → TakesLine (λ line. head_of_line line ≡ Ok head) (Some text) trace.old.rest → IsAnswer text checked) }
-    ensures fault { IfErr result (λ error. (text : List ℕ) → TakesLine (λ line. head_of_line line ≡ Ok head) (Some text) trace.old.rest → IsFaultOf text error) }
+    ensures answer { IfOk result (λ checked. (text : List ℕ) → TakesLine (λ line. head_of_line line ≡ Ok head) (Some text) trace.old.rest → IsAnswer basis text checked) }
+    ensures fault { IfErr result (λ error. (text : List ℕ) → TakesLine (λ line. head_of_line line ≡ Ok head) (Some text) trace.old.rest → IsFaultBy basis text error) }
 {
-    let mut judge = Judge::new(head);
+    let mut judge = BasisJudge::new(basis, head);
     for _ in 1..u64::MAX {
-        let Some(event) = trace.event(alloc)? else {
+        let Some(event) = trace.event_by(alloc, basis)? else {
             return Ok(Checked::Lawful {
                 picks: judge.picks(),
             });
         };
-        if let Some(finding) = judge.judge(&event) {
-            return Ok(Checked::Unlawful(Unlawful {
+        if let Some(reason) = judge.judge(&event) {
+            return Ok(Checked::Refused(Refusal {
                 line: trace.number(),
-                finding,
+                reason,
             }));
         }
     }

@@ -1,6 +1,8 @@
 // Writes the text of a check's answer.
-use crate::checks::{Checked, Unlawful};
+use crate::checks::{Checked, Refusal};
 use crate::judge::Finding;
+use crate::judges::{Breach, Reason};
+use nvme_arbiter::specified::Rule;
 use nvme_arbiter::{Class, Kept, Mechanism, Pick};
 use std::fmt;
 
@@ -86,11 +88,42 @@ fn put_finding<W: fmt::Write>(finding: &Finding, f: &mut fmt::Formatter<W>) -> f
     put_used(kept, f)
 }
 
-impl fmt::Display for Unlawful {
+// The sentence of a rule.
+fn sentence_of(rule: Rule) -> &'static str {
+    match rule {
+        Rule::Candidates => "a pick takes at least one command, and only such as wait in its queue",
+        Rule::Burst => "a pick takes no more commands than the Arbitration Burst",
+        Rule::Priority => {
+            "no queue of a higher strict priority class is ready: admin, then urgent, then the weighted levels"
+        }
+        Rule::Credit => "no more commands of a level are picked in a round than its weight",
+        Rule::Turn => {
+            "no queue is picked twice while another of its class or level, or of all under round robin, is ready throughout"
+        }
+    }
+}
+
+// Writes what was picked, and the rule that it breaks.
+fn put_breach<W: fmt::Write>(breach: &Breach, f: &mut fmt::Formatter<W>) -> fmt::Result {
+    write!(f, "\npicked: ")?;
+    put_pick(&breach.picked, f)?;
+    let sentence = sentence_of(breach.rule);
+    write!(f, "\nrule: {sentence}")
+}
+
+impl fmt::Display for Refusal {
     fn fmt<W: fmt::Write>(&self, f: &mut fmt::Formatter<W>) -> fmt::Result {
         let line = self.line;
-        write!(f, "unlawful: line {line}")?;
-        put_finding(&self.finding, f)
+        match &self.reason {
+            Reason::Differs(finding) => {
+                write!(f, "differs: line {line}")?;
+                put_finding(finding, f)
+            }
+            Reason::Breaks(breach) => {
+                write!(f, "unlawful: line {line}")?;
+                put_breach(breach, f)
+            }
+        }
     }
 }
 
@@ -99,7 +132,7 @@ impl fmt::Display for Checked {
         match self {
             Checked::Lawful { picks: 1 } => f.write_str("lawful: 1 pick"),
             Checked::Lawful { picks } => write!(f, "lawful: {picks} picks"),
-            Checked::Unlawful(unlawful) => write!(f, "{unlawful}"),
+            Checked::Refused(refusal) => write!(f, "{refusal}"),
         }
     }
 }

@@ -1,8 +1,13 @@
 // Laws of traces.
-ghost use Rattle.nvme_trace.specs.Checks.{OneAnswer};
+ghost use Rattle.nvme_trace.specs.Checks.{LawfulTextsAreAllowed, OneAnswer};
 ghost use Rattle.nvme_trace.specs.Traces.{TracesAreReadBack, TracesAreLawful};
 
-/// A text has one answer: if its picks are a lawful run, none of its lines has a pick that isn't the lawful one.
+/// A text that is lawful by the profile is lawful by the specification.
+pub fn lawful_texts_are_allowed()
+    ensures { LawfulTextsAreAllowed }
+{}
+
+/// A text has one answer: if each of its picks is allowed, none of its lines has a pick that isn't.
 pub fn texts_have_one_answer()
     ensures { OneAnswer }
 {}

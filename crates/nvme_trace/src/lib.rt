@@ -2,10 +2,12 @@
 //! each pick.
 #![tactic(auto)]
 
+mod basis;
 mod checks;
 mod explanation;
 mod fault;
 mod judge;
+mod judges;
 mod laws;
 mod lines;
 mod names;
@@ -13,11 +15,14 @@ mod records;
 mod trace;
 mod writer;
 
-pub use checks::{Checked, Unlawful, check};
+pub use basis::Basis;
+pub use checks::{Checked, Refusal, check, check_by};
 pub use fault::{Field, LineFault, TraceError};
 pub use judge::{Finding, Judge};
-pub use laws::{texts_have_one_answer, written_traces_are_lawful};
+pub use judges::{Breach, Reason};
+pub use laws::{lawful_texts_are_allowed, texts_have_one_answer, written_traces_are_lawful};
 pub use names::{class_name, mechanism_name};
+pub use nvme_arbiter::specified::Rule;
 pub use nvme_output::WriteFault;
 pub use records::{Head, TraceEvent};
 pub use trace::Trace;

@@ -2,11 +2,12 @@
 ghost use Rattle.std.specs.Prelude.{◌≡◌, ◌≤◌, length, option_map, ok_or, IfOk, IfSome};
 ghost use Rattle.serde_json.specs.View.{view};
 ghost use Rattle.nvme_trace.specs.Readings.{Gives, seen_by, only, value_at, whole, number_at, flag_at, field_count};
-ghost use Rattle.nvme_trace.specs.Format.{longest_line, mechanism_of, head_in, class_named, number_of_part, class_of_part, part_count, triple_of, queue_of, queues_of, observation_of, set_in, pick_in, event_in, data_of, object_in, head_of_line, event_of_line, event_view};
+ghost use Rattle.nvme_trace.specs.Format.{longest_line, mechanism_of, head_in, class_named, number_of_part, class_of_part, part_count, triple_of, queue_of, queues_of, observation_of, set_in, fresh_in, pick_fields, pick_in, event_in, data_of, object_in, head_of_line, event_by, event_view};
 ghost use Rattle.serde_json.specs.Read.{read};
 ghost use Rattle.nvme_arbiter.specs.Observation.{IsObservation};
 ghost use Rattle.nvme_trace.specs.Judged.{IsObserved};
 
+use crate::basis::Basis;
 use crate::fault::{Field, LineFault};
 use arrayvec::ArrayVec;
 use nvme_arbiter::{Class, Mechanism, Pick, QUEUE_LIMIT, Seen, Settings, is_observation};
@@ -232,19 +233,42 @@ fn set_in(line: &Value) -> Result<TraceEvent, LineFault>
     })
 }
 
+// Whether a pick starts a round: false where that may be missing, and is.
+#[tactic(auto, unfolding(crate::specs::Format::fresh_in))]
+fn fresh_in(basis: Basis, line: &Value) -> Result<bool, LineFault>
+    ensures { result ≡ fresh_in basis (view line.now) }
+{
+    if basis == Basis::Specification && line.get(Field::Fresh.name()).is_none() {
+        Ok(false)
+    } else {
+        flag_at(line, Field::Fresh)
+    }
+}
+
+// The number of fields of a pick.
+fn pick_fields(line: &Value) -> usize
+    ensures { result ≡ pick_fields (view line.now) }
+{
+    if line.get(Field::Fresh.name()).is_some() {
+        4
+    } else {
+        3
+    }
+}
+
 // What a pick says.
 #[tactic(auto, unfolding(crate::specs::Format::pick_in))]
-fn pick_in(line: &Value) -> Result<TraceEvent, LineFault>
-    ensures value { seen_by event_view result ≡ pick_in (view line.now) }
+fn pick_in(basis: Basis, line: &Value) -> Result<TraceEvent, LineFault>
+    ensures value { seen_by event_view result ≡ pick_in basis (view line.now) }
     ensures observed { IfOk result (λ e. IsObserved (event_view e)) }
 {
     let qid = number_at(line, Field::Pick, 0xffff)? as u16;
     let n = number_at(line, Field::N, 0xffff)? as u16;
-    let fresh = flag_at(line, Field::Fresh)?;
+    let fresh = fresh_in(basis, line)?;
     let Some(seen) = observation_of(value_at(line, Field::Seen)?) else {
         return Err(LineFault::NotObservation);
     };
-    only(4, line)?;
+    only(pick_fields(line), line)?;
     Ok(TraceEvent::Pick {
         seen,
         pick: Pick { qid, n, fresh },
@@ -253,14 +277,14 @@ fn pick_in(line: &Value) -> Result<TraceEvent, LineFault>
 
 // What a line after the head says.
 #[tactic(auto, unfolding(crate::specs::Format::event_in))]
-fn event_in(line: &Value) -> Result<TraceEvent, LineFault>
-    ensures value { seen_by event_view result ≡ event_in (view line.now) }
+fn event_in(basis: Basis, line: &Value) -> Result<TraceEvent, LineFault>
+    ensures value { seen_by event_view result ≡ event_in basis (view line.now) }
     ensures observed { IfOk result (λ e. IsObserved (event_view e)) }
 {
     if line.get(Field::Set.name()).is_some() {
         set_in(line)
     } else {
-        pick_in(line)
+        pick_in(basis, line)
     }
 }
 
@@ -309,13 +333,17 @@ pub(crate) fn head_of_line(alloc: Global, line: &[u8]) -> Result<Head, LineFault
 }
 
 /// What a later line says.
-#[tactic(auto, unfolding(crate::specs::Format::event_of_line))]
-pub(crate) fn event_of_line(alloc: Global, line: &[u8]) -> Result<TraceEvent, LineFault>
+#[tactic(auto, unfolding(crate::specs::Format::event_by))]
+pub(crate) fn event_of_line(
+    alloc: Global,
+    basis: Basis,
+    line: &[u8],
+) -> Result<TraceEvent, LineFault>
     requires { length line.now ≤ longest_line }
-    ensures value { Gives (seen_by event_view result) (event_of_line line.now) }
+    ensures value { Gives (seen_by event_view result) (event_by basis line.now) }
     ensures observed { IfOk result (λ e. IsObserved (event_view e)) }
 {
     let value = data_of(alloc, line)?;
     object_in(&value)?;
-    event_in(&value)
+    event_in(basis, &value)
 }

@@ -1,12 +1,14 @@
 // Reads a trace as a stream, line by line.
 ghost use Rattle.std.specs.Prelude.{◌≡◌, ◌≤◌, ◌<◌, ◌+◌, ◌-◌, ◌^◌, ℕ, List, Option, Ok, length, IfOk, IfErr, IfSome, OnOk, MatchOption};
 ghost use Rattle.nvme_trace.specs.Lines.{unread, MatchLine, MeetsError, TakesLine, HasNoLine};
-ghost use Rattle.nvme_trace.specs.Format.{longest_line, head_of_line, event_of_line, event_view};
+ghost use Rattle.nvme_trace.specs.Format.{longest_line, head_of_line, event_by, event_of_line, event_view};
 ghost use Rattle.nvme_trace.specs.Judged.{IsObserved};
-ghost use Rattle.nvme_trace.specs.Faults.{IsLineFault, IsHeadFault, IsEventFault};
+ghost use Rattle.nvme_trace.specs.Faults.{IsLineFault, IsHeadFault, IsEventFault, IsEventFaultBy};
+ghost use Rattle.nvme_trace.specs.declared.basis.Basis.{Basis};
 ghost use Rattle.nvme_trace.specs.declared.fault.TraceError.TheVariants as fault;
 ghost use Rattle.nvme_trace.specs.declared.lines.NextError.TheVariants as next;
 
+use crate::basis::Basis;
 use crate::fault::{LineFault, TraceError};
 use crate::lines::{Lines, NextError};
 use crate::records::{Head, TraceEvent, event_of_line, head_of_line};
@@ -49,7 +51,8 @@ fn fault_after(number: u64, fault: LineFault) -> TraceError
 // Why the line after the first `number` lines wasn't taken.
 fn stop_after(number: u64, error: NextError) -> TraceError
     requires { number < 2 ^ 64 - 1 }
-    ensures line { (rest : Option (List ℕ)) → MeetsError error rest → IsHeadFault result number rest × IsEventFault result number rest }
+    ensures head { (rest : Option (List ℕ)) → MeetsError error rest → IsHeadFault result number rest }
+    ensures event { (basis : Basis) (rest : Option (List ℕ)) → MeetsError error rest → IsEventFaultBy basis result number rest }
     ensures read { error ≡ next.Read → result ≡ fault.Read }
     ensures no_memory { error ≡ next.NoMemory → result ≡ fault.NoMemory }
 {
@@ -69,7 +72,8 @@ fn line_after<R: Read>(
     requires { number < 2 ^ 64 - 1 }
     ensures ok { IfOk result (λ more. MatchLine more line.new.items (unread R.remaining lines.old) (unread R.remaining lines.new)) }
     ensures short { OnOk result (length line.new.items ≤ longest_line) }
-    ensures err { IfErr result (λ e. IsHeadFault e number (unread R.remaining lines.old) × IsEventFault e number (unread R.remaining lines.old)) }
+    ensures head { IfErr result (λ e. IsHeadFault e number (unread R.remaining lines.old)) }
+    ensures event { (basis : Basis) → IfErr result (λ e. IsEventFaultBy basis e number (unread R.remaining lines.old)) }
 {
     match lines.next_line(line) {
         Ok(more) => Ok(more),
@@ -116,7 +120,7 @@ impl<R: Read> Trace<R> {
         }
     }
 
-    /// Reads the next line after the head. `None` at the end of the trace.
+    /// Reads the next line after the head, as the profile has it. `None` at the end of the trace.
     pub fn event(&mut self, alloc: Global) -> Result<Option<TraceEvent>, TraceError>
         requires { self.old.number < 2 ^ 64 - 1 }
         ensures ok { IfOk result (λ o. MatchOption o (HasNoLine self.old.rest) (λ e. TakesLine (λ line. event_of_line line ≡ Ok (event_view e)) self.old.rest self.new.rest)) }
@@ -124,10 +128,25 @@ impl<R: Read> Trace<R> {
         ensures number { IfOk result (λ o. IfSome o (λ _. self.new.number ≡ self.old.number + 1)) }
         ensures err { IfErr result (λ e. IsEventFault e self.old.number self.old.rest) }
     {
+        self.event_by(alloc, Basis::Profile)
+    }
+
+    /// Reads the next line after the head. `None` at the end of the trace.
+    pub fn event_by(
+        &mut self,
+        alloc: Global,
+        basis: Basis,
+    ) -> Result<Option<TraceEvent>, TraceError>
+        requires { self.old.number < 2 ^ 64 - 1 }
+        ensures ok { IfOk result (λ o. MatchOption o (HasNoLine self.old.rest) (λ e. TakesLine (λ line. event_by basis line ≡ Ok (event_view e)) self.old.rest self.new.rest)) }
+        ensures observed { IfOk result (λ o. IfSome o (λ e. IsObserved (event_view e))) }
+        ensures number { IfOk result (λ o. IfSome o (λ _. self.new.number ≡ self.old.number + 1)) }
+        ensures err { IfErr result (λ e. IsEventFaultBy basis e self.old.number self.old.rest) }
+    {
         if !line_after(self.number, &mut self.lines, &mut self.line)? {
             return Ok(None);
         }
-        match event_of_line(alloc, &self.line) {
+        match event_of_line(alloc, basis, &self.line) {
             Ok(event) => {
                 self.number += 1;
                 Ok(Some(event))

@@ -76,7 +76,7 @@ fn changed(alloc: Global, text: &str, at: usize, more: u64) -> Result<Option<Cha
 fn refused(alloc: Global, text: &[u8]) -> u64 {
     match check(alloc, text) {
         Ok(Checked::Lawful { .. }) => 0,
-        Ok(Checked::Unlawful(unlawful)) => unlawful.line,
+        Ok(Checked::Refused(refusal)) => refusal.line,
         Err(TraceError::Line { line, .. }) => line,
         Err(_) => 0,
     }

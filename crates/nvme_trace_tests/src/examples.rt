@@ -1,6 +1,6 @@
 // Worked traces.
 use nvme_arbiter::{Class, Mechanism, Pick, Settings};
-use nvme_trace::{Checked, Finding, Head, Judge, TraceEvent, check};
+use nvme_trace::{Basis, Checked, Finding, Head, Judge, TraceEvent, check, check_by};
 use std::alloc::Global;
 use std::test::*;
 
@@ -34,6 +34,15 @@ fn answer(alloc: Global, text: &str) -> Result<String, Fail> {
     Ok(checked.to_string(alloc)?)
 }
 
+// The text of the answer of a check by the specification.
+fn answer_by_rules(alloc: Global, text: &str) -> Result<String, Fail> {
+    let checked = match check_by(alloc, Basis::Specification, text.as_bytes()) {
+        Ok(checked) => checked,
+        Err(error) => return Ok(error.to_string(alloc)?),
+    };
+    Ok(checked.to_string(alloc)?)
+}
+
 #[test]
 fn lawful_texts(rt: HostRuntime) -> Result<(), Fail> {
     let alloc = rt.alloc();
@@ -46,22 +55,22 @@ fn lawful_texts(rt: HostRuntime) -> Result<(), Fail> {
 }
 
 #[test]
-fn unlawful_texts(rt: HostRuntime) -> Result<(), Fail> {
+fn texts_that_differ(rt: HostRuntime) -> Result<(), Fail> {
     let alloc = rt.alloc();
     let sixth =
         "{\"pick\":1,\"n\":2,\"fresh\":false,\"seen\":[[0,\"admin\",0],[1,\"high\",2],[4,\"low\",5]]}";
     let text = format!(in alloc; "{CHANGED}{sixth}")?;
     assert_eq!(rt;
         answer(alloc, text.as_str())?.as_str(),
-        "unlawful: line 6\npicked: q1 2\nlawful: q4 2\nwhy: case 3, the first level that is ready and has credit\nserved last: admin q0, urgent none, high q1, medium none, low none\nused in the round: high 3 of 3, medium 0 of 1, low 0 of 2"
+        "differs: line 6\npicked: q1 2\nlawful: q4 2\nwhy: case 3, the first level that is ready and has credit\nserved last: admin q0, urgent none, high q1, medium none, low none\nused in the round: high 3 of 3, medium 0 of 1, low 0 of 2"
     );
     assert_eq!(rt;
         answer(alloc, OLD_CREDIT)?.as_str(),
-        "unlawful: line 4\npicked: q1 1\nlawful: q1 3\nwhy: case 3, the first level that is ready and has credit\nserved last: admin none, urgent none, high q1, medium none, low none\nused in the round: high 0 of 3, medium 0 of 1, low 0 of 2"
+        "differs: line 4\npicked: q1 1\nlawful: q1 3\nwhy: case 3, the first level that is ready and has credit\nserved last: admin none, urgent none, high q1, medium none, low none\nused in the round: high 0 of 3, medium 0 of 1, low 0 of 2"
     );
     assert_eq!(rt;
         answer(alloc, NOT_FRESH)?.as_str(),
-        "unlawful: line 3\npicked: q4 1\nlawful: q4 1 fresh\nwhy: case 4, no ready level has credit, so a round starts\nserved last: admin none, urgent none, high none, medium none, low q4\nused in the round: high 0 of 1, medium 0 of 1, low 1 of 1"
+        "differs: line 3\npicked: q4 1\nlawful: q4 1 fresh\nwhy: case 4, no ready level has credit, so a round starts\nserved last: admin none, urgent none, high none, medium none, low q4\nused in the round: high 0 of 1, medium 0 of 1, low 1 of 1"
     );
     Ok(())
 }
@@ -86,7 +95,7 @@ fn cases(rt: HostRuntime) -> Result<(), Fail> {
             "{head}\n{{\"pick\":9,\"n\":1,\"fresh\":true,\"seen\":{seen}}}\n"
         )?;
         let want = format!(in alloc;
-            "unlawful: line 2\npicked: q9 1 fresh\n{lawful}\nserved last: admin none, urgent none, high none, medium none, low none\nused in the round: high 0 of 1, medium 0 of 1, low 0 of 1"
+            "differs: line 2\npicked: q9 1 fresh\n{lawful}\nserved last: admin none, urgent none, high none, medium none, low none\nused in the round: high 0 of 1, medium 0 of 1, low 0 of 1"
         )?;
         assert_eq!(rt; answer(alloc, text.as_str())?.as_str(), want.as_str());
     }
@@ -94,7 +103,74 @@ fn cases(rt: HostRuntime) -> Result<(), Fail> {
         "{\"version\":1,\"mechanism\":\"round-robin\",\"cdw11\":0}\n{\"pick\":2,\"n\":1,\"fresh\":false,\"seen\":[[1,\"low\",1],[2,\"low\",1]]}\n";
     assert_eq!(rt;
         answer(alloc, text)?.as_str(),
-        "unlawful: line 2\npicked: q2 1\nlawful: q1 1\nwhy: round robin, the next ready queue after the latest pick\nserved last: of all none"
+        "differs: line 2\npicked: q2 1\nlawful: q1 1\nwhy: round robin, the next ready queue after the latest pick\nserved last: of all none"
+    );
+    Ok(())
+}
+
+// Burst 2, High 4, Medium 2, Low 1: the levels in turn, a command at a time, and without the field `fresh`. The profile
+// would take two commands of High.
+const IN_TURN: &str = "{\"version\":1,\"mechanism\":\"weighted\",\"cdw11\":50397185}
+{\"pick\":1,\"n\":1,\"seen\":[[1,\"high\",5],[4,\"low\",5]]}
+{\"pick\":4,\"n\":1,\"seen\":[[1,\"high\",4],[4,\"low\",5]]}
+{\"pick\":1,\"n\":2,\"fresh\":true,\"seen\":[[1,\"high\",4],[4,\"low\",4]]}
+";
+
+#[test]
+fn texts_by_rules(rt: HostRuntime) -> Result<(), Fail> {
+    let alloc = rt.alloc();
+    assert_eq!(rt;
+        answer_by_rules(alloc, CHANGED)?.as_str(),
+        "lawful: 3 picks"
+    );
+    assert_eq!(rt;
+        answer_by_rules(alloc, NOT_FRESH)?.as_str(),
+        "lawful: 2 picks"
+    );
+    assert_eq!(rt;
+        answer_by_rules(alloc, IN_TURN)?.as_str(),
+        "lawful: 3 picks"
+    );
+    assert_eq!(rt;
+        answer(alloc, IN_TURN)?.as_str(),
+        "trace: line 2: missing fresh"
+    );
+    for (last, want) in [
+        (
+            "{\"pick\":4,\"n\":1,\"seen\":[[1,\"high\",2],[4,\"low\",4]]}",
+            "picked: q4 1\nrule: no more commands of a level are picked in a round than its weight",
+        ),
+        (
+            "{\"pick\":1,\"n\":3,\"seen\":[[1,\"high\",9]]}",
+            "picked: q1 3\nrule: a pick takes no more commands than the Arbitration Burst",
+        ),
+        (
+            "{\"pick\":1,\"n\":1,\"fresh\":true,\"seen\":[[1,\"high\",0]]}",
+            "picked: q1 1 fresh\nrule: a pick takes at least one command, and only such as wait in its queue",
+        ),
+        (
+            "{\"pick\":1,\"n\":1,\"seen\":[[0,\"admin\",1],[1,\"high\",1]]}",
+            "picked: q1 1\nrule: no queue of a higher strict priority class is ready: admin, then urgent, then the weighted levels",
+        ),
+    ] {
+        let text = format!(in alloc; "{IN_TURN}{last}\n")?;
+        let want = format!(in alloc; "unlawful: line 5\n{want}")?;
+        assert_eq!(rt;
+            answer_by_rules(alloc, text.as_str())?.as_str(),
+            want.as_str()
+        );
+    }
+    Ok(())
+}
+
+#[test]
+fn turns_by_rules(rt: HostRuntime) -> Result<(), Fail> {
+    let alloc = rt.alloc();
+    let text =
+        "{\"version\":1,\"mechanism\":\"round-robin\",\"cdw11\":0}\n{\"pick\":2,\"n\":1,\"seen\":[[1,\"low\",1],[2,\"low\",2]]}\n{\"pick\":2,\"n\":1,\"seen\":[[1,\"low\",1],[2,\"low\",1]]}\n";
+    assert_eq!(rt;
+        answer_by_rules(alloc, text)?.as_str(),
+        "unlawful: line 3\npicked: q2 1\nrule: no queue is picked twice while another of its class or level, or of all under round robin, is ready throughout"
     );
     Ok(())
 }

@@ -17,7 +17,7 @@ use Rattle.clap.specs.declared.error.kind.ErrorKind.TheVariants.{DisplayHelp, Di
 use Rattle.clap.proofs.ValueTestLemmas.{accepts-Accepts}
 use Rattle.nvme_words.specs.CommandLine.{AreFormats, Names, command_line}
 use Rattle.nvme_words.specs.Examples.{AsksFor, HasFault, IsMemory, NamesFile, OverLine, RefusesBy, ShowsText}
-use Rattle.nvme_words.specs.Requests.{Given, IsAnswerTo, IsGivenBy, IsHelp, IsNumber, IsRequestOf, faults_of, file_given, given_by}
+use Rattle.nvme_words.specs.Requests.{Given, IsAnswerTo, IsGivenBy, IsHelp, IsNumber, IsRequestOf, IsSaid, faults_of, file_given, given_by}
 use Rattle.nvme_words.specs.Words.{asks, asks_alone, reads_input}
 use Rattle.nvme_words.specs.declared.requests.Request.{Request}
 use Rattle.nvme_words.specs.declared.requests.Request.TheVariants as request
@@ -80,15 +80,16 @@ for_all line error.OtherWord h = inr (λ names are words e answer. ⊎_elim (λ 
 
 -- what a line with a subcommand asks for
 pub line_asks : (name : Text) (rest : List Text) (given : Given) (request : Request) → given.0 ≡ name → IsRequestOf given request
+    → ((words : List (String Global)) → map string_bytes words ≡ codes "nvmearb" ∷ name ∷ rest → IsSaid words request)
     → ((p q : Place) (r : Place × Place) → (fault_of (command_line (names_at p q r)) (codes "nvmearb" ∷ name ∷ rest) ≡ [])
     × (subcommand_of (command_line (names_at p q r)) (codes "nvmearb" ∷ name ∷ rest) ≡ Some given))
     → AsksFor (name ∷ rest) request
-line_asks name rest given request is of at =
+line_asks name rest given request is of said at =
     let both : OverLine (name ∷ rest) (λ app words. (faults_of app words ≡ []) × IsGivenBy words (given_by app words) request) =
     over_names _ (λ p q r words e. (
       ap (fault_of (command_line (names_at p q r))) e ∙ (at p q r).0,
       subst (λ g. IsGivenBy words g request) (sym (ap (subcommand_of (command_line (names_at p q r))) e ∙ (at p q r).1))
-          (ap (λ n. asks n words) is ∙ second_asked words name rest e, of),
+          (ap (λ n. asks n words) is ∙ second_asked words name rest e, of, said words e),
     )) in (
       (λ names are words e. inl (both names are words e)),
       (λ e. for_all (name ∷ rest) e (λ names are words same.

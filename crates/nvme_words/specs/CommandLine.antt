@@ -85,6 +85,13 @@ expand = with_rule (new_app (codes "expand")) (required file)
 abbrev pub trace : Text → App
 trace name = with_rule (new_app name) file
 
+-- what the specification alone asks is judged
+abbrev pub spec : Rule
+spec = record (new_rule (codes "spec")) { long = Some (codes "spec"); action = Some SetTrue }
+
+abbrev pub check : App
+check = with_rule (trace (codes "check")) spec
+
 -- a subcommand that shows a part of a trace
 abbrev pub ranged : Text → App
 ranged name = with_rule (with_rule (trace name) first) last
@@ -108,7 +115,7 @@ abbrev pub with_file : App → App
 with_file app = with_subcommand (with_subcommand (with_subcommand (with_subcommand app (run (codes "run")).top) lint.top) (run (codes "trace")).top) expand.top
 
 abbrev pub with_trace : Names → App → App
-with_trace names app = with_subcommand (with_subcommand (with_subcommand app (trace (codes "check")).top) (ranged (codes "chart")).top) (stats names).top
+with_trace names app = with_subcommand (with_subcommand (with_subcommand app check.top) (ranged (codes "chart")).top) (stats names).top
 
 abbrev pub command_line : Names → App
 command_line names = with_trace names (with_file (with_input alone))

@@ -123,6 +123,9 @@ trace_live = codes "trace" ∷ codes "a.toml" ∷ codes "--live" ∷ []
 abbrev pub check_file : List Text
 check_file = codes "check" ∷ codes "a.json" ∷ []
 
+abbrev pub check_spec : List Text
+check_spec = codes "check" ∷ codes "--spec" ∷ codes "a.json" ∷ []
+
 abbrev pub chart_file : List Text
 chart_file = codes "chart" ∷ codes "a.json" ∷ []
 

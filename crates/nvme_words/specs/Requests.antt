@@ -19,7 +19,7 @@ use Rattle.nvme_words.specs.declared.requests.WordsError.{WordsError}
 use Rattle.nvme_words.specs.declared.requests.WordsError.TheVariants as error
 use Rattle.nvme_words.specs.Words.{asks, asks_alone, reads_input, reads_workload, shows_trace}
 
--- the word after the program's name is one that asks for this. Words that ask for a check alone don't ask for help
+-- the word after the program's name is one that asks for this. Words that ask for a check alone don't ask for help, nor for more
 abbrev pub IsAskedBy : List (String Global) → Request → Type 0
 IsAskedBy words (request.Once blocks) = asks (codes "once") words ≡ true
 IsAskedBy words (request.Run mode workers) = reads_workload words ≡ true
@@ -27,6 +27,7 @@ IsAskedBy words (request.RunFile mode workers) = asks (codes "run") words ≡ tr
 IsAskedBy words request.Lint = asks (codes "lint") words ≡ true
 IsAskedBy words request.Expand = asks (codes "expand") words ≡ true
 IsAskedBy words request.Check = asks (codes "check") words ≡ true
+IsAskedBy words request.CheckSpec = (asks (codes "check") words ≡ true) × (asks_alone (codes "check") words ≡ false)
 IsAskedBy words (request.Trace mode workers) = asks (codes "trace") words ≡ true
 IsAskedBy words (request.Chart range) = shows_trace words ≡ true
 IsAskedBy words (request.Stats numbers) = shows_trace words ≡ true
@@ -79,7 +80,8 @@ IsRequestOf given (request.RunFile mode workers) =
     (given.0 ≡ codes "run") × SubmitsBy given.1 mode × IsNumber 8 (codes "workers") given.1 workers
 IsRequestOf given request.Lint = given.0 ≡ codes "lint"
 IsRequestOf given request.Expand = given.0 ≡ codes "expand"
-IsRequestOf given request.Check = given.0 ≡ codes "check"
+IsRequestOf given request.Check = (given.0 ≡ codes "check") × IsFlag (codes "spec") given.1 false
+IsRequestOf given request.CheckSpec = (given.0 ≡ codes "check") × IsFlag (codes "spec") given.1 true
 IsRequestOf given (request.Trace mode workers) =
     (given.0 ≡ codes "trace") × SubmitsBy given.1 mode × IsNumber 8 (codes "workers") given.1 workers
 IsRequestOf given (request.Chart range) = (given.0 ≡ codes "chart") × IsRange given.1 range
@@ -96,10 +98,15 @@ faults_of app words = fault_of app (map string_bytes words)
 abbrev pub given_by : App → List (String Global) → Option Given
 given_by app words = subcommand_of app (map string_bytes words)
 
+-- words that ask for a check alone don't ask for the one by the specification
+abbrev pub IsSaid : List (String Global) → Request → Type 0
+IsSaid words request.CheckSpec = asks_alone (codes "check") words ≡ false
+IsSaid words request = ⊤
+
 -- the subcommand is the word after the program's name, and asks for this
 abbrev pub IsGivenBy : List (String Global) → Option Given → Request → Type 0
 IsGivenBy words None request = ⊥
-IsGivenBy words (Some given) request = (asks given.0 words ≡ true) × IsRequestOf given request
+IsGivenBy words (Some given) request = (asks given.0 words ≡ true) × IsRequestOf given request × IsSaid words request
 
 -- the text is one that was asked for. Words that ask for a check alone ask for none
 abbrev pub IsHelp : List (String Global) → ErrorKind → Type 0

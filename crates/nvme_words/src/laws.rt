@@ -1,7 +1,7 @@
 //! Laws of the command line, over the definitions alone. Each function does nothing: its contract is the law.
 ghost use Rattle.std.specs.Prelude.{[], None, Some, codes, true};
 ghost use Rattle.clap.specs.declared.error.kind.ErrorKind.TheVariants as kind;
-ghost use Rattle.nvme_words.specs.Examples.{AsksFor, AsksForNothing, AsksForOneThing, HasFault, NamesFile, RefusesBy, ShowsText, all_numbers, all_picks, alone, chart_file, chart_from_0, check_file, expand_file, lint_file, lint_input, live_0, live_8, loaded_2, loaded_9, once_8, once_most, once_none, once_too_many, run_file, run_live_3, run_two_files, stats_json, stats_part, stats_xml, trace_2, trace_live};
+ghost use Rattle.nvme_words.specs.Examples.{AsksFor, AsksForNothing, AsksForOneThing, HasFault, NamesFile, RefusesBy, ShowsText, all_numbers, all_picks, alone, chart_file, chart_from_0, check_file, check_spec, expand_file, lint_file, lint_input, live_0, live_8, loaded_2, loaded_9, once_8, once_most, once_none, once_too_many, run_file, run_live_3, run_two_files, stats_json, stats_part, stats_xml, trace_2, trace_live};
 ghost use Rattle.nvme_words.specs.declared.requests.Format.TheVariants as format;
 ghost use Rattle.nvme_words.specs.declared.requests.Request.TheVariants as request;
 ghost use Rattle.nvme_lane.specs.declared.mode.Mode.TheVariants.{Loaded, Live};
@@ -18,6 +18,8 @@ pub fn lines_ask_for()
     ensures lint { AsksFor lint_input request.Lint }
     ensures expand { AsksFor expand_file request.Expand }
     ensures check { AsksFor (alone (codes "check")) request.Check }
+    ensures check_file { AsksFor check_file request.Check }
+    ensures check_spec { AsksFor check_spec request.CheckSpec }
     ensures trace { AsksFor trace_2 (request.Trace Loaded 2) }
     ensures trace_live { AsksFor trace_live (request.Trace Live 1) }
     ensures chart { AsksFor chart_file (request.Chart all_picks) }

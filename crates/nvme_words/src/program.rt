@@ -1,7 +1,7 @@
 // The command line of the program, by `clap`.
 ghost use Rattle.std.specs.Prelude.{◌≡◌, IfOk, codes};
 ghost use Rattle.clap.specs.Words.{App, app_of};
-ghost use Rattle.nvme_words.specs.CommandLine.{OnCommandLine, backlogged, blocks, expand, file, first, last, lint, mode, once, option, ranged, run, stats, trace, window, with_file, with_input, with_trace, workers};
+ghost use Rattle.nvme_words.specs.CommandLine.{OnCommandLine, backlogged, blocks, check, expand, file, first, last, lint, mode, once, option, ranged, run, stats, trace, window, with_file, with_input, with_trace, workers};
 ghost use Rattle.nvme_words.specs.inside.Built.{AddsIfMade, HasApp, HasRule};
 
 use clap::builder::ValueParser;
@@ -29,8 +29,8 @@ Ranges:
   FIRST, LAST     numbers of picks, counted from 1, both included
 
 Exit status:
-  0  done; with lint there is nothing to say, with check each pick is lawful
-  1  the input is at fault; with check also: a pick is not the lawful one
+  0  done; with lint there is nothing to say, with check each pick is allowed
+  1  the input is at fault; with check also: a pick is not allowed
   2  the command line is at fault
   3  the run is: a file, a read or a write failed, memory was refused, or not all was done
   4  with lint: the workload is lawful, and there are warnings
@@ -166,6 +166,18 @@ fn trace_command<'a>(
     Command::new(alloc, name).about(about).arg(file)
 }
 
+// The subcommand that judges a trace.
+fn check_command<'a>(alloc: Global) -> Result<Command<'a>, AllocError>
+    ensures { IfOk result (HasApp check) }
+{
+    let spec = Arg::new(alloc, "spec")
+        .long("spec")
+        .help("Judge by what the NVM Express Base Specification alone asks of a pick")
+        .action(ArgAction::SetTrue);
+    let about = "Tells whether each pick of a trace is the one that this front makes";
+    trace_command(alloc, "check", about)?.arg(spec)
+}
+
 // From which pick of a trace on it is looked at.
 fn first_arg<'a>(alloc: Global) -> Arg<'a>
     ensures { HasRule first result }
@@ -276,9 +288,8 @@ fn with_trace<'a>(
 ) -> Result<Command<'a>, AllocError>
     ensures { (app : App) → HasApp app program.entry → IfOk result (HasApp (with_trace formats.entry app)) }
 {
-    let check = "Tells whether each pick of a trace is the lawful one";
     let chart = "Prints a picture of a trace as SVG";
-    let program = with(Ok(program), trace_command(alloc, "check", check));
+    let program = with(Ok(program), check_command(alloc));
     let program = with(program, ranged_command(alloc, "chart", chart));
     with(program, stats_command(alloc, formats))
 }

@@ -1,8 +1,8 @@
 // What the words of the command line ask for.
-ghost use Rattle.std.specs.Prelude.{IfOk, IfSome, codes};
+ghost use Rattle.std.specs.Prelude.{◌≡◌, IfOk, IfNone, IfSome, codes};
 ghost use Rattle.clap.specs.Words.{found_of, kind_of, rows_of, subcommand_rows_of};
 ghost use Rattle.nvme_words.specs.CommandLine.{OnCommandLine};
-ghost use Rattle.nvme_words.specs.Requests.{AreNumbers, IsAnswerTo, IsAskedBy, IsFlag, IsFormat, IsRange, SubmitsBy};
+ghost use Rattle.nvme_words.specs.Requests.{AreNumbers, IsAnswerTo, IsAskedBy, IsFlag, IsFormat, IsRange, IsSaid, SubmitsBy};
 ghost use Rattle.nvme_words.specs.inside.Found.{IsNumberIfAny, IsOneIfAny, IsRequestIfAny, IsRequestOfIfAny, IsTextFor};
 
 use crate::program::program;
@@ -47,6 +47,7 @@ pub enum Format {
 }
 
 /// What the words ask for.
+#[derive(Drop)]
 pub enum Request {
     /// The completion of one entry over a namespace of this many logical blocks, 1 to 2^63 - 1.
     Once(u64),
@@ -59,8 +60,10 @@ pub enum Request {
     Lint,
     /// The workload file that a short one stands for.
     Expand,
-    /// Whether each pick of a trace is the lawful one.
+    /// Whether each pick of a trace is the one that this front makes.
     Check,
+    /// Whether the specification allows each pick of a trace.
+    CheckSpec,
     /// The trace of a run of a workload in this mode, with this many workers, 1 to 8.
     Trace(Mode, u8),
     /// A picture of a trace, as SVG.
@@ -131,6 +134,16 @@ fn backlogged_of(matches: &ArgMatches) -> bool
     }
 }
 
+// Whether a trace is judged by the specification alone.
+fn spec_of(matches: &ArgMatches) -> bool
+    ensures { IsFlag (codes "spec") (rows_of (found_of matches.now)) result }
+{
+    match matches.get_str("spec") {
+        Some("true") => true,
+        _ => false,
+    }
+}
+
 // The number of the first pick that is looked at.
 fn first_of(matches: &ArgMatches) -> Option<u64>
     ensures { IsNumberIfAny 64 (codes "from") (rows_of (found_of matches.now)) result }
@@ -186,11 +199,24 @@ fn request_of(name: &str, matches: &ArgMatches) -> Option<Request>
         "run" => Some(Request::RunFile(mode_of(matches), workers_of(matches)?)),
         "lint" => Some(Request::Lint),
         "expand" => Some(Request::Expand),
+        "check" if spec_of(matches) => Some(Request::CheckSpec),
         "check" => Some(Request::Check),
         "trace" => Some(Request::Trace(mode_of(matches), workers_of(matches)?)),
         "chart" => Some(Request::Chart(range_of(matches)?)),
         "stats" => Some(Request::Stats(numbers_of(matches)?)),
         _ => None,
+    }
+}
+
+// The request where the words say it: words that ask for a check alone don't ask for the one by the specification.
+fn said(words: &[String], request: Request) -> Option<Request>
+    ensures some { IfSome result (λ said. (said ≡ request) × IsSaid words.now request) }
+    ensures none { IfNone result (IsSaid words.now request → ⊥) }
+{
+    if matches!(&request, Request::CheckSpec) && asks_alone(words, "check") {
+        None
+    } else {
+        Some(request)
     }
 }
 
@@ -201,7 +227,7 @@ fn asked_in(words: &[String], matches: &ArgMatches) -> Option<Request>
 {
     let (name, asked) = matches.subcommand()?;
     if asks(words, name) {
-        request_of(name, asked)
+        said(words, request_of(name, asked)?)
     } else {
         None
     }

@@ -2,28 +2,27 @@
 ghost use Rattle.std.specs.Prelude.{◌≡◌, ◌⊎◌, Ok, IfErr, IfSome, OnOk};
 ghost use Rattle.std.specs.Io.KnownBytes.{Appends};
 ghost use Rattle.nvme_output.specs.Written.{AppendsPrefix};
-ghost use Rattle.nvme_sim.specs.Answers.{FailsToWrite};
-ghost use Rattle.nvme_sim.specs.Inputs.{IsFaultyTrace, IsToldLawful, IsUnlawfulTrace, lawful_ending, lawful_line};
+ghost use Rattle.nvme_sim.specs.Answers.{FailsToCheck};
+ghost use Rattle.nvme_sim.specs.Inputs.{IsFaultyTrace, IsRefusedTrace, IsToldBy, lawful_ending, lawful_line};
 ghost use Rattle.nvme_sim.specs.Statuses.{status_of};
 ghost use Rattle.nvme_sim.specs.declared.faults.Fault.TheVariants as fault;
 ghost use Rattle.nvme_sim.specs.declared.commands.Answer.TheVariants as answer;
-ghost use Rattle.nvme_words.specs.declared.requests.Request.TheVariants as request;
 
 use super::Answer;
 use crate::faults::Fault;
 use nvme_output::{Piece, WriteFault, put_pieces};
-use nvme_trace::{Checked, Unlawful, check};
+use nvme_trace::{Basis, Checked, Refusal, check_by};
 use std::alloc::Global;
 use std::io::{Read, Write};
 
-// What stands behind the number of the lawful picks.
+// What stands behind the number of picks.
 fn lawful_ending(picks: u64) -> &'static str
     ensures { result.now ≡ lawful_ending picks }
 {
     if picks == 1 { " pick\n" } else { " picks\n" }
 }
 
-// Writes that this many picks are lawful.
+// Writes that this many picks are allowed.
 fn put_lawful<W: Write>(picks: u64, output: &mut W) -> Result<Answer, Fault>
     ensures done { OnOk result ((result ≡ Ok answer.Done) × Appends (W.contents output.old) (W.contents output.new) (lawful_line picks)) }
     ensures failed { IfErr result (λ e. AppendsPrefix (W.contents output.old) (W.contents output.new) (lawful_line picks)) }
@@ -40,35 +39,36 @@ fn put_lawful<W: Write>(picks: u64, output: &mut W) -> Result<Answer, Fault>
     }
 }
 
-// Writes the first pick that isn't the lawful one.
-fn put_unlawful<W: Write>(unlawful: &Unlawful, output: &mut W) -> Result<Answer, Fault>
-    ensures unlawful { OnOk result (result ≡ Ok answer.Unlawful) }
+// Writes the first pick that isn't allowed.
+fn put_refusal<W: Write>(refusal: &Refusal, output: &mut W) -> Result<Answer, Fault>
+    ensures refused { OnOk result (result ≡ Ok answer.Refused) }
     ensures write { IfErr result (λ e. e ≡ fault.Write) }
 {
-    match writeln!(output, "{unlawful}") {
-        Ok(()) => Ok(Answer::Unlawful),
+    match writeln!(output, "{refusal}") {
+        Ok(()) => Ok(Answer::Refused),
         Err(_) => Err(Fault::Write),
     }
 }
 
-/// Checks a trace, and writes that each pick is the lawful one, or the first that isn't.
-#[tactic(auto, using(crate::proofs::Inputs::faulty_trace, crate::proofs::Inputs::told_lawful, crate::proofs::Inputs::unlawful_trace, crate::proofs::Inputs::told_in_part, crate::proofs::Inputs::told_unlawful))]
+/// Checks a trace, and writes that each pick is allowed, or the first that isn't.
+#[tactic(auto, using(crate::proofs::Inputs::faulty_trace, crate::proofs::Inputs::told_lawful, crate::proofs::Inputs::refused_trace, crate::proofs::Inputs::told_in_part, crate::proofs::Inputs::told_refused))]
 #[inline(never)]
 pub(super) fn checked<R: Read + Drop, W: Write>(
     alloc: Global,
+    basis: Basis,
     input: R,
     output: &mut W,
 ) -> Result<Answer, Fault>
     ensures no_warning { result ≡ Ok answer.Warned → ⊥ }
-    ensures lawful { result ≡ Ok answer.Done → IfSome (R.remaining input) (IsToldLawful (W.contents output.old) (W.contents output.new)) }
-    ensures unlawful { result ≡ Ok answer.Unlawful → IfSome (R.remaining input) IsUnlawfulTrace }
-    ensures input { IfErr result (λ e. status_of e ≡ 1 → IfSome (R.remaining input) IsFaultyTrace) }
+    ensures lawful { result ≡ Ok answer.Done → IfSome (R.remaining input) (IsToldBy basis (W.contents output.old) (W.contents output.new)) }
+    ensures refused { result ≡ Ok answer.Refused → IfSome (R.remaining input) (IsRefusedTrace basis) }
+    ensures input { IfErr result (λ e. status_of e ≡ 1 → IfSome (R.remaining input) (IsFaultyTrace basis)) }
     ensures untouched { IfErr result (λ e. (e ≡ fault.Write) ⊎ (output.new ≡ output.old)) }
-    ensures failed { IfErr result (λ e. (output.new ≡ output.old) ⊎ IfSome (R.remaining input) (FailsToWrite W.contents output.old output.new request.Check)) }
+    ensures failed { IfErr result (λ e. (output.new ≡ output.old) ⊎ IfSome (R.remaining input) (FailsToCheck W.contents output.old output.new basis)) }
 {
-    match check(alloc, input) {
+    match check_by(alloc, basis, input) {
         Ok(Checked::Lawful { picks }) => put_lawful(picks, output),
-        Ok(Checked::Unlawful(unlawful)) => put_unlawful(&unlawful, output),
+        Ok(Checked::Refused(refusal)) => put_refusal(&refusal, output),
         Err(error) => Err(Fault::Trace(error)),
     }
 }

@@ -59,7 +59,7 @@ pub(super) fn answered<R: Read + Drop, W: Write>(
     input: R,
     output: &mut W,
 ) -> Result<Answer, Fault>
-    ensures no_other { (result ≡ Ok answer.Warned) ⊎ (result ≡ Ok answer.Unlawful) → ⊥ }
+    ensures no_other { (result ≡ Ok answer.Warned) ⊎ (result ≡ Ok answer.Refused) → ⊥ }
     ensures input { IfErr result (λ e. status_of e ≡ 1 → IfSome (R.remaining input) IsBadEntry) }
     ensures done { OnOk result (IfSome (R.remaining input) (HasAnswer (Appended W.contents output.old output.new) blocks)) }
     ensures untouched { IfErr result (λ e. (e ≡ fault.Write) ⊎ (output.new ≡ output.old)) }

@@ -46,7 +46,7 @@ pub(super) fn ran_file<R: Read + Drop, W: Write, T: Threads + Wait + Sync>(
     input: R,
     output: &mut W,
 ) -> Result<Answer, Fault>
-    ensures no_other { (result ≡ Ok answer.Warned) ⊎ (result ≡ Ok answer.Unlawful) → ⊥ }
+    ensures no_other { (result ≡ Ok answer.Warned) ⊎ (result ≡ Ok answer.Refused) → ⊥ }
     ensures done { OnOk result (IfSome (R.remaining input) (OfFile (HasReport (Appended W.contents output.old output.new) mode))) }
     ensures input { IfErr result (λ e. status_of e ≡ 1 → IfSome (R.remaining input) IsBadFile) }
     ensures untouched { IfErr result (λ e. (e ≡ fault.Run run_fault.Write) ⊎ (output.new ≡ output.old)) }
@@ -66,7 +66,7 @@ pub(super) fn traced_file<R: Read + Drop, W: Write, T: Threads + Wait + Sync>(
     input: R,
     output: &mut W,
 ) -> Result<Answer, Fault>
-    ensures no_other { (result ≡ Ok answer.Warned) ⊎ (result ≡ Ok answer.Unlawful) → ⊥ }
+    ensures no_other { (result ≡ Ok answer.Warned) ⊎ (result ≡ Ok answer.Refused) → ⊥ }
     ensures done { OnOk result (IfSome (R.remaining input) (OfFile (HasTrace (Appended W.contents output.old output.new) mode))) }
     ensures input { IfErr result (λ e. status_of e ≡ 1 → IfSome (R.remaining input) IsBadFile) }
     ensures untouched { IfErr result (λ e. (e ≡ fault.Write) ⊎ (output.new ≡ output.old)) }
@@ -83,7 +83,7 @@ pub(super) fn linted_file<R: Read + Drop, W: Write>(
     input: R,
     output: &mut W,
 ) -> Result<Answer, Fault>
-    ensures no_pick { result ≡ Ok answer.Unlawful → ⊥ }
+    ensures no_pick { result ≡ Ok answer.Refused → ⊥ }
     ensures warned { result ≡ Ok answer.Warned → IfSome (R.remaining input) (OfFile HasWarnings) }
     ensures none { result ≡ Ok answer.Done → IfSome (R.remaining input) (OfFile HasNoWarning) }
     ensures input { IfErr result (λ e. status_of e ≡ 1 → IfSome (R.remaining input) IsBadFile) }
@@ -103,7 +103,7 @@ pub(super) fn expanded<R: Read + Drop, W: Write>(
     input: R,
     output: &mut W,
 ) -> Result<Answer, Fault>
-    ensures no_other { (result ≡ Ok answer.Warned) ⊎ (result ≡ Ok answer.Unlawful) → ⊥ }
+    ensures no_other { (result ≡ Ok answer.Warned) ⊎ (result ≡ Ok answer.Refused) → ⊥ }
     ensures done { OnOk result (IfSome (R.remaining input) (OfFile (HasWorkload (Appended W.contents output.old output.new)))) }
     ensures input { IfErr result (λ e. status_of e ≡ 1 → IfSome (R.remaining input) IsBadFile) }
     ensures untouched { IfErr result (λ e. (e ≡ fault.Write) ⊎ (output.new ≡ output.old)) }

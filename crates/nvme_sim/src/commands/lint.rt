@@ -43,7 +43,7 @@ pub(super) fn linted<R: Read + Drop, W: Write>(
     input: R,
     output: &mut W,
 ) -> Result<Answer, Fault>
-    ensures no_pick { result ≡ Ok answer.Unlawful → ⊥ }
+    ensures no_pick { result ≡ Ok answer.Refused → ⊥ }
     ensures warned { result ≡ Ok answer.Warned → IfSome (R.remaining input) HasWarnings }
     ensures none { result ≡ Ok answer.Done → IfSome (R.remaining input) HasNoWarning }
     ensures input { IfErr result (λ e. status_of e ≡ 1 → IfSome (R.remaining input) IsBadWorkload) }

@@ -26,7 +26,7 @@ pub(super) fn ran<R: Read + Drop, W: Write, T: Threads + Wait + Sync>(
     input: R,
     output: &mut W,
 ) -> Result<Answer, Fault>
-    ensures no_other { (result ≡ Ok answer.Warned) ⊎ (result ≡ Ok answer.Unlawful) → ⊥ }
+    ensures no_other { (result ≡ Ok answer.Warned) ⊎ (result ≡ Ok answer.Refused) → ⊥ }
     ensures done { OnOk result (IfSome (R.remaining input) (HasReport (Appended W.contents output.old output.new) mode)) }
     ensures input { IfErr result (λ e. status_of e ≡ 1 → IfSome (R.remaining input) IsBadWorkload) }
     ensures untouched { IfErr result (λ e. (e ≡ fault.Run run_fault.Write) ⊎ (output.new ≡ output.old)) }

@@ -21,7 +21,7 @@ pub(super) fn counted<R: Read + Drop, W: Write>(
     input: R,
     output: &mut W,
 ) -> Result<Answer, Fault>
-    ensures no_other { (result ≡ Ok answer.Warned) ⊎ (result ≡ Ok answer.Unlawful) → ⊥ }
+    ensures no_other { (result ≡ Ok answer.Warned) ⊎ (result ≡ Ok answer.Refused) → ⊥ }
     ensures input { IfErr result (λ e. status_of e ≡ 1 → IfSome (R.remaining input) IsFaultyShown) }
     ensures done { OnOk result (IfSome (R.remaining input) IsTrace) }
     ensures untouched { IfErr result (λ e. (e ≡ fault.Write) ⊎ (output.new ≡ output.old)) }

@@ -1,8 +1,9 @@
 -- A fault of each request is a fault of an input, by its word.
 use Rattle.std.proofs.Common.{◌≡◌, true, inl, inr}
 use Rattle.std.specs.Prelude.{codes}
-use Rattle.nvme_sim.specs.Inputs.{IsBadInput, IsFaultyShown, IsFaultyTrace}
+use Rattle.nvme_sim.specs.Inputs.{IsBadInput, IsFaultyShown, IsFaultyTrace, IsJudgedBy}
 use Rattle.nvme_sim.specs.Files.{IsBadFile}
+use Rattle.nvme_trace.specs.declared.basis.Basis.TheVariants.{Profile, Specification}
 use Rattle.nvme_sim.specs.Statuses.{IsBadEntry, IsBadWorkload}
 use Rattle.nvme_sim.specs.declared.commands.Answer.TheVariants as answer
 use Rattle.nvme_words.specs.Words.{asks, reads_workload, shows_trace}
@@ -43,7 +44,25 @@ pub returns-in-Check-clause-input : goal.returns-in-Check-clause-input
 returns-in-Check-clause-input g c =
     let words = c.args.words.now in
     let asked : asks (codes "check") words ≡ true = rw c.in-Check.is at c.requires in
-    of_kind c.checked.result (g.R.Read.remaining c.args.input) IsFaultyTrace (IsBadInput words) (λ bs h. bad_check words bs asked (faulty_is_bad bs h)) c.checked.ensures.input
+    of_kind c.checked.result (g.R.Read.remaining c.args.input) (IsFaultyTrace Profile) (IsBadInput words) (λ bs h. bad_check Profile words bs asked (faulty_is_bad Profile bs h)) c.checked.ensures.input
+
+pub returns-in-CheckSpec-clause-input : goal.returns-in-CheckSpec-clause-input
+returns-in-CheckSpec-clause-input g c =
+    let words = c.args.words.now in
+    let asked : IsJudgedBy words Specification = rw c.in-CheckSpec.is at c.requires in
+    of_kind c.checked-in-CheckSpec.result (g.R.Read.remaining c.args.input) (IsFaultyTrace Specification) (IsBadInput words) (λ bs h. bad_check Specification words bs asked (faulty_is_bad Specification bs h)) c.checked-in-CheckSpec.ensures.input
+
+-- ---- a pick that is not allowed
+
+pub returns-in-Check-clause-refused : goal.returns-in-Check-clause-refused
+returns-in-Check-clause-refused g c = λ is.
+    let asked : IsJudgedBy c.args.words.now Profile = rw c.in-Check.is at c.requires in (Profile, asked, c.checked.ensures.refused is)
+
+pub returns-in-CheckSpec-clause-refused : goal.returns-in-CheckSpec-clause-refused
+returns-in-CheckSpec-clause-refused g c = λ is.
+    let asked : IsJudgedBy c.args.words.now Specification = rw c.in-CheckSpec.is at c.requires in (Specification, asked, c.checked-in-CheckSpec.ensures.refused is)
+
+-- ---- other faults
 
 pub returns-in-Trace-clause-input : goal.returns-in-Trace-clause-input
 returns-in-Trace-clause-input g c =
@@ -83,6 +102,10 @@ pub returns-in-Lint-clause-lawful : goal.returns-in-Lint-clause-lawful
 returns-in-Lint-clause-lawful g c = λ is alone.
     let none : ⊥ = rw c.in-Lint.is at (only_check c.args.words.now c.args.request c.requires alone) in absurd none
 
+pub returns-in-CheckSpec-clause-lawful : goal.returns-in-CheckSpec-clause-lawful
+returns-in-CheckSpec-clause-lawful g c = λ is alone.
+    let none : ⊥ = rw c.in-CheckSpec.is at (only_check c.args.words.now c.args.request c.requires alone) in absurd none
+
 pub returns-in-Trace-clause-lawful : goal.returns-in-Trace-clause-lawful
 returns-in-Trace-clause-lawful g c = λ is alone.
     let none : ⊥ = rw c.in-Trace.is at (only_check c.args.words.now c.args.request c.requires alone) in absurd none
@@ -119,6 +142,9 @@ returns-in-Lint-clause-done g c = λ is. rw c.in-Lint.is (is_quiet c.args.output
 pub returns-in-Check-clause-done : goal.returns-in-Check-clause-done
 returns-in-Check-clause-done g c = λ is. rw c.in-Check.is (c.checked.ensures.lawful is)
 
+pub returns-in-CheckSpec-clause-done : goal.returns-in-CheckSpec-clause-done
+returns-in-CheckSpec-clause-done g c = λ is. rw c.in-CheckSpec.is (c.checked-in-CheckSpec.ensures.lawful is)
+
 pub returns-in-Trace-clause-done : goal.returns-in-Trace-clause-done
 returns-in-Trace-clause-done g c = λ is. rw c.in-Trace.is (on_done c.traced_file.result answer.Done _ c.traced_file.ensures.done is)
 
@@ -148,6 +174,9 @@ returns-in-Lint-clause-failed g c = rw c.in-Lint.is c.linted_file.ensures.failed
 
 pub returns-in-Check-clause-failed : goal.returns-in-Check-clause-failed
 returns-in-Check-clause-failed g c = rw c.in-Check.is c.checked.ensures.failed
+
+pub returns-in-CheckSpec-clause-failed : goal.returns-in-CheckSpec-clause-failed
+returns-in-CheckSpec-clause-failed g c = rw c.in-CheckSpec.is c.checked-in-CheckSpec.ensures.failed
 
 pub returns-in-Trace-clause-failed : goal.returns-in-Trace-clause-failed
 returns-in-Trace-clause-failed g c = rw c.in-Trace.is c.traced_file.ensures.failed

@@ -1,20 +1,20 @@
 use Rattle.std.proofs.Common.{◌≡◌, ◌+◌, ℕ, None, Ok, sym, subst, ◌∙◌, arith, rules}
 use Rattle.std.proofs.lemmas.Result.{err_from_is_err_and}
 use Rattle.nvme_arbiter.specs.History.{History}
-use Rattle.nvme_arbiter.specs.Standing.{StandsAt}
 use Rattle.nvme_trace.specs.Lines.{TakesLine, HasNoLine}
-use Rattle.nvme_trace.specs.Format.{event_of_line, event_view}
-use Rattle.nvme_trace.specs.Judged.{IsObserved, IsLawfulEvent, picks_of}
+use Rattle.nvme_trace.specs.Format.{event_by, event_view}
+use Rattle.nvme_trace.specs.Judged.{IsObserved, picks_of}
+use Rattle.nvme_trace.specs.Bases.{IsAllowedBy, StandsBy, picks_by}
 use Rattle.nvme_trace.specs.Checks.{JudgedUpTo}
 use Rattle.nvme_trace.proofs.JudgeLemmas.{at_none, if_none, few_picks}
-use Rattle.nvme_trace.proofs.CheckLemmas.{judged_head, judged_more, judged_all, judged_finding, judged_fault}
+use Rattle.nvme_trace.proofs.CheckLemmas.{judged_head, judged_more, judged_all, judged_reason, judged_fault}
 use Rattle.nvme_trace.proofs.checks.judged.Goals as goal
 
 pub loop-init : goal.loop-init
 loop-init g c =
     let new = c.args.trace.now.rest in
     record {
-      judged = λ text t. subst (λ (n : ℕ). JudgedUpTo text new n c.args.head c.new-judge.result) (sym c.requires.number) (judged_head text new c.args.head c.new-judge.result t c.new-judge.ensures.stands c.new-judge.ensures.picks);
+      judged = λ text t. subst (λ (n : ℕ). JudgedUpTo c.args.basis text new n c.args.head c.new-judge.result) (sym c.requires.number) (judged_head c.args.basis text new c.args.head c.new-judge.result t c.new-judge.ensures.stands c.new-judge.ensures.picks);
       number = c.requires.number;
       picks = omega (arith, c.new-judge.ensures.picks);
     }
@@ -22,42 +22,42 @@ loop-init g c =
 pub returns-in_err-event-clause-fault : goal.returns-in_err-event-clause-fault
 returns-in_err-event-clause-fault g c =
     let p = err_from_is_err_and c.from_residual.result c.from_residual.ensures.1 in
-    rw (p.1, p.2) (λ text t. judged_fault text _ c.loop.trace.number c.args.head c.loop.judge _ (c.loop.invariant.judged text t) c.in_err-event.ensures.err)
+    rw (p.1, p.2) (λ text t. judged_fault c.args.basis text _ c.loop.trace.number c.args.head c.loop.judge _ (c.loop.invariant.judged text t) c.in_err-event.ensures.err)
 
 pub returns-in_default-clause-answer : goal.returns-in_default-clause-answer
 returns-in_default-clause-answer g c = λ text t.
     let old = c.loop.trace.rest in
     let none : HasNoLine old = search rules in
-    judged_all text old c.loop.trace.number c.args.head c.loop.judge c.picks.result (c.loop.invariant.judged text t) none c.picks.ensures
+    judged_all c.args.basis text old c.loop.trace.number c.args.head c.loop.judge c.picks.result (c.loop.invariant.judged text t) none c.picks.ensures
 
 pub returns-in-Some-judge-clause-answer : goal.returns-in-Some-judge-clause-answer
 returns-in-Some-judge-clause-answer g c = λ text t.
     let old = c.loop.trace.rest in
-    let new = c.event.new.self.rest in
+    let new = c.event_by.new.self.rest in
     let event = event_view c.in-Some.event in
-    let took : TakesLine (λ line. event_of_line line ≡ Ok event) old new = search rules in
-    let next : c.event.new.self.number ≡ c.loop.trace.number + 1 = search rules in
+    let took : TakesLine (λ line. event_by c.args.basis line ≡ Ok event) old new = search rules in
+    let next : c.event_by.new.self.number ≡ c.loop.trace.number + 1 = search rules in
     let told : c.number.result ≡ c.loop.trace.number + 1 = c.number.ensures ∙ next in
-    judged_finding text old new c.loop.trace.number c.number.result c.args.head c.loop.judge event c.in-Some-judge.finding (c.loop.invariant.judged text t) took
-    (λ past s. c.in-Some-judge.ensures.lawful c.args.head.mechanism c.args.head.settings past s) told
+    judged_reason c.args.basis text old new c.loop.trace.number c.number.result c.args.head c.loop.judge event c.in-Some-judge.reason (c.loop.invariant.judged text t) took
+    (λ past s. c.in-Some-judge.ensures.allowed c.args.basis c.args.head past s) told
 
 pub loop-preserved : goal.loop-preserved
 loop-preserved g c =
     let old = c.loop.trace.rest in
-    let new = c.event.new.self.rest in
+    let new = c.event_by.new.self.rest in
     let event = event_view c.in-Some.event in
     let head = c.args.head in
-    let took : TakesLine (λ line. event_of_line line ≡ Ok event) old new = search rules in
-    let next : c.event.new.self.number ≡ c.loop.trace.number + 1 = search rules in
+    let took : TakesLine (λ line. event_by c.args.basis line ≡ Ok event) old new = search rules in
+    let next : c.event_by.new.self.number ≡ c.loop.trace.number + 1 = search rules in
     let seen : IsObserved event = search rules in
     let none : c.judge.result ≡ None = search rules in
-    let lawful : (past : History) → StandsAt head.mechanism head.settings past c.loop.judge.kept → IsLawfulEvent head.mechanism head.settings past event =
-    λ past s. at_none _ _ c.judge.result (c.judge.ensures.lawful head.mechanism head.settings past s) none in
-    let stands = λ (past : History) (s : StandsAt head.mechanism head.settings past c.loop.judge.kept). if_none _ c.judge.result (c.judge.ensures.stands head.mechanism head.settings past s) none in
-    let picks : c.judge.new.self.picks ≡ c.loop.judge.picks + picks_of event = if_none _ c.judge.result c.judge.ensures.picks none in
+    let allowed : (past : History) → StandsBy c.args.basis head past c.loop.judge → IsAllowedBy c.args.basis head past event =
+    λ past s. at_none _ _ c.judge.result (c.judge.ensures.allowed c.args.basis head past s) none in
+    let stands = λ (past : History) (s : StandsBy c.args.basis head past c.loop.judge). if_none _ c.judge.result (c.judge.ensures.stands c.args.basis head past s) none in
+    let picks : picks_by c.judge.new.self ≡ picks_by c.loop.judge + picks_of event = if_none _ c.judge.result c.judge.ensures.picks none in
     let few = few_picks event in
     record {
-      judged = λ text t. subst (λ (n : ℕ). JudgedUpTo text new n head c.judge.new.self) (sym next) (judged_more text old new c.loop.trace.number head c.loop.judge c.judge.new.self event (c.loop.invariant.judged text t) took seen lawful stands picks);
+      judged = λ text t. subst (λ (n : ℕ). JudgedUpTo c.args.basis text new n head c.judge.new.self) (sym next) (judged_more c.args.basis text old new c.loop.trace.number head c.loop.judge c.judge.new.self event (c.loop.invariant.judged text t) took seen allowed stands picks);
       number = omega (arith, next, c.loop.invariant.number);
       picks = omega (arith, picks, few, c.loop.invariant.picks);
     }

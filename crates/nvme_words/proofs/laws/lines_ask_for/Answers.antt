@@ -1,11 +1,13 @@
 -- Each line is computed.
-use Rattle.std.proofs.Common.{◌≡◌, true, false, List, Some, codes, refl, inl, inr, arith}
+use Rattle.std.proofs.Common.{◌≡◌, true, false, List, [], ◌∷◌, String, map, string_bytes, Some, codes, refl, inl, inr, arith}
 use Rattle.std.specs.Str.Parse.{digits_value, without_leading_plus}
 use Rattle.clap.specs.ValueTests.{accepts}
 use Rattle.clap.specs.Words.{Text, first_of, one_of}
 use Rattle.clap.specs.declared.builder.value_parser.ValueParser.TheVariants as vp
 use Rattle.clap.proofs.OnLiterals.{clap_on_literals}
-use Rattle.nvme_words.specs.Examples.{all_numbers, all_picks, alone, chart_file, expand_file, lint_input, live_8, loaded_2, once_8, once_most, run_file, run_live_3, stats_json, stats_part, trace_2, trace_live}
+use Rattle.nvme_words.specs.Examples.{all_numbers, all_picks, alone, chart_file, check_file, check_spec, expand_file, lint_input, live_8, loaded_2, once_8, once_most, run_file, run_live_3, stats_json, stats_part, trace_2, trace_live}
+use Rattle.std.specs.Global.{Global}
+use Rattle.nvme_words.specs.Words.{asks_alone}
 use Rattle.nvme_words.specs.Requests.{IsRange, SubmitsBy}
 use Rattle.nvme_words.specs.declared.requests.Format.TheVariants as format
 use Rattle.nvme_words.specs.declared.requests.Request.TheVariants as request
@@ -21,47 +23,63 @@ is_live line is = (some_text _ (codes "true") is, other_text _ (codes "true") (c
 
 pub returns-clause-once : goal.returns-clause-once
 unfolding clap_on_literals
-returns-clause-once c = line_asks (codes "once") _ (given_at once_8) (request.Once 8) refl (refl, number_of 64 18446744073709551615 (codes "blocks") (codes "8") (given_at once_8).1 refl refl (omega arith)) (λ p q r. (refl, refl))
+returns-clause-once c = line_asks (codes "once") _ (given_at once_8) (request.Once 8) refl (refl, number_of 64 18446744073709551615 (codes "blocks") (codes "8") (given_at once_8).1 refl refl (omega arith)) (λ words e. tt) (λ p q r. (refl, refl))
 
 pub returns-clause-most_blocks : goal.returns-clause-most_blocks
 unfolding clap_on_literals
-returns-clause-most_blocks c = line_asks (codes "once") _ (given_at once_most) (request.Once 9223372036854775807) refl (refl, number_of 64 18446744073709551615 (codes "blocks") (codes "9223372036854775807") (given_at once_most).1 refl refl (omega arith)) (λ p q r. (refl, refl))
+returns-clause-most_blocks c = line_asks (codes "once") _ (given_at once_most) (request.Once 9223372036854775807) refl (refl, number_of 64 18446744073709551615 (codes "blocks") (codes "9223372036854775807") (given_at once_most).1 refl refl (omega arith)) (λ words e. tt) (λ p q r. (refl, refl))
 
 pub returns-clause-loaded : goal.returns-clause-loaded
 unfolding clap_on_literals
-returns-clause-loaded c = line_asks (codes "loaded") _ (given_at loaded_2) (request.Run Loaded 2) refl (inl (refl, refl), number_of 8 255 (codes "workers") (codes "2") (given_at loaded_2).1 refl refl (omega arith)) (λ p q r. (refl, refl))
+returns-clause-loaded c = line_asks (codes "loaded") _ (given_at loaded_2) (request.Run Loaded 2) refl (inl (refl, refl), number_of 8 255 (codes "workers") (codes "2") (given_at loaded_2).1 refl refl (omega arith)) (λ words e. tt) (λ p q r. (refl, refl))
 
 pub returns-clause-live : goal.returns-clause-live
 unfolding clap_on_literals
-returns-clause-live c = line_asks (codes "live") _ (given_at live_8) (request.Run Live 8) refl (inr (refl, refl), number_of 8 255 (codes "workers") (codes "8") (given_at live_8).1 refl refl (omega arith)) (λ p q r. (refl, refl))
+returns-clause-live c = line_asks (codes "live") _ (given_at live_8) (request.Run Live 8) refl (inr (refl, refl), number_of 8 255 (codes "workers") (codes "8") (given_at live_8).1 refl refl (omega arith)) (λ words e. tt) (λ p q r. (refl, refl))
 
 pub returns-clause-run : goal.returns-clause-run
 unfolding clap_on_literals
-returns-clause-run c = line_asks (codes "run") _ (given_at run_file) (request.RunFile Loaded 1) refl (refl, is_loaded run_file refl, number_of 8 255 (codes "workers") (codes "1") (given_at run_file).1 refl refl (omega arith)) (λ p q r. (refl, refl))
+returns-clause-run c = line_asks (codes "run") _ (given_at run_file) (request.RunFile Loaded 1) refl (refl, is_loaded run_file refl, number_of 8 255 (codes "workers") (codes "1") (given_at run_file).1 refl refl (omega arith)) (λ words e. tt) (λ p q r. (refl, refl))
 
 pub returns-clause-run_live : goal.returns-clause-run_live
 unfolding clap_on_literals
-returns-clause-run_live c = line_asks (codes "run") _ (given_at run_live_3) (request.RunFile Live 3) refl (refl, is_live run_live_3 refl, number_of 8 255 (codes "workers") (codes "3") (given_at run_live_3).1 refl refl (omega arith)) (λ p q r. (refl, refl))
+returns-clause-run_live c = line_asks (codes "run") _ (given_at run_live_3) (request.RunFile Live 3) refl (refl, is_live run_live_3 refl, number_of 8 255 (codes "workers") (codes "3") (given_at run_live_3).1 refl refl (omega arith)) (λ words e. tt) (λ p q r. (refl, refl))
 
 pub returns-clause-lint : goal.returns-clause-lint
 unfolding clap_on_literals
-returns-clause-lint c = line_asks (codes "lint") _ (given_at lint_input) (request.Lint) refl refl (λ p q r. (refl, refl))
+returns-clause-lint c = line_asks (codes "lint") _ (given_at lint_input) (request.Lint) refl refl (λ words e. tt) (λ p q r. (refl, refl))
 
 pub returns-clause-expand : goal.returns-clause-expand
 unfolding clap_on_literals
-returns-clause-expand c = line_asks (codes "expand") _ (given_at expand_file) (request.Expand) refl refl (λ p q r. (refl, refl))
+returns-clause-expand c = line_asks (codes "expand") _ (given_at expand_file) (request.Expand) refl refl (λ words e. tt) (λ p q r. (refl, refl))
 
 pub returns-clause-check : goal.returns-clause-check
 unfolding clap_on_literals
-returns-clause-check c = line_asks (codes "check") _ (given_at (alone (codes "check"))) (request.Check) refl refl (λ p q r. (refl, refl))
+returns-clause-check c = line_asks (codes "check") _ (given_at (alone (codes "check"))) (request.Check) refl (refl, other_text (first_of (codes "spec") (given_at (alone (codes "check"))).1) (codes "false") (codes "true") refl refl) (λ words e. tt) (λ p q r. (refl, refl))
+
+pub returns-clause-check_file : goal.returns-clause-check_file
+unfolding clap_on_literals
+returns-clause-check_file c = line_asks (codes "check") _ (given_at check_file) (request.Check) refl (refl, other_text (first_of (codes "spec") (given_at check_file).1) (codes "false") (codes "true") refl refl) (λ words e. tt) (λ p q r. (refl, refl))
+
+-- a check with an option isn't one alone
+not_alone : (words : List (String Global)) → map string_bytes words ≡ codes "nvmearb" ∷ check_spec → asks_alone (codes "check") words ≡ false
+not_alone [] e = cc
+not_alone (w ∷ []) e = cc
+not_alone (w ∷ x ∷ []) e = cc
+not_alone (w ∷ x ∷ y ∷ []) e = cc
+not_alone (w ∷ x ∷ y ∷ z ∷ zs) e = refl
+
+pub returns-clause-check_spec : goal.returns-clause-check_spec
+unfolding clap_on_literals
+returns-clause-check_spec c = line_asks (codes "check") _ (given_at check_spec) (request.CheckSpec) refl (refl, refl) not_alone (λ p q r. (refl, refl))
 
 pub returns-clause-trace : goal.returns-clause-trace
 unfolding clap_on_literals
-returns-clause-trace c = line_asks (codes "trace") _ (given_at trace_2) (request.Trace Loaded 2) refl (refl, is_loaded trace_2 refl, number_of 8 255 (codes "workers") (codes "2") (given_at trace_2).1 refl refl (omega arith)) (λ p q r. (refl, refl))
+returns-clause-trace c = line_asks (codes "trace") _ (given_at trace_2) (request.Trace Loaded 2) refl (refl, is_loaded trace_2 refl, number_of 8 255 (codes "workers") (codes "2") (given_at trace_2).1 refl refl (omega arith)) (λ words e. tt) (λ p q r. (refl, refl))
 
 pub returns-clause-trace_live : goal.returns-clause-trace_live
 unfolding clap_on_literals
-returns-clause-trace_live c = line_asks (codes "trace") _ (given_at trace_live) (request.Trace Live 1) refl (refl, is_live trace_live refl, number_of 8 255 (codes "workers") (codes "1") (given_at trace_live).1 refl refl (omega arith)) (λ p q r. (refl, refl))
+returns-clause-trace_live c = line_asks (codes "trace") _ (given_at trace_live) (request.Trace Live 1) refl (refl, is_live trace_live refl, number_of 8 255 (codes "workers") (codes "1") (given_at trace_live).1 refl refl (omega arith)) (λ words e. tt) (λ p q r. (refl, refl))
 
 -- the range that a line gives
 range_given : (line : List Text) (f t : Text) → one_of (codes "from") (given_at line).1 ≡ Some f → one_of (codes "to") (given_at line).1 ≡ Some t
@@ -75,7 +93,7 @@ range_given line f t first last one two = (
 pub returns-clause-chart : goal.returns-clause-chart
 unfolding clap_on_literals
 returns-clause-chart c = line_asks (codes "chart") _ (given_at chart_file) (request.Chart all_picks) refl
-    (refl, range_given chart_file (codes "1") (codes "9223372036854775807") refl refl refl refl) (λ p q r. (refl, refl))
+    (refl, range_given chart_file (codes "1") (codes "9223372036854775807") refl refl refl refl) (λ words e. tt) (λ p q r. (refl, refl))
 
 pub returns-clause-stats : goal.returns-clause-stats
 unfolding clap_on_literals
@@ -90,7 +108,7 @@ returns-clause-stats c = line_asks (codes "stats") _ (given_at (alone (codes "st
       other_text (first_of (codes "format") (given_at (alone (codes "stats"))).1) (codes "text") (codes "csv") refl refl,
     ),
   ),
-) (λ p q r. (refl, refl))
+) (λ words e. tt) (λ p q r. (refl, refl))
 
 pub returns-clause-stats_json : goal.returns-clause-stats_json
 unfolding clap_on_literals
@@ -102,7 +120,7 @@ returns-clause-stats_json c = line_asks (codes "stats") _ (given_at stats_json) 
     other_text (first_of (codes "backlogged") (given_at stats_json).1) (codes "false") (codes "true") refl refl,
     refl,
   ),
-) (λ p q r. (refl, refl))
+) (λ words e. tt) (λ p q r. (refl, refl))
 
 pub returns-clause-stats_part : goal.returns-clause-stats_part
 unfolding clap_on_literals
@@ -115,4 +133,4 @@ returns-clause-stats_part c = line_asks (codes "stats") _ (given_at stats_part)
         refl,
         refl,
       ),
-    ) (λ p q r. (refl, refl))
+    ) (λ words e. tt) (λ p q r. (refl, refl))

@@ -1,4 +1,4 @@
-use Rattle.std.proofs.Common.{rules, ◌≡◌, IfSome}
+use Rattle.std.proofs.Common.{◌≡◌, IfSome}
 use Rattle.nvme_short.specs.Expansion.{StandsFor}
 use Rattle.nvme_sim.specs.Answers.{Appended, AppendedPart, HasTrace}
 use Rattle.nvme_sim.proofs.Inputs.{ok_of_file, err_of_file, failed_of_file}
@@ -7,17 +7,17 @@ use Rattle.nvme_sim.proofs.commands.file.traced_file.Goals as goal
 pub returns-clause-done : goal.returns-clause-done
 returns-clause-done g c =
     let text = c.as_slice.result.now in
-    let stands : IfSome (g.R.Read.remaining c.args.input) (λ bytes. StandsFor bytes text) = search rules in
+    let stands : IfSome (g.R.Read.remaining c.args.input) (λ bytes. StandsFor bytes text) = rw c.as_slice.ensures.value c.in_ok-text.ensures.stands in
     ok_of_file c.traced.result (g.R.Read.remaining c.args.input) text (HasTrace (Appended g.W.Write.contents c.args.output.now c.traced.new.output) c.args.mode) stands c.traced.ensures.done
 
 pub returns-clause-input : goal.returns-clause-input
 returns-clause-input g c =
     let text = c.as_slice.result.now in
-    let stands : IfSome (g.R.Read.remaining c.args.input) (λ bytes. StandsFor bytes text) = search rules in
+    let stands : IfSome (g.R.Read.remaining c.args.input) (λ bytes. StandsFor bytes text) = rw c.as_slice.ensures.value c.in_ok-text.ensures.stands in
     err_of_file c.traced.result (g.R.Read.remaining c.args.input) text stands c.traced.ensures.input
 
 pub returns-clause-failed : goal.returns-clause-failed
 returns-clause-failed g c =
     let text = c.as_slice.result.now in
-    let stands : IfSome (g.R.Read.remaining c.args.input) (λ bytes. StandsFor bytes text) = search rules in
+    let stands : IfSome (g.R.Read.remaining c.args.input) (λ bytes. StandsFor bytes text) = rw c.as_slice.ensures.value c.in_ok-text.ensures.stands in
     failed_of_file c.traced.result (c.traced.new.output ≡ c.args.output.now) (g.R.Read.remaining c.args.input) text (HasTrace (AppendedPart g.W.Write.contents c.args.output.now c.traced.new.output) c.args.mode) stands c.traced.ensures.failed

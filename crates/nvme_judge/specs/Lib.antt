@@ -1,0 +1,3 @@
+pub mod Turns
+pub mod Standing
+pub mod inside

@@ -1,0 +1,55 @@
+-- What a judge of the rules keeps, and what it says of a pick. (Base Specification, Command Arbitration; what is kept: profile)
+use Rattle.std.specs.Prelude.{◌≡◌, ℕ, ◌<◌, List, [], ◌∷◌, Option, Some, None, All}
+use Rattle.nvme_arbiter.specs.Limits.{queue_limit}
+use Rattle.nvme_arbiter.specs.Settings.{ArbitrationFields}
+use Rattle.nvme_arbiter.specs.History.{History, settings_after}
+use Rattle.nvme_arbiter.specs.Specified.{round_used, Keeps}
+use Rattle.nvme_arbiter.specs.declared.settings.Class.{Class}
+use Rattle.nvme_arbiter.specs.declared.settings.Mechanism.{Mechanism}
+use Rattle.nvme_arbiter.specs.declared.settings.Mechanism.TheVariants.{RoundRobin, Weighted}
+use Rattle.nvme_arbiter.specs.declared.kept.Used.{Used}
+use Rattle.nvme_arbiter.specs.declared.pick.Seen.{Seen}
+use Rattle.nvme_arbiter.specs.declared.pick.Pick.{Pick}
+use Rattle.nvme_arbiter.specs.declared.specified.Rule.{Rule}
+use Rattle.nvme_arbiter.specs.declared.specified.Rule.TheVariants as rule
+use Rattle.nvme_judge.specs.declared.turns.Turns.{Turns}
+use Rattle.nvme_judge.specs.Turns.{picks_in, turn_after, turn_in, turns_of}
+
+-- what a judge keeps
+pub record JudgeView : Type 0 where
+  pub mechanism : Mechanism
+  pub settings : ArbitrationFields
+  -- the commands of each level that were picked in the round
+  pub used : Used
+  pub turns : Turns
+  pub picks : ℕ
+
+-- what is kept of the queues tells the history
+abbrev pub TellsTurns : Option Class → History → Turns → Type 0
+TellsTurns class past turns = (qid : ℕ) → qid < queue_limit → turn_in (turns_of turns class) qid ≡ turn_after class qid past
+
+-- round robin keeps the turns among all queues
+-- the weighted mechanism keeps those within each class, and what is used in the round
+abbrev pub TellsPast : Mechanism → ArbitrationFields → History → JudgeView → Type 0
+TellsPast RoundRobin first past judge = TellsTurns None past judge.turns
+TellsPast Weighted first past judge = (judge.used ≡ round_used first past) × ((class : Class) → TellsTurns (Some class) past judge.turns)
+
+-- a judge stands at a history, under a mechanism and first settings
+pub record JudgeStandsAt (mechanism : Mechanism) (first : ArbitrationFields) (past : History) (judge : JudgeView) : Type 0 where
+  pub mechanism_is : judge.mechanism ≡ mechanism
+  pub settings_are : judge.settings ≡ settings_after first past
+  pub picks_are : judge.picks ≡ picks_in past
+  pub tells : TellsPast mechanism first past judge
+
+-- the rules in the order in which they are told, each after those before it
+abbrev pub rules_before : Rule → List Rule
+rules_before rule.Candidates = []
+rules_before rule.Burst = rule.Candidates ∷ []
+rules_before rule.Priority = rule.Burst ∷ rule.Candidates ∷ []
+rules_before rule.Credit = rule.Priority ∷ rule.Burst ∷ rule.Candidates ∷ []
+rules_before rule.Turn = rule.Credit ∷ rule.Priority ∷ rule.Burst ∷ rule.Candidates ∷ []
+
+-- a pick breaks a rule after a history, and keeps those before it
+pub record IsFirstBroken (mechanism : Mechanism) (first : ArbitrationFields) (past : History) (seen : List Seen) (pick : Pick) (broken : Rule) : Type 0 where
+  pub breaks : Keeps broken mechanism first past seen pick → ⊥
+  pub keeps_before : All (λ other. Keeps other mechanism first past seen pick) (rules_before broken)

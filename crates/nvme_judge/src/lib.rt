@@ -1,0 +1,10 @@
+//! The judge of what the specification asks of each pick of an arbiter, whatever that chooses where the specification
+//! leaves a choice.
+#![tactic(auto)]
+
+mod judge;
+mod ready;
+mod round;
+mod turns;
+
+pub use judge::RuleJudge;

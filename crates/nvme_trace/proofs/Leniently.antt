@@ -1,0 +1,71 @@
+-- A trace that the profile reads and allows is read and allowed where the specification alone judges.
+use Rattle.std.proofs.Common.{◌≡◌, Bool, true, false, List, ◌∷◌, [], ℕ, Option, Some, None, refl}
+use Rattle.std.specs.Prelude.{is_some, ok_or, if◌then◌else◌, Result, Ok, Err}
+use Rattle.serde_json.specs.Data.{Data}
+use Rattle.serde_json.specs.Find.{get, as_bool}
+use Rattle.nvme_arbiter.specs.History.{ArbitrationEvent, History}
+use Rattle.nvme_arbiter.proofs.SpecifiedLaws.{lawful_specified}
+use Rattle.nvme_trace.specs.Fields.{text_of}
+use Rattle.nvme_trace.specs.Readings.{◌>>=◌, ◌>>◌, number_at, flag_at}
+use Rattle.nvme_trace.specs.Format.{data_of, object_in, set_in, fresh_in, pick_in, event_in, event_by}
+use Rattle.nvme_trace.specs.Checks.{TellsBy, LawfulTextsAreAllowed}
+use Rattle.nvme_trace.specs.declared.basis.Basis.TheVariants.{Profile, Specification}
+use Rattle.nvme_trace.specs.declared.fault.LineFault.{LineFault}
+use Rattle.nvme_trace.specs.declared.fault.LineFault.TheVariants.{Missing, Bad}
+use Rattle.nvme_trace.specs.declared.fault.Field.TheVariants as field
+use Rattle.nvme_trace.specs.declared.records.Head.{Head}
+
+-- ---- one step after another
+then_same : {A B : Type 0} (r : Result A LineFault) (f g : A → Result B LineFault) (e : B) → ((x : A) → f x ≡ Ok e → g x ≡ Ok e) → (r >>= f) ≡ Ok e → (r >>= g) ≡ Ok e
+then_same (Ok x) f g e h is = h x is
+then_same (Err fault) f g e h is = absurd (cc)
+
+first_same : {A B : Type 0} (r s : Result A LineFault) (f : A → Result B LineFault) (e : B) → ((x : A) → r ≡ Ok x → s ≡ Ok x) → (r >>= f) ≡ Ok e → (s >>= f) ≡ Ok e
+first_same (Ok x) s f e h is = rw (h x refl) is
+first_same (Err fault) s f e h is = absurd (cc)
+
+then_after : {A B : Type 0} (r : Result A LineFault) (s t : Result B LineFault) (e : B) → (s ≡ Ok e → t ≡ Ok e) → (r >> s) ≡ Ok e → (r >> t) ≡ Ok e
+then_after (Ok x) s t e h is = h is
+then_after (Err fault) s t e h is = absurd (cc)
+
+-- ---- a line
+missing : (o : Option Data) (b : Bool) → o ≡ None → (ok_or o (Missing field.Fresh) >>= (λ v. ok_or (as_bool v) (Bad field.Fresh))) ≡ Ok b → ⊥
+missing None b o is = cc
+missing (Some v) b o is = cc
+
+fresh_by : (o : Option Data) (d : Data) (b : Bool) → get (text_of field.Fresh) d ≡ o → flag_at field.Fresh d ≡ Ok b → (if is_some o then flag_at field.Fresh d else Ok false) ≡ Ok b
+unfolding flag_at
+fresh_by None d b o is = absurd (missing (get (text_of field.Fresh) d) b o is)
+fresh_by (Some v) d b o is = is
+
+fresh_same : (d : Data) (b : Bool) → fresh_in Profile d ≡ Ok b → fresh_in Specification d ≡ Ok b
+unfolding fresh_in
+fresh_same d b is = fresh_by (get (text_of field.Fresh) d) d b refl is
+
+pick_same : (d : Data) (e : ArbitrationEvent) → pick_in Profile d ≡ Ok e → pick_in Specification d ≡ Ok e
+unfolding pick_in
+pick_same d e is =
+    then_same (number_at field.Pick 65535 d) _ _ e (λ qid. then_same (number_at field.N 65535 d) _ _ e (λ n. first_same (fresh_in Profile d) (fresh_in Specification d) _ e (fresh_same d))) is
+
+event_same : (set : Bool) (d : Data) (e : ArbitrationEvent) → (if set then set_in d else pick_in Profile d) ≡ Ok e → (if set then set_in d else pick_in Specification d) ≡ Ok e
+event_same true d e is = is
+event_same false d e is = pick_same d e is
+
+line_same : (line : List ℕ) (e : ArbitrationEvent) → event_by Profile line ≡ Ok e → event_by Specification line ≡ Ok e
+unfolding event_by event_in
+line_same line e is =
+    then_same (data_of line) _ _ e (λ d. then_after (object_in d) _ _ e (event_same (is_some (get (text_of field.Set) d)) d e)) is
+
+-- ---- a text
+lines_same : (head : Head) (past : History) (lines : List (List ℕ)) → TellsBy Profile head past lines → TellsBy Specification head past lines
+lines_same head [] lines t = t
+lines_same head (e ∷ past) lines (line, earlier, is, says, more) = (line, earlier, is, line_same line e says, lines_same head past earlier more)
+
+pub allowed : LawfulTextsAreAllowed
+allowed text picks l = record {
+  head = l.head;
+  past = l.past;
+  tells = lines_same l.head l.past _ l.tells;
+  lawful = lawful_specified l.head.mechanism l.head.settings l.past l.lawful;
+  picks_are = l.picks_are;
+}

@@ -1,0 +1,57 @@
+-- What the profile and the specification each ask of a trace. (Base Specification, Command Arbitration; what is told: profile)
+use Rattle.std.specs.Prelude.{◌≡◌, ℕ, List}
+use Rattle.nvme_arbiter.specs.History.{ArbitrationEvent, Picked, Changed, History}
+use Rattle.nvme_arbiter.specs.Lawful.{IsLawfulRun}
+use Rattle.nvme_arbiter.specs.Standing.{StandsAt}
+use Rattle.nvme_arbiter.specs.Specified.{IsSpecifiedPick, IsSpecifiedRun}
+use Rattle.nvme_arbiter.specs.declared.pick.Seen.{Seen}
+use Rattle.nvme_judge.specs.Standing.{JudgeStandsAt, IsFirstBroken}
+use Rattle.nvme_trace.specs.Judged.{IsLawfulEvent, IsFinding}
+use Rattle.nvme_trace.specs.declared.basis.Basis.{Basis}
+use Rattle.nvme_trace.specs.declared.basis.Basis.TheVariants.{Profile, Specification}
+use Rattle.nvme_trace.specs.declared.records.Head.{Head}
+use Rattle.nvme_trace.specs.declared.judges.Breach.{Breach}
+use Rattle.nvme_trace.specs.declared.judges.Reason.{Reason}
+use Rattle.nvme_trace.specs.declared.judges.Reason.TheVariants.{Differs, Breaks}
+use Rattle.nvme_trace.specs.declared.judges.BasisJudge.{BasisJudge}
+use Rattle.nvme_trace.specs.declared.judges.BasisJudge.TheVariants as judge
+
+-- each pick of a history is one that this front makes, or one that the specification allows
+abbrev pub IsRunBy : Basis → Head → History → Type 0
+IsRunBy Profile head past = IsLawfulRun head.mechanism head.settings past
+IsRunBy Specification head past = IsSpecifiedRun head.mechanism head.settings past
+
+abbrev pub IsSpecifiedEvent : Head → History → ArbitrationEvent → Type 0
+IsSpecifiedEvent head past (Picked seen pick) = IsSpecifiedPick head.mechanism head.settings past seen pick
+IsSpecifiedEvent head past (Changed settings) = Unit {0}
+
+-- an event is allowed after a history
+abbrev pub IsAllowedBy : Basis → Head → History → ArbitrationEvent → Type 0
+IsAllowedBy Profile head past event = IsLawfulEvent head.mechanism head.settings past event
+IsAllowedBy Specification head past event = IsSpecifiedEvent head past event
+
+-- what is told of a pick that the specification doesn't allow
+pub record IsBreach (head : Head) (past : History) (event : ArbitrationEvent) (breach : Breach) : Type 0 where
+  pub seen : List Seen
+  -- the pick that was made
+  pub event_is : event ≡ Picked seen breach.picked
+  -- the first rule that it breaks
+  pub broken : IsFirstBroken head.mechanism head.settings past seen breach.picked breach.rule
+
+-- what is told of a pick that isn't allowed
+abbrev pub IsReasonBy : Basis → Head → History → ArbitrationEvent → Reason → Type 0
+IsReasonBy Profile head past event (Differs finding) = IsFinding head.mechanism head.settings past event finding
+IsReasonBy Specification head past event (Breaks breach) = IsBreach head past event breach
+IsReasonBy Profile head past event (Breaks breach) = ⊥
+IsReasonBy Specification head past event (Differs finding) = ⊥
+
+-- a judge stands at a history
+abbrev pub StandsBy : Basis → Head → History → BasisJudge → Type 0
+StandsBy Profile head past (judge.Profile j) = StandsAt head.mechanism head.settings past j.kept
+StandsBy Specification head past (judge.Specification j) = JudgeStandsAt head.mechanism head.settings past j
+StandsBy Profile head past (judge.Specification j) = ⊥
+StandsBy Specification head past (judge.Profile j) = ⊥
+
+abbrev pub picks_by : BasisJudge → ℕ
+picks_by (judge.Profile j) = j.picks
+picks_by (judge.Specification j) = j.picks
