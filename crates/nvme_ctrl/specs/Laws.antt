@@ -1,5 +1,5 @@
 -- Laws of the log of a controller, in the words of those who embed one. (profile)
-use Rattle.std.specs.Prelude.{◌≡◌, ◌≢◌, ◌⊎◌, ℕ, ◌+◌, ◌<◌, ◌≤◌, ◌%◌, true, List, ◌∷◌, ◌++◌, length, Some}
+use Rattle.std.specs.Prelude.{◌≡◌, ◌≢◌, ◌⊎◌, ℕ, ◌+◌, ◌<◌, ◌≤◌, ◌%◌, true, false, List, ◌∷◌, ◌++◌, length, Some}
 use Rattle.std.specs.List.{list_all}
 use mathlib.Core.List.{IsPrefix}
 use Rattle.nvme_entry.specs.declared.submission.Sqe.{Sqe}
@@ -20,6 +20,9 @@ use Rattle.nvme_ctrl.specs.Notes.{Notes, Logged, logged}
 use Rattle.nvme_ctrl.specs.Doorbells.{sq_slots, cq_slots, submitted, consumed}
 use Rattle.nvme_ctrl.specs.Tags.{holder, answer_of, answers}
 use Rattle.nvme_ctrl.specs.Account.{IsAccount}
+use Rattle.nvme_ctrl.specs.Standing.{Stands}
+use Rattle.nvme_ctrl.specs.declared.slot.Slot.{Slot}
+use Rattle.nvme_ctrl.specs.declared.state.Controller.{Controller}
 
 -- the events of a controller's log are those of an accounted log, where the device answers: so every law of such logs holds of it
 abbrev pub EventsAreAccounted : Type 0
@@ -92,3 +95,7 @@ PicksAreLawful = (rules : FrontRules) (later before : Notes) (seen : List Seen) 
 -- a tag stands for one command at a time, and a command has one tag
 abbrev pub TagsAreApart : Type 0
 TagsAreApart = (rules : FrontRules) (notes : Notes) → IsAccount rules notes → (t u : ℕ) (place : Place) → holder notes t ≡ Some place → holder notes u ≡ Some place → t ≡ u
+
+-- the log at which a controller stands is an account, where no region was added after its first note
+abbrev pub ControllersKeepAccounts : Type 0
+ControllersKeepAccounts = (rules : FrontRules) (notes : Notes) (c : Controller) (slots : List Slot) → Stands rules false notes c slots → IsAccount rules notes

@@ -3,5 +3,12 @@ pub mod Doorbells
 pub mod Tags
 pub mod Rings
 pub mod Account
+pub mod kept
+pub mod inside
+pub mod Standing
+pub mod Calls
+pub mod Posts
+pub mod Steps
+pub mod Making
 pub mod Laws
 pub mod Examples

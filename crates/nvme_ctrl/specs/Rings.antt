@@ -7,6 +7,10 @@ use Rattle.nvme_ctrl.specs.declared.ring.Ring.{Ring}
 abbrev pub next_slot : (slots slot : ℕ) → ℕ
 next_slot slots slot = if nat_lt (slot + 1) slots then slot + 1 else 0
 
+-- a ring of which nothing was read or written
+abbrev pub first_ring : ℕ → Ring
+first_ring slots = record { slots = slots; head = 0; tail = 0 }
+
 -- so many entries were read, and so many written: a full ring has one slot free
 pub record HasCounts (ring : Ring) (read written : ℕ) : Type 0 where
   pub some : 0 < ring.slots

@@ -1,8 +1,9 @@
 -- The commands that the device has, their tags and their answers.
 -- (Base Specification, Completion Queue Entry; tags: profile)
-use Rattle.std.specs.Prelude.{ℕ, ◌==◌, ◌&&◌, ◌||◌, Bool, false, if◌then◌else◌, List, [], ◌∷◌, ◌++◌, Option, Some, None, is_none, is_some}
+use Rattle.std.specs.Prelude.{ℕ, ◌+◌, ◌==◌, ◌&&◌, ◌||◌, Bool, false, if◌then◌else◌, List, [], ◌∷◌, ◌++◌, Option, Some, None, is_none, is_some}
 use Rattle.nvme_entry.specs.Status.{success}
-use Rattle.nvme_log.specs.declared.event.Event.TheVariants.{Post}
+use Rattle.nvme_log.specs.declared.event.Event.TheVariants.{Fetch, Post}
+use Rattle.nvme_log.specs.Rules.{Past}
 use Rattle.nvme_log.specs.Places.{is_aborted}
 use Rattle.nvme_log.specs.declared.place.Place.{Place}
 use Rattle.nvme_log.specs.Dispatches.{place_at}
@@ -26,6 +27,17 @@ holder [] t = None
 holder (Taken tag r i ∷ notes) t = if tag == t then Some (place_at r i) else holder notes t
 holder (Logged (Post c r i cqe) ∷ notes) t = if is_place r i (holder notes t) then None else holder notes t
 holder (note ∷ notes) t = holder notes t
+
+-- how many commands were fetched, and how many completions were posted, of all queues. A command holds a slot of the pool in between
+abbrev pub all_fetches : Past → ℕ
+all_fetches [] = 0
+all_fetches (Fetch r i entry ∷ past) = all_fetches past + 1
+all_fetches (e ∷ past) = all_fetches past
+
+abbrev pub all_posts : Past → ℕ
+all_posts [] = 0
+all_posts (Post c r i cqe ∷ past) = all_posts past + 1
+all_posts (e ∷ past) = all_posts past
 
 -- the answer to the command of a place
 abbrev pub answer_of : Notes → ℕ → ℕ → Option Answer

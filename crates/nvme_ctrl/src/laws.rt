@@ -6,7 +6,13 @@ ghost use Rattle.nvme_log.specs.Examples.{two_slots, one_deletion, get_arbitrati
 ghost use Rattle.nvme_ctrl.specs.Notes.{Logged, Tail, Head, Taken, Answered};
 ghost use Rattle.nvme_ctrl.specs.Account.{IsLawful, IsAccount};
 ghost use Rattle.nvme_ctrl.specs.Examples.{told, three_of_four, four_fetched, first_picked, first_answered, first_posted, third_answered, two_passes, succeeded, out_of_range, create_picked, reads_submitted, reads_waiting, read_picked, read_taken, delete_begun, aborts_posted, read_answered, reads_posted, deletion_noted};
-ghost use Rattle.nvme_ctrl.specs.Laws.{EventsAreAccounted, SlotsAreFetchedInOrder, CompletionsFollowAnswers, OneCompletionEach, SlotsAreFree, CompletionsTellTheHead, DeletesAreAnsweredLast, NoneFetchedAfterDeletion, NonePickedAfterDeletion, PicksAreLawful, TagsAreApart};
+ghost use Rattle.nvme_ctrl.specs.Laws.{ControllersKeepAccounts, EventsAreAccounted, SlotsAreFetchedInOrder, CompletionsFollowAnswers, OneCompletionEach, SlotsAreFree, CompletionsTellTheHead, DeletesAreAnsweredLast, NoneFetchedAfterDeletion, NonePickedAfterDeletion, PicksAreLawful, TagsAreApart};
+
+/// The log at which a controller stands is an account, where no region was added after its first note. So all that
+/// follows holds of it.
+pub fn controllers_keep_accounts()
+    ensures { ControllersKeepAccounts }
+{}
 
 /// The events of a controller's log are those of an accounted log in which the device answers the I/O commands. So
 /// every law of such logs holds of it.

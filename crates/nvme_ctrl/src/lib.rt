@@ -1,8 +1,30 @@
-//! The core of a controller's front, without rings in memory, threads or a kept log. `specs/` defines its log, which
-//! nobody keeps, and `laws` has what holds of each such log. So far there are these, and the rings of its queues.
+//! The core of a controller's front, without rings in memory, threads, jobs or a kept log. Its owner calls it: the host
+//! rang a doorbell (`sq_tail`, `cq_head`), which slot is to be read (`fetch`, `fetched`), what is served next (`pick`,
+//! `take`), what the device answered (`complete`), which completion is to be written where (`post`), and whether a
+//! deletion is done (`finish`). The owner keeps the pool of slots that the commands are in, and gives it to each call.
+//!
+//! Each call's contract says what is noted in the controller's log, which nobody keeps (`specs/Standing.antt`), and
+//! `laws` has what holds of each such log.
 #![tactic(auto)]
 
+mod chain;
+mod deletion;
+mod device;
+mod doorbells;
+mod effects;
+mod fetches;
 pub mod laws;
+mod lookups;
+mod making;
+mod picks;
+mod posts;
 mod ring;
+mod slot;
+mod state;
 
+pub use device::Answer;
+pub use picks::Step;
+pub use posts::Post;
 pub use ring::Ring;
+pub use slot::{Slot, slot_at};
+pub use state::Controller;

@@ -39,13 +39,13 @@ fn gap(slots: u16, from: u16, to: u16) -> u32
 impl Ring {
     ghost use Rattle.std.specs.Prelude.{◌≡◌, ℕ, ◌+◌, ◌<◌, ◌≤◌, ◌%◌, ◌^◌, nat_lt, nat_le, ◌&&◌, true, false};
     ghost use Rattle.nvme_ctrl.specs.Doorbells.{gap};
-    ghost use Rattle.nvme_ctrl.specs.Rings.{HasCounts};
+    ghost use Rattle.nvme_ctrl.specs.Rings.{HasCounts, first_ring};
 
     /// An empty ring, of which nothing was read or written.
     pub fn new(slots: u16) -> Ring
         requires { 0 < slots }
         ensures counts { HasCounts result 0 0 }
-        ensures slots { result.slots ≡ slots }
+        ensures value { result ≡ first_ring slots }
     {
         Ring {
             slots,
@@ -86,6 +86,7 @@ impl Ring {
     pub fn write_to(&mut self, slot: u16) -> bool
         ensures counts { (read written : ℕ) → HasCounts self.old read written → result ≡ true → HasCounts self.new read (written + gap self.old.slots (written % self.old.slots) slot) }
         ensures answer { (read written : ℕ) → HasCounts self.old read written → result ≡ (nat_lt slot self.old.slots && nat_lt (written + gap self.old.slots (written % self.old.slots) slot) (read + self.old.slots)) }
+        ensures slot { result ≡ true → slot < self.old.slots }
         ensures refused { result ≡ false → self.new ≡ self.old }
         ensures head { self.new.head ≡ self.old.head }
         ensures slots { self.new.slots ≡ self.old.slots }
@@ -106,6 +107,7 @@ impl Ring {
     pub fn read_to(&mut self, slot: u16) -> bool
         ensures counts { (read written : ℕ) → HasCounts self.old read written → result ≡ true → HasCounts self.new (read + gap self.old.slots (read % self.old.slots) slot) written }
         ensures answer { (read written : ℕ) → HasCounts self.old read written → result ≡ (nat_lt slot self.old.slots && nat_le (read + gap self.old.slots (read % self.old.slots) slot) written) }
+        ensures slot { result ≡ true → slot < self.old.slots }
         ensures refused { result ≡ false → self.new ≡ self.old }
         ensures tail { self.new.tail ≡ self.old.tail }
         ensures slots { self.new.slots ≡ self.old.slots }

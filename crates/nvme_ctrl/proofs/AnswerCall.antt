@@ -1,0 +1,467 @@
+-- The device answers a command: the controller stands at its log afterwards.
+use Rattle.std.proofs.Common.{◌≡◌, ◌≢◌, ℕ, ◌+◌, ◌<◌, ◌≤◌, ◌^◌, ◌==◌, Bool, true, false, if◌then◌else◌, List, [], ◌∷◌, ◌++◌, length, drop, get_or, Option, Some, None, refl, sym, ap, ◌∙◌, subst, arith, inl, inr}
+use Rattle.std.specs.Prelude.{slice_set, is_none}
+use Rattle.std.specs.List.{All}
+use Rattle.std.proofs.lemmas.Bool.{cases_eq, eq-eqb, ne_eqb}
+use Rattle.std.proofs.lemmas.List.{append_assoc, map-append, length-set}
+use Rattle.std.proofs.lemmas.List.Elements.{All-cons, All-push, All-weaker, All-same, All-map}
+use Rattle.std.proofs.lemmas.Option.{same_Some}
+use Rattle.nvme_entry.specs.declared.submission.Sqe.{Sqe}
+use Rattle.nvme_log.specs.Rules.{FrontRules}
+use Rattle.nvme_log.specs.Answers.{Answer}
+use Rattle.nvme_log.specs.Queues.{cq_region_of}
+use Rattle.nvme_log.specs.Completions.{posted_to, phase_after}
+use Rattle.nvme_log.specs.Places.{fetched}
+use Rattle.nvme_log.specs.Dispatches.{place_at}
+use Rattle.nvme_log.specs.declared.place.Place.{Place}
+use Rattle.nvme_ctrl.specs.Notes.{Notes, Answered, logged}
+use Rattle.nvme_ctrl.specs.Doorbells.{consumed}
+use Rattle.nvme_ctrl.specs.Rings.{HasCounts}
+use Rattle.nvme_ctrl.specs.Tags.{holder, answer_of, is_unanswered, is_out, all_posts}
+use Rattle.nvme_ctrl.specs.Account.{IsAccount, IsAnswer}
+use Rattle.nvme_ctrl.specs.Calls.{HasAnswered}
+use Rattle.nvme_ctrl.specs.declared.slot.Slot.{Slot}
+use Rattle.nvme_ctrl.specs.declared.chain.Chain.{Chain}
+use Rattle.nvme_ctrl.specs.declared.state.CqState.{CqState}
+use Rattle.nvme_ctrl.specs.declared.state.Controller.{Controller}
+use Rattle.nvme_ctrl.specs.kept.Content.{Content, CqContent, Ready}
+use Rattle.nvme_ctrl.specs.kept.Standing.{Holds, IsReady, answer_in}
+use Rattle.nvme_ctrl.specs.inside.Steps.{done}
+use Rattle.nvme_ctrl.specs.kept.Kept.{Item, ReadyItem, Items, IsWaitingIn, IsOutIn, IsReadyIn, IsAmongOuts, HasNumbers, HasItems, HoldsDoorbells, HoldsTags, IsThrough, IsUnanswered, HasEntry, StandsAt, tags_of, places_of, ready_tags, readies_of, untaken, pending_of, is_free}
+use Rattle.nvme_ctrl.specs.kept.Pool.{slot_at, item_at, put_item, IsChain, IsNew, AreApart, SameItems, SameLinks}
+use Rattle.nvme_ctrl.specs.kept.State.{sq_at, cq_at}
+use Rattle.nvme_ctrl.proofs.Pools.{length-put_item, item_at-put_item_same, item_at-put_item_other, chain-put_item, chain-other, length-apart, AreApart-others, IsNew-others}
+use Rattle.nvme_ctrl.proofs.OwnStatus.{All-unmap}
+use Rattle.nvme_ctrl.proofs.ReadyHand.{All-taken}
+use Rattle.nvme_ctrl.proofs.RegionStates.{put_cq-each}
+use Rattle.nvme_ctrl.proofs.OutTags.{still_not_out-answered}
+use Rattle.nvme_ctrl.proofs.SlotItems.{All-both, at_put, ready_state-range, same_state, out_stays, all_waiting_stay, all_ready_stay, all_free_stay}
+use Rattle.nvme_ctrl.proofs.AnsweredPlaces.{IsOther, is_other, at_hand, has_entries, attached, answered, holds_answered, was_fetched, others_out, others_in_windows}
+
+-- ---- what the device has, without a command
+-- a command among some is among those that are left without another
+among_others : (before : List Item) (it : Item) (after first : List Item) (item : Item) (last : List Item) → before ++ it ∷ after ≡ first ++ item ∷ last
+    → item.tag ≢ it.tag → IsAmongOuts (before ++ after) item.tag
+among_others [] it after [] item last are other = absurd (other (sym (ap (λ (its : List Item). (get_or its 0 it).tag) are)))
+among_others [] it after (y ∷ first) item last are other =
+    record { before = first; item = item; after = last; are = ap (λ (its : List Item). drop 1 its) are; tag = refl }
+among_others (x ∷ before) it after [] item last are other =
+    record { before = []; item = x; after = before ++ after; are = refl; tag = ap (λ (its : List Item). (get_or its 0 it).tag) are }
+among_others (x ∷ before) it after (y ∷ first) item last are other =
+    let at = among_others before it after first item last (ap (λ (its : List Item). drop 1 its) are) other in
+    record { before = x ∷ at.before; item = at.item; after = at.after; are = ap (λ (its : List Item). x ∷ its) at.are; tag = at.tag }
+
+-- a slot that isn't ready is new to those that are
+new_to_ready : (slots : List Slot) (xs : List ReadyItem) → All (IsReadyIn slots) xs → (y : ℕ) → (slot_at slots y).state ≤ 2 → IsNew y (ready_tags xs)
+new_to_ready slots xs h y low = All-map (λ (z : ℕ). z ≢ y) (λ (x : ReadyItem). x.tag) xs
+    (All-weaker (IsReadyIn slots) (λ (x : ReadyItem). x.tag ≢ y)
+    (λ x ready e. omega (arith, ready.state, (ready_state-range x.was_out x.ready.with_queue).0, ap (λ (z : ℕ). (slot_at slots z).state) e, low)) xs h)
+
+-- ---- what is so afterwards
+abbrev pub answered_slot : Slot → Answer → Slot
+answered_slot slot answer = record slot { state = 3; sct = answer.status.sct; sc = answer.status.sc; dw0 = answer.dw0 }
+
+abbrev pub answered_pool : List Slot → ℕ → Answer → List Slot
+answered_pool slots tag answer = put_item slots tag (answered_slot (slot_at slots tag) answer)
+
+abbrev pub answered_cq : Controller → ℕ → Chain → CqState
+answered_cq c x chain = record (cq_at c.cqs x) { ready = chain }
+
+-- the controller, where a completion region has a ready completion more
+abbrev pub answered_controller : Controller → ℕ → Chain → Controller
+answered_controller c x chain = record c { cqs = slice_set c.cqs x (answered_cq c x chain) }
+
+abbrev ready_item : Item → (sqid : ℕ) → Answer → ReadyItem
+ready_item it sqid answer = record { tag = it.tag; ready = done sqid it.place it.entry.cid answer; was_out = true }
+
+-- what a push of a slot to a chain of a pool made
+pub record IsPushed (slots : List Slot) (old : Chain) (tag : ℕ) (new : List Slot) (longer : Chain) : Type 0 where
+  pub items : SameItems slots new
+  pub links : (xs : List ℕ) → IsChain slots old xs → SameLinks xs slots new
+  pub chain : (xs : List ℕ) → IsChain slots old xs → tag < length slots → IsNew tag xs → length xs + 1 < 2 ^ 16 → IsChain new longer (xs ++ tag ∷ [])
+
+-- a command that the device has is answered
+module _ (rules : FrontRules) (late : Bool) (notes : Notes) (c : Controller) (slots : List Slot) (k : Content) (g : Items)
+    (s : Holds rules late (logged notes) k) (n : HasNumbers c k) (h : HasItems c slots k g) (t : HoldsTags notes c slots g)
+    (before : List Item) (it : Item) (after : List Item) (are : g.outs ≡ before ++ it ∷ after) (answer : Answer) (types : answer.status.sct < 8)
+    (new : List Slot) (chain : Chain)
+    (p : IsPushed (answered_pool slots it.tag answer) (cq_at c.cqs (sq_at c.sqs it.place.region).cq_region).ready it.tag new chain) where
+  abbrev x : ℕ
+  x = (sq_at c.sqs it.place.region).cq_region
+
+  abbrev item : ReadyItem
+  item = ready_item it (sq_at c.sqs it.place.region).qid answer
+
+  abbrev left : Items
+  left = record g { outs = before ++ after; readies = λ y. if y == x then g.readies x ++ item ∷ [] else g.readies y }
+
+  abbrev later : Content
+  later = answered rules late notes c slots k g s n h t before it after are answer
+
+  out : IsOutIn slots it
+  out = (All-taken (IsOutIn slots) before it after (All-same (IsOutIn slots) (before ++ it ∷ after) g.outs (sym are) h.outs_items)).0
+
+  others_are : All (IsOutIn slots) (before ++ after)
+  others_are = (All-taken (IsOutIn slots) before it after (All-same (IsOutIn slots) (before ++ it ∷ after) g.outs (sym are) h.outs_items)).1
+
+  size : length new ≡ length slots
+  size = p.items.size ∙ length-put_item slots it.tag (answered_slot (slot_at slots it.tag) answer)
+
+  others : (y : ℕ) → y ≢ it.tag → item_at new y ≡ item_at slots y
+  others y other = p.items.items y ∙ item_at-put_item_other slots it.tag (answered_slot (slot_at slots it.tag) answer) y other
+
+  now : item_at new it.tag ≡ record (answered_slot (slot_at slots it.tag) answer) { next = 0 }
+  now = p.items.items it.tag ∙ item_at-put_item_same slots it.tag (answered_slot (slot_at slots it.tag) answer) out.inside
+
+  entries : (y : ℕ) → (slot_at new y).entry ≡ (slot_at slots y).entry
+  entries y = elim (cases_eq y it.tag) [
+    | inl same ↦ subst (λ (z : ℕ). (slot_at new z).entry ≡ (slot_at slots z).entry) (sym same) (ap (λ (z : Slot). z.entry) now)
+    | inr other ↦ ap (λ (z : Slot). z.entry) (others y other)
+  ]
+
+  -- ---- the completion region
+  is_attached : (k.sq it.place.region).queue ≡ Some (record { qid = (sq_at c.sqs it.place.region).qid; cq_region = x })
+  is_attached = attached rules late notes c slots k g s n h t before it after are answer
+
+  there : x < length c.cqs
+  there =
+      let below = s.queues.posts_there it.place.region (record { qid = (sq_at c.sqs it.place.region).qid; cq_region = x }) is_attached in
+      omega (arith, below, s.tabled.few_cqs, n.cq_size)
+
+  here_readies : left.readies x ≡ g.readies x ++ item ∷ []
+  here_readies = rw (eq-eqb x x refl) refl
+
+  elsewhere : (y : ℕ) → y ≢ x → g.readies y ≡ left.readies y
+  elsewhere y other = rw (ne_eqb y x other) refl
+
+  same_slots : (y : ℕ) → (later.cq y).slots ≡ (k.cq y).slots
+  same_slots = at_put (λ (y : ℕ) (q : CqContent). q.slots ≡ (k.cq y).slots) k.cq x (record (k.cq x) { ready = (k.cq x).ready ++ item.ready ∷ [] }) refl (λ y other. refl)
+
+  -- ---- chains
+  -- a chain of slots that aren't ready in the completion region is left
+  chain_left : (old : Chain) (xs : List ℕ) → All (λ (y : ℕ). IsNew y (ready_tags (g.readies x))) xs → IsChain slots old xs → IsChain new old xs
+  chain_left old xs apart linked =
+      let pool : List Slot = answered_pool slots it.tag answer in
+      let slot : Slot = answered_slot (slot_at slots it.tag) answer in
+      chain-other pool new old xs (ready_tags (g.readies x)) (chain-put_item slots old xs it.tag slot linked)
+      (p.links (ready_tags (g.readies x)) (chain-put_item slots (cq_at c.cqs x).ready (ready_tags (g.readies x)) it.tag slot (h.ready_chain x))) p.items.size apart
+
+  window_left : (r : ℕ) → IsChain new (sq_at c.sqs r).window (tags_of (g.windows r))
+  window_left r = chain_left (sq_at c.sqs r).window (tags_of (g.windows r))
+      (All-map (λ (y : ℕ). IsNew y (ready_tags (g.readies x))) (λ (y : Item). y.tag) (g.windows r)
+      (All-weaker (IsWaitingIn slots r) (λ (y : Item). IsNew y.tag (ready_tags (g.readies x)))
+      (λ y waits. new_to_ready slots (g.readies x) (h.ready_items x) y.tag (omega (arith, waits.state))) (g.windows r) (h.window_items r)))
+      (h.window_chain r)
+
+  free_left : IsChain new c.free g.free
+  free_left = chain_left c.free g.free
+      (All-weaker (is_free slots) (λ (y : ℕ). IsNew y (ready_tags (g.readies x)))
+      (λ y free. new_to_ready slots (g.readies x) (h.ready_items x) y (omega (arith, free))) g.free h.free_items)
+      h.free_chain
+
+  -- what is ready in a completion region goes there
+  ready_goes : (y : ℕ) → All (λ (w : ReadyItem). cq_region_of (logged notes) (slot_at slots w.tag).region ≡ Some y) (g.readies y)
+  ready_goes y = All-both (λ (w : ReadyItem). IsReady (logged notes) k.deletion y w.ready) (IsReadyIn slots)
+      (λ (w : ReadyItem). cq_region_of (logged notes) (slot_at slots w.tag).region ≡ Some y)
+      (λ w ready is_in. ap (cq_region_of (logged notes)) is_in.region ∙ ready.region) (g.readies y)
+      (All-unmap (IsReady (logged notes) k.deletion y) (λ (w : ReadyItem). w.ready) (g.readies y)
+      (All-same (IsReady (logged notes) k.deletion y) (readies_of (g.readies y)) (k.cq y).ready (sym (h.ready_is y)) (s.ready.each y)))
+      (h.ready_items y)
+
+  other_ready : (y : ℕ) → y ≢ x → IsChain new (cq_at c.cqs y).ready (ready_tags (g.readies y))
+  other_ready y other = chain_left (cq_at c.cqs y).ready (ready_tags (g.readies y))
+      (All-map (λ (z : ℕ). IsNew z (ready_tags (g.readies x))) (λ (w : ReadyItem). w.tag) (g.readies y)
+      (All-weaker (λ (w : ReadyItem). cq_region_of (logged notes) (slot_at slots w.tag).region ≡ Some y) (λ (w : ReadyItem). IsNew w.tag (ready_tags (g.readies x)))
+      (λ w goes. All-map (λ (z : ℕ). z ≢ w.tag) (λ (v : ReadyItem). v.tag) (g.readies x)
+      (All-weaker (λ (v : ReadyItem). cq_region_of (logged notes) (slot_at slots v.tag).region ≡ Some x) (λ (v : ReadyItem). v.tag ≢ w.tag)
+      (λ v comes e. other (same_Some y x (sym goes ∙ sym (ap (λ (z : ℕ). cq_region_of (logged notes) (slot_at slots z).region) e) ∙ comes)))
+      (g.readies x) (ready_goes x)))
+      (g.readies y) (ready_goes y)))
+      (h.ready_chain y)
+
+  here_ready : IsChain new chain (ready_tags (g.readies x) ++ it.tag ∷ [])
+  here_ready =
+      let slot : Slot = answered_slot (slot_at slots it.tag) answer in
+      let old = h.ready_chain x in
+      let fresh : IsNew it.tag (ready_tags (g.readies x)) = new_to_ready slots (g.readies x) (h.ready_items x) it.tag (omega (arith, out.state)) in
+      let many = length-apart (length slots) (it.tag ∷ ready_tags (g.readies x)) (fresh, old.apart)
+      (All-cons (λ (z : ℕ). z < length slots) it.tag (ready_tags (g.readies x)) out.inside old.inside) in
+      p.chain (ready_tags (g.readies x)) (chain-put_item slots (cq_at c.cqs x).ready (ready_tags (g.readies x)) it.tag slot old)
+      (subst (λ (m : ℕ). it.tag < m) (sym (length-put_item slots it.tag slot)) out.inside) fresh (omega (arith, many, h.few))
+
+  -- ---- what is ready
+  item_ready : IsReadyIn new item
+  item_ready = record {
+    state = ap (λ (z : Slot). z.state) now;
+    region = ap (λ (z : Slot). z.region) now ∙ out.region;
+    cid = ap (λ (z : Slot). z.entry.cid) now ∙ ap (λ (e : Sqe). e.cid) out.entry;
+    sct = ap (λ (z : Slot). z.sct) now;
+    few_types = subst (λ (m : ℕ). m < 8) (sym (ap (λ (z : Slot). z.sct) now)) types;
+    sc = ap (λ (z : Slot). z.sc) now;
+    dw0 = ap (λ (z : Slot). z.dw0) now;
+    not_both = λ e. refl;
+  }
+
+  ready_left : (y : ℕ) → All (IsReadyIn new) (g.readies y)
+  ready_left y = all_ready_stay slots new it.tag size others (g.readies y) (omega (arith, out.state)) (h.ready_items y)
+
+  ready_here : (later.cq x).ready ≡ readies_of (left.readies x)
+  ready_here = at_here ∙ ap (λ (ts : List Ready). ts ++ item.ready ∷ []) (h.ready_is x) ∙ sym (map-append (λ (w : ReadyItem). w.ready) (g.readies x) (item ∷ []))
+      ∙ ap readies_of (sym here_readies)
+    where
+      at_here : (later.cq x).ready ≡ (k.cq x).ready ++ item.ready ∷ []
+      at_here = rw (eq-eqb x x refl) refl
+
+  ready_elsewhere : (y : ℕ) → y ≢ x → (k.cq y).ready ≡ readies_of (left.readies y)
+  ready_elsewhere y other = h.ready_is y ∙ ap readies_of (elsewhere y other)
+
+  -- ---- what the device has
+  apart_before : AreApart (tags_of before ++ it.tag ∷ tags_of after)
+  apart_before = subst AreApart (ap tags_of are ∙ map-append (λ (y : Item). y.tag) before (it ∷ after)) h.outs_apart
+
+  outs_other : All (λ (y : Item). y.tag ≢ it.tag) (before ++ after)
+  outs_other = All-unmap (λ (z : ℕ). z ≢ it.tag) (λ (y : Item). y.tag) (before ++ after)
+      (All-same (λ (z : ℕ). z ≢ it.tag) (tags_of (before ++ after)) (tags_of before ++ tags_of after) (map-append (λ (y : Item). y.tag) before after)
+      (IsNew-others (tags_of before) it.tag (tags_of after) apart_before))
+
+  outs_left : (y : ℕ) → (slot_at new y).state ≡ 2 → IsAmongOuts (before ++ after) y
+  outs_left y state = elim (cases_eq y it.tag) [
+    | inl same ↦ absurd (omega (arith, state, ap (λ (z : ℕ). (slot_at new z).state) same, ap (λ (z : Slot). z.state) now))
+    | inr other ↦
+        let at = h.outs_all y (sym (ap (λ (z : Slot). z.state) (others y other)) ∙ state) in
+        subst (IsAmongOuts (before ++ after)) at.tag
+        (among_others before it after at.before at.item at.after (sym are ∙ at.are) (λ e. other (sym at.tag ∙ e)))
+  ]
+
+  hand_left : before ++ after ++ untaken c g ≡ before ++ (after ++ untaken c g)
+  hand_left = append_assoc before after (untaken c g)
+
+  deletion_left : pending_of c slots g ≡ pending_of c new left
+  deletion_left = ap (λ (cid : ℕ). if c.deletion.pending == 0 then None
+      else Some (record { place = place_at 0 g.delete_index; cid = cid; qid = c.deletion.qid; region = c.deletion.region }))
+      (ap (λ (e : Sqe). e.cid) (sym (entries c.deletion.tag)))
+
+  deletion_other : c.deletion.pending ≢ 0 → c.deletion.tag ≢ it.tag
+  deletion_other pending e = omega (arith, h.deletion_item pending, out.state, ap (λ (z : ℕ). (slot_at slots z).state) e)
+
+  -- ---- all of it
+  pub answer-items : HasItems (answered_controller c x chain) new later left
+  answer-items = record {
+    window_chain = window_left;
+    window_items = λ r. all_waiting_stay slots new it.tag size others r (g.windows r) (λ e. omega (arith, out.state, e)) (h.window_items r);
+    window_is = h.window_is;
+    picked_there = h.picked_there;
+    outs_items = All-both (IsOutIn slots) (λ (y : Item). y.tag ≢ it.tag) (IsOutIn new) (λ y is_out_in other. out_stays slots new it.tag size others y other is_out_in)
+        (before ++ after) others_are outs_other;
+    outs_apart = subst AreApart (sym (map-append (λ (y : Item). y.tag) before after)) (AreApart-others (tags_of before) it.tag (tags_of after) apart_before);
+    outs_all = outs_left;
+    hand_is = sym (map-append (λ (y : Item). y.place) before (after ++ untaken c g)) ∙ ap places_of (sym hand_left);
+    ready_chain = put_cq-each (λ y state. IsChain new state.ready (ready_tags (left.readies y))) c.cqs x (answered_cq c x chain) there
+        (subst (IsChain new chain) (sym (ap ready_tags here_readies ∙ map-append (λ (w : ReadyItem). w.tag) (g.readies x) (item ∷ []))) here_ready)
+        (λ y other. subst (λ (ws : List ReadyItem). IsChain new (cq_at c.cqs y).ready (ready_tags ws)) (elsewhere y other) (other_ready y other));
+    ready_items = at_put (λ y ws. All (IsReadyIn new) ws) g.readies x (g.readies x ++ item ∷ []) (All-push (IsReadyIn new) (g.readies x) item (ready_left x) item_ready) (λ y other. ready_left y);
+    ready_is = λ y. elim (cases_eq y x) [
+      | inl same ↦ subst (λ (z : ℕ). (later.cq z).ready ≡ readies_of (left.readies z)) (sym same) ready_here
+      | inr other ↦ ready_at y other ∙ ready_elsewhere y other
+    ];
+    deletion_is = h.deletion_is ∙ deletion_left;
+    deletion_item = λ pending. same_state slots new it.tag size others c.deletion.tag 6 (deletion_other pending) (h.deletion_item pending);
+    deletion_inside = λ pending. subst (λ (m : ℕ). c.deletion.tag < m) (sym size) (h.deletion_inside pending);
+    free_chain = free_left;
+    free_items = all_free_stay slots new it.tag size others g.free (λ e. omega (arith, out.state, e)) h.free_items;
+    few = subst (λ (m : ℕ). m < 2 ^ 16) (sym size) h.few;
+  }
+    where
+      ready_at : (y : ℕ) → y ≢ x → (later.cq y).ready ≡ (k.cq y).ready
+      ready_at y other = rw (ne_eqb y x other) refl
+
+  pub answer-numbers : HasNumbers (answered_controller c x chain) later
+  answer-numbers = record {
+    table_is = n.table_is;
+    sized = n.sized;
+    board_is = n.board_is;
+    is_arbiter = n.is_arbiter;
+    outstanding_is = n.outstanding_is;
+    sq_queue = n.sq_queue;
+    sq_unposted = n.sq_unposted;
+    sq_slots = n.sq_slots;
+    cq_slots = put_cq-each (λ y state. state.ring.slots ≡ (later.cq y).slots) c.cqs x (answered_cq c x chain) there (n.cq_slots x ∙ sym (same_slots x))
+        (λ y other. n.cq_slots y ∙ sym (same_slots y));
+    sq_some = n.sq_some;
+    sq_size = n.sq_size;
+    cq_size = length-set c.cqs x (answered_cq c x chain) ∙ n.cq_size;
+  }
+
+  pub answer-doorbells : HoldsDoorbells rules notes c → HoldsDoorbells rules (Answered it.place.region it.place.index answer ∷ notes) (answered_controller c x chain)
+  answer-doorbells d = record {
+    sqs = d.sqs;
+    cqs = put_cq-each (λ y state. 0 < state.ring.slots → HasCounts state.ring (consumed rules notes y) (length (posted_to (logged notes) y)))
+        c.cqs x (answered_cq c x chain) there (d.cqs x) (λ y other. d.cqs y);
+    phases = put_cq-each (λ y state. (state.phase == 1) ≡ phase_after (length (posted_to (logged notes) y)) state.ring.slots)
+        c.cqs x (answered_cq c x chain) there (d.phases x) (λ y other. d.phases y);
+    no_tails = d.no_tails;
+    no_heads = put_cq-each (λ y state. state.ring.slots ≡ 0 → consumed rules notes y ≡ 0) c.cqs x (answered_cq c x chain) there (d.no_heads x)
+        (λ y other. d.no_heads y);
+    no_posts = put_cq-each (λ y state. state.ring.slots ≡ 0 → posted_to (logged notes) y ≡ []) c.cqs x (answered_cq c x chain) there (d.no_posts x)
+        (λ y other. d.no_posts y);
+  }
+
+  -- ---- the log
+  held : holder notes it.tag ≡ Some it.place
+  held = (All-taken (λ (y : Item). holder notes y.tag ≡ Some y.place) before it after
+      (All-same (λ (y : Item). holder notes y.tag ≡ Some y.place) (before ++ it ∷ after) g.outs (sym are) t.outs_held)).0
+
+  unanswered : IsUnanswered notes it.place
+  unanswered = (All-taken (λ (y : Item). IsUnanswered notes y.place) before it after
+      (All-same (λ (y : Item). IsUnanswered notes y.place) (before ++ it ∷ after) g.outs (sym are) t.outs_unanswered)).0
+
+  -- it has the answer now
+  has_answer : answer_of (Answered it.place.region it.place.index answer ∷ notes) it.place.region it.place.index ≡ Some answer
+  has_answer = rw (eq-eqb it.place.region it.place.region refl, eq-eqb it.place.index it.place.index refl) refl
+
+  -- the others have theirs
+  answer_left : (q : Place) → IsOther it.place.region it.place.index q
+      → answer_of (Answered it.place.region it.place.index answer ∷ notes) q.region q.index ≡ answer_of notes q.region q.index
+  answer_left q other = rw other refl
+
+  all_unanswered : (its : List Item) → All (λ (y : Item). IsOther it.place.region it.place.index y.place) its → All (λ (y : Item). IsUnanswered notes y.place) its
+      → All (λ (y : Item). IsUnanswered (Answered it.place.region it.place.index answer ∷ notes) y.place) its
+  all_unanswered its other none = All-both (λ (y : Item). IsOther it.place.region it.place.index y.place) (λ (y : Item). IsUnanswered notes y.place)
+      (λ (y : Item). IsUnanswered (Answered it.place.region it.place.index answer ∷ notes) y.place) (λ y is_not is. answer_left y.place is_not ∙ is) its other none
+
+  -- what is through stays so
+  through_left : (w : ReadyItem) → IsThrough notes w.ready → IsThrough (Answered it.place.region it.place.index answer ∷ notes) w.ready
+  through_left w (inl is_aborted_place) = inl is_aborted_place
+  through_left w (inr has) = inr (answer_left w.ready.place (is_other it.place.region it.place.index w.ready.place (λ same_region same_index.
+      (let none : answer_of notes w.ready.place.region w.ready.place.index ≡ None =
+      (λ j. answer_of notes (sym same_region j) (sym same_index j)) ∙ unanswered in
+      let lost : None ≡ Some (answer_in w.ready) = sym none ∙ has in cc lost))) ∙ has)
+
+  all_through : (ws : List ReadyItem) → All (λ (w : ReadyItem). IsThrough notes w.ready) ws → All (λ (w : ReadyItem). IsThrough (Answered it.place.region it.place.index answer ∷ notes) w.ready) ws
+  all_through ws each = All-weaker (λ (w : ReadyItem). IsThrough notes w.ready) (λ (w : ReadyItem). IsThrough (Answered it.place.region it.place.index answer ∷ notes) w.ready) through_left ws each
+
+  not_out_now : (y : ℕ) → (slot_at new y).state ≡ 3 → is_out (Answered it.place.region it.place.index answer ∷ notes) y ≡ false
+  not_out_now y state = elim (cases_eq y it.tag) [
+    | inl same ↦ subst (λ (z : ℕ). is_out (Answered it.place.region it.place.index answer ∷ notes) z ≡ false) (sym same)
+        (ap (is_unanswered (Answered it.place.region it.place.index answer ∷ notes)) held ∙ ap (λ (o : Option Answer). is_none o) has_answer)
+    | inr other ↦ still_not_out-answered it.place.region it.place.index answer notes y (t.answered_held y (sym (ap (λ (z : Slot). z.state) (others y other)) ∙ state))
+  ]
+
+  none_held_now : (y : ℕ) → (slot_at new y).state ≢ 2 → (slot_at new y).state ≢ 3 → holder notes y ≡ None
+  none_held_now y not_out not_answered = elim (cases_eq y it.tag) [
+    | inl same ↦ absurd (not_answered (ap (λ (z : ℕ). (slot_at new z).state) same ∙ ap (λ (z : Slot). z.state) now))
+    | inr other ↦
+        let state : (slot_at new y).state ≡ (slot_at slots y).state = ap (λ (z : Slot). z.state) (others y other) in
+        t.none_held y (λ e. not_out (state ∙ e)) (λ e. not_answered (state ∙ e))
+  ]
+
+  not_admin : (it.place.region == 0) ≡ false
+  not_admin = (at_hand rules late notes c slots k g s n h t before it after are answer).io
+
+  pub answer-tags : HoldsTags (Answered it.place.region it.place.index answer ∷ notes) (answered_controller c x chain) new left
+  answer-tags = record {
+    untaken_are = t.untaken_are;
+    outs_held = (All-taken (λ (y : Item). holder notes y.tag ≡ Some y.place) before it after
+        (All-same (λ (y : Item). holder notes y.tag ≡ Some y.place) (before ++ it ∷ after) g.outs (sym are) t.outs_held)).1;
+    readies_held = at_put (λ y ws. All (λ (w : ReadyItem). w.was_out ≡ true → holder notes w.tag ≡ Some w.ready.place) ws) g.readies x (g.readies x ++ item ∷ [])
+        (All-push (λ (w : ReadyItem). w.was_out ≡ true → holder notes w.tag ≡ Some w.ready.place) (g.readies x) item (t.readies_held x) (λ e. held))
+        (λ y other. t.readies_held y);
+    none_held = none_held_now;
+    through = at_put (λ y ws. All (λ (w : ReadyItem). IsThrough (Answered it.place.region it.place.index answer ∷ notes) w.ready) ws) g.readies x (g.readies x ++ item ∷ [])
+        (All-push (λ (w : ReadyItem). IsThrough (Answered it.place.region it.place.index answer ∷ notes) w.ready) (g.readies x) item (all_through (g.readies x) (t.through x)) (inr has_answer))
+        (λ y other. all_through (g.readies y) (t.through y));
+    windows_unanswered = λ r. all_unanswered (g.windows r) (others_in_windows rules late notes c slots k g s n h t before it after are answer r) (t.windows_unanswered r);
+    outs_unanswered = all_unanswered (before ++ after) (others_out rules late notes c slots k g s n h t before it after are answer)
+        (All-taken (λ (y : Item). IsUnanswered notes y.place) before it after
+        (All-same (λ (y : Item). IsUnanswered notes y.place) (before ++ it ∷ after) g.outs (sym are) t.outs_unanswered)).1;
+    deletion_unanswered = λ pending. rw not_admin (t.deletion_unanswered pending);
+    none_answered = λ r i past_all. answer_left (place_at r i) (is_other it.place.region it.place.index (place_at r i) (λ same_region same_index.
+        let was = was_fetched rules late notes c slots k g s n h t before it after are answer in
+        omega (arith, was, same_index, ap (λ (z : ℕ). length (fetched (logged notes) z)) same_region, past_all))) ∙ t.none_answered r i past_all;
+    answered_held = not_out_now;
+    hand_entries = All-same (HasEntry (logged notes)) (before ++ after ++ untaken c g) (before ++ (after ++ untaken c g)) hand_left
+        (has_entries rules late notes c slots k g s n h t before it after are answer).1;
+    free_count = t.free_count ∙ ap (λ (m : ℕ). m + all_posts (logged notes)) (sym size);
+  }
+
+  -- the note is lawful
+  is_answer : IsAnswer rules notes it.place.region it.place.index answer
+  is_answer = record {
+    first = unanswered;
+    executed = rw not_admin (record { tag = it.tag; stands = held });
+  }
+
+  pub answer-account : IsAccount rules notes → IsAccount rules (Answered it.place.region it.place.index answer ∷ notes)
+  answer-account a = record { each = (is_answer, a.each); lawful = a.lawful; effects_whole = a.effects_whole }
+
+  pub answer-held : holder notes it.tag ≡ Some it.place
+  answer-held = held
+
+-- ---- the call
+-- where an item is among those that the device has
+answer-item : (rules : FrontRules) (late : Bool) (notes : Notes) (c : Controller) (slots : List Slot) (s : StandsAt rules late notes c slots)
+    (before : List Item) (it : Item) (after : List Item) → s.items.outs ≡ before ++ it ∷ after → (answer : Answer) → answer.status.sct < 8
+    → (new : List Slot) (chain : Chain) (x : ℕ) → (sq_at c.sqs (slot_at slots it.tag).region).cq_region ≡ x
+    → IsPushed (answered_pool slots it.tag answer) (cq_at c.cqs x).ready it.tag new chain
+    → HasAnswered rules late notes it.tag answer (answered_controller c x chain) new
+answer-item rules late notes c slots s before it after are answer types new chain x goes pushed =
+    subst (λ (y : ℕ). IsPushed (answered_pool slots it.tag answer) (cq_at c.cqs y).ready it.tag new chain → HasAnswered rules late notes it.tag answer (answered_controller c y chain) new)
+    (sym (ap (λ (r : ℕ). (sq_at c.sqs r).cq_region) out.region) ∙ goes) stands pushed
+  where
+    out : IsOutIn slots it
+    out = (All-taken (IsOutIn slots) before it after (All-same (IsOutIn slots) (before ++ it ∷ after) s.items.outs (sym are) s.has.outs_items)).0
+
+    stands : IsPushed (answered_pool slots it.tag answer) (cq_at c.cqs (sq_at c.sqs it.place.region).cq_region).ready it.tag new chain
+        → HasAnswered rules late notes it.tag answer (answered_controller c (sq_at c.sqs it.place.region).cq_region chain) new
+    stands p = record {
+      region = it.place.region;
+      index = it.place.index;
+      held = answer-held rules late notes c slots s.content s.items s.holds s.numbers s.has s.tags before it after are answer types new chain p;
+      stands = record {
+        content = answered rules late notes c slots s.content s.items s.holds s.numbers s.has s.tags before it after are answer;
+        items = record s.items {
+          outs = before ++ after;
+          readies = λ y. if y == (sq_at c.sqs it.place.region).cq_region then s.items.readies (sq_at c.sqs it.place.region).cq_region ++ ready_item it (sq_at c.sqs it.place.region).qid answer ∷ []
+              else s.items.readies y;
+        };
+        holds = holds_answered rules late notes c slots s.content s.items s.holds s.numbers s.has s.tags before it after are answer;
+        numbers = answer-numbers rules late notes c slots s.content s.items s.holds s.numbers s.has s.tags before it after are answer types new chain p;
+        has = answer-items rules late notes c slots s.content s.items s.holds s.numbers s.has s.tags before it after are answer types new chain p;
+        doorbells = answer-doorbells rules late notes c slots s.content s.items s.holds s.numbers s.has s.tags before it after are answer types new chain p s.doorbells;
+        tags = answer-tags rules late notes c slots s.content s.items s.holds s.numbers s.has s.tags before it after are answer types new chain p;
+        account = λ on_time. answer-account rules late notes c slots s.content s.items s.holds s.numbers s.has s.tags before it after are answer types new chain p (s.account on_time);
+      };
+    }
+
+-- the controller stands at its log with the note, where the slot of a command that the device has is ready
+pub answer-stands : (rules : FrontRules) (late : Bool) (notes : Notes) (c : Controller) (slots : List Slot) → StandsAt rules late notes c slots
+    → (tag : ℕ) → (slot_at slots tag).state ≡ 2 → (answer : Answer) → answer.status.sct < 8
+    → (new : List Slot) (chain : Chain) (x : ℕ) → (sq_at c.sqs (slot_at slots tag).region).cq_region ≡ x
+    → IsPushed (answered_pool slots tag answer) (cq_at c.cqs x).ready tag new chain
+    → HasAnswered rules late notes tag answer (answered_controller c x chain) new
+answer-stands rules late notes c slots s tag state answer types new chain x =
+    let at = s.has.outs_all tag state in
+    subst (λ (y : ℕ). (sq_at c.sqs (slot_at slots y).region).cq_region ≡ x → IsPushed (answered_pool slots y answer) (cq_at c.cqs x).ready y new chain
+    → HasAnswered rules late notes y answer (answered_controller c x chain) new) at.tag
+    (answer-item rules late notes c slots s at.before at.item at.after at.are answer types new chain x)
+
+-- ---- what is answered
+-- the tag of a slot that the device has is out
+pub out_is_out : (rules : FrontRules) (late : Bool) (notes : Notes) (c : Controller) (slots : List Slot) → StandsAt rules late notes c slots
+    → (tag : ℕ) → (slot_at slots tag).state ≡ 2 → is_out notes tag ≡ true
+out_is_out rules late notes c slots s tag state =
+    let at = s.has.outs_all tag state in
+    let held = (All-taken (λ (y : Item). holder notes y.tag ≡ Some y.place) at.before at.item at.after
+    (All-same (λ (y : Item). holder notes y.tag ≡ Some y.place) (at.before ++ at.item ∷ at.after) s.items.outs (sym at.are) s.tags.outs_held)).0 in
+    let none = (All-taken (λ (y : Item). IsUnanswered notes y.place) at.before at.item at.after
+    (All-same (λ (y : Item). IsUnanswered notes y.place) (at.before ++ at.item ∷ at.after) s.items.outs (sym at.are) s.tags.outs_unanswered)).0 in
+    subst (λ (y : ℕ). is_out notes y ≡ true) at.tag
+    (ap (is_unanswered notes) held ∙ ap (λ (o : Option Answer). is_none o) none)
+
+-- that of another slot isn't
+pub other_is_not_out : (rules : FrontRules) (late : Bool) (notes : Notes) (c : Controller) (slots : List Slot) → StandsAt rules late notes c slots
+    → (tag : ℕ) → (slot_at slots tag).state ≢ 2 → is_out notes tag ≡ false
+other_is_not_out rules late notes c slots s tag other = elim (cases_eq (slot_at slots tag).state 3) [
+  | inl answered_one ↦ s.tags.answered_held tag answered_one
+  | inr neither ↦ ap (is_unanswered notes) (s.tags.none_held tag other neither)
+]

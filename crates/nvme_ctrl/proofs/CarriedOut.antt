@@ -1,0 +1,316 @@
+-- An admin command was carried out: the controller stands at the notes of its pick, of what it makes, and of its answer.
+use Rattle.std.proofs.Common.{◌≡◌, ℕ, suc, ◌<◌, ◌==◌, ◌&&◌, Bool, true, false, if◌then◌else◌, List, [], ◌∷◌, ◌++◌, length, map, drop, Some, None, refl, sym, ap, ◌∙◌, subst, arith, inl, inr, eq-eqb}
+use Rattle.std.specs.Prelude.{slice_get, option_map, nat_lt, All}
+use Rattle.std.specs.List.{AllPairs}
+use Rattle.std.proofs.lemmas.Bool.{cases_eq, ne_eqb, and_parts, false_from_ne_true, eqb-true}
+use Rattle.std.proofs.lemmas.List.Elements.{All-head, All-tail, All-same, All-weaker}
+use Rattle.nvme_arbiter.specs.Board.{BoardView}
+use Rattle.nvme_admin.specs.Effects.{verdict_in}
+use Rattle.nvme_admin.specs.declared.effect.Effect.{Effect}
+use Rattle.nvme_admin.specs.declared.verdict.Verdict.{Verdict}
+use Rattle.nvme_entry.specs.Status.{StatusCode}
+use Rattle.nvme_entry.specs.declared.submission.Sqe.{Sqe}
+use Rattle.nvme_log.specs.declared.event.Event.{Event}
+use Rattle.nvme_log.specs.declared.event.Event.TheVariants as event
+use Rattle.nvme_log.specs.declared.place.Place.{Place}
+use Rattle.nvme_log.specs.Rules.{FrontRules, Past}
+use Rattle.nvme_log.specs.Places.{fetched, is_aborted, fate_of, is_waiting, is_picked, unaborted_below, picked, waiting, observation_of, WasAborted, WasPicked, Waits}
+use Rattle.nvme_log.specs.Answers.{Answer, by_answers}
+use Rattle.nvme_log.specs.Effects.{made_by, is_effect}
+use Rattle.nvme_log.specs.Account.{PostsOwnBy}
+use Rattle.nvme_log.specs.Aborts.{is_index}
+use Rattle.nvme_ctrl.specs.Notes.{Notes, Logged, Answered, EachNote, logged}
+use Rattle.nvme_ctrl.specs.Tags.{answer_of, answers}
+use Rattle.nvme_ctrl.specs.Account.{IsLawfulEvent, IsLawful, IsAccount, IsCarriedOut, FetchesSubmitted, PostsOnFreeSlot, PostsWhatIsThrough}
+use Rattle.nvme_ctrl.specs.Steps.{with_logged, picked_notes, HasCarriedOut}
+use Rattle.nvme_ctrl.specs.declared.slot.Slot.{Slot}
+use Rattle.nvme_ctrl.specs.declared.state.Controller.{Controller}
+use Rattle.nvme_ctrl.specs.kept.Content.{Candidate, Ready, PendingDelete, Content, with_ready}
+use Rattle.nvme_ctrl.specs.kept.Standing.{Holds, HasOwnStatus, IsInHand, hand_of, answer_in}
+use Rattle.nvme_ctrl.specs.inside.Steps.{applied_to, told}
+use Rattle.nvme_ctrl.specs.inside.Next.{IsNext, EachNext}
+use Rattle.nvme_ctrl.specs.kept.Kept.{Item, Items, IsWaitingIn, candidate_of, untaken}
+use Rattle.nvme_ctrl.specs.inside.Loose.{Keeps}
+use Rattle.nvme_ctrl.specs.inside.Carrying.{IsApplied, HasBegun}
+use Rattle.nvme_ctrl.specs.kept.State.{picked_in}
+use Rattle.nvme_ctrl.proofs.AfterSteps.{IsChosen, after_admin, admin_past}
+use Rattle.nvme_ctrl.proofs.Standing.{holds-admin}
+use Rattle.nvme_ctrl.proofs.AdminEvents.{next-admin}
+use Rattle.nvme_ctrl.proofs.AdminPick.{deleted_region, target_region}
+use Rattle.nvme_ctrl.proofs.Counts.{outstanding-pick}
+use Rattle.nvme_ctrl.proofs.EffectEvents.{AreEffects, made_are_effects, made_leave_region, effects_leave_fetched}
+use Rattle.nvme_ctrl.proofs.LaterNotes.{logged-with, answer_of-logged, keeps-picked, IsOther, keeps-answered}
+use Rattle.nvme_ctrl.proofs.OwnStatus.{IsAnswerable, ready_is_answerable, answerable_is_done, candidates_wait, oldest_waits, waiting_is_unaborted, All-unmap}
+use Rattle.nvme_ctrl.proofs.SlotItems.{All-parts}
+use Rattle.nvme_ctrl.proofs.Windows.{window-below, window-ascending}
+
+-- ---- lawful events
+own_of-effect : (rules : FrontRules) (notes : Notes) (e : Event) → is_effect e ≡ true → PostsOwnBy rules (by_answers (answers notes)) (logged notes) e
+own_of-effect rules notes (event.Post c r i cqe) h = cc h
+own_of-effect rules notes e h = tt
+
+submitted-effect : (rules : FrontRules) (notes : Notes) (e : Event) → is_effect e ≡ true → FetchesSubmitted rules notes e
+submitted-effect rules notes (event.Fetch r i entry) h = cc h
+submitted-effect rules notes e h = tt
+
+free-effect : (rules : FrontRules) (notes : Notes) (e : Event) → is_effect e ≡ true → PostsOnFreeSlot rules notes e
+free-effect rules notes (event.Post c r i cqe) h = cc h
+free-effect rules notes e h = tt
+
+through-effect : (notes : Notes) (e : Event) → is_effect e ≡ true → PostsWhatIsThrough notes e
+through-effect notes (event.Post c r i cqe) h = cc h
+through-effect notes e h = tt
+
+-- an effect that is next is lawful
+lawful-effect : (rules : FrontRules) (notes : Notes) (e : Event) → is_effect e ≡ true → IsNext rules (logged notes) e → IsLawfulEvent rules notes e
+lawful-effect rules notes e is n = record {
+  index_counts = n.index_counts;
+  served_while_open = n.served_while_open;
+  observed = n.observed;
+  effects_at_once = n.effects_at_once;
+  deletes = n.deletes;
+  posts_own = own_of-effect rules notes e is;
+  leaves_places = n.leaves_places;
+  fetches_submitted = submitted-effect rules notes e is;
+  posts_on_free_slot = free-effect rules notes e is;
+  posts_what_is_through = through-effect notes e is;
+}
+
+-- so is each of some
+each-effect : (rules : FrontRules) (es : List Event) (notes : Notes) → AreEffects es → EachNext (IsNext rules) es (logged notes) → EachNote (IsLawful rules) notes
+    → EachNote (IsLawful rules) (with_logged es notes)
+each-effect rules [] notes are next each = each
+each-effect rules (e ∷ rest) notes are next each =
+    each-effect rules rest (Logged e ∷ notes) are.1 next.1 (lawful-effect rules notes e are.0 next.0, each)
+
+-- ---- lists
+pub last_of : {X : Type 0} (P : X → Type 0) (xs : List X) (x : X) → All P (xs ++ x ∷ []) → P x
+last_of P [] x h = All-head P x [] h
+last_of P (y ∷ ys) x h = last_of P ys x (All-tail P y (ys ++ x ∷ []) h)
+
+-- the first of a list is so to each of the others
+first_pairs : {X : Type 0} (R : X → X → Type 0) (x : X) (xs : List X) → AllPairs R (x ∷ xs) → All (R x) xs
+first_pairs R x xs h k d lt = h 0 (suc k) d (omega arith) (omega (arith, lt))
+
+-- where none is picked, none is in a region
+pub none_picked_in : (c : Controller) (r : ℕ) → c.picked ≡ 0 → picked_in c r ≡ 0
+none_picked_in c r none = by (r == c.picked_region) where
+  by : (b : Bool) → (if b then c.picked else 0) ≡ 0
+  by true = none
+  by false = refl
+
+-- a place that is neither aborted nor waiting was picked
+pub was_picked : (past : Past) (r i : ℕ) → is_aborted past r i ≡ false → is_waiting (fate_of past r i) ≡ false → is_picked (fate_of past r i) ≡ true
+was_picked past r i clear done = by (is_aborted past r i) (nat_lt (unaborted_below past r i) (picked past r)) clear done where
+  by : (a b : Bool) → a ≡ false → is_waiting (if a then WasAborted else (if b then WasPicked else Waits)) ≡ false
+      → is_picked (if a then WasAborted else (if b then WasPicked else Waits)) ≡ true
+  by true b clear done = absurd (cc clear)
+  by false true clear done = refl
+  by false false clear done = absurd (cc done)
+
+-- ---- the pick and what the command makes
+module _ (rules : FrontRules) (late : Bool) (notes : Notes) (a : Controller) (slots : List Slot) (tag : ℕ) (did : Effect) (h : IsApplied rules late notes a slots tag did) where
+  abbrev v : Verdict
+  v = verdict_in did
+
+  abbrev pub made : List Event
+  made = made_by (logged notes) v
+
+  -- the notes with what it makes
+  abbrev pub made_notes : Notes
+  made_notes = with_logged made (picked_notes notes h.pick)
+
+  abbrev pub applied : Content
+  applied = applied_to h.before h.picked h.table
+
+  pub are_effects : AreEffects made
+  are_effects = made_are_effects (logged notes) v
+
+  pub logged_is : logged made_notes ≡ admin_past (logged notes) (event.Pick (observation_of (logged notes)) h.pick) v
+  logged_is = logged-with made (picked_notes notes h.pick)
+
+  pub unanswered : answer_of made_notes 0 h.candidate.index ≡ None
+  unanswered = answer_of-logged made (picked_notes notes h.pick) 0 h.candidate.index ∙ h.unanswered
+
+  -- the controller keeps the same at them
+  pub keeps_made : Keeps rules made_notes a slots applied h.items
+  keeps_made = keeps-picked rules made notes (observation_of (logged notes)) h.pick a slots applied h.items are_effects h.of_admin h.keeps
+
+  -- what the command leaves holds there
+  pub holds_made : (c : ℕ) (board : BoardView) → IsChosen rules (logged notes) h.before c h.picked board v
+      → Holds rules late (logged made_notes) (after_admin (logged notes) applied h.candidate c board v)
+  holds_made c board chosen =
+      subst (λ (p : Past). Holds rules late p (after_admin (logged notes) applied h.candidate c board v)) (sym logged_is)
+      (subst (λ (w : Verdict). Holds rules late (admin_past (logged notes) (event.Pick (observation_of (logged notes)) h.pick) w) (after_admin (logged notes) applied h.candidate c board w)) (sym h.verdict_is)
+      (holds-admin rules late (logged notes) h.before (observation_of (logged notes)) h.pick h.picked h.candidate h.rest h.table c board h.holds h.can_pick refl h.of_admin h.one h.can_apply
+      (subst (IsChosen rules (logged notes) h.before c h.picked board) h.verdict_is chosen)))
+
+  -- each of the notes is lawful
+  pub each_made : late ≡ false → EachNote (IsLawful rules) made_notes
+  each_made on_time =
+      let next : EachNext (IsNext rules) (event.Pick (observation_of (logged notes)) h.pick ∷ made) (logged notes) =
+      subst (λ (w : Verdict). EachNext (IsNext rules) (event.Pick (observation_of (logged notes)) h.pick ∷ made_by (logged notes) w) (logged notes)) (sym h.verdict_is)
+      (next-admin outstanding-pick rules late (logged notes) h.before (observation_of (logged notes)) h.pick h.picked h.candidate h.rest h.table h.holds h.can_pick refl h.of_admin h.one h.can_apply on_time) in
+      let n = next.0 in
+      each-effect rules made (picked_notes notes h.pick) are_effects next.1 (
+        record {
+          index_counts = n.index_counts;
+          served_while_open = n.served_while_open;
+          observed = n.observed;
+          effects_at_once = n.effects_at_once;
+          deletes = n.deletes;
+          posts_own = tt;
+          leaves_places = n.leaves_places;
+          fetches_submitted = tt;
+          posts_on_free_slot = tt;
+          posts_what_is_through = tt;
+        },
+        (h.account on_time).each,
+      )
+
+  -- the candidate is the oldest of the admin queue
+  pub first_waits : slice_get (waiting (logged notes) 0) 0 ≡ Some h.candidate.index
+  first_waits = oldest_waits (logged notes) 0 (h.before.sq 0) h.candidate h.rest (h.holds.regions 0) h.can_apply.oldest
+
+  -- which isn't aborted
+  pub unaborted : is_aborted (logged made_notes) 0 h.candidate.index ≡ false
+  unaborted =
+      let waits : is_waiting (fate_of (logged notes) 0 h.candidate.index) ≡ true =
+      All-head (λ (c : Candidate). is_waiting (fate_of (logged notes) 0 c.index) ≡ true) h.candidate h.rest
+      (All-same (λ (c : Candidate). is_waiting (fate_of (logged notes) 0 c.index) ≡ true) (h.candidate ∷ h.rest) (h.before.sq 0).window (sym h.can_apply.oldest)
+      (candidates_wait (logged notes) 0 (h.before.sq 0) (h.holds.regions 0))) in
+      ap (λ (p : Past). is_aborted p 0 h.candidate.index) logged_is
+      ∙ made_leave_region (logged notes) (event.Pick (observation_of (logged notes)) h.pick ∷ logged notes) v 0 h.candidate.index
+      (λ qid queue begins is same. deleted_region rules late (logged notes) h.before (observation_of (logged notes)) h.pick h.picked h.holds h.can_pick h.of_admin h.candidate qid queue
+      (sym h.verdict_is ∙ begins) is (sym same))
+      (λ sqid queue is same. target_region rules late (logged notes) h.before (observation_of (logged notes)) h.pick h.picked h.holds h.can_pick h.of_admin sqid queue is (sym same))
+      ∙ waiting_is_unaborted (logged notes) 0 h.candidate.index waits
+
+  -- ---- its answer
+  -- the candidate is one of those that were fetched
+  there : h.candidate.index < length (fetched (logged made_notes) 0)
+  there =
+      let below : h.candidate.index < length (fetched (logged notes) 0) =
+      All-head (λ (c : Candidate). c.index < length (fetched (logged notes) 0)) h.candidate h.rest
+      (All-same (λ (c : Candidate). c.index < length (fetched (logged notes) 0)) (h.candidate ∷ h.rest) (h.before.sq 0).window (sym h.can_apply.oldest)
+      (window-below (logged notes) 0 (h.before.sq 0) (h.holds.regions 0))) in
+      subst (λ (xs : List Sqe). h.candidate.index < length xs)
+      (sym (ap (λ (p : Past). fetched p 0) logged_is ∙ effects_leave_fetched 0 made (event.Pick (observation_of (logged notes)) h.pick ∷ logged notes) are_effects)) below
+
+  -- no other command has its place
+  others : (r : ℕ) → All (λ (it : Item). IsOther h.candidate.index it.place) (h.items.windows r)
+  others r = elim (cases_eq r 0) [
+    | inl same ↦ subst (λ (x : ℕ). All (λ (it : Item). IsOther h.candidate.index it.place) (h.items.windows x)) (sym same)
+        (All-weaker (λ (it : Item). h.candidate.index < it.place.index) (λ (it : Item). IsOther h.candidate.index it.place) (λ it above. index_apart it.place above) (h.items.windows 0)
+        (All-unmap (λ (c : Candidate). h.candidate.index < c.index) candidate_of (h.items.windows 0)
+        (All-same (λ (c : Candidate). h.candidate.index < c.index) (map candidate_of (h.items.windows 0)) h.rest rest_is later)))
+    | inr other ↦ All-weaker (IsWaitingIn slots r) (λ (it : Item). IsOther h.candidate.index it.place) (λ it w. region_apart it.place (λ e. other (sym w.place ∙ e))) (h.items.windows r) (h.keeps.has.window_items r)
+  ] where
+    index_apart : (p : Place) → h.candidate.index < p.index → IsOther h.candidate.index p
+    index_apart p above = false_from_ne_true (0 == p.region && h.candidate.index == p.index) (λ e.
+        let same : h.candidate.index ≡ p.index = eqb-true h.candidate.index p.index (and_parts (0 == p.region) (h.candidate.index == p.index) e).1 in
+        absurd (omega (arith, same, above)))
+
+    region_apart : (p : Place) → (p.region ≡ 0 → ⊥) → IsOther h.candidate.index p
+    region_apart p not = rw (ne_eqb 0 p.region (λ e. not (sym e))) refl
+
+    later : All (λ (c : Candidate). h.candidate.index < c.index) h.rest
+    later = first_pairs (λ (x y : Candidate). x.index < y.index) h.candidate h.rest
+        (subst (λ (cs : List Candidate). AllPairs (λ (x y : Candidate). x.index < y.index) cs) h.can_apply.oldest (window-ascending (logged notes) 0 (h.before.sq 0) (h.holds.regions 0)))
+
+    rest_is : map candidate_of (h.items.windows 0) ≡ h.rest
+    rest_is =
+        ap (λ (n : ℕ). map candidate_of (drop n (h.items.windows 0))) (sym (none_picked_in a 0 h.none_picked))
+        ∙ sym (h.keeps.has.window_is 0) ∙ ap (λ (cs : List Candidate). drop 1 cs) h.can_apply.oldest
+
+  outs_other : All (λ (it : Item). IsOther h.candidate.index it.place) h.items.outs
+  outs_other =
+      All-weaker (λ (it : Item). (it.place.region == 0) ≡ false) (λ (it : Item). IsOther h.candidate.index it.place)
+      (λ it io. rw (ne_eqb 0 it.place.region (λ e. let no = sym io ∙ eq-eqb it.place.region 0 (sym e) in cc no)) refl) h.items.outs
+      (All-parts (λ (it : Item). (it.place.region == 0) ≡ false) h.items.outs (untaken a h.items)
+      (All-unmap (λ (p : Place). (p.region == 0) ≡ false) (λ (it : Item). it.place) (h.items.outs ++ untaken a h.items)
+      (subst (All (λ (p : Place). (p.region == 0) ≡ false)) h.keeps.has.hand_is
+      (All-weaker (IsInHand (logged notes)) (λ (p : Place). (p.region == 0) ≡ false) (λ p i. i.io) h.before.hand h.holds.hand.each)))).0
+
+  -- the controller keeps the same when it is answered
+  pub keeps_told : (answer : Answer) → Keeps rules (Answered 0 h.candidate.index answer ∷ made_notes) a slots applied h.items
+  keeps_told answer = keeps-answered rules made_notes h.candidate.index answer a slots applied h.items unanswered there others outs_other keeps_made
+
+  -- ---- it was answered
+  module _ (before : Content) (status : StatusCode) (dw0 : ℕ) (c : ℕ) (board : BoardView) (chosen : IsChosen rules (logged notes) h.before c h.picked board v)
+      (is : after_admin (logged notes) applied h.candidate c board v ≡ with_ready before 0 (told h.candidate status dw0)) (none : before.deletion ≡ None) where
+    abbrev t : Ready
+    t = told h.candidate status dw0
+
+    abbrev k : Content
+    k = with_ready before 0 t
+
+    holds_told : Holds rules late (logged made_notes) k
+    holds_told = subst (Holds rules late (logged made_notes)) is (holds_made c board chosen)
+
+    own : late ≡ false → HasOwnStatus rules (logged made_notes) t
+    own on_time = last_of (HasOwnStatus rules (logged made_notes)) (before.cq 0).ready t ((holds_told.own on_time).own_statuses 0)
+
+    done : is_waiting (fate_of (logged made_notes) 0 h.candidate.index) ≡ false
+    done =
+        answerable_is_done (logged made_notes) (hand_of k) 0 h.candidate.index
+        (last_of (λ (x : Ready). IsAnswerable (logged made_notes) (hand_of k) x.place.region x.place.index) (before.cq 0).ready t
+        (ready_is_answerable (logged made_notes) k (hand_of k) holds_told.ready 0))
+
+    carried : late ≡ false → IsCarriedOut rules made_notes h.candidate.index (answer_in t)
+    carried on_time =
+        let o = own on_time in
+        record {
+          entry = o.entry;
+          is_there = o.is_there;
+          picked = was_picked (logged made_notes) 0 h.candidate.index unaborted done;
+          whole = (holds_told.own on_time).effects_whole;
+          finished = ap (is_index h.candidate.index) (holds_told.deletion.place_is ∙ ap (option_map (λ (d : PendingDelete). d.place.index)) none);
+          status = o.status;
+          dw0 = o.dw0;
+        }
+
+    account_told : late ≡ false → IsAccount rules (Answered 0 h.candidate.index (answer_in t) ∷ made_notes)
+    account_told on_time = record {
+      each = (record { first = unanswered; executed = carried on_time }, each_made on_time);
+      lawful = holds_told.arbitration.lawful;
+      effects_whole = (holds_told.own on_time).effects_whole;
+    }
+
+    -- the controller stands there
+    pub carried_told : (b : Controller) (pool : List Slot) (g : Items) → Keeps rules (Answered 0 h.candidate.index (answer_in t) ∷ made_notes) b pool k g
+        → HasCarriedOut rules late notes v b pool
+    carried_told b pool g s = record {
+      pick = h.pick;
+      of_admin = h.of_admin;
+      next = sym h.can_pick.lawful;
+      index = h.candidate.index;
+      oldest = first_waits;
+      answer = Some (answer_in t);
+      stands = record { content = k; items = g; holds = holds_told; numbers = s.numbers; has = s.has; doorbells = s.doorbells; tags = s.tags; account = account_told };
+    }
+
+  -- ---- it began a deletion, and is answered later
+  pub carried_later : (c : ℕ) (board : BoardView) → IsChosen rules (logged notes) h.before c h.picked board v → (k : Content)
+      → after_admin (logged notes) applied h.candidate c board v ≡ k → (b : Controller) (pool : List Slot) → HasBegun rules made_notes k b pool
+      → HasCarriedOut rules late notes v b pool
+  carried_later c board chosen k is b pool s =
+      let holds : Holds rules late (logged made_notes) k = subst (Holds rules late (logged made_notes)) is (holds_made c board chosen) in
+      record {
+        pick = h.pick;
+        of_admin = h.of_admin;
+        next = sym h.can_pick.lawful;
+        index = h.candidate.index;
+        oldest = first_waits;
+        answer = None;
+        stands = record {
+          content = k;
+          items = s.items;
+          holds = holds;
+          numbers = s.numbers;
+          has = s.has;
+          doorbells = s.doorbells;
+          tags = s.tags;
+          account = λ on_time. record { each = each_made on_time; lawful = holds.arbitration.lawful; effects_whole = (holds.own on_time).effects_whole };
+        };
+      }

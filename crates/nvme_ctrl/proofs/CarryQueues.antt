@@ -1,0 +1,108 @@
+-- The beginning of a deletion, carried out.
+use Rattle.std.proofs.Common.{◌≡◌, ℕ, ◌+◌, ◌<◌, ◌^◌, Bool, true, List, ◌∷◌, length, map, Some, None, refl, sym, ap, ◌∙◌, subst, arith}
+use Rattle.std.specs.Prelude.{IsSome, All}
+use Rattle.std.proofs.lemmas.Option.{same_Some}
+use Rattle.std.proofs.lemmas.List.Elements.{All-same}
+use Rattle.nvme_arbiter.specs.Board.{BoardView}
+use Rattle.nvme_arbiter.specs.Layout.{board_of}
+use Rattle.nvme_arbiter.specs.Queues.{queue_at}
+use Rattle.nvme_admin.specs.Effects.{verdict_in}
+use Rattle.nvme_admin.specs.declared.effect.Effect.{Effect}
+use Rattle.nvme_admin.specs.declared.effect.Effect.TheVariants as effect
+use Rattle.nvme_log.specs.declared.event.Event.{Event}
+use Rattle.nvme_log.specs.declared.event.Event.TheVariants as event
+use Rattle.nvme_log.specs.Rules.{FrontRules, Past}
+use Rattle.nvme_log.specs.Queues.{Queue, open_sq}
+use Rattle.nvme_log.specs.Places.{is_aborted, waiting, observation_of}
+use Rattle.nvme_log.specs.Effects.{closing_of}
+use Rattle.nvme_ctrl.specs.Notes.{Notes, logged}
+use Rattle.nvme_ctrl.specs.Tags.{answer_of}
+use Rattle.nvme_ctrl.specs.Steps.{HasCarriedOut}
+use Rattle.nvme_ctrl.specs.declared.slot.Slot.{Slot}
+use Rattle.nvme_ctrl.specs.declared.state.Controller.{Controller}
+use Rattle.nvme_ctrl.specs.kept.Content.{Candidate, SqContent, Content}
+use Rattle.nvme_ctrl.specs.kept.Kept.{Items}
+use Rattle.nvme_ctrl.specs.inside.Loose.{IsLoose, Keeps}
+use Rattle.nvme_ctrl.specs.inside.Carrying.{IsApplied, IsDroppable, deleting, HasBegun}
+use Rattle.nvme_ctrl.specs.kept.Pool.{slot_at}
+use Rattle.nvme_ctrl.proofs.AfterSteps.{with_events, deleting_from}
+use Rattle.nvme_ctrl.proofs.AppliedQueues.{region_there, named_region, named_attached, named_on_board, begins_queue, begins_open, begins_io}
+use Rattle.nvme_ctrl.proofs.CarriedOut.{made_notes, applied, logged_is, unanswered, keeps_made, carried_later}
+use Rattle.nvme_ctrl.proofs.FewUnposted.{few_unposted}
+use Rattle.nvme_ctrl.proofs.OwnStatus.{All-unmap, aborts_all}
+
+-- ---- the deletion of a submission queue begins
+module _ (rules : FrontRules) (late : Bool) (notes : Notes) (a : Controller) (slots : List Slot) (tag qid region : ℕ)
+    (h : IsApplied rules late notes a slots tag (effect.BeginDelete qid region)) where
+  abbrev did : Effect
+  did = effect.BeginDelete qid region
+
+  abbrev k : Content
+  k = applied rules late notes a slots tag did h
+
+  abbrev now : Notes
+  now = made_notes rules late notes a slots tag did h
+
+  io : qid ≡ 0 → ⊥
+  io = begins_io rules late notes a slots tag qid region h
+
+  is_open : open_sq (logged notes) qid ≡ Some (begins_queue rules late notes a slots tag qid region h)
+  is_open = begins_open rules late notes a slots tag qid region h
+
+  -- its queue is on the board
+  pub begins_on_board : IsSome (queue_at (board_of a.board).queues qid)
+  begins_on_board =
+      let here = named_on_board rules late notes a slots tag did h qid (begins_queue rules late notes a slots tag qid region h) is_open io in
+      rw (ap (λ (v : BoardView). queue_at v.queues qid) h.keeps.numbers.board_is ∙ here) refl
+
+  left : k.sq region ≡ h.before.sq region
+  left = named_region rules late notes a slots tag did h qid (begins_queue rules late notes a slots tag qid region h) is_open io
+
+  abbrev opened : ℕ
+  opened = (named_attached rules late notes a slots tag did h qid (begins_queue rules late notes a slots tag qid region h) is_open io).cq_region
+
+  attached : (h.before.sq region).queue ≡ Some (record { qid = qid; cq_region = opened })
+  attached = (named_attached rules late notes a slots tag did h qid (begins_queue rules late notes a slots tag qid region h) is_open io).attached
+
+  there : (region < 65) × (opened < 65)
+  there = region_there rules late notes a slots tag did h region (record { qid = qid; cq_region = opened }) attached
+
+  -- its candidates are aborted
+  all_aborted : All (λ (x : Candidate). is_aborted (logged now) region x.index ≡ true) (k.sq region).window
+  all_aborted =
+      let closing : Past = event.Closing qid region ∷ event.Pick (observation_of (logged notes)) h.pick ∷ logged notes in
+      let made : logged now ≡ with_events (map (λ (i : ℕ). event.Abort region i) (waiting (logged notes) region)) closing =
+      logged_is rules late notes a slots tag did h
+      ∙ ap (λ (es : List Event). with_events es (event.Pick (observation_of (logged notes)) h.pick ∷ logged notes)) (ap (closing_of (logged notes) qid) is_open) in
+      let are : map (λ (c : Candidate). c.index) (k.sq region).window ≡ waiting (logged notes) region =
+      ap (λ (s : SqContent). map (λ (c : Candidate). c.index) s.window) left ∙ sym (h.holds.regions region).waiting_is in
+      All-unmap (λ (i : ℕ). is_aborted (logged now) region i ≡ true) (λ (c : Candidate). c.index) (k.sq region).window
+      (All-same (λ (i : ℕ). is_aborted (logged now) region i ≡ true) (map (λ (c : Candidate). c.index) (k.sq region).window) (waiting (logged notes) region) are
+      (subst (λ (p : Past). All (λ (i : ℕ). is_aborted p region i ≡ true) (waiting (logged notes) region)) (sym made) (aborts_all region (waiting (logged notes) region) closing)))
+
+  droppable : IsDroppable now k qid region opened
+  droppable = record { there = there.0; posts_there = there.1; attached = ap (λ (s : SqContent). s.queue) left ∙ attached; are_aborted = all_aborted }
+
+  -- few are unposted
+  few : (k.sq region).unposted + length (k.sq region).window < 2 ^ 16
+  few =
+      let unposted = few_unposted rules late (logged notes) h.before h.holds h.can_pick.none_pending region (h.holds.queues.sq_there region (record { qid = qid; cq_region = opened }) attached) in
+      let waits = (h.holds.regions region).few_waiting in
+      let places = h.can_pick.places in
+      let same = ap (λ (s : SqContent). s.unposted) left in
+      let as_many = ap (λ (s : SqContent). length s.window) left in
+      omega arith
+
+  -- it began
+  pub ended_begun : (b : Controller) (pool : List Slot)
+      → ((rules : FrontRules) (notes : Notes) (k : Content) (g : Items) (c : ℕ) (candidate : Candidate) → Keeps rules notes a slots k g → a.picked ≡ 0 → IsLoose slots g tag
+      → (slot_at slots tag).entry ≡ candidate.entry → answer_of notes 0 candidate.index ≡ None → IsDroppable notes k qid region c → (k.sq region).unposted + length (k.sq region).window < 2 ^ 16
+      → HasBegun rules notes (deleting k qid region c candidate) b pool)
+      → HasCarriedOut rules late notes (verdict_in did) b pool
+  ended_begun b pool begun =
+      carried_later rules late notes a slots tag did h opened h.picked
+      (λ queue open_too.
+      subst (λ (q : Queue). (h.before.sq q.region).queue ≡ Some (record { qid = qid; cq_region = opened }))
+      (same_Some (begins_queue rules late notes a slots tag qid region h) queue (sym is_open ∙ open_too)) attached)
+      (deleting k qid region opened h.candidate) (ap (deleting_from k qid opened h.candidate) is_open) b pool
+      (begun rules now k h.items opened h.candidate (keeps_made rules late notes a slots tag did h) h.none_picked h.loose h.entry (unanswered rules late notes a slots tag did h) droppable few)

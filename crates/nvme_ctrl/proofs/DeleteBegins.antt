@@ -1,0 +1,225 @@
+-- The deletion of a submission queue begins: its candidates are dropped, and its command waits in a slot of its own.
+use Rattle.std.proofs.Common.{◌≡◌, ◌≢◌, ℕ, ◌+◌, ◌<◌, ◌≤◌, ◌^◌, List, [], ◌++◌, length, map, drop, Some, None, refl, sym, ap, ◌∙◌, subst, arith, inl, inr, eq-eqb}
+use Rattle.std.specs.Prelude.{slice_set, IsTrue, min}
+use Rattle.std.proofs.lemmas.Bool.{cases_eq}
+use Rattle.std.proofs.lemmas.List.{length-map}
+use Rattle.nvme_arbiter.specs.Board.{BoardView}
+use Rattle.nvme_arbiter.specs.Layout.{is_arbiter, board_of}
+use Rattle.nvme_arbiter.specs.declared.board_fields.BoardFields.{BoardFields}
+use Rattle.nvme_arbiter.specs.declared.arbiter_fields.ArbiterFields.{ArbiterFields}
+use Rattle.nvme_entry.specs.declared.submission.Sqe.{Sqe}
+use Rattle.nvme_log.specs.Rules.{FrontRules}
+use Rattle.nvme_log.specs.Dispatches.{place_at}
+use Rattle.nvme_ctrl.specs.Notes.{Notes, logged}
+use Rattle.nvme_ctrl.specs.Tags.{answer_of, holder, all_posts}
+use Rattle.nvme_ctrl.specs.declared.slot.Slot.{Slot}
+use Rattle.nvme_ctrl.specs.declared.state.SqState.{SqState}
+use Rattle.nvme_ctrl.specs.declared.state.Controller.{Controller}
+use Rattle.nvme_ctrl.specs.kept.Content.{Candidate, SqContent, Content, put_sq, put_cq, with_sq}
+use Rattle.nvme_ctrl.specs.inside.Steps.{aborted}
+use Rattle.nvme_ctrl.specs.kept.Kept.{Item, ReadyItem, Items, IsWaitingIn, IsOutIn, IsReadyIn, HasItems, HoldsTags, candidate_of, is_free}
+use Rattle.nvme_ctrl.specs.inside.Loose.{IsLoose, Keeps}
+use Rattle.nvme_ctrl.specs.inside.Carrying.{IsDroppable, dropped, HasDropped, deleting, HasBegun}
+use Rattle.nvme_ctrl.specs.kept.Pool.{slot_at, item_at, put_item}
+use Rattle.nvme_ctrl.specs.kept.State.{sq_at}
+use Rattle.nvme_ctrl.proofs.CarriedOut.{none_picked_in}
+use Rattle.nvme_ctrl.proofs.Dropping.{put_sq-twice, window_length}
+use Rattle.nvme_ctrl.proofs.OwnStatus.{All-unmap}
+use Rattle.nvme_ctrl.proofs.Pools.{length-put_item, slot_at-put_item_same, item_at-put_item_other, chain-put_item}
+use Rattle.nvme_ctrl.proofs.SlotItems.{All-both, same_state, waiting_stays, out_stays, ready_stays}
+use Rattle.nvme_ctrl.proofs.Windowed.{keeps_region, keeps_board}
+
+-- ---- the command waits
+-- what is kept, where a slot that is in no list has the command of the deletion
+module _ (rules : FrontRules) (notes : Notes) (a : Controller) (slots : List Slot) (k : Content) (g : Items) (h : Keeps rules notes a slots k g) (tag qid region : ℕ) (loose : IsLoose slots g tag)
+    (candidate : Candidate) (entry : (slot_at slots tag).entry ≡ candidate.entry) (unanswered : answer_of notes 0 candidate.index ≡ None) where
+  abbrev put : Slot
+  put = record (slot_at slots tag) { state = 6 }
+
+  abbrev pool : List Slot
+  pool = put_item slots tag put
+
+  abbrev pending : Controller
+  pending = record a { deletion = record { pending = 1; region = region; qid = qid; tag = tag } }
+
+  abbrev waiting_content : Content
+  waiting_content = record k { deletion = Some (record { place = place_at 0 candidate.index; cid = candidate.entry.cid; qid = qid; region = region }) }
+
+  abbrev later : Items
+  later = record g { delete_index = candidate.index }
+
+  size : length pool ≡ length slots
+  size = length-put_item slots tag put
+
+  others : (y : ℕ) → y ≢ tag → item_at pool y ≡ item_at slots y
+  others = item_at-put_item_other slots tag put
+
+  here : slot_at pool tag ≡ record put { next = (slot_at slots tag).next }
+  here = slot_at-put_item_same slots tag put loose.inside
+
+  had_state : (x n : ℕ) → n ≤ 3 → (slot_at pool x).state ≡ n → (slot_at slots x).state ≡ n
+  had_state x n low is = elim (cases_eq x tag) [
+    | inl same ↦ absurd (let at : (slot_at pool tag).state ≡ n = subst (λ (y : ℕ). (slot_at pool y).state ≡ n) same is in
+        let six = ap (λ (s : Slot). s.state) here in omega (arith, at, six, low))
+    | inr other ↦ ap (λ (s : Slot). s.state) (sym (others x other)) ∙ is
+  ]
+
+  has_pending : HasItems pending pool waiting_content later
+  has_pending = let m = h.has in record {
+    window_chain = λ r. chain-put_item slots _ _ tag put (m.window_chain r);
+    window_items = λ r. All-both (λ (it : Item). it.tag ≢ tag) (IsWaitingIn slots r) (IsWaitingIn pool r) (λ it. waiting_stays slots pool tag size others r it) (g.windows r)
+        (All-unmap (λ (x : ℕ). x ≢ tag) (λ (it : Item). it.tag) (g.windows r) (loose.windows r)) (m.window_items r);
+    window_is = m.window_is;
+    picked_there = m.picked_there;
+    outs_items = All-both (λ (it : Item). it.tag ≢ tag) (IsOutIn slots) (IsOutIn pool) (out_stays slots pool tag size others) g.outs
+        (All-unmap (λ (x : ℕ). x ≢ tag) (λ (it : Item). it.tag) g.outs loose.outs) m.outs_items;
+    outs_apart = m.outs_apart;
+    outs_all = λ x is. m.outs_all x (had_state x 2 (omega arith) is);
+    hand_is = m.hand_is;
+    ready_chain = λ x. chain-put_item slots _ _ tag put (m.ready_chain x);
+    ready_items = λ x. All-both (λ (it : ReadyItem). it.tag ≢ tag) (IsReadyIn slots) (IsReadyIn pool) (ready_stays slots pool tag size others) (g.readies x)
+        (All-unmap (λ (y : ℕ). y ≢ tag) (λ (it : ReadyItem). it.tag) (g.readies x) (loose.readies x)) (m.ready_items x);
+    ready_is = m.ready_is;
+    deletion_is = ap (λ (e : Sqe). Some (record { place = place_at 0 candidate.index; cid = e.cid; qid = qid; region = region })) (sym (ap (λ (s : Slot). s.entry) here ∙ entry));
+    deletion_item = λ some. ap (λ (s : Slot). s.state) here;
+    deletion_inside = λ some. subst (λ (n : ℕ). tag < n) (sym size) loose.inside;
+    free_chain = chain-put_item slots _ _ tag put m.free_chain;
+    free_items = All-both (λ (x : ℕ). x ≢ tag) (is_free slots) (is_free pool) (λ x other. same_state slots pool tag size others x 0 other) g.free loose.free m.free_items;
+    few = subst (λ (n : ℕ). n < 2 ^ 16) (sym size) m.few;
+  }
+
+  tags_pending : HoldsTags notes pending pool later
+  tags_pending = let m = h.tags in record {
+    untaken_are = m.untaken_are;
+    outs_held = m.outs_held;
+    readies_held = m.readies_held;
+    none_held = λ x not_out not_answered. elim (cases_eq x tag) [
+      | inl same ↦ subst (λ (y : ℕ). holder notes y ≡ None) (sym same) (m.none_held tag loose.not_out loose.not_answered)
+      | inr other ↦ let state = ap (λ (s : Slot). s.state) (others x other) in
+          m.none_held x (λ e. not_out (state ∙ e)) (λ e. not_answered (state ∙ e))
+    ];
+    through = m.through;
+    windows_unanswered = m.windows_unanswered;
+    outs_unanswered = m.outs_unanswered;
+    deletion_unanswered = λ some. unanswered;
+    none_answered = m.none_answered;
+    answered_held = λ x is. m.answered_held x (had_state x 3 (omega arith) is);
+    hand_entries = m.hand_entries;
+    free_count = m.free_count ∙ ap (λ (n : ℕ). n + all_posts (logged notes)) (sym size);
+  }
+
+  pub begun_pending : HasBegun rules notes waiting_content pending pool
+  begun_pending = record {
+    items = later;
+    numbers = (let n = h.numbers in record {
+      table_is = n.table_is;
+      sized = n.sized;
+      board_is = n.board_is;
+      is_arbiter = n.is_arbiter;
+      outstanding_is = n.outstanding_is;
+      sq_queue = n.sq_queue;
+      sq_unposted = n.sq_unposted;
+      sq_slots = n.sq_slots;
+      cq_slots = n.cq_slots;
+      sq_some = n.sq_some;
+      sq_size = n.sq_size;
+      cq_size = n.cq_size;
+    });
+    has = has_pending;
+    doorbells = (let d = h.doorbells in record { sqs = d.sqs; cqs = d.cqs; phases = d.phases; no_tails = d.no_tails; no_heads = d.no_heads; no_posts = d.no_posts });
+    tags = tags_pending;
+  }
+
+-- ---- the unposted places
+-- the content after all candidates of a region count as unposted, and are dropped
+dropped_counted : (k : Content) (qid region c n : ℕ) → dropped (with_sq k region (record (k.sq region) { unposted = n })) qid region c
+    ≡ (record k {
+      sq = put_sq k.sq region (record (k.sq region) { window = []; unposted = n });
+      cq = put_cq k.cq c (record (k.cq c) { ready = (k.cq c).ready ++ map (aborted qid region) (k.sq region).window });
+    })
+dropped_counted k qid region c n = λ t. record k { sq = λ x. sq x t; cq = λ x. cq x t } where
+  s : SqContent
+  s = record (k.sq region) { unposted = n }
+
+  here : put_sq k.sq region s region ≡ s
+  here = rw (eq-eqb region region refl) refl
+
+  sq : (x : ℕ) → put_sq (put_sq k.sq region s) region (record (put_sq k.sq region s region) { window = [] }) x ≡ put_sq k.sq region (record (k.sq region) { window = []; unposted = n }) x
+  sq x =
+      ap (λ (z : SqContent). put_sq (put_sq k.sq region s) region (record z { window = [] }) x) here
+      ∙ put_sq-twice k.sq region s (record (k.sq region) { window = []; unposted = n }) x
+
+  cq : (x : ℕ) → put_cq k.cq c (record (k.cq c) { ready = (k.cq c).ready ++ map (aborted qid region) (put_sq k.sq region s region).window }) x
+      ≡ put_cq k.cq c (record (k.cq c) { ready = (k.cq c).ready ++ map (aborted qid region) (k.sq region).window }) x
+  cq x = ap (λ (z : SqContent). put_cq k.cq c (record (k.cq c) { ready = (k.cq c).ready ++ map (aborted qid region) z.window }) x) here
+
+-- the sum isn't capped
+pub n_counted : (rules : FrontRules) (notes : Notes) (a : Controller) (slots : List Slot) (k : Content) (g : Items) (region : ℕ) (sq : SqState) → Keeps rules notes a slots k g → a.picked ≡ 0
+    → sq ≡ sq_at a.sqs region → (k.sq region).unposted + length (k.sq region).window < 2 ^ 16 → min (sq.unposted + sq.window.len) 65535 ≡ sq.unposted + sq.window.len
+n_counted rules notes a slots k g region sq h none sq_is few =
+    let many : length (k.sq region).window ≡ length (g.windows region) =
+    ap (λ (w : List Candidate). length w) (h.has.window_is region ∙ ap (λ (i : ℕ). map candidate_of (drop i (g.windows region))) (none_picked_in a region none))
+    ∙ length-map (g.windows region) candidate_of in
+    let len = window_length rules notes a slots k g region h in
+    let unposted = h.numbers.sq_unposted region in
+    let same = ap (λ (s : SqState). s.unposted) sq_is in
+    let as_long = ap (λ (s : SqState). s.window.len) sq_is in
+    omega arith
+
+-- ---- all of it
+module _ (rules : FrontRules) (notes : Notes) (a : Controller) (slots : List Slot) (k : Content) (g : Items) (tag qid region c : ℕ) (candidate : Candidate)
+    (h : Keeps rules notes a slots k g) (none : a.picked ≡ 0) (loose : IsLoose slots g tag) (entry : (slot_at slots tag).entry ≡ candidate.entry)
+    (unanswered : answer_of notes 0 candidate.index ≡ None) (d : IsDroppable notes k qid region c)
+    (sq : SqState) (n : ℕ) (sq_is : sq ≡ sq_at a.sqs region) (n_is : n ≡ sq.unposted + sq.window.len)
+    (m : Controller) (m_is : m ≡ record a { sqs = slice_set a.sqs region (record sq { unposted = n }) }) where
+  abbrev count : ℕ
+  count = (k.sq region).unposted + length (k.sq region).window
+
+  abbrev pub counted : Content
+  counted = with_sq k region (record (k.sq region) { unposted = count })
+
+  n_counts : n ≡ count
+  n_counts =
+      let many : length (k.sq region).window ≡ length (g.windows region) =
+      ap (λ (w : List Candidate). length w) (h.has.window_is region ∙ ap (λ (i : ℕ). map candidate_of (drop i (g.windows region))) (none_picked_in a region none))
+      ∙ length-map (g.windows region) candidate_of in
+      let len = window_length rules notes a slots k g region h in
+      let unposted = h.numbers.sq_unposted region in
+      let same = ap (λ (s : SqState). s.unposted) sq_is in
+      let as_long = ap (λ (s : SqState). s.window.len) sq_is in
+      omega arith
+
+  -- all of its candidates count as unposted
+  pub keeps_counted : Keeps rules notes m slots counted g
+  keeps_counted =
+      subst (λ (z : Controller). Keeps rules notes z slots counted g)
+      (sym (m_is ∙ ap (λ (z : SqState). record a { sqs = slice_set a.sqs region (record z { unposted = n }) }) sq_is))
+      (keeps_region rules notes a slots k g region (record (sq_at a.sqs region) { unposted = n }) (record (k.sq region) { unposted = count }) h none d.there refl refl (h.numbers.sq_queue region) n_counts refl refl)
+
+  pub droppable_counted : IsDroppable notes counted qid region c
+  droppable_counted = record {
+    there = d.there;
+    posts_there = d.posts_there;
+    attached = rw (eq-eqb region region refl) d.attached;
+    are_aborted = rw (eq-eqb region region refl) d.are_aborted;
+  }
+
+  -- they are dropped, and the deletion is pending
+  pub begun_deleting : (w b : Controller) (mid pool : List Slot) (board : BoardFields) (s : Slot) → HasDropped rules notes (dropped counted qid region c) slots tag w mid
+      → board_of board ≡ record (board_of w.board) { queues = slice_set (board_of w.board).queues qid None } → board.arbiter ≡ w.board.arbiter → s ≡ slot_at mid tag
+      → pool ≡ put_item mid tag (record s { state = 6 }) → b ≡ record w { board = board; deletion = record { pending = 1; region = region; qid = qid; tag = tag } }
+      → HasBegun rules notes (deleting k qid region c candidate) b pool
+  begun_deleting w b mid pool board s e closed arbiter s_is pool_is b_is =
+      subst (λ (z : Controller). HasBegun rules notes (deleting k qid region c candidate) z pool) (sym b_is)
+      (subst (λ (z : List Slot). HasBegun rules notes (deleting k qid region c candidate) (record w { board = board; deletion = record { pending = 1; region = region; qid = qid; tag = tag } }) z)
+      (sym (pool_is ∙ ap (λ (z : Slot). put_item mid tag (record z { state = 6 })) s_is))
+      (subst (λ (z : Content). HasBegun rules notes (record z { board = now; deletion = Some (record { place = place_at 0 candidate.index; cid = candidate.entry.cid; qid = qid; region = region }) })
+      (record w { board = board; deletion = record { pending = 1; region = region; qid = qid; tag = tag } }) (put_item mid tag (record (slot_at mid tag) { state = 6 })))
+      (dropped_counted k qid region c count)
+      (begun_pending rules notes (record w { board = board }) mid (record (dropped counted qid region c) { board = now }) e.items
+      (keeps_board rules notes w mid (dropped counted qid region c) e.items board now e.keeps
+      (closed ∙ ap (λ (z : BoardView). record z { queues = slice_set z.queues qid None }) e.keeps.numbers.board_is)
+      (subst (λ (z : ArbiterFields). IsTrue (is_arbiter z)) (sym arbiter) e.keeps.numbers.is_arbiter))
+      tag qid region e.loose candidate (ap (λ (z : Slot). z.entry) e.slot ∙ entry) unanswered))) where
+        now : BoardView
+        now = record k.board { queues = slice_set k.board.queues qid None }

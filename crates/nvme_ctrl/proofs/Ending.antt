@@ -1,0 +1,296 @@
+-- A command whose slot is between two lists becomes ready in a completion region.
+use Rattle.std.proofs.Common.{◌≡◌, ◌≢◌, ℕ, ◌+◌, ◌<◌, ◌≤◌, ◌^◌, ◌==◌, Bool, true, false, if◌then◌else◌, List, [], ◌∷◌, ◌++◌, length, Some, None, refl, sym, ap, ◌∙◌, subst, arith, inl, inr, eq-eqb}
+use Rattle.std.specs.Prelude.{slice_set}
+use Rattle.std.specs.List.{All}
+use Rattle.std.proofs.lemmas.Bool.{cases_eq, ne_eqb, cond-true}
+use Rattle.std.proofs.lemmas.List.{get_or-set_same, get_or-set_other, length-set, map-append}
+use Rattle.std.proofs.lemmas.List.Elements.{All-cons, All-push, All-weaker, All-map}
+use Rattle.nvme_entry.specs.Status.{StatusCode}
+use Rattle.nvme_log.specs.Rules.{FrontRules}
+use Rattle.nvme_log.specs.Completions.{posted_to, phase_after}
+use Rattle.nvme_ctrl.specs.Notes.{Notes, logged}
+use Rattle.nvme_ctrl.specs.Doorbells.{consumed}
+use Rattle.nvme_ctrl.specs.Rings.{HasCounts}
+use Rattle.nvme_ctrl.specs.Tags.{holder, all_posts}
+use Rattle.nvme_ctrl.specs.declared.slot.Slot.{Slot}
+use Rattle.nvme_ctrl.specs.declared.chain.Chain.{Chain}
+use Rattle.nvme_ctrl.specs.declared.state.CqState.{CqState}
+use Rattle.nvme_ctrl.specs.declared.state.Controller.{Controller}
+use Rattle.nvme_ctrl.specs.kept.Content.{Ready, CqContent, Content, with_ready}
+use Rattle.nvme_ctrl.specs.kept.Kept.{Item, ReadyItem, Items, IsWaitingIn, IsOutIn, IsReadyIn, IsThrough, HasNumbers, HasItems, HoldsDoorbells, HoldsTags, tags_of, ready_tags, readies_of, ready_state, is_free}
+use Rattle.nvme_ctrl.specs.inside.Loose.{IsLoose, AreReadiesApart, Keeps, MakesReady, ended, with_item}
+use Rattle.nvme_ctrl.specs.kept.Pool.{slot_at, item_at, next_at, put_item, IsChain, IsNew, SameItems, SameLinks}
+use Rattle.nvme_ctrl.specs.kept.State.{no_cq_state, cq_at}
+use Rattle.nvme_ctrl.proofs.OwnStatus.{All-unmap}
+use Rattle.nvme_ctrl.proofs.Pools.{length-put_item, item_at-put_item_same, item_at-put_item_other, next_at-put_item, chain-put_item, IsNew-nil, IsNew-cons, IsNew-append, chain-other, length-apart}
+use Rattle.nvme_ctrl.proofs.SlotItems.{All-both, ready_state-range, same_state, waiting_stays, out_stays, ready_stays}
+
+module _ (rules : FrontRules) (notes : Notes) (a : Controller) (slots : List Slot) (k : Content) (g : Items) (h : Keeps rules notes a slots k g) where
+  -- a slot of another state is none of those that are ready
+  pub new_to_ready : (x n : ℕ) → (slot_at slots x).state ≡ n → n ≤ 2 → (y : ℕ) → IsNew x (ready_tags (g.readies y))
+  new_to_ready x n is low y =
+      All-map (λ (z : ℕ). z ≢ x) (λ (it : ReadyItem). it.tag) (g.readies y)
+      (All-weaker (IsReadyIn slots) (λ (it : ReadyItem). it.tag ≢ x)
+      (λ it r e. absurd (omega (arith, ap (λ (z : ℕ). (slot_at slots z).state) e, r.state, (ready_state-range it.was_out it.ready.with_queue).0, is, low)))
+      (g.readies y) (h.has.ready_items y))
+
+  -- so with those that wait
+  pub windows_unready : (r y : ℕ) → All (λ (x : ℕ). IsNew x (ready_tags (g.readies y))) (tags_of (g.windows r))
+  windows_unready r y =
+      All-map (λ (x : ℕ). IsNew x (ready_tags (g.readies y))) (λ (it : Item). it.tag) (g.windows r)
+      (All-weaker (IsWaitingIn slots r) (λ (it : Item). IsNew it.tag (ready_tags (g.readies y))) (λ it w. new_to_ready it.tag 1 w.state (omega arith) y) (g.windows r) (h.has.window_items r))
+
+  -- and the free ones
+  pub free_unready : (y : ℕ) → All (λ (x : ℕ). IsNew x (ready_tags (g.readies y))) g.free
+  free_unready y = All-weaker (is_free slots) (λ (x : ℕ). IsNew x (ready_tags (g.readies y))) (λ x f. new_to_ready x 0 f (omega arith) y) g.free h.has.free_items
+
+  -- no deletion is kept
+  pub none_kept : k.deletion ≡ None
+  none_kept =
+      h.has.deletion_is
+      ∙ cond-true (a.deletion.pending == 0) None (Some (record { place = _; cid = (slot_at slots a.deletion.tag).entry.cid; qid = a.deletion.qid; region = a.deletion.region })) (eq-eqb a.deletion.pending 0 h.none_pending)
+
+module _ (rules : FrontRules) (notes : Notes) (a : Controller) (slots : List Slot) (k : Content) (g : Items) (h : Keeps rules notes a slots k g)
+    (tag : ℕ) (loose : IsLoose slots g tag) (region : ℕ) (within : region < 65) (t : Ready) (through : IsThrough notes t)
+    (pool : List Slot) (size : length pool ≡ length slots) (others : (y : ℕ) → y ≢ tag → item_at pool y ≡ item_at slots y)
+    (links : SameLinks (ready_tags (g.readies region)) slots pool)
+    (chain : Chain) (linked : IsChain pool chain (ready_tags (g.readies region) ++ tag ∷ []))
+    (ready : IsReadyIn pool (ended tag t)) where
+  abbrev later : Items
+  later = with_item g region (ended tag t)
+
+  abbrev kept : Content
+  kept = with_ready k region t
+
+  abbrev state : CqState
+  state = record (cq_at a.cqs region) { ready = chain }
+
+  abbrev after : Controller
+  after = record a { cqs = slice_set a.cqs region state }
+
+  there : region < length a.cqs
+  there = let size = h.numbers.cq_size in omega (arith, within)
+
+  -- what is so of each completion region
+  each : (P : ℕ → CqState → CqContent → List ReadyItem → Type 0)
+      → P region state (record (k.cq region) { ready = (k.cq region).ready ++ t ∷ [] }) (g.readies region ++ ended tag t ∷ [])
+      → ((x : ℕ) → x ≢ region → P x (cq_at a.cqs x) (k.cq x) (g.readies x))
+      → (x : ℕ) → P x (cq_at after.cqs x) (kept.cq x) (later.readies x)
+  each P here other x = elim (cases_eq x region) [
+    | inl same ↦ subst (λ (n : ℕ). P n (cq_at after.cqs n) (kept.cq n) (later.readies n)) (sym same)
+        (subst (λ (s : CqState). P region s (kept.cq region) (later.readies region)) (sym (get_or-set_same a.cqs region state no_cq_state there))
+        (rw (eq-eqb region region refl) here))
+    | inr differs ↦ subst (λ (s : CqState). P x s (kept.cq x) (later.readies x)) (sym (get_or-set_other a.cqs region x state no_cq_state differs))
+        (rw (ne_eqb x region differs) (other x differs))
+  ]
+
+  -- the tags in the region are one more
+  tags_are : ready_tags (g.readies region ++ ended tag t ∷ []) ≡ ready_tags (g.readies region) ++ tag ∷ []
+  tags_are = map-append (λ (it : ReadyItem). it.tag) (g.readies region) (ended tag t ∷ [])
+
+  -- a chain of others is left
+  left : (c : Chain) (xs : List ℕ) → IsChain slots c xs → All (λ (x : ℕ). IsNew x (ready_tags (g.readies region))) xs → IsChain pool c xs
+  left c xs is apart = chain-other slots pool c xs (ready_tags (g.readies region)) is links size apart
+
+  -- the slot has another state now
+  ended_state : (n : ℕ) → n ≤ 3 → (slot_at pool tag).state ≡ n → ⊥
+  ended_state n low is = by t.with_queue ready.state where
+    by : (b : Bool) → (slot_at pool tag).state ≡ ready_state false b → ⊥
+    by true s = absurd (omega (arith, s, is, low))
+    by false s = absurd (omega (arith, s, is, low))
+
+  -- so a slot of such a state had it before
+  had_state : (x n : ℕ) → n ≤ 3 → (slot_at pool x).state ≡ n → (slot_at slots x).state ≡ n
+  had_state x n low is = elim (cases_eq x tag) [
+    | inl same ↦ absurd (ended_state n low (subst (λ (y : ℕ). (slot_at pool y).state ≡ n) same is))
+    | inr other ↦ ap (λ (s : Slot). s.state) (sym (others x other)) ∙ is
+  ]
+
+  numbers_after : HasNumbers after kept
+  numbers_after = let n = h.numbers in record {
+    table_is = n.table_is;
+    sized = n.sized;
+    board_is = n.board_is;
+    is_arbiter = n.is_arbiter;
+    outstanding_is = n.outstanding_is;
+    sq_queue = n.sq_queue;
+    sq_unposted = n.sq_unposted;
+    sq_slots = n.sq_slots;
+    cq_slots = each (λ x s c its. s.ring.slots ≡ c.slots) (n.cq_slots region) (λ x other. n.cq_slots x);
+    sq_some = n.sq_some;
+    sq_size = n.sq_size;
+    cq_size = length-set a.cqs region state ∙ n.cq_size;
+  }
+
+  items_after : HasItems after pool kept later
+  items_after = let m = h.has in record {
+    window_chain = λ r. left _ _ (m.window_chain r) (windows_unready rules notes a slots k g h r region);
+    window_items = λ r. All-both (λ (it : Item). it.tag ≢ tag) (IsWaitingIn slots r) (IsWaitingIn pool r) (λ it. waiting_stays slots pool tag size others r it) (g.windows r)
+        (All-unmap (λ (x : ℕ). x ≢ tag) (λ (it : Item). it.tag) (g.windows r) (loose.windows r)) (m.window_items r);
+    window_is = m.window_is;
+    picked_there = m.picked_there;
+    outs_items = All-both (λ (it : Item). it.tag ≢ tag) (IsOutIn slots) (IsOutIn pool) (out_stays slots pool tag size others) g.outs
+        (All-unmap (λ (x : ℕ). x ≢ tag) (λ (it : Item). it.tag) g.outs loose.outs) m.outs_items;
+    outs_apart = m.outs_apart;
+    outs_all = λ x is. m.outs_all x (had_state x 2 (omega arith) is);
+    hand_is = m.hand_is;
+    ready_chain = each (λ x s c its. IsChain pool s.ready (ready_tags its)) (subst (IsChain pool chain) (sym tags_are) linked)
+        (λ x other. left _ _ (m.ready_chain x) (h.apart x region other));
+    ready_items = each (λ x s c its. All (IsReadyIn pool) its) (All-push (IsReadyIn pool) (g.readies region) (ended tag t) (still region) ready) (λ x other. still x);
+    ready_is = each (λ x s c its. c.ready ≡ readies_of its)
+        (ap (λ (ts : List Ready). ts ++ t ∷ []) (m.ready_is region) ∙ sym (map-append (λ (it : ReadyItem). it.ready) (g.readies region) (ended tag t ∷ [])))
+        (λ x other. m.ready_is x);
+    deletion_is = none_kept rules notes a slots k g h
+        ∙ sym (cond-true (a.deletion.pending == 0) None (Some (record { place = _; cid = (slot_at pool a.deletion.tag).entry.cid; qid = a.deletion.qid; region = a.deletion.region })) (eq-eqb a.deletion.pending 0 h.none_pending));
+    deletion_item = λ some. absurd (some h.none_pending);
+    deletion_inside = λ some. absurd (some h.none_pending);
+    free_chain = left _ _ m.free_chain (free_unready rules notes a slots k g h region);
+    free_items = All-both (λ (x : ℕ). x ≢ tag) (is_free slots) (is_free pool) (λ x other. same_state slots pool tag size others x 0 other) g.free loose.free m.free_items;
+    few = subst (λ (n : ℕ). n < 2 ^ 16) (sym size) m.few;
+  } where
+    still : (x : ℕ) → All (IsReadyIn pool) (g.readies x)
+    still x = All-both (λ (it : ReadyItem). it.tag ≢ tag) (IsReadyIn slots) (IsReadyIn pool) (ready_stays slots pool tag size others) (g.readies x)
+        (All-unmap (λ (y : ℕ). y ≢ tag) (λ (it : ReadyItem). it.tag) (g.readies x) (loose.readies x)) (h.has.ready_items x)
+
+  doorbells_after : HoldsDoorbells rules notes after
+  doorbells_after = let d = h.doorbells in record {
+    sqs = d.sqs;
+    cqs = each (λ x s c its. 0 < s.ring.slots → HasCounts s.ring (consumed rules notes x) (length (posted_to (logged notes) x))) (d.cqs region) (λ x other. d.cqs x);
+    phases = each (λ x s c its. (s.phase == 1) ≡ phase_after (length (posted_to (logged notes) x)) s.ring.slots) (d.phases region) (λ x other. d.phases x);
+    no_tails = d.no_tails;
+    no_heads = each (λ x s c its. s.ring.slots ≡ 0 → consumed rules notes x ≡ 0) (d.no_heads region) (λ x other. d.no_heads x);
+    no_posts = each (λ x s c its. s.ring.slots ≡ 0 → posted_to (logged notes) x ≡ []) (d.no_posts region) (λ x other. d.no_posts x);
+  }
+
+  tags_after : HoldsTags notes after pool later
+  tags_after = let m = h.tags in record {
+    untaken_are = m.untaken_are;
+    outs_held = m.outs_held;
+    readies_held = each (λ x s c its. All (λ (y : ReadyItem). y.was_out ≡ true → holder notes y.tag ≡ Some y.ready.place) its)
+        (All-push (λ (y : ReadyItem). y.was_out ≡ true → holder notes y.tag ≡ Some y.ready.place) (g.readies region) (ended tag t) (m.readies_held region) (λ no. absurd (cc no)))
+        (λ x other. m.readies_held x);
+    none_held = λ x not_out not_answered. elim (cases_eq x tag) [
+      | inl same ↦ subst (λ (y : ℕ). holder notes y ≡ None) (sym same) (m.none_held tag loose.not_out loose.not_answered)
+      | inr other ↦ let state = ap (λ (s : Slot). s.state) (others x other) in
+          m.none_held x (λ e. not_out (state ∙ e)) (λ e. not_answered (state ∙ e))
+    ];
+    through = each (λ x s c its. All (λ (y : ReadyItem). IsThrough notes y.ready) its)
+        (All-push (λ (y : ReadyItem). IsThrough notes y.ready) (g.readies region) (ended tag t) (m.through region) through) (λ x other. m.through x);
+    windows_unanswered = m.windows_unanswered;
+    outs_unanswered = m.outs_unanswered;
+    deletion_unanswered = m.deletion_unanswered;
+    none_answered = m.none_answered;
+    answered_held = λ x is. m.answered_held x (had_state x 3 (omega arith) is);
+    hand_entries = m.hand_entries;
+    free_count = m.free_count ∙ ap (λ (n : ℕ). n + all_posts (logged notes)) (sym size);
+  }
+
+  apart_after : AreReadiesApart later
+  apart_after x y differ = elim (cases_eq x region) [
+    | inl same ↦
+        let other : y ≢ region = λ e. differ (same ∙ sym e) in
+        subst (λ (n : ℕ). All (λ (z : ℕ). IsNew z (ready_tags (later.readies y))) (ready_tags (later.readies n))) (sym same)
+        (rw (eq-eqb region region refl) (rw (ne_eqb y region other)
+        (subst (All (λ (z : ℕ). IsNew z (ready_tags (g.readies y)))) (sym tags_are)
+        (All-push (λ (z : ℕ). IsNew z (ready_tags (g.readies y))) (ready_tags (g.readies region)) tag (h.apart region y (λ e. other (sym e))) (loose.readies y)))))
+    | inr other ↦ rw (ne_eqb x region other) (elim (cases_eq y region) [
+      | inl same ↦
+          subst (λ (n : ℕ). All (λ (z : ℕ). IsNew z (ready_tags (later.readies n))) (ready_tags (g.readies x))) (sym same)
+          (rw (eq-eqb region region refl) (subst (λ (ys : List ℕ). All (λ (z : ℕ). IsNew z ys) (ready_tags (g.readies x))) (sym tags_are)
+          (All-both (λ (z : ℕ). z ≢ tag) (λ (z : ℕ). IsNew z (ready_tags (g.readies region))) (λ (z : ℕ). IsNew z (ready_tags (g.readies region) ++ tag ∷ []))
+          (λ z not new. IsNew-append z (ready_tags (g.readies region)) (tag ∷ []) new (IsNew-cons z tag [] (λ e. not (sym e)) (IsNew-nil z)))
+          (ready_tags (g.readies x)) (loose.readies x) (h.apart x region other))))
+      | inr differs ↦ rw (ne_eqb y region differs) (h.apart x y differ)
+    ])
+  ]
+
+  -- all is kept
+  pub keeps_ended : Keeps rules notes after pool kept later
+  keeps_ended = record {
+    numbers = numbers_after;
+    has = items_after;
+    doorbells = doorbells_after;
+    tags = tags_after;
+    apart = apart_after;
+    none_pending = h.none_pending;
+  }
+
+-- another slot that is in no list stays so
+pub loose_ended : (slots pool : List Slot) (g : Items) (tag region : ℕ) (t : Ready) (y : ℕ) → length pool ≡ length slots
+    → ((z : ℕ) → z ≢ tag → item_at pool z ≡ item_at slots z) → y ≢ tag → IsLoose slots g y → IsLoose pool (with_item g region (ended tag t)) y
+loose_ended slots pool g tag region t y size others differ loose =
+    let state = ap (λ (s : Slot). s.state) (others y differ) in
+    record {
+      inside = subst (λ (n : ℕ). y < n) (sym size) loose.inside;
+      windows = loose.windows;
+      outs = loose.outs;
+      readies = λ x. by (x == region) x;
+      free = loose.free;
+      not_out = λ e. loose.not_out (sym state ∙ e);
+      not_answered = λ e. loose.not_answered (sym state ∙ e);
+    } where
+      by : (b : Bool) (x : ℕ) → IsNew y (ready_tags (if b then g.readies region ++ ended tag t ∷ [] else g.readies x))
+      by true x =
+          subst (IsNew y) (sym (map-append (λ (it : ReadyItem). it.tag) (g.readies region) (ended tag t ∷ [])))
+          (IsNew-append y (ready_tags (g.readies region)) (tag ∷ []) (loose.readies region) (IsNew-cons y tag [] (λ e. differ (sym e)) (IsNew-nil y)))
+      by false x = loose.readies x
+
+-- ---- as a slot is put, and pushed
+-- all is kept where its answer was put into the slot, and the slot pushed onto the chain of a completion region
+pub keeps_end : (rules : FrontRules) (notes : Notes) (a b : Controller) (slots mid pool : List Slot) (k : Content) (g : Items) (t : Ready) (tag state region dw0 : ℕ) (status : StatusCode)
+    (s : Slot) (cq : CqState) (chain : Chain) → Keeps rules notes a slots k g
+    → s ≡ slot_at slots tag → mid ≡ put_item slots tag (record s { state = state; sct = status.sct; sc = status.sc; dw0 = dw0 }) → cq ≡ cq_at a.cqs region
+    → ((xs : List ℕ) → IsChain mid cq.ready xs → tag < length mid → IsNew tag xs → length xs + 1 < 2 ^ 16 → IsChain pool chain (xs ++ tag ∷ []))
+    → SameItems mid pool → ((xs : List ℕ) → IsChain mid cq.ready xs → SameLinks xs mid pool)
+    → b ≡ record a { cqs = slice_set a.cqs region (record cq { ready = chain }) } → status.sct < 8
+    → IsLoose slots g tag → MakesReady slots tag state status dw0 t → IsThrough notes t → region < 65
+    → Keeps rules notes b pool (with_ready k region t) (with_item g region (ended tag t))
+keeps_end rules notes a b slots mid pool k g t tag state region dw0 status s cq chain h slot_is put cq_is pushes same links is few loose makes through within =
+    subst (λ (c : Controller). Keeps rules notes c pool (with_ready k region t) (with_item g region (ended tag t)))
+    (sym (is ∙ ap (λ (c : CqState). record a { cqs = slice_set a.cqs region (record c { ready = chain }) }) cq_is))
+    (keeps_ended rules notes a slots k g h tag loose region within t through pool size others left chain
+    (pushes (ready_tags (g.readies region)) linked (subst (λ (n : ℕ). tag < n) (sym mid_size) loose.inside) (loose.readies region) room) ready) where
+      put_slot : Slot
+      put_slot = record s { state = state; sct = status.sct; sc = status.sc; dw0 = dw0 }
+
+      mid_size : length mid ≡ length slots
+      mid_size = ap (λ (xs : List Slot). length xs) put ∙ length-put_item slots tag put_slot
+
+      size : length pool ≡ length slots
+      size = same.size ∙ mid_size
+
+      others : (y : ℕ) → y ≢ tag → item_at pool y ≡ item_at slots y
+      others y differ = same.items y ∙ ap (λ (xs : List Slot). item_at xs y) put ∙ item_at-put_item_other slots tag put_slot y differ
+
+      linked : IsChain mid cq.ready (ready_tags (g.readies region))
+      linked =
+          subst (λ (xs : List Slot). IsChain xs cq.ready (ready_tags (g.readies region))) (sym put)
+          (chain-put_item slots cq.ready (ready_tags (g.readies region)) tag put_slot
+          (subst (λ (c : CqState). IsChain slots c.ready (ready_tags (g.readies region))) (sym cq_is) (h.has.ready_chain region)))
+
+      left : SameLinks (ready_tags (g.readies region)) slots pool
+      left x new = links (ready_tags (g.readies region)) linked x new ∙ ap (λ (xs : List Slot). next_at xs x) put ∙ next_at-put_item slots tag put_slot x
+
+      -- the chain and the slot are no more than the pool
+      room : length (ready_tags (g.readies region)) + 1 < 2 ^ 16
+      room =
+          let was = h.has.ready_chain region in
+          let all = length-apart (length slots) (tag ∷ ready_tags (g.readies region)) (loose.readies region, was.apart)
+          (All-cons (λ (x : ℕ). x < length slots) tag (ready_tags (g.readies region)) loose.inside was.inside) in
+          let few = h.has.few in
+          omega arith
+
+      now : item_at pool tag ≡ record put_slot { next = 0 }
+      now = same.items tag ∙ ap (λ (xs : List Slot). item_at xs tag) put ∙ item_at-put_item_same slots tag put_slot loose.inside
+
+      ready : IsReadyIn pool (ended tag t)
+      ready = record {
+        state = ap (λ (x : Slot). x.state) now ∙ makes.state_is;
+        region = ap (λ (x : Slot). x.region) now ∙ ap (λ (x : Slot). x.region) slot_is ∙ makes.region;
+        cid = ap (λ (x : Slot). x.entry.cid) now ∙ ap (λ (x : Slot). x.entry.cid) slot_is ∙ makes.cid;
+        sct = ap (λ (x : Slot). x.sct) now ∙ ap (λ (x : StatusCode). x.sct) makes.status_is;
+        few_types = subst (λ (n : ℕ). n < 8) (sym (ap (λ (x : Slot). x.sct) now)) few;
+        sc = ap (λ (x : Slot). x.sc) now ∙ ap (λ (x : StatusCode). x.sc) makes.status_is;
+        dw0 = ap (λ (x : Slot). x.dw0) now ∙ makes.dw0_is;
+        not_both = λ no. absurd (cc no);
+      }

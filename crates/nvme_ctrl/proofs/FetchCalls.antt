@@ -1,0 +1,493 @@
+-- A fetch from a queue: when it may be made, and that the controller stands at its log afterwards.
+use Rattle.std.proofs.Common.{◌≡◌, ◌≢◌, ℕ, ◌+◌, ◌-◌, ◌%◌, ◌^◌, ◌<◌, ◌≤◌, ◌==◌, Bool, false, if◌then◌else◌, List, [], ◌∷◌, ◌++◌, length, map, take, drop, Option, Some, None, refl, sym, ap, ◌∙◌, subst, arith, inl, inr, length-append, length-drop}
+use Rattle.std.specs.Prelude.{slice_set, IsTrue, IsSomeAnd, IfSome, option_map}
+use Rattle.std.specs.List.{All}
+use Rattle.std.proofs.lemmas.Bool.{cases_eq, eq-eqb, ne_eqb}
+use Rattle.std.proofs.lemmas.List.{length-map, length-set, map-append, take-append-le, drop-append-le}
+use Rattle.std.proofs.lemmas.List.Elements.{All-head, All-tail, All-same, All-cons, All-weaker, All-push}
+use Rattle.std.proofs.lemmas.Option.{same_Some}
+use Rattle.nvme_entry.specs.declared.submission.Sqe.{Sqe}
+use Rattle.nvme_arbiter.specs.Board.{BoardView}
+use Rattle.nvme_arbiter.specs.Layout.{board_of, is_arbiter}
+use Rattle.nvme_arbiter.specs.Limits.{highest_count}
+use Rattle.nvme_arbiter.specs.Queues.{queue_at}
+use Rattle.nvme_arbiter.specs.declared.arbiter_fields.ArbiterFields.{ArbiterFields}
+use Rattle.nvme_arbiter.specs.declared.board_fields.BoardFields.{BoardFields}
+use Rattle.nvme_arbiter.specs.declared.pick.OpenQueue.{OpenQueue}
+use Rattle.nvme_admin.specs.declared.verdict.SqEntry.{SqEntry}
+use Rattle.nvme_log.specs.declared.event.Event.TheVariants.{Fetch}
+use Rattle.nvme_log.specs.Rules.{FrontRules, Past}
+use Rattle.nvme_log.specs.Queues.{Queue, open_sq}
+use Rattle.nvme_log.specs.Places.{fetched, waiting}
+use Rattle.nvme_log.specs.Dispatches.{place_at}
+use Rattle.nvme_ctrl.specs.Notes.{Notes, Logged, logged}
+use Rattle.nvme_ctrl.specs.Doorbells.{submitted}
+use Rattle.nvme_ctrl.specs.Rings.{HasCounts}
+use Rattle.nvme_ctrl.specs.Account.{IsLawfulEvent, IsAccount}
+use Rattle.nvme_ctrl.specs.Calls.{window_limit, MayFetch, HasFetched}
+use Rattle.nvme_ctrl.specs.Tags.{answer_of, holder, taken, is_out, all_fetches, all_posts}
+use Rattle.nvme_ctrl.specs.declared.chain.Chain.{Chain}
+use Rattle.nvme_ctrl.specs.declared.ring.Ring.{Ring}
+use Rattle.nvme_ctrl.specs.declared.slot.Slot.{Slot}
+use Rattle.nvme_ctrl.specs.declared.state.SqState.{SqState}
+use Rattle.nvme_ctrl.specs.declared.state.Controller.{Controller}
+use Rattle.nvme_ctrl.specs.kept.Content.{Candidate, SqContent, Content}
+use Rattle.nvme_ctrl.specs.inside.Fetching.{IsFetchable, waiting_in}
+use Rattle.nvme_ctrl.specs.kept.Kept.{Item, Items, HasNumbers, HasItems, HoldsDoorbells, HoldsTags, StandsAt, IsWaitingIn, IsOutIn, IsUnanswered, HasEntry, is_free, tags_of, ready_tags, places_of, candidate_of, untaken}
+use Rattle.nvme_ctrl.specs.kept.Pool.{slot_at, item_at, put_item, IsNew, AreApart, IsChain, SameItems, SameLinks}
+use Rattle.nvme_ctrl.specs.kept.Standing.{Holds, on_board}
+use Rattle.nvme_ctrl.specs.kept.State.{sq_at, cq_at, attachment_of, picked_in}
+use Rattle.nvme_ctrl.proofs.AfterSteps.{CanFetch, fetched_sq, came_board, after_fetch}
+use Rattle.nvme_ctrl.proofs.DoorbellCalls.{queue_of, is_open, sq_there, slots_are}
+use Rattle.nvme_ctrl.proofs.NextEvents.{next-fetch}
+use Rattle.nvme_ctrl.proofs.OpenQueues.{none_is_pending}
+use Rattle.nvme_ctrl.proofs.Pools.{length-put_item, item_at-put_item_same, item_at-put_item_other, chain-put_item, chain-other, length-apart}
+use Rattle.nvme_ctrl.proofs.RegionStates.{put_region-each}
+use Rattle.nvme_ctrl.proofs.ServedPlaces.{entry_stays}
+use Rattle.nvme_ctrl.proofs.SlotItems.{out_stays, all_waiting_stay, all_ready_stay, same_state}
+use Rattle.nvme_ctrl.proofs.SlotStates.{window-states, window-regions, ready-states, apart-by}
+use Rattle.nvme_ctrl.proofs.OutTags.{still_not_out-logged}
+use Rattle.nvme_ctrl.proofs.Standing.{holds-fetch}
+use Rattle.nvme_ctrl.proofs.Turns.{filled-is}
+
+-- ---- what waits
+module _ (rules : FrontRules) (late : Bool) (notes : Notes) (c : Controller) (slots : List Slot) (s : StandsAt rules late notes c slots) where
+  pub waiting_are : (r : ℕ) → length (s.content.sq r).window ≡ waiting_in c r
+  waiting_are r =
+      let len : (sq_at c.sqs r).window.len ≡ length (s.items.windows r) =
+      (s.has.window_chain r).len_is ∙ length-map (s.items.windows r) (λ (it : Item). it.tag) in
+      ap (λ (xs : List Candidate). length xs) (s.has.window_is r)
+      ∙ length-map (drop (picked_in c r) (s.items.windows r)) candidate_of
+      ∙ length-drop (picked_in c r) (s.items.windows r)
+      ∙ ap (λ (n : ℕ). n - picked_in c r) (sym len)
+
+  -- as many wait by the log
+  pub waits : (r : ℕ) → length (waiting (logged notes) r) ≡ waiting_in c r
+  waits r = ap (λ (xs : List ℕ). length xs) (s.holds.regions r).waiting_is ∙ length-map (s.content.sq r).window (λ (x : Candidate). x.index) ∙ waiting_are r
+
+-- ---- when a fetch may be made
+module _ (rules : FrontRules) (late : Bool) (notes : Notes) (c : Controller) (slots : List Slot) (s : StandsAt rules late notes c slots)
+    (qid : ℕ) (e : SqEntry) (can : IsFetchable c qid e)
+  where
+    pub fetch_open : open_sq (logged notes) qid ≡ Some (queue_of e)
+    fetch_open = is_open rules late notes c slots s qid e can.in_table can.not_closing
+
+    none_kept : s.content.deletion ≡ None
+    none_kept = s.has.deletion_is ∙ rw can.none_pending refl
+
+    pub can_fetch : CanFetch (logged notes) s.content qid (queue_of e)
+    can_fetch = record {
+      is_open = fetch_open;
+      none_pending = none_kept;
+      room = rw (waiting_are rules late notes c slots s e.region, ← s.numbers.sq_slots e.region) can.room;
+    }
+
+    fetch_counts : HasCounts (sq_at c.sqs e.region).ring (length (fetched (logged notes) e.region)) (submitted rules notes e.region)
+    fetch_counts = s.doorbells.sqs e.region (let room = can.room in omega (arith, room))
+
+    pub more_submitted : length (fetched (logged notes) e.region) < submitted rules notes e.region
+    more_submitted =
+        let filled_up = filled-is (sq_at c.sqs e.region).ring (length (fetched (logged notes) e.region)) (submitted rules notes e.region) fetch_counts in
+        let more = can.some_submitted in
+        omega (arith, filled_up, more)
+
+    pub may_fetch : MayFetch rules notes (window_limit c) (length slots) qid (sq_at c.sqs e.region).ring.head
+    may_fetch = record {
+      queue = queue_of e;
+      is_open = fetch_open;
+      none_pending = none_is_pending rules late (logged notes) s.content s.holds none_kept;
+      submitted = more_submitted;
+      in_window = rw (waits rules late notes c slots s e.region) can.in_window;
+      has_room = rw (waits rules late notes c slots s e.region, ← slots_are rules late notes c slots s e.region) can.room;
+      some_free = let some = can.some_free in let count = s.tags.free_count in omega (arith, some, count);
+      slot_is = fetch_counts.head_is ∙ ap (λ (n : ℕ). length (fetched (logged notes) e.region) % n) (slots_are rules late notes c slots s e.region);
+    }
+
+    -- its queue is on the board
+    pub on_its_board : queue_at (board_of c.board).queues qid ≡ Some (on_board s.content (queue_of e))
+    on_its_board =
+        ap (λ (b : BoardView). queue_at b.queues qid) s.numbers.board_is ∙ s.holds.queues.board qid
+        ∙ ap (λ (o : Option Queue). option_map (on_board s.content) o) fetch_open
+
+    pub may_come : IsSomeAnd (queue_at (board_of c.board).queues qid) (λ (queue : OpenQueue). queue.count < highest_count)
+    may_come = rw on_its_board (let room = can_fetch.room in omega (arith, room))
+
+-- ---- what a fetch leaves
+-- the free slot that is taken is the first
+pub record IsPopped (slots : List Slot) (xs : List ℕ) (new : Chain) (tag : ℕ) : Type 0 where
+  pub rest : List ℕ
+  pub are : xs ≡ tag ∷ rest
+  pub chain : IsChain slots new rest
+
+pub popped : (slots : List Slot) (old new : Chain) (tag : ℕ) (xs : List ℕ) → IsChain slots old xs → old.len ≢ 0
+    → ((x : ℕ) (rest : List ℕ) → IsChain slots old (x ∷ rest) → Some tag ≡ Some x)
+    → ((x : ℕ) (rest : List ℕ) → IsChain slots old (x ∷ rest) → IsChain slots new rest)
+    → IsPopped slots xs new tag
+popped slots old new tag [] h some is rest = absurd (some h.len_is)
+popped slots old new tag (x ∷ xs) h some is rest = record {
+  rest = xs;
+  are = ap (λ (y : ℕ). y ∷ xs) (sym (same_Some tag x (is x xs h)));
+  chain = rest x xs h;
+}
+
+-- a fetch leaves this: the free slots, the ring and the window of its region, the board, and the pool, where a slot of the free ones has the command
+pub record Fetches (c : Controller) (slots : List Slot) (qid : ℕ) (e : SqEntry) (entry : Sqe) (tag : ℕ) (slot : Slot) (free window : Chain) (ring : Ring)
+    (board : BoardFields) (pool : List Slot) : Type 0 where
+  pub is_first : (x : ℕ) (rest : List ℕ) → IsChain slots c.free (x ∷ rest) → Some tag ≡ Some x
+  pub free_left : (x : ℕ) (rest : List ℕ) → IsChain slots c.free (x ∷ rest) → IsChain slots free rest
+  pub counts : (read written : ℕ) → HasCounts (sq_at c.sqs e.region).ring read written → read < written → HasCounts ring (read + 1) written
+  pub same_slots : ring.slots ≡ (sq_at c.sqs e.region).ring.slots
+  pub state : slot.state ≡ 1
+  pub region : slot.region ≡ e.region
+  pub has : slot.entry ≡ entry
+  pub chain : (xs : List ℕ) → IsChain (put_item slots tag slot) (sq_at c.sqs e.region).window xs → tag < length (put_item slots tag slot) → IsNew tag xs
+      → length xs + 1 < 2 ^ 16 → IsChain pool window (xs ++ tag ∷ [])
+  pub items : SameItems (put_item slots tag slot) pool
+  pub links : (xs : List ℕ) → IsChain (put_item slots tag slot) (sq_at c.sqs e.region).window xs → SameLinks xs (put_item slots tag slot) pool
+  pub came : IfSome (queue_at (board_of c.board).queues qid) (λ (queue : OpenQueue). board_of board ≡ record (board_of c.board) {
+    queues = slice_set (board_of c.board).queues qid (Some (record queue { count = queue.count + 1 }));
+  })
+  pub arbiter : board.arbiter ≡ c.board.arbiter
+
+abbrev pub fetched_state : SqState → Chain → Ring → SqState
+fetched_state state window ring = record state { ring = ring; window = window }
+
+abbrev pub fetched_controller : Controller → ℕ → Chain → Chain → Ring → BoardFields → Controller
+fetched_controller c r free window ring board =
+    record c { sqs = slice_set c.sqs r (fetched_state (sq_at c.sqs r) window ring); free = free; board = board }
+
+abbrev pub fetched_item : (tag r n : ℕ) → Sqe → Item
+fetched_item tag r n entry = record { tag = tag; place = place_at r n; entry = entry }
+
+abbrev pub fetched_items : Items → ℕ → Item → List ℕ → Items
+fetched_items g r it rest = record g { windows = λ (x : ℕ). if x == r then g.windows r ++ it ∷ [] else g.windows x; free = rest }
+
+-- what was fetched is one more
+fetched_more : (past : Past) (r n : ℕ) (entry : Sqe) → length (fetched (Fetch r n entry ∷ past) r) ≡ length (fetched past r) + 1
+fetched_more past r n entry = rw (eq-eqb r r refl) (length-append (fetched past r) (entry ∷ []))
+
+fetched_others : (past : Past) (r n : ℕ) (entry : Sqe) (x : ℕ) → x ≢ r → fetched (Fetch r n entry ∷ past) x ≡ fetched past x
+fetched_others past r n entry x other = rw (ne_eqb r x (λ same. other (sym same))) refl
+
+fetched_least : (past : Past) (r n : ℕ) (entry : Sqe) (x : ℕ) → length (fetched past x) ≤ length (fetched (Fetch r n entry ∷ past) x)
+fetched_least past r n entry x = elim (cases_eq x r) [
+  | inl same ↦ subst (λ (y : ℕ). length (fetched past y) ≤ length (fetched (Fetch r n entry ∷ past) y)) (sym same) (omega (arith, fetched_more past r n entry))
+  | inr other ↦ rw (fetched_others past r n entry x other) (omega arith)
+]
+
+module _ (rules : FrontRules) (late : Bool) (notes : Notes) (c : Controller) (slots : List Slot) (s : StandsAt rules late notes c slots)
+    (qid : ℕ) (e : SqEntry) (can : IsFetchable c qid e) (entry : Sqe) (tag : ℕ) (slot : Slot) (free window : Chain) (ring : Ring) (board : BoardFields)
+    (pool : List Slot) (f : Fetches c slots qid e entry tag slot free window ring board pool)
+  where
+    first_free : IsPopped slots s.items.free free tag
+    first_free = popped slots c.free free tag s.items.free s.has.free_chain can.some_free f.is_first f.free_left
+
+    -- ---- the slot
+    was_free : (slot_at slots tag).state ≡ 0
+    was_free = All-head (is_free slots) tag first_free.rest (All-same (is_free slots) (tag ∷ first_free.rest) s.items.free (sym first_free.are) s.has.free_items)
+
+    tag_there : tag < length slots
+    tag_there = All-head (λ (x : ℕ). x < length slots) tag first_free.rest
+        (All-same (λ (x : ℕ). x < length slots) (tag ∷ first_free.rest) s.items.free (sym first_free.are) s.has.free_chain.inside)
+
+    size : length pool ≡ length slots
+    size = f.items.size ∙ length-put_item slots tag slot
+
+    left : (x : ℕ) → x ≢ tag → item_at pool x ≡ item_at slots x
+    left x other = f.items.items x ∙ item_at-put_item_other slots tag slot x other
+
+    now : item_at pool tag ≡ record slot { next = 0 }
+    now = f.items.items tag ∙ item_at-put_item_same slots tag slot tag_there
+
+    -- a slot that wasn't free is another
+    other_than : (x n : ℕ) → (slot_at slots x).state ≡ n → 0 < n → x ≢ tag
+    other_than x n is some same =
+        let zero = sym is ∙ ap (λ (y : ℕ). (slot_at slots y).state) same ∙ was_free in
+        omega (arith, zero, some)
+
+    new_to : (xs : List ℕ) → All (λ (t : ℕ). 0 < (slot_at slots t).state) xs → IsNew tag xs
+    new_to xs each = All-weaker (λ (t : ℕ). 0 < (slot_at slots t).state) (λ (t : ℕ). t ≢ tag)
+        (λ t some same. (let zero = ap (λ (y : ℕ). (slot_at slots y).state) same ∙ was_free in omega (arith, zero, some))) xs each
+
+    -- ---- the chains
+    chain_now : IsChain (put_item slots tag slot) (sq_at c.sqs e.region).window (tags_of (s.items.windows e.region))
+    chain_now = chain-put_item slots (sq_at c.sqs e.region).window (tags_of (s.items.windows e.region)) tag slot (s.has.window_chain e.region)
+
+    tag_new : IsNew tag (tags_of (s.items.windows e.region))
+    tag_new = new_to (tags_of (s.items.windows e.region))
+        (All-weaker (λ (t : ℕ). (slot_at slots t).state ≡ 1) (λ (t : ℕ). 0 < (slot_at slots t).state) (λ t is. omega (arith, is))
+        (tags_of (s.items.windows e.region)) (window-states slots e.region (s.items.windows e.region) (s.has.window_items e.region)))
+
+    pushed_chain : IsChain pool window (tags_of (s.items.windows e.region) ++ tag ∷ [])
+    pushed_chain =
+        let tags : List ℕ = tags_of (s.items.windows e.region) in
+        let few = length-apart (length slots) (tag ∷ tags) (tag_new, (s.has.window_chain e.region).apart)
+        (All-cons (λ (x : ℕ). x < length slots) tag tags tag_there (s.has.window_chain e.region).inside) in
+        let small = s.has.few in
+        f.chain tags chain_now (subst (λ (n : ℕ). tag < n) (sym (length-put_item slots tag slot)) tag_there) tag_new (omega (arith, few, small))
+
+    chain_left : (chain : Chain) (xs : List ℕ) → IsChain slots chain xs → All (λ (x : ℕ). IsNew x (tags_of (s.items.windows e.region))) xs → IsChain pool chain xs
+    chain_left chain xs h new =
+        chain-other (put_item slots tag slot) pool chain xs (tags_of (s.items.windows e.region)) (chain-put_item slots chain xs tag slot h)
+        (f.links (tags_of (s.items.windows e.region)) chain_now) f.items.size new
+
+    -- slots in another state than those that wait
+    elsewhere : (xs : List ℕ) → All (λ (t : ℕ). (slot_at slots t).state ≢ 1) xs → All (λ (x : ℕ). IsNew x (tags_of (s.items.windows e.region))) xs
+    elsewhere xs each =
+        apart-by (λ (t : ℕ). (slot_at slots t).state ≢ 1) (λ (t : ℕ). (slot_at slots t).state ≡ 1) (λ t differs is. differs is) xs
+        (tags_of (s.items.windows e.region)) each (window-states slots e.region (s.items.windows e.region) (s.has.window_items e.region))
+
+    other_windows : (x : ℕ) → x ≢ e.region → All (λ (t : ℕ). IsNew t (tags_of (s.items.windows e.region))) (tags_of (s.items.windows x))
+    other_windows x other =
+        apart-by (λ (t : ℕ). (slot_at slots t).region ≡ x) (λ (t : ℕ). (slot_at slots t).region ≡ e.region) (λ t here there. other (sym here ∙ there))
+        (tags_of (s.items.windows x)) (tags_of (s.items.windows e.region))
+        (window-regions slots x (s.items.windows x) (s.has.window_items x)) (window-regions slots e.region (s.items.windows e.region) (s.has.window_items e.region))
+
+    -- ---- what is so of each region
+    there : e.region < length c.sqs
+    there = sq_there rules late notes c slots s qid (queue_of e) (fetch_open rules late notes c slots s qid e can)
+
+    abbrev index : ℕ
+    index = (s.content.sq e.region).fetched
+
+    abbrev item : Item
+    item = fetched_item tag e.region index entry
+
+    abbrev after : Controller
+    after = fetched_controller c e.region free window ring board
+
+    abbrev content : Content
+    content = after_fetch s.content qid (queue_of e) entry
+
+    abbrev items : Items
+    items = fetched_items s.items e.region item first_free.rest
+
+    abbrev later : Notes
+    later = Logged (Fetch e.region index entry) ∷ notes
+
+    each_region : (P : ℕ → SqState → SqContent → List Item → Type 0)
+        → P e.region (fetched_state (sq_at c.sqs e.region) window ring) (fetched_sq (s.content.sq e.region) entry) (s.items.windows e.region ++ item ∷ [])
+        → ((x : ℕ) → x ≢ e.region → P x (sq_at c.sqs x) (s.content.sq x) (s.items.windows x))
+        → (x : ℕ) → P x (sq_at after.sqs x) (content.sq x) (items.windows x)
+    each_region P here others =
+        put_region-each P c.sqs s.content.sq s.items.windows e.region (fetched_state (sq_at c.sqs e.region) window ring) (fetched_sq (s.content.sq e.region) entry)
+        (s.items.windows e.region ++ item ∷ []) there here others
+
+    -- ---- the numbers
+    board_now : board_of board ≡ came_board s.content qid (queue_of e)
+    board_now =
+        let on = on_its_board rules late notes c slots s qid e can in
+        let came = subst (λ (o : Option OpenQueue). IfSome o (λ (queue : OpenQueue). board_of board ≡ record (board_of c.board) {
+          queues = slice_set (board_of c.board).queues qid (Some (record queue { count = queue.count + 1 }));
+        })) on f.came in
+        came ∙ ap (λ (b : BoardView). record b { queues = slice_set b.queues qid (Some (record { class = e.class; count = length (s.content.sq e.region).window + 1 })) })
+        s.numbers.board_is
+
+    numbers_now : HasNumbers after content
+    numbers_now =
+        let n = s.numbers in
+        record {
+          table_is = n.table_is;
+          sized = n.sized;
+          board_is = board_now;
+          is_arbiter = subst (λ (a : ArbiterFields). IsTrue (is_arbiter a)) (sym f.arbiter) n.is_arbiter;
+          outstanding_is = n.outstanding_is;
+          sq_queue = each_region (λ x state k xs. attachment_of state ≡ k.queue) (n.sq_queue e.region) (λ x other. n.sq_queue x);
+          sq_unposted = each_region (λ x state k xs. state.unposted ≡ k.unposted) (n.sq_unposted e.region) (λ x other. n.sq_unposted x);
+          sq_slots = each_region (λ x state k xs. state.ring.slots ≡ k.slots) (f.same_slots ∙ n.sq_slots e.region) (λ x other. n.sq_slots x);
+          cq_slots = n.cq_slots;
+          sq_some = each_region (λ x state k xs. x < s.content.nsq → 0 < k.slots) (n.sq_some e.region) (λ x other. n.sq_some x);
+          sq_size = length-set c.sqs e.region (fetched_state (sq_at c.sqs e.region) window ring) ∙ n.sq_size;
+          cq_size = n.cq_size;
+        }
+
+    -- ---- the commands
+    picked_le : (x : ℕ) → picked_in c x ≤ length (s.items.windows x)
+    picked_le x = elim (cases_eq x c.picked_region) [
+      | inl same ↦ subst (λ (y : ℕ). picked_in c y ≤ length (s.items.windows y)) (sym same) (rw (eq-eqb c.picked_region c.picked_region refl) s.has.picked_there)
+      | inr other ↦ rw (ne_eqb x c.picked_region other) (omega arith)
+    ]
+
+    window_now : (fetched_sq (s.content.sq e.region) entry).window ≡ map candidate_of (drop (picked_in c e.region) (s.items.windows e.region ++ item ∷ []))
+    window_now =
+        let n : ℕ = picked_in c e.region in
+        let xs : List Item = s.items.windows e.region in
+        ap (λ (cs : List Candidate). cs ++ record { index = index; entry = entry } ∷ []) (s.has.window_is e.region)
+        ∙ sym (ap (λ (ys : List Item). map candidate_of ys) (drop-append-le n xs (item ∷ []) (picked_le e.region)) ∙ map-append candidate_of (drop n xs) (item ∷ []))
+
+    item_now : IsWaitingIn pool e.region item
+    item_now = record {
+      state = ap (λ (x : Slot). x.state) now ∙ f.state;
+      region = ap (λ (x : Slot). x.region) now ∙ f.region;
+      entry = ap (λ (x : Slot). x.entry) now ∙ f.has;
+      place = refl;
+    }
+
+    windows_left : (x : ℕ) → All (IsWaitingIn pool x) (s.items.windows x)
+    windows_left x =
+        all_waiting_stay slots pool tag size left x (s.items.windows x) (λ is. (let zero = was_free in omega (arith, zero, is))) (s.has.window_items x)
+
+    untaken_left : take c.picked (items.windows c.picked_region) ≡ take c.picked (s.items.windows c.picked_region)
+    untaken_left =
+        each_region (λ x state k xs. c.picked ≤ length (s.items.windows x) → take c.picked xs ≡ take c.picked (s.items.windows x))
+        (λ le. take-append-le c.picked (s.items.windows e.region) (item ∷ []) le) (λ x other le. refl) c.picked_region s.has.picked_there
+
+    longer : length (s.items.windows c.picked_region) ≤ length (items.windows c.picked_region)
+    longer =
+        each_region (λ x state k xs. length (s.items.windows x) ≤ length xs)
+        (omega (arith, length-append (s.items.windows e.region) (item ∷ []))) (λ x other. omega arith) c.picked_region
+
+    not_new : (x n : ℕ) → (slot_at pool x).state ≡ n → n ≢ 1 → x ≢ tag
+    not_new x n is differs same = differs (sym is ∙ ap (λ (y : ℕ). (slot_at pool y).state) same ∙ ap (λ (y : Slot). y.state) now ∙ f.state)
+
+    rest_apart : IsNew tag first_free.rest
+    rest_apart = (subst (λ (xs : List ℕ). AreApart xs) first_free.are s.has.free_chain.apart).0
+
+    rest_free : All (is_free slots) first_free.rest
+    rest_free = All-tail (is_free slots) tag first_free.rest (All-same (is_free slots) (tag ∷ first_free.rest) s.items.free (sym first_free.are) s.has.free_items)
+
+    both_free : All (λ (x : ℕ). x ≢ tag × is_free slots x) first_free.rest
+    both_free k d below = (rest_apart k d below, rest_free k d below)
+
+    items_now : HasItems after pool content items
+    items_now =
+        let h = s.has in
+        record {
+          window_chain = each_region (λ x state k xs. IsChain pool state.window (tags_of xs))
+              (subst (IsChain pool window) (sym (map-append (λ (it : Item). it.tag) (s.items.windows e.region) (item ∷ []))) pushed_chain)
+              (λ x other. chain_left (sq_at c.sqs x).window (tags_of (s.items.windows x)) (h.window_chain x) (other_windows x other));
+          window_items = each_region (λ x state k xs. All (IsWaitingIn pool x) xs)
+              (All-push (IsWaitingIn pool e.region) (s.items.windows e.region) item (windows_left e.region) item_now) (λ x other. windows_left x);
+          window_is = each_region (λ x state k xs. k.window ≡ map candidate_of (drop (picked_in c x) xs)) window_now (λ x other. h.window_is x);
+          picked_there = let le = h.picked_there in omega (arith, le, longer);
+          outs_items = All-weaker (IsOutIn slots) (IsOutIn pool)
+              (λ it w. out_stays slots pool tag size left it (other_than it.tag 2 w.state (omega arith)) w) s.items.outs h.outs_items;
+          outs_apart = h.outs_apart;
+          outs_all = λ x is. h.outs_all x (sym (ap (λ (y : Slot). y.state) (left x (not_new x 2 is (λ same. omega (arith, same))))) ∙ is);
+          hand_is = h.hand_is ∙ ap (λ (xs : List Item). places_of (s.items.outs ++ xs)) (sym untaken_left);
+          ready_chain = λ x. chain_left (cq_at c.cqs x).ready (ready_tags (s.items.readies x)) (h.ready_chain x)
+              (elsewhere (ready_tags (s.items.readies x)) (All-weaker (λ (t : ℕ). 3 ≤ (slot_at slots t).state) (λ (t : ℕ). (slot_at slots t).state ≢ 1)
+              (λ t least is. omega (arith, least, is)) (ready_tags (s.items.readies x)) (ready-states slots (s.items.readies x) (h.ready_items x))));
+          ready_items = λ x. all_ready_stay slots pool tag size left (s.items.readies x) (let zero = was_free in omega (arith, zero)) (h.ready_items x);
+          ready_is = h.ready_is;
+          deletion_is = none_kept rules late notes c slots s qid e can ∙ rw can.none_pending refl;
+          deletion_item = λ some. absurd (some can.none_pending);
+          deletion_inside = λ some. absurd (some can.none_pending);
+          free_chain = chain_left free first_free.rest first_free.chain
+              (elsewhere first_free.rest (All-weaker (is_free slots) (λ (t : ℕ). (slot_at slots t).state ≢ 1) (λ t zero is. omega (arith, zero, is)) first_free.rest rest_free));
+          free_items = All-weaker (λ (x : ℕ). x ≢ tag × is_free slots x) (is_free pool) (λ x both. same_state slots pool tag size left x 0 both.0 both.1) first_free.rest both_free;
+          few = let small = h.few in omega (arith, small, size);
+        }
+
+    -- ---- the log
+    index_is : index ≡ length (fetched (logged notes) e.region)
+    index_is = (s.holds.regions e.region).counted ∙ ap (λ (xs : List Sqe). length xs) (sym (s.holds.regions e.region).fetched_is)
+
+    holds_now : Holds rules late (logged later) content
+    holds_now = holds-fetch rules late (logged notes) s.content qid (queue_of e) entry s.holds (can_fetch rules late notes c slots s qid e can)
+
+    doorbells_now : HoldsDoorbells rules later after
+    doorbells_now = record {
+      sqs = each_region (λ x state k xs. 0 < state.ring.slots → HasCounts state.ring (length (fetched (logged later) x)) (submitted rules notes x))
+          (λ some. subst (λ (n : ℕ). HasCounts ring n (submitted rules notes e.region)) (sym (fetched_more (logged notes) e.region index entry))
+          (f.counts (length (fetched (logged notes) e.region)) (submitted rules notes e.region) (fetch_counts rules late notes c slots s qid e can)
+          (more_submitted rules late notes c slots s qid e can)))
+          (λ x other some. subst (λ (ys : List Sqe). HasCounts (sq_at c.sqs x).ring (length ys) (submitted rules notes x))
+          (sym (fetched_others (logged notes) e.region index entry x other)) (s.doorbells.sqs x some));
+      cqs = s.doorbells.cqs;
+      phases = s.doorbells.phases;
+      no_tails = each_region (λ x state k xs. state.ring.slots ≡ 0 → submitted rules notes x ≡ 0)
+          (λ none. s.doorbells.no_tails e.region (sym f.same_slots ∙ none)) (λ x other. s.doorbells.no_tails x);
+      no_heads = s.doorbells.no_heads;
+      no_posts = s.doorbells.no_posts;
+    }
+
+    none_answered_now : (x i : ℕ) → length (fetched (logged later) x) ≤ i → answer_of notes x i ≡ None
+    none_answered_now x i le = s.tags.none_answered x i (let least = fetched_least (logged notes) e.region index entry x in omega (arith, least, le))
+
+    none_held_now : (t : ℕ) → (slot_at pool t).state ≢ 2 → (slot_at pool t).state ≢ 3 → holder notes t ≡ None
+    none_held_now t not_two not_three = elim (cases_eq t tag) [
+      | inl same ↦ s.tags.none_held t (λ is. other_than t 2 is (omega arith) same) (λ is. other_than t 3 is (omega arith) same)
+      | inr other ↦
+          let stays : (slot_at pool t).state ≡ (slot_at slots t).state = ap (λ (y : Slot). y.state) (left t other) in
+          s.tags.none_held t (λ is. not_two (stays ∙ is)) (λ is. not_three (stays ∙ is))
+    ]
+
+    answered_held_now : (t : ℕ) → (slot_at pool t).state ≡ 3 → is_out later t ≡ false
+    answered_held_now t is =
+        let other : t ≢ tag = not_new t 3 is (λ same. omega (arith, same)) in
+        still_not_out-logged (Fetch e.region index entry) notes t (s.tags.answered_held t (sym (ap (λ (y : Slot). y.state) (left t other)) ∙ is))
+
+    hand_entries_now : All (HasEntry (logged later)) (s.items.outs ++ untaken after items)
+    hand_entries_now =
+        All-weaker (HasEntry (logged notes)) (HasEntry (logged later))
+        (λ it h. entry_stays (logged notes) e.region index it.place.region it.place.index entry it.entry h) (s.items.outs ++ untaken after items)
+        (subst (λ (xs : List Item). All (HasEntry (logged notes)) (s.items.outs ++ xs)) (sym untaken_left) s.tags.hand_entries)
+
+    free_count_now : free.len + (all_fetches (logged notes) + 1) ≡ length pool + all_posts (logged notes)
+    free_count_now =
+        let before : c.free.len ≡ length first_free.rest + 1 = s.has.free_chain.len_is ∙ ap (λ (xs : List ℕ). length xs) first_free.are ∙ (let one : length (tag ∷ first_free.rest) ≡ length first_free.rest + 1 = omega arith in one) in
+        let after_it : free.len ≡ length first_free.rest = first_free.chain.len_is in
+        omega (arith, before, after_it, s.tags.free_count, size)
+
+    tags_now : HoldsTags later after pool items
+    tags_now =
+        let t = s.tags in
+        record {
+          untaken_are = t.untaken_are ∙ ap (λ (xs : List Item). taken notes ++ places_of xs) (sym untaken_left);
+          outs_held = t.outs_held;
+          readies_held = t.readies_held;
+          none_held = none_held_now;
+          through = t.through;
+          windows_unanswered = each_region (λ x state k xs. All (λ (it : Item). IsUnanswered notes it.place) xs)
+              (All-push (λ (it : Item). IsUnanswered notes it.place) (s.items.windows e.region) item (t.windows_unanswered e.region)
+              (t.none_answered e.region index (let is = index_is in omega (arith, is))))
+              (λ x other. t.windows_unanswered x);
+          outs_unanswered = t.outs_unanswered;
+          deletion_unanswered = t.deletion_unanswered;
+          none_answered = none_answered_now;
+          answered_held = answered_held_now;
+          hand_entries = hand_entries_now;
+          free_count = free_count_now;
+        }
+
+    lawful_now : late ≡ false → IsLawfulEvent rules notes (Fetch e.region index entry)
+    lawful_now on_time =
+        let next = next-fetch rules late (logged notes) s.content qid (queue_of e) entry s.holds (can_fetch rules late notes c slots s qid e can) holds_now.regions on_time in
+        record {
+          index_counts = next.index_counts;
+          served_while_open = next.served_while_open;
+          observed = next.observed;
+          effects_at_once = next.effects_at_once;
+          deletes = next.deletes;
+          posts_own = tt;
+          leaves_places = next.leaves_places;
+          fetches_submitted = more_submitted rules late notes c slots s qid e can;
+          posts_on_free_slot = tt;
+          posts_what_is_through = tt;
+        }
+
+    account_now : late ≡ false → IsAccount rules later
+    account_now on_time =
+        let a = s.account on_time in
+        record { each = (lawful_now on_time, a.each); lawful = holds_now.arbitration.lawful; effects_whole = (holds_now.own on_time).effects_whole }
+
+    stands_now : StandsAt rules late later after pool
+    stands_now = record {
+      content = content;
+      items = items;
+      holds = holds_now;
+      numbers = numbers_now;
+      has = items_now;
+      doorbells = doorbells_now;
+      tags = tags_now;
+      account = account_now;
+    }
+
+    pub has_fetched : HasFetched rules late notes qid entry after pool
+    unfolding may_fetch
+    has_fetched = record {
+      slot = (sq_at c.sqs e.region).ring.head;
+      may = subst (λ (n : ℕ). MayFetch rules notes (window_limit c) n qid (sq_at c.sqs e.region).ring.head) (sym size) (may_fetch rules late notes c slots s qid e can);
+      stands = subst (λ (n : ℕ). StandsAt rules late (Logged (Fetch e.region n entry) ∷ notes) after pool) index_is stands_now;
+    }

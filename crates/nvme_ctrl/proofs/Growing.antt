@@ -1,0 +1,209 @@
+-- What a controller keeps stands at its log after a region was added.
+use Rattle.std.proofs.Common.{◌≡◌, ℕ, zero, suc, ◌<◌, ◌≤◌, ◌&&◌, Bool, false, not, List, [], filter, length, Option, Some, None, refl, sym, ap, ◌∙◌, subst, arith, inl, inr, sum_by}
+use Rattle.std.proofs.lemmas.List.Sums.{sum_by_push}
+use Rattle.std.proofs.lemmas.Bool.{cases_lt}
+use Rattle.nvme_entry.specs.declared.submission.Sqe.{Sqe}
+use Rattle.nvme_admin.specs.History.{TableHistory}
+use Rattle.nvme_admin.specs.Standing.{TableView, StandsAt, sq_of, cq_of, used_at}
+use Rattle.nvme_admin.specs.declared.bounds.TheConstants.{MAX_REGIONS}
+use Rattle.nvme_log.specs.Effects.{effects_since, made_last}
+use Rattle.nvme_log.specs.Histories.{table_history}
+use Rattle.nvme_log.specs.Rules.{FrontRules, Past, upto, sq_regions_of, cq_regions_of, slots_at}
+use Rattle.nvme_log.specs.Places.{fetched, places, entry_at}
+use Rattle.nvme_log.specs.Completions.{is_posted, takes_place}
+use Rattle.nvme_log.specs.Laws.{as_open}
+use Rattle.nvme_ctrl.specs.kept.Content.{Attachment, PendingDelete, Content}
+use Rattle.nvme_ctrl.specs.kept.Standing.{HoldsSq, HoldsReady, HoldsHand, HoldsCounts, HoldsPosts, HoldsQueues, HoldsDeletion, HoldsTable, HoldsOwn, IsPending, Holds, hand_of}
+
+-- more regions, of which nothing is kept but their slots, and a table with the same queues
+abbrev pub grown : Content → (sq_slots cq_slots : ℕ → ℕ) → (nsq ncq : ℕ) → TableView → Content
+grown k sq_slots cq_slots nsq ncq table = record k {
+  sq = λ (r : ℕ). record (k.sq r) { slots = sq_slots r };
+  cq = λ (c : ℕ). record (k.cq c) { slots = cq_slots c };
+  nsq = nsq;
+  ncq = ncq;
+  table = table;
+}
+
+-- the regions that there are then, and the table with them. Before the first event the table is that of the regions
+pub record Grows (rules : FrontRules) (late : Bool) (past : Past) (regions : TableHistory) (k : Content) (sq_slots cq_slots : ℕ → ℕ) (nsq ncq : ℕ) (table : TableView) : Type 0 where
+  pub sqs : k.nsq ≤ nsq
+  pub cqs : k.ncq ≤ ncq
+  pub same_sq : (q : ℕ) → sq_of table q ≡ sq_of k.table q
+  pub same_cq : (q : ℕ) → cq_of table q ≡ cq_of k.table q
+  pub same_used : (r : ℕ) → used_at table.sq_used r ≡ used_at k.table.sq_used r
+  pub history : TableHistory
+  pub stands : StandsAt rules.start table history
+  pub history_is : late ≡ false → history ≡ table_history (record rules { regions = regions }) past
+  pub no_event : late ≡ false → past ≡ []
+  pub sq_count : length table.sq_regions ≡ nsq
+  pub cq_count : length table.cq_regions ≡ ncq
+  pub sq_number : length (sq_regions_of (record rules { regions = regions })) ≡ nsq
+  pub cq_number : length (cq_regions_of (record rules { regions = regions })) ≡ ncq
+  pub few_sqs : nsq ≤ MAX_REGIONS
+  pub few_cqs : ncq ≤ MAX_REGIONS
+  pub sq_slots_are : (r : ℕ) → slots_at (sq_regions_of (record rules { regions = regions })) r ≡ sq_slots r
+  pub cq_slots_are : (c : ℕ) → slots_at (cq_regions_of (record rules { regions = regions })) c ≡ cq_slots c
+
+-- a sum over more regions, of which the further ones have nothing
+sum_by-further : (f : ℕ → ℕ) (m n : ℕ) → m ≤ n → ((r : ℕ) → m ≤ r → f r ≡ 0) → sum_by f (upto n) ≡ sum_by f (upto m)
+sum_by-further f m zero le none = let same : m ≡ 0 = omega arith in ap (λ (x : ℕ). sum_by f (upto x)) (sym same)
+sum_by-further f m (suc n) le none = elim (cases_lt m (suc n)) [
+  | inl below ↦ omega (arith, sum_by_push f (upto n) n, sum_by-further f m n (omega arith) none, none n (omega arith))
+  | inr from ↦ let same : m ≡ suc n = omega arith in ap (λ (x : ℕ). sum_by f (upto x)) (sym same)
+]
+
+-- how many places of a region that were picked, or that an Abort command aborted, have no completion posted
+abbrev outstanding_in : Past → ℕ → ℕ
+outstanding_in past r = length (filter (λ (i : ℕ). takes_place past r i && not (is_posted past r i)) (places past r))
+
+-- no place has an entry before the first event
+no_entry : (past : Past) (r i : ℕ) (entry : Sqe) → past ≡ [] → entry_at past r i ≡ Some entry → ⊥
+no_entry past r i entry none there = let here : entry_at [] r i ≡ Some entry = subst (λ (p : Past). entry_at p r i ≡ Some entry) none there in cc
+
+module _ (rules : FrontRules) (late later : Bool) (past : Past) (k : Content) (s : Holds rules late past k)
+    (regions : TableHistory) (sq_slots cq_slots : ℕ → ℕ) (nsq ncq : ℕ) (table : TableView)
+    (g : Grows rules later past regions k sq_slots cq_slots nsq ncq table) where
+  -- nothing was got from a region that isn't there
+  none_opened : (r : ℕ) → k.nsq ≤ r → (o : Option Attachment) → (k.sq r).queue ≡ o → (k.sq r).got ≡ []
+  none_opened r past_end None is = (s.queues.unopened r is).nothing_got
+  none_opened r past_end (Some a) is = let there : r < k.nsq = s.queues.sq_there r a is in absurd (omega arith)
+
+  -- nothing was fetched from a region that isn't there
+  pub none_fetched : (r : ℕ) → k.nsq ≤ r → fetched past r ≡ []
+  none_fetched r past_end = (s.regions r).fetched_is ∙ none_opened r past_end (k.sq r).queue refl
+
+  -- the places of each region stay
+  grown_sq : (r : ℕ) → HoldsSq past r (record (k.sq r) { slots = sq_slots r })
+  grown_sq r =
+      let h = s.regions r in
+      record {
+        fetched_is = h.fetched_is;
+        counted = h.counted;
+        waiting_is = h.waiting_is;
+        entries = h.entries;
+        few_waiting = h.few_waiting;
+        few_picked = h.few_picked;
+        none_aborted = h.none_aborted;
+        none_posted = h.none_posted;
+      }
+
+  -- what is ready stays
+  grown_ready : HoldsReady past (grown k sq_slots cq_slots nsq ncq table) (hand_of k)
+  grown_ready = record {
+    once = s.ready.once;
+    each = s.ready.each;
+    taken = s.ready.taken;
+    few_aborted = s.ready.few_aborted;
+    few_taken = s.ready.few_taken;
+    none_beyond = s.ready.none_beyond;
+    admin_qid = s.ready.admin_qid;
+    admin_region = s.ready.admin_region;
+  }
+
+  -- so does what is in hand
+  grown_hand : HoldsHand past (grown k sq_slots cq_slots nsq ncq table)
+  grown_hand = record { each = s.hand.each }
+
+  -- the counts stay, since nothing is outstanding in a new region
+  grown_counts : HoldsCounts (record rules { regions = regions }) past (grown k sq_slots cq_slots nsq ncq table)
+  grown_counts = record {
+    unposted = s.counts.unposted;
+    outstanding_is =
+        s.counts.outstanding_is ∙ ap (λ (n : ℕ). sum_by (outstanding_in past) (upto n)) s.tabled.sq_number
+        ∙ sym (ap (λ (n : ℕ). sum_by (outstanding_in past) (upto n)) g.sq_number
+        ∙ sum_by-further (outstanding_in past) k.nsq nsq g.sqs (λ r past_end. ap (λ (xs : List Sqe). length (filter (λ (i : ℕ). takes_place past r i && not (is_posted past r i)) (upto (length xs)))) (none_fetched r past_end)));
+  }
+
+  -- what was posted stays
+  grown_posts : HoldsPosts past (grown k sq_slots cq_slots nsq ncq table)
+  grown_posts = record { posted_is = s.posts.posted_is; counted = s.posts.counted }
+
+  -- the queues stay
+  grown_queues : HoldsQueues past (grown k sq_slots cq_slots nsq ncq table)
+  grown_queues = record {
+    sqs = λ q. s.queues.sqs q ∙ ap as_open (sym (g.same_sq q));
+    cqs = λ q. s.queues.cqs q ∙ sym (g.same_cq q);
+    board = s.queues.board;
+    board_size = s.queues.board_size;
+    few = s.queues.few;
+    cq_there = λ q c h. let before = s.queues.cq_there q c h in let more = g.cqs in omega arith;
+    qid_is = s.queues.qid_is;
+    cq_region_is = s.queues.cq_region_is;
+    attached = λ q queue h. let a = s.queues.attached q queue h in record { cq_region = a.cq_region; attached = a.attached };
+    sq_there = λ r a h. let before = s.queues.sq_there r a h in let more = g.sqs in omega arith;
+    posts_there = λ r a h. let before = s.queues.posts_there r a h in let more = g.cqs in omega arith;
+    unused = λ r h. s.queues.unused r (sym (g.same_used r) ∙ h);
+    unopened = λ r h. let u = s.queues.unopened r h in record { nothing_got = u.nothing_got; not_closed = u.not_closed };
+    gone = λ r h. let u = s.queues.gone r h in record { all_posted = u.all_posted; none_waits = u.none_waits };
+    closed = s.queues.closed;
+    deleting = λ d h. let o = s.queues.deleting d h in record { cq_region = o.cq_region; opened = o.opened };
+  }
+
+  -- the pending deletion stays
+  grown_pending : (d : PendingDelete) → IsPending past k d → IsPending past (grown k sq_slots cq_slots nsq ncq table) d
+  grown_pending d p = record {
+    closing = p.closing;
+    in_table = g.same_sq d.qid ∙ p.in_table;
+    is_closing = p.is_closing;
+    region = p.region;
+    of_admin = p.of_admin;
+    entry = p.entry;
+    is_there = p.is_there;
+    cid = p.cid;
+    not_aborted = p.not_aborted;
+    none_waits = p.none_waits;
+    not_closed = p.not_closed;
+    not_admin = p.not_admin;
+    attached = p.attached;
+  }
+
+  -- and what is said of deletions
+  grown_deletion : HoldsDeletion past (grown k sq_slots cq_slots nsq ncq table)
+  grown_deletion = record {
+    pending_is = s.deletion.pending_is;
+    place_is = s.deletion.place_is;
+    stands = λ d h. grown_pending d (s.deletion.stands d h);
+    closing_is = λ q e there closes. s.deletion.closing_is q e (sym (g.same_sq q) ∙ there) closes;
+  }
+
+  -- the table stands at a history with the new region
+  grown_table : HoldsTable (record rules { regions = regions }) later past (grown k sq_slots cq_slots nsq ncq table)
+  grown_table = record {
+    history = g.history;
+    stands = g.stands;
+    history_is = g.history_is;
+    sq_count = g.sq_count;
+    cq_count = g.cq_count;
+    sq_number = g.sq_number;
+    cq_number = g.cq_number;
+    few_sqs = g.few_sqs;
+    few_cqs = g.few_cqs;
+    sq_slots = g.sq_slots_are;
+    cq_slots = g.cq_slots_are;
+  }
+
+  -- before the first event nothing has a status
+  grown_own : later ≡ false → HoldsOwn (record rules { regions = regions }) past (grown k sq_slots cq_slots nsq ncq table)
+  grown_own on_time =
+      let none = g.no_event on_time in
+      record {
+        effects_whole = subst (λ (p : Past). effects_since p ≡ made_last (record rules { regions = regions }) p) (sym none) refl;
+        own_statuses = λ c i e lt. let r = s.ready.each c i e lt in absurd (no_entry past _ _ r.entry none r.is_there);
+        own_deletion = λ d h. let p = s.deletion.stands d h in absurd (no_entry past _ _ p.entry none p.is_there);
+      }
+
+  -- more regions leave standing what is kept
+  pub holds_when_grown : Holds (record rules { regions = regions }) later past (grown k sq_slots cq_slots nsq ncq table)
+  holds_when_grown = record {
+    regions = grown_sq;
+    ready = grown_ready;
+    hand = grown_hand;
+    counts = grown_counts;
+    posts = grown_posts;
+    queues = grown_queues;
+    deletion = grown_deletion;
+    arbitration = record { stands = s.arbitration.stands; lawful = s.arbitration.lawful };
+    tabled = grown_table;
+    own = grown_own;
+  }

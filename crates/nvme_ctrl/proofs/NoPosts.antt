@@ -1,0 +1,177 @@
+-- Where nothing is ready in a completion region, what is through of its queues is posted; and a ring with no free slot is full.
+use Rattle.std.proofs.Common.{◌≡◌, ◌≢◌, ℕ, ◌+◌, ◌<◌, ◌≤◌, ◌==◌, ◌&&◌, Bool, true, false, if◌then◌else◌, List, [], ◌∷◌, ◌++◌, length, map, drop, Option, Some, None, refl, sym, ap, ◌∙◌, subst, arith, inl, inr}
+use Rattle.std.specs.Prelude.{All, sum_by}
+use Rattle.std.proofs.lemmas.Bool.{cases_eq, cases_lt, eq-eqb, eqb-true, lt-ltb, and_parts, false_from_ne_true, true_from_ne_false, false≢true}
+use Rattle.std.proofs.lemmas.Option.{same_Some}
+use Rattle.std.proofs.lemmas.List.Sums.{sum_by-cons}
+use Rattle.std.proofs.lemmas.List.Elements.{All-nil, All-cons, All-head, All-tail, All-same, All-map, All-weaker, All-append, All-take, All-drop}
+use Rattle.nvme_entry.specs.declared.submission.Sqe.{Sqe}
+use Rattle.nvme_admin.specs.declared.bounds.TheConstants.{MAX_REGIONS}
+use Rattle.nvme_log.specs.declared.place.Place.{Place}
+use Rattle.nvme_log.specs.Rules.{FrontRules}
+use Rattle.nvme_log.specs.Queues.{cq_region_of}
+use Rattle.nvme_log.specs.Places.{fetched, fate_of, is_aborted, is_waiting, is_served, one_if}
+use Rattle.nvme_log.specs.Completions.{is_posted, posted_to}
+use Rattle.nvme_log.specs.Dispatches.{place_at}
+use Rattle.nvme_log.proofs.Posts.{posts_of-none}
+use Rattle.nvme_ctrl.specs.Notes.{Notes, logged}
+use Rattle.nvme_ctrl.specs.Doorbells.{gap, consumed}
+use Rattle.nvme_ctrl.specs.Tags.{answer_of}
+use Rattle.nvme_ctrl.specs.Posts.{IsFullRing, AllPosted}
+use Rattle.nvme_ctrl.specs.declared.slot.Slot.{Slot}
+use Rattle.nvme_ctrl.specs.declared.state.Controller.{Controller}
+use Rattle.nvme_ctrl.specs.kept.Content.{Candidate, Ready, PendingDelete}
+use Rattle.nvme_ctrl.specs.kept.Standing.{IsInHand, IsReady, times_in, times_held, held_by}
+use Rattle.nvme_ctrl.specs.kept.Pool.{IsChain}
+use Rattle.nvme_ctrl.specs.kept.State.{cq_at, picked_in}
+use Rattle.nvme_ctrl.specs.kept.Kept.{Item, ReadyItem, ready_tags, readies_of, candidate_of, places_of, untaken, IsWaitingIn, IsUnanswered, StandsAt}
+use Rattle.nvme_ctrl.proofs.OwnStatus.{waiting_is_unaborted}
+use Rattle.nvme_ctrl.proofs.Readying.{over_none}
+use Rattle.nvme_ctrl.proofs.ReadyHand.{times_held-append}
+use Rattle.nvme_ctrl.proofs.Served.{IsServed, through-served}
+use Rattle.nvme_ctrl.proofs.SlotItems.{All-both}
+use Rattle.nvme_ctrl.proofs.Turns.{filled-is}
+use Rattle.nvme_ctrl.proofs.Windows.{window-waits, served-or_window}
+
+-- a test that none passes counts none
+none_of : {X : Type 0} (test : X → Bool) (xs : List X) → All (λ (z : X). test z ≡ false) xs → sum_by (λ (z : X). one_if (test z)) xs ≡ 0
+none_of test [] h = refl
+none_of {X = X} test (x ∷ xs) h =
+    omega (
+      arith,
+      sum_by-cons (λ (z : X). one_if (test z)) x xs,
+      ap one_if (All-head (λ (z : X). test z ≡ false) x xs h),
+      none_of test xs (All-tail (λ (z : X). test z ≡ false) x xs h),
+    )
+
+-- the pending deletion, where there is one
+pending_place : (pending : ℕ) (m d : PendingDelete) → Some d ≡ (if pending == 0 then None else Some m) → (pending ≢ 0) × (d.place ≡ m.place)
+pending_place pending m d h = by (pending == 0) refl h where
+  by : (b : Bool) → (pending == 0) ≡ b → Some d ≡ (if b then None else Some m) → (pending ≢ 0) × (d.place ≡ m.place)
+  by true e k = cc k
+  by false e k = (λ zero. absurd (false≢true (sym e ∙ eq-eqb pending 0 zero)), ap (λ (z : PendingDelete). z.place) (same_Some d m k))
+
+module _ (rules : FrontRules) (late : Bool) (notes : Notes) (c : Controller) (slots : List Slot) (stands : StandsAt rules late notes c slots) where
+  -- ---- a place that is through
+  -- it is none that is neither aborted nor answered
+  undone_other : (r i : ℕ) → IsServed notes (place_at r i) → (q : Place) → is_aborted (logged notes) q.region q.index ≡ false → IsUnanswered notes q
+      → (q.region == r && q.index == i) ≡ false
+  undone_other r i served q unaborted unanswered = false_from_ne_true (q.region == r && q.index == i) (λ same.
+      let parts = and_parts (q.region == r) (q.index == i) same in
+      let er : q.region ≡ r = eqb-true q.region r parts.0 in
+      let ei : q.index ≡ i = eqb-true q.index i parts.1 in
+      elim served [
+        | inl aborted ↦ false≢true (sym unaborted ∙ (λ j. is_aborted (logged notes) (er j) (ei j)) ∙ aborted)
+        | inr a ↦ (let none : None ≡ Some a.answer = sym unanswered ∙ (λ j. answer_of notes (er j) (ei j)) ∙ a.answered in cc none)
+      ])
+
+  -- it was fetched
+  was_fetched : (r i : ℕ) → IsServed notes (place_at r i) → i < length (fetched (logged notes) r)
+  was_fetched r i served = elim (cases_lt i (length (fetched (logged notes) r))) [
+    | inl within ↦ within
+    | inr beyond ↦ absurd (elim served [
+      | inl aborted ↦ (
+          let got : length (stands.content.sq r).got ≤ i = subst (λ (xs : List Sqe). length xs ≤ i) (stands.holds.regions r).fetched_is beyond in
+          false≢true (sym ((stands.holds.regions r).none_aborted i got) ∙ aborted))
+      | inr a ↦ (let none : None ≡ Some a.answer = sym (stands.tags.none_answered r i beyond) ∙ a.answered in cc none)
+    ])
+  ]
+
+  -- it doesn't wait
+  not_waiting : (r i : ℕ) → IsServed notes (place_at r i) → one_if (is_served (logged notes) r i) ≡ 1
+  not_waiting r i served =
+      let s = stands.content.sq r in
+      let all : List Item = stands.items.windows r in
+      let unanswered : All (λ (it : Item). answer_of notes r it.place.index ≡ None) all =
+      All-both (IsWaitingIn slots r) (λ (it : Item). IsUnanswered notes it.place) (λ (it : Item). answer_of notes r it.place.index ≡ None)
+      (λ it h u. ap (λ (z : ℕ). answer_of notes z it.place.index) (sym h.place) ∙ u) all (stands.has.window_items r) (stands.tags.windows_unanswered r) in
+      let candidates : All (λ (z : Candidate). answer_of notes r z.index ≡ None) s.window =
+      All-same (λ (z : Candidate). answer_of notes r z.index ≡ None) s.window (map candidate_of (drop (picked_in c r) all)) (stands.has.window_is r)
+      (All-map (λ (z : Candidate). answer_of notes r z.index ≡ None) candidate_of (drop (picked_in c r) all)
+      (All-drop (λ (it : Item). answer_of notes r it.place.index ≡ None) (picked_in c r) all unanswered)) in
+      let others : All (λ (z : Candidate). (z.index == i) ≡ false) s.window =
+      All-both (λ (z : Candidate). is_waiting (fate_of (logged notes) r z.index) ≡ true) (λ (z : Candidate). answer_of notes r z.index ≡ None) (λ (z : Candidate). (z.index == i) ≡ false)
+      (λ z w u. subst (λ (b : Bool). (b && z.index == i) ≡ false) (eq-eqb r r refl) (undone_other r i served (place_at r z.index) (waiting_is_unaborted (logged notes) r z.index w) u))
+      s.window (window-waits (logged notes) r s (stands.holds.regions r)) candidates in
+      omega (
+        arith,
+        served-or_window (logged notes) r s (stands.holds.regions r) i,
+        none_of (λ (z : Candidate). z.index == i) s.window others,
+        ap one_if (lt-ltb i (length (fetched (logged notes) r)) (was_fetched r i served)),
+      )
+
+  -- it isn't in hand
+  not_in_hand : (r i : ℕ) → IsServed notes (place_at r i) → times_held r i stands.content.hand ≡ 0
+  not_in_hand r i served =
+      let held : List Item = stands.items.outs ++ untaken c stands.items in
+      let unanswered : All (IsUnanswered notes) stands.content.hand =
+      All-same (IsUnanswered notes) stands.content.hand (places_of held) stands.has.hand_is
+      (All-map (IsUnanswered notes) (λ (it : Item). it.place) held
+      (All-append (λ (it : Item). IsUnanswered notes it.place) stands.items.outs (untaken c stands.items) stands.tags.outs_unanswered
+      (All-take (λ (it : Item). IsUnanswered notes it.place) c.picked (stands.items.windows c.picked_region) (stands.tags.windows_unanswered c.picked_region)))) in
+      none_of (λ (q : Place). q.region == r && q.index == i) stands.content.hand
+      (All-both (IsInHand (logged notes)) (IsUnanswered notes) (λ (q : Place). (q.region == r && q.index == i) ≡ false)
+      (λ q h u. undone_other r i served q h.not_aborted u) stands.content.hand stands.holds.hand.each unanswered)
+
+  -- nor that of the pending deletion
+  not_deleting : (r i : ℕ) → IsServed notes (place_at r i) → times_held r i (held_by stands.content.deletion) ≡ 0
+  not_deleting r i served = by stands.content.deletion refl where
+    by : (o : Option PendingDelete) → stands.content.deletion ≡ o → times_held r i (held_by o) ≡ 0
+    by None e = refl
+    by (Some d) e =
+        let is = pending_place c.deletion.pending _ d (sym e ∙ stands.has.deletion_is) in
+        let unanswered : IsUnanswered notes d.place = subst (IsUnanswered notes) (sym is.1) (stands.tags.deletion_unanswered is.0) in
+        let unaborted : is_aborted (logged notes) d.place.region d.place.index ≡ false = (stands.holds.deletion.stands d e).not_aborted in
+        none_of (λ (q : Place). q.region == r && q.index == i) (d.place ∷ [])
+        (All-cons (λ (q : Place). (q.region == r && q.index == i) ≡ false) d.place [] (undone_other r i served d.place unaborted unanswered)
+        (All-nil (λ (q : Place). (q.region == r && q.index == i) ≡ false)))
+
+  -- nor ready, where nothing is ready in the region that it posts to
+  not_ready_at : (x r i : ℕ) → (stands.content.cq x).ready ≡ [] → cq_region_of (logged notes) r ≡ Some x → (y : ℕ) → times_in r i (stands.content.cq y).ready ≡ 0
+  not_ready_at x r i empty region y =
+      none_of (λ (t : Ready). t.place.region == r && t.place.index == i) (stands.content.cq y).ready (elim (cases_eq y x) [
+        | inl same ↦ All-same (λ (t : Ready). (t.place.region == r && t.place.index == i) ≡ false) (stands.content.cq y).ready []
+            (ap (λ (z : ℕ). (stands.content.cq z).ready) same ∙ empty) (All-nil (λ (t : Ready). (t.place.region == r && t.place.index == i) ≡ false))
+        | inr other ↦ All-weaker (IsReady (logged notes) stands.content.deletion y) (λ (t : Ready). (t.place.region == r && t.place.index == i) ≡ false)
+            (λ t h. false_from_ne_true (t.place.region == r && t.place.index == i) (λ same.
+            let er : t.place.region ≡ r = eqb-true t.place.region r (and_parts (t.place.region == r) (t.place.index == i) same).0 in
+            other (same_Some y x (sym h.region ∙ ap (λ (z : ℕ). cq_region_of (logged notes) z) er ∙ region))))
+            (stands.content.cq y).ready (stands.holds.ready.each y)
+      ])
+
+  -- so it is posted
+  pub all_posted : (x : ℕ) → (stands.content.cq x).ready ≡ [] → AllPosted notes x
+  all_posted x empty r i region through = true_from_ne_false (is_posted (logged notes) r i) (λ unposted.
+      let served : IsServed notes (place_at r i) = through-served notes r i through in
+      omega (
+        arith,
+        stands.holds.ready.once r i,
+        not_waiting r i served,
+        over_none (λ (y : ℕ). times_in r i (stands.content.cq y).ready) MAX_REGIONS (λ y lt. not_ready_at x r i empty region y),
+        posts_of-none (logged notes) r i unposted,
+        times_held-append r i stands.content.hand (held_by stands.content.deletion),
+        not_in_hand r i served,
+        not_deleting r i served,
+      ))
+
+  -- no slot is ready where the chain has none
+  pub none_ready : (x : ℕ) → ((y : ℕ) (rest : List ℕ) → IsChain slots (cq_at c.cqs x).ready (y ∷ rest) → ⊥) → (stands.content.cq x).ready ≡ []
+  none_ready x none = stands.has.ready_is x ∙ by (stands.items.readies x) (stands.has.ready_chain x) where
+    by : (items : List ReadyItem) → IsChain slots (cq_at c.cqs x).ready (ready_tags items) → readies_of items ≡ []
+    by [] h = refl
+    by (it ∷ rest) h = absurd (none it.tag (ready_tags rest) h)
+
+  -- ---- a ring with no free slot
+  pub full_ring : (x : ℕ) → (cq_at c.cqs x).ring.slots ≤ gap (cq_at c.cqs x).ring.slots (cq_at c.cqs x).ring.head (cq_at c.cqs x).ring.tail + 1 → IsFullRing rules notes x
+  full_ring x filled =
+      let slots_are = stands.holds.tabled.cq_slots x in
+      let ring_is = stands.numbers.cq_slots x in
+      elim (cases_lt 0 (cq_at c.cqs x).ring.slots) [
+        | inl some ↦ (
+            let is = filled-is (cq_at c.cqs x).ring (consumed rules notes x) (length (posted_to (logged notes) x)) (stands.doorbells.cqs x some) in
+            omega (arith, slots_are, ring_is, filled, is))
+        | inr none ↦ (
+            let zero : (cq_at c.cqs x).ring.slots ≡ 0 = omega (arith, none) in
+            let heads = stands.doorbells.no_heads x zero in
+            omega (arith, slots_are, ring_is, zero, heads))
+      ]

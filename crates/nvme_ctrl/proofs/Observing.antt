@@ -1,0 +1,171 @@
+-- What arbitration sees of the board is the observation of the log, and what a pick says of its queue.
+use Rattle.std.proofs.Common.{◌≡◌, ℕ, zero, suc, ◌+◌, ◌≤◌, ◌==◌, ◌&&◌, Bool, false, nat_lt, List, [], ◌∷◌, ◌++◌, length, take, slice_index_or, Option, Some, None, refl, sym, ap, subst, ◌∙◌, arith}
+use Rattle.std.specs.Prelude.{option_map, All, if◌then◌else◌}
+use Rattle.std.specs.List.{flat_map}
+use Rattle.std.proofs.lemmas.Bool.{cond-true, eq-eqb, and_parts}
+use Rattle.std.proofs.lemmas.List.{append-nil, length-map}
+use Rattle.std.proofs.lemmas.List.Concat.{flat_map-append}
+use Rattle.std.proofs.lemmas.List.Elements.{All-filter, filter_passes}
+use Rattle.nvme_arbiter.specs.Settings.{ArbitrationFields, burst_of, IsLevel}
+use Rattle.nvme_arbiter.specs.Limits.{queue_limit}
+use Rattle.nvme_arbiter.specs.Observation.{is_class, IsSeen, IsObservation, ready, ready_of}
+use Rattle.nvme_arbiter.specs.Next.{next}
+use Rattle.nvme_arbiter.specs.History.{History, settings_after, last_served, last_served_of, used_in_round}
+use Rattle.nvme_arbiter.specs.Rules.{within_burst}
+use Rattle.nvme_arbiter.specs.Lawful.{lawful_pick}
+use Rattle.nvme_arbiter.specs.Queues.{seen_of, queue_at, shown}
+use Rattle.nvme_arbiter.specs.Queues as board
+use Rattle.nvme_arbiter.specs.declared.pick.OpenQueue.{OpenQueue}
+use Rattle.nvme_arbiter.specs.declared.pick.Pick.{Pick}
+use Rattle.nvme_arbiter.specs.declared.pick.Seen.{Seen}
+use Rattle.nvme_arbiter.specs.declared.settings.Class.{Class}
+use Rattle.nvme_arbiter.specs.declared.settings.Class.TheVariants.{Admin, Urgent}
+use Rattle.nvme_arbiter.specs.declared.settings.Mechanism.{Mechanism}
+use Rattle.nvme_arbiter.specs.declared.settings.Mechanism.TheVariants.{RoundRobin, Weighted}
+use Rattle.nvme_arbiter.proofs.MaskLemmas.{find_qid, seen-some, seen-none, seen-all}
+use Rattle.nvme_arbiter.proofs.Choices.{take_from_some, next_is_one, same_class, IsFrom, Choice, of_admin, of_urgent, of_level, weighted_some}
+use Rattle.nvme_arbiter.proofs.PickLaws.{picks_are_measured}
+use Rattle.nvme_ctrl.specs.kept.Content.{Candidate}
+use Rattle.nvme_log.specs.Rules.{Past, upto}
+use Rattle.nvme_log.specs.Queues.{Queue, open_sq}
+use Rattle.nvme_log.specs.Places.{waiting, seen_as, observation_of}
+use Rattle.nvme_ctrl.specs.kept.Content.{Content}
+use Rattle.nvme_ctrl.specs.kept.Standing.{HoldsSq, HoldsQueues, on_board}
+
+-- ---- the observation
+-- the window of a region is as long as the list of its places that wait
+pub waiting_length : (past : Past) (k : Content) (r : ℕ) → HoldsSq past r (k.sq r) → length (waiting past r) ≡ length (k.sq r).window
+waiting_length past k r h = ap length h.waiting_is ∙ length-map (k.sq r).window (λ (c : Candidate). c.index)
+
+-- an open queue is seen on the board as it is seen in the log
+seen_one : (past : Past) (k : Content) (q : ℕ) (queue : Queue) → ((r : ℕ) → HoldsSq past r (k.sq r))
+    → seen_as past q (Some queue) ≡ board.seen_as q (on_board k queue) ∷ []
+seen_one past k q queue h = rw (waiting_length past k queue.region (h queue.region)) refl
+
+-- one queue more of the board
+seen_more : (past : Past) (k : Content) (n : ℕ) (xs : List Seen) (o : Option Queue) → ((r : ℕ) → HoldsSq past r (k.sq r))
+    → queue_at k.board.queues n ≡ option_map (on_board k) o → xs ≡ seen_of (take n k.board.queues)
+    → xs ++ seen_as past n o ≡ seen_of (take (n + 1) k.board.queues)
+seen_more past k n xs None h e is = append-nil xs ∙ seen-none k.board.queues n xs e is
+seen_more past k n xs (Some queue) h e is = rw (seen_one past k n queue h) (seen-some k.board.queues n (on_board k queue) xs e is)
+
+-- the queues of the board below an identifier are seen as the open queues below it are, with their waiting places
+seen_below : (past : Past) (k : Content) → ((r : ℕ) → HoldsSq past r (k.sq r))
+    → ((q : ℕ) → queue_at k.board.queues q ≡ option_map (on_board k) (open_sq past q)) → (n : ℕ)
+    → flat_map (λ (q : ℕ). seen_as past q (open_sq past q)) (upto n) ≡ seen_of (take n k.board.queues)
+seen_below past k h b zero = refl
+seen_below past k h b (suc n) =
+    let more : suc n ≡ n + 1 = omega arith in
+    flat_map-append (λ (q : ℕ). seen_as past q (open_sq past q)) (upto n) (n ∷ [])
+    ∙ ap (λ (ys : List Seen). flat_map (λ (q : ℕ). seen_as past q (open_sq past q)) (upto n) ++ ys) (append-nil (seen_as past n (open_sq past n)))
+    ∙ seen_more past k n (flat_map (λ (q : ℕ). seen_as past q (open_sq past q)) (upto n)) (open_sq past n) h (b n) (seen_below past k h b n)
+    ∙ ap (λ (m : ℕ). seen_of (take m k.board.queues)) (sym more)
+
+-- what arbitration sees of the board, where it has this many places
+seen_all : (past : Past) (k : Content) (n : ℕ) → ((r : ℕ) → HoldsSq past r (k.sq r))
+    → ((q : ℕ) → queue_at k.board.queues q ≡ option_map (on_board k) (open_sq past q)) → length k.board.queues ≡ n
+    → flat_map (λ (q : ℕ). seen_as past q (open_sq past q)) (upto n) ≡ seen_of k.board.queues
+seen_all past k n h b size = seen-all k.board.queues n (flat_map (λ (q : ℕ). seen_as past q (open_sq past q)) (upto n)) (omega arith) (seen_below past k h b n)
+
+-- what arbitration sees of the board is the observation of the log
+pub seen_is_observed : (past : Past) (k : Content) → ((r : ℕ) → HoldsSq past r (k.sq r)) → HoldsQueues past k
+    → seen_of k.board.queues ≡ observation_of past
+seen_is_observed past k h q = sym (seen_all past k queue_limit h q.board q.board_size)
+
+-- ---- a pick
+-- what a pick says of its queue: it is open on the board, with as many commands as are taken; of the admin queue one is taken
+pub record IsPeeked (queues : List (Option OpenQueue)) (pick : Pick) : Type 0 where
+  pub queue : OpenQueue
+  pub is_open : queue_at queues pick.qid ≡ Some queue
+  pub at_least_one : 1 ≤ pick.n
+  pub enough : pick.n ≤ queue.count
+  pub one_of_admin : pick.qid ≡ 0 → pick.n ≡ 1
+
+-- a ready queue of a class, as it was seen
+record IsReadyOf (class : Class) (s : Seen) : Type 0 where
+  pub seen : IsSeen s
+  pub class_is : class ≡ s.class
+
+-- each ready queue of a class is one that was seen, in that class
+ready_ones : (class : Class) (seen : List Seen) → All IsSeen seen → All (IsReadyOf class) (ready_of class seen)
+ready_ones class seen a = λ k d h.
+    let s : Seen = slice_index_or (ready_of class seen) k d in
+    let parts = and_parts (is_class class s.class) (nat_lt 0 s.count) (filter_passes (λ (t : Seen). is_class class t.class && nat_lt 0 t.count) seen k d h) in
+    record {
+      seen = All-filter (λ (t : Seen). is_class class t.class && nat_lt 0 t.count) IsSeen seen a k d h;
+      class_is = same_class class s.class parts.0;
+    }
+
+-- a pick of a class other than that of the admin queue is of another queue
+not_of_admin : (last : Class → Option ℕ) (seen : List Seen) (class : Class) (fresh : Bool) (number : Seen → ℕ) (p : Pick)
+    → IsObservation seen → IsFrom last seen class fresh number p → p.qid ≡ 0 → class ≡ Admin
+not_of_admin last seen class fresh number p o f zero_is =
+    let is = next_is_one (IsReadyOf class) (last class) (ready_of class seen) f.queue (ready_ones class seen o.each) f.next_is in
+    is.class_is ∙ is.seen.admin.1 (sym f.taken_is.qid ∙ zero_is)
+
+-- one command is taken of the admin queue, by the weighted mechanism
+one_by_choice : (s : ArbitrationFields) (last : Class → Option ℕ) (used : Class → ℕ) (seen : List Seen) (p : Pick)
+    → IsObservation seen → Choice s last used seen p → p.qid ≡ 0 → p.n ≡ 1
+one_by_choice s last used seen p o (of_admin f) z = f.taken_is.n
+one_by_choice s last used seen p o (of_urgent f) z =
+    let e : Urgent ≡ Admin = not_of_admin last seen Urgent false _ p o f z in
+    absurd (cc)
+one_by_choice s last used seen p o (of_level fresh level f) z = absurd (subst IsLevel (not_of_admin last seen level fresh _ p o f.from z) f.level_is)
+
+-- one command is taken of the admin queue
+pub one_of_admin : (m : Mechanism) (first : ArbitrationFields) (past : History) (seen : List Seen) (p : Pick)
+    → IsObservation seen → lawful_pick m first past seen ≡ Some p → p.qid ≡ 0 → p.n ≡ 1
+one_of_admin RoundRobin first past seen p o h z =
+    let s : ArbitrationFields = settings_after first past in
+    let t = take_from_some false (λ (q : Seen). if q.qid == 0 then 1 else within_burst (burst_of s) q.count) (next (last_served past) (ready seen)) p h in
+    t.2.n ∙ cond-true (t.0.qid == 0) 1 (within_burst (burst_of s) t.0.count) (eq-eqb t.0.qid 0 (sym t.2.qid ∙ z))
+one_of_admin Weighted first past seen p o h z =
+    one_by_choice (settings_after first past) (λ c. last_served_of c past) (λ l. used_in_round l past) seen p o
+    (weighted_some (settings_after first past) (λ c. last_served_of c past) (λ l. used_in_round l past) seen p h) z
+
+-- the queue of a pick on the board, where it was seen with enough commands
+peeked_at : (queues : List (Option OpenQueue)) (pick : Pick) (s : Seen) (o : Option OpenQueue) → queue_at queues pick.qid ≡ o
+    → option_map (board.seen_as pick.qid) o ≡ Some s → 1 ≤ pick.n → pick.n ≤ s.count → (pick.qid ≡ 0 → pick.n ≡ 1) → IsPeeked queues pick
+peeked_at queues pick s None e f one few admin = absurd (cc)
+peeked_at queues pick s (Some queue) e f one few admin =
+    let same : board.seen_as pick.qid queue ≡ s = cc in
+    record { queue = queue; is_open = e; at_least_one = one; enough = subst (λ (x : Seen). pick.n ≤ x.count) (sym same) few; one_of_admin = admin }
+
+-- the pick of a board: its queue is open there, with enough commands that wait
+pub peeked : (m : Mechanism) (first : ArbitrationFields) (past : History) (queues : List (Option OpenQueue)) (pick : Pick)
+    → IsObservation (seen_of queues) → lawful_pick m first past (seen_of queues) ≡ Some pick → IsPeeked queues pick
+peeked m first past queues pick o h =
+    let is = picks_are_measured m first past (seen_of queues) pick o h in
+    peeked_at queues pick is.queue (queue_at queues pick.qid) refl (sym (find_qid queues pick.qid) ∙ is.was_seen) is.at_least_one is.within_count
+    (one_of_admin m first past (seen_of queues) pick o h)
+
+-- ---- the same, in the log
+-- the queue of a pick is open in the log, with as many candidates as are taken; of the admin queue one is taken
+pub record IsPickable (past : Past) (k : Content) (pick : Pick) : Type 0 where
+  pub queue : Queue
+  pub is_open : open_sq past pick.qid ≡ Some queue
+  pub at_least_one : 1 ≤ pick.n
+  pub enough : pick.n ≤ length (k.sq queue.region).window
+  pub one_of_admin : pick.qid ≡ 0 → pick.n ≡ 1
+
+-- the queue of a pick in the log, where the board has the queues of the log
+pickable_at : (past : Past) (k : Content) (pick : Pick) (o : Option Queue) → open_sq past pick.qid ≡ o
+    → queue_at k.board.queues pick.qid ≡ option_map (on_board k) o → IsPeeked k.board.queues pick → IsPickable past k pick
+pickable_at past k pick None e b is = let both : None ≡ Some is.queue = sym b ∙ is.is_open in absurd (cc)
+pickable_at past k pick (Some queue) e b is =
+    let both : Some (on_board k queue) ≡ Some is.queue = sym b ∙ is.is_open in
+    let same : on_board k queue ≡ is.queue = cc in
+    record {
+      queue = queue;
+      is_open = e;
+      at_least_one = is.at_least_one;
+      enough = subst (λ (x : OpenQueue). pick.n ≤ x.count) (sym same) is.enough;
+      one_of_admin = is.one_of_admin;
+    }
+
+-- the pick of a board is of a queue that is open in the log
+pub pickable : (m : Mechanism) (first : ArbitrationFields) (history : History) (past : Past) (k : Content) (pick : Pick)
+    → HoldsQueues past k → IsObservation (seen_of k.board.queues) → lawful_pick m first history (seen_of k.board.queues) ≡ Some pick
+    → IsPickable past k pick
+pickable m first history past k pick q o h =
+    pickable_at past k pick (open_sq past pick.qid) refl (q.board pick.qid) (peeked m first history k.board.queues pick o h)

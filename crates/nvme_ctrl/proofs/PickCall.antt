@@ -1,0 +1,428 @@
+-- The next pick, and a pick of an I/O queue: the controller stands at its log afterwards.
+use Rattle.std.proofs.Common.{◌-◌, ◌≢◌, ◌⊎◌, inl, inr}
+use Rattle.std.specs.Prelude.{option_map}
+use Rattle.std.proofs.lemmas.Bool.{and_parts, eqb-true}
+use Rattle.std.proofs.lemmas.List.{length-append, length-take-le}
+use Rattle.nvme_log.specs.Queues.{pending}
+use Rattle.nvme_log.specs.Completions.{outstanding}
+use Rattle.nvme_ctrl.specs.kept.Content.{PendingDelete}
+use Rattle.nvme_ctrl.specs.kept.Standing.{as_deletion}
+use Rattle.nvme_ctrl.specs.kept.Kept.{pending_of}
+use Rattle.nvme_ctrl.specs.kept.Pool.{slot_at}
+use Rattle.std.proofs.Common.{◌≡◌, ℕ, ◌+◌, ◌<◌, ◌≤◌, ◌==◌, ◌&&◌, Bool, true, false, if◌then◌else◌, List, [], ◌∷◌, ◌++◌, length, map, take, drop, Option, Some, None, refl, sym, ap, ◌∙◌, subst, arith}
+use Rattle.std.specs.Prelude.{min, slice_set, IsTrue}
+use Rattle.std.specs.List.{All}
+use Rattle.std.proofs.lemmas.Bool.{eq-eqb, ne_eqb}
+use Rattle.std.proofs.lemmas.List.{append-nil, drop-map, length-map, length-set, map-append, take-map}
+use Rattle.std.proofs.lemmas.List.Elements.{All-append, All-head, All-same, All-tail, All-take}
+use Rattle.nvme_arbiter.specs.declared.board_fields.BoardFields.{BoardFields}
+use Rattle.nvme_log.specs.Limits.{max_outstanding}
+use Rattle.nvme_log.specs.Laws.{as_open}
+use Rattle.nvme_log.specs.Aborts.{is_abort_entry}
+use Rattle.nvme_ctrl.specs.inside.Picks.{oldest_entry, places_in}
+use Rattle.nvme_admin.specs.Layout.{view_of}
+use Rattle.nvme_admin.specs.Standing.{TableView, sq_of}
+use Rattle.nvme_admin.specs.declared.verdict.SqEntry.{SqEntry}
+use Rattle.nvme_ctrl.specs.declared.picks.Step.TheVariants as step
+use Rattle.nvme_log.specs.Queues.{Queue}
+use Rattle.nvme_log.specs.declared.event.Event.TheVariants as event
+use Rattle.nvme_log.specs.declared.place.Place.{Place}
+use Rattle.nvme_log.specs.Places.{fetched, entry_at}
+use Rattle.nvme_log.specs.Dispatches.{place_at, dispatched, dispatched_by}
+use Rattle.nvme_ctrl.specs.Notes.{Notes, logged}
+use Rattle.nvme_ctrl.specs.Doorbells.{submitted}
+use Rattle.nvme_ctrl.specs.Rings.{HasCounts}
+use Rattle.nvme_ctrl.specs.Tags.{taken}
+use Rattle.nvme_ctrl.specs.Steps.{IsNextPick, HasStepped, IsBusy, LacksPlaces, picked_notes}
+use Rattle.nvme_ctrl.specs.declared.state.SqState.{SqState}
+use Rattle.nvme_ctrl.specs.kept.Content.{Candidate, SqContent, Content}
+use Rattle.nvme_ctrl.specs.kept.Standing.{Holds, IsAttached}
+use Rattle.nvme_ctrl.specs.inside.Steps.{CanPick, picked_sq}
+use Rattle.nvme_ctrl.specs.kept.Pool.{IsChain}
+use Rattle.nvme_ctrl.specs.kept.State.{sq_at, attachment_of, picked_in}
+use Rattle.nvme_ctrl.specs.kept.Kept.{Item, Items, IsWaitingIn, HasNumbers, HasItems, HoldsDoorbells, HoldsTags, HasEntry, StandsAt, tags_of, places_of, candidate_of, untaken}
+use Rattle.nvme_arbiter.proofs.Stands.{lawful as lawful_where_stands}
+use Rattle.nvme_ctrl.proofs.AfterSteps.{after_io, place_of}
+use Rattle.nvme_ctrl.proofs.Counts.{outstanding-pick}
+use Rattle.nvme_ctrl.proofs.FewUnposted.{few_unposted}
+use Rattle.nvme_ctrl.proofs.NextEvents.{next-io}
+use Rattle.nvme_ctrl.proofs.Observing.{IsPickable, pickable, seen_is_observed}
+use Rattle.nvme_ctrl.proofs.OwnStatus.{All-unmap}
+use Rattle.nvme_ctrl.proofs.RegionStates.{put_sq-each}
+use Rattle.nvme_ctrl.proofs.SlotItems.{All-both, All-parts, at_put}
+use Rattle.nvme_ctrl.proofs.Standing.{holds-io}
+use Rattle.nvme_arbiter.specs.Settings.{ArbitrationFields}
+use Rattle.nvme_arbiter.specs.History.{History, Picked}
+use Rattle.nvme_arbiter.specs.Lawful.{lawful_pick}
+use Rattle.nvme_arbiter.specs.Queues.{seen_of}
+use Rattle.nvme_arbiter.specs.Layout.{is_arbiter, board_of}
+use Rattle.nvme_arbiter.specs.Board.{BoardView, BoardStandsAt, queues_after}
+use Rattle.nvme_arbiter.specs.Standing.{pick_of}
+use Rattle.nvme_arbiter.specs.declared.settings.Mechanism.{Mechanism}
+use Rattle.nvme_arbiter.specs.declared.pick.Pick.{Pick}
+use Rattle.nvme_arbiter.specs.declared.pick.Seen.{Seen}
+use Rattle.nvme_log.specs.Rules.{FrontRules, Past}
+use Rattle.nvme_log.specs.Places.{observation_of}
+use Rattle.nvme_log.specs.Histories.{arbitration_of}
+use Rattle.nvme_ctrl.specs.declared.slot.Slot.{Slot}
+use Rattle.nvme_ctrl.specs.declared.state.Controller.{Controller}
+
+module _ (rules : FrontRules) (late : Bool) (notes : Notes) (c : Controller) (slots : List Slot) (s : StandsAt rules late notes c slots) where
+  abbrev past : Past
+  past = logged notes
+
+  -- the board stands at the arbitration of the log
+  pub board_stands : BoardStandsAt rules.mechanism rules.start.settings (arbitration_of past) (board_of c.board)
+  board_stands = subst (λ (b : BoardView). BoardStandsAt rules.mechanism rules.start.settings (arbitration_of past) b) (sym s.numbers.board_is) s.holds.arbitration.stands
+
+  -- and sees what waits
+  pub board_sees : seen_of (board_of c.board).queues ≡ observation_of past
+  board_sees = ap (λ (b : BoardView). seen_of b.queues) s.numbers.board_is ∙ seen_is_observed past s.content s.holds.regions s.holds.queues
+
+  -- so what it would pick is the next pick
+  pub next_is : (result : Option Pick)
+      → ((m : Mechanism) (first : ArbitrationFields) (h : History) → BoardStandsAt m first h (board_of c.board) → result ≡ lawful_pick m first h (seen_of (board_of c.board).queues))
+      → IsNextPick rules notes result
+  next_is result lawful =
+      lawful rules.mechanism rules.start.settings (arbitration_of past) board_stands
+      ∙ ap (λ (xs : List Seen). lawful_pick rules.mechanism rules.start.settings (arbitration_of past) xs) board_sees
+
+-- what the board would pick is lawful
+pub next_lawful : (c : Controller) (pick : Pick) → pick_of (board_of c.board).kept (seen_of (board_of c.board).queues) ≡ Some pick
+    → (m : Mechanism) (first : ArbitrationFields) (h : History) → BoardStandsAt m first h (board_of c.board) → Some pick ≡ lawful_pick m first h (seen_of (board_of c.board).queues)
+next_lawful c pick next m first h stands = sym next ∙ lawful_where_stands m first h (board_of c.board).kept (seen_of (board_of c.board).queues) stands.stands
+
+-- a pick of an I/O queue needs a place for each command
+pub io_places : (c : Controller) (slots : List Slot) (pick : Pick) → (pick.qid ≡ 0 → ⊥) → places_in c slots pick + c.outstanding ≤ max_outstanding
+    → c.outstanding + pick.n ≤ max_outstanding
+io_places c slots pick io places = by (pick.qid == 0) (ne_eqb pick.qid 0 io) places where
+  by : (b : Bool) → b ≡ false → (if b && is_abort_entry (Some (oldest_entry c slots)) then 2 else pick.n) + c.outstanding ≤ max_outstanding → c.outstanding + pick.n ≤ max_outstanding
+  by true e places = cc e
+  by false e places = omega (arith, places)
+
+-- ---- candidates of items
+-- the places of the candidates of waiting items are those of the items
+places-are : (slots : List Slot) (r : ℕ) (its : List Item) → All (IsWaitingIn slots r) its → map (place_of r) (map candidate_of its) ≡ places_of its
+places-are slots r [] h = refl
+places-are slots r (it ∷ its) h =
+    let here : place_of r (candidate_of it) ≡ it.place = λ t. record { region = sym (All-head (IsWaitingIn slots r) it its h).place t; index = it.place.index } in
+    λ t. here t ∷ places-are slots r its (All-tail (IsWaitingIn slots r) it its h) t
+
+-- their entries are those of their places
+entries-are : (past : Past) (slots : List Slot) (r : ℕ) (its : List Item) → All (IsWaitingIn slots r) its
+    → All (λ (c : Candidate). entry_at past r c.index ≡ Some c.entry) (map candidate_of its) → All (HasEntry past) its
+entries-are past slots r its waits entries =
+    All-both (IsWaitingIn slots r) (λ (it : Item). entry_at past r it.place.index ≡ Some it.entry) (HasEntry past)
+    (λ it w e. ap (λ (x : ℕ). entry_at past x it.place.index) w.place ∙ e) its waits
+    (All-unmap (λ (c : Candidate). entry_at past r c.index ≡ Some c.entry) candidate_of its entries)
+
+-- a number that isn't over 65,535
+capped : (n : ℕ) → n ≤ 65535 → min n 65535 ≡ n
+capped n few = omega (arith, few)
+
+-- the index of a candidate's place
+indexes-are : (r : ℕ) (cs : List Candidate) → map (place_at r) (map (λ (c : Candidate). c.index) cs) ≡ map (place_of r) cs
+indexes-are r [] = refl
+indexes-are r (c ∷ cs) = ap (λ (ps : List Place). place_at r c.index ∷ ps) (indexes-are r cs)
+
+-- a queue that is open in the table
+by_closing : (b : Bool) (q queue : Queue) → (if b then None else Some q) ≡ Some queue → q ≡ queue
+by_closing true q queue h = absurd (cc)
+by_closing false q queue h = cc
+
+region_of-open : (o : Option SqEntry) (entry : SqEntry) (queue : Queue) → as_open o ≡ Some queue → o ≡ Some entry → entry.region ≡ queue.region
+region_of-open o entry queue h is =
+    ap (λ (q : Queue). q.region) (by_closing entry.closing (record { region = entry.region; cqid = entry.cqid; class = entry.class }) queue (ap as_open (sym is) ∙ h))
+
+-- ---- a pick of an I/O queue
+abbrev pub picked_state : Controller → (r n : ℕ) → SqState
+picked_state c r n = record (sq_at c.sqs r) { unposted = min ((sq_at c.sqs r).unposted + n) 65535 }
+
+abbrev pub after_pick_io : Controller → BoardFields → (r n : ℕ) → Controller
+after_pick_io c board r n =
+    record c { board = board; sqs = slice_set c.sqs r (picked_state c r n); outstanding = min (c.outstanding + n) 65535; picked = n; picked_region = r }
+
+module _ (rules : FrontRules) (late : Bool) (notes : Notes) (c : Controller) (slots : List Slot) (s : StandsAt rules late notes c slots)
+    (none : c.picked ≡ 0) (idle : c.deletion.pending ≡ 0) (pick : Pick) (board : BoardFields)
+    (lawful : (m : Mechanism) (first : ArbitrationFields) (h : History) → BoardStandsAt m first h (board_of c.board) → Some pick ≡ lawful_pick m first h (seen_of (board_of c.board).queues))
+    (stands : (m : Mechanism) (first : ArbitrationFields) (h : History) → BoardStandsAt m first h (board_of c.board) → BoardStandsAt m first (Picked (seen_of (board_of c.board).queues) pick ∷ h) (board_of board))
+    (queues : (board_of board).queues ≡ queues_after (board_of c.board).queues pick)
+    (is_arbiter_still : IsTrue (is_arbiter board.arbiter))
+    (places : c.outstanding + pick.n ≤ max_outstanding) where
+  abbrev k : Content
+  k = s.content
+
+  abbrev g : Items
+  g = s.items
+
+  abbrev now : Past
+  now = logged notes
+
+  -- nothing is picked and not taken
+  pub none_in : (r : ℕ) → picked_in c r ≡ 0
+  none_in r = by (r == c.picked_region) where
+    by : (b : Bool) → (if b then c.picked else 0) ≡ 0
+    by true = none
+    by false = refl
+
+  pub none_deleting : k.deletion ≡ None
+  none_deleting = s.has.deletion_is ∙ rw idle refl
+
+  pub due : IsPickable now k pick
+  due = pickable rules.mechanism rules.start.settings (arbitration_of now) now k pick s.holds.queues s.holds.arbitration.stands.observed
+      (subst (λ (b : BoardView). lawful_pick rules.mechanism rules.start.settings (arbitration_of now) (seen_of b.queues) ≡ Some pick) s.numbers.board_is
+      (sym (lawful rules.mechanism rules.start.settings (arbitration_of now) (board_stands rules late notes c slots s))))
+
+  abbrev r : ℕ
+  r = due.queue.region
+
+  attached : IsAttached now k pick.qid due.queue
+  attached = s.holds.queues.attached pick.qid due.queue due.is_open
+
+  there_in : r < k.nsq
+  there_in = s.holds.queues.sq_there r (record { qid = pick.qid; cq_region = attached.cq_region }) attached.attached
+
+  there : r < length c.sqs
+  there = omega (arith, there_in, s.holds.tabled.few_sqs, s.numbers.sq_size)
+
+  places_now : k.outstanding + pick.n ≤ max_outstanding
+  places_now = omega (arith, places, s.numbers.outstanding_is)
+
+  pub can : CanPick rules now k due.queue pick (board_of board)
+  can = record {
+    is_open = due.is_open;
+    none_pending = none_deleting;
+    enough = due.enough;
+    places = places_now;
+    lawful = sym (next_is rules late notes c slots s (Some pick) lawful);
+    board_queues = queues ∙ ap (λ (b : BoardView). queues_after b.queues pick) s.numbers.board_is;
+    board_stands = subst (λ (xs : List Seen). BoardStandsAt rules.mechanism rules.start.settings (Picked xs pick ∷ arbitration_of now) (board_of board))
+        (board_sees rules late notes c slots s)
+        (stands rules.mechanism rules.start.settings (arbitration_of now) (board_stands rules late notes c slots s));
+  }
+
+  -- few places are unposted
+  few : (k.sq r).unposted ≤ k.outstanding
+  few = few_unposted rules late now k s.holds none_deleting r there_in
+
+  unposted_is : (picked_state c r pick.n).unposted ≡ (k.sq r).unposted + pick.n
+  unposted_is =
+      let was = s.numbers.sq_unposted r in
+      capped ((sq_at c.sqs r).unposted + pick.n) (omega (arith, was, few, places_now)) ∙ ap (λ (n : ℕ). n + pick.n) was
+
+  outstanding_is : (after_pick_io c board r pick.n).outstanding ≡ k.outstanding + pick.n
+  outstanding_is = capped (c.outstanding + pick.n) (omega (arith, places)) ∙ ap (λ (n : ℕ). n + pick.n) s.numbers.outstanding_is
+
+  abbrev after : Content
+  after = after_io k due.queue pick.n (board_of board)
+
+  abbrev new : Controller
+  new = after_pick_io c board r pick.n
+
+  -- ---- numbers
+  pick-numbers : HasNumbers new after
+  pick-numbers = record {
+    table_is = s.numbers.table_is;
+    sized = s.numbers.sized;
+    board_is = refl;
+    is_arbiter = is_arbiter_still;
+    outstanding_is = outstanding_is;
+    sq_queue = put_sq-each (λ x state. attachment_of state ≡ (after.sq x).queue) c.sqs r (picked_state c r pick.n) there
+        (rw (eq-eqb r r refl) (s.numbers.sq_queue r)) (λ x other. rw (ne_eqb x r other) (s.numbers.sq_queue x));
+    sq_unposted = put_sq-each (λ x state. state.unposted ≡ (after.sq x).unposted) c.sqs r (picked_state c r pick.n) there
+        (rw (eq-eqb r r refl) unposted_is) (λ x other. rw (ne_eqb x r other) (s.numbers.sq_unposted x));
+    sq_slots = put_sq-each (λ x state. state.ring.slots ≡ (after.sq x).slots) c.sqs r (picked_state c r pick.n) there
+        (rw (eq-eqb r r refl) (s.numbers.sq_slots r)) (λ x other. rw (ne_eqb x r other) (s.numbers.sq_slots x));
+    cq_slots = s.numbers.cq_slots;
+    sq_some = at_put (λ (x : ℕ) (u : SqContent). x < k.nsq → 0 < u.slots) k.sq r (picked_sq (k.sq r) pick.n) (s.numbers.sq_some r) (λ x other. s.numbers.sq_some x);
+    sq_size = length-set c.sqs r (picked_state c r pick.n) ∙ s.numbers.sq_size;
+    cq_size = s.numbers.cq_size;
+  }
+
+  -- ---- items
+  window_was : (x : ℕ) → (k.sq x).window ≡ map candidate_of (g.windows x)
+  window_was x = s.has.window_is x ∙ ap (λ (n : ℕ). map candidate_of (drop n (g.windows x))) (none_in x)
+
+  enough : pick.n ≤ length (g.windows r)
+  enough = omega (arith, due.enough, ap (λ (cs : List Candidate). length cs) (window_was r), length-map (g.windows r) candidate_of)
+
+  pub picked_items : untaken new g ≡ take pick.n (g.windows r)
+  picked_items = refl
+
+  none_untaken : untaken c g ≡ []
+  none_untaken = ap (λ (n : ℕ). take n (g.windows c.picked_region)) none
+
+  taken_window : take pick.n (k.sq r).window ≡ map candidate_of (take pick.n (g.windows r))
+  taken_window = ap (take pick.n) (window_was r) ∙ take-map candidate_of pick.n (g.windows r)
+
+  waits : All (IsWaitingIn slots r) (take pick.n (g.windows r))
+  waits = All-take (IsWaitingIn slots r) pick.n (g.windows r) (s.has.window_items r)
+
+  hand_is : after.hand ≡ places_of (g.outs ++ untaken new g)
+  hand_is =
+      let was : k.hand ≡ places_of g.outs = s.has.hand_is ∙ ap (λ (its : List Item). places_of (g.outs ++ its)) none_untaken ∙ ap places_of (append-nil g.outs) in
+      let more : map (place_of r) (take pick.n (k.sq r).window) ≡ places_of (untaken new g) =
+      ap (map (place_of r)) taken_window ∙ places-are slots r (take pick.n (g.windows r)) waits in
+      (λ t. was t ++ more t) ∙ sym (map-append (λ (it : Item). it.place) g.outs (untaken new g))
+
+  pick-items : HasItems new slots after g
+  pick-items = record {
+    window_chain = put_sq-each (λ x state. IsChain slots state.window (tags_of (g.windows x))) c.sqs r (picked_state c r pick.n) there
+        (s.has.window_chain r) (λ x other. s.has.window_chain x);
+    window_items = s.has.window_items;
+    window_is = at_put (λ x u. u.window ≡ map candidate_of (drop (picked_in new x) (g.windows x))) k.sq r (picked_sq (k.sq r) pick.n)
+        (rw (eq-eqb r r refl) (ap (drop pick.n) (window_was r) ∙ drop-map candidate_of pick.n (g.windows r)))
+        (λ x other. rw (ne_eqb x r other) (window_was x));
+    picked_there = enough;
+    outs_items = s.has.outs_items;
+    outs_apart = s.has.outs_apart;
+    outs_all = s.has.outs_all;
+    hand_is = hand_is;
+    ready_chain = s.has.ready_chain;
+    ready_items = s.has.ready_items;
+    ready_is = s.has.ready_is;
+    deletion_is = s.has.deletion_is;
+    deletion_item = s.has.deletion_item;
+    deletion_inside = s.has.deletion_inside;
+    free_chain = s.has.free_chain;
+    free_items = s.has.free_items;
+    few = s.has.few;
+  }
+
+  -- ---- doorbells
+  pick-doorbells : HoldsDoorbells rules (picked_notes notes pick) new
+  pick-doorbells = record {
+    sqs = put_sq-each (λ x state. 0 < state.ring.slots → HasCounts state.ring (length (fetched now x)) (submitted rules notes x)) c.sqs r (picked_state c r pick.n) there
+        (s.doorbells.sqs r) (λ x other. s.doorbells.sqs x);
+    cqs = s.doorbells.cqs;
+    phases = s.doorbells.phases;
+    no_tails = put_sq-each (λ x state. state.ring.slots ≡ 0 → submitted rules notes x ≡ 0) c.sqs r (picked_state c r pick.n) there
+        (s.doorbells.no_tails r) (λ x other. s.doorbells.no_tails x);
+    no_heads = s.doorbells.no_heads;
+    no_posts = s.doorbells.no_posts;
+  }
+
+  -- ---- tags
+  module _ (io : pick.qid ≡ 0 → ⊥) where
+    dispatches : dispatched (logged (picked_notes notes pick)) ≡ dispatched now ++ places_of (untaken new g)
+    dispatches =
+        ap (λ (o : Option Queue). dispatched now ++ dispatched_by now pick o) due.is_open
+        ∙ rw (ne_eqb pick.qid 0 io) (ap (λ (is : List ℕ). dispatched now ++ map (place_at r) (take pick.n is)) (s.holds.regions r).waiting_is
+        ∙ ap (λ (is : List ℕ). dispatched now ++ map (place_at r) is) (take-map (λ (x : Candidate). x.index) pick.n (k.sq r).window)
+        ∙ ap (λ (ps : List Place). dispatched now ++ ps)
+        (indexes-are r (take pick.n (k.sq r).window) ∙ ap (map (place_of r)) taken_window ∙ places-are slots r (take pick.n (g.windows r)) waits))
+
+    pick-tags : HoldsTags (picked_notes notes pick) new slots g
+    pick-tags = record {
+      untaken_are = dispatches ∙ ap (λ (ps : List Place). ps ++ places_of (untaken new g))
+          (s.tags.untaken_are ∙ ap (λ (its : List Item). taken notes ++ places_of its) none_untaken ∙ append-nil (taken notes));
+      outs_held = s.tags.outs_held;
+      readies_held = s.tags.readies_held;
+      none_held = s.tags.none_held;
+      through = s.tags.through;
+      windows_unanswered = s.tags.windows_unanswered;
+      outs_unanswered = s.tags.outs_unanswered;
+      deletion_unanswered = s.tags.deletion_unanswered;
+      none_answered = s.tags.none_answered;
+      answered_held = s.tags.answered_held;
+      hand_entries = All-append (HasEntry now) g.outs (untaken new g) (All-parts (HasEntry now) g.outs (untaken c g) s.tags.hand_entries).0
+          (entries-are now slots r (take pick.n (g.windows r)) waits
+          (All-same (λ (x : Candidate). entry_at now r x.index ≡ Some x.entry) (map candidate_of (take pick.n (g.windows r))) (take pick.n (k.sq r).window) (sym taken_window)
+          (All-take (λ (x : Candidate). entry_at now r x.index ≡ Some x.entry) pick.n (k.sq r).window (s.holds.regions r).entries)));
+      free_count = s.tags.free_count;
+    }
+
+    pick-holds : Holds rules late (event.Pick (observation_of now) pick ∷ now) after
+    pick-holds = holds-io rules late now k due.queue (observation_of now) pick (board_of board) attached.cq_region s.holds can refl io attached.attached
+
+    -- the controller stands at its log with the pick
+    pub pick-stands : StandsAt rules late (picked_notes notes pick) new slots
+    pick-stands = record {
+      content = after;
+      items = g;
+      holds = pick-holds;
+      numbers = pick-numbers;
+      has = pick-items;
+      doorbells = pick-doorbells;
+      tags = pick-tags;
+      account = λ on_time.
+          let next = next-io outstanding-pick rules late now k due.queue (observation_of now) pick (board_of board) attached.cq_region s.holds can refl io attached.attached pick-holds.regions on_time in
+          record {
+            each = (
+              record {
+                index_counts = next.index_counts;
+                served_while_open = next.served_while_open;
+                observed = next.observed;
+                effects_at_once = next.effects_at_once;
+                deletes = next.deletes;
+                posts_own = tt;
+                leaves_places = next.leaves_places;
+                fetches_submitted = tt;
+                posts_on_free_slot = tt;
+                posts_what_is_through = tt;
+              },
+              (s.account on_time).each,
+            );
+            lawful = pick-holds.arbitration.lawful;
+            effects_whole = (pick-holds.own on_time).effects_whole;
+          };
+    }
+
+  -- ---- the call
+  -- the queue of the pick is in the table
+  due_table : as_open (sq_of (view_of c.table) pick.qid) ≡ Some due.queue
+  due_table = ap (λ (t : TableView). as_open (sq_of t pick.qid)) s.numbers.table_is ∙ sym (s.holds.queues.sqs pick.qid) ∙ due.is_open
+
+  pub due_found : sq_of (view_of c.table) pick.qid ≡ None → ⊥
+  due_found h = (let e : None ≡ Some due.queue = ap as_open (sym h) ∙ due_table in cc)
+
+  pub due_region : (entry : SqEntry) → sq_of (view_of c.table) pick.qid ≡ Some entry → entry.region ≡ r
+  due_region entry is = region_of-open (sq_of (view_of c.table) pick.qid) entry due.queue due_table is
+
+  -- so the controller of the call stands
+  pub pick-call : (io : pick.qid ≡ 0 → ⊥) (entry : SqEntry) → sq_of (view_of c.table) pick.qid ≡ Some entry
+      → HasStepped rules late notes (step.Picked pick) (after_pick_io c board entry.region pick.n) slots
+  pick-call io entry is =
+      subst (λ (x : ℕ). HasStepped rules late notes (step.Picked pick) (after_pick_io c board x pick.n) slots) (sym (due_region entry is))
+      (next_is rules late notes c slots s (Some pick) lawful, pick-stands io)
+
+-- ---- no pick is made
+-- what is picked and not taken was dispatched, and not taken
+busy_picked : (rules : FrontRules) (late : Bool) (notes : Notes) (c : Controller) (slots : List Slot) → StandsAt rules late notes c slots → c.picked ≢ 0
+    → length (taken notes) < length (dispatched (logged notes))
+busy_picked rules late notes c slots s some =
+    let all : length (dispatched (logged notes)) ≡ length (taken notes) + length (places_of (untaken c s.items)) =
+    ap (λ (ps : List Place). length ps) s.tags.untaken_are ∙ length-append (taken notes) (places_of (untaken c s.items)) in
+    let many : length (places_of (untaken c s.items)) ≡ c.picked =
+    length-map (untaken c s.items) (λ (it : Item). it.place) ∙ length-take-le c.picked (s.items.windows c.picked_region) s.has.picked_there in
+    omega (arith, all, many, some)
+
+-- a deletion is pending in the log where one is kept
+busy_deleting : (rules : FrontRules) (late : Bool) (notes : Notes) (c : Controller) (slots : List Slot) → StandsAt rules late notes c slots → c.deletion.pending ≢ 0
+    → pending (logged notes) ≢ None
+busy_deleting rules late notes c slots s some none =
+    let is : pending (logged notes) ≡ option_map as_deletion (pending_of c slots s.items) =
+    s.holds.deletion.pending_is ∙ ap (λ (o : Option PendingDelete). option_map as_deletion o) s.has.deletion_is in
+    by (c.deletion.pending == 0) (ne_eqb c.deletion.pending 0 some) is where
+      by : (b : Bool) → b ≡ false
+          → pending (logged notes) ≡ option_map as_deletion (if b then None else Some (record { place = place_at 0 s.items.delete_index; cid = (slot_at slots c.deletion.tag).entry.cid; qid = c.deletion.qid; region = c.deletion.region }))
+          → ⊥
+      by true e is = cc e
+      by false e is = cc (none, is)
+
+pub is_busy : (rules : FrontRules) (late : Bool) (notes : Notes) (c : Controller) (slots : List Slot) → StandsAt rules late notes c slots
+    → (c.picked ≢ 0) ⊎ (c.deletion.pending ≢ 0) → IsBusy notes
+is_busy rules late notes c slots s (inl some) = inl (busy_picked rules late notes c slots s some)
+is_busy rules late notes c slots s (inr some) = inr (busy_deleting rules late notes c slots s some)
+
+-- the places of the next pick aren't free
+pub lacks_places : (rules : FrontRules) (late : Bool) (notes : Notes) (c : Controller) (slots : List Slot) → StandsAt rules late notes c slots → (pick : Pick)
+    → IsNextPick rules notes (Some pick) → max_outstanding - c.outstanding < places_in c slots pick → LacksPlaces rules notes
+lacks_places rules late notes c slots s pick next lacking = record { pick = pick; next = next; places = by (pick.qid == 0 && is_abort_entry (Some (oldest_entry c slots))) refl lacking } where
+  count : c.outstanding ≡ outstanding rules (logged notes)
+  count = s.numbers.outstanding_is ∙ s.holds.counts.outstanding_is
+
+  by : (b : Bool) → (pick.qid == 0 && is_abort_entry (Some (oldest_entry c slots))) ≡ b → max_outstanding - c.outstanding < (if b then 2 else pick.n)
+      → (max_outstanding < outstanding rules (logged notes) + pick.n) ⊎ ((pick.qid ≡ 0) × (max_outstanding < outstanding rules (logged notes) + 2))
+  by true e less = inr (eqb-true pick.qid 0 (and_parts (pick.qid == 0) (is_abort_entry (Some (oldest_entry c slots))) e).0, omega (arith, count, less))
+  by false e less = inl (omega (arith, count, less))

@@ -1,0 +1,205 @@
+-- After a post the slots of a controller have its commands.
+use Rattle.std.proofs.Common.{◌≡◌, ◌≢◌, ℕ, ◌-◌, ◌<◌, ◌≤◌, ◌^◌, ◌==◌, Bool, true, false, if◌then◌else◌, List, [], ◌∷◌, ◌++◌, length, Some, None, refl, sym, ap, ◌∙◌, subst, arith, inl, inr, length-append}
+use Rattle.std.specs.Prelude.{slice_set, All}
+use Rattle.std.proofs.lemmas.Bool.{cases_eq, eq-eqb, ne_eqb, eqb-true}
+use Rattle.std.proofs.lemmas.Option.{same_Some}
+use Rattle.std.proofs.lemmas.List.Elements.{All-head, All-tail, All-same, All-map, All-weaker, All-push}
+use Rattle.nvme_log.specs.Queues.{cq_region_of}
+use Rattle.nvme_ctrl.specs.declared.slot.Slot.{Slot}
+use Rattle.nvme_ctrl.specs.declared.chain.Chain.{Chain}
+use Rattle.nvme_ctrl.specs.kept.Standing.{IsReady}
+use Rattle.nvme_ctrl.specs.kept.Pool.{slot_at, item_at, IsNew, AreApart, IsChain}
+use Rattle.nvme_ctrl.specs.kept.State.{sq_at, cq_at}
+use Rattle.nvme_ctrl.specs.kept.Kept.{Item, ReadyItem, tags_of, ready_tags, readies_of, ready_state, IsWaitingIn, IsOutIn, IsReadyIn, IsAmongOuts, is_free, pending_of, HasItems}
+use Rattle.nvme_ctrl.proofs.OwnStatus.{All-unmap}
+use Rattle.nvme_ctrl.proofs.RegionStates.{put_sq-each, put_cq-each}
+use Rattle.nvme_ctrl.proofs.Pools.{length-put_item, item_at-put_item_same, item_at-put_item_other, IsNew-by, AreApart-push, chain-put_item, chain-other, length-apart}
+use Rattle.nvme_ctrl.proofs.SlotItems.{All-both, at_put, ready_state-range, waiting_stays, out_stays, ready_stays}
+use Rattle.nvme_ctrl.proofs.PostCall.{freed, PostCall, content, past_of, region, content_after, sq_after, controller_after, put_readies, items_after, ready_in, is_ready, sqs_have, cqs_have}
+
+module _ (p : PostCall) where
+  abbrev pub tag : ℕ
+  tag = p.item.tag
+
+  -- ---- slots
+  pub tag_inside : tag < length p.slots
+  tag_inside =
+      let P : ℕ → Type 0 = λ z. z < length p.slots in
+      All-head P tag (ready_tags p.rest) (All-same P (tag ∷ ready_tags p.rest) (ready_tags (p.stands.items.readies p.x)) (sym (ap ready_tags p.are)) (p.stands.has.ready_chain p.x).inside)
+
+  pub size_is : length p.new ≡ length p.slots
+  size_is = p.did.items.size ∙ length-put_item p.slots tag (record (slot_at p.slots tag) { state = 0 })
+
+  pub other_kept : (y : ℕ) → y ≢ tag → item_at p.new y ≡ item_at p.slots y
+  other_kept y other = p.did.items.items y ∙ item_at-put_item_other p.slots tag (record (slot_at p.slots tag) { state = 0 }) y other
+
+  pub tag_freed : (slot_at p.new tag).state ≡ 0
+  tag_freed = ap (λ (s : Slot). s.state) (p.did.items.items tag ∙ item_at-put_item_same p.slots tag (record (slot_at p.slots tag) { state = 0 }) tag_inside)
+
+  -- a slot of another state is another slot
+  pub lower : (y n : ℕ) → (slot_at p.slots y).state ≡ n → n ≤ 2 → y ≢ tag
+  lower y n e le same =
+      let at : (slot_at p.slots y).state ≡ (slot_at p.slots tag).state = ap (λ (z : ℕ). (slot_at p.slots z).state) same in
+      omega (arith, e, le, at, (ready_in p).state, (ready_state-range p.item.was_out p.item.ready.with_queue).0)
+
+  pub higher : (y n : ℕ) → (slot_at p.slots y).state ≡ n → 6 ≤ n → y ≢ tag
+  higher y n e le same =
+      let at : (slot_at p.slots y).state ≡ (slot_at p.slots tag).state = ap (λ (z : ℕ). (slot_at p.slots z).state) same in
+      omega (arith, e, le, at, (ready_in p).state, (ready_state-range p.item.was_out p.item.ready.with_queue).1)
+
+  -- ---- chains
+  -- what isn't free is new to the free slots
+  unfree : (y n : ℕ) → (slot_at p.slots y).state ≡ n → 0 < n → IsNew y p.stands.items.free
+  unfree y n e more = IsNew-by (is_free p.slots) y p.stands.items.free p.stands.has.free_items (λ z. omega (arith, e, z, more))
+
+  freed_chain : (c : Chain) (xs : List ℕ) → IsChain p.slots c xs → IsChain (freed p.slots tag) c xs
+  freed_chain c xs h = chain-put_item p.slots c xs tag (record (slot_at p.slots tag) { state = 0 }) h
+
+  chain_kept : (c : Chain) (xs : List ℕ) → IsChain p.slots c xs → All (λ (y : ℕ). IsNew y p.stands.items.free) xs → IsChain p.new c xs
+  chain_kept c xs h new_to =
+      chain-other (freed p.slots tag) p.new c xs p.stands.items.free (freed_chain c xs h)
+      (p.did.links p.stands.items.free (freed_chain p.c.free p.stands.items.free p.stands.has.free_chain)) p.did.items.size new_to
+
+  window_unfree : (r : ℕ) → All (λ (y : ℕ). IsNew y p.stands.items.free) (tags_of (p.stands.items.windows r))
+  window_unfree r =
+      All-map (λ (y : ℕ). IsNew y p.stands.items.free) (λ (it : Item). it.tag) (p.stands.items.windows r)
+      (All-weaker (IsWaitingIn p.slots r) (λ (it : Item). IsNew it.tag p.stands.items.free) (λ it h. unfree it.tag 1 h.state (omega arith)) (p.stands.items.windows r) (p.stands.has.window_items r))
+
+  ready_unfree : (items : List ReadyItem) → All (IsReadyIn p.slots) items → All (λ (y : ℕ). IsNew y p.stands.items.free) (ready_tags items)
+  ready_unfree items h =
+      All-map (λ (y : ℕ). IsNew y p.stands.items.free) (λ (it : ReadyItem). it.tag) items
+      (All-weaker (IsReadyIn p.slots) (λ (it : ReadyItem). IsNew it.tag p.stands.items.free)
+      (λ it i. unfree it.tag (ready_state it.was_out it.ready.with_queue) i.state (omega (arith, (ready_state-range it.was_out it.ready.with_queue).0))) items h)
+
+  tag_unfree : IsNew tag p.stands.items.free
+  tag_unfree = unfree tag (ready_state p.item.was_out p.item.ready.with_queue) (ready_in p).state (omega (arith, (ready_state-range p.item.was_out p.item.ready.with_queue).0))
+
+  -- the slot is put behind the free ones
+  free_after : IsChain p.new p.free (p.stands.items.free ++ tag ∷ [])
+  free_after =
+      let h = p.stands.has.free_chain in
+      let P : ℕ → Type 0 = λ z. z < length p.slots in
+      let few = length-apart (length p.slots) (p.stands.items.free ++ tag ∷ []) (AreApart-push p.stands.items.free tag h.apart tag_unfree)
+      (All-push P p.stands.items.free tag h.inside tag_inside) in
+      p.did.chain p.stands.items.free (freed_chain p.c.free p.stands.items.free h)
+      (subst (λ (n : ℕ). tag < n) (sym (length-put_item p.slots tag (record (slot_at p.slots tag) { state = 0 }))) tag_inside) tag_unfree
+      (omega (arith, few, length-append p.stands.items.free (tag ∷ []), p.stands.has.few))
+
+  -- ---- items
+  waiting_kept : (r : ℕ) (it : Item) → IsWaitingIn p.slots r it → IsWaitingIn p.new r it
+  waiting_kept r it h = waiting_stays p.slots p.new tag size_is other_kept r it (lower it.tag 1 h.state (omega arith)) h
+
+  out_kept : (it : Item) → IsOutIn p.slots it → IsOutIn p.new it
+  out_kept it h = out_stays p.slots p.new tag size_is other_kept it (lower it.tag 2 h.state (omega arith)) h
+
+  ready_kept : (it : ReadyItem) → IsReadyIn p.slots it → it.tag ≢ tag → IsReadyIn p.new it
+  ready_kept it h other = ready_stays p.slots p.new tag size_is other_kept it other h
+
+  free_kept : (y : ℕ) → is_free p.slots y → is_free p.new y
+  free_kept y h = ap (λ (s : Slot). s.state) (other_kept y (lower y 0 h (omega arith))) ∙ h
+
+  -- ---- what is ready
+  -- in the same region the chain is apart
+  rest_apart : All (λ (it : ReadyItem). it.tag ≢ tag) p.rest
+  rest_apart =
+      let apart : AreApart (tag ∷ ready_tags p.rest) = subst AreApart (ap ready_tags p.are) (p.stands.has.ready_chain p.x).apart in
+      All-unmap (λ (y : ℕ). y ≢ tag) (λ (it : ReadyItem). it.tag) p.rest apart.0
+
+  -- and what is ready in another one is of another queue
+  ready_of : (y : ℕ) → All (λ (it : ReadyItem). IsReady (past_of p) (content p).deletion y it.ready) (p.stands.items.readies y)
+  ready_of y =
+      All-unmap (IsReady (past_of p) (content p).deletion y) (λ (it : ReadyItem). it.ready) (p.stands.items.readies y)
+      (All-same (IsReady (past_of p) (content p).deletion y) (readies_of (p.stands.items.readies y)) ((content p).cq y).ready (sym (p.stands.has.ready_is y)) (p.stands.holds.ready.each y))
+
+  elsewhere_apart : (y : ℕ) → y ≢ p.x → (it : ReadyItem) → IsReadyIn p.slots it → IsReady (past_of p) (content p).deletion y it.ready → it.tag ≢ tag
+  elsewhere_apart y other it i h same =
+      let regions : it.ready.place.region ≡ region p = sym i.region ∙ ap (λ (z : ℕ). (slot_at p.slots z).region) same ∙ (ready_in p).region in
+      other (same_Some y p.x (sym h.region ∙ ap (λ (r : ℕ). cq_region_of (past_of p) r) regions ∙ (is_ready p).region))
+
+  -- what is ready before, in its region without the command
+  rest_ready : All (IsReadyIn p.slots) p.rest
+  rest_ready = All-tail (IsReadyIn p.slots) p.item p.rest (All-same (IsReadyIn p.slots) (p.item ∷ p.rest) (p.stands.items.readies p.x) (sym p.are) (p.stands.has.ready_items p.x))
+
+  pub readies_before : (y : ℕ) → All (IsReadyIn p.slots) ((items_after p).readies y)
+  readies_before = at_put (λ y items. All (IsReadyIn p.slots) items) p.stands.items.readies p.x p.rest rest_ready (λ y d. p.stands.has.ready_items y)
+
+  pub readies_apart : (y : ℕ) → All (λ (it : ReadyItem). it.tag ≢ tag) ((items_after p).readies y)
+  readies_apart = at_put (λ y items. All (λ (it : ReadyItem). it.tag ≢ tag) items) p.stands.items.readies p.x p.rest rest_apart
+      (λ y d. All-both (IsReadyIn p.slots) (λ (it : ReadyItem). IsReady (past_of p) (content p).deletion y it.ready) (λ (it : ReadyItem). it.tag ≢ tag)
+      (elsewhere_apart y d) (p.stands.items.readies y) (p.stands.has.ready_items y) (ready_of y))
+
+  -- the chain of the ready slots, without the first one
+  rest_chain : IsChain p.slots p.cq.ready (ready_tags p.rest)
+  rest_chain = p.did.rest tag (ready_tags p.rest) (subst (IsChain p.slots (cq_at p.c.cqs p.x).ready) (ap ready_tags p.are) (p.stands.has.ready_chain p.x))
+
+  -- of both the states and the lists
+  ready_chains : (y : ℕ) → IsChain p.slots (cq_at (slice_set p.c.cqs p.x p.cq) y).ready (ready_tags ((items_after p).readies y))
+  ready_chains y = elim (cases_eq y p.x) [
+    | inl same ↦ subst (λ (n : ℕ). IsChain p.slots (cq_at (slice_set p.c.cqs p.x p.cq) n).ready (ready_tags ((items_after p).readies n))) (sym same)
+        (rw (eq-eqb p.x p.x refl, put_readies) here)
+    | inr other ↦ rw (ne_eqb y p.x other, put_readies) (there y other)
+  ] where
+    here : IsChain p.slots (cq_at (slice_set p.c.cqs p.x p.cq) p.x).ready (ready_tags p.rest)
+    here = put_cq-each (λ y s. y ≡ p.x → IsChain p.slots s.ready (ready_tags p.rest)) p.c.cqs p.x p.cq (cqs_have p) (λ e. rest_chain) (λ y d e. absurd (d e)) p.x refl
+
+    there : (y : ℕ) → y ≢ p.x → IsChain p.slots (cq_at (slice_set p.c.cqs p.x p.cq) y).ready (ready_tags (p.stands.items.readies y))
+    there y other = put_cq-each (λ z s. z ≢ p.x → IsChain p.slots s.ready (ready_tags (p.stands.items.readies z))) p.c.cqs p.x p.cq (cqs_have p)
+        (λ d. absurd (d refl)) (λ z d e. p.stands.has.ready_chain z) y other
+
+  pub ready_contents : (y : ℕ) → ((content_after p).cq y).ready ≡ readies_of ((items_after p).readies y)
+  ready_contents y = elim (cases_eq y p.x) [
+    | inl same ↦ subst (λ (n : ℕ). ((content_after p).cq n).ready ≡ readies_of ((items_after p).readies n)) (sym same) (rw (eq-eqb p.x p.x refl) refl)
+    | inr other ↦ rw (ne_eqb y p.x other) (p.stands.has.ready_is y)
+  ]
+
+  -- ---- the deletion
+  deletion_cid : p.c.deletion.pending ≢ 0 → (slot_at p.slots p.c.deletion.tag).entry.cid ≡ (slot_at p.new p.c.deletion.tag).entry.cid
+  deletion_cid some = sym (ap (λ (s : Slot). s.entry.cid) (other_kept p.c.deletion.tag (higher p.c.deletion.tag 6 (p.stands.has.deletion_item some) (omega arith))))
+
+  deletion_after : pending_of p.c p.slots p.stands.items ≡ pending_of (controller_after p) p.new (items_after p)
+  deletion_after = elim (cases_eq p.c.deletion.pending 0) [
+    | inl none ↦ rw (eq-eqb p.c.deletion.pending 0 none) refl
+    | inr some ↦ ap (λ (cid : ℕ). if p.c.deletion.pending == 0 then None
+        else Some (record { place = record { region = 0; index = p.stands.items.delete_index }; cid = cid; qid = p.c.deletion.qid; region = p.c.deletion.region })) (deletion_cid some)
+  ]
+
+  -- ---- all of it
+  window_after : (r : ℕ) → IsChain p.new (sq_at (controller_after p).sqs r).window (tags_of (p.stands.items.windows r))
+  window_after = put_sq-each (λ r s. IsChain p.new s.window (tags_of (p.stands.items.windows r))) p.c.sqs (region p) (sq_after p.c (region p)) (sqs_have p)
+      (chain_kept (sq_at p.c.sqs (region p)).window (tags_of (p.stands.items.windows (region p))) (p.stands.has.window_chain (region p)) (window_unfree (region p)))
+      (λ r d. chain_kept (sq_at p.c.sqs r).window (tags_of (p.stands.items.windows r)) (p.stands.has.window_chain r) (window_unfree r))
+
+  windows_are : (r : ℕ) → ((content_after p).sq r).window ≡ ((content p).sq r).window
+  windows_are r = by (r == region p) refl where
+    by : (b : Bool) → (r == region p) ≡ b → (if b then record ((content p).sq (region p)) { unposted = ((content p).sq (region p)).unposted - 1 } else (content p).sq r).window ≡ ((content p).sq r).window
+    by true e = ap (λ (z : ℕ). ((content p).sq z).window) (sym (eqb-true r (region p) e))
+    by false e = refl
+
+  outs_among : (y : ℕ) → (slot_at p.new y).state ≡ 2 → IsAmongOuts p.stands.items.outs y
+  outs_among y e = elim (cases_eq y tag) [
+    | inl same ↦ absurd (let at : (slot_at p.new y).state ≡ (slot_at p.new tag).state = ap (λ (z : ℕ). (slot_at p.new z).state) same in omega (arith, e, at, tag_freed))
+    | inr other ↦ p.stands.has.outs_all y (sym (ap (λ (s : Slot). s.state) (other_kept y other)) ∙ e)
+  ]
+
+  pub has_after : HasItems (controller_after p) p.new (content_after p) (items_after p)
+  has_after =
+      let h = p.stands.has in
+      record {
+        window_chain = window_after;
+        window_items = λ r. All-weaker (IsWaitingIn p.slots r) (IsWaitingIn p.new r) (waiting_kept r) (p.stands.items.windows r) (h.window_items r);
+        window_is = λ r. windows_are r ∙ h.window_is r;
+        picked_there = h.picked_there;
+        outs_items = All-weaker (IsOutIn p.slots) (IsOutIn p.new) out_kept p.stands.items.outs h.outs_items;
+        outs_apart = h.outs_apart;
+        outs_all = outs_among;
+        hand_is = h.hand_is;
+        ready_chain = λ y. chain_kept (cq_at (slice_set p.c.cqs p.x p.cq) y).ready (ready_tags ((items_after p).readies y)) (ready_chains y) (ready_unfree ((items_after p).readies y) (readies_before y));
+        ready_items = λ y. All-both (IsReadyIn p.slots) (λ (it : ReadyItem). it.tag ≢ tag) (IsReadyIn p.new) ready_kept ((items_after p).readies y) (readies_before y) (readies_apart y);
+        ready_is = ready_contents;
+        deletion_is = h.deletion_is ∙ deletion_after;
+        deletion_item = λ some. ap (λ (s : Slot). s.state) (other_kept p.c.deletion.tag (higher p.c.deletion.tag 6 (h.deletion_item some) (omega arith))) ∙ h.deletion_item some;
+        deletion_inside = λ some. subst (λ (n : ℕ). p.c.deletion.tag < n) (sym size_is) (h.deletion_inside some);
+        free_chain = free_after;
+        free_items = All-push (is_free p.new) p.stands.items.free tag (All-weaker (is_free p.slots) (is_free p.new) free_kept p.stands.items.free h.free_items) tag_freed;
+        few = subst (λ (n : ℕ). n < 2 ^ 16) (sym size_is) h.few;
+      }

@@ -1,0 +1,320 @@
+-- After a post the tags of a controller are those of its log, and its notes are an account.
+use Rattle.std.proofs.Common.{◌≡◌, ◌≢◌, ℕ, ◌+◌, ◌≤◌, ◌%◌, ◌==◌, ◌&&◌, ◌⊎◌, Bool, true, false, if◌then◌else◌, List, [], ◌∷◌, ◌++◌, length, Option, Some, None, is_some, refl, get_or, sym, ap, ◌∙◌, subst, arith, length-append, inl, inr}
+use Rattle.std.specs.Prelude.{All, slice_set}
+use Rattle.std.proofs.lemmas.Bool.{cases_eq, eq-eqb, ne_eqb, or_left, or_right}
+use Rattle.std.proofs.lemmas.List.Sums.{get_or-le-sum_by}
+use Rattle.std.proofs.lemmas.List.Elements.{All-head, All-tail, All-same, All-weaker}
+use Rattle.nvme_entry.specs.declared.submission.Sqe.{Sqe}
+use Rattle.nvme_entry.specs.declared.completion.Cqe.{Cqe}
+use Rattle.nvme_log.specs.declared.place.Place.{Place}
+use Rattle.nvme_log.specs.Rules.{FrontRules, Past}
+use Rattle.nvme_log.specs.Places.{is_aborted, one_if}
+use Rattle.nvme_log.specs.Completions.{posted_to, own_status_by, own_dw0_by, IsOwnBy}
+use Rattle.nvme_log.specs.Dispatches.{place_at}
+use Rattle.nvme_log.specs.Answers.{Answer, by_answers}
+use Rattle.nvme_ctrl.specs.Notes.{Notes}
+use Rattle.nvme_ctrl.specs.Tags.{is_place, holder, answer_of, answer_or, answers, is_out, all_fetches, all_posts}
+use Rattle.nvme_ctrl.specs.Account.{IsLawfulEvent, IsAccount}
+use Rattle.nvme_ctrl.specs.declared.slot.Slot.{Slot}
+use Rattle.nvme_ctrl.specs.kept.Content.{Ready}
+use Rattle.nvme_ctrl.specs.kept.Standing.{Holds, answer_in, hand_of, held_by, times_held}
+use Rattle.nvme_ctrl.specs.kept.Pool.{slot_at, put_item, IsChain}
+use Rattle.nvme_ctrl.specs.kept.State.{cq_at}
+use Rattle.nvme_ctrl.specs.inside.Next.{IsNext}
+use Rattle.nvme_ctrl.specs.inside.Posting.{completion_of, counted_post}
+use Rattle.nvme_ctrl.specs.Calls.{HasPosted}
+use Rattle.nvme_ctrl.specs.declared.chain.Chain.{Chain}
+use Rattle.nvme_ctrl.specs.declared.state.CqState.{CqState}
+use Rattle.nvme_ctrl.specs.declared.state.Controller.{Controller}
+use Rattle.nvme_ctrl.specs.kept.Kept.{Item, ReadyItem, places_of, ready_state, ready_tags, readies_of, untaken, IsThrough, HoldsTags, StandsAt}
+use Rattle.nvme_ctrl.proofs.NextEvents.{next-post, posts-as-ready, oldest_answerable}
+use Rattle.nvme_ctrl.proofs.OwnStatus.{All-unmap, IsAnswerable, ready_is_answerable}
+use Rattle.nvme_ctrl.proofs.PostedPlaces.{ready_unanswered}
+use Rattle.nvme_ctrl.proofs.ReadyHand.{times_held-append}
+use Rattle.nvme_ctrl.proofs.PostCall.{freed, HasDone, PostCall, content, past_of, command, region, index, cqe_of, event_of, later, notes_after, content_after, controller_by, controller_after, items_after, ready_in, oldest_is, can_post, holds_after}
+use Rattle.nvme_ctrl.proofs.PostNumbers.{numbers_after, counts_before, has_room, doorbells_after}
+use Rattle.nvme_ctrl.proofs.PostItems.{tag, size_is, other_kept, tag_freed, ready_contents, has_after}
+use Rattle.nvme_ctrl.proofs.OutTags.{still_not_out-logged}
+use Rattle.nvme_ctrl.proofs.SlotItems.{All-both, All-parts, at_put}
+
+-- ---- who holds a tag after a post
+-- another place than the posted one keeps its tag
+keeps_tag : (r i : ℕ) (o : Option Place) (q : Place) → o ≡ Some q → (q.region == r && q.index == i) ≡ false → (if is_place r i o then None else o) ≡ Some q
+keeps_tag r i o q held other = rw (held, other) refl
+
+-- the posted place gives its tag back
+leaves_tag : (o : Option Place) (q : Place) → o ≡ Some q → (if is_place q.region q.index o then None else o) ≡ None
+leaves_tag o q held = rw (held, eq-eqb q.region q.region refl, eq-eqb q.index q.index refl) refl
+
+-- a tag that nobody has stays so
+stays_free : (r i : ℕ) (o : Option Place) → o ≡ None → (if is_place r i o then None else o) ≡ None
+stays_free r i o none = rw none refl
+
+-- a place that doesn't stand among some is none of them
+none_held_there : (r i : ℕ) (ps : List Place) → times_held r i ps ≡ 0 → All (λ (q : Place). (q.region == r && q.index == i) ≡ false) ps
+none_held_there r i ps none k d lt =
+    let q : Place = get_or ps k d in
+    let here = get_or-le-sum_by (λ (z : Place). one_if (z.region == r && z.index == i)) ps k d lt in
+    by (q.region == r && q.index == i) (omega (arith, none, here)) where
+      by : (b : Bool) → one_if b ≡ 0 → b ≡ false
+      by true h = absurd (omega (arith, h))
+      by false h = refl
+
+-- a post that a place doesn't have is one of another place
+unposted_other : (b : Bool) (n : ℕ) → (if b then n + 1 else n) ≡ 0 → b ≡ false
+unposted_other true n h = absurd (omega (arith, h))
+unposted_other false n h = refl
+
+-- the same with the places the other way round
+swapped : (a b r i : ℕ) → (a == r && b == i) ≡ false → (r == a && i == b) ≡ false
+swapped a b r i h = elim (cases_eq r a) [
+  | inl same ↦ elim (cases_eq i b) [
+    | inl also ↦ (let yes : (a == r && b == i) ≡ true = rw (eq-eqb a r (sym same), eq-eqb b i (sym also)) refl in cc)
+    | inr other ↦ rw (ne_eqb i b other) (false_right (r == a))
+  ]
+  | inr other ↦ rw (ne_eqb r a other) refl
+] where
+  false_right : (x : Bool) → (x && false) ≡ false
+  false_right true = refl
+  false_right false = refl
+
+-- ---- an executor that answers as the ready completion
+-- the status and Command Dword 0 of an aborted place don't depend on the answer
+own_by-answer : (rules : FrontRules) (past : Past) (x r i : ℕ) (cqe : Cqe) (one other : Sqe → Answer) → ((is_aborted past r i ≡ true) ⊎ ((e : Sqe) → one e ≡ other e))
+    → IsOwnBy rules one past x r i cqe → IsOwnBy rules other past x r i cqe
+own_by-answer rules past x r i cqe one other same h = record {
+  entry = h.entry;
+  is_there = h.is_there;
+  region = h.region;
+  sqid = h.sqid;
+  cid = h.cid;
+  status = h.status ∙ (elim same [
+    | inl aborted ↦ rw aborted refl
+    | inr alike ↦ ap (λ (a : Answer). own_status_by rules a past r i h.entry) (alike h.entry)
+  ]);
+  dw0 = h.dw0 ∙ (elim same [
+    | inl aborted ↦ rw aborted refl
+    | inr alike ↦ ap (λ (a : Answer). own_dw0_by rules a past r i h.entry) (alike h.entry)
+  ]);
+  sqhd = h.sqhd;
+  phase = h.phase;
+}
+
+module _ (p : PostCall) where
+  -- what holds of all that is ready holds of the command, and of what is ready afterwards
+  of_item : (P : ReadyItem → Type 0) → All P (p.stands.items.readies p.x) → P p.item
+  of_item P h = All-head P p.item p.rest (All-same P (p.item ∷ p.rest) (p.stands.items.readies p.x) (sym p.are) h)
+
+  of_readies : (P : ReadyItem → Type 0) → ((y : ℕ) → All P (p.stands.items.readies y)) → (y : ℕ) → All P ((items_after p).readies y)
+  of_readies P h = at_put (λ y items. All P items) p.stands.items.readies p.x p.rest
+      (All-tail P p.item p.rest (All-same P (p.item ∷ p.rest) (p.stands.items.readies p.x) (sym p.are) (h p.x))) (λ y d. h y)
+
+  -- ---- the places of the others
+  abbrev IsOther : Place → Type 0
+  IsOther q = (q.region == region p && q.index == index p) ≡ false
+
+  -- what is ready afterwards is of other places
+  readies_other : (y : ℕ) → All (λ (it : ReadyItem). IsOther it.ready.place) ((items_after p).readies y)
+  readies_other y =
+      All-unmap (λ (t : Ready). IsOther t.place) (λ (it : ReadyItem). it.ready) ((items_after p).readies y)
+      (All-same (λ (t : Ready). IsOther t.place) (readies_of ((items_after p).readies y)) ((content_after p).cq y).ready (sym (ready_contents p y))
+      (All-weaker (λ (t : Ready). IsAnswerable (later p) (hand_of (content_after p)) t.place.region t.place.index) (λ (t : Ready). IsOther t.place)
+      (λ t a. swapped (region p) (index p) t.place.region t.place.index (unposted_other (region p == t.place.region && index p == t.place.index) _ a.no_posts))
+      ((content_after p).cq y).ready (ready_is_answerable (later p) (content_after p) (hand_of (content_after p)) (holds_after p).ready y)))
+
+  -- so is what the device has
+  none_in_hand : times_held (region p) (index p) (content p).hand ≡ 0
+  none_in_hand =
+      let all = (oldest_answerable (past_of p) (content p) p.x p.item.ready (readies_of p.rest) p.stands.holds.ready (oldest_is p)).not_held in
+      omega (arith, all, times_held-append (region p) (index p) (content p).hand (held_by (content p).deletion))
+
+  outs_other : All (λ (it : Item). IsOther it.place) p.stands.items.outs
+  outs_other =
+      let held : List Item = p.stands.items.outs ++ untaken p.c p.stands.items in
+      (All-parts (λ (it : Item). IsOther it.place) p.stands.items.outs (untaken p.c p.stands.items)
+      (All-unmap IsOther (λ (it : Item). it.place) held
+      (All-same IsOther (places_of held) (content p).hand (sym p.stands.has.hand_is) (none_held_there (region p) (index p) (content p).hand none_in_hand)))).0
+
+  -- ---- tags
+  -- nobody has the tag of the command afterwards
+  tag_left : holder (notes_after p) (tag p) ≡ None
+  tag_left = by p.item.was_out refl where
+    by : (b : Bool) → p.item.was_out ≡ b → holder (notes_after p) (tag p) ≡ None
+    by true e = leaves_tag (holder p.notes (tag p)) p.item.ready.place
+        (of_item (λ (it : ReadyItem). it.was_out ≡ true → holder p.notes it.tag ≡ Some it.ready.place) (p.stands.tags.readies_held p.x) e)
+    by false e =
+        let state : (slot_at p.slots (tag p)).state ≡ ready_state false p.item.ready.with_queue = (ready_in p).state ∙ ap (λ (b : Bool). ready_state b p.item.ready.with_queue) e in
+        let more : 4 ≤ ready_state false p.item.ready.with_queue = ended p.item.ready.with_queue in
+        stays_free (region p) (index p) (holder p.notes (tag p)) (p.stands.tags.none_held (tag p) (λ z. omega (arith, z, state, more)) (λ z. omega (arith, z, state, more)))
+      where
+        ended : (b : Bool) → 4 ≤ ready_state false b
+        ended true = omega arith
+        ended false = omega arith
+
+  none_held_after : (t : ℕ) → (slot_at p.new t).state ≢ 2 → (slot_at p.new t).state ≢ 3 → holder (notes_after p) t ≡ None
+  none_held_after t not_out not_answered = elim (cases_eq t (tag p)) [
+    | inl same ↦ subst (λ (z : ℕ). holder (notes_after p) z ≡ None) (sym same) tag_left
+    | inr other ↦ (
+        let state : (slot_at p.new t).state ≡ (slot_at p.slots t).state = ap (λ (s : Slot). s.state) (other_kept p t other) in
+        stays_free (region p) (index p) (holder p.notes t) (p.stands.tags.none_held t (λ e. not_out (state ∙ e)) (λ e. not_answered (state ∙ e))))
+  ]
+
+  -- what was answered before isn't out
+  answered_after : (t : ℕ) → (slot_at p.new t).state ≡ 3 → is_out (notes_after p) t ≡ false
+  answered_after t e = elim (cases_eq t (tag p)) [
+    | inl same ↦ (
+        let state : (slot_at p.new t).state ≡ (slot_at p.new (tag p)).state = ap (λ (z : ℕ). (slot_at p.new z).state) same in
+        absurd (omega (arith, e, state, tag_freed p)))
+    | inr other ↦ still_not_out-logged (event_of p) p.notes t (p.stands.tags.answered_held t (sym (ap (λ (s : Slot). s.state) (other_kept p t other)) ∙ e))
+  ]
+
+  -- a slot more is free, and a completion more is posted
+  count_after : p.free.len + all_fetches (past_of p) ≡ length p.new + (all_posts (past_of p) + 1)
+  count_after =
+      omega (
+        arith,
+        p.stands.tags.free_count,
+        (has_after p).free_chain.len_is,
+        p.stands.has.free_chain.len_is,
+        length-append p.stands.items.free (tag p ∷ []),
+        size_is p,
+      )
+
+  pub tags_after : HoldsTags (notes_after p) (controller_after p) p.new (items_after p)
+  tags_after =
+      let h = p.stands.tags in
+      record {
+        untaken_are = h.untaken_are;
+        outs_held = All-both (λ (it : Item). holder p.notes it.tag ≡ Some it.place) (λ (it : Item). IsOther it.place) (λ (it : Item). holder (notes_after p) it.tag ≡ Some it.place)
+            (λ it held other. keeps_tag (region p) (index p) (holder p.notes it.tag) it.place held other) p.stands.items.outs h.outs_held outs_other;
+        readies_held = λ y.
+            All-both (λ (it : ReadyItem). it.was_out ≡ true → holder p.notes it.tag ≡ Some it.ready.place) (λ (it : ReadyItem). IsOther it.ready.place)
+            (λ (it : ReadyItem). it.was_out ≡ true → holder (notes_after p) it.tag ≡ Some it.ready.place)
+            (λ it held other out. keeps_tag (region p) (index p) (holder p.notes it.tag) it.ready.place (held out) other) ((items_after p).readies y)
+            (of_readies (λ (it : ReadyItem). it.was_out ≡ true → holder p.notes it.tag ≡ Some it.ready.place) h.readies_held y) (readies_other y);
+        none_held = none_held_after;
+        through = of_readies (λ (it : ReadyItem). IsThrough p.notes it.ready) h.through;
+        windows_unanswered = h.windows_unanswered;
+        outs_unanswered = h.outs_unanswered;
+        deletion_unanswered = h.deletion_unanswered;
+        none_answered = h.none_answered;
+        answered_held = answered_after;
+        hand_entries = h.hand_entries;
+        free_count = count_after;
+      }
+
+  -- ---- the account
+  through : IsThrough p.notes p.item.ready
+  through = of_item (λ (it : ReadyItem). IsThrough p.notes it.ready) (p.stands.tags.through p.x)
+
+  is_own : p.late ≡ false → IsOwnBy p.rules (by_answers (answers p.notes) (place_at (region p) (index p))) (past_of p) p.x (region p) (index p) (cqe_of p)
+  is_own on_time =
+      own_by-answer p.rules (past_of p) p.x (region p) (index p) (cqe_of p) (λ e. answer_in p.item.ready) (by_answers (answers p.notes) (place_at (region p) (index p)))
+      (elim through [
+        | inl aborted ↦ inl aborted
+        | inr answered ↦ inr (λ e. sym (ap answer_or answered))
+      ])
+      (posts-as-ready p.rules (past_of p) (content p) p.x p.item.ready (readies_of p.rest) (cqe_of p)
+      (subst (λ (late : Bool). Holds p.rules late (past_of p) (content p)) on_time p.stands.holds) (can_post p))
+
+  lawful_event : p.late ≡ false → IsLawfulEvent p.rules p.notes (event_of p)
+  lawful_event on_time =
+      let next : IsNext p.rules (past_of p) (event_of p) =
+      next-post p.rules p.late (past_of p) (content p) p.x p.item.ready (readies_of p.rest) (cqe_of p) p.stands.holds (can_post p) (holds_after p).regions on_time in
+      let first = ready_unanswered (past_of p) (content p) (hand_of (content p)) p.stands.holds.ready p.x p.item.ready (readies_of p.rest) (oldest_is p) in
+      record {
+        index_counts = next.index_counts;
+        served_while_open = next.served_while_open;
+        observed = next.observed;
+        effects_at_once = next.effects_at_once;
+        deletes = next.deletes;
+        posts_own = (first.no_post, first.was_served, is_own on_time);
+        leaves_places = next.leaves_places;
+        fetches_submitted = tt;
+        posts_on_free_slot = omega (arith, has_room p, p.stands.holds.tabled.cq_slots p.x, p.stands.numbers.cq_slots p.x);
+        posts_what_is_through = elim through [
+          | inl aborted ↦ or_left (is_aborted (past_of p) (region p) (index p)) (is_some (answer_of p.notes (region p) (index p))) aborted
+          | inr answered ↦ or_right (is_aborted (past_of p) (region p) (index p)) (is_some (answer_of p.notes (region p) (index p))) (rw answered refl)
+        ];
+      }
+
+  pub account_after : p.late ≡ false → IsAccount p.rules (notes_after p)
+  account_after on_time =
+      let old = p.stands.account on_time in
+      let own = (holds_after p).own on_time in
+      record { each = (lawful_event on_time, old.each); lawful = (holds_after p).arbitration.lawful; effects_whole = own.effects_whole }
+
+-- ---- all that stands afterwards
+pub stands_after : (p : PostCall) → StandsAt p.rules p.late (notes_after p) (controller_by p (command p).region) p.new
+stands_after p =
+    subst (λ (r : ℕ). StandsAt p.rules p.late (notes_after p) (controller_by p r) p.new) (sym (ready_in p).region)
+    (record {
+      content = content_after p;
+      items = items_after p;
+      holds = holds_after p;
+      numbers = numbers_after p;
+      has = has_after p;
+      doorbells = doorbells_after p;
+      tags = tags_after p;
+      account = account_after p;
+    })
+
+pub posted_call : (p : PostCall)
+    → HasPosted p.rules p.late p.notes p.x (cq_at p.c.cqs p.x).ring.tail (cqe_of p) (controller_by p (command p).region) p.new
+posted_call p = record {
+  region = region p;
+  index = index p;
+  slot_is = (counts_before p).tail_is ∙ ap (λ (n : ℕ). length (posted_to (past_of p) p.x) % n) (p.stands.numbers.cq_slots p.x ∙ sym (p.stands.holds.tabled.cq_slots p.x));
+  stands = stands_after p;
+}
+
+-- the controller that the function leaves
+abbrev pub left_by : Controller → List Slot → ℕ → ℕ → CqState → Chain → Controller
+left_by c slots x tag cq free = record (counted_post (record c { cqs = slice_set c.cqs x cq }) (slot_at slots tag)) { free = free }
+
+pub call_posts : (rules : FrontRules) (late : Bool) (notes : Notes) (c : Controller) (slots : List Slot) (x tag : ℕ) (cq : CqState) (free : Chain) (new : List Slot)
+    → StandsAt rules late notes c slots → HasDone (cq_at c.cqs x) c.free slots (freed slots tag) tag cq free new
+    → HasPosted rules late notes x (cq_at c.cqs x).ring.tail (completion_of c (slot_at slots tag) ((cq_at c.cqs x).phase == 1)) (left_by c slots x tag cq free) new
+call_posts rules late notes c slots x tag cq free new stands did = by (stands.items.readies x) refl where
+  by : (items : List ReadyItem) → stands.items.readies x ≡ items
+      → HasPosted rules late notes x (cq_at c.cqs x).ring.tail (completion_of c (slot_at slots tag) ((cq_at c.cqs x).phase == 1)) (left_by c slots x tag cq free) new
+  by [] e = absurd (did.some (subst (λ (items : List ReadyItem). IsChain slots (cq_at c.cqs x).ready (ready_tags items)) e (stands.has.ready_chain x)))
+  by (item ∷ rest) e =
+      let same : item.tag ≡ tag = did.first item.tag (ready_tags rest) (subst (λ (items : List ReadyItem). IsChain slots (cq_at c.cqs x).ready (ready_tags items)) e (stands.has.ready_chain x)) in
+      subst (λ (z : ℕ). HasPosted rules late notes x (cq_at c.cqs x).ring.tail (completion_of c (slot_at slots z) ((cq_at c.cqs x).phase == 1)) (left_by c slots x z cq free) new) same
+      (posted_call (record {
+        rules = rules;
+        late = late;
+        notes = notes;
+        c = c;
+        slots = slots;
+        x = x;
+        item = item;
+        rest = rest;
+        cq = cq;
+        free = free;
+        new = new;
+        stands = stands;
+        are = e;
+        did = subst (λ (z : ℕ). HasDone (cq_at c.cqs x) c.free slots (freed slots z) z cq free new) (sym same) did;
+      }))
+
+-- so do the steps of the function, one after another
+pub steps_post : (rules : FrontRules) (late : Bool) (notes : Notes) (c put counted : Controller) (slots pool : List Slot) (x tag : ℕ) (old cq : CqState) (command : Slot) (free : Chain)
+    (new : List Slot) (cqe : Cqe)
+    → old ≡ cq_at c.cqs x → command ≡ slot_at slots tag → cqe ≡ completion_of c command (old.phase == 1) → put ≡ record c { cqs = slice_set c.cqs x cq }
+    → counted ≡ counted_post put command → pool ≡ put_item slots tag (record command { state = 0 })
+    → HasDone old counted.free slots pool tag cq free new → StandsAt rules late notes c slots
+    → HasPosted rules late notes x old.ring.tail cqe (record counted { free = free }) new
+steps_post rules late notes c put counted slots pool x tag old cq command free new cqe is_old is_command is_cqe is_put is_counted is_pool did stands =
+    let first : cqe ≡ completion_of c (slot_at slots tag) ((cq_at c.cqs x).phase == 1) = is_cqe ∙ (λ j. completion_of c (is_command j) ((is_old j).phase == 1)) in
+    let left : counted ≡ counted_post (record c { cqs = slice_set c.cqs x cq }) (slot_at slots tag) = is_counted ∙ (λ j. counted_post (is_put j) (is_command j)) in
+    let pools : pool ≡ freed slots tag = is_pool ∙ ap (λ (s : Slot). put_item slots tag (record s { state = 0 })) is_command in
+    let done : HasDone (cq_at c.cqs x) c.free slots (freed slots tag) tag cq free new =
+    subst (λ (o : CqState). HasDone o c.free slots (freed slots tag) tag cq free new) is_old
+    (subst (λ (b : Chain). HasDone old b slots (freed slots tag) tag cq free new) (ap (λ (k : Controller). k.free) left)
+    (subst (λ (q : List Slot). HasDone old counted.free slots q tag cq free new) pools did)) in
+    subst (λ (t : ℕ). HasPosted rules late notes x t cqe (record counted { free = free }) new) (sym (ap (λ (o : CqState). o.ring.tail) is_old))
+    (subst (λ (q : Cqe). HasPosted rules late notes x (cq_at c.cqs x).ring.tail q (record counted { free = free }) new) (sym first)
+    (subst (λ (k : Controller). HasPosted rules late notes x (cq_at c.cqs x).ring.tail (completion_of c (slot_at slots tag) ((cq_at c.cqs x).phase == 1)) (record k { free = free }) new) (sym left)
+    (call_posts rules late notes c slots x tag cq free new stands done)))

@@ -1,0 +1,177 @@
+-- What the verdict of an admin command makes of the queues.
+use Rattle.std.proofs.Common.{◌≡◌, ℕ, ◌+◌, ◌≤◌, ◌<◌, ◌==◌, Bool, false, List, [], ◌∷◌, map, length, Option, Some, None, refl, sym, ◌∙◌, ap, subst, arith}
+use Rattle.std.specs.Prelude.{slice_set}
+use Rattle.std.proofs.lemmas.Bool.{eqb-false}
+use Rattle.nvme_arbiter.specs.Limits.{highest_qid}
+use Rattle.nvme_arbiter.specs.Board.{BoardView}
+use Rattle.nvme_arbiter.specs.declared.pick.OpenQueue.{OpenQueue}
+use Rattle.nvme_arbiter.specs.declared.settings.Class.{Class}
+use Rattle.nvme_arbiter.specs.declared.pick.Pick.{Pick}
+use Rattle.nvme_arbiter.specs.declared.pick.Seen.{Seen}
+use Rattle.nvme_admin.specs.History.{TableHistory}
+use Rattle.nvme_admin.specs.Accepted.{queue_table}
+use Rattle.nvme_admin.specs.Changes.{IsDue}
+use Rattle.nvme_admin.specs.Standing.{TableView, IsSized, sq_of}
+use Rattle.nvme_admin.specs.declared.verdict.SqEntry.{SqEntry}
+use Rattle.nvme_admin.specs.declared.verdict.Verdict.{Verdict}
+use Rattle.nvme_admin.specs.declared.verdict.Verdict.TheVariants.{Done, BeginDelete, CloseCq}
+use Rattle.nvme_admin.specs.declared.verdict.Verdict.TheVariants as verdict
+use Rattle.nvme_admin.proofs.Reached.{or_false-parts}
+use Rattle.nvme_admin.proofs.Slots.{within}
+use Rattle.nvme_log.specs.declared.event.Event.{Event}
+use Rattle.nvme_log.specs.declared.event.Event.TheVariants as event
+use Rattle.nvme_ctrl.specs.kept.Content.{Candidate}
+use Rattle.nvme_log.specs.Rules.{FrontRules, Past}
+use Rattle.nvme_log.specs.Queues.{Queue, open_sq, open_cq}
+use Rattle.nvme_log.specs.Places.{waiting}
+use Rattle.nvme_log.specs.Effects.{abort_in, closing_of, closed_cq_of, made_by, target_of}
+use Rattle.nvme_ctrl.specs.kept.Content.{SqContent, Content, put_sq}
+use Rattle.nvme_ctrl.specs.kept.Standing.{HoldsSq}
+use Rattle.nvme_ctrl.specs.inside.Steps.{oldest_named, without_oldest}
+use Rattle.nvme_ctrl.proofs.AfterSteps.{IsAbortChosen, IsChosen, aborting_from, aborting_in, after_admin, deleting_from, with_events}
+use Rattle.nvme_ctrl.proofs.Named.{made_abort, made_none}
+use Rattle.nvme_log.proofs.UsedRegions.{used_after}
+use Rattle.nvme_ctrl.proofs.QueueWords.{QueueContent, in_log, in_content, Agree, at_other, put-queue}
+use Rattle.nvme_ctrl.proofs.QueueChanges.{serve, open_one, open_other, close_other, begin_delete}
+
+-- the identifier of a queue of a table is one that a board has
+pub few_queues : (table : TableView) → IsSized table → (q : ℕ) (entry : SqEntry) → sq_of table q ≡ Some entry → q ≤ highest_qid
+few_queues table sized q entry e =
+    let below : q < length table.sqs = within table.sqs q entry e in
+    omega (arith, sized.sqs, below)
+
+-- ---- what agrees after a verdict
+-- aborts leave the queues
+aborts-agree : (r : ℕ) (is : List ℕ) (past : Past) (k : QueueContent) → Agree (in_log past) k → Agree (in_log (with_events (map (λ (i : ℕ). event.Abort r i) is) past)) k
+aborts-agree r [] past k h = h
+aborts-agree r (i ∷ is) past k h = aborts-agree r is (event.Abort r i ∷ past) k h
+
+-- a completion queue is closed, where it is open
+closes-agree : (qid : ℕ) (o : Option ℕ) (now : Past) (k : QueueContent) → Agree (in_log now) k → Agree (in_log (with_events (closed_cq_of qid o) now)) k
+closes-agree qid None now k h = h
+closes-agree qid (Some region) now k h = close_other (in_log now) k h qid
+
+-- the deletion of a queue begins, where it is open
+deletes-agree : (past now : Past) (k : Content) (candidate : Candidate) (qid c : ℕ) (o : Option Queue) → Agree (in_log now) (in_content k) → open_sq now qid ≡ o
+    → ((queue : Queue) → o ≡ Some queue → (k.sq queue.region).queue ≡ Some (record { qid = qid; cq_region = c }))
+    → Agree (in_log (with_events (closing_of past qid o) now)) (in_content (deleting_from k qid c candidate o))
+deletes-agree past now k candidate qid c None h is opened = h
+deletes-agree past now k candidate qid c (Some queue) h is opened =
+    aborts-agree queue.region (waiting past queue.region) (event.Closing qid queue.region ∷ now) (in_content (deleting_from k qid c candidate (Some queue)))
+    (begin_delete (in_log now) (in_content k) h qid c _ queue _ is (opened queue refl) refl refl)
+
+-- what is given of an admin pick whose verdict is v: `before` is what was kept before it, and k what is kept when its place is picked
+pub record Applies (rules : FrontRules) (history : TableHistory) (before k : Content) (v : Verdict) : Type 0 where
+  pub due : IsDue (queue_table rules.start history) v
+  pub cqs_there : length (queue_table rules.start history).cq_regions ≡ k.ncq
+  pub sqs_there : length (queue_table rules.start history).sq_regions ≡ k.nsq
+  pub still : (r : ℕ) → (k.sq r).queue ≡ (before.sq r).queue
+  pub unused : (r : ℕ) → (queue_table rules.start history).sq_region_used r ≡ false → (k.sq r).queue ≡ None
+  pub few : (qid region cqid : ℕ) (class : Class) → v ≡ verdict.OpenSq qid region cqid class → qid ≤ highest_qid
+
+-- of the queue whose candidates an Abort command may abort: it is open, and the pick of the command left its region
+pub record IsTarget (past : Past) (before k : Content) (sqid : ℕ) (queue : Queue) : Type 0 where
+  pub is_open : open_sq past sqid ≡ Some queue
+  pub left : k.sq queue.region ≡ before.sq queue.region
+  pub held : HoldsSq past queue.region (k.sq queue.region)
+
+-- the queues agree after a verdict, where they do when its place is picked
+module _ (rules : FrontRules) (history : TableHistory) (past : Past) (seen : List Seen) (pick : Pick) (before k : Content) (candidate : Candidate) (c : ℕ) (picked board : BoardView) where
+  -- a candidate leaves the window of a queue, on the board too
+  found-agrees : (queue : Queue) (sqid cid : ℕ) (o : Option Candidate) → oldest_named cid (k.sq queue.region).window ≡ o
+      → ((found : Candidate) → o ≡ Some found → IsAbortChosen rules before sqid cid c picked board queue)
+      → k.board.queues ≡ picked.queues → IsTarget past before k sqid queue
+      → Agree (in_log (event.Pick seen pick ∷ past)) (in_content k)
+      → Agree (in_log (with_events (abort_in past cid (Some queue)) (event.Pick seen pick ∷ past))) (in_content (aborting_in k candidate sqid queue.region c cid board o))
+  found-agrees queue sqid cid None is chosen same target h =
+      subst (λ (es : List Event). Agree (in_log (with_events es (event.Pick seen pick ∷ past))) (in_content k))
+      (sym (made_none past cid queue (k.sq queue.region) target.held is)) h
+  found-agrees queue sqid cid (Some found) is chosen same target h =
+      let s : SqContent = record (k.sq queue.region) { window = without_oldest cid (k.sq queue.region).window; unposted = (k.sq queue.region).unposted + 1 } in
+      let choice = chosen found refl in
+      let queues : slice_set k.board.queues sqid (Some (record { class = queue.class; count = length s.window })) ≡ board.queues =
+      (λ t. slice_set (same t) sqid (Some (record { class = queue.class; count = length (without_oldest cid (target.left t).window) }))) ∙ sym choice.queues in
+      subst (λ (es : List Event). Agree (in_log (with_events es (event.Pick seen pick ∷ past))) (in_content (aborting_in k candidate sqid queue.region c cid board (Some found))))
+      (sym (made_abort past cid queue (k.sq queue.region) found target.held is))
+      (subst (λ (z : List (Option OpenQueue)). Agree (in_log past) (record (in_content k) { sq = put_sq k.sq queue.region s; board = z })) queues
+      (serve (in_log past) (in_content k) h sqid queue s target.is_open refl))
+
+  target-agrees : (o : Option Queue) (sqid cid : ℕ)
+      → ((queue : Queue) (found : Candidate) → o ≡ Some queue → oldest_named cid (before.sq queue.region).window ≡ Some found → IsAbortChosen rules before sqid cid c picked board queue)
+      → k.board.queues ≡ picked.queues → ((queue : Queue) → o ≡ Some queue → IsTarget past before k sqid queue)
+      → Agree (in_log (event.Pick seen pick ∷ past)) (in_content k)
+      → Agree (in_log (with_events (abort_in past cid o) (event.Pick seen pick ∷ past))) (in_content (aborting_from k candidate sqid c cid board o))
+  target-agrees None sqid cid chosen same target h = h
+  target-agrees (Some queue) sqid cid chosen same target h =
+      let is = target queue refl in
+      found-agrees queue sqid cid (oldest_named cid (k.sq queue.region).window) refl
+      (λ found e. chosen queue found refl (ap (λ (z : SqContent). oldest_named cid z.window) (sym is.left) ∙ e)) same is h
+
+  pub verdict-agrees : (v : Verdict) → Applies rules history before k v → IsChosen rules past before c picked board v → k.board.queues ≡ picked.queues
+      → ((sqid : ℕ) (queue : Queue) → target_of past sqid ≡ Some queue → IsTarget past before k sqid queue)
+      → Agree (in_log (event.Pick seen pick ∷ past)) (in_content k)
+      → Agree (in_log (with_events (made_by past v) (event.Pick seen pick ∷ past))) (in_content (after_admin past k candidate c board v))
+  verdict-agrees (Done status dw0) a chosen same target h = h
+  verdict-agrees (verdict.Abort sqid cid) a chosen same target h =
+      target-agrees (target_of past sqid) sqid cid chosen same (target sqid) h
+  verdict-agrees (verdict.SetArbitration settings) a chosen same target h =
+      subst (λ (z : List (Option OpenQueue)). Agree (in_log past) (record (in_content k) { board = z })) (same ∙ sym chosen.0) h
+  verdict-agrees (verdict.OpenCq qid region) a chosen same target h =
+      open_other (in_log past) (in_content k) h qid region (subst (λ (n : ℕ). region < n) a.cqs_there a.due.there)
+  verdict-agrees (CloseCq qid) a chosen same target h = closes-agree qid (open_cq past qid) (event.Pick seen pick ∷ past) (in_content k) h
+  verdict-agrees (verdict.OpenSq qid region cqid class) a chosen same target h =
+      open_one (in_log past) (in_content k) h qid region cqid c class (a.unused region a.due.unused) chosen
+      (subst (λ (n : ℕ). region < n) a.sqs_there a.due.there) (a.few qid region cqid class refl)
+  verdict-agrees (BeginDelete qid) a chosen same target h =
+      deletes-agree past (event.Pick seen pick ∷ past) k candidate qid c (open_sq past qid) h refl (λ queue e. a.still queue.region ∙ chosen queue e)
+
+-- ---- the table
+-- the begin of a deletion leaves the table
+deleting-table : (k : Content) (qid c : ℕ) (candidate : Candidate) (o : Option Queue) → (deleting_from k qid c candidate o).table ≡ k.table
+deleting-table k qid c candidate None = refl
+deleting-table k qid c candidate (Some queue) = refl
+
+-- and what each region was opened for
+deleting-queue : (k : Content) (qid c : ℕ) (candidate : Candidate) (o : Option Queue) (r : ℕ) → ((deleting_from k qid c candidate o).sq r).queue ≡ (k.sq r).queue
+deleting-queue k qid c candidate None r = refl
+deleting-queue k qid c candidate (Some queue) r = put-queue k.sq queue.region _ refl r
+
+module _ (past : Past) (k : Content) (candidate : Candidate) (c : ℕ) (board : BoardView) where
+  -- an Abort command changes no table
+  target-table : (sqid cid : ℕ) (o : Option Queue) → (aborting_from k candidate sqid c cid board o).table ≡ k.table
+  target-table sqid cid None = refl
+  target-table sqid cid (Some queue) = found (oldest_named cid (k.sq queue.region).window) where
+    found : (o : Option Candidate) → (aborting_in k candidate sqid queue.region c cid board o).table ≡ k.table
+    found None = refl
+    found (Some it) = refl
+
+  -- nor what each region was opened for
+  target-queue : (sqid cid : ℕ) (o : Option Queue) (r : ℕ) → ((aborting_from k candidate sqid c cid board o).sq r).queue ≡ (k.sq r).queue
+  target-queue sqid cid None r = refl
+  target-queue sqid cid (Some queue) r = found (oldest_named cid (k.sq queue.region).window) where
+    found : (o : Option Candidate) → ((aborting_in k candidate sqid queue.region c cid board o).sq r).queue ≡ (k.sq r).queue
+    found None = refl
+    found (Some it) = put-queue k.sq queue.region _ refl r
+
+  -- a verdict leaves the table, which its command changed
+  pub verdict-table : (v : Verdict) → (after_admin past k candidate c board v).table ≡ k.table
+  verdict-table (Done status dw0) = refl
+  verdict-table (verdict.Abort sqid cid) = target-table sqid cid (target_of past sqid)
+  verdict-table (verdict.SetArbitration settings) = refl
+  verdict-table (verdict.OpenCq qid region) = refl
+  verdict-table (CloseCq qid) = refl
+  verdict-table (verdict.OpenSq qid region cqid class) = refl
+  verdict-table (BeginDelete qid) = deleting-table k qid c candidate (open_sq past qid)
+
+  -- a region that isn't used after a verdict was opened for no queue
+  pub verdict-unused : (used : ℕ → Bool) → ((r : ℕ) → used r ≡ false → (k.sq r).queue ≡ None)
+      → (v : Verdict) (r : ℕ) → used_after v used r ≡ false → ((after_admin past k candidate c board v).sq r).queue ≡ None
+  verdict-unused used none (Done status dw0) r e = none r e
+  verdict-unused used none (verdict.Abort sqid cid) r e = target-queue sqid cid (target_of past sqid) r ∙ none r e
+  verdict-unused used none (verdict.SetArbitration settings) r e = none r e
+  verdict-unused used none (verdict.OpenCq qid region) r e = none r e
+  verdict-unused used none (CloseCq qid) r e = none r e
+  verdict-unused used none (verdict.OpenSq qid region cqid class) r e =
+      let parts = or_false-parts (region == r) (used r) e in
+      ap (λ (s : SqContent). s.queue) (at_other r region _ (k.sq r) (λ p. eqb-false region r parts.0 (sym p))) ∙ none r parts.1
+  verdict-unused used none (BeginDelete qid) r e = deleting-queue k qid c candidate (open_sq past qid) r ∙ none r e

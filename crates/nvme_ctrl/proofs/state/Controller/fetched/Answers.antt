@@ -1,0 +1,97 @@
+use Rattle.std.proofs.Common.{◌≡◌, ℕ, ◌+◌, ◌<◌, ◌^◌, Some, List, [], ◌∷◌, ◌++◌, length, refl, sym, ap, subst}
+use Rattle.std.specs.Prelude.{slice_set, IsSomeAnd, IfSome}
+use Rattle.nvme_arbiter.specs.Layout.{board_of}
+use Rattle.nvme_arbiter.specs.Limits.{highest_count}
+use Rattle.nvme_arbiter.specs.Queues.{queue_at}
+use Rattle.nvme_arbiter.specs.declared.board_fields.BoardFields.{BoardFields}
+use Rattle.nvme_arbiter.specs.declared.pick.OpenQueue.{OpenQueue}
+use Rattle.nvme_log.specs.declared.event.Event.TheVariants.{Fetch}
+use Rattle.nvme_log.specs.Places.{fetched}
+use Rattle.nvme_ctrl.specs.Notes.{Logged, logged}
+use Rattle.nvme_ctrl.specs.Rings.{HasCounts}
+use Rattle.nvme_ctrl.specs.Calls.{HasFetched}
+use Rattle.nvme_ctrl.specs.Standing.{IsController}
+use Rattle.nvme_ctrl.specs.declared.chain.Chain.{Chain}
+use Rattle.nvme_ctrl.specs.declared.slot.Slot.{Slot}
+use Rattle.nvme_ctrl.specs.declared.state.SqState.{SqState}
+use Rattle.nvme_ctrl.specs.declared.state.Controller.{Controller}
+use Rattle.nvme_ctrl.specs.kept.Pool.{IsNew, IsChain, SameItems, SameLinks}
+use Rattle.nvme_ctrl.specs.kept.State.{sq_at}
+use Rattle.nvme_ctrl.proofs.FetchCalls.{Fetches, fetched_state, has_fetched, may_come}
+use Rattle.nvme_ctrl.proofs.FetchTold.{is_fetchable, some_popped}
+use Rattle.nvme_ctrl.proofs.state.Controller.fetched.Goals as goal
+
+pub returns-in_default-pop-clause-front : goal.returns-in_default-pop-clause-front
+returns-in_default-pop-clause-front c =
+    subst (λ (free : Chain). IsController (record c.args.self.now { free = free }) c.args.slots.now) (sym (c.in_default-pop.ensures.none refl)) c.requires.front
+
+pub returns-in_default-pop-clause-refused : goal.returns-in_default-pop-clause-refused
+returns-in_default-pop-clause-refused c refused = (ap (λ (free : Chain). record c.args.self.now { free = free }) (c.in_default-pop.ensures.none refl), refl)
+
+pub returns-in_default-clause-told : goal.returns-in_default-clause-told
+returns-in_default-clause-told c rules late notes s slot m =
+    absurd (c.fetchable.ensures.none _ (is_fetchable rules late notes c.args.self.now c.args.slots.now s c.args.qid slot m) c.in_default.is)
+
+pub returns-in_default-pop-clause-told : goal.returns-in_default-pop-clause-told
+returns-in_default-pop-clause-told c rules late notes s slot m =
+    absurd (some_popped c.args.slots.now c.args.self.now.free s.items.free c.pop.result s.has.free_chain c.in-Some.ensures.some.some_free c.pop.ensures.some c.in_default-pop.is)
+
+pub came-requires : goal.came-requires
+came-requires c =
+    let front = c.requires.front in
+    subst (λ (board : BoardFields). IsSomeAnd (queue_at (board_of board).queues c.args.qid) (λ (queue : OpenQueue). queue.count < highest_count))
+    (sym (ap (λ (self : Controller). self.board) c.put_sq.ensures))
+    (may_come front.rules front.late front.notes c.args.self.now c.args.slots.now front.stands c.args.qid c.in-Some.queue c.in-Some.ensures.some)
+
+-- the command's slot
+abbrev waiting : goal.After-came → Slot
+waiting c = record c.free.result { entry = c.args.entry.now; cookie = c.args.cookie; region = c.in-Some.queue.region; state = 1 }
+
+fetches : (c : goal.After-came) → Fetches c.args.self.now c.args.slots.now c.args.qid c.in-Some.queue c.args.entry.now c.in-Some-pop.tag (waiting c) c.pop.new.self
+    c.push.new.self c.read.new.self c.came.new.self c.push.new.slots
+fetches c =
+    let pool : List Slot = c.push.new.slots in
+    let tag : ℕ = c.in-Some-pop.tag in
+    record {
+      is_first = c.in-Some-pop.ensures.some;
+      free_left = c.in-Some-pop.ensures.rest;
+      counts = subst (λ (state : SqState). (read written : ℕ) → HasCounts state.ring read written → read < written → HasCounts c.read.new.self (read + 1) written)
+          c.sq-sq.ensures c.read.ensures.counts;
+      same_slots = subst (λ (state : SqState). c.read.new.self.slots ≡ state.ring.slots) c.sq-sq.ensures c.read.ensures.slots;
+      state = refl;
+      region = refl;
+      has = refl;
+      chain = subst (λ (slots : List Slot). (xs : List ℕ) → IsChain slots (sq_at c.args.self.now.sqs c.in-Some.queue.region).window xs → tag < length slots → IsNew tag xs
+          → length xs + 1 < 2 ^ 16 → IsChain pool c.push.new.self (xs ++ tag ∷ [])) c.put_item.ensures
+          (subst (λ (state : SqState). (xs : List ℕ) → IsChain c.put_item.new.slots state.window xs → tag < length c.put_item.new.slots → IsNew tag xs
+          → length xs + 1 < 2 ^ 16 → IsChain pool c.push.new.self (xs ++ tag ∷ [])) c.sq-sq.ensures c.push.ensures.chain);
+      items = subst (λ (slots : List Slot). SameItems slots pool) c.put_item.ensures c.push.ensures.items;
+      links = subst (λ (slots : List Slot). (xs : List ℕ) → IsChain slots (sq_at c.args.self.now.sqs c.in-Some.queue.region).window xs → SameLinks xs slots pool) c.put_item.ensures
+          (subst (λ (state : SqState). (xs : List ℕ) → IsChain c.put_item.new.slots state.window xs → SameLinks xs c.put_item.new.slots pool) c.sq-sq.ensures c.push.ensures.links);
+      came = subst (λ (board : BoardFields). IfSome (queue_at (board_of board).queues c.args.qid) (λ (queue : OpenQueue). board_of c.came.new.self ≡ record (board_of board) {
+        queues = slice_set (board_of board).queues c.args.qid (Some (record queue { count = queue.count + 1 }));
+      })) (ap (λ (self : Controller). self.board) c.put_sq.ensures) c.came.ensures.came;
+      arbiter = subst (λ (board : BoardFields). c.came.new.self.arbiter ≡ board.arbiter) (ap (λ (self : Controller). self.board) c.put_sq.ensures) c.came.ensures.arbiter;
+    }
+
+pub returns-clause-stands : goal.returns-clause-stands
+returns-clause-stands c rules late notes s told =
+    let self : Controller = c.args.self.now in
+    let region = c.in-Some.queue.region in
+    subst (λ (after : Controller). HasFetched rules late notes c.args.qid c.args.entry.now (record after { board = c.came.new.self }) c.push.new.slots) (sym c.put_sq.ensures)
+    (subst (λ (state : SqState). HasFetched rules late notes c.args.qid c.args.entry.now
+    (record self { sqs = slice_set self.sqs region (fetched_state state c.push.new.self c.read.new.self); free = c.pop.new.self; board = c.came.new.self }) c.push.new.slots)
+    (sym c.sq-sq.ensures)
+    (has_fetched rules late notes self c.args.slots.now s c.args.qid c.in-Some.queue c.in-Some.ensures.some c.args.entry.now c.in-Some-pop.tag (waiting c) c.pop.new.self
+    c.push.new.self c.read.new.self c.came.new.self c.push.new.slots (fetches c)))
+
+pub returns-clause-front : goal.returns-clause-front
+returns-clause-front c =
+    let front = c.requires.front in
+    let here = returns-clause-stands c front.rules front.late front.notes front.stands refl in
+    record {
+      rules = front.rules;
+      late = front.late;
+      notes = Logged (Fetch here.may.queue.region (length (fetched (logged front.notes) here.may.queue.region)) c.args.entry.now) ∷ front.notes;
+      stands = here.stands;
+    }

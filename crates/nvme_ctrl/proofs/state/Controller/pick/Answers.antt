@@ -1,0 +1,41 @@
+use Rattle.std.proofs.Common.{◌-◌, ◌<◌, Option, Some, subst, inl, inr, arith}
+use Rattle.nvme_arbiter.specs.declared.pick.Pick.{Pick}
+use Rattle.nvme_log.specs.Limits.{max_outstanding}
+use Rattle.nvme_ctrl.specs.Steps.{IsNextPick}
+use Rattle.nvme_ctrl.specs.inside.Picks.{places_in}
+use Rattle.nvme_ctrl.proofs.PickCall.{next_is, is_busy, lacks_places}
+use Rattle.nvme_ctrl.proofs.state.Controller.pick.Goals as goal
+use Rattle.nvme_ctrl.proofs.state.Controller.pick.Goals.{then-self-ne0-via-then-self-ne0, then-self-ne0-via-else-self-ne0+then-self-ne0-2}
+
+pub returns-then-self-ne0-clause-stands : goal.returns-then-self-ne0-clause-stands
+returns-then-self-ne0-clause-stands c rules late notes s = (
+  s,
+  is_busy rules late notes c.args.self.now c.args.slots.now s (elim c.then-self-ne0.branch [
+    | then-self-ne0-via-then-self-ne0 w ↦ inl w.if-self-ne0.true
+    | then-self-ne0-via-else-self-ne0+then-self-ne0-2 w ↦ inr w.if-self-ne0-2.true
+  ]),
+)
+
+pub returns-in_default-clause-stands : goal.returns-in_default-clause-stands
+returns-in_default-clause-stands c rules late notes s =
+    (s, subst (λ (o : Option Pick). IsNextPick rules notes o) c.in_default.is (next_is rules late notes c.args.self.now c.args.slots.now s c.peek.result c.peek.ensures.lawful))
+
+pub returns-then-places_for-saturating_sub-clause-stands : goal.returns-then-places_for-saturating_sub-clause-stands
+returns-then-places_for-saturating_sub-clause-stands c rules late notes s =
+    let next : IsNextPick rules notes (Some c.in-Some.pick) =
+    subst (λ (o : Option Pick). IsNextPick rules notes o) c.in-Some.is (next_is rules late notes c.args.self.now c.args.slots.now s c.peek.result c.peek.ensures.lawful) in
+    let lacking : max_outstanding - c.args.self.now.outstanding < places_in c.args.self.now c.args.slots.now c.in-Some.pick =
+    (let a = c.if-places_for-saturating_sub.true in let b = c.places_for.ensures in let d = c.saturating_sub.ensures in omega (arith, a, b, d)) in
+    (s, lacks_places rules late notes c.args.self.now c.args.slots.now s c.in-Some.pick next lacking)
+
+pub returns-then-pick-eq0-clause-front : goal.returns-then-pick-eq0-clause-front
+returns-then-pick-eq0-clause-front c =
+    let was = c.requires.front in
+    let step = c.pick_admin.ensures.stands was.rules was.late was.notes was.stands in
+    record { rules = was.rules; late = was.late; notes = _; stands = step.stands }
+
+pub returns-else-pick-eq0-clause-front : goal.returns-else-pick-eq0-clause-front
+returns-else-pick-eq0-clause-front c =
+    let was = c.requires.front in
+    let step = c.pick_io.ensures.stands was.rules was.late was.notes was.stands in
+    record { rules = was.rules; late = was.late; notes = _; stands = step.1 }

@@ -1,0 +1,62 @@
+use Rattle.std.proofs.Common.{◌+◌, ◌≤◌, Bool, ◌∷◌, sym, subst, arith, inl, inr}
+use Rattle.std.proofs.lemmas.Option.{same_Some}
+use Rattle.nvme_log.specs.Rules.{FrontRules}
+use Rattle.nvme_ctrl.specs.Notes.{Notes}
+use Rattle.nvme_ctrl.specs.Standing.{Stands}
+use Rattle.nvme_ctrl.specs.Calls.{HasPosted}
+use Rattle.nvme_ctrl.specs.declared.chain.Chain.{Chain}
+use Rattle.nvme_ctrl.specs.declared.state.Controller.{Controller}
+use Rattle.nvme_ctrl.specs.kept.Pool.{IsChain}
+use Rattle.nvme_ctrl.specs.Doorbells.{gap}
+use Rattle.nvme_ctrl.specs.declared.state.CqState.{CqState}
+use Rattle.nvme_ctrl.proofs.NoPosts.{full_ring, all_posted, none_ready}
+use Rattle.nvme_ctrl.proofs.PostCall.{HasDone}
+use Rattle.nvme_ctrl.proofs.PostLog.{steps_post}
+use Rattle.nvme_ctrl.proofs.state.Controller.post.Goals as goal
+
+abbrev after : goal.After-slots-2-1 → Controller
+after c = record c.count_post.new.self { free = c.push.new.self }
+
+done : (c : goal.After-slots-2-1) → HasDone c.cq-cq.result c.count_post.new.self.free c.args.slots.now c.put_item.new.slots c.in_ok-tag.tag c.write.new.self c.push.new.self c.push.new.slots
+done c = record {
+  room = let x = c.if-filled-from.false in let y = c.from.ensures in let z = c.filled.ensures.value in omega (arith, x, y, z);
+  some = λ h. (let none = c.in_ok-tag.ensures.empty h in cc);
+  first = λ y rest h. sym (same_Some c.in_ok-tag.tag y (c.in_ok-tag.ensures.some y rest h));
+  rest = λ y rest h. subst (λ (q : Chain). IsChain c.args.slots.now q rest) (sym c.write.ensures.ready) (c.in_ok-tag.ensures.rest y rest h);
+  counts = c.write.ensures.counts;
+  phase = c.write.ensures.phase;
+  same_slots = c.write.ensures.slots;
+  chain = c.push.ensures.chain;
+  items = c.push.ensures.items;
+  links = c.push.ensures.links;
+}
+
+posted : (c : goal.After-slots-2-1) (rules : FrontRules) (late : Bool) (notes : Notes) → Stands rules late notes c.args.self.now c.args.slots.now
+    → HasPosted rules late notes c.args.region c.cq-cq.result.ring.tail c.completion-cqe.result (after c) c.push.new.slots
+posted c rules late notes stands =
+    steps_post rules late notes c.args.self.now c.put_cq.new.self c.count_post.new.self c.args.slots.now c.put_item.new.slots c.args.region c.in_ok-tag.tag c.cq-cq.result c.write.new.self
+    c.slot_at-command.result c.push.new.self c.push.new.slots c.completion-cqe.result c.cq-cq.ensures c.slot_at-command.ensures c.completion-cqe.ensures c.put_cq.ensures c.count_post.ensures
+    c.put_item.ensures (done c) stands
+
+pub returns-clause-front : goal.returns-clause-front
+returns-clause-front c =
+    let f = c.requires.front in
+    let p = posted c f.rules f.late f.notes f.stands in
+    record { rules = f.rules; late = f.late; notes = _; stands = p.stands }
+
+pub returns-clause-stands : goal.returns-clause-stands
+returns-clause-stands c = posted c
+
+pub returns-then-filled-from-clause-told : goal.returns-then-filled-from-clause-told
+returns-then-filled-from-clause-told c rules late notes stands none =
+    let x = c.if-filled-from.true in
+    let y = c.from.ensures in
+    let z = c.filled.ensures.value in
+    inl (full_ring rules late notes c.args.self.now c.args.slots.now stands c.args.region
+    (subst (λ (o : CqState). o.ring.slots ≤ gap o.ring.slots o.ring.head o.ring.tail + 1) c.cq-cq.ensures (omega (arith, x, y, z))))
+
+pub returns-in_err-tag-clause-told : goal.returns-in_err-tag-clause-told
+returns-in_err-tag-clause-told c rules late notes stands none =
+    inr (all_posted rules late notes c.args.self.now c.args.slots.now stands c.args.region
+    (none_ready rules late notes c.args.self.now c.args.slots.now stands c.args.region
+    (λ y rest h. (let some = c.in_err-tag.ensures.some y rest (subst (λ (o : CqState). IsChain c.args.slots.now o.ready (y ∷ rest)) (sym c.cq-cq.ensures) h) in cc))))

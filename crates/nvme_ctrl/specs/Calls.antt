@@ -1,0 +1,86 @@
+-- What the calls of a controller answer, and what they note. (Base Specification, Command Submission and Completion Mechanism)
+use Rattle.std.specs.Prelude.{◌≡◌, ℕ, ◌+◌, ◌<◌, ◌%◌, Bool, List, ◌∷◌, length, Some, None}
+use Rattle.nvme_entry.specs.declared.submission.Sqe.{Sqe}
+use Rattle.nvme_entry.specs.declared.completion.Cqe.{Cqe}
+use Rattle.nvme_log.specs.declared.event.Event.TheVariants.{Fetch, Post}
+use Rattle.nvme_log.specs.Rules.{FrontRules, window_at}
+use Rattle.nvme_log.specs.Queues.{Queue, open_sq, open_cq, pending}
+use Rattle.nvme_log.specs.Places.{fetched, waiting}
+use Rattle.nvme_log.specs.Completions.{posted_to}
+use Rattle.nvme_log.specs.Answers.{Answer}
+use Rattle.nvme_ctrl.specs.Notes.{Notes, Logged, Tail, Head, Taken, Answered, logged}
+use Rattle.nvme_ctrl.specs.Doorbells.{submitted, sq_slots, cq_slots}
+use Rattle.nvme_ctrl.specs.Tags.{holder, all_fetches, all_posts}
+use Rattle.nvme_ctrl.specs.Account.{IsTail, IsHead}
+use Rattle.nvme_ctrl.specs.declared.slot.Slot.{Slot}
+use Rattle.nvme_ctrl.specs.declared.state.Controller.{Controller}
+use Rattle.nvme_ctrl.specs.Standing.{Stands}
+
+-- ---- doorbells
+-- a slot is one to which the tail doorbell of an open submission queue may be written
+pub record IsTailOf (rules : FrontRules) (notes : Notes) (qid slot : ℕ) : Type 0 where
+  pub queue : Queue
+  pub is_open : open_sq (logged notes) qid ≡ Some queue
+  pub is_tail : IsTail rules notes queue.region slot
+
+-- the doorbell is noted
+pub record TailRung (rules : FrontRules) (late : Bool) (notes : Notes) (qid slot : ℕ) (c : Controller) (slots : List Slot) : Type 0 where
+  pub queue : Queue
+  pub is_open : open_sq (logged notes) qid ≡ Some queue
+  pub stands : Stands rules late (Tail queue.region slot ∷ notes) c slots
+
+-- so the head doorbell of an open completion queue
+pub record IsHeadOf (rules : FrontRules) (notes : Notes) (cqid slot : ℕ) : Type 0 where
+  pub region : ℕ
+  pub is_open : open_cq (logged notes) cqid ≡ Some region
+  pub is_head : IsHead rules notes region slot
+
+pub record HeadRung (rules : FrontRules) (late : Bool) (notes : Notes) (cqid slot : ℕ) (c : Controller) (slots : List Slot) : Type 0 where
+  pub region : ℕ
+  pub is_open : open_cq (logged notes) cqid ≡ Some region
+  pub stands : Stands rules late (Head region slot ∷ notes) c slots
+
+-- ---- fetches
+-- the most commands of a queue that wait in a controller
+abbrev pub window_limit : Controller → ℕ
+window_limit c = c.window
+
+-- the slot of an open queue that is to be fetched next: the host submitted it, no deletion is pending, fewer commands of the queue wait than its
+-- window holds, and of a pool of so many slots one is free
+pub record MayFetch (rules : FrontRules) (notes : Notes) (window pool qid slot : ℕ) : Type 0 where
+  pub queue : Queue
+  pub is_open : open_sq (logged notes) qid ≡ Some queue
+  pub none_pending : pending (logged notes) ≡ None
+  pub submitted : length (fetched (logged notes) queue.region) < submitted rules notes queue.region
+  pub in_window : length (waiting (logged notes) queue.region) < window
+  pub has_room : length (waiting (logged notes) queue.region) < window_at rules queue.region
+  pub some_free : all_fetches (logged notes) < pool + all_posts (logged notes)
+  pub slot_is : slot ≡ length (fetched (logged notes) queue.region) % sq_slots rules queue.region
+
+-- the fetch is noted
+pub record HasFetched (rules : FrontRules) (late : Bool) (notes : Notes) (qid : ℕ) (entry : Sqe) (c : Controller) (slots : List Slot) : Type 0 where
+  pub slot : ℕ
+  pub may : MayFetch rules notes (window_limit c) (length slots) qid slot
+  pub stands : Stands rules late (Logged (Fetch may.queue.region (length (fetched (logged notes) may.queue.region)) entry) ∷ notes) c slots
+
+-- ---- the device
+-- the device takes a command under a tag
+pub record HasTaken (rules : FrontRules) (late : Bool) (notes : Notes) (tag : ℕ) (c : Controller) (slots : List Slot) : Type 0 where
+  pub region : ℕ
+  pub index : ℕ
+  pub stands : Stands rules late (Taken tag region index ∷ notes) c slots
+
+-- the device answers the command of a tag
+pub record HasAnswered (rules : FrontRules) (late : Bool) (notes : Notes) (tag : ℕ) (answer : Answer) (c : Controller) (slots : List Slot) : Type 0 where
+  pub region : ℕ
+  pub index : ℕ
+  pub held : holder notes tag ≡ Some (record { region = region; index = index })
+  pub stands : Stands rules late (Answered region index answer ∷ notes) c slots
+
+-- ---- completions
+-- a completion is posted to a completion region, into the slot that is its next
+pub record HasPosted (rules : FrontRules) (late : Bool) (notes : Notes) (x slot : ℕ) (cqe : Cqe) (c : Controller) (slots : List Slot) : Type 0 where
+  pub region : ℕ
+  pub index : ℕ
+  pub slot_is : slot ≡ length (posted_to (logged notes) x) % cq_slots rules x
+  pub stands : Stands rules late (Logged (Post x region index cqe) ∷ notes) c slots

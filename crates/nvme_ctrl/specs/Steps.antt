@@ -1,0 +1,83 @@
+-- The steps of arbitration of a controller, and the end of a deletion. (Base Specification, Command Arbitration, Admin Command Set)
+use Rattle.std.specs.Prelude.{◌≡◌, ◌≢◌, ◌⊎◌, ℕ, ◌+◌, ◌<◌, Bool, List, [], ◌∷◌, length, Option, Some, None, slice_get}
+use Rattle.nvme_arbiter.specs.Lawful.{lawful_pick}
+use Rattle.nvme_arbiter.specs.declared.pick.Pick.{Pick}
+use Rattle.nvme_admin.specs.declared.verdict.Verdict.{Verdict}
+use Rattle.nvme_admin.specs.Effects.{verdict_in}
+use Rattle.nvme_entry.specs.Status.{success}
+use Rattle.nvme_log.specs.declared.event.Event.{Event}
+use Rattle.nvme_log.specs.declared.event.Event.TheVariants as event
+use Rattle.nvme_log.specs.Rules.{FrontRules}
+use Rattle.nvme_log.specs.Places.{waiting, observation_of}
+use Rattle.nvme_log.specs.Histories.{arbitration_of}
+use Rattle.nvme_log.specs.Effects.{made_by}
+use Rattle.nvme_log.specs.Answers.{Answer}
+use Rattle.nvme_log.specs.Dispatches.{dispatched}
+use Rattle.nvme_log.specs.Limits.{max_outstanding}
+use Rattle.nvme_ctrl.specs.Tags.{taken}
+use Rattle.nvme_log.specs.Queues.{Deletion, pending}
+use Rattle.nvme_log.specs.Completions.{unposted_of, outstanding}
+use Rattle.nvme_log.specs.Account.{deleting_place}
+use Rattle.nvme_ctrl.specs.Notes.{Notes, Logged, Answered, logged}
+use Rattle.nvme_ctrl.specs.Standing.{Stands}
+use Rattle.nvme_ctrl.specs.declared.slot.Slot.{Slot}
+use Rattle.nvme_ctrl.specs.declared.state.Controller.{Controller}
+use Rattle.nvme_ctrl.specs.declared.picks.Step.{Step}
+use Rattle.nvme_ctrl.specs.declared.picks.Step.TheVariants.{Idle, Busy, Full, Picked, Done}
+
+-- the next pick is the lawful one, on exactly what waits
+abbrev pub IsNextPick : FrontRules → Notes → Option Pick → Type 0
+IsNextPick rules notes pick = pick ≡ lawful_pick rules.mechanism rules.start.settings (arbitration_of (logged notes)) (observation_of (logged notes))
+
+-- events that are noted one after another
+abbrev pub with_logged : List Event → Notes → Notes
+with_logged [] notes = notes
+with_logged (e ∷ rest) notes = with_logged rest (Logged e ∷ notes)
+
+-- the notes after a pick, on exactly what waits
+abbrev pub picked_notes : Notes → Pick → Notes
+picked_notes notes pick = Logged (event.Pick (observation_of (logged notes)) pick) ∷ notes
+
+-- with the answer of an admin command, if it is answered
+abbrev pub with_answer : ℕ → Option Answer → Notes → Notes
+with_answer i None notes = notes
+with_answer i (Some answer) notes = Answered 0 i answer ∷ notes
+
+-- a pick of the admin queue: the command and its place, and what it makes. It is answered at once, but for the Delete of an open submission queue
+pub record HasCarriedOut (rules : FrontRules) (late : Bool) (notes : Notes) (verdict : Verdict) (c : Controller) (slots : List Slot) : Type 0 where
+  pub pick : Pick
+  pub of_admin : pick.qid ≡ 0
+  pub next : IsNextPick rules notes (Some pick)
+  pub index : ℕ
+  pub oldest : slice_get (waiting (logged notes) 0) 0 ≡ Some index
+  pub answer : Option Answer
+  pub stands : Stands rules late (with_answer index answer (with_logged (made_by (logged notes) verdict) (picked_notes notes pick))) c slots
+
+-- commands are picked that the device hasn't taken, or a deletion is pending
+abbrev pub IsBusy : Notes → Type 0
+IsBusy notes = (length (taken notes) < length (dispatched (logged notes))) ⊎ (pending (logged notes) ≢ None)
+
+-- the next pick needs more places than are free. One of the admin queue may need a second one, for what an Abort command aborts
+pub record LacksPlaces (rules : FrontRules) (notes : Notes) : Type 0 where
+  pub pick : Pick
+  pub next : IsNextPick rules notes (Some pick)
+  pub places : (max_outstanding < outstanding rules (logged notes) + pick.n) ⊎ ((pick.qid ≡ 0) × (max_outstanding < outstanding rules (logged notes) + 2))
+
+-- a step of arbitration. Where it did nothing, it leaves the controller as it was
+abbrev pub HasStepped : FrontRules → Bool → Notes → Step → Controller → List Slot → Type 0
+HasStepped rules late notes Idle c slots = Stands rules late notes c slots × IsNextPick rules notes None
+HasStepped rules late notes Busy c slots = Stands rules late notes c slots × IsBusy notes
+HasStepped rules late notes Full c slots = Stands rules late notes c slots × LacksPlaces rules notes
+HasStepped rules late notes (Picked pick) c slots = IsNextPick rules notes (Some pick) × Stands rules late (picked_notes notes pick) c slots
+HasStepped rules late notes (Done effect) c slots = HasCarriedOut rules late notes (verdict_in effect) c slots
+
+-- no deletion can be finished: none is pending, or a command of its queue has no completion posted yet
+abbrev pub NoneFinishable : Notes → Type 0
+NoneFinishable notes = (deletion : Deletion) → pending (logged notes) ≡ Some deletion → unposted_of (logged notes) deletion.region ≢ 0
+
+-- a deletion is finished, and its Delete is answered with success
+pub record HasFinished (rules : FrontRules) (late : Bool) (notes : Notes) (qid : ℕ) (c : Controller) (slots : List Slot) : Type 0 where
+  pub region : ℕ
+  pub index : ℕ
+  pub deleting : deleting_place (logged notes) ≡ Some index
+  pub stands : Stands rules late (Answered 0 index (record { status = success; dw0 = 0 }) ∷ Logged (event.ClosedSq qid region) ∷ notes) c slots

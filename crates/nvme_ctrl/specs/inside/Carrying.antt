@@ -1,0 +1,174 @@
+-- What an admin command that is carried out makes of what a controller keeps (profile).
+use Rattle.std.specs.Prelude.{◌≡◌, ◌≢◌, ℕ, ◌+◌, ◌<◌, ◌^◌, ◌==◌, if◌then◌else◌, Bool, true, false, List, [], ◌++◌, length, map, slice_set, Some, None}
+use Rattle.std.specs.List.{All}
+use Rattle.nvme_arbiter.specs.Settings.{ArbitrationFields}
+use Rattle.nvme_arbiter.specs.History.{History}
+use Rattle.nvme_arbiter.specs.Board.{BoardView, BoardStandsAt}
+use Rattle.nvme_arbiter.specs.Queues.{queue_at}
+use Rattle.nvme_arbiter.specs.declared.pick.Pick.{Pick}
+use Rattle.nvme_arbiter.specs.declared.settings.Mechanism.{Mechanism}
+use Rattle.nvme_arbiter.specs.declared.settings.Class.{Class}
+use Rattle.nvme_admin.specs.Standing.{TableView, sq_of}
+use Rattle.nvme_admin.specs.Effects.{verdict_in, NamesRegions}
+use Rattle.nvme_admin.specs.declared.effect.Effect.{Effect}
+use Rattle.nvme_admin.specs.declared.verdict.SqEntry.{SqEntry}
+use Rattle.nvme_log.specs.Rules.{FrontRules}
+use Rattle.nvme_log.specs.Queues.{admin_queue}
+use Rattle.nvme_log.specs.Places.{is_aborted}
+use Rattle.nvme_log.specs.Dispatches.{place_at}
+use Rattle.nvme_ctrl.specs.Notes.{Notes, logged}
+use Rattle.nvme_ctrl.specs.Tags.{answer_of}
+use Rattle.nvme_ctrl.specs.Account.{IsAccount}
+use Rattle.nvme_ctrl.specs.declared.slot.Slot.{Slot}
+use Rattle.nvme_ctrl.specs.declared.state.Controller.{Controller}
+use Rattle.nvme_ctrl.specs.kept.Content.{Candidate, Content, with_sq, with_cq, with_ready}
+use Rattle.nvme_ctrl.specs.kept.Pool.{slot_at, item_at}
+use Rattle.nvme_ctrl.specs.kept.Standing.{Holds}
+use Rattle.nvme_ctrl.specs.inside.Steps.{CanPick, CanApply, verdict_at, applied_to, aborted, requested, oldest_named, without_oldest}
+use Rattle.nvme_ctrl.specs.kept.Kept.{Item, Items, candidate_of, HasNumbers, HasItems, HoldsDoorbells, HoldsTags}
+use Rattle.nvme_ctrl.specs.inside.Loose.{IsLoose, Keeps, ended, with_item}
+
+-- ---- an admin command was picked, and applied to the table
+-- the controller doesn't stand at its notes yet, which are those before the pick
+pub record IsApplied (rules : FrontRules) (late : Bool) (notes : Notes) (c : Controller) (slots : List Slot) (tag : ℕ) (did : Effect) : Type 0 where
+  -- before the pick
+  pub before : Content
+  pub holds : Holds rules late (logged notes) before
+  pub account : late ≡ false → IsAccount rules notes
+  -- the pick, and the board after it
+  pub pick : Pick
+  pub picked : BoardView
+  pub can_pick : CanPick rules (logged notes) before admin_queue pick picked
+  pub of_admin : pick.qid ≡ 0
+  pub one : pick.n ≡ 1
+  -- the candidate, and the table after it
+  pub candidate : Candidate
+  pub rest : List Candidate
+  pub table : TableView
+  pub can_apply : CanApply rules (logged notes) before holds.tabled.history candidate rest table
+  pub verdict_is : verdict_in did ≡ verdict_at rules holds.tabled.history candidate
+  pub names : NamesRegions before.table did
+  -- the controller after the pick, where the slot of the candidate is in no list
+  pub items : Items
+  pub keeps : Keeps rules notes c slots (applied_to before picked table) items
+  pub none_picked : c.picked ≡ 0
+  pub loose : IsLoose slots items tag
+  pub region : (slot_at slots tag).region ≡ 0
+  pub entry : (slot_at slots tag).entry ≡ candidate.entry
+  pub unanswered : answer_of notes 0 candidate.index ≡ None
+
+-- a controller at some such notes
+pub record IsApplying (c : Controller) (slots : List Slot) (did : Effect) : Type 0 where
+  pub rules : FrontRules
+  pub late : Bool
+  pub notes : Notes
+  pub tag : ℕ
+  pub applied : IsApplied rules late notes c slots tag did
+
+-- ---- a submission queue is opened
+abbrev pub opening : Content → (qid region cq_region : ℕ) → Class → Content
+opening k qid region cq_region class =
+    record (with_sq k region (record (k.sq region) { queue = Some (record { qid = qid; cq_region = cq_region }) })) {
+      board = record k.board { queues = slice_set k.board.queues qid (Some (record { class = class; count = 0 })) };
+    }
+
+-- ---- the deletion of a submission queue begins
+-- the candidates of its region were dropped: their completions are ready
+abbrev pub dropped : Content → (qid region c : ℕ) → Content
+dropped k qid region c =
+    with_cq (with_sq k region (record (k.sq region) { window = [] })) c
+    (record (k.cq c) { ready = (k.cq c).ready ++ map (aborted qid region) (k.sq region).window })
+
+-- the oldest candidate of its region was dropped
+abbrev pub oldest_dropped : Content → (qid region c : ℕ) → Item → List Item → Content
+oldest_dropped k qid region c x rest =
+    with_ready (with_sq k region (record (k.sq region) { window = map candidate_of rest })) c (aborted qid region (candidate_of x))
+
+abbrev pub item_dropped : Items → (qid region c : ℕ) → Item → List Item → Items
+item_dropped g qid region c x rest =
+    with_item (record g { windows = λ r. if r == region then rest else g.windows r }) c (ended x.tag (aborted qid region (candidate_of x)))
+
+-- the region was opened for the queue, whose candidates are aborted in the log
+pub record IsDroppable (notes : Notes) (k : Content) (qid region c : ℕ) : Type 0 where
+  pub there : region < 65
+  pub posts_there : c < 65
+  pub attached : (k.sq region).queue ≡ Some (record { qid = qid; cq_region = c })
+  pub are_aborted : All (λ (x : Candidate). is_aborted (logged notes) region x.index ≡ true) (k.sq region).window
+
+-- the candidates of a region were dropped. A slot that is in no list is left
+pub record HasDropped (rules : FrontRules) (notes : Notes) (k : Content) (slots : List Slot) (y : ℕ) (c : Controller) (pool : List Slot) : Type 0 where
+  pub items : Items
+  pub keeps : Keeps rules notes c pool k items
+  pub loose : IsLoose pool items y
+  pub slot : item_at pool y ≡ item_at slots y
+
+abbrev pub deleting : Content → (qid region c : ℕ) → Candidate → Content
+deleting k qid region c candidate =
+    record (with_cq (with_sq k region (record (k.sq region) { window = []; unposted = (k.sq region).unposted + length (k.sq region).window })) c
+    (record (k.cq c) { ready = (k.cq c).ready ++ map (aborted qid region) (k.sq region).window })) {
+      board = record k.board { queues = slice_set k.board.queues qid None };
+      deletion = Some (record { place = place_at 0 candidate.index; cid = candidate.entry.cid; qid = qid; region = region });
+    }
+
+-- a controller keeps some content, with some items
+pub record HasBegun (rules : FrontRules) (notes : Notes) (k : Content) (c : Controller) (pool : List Slot) : Type 0 where
+  pub items : Items
+  pub numbers : HasNumbers c k
+  pub has : HasItems c pool k items
+  pub doorbells : HoldsDoorbells rules notes c
+  pub tags : HoldsTags notes c pool items
+
+-- ---- an Abort command
+-- no candidate of an open I/O submission queue has a command identifier
+abbrev pub HasNoneNamed : Content → (sqid cid : ℕ) → Type 0
+HasNoneNamed k sqid cid = (entry : SqEntry) → sqid ≢ 0 → sq_of k.table sqid ≡ Some entry → oldest_named cid (k.sq entry.region).window ≡ None
+
+-- the candidate that it names in an open queue is aborted in the log
+pub record IsAbortableIn (notes : Notes) (k : Content) (sqid cid : ℕ) (entry : SqEntry) : Type 0 where
+  pub there : entry.region < 65
+  pub c : ℕ
+  pub posts_there : c < 65
+  pub attached : (k.sq entry.region).queue ≡ Some (record { qid = sqid; cq_region = c })
+  pub is_aborted : (found : Candidate) → oldest_named cid (k.sq entry.region).window ≡ Some found → is_aborted (logged notes) entry.region found.index ≡ true
+  pub on_board : queue_at k.board.queues sqid ≡ Some (record { class = entry.class; count = length (k.sq entry.region).window })
+  pub few_unposted : (k.sq entry.region).unposted + 1 < 2 ^ 16
+  pub few_outstanding : k.outstanding + 1 < 2 ^ 16
+
+abbrev pub IsAbortable : Notes → Content → (sqid cid : ℕ) → Type 0
+IsAbortable notes k sqid cid = (entry : SqEntry) → sqid ≢ 0 → sq_of k.table sqid ≡ Some entry → IsAbortableIn notes k sqid cid entry
+
+-- a controller keeps some content, of which an Abort command may abort a candidate
+pub record MayAbort (c : Controller) (slots : List Slot) (sqid cid : ℕ) : Type 0 where
+  pub rules : FrontRules
+  pub notes : Notes
+  pub content : Content
+  pub items : Items
+  pub keeps : Keeps rules notes c slots content items
+  pub none_picked : c.picked ≡ 0
+  pub may : IsAbortable notes content sqid cid
+
+-- a candidate was aborted: its completion is ready. `board` is the board with a candidate less
+abbrev pub requesting : Content → (sqid region c cid : ℕ) → BoardView → Candidate → Content
+requesting k sqid region c cid board found =
+    record (with_ready (with_sq k region (record (k.sq region) { window = without_oldest cid (k.sq region).window; unposted = (k.sq region).unposted + 1 })) c
+    (requested sqid region found)) {
+      board = board;
+      outstanding = k.outstanding + 1;
+    }
+
+pub record HasRequested (rules : FrontRules) (notes : Notes) (k : Content) (sqid cid : ℕ) (slots : List Slot) (y : ℕ) (now : Controller) (pool : List Slot) : Type 0 where
+  pub io : sqid ≢ 0
+  pub entry : SqEntry
+  pub in_table : sq_of k.table sqid ≡ Some entry
+  pub c : ℕ
+  pub attached : (k.sq entry.region).queue ≡ Some (record { qid = sqid; cq_region = c })
+  pub found : Candidate
+  pub oldest : oldest_named cid (k.sq entry.region).window ≡ Some found
+  pub board : BoardView
+  pub queues : board.queues ≡ slice_set k.board.queues sqid (Some (record { class = entry.class; count = length (without_oldest cid (k.sq entry.region).window) }))
+  pub stands : (mechanism : Mechanism) (first : ArbitrationFields) (h : History) → BoardStandsAt mechanism first h k.board → BoardStandsAt mechanism first h board
+  pub items : Items
+  pub keeps : Keeps rules notes now pool (requesting k sqid entry.region c cid board found) items
+  -- a slot that is in no list is left
+  pub loose : IsLoose pool items y
+  pub slot : item_at pool y ≡ item_at slots y

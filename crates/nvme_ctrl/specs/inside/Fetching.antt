@@ -1,0 +1,28 @@
+-- When a controller may fetch from a queue, by what it keeps in memory (profile).
+use Rattle.std.specs.Prelude.{◌≡◌, ◌≢◌, ℕ, ◌-◌, ◌<◌, false, Some}
+use Rattle.nvme_admin.specs.Layout.{view_of}
+use Rattle.nvme_admin.specs.Standing.{sq_of}
+use Rattle.nvme_admin.specs.declared.verdict.SqEntry.{SqEntry}
+use Rattle.nvme_log.specs.Limits.{window_of}
+use Rattle.nvme_ctrl.specs.Doorbells.{gap}
+use Rattle.nvme_ctrl.specs.declared.ring.Ring.{Ring}
+use Rattle.nvme_ctrl.specs.declared.state.Controller.{Controller}
+use Rattle.nvme_ctrl.specs.kept.State.{sq_at, picked_in}
+
+-- how many entries of a ring were submitted and not fetched
+abbrev pub filled : Ring → ℕ
+filled ring = gap ring.slots ring.head ring.tail
+
+-- how many commands of a region wait
+abbrev pub waiting_in : Controller → ℕ → ℕ
+waiting_in c r = (sq_at c.sqs r).window.len - picked_in c r
+
+-- the queue is open, no deletion is pending, a slot is free, the host submitted more, and its window has room
+pub record IsFetchable (c : Controller) (qid : ℕ) (e : SqEntry) : Type 0 where
+  pub in_table : sq_of (view_of c.table) qid ≡ Some e
+  pub not_closing : e.closing ≡ false
+  pub none_pending : c.deletion.pending ≡ 0
+  pub some_free : c.free.len ≢ 0
+  pub some_submitted : filled (sq_at c.sqs e.region).ring ≢ 0
+  pub in_window : waiting_in c e.region < c.window
+  pub room : waiting_in c e.region < window_of (sq_at c.sqs e.region).ring.slots

@@ -1,0 +1,7 @@
+-- What it means that a controller stands at its log: what it keeps, with the places of its commands, and the slots that they are in. A caller needs
+-- of it only that the log is an account (profile).
+pub mod Content
+pub mod Standing
+pub mod Pool
+pub mod State
+pub mod Kept

@@ -1,0 +1,209 @@
+-- When a controller keeps some content, and stands at its log (profile).
+use Rattle.std.specs.Prelude.{◌≡◌, ◌≢◌, ℕ, ◌+◌, ◌<◌, ◌≤◌, ◌^◌, ◌==◌, ◌⊎◌, Bool, true, false, if◌then◌else◌, List, [], ◌∷◌, ◌++◌, length, map, take, drop, Option, Some, None, IsTrue}
+use Rattle.std.specs.List.{All}
+use Rattle.nvme_entry.specs.declared.submission.Sqe.{Sqe}
+use Rattle.nvme_arbiter.specs.Layout.{is_arbiter, board_of}
+use Rattle.nvme_admin.specs.Layout.{view_of}
+use Rattle.nvme_admin.specs.Standing.{IsSized}
+use Rattle.nvme_log.specs.Rules.{FrontRules, Past}
+use Rattle.nvme_log.specs.Places.{fetched, is_aborted, entry_at}
+use Rattle.nvme_log.specs.Completions.{posted_to, phase_after}
+use Rattle.nvme_log.specs.Dispatches.{place_at, dispatched}
+use Rattle.nvme_log.specs.declared.place.Place.{Place}
+use Rattle.nvme_ctrl.specs.Notes.{Notes, logged}
+use Rattle.nvme_ctrl.specs.Doorbells.{submitted, consumed}
+use Rattle.nvme_ctrl.specs.Rings.{HasCounts}
+use Rattle.nvme_ctrl.specs.Tags.{taken, holder, answer_of, is_out, all_fetches, all_posts}
+use Rattle.nvme_ctrl.specs.Account.{IsAccount}
+use Rattle.nvme_ctrl.specs.declared.slot.Slot.{Slot}
+use Rattle.nvme_ctrl.specs.declared.state.Controller.{Controller}
+use Rattle.nvme_ctrl.specs.kept.Content.{Candidate, Ready, PendingDelete, Content}
+use Rattle.nvme_ctrl.specs.kept.Standing.{Holds, answer_in}
+use Rattle.nvme_ctrl.specs.kept.Pool.{slot_at, IsChain, AreApart}
+use Rattle.nvme_ctrl.specs.kept.State.{sq_at, cq_at, attachment_of, picked_in}
+
+-- ---- commands in slots
+-- a command in a slot that waits, or that the device has: its slot, its place, which nobody keeps, and its entry
+pub record Item : Type 0 where
+  pub tag : ℕ
+  pub place : Place
+  pub entry : Sqe
+
+-- a command in a slot that is ready. The device had it, or not
+pub record ReadyItem : Type 0 where
+  pub tag : ℕ
+  pub ready : Ready
+  pub was_out : Bool
+
+abbrev pub tags_of : List Item → List ℕ
+tags_of items = map (λ (it : Item). it.tag) items
+
+abbrev pub places_of : List Item → List Place
+places_of items = map (λ (it : Item). it.place) items
+
+abbrev pub candidate_of : Item → Candidate
+candidate_of it = record { index = it.place.index; entry = it.entry }
+
+abbrev pub ready_tags : List ReadyItem → List ℕ
+ready_tags items = map (λ (x : ReadyItem). x.tag) items
+
+abbrev pub readies_of : List ReadyItem → List Ready
+readies_of items = map (λ (x : ReadyItem). x.ready) items
+
+-- the commands in slots, which nobody keeps as lists: those of each submission region that are picked and not taken and then those that wait, those
+-- that the device has, those that are ready in each completion region, and the free slots
+pub record Items : Type 0 where
+  pub windows : ℕ → List Item
+  pub outs : List Item
+  pub readies : ℕ → List ReadyItem
+  pub free : List ℕ
+  -- the index of the Delete whose deletion is pending
+  pub delete_index : ℕ
+
+-- a slot has a command that waits in a region, or is picked and not taken
+pub record IsWaitingIn (slots : List Slot) (r : ℕ) (it : Item) : Type 0 where
+  pub state : (slot_at slots it.tag).state ≡ 1
+  pub region : (slot_at slots it.tag).region ≡ r
+  pub entry : (slot_at slots it.tag).entry ≡ it.entry
+  pub place : it.place.region ≡ r
+
+-- a slot has a command that the device has
+pub record IsOutIn (slots : List Slot) (it : Item) : Type 0 where
+  pub inside : it.tag < length slots
+  pub state : (slot_at slots it.tag).state ≡ 2
+  pub region : (slot_at slots it.tag).region ≡ it.place.region
+  pub entry : (slot_at slots it.tag).entry ≡ it.entry
+
+-- the state of the slot of a command that is ready
+abbrev pub ready_state : (was_out with_queue : Bool) → ℕ
+ready_state was_out with_queue = if was_out then 3 else (if with_queue then 5 else 4)
+
+pub record IsReadyIn (slots : List Slot) (x : ReadyItem) : Type 0 where
+  pub state : (slot_at slots x.tag).state ≡ ready_state x.was_out x.ready.with_queue
+  pub region : (slot_at slots x.tag).region ≡ x.ready.place.region
+  pub cid : (slot_at slots x.tag).entry.cid ≡ x.ready.cid
+  pub sct : (slot_at slots x.tag).sct ≡ x.ready.status.sct
+  -- a status code type has three bits (Status Field)
+  pub few_types : (slot_at slots x.tag).sct < 8
+  pub sc : (slot_at slots x.tag).sc ≡ x.ready.status.sc
+  pub dw0 : (slot_at slots x.tag).dw0 ≡ x.ready.dw0
+  -- what the device had wasn't aborted with its queue
+  pub not_both : x.was_out ≡ true → x.ready.with_queue ≡ false
+
+abbrev pub is_free : List Slot → ℕ → Type 0
+is_free slots x = (slot_at slots x).state ≡ 0
+
+-- a slot is among those of the commands that the device has
+pub record IsAmongOuts (items : List Item) (x : ℕ) : Type 0 where
+  pub before : List Item
+  pub item : Item
+  pub after : List Item
+  pub are : items ≡ before ++ item ∷ after
+  pub tag : item.tag ≡ x
+
+-- the picked commands that the device hasn't taken
+abbrev pub untaken : Controller → Items → List Item
+untaken c g = take c.picked (g.windows c.picked_region)
+
+-- the pending deletion
+abbrev pub pending_of : Controller → List Slot → Items → Option PendingDelete
+pending_of c slots g =
+    if c.deletion.pending == 0 then None
+    else Some (record { place = place_at 0 g.delete_index; cid = (slot_at slots c.deletion.tag).entry.cid; qid = c.deletion.qid; region = c.deletion.region })
+
+-- ---- what is kept
+-- the numbers of a controller are those of some content
+pub record HasNumbers (c : Controller) (k : Content) : Type 0 where
+  pub table_is : view_of c.table ≡ k.table
+  pub sized : IsSized k.table
+  pub board_is : board_of c.board ≡ k.board
+  pub is_arbiter : IsTrue (is_arbiter c.board.arbiter)
+  pub outstanding_is : c.outstanding ≡ k.outstanding
+  pub sq_queue : (r : ℕ) → attachment_of (sq_at c.sqs r) ≡ (k.sq r).queue
+  pub sq_unposted : (r : ℕ) → (sq_at c.sqs r).unposted ≡ (k.sq r).unposted
+  pub sq_slots : (r : ℕ) → (sq_at c.sqs r).ring.slots ≡ (k.sq r).slots
+  pub cq_slots : (x : ℕ) → (cq_at c.cqs x).ring.slots ≡ (k.cq x).slots
+  -- a region that is there has slots
+  pub sq_some : (r : ℕ) → r < k.nsq → 0 < (k.sq r).slots
+  pub sq_size : length c.sqs ≡ 65
+  pub cq_size : length c.cqs ≡ 65
+
+-- the slots have its commands
+pub record HasItems (c : Controller) (slots : List Slot) (k : Content) (g : Items) : Type 0 where
+  -- those that wait
+  pub window_chain : (r : ℕ) → IsChain slots (sq_at c.sqs r).window (tags_of (g.windows r))
+  pub window_items : (r : ℕ) → All (IsWaitingIn slots r) (g.windows r)
+  pub window_is : (r : ℕ) → (k.sq r).window ≡ map candidate_of (drop (picked_in c r) (g.windows r))
+  pub picked_there : c.picked ≤ length (g.windows c.picked_region)
+  -- those that the device has
+  pub outs_items : All (IsOutIn slots) g.outs
+  pub outs_apart : AreApart (tags_of g.outs)
+  pub outs_all : (x : ℕ) → (slot_at slots x).state ≡ 2 → IsAmongOuts g.outs x
+  pub hand_is : k.hand ≡ places_of (g.outs ++ untaken c g)
+  -- those that are ready
+  pub ready_chain : (x : ℕ) → IsChain slots (cq_at c.cqs x).ready (ready_tags (g.readies x))
+  pub ready_items : (x : ℕ) → All (IsReadyIn slots) (g.readies x)
+  pub ready_is : (x : ℕ) → (k.cq x).ready ≡ readies_of (g.readies x)
+  -- the Delete whose deletion is pending
+  pub deletion_is : k.deletion ≡ pending_of c slots g
+  pub deletion_item : c.deletion.pending ≢ 0 → (slot_at slots c.deletion.tag).state ≡ 6
+  pub deletion_inside : c.deletion.pending ≢ 0 → c.deletion.tag < length slots
+  -- the free slots
+  pub free_chain : IsChain slots c.free g.free
+  pub free_items : All (is_free slots) g.free
+  pub few : length slots < 2 ^ 16
+
+-- ---- its log
+-- a ring goes by the doorbells
+abbrev pub GoesBy : (slots : ℕ) → Type 0 → Type 0
+GoesBy slots P = 0 < slots → P
+
+pub record HoldsDoorbells (rules : FrontRules) (notes : Notes) (c : Controller) : Type 0 where
+  pub sqs : (r : ℕ) → 0 < (sq_at c.sqs r).ring.slots → HasCounts (sq_at c.sqs r).ring (length (fetched (logged notes) r)) (submitted rules notes r)
+  pub cqs : (x : ℕ) → 0 < (cq_at c.cqs x).ring.slots → HasCounts (cq_at c.cqs x).ring (consumed rules notes x) (length (posted_to (logged notes) x))
+  pub phases : (x : ℕ) → ((cq_at c.cqs x).phase == 1) ≡ phase_after (length (posted_to (logged notes) x)) (cq_at c.cqs x).ring.slots
+  -- nothing is noted of a region that isn't there
+  pub no_tails : (r : ℕ) → (sq_at c.sqs r).ring.slots ≡ 0 → submitted rules notes r ≡ 0
+  pub no_heads : (x : ℕ) → (cq_at c.cqs x).ring.slots ≡ 0 → consumed rules notes x ≡ 0
+  pub no_posts : (x : ℕ) → (cq_at c.cqs x).ring.slots ≡ 0 → posted_to (logged notes) x ≡ []
+
+-- a ready completion is through: its command was aborted, or answered so
+abbrev pub IsThrough : Notes → Ready → Type 0
+IsThrough notes t = (is_aborted (logged notes) t.place.region t.place.index ≡ true) ⊎ (answer_of notes t.place.region t.place.index ≡ Some (answer_in t))
+
+-- the command of a place has no answer
+abbrev pub IsUnanswered : Notes → Place → Type 0
+IsUnanswered notes p = answer_of notes p.region p.index ≡ None
+
+-- a command has the entry of its place
+abbrev pub HasEntry : Past → Item → Type 0
+HasEntry past it = entry_at past it.place.region it.place.index ≡ Some it.entry
+
+-- the tags and the answers are those of the log
+pub record HoldsTags (notes : Notes) (c : Controller) (slots : List Slot) (g : Items) : Type 0 where
+  pub untaken_are : dispatched (logged notes) ≡ taken notes ++ places_of (untaken c g)
+  pub outs_held : All (λ (it : Item). holder notes it.tag ≡ Some it.place) g.outs
+  pub readies_held : (x : ℕ) → All (λ (y : ReadyItem). y.was_out ≡ true → holder notes y.tag ≡ Some y.ready.place) (g.readies x)
+  pub none_held : (t : ℕ) → (slot_at slots t).state ≢ 2 → (slot_at slots t).state ≢ 3 → holder notes t ≡ None
+  pub through : (x : ℕ) → All (λ (y : ReadyItem). IsThrough notes y.ready) (g.readies x)
+  pub windows_unanswered : (r : ℕ) → All (λ (it : Item). IsUnanswered notes it.place) (g.windows r)
+  pub outs_unanswered : All (λ (it : Item). IsUnanswered notes it.place) g.outs
+  pub deletion_unanswered : c.deletion.pending ≢ 0 → IsUnanswered notes (place_at 0 g.delete_index)
+  pub none_answered : (r i : ℕ) → length (fetched (logged notes) r) ≤ i → answer_of notes r i ≡ None
+  -- a slot whose command was answered isn't out
+  pub answered_held : (t : ℕ) → (slot_at slots t).state ≡ 3 → is_out notes t ≡ false
+  -- what is picked and unanswered has the entry of its place
+  pub hand_entries : All (HasEntry (logged notes)) (g.outs ++ untaken c g)
+  -- each slot that isn't free has a command that was fetched and whose completion isn't posted
+  pub free_count : c.free.len + all_fetches (logged notes) ≡ length slots + all_posts (logged notes)
+
+-- a controller stands at its log. The log is accounted where no region was added after its first event
+pub record StandsAt (rules : FrontRules) (late : Bool) (notes : Notes) (c : Controller) (slots : List Slot) : Type 0 where
+  pub content : Content
+  pub items : Items
+  pub holds : Holds rules late (logged notes) content
+  pub numbers : HasNumbers c content
+  pub has : HasItems c slots content items
+  pub doorbells : HoldsDoorbells rules notes c
+  pub tags : HoldsTags notes c slots items
+  pub account : late ≡ false → IsAccount rules notes

@@ -1,0 +1,43 @@
+// The end of a deletion. (Base Specification, Delete I/O Submission Queue)
+use crate::device::Answer;
+use crate::slot::{ENDED, Slot, put_item, slot_at};
+use crate::state::Controller;
+use nvme_entry::Status;
+
+impl Controller {
+    ghost use Rattle.std.specs.Prelude.{◌≡◌, ℕ, Bool, true, false, List, None, IfSome};
+    ghost use Rattle.nvme_log.specs.Rules.{FrontRules};
+    ghost use Rattle.nvme_ctrl.specs.Notes.{Notes};
+    ghost use Rattle.nvme_ctrl.specs.Standing.{Stands, IsController};
+    ghost use Rattle.nvme_ctrl.specs.Steps.{HasFinished, NoneFinishable};
+
+    /// Finishes the pending deletion, if all completions of its queue are posted, and tells the identifier of the queue.
+    /// The completion of the Delete is then ready. None, which changes nothing, where no deletion is pending, and while
+    /// completions of the queue are to be posted.
+    pub fn finish(&mut self, slots: &mut [Slot]) -> Option<u16>
+        requires front { IsController self.old slots.old }
+        ensures front { IsController self.new slots.new }
+        ensures none { result ≡ None → (self.new ≡ self.old) × (slots.new ≡ slots.old) }
+        ensures told { (rules : FrontRules) (late : Bool) (notes : Notes) → Stands rules late notes self.old slots.old → result ≡ None → NoneFinishable notes }
+        ensures stands { (rules : FrontRules) (late : Bool) (notes : Notes) → Stands rules late notes self.old slots.old → IfSome result (λ qid. HasFinished rules late notes qid self.new slots.new) }
+    {
+        let deletion = self.deletion;
+        if deletion.pending == 0 {
+            return None;
+        }
+        if self.sq(deletion.region).unposted != 0 {
+            return None;
+        }
+        self.table.finish_delete(deletion.qid);
+        self.deletion.pending = 0;
+        // Its command is one of the admin queue.
+        let slot = slot_at(slots, deletion.tag);
+        put_item(slots, deletion.tag, Slot { region: 0, ..slot });
+        let answer = Answer {
+            status: Status::SUCCESS,
+            dw0: 0,
+        };
+        self.end(slots, deletion.tag, ENDED, answer, 0);
+        Some(deletion.qid)
+    }
+}

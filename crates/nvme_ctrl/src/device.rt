@@ -1,0 +1,75 @@
+// The commands that the device takes, and its answers. (tags: profile)
+use crate::slot::{ANSWERED, OUT, Slot, put_item, slot_at};
+use crate::state::Controller;
+use nvme_entry::Status;
+
+/// What the device answers to a command.
+#[derive(Clone, Copy, Debug, PartialEq, Eq)]
+pub struct Answer {
+    pub status: Status,
+    /// Command Dword 0 of the completion.
+    pub dw0: u32,
+}
+
+impl Controller {
+    ghost use Rattle.std.specs.Prelude.{◌≡◌, ℕ, ◌≢◌, Bool, true, false, List, ◌∷◌, None, Some, IfSome};
+    ghost use Rattle.nvme_log.specs.Rules.{FrontRules};
+    ghost use Rattle.nvme_log.specs.Answers as log;
+    ghost use Rattle.nvme_ctrl.specs.Notes.{Notes};
+    ghost use Rattle.nvme_ctrl.specs.Tags.{is_out};
+    ghost use Rattle.nvme_ctrl.specs.Standing.{Stands, IsController};
+    ghost use Rattle.nvme_ctrl.specs.Calls.{HasTaken, HasAnswered};
+    ghost use Rattle.nvme_ctrl.specs.declared.slot.Slot.{Slot};
+
+    /// The device takes the next picked command. Its slot is its tag until its completion is posted. None, which changes
+    /// nothing, where all that was picked is taken.
+    pub fn take(&mut self, slots: &mut [Slot]) -> Option<u16>
+        requires front { IsController self.old slots.old }
+        ensures front { IsController self.new slots.new }
+        ensures none { result ≡ None → (self.new ≡ self.old) × (slots.new ≡ slots.old) }
+        ensures stands { (rules : FrontRules) (late : Bool) (notes : Notes) → Stands rules late notes self.old slots.old → IfSome result (λ tag. HasTaken rules late notes tag self.new slots.new) }
+    {
+        if self.picked == 0 {
+            return None;
+        }
+        let region = self.picked_region;
+        let mut sq = self.sq(region);
+        let tag = sq.window.pop(slots)?;
+        self.put_sq(region, sq);
+        let slot = slot_at(slots, tag);
+        put_item(slots, tag, Slot { state: OUT, ..slot });
+        self.picked -= 1;
+        Some(tag)
+    }
+
+    /// The device answers the command of a tag, whose completion is ready then. False, which changes nothing, exactly
+    /// where the device has no command of this tag.
+    pub fn complete(&mut self, slots: &mut [Slot], tag: u16, answer: Answer) -> bool
+        requires front { IsController self.old slots.old }
+        ensures front { IsController self.new slots.new }
+        ensures refused { result ≡ false → (self.new ≡ self.old) × (slots.new ≡ slots.old) }
+        ensures answer { (rules : FrontRules) (late : Bool) (notes : Notes) → Stands rules late notes self.old slots.old → result ≡ is_out notes tag }
+        ensures stands { (rules : FrontRules) (late : Bool) (notes : Notes) → Stands rules late notes self.old slots.old → result ≡ true → HasAnswered rules late notes tag (record { status = answer.status; dw0 = answer.dw0 }) self.new slots.new }
+    {
+        let slot = slot_at(slots, tag);
+        if slot.state != OUT {
+            return false;
+        }
+        put_item(
+            slots,
+            tag,
+            Slot {
+                state: ANSWERED,
+                sct: answer.status.sct,
+                sc: answer.status.sc,
+                dw0: answer.dw0,
+                ..slot
+            },
+        );
+        let region = self.sq(slot.region).cq_region;
+        let mut cq = self.cq(region);
+        cq.ready.push(slots, tag);
+        self.put_cq(region, cq);
+        true
+    }
+}

@@ -1,0 +1,51 @@
+// The doorbells of a controller. (PCIe Transport Specification, Submission Queue y Tail Doorbell, Completion Queue y Head
+// Doorbell)
+use crate::state::Controller;
+
+impl Controller {
+    ghost use Rattle.std.specs.Prelude.{◌≡◌, ◌↔◌, Bool, true, false, List, ◌∷◌, IsTrue};
+    ghost use Rattle.nvme_log.specs.Rules.{FrontRules};
+    ghost use Rattle.nvme_ctrl.specs.Notes.{Notes};
+    ghost use Rattle.nvme_ctrl.specs.Standing.{Stands, IsController};
+    ghost use Rattle.nvme_ctrl.specs.Calls.{window_limit, TailRung, HeadRung, IsTailOf, IsHeadOf};
+    ghost use Rattle.nvme_ctrl.specs.declared.slot.Slot.{Slot};
+
+    /// The host wrote the tail doorbell of a submission queue. False, which changes nothing, where the queue isn't open,
+    /// where it has no such slot, and where its ring hasn't as many free slots: the doorbell value is invalid then.
+    pub fn sq_tail(&mut self, qid: u16, slot: u16) -> bool
+        ensures window { window_limit self.new ≡ window_limit self.old }
+        ensures refused { result ≡ false → self.new ≡ self.old }
+        ensures front { (slots : List Slot) → IsController self.old slots → IsController self.new slots }
+        ensures answer { (rules : FrontRules) (late : Bool) (notes : Notes) (slots : List Slot) → Stands rules late notes self.old slots → IsTrue result ↔ IsTailOf rules notes qid slot }
+        ensures stands { (rules : FrontRules) (late : Bool) (notes : Notes) (slots : List Slot) → Stands rules late notes self.old slots → result ≡ true → TailRung rules late notes qid slot self.new slots }
+    {
+        let Some(queue) = self.table.sq(qid) else {
+            return false;
+        };
+        if queue.closing {
+            return false;
+        }
+        let mut sq = self.sq(queue.region);
+        let rung = sq.ring.write_to(slot);
+        self.put_sq(queue.region, sq);
+        rung
+    }
+
+    /// The host wrote the head doorbell of a completion queue. False, which changes nothing, where the queue isn't open,
+    /// where it has no such slot, and where not as many completions were posted: the doorbell value is invalid then.
+    pub fn cq_head(&mut self, cqid: u16, slot: u16) -> bool
+        ensures window { window_limit self.new ≡ window_limit self.old }
+        ensures refused { result ≡ false → self.new ≡ self.old }
+        ensures front { (slots : List Slot) → IsController self.old slots → IsController self.new slots }
+        ensures answer { (rules : FrontRules) (late : Bool) (notes : Notes) (slots : List Slot) → Stands rules late notes self.old slots → IsTrue result ↔ IsHeadOf rules notes cqid slot }
+        ensures stands { (rules : FrontRules) (late : Bool) (notes : Notes) (slots : List Slot) → Stands rules late notes self.old slots → result ≡ true → HeadRung rules late notes cqid slot self.new slots }
+    {
+        let Some(region) = self.table.cq(cqid) else {
+            return false;
+        };
+        let mut cq = self.cq(region);
+        let rung = cq.ring.read_to(slot);
+        self.put_cq(region, cq);
+        rung
+    }
+}

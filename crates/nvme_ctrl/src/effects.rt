@@ -1,0 +1,221 @@
+// The effects of admin commands, which the controller carries out within. (Base Specification, Admin Command Set)
+ghost use Rattle.std.specs.Prelude.{◌≡◌};
+ghost use Rattle.nvme_entry.specs.Status.{success};
+
+use crate::device::Answer;
+use crate::slot::{DELETING, DROPPED, ENDED, Slot, put_item, slot_at};
+use crate::state::{Controller, Deletion};
+use nvme_admin::Effect;
+use nvme_arbiter::{Class, Settings};
+use nvme_entry::Status;
+
+// An answer with success.
+fn success(dw0: u32) -> Answer
+    ensures status { result.status ≡ success }
+    ensures dw0 { result.dw0 ≡ dw0 }
+{
+    Answer {
+        status: Status::SUCCESS,
+        dw0,
+    }
+}
+
+impl Controller {
+    ghost use Rattle.std.specs.Prelude.{◌≡◌, ◌≢◌, ℕ, ◌+◌, ◌<◌, ◌≤◌, ◌^◌, ◌∷◌, ◌↔◌, Bool, true, false, List, length, Some, None, IsSome, IsTrue};
+    ghost use Rattle.nvme_arbiter.specs.Layout.{board_of, is_arbiter};
+    ghost use Rattle.nvme_arbiter.specs.Limits.{highest_qid};
+    ghost use Rattle.nvme_arbiter.specs.History.{History, Changed};
+    ghost use Rattle.nvme_arbiter.specs.Board.{BoardStandsAt};
+    ghost use Rattle.nvme_arbiter.specs.Queues.{queue_at};
+    ghost use Rattle.nvme_arbiter.specs.Settings.{ArbitrationFields};
+    ghost use Rattle.nvme_arbiter.specs.declared.settings.Mechanism.{Mechanism};
+    ghost use Rattle.nvme_arbiter.specs.declared.settings.Class.TheVariants.{Admin};
+    ghost use Rattle.nvme_admin.specs.Effects.{verdict_in};
+    ghost use Rattle.nvme_ctrl.specs.Steps.{HasCarriedOut};
+    ghost use Rattle.nvme_ctrl.specs.Tags.{answer_of};
+    ghost use Rattle.nvme_ctrl.specs.declared.slot.Slot.{Slot};
+    ghost use Rattle.nvme_ctrl.specs.inside.Carrying.{IsApplied, IsApplying, opening, IsDroppable, dropped, HasDropped, oldest_dropped, item_dropped, deleting, HasBegun, HasNoneNamed, IsAbortable, MayAbort, HasRequested};
+    ghost use Rattle.nvme_admin.specs.declared.bounds.TheConstants.{MAX_REGIONS};
+    ghost use Rattle.nvme_log.specs.Rules.{FrontRules};
+    ghost use Rattle.nvme_ctrl.specs.Notes.{Notes};
+    ghost use Rattle.nvme_ctrl.specs.kept.Content.{Candidate, Ready, Content, with_ready};
+    ghost use Rattle.nvme_ctrl.specs.kept.Kept.{Item, Items, IsThrough};
+    ghost use Rattle.nvme_ctrl.specs.inside.Loose.{IsLoose, Keeps, MakesReady, ended, with_item};
+    ghost use Rattle.nvme_ctrl.specs.kept.Pool.{slot_at, item_at};
+
+    // The command of a slot ends: its completion is ready in a completion region.
+    pub(crate) fn end(
+        &mut self,
+        slots: &mut [Slot],
+        tag: u16,
+        state: u8,
+        answer: Answer,
+        region: u8,
+    )
+        ensures kept { (rules : FrontRules) (notes : Notes) (k : Content) (g : Items) (t : Ready) → Keeps rules notes self.old slots.old k g → IsLoose slots.old g tag → MakesReady slots.old tag state answer.status answer.dw0 t → IsThrough notes t → region < MAX_REGIONS → Keeps rules notes self.new slots.new (with_ready k region t) (with_item g region (ended tag t)) }
+        ensures left { self.new ≡ record self.old { cqs = self.new.cqs } }
+        ensures size { length slots.new ≡ length slots.old }
+        ensures others { (y : ℕ) → y ≢ tag → item_at slots.new y ≡ item_at slots.old y }
+    {
+        let slot = slot_at(slots, tag);
+        put_item(
+            slots,
+            tag,
+            Slot {
+                state,
+                sct: answer.status.sct,
+                sc: answer.status.sc,
+                dw0: answer.dw0,
+                ..slot
+            },
+        );
+        let mut cq = self.cq(region);
+        cq.ready.push(slots, tag);
+        self.put_cq(region, cq);
+    }
+
+    // Opens a submission queue. (Create I/O Submission Queue)
+    fn open_sq(&mut self, qid: u16, region: u8, cq_region: u8, class: Class)
+        requires within { qid ≤ highest_qid }
+        requires not_open { queue_at (board_of self.old.board).queues qid ≡ None }
+        requires admin { (class ≡ Admin) ↔ (qid ≡ 0) }
+        ensures kept { (rules : FrontRules) (notes : Notes) (slots : List Slot) (k : Content) (g : Items) → Keeps rules notes self.old slots k g → self.old.picked ≡ 0 → region < MAX_REGIONS → Keeps rules notes self.new slots (opening k qid region cq_region class) g }
+        ensures left { self.new ≡ record self.old { board = self.new.board; sqs = self.new.sqs } }
+    {
+        self.board.open(qid, class);
+        let mut sq = self.sq(region);
+        sq.qid = qid;
+        sq.cq_region = cq_region;
+        sq.opened = 1;
+        self.put_sq(region, sq);
+    }
+
+    // Begins the deletion of a submission queue. Its candidates are dropped: their completions are ready. The Delete is
+    // answered when the deletion is finished. (Delete I/O Submission Queue)
+    fn begin_delete(&mut self, slots: &mut [Slot], tag: u16, qid: u16, region: u8)
+        requires on_board { IsSome (queue_at (board_of self.old.board).queues qid) }
+        ensures begun { (rules : FrontRules) (notes : Notes) (k : Content) (g : Items) (c : ℕ) (candidate : Candidate) → Keeps rules notes self.old slots.old k g → self.old.picked ≡ 0 → IsLoose slots.old g tag → (slot_at slots.old tag).entry ≡ candidate.entry → answer_of notes 0 candidate.index ≡ None → IsDroppable notes k qid region c → (k.sq region).unposted + length (k.sq region).window < 2 ^ 16 → HasBegun rules notes (deleting k qid region c candidate) self.new slots.new }
+    {
+        let mut sq = self.sq(region);
+        sq.unposted = sq.unposted.saturating_add(sq.window.len);
+        self.put_sq(region, sq);
+        self.drop_window(slots, region);
+        self.board.close(qid);
+        let slot = slot_at(slots, tag);
+        put_item(
+            slots,
+            tag,
+            Slot {
+                state: DELETING,
+                ..slot
+            },
+        );
+        self.deletion = Deletion {
+            pending: 1,
+            region,
+            qid,
+            tag,
+        };
+    }
+
+    // Drops all candidates of a submission region.
+    fn drop_window(&mut self, slots: &mut [Slot], region: u8)
+        ensures dropped { (rules : FrontRules) (notes : Notes) (k : Content) (g : Items) (qid c y : ℕ) → Keeps rules notes self.old slots.old k g → self.old.picked ≡ 0 → IsDroppable notes k qid region c → IsLoose slots.old g y → HasDropped rules notes (dropped k qid region c) slots.old y self.new slots.new }
+        ensures left { self.new ≡ record self.old { sqs = self.new.sqs; cqs = self.new.cqs } }
+    {
+        for _ in 0..self.sq(region).window.len {
+            self.drop_oldest(slots, region);
+        }
+    }
+
+    // Drops the oldest candidate of a submission region.
+    fn drop_oldest(&mut self, slots: &mut [Slot], region: u8)
+        ensures dropped { (rules : FrontRules) (notes : Notes) (k : Content) (g : Items) (qid c : ℕ) (x : Item) (rest : List Item) → Keeps rules notes self.old slots.old k g → self.old.picked ≡ 0 → IsDroppable notes k qid region c → g.windows region ≡ x ∷ rest → Keeps rules notes self.new slots.new (oldest_dropped k qid region c x rest) (item_dropped g qid region c x rest) }
+        ensures others { (rules : FrontRules) (notes : Notes) (k : Content) (g : Items) (x : Item) (rest : List Item) → Keeps rules notes self.old slots.old k g → g.windows region ≡ x ∷ rest → (y : ℕ) → y ≢ x.tag → item_at slots.new y ≡ item_at slots.old y }
+        ensures size { length slots.new ≡ length slots.old }
+        ensures left { self.new ≡ record self.old { sqs = self.new.sqs; cqs = self.new.cqs } }
+    {
+        let mut sq = self.sq(region);
+        let Some(x) = sq.window.pop(slots) else {
+            return;
+        };
+        self.put_sq(region, sq);
+        let answer = Answer {
+            status: Status::ABORTED_BY_DELETION,
+            dw0: 0,
+        };
+        self.end(slots, x, DROPPED, answer, sq.cq_region);
+    }
+
+    // Aborts the oldest waiting command with a command identifier in an open I/O submission queue. False, which changes
+    // nothing, where there is no such command. (Abort)
+    fn abort(&mut self, slots: &mut [Slot], sqid: u16, cid: u16) -> bool
+        requires may { MayAbort self.old slots.old sqid cid }
+        ensures none { result ≡ false → (self.new ≡ self.old) × (slots.new ≡ slots.old) }
+        ensures none_named { (rules : FrontRules) (notes : Notes) (k : Content) (g : Items) → result ≡ false → Keeps rules notes self.old slots.old k g → self.old.picked ≡ 0 → HasNoneNamed k sqid cid }
+        ensures aborted { (rules : FrontRules) (notes : Notes) (k : Content) (g : Items) (y : ℕ) → result ≡ true → Keeps rules notes self.old slots.old k g → self.old.picked ≡ 0 → IsAbortable notes k sqid cid → IsLoose slots.old g y → HasRequested rules notes k sqid cid slots.old y self.new slots.new }
+    {
+        if sqid == 0 {
+            return false;
+        }
+        let Some(queue) = self.table.sq(sqid) else {
+            return false;
+        };
+        let mut sq = self.sq(queue.region);
+        let Some(x) = sq.window.take_named(slots, cid) else {
+            return false;
+        };
+        sq.unposted = sq.unposted.saturating_add(1);
+        self.put_sq(queue.region, sq);
+        self.outstanding = self.outstanding.saturating_add(1);
+        self.board.went(sqid);
+        let answer = Answer {
+            status: Status::ABORT_REQUESTED,
+            dw0: 0,
+        };
+        self.end(slots, x, ENDED, answer, sq.cq_region);
+        true
+    }
+
+    // Puts new settings of arbitration in force. (Arbitration feature)
+    fn set_arbitration(&mut self, settings: Settings)
+        requires is_arbiter { IsTrue (is_arbiter self.old.board.arbiter) }
+        ensures kept { (rules : FrontRules) (notes : Notes) (slots : List Slot) (k : Content) (g : Items) → Keeps rules notes self.old slots k g → Keeps rules notes self.new slots (record k { board = board_of self.new.board }) g }
+        ensures queues { (board_of self.new.board).queues ≡ (board_of self.old.board).queues }
+        ensures stands { (mechanism : Mechanism) (first : ArbitrationFields) (h : History) → BoardStandsAt mechanism first h (board_of self.old.board) → BoardStandsAt mechanism first (Changed settings ∷ h) (board_of self.new.board) }
+    {
+        self.board.set(settings);
+    }
+
+    /// Carries out the effect of a picked admin command, which is in this slot.
+    pub(crate) fn carry_out(&mut self, slots: &mut [Slot], tag: u16, effect: &Effect)
+        requires applied { IsApplying self.old slots.old effect.now }
+        ensures stands { (rules : FrontRules) (late : Bool) (notes : Notes) → IsApplied rules late notes self.old slots.old tag effect.now → HasCarriedOut rules late notes (verdict_in effect.now) self.new slots.new }
+    {
+        match *effect {
+            Effect::Done(status, dw0) => self.end(slots, tag, ENDED, Answer { status, dw0 }, 0),
+            Effect::OpenSq {
+                qid,
+                region,
+                cq_region,
+                class,
+                ..
+            } => {
+                self.open_sq(qid, region, cq_region, class);
+                self.end(slots, tag, ENDED, success(0), 0);
+            }
+            Effect::OpenCq { .. } | Effect::CloseCq { .. } => {
+                self.end(slots, tag, ENDED, success(0), 0);
+            }
+            Effect::BeginDelete { qid, region } => self.begin_delete(slots, tag, qid, region),
+            Effect::Abort { sqid, cid } => {
+                let dw0 = if self.abort(slots, sqid, cid) { 0 } else { 1 };
+                self.end(slots, tag, ENDED, success(dw0), 0);
+            }
+            Effect::SetArbitration(settings) => {
+                self.set_arbitration(settings);
+                self.end(slots, tag, ENDED, success(0), 0);
+            }
+        }
+    }
+}

@@ -1,0 +1,74 @@
+// What is seen of a controller.
+use crate::slot::{OUT, Slot, slot_at};
+use crate::state::Controller;
+use nvme_entry::Sqe;
+
+impl Controller {
+    ghost use Rattle.std.specs.Prelude.{◌≡◌, ℕ, Bool, true, List, Option, Some, None, length, option_map};
+    ghost use Rattle.nvme_log.specs.Rules.{FrontRules};
+    ghost use Rattle.nvme_log.specs.Queues.{Queue, open_sq, open_cq};
+    ghost use Rattle.nvme_log.specs.Places.{entry_at, waiting};
+    ghost use Rattle.nvme_log.specs.declared.place.Place.{Place};
+    ghost use Rattle.nvme_ctrl.specs.Notes.{Notes, logged};
+    ghost use Rattle.nvme_ctrl.specs.Tags.{is_out, holder};
+    ghost use Rattle.nvme_ctrl.specs.Standing.{Stands};
+    ghost use Rattle.nvme_ctrl.specs.kept.Pool.{slot_at};
+    ghost use Rattle.nvme_ctrl.specs.declared.slot.Slot.{Slot};
+
+    /// The command in a slot. Where the device has it, it is the one that was fetched for the place of this tag.
+    pub fn entry(&self, slots: &[Slot], tag: u16) -> Sqe
+        ensures value { result ≡ (slot_at slots.now tag).entry }
+        ensures out { (rules : FrontRules) (late : Bool) (notes : Notes) → Stands rules late notes self.now slots.now → (place : Place) → holder notes tag ≡ Some place → is_out notes tag ≡ true
+            → entry_at (logged notes) place.region place.index ≡ Some result }
+    {
+        slot_at(slots, tag).entry
+    }
+
+    /// What the caller keeps with the command in a slot.
+    pub fn cookie(&self, slots: &[Slot], tag: u16) -> u32
+        ensures { result ≡ (slot_at slots.now tag).cookie }
+    {
+        slot_at(slots, tag).cookie
+    }
+
+    /// Whether the device has the command of a tag: it took it, and hasn't answered it.
+    pub fn is_out(&self, slots: &[Slot], tag: u16) -> bool
+        ensures { (rules : FrontRules) (late : Bool) (notes : Notes) → Stands rules late notes self.now slots.now → result ≡ is_out notes tag }
+    {
+        slot_at(slots, tag).state == OUT
+    }
+
+    /// The region of an open submission queue.
+    pub fn sq_region(&self, qid: u16) -> Option<u8>
+        ensures { (rules : FrontRules) (late : Bool) (notes : Notes) (pool : List Slot) → Stands rules late notes self.now pool → result ≡ option_map (λ queue. queue.region) (open_sq (logged notes) qid) }
+    {
+        let queue = self.table.sq(qid)?;
+        if queue.closing {
+            None
+        } else {
+            Some(queue.region)
+        }
+    }
+
+    /// The region of an open completion queue.
+    pub fn cq_region(&self, cqid: u16) -> Option<u8>
+        ensures { (rules : FrontRules) (late : Bool) (notes : Notes) (pool : List Slot) → Stands rules late notes self.now pool → result ≡ open_cq (logged notes) cqid }
+    {
+        self.table.cq(cqid)
+    }
+
+    /// How many commands of an open submission queue were fetched and wait to be picked. Of no other queue any waits.
+    pub fn waiting(&self, qid: u16) -> u16
+        ensures none { (rules : FrontRules) (late : Bool) (notes : Notes) (pool : List Slot) → Stands rules late notes self.now pool → open_sq (logged notes) qid ≡ None → result ≡ 0 }
+        ensures waits { (rules : FrontRules) (late : Bool) (notes : Notes) (pool : List Slot) → Stands rules late notes self.now pool
+            → (queue : Queue) → open_sq (logged notes) qid ≡ Some queue → result ≡ length (waiting (logged notes) queue.region) }
+    {
+        let Some(region) = self.sq_region(qid) else {
+            return 0;
+        };
+        self.sq(region)
+            .window
+            .len
+            .saturating_sub(self.picked_in(region))
+    }
+}

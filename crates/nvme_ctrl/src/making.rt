@@ -1,0 +1,169 @@
+// The making of a controller, and its regions.
+ghost use Rattle.std.specs.Prelude.{◌≡◌, ℕ, ◌<◌, ◌^◌, length, List, OnOk, IfOk, IfErr, slice_set, replicate, Some, None, [], IsTrue};
+ghost use Rattle.nvme_arbiter.specs.Limits.{queue_limit};
+ghost use Rattle.nvme_arbiter.specs.Board.{BoardStandsAt};
+ghost use Rattle.nvme_arbiter.specs.Layout.{is_arbiter, board_of};
+ghost use Rattle.nvme_arbiter.specs.declared.settings.Class.TheVariants.{Admin};
+ghost use Rattle.nvme_admin.specs.Layout.{view_of};
+ghost use Rattle.nvme_admin.specs.Standing.{StandsAt, IsSized};
+ghost use Rattle.nvme_log.specs.Rules.{upto};
+ghost use Rattle.nvme_ctrl.specs.Making.{first_regions, admin_fault};
+ghost use Rattle.nvme_ctrl.specs.kept.Pool.{IsChain, slot_at};
+ghost use Rattle.nvme_ctrl.specs.Rings.{first_ring};
+ghost use Rattle.nvme_ctrl.specs.kept.State.{no_sq_state, no_cq_state};
+
+use crate::chain::Chain;
+use crate::ring::Ring;
+use crate::slot::{Slot, put_item};
+use crate::state::{Controller, CqState, Deletion, SqState};
+use nvme_admin::{AdminError, Limits, MAX_REGIONS, Region, TableFields};
+use nvme_arbiter::{BoardFields, Class, Mechanism, Settings};
+
+impl Controller {
+    ghost use Rattle.std.specs.Prelude.{◌≡◌, ℕ, ◌<◌, ◌^◌, false, Bool, List, [], ◌∷◌, length, OnOk, IfOk, OnErr, IfErr, Some, None};
+    ghost use Rattle.nvme_admin.specs.History.{Submission, Completion};
+    ghost use Rattle.nvme_log.specs.Rules.{FrontRules, sq_regions_of, cq_regions_of};
+    ghost use Rattle.nvme_ctrl.specs.Notes.{Notes};
+    ghost use Rattle.nvme_ctrl.specs.Standing.{Stands, IsController};
+    ghost use Rattle.nvme_ctrl.specs.Calls.{window_limit};
+    ghost use Rattle.nvme_ctrl.specs.Making.{first_rules, with_region, is_late, admin_fault};
+    ghost use Rattle.nvme_ctrl.specs.declared.slot.Slot.{Slot};
+
+    /// A controller with its admin regions alone, region 0 of each kind, and with all slots of the pool free. The admin
+    /// queues are open then. At most `window` commands of a queue wait, and at most as many as its ring has slots, and 256.
+    /// Refused where both regions have one address, or one has a number of slots outside its limits. The pool is left then.
+    /// (Base Specification, Controller Initialization: the admin queues are there before the controller is enabled)
+    pub fn new(
+        mechanism: Mechanism,
+        settings: Settings,
+        limits: Limits,
+        window: u16,
+        sq: Region,
+        cq: Region,
+        slots: &mut [Slot],
+    ) -> Result<Controller, AdminError>
+        requires few { length slots.old < 2 ^ 16 }
+        ensures refused { IfErr result (λ e. admin_fault sq cq ≡ Some e) }
+        ensures made { OnOk result (admin_fault sq cq ≡ None) }
+        ensures unchanged { OnErr result (slots.new ≡ slots.old) }
+        ensures front { IfOk result (λ c. IsController c slots.new) }
+        ensures stands { (sizes : List ℕ) → IfOk result (λ c. Stands (first_rules mechanism settings limits sq cq sizes) false [] c slots.new) }
+        ensures window { IfOk result (λ c. window_limit c ≡ window) }
+        ensures size { length slots.new ≡ length slots.old }
+    {
+        let table = first_table(settings, limits, sq, cq)?;
+        Ok(Controller {
+            table,
+            board: first_board(mechanism, settings),
+            sqs: first_sqs(sq.slots),
+            cqs: first_cqs(cq.slots),
+            free: all_free(slots),
+            window,
+            outstanding: 0,
+            picked: 0,
+            picked_region: 0,
+            deletion: Deletion {
+                pending: 0,
+                region: 0,
+                qid: 0,
+                tag: 0,
+            },
+        })
+    }
+
+    /// Adds a submission region of `slots` slots, and answers its number, which counts from 0 in the order of adding.
+    /// Refused as `Table::add_sq_region` refuses; a refusal changes nothing. (profile)
+    pub fn add_sq_region(&mut self, address: u64, slots: u16) -> Result<u8, AdminError>
+        ensures unchanged { OnErr result (self.new ≡ self.old) }
+        ensures window { window_limit self.new ≡ window_limit self.old }
+        ensures front { (pool : List Slot) → IsController self.old pool → IsController self.new pool }
+        ensures number { (rules : FrontRules) (late : Bool) (notes : Notes) (pool : List Slot) → Stands rules late notes self.old pool → IfOk result (λ r. r ≡ length (sq_regions_of rules)) }
+        ensures stands { (rules : FrontRules) (late : Bool) (notes : Notes) (pool : List Slot) → Stands rules late notes self.old pool → IfOk result (λ r. Stands (with_region Submission address slots rules) (is_late late notes) notes self.new pool) }
+    {
+        let region = self.table.add_sq_region(address, slots)?;
+        let mut sq = self.sq(region);
+        sq.ring = Ring::new(slots);
+        self.put_sq(region, sq);
+        Ok(region)
+    }
+
+    /// Adds a completion region, as `add_sq_region` adds a submission region, with the same refusals.
+    pub fn add_cq_region(&mut self, address: u64, slots: u16) -> Result<u8, AdminError>
+        ensures unchanged { OnErr result (self.new ≡ self.old) }
+        ensures window { window_limit self.new ≡ window_limit self.old }
+        ensures front { (pool : List Slot) → IsController self.old pool → IsController self.new pool }
+        ensures number { (rules : FrontRules) (late : Bool) (notes : Notes) (pool : List Slot) → Stands rules late notes self.old pool → IfOk result (λ r. r ≡ length (cq_regions_of rules)) }
+        ensures stands { (rules : FrontRules) (late : Bool) (notes : Notes) (pool : List Slot) → Stands rules late notes self.old pool → IfOk result (λ r. Stands (with_region Completion address slots rules) (is_late late notes) notes self.new pool) }
+    {
+        let region = self.table.add_cq_region(address, slots)?;
+        let mut cq = self.cq(region);
+        cq.ring = Ring::new(slots);
+        self.put_cq(region, cq);
+        Ok(region)
+    }
+}
+
+// The table with the admin regions.
+fn first_table(
+    settings: Settings,
+    limits: Limits,
+    sq: Region,
+    cq: Region,
+) -> Result<TableFields, AdminError>
+    ensures refused { IfErr result (λ e. admin_fault sq cq ≡ Some e) }
+    ensures made { OnOk result (admin_fault sq cq ≡ None) }
+    ensures stands { IfOk result (λ t. StandsAt (record { nsq = limits.nsq; ncq = limits.ncq; settings = settings }) (view_of t) (first_regions sq cq)) }
+    ensures sized { IfOk result (λ t. IsSized (view_of t)) }
+{
+    let mut table = TableFields::new(limits, settings);
+    table.add_sq_region(sq.address, sq.slots)?;
+    table.add_cq_region(cq.address, cq.slots)?;
+    Ok(table)
+}
+
+// The board on which the admin queue is open.
+fn first_board(mechanism: Mechanism, settings: Settings) -> BoardFields
+    ensures stands { BoardStandsAt mechanism settings [] (board_of result) }
+    ensures queues { (board_of result).queues ≡ slice_set (replicate queue_limit None) 0 (Some (record { class = Admin; count = 0 })) }
+    ensures is_arbiter { IsTrue (is_arbiter result.arbiter) }
+{
+    let mut board = BoardFields::new(mechanism, settings);
+    board.open(0, Class::Admin);
+    board
+}
+
+// The states of the submission regions, of which the admin queue's is there.
+fn first_sqs(slots: u16) -> [SqState; MAX_REGIONS]
+    requires { 0 < slots }
+    ensures { result ≡ slice_set (replicate 65 no_sq_state) 0 (record no_sq_state { ring = first_ring slots; opened = 1 }) }
+{
+    let mut sqs = [SqState::none(); MAX_REGIONS];
+    sqs[0].ring = Ring::new(slots);
+    sqs[0].opened = 1;
+    sqs
+}
+
+// The states of the completion regions, of which the admin queue's is there.
+fn first_cqs(slots: u16) -> [CqState; MAX_REGIONS]
+    requires { 0 < slots }
+    ensures { result ≡ slice_set (replicate 65 no_cq_state) 0 (record no_cq_state { ring = first_ring slots }) }
+{
+    let mut cqs = [CqState::none(); MAX_REGIONS];
+    cqs[0].ring = Ring::new(slots);
+    cqs
+}
+
+// Makes all slots free, and a chain of them.
+fn all_free(slots: &mut [Slot]) -> Chain
+    requires few { length slots.old < 2 ^ 16 }
+    ensures chain { IsChain slots.new result (upto (length slots.old)) }
+    ensures free { (x : ℕ) → (slot_at slots.new x).state ≡ 0 }
+    ensures size { length slots.new ≡ length slots.old }
+{
+    let mut free = Chain::new();
+    for x in 0..slots.len() {
+        put_item(slots, x as u16, Slot::free());
+        free.push(slots, x as u16);
+    }
+    free
+}

@@ -1,0 +1,118 @@
+// The picks of a controller. (Base Specification, Command Arbitration; outstanding places: profile)
+use crate::slot::{Slot, slot_at};
+use crate::state::Controller;
+use nvme_admin::Effect;
+use nvme_arbiter::Pick;
+use nvme_entry::{AdminCommand, admin_of};
+use nvme_log::MAX_OUTSTANDING;
+
+/// What a step of arbitration did.
+#[derive(Clone, Copy, Debug, PartialEq, Eq)]
+pub enum Step {
+    /// No command waits.
+    Idle,
+    /// Commands are picked that the device hasn't taken, or a deletion is pending.
+    Busy,
+    /// The next pick needs more places than are free. A place is free again after its command's completion was posted.
+    Full,
+    /// Commands of an I/O queue were picked, for the device to take.
+    Picked(Pick),
+    /// A command of the admin queue was picked and carried out.
+    Done(Effect),
+}
+
+impl Controller {
+    ghost use Rattle.std.specs.Prelude.{◌≡◌, ◌≢◌, ℕ, ◌+◌, ◌≤◌, Bool, true, false, List, Option, Some, None, IfSome};
+    ghost use Rattle.nvme_arbiter.specs.Layout.{board_of};
+    ghost use Rattle.nvme_arbiter.specs.Queues.{seen_of};
+    ghost use Rattle.nvme_arbiter.specs.Standing.{pick_of};
+    ghost use Rattle.nvme_log.specs.Rules.{FrontRules};
+    ghost use Rattle.nvme_log.specs.Limits.{max_outstanding};
+    ghost use Rattle.nvme_log.specs.Aborts.{is_abort_entry};
+    ghost use Rattle.nvme_ctrl.specs.Notes.{Notes};
+    ghost use Rattle.nvme_ctrl.specs.Standing.{Stands, IsController};
+    ghost use Rattle.nvme_ctrl.specs.Steps.{IsNextPick, HasStepped};
+    ghost use Rattle.nvme_ctrl.specs.inside.Picks.{CanPickNow, oldest_entry, places_in};
+    ghost use Rattle.nvme_ctrl.specs.declared.slot.Slot.{Slot};
+    ghost use Rattle.nvme_ctrl.specs.declared.picks.Step.TheVariants as step;
+
+    /// The pick that arbitration makes next, of the commands that wait now. None where none waits.
+    pub fn next_pick(&self, slots: &[Slot]) -> Option<Pick>
+        requires front { IsController self.now slots.now }
+        ensures { (rules : FrontRules) (late : Bool) (notes : Notes) → Stands rules late notes self.now slots.now → IsNextPick rules notes result }
+    {
+        self.board.peek()
+    }
+
+    // How many outstanding places a pick needs: one for each command, and for an Abort command a second one, for the
+    // command that it aborts.
+    fn places_for(&self, slots: &[Slot], pick: Pick) -> u16
+        ensures { result ≡ places_in self.now slots.now pick }
+    {
+        let oldest = slot_at(slots, self.sq(0).window.first);
+        if pick.qid == 0 && matches!(admin_of(&oldest.entry), AdminCommand::Abort { .. }) {
+            2
+        } else {
+            pick.n
+        }
+    }
+
+    // Makes the next pick, which is of an I/O queue.
+    fn pick_io(&mut self, slots: &[Slot], pick: Pick)
+        requires can { CanPickNow self.old slots.now pick }
+        requires io { pick.qid ≢ 0 }
+        ensures stands { (rules : FrontRules) (late : Bool) (notes : Notes) → Stands rules late notes self.old slots.now → HasStepped rules late notes (step.Picked pick) self.new slots.now }
+    {
+        self.board.keep(pick);
+        let Some(queue) = self.table.sq(pick.qid) else {
+            return;
+        };
+        let mut sq = self.sq(queue.region);
+        sq.unposted = sq.unposted.saturating_add(pick.n);
+        self.put_sq(queue.region, sq);
+        self.outstanding = self.outstanding.saturating_add(pick.n);
+        self.picked = pick.n;
+        self.picked_region = queue.region;
+    }
+
+    // Makes the next pick, which is of the admin queue, and carries the command out.
+    fn pick_admin(&mut self, slots: &mut [Slot], pick: Pick) -> Effect
+        requires can { CanPickNow self.old slots.old pick }
+        requires of_admin { pick.qid ≡ 0 }
+        ensures stands { (rules : FrontRules) (late : Bool) (notes : Notes) → Stands rules late notes self.old slots.old → HasStepped rules late notes (step.Done result) self.new slots.new }
+    {
+        self.board.keep(pick);
+        let mut sq = self.sq(0);
+        let tag = sq.window.pop(slots).unwrap_or(0);
+        sq.unposted = sq.unposted.saturating_add(1);
+        self.put_sq(0, sq);
+        self.outstanding = self.outstanding.saturating_add(1);
+        let entry = slot_at(slots, tag).entry;
+        let effect = self.table.execute(&entry);
+        self.carry_out(slots, tag, &effect);
+        effect
+    }
+
+    /// Makes the next pick of arbitration, if there is one and its places are free.
+    pub fn pick(&mut self, slots: &mut [Slot]) -> Step
+        requires front { IsController self.old slots.old }
+        ensures front { IsController self.new slots.new }
+        ensures stands { (rules : FrontRules) (late : Bool) (notes : Notes) → Stands rules late notes self.old slots.old → HasStepped rules late notes result self.new slots.new }
+    {
+        if self.picked != 0 || self.deletion.pending != 0 {
+            return Step::Busy;
+        }
+        let Some(pick) = self.board.peek() else {
+            return Step::Idle;
+        };
+        if self.places_for(slots, pick) > MAX_OUTSTANDING.saturating_sub(self.outstanding) {
+            return Step::Full;
+        }
+        if pick.qid == 0 {
+            Step::Done(self.pick_admin(slots, pick))
+        } else {
+            self.pick_io(slots, pick);
+            Step::Picked(pick)
+        }
+    }
+}

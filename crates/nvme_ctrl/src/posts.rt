@@ -1,0 +1,116 @@
+// The posts of a controller. (Base Specification, Completion Queue Entry, Phase Tag)
+use crate::slot::{DROPPED, FREE, Slot, put_item, slot_at};
+use crate::state::{Controller, CqState};
+use nvme_entry::{Cqe, Status};
+
+/// A completion to write into a slot of the ring of a completion queue.
+#[derive(Clone, Copy, Debug, PartialEq, Eq)]
+pub struct Post {
+    /// The slot of the ring.
+    pub slot: u16,
+    /// The completion queue entry.
+    pub cqe: Cqe,
+    /// The slot of its command in the pool, which is free now.
+    pub tag: u16,
+    /// What the caller kept with its command.
+    pub cookie: u32,
+}
+
+impl CqState {
+    ghost use Rattle.std.specs.Prelude.{◌≡◌, ℕ, ◌+◌, ◌<◌, ◌==◌};
+    ghost use Rattle.nvme_log.specs.Completions.{phase_after};
+    ghost use Rattle.nvme_ctrl.specs.Rings.{HasCounts};
+
+    // A completion was written into the slot at the tail. The phase tag turns where the tail comes round to the first slot.
+    fn write(&mut self)
+        ensures counts { (read written : ℕ) → HasCounts self.old.ring read written → written + 1 < read + self.old.ring.slots → HasCounts self.new.ring read (written + 1) }
+        ensures phase { (read written : ℕ) → HasCounts self.old.ring read written → written + 1 < read + self.old.ring.slots → (self.old.phase == 1) ≡ phase_after written self.old.ring.slots → (self.new.phase == 1) ≡ phase_after (written + 1) self.old.ring.slots }
+        ensures ready { self.new.ready ≡ self.old.ready }
+        ensures slots { self.new.ring.slots ≡ self.old.ring.slots }
+    {
+        self.ring.write();
+        if self.ring.tail == 0 {
+            self.phase = if self.phase == 1 { 0 } else { 1 };
+        }
+    }
+}
+
+impl Controller {
+    ghost use Rattle.std.specs.Prelude.{◌≡◌, ℕ, Bool, true, false, List, ◌∷◌, None, IfSome};
+    ghost use Rattle.nvme_log.specs.Rules.{FrontRules};
+    ghost use Rattle.nvme_ctrl.specs.Notes.{Notes};
+    ghost use Rattle.nvme_ctrl.specs.Standing.{Stands, IsController};
+    ghost use Rattle.nvme_ctrl.specs.Calls.{HasPosted};
+    ghost use Rattle.nvme_ctrl.specs.Posts.{NonePostable, IsPostOf};
+    ghost use Rattle.nvme_ctrl.specs.kept.Pool.{slot_at};
+    ghost use Rattle.nvme_ctrl.specs.declared.slot.Slot.{Slot};
+    ghost use Rattle.nvme_ctrl.specs.inside.Posting.{completion_of, counted_post};
+
+    // The completion queue entry of a command that ended.
+    fn completion(&self, command: &Slot, phase: bool) -> Cqe
+        ensures { result ≡ completion_of self.now command.now phase }
+    {
+        let sq = self.sq(command.region);
+        Cqe {
+            dw0: command.dw0,
+            sqhd: sq.ring.head,
+            sqid: sq.qid,
+            cid: command.entry.cid,
+            phase,
+            status: Status {
+                sct: command.sct % 8,
+                sc: command.sc,
+            },
+        }
+    }
+
+    // A completion of a command is posted: it isn't outstanding any more, unless it was aborted with its queue.
+    fn count_post(&mut self, command: &Slot)
+        ensures { self.new ≡ counted_post self.old command.now }
+    {
+        let mut sq = self.sq(command.region);
+        sq.unposted = sq.unposted.saturating_sub(1);
+        self.put_sq(command.region, sq);
+        if command.state != DROPPED {
+            self.outstanding = self.outstanding.saturating_sub(1);
+        }
+    }
+
+    /// Posts the completion that became ready first in a completion region. None, which changes nothing, exactly where
+    /// none is ready, and where the host has freed no slot of the ring.
+    pub fn post(&mut self, slots: &mut [Slot], region: u8) -> Option<Post>
+        requires front { IsController self.old slots.old }
+        ensures front { IsController self.new slots.new }
+        ensures none { result ≡ None → (self.new ≡ self.old) × (slots.new ≡ slots.old) }
+        ensures told { (rules : FrontRules) (late : Bool) (notes : Notes) → Stands rules late notes self.old slots.old → result ≡ None → NonePostable rules notes region }
+        ensures command { IfSome result (λ p. IsPostOf (slot_at slots.old p.tag) p.cqe p.cookie) }
+        ensures stands { (rules : FrontRules) (late : Bool) (notes : Notes) → Stands rules late notes self.old slots.old → IfSome result (λ p. HasPosted rules late notes region p.slot p.cqe self.new slots.new) }
+    {
+        let mut cq = self.cq(region);
+        if cq.ring.filled() + 1 >= u32::from(cq.ring.slots) {
+            return None;
+        }
+        let tag = cq.ready.pop(slots)?;
+        let command = slot_at(slots, tag);
+        let cqe = self.completion(&command, cq.phase == 1);
+        let slot = cq.ring.tail;
+        cq.write();
+        self.put_cq(region, cq);
+        self.count_post(&command);
+        put_item(
+            slots,
+            tag,
+            Slot {
+                state: FREE,
+                ..command
+            },
+        );
+        self.free.push(slots, tag);
+        Some(Post {
+            slot,
+            cqe,
+            tag,
+            cookie: command.cookie,
+        })
+    }
+}

@@ -1,0 +1,117 @@
+// The slots of a pool, each of which holds a command from its fetch until its completion is posted.
+ghost use Rattle.std.specs.Prelude.{◌≡◌, slice_set};
+ghost use Rattle.nvme_ctrl.specs.kept.Pool.{slot_at, put_next, put_item};
+
+use nvme_entry::{Sqe, Status};
+
+/// Nothing is in the slot.
+pub const FREE: u8 = 0;
+/// Its command waits to be picked, or to be taken by the device after its pick.
+pub const WAITING: u8 = 1;
+/// The device has its command.
+pub const OUT: u8 = 2;
+/// The device answered its command, whose completion waits to be posted.
+pub const ANSWERED: u8 = 3;
+/// Its command ended without the device: it was carried out within, or aborted. Its completion waits to be posted.
+pub const ENDED: u8 = 4;
+/// Its command ended with its queue, whose deletion began. Its completion waits to be posted.
+pub const DROPPED: u8 = 5;
+/// Its command is the Delete whose deletion is pending.
+pub const DELETING: u8 = 6;
+
+/// A slot of a controller's pool, as it lies in memory: numbers alone. Its number is the tag of the command that it
+/// holds.
+#[repr(C)]
+#[derive(Clone, Copy, Debug, Drop)]
+pub struct Slot {
+    /// The command.
+    pub entry: Sqe,
+    /// What the caller keeps with the command.
+    pub cookie: u32,
+    /// Command Dword 0 of its completion, where it ended.
+    pub dw0: u32,
+    /// The slot after it in its chain.
+    pub next: u16,
+    /// The status of its completion, where it ended.
+    pub sct: u8,
+    pub sc: u8,
+    /// The submission region that it was fetched from.
+    pub region: u8,
+    /// What it is used for, one of the constants above.
+    pub state: u8,
+}
+
+impl Slot {
+    ghost use Rattle.std.specs.Prelude.{◌≡◌};
+    ghost use Rattle.nvme_ctrl.specs.kept.Pool.{no_slot};
+
+    /// A free slot.
+    pub fn free() -> Slot
+        ensures { result ≡ no_slot }
+    {
+        Slot {
+            entry: Sqe {
+                opcode: 0,
+                flags: 0,
+                cid: 0,
+                nsid: 0,
+                cdw2: 0,
+                cdw3: 0,
+                mptr: 0,
+                prp1: 0,
+                prp2: 0,
+                cdw10: 0,
+                cdw11: 0,
+                cdw12: 0,
+                cdw13: 0,
+                cdw14: 0,
+                cdw15: 0,
+            },
+            cookie: 0,
+            dw0: 0,
+            next: 0,
+            sct: 0,
+            sc: 0,
+            region: 0,
+            state: FREE,
+        }
+    }
+}
+
+/// The slot of a number; a free one where the pool has no such slot.
+pub fn slot_at(slots: &[Slot], x: u16) -> Slot
+    ensures { result ≡ slot_at slots.now x }
+{
+    let x = usize::from(x);
+    if x < slots.len() {
+        slots[x]
+    } else {
+        Slot::free()
+    }
+}
+
+// Puts a slot in the place of one. Where the pool has no such slot, nothing changes.
+fn put(slots: &mut [Slot], x: u16, slot: Slot)
+    ensures { slots.new ≡ slice_set slots.old x slot }
+{
+    let x = usize::from(x);
+    if x < slots.len() {
+        slots[x] = slot;
+    }
+}
+
+/// Links a slot to the one after it, and leaves all else.
+pub fn put_next(slots: &mut [Slot], x: u16, next: u16)
+    ensures { slots.new ≡ put_next slots.old x next }
+{
+    let slot = slot_at(slots, x);
+    put(slots, x, Slot { next, ..slot });
+}
+
+/// Puts something else into a slot, and leaves its link.
+pub fn put_item(slots: &mut [Slot], x: u16, slot: Slot)
+    ensures { slots.new ≡ put_item slots.old x slot }
+{
+    let next = slot_at(slots, x).next;
+    put(slots, x, Slot { next, ..slot });
+}

@@ -1,0 +1,181 @@
+// What a controller keeps.
+ghost use Rattle.std.specs.Prelude.{◌≡◌, slice_set};
+ghost use Rattle.nvme_ctrl.specs.kept.State.{sq_at, cq_at};
+
+use crate::chain::Chain;
+use crate::ring::Ring;
+use nvme_admin::{MAX_REGIONS, TableFields};
+use nvme_arbiter::BoardFields;
+
+/// A submission region: its ring, of which the controller reads, the chain of its commands that are picked and not
+/// taken, and then of those that wait, the number of picked or aborted commands with no completion posted, and the
+/// queue that it was opened for.
+#[repr(C)]
+#[derive(Clone, Copy, Debug, Drop)]
+pub struct SqState {
+    pub ring: Ring,
+    pub window: Chain,
+    pub unposted: u16,
+    pub qid: u16,
+    pub cq_region: u8,
+    /// 1 where it was opened for a queue, else 0.
+    pub opened: u8,
+}
+
+/// A completion region: its ring, of which the host reads, the chain of its commands whose completions are ready, and
+/// the phase tag of the next one.
+#[repr(C)]
+#[derive(Clone, Copy, Debug, Drop)]
+pub struct CqState {
+    pub ring: Ring,
+    pub ready: Chain,
+    /// 1 or 0. (Base Specification, Phase Tag)
+    pub phase: u8,
+}
+
+/// The deletion of a submission queue that began and isn't finished.
+#[repr(C)]
+#[derive(Clone, Copy, Debug, Drop)]
+pub struct Deletion {
+    /// 1 where one is pending, else 0.
+    pub pending: u8,
+    /// The region of the queue.
+    pub region: u8,
+    /// The identifier of the queue.
+    pub qid: u16,
+    /// The slot of the Delete command.
+    pub tag: u16,
+}
+
+/// The core of a controller, of numbers alone: its queue table, the board of its arbiter, and the state of each region.
+/// Its commands are in the slots of a pool, which each call is given.
+#[repr(C)]
+#[derive(Drop)]
+pub struct Controller {
+    pub(crate) table: TableFields,
+    pub(crate) board: BoardFields,
+    pub(crate) sqs: [SqState; MAX_REGIONS],
+    pub(crate) cqs: [CqState; MAX_REGIONS],
+    /// The free slots.
+    pub(crate) free: Chain,
+    /// At most so many commands of a queue wait.
+    pub(crate) window: u16,
+    /// How many commands were picked, or aborted by an Abort command, and have no completion posted.
+    pub(crate) outstanding: u16,
+    /// How many commands are picked and not taken.
+    pub(crate) picked: u16,
+    /// Their region.
+    pub(crate) picked_region: u8,
+    pub(crate) deletion: Deletion,
+}
+
+impl SqState {
+    ghost use Rattle.std.specs.Prelude.{◌≡◌};
+    ghost use Rattle.nvme_ctrl.specs.kept.State.{no_sq_state};
+
+    /// The state of no region.
+    pub fn none() -> SqState
+        ensures { result ≡ no_sq_state }
+    {
+        SqState {
+            ring: Ring {
+                slots: 0,
+                head: 0,
+                tail: 0,
+            },
+            window: Chain {
+                first: 0,
+                last: 0,
+                len: 0,
+            },
+            unposted: 0,
+            qid: 0,
+            cq_region: 0,
+            opened: 0,
+        }
+    }
+}
+
+impl CqState {
+    ghost use Rattle.std.specs.Prelude.{◌≡◌};
+    ghost use Rattle.nvme_ctrl.specs.kept.State.{no_cq_state};
+
+    /// The state of no region.
+    pub fn none() -> CqState
+        ensures { result ≡ no_cq_state }
+    {
+        CqState {
+            ring: Ring {
+                slots: 0,
+                head: 0,
+                tail: 0,
+            },
+            ready: Chain {
+                first: 0,
+                last: 0,
+                len: 0,
+            },
+            phase: 1,
+        }
+    }
+}
+
+impl Controller {
+    ghost use Rattle.std.specs.Prelude.{◌≡◌, slice_set};
+    ghost use Rattle.nvme_ctrl.specs.kept.State.{sq_at, cq_at, picked_in};
+
+    /// The state of a submission region.
+    pub(crate) fn sq(&self, region: u8) -> SqState
+        ensures { result ≡ sq_at self.now.sqs region }
+    {
+        let region = usize::from(region);
+        if region < MAX_REGIONS {
+            self.sqs[region]
+        } else {
+            SqState::none()
+        }
+    }
+
+    /// The state of a completion region.
+    pub(crate) fn cq(&self, region: u8) -> CqState
+        ensures { result ≡ cq_at self.now.cqs region }
+    {
+        let region = usize::from(region);
+        if region < MAX_REGIONS {
+            self.cqs[region]
+        } else {
+            CqState::none()
+        }
+    }
+
+    /// Puts the state of a submission region in its place.
+    pub(crate) fn put_sq(&mut self, region: u8, state: SqState)
+        ensures { self.new ≡ record self.old { sqs = slice_set self.old.sqs region state } }
+    {
+        let region = usize::from(region);
+        if region < MAX_REGIONS {
+            self.sqs[region] = state;
+        }
+    }
+
+    /// Puts the state of a completion region in its place.
+    pub(crate) fn put_cq(&mut self, region: u8, state: CqState)
+        ensures { self.new ≡ record self.old { cqs = slice_set self.old.cqs region state } }
+    {
+        let region = usize::from(region);
+        if region < MAX_REGIONS {
+            self.cqs[region] = state;
+        }
+    }
+
+    /// How many commands of a submission region are picked and not taken.
+    pub(crate) fn picked_in(&self, region: u8) -> u16
+        ensures { result ≡ picked_in self.now region }
+    {
+        if region == self.picked_region {
+            self.picked
+        } else {
+            0
+        }
+    }
+}

@@ -1,0 +1,354 @@
+// The calls of a controller with an admin queue pair of 8 slots, and an I/O queue pair of 4 slots that the host creates.
+ghost use Rattle.std.specs.Prelude.{IfOk, length, ◌<◌, ◌^◌};
+ghost use Rattle.nvme_ctrl.specs.Standing.{IsController};
+
+use nvme_admin::{AdminError, Limits, Region};
+use nvme_arbiter::{Mechanism, Pick, Settings};
+use nvme_ctrl::{Answer, Controller, Post, Slot, Step};
+use nvme_entry::{Sqe, Status};
+use std::alloc::AllocError;
+use std::process::Abort;
+use std::test::*;
+
+// The regions of the admin rings, and the addresses of those of the I/O queue pair.
+const ASQ: Region = Region {
+    address: 0x1000,
+    slots: 8,
+};
+
+const ACQ: Region = Region {
+    address: 0x2000,
+    slots: 8,
+};
+
+const SQ: u64 = 0x3000;
+
+const CQ: u64 = 0x4000;
+
+// What the device answers to a command that succeeds.
+const DONE: Answer = Answer {
+    status: Status::SUCCESS,
+    dw0: 0,
+};
+
+// An entry of an opcode, with its command identifier, PRP1 and Command Dwords 10 and 11.
+fn entry(opcode: u8, cid: u16, prp1: u64, cdw10: u32, cdw11: u32) -> Sqe {
+    Sqe {
+        opcode,
+        flags: 0,
+        cid,
+        nsid: 1,
+        cdw2: 0,
+        cdw3: 0,
+        mptr: 0,
+        prp1,
+        prp2: 0,
+        cdw10,
+        cdw11,
+        cdw12: 0,
+        cdw13: 0,
+        cdw14: 0,
+        cdw15: 0,
+    }
+}
+
+// Creates of completion queue 1 and of submission queue 1, of 4 slots each. (Base Specification, Create I/O Completion
+// Queue, Create I/O Submission Queue)
+fn create_cq(cid: u16) -> Sqe {
+    entry(0x05, cid, CQ, 0x0003_0001, 1)
+}
+
+fn create_sq(cid: u16) -> Sqe {
+    entry(0x01, cid, SQ, 0x0003_0001, 0x0001_0001)
+}
+
+// A read of one block, at block 0. (NVM Command Set Specification, Read)
+fn read(cid: u16) -> Sqe {
+    entry(0x02, cid, 0, 0, 0)
+}
+
+// The next entry of a queue is read, from the slot that the controller tells.
+fn fetch(
+    rt: &impl Abort,
+    ctrl: &mut Controller,
+    slots: &mut [Slot],
+    qid: u16,
+    slot: u16,
+    entry: &Sqe,
+)
+    requires { IsController ctrl.old slots.old }
+    ensures { IsController ctrl.new slots.new }
+{
+    assert_eq!(rt; ctrl.fetch(qid), Some(slot));
+    assert!(rt; ctrl.fetched(slots, qid, entry, u32::from(slot)));
+}
+
+// The host writes a tail doorbell, and a head doorbell.
+fn tail(rt: &impl Abort, ctrl: &mut Controller, slots: &[Slot], qid: u16, slot: u16, rung: bool)
+    requires { IsController ctrl.old slots.now }
+    ensures { IsController ctrl.new slots.now }
+{
+    assert_eq!(rt; ctrl.sq_tail(qid, slot), rung);
+}
+
+fn head(rt: &impl Abort, ctrl: &mut Controller, slots: &[Slot], cqid: u16, slot: u16, rung: bool)
+    requires { IsController ctrl.old slots.now }
+    ensures { IsController ctrl.new slots.now }
+{
+    assert_eq!(rt; ctrl.cq_head(cqid, slot), rung);
+}
+
+// A completion is posted: the slot, SQHD, the command identifier, the phase tag and the status.
+fn posted(rt: &impl Abort, post: Option<Post>, want: (u16, u16, u16, bool), status: Status) {
+    let Some(post) = post else {
+        assert!(rt; false, "none is posted");
+        return;
+    };
+    let cqe = post.cqe;
+    assert_eq!(rt; (post.slot, cqe.sqhd, cqe.cid, cqe.phase), want);
+    assert_eq!(rt; cqe.status, status);
+}
+
+// Adds the regions of the I/O queue pair.
+fn add_regions(ctrl: &mut Controller, slots: &[Slot]) -> Result<(), AdminError>
+    requires { IsController ctrl.old slots.now }
+    ensures { IsController ctrl.new slots.now }
+{
+    ctrl.add_sq_region(SQ, 4)?;
+    ctrl.add_cq_region(CQ, 4)?;
+    Ok(())
+}
+
+// A controller with the I/O regions, whose host created both queues.
+fn prepared(
+    rt: &impl Abort,
+    mechanism: Mechanism,
+    slots: &mut [Slot],
+) -> Result<Controller, AdminError>
+    requires few { length slots.old < 2 ^ 16 }
+    ensures front { IfOk result (λ c. IsController c slots.new) }
+{
+    let limits = Limits { nsq: 4, ncq: 4 };
+    // (no limit on the burst)
+    let settings = Settings::from_cdw11(7);
+    let mut ctrl = Controller::new(mechanism, settings, limits, 4, ASQ, ACQ, slots)?;
+    add_regions(&mut ctrl, slots)?;
+    tail(rt, &mut ctrl, slots, 0, 2, true);
+    fetch(rt, &mut ctrl, slots, 0, 0, &create_cq(10));
+    fetch(rt, &mut ctrl, slots, 0, 1, &create_sq(11));
+    assert_eq!(rt; ctrl.fetch(0), None);
+    step(rt, &mut ctrl, slots, true);
+    step(rt, &mut ctrl, slots, true);
+    post(rt, &mut ctrl, slots, 0, (0, 2, 10, true), Status::SUCCESS);
+    post(rt, &mut ctrl, slots, 0, (1, 2, 11, true), Status::SUCCESS);
+    assert_eq!(rt; ctrl.post(slots, 0), None);
+    head(rt, &mut ctrl, slots, 0, 3, false);
+    head(rt, &mut ctrl, slots, 0, 2, true);
+    Ok(ctrl)
+}
+
+// The device takes the next command, and answers that it succeeded.
+fn serve_one(rt: &impl Abort, ctrl: &mut Controller, slots: &mut [Slot])
+    requires { IsController ctrl.old slots.old }
+    ensures { IsController ctrl.new slots.new }
+{
+    let Some(tag) = ctrl.take(slots) else {
+        assert!(rt; false, "nothing is picked");
+        return;
+    };
+    assert!(rt; ctrl.complete(slots, tag, DONE));
+}
+
+// A step of arbitration.
+fn step(rt: &impl Abort, ctrl: &mut Controller, slots: &mut [Slot], carries_out: bool)
+    requires { IsController ctrl.old slots.old }
+    ensures { IsController ctrl.new slots.new }
+{
+    let step = ctrl.pick(slots);
+    assert_eq!(rt; matches!(step, Step::Done(_)), carries_out);
+    assert!(rt; carries_out || matches!(step, Step::Picked(_)));
+}
+
+// A completion of a region is posted, as `posted` says.
+fn post(
+    rt: &impl Abort,
+    ctrl: &mut Controller,
+    slots: &mut [Slot],
+    region: u8,
+    want: (u16, u16, u16, bool),
+    status: Status,
+)
+    requires { IsController ctrl.old slots.old }
+    ensures { IsController ctrl.new slots.new }
+{
+    posted(rt, ctrl.post(slots, region), want, status);
+}
+
+// Two commands go through the rings from a slot on, with a phase tag.
+fn turn(rt: &impl Abort, ctrl: &mut Controller, slots: &mut [Slot], at: u16, next: u16, phase: bool)
+    requires few { at < 4 }
+    requires front { IsController ctrl.old slots.old }
+    ensures { IsController ctrl.new slots.new }
+{
+    tail(rt, ctrl, slots, 1, next, true);
+    fetch(rt, ctrl, slots, 1, at, &read(30));
+    fetch(rt, ctrl, slots, 1, at + 1, &read(31));
+    step(rt, ctrl, slots, false);
+    serve_one(rt, ctrl, slots);
+    serve_one(rt, ctrl, slots);
+    post(rt, ctrl, slots, 1, (at, next, 30, phase), Status::SUCCESS);
+    post(
+        rt,
+        ctrl,
+        slots,
+        1,
+        (at + 1, next, 31, phase),
+        Status::SUCCESS,
+    );
+    head(rt, ctrl, slots, 1, next, true);
+}
+
+#[test]
+fn commands_go_through(rt: HostRuntime) -> Result<(), Fail> {
+    let mut slots = [Slot::free(); 16];
+    let mut ctrl = prepared(&rt, Mechanism::RoundRobin, &mut slots)?;
+    // three commands fill a ring of four slots
+    tail(&rt, &mut ctrl, &slots, 1, 4, false);
+    tail(&rt, &mut ctrl, &slots, 1, 3, true);
+    tail(&rt, &mut ctrl, &slots, 1, 0, false);
+    fetch(&rt, &mut ctrl, &mut slots, 1, 0, &read(20));
+    fetch(&rt, &mut ctrl, &mut slots, 1, 1, &read(21));
+    fetch(&rt, &mut ctrl, &mut slots, 1, 2, &read(22));
+    assert!(rt;
+        matches!(
+            ctrl.pick(&mut slots),
+            Step::Picked(Pick { qid: 1, n: 3, .. })
+        )
+    );
+    assert_eq!(rt; ctrl.pick(&mut slots), Step::Busy);
+    let (Some(first), Some(second), Some(third)) = (
+        ctrl.take(&mut slots),
+        ctrl.take(&mut slots),
+        ctrl.take(&mut slots),
+    ) else {
+        return Err(Fail::from(AllocError));
+    };
+    assert_eq!(rt; ctrl.take(&mut slots), None);
+    // the device answers in any order, and once
+    assert!(rt; ctrl.complete(&mut slots, third, DONE));
+    assert!(rt; !ctrl.complete(&mut slots, third, DONE));
+    assert!(rt; ctrl.complete(&mut slots, first, DONE));
+    posted(
+        &rt,
+        ctrl.post(&mut slots, 1),
+        (0, 3, 22, true),
+        Status::SUCCESS,
+    );
+    posted(
+        &rt,
+        ctrl.post(&mut slots, 1),
+        (1, 3, 20, true),
+        Status::SUCCESS,
+    );
+    assert_eq!(rt; ctrl.post(&mut slots, 1), None);
+    assert!(rt;
+        ctrl.complete(
+            &mut slots,
+            second,
+            Answer {
+                status: Status::LBA_OUT_OF_RANGE,
+                dw0: 9
+            }
+        )
+    );
+    posted(
+        &rt,
+        ctrl.post(&mut slots, 1),
+        (2, 3, 21, true),
+        Status::LBA_OUT_OF_RANGE,
+    );
+    Ok(())
+}
+
+#[test]
+fn rings_go_round(rt: HostRuntime) -> Result<(), Fail> {
+    let mut slots = [Slot::free(); 16];
+    let mut ctrl = prepared(&rt, Mechanism::RoundRobin, &mut slots)?;
+    turn(&rt, &mut ctrl, &mut slots, 0, 2, true);
+    turn(&rt, &mut ctrl, &mut slots, 2, 0, true);
+    turn(&rt, &mut ctrl, &mut slots, 0, 2, false);
+    Ok(())
+}
+
+#[test]
+fn abort_and_deletion_end_what_waits(rt: HostRuntime) -> Result<(), Fail> {
+    let mut slots = [Slot::free(); 16];
+    let mut ctrl = prepared(&rt, Mechanism::Weighted, &mut slots)?;
+    tail(&rt, &mut ctrl, &slots, 1, 3, true);
+    fetch(&rt, &mut ctrl, &mut slots, 1, 0, &read(40));
+    fetch(&rt, &mut ctrl, &mut slots, 1, 1, &read(41));
+    fetch(&rt, &mut ctrl, &mut slots, 1, 2, &read(42));
+    // Abort of command 41 of queue 1: the admin queue goes first
+    tail(&rt, &mut ctrl, &slots, 0, 4, true);
+    fetch(
+        &rt,
+        &mut ctrl,
+        &mut slots,
+        0,
+        2,
+        &entry(0x08, 12, 0, 41 << 16 | 1, 0),
+    );
+    fetch(&rt, &mut ctrl, &mut slots, 0, 3, &entry(0x00, 13, 0, 1, 0));
+    step(&rt, &mut ctrl, &mut slots, true);
+    post(
+        &rt,
+        &mut ctrl,
+        &mut slots,
+        1,
+        (0, 3, 41, true),
+        Status::ABORT_REQUESTED,
+    );
+    post(
+        &rt,
+        &mut ctrl,
+        &mut slots,
+        0,
+        (2, 4, 12, true),
+        Status::SUCCESS,
+    );
+    // Delete I/O Submission Queue 1
+    step(&rt, &mut ctrl, &mut slots, true);
+    assert_eq!(rt; ctrl.pick(&mut slots), Step::Busy);
+    tail(&rt, &mut ctrl, &slots, 1, 0, false);
+    assert_eq!(rt; (ctrl.fetch(0), ctrl.fetch(1)), (None, None));
+    assert_eq!(rt; ctrl.finish(&mut slots), None);
+    post(
+        &rt,
+        &mut ctrl,
+        &mut slots,
+        1,
+        (1, 3, 40, true),
+        Status::ABORTED_BY_DELETION,
+    );
+    assert_eq!(rt; ctrl.finish(&mut slots), None);
+    post(
+        &rt,
+        &mut ctrl,
+        &mut slots,
+        1,
+        (2, 3, 42, true),
+        Status::ABORTED_BY_DELETION,
+    );
+    assert_eq!(rt; ctrl.post(&mut slots, 0), None);
+    assert_eq!(rt; ctrl.finish(&mut slots), Some(1));
+    post(
+        &rt,
+        &mut ctrl,
+        &mut slots,
+        0,
+        (3, 4, 13, true),
+        Status::SUCCESS,
+    );
+    assert_eq!(rt; ctrl.pick(&mut slots), Step::Idle);
+    Ok(())
+}

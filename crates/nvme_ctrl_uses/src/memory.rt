@@ -1,0 +1,50 @@
+// Guest memory, as far as the controller's rings lie in it.
+use nvme_entry::{Cqe, Sqe, Status};
+
+/// The slots of each ring.
+pub const SLOTS: usize = 8;
+
+/// The slots of two rings of a kind: that of the admin queue, and that of one I/O queue.
+pub const ALL_SLOTS: usize = 16;
+
+/// The rings, one after the other by region: the submission rings, and the completion rings.
+#[derive(Drop)]
+pub struct Memory {
+    pub sqs: [Sqe; ALL_SLOTS],
+    pub cqs: [Cqe; ALL_SLOTS],
+}
+
+// Where a slot of a region's ring lies.
+fn place(region: u8, slot: u16) -> usize {
+    usize::from(region) * SLOTS + usize::from(slot)
+}
+
+impl Memory {
+    /// Memory that nobody wrote.
+    pub fn new() -> Memory {
+        let cqe = Cqe {
+            dw0: 0,
+            sqhd: 0,
+            sqid: 0,
+            cid: 0,
+            phase: false,
+            status: Status::SUCCESS,
+        };
+        Memory {
+            sqs: [Sqe::default(); ALL_SLOTS],
+            cqs: [cqe; ALL_SLOTS],
+        }
+    }
+
+    /// The entry in a slot of a submission ring, where there is one.
+    pub fn read(&self, region: u8, slot: u16) -> Option<Sqe> {
+        self.sqs.get(place(region, slot)).copied()
+    }
+
+    /// Writes a completion into a slot of a completion ring, where there is one.
+    pub fn write(&mut self, region: u8, slot: u16, cqe: Cqe) {
+        if let Some(entry) = self.cqs.get_mut(place(region, slot)) {
+            *entry = cqe;
+        }
+    }
+}
