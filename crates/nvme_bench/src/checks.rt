@@ -2,10 +2,10 @@
 use crate::boards::{come, pick_from_board, ready_board};
 use crate::picks::name_of;
 use crate::rates::{Yardstick, tell};
-use anyhow::Result;
+use anyhow::{Result, bail};
 use nvme_arbiter::{Mechanism, Settings};
 use nvme_log::{Event, Listed};
-use nvme_trace::{check, write_trace};
+use nvme_trace::{Checked, check, write_trace};
 use std::alloc::Global;
 use std::rt::Clock;
 use std::time::{Duration, Instant};
@@ -33,10 +33,21 @@ fn trace_of(alloc: Global, mechanism: Mechanism, count: u32) -> Result<Vec<u8>> 
     Ok(text)
 }
 
+// Whether a check finds a trace lawful.
+fn is_lawful(alloc: Global, text: &[u8]) -> bool {
+    match check(alloc, text) {
+        Ok(Checked::Lawful { .. }) => true,
+        Ok(Checked::Refused(_)) => false,
+        Err(_) => false,
+    }
+}
+
 // Checks a trace `times` times.
 fn check_often(alloc: Global, text: &[u8], times: u32) -> Result<()> {
     for _ in 0..times {
-        let _ = check(alloc, text)?;
+        if !is_lawful(alloc, text) {
+            bail!("the trace isn't lawful");
+        }
     }
     Ok(())
 }
