@@ -20,7 +20,7 @@ use Rattle.nvme_log.specs.Completions.{posted_to, phase_after}
 use Rattle.nvme_ctrl.specs.Notes.{Notes, Logged, Tail, Head, Taken, Answered, logged}
 use Rattle.nvme_ctrl.specs.Doorbells.{gap, sq_slots, cq_slots, submitted, consumed}
 use Rattle.nvme_ctrl.specs.Rings.{HasCounts, first_ring}
-use Rattle.nvme_ctrl.specs.Making.{with_region, is_late}
+use Rattle.nvme_ctrl.specs.Making.{with_region, is_late, adding_fault}
 use Rattle.nvme_ctrl.specs.Account.{IsAccount}
 use Rattle.nvme_ctrl.specs.declared.slot.Slot.{Slot}
 use Rattle.nvme_ctrl.specs.declared.state.SqState.{SqState}
@@ -30,7 +30,7 @@ use Rattle.nvme_ctrl.specs.kept.Content.{Attachment, Content}
 use Rattle.nvme_ctrl.specs.kept.Kept.{HasNumbers, HasItems, HoldsDoorbells, HoldsTags, StandsAt, tags_of, ready_tags}
 use Rattle.nvme_ctrl.specs.kept.Pool.{IsChain}
 use Rattle.nvme_ctrl.specs.kept.State.{sq_at, cq_at, attachment_of}
-use Rattle.nvme_ctrl.proofs.AddedTables.{slots_last, slots_past, slots_other, sq-more, sq-same, cq-more, cq-same, sq-same_sq, sq-same_cq, sq-same_used, sq-more_sqs, sq-same_cqs, cq-same_cq, cq-same_sq, cq-same_used, cq-same_sqs, cq-more_cqs}
+use Rattle.nvme_ctrl.proofs.AddedTables.{sq-added, sq-leaves, cq-added, cq-leaves, slots_last, slots_past, slots_other, sq-more, sq-same, cq-more, cq-same, sq-same_sq, sq-same_cq, sq-same_used, sq-more_sqs, sq-same_cqs, cq-same_cq, cq-same_sq, cq-same_used, cq-same_sqs, cq-more_cqs}
 use Rattle.nvme_ctrl.proofs.Growing.{Grows, grown, none_fetched, holds_when_grown}
 use Rattle.nvme_ctrl.proofs.RegionStates.{put_sq-each, put_cq-each}
 
@@ -161,6 +161,22 @@ module _ (rules : FrontRules) (late : Bool) (notes : Notes) (c : Controller) (po
       let early = is_early late notes on_time in
       s.holds.tabled.history_is early.1 ∙ ap (λ (ns : Notes). table_history rules (logged ns)) early.0
 
+-- ---- what is refused
+module _ (rules : FrontRules) (late : Bool) (notes : Notes) (c : Controller) (pool : List Slot) (s : StandsAt rules late notes c pool) (a n : ℕ) where
+  -- the regions of the table are those of the rules
+  table_sqs : (view_of c.table).sq_regions ≡ sq_regions_of rules
+  table_sqs = ap (λ (t : TableView). t.sq_regions) s.numbers.table_is ∙ s.holds.tabled.sq_regions_are
+
+  table_cqs : (view_of c.table).cq_regions ≡ cq_regions_of rules
+  table_cqs = ap (λ (t : TableView). t.cq_regions) s.numbers.table_is ∙ s.holds.tabled.cq_regions_are
+
+  -- so what the table refuses is what the rules refuse
+  pub sq-fault : region_fault (view_of c.table) (view_of c.table).sq_regions a n ≡ adding_fault Submission a n rules
+  sq-fault = λ i. region_fault (record (view_of c.table) { sq_regions = table_sqs i; cq_regions = table_cqs i }) (table_sqs i) a n
+
+  pub cq-fault : region_fault (view_of c.table) (view_of c.table).cq_regions a n ≡ adding_fault Completion a n rules
+  cq-fault = λ i. region_fault (record (view_of c.table) { sq_regions = table_sqs i; cq_regions = table_cqs i }) (table_cqs i) a n
+
 -- ---- a submission region more
 -- the state of the region, of which nothing was submitted
 abbrev pub begun_sq : Controller → ℕ → ℕ → SqState
@@ -236,6 +252,9 @@ module _ (rules : FrontRules) (late : Bool) (notes : Notes) (c : Controller) (po
           few_cqs = s.holds.tabled.few_cqs;
           sq_slots_are = λ x. refl;
           cq_slots_are = λ x. cq_slots_left x ∙ s.holds.tabled.cq_slots x;
+          sq_regions_are = sq-added rules.start h s.content.table (view_of table) a n before after
+              ∙ ap (λ (rs : List Region). rs ++ record { address = a; slots = n } ∷ []) s.holds.tabled.sq_regions_are ∙ sym (sq-more a n rules);
+          cq_regions_are = sq-leaves rules.start h s.content.table (view_of table) a n before after ∙ s.holds.tabled.cq_regions_are ∙ sym (sq-same a n rules);
         }
 
     sq_numbers : HasNumbers (with_sq_region c table r n) sq_added
@@ -413,6 +432,9 @@ module _ (rules : FrontRules) (late : Bool) (notes : Notes) (c : Controller) (po
           few_cqs = omega (arith, cq_few, cq_is_next);
           sq_slots_are = λ x. sq_slots_left x ∙ s.holds.tabled.sq_slots x;
           cq_slots_are = λ x. refl;
+          sq_regions_are = cq-leaves rules.start h s.content.table (view_of table) a n before after ∙ s.holds.tabled.sq_regions_are ∙ sym (cq-same a n rules);
+          cq_regions_are = cq-added rules.start h s.content.table (view_of table) a n before after
+              ∙ ap (λ (rs : List Region). rs ++ record { address = a; slots = n } ∷ []) s.holds.tabled.cq_regions_are ∙ sym (cq-more a n rules);
         }
 
     cq_numbers : HasNumbers (with_cq_region c table r n) cq_added

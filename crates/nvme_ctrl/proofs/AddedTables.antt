@@ -64,10 +64,20 @@ module _ (start : Start) (h : TableHistory) (v w : TableView) (a n : ℕ) (befor
       ap (λ (rs : List Region). length rs) after.sq_regions ∙ length_push (queue_table start h).sq_regions (record { address = a; slots = n })
       ∙ ap (λ (rs : List Region). length rs + 1) (sym before.sq_regions)
 
-  -- and as many completion regions
+  -- which is the new one,
+  pub sq-added : StandsAt start w (RegionAdded Submission a n ∷ h) → w.sq_regions ≡ v.sq_regions ++ record { address = a; slots = n } ∷ []
+  unfolding effects_of queue_table
+  sq-added after = after.sq_regions ∙ ap (λ (rs : List Region). rs ++ record { address = a; slots = n } ∷ []) (sym before.sq_regions)
+
+  -- and the completion regions are left,
+  pub sq-leaves : StandsAt start w (RegionAdded Submission a n ∷ h) → w.cq_regions ≡ v.cq_regions
+  unfolding effects_of queue_table
+  sq-leaves after = after.cq_regions ∙ sym before.cq_regions
+
+  -- as many as they are
   pub sq-same_cqs : StandsAt start w (RegionAdded Submission a n ∷ h) → length w.cq_regions ≡ length v.cq_regions
   unfolding effects_of queue_table
-  sq-same_cqs after = ap (λ (rs : List Region). length rs) (after.cq_regions ∙ sym before.cq_regions)
+  sq-same_cqs after = ap (λ (rs : List Region). length rs) (sq-leaves after)
 
   -- a new completion region leaves the completion queues of the table,
   pub cq-same_cq : StandsAt start w (RegionAdded Completion a n ∷ h) → 0 < length v.cq_regions → (q : ℕ) → cq_of w q ≡ cq_of v q
@@ -84,17 +94,27 @@ module _ (start : Start) (h : TableHistory) (v w : TableView) (a n : ℕ) (befor
   unfolding effects_of queue_table
   cq-same_used after r = after.sq_used r ∙ sym (before.sq_used r)
 
-  -- there are as many submission regions,
+  -- the submission regions are left,
+  pub cq-leaves : StandsAt start w (RegionAdded Completion a n ∷ h) → w.sq_regions ≡ v.sq_regions
+  unfolding effects_of queue_table
+  cq-leaves after = after.sq_regions ∙ sym before.sq_regions
+
+  -- as many as they are,
   pub cq-same_sqs : StandsAt start w (RegionAdded Completion a n ∷ h) → length w.sq_regions ≡ length v.sq_regions
   unfolding effects_of queue_table
-  cq-same_sqs after = ap (λ (rs : List Region). length rs) (after.sq_regions ∙ sym before.sq_regions)
+  cq-same_sqs after = ap (λ (rs : List Region). length rs) (cq-leaves after)
 
-  -- and one completion region more
+  -- and there is one completion region more,
   pub cq-more_cqs : StandsAt start w (RegionAdded Completion a n ∷ h) → length w.cq_regions ≡ length v.cq_regions + 1
   unfolding effects_of queue_table
   cq-more_cqs after =
       ap (λ (rs : List Region). length rs) after.cq_regions ∙ length_push (queue_table start h).cq_regions (record { address = a; slots = n })
       ∙ ap (λ (rs : List Region). length rs + 1) (sym before.cq_regions)
+
+  -- which is the new one
+  pub cq-added : StandsAt start w (RegionAdded Completion a n ∷ h) → w.cq_regions ≡ v.cq_regions ++ record { address = a; slots = n } ∷ []
+  unfolding effects_of queue_table
+  cq-added after = after.cq_regions ∙ ap (λ (rs : List Region). rs ++ record { address = a; slots = n } ∷ []) (sym before.cq_regions)
 
 -- ---- slots
 -- the slots of regions with one more

@@ -57,12 +57,12 @@ pub record IsSplit (its : List Item) : Type 0 where
   pub rest : List Item
   pub is : its ≡ first ∷ rest
 
-split : (its : List Item) → 1 ≤ length its → IsSplit its
+pub split : (its : List Item) → 1 ≤ length its → IsSplit its
 split [] some = absurd (omega arith)
 split (x ∷ xs) some = record { first = x; rest = xs; is = refl }
 
 -- as many candidates as items
-length-candidates : (its : List Item) → length (map candidate_of its) ≡ length its
+pub length-candidates : (its : List Item) → length (map candidate_of its) ≡ length its
 length-candidates [] = refl
 length-candidates (it ∷ its) = let rest = length-candidates its in omega arith
 

@@ -80,6 +80,8 @@ module _ (rules : FrontRules) (late : Bool) (past : Past) (k : Content) (cq : �
     few_cqs = h.few_cqs;
     sq_slots = h.sq_slots;
     cq_slots = λ c. h.cq_slots c ∙ sym (slots c);
+    sq_regions_are = h.sq_regions_are;
+    cq_regions_are = h.cq_regions_are;
   }
 
 -- a ready completion more leaves the slots of each completion region

@@ -222,6 +222,8 @@ module _ (mechanism : Mechanism) (settings : ArbitrationFields) (limits : Limits
     few_cqs = omega arith;
     sq_slots = λ r. refl;
     cq_slots = λ c. refl;
+    sq_regions_are = shown.sq_regions;
+    cq_regions_are = shown.cq_regions;
   }
 
   -- all of it

@@ -44,6 +44,8 @@ pub record Grows (rules : FrontRules) (late : Bool) (past : Past) (regions : Tab
   pub few_cqs : ncq ≤ MAX_REGIONS
   pub sq_slots_are : (r : ℕ) → slots_at (sq_regions_of (record rules { regions = regions })) r ≡ sq_slots r
   pub cq_slots_are : (c : ℕ) → slots_at (cq_regions_of (record rules { regions = regions })) c ≡ cq_slots c
+  pub sq_regions_are : table.sq_regions ≡ sq_regions_of (record rules { regions = regions })
+  pub cq_regions_are : table.cq_regions ≡ cq_regions_of (record rules { regions = regions })
 
 -- a sum over more regions, of which the further ones have nothing
 sum_by-further : (f : ℕ → ℕ) (m n : ℕ) → m ≤ n → ((r : ℕ) → m ≤ r → f r ≡ 0) → sum_by f (upto n) ≡ sum_by f (upto m)
@@ -181,6 +183,8 @@ module _ (rules : FrontRules) (late later : Bool) (past : Past) (k : Content) (s
     few_cqs = g.few_cqs;
     sq_slots = g.sq_slots_are;
     cq_slots = g.cq_slots_are;
+    sq_regions_are = g.sq_regions_are;
+    cq_regions_are = g.cq_regions_are;
   }
 
   -- before the first event nothing has a status

@@ -61,6 +61,7 @@ pub mod AnswerCall
 pub mod DoorbellCalls
 pub mod FewUnposted
 pub mod PickCall
+pub mod FullCall
 pub mod SlotStates
 pub mod FetchCalls
 pub mod NoPosts

@@ -33,7 +33,7 @@ use Rattle.nvme_ctrl.specs.Notes.{Notes, logged}
 use Rattle.nvme_ctrl.specs.Doorbells.{submitted}
 use Rattle.nvme_ctrl.specs.Rings.{HasCounts}
 use Rattle.nvme_ctrl.specs.Tags.{taken}
-use Rattle.nvme_ctrl.specs.Steps.{IsNextPick, HasStepped, IsBusy, LacksPlaces, picked_notes}
+use Rattle.nvme_ctrl.specs.Steps.{IsNextPick, HasStepped, IsBusy, picked_notes}
 use Rattle.nvme_ctrl.specs.declared.state.SqState.{SqState}
 use Rattle.nvme_ctrl.specs.kept.Content.{Candidate, SqContent, Content}
 use Rattle.nvme_ctrl.specs.kept.Standing.{Holds, IsAttached}
@@ -414,15 +414,3 @@ pub is_busy : (rules : FrontRules) (late : Bool) (notes : Notes) (c : Controller
     → (c.picked ≢ 0) ⊎ (c.deletion.pending ≢ 0) → IsBusy notes
 is_busy rules late notes c slots s (inl some) = inl (busy_picked rules late notes c slots s some)
 is_busy rules late notes c slots s (inr some) = inr (busy_deleting rules late notes c slots s some)
-
--- the places of the next pick aren't free
-pub lacks_places : (rules : FrontRules) (late : Bool) (notes : Notes) (c : Controller) (slots : List Slot) → StandsAt rules late notes c slots → (pick : Pick)
-    → IsNextPick rules notes (Some pick) → max_outstanding - c.outstanding < places_in c slots pick → LacksPlaces rules notes
-lacks_places rules late notes c slots s pick next lacking = record { pick = pick; next = next; places = by (pick.qid == 0 && is_abort_entry (Some (oldest_entry c slots))) refl lacking } where
-  count : c.outstanding ≡ outstanding rules (logged notes)
-  count = s.numbers.outstanding_is ∙ s.holds.counts.outstanding_is
-
-  by : (b : Bool) → (pick.qid == 0 && is_abort_entry (Some (oldest_entry c slots))) ≡ b → max_outstanding - c.outstanding < (if b then 2 else pick.n)
-      → (max_outstanding < outstanding rules (logged notes) + pick.n) ⊎ ((pick.qid ≡ 0) × (max_outstanding < outstanding rules (logged notes) + 2))
-  by true e less = inr (eqb-true pick.qid 0 (and_parts (pick.qid == 0) (is_abort_entry (Some (oldest_entry c slots))) e).0, omega (arith, count, less))
-  by false e less = inl (omega (arith, count, less))

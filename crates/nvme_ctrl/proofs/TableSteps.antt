@@ -120,6 +120,8 @@ held rules late past later k after t l sqs cqs h stands is = record {
   few_cqs = subst (λ (n : ℕ). n ≤ MAX_REGIONS) (sym l.ncq) t.few_cqs;
   sq_slots = λ r. t.sq_slots r ∙ sym (l.sq r);
   cq_slots = λ c. t.cq_slots c ∙ sym (l.cq c);
+  sq_regions_are = sqs ∙ t.sq_regions_are;
+  cq_regions_are = cqs ∙ t.cq_regions_are;
 }
 
 -- a fetch leaves the table

@@ -1,15 +1,15 @@
 -- The device takes a picked command: the controller stands at its log afterwards.
-use Rattle.std.proofs.Common.{◌≡◌, ◌≢◌, ℕ, ◌+◌, ◌-◌, ◌<◌, ◌≤◌, ◌^◌, ◌==◌, Bool, true, if◌then◌else◌, List, [], ◌∷◌, ◌++◌, length, map, take, drop, Some, None, refl, sym, ap, ◌∙◌, subst, arith, inl, inr}
+use Rattle.std.proofs.Common.{◌≡◌, ◌≢◌, ℕ, ◌+◌, ◌-◌, ◌<◌, ◌≤◌, ◌^◌, ◌==◌, Bool, true, if◌then◌else◌, List, [], ◌∷◌, ◌++◌, length, map, take, drop, Option, Some, None, refl, sym, ap, ◌∙◌, subst, arith, inl, inr}
 use Rattle.std.specs.Prelude.{slice_get, slice_set}
 use Rattle.std.specs.List.{All}
 use Rattle.std.proofs.lemmas.Bool.{cases_lt, cases_eq, eq-eqb, ne_eqb}
-use Rattle.std.proofs.lemmas.List.{append_assoc, map-append, length-set, get_or_past}
+use Rattle.std.proofs.lemmas.List.{append-nil, append_assoc, map-append, length-set, get_or_past}
 use Rattle.std.proofs.lemmas.List.Elements.{All-head, All-tail, All-push, All-weaker, All-map}
 use Rattle.std.proofs.lemmas.Option.{same_Some}
 use Rattle.nvme_entry.specs.declared.submission.Sqe.{Sqe}
 use Rattle.nvme_log.specs.Rules.{FrontRules}
 use Rattle.nvme_log.specs.Places.{fetched}
-use Rattle.nvme_log.specs.Dispatches.{place_at}
+use Rattle.nvme_log.specs.Dispatches.{place_at, dispatched}
 use Rattle.nvme_log.specs.declared.place.Place.{Place}
 use Rattle.nvme_ctrl.specs.Notes.{Notes, Taken, logged}
 use Rattle.nvme_ctrl.specs.Doorbells.{submitted}
@@ -328,3 +328,19 @@ take-stands rules late notes c slots s some chain tag first others = by (s.items
         index = it.place.index;
         stands = take-first rules late notes c slots s it rest is some chain (others it.tag (tags_of rest) linked);
       })
+
+-- where none is picked that the device hasn't taken, it took all that was picked
+pub none_left : (rules : FrontRules) (late : Bool) (notes : Notes) (c : Controller) (slots : List Slot) → StandsAt rules late notes c slots → c.picked ≡ 0 → dispatched (logged notes) ≡ taken notes
+none_left rules late notes c slots s none =
+    s.tags.untaken_are ∙ ap (λ (n : ℕ). taken notes ++ places_of (take n (s.items.windows c.picked_region))) none ∙ append-nil (taken notes)
+
+-- the chain of the picked region has a first slot, where one is
+pub take-first_there : (rules : FrontRules) (late : Bool) (notes : Notes) (c : Controller) (slots : List Slot) → StandsAt rules late notes c slots → c.picked ≢ 0
+    → (popped : Option ℕ) → ((x : ℕ) (rest : List ℕ) → IsChain slots (sq_at c.sqs c.picked_region).window (x ∷ rest) → popped ≡ Some x) → popped ≢ None
+take-first_there rules late notes c slots s some popped first none = by (s.items.windows c.picked_region) refl where
+  by : (ws : List Item) → s.items.windows c.picked_region ≡ ws → ⊥
+  by [] is = some (let there = s.has.picked_there in omega (arith, there, ap (λ (ws : List Item). length ws) is))
+  by (it ∷ rest) is =
+      let here = first it.tag (tags_of rest) (subst (λ (ws : List Item). IsChain slots (sq_at c.sqs c.picked_region).window (tags_of ws)) is (s.has.window_chain c.picked_region)) in
+      let there : None ≡ Some it.tag = sym none ∙ here in
+      absurd (cc)

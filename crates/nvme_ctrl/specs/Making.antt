@@ -1,14 +1,15 @@
 -- The rules of a controller that is made, and of one with a region more. (profile)
-use Rattle.std.specs.Prelude.{ℕ, ◌==◌, ◌||◌, nat_lt, Bool, true, if◌then◌else◌, List, [], ◌∷◌, Option, Some, None}
+use Rattle.std.specs.Prelude.{ℕ, ◌==◌, ◌||◌, nat_lt, Bool, true, if◌then◌else◌, List, [], ◌∷◌, length, Option, Some, None, is_some}
 use Rattle.nvme_arbiter.specs.Settings.{ArbitrationFields}
 use Rattle.nvme_arbiter.specs.declared.settings.Mechanism.{Mechanism}
 use Rattle.nvme_admin.specs.History.{Kind, RegionAdded, Submission, Completion, TableHistory}
-use Rattle.nvme_admin.specs.declared.bounds.TheConstants.{MIN_SLOTS, MAX_SLOTS}
+use Rattle.nvme_admin.specs.QueueTable.{region_number}
+use Rattle.nvme_admin.specs.declared.bounds.TheConstants.{MAX_REGIONS, MIN_SLOTS, MAX_SLOTS}
 use Rattle.nvme_admin.specs.declared.limits.Limits.{Limits}
 use Rattle.nvme_admin.specs.declared.region.Region.{Region}
 use Rattle.nvme_admin.specs.declared.region.AdminError.{AdminError}
-use Rattle.nvme_admin.specs.declared.region.AdminError.TheVariants.{Used, Size}
-use Rattle.nvme_log.specs.Rules.{FrontRules}
+use Rattle.nvme_admin.specs.declared.region.AdminError.TheVariants.{Used, TooMany, Size}
+use Rattle.nvme_log.specs.Rules.{FrontRules, sq_regions_of, cq_regions_of}
 use Rattle.nvme_ctrl.specs.Notes.{Notes}
 
 -- the steps that add the admin regions
@@ -35,6 +36,23 @@ admin_fault sq cq =
 -- the rules with a region more
 abbrev pub with_region : Kind → (address slots : ℕ) → FrontRules → FrontRules
 with_region kind address slots rules = record rules { regions = RegionAdded kind address slots ∷ rules.regions }
+
+-- the regions of a kind
+abbrev pub regions_of : Kind → FrontRules → List Region
+regions_of Submission rules = sq_regions_of rules
+regions_of Completion rules = cq_regions_of rules
+
+-- an address is that of a region of either kind
+abbrev pub is_region : FrontRules → ℕ → Bool
+is_region rules address = is_some (region_number (sq_regions_of rules) address) || is_some (region_number (cq_regions_of rules) address)
+
+-- why a region can't be added, where it can't: the first cause
+abbrev pub adding_fault : Kind → (address slots : ℕ) → FrontRules → Option AdminError
+adding_fault kind address slots rules =
+    if is_region rules address then Some Used
+    else (if length (regions_of kind rules) == MAX_REGIONS then Some TooMany
+    else (if nat_lt slots MIN_SLOTS || nat_lt MAX_SLOTS slots then Some Size
+    else None))
 
 -- a region is added after the first event
 abbrev pub is_late : Bool → Notes → Bool

@@ -10,6 +10,7 @@ use Rattle.nvme_log.specs.declared.event.Event.TheVariants as event
 use Rattle.nvme_log.specs.Rules.{FrontRules}
 use Rattle.nvme_log.specs.Places.{waiting, observation_of}
 use Rattle.nvme_log.specs.Histories.{arbitration_of}
+use Rattle.nvme_log.specs.Aborts.{places_for}
 use Rattle.nvme_log.specs.Effects.{made_by}
 use Rattle.nvme_log.specs.Answers.{Answer}
 use Rattle.nvme_log.specs.Dispatches.{dispatched}
@@ -57,11 +58,11 @@ pub record HasCarriedOut (rules : FrontRules) (late : Bool) (notes : Notes) (ver
 abbrev pub IsBusy : Notes → Type 0
 IsBusy notes = (length (taken notes) < length (dispatched (logged notes))) ⊎ (pending (logged notes) ≢ None)
 
--- the next pick needs more places than are free. One of the admin queue may need a second one, for what an Abort command aborts
+-- the next pick needs more places than are free
 pub record LacksPlaces (rules : FrontRules) (notes : Notes) : Type 0 where
   pub pick : Pick
   pub next : IsNextPick rules notes (Some pick)
-  pub places : (max_outstanding < outstanding rules (logged notes) + pick.n) ⊎ ((pick.qid ≡ 0) × (max_outstanding < outstanding rules (logged notes) + 2))
+  pub places : max_outstanding < outstanding rules (logged notes) + places_for (logged notes) pick
 
 -- a step of arbitration. Where it did nothing, it leaves the controller as it was
 abbrev pub HasStepped : FrontRules → Bool → Notes → Step → Controller → List Slot → Type 0

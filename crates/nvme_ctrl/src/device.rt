@@ -15,18 +15,20 @@ impl Controller {
     ghost use Rattle.std.specs.Prelude.{◌≡◌, ℕ, ◌≢◌, Bool, true, false, List, ◌∷◌, None, Some, IfSome};
     ghost use Rattle.nvme_log.specs.Rules.{FrontRules};
     ghost use Rattle.nvme_log.specs.Answers as log;
-    ghost use Rattle.nvme_ctrl.specs.Notes.{Notes};
-    ghost use Rattle.nvme_ctrl.specs.Tags.{is_out};
+    ghost use Rattle.nvme_log.specs.Dispatches.{dispatched};
+    ghost use Rattle.nvme_ctrl.specs.Notes.{Notes, logged};
+    ghost use Rattle.nvme_ctrl.specs.Tags.{is_out, taken};
     ghost use Rattle.nvme_ctrl.specs.Standing.{Stands, IsController};
     ghost use Rattle.nvme_ctrl.specs.Calls.{HasTaken, HasAnswered};
     ghost use Rattle.nvme_ctrl.specs.declared.slot.Slot.{Slot};
 
     /// The device takes the next picked command. Its slot is its tag until its completion is posted. None, which changes
-    /// nothing, where all that was picked is taken.
+    /// nothing, exactly where all that was picked is taken.
     pub fn take(&mut self, slots: &mut [Slot]) -> Option<u16>
         requires front { IsController self.old slots.old }
         ensures front { IsController self.new slots.new }
         ensures none { result ≡ None → (self.new ≡ self.old) × (slots.new ≡ slots.old) }
+        ensures told { (rules : FrontRules) (late : Bool) (notes : Notes) → Stands rules late notes self.old slots.old → result ≡ None → dispatched (logged notes) ≡ taken notes }
         ensures stands { (rules : FrontRules) (late : Bool) (notes : Notes) → Stands rules late notes self.old slots.old → IfSome result (λ tag. HasTaken rules late notes tag self.new slots.new) }
     {
         if self.picked == 0 {

@@ -26,7 +26,7 @@ impl Controller {
     ghost use Rattle.nvme_ctrl.specs.Notes.{Notes};
     ghost use Rattle.nvme_ctrl.specs.Standing.{Stands, IsController};
     ghost use Rattle.nvme_ctrl.specs.Calls.{window_limit};
-    ghost use Rattle.nvme_ctrl.specs.Making.{first_rules, with_region, is_late, admin_fault};
+    ghost use Rattle.nvme_ctrl.specs.Making.{first_rules, with_region, is_late, admin_fault, adding_fault};
     ghost use Rattle.nvme_ctrl.specs.declared.slot.Slot.{Slot};
 
     /// A controller with its admin regions alone, region 0 of each kind, and with all slots of the pool free. The admin
@@ -72,11 +72,14 @@ impl Controller {
     }
 
     /// Adds a submission region of `slots` slots, and answers its number, which counts from 0 in the order of adding.
-    /// Refused as `Table::add_sq_region` refuses; a refusal changes nothing. (profile)
+    /// Refused where its address is that of another region, where there are `MAX_REGIONS` of its kind, and where the
+    /// number of slots is outside its limits, in this order. A refusal changes nothing. (profile)
     pub fn add_sq_region(&mut self, address: u64, slots: u16) -> Result<u8, AdminError>
         ensures unchanged { OnErr result (self.new ≡ self.old) }
         ensures window { window_limit self.new ≡ window_limit self.old }
         ensures front { (pool : List Slot) → IsController self.old pool → IsController self.new pool }
+        ensures refused { (rules : FrontRules) (late : Bool) (notes : Notes) (pool : List Slot) → Stands rules late notes self.old pool → IfErr result (λ e. adding_fault Submission address slots rules ≡ Some e) }
+        ensures added { (rules : FrontRules) (late : Bool) (notes : Notes) (pool : List Slot) → Stands rules late notes self.old pool → OnOk result (adding_fault Submission address slots rules ≡ None) }
         ensures number { (rules : FrontRules) (late : Bool) (notes : Notes) (pool : List Slot) → Stands rules late notes self.old pool → IfOk result (λ r. r ≡ length (sq_regions_of rules)) }
         ensures stands { (rules : FrontRules) (late : Bool) (notes : Notes) (pool : List Slot) → Stands rules late notes self.old pool → IfOk result (λ r. Stands (with_region Submission address slots rules) (is_late late notes) notes self.new pool) }
     {
@@ -92,6 +95,8 @@ impl Controller {
         ensures unchanged { OnErr result (self.new ≡ self.old) }
         ensures window { window_limit self.new ≡ window_limit self.old }
         ensures front { (pool : List Slot) → IsController self.old pool → IsController self.new pool }
+        ensures refused { (rules : FrontRules) (late : Bool) (notes : Notes) (pool : List Slot) → Stands rules late notes self.old pool → IfErr result (λ e. adding_fault Completion address slots rules ≡ Some e) }
+        ensures added { (rules : FrontRules) (late : Bool) (notes : Notes) (pool : List Slot) → Stands rules late notes self.old pool → OnOk result (adding_fault Completion address slots rules ≡ None) }
         ensures number { (rules : FrontRules) (late : Bool) (notes : Notes) (pool : List Slot) → Stands rules late notes self.old pool → IfOk result (λ r. r ≡ length (cq_regions_of rules)) }
         ensures stands { (rules : FrontRules) (late : Bool) (notes : Notes) (pool : List Slot) → Stands rules late notes self.old pool → IfOk result (λ r. Stands (with_region Completion address slots rules) (is_late late notes) notes self.new pool) }
     {

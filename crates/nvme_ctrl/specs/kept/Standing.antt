@@ -213,6 +213,8 @@ pub record HoldsTable (rules : FrontRules) (late : Bool) (past : Past) (k : Cont
   pub few_cqs : k.ncq ≤ MAX_REGIONS
   pub sq_slots : (r : ℕ) → slots_at (sq_regions_of rules) r ≡ (k.sq r).slots
   pub cq_slots : (c : ℕ) → slots_at (cq_regions_of rules) c ≡ (k.cq c).slots
+  pub sq_regions_are : k.table.sq_regions ≡ sq_regions_of rules
+  pub cq_regions_are : k.table.cq_regions ≡ cq_regions_of rules
 
 -- ---- own statuses
 -- the answer that a ready completion gives

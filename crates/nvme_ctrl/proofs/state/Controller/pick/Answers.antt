@@ -3,7 +3,8 @@ use Rattle.nvme_arbiter.specs.declared.pick.Pick.{Pick}
 use Rattle.nvme_log.specs.Limits.{max_outstanding}
 use Rattle.nvme_ctrl.specs.Steps.{IsNextPick}
 use Rattle.nvme_ctrl.specs.inside.Picks.{places_in}
-use Rattle.nvme_ctrl.proofs.PickCall.{next_is, is_busy, lacks_places}
+use Rattle.nvme_ctrl.proofs.FullCall.{lacks_places}
+use Rattle.nvme_ctrl.proofs.PickCall.{next_is, is_busy}
 use Rattle.nvme_ctrl.proofs.state.Controller.pick.Goals as goal
 use Rattle.nvme_ctrl.proofs.state.Controller.pick.Goals.{then-self-ne0-via-then-self-ne0, then-self-ne0-via-else-self-ne0+then-self-ne0-2}
 
@@ -26,7 +27,7 @@ returns-then-places_for-saturating_sub-clause-stands c rules late notes s =
     subst (λ (o : Option Pick). IsNextPick rules notes o) c.in-Some.is (next_is rules late notes c.args.self.now c.args.slots.now s c.peek.result c.peek.ensures.lawful) in
     let lacking : max_outstanding - c.args.self.now.outstanding < places_in c.args.self.now c.args.slots.now c.in-Some.pick =
     (let a = c.if-places_for-saturating_sub.true in let b = c.places_for.ensures in let d = c.saturating_sub.ensures in omega (arith, a, b, d)) in
-    (s, lacks_places rules late notes c.args.self.now c.args.slots.now s c.in-Some.pick next lacking)
+    (s, lacks_places rules late notes c.args.self.now c.args.slots.now s c.if-self-ne0.false c.in-Some.pick next lacking)
 
 pub returns-then-pick-eq0-clause-front : goal.returns-then-pick-eq0-clause-front
 returns-then-pick-eq0-clause-front c =

@@ -1,5 +1,5 @@
 -- What was popped is the oldest picked command, which is taken then.
-use Rattle.std.proofs.Common.{◌≡◌, ℕ, ◌-◌, List, ◌∷◌, sym, ap, subst, ◌∙◌}
+use Rattle.std.proofs.Common.{◌≡◌, ℕ, ◌-◌, List, ◌∷◌, None, refl, sym, ap, subst, ◌∙◌}
 use Rattle.std.specs.Prelude.{slice_set}
 use Rattle.nvme_ctrl.specs.Notes.{Taken}
 use Rattle.nvme_ctrl.specs.Calls.{HasTaken}
@@ -8,7 +8,7 @@ use Rattle.nvme_ctrl.specs.declared.state.SqState.{SqState}
 use Rattle.nvme_ctrl.specs.declared.state.Controller.{Controller}
 use Rattle.nvme_ctrl.specs.kept.Pool.{put_item, IsChain}
 use Rattle.nvme_ctrl.specs.kept.State.{sq_at}
-use Rattle.nvme_ctrl.proofs.TakeCall.{took, took_pool, took_slot, took_sq, take-stands}
+use Rattle.nvme_ctrl.proofs.TakeCall.{took, took_pool, took_slot, took_sq, take-stands, take-first_there}
 use Rattle.nvme_ctrl.proofs.state.Controller.take.Goals as goal
 
 pub returns-clause-stands : goal.returns-clause-stands
@@ -33,3 +33,8 @@ returns-clause-front c =
     let was = c.requires.front in
     let now = returns-clause-stands c was.rules was.late was.notes was.stands in
     record { rules = was.rules; late = was.late; notes = Taken c.in_ok-tag.tag now.region now.index ∷ was.notes; stands = now.stands }
+
+pub returns-in_err-tag-clause-told : goal.returns-in_err-tag-clause-told
+returns-in_err-tag-clause-told c rules late notes s told =
+    absurd (take-first_there rules late notes c.args.self.now c.args.slots.now s c.if-self-eq0.false None
+    (λ x rest linked. c.in_err-tag.ensures.some x rest (subst (λ (q : SqState). IsChain c.args.slots.now q.window (x ∷ rest)) (sym c.sq-sq.ensures) linked)) refl)
