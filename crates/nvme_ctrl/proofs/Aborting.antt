@@ -1,5 +1,5 @@
 -- An Abort command takes the oldest candidate that it names out of a window: its completion is ready.
-use Rattle.std.proofs.Common.{◌≡◌, ◌≢◌, ℕ, ◌+◌, ◌-◌, ◌<◌, ◌==◌, Bool, true, false, if◌then◌else◌, List, [], ◌∷◌, ◌++◌, length, map, drop, Option, Some, None, refl, sym, ap, ◌∙◌, subst, arith, inl}
+use Rattle.std.proofs.Common.{◌≡◌, ◌≢◌, ℕ, ◌+◌, ◌-◌, ◌<◌, ◌==◌, Bool, true, false, if◌then◌else◌, List, [], ◌∷◌, ◌++◌, length, map, drop, Option, Some, None, refl, sym, ap, ◌∙◌, subst, arith, inl, ◌&&◌}
 use Rattle.std.specs.Prelude.{slice_set, min, IsTrue, IsSomeAnd, IfSome}
 use Rattle.std.specs.List.{All}
 use Rattle.std.proofs.lemmas.List.{map-append}
@@ -19,6 +19,8 @@ use Rattle.nvme_admin.specs.declared.verdict.SqEntry.{SqEntry}
 use Rattle.nvme_entry.specs.Status.{abort_requested}
 use Rattle.nvme_entry.specs.declared.submission.Sqe.{Sqe}
 use Rattle.nvme_log.specs.Rules.{FrontRules}
+use Rattle.nvme_ctrl.proofs.Cookies.{cookie_left, same_cookies}
+use Rattle.nvme_ctrl.specs.Tags.{cookie_of}
 use Rattle.nvme_ctrl.specs.Notes.{Notes}
 use Rattle.nvme_ctrl.specs.declared.slot.Slot.{Slot}
 use Rattle.nvme_ctrl.specs.declared.chain.Chain.{Chain}
@@ -26,7 +28,7 @@ use Rattle.nvme_ctrl.specs.declared.state.SqState.{SqState}
 use Rattle.nvme_ctrl.specs.declared.state.Controller.{Controller}
 use Rattle.nvme_ctrl.specs.kept.Content.{Candidate, Ready, SqContent, Content, with_sq, with_ready}
 use Rattle.nvme_ctrl.specs.inside.Steps.{requested, oldest_named, without_oldest}
-use Rattle.nvme_ctrl.specs.kept.Kept.{Item, Items, IsWaitingIn, IsUnanswered, IsThrough, tags_of, candidate_of}
+use Rattle.nvme_ctrl.specs.kept.Kept.{Item, Items, IsWaitingIn, IsUnanswered, IsThrough, tags_of, candidate_of, IsCookie, HasCookie}
 use Rattle.nvme_ctrl.specs.inside.Loose.{IsLoose, Keeps, MakesReady, ended, with_item}
 use Rattle.nvme_ctrl.specs.inside.Carrying.{IsAbortableIn, HasRequested}
 use Rattle.nvme_ctrl.specs.kept.Pool.{slot_at, item_at, IsChain, IsNew, SameItems, SameLinks, named_in, without_named}
@@ -114,7 +116,8 @@ loose_same slots mid g y same h = let state = ap (λ (s : Slot). s.state) (same.
 -- a command that ends as an Abort command asked
 abbrev pub KeepsRequest : (a : Controller) (slots : List Slot) (tag region : ℕ) (b : Controller) (pool : List Slot) → Type 0
 KeepsRequest a slots tag region b pool =
-    (rules : FrontRules) (notes : Notes) (k : Content) (g : Items) (t : Ready) → Keeps rules notes a slots k g → IsLoose slots g tag → MakesReady slots tag 4 abort_requested 0 t → IsThrough notes t → region < 65
+    (rules : FrontRules) (notes : Notes) (k : Content) (g : Items) (t : Ready) → Keeps rules notes a slots k g → IsLoose slots g tag → MakesReady slots tag 4 abort_requested 0 t → IsThrough notes t
+    → IsCookie notes slots tag t.place → region < 65
     → Keeps rules notes b pool (with_ready k region t) (with_item g region (ended tag t))
 
 -- the board with a candidate less
@@ -216,7 +219,7 @@ module _ (rules : FrontRules) (notes : Notes) (a : Controller) (slots : List Slo
     items = with_item (with_window g region rest) ab.c (ended x.tag t);
     keeps = subst (λ (z : ℕ). Keeps rules notes b pool (with_ready later z t) (with_item (with_window g region rest) z (ended x.tag t))) to
         (subst (λ (z : ℕ). KeepsRequest m mid z sq.cq_region b pool) (sym f.tag_is) request rules notes later (with_window g region rest) t keeps (loose_same slots mid (with_window g region rest) x.tag same loose) made
-        (inl (ab.is_aborted (candidate_of x) oldest)) (subst (λ (z : ℕ). z < 65) (sym to) ab.posts_there));
+        (inl (ab.is_aborted (candidate_of x) oldest)) cookie (subst (λ (z : ℕ). z < 65) (sym to) ab.posts_there));
     loose = loose_ended mid pool (with_window g region rest) x.tag ab.c t y size (λ z differ. others z (λ e. differ (e ∙ sym f.tag_is))) (another y other)
         (loose_same slots mid (with_window g region rest) y same (loose_windowed slots g region rest y other (left_loose y other)));
     slot = others y (λ e. another y other (e ∙ sym f.tag_is)) ∙ same.items y;
@@ -243,7 +246,7 @@ module _ (rules : FrontRules) (notes : Notes) (a : Controller) (slots : List Slo
     windowed =
         keeps_windowed rules notes a slots k g h none region ab.there s c rest mid same links refl (h.numbers.sq_queue region) unposted_is refl
         (subst (IsChain mid chain) f.without without) (others_hold (IsWaitingIn slots region) (h.has.window_items region)) (ap (without_oldest cid) window_is ∙ f.among.left)
-        (others_hold (λ (it : Item). IsUnanswered notes it.place) (h.tags.windows_unanswered region))
+        (others_hold (λ (it : Item). IsUnanswered notes it.place) (h.tags.windows_unanswered region)) (others_hold (HasCookie notes slots) (h.tags.cookies.windows region))
 
     keeps : Keeps rules notes m mid later (with_window g region rest)
     keeps =
@@ -251,6 +254,12 @@ module _ (rules : FrontRules) (notes : Notes) (a : Controller) (slots : List Slo
         (sym (m_is ∙ ap (λ (z : SqState). record a { sqs = slice_set a.sqs region (record z { window = chain; unposted = n }); board = board; outstanding = o }) sq_is))
         (keeps_outstanding rules notes (record a { sqs = slice_set a.sqs region s }) mid (with_sq k region c) (with_window g region rest) board (board_of board) o (k.outstanding + 1) windowed refl
         (subst (λ (z : ArbiterFields). IsTrue (is_arbiter z)) (sym arbiter) h.numbers.is_arbiter) (outstanding ∙ ap (λ (z : ℕ). z + 1) h.numbers.outstanding_is))
+
+    cookie : IsCookie notes mid x.tag t.place
+    cookie = cookie_left notes slots mid (same_cookies slots mid same) x.tag t.place
+        (subst (λ (r : ℕ). cookie_of notes r x.place.index ≡ Some (slot_at slots x.tag).cookie) first.place
+        (All-head (HasCookie notes slots) x f.among.behind
+        (All-parts (HasCookie notes slots) f.among.before (x ∷ f.among.behind) (subst (All (HasCookie notes slots)) f.among.whole (h.tags.cookies.windows region))).1))
 
     made : MakesReady mid x.tag 4 abort_requested 0 t
     made = let same_slot = same.items x.tag in record {

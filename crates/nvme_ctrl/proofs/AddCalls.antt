@@ -17,7 +17,7 @@ use Rattle.nvme_log.specs.Histories.{table_history}
 use Rattle.nvme_log.specs.Rules.{FrontRules, sq_regions_of, cq_regions_of, slots_at}
 use Rattle.nvme_log.specs.Places.{fetched}
 use Rattle.nvme_log.specs.Completions.{posted_to, phase_after}
-use Rattle.nvme_ctrl.specs.Notes.{Notes, Logged, Tail, Head, Taken, Answered, logged}
+use Rattle.nvme_ctrl.specs.Notes.{Notes, Logged, Tail, Head, Kept, Taken, Answered, logged}
 use Rattle.nvme_ctrl.specs.Doorbells.{gap, sq_slots, cq_slots, submitted, consumed}
 use Rattle.nvme_ctrl.specs.Rings.{HasCounts, first_ring}
 use Rattle.nvme_ctrl.specs.Making.{with_region, is_late, adding_fault}
@@ -31,6 +31,7 @@ use Rattle.nvme_ctrl.specs.kept.Kept.{HasNumbers, HasItems, HoldsDoorbells, Hold
 use Rattle.nvme_ctrl.specs.kept.Pool.{IsChain}
 use Rattle.nvme_ctrl.specs.kept.State.{sq_at, cq_at, attachment_of}
 use Rattle.nvme_ctrl.proofs.AddedTables.{sq-added, sq-leaves, cq-added, cq-leaves, slots_last, slots_past, slots_other, sq-more, sq-same, cq-more, cq-same, sq-same_sq, sq-same_cq, sq-same_used, sq-more_sqs, sq-same_cqs, cq-same_cq, cq-same_sq, cq-same_used, cq-same_sqs, cq-more_cqs}
+use Rattle.nvme_ctrl.proofs.Cookies.{cookies_left}
 use Rattle.nvme_ctrl.proofs.Growing.{Grows, grown, none_fetched, holds_when_grown}
 use Rattle.nvme_ctrl.proofs.RegionStates.{put_sq-each, put_cq-each}
 
@@ -72,6 +73,7 @@ submitted_same rules others (Tail region slot ∷ notes) r e = λ i.
     if region == r then submitted_same rules others notes r e i + gap (e i) (submitted_same rules others notes r e i % e i) slot else submitted_same rules others notes r e i
 submitted_same rules others (Logged event ∷ notes) r e = submitted_same rules others notes r e
 submitted_same rules others (Head c slot ∷ notes) r e = submitted_same rules others notes r e
+submitted_same rules others (Kept c i cookie ∷ notes) r e = submitted_same rules others notes r e
 submitted_same rules others (Taken tag c i ∷ notes) r e = submitted_same rules others notes r e
 submitted_same rules others (Answered c i answer ∷ notes) r e = submitted_same rules others notes r e
 
@@ -81,6 +83,7 @@ consumed_same rules others (Head region slot ∷ notes) r e = λ i.
     if region == r then consumed_same rules others notes r e i + gap (e i) (consumed_same rules others notes r e i % e i) slot else consumed_same rules others notes r e i
 consumed_same rules others (Logged event ∷ notes) r e = consumed_same rules others notes r e
 consumed_same rules others (Tail c slot ∷ notes) r e = consumed_same rules others notes r e
+consumed_same rules others (Kept c i cookie ∷ notes) r e = consumed_same rules others notes r e
 consumed_same rules others (Taken tag c i ∷ notes) r e = consumed_same rules others notes r e
 consumed_same rules others (Answered c i answer ∷ notes) r e = consumed_same rules others notes r e
 
@@ -109,6 +112,7 @@ submitted_none rules others (Tail region slot ∷ notes) r e = elim (cases_Bool 
 ]
 submitted_none rules others (Logged event ∷ notes) r e = submitted_none rules others notes r e
 submitted_none rules others (Head c slot ∷ notes) r e = submitted_none rules others notes r e
+submitted_none rules others (Kept c i cookie ∷ notes) r e = submitted_none rules others notes r e
 submitted_none rules others (Taken tag c i ∷ notes) r e = submitted_none rules others notes r e
 submitted_none rules others (Answered c i answer ∷ notes) r e = submitted_none rules others notes r e
 
@@ -130,6 +134,7 @@ consumed_none rules others (Head region slot ∷ notes) r e = elim (cases_Bool (
 ]
 consumed_none rules others (Logged event ∷ notes) r e = consumed_none rules others notes r e
 consumed_none rules others (Tail c slot ∷ notes) r e = consumed_none rules others notes r e
+consumed_none rules others (Kept c i cookie ∷ notes) r e = consumed_none rules others notes r e
 consumed_none rules others (Taken tag c i ∷ notes) r e = consumed_none rules others notes r e
 consumed_none rules others (Answered c i answer ∷ notes) r e = consumed_none rules others notes r e
 
@@ -337,6 +342,7 @@ module _ (rules : FrontRules) (late : Bool) (notes : Notes) (c : Controller) (po
       answered_held = t.answered_held;
       hand_entries = t.hand_entries;
       free_count = t.free_count;
+      cookies = cookies_left notes pool pool (λ y. refl) c _ s.items refl t.cookies;
     }
 
     -- the controller stands with the region
@@ -517,6 +523,7 @@ module _ (rules : FrontRules) (late : Bool) (notes : Notes) (c : Controller) (po
       answered_held = t.answered_held;
       hand_entries = t.hand_entries;
       free_count = t.free_count;
+      cookies = cookies_left notes pool pool (λ y. refl) c _ s.items refl t.cookies;
     }
 
     -- the controller stands with the region

@@ -27,14 +27,14 @@ use Rattle.nvme_log.specs.Rules.{FrontRules}
 use Rattle.nvme_log.specs.Histories.{arbitration_of}
 use Rattle.nvme_log.specs.Queues.{Queue, admin_queue, open_sq}
 use Rattle.nvme_ctrl.specs.Notes.{Notes, logged}
-use Rattle.nvme_ctrl.specs.Tags.{answer_of}
+use Rattle.nvme_ctrl.specs.Tags.{answer_of, cookie_of}
 use Rattle.nvme_ctrl.specs.declared.slot.Slot.{Slot}
 use Rattle.nvme_ctrl.specs.declared.chain.Chain.{Chain}
 use Rattle.nvme_ctrl.specs.declared.state.SqState.{SqState}
 use Rattle.nvme_ctrl.specs.declared.state.Controller.{Controller}
 use Rattle.nvme_ctrl.specs.kept.Content.{Candidate, Content}
 use Rattle.nvme_ctrl.specs.inside.Steps.{CanPick, picked_sq, applied_to}
-use Rattle.nvme_ctrl.specs.kept.Kept.{Item, Items, IsWaitingIn, IsUnanswered, StandsAt, tags_of, candidate_of}
+use Rattle.nvme_ctrl.specs.kept.Kept.{Item, Items, IsWaitingIn, IsUnanswered, HasCookie, StandsAt, tags_of, candidate_of}
 use Rattle.nvme_ctrl.specs.inside.Loose.{IsLoose, Keeps}
 use Rattle.nvme_ctrl.specs.inside.Carrying.{IsApplied}
 use Rattle.nvme_ctrl.specs.inside.Picks.{places_in, oldest_entry}
@@ -144,6 +144,9 @@ module _ (rules : FrontRules) (late : Bool) (notes : Notes) (c : Controller) (sl
   unanswered_all : All (λ (it : Item). IsUnanswered notes it.place) (x ∷ rest)
   unanswered_all = subst (All (λ (it : Item). IsUnanswered notes it.place)) oldest.is (s.tags.windows_unanswered 0)
 
+  cookies_all : All (HasCookie notes slots) (x ∷ rest)
+  cookies_all = subst (All (HasCookie notes slots)) oldest.is (s.tags.cookies.windows 0)
+
   window_is : (k.sq 0).window ≡ candidate_of x ∷ map candidate_of rest
   window_is = window_all ∙ ap (λ (its : List Item). map candidate_of its) oldest.is
 
@@ -195,6 +198,7 @@ module _ (rules : FrontRules) (late : Bool) (notes : Notes) (c : Controller) (sl
         keeps_windowed rules notes c slots k g keeps none 0 (omega arith) picked_state (picked_sq (k.sq 0) 1) rest slots (record { size = refl; items = λ z. refl }) (λ z new. refl)
         refl (s.numbers.sq_queue 0) (n_is ∙ ap (λ (z : SqState). z.unposted + 1) sq_is ∙ ap (λ (z : ℕ). z + 1) (s.numbers.sq_unposted 0)) refl popped (All-tail (IsWaitingIn slots 0) x rest waits)
         (ap (λ (w : List Candidate). drop 1 w) window_is) (All-tail (λ (it : Item). IsUnanswered notes it.place) x rest unanswered_all)
+        (All-tail (HasCookie notes slots) x rest cookies_all)
 
     keeps_applied : Keeps rules notes m slots (applied_to k (board_of board) (view_of table)) (with_window g 0 rest)
     keeps_applied =
@@ -235,6 +239,8 @@ module _ (rules : FrontRules) (late : Bool) (notes : Notes) (c : Controller) (sl
       region = ap (λ (z : ℕ). (slot_at slots z).region) tag_is ∙ first.region;
       entry = ap (λ (z : ℕ). (slot_at slots z).entry) tag_is ∙ first.entry;
       unanswered = subst (λ (r : ℕ). answer_of notes r x.place.index ≡ None) first.place (All-head (λ (it : Item). IsUnanswered notes it.place) x rest unanswered_all);
+      cookie = subst (λ (z : ℕ). cookie_of notes 0 x.place.index ≡ Some (slot_at slots z).cookie) (sym tag_is)
+          (subst (λ (r : ℕ). cookie_of notes r x.place.index ≡ Some (slot_at slots x.tag).cookie) first.place (All-head (HasCookie notes slots) x rest cookies_all));
     }
 
 -- ---- as it is picked

@@ -1,5 +1,5 @@
 -- The device answers a command: the controller stands at its log afterwards.
-use Rattle.std.proofs.Common.{◌≡◌, ◌≢◌, ℕ, ◌+◌, ◌<◌, ◌≤◌, ◌^◌, ◌==◌, Bool, true, false, if◌then◌else◌, List, [], ◌∷◌, ◌++◌, length, drop, get_or, Option, Some, None, refl, sym, ap, ◌∙◌, subst, arith, inl, inr}
+use Rattle.std.proofs.Common.{◌≡◌, ◌≢◌, ℕ, ◌+◌, ◌<◌, ◌≤◌, ◌^◌, ◌==◌, Bool, true, false, if◌then◌else◌, List, [], ◌∷◌, ◌++◌, length, drop, get_or, Option, Some, None, refl, sym, ap, ◌∙◌, subst, arith, inl, inr, ◌&&◌}
 use Rattle.std.specs.Prelude.{slice_set, is_none}
 use Rattle.std.specs.List.{All}
 use Rattle.std.proofs.lemmas.Bool.{cases_eq, eq-eqb, ne_eqb}
@@ -27,9 +27,10 @@ use Rattle.nvme_ctrl.specs.declared.state.Controller.{Controller}
 use Rattle.nvme_ctrl.specs.kept.Content.{Content, CqContent, Ready}
 use Rattle.nvme_ctrl.specs.kept.Standing.{Holds, IsReady, answer_in}
 use Rattle.nvme_ctrl.specs.inside.Steps.{done}
-use Rattle.nvme_ctrl.specs.kept.Kept.{Item, ReadyItem, Items, IsWaitingIn, IsOutIn, IsReadyIn, IsAmongOuts, HasNumbers, HasItems, HoldsDoorbells, HoldsTags, IsThrough, IsUnanswered, HasEntry, StandsAt, tags_of, places_of, ready_tags, readies_of, untaken, pending_of, is_free}
+use Rattle.nvme_ctrl.specs.kept.Kept.{Item, ReadyItem, Items, IsWaitingIn, IsOutIn, IsReadyIn, IsAmongOuts, HasNumbers, HasItems, HoldsDoorbells, HoldsTags, IsThrough, IsUnanswered, HasCookie, HasReadyCookie, HasEntry, StandsAt, tags_of, places_of, ready_tags, readies_of, untaken, pending_of, is_free}
 use Rattle.nvme_ctrl.specs.kept.Pool.{slot_at, item_at, put_item, IsChain, IsNew, AreApart, SameItems, SameLinks}
 use Rattle.nvme_ctrl.specs.kept.State.{sq_at, cq_at}
+use Rattle.nvme_ctrl.proofs.Cookies.{SameCookies, same_cookies-but, cookie_left, items_left, readies_left}
 use Rattle.nvme_ctrl.proofs.Pools.{length-put_item, item_at-put_item_same, item_at-put_item_other, chain-put_item, chain-other, length-apart, AreApart-others, IsNew-others}
 use Rattle.nvme_ctrl.proofs.OwnStatus.{All-unmap}
 use Rattle.nvme_ctrl.proofs.ReadyHand.{All-taken}
@@ -382,7 +383,21 @@ module _ (rules : FrontRules) (late : Bool) (notes : Notes) (c : Controller) (sl
     hand_entries = All-same (HasEntry (logged notes)) (before ++ after ++ untaken c g) (before ++ (after ++ untaken c g)) hand_left
         (has_entries rules late notes c slots k g s n h t before it after are answer).1;
     free_count = t.free_count ∙ ap (λ (m : ℕ). m + all_posts (logged notes)) (sym size);
-  }
+    cookies = record {
+      windows = λ r. items_left notes slots new same (g.windows r) (t.cookies.windows r);
+      outs = items_left notes slots new same (before ++ after) cookies.1;
+      readies = at_put (λ y ws. All (HasReadyCookie notes new) ws) g.readies x (g.readies x ++ item ∷ [])
+          (readies_left notes slots new same (g.readies x ++ item ∷ []) (All-push (HasReadyCookie notes slots) (g.readies x) item (t.cookies.readies x) cookies.0))
+          (λ y other. readies_left notes slots new same (g.readies y) (t.cookies.readies y));
+      deletion = λ pending. cookie_left notes slots new same c.deletion.tag (place_at 0 g.delete_index) (t.cookies.deletion pending);
+      none = t.cookies.none;
+    };
+  } where
+    same : SameCookies slots new
+    same = same_cookies-but slots new it.tag others (ap (λ (z : Slot). z.cookie) now)
+
+    cookies : HasCookie notes slots it × All (HasCookie notes slots) (before ++ after)
+    cookies = All-taken (HasCookie notes slots) before it after (All-same (HasCookie notes slots) (before ++ it ∷ after) g.outs (sym are) t.cookies.outs)
 
   -- the note is lawful
   is_answer : IsAnswer rules notes it.place.region it.place.index answer

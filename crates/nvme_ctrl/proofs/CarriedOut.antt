@@ -19,8 +19,9 @@ use Rattle.nvme_log.specs.Answers.{Answer, by_answers}
 use Rattle.nvme_log.specs.Effects.{made_by, is_effect}
 use Rattle.nvme_log.specs.Account.{PostsOwnBy}
 use Rattle.nvme_log.specs.Aborts.{is_index}
+use Rattle.nvme_ctrl.specs.kept.Pool.{slot_at}
 use Rattle.nvme_ctrl.specs.Notes.{Notes, Logged, Answered, EachNote, logged}
-use Rattle.nvme_ctrl.specs.Tags.{answer_of, answers}
+use Rattle.nvme_ctrl.specs.Tags.{answer_of, answers, cookie_of}
 use Rattle.nvme_ctrl.specs.Account.{IsLawfulEvent, IsLawful, IsAccount, IsCarriedOut, FetchesSubmitted, PostsOnFreeSlot, PostsWhatIsThrough}
 use Rattle.nvme_ctrl.specs.Steps.{with_logged, picked_notes, HasCarriedOut}
 use Rattle.nvme_ctrl.specs.declared.slot.Slot.{Slot}
@@ -39,7 +40,7 @@ use Rattle.nvme_ctrl.proofs.AdminEvents.{next-admin}
 use Rattle.nvme_ctrl.proofs.AdminPick.{deleted_region, target_region}
 use Rattle.nvme_ctrl.proofs.Counts.{outstanding-pick}
 use Rattle.nvme_ctrl.proofs.EffectEvents.{AreEffects, made_are_effects, made_leave_region, effects_leave_fetched}
-use Rattle.nvme_ctrl.proofs.LaterNotes.{logged-with, answer_of-logged, keeps-picked, IsOther, keeps-answered}
+use Rattle.nvme_ctrl.proofs.LaterNotes.{logged-with, answer_of-logged, cookie_of-logged, keeps-picked, IsOther, keeps-answered}
 use Rattle.nvme_ctrl.proofs.OwnStatus.{IsAnswerable, ready_is_answerable, answerable_is_done, candidates_wait, oldest_waits, waiting_is_unaborted, All-unmap}
 use Rattle.nvme_ctrl.proofs.SlotItems.{All-parts}
 use Rattle.nvme_ctrl.proofs.Windows.{window-below, window-ascending}
@@ -131,6 +132,10 @@ module _ (rules : FrontRules) (late : Bool) (notes : Notes) (a : Controller) (sl
 
   pub unanswered : answer_of made_notes 0 h.candidate.index ≡ None
   unanswered = answer_of-logged made (picked_notes notes h.pick) 0 h.candidate.index ∙ h.unanswered
+
+  -- so has its slot what the caller keeps with it
+  pub cookie_kept : cookie_of made_notes 0 h.candidate.index ≡ Some (slot_at slots tag).cookie
+  cookie_kept = cookie_of-logged made (picked_notes notes h.pick) 0 h.candidate.index ∙ h.cookie
 
   -- the controller keeps the same at them
   pub keeps_made : Keeps rules made_notes a slots applied h.items

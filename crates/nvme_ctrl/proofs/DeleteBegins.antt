@@ -1,5 +1,5 @@
 -- The deletion of a submission queue begins: its candidates are dropped, and its command waits in a slot of its own.
-use Rattle.std.proofs.Common.{◌≡◌, ◌≢◌, ℕ, ◌+◌, ◌<◌, ◌≤◌, ◌^◌, List, [], ◌++◌, length, map, drop, Some, None, refl, sym, ap, ◌∙◌, subst, arith, inl, inr, eq-eqb}
+use Rattle.std.proofs.Common.{◌≡◌, ◌≢◌, ℕ, ◌+◌, ◌<◌, ◌≤◌, ◌^◌, List, [], ◌++◌, length, map, drop, Some, None, refl, sym, ap, ◌∙◌, subst, arith, inl, inr, eq-eqb, Bool, true, false, if◌then◌else◌, ◌&&◌, ◌==◌}
 use Rattle.std.specs.Prelude.{slice_set, IsTrue, min}
 use Rattle.std.proofs.lemmas.Bool.{cases_eq}
 use Rattle.std.proofs.lemmas.List.{length-map}
@@ -17,12 +17,13 @@ use Rattle.nvme_ctrl.specs.declared.state.SqState.{SqState}
 use Rattle.nvme_ctrl.specs.declared.state.Controller.{Controller}
 use Rattle.nvme_ctrl.specs.kept.Content.{Candidate, SqContent, Content, put_sq, put_cq, with_sq}
 use Rattle.nvme_ctrl.specs.inside.Steps.{aborted}
-use Rattle.nvme_ctrl.specs.kept.Kept.{Item, ReadyItem, Items, IsWaitingIn, IsOutIn, IsReadyIn, HasItems, HoldsTags, candidate_of, is_free}
+use Rattle.nvme_ctrl.specs.kept.Kept.{Item, ReadyItem, Items, IsWaitingIn, IsOutIn, IsReadyIn, IsCookie, HoldsCookies, HasItems, HoldsTags, candidate_of, is_free}
 use Rattle.nvme_ctrl.specs.inside.Loose.{IsLoose, Keeps}
 use Rattle.nvme_ctrl.specs.inside.Carrying.{IsDroppable, dropped, HasDropped, deleting, HasBegun}
 use Rattle.nvme_ctrl.specs.kept.Pool.{slot_at, item_at, put_item}
 use Rattle.nvme_ctrl.specs.kept.State.{sq_at}
 use Rattle.nvme_ctrl.proofs.CarriedOut.{none_picked_in}
+use Rattle.nvme_ctrl.proofs.Cookies.{SameCookies, same_cookies-but, cookie_left, items_left, readies_left}
 use Rattle.nvme_ctrl.proofs.Dropping.{put_sq-twice, window_length}
 use Rattle.nvme_ctrl.proofs.OwnStatus.{All-unmap}
 use Rattle.nvme_ctrl.proofs.Pools.{length-put_item, slot_at-put_item_same, item_at-put_item_other, chain-put_item}
@@ -32,7 +33,8 @@ use Rattle.nvme_ctrl.proofs.Windowed.{keeps_region, keeps_board}
 -- ---- the command waits
 -- what is kept, where a slot that is in no list has the command of the deletion
 module _ (rules : FrontRules) (notes : Notes) (a : Controller) (slots : List Slot) (k : Content) (g : Items) (h : Keeps rules notes a slots k g) (tag qid region : ℕ) (loose : IsLoose slots g tag)
-    (candidate : Candidate) (entry : (slot_at slots tag).entry ≡ candidate.entry) (unanswered : answer_of notes 0 candidate.index ≡ None) where
+    (candidate : Candidate) (entry : (slot_at slots tag).entry ≡ candidate.entry) (unanswered : answer_of notes 0 candidate.index ≡ None)
+    (cookie : IsCookie notes slots tag (place_at 0 candidate.index)) where
   abbrev put : Slot
   put = record (slot_at slots tag) { state = 6 }
 
@@ -106,7 +108,19 @@ module _ (rules : FrontRules) (notes : Notes) (a : Controller) (slots : List Slo
     answered_held = λ x is. m.answered_held x (had_state x 3 (omega arith) is);
     hand_entries = m.hand_entries;
     free_count = m.free_count ∙ ap (λ (n : ℕ). n + all_posts (logged notes)) (sym size);
-  }
+    cookies = cookies_pending;
+  } where
+    left : SameCookies slots pool
+    left = same_cookies-but slots pool tag others (ap (λ (s : Slot). s.cookie) here)
+
+    cookies_pending : HoldsCookies notes pending pool later
+    cookies_pending = let q = h.tags.cookies in record {
+      windows = λ r. items_left notes slots pool left (g.windows r) (q.windows r);
+      outs = items_left notes slots pool left g.outs q.outs;
+      readies = λ x. readies_left notes slots pool left (g.readies x) (q.readies x);
+      deletion = λ some. cookie_left notes slots pool left tag (place_at 0 candidate.index) cookie;
+      none = q.none;
+    }
 
   pub begun_pending : HasBegun rules notes waiting_content pending pool
   begun_pending = record {
@@ -169,7 +183,7 @@ n_counted rules notes a slots k g region sq h none sq_is few =
 -- ---- all of it
 module _ (rules : FrontRules) (notes : Notes) (a : Controller) (slots : List Slot) (k : Content) (g : Items) (tag qid region c : ℕ) (candidate : Candidate)
     (h : Keeps rules notes a slots k g) (none : a.picked ≡ 0) (loose : IsLoose slots g tag) (entry : (slot_at slots tag).entry ≡ candidate.entry)
-    (unanswered : answer_of notes 0 candidate.index ≡ None) (d : IsDroppable notes k qid region c)
+    (unanswered : answer_of notes 0 candidate.index ≡ None) (cookie : IsCookie notes slots tag (place_at 0 candidate.index)) (d : IsDroppable notes k qid region c)
     (sq : SqState) (n : ℕ) (sq_is : sq ≡ sq_at a.sqs region) (n_is : n ≡ sq.unposted + sq.window.len)
     (m : Controller) (m_is : m ≡ record a { sqs = slice_set a.sqs region (record sq { unposted = n }) }) where
   abbrev count : ℕ
@@ -220,6 +234,6 @@ module _ (rules : FrontRules) (notes : Notes) (a : Controller) (slots : List Slo
       (keeps_board rules notes w mid (dropped counted qid region c) e.items board now e.keeps
       (closed ∙ ap (λ (z : BoardView). record z { queues = slice_set z.queues qid None }) e.keeps.numbers.board_is)
       (subst (λ (z : ArbiterFields). IsTrue (is_arbiter z)) (sym arbiter) e.keeps.numbers.is_arbiter))
-      tag qid region e.loose candidate (ap (λ (z : Slot). z.entry) e.slot ∙ entry) unanswered))) where
+      tag qid region e.loose candidate (ap (λ (z : Slot). z.entry) e.slot ∙ entry) unanswered (cookie ∙ ap (λ (z : Slot). Some z.cookie) (sym e.slot))))) where
         now : BoardView
         now = record k.board { queues = slice_set k.board.queues qid None }

@@ -1,8 +1,8 @@
 -- A fetch from a queue: when it may be made, and that the controller stands at its log afterwards.
-use Rattle.std.proofs.Common.{◌≡◌, ◌≢◌, ℕ, ◌+◌, ◌-◌, ◌%◌, ◌^◌, ◌<◌, ◌≤◌, ◌==◌, Bool, false, if◌then◌else◌, List, [], ◌∷◌, ◌++◌, length, map, take, drop, Option, Some, None, refl, sym, ap, ◌∙◌, subst, arith, inl, inr, length-append, length-drop}
+use Rattle.std.proofs.Common.{◌≡◌, ◌≢◌, ℕ, ◌+◌, ◌-◌, ◌%◌, ◌^◌, ◌<◌, ◌≤◌, ◌==◌, Bool, false, if◌then◌else◌, List, [], ◌∷◌, ◌++◌, length, map, take, drop, Option, Some, None, refl, sym, ap, ◌∙◌, subst, arith, inl, inr, length-append, length-drop, true, ◌&&◌}
 use Rattle.std.specs.Prelude.{slice_set, IsTrue, IsSomeAnd, IfSome, option_map}
 use Rattle.std.specs.List.{All}
-use Rattle.std.proofs.lemmas.Bool.{cases_eq, eq-eqb, ne_eqb}
+use Rattle.std.proofs.lemmas.Bool.{cases_eq, eq-eqb, ne_eqb, and_parts, eqb-true}
 use Rattle.std.proofs.lemmas.List.{length-map, length-set, map-append, take-append-le, drop-append-le}
 use Rattle.std.proofs.lemmas.List.Elements.{All-head, All-tail, All-same, All-cons, All-weaker, All-push}
 use Rattle.std.proofs.lemmas.Option.{same_Some}
@@ -20,12 +20,13 @@ use Rattle.nvme_log.specs.Rules.{FrontRules, Past}
 use Rattle.nvme_log.specs.Queues.{Queue, open_sq}
 use Rattle.nvme_log.specs.Places.{fetched, waiting}
 use Rattle.nvme_log.specs.Dispatches.{place_at}
-use Rattle.nvme_ctrl.specs.Notes.{Notes, Logged, logged}
+use Rattle.nvme_log.specs.declared.place.Place.{Place}
+use Rattle.nvme_ctrl.specs.Notes.{Notes, Logged, logged, Kept}
 use Rattle.nvme_ctrl.specs.Doorbells.{submitted}
 use Rattle.nvme_ctrl.specs.Rings.{HasCounts}
-use Rattle.nvme_ctrl.specs.Account.{IsLawfulEvent, IsAccount}
+use Rattle.nvme_ctrl.specs.Account.{IsLawfulEvent, IsAccount, IsKept}
 use Rattle.nvme_ctrl.specs.Calls.{window_limit, MayFetch, HasFetched}
-use Rattle.nvme_ctrl.specs.Tags.{answer_of, holder, taken, is_out, all_fetches, all_posts}
+use Rattle.nvme_ctrl.specs.Tags.{answer_of, holder, taken, is_out, all_fetches, all_posts, cookie_of}
 use Rattle.nvme_ctrl.specs.declared.chain.Chain.{Chain}
 use Rattle.nvme_ctrl.specs.declared.ring.Ring.{Ring}
 use Rattle.nvme_ctrl.specs.declared.slot.Slot.{Slot}
@@ -33,7 +34,7 @@ use Rattle.nvme_ctrl.specs.declared.state.SqState.{SqState}
 use Rattle.nvme_ctrl.specs.declared.state.Controller.{Controller}
 use Rattle.nvme_ctrl.specs.kept.Content.{Candidate, SqContent, Content}
 use Rattle.nvme_ctrl.specs.inside.Fetching.{IsFetchable, waiting_in}
-use Rattle.nvme_ctrl.specs.kept.Kept.{Item, Items, HasNumbers, HasItems, HoldsDoorbells, HoldsTags, StandsAt, IsWaitingIn, IsOutIn, IsUnanswered, HasEntry, is_free, tags_of, ready_tags, places_of, candidate_of, untaken}
+use Rattle.nvme_ctrl.specs.kept.Kept.{Item, Items, HasNumbers, HasItems, HoldsDoorbells, HoldsTags, StandsAt, IsWaitingIn, IsOutIn, IsUnanswered, HasEntry, is_free, tags_of, ready_tags, places_of, candidate_of, untaken, ReadyItem, IsReadyIn, IsCookie, HasCookie, HasReadyCookie, HoldsCookies, ready_state}
 use Rattle.nvme_ctrl.specs.kept.Pool.{slot_at, item_at, put_item, IsNew, AreApart, IsChain, SameItems, SameLinks}
 use Rattle.nvme_ctrl.specs.kept.Standing.{Holds, on_board}
 use Rattle.nvme_ctrl.specs.kept.State.{sq_at, cq_at, attachment_of, picked_in}
@@ -44,7 +45,7 @@ use Rattle.nvme_ctrl.proofs.OpenQueues.{none_is_pending}
 use Rattle.nvme_ctrl.proofs.Pools.{length-put_item, item_at-put_item_same, item_at-put_item_other, chain-put_item, chain-other, length-apart}
 use Rattle.nvme_ctrl.proofs.RegionStates.{put_region-each}
 use Rattle.nvme_ctrl.proofs.ServedPlaces.{entry_stays}
-use Rattle.nvme_ctrl.proofs.SlotItems.{out_stays, all_waiting_stay, all_ready_stay, same_state}
+use Rattle.nvme_ctrl.proofs.SlotItems.{out_stays, all_waiting_stay, all_ready_stay, same_state, All-both, ready_state-range}
 use Rattle.nvme_ctrl.proofs.SlotStates.{window-states, window-regions, ready-states, apart-by}
 use Rattle.nvme_ctrl.proofs.OutTags.{still_not_out-logged}
 use Rattle.nvme_ctrl.proofs.Standing.{holds-fetch}
@@ -131,7 +132,7 @@ popped slots old new tag (x ∷ xs) h some is rest = record {
 }
 
 -- a fetch leaves this: the free slots, the ring and the window of its region, the board, and the pool, where a slot of the free ones has the command
-pub record Fetches (c : Controller) (slots : List Slot) (qid : ℕ) (e : SqEntry) (entry : Sqe) (tag : ℕ) (slot : Slot) (free window : Chain) (ring : Ring)
+pub record Fetches (c : Controller) (slots : List Slot) (qid : ℕ) (e : SqEntry) (entry : Sqe) (cookie tag : ℕ) (slot : Slot) (free window : Chain) (ring : Ring)
     (board : BoardFields) (pool : List Slot) : Type 0 where
   pub is_first : (x : ℕ) (rest : List ℕ) → IsChain slots c.free (x ∷ rest) → Some tag ≡ Some x
   pub free_left : (x : ℕ) (rest : List ℕ) → IsChain slots c.free (x ∷ rest) → IsChain slots free rest
@@ -140,6 +141,7 @@ pub record Fetches (c : Controller) (slots : List Slot) (qid : ℕ) (e : SqEntry
   pub state : slot.state ≡ 1
   pub region : slot.region ≡ e.region
   pub has : slot.entry ≡ entry
+  pub keeps : slot.cookie ≡ cookie
   pub chain : (xs : List ℕ) → IsChain (put_item slots tag slot) (sq_at c.sqs e.region).window xs → tag < length (put_item slots tag slot) → IsNew tag xs
       → length xs + 1 < 2 ^ 16 → IsChain pool window (xs ++ tag ∷ [])
   pub items : SameItems (put_item slots tag slot) pool
@@ -176,8 +178,8 @@ fetched_least past r n entry x = elim (cases_eq x r) [
 ]
 
 module _ (rules : FrontRules) (late : Bool) (notes : Notes) (c : Controller) (slots : List Slot) (s : StandsAt rules late notes c slots)
-    (qid : ℕ) (e : SqEntry) (can : IsFetchable c qid e) (entry : Sqe) (tag : ℕ) (slot : Slot) (free window : Chain) (ring : Ring) (board : BoardFields)
-    (pool : List Slot) (f : Fetches c slots qid e entry tag slot free window ring board pool)
+    (qid : ℕ) (e : SqEntry) (can : IsFetchable c qid e) (entry : Sqe) (cookie tag : ℕ) (slot : Slot) (free window : Chain) (ring : Ring) (board : BoardFields)
+    (pool : List Slot) (f : Fetches c slots qid e entry cookie tag slot free window ring board pool)
   where
     first_free : IsPopped slots s.items.free free tag
     first_free = popped slots c.free free tag s.items.free s.has.free_chain can.some_free f.is_first f.free_left
@@ -263,7 +265,7 @@ module _ (rules : FrontRules) (late : Bool) (notes : Notes) (c : Controller) (sl
     items = fetched_items s.items e.region item first_free.rest
 
     abbrev later : Notes
-    later = Logged (Fetch e.region index entry) ∷ notes
+    later = Kept e.region index cookie ∷ Logged (Fetch e.region index entry) ∷ notes
 
     each_region : (P : ℕ → SqState → SqContent → List Item → Type 0)
         → P e.region (fetched_state (sq_at c.sqs e.region) window ring) (fetched_sq (s.content.sq e.region) entry) (s.items.windows e.region ++ item ∷ [])
@@ -430,6 +432,56 @@ module _ (rules : FrontRules) (late : Bool) (notes : Notes) (c : Controller) (sl
         let after_it : free.len ≡ length first_free.rest = first_free.chain.len_is in
         omega (arith, before, after_it, s.tags.free_count, size)
 
+    -- ---- the cookies
+    none_kept_there : cookie_of notes e.region index ≡ None
+    none_kept_there = s.tags.cookies.none e.region index (let is = index_is in omega (arith, is))
+
+    -- another slot has its cookie
+    keeps_other : (t : ℕ) (p : Place) → t ≢ tag → IsCookie notes slots t p → IsCookie later pool t p
+    keeps_other t p other h = by (e.region == p.region && index == p.index) refl where
+      by : (b : Bool) → (e.region == p.region && index == p.index) ≡ b → (if b then Some cookie else cookie_of notes p.region p.index) ≡ Some (slot_at pool t).cookie
+      by true same =
+          let parts = and_parts (e.region == p.region) (index == p.index) same in
+          let none : cookie_of notes p.region p.index ≡ None = subst (λ (r : ℕ). cookie_of notes r p.index ≡ None) (eqb-true e.region p.region parts.0)
+          (subst (λ (i : ℕ). cookie_of notes e.region i ≡ None) (eqb-true index p.index parts.1) none_kept_there) in
+          absurd (cc (none, h))
+      by false same = h ∙ ap (λ (x : Slot). Some x.cookie) (sym (left t other))
+
+    windows_kept : (x : ℕ) → All (HasCookie later pool) (s.items.windows x)
+    windows_kept x = All-both (IsWaitingIn slots x) (HasCookie notes slots) (HasCookie later pool)
+        (λ it w h. keeps_other it.tag it.place (other_than it.tag 1 w.state (omega arith)) h) (s.items.windows x) (s.has.window_items x) (s.tags.cookies.windows x)
+
+    item_kept : HasCookie later pool item
+    item_kept = rw (eq-eqb e.region e.region refl, eq-eqb index index refl) (ap (λ (n : ℕ). Some n) (sym (ap (λ (x : Slot). x.cookie) now ∙ f.keeps)))
+
+    ready_kept : (y : ReadyItem) → IsReadyIn slots y → HasReadyCookie notes slots y → HasReadyCookie later pool y
+    ready_kept y r h =
+        keeps_other y.tag y.ready.place
+        (other_than y.tag (ready_state y.was_out y.ready.with_queue) r.state (let low = (ready_state-range y.was_out y.ready.with_queue).0 in omega (arith, low))) h
+
+    none_kept_now : (x i : ℕ) → length (fetched (logged later) x) ≤ i → cookie_of later x i ≡ None
+    none_kept_now x i le = by (e.region == x && index == i) refl where
+      by : (b : Bool) → (e.region == x && index == i) ≡ b → (if b then Some cookie else cookie_of notes x i) ≡ None
+      by true same =
+          let parts = and_parts (e.region == x) (index == i) same in
+          let here : length (fetched (logged later) e.region) ≤ i = subst (λ (r : ℕ). length (fetched (logged later) r) ≤ i) (sym (eqb-true e.region x parts.0)) le in
+          let more = fetched_more (logged notes) e.region index entry in
+          let is = index_is in
+          let same_index = eqb-true index i parts.1 in
+          absurd (omega (arith, here, more, is, same_index))
+      by false same = s.tags.cookies.none x i (let least = fetched_least (logged notes) e.region index entry x in omega (arith, least, le))
+
+    cookies_now : HoldsCookies later after pool items
+    cookies_now = record {
+      windows = each_region (λ x state k xs. All (HasCookie later pool) xs)
+          (All-push (HasCookie later pool) (s.items.windows e.region) item (windows_kept e.region) item_kept) (λ x other. windows_kept x);
+      outs = All-both (IsOutIn slots) (HasCookie notes slots) (HasCookie later pool) (λ it w h. keeps_other it.tag it.place (other_than it.tag 2 w.state (omega arith)) h)
+          s.items.outs s.has.outs_items s.tags.cookies.outs;
+      readies = λ x. All-both (IsReadyIn slots) (HasReadyCookie notes slots) (HasReadyCookie later pool) ready_kept (s.items.readies x) (s.has.ready_items x) (s.tags.cookies.readies x);
+      deletion = λ some. absurd (some can.none_pending);
+      none = none_kept_now;
+    }
+
     tags_now : HoldsTags later after pool items
     tags_now =
         let t = s.tags in
@@ -449,6 +501,7 @@ module _ (rules : FrontRules) (late : Bool) (notes : Notes) (c : Controller) (sl
           answered_held = answered_held_now;
           hand_entries = hand_entries_now;
           free_count = free_count_now;
+          cookies = cookies_now;
         }
 
     lawful_now : late ≡ false → IsLawfulEvent rules notes (Fetch e.region index entry)
@@ -467,10 +520,16 @@ module _ (rules : FrontRules) (late : Bool) (notes : Notes) (c : Controller) (sl
           posts_what_is_through = tt;
         }
 
+    is_kept_now : IsKept (Logged (Fetch e.region index entry) ∷ notes) e.region index
+    is_kept_now = record {
+      fetched = let more = fetched_more (logged notes) e.region index entry in let is = index_is in omega (arith, more, is);
+      first = none_kept_there;
+    }
+
     account_now : late ≡ false → IsAccount rules later
     account_now on_time =
         let a = s.account on_time in
-        record { each = (lawful_now on_time, a.each); lawful = holds_now.arbitration.lawful; effects_whole = (holds_now.own on_time).effects_whole }
+        record { each = (is_kept_now, (lawful_now on_time, a.each)); lawful = holds_now.arbitration.lawful; effects_whole = (holds_now.own on_time).effects_whole }
 
     stands_now : StandsAt rules late later after pool
     stands_now = record {
@@ -484,10 +543,10 @@ module _ (rules : FrontRules) (late : Bool) (notes : Notes) (c : Controller) (sl
       account = account_now;
     }
 
-    pub has_fetched : HasFetched rules late notes qid entry after pool
+    pub has_fetched : HasFetched rules late notes qid entry cookie after pool
     unfolding may_fetch
     has_fetched = record {
       slot = (sq_at c.sqs e.region).ring.head;
       may = subst (λ (n : ℕ). MayFetch rules notes (window_limit c) n qid (sq_at c.sqs e.region).ring.head) (sym size) (may_fetch rules late notes c slots s qid e can);
-      stands = subst (λ (n : ℕ). StandsAt rules late (Logged (Fetch e.region n entry) ∷ notes) after pool) index_is stands_now;
+      stands = subst (λ (n : ℕ). StandsAt rules late (Kept e.region n cookie ∷ Logged (Fetch e.region n entry) ∷ notes) after pool) index_is stands_now;
     }

@@ -31,6 +31,7 @@ use Rattle.nvme_ctrl.specs.kept.Kept.{Item, ReadyItem, Items, IsWaitingIn, IsOut
 use Rattle.nvme_ctrl.specs.inside.Loose.{IsLoose, Keeps, ended, with_item}
 use Rattle.nvme_ctrl.specs.kept.Pool.{slot_at, item_at, put_item}
 use Rattle.nvme_ctrl.specs.kept.State.{sq_at, picked_in}
+use Rattle.nvme_ctrl.proofs.Cookies.{same_cookies-but, cookies_left}
 use Rattle.nvme_ctrl.proofs.AfterSteps.{CanClose, deleted}
 use Rattle.nvme_ctrl.proofs.CarriedOut.{last_of, was_picked}
 use Rattle.nvme_ctrl.proofs.CarryOut.{KeepsEnd}
@@ -46,7 +47,7 @@ use Rattle.nvme_ctrl.proofs.Standing.{holds-close}
 -- ---- a slot in no list
 -- what is kept, where something else is put into a slot that is in no list
 module _ (rules : FrontRules) (notes : Notes) (a : Controller) (slots : List Slot) (k : Content) (g : Items) (h : Keeps rules notes a slots k g) (tag : ℕ) (loose : IsLoose slots g tag)
-    (put : Slot) (six : put.state ≡ 6) where
+    (put : Slot) (six : put.state ≡ 6) (same_cookie : put.cookie ≡ (slot_at slots tag).cookie) where
   abbrev pool : List Slot
   pool = put_item slots tag put
 
@@ -109,6 +110,7 @@ module _ (rules : FrontRules) (notes : Notes) (a : Controller) (slots : List Slo
     answered_held = λ x is. m.answered_held x (had_state x 3 (omega arith) is);
     hand_entries = m.hand_entries;
     free_count = m.free_count ∙ ap (λ (n : ℕ). n + all_posts (logged notes)) (sym size);
+    cookies = cookies_left notes slots pool (same_cookies-but slots pool tag others (ap (λ (s : Slot). s.cookie) here ∙ same_cookie)) a a g refl m.cookies;
   }
 
   -- it stays in no list
@@ -310,6 +312,7 @@ module _ (rules : FrontRules) (late : Bool) (notes : Notes) (c : Controller) (sl
         answered_held = x.answered_held;
         hand_entries = x.hand_entries;
         free_count = x.free_count;
+        cookies = (let q = x.cookies in record { windows = q.windows; outs = q.outs; readies = q.readies; deletion = λ no. absurd (no refl); none = q.none });
       });
       apart = readies_are_apart rules late notes c slots s;
       none_pending = refl;
@@ -391,10 +394,10 @@ module _ (rules : FrontRules) (late : Bool) (notes : Notes) (c : Controller) (sl
       kept : Keeps rules finished b pool (with_ready k1 0 t) (with_item g 0 (ended c.deletion.tag t))
       kept =
           end rules finished k1 g t
-          (subst (λ (xs : List Slot). Keeps rules finished m xs k1 g) (sym put_is) (keeps_put rules finished m slots k1 g keeps_finished c.deletion.tag loose put six))
-          (subst (λ (xs : List Slot). IsLoose xs g c.deletion.tag) (sym put_is) (loose_put rules finished m slots k1 g keeps_finished c.deletion.tag loose put six))
+          (subst (λ (xs : List Slot). Keeps rules finished m xs k1 g) (sym put_is) (keeps_put rules finished m slots k1 g keeps_finished c.deletion.tag loose put six refl))
+          (subst (λ (xs : List Slot). IsLoose xs g c.deletion.tag) (sym put_is) (loose_put rules finished m slots k1 g keeps_finished c.deletion.tag loose put six refl))
           (record { state_is = refl; region = ap (λ (x : Slot). x.region) here; cid = ap (λ (x : Slot). x.entry.cid) here; status_is = refl; dw0_is = refl })
-          (inr (rw (eq-eqb g.delete_index g.delete_index refl) refl)) (omega arith)
+          (inr (rw (eq-eqb g.delete_index g.delete_index refl) refl)) (s.tags.cookies.deletion some ∙ ap (λ (x : Slot). Some x.cookie) (sym here)) (omega arith)
 
 -- ---- where none is finished
 -- none is pending, or a command of its queue has no completion posted

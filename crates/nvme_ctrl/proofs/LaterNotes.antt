@@ -20,7 +20,7 @@ use Rattle.nvme_log.specs.Effects.{is_effect}
 use Rattle.nvme_ctrl.specs.Notes.{Notes, Logged, Answered, logged}
 use Rattle.nvme_ctrl.specs.Doorbells.{submitted, consumed}
 use Rattle.nvme_ctrl.specs.Rings.{HasCounts}
-use Rattle.nvme_ctrl.specs.Tags.{holder, answer_of, all_fetches, all_posts}
+use Rattle.nvme_ctrl.specs.Tags.{holder, answer_of, cookie_of, all_fetches, all_posts}
 use Rattle.nvme_ctrl.specs.Steps.{with_logged}
 use Rattle.nvme_ctrl.specs.declared.slot.Slot.{Slot}
 use Rattle.nvme_ctrl.specs.declared.state.Controller.{Controller}
@@ -30,6 +30,7 @@ use Rattle.nvme_ctrl.specs.kept.State.{sq_at, cq_at}
 use Rattle.nvme_ctrl.specs.kept.Kept.{Item, ReadyItem, Items, IsThrough, HasEntry, untaken}
 use Rattle.nvme_ctrl.specs.inside.Loose.{Keeps}
 use Rattle.nvme_ctrl.proofs.AfterSteps.{with_events}
+use Rattle.nvme_ctrl.proofs.Cookies.{cookies_later}
 use Rattle.nvme_ctrl.proofs.EffectEvents.{AreEffects}
 use Rattle.nvme_ctrl.proofs.OutTags.{still_not_out-logged, still_not_out-answered}
 
@@ -42,6 +43,11 @@ logged-with (e ∷ rest) notes = logged-with rest (Logged e ∷ notes)
 pub answer_of-logged : (es : List Event) (notes : Notes) (r i : ℕ) → answer_of (with_logged es notes) r i ≡ answer_of notes r i
 answer_of-logged [] notes r i = refl
 answer_of-logged (e ∷ rest) notes r i = answer_of-logged rest (Logged e ∷ notes) r i
+
+-- and what the caller keeps
+pub cookie_of-logged : (es : List Event) (notes : Notes) (r i : ℕ) → cookie_of (with_logged es notes) r i ≡ cookie_of notes r i
+cookie_of-logged [] notes r i = refl
+cookie_of-logged (e ∷ rest) notes r i = cookie_of-logged rest (Logged e ∷ notes) r i
 
 -- what an event leaves that neither fetches nor dispatches nor posts
 record IsQuiet (notes : Notes) (e : Event) : Type 0 where
@@ -115,6 +121,7 @@ keeps-quiet rules notes e c slots k g quiet h = record {
     hand_entries = All-weaker (HasEntry (logged notes)) (HasEntry (e ∷ logged notes)) (λ it is. ap (λ (xs : List Sqe). slice_get xs it.place.index) (quiet.fetches it.place.region) ∙ is)
         (g.outs ++ untaken c g) m.hand_entries;
     free_count = ap (λ (n : ℕ). c.free.len + n) quiet.fetch_count ∙ m.free_count ∙ ap (λ (n : ℕ). length slots + n) (sym quiet.post_count);
+    cookies = cookies_later notes (Logged e ∷ notes) c slots g (λ r i. refl) quiet.fetches m.cookies;
   });
   apart = h.apart;
   none_pending = h.none_pending;
@@ -181,6 +188,7 @@ keeps-answered rules notes i answer c slots k g none there windows outs h = reco
     answered_held = λ t is. still_not_out-answered 0 i answer notes t (m.answered_held t is);
     hand_entries = m.hand_entries;
     free_count = m.free_count;
+    cookies = cookies_later notes (Answered 0 i answer ∷ notes) c slots g (λ r j. refl) (λ r. refl) m.cookies;
   });
   apart = h.apart;
   none_pending = h.none_pending;

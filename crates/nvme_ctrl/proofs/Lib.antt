@@ -54,6 +54,7 @@ pub mod PostNumbers
 pub mod PostItems
 pub mod PostLog
 pub mod OutTags
+pub mod Cookies
 pub mod SlotItems
 pub mod TakeCall
 pub mod AnsweredPlaces

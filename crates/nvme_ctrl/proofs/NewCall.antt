@@ -1,5 +1,5 @@
 -- A controller that is made stands at the empty log, at the rules of its admin regions.
-use Rattle.std.proofs.Common.{◌≡◌, ◌≢◌, ℕ, ◌%◌, ◌<◌, ◌^◌, ◌==◌, ◌||◌, nat_lt, Bool, false, true, List, [], length, map, replicate, Some, None, refl, sym, ap, ◌∙◌, subst, arith, ne_eqb, IsTrue, if◌then◌else◌}
+use Rattle.std.proofs.Common.{◌≡◌, ◌≢◌, ℕ, ◌%◌, ◌<◌, ◌^◌, ◌==◌, ◌||◌, nat_lt, Bool, false, true, List, [], length, map, replicate, Some, None, refl, sym, ap, ◌∙◌, subst, arith, ne_eqb, IsTrue, if◌then◌else◌, ◌&&◌}
 use Rattle.std.specs.Prelude.{slice_set}
 use Rattle.std.proofs.Math.Nat.{zero-div, zero-mod}
 use Rattle.std.proofs.Math.Seq.{drop-nil}
@@ -213,6 +213,13 @@ module _ (mechanism : Mechanism) (settings : ArbitrationFields) (limits : Limits
       answered_held = λ t answered. refl;
       hand_entries = λ i e lt. absurd (omega (arith, lt));
       free_count = omega (arith, chain.len_is, length-upto n, size);
+      cookies = record {
+        windows = λ r i e lt. absurd (omega (arith, lt));
+        outs = λ i e lt. absurd (omega (arith, lt));
+        readies = λ x i e lt. absurd (omega (arith, lt));
+        deletion = λ pending. absurd (pending refl);
+        none = λ r i le. refl;
+      };
     }
 
     -- the controller stands at the empty log

@@ -43,6 +43,7 @@ use Rattle.nvme_ctrl.specs.kept.State.{sq_at, attachment_of, picked_in}
 use Rattle.nvme_ctrl.specs.kept.Kept.{Item, Items, IsWaitingIn, HasNumbers, HasItems, HoldsDoorbells, HoldsTags, HasEntry, StandsAt, tags_of, places_of, candidate_of, untaken}
 use Rattle.nvme_arbiter.proofs.Stands.{lawful as lawful_where_stands}
 use Rattle.nvme_ctrl.proofs.AfterSteps.{after_io, place_of}
+use Rattle.nvme_ctrl.proofs.Cookies.{cookies_left, cookies_later}
 use Rattle.nvme_ctrl.proofs.Counts.{outstanding-pick}
 use Rattle.nvme_ctrl.proofs.FewUnposted.{few_unposted}
 use Rattle.nvme_ctrl.proofs.NextEvents.{next-io}
@@ -330,6 +331,7 @@ module _ (rules : FrontRules) (late : Bool) (notes : Notes) (c : Controller) (sl
           (All-same (λ (x : Candidate). entry_at now r x.index ≡ Some x.entry) (map candidate_of (take pick.n (g.windows r))) (take pick.n (k.sq r).window) (sym taken_window)
           (All-take (λ (x : Candidate). entry_at now r x.index ≡ Some x.entry) pick.n (k.sq r).window (s.holds.regions r).entries)));
       free_count = s.tags.free_count;
+      cookies = cookies_later notes (picked_notes notes pick) new slots g (λ x i. refl) (λ x. refl) (cookies_left notes slots slots (λ y. refl) c new g refl s.tags.cookies);
     }
 
     pick-holds : Holds rules late (event.Pick (observation_of now) pick ∷ now) after

@@ -152,6 +152,10 @@ module _ (p : PostCall) where
     | inr other ↦ rw (ne_eqb y p.x other) (p.stands.has.ready_is y)
   ]
 
+  -- it has the cookie that it had
+  pub tag_cookie : (slot_at p.new tag).cookie ≡ (slot_at p.slots tag).cookie
+  tag_cookie = ap (λ (s : Slot). s.cookie) (p.did.items.items tag ∙ item_at-put_item_same p.slots tag (record (slot_at p.slots tag) { state = 0 }) tag_inside)
+
   -- ---- the deletion
   deletion_cid : p.c.deletion.pending ≢ 0 → (slot_at p.slots p.c.deletion.tag).entry.cid ≡ (slot_at p.new p.c.deletion.tag).entry.cid
   deletion_cid some = sym (ap (λ (s : Slot). s.entry.cid) (other_kept p.c.deletion.tag (higher p.c.deletion.tag 6 (p.stands.has.deletion_item some) (omega arith))))

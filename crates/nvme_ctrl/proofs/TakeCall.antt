@@ -1,5 +1,5 @@
 -- The device takes a picked command: the controller stands at its log afterwards.
-use Rattle.std.proofs.Common.{◌≡◌, ◌≢◌, ℕ, ◌+◌, ◌-◌, ◌<◌, ◌≤◌, ◌^◌, ◌==◌, Bool, true, if◌then◌else◌, List, [], ◌∷◌, ◌++◌, length, map, take, drop, Option, Some, None, refl, sym, ap, ◌∙◌, subst, arith, inl, inr}
+use Rattle.std.proofs.Common.{◌≡◌, ◌≢◌, ℕ, ◌+◌, ◌-◌, ◌<◌, ◌≤◌, ◌^◌, ◌==◌, Bool, true, if◌then◌else◌, List, [], ◌∷◌, ◌++◌, length, map, take, drop, Option, Some, None, refl, sym, ap, ◌∙◌, subst, arith, inl, inr, false, ◌&&◌}
 use Rattle.std.specs.Prelude.{slice_get, slice_set}
 use Rattle.std.specs.List.{All}
 use Rattle.std.proofs.lemmas.Bool.{cases_lt, cases_eq, eq-eqb, ne_eqb}
@@ -22,9 +22,10 @@ use Rattle.nvme_ctrl.specs.declared.chain.Chain.{Chain}
 use Rattle.nvme_ctrl.specs.declared.state.SqState.{SqState}
 use Rattle.nvme_ctrl.specs.declared.state.Controller.{Controller}
 use Rattle.nvme_ctrl.specs.kept.Content.{Content}
-use Rattle.nvme_ctrl.specs.kept.Kept.{Item, ReadyItem, Items, IsWaitingIn, IsOutIn, IsReadyIn, IsAmongOuts, HasNumbers, HasItems, HoldsDoorbells, HoldsTags, IsUnanswered, HasEntry, StandsAt, tags_of, places_of, ready_tags, candidate_of, untaken, pending_of, ready_state}
+use Rattle.nvme_ctrl.specs.kept.Kept.{Item, ReadyItem, Items, IsWaitingIn, IsOutIn, IsReadyIn, IsAmongOuts, HasNumbers, HasItems, HoldsDoorbells, HoldsTags, IsUnanswered, HasEntry, HasCookie, StandsAt, tags_of, places_of, ready_tags, candidate_of, untaken, pending_of, ready_state}
 use Rattle.nvme_ctrl.specs.kept.Pool.{slot_at, item_at, put_item, IsChain, AreApart}
 use Rattle.nvme_ctrl.specs.kept.State.{no_sq_state, sq_at, cq_at, attachment_of, picked_in}
+use Rattle.nvme_ctrl.proofs.Cookies.{SameCookies, same_cookies-but, cookie_left, items_left, readies_left}
 use Rattle.nvme_ctrl.proofs.Pools.{length-put_item, slot_at-put_item_same, item_at-put_item_other, chain-put_item, AreApart-push}
 use Rattle.nvme_ctrl.proofs.OwnStatus.{All-unmap}
 use Rattle.nvme_ctrl.proofs.RegionStates.{put_sq-each}
@@ -272,8 +273,22 @@ module _ (c : Controller) (slots : List Slot) (k : Content) (g : Items) (h : Has
     ];
     hand_entries = subst (All (HasEntry (logged notes))) hand_stays t.hand_entries;
     free_count = t.free_count ∙ ap (λ (m : ℕ). m + all_posts (logged notes)) (sym size);
+    cookies = record {
+      windows = at_put (λ x ws. All (HasCookie notes new) ws) g.windows c.picked_region rest (items_left notes slots new same rest (All-tail (HasCookie notes slots) it rest cookies))
+          (λ x other. items_left notes slots new same (g.windows x) (t.cookies.windows x));
+      outs = items_left notes slots new same (g.outs ++ it ∷ []) (All-push (HasCookie notes slots) g.outs it t.cookies.outs (All-head (HasCookie notes slots) it rest cookies));
+      readies = λ x. readies_left notes slots new same (g.readies x) (t.cookies.readies x);
+      deletion = λ pending. cookie_left notes slots new same c.deletion.tag (place_at 0 g.delete_index) (t.cookies.deletion pending);
+      none = t.cookies.none;
+    };
   }
     where
+      same : SameCookies slots new
+      same = same_cookies-but slots new it.tag others (ap (λ (s : Slot). s.cookie) is_out_now)
+
+      cookies : All (HasCookie notes slots) (it ∷ rest)
+      cookies = subst (All (HasCookie notes slots)) is (t.cookies.windows c.picked_region)
+
       still : (y : ℕ) → y ≢ it.tag → holder (Taken it.tag it.place.region it.place.index ∷ notes) y ≡ holder notes y
       still y other = rw (ne_eqb it.tag y (λ e. other (sym e))) refl
 
@@ -326,6 +341,7 @@ take-stands rules late notes c slots s some chain tag first others = by (s.items
       subst (λ (t : ℕ). HasTaken rules late notes t (took c chain) (took_pool slots t)) (sym same) (record {
         region = it.place.region;
         index = it.place.index;
+        unanswered = All-head (λ (y : Item). IsUnanswered notes y.place) it rest (subst (All (λ (y : Item). IsUnanswered notes y.place)) is (s.tags.windows_unanswered c.picked_region));
         stands = take-first rules late notes c slots s it rest is some chain (others it.tag (tags_of rest) linked);
       })
 

@@ -1,5 +1,5 @@
 -- A controller with something else in a submission region: the chain of the commands that wait in it, its count of unposted places, or its queue.
-use Rattle.std.proofs.Common.{◌≡◌, ◌≢◌, ℕ, ◌+◌, ◌<◌, ◌≤◌, ◌^◌, ◌==◌, if◌then◌else◌, List, [], ◌++◌, length, map, take, drop, Some, None, refl, sym, ap, ◌∙◌, subst, arith, inl, inr, eq-eqb}
+use Rattle.std.proofs.Common.{◌≡◌, ◌≢◌, ℕ, ◌+◌, ◌<◌, ◌≤◌, ◌^◌, ◌==◌, if◌then◌else◌, List, [], ◌++◌, length, map, take, drop, Some, None, refl, sym, ap, ◌∙◌, subst, arith, inl, inr, eq-eqb, Bool, true, false, ◌&&◌}
 use Rattle.std.specs.Prelude.{slice_set}
 use Rattle.std.specs.List.{All}
 use Rattle.std.proofs.lemmas.Bool.{cases_eq, ne_eqb, cond-true}
@@ -26,12 +26,13 @@ use Rattle.nvme_ctrl.specs.declared.ring.Ring.{Ring}
 use Rattle.nvme_ctrl.specs.declared.state.SqState.{SqState}
 use Rattle.nvme_ctrl.specs.declared.state.Controller.{Controller}
 use Rattle.nvme_ctrl.specs.kept.Content.{SqContent, Content, with_sq}
-use Rattle.nvme_ctrl.specs.kept.Kept.{Item, ReadyItem, Items, IsWaitingIn, IsOutIn, IsReadyIn, IsUnanswered, HasEntry, HasNumbers, HasItems, HoldsDoorbells, HoldsTags, tags_of, places_of, ready_tags, candidate_of, untaken, is_free}
+use Rattle.nvme_ctrl.specs.kept.Kept.{Item, ReadyItem, Items, IsWaitingIn, IsOutIn, IsReadyIn, IsUnanswered, HasEntry, HasCookie, HoldsCookies, HasNumbers, HasItems, HoldsDoorbells, HoldsTags, tags_of, places_of, ready_tags, candidate_of, untaken, is_free}
 use Rattle.nvme_ctrl.specs.inside.Loose.{Keeps}
 use Rattle.nvme_ctrl.specs.inside.Carrying.{opening}
 use Rattle.nvme_ctrl.specs.kept.Pool.{slot_at, IsChain, IsNew, SameItems, SameLinks}
 use Rattle.nvme_ctrl.specs.kept.State.{no_sq_state, sq_at, attachment_of, picked_in}
 use Rattle.nvme_ctrl.proofs.CarriedOut.{none_picked_in}
+use Rattle.nvme_ctrl.proofs.Cookies.{SameCookies, same_cookies, items_left, readies_left, cookies_left}
 use Rattle.nvme_ctrl.proofs.Ending.{none_kept}
 use Rattle.nvme_ctrl.proofs.Pools.{chain-other}
 use Rattle.nvme_ctrl.proofs.SlotItems.{ready_state-range}
@@ -54,7 +55,7 @@ module _ (rules : FrontRules) (notes : Notes) (a : Controller) (slots : List Slo
     (same : SameItems slots pool) (links : SameLinks (tags_of (g.windows region)) slots pool)
     (ring : s.ring ≡ (sq_at a.sqs region).ring) (queue : attachment_of s ≡ c.queue) (unposted : s.unposted ≡ c.unposted) (slots_are : c.slots ≡ (k.sq region).slots)
     (linked : IsChain pool s.window (tags_of items)) (waiting : All (IsWaitingIn slots region) items) (window : c.window ≡ map candidate_of items)
-    (unanswered : All (λ (it : Item). IsUnanswered notes it.place) items) where
+    (unanswered : All (λ (it : Item). IsUnanswered notes it.place) items) (cookies : All (HasCookie notes slots) items) where
   abbrev after : Controller
   after = record a { sqs = slice_set a.sqs region s }
 
@@ -203,7 +204,19 @@ module _ (rules : FrontRules) (notes : Notes) (a : Controller) (slots : List Slo
     answered_held = λ x is. m.answered_held x (had_state x 3 is);
     hand_entries = subst (λ (its : List Item). All (HasEntry (logged notes)) (g.outs ++ its)) (none_untaken a g none_picked ∙ sym (none_untaken after later none_picked)) m.hand_entries;
     free_count = m.free_count ∙ ap (λ (n : ℕ). n + all_posts (logged notes)) (sym same.size);
-  }
+    cookies = cookies_after;
+  } where
+    left : SameCookies slots pool
+    left = same_cookies slots pool same
+
+    cookies_after : HoldsCookies notes after pool later
+    cookies_after = let q = h.tags.cookies in record {
+      windows = each (λ r x y its. All (HasCookie notes pool) its) (items_left notes slots pool left items cookies) (λ r other. items_left notes slots pool left (g.windows r) (q.windows r));
+      outs = items_left notes slots pool left g.outs q.outs;
+      readies = λ x. readies_left notes slots pool left (g.readies x) (q.readies x);
+      deletion = λ some. absurd (some h.none_pending);
+      none = q.none;
+    }
 
   pub keeps_windowed : Keeps rules notes after pool kept later
   keeps_windowed = record { numbers = numbers_after; has = items_after; doorbells = doorbells_after; tags = tags_after; apart = h.apart; none_pending = h.none_pending }
@@ -217,7 +230,7 @@ keeps_region rules notes a slots k g region s c h none within ring chain queue u
     subst (λ (f : Items). Keeps rules notes (record a { sqs = slice_set a.sqs region s }) slots (with_sq k region c) f) (same_windows g region)
     (keeps_windowed rules notes a slots k g h none region within s c (g.windows region) slots (record { size = refl; items = λ x. refl }) (λ x new. refl) ring queue unposted slots_are
     (subst (λ (ch : Chain). IsChain slots ch (tags_of (g.windows region))) (sym chain) (h.has.window_chain region)) (h.has.window_items region)
-    (window ∙ h.has.window_is region ∙ ap (λ (n : ℕ). map candidate_of (drop n (g.windows region))) (none_picked_in a region none)) (h.tags.windows_unanswered region))
+    (window ∙ h.has.window_is region ∙ ap (λ (n : ℕ). map candidate_of (drop n (g.windows region))) (none_picked_in a region none)) (h.tags.windows_unanswered region) (h.tags.cookies.windows region))
 
 -- ---- the board, and the number of outstanding places
 pub keeps_outstanding : (rules : FrontRules) (notes : Notes) (a : Controller) (slots : List Slot) (k : Content) (g : Items) (board : BoardFields) (v : BoardView) (n m : ℕ) → Keeps rules notes a slots k g
@@ -270,6 +283,7 @@ keeps_outstanding rules notes a slots k g board v n m h is arbiter same = record
     answered_held = m.answered_held;
     hand_entries = m.hand_entries;
     free_count = m.free_count;
+    cookies = cookies_left notes slots slots (λ y. refl) a _ g refl m.cookies;
   });
   apart = h.apart;
   none_pending = h.none_pending;
@@ -331,6 +345,7 @@ keeps_table rules notes a slots k g table t h is sized = record {
     answered_held = m.answered_held;
     hand_entries = m.hand_entries;
     free_count = m.free_count;
+    cookies = cookies_left notes slots slots (λ y. refl) a _ g refl m.cookies;
   });
   apart = h.apart;
   none_pending = h.none_pending;

@@ -18,9 +18,9 @@ use Rattle.nvme_log.specs.Account.{IndexCounts, ServedWhileOpen, Observed, Delet
 use Rattle.nvme_arbiter.specs.Limits.{queue_limit}
 use Rattle.nvme_log.specs.Rules.{upto}
 use Rattle.nvme_log.specs.Aborts.{is_index}
-use Rattle.nvme_ctrl.specs.Notes.{Notes, Note, Logged, Tail, Head, Taken, Answered, EachNote, logged}
+use Rattle.nvme_ctrl.specs.Notes.{Notes, Note, Logged, Tail, Head, Kept, Taken, Answered, EachNote, logged}
 use Rattle.nvme_ctrl.specs.Doorbells.{sq_slots, cq_slots, submitted, consumed}
-use Rattle.nvme_ctrl.specs.Tags.{taken, holder, answer_of, answers, is_through}
+use Rattle.nvme_ctrl.specs.Tags.{taken, holder, answer_of, cookie_of, answers, is_through}
 
 -- ---- events
 -- a fetch takes a command that the host submitted (Submission Queue y Tail Doorbell)
@@ -68,6 +68,12 @@ pub record IsHead (rules : FrontRules) (notes : Notes) (c slot : ℕ) : Type 0 w
   pub is_slot : slot < cq_slots rules c
   pub posted : consumed rules (Head c slot ∷ notes) c ≤ length (posted_to (logged notes) c)
 
+-- ---- the caller
+-- it keeps one number with a command that was fetched
+pub record IsKept (notes : Notes) (r i : ℕ) : Type 0 where
+  pub fetched : i < length (fetched (logged notes) r)
+  pub first : cookie_of notes r i ≡ None
+
 -- ---- the device
 -- the device takes the picked commands of I/O queues in the order of the picks, each under a tag that stands for no command
 pub record IsTaken (notes : Notes) (tag r i : ℕ) : Type 0 where
@@ -99,6 +105,7 @@ abbrev pub IsLawful : FrontRules → Notes → Note → Type 0
 IsLawful rules notes (Logged e) = IsLawfulEvent rules notes e
 IsLawful rules notes (Tail r slot) = IsTail rules notes r slot
 IsLawful rules notes (Head c slot) = IsHead rules notes c slot
+IsLawful rules notes (Kept r i cookie) = IsKept notes r i
 IsLawful rules notes (Taken tag r i) = IsTaken notes tag r i
 IsLawful rules notes (Answered r i answer) = IsAnswer rules notes r i answer
 

@@ -8,9 +8,9 @@ use Rattle.nvme_log.specs.Queues.{Queue, open_sq, open_cq, pending}
 use Rattle.nvme_log.specs.Places.{fetched, waiting}
 use Rattle.nvme_log.specs.Completions.{posted_to}
 use Rattle.nvme_log.specs.Answers.{Answer}
-use Rattle.nvme_ctrl.specs.Notes.{Notes, Logged, Tail, Head, Taken, Answered, logged}
+use Rattle.nvme_ctrl.specs.Notes.{Notes, Logged, Tail, Head, Kept, Taken, Answered, logged}
 use Rattle.nvme_ctrl.specs.Doorbells.{submitted, sq_slots, cq_slots}
-use Rattle.nvme_ctrl.specs.Tags.{holder, all_fetches, all_posts}
+use Rattle.nvme_ctrl.specs.Tags.{holder, answer_of, cookie_of, all_fetches, all_posts}
 use Rattle.nvme_ctrl.specs.Account.{IsTail, IsHead}
 use Rattle.nvme_ctrl.specs.declared.slot.Slot.{Slot}
 use Rattle.nvme_ctrl.specs.declared.state.Controller.{Controller}
@@ -57,17 +57,19 @@ pub record MayFetch (rules : FrontRules) (notes : Notes) (window pool qid slot :
   pub some_free : all_fetches (logged notes) < pool + all_posts (logged notes)
   pub slot_is : slot ≡ length (fetched (logged notes) queue.region) % sq_slots rules queue.region
 
--- the fetch is noted
-pub record HasFetched (rules : FrontRules) (late : Bool) (notes : Notes) (qid : ℕ) (entry : Sqe) (c : Controller) (slots : List Slot) : Type 0 where
+-- the fetch is noted, and what the caller keeps with its command
+pub record HasFetched (rules : FrontRules) (late : Bool) (notes : Notes) (qid : ℕ) (entry : Sqe) (cookie : ℕ) (c : Controller) (slots : List Slot) : Type 0 where
   pub slot : ℕ
   pub may : MayFetch rules notes (window_limit c) (length slots) qid slot
-  pub stands : Stands rules late (Logged (Fetch may.queue.region (length (fetched (logged notes) may.queue.region)) entry) ∷ notes) c slots
+  pub stands : Stands rules late (Kept may.queue.region (length (fetched (logged notes) may.queue.region)) cookie
+      ∷ Logged (Fetch may.queue.region (length (fetched (logged notes) may.queue.region)) entry) ∷ notes) c slots
 
 -- ---- the device
--- the device takes a command under a tag
+-- the device takes a command under a tag, which it hasn't answered
 pub record HasTaken (rules : FrontRules) (late : Bool) (notes : Notes) (tag : ℕ) (c : Controller) (slots : List Slot) : Type 0 where
   pub region : ℕ
   pub index : ℕ
+  pub unanswered : answer_of notes region index ≡ None
   pub stands : Stands rules late (Taken tag region index ∷ notes) c slots
 
 -- the device answers the command of a tag
@@ -78,9 +80,10 @@ pub record HasAnswered (rules : FrontRules) (late : Bool) (notes : Notes) (tag :
   pub stands : Stands rules late (Answered region index answer ∷ notes) c slots
 
 -- ---- completions
--- a completion is posted to a completion region, into the slot that is its next
-pub record HasPosted (rules : FrontRules) (late : Bool) (notes : Notes) (x slot : ℕ) (cqe : Cqe) (c : Controller) (slots : List Slot) : Type 0 where
+-- a completion is posted to a completion region, into the slot that is its next, and what the caller keeps with its command is given back
+pub record HasPosted (rules : FrontRules) (late : Bool) (notes : Notes) (x slot : ℕ) (cqe : Cqe) (cookie : ℕ) (c : Controller) (slots : List Slot) : Type 0 where
   pub region : ℕ
   pub index : ℕ
   pub slot_is : slot ≡ length (posted_to (logged notes) x) % cq_slots rules x
+  pub kept : cookie_of notes region index ≡ Some cookie
   pub stands : Stands rules late (Logged (Post x region index cqe) ∷ notes) c slots

@@ -12,6 +12,8 @@ pub data Note : Type 0 where
   Tail : (r slot : ℕ) → Note
   -- the host wrote the head doorbell of the completion queue on a region (Completion Queue y Head Doorbell)
   Head : (c slot : ℕ) → Note
+  -- the caller keeps a number with a command that was fetched, its cookie
+  Kept : (r i cookie : ℕ) → Note
   -- the device took a picked command, which has this tag from now until its completion is posted
   Taken : (tag r i : ℕ) → Note
   -- a picked command was answered: one of an I/O queue by the device, an admin command by the controller

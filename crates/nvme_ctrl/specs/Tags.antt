@@ -1,4 +1,4 @@
--- The commands that the device has, their tags and their answers.
+-- The commands that the device has, their tags and their answers, and what the caller keeps with them.
 -- (Base Specification, Completion Queue Entry; tags: profile)
 use Rattle.std.specs.Prelude.{ℕ, ◌+◌, ◌==◌, ◌&&◌, ◌||◌, Bool, false, if◌then◌else◌, List, [], ◌∷◌, ◌++◌, Option, Some, None, is_none, is_some}
 use Rattle.nvme_entry.specs.Status.{success}
@@ -8,7 +8,7 @@ use Rattle.nvme_log.specs.Places.{is_aborted}
 use Rattle.nvme_log.specs.declared.place.Place.{Place}
 use Rattle.nvme_log.specs.Dispatches.{place_at}
 use Rattle.nvme_log.specs.Answers.{Answer, Answers}
-use Rattle.nvme_ctrl.specs.Notes.{Notes, Logged, Taken, Answered, logged}
+use Rattle.nvme_ctrl.specs.Notes.{Notes, Logged, Kept, Taken, Answered, logged}
 
 -- the places whose commands the device took, in order
 abbrev pub taken : Notes → List Place
@@ -44,6 +44,12 @@ abbrev pub answer_of : Notes → ℕ → ℕ → Option Answer
 answer_of [] r i = None
 answer_of (Answered region index answer ∷ notes) r i = if region == r && index == i then Some answer else answer_of notes r i
 answer_of (note ∷ notes) r i = answer_of notes r i
+
+-- what the caller keeps with the command of a place
+abbrev pub cookie_of : Notes → ℕ → ℕ → Option ℕ
+cookie_of [] r i = None
+cookie_of (Kept region index cookie ∷ notes) r i = if region == r && index == i then Some cookie else cookie_of notes r i
+cookie_of (note ∷ notes) r i = cookie_of notes r i
 
 -- a tag is out: the device took its command and hasn't answered it
 abbrev pub is_unanswered : Notes → Option Place → Bool

@@ -39,7 +39,8 @@ impl Controller {
     ghost use Rattle.nvme_log.specs.Rules.{FrontRules};
     ghost use Rattle.nvme_ctrl.specs.Notes.{Notes};
     ghost use Rattle.nvme_ctrl.specs.kept.Content.{Candidate, Ready, Content, with_ready};
-    ghost use Rattle.nvme_ctrl.specs.kept.Kept.{Item, Items, IsThrough};
+    ghost use Rattle.nvme_log.specs.Dispatches.{place_at};
+    ghost use Rattle.nvme_ctrl.specs.kept.Kept.{Item, Items, IsThrough, IsCookie};
     ghost use Rattle.nvme_ctrl.specs.inside.Loose.{IsLoose, Keeps, MakesReady, ended, with_item};
     ghost use Rattle.nvme_ctrl.specs.kept.Pool.{slot_at, item_at};
 
@@ -52,7 +53,7 @@ impl Controller {
         answer: Answer,
         region: u8,
     )
-        ensures kept { (rules : FrontRules) (notes : Notes) (k : Content) (g : Items) (t : Ready) → Keeps rules notes self.old slots.old k g → IsLoose slots.old g tag → MakesReady slots.old tag state answer.status answer.dw0 t → IsThrough notes t → region < MAX_REGIONS → Keeps rules notes self.new slots.new (with_ready k region t) (with_item g region (ended tag t)) }
+        ensures kept { (rules : FrontRules) (notes : Notes) (k : Content) (g : Items) (t : Ready) → Keeps rules notes self.old slots.old k g → IsLoose slots.old g tag → MakesReady slots.old tag state answer.status answer.dw0 t → IsThrough notes t → IsCookie notes slots.old tag t.place → region < MAX_REGIONS → Keeps rules notes self.new slots.new (with_ready k region t) (with_item g region (ended tag t)) }
         ensures left { self.new ≡ record self.old { cqs = self.new.cqs } }
         ensures size { length slots.new ≡ length slots.old }
         ensures others { (y : ℕ) → y ≢ tag → item_at slots.new y ≡ item_at slots.old y }
@@ -94,7 +95,7 @@ impl Controller {
     // answered when the deletion is finished. (Delete I/O Submission Queue)
     fn begin_delete(&mut self, slots: &mut [Slot], tag: u16, qid: u16, region: u8)
         requires on_board { IsSome (queue_at (board_of self.old.board).queues qid) }
-        ensures begun { (rules : FrontRules) (notes : Notes) (k : Content) (g : Items) (c : ℕ) (candidate : Candidate) → Keeps rules notes self.old slots.old k g → self.old.picked ≡ 0 → IsLoose slots.old g tag → (slot_at slots.old tag).entry ≡ candidate.entry → answer_of notes 0 candidate.index ≡ None → IsDroppable notes k qid region c → (k.sq region).unposted + length (k.sq region).window < 2 ^ 16 → HasBegun rules notes (deleting k qid region c candidate) self.new slots.new }
+        ensures begun { (rules : FrontRules) (notes : Notes) (k : Content) (g : Items) (c : ℕ) (candidate : Candidate) → Keeps rules notes self.old slots.old k g → self.old.picked ≡ 0 → IsLoose slots.old g tag → (slot_at slots.old tag).entry ≡ candidate.entry → answer_of notes 0 candidate.index ≡ None → IsCookie notes slots.old tag (place_at 0 candidate.index) → IsDroppable notes k qid region c → (k.sq region).unposted + length (k.sq region).window < 2 ^ 16 → HasBegun rules notes (deleting k qid region c candidate) self.new slots.new }
     {
         let mut sq = self.sq(region);
         sq.unposted = sq.unposted.saturating_add(sq.window.len);

@@ -52,7 +52,7 @@ impl Controller {
         ensures window { window_limit self.new ≡ window_limit self.old }
         ensures size { length slots.new ≡ length slots.old }
         ensures refused { result ≡ false → (self.new ≡ self.old) × (slots.new ≡ slots.old) }
-        ensures stands { (rules : FrontRules) (late : Bool) (notes : Notes) → Stands rules late notes self.old slots.old → result ≡ true → HasFetched rules late notes qid entry.now self.new slots.new }
+        ensures stands { (rules : FrontRules) (late : Bool) (notes : Notes) → Stands rules late notes self.old slots.old → result ≡ true → HasFetched rules late notes qid entry.now cookie self.new slots.new }
     {
         let Some(queue) = self.fetchable(qid) else {
             return false;

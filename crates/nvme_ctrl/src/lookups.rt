@@ -10,7 +10,7 @@ impl Controller {
     ghost use Rattle.nvme_log.specs.Places.{entry_at, waiting};
     ghost use Rattle.nvme_log.specs.declared.place.Place.{Place};
     ghost use Rattle.nvme_ctrl.specs.Notes.{Notes, logged};
-    ghost use Rattle.nvme_ctrl.specs.Tags.{is_out, holder};
+    ghost use Rattle.nvme_ctrl.specs.Tags.{is_out, holder, cookie_of};
     ghost use Rattle.nvme_ctrl.specs.Standing.{Stands};
     ghost use Rattle.nvme_ctrl.specs.kept.Pool.{slot_at};
     ghost use Rattle.nvme_ctrl.specs.declared.slot.Slot.{Slot};
@@ -24,9 +24,12 @@ impl Controller {
         slot_at(slots, tag).entry
     }
 
-    /// What the caller keeps with the command in a slot.
+    /// What the caller keeps with the command in a slot. Where the device has it, it is what was kept with the command
+    /// of this tag.
     pub fn cookie(&self, slots: &[Slot], tag: u16) -> u32
-        ensures { result ≡ (slot_at slots.now tag).cookie }
+        ensures value { result ≡ (slot_at slots.now tag).cookie }
+        ensures out { (rules : FrontRules) (late : Bool) (notes : Notes) → Stands rules late notes self.now slots.now → (place : Place) → holder notes tag ≡ Some place → is_out notes tag ≡ true
+            → cookie_of notes place.region place.index ≡ Some result }
     {
         slot_at(slots, tag).cookie
     }

@@ -84,7 +84,7 @@ impl Controller {
         ensures none { result ≡ None → (self.new ≡ self.old) × (slots.new ≡ slots.old) }
         ensures told { (rules : FrontRules) (late : Bool) (notes : Notes) → Stands rules late notes self.old slots.old → result ≡ None → NonePostable rules notes region }
         ensures command { IfSome result (λ p. IsPostOf (slot_at slots.old p.tag) p.cqe p.cookie) }
-        ensures stands { (rules : FrontRules) (late : Bool) (notes : Notes) → Stands rules late notes self.old slots.old → IfSome result (λ p. HasPosted rules late notes region p.slot p.cqe self.new slots.new) }
+        ensures stands { (rules : FrontRules) (late : Bool) (notes : Notes) → Stands rules late notes self.old slots.old → IfSome result (λ p. HasPosted rules late notes region p.slot p.cqe p.cookie self.new slots.new) }
     {
         let mut cq = self.cq(region);
         if cq.ring.filled() + 1 >= u32::from(cq.ring.slots) {

@@ -17,7 +17,7 @@ use Rattle.nvme_log.specs.Queues.{admin_queue}
 use Rattle.nvme_log.specs.Places.{is_aborted}
 use Rattle.nvme_log.specs.Dispatches.{place_at}
 use Rattle.nvme_ctrl.specs.Notes.{Notes, logged}
-use Rattle.nvme_ctrl.specs.Tags.{answer_of}
+use Rattle.nvme_ctrl.specs.Tags.{answer_of, cookie_of}
 use Rattle.nvme_ctrl.specs.Account.{IsAccount}
 use Rattle.nvme_ctrl.specs.declared.slot.Slot.{Slot}
 use Rattle.nvme_ctrl.specs.declared.state.Controller.{Controller}
@@ -56,6 +56,7 @@ pub record IsApplied (rules : FrontRules) (late : Bool) (notes : Notes) (c : Con
   pub region : (slot_at slots tag).region ≡ 0
   pub entry : (slot_at slots tag).entry ≡ candidate.entry
   pub unanswered : answer_of notes 0 candidate.index ≡ None
+  pub cookie : cookie_of notes 0 candidate.index ≡ Some (slot_at slots tag).cookie
 
 -- a controller at some such notes
 pub record IsApplying (c : Controller) (slots : List Slot) (did : Effect) : Type 0 where

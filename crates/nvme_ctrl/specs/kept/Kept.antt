@@ -13,7 +13,7 @@ use Rattle.nvme_log.specs.declared.place.Place.{Place}
 use Rattle.nvme_ctrl.specs.Notes.{Notes, logged}
 use Rattle.nvme_ctrl.specs.Doorbells.{submitted, consumed}
 use Rattle.nvme_ctrl.specs.Rings.{HasCounts}
-use Rattle.nvme_ctrl.specs.Tags.{taken, holder, answer_of, is_out, all_fetches, all_posts}
+use Rattle.nvme_ctrl.specs.Tags.{taken, holder, answer_of, cookie_of, is_out, all_fetches, all_posts}
 use Rattle.nvme_ctrl.specs.Account.{IsAccount}
 use Rattle.nvme_ctrl.specs.declared.slot.Slot.{Slot}
 use Rattle.nvme_ctrl.specs.declared.state.Controller.{Controller}
@@ -179,7 +179,25 @@ IsUnanswered notes p = answer_of notes p.region p.index ≡ None
 abbrev pub HasEntry : Past → Item → Type 0
 HasEntry past it = entry_at past it.place.region it.place.index ≡ Some it.entry
 
--- the tags and the answers are those of the log
+-- a slot has what the caller keeps with the command of a place
+abbrev pub IsCookie : Notes → List Slot → (tag : ℕ) → Place → Type 0
+IsCookie notes slots tag p = cookie_of notes p.region p.index ≡ Some (slot_at slots tag).cookie
+
+abbrev pub HasCookie : Notes → List Slot → Item → Type 0
+HasCookie notes slots it = IsCookie notes slots it.tag it.place
+
+abbrev pub HasReadyCookie : Notes → List Slot → ReadyItem → Type 0
+HasReadyCookie notes slots y = IsCookie notes slots y.tag y.ready.place
+
+-- so has each slot with a command
+pub record HoldsCookies (notes : Notes) (c : Controller) (slots : List Slot) (g : Items) : Type 0 where
+  pub windows : (r : ℕ) → All (HasCookie notes slots) (g.windows r)
+  pub outs : All (HasCookie notes slots) g.outs
+  pub readies : (x : ℕ) → All (HasReadyCookie notes slots) (g.readies x)
+  pub deletion : c.deletion.pending ≢ 0 → IsCookie notes slots c.deletion.tag (place_at 0 g.delete_index)
+  pub none : (r i : ℕ) → length (fetched (logged notes) r) ≤ i → cookie_of notes r i ≡ None
+
+-- the tags, the answers and the cookies are those of the log
 pub record HoldsTags (notes : Notes) (c : Controller) (slots : List Slot) (g : Items) : Type 0 where
   pub untaken_are : dispatched (logged notes) ≡ taken notes ++ places_of (untaken c g)
   pub outs_held : All (λ (it : Item). holder notes it.tag ≡ Some it.place) g.outs
@@ -196,6 +214,7 @@ pub record HoldsTags (notes : Notes) (c : Controller) (slots : List Slot) (g : I
   pub hand_entries : All (HasEntry (logged notes)) (g.outs ++ untaken c g)
   -- each slot that isn't free has a command that was fetched and whose completion isn't posted
   pub free_count : c.free.len + all_fetches (logged notes) ≡ length slots + all_posts (logged notes)
+  pub cookies : HoldsCookies notes c slots g
 
 -- a controller stands at its log. The log is accounted where no region was added after its first event
 pub record StandsAt (rules : FrontRules) (late : Bool) (notes : Notes) (c : Controller) (slots : List Slot) : Type 0 where

@@ -7,7 +7,7 @@ use Rattle.nvme_arbiter.specs.declared.board_fields.BoardFields.{BoardFields}
 use Rattle.nvme_arbiter.specs.declared.pick.OpenQueue.{OpenQueue}
 use Rattle.nvme_log.specs.declared.event.Event.TheVariants.{Fetch}
 use Rattle.nvme_log.specs.Places.{fetched}
-use Rattle.nvme_ctrl.specs.Notes.{Logged, logged}
+use Rattle.nvme_ctrl.specs.Notes.{Logged, Kept, logged}
 use Rattle.nvme_ctrl.specs.Rings.{HasCounts}
 use Rattle.nvme_ctrl.specs.Calls.{HasFetched}
 use Rattle.nvme_ctrl.specs.Standing.{IsController}
@@ -47,7 +47,7 @@ came-requires c =
 abbrev waiting : goal.After-came → Slot
 waiting c = record c.free.result { entry = c.args.entry.now; cookie = c.args.cookie; region = c.in-Some.queue.region; state = 1 }
 
-fetches : (c : goal.After-came) → Fetches c.args.self.now c.args.slots.now c.args.qid c.in-Some.queue c.args.entry.now c.in-Some-pop.tag (waiting c) c.pop.new.self
+fetches : (c : goal.After-came) → Fetches c.args.self.now c.args.slots.now c.args.qid c.in-Some.queue c.args.entry.now c.args.cookie c.in-Some-pop.tag (waiting c) c.pop.new.self
     c.push.new.self c.read.new.self c.came.new.self c.push.new.slots
 fetches c =
     let pool : List Slot = c.push.new.slots in
@@ -61,6 +61,7 @@ fetches c =
       state = refl;
       region = refl;
       has = refl;
+      keeps = refl;
       chain = subst (λ (slots : List Slot). (xs : List ℕ) → IsChain slots (sq_at c.args.self.now.sqs c.in-Some.queue.region).window xs → tag < length slots → IsNew tag xs
           → length xs + 1 < 2 ^ 16 → IsChain pool c.push.new.self (xs ++ tag ∷ [])) c.put_item.ensures
           (subst (λ (state : SqState). (xs : List ℕ) → IsChain c.put_item.new.slots state.window xs → tag < length c.put_item.new.slots → IsNew tag xs
@@ -78,11 +79,11 @@ pub returns-clause-stands : goal.returns-clause-stands
 returns-clause-stands c rules late notes s told =
     let self : Controller = c.args.self.now in
     let region = c.in-Some.queue.region in
-    subst (λ (after : Controller). HasFetched rules late notes c.args.qid c.args.entry.now (record after { board = c.came.new.self }) c.push.new.slots) (sym c.put_sq.ensures)
-    (subst (λ (state : SqState). HasFetched rules late notes c.args.qid c.args.entry.now
+    subst (λ (after : Controller). HasFetched rules late notes c.args.qid c.args.entry.now c.args.cookie (record after { board = c.came.new.self }) c.push.new.slots) (sym c.put_sq.ensures)
+    (subst (λ (state : SqState). HasFetched rules late notes c.args.qid c.args.entry.now c.args.cookie
     (record self { sqs = slice_set self.sqs region (fetched_state state c.push.new.self c.read.new.self); free = c.pop.new.self; board = c.came.new.self }) c.push.new.slots)
     (sym c.sq-sq.ensures)
-    (has_fetched rules late notes self c.args.slots.now s c.args.qid c.in-Some.queue c.in-Some.ensures.some c.args.entry.now c.in-Some-pop.tag (waiting c) c.pop.new.self
+    (has_fetched rules late notes self c.args.slots.now s c.args.qid c.in-Some.queue c.in-Some.ensures.some c.args.entry.now c.args.cookie c.in-Some-pop.tag (waiting c) c.pop.new.self
     c.push.new.self c.read.new.self c.came.new.self c.push.new.slots (fetches c)))
 
 pub returns-clause-front : goal.returns-clause-front
@@ -92,6 +93,7 @@ returns-clause-front c =
     record {
       rules = front.rules;
       late = front.late;
-      notes = Logged (Fetch here.may.queue.region (length (fetched (logged front.notes) here.may.queue.region)) c.args.entry.now) ∷ front.notes;
+      notes = Kept here.may.queue.region (length (fetched (logged front.notes) here.may.queue.region)) c.args.cookie
+          ∷ Logged (Fetch here.may.queue.region (length (fetched (logged front.notes) here.may.queue.region)) c.args.entry.now) ∷ front.notes;
       stands = here.stands;
     }

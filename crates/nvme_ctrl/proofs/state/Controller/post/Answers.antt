@@ -32,7 +32,7 @@ done c = record {
 }
 
 posted : (c : goal.After-slots-2-1) (rules : FrontRules) (late : Bool) (notes : Notes) → Stands rules late notes c.args.self.now c.args.slots.now
-    → HasPosted rules late notes c.args.region c.cq-cq.result.ring.tail c.completion-cqe.result (after c) c.push.new.slots
+    → HasPosted rules late notes c.args.region c.cq-cq.result.ring.tail c.completion-cqe.result c.slot_at-command.result.cookie (after c) c.push.new.slots
 posted c rules late notes stands =
     steps_post rules late notes c.args.self.now c.put_cq.new.self c.count_post.new.self c.args.slots.now c.put_item.new.slots c.args.region c.in_ok-tag.tag c.cq-cq.result c.write.new.self
     c.slot_at-command.result c.push.new.self c.push.new.slots c.completion-cqe.result c.cq-cq.ensures c.slot_at-command.ensures c.completion-cqe.ensures c.put_cq.ensures c.count_post.ensures
