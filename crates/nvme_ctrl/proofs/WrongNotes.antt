@@ -12,7 +12,7 @@ use Rattle.nvme_log.specs.declared.event.Event.{Event}
 use Rattle.nvme_entry.specs.declared.submission.Sqe.{Sqe}
 use Rattle.nvme_log.specs.Completions.{own_status, own_dw0}
 use Rattle.nvme_log.specs.Examples.{two_slots, one_deletion, create_cq, get_arbitration, admin_picked, admin_posted, read, done, admin_seen, reads_seen, picked_of}
-use Rattle.nvme_ctrl.specs.Notes.{logged, Logged, Tail, Head, Taken, Answered}
+use Rattle.nvme_ctrl.specs.Notes.{logged, Logged, Tail, Head, Kept, Taken, Answered}
 use Rattle.nvme_ctrl.specs.Account.{IsLawful}
 use Rattle.nvme_ctrl.specs.Examples.{told, three_of_four, four_fetched, first_picked, first_answered, first_posted, third_answered, succeeded, out_of_range, create_picked, reads_submitted, reads_waiting, read_picked, read_taken, delete_begun, aborts_posted, read_answered, reads_posted}
 
@@ -71,6 +71,13 @@ head_no_slot h = let e : 2 < 2 = h.is_slot in omega (arith, e)
 pub head_no_queue : IsLawful two_slots first_posted (Head 1 0) → ⊥
 unfolding effects_of queue_table
 head_no_queue h = let e : false ≡ true = h.is_open in cc e
+
+-- ---- what the caller keeps
+pub kept_twice : IsLawful two_slots (Kept 0 0 7 ∷ four_fetched) (Kept 0 0 8) → ⊥
+kept_twice h = cc h.first
+
+pub kept_unfetched : IsLawful two_slots four_fetched (Kept 0 4 7) → ⊥
+kept_unfetched h = let e : 4 < 4 = h.fetched in omega (arith, e)
 
 -- ---- completions
 pub slot_not_free : IsLawful two_slots (Answered 0 1 told ∷ Logged (admin_picked 3) ∷ first_posted) (Logged (admin_posted 1 true)) → ⊥

@@ -5,11 +5,21 @@ use crate::state::Controller;
 use nvme_entry::Status;
 
 impl Controller {
-    ghost use Rattle.std.specs.Prelude.{◌≡◌, ℕ, Bool, true, false, List, None, IfSome};
+    ghost use Rattle.std.specs.Prelude.{◌≡◌, ◌≢◌, ◌⊎◌, ℕ, Bool, true, false, List, None, IfSome};
     ghost use Rattle.nvme_log.specs.Rules.{FrontRules};
     ghost use Rattle.nvme_ctrl.specs.Notes.{Notes};
     ghost use Rattle.nvme_ctrl.specs.Standing.{Stands, IsController};
     ghost use Rattle.nvme_ctrl.specs.Steps.{HasFinished, NoneFinishable};
+    ghost use Rattle.nvme_ctrl.specs.kept.State.{sq_at};
+
+    // Whether a deletion is pending, and all completions of its queue are posted.
+    fn is_finishable(&self) -> bool
+        ensures pending { result ≡ true → self.now.deletion.pending ≢ 0 }
+        ensures posted { result ≡ true → (sq_at self.now.sqs self.now.deletion.region).unposted ≡ 0 }
+        ensures none { result ≡ false → (self.now.deletion.pending ≡ 0) ⊎ ((sq_at self.now.sqs self.now.deletion.region).unposted ≢ 0) }
+    {
+        self.deletion.pending != 0 && self.sq(self.deletion.region).unposted == 0
+    }
 
     /// Finishes the pending deletion, if all completions of its queue are posted, and tells the identifier of the queue.
     /// The completion of the Delete is then ready. None, which changes nothing, where no deletion is pending, and while
@@ -21,13 +31,10 @@ impl Controller {
         ensures told { (rules : FrontRules) (late : Bool) (notes : Notes) → Stands rules late notes self.old slots.old → result ≡ None → NoneFinishable notes }
         ensures stands { (rules : FrontRules) (late : Bool) (notes : Notes) → Stands rules late notes self.old slots.old → IfSome result (λ qid. HasFinished rules late notes qid self.new slots.new) }
     {
+        if !self.is_finishable() {
+            return None;
+        }
         let deletion = self.deletion;
-        if deletion.pending == 0 {
-            return None;
-        }
-        if self.sq(deletion.region).unposted != 0 {
-            return None;
-        }
         self.table.finish_delete(deletion.qid);
         self.deletion.pending = 0;
         // Its command is one of the admin queue.

@@ -1,9 +1,10 @@
 //! Laws of the log of a controller, over the definitions alone. Each function does nothing: its contract is the law.
-ghost use Rattle.std.specs.Prelude.{◌∷◌, [], true};
+ghost use Rattle.std.specs.Prelude.{◌≡◌, ◌∷◌, [], true, Some, None};
 ghost use Rattle.nvme_entry.specs.Status.{success, lba_out_of_range};
 ghost use Rattle.nvme_log.specs.declared.event.Event.TheVariants.{Fetch, OpenCq, Post, ClosedSq};
 ghost use Rattle.nvme_log.specs.Examples.{two_slots, one_deletion, get_arbitration, admin_picked, admin_posted, read, done, admin_seen, reads_seen, picked_of};
-ghost use Rattle.nvme_ctrl.specs.Notes.{Logged, Tail, Head, Taken, Answered};
+ghost use Rattle.nvme_ctrl.specs.Notes.{Logged, Tail, Head, Kept, Taken, Answered};
+ghost use Rattle.nvme_ctrl.specs.Tags.{cookie_of};
 ghost use Rattle.nvme_ctrl.specs.Account.{IsLawful, IsAccount};
 ghost use Rattle.nvme_ctrl.specs.Examples.{told, three_of_four, four_fetched, first_picked, first_answered, first_posted, third_answered, two_passes, succeeded, out_of_range, create_picked, reads_submitted, reads_waiting, read_picked, read_taken, delete_begun, aborts_posted, read_answered, reads_posted, deletion_noted};
 ghost use Rattle.nvme_ctrl.specs.Laws.{ControllersKeepAccounts, EventsAreAccounted, SlotsAreFetchedInOrder, CompletionsFollowAnswers, OneCompletionEach, SlotsAreFree, CompletionsTellTheHead, DeletesAreAnsweredLast, NoneFetchedAfterDeletion, NonePickedAfterDeletion, PicksAreLawful, TagsAreApart};
@@ -73,6 +74,17 @@ pub fn worked_logs_are_accounted()
     ensures two_passes { IsAccount two_slots two_passes }
     ensures deletion { IsAccount one_deletion deletion_noted }
     ensures other_answer { IsLawful one_deletion (Answered 1 0 out_of_range ∷ aborts_posted) (Logged (Post 1 1 0 (done 1 0 lba_out_of_range))) }
+{}
+
+/// What the caller keeps with a command is told of its place alone. It is kept once, and with a command that was
+/// fetched.
+pub fn cookies_are_kept_once()
+    ensures told { cookie_of (Kept 0 1 8 ∷ Kept 0 0 7 ∷ four_fetched) 0 0 ≡ Some 7 }
+    ensures other_index { cookie_of (Kept 0 1 8 ∷ Kept 0 0 7 ∷ four_fetched) 0 2 ≡ None }
+    ensures other_region { cookie_of (Kept 0 1 8 ∷ Kept 0 0 7 ∷ four_fetched) 1 0 ≡ None }
+    ensures kept { IsLawful two_slots four_fetched (Kept 0 3 7) }
+    ensures kept_twice { IsLawful two_slots (Kept 0 0 7 ∷ four_fetched) (Kept 0 0 8) → ⊥ }
+    ensures kept_unfetched { IsLawful two_slots four_fetched (Kept 0 4 7) → ⊥ }
 {}
 
 /// A slot is fetched twice, or past the doorbell. A tail goes past the slots that the host may fill, and a head past

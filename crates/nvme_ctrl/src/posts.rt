@@ -87,7 +87,7 @@ impl Controller {
         ensures stands { (rules : FrontRules) (late : Bool) (notes : Notes) → Stands rules late notes self.old slots.old → IfSome result (λ p. HasPosted rules late notes region p.slot p.cqe p.cookie self.new slots.new) }
     {
         let mut cq = self.cq(region);
-        if cq.ring.filled() + 1 >= u32::from(cq.ring.slots) {
+        if cq.ring.is_full() {
             return None;
         }
         let tag = cq.ready.pop(slots)?;

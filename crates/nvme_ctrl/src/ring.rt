@@ -63,6 +63,14 @@ impl Ring {
         gap(self.slots, self.head, self.tail)
     }
 
+    /// No slot is free to be written: a full ring has one entry less than it has slots. (Base Specification, Full Queue)
+    pub fn is_full(&self) -> bool
+        ensures full { result ≡ true → self.now.slots ≤ gap self.now.slots self.now.head self.now.tail + 1 }
+        ensures room { result ≡ false → gap self.now.slots self.now.head self.now.tail + 1 < self.now.slots }
+    {
+        self.filled() + 1 >= u32::from(self.slots)
+    }
+
     /// The entry at the head was read.
     pub fn read(&mut self)
         ensures counts { (read written : ℕ) → HasCounts self.old read written → read < written → HasCounts self.new (read + 1) written }

@@ -67,7 +67,8 @@ fn read(cid: u16) -> Sqe {
     entry(0x02, cid, 0, 0, 0)
 }
 
-// The next entry of a queue is read, from the slot that the controller tells.
+// The next entry of a queue is read, from the slot that the controller tells. What is kept with it is its command
+// identifier.
 fn fetch(
     rt: &impl Abort,
     ctrl: &mut Controller,
@@ -80,7 +81,7 @@ fn fetch(
     ensures { IsController ctrl.new slots.new }
 {
     assert_eq!(rt; ctrl.fetch(qid), Some(slot));
-    assert!(rt; ctrl.fetched(slots, qid, entry, u32::from(slot)));
+    assert!(rt; ctrl.fetched(slots, qid, entry, u32::from(entry.cid)));
 }
 
 // The host writes a tail doorbell, and a head doorbell.
@@ -107,6 +108,7 @@ fn posted(rt: &impl Abort, post: Option<Post>, want: (u16, u16, u16, bool), stat
     let cqe = post.cqe;
     assert_eq!(rt; (post.slot, cqe.sqhd, cqe.cid, cqe.phase), want);
     assert_eq!(rt; cqe.status, status);
+    assert_eq!(rt; post.cookie, u32::from(cqe.cid));
 }
 
 // Adds the regions of the I/O queue pair.
@@ -208,65 +210,56 @@ fn turn(rt: &impl Abort, ctrl: &mut Controller, slots: &mut [Slot], at: u16, nex
     head(rt, ctrl, slots, 1, next, true);
 }
 
+// The host submits three reads, of command identifiers that follow one another, and they are fetched. They fill the ring
+// of four slots.
+fn fill(rt: &impl Abort, ctrl: &mut Controller, slots: &mut [Slot], cid: u16)
+    requires few { cid < 100 }
+    requires front { IsController ctrl.old slots.old }
+    ensures { IsController ctrl.new slots.new }
+{
+    tail(rt, ctrl, slots, 1, 4, false);
+    tail(rt, ctrl, slots, 1, 3, true);
+    tail(rt, ctrl, slots, 1, 0, false);
+    fetch(rt, ctrl, slots, 1, 0, &read(cid));
+    fetch(rt, ctrl, slots, 1, 1, &read(cid + 1));
+    fetch(rt, ctrl, slots, 1, 2, &read(cid + 2));
+}
+
+// They are picked, and the device takes them.
+fn take_three(rt: &impl Abort, ctrl: &mut Controller, slots: &mut [Slot]) -> Option<[u16; 3]>
+    requires { IsController ctrl.old slots.old }
+    ensures { IsController ctrl.new slots.new }
+{
+    let step = ctrl.pick(slots);
+    assert!(rt; matches!(step, Step::Picked(Pick { qid: 1, n: 3, .. })));
+    assert_eq!(rt; ctrl.pick(slots), Step::Busy);
+    let first = ctrl.take(slots)?;
+    let second = ctrl.take(slots)?;
+    let third = ctrl.take(slots)?;
+    assert_eq!(rt; ctrl.take(slots), None);
+    Some([first, second, third])
+}
+
 #[test]
-fn commands_go_through(rt: HostRuntime) -> Result<(), Fail> {
+fn device_answers_in_any_order(rt: HostRuntime) -> Result<(), Fail> {
     let mut slots = [Slot::free(); 16];
     let mut ctrl = prepared(&rt, Mechanism::RoundRobin, &mut slots)?;
-    // three commands fill a ring of four slots
-    tail(&rt, &mut ctrl, &slots, 1, 4, false);
-    tail(&rt, &mut ctrl, &slots, 1, 3, true);
-    tail(&rt, &mut ctrl, &slots, 1, 0, false);
-    fetch(&rt, &mut ctrl, &mut slots, 1, 0, &read(20));
-    fetch(&rt, &mut ctrl, &mut slots, 1, 1, &read(21));
-    fetch(&rt, &mut ctrl, &mut slots, 1, 2, &read(22));
-    assert!(rt;
-        matches!(
-            ctrl.pick(&mut slots),
-            Step::Picked(Pick { qid: 1, n: 3, .. })
-        )
-    );
-    assert_eq!(rt; ctrl.pick(&mut slots), Step::Busy);
-    let (Some(first), Some(second), Some(third)) = (
-        ctrl.take(&mut slots),
-        ctrl.take(&mut slots),
-        ctrl.take(&mut slots),
-    ) else {
+    fill(&rt, &mut ctrl, &mut slots, 20);
+    let Some([first, second, third]) = take_three(&rt, &mut ctrl, &mut slots) else {
         return Err(Fail::from(AllocError));
     };
-    assert_eq!(rt; ctrl.take(&mut slots), None);
-    // the device answers in any order, and once
     assert!(rt; ctrl.complete(&mut slots, third, DONE));
+    // (and once)
     assert!(rt; !ctrl.complete(&mut slots, third, DONE));
     assert!(rt; ctrl.complete(&mut slots, first, DONE));
-    posted(
-        &rt,
-        ctrl.post(&mut slots, 1),
-        (0, 3, 22, true),
-        Status::SUCCESS,
-    );
-    posted(
-        &rt,
-        ctrl.post(&mut slots, 1),
-        (1, 3, 20, true),
-        Status::SUCCESS,
-    );
+    let after = (0, 3, 22, true);
+    post(&rt, &mut ctrl, &mut slots, 1, after, Status::SUCCESS);
+    let after = (1, 3, 20, true);
+    post(&rt, &mut ctrl, &mut slots, 1, after, Status::SUCCESS);
     assert_eq!(rt; ctrl.post(&mut slots, 1), None);
-    assert!(rt;
-        ctrl.complete(
-            &mut slots,
-            second,
-            Answer {
-                status: Status::LBA_OUT_OF_RANGE,
-                dw0: 9
-            }
-        )
-    );
-    posted(
-        &rt,
-        ctrl.post(&mut slots, 1),
-        (2, 3, 21, true),
-        Status::LBA_OUT_OF_RANGE,
-    );
+    let status = Status::LBA_OUT_OF_RANGE;
+    assert!(rt; ctrl.complete(&mut slots, second, Answer { status, dw0: 9 }));
+    post(&rt, &mut ctrl, &mut slots, 1, (2, 3, 21, true), status);
     Ok(())
 }
 
@@ -280,75 +273,49 @@ fn rings_go_round(rt: HostRuntime) -> Result<(), Fail> {
     Ok(())
 }
 
+// Abort of command 41 of queue 1. The admin queue goes first. (Base Specification, Abort)
+fn abort_one(rt: &impl Abort, ctrl: &mut Controller, slots: &mut [Slot])
+    requires { IsController ctrl.old slots.old }
+    ensures { IsController ctrl.new slots.new }
+{
+    let abort = entry(0x08, 12, 0, 41 << 16 | 1, 0);
+    tail(rt, ctrl, slots, 0, 3, true);
+    fetch(rt, ctrl, slots, 0, 2, &abort);
+    step(rt, ctrl, slots, true);
+    post(rt, ctrl, slots, 1, (0, 3, 41, true), Status::ABORT_REQUESTED);
+    post(rt, ctrl, slots, 0, (2, 3, 12, true), Status::SUCCESS);
+}
+
+// Delete of submission queue 1: nothing is fetched or picked any more. (Base Specification, Delete I/O Submission Queue)
+fn begin_delete(rt: &impl Abort, ctrl: &mut Controller, slots: &mut [Slot])
+    requires { IsController ctrl.old slots.old }
+    ensures { IsController ctrl.new slots.new }
+{
+    let delete = entry(0x00, 13, 0, 1, 0);
+    tail(rt, ctrl, slots, 0, 4, true);
+    fetch(rt, ctrl, slots, 0, 3, &delete);
+    step(rt, ctrl, slots, true);
+    assert_eq!(rt; ctrl.pick(slots), Step::Busy);
+    tail(rt, ctrl, slots, 1, 0, false);
+    assert_eq!(rt; (ctrl.fetch(0), ctrl.fetch(1)), (None, None));
+    assert_eq!(rt; ctrl.finish(slots), None);
+}
+
 #[test]
 fn abort_and_deletion_end_what_waits(rt: HostRuntime) -> Result<(), Fail> {
     let mut slots = [Slot::free(); 16];
     let mut ctrl = prepared(&rt, Mechanism::Weighted, &mut slots)?;
-    tail(&rt, &mut ctrl, &slots, 1, 3, true);
-    fetch(&rt, &mut ctrl, &mut slots, 1, 0, &read(40));
-    fetch(&rt, &mut ctrl, &mut slots, 1, 1, &read(41));
-    fetch(&rt, &mut ctrl, &mut slots, 1, 2, &read(42));
-    // Abort of command 41 of queue 1: the admin queue goes first
-    tail(&rt, &mut ctrl, &slots, 0, 4, true);
-    fetch(
-        &rt,
-        &mut ctrl,
-        &mut slots,
-        0,
-        2,
-        &entry(0x08, 12, 0, 41 << 16 | 1, 0),
-    );
-    fetch(&rt, &mut ctrl, &mut slots, 0, 3, &entry(0x00, 13, 0, 1, 0));
-    step(&rt, &mut ctrl, &mut slots, true);
-    post(
-        &rt,
-        &mut ctrl,
-        &mut slots,
-        1,
-        (0, 3, 41, true),
-        Status::ABORT_REQUESTED,
-    );
-    post(
-        &rt,
-        &mut ctrl,
-        &mut slots,
-        0,
-        (2, 4, 12, true),
-        Status::SUCCESS,
-    );
-    // Delete I/O Submission Queue 1
-    step(&rt, &mut ctrl, &mut slots, true);
-    assert_eq!(rt; ctrl.pick(&mut slots), Step::Busy);
-    tail(&rt, &mut ctrl, &slots, 1, 0, false);
-    assert_eq!(rt; (ctrl.fetch(0), ctrl.fetch(1)), (None, None));
+    fill(&rt, &mut ctrl, &mut slots, 40);
+    abort_one(&rt, &mut ctrl, &mut slots);
+    begin_delete(&rt, &mut ctrl, &mut slots);
+    let ended = Status::ABORTED_BY_DELETION;
+    post(&rt, &mut ctrl, &mut slots, 1, (1, 3, 40, true), ended);
     assert_eq!(rt; ctrl.finish(&mut slots), None);
-    post(
-        &rt,
-        &mut ctrl,
-        &mut slots,
-        1,
-        (1, 3, 40, true),
-        Status::ABORTED_BY_DELETION,
-    );
-    assert_eq!(rt; ctrl.finish(&mut slots), None);
-    post(
-        &rt,
-        &mut ctrl,
-        &mut slots,
-        1,
-        (2, 3, 42, true),
-        Status::ABORTED_BY_DELETION,
-    );
+    post(&rt, &mut ctrl, &mut slots, 1, (2, 3, 42, true), ended);
     assert_eq!(rt; ctrl.post(&mut slots, 0), None);
     assert_eq!(rt; ctrl.finish(&mut slots), Some(1));
-    post(
-        &rt,
-        &mut ctrl,
-        &mut slots,
-        0,
-        (3, 4, 13, true),
-        Status::SUCCESS,
-    );
+    let last = (3, 4, 13, true);
+    post(&rt, &mut ctrl, &mut slots, 0, last, Status::SUCCESS);
     assert_eq!(rt; ctrl.pick(&mut slots), Step::Idle);
     Ok(())
 }

@@ -19,7 +19,7 @@ after c = record c.count_post.new.self { free = c.push.new.self }
 
 done : (c : goal.After-slots-2-1) → HasDone c.cq-cq.result c.count_post.new.self.free c.args.slots.now c.put_item.new.slots c.in_ok-tag.tag c.write.new.self c.push.new.self c.push.new.slots
 done c = record {
-  room = let x = c.if-filled-from.false in let y = c.from.ensures in let z = c.filled.ensures.value in omega (arith, x, y, z);
+  room = c.is_full.ensures.room c.if-is_full.false;
   some = λ h. (let none = c.in_ok-tag.ensures.empty h in cc);
   first = λ y rest h. sym (same_Some c.in_ok-tag.tag y (c.in_ok-tag.ensures.some y rest h));
   rest = λ y rest h. subst (λ (q : Chain). IsChain c.args.slots.now q rest) (sym c.write.ensures.ready) (c.in_ok-tag.ensures.rest y rest h);
@@ -47,13 +47,10 @@ returns-clause-front c =
 pub returns-clause-stands : goal.returns-clause-stands
 returns-clause-stands c = posted c
 
-pub returns-then-filled-from-clause-told : goal.returns-then-filled-from-clause-told
-returns-then-filled-from-clause-told c rules late notes stands none =
-    let x = c.if-filled-from.true in
-    let y = c.from.ensures in
-    let z = c.filled.ensures.value in
+pub returns-then-is_full-clause-told : goal.returns-then-is_full-clause-told
+returns-then-is_full-clause-told c rules late notes stands none =
     inl (full_ring rules late notes c.args.self.now c.args.slots.now stands c.args.region
-    (subst (λ (o : CqState). o.ring.slots ≤ gap o.ring.slots o.ring.head o.ring.tail + 1) c.cq-cq.ensures (omega (arith, x, y, z))))
+    (subst (λ (o : CqState). o.ring.slots ≤ gap o.ring.slots o.ring.head o.ring.tail + 1) c.cq-cq.ensures (c.is_full.ensures.full c.if-is_full.true)))
 
 pub returns-in_err-tag-clause-told : goal.returns-in_err-tag-clause-told
 returns-in_err-tag-clause-told c rules late notes stands none =
