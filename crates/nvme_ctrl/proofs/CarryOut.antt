@@ -21,7 +21,7 @@ use Rattle.nvme_ctrl.specs.inside.Steps.{told}
 use Rattle.nvme_ctrl.specs.kept.Kept.{Items, IsThrough, IsCookie}
 use Rattle.nvme_ctrl.specs.inside.Loose.{IsLoose, Keeps, MakesReady, ended, with_item}
 use Rattle.nvme_ctrl.specs.inside.Carrying.{IsApplied, opening}
-use Rattle.nvme_ctrl.specs.kept.Pool.{item_at, slot_at}
+use Rattle.nvme_ctrl.specs.kept.Pool.{item_at}
 use Rattle.nvme_ctrl.proofs.AfterSteps.{IsChosen, after_admin}
 use Rattle.nvme_ctrl.proofs.CarriedOut.{made_notes, applied, cookie_kept, keeps_told, carried_told}
 use Rattle.nvme_ctrl.proofs.AppliedQueues.{opens_for, opens_there}

@@ -1,5 +1,5 @@
 -- A controller that is made stands at the empty log, at the rules of its admin regions.
-use Rattle.std.proofs.Common.{◌≡◌, ◌≢◌, ℕ, ◌%◌, ◌<◌, ◌^◌, ◌==◌, ◌||◌, nat_lt, Bool, false, true, List, [], length, map, replicate, Some, None, refl, sym, ap, ◌∙◌, subst, arith, ne_eqb, IsTrue, if◌then◌else◌, ◌&&◌}
+use Rattle.std.proofs.Common.{◌≡◌, ◌≢◌, ℕ, ◌%◌, ◌<◌, ◌^◌, ◌==◌, ◌||◌, nat_lt, Bool, false, true, List, [], length, map, replicate, Some, None, refl, sym, ap, ◌∙◌, subst, arith, ne_eqb, IsTrue, if◌then◌else◌}
 use Rattle.std.specs.Prelude.{slice_set}
 use Rattle.std.proofs.Math.Nat.{zero-div, zero-mod}
 use Rattle.std.proofs.Math.Seq.{drop-nil}

@@ -1,10 +1,8 @@
 -- The next pick, and a pick of an I/O queue: the controller stands at its log afterwards.
-use Rattle.std.proofs.Common.{◌-◌, ◌≢◌, ◌⊎◌, inl, inr}
+use Rattle.std.proofs.Common.{◌≢◌, ◌⊎◌, inl, inr}
 use Rattle.std.specs.Prelude.{option_map}
-use Rattle.std.proofs.lemmas.Bool.{and_parts, eqb-true}
 use Rattle.std.proofs.lemmas.List.{length-append, length-take-le}
 use Rattle.nvme_log.specs.Queues.{pending}
-use Rattle.nvme_log.specs.Completions.{outstanding}
 use Rattle.nvme_ctrl.specs.kept.Content.{PendingDelete}
 use Rattle.nvme_ctrl.specs.kept.Standing.{as_deletion}
 use Rattle.nvme_ctrl.specs.kept.Kept.{pending_of}

@@ -282,7 +282,14 @@ fn abort_one(rt: &impl Abort, ctrl: &mut Controller, slots: &mut [Slot])
     tail(rt, ctrl, slots, 0, 3, true);
     fetch(rt, ctrl, slots, 0, 2, &abort);
     step(rt, ctrl, slots, true);
-    post(rt, ctrl, slots, 1, (0, 3, 41, true), Status::ABORT_REQUESTED);
+    post(
+        rt,
+        ctrl,
+        slots,
+        1,
+        (0, 3, 41, true),
+        Status::ABORT_REQUESTED,
+    );
     post(rt, ctrl, slots, 0, (2, 3, 12, true), Status::SUCCESS);
 }
 

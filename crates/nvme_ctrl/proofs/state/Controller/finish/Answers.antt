@@ -1,8 +1,7 @@
-use Rattle.std.proofs.Common.{ap, sym, inr, ◌∙◌, ◌∷◌}
+use Rattle.std.proofs.Common.{◌∷◌}
 use Rattle.nvme_entry.specs.Status.{success}
 use Rattle.nvme_log.specs.declared.event.Event.TheVariants as event
 use Rattle.nvme_ctrl.specs.Notes.{Logged, Answered}
-use Rattle.nvme_ctrl.specs.declared.state.SqState.{SqState}
 use Rattle.nvme_ctrl.proofs.FinishCall.{closes, finish_call, none_finishes}
 use Rattle.nvme_ctrl.proofs.state.Controller.finish.Goals as goal
 

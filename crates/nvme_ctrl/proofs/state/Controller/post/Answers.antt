@@ -1,4 +1,4 @@
-use Rattle.std.proofs.Common.{◌+◌, ◌≤◌, Bool, ◌∷◌, sym, subst, arith, inl, inr}
+use Rattle.std.proofs.Common.{◌+◌, ◌≤◌, Bool, ◌∷◌, sym, subst, inl, inr}
 use Rattle.std.proofs.lemmas.Option.{same_Some}
 use Rattle.nvme_log.specs.Rules.{FrontRules}
 use Rattle.nvme_ctrl.specs.Notes.{Notes}
