@@ -71,6 +71,31 @@ impl Controller {
         })
     }
 
+    /// Makes the controller anew, as `new` does, with all slots of the pool free: nothing is left of its queues and commands.
+    /// Refused as `new` refuses. A refusal changes nothing. (Base Specification, Controller Reset)
+    pub fn reset(
+        &mut self,
+        mechanism: Mechanism,
+        settings: Settings,
+        limits: Limits,
+        window: u16,
+        sq: Region,
+        cq: Region,
+        slots: &mut [Slot],
+    ) -> Result<(), AdminError>
+        requires few { length slots.old < 2 ^ 16 }
+        ensures refused { IfErr result (λ e. admin_fault sq cq ≡ Some e) }
+        ensures made { OnOk result (admin_fault sq cq ≡ None) }
+        ensures unchanged { OnErr result ((self.new ≡ self.old) × (slots.new ≡ slots.old)) }
+        ensures front { OnOk result (IsController self.new slots.new) }
+        ensures stands { (sizes : List ℕ) → OnOk result (Stands (first_rules mechanism settings limits sq cq sizes) false [] self.new slots.new) }
+        ensures window { OnOk result (window_limit self.new ≡ window) }
+        ensures size { length slots.new ≡ length slots.old }
+    {
+        *self = Controller::new(mechanism, settings, limits, window, sq, cq, slots)?;
+        Ok(())
+    }
+
     /// Adds a submission region of `slots` slots, and answers its number, which counts from 0 in the order of adding.
     /// Refused where its address is that of another region, where there are `MAX_REGIONS` of its kind, and where the
     /// number of slots is outside its limits, in this order. A refusal changes nothing. (profile)

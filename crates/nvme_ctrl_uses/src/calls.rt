@@ -326,3 +326,39 @@ fn abort_and_deletion_end_what_waits(rt: HostRuntime) -> Result<(), Fail> {
     assert_eq!(rt; ctrl.pick(&mut slots), Step::Idle);
     Ok(())
 }
+
+#[test]
+fn reset_leaves_nothing(rt: HostRuntime) -> Result<(), Fail> {
+    let mut slots = [Slot::free(); 16];
+    let mut ctrl = prepared(&rt, Mechanism::Weighted, &mut slots)?;
+    fill(&rt, &mut ctrl, &mut slots, 40);
+    assert_eq!(rt; ctrl.waiting(1), 3);
+    let limits = Limits { nsq: 4, ncq: 4 };
+    let mechanism = Mechanism::RoundRobin;
+    ctrl.reset(
+        mechanism,
+        Settings::from_cdw11(0),
+        limits,
+        4,
+        ASQ,
+        ACQ,
+        &mut slots,
+    )?;
+    assert_eq!(rt; (ctrl.waiting(1), ctrl.sq_region(1)), (0, None));
+    tail(&rt, &mut ctrl, &slots, 1, 1, false);
+    assert_eq!(rt; ctrl.pick(&mut slots), Step::Idle);
+    // (the admin queue begins at its first slot again, and the phase tag at 1)
+    tail(&rt, &mut ctrl, &slots, 0, 1, true);
+    fetch(&rt, &mut ctrl, &mut slots, 0, 0, &create_cq(50));
+    step(&rt, &mut ctrl, &mut slots, true);
+    // (no region has the address)
+    post(
+        &rt,
+        &mut ctrl,
+        &mut slots,
+        0,
+        (0, 1, 50, true),
+        Status::INVALID_FIELD,
+    );
+    Ok(())
+}

@@ -4,6 +4,7 @@ use byteorder::{ByteOrder, LittleEndian};
 
 /// A submission queue entry of 64 bytes. All its bytes are kept, those that no command here uses
 /// among them. (Base Specification, Submission Queue Entry, Common Command Format)
+#[repr(C)]
 #[derive(Clone, Copy, Debug, Default, PartialEq, Eq)]
 pub struct Sqe {
     /// The command's opcode.
