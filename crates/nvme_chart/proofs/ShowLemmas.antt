@@ -1,9 +1,9 @@
 -- A watcher goes through the lines of a text.
-use Rattle.std.proofs.Common.{◌≡◌, ℕ, ◌+◌, Bool, true, false, List, [], ◌∷◌, ◌++◌, length, reverse, Option, Some, None, Result, Ok, Err, OnOk, inl, inr, refl, sym, ap, subst, ◌∙◌, append_assoc, append-nil, arith}
+use Rattle.std.proofs.Common.{◌≡◌, ℕ, ◌+◌, Bool, true, false, List, [], ◌∷◌, ◌++◌, reverse, Option, Some, None, Result, Ok, Err, OnOk, inl, inr, refl, sym, ap, subst, ◌∙◌, append_assoc, append-nil}
 use Rattle.std.specs.Prelude.{IfSome}
 use mathlib.Core.List.{reverse-cons, reverse-reverse}
 use Rattle.nvme_arbiter.specs.History.{ArbitrationEvent, History}
-use Rattle.nvme_trace.specs.Lines.{lines_of, TakesLine, HasNoLine}
+use Rattle.nvme_trace.specs.Lines.{lines_of, numbered, told_lines, TakesTold, HasNoTold}
 use Rattle.nvme_trace.specs.Format.{head_of_line, event_of_line}
 use Rattle.nvme_trace.specs.Faults.{IsHeadFault, IsEventFault}
 use Rattle.nvme_trace.specs.Checks.{Tells}
@@ -25,42 +25,41 @@ ShownUpTo text None number head P = ⊥
 ShownUpTo text (Some rest) number head P = IsShownUpTo text rest number head P
 
 -- one line more, of those before the others
-reverse_more : (line : List ℕ) (lines rest : List (List ℕ)) → reverse lines ++ line ∷ rest ≡ reverse (line ∷ lines) ++ rest
-reverse_more line lines rest = sym (append_assoc (reverse lines) (line ∷ []) rest) ∙ ap (λ (ls : List (List ℕ)). ls ++ rest) (sym (reverse-cons line lines))
+reverse_more : (line : ℕ × List ℕ) (lines rest : List (ℕ × List ℕ)) → reverse lines ++ line ∷ rest ≡ reverse (line ∷ lines) ++ rest
+reverse_more line lines rest = sym (append_assoc (reverse lines) (line ∷ []) rest) ∙ ap (λ (ls : List (ℕ × List ℕ)). ls ++ rest) (sym (reverse-cons line lines))
 
 -- after the head
-pub shown_head : (text : List ℕ) (new : Option (List ℕ)) (head : Head) (P : History → Type 0) → TakesLine (λ line. head_of_line line ≡ Ok head) (Some text) new → P [] → ShownUpTo text new 1 head P
-shown_head text None head P t p = t
-shown_head text (Some rest) head P (line, split, is) p = record {
+pub shown_head : (text : List ℕ) (n : ℕ) (new : Option (List ℕ)) (head : Head) (P : History → Type 0) → TakesTold (λ line. head_of_line line ≡ Ok head) 0 (Some text) n new → P [] → ShownUpTo text new n head P
+shown_head text n None head P t p = t
+shown_head text n (Some rest) head P (line, split, is) p = record {
   past = [];
-  before = record { lines = line ∷ []; split = split; count = refl; tells = (line, refl, is) };
+  before = record { lines = (n, line) ∷ []; split = split; tells = ((n, line), refl, is) };
   holds = p;
 }
 
 -- after one event more
-pub shown_more : (text : List ℕ) (old new : Option (List ℕ)) (number : ℕ) (head : Head) (P Q : History → Type 0) (e : ArbitrationEvent)
-    → ShownUpTo text old number head P → TakesLine (λ line. event_of_line line ≡ Ok e) old new → ((past : History) → P past → Q (e ∷ past))
-    → ShownUpTo text new (number + 1) head Q
-shown_more text None new number head P Q e j t f = absurd j
-shown_more text (Some xs) None number head P Q e j t f = absurd t
-shown_more text (Some xs) (Some ys) number head P Q e j (line, split, is) f = record {
+pub shown_more : (text : List ℕ) (m : ℕ) (old : Option (List ℕ)) (n : ℕ) (new : Option (List ℕ)) (head : Head) (P Q : History → Type 0) (e : ArbitrationEvent)
+    → ShownUpTo text old m head P → TakesTold (λ line. event_of_line line ≡ Ok e) m old n new → ((past : History) → P past → Q (e ∷ past))
+    → ShownUpTo text new n head Q
+shown_more text m None n new head P Q e j t f = absurd j
+shown_more text m (Some xs) n None head P Q e j t f = absurd t
+shown_more text m (Some xs) n (Some ys) head P Q e j (line, split, is) f = record {
   past = e ∷ j.past;
   before = record {
-    lines = line ∷ j.before.lines;
-    split = j.before.split ∙ ap (λ (ls : List (List ℕ)). reverse j.before.lines ++ ls) split ∙ reverse_more line j.before.lines (lines_of ys);
-    count = let c : length j.before.lines ≡ number = j.before.count in omega arith;
-    tells = (line, j.before.lines, refl, is, j.before.tells);
+    lines = (n, line) ∷ j.before.lines;
+    split = j.before.split ∙ ap (λ (ls : List (ℕ × List ℕ)). reverse j.before.lines ++ ls) split ∙ reverse_more (n, line) j.before.lines (numbered n (lines_of ys));
+    tells = ((n, line), j.before.lines, refl, is, j.before.tells);
   };
   holds = f j.past j.holds;
 }
 
 -- after the last line
-pub shown_all : (text : List ℕ) (old : Option (List ℕ)) (number : ℕ) (head : Head) (P : Head → History → Type 0) → ShownUpTo text old number head (P head) → HasNoLine old → IsShown text P
+pub shown_all : (text : List ℕ) (old : Option (List ℕ)) (number : ℕ) (head : Head) (P : Head → History → Type 0) → ShownUpTo text old number head (P head) → HasNoTold number old → IsShown text P
 shown_all text None number head P j n = absurd j
 shown_all text (Some xs) number head P j n =
-    let lines : List (List ℕ) = j.before.lines in
-    let all : lines_of text ≡ reverse lines = j.before.split ∙ ap (λ (ls : List (List ℕ)). reverse lines ++ ls) n ∙ append-nil (reverse lines) in
-    let back : lines ≡ reverse (lines_of text) = sym (ap reverse all ∙ reverse-reverse lines) in record {
+    let lines : List (ℕ × List ℕ) = j.before.lines in
+    let all : told_lines text ≡ reverse lines = j.before.split ∙ ap (λ (ls : List (ℕ × List ℕ)). reverse lines ++ ls) n ∙ append-nil (reverse lines) in
+    let back : lines ≡ reverse (told_lines text) = sym (ap reverse all ∙ reverse-reverse lines) in record {
       head = head;
       past = j.past;
       tells = subst (Tells head j.past) back j.before.tells;
@@ -115,25 +114,25 @@ pub head_fault : (known : Option (List ℕ)) (e : TraceError) → IsHeadFault e 
 head_fault None e f = tt
 head_fault (Some text) e f = inl f
 
-pub later : (P : List ℕ → Type 0) (known new : Option (List ℕ)) (head : Head) → TakesLine (λ line. head_of_line line ≡ Ok head) known new
-    → ((text : List ℕ) → TakesLine (λ line. head_of_line line ≡ Ok head) (Some text) new → P text) → IfSome known P
-later P None new head t h = tt
-later P (Some text) new head t h = h text t
+pub later : (P : List ℕ → Type 0) (known : Option (List ℕ)) (n : ℕ) (new : Option (List ℕ)) (head : Head) → TakesTold (λ line. head_of_line line ≡ Ok head) 0 known n new
+    → ((text : List ℕ) → TakesTold (λ line. head_of_line line ≡ Ok head) 0 (Some text) n new → P text) → IfSome known P
+later P None n new head t h = tt
+later P (Some text) n new head t h = h text t
 
 -- what is shown of a text whose head was read, and its fault
-pub shown_at : (P : Head → History → Type 0) (Start : Head → Type 0) (known rest new : Option (List ℕ)) (head : Head) → rest ≡ known
-    → TakesLine (λ line. head_of_line line ≡ Ok head) rest new → Start head
-    → ((text : List ℕ) (h : Head) → TakesLine (λ line. head_of_line line ≡ Ok h) (Some text) new → Start h → IsShown text P)
+pub shown_at : (P : Head → History → Type 0) (Start : Head → Type 0) (known rest : Option (List ℕ)) (n : ℕ) (new : Option (List ℕ)) (head : Head) → rest ≡ known
+    → TakesTold (λ line. head_of_line line ≡ Ok head) 0 rest n new → Start head
+    → ((text : List ℕ) (h : Head) → TakesTold (λ line. head_of_line line ≡ Ok h) 0 (Some text) n new → Start h → IsShown text P)
     → IfSome known (λ text. IsShown text P)
-shown_at P Start known rest new head is t s f =
-    later (λ text. IsShown text P) known new head (subst (λ (k : Option (List ℕ)). TakesLine (λ line. head_of_line line ≡ Ok head) k new) is t) (λ text took. f text head took s)
+shown_at P Start known rest n new head is t s f =
+    later (λ text. IsShown text P) known n new head (subst (λ (k : Option (List ℕ)). TakesTold (λ line. head_of_line line ≡ Ok head) 0 k n new) is t) (λ text took. f text head took s)
 
-pub fault_at : (e : TraceError) (Start : Head → Type 0) (known rest new : Option (List ℕ)) (head : Head) → rest ≡ known
-    → TakesLine (λ line. head_of_line line ≡ Ok head) rest new → Start head
-    → ((text : List ℕ) (h : Head) → TakesLine (λ line. head_of_line line ≡ Ok h) (Some text) new → Start h → IsReadFault text e)
+pub fault_at : (e : TraceError) (Start : Head → Type 0) (known rest : Option (List ℕ)) (n : ℕ) (new : Option (List ℕ)) (head : Head) → rest ≡ known
+    → TakesTold (λ line. head_of_line line ≡ Ok head) 0 rest n new → Start head
+    → ((text : List ℕ) (h : Head) → TakesTold (λ line. head_of_line line ≡ Ok h) 0 (Some text) n new → Start h → IsReadFault text e)
     → IfSome known (λ text. IsReadFault text e)
-fault_at e Start known rest new head is t s f =
-    later (λ text. IsReadFault text e) known new head (subst (λ (k : Option (List ℕ)). TakesLine (λ line. head_of_line line ≡ Ok head) k new) is t) (λ text took. f text head took s)
+fault_at e Start known rest n new head is t s f =
+    later (λ text. IsReadFault text e) known n new head (subst (λ (k : Option (List ℕ)). TakesTold (λ line. head_of_line line ≡ Ok head) 0 k n new) is t) (λ text took. f text head took s)
 
 pub head_fault_at : (e : TraceError) (known rest : Option (List ℕ)) → rest ≡ known → IsHeadFault e 0 rest → IfSome known (λ text. IsReadFault text e)
 head_fault_at e known rest is f = head_fault known e (subst (λ (k : Option (List ℕ)). IsHeadFault e 0 k) is f)

@@ -1,25 +1,24 @@
 -- The events of a text that is a trace, and its first fault. That the picks are lawful is not asked. (profile)
-use Rattle.std.specs.Prelude.{◌≡◌, ◌⊎◌, ℕ, List, ◌++◌, length, reverse, Some}
+use Rattle.std.specs.Prelude.{◌≡◌, ◌⊎◌, ℕ, List, ◌++◌, reverse, Some}
 use Rattle.nvme_arbiter.specs.History.{History}
-use Rattle.nvme_trace.specs.Lines.{lines_of}
+use Rattle.nvme_trace.specs.Lines.{lines_of, numbered, told_lines}
 use Rattle.nvme_trace.specs.Faults.{IsHeadFault, IsEventFault}
 use Rattle.nvme_trace.specs.Checks.{Tells}
 use Rattle.nvme_trace.specs.declared.fault.TraceError.{TraceError}
 use Rattle.nvme_trace.specs.declared.records.Head.{Head}
 
--- the text is a head and events of which this holds
+-- the text is a head and events of which this holds. Blank lines don't matter
 pub record IsShown (text : List ℕ) (P : Head → History → Type 0) : Type 0 where
   pub head : Head
   pub past : History
-  pub tells : Tells head past (reverse (lines_of text))
+  pub tells : Tells head past (reverse (told_lines text))
   pub holds : P head past
 
--- this many lines of a text are a head and events, and then the other bytes follow
+-- this many lines of a text are a head and events, or blank, and then the other bytes follow
 pub record IsReadUpTo (text rest : List ℕ) (number : ℕ) (head : Head) (past : History) : Type 0 where
-  -- the last one first
-  pub lines : List (List ℕ)
-  pub split : lines_of text ≡ reverse lines ++ lines_of rest
-  pub count : length lines ≡ number
+  -- those that aren't blank, the last one first
+  pub lines : List (ℕ × List ℕ)
+  pub split : told_lines text ≡ reverse lines ++ numbered number (lines_of rest)
   pub tells : Tells head past lines
 
 -- a fault in a later line: all lines before it are a head and events

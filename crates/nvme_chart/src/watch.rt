@@ -2,7 +2,7 @@
 ghost use Rattle.std.specs.Prelude.{◌≡◌, ◌+◌, List, ℕ, Some, Ok, [], ◌∷◌, IfErr, OnOk};
 ghost use Rattle.nvme_arbiter.specs.History.{History};
 ghost use Rattle.nvme_trace.specs.Format.{event_view, head_of_line};
-ghost use Rattle.nvme_trace.specs.Lines.{TakesLine};
+ghost use Rattle.nvme_trace.specs.Lines.{TakesTold};
 ghost use Rattle.nvme_trace.specs.declared.records.Head.{Head};
 ghost use Rattle.nvme_trace.specs.declared.fault.TraceError.TheVariants as fault;
 ghost use Rattle.nvme_chart.specs.Chosen.{chosen, number_after};
@@ -63,9 +63,8 @@ pub fn show<R: Read, W: Watch>(
     selection: Selection,
     watcher: &mut W,
 ) -> Result<(), TraceError>
-    requires { trace.old.number ≡ 1 }
-    ensures shown { OnOk result ((text : List ℕ) (head : Head) → TakesLine (λ line. head_of_line line ≡ Ok head) (Some text) trace.old.rest → W.stands head [] watcher.old → IsShown text (λ h past. W.stands h (chosen selection past) watcher.new)) }
-    ensures fault { IfErr result (λ error. (text : List ℕ) (head : Head) → TakesLine (λ line. head_of_line line ≡ Ok head) (Some text) trace.old.rest → W.stands head [] watcher.old → IsReadFault text error) }
+    ensures shown { OnOk result ((text : List ℕ) (head : Head) → TakesTold (λ line. head_of_line line ≡ Ok head) 0 (Some text) trace.old.number trace.old.rest → W.stands head [] watcher.old → IsShown text (λ h past. W.stands h (chosen selection past) watcher.new)) }
+    ensures fault { IfErr result (λ error. (text : List ℕ) (head : Head) → TakesTold (λ line. head_of_line line ≡ Ok head) 0 (Some text) trace.old.number trace.old.rest → W.stands head [] watcher.old → IsReadFault text error) }
 {
     let mut chooser = Chooser { selection, next: 1 };
     for _ in 1..u64::MAX {

@@ -168,14 +168,14 @@ or_else (Err e) A B C more (inr b) = inr (more b)
 -- a line of a trace that has a fault
 pub faulty_trace : (basis : Basis) (input : Option (List ℕ)) (e : TraceError) → IfSome input (λ text. IsFaultBy basis text e) → trace_status e ≡ 1 → IfSome input (IsFaultyTrace basis)
 faulty_trace basis None e h one = tt
-faulty_trace basis (Some text) (trace.Line line f) h one = (line, f, h)
+faulty_trace basis (Some text) (trace.Line line f note) h one = (line, f, note, h)
 faulty_trace basis (Some text) trace.Read h one = absurd (cc one)
 faulty_trace basis (Some text) trace.NoMemory h one = absurd (cc one)
 
 -- a line of a trace that is shown has a fault
 pub faulty_shown : (input : Option (List ℕ)) (e : TraceError) → IfSome input (λ text. IsReadFault text e) → trace_status e ≡ 1 → IfSome input IsFaultyShown
 faulty_shown None e h one = tt
-faulty_shown (Some text) (trace.Line line f) h one = (line, f, h)
+faulty_shown (Some text) (trace.Line line f note) h one = (line, f, note, h)
 faulty_shown (Some text) trace.Read h one = absurd (cc one)
 faulty_shown (Some text) trace.NoMemory h one = absurd (cc one)
 

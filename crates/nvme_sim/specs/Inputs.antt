@@ -24,7 +24,7 @@ IsJudgedBy words Specification = (asks (codes "check") words ≡ true) × (asks_
 
 -- a trace has a line with a fault, and each pick before it is allowed
 abbrev pub IsFaultyTrace : Basis → List ℕ → Type 0
-IsFaultyTrace basis bytes = (line : ℕ) × (fault : LineFault) × IsFaultBy basis bytes (trace.Line line fault)
+IsFaultyTrace basis bytes = (line : ℕ) × (fault : LineFault) × (note : String Global) × IsFaultBy basis bytes (trace.Line line fault note)
 
 -- a trace has a pick that isn't allowed, and each pick before it is
 abbrev pub IsRefusedTrace : Basis → List ℕ → Type 0
@@ -59,7 +59,7 @@ IsTrace bytes = IsShown bytes (λ head past. Unit {0})
 
 -- a trace that is shown has a line with a fault, and the lines before it are a head and events
 abbrev pub IsFaultyShown : List ℕ → Type 0
-IsFaultyShown bytes = (line : ℕ) × (fault : LineFault) × IsReadFault bytes (trace.Line line fault)
+IsFaultyShown bytes = (line : ℕ) × (fault : LineFault) × (note : String Global) × IsReadFault bytes (trace.Line line fault note)
 
 -- a workload has warnings
 abbrev pub HasWarnings : List ℕ → Type 0

@@ -48,7 +48,7 @@ run_status run.Write = 3
 
 -- a trace that wasn't read to its end: a line that is faulty is the input's fault
 abbrev pub trace_status : TraceError → ℕ
-trace_status (trace.Line line f) = 1
+trace_status (trace.Line line f note) = 1
 trace_status trace.Read = 3
 trace_status trace.NoMemory = 3
 

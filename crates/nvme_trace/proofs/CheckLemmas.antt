@@ -1,9 +1,9 @@
 -- A judge goes through the lines of a text.
-use Rattle.std.proofs.Common.{◌≡◌, ℕ, ◌+◌, List, [], ◌∷◌, ◌++◌, length, reverse, Option, Some, None, Ok, inl, inr, refl, sym, ap, subst, ◌∙◌, append_assoc, append-nil, arith}
+use Rattle.std.proofs.Common.{◌≡◌, ℕ, ◌+◌, List, [], ◌∷◌, ◌++◌, reverse, Option, Some, None, Ok, inl, inr, refl, sym, ap, subst, ◌∙◌, append_assoc, append-nil}
 use Rattle.std.specs.Prelude.{IfSome, IfOk, IfErr, Result, Err}
 use mathlib.Core.List.{reverse-cons, reverse-reverse}
 use Rattle.nvme_arbiter.specs.History.{ArbitrationEvent, Picked, Changed, History}
-use Rattle.nvme_trace.specs.Lines.{lines_of, TakesLine, HasNoLine}
+use Rattle.nvme_trace.specs.Lines.{lines_of, numbered, told_lines, TakesTold, HasNoTold}
 use Rattle.nvme_trace.specs.Format.{head_of_line, event_by}
 use Rattle.nvme_trace.specs.Judged.{IsObserved, picks_of}
 use Rattle.nvme_trace.specs.Bases.{IsRunBy, IsAllowedBy, IsReasonBy, StandsBy, picks_by}
@@ -18,8 +18,8 @@ use Rattle.nvme_trace.specs.declared.judges.BasisJudge.{BasisJudge}
 use Rattle.nvme_trace.specs.declared.checks.Checked.{Checked}
 
 -- one line more, of those before the others
-reverse_more : (line : List ℕ) (lines rest : List (List ℕ)) → reverse lines ++ line ∷ rest ≡ reverse (line ∷ lines) ++ rest
-reverse_more line lines rest = sym (append_assoc (reverse lines) (line ∷ []) rest) ∙ ap (λ (ls : List (List ℕ)). ls ++ rest) (sym (reverse-cons line lines))
+reverse_more : (line : ℕ × List ℕ) (lines rest : List (ℕ × List ℕ)) → reverse lines ++ line ∷ rest ≡ reverse (line ∷ lines) ++ rest
+reverse_more line lines rest = sym (append_assoc (reverse lines) (line ∷ []) rest) ∙ ap (λ (ls : List (ℕ × List ℕ)). ls ++ rest) (sym (reverse-cons line lines))
 
 run_more : (basis : Basis) (head : Head) (past : History) (e : ArbitrationEvent) → IsObserved e → IsAllowedBy basis head past e → IsRunBy basis head past → IsRunBy basis head (e ∷ past)
 run_more Profile head past (Picked seen pick) o l h = (o, l, h)
@@ -32,30 +32,29 @@ run_first Profile head = tt
 run_first Specification head = tt
 
 -- after the head
-pub judged_head : (basis : Basis) (text : List ℕ) (new : Option (List ℕ)) (head : Head) (judge : BasisJudge) → TakesLine (λ line. head_of_line line ≡ Ok head) (Some text) new → StandsBy basis head [] judge → picks_by judge ≡ 0 → JudgedUpTo basis text new 1 head judge
-judged_head basis text None head judge t s p = t
-judged_head basis text (Some rest) head judge (line, split, is) s p = record {
+pub judged_head : (basis : Basis) (text : List ℕ) (n : ℕ) (new : Option (List ℕ)) (head : Head) (judge : BasisJudge) → TakesTold (λ line. head_of_line line ≡ Ok head) 0 (Some text) n new → StandsBy basis head [] judge → picks_by judge ≡ 0 → JudgedUpTo basis text new n head judge
+judged_head basis text n None head judge t s p = t
+judged_head basis text n (Some rest) head judge (line, split, is) s p = record {
   past = [];
-  before = record { lines = line ∷ []; split = split; count = refl; tells = (line, refl, is); lawful = run_first basis head };
+  before = record { lines = (n, line) ∷ []; split = split; tells = ((n, line), refl, is); lawful = run_first basis head };
   stands = s;
   picks = p;
 }
 
 -- after one event more that is lawful
-pub judged_more : (basis : Basis) (text : List ℕ) (old new : Option (List ℕ)) (number : ℕ) (head : Head) (judge next : BasisJudge) (e : ArbitrationEvent)
-    → JudgedUpTo basis text old number head judge → TakesLine (λ line. event_by basis line ≡ Ok e) old new → IsObserved e
+pub judged_more : (basis : Basis) (text : List ℕ) (m : ℕ) (old : Option (List ℕ)) (n : ℕ) (new : Option (List ℕ)) (head : Head) (judge next : BasisJudge) (e : ArbitrationEvent)
+    → JudgedUpTo basis text old m head judge → TakesTold (λ line. event_by basis line ≡ Ok e) m old n new → IsObserved e
     → ((past : History) → StandsBy basis head past judge → IsAllowedBy basis head past e)
     → ((past : History) → StandsBy basis head past judge → StandsBy basis head (e ∷ past) next)
-    → picks_by next ≡ picks_by judge + picks_of e → JudgedUpTo basis text new (number + 1) head next
-judged_more basis text None new number head judge next e j t o l s p = absurd j
-judged_more basis text (Some xs) None number head judge next e j t o l s p = absurd t
-judged_more basis text (Some xs) (Some ys) number head judge next e j (line, split, is) o l s p = record {
+    → picks_by next ≡ picks_by judge + picks_of e → JudgedUpTo basis text new n head next
+judged_more basis text m None n new head judge next e j t o l s p = absurd j
+judged_more basis text m (Some xs) n None head judge next e j t o l s p = absurd t
+judged_more basis text m (Some xs) n (Some ys) head judge next e j (line, split, is) o l s p = record {
   past = e ∷ j.past;
   before = record {
-    lines = line ∷ j.before.lines;
-    split = j.before.split ∙ ap (λ (ls : List (List ℕ)). reverse j.before.lines ++ ls) split ∙ reverse_more line j.before.lines (lines_of ys);
-    count = let c : length j.before.lines ≡ number = j.before.count in omega arith;
-    tells = (line, j.before.lines, refl, is, j.before.tells);
+    lines = (n, line) ∷ j.before.lines;
+    split = j.before.split ∙ ap (λ (ls : List (ℕ × List ℕ)). reverse j.before.lines ++ ls) split ∙ reverse_more (n, line) j.before.lines (numbered n (lines_of ys));
+    tells = ((n, line), j.before.lines, refl, is, j.before.tells);
     lawful = run_more basis head j.past e o (l j.past j.stands) j.before.lawful;
   };
   stands = s j.past j.stands;
@@ -63,12 +62,12 @@ judged_more basis text (Some xs) (Some ys) number head judge next e j (line, spl
 }
 
 -- after the last line
-pub judged_all : (basis : Basis) (text : List ℕ) (old : Option (List ℕ)) (number : ℕ) (head : Head) (judge : BasisJudge) (picks : ℕ) → JudgedUpTo basis text old number head judge → HasNoLine old → picks ≡ picks_by judge → IsLawfulBy basis text picks
+pub judged_all : (basis : Basis) (text : List ℕ) (old : Option (List ℕ)) (number : ℕ) (head : Head) (judge : BasisJudge) (picks : ℕ) → JudgedUpTo basis text old number head judge → HasNoTold number old → picks ≡ picks_by judge → IsLawfulBy basis text picks
 judged_all basis text None number head judge picks j n p = absurd j
 judged_all basis text (Some xs) number head judge picks j n p =
-    let lines : List (List ℕ) = j.before.lines in
-    let all : lines_of text ≡ reverse lines = j.before.split ∙ ap (λ (ls : List (List ℕ)). reverse lines ++ ls) n ∙ append-nil (reverse lines) in
-    let back : lines ≡ reverse (lines_of text) = sym (ap reverse all ∙ reverse-reverse lines) in record {
+    let lines : List (ℕ × List ℕ) = j.before.lines in
+    let all : told_lines text ≡ reverse lines = j.before.split ∙ ap (λ (ls : List (ℕ × List ℕ)). reverse lines ++ ls) n ∙ append-nil (reverse lines) in
+    let back : lines ≡ reverse (told_lines text) = sym (ap reverse all ∙ reverse-reverse lines) in record {
       head = head;
       past = j.past;
       tells = subst (TellsBy basis head j.past) back j.before.tells;
@@ -77,24 +76,24 @@ judged_all basis text (Some xs) number head judge picks j n p =
     }
 
 -- at a pick that is not allowed
-pub judged_reason : (basis : Basis) (text : List ℕ) (old new : Option (List ℕ)) (number line : ℕ) (head : Head) (judge : BasisJudge) (e : ArbitrationEvent) (reason : Reason)
-    → JudgedUpTo basis text old number head judge → TakesLine (λ line. event_by basis line ≡ Ok e) old new
+pub judged_reason : (basis : Basis) (text : List ℕ) (m : ℕ) (old : Option (List ℕ)) (n : ℕ) (new : Option (List ℕ)) (line : ℕ) (head : Head) (judge : BasisJudge) (e : ArbitrationEvent) (reason : Reason)
+    → JudgedUpTo basis text old m head judge → TakesTold (λ line. event_by basis line ≡ Ok e) m old n new
     → ((past : History) → StandsBy basis head past judge → IsReasonBy basis head past e reason)
-    → line ≡ number + 1 → IsRefusedBy basis text line reason
-judged_reason basis text None new number line head judge e reason j t f n = absurd j
-judged_reason basis text (Some xs) None number line head judge e reason j t f n = absurd t
-judged_reason basis text (Some xs) (Some ys) number line head judge e reason j (at, split, is) f n = record {
+    → line ≡ n → IsRefusedBy basis text line reason
+judged_reason basis text m None n new line head judge e reason j t f is = absurd j
+judged_reason basis text m (Some xs) n None line head judge e reason j t f is = absurd t
+judged_reason basis text m (Some xs) n (Some ys) line head judge e reason j (at, split, says) f is = record {
   head = head;
   past = j.past;
   event = e;
   at = at;
-  later = lines_of ys;
+  later = numbered n (lines_of ys);
   earlier = j.before.lines;
-  split = j.before.split ∙ ap (λ (ls : List (List ℕ)). reverse j.before.lines ++ ls) split;
-  number = let c : length j.before.lines ≡ number = j.before.count in omega arith;
+  split = subst (λ (k : ℕ). told_lines text ≡ reverse j.before.lines ++ (k, at) ∷ numbered n (lines_of ys)) (sym is)
+      (j.before.split ∙ ap (λ (ls : List (ℕ × List ℕ)). reverse j.before.lines ++ ls) split);
   tells = j.before.tells;
   lawful = j.before.lawful;
-  says = is;
+  says = says;
   reason_is = f j.past j.stands;
 }
 
@@ -109,19 +108,19 @@ pub head_fault : (basis : Basis) (known : Option (List ℕ)) (error : TraceError
 head_fault basis None error f = tt
 head_fault basis (Some text) error f = inl f
 
-pub later : (P : List ℕ → Type 0) (known new : Option (List ℕ)) (head : Head) → TakesLine (λ line. head_of_line line ≡ Ok head) known new
-    → ((text : List ℕ) → TakesLine (λ line. head_of_line line ≡ Ok head) (Some text) new → P text) → IfSome known P
-later P None new head t h = tt
-later P (Some text) new head t h = h text t
+pub later : (P : List ℕ → Type 0) (known : Option (List ℕ)) (n : ℕ) (new : Option (List ℕ)) (head : Head) → TakesTold (λ line. head_of_line line ≡ Ok head) 0 known n new
+    → ((text : List ℕ) → TakesTold (λ line. head_of_line line ≡ Ok head) 0 (Some text) n new → P text) → IfSome known P
+later P None n new head t h = tt
+later P (Some text) n new head t h = h text t
 
-pub all_answers : (basis : Basis) (known new : Option (List ℕ)) (head : Head) (r : Result Checked TraceError) → TakesLine (λ line. head_of_line line ≡ Ok head) known new
-    → IfOk r (λ checked. (text : List ℕ) → TakesLine (λ line. head_of_line line ≡ Ok head) (Some text) new → IsAnswer basis text checked)
+pub all_answers : (basis : Basis) (known : Option (List ℕ)) (n : ℕ) (new : Option (List ℕ)) (head : Head) (r : Result Checked TraceError) → TakesTold (λ line. head_of_line line ≡ Ok head) 0 known n new
+    → IfOk r (λ checked. (text : List ℕ) → TakesTold (λ line. head_of_line line ≡ Ok head) 0 (Some text) n new → IsAnswer basis text checked)
     → IfOk r (λ checked. IfSome known (λ text. IsAnswer basis text checked))
-all_answers basis known new head (Ok x) t h = later (λ text. IsAnswer basis text x) known new head t h
-all_answers basis known new head (Err e) t h = tt
+all_answers basis known n new head (Ok x) t h = later (λ text. IsAnswer basis text x) known n new head t h
+all_answers basis known n new head (Err e) t h = tt
 
-pub all_faults : (basis : Basis) (known new : Option (List ℕ)) (head : Head) (r : Result Checked TraceError) → TakesLine (λ line. head_of_line line ≡ Ok head) known new
-    → IfErr r (λ error. (text : List ℕ) → TakesLine (λ line. head_of_line line ≡ Ok head) (Some text) new → IsFaultBy basis text error)
+pub all_faults : (basis : Basis) (known : Option (List ℕ)) (n : ℕ) (new : Option (List ℕ)) (head : Head) (r : Result Checked TraceError) → TakesTold (λ line. head_of_line line ≡ Ok head) 0 known n new
+    → IfErr r (λ error. (text : List ℕ) → TakesTold (λ line. head_of_line line ≡ Ok head) 0 (Some text) n new → IsFaultBy basis text error)
     → IfErr r (λ error. IfSome known (λ text. IsFaultBy basis text error))
-all_faults basis known new head (Ok x) t h = tt
-all_faults basis known new head (Err e) t h = later (λ text. IsFaultBy basis text e) known new head t h
+all_faults basis known n new head (Ok x) t h = tt
+all_faults basis known n new head (Err e) t h = later (λ text. IsFaultBy basis text e) known n new head t h

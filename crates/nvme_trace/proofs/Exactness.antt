@@ -5,7 +5,7 @@ use Rattle.nvme_arbiter.specs.History.{ArbitrationEvent, Picked, Changed, Histor
 use Rattle.nvme_arbiter.specs.Lawful.{IsLawfulRun}
 use Rattle.nvme_arbiter.specs.Specified.{IsSpecifiedRun}
 use Rattle.nvme_arbiter.proofs.PickLaws.{prefixes}
-use Rattle.nvme_trace.specs.Lines.{lines_of}
+use Rattle.nvme_trace.specs.Lines.{told_lines}
 use Rattle.nvme_trace.specs.Format.{head_of_line, event_by}
 use Rattle.nvme_trace.specs.Judged.{IsFinding}
 use Rattle.nvme_trace.specs.Bases.{IsRunBy, IsBreach, IsReasonBy}
@@ -33,10 +33,10 @@ same_head r h k a b = cc
 same_event : (basis : Basis) (r : List ℕ) (h k : ArbitrationEvent) → event_by basis r ≡ Ok h → event_by basis r ≡ Ok k → h ≡ k
 same_event basis r h k a b = cc
 
-same_told : (basis : Basis) (h k : Head) (p q : History) (lines : List (List ℕ)) → TellsBy basis h p lines → TellsBy basis k q lines → AreSame h k p q
+same_told : (basis : Basis) (h k : Head) (p q : History) (lines : List (ℕ × List ℕ)) → TellsBy basis h p lines → TellsBy basis k q lines → AreSame h k p q
 same_told basis h k [] [] lines (a, is, x) (b, at, y) =
     let e : a ≡ b = cc in
-    record { heads = same_head b h k (subst (λ l. head_of_line l ≡ Ok h) e x) y; pasts = refl }
+    record { heads = same_head b.1 h k (subst (λ (l : ℕ × List ℕ). head_of_line l.1 ≡ Ok h) e x) y; pasts = refl }
 same_told basis h k [] (e ∷ q) lines (a, is, x) (b, earlier, at, y, more) =
     let none : earlier ≡ [] = cc in
     absurd (nothing_told basis k q (subst (TellsBy basis k q) none more))
@@ -47,31 +47,31 @@ same_told basis h k (d ∷ p) (e ∷ q) lines (a, before, is, x, more) (b, earli
     let one : a ≡ b = cc in
     let both : before ≡ earlier = cc in
     let below = same_told basis h k p q earlier (subst (TellsBy basis h p) both more) rest in
-    let event : d ≡ e = same_event basis b d e (subst (λ l. event_by basis l ≡ Ok d) one x) y in
+    let event : d ≡ e = same_event basis b.1 d e (subst (λ (l : ℕ × List ℕ). event_by basis l.1 ≡ Ok d) one x) y in
     let pasts : p ≡ q = below.pasts in
     record { heads = below.heads; pasts = cc }
 
 -- what a line tells within more lines
-record IsTold (basis : Basis) (head : Head) (past : History) (at : List ℕ) (earlier : List (List ℕ)) : Type 0 where
+record IsTold (basis : Basis) (head : Head) (past : History) (at : ℕ × List ℕ) (earlier : List (ℕ × List ℕ)) : Type 0 where
   pub later : History
   pub event : ArbitrationEvent
   pub before : History
   pub is : past ≡ later ++ event ∷ before
-  pub says : event_by basis at ≡ Ok event
+  pub says : event_by basis at.1 ≡ Ok event
   pub tells : TellsBy basis head before earlier
 
-not_empty : (xs : List (List ℕ)) (at : List ℕ) (earlier : List (List ℕ)) → xs ++ at ∷ earlier ≡ [] → ⊥
+not_empty : (xs : List (ℕ × List ℕ)) (at : ℕ × List ℕ) (earlier : List (ℕ × List ℕ)) → xs ++ at ∷ earlier ≡ [] → ⊥
 not_empty [] at earlier e = cc
 not_empty (x ∷ xs) at earlier e = cc
 
-told_within : (basis : Basis) (head other : Head) (past q : History) (later : List (List ℕ)) (at : List ℕ) (earlier : List (List ℕ)) → TellsBy basis head past (later ++ at ∷ earlier) → TellsBy basis other q earlier → IsTold basis head past at earlier
+told_within : (basis : Basis) (head other : Head) (past q : History) (later : List (ℕ × List ℕ)) (at : ℕ × List ℕ) (earlier : List (ℕ × List ℕ)) → TellsBy basis head past (later ++ at ∷ earlier) → TellsBy basis other q earlier → IsTold basis head past at earlier
 told_within basis head other [] q [] at earlier (line, is, h) t =
     let none : earlier ≡ [] = cc in
     absurd (nothing_told basis other q (subst (TellsBy basis other q) none t))
 told_within basis head other (e ∷ past) q [] at earlier (line, before, is, says, more) t =
     let one : line ≡ at = cc in
     let rest : before ≡ earlier = cc in
-    record { later = []; event = e; before = past; is = refl; says = subst (λ l. event_by basis l ≡ Ok e) one says; tells = subst (TellsBy basis head past) rest more }
+    record { later = []; event = e; before = past; is = refl; says = subst (λ (l : ℕ × List ℕ). event_by basis l.1 ≡ Ok e) one says; tells = subst (TellsBy basis head past) rest more }
 told_within basis head other [] q (x ∷ xs) at earlier (line, is, h) t =
     let none : xs ++ at ∷ earlier ≡ [] = cc in
     absurd (not_empty xs at earlier none)
@@ -107,15 +107,15 @@ no_reason Profile head past event (Breaks breach) run f = f
 no_reason Specification head past event (Breaks breach) run f = no_breach head past event breach run f
 no_reason Specification head past event (Differs finding) run f = f
 
-turned : (earlier later : List (List ℕ)) (at : List ℕ) → reverse (reverse earlier ++ at ∷ later) ≡ reverse later ++ at ∷ earlier
+turned : (earlier later : List (ℕ × List ℕ)) (at : ℕ × List ℕ) → reverse (reverse earlier ++ at ∷ later) ≡ reverse later ++ at ∷ earlier
 turned earlier later at =
-    reverse-append (reverse earlier) (at ∷ later) ∙ (ap (λ (l : List (List ℕ)). l ++ reverse (reverse earlier)) (reverse-cons at later)
-    ∙ (append_assoc (reverse later) (at ∷ []) (reverse (reverse earlier)) ∙ ap (λ (l : List (List ℕ)). reverse later ++ at ∷ l) (reverse-reverse earlier)))
+    reverse-append (reverse earlier) (at ∷ later) ∙ (ap (λ (l : List (ℕ × List ℕ)). l ++ reverse (reverse earlier)) (reverse-cons at later)
+    ∙ (append_assoc (reverse later) (at ∷ []) (reverse (reverse earlier)) ∙ ap (λ (l : List (ℕ × List ℕ)). reverse later ++ at ∷ l) (reverse-reverse earlier)))
 
 pub one_answer : OneAnswer
 one_answer basis text picks line reason l u =
-    let lines : reverse (lines_of text) ≡ reverse u.later ++ u.at ∷ u.earlier = ap reverse u.split ∙ turned u.earlier u.later u.at in
-    let told = told_within basis l.head u.head l.past u.past (reverse u.later) u.at u.earlier (subst (TellsBy basis l.head l.past) lines l.tells) u.tells in
+    let lines : reverse (told_lines text) ≡ reverse u.later ++ (line, u.at) ∷ u.earlier = ap reverse u.split ∙ turned u.earlier u.later (line, u.at) in
+    let told = told_within basis l.head u.head l.past u.past (reverse u.later) (line, u.at) u.earlier (subst (TellsBy basis l.head l.past) lines l.tells) u.tells in
     let same = same_told basis l.head u.head told.before u.past u.earlier told.tells u.tells in
     let event : told.event ≡ u.event = same_event basis u.at told.event u.event told.says u.says in
     let run : IsRunBy basis l.head (told.event ∷ told.before) = run_before basis l.head told.later (told.event ∷ told.before) (subst (IsRunBy basis l.head) told.is l.lawful) in

@@ -57,9 +57,9 @@ line_same line e is =
     then_same (data_of line) _ _ e (λ d. then_after (object_in d) _ _ e (event_same (is_some (get (text_of field.Set) d)) d e)) is
 
 -- ---- a text
-lines_same : (head : Head) (past : History) (lines : List (List ℕ)) → TellsBy Profile head past lines → TellsBy Specification head past lines
+lines_same : (head : Head) (past : History) (lines : List (ℕ × List ℕ)) → TellsBy Profile head past lines → TellsBy Specification head past lines
 lines_same head [] lines t = t
-lines_same head (e ∷ past) lines (line, earlier, is, says, more) = (line, earlier, is, line_same line e says, lines_same head past earlier more)
+lines_same head (e ∷ past) lines (line, earlier, is, says, more) = (line, earlier, is, line_same line.1 e says, lines_same head past earlier more)
 
 pub allowed : LawfulTextsAreAllowed
 allowed text picks l = record {

@@ -1,6 +1,7 @@
 -- Values of a line.
 use Rattle.std.proofs.Common.{◌≡◌, ℕ, suc, ◌+◌, ◌<◌, ◌≤◌, zero, List, [], ◌∷◌, ◌++◌, length, get_or, drop, Some, None, String, Global, refl, sym, ap, subst, arith}
-use Rattle.std.proofs.Common.{ltb, false, true, inl, inr}
+use Rattle.std.proofs.Common.{ltb, Bool, false, true, inl, inr}
+use Rattle.std.specs.Prelude.{string_bytes, if◌then◌else◌}
 use Rattle.std.proofs.Math.ListN.{drop_of_length-le}
 use Rattle.std.proofs.lemmas.Bool.{le-ltb, cases_Bool}
 use Rattle.nvme_arbiter.specs.Limits.{queue_limit}
@@ -11,16 +12,37 @@ use Rattle.serde_json.specs.Find.{as_object, as_array}
 use Rattle.serde_json.specs.View.{view, items_view, members_view}
 use Rattle.serde_json.specs.declared.value.Value.{Value}
 use Rattle.nvme_arbiter.specs.declared.pick.Seen.{Seen}
-use Rattle.nvme_trace.specs.Readings.{item_count, member_count, field_count}
+use Rattle.nvme_trace.specs.Readings.{is_extra, item_count, member_count, field_count}
 use Rattle.nvme_trace.specs.Format.{queue_of, queues_from, queues_of, observation_of}
 
 pub item_count_view : (vs : List Value) → item_count (items_view vs) ≡ length vs
 item_count_view [] = refl
 item_count_view (v ∷ vs) = ap suc (item_count_view vs)
 
-pub member_count_view : (ms : List (String Global × Value)) → member_count (members_view ms) ≡ length ms
-member_count_view [] = refl
-member_count_view (m ∷ ms) = ap suc (member_count_view ms)
+few_or : (b : Bool) (n k : ℕ) → n ≤ k → (if b then n else suc n) ≤ suc k
+few_or true n k le = omega arith
+few_or false n k le = omega arith
+
+-- the members that aren't ignored
+pub few_members : (ms : List (String Global × Value)) → member_count (members_view ms) ≤ length ms
+few_members [] = omega arith
+few_members ((name, v) ∷ ms) = few_or (is_extra (string_bytes name)) (member_count (members_view ms)) (length ms) (few_members ms)
+
+-- the first of some members is ignored
+pub record IsIgnoredFirst (members rest : List (String Global × Value)) : Type 0 where
+  pub same : member_count (members_view members) ≡ member_count (members_view rest)
+  pub one_less : length members ≡ length rest + 1
+  pub few : member_count (members_view rest) ≤ length rest
+
+ignored_here : (e : String Global × Value) (rest : List (String Global × Value)) → is_extra (string_bytes e.0) ≡ true → IsIgnoredFirst (e ∷ rest) rest
+ignored_here (name, v) rest x = record {
+  same = ap (λ (b : Bool). if b then member_count (members_view rest) else suc (member_count (members_view rest))) x;
+  one_less = omega arith;
+  few = few_members rest;
+}
+
+pub ignored_first : (members rest : List (String Global × Value)) (e : String Global × Value) → members ≡ e ∷ rest → is_extra (string_bytes e.0) ≡ true → IsIgnoredFirst members rest
+ignored_first members rest e is x = subst (λ (ms : List (String Global × Value)). IsIgnoredFirst ms rest) (sym is) (ignored_here e rest x)
 
 pub fields_of : (d : Data) (ms : Members) → Some ms ≡ as_object d → member_count ms ≡ field_count d
 fields_of null ms h = absurd (cc)

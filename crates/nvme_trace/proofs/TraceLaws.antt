@@ -6,7 +6,7 @@ use Rattle.nvme_log.specs.declared.event.Event.TheVariants as event
 use Rattle.nvme_log.specs.Histories.{arbitration_of}
 use Rattle.nvme_log.specs.Histories as log
 use Rattle.nvme_log.proofs.PickCounts.{picks_in-append}
-use Rattle.nvme_trace.specs.Lines.{lines_of}
+use Rattle.nvme_trace.specs.Lines.{told_lines}
 use Rattle.nvme_trace.specs.Judged.{picks_in}
 use Rattle.nvme_trace.specs.Checks.{Tells}
 use Rattle.nvme_trace.specs.Traces.{trace_of, head_of, TracesAreReadBack, TracesAreLawful}
@@ -16,7 +16,7 @@ use Rattle.nvme_trace.proofs.AccountedSettings.{log_fits}
 pub read_back : TracesAreReadBack
 read_back rules sent log collected f a =
     let fit = log_fits rules (reverse log) f a.effects_at_once in
-    subst (λ (es : List Event). Tells (head_of rules) (arbitration_of (reverse log)) (reverse (lines_of (trace_of rules es)))) (reverse-reverse log)
+    subst (λ (es : List Event). Tells (head_of rules) (arbitration_of (reverse log)) (reverse (told_lines (trace_of rules es)))) (reverse-reverse log)
     (trace_tells rules.mechanism rules.start.settings (reverse log) f fit a.lawful)
 
 -- the picks of a log are those of its history

@@ -1,7 +1,9 @@
 -- The line that comes next, and its fault.
-use Rattle.std.proofs.Common.{◌≡◌, ◌≢◌, ℕ, ◌+◌, ◌<◌, ltb, true, List, length, Option, Some, None, Result, Err, inl, inr, refl, sym, subst}
-use Rattle.std.proofs.lemmas.Bool.{lt-ltb}
-use Rattle.nvme_trace.specs.Lines.{lines_of, TakesLine, StartsWithLine, HasNoLine}
+use Rattle.std.proofs.Common.{◌≡◌, ◌≢◌, ℕ, ◌+◌, ◌<◌, ◌≤◌, ◌&&◌, ltb, leb, Bool, true, false, List, [], ◌∷◌, length, Option, Some, None, Result, Err, inl, inr, refl, sym, ap, subst, ◌∙◌}
+use Rattle.std.specs.Prelude.{if◌then◌else◌}
+use Rattle.std.specs.List.{list_all}
+use Rattle.std.proofs.lemmas.Bool.{lt-ltb, le-leb, lt-leb}
+use Rattle.nvme_trace.specs.Lines.{lines_of, is_space, is_blank, numbered, TakesLine, StartsWithLine, HasNoLine, TakesTold, StartsTold, HasNoTold, PassesBlank}
 use Rattle.nvme_trace.specs.Readings.{Fails}
 use Rattle.nvme_trace.specs.Format.{longest_line, data_of, head_of_line, event_by}
 use Rattle.nvme_trace.specs.declared.basis.Basis.{Basis}
@@ -11,20 +13,106 @@ use Rattle.nvme_trace.specs.declared.fault.LineFault.TheVariants as faults
 use Rattle.nvme_trace.specs.declared.fault.TraceError.{TraceError}
 use Rattle.nvme_trace.specs.declared.fault.TraceError.TheVariants as error
 
--- the line that was taken is of a kind
-pub takes_as : (P : List ℕ → Type 0) (line : List ℕ) (a b : Option (List ℕ)) → TakesLine (λ l. l ≡ line) a b → P line → TakesLine P a b
-takes_as P line None b t p = tt
-takes_as P line (Some xs) None t p = t
-takes_as P line (Some xs) (Some ys) (l, split, is) p = (l, split, subst P (sym is) p)
+-- ---- blank lines
+and_true : (b : Bool) → (b && true) ≡ b
+and_true true = refl
+and_true false = refl
 
-starts_as : (P : List ℕ → Type 0) (line : List ℕ) (a b : Option (List ℕ)) → TakesLine (λ l. l ≡ line) a b → P line → StartsWithLine P a
-starts_as P line None b t p = tt
-starts_as P line (Some xs) None t p = absurd t
-starts_as P line (Some xs) (Some ys) (l, split, is) p = (l, lines_of ys, split, subst P (sym is) p)
+and_false : (b : Bool) → (b && false) ≡ false
+and_false true = refl
+and_false false = refl
 
-starts_more : (P Q : List ℕ → Type 0) (a : Option (List ℕ)) → ((l : List ℕ) → P l → Q l) → StartsWithLine P a → StartsWithLine Q a
-starts_more P Q None f s = tt
-starts_more P Q (Some xs) f (l, rest, split, p) = (l, rest, split, f l p)
+-- a line that is short enough is blank where it is white space
+pub short_blank : (line : List ℕ) → length line ≤ longest_line → list_all is_space line ≡ is_blank line
+short_blank line h =
+    let short : leb (length line) longest_line ≡ true = le-leb _ _ h in
+    sym (ap (λ (b : Bool). list_all is_space line && b) short ∙ and_true (list_all is_space line))
+
+-- a line that is too long isn't blank
+long_blank : (line : List ℕ) → longest_line < length line → is_blank line ≡ false
+long_blank line h =
+    let long : leb (length line) longest_line ≡ false = lt-leb _ _ h in
+    ap (λ (b : Bool). list_all is_space line && b) long ∙ and_false (list_all is_space line)
+
+told_first : (m : ℕ) (line : List ℕ) (lines : List (List ℕ)) → is_blank line ≡ false → numbered m (line ∷ lines) ≡ (m + 1, line) ∷ numbered (m + 1) lines
+told_first m line lines told = ap (λ (b : Bool). if b then numbered (m + 1) lines else (m + 1, line) ∷ numbered (m + 1) lines) told
+
+blank_first : (m : ℕ) (line : List ℕ) (lines : List (List ℕ)) → is_blank line ≡ true → numbered m (line ∷ lines) ≡ numbered (m + 1) lines
+blank_first m line lines blank = ap (λ (b : Bool). if b then numbered (m + 1) lines else (m + 1, line) ∷ numbered (m + 1) lines) blank
+
+-- the line that was taken isn't blank
+pub told_takes : (line : List ℕ) (m : ℕ) (a b : Option (List ℕ)) → TakesLine (λ l. l ≡ line) a b → is_blank line ≡ false → TakesTold (λ l. l ≡ line) m a (m + 1) b
+told_takes line m None b t told = tt
+told_takes line m (Some xs) None t told = t
+told_takes line m (Some xs) (Some ys) (l, split, is) told =
+    (line, ap (numbered m) (split ∙ ap (λ (x : List ℕ). x ∷ lines_of ys) is) ∙ told_first m line (lines_of ys) told, refl)
+
+-- or it is
+pub blank_passes : (line : List ℕ) (m : ℕ) (a b : Option (List ℕ)) → TakesLine (λ l. l ≡ line) a b → is_blank line ≡ true → PassesBlank m a (m + 1) b
+blank_passes line m None b t blank = tt
+blank_passes line m (Some xs) None t blank = t
+blank_passes line m (Some xs) (Some ys) (l, split, is) blank =
+    ap (numbered m) (split ∙ ap (λ (x : List ℕ). x ∷ lines_of ys) is) ∙ blank_first m line (lines_of ys) blank
+
+pub passes_nothing : (m : ℕ) (a : Option (List ℕ)) → PassesBlank m a m a
+passes_nothing m None = tt
+passes_nothing m (Some xs) = refl
+
+pub passes_more : (m n k : ℕ) (a b c : Option (List ℕ)) → PassesBlank m a n b → PassesBlank n b k c → PassesBlank m a k c
+passes_more m n k None b c p q = tt
+passes_more m n k (Some xs) None c p q = absurd p
+passes_more m n k (Some xs) (Some ys) None p q = absurd q
+passes_more m n k (Some xs) (Some ys) (Some zs) p q = p ∙ q
+
+pub passes_takes : (P : List ℕ → Type 0) (m n k : ℕ) (a b c : Option (List ℕ)) → PassesBlank m a n b → TakesTold P n b k c → TakesTold P m a k c
+passes_takes P m n k None b c p t = tt
+passes_takes P m n k (Some xs) None c p t = absurd p
+passes_takes P m n k (Some xs) (Some ys) None p t = absurd t
+passes_takes P m n k (Some xs) (Some ys) (Some zs) p (line, split, is) = (line, p ∙ split, is)
+
+-- the end of the text
+pub passes_none : (m n : ℕ) (a b : Option (List ℕ)) → PassesBlank m a n b → HasNoLine b → HasNoTold m a
+passes_none m n None b p h = tt
+passes_none m n (Some xs) None p h = absurd p
+passes_none m n (Some xs) (Some ys) p h = p ∙ ap (numbered n) h
+
+passes_starts : (P : List ℕ → Type 0) (m n k : ℕ) (a b : Option (List ℕ)) → PassesBlank m a n b → StartsTold P n b k → StartsTold P m a k
+passes_starts P m n k None b p s = tt
+passes_starts P m n k (Some xs) None p s = absurd p
+passes_starts P m n k (Some xs) (Some ys) p (line, rest, split, is) = (line, rest, p ∙ split, is)
+
+passes_head_fault : (fault : LineFault) (m n k : ℕ) (a b : Option (List ℕ)) → PassesBlank m a n b → HasHeadFault fault n b k → HasHeadFault fault m a k
+passes_head_fault fault m n k None b p h = tt
+passes_head_fault fault m n k (Some xs) None p h = absurd p
+passes_head_fault fault m n k (Some xs) (Some ys) p (inl (none, is, one)) = inl (p ∙ none, is, one)
+passes_head_fault fault m n k (Some xs) (Some ys) p (inr s) = inr (passes_starts (λ line. head_of_line line ≡ Err fault) m n k (Some xs) (Some ys) p s)
+
+pub passes_head : (e : TraceError) (m n : ℕ) (a b : Option (List ℕ)) → PassesBlank m a n b → IsHeadFault e n b → IsHeadFault e m a
+passes_head (error.Line line fault note) m n a b p h = passes_head_fault fault m n line a b p h
+passes_head error.Read m n a b p h = tt
+passes_head error.NoMemory m n a b p h = tt
+
+pub passes_event : (basis : Basis) (e : TraceError) (m n : ℕ) (a b : Option (List ℕ)) → PassesBlank m a n b → IsEventFaultBy basis e n b → IsEventFaultBy basis e m a
+passes_event basis (error.Line line fault note) m n a b p h = passes_starts (λ text. event_by basis text ≡ Err fault) m n line a b p h
+passes_event basis error.Read m n a b p h = tt
+passes_event basis error.NoMemory m n a b p h = tt
+
+-- ---- the line that was taken is of a kind
+pub takes_as : (P : List ℕ → Type 0) (line : List ℕ) (m n : ℕ) (a b : Option (List ℕ)) → TakesTold (λ l. l ≡ line) m a n b → P line → TakesTold P m a n b
+takes_as P line m n None b t p = tt
+takes_as P line m n (Some xs) None t p = t
+takes_as P line m n (Some xs) (Some ys) (l, split, is) p = (l, split, subst P (sym is) p)
+
+starts_as : (P : List ℕ → Type 0) (line : List ℕ) (m n : ℕ) (a b : Option (List ℕ)) → TakesTold (λ l. l ≡ line) m a n b → P line → StartsTold P m a n
+starts_as P line m n None b t p = tt
+starts_as P line m n (Some xs) None t p = absurd t
+starts_as P line m n (Some xs) (Some ys) (l, split, is) p = (l, numbered n (lines_of ys), split, subst P (sym is) p)
+
+-- a line that is too long comes next
+starts_long : (P : List ℕ → Type 0) (m : ℕ) (a : Option (List ℕ)) → ((l : List ℕ) → longest_line < length l → P l) → StartsWithLine (λ l. longest_line < length l) a → StartsTold P m a (m + 1)
+starts_long P m None f s = tt
+starts_long P m (Some xs) f (l, rest, split, long) =
+    (l, numbered (m + 1) rest, ap (numbered m) split ∙ told_first m l rest (long_blank l long), f l long)
 
 -- a fault that isn't `NoMemory` is the line's
 failed : {Y : Type 0} (fault : LineFault) (reading : Result Y LineFault) → Fails fault reading → fault ≢ faults.NoMemory → reading ≡ Err fault
@@ -39,26 +127,30 @@ failed (faults.Bad field) reading f n = f
 failed faults.Unknown reading f n = f
 failed faults.NotObservation reading f n = f
 
-head_starts : (fault : LineFault) (a : Option (List ℕ)) → StartsWithLine (λ line. head_of_line line ≡ Err fault) a → HasHeadFault fault a
-head_starts fault None s = tt
-head_starts fault (Some xs) s = inr s
+head_starts : (fault : LineFault) (m n : ℕ) (a : Option (List ℕ)) → StartsTold (λ line. head_of_line line ≡ Err fault) m a n → HasHeadFault fault m a n
+head_starts fault m n None s = tt
+head_starts fault m n (Some xs) s = inr s
 
-told_head : (e : TraceError) (number : ℕ) (fault : LineFault) (a : Option (List ℕ)) → IsLineFault e (number + 1) fault → (fault ≢ faults.NoMemory → HasHeadFault fault a) → IsHeadFault e number a
-told_head (error.Line line f) number fault a (n, is, other) h = (n, subst (λ (x : LineFault). HasHeadFault x a) (sym is) (h other))
-told_head error.Read number fault a t h = tt
-told_head error.NoMemory number fault a t h = tt
+told_head : (e : TraceError) (m number : ℕ) (fault : LineFault) (a : Option (List ℕ)) → IsLineFault e number fault → (fault ≢ faults.NoMemory → HasHeadFault fault m a number) → IsHeadFault e m a
+told_head (error.Line line f note) m number fault a (n, is, other) h =
+    subst (λ (k : ℕ). HasHeadFault f m a k) (sym n) (subst (λ (x : LineFault). HasHeadFault x m a number) (sym is) (h other))
+told_head error.Read m number fault a t h = tt
+told_head error.NoMemory m number fault a t h = tt
 
-told_event : (basis : Basis) (e : TraceError) (number : ℕ) (fault : LineFault) (a : Option (List ℕ)) → IsLineFault e (number + 1) fault → (fault ≢ faults.NoMemory → StartsWithLine (λ line. event_by basis line ≡ Err fault) a) → IsEventFaultBy basis e number a
-told_event basis (error.Line line f) number fault a (n, is, other) h = (n, subst (λ (x : LineFault). StartsWithLine (λ line. event_by basis line ≡ Err x) a) (sym is) (h other))
-told_event basis error.Read number fault a t h = tt
-told_event basis error.NoMemory number fault a t h = tt
+told_event : (basis : Basis) (e : TraceError) (m number : ℕ) (fault : LineFault) (a : Option (List ℕ)) → IsLineFault e number fault → (fault ≢ faults.NoMemory → StartsTold (λ line. event_by basis line ≡ Err fault) m a number) → IsEventFaultBy basis e m a
+told_event basis (error.Line line f note) m number fault a (n, is, other) h =
+    subst (λ (k : ℕ). StartsTold (λ text. event_by basis text ≡ Err f) m a k) (sym n) (subst (λ (x : LineFault). StartsTold (λ line. event_by basis line ≡ Err x) m a number) (sym is) (h other))
+told_event basis error.Read m number fault a t h = tt
+told_event basis error.NoMemory m number fault a t h = tt
 
 -- a line that was read
-pub head_fails : (e : TraceError) (number : ℕ) (fault : LineFault) (line : List ℕ) (a b : Option (List ℕ)) → IsLineFault e (number + 1) fault → Fails fault (head_of_line line) → TakesLine (λ l. l ≡ line) a b → IsHeadFault e number a
-head_fails e number fault line a b told f t = told_head e number fault a told (λ n. head_starts fault a (starts_as (λ l. head_of_line l ≡ Err fault) line a b t (failed fault (head_of_line line) f n)))
+pub head_fails : (e : TraceError) (m number : ℕ) (fault : LineFault) (line : List ℕ) (a b : Option (List ℕ)) → IsLineFault e number fault → TakesTold (λ l. l ≡ line) m a number b → Fails fault (head_of_line line) → IsHeadFault e m a
+head_fails e m number fault line a b told t f =
+    told_head e m number fault a told (λ n. head_starts fault m number a (starts_as (λ l. head_of_line l ≡ Err fault) line m number a b t (failed fault (head_of_line line) f n)))
 
-pub event_fails : (basis : Basis) (e : TraceError) (number : ℕ) (fault : LineFault) (line : List ℕ) (a b : Option (List ℕ)) → IsLineFault e (number + 1) fault → Fails fault (event_by basis line) → TakesLine (λ l. l ≡ line) a b → IsEventFaultBy basis e number a
-event_fails basis e number fault line a b told f t = told_event basis e number fault a told (λ n. starts_as (λ l. event_by basis l ≡ Err fault) line a b t (failed fault (event_by basis line) f n))
+pub event_fails : (basis : Basis) (e : TraceError) (m number : ℕ) (fault : LineFault) (line : List ℕ) (a b : Option (List ℕ)) → IsLineFault e number fault → TakesTold (λ l. l ≡ line) m a number b → Fails fault (event_by basis line) → IsEventFaultBy basis e m a
+event_fails basis e m number fault line a b told t f =
+    told_event basis e m number fault a told (λ n. starts_as (λ l. event_by basis l ≡ Err fault) line m number a b t (failed fault (event_by basis line) f n))
 
 -- a line that is too long
 long_head : (line : List ℕ) → longest_line < length line → head_of_line line ≡ Err faults.TooLong
@@ -70,15 +162,17 @@ unfolding event_by data_of
 long_event basis line h = let e : ltb longest_line (length line) ≡ true = lt-ltb _ _ h in rw e
 
 pub head_too_long : (e : TraceError) (number : ℕ) (a : Option (List ℕ)) → IsLineFault e (number + 1) faults.TooLong → StartsWithLine (λ line. longest_line < length line) a → IsHeadFault e number a
-head_too_long e number a told s = told_head e number faults.TooLong a told (λ n. head_starts faults.TooLong a (starts_more _ (λ l. head_of_line l ≡ Err faults.TooLong) a long_head s))
+head_too_long e number a told s =
+    told_head e number (number + 1) faults.TooLong a told (λ n. head_starts faults.TooLong number (number + 1) a (starts_long (λ l. head_of_line l ≡ Err faults.TooLong) number a long_head s))
 
 pub event_too_long : (basis : Basis) (e : TraceError) (number : ℕ) (a : Option (List ℕ)) → IsLineFault e (number + 1) faults.TooLong → StartsWithLine (λ line. longest_line < length line) a → IsEventFaultBy basis e number a
-event_too_long basis e number a told s = told_event basis e number faults.TooLong a told (λ n. starts_more _ (λ l. event_by basis l ≡ Err faults.TooLong) a (long_event basis) s)
+event_too_long basis e number a told s =
+    told_event basis e number (number + 1) faults.TooLong a told (λ n. starts_long (λ l. event_by basis l ≡ Err faults.TooLong) number a (long_event basis) s)
 
--- a text of no line
-no_line : (a : Option (List ℕ)) → HasNoLine a → HasHeadFault faults.NoHead a
-no_line None n = tt
-no_line (Some xs) n = inl (n, refl)
+-- a text of blank lines
+no_line : (m : ℕ) (a : Option (List ℕ)) → HasNoTold m a → HasHeadFault faults.NoHead m a 1
+no_line m None n = tt
+no_line m (Some xs) n = inl (n, refl, refl)
 
-pub no_head : (e : TraceError) (a : Option (List ℕ)) → IsLineFault e 1 faults.NoHead → HasNoLine a → IsHeadFault e 0 a
-no_head e a told n = told_head e 0 faults.NoHead a told (λ _. no_line a n)
+pub no_head : (e : TraceError) (m : ℕ) (a : Option (List ℕ)) → IsLineFault e 1 faults.NoHead → HasNoTold m a → IsHeadFault e m a
+no_head e m a told n = told_head e m 1 faults.NoHead a told (λ _. no_line m a n)

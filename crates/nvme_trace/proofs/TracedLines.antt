@@ -1,8 +1,10 @@
 -- The lines of the trace of a lawful run.
-use Rattle.std.proofs.Common.{◌≡◌, ℕ, ◌+◌, ◌<◌, ◌≤◌, ◌==◌, nat_le, true, List, [], ◌∷◌, ◌++◌, length, reverse, find, Some, IfSome, inl, inr, refl, sym, ap, subst, ◌∙◌, arith, append_assoc, append-nil}
+use Rattle.std.proofs.Common.{◌≡◌, ℕ, ◌+◌, ◌<◌, ◌≤◌, ◌==◌, nat_le, Bool, true, false, List, [], ◌∷◌, ◌++◌, length, reverse, find, Some, IfSome, inl, inr, refl, sym, ap, subst, ◌∙◌, arith, append_assoc, append-nil}
+use Rattle.std.specs.Prelude.{if◌then◌else◌}
 use Rattle.std.specs.List.{flat_map}
 use Rattle.std.proofs.lemmas.Bool.{and_parts, leb-true, eqb-true, cases_Bool, cond-true, cond-false}
 use Rattle.std.proofs.lemmas.Grind.{flat_map-append}
+use Rattle.std.proofs.lemmas.List.{length-reverse}
 use mathlib.Core.List.{reverse-cons, reverse-reverse}
 use Rattle.nvme_arbiter.specs.Settings.{ArbitrationFields, FitsFields}
 use Rattle.nvme_arbiter.specs.Observation.{IsSeen, IsObservation, is_seen, can_follow, is_observation_from}
@@ -18,7 +20,7 @@ use Rattle.nvme_log.specs.declared.event.Event.{Event}
 use Rattle.nvme_log.specs.declared.event.Event.TheVariants as event
 use Rattle.nvme_log.specs.Rules.{Past}
 use Rattle.nvme_log.specs.Histories.{arbitration_of}
-use Rattle.nvme_trace.specs.Lines.{lines_of}
+use Rattle.nvme_trace.specs.Lines.{lines_of, is_blank, numbered, told_lines}
 use Rattle.nvme_trace.specs.Text.{text_of_head, text_of_event, trace_text, text_of_pick, text_of_set}
 use Rattle.nvme_trace.specs.Checks.{Tells}
 use Rattle.nvme_trace.proofs.PlainLines.{is_plain, plain_line}
@@ -77,14 +79,59 @@ written_lines mechanism first [] = head_bytes mechanism first ∷ []
 written_lines mechanism first (Picked seen pick ∷ past) = pick_bytes seen pick ∷ written_lines mechanism first past
 written_lines mechanism first (Changed settings ∷ past) = set_bytes settings ∷ written_lines mechanism first past
 
+-- with their numbers
+abbrev pub counted : List (List ℕ) → List (ℕ × List ℕ)
+counted [] = []
+counted (line ∷ lines) = (length lines + 1, line) ∷ counted lines
+
 pub lines_tell : (mechanism : Mechanism) (first : ArbitrationFields) (past : History) → FitsFields first → SettingsFit past → IsLawfulRun mechanism first past
-    → Tells (record { mechanism = mechanism; settings = first }) past (written_lines mechanism first past)
-lines_tell mechanism first [] f s l = (head_bytes mechanism first, refl, head_read mechanism first f)
+    → Tells (record { mechanism = mechanism; settings = first }) past (counted (written_lines mechanism first past))
+lines_tell mechanism first [] f s l = ((1, head_bytes mechanism first), refl, head_read mechanism first f)
 lines_tell mechanism first (Picked seen pick ∷ past) f s l =
     let small = small_pick mechanism first past seen pick l.0 l.1 in
-    (pick_bytes seen pick, written_lines mechanism first past, refl, pick_read seen pick l.0 small.few small.qid small.n, lines_tell mechanism first past f s l.2)
+    let lines : List (List ℕ) = written_lines mechanism first past in
+    ((length lines + 1, pick_bytes seen pick), counted lines, refl, pick_read seen pick l.0 small.few small.qid small.n, lines_tell mechanism first past f s l.2)
 lines_tell mechanism first (Changed settings ∷ past) f s l =
-    (set_bytes settings, written_lines mechanism first past, refl, set_read settings s.0, lines_tell mechanism first past f s.1 l)
+    let lines : List (List ℕ) = written_lines mechanism first past in
+    ((length lines + 1, set_bytes settings), counted lines, refl, set_read settings s.0, lines_tell mechanism first past f s.1 l)
+
+-- none of them is blank
+abbrev NoneIsBlank : List (List ℕ) → Type 0
+NoneIsBlank [] = Unit {0}
+NoneIsBlank (line ∷ lines) = (is_blank line ≡ false) × NoneIsBlank lines
+
+none_blank : (mechanism : Mechanism) (first : ArbitrationFields) (past : History) → NoneIsBlank (written_lines mechanism first past)
+none_blank mechanism first [] = (refl, tt)
+none_blank mechanism first (Picked seen pick ∷ past) = (refl, none_blank mechanism first past)
+none_blank mechanism first (Changed settings ∷ past) = (refl, none_blank mechanism first past)
+
+numbered_one : (b : Bool) (n : ℕ) (line : List ℕ) → b ≡ false → (if b then numbered (n + 1) [] else (n + 1, line) ∷ numbered (n + 1) []) ≡ (n + 1, line) ∷ []
+numbered_one b n line e = ap (λ (c : Bool). if c then numbered (n + 1) [] else (n + 1, line) ∷ numbered (n + 1) []) e
+
+numbered_behind : (b : Bool) (n : ℕ) (line last : List ℕ) (lines : List (List ℕ)) → is_blank line ≡ b → numbered (n + 1) (lines ++ last ∷ []) ≡ numbered (n + 1) lines ++ (n + 1 + length lines + 1, last) ∷ []
+    → numbered n ((line ∷ lines) ++ last ∷ []) ≡ numbered n (line ∷ lines) ++ (n + length (line ∷ lines) + 1, last) ∷ []
+numbered_behind true n line last lines is more =
+    let same : n + 1 + length lines + 1 ≡ n + length (line ∷ lines) + 1 = omega arith in
+    rw is (more ∙ ap (λ (k : ℕ). numbered (n + 1) lines ++ (k, last) ∷ []) same)
+numbered_behind false n line last lines is more =
+    let same : n + 1 + length lines + 1 ≡ n + length (line ∷ lines) + 1 = omega arith in
+    rw is (ap (λ (ls : List (ℕ × List ℕ)). (n + 1, line) ∷ ls) (more ∙ ap (λ (k : ℕ). numbered (n + 1) lines ++ (k, last) ∷ []) same))
+
+-- a line more behind others
+numbered_last : (n : ℕ) (lines : List (List ℕ)) (last : List ℕ) → is_blank last ≡ false → numbered n (lines ++ last ∷ []) ≡ numbered n lines ++ (n + length lines + 1, last) ∷ []
+numbered_last n [] last told =
+    let same : n + 1 ≡ n + length {A = List ℕ} [] + 1 = omega arith in
+    numbered_one (is_blank last) n last told ∙ ap (λ (k : ℕ). (k, last) ∷ []) same
+numbered_last n (line ∷ lines) last told = numbered_behind (is_blank line) n line last lines refl (numbered_last (n + 1) lines last told)
+
+numbered_turned : (lines : List (List ℕ)) → NoneIsBlank lines → numbered 0 (reverse lines) ≡ reverse (counted lines)
+numbered_turned [] none = refl
+numbered_turned (line ∷ lines) none =
+    let same : 0 + length (reverse lines) + 1 ≡ length lines + 1 = omega (arith, length-reverse lines) in
+    ap (numbered 0) (reverse-cons line lines) ∙ (numbered_last 0 (reverse lines) line none.0
+    ∙ (ap (λ (k : ℕ). numbered 0 (reverse lines) ++ (k, line) ∷ []) same
+    ∙ (ap (λ (ls : List (ℕ × List ℕ)). ls ++ (length lines + 1, line) ∷ []) (numbered_turned lines none.1)
+    ∙ sym (reverse-cons (length lines + 1, line) (counted lines)))))
 
 -- ---- the lines of a trace
 -- one line more
@@ -127,9 +174,10 @@ trace_lines mechanism first (e ∷ past) rest f s l = ap lines_of (text_more mec
 
 -- a trace tells its head and its history
 pub trace_tells : (mechanism : Mechanism) (first : ArbitrationFields) (past : Past) → FitsFields first → SettingsFit (arbitration_of past) → IsLawfulRun mechanism first (arbitration_of past)
-    → Tells (record { mechanism = mechanism; settings = first }) (arbitration_of past) (reverse (lines_of (trace_text mechanism first (reverse past))))
+    → Tells (record { mechanism = mechanism; settings = first }) (arbitration_of past) (reverse (told_lines (trace_text mechanism first (reverse past))))
 trace_tells mechanism first past f s l =
     let text : List ℕ = trace_text mechanism first (reverse past) in
     let lines : List (List ℕ) = written_lines mechanism first (arbitration_of past) in
     let all : lines_of text ≡ reverse lines = ap lines_of (sym (append-nil text)) ∙ (trace_lines mechanism first past [] f s l ∙ append-nil (reverse lines)) in
-    subst (Tells (record { mechanism = mechanism; settings = first }) (arbitration_of past)) (sym (ap reverse all ∙ reverse-reverse lines)) (lines_tell mechanism first (arbitration_of past) f s l)
+    let told : told_lines text ≡ reverse (counted lines) = ap (numbered 0) all ∙ numbered_turned lines (none_blank mechanism first (arbitration_of past)) in
+    subst (Tells (record { mechanism = mechanism; settings = first }) (arbitration_of past)) (sym (ap reverse told ∙ reverse-reverse (counted lines))) (lines_tell mechanism first (arbitration_of past) f s l)

@@ -1,7 +1,7 @@
 -- What a check of a text answers. (Base Specification, Command Arbitration; texts and answers: profile)
-use Rattle.std.specs.Prelude.{◌≡◌, ◌⊎◌, ℕ, ◌+◌, List, [], ◌∷◌, ◌++◌, length, reverse, Option, Some, None, Ok}
+use Rattle.std.specs.Prelude.{◌≡◌, ◌⊎◌, ℕ, List, [], ◌∷◌, ◌++◌, reverse, Option, Some, None, Ok}
 use Rattle.nvme_arbiter.specs.History.{ArbitrationEvent, History}
-use Rattle.nvme_trace.specs.Lines.{lines_of}
+use Rattle.nvme_trace.specs.Lines.{lines_of, numbered, told_lines}
 use Rattle.nvme_trace.specs.Format.{head_of_line, event_by}
 use Rattle.nvme_trace.specs.Faults.{IsHeadFault, IsEventFaultBy}
 use Rattle.nvme_trace.specs.Judged.{picks_in}
@@ -15,29 +15,28 @@ use Rattle.nvme_trace.specs.declared.judges.BasisJudge.{BasisJudge}
 use Rattle.nvme_trace.specs.declared.checks.Checked.{Checked}
 use Rattle.nvme_trace.specs.declared.checks.Checked.TheVariants.{Lawful, Refused}
 
--- some lines, the last one first, are a head and then the events of a history
-abbrev pub TellsBy : Basis → Head → History → List (List ℕ) → Type 0
-TellsBy basis head [] lines = (line : List ℕ) × (lines ≡ line ∷ []) × (head_of_line line ≡ Ok head)
-TellsBy basis head (e ∷ past) lines = (line : List ℕ) × (earlier : List (List ℕ)) × (lines ≡ line ∷ earlier) × (event_by basis line ≡ Ok e) × TellsBy basis head past earlier
+-- some lines, the last one first, each behind its number, are a head and then the events of a history
+abbrev pub TellsBy : Basis → Head → History → List (ℕ × List ℕ) → Type 0
+TellsBy basis head [] lines = (line : ℕ × List ℕ) × (lines ≡ line ∷ []) × (head_of_line line.1 ≡ Ok head)
+TellsBy basis head (e ∷ past) lines = (line : ℕ × List ℕ) × (earlier : List (ℕ × List ℕ)) × (lines ≡ line ∷ earlier) × (event_by basis line.1 ≡ Ok e) × TellsBy basis head past earlier
 
 -- as this front writes them
-abbrev pub Tells : Head → History → List (List ℕ) → Type 0
+abbrev pub Tells : Head → History → List (ℕ × List ℕ) → Type 0
 Tells head past lines = TellsBy Profile head past lines
 
--- this many lines of a text are a head and the events of a history in which each pick is allowed, and then the other bytes follow
+-- this many lines of a text are a head and the events of a history in which each pick is allowed, or blank, and then the other bytes follow
 pub record IsLawfulUpTo (basis : Basis) (text rest : List ℕ) (number : ℕ) (head : Head) (past : History) : Type 0 where
-  -- the last one first
-  pub lines : List (List ℕ)
-  pub split : lines_of text ≡ reverse lines ++ lines_of rest
-  pub count : length lines ≡ number
+  -- those that aren't blank, the last one first
+  pub lines : List (ℕ × List ℕ)
+  pub split : told_lines text ≡ reverse lines ++ numbered number (lines_of rest)
   pub tells : TellsBy basis head past lines
   pub lawful : IsRunBy basis head past
 
--- the text is a head and the events of a history with this many picks, each of which is allowed
+-- the text is a head and the events of a history with this many picks, each of which is allowed. Blank lines don't matter
 pub record IsLawfulBy (basis : Basis) (text : List ℕ) (picks : ℕ) : Type 0 where
   pub head : Head
   pub past : History
-  pub tells : TellsBy basis head past (reverse (lines_of text))
+  pub tells : TellsBy basis head past (reverse (told_lines text))
   pub lawful : IsRunBy basis head past
   pub picks_are : picks ≡ picks_in past
 
@@ -50,13 +49,12 @@ pub record IsRefusedBy (basis : Basis) (text : List ℕ) (line : ℕ) (reason : 
   pub head : Head
   pub past : History
   pub event : ArbitrationEvent
-  -- the text of the line, and what follows it
+  -- the text of the line, and the lines after it that aren't blank
   pub at : List ℕ
-  pub later : List (List ℕ)
-  -- the lines before it, the last one first
-  pub earlier : List (List ℕ)
-  pub split : lines_of text ≡ reverse earlier ++ at ∷ later
-  pub number : line ≡ length earlier + 1
+  pub later : List (ℕ × List ℕ)
+  -- those before it, the last one first
+  pub earlier : List (ℕ × List ℕ)
+  pub split : told_lines text ≡ reverse earlier ++ (line, at) ∷ later
   pub tells : TellsBy basis head past earlier
   pub lawful : IsRunBy basis head past
   pub says : event_by basis at ≡ Ok event

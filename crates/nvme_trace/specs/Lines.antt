@@ -1,5 +1,6 @@
 -- The lines of a text: they end with a newline, the last one maybe without. (profile)
-use Rattle.std.specs.Prelude.{◌≡◌, ℕ, ◌<◌, ◌==◌, Bool, true, false, List, [], ◌∷◌, length, slice_range, Option, Some, None}
+use Rattle.std.specs.Prelude.{◌≡◌, ℕ, ◌+◌, ◌<◌, ◌==◌, ◌&&◌, ◌||◌, Bool, true, false, nat_le, if◌then◌else◌, List, [], ◌∷◌, length, slice_range, Option, Some, None}
+use Rattle.std.specs.List.{list_all}
 use Rattle.std.specs.Io.KnownBytes.{prepend_known}
 use Rattle.nvme_trace.specs.Format.{longest_line}
 use Rattle.nvme_trace.specs.declared.lines.Lines.{Lines}
@@ -18,6 +19,23 @@ before_lines false x lines = with_front x lines
 abbrev pub lines_of : List ℕ → List (List ℕ)
 lines_of [] = []
 lines_of (x ∷ xs) = before_lines (x == 10) x (lines_of xs)
+
+-- white space within a line, as JSON has it: a space, a tab or a carriage return
+abbrev pub is_space : ℕ → Bool
+is_space x = (x == 32) || ((x == 9) || (x == 13))
+
+-- a line of white space alone says nothing, unless it is too long
+abbrev pub is_blank : List ℕ → Bool
+is_blank line = list_all is_space line && nat_le (length line) longest_line
+
+-- the lines that aren't blank, each behind its number, where this many lines stand before them
+abbrev pub numbered : ℕ → List (List ℕ) → List (ℕ × List ℕ)
+numbered n [] = []
+numbered n (line ∷ lines) = if is_blank line then numbered (n + 1) lines else (n + 1, line) ∷ numbered (n + 1) lines
+
+-- those of a text
+abbrev pub told_lines : List ℕ → List (ℕ × List ℕ)
+told_lines text = numbered 0 (lines_of text)
 
 -- the bytes of the text that are not taken yet, where they are known
 abbrev pub unread : {R : Type 0} → (R → Option (List ℕ)) → Lines R → Option (List ℕ)
@@ -47,6 +65,32 @@ HasNoLine (Some xs) = lines_of xs ≡ []
 abbrev pub MatchLine : Bool → List ℕ → Option (List ℕ) → Option (List ℕ) → Type 0
 MatchLine true line old new = TakesLine (λ l. l ≡ line) old new
 MatchLine false line old new = HasNoLine old
+
+-- after m lines the next one of the known lines that isn't blank is taken, which is number n, and of this kind
+abbrev pub TakesTold : (List ℕ → Type 0) → ℕ → Option (List ℕ) → ℕ → Option (List ℕ) → Type 0
+TakesTold P m None n new = Unit {0}
+TakesTold P m (Some xs) n None = ⊥
+TakesTold P m (Some xs) n (Some ys) = (line : List ℕ) × (numbered m (lines_of xs) ≡ (n, line) ∷ numbered n (lines_of ys)) × P line
+
+-- after m lines the next one of the known lines that isn't blank is number n, and of this kind
+abbrev pub StartsTold : (List ℕ → Type 0) → ℕ → Option (List ℕ) → ℕ → Type 0
+StartsTold P m None n = Unit {0}
+StartsTold P m (Some xs) n = (line : List ℕ) × (rest : List (ℕ × List ℕ)) × (numbered m (lines_of xs) ≡ (n, line) ∷ rest) × P line
+
+-- only blank lines are left
+abbrev pub HasNoTold : ℕ → Option (List ℕ) → Type 0
+HasNoTold m None = Unit {0}
+HasNoTold m (Some xs) = numbered m (lines_of xs) ≡ []
+
+abbrev pub MatchTold : Bool → List ℕ → ℕ → Option (List ℕ) → ℕ → Option (List ℕ) → Type 0
+MatchTold true line m old n new = TakesTold (λ l. l ≡ line) m old n new
+MatchTold false line m old n new = HasNoTold m old
+
+-- after m and after n lines the same lines are left that aren't blank
+abbrev pub PassesBlank : ℕ → Option (List ℕ) → ℕ → Option (List ℕ) → Type 0
+PassesBlank m None n new = Unit {0}
+PassesBlank m (Some xs) n None = ⊥
+PassesBlank m (Some xs) n (Some ys) = numbered m (lines_of xs) ≡ numbered n (lines_of ys)
 
 -- why there is no next line: a line that is too long, or what the text doesn't tell
 abbrev pub MeetsError : NextError → Option (List ℕ) → Type 0

@@ -1,5 +1,5 @@
 -- What a value of a line is read as, or its fault. The first fault is the answer. (profile)
-use Rattle.std.specs.Prelude.{◌≡◌, ℕ, suc, ◌==◌, Bool, nat_le, if◌then◌else◌, Option, Some, None, ok_or, option_and_then, Result, Ok, Err}
+use Rattle.std.specs.Prelude.{◌≡◌, ℕ, suc, ◌==◌, ◌&&◌, Bool, false, nat_le, if◌then◌else◌, List, [], ◌∷◌, Option, Some, None, ok_or, option_and_then, Result, Ok, Err}
 use Rattle.std.specs.Result.{result_map_both}
 use Rattle.serde_json.specs.Data.{Data, null, boolean, number, string, array, object, Items, no_items, item, Members, no_members, member}
 use Rattle.serde_json.specs.Find.{get, as_number, as_u64, as_bool}
@@ -37,10 +37,16 @@ abbrev pub item_count : Items → ℕ
 item_count no_items = 0
 item_count (item d ds) = suc (item_count ds)
 
--- how many members an object has. An object has each name once
+-- a name that begins with x_ is of a field that is ignored
+abbrev pub is_extra : List ℕ → Bool
+is_extra [] = false
+is_extra (x ∷ []) = false
+is_extra (x ∷ y ∷ rest) = (x == 120) && (y == 95)
+
+-- how many members an object has, but those that are ignored. An object has each name once
 abbrev pub member_count : Members → ℕ
 member_count no_members = 0
-member_count (member name d ms) = suc (member_count ms)
+member_count (member name d ms) = if is_extra name then member_count ms else suc (member_count ms)
 
 -- and a value that is no object has none
 abbrev pub field_count : Data → ℕ

@@ -8,7 +8,7 @@ use Rattle.nvme_log.specs.Rules.{FrontRules}
 use Rattle.nvme_log.specs.Histories.{arbitration_of, picks_in}
 use Rattle.nvme_log.specs.Account.{IsAccount}
 use Rattle.nvme_trace.specs.Text.{trace_text}
-use Rattle.nvme_trace.specs.Lines.{lines_of}
+use Rattle.nvme_trace.specs.Lines.{told_lines}
 use Rattle.nvme_trace.specs.Checks.{Tells, IsLawfulText}
 use Rattle.nvme_trace.specs.declared.records.Head.{Head}
 
@@ -23,7 +23,7 @@ head_of rules = record { mechanism = rules.mechanism; settings = rules.start.set
 -- the lines of a log's trace are the head and the picks and changes of the settings of the log
 abbrev pub TracesAreReadBack : Type 0
 TracesAreReadBack = (rules : FrontRules) (sent : ℕ → List Sqe) (log : List Event) (collected : ℕ → List Cqe) → FitsFields rules.start.settings
-    → IsAccount rules sent (reverse log) collected → Tells (head_of rules) (arbitration_of (reverse log)) (reverse (lines_of (trace_of rules log)))
+    → IsAccount rules sent (reverse log) collected → Tells (head_of rules) (arbitration_of (reverse log)) (reverse (told_lines (trace_of rules log)))
 
 -- the trace of a log is a lawful text with the log's picks
 abbrev pub TracesAreLawful : Type 0

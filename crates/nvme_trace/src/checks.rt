@@ -1,6 +1,6 @@
 // Checks a trace.
 ghost use Rattle.std.specs.Prelude.{◌≡◌, ℕ, List, Some, Ok, IfOk, IfErr, IfSome};
-ghost use Rattle.nvme_trace.specs.Lines.{TakesLine};
+ghost use Rattle.nvme_trace.specs.Lines.{TakesTold};
 ghost use Rattle.nvme_trace.specs.Format.{head_of_line};
 ghost use Rattle.nvme_trace.specs.Checks.{IsAnswer, IsFaultBy};
 ghost use Rattle.nvme_trace.specs.declared.basis.Basis.TheVariants.{Profile};
@@ -66,9 +66,8 @@ fn judged<R: Read>(
     head: Head,
     trace: &mut Trace<R>,
 ) -> Result<Checked, TraceError>
-    requires number { trace.old.number ≡ 1 }
-    ensures answer { IfOk result (λ checked. (text : List ℕ) → TakesLine (λ line. head_of_line line ≡ Ok head) (Some text) trace.old.rest → IsAnswer basis text checked) }
-    ensures fault { IfErr result (λ error. (text : List ℕ) → TakesLine (λ line. head_of_line line ≡ Ok head) (Some text) trace.old.rest → IsFaultBy basis text error) }
+    ensures answer { IfOk result (λ checked. (text : List ℕ) → TakesTold (λ line. head_of_line line ≡ Ok head) 0 (Some text) trace.old.number trace.old.rest → IsAnswer basis text checked) }
+    ensures fault { IfErr result (λ error. (text : List ℕ) → TakesTold (λ line. head_of_line line ≡ Ok head) 0 (Some text) trace.old.number trace.old.rest → IsFaultBy basis text error) }
 {
     let mut judge = BasisJudge::new(basis, head);
     for _ in 1..u64::MAX {

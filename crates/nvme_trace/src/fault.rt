@@ -83,11 +83,16 @@ pub enum LineFault {
 }
 
 /// Why a trace wasn't read to its end.
-#[derive(Clone, Copy, Debug, PartialEq, Eq, Error)]
+#[derive(Debug, Drop, PartialEq, Eq, Error)]
 pub enum TraceError {
-    /// The first fault of the text, and the number of its line, from 1.
-    #[error("trace: line {line}: {fault}")]
-    Line { line: u64, fault: LineFault },
+    /// The first fault of the text, and the number of its line, from 1. The note says what was found in the line and
+    /// what was wanted; it begins with a colon, unless there is nothing to say.
+    #[error("trace: line {line}: {fault}{note}")]
+    Line {
+        line: u64,
+        fault: LineFault,
+        note: String,
+    },
     /// A read failed.
     #[error("read failed")]
     Read,

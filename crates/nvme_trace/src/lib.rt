@@ -11,6 +11,7 @@ mod judges;
 mod laws;
 mod lines;
 mod names;
+mod notes;
 mod records;
 mod trace;
 mod writer;

@@ -1,7 +1,7 @@
 // Reads what a line says.
 ghost use Rattle.std.specs.Prelude.{◌≡◌, ◌≤◌, length, option_map, ok_or, IfOk, IfSome};
-ghost use Rattle.serde_json.specs.View.{view};
-ghost use Rattle.nvme_trace.specs.Readings.{Gives, seen_by, only, value_at, whole, number_at, flag_at, field_count};
+ghost use Rattle.serde_json.specs.View.{view, members_view};
+ghost use Rattle.nvme_trace.specs.Readings.{Gives, seen_by, only, value_at, whole, number_at, flag_at, is_extra, member_count, field_count};
 ghost use Rattle.nvme_trace.specs.Format.{longest_line, mechanism_of, head_in, class_named, number_of_part, class_of_part, part_count, triple_of, queue_of, queues_of, observation_of, set_in, fresh_in, pick_fields, pick_in, event_in, data_of, object_in, head_of_line, event_by, event_view};
 ghost use Rattle.serde_json.specs.Read.{read};
 ghost use Rattle.nvme_arbiter.specs.Observation.{IsObservation};
@@ -11,7 +11,7 @@ use crate::basis::Basis;
 use crate::fault::{Field, LineFault};
 use arrayvec::ArrayVec;
 use nvme_arbiter::{Class, Mechanism, Pick, QUEUE_LIMIT, Seen, Settings, is_observation};
-use serde_json::Value;
+use serde_json::{Map, Value};
 use std::alloc::Global;
 
 /// The first line of a trace.
@@ -37,12 +37,32 @@ pub enum TraceEvent {
     },
 }
 
-// The number of members of an object.
+// Whether a field of this name is ignored: it begins with x_.
+pub(crate) fn is_extra(name: &str) -> bool
+    ensures { result ≡ is_extra name.now }
+{
+    matches!(name.as_bytes(), [b'x', b'_', ..])
+}
+
+// The number of members of an object that aren't ignored.
+fn member_count(members: &Map<String, Value>) -> usize
+    ensures { result ≡ member_count (members_view members.now.entries) }
+{
+    let mut count = members.len();
+    for (name, _) in members.iter() {
+        if is_extra(name.as_str()) {
+            count -= 1;
+        }
+    }
+    count
+}
+
+// The number of fields of a value that aren't ignored.
 fn field_count(value: &Value) -> usize
     ensures { result ≡ field_count (view value.now) }
 {
     match value.as_object() {
-        Some(members) => members.len(),
+        Some(members) => member_count(members),
         None => 0,
     }
 }

@@ -133,7 +133,7 @@ fn texts_by_rules(rt: HostRuntime) -> Result<(), Fail> {
     );
     assert_eq!(rt;
         answer(alloc, IN_TURN)?.as_str(),
-        "trace: line 2: missing fresh"
+        "trace: line 2: missing fresh: wanted true or false; with --spec it may be left out"
     );
     for (last, want) in [
         (

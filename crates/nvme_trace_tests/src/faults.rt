@@ -17,40 +17,55 @@ fn error_of(alloc: Global, text: &[u8]) -> Result<String, Fail> {
 
 #[test]
 fn heads(rt: HostRuntime) -> Result<(), Fail> {
+    let no_head = "no head: wanted a line with version, mechanism and cdw11";
     for (text, want) in [
-        ("", "trace: line 1: no head"),
-        ("\n", "trace: line 1: not JSON"),
-        ("{", "trace: line 1: not JSON"),
-        ("[1]", "trace: line 1: no object"),
-        ("{}", "trace: line 1: missing version"),
+        ("", no_head),
+        ("\n \t\r\n", no_head),
+        (
+            "{",
+            "not JSON: byte 1, wanted an object with version, mechanism and cdw11",
+        ),
+        (
+            "# A queue.",
+            "not JSON: byte 1, wanted an object with version, mechanism and cdw11",
+        ),
+        (
+            "[1]",
+            "no object: found [1], wanted an object with version, mechanism and cdw11",
+        ),
+        ("{}", "missing version: wanted 1"),
         (
             "{\"mechanism\":\"weighted\",\"cdw11\":0}",
-            "trace: line 1: missing version",
+            "missing version: wanted 1",
         ),
-        ("{\"version\":2}", "trace: line 1: bad version"),
-        ("{\"version\":0}", "trace: line 1: bad version"),
-        ("{\"version\":1.0}", "trace: line 1: bad version"),
-        ("{\"version\":1}", "trace: line 1: missing mechanism"),
+        ("{\"version\":2}", "bad version: found 2, wanted 1"),
+        ("{\"version\":0}", "bad version: found 0, wanted 1"),
+        ("{\"version\":1.0}", "bad version: found 1.0, wanted 1"),
+        (
+            "{\"version\":1}",
+            "missing mechanism: wanted \"round-robin\" or \"weighted\"",
+        ),
         (
             "{\"version\":1,\"mechanism\":\"wrr\"}",
-            "trace: line 1: bad mechanism",
+            "bad mechanism: found \"wrr\", wanted \"round-robin\" or \"weighted\"",
         ),
         (
             "{\"version\":1,\"mechanism\":\"weighted\"}",
-            "trace: line 1: missing cdw11",
+            "missing cdw11: wanted a whole number from 0 to 4294967295",
         ),
         (
             "{\"version\":1,\"mechanism\":\"weighted\",\"cdw11\":4294967296}",
-            "trace: line 1: bad cdw11",
+            "bad cdw11: found 4294967296, wanted a whole number from 0 to 4294967295",
         ),
         (
-            "{\"version\":1,\"mechanism\":\"weighted\",\"cdw11\":0,\"x\":0}",
-            "trace: line 1: unknown field",
+            "{\"version\":1,\"mechanism\":\"weighted\",\"cdw11\":0,\"x\":0,\"t\":5,\"x_t\":1}",
+            "unknown field: \"t\", wanted version, mechanism and cdw11; fields that begin with x_ are ignored",
         ),
     ] {
+        let want = format!(in rt.alloc(); "trace: line 1: {want}")?;
         assert_eq!(rt;
             error_of(rt.alloc(), text.as_bytes())?.as_str(),
-            want,
+            want.as_str(),
             "at {text}"
         );
     }
@@ -67,25 +82,58 @@ fn told_of(alloc: Global, line: &str) -> Result<String, Fail> {
 fn events(rt: HostRuntime) -> Result<(), Fail> {
     let alloc = rt.alloc();
     for (line, want) in [
-        ("", "not JSON"),
-        ("{}", "missing pick"),
-        ("[]", "no object"),
-        ("5", "no object"),
-        ("null", "no object"),
-        ("\"pick\"", "no object"),
-        ("1e400", "not JSON"),
-        ("\"\\ud800\"", "not JSON"),
-        ("{\"set\":-1}", "bad set"),
-        ("{\"set\":0,\"pick\":1}", "unknown field"),
-        ("{\"pick\":65536}", "bad pick"),
-        ("{\"pick\":1}", "missing n"),
-        ("{\"pick\":1,\"n\":\"1\"}", "bad n"),
-        ("{\"pick\":1,\"n\":1}", "missing fresh"),
-        ("{\"pick\":1,\"n\":1,\"fresh\":0}", "bad fresh"),
-        ("{\"pick\":1,\"n\":1,\"fresh\":false}", "missing seen"),
+        ("{}", "missing pick: wanted a whole number from 0 to 65535"),
         (
-            "{\"pick\":1,\"n\":1,\"fresh\":false,\"seen\":[],\"x\":0}",
-            "unknown field",
+            "[]",
+            "no object: found [], wanted an object with pick, n, fresh and seen",
+        ),
+        (
+            "\"pick\"",
+            "no object: found \"pick\", wanted an object with pick, n, fresh and seen",
+        ),
+        (
+            "{\"pick\":1,}",
+            "not JSON: byte 11, wanted an object with pick, n, fresh and seen",
+        ),
+        (
+            "{\"set\":-1}",
+            "bad set: found -1, wanted a whole number from 0 to 4294967295",
+        ),
+        (
+            "{\"set\":0,\"pick\":1}",
+            "unknown field: \"pick\", wanted set alone; fields that begin with x_ are ignored",
+        ),
+        (
+            "{\"pick\":65536}",
+            "bad pick: found 65536, wanted a whole number from 0 to 65535",
+        ),
+        (
+            "{\"pick\":1}",
+            "missing n: wanted a whole number from 0 to 65535",
+        ),
+        (
+            "{\"pick\":1,\"n\":2.0}",
+            "bad n: found 2.0, wanted a whole number from 0 to 65535",
+        ),
+        (
+            "{\"pick\":1,\"n\":\"0123456789012345678901234567890123456789\"}",
+            "bad n: found \"012345678901234567890123456789012345678.., wanted a whole number from 0 to 65535",
+        ),
+        (
+            "{\"pick\":1,\"n\":1}",
+            "missing fresh: wanted true or false; with --spec it may be left out",
+        ),
+        (
+            "{\"pick\":1,\"n\":1,\"fresh\":0}",
+            "bad fresh: found 0, wanted true or false",
+        ),
+        (
+            "{\"pick\":1,\"n\":1,\"fresh\":false}",
+            "missing seen: wanted an array of the open submission queues",
+        ),
+        (
+            "{\"pick\":1,\"n\":1,\"fresh\":false,\"seen\":[],\"x_a\":0,\"x\":0}",
+            "unknown field: \"x\", wanted pick, n, fresh and seen; fields that begin with x_ are ignored",
         ),
     ] {
         let want = format!(in alloc; "trace: line 3: {want}")?;
@@ -95,25 +143,106 @@ fn events(rt: HostRuntime) -> Result<(), Fail> {
 }
 
 #[test]
-fn observations(rt: HostRuntime) -> Result<(), Fail> {
+fn texts_that_are_no_json(rt: HostRuntime) -> Result<(), Fail> {
     let alloc = rt.alloc();
-    for seen in [
-        "1",
-        "[[1,\"high\"]]",
-        "[[1,\"High\",1]]",
-        "[[1,\"high\",1,1]]",
-        "[[1,\"high\",257]]",
-        "[[65,\"high\",1]]",
-        "[[1,\"admin\",1]]",
-        "[[2,\"low\",1],[1,\"low\",1]]",
-    ] {
-        let line = format!(in alloc; "{{\"pick\":1,\"n\":1,\"fresh\":false,\"seen\":{seen}}}")?;
-        assert_eq!(rt;
-            told_of(alloc, line.as_str())?.as_str(),
-            "trace: line 3: seen is no observation",
+    for line in ["1e400", "\"\\ud800\"", "{\"pick\":1", "{}{}"] {
+        let told = told_of(alloc, line)?;
+        assert!(rt;
+            told.as_str().starts_with("trace: line 3: not JSON: byte "),
             "at {line}"
         );
     }
+    for line in ["5", "null"] {
+        let want = format!(in alloc;
+            "trace: line 3: no object: found {line}, wanted an object with pick, n, fresh and seen"
+        )?;
+        assert_eq!(rt; told_of(alloc, line)?.as_str(), want.as_str());
+    }
+    Ok(())
+}
+
+#[test]
+fn observations(rt: HostRuntime) -> Result<(), Fail> {
+    let alloc = rt.alloc();
+    for (seen, want) in [
+        (
+            "1",
+            "found 1, wanted an array of the open submission queues",
+        ),
+        (
+            "[[1,\"high\"]]",
+            "seen[0]: found [1,\"high\"], wanted an array of identifier, class and count",
+        ),
+        (
+            "[[1,\"high\",1,1]]",
+            "seen[0]: found [1,\"high\",1,1], wanted an array of identifier, class and count",
+        ),
+        (
+            "[[1,\"high\",1],[65,\"high\",1]]",
+            "seen[1]: identifier 65, wanted 0 to 64; queues above 64 can't be judged",
+        ),
+        (
+            "[[1,\"High\",1]]",
+            "seen[0]: class \"High\", wanted \"admin\", \"urgent\", \"high\", \"medium\" or \"low\"",
+        ),
+        (
+            "[[1,\"high\",1],[2,\"high\",1],[3,\"low\",300]]",
+            "seen[2]: count 300, wanted 0 to 256; write 256 where more wait",
+        ),
+        (
+            "[[1,\"admin\",1]]",
+            "seen[0]: class \"admin\" of queue 1, wanted another: it is that of queue 0 alone",
+        ),
+        (
+            "[[0,\"high\",1]]",
+            "seen[0]: class \"high\" of queue 0, wanted \"admin\" for queue 0",
+        ),
+        (
+            "[[2,\"low\",1],[1,\"low\",1]]",
+            "seen[1]: identifier 1 behind 2, wanted ascending identifiers, each once",
+        ),
+    ] {
+        let line = format!(in alloc; "{{\"pick\":1,\"n\":1,\"fresh\":false,\"seen\":{seen}}}")?;
+        let want = format!(in alloc; "trace: line 3: seen is no observation: {want}")?;
+        assert_eq!(rt;
+            told_of(alloc, line.as_str())?.as_str(),
+            want.as_str(),
+            "at {line}"
+        );
+    }
+    Ok(())
+}
+
+#[test]
+fn too_many_queues(rt: HostRuntime) -> Result<(), Fail> {
+    let alloc = rt.alloc();
+    let mut seen = format!(in alloc; "[0,\"admin\",0]")?;
+    for qid in 1..=65 {
+        let queue = format!(in alloc; ",[{qid},\"low\",0]")?;
+        seen.push_str(queue.as_str())?;
+    }
+    let line = format!(in alloc; "{{\"pick\":1,\"n\":1,\"fresh\":false,\"seen\":[{seen}]}}")?;
+    assert_eq!(rt;
+        told_of(alloc, line.as_str())?.as_str(),
+        "trace: line 3: seen is no observation: found 66 queues, wanted at most 65"
+    );
+    Ok(())
+}
+
+#[test]
+fn blank_lines_and_own_fields_pass(rt: HostRuntime) -> Result<(), Fail> {
+    let alloc = rt.alloc();
+    let text =
+        "\n{\"version\":1,\"mechanism\":\"round-robin\",\"cdw11\":0,\"x_core\":[1]}\n \t\n{\"set\":0,\"x_\":1}\r\n\r\n{\"pick\":1,\"n\":1,\"x_t\":5,\"fresh\":false,\"seen\":[[1,\"low\",1]]}\n\n\n";
+    assert_eq!(rt;
+        error_of(alloc, text.as_bytes())?.as_str(),
+        "lawful: 1 pick"
+    );
+    let differs = format!(in alloc; "{text}{{\"set\":1}}\n\n{{\"pick\":1}}")?;
+    assert_eq!(rt;
+        error_of(alloc, differs.as_bytes())?.as_str(),
+        "trace: line 11: missing n: wanted a whole number from 0 to 65535"
+    );
     Ok(())
 }
 

@@ -14,10 +14,10 @@ returns-in_err-head-clause-fault g c =
 pub returns-in_err-show-clause-fault : goal.returns-in_err-show-clause-fault
 returns-in_err-show-clause-fault g c =
     let p = err_from_is_err_and c.from_residual-in_err-show.result c.from_residual-in_err-show.ensures.1 in
-    rw (p.1, p.2) (fault_at _ (λ (h : Head). IsCounted h [] c.new-counted.result) (g.R.Read.remaining c.args.reader) c.new-trace.result.rest c.head.new.self.rest c.in_ok-head.head
+    rw (p.1, p.2) (fault_at _ (λ (h : Head). IsCounted h [] c.new-counted.result) (g.R.Read.remaining c.args.reader) c.new-trace.result.rest c.head.new.self.number c.head.new.self.rest c.in_ok-head.head
     c.new-trace.ensures.rest c.in_ok-head.ensures.ok c.new-counted.ensures c.in_err-show.ensures.fault)
 
 pub returns-clause-counted : goal.returns-clause-counted
 returns-clause-counted g c =
-    shown_at (λ h past. IsCounted h (chosen c.args.selection past) c.show.new.watcher) (λ (h : Head). IsCounted h [] c.new-counted.result) (g.R.Read.remaining c.args.reader) c.new-trace.result.rest c.head.new.self.rest c.in_ok-head.head
+    shown_at (λ h past. IsCounted h (chosen c.args.selection past) c.show.new.watcher) (λ (h : Head). IsCounted h [] c.new-counted.result) (g.R.Read.remaining c.args.reader) c.new-trace.result.rest c.head.new.self.number c.head.new.self.rest c.in_ok-head.head
     c.new-trace.ensures.rest c.in_ok-head.ensures.ok c.new-counted.ensures c.in_ok-show.ensures.shown

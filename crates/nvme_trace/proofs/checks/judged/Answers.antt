@@ -1,11 +1,10 @@
-use Rattle.std.proofs.Common.{◌≡◌, ◌+◌, ℕ, None, Ok, sym, subst, ◌∙◌, arith, rules}
+use Rattle.std.proofs.Common.{◌≡◌, ◌+◌, None, Ok, arith, rules}
 use Rattle.std.proofs.lemmas.Result.{err_from_is_err_and}
 use Rattle.nvme_arbiter.specs.History.{History}
-use Rattle.nvme_trace.specs.Lines.{TakesLine, HasNoLine}
+use Rattle.nvme_trace.specs.Lines.{TakesTold, HasNoTold}
 use Rattle.nvme_trace.specs.Format.{event_by, event_view}
 use Rattle.nvme_trace.specs.Judged.{IsObserved, picks_of}
 use Rattle.nvme_trace.specs.Bases.{IsAllowedBy, StandsBy, picks_by}
-use Rattle.nvme_trace.specs.Checks.{JudgedUpTo}
 use Rattle.nvme_trace.proofs.JudgeLemmas.{at_none, if_none, few_picks}
 use Rattle.nvme_trace.proofs.CheckLemmas.{judged_head, judged_more, judged_all, judged_reason, judged_fault}
 use Rattle.nvme_trace.proofs.checks.judged.Goals as goal
@@ -14,8 +13,7 @@ pub loop-init : goal.loop-init
 loop-init g c =
     let new = c.args.trace.now.rest in
     record {
-      judged = λ text t. subst (λ (n : ℕ). JudgedUpTo c.args.basis text new n c.args.head c.new-judge.result) (sym c.requires.number) (judged_head c.args.basis text new c.args.head c.new-judge.result t c.new-judge.ensures.stands c.new-judge.ensures.picks);
-      number = c.requires.number;
+      judged = λ text t. judged_head c.args.basis text c.args.trace.now.number new c.args.head c.new-judge.result t c.new-judge.ensures.stands c.new-judge.ensures.picks;
       picks = omega (arith, c.new-judge.ensures.picks);
     }
 
@@ -27,7 +25,7 @@ returns-in_err-event-clause-fault g c =
 pub returns-in_default-clause-answer : goal.returns-in_default-clause-answer
 returns-in_default-clause-answer g c = λ text t.
     let old = c.loop.trace.rest in
-    let none : HasNoLine old = search rules in
+    let none : HasNoTold c.loop.trace.number old = search rules in
     judged_all c.args.basis text old c.loop.trace.number c.args.head c.loop.judge c.picks.result (c.loop.invariant.judged text t) none c.picks.ensures
 
 pub returns-in-Some-judge-clause-answer : goal.returns-in-Some-judge-clause-answer
@@ -35,20 +33,21 @@ returns-in-Some-judge-clause-answer g c = λ text t.
     let old = c.loop.trace.rest in
     let new = c.event_by.new.self.rest in
     let event = event_view c.in-Some.event in
-    let took : TakesLine (λ line. event_by c.args.basis line ≡ Ok event) old new = search rules in
-    let next : c.event_by.new.self.number ≡ c.loop.trace.number + 1 = search rules in
-    let told : c.number.result ≡ c.loop.trace.number + 1 = c.number.ensures ∙ next in
-    judged_reason c.args.basis text old new c.loop.trace.number c.number.result c.args.head c.loop.judge event c.in-Some-judge.reason (c.loop.invariant.judged text t) took
-    (λ past s. c.in-Some-judge.ensures.allowed c.args.basis c.args.head past s) told
+    let m = c.loop.trace.number in
+    let n = c.event_by.new.self.number in
+    let took : TakesTold (λ line. event_by c.args.basis line ≡ Ok event) m old n new = search rules in
+    judged_reason c.args.basis text m old n new c.number.result c.args.head c.loop.judge event c.in-Some-judge.reason (c.loop.invariant.judged text t) took
+    (λ past s. c.in-Some-judge.ensures.allowed c.args.basis c.args.head past s) c.number.ensures
 
 pub loop-preserved : goal.loop-preserved
 loop-preserved g c =
     let old = c.loop.trace.rest in
     let new = c.event_by.new.self.rest in
     let event = event_view c.in-Some.event in
+    let m = c.loop.trace.number in
+    let n = c.event_by.new.self.number in
     let head = c.args.head in
-    let took : TakesLine (λ line. event_by c.args.basis line ≡ Ok event) old new = search rules in
-    let next : c.event_by.new.self.number ≡ c.loop.trace.number + 1 = search rules in
+    let took : TakesTold (λ line. event_by c.args.basis line ≡ Ok event) m old n new = search rules in
     let seen : IsObserved event = search rules in
     let none : c.judge.result ≡ None = search rules in
     let allowed : (past : History) → StandsBy c.args.basis head past c.loop.judge → IsAllowedBy c.args.basis head past event =
@@ -57,7 +56,6 @@ loop-preserved g c =
     let picks : picks_by c.judge.new.self ≡ picks_by c.loop.judge + picks_of event = if_none _ c.judge.result c.judge.ensures.picks none in
     let few = few_picks event in
     record {
-      judged = λ text t. subst (λ (n : ℕ). JudgedUpTo c.args.basis text new n head c.judge.new.self) (sym next) (judged_more c.args.basis text old new c.loop.trace.number head c.loop.judge c.judge.new.self event (c.loop.invariant.judged text t) took seen allowed stands picks);
-      number = omega (arith, next, c.loop.invariant.number);
+      judged = λ text t. judged_more c.args.basis text m old n new head c.loop.judge c.judge.new.self event (c.loop.invariant.judged text t) took seen allowed stands picks;
       picks = omega (arith, picks, few, c.loop.invariant.picks);
     }
