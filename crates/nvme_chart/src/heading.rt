@@ -1,6 +1,6 @@
 // The words at the head of statistics and pictures.
-use nvme_arbiter::{Class, Mechanism, Settings};
-use nvme_trace::mechanism_name;
+use nvme_arbiter::{Mechanism, Settings};
+use nvme_trace::{SettingsInWords, mechanism_name};
 use std::io::{self, Write};
 
 /// The ending of a noun behind a number.
@@ -29,15 +29,9 @@ pub fn put_settings<W: Write>(
     settings: &Settings,
     writer: &mut W,
 ) -> io::Result<()> {
-    match settings.burst() {
-        Some(burst) => write!(writer, "burst {burst}")?,
-        None => writer.write_all(b"no burst limit")?,
-    }
-    if mechanism == Mechanism::RoundRobin {
-        return Ok(());
-    }
-    let high = settings.weight(Class::High);
-    let medium = settings.weight(Class::Medium);
-    let low = settings.weight(Class::Low);
-    write!(writer, ", high {high}, medium {medium}, low {low}")
+    let words = SettingsInWords {
+        mechanism,
+        settings: *settings,
+    };
+    write!(writer, "{words}")
 }

@@ -26,8 +26,8 @@ impl Model for RuleJudge {
     ghost view = { λ j. record { mechanism = j.mechanism; settings = j.round.settings; used = j.round.used; turns = j.turns; picks = j.picks } };
 }
 
-// How many commands wait in a queue, where it is seen.
-fn count_in(seen: &[Seen], qid: u16) -> Option<u16>
+/// How many commands wait in a queue, where it is seen.
+pub fn count_in(seen: &[Seen], qid: u16) -> Option<u16>
     ensures { result ≡ option_map (λ s. s.count) (find (λ s. s.qid == qid) seen.now) }
 {
     seen.iter()
@@ -112,6 +112,20 @@ impl RuleJudge {
         ensures { result ≡ self.now.picks }
     {
         self.picks
+    }
+
+    /// The arbitration mechanism.
+    pub fn mechanism(&self) -> Mechanism
+        ensures { result ≡ self.now.mechanism }
+    {
+        self.mechanism
+    }
+
+    /// The settings in force.
+    pub fn settings(&self) -> Settings
+        ensures { result ≡ self.now.settings }
+    {
+        self.round.settings
     }
 
     /// Takes new settings, which start a new round.

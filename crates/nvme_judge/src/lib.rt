@@ -7,4 +7,4 @@ mod ready;
 mod round;
 mod turns;
 
-pub use judge::RuleJudge;
+pub use judge::{RuleJudge, count_in};

@@ -201,9 +201,9 @@ told_refused basis contents old new None (Err e) h = inr tt
 told_refused basis contents old new (Some text) (Err e) h = inr (inr h)
 
 -- a trace has a pick that isn't allowed
-pub refused_trace : (basis : Basis) (input : Option (List ℕ)) (line : ℕ) (reason : Reason) → IfSome input (λ text. IsRefusedBy basis text line reason) → IfSome input (IsRefusedTrace basis)
-refused_trace basis None line reason h = tt
-refused_trace basis (Some text) line reason h = (line, reason, h)
+pub refused_trace : (basis : Basis) (input : Option (List ℕ)) (line : ℕ) (quoted : List ℕ) (reason : Reason) → IfSome input (λ text. IsRefusedBy basis text line quoted reason) → IfSome input (IsRefusedTrace basis)
+refused_trace basis None line quoted reason h = tt
+refused_trace basis (Some text) line quoted reason h = (line, quoted, reason, h)
 
 -- a fault of one kind of input is one of another kind
 pub of_kind : {T : Type 0} (result : Result T Fault) (input : Option (List ℕ)) (P Q : List ℕ → Type 0) → ((bs : List ℕ) → P bs → Q bs)

@@ -28,7 +28,7 @@ IsFaultyTrace basis bytes = (line : ℕ) × (fault : LineFault) × (note : Strin
 
 -- a trace has a pick that isn't allowed, and each pick before it is
 abbrev pub IsRefusedTrace : Basis → List ℕ → Type 0
-IsRefusedTrace basis bytes = (line : ℕ) × (reason : Reason) × IsRefusedBy basis bytes line reason
+IsRefusedTrace basis bytes = (line : ℕ) × (quoted : List ℕ) × (reason : Reason) × IsRefusedBy basis bytes line quoted reason
 
 -- a trace at fault where a check is asked for
 abbrev pub IsBadTrace : Basis → List ℕ → Type 0

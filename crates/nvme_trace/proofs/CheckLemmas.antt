@@ -75,25 +75,32 @@ judged_all basis text (Some xs) number head judge picks j n p =
       picks_are = p ∙ j.picks;
     }
 
+-- the text of the first of some lines
+abbrev first_text : List ℕ → List (ℕ × List ℕ) → List ℕ
+first_text other [] = other
+first_text other (line ∷ lines) = line.1
+
+pub same_text : (n : ℕ) (a b : List ℕ) (xs ys : List (ℕ × List ℕ)) → (n, a) ∷ xs ≡ (n, b) ∷ ys → a ≡ b
+same_text n a b xs ys e = ap (first_text a) e
+
 -- at a pick that is not allowed
-pub judged_reason : (basis : Basis) (text : List ℕ) (m : ℕ) (old : Option (List ℕ)) (n : ℕ) (new : Option (List ℕ)) (line : ℕ) (head : Head) (judge : BasisJudge) (e : ArbitrationEvent) (reason : Reason)
-    → JudgedUpTo basis text old m head judge → TakesTold (λ line. event_by basis line ≡ Ok e) m old n new
+pub judged_reason : (basis : Basis) (text : List ℕ) (m : ℕ) (old : Option (List ℕ)) (n : ℕ) (new : Option (List ℕ)) (line : ℕ) (quoted : List ℕ) (head : Head) (judge : BasisJudge) (e : ArbitrationEvent) (reason : Reason)
+    → JudgedUpTo basis text old m head judge → TakesTold (λ line. event_by basis line ≡ Ok e) m old n new → TakesTold (λ line. line ≡ quoted) m old n new
     → ((past : History) → StandsBy basis head past judge → IsReasonBy basis head past e reason)
-    → line ≡ n → IsRefusedBy basis text line reason
-judged_reason basis text m None n new line head judge e reason j t f is = absurd j
-judged_reason basis text m (Some xs) n None line head judge e reason j t f is = absurd t
-judged_reason basis text m (Some xs) n (Some ys) line head judge e reason j (at, split, says) f is = record {
+    → line ≡ n → IsRefusedBy basis text line quoted reason
+judged_reason basis text m None n new line quoted head judge e reason j t q f is = absurd j
+judged_reason basis text m (Some xs) n None line quoted head judge e reason j t q f is = absurd t
+judged_reason basis text m (Some xs) n (Some ys) line quoted head judge e reason j (at, split, says) (one, split', same) f is = record {
   head = head;
   past = j.past;
   event = e;
-  at = at;
   later = numbered n (lines_of ys);
   earlier = j.before.lines;
-  split = subst (λ (k : ℕ). told_lines text ≡ reverse j.before.lines ++ (k, at) ∷ numbered n (lines_of ys)) (sym is)
-      (j.before.split ∙ ap (λ (ls : List (ℕ × List ℕ)). reverse j.before.lines ++ ls) split);
+  split = subst (λ (k : ℕ). told_lines text ≡ reverse j.before.lines ++ (k, quoted) ∷ numbered n (lines_of ys)) (sym is)
+      (j.before.split ∙ ap (λ (ls : List (ℕ × List ℕ)). reverse j.before.lines ++ ls) (split' ∙ ap (λ (l : List ℕ). (n, l) ∷ numbered n (lines_of ys)) same));
   tells = j.before.tells;
   lawful = j.before.lawful;
-  says = says;
+  says = let there : at ≡ quoted = same_text n at one _ _ (sym split ∙ split') ∙ same in subst (λ (l : List ℕ). event_by basis l ≡ Ok e) there says;
   reason_is = f j.past j.stands;
 }
 

@@ -113,11 +113,11 @@ turned earlier later at =
     ∙ (append_assoc (reverse later) (at ∷ []) (reverse (reverse earlier)) ∙ ap (λ (l : List (ℕ × List ℕ)). reverse later ++ at ∷ l) (reverse-reverse earlier)))
 
 pub one_answer : OneAnswer
-one_answer basis text picks line reason l u =
-    let lines : reverse (told_lines text) ≡ reverse u.later ++ (line, u.at) ∷ u.earlier = ap reverse u.split ∙ turned u.earlier u.later (line, u.at) in
-    let told = told_within basis l.head u.head l.past u.past (reverse u.later) (line, u.at) u.earlier (subst (TellsBy basis l.head l.past) lines l.tells) u.tells in
+one_answer basis text picks line quoted reason l u =
+    let lines : reverse (told_lines text) ≡ reverse u.later ++ (line, quoted) ∷ u.earlier = ap reverse u.split ∙ turned u.earlier u.later (line, quoted) in
+    let told = told_within basis l.head u.head l.past u.past (reverse u.later) (line, quoted) u.earlier (subst (TellsBy basis l.head l.past) lines l.tells) u.tells in
     let same = same_told basis l.head u.head told.before u.past u.earlier told.tells u.tells in
-    let event : told.event ≡ u.event = same_event basis u.at told.event u.event told.says u.says in
+    let event : told.event ≡ u.event = same_event basis quoted told.event u.event told.says u.says in
     let run : IsRunBy basis l.head (told.event ∷ told.before) = run_before basis l.head told.later (told.event ∷ told.before) (subst (IsRunBy basis l.head) told.is l.lawful) in
     let there : IsRunBy basis u.head (u.event ∷ u.past) =
     subst (λ (h : Head). IsRunBy basis h (u.event ∷ u.past)) same.heads

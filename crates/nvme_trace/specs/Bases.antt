@@ -1,12 +1,12 @@
 -- What the profile and the specification each ask of a trace. (Base Specification, Command Arbitration; what is told: profile)
 use Rattle.std.specs.Prelude.{◌≡◌, ℕ, List}
-use Rattle.nvme_arbiter.specs.History.{ArbitrationEvent, Picked, Changed, History}
+use Rattle.nvme_arbiter.specs.History.{ArbitrationEvent, Picked, Changed, History, settings_after}
 use Rattle.nvme_arbiter.specs.Lawful.{IsLawfulRun}
 use Rattle.nvme_arbiter.specs.Standing.{StandsAt}
 use Rattle.nvme_arbiter.specs.Specified.{IsSpecifiedPick, IsSpecifiedRun}
 use Rattle.nvme_arbiter.specs.declared.pick.Seen.{Seen}
 use Rattle.nvme_judge.specs.Standing.{JudgeStandsAt, IsFirstBroken}
-use Rattle.nvme_trace.specs.Judged.{IsLawfulEvent, IsFinding}
+use Rattle.nvme_trace.specs.Judged.{IsLawfulEvent, IsFinding, count_in}
 use Rattle.nvme_trace.specs.declared.basis.Basis.{Basis}
 use Rattle.nvme_trace.specs.declared.basis.Basis.TheVariants.{Profile, Specification}
 use Rattle.nvme_trace.specs.declared.records.Head.{Head}
@@ -35,6 +35,10 @@ pub record IsBreach (head : Head) (past : History) (event : ArbitrationEvent) (b
   pub seen : List Seen
   -- the pick that was made
   pub event_is : event ≡ Picked seen breach.picked
+  -- the settings then in force, and how many commands wait in its queue, where that is seen
+  pub mechanism_is : breach.mechanism ≡ head.mechanism
+  pub settings_are : breach.settings ≡ settings_after head.settings past
+  pub waiting_is : breach.waiting ≡ count_in seen breach.picked.qid
   -- the first rule that it breaks
   pub broken : IsFirstBroken head.mechanism head.settings past seen breach.picked breach.rule
 

@@ -44,26 +44,25 @@ pub record IsLawfulBy (basis : Basis) (text : List ℕ) (picks : ℕ) : Type 0 w
 abbrev pub IsLawfulText : List ℕ → ℕ → Type 0
 IsLawfulText text picks = IsLawfulBy Profile text picks
 
--- the line of this number is the first whose pick is not allowed
-pub record IsRefusedBy (basis : Basis) (text : List ℕ) (line : ℕ) (reason : Reason) : Type 0 where
+-- the line of this number, with this text, is the first whose pick is not allowed
+pub record IsRefusedBy (basis : Basis) (text : List ℕ) (line : ℕ) (quoted : List ℕ) (reason : Reason) : Type 0 where
   pub head : Head
   pub past : History
   pub event : ArbitrationEvent
-  -- the text of the line, and the lines after it that aren't blank
-  pub at : List ℕ
+  -- the lines after it that aren't blank
   pub later : List (ℕ × List ℕ)
   -- those before it, the last one first
   pub earlier : List (ℕ × List ℕ)
-  pub split : told_lines text ≡ reverse earlier ++ (line, at) ∷ later
+  pub split : told_lines text ≡ reverse earlier ++ (line, quoted) ∷ later
   pub tells : TellsBy basis head past earlier
   pub lawful : IsRunBy basis head past
-  pub says : event_by basis at ≡ Ok event
+  pub says : event_by basis quoted ≡ Ok event
   pub reason_is : IsReasonBy basis head past event reason
 
 -- what a check of a text answers
 abbrev pub IsAnswer : Basis → List ℕ → Checked → Type 0
 IsAnswer basis text (Lawful picks) = IsLawfulBy basis text picks
-IsAnswer basis text (Refused refusal) = IsRefusedBy basis text refusal.line refusal.reason
+IsAnswer basis text (Refused refusal) = IsRefusedBy basis text refusal.line refusal.quoted.items refusal.reason
 
 -- a fault in a later line: in the lines before it each pick is allowed
 pub record IsLaterFault (basis : Basis) (text : List ℕ) (error : TraceError) : Type 0 where
@@ -91,7 +90,7 @@ JudgedUpTo basis text (Some rest) number head judge = IsJudgedUpTo basis text re
 
 -- where each pick of a text is allowed, none of its lines has a pick that is not
 abbrev pub OneAnswer : Type 0
-OneAnswer = (basis : Basis) (text : List ℕ) (picks line : ℕ) (reason : Reason) → IsLawfulBy basis text picks → IsRefusedBy basis text line reason → ⊥
+OneAnswer = (basis : Basis) (text : List ℕ) (picks line : ℕ) (quoted : List ℕ) (reason : Reason) → IsLawfulBy basis text picks → IsRefusedBy basis text line quoted reason → ⊥
 
 -- what the profile allows the specification allows
 abbrev pub LawfulTextsAreAllowed : Type 0

@@ -1,5 +1,5 @@
 -- What is judged of an event after a history. (Base Specification, Command Arbitration; what is told: profile)
-use Rattle.std.specs.Prelude.{◌≡◌, ◌≢◌, ℕ, ◌+◌, List, [], ◌∷◌, Some, option_and_then}
+use Rattle.std.specs.Prelude.{◌≡◌, ◌≢◌, ℕ, ◌+◌, ◌==◌, List, [], ◌∷◌, find, Option, Some, option_map, option_and_then}
 use Rattle.nvme_arbiter.specs.Settings.{ArbitrationFields}
 use Rattle.nvme_arbiter.specs.Observation.{IsObservation, class_in}
 use Rattle.nvme_arbiter.specs.History.{ArbitrationEvent, Picked, Changed, History}
@@ -33,6 +33,10 @@ abbrev pub picks_in : History → ℕ
 picks_in [] = 0
 picks_in (e ∷ past) = picks_in past + picks_of e
 
+-- how many commands wait in a queue that is seen
+abbrev pub count_in : List Seen → ℕ → Option ℕ
+count_in seen qid = option_map (λ s. s.count) (find (λ s. s.qid == qid) seen)
+
 -- what is told of a pick that is not the lawful one after a history
 pub record IsFinding (mechanism : Mechanism) (first : ArbitrationFields) (past : History) (event : ArbitrationEvent) (finding : Finding) : Type 0 where
   pub seen : List Seen
@@ -43,5 +47,7 @@ pub record IsFinding (mechanism : Mechanism) (first : ArbitrationFields) (past :
   pub other : finding.lawful ≢ Some finding.picked
   -- the class of its queue
   pub class_is : finding.class ≡ option_and_then (λ pick. class_in seen pick.qid) finding.lawful
+  -- how many commands wait in it
+  pub waiting_is : finding.waiting ≡ option_and_then (λ pick. count_in seen pick.qid) finding.lawful
   -- what was served last, and what was used in the round
   pub kept_is : StandsAt mechanism first past finding.kept

@@ -41,10 +41,11 @@ told_lines text = numbered 0 (lines_of text)
 abbrev pub unread : {R : Type 0} → (R → Option (List ℕ)) → Lines R → Option (List ℕ)
 unread remaining lines = prepend_known (slice_range lines.chunk lines.start lines.end) (remaining lines.reader)
 
--- a trace of which some lines were read: the bytes that are left, where they are known, and the number of those lines
+-- a trace of which some lines were read: the bytes that are left, where they are known, the number of those lines, and the latest one
 pub record TraceView : Type 0 where
   pub rest : Option (List ℕ)
   pub number : ℕ
+  pub latest : List ℕ
 
 -- the first of the known lines is taken
 abbrev pub TakesLine : (List ℕ → Type 0) → Option (List ℕ) → Option (List ℕ) → Type 0

@@ -14,16 +14,18 @@ use std::alloc::Global;
 use std::io::Read;
 
 /// The first pick of a trace that isn't allowed.
-#[derive(Clone, Copy, Debug, PartialEq, Eq)]
+#[derive(Debug, Drop, PartialEq, Eq)]
 pub struct Refusal {
     /// The number of its line, from 1 on.
     pub line: u64,
+    /// The line.
+    pub quoted: Vec<u8>,
     /// What was picked, and why it isn't allowed.
     pub reason: Reason,
 }
 
 /// The answer of a check.
-#[derive(Clone, Copy, Debug, PartialEq, Eq)]
+#[derive(Debug, Drop, PartialEq, Eq)]
 pub enum Checked {
     /// Each of the `picks` picks is allowed.
     Lawful { picks: u64 },
@@ -79,6 +81,7 @@ fn judged<R: Read>(
         if let Some(reason) = judge.judge(&event) {
             return Ok(Checked::Refused(Refusal {
                 line: trace.number(),
+                quoted: trace.take_line(alloc),
                 reason,
             }));
         }

@@ -3,8 +3,34 @@ use crate::checks::{Checked, Refusal};
 use crate::judge::Finding;
 use crate::judges::{Breach, Reason};
 use nvme_arbiter::specified::Rule;
-use nvme_arbiter::{Class, Kept, Mechanism, Pick};
+use nvme_arbiter::{Class, Kept, Mechanism, Pick, Settings};
 use std::fmt;
+
+/// Settings in words: the burst, and under the weighted mechanism the weights.
+#[derive(Clone, Copy, Debug, PartialEq, Eq)]
+pub struct SettingsInWords {
+    /// The arbitration mechanism.
+    pub mechanism: Mechanism,
+    /// The settings.
+    pub settings: Settings,
+}
+
+impl fmt::Display for SettingsInWords {
+    fn fmt<W: fmt::Write>(&self, f: &mut fmt::Formatter<W>) -> fmt::Result {
+        let settings = &self.settings;
+        match settings.burst() {
+            Some(burst) => write!(f, "burst {burst}")?,
+            None => write!(f, "no burst limit")?,
+        }
+        if self.mechanism == Mechanism::RoundRobin {
+            return Ok(());
+        }
+        let high = settings.weight(Class::High);
+        let medium = settings.weight(Class::Medium);
+        let low = settings.weight(Class::Low);
+        write!(f, ", high {high}, medium {medium}, low {low}")
+    }
+}
 
 // Writes a pick as words.
 fn put_pick<W: fmt::Write>(pick: &Pick, f: &mut fmt::Formatter<W>) -> fmt::Result {
@@ -72,6 +98,43 @@ fn put_used<W: fmt::Write>(kept: &Kept, f: &mut fmt::Formatter<W>) -> fmt::Resul
     )
 }
 
+// How many commands of a level may be picked, where the class of a pick is a level.
+fn credit_of(kept: &Kept, class: Option<Class>, fresh: bool) -> Option<u16> {
+    match (kept.mechanism, class) {
+        (Mechanism::Weighted, Some(Class::High)) => Some(kept.credit(Class::High, fresh)),
+        (Mechanism::Weighted, Some(Class::Medium)) => Some(kept.credit(Class::Medium, fresh)),
+        (Mechanism::Weighted, Some(Class::Low)) => Some(kept.credit(Class::Low, fresh)),
+        _ => None,
+    }
+}
+
+// Writes a bound of a number, unless there is none.
+fn put_bound<W: fmt::Write>(
+    name: &str,
+    bound: Option<u16>,
+    f: &mut fmt::Formatter<W>,
+) -> fmt::Result {
+    match bound {
+        Some(number) => write!(f, "{name} {number}, "),
+        None => Ok(()),
+    }
+}
+
+// Writes why the lawful pick takes as many commands as it does.
+fn put_number<W: fmt::Write>(finding: &Finding, f: &mut fmt::Formatter<W>) -> fmt::Result {
+    let (Some(pick), Some(waiting)) = (finding.lawful, finding.waiting) else {
+        return Ok(());
+    };
+    if pick.qid == 0 {
+        return write!(f, "\nnumber: n is 1, one command of the admin queue");
+    }
+    let kept = &finding.kept;
+    write!(f, "\nnumber: n is the least of ")?;
+    put_bound("burst", kept.settings.burst(), f)?;
+    put_bound("credit", credit_of(kept, finding.class, pick.fresh), f)?;
+    write!(f, "waiting {waiting}")
+}
+
 // Writes what was picked, what the lawful pick is, and why.
 fn put_finding<W: fmt::Write>(finding: &Finding, f: &mut fmt::Formatter<W>) -> fmt::Result {
     let kept = &finding.kept;
@@ -85,7 +148,22 @@ fn put_finding<W: fmt::Write>(finding: &Finding, f: &mut fmt::Formatter<W>) -> f
     let case = case_of(kept.mechanism, finding.class, finding.lawful);
     write!(f, "\nwhy: {case}")?;
     put_served(kept, f)?;
-    put_used(kept, f)
+    put_used(kept, f)?;
+    put_number(finding, f)?;
+    put_settings(kept.mechanism, kept.settings, f)
+}
+
+// Writes settings in words.
+fn put_settings<W: fmt::Write>(
+    mechanism: Mechanism,
+    settings: Settings,
+    f: &mut fmt::Formatter<W>,
+) -> fmt::Result {
+    let words = SettingsInWords {
+        mechanism,
+        settings,
+    };
+    write!(f, "\nsettings: {words}")
 }
 
 // The sentence of a rule.
@@ -103,12 +181,25 @@ fn sentence_of(rule: Rule) -> &'static str {
     }
 }
 
+// Writes how many commands a pick of a queue may take at most, whatever its level has left.
+fn put_limits<W: fmt::Write>(breach: &Breach, f: &mut fmt::Formatter<W>) -> fmt::Result {
+    let Some(waiting) = breach.waiting else {
+        let qid = breach.picked.qid;
+        return write!(f, "\nnumber: nothing, since q{qid} isn't seen");
+    };
+    write!(f, "\nnumber: n is from 1 to the least of ")?;
+    put_bound("burst", breach.settings.burst(), f)?;
+    write!(f, "waiting {waiting}")
+}
+
 // Writes what was picked, and the rule that it breaks.
 fn put_breach<W: fmt::Write>(breach: &Breach, f: &mut fmt::Formatter<W>) -> fmt::Result {
     write!(f, "\npicked: ")?;
     put_pick(&breach.picked, f)?;
     let sentence = sentence_of(breach.rule);
-    write!(f, "\nrule: {sentence}")
+    write!(f, "\nrule: {sentence}")?;
+    put_limits(breach, f)?;
+    put_settings(breach.mechanism, breach.settings, f)
 }
 
 impl fmt::Display for Refusal {
@@ -117,12 +208,19 @@ impl fmt::Display for Refusal {
         match &self.reason {
             Reason::Differs(finding) => {
                 write!(f, "differs: line {line}")?;
-                put_finding(finding, f)
+                put_finding(finding, f)?;
             }
             Reason::Breaks(breach) => {
                 write!(f, "unlawful: line {line}")?;
-                put_breach(breach, f)
+                put_breach(breach, f)?;
             }
+        }
+        match std::str::from_utf8(&self.quoted) {
+            Ok(text) => {
+                let text = text.trim();
+                write!(f, "\nline: {text}")
+            }
+            Err(_) => Ok(()),
         }
     }
 }

@@ -3,6 +3,7 @@ ghost use Rattle.std.specs.Prelude.{◌≡◌};
 
 use crate::records::{Head, TraceEvent};
 use nvme_arbiter::{Arbiter, Class, Kept, Pick, Seen, class_in};
+use nvme_judge::count_in;
 use std::marker::Model;
 
 /// A pick that isn't the lawful one.
@@ -14,6 +15,8 @@ pub struct Finding {
     pub lawful: Option<Pick>,
     /// The class in which the queue of the lawful pick was seen.
     pub class: Option<Class>,
+    /// How many commands wait in that queue.
+    pub waiting: Option<u16>,
     /// What the arbiter kept before the pick: what was served last, and what was used in the round.
     pub kept: Kept,
 }
@@ -102,6 +105,7 @@ impl Judge {
             picked,
             lawful,
             class: lawful.and_then(|pick| class_in(seen, pick.qid)),
+            waiting: lawful.and_then(|pick| count_in(seen, pick.qid)),
             kept,
         })
     }

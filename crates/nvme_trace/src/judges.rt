@@ -12,15 +12,21 @@ ghost use Rattle.nvme_trace.specs.declared.records.Head.{Head};
 use crate::basis::Basis;
 use crate::judge::{Finding, Judge};
 use crate::records::{Head, TraceEvent};
-use nvme_arbiter::Pick;
 use nvme_arbiter::specified::Rule;
-use nvme_judge::RuleJudge;
+use nvme_arbiter::{Mechanism, Pick, Settings};
+use nvme_judge::{RuleJudge, count_in};
 
 /// A pick that the specification doesn't allow.
 #[derive(Clone, Copy, Debug, PartialEq, Eq)]
 pub struct Breach {
     /// The pick that was made.
     pub picked: Pick,
+    /// The arbitration mechanism.
+    pub mechanism: Mechanism,
+    /// The settings in force at it.
+    pub settings: Settings,
+    /// How many commands wait in its queue, where that is seen.
+    pub waiting: Option<u16>,
     /// The first rule that it breaks.
     pub rule: Rule,
 }
@@ -53,6 +59,9 @@ fn judge_by_rules(judge: &mut RuleJudge, event: &TraceEvent) -> Option<Breach>
         TraceEvent::Pick { seen, pick } => match judge.judge(seen, pick) {
             Some(rule) => Some(Breach {
                 picked: *pick,
+                mechanism: judge.mechanism(),
+                settings: judge.settings(),
+                waiting: count_in(seen, pick.qid),
                 rule,
             }),
             None => None,

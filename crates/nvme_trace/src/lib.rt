@@ -18,6 +18,7 @@ mod writer;
 
 pub use basis::Basis;
 pub use checks::{Checked, Refusal, check, check_by};
+pub use explanation::SettingsInWords;
 pub use fault::{Field, LineFault, TraceError};
 pub use judge::{Finding, Judge};
 pub use judges::{Breach, Reason};

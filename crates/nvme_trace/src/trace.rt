@@ -18,9 +18,10 @@ use crate::records::{Head, TraceEvent, event_of_line, head_of_line};
 use std::alloc::Global;
 use std::io::Read;
 use std::marker::Model;
+use std::mem;
 
-/// A trace of which some lines were read. Contracts see the bytes that are left, where they are known, and the number
-/// of lines that were read.
+/// A trace of which some lines were read. Contracts see the bytes that are left, where they are known, the number of
+/// lines that were read, and the latest one.
 #[derive(Drop)]
 pub struct Trace<R: Read> {
     lines: Lines<R>,
@@ -34,7 +35,7 @@ impl<R: Read> Model for Trace<R> {
 
     ghost Value = { TraceView };
 
-    ghost view = { λ t. record { rest = unread R.remaining t.lines; number = t.number } };
+    ghost view = { λ t. record { rest = unread R.remaining t.lines; number = t.number; latest = t.line.items } };
 }
 
 // A fault of the line of this number, with a note.
@@ -186,6 +187,15 @@ impl<R: Read> Trace<R> {
         self.number
     }
 
+    /// Takes the latest line that isn't blank.
+    pub fn take_line(&mut self, alloc: Global) -> Vec<u8>
+        ensures latest { result.items ≡ self.old.latest }
+        ensures rest { self.new.rest ≡ self.old.rest }
+        ensures number { self.new.number ≡ self.old.number }
+    {
+        mem::replace(&mut self.line, Vec::new(alloc))
+    }
+
     /// Reads the head, the first line that isn't blank.
     pub fn head(&mut self, alloc: Global) -> Result<Head, TraceError>
         requires { self.old.number ≡ 0 }
@@ -217,6 +227,7 @@ impl<R: Read> Trace<R> {
         basis: Basis,
     ) -> Result<Option<TraceEvent>, TraceError>
         ensures ok { IfOk result (λ o. MatchOption o (HasNoTold self.old.number self.old.rest) (λ e. TakesTold (λ line. event_by basis line ≡ Ok (event_view e)) self.old.number self.old.rest self.new.number self.new.rest)) }
+        ensures latest { IfOk result (λ o. IfSome o (λ _. TakesTold (λ line. line ≡ self.new.latest) self.old.number self.old.rest self.new.number self.new.rest)) }
         ensures observed { IfOk result (λ o. IfSome o (λ e. IsObserved (event_view e))) }
         ensures err { IfErr result (λ e. IsEventFaultBy basis e self.old.number self.old.rest) }
     {

@@ -62,15 +62,15 @@ fn texts_that_differ(rt: HostRuntime) -> Result<(), Fail> {
     let text = format!(in alloc; "{CHANGED}{sixth}")?;
     assert_eq!(rt;
         answer(alloc, text.as_str())?.as_str(),
-        "differs: line 6\npicked: q1 2\nlawful: q4 2\nwhy: case 3, the first level that is ready and has credit\nserved last: admin q0, urgent none, high q1, medium none, low none\nused in the round: high 3 of 3, medium 0 of 1, low 0 of 2"
+        "differs: line 6\npicked: q1 2\nlawful: q4 2\nwhy: case 3, the first level that is ready and has credit\nserved last: admin q0, urgent none, high q1, medium none, low none\nused in the round: high 3 of 3, medium 0 of 1, low 0 of 2\nnumber: n is the least of burst 4, credit 2, waiting 5\nsettings: burst 4, high 3, medium 1, low 2\nline: {\"pick\":1,\"n\":2,\"fresh\":false,\"seen\":[[0,\"admin\",0],[1,\"high\",2],[4,\"low\",5]]}"
     );
     assert_eq!(rt;
         answer(alloc, OLD_CREDIT)?.as_str(),
-        "differs: line 4\npicked: q1 1\nlawful: q1 3\nwhy: case 3, the first level that is ready and has credit\nserved last: admin none, urgent none, high q1, medium none, low none\nused in the round: high 0 of 3, medium 0 of 1, low 0 of 2"
+        "differs: line 4\npicked: q1 1\nlawful: q1 3\nwhy: case 3, the first level that is ready and has credit\nserved last: admin none, urgent none, high q1, medium none, low none\nused in the round: high 0 of 3, medium 0 of 1, low 0 of 2\nnumber: n is the least of burst 4, credit 3, waiting 3\nsettings: burst 4, high 3, medium 1, low 2\nline: {\"pick\":1,\"n\":1,\"fresh\":false,\"seen\":[[1,\"high\",3]]}"
     );
     assert_eq!(rt;
         answer(alloc, NOT_FRESH)?.as_str(),
-        "differs: line 3\npicked: q4 1\nlawful: q4 1 fresh\nwhy: case 4, no ready level has credit, so a round starts\nserved last: admin none, urgent none, high none, medium none, low q4\nused in the round: high 0 of 1, medium 0 of 1, low 1 of 1"
+        "differs: line 3\npicked: q4 1\nlawful: q4 1 fresh\nwhy: case 4, no ready level has credit, so a round starts\nserved last: admin none, urgent none, high none, medium none, low q4\nused in the round: high 0 of 1, medium 0 of 1, low 1 of 1\nnumber: n is the least of burst 1, credit 1, waiting 4\nsettings: burst 1, high 1, medium 1, low 1\nline: {\"pick\":4,\"n\":1,\"fresh\":false,\"seen\":[[4,\"low\",4]]}"
     );
     Ok(())
 }
@@ -79,32 +79,51 @@ fn texts_that_differ(rt: HostRuntime) -> Result<(), Fail> {
 fn cases(rt: HostRuntime) -> Result<(), Fail> {
     let alloc = rt.alloc();
     let head = "{\"version\":1,\"mechanism\":\"weighted\",\"cdw11\":0}";
-    for (seen, lawful) in [
+    for (seen, lawful, number) in [
         (
             "[[0,\"admin\",3],[1,\"urgent\",1]]",
             "lawful: q0 1\nwhy: case 1, the admin queue is ready",
+            "\nnumber: n is 1, one command of the admin queue",
         ),
         (
             "[[1,\"urgent\",1],[2,\"high\",9]]",
             "lawful: q1 1\nwhy: case 2, an urgent queue is ready",
+            "\nnumber: n is the least of burst 1, waiting 1",
         ),
-        ("[[1,\"urgent\",0]]", "lawful: none\nwhy: nothing is ready"),
-        ("[]", "lawful: none\nwhy: nothing is ready"),
+        (
+            "[[1,\"urgent\",0]]",
+            "lawful: none\nwhy: nothing is ready",
+            "",
+        ),
+        ("[]", "lawful: none\nwhy: nothing is ready", ""),
     ] {
-        let text = format!(in alloc;
-            "{head}\n{{\"pick\":9,\"n\":1,\"fresh\":true,\"seen\":{seen}}}\n"
-        )?;
+        let line = format!(in alloc; "{{\"pick\":9,\"n\":1,\"fresh\":true,\"seen\":{seen}}}")?;
+        let text = format!(in alloc; "{head}\n{line}\n")?;
         let want = format!(in alloc;
-            "differs: line 2\npicked: q9 1 fresh\n{lawful}\nserved last: admin none, urgent none, high none, medium none, low none\nused in the round: high 0 of 1, medium 0 of 1, low 0 of 1"
+            "differs: line 2\npicked: q9 1 fresh\n{lawful}\nserved last: admin none, urgent none, high none, medium none, low none\nused in the round: high 0 of 1, medium 0 of 1, low 0 of 1{number}\nsettings: burst 1, high 1, medium 1, low 1\nline: {line}"
         )?;
         assert_eq!(rt; answer(alloc, text.as_str())?.as_str(), want.as_str());
     }
-    let text =
-        "{\"version\":1,\"mechanism\":\"round-robin\",\"cdw11\":0}\n{\"pick\":2,\"n\":1,\"fresh\":false,\"seen\":[[1,\"low\",1],[2,\"low\",1]]}\n";
-    assert_eq!(rt;
-        answer(alloc, text)?.as_str(),
-        "differs: line 2\npicked: q2 1\nlawful: q1 1\nwhy: round robin, the next ready queue after the latest pick\nserved last: of all none"
-    );
+    Ok(())
+}
+
+#[test]
+fn numbers_under_round_robin(rt: HostRuntime) -> Result<(), Fail> {
+    let alloc = rt.alloc();
+    for (cdw11, number, settings) in [
+        (0, "1\nwhy", "burst 1, waiting 7\nsettings: burst 1"),
+        (2, "4\nwhy", "burst 4, waiting 7\nsettings: burst 4"),
+        (7, "7\nwhy", "waiting 7\nsettings: no burst limit"),
+    ] {
+        let line = "{\"pick\":2,\"n\":1,\"fresh\":false,\"seen\":[[1,\"low\",7],[2,\"low\",1]]}";
+        let text = format!(in alloc;
+            "{{\"version\":1,\"mechanism\":\"round-robin\",\"cdw11\":{cdw11}}}\n{line}\n"
+        )?;
+        let want = format!(in alloc;
+            "differs: line 2\npicked: q2 1\nlawful: q1 {number}: round robin, the next ready queue after the latest pick\nserved last: of all none\nnumber: n is the least of {settings}\nline: {line}"
+        )?;
+        assert_eq!(rt; answer(alloc, text.as_str())?.as_str(), want.as_str());
+    }
     Ok(())
 }
 
@@ -135,26 +154,42 @@ fn texts_by_rules(rt: HostRuntime) -> Result<(), Fail> {
         answer(alloc, IN_TURN)?.as_str(),
         "trace: line 2: missing fresh: wanted true or false; with --spec it may be left out"
     );
-    for (last, want) in [
+    for (last, picked, rule, number) in [
         (
             "{\"pick\":4,\"n\":1,\"seen\":[[1,\"high\",2],[4,\"low\",4]]}",
-            "picked: q4 1\nrule: no more commands of a level are picked in a round than its weight",
+            "q4 1",
+            "no more commands of a level are picked in a round than its weight",
+            "n is from 1 to the least of burst 2, waiting 4",
         ),
         (
             "{\"pick\":1,\"n\":3,\"seen\":[[1,\"high\",9]]}",
-            "picked: q1 3\nrule: a pick takes no more commands than the Arbitration Burst",
+            "q1 3",
+            "a pick takes no more commands than the Arbitration Burst",
+            "n is from 1 to the least of burst 2, waiting 9",
         ),
         (
             "{\"pick\":1,\"n\":1,\"fresh\":true,\"seen\":[[1,\"high\",0]]}",
-            "picked: q1 1 fresh\nrule: a pick takes at least one command, and only such as wait in its queue",
+            "q1 1 fresh",
+            "a pick takes at least one command, and only such as wait in its queue",
+            "n is from 1 to the least of burst 2, waiting 0",
+        ),
+        (
+            "{\"pick\":2,\"n\":1,\"seen\":[[1,\"high\",0]]}",
+            "q2 1",
+            "a pick takes at least one command, and only such as wait in its queue",
+            "nothing, since q2 isn't seen",
         ),
         (
             "{\"pick\":1,\"n\":1,\"seen\":[[0,\"admin\",1],[1,\"high\",1]]}",
-            "picked: q1 1\nrule: no queue of a higher strict priority class is ready: admin, then urgent, then the weighted levels",
+            "q1 1",
+            "no queue of a higher strict priority class is ready: admin, then urgent, then the weighted levels",
+            "n is from 1 to the least of burst 2, waiting 1",
         ),
     ] {
         let text = format!(in alloc; "{IN_TURN}{last}\n")?;
-        let want = format!(in alloc; "unlawful: line 5\n{want}")?;
+        let want = format!(in alloc;
+            "unlawful: line 5\npicked: {picked}\nrule: {rule}\nnumber: {number}\nsettings: burst 2, high 4, medium 2, low 1\nline: {last}"
+        )?;
         assert_eq!(rt;
             answer_by_rules(alloc, text.as_str())?.as_str(),
             want.as_str()
@@ -170,7 +205,7 @@ fn turns_by_rules(rt: HostRuntime) -> Result<(), Fail> {
         "{\"version\":1,\"mechanism\":\"round-robin\",\"cdw11\":0}\n{\"pick\":2,\"n\":1,\"seen\":[[1,\"low\",1],[2,\"low\",2]]}\n{\"pick\":2,\"n\":1,\"seen\":[[1,\"low\",1],[2,\"low\",1]]}\n";
     assert_eq!(rt;
         answer_by_rules(alloc, text)?.as_str(),
-        "unlawful: line 3\npicked: q2 1\nrule: no queue is picked twice while another of its class or level, or of all under round robin, is ready throughout"
+        "unlawful: line 3\npicked: q2 1\nrule: no queue is picked twice while another of its class or level, or of all under round robin, is ready throughout\nnumber: n is from 1 to the least of burst 1, waiting 1\nsettings: burst 1\nline: {\"pick\":2,\"n\":1,\"seen\":[[1,\"low\",1],[2,\"low\",1]]}"
     );
     Ok(())
 }

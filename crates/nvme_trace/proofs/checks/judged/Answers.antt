@@ -36,7 +36,8 @@ returns-in-Some-judge-clause-answer g c = λ text t.
     let m = c.loop.trace.number in
     let n = c.event_by.new.self.number in
     let took : TakesTold (λ line. event_by c.args.basis line ≡ Ok event) m old n new = search rules in
-    judged_reason c.args.basis text m old n new c.number.result c.args.head c.loop.judge event c.in-Some-judge.reason (c.loop.invariant.judged text t) took
+    let quoted : TakesTold (λ line. line ≡ c.take_line.result.items) m old n new = search rules in
+    judged_reason c.args.basis text m old n new c.number.result c.take_line.result.items c.args.head c.loop.judge event c.in-Some-judge.reason (c.loop.invariant.judged text t) took quoted
     (λ past s. c.in-Some-judge.ensures.allowed c.args.basis c.args.head past s) c.number.ensures
 
 pub loop-preserved : goal.loop-preserved
