@@ -1,3 +1,1 @@
-pub mod Shown
-pub mod Chosen
-pub mod Counted
+pub mod Pictured

@@ -3,21 +3,19 @@ ghost use Rattle.std.specs.Prelude.{◌≡◌, [], ◌∷◌, OnOk, IfOk, IfErr,
 ghost use Rattle.nvme_arbiter.specs.History.{History, Picked, Changed};
 ghost use Rattle.nvme_trace.specs.declared.records.Head.{Head};
 ghost use Rattle.nvme_trace.specs.declared.fault.TraceError.TheVariants as fault;
-ghost use Rattle.nvme_chart.specs.Chosen.{chosen};
-ghost use Rattle.nvme_chart.specs.Shown.{IsShown, IsReadFault};
-ghost use Rattle.nvme_chart.specs.Counted.{IsPictured};
+ghost use Rattle.nvme_stats.specs.Chosen.{chosen};
+ghost use Rattle.nvme_stats.specs.Shown.{IsShown, IsReadFault};
+ghost use Rattle.nvme_chart.specs.Pictured.{IsPictured};
 
 mod bars;
 mod curves;
 mod frame;
 
-use crate::lanes::{LANES, queue_of_lane, row_of, row_of_pick};
-use crate::selection::Selection;
-use crate::series::Series;
-use crate::watch::{Watch, more, show};
+use crate::rows::{row_of, row_of_pick};
 use bars::put_bars_picture;
 use curves::put_curves_picture;
 use nvme_arbiter::{Class, Mechanism, Pick, Seen, Settings};
+use nvme_stats::{LANES, Selection, Series, Watch, more, queue_of_lane, show};
 use nvme_trace::{Head, Trace, TraceError, TraceEvent, WriteFault, class_name};
 use std::alloc::Global;
 use std::io::{self, Read, Write};

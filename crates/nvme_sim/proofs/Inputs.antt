@@ -26,7 +26,7 @@ use Rattle.nvme_trace.specs.declared.fault.TraceError.TheVariants as trace
 use Rattle.nvme_trace.specs.declared.basis.Basis.{Basis}
 use Rattle.nvme_trace.specs.declared.judges.Reason.{Reason}
 use Rattle.nvme_trace.specs.declared.records.Head.{Head}
-use Rattle.nvme_chart.specs.Shown.{IsReadFault, IsShown}
+use Rattle.nvme_stats.specs.Shown.{IsReadFault, IsShown}
 use Rattle.nvme_lint.specs.Lints.{IsLawful}
 use Rattle.nvme_lint.specs.Warnings.{AreWarningsOf}
 use Rattle.nvme_lint.specs.declared.warning.Warning.{Warning}

@@ -9,7 +9,7 @@ use Rattle.nvme_trace.specs.declared.fault.TraceError.TheVariants as trace
 use Rattle.nvme_trace.specs.declared.basis.Basis.{Basis}
 use Rattle.nvme_trace.specs.declared.basis.Basis.TheVariants.{Profile, Specification}
 use Rattle.nvme_trace.specs.declared.judges.Reason.{Reason}
-use Rattle.nvme_chart.specs.Shown.{IsReadFault, IsShown}
+use Rattle.nvme_stats.specs.Shown.{IsReadFault, IsShown}
 use Rattle.nvme_runs.specs.declared.runs.Ran.{Ran}
 use Rattle.nvme_lint.specs.Warnings.{AreWarningsOf}
 use Rattle.nvme_lint.specs.declared.warning.Warning.{Warning}

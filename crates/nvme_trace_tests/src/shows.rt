@@ -2,7 +2,8 @@
 use crate::examples::CHANGED;
 use crate::runs::random_log;
 use nvme_arbiter::{Mechanism, Settings};
-use nvme_chart::{Selection, chart, stats};
+use nvme_chart::chart;
+use nvme_stats::{Selection, stats};
 use nvme_trace::write_trace;
 use std::alloc::Global;
 use std::fmt::Write;

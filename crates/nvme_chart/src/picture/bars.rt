@@ -1,8 +1,7 @@
 // The picture of a short trace: a bar for each pick.
 use super::Picture;
 use super::frame::{CHANGE, ROUND, put_begin, put_legend, put_title};
-use crate::heading::plural;
-use crate::series::Window;
+use nvme_stats::{Window, plural};
 use std::io::{self, Write};
 
 // Measures of the picture, in pixels.

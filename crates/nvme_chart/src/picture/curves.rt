@@ -2,11 +2,8 @@
 // window.
 use super::frame::{CHANGE, put_begin, put_legend, put_title};
 use super::{Picture, colour};
-use crate::heading::plural;
-use crate::lanes::{CLASSES, class_of_lane, queue_of_lane};
-use crate::series::Window;
-use crate::share::share;
 use nvme_arbiter::{Class, Mechanism};
+use nvme_stats::{CLASSES, Window, class_of_lane, plural, queue_of_lane, share};
 use nvme_trace::class_name;
 use std::io::{self, Write};
 

@@ -1,7 +1,6 @@
 // What stands around bars and curves.
 use super::{Picture, colour};
-use crate::heading::{put_counts, put_settings};
-use crate::lanes::CLASSES;
+use nvme_stats::{CLASSES, put_counts, put_settings};
 use nvme_trace::class_name;
 use std::io::{self, Write};
 

@@ -7,7 +7,8 @@ ghost use Rattle.nvme_sim.specs.declared.commands.Answer.TheVariants as answer;
 
 use super::Answer;
 use crate::faults::Fault;
-use nvme_chart::{Selection, chart};
+use nvme_chart::chart;
+use nvme_stats::Selection;
 use nvme_words::Range;
 use std::alloc::Global;
 use std::io::{Read, Write};

@@ -7,7 +7,7 @@ ghost use Rattle.nvme_sim.specs.declared.commands.Answer.TheVariants as answer;
 
 use super::Answer;
 use crate::faults::Fault;
-use nvme_chart::{Selection, stats};
+use nvme_stats::{Selection, stats};
 use nvme_words::{Format, Numbers};
 use std::alloc::Global;
 use std::io::{Read, Write};

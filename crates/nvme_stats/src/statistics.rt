@@ -1,0 +1,238 @@
+// Counts what a trace shows.
+ghost use Rattle.std.specs.Prelude.{◌≡◌, [], ◌∷◌, IfOk, IfErr, IfSome, OnOk};
+ghost use Rattle.nvme_arbiter.specs.History.{History, Picked, Changed};
+ghost use Rattle.nvme_trace.specs.declared.fault.TraceError.TheVariants as fault;
+ghost use Rattle.nvme_trace.specs.declared.records.Head.{Head};
+ghost use Rattle.nvme_stats.specs.Chosen.{chosen};
+ghost use Rattle.nvme_stats.specs.Shown.{IsShown, IsReadFault};
+ghost use Rattle.nvme_stats.specs.Counted.{IsCounted};
+
+mod object;
+mod sheet;
+mod table;
+
+use crate::behind::{Behind, NOT_BEHIND};
+use crate::lanes::{
+    CLASSES, IO_QUEUES, LANES, class_of_lane, lane_of_pick, lanes_of_queue, queue_of_lane,
+};
+use crate::selection::Selection;
+use crate::series::Series;
+use crate::tally::{NO_TALLY, Tally, count_pick, note_seen, wait, wait_anew};
+use crate::waits::Waits;
+use crate::watch::{Watch, more, show};
+use nvme_arbiter::{Class, Mechanism, Pick, QUEUE_LIMIT, Seen, Settings};
+use nvme_trace::{Head, Trace, TraceError, TraceEvent, WriteFault};
+use object::put_object;
+use sheet::put_sheet;
+use std::alloc::Global;
+use std::io::{Read, Write};
+use table::put_table;
+
+// The most windows.
+const WINDOWS: usize = 4_096;
+
+/// Statistics of a trace, for each queue in each class in which it was seen, for each class, and for each queue over
+/// all classes. Their memory doesn't grow with the trace.
+#[derive(Drop)]
+pub struct Statistics {
+    mechanism: Mechanism,
+    settings: Settings,
+    picks: u64,
+    commands: u64,
+    changes: u64,
+    // The settings at the first pick.
+    begun: Settings,
+    selection: Selection,
+    tallies: [Tally; LANES],
+    behind: Behind,
+    waits: Waits,
+    windows: Option<Series>,
+    alloc: Global,
+}
+
+impl Statistics {
+    // Statistics of no pick.
+    fn new(alloc: Global, head: Head, selection: Selection, window: Option<u64>) -> Statistics
+        ensures { IsCounted head [] result }
+    {
+        Statistics {
+            mechanism: head.mechanism,
+            settings: head.settings,
+            picks: 0,
+            commands: 0,
+            changes: 0,
+            begun: head.settings,
+            selection,
+            tallies: [NO_TALLY; LANES],
+            behind: NOT_BEHIND,
+            waits: Waits::new(alloc),
+            windows: window.map(|step| Series::new(alloc, step, WINDOWS)),
+            alloc,
+        }
+    }
+
+    // Notes for each row what a pick takes from it, and what waits.
+    fn note_rows(&mut self, number: u64, seen: &[Seen], pick: &Pick) -> Result<(), TraceError>
+        ensures counted { OnOk result ((head : Head) (past : History) → IsCounted head past self.old → IsCounted head past self.new) }
+        ensures fault { IfErr result (λ e. e ≡ fault.NoMemory) }
+    {
+        self.waits.note_pick(self.alloc, seen, pick)?;
+        note_seen(&mut self.tallies, seen);
+        let lane = lane_of_pick(seen, pick.qid);
+        if let Some(windows) = &mut self.windows {
+            windows.note_pick(number, lane, pick, false)?;
+        }
+        if let Some(lane) = lane {
+            count_pick(&mut self.tallies, lane, pick.n);
+        }
+        wait(&mut self.tallies, self.mechanism, seen, lane);
+        let class = lane.map(class_of_lane);
+        self.behind
+            .wait(self.mechanism, &self.settings, seen, class, pick.n);
+        Ok(())
+    }
+
+    // Counts a pick.
+    fn note_pick(&mut self, number: u64, seen: &[Seen], pick: &Pick) -> Result<(), TraceError>
+        ensures stands { OnOk result ((head : Head) (past : History) → IsCounted head past self.old → IsCounted head (Picked seen.now pick.now ∷ past) self.new) }
+        ensures fault { IfErr result (λ e. e ≡ fault.NoMemory) }
+    {
+        self.note_rows(number, seen, pick)?;
+        self.picks = more(self.picks, 1);
+        self.commands = more(self.commands, pick.n);
+        Ok(())
+    }
+
+    // Takes new settings. All waiting in picks starts from 0 again, since the bounds hold while settings stay.
+    fn note_set(&mut self, settings: Settings)
+        ensures { (head : Head) (past : History) → IsCounted head past self.old → IsCounted head (Changed settings ∷ past) self.new }
+    {
+        wait_anew(&mut self.tallies);
+        self.behind.begin_anew();
+        self.settings = settings;
+        if self.picks == 0 {
+            self.begun = settings;
+        }
+        self.changes = more(self.changes, 1);
+    }
+
+    // The sum of all rows of a class.
+    fn of_class(&self, class: Class) -> Tally {
+        let mut sum = NO_TALLY;
+        for (lane, tally) in self.tallies.iter().enumerate() {
+            if tally.seen && class_of_lane(lane) == class {
+                sum.add(tally);
+            }
+        }
+        sum
+    }
+
+    // The sum of all rows of a queue.
+    fn of_queue(&self, qid: u16) -> Tally {
+        let mut sum = NO_TALLY;
+        for lane in lanes_of_queue(qid) {
+            if let Some(tally) = self.tallies.get(lane) {
+                sum.add(tally);
+            }
+        }
+        sum
+    }
+
+    // Jain's index of the commands of the I/O queues, in ten thousandths: the square of their sum, divided by their
+    // number times the sum of their squares. 10,000 where none was picked.
+    fn jain(&self) -> u128 {
+        let mut number = 0u128;
+        let mut sum = 0u128;
+        let mut squares = 0u128;
+        for qid in 1..=IO_QUEUES as u16 {
+            let tally = self.of_queue(qid);
+            if tally.seen {
+                let commands = u128::from(tally.commands);
+                number = number.saturating_add(1);
+                sum = sum.saturating_add(commands);
+                squares = squares.saturating_add(commands.saturating_mul(commands));
+            }
+        }
+        let below = number.saturating_mul(squares);
+        if below == 0 {
+            return 10_000;
+        }
+        sum.saturating_mul(sum).saturating_mul(10_000) / below
+    }
+
+    // A ready queue of a lawful run stays unpicked for fewer picks in a row than this.
+    fn bound(&self) -> usize {
+        match self.mechanism {
+            Mechanism::RoundRobin => QUEUE_LIMIT,
+            Mechanism::Weighted => IO_QUEUES,
+        }
+    }
+
+    /// Writes tables for people. The first has a row for each queue and each class: its picks, its commands, its share
+    /// of all commands, and the most picks in a row for which a queue was ready and not picked, beside the bound below
+    /// which this stays in a lawful run. The second tells for each queue how many commands others got between two
+    /// services of it. Where windows are asked for, the third has a row for each. `WriteFault` where a write failed.
+    pub fn write_text<W: Write>(&self, writer: &mut W) -> Result<(), WriteFault> {
+        match put_table(self, writer) {
+            Ok(()) => Ok(()),
+            Err(_) => Err(WriteFault),
+        }
+    }
+
+    /// Writes the same as one JSON object and a newline. `WriteFault` where a write failed.
+    pub fn write_json<W: Write>(&self, writer: &mut W) -> Result<(), WriteFault> {
+        match put_object(self, writer) {
+            Ok(()) => Ok(()),
+            Err(_) => Err(WriteFault),
+        }
+    }
+
+    /// Writes a line of comma-separated values for each queue, over all classes, or where windows are asked for, a line
+    /// for each window. The first line has the names. `WriteFault` where a write failed.
+    pub fn write_csv<W: Write>(&self, writer: &mut W) -> Result<(), WriteFault> {
+        match put_sheet(self, writer) {
+            Ok(()) => Ok(()),
+            Err(_) => Err(WriteFault),
+        }
+    }
+}
+
+impl Watch for Statistics {
+    ghost stands = { λ head past counted. IsCounted head past counted };
+
+    fn watch(&mut self, number: u64, event: &TraceEvent) -> Result<(), TraceError> {
+        match event {
+            TraceEvent::Pick { seen, pick } => self.note_pick(number, seen, pick),
+            TraceEvent::Set { settings } => {
+                self.note_set(*settings);
+                Ok(())
+            }
+        }
+    }
+
+    // What others get meanwhile isn't counted, so no wait goes on over it.
+    fn pass(&mut self) {
+        wait_anew(&mut self.tallies);
+        self.behind.begin_anew();
+        self.waits.begin_anew();
+    }
+}
+
+/// Counts what the picks of a selection show, and where a number of picks is given, what each so many of them show. The
+/// trace is read as a stream, and its picks aren't judged. Refused with the first faulty line, a failed read or no
+/// memory, as `nvme_trace::check` is.
+pub fn stats<R: Read + Drop>(
+    alloc: Global,
+    reader: R,
+    selection: Selection,
+    window: Option<u64>,
+) -> Result<Statistics, TraceError>
+    ensures counted { IfOk result (λ counted. IfSome (R.remaining reader) (λ text. IsShown text (λ head past. IsCounted head (chosen selection past) counted))) }
+    ensures fault { IfErr result (λ error. IfSome (R.remaining reader) (λ text. IsReadFault text error)) }
+{
+    let mut trace = Trace::new(alloc, reader);
+    let head = trace.head(alloc)?;
+    let mut counted = Statistics::new(alloc, head, selection, window);
+    show(alloc, &mut trace, selection, &mut counted)?;
+    Ok(counted)
+}

@@ -1,0 +1,77 @@
+// Goes through a trace, event by event.
+ghost use Rattle.std.specs.Prelude.{◌≡◌, ◌+◌, List, ℕ, Some, Ok, [], ◌∷◌, IfErr, OnOk};
+ghost use Rattle.nvme_arbiter.specs.History.{History};
+ghost use Rattle.nvme_trace.specs.Format.{event_view, head_of_line};
+ghost use Rattle.nvme_trace.specs.Lines.{TakesTold};
+ghost use Rattle.nvme_trace.specs.declared.records.Head.{Head};
+ghost use Rattle.nvme_trace.specs.declared.fault.TraceError.TheVariants as fault;
+ghost use Rattle.nvme_stats.specs.Chosen.{chosen, number_after};
+ghost use Rattle.nvme_stats.specs.Counted.{capped};
+ghost use Rattle.nvme_stats.specs.Shown.{IsShown, IsReadFault};
+
+use crate::selection::{Chooser, Selection};
+use nvme_trace::{Trace, TraceError, TraceEvent};
+use std::alloc::Global;
+use std::io::Read;
+
+/// Something that follows a trace, event by event.
+pub trait Watch: Drop {
+    /// These are the head and the events so far, the newest first.
+    ghost stands: { Head → History → Self → Type 0 };
+
+    /// Takes the next event. It is, or is before, the pick of this number.
+    fn watch(&mut self, number: u64, event: &TraceEvent) -> Result<(), TraceError>
+        ensures stands { OnOk result ((head : Head) (past : History) → stands head past self.old → stands head (event_view event.now ∷ past) self.new) }
+        ensures fault { IfErr result (λ e. e ≡ fault.NoMemory) };
+
+    /// Passes over an event that isn't looked at.
+    fn pass(&mut self)
+        ensures { (head : Head) (past : History) → stands head past self.old → stands head past self.new };
+}
+
+/// The sum of a count and more, at most 2^64 - 1.
+pub fn more(count: u64, by: u16) -> u64
+    ensures { (n : ℕ) → count ≡ capped n → result ≡ capped (n + by) }
+{
+    count.saturating_add(u64::from(by))
+}
+
+// Shows the next event to a watcher, where it is chosen.
+fn show_one<W: Watch>(
+    chooser: &mut Chooser,
+    event: &TraceEvent,
+    watcher: &mut W,
+) -> Result<(), TraceError>
+    ensures stands { OnOk result ((head : Head) (past : History) → chooser.old.next ≡ number_after past → W.stands head (chosen chooser.old.selection past) watcher.old → W.stands head (chosen chooser.old.selection (event_view event.now ∷ past)) watcher.new) }
+    ensures next { OnOk result ((past : History) → chooser.old.next ≡ number_after past → chooser.new.next ≡ number_after (event_view event.now ∷ past)) }
+    ensures selection { chooser.new.selection ≡ chooser.old.selection }
+    ensures fault { IfErr result (λ e. e ≡ fault.NoMemory) }
+{
+    let number = chooser.next;
+    if chooser.chooses(event) {
+        watcher.watch(number, event)
+    } else {
+        watcher.pass();
+        Ok(())
+    }
+}
+
+/// Shows the chosen events after the head to a watcher.
+pub fn show<R: Read, W: Watch>(
+    alloc: Global,
+    trace: &mut Trace<R>,
+    selection: Selection,
+    watcher: &mut W,
+) -> Result<(), TraceError>
+    ensures shown { OnOk result ((text : List ℕ) (head : Head) → TakesTold (λ line. head_of_line line ≡ Ok head) 0 (Some text) trace.old.number trace.old.rest → W.stands head [] watcher.old → IsShown text (λ h past. W.stands h (chosen selection past) watcher.new)) }
+    ensures fault { IfErr result (λ error. (text : List ℕ) (head : Head) → TakesTold (λ line. head_of_line line ≡ Ok head) 0 (Some text) trace.old.number trace.old.rest → W.stands head [] watcher.old → IsReadFault text error) }
+{
+    let mut chooser = Chooser { selection, next: 1 };
+    for _ in 1..u64::MAX {
+        let Some(event) = trace.event(alloc)? else {
+            return Ok(());
+        };
+        show_one(&mut chooser, &event, watcher)?;
+    }
+    Err(TraceError::Read)
+}
