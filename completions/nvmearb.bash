@@ -5,12 +5,13 @@ _nvmearb() {
     local cur=${COMP_WORDS[COMP_CWORD]} prev=${COMP_WORDS[COMP_CWORD - 1]} words="" files=""
     COMPREPLY=()
     if [ "$COMP_CWORD" = 1 ]; then
-        words="run trace lint expand check stats chart loaded live once help --help --version"
+        words="run trace lint expand check stats chart loaded live once settings help --help --version"
     else
         case $prev in
             --workers) words="1 2 3 4 5 6 7 8" ;;
             --format) words="text json csv" ;;
-            --blocks | --from | --to | --window) return ;;
+            --burst) words="1 2 4 8 16 32 64 none" ;;
+            --blocks | --from | --to | --weights | --window) return ;;
             *)
                 case ${COMP_WORDS[1]} in
                     run | trace) words="--live --workers --help" files=toml ;;
@@ -20,7 +21,8 @@ _nvmearb() {
                     stats) words="--from --to --backlogged --window --format --help" files=any ;;
                     loaded | live) words="--workers --help" ;;
                     once) words="--blocks --help" ;;
-                    help) words="run trace lint expand check stats chart loaded live once" ;;
+                    settings) words="--burst --weights --help" ;;
+                    help) words="run trace lint expand check stats chart loaded live once settings" ;;
                 esac
                 ;;
         esac

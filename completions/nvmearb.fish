@@ -1,7 +1,7 @@
 # SPDX-License-Identifier: MIT
 # Completions of nvmearb for fish.
 
-set -l all run trace lint expand check stats chart loaded live once help
+set -l all run trace lint expand check stats chart loaded live once settings help
 
 complete -c nvmearb -f
 complete -c nvmearb -s h -l help -d 'Print help'
@@ -17,6 +17,7 @@ complete -c nvmearb -n "not __fish_seen_subcommand_from $all" -a chart -d 'Print
 complete -c nvmearb -n "not __fish_seen_subcommand_from $all" -a loaded -d 'Run a workload of standard input, submitted first'
 complete -c nvmearb -n "not __fish_seen_subcommand_from $all" -a live -d 'Run a workload of standard input, submitted meanwhile'
 complete -c nvmearb -n "not __fish_seen_subcommand_from $all" -a once -d 'Answer one submission entry'
+complete -c nvmearb -n "not __fish_seen_subcommand_from $all" -a settings -d 'Translate settings of the Arbitration feature'
 complete -c nvmearb -n "not __fish_seen_subcommand_from $all" -a help -d 'Print help'
 
 complete -c nvmearb -n '__fish_seen_subcommand_from run trace' -l live -d 'Let the hosts submit while the front works'
@@ -28,6 +29,8 @@ complete -c nvmearb -n '__fish_seen_subcommand_from stats' -l window -x -d 'Tell
 complete -c nvmearb -n '__fish_seen_subcommand_from stats chart' -l from -x -d 'Number of the first pick to look at'
 complete -c nvmearb -n '__fish_seen_subcommand_from stats chart' -l to -x -d 'Number of the last pick to look at'
 complete -c nvmearb -n '__fish_seen_subcommand_from once' -l blocks -x -d 'Size of namespace 1 in logical blocks'
+complete -c nvmearb -n '__fish_seen_subcommand_from settings' -l burst -x -a '1 2 4 8 16 32 64 none' -d 'Most commands of a pick'
+complete -c nvmearb -n '__fish_seen_subcommand_from settings' -l weights -x -d 'Weights of high, medium and low'
 complete -c nvmearb -n '__fish_seen_subcommand_from run trace lint expand' -k -a '(__fish_complete_suffix .toml)'
 complete -c nvmearb -n '__fish_seen_subcommand_from check chart stats' -F
-complete -c nvmearb -n '__fish_seen_subcommand_from help' -a 'run trace lint expand check stats chart loaded live once'
+complete -c nvmearb -n '__fish_seen_subcommand_from help' -a 'run trace lint expand check stats chart loaded live once settings'

@@ -159,6 +159,16 @@ pub no_fault_said : {T : Type 0} (result : Result T Fault) (A : Type 0) (input :
 no_fault_said (Ok x) A input = tt
 no_fault_said (Err e) A input = inr (nothing_said input)
 
+-- what is said whatever the input is
+pub said_of : (input : Option (List ℕ)) (P : Type 0) → P → IfSome input (λ bytes. P)
+said_of None P h = tt
+said_of (Some bytes) P h = h
+
+pub no_kind : {T : Type 0} (result : Result T Fault) (input : Option (List ℕ)) (P : List ℕ → Type 0) → IfErr result (λ e. status_of e ≡ 1 → ⊥)
+    → IfErr result (λ e. status_of e ≡ 1 → IfSome input P)
+no_kind (Ok x) input P h = tt
+no_kind (Err e) input P h = λ one. absurd (h one)
+
 -- another second case of a fault
 pub or_else : {T : Type 0} (result : Result T Fault) (A B C : Type 0) → (B → C) → IfErr result (λ e. A ⊎ B) → IfErr result (λ e. A ⊎ C)
 or_else (Ok x) A B C more h = tt
@@ -350,4 +360,5 @@ only_check words request.CheckSpec asked a = not_both (asks_alone (codes "check"
 only_check words (request.Trace mode workers) asked a = not_both (asks (codes "trace") words) asked (check_is words (alone_asks (codes "check") words a) (codes "trace"))
 only_check words (request.Chart range) asked a = not_both (shows_trace words) asked (check_shows_none words (alone_asks (codes "check") words a))
 only_check words (request.Stats numbers) asked a = not_both (shows_trace words) asked (check_shows_none words (alone_asks (codes "check") words a))
+only_check words (request.Settings reading) asked a = not_both (asks (codes "settings") words) asked (check_is words (alone_asks (codes "check") words a) (codes "settings"))
 only_check words (request.Help text) asked a = not_both (asks_alone (codes "check") words) a asked

@@ -51,7 +51,7 @@ module _ {W : Type 0} (contents : W → Option (List ℕ)) (old new : W) where
   abbrev pub AppendedPart : List ℕ → Type 0
   AppendedPart text = AppendsPrefix (contents old) (contents new) text
 
-  -- it succeeded. Nothing is said of the texts of `clap`, of a picture and of statistics
+  -- it succeeded. Nothing is said of the texts of `clap`, of a picture, of statistics and of settings
   abbrev pub Does : Request → List ℕ → Type 0
   Does (request.Once blocks) bytes = HasAnswer Appended blocks bytes
   Does (request.Run mode workers) bytes = HasReport Appended mode bytes
@@ -63,6 +63,7 @@ module _ {W : Type 0} (contents : W → Option (List ℕ)) (old new : W) where
   Does (request.Trace mode workers) bytes = OfFile (HasTrace Appended mode) bytes
   Does (request.Chart range) bytes = IsTrace bytes
   Does (request.Stats numbers) bytes = IsTrace bytes
+  Does (request.Settings reading) bytes = (x : ℕ) × (reading ≡ Ok x)
   Does (request.Help text) bytes = Unit {0}
 
   -- a write of what a check answers failed. Of the text of a pick that isn't allowed nothing is said
@@ -81,6 +82,7 @@ module _ {W : Type 0} (contents : W → Option (List ℕ)) (old new : W) where
   FailsToWrite (request.Trace mode workers) bytes = OfFile (HasTrace AppendedPart mode) bytes
   FailsToWrite (request.Chart range) bytes = IsTrace bytes
   FailsToWrite (request.Stats numbers) bytes = IsTrace bytes
+  FailsToWrite (request.Settings reading) bytes = (x : ℕ) × (reading ≡ Ok x)
   FailsToWrite (request.Help text) bytes = Unit {0}
 
 -- the words ask for something of which P holds

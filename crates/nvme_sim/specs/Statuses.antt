@@ -64,6 +64,7 @@ status_of (fault.Run e) = run_status e
 status_of (fault.Workload f) = 1
 status_of (fault.Short f) = 1
 status_of (fault.Trace e) = trace_status e
+status_of (fault.Settings f) = 2
 
 -- an input has more bytes than are taken
 abbrev pub IsTooLong : List ℕ → Type 0

@@ -15,6 +15,7 @@ mod entry;
 mod file;
 mod lint;
 mod run;
+mod settings;
 mod stats;
 mod trace;
 
@@ -26,6 +27,7 @@ use file::{expanded, linted_file, ran_file, traced_file};
 use nvme_trace::Basis;
 use nvme_words::{Request, asked_of};
 use run::ran;
+use settings::translated;
 use stats::counted;
 use std::alloc::Global;
 use std::io::{Read, Write};
@@ -84,6 +86,7 @@ fn done<R: Read + Drop, W: Write, T: Threads + Wait + Sync>(
         Request::Trace(mode, workers) => traced_file(rt, alloc, mode, workers, input, output),
         Request::Chart(range) => charted(alloc, range, input, output),
         Request::Stats(numbers) => counted(alloc, numbers, input, output),
+        Request::Settings(reading) => translated(reading, output),
     }
 }
 
@@ -121,8 +124,8 @@ fn served<R: Read + Drop, W: Write, T: Threads + Wait + Sync>(
 ///
 /// With 0 the output has the whole answer to what the words ask for: the completion of the entry, the report or the
 /// trace of a run, the text for which a file stands, nothing for a workload without warnings, or the line with the
-/// number of picks that are allowed. Of a picture, of statistics and of the texts of `clap` the clauses don't say what
-/// they are. With 2 the output is as it was. So it is with 1, except for the answer of `check`, and with 3, unless a
+/// number of picks that are allowed. Of a picture, of statistics, of settings in words and of the texts of `clap` the
+/// clauses don't say what they are. With 2 the output is as it was. So it is with 1, except for the answer of `check`, and with 3, unless a
 /// write failed: then it has a prefix of such an answer.
 ///
 /// A fault is told on `errors` in one line, or in the text of `clap`, and a write that fails there is ignored. It may

@@ -5,6 +5,7 @@ ghost use Rattle.nvme_runs.specs.declared.runs.RunError.TheVariants as run_fault
 
 use nvme_input::{InputError, OnceError};
 use nvme_runs::RunError;
+use nvme_settings::SettingsFault;
 use nvme_trace::TraceError;
 use nvme_words::WordsError;
 use std::alloc::AllocError;
@@ -35,6 +36,8 @@ pub(crate) enum Fault {
     Short(nvme_short::ShortFault),
     #[error("nvmearb: {0}")]
     Trace(TraceError),
+    #[error("nvmearb: settings: {0}")]
+    Settings(SettingsFault),
 }
 
 impl Fault {
@@ -60,7 +63,8 @@ impl Fault {
             Fault::Entry(_) | Fault::Input(InputError::TooLong) => 1,
             Fault::Run(RunError::Workload(_)) => 1,
             Fault::Workload(_) | Fault::Short(_) | Fault::Trace(TraceError::Line { .. }) => 1,
-            Fault::CommandLine(_) | Fault::Words | Fault::Run(RunError::Workers) => 2,
+            Fault::CommandLine(_) | Fault::Words | Fault::Settings(_) => 2,
+            Fault::Run(RunError::Workers) => 2,
             Fault::Input(_) | Fault::NoMemory(_) | Fault::Write => 3,
             Fault::Run(_) | Fault::Trace(_) => 3,
         }

@@ -6,7 +6,7 @@ use Rattle.std.specs.Str.{bytes_eq}
 use Rattle.std.specs.Str.Parse.{IsNumeral, digits_value, without_leading_plus}
 use Rattle.clap.specs.Words.{Row, Text, first_of, one_of}
 use Rattle.nvme_words.specs.Examples.{AsksForNothing, AsksForOneThing}
-use Rattle.nvme_words.specs.Requests.{AreNumbers, Given, IsFlag, IsFormat, IsNumber, IsRange, IsRequestOf, SubmitsBy}
+use Rattle.nvme_words.specs.Requests.{AreNumbers, Given, IsFlag, IsFormat, IsNumber, IsRange, IsRequestOf, SubmitsBy, settings_given}
 use Rattle.nvme_words.specs.declared.requests.Format.{Format}
 use Rattle.nvme_words.specs.declared.requests.Format.TheVariants as format
 use Rattle.nvme_words.specs.declared.requests.Numbers.{Numbers}
@@ -91,7 +91,8 @@ picked given when =
     else if bytes_eq given.0 (codes "check") then check_for (is_text (codes "true") (first_of (codes "spec") given.1))
     else if bytes_eq given.0 (codes "trace") then request.Trace when (number_in (codes "workers") given.1)
     else if bytes_eq given.0 (codes "chart") then request.Chart (range_in given.1)
-    else request.Stats (numbers_in given.1)
+    else if bytes_eq given.0 (codes "stats") then request.Stats (numbers_in given.1)
+    else request.Settings (settings_given given.1)
 
 module _ (given : Given) (when : Mode) (only : (w : Mode) → SubmitsBy given.1 w → w ≡ when) where
   is_picked : (r : Request) → IsRequestOf given r → r ≡ picked given when
@@ -108,6 +109,7 @@ module _ (given : Given) (when : Mode) (only : (w : Mode) → SubmitsBy given.1 
   is_picked (request.Trace w n) h = rw h.0 (ap₂ request.Trace (only w h.1) (number_is 8 (codes "workers") given.1 n h.2))
   is_picked (request.Chart range) h = rw h.0 (ap request.Chart (range_is given.1 range h.1))
   is_picked (request.Stats numbers) h = rw h.0 (ap request.Stats (numbers_are given.1 numbers h.1))
+  is_picked (request.Settings reading) h = rw h.0 (ap request.Settings h.1)
   is_picked (request.Help text) h = absurd h
 
   both_picked : (r s : Request) → IsRequestOf given r → IsRequestOf given s → r ≡ s
@@ -149,9 +151,9 @@ none_of_once text none given name is = no_blocks given name (λ n. no_number 64 
 
 pub none_of_workers : (name text : Text) → bytes_eq name (codes "once") ≡ false → bytes_eq name (codes "lint") ≡ false → bytes_eq name (codes "expand") ≡ false
     → bytes_eq name (codes "check") ≡ false → bytes_eq name (codes "chart") ≡ false → bytes_eq name (codes "stats") ≡ false
-    → (IsNumeral 10 (without_leading_plus text) × (digits_value 10 (without_leading_plus text) < 2 ^ 8) → ⊥)
+    → bytes_eq name (codes "settings") ≡ false → (IsNumeral 10 (without_leading_plus text) × (digits_value 10 (without_leading_plus text) < 2 ^ 8) → ⊥)
     → AsksForNothing name (codes "workers") text
-none_of_workers name text once lint expand check chart stats none given same is = no_workers given
+none_of_workers name text once lint expand check chart stats settings none given same is = no_workers given
     (apart given.0 name (codes "once") once same) (apart given.0 name (codes "lint") lint same) (apart given.0 name (codes "expand") expand same) (apart given.0 name (codes "check") check same)
-    (apart given.0 name (codes "chart") chart same) (apart given.0 name (codes "stats") stats same)
+    (apart given.0 name (codes "chart") chart same) (apart given.0 name (codes "stats") stats same) (apart given.0 name (codes "settings") settings same)
     (λ n. no_number 8 (codes "workers") given.1 n text none is)

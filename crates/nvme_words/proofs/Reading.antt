@@ -54,6 +54,7 @@ no_blocks given is none = go
     go (request.Trace when workers) h = not (codes "trace") refl h.0
     go (request.Chart range) h = not (codes "chart") refl h.0
     go (request.Stats numbers) h = not (codes "stats") refl h.0
+    go (request.Settings reading) h = not (codes "settings") refl h.0
     go (request.Help text) h = h
 
 -- where there is no range, `chart` asks for nothing
@@ -76,6 +77,7 @@ no_range given is none = go
     go (request.Trace when workers) h = not (codes "trace") refl h.0
     go (request.Chart range) h = none range h.1
     go (request.Stats numbers) h = not (codes "stats") refl h.0
+    go (request.Settings reading) h = not (codes "settings") refl h.0
     go (request.Help text) h = h
 
 -- where there are no numbers, `stats` asks for nothing
@@ -98,19 +100,21 @@ no_numbers given is none = go
     go (request.Trace when workers) h = not (codes "trace") refl h.0
     go (request.Chart range) h = not (codes "chart") refl h.0
     go (request.Stats numbers) h = none numbers h.1
+    go (request.Settings reading) h = not (codes "settings") refl h.0
     go (request.Help text) h = h
 
 -- where there is no number of workers, no run is asked for
 pub no_workers : (given : Given) → given.0 ≢ codes "once" → given.0 ≢ codes "lint" → given.0 ≢ codes "expand" → given.0 ≢ codes "check" → given.0 ≢ codes "chart"
-    → given.0 ≢ codes "stats" → ((n : ℕ) → IsNumber 8 (codes "workers") given.1 n → ⊥) → (r : Request) → IsRequestOf given r → ⊥
-no_workers given once lint expand check chart stats none (request.Once blocks) h = once h.0
-no_workers given once lint expand check chart stats none (request.Run when workers) h = none workers h.1
-no_workers given once lint expand check chart stats none (request.RunFile when workers) h = none workers h.2
-no_workers given once lint expand check chart stats none request.Lint h = lint h
-no_workers given once lint expand check chart stats none request.Expand h = expand h
-no_workers given once lint expand check chart stats none request.Check h = check h.0
-no_workers given once lint expand check chart stats none request.CheckSpec h = check h.0
-no_workers given once lint expand check chart stats none (request.Trace when workers) h = none workers h.2
-no_workers given once lint expand check chart stats none (request.Chart range) h = chart h.0
-no_workers given once lint expand check chart stats none (request.Stats numbers) h = stats h.0
-no_workers given once lint expand check chart stats none (request.Help text) h = h
+    → given.0 ≢ codes "stats" → given.0 ≢ codes "settings" → ((n : ℕ) → IsNumber 8 (codes "workers") given.1 n → ⊥) → (r : Request) → IsRequestOf given r → ⊥
+no_workers given once lint expand check chart stats settings none (request.Once blocks) h = once h.0
+no_workers given once lint expand check chart stats settings none (request.Run when workers) h = none workers h.1
+no_workers given once lint expand check chart stats settings none (request.RunFile when workers) h = none workers h.2
+no_workers given once lint expand check chart stats settings none request.Lint h = lint h
+no_workers given once lint expand check chart stats settings none request.Expand h = expand h
+no_workers given once lint expand check chart stats settings none request.Check h = check h.0
+no_workers given once lint expand check chart stats settings none request.CheckSpec h = check h.0
+no_workers given once lint expand check chart stats settings none (request.Trace when workers) h = none workers h.2
+no_workers given once lint expand check chart stats settings none (request.Chart range) h = chart h.0
+no_workers given once lint expand check chart stats settings none (request.Stats numbers) h = stats h.0
+no_workers given once lint expand check chart stats settings none (request.Settings reading) h = settings h.0
+no_workers given once lint expand check chart stats settings none (request.Help text) h = h

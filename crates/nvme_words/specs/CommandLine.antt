@@ -99,6 +99,18 @@ ranged name = with_rule (with_rule (trace name) first) last
 abbrev pub stats : Names → App
 stats names = with_rule (with_rule (with_rule (ranged (codes "stats")) backlogged) window) (format names)
 
+-- an option with one value, which is any text
+abbrev pub text_option : Text → Rule
+text_option name = record (new_rule name) { long = Some name; action = Some Set; value_names = 1 }
+
+-- a dword, in place of a file
+abbrev pub dword : Rule
+dword = record (new_rule (codes "dword")) { action = Some Set; value_names = 1 }
+
+-- the subcommand that translates settings
+abbrev pub settings : App
+settings = with_rule (with_rule (with_rule (new_app (codes "settings")) dword) (text_option (codes "burst"))) (text_option (codes "weights"))
+
 -- ---- the program
 
 -- it has a version, and asks for a subcommand
@@ -118,7 +130,7 @@ abbrev pub with_trace : Names → App → App
 with_trace names app = with_subcommand (with_subcommand (with_subcommand app check.top) (ranged (codes "chart")).top) (stats names).top
 
 abbrev pub command_line : Names → App
-command_line names = with_trace names (with_file (with_input alone))
+command_line names = with_subcommand (with_trace names (with_file (with_input alone))) settings.top
 
 -- P holds of the command line. Where the names of the formats lie is left open, and parsing doesn't ask for it
 abbrev pub OnCommandLine : (App → Type 0) → Type 0

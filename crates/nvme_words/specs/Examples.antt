@@ -135,6 +135,15 @@ stats_json = codes "stats" ∷ codes "a.json" ∷ codes "--format" ∷ codes "js
 abbrev pub stats_part : List Text
 stats_part = codes "stats" ∷ codes "--from" ∷ codes "2" ∷ codes "--to=9" ∷ codes "--window" ∷ codes "3" ∷ codes "--backlogged" ∷ codes "--format=csv" ∷ []
 
+abbrev pub settings_dword : List Text
+settings_dword = codes "settings" ∷ codes "0x07030103" ∷ []
+
+abbrev pub settings_words : List Text
+settings_words = codes "settings" ∷ codes "--burst" ∷ codes "8" ∷ codes "--weights" ∷ codes "8:4:2" ∷ []
+
+abbrev pub settings_both : List Text
+settings_both = codes "settings" ∷ codes "1" ∷ codes "--burst=2" ∷ []
+
 abbrev pub chart_from_0 : List Text
 chart_from_0 = codes "chart" ∷ codes "--from" ∷ codes "0" ∷ []
 

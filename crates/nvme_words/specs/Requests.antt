@@ -14,6 +14,8 @@ use Rattle.nvme_words.specs.declared.requests.Numbers.{Numbers}
 use Rattle.nvme_words.specs.declared.requests.Request.{Request}
 use Rattle.nvme_words.specs.declared.requests.Request.TheVariants as request
 use Rattle.nvme_lane.specs.declared.mode.Mode.{Mode}
+use Rattle.nvme_settings.specs.Reading.{settings_in}
+use Rattle.nvme_settings.specs.declared.reading.SettingsFault.{SettingsFault}
 use Rattle.nvme_lane.specs.declared.mode.Mode.TheVariants.{Loaded, Live}
 use Rattle.nvme_words.specs.declared.requests.WordsError.{WordsError}
 use Rattle.nvme_words.specs.declared.requests.WordsError.TheVariants as error
@@ -31,6 +33,7 @@ IsAskedBy words request.CheckSpec = (asks (codes "check") words ≡ true) × (as
 IsAskedBy words (request.Trace mode workers) = asks (codes "trace") words ≡ true
 IsAskedBy words (request.Chart range) = shows_trace words ≡ true
 IsAskedBy words (request.Stats numbers) = shows_trace words ≡ true
+IsAskedBy words (request.Settings reading) = asks (codes "settings") words ≡ true
 IsAskedBy words (request.Help text) = asks_alone (codes "check") words ≡ false
 
 -- ---- what a subcommand and its values ask for
@@ -68,6 +71,10 @@ abbrev pub AreNumbers : List Row → Numbers → Type 0
 AreNumbers rows numbers = IsRange rows numbers.range × IsNumber 64 (codes "window") rows numbers.window
     × IsFlag (codes "backlogged") rows numbers.backlogged × IsFormat rows numbers.format
 
+-- what settings the values say
+abbrev pub settings_given : List Row → Result ℕ SettingsFault
+settings_given rows = settings_in (first_of (codes "dword") rows) (first_of (codes "burst") rows) (first_of (codes "weights") rows)
+
 -- the mode of a run of standard input whose report is wanted
 abbrev pub RunsBy : Given → Mode → Type 0
 RunsBy given mode = ((given.0 ≡ codes "loaded") × (mode ≡ Loaded))
@@ -86,6 +93,7 @@ IsRequestOf given (request.Trace mode workers) =
     (given.0 ≡ codes "trace") × SubmitsBy given.1 mode × IsNumber 8 (codes "workers") given.1 workers
 IsRequestOf given (request.Chart range) = (given.0 ≡ codes "chart") × IsRange given.1 range
 IsRequestOf given (request.Stats numbers) = (given.0 ≡ codes "stats") × AreNumbers given.1 numbers
+IsRequestOf given (request.Settings reading) = (given.0 ≡ codes "settings") × (reading ≡ settings_given given.1)
 IsRequestOf given (request.Help text) = ⊥
 
 -- ---- what words ask for

@@ -1,9 +1,10 @@
 //! Laws of the command line, over the definitions alone. Each function does nothing: its contract is the law.
-ghost use Rattle.std.specs.Prelude.{[], None, Some, codes, true};
+ghost use Rattle.std.specs.Prelude.{[], None, Some, Ok, Err, codes, true};
 ghost use Rattle.clap.specs.declared.error.kind.ErrorKind.TheVariants as kind;
-ghost use Rattle.nvme_words.specs.Examples.{AsksFor, AsksForNothing, AsksForOneThing, HasFault, NamesFile, RefusesBy, ShowsText, all_numbers, all_picks, alone, chart_file, chart_from_0, check_file, check_spec, expand_file, lint_file, lint_input, live_0, live_8, loaded_2, loaded_9, once_8, once_most, once_none, once_too_many, run_file, run_live_3, run_two_files, stats_json, stats_part, stats_xml, trace_2, trace_live};
+ghost use Rattle.nvme_words.specs.Examples.{AsksFor, AsksForNothing, AsksForOneThing, HasFault, NamesFile, RefusesBy, ShowsText, all_numbers, all_picks, alone, chart_file, chart_from_0, check_file, check_spec, expand_file, lint_file, lint_input, live_0, live_8, loaded_2, loaded_9, once_8, once_most, once_none, once_too_many, run_file, run_live_3, run_two_files, settings_both, settings_dword, settings_words, stats_json, stats_part, stats_xml, trace_2, trace_live};
 ghost use Rattle.nvme_words.specs.declared.requests.Format.TheVariants as format;
 ghost use Rattle.nvme_words.specs.declared.requests.Request.TheVariants as request;
+ghost use Rattle.nvme_settings.specs.declared.reading.SettingsFault.TheVariants as said;
 ghost use Rattle.nvme_lane.specs.declared.mode.Mode.TheVariants.{Loaded, Live};
 
 /// Each worked line asks for what its subcommand does, with the numbers, the mode and the format that it gives, or
@@ -25,6 +26,9 @@ pub fn lines_ask_for()
     ensures chart { AsksFor chart_file (request.Chart all_picks) }
     ensures stats { AsksFor (alone (codes "stats")) (request.Stats (all_numbers format.Text)) }
     ensures stats_json { AsksFor stats_json (request.Stats (all_numbers format.Json)) }
+    ensures settings_dword { AsksFor settings_dword (request.Settings (Ok 0x0703_0103)) }
+    ensures settings_words { AsksFor settings_words (request.Settings (Ok 0x0703_0103)) }
+    ensures settings_both { AsksFor settings_both (request.Settings (Err said.Both)) }
     ensures stats_part { AsksFor stats_part (request.Stats (record { range = record { first = 2; last = 9 }; window = 3; backlogged = true; format = format.Csv })) }
 {}
 

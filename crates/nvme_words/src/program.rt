@@ -1,7 +1,7 @@
 // The command line of the program, by `clap`.
 ghost use Rattle.std.specs.Prelude.{◌≡◌, IfOk, codes};
 ghost use Rattle.clap.specs.Words.{App, app_of};
-ghost use Rattle.nvme_words.specs.CommandLine.{OnCommandLine, backlogged, blocks, check, expand, file, first, last, lint, mode, once, option, ranged, run, stats, trace, window, with_file, with_input, with_trace, workers};
+ghost use Rattle.nvme_words.specs.CommandLine.{OnCommandLine, backlogged, blocks, check, dword, expand, file, first, last, lint, mode, once, option, ranged, run, settings, stats, text_option, trace, window, with_file, with_input, with_trace, workers};
 ghost use Rattle.nvme_words.specs.inside.Built.{AddsIfMade, HasApp, HasRule};
 
 use clap::builder::ValueParser;
@@ -22,11 +22,15 @@ Input:
                   a workload file: TOML, at most 16777216 bytes
   check, chart, stats
                   a trace: JSON, a line of at most 4096 bytes for each event
+  settings        none
 
 Ranges:
   N               1 to 8 workers
   B               1 to 9223372036854775807 logical blocks
   FIRST, LAST     numbers of picks, counted from 1, both included
+  DWORD           a number of 32 bits, in hexadecimal as 0x07030103 or in decimal
+  BURST           1, 2, 4, 8, 16, 32, 64, or none for no limit
+  WEIGHTS         of high, medium and low, each 1 to 256, as 8:4:2
 
 Exit status:
   0  done; with lint there is nothing to say, with check each pick is allowed
@@ -39,7 +43,8 @@ Exit status:
 Example:
   nvmearb lint examples/five-queues.toml
   nvmearb run examples/five-queues.toml --workers 2
-  nvmearb trace examples/five-queues.toml | nvmearb check";
+  nvmearb trace examples/five-queues.toml | nvmearb check
+  nvmearb settings --burst 8 --weights 8:4:2";
 
 // An option with one value.
 fn option_arg<'a>(
@@ -294,6 +299,40 @@ fn with_trace<'a>(
     with(program, stats_command(alloc, formats))
 }
 
+// An option with one value, which is any text.
+fn text_arg<'a>(alloc: Global, name: &'a str, value: &'a str, help: &'a str) -> Arg<'a>
+    ensures { HasRule (text_option name.now) result }
+{
+    Arg::new(alloc, name)
+        .long(name)
+        .value_name(value)
+        .help(help)
+        .action(ArgAction::Set)
+}
+
+// A dword.
+fn dword_arg<'a>(alloc: Global) -> Arg<'a>
+    ensures { HasRule dword result }
+{
+    Arg::new(alloc, "dword")
+        .value_name("DWORD")
+        .help("Command Dword 11 of Set Features, Arbitration")
+        .action(ArgAction::Set)
+}
+
+// The subcommand that translates settings.
+fn settings_command<'a>(alloc: Global) -> Result<Command<'a>, AllocError>
+    ensures { IfOk result (HasApp settings) }
+{
+    let burst = "The most commands of a pick; 1 where it is left out";
+    let weights = "The weights of high, medium and low; 1:1:1 where they are left out";
+    Command::new(alloc, "settings")
+        .about("Translates settings of the Arbitration feature, from a dword to words and back")
+        .arg(dword_arg(alloc))?
+        .arg(text_arg(alloc, "burst", "BURST", burst))?
+        .arg(text_arg(alloc, "weights", "WEIGHTS", weights))
+}
+
 /// The command line of the program.
 pub(crate) fn program<'a>(alloc: Global) -> Result<Command<'a>, AllocError>
     ensures { IfOk result (λ command. OnCommandLine (λ app. app_of command ≡ app)) }
@@ -304,5 +343,6 @@ pub(crate) fn program<'a>(alloc: Global) -> Result<Command<'a>, AllocError>
         .after_help(AFTER_HELP)
         .subcommand_required(true);
     let program = with_file(alloc, with_input(alloc, program)?)?;
-    with_trace(alloc, FORMATS, program)
+    let program = with_trace(alloc, FORMATS, program);
+    with(program, settings_command(alloc))
 }

@@ -2,7 +2,7 @@
 ghost use Rattle.std.specs.Prelude.{◌≡◌, IfOk, IfNone, IfSome, codes};
 ghost use Rattle.clap.specs.Words.{found_of, kind_of, rows_of, subcommand_rows_of};
 ghost use Rattle.nvme_words.specs.CommandLine.{OnCommandLine};
-ghost use Rattle.nvme_words.specs.Requests.{AreNumbers, IsAnswerTo, IsAskedBy, IsFlag, IsFormat, IsRange, IsSaid, SubmitsBy};
+ghost use Rattle.nvme_words.specs.Requests.{AreNumbers, IsAnswerTo, IsAskedBy, IsFlag, IsFormat, IsRange, IsSaid, SubmitsBy, settings_given};
 ghost use Rattle.nvme_words.specs.inside.Found.{IsNumberIfAny, IsOneIfAny, IsRequestIfAny, IsRequestOfIfAny, IsTextFor};
 
 use crate::program::program;
@@ -10,6 +10,7 @@ use crate::words::{asks, asks_alone};
 use clap::ArgMatches;
 use clap::error::ErrorKind;
 use nvme_lane::Mode;
+use nvme_settings::{SettingsFault, settings_in};
 use std::alloc::{AllocError, Global};
 use thiserror::Error;
 
@@ -70,6 +71,9 @@ pub enum Request {
     Chart(Range),
     /// Statistics of a trace.
     Stats(Numbers),
+    /// The settings of the Arbitration feature that a dword or words say, as Command Dword 11 of Set Features, or why
+    /// they say none.
+    Settings(Result<u32, SettingsFault>),
     /// The text of the help, or the version.
     Help(clap::Error),
 }
@@ -188,6 +192,17 @@ fn numbers_of(matches: &ArgMatches) -> Option<Numbers>
     })
 }
 
+// The settings that are to be translated.
+fn settings_of(matches: &ArgMatches) -> Result<u32, SettingsFault>
+    ensures { result ≡ settings_given (rows_of (found_of matches.now)) }
+{
+    settings_in(
+        matches.get_str("dword"),
+        matches.get_str("burst"),
+        matches.get_str("weights"),
+    )
+}
+
 // What a subcommand and its values ask for: none where there is no such subcommand, or a number is missing.
 fn request_of(name: &str, matches: &ArgMatches) -> Option<Request>
     ensures { IsRequestOfIfAny (name.now, rows_of (found_of matches.now)) result }
@@ -204,6 +219,7 @@ fn request_of(name: &str, matches: &ArgMatches) -> Option<Request>
         "trace" => Some(Request::Trace(mode_of(matches), workers_of(matches)?)),
         "chart" => Some(Request::Chart(range_of(matches)?)),
         "stats" => Some(Request::Stats(numbers_of(matches)?)),
+        "settings" => Some(Request::Settings(settings_of(matches))),
         _ => None,
     }
 }

@@ -7,7 +7,7 @@ use Rattle.nvme_trace.specs.declared.basis.Basis.TheVariants.{Profile, Specifica
 use Rattle.nvme_sim.specs.Statuses.{IsBadEntry, IsBadWorkload}
 use Rattle.nvme_sim.specs.declared.commands.Answer.TheVariants as answer
 use Rattle.nvme_words.specs.Words.{asks, reads_workload, shows_trace}
-use Rattle.nvme_sim.proofs.Inputs.{bad_check, bad_file_read, bad_once, bad_run, bad_shown, faulty_is_bad, is_quiet, no_fault_said, nothing_said, of_kind, on_done, one_reads_file, only_check}
+use Rattle.nvme_sim.proofs.Inputs.{bad_check, bad_file_read, bad_once, bad_run, bad_shown, faulty_is_bad, is_quiet, no_fault_said, no_kind, nothing_said, of_kind, on_done, one_reads_file, only_check, or_else, said_of}
 use Rattle.nvme_sim.proofs.commands.done.Goals as goal
 
 pub returns-in-Once-clause-input : goal.returns-in-Once-clause-input
@@ -82,6 +82,10 @@ returns-in-Stats-clause-input g c =
     let shown : shows_trace words ≡ true = rw c.in-Stats.is at c.requires in
     of_kind c.counted.result (g.R.Read.remaining c.args.input) IsFaultyShown (IsBadInput words) (λ bs h. bad_shown words bs shown h) c.counted.ensures.input
 
+pub returns-in-Settings-clause-input : goal.returns-in-Settings-clause-input
+returns-in-Settings-clause-input g c =
+    no_kind c.translated.result (g.R.Read.remaining c.args.input) (IsBadInput c.args.words.now) c.translated.ensures.no_input
+
 pub returns-in-Once-clause-lawful : goal.returns-in-Once-clause-lawful
 returns-in-Once-clause-lawful g c = λ is alone.
     let none : ⊥ = rw c.in-Once.is at (only_check c.args.words.now c.args.request c.requires alone) in absurd none
@@ -117,6 +121,10 @@ returns-in-Chart-clause-lawful g c = λ is alone.
 pub returns-in-Stats-clause-lawful : goal.returns-in-Stats-clause-lawful
 returns-in-Stats-clause-lawful g c = λ is alone.
     let none : ⊥ = rw c.in-Stats.is at (only_check c.args.words.now c.args.request c.requires alone) in absurd none
+
+pub returns-in-Settings-clause-lawful : goal.returns-in-Settings-clause-lawful
+returns-in-Settings-clause-lawful g c = λ is alone.
+    let none : ⊥ = rw c.in-Settings.is at (only_check c.args.words.now c.args.request c.requires alone) in absurd none
 
 pub returns-in-Help-clause-lawful : goal.returns-in-Help-clause-lawful
 returns-in-Help-clause-lawful g c = λ is alone.
@@ -154,6 +162,10 @@ returns-in-Chart-clause-done g c = λ is. rw c.in-Chart.is (on_done c.charted.re
 pub returns-in-Stats-clause-done : goal.returns-in-Stats-clause-done
 returns-in-Stats-clause-done g c = λ is. rw c.in-Stats.is (on_done c.counted.result answer.Done _ c.counted.ensures.done is)
 
+pub returns-in-Settings-clause-done : goal.returns-in-Settings-clause-done
+returns-in-Settings-clause-done g c = λ is.
+    rw c.in-Settings.is (said_of (g.R.Read.remaining c.args.input) _ (on_done c.translated.result answer.Done _ c.translated.ensures.done is))
+
 pub returns-in-Help-clause-done : goal.returns-in-Help-clause-done
 returns-in-Help-clause-done g c = λ is. rw c.in-Help.is (nothing_said (g.R.Read.remaining c.args.input))
 
@@ -186,6 +198,10 @@ returns-in-Chart-clause-failed g c = rw c.in-Chart.is c.charted.ensures.failed
 
 pub returns-in-Stats-clause-failed : goal.returns-in-Stats-clause-failed
 returns-in-Stats-clause-failed g c = rw c.in-Stats.is c.counted.ensures.failed
+
+pub returns-in-Settings-clause-failed : goal.returns-in-Settings-clause-failed
+returns-in-Settings-clause-failed g c =
+    rw c.in-Settings.is (or_else c.translated.result _ _ _ (λ h. said_of (g.R.Read.remaining c.args.input) _ h) c.translated.ensures.failed)
 
 pub returns-in-Help-clause-failed : goal.returns-in-Help-clause-failed
 returns-in-Help-clause-failed g c = rw c.in-Help.is (no_fault_said c.helped.result _ (g.R.Read.remaining c.args.input))

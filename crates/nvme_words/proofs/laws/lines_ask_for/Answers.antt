@@ -1,16 +1,17 @@
 -- Each line is computed.
-use Rattle.std.proofs.Common.{◌≡◌, true, false, List, [], ◌∷◌, String, map, string_bytes, Some, codes, refl, inl, inr, arith}
+use Rattle.std.proofs.Common.{◌≡◌, true, false, List, [], ◌∷◌, String, map, string_bytes, Some, Ok, Err, codes, refl, inl, inr, arith}
 use Rattle.std.specs.Str.Parse.{digits_value, without_leading_plus}
 use Rattle.clap.specs.ValueTests.{accepts}
 use Rattle.clap.specs.Words.{Text, first_of, one_of}
 use Rattle.clap.specs.declared.builder.value_parser.ValueParser.TheVariants as vp
 use Rattle.clap.proofs.OnLiterals.{clap_on_literals}
-use Rattle.nvme_words.specs.Examples.{all_numbers, all_picks, alone, chart_file, check_file, check_spec, expand_file, lint_input, live_8, loaded_2, once_8, once_most, run_file, run_live_3, stats_json, stats_part, trace_2, trace_live}
+use Rattle.nvme_words.specs.Examples.{all_numbers, all_picks, alone, chart_file, check_file, check_spec, expand_file, lint_input, live_8, loaded_2, once_8, once_most, run_file, run_live_3, settings_both, settings_dword, settings_words, stats_json, stats_part, trace_2, trace_live}
 use Rattle.std.specs.Global.{Global}
 use Rattle.nvme_words.specs.Words.{asks_alone}
 use Rattle.nvme_words.specs.Requests.{IsRange, SubmitsBy}
 use Rattle.nvme_words.specs.declared.requests.Format.TheVariants as format
 use Rattle.nvme_words.specs.declared.requests.Request.TheVariants as request
+use Rattle.nvme_settings.specs.declared.reading.SettingsFault.TheVariants as said
 use Rattle.nvme_lane.specs.declared.mode.Mode.TheVariants.{Loaded, Live}
 use Rattle.nvme_words.proofs.Lines.{given_at, line_asks, number_of, other_text, some_text}
 use Rattle.nvme_words.proofs.laws.lines_ask_for.Goals as goal
@@ -134,3 +135,18 @@ returns-clause-stats_part c = line_asks (codes "stats") _ (given_at stats_part)
         refl,
       ),
     ) (λ words e. tt) (λ p q r. (refl, refl))
+
+pub returns-clause-settings_dword : goal.returns-clause-settings_dword
+unfolding clap_on_literals
+returns-clause-settings_dword c =
+    line_asks (codes "settings") _ (given_at settings_dword) (request.Settings (Ok 0x0703_0103)) refl (refl, refl) (λ words e. tt) (λ p q r. (refl, refl))
+
+pub returns-clause-settings_words : goal.returns-clause-settings_words
+unfolding clap_on_literals
+returns-clause-settings_words c =
+    line_asks (codes "settings") _ (given_at settings_words) (request.Settings (Ok 0x0703_0103)) refl (refl, refl) (λ words e. tt) (λ p q r. (refl, refl))
+
+pub returns-clause-settings_both : goal.returns-clause-settings_both
+unfolding clap_on_literals
+returns-clause-settings_both c =
+    line_asks (codes "settings") _ (given_at settings_both) (request.Settings (Err said.Both)) refl (refl, refl) (λ words e. tt) (λ p q r. (refl, refl))

@@ -13,25 +13,25 @@ pub returns-in_err-workers_of-in-loaded : goal.returns-in_err-workers_of-in-load
 returns-in_err-workers_of-in-loaded c =
     let none : c.workers_of.result ≡ None = search rules in
     let left : c.from_residual-in_err-workers_of-in-loaded.result ≡ None = search rules in
-    rw left (no_workers (c.args.name.now, rows_of (found_of c.args.matches.now)) (search rules) (search rules) (search rules) (search rules) (search rules) (search rules) (rw none at c.workers_of.ensures))
+    rw left (no_workers (c.args.name.now, rows_of (found_of c.args.matches.now)) (search rules) (search rules) (search rules) (search rules) (search rules) (search rules) (search rules) (rw none at c.workers_of.ensures))
 
 pub returns-in_err-workers_of-in-live : goal.returns-in_err-workers_of-in-live
 returns-in_err-workers_of-in-live c =
     let none : c.workers_of-in-live.result ≡ None = search rules in
     let left : c.from_residual-in_err-workers_of-in-live.result ≡ None = search rules in
-    rw left (no_workers (c.args.name.now, rows_of (found_of c.args.matches.now)) (search rules) (search rules) (search rules) (search rules) (search rules) (search rules) (rw none at c.workers_of-in-live.ensures))
+    rw left (no_workers (c.args.name.now, rows_of (found_of c.args.matches.now)) (search rules) (search rules) (search rules) (search rules) (search rules) (search rules) (search rules) (rw none at c.workers_of-in-live.ensures))
 
 pub returns-in_err-workers_of-in-run : goal.returns-in_err-workers_of-in-run
 returns-in_err-workers_of-in-run c =
     let none : c.workers_of-in-run.result ≡ None = search rules in
     let left : c.from_residual-in_err-workers_of-in-run.result ≡ None = search rules in
-    rw left (no_workers (c.args.name.now, rows_of (found_of c.args.matches.now)) (search rules) (search rules) (search rules) (search rules) (search rules) (search rules) (rw none at c.workers_of-in-run.ensures))
+    rw left (no_workers (c.args.name.now, rows_of (found_of c.args.matches.now)) (search rules) (search rules) (search rules) (search rules) (search rules) (search rules) (search rules) (rw none at c.workers_of-in-run.ensures))
 
 pub returns-in_err-workers_of-in-trace : goal.returns-in_err-workers_of-in-trace
 returns-in_err-workers_of-in-trace c =
     let none : c.workers_of-in-trace.result ≡ None = search rules in
     let left : c.from_residual-in_err-workers_of-in-trace.result ≡ None = search rules in
-    rw left (no_workers (c.args.name.now, rows_of (found_of c.args.matches.now)) (search rules) (search rules) (search rules) (search rules) (search rules) (search rules) (rw none at c.workers_of-in-trace.ensures))
+    rw left (no_workers (c.args.name.now, rows_of (found_of c.args.matches.now)) (search rules) (search rules) (search rules) (search rules) (search rules) (search rules) (search rules) (rw none at c.workers_of-in-trace.ensures))
 
 pub returns-in_err-range_of-in-chart : goal.returns-in_err-range_of-in-chart
 returns-in_err-range_of-in-chart c =
