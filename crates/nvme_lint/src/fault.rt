@@ -1,3 +1,4 @@
+use crate::found::Found;
 use crate::place::Place;
 use crate::values::{most_of, value_of};
 use nvme_workload::{Key, WorkloadError};
@@ -46,6 +47,8 @@ pub struct Fault {
     pub error: WorkloadError,
     /// Where it is.
     pub place: Place,
+    /// What stands there.
+    pub found: Found,
     /// What was expected there.
     pub why: Why,
 }
@@ -53,8 +56,20 @@ pub struct Fault {
 impl fmt::Display for Fault {
     fn fmt<W: fmt::Write>(&self, f: &mut fmt::Formatter<W>) -> fmt::Result {
         let error = self.error;
-        let place = self.place;
-        write!(f, "{error}: {place}: ")?;
-        self.why.fmt(f)
+        write!(f, "{error}: ")?;
+        Details(self).fmt(f)
+    }
+}
+
+/// Of a fault: where it is, what stands there, and what was expected.
+#[derive(Debug, Drop)]
+pub struct Details<'a>(pub &'a Fault);
+
+impl fmt::Display for Details<'_> {
+    fn fmt<W: fmt::Write>(&self, f: &mut fmt::Formatter<W>) -> fmt::Result {
+        let place = self.0.place;
+        write!(f, "{place}: ")?;
+        self.0.found.fmt(f)?;
+        self.0.why.fmt(f)
     }
 }

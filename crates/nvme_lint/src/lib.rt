@@ -3,6 +3,7 @@
 #![tactic(auto)]
 
 mod fault;
+mod found;
 mod lints;
 mod place;
 mod places;
@@ -11,7 +12,8 @@ mod values;
 mod warning;
 mod warnings;
 
-pub use fault::{Fault, Why};
+pub use fault::{Details, Fault, Why};
+pub use found::Found;
 pub use lints::{LintError, lint};
 pub use place::Place;
 pub use warning::{Kind, Warning};

@@ -10,8 +10,9 @@ ghost use Rattle.nvme_lint.specs.inside.Readings.{AreWarningsIn, IsToldOfBytes, 
 ghost use Rattle.nvme_lint.specs.declared.lints.LintError.TheVariants as told;
 
 use crate::fault::{Fault, Why};
+use crate::found::Found;
 use crate::place::behind;
-use crate::places::place_of;
+use crate::places::{found_at, place_of};
 use crate::warning::Warning;
 use crate::warnings::warnings_of;
 use nvme_workload::{DocumentError, WorkloadError, document, read_document};
@@ -46,6 +47,7 @@ fn in_bytes(valid: &[u8]) -> LintError
     LintError::Fault(Fault {
         error: WorkloadError::NotUtf8,
         place: behind(valid),
+        found: Found::Untold,
         why: Why::NotUtf8,
     })
 }
@@ -62,6 +64,7 @@ fn in_text(text: &str, error: toml::de::Error) -> LintError
     LintError::Fault(Fault {
         error: WorkloadError::NotToml,
         place: behind(&text.as_bytes()[..span.start]),
+        found: Found::Untold,
         why: Why::Syntax(error),
     })
 }
@@ -71,10 +74,18 @@ fn in_document(alloc: Global, table: &Table, error: WorkloadError) -> LintError
     ensures fault { IsToldAs error result }
     ensures place { IsToldOfTable result }
 {
-    match place_of(alloc, table, error) {
-        Ok((place, why)) => LintError::Fault(Fault { error, place, why }),
-        Err(_) => LintError::NoMemory,
-    }
+    let Ok((place, why)) = place_of(alloc, table, error) else {
+        return LintError::NoMemory;
+    };
+    let Ok(found) = found_at(alloc, table, place, error) else {
+        return LintError::NoMemory;
+    };
+    LintError::Fault(Fault {
+        error,
+        place,
+        found,
+        why,
+    })
 }
 
 // The warnings of the workload of a document, or its first fault.

@@ -4,6 +4,7 @@ ghost use Rattle.std.specs.Prelude.{IfOk, IfSome};
 ghost use Rattle.nvme_lint.specs.inside.Tables.{IsOfDocument, IsOfTable};
 
 use crate::fault::Why;
+use crate::found::{Found, beginning_of, found_in};
 use crate::place::Place;
 use crate::tables::{COMPLETION, ITEM, SUBMISSION, TOP, is_good, items_at, unknown_key};
 use nvme_admin::MAX_REGIONS;
@@ -11,9 +12,6 @@ use nvme_entry::MAX_NAMESPACES;
 use nvme_workload::{Key, MAX_COMMANDS, WorkloadError};
 use std::alloc::{AllocError, Global};
 use toml::{Table, Value};
-
-// The most characters of an unknown key that are kept.
-const KEY_CHARACTERS: usize = 100;
 
 // Whether the fault is in this very table, which may have these keys.
 fn stands_in(table: &Table, keys: &[Key], fault: WorkloadError) -> bool {
@@ -203,13 +201,38 @@ fn at_place(table: &Table, place: Place) -> (Option<&Table>, &'static [Key]) {
     }
 }
 
-// The first characters of a key.
-fn beginning_of(alloc: Global, key: &str) -> Result<String, AllocError> {
-    let mut beginning = String::new(alloc);
-    for character in key.chars().take(KEY_CHARACTERS) {
-        beginning.push(character)?;
+// The item at a place of an array.
+fn item_at(table: &Table, place: Place) -> Option<&Value> {
+    let submissions = items_at(table, Key::Submission);
+    match place {
+        Place::Submission(region) => submissions.get(region),
+        Place::Item { region, item } => script_of(submissions.get(region)?).get(item),
+        Place::Completion(region) => items_at(table, Key::Completion).get(region),
+        _ => None,
     }
-    Ok(beginning)
+}
+
+// The value of a key at a place, or the item there, where that is no table.
+fn value_at(table: &Table, place: Place, key: Key) -> Option<&Value> {
+    match at_place(table, place) {
+        (Some(found), _) => found.get(key.name()),
+        (None, _) => item_at(table, place),
+    }
+}
+
+/// What stands where the first fault of a TOML document is.
+pub(crate) fn found_at(
+    alloc: Global,
+    table: &Table,
+    place: Place,
+    fault: WorkloadError,
+) -> Result<Found, AllocError> {
+    match fault {
+        WorkloadError::Missing(_) => Ok(Found::Nothing),
+        WorkloadError::Bad(key) => found_in(alloc, value_at(table, place, key)),
+        WorkloadError::Repeated => found_in(alloc, value_at(table, place, Key::Address)),
+        _ => Ok(Found::Untold),
+    }
 }
 
 // The unknown key at a place.

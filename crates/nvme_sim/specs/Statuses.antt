@@ -65,6 +65,9 @@ status_of (fault.Workload f) = 1
 status_of (fault.Short f) = 1
 status_of (fault.Trace e) = trace_status e
 status_of (fault.Settings f) = 2
+status_of (fault.Placed w f) = 1
+status_of (fault.Front e) = 3
+status_of (fault.GaveUp patience) = 3
 
 -- an input has more bytes than are taken
 abbrev pub IsTooLong : List ℕ → Type 0

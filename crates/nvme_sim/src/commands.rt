@@ -12,6 +12,7 @@ ghost use Rattle.nvme_runs.specs.declared.runs.RunError.TheVariants as run_fault
 mod chart;
 mod check;
 mod entry;
+mod explanation;
 mod file;
 mod lint;
 mod run;
@@ -128,7 +129,8 @@ fn served<R: Read + Drop, W: Write, T: Threads + Wait + Sync>(
 /// clauses don't say what they are. With 2 the output is as it was. So it is with 1, except for the answer of `check`, and with 3, unless a
 /// write failed: then it has a prefix of such an answer.
 ///
-/// A fault is told on `errors` in one line, or in the text of `clap`, and a write that fails there is ignored. It may
+/// A fault is told on `errors` in one line, or two with `run` and `trace`, or in the text of `clap`, and a write that
+/// fails there is ignored. It may
 /// wait for another thread.
 pub fn command<R: Read + Drop, W: Write, E: Write, T: Threads + Wait + Sync>(
     rt: &T,

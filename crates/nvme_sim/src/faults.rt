@@ -3,17 +3,20 @@ ghost use Rattle.nvme_sim.specs.Statuses.{fault_of_words, status_of};
 ghost use Rattle.nvme_sim.specs.declared.faults.Fault.TheVariants as fault;
 ghost use Rattle.nvme_runs.specs.declared.runs.RunError.TheVariants as run_fault;
 
+use nvme_front::FrontError;
 use nvme_input::{InputError, OnceError};
+use nvme_lint::Details;
 use nvme_runs::RunError;
 use nvme_settings::SettingsFault;
 use nvme_trace::TraceError;
 use nvme_words::WordsError;
+use nvme_workload::WorkloadError;
 use std::alloc::AllocError;
 use std::io::Write;
 use thiserror::Error;
 
 /// Why the program doesn't answer. Each fault is told in one line, except one of the command line, whose text may have
-/// several.
+/// several, and those of the words `run` and `trace` that have a second line.
 #[derive(Debug, Drop, Error)]
 pub(crate) enum Fault {
     #[error("{0}")]
@@ -38,6 +41,14 @@ pub(crate) enum Fault {
     Trace(TraceError),
     #[error("nvmearb: settings: {0}")]
     Settings(SettingsFault),
+    // The second line tells the place of the fault, what stands there, and what was expected.
+    #[error("nvmearb: workload: {0}")]
+    Placed(WorkloadError, nvme_lint::Fault),
+    #[error("nvmearb: front\nnvmearb: {0}")]
+    Front(FrontError),
+    // With the patience of the workload, which the second line tells.
+    #[error("nvmearb: gave up")]
+    GaveUp(u32),
 }
 
 impl Fault {
@@ -62,11 +73,12 @@ impl Fault {
         match self {
             Fault::Entry(_) | Fault::Input(InputError::TooLong) => 1,
             Fault::Run(RunError::Workload(_)) => 1,
-            Fault::Workload(_) | Fault::Short(_) | Fault::Trace(TraceError::Line { .. }) => 1,
+            Fault::Workload(_) | Fault::Placed(..) | Fault::Short(_) => 1,
+            Fault::Trace(TraceError::Line { .. }) => 1,
             Fault::CommandLine(_) | Fault::Words | Fault::Settings(_) => 2,
             Fault::Run(RunError::Workers) => 2,
             Fault::Input(_) | Fault::NoMemory(_) | Fault::Write => 3,
-            Fault::Run(_) | Fault::Trace(_) => 3,
+            Fault::Run(_) | Fault::Front(_) | Fault::GaveUp(_) | Fault::Trace(_) => 3,
         }
     }
 
@@ -74,6 +86,18 @@ impl Fault {
     pub(crate) fn tell<E: Write>(&self, errors: &mut E) -> std::io::Result<()> {
         match self {
             Fault::CommandLine(error) => write!(errors, "{error}"),
+            Fault::Placed(_, fault) => {
+                let details = Details(fault);
+                writeln!(errors, "{self}\nnvmearb: {details}")
+            }
+            Fault::GaveUp(patience) => {
+                let turns = if *patience == 1 { "turn" } else { "turns" };
+                let why = "in a row (patience), and not all was done";
+                writeln!(
+                    errors,
+                    "{self}\nnvmearb: the front found nothing to do for {patience} {turns} {why}"
+                )
+            }
             fault => writeln!(errors, "{fault}"),
         }
     }

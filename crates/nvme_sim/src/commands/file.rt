@@ -10,6 +10,7 @@ ghost use Rattle.nvme_sim.specs.declared.commands.Answer.TheVariants as answer;
 ghost use Rattle.nvme_runs.specs.declared.runs.RunError.TheVariants as run_fault;
 
 use super::Answer;
+use super::explanation::explained;
 use super::lint::{linted, warnings_of};
 use super::run::ran;
 use super::trace::traced;
@@ -36,7 +37,7 @@ fn text_of<R: Read + Drop>(alloc: Global, input: R) -> Result<Vec<u8>, Fault>
     }
 }
 
-/// Runs the workload of a file as `ran` does.
+/// Runs the workload of a file as `ran` does. Some faults have a second line.
 #[inline(never)]
 pub(super) fn ran_file<R: Read + Drop, W: Write, T: Threads + Wait + Sync>(
     rt: &T,
@@ -53,10 +54,11 @@ pub(super) fn ran_file<R: Read + Drop, W: Write, T: Threads + Wait + Sync>(
     ensures failed { IfErr result (λ e. (output.new ≡ output.old) ⊎ IfSome (R.remaining input) (OfFile (HasReport (AppendedPart W.contents output.old output.new) mode))) }
 {
     let text = text_of(alloc, input)?;
-    ran(rt, alloc, mode, workers, text.as_slice(), output)
+    let answer = ran(rt, alloc, mode, workers, text.as_slice(), output);
+    explained(alloc, text.as_slice(), answer)
 }
 
-/// Runs the workload of a file and writes its trace, as `traced` does.
+/// Runs the workload of a file and writes its trace, as `traced` does. Some faults have a second line.
 #[inline(never)]
 pub(super) fn traced_file<R: Read + Drop, W: Write, T: Threads + Wait + Sync>(
     rt: &T,
@@ -73,7 +75,8 @@ pub(super) fn traced_file<R: Read + Drop, W: Write, T: Threads + Wait + Sync>(
     ensures failed { IfErr result (λ e. (output.new ≡ output.old) ⊎ IfSome (R.remaining input) (OfFile (HasTrace (AppendedPart W.contents output.old output.new) mode))) }
 {
     let text = text_of(alloc, input)?;
-    traced(rt, alloc, mode, workers, text.as_slice(), output)
+    let answer = traced(rt, alloc, mode, workers, text.as_slice(), output);
+    explained(alloc, text.as_slice(), answer)
 }
 
 /// Checks the workload of a file for its writer, as `linted` does.

@@ -1,0 +1,57 @@
+// What the words `run` and `trace` tell of a fault beside its fixed line.
+ghost use Rattle.std.specs.Prelude.{◌≡◌};
+ghost use Rattle.nvme_sim.specs.Statuses.{status_of};
+ghost use Rattle.nvme_sim.specs.inside.Explained.{IsExplained, IsExplainedFault};
+
+use super::Answer;
+use crate::faults::Fault;
+use nvme_lint::{LintError, lint};
+use nvme_runs::RunError;
+use nvme_workload::{WorkloadError, read};
+use std::alloc::Global;
+
+// The first fault of a workload, with its place.
+fn placed(alloc: Global, text: &[u8], error: WorkloadError) -> Fault
+    ensures { status_of result ≡ 1 }
+{
+    match lint(alloc, text) {
+        Err(LintError::Fault(fault)) => Fault::Placed(error, fault),
+        _ => Fault::Run(RunError::Workload(error)),
+    }
+}
+
+// That a run gave up, with the patience of its workload.
+fn out_of_patience(alloc: Global, text: &[u8]) -> Fault
+    ensures { status_of result ≡ 3 }
+{
+    match read(alloc, text) {
+        Ok(workload) => Fault::GaveUp(workload.patience),
+        Err(_) => Fault::Run(RunError::GaveUp),
+    }
+}
+
+// A fault of a run of this text, with what is known of it.
+fn explained_fault(alloc: Global, text: &[u8], fault: Fault) -> Fault
+    ensures { IsExplainedFault fault result }
+{
+    match fault {
+        Fault::Run(RunError::Workload(error)) => placed(alloc, text, error),
+        Fault::Run(RunError::Front(error)) => Fault::Front(error),
+        Fault::Run(RunError::GaveUp) => out_of_patience(alloc, text),
+        fault => fault,
+    }
+}
+
+/// The answer of a run of this text, where a fault tells in a second line what is known of it.
+pub(super) fn explained(
+    alloc: Global,
+    text: &[u8],
+    answer: Result<Answer, Fault>,
+) -> Result<Answer, Fault>
+    ensures { IsExplained answer result }
+{
+    match answer {
+        Ok(answer) => Ok(answer),
+        Err(fault) => Err(explained_fault(alloc, text, fault)),
+    }
+}
