@@ -10,6 +10,7 @@ _nvmearb() {
         case $prev in
             --workers) words="1 2 3 4 5 6 7 8" ;;
             --format) words="text json csv" ;;
+            -o | --output) files=any ;;
             --burst) words="1 2 4 8 16 32 64 none" ;;
             --blocks | --from | --to | --weights | --window) return ;;
             *)
@@ -17,7 +18,7 @@ _nvmearb() {
                     run | trace) words="--live --workers --help" files=toml ;;
                     lint | expand) words="--help" files=toml ;;
                     check) words="--spec --help" files=any ;;
-                    chart) words="--from --to --help" files=any ;;
+                    chart) words="--from --to --output --help" files=any ;;
                     stats) words="--from --to --backlogged --window --format --help" files=any ;;
                     loaded | live) words="--workers --help" ;;
                     once) words="--blocks --help" ;;

@@ -11,6 +11,6 @@ pub use commands::command;
 pub use nvme_input::{InputError, MAX_INPUT, MAX_READS, OnceError, once, take_input};
 pub use nvme_report::{Mode, WriteFault, report};
 pub use nvme_runs::{Ran, RunError, run, run_with, settled_run};
-pub use nvme_words::file_named;
+pub use nvme_words::{file_named, output_named};
 pub use output::flushed;
 pub use pipes::{Errors, Output};

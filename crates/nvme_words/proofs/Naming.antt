@@ -8,21 +8,21 @@ use Rattle.clap.specs.Words.{App, IsAmong, Kinds, Row, Text, first_of, first_val
 use Rattle.clap.specs.declared.error.kind.ErrorKind.{ErrorKind}
 use Rattle.clap.specs.declared.parser.matches.ArgMatches.{ArgMatches}
 use Rattle.clap.proofs.WalkLemmas.{first_value-rows}
-use Rattle.nvme_words.specs.Requests.{Given, faults_of, file_given, file_of, given_by, named}
-use Rattle.nvme_words.specs.Words.{names_no_trace, reads_input, reads_input_alone}
+use Rattle.nvme_words.specs.Requests.{Given, faults_of, file_given, file_of, given_by, named, output_of, value_given}
+use Rattle.nvme_words.specs.Words.{asks, names_no_trace, reads_input, reads_input_alone}
 
 -- the file of a subcommand with these rows
-file_in_rows : (given : Option Given) (rows : List Row) → option_map (λ g. g.1) given ≡ Some rows
-    → file_given given ≡ named (first_of (codes "file") rows)
-file_in_rows None rows e = cc
-file_in_rows (Some g) rows e = let same : g.1 ≡ rows = cc in ap (λ r. named (first_of (codes "file") r)) same
+value_in_rows : (id : Text) (given : Option Given) (rows : List Row) → option_map (λ g. g.1) given ≡ Some rows
+    → value_given id given ≡ named (first_of id rows)
+value_in_rows id None rows e = cc
+value_in_rows id (Some g) rows e = let same : g.1 ≡ rows = cc in ap (λ r. named (first_of id r)) same
 
 -- what is read as the file of the subcommand
-pub file_read : (m inner : ArgMatches) (text : Option Text)
+pub value_read : (id : Text) (m inner : ArgMatches) (text : Option Text)
     → option_map (λ (g : Given). g.1) (subcommand_rows_of m) ≡ Some (rows_of (found_of inner))
-    → text ≡ first_value (found_of inner) (codes "file") → file_given (subcommand_rows_of m) ≡ named text
-file_read m inner text given read =
-    file_in_rows (subcommand_rows_of m) _ given ∙ ap named (sym (read ∙ first_value-rows (found_of inner) (codes "file")))
+    → text ≡ first_value (found_of inner) id → value_given id (subcommand_rows_of m) ≡ named text
+value_read id m inner text given read =
+    value_in_rows id (subcommand_rows_of m) _ given ∙ ap named (sym (read ∙ first_value-rows (found_of inner) id))
 
 pub named_other : (text : Text) → bytes_eq text (codes "-") ≡ false → named (Some text) ≡ Some text
 named_other text other = rw other refl
@@ -56,5 +56,23 @@ pub none_of_refused : (app : App) (words : List (String Global)) (kind : ErrorKi
 none_of_refused app words kind among = go (reads_input words) (is_empty (faults_of app words)) (some_kind kind _ among)
   where
     go : (input empty : Bool) → empty ≡ false → None ≡ cond (input || not empty) None (file_given (given_by app words))
+    go true empty e = refl
+    go false empty e = rw e refl
+
+-- ---- the output
+
+pub output_of_taken : (app : App) (words : List (String Global)) → asks (codes "chart") words ≡ true
+    → faults_of app words ≡ [] → output_of app words ≡ value_given (codes "output") (given_by app words)
+output_of_taken app words chart none = rw (chart, none) refl
+
+pub no_output_of_others : (app : App) (words : List (String Global)) → asks (codes "chart") words ≡ false → None ≡ output_of app words
+no_output_of_others app words other = rw other refl
+
+pub no_output_of_refused : (app : App) (words : List (String Global)) (kind : ErrorKind) → IsAmong kind (faults_of app words)
+    → None ≡ output_of app words
+no_output_of_refused app words kind among = go (not (asks (codes "chart") words)) (is_empty (faults_of app words)) (some_kind kind _ among)
+  where
+    go : (other empty : Bool) → empty ≡ false
+        → None ≡ cond (other || not empty) None (value_given (codes "output") (given_by app words))
     go true empty e = refl
     go false empty e = rw e refl

@@ -96,6 +96,13 @@ check = with_rule (trace (codes "check")) spec
 abbrev pub ranged : Text → App
 ranged name = with_rule (with_rule (trace name) first) last
 
+-- the file that a picture is written to
+abbrev pub output : Rule
+output = record (new_rule (codes "output")) { long = Some (codes "output"); short = Some 111; action = Some Set; value_names = 1 }
+
+abbrev pub chart : App
+chart = with_rule (ranged (codes "chart")) output
+
 abbrev pub stats : Names → App
 stats names = with_rule (with_rule (with_rule (ranged (codes "stats")) backlogged) window) (format names)
 
@@ -127,7 +134,7 @@ abbrev pub with_file : App → App
 with_file app = with_subcommand (with_subcommand (with_subcommand (with_subcommand app (run (codes "run")).top) lint.top) (run (codes "trace")).top) expand.top
 
 abbrev pub with_trace : Names → App → App
-with_trace names app = with_subcommand (with_subcommand (with_subcommand app check.top) (ranged (codes "chart")).top) (stats names).top
+with_trace names app = with_subcommand (with_subcommand (with_subcommand app check.top) chart.top) (stats names).top
 
 abbrev pub command_line : Names → App
 command_line names = with_subcommand (with_trace names (with_file (with_input alone))) settings.top

@@ -5,7 +5,7 @@ use Rattle.clap.specs.Words.{App, Text, kind_of, one_of}
 use Rattle.clap.specs.declared.error.Error.{Error}
 use Rattle.clap.specs.declared.error.kind.ErrorKind.{ErrorKind}
 use Rattle.nvme_words.specs.CommandLine.{AreFormats, Names, command_line}
-use Rattle.nvme_words.specs.Requests.{Given, IsAnswerTo, IsRequestOf, faults_of, file_of}
+use Rattle.nvme_words.specs.Requests.{Given, IsAnswerTo, IsRequestOf, faults_of, file_of, output_of}
 use Rattle.nvme_words.specs.declared.requests.Format.{Format}
 use Rattle.nvme_words.specs.declared.requests.Numbers.{Numbers}
 use Rattle.nvme_words.specs.declared.requests.Range.{Range}
@@ -66,6 +66,10 @@ AsksForOneThing = (given : Given) (r s : Request) → (one_of (codes "live") giv
 abbrev pub AsksForNothing : Text → Text → Text → Type 0
 AsksForNothing name id value = (given : Given) → given.0 ≡ name → one_of id given.1 ≡ Some value
     → (r : Request) → IsRequestOf given r → ⊥
+
+-- the line names this file for the output
+abbrev pub NamesOutput : List Text → Option Text → Type 0
+NamesOutput line file = OverLine line (λ app words. output_of app words ≡ file)
 
 -- ---- the lines
 
@@ -128,6 +132,15 @@ check_spec = codes "check" ∷ codes "--spec" ∷ codes "a.json" ∷ []
 
 abbrev pub chart_file : List Text
 chart_file = codes "chart" ∷ codes "a.json" ∷ []
+
+abbrev pub chart_output : List Text
+chart_output = codes "chart" ∷ codes "-o" ∷ codes "a.svg" ∷ codes "a.json" ∷ []
+
+abbrev pub chart_printed : List Text
+chart_printed = codes "chart" ∷ codes "a.json" ∷ codes "--output=-" ∷ []
+
+abbrev pub stats_output : List Text
+stats_output = codes "stats" ∷ codes "-o" ∷ codes "a.txt" ∷ []
 
 abbrev pub stats_json : List Text
 stats_json = codes "stats" ∷ codes "a.json" ∷ codes "--format" ∷ codes "json" ∷ []

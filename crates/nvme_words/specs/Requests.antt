@@ -136,16 +136,26 @@ IsAnswerTo app words (Err (error.NoMemory why)) = ⊤
 
 -- ---- the file
 
--- the value of a file, where it isn't `-`
+-- the name of a file, where it isn't `-`
 abbrev pub named : Option Text → Option Text
 named None = None
 named (Some name) = if bytes_eq name (codes "-") then None else Some name
 
+-- the file that a subcommand is given for this
+abbrev pub value_given : Text → Option Given → Option Text
+value_given id None = None
+value_given id (Some given) = named (first_of id given.1)
+
 abbrev pub file_given : Option Given → Option Text
-file_given None = None
-file_given (Some given) = named (first_of (codes "file") given.1)
+file_given given = value_given (codes "file") given
 
 -- the file that the words name as the input
 abbrev pub file_of : App → List (String Global) → Option Text
 file_of app words =
     if reads_input words || not (is_empty (faults_of app words)) then None else file_given (given_by app words)
+
+-- the file that the words name for the output, as those that ask for a picture may
+abbrev pub output_of : App → List (String Global) → Option Text
+output_of app words =
+    if not (asks (codes "chart") words) || not (is_empty (faults_of app words)) then None
+    else value_given (codes "output") (given_by app words)

@@ -1,25 +1,25 @@
-// The file that the words name as the input.
-ghost use Rattle.std.specs.Prelude.{◌≡◌, true, None, IfOk, option_map};
+// The files that the words name, as the input and for the output.
+ghost use Rattle.std.specs.Prelude.{◌≡◌, true, false, None, IfOk, codes, option_map};
 ghost use Rattle.clap.specs.Words.{subcommand_rows_of};
 ghost use Rattle.nvme_words.specs.CommandLine.{OnCommandLine};
-ghost use Rattle.nvme_words.specs.Requests.{file_given, file_of};
-ghost use Rattle.nvme_words.specs.Words.{reads_input};
+ghost use Rattle.nvme_words.specs.Requests.{file_of, output_of, value_given};
+ghost use Rattle.nvme_words.specs.Words.{asks, reads_input};
 
 use crate::program::program;
-use crate::words::{names_no_trace, reads_input_alone};
+use crate::words::{asks, names_no_trace, reads_input_alone};
 use clap::ArgMatches;
 use clap::error::ErrorKind;
 use std::alloc::{AllocError, Global};
 
-const STANDARD_INPUT: &str = "-";
+const STANDARD_STREAM: &str = "-";
 
-// The file that the subcommand is given.
-fn file_in<'a>(matches: &ArgMatches<'a>) -> Option<&'a str>
-    ensures { option_map (λ text. text.now) result ≡ file_given (subcommand_rows_of matches.now) }
+// The file that the subcommand is given for this.
+fn value_in<'a>(matches: &ArgMatches<'a>, id: &str) -> Option<&'a str>
+    ensures { option_map (λ text. text.now) result ≡ value_given id.now (subcommand_rows_of matches.now) }
 {
     let (_, asked) = matches.subcommand()?;
-    let name = asked.get_str("file")?;
-    if name == STANDARD_INPUT {
+    let name = asked.get_str(id)?;
+    if name == STANDARD_STREAM {
         None
     } else {
         Some(name)
@@ -37,7 +37,23 @@ pub fn file_named<'a>(alloc: Global, words: &'a [String]) -> Result<Option<&'a s
         return Ok(None);
     }
     match program(alloc)?.try_get_matches_from(words) {
-        Ok(matches) => Ok(file_in(&matches)),
+        Ok(matches) => Ok(value_in(&matches, "file")),
+        Err(error) if error.kind() == ErrorKind::OutOfMemory => Err(AllocError),
+        Err(_) => Ok(None),
+    }
+}
+
+/// The name of the output's file, by the words, which `chart` alone has. `None` means standard output: without the
+/// option and with `-`. It is `None` too where the words are refused or ask for help.
+pub fn output_named<'a>(alloc: Global, words: &'a [String]) -> Result<Option<&'a str>, AllocError>
+    ensures named { IfOk result (λ name. OnCommandLine (λ app. option_map (λ text. text.now) name ≡ output_of app words.now)) }
+    ensures others { asks (codes "chart") words.now ≡ false → IfOk result (λ name. name ≡ None) }
+{
+    if !asks(words, "chart") {
+        return Ok(None);
+    }
+    match program(alloc)?.try_get_matches_from(words) {
+        Ok(matches) => Ok(value_in(&matches, "output")),
         Err(error) if error.kind() == ErrorKind::OutOfMemory => Err(AllocError),
         Err(_) => Ok(None),
     }

@@ -1,7 +1,7 @@
 //! Laws of the command line, over the definitions alone. Each function does nothing: its contract is the law.
 ghost use Rattle.std.specs.Prelude.{[], None, Some, Ok, Err, codes, true};
 ghost use Rattle.clap.specs.declared.error.kind.ErrorKind.TheVariants as kind;
-ghost use Rattle.nvme_words.specs.Examples.{AsksFor, AsksForNothing, AsksForOneThing, HasFault, NamesFile, RefusesBy, ShowsText, all_numbers, all_picks, alone, chart_file, chart_from_0, check_file, check_spec, expand_file, lint_file, lint_input, live_0, live_8, loaded_2, loaded_9, once_8, once_most, once_none, once_too_many, run_file, run_live_3, run_two_files, settings_both, settings_dword, settings_words, stats_json, stats_part, stats_xml, trace_2, trace_live};
+ghost use Rattle.nvme_words.specs.Examples.{AsksFor, AsksForNothing, AsksForOneThing, HasFault, NamesFile, NamesOutput, RefusesBy, ShowsText, all_numbers, all_picks, alone, chart_file, chart_from_0, chart_output, chart_printed, check_file, check_spec, expand_file, lint_file, lint_input, live_0, live_8, loaded_2, loaded_9, once_8, once_most, once_none, once_too_many, run_file, run_live_3, run_two_files, settings_both, settings_dword, settings_words, stats_json, stats_output, stats_part, stats_xml, trace_2, trace_live};
 ghost use Rattle.nvme_words.specs.declared.requests.Format.TheVariants as format;
 ghost use Rattle.nvme_words.specs.declared.requests.Request.TheVariants as request;
 ghost use Rattle.nvme_settings.specs.declared.reading.SettingsFault.TheVariants as said;
@@ -24,6 +24,7 @@ pub fn lines_ask_for()
     ensures trace { AsksFor trace_2 (request.Trace Loaded 2) }
     ensures trace_live { AsksFor trace_live (request.Trace Live 1) }
     ensures chart { AsksFor chart_file (request.Chart all_picks) }
+    ensures chart_output { AsksFor chart_output (request.Chart all_picks) }
     ensures stats { AsksFor (alone (codes "stats")) (request.Stats (all_numbers format.Text)) }
     ensures stats_json { AsksFor stats_json (request.Stats (all_numbers format.Json)) }
     ensures settings_dword { AsksFor settings_dword (request.Settings (Ok 0x0703_0103)) }
@@ -44,6 +45,7 @@ pub fn lines_have_faults()
     ensures workers { HasFault loaded_9 kind.ValueValidation }
     ensures two_files { HasFault run_two_files kind.UnknownArgument }
     ensures format { HasFault stats_xml kind.InvalidValue }
+    ensures other_output { HasFault stats_output kind.UnknownArgument }
     ensures first_pick { HasFault chart_from_0 kind.ValueValidation }
 {}
 
@@ -64,6 +66,15 @@ pub fn lines_name_files()
     ensures none_given { NamesFile (alone (codes "chart")) None }
     ensures no_option { NamesFile loaded_2 None }
     ensures refused { NamesFile run_two_files None }
+{}
+
+/// Each worked line of a picture names the file that it gives for the output, and none with `-` and where none is given.
+pub fn lines_name_outputs()
+    ensures given { NamesOutput chart_output (Some (codes "a.svg")) }
+    ensures dash { NamesOutput chart_printed None }
+    ensures none_given { NamesOutput chart_file None }
+    ensures no_picture { NamesOutput stats_json None }
+    ensures input { NamesFile chart_output (Some (codes "a.json")) }
 {}
 
 /// A subcommand with its values asks for one thing. It asks for nothing where the value that it needs isn't a number.

@@ -7,6 +7,9 @@ mod program;
 mod requests;
 mod words;
 
-pub use files::file_named;
-pub use laws::{lines_ask_for, lines_have_faults, lines_name_files, lines_show_text, one_request};
+pub use files::{file_named, output_named};
+pub use laws::{
+    lines_ask_for, lines_have_faults, lines_name_files, lines_name_outputs, lines_show_text,
+    one_request,
+};
 pub use requests::{Format, Numbers, Range, Request, WordsError, asked_of};

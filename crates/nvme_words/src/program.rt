@@ -1,7 +1,7 @@
 // The command line of the program, by `clap`.
 ghost use Rattle.std.specs.Prelude.{◌≡◌, IfOk, codes};
 ghost use Rattle.clap.specs.Words.{App, app_of};
-ghost use Rattle.nvme_words.specs.CommandLine.{OnCommandLine, backlogged, blocks, check, dword, expand, file, first, last, lint, mode, once, option, ranged, run, settings, stats, text_option, trace, window, with_file, with_input, with_trace, workers};
+ghost use Rattle.nvme_words.specs.CommandLine.{OnCommandLine, backlogged, blocks, chart, check, dword, expand, file, first, last, lint, mode, once, option, ranged, run, settings, stats, text_option, trace, window, with_file, with_input, with_trace, workers};
 ghost use Rattle.nvme_words.specs.inside.Built.{AddsIfMade, HasApp, HasRule};
 
 use clap::builder::ValueParser;
@@ -237,6 +237,20 @@ fn ranged_command<'a>(
         .arg(last_arg(alloc))
 }
 
+// The subcommand that draws a trace.
+fn chart_command<'a>(alloc: Global) -> Result<Command<'a>, AllocError>
+    ensures { IfOk result (HasApp chart) }
+{
+    let output = Arg::new(alloc, "output")
+        .short('o')
+        .long("output")
+        .value_name("FILE")
+        .help("The file that is written; standard output where it is - or is left out")
+        .action(ArgAction::Set);
+    let about = "Prints a picture of a trace as SVG, or writes it to a file";
+    ranged_command(alloc, "chart", about)?.arg(output)
+}
+
 // The subcommand that tells what a trace shows in numbers.
 fn stats_command<'a>(alloc: Global, formats: &'a [&'a str]) -> Result<Command<'a>, AllocError>
     ensures { IfOk result (HasApp (stats formats.entry)) }
@@ -293,9 +307,8 @@ fn with_trace<'a>(
 ) -> Result<Command<'a>, AllocError>
     ensures { (app : App) → HasApp app program.entry → IfOk result (HasApp (with_trace formats.entry app)) }
 {
-    let chart = "Prints a picture of a trace as SVG";
     let program = with(Ok(program), check_command(alloc));
-    let program = with(program, ranged_command(alloc, "chart", chart));
+    let program = with(program, chart_command(alloc));
     with(program, stats_command(alloc, formats))
 }
 

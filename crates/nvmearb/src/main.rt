@@ -3,7 +3,7 @@
 
 ghost use Rattle.std.specs.Prelude.{◌≡◌, ◌≤◌};
 
-use nvme_sim::{Errors, Output, command, file_named, flushed};
+use nvme_sim::{Errors, Output, command, file_named, flushed, output_named};
 use std::cell::Cell;
 use std::io::{BufWriter, ErrorKind, Write};
 use std::process::ExitCode;
@@ -55,6 +55,36 @@ fn served<R: AllocGlobal + Files + Input + Threads + Wait + Sync, W: Write, E: W
     }
 }
 
+// Writes a whole answer to a file. A file of this name is replaced.
+fn write_to<R: Files>(rt: &R, name: &str, answer: &[u8]) -> io::Result<()> {
+    let mut file = fs::create(rt, name)?;
+    file.write_all(answer)
+}
+
+// Does what the words ask for, and then writes the answer to a file. The answer is the exit status. Where it isn't 0
+// there is no answer, and the file isn't touched.
+fn saved<R: AllocGlobal + Files + Input + Threads + Wait + Sync, E: Write>(
+    rt: &R,
+    words: &[String],
+    name: &str,
+    errors: &mut E,
+) -> u8
+    ensures { result ≤ 4 }
+{
+    let mut answer = Vec::new(rt.alloc());
+    let status = served(rt, words, &mut answer, errors);
+    if status != 0 {
+        return status;
+    }
+    match write_to(rt, name, answer.as_slice()) {
+        Ok(()) => 0,
+        Err(error) => {
+            let _ = writeln!(errors, "nvmearb: write failed: {name:?}: {error}");
+            3
+        }
+    }
+}
+
 // Does what the words ask for, over standard output and standard error. The answer is the exit status. Where nobody
 // reads the output any more nothing is told.
 fn answered<R, W: Write + Drop, E: Write + Drop>(
@@ -72,7 +102,14 @@ where
         let _ = writeln!(errors, "nvmearb: out of memory");
         return 3;
     };
-    let status = served(rt, words, &mut output, &mut errors);
+    let status = match output_named(rt.alloc(), words) {
+        Ok(None) => served(rt, words, &mut output, &mut errors),
+        Ok(Some(name)) => saved(rt, words, name, &mut errors),
+        Err(_) => {
+            let _ = writeln!(errors, "nvmearb: out of memory");
+            3
+        }
+    };
     let status = flushed(status, &mut output, &mut errors);
     // After a failed write the rest isn't written.
     let _ = output.into_parts();

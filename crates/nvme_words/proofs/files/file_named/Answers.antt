@@ -23,7 +23,7 @@ returns-in-Ok-clause-named c =
     let faults = same_faults _ line.0 line.2 words in
     let none = sym faults ∙ c.in-Ok.ensures.kinds (free _ line.0 line.2 words) in
     let given = given_in _ line.0 line.2 words _ c.in-Ok.ensures.matches in
-    (line.0, line.1, c.file_in.ensures ∙ (ap file_given given ∙ sym (file_of_taken (command_line line.0) words (search rules) (search rules) none)))
+    (line.0, line.1, c.value_in.ensures ∙ (ap file_given given ∙ sym (file_of_taken (command_line line.0) words (search rules) (search rules) none)))
 
 pub returns-clause-named : goal.returns-clause-named
 returns-clause-named c =

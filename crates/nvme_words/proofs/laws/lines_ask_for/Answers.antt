@@ -5,7 +5,7 @@ use Rattle.clap.specs.ValueTests.{accepts}
 use Rattle.clap.specs.Words.{Text, first_of, one_of}
 use Rattle.clap.specs.declared.builder.value_parser.ValueParser.TheVariants as vp
 use Rattle.clap.proofs.OnLiterals.{clap_on_literals}
-use Rattle.nvme_words.specs.Examples.{all_numbers, all_picks, alone, chart_file, check_file, check_spec, expand_file, lint_input, live_8, loaded_2, once_8, once_most, run_file, run_live_3, settings_both, settings_dword, settings_words, stats_json, stats_part, trace_2, trace_live}
+use Rattle.nvme_words.specs.Examples.{all_numbers, all_picks, alone, chart_file, chart_output, check_file, check_spec, expand_file, lint_input, live_8, loaded_2, once_8, once_most, run_file, run_live_3, settings_both, settings_dword, settings_words, stats_json, stats_part, trace_2, trace_live}
 use Rattle.std.specs.Global.{Global}
 use Rattle.nvme_words.specs.Words.{asks_alone}
 use Rattle.nvme_words.specs.Requests.{IsRange, SubmitsBy}
@@ -95,6 +95,11 @@ pub returns-clause-chart : goal.returns-clause-chart
 unfolding clap_on_literals
 returns-clause-chart c = line_asks (codes "chart") _ (given_at chart_file) (request.Chart all_picks) refl
     (refl, range_given chart_file (codes "1") (codes "9223372036854775807") refl refl refl refl) (λ words e. tt) (λ p q r. (refl, refl))
+
+pub returns-clause-chart_output : goal.returns-clause-chart_output
+unfolding clap_on_literals
+returns-clause-chart_output c = line_asks (codes "chart") _ (given_at chart_output) (request.Chart all_picks) refl
+    (refl, range_given chart_output (codes "1") (codes "9223372036854775807") refl refl refl refl) (λ words e. tt) (λ p q r. (refl, refl))
 
 pub returns-clause-stats : goal.returns-clause-stats
 unfolding clap_on_literals

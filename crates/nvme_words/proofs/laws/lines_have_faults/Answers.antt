@@ -1,7 +1,7 @@
 -- Each line is computed.
 use Rattle.std.proofs.Common.{[], codes, refl}
 use Rattle.clap.proofs.OnLiterals.{clap_on_literals}
-use Rattle.nvme_words.specs.Examples.{alone, chart_from_0, live_0, loaded_9, once_none, once_too_many, run_two_files, stats_xml}
+use Rattle.nvme_words.specs.Examples.{alone, chart_from_0, live_0, loaded_9, once_none, once_too_many, run_two_files, stats_output, stats_xml}
 use Rattle.clap.specs.declared.error.kind.ErrorKind.TheVariants as kind
 use Rattle.nvme_words.proofs.Lines.{line_fault}
 use Rattle.nvme_words.proofs.laws.lines_have_faults.Goals as goal
@@ -49,3 +49,7 @@ returns-clause-no_worker c = line_fault live_0 kind.ValueValidation (λ p q r. r
 pub returns-clause-first_pick : goal.returns-clause-first_pick
 unfolding clap_on_literals
 returns-clause-first_pick c = line_fault chart_from_0 kind.ValueValidation (λ p q r. refl)
+
+pub returns-clause-other_output : goal.returns-clause-other_output
+unfolding clap_on_literals
+returns-clause-other_output c = line_fault stats_output kind.UnknownArgument (λ p q r. refl)

@@ -1,9 +1,9 @@
-use Rattle.std.proofs.Common.{codes, refl}
-use Rattle.nvme_words.specs.CommandLine.{check, ranged, stats}
+use Rattle.std.proofs.Common.{refl}
+use Rattle.nvme_words.specs.CommandLine.{chart, check, stats}
 use Rattle.nvme_words.proofs.program.with_trace.Goals as goal
 
 pub returns : goal.returns
 returns c = λ app has.
     let one = c.with-program.ensures app check refl has c.check_command.ensures in
-    let two = c.with-program-2.ensures _ (ranged (codes "chart")) refl one c.ranged_command.ensures in
+    let two = c.with-program-2.ensures _ chart refl one c.chart_command.ensures in
     c.with.ensures _ (stats c.args.formats) refl two c.stats_command.ensures
