@@ -1,8 +1,9 @@
 -- What of a valid workload has no effect, by the queue table after its admin commands. A front begins none of them before
 -- the deletion that the one before began is finished, so that their answers depend on nothing else. (profile)
-use Rattle.std.specs.Prelude.{◌≡◌, ℕ, Bool, if◌then◌else◌, List, [], ◌∷◌, ◌++◌, length, reverse, Ok}
-use Rattle.nvme_entry.specs.Status.{StatusCode}
-use Rattle.nvme_entry.specs.AdminCommand.{qid_of}
+use Rattle.std.specs.Prelude.{◌≡◌, ℕ, Bool, ◌==◌, ◌&&◌, ◌||◌, not, nat_lt, if◌then◌else◌, List, [], ◌∷◌, ◌++◌, length, reverse, Ok, Option, Some, None, option_map, slice_get}
+use Rattle.std.specs.List.{count_by, position}
+use Rattle.nvme_entry.specs.Outcome.{outcome_of}
+use Rattle.nvme_entry.specs.Status.{StatusCode, success}
 use Rattle.nvme_entry.specs.declared.submission.Sqe.{Sqe}
 use Rattle.nvme_admin.specs.History.{Start, TableHistory, Submission, Completion, RegionAdded, EntryApplied, DeletionFinished}
 use Rattle.nvme_admin.specs.QueueTable.{QueueTable}
@@ -13,8 +14,9 @@ use Rattle.nvme_admin.specs.declared.verdict.Verdict.TheVariants.{BeginDelete}
 use Rattle.nvme_workload.specs.declared.plan.SqPlan.{SqPlan}
 use Rattle.nvme_workload.specs.declared.plan.CqPlan.{CqPlan}
 use Rattle.nvme_workload.specs.Plan.{Plan, workload_of}
+use Rattle.nvme_lint.specs.declared.site.Site.{Site}
 use Rattle.nvme_lint.specs.declared.warning.Warning.{Warning}
-use Rattle.nvme_lint.specs.declared.warning.Warning.TheVariants.{Refused, Unused}
+use Rattle.nvme_lint.specs.declared.warning.Warning.TheVariants.{Refused, Unused, TooLong, Failing}
 use Rattle.nvme_lint.specs.declared.warning.Kind.TheVariants as kind
 
 -- what the table of a workload begins with
@@ -53,15 +55,38 @@ history_of start h (entry ∷ earlier) = history_after start (history_of start h
 abbrev pub warning_unless : Bool → Warning → List Warning
 warning_unless well warning = if well then [] else warning ∷ []
 
--- the warning of the command of this number, where its status isn't success
-abbrev pub refusal : ℕ → Sqe → StatusCode → List Warning
-refusal number entry status = warning_unless (is_success status) (Refused number entry.opcode (qid_of entry) status)
+-- the slots of a region, where there is one
+abbrev pub sq_slots : Option SqPlan → ℕ
+sq_slots None = 0
+sq_slots (Some region) = region.slots
+
+abbrev pub cq_slots : Option CqPlan → ℕ
+cq_slots None = 0
+cq_slots (Some region) = region.slots
+
+-- the region with this address
+abbrev pub sq_site_at : List SqPlan → ℕ → Option Site
+sq_site_at regions address =
+    option_map (λ k. record { number = k; slots = sq_slots (slice_get regions k) }) (position (λ r. r.address == address) regions)
+
+abbrev pub cq_site_at : List CqPlan → ℕ → Option Site
+cq_site_at regions address =
+    option_map (λ k. record { number = k; slots = cq_slots (slice_get regions k) }) (position (λ r. r.address == address) regions)
+
+-- the region that a Create names by PRP1: Create I/O Submission Queue (01h), Create I/O Completion Queue (05h)
+abbrev pub site_of : List SqPlan → List CqPlan → Sqe → Option Site
+site_of sqs cqs entry =
+    if entry.opcode == 0x01 then sq_site_at sqs entry.prp1 else (if entry.opcode == 0x05 then cq_site_at cqs entry.prp1 else None)
+
+-- the warning of the command of this number, where its status isn't success, with the region that it names
+abbrev pub refusal : (Sqe → Option Site) → ℕ → Sqe → StatusCode → List Warning
+refusal site number entry status = warning_unless (is_success status) (Refused number entry status (site entry))
 
 -- the warnings of these admin commands, of which the latest comes first. The number of a command is that of the commands before it
-unfoldable pub refusals_of : Start → TableHistory → List Sqe → List Warning
-refusals_of start h [] = []
-refusals_of start h (entry ∷ earlier) =
-    refusals_of start h earlier ++ refusal (length earlier) entry (status_of start (history_of start h earlier) entry)
+unfoldable pub refusals_of : (Sqe → Option Site) → Start → TableHistory → List Sqe → List Warning
+refusals_of site start h [] = []
+refusals_of site start h (entry ∷ earlier) =
+    refusals_of site start h earlier ++ refusal site (length earlier) entry (status_of start (history_of start h earlier) entry)
 
 -- the warnings of these submission regions, of which the last comes first, where `used` tells on which a queue was created
 unfoldable pub unused_sqs : (ℕ → Bool) → List SqPlan → List Warning
@@ -75,6 +100,38 @@ unused_cqs used [] = []
 unused_cqs used (region ∷ earlier) =
     unused_cqs used earlier ++ warning_unless (used (length earlier)) (Unused kind.Completion (length earlier) 0)
 
+-- ---- scripts that come to nothing
+
+-- an I/O command is answered with this status, unless a deletion or an Abort takes it first
+abbrev pub has_status : List ℕ → StatusCode → Sqe → Bool
+has_status sizes status entry = ((outcome_of entry sizes).sct == status.sct) && ((outcome_of entry sizes).sc == status.sc)
+
+-- how many commands of a script are
+abbrev pub count_of : List ℕ → StatusCode → List Sqe → ℕ
+count_of sizes status script = count_by (has_status sizes status) script
+
+-- the warning of a script with more commands than the ring of its region holds, which has one less than slots
+abbrev pub too_long : ℕ → SqPlan → List Warning
+too_long number region = warning_unless (nat_lt (length region.script) region.slots) (TooLong number (length region.script) region.slots)
+
+-- the warning of a script without a command that is answered with success, with how many are answered as the first one
+abbrev pub failing : List ℕ → ℕ → List Sqe → List Warning
+failing sizes number [] = []
+failing sizes number (entry ∷ script) =
+    warning_unless (nat_lt 0 (count_of sizes success (entry ∷ script)))
+    (Failing number (count_of sizes (outcome_of entry sizes) (entry ∷ script)) (length (entry ∷ script)) (outcome_of entry sizes))
+
+-- the warnings of the script of a region. That of the admin queue has no I/O command, and on an unused region nothing is fetched
+abbrev pub of_script : List ℕ → Bool → ℕ → SqPlan → List Warning
+of_script sizes is_used number region =
+    too_long number region ++ (if (number == 0) || not is_used then [] else failing sizes number region.script)
+
+-- the warnings of the scripts of these submission regions, of which the last comes first, where `used` tells on which a queue was created
+unfoldable pub of_scripts : List ℕ → (ℕ → Bool) → List SqPlan → List Warning
+of_scripts sizes used [] = []
+of_scripts sizes used (region ∷ earlier) =
+    of_scripts sizes used earlier ++ of_script sizes (used (length earlier)) (length earlier) region
+
 -- the script of the admin queue, whose region is the first
 abbrev pub admin_script : List SqPlan → List Sqe
 admin_script [] = []
@@ -85,12 +142,13 @@ abbrev pub last_table : Plan → QueueTable
 last_table p = queue_table (start_of p) (history_of (start_of p) (first_history p) (reverse (admin_script p.submissions)))
 
 -- the warnings of a workload: the admin commands that are refused, in order, then the submission regions that no queue was created
--- on, then such completion regions
+-- on, then such completion regions, then the scripts that are too long for their rings or come to nothing
 abbrev pub warnings_of : Plan → List Warning
 warnings_of p =
-    refusals_of (start_of p) (first_history p) (reverse (admin_script p.submissions))
+    refusals_of (site_of p.submissions p.completions) (start_of p) (first_history p) (reverse (admin_script p.submissions))
     ++ unused_sqs (last_table p).sq_region_used (reverse p.submissions)
     ++ unused_cqs (last_table p).cq_region_used (reverse p.completions)
+    ++ of_scripts p.sizes (last_table p).sq_region_used (reverse p.submissions)
 
 -- these are the warnings of the workload of the bytes
 abbrev pub AreWarningsOf : List ℕ → List Warning → Type 0

@@ -2,11 +2,15 @@
 //! has no effect.
 #![tactic(auto)]
 
+mod cause;
 mod fault;
 mod found;
 mod lints;
+mod named;
 mod place;
 mod places;
+mod scripts;
+mod site;
 mod tables;
 mod values;
 mod warning;
@@ -16,4 +20,5 @@ pub use fault::{Details, Fault, Why};
 pub use found::Found;
 pub use lints::{LintError, lint};
 pub use place::Place;
+pub use site::Site;
 pub use warning::{Kind, Warning};

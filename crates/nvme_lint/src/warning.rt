@@ -1,4 +1,7 @@
-use nvme_entry::Status;
+use crate::cause::Cause;
+use crate::named::Named;
+use crate::site::Site;
+use nvme_entry::{Sqe, Status};
 use std::fmt;
 
 /// The two kinds of region.
@@ -11,18 +14,33 @@ pub enum Kind {
 /// What of a valid workload has no effect. Regions of a kind and commands of a script count from 0.
 #[derive(Clone, Copy, Debug, PartialEq, Eq)]
 pub enum Warning {
-    /// A command of the admin script is answered with a status that isn't success.
+    /// A command of the admin script is answered with a status that isn't success. A Create names the region at `site`.
     Refused {
         command: usize,
-        opcode: u8,
-        qid: u16,
+        entry: Sqe,
         status: Status,
+        site: Option<Site>,
     },
     /// No queue is created on a region. If it is a submission region, none of the `commands` of its script is fetched.
     Unused {
         kind: Kind,
         region: usize,
         commands: usize,
+    },
+    /// A script has more commands than its ring holds, one less than it has slots. So a run is refused in which the
+    /// hosts submit all before the front begins.
+    TooLong {
+        region: usize,
+        commands: usize,
+        slots: u16,
+    },
+    /// No command of a script is answered with success, and `failing` of them are answered with this status, as the
+    /// first one is. A deletion or an Abort may take some before.
+    Failing {
+        region: usize,
+        failing: usize,
+        commands: usize,
+        status: Status,
     },
 }
 
@@ -40,24 +58,53 @@ fn name_of(opcode: u8) -> &'static str {
     }
 }
 
+// Writes that a command is refused.
+fn write_refused<W: fmt::Write>(
+    command: usize,
+    cause: &Cause,
+    f: &mut fmt::Formatter<W>,
+) -> fmt::Result {
+    let (name, status) = (name_of(cause.entry.opcode), Named(cause.status));
+    let qid = cause.entry.cdw10 % 0x1_0000;
+    write!(f, "command 0.{command}: {name}")?;
+    match cause.entry.opcode {
+        0x00 | 0x01 | 0x04 | 0x05 => write!(f, " {qid}")?,
+        0x08 | 0x09 | 0x0a => {}
+        other => write!(f, " {other:02x}h")?,
+    }
+    write!(f, " is refused with {status}{cause}")
+}
+
+// Writes that a submission region isn't used.
+fn write_unused<W: fmt::Write>(
+    region: usize,
+    commands: usize,
+    f: &mut fmt::Formatter<W>,
+) -> fmt::Result {
+    write!(f, "submission {region}: no queue is created here")?;
+    match commands {
+        0 => Ok(()),
+        1 => write!(f, ", and its command is never fetched"),
+        commands => write!(f, ", and its {commands} commands are never fetched"),
+    }
+}
+
 impl fmt::Display for Warning {
     fn fmt<W: fmt::Write>(&self, f: &mut fmt::Formatter<W>) -> fmt::Result {
-        match self {
+        match *self {
             Warning::Refused {
                 command,
-                opcode,
-                qid,
+                entry,
                 status,
+                site,
             } => {
-                let name = name_of(*opcode);
-                let (sct, sc) = (status.sct(), status.sc());
-                write!(f, "command 0.{command}: {name}")?;
-                match *opcode {
-                    0x00 | 0x01 | 0x04 | 0x05 => write!(f, " {qid}")?,
-                    0x08 | 0x09 | 0x0a => {}
-                    other => write!(f, " {other:02x}h")?,
-                }
-                write!(f, " is refused with {sct}/{sc:02x}")
+                let entry = &entry;
+                let cause = Cause {
+                    entry,
+                    status,
+                    site,
+                };
+                write_refused(command, &cause, f)
             }
             Warning::Unused {
                 kind: Kind::Completion,
@@ -68,13 +115,34 @@ impl fmt::Display for Warning {
                 region,
                 commands,
                 ..
+            } => write_unused(region, commands, f),
+            Warning::TooLong {
+                region,
+                commands,
+                slots,
             } => {
-                write!(f, "submission {region}: no queue is created here")?;
-                match *commands {
-                    0 => Ok(()),
-                    1 => write!(f, ", and its command is never fetched"),
-                    commands => write!(f, ", and its {commands} commands are never fetched"),
+                let most = slots.saturating_sub(1);
+                write!(
+                    f,
+                    "submission {region}: {commands} commands, of which its ring of {slots} slots holds {most} at once: "
+                )?;
+                f.write_str("a run is refused without --live")
+            }
+            Warning::Failing {
+                region,
+                failing,
+                commands,
+                status,
+            } => {
+                let status = Named(status);
+                write!(
+                    f,
+                    "submission {region}: {failing} of {commands} commands are answered {status}"
+                )?;
+                if failing == commands {
+                    return Ok(());
                 }
+                f.write_str(", and the others with other errors")
             }
         }
     }

@@ -2,7 +2,6 @@
 // deletion of an earlier one is finished, so their answers depend on nothing else.
 ghost use Rattle.std.specs.Prelude.{◌≡◌, ℕ, ◌≤◌, ◌++◌, [], length, map, reverse, IfOk, OnOk};
 ghost use Rattle.std.specs.List.{All};
-ghost use Rattle.nvme_entry.specs.AdminCommand.{qid_of};
 ghost use Rattle.nvme_admin.specs.Checks.{is_success};
 ghost use Rattle.nvme_admin.specs.declared.bounds.TheConstants.{MAX_REGIONS};
 ghost use Rattle.nvme_admin.specs.History.{Start, TableHistory};
@@ -10,9 +9,11 @@ ghost use Rattle.nvme_admin.specs.Accepted.{status_of};
 ghost use Rattle.nvme_admin.specs.Standing.{StandsAt, used_at};
 ghost use Rattle.nvme_workload.specs.Plan.{plan_of};
 ghost use Rattle.nvme_workload.specs.Sound.{IsSound, AreSlots, AreSubmissions, AreApart, IsRegionCount};
-ghost use Rattle.nvme_lint.specs.Warnings.{start_of, with_sqs, with_cqs, first_history, history_after, history_of, refusals_of, unused_sqs, unused_cqs, warning_unless, warnings_of};
+ghost use Rattle.nvme_lint.specs.Warnings.{start_of, with_sqs, with_cqs, first_history, history_after, history_of, refusals_of, site_of, unused_sqs, unused_cqs, warning_unless, warnings_of};
 ghost use Rattle.nvme_lint.specs.inside.Regions.{sq_site, cq_site};
 
+use crate::scripts::push_scripts;
+use crate::site::site_of;
 use crate::warning::{Kind, Warning};
 use nvme_admin::{Table, Verdict};
 use nvme_entry::{Sqe, Status};
@@ -83,13 +84,6 @@ fn play(table: &mut Table, entry: &Sqe) -> Status
     }
 }
 
-// The identifier of a queue that an admin command names.
-fn qid_of(entry: &Sqe) -> u16
-    ensures { result ≡ qid_of entry.now }
-{
-    (entry.cdw10 % 0x1_0000) as u16
-}
-
 // Whether a command was accepted.
 fn is_success(status: Status) -> bool
     ensures { result ≡ is_success status }
@@ -97,8 +91,8 @@ fn is_success(status: Status) -> bool
     status == Status::SUCCESS
 }
 
-// Appends a warning, unless all is well.
-fn push_unless(
+/// Appends a warning, unless all is well.
+pub(crate) fn push_unless(
     warnings: &mut Vec<Warning>,
     is_well: bool,
     warning: Warning,
@@ -115,19 +109,21 @@ fn push_unless(
 fn push_refused(
     warnings: &mut Vec<Warning>,
     table: &mut Table,
+    sqs: &[SqPlan],
+    cqs: &[CqPlan],
     script: &[Sqe],
 ) -> Result<(), AllocError>
     requires stands { (start : Start) × (h : TableHistory) × StandsAt start table.old h }
-    ensures told { OnOk result ((start : Start) (h : TableHistory) → StandsAt start table.old h → warnings.new.items ≡ warnings.old.items ++ refusals_of start h (reverse script.now)) }
+    ensures told { OnOk result ((start : Start) (h : TableHistory) → StandsAt start table.old h → warnings.new.items ≡ warnings.old.items ++ refusals_of (site_of sqs.now cqs.now) start h (reverse script.now)) }
     ensures stands { OnOk result ((start : Start) (h : TableHistory) → StandsAt start table.old h → StandsAt start table.new (history_of start h (reverse script.now))) }
 {
     for (command, entry) in script.iter().enumerate() {
         let status = play(table, entry);
         let refused = Warning::Refused {
             command,
-            opcode: entry.opcode,
-            qid: qid_of(entry),
+            entry: *entry,
             status,
+            site: site_of(sqs, cqs, entry),
         };
         push_unless(warnings, is_success(status), refused)?;
     }
@@ -175,7 +171,7 @@ fn push_unused_cqs(
 }
 
 /// What of a workload has no effect: first the admin commands that are refused, in order, then the regions that no
-/// queue is created on, submission regions first.
+/// queue is created on, submission regions first, then the scripts that are too long for their rings or come to nothing.
 pub(crate) fn warnings_of(alloc: Global, workload: &Workload) -> Result<Vec<Warning>, AllocError>
     requires sound { IsSound (plan_of workload.now) }
     ensures told { IfOk result (λ ws. ws.items ≡ warnings_of (plan_of workload.now)) }
@@ -184,8 +180,10 @@ pub(crate) fn warnings_of(alloc: Global, workload: &Workload) -> Result<Vec<Warn
     let completions = workload.completions.as_slice();
     let mut warnings = Vec::new(alloc);
     let mut table = first_table(workload);
-    push_refused(&mut warnings, &mut table, submissions[0].script.as_slice())?;
+    let script = submissions[0].script.as_slice();
+    push_refused(&mut warnings, &mut table, submissions, completions, script)?;
     push_unused_sqs(&mut warnings, &table, submissions)?;
     push_unused_cqs(&mut warnings, &table, completions)?;
+    push_scripts(&mut warnings, &table, submissions, &workload.spaces)?;
     Ok(warnings)
 }

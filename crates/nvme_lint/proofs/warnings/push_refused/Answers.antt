@@ -1,13 +1,13 @@
 -- A command more.
 use Rattle.std.proofs.Common.{rules, ◌≡◌, ◌<◌, ◌≤◌, ◌++◌, length, get_or, ◌∙◌, ap}
 use Rattle.nvme_entry.specs.declared.submission.Sqe.{Sqe}
-use Rattle.nvme_lint.specs.Warnings.{history_after, refusal, warning_unless}
+use Rattle.nvme_lint.specs.Warnings.{history_after, refusal, site_of, warning_unless}
 use Rattle.nvme_lint.specs.declared.warning.Warning.TheVariants.{Refused}
 use Rattle.nvme_lint.proofs.Playing.{no_entry, plays_one, plays_none, plays_all}
 use Rattle.nvme_lint.proofs.warnings.push_refused.Goals as goal
 
 pub loop-command-init : goal.loop-command-init
-loop-command-init c = record { stands = c.requires.stands; plays = λ start h st. plays_none start h c.args.warnings.now.items c.args.script.now c.args.table.now st }
+loop-command-init c = record { stands = c.requires.stands; plays = λ start h st. plays_none (site_of c.args.sqs.now c.args.cqs.now) start h c.args.warnings.now.items c.args.script.now c.args.table.now st }
 
 pub loop-command-preserved : goal.loop-command-preserved
 loop-command-preserved c =
@@ -19,18 +19,18 @@ loop-command-preserved c =
       plays = λ start h st.
           let p = c.loop-command.invariant.plays start h st in
           let status = c.play-status.ensures.status start p.now p.stands in
-          let more : c.push_unless.new.warnings.items ≡ c.loop-command.warnings.items ++ refusal i (get_or c.args.script.now i d) c.play-status.result =
-          c.in_ok-push_unless.ensures.told ∙ (λ j. c.loop-command.warnings.items ++ warning_unless (c.is_success.ensures j) (Refused i (get_or c.args.script.now i d).opcode (c.qid_of.ensures j) c.play-status.result)) in
-          plays_one start h c.args.warnings.now.items c.args.script.now i d c.loop-command.table c.play-status.new.table c.loop-command.warnings.items c.push_unless.new.warnings.items
-          there p (c.play-status.ensures.stands start p.now p.stands) (more ∙ ap (λ s. c.loop-command.warnings.items ++ refusal i (get_or c.args.script.now i d) s) status);
+          let more : c.push_unless.new.warnings.items ≡ c.loop-command.warnings.items ++ refusal (site_of c.args.sqs.now c.args.cqs.now) i (get_or c.args.script.now i d) c.play-status.result =
+          c.in_ok-push_unless.ensures.told ∙ (λ j. c.loop-command.warnings.items ++ warning_unless (c.is_success.ensures j) (Refused i (get_or c.args.script.now i d) c.play-status.result (c.site_of.ensures j))) in
+          plays_one (site_of c.args.sqs.now c.args.cqs.now) start h c.args.warnings.now.items c.args.script.now i d c.loop-command.table c.play-status.new.table c.loop-command.warnings.items c.push_unless.new.warnings.items
+          there p (c.play-status.ensures.stands start p.now p.stands) (more ∙ ap (λ s. c.loop-command.warnings.items ++ refusal (site_of c.args.sqs.now c.args.cqs.now) i (get_or c.args.script.now i d) s) status);
     }
 
 pub returns-clause-told : goal.returns-clause-told
 returns-clause-told c = λ start h st.
     let over : length c.args.script.now ≤ c.loop-command.command = search rules in
-    (plays_all start h c.args.warnings.now.items c.args.script.now c.loop-command.command c.loop-command.table c.loop-command.warnings.items over (c.loop-command.invariant.plays start h st)).0
+    (plays_all (site_of c.args.sqs.now c.args.cqs.now) start h c.args.warnings.now.items c.args.script.now c.loop-command.command c.loop-command.table c.loop-command.warnings.items over (c.loop-command.invariant.plays start h st)).0
 
 pub returns-clause-stands : goal.returns-clause-stands
 returns-clause-stands c = λ start h st.
     let over : length c.args.script.now ≤ c.loop-command.command = search rules in
-    (plays_all start h c.args.warnings.now.items c.args.script.now c.loop-command.command c.loop-command.table c.loop-command.warnings.items over (c.loop-command.invariant.plays start h st)).1
+    (plays_all (site_of c.args.sqs.now c.args.cqs.now) start h c.args.warnings.now.items c.args.script.now c.loop-command.command c.loop-command.table c.loop-command.warnings.items over (c.loop-command.invariant.plays start h st)).1
