@@ -1,37 +1,15 @@
 -- What the structs of C say, in the libraries' terms (profile).
 use Rattle.std.specs.Prelude.{ℕ, ◌≤◌, ◌==◌, Bool, if◌then◌else◌, unwrap_or}
 use Rattle.nvme_entry.specs.Status.{StatusCode}
-use Rattle.nvme_entry.specs.declared.submission.Sqe.{Sqe}
 use Rattle.nvme_entry.specs.declared.completion.Cqe.{Cqe}
 use Rattle.nvme_entry.specs.declared.admin.AdminCommand.{AdminCommand}
 use Rattle.nvme_entry.specs.declared.admin.AdminCommand.TheVariants.{DeleteSq, CreateSq, DeleteCq, CreateCq, Abort, SetFeatures, GetFeatures, Other}
 use Rattle.nvme_arbiter.specs.Settings.{ArbitrationFields, cdw11_of, burst_of, weight_of}
 use Rattle.nvme_arbiter.specs.declared.settings.Class.TheVariants.{High, Medium, Low}
-use Rattle.nvme_capi.specs.declared.fields.SubmissionFields.{SubmissionFields}
 use Rattle.nvme_capi.specs.declared.fields.StatusFields.{StatusFields}
 use Rattle.nvme_capi.specs.declared.fields.CompletionFields.{CompletionFields}
 use Rattle.nvme_capi.specs.declared.fields.AdminFields.{AdminFields}
 use Rattle.nvme_capi.specs.declared.fields.SettingsFields.{SettingsFields}
-
--- the submission entry of these fields
-abbrev pub submission_of : SubmissionFields → Sqe
-submission_of f = record {
-  opcode = f.opcode;
-  flags = f.flags;
-  cid = f.cid;
-  nsid = f.nsid;
-  cdw2 = f.cdw2;
-  cdw3 = f.cdw3;
-  mptr = f.mptr;
-  prp1 = f.prp1;
-  prp2 = f.prp2;
-  cdw10 = f.cdw10;
-  cdw11 = f.cdw11;
-  cdw12 = f.cdw12;
-  cdw13 = f.cdw13;
-  cdw14 = f.cdw14;
-  cdw15 = f.cdw15;
-}
 
 -- the status of these fields
 abbrev pub code_of : StatusFields → StatusCode

@@ -1,10 +1,10 @@
 // Admin commands by their fields.
 ghost use Rattle.std.specs.Prelude.{◌≡◌};
 ghost use Rattle.nvme_entry.specs.AdminCommand.{admin_command_of};
-ghost use Rattle.nvme_capi.specs.Fields.{submission_of, admin_fields_of, no_fields};
+ghost use Rattle.nvme_capi.specs.Fields.{admin_fields_of, no_fields};
 
-use crate::fields::{AdminFields, SubmissionFields, submission_of};
-use nvme_entry::{AdminCommand, admin_of};
+use crate::fields::AdminFields;
+use nvme_entry::{AdminCommand, Sqe, admin_of};
 
 // An admin command with all fields 0.
 const fn no_fields() -> AdminFields
@@ -118,8 +118,8 @@ fn fields_of_admin(command: AdminCommand) -> AdminFields
 
 /// Decodes an admin command: its kind and its fields. Every entry has one.
 #[unsafe(no_mangle)]
-pub extern "C" fn nvmearb_admin_of(entry: &SubmissionFields, command: &mut AdminFields)
-    ensures { command.new ≡ admin_fields_of (admin_command_of (submission_of entry.now)) }
+pub extern "C" fn nvmearb_admin_of(entry: &Sqe, command: &mut AdminFields)
+    ensures { command.new ≡ admin_fields_of (admin_command_of entry.now) }
 {
-    *command = fields_of_admin(admin_of(&submission_of(entry)));
+    *command = fields_of_admin(admin_of(entry));
 }

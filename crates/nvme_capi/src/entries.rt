@@ -3,29 +3,26 @@ ghost use Rattle.std.specs.Prelude.{◌≡◌, ◌≢◌, ◌<◌, ◌⊎◌, �
 ghost use Rattle.nvme_entry.specs.Bits.{bits_of, dword};
 ghost use Rattle.nvme_entry.specs.Submission.{IsSubmissionEntry};
 ghost use Rattle.nvme_entry.specs.Completion.{IsCompletionEntry};
-ghost use Rattle.nvme_capi.specs.Fields.{submission_of, completion_of, FitsCompletion};
+ghost use Rattle.nvme_capi.specs.Fields.{completion_of, FitsCompletion};
 
-use crate::fields::{
-    CompletionFields, SubmissionFields, completion_of, fields_of_completion, fields_of_submission,
-    submission_of,
-};
+use crate::fields::{CompletionFields, completion_of, fields_of_completion};
 use crate::results::{BAD_ARGUMENT, OK};
 use nvme_entry::{Cqe, Sqe};
 
 /// Reads the fields of a submission entry from its 64 bytes.
 #[unsafe(no_mangle)]
-pub extern "C" fn nvmearb_sqe_decode(bytes: &[u8; 64], fields: &mut SubmissionFields)
-    ensures layout { IsSubmissionEntry bytes.now (submission_of fields.new) }
+pub extern "C" fn nvmearb_sqe_decode(bytes: &[u8; 64], fields: &mut Sqe)
+    ensures layout { IsSubmissionEntry bytes.now fields.new }
 {
-    *fields = fields_of_submission(&Sqe::from_bytes(bytes));
+    *fields = Sqe::from_bytes(bytes);
 }
 
 /// Writes the 64 bytes of a submission entry.
 #[unsafe(no_mangle)]
-pub extern "C" fn nvmearb_sqe_encode(fields: &SubmissionFields, bytes: &mut [u8; 64])
-    ensures layout { IsSubmissionEntry bytes.new (submission_of fields.now) }
+pub extern "C" fn nvmearb_sqe_encode(fields: &Sqe, bytes: &mut [u8; 64])
+    ensures layout { IsSubmissionEntry bytes.new fields.now }
 {
-    *bytes = submission_of(fields).to_bytes();
+    *bytes = fields.to_bytes();
 }
 
 /// Reads the fields of a completion entry from its 16 bytes. Refused exactly where reserved bits are set.

@@ -1,29 +1,9 @@
-// The structs of C. Every bit pattern is a value of each of them.
+// The structs of C, but for a submission entry, which is `nvme_entry::Sqe` as it lies in memory. Every bit pattern is a
+// value of each of them.
 ghost use Rattle.std.specs.Prelude.{◌≡◌, ◌<◌, ◌≤◌, ◌⊎◌, ◌↔◌, IsNone, IfSome};
-ghost use Rattle.nvme_capi.specs.Fields.{submission_of, code_of, completion_of, FitsCompletion};
+ghost use Rattle.nvme_capi.specs.Fields.{code_of, completion_of, FitsCompletion};
 
-use nvme_entry::{Cqe, Sqe, Status};
-
-/// `nvmearb_sqe`: the fields of a submission entry.
-#[repr(C)]
-#[derive(Clone, Copy, Drop)]
-pub struct SubmissionFields {
-    pub opcode: u8,
-    pub flags: u8,
-    pub cid: u16,
-    pub nsid: u32,
-    pub cdw2: u32,
-    pub cdw3: u32,
-    pub mptr: u64,
-    pub prp1: u64,
-    pub prp2: u64,
-    pub cdw10: u32,
-    pub cdw11: u32,
-    pub cdw12: u32,
-    pub cdw13: u32,
-    pub cdw14: u32,
-    pub cdw15: u32,
-}
+use nvme_entry::{Cqe, Status};
 
 /// `nvmearb_status`: a status code type and a status code.
 #[repr(C)]
@@ -72,52 +52,6 @@ pub struct SettingsFields {
     pub high: u16,
     pub medium: u16,
     pub low: u16,
-}
-
-/// The submission entry of these fields.
-pub fn submission_of(fields: &SubmissionFields) -> Sqe
-    ensures { result ≡ submission_of fields.now }
-{
-    Sqe {
-        opcode: fields.opcode,
-        flags: fields.flags,
-        cid: fields.cid,
-        nsid: fields.nsid,
-        cdw2: fields.cdw2,
-        cdw3: fields.cdw3,
-        mptr: fields.mptr,
-        prp1: fields.prp1,
-        prp2: fields.prp2,
-        cdw10: fields.cdw10,
-        cdw11: fields.cdw11,
-        cdw12: fields.cdw12,
-        cdw13: fields.cdw13,
-        cdw14: fields.cdw14,
-        cdw15: fields.cdw15,
-    }
-}
-
-/// The fields of a submission entry.
-pub fn fields_of_submission(entry: &Sqe) -> SubmissionFields
-    ensures { submission_of result ≡ entry.now }
-{
-    SubmissionFields {
-        opcode: entry.opcode,
-        flags: entry.flags,
-        cid: entry.cid,
-        nsid: entry.nsid,
-        cdw2: entry.cdw2,
-        cdw3: entry.cdw3,
-        mptr: entry.mptr,
-        prp1: entry.prp1,
-        prp2: entry.prp2,
-        cdw10: entry.cdw10,
-        cdw11: entry.cdw11,
-        cdw12: entry.cdw12,
-        cdw13: entry.cdw13,
-        cdw14: entry.cdw14,
-        cdw15: entry.cdw15,
-    }
 }
 
 /// The fields of a status.
