@@ -4,7 +4,15 @@
  * Terms are those of the NVM Express Base Specification 2.0 and the NVM Command Set Specification 1.0. A status is
  * written as its type and its code in hexadecimal: 0/08.
  *
- * Which layer to take. Each works without the others.
+ * Which layer to take.
+ *
+ *   Controller  nvmearb_ctrl_..: the front of a whole controller, which is driven by calls. It checks doorbells, says
+ *               which slot is fetched next, arbitrates, carries out the admin commands on queues, features and Abort,
+ *               hands the I/O commands to the device under tags, and gives each completion with its slot, SQHD and
+ *               phase tag. Take it if you have a device: the device keeps registers, memory, data and interrupts.
+ *               capi/examples/device.c is one.
+ *
+ * or one of its parts by itself, if you have a front of your own:
  *
  *   Entries  nvmearb_sqe_.., nvmearb_cqe_.., nvmearb_admin_of and nvmearb_settings_of give the fields of entries and
  *            dwords, and nvmearb_outcome the status of an I/O command. They keep no state.
@@ -15,7 +23,38 @@
  *   Table    nvmearb_table_..: the queues and features of a controller, and the answers to the admin commands that
  *            create, delete, set and get them.
  *
- * Rings, doorbells, phase tags, interrupts and data are the caller's.
+ * Each works without the others. With parts, rings, doorbells, phase tags, interrupts and data are the caller's.
+ *
+ * The order of calls, with a controller:
+ *
+ *   1. Compare nvmearb_version() with NVMEARB_VERSION.
+ *   2. When the host enables the controller (CC.EN), nvmearb_ctrl_init with the admin queues (AQA, ASQ, ACQ), and then
+ *      nvmearb_ctrl_add_sq_region and nvmearb_ctrl_add_cq_region for each ring that a Create command may name. At a
+ *      reset the same again: nothing of before is left.
+ *   3. At each doorbell write nvmearb_ctrl_sq_tail or nvmearb_ctrl_cq_head.
+ *   4. For each queue, while nvmearb_ctrl_fetch tells a slot: read the entry there, and nvmearb_ctrl_fetched.
+ *   5. While nvmearb_ctrl_take gives a command, execute it. Where it has none, nvmearb_ctrl_pick, and begin again,
+ *      until that picks nothing either.
+ *   6. nvmearb_ctrl_complete for each command that ends, in any order and at any time.
+ *   7. For each completion region, while nvmearb_ctrl_post gives a completion: write its bytes into the slot of the
+ *      ring, Command Dword 3 last, since it has the phase tag, and then send the interrupt.
+ *   8. After a pick that began a deletion (NVMEARB_BEGIN_DELETE), nvmearb_ctrl_finish after each 7., until it ends the
+ *      deletion. Until then nothing is fetched or picked; what the device has of any queue may still be completed.
+ *
+ * What the caller of a controller owes, beside what is said of all calls below:
+ *
+ *   - It hands each call the array of slots that it gave to nvmearb_ctrl_init, and writes neither into it nor into the
+ *     controller. These calls trust what is in both: where anything else is written behind a right mark, a call may
+ *     read and write beyond the controller and its slots. Memory that was never initialised has no mark but by chance;
+ *     zeros have none.
+ *   - It reads no slot of a ring but the one that nvmearb_ctrl_fetch tells, and posts no completion but those of
+ *     nvmearb_ctrl_post. A ring of `slots` slots has 64 or 16 bytes for each, from the address of its region on.
+ *   - It keeps the interrupt vector and enable bit of a Create (its Command Dword 11), if it has interrupts.
+ *
+ * What a controller doesn't do: it hands the device no admin command, and answers those that are none of its own with
+ * 0/01, Invalid Command Opcode, so Identify too. A device that has such commands to answer takes the parts. A region is
+ * used by one queue, once, until the next nvmearb_ctrl_init. At most 256 commands are picked and have no completion
+ * posted.
  *
  * The order of calls, with a table and a board:
  *
@@ -31,13 +70,14 @@
  *        Admin: nvmearb_table_apply, then what the verdict asks for (NVMEARB_DONE and below it), then
  *               nvmearb_cqe_encode.
  *
- * At a deletion (NVMEARB_BEGIN_DELETE) the Delete command isn't answered yet. The caller
+ * At a deletion (NVMEARB_BEGIN_DELETE) the Delete command isn't answered yet. The caller of a table
  *   - fetches and picks no more commands of the queue (nvmearb_board_close),
  *   - answers each command of the queue that waits with 0/08, Command Aborted due to SQ Deletion,
  *   - waits until the commands of the queue that were picked are answered too,
  *   - calls nvmearb_table_finish_delete, and only then answers the Delete, with success.
  *
- * At an Abort (NVMEARB_ABORT) the caller looks for the oldest waiting command with this identifier in this queue.
+ * At an Abort (NVMEARB_ABORT) the caller of a table looks for the oldest waiting command with this identifier in this
+ * queue.
  *   - If one waits, the caller takes it out (nvmearb_board_went) and answers it with 0/07, Command Abort Requested.
  *     The Abort is answered with 0 as Command Dword 0.
  *   - Otherwise the Abort is answered with 1 as Command Dword 0. An Abort finds no command if its SQID is 0, if the
@@ -50,7 +90,8 @@
  * those entries from the table.
  *
  * Every function is proved (crates/nvme_capi). None allocates, waits, starts a thread, or reads or writes anything but
- * what its arguments point to, and all return. Every bit pattern of the arguments is answered. Left to the caller:
+ * what its arguments point to, and all return. Every bit pattern of the arguments is answered, but for that of a
+ * controller and its slots (above). Left to the caller:
  *
  *   - A pointer isn't null, is aligned for its type, and points to as many objects as its comment says, which live at
  *     least as long as the call. This holds for an array of length 0 too.
@@ -87,12 +128,14 @@ extern "C" {
  * NVMEARB_OK, it has written nothing.
  */
 #define NVMEARB_OK 0u     /* done */
-#define NVMEARB_NONE 1u   /* there is nothing to pick, or no such queue */
+#define NVMEARB_NONE 1u   /* there is nothing to pick, no such queue or no such command */
 #define NVMEARB_EARG 2u   /* an argument isn't valid */
 #define NVMEARB_ESTATE 3u /* the state isn't valid: it wasn't initialised, or was overwritten */
 #define NVMEARB_EUSED 4u  /* another region has this address */
 #define NVMEARB_EMANY 5u  /* there are NVMEARB_MAX_REGIONS regions of this kind */
 #define NVMEARB_ESIZE 6u  /* a region has 2 to 4096 slots */
+#define NVMEARB_BUSY 7u   /* nothing can be picked yet: commands are to be taken, or a deletion is to be finished */
+#define NVMEARB_FULL 8u   /* nothing can be picked yet: too many commands were picked and aren't completed */
 
 /* The length of a submission and of a completion entry in bytes. */
 #define NVMEARB_SQE_BYTES 64
@@ -100,6 +143,22 @@ extern "C" {
 
 /* The most namespaces that nvmearb_outcome takes. */
 #define NVMEARB_MAX_NAMESPACES 16
+
+/* The opcodes that the library knows: those of I/O commands, and those of admin commands. */
+#define NVMEARB_OPC_FLUSH 0x00u
+#define NVMEARB_OPC_WRITE 0x01u
+#define NVMEARB_OPC_READ 0x02u
+#define NVMEARB_OPC_DELETE_SQ 0x00u
+#define NVMEARB_OPC_CREATE_SQ 0x01u
+#define NVMEARB_OPC_DELETE_CQ 0x04u
+#define NVMEARB_OPC_CREATE_CQ 0x05u
+#define NVMEARB_OPC_ABORT 0x08u
+#define NVMEARB_OPC_SET_FEATURES 0x09u
+#define NVMEARB_OPC_GET_FEATURES 0x0au
+
+/* The feature identifiers that it knows. */
+#define NVMEARB_FID_ARBITRATION 0x01u
+#define NVMEARB_FID_NUMBER_OF_QUEUES 0x07u
 
 /* The fields of a submission queue entry. Each may have any value. */
 typedef struct nvmearb_sqe {
@@ -125,6 +184,37 @@ typedef struct nvmearb_status {
     uint8_t sct; /* status code type, 0 to 7 */
     uint8_t sc;  /* status code */
 } nvmearb_status;
+
+/* The status code types. */
+#define NVMEARB_SCT_GENERIC 0u
+#define NVMEARB_SCT_COMMAND_SPECIFIC 1u
+#define NVMEARB_SCT_MEDIA 2u /* media and data integrity errors */
+
+/* Status codes of the generic type. The library itself answers those that are marked with *. */
+#define NVMEARB_SC_SUCCESS 0x00u                  /* * */
+#define NVMEARB_SC_INVALID_OPCODE 0x01u           /* * Invalid Command Opcode */
+#define NVMEARB_SC_INVALID_FIELD 0x02u            /* * Invalid Field in Command */
+#define NVMEARB_SC_DATA_TRANSFER_ERROR 0x04u
+#define NVMEARB_SC_INTERNAL_ERROR 0x06u
+#define NVMEARB_SC_ABORT_REQUESTED 0x07u          /* * Command Abort Requested */
+#define NVMEARB_SC_ABORTED_BY_DELETION 0x08u      /* * Command Aborted due to SQ Deletion */
+#define NVMEARB_SC_INVALID_NAMESPACE 0x0bu        /* * Invalid Namespace or Format */
+#define NVMEARB_SC_SEQUENCE_ERROR 0x0cu           /* * Command Sequence Error */
+#define NVMEARB_SC_PRP_OFFSET_INVALID 0x13u
+#define NVMEARB_SC_LBA_OUT_OF_RANGE 0x80u         /* * */
+#define NVMEARB_SC_CAPACITY_EXCEEDED 0x81u
+#define NVMEARB_SC_NAMESPACE_NOT_READY 0x82u
+
+/* Status codes of the command specific type. */
+#define NVMEARB_SC_COMPLETION_QUEUE_INVALID 0x00u /* * */
+#define NVMEARB_SC_INVALID_QUEUE_IDENTIFIER 0x01u /* * */
+#define NVMEARB_SC_INVALID_QUEUE_SIZE 0x02u       /* * */
+#define NVMEARB_SC_INVALID_QUEUE_DELETION 0x0cu   /* * */
+#define NVMEARB_SC_FEATURE_NOT_SAVEABLE 0x0du     /* * Feature Identifier Not Saveable */
+
+/* Status codes of the type of media and data integrity errors. */
+#define NVMEARB_SC_WRITE_FAULT 0x80u
+#define NVMEARB_SC_UNRECOVERED_READ_ERROR 0x81u
 
 /* The fields of a completion queue entry. CRD, More and Do Not Retry have none: they are always 0. */
 typedef struct nvmearb_cqe {
@@ -295,6 +385,68 @@ typedef struct nvmearb_queue {
     uint16_t closing;  /* 1 if its deletion began and isn't finished, else 0 */
 } nvmearb_queue;
 
+/*
+ * A slot of a controller: it holds one command from its fetch until its completion is posted, and its number is the
+ * command's tag. The caller keeps an array of them, whose content is the library's. Nothing is fetched while none is
+ * free. With fewer than (nsq + 1) * window + 256 slots, commands of one queue may so keep those of another from being
+ * fetched.
+ */
+typedef struct nvmearb_slot {
+    uint64_t words[10];
+} nvmearb_slot;
+
+/* The most slots of a controller. */
+#define NVMEARB_MAX_SLOTS 65535
+
+/*
+ * A controller. nvmearb_ctrl_init initialises it. Its fields are the library's. It is valid if `mark` is what
+ * nvmearb_ctrl_init writes. Neither it nor its slots are copied to be used beside the first, or written into.
+ */
+typedef struct nvmearb_ctrl {
+    uint64_t mark;
+    size_t count; /* the number of its slots */
+    uint64_t words[650];
+} nvmearb_ctrl;
+
+/* What a controller is made with. */
+typedef struct nvmearb_config {
+    nvmearb_region asq, acq; /* the admin queues: ASQ and ACQ, and the fields of AQA and 1 more */
+    uint32_t mechanism;      /* NVMEARB_ROUND_ROBIN or NVMEARB_WEIGHTED (CC.AMS) */
+    uint32_t cdw11;          /* the Arbitration feature; bits 07:03 are ignored */
+    uint16_t nsq, ncq;       /* the most I/O submission and completion queues, 1 to NVMEARB_MAX_IO_QUEUES */
+    uint16_t window;         /* the most commands of a queue that are fetched and not picked; above 256 it is 256 */
+} nvmearb_config;
+
+/* The kinds of steps. */
+#define NVMEARB_PICKED 1u      /* commands of an I/O queue were picked: nvmearb_ctrl_take gives them */
+#define NVMEARB_CARRIED_OUT 2u /* a command of the admin queue was picked and carried out */
+
+/* What a pick did. A field that a step of its kind doesn't have is 0. */
+typedef struct nvmearb_step {
+    uint32_t kind; /* NVMEARB_PICKED or NVMEARB_CARRIED_OUT */
+    /*
+     * NVMEARB_CARRIED_OUT: what the command came to. The caller needs to do nothing for it but to end a deletion
+     * (NVMEARB_BEGIN_DELETE, by nvmearb_ctrl_finish). Its completion becomes ready by itself.
+     */
+    nvmearb_answer answer;
+    nvmearb_pick pick; /* NVMEARB_PICKED: the queue, and how many of its commands */
+} nvmearb_step;
+
+/* A command that the device has. */
+typedef struct nvmearb_command {
+    nvmearb_sqe entry;
+    uint32_t cookie; /* what the caller gave nvmearb_ctrl_fetched with it, for example the number of its queue */
+    uint16_t tag;    /* its name until its completion is posted */
+} nvmearb_command;
+
+/* A completion to be written into the ring of a completion queue. */
+typedef struct nvmearb_post {
+    uint8_t bytes[NVMEARB_CQE_BYTES]; /* the completion queue entry; the phase tag is in its last four bytes */
+    uint32_t cookie;                  /* that of its command */
+    uint16_t tag;                     /* that of its command, free from now on */
+    uint16_t slot;                    /* the slot of the ring */
+} nvmearb_post;
+
 /* Returns the version of the library. If it isn't NVMEARB_VERSION, this header is that of another library. */
 uint32_t nvmearb_version(void);
 
@@ -456,6 +608,126 @@ uint32_t nvmearb_table_allotted(const nvmearb_table *table, uint16_t *nsq, uint1
 
 /* Writes the settings of the Arbitration feature. NVMEARB_ESTATE if `table` isn't valid. */
 uint32_t nvmearb_table_settings(const nvmearb_table *table, nvmearb_settings *settings);
+
+/*
+ * Initialises a controller with its admin queues alone, which are open, on region 0 of each kind. No command is
+ * fetched, and all `count` slots are free.
+ * NVMEARB_EARG if `count` isn't 1 to NVMEARB_MAX_SLOTS, `mechanism` is neither of the two, `nsq` or `ncq` isn't 1 to
+ * NVMEARB_MAX_IO_QUEUES, or `window` is 0; otherwise the first of these: NVMEARB_ESIZE if `asq` doesn't have 2 to 4096
+ * slots, NVMEARB_EUSED if `acq` has the address of `asq`, NVMEARB_ESIZE if `acq` doesn't have 2 to 4096 slots.
+ */
+uint32_t nvmearb_ctrl_init(nvmearb_ctrl *ctrl, nvmearb_slot *slots, size_t count, const nvmearb_config *config);
+
+/*
+ * Adds a submission region, which a Create I/O Submission Queue may name, and writes its number. Otherwise as
+ * nvmearb_table_add_sq_region, whose refusals it has.
+ */
+uint32_t nvmearb_ctrl_add_sq_region(nvmearb_ctrl *ctrl, uint64_t address, uint16_t slots, uint16_t *number);
+
+/* Adds a completion region, as nvmearb_ctrl_add_sq_region a submission region. */
+uint32_t nvmearb_ctrl_add_cq_region(nvmearb_ctrl *ctrl, uint64_t address, uint16_t slots, uint16_t *number);
+
+/*
+ * The host wrote the tail doorbell of a submission queue: `tail` is bits 15:00 of the value.
+ * NVMEARB_ESTATE if `ctrl` isn't valid; otherwise NVMEARB_NONE if the queue isn't open or is closing (a write to an
+ * invalid doorbell register); otherwise NVMEARB_EARG if the ring has no such slot, or hasn't as many free slots (an
+ * invalid doorbell write value). A ring has one slot less of commands than it has slots.
+ */
+uint32_t nvmearb_ctrl_sq_tail(nvmearb_ctrl *ctrl, uint16_t qid, uint16_t tail);
+
+/*
+ * The host wrote the head doorbell of a completion queue: `head` is bits 15:00 of the value.
+ * NVMEARB_ESTATE if `ctrl` isn't valid; otherwise NVMEARB_NONE if the queue isn't open; otherwise NVMEARB_EARG if the
+ * ring has no such slot, or not as many completions were posted.
+ */
+uint32_t nvmearb_ctrl_cq_head(nvmearb_ctrl *ctrl, uint16_t cqid, uint16_t head);
+
+/*
+ * Writes the slot of the ring of a submission queue whose entry is fetched next.
+ * NVMEARB_ESTATE if `ctrl` isn't valid; otherwise NVMEARB_NONE if the queue isn't open, the host submitted no more, as
+ * many of its commands wait as the window or the ring allows, no slot of `ctrl` is free, or a deletion is pending.
+ */
+uint32_t nvmearb_ctrl_fetch(const nvmearb_ctrl *ctrl, uint16_t qid, uint16_t *slot);
+
+/*
+ * The entry in the slot that nvmearb_ctrl_fetch tells was read: its command waits to be picked. `cookie` is kept with
+ * it.
+ * NVMEARB_ESTATE if `ctrl` isn't valid; otherwise NVMEARB_EARG if `count` isn't that of nvmearb_ctrl_init, here and in
+ * the calls below; otherwise NVMEARB_NONE if nvmearb_ctrl_fetch tells none.
+ */
+uint32_t nvmearb_ctrl_fetched(nvmearb_ctrl *ctrl, nvmearb_slot *slots, size_t count, uint16_t qid,
+                              const uint8_t bytes[NVMEARB_SQE_BYTES], uint32_t cookie);
+
+/*
+ * Writes the pick that arbitration makes next of the commands that wait now, whether or not nvmearb_ctrl_pick can make
+ * it already.
+ * NVMEARB_ESTATE, NVMEARB_EARG as nvmearb_ctrl_fetched; otherwise NVMEARB_NONE if no command waits.
+ */
+uint32_t nvmearb_ctrl_peek(const nvmearb_ctrl *ctrl, const nvmearb_slot *slots, size_t count, nvmearb_pick *pick);
+
+/*
+ * Makes the next pick of arbitration, and writes what it did. An admin command is carried out at once: queues are
+ * created, a deletion begins and the waiting commands of its queue are answered with 0/08, a waiting command is aborted
+ * with 0/07, features are set and told.
+ * NVMEARB_ESTATE, NVMEARB_EARG as nvmearb_ctrl_fetched; otherwise NVMEARB_BUSY if commands are picked and not taken or
+ * a deletion is pending; otherwise NVMEARB_NONE if no command waits; otherwise NVMEARB_FULL if more than 256 commands
+ * would be picked, or aborted by an Abort, and have no completion posted.
+ */
+uint32_t nvmearb_ctrl_pick(nvmearb_ctrl *ctrl, nvmearb_slot *slots, size_t count, nvmearb_step *step);
+
+/*
+ * The device takes the oldest of the commands that are picked and not taken: writes it.
+ * NVMEARB_ESTATE, NVMEARB_EARG as nvmearb_ctrl_fetched; otherwise NVMEARB_NONE if all are taken.
+ */
+uint32_t nvmearb_ctrl_take(nvmearb_ctrl *ctrl, nvmearb_slot *slots, size_t count, nvmearb_command *command);
+
+/*
+ * The device completes a command, whose completion is ready then. `dw0` is its Command Dword 0.
+ * NVMEARB_ESTATE, NVMEARB_EARG as nvmearb_ctrl_fetched; NVMEARB_EARG too if `status->sct` is above 7; otherwise
+ * NVMEARB_NONE if the device has no command of this tag: none was taken under it, or it is completed already.
+ */
+uint32_t nvmearb_ctrl_complete(nvmearb_ctrl *ctrl, nvmearb_slot *slots, size_t count, uint16_t tag,
+                               const nvmearb_status *status, uint32_t dw0);
+
+/*
+ * Writes the completion that became ready first in a completion region, which goes into `slot` of its ring.
+ * NVMEARB_ESTATE, NVMEARB_EARG as nvmearb_ctrl_fetched; NVMEARB_EARG too if `region` is NVMEARB_MAX_REGIONS or more;
+ * otherwise NVMEARB_NONE if none is ready, or the host has freed no slot of the ring.
+ */
+uint32_t nvmearb_ctrl_post(nvmearb_ctrl *ctrl, nvmearb_slot *slots, size_t count, uint16_t region, nvmearb_post *post);
+
+/*
+ * Finishes the pending deletion of a submission queue, and writes its identifier, which is free then. The completion of
+ * the Delete is ready then.
+ * NVMEARB_ESTATE, NVMEARB_EARG as nvmearb_ctrl_fetched; otherwise NVMEARB_NONE if no deletion is pending, or a command
+ * that was fetched from the queue has no completion posted yet.
+ */
+uint32_t nvmearb_ctrl_finish(nvmearb_ctrl *ctrl, nvmearb_slot *slots, size_t count, uint16_t *qid);
+
+/*
+ * Writes the command of a tag once more.
+ * NVMEARB_ESTATE, NVMEARB_EARG as nvmearb_ctrl_fetched; otherwise NVMEARB_NONE if the device has no command of this tag.
+ */
+uint32_t nvmearb_ctrl_command(const nvmearb_ctrl *ctrl, const nvmearb_slot *slots, size_t count, uint16_t tag,
+                              nvmearb_command *command);
+
+/*
+ * Writes the number of the region of a submission queue.
+ * NVMEARB_ESTATE if `ctrl` isn't valid; otherwise NVMEARB_NONE if the queue isn't open or is closing.
+ */
+uint32_t nvmearb_ctrl_sq(const nvmearb_ctrl *ctrl, uint16_t qid, uint16_t *region);
+
+/*
+ * Writes the number of the region of a completion queue.
+ * NVMEARB_ESTATE if `ctrl` isn't valid; otherwise NVMEARB_NONE if the queue isn't open.
+ */
+uint32_t nvmearb_ctrl_cq(const nvmearb_ctrl *ctrl, uint16_t cqid, uint16_t *region);
+
+/*
+ * Writes how many commands of a submission queue were fetched and wait to be picked.
+ * NVMEARB_ESTATE if `ctrl` isn't valid; otherwise NVMEARB_NONE if the queue isn't open or is closing.
+ */
+uint32_t nvmearb_ctrl_waiting(const nvmearb_ctrl *ctrl, uint16_t qid, uint16_t *count);
 
 #ifdef __cplusplus
 }

@@ -1,3 +1,4 @@
 pub mod Fields
 pub mod States
 pub mod Tables
+pub mod Controllers

@@ -43,8 +43,8 @@ fn status_fields_of(status: Status) -> StatusFields
     }
 }
 
-// The answer with this verdict and success, and 0 in all other fields.
-const fn plain_answer(verdict: u32) -> AnswerFields
+/// The answer with this verdict and success, and 0 in all other fields.
+pub const fn plain_answer(verdict: u32) -> AnswerFields
     ensures { result ≡ plain_answer verdict }
 {
     AnswerFields {

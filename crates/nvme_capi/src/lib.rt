@@ -1,5 +1,6 @@
 //! The C library: an export for each call of the libraries that needs no thread and no memory. Each export is total: it
-//! states the clauses of the library's call for every state that it accepts, even one that no call made.
+//! states the clauses of the library's call for every state that it accepts, even one that no call made. Only those of a
+//! controller (`ctrl`) ask of their caller that nobody else wrote into a state that has its mark.
 //! `capi/nvmearb.h` declares the exports for C.
 #![tactic(auto)]
 
@@ -7,6 +8,7 @@ mod admin;
 mod answers;
 mod arbiter;
 mod board;
+mod ctrl;
 mod entries;
 mod fields;
 mod outcomes;

@@ -41,8 +41,8 @@ fn is_table(state: &TableState) -> bool
     state.mark == MARK
 }
 
-// Whether this number of queues of a kind can be allotted.
-fn is_limit(number: u16) -> bool
+/// Whether this number of queues of a kind can be allotted.
+pub fn is_limit(number: u16) -> bool
     ensures { result ≡ is_limit number }
 {
     number >= 1 && number <= MAX_IO_QUEUES
@@ -67,8 +67,8 @@ pub extern "C" fn nvmearb_table_init(state: &mut TableState, nsq: u16, ncq: u16,
     OK
 }
 
-// The result where a region can't be added.
-fn refusal(error: AdminError) -> u32
+/// The result where a region can't be added.
+pub fn refusal(error: AdminError) -> u32
     ensures used { (result ≡ USED) ↔ (error ≡ Used) }
     ensures too_many { (result ≡ TOO_MANY) ↔ (error ≡ TooMany) }
     ensures size { (result ≡ BAD_SIZE) ↔ (error ≡ Size) }

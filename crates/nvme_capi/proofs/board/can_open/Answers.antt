@@ -1,4 +1,4 @@
-use Rattle.std.proofs.Common.{[], ◌∷◌, arith}
+use Rattle.std.proofs.Common.{[], arith}
 use Rattle.std.proofs.lemmas.List.Elements.{All-nil, All-cons, All-head}
 use Rattle.nvme_arbiter.specs.Observation.{IsSeen}
 use Rattle.nvme_arbiter.specs.Queues.{seen_as}

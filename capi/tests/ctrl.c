@@ -1,0 +1,486 @@
+/* A controller: each call with its refusals, and random calls on random states. Values are the specification's. */
+#include <nvmearb.h>
+
+#include <string.h>
+
+#include "tell.h"
+
+_Static_assert(sizeof(nvmearb_slot) == 80, "nvmearb_slot");
+_Static_assert(sizeof(nvmearb_ctrl) == 5216, "nvmearb_ctrl");
+_Static_assert(sizeof(nvmearb_config) == 48 && offsetof(nvmearb_config, window) == 44, "nvmearb_config");
+_Static_assert(sizeof(nvmearb_step) == 36 && offsetof(nvmearb_step, pick) == 28, "nvmearb_step");
+_Static_assert(sizeof(nvmearb_command) == 72 && offsetof(nvmearb_command, tag) == 68, "nvmearb_command");
+_Static_assert(sizeof(nvmearb_post) == 24 && offsetof(nvmearb_post, slot) == 22, "nvmearb_post");
+
+#define SLOTS 16
+#define ASQ 0x1000
+#define ACQ 0x2000
+#define SQ 0x3000
+#define CQ 0x4000
+
+static nvmearb_ctrl ctrl;
+static nvmearb_slot slots[SLOTS], many[NVMEARB_MAX_SLOTS + 1];
+static const nvmearb_status success = {NVMEARB_SCT_GENERIC, NVMEARB_SC_SUCCESS};
+
+/* Admin queues of 8 slots, at most 4 I/O queues of a kind, no limit on the burst, a window of 4. */
+static const nvmearb_config config = {{ASQ, 8}, {ACQ, 8}, NVMEARB_ROUND_ROBIN, 7, 4, 4, 4};
+
+/* The bytes of an entry. */
+static void entry_of(uint8_t opcode, uint16_t cid, uint64_t prp1, uint32_t cdw10, uint32_t cdw11, uint8_t *bytes)
+{
+    nvmearb_sqe entry = {.opcode = opcode, .cid = cid, .nsid = 1, .prp1 = prp1, .cdw10 = cdw10, .cdw11 = cdw11};
+    nvmearb_sqe_encode(&entry, bytes);
+}
+
+/* The entry that is to be read next is that of a slot, and it is read. */
+static int fetched(uint16_t qid, uint16_t slot, uint8_t opcode, uint16_t cid, uint64_t prp1, uint32_t cdw10,
+                   uint32_t cdw11)
+{
+    uint8_t bytes[NVMEARB_SQE_BYTES];
+    uint16_t told = 0xeeee;
+    entry_of(opcode, cid, prp1, cdw10, cdw11, bytes);
+    return nvmearb_ctrl_fetch(&ctrl, qid, &told) == NVMEARB_OK && told == slot &&
+           nvmearb_ctrl_fetched(&ctrl, slots, SLOTS, qid, bytes, 1000u + cid) == NVMEARB_OK;
+}
+
+static int read_fetched(uint16_t slot, uint16_t cid)
+{
+    return fetched(1, slot, NVMEARB_OPC_READ, cid, 0, 0, 0);
+}
+
+/* Nothing is to be read. */
+static int none_to_fetch(uint16_t qid)
+{
+    uint16_t told = 0xeeee;
+    return nvmearb_ctrl_fetch(&ctrl, qid, &told) == NVMEARB_NONE && told == 0xeeee;
+}
+
+/* A command of the admin queue is carried out, and comes to this verdict. */
+static int carried_out(uint32_t verdict)
+{
+    nvmearb_step step;
+    return nvmearb_ctrl_pick(&ctrl, slots, SLOTS, &step) == NVMEARB_OK && step.kind == NVMEARB_CARRIED_OUT &&
+           step.answer.verdict == verdict;
+}
+
+/* Commands of queue 1 are picked. */
+static int picked(uint16_t n)
+{
+    nvmearb_step step;
+    nvmearb_pick pick;
+    return nvmearb_ctrl_peek(&ctrl, slots, SLOTS, &pick) == NVMEARB_OK && pick.qid == 1 && pick.n == n &&
+           nvmearb_ctrl_pick(&ctrl, slots, SLOTS, &step) == NVMEARB_OK && step.kind == NVMEARB_PICKED &&
+           step.pick.qid == 1 && step.pick.n == n && step.pick.fresh == 0;
+}
+
+/* A pick answers this, and writes nothing. */
+static int picks_none(uint32_t want)
+{
+    nvmearb_step step, before;
+    memset(&step, 0xee, sizeof step);
+    before = step;
+    return nvmearb_ctrl_pick(&ctrl, slots, SLOTS, &step) == want && memcmp(&step, &before, sizeof step) == 0;
+}
+
+/* The command with this identifier is taken, under the tag that is told. */
+static int taken(uint16_t cid, uint16_t *tag)
+{
+    nvmearb_command command, again;
+    int is_well = nvmearb_ctrl_take(&ctrl, slots, SLOTS, &command) == NVMEARB_OK && command.entry.cid == cid &&
+                  command.entry.opcode == NVMEARB_OPC_READ && command.entry.nsid == 1 && command.cookie == 1000u + cid;
+    *tag = command.tag;
+    return is_well && nvmearb_ctrl_command(&ctrl, slots, SLOTS, command.tag, &again) == NVMEARB_OK &&
+           again.tag == command.tag && again.entry.cid == cid && again.cookie == command.cookie;
+}
+
+static int completes(uint16_t tag, nvmearb_status status, uint32_t dw0, uint32_t want)
+{
+    return nvmearb_ctrl_complete(&ctrl, slots, SLOTS, tag, &status, dw0) == want;
+}
+
+/* A completion is posted with these fields, where the queue on the region has the identifier of the region. */
+static int posted(uint16_t region, uint16_t slot, uint16_t sqhd, uint16_t cid, uint8_t phase, nvmearb_status status,
+                  uint32_t dw0)
+{
+    nvmearb_post post;
+    nvmearb_cqe cqe;
+    return nvmearb_ctrl_post(&ctrl, slots, SLOTS, region, &post) == NVMEARB_OK && post.slot == slot &&
+           post.cookie == 1000u + cid && nvmearb_cqe_decode(post.bytes, &cqe) == NVMEARB_OK && cqe.sqhd == sqhd &&
+           cqe.sqid == region && cqe.cid == cid && cqe.phase == phase && cqe.status.sct == status.sct &&
+           cqe.status.sc == status.sc && cqe.dw0 == dw0;
+}
+
+static int none_to_post(uint16_t region)
+{
+    nvmearb_post post;
+    return nvmearb_ctrl_post(&ctrl, slots, SLOTS, region, &post) == NVMEARB_NONE;
+}
+
+/* A controller with the regions of queues 1, of 4 slots. */
+static int is_made(uint32_t mechanism)
+{
+    nvmearb_config it = config;
+    uint16_t sq = 0, cq = 0;
+    it.mechanism = mechanism;
+    return nvmearb_ctrl_init(&ctrl, slots, SLOTS, &it) == NVMEARB_OK &&
+           nvmearb_ctrl_add_sq_region(&ctrl, SQ, 4, &sq) == NVMEARB_OK && sq == 1 &&
+           nvmearb_ctrl_add_cq_region(&ctrl, CQ, 4, &cq) == NVMEARB_OK && cq == 1;
+}
+
+/* And one whose host created both queues. */
+static int is_prepared(uint32_t mechanism)
+{
+    return is_made(mechanism) && nvmearb_ctrl_sq_tail(&ctrl, 0, 2) == NVMEARB_OK &&
+           fetched(0, 0, NVMEARB_OPC_CREATE_CQ, 10, CQ, 0x00030001, 0x00000001) &&
+           fetched(0, 1, NVMEARB_OPC_CREATE_SQ, 11, SQ, 0x00030001, 0x00010001) && none_to_fetch(0) &&
+           carried_out(NVMEARB_OPEN_CQ) && carried_out(NVMEARB_OPEN_SQ) && picks_none(NVMEARB_NONE) &&
+           posted(0, 0, 2, 10, 1, success, 0) && posted(0, 1, 2, 11, 1, success, 0) && none_to_post(0) &&
+           nvmearb_ctrl_cq_head(&ctrl, 0, 3) == NVMEARB_EARG && nvmearb_ctrl_cq_head(&ctrl, 0, 2) == NVMEARB_OK;
+}
+
+static uint32_t init_with(nvmearb_config with, size_t count)
+{
+    return nvmearb_ctrl_init(&ctrl, slots, count, &with);
+}
+
+/* What isn't a configuration, in the order in which it is refused. */
+static void wrong_configurations(void)
+{
+    nvmearb_config it = config;
+    nvmearb_ctrl before;
+    memset(&ctrl, 0, sizeof ctrl);
+    before = ctrl;
+    CHECK(init_with(it, 0) == NVMEARB_EARG);
+    it.mechanism = 0, it.asq.slots = 1;
+    CHECK(init_with(it, SLOTS) == NVMEARB_EARG);
+    it.mechanism = 3;
+    CHECK(init_with(it, SLOTS) == NVMEARB_EARG);
+    it = config, it.nsq = 0;
+    CHECK(init_with(it, SLOTS) == NVMEARB_EARG);
+    it.nsq = 65;
+    CHECK(init_with(it, SLOTS) == NVMEARB_EARG);
+    it = config, it.ncq = 65;
+    CHECK(init_with(it, SLOTS) == NVMEARB_EARG);
+    it = config, it.window = 0;
+    CHECK(init_with(it, SLOTS) == NVMEARB_EARG);
+    it = config, it.asq.slots = 1, it.acq.address = ASQ;
+    CHECK(init_with(it, SLOTS) == NVMEARB_ESIZE);
+    it.asq.slots = 4096, it.acq.slots = 1;
+    CHECK(init_with(it, SLOTS) == NVMEARB_EUSED);
+    it.acq.address = ACQ;
+    CHECK(init_with(it, SLOTS) == NVMEARB_ESIZE);
+    it.acq.slots = 4097;
+    CHECK(init_with(it, SLOTS) == NVMEARB_ESIZE);
+    CHECK(memcmp(&ctrl, &before, sizeof ctrl) == 0);
+    it.acq.slots = 2, it.nsq = 64, it.ncq = 64, it.window = 65535, it.mechanism = NVMEARB_WEIGHTED;
+    CHECK(init_with(it, 1) == NVMEARB_OK);
+    CHECK(nvmearb_ctrl_init(&ctrl, many, NVMEARB_MAX_SLOTS + 1, &it) == NVMEARB_EARG);
+    CHECK(nvmearb_ctrl_init(&ctrl, many, NVMEARB_MAX_SLOTS, &it) == NVMEARB_OK);
+}
+
+/* The regions that can't be added. */
+static void regions(void)
+{
+    uint16_t number = 0xeeee;
+    CHECK(nvmearb_ctrl_init(&ctrl, slots, SLOTS, &config) == NVMEARB_OK);
+    CHECK(nvmearb_ctrl_add_sq_region(&ctrl, ACQ, 4, &number) == NVMEARB_EUSED);
+    CHECK(nvmearb_ctrl_add_cq_region(&ctrl, ASQ, 1, &number) == NVMEARB_EUSED);
+    CHECK(nvmearb_ctrl_add_sq_region(&ctrl, SQ, 1, &number) == NVMEARB_ESIZE);
+    CHECK(nvmearb_ctrl_add_cq_region(&ctrl, CQ, 4097, &number) == NVMEARB_ESIZE && number == 0xeeee);
+    for (uint16_t k = 1; k < NVMEARB_MAX_REGIONS; k++) {
+        CHECK(nvmearb_ctrl_add_sq_region(&ctrl, 0x10000u * k, 4096, &number) == NVMEARB_OK && number == k);
+    }
+    CHECK(nvmearb_ctrl_add_sq_region(&ctrl, SQ, 4, &number) == NVMEARB_EMANY && number == 64);
+    CHECK(nvmearb_ctrl_add_cq_region(&ctrl, 0x10000, 4, &number) == NVMEARB_EUSED);
+    CHECK(nvmearb_ctrl_add_cq_region(&ctrl, CQ, 2, &number) == NVMEARB_OK && number == 1);
+}
+
+/* Three commands go through; the device answers in another order. */
+static void commands_go_through(void)
+{
+    uint16_t tags[3] = {0}, region, count;
+    nvmearb_command command;
+    nvmearb_post post;
+    CHECK(is_prepared(NVMEARB_ROUND_ROBIN));
+    CHECK(nvmearb_ctrl_sq(&ctrl, 1, &region) == NVMEARB_OK && region == 1);
+    CHECK(nvmearb_ctrl_cq(&ctrl, 1, &region) == NVMEARB_OK && region == 1);
+    CHECK(nvmearb_ctrl_sq(&ctrl, 2, &region) == NVMEARB_NONE && nvmearb_ctrl_cq(&ctrl, 2, &region) == NVMEARB_NONE);
+    /* three commands fill a ring of four slots */
+    CHECK(nvmearb_ctrl_sq_tail(&ctrl, 2, 1) == NVMEARB_NONE && nvmearb_ctrl_sq_tail(&ctrl, 1, 4) == NVMEARB_EARG);
+    CHECK(nvmearb_ctrl_sq_tail(&ctrl, 1, 3) == NVMEARB_OK && nvmearb_ctrl_sq_tail(&ctrl, 1, 0) == NVMEARB_EARG);
+    CHECK(nvmearb_ctrl_cq_head(&ctrl, 2, 0) == NVMEARB_NONE && nvmearb_ctrl_cq_head(&ctrl, 1, 1) == NVMEARB_EARG);
+    CHECK(nvmearb_ctrl_waiting(&ctrl, 1, &count) == NVMEARB_OK && count == 0);
+    CHECK(read_fetched(0, 20) && read_fetched(1, 21) && read_fetched(2, 22) && none_to_fetch(1) && none_to_fetch(2));
+    CHECK(nvmearb_ctrl_waiting(&ctrl, 1, &count) == NVMEARB_OK && count == 3);
+    CHECK(nvmearb_ctrl_waiting(&ctrl, 2, &count) == NVMEARB_NONE && count == 3);
+    CHECK(nvmearb_ctrl_take(&ctrl, slots, SLOTS, &command) == NVMEARB_NONE);
+    CHECK(picked(3) && picks_none(NVMEARB_BUSY));
+    CHECK(taken(20, &tags[0]) && taken(21, &tags[1]) && taken(22, &tags[2]));
+    CHECK(nvmearb_ctrl_take(&ctrl, slots, SLOTS, &command) == NVMEARB_NONE && picks_none(NVMEARB_NONE));
+    CHECK(completes(tags[2], (nvmearb_status){8, 0}, 0, NVMEARB_EARG));
+    CHECK(completes(tags[2], success, 0, NVMEARB_OK) && completes(tags[2], success, 0, NVMEARB_NONE));
+    CHECK(completes(SLOTS, success, 0, NVMEARB_NONE) && completes(65535, success, 0, NVMEARB_NONE));
+    CHECK(nvmearb_ctrl_command(&ctrl, slots, SLOTS, tags[2], &command) == NVMEARB_NONE);
+    CHECK(completes(tags[0], success, 5, NVMEARB_OK));
+    CHECK(posted(1, 0, 3, 22, 1, success, 0) && posted(1, 1, 3, 20, 1, success, 5) && none_to_post(1));
+    CHECK(completes(tags[1], (nvmearb_status){NVMEARB_SCT_GENERIC, NVMEARB_SC_LBA_OUT_OF_RANGE}, 9, NVMEARB_OK));
+    CHECK(posted(1, 2, 3, 21, 1, (nvmearb_status){0, 0x80}, 9));
+    CHECK(none_to_post(64) && nvmearb_ctrl_post(&ctrl, slots, SLOTS, 65, &post) == NVMEARB_EARG);
+    CHECK(nvmearb_ctrl_cq_head(&ctrl, 1, 3) == NVMEARB_OK);
+}
+
+/* A full completion queue, and the phase tag of the second time round. */
+static void rings_go_round(void)
+{
+    uint16_t tag = 0;
+    commands_go_through();
+    for (uint16_t k = 0; k < 4; k++) { /* slots 3, 0, 1, 2 of both rings */
+        uint16_t slot = (uint16_t)(3 + k) % 4, next = (uint16_t)k % 4;
+        CHECK(nvmearb_ctrl_sq_tail(&ctrl, 1, next) == NVMEARB_OK && read_fetched(slot, k) && picked(1));
+        CHECK(taken(k, &tag) && completes(tag, success, 0, NVMEARB_OK));
+        if (k < 3) {
+            CHECK(posted(1, slot, next, k, slot == 3, success, 0));
+        }
+    }
+    /* three completions fill a queue of four slots */
+    CHECK(none_to_post(1) && nvmearb_ctrl_cq_head(&ctrl, 1, 0) == NVMEARB_OK && posted(1, 2, 3, 3, 0, success, 0));
+}
+
+/* An Abort and a deletion end what waits. The admin queue goes first. */
+static void abort_and_deletion(void)
+{
+    static const nvmearb_status requested = {NVMEARB_SCT_GENERIC, NVMEARB_SC_ABORT_REQUESTED};
+    static const nvmearb_status deleted = {NVMEARB_SCT_GENERIC, NVMEARB_SC_ABORTED_BY_DELETION};
+    uint16_t qid = 0xeeee, tag = 0;
+    CHECK(is_prepared(NVMEARB_WEIGHTED));
+    CHECK(nvmearb_ctrl_sq_tail(&ctrl, 1, 3) == NVMEARB_OK);
+    CHECK(read_fetched(0, 40) && picked(1) && taken(40, &tag) && read_fetched(1, 41) && read_fetched(2, 42));
+    CHECK(nvmearb_ctrl_sq_tail(&ctrl, 0, 4) == NVMEARB_OK);
+    CHECK(fetched(0, 2, NVMEARB_OPC_ABORT, 12, 0, 42u << 16 | 1, 0) && carried_out(NVMEARB_ABORT));
+    CHECK(fetched(0, 3, NVMEARB_OPC_DELETE_SQ, 13, 0, 1, 0));
+    CHECK(posted(1, 0, 3, 42, 1, requested, 0) && posted(0, 2, 4, 12, 1, success, 0));
+    CHECK(nvmearb_ctrl_finish(&ctrl, slots, SLOTS, &qid) == NVMEARB_NONE && carried_out(NVMEARB_BEGIN_DELETE));
+    CHECK(picks_none(NVMEARB_BUSY) && nvmearb_ctrl_sq_tail(&ctrl, 1, 0) == NVMEARB_NONE);
+    CHECK(none_to_fetch(0) && none_to_fetch(1) && nvmearb_ctrl_sq(&ctrl, 1, &qid) == NVMEARB_NONE);
+    CHECK(posted(1, 1, 3, 41, 1, deleted, 0) && none_to_post(1));
+    CHECK(nvmearb_ctrl_finish(&ctrl, slots, SLOTS, &qid) == NVMEARB_NONE && qid == 0xeeee);
+    CHECK(completes(tag, success, 0, NVMEARB_OK));
+    CHECK(nvmearb_ctrl_finish(&ctrl, slots, SLOTS, &qid) == NVMEARB_NONE && posted(1, 2, 3, 40, 1, success, 0));
+    CHECK(none_to_post(0) && nvmearb_ctrl_finish(&ctrl, slots, SLOTS, &qid) == NVMEARB_OK && qid == 1);
+    CHECK(posted(0, 3, 4, 13, 1, success, 0) && nvmearb_ctrl_finish(&ctrl, slots, SLOTS, &qid) == NVMEARB_NONE);
+    /* a reset: nothing of before is left */
+    CHECK(nvmearb_ctrl_init(&ctrl, slots, SLOTS, &config) == NVMEARB_OK && none_to_fetch(0) && none_to_post(0));
+    CHECK(nvmearb_ctrl_sq_tail(&ctrl, 0, 1) == NVMEARB_OK);
+    CHECK(fetched(0, 0, NVMEARB_OPC_GET_FEATURES, 1, 0, NVMEARB_FID_ARBITRATION, 0) && carried_out(NVMEARB_DONE));
+    CHECK(posted(0, 0, 1, 1, 1, success, 7));
+}
+
+/* The window, and a pool without a free slot. */
+static void windows_and_slots(void)
+{
+    nvmearb_config it = config;
+    uint8_t bytes[NVMEARB_SQE_BYTES];
+    entry_of(NVMEARB_OPC_GET_FEATURES, 1, 0, NVMEARB_FID_ARBITRATION, 0, bytes);
+    it.window = 2;
+    CHECK(nvmearb_ctrl_init(&ctrl, slots, 3, &it) == NVMEARB_OK && nvmearb_ctrl_sq_tail(&ctrl, 0, 7) == NVMEARB_OK);
+    for (int k = 0; k < 4; k++) { /* two fill the window, one more the slots */
+        uint32_t want = k == 2 || k == 3 ? NVMEARB_NONE : NVMEARB_OK;
+        CHECK(nvmearb_ctrl_fetched(&ctrl, slots, 3, 0, bytes, 1001) == want);
+        if (k == 2) {
+            nvmearb_step step;
+            CHECK(nvmearb_ctrl_pick(&ctrl, slots, 3, &step) == NVMEARB_OK && none_to_fetch(1));
+            CHECK(nvmearb_ctrl_fetched(&ctrl, slots, 3, 0, bytes, 1001) == NVMEARB_OK);
+            CHECK(nvmearb_ctrl_pick(&ctrl, slots, 3, &step) == NVMEARB_OK && none_to_fetch(0));
+        }
+    }
+}
+
+/* What every call answers over a state and slots. */
+struct call {
+    nvmearb_ctrl *ctrl;
+    nvmearb_slot *slots;
+    size_t count;
+    uint16_t a, b;
+    uint32_t dw0;
+    nvmearb_status status;
+    uint8_t bytes[NVMEARB_SQE_BYTES];
+    /* what it writes */
+    uint16_t number;
+    nvmearb_pick pick;
+    nvmearb_step step;
+    nvmearb_command command;
+    nvmearb_post post;
+};
+#define CALLS 16
+#define WITHOUT_SLOTS 8 /* the calls that take no slots come first */
+
+static uint32_t made(struct call *it, unsigned which)
+{
+    switch (which) {
+    case 0:
+        return nvmearb_ctrl_add_sq_region(it->ctrl, 0x1000u * (it->a % 8u), it->b, &it->number);
+    case 1:
+        return nvmearb_ctrl_add_cq_region(it->ctrl, 0x1000u * (it->a % 8u), it->b, &it->number);
+    case 2:
+        return nvmearb_ctrl_sq_tail(it->ctrl, it->a, it->b);
+    case 3:
+        return nvmearb_ctrl_cq_head(it->ctrl, it->a, it->b);
+    case 4:
+        return nvmearb_ctrl_fetch(it->ctrl, it->a, &it->number);
+    case 5:
+        return nvmearb_ctrl_sq(it->ctrl, it->a, &it->number);
+    case 6:
+        return nvmearb_ctrl_cq(it->ctrl, it->a, &it->number);
+    case 7:
+        return nvmearb_ctrl_waiting(it->ctrl, it->a, &it->number);
+    case 8:
+        return nvmearb_ctrl_fetched(it->ctrl, it->slots, it->count, it->a, it->bytes, it->dw0);
+    case 9:
+        return nvmearb_ctrl_peek(it->ctrl, it->slots, it->count, &it->pick);
+    case 10:
+        return nvmearb_ctrl_pick(it->ctrl, it->slots, it->count, &it->step);
+    case 11:
+        return nvmearb_ctrl_take(it->ctrl, it->slots, it->count, &it->command);
+    case 12:
+        return nvmearb_ctrl_complete(it->ctrl, it->slots, it->count, it->b, &it->status, it->dw0);
+    case 13:
+        return nvmearb_ctrl_post(it->ctrl, it->slots, it->count, it->a, &it->post);
+    case 14:
+        return nvmearb_ctrl_finish(it->ctrl, it->slots, it->count, &it->number);
+    default:
+        return nvmearb_ctrl_command(it->ctrl, it->slots, it->count, it->b, &it->command);
+    }
+}
+
+/* Without the mark each call answers NVMEARB_ESTATE, and with another number of slots NVMEARB_EARG. */
+static void refused_states(void)
+{
+    for (unsigned which = 0; which < CALLS; which++) {
+        struct call it = {.ctrl = &ctrl, .slots = many, .count = SLOTS - 1}, before;
+        nvmearb_ctrl was;
+        CHECK(is_prepared(NVMEARB_ROUND_ROBIN));
+        memcpy(&before, &it, sizeof it);
+        memcpy(&was, &ctrl, sizeof ctrl);
+        CHECK(which < WITHOUT_SLOTS || made(&it, which) == NVMEARB_EARG);
+        it.count = before.count = SLOTS + 1;
+        CHECK(which < WITHOUT_SLOTS || made(&it, which) == NVMEARB_EARG);
+        CHECK(memcmp(&it, &before, sizeof it) == 0 && memcmp(&ctrl, &was, sizeof was) == 0);
+        ctrl.mark ^= 1, was.mark ^= 1;
+        CHECK(made(&it, which) == NVMEARB_ESTATE);
+        it.count = before.count = 0;
+        CHECK(made(&it, which) == NVMEARB_ESTATE);
+        CHECK(memcmp(&it, &before, sizeof it) == 0 && memcmp(&ctrl, &was, sizeof was) == 0);
+    }
+}
+
+/* An entry that may be one of each kind. */
+static void draw_entry(uint64_t *state, uint8_t *bytes)
+{
+    static const uint8_t opcodes[] = {0, 1, 2, 4, 5, 8, 9, 10, 0x0c, 0x80};
+    uint64_t word = drawn(state);
+    uint8_t opcode = opcodes[word % sizeof opcodes];
+    uint32_t low = (uint32_t)(word >> 8) % 4, high = opcode == NVMEARB_OPC_ABORT ? (uint32_t)(word >> 16) % 8 : 3;
+    int is_feature = opcode == NVMEARB_OPC_SET_FEATURES || opcode == NVMEARB_OPC_GET_FEATURES;
+    uint32_t cdw10 = is_feature ? 1 + 6 * (low & 1) : high << 16 | low;
+    uint32_t cdw11 = 0x10001 + (uint32_t)(word >> 48) % 8;
+    entry_of(opcode, (uint16_t)(word >> 32) % 8, 0x1000 * (1 + (word >> 40) % 7), cdw10, cdw11, bytes);
+}
+
+/* How many commands the controller has, by what it answered. */
+struct tally {
+    unsigned held, out, done[CALLS];
+};
+
+/* One call with drawn arguments over the controller. What it answers and writes fits the tally. */
+static unsigned random_call(uint64_t *state, struct tally *tally)
+{
+    static nvmearb_ctrl ctrl_before;
+    static nvmearb_slot slots_before[SLOTS];
+    static const uint8_t often[CALLS] = {2, 2, 4, 8, 8, 9, 10, 10, 11, 11, 12, 12, 13, 13, 14, 15};
+    uint64_t word = drawn(state);
+    struct call it = {.ctrl = &ctrl, .slots = slots, .count = SLOTS}, before;
+    unsigned which = word & 1 ? often[(word >> 4) % CALLS] : (unsigned)(word >> 4) % CALLS, wrong = 0;
+    uint32_t told;
+    int changes;
+    it.a = word >> 60 ? (uint16_t)(word >> 16) % 3 : (uint16_t)(word >> 16);
+    it.b = word >> 60 ? (uint16_t)(word >> 32) % SLOTS : (uint16_t)(word >> 32);
+    it.count = (word >> 55 & 31) ? SLOTS : (size_t)(word >> 32); /* (where it is another, no slot is looked at) */
+    it.status.sct = (uint8_t)(word >> 40) % 9;
+    if (which == 0 || which == 1) {
+        it.b = word & 8 ? 4 : it.b; /* (the rings that Creates name) */
+    }
+    draw_entry(state, it.bytes);
+    memcpy(&before, &it, sizeof it);
+    memcpy(&ctrl_before, &ctrl, sizeof ctrl);
+    memcpy(slots_before, slots, sizeof slots);
+    told = made(&it, which);
+    changes = memcmp(&ctrl_before, &ctrl, sizeof ctrl) != 0 || memcmp(slots_before, slots, sizeof slots) != 0;
+    wrong += told > NVMEARB_FULL || told == NVMEARB_ESTATE;
+    wrong += which >= WITHOUT_SLOTS && it.count != SLOTS && told != NVMEARB_EARG;
+    if (told != NVMEARB_OK) {
+        return wrong + changes + (memcmp(&it, &before, sizeof it) != 0);
+    }
+    tally->done[which]++;
+    tally->held += (which == 8) - (which == 13);
+    tally->out += (which == 11) - (which == 12);
+    wrong += tally->held > SLOTS || tally->out > tally->held;
+    wrong += (which == 11 || which == 15) && it.command.tag >= SLOTS;
+    wrong += which == 13 && (it.post.tag >= SLOTS || it.post.slot >= 8);
+    wrong += (which == 9 || (which >= 4 && which < 8) || which == 15) && changes;
+    return wrong;
+}
+
+/* A million calls with random arguments; now and then the controller is made anew. */
+static void random_calls(void)
+{
+    uint64_t state = 5;
+    unsigned wrong = 0, done = 0;
+    struct tally tally = {0};
+    for (int round = 0; round < 1000000; round++) {
+        if (round % 500 == 0) {
+            wrong += !is_prepared(round % 1000 ? NVMEARB_WEIGHTED : NVMEARB_ROUND_ROBIN);
+            tally.held = tally.out = 0;
+        }
+        wrong += random_call(&state, &tally);
+    }
+    CHECK(wrong == 0);
+    for (unsigned which = 0; which < CALLS; which++) {
+        done += tally.done[which] > 0;
+    }
+    CHECK(done == CALLS);
+}
+
+/* Calls over drawn bytes without the mark, with any arguments. Few slots are there, and none is looked at. */
+static void random_states(void)
+{
+    uint64_t state = 6;
+    unsigned wrong = 0;
+    nvmearb_ctrl made_once;
+    CHECK(nvmearb_ctrl_init(&made_once, slots, SLOTS, &config) == NVMEARB_OK);
+    for (int round = 0; round < 20000; round++) {
+        static nvmearb_ctrl drawn_ctrl, before_ctrl;
+        struct call it, before;
+        draw_into(&state, &drawn_ctrl, sizeof drawn_ctrl);
+        draw_into(&state, &it, sizeof it);
+        drawn_ctrl.mark ^= drawn_ctrl.mark == made_once.mark;
+        it.ctrl = &drawn_ctrl, it.slots = slots;
+        memcpy(&before, &it, sizeof it);
+        memcpy(&before_ctrl, &drawn_ctrl, sizeof drawn_ctrl);
+        wrong += made(&it, (unsigned)round % CALLS) != NVMEARB_ESTATE;
+        wrong += memcmp(&before, &it, sizeof it) != 0 || memcmp(&before_ctrl, &drawn_ctrl, sizeof drawn_ctrl) != 0;
+    }
+    CHECK(wrong == 0);
+}
+
+int main(void)
+{
+    wrong_configurations();
+    regions();
+    rings_go_round();
+    abort_and_deletion();
+    windows_and_slots();
+    refused_states();
+    random_calls();
+    random_states();
+    return told();
+}

@@ -1,0 +1,58 @@
+-- A controller that is made stands by the rules of its configuration.
+use Rattle.std.proofs.Common.{◌≡◌, ℕ, ◌&&◌, nat_le, nat_lt, true, false, List, [], refl, sym, subst}
+use Rattle.std.proofs.lemmas.Bool.{and_parts, leb-true}
+use Rattle.nvme_arbiter.specs.Settings.{ArbitrationFields, settings_of}
+use Rattle.nvme_arbiter.specs.Layout.{mechanism_of}
+use Rattle.nvme_arbiter.specs.declared.settings.Mechanism.{Mechanism}
+use Rattle.nvme_admin.specs.declared.bounds.TheConstants.{MAX_IO_QUEUES}
+use Rattle.nvme_admin.specs.declared.limits.Limits.{Limits}
+use Rattle.nvme_log.specs.Rules.{FrontRules}
+use Rattle.nvme_ctrl.specs.Standing.{Stands}
+use Rattle.nvme_ctrl.specs.Making.{first_regions}
+use Rattle.nvme_ctrl.specs.declared.slot.Slot.{Slot}
+use Rattle.nvme_ctrl.specs.declared.state.Controller.{Controller}
+use Rattle.nvme_capi.specs.Tables.{is_limit}
+use Rattle.nvme_capi.specs.Controllers.{is_config, IsMadeOf}
+use Rattle.nvme_capi.specs.declared.ctrl.state.ConfigFields.{ConfigFields}
+
+-- numbers that can be allotted are limits
+limits_of : (nsq ncq : ℕ) → is_limit nsq ≡ true → is_limit ncq ≡ true → (limits : Limits) × ((limits.nsq ≡ nsq) × (limits.ncq ≡ ncq))
+limits_of nsq ncq few_sqs few_cqs =
+    let s = and_parts (nat_le 1 nsq) (nat_le nsq MAX_IO_QUEUES) few_sqs in
+    let c = and_parts (nat_le 1 ncq) (nat_le ncq MAX_IO_QUEUES) few_cqs in (
+      record {
+        nsq = nsq;
+        ncq = ncq;
+        nsq_not_zero = leb-true 1 nsq s.0;
+        nsq_in_range = leb-true nsq MAX_IO_QUEUES s.1;
+        ncq_not_zero = leb-true 1 ncq c.0;
+        ncq_in_range = leb-true ncq MAX_IO_QUEUES c.1;
+      },
+      (refl, refl),
+    )
+
+-- the rules of a configuration, by what is read of it
+abbrev rules_by : ConfigFields → Mechanism → ArbitrationFields → (nsq ncq : ℕ) → List ℕ → FrontRules
+rules_by f m a nsq ncq sizes = record {
+  mechanism = m;
+  start = record { nsq = nsq; ncq = ncq; settings = a };
+  regions = first_regions f.asq f.acq;
+  sizes = sizes;
+}
+
+pub made_of : (f : ConfigFields) (count : ℕ) (m : Mechanism) (a : ArbitrationFields) (sizes : List ℕ) (c : Controller) (slots : List Slot) → is_config f count ≡ true
+    → m ≡ mechanism_of f.mechanism → a ≡ settings_of f.cdw11 → Stands (rules_by f m a f.nsq f.ncq sizes) false [] c slots → IsMadeOf f sizes c slots
+made_of f count m a sizes c slots well mechanism settings stands =
+    let pool = nat_lt 0 f.window && (nat_lt 0 count && nat_lt count 65536) in
+    let x = and_parts (is_limit f.nsq) (is_limit f.ncq && pool) well in
+    let y = and_parts (is_limit f.ncq) pool x.1 in
+    let l = limits_of f.nsq f.ncq x.0 y.0 in
+    record {
+      limits = l.0;
+      nsq_is = l.1.0;
+      ncq_is = l.1.1;
+      stands = subst (λ (z : Mechanism). Stands (rules_by f z (settings_of f.cdw11) l.0.nsq l.0.ncq sizes) false [] c slots) mechanism
+          (subst (λ (z : ArbitrationFields). Stands (rules_by f m z l.0.nsq l.0.ncq sizes) false [] c slots) settings
+          (subst (λ (z : ℕ). Stands (rules_by f m a z l.0.ncq sizes) false [] c slots) (sym l.1.0)
+          (subst (λ (z : ℕ). Stands (rules_by f m a f.nsq z sizes) false [] c slots) (sym l.1.1) stands)));
+    }

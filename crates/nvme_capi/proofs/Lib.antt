@@ -1,0 +1,3 @@
+mod Configurations
+mod Queues
+mod Refusals

@@ -1,0 +1,18 @@
+-- What isn't refused.
+use Rattle.std.proofs.Common.{◌≡◌, ◌⊎◌, ◌↔◌, ℕ, Bool, true, false, inl, inr, sym, ◌∙◌, arith}
+use Rattle.std.specs.Prelude.{IsTrue, IsFalse}
+use Rattle.nvme_capi.specs.declared.results.TheConstants.{OK, USED, TOO_MANY, BAD_SIZE, BAD_ARGUMENT}
+
+-- a refused region isn't added
+pub not_done : (r : ℕ) → (r ≡ USED) ⊎ ((r ≡ TOO_MANY) ⊎ (r ≡ BAD_SIZE)) → r ≡ OK → ⊥
+not_done r (inl used) done = (let lost : 4 ≡ 0 = sym used ∙ done in omega (arith, lost))
+not_done r (inr (inl many)) done = (let lost : 5 ≡ 0 = sym many ∙ done in omega (arith, lost))
+not_done r (inr (inr size)) done = (let lost : 6 ≡ 0 = sym size ∙ done in omega (arith, lost))
+
+-- neither the slots nor an argument is wrong
+pub no_fault : (slots : Bool) (P : Type 0) → slots ≡ true → (P → ⊥) → IsFalse slots ⊎ P → ⊥
+no_fault slots P well none (inl off) = (let lost : true ≡ false = sym well ∙ off in cc lost)
+no_fault slots P well none (inr p) = none p
+
+pub no_refusal : (r : ℕ) (ctrl slots : Bool) (P : Type 0) → (r ≡ BAD_ARGUMENT → ⊥) → slots ≡ true → (P → ⊥) → (r ≡ BAD_ARGUMENT) ↔ (IsTrue ctrl × (IsFalse slots ⊎ P))
+no_refusal r ctrl slots P apart well none = (λ e. absurd (apart e), λ h. absurd (no_fault slots P well none h.1))

@@ -1,0 +1,32 @@
+use Rattle.std.proofs.Common.{◌∙◌, sym, ap, subst}
+use Rattle.nvme_ctrl.specs.declared.picks.Step.{Step}
+use Rattle.nvme_ctrl.specs.declared.picks.Step.TheVariants as made
+use Rattle.nvme_arbiter.specs.declared.pick.Pick.{Pick}
+use Rattle.nvme_admin.specs.Effects.{verdict_in}
+use Rattle.nvme_ctrl.specs.Steps.{HasStepped}
+use Rattle.nvme_capi.specs.Tables.{answer_of}
+use Rattle.nvme_capi.proofs.ctrl.commands.nvmearb_ctrl_pick.Goals as goal
+
+pub pick-requires : goal.pick-requires
+pick-requires c = record { front = c.requires.kept.front (sym c.is_ctrl.ensures ∙ c.if-not-is_ctrl.false) (sym c.has_slots.ensures ∙ c.if-not-has_slots.false) }
+
+pub returns-in-Idle-clause-idle : goal.returns-in-Idle-clause-idle
+returns-in-Idle-clause-idle c = λ rules late notes s _. subst (λ (it : Step). HasStepped rules late notes it c.pick.new.self c.pick.new.slots) c.in-Idle.is (c.pick.ensures.stands rules late notes s)
+
+pub returns-in-Busy-clause-busy : goal.returns-in-Busy-clause-busy
+returns-in-Busy-clause-busy c = λ rules late notes s _. subst (λ (it : Step). HasStepped rules late notes it c.pick.new.self c.pick.new.slots) c.in-Busy.is (c.pick.ensures.stands rules late notes s)
+
+pub returns-in-Full-clause-full : goal.returns-in-Full-clause-full
+returns-in-Full-clause-full c = λ rules late notes s _. subst (λ (it : Step). HasStepped rules late notes it c.pick.new.self c.pick.new.slots) c.in-Full.is (c.pick.ensures.stands rules late notes s)
+
+pub returns-in-Picked-clause-picked : goal.returns-in-Picked-clause-picked
+returns-in-Picked-clause-picked c = λ rules late notes s _ _.
+    subst (λ (pick : Pick). HasStepped rules late notes (made.Picked pick) c.pick.new.self c.pick.new.slots) (sym c.fields_of_pick.ensures.same)
+    (subst (λ (it : Step). HasStepped rules late notes it c.pick.new.self c.pick.new.slots) c.in-Picked.is (c.pick.ensures.stands rules late notes s))
+
+pub returns-in-Done-clause-carried_out : goal.returns-in-Done-clause-carried_out
+returns-in-Done-clause-carried_out c = λ rules late notes s _ _. record {
+  verdict = verdict_in c.in-Done.effect;
+  told_is = c.answer_of.ensures ∙ ap answer_of c.verdict.ensures;
+  carried_out = subst (λ (it : Step). HasStepped rules late notes it c.pick.new.self c.pick.new.slots) c.in-Done.is (c.pick.ensures.stands rules late notes s);
+}

@@ -1,0 +1,82 @@
+-- What a controller of C is, and what its calls write, in the library's terms (profile).
+use Rattle.std.specs.Prelude.{◌≡◌, ℕ, ◌==◌, ◌&&◌, nat_lt, Bool, true, false, List, [], length}
+use Rattle.nvme_entry.specs.Completion.{IsCompletionEntry}
+use Rattle.nvme_entry.specs.declared.completion.Cqe.{Cqe}
+use Rattle.nvme_arbiter.specs.Settings.{settings_of}
+use Rattle.nvme_arbiter.specs.Layout.{mechanism_of}
+use Rattle.nvme_admin.specs.declared.limits.Limits.{Limits}
+use Rattle.nvme_admin.specs.declared.verdict.Verdict.{Verdict}
+use Rattle.nvme_log.specs.Rules.{FrontRules}
+use Rattle.nvme_log.specs.Answers.{Answer}
+use Rattle.nvme_ctrl.specs.Notes.{Notes}
+use Rattle.nvme_ctrl.specs.Standing.{Stands, IsController}
+use Rattle.nvme_ctrl.specs.Making.{first_rules}
+use Rattle.nvme_ctrl.specs.Calls.{HasPosted}
+use Rattle.nvme_ctrl.specs.Posts.{IsPostOf}
+use Rattle.nvme_ctrl.specs.Steps.{HasCarriedOut}
+use Rattle.nvme_ctrl.specs.kept.Pool.{slot_at}
+use Rattle.nvme_ctrl.specs.declared.slot.Slot.{Slot}
+use Rattle.nvme_ctrl.specs.declared.state.Controller.{Controller}
+use Rattle.nvme_capi.specs.Fields.{code_of}
+use Rattle.nvme_capi.specs.Tables.{is_limit, answer_of}
+use Rattle.nvme_capi.specs.declared.fields.StatusFields.{StatusFields}
+use Rattle.nvme_capi.specs.declared.answers.AnswerFields.{AnswerFields}
+use Rattle.nvme_capi.specs.declared.ctrl.state.TheConstants.{MARK}
+use Rattle.nvme_capi.specs.declared.ctrl.state.CtrlState.{CtrlState}
+use Rattle.nvme_capi.specs.declared.ctrl.state.ConfigFields.{ConfigFields}
+use Rattle.nvme_capi.specs.declared.ctrl.state.CommandFields.{CommandFields}
+use Rattle.nvme_capi.specs.declared.ctrl.state.PostFields.{PostFields}
+
+-- ---- states
+-- a controller is one that was made, by its mark, and slots are as many as it was made with
+abbrev pub is_ctrl : CtrlState → Bool
+is_ctrl s = s.mark == MARK
+
+abbrev pub has_slots : CtrlState → List Slot → Bool
+has_slots s slots = length slots == s.count
+
+-- what each call asks of its caller and keeps: with these slots a controller that was made is one that its calls made. The caller writes into neither
+pub record IsKept (s : CtrlState) (slots : List Slot) : Type 0 where
+  pub front : is_ctrl s ≡ true → has_slots s slots ≡ true → IsController s.ctrl slots
+
+-- ---- making
+-- the numbers of a configuration are in their ranges, and so many slots can be a pool
+abbrev pub is_config : ConfigFields → (count : ℕ) → Bool
+is_config f count = is_limit f.nsq && (is_limit f.ncq && (nat_lt 0 f.window && (nat_lt 0 count && nat_lt count 65536)))
+
+-- the controller of a configuration stands at the empty log
+pub record IsMadeOf (f : ConfigFields) (sizes : List ℕ) (c : Controller) (slots : List Slot) : Type 0 where
+  pub limits : Limits
+  pub nsq_is : limits.nsq ≡ f.nsq
+  pub ncq_is : limits.ncq ≡ f.ncq
+  pub stands : Stands (first_rules (mechanism_of f.mechanism) (settings_of f.cdw11) limits f.asq f.acq sizes) false [] c slots
+
+-- ---- commands
+-- a command is the one in the slot of a tag, with what the caller keeps with it
+pub record IsCommandIn (slots : List Slot) (tag : ℕ) (f : CommandFields) : Type 0 where
+  pub tag_is : f.tag ≡ tag
+  pub entry : f.entry ≡ (slot_at slots tag).entry
+  pub cookie_is : f.cookie ≡ (slot_at slots tag).cookie
+
+-- a command of the admin queue was picked and carried out, and what it came to is told
+pub record HasToldWhat (rules : FrontRules) (late : Bool) (notes : Notes) (told : AnswerFields) (c : Controller) (slots : List Slot) : Type 0 where
+  pub verdict : Verdict
+  pub told_is : told ≡ answer_of verdict
+  pub carried_out : HasCarriedOut rules late notes verdict c slots
+
+-- the answer of a device
+abbrev pub device_answer : StatusFields → (dw0 : ℕ) → Answer
+device_answer f dw0 = record { status = code_of f; dw0 = dw0 }
+
+-- ---- completions
+-- the bytes of a completion queue entry are told that is posted to a region, and the slot of the ring that they go into
+pub record HasPostedBytes (rules : FrontRules) (late : Bool) (notes : Notes) (region : ℕ) (f : PostFields) (c : Controller) (slots : List Slot) : Type 0 where
+  pub cqe : Cqe
+  pub layout : IsCompletionEntry f.bytes cqe
+  pub posted : HasPosted rules late notes region f.slot cqe c slots
+
+-- they are those of the command in the slot of the tag
+pub record IsPostIn (slots : List Slot) (f : PostFields) : Type 0 where
+  pub cqe : Cqe
+  pub layout : IsCompletionEntry f.bytes cqe
+  pub command : IsPostOf (slot_at slots f.tag) cqe f.cookie

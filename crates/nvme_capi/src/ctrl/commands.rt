@@ -1,0 +1,282 @@
+// The commands of a controller of C: picks, what the device takes and answers, and completions.
+ghost use Rattle.std.specs.Prelude.{◌≡◌, ◌≢◌, ◌<◌, ◌≤◌, ◌⊎◌, ◌↔◌, Bool, true, false, None, Some, IsNone, IfSome, IsTrue, IsFalse};
+ghost use Rattle.nvme_entry.specs.Completion.{IsCompletionEntry};
+ghost use Rattle.nvme_log.specs.Rules.{FrontRules};
+ghost use Rattle.nvme_log.specs.Places.{entry_at};
+ghost use Rattle.nvme_log.specs.declared.place.Place.{Place};
+ghost use Rattle.nvme_admin.specs.declared.bounds.TheConstants.{MAX_REGIONS};
+ghost use Rattle.nvme_ctrl.specs.Notes.{Notes, logged};
+ghost use Rattle.nvme_ctrl.specs.Standing.{Stands};
+ghost use Rattle.nvme_ctrl.specs.Tags.{is_out, holder};
+ghost use Rattle.nvme_ctrl.specs.Calls.{HasTaken, HasAnswered};
+ghost use Rattle.nvme_ctrl.specs.Steps.{IsNextPick, HasStepped, NoneFinishable, HasFinished};
+ghost use Rattle.nvme_ctrl.specs.Posts.{NonePostable};
+ghost use Rattle.nvme_ctrl.specs.declared.picks.Step.TheVariants as made;
+ghost use Rattle.nvme_capi.specs.States.{pick_of_fields};
+ghost use Rattle.nvme_capi.specs.Controllers.{is_ctrl, has_slots, IsKept, HasToldWhat, IsCommandIn, device_answer, HasPostedBytes, IsPostIn};
+
+use crate::answers::{answer_of, plain_answer};
+use crate::ctrl::state::{CommandFields, CtrlState, PostFields, StepFields, has_slots, is_ctrl};
+use crate::fields::StatusFields;
+use crate::results::{BAD_ARGUMENT, BAD_STATE, BUSY, FULL, NOTHING, OK};
+use crate::states::{PickFields, fields_of_pick};
+use nvme_admin::MAX_REGIONS;
+use nvme_ctrl::{Answer, Post, Slot, Step};
+use nvme_entry::Status;
+
+// The kinds of a step.
+const PICKED: u32 = 1;
+
+const CARRIED_OUT: u32 = 2;
+
+/// Writes the pick that `nvmearb_ctrl_pick` makes next of the commands that wait now. The state stays as it was.
+#[unsafe(no_mangle)]
+pub extern "C" fn nvmearb_ctrl_peek(state: &CtrlState, slots: &[Slot], pick: &mut PickFields) -> u32
+    requires kept { IsKept state.now slots.now }
+    ensures bad_state { (result ≡ BAD_STATE) ↔ IsFalse (is_ctrl state.now) }
+    ensures bad_argument { (result ≡ BAD_ARGUMENT) ↔ (IsTrue (is_ctrl state.now) × IsFalse (has_slots state.now slots.now)) }
+    ensures answer { (result ≡ OK) ⊎ ((result ≡ NOTHING) ⊎ ((result ≡ BAD_ARGUMENT) ⊎ (result ≡ BAD_STATE))) }
+    ensures nothing { (rules : FrontRules) (late : Bool) (notes : Notes) → Stands rules late notes state.now.ctrl slots.now → result ≡ NOTHING → IsNextPick rules notes None }
+    ensures picked { (rules : FrontRules) (late : Bool) (notes : Notes) → Stands rules late notes state.now.ctrl slots.now → result ≡ OK → IsNextPick rules notes (Some (pick_of_fields pick.new)) }
+    ensures fits { result ≡ OK → pick.new.fresh ≤ 1 }
+    ensures unchanged { result ≢ OK → pick.new ≡ pick.old }
+{
+    if !is_ctrl(state) {
+        return BAD_STATE;
+    }
+    if !has_slots(state, slots) {
+        return BAD_ARGUMENT;
+    }
+    match state.ctrl.next_pick(slots) {
+        Some(it) => {
+            *pick = fields_of_pick(it);
+            OK
+        }
+        None => NOTHING,
+    }
+}
+
+/// Makes the next pick of arbitration, and writes what it did. An admin command that is picked is carried out.
+#[unsafe(no_mangle)]
+pub extern "C" fn nvmearb_ctrl_pick(
+    state: &mut CtrlState,
+    slots: &mut [Slot],
+    step: &mut StepFields,
+) -> u32
+    requires kept { IsKept state.old slots.old }
+    ensures kept { IsKept state.new slots.new }
+    ensures bad_state { (result ≡ BAD_STATE) ↔ IsFalse (is_ctrl state.old) }
+    ensures bad_argument { (result ≡ BAD_ARGUMENT) ↔ (IsTrue (is_ctrl state.old) × IsFalse (has_slots state.old slots.old)) }
+    ensures idle { (rules : FrontRules) (late : Bool) (notes : Notes) → Stands rules late notes state.old.ctrl slots.old → result ≡ NOTHING → HasStepped rules late notes made.Idle state.new.ctrl slots.new }
+    ensures busy { (rules : FrontRules) (late : Bool) (notes : Notes) → Stands rules late notes state.old.ctrl slots.old → result ≡ BUSY → HasStepped rules late notes made.Busy state.new.ctrl slots.new }
+    ensures full { (rules : FrontRules) (late : Bool) (notes : Notes) → Stands rules late notes state.old.ctrl slots.old → result ≡ FULL → HasStepped rules late notes made.Full state.new.ctrl slots.new }
+    ensures picked { (rules : FrontRules) (late : Bool) (notes : Notes) → Stands rules late notes state.old.ctrl slots.old → result ≡ OK → step.new.kind ≡ PICKED → HasStepped rules late notes (made.Picked (pick_of_fields step.new.pick)) state.new.ctrl slots.new }
+    ensures carried_out { (rules : FrontRules) (late : Bool) (notes : Notes) → Stands rules late notes state.old.ctrl slots.old → result ≡ OK → step.new.kind ≡ CARRIED_OUT → HasToldWhat rules late notes step.new.answer state.new.ctrl slots.new }
+    ensures kinds { result ≡ OK → (step.new.kind ≡ PICKED) ⊎ (step.new.kind ≡ CARRIED_OUT) }
+    ensures answer { (result ≡ OK) ⊎ ((result ≡ NOTHING) ⊎ ((result ≡ BUSY) ⊎ ((result ≡ FULL) ⊎ ((result ≡ BAD_ARGUMENT) ⊎ (result ≡ BAD_STATE))))) }
+    ensures wrong_state { result ≡ BAD_STATE → (state.new ≡ state.old) × (slots.new ≡ slots.old) }
+    ensures wrong_slots { result ≡ BAD_ARGUMENT → (state.new ≡ state.old) × (slots.new ≡ slots.old) }
+    ensures unwritten { result ≢ OK → step.new ≡ step.old }
+{
+    if !is_ctrl(state) {
+        return BAD_STATE;
+    }
+    if !has_slots(state, slots) {
+        return BAD_ARGUMENT;
+    }
+    match state.ctrl.pick(slots) {
+        Step::Idle => NOTHING,
+        Step::Busy => BUSY,
+        Step::Full => FULL,
+        Step::Picked(pick) => {
+            *step = StepFields {
+                kind: PICKED,
+                answer: plain_answer(0),
+                pick: fields_of_pick(pick),
+            };
+            OK
+        }
+        Step::Done(effect) => {
+            *step = StepFields {
+                kind: CARRIED_OUT,
+                answer: answer_of(effect.verdict()),
+                pick: PickFields {
+                    qid: 0,
+                    n: 0,
+                    fresh: 0,
+                },
+            };
+            OK
+        }
+    }
+}
+
+/// The device takes the next picked command, and its tag, entry and cookie are written.
+#[unsafe(no_mangle)]
+pub extern "C" fn nvmearb_ctrl_take(
+    state: &mut CtrlState,
+    slots: &mut [Slot],
+    command: &mut CommandFields,
+) -> u32
+    requires kept { IsKept state.old slots.old }
+    ensures kept { IsKept state.new slots.new }
+    ensures bad_state { (result ≡ BAD_STATE) ↔ IsFalse (is_ctrl state.old) }
+    ensures bad_argument { (result ≡ BAD_ARGUMENT) ↔ (IsTrue (is_ctrl state.old) × IsFalse (has_slots state.old slots.old)) }
+    ensures answer { (result ≡ OK) ⊎ ((result ≡ NOTHING) ⊎ ((result ≡ BAD_ARGUMENT) ⊎ (result ≡ BAD_STATE))) }
+    ensures stands { (rules : FrontRules) (late : Bool) (notes : Notes) → Stands rules late notes state.old.ctrl slots.old → result ≡ OK → HasTaken rules late notes command.new.tag state.new.ctrl slots.new }
+    ensures command { result ≡ OK → IsCommandIn slots.new command.new.tag command.new }
+    ensures entry { result ≡ OK → (rules : FrontRules) (late : Bool) (notes : Notes) → Stands rules late notes state.new.ctrl slots.new → (place : Place) → holder notes command.new.tag ≡ Some place → is_out notes command.new.tag ≡ true → entry_at (logged notes) place.region place.index ≡ Some command.new.entry }
+    ensures unchanged { result ≢ OK → (state.new ≡ state.old) × ((slots.new ≡ slots.old) × (command.new ≡ command.old)) }
+{
+    if !is_ctrl(state) {
+        return BAD_STATE;
+    }
+    if !has_slots(state, slots) {
+        return BAD_ARGUMENT;
+    }
+    match state.ctrl.take(slots) {
+        Some(tag) => {
+            *command = CommandFields {
+                entry: state.ctrl.entry(slots, tag),
+                cookie: state.ctrl.cookie(slots, tag),
+                tag,
+            };
+            OK
+        }
+        None => NOTHING,
+    }
+}
+
+/// The device answers the command of a tag, whose completion is ready then. BAD_ARGUMENT where the status code type is
+/// above 7, and NOTHING where the device has no command of this tag.
+#[unsafe(no_mangle)]
+pub extern "C" fn nvmearb_ctrl_complete(
+    state: &mut CtrlState,
+    slots: &mut [Slot],
+    tag: u16,
+    status: &StatusFields,
+    dw0: u32,
+) -> u32
+    requires kept { IsKept state.old slots.old }
+    ensures kept { IsKept state.new slots.new }
+    ensures bad_state { (result ≡ BAD_STATE) ↔ IsFalse (is_ctrl state.old) }
+    ensures bad_argument { (result ≡ BAD_ARGUMENT) ↔ (IsTrue (is_ctrl state.old) × (IsFalse (has_slots state.old slots.old) ⊎ (7 < status.now.sct))) }
+    ensures answer { (result ≡ OK) ⊎ ((result ≡ NOTHING) ⊎ ((result ≡ BAD_ARGUMENT) ⊎ (result ≡ BAD_STATE))) }
+    ensures nothing { (rules : FrontRules) (late : Bool) (notes : Notes) → Stands rules late notes state.old.ctrl slots.old → result ≡ NOTHING → is_out notes tag ≡ false }
+    ensures was_out { (rules : FrontRules) (late : Bool) (notes : Notes) → Stands rules late notes state.old.ctrl slots.old → result ≡ OK → is_out notes tag ≡ true }
+    ensures stands { (rules : FrontRules) (late : Bool) (notes : Notes) → Stands rules late notes state.old.ctrl slots.old → result ≡ OK → HasAnswered rules late notes tag (device_answer status.now dw0) state.new.ctrl slots.new }
+    ensures unchanged { result ≢ OK → (state.new ≡ state.old) × (slots.new ≡ slots.old) }
+{
+    if !is_ctrl(state) {
+        return BAD_STATE;
+    }
+    if !has_slots(state, slots) {
+        return BAD_ARGUMENT;
+    }
+    let Some(code) = Status::new(status.sct, status.sc) else {
+        return BAD_ARGUMENT;
+    };
+    if state
+        .ctrl
+        .complete(slots, tag, Answer { status: code, dw0 })
+    {
+        OK
+    } else {
+        NOTHING
+    }
+}
+
+// The number of a completion region, where it can be one.
+fn region_of(number: u16) -> Option<u8>
+    ensures none { IsNone result ↔ (MAX_REGIONS ≤ number) }
+    ensures some { IfSome result (λ region. region ≡ number) }
+{
+    if usize::from(number) < MAX_REGIONS {
+        Some(number as u8)
+    } else {
+        None
+    }
+}
+
+// What is told of a completion.
+fn fields_of_post(it: &Post) -> PostFields
+    ensures layout { IsCompletionEntry result.bytes it.now.cqe }
+    ensures cookie { result.cookie ≡ it.now.cookie }
+    ensures tag { result.tag ≡ it.now.tag }
+    ensures slot { result.slot ≡ it.now.slot }
+{
+    PostFields {
+        bytes: it.cqe.to_bytes(),
+        cookie: it.cookie,
+        tag: it.tag,
+        slot: it.slot,
+    }
+}
+
+/// Writes the completion that became ready first in a completion region, with the slot of its ring. The command's slot is
+/// free then.
+#[unsafe(no_mangle)]
+pub extern "C" fn nvmearb_ctrl_post(
+    state: &mut CtrlState,
+    slots: &mut [Slot],
+    region: u16,
+    post: &mut PostFields,
+) -> u32
+    requires kept { IsKept state.old slots.old }
+    ensures kept { IsKept state.new slots.new }
+    ensures bad_state { (result ≡ BAD_STATE) ↔ IsFalse (is_ctrl state.old) }
+    ensures bad_argument { (result ≡ BAD_ARGUMENT) ↔ (IsTrue (is_ctrl state.old) × (IsFalse (has_slots state.old slots.old) ⊎ (MAX_REGIONS ≤ region))) }
+    ensures answer { (result ≡ OK) ⊎ ((result ≡ NOTHING) ⊎ ((result ≡ BAD_ARGUMENT) ⊎ (result ≡ BAD_STATE))) }
+    ensures nothing { (rules : FrontRules) (late : Bool) (notes : Notes) → Stands rules late notes state.old.ctrl slots.old → result ≡ NOTHING → NonePostable rules notes region }
+    ensures stands { (rules : FrontRules) (late : Bool) (notes : Notes) → Stands rules late notes state.old.ctrl slots.old → result ≡ OK → HasPostedBytes rules late notes region post.new state.new.ctrl slots.new }
+    ensures command { result ≡ OK → IsPostIn slots.old post.new }
+    ensures unchanged { result ≢ OK → (state.new ≡ state.old) × ((slots.new ≡ slots.old) × (post.new ≡ post.old)) }
+{
+    if !is_ctrl(state) {
+        return BAD_STATE;
+    }
+    if !has_slots(state, slots) {
+        return BAD_ARGUMENT;
+    }
+    let Some(number) = region_of(region) else {
+        return BAD_ARGUMENT;
+    };
+    match state.ctrl.post(slots, number) {
+        Some(it) => {
+            *post = fields_of_post(&it);
+            OK
+        }
+        None => NOTHING,
+    }
+}
+
+/// Finishes the pending deletion, if all completions of its queue are posted, and writes the identifier of the queue.
+#[unsafe(no_mangle)]
+pub extern "C" fn nvmearb_ctrl_finish(
+    state: &mut CtrlState,
+    slots: &mut [Slot],
+    qid: &mut u16,
+) -> u32
+    requires kept { IsKept state.old slots.old }
+    ensures kept { IsKept state.new slots.new }
+    ensures bad_state { (result ≡ BAD_STATE) ↔ IsFalse (is_ctrl state.old) }
+    ensures bad_argument { (result ≡ BAD_ARGUMENT) ↔ (IsTrue (is_ctrl state.old) × IsFalse (has_slots state.old slots.old)) }
+    ensures answer { (result ≡ OK) ⊎ ((result ≡ NOTHING) ⊎ ((result ≡ BAD_ARGUMENT) ⊎ (result ≡ BAD_STATE))) }
+    ensures nothing { (rules : FrontRules) (late : Bool) (notes : Notes) → Stands rules late notes state.old.ctrl slots.old → result ≡ NOTHING → NoneFinishable notes }
+    ensures stands { (rules : FrontRules) (late : Bool) (notes : Notes) → Stands rules late notes state.old.ctrl slots.old → result ≡ OK → HasFinished rules late notes qid.new state.new.ctrl slots.new }
+    ensures unchanged { result ≢ OK → (state.new ≡ state.old) × ((slots.new ≡ slots.old) × (qid.new ≡ qid.old)) }
+{
+    if !is_ctrl(state) {
+        return BAD_STATE;
+    }
+    if !has_slots(state, slots) {
+        return BAD_ARGUMENT;
+    }
+    match state.ctrl.finish(slots) {
+        Some(it) => {
+            *qid = it;
+            OK
+        }
+        None => NOTHING,
+    }
+}

@@ -1,0 +1,110 @@
+// What is seen of a controller of C.
+ghost use Rattle.std.specs.Prelude.{◌≡◌, ◌≢◌, ◌⊎◌, ◌↔◌, Bool, true, false, List, length, None, Some, IsTrue, IsFalse, IsSomeAnd};
+ghost use Rattle.nvme_log.specs.Rules.{FrontRules};
+ghost use Rattle.nvme_log.specs.Queues.{open_sq, open_cq};
+ghost use Rattle.nvme_log.specs.Places.{entry_at, waiting};
+ghost use Rattle.nvme_log.specs.declared.place.Place.{Place};
+ghost use Rattle.nvme_ctrl.specs.Notes.{Notes, logged};
+ghost use Rattle.nvme_ctrl.specs.Standing.{Stands};
+ghost use Rattle.nvme_ctrl.specs.Tags.{is_out, holder};
+ghost use Rattle.nvme_ctrl.specs.declared.slot.Slot.{Slot};
+ghost use Rattle.nvme_capi.specs.Controllers.{is_ctrl, has_slots, IsCommandIn};
+
+use crate::ctrl::state::{CommandFields, CtrlState, has_slots, is_ctrl};
+use crate::results::{BAD_ARGUMENT, BAD_STATE, NOTHING, OK};
+use nvme_ctrl::Slot;
+
+/// Writes the command of a tag, where the device has one.
+#[unsafe(no_mangle)]
+pub extern "C" fn nvmearb_ctrl_command(
+    state: &CtrlState,
+    slots: &[Slot],
+    tag: u16,
+    command: &mut CommandFields,
+) -> u32
+    ensures bad_state { (result ≡ BAD_STATE) ↔ IsFalse (is_ctrl state.now) }
+    ensures bad_argument { (result ≡ BAD_ARGUMENT) ↔ (IsTrue (is_ctrl state.now) × IsFalse (has_slots state.now slots.now)) }
+    ensures answer { (result ≡ OK) ⊎ ((result ≡ NOTHING) ⊎ ((result ≡ BAD_ARGUMENT) ⊎ (result ≡ BAD_STATE))) }
+    ensures nothing { (rules : FrontRules) (late : Bool) (notes : Notes) → Stands rules late notes state.now.ctrl slots.now → result ≡ NOTHING → is_out notes tag ≡ false }
+    ensures out { (rules : FrontRules) (late : Bool) (notes : Notes) → Stands rules late notes state.now.ctrl slots.now → result ≡ OK → is_out notes tag ≡ true }
+    ensures entry { (rules : FrontRules) (late : Bool) (notes : Notes) → Stands rules late notes state.now.ctrl slots.now → result ≡ OK → (place : Place) → holder notes tag ≡ Some place → entry_at (logged notes) place.region place.index ≡ Some command.new.entry }
+    ensures command { result ≡ OK → IsCommandIn slots.now tag command.new }
+    ensures unchanged { result ≢ OK → command.new ≡ command.old }
+{
+    if !is_ctrl(state) {
+        return BAD_STATE;
+    }
+    if !has_slots(state, slots) {
+        return BAD_ARGUMENT;
+    }
+    if !state.ctrl.is_out(slots, tag) {
+        return NOTHING;
+    }
+    *command = CommandFields {
+        entry: state.ctrl.entry(slots, tag),
+        cookie: state.ctrl.cookie(slots, tag),
+        tag,
+    };
+    OK
+}
+
+/// Writes the number of the region of a submission queue, where it is open.
+#[unsafe(no_mangle)]
+pub extern "C" fn nvmearb_ctrl_sq(state: &CtrlState, qid: u16, region: &mut u16) -> u32
+    ensures bad_state { (result ≡ BAD_STATE) ↔ IsFalse (is_ctrl state.now) }
+    ensures answer { (result ≡ OK) ⊎ ((result ≡ NOTHING) ⊎ (result ≡ BAD_STATE)) }
+    ensures nothing { (rules : FrontRules) (late : Bool) (notes : Notes) (slots : List Slot) → Stands rules late notes state.now.ctrl slots → result ≡ NOTHING → open_sq (logged notes) qid ≡ None }
+    ensures found { (rules : FrontRules) (late : Bool) (notes : Notes) (slots : List Slot) → Stands rules late notes state.now.ctrl slots → result ≡ OK → IsSomeAnd (open_sq (logged notes) qid) (λ queue. region.new ≡ queue.region) }
+    ensures unchanged { result ≢ OK → region.new ≡ region.old }
+{
+    if !is_ctrl(state) {
+        return BAD_STATE;
+    }
+    match state.ctrl.sq_region(qid) {
+        Some(it) => {
+            *region = u16::from(it);
+            OK
+        }
+        None => NOTHING,
+    }
+}
+
+/// Writes the number of the region of a completion queue, where it is open.
+#[unsafe(no_mangle)]
+pub extern "C" fn nvmearb_ctrl_cq(state: &CtrlState, cqid: u16, region: &mut u16) -> u32
+    ensures bad_state { (result ≡ BAD_STATE) ↔ IsFalse (is_ctrl state.now) }
+    ensures answer { (result ≡ OK) ⊎ ((result ≡ NOTHING) ⊎ (result ≡ BAD_STATE)) }
+    ensures nothing { (rules : FrontRules) (late : Bool) (notes : Notes) (slots : List Slot) → Stands rules late notes state.now.ctrl slots → result ≡ NOTHING → open_cq (logged notes) cqid ≡ None }
+    ensures found { (rules : FrontRules) (late : Bool) (notes : Notes) (slots : List Slot) → Stands rules late notes state.now.ctrl slots → result ≡ OK → open_cq (logged notes) cqid ≡ Some region.new }
+    ensures unchanged { result ≢ OK → region.new ≡ region.old }
+{
+    if !is_ctrl(state) {
+        return BAD_STATE;
+    }
+    match state.ctrl.cq_region(cqid) {
+        Some(it) => {
+            *region = u16::from(it);
+            OK
+        }
+        None => NOTHING,
+    }
+}
+
+/// Writes how many commands of a submission queue were fetched and wait to be picked, where it is open.
+#[unsafe(no_mangle)]
+pub extern "C" fn nvmearb_ctrl_waiting(state: &CtrlState, qid: u16, count: &mut u16) -> u32
+    ensures bad_state { (result ≡ BAD_STATE) ↔ IsFalse (is_ctrl state.now) }
+    ensures answer { (result ≡ OK) ⊎ ((result ≡ NOTHING) ⊎ (result ≡ BAD_STATE)) }
+    ensures nothing { (rules : FrontRules) (late : Bool) (notes : Notes) (slots : List Slot) → Stands rules late notes state.now.ctrl slots → result ≡ NOTHING → open_sq (logged notes) qid ≡ None }
+    ensures waits { (rules : FrontRules) (late : Bool) (notes : Notes) (slots : List Slot) → Stands rules late notes state.now.ctrl slots → result ≡ OK → IsSomeAnd (open_sq (logged notes) qid) (λ queue. count.new ≡ length (waiting (logged notes) queue.region)) }
+    ensures unchanged { result ≢ OK → count.new ≡ count.old }
+{
+    if !is_ctrl(state) {
+        return BAD_STATE;
+    }
+    if state.ctrl.sq_region(qid).is_none() {
+        return NOTHING;
+    }
+    *count = state.ctrl.waiting(qid);
+    OK
+}

@@ -1,0 +1,135 @@
+// The making of a controller of C, and its regions.
+ghost use Rattle.std.specs.Prelude.{◌≡◌, ◌≢◌, ◌⊎◌, ◌↔◌, ℕ, Bool, List, length, Some, None, IsTrue, IsFalse};
+ghost use Rattle.nvme_admin.specs.History.{Submission, Completion};
+ghost use Rattle.nvme_admin.specs.declared.region.AdminError.TheVariants.{Used, TooMany, Size};
+ghost use Rattle.nvme_log.specs.Rules.{FrontRules, sq_regions_of, cq_regions_of};
+ghost use Rattle.nvme_ctrl.specs.Notes.{Notes};
+ghost use Rattle.nvme_ctrl.specs.Standing.{Stands, IsController};
+ghost use Rattle.nvme_ctrl.specs.Calls.{window_limit};
+ghost use Rattle.nvme_ctrl.specs.Making.{admin_fault, with_region, is_late};
+ghost use Rattle.nvme_ctrl.specs.declared.slot.Slot.{Slot};
+ghost use Rattle.nvme_capi.specs.Controllers.{is_ctrl, is_config, IsMadeOf, IsKept};
+
+use crate::arbiter::mechanism_with;
+use crate::ctrl::state::{ConfigFields, CtrlState, MARK, is_ctrl};
+use crate::results::{BAD_ARGUMENT, BAD_SIZE, BAD_STATE, OK, TOO_MANY, USED};
+use crate::table::{is_limit, refusal};
+use nvme_admin::Limits;
+use nvme_arbiter::Settings;
+use nvme_ctrl::{Controller, Slot};
+
+// Whether the numbers of a configuration are in their ranges, and so many slots can be a pool.
+fn is_config(config: &ConfigFields, count: usize) -> bool
+    ensures { result ≡ is_config config.now count }
+{
+    is_limit(config.nsq) && is_limit(config.ncq) && config.window > 0 && count > 0 && count < 65_536
+}
+
+/// Makes a controller with its admin regions alone, whose queues are open, and frees all slots.
+#[unsafe(no_mangle)]
+pub extern "C" fn nvmearb_ctrl_init(
+    state: &mut CtrlState,
+    slots: &mut [Slot],
+    config: &ConfigFields,
+) -> u32
+    ensures refused { (result ≡ BAD_ARGUMENT) ↔ (IsFalse (is_config config.now (length slots.old)) ⊎ ((config.now.mechanism ≢ 1) × (config.now.mechanism ≢ 2))) }
+    ensures answer { (result ≡ OK) ⊎ ((result ≡ BAD_ARGUMENT) ⊎ ((result ≡ USED) ⊎ ((result ≡ TOO_MANY) ⊎ (result ≡ BAD_SIZE)))) }
+    ensures used { result ≡ USED → admin_fault config.now.asq config.now.acq ≡ Some Used }
+    ensures too_many { result ≡ TOO_MANY → admin_fault config.now.asq config.now.acq ≡ Some TooMany }
+    ensures size { result ≡ BAD_SIZE → admin_fault config.now.asq config.now.acq ≡ Some Size }
+    ensures made { result ≡ OK → admin_fault config.now.asq config.now.acq ≡ None }
+    ensures stands { result ≡ OK → (sizes : List ℕ) → IsMadeOf config.now sizes state.new.ctrl slots.new }
+    ensures window { result ≡ OK → window_limit state.new.ctrl ≡ config.now.window }
+    ensures front { result ≡ OK → IsController state.new.ctrl slots.new }
+    ensures ctrl { result ≡ OK → IsTrue (is_ctrl state.new) }
+    ensures count { result ≡ OK → state.new.count ≡ length slots.new }
+    ensures unchanged { result ≢ OK → (state.new ≡ state.old) × (slots.new ≡ slots.old) }
+{
+    let Some(mechanism) = mechanism_with(config.mechanism) else {
+        return BAD_ARGUMENT;
+    };
+    let count = slots.len();
+    if !is_config(config, count) {
+        return BAD_ARGUMENT;
+    }
+    let limits = Limits {
+        nsq: config.nsq,
+        ncq: config.ncq,
+    };
+    match Controller::new(
+        mechanism,
+        Settings::from_cdw11(config.cdw11),
+        limits,
+        config.window,
+        config.asq,
+        config.acq,
+        slots,
+    ) {
+        Ok(ctrl) => {
+            *state = CtrlState {
+                mark: MARK,
+                count,
+                ctrl,
+            };
+            OK
+        }
+        Err(error) => refusal(error),
+    }
+}
+
+/// Adds a submission region, and writes its number, which counts from 0. Region 0 is the admin queue's. Refused as
+/// `nvmearb_table_add_sq_region` refuses.
+#[unsafe(no_mangle)]
+pub extern "C" fn nvmearb_ctrl_add_sq_region(
+    state: &mut CtrlState,
+    address: u64,
+    slots: u16,
+    number: &mut u16,
+) -> u32
+    ensures bad_state { (result ≡ BAD_STATE) ↔ IsFalse (is_ctrl state.old) }
+    ensures answer { (result ≡ OK) ⊎ ((result ≡ BAD_STATE) ⊎ ((result ≡ USED) ⊎ ((result ≡ TOO_MANY) ⊎ (result ≡ BAD_SIZE)))) }
+    ensures number { (rules : FrontRules) (late : Bool) (notes : Notes) (pool : List Slot) → Stands rules late notes state.old.ctrl pool → result ≡ OK → number.new ≡ length (sq_regions_of rules) }
+    ensures stands { (rules : FrontRules) (late : Bool) (notes : Notes) (pool : List Slot) → Stands rules late notes state.old.ctrl pool → result ≡ OK → Stands (with_region Submission address slots rules) (is_late late notes) notes state.new.ctrl pool }
+    ensures window { window_limit state.new.ctrl ≡ window_limit state.old.ctrl }
+    ensures kept { (pool : List Slot) → IsKept state.old pool → IsKept state.new pool }
+    ensures unchanged { result ≢ OK → (state.new ≡ state.old) × (number.new ≡ number.old) }
+{
+    if !is_ctrl(state) {
+        return BAD_STATE;
+    }
+    match state.ctrl.add_sq_region(address, slots) {
+        Ok(added) => {
+            *number = u16::from(added);
+            OK
+        }
+        Err(error) => refusal(error),
+    }
+}
+
+/// Adds a completion region, as `nvmearb_ctrl_add_sq_region` adds a submission region.
+#[unsafe(no_mangle)]
+pub extern "C" fn nvmearb_ctrl_add_cq_region(
+    state: &mut CtrlState,
+    address: u64,
+    slots: u16,
+    number: &mut u16,
+) -> u32
+    ensures bad_state { (result ≡ BAD_STATE) ↔ IsFalse (is_ctrl state.old) }
+    ensures answer { (result ≡ OK) ⊎ ((result ≡ BAD_STATE) ⊎ ((result ≡ USED) ⊎ ((result ≡ TOO_MANY) ⊎ (result ≡ BAD_SIZE)))) }
+    ensures number { (rules : FrontRules) (late : Bool) (notes : Notes) (pool : List Slot) → Stands rules late notes state.old.ctrl pool → result ≡ OK → number.new ≡ length (cq_regions_of rules) }
+    ensures stands { (rules : FrontRules) (late : Bool) (notes : Notes) (pool : List Slot) → Stands rules late notes state.old.ctrl pool → result ≡ OK → Stands (with_region Completion address slots rules) (is_late late notes) notes state.new.ctrl pool }
+    ensures window { window_limit state.new.ctrl ≡ window_limit state.old.ctrl }
+    ensures kept { (pool : List Slot) → IsKept state.old pool → IsKept state.new pool }
+    ensures unchanged { result ≢ OK → (state.new ≡ state.old) × (number.new ≡ number.old) }
+{
+    if !is_ctrl(state) {
+        return BAD_STATE;
+    }
+    match state.ctrl.add_cq_region(address, slots) {
+        Ok(added) => {
+            *number = u16::from(added);
+            OK
+        }
+        Err(error) => refusal(error),
+    }
+}

@@ -1,0 +1,88 @@
+// A controller of C, and what its calls are given and write.
+ghost use Rattle.std.specs.Prelude.{◌≡◌};
+ghost use Rattle.nvme_capi.specs.Controllers.{is_ctrl, has_slots};
+
+use crate::answers::AnswerFields;
+use crate::states::PickFields;
+use nvme_admin::Region;
+use nvme_ctrl::{Controller, Slot};
+use nvme_entry::Sqe;
+
+/// What `nvmearb_ctrl_init` writes before a controller, and nothing else does.
+pub const MARK: u64 = 0x6e76_6d65_6374_726c;
+
+/// `nvmearb_ctrl`: a mark, and a controller with the number of its slots.
+#[repr(C)]
+#[derive(Drop)]
+pub struct CtrlState {
+    pub mark: u64,
+    /// How many slots its commands are in.
+    pub count: usize,
+    pub ctrl: Controller,
+}
+
+// The header has these sizes.
+const _: () = prove!(size_of::<CtrlState>() == 5216);
+
+const _: () = prove!(size_of::<Slot>() == 80);
+
+/// `nvmearb_config`: what a controller is made with.
+#[repr(C)]
+#[derive(Clone, Copy, Drop)]
+pub struct ConfigFields {
+    /// The rings of the admin queues.
+    pub asq: Region,
+    pub acq: Region,
+    /// 1, round robin, or 2, weighted round robin with urgent priority class.
+    pub mechanism: u32,
+    /// The first settings of the Arbitration feature.
+    pub cdw11: u32,
+    /// How many I/O queues of each kind can be allotted, 1 to 64.
+    pub nsq: u16,
+    pub ncq: u16,
+    /// At most so many commands of a queue wait.
+    pub window: u16,
+}
+
+/// `nvmearb_step`: what a pick did. The kind is 1 where commands of an I/O queue were picked, and 2 where an admin command
+/// was picked and carried out. What a step of its kind doesn't have is 0.
+#[repr(C)]
+#[derive(Clone, Copy, Drop)]
+pub struct StepFields {
+    pub kind: u32,
+    pub answer: AnswerFields,
+    pub pick: PickFields,
+}
+
+/// `nvmearb_command`: a command that the device has.
+#[repr(C)]
+#[derive(Clone, Copy, Drop)]
+pub struct CommandFields {
+    pub entry: Sqe,
+    pub cookie: u32,
+    pub tag: u16,
+}
+
+/// `nvmearb_post`: the bytes of a completion queue entry, and the slot of the ring that they go into.
+#[repr(C)]
+#[derive(Clone, Copy, Drop)]
+pub struct PostFields {
+    pub bytes: [u8; 16],
+    pub cookie: u32,
+    pub tag: u16,
+    pub slot: u16,
+}
+
+/// Whether a controller was made here.
+pub fn is_ctrl(state: &CtrlState) -> bool
+    ensures { result ≡ is_ctrl state.now }
+{
+    state.mark == MARK
+}
+
+/// Whether these are as many slots as the controller was made with.
+pub fn has_slots(state: &CtrlState, slots: &[Slot]) -> bool
+    ensures { result ≡ has_slots state.now slots.now }
+{
+    slots.len() == state.count
+}
