@@ -1,6 +1,6 @@
 /*
  * Measures calls of the C library, as many as the first word says. A row has the name of the row of
- * nvme_bench that measures the same call from Rust.
+ * nvme_bench that measures the same call from Rust, where there is one.
  */
 #include <nvmearb.h>
 
@@ -107,6 +107,68 @@ static void applies(uint8_t opcode, uint64_t prp1, uint32_t cdw10, uint32_t cdw1
     tell(what);
 }
 
+#define COMMANDS 64
+
+static nvmearb_ctrl ctrl;
+static nvmearb_slot slots[COMMANDS];
+
+/* The host writes a tail doorbell, and the entries are read. */
+static void submit(uint16_t qid, uint16_t tail, const uint8_t *bytes)
+{
+    uint16_t slot;
+    if (nvmearb_ctrl_sq_tail(&ctrl, qid, tail) != NVMEARB_OK) {
+        give_up();
+    }
+    while (nvmearb_ctrl_fetch(&ctrl, qid, &slot) == NVMEARB_OK) {
+        nvmearb_ctrl_fetched(&ctrl, slots, COMMANDS, qid, bytes, 0);
+    }
+}
+
+/* What was fetched goes through, and the host consumes the completions. */
+static void serve(uint16_t region, uint16_t head)
+{
+    const nvmearb_status success = {0, 0};
+    nvmearb_step step;
+    nvmearb_command command;
+    nvmearb_post post;
+    while (nvmearb_ctrl_pick(&ctrl, slots, COMMANDS, &step) == NVMEARB_OK) {
+        while (nvmearb_ctrl_take(&ctrl, slots, COMMANDS, &command) == NVMEARB_OK) {
+            nvmearb_ctrl_complete(&ctrl, slots, COMMANDS, command.tag, &success, 0);
+        }
+    }
+    while (nvmearb_ctrl_post(&ctrl, slots, COMMANDS, region, &post) == NVMEARB_OK) {
+    }
+    if (nvmearb_ctrl_cq_head(&ctrl, region, head) != NVMEARB_OK) {
+        give_up();
+    }
+}
+
+/* Commands that go through a controller, so many with each doorbell write. */
+static void commands(uint32_t mechanism, uint16_t batch, const char *what)
+{
+    nvmearb_config config = {{1, COMMANDS}, {2, COMMANDS}, mechanism, 7, 1, 1, COMMANDS};
+    uint8_t bytes[NVMEARB_SQE_BYTES];
+    uint16_t number, tail = 0;
+    if (nvmearb_ctrl_init(&ctrl, slots, COMMANDS, &config) || nvmearb_ctrl_add_sq_region(&ctrl, 3, COMMANDS, &number) ||
+        nvmearb_ctrl_add_cq_region(&ctrl, 4, COMMANDS, &number)) {
+        give_up();
+    }
+    put_entry(bytes, NVMEARB_OPC_CREATE_CQ, 4, (COMMANDS - 1) << 16 | 1, 1);
+    submit(0, 1, bytes);
+    serve(0, 1);
+    put_entry(bytes, NVMEARB_OPC_CREATE_SQ, 3, (COMMANDS - 1) << 16 | 1, 0x10001);
+    submit(0, 2, bytes);
+    serve(0, 2);
+    put_entry(bytes, NVMEARB_OPC_READ, 0, 0, 0);
+    begun = now();
+    for (unsigned long n = 0; n < count; n += batch) {
+        tail = (uint16_t)((tail + batch) % COMMANDS);
+        submit(1, tail, bytes);
+        serve(1, tail);
+    }
+    tell(what);
+}
+
 int main(int words, char **word)
 {
     count = words > 1 ? strtoul(word[1], NULL, 10) : 0;
@@ -123,5 +185,8 @@ int main(int words, char **word)
     applies(0x0a, 0, 0x01, 0, "table, get features: entries");
     applies(0x09, 0, 0x01, 0x03010001, "table, set features: entries");
     applies(0x01, 99, 0x00070010, 0x00010001, "table, create refused: entries");
+    commands(NVMEARB_ROUND_ROBIN, 1, "controller, round robin, 1 at a time: commands");
+    commands(NVMEARB_ROUND_ROBIN, 32, "controller, round robin, 32 at a time: commands");
+    commands(NVMEARB_WEIGHTED, 32, "controller, weighted, 32 at a time: commands");
     return 0;
 }
