@@ -35,7 +35,7 @@ is_ctrl s = s.mark == MARK
 abbrev pub has_slots : CtrlState → List Slot → Bool
 has_slots s slots = length slots == s.count
 
--- what each call asks of its caller and keeps: with these slots a controller that was made is one that its calls made. The caller writes into neither
+-- what the calls ask of their caller and keep: with these slots a controller that was made is one that its calls made. The caller writes into neither
 pub record IsKept (s : CtrlState) (slots : List Slot) : Type 0 where
   pub front : is_ctrl s ≡ true → has_slots s slots ≡ true → IsController s.ctrl slots
 
