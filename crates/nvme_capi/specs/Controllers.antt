@@ -73,7 +73,7 @@ device_answer f dw0 = record { status = code_of f; dw0 = dw0 }
 pub record HasPostedBytes (rules : FrontRules) (late : Bool) (notes : Notes) (region : ℕ) (f : PostFields) (c : Controller) (slots : List Slot) : Type 0 where
   pub cqe : Cqe
   pub layout : IsCompletionEntry f.bytes cqe
-  pub posted : HasPosted rules late notes region f.slot cqe c slots
+  pub posted : HasPosted rules late notes region f.slot cqe f.cookie c slots
 
 -- they are those of the command in the slot of the tag
 pub record IsPostIn (slots : List Slot) (f : PostFields) : Type 0 where

@@ -7,7 +7,8 @@ ghost use Rattle.nvme_log.specs.declared.place.Place.{Place};
 ghost use Rattle.nvme_admin.specs.declared.bounds.TheConstants.{MAX_REGIONS};
 ghost use Rattle.nvme_ctrl.specs.Notes.{Notes, logged};
 ghost use Rattle.nvme_ctrl.specs.Standing.{Stands};
-ghost use Rattle.nvme_ctrl.specs.Tags.{is_out, holder};
+ghost use Rattle.nvme_log.specs.Dispatches.{dispatched};
+ghost use Rattle.nvme_ctrl.specs.Tags.{is_out, holder, taken, cookie_of};
 ghost use Rattle.nvme_ctrl.specs.Calls.{HasTaken, HasAnswered};
 ghost use Rattle.nvme_ctrl.specs.Steps.{IsNextPick, HasStepped, NoneFinishable, HasFinished};
 ghost use Rattle.nvme_ctrl.specs.Posts.{NonePostable};
@@ -123,8 +124,10 @@ pub extern "C" fn nvmearb_ctrl_take(
     ensures bad_state { (result ≡ BAD_STATE) ↔ IsFalse (is_ctrl state.old) }
     ensures bad_argument { (result ≡ BAD_ARGUMENT) ↔ (IsTrue (is_ctrl state.old) × IsFalse (has_slots state.old slots.old)) }
     ensures answer { (result ≡ OK) ⊎ ((result ≡ NOTHING) ⊎ ((result ≡ BAD_ARGUMENT) ⊎ (result ≡ BAD_STATE))) }
+    ensures nothing { (rules : FrontRules) (late : Bool) (notes : Notes) → Stands rules late notes state.old.ctrl slots.old → result ≡ NOTHING → dispatched (logged notes) ≡ taken notes }
     ensures stands { (rules : FrontRules) (late : Bool) (notes : Notes) → Stands rules late notes state.old.ctrl slots.old → result ≡ OK → HasTaken rules late notes command.new.tag state.new.ctrl slots.new }
     ensures command { result ≡ OK → IsCommandIn slots.new command.new.tag command.new }
+    ensures cookie { result ≡ OK → (rules : FrontRules) (late : Bool) (notes : Notes) → Stands rules late notes state.new.ctrl slots.new → (place : Place) → holder notes command.new.tag ≡ Some place → is_out notes command.new.tag ≡ true → cookie_of notes place.region place.index ≡ Some command.new.cookie }
     ensures entry { result ≡ OK → (rules : FrontRules) (late : Bool) (notes : Notes) → Stands rules late notes state.new.ctrl slots.new → (place : Place) → holder notes command.new.tag ≡ Some place → is_out notes command.new.tag ≡ true → entry_at (logged notes) place.region place.index ≡ Some command.new.entry }
     ensures unchanged { result ≢ OK → (state.new ≡ state.old) × ((slots.new ≡ slots.old) × (command.new ≡ command.old)) }
 {

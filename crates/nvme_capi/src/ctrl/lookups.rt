@@ -6,7 +6,7 @@ ghost use Rattle.nvme_log.specs.Places.{entry_at, waiting};
 ghost use Rattle.nvme_log.specs.declared.place.Place.{Place};
 ghost use Rattle.nvme_ctrl.specs.Notes.{Notes, logged};
 ghost use Rattle.nvme_ctrl.specs.Standing.{Stands};
-ghost use Rattle.nvme_ctrl.specs.Tags.{is_out, holder};
+ghost use Rattle.nvme_ctrl.specs.Tags.{is_out, holder, cookie_of};
 ghost use Rattle.nvme_ctrl.specs.declared.slot.Slot.{Slot};
 ghost use Rattle.nvme_capi.specs.Controllers.{is_ctrl, has_slots, IsCommandIn};
 
@@ -28,6 +28,7 @@ pub extern "C" fn nvmearb_ctrl_command(
     ensures nothing { (rules : FrontRules) (late : Bool) (notes : Notes) → Stands rules late notes state.now.ctrl slots.now → result ≡ NOTHING → is_out notes tag ≡ false }
     ensures out { (rules : FrontRules) (late : Bool) (notes : Notes) → Stands rules late notes state.now.ctrl slots.now → result ≡ OK → is_out notes tag ≡ true }
     ensures entry { (rules : FrontRules) (late : Bool) (notes : Notes) → Stands rules late notes state.now.ctrl slots.now → result ≡ OK → (place : Place) → holder notes tag ≡ Some place → entry_at (logged notes) place.region place.index ≡ Some command.new.entry }
+    ensures cookie { (rules : FrontRules) (late : Bool) (notes : Notes) → Stands rules late notes state.now.ctrl slots.now → result ≡ OK → (place : Place) → holder notes tag ≡ Some place → cookie_of notes place.region place.index ≡ Some command.new.cookie }
     ensures command { result ≡ OK → IsCommandIn slots.now tag command.new }
     ensures unchanged { result ≢ OK → command.new ≡ command.old }
 {

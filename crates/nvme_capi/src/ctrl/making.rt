@@ -6,7 +6,7 @@ ghost use Rattle.nvme_log.specs.Rules.{FrontRules, sq_regions_of, cq_regions_of}
 ghost use Rattle.nvme_ctrl.specs.Notes.{Notes};
 ghost use Rattle.nvme_ctrl.specs.Standing.{Stands, IsController};
 ghost use Rattle.nvme_ctrl.specs.Calls.{window_limit};
-ghost use Rattle.nvme_ctrl.specs.Making.{admin_fault, with_region, is_late};
+ghost use Rattle.nvme_ctrl.specs.Making.{admin_fault, adding_fault, with_region, is_late};
 ghost use Rattle.nvme_ctrl.specs.declared.slot.Slot.{Slot};
 ghost use Rattle.nvme_capi.specs.Controllers.{is_ctrl, is_config, IsMadeOf, IsKept};
 
@@ -88,6 +88,10 @@ pub extern "C" fn nvmearb_ctrl_add_sq_region(
 ) -> u32
     ensures bad_state { (result ≡ BAD_STATE) ↔ IsFalse (is_ctrl state.old) }
     ensures answer { (result ≡ OK) ⊎ ((result ≡ BAD_STATE) ⊎ ((result ≡ USED) ⊎ ((result ≡ TOO_MANY) ⊎ (result ≡ BAD_SIZE)))) }
+    ensures used { (rules : FrontRules) (late : Bool) (notes : Notes) (pool : List Slot) → Stands rules late notes state.old.ctrl pool → result ≡ USED → adding_fault Submission address slots rules ≡ Some Used }
+    ensures too_many { (rules : FrontRules) (late : Bool) (notes : Notes) (pool : List Slot) → Stands rules late notes state.old.ctrl pool → result ≡ TOO_MANY → adding_fault Submission address slots rules ≡ Some TooMany }
+    ensures size { (rules : FrontRules) (late : Bool) (notes : Notes) (pool : List Slot) → Stands rules late notes state.old.ctrl pool → result ≡ BAD_SIZE → adding_fault Submission address slots rules ≡ Some Size }
+    ensures added { (rules : FrontRules) (late : Bool) (notes : Notes) (pool : List Slot) → Stands rules late notes state.old.ctrl pool → result ≡ OK → adding_fault Submission address slots rules ≡ None }
     ensures number { (rules : FrontRules) (late : Bool) (notes : Notes) (pool : List Slot) → Stands rules late notes state.old.ctrl pool → result ≡ OK → number.new ≡ length (sq_regions_of rules) }
     ensures stands { (rules : FrontRules) (late : Bool) (notes : Notes) (pool : List Slot) → Stands rules late notes state.old.ctrl pool → result ≡ OK → Stands (with_region Submission address slots rules) (is_late late notes) notes state.new.ctrl pool }
     ensures window { window_limit state.new.ctrl ≡ window_limit state.old.ctrl }
@@ -116,6 +120,10 @@ pub extern "C" fn nvmearb_ctrl_add_cq_region(
 ) -> u32
     ensures bad_state { (result ≡ BAD_STATE) ↔ IsFalse (is_ctrl state.old) }
     ensures answer { (result ≡ OK) ⊎ ((result ≡ BAD_STATE) ⊎ ((result ≡ USED) ⊎ ((result ≡ TOO_MANY) ⊎ (result ≡ BAD_SIZE)))) }
+    ensures used { (rules : FrontRules) (late : Bool) (notes : Notes) (pool : List Slot) → Stands rules late notes state.old.ctrl pool → result ≡ USED → adding_fault Completion address slots rules ≡ Some Used }
+    ensures too_many { (rules : FrontRules) (late : Bool) (notes : Notes) (pool : List Slot) → Stands rules late notes state.old.ctrl pool → result ≡ TOO_MANY → adding_fault Completion address slots rules ≡ Some TooMany }
+    ensures size { (rules : FrontRules) (late : Bool) (notes : Notes) (pool : List Slot) → Stands rules late notes state.old.ctrl pool → result ≡ BAD_SIZE → adding_fault Completion address slots rules ≡ Some Size }
+    ensures added { (rules : FrontRules) (late : Bool) (notes : Notes) (pool : List Slot) → Stands rules late notes state.old.ctrl pool → result ≡ OK → adding_fault Completion address slots rules ≡ None }
     ensures number { (rules : FrontRules) (late : Bool) (notes : Notes) (pool : List Slot) → Stands rules late notes state.old.ctrl pool → result ≡ OK → number.new ≡ length (cq_regions_of rules) }
     ensures stands { (rules : FrontRules) (late : Bool) (notes : Notes) (pool : List Slot) → Stands rules late notes state.old.ctrl pool → result ≡ OK → Stands (with_region Completion address slots rules) (is_late late notes) notes state.new.ctrl pool }
     ensures window { window_limit state.new.ctrl ≡ window_limit state.old.ctrl }

@@ -107,7 +107,7 @@ pub extern "C" fn nvmearb_ctrl_fetched(
     ensures bad_argument { (result ≡ BAD_ARGUMENT) ↔ (IsTrue (is_ctrl state.old) × IsFalse (has_slots state.old slots.old)) }
     ensures answer { (result ≡ OK) ⊎ ((result ≡ NOTHING) ⊎ ((result ≡ BAD_ARGUMENT) ⊎ (result ≡ BAD_STATE))) }
     ensures nothing { (rules : FrontRules) (late : Bool) (notes : Notes) → Stands rules late notes state.old.ctrl slots.old → result ≡ NOTHING → (slot : ℕ) → MayFetch rules notes (window_limit state.old.ctrl) (length slots.old) qid slot → ⊥ }
-    ensures stands { (rules : FrontRules) (late : Bool) (notes : Notes) → Stands rules late notes state.old.ctrl slots.old → result ≡ OK → (entry : Sqe) → IsSubmissionEntry bytes.now entry → HasFetched rules late notes qid entry state.new.ctrl slots.new }
+    ensures stands { (rules : FrontRules) (late : Bool) (notes : Notes) → Stands rules late notes state.old.ctrl slots.old → result ≡ OK → (entry : Sqe) → IsSubmissionEntry bytes.now entry → HasFetched rules late notes qid entry cookie state.new.ctrl slots.new }
     ensures window { window_limit state.new.ctrl ≡ window_limit state.old.ctrl }
     ensures unchanged { result ≢ OK → (state.new ≡ state.old) × (slots.new ≡ slots.old) }
 {

@@ -20,9 +20,10 @@ pub returns-in-Some-post-clause-stands : goal.returns-in-Some-post-clause-stands
 returns-in-Some-post-clause-stands c = λ rules late notes s _. record {
   cqe = c.in-Some-post.it.cqe;
   layout = c.fields_of_post.ensures.layout;
-  posted = subst (λ (slot : ℕ). HasPosted rules late notes c.args.region slot c.in-Some-post.it.cqe c.post.new.self c.post.new.slots) (sym c.fields_of_post.ensures.slot)
-      (subst (λ (x : ℕ). HasPosted rules late notes x c.in-Some-post.it.slot c.in-Some-post.it.cqe c.post.new.self c.post.new.slots) c.in-Some.ensures.some
-      (c.in-Some-post.ensures.stands rules late notes s));
+  posted = subst (λ (slot : ℕ). HasPosted rules late notes c.args.region slot c.in-Some-post.it.cqe c.fields_of_post.result.cookie c.post.new.self c.post.new.slots) (sym c.fields_of_post.ensures.slot)
+      (subst (λ (kept : ℕ). HasPosted rules late notes c.args.region c.in-Some-post.it.slot c.in-Some-post.it.cqe kept c.post.new.self c.post.new.slots) (sym c.fields_of_post.ensures.cookie)
+      (subst (λ (x : ℕ). HasPosted rules late notes x c.in-Some-post.it.slot c.in-Some-post.it.cqe c.in-Some-post.it.cookie c.post.new.self c.post.new.slots) c.in-Some.ensures.some
+      (c.in-Some-post.ensures.stands rules late notes s)));
 }
 
 pub returns-in-None-clause-bad_argument : goal.returns-in-None-clause-bad_argument

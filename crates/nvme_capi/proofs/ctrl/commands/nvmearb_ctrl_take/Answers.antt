@@ -9,3 +9,6 @@ returns-in-Some-clause-stands c = λ rules late notes s _. c.in-Some.ensures.sta
 
 pub returns-in-None-clause-unchanged : goal.returns-in-None-clause-unchanged
 returns-in-None-clause-unchanged c = λ _. (let h = c.take.ensures.none c.in-None.is in ((λ i. record c.args.state.now { ctrl = h.0 i }), (h.1, refl)))
+
+pub returns-in-None-clause-nothing : goal.returns-in-None-clause-nothing
+returns-in-None-clause-nothing c = λ rules late notes s _. c.take.ensures.told rules late notes s c.in-None.is

@@ -9,3 +9,6 @@ returns-clause-out c = λ rules late notes s _. sym (c.is_out.ensures rules late
 
 pub returns-clause-entry : goal.returns-clause-entry
 returns-clause-entry c = λ rules late notes s _ place held. c.entry.ensures.out rules late notes s place held (sym (c.is_out.ensures rules late notes s) ∙ c.if-not-is_out.false)
+
+pub returns-clause-cookie : goal.returns-clause-cookie
+returns-clause-cookie c = λ rules late notes s _ place held. c.cookie.ensures.out rules late notes s place held (sym (c.is_out.ensures rules late notes s) ∙ c.if-not-is_out.false)

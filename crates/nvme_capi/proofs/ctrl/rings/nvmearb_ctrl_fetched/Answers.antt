@@ -8,7 +8,7 @@ fetched-requires c = record { front = c.requires.kept.front (sym c.is_ctrl.ensur
 
 pub returns-then-fetched-clause-stands : goal.returns-then-fetched-clause-stands
 returns-then-fetched-clause-stands c = λ rules late notes s _ entry is.
-    subst (λ (x : Sqe). HasFetched rules late notes c.args.qid x c.fetched.new.self c.fetched.new.slots)
+    subst (λ (x : Sqe). HasFetched rules late notes c.args.qid x c.args.cookie c.fetched.new.self c.fetched.new.slots)
     (c.submission_layout_is_exact.ensures.one_entry c.args.bytes.now c.from_bytes.result entry c.from_bytes.ensures.layout is)
     (c.fetched.ensures.stands rules late notes s c.if-fetched.true)
 
