@@ -3,6 +3,9 @@
 
 ghost use Rattle.std.specs.Prelude.{◌≡◌, ◌≤◌};
 
+mod kept;
+
+use kept::Kept;
 use nvme_sim::{Errors, Output, command, file_named, flushed, output_named};
 use std::cell::Cell;
 use std::io::{BufWriter, ErrorKind, Write};
@@ -21,15 +24,22 @@ fn words_of(rt: &HostRuntime) -> io::Result<Vec<String>> {
     Ok(env::args(rt)?.collect(rt.alloc())?)
 }
 
-// Writes that a file can't be opened. The answer is the exit status.
-fn unopened<E: Write>(name: &str, error: &io::Error, errors: &mut E) -> u8
+// Writes that memory was refused. The answer is the exit status.
+fn no_memory<E: Write>(errors: &mut E) -> u8
     ensures { result ≡ 3 }
 {
-    let _ = if error.kind() == ErrorKind::OutOfMemory {
-        writeln!(errors, "nvmearb: out of memory")
-    } else {
-        writeln!(errors, "nvmearb: open failed: {name:?}: {error}")
-    };
+    let _ = writeln!(errors, "nvmearb: out of memory");
+    3
+}
+
+// Writes that a file can't be opened, or written. The answer is the exit status.
+fn failed<E: Write>(what: &str, name: &str, error: &io::Error, errors: &mut E) -> u8
+    ensures { result ≡ 3 }
+{
+    if error.kind() == ErrorKind::OutOfMemory {
+        return no_memory(errors);
+    }
+    let _ = writeln!(errors, "nvmearb: {what} failed: {name:?}: {error}");
     3
 }
 
@@ -46,12 +56,9 @@ fn served<R: AllocGlobal + Files + Input + Threads + Wait + Sync, W: Write, E: W
         Ok(None) => command(rt, rt.alloc(), words, rt.reader(), output, errors),
         Ok(Some(name)) => match fs::open(rt, name) {
             Ok(file) => command(rt, rt.alloc(), words, file, output, errors),
-            Err(error) => unopened(name, &error, errors),
+            Err(error) => failed("open", name, &error, errors),
         },
-        Err(_) => {
-            let _ = writeln!(errors, "nvmearb: out of memory");
-            3
-        }
+        Err(_) => no_memory(errors),
     }
 }
 
@@ -71,17 +78,17 @@ fn saved<R: AllocGlobal + Files + Input + Threads + Wait + Sync, E: Write>(
 ) -> u8
     ensures { result ≤ 4 }
 {
-    let mut answer = Vec::new(rt.alloc());
-    let status = served(rt, words, &mut answer, errors);
+    let mut kept = Kept::new(rt.alloc());
+    let status = served(rt, words, &mut kept, errors);
     if status != 0 {
         return status;
     }
-    match write_to(rt, name, answer.as_slice()) {
+    let Some(answer) = kept.answer() else {
+        return no_memory(errors);
+    };
+    match write_to(rt, name, answer) {
         Ok(()) => 0,
-        Err(error) => {
-            let _ = writeln!(errors, "nvmearb: write failed: {name:?}: {error}");
-            3
-        }
+        Err(error) => failed("write", name, &error, errors),
     }
 }
 
@@ -99,16 +106,12 @@ where
     let is_unread = Cell::new(false);
     let mut errors = Errors::new(errors, &is_unread);
     let Ok(mut output) = BufWriter::new(rt.alloc(), Output::new(output, &is_unread)) else {
-        let _ = writeln!(errors, "nvmearb: out of memory");
-        return 3;
+        return no_memory(&mut errors);
     };
     let status = match output_named(rt.alloc(), words) {
         Ok(None) => served(rt, words, &mut output, &mut errors),
         Ok(Some(name)) => saved(rt, words, name, &mut errors),
-        Err(_) => {
-            let _ = writeln!(errors, "nvmearb: out of memory");
-            3
-        }
+        Err(_) => no_memory(&mut errors),
     };
     let status = flushed(status, &mut output, &mut errors);
     // After a failed write the rest isn't written.
