@@ -182,6 +182,13 @@ module _ (rules : FrontRules) (late : Bool) (notes : Notes) (c : Controller) (po
   pub cq-fault : region_fault (view_of c.table) (view_of c.table).cq_regions a n ≡ adding_fault Completion a n rules
   cq-fault = λ i. region_fault (record (view_of c.table) { sq_regions = table_sqs i; cq_regions = table_cqs i }) (table_cqs i) a n
 
+  -- and where it refuses nothing, neither do they
+  pub sq-no_fault : region_fault (view_of c.table) (view_of c.table).sq_regions a n ≡ None → adding_fault Submission a n rules ≡ None
+  sq-no_fault none = sym sq-fault ∙ none
+
+  pub cq-no_fault : region_fault (view_of c.table) (view_of c.table).cq_regions a n ≡ None → adding_fault Completion a n rules ≡ None
+  cq-no_fault none = sym cq-fault ∙ none
+
 -- ---- a submission region more
 -- the state of the region, of which nothing was submitted
 abbrev pub begun_sq : Controller → ℕ → ℕ → SqState

@@ -93,10 +93,13 @@ impl Controller {
         effect
     }
 
-    /// Makes the next pick of arbitration, if there is one and its places are free.
+    /// Makes the next pick of arbitration, if there is one and its places are free. Where it makes none, nothing changes.
     pub fn pick(&mut self, slots: &mut [Slot]) -> Step
         requires front { IsController self.old slots.old }
         ensures front { IsController self.new slots.new }
+        ensures idle { result ≡ step.Idle → (self.new ≡ self.old) × (slots.new ≡ slots.old) }
+        ensures busy { result ≡ step.Busy → (self.new ≡ self.old) × (slots.new ≡ slots.old) }
+        ensures full { result ≡ step.Full → (self.new ≡ self.old) × (slots.new ≡ slots.old) }
         ensures stands { (rules : FrontRules) (late : Bool) (notes : Notes) → Stands rules late notes self.old slots.old → HasStepped rules late notes result self.new slots.new }
     {
         if self.picked != 0 || self.deletion.pending != 0 {

@@ -75,9 +75,7 @@ pub extern "C" fn nvmearb_ctrl_pick(
     ensures carried_out { (rules : FrontRules) (late : Bool) (notes : Notes) → Stands rules late notes state.old.ctrl slots.old → result ≡ OK → step.new.kind ≡ CARRIED_OUT → HasToldWhat rules late notes step.new.answer state.new.ctrl slots.new }
     ensures kinds { result ≡ OK → (step.new.kind ≡ PICKED) ⊎ (step.new.kind ≡ CARRIED_OUT) }
     ensures answer { (result ≡ OK) ⊎ ((result ≡ NOTHING) ⊎ ((result ≡ BUSY) ⊎ ((result ≡ FULL) ⊎ ((result ≡ BAD_ARGUMENT) ⊎ (result ≡ BAD_STATE))))) }
-    ensures wrong_state { result ≡ BAD_STATE → (state.new ≡ state.old) × (slots.new ≡ slots.old) }
-    ensures wrong_slots { result ≡ BAD_ARGUMENT → (state.new ≡ state.old) × (slots.new ≡ slots.old) }
-    ensures unwritten { result ≢ OK → step.new ≡ step.old }
+    ensures unchanged { result ≢ OK → (state.new ≡ state.old) × ((slots.new ≡ slots.old) × (step.new ≡ step.old)) }
 {
     if !is_ctrl(state) {
         return BAD_STATE;

@@ -1,4 +1,4 @@
-use Rattle.std.proofs.Common.{◌∙◌, sym, ap, subst}
+use Rattle.std.proofs.Common.{◌∙◌, refl, sym, ap, subst}
 use Rattle.nvme_ctrl.specs.declared.picks.Step.{Step}
 use Rattle.nvme_ctrl.specs.declared.picks.Step.TheVariants as made
 use Rattle.nvme_arbiter.specs.declared.pick.Pick.{Pick}
@@ -30,3 +30,12 @@ returns-in-Done-clause-carried_out c = λ rules late notes s _ _. record {
   told_is = c.answer_of.ensures ∙ ap answer_of c.verdict.ensures;
   carried_out = subst (λ (it : Step). HasStepped rules late notes it c.pick.new.self c.pick.new.slots) c.in-Done.is (c.pick.ensures.stands rules late notes s);
 }
+
+pub returns-in-Idle-clause-unchanged : goal.returns-in-Idle-clause-unchanged
+returns-in-Idle-clause-unchanged c = λ _. (let h = c.pick.ensures.idle c.in-Idle.is in ((λ i. record c.args.state.now { ctrl = h.0 i }), (h.1, refl)))
+
+pub returns-in-Busy-clause-unchanged : goal.returns-in-Busy-clause-unchanged
+returns-in-Busy-clause-unchanged c = λ _. (let h = c.pick.ensures.busy c.in-Busy.is in ((λ i. record c.args.state.now { ctrl = h.0 i }), (h.1, refl)))
+
+pub returns-in-Full-clause-unchanged : goal.returns-in-Full-clause-unchanged
+returns-in-Full-clause-unchanged c = λ _. (let h = c.pick.ensures.full c.in-Full.is in ((λ i. record c.args.state.now { ctrl = h.0 i }), (h.1, refl)))

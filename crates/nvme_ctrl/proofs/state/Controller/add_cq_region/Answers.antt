@@ -7,7 +7,7 @@ use Rattle.nvme_ctrl.specs.Rings.{HasCounts}
 use Rattle.nvme_ctrl.specs.declared.ring.Ring.{Ring}
 use Rattle.nvme_ctrl.specs.declared.state.Controller.{Controller}
 use Rattle.nvme_ctrl.specs.kept.Kept.{StandsAt}
-use Rattle.nvme_ctrl.proofs.AddCalls.{cq_region-stands, cq-fault}
+use Rattle.nvme_ctrl.proofs.AddCalls.{cq_region-stands, cq-no_fault}
 use Rattle.nvme_ctrl.proofs.state.Controller.add_cq_region.Goals as goal
 
 pub returns-clause-stands : goal.returns-clause-stands
@@ -31,4 +31,4 @@ returns-in_err-region-clause-front c pool i =
     subst (λ (t : TableFields). IsController (record c.args.self.now { table = t }) pool) (sym c.in_err-region.ensures.unchanged) i
 
 pub returns-clause-added : goal.returns-clause-added
-returns-clause-added c rules late notes pool s = sym (cq-fault rules late notes c.args.self.now pool s c.args.address c.args.slots) ∙ c.in_ok-region.ensures.added
+returns-clause-added c rules late notes pool s = cq-no_fault rules late notes c.args.self.now pool s c.args.address c.args.slots c.in_ok-region.ensures.added
