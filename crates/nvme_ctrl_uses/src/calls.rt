@@ -245,9 +245,10 @@ fn device_answers_in_any_order(rt: HostRuntime) -> Result<(), Fail> {
     let mut slots = [Slot::free(); 16];
     let mut ctrl = prepared(&rt, Mechanism::RoundRobin, &mut slots)?;
     fill(&rt, &mut ctrl, &mut slots, 20);
-    let Some([first, second, third]) = take_three(&rt, &mut ctrl, &mut slots) else {
+    let Some(tags) = take_three(&rt, &mut ctrl, &mut slots) else {
         return Err(Fail::from(AllocError));
     };
+    let [first, second, third] = tags;
     assert!(rt; ctrl.complete(&mut slots, third, DONE));
     // (and once)
     assert!(rt; !ctrl.complete(&mut slots, third, DONE));
