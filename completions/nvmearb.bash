@@ -17,7 +17,7 @@ _nvmearb() {
                 case ${COMP_WORDS[1]} in
                     run | trace) words="--live --workers --help" files=toml ;;
                     lint | expand) words="--help" files=toml ;;
-                    check) words="--spec --help" files=any ;;
+                    check) words="--spec --all --help" files=any ;;
                     chart) words="--from --to --output --help" files=any ;;
                     stats) words="--from --to --backlogged --window --format --help" files=any ;;
                     loaded | live) words="--workers --help" ;;

@@ -23,6 +23,7 @@ complete -c nvmearb -n "not __fish_seen_subcommand_from $all" -a help -d 'Print 
 complete -c nvmearb -n '__fish_seen_subcommand_from run trace' -l live -d 'Let the hosts submit while the front works'
 complete -c nvmearb -n '__fish_seen_subcommand_from run trace loaded live' -l workers -x -a '1 2 3 4 5 6 7 8' -d 'Number of workers'
 complete -c nvmearb -n '__fish_seen_subcommand_from check' -l spec -d 'Judge by what the specification alone asks'
+complete -c nvmearb -n '__fish_seen_subcommand_from check' -l all -d 'Tell all picks that differ'
 complete -c nvmearb -n '__fish_seen_subcommand_from stats' -l format -x -a 'text json csv' -d 'How the numbers are written'
 complete -c nvmearb -n '__fish_seen_subcommand_from stats' -l backlogged -d 'Count only picks at which each I/O queue has waiting commands'
 complete -c nvmearb -n '__fish_seen_subcommand_from stats' -l window -x -d 'Tell shares by windows of so many picks'

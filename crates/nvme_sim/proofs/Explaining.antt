@@ -1,11 +1,11 @@
 -- What holds of an answer holds of it with its fault explained.
-use Rattle.std.proofs.Common.{◌≡◌, ◌⊎◌, ◌∙◌, List, Option, Result, Ok, Err, inl, inr, sym, ap}
+use Rattle.std.proofs.Common.{◌≡◌, ◌⊎◌, ◌∙◌, Result, Ok, Err, inl, inr, sym, ap}
 use Rattle.std.specs.Prelude.{IfErr, OnOk}
 use Rattle.nvme_runs.specs.declared.runs.RunError.TheVariants as run
 use Rattle.nvme_sim.specs.Statuses.{status_of}
 use Rattle.nvme_sim.specs.declared.faults.Fault.{Fault}
 use Rattle.nvme_sim.specs.declared.faults.Fault.TheVariants as fault
-use Rattle.nvme_sim.specs.inside.Explained.{IsExplained, IsExplainedFault}
+use Rattle.nvme_sim.specs.inside.Explained.{IsExplained}
 
 pub answer_stays : {T : Type 0} (was is : Result T Fault) (x : T) → IsExplained was is → is ≡ Ok x → was ≡ Ok x
 answer_stays (Ok a) (Ok b) x same e = ap (λ y. Ok y) (sym same) ∙ e

@@ -24,15 +24,19 @@ use Rattle.nvme_trace.specs.Checks.{IsFaultBy, IsLawfulBy, IsRefusedBy}
 use Rattle.nvme_trace.specs.declared.fault.TraceError.{TraceError}
 use Rattle.nvme_trace.specs.declared.fault.TraceError.TheVariants as trace
 use Rattle.nvme_trace.specs.declared.basis.Basis.{Basis}
+use Rattle.nvme_trace.specs.declared.basis.Basis.TheVariants.{Profile}
+use Rattle.nvme_trace.specs.Surveys.{AreNone, IsSurvey}
+use Rattle.nvme_trace.specs.declared.survey.Survey.{Survey}
+use Rattle.nvme_trace.proofs.SurveyLemmas.{lawful_survey}
 use Rattle.nvme_trace.specs.declared.judges.Reason.{Reason}
 use Rattle.nvme_trace.specs.declared.records.Head.{Head}
-use Rattle.nvme_stats.specs.Shown.{IsReadFault, IsShown}
+use Rattle.nvme_trace.specs.Shown.{IsReadFault, IsShown}
 use Rattle.nvme_lint.specs.Lints.{IsLawful}
 use Rattle.nvme_lint.specs.Warnings.{AreWarningsOf}
 use Rattle.nvme_lint.specs.declared.warning.Warning.{Warning}
 use Rattle.nvme_sim.specs.declared.faults.Fault.{Fault}
-use Rattle.nvme_sim.specs.Answers.{Appended, AppendedPart, FailsToCheck, HasAnswer, HasReport, HasWorkload}
-use Rattle.nvme_sim.specs.Inputs.{HasNoWarning, HasWarnings, IsBadInput, IsBadTrace, IsFaultyShown, IsFaultyTrace, IsJudgedBy, IsRefusedCheck, IsRefusedTrace, IsToldBy, IsTrace, lawful_line}
+use Rattle.nvme_sim.specs.Answers.{Appended, AppendedPart, FailsToCheck, FailsToSurvey, HasAnswer, HasReport, HasWorkload}
+use Rattle.nvme_sim.specs.Inputs.{AsksForMore, HasNoWarning, HasWarnings, IsBadInput, IsBadTrace, IsDiffering, IsFaultyShown, IsFaultyTrace, IsJudgedBy, IsRefusedCheck, IsRefusedTrace, IsToldBy, IsTrace, lawful_line}
 use Rattle.nvme_short.specs.declared.told.ShortFault.{ShortFault}
 use Rattle.nvme_short.specs.declared.expansion.ExpandError.TheVariants as short
 use Rattle.nvme_short.specs.Expansion.{StandsFor, TellsShortFault}
@@ -210,6 +214,28 @@ told_refused basis contents old new input (Ok x) h = tt
 told_refused basis contents old new None (Err e) h = inr tt
 told_refused basis contents old new (Some text) (Err e) h = inr (inr h)
 
+-- the same where all picks are judged
+pub told_in_part_of_all : {W T : Type 0} (contents : W → Option (List ℕ)) (old new : W) (input : Option (List ℕ)) (picks : ℕ) (result : Result T Fault)
+    → IfSome input (λ text. IsLawfulBy Profile text picks) → IfErr result (λ e. AppendsPrefix (contents old) (contents new) (lawful_line picks))
+    → IfErr result (λ e. (new ≡ old) ⊎ IfSome input (FailsToSurvey contents old new))
+told_in_part_of_all contents old new input picks (Ok x) h w = tt
+told_in_part_of_all contents old new None picks (Err e) h w = inr tt
+told_in_part_of_all contents old new (Some text) picks (Err e) h w = inr (inl (picks, h, w))
+
+pub told_differing : {W T : Type 0} (contents : W → Option (List ℕ)) (old new : W) (input : Option (List ℕ)) (result : Result T Fault) → IfSome input IsDiffering
+    → IfErr result (λ e. (new ≡ old) ⊎ IfSome input (FailsToSurvey contents old new))
+told_differing contents old new input (Ok x) h = tt
+told_differing contents old new None (Err e) h = inr tt
+told_differing contents old new (Some text) (Err e) h = inr (inr h)
+
+pub differing : (input : Option (List ℕ)) (survey : Survey) → IfSome input (λ text. IsSurvey text survey) → (AreNone survey.counts → ⊥) → IfSome input IsDiffering
+differing None survey h n = tt
+differing (Some text) survey h n = (survey, h, n)
+
+pub lawful_by_survey : (input : Option (List ℕ)) (survey : Survey) → IfSome input (λ text. IsSurvey text survey) → AreNone survey.counts → IfSome input (λ text. IsLawfulBy Profile text survey.picks)
+lawful_by_survey None survey h n = tt
+lawful_by_survey (Some text) survey h n = lawful_survey text survey h n
+
 -- a trace has a pick that isn't allowed
 pub refused_trace : (basis : Basis) (input : Option (List ℕ)) (line : ℕ) (quoted : List ℕ) (reason : Reason) → IfSome input (λ text. IsRefusedBy basis text line quoted reason) → IfSome input (IsRefusedTrace basis)
 refused_trace basis None line quoted reason h = tt
@@ -236,7 +262,10 @@ pub bad_shown : (words : List (String Global)) (bytes : List ℕ) → shows_trac
 bad_shown words bytes asked bad = inr (inr (inr (inl (asked, bad))))
 
 pub bad_file_read : (words : List (String Global)) (bytes : List ℕ) → reads_file words ≡ true → IsBadFile bytes → IsBadInput words bytes
-bad_file_read words bytes asked bad = inr (inr (inr (inr (asked, bad))))
+bad_file_read words bytes asked bad = inr (inr (inr (inr (inl (asked, bad)))))
+
+pub bad_all : (words : List (String Global)) (bytes : List ℕ) → AsksForMore words → IsFaultyShown bytes ⊎ IsDiffering bytes → IsBadInput words bytes
+bad_all words bytes asked bad = inr (inr (inr (inr (inr (asked, bad)))))
 
 pub faulty_is_bad : (basis : Basis) (bytes : List ℕ) → IsFaultyTrace basis bytes → IsBadTrace basis bytes
 faulty_is_bad basis bytes h = inl h
@@ -244,7 +273,8 @@ faulty_is_bad basis bytes h = inl h
 -- a check that found a pick was of a bad input
 pub bad_pick : (words : List (String Global)) (input : Option (List ℕ)) → IsRefusedCheck words input → IfSome input (IsBadInput words)
 bad_pick words None h = tt
-bad_pick words (Some bytes) h = bad_check h.0 words bytes h.1 (inr h.2)
+bad_pick words (Some bytes) (inl h) = bad_check h.0 words bytes h.1 (inr h.2)
+bad_pick words (Some bytes) (inr h) = bad_all words bytes h.0 (inr h.1)
 
 -- a choice with a true part is true
 last_of : (a b : Bool) → b ≡ true → (a || b) ≡ true
@@ -357,6 +387,7 @@ only_check words request.Expand asked a = not_both (asks (codes "expand") words)
 only_check words request.Lint asked a = not_both (asks (codes "lint") words) asked (check_is words (alone_asks (codes "check") words a) (codes "lint"))
 only_check words request.Check asked a = tt
 only_check words request.CheckSpec asked a = not_both (asks_alone (codes "check") words) a asked.1
+only_check words request.CheckAll asked a = not_both (asks_alone (codes "check") words) a asked.1
 only_check words (request.Trace mode workers) asked a = not_both (asks (codes "trace") words) asked (check_is words (alone_asks (codes "check") words a) (codes "trace"))
 only_check words (request.Chart range) asked a = not_both (shows_trace words) asked (check_shows_none words (alone_asks (codes "check") words a))
 only_check words (request.Stats numbers) asked a = not_both (shows_trace words) asked (check_shows_none words (alone_asks (codes "check") words a))

@@ -19,7 +19,7 @@ use Rattle.nvme_words.specs.Requests.{IsAnswerTo}
 use Rattle.nvme_words.specs.declared.requests.Request.{Request}
 use Rattle.nvme_words.specs.declared.requests.Request.TheVariants as request
 use Rattle.nvme_sim.specs.Files.{OfFile}
-use Rattle.nvme_sim.specs.Inputs.{HasNoWarning, HasWarnings, IsRefusedTrace, IsTrace, lawful_line, trace_of}
+use Rattle.nvme_sim.specs.Inputs.{HasNoWarning, HasWarnings, IsDiffering, IsRefusedTrace, IsTrace, lawful_line, trace_of}
 
 -- ---- the text of an answer to an input, where `came` says what was written
 
@@ -60,6 +60,7 @@ module _ {W : Type 0} (contents : W → Option (List ℕ)) (old new : W) where
   Does request.Expand bytes = OfFile (HasWorkload Appended) bytes
   Does request.Check bytes = HasLawful Appended Profile bytes
   Does request.CheckSpec bytes = HasLawful Appended Specification bytes
+  Does request.CheckAll bytes = HasLawful Appended Profile bytes
   Does (request.Trace mode workers) bytes = OfFile (HasTrace Appended mode) bytes
   Does (request.Chart range) bytes = IsTrace bytes
   Does (request.Stats numbers) bytes = IsTrace bytes
@@ -70,6 +71,10 @@ module _ {W : Type 0} (contents : W → Option (List ℕ)) (old new : W) where
   abbrev pub FailsToCheck : Basis → List ℕ → Type 0
   FailsToCheck basis bytes = HasLawful AppendedPart basis bytes ⊎ IsRefusedTrace basis bytes
 
+  -- or of a check of all picks
+  abbrev pub FailsToSurvey : List ℕ → Type 0
+  FailsToSurvey bytes = HasLawful AppendedPart Profile bytes ⊎ IsDiffering bytes
+
   -- a write of its answer failed: a prefix of the answer was written. Of the texts of warnings nothing is said either
   abbrev pub FailsToWrite : Request → List ℕ → Type 0
   FailsToWrite (request.Once blocks) bytes = HasAnswer AppendedPart blocks bytes
@@ -79,6 +84,7 @@ module _ {W : Type 0} (contents : W → Option (List ℕ)) (old new : W) where
   FailsToWrite request.Expand bytes = OfFile (HasWorkload AppendedPart) bytes
   FailsToWrite request.Check bytes = FailsToCheck Profile bytes
   FailsToWrite request.CheckSpec bytes = FailsToCheck Specification bytes
+  FailsToWrite request.CheckAll bytes = FailsToSurvey bytes
   FailsToWrite (request.Trace mode workers) bytes = OfFile (HasTrace AppendedPart mode) bytes
   FailsToWrite (request.Chart range) bytes = IsTrace bytes
   FailsToWrite (request.Stats numbers) bytes = IsTrace bytes

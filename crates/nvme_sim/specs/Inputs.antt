@@ -3,13 +3,15 @@ use Rattle.std.specs.Prelude.{◌≡◌, ◌⊎◌, ℕ, ◌==◌, if◌then◌e
 use Rattle.std.specs.Global.{Global}
 use Rattle.std.specs.Io.KnownBytes.{Appends}
 use Rattle.nvme_trace.specs.Checks.{IsFaultBy, IsLawfulBy, IsRefusedBy}
+use Rattle.nvme_trace.specs.Surveys.{AreNone, IsSurvey}
+use Rattle.nvme_trace.specs.declared.survey.Survey.{Survey}
 use Rattle.nvme_trace.specs.Text.{trace_text}
 use Rattle.nvme_trace.specs.declared.fault.LineFault.{LineFault}
 use Rattle.nvme_trace.specs.declared.fault.TraceError.TheVariants as trace
 use Rattle.nvme_trace.specs.declared.basis.Basis.{Basis}
 use Rattle.nvme_trace.specs.declared.basis.Basis.TheVariants.{Profile, Specification}
 use Rattle.nvme_trace.specs.declared.judges.Reason.{Reason}
-use Rattle.nvme_stats.specs.Shown.{IsReadFault, IsShown}
+use Rattle.nvme_trace.specs.Shown.{IsReadFault, IsShown}
 use Rattle.nvme_runs.specs.declared.runs.Ran.{Ran}
 use Rattle.nvme_lint.specs.Warnings.{AreWarningsOf}
 use Rattle.nvme_lint.specs.declared.warning.Warning.{Warning}
@@ -29,6 +31,14 @@ IsFaultyTrace basis bytes = (line : ℕ) × (fault : LineFault) × (note : Strin
 -- a trace has a pick that isn't allowed, and each pick before it is
 abbrev pub IsRefusedTrace : Basis → List ℕ → Type 0
 IsRefusedTrace basis bytes = (line : ℕ) × (quoted : List ℕ) × (reason : Reason) × IsRefusedBy basis bytes line quoted reason
+
+-- a trace has picks that aren't those of this front
+abbrev pub IsDiffering : List ℕ → Type 0
+IsDiffering bytes = (survey : Survey) × IsSurvey bytes survey × (AreNone survey.counts → ⊥)
+
+-- the words ask for a check with an option
+abbrev pub AsksForMore : List (String Global) → Type 0
+AsksForMore words = (asks (codes "check") words ≡ true) × (asks_alone (codes "check") words ≡ false)
 
 -- a trace at fault where a check is asked for
 abbrev pub IsBadTrace : Basis → List ℕ → Type 0
@@ -73,8 +83,8 @@ HasNoWarning bytes = AreWarningsOf bytes []
 abbrev pub IsBadInput : List (String Global) → List ℕ → Type 0
 IsBadInput words bytes = ((asks (codes "once") words ≡ true) × IsBadEntry bytes) ⊎ ((reads_workload words ≡ true) × IsBadWorkload bytes)
     ⊎ ((basis : Basis) × IsJudgedBy words basis × IsBadTrace basis bytes) ⊎ ((shows_trace words ≡ true) × IsFaultyShown bytes)
-    ⊎ ((reads_file words ≡ true) × IsBadFile bytes)
+    ⊎ ((reads_file words ≡ true) × IsBadFile bytes) ⊎ (AsksForMore words × (IsFaultyShown bytes ⊎ IsDiffering bytes))
 
--- the words ask for a check, and a pick of the input isn't allowed
+-- the words ask for a check, and a pick of the input isn't allowed, or isn't the one of this front
 abbrev pub IsRefusedCheck : List (String Global) → Option (List ℕ) → Type 0
-IsRefusedCheck words known = (basis : Basis) × IsJudgedBy words basis × IfSome known (IsRefusedTrace basis)
+IsRefusedCheck words known = ((basis : Basis) × IsJudgedBy words basis × IfSome known (IsRefusedTrace basis)) ⊎ (AsksForMore words × IfSome known IsDiffering)

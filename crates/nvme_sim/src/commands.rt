@@ -22,7 +22,7 @@ mod trace;
 
 use crate::faults::Fault;
 use chart::charted;
-use check::checked;
+use check::{checked, surveyed};
 use entry::answered;
 use file::{expanded, linted_file, ran_file, traced_file};
 use nvme_trace::Basis;
@@ -84,6 +84,7 @@ fn done<R: Read + Drop, W: Write, T: Threads + Wait + Sync>(
         Request::Expand => expanded(alloc, input, output),
         Request::Check => checked(alloc, Basis::Profile, input, output),
         Request::CheckSpec => checked(alloc, Basis::Specification, input, output),
+        Request::CheckAll => surveyed(alloc, input, output),
         Request::Trace(mode, workers) => traced_file(rt, alloc, mode, workers, input, output),
         Request::Chart(range) => charted(alloc, range, input, output),
         Request::Stats(numbers) => counted(alloc, numbers, input, output),

@@ -12,7 +12,7 @@ use Rattle.nvme_trace.specs.declared.fault.TraceError.TheVariants as error
 use Rattle.nvme_trace.specs.declared.records.Head.{Head}
 use Rattle.nvme_stats.specs.Chosen.{chosen, chooses, number_after}
 use Rattle.nvme_stats.specs.declared.selection.Selection.{Selection}
-use Rattle.nvme_stats.specs.Shown.{IsShown, IsReadUpTo, IsReadFault}
+use Rattle.nvme_trace.specs.Shown.{IsShown, IsReadUpTo, IsReadFault}
 
 -- this many lines were read, and this holds of what they say
 pub record IsShownUpTo (text rest : List ℕ) (number : ℕ) (head : Head) (P : History → Type 0) : Type 0 where

@@ -4,7 +4,7 @@ ghost use Rattle.nvme_arbiter.specs.History.{History, Picked, Changed};
 ghost use Rattle.nvme_trace.specs.declared.fault.TraceError.TheVariants as fault;
 ghost use Rattle.nvme_trace.specs.declared.records.Head.{Head};
 ghost use Rattle.nvme_stats.specs.Chosen.{chosen};
-ghost use Rattle.nvme_stats.specs.Shown.{IsShown, IsReadFault};
+ghost use Rattle.nvme_trace.specs.Shown.{IsShown, IsReadFault};
 ghost use Rattle.nvme_stats.specs.Counted.{IsCounted};
 
 mod object;

@@ -7,7 +7,7 @@ ghost use Rattle.nvme_trace.specs.declared.records.Head.{Head};
 ghost use Rattle.nvme_trace.specs.declared.fault.TraceError.TheVariants as fault;
 ghost use Rattle.nvme_stats.specs.Chosen.{chosen, number_after};
 ghost use Rattle.nvme_stats.specs.Counted.{capped};
-ghost use Rattle.nvme_stats.specs.Shown.{IsShown, IsReadFault};
+ghost use Rattle.nvme_trace.specs.Shown.{IsShown, IsReadFault};
 
 use crate::selection::{Chooser, Selection};
 use nvme_trace::{Trace, TraceError, TraceEvent};

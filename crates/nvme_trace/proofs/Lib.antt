@@ -12,3 +12,5 @@ pub mod TracedLines
 pub mod AccountedSettings
 pub mod TraceLaws
 pub mod Leniently
+pub mod FollowLemmas
+pub mod SurveyLemmas

@@ -9,3 +9,6 @@ pub mod Faults
 pub mod Checks
 pub mod Traces
 pub mod Bases
+pub mod Shown
+pub mod Surveys
+pub mod inside

@@ -2,6 +2,7 @@
 use crate::checks::{Checked, Refusal};
 use crate::judge::Finding;
 use crate::judges::{Breach, Reason};
+use crate::survey::{Counts, Difference, Survey};
 use nvme_arbiter::specified::Rule;
 use nvme_arbiter::{Class, Kept, Mechanism, Pick, Settings};
 use std::fmt;
@@ -202,6 +203,17 @@ fn put_breach<W: fmt::Write>(breach: &Breach, f: &mut fmt::Formatter<W>) -> fmt:
     put_settings(breach.mechanism, breach.settings, f)
 }
 
+// Writes a line of a trace.
+fn put_line<W: fmt::Write>(line: &[u8], f: &mut fmt::Formatter<W>) -> fmt::Result {
+    match std::str::from_utf8(line) {
+        Ok(text) => {
+            let text = text.trim();
+            write!(f, "\nline: {text}")
+        }
+        Err(_) => Ok(()),
+    }
+}
+
 impl fmt::Display for Refusal {
     fn fmt<W: fmt::Write>(&self, f: &mut fmt::Formatter<W>) -> fmt::Result {
         let line = self.line;
@@ -215,13 +227,45 @@ impl fmt::Display for Refusal {
                 put_breach(breach, f)?;
             }
         }
-        match std::str::from_utf8(&self.quoted) {
-            Ok(text) => {
-                let text = text.trim();
-                write!(f, "\nline: {text}")
-            }
-            Err(_) => Ok(()),
+        put_line(&self.quoted, f)
+    }
+}
+
+impl fmt::Display for Difference {
+    fn fmt<W: fmt::Write>(&self, f: &mut fmt::Formatter<W>) -> fmt::Result {
+        let line = self.line;
+        write!(f, "differs: line {line}")?;
+        put_finding(&self.finding, f)?;
+        put_line(&self.quoted, f)
+    }
+}
+
+// Writes how many picks differ in one way, unless none does.
+fn put_count<W: fmt::Write>(name: &str, count: u64, f: &mut fmt::Formatter<W>) -> fmt::Result {
+    if count == 0 {
+        return Ok(());
+    }
+    write!(f, "\n{name}: {count}")
+}
+
+// Writes how many picks differ, by kind.
+fn put_counts<W: fmt::Write>(counts: &Counts, f: &mut fmt::Formatter<W>) -> fmt::Result {
+    put_count("nothing is ready", counts.nothing_ready, f)?;
+    put_count("another queue", counts.queue, f)?;
+    put_count("another number", counts.number, f)?;
+    put_count("fresh or not", counts.fresh, f)
+}
+
+impl fmt::Display for Survey {
+    fn fmt<W: fmt::Write>(&self, f: &mut fmt::Formatter<W>) -> fmt::Result {
+        let (differing, picks) = (self.counts.all(), self.picks);
+        let plural = if picks == 1 { "" } else { "s" };
+        write!(f, "differs: {differing} of {picks} pick{plural}")?;
+        put_counts(&self.counts, f)?;
+        for difference in &self.first {
+            write!(f, "\n\n{difference}")?;
         }
+        Ok(())
     }
 }
 

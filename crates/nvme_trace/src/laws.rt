@@ -1,5 +1,6 @@
 // Laws of traces.
 ghost use Rattle.nvme_trace.specs.Checks.{LawfulTextsAreAllowed, OneAnswer};
+ghost use Rattle.nvme_trace.specs.Surveys.{LawfulSurveys};
 ghost use Rattle.nvme_trace.specs.Traces.{TracesAreReadBack, TracesAreLawful};
 
 /// A text that is lawful by the profile is lawful by the specification.
@@ -10,6 +11,11 @@ pub fn lawful_texts_are_allowed()
 /// A text has one answer: if each of its picks is allowed, none of its lines has a pick that isn't.
 pub fn texts_have_one_answer()
     ensures { OneAnswer }
+{}
+
+/// A survey that tells no pick is of a lawful text.
+pub fn surveys_of_none_are_lawful()
+    ensures { LawfulSurveys }
 {}
 
 /// Where the first settings fit their fields, as those of every `Settings` do, the trace that is written of an accounted

@@ -6,6 +6,7 @@ mod basis;
 mod checks;
 mod explanation;
 mod fault;
+mod follower;
 mod judge;
 mod judges;
 mod laws;
@@ -13,6 +14,7 @@ mod lines;
 mod names;
 mod notes;
 mod records;
+mod survey;
 mod trace;
 mod writer;
 
@@ -22,10 +24,14 @@ pub use explanation::SettingsInWords;
 pub use fault::{Field, LineFault, TraceError};
 pub use judge::{Finding, Judge};
 pub use judges::{Breach, Reason};
-pub use laws::{lawful_texts_are_allowed, texts_have_one_answer, written_traces_are_lawful};
+pub use laws::{
+    lawful_texts_are_allowed, surveys_of_none_are_lawful, texts_have_one_answer,
+    written_traces_are_lawful,
+};
 pub use names::{class_name, mechanism_name};
 pub use nvme_arbiter::specified::Rule;
 pub use nvme_output::WriteFault;
 pub use records::{Head, TraceEvent};
+pub use survey::{Counts, Difference, Kind, Survey, check_all};
 pub use trace::Trace;
 pub use writer::write_trace;

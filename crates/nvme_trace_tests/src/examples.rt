@@ -1,6 +1,8 @@
 // Worked traces.
 use nvme_arbiter::{Class, Mechanism, Pick, Settings};
-use nvme_trace::{Basis, Checked, Finding, Head, Judge, TraceEvent, check, check_by};
+use nvme_trace::{
+    Basis, Checked, Counts, Finding, Head, Judge, TraceEvent, check, check_all, check_by,
+};
 use std::alloc::Global;
 use std::test::*;
 
@@ -123,6 +125,80 @@ fn numbers_under_round_robin(rt: HostRuntime) -> Result<(), Fail> {
             "differs: line 2\npicked: q2 1\nlawful: q1 {number}: round robin, the next ready queue after the latest pick\nserved last: of all none\nnumber: n is the least of {settings}\nline: {line}"
         )?;
         assert_eq!(rt; answer(alloc, text.as_str())?.as_str(), want.as_str());
+    }
+    Ok(())
+}
+
+// Burst 2, High 4, Medium 2, Low 1. The second pick takes one command too few, and all after it are judged from there on:
+// the third is right, the fourth is of a queue that has no turn, and takes more than its level has, the fifth starts a
+// round without need, and at the last nothing is ready.
+const SOME_DIFFER: &str = "{\"version\":1,\"mechanism\":\"weighted\",\"cdw11\":50397185}
+{\"pick\":1,\"n\":2,\"fresh\":false,\"seen\":[[1,\"high\",9],[4,\"low\",5]]}
+{\"pick\":1,\"n\":1,\"fresh\":false,\"seen\":[[1,\"high\",7],[4,\"low\",5]]}
+{\"pick\":1,\"n\":1,\"fresh\":false,\"seen\":[[1,\"high\",6],[4,\"low\",5]]}
+{\"pick\":9,\"n\":65535,\"fresh\":false,\"seen\":[[1,\"high\",5],[4,\"low\",5]]}
+{\"pick\":4,\"n\":1,\"fresh\":true,\"seen\":[[1,\"high\",5],[4,\"low\",5]]}
+
+{\"pick\":4,\"n\":65535,\"fresh\":false,\"seen\":[[4,\"low\",0]]}
+";
+
+// The text of a survey.
+fn survey(alloc: Global, text: &str) -> Result<String, Fail> {
+    match check_all(alloc, text.as_bytes()) {
+        Ok(survey) => Ok(survey.to_string(alloc)?),
+        Err(error) => Ok(error.to_string(alloc)?),
+    }
+}
+
+#[test]
+fn all_that_differ(rt: HostRuntime) -> Result<(), Fail> {
+    let alloc = rt.alloc();
+    let told = survey(alloc, SOME_DIFFER)?;
+    assert!(rt;
+        told.as_str().starts_with(
+            "differs: 4 of 6 picks\nnothing is ready: 1\nanother queue: 1\nanother number: 1\nfresh or not: 1\n\ndiffers: line 3\npicked: q1 1\nlawful: q1 2\n"
+        )
+    );
+    for part in [
+        "\n\ndiffers: line 5\npicked: q9 65535\nlawful: q4 1\n",
+        "\n\ndiffers: line 6\npicked: q4 1 fresh\nlawful: q4 1\n",
+        "\n\ndiffers: line 8\npicked: q4 65535\nlawful: none\nwhy: nothing is ready\n",
+        "line: {\"pick\":4,\"n\":65535,\"fresh\":false,\"seen\":[[4,\"low\",0]]}",
+    ] {
+        assert!(rt; told.as_str().contains(part), "no {part} in {told}");
+    }
+    assert_eq!(rt; survey(alloc, CHANGED)?.as_str(), "differs: 0 of 3 picks");
+    let faulty = format!(in alloc; "{SOME_DIFFER}{{\"pick\":1}}")?;
+    assert_eq!(rt;
+        survey(alloc, faulty.as_str())?.as_str(),
+        "trace: line 9: missing n: wanted a whole number from 0 to 65535"
+    );
+    Ok(())
+}
+
+#[test]
+fn ten_are_told(rt: HostRuntime) -> Result<(), Fail> {
+    let alloc = rt.alloc();
+    let mut text = format!(in alloc;
+        "{{\"version\":1,\"mechanism\":\"round-robin\",\"cdw11\":0}}\n"
+    )?;
+    for _ in 0..25 {
+        text.push_str("{\"pick\":1,\"n\":2,\"fresh\":false,\"seen\":[[1,\"low\",9]]}\n")?;
+    }
+    let survey = check_all(alloc, text.as_bytes());
+    assert!(rt; survey.is_ok());
+    if let Ok(survey) = survey {
+        let counts = Counts {
+            nothing_ready: 0,
+            queue: 0,
+            number: 25,
+            fresh: 0,
+        };
+        assert_eq!(rt; (survey.picks, survey.first.len()), (25, 10));
+        assert_eq!(rt; survey.counts, counts);
+        for (difference, line) in survey.first.iter().zip(2..12) {
+            assert_eq!(rt; difference.line, line);
+        }
     }
     Ok(())
 }

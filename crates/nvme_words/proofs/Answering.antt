@@ -59,6 +59,7 @@ text_answers app words kind (Ok request.Lint) has h = absurd h
 text_answers app words kind (Ok request.Expand) has h = absurd h
 text_answers app words kind (Ok request.Check) has h = absurd h
 text_answers app words kind (Ok request.CheckSpec) has h = absurd h
+text_answers app words kind (Ok request.CheckAll) has h = absurd h
 text_answers app words kind (Ok (request.Trace when workers)) has h = absurd h
 text_answers app words kind (Ok (request.Chart range)) has h = absurd h
 text_answers app words kind (Ok (request.Stats numbers)) has h = absurd h

@@ -77,8 +77,8 @@ numbers_are rows numbers are =
     ap₂ (λ (r : Range) (w : ℕ). numbers_from r w numbers.backlogged numbers.format) one two
     ∙ ap₂ (λ (b : Bool) (f : Format). numbers_from (range_in rows) (number_in (codes "window") rows) b f) three four
 
-abbrev check_for : Bool → Request
-check_for spec = cond spec request.CheckSpec request.Check
+abbrev check_for : Bool → Bool → Request
+check_for spec all = cond spec request.CheckSpec (cond all request.CheckAll request.Check)
 
 abbrev picked : Given → Mode → Request
 picked given when =
@@ -88,7 +88,7 @@ picked given when =
     else if bytes_eq given.0 (codes "run") then request.RunFile when (number_in (codes "workers") given.1)
     else if bytes_eq given.0 (codes "lint") then request.Lint
     else if bytes_eq given.0 (codes "expand") then request.Expand
-    else if bytes_eq given.0 (codes "check") then check_for (is_text (codes "true") (first_of (codes "spec") given.1))
+    else if bytes_eq given.0 (codes "check") then check_for (is_text (codes "true") (first_of (codes "spec") given.1)) (is_text (codes "true") (first_of (codes "all") given.1))
     else if bytes_eq given.0 (codes "trace") then request.Trace when (number_in (codes "workers") given.1)
     else if bytes_eq given.0 (codes "chart") then request.Chart (range_in given.1)
     else if bytes_eq given.0 (codes "stats") then request.Stats (numbers_in given.1)
@@ -104,8 +104,9 @@ module _ (given : Given) (when : Mode) (only : (w : Mode) → SubmitsBy given.1 
   is_picked (request.RunFile w n) h = rw h.0 (ap₂ request.RunFile (only w h.1) (number_is 8 (codes "workers") given.1 n h.2))
   is_picked request.Lint h = rw h refl
   is_picked request.Expand h = rw h refl
-  is_picked request.Check h = rw h.0 (ap check_for (flag_is (codes "spec") given.1 false h.1))
-  is_picked request.CheckSpec h = rw h.0 (ap check_for (flag_is (codes "spec") given.1 true h.1))
+  is_picked request.Check h = rw h.0 (ap₂ check_for (flag_is (codes "spec") given.1 false h.1) (flag_is (codes "all") given.1 false h.2))
+  is_picked request.CheckSpec h = rw h.0 (ap (λ (b : Bool). check_for b (is_text (codes "true") (first_of (codes "all") given.1))) (flag_is (codes "spec") given.1 true h.1))
+  is_picked request.CheckAll h = rw h.0 (ap₂ check_for (flag_is (codes "spec") given.1 false h.1) (flag_is (codes "all") given.1 true h.2))
   is_picked (request.Trace w n) h = rw h.0 (ap₂ request.Trace (only w h.1) (number_is 8 (codes "workers") given.1 n h.2))
   is_picked (request.Chart range) h = rw h.0 (ap request.Chart (range_is given.1 range h.1))
   is_picked (request.Stats numbers) h = rw h.0 (ap request.Stats (numbers_are given.1 numbers h.1))

@@ -89,8 +89,12 @@ trace name = with_rule (new_app name) file
 abbrev pub spec : Rule
 spec = record (new_rule (codes "spec")) { long = Some (codes "spec"); action = Some SetTrue }
 
+-- all picks that differ are told
+abbrev pub all : Rule
+all = record (new_rule (codes "all")) { long = Some (codes "all"); action = Some SetTrue }
+
 abbrev pub check : App
-check = with_rule (trace (codes "check")) spec
+check = with_rule (with_rule (trace (codes "check")) spec) all
 
 -- a subcommand that shows a part of a trace
 abbrev pub ranged : Text → App

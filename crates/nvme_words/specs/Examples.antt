@@ -130,6 +130,9 @@ check_file = codes "check" ∷ codes "a.json" ∷ []
 abbrev pub check_spec : List Text
 check_spec = codes "check" ∷ codes "--spec" ∷ codes "a.json" ∷ []
 
+abbrev pub check_all : List Text
+check_all = codes "check" ∷ codes "a.json" ∷ codes "--all" ∷ []
+
 abbrev pub chart_file : List Text
 chart_file = codes "chart" ∷ codes "a.json" ∷ []
 

@@ -30,6 +30,7 @@ IsAskedBy words request.Lint = asks (codes "lint") words ≡ true
 IsAskedBy words request.Expand = asks (codes "expand") words ≡ true
 IsAskedBy words request.Check = asks (codes "check") words ≡ true
 IsAskedBy words request.CheckSpec = (asks (codes "check") words ≡ true) × (asks_alone (codes "check") words ≡ false)
+IsAskedBy words request.CheckAll = (asks (codes "check") words ≡ true) × (asks_alone (codes "check") words ≡ false)
 IsAskedBy words (request.Trace mode workers) = asks (codes "trace") words ≡ true
 IsAskedBy words (request.Chart range) = shows_trace words ≡ true
 IsAskedBy words (request.Stats numbers) = shows_trace words ≡ true
@@ -87,8 +88,9 @@ IsRequestOf given (request.RunFile mode workers) =
     (given.0 ≡ codes "run") × SubmitsBy given.1 mode × IsNumber 8 (codes "workers") given.1 workers
 IsRequestOf given request.Lint = given.0 ≡ codes "lint"
 IsRequestOf given request.Expand = given.0 ≡ codes "expand"
-IsRequestOf given request.Check = (given.0 ≡ codes "check") × IsFlag (codes "spec") given.1 false
+IsRequestOf given request.Check = (given.0 ≡ codes "check") × IsFlag (codes "spec") given.1 false × IsFlag (codes "all") given.1 false
 IsRequestOf given request.CheckSpec = (given.0 ≡ codes "check") × IsFlag (codes "spec") given.1 true
+IsRequestOf given request.CheckAll = (given.0 ≡ codes "check") × IsFlag (codes "spec") given.1 false × IsFlag (codes "all") given.1 true
 IsRequestOf given (request.Trace mode workers) =
     (given.0 ≡ codes "trace") × SubmitsBy given.1 mode × IsNumber 8 (codes "workers") given.1 workers
 IsRequestOf given (request.Chart range) = (given.0 ≡ codes "chart") × IsRange given.1 range
@@ -106,9 +108,10 @@ faults_of app words = fault_of app (map string_bytes words)
 abbrev pub given_by : App → List (String Global) → Option Given
 given_by app words = subcommand_of app (map string_bytes words)
 
--- words that ask for a check alone don't ask for the one by the specification
+-- words that ask for a check alone don't ask for one with an option
 abbrev pub IsSaid : List (String Global) → Request → Type 0
 IsSaid words request.CheckSpec = asks_alone (codes "check") words ≡ false
+IsSaid words request.CheckAll = asks_alone (codes "check") words ≡ false
 IsSaid words request = ⊤
 
 -- the subcommand is the word after the program's name, and asks for this

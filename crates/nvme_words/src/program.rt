@@ -1,7 +1,7 @@
 // The command line of the program, by `clap`.
 ghost use Rattle.std.specs.Prelude.{◌≡◌, IfOk, codes};
 ghost use Rattle.clap.specs.Words.{App, app_of};
-ghost use Rattle.nvme_words.specs.CommandLine.{OnCommandLine, backlogged, blocks, chart, check, dword, expand, file, first, last, lint, mode, once, option, ranged, run, settings, stats, text_option, trace, window, with_file, with_input, with_trace, workers};
+ghost use Rattle.nvme_words.specs.CommandLine.{OnCommandLine, all, backlogged, blocks, chart, check, dword, expand, file, first, last, lint, mode, once, option, ranged, run, settings, stats, text_option, trace, window, with_file, with_input, with_trace, workers};
 ghost use Rattle.nvme_words.specs.inside.Built.{AddsIfMade, HasApp, HasRule};
 
 use clap::builder::ValueParser;
@@ -171,6 +171,18 @@ fn trace_command<'a>(
     Command::new(alloc, name).about(about).arg(file)
 }
 
+// Whether all picks that differ are told.
+fn all_arg<'a>(alloc: Global) -> Arg<'a>
+    ensures { HasRule all result }
+{
+    Arg::new(alloc, "all")
+        .long("all")
+        .help(
+            "Go on after a pick that differs: tell the first ten, and how many there are; not with --spec",
+        )
+        .action(ArgAction::SetTrue)
+}
+
 // The subcommand that judges a trace.
 fn check_command<'a>(alloc: Global) -> Result<Command<'a>, AllocError>
     ensures { IfOk result (HasApp check) }
@@ -180,7 +192,9 @@ fn check_command<'a>(alloc: Global) -> Result<Command<'a>, AllocError>
         .help("Judge by what the NVM Express Base Specification alone asks of a pick")
         .action(ArgAction::SetTrue);
     let about = "Tells whether each pick of a trace is the one that this front makes";
-    trace_command(alloc, "check", about)?.arg(spec)
+    trace_command(alloc, "check", about)?
+        .arg(spec)?
+        .arg(all_arg(alloc))
 }
 
 // From which pick of a trace on it is looked at.

@@ -65,6 +65,8 @@ pub enum Request {
     Check,
     /// Whether the specification allows each pick of a trace.
     CheckSpec,
+    /// All picks of a trace that aren't those that this front makes.
+    CheckAll,
     /// The trace of a run of a workload in this mode, with this many workers, 1 to 8.
     Trace(Mode, u8),
     /// A picture of a trace, as SVG.
@@ -148,6 +150,16 @@ fn spec_of(matches: &ArgMatches) -> bool
     }
 }
 
+// Whether all picks that differ are told.
+fn all_of(matches: &ArgMatches) -> bool
+    ensures { IsFlag (codes "all") (rows_of (found_of matches.now)) result }
+{
+    match matches.get_str("all") {
+        Some("true") => true,
+        _ => false,
+    }
+}
+
 // The number of the first pick that is looked at.
 fn first_of(matches: &ArgMatches) -> Option<u64>
     ensures { IsNumberIfAny 64 (codes "from") (rows_of (found_of matches.now)) result }
@@ -215,6 +227,7 @@ fn request_of(name: &str, matches: &ArgMatches) -> Option<Request>
         "lint" => Some(Request::Lint),
         "expand" => Some(Request::Expand),
         "check" if spec_of(matches) => Some(Request::CheckSpec),
+        "check" if all_of(matches) => Some(Request::CheckAll),
         "check" => Some(Request::Check),
         "trace" => Some(Request::Trace(mode_of(matches), workers_of(matches)?)),
         "chart" => Some(Request::Chart(range_of(matches)?)),
@@ -224,12 +237,12 @@ fn request_of(name: &str, matches: &ArgMatches) -> Option<Request>
     }
 }
 
-// The request where the words say it: words that ask for a check alone don't ask for the one by the specification.
+// The request where the words say it: words that ask for a check alone don't ask for one with an option.
 fn said(words: &[String], request: Request) -> Option<Request>
     ensures some { IfSome result (λ said. (said ≡ request) × IsSaid words.now request) }
     ensures none { IfNone result (IsSaid words.now request → ⊥) }
 {
-    if matches!(&request, Request::CheckSpec) && asks_alone(words, "check") {
+    if matches!(&request, Request::CheckSpec | Request::CheckAll) && asks_alone(words, "check") {
         None
     } else {
         Some(request)

@@ -69,7 +69,8 @@ fn write_to<R: Files>(rt: &R, name: &str, answer: &[u8]) -> io::Result<()> {
 }
 
 // Does what the words ask for, and then writes the answer to a file. The answer is the exit status. Where it isn't 0
-// there is no answer, and the file isn't touched.
+// there is no answer, and the file isn't touched. It isn't inlined, so that its stack isn't that of every run.
+#[inline(never)]
 fn saved<R: AllocGlobal + Files + Input + Threads + Wait + Sync, E: Write>(
     rt: &R,
     words: &[String],

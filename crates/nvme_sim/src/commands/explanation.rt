@@ -42,7 +42,9 @@ fn explained_fault(alloc: Global, text: &[u8], fault: Fault) -> Fault
     }
 }
 
-/// The answer of a run of this text, where a fault tells in a second line what is known of it.
+/// The answer of a run of this text, where a fault tells in a second line what is known of it. It isn't inlined, so that
+/// its stack isn't that of the run.
+#[inline(never)]
 pub(super) fn explained(
     alloc: Global,
     text: &[u8],

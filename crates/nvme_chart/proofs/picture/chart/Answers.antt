@@ -3,7 +3,7 @@ use Rattle.std.proofs.lemmas.Result.{err_from_is_err_and}
 use Rattle.nvme_arbiter.specs.History.{History}
 use Rattle.nvme_trace.specs.declared.records.Head.{Head}
 use Rattle.nvme_stats.specs.Chosen.{chosen}
-use Rattle.nvme_stats.specs.Shown.{IsShown}
+use Rattle.nvme_trace.specs.Shown.{IsShown}
 use Rattle.nvme_chart.specs.Pictured.{IsPictured}
 use Rattle.nvme_stats.proofs.ShowLemmas.{shown_at, fault_at, head_fault_at}
 use Rattle.nvme_chart.proofs.picture.chart.Goals as goal

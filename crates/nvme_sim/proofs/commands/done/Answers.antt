@@ -1,13 +1,13 @@
 -- A fault of each request is a fault of an input, by its word.
 use Rattle.std.proofs.Common.{◌≡◌, true, inl, inr}
 use Rattle.std.specs.Prelude.{codes}
-use Rattle.nvme_sim.specs.Inputs.{IsBadInput, IsFaultyShown, IsFaultyTrace, IsJudgedBy}
+use Rattle.nvme_sim.specs.Inputs.{AsksForMore, IsBadInput, IsFaultyShown, IsFaultyTrace, IsJudgedBy}
 use Rattle.nvme_sim.specs.Files.{IsBadFile}
 use Rattle.nvme_trace.specs.declared.basis.Basis.TheVariants.{Profile, Specification}
 use Rattle.nvme_sim.specs.Statuses.{IsBadEntry, IsBadWorkload}
 use Rattle.nvme_sim.specs.declared.commands.Answer.TheVariants as answer
 use Rattle.nvme_words.specs.Words.{asks, reads_workload, shows_trace}
-use Rattle.nvme_sim.proofs.Inputs.{bad_check, bad_file_read, bad_once, bad_run, bad_shown, faulty_is_bad, is_quiet, no_fault_said, no_kind, nothing_said, of_kind, on_done, one_reads_file, only_check, or_else, said_of}
+use Rattle.nvme_sim.proofs.Inputs.{bad_all, bad_check, bad_file_read, bad_once, bad_run, bad_shown, faulty_is_bad, is_quiet, no_fault_said, no_kind, nothing_said, of_kind, on_done, one_reads_file, only_check, or_else, said_of}
 use Rattle.nvme_sim.proofs.commands.done.Goals as goal
 
 pub returns-in-Once-clause-input : goal.returns-in-Once-clause-input
@@ -52,15 +52,25 @@ returns-in-CheckSpec-clause-input g c =
     let asked : IsJudgedBy words Specification = rw c.in-CheckSpec.is at c.requires in
     of_kind c.checked-in-CheckSpec.result (g.R.Read.remaining c.args.input) (IsFaultyTrace Specification) (IsBadInput words) (λ bs h. bad_check Specification words bs asked (faulty_is_bad Specification bs h)) c.checked-in-CheckSpec.ensures.input
 
+pub returns-in-CheckAll-clause-input : goal.returns-in-CheckAll-clause-input
+returns-in-CheckAll-clause-input g c =
+    let words = c.args.words.now in
+    let asked : AsksForMore words = rw c.in-CheckAll.is at c.requires in
+    of_kind c.surveyed.result (g.R.Read.remaining c.args.input) IsFaultyShown (IsBadInput words) (λ bs h. bad_all words bs asked (inl h)) c.surveyed.ensures.input
+
 -- ---- a pick that is not allowed
 
 pub returns-in-Check-clause-refused : goal.returns-in-Check-clause-refused
 returns-in-Check-clause-refused g c = λ is.
-    let asked : IsJudgedBy c.args.words.now Profile = rw c.in-Check.is at c.requires in (Profile, asked, c.checked.ensures.refused is)
+    let asked : IsJudgedBy c.args.words.now Profile = rw c.in-Check.is at c.requires in inl (Profile, asked, c.checked.ensures.refused is)
 
 pub returns-in-CheckSpec-clause-refused : goal.returns-in-CheckSpec-clause-refused
 returns-in-CheckSpec-clause-refused g c = λ is.
-    let asked : IsJudgedBy c.args.words.now Specification = rw c.in-CheckSpec.is at c.requires in (Specification, asked, c.checked-in-CheckSpec.ensures.refused is)
+    let asked : IsJudgedBy c.args.words.now Specification = rw c.in-CheckSpec.is at c.requires in inl (Specification, asked, c.checked-in-CheckSpec.ensures.refused is)
+
+pub returns-in-CheckAll-clause-refused : goal.returns-in-CheckAll-clause-refused
+returns-in-CheckAll-clause-refused g c = λ is.
+    let asked : AsksForMore c.args.words.now = rw c.in-CheckAll.is at c.requires in inr (asked, c.surveyed.ensures.refused is)
 
 -- ---- other faults
 
@@ -110,6 +120,10 @@ pub returns-in-CheckSpec-clause-lawful : goal.returns-in-CheckSpec-clause-lawful
 returns-in-CheckSpec-clause-lawful g c = λ is alone.
     let none : ⊥ = rw c.in-CheckSpec.is at (only_check c.args.words.now c.args.request c.requires alone) in absurd none
 
+pub returns-in-CheckAll-clause-lawful : goal.returns-in-CheckAll-clause-lawful
+returns-in-CheckAll-clause-lawful g c = λ is alone.
+    let none : ⊥ = rw c.in-CheckAll.is at (only_check c.args.words.now c.args.request c.requires alone) in absurd none
+
 pub returns-in-Trace-clause-lawful : goal.returns-in-Trace-clause-lawful
 returns-in-Trace-clause-lawful g c = λ is alone.
     let none : ⊥ = rw c.in-Trace.is at (only_check c.args.words.now c.args.request c.requires alone) in absurd none
@@ -153,6 +167,9 @@ returns-in-Check-clause-done g c = λ is. rw c.in-Check.is (c.checked.ensures.la
 pub returns-in-CheckSpec-clause-done : goal.returns-in-CheckSpec-clause-done
 returns-in-CheckSpec-clause-done g c = λ is. rw c.in-CheckSpec.is (c.checked-in-CheckSpec.ensures.lawful is)
 
+pub returns-in-CheckAll-clause-done : goal.returns-in-CheckAll-clause-done
+returns-in-CheckAll-clause-done g c = λ is. rw c.in-CheckAll.is (c.surveyed.ensures.lawful is)
+
 pub returns-in-Trace-clause-done : goal.returns-in-Trace-clause-done
 returns-in-Trace-clause-done g c = λ is. rw c.in-Trace.is (on_done c.traced_file.result answer.Done _ c.traced_file.ensures.done is)
 
@@ -189,6 +206,9 @@ returns-in-Check-clause-failed g c = rw c.in-Check.is c.checked.ensures.failed
 
 pub returns-in-CheckSpec-clause-failed : goal.returns-in-CheckSpec-clause-failed
 returns-in-CheckSpec-clause-failed g c = rw c.in-CheckSpec.is c.checked-in-CheckSpec.ensures.failed
+
+pub returns-in-CheckAll-clause-failed : goal.returns-in-CheckAll-clause-failed
+returns-in-CheckAll-clause-failed g c = rw c.in-CheckAll.is c.surveyed.ensures.failed
 
 pub returns-in-Trace-clause-failed : goal.returns-in-Trace-clause-failed
 returns-in-Trace-clause-failed g c = rw c.in-Trace.is c.traced_file.ensures.failed

@@ -5,7 +5,7 @@ use Rattle.clap.specs.ValueTests.{accepts}
 use Rattle.clap.specs.Words.{Text, first_of, one_of}
 use Rattle.clap.specs.declared.builder.value_parser.ValueParser.TheVariants as vp
 use Rattle.clap.proofs.OnLiterals.{clap_on_literals}
-use Rattle.nvme_words.specs.Examples.{all_numbers, all_picks, alone, chart_file, chart_output, check_file, check_spec, expand_file, lint_input, live_8, loaded_2, once_8, once_most, run_file, run_live_3, settings_both, settings_dword, settings_words, stats_json, stats_part, trace_2, trace_live}
+use Rattle.nvme_words.specs.Examples.{all_numbers, all_picks, alone, chart_file, chart_output, check_all, check_file, check_spec, expand_file, lint_input, live_8, loaded_2, once_8, once_most, run_file, run_live_3, settings_both, settings_dword, settings_words, stats_json, stats_part, trace_2, trace_live}
 use Rattle.std.specs.Global.{Global}
 use Rattle.nvme_words.specs.Words.{asks_alone}
 use Rattle.nvme_words.specs.Requests.{IsRange, SubmitsBy}
@@ -56,23 +56,27 @@ returns-clause-expand c = line_asks (codes "expand") _ (given_at expand_file) (r
 
 pub returns-clause-check : goal.returns-clause-check
 unfolding clap_on_literals
-returns-clause-check c = line_asks (codes "check") _ (given_at (alone (codes "check"))) (request.Check) refl (refl, other_text (first_of (codes "spec") (given_at (alone (codes "check"))).1) (codes "false") (codes "true") refl refl) (λ words e. tt) (λ p q r. (refl, refl))
+returns-clause-check c = line_asks (codes "check") _ (given_at (alone (codes "check"))) (request.Check) refl (refl, other_text (first_of (codes "spec") (given_at (alone (codes "check"))).1) (codes "false") (codes "true") refl refl, other_text (first_of (codes "all") (given_at (alone (codes "check"))).1) (codes "false") (codes "true") refl refl) (λ words e. tt) (λ p q r. (refl, refl))
 
 pub returns-clause-check_file : goal.returns-clause-check_file
 unfolding clap_on_literals
-returns-clause-check_file c = line_asks (codes "check") _ (given_at check_file) (request.Check) refl (refl, other_text (first_of (codes "spec") (given_at check_file).1) (codes "false") (codes "true") refl refl) (λ words e. tt) (λ p q r. (refl, refl))
+returns-clause-check_file c = line_asks (codes "check") _ (given_at check_file) (request.Check) refl (refl, other_text (first_of (codes "spec") (given_at check_file).1) (codes "false") (codes "true") refl refl, other_text (first_of (codes "all") (given_at check_file).1) (codes "false") (codes "true") refl refl) (λ words e. tt) (λ p q r. (refl, refl))
 
 -- a check with an option isn't one alone
-not_alone : (words : List (String Global)) → map string_bytes words ≡ codes "nvmearb" ∷ check_spec → asks_alone (codes "check") words ≡ false
-not_alone [] e = cc
-not_alone (w ∷ []) e = cc
-not_alone (w ∷ x ∷ []) e = cc
-not_alone (w ∷ x ∷ y ∷ []) e = cc
-not_alone (w ∷ x ∷ y ∷ z ∷ zs) e = refl
+not_alone : (a b : Text) (words : List (String Global)) → map string_bytes words ≡ codes "nvmearb" ∷ codes "check" ∷ a ∷ b ∷ [] → asks_alone (codes "check") words ≡ false
+not_alone a b [] e = cc
+not_alone a b (w ∷ []) e = cc
+not_alone a b (w ∷ x ∷ []) e = cc
+not_alone a b (w ∷ x ∷ y ∷ []) e = cc
+not_alone a b (w ∷ x ∷ y ∷ z ∷ zs) e = refl
 
 pub returns-clause-check_spec : goal.returns-clause-check_spec
 unfolding clap_on_literals
-returns-clause-check_spec c = line_asks (codes "check") _ (given_at check_spec) (request.CheckSpec) refl (refl, refl) not_alone (λ p q r. (refl, refl))
+returns-clause-check_spec c = line_asks (codes "check") _ (given_at check_spec) (request.CheckSpec) refl (refl, refl) (not_alone (codes "--spec") (codes "a.json")) (λ p q r. (refl, refl))
+
+pub returns-clause-check_all : goal.returns-clause-check_all
+unfolding clap_on_literals
+returns-clause-check_all c = line_asks (codes "check") _ (given_at check_all) (request.CheckAll) refl (refl, other_text (first_of (codes "spec") (given_at check_all).1) (codes "false") (codes "true") refl refl, refl) (not_alone (codes "a.json") (codes "--all")) (λ p q r. (refl, refl))
 
 pub returns-clause-trace : goal.returns-clause-trace
 unfolding clap_on_literals

@@ -9,4 +9,5 @@ pub returns : goal.returns
 returns c =
     let start : HasApp (trace (codes "check")) c.in_ok-trace_command.field-0 = search rules in
     let first : HasRule spec c.action-spec.result = search rules in
-    IfOk-weaker c.arg.result _ _ (λ new added. rule_added _ new _ _ _ added start first) c.arg.ensures
+    let one = rule_added _ _ _ _ _ c.in_ok-arg.ensures start first in
+    IfOk-weaker c.arg-2.result _ _ (λ new added. rule_added _ new _ _ _ added one c.all_arg.ensures) c.arg-2.ensures

@@ -1,0 +1,248 @@
+-- A surveyor goes through the lines of a text.
+use Rattle.std.proofs.Common.{◌≡◌, ℕ, ◌+◌, ◌<◌, ◌≤◌, min, List, [], ◌∷◌, ◌++◌, length, map, take, reverse, Option, Some, None, Result, Ok, Err, inl, inr, refl, sym, ap, subst, ◌∙◌, append_assoc, append-nil, length-append, arith}
+use Rattle.std.specs.Prelude.{IfSome, IfOk, IfErr, OnOk, if◌then◌else◌}
+use Rattle.std.proofs.lemmas.List.{length-reverse, length-map, map-append, length-take, take_all, take-append-le}
+use mathlib.Core.List.{reverse-cons, reverse-reverse}
+use Rattle.nvme_arbiter.specs.Settings.{ArbitrationFields}
+use Rattle.nvme_arbiter.specs.Observation.{IsObservation}
+use Rattle.nvme_arbiter.specs.History.{ArbitrationEvent, History, Picked, Changed}
+use Rattle.nvme_arbiter.specs.Lawful.{IsLawfulPick, IsLawfulRun}
+use Rattle.nvme_arbiter.specs.Standing.{nothing_used, first_kept}
+use Rattle.nvme_arbiter.specs.declared.pick.Seen.{Seen}
+use Rattle.nvme_arbiter.specs.declared.pick.Pick.{Pick}
+use Rattle.nvme_trace.specs.Lines.{lines_of, numbered, told_lines, TakesTold, HasNoTold}
+use Rattle.nvme_trace.specs.Format.{head_of_line, event_by}
+use Rattle.nvme_trace.specs.Checks.{Tells}
+use Rattle.nvme_trace.specs.Faults.{IsHeadFault, IsEventFaultBy}
+use Rattle.nvme_trace.specs.Judged.{picks_in}
+use Rattle.nvme_trace.specs.Shown.{IsReadUpTo, IsReadFault}
+use Rattle.nvme_trace.specs.Surveys.{Follows, IsDifferent, Told, AreDifferences, AreCounts, AreNone, LawfulSurveys, IsSurveyOf, IsSurvey, most_told, told_of, kind_of, is_kind, is_told_as}
+use Rattle.nvme_trace.specs.inside.Steps.{SurveysAt}
+use Rattle.nvme_trace.proofs.CheckLemmas.{same_text}
+use Rattle.nvme_trace.proofs.FollowLemmas.{follows_first, follows_changed}
+use Rattle.nvme_trace.specs.declared.basis.Basis.TheVariants.{Profile}
+use Rattle.nvme_trace.specs.declared.fault.TraceError.{TraceError}
+use Rattle.nvme_trace.specs.declared.fault.TraceError.TheVariants as error
+use Rattle.nvme_trace.specs.declared.records.Head.{Head}
+use Rattle.nvme_trace.specs.declared.survey.Counts.{Counts}
+use Rattle.nvme_trace.specs.declared.survey.Difference.{Difference}
+use Rattle.nvme_trace.specs.declared.survey.Kind.{Kind}
+use Rattle.nvme_trace.specs.declared.survey.Kind.TheVariants.{NothingReady, Queue, Number, Fresh}
+use Rattle.nvme_trace.specs.declared.survey.Survey.{Survey}
+use Rattle.nvme_trace.specs.declared.survey.Surveyor.{Surveyor}
+
+-- ---- the first that are told
+-- how many are kept
+kept_length : (first : List Difference) (all : List Told) → map told_of first ≡ take most_told (reverse all) → length first ≡ min 10 (length all)
+kept_length first all is =
+    let a : length (map told_of first) ≡ length first = length-map first told_of in
+    let b : length (map told_of first) ≡ length (take most_told (reverse all)) = ap length is in
+    omega (arith, a, b, length-take 10 (reverse all), length-reverse all)
+
+pub first_pushed : (first new : List Difference) (d : Difference) (all : List Told) → length first < 10 → new ≡ first ++ d ∷ [] → map told_of first ≡ take most_told (reverse all)
+    → map told_of new ≡ take most_told (reverse (told_of d ∷ all))
+first_pushed first new d all room pushed is =
+    let some : length first ≡ min 10 (length all) = kept_length first all is in
+    let few : length (reverse all) ≤ most_told = omega (arith, some, length-reverse all) in
+    let more : length (reverse all ++ told_of d ∷ []) ≤ most_told = omega (arith, some, length-reverse all, length-append (reverse all) (told_of d ∷ [])) in
+    ap (map told_of) pushed ∙ (map-append told_of first (d ∷ [])
+    ∙ (ap (λ (l : List Told). l ++ told_of d ∷ []) (is ∙ take_all most_told (reverse all) few)
+    ∙ (sym (take_all most_told (reverse all ++ told_of d ∷ []) more) ∙ ap (take most_told) (sym (reverse-cons (told_of d) all)))))
+
+pub first_full : (first : List Difference) (d : Difference) (all : List Told) → 10 ≤ length first → map told_of first ≡ take most_told (reverse all)
+    → map told_of first ≡ take most_told (reverse (told_of d ∷ all))
+first_full first d all full is =
+    let some : length first ≡ min 10 (length all) = kept_length first all is in
+    let many : most_told ≤ length (reverse all) = omega (arith, some, length-reverse all) in
+    is ∙ (sym (take-append-le most_told (reverse all) (told_of d ∷ []) many) ∙ ap (take most_told) (sym (reverse-cons (told_of d) all)))
+
+-- ---- one event more
+pub surveys_new : (head : Head) (s : Surveyor) → s.kept ≡ first_kept head.mechanism head.settings → s.survey.picks ≡ 0 → s.survey.first.items ≡ []
+    → s.survey.counts ≡ record { nothing_ready = 0; queue = 0; number = 0; fresh = 0 } → (lines : List (ℕ × List ℕ)) → SurveysAt head [] lines s
+surveys_new head s kept picks first counts lines = record {
+  follows = subst (Follows head.mechanism head.settings []) (sym kept) (follows_first head.mechanism head.settings);
+  told = record {
+    all = [];
+    differences = refl;
+    first = ap (map told_of) first;
+    counts = subst (λ (c : Counts). AreCounts c []) (sym counts) (record { nothing_ready = refl; queue = refl; number = refl; fresh = refl });
+    picks = picks;
+  };
+}
+
+pub surveys_set : (settings : ArbitrationFields) (s new : Surveyor) → new.kept ≡ record s.kept { settings = settings; used = nothing_used } → new.survey ≡ s.survey
+    → (head : Head) (past : History) (line : ℕ × List ℕ) (lines : List (ℕ × List ℕ)) → SurveysAt head past lines s → SurveysAt head (Changed settings ∷ past) (line ∷ lines) new
+surveys_set settings s new kept same head past line lines at =
+    let told : IsSurveyOf head (Changed settings ∷ past) (line ∷ lines) s.survey = record {
+      all = at.told.all;
+      differences = (line, lines, refl, at.told.differences);
+      first = at.told.first;
+      counts = at.told.counts;
+      picks = let before : s.survey.picks ≡ picks_in past = at.told.picks in omega arith;
+    } in
+    record {
+      follows = subst (Follows head.mechanism head.settings (Changed settings ∷ past)) (sym kept) (follows_changed head.mechanism head.settings past s.kept settings at.follows);
+      told = subst (IsSurveyOf head (Changed settings ∷ past) (line ∷ lines)) (sym same) told;
+    }
+
+pub surveys_pass : (head : Head) (past : History) (line : ℕ × List ℕ) (lines : List (ℕ × List ℕ)) (seen : List Seen) (picked : Pick) (s new : Surveyor) → SurveysAt head past lines s
+    → IsObservation seen → IsLawfulPick head.mechanism head.settings past seen picked → Follows head.mechanism head.settings (Picked seen picked ∷ past) new.kept
+    → new.survey.first ≡ s.survey.first → new.survey.counts ≡ s.survey.counts → new.survey.picks ≡ s.survey.picks + 1 → SurveysAt head (Picked seen picked ∷ past) (line ∷ lines) new
+surveys_pass head past line lines seen picked s new at o l f first counts picks = record {
+  follows = f;
+  told = record {
+    all = at.told.all;
+    differences = (line, lines, refl, o, inl (l, at.told.differences));
+    first = ap (λ v. map told_of v.items) first ∙ at.told.first;
+    counts = subst (λ c. AreCounts c at.told.all) (sym counts) at.told.counts;
+    picks = let before : s.survey.picks ≡ picks_in past = at.told.picks in omega (arith, picks, before);
+  };
+}
+
+pub surveys_tell : (head : Head) (past : History) (lines : List (ℕ × List ℕ)) (seen : List Seen) (picked : Pick) (d : Difference) (s new : Surveyor) → SurveysAt head past lines s
+    → IsObservation seen → IsDifferent head past seen picked d.finding → Follows head.mechanism head.settings (Picked seen picked ∷ past) new.kept
+    → ((all : List Told) → map told_of s.survey.first.items ≡ take most_told (reverse all) → map told_of new.survey.first.items ≡ take most_told (reverse (told_of d ∷ all)))
+    → ((all : List Told) → AreCounts s.survey.counts all → AreCounts new.survey.counts (told_of d ∷ all))
+    → new.survey.picks ≡ s.survey.picks + 1 → SurveysAt head (Picked seen picked ∷ past) ((d.line, d.quoted.items) ∷ lines) new
+surveys_tell head past lines seen picked d s new at o different f first counts picks = record {
+  follows = f;
+  told = record {
+    all = told_of d ∷ at.told.all;
+    differences = ((d.line, d.quoted.items), lines, refl, o, inr (d.finding, at.told.all, refl, different, at.told.differences));
+    first = first at.told.all at.told.first;
+    counts = counts at.told.all at.told.counts;
+    picks = let before : s.survey.picks ≡ picks_in past = at.told.picks in omega (arith, picks, before);
+  };
+}
+
+-- one more of a kind
+pub counts_more : (old new : Counts) (d : Difference) (k : Kind) → k ≡ kind_of d.finding.lawful d.finding.picked
+    → new.nothing_ready ≡ old.nothing_ready + (if is_kind NothingReady k then 1 else 0) → new.queue ≡ old.queue + (if is_kind Queue k then 1 else 0)
+    → new.number ≡ old.number + (if is_kind Number k then 1 else 0) → new.fresh ≡ old.fresh + (if is_kind Fresh k then 1 else 0)
+    → (all : List Told) → AreCounts old all → AreCounts new (told_of d ∷ all)
+counts_more old new d k is a b c e all counts = record {
+  nothing_ready = a ∙ (ap (λ (x : Kind). old.nothing_ready + (if is_kind NothingReady x then 1 else 0)) is ∙ ap (λ (n : ℕ). n + is_told_as NothingReady (told_of d)) counts.nothing_ready);
+  queue = b ∙ (ap (λ (x : Kind). old.queue + (if is_kind Queue x then 1 else 0)) is ∙ ap (λ (n : ℕ). n + is_told_as Queue (told_of d)) counts.queue);
+  number = c ∙ (ap (λ (x : Kind). old.number + (if is_kind Number x then 1 else 0)) is ∙ ap (λ (n : ℕ). n + is_told_as Number (told_of d)) counts.number);
+  fresh = e ∙ (ap (λ (x : Kind). old.fresh + (if is_kind Fresh x then 1 else 0)) is ∙ ap (λ (n : ℕ). n + is_told_as Fresh (told_of d)) counts.fresh);
+}
+
+-- ---- the lines of a text
+pub record IsSurveyedUpTo (text rest : List ℕ) (number : ℕ) (head : Head) (s : Surveyor) : Type 0 where
+  pub past : History
+  pub before : IsReadUpTo text rest number head past
+  pub at : SurveysAt head past before.lines s
+
+abbrev pub SurveyedUpTo : List ℕ → Option (List ℕ) → ℕ → Head → Surveyor → Type 0
+SurveyedUpTo text None number head s = ⊥
+SurveyedUpTo text (Some rest) number head s = IsSurveyedUpTo text rest number head s
+
+reverse_more : (line : ℕ × List ℕ) (lines rest : List (ℕ × List ℕ)) → reverse lines ++ line ∷ rest ≡ reverse (line ∷ lines) ++ rest
+reverse_more line lines rest = sym (append_assoc (reverse lines) (line ∷ []) rest) ∙ ap (λ (ls : List (ℕ × List ℕ)). ls ++ rest) (sym (reverse-cons line lines))
+
+-- after the head
+pub surveyed_head : (text : List ℕ) (n : ℕ) (new : Option (List ℕ)) (head : Head) (s : Surveyor) → TakesTold (λ line. head_of_line line ≡ Ok head) 0 (Some text) n new
+    → ((lines : List (ℕ × List ℕ)) → SurveysAt head [] lines s) → SurveyedUpTo text new n head s
+surveyed_head text n None head s t at = t
+surveyed_head text n (Some rest) head s (line, split, is) at = record {
+  past = [];
+  before = record { lines = (n, line) ∷ []; split = split; tells = ((n, line), refl, is) };
+  at = at ((n, line) ∷ []);
+}
+
+-- after one event more
+pub surveyed_more : (text : List ℕ) (m : ℕ) (old : Option (List ℕ)) (n : ℕ) (new : Option (List ℕ)) (quoted : List ℕ) (head : Head) (s next : Surveyor) (e : ArbitrationEvent)
+    → SurveyedUpTo text old m head s → TakesTold (λ line. event_by Profile line ≡ Ok e) m old n new → TakesTold (λ line. line ≡ quoted) m old n new
+    → ((past : History) (lines : List (ℕ × List ℕ)) → SurveysAt head past lines s → SurveysAt head (e ∷ past) ((n, quoted) ∷ lines) next)
+    → SurveyedUpTo text new n head next
+surveyed_more text m None n new quoted head s next e j t q f = absurd j
+surveyed_more text m (Some xs) n None quoted head s next e j t q f = absurd t
+surveyed_more text m (Some xs) n (Some ys) quoted head s next e j (line, split, is) (one, split', same) f =
+    let there : line ≡ quoted = same_text n line one _ _ (sym split ∙ split') ∙ same in
+    record {
+      past = e ∷ j.past;
+      before = record {
+        lines = (n, quoted) ∷ j.before.lines;
+        split = j.before.split ∙ (ap (λ (ls : List (ℕ × List ℕ)). reverse j.before.lines ++ ls) (split ∙ ap (λ (l : List ℕ). (n, l) ∷ numbered n (lines_of ys)) there)
+            ∙ reverse_more (n, quoted) j.before.lines (numbered n (lines_of ys)));
+        tells = ((n, quoted), j.before.lines, refl, subst (λ (l : List ℕ). event_by Profile l ≡ Ok e) there is, j.before.tells);
+      };
+      at = f j.past j.before.lines j.at;
+    }
+
+-- after the last line
+pub surveyed_all : (text : List ℕ) (old : Option (List ℕ)) (number : ℕ) (head : Head) (s : Surveyor) → SurveyedUpTo text old number head s → HasNoTold number old → IsSurvey text s.survey
+surveyed_all text None number head s j n = absurd j
+surveyed_all text (Some xs) number head s j n =
+    let lines : List (ℕ × List ℕ) = j.before.lines in
+    let all : told_lines text ≡ reverse lines = j.before.split ∙ ap (λ (ls : List (ℕ × List ℕ)). reverse lines ++ ls) n ∙ append-nil (reverse lines) in
+    let back : lines ≡ reverse (told_lines text) = sym (ap reverse all ∙ reverse-reverse lines) in record {
+      head = head;
+      past = j.past;
+      tells = subst (Tells head j.past) back j.before.tells;
+      told = subst (λ (ls : List (ℕ × List ℕ)). IsSurveyOf head j.past ls s.survey) back j.at.told;
+    }
+
+-- at a line that is faulty
+pub surveyed_fault : (text : List ℕ) (old : Option (List ℕ)) (number : ℕ) (head : Head) (s : Surveyor) (e : TraceError) → SurveyedUpTo text old number head s → IsEventFaultBy Profile e number old → IsReadFault text e
+surveyed_fault text None number head s e j f = absurd j
+surveyed_fault text (Some xs) number head s e j f = inr (record { head = head; past = j.past; number = number; rest = xs; before = j.before; fault = f })
+
+-- memory was refused, or a read failed
+pub no_memory : (text : List ℕ) (e : TraceError) → e ≡ error.NoMemory → IsReadFault text e
+no_memory text e is = subst (λ (x : TraceError). IsReadFault text x) (sym is) (inl tt)
+
+-- ---- the whole text
+pub read_head_fault : (known : Option (List ℕ)) (e : TraceError) → IsHeadFault e 0 known → IfSome known (λ text. IsReadFault text e)
+read_head_fault None e f = tt
+read_head_fault (Some text) e f = inl f
+
+later : (P : List ℕ → Type 0) (known : Option (List ℕ)) (n : ℕ) (new : Option (List ℕ)) (head : Head) → TakesTold (λ line. head_of_line line ≡ Ok head) 0 known n new
+    → ((text : List ℕ) → TakesTold (λ line. head_of_line line ≡ Ok head) 0 (Some text) n new → P text) → IfSome known P
+later P None n new head t h = tt
+later P (Some text) n new head t h = h text t
+
+pub all_surveys : (known : Option (List ℕ)) (n : ℕ) (new : Option (List ℕ)) (head : Head) (r : Result Survey TraceError) → TakesTold (λ line. head_of_line line ≡ Ok head) 0 known n new
+    → IfOk r (λ survey. (text : List ℕ) → TakesTold (λ line. head_of_line line ≡ Ok head) 0 (Some text) n new → IsSurvey text survey)
+    → IfOk r (λ survey. IfSome known (λ text. IsSurvey text survey))
+all_surveys known n new head (Ok x) t h = later (λ text. IsSurvey text x) known n new head t h
+all_surveys known n new head (Err e) t h = tt
+
+pub all_read_faults : (known : Option (List ℕ)) (n : ℕ) (new : Option (List ℕ)) (head : Head) (r : Result Survey TraceError) → TakesTold (λ line. head_of_line line ≡ Ok head) 0 known n new
+    → IfErr r (λ e. (text : List ℕ) → TakesTold (λ line. head_of_line line ≡ Ok head) 0 (Some text) n new → IsReadFault text e)
+    → IfErr r (λ e. IfSome known (λ text. IsReadFault text e))
+all_read_faults known n new head (Ok x) t h = tt
+all_read_faults known n new head (Err e) t h = later (λ text. IsReadFault text e) known n new head t h
+
+-- ---- where no pick is told
+some_kind : (k : Kind) → (if is_kind NothingReady k then 1 else 0) + ((if is_kind Queue k then 1 else 0) + ((if is_kind Number k then 1 else 0) + (if is_kind Fresh k then 1 else 0))) ≡ 1
+some_kind NothingReady = refl
+some_kind Queue = refl
+some_kind Number = refl
+some_kind Fresh = refl
+
+none_told : (counts : Counts) (all : List Told) → AreCounts counts all → AreNone counts → all ≡ []
+none_told counts [] c n = refl
+none_told counts (told ∷ all) c n =
+    let one = some_kind (kind_of told.finding.lawful told.finding.picked) in
+    absurd (omega (arith, one, c.nothing_ready, c.queue, c.number, c.fresh, n.nothing_ready, n.queue, n.number, n.fresh))
+
+lawful_lines : (head : Head) (past : History) (lines : List (ℕ × List ℕ)) (all : List Told) → AreDifferences head past lines all → all ≡ [] → IsLawfulRun head.mechanism head.settings past
+lawful_lines head [] lines all d none = tt
+lawful_lines head (Changed settings ∷ past) lines all (line, earlier, is, d) none = lawful_lines head past earlier all d none
+lawful_lines head (Picked seen pick ∷ past) lines all (line, earlier, is, o, inl (l, d)) none = (o, l, lawful_lines head past earlier all d none)
+lawful_lines head (Picked seen pick ∷ past) lines all (line, earlier, is, o, inr (finding, others, more, different, d)) none = let no : record { line = line.0; quoted = line.1; finding = finding } ∷ others ≡ [] = sym more ∙ none in absurd (cc no)
+
+pub lawful_survey : LawfulSurveys
+lawful_survey text survey s n = record {
+  head = s.head;
+  past = s.past;
+  tells = s.tells;
+  lawful = lawful_lines s.head s.past _ s.told.all s.told.differences (none_told survey.counts s.told.all s.told.counts n);
+  picks_are = s.told.picks;
+}
+
+-- what follows where something is done
+pub after_ok : {T E : Type 0} (result : Result T E) (P Q : Type 0) → OnOk result P → (P → Q) → OnOk result Q
+after_ok (Ok t) P Q h f = f h
+after_ok (Err e) P Q h f = tt

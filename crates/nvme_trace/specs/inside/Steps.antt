@@ -1,0 +1,45 @@
+-- One event more of a survey, as it is kept (profile).
+use Rattle.std.specs.Prelude.{◌≤◌, ◌<◌, ℕ, ◌+◌, List, Option, Some, None}
+use Rattle.nvme_arbiter.specs.Settings.{ArbitrationFields}
+use Rattle.nvme_arbiter.specs.History.{History}
+use Rattle.nvme_arbiter.specs.Standing.{last_with, used_before}
+use Rattle.nvme_arbiter.specs.declared.settings.Class.{Class}
+use Rattle.nvme_arbiter.specs.declared.settings.Class.TheVariants.{Admin, Urgent, High, Medium, Low}
+use Rattle.nvme_arbiter.specs.declared.kept.Kept.{Kept}
+use Rattle.nvme_arbiter.specs.declared.kept.Used.{Used}
+use Rattle.nvme_arbiter.specs.declared.pick.Pick.{Pick}
+use Rattle.nvme_trace.specs.Surveys.{Follows, IsSurveyOf, capped_used}
+use Rattle.nvme_trace.specs.declared.records.Head.{Head}
+use Rattle.nvme_trace.specs.declared.survey.Counts.{Counts}
+use Rattle.nvme_trace.specs.declared.survey.Surveyor.{Surveyor}
+
+-- what is used with the commands of a pick of a class
+abbrev pub used_plus : Used → Option Class → ℕ → Used
+used_plus used None n = used
+used_plus used (Some Admin) n = used
+used_plus used (Some Urgent) n = used
+used_plus used (Some High) n = record used { high = capped_used (used.high + n) }
+used_plus used (Some Medium) n = record used { medium = capped_used (used.medium + n) }
+used_plus used (Some Low) n = record used { low = capped_used (used.low + n) }
+
+-- what is kept after any pick of a class
+abbrev pub followed : Kept → Option Class → Pick → Kept
+followed k class pick = record k { last = record (last_with k.last class pick.qid) { all = Some pick.qid }; used = used_plus (used_before pick.fresh k.used) class pick.n }
+
+-- no weight is above what is counted
+pub record WeightsFit (s : ArbitrationFields) : Type 0 where
+  pub high : s.high < 65535
+  pub medium : s.medium < 65535
+  pub low : s.low < 65535
+
+-- no more are counted than there are picks
+pub record AreFew (counts : Counts) (picks : ℕ) : Type 0 where
+  pub nothing_ready : counts.nothing_ready ≤ picks
+  pub queue : counts.queue ≤ picks
+  pub number : counts.number ≤ picks
+  pub fresh : counts.fresh ≤ picks
+
+-- a surveyor stands after the events of a history in these lines
+pub record SurveysAt (head : Head) (past : History) (lines : List (ℕ × List ℕ)) (s : Surveyor) : Type 0 where
+  pub follows : Follows head.mechanism head.settings past s.kept
+  pub told : IsSurveyOf head past lines s.survey
