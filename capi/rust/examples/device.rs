@@ -1,0 +1,163 @@
+// SPDX-License-Identifier: MIT
+//! A device over a controller, to be copied: an array stands for guest memory, and another one for the blocks of its
+//! namespace. It serves the admin queues and one I/O queue pair. The host is at the bottom.
+use nvmearb::{admin_opcode, io_opcode};
+use nvmearb::{Config, Controller, Cqe, DoorbellError, Error, Mechanism, Region, Sqe, Status, CQE_BYTES, SQE_BYTES};
+
+/// The slots of each ring.
+const RING: u16 = 8;
+/// The addresses of the rings in guest memory, by the number of their region: those of the admin queues and of the I/O
+/// queues.
+const SQS: [u64; 2] = [0x1000, 0x3000];
+const CQS: [u64; 2] = [0x2000, 0x4000];
+const BLOCKS: usize = 16;
+const BLOCK: usize = 512;
+
+struct Device {
+    ctrl: Controller,
+    blocks: Vec<u8>,
+    memory: Vec<u8>,
+}
+
+/// Where a slot of a ring lies.
+fn place(ring: u64, slot: u16, bytes: usize) -> std::ops::Range<usize> {
+    let start = ring as usize + usize::from(slot) * bytes;
+    start..start + bytes
+}
+
+impl Device {
+    /// CC.EN becomes 1.
+    fn enabled() -> Result<Device, Error> {
+        let config = Config {
+            asq: Region { address: SQS[0], slots: RING },
+            acq: Region { address: CQS[0], slots: RING },
+            mechanism: Mechanism::Weighted,
+            cdw11: 0x0100_0001,
+            nsq: 4,
+            ncq: 4,
+            window: RING,
+        };
+        let mut ctrl = Controller::new(&config, 32)?;
+        ctrl.add_sq_region(SQS[1], RING)?;
+        ctrl.add_cq_region(CQS[1], RING)?;
+        Ok(Device { ctrl, blocks: vec![0; BLOCKS * BLOCK], memory: vec![0; 0x8000] })
+    }
+
+    /// Fetches what the host submitted to a queue.
+    fn fetch(&mut self, qid: u16) {
+        let Some(region) = self.ctrl.sq(qid) else { return };
+        while let Some(slot) = self.ctrl.fetch(qid) {
+            let mut bytes = [0; SQE_BYTES]; // a copy: the host may write there
+            bytes.copy_from_slice(&self.memory[place(SQS[usize::from(region)], slot, SQE_BYTES)]);
+            self.ctrl.fetched(qid, &bytes, qid.into()).expect("the slot was told");
+        }
+    }
+
+    /// Executes a command: Reads and Writes of blocks in one page that PRP1 names.
+    fn execute(&mut self, entry: &Sqe) -> Status {
+        let status = entry.outcome(&[BLOCKS as u64]).unwrap_or(Status::INTERNAL_ERROR);
+        if !status.is_success() || entry.opcode == io_opcode::FLUSH {
+            return status;
+        }
+        let first = entry.cdw10 as usize * BLOCK;
+        let length = ((entry.cdw12 & 0xffff) as usize + 1) * BLOCK;
+        let blocks = &mut self.blocks[first..first + length];
+        let start = entry.prp1 as usize;
+        let Some(data) = start.checked_add(length).and_then(|end| self.memory.get_mut(start..end)) else {
+            return Status::DATA_TRANSFER_ERROR;
+        };
+        match entry.opcode {
+            io_opcode::READ => data.copy_from_slice(blocks),
+            _ => blocks.copy_from_slice(data),
+        }
+        status
+    }
+
+    /// Executes what arbitration picks. A device may just as well complete a command later.
+    fn work(&mut self) {
+        while let Ok(Some(_)) = self.ctrl.pick() {
+            while let Some(command) = self.ctrl.take() {
+                let status = self.execute(&command.entry);
+                self.ctrl.complete(command.tag, status, 0).expect("the command was taken");
+            }
+        }
+    }
+
+    /// Writes the completions of a completion region, and would send the interrupt.
+    fn post(&mut self, region: u16) {
+        while let Ok(Some(post)) = self.ctrl.post(region) {
+            let entry = &mut self.memory[place(CQS[usize::from(region)], post.slot, CQE_BYTES)];
+            entry[..12].copy_from_slice(&post.bytes[..12]); // between other threads: a barrier after this
+            entry[12..].copy_from_slice(&post.bytes[12..]);
+        }
+    }
+
+    /// A doorbell write: `doorbell` is 2 * QID, or 2 * QID + 1 for a completion queue. An invalid one is an error
+    /// event.
+    fn ring(&mut self, doorbell: u16, value: u32) -> Result<(), DoorbellError> {
+        let (qid, to) = (doorbell / 2, value as u16);
+        let rung = if doorbell % 2 == 0 { self.ctrl.sq_tail(qid, to) } else { self.ctrl.cq_head(qid, to) };
+        self.fetch(0);
+        self.fetch(1);
+        self.work();
+        self.post(1);
+        self.ctrl.finish();
+        self.post(0);
+        rung
+    }
+}
+
+/// The host's side of a queue pair.
+struct Pair {
+    qid: u16,
+    tail: u16,
+    head: u16,
+    phase: bool,
+}
+
+impl Pair {
+    fn new(qid: u16) -> Pair {
+        Pair { qid, tail: 0, head: 0, phase: true }
+    }
+
+    /// Submits a command, and collects its completion.
+    fn run(&mut self, device: &mut Device, entry: Sqe) -> Result<Status, Box<dyn std::error::Error>> {
+        let entry = Sqe { cid: self.tail, ..entry };
+        let (sq, cq) = (SQS[usize::from(self.qid)], CQS[usize::from(self.qid)]);
+        device.memory[place(sq, self.tail, SQE_BYTES)].copy_from_slice(&entry.to_bytes());
+        self.tail = (self.tail + 1) % RING;
+        device.ring(2 * self.qid, self.tail.into())?;
+        let done = Cqe::from_bytes(device.memory[place(cq, self.head, CQE_BYTES)].try_into()?)?;
+        if (done.phase, done.cid, done.sqhd) != (self.phase, entry.cid, self.tail) {
+            return Err("no completion came".into());
+        }
+        self.head = (self.head + 1) % RING;
+        self.phase ^= self.head == 0;
+        device.ring(2 * self.qid + 1, self.head.into())?;
+        Ok(done.status)
+    }
+}
+
+fn main() -> Result<(), Box<dyn std::error::Error>> {
+    let mut device = Device::enabled()?;
+    let (mut admin, mut io) = (Pair::new(0), Pair::new(1));
+    let create = |opcode, prp1, cdw11| Sqe { opcode, prp1, cdw10: 0x0007_0001, cdw11, ..Sqe::default() };
+    assert_eq!(admin.run(&mut device, create(admin_opcode::CREATE_CQ, CQS[1], 1))?, Status::SUCCESS);
+    assert_eq!(admin.run(&mut device, create(admin_opcode::CREATE_SQ, SQS[1], 0x0001_0001))?, Status::SUCCESS);
+    let write = Sqe { opcode: io_opcode::WRITE, nsid: 1, prp1: 0x5000, cdw10: 3, ..Sqe::default() };
+    let read = Sqe { opcode: io_opcode::READ, prp1: 0x6000, ..write };
+    for n in 0..20 {
+        // twice round the rings and more
+        device.memory[0x5000..0x5000 + BLOCK].fill(n);
+        assert_eq!(io.run(&mut device, write)?, Status::SUCCESS);
+        assert_eq!(io.run(&mut device, read)?, Status::SUCCESS);
+        assert!(device.memory[0x6000..0x6000 + BLOCK].iter().all(|byte| *byte == n));
+    }
+    let beyond = Sqe { cdw10: BLOCKS as u32, ..read };
+    assert_eq!(io.run(&mut device, beyond)?, Status::LBA_OUT_OF_RANGE);
+    let delete = Sqe { opcode: admin_opcode::DELETE_SQ, cdw10: 1, ..Sqe::default() };
+    assert_eq!(admin.run(&mut device, delete)?, Status::SUCCESS);
+    assert_eq!(device.ring(2, 0), Err(DoorbellError::Register)); // the doorbell of a queue that is gone
+    println!("1 passed, 0 failed");
+    Ok(())
+}

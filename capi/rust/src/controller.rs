@@ -1,0 +1,337 @@
+// SPDX-License-Identifier: MIT
+//! The controller.
+use crate::error::{checked, found, rung, sure, written};
+use crate::sys::{self, nvmearb_ctrl, nvmearb_slot};
+use crate::{check_version, Answer, DoorbellError, Error, Mechanism, OneCaller, Pick, Region, Sqe, Status};
+use crate::{CQE_BYTES, MAX_SLOTS, SQE_BYTES};
+use std::fmt;
+
+/// What a controller is made with.
+#[derive(Clone, Copy, Debug, PartialEq, Eq, Hash)]
+pub struct Config {
+    /// The admin submission queue: ASQ, and the field of AQA and 1 more.
+    pub asq: Region,
+    /// The admin completion queue: ACQ, and the field of AQA and 1 more.
+    pub acq: Region,
+    /// The arbitration mechanism (CC.AMS).
+    pub mechanism: Mechanism,
+    /// The Arbitration feature; bits 07:03 are ignored.
+    pub cdw11: u32,
+    /// The most I/O submission queues, 1 to [`MAX_IO_QUEUES`](crate::MAX_IO_QUEUES).
+    pub nsq: u16,
+    /// The most I/O completion queues, 1 to [`MAX_IO_QUEUES`](crate::MAX_IO_QUEUES).
+    pub ncq: u16,
+    /// The most commands of a queue that are fetched and not picked; above 256 it is 256.
+    pub window: u16,
+}
+
+impl Config {
+    fn fields(&self) -> sys::nvmearb_config {
+        sys::nvmearb_config {
+            asq: self.asq.fields(),
+            acq: self.acq.fields(),
+            mechanism: self.mechanism as u32,
+            cdw11: self.cdw11,
+            nsq: self.nsq,
+            ncq: self.ncq,
+            window: self.window,
+        }
+    }
+}
+
+/// What a pick did.
+#[derive(Clone, Copy, Debug, PartialEq, Eq, Hash)]
+pub enum Step {
+    /// Commands of an I/O queue were picked: [`Controller::take`] gives them.
+    Picked(Pick),
+    /// A command of the admin queue was picked and carried out, and came to this. The caller needs to do nothing for it
+    /// but to end a deletion ([`Verdict::BeginDelete`](crate::Verdict::BeginDelete), by [`Controller::finish`]). Its
+    /// completion becomes ready by itself.
+    CarriedOut(Answer),
+}
+
+impl Step {
+    fn of(fields: &sys::nvmearb_step) -> Step {
+        match fields.kind {
+            sys::NVMEARB_PICKED => Step::Picked(Pick::of(&fields.pick)),
+            sys::NVMEARB_CARRIED_OUT => Step::CarriedOut(Answer::of(&fields.answer)),
+            kind => panic!("libnvmearb told a step of the kind {kind}, which can't be"),
+        }
+    }
+}
+
+/// A command that the device has.
+#[derive(Clone, Copy, Debug, PartialEq, Eq, Hash)]
+pub struct Command {
+    /// Its submission queue entry.
+    pub entry: Sqe,
+    /// What the caller gave [`Controller::fetched`] with it, for example the number of its queue.
+    pub cookie: u32,
+    /// Its name until its completion is posted.
+    pub tag: u16,
+}
+
+impl Command {
+    fn of(fields: &sys::nvmearb_command) -> Command {
+        Command { entry: Sqe::of(&fields.entry), cookie: fields.cookie, tag: fields.tag }
+    }
+}
+
+/// A completion to be written into the ring of a completion queue. The phase tag is in its last four bytes: write them
+/// after the others.
+#[derive(Clone, Copy, Debug, PartialEq, Eq, Hash)]
+pub struct Post {
+    /// The completion queue entry.
+    pub bytes: [u8; CQE_BYTES],
+    /// The cookie of its command.
+    pub cookie: u32,
+    /// The tag of its command, free from now on.
+    pub tag: u16,
+    /// The slot of the ring.
+    pub slot: u16,
+}
+
+impl Post {
+    fn of(fields: &sys::nvmearb_post) -> Post {
+        let sys::nvmearb_post { bytes, cookie, tag, slot } = *fields;
+        Post { bytes, cookie, tag, slot }
+    }
+}
+
+/// The front of a whole controller, which is driven by calls. It owns its state and the slots that hold the commands.
+///
+/// The order of calls:
+///
+/// 1. When the host enables the controller (CC.EN), [`Controller::new`] or [`Controller::reset`] with the admin queues,
+///    and then [`Controller::add_sq_region`] and [`Controller::add_cq_region`] for each ring that a Create may name.
+/// 2. At each doorbell write [`Controller::sq_tail`] or [`Controller::cq_head`].
+/// 3. For each queue, while [`Controller::fetch`] tells a slot: read the entry there, and [`Controller::fetched`].
+/// 4. While [`Controller::take`] gives a command, execute it. Where it has none, [`Controller::pick`], and begin again,
+///    until that picks nothing either.
+/// 5. [`Controller::complete`] for each command that ends, in any order and at any time.
+/// 6. For each completion region, while [`Controller::post`] gives a completion: write it into the slot of the ring,
+///    and then send the interrupt.
+/// 7. After a pick that began a deletion, [`Controller::finish`] after each 6., until it ends the deletion. Until then
+///    nothing is fetched or picked; what the device has of any queue may still be completed.
+///
+/// It hands the device no admin command, and answers those that are none of its own with
+/// [`Status::INVALID_OPCODE`], so Identify too. A device that has such commands to answer takes the parts. A region is
+/// used by one queue, once, until the next reset. At most 256 commands are picked and have no completion posted.
+///
+/// It isn't `Clone`: two copies would post the same completions.
+///
+/// ```
+/// use nvmearb::{admin_opcode, feature, Config, Controller, Cqe, Mechanism, Region, Sqe};
+///
+/// let mut ctrl = Controller::new(
+///     &Config {
+///         asq: Region { address: 0x1000, slots: 8 },
+///         acq: Region { address: 0x2000, slots: 8 },
+///         mechanism: Mechanism::RoundRobin,
+///         cdw11: 7,
+///         nsq: 4,
+///         ncq: 4,
+///         window: 8,
+///     },
+///     16,
+/// )?;
+/// let entry = Sqe { opcode: admin_opcode::GET_FEATURES, cid: 5, cdw10: feature::ARBITRATION.into(), ..Sqe::default()
+/// }; ctrl.sq_tail(0, 1)?; // the host submitted a command to the admin queue
+/// assert_eq!(ctrl.fetch(0), Some(0)); // its entry is in slot 0
+/// ctrl.fetched(0, &entry.to_bytes(), 0)?;
+/// ctrl.pick()?; // the controller carries it out
+/// let post = ctrl.post(0)?.expect("its completion is ready");
+/// assert_eq!((post.slot, Cqe::from_bytes(&post.bytes)?.dw0), (0, 7));
+/// # Ok::<(), Box<dyn std::error::Error>>(())
+/// ```
+pub struct Controller {
+    // These two go together: the library wrote what is in both, and nothing else writes into them.
+    ctrl: Box<nvmearb_ctrl>,
+    slots: Box<[nvmearb_slot]>,
+    one_caller: OneCaller,
+}
+
+impl Controller {
+    /// A controller with its admin queues alone, which are open, on region 0 of each kind. It has `slots` slots: one
+    /// holds one command from its fetch until its completion is posted, and nothing is fetched while none is free. With
+    /// fewer than `(nsq + 1) * window + 256`, commands of one queue may so keep those of another from being fetched.
+    ///
+    /// [`Error::Argument`]: `slots` isn't 1 to [`MAX_SLOTS`], `nsq` or `ncq` isn't 1 to
+    /// [`MAX_IO_QUEUES`](crate::MAX_IO_QUEUES), or `window` is 0. Otherwise the first of these: [`Error::Size`]: `asq`
+    /// doesn't have 2 to 4096 slots. [`Error::Used`]: `acq` has the address of `asq`. [`Error::Size`]: `acq` doesn't
+    /// have 2 to 4096 slots.
+    ///
+    /// # Panics
+    ///
+    /// If the library isn't of this crate's version.
+    pub fn new(config: &Config, slots: usize) -> Result<Controller, Error> {
+        check_version();
+        if slots > MAX_SLOTS {
+            return Err(Error::Argument); // (before that much memory is asked for)
+        }
+        let slots = vec![nvmearb_slot::default(); slots].into_boxed_slice();
+        let mut controller = Controller { ctrl: Box::default(), slots, one_caller: OneCaller::default() };
+        controller.reset(config)?;
+        Ok(controller)
+    }
+
+    /// Makes the controller anew with the slots that it has, as at a controller reset: nothing of before is left.
+    /// Refused as [`Controller::new`], and then the controller is as it was.
+    pub fn reset(&mut self, config: &Config) -> Result<(), Error> {
+        let (ctrl, slots, count) = self.parts();
+        // SAFETY: references.
+        checked(unsafe { sys::nvmearb_ctrl_init(ctrl, slots, count, &config.fields()) })
+    }
+
+    /// Adds a submission region, which a Create I/O Submission Queue may name, and answers its number.
+    ///
+    /// The first of these: [`Error::Used`]: a region of either kind has this address. [`Error::TooMany`]: there are
+    /// [`MAX_REGIONS`](crate::MAX_REGIONS) submission regions. [`Error::Size`]: `slots` isn't 2 to 4096.
+    pub fn add_sq_region(&mut self, address: u64, slots: u16) -> Result<u16, Error> {
+        // SAFETY: references.
+        written(|number| unsafe { sys::nvmearb_ctrl_add_sq_region(&mut *self.ctrl, address, slots, number) })
+    }
+
+    /// Adds a completion region, as [`Controller::add_sq_region`] a submission region.
+    pub fn add_cq_region(&mut self, address: u64, slots: u16) -> Result<u16, Error> {
+        // SAFETY: references.
+        written(|number| unsafe { sys::nvmearb_ctrl_add_cq_region(&mut *self.ctrl, address, slots, number) })
+    }
+
+    /// The host wrote the tail doorbell of a submission queue: `tail` is bits 15:00 of the value.
+    ///
+    /// [`DoorbellError::Register`]: the queue isn't open or is closing. Otherwise [`DoorbellError::Value`]: the ring
+    /// has no such slot, or hasn't as many free slots. A ring has one slot less of commands than it has slots.
+    pub fn sq_tail(&mut self, qid: u16, tail: u16) -> Result<(), DoorbellError> {
+        // SAFETY: references.
+        rung(unsafe { sys::nvmearb_ctrl_sq_tail(&mut *self.ctrl, qid, tail) })
+    }
+
+    /// The host wrote the head doorbell of a completion queue: `head` is bits 15:00 of the value.
+    ///
+    /// [`DoorbellError::Register`]: the queue isn't open. Otherwise [`DoorbellError::Value`]: the ring has no such
+    /// slot, or not as many completions were posted.
+    pub fn cq_head(&mut self, cqid: u16, head: u16) -> Result<(), DoorbellError> {
+        // SAFETY: references.
+        rung(unsafe { sys::nvmearb_ctrl_cq_head(&mut *self.ctrl, cqid, head) })
+    }
+
+    /// The slot of the ring of a submission queue whose entry is fetched next. None if the queue isn't open, the host
+    /// submitted no more, as many of its commands wait as the window or the ring allows, no slot of the controller is
+    /// free, or a deletion is pending.
+    pub fn fetch(&self, qid: u16) -> Option<u16> {
+        // SAFETY: references.
+        sure(found(|slot| unsafe { sys::nvmearb_ctrl_fetch(&*self.ctrl, qid, slot) }))
+    }
+
+    /// The entry in the slot that [`Controller::fetch`] tells was read: its command waits to be picked. `cookie` is
+    /// kept with it.
+    ///
+    /// [`Error::Missing`]: `fetch` tells no slot.
+    pub fn fetched(&mut self, qid: u16, bytes: &[u8; SQE_BYTES], cookie: u32) -> Result<(), Error> {
+        let (ctrl, slots, count) = self.parts();
+        // SAFETY: references, and the slots are those of the state.
+        checked(unsafe { sys::nvmearb_ctrl_fetched(ctrl, slots, count, qid, bytes, cookie) })
+    }
+
+    /// The pick that arbitration makes next of the commands that wait now, whether or not [`Controller::pick`] can make
+    /// it already. None if no command waits.
+    pub fn peek(&self) -> Option<Pick> {
+        let (ctrl, slots) = (&*self.ctrl, &*self.slots);
+        // SAFETY: references, and the slots are those of the state.
+        sure(found(|pick| unsafe { sys::nvmearb_ctrl_peek(ctrl, slots.as_ptr(), slots.len(), pick) }))
+            .as_ref()
+            .map(Pick::of)
+    }
+
+    /// Makes the next pick of arbitration. None if no command waits. An admin command is carried out at once: queues
+    /// are created, a deletion begins and the waiting commands of its queue are answered with
+    /// [`Status::ABORTED_BY_DELETION`], a waiting command is aborted with [`Status::ABORT_REQUESTED`], features are set
+    /// and told.
+    ///
+    /// [`Error::Busy`]: commands are picked and not taken, or a deletion is pending. [`Error::Full`]: more than 256
+    /// commands would be picked, or aborted by an Abort, and have no completion posted.
+    pub fn pick(&mut self) -> Result<Option<Step>, Error> {
+        let (ctrl, slots, count) = self.parts();
+        // SAFETY: references, and the slots are those of the state.
+        let step = found(|step| unsafe { sys::nvmearb_ctrl_pick(ctrl, slots, count, step) })?;
+        Ok(step.as_ref().map(Step::of))
+    }
+
+    /// The device takes the oldest of the commands that are picked and not taken. None if all are taken.
+    pub fn take(&mut self) -> Option<Command> {
+        let (ctrl, slots, count) = self.parts();
+        // SAFETY: references, and the slots are those of the state.
+        let command = sure(found(|command| unsafe { sys::nvmearb_ctrl_take(ctrl, slots, count, command) }));
+        command.as_ref().map(Command::of)
+    }
+
+    /// The device completes a command, whose completion is ready then. `dw0` is its Command Dword 0.
+    ///
+    /// [`Error::Missing`]: the device has no command of this tag: none was taken under it, or it is completed already.
+    pub fn complete(&mut self, tag: u16, status: Status, dw0: u32) -> Result<(), Error> {
+        let (ctrl, slots, count) = self.parts();
+        // SAFETY: references, and the slots are those of the state.
+        checked(unsafe { sys::nvmearb_ctrl_complete(ctrl, slots, count, tag, &status.fields(), dw0) })
+    }
+
+    /// The completion that became ready first in a completion region. None if none is ready, or the host has freed no
+    /// slot of the ring.
+    ///
+    /// [`Error::Argument`]: `region` is [`MAX_REGIONS`](crate::MAX_REGIONS) or more.
+    pub fn post(&mut self, region: u16) -> Result<Option<Post>, Error> {
+        let (ctrl, slots, count) = self.parts();
+        // SAFETY: references, and the slots are those of the state.
+        let post = found(|post| unsafe { sys::nvmearb_ctrl_post(ctrl, slots, count, region, post) })?;
+        Ok(post.as_ref().map(Post::of))
+    }
+
+    /// Finishes the pending deletion of a submission queue, and answers its identifier, which is free then. The
+    /// completion of the Delete is ready then. None if no deletion is pending, or a command that was fetched from the
+    /// queue has no completion posted yet.
+    pub fn finish(&mut self) -> Option<u16> {
+        let (ctrl, slots, count) = self.parts();
+        // SAFETY: references, and the slots are those of the state.
+        sure(found(|qid| unsafe { sys::nvmearb_ctrl_finish(ctrl, slots, count, qid) }))
+    }
+
+    /// The command of a tag once more. None if the device has no command of this tag.
+    pub fn command(&self, tag: u16) -> Option<Command> {
+        let (ctrl, slots) = (&*self.ctrl, &*self.slots);
+        // SAFETY: references, and the slots are those of the state.
+        sure(found(|command| unsafe { sys::nvmearb_ctrl_command(ctrl, slots.as_ptr(), slots.len(), tag, command) }))
+            .as_ref()
+            .map(Command::of)
+    }
+
+    /// The number of the region of a submission queue. None if the queue isn't open or is closing.
+    pub fn sq(&self, qid: u16) -> Option<u16> {
+        // SAFETY: references.
+        sure(found(|region| unsafe { sys::nvmearb_ctrl_sq(&*self.ctrl, qid, region) }))
+    }
+
+    /// The number of the region of a completion queue. None if the queue isn't open.
+    pub fn cq(&self, cqid: u16) -> Option<u16> {
+        // SAFETY: references.
+        sure(found(|region| unsafe { sys::nvmearb_ctrl_cq(&*self.ctrl, cqid, region) }))
+    }
+
+    /// How many commands of a submission queue were fetched and wait to be picked. None if the queue isn't open or is
+    /// closing.
+    pub fn waiting(&self, qid: u16) -> Option<u16> {
+        // SAFETY: references.
+        sure(found(|count| unsafe { sys::nvmearb_ctrl_waiting(&*self.ctrl, qid, count) }))
+    }
+
+    /// The state, the slots, and their number, as calls take them.
+    fn parts(&mut self) -> (&mut nvmearb_ctrl, *mut nvmearb_slot, usize) {
+        let count = self.slots.len();
+        (&mut self.ctrl, self.slots.as_mut_ptr(), count)
+    }
+}
+
+impl fmt::Debug for Controller {
+    fn fmt(&self, f: &mut fmt::Formatter<'_>) -> fmt::Result {
+        f.debug_struct("Controller").field("slots", &self.slots.len()).finish_non_exhaustive()
+    }
+}

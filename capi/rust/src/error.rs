@@ -1,0 +1,105 @@
+// SPDX-License-Identifier: MIT
+//! What a call refuses.
+use crate::sys;
+use std::fmt;
+
+/// Why a call did nothing. Each method says which of these it answers, and when.
+#[derive(Clone, Copy, Debug, PartialEq, Eq, Hash)]
+#[non_exhaustive]
+pub enum Error {
+    /// There is no such queue or command. (`NVMEARB_NONE`)
+    Missing,
+    /// An argument isn't valid. (`NVMEARB_EARG`)
+    Argument,
+    /// Another region has this address. (`NVMEARB_EUSED`)
+    Used,
+    /// There are [`MAX_REGIONS`](crate::MAX_REGIONS) regions of this kind. (`NVMEARB_EMANY`)
+    TooMany,
+    /// A region has 2 to 4096 slots. (`NVMEARB_ESIZE`)
+    Size,
+    /// Nothing can be picked yet: commands are to be taken, or a deletion is to be finished. (`NVMEARB_BUSY`)
+    Busy,
+    /// Nothing can be picked yet: too many commands were picked and aren't completed. (`NVMEARB_FULL`)
+    Full,
+}
+
+impl fmt::Display for Error {
+    fn fmt(&self, f: &mut fmt::Formatter<'_>) -> fmt::Result {
+        f.write_str(match self {
+            Error::Missing => "there is no such queue or command",
+            Error::Argument => "an argument isn't valid",
+            Error::Used => "another region has this address",
+            Error::TooMany => "there are 65 regions of this kind",
+            Error::Size => "a region has 2 to 4096 slots",
+            Error::Busy => "commands are to be taken, or a deletion is to be finished, before the next pick",
+            Error::Full => "too many commands were picked and aren't completed",
+        })
+    }
+}
+
+impl std::error::Error for Error {}
+
+/// Why a doorbell write is invalid. A controller tells its host so by an asynchronous event of the type Error status.
+#[derive(Clone, Copy, Debug, PartialEq, Eq, Hash)]
+pub enum DoorbellError {
+    /// The doorbell is that of no open queue: Write to Invalid Doorbell Register.
+    Register,
+    /// The queue can't come to this value: Invalid Doorbell Write Value.
+    Value,
+}
+
+impl fmt::Display for DoorbellError {
+    fn fmt(&self, f: &mut fmt::Formatter<'_>) -> fmt::Result {
+        f.write_str(match self {
+            DoorbellError::Register => "write to invalid doorbell register",
+            DoorbellError::Value => "invalid doorbell write value",
+        })
+    }
+}
+
+impl std::error::Error for DoorbellError {}
+
+/// The answer of a call.
+pub(crate) fn checked(code: u32) -> Result<(), Error> {
+    Err(match code {
+        sys::NVMEARB_OK => return Ok(()),
+        sys::NVMEARB_NONE => Error::Missing,
+        sys::NVMEARB_EARG => Error::Argument,
+        sys::NVMEARB_EUSED => Error::Used,
+        sys::NVMEARB_EMANY => Error::TooMany,
+        sys::NVMEARB_ESIZE => Error::Size,
+        sys::NVMEARB_BUSY => Error::Busy,
+        sys::NVMEARB_FULL => Error::Full,
+        _ => panic!("libnvmearb answered {code}, which can't be"),
+    })
+}
+
+/// The answer to the write of a doorbell.
+pub(crate) fn rung(code: u32) -> Result<(), DoorbellError> {
+    match checked(code) {
+        Ok(()) => Ok(()),
+        Err(Error::Missing) => Err(DoorbellError::Register),
+        Err(Error::Argument) => Err(DoorbellError::Value),
+        Err(error) => panic!("libnvmearb refused a doorbell: {error}"),
+    }
+}
+
+/// What a call has written.
+pub(crate) fn written<T: Default>(call: impl FnOnce(&mut T) -> u32) -> Result<T, Error> {
+    let mut place = T::default();
+    checked(call(&mut place))?;
+    Ok(place)
+}
+
+/// What a call has written, where there was something.
+pub(crate) fn found<T: Default>(call: impl FnOnce(&mut T) -> u32) -> Result<Option<T>, Error> {
+    match written(call) {
+        Err(Error::Missing) => Ok(None),
+        told => told.map(Some),
+    }
+}
+
+/// The value of a call that refuses nothing which its types allow.
+pub(crate) fn sure<T>(told: Result<T, Error>) -> T {
+    told.unwrap_or_else(|error| panic!("libnvmearb refused a call that it can't refuse: {error}"))
+}

@@ -1,0 +1,285 @@
+// SPDX-License-Identifier: MIT
+//! A controller: each call, and each refusal. Values are the specification's.
+use nvmearb::admin_opcode::{ABORT, CREATE_CQ, CREATE_SQ, DELETE_SQ, GET_FEATURES};
+use nvmearb::{
+    feature, io_opcode, Config, Controller, Cqe, DoorbellError, Error, Mechanism, Pick, Region, Sqe, Status,
+};
+use nvmearb::{Step, Verdict, MAX_REGIONS, MAX_SLOTS};
+
+const ASQ: u64 = 0x1000;
+const ACQ: u64 = 0x2000;
+const SQ: u64 = 0x3000;
+const CQ: u64 = 0x4000;
+const SLOTS: usize = 16;
+
+/// Admin queues of 8 slots, at most 4 I/O queues of a kind, no limit on the burst, a window of 4.
+fn config(mechanism: Mechanism) -> Config {
+    let (asq, acq) = (Region { address: ASQ, slots: 8 }, Region { address: ACQ, slots: 8 });
+    Config { asq, acq, mechanism, cdw11: 7, nsq: 4, ncq: 4, window: 4 }
+}
+
+/// The entry of an opcode and a command identifier is read from a slot of a queue. Its cookie is 1000 and the
+/// identifier.
+fn fetched(ctrl: &mut Controller, qid: u16, slot: u16, entry: Sqe) {
+    assert_eq!(ctrl.fetch(qid), Some(slot));
+    assert_eq!(ctrl.fetched(qid, &entry.to_bytes(), 1000 + u32::from(entry.cid)), Ok(()));
+}
+
+fn admin(opcode: u8, cid: u16, prp1: u64, cdw10: u32, cdw11: u32) -> Sqe {
+    Sqe { opcode, cid, prp1, cdw10, cdw11, ..Sqe::default() }
+}
+
+fn read(cid: u16) -> Sqe {
+    Sqe { opcode: io_opcode::READ, cid, nsid: 1, ..Sqe::default() }
+}
+
+/// A command of the admin queue is carried out.
+fn carried_out(ctrl: &mut Controller) -> Verdict {
+    match ctrl.pick() {
+        Ok(Some(Step::CarriedOut(answer))) => answer.verdict,
+        other => panic!("{other:?}"),
+    }
+}
+
+/// So many commands of queue 1 are picked.
+fn picked(ctrl: &mut Controller, n: u16) {
+    let pick = Pick { qid: 1, n, fresh: false };
+    assert_eq!(ctrl.peek(), Some(pick));
+    assert_eq!(ctrl.pick(), Ok(Some(Step::Picked(pick))));
+}
+
+/// The device takes the Read of a command identifier. The answer is its tag.
+fn taken(ctrl: &mut Controller, cid: u16) -> u16 {
+    let command = ctrl.take().expect("a command was picked");
+    assert_eq!((command.entry, command.cookie), (read(cid), 1000 + u32::from(cid)));
+    assert_eq!(ctrl.command(command.tag), Some(command));
+    command.tag
+}
+
+/// A completion is posted in a region: its slot, SQHD, command identifier, phase tag, status and Command Dword 0.
+fn posted(ctrl: &mut Controller, region: u16, want: (u16, u16, u16, bool, Status, u32)) {
+    let post = ctrl.post(region).unwrap().expect("a completion is ready");
+    let cqe = Cqe::from_bytes(&post.bytes).unwrap();
+    assert_eq!((post.slot, cqe.sqhd, cqe.cid, cqe.phase, cqe.status, cqe.dw0), want);
+    assert_eq!((cqe.sqid, post.cookie), (region, 1000 + u32::from(cqe.cid)));
+}
+
+/// A controller whose host created both queues 1, of 4 slots.
+fn prepared(mechanism: Mechanism) -> Controller {
+    let mut ctrl = Controller::new(&config(mechanism), SLOTS).unwrap();
+    assert_eq!((ctrl.add_sq_region(SQ, 4), ctrl.add_cq_region(CQ, 4)), (Ok(1), Ok(1)));
+    assert_eq!(ctrl.sq_tail(0, 2), Ok(()));
+    fetched(&mut ctrl, 0, 0, admin(CREATE_CQ, 10, CQ, 0x0003_0001, 0x0000_0001));
+    fetched(&mut ctrl, 0, 1, admin(CREATE_SQ, 11, SQ, 0x0003_0001, 0x0001_0001));
+    assert_eq!(ctrl.fetch(0), None);
+    assert_eq!(carried_out(&mut ctrl), Verdict::OpenCq { qid: 1, region: 1 });
+    assert!(matches!(carried_out(&mut ctrl), Verdict::OpenSq { qid: 1, region: 1, cqid: 1, .. }));
+    assert_eq!((ctrl.pick(), ctrl.peek()), (Ok(None), None));
+    posted(&mut ctrl, 0, (0, 2, 10, true, Status::SUCCESS, 0));
+    posted(&mut ctrl, 0, (1, 2, 11, true, Status::SUCCESS, 0));
+    assert_eq!(ctrl.post(0), Ok(None));
+    assert_eq!((ctrl.cq_head(0, 3), ctrl.cq_head(0, 2)), (Err(DoorbellError::Value), Ok(())));
+    ctrl
+}
+
+#[test]
+fn configurations_are_refused() {
+    let with = |change: fn(&mut Config), slots| {
+        let mut it = config(Mechanism::RoundRobin);
+        change(&mut it);
+        Controller::new(&it, slots).map(|_| ())
+    };
+    assert_eq!((with(|_| (), 0), with(|_| (), MAX_SLOTS + 1)), (Err(Error::Argument), Err(Error::Argument)));
+    assert_eq!(with(|_| (), usize::MAX), Err(Error::Argument));
+    let bad: [fn(&mut Config); 5] =
+        [|it| (it.nsq, it.asq.slots) = (0, 1), |it| it.nsq = 65, |it| it.ncq = 0, |it| it.ncq = 65, |it| it.window = 0];
+    for change in bad {
+        assert_eq!(with(change, SLOTS), Err(Error::Argument));
+    }
+    assert_eq!(with(|it| (it.asq.slots, it.acq.address) = (1, ASQ), SLOTS), Err(Error::Size));
+    assert_eq!(with(|it| (it.acq.slots, it.acq.address) = (1, ASQ), SLOTS), Err(Error::Used));
+    assert_eq!(with(|it| it.acq.slots = 4097, SLOTS), Err(Error::Size));
+    assert_eq!(with(|it| (it.asq.slots, it.acq.slots, it.window) = (4096, 2, 65535), 1), Ok(()));
+    assert_eq!(with(|it| (it.nsq, it.ncq) = (64, 64), MAX_SLOTS), Ok(()));
+}
+
+#[test]
+fn regions_are_refused() {
+    let mut ctrl = Controller::new(&config(Mechanism::Weighted), SLOTS).unwrap();
+    assert_eq!((ctrl.add_sq_region(ACQ, 4), ctrl.add_cq_region(ASQ, 1)), (Err(Error::Used), Err(Error::Used)));
+    assert_eq!((ctrl.add_sq_region(SQ, 1), ctrl.add_cq_region(CQ, 4097)), (Err(Error::Size), Err(Error::Size)));
+    for k in 1..MAX_REGIONS as u16 {
+        assert_eq!(ctrl.add_sq_region(0x1_0000 * u64::from(k), 4096), Ok(k));
+    }
+    assert_eq!(ctrl.add_sq_region(SQ, 4), Err(Error::TooMany));
+    assert_eq!((ctrl.add_cq_region(0x1_0000, 4), ctrl.add_cq_region(CQ, 2)), (Err(Error::Used), Ok(1)));
+}
+
+#[test]
+fn commands_go_through_and_rings_go_round() {
+    let mut ctrl = prepared(Mechanism::RoundRobin);
+    assert_eq!((ctrl.sq(1), ctrl.cq(1), ctrl.sq(2), ctrl.cq(2)), (Some(1), Some(1), None, None));
+    // three commands fill a ring of four slots
+    assert_eq!((ctrl.sq_tail(2, 1), ctrl.sq_tail(1, 4)), (Err(DoorbellError::Register), Err(DoorbellError::Value)));
+    assert_eq!((ctrl.sq_tail(1, 3), ctrl.sq_tail(1, 0)), (Ok(()), Err(DoorbellError::Value)));
+    assert_eq!((ctrl.cq_head(2, 0), ctrl.cq_head(1, 1)), (Err(DoorbellError::Register), Err(DoorbellError::Value)));
+    for (slot, cid) in [(0, 20), (1, 21), (2, 22)] {
+        assert_eq!((ctrl.waiting(1), ctrl.waiting(2)), (Some(slot), None));
+        fetched(&mut ctrl, 1, slot, read(cid));
+    }
+    assert_eq!((ctrl.fetch(1), ctrl.fetched(1, &[0; 64], 0)), (None, Err(Error::Missing)));
+    assert_eq!(ctrl.take(), None);
+    picked(&mut ctrl, 3);
+    assert_eq!(ctrl.pick(), Err(Error::Busy));
+    let tags = [20, 21, 22].map(|cid| taken(&mut ctrl, cid));
+    assert_eq!((ctrl.take(), ctrl.pick()), (None, Ok(None)));
+    // the device answers in another order
+    assert_eq!(ctrl.complete(tags[2], Status::SUCCESS, 0), Ok(()));
+    assert_eq!(ctrl.complete(tags[2], Status::SUCCESS, 0), Err(Error::Missing));
+    assert_eq!(ctrl.complete(SLOTS as u16, Status::SUCCESS, 0), Err(Error::Missing));
+    assert_eq!(ctrl.command(tags[2]), None);
+    assert_eq!(ctrl.complete(tags[0], Status::SUCCESS, 5), Ok(()));
+    assert_eq!(ctrl.complete(tags[1], Status::LBA_OUT_OF_RANGE, 9), Ok(()));
+    posted(&mut ctrl, 1, (0, 3, 22, true, Status::SUCCESS, 0));
+    posted(&mut ctrl, 1, (1, 3, 20, true, Status::SUCCESS, 5));
+    posted(&mut ctrl, 1, (2, 3, 21, true, Status::LBA_OUT_OF_RANGE, 9));
+    assert_eq!((ctrl.post(1), ctrl.post(64), ctrl.post(65)), (Ok(None), Ok(None), Err(Error::Argument)));
+    // slots 3, 0, 1, 2 of both rings: the phase tag is inverted, and three completions fill the queue
+    assert_eq!(ctrl.cq_head(1, 3), Ok(()));
+    for (slot, next, phase) in [(3, 0, true), (0, 1, false), (1, 2, false), (2, 3, false)] {
+        assert_eq!(ctrl.sq_tail(1, next), Ok(()));
+        fetched(&mut ctrl, 1, slot, read(next));
+        picked(&mut ctrl, 1);
+        let tag = taken(&mut ctrl, next);
+        assert_eq!(ctrl.complete(tag, Status::SUCCESS, 0), Ok(()));
+        if slot == 2 {
+            assert_eq!((ctrl.post(1), ctrl.cq_head(1, 0)), (Ok(None), Ok(())));
+        }
+        posted(&mut ctrl, 1, (slot, next, next, phase, Status::SUCCESS, 0));
+    }
+}
+
+#[test]
+fn abort_takes_a_waiting_command() {
+    let mut ctrl = prepared(Mechanism::Weighted);
+    assert_eq!(ctrl.sq_tail(1, 3), Ok(()));
+    fetched(&mut ctrl, 1, 0, read(40));
+    picked(&mut ctrl, 1);
+    taken(&mut ctrl, 40);
+    fetched(&mut ctrl, 1, 1, read(41));
+    fetched(&mut ctrl, 1, 2, read(42));
+    assert_eq!(ctrl.sq_tail(0, 3), Ok(()));
+    fetched(&mut ctrl, 0, 2, admin(ABORT, 12, 0, 42 << 16 | 1, 0));
+    assert_eq!(carried_out(&mut ctrl), Verdict::Abort { sqid: 1, cid: 42 });
+    posted(&mut ctrl, 1, (0, 3, 42, true, Status::ABORT_REQUESTED, 0));
+    posted(&mut ctrl, 0, (2, 3, 12, true, Status::SUCCESS, 0));
+}
+
+#[test]
+fn deletion_waits_for_its_commands() {
+    let mut ctrl = prepared(Mechanism::Weighted);
+    assert_eq!(ctrl.sq_tail(1, 2), Ok(()));
+    fetched(&mut ctrl, 1, 0, read(40));
+    picked(&mut ctrl, 1);
+    let tag = taken(&mut ctrl, 40);
+    fetched(&mut ctrl, 1, 1, read(41));
+    assert_eq!(ctrl.sq_tail(0, 3), Ok(()));
+    fetched(&mut ctrl, 0, 2, admin(DELETE_SQ, 13, 0, 1, 0));
+    assert_eq!(ctrl.finish(), None);
+    assert_eq!(carried_out(&mut ctrl), Verdict::BeginDelete { qid: 1 });
+    assert_eq!((ctrl.pick(), ctrl.sq_tail(1, 0)), (Err(Error::Busy), Err(DoorbellError::Register)));
+    assert_eq!((ctrl.fetch(0), ctrl.fetch(1), ctrl.sq(1), ctrl.waiting(1)), (None, None, None, None));
+    posted(&mut ctrl, 1, (0, 2, 41, true, Status::ABORTED_BY_DELETION, 0));
+    assert_eq!((ctrl.finish(), ctrl.complete(tag, Status::SUCCESS, 0), ctrl.finish()), (None, Ok(()), None));
+    posted(&mut ctrl, 1, (1, 2, 40, true, Status::SUCCESS, 0));
+    assert_eq!((ctrl.post(0), ctrl.finish()), (Ok(None), Some(1)));
+    posted(&mut ctrl, 0, (2, 3, 13, true, Status::SUCCESS, 0));
+    assert_eq!(ctrl.finish(), None);
+}
+
+#[test]
+fn reset_leaves_nothing_of_before() {
+    let mut ctrl = prepared(Mechanism::Weighted);
+    let mut refused = config(Mechanism::Weighted);
+    refused.window = 0;
+    assert_eq!((ctrl.reset(&refused), ctrl.sq(1)), (Err(Error::Argument), Some(1)));
+    assert_eq!(ctrl.reset(&config(Mechanism::RoundRobin)), Ok(()));
+    assert_eq!((ctrl.sq(1), ctrl.cq(1), ctrl.fetch(0), ctrl.post(0)), (None, None, None, Ok(None)));
+    assert_eq!(ctrl.sq_tail(0, 1), Ok(()));
+    fetched(&mut ctrl, 0, 0, admin(GET_FEATURES, 1, 0, feature::ARBITRATION.into(), 0));
+    assert_eq!(carried_out(&mut ctrl), Verdict::Done);
+    posted(&mut ctrl, 0, (0, 1, 1, true, Status::SUCCESS, 7));
+}
+
+#[test]
+fn window_and_slots_are_limits() {
+    let two = Config { window: 2, ..config(Mechanism::RoundRobin) };
+    let mut ctrl = Controller::new(&two, 3).unwrap();
+    let get = admin(GET_FEATURES, 1, 0, feature::ARBITRATION.into(), 0).to_bytes();
+    assert_eq!(ctrl.sq_tail(0, 7), Ok(()));
+    assert_eq!((ctrl.fetched(0, &get, 0), ctrl.fetched(0, &get, 0)), (Ok(()), Ok(())));
+    assert_eq!((ctrl.fetch(0), ctrl.waiting(0)), (None, Some(2))); // the window is full
+    carried_out(&mut ctrl);
+    assert_eq!(ctrl.fetched(0, &get, 0), Ok(()));
+    carried_out(&mut ctrl);
+    assert_eq!((ctrl.fetch(0), ctrl.waiting(0)), (None, Some(1))); // the slots are full
+    assert!(ctrl.post(0).unwrap().is_some());
+    assert_eq!(ctrl.fetch(0), Some(3));
+}
+
+#[test]
+fn at_most_256_commands_have_no_completion_posted() {
+    let wide = Config { window: 256, ..config(Mechanism::RoundRobin) };
+    let mut ctrl = Controller::new(&wide, 1024).unwrap();
+    assert_eq!((ctrl.add_sq_region(SQ, 512), ctrl.add_cq_region(CQ, 512)), (Ok(1), Ok(1)));
+    assert_eq!(ctrl.sq_tail(0, 2), Ok(()));
+    fetched(&mut ctrl, 0, 0, admin(CREATE_CQ, 1, CQ, 511 << 16 | 1, 1));
+    fetched(&mut ctrl, 0, 1, admin(CREATE_SQ, 2, SQ, 511 << 16 | 1, 0x0001_0001));
+    carried_out(&mut ctrl);
+    carried_out(&mut ctrl);
+    while ctrl.post(0).unwrap().is_some() {}
+    assert_eq!(ctrl.sq_tail(1, 257), Ok(()));
+    (0..256).for_each(|slot| fetched(&mut ctrl, 1, slot, read(slot)));
+    picked(&mut ctrl, 256);
+    let tags: Vec<u16> = (0..256).map(|cid| taken(&mut ctrl, cid)).collect();
+    fetched(&mut ctrl, 1, 256, read(256));
+    assert_eq!(ctrl.pick(), Err(Error::Full));
+    assert_eq!(ctrl.complete(tags[7], Status::SUCCESS, 0), Ok(()));
+    assert_eq!(ctrl.pick(), Err(Error::Full)); // until its completion is posted
+    posted(&mut ctrl, 1, (0, 257, 7, true, Status::SUCCESS, 0));
+    picked(&mut ctrl, 1);
+}
+
+// A state can be sent to another thread. It isn't Sync: else which of the two `nothing` is meant couldn't be inferred.
+macro_rules! is_sent_and_not_shared {
+    ($($state:ty),*) => {$({
+        trait Shared<A> {
+            fn nothing() {}
+        }
+        impl<T> Shared<()> for T {}
+        impl<T: Sync> Shared<u8> for T {}
+        fn sent<T: Send>() {}
+        <$state as Shared<_>>::nothing();
+        sent::<$state>();
+    })*};
+}
+
+#[test]
+fn states_are_sent_and_not_shared() {
+    is_sent_and_not_shared!(Controller, nvmearb::Table, nvmearb::Board, nvmearb::Arbiter);
+}
+
+#[test]
+fn controllers_move() {
+    let mut ctrl = std::thread::spawn(|| prepared(Mechanism::RoundRobin)).join().unwrap();
+    let mut other = prepared(Mechanism::Weighted);
+    std::mem::swap(&mut ctrl, &mut other);
+    for mut it in [ctrl, other] {
+        assert_eq!(it.sq_tail(1, 1), Ok(()));
+        fetched(&mut it, 1, 0, read(3));
+        picked(&mut it, 1);
+        let tag = taken(&mut it, 3);
+        assert_eq!(it.complete(tag, Status::SUCCESS, 0), Ok(()));
+        posted(&mut it, 1, (0, 1, 3, true, Status::SUCCESS, 0));
+    }
+}

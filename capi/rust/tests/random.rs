@@ -1,0 +1,178 @@
+// SPDX-License-Identifier: MIT
+//! Random calls, with random arguments: none panics, and each command gets one completion, its own.
+use nvmearb::{Admin, Board, Config, Controller, Cqe, Mechanism, Priority, Region, Sqe, Status, Table, Verdict};
+use std::collections::HashMap;
+
+/// A fixed sequence of numbers (splitmix64).
+struct Drawn(u64);
+
+impl Drawn {
+    fn word(&mut self) -> u64 {
+        self.0 = self.0.wrapping_add(0x9e37_79b9_7f4a_7c15);
+        let z = (self.0 ^ self.0 >> 30).wrapping_mul(0xbf58_476d_1ce4_e5b9);
+        let z = (z ^ z >> 27).wrapping_mul(0x94d0_49bb_1331_11eb);
+        z ^ z >> 31
+    }
+
+    /// A number below a bound, and now and then any.
+    fn below(&mut self, bound: u16) -> u16 {
+        let word = self.word();
+        if word >> 58 == 0 {
+            word as u16
+        } else {
+            word as u16 % bound
+        }
+    }
+
+    fn bytes<const N: usize>(&mut self) -> [u8; N] {
+        std::array::from_fn(|_| self.word() as u8)
+    }
+
+    /// An admin command that is accepted now and then.
+    fn admin(&mut self) -> Sqe {
+        let qid = u32::from(self.below(4));
+        Sqe {
+            opcode: self.below(12) as u8,
+            flags: u8::from(self.below(16) == 0),
+            cid: self.below(64),
+            prp1: 0x1000 * u64::from(self.below(8)),
+            cdw10: u32::from(self.below(8)) << 16 | qid,
+            cdw11: u32::from(self.below(4)) << 16 | u32::from(self.below(8)),
+            ..Sqe::default()
+        }
+    }
+}
+
+/// A controller, with the entries that were fetched and have no completion posted, by their cookies; and how many
+/// completions of admin and of I/O commands were posted.
+struct Driven {
+    ctrl: Controller,
+    open: HashMap<u32, Sqe>,
+    cookie: u32,
+    posts: [u32; 2],
+}
+
+impl Driven {
+    fn new(mechanism: Mechanism) -> Driven {
+        let (asq, acq) = (Region { address: 0x1000, slots: 8 }, Region { address: 0x2000, slots: 8 });
+        let config = Config { asq, acq, mechanism, cdw11: 2, nsq: 4, ncq: 4, window: 4 };
+        let mut ctrl = Controller::new(&config, 24).unwrap();
+        for address in [0x3000, 0x4000, 0x5000] {
+            ctrl.add_sq_region(address, 8).unwrap();
+            ctrl.add_cq_region(address + 0x800, 8).unwrap();
+        }
+        let create = |opcode, prp1, cdw11| Sqe { opcode, prp1, cdw10: 0x0007_0001, cdw11, ..Sqe::default() };
+        ctrl.sq_tail(0, 2).unwrap();
+        ctrl.fetched(0, &create(5, 0x3800, 1).to_bytes(), 0).unwrap();
+        ctrl.fetched(0, &create(1, 0x3000, 0x0001_0001).to_bytes(), 0).unwrap();
+        while ctrl.pick().unwrap().is_some() {}
+        while ctrl.post(0).unwrap().is_some() {}
+        assert_eq!((ctrl.sq(1), ctrl.cq(1)), (Some(1), Some(1)));
+        Driven { ctrl, open: HashMap::new(), cookie: 0, posts: [0; 2] }
+    }
+
+    fn fetched(&mut self, qid: u16, drawn: &mut Drawn) {
+        let entry = if qid == 0 { drawn.admin() } else { Sqe::from_bytes(&drawn.bytes()) };
+        // A Create of a completion queue names its region by this address.
+        let prp1 = if qid == 0 && entry.opcode == 5 { entry.prp1 + 0x800 } else { entry.prp1 };
+        let entry = Sqe { prp1, ..entry };
+        let told = self.ctrl.fetch(qid).is_some();
+        self.cookie += 1;
+        assert_eq!(self.ctrl.fetched(qid, &entry.to_bytes(), self.cookie).is_ok(), told);
+        if told {
+            self.open.insert(self.cookie, entry);
+        }
+    }
+
+    fn post(&mut self, region: u16) {
+        if let Ok(Some(post)) = self.ctrl.post(region) {
+            let entry = self.open.remove(&post.cookie).expect("its command has no other completion");
+            let cqe = Cqe::from_bytes(&post.bytes).unwrap();
+            assert_eq!(cqe.cid, entry.cid);
+            self.posts[usize::from(cqe.sqid > 0)] += 1;
+        }
+    }
+
+    fn step(&mut self, drawn: &mut Drawn) {
+        let (a, b) = (drawn.below(5), drawn.below(8));
+        match drawn.below(12) {
+            0 | 1 => _ = self.ctrl.sq_tail(a, b),
+            2 => _ = self.ctrl.cq_head(a, b),
+            3 | 4 => self.fetched(a, drawn),
+            5 => {
+                let peeked = self.ctrl.peek().is_some();
+                assert!(peeked || !matches!(self.ctrl.pick(), Ok(Some(_))));
+                _ = self.ctrl.pick();
+            }
+            6 => {
+                if let Some(command) = self.ctrl.take() {
+                    assert_eq!(self.open.get(&command.cookie), Some(&command.entry));
+                }
+            }
+            7 | 8 => _ = self.ctrl.complete(drawn.below(24), Status::new(b as u8 % 8, a as u8).unwrap(), 0),
+            9 | 10 => self.post(a),
+            _ => {
+                self.ctrl.finish();
+                let (command, queue) = (self.ctrl.command(b), (self.ctrl.sq(a), self.ctrl.cq(a)));
+                assert_eq!(
+                    (command.map_or(b, |it| it.tag), queue.0.unwrap_or(0) / 4, queue.1.unwrap_or(0) / 4),
+                    (b, 0, 0)
+                );
+                assert_eq!(self.ctrl.waiting(a).is_some(), queue.0.is_some());
+            }
+        }
+    }
+}
+
+#[test]
+fn controllers_answer_each_command_once() {
+    let mut drawn = Drawn(1);
+    let mut posts = [0; 2];
+    for round in 0..1000 {
+        let mut it = Driven::new(if round % 2 == 0 { Mechanism::RoundRobin } else { Mechanism::Weighted });
+        (0..500).for_each(|_| it.step(&mut drawn));
+        posts = [posts[0] + it.posts[0], posts[1] + it.posts[1]];
+    }
+    assert!(posts.iter().all(|n| *n > 1000), "{posts:?}");
+}
+
+#[test]
+fn tables_and_boards_take_any_arguments() {
+    let mut drawn = Drawn(2);
+    let mut accepted = 0;
+    for _ in 0..300 {
+        let mut table = Table::new(1 + drawn.below(8) % 64, 1 + drawn.below(8) % 64, drawn.word() as u32).unwrap();
+        let mut board = Board::new(Mechanism::Weighted, drawn.word() as u32);
+        for _ in 0..300 {
+            let (qid, n) = (drawn.below(5), drawn.below(300));
+            _ = table.add_sq_region(0x1000 * u64::from(n), qid);
+            _ = table.add_cq_region(0x800 + 0x1000 * u64::from(n), qid);
+            accepted += u32::from(table.apply(&drawn.admin().to_bytes()).verdict != Verdict::Done);
+            table.apply(&drawn.bytes());
+            _ = (table.finish_delete(qid), table.sq(qid), table.cq(qid), table.allotted(), table.settings());
+            let priority = [Priority::Admin, Priority::Urgent, Priority::High, Priority::Low][usize::from(n) % 4];
+            _ = (board.open(qid, priority), board.came_n(qid, n), board.came(qid), board.went(qid));
+            assert_eq!(board.peek(), board.pick());
+            if n == 7 {
+                board.set(drawn.word() as u32);
+                _ = board.close(qid);
+            }
+        }
+    }
+    assert!(accepted > 1000, "{accepted}");
+}
+
+#[test]
+fn entries_come_back() {
+    let mut drawn = Drawn(3);
+    for _ in 0..100_000 {
+        let bytes = drawn.bytes();
+        let entry = Sqe::from_bytes(&bytes);
+        assert_eq!(entry.to_bytes(), bytes);
+        assert_eq!(entry.admin() == Admin::Other, !matches!(entry.opcode, 0 | 1 | 4 | 5 | 8 | 9 | 10));
+        let mut done: [u8; 16] = drawn.bytes();
+        done[4..8].fill(0);
+        done[15] &= 0x0f;
+        assert_eq!(Cqe::from_bytes(&done).unwrap().to_bytes(), done);
+    }
+}
