@@ -1,7 +1,7 @@
 // Worked traces.
 use nvme_arbiter::{Class, Mechanism, Pick, Settings};
 use nvme_trace::{
-    Basis, Checked, Counts, Finding, Head, Judge, TraceEvent, check, check_all, check_by,
+    Basis, Checked, Finding, Head, Judge, TraceEvent, check, check_all, check_by,
 };
 use std::alloc::Global;
 use std::test::*;
@@ -179,27 +179,18 @@ fn all_that_differ(rt: HostRuntime) -> Result<(), Fail> {
 #[test]
 fn ten_are_told(rt: HostRuntime) -> Result<(), Fail> {
     let alloc = rt.alloc();
-    let mut text = format!(in alloc;
-        "{{\"version\":1,\"mechanism\":\"round-robin\",\"cdw11\":0}}\n"
-    )?;
+    let mut text = String::new(alloc);
+    text.push_str("{\"version\":1,\"mechanism\":\"round-robin\",\"cdw11\":0}\n")?;
     for _ in 0..25 {
         text.push_str("{\"pick\":1,\"n\":2,\"fresh\":false,\"seen\":[[1,\"low\",9]]}\n")?;
     }
-    let survey = check_all(alloc, text.as_bytes());
-    assert!(rt; survey.is_ok());
-    if let Ok(survey) = survey {
-        let counts = Counts {
-            nothing_ready: 0,
-            queue: 0,
-            number: 25,
-            fresh: 0,
-        };
-        assert_eq!(rt; (survey.picks, survey.first.len()), (25, 10));
-        assert_eq!(rt; survey.counts, counts);
-        for (difference, line) in survey.first.iter().zip(2..12) {
-            assert_eq!(rt; difference.line, line);
-        }
+    let told = survey(alloc, text.as_str())?;
+    assert!(rt; told.as_str().starts_with("differs: 25 of 25 picks\nanother number: 25\n"));
+    for line in 2..12 {
+        let head = format!(in alloc; "\n\ndiffers: line {line}\n")?;
+        assert!(rt; told.as_str().contains(head.as_str()), "no {head} in {told}");
     }
+    assert!(rt; !told.as_str().contains("differs: line 12"));
     Ok(())
 }
 
