@@ -1,8 +1,6 @@
 // Worked traces.
 use nvme_arbiter::{Class, Mechanism, Pick, Settings};
-use nvme_trace::{
-    Basis, Checked, Finding, Head, Judge, TraceEvent, check, check_all, check_by,
-};
+use nvme_trace::{Basis, Checked, Finding, Head, Judge, TraceEvent, check, check_all, check_by};
 use std::alloc::Global;
 use std::test::*;
 
@@ -185,10 +183,16 @@ fn ten_are_told(rt: HostRuntime) -> Result<(), Fail> {
         text.push_str("{\"pick\":1,\"n\":2,\"fresh\":false,\"seen\":[[1,\"low\",9]]}\n")?;
     }
     let told = survey(alloc, text.as_str())?;
-    assert!(rt; told.as_str().starts_with("differs: 25 of 25 picks\nanother number: 25\n"));
+    assert!(rt;
+        told.as_str()
+            .starts_with("differs: 25 of 25 picks\nanother number: 25\n")
+    );
     for line in 2..12 {
         let head = format!(in alloc; "\n\ndiffers: line {line}\n")?;
-        assert!(rt; told.as_str().contains(head.as_str()), "no {head} in {told}");
+        assert!(rt;
+            told.as_str().contains(head.as_str()),
+            "no {head} in {told}"
+        );
     }
     assert!(rt; !told.as_str().contains("differs: line 12"));
     Ok(())
