@@ -15,8 +15,9 @@ use crate::rows::{row_of, row_of_pick};
 use bars::put_bars_picture;
 use curves::put_curves_picture;
 use nvme_arbiter::{Class, Mechanism, Pick, Seen, Settings};
+use nvme_output::WriteFault;
 use nvme_stats::{LANES, Selection, Series, Watch, more, queue_of_lane, show};
-use nvme_trace::{Head, Trace, TraceError, TraceEvent, WriteFault, class_name};
+use nvme_trace::{Head, Trace, TraceError, TraceEvent, class_name};
 use std::alloc::Global;
 use std::io::{self, Read, Write};
 

@@ -5,7 +5,7 @@ use Rattle.std.specs.Io.KnownBytes.{Appends}
 use Rattle.nvme_trace.specs.Checks.{IsFaultBy, IsLawfulBy, IsRefusedBy}
 use Rattle.nvme_trace.specs.Surveys.{AreNone, IsSurvey}
 use Rattle.nvme_trace.specs.declared.survey.Survey.{Survey}
-use Rattle.nvme_trace.specs.Text.{trace_text}
+use Rattle.nvme_tracer.specs.Text.{trace_text}
 use Rattle.nvme_trace.specs.declared.fault.LineFault.{LineFault}
 use Rattle.nvme_trace.specs.declared.fault.TraceError.TheVariants as trace
 use Rattle.nvme_trace.specs.declared.basis.Basis.{Basis}

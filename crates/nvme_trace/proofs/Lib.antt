@@ -4,13 +4,6 @@ pub mod TraceLemmas
 pub mod CheckLemmas
 pub mod JudgeLemmas
 pub mod Exactness
-pub mod PlainLines
-pub mod WrittenJson
-pub mod ShortLines
-pub mod ReadLines
-pub mod TracedLines
-pub mod AccountedSettings
-pub mod TraceLaws
 pub mod Leniently
 pub mod FollowLemmas
 pub mod SurveyLemmas

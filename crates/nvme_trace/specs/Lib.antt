@@ -1,13 +1,11 @@
 pub mod Fields
 pub mod Names
-pub mod Text
 pub mod Readings
 pub mod Format
 pub mod Lines
 pub mod Judged
 pub mod Faults
 pub mod Checks
-pub mod Traces
 pub mod Bases
 pub mod Shown
 pub mod Surveys

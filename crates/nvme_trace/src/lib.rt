@@ -1,5 +1,4 @@
-//! Traces of arbitration, which say what an arbiter saw and picked: how they are written and read, and the check of
-//! each pick.
+//! Traces of arbitration, which say what an arbiter saw and picked: how they are read, and the check of each pick.
 #![tactic(auto)]
 
 mod basis;
@@ -16,7 +15,6 @@ mod notes;
 mod records;
 mod survey;
 mod trace;
-mod writer;
 
 pub use basis::Basis;
 pub use checks::{Checked, Refusal, check, check_by};
@@ -24,14 +22,9 @@ pub use explanation::SettingsInWords;
 pub use fault::{Field, LineFault, TraceError};
 pub use judge::{Finding, Judge};
 pub use judges::{Breach, Reason};
-pub use laws::{
-    lawful_texts_are_allowed, surveys_of_none_are_lawful, texts_have_one_answer,
-    written_traces_are_lawful,
-};
+pub use laws::{lawful_texts_are_allowed, surveys_of_none_are_lawful, texts_have_one_answer};
 pub use names::{class_name, mechanism_name};
 pub use nvme_arbiter::specified::Rule;
-pub use nvme_output::WriteFault;
 pub use records::{Head, TraceEvent};
 pub use survey::{Counts, Difference, Kind, Survey, check_all};
 pub use trace::Trace;
-pub use writer::write_trace;

@@ -3,7 +3,8 @@ use arrayvec::ArrayVec;
 use nvme_arbiter::{Arbiter, Class, Mechanism, QUEUE_LIMIT, Seen, Settings, is_observation};
 use nvme_log::{Event, Listed};
 use nvme_texts::Takes;
-use nvme_trace::{Checked, WriteFault, check, write_trace};
+use nvme_trace::{Checked, check};
+use nvme_tracer::{WriteFault, write_trace};
 use std::alloc::{AllocError, Global};
 use std::test::*;
 

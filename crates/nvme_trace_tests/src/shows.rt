@@ -4,7 +4,7 @@ use crate::runs::random_log;
 use nvme_arbiter::{Mechanism, Settings};
 use nvme_chart::chart;
 use nvme_stats::{Selection, stats};
-use nvme_trace::write_trace;
+use nvme_tracer::write_trace;
 use std::alloc::Global;
 use std::fmt::Write;
 use std::test::*;

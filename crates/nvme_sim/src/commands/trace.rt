@@ -10,7 +10,7 @@ use crate::faults::Fault;
 use nvme_input::take_input;
 use nvme_lane::Mode;
 use nvme_runs::settled_run;
-use nvme_trace::write_trace;
+use nvme_tracer::write_trace;
 use std::alloc::Global;
 use std::io::{Read, Write};
 use std::sync::Wait;

@@ -1,12 +1,12 @@
 // Writes a trace, line by line.
 ghost use Rattle.std.specs.List.{flat_map};
 ghost use Rattle.nvme_output.specs.Written.{Writes};
-ghost use Rattle.nvme_trace.specs.Text.{text_of_head, text_of_queue, text_of_next, text_of_seen, text_before_seen, text_of_pick, text_of_set, text_of_event, trace_text};
+ghost use Rattle.nvme_tracer.specs.Text.{text_of_head, text_of_queue, text_of_next, text_of_seen, text_before_seen, text_of_pick, text_of_set, text_of_event, trace_text};
 
-use crate::names::{class_name, mechanism_name};
 use nvme_arbiter::{Mechanism, Pick, Seen, Settings};
 use nvme_log::Event;
 use nvme_output::{Piece, WriteFault, put, put_pieces};
+use nvme_trace::{class_name, mechanism_name};
 use std::io::Write;
 
 // Writes the head.

@@ -1,7 +1,7 @@
 use Rattle.std.proofs.Common.{◌∷◌, [], ◌++◌}
 use Rattle.nvme_output.proofs.Writing.{fails_first, writes_then}
-use Rattle.nvme_trace.specs.Text.{text_before_seen, text_of_seen}
-use Rattle.nvme_trace.proofs.writer.put_pick.Goals as goal
+use Rattle.nvme_tracer.specs.Text.{text_before_seen, text_of_seen}
+use Rattle.nvme_tracer.proofs.writer.put_pick.Goals as goal
 
 pub returns-in_err-put_picked : goal.returns-in_err-put_picked
 returns-in_err-put_picked g c =

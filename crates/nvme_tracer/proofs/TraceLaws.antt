@@ -9,9 +9,9 @@ use Rattle.nvme_log.proofs.PickCounts.{picks_in-append}
 use Rattle.nvme_trace.specs.Lines.{told_lines}
 use Rattle.nvme_trace.specs.Judged.{picks_in}
 use Rattle.nvme_trace.specs.Checks.{Tells}
-use Rattle.nvme_trace.specs.Traces.{trace_of, head_of, TracesAreReadBack, TracesAreLawful}
-use Rattle.nvme_trace.proofs.TracedLines.{trace_tells}
-use Rattle.nvme_trace.proofs.AccountedSettings.{log_fits}
+use Rattle.nvme_tracer.specs.Traces.{trace_of, head_of, TracesAreReadBack, TracesAreLawful}
+use Rattle.nvme_tracer.proofs.TracedLines.{trace_tells}
+use Rattle.nvme_tracer.proofs.AccountedSettings.{log_fits}
 
 pub read_back : TracesAreReadBack
 read_back rules sent log collected f a =

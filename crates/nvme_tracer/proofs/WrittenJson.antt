@@ -14,7 +14,7 @@ use Rattle.nvme_arbiter.specs.declared.settings.Mechanism.TheVariants.{RoundRobi
 use Rattle.nvme_arbiter.specs.declared.pick.Seen.{Seen}
 use Rattle.nvme_arbiter.specs.declared.pick.Pick.{Pick}
 use Rattle.nvme_trace.specs.Names.{class_text, mechanism_text}
-use Rattle.nvme_trace.specs.Text.{text_of_head, text_of_queue, text_of_next, text_of_seen, text_before_seen, text_of_pick, text_of_set}
+use Rattle.nvme_tracer.specs.Text.{text_of_head, text_of_queue, text_of_next, text_of_seen, text_before_seen, text_of_pick, text_of_set}
 
 -- the value of each line
 abbrev pub head_json : Mechanism → ArbitrationFields → json.Json

@@ -1,7 +1,7 @@
 use Rattle.std.proofs.Common.{rules}
 use Rattle.nvme_output.proofs.Items.{items_fail}
-use Rattle.nvme_trace.specs.Text.{text_of_next}
-use Rattle.nvme_trace.proofs.writer.put_more.Goals as goal
+use Rattle.nvme_tracer.specs.Text.{text_of_next}
+use Rattle.nvme_tracer.proofs.writer.put_more.Goals as goal
 
 pub returns-in_err-put_next : goal.returns-in_err-put_next
 returns-in_err-put_next g c =

@@ -21,12 +21,12 @@ use Rattle.nvme_log.specs.declared.event.Event.TheVariants as event
 use Rattle.nvme_log.specs.Rules.{Past}
 use Rattle.nvme_log.specs.Histories.{arbitration_of}
 use Rattle.nvme_trace.specs.Lines.{lines_of, is_blank, numbered, told_lines}
-use Rattle.nvme_trace.specs.Text.{text_of_head, text_of_event, trace_text, text_of_pick, text_of_set}
+use Rattle.nvme_tracer.specs.Text.{text_of_head, text_of_event, trace_text, text_of_pick, text_of_set}
 use Rattle.nvme_trace.specs.Checks.{Tells}
-use Rattle.nvme_trace.proofs.PlainLines.{is_plain, plain_line}
-use Rattle.nvme_trace.proofs.ShortLines.{short_head, short_set, short_pick}
-use Rattle.nvme_trace.proofs.WrittenJson.{head_bytes, set_bytes, pick_bytes, head_ends, set_ends, pick_ends}
-use Rattle.nvme_trace.proofs.ReadLines.{head_read, set_read, pick_read}
+use Rattle.nvme_tracer.proofs.PlainLines.{is_plain, plain_line}
+use Rattle.nvme_tracer.proofs.ShortLines.{short_head, short_set, short_pick}
+use Rattle.nvme_tracer.proofs.WrittenJson.{head_bytes, set_bytes, pick_bytes, head_ends, set_ends, pick_ends}
+use Rattle.nvme_tracer.proofs.ReadLines.{head_read, set_read, pick_read}
 
 -- ---- the picks of a lawful run are small
 few_from : (least : ℕ) (seen : List Seen) → least ≤ 65 → is_observation_from least seen ≡ true → length seen + least ≤ 65

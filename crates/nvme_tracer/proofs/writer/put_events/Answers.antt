@@ -1,8 +1,8 @@
 use Rattle.std.proofs.Common.{rules, subst}
 use Rattle.nvme_output.specs.Written.{AppendsPrefix}
 use Rattle.nvme_output.proofs.Items.{items_fail}
-use Rattle.nvme_trace.specs.Text.{text_of_event}
-use Rattle.nvme_trace.proofs.writer.put_events.Goals as goal
+use Rattle.nvme_tracer.specs.Text.{text_of_event}
+use Rattle.nvme_tracer.proofs.writer.put_events.Goals as goal
 
 pub returns-in_err-put_event : goal.returns-in_err-put_event
 returns-in_err-put_event g c =

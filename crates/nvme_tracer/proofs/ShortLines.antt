@@ -14,9 +14,9 @@ use Rattle.nvme_arbiter.specs.declared.settings.Mechanism.TheVariants.{RoundRobi
 use Rattle.nvme_arbiter.specs.declared.pick.Seen.{Seen}
 use Rattle.nvme_arbiter.specs.declared.pick.Pick.{Pick}
 use Rattle.nvme_trace.specs.Names.{class_text, mechanism_text}
-use Rattle.nvme_trace.specs.Text.{text_of_queue, text_of_next, text_of_seen, text_of_flag, text_before_seen}
-use Rattle.nvme_trace.proofs.PlainLines.{is_plain, plain-append, plain_decimal}
-use Rattle.nvme_trace.proofs.WrittenJson.{head_bytes, set_bytes, pick_bytes}
+use Rattle.nvme_tracer.specs.Text.{text_of_queue, text_of_next, text_of_seen, text_of_flag, text_before_seen}
+use Rattle.nvme_tracer.proofs.PlainLines.{is_plain, plain-append, plain_decimal}
+use Rattle.nvme_tracer.proofs.WrittenJson.{head_bytes, set_bytes, pick_bytes}
 
 -- plain bytes, at most this many
 pub record IsShort (most : ℕ) (xs : List ℕ) : Type 0 where

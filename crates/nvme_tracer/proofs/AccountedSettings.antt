@@ -18,7 +18,7 @@ use Rattle.nvme_log.specs.Queues.{Queue, open_sq, open_cq}
 use Rattle.nvme_log.specs.Places.{waiting}
 use Rattle.nvme_log.specs.Histories.{arbitration_of, table_history, admin_entry}
 use Rattle.nvme_log.specs.Effects.{closing_of, closed_cq_of, abort_in, named, target_of, made_by, made_of, made_last, effects_since, EffectsAtOnce}
-use Rattle.nvme_trace.proofs.TracedLines.{SettingsFit}
+use Rattle.nvme_tracer.proofs.TracedLines.{SettingsFit}
 
 -- ---- the settings of a queue table
 settings_fit : (b : Bool) (x : ℕ) (s : ArbitrationFields) → FitsFields s → FitsFields (if b then settings_of x else s)

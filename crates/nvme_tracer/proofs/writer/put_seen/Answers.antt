@@ -1,7 +1,7 @@
 use Rattle.std.specs.List.{flat_map}
 use Rattle.nvme_output.proofs.Writing.{fails_first, writes_then}
-use Rattle.nvme_trace.specs.Text.{text_of_next, text_of_queue}
-use Rattle.nvme_trace.proofs.writer.put_seen.Goals as goal
+use Rattle.nvme_tracer.specs.Text.{text_of_next, text_of_queue}
+use Rattle.nvme_tracer.proofs.writer.put_seen.Goals as goal
 
 pub returns-in_err-put_queue : goal.returns-in_err-put_queue
 returns-in_err-put_queue g c =

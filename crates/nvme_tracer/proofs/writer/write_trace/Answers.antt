@@ -1,7 +1,7 @@
 use Rattle.std.specs.List.{flat_map}
 use Rattle.nvme_output.proofs.Writing.{fails_first, writes_then}
-use Rattle.nvme_trace.specs.Text.{text_of_event, text_of_head}
-use Rattle.nvme_trace.proofs.writer.write_trace.Goals as goal
+use Rattle.nvme_tracer.specs.Text.{text_of_event, text_of_head}
+use Rattle.nvme_tracer.proofs.writer.write_trace.Goals as goal
 
 pub returns-in_err-put_head : goal.returns-in_err-put_head
 returns-in_err-put_head g c =

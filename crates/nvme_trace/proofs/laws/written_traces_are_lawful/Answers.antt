@@ -1,5 +1,0 @@
-use Rattle.nvme_trace.proofs.TraceLaws.{read_back, lawful}
-use Rattle.nvme_trace.proofs.laws.written_traces_are_lawful.Goals as goal
-
-pub returns : goal.returns
-returns c = record { read_back = read_back; lawful = lawful }

@@ -1,0 +1,9 @@
+//! The trace of a log: how it is written, and that each one is lawful.
+#![tactic(auto)]
+
+mod laws;
+mod writer;
+
+pub use laws::written_traces_are_lawful;
+pub use nvme_output::WriteFault;
+pub use writer::write_trace;
