@@ -14,10 +14,10 @@ use Rattle.nvme_lane.specs.declared.mode.Mode.{Mode}
 use Rattle.nvme_report.specs.Report.{report_text}
 use Rattle.nvme_workload.specs.declared.error.WorkloadError.{WorkloadError}
 use Rattle.nvme_workload.specs.Plan.{workload_of}
-use Rattle.nvme_input.specs.Once.{IsAnswer, entry_text}
+use Rattle.nvme_words.specs.Once.{IsAnswer, entry_text}
 use Rattle.nvme_runs.specs.Runs.{IsRun}
-use Rattle.nvme_input.specs.declared.entries.OnceError.{OnceError}
-use Rattle.nvme_input.specs.declared.entries.OnceError.TheVariants as entry
+use Rattle.nvme_words.specs.declared.entries.OnceError.{OnceError}
+use Rattle.nvme_words.specs.declared.entries.OnceError.TheVariants as entry
 use Rattle.nvme_runs.specs.declared.runs.RunError.{RunError}
 use Rattle.nvme_runs.specs.declared.runs.RunError.TheVariants as run
 use Rattle.nvme_trace.specs.Checks.{IsFaultBy, IsLawfulBy, IsRefusedBy}

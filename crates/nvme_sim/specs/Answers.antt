@@ -6,7 +6,7 @@ use Rattle.nvme_output.specs.Written.{AppendsPrefix}
 use Rattle.nvme_front.specs.declared.settled.Settled.{Settled}
 use Rattle.nvme_lane.specs.declared.mode.Mode.{Mode}
 use Rattle.nvme_report.specs.Report.{report_text}
-use Rattle.nvme_input.specs.Once.{IsAnswer, entry_text}
+use Rattle.nvme_words.specs.Once.{IsAnswer, entry_text}
 use Rattle.nvme_runs.specs.Ran.{BeginsAs}
 use Rattle.nvme_runs.specs.Runs.{IsRun}
 use Rattle.nvme_runs.specs.declared.runs.Ran.{Ran}

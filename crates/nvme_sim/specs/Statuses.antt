@@ -4,12 +4,12 @@ use Rattle.std.specs.List.{AllPass}
 use Rattle.hex.specs.Hex.{is_hex_digit}
 use Rattle.nvme_workload.specs.declared.error.WorkloadError.{WorkloadError}
 use Rattle.nvme_workload.specs.Plan.{workload_of}
-use Rattle.nvme_input.specs.Once.{entry_text}
-use Rattle.nvme_input.specs.declared.entries.OnceError.{OnceError}
-use Rattle.nvme_input.specs.declared.entries.OnceError.TheVariants as entry
-use Rattle.nvme_input.specs.declared.input.InputError.{InputError}
-use Rattle.nvme_input.specs.declared.input.InputError.TheVariants as untaken
-use Rattle.nvme_input.specs.declared.input.TheConstants.{MAX_INPUT}
+use Rattle.nvme_words.specs.Once.{entry_text}
+use Rattle.nvme_words.specs.declared.entries.OnceError.{OnceError}
+use Rattle.nvme_words.specs.declared.entries.OnceError.TheVariants as entry
+use Rattle.nvme_words.specs.declared.input.InputError.{InputError}
+use Rattle.nvme_words.specs.declared.input.InputError.TheVariants as untaken
+use Rattle.nvme_words.specs.declared.input.TheConstants.{MAX_INPUT}
 use Rattle.nvme_runs.specs.declared.runs.RunError.{RunError}
 use Rattle.nvme_runs.specs.declared.runs.RunError.TheVariants as run
 use Rattle.nvme_trace.specs.declared.fault.TraceError.{TraceError}

@@ -4,12 +4,11 @@ ghost use Rattle.nvme_sim.specs.declared.faults.Fault.TheVariants as fault;
 ghost use Rattle.nvme_runs.specs.declared.runs.RunError.TheVariants as run_fault;
 
 use nvme_front::FrontError;
-use nvme_input::{InputError, OnceError};
 use nvme_lint::Details;
 use nvme_runs::RunError;
 use nvme_settings::SettingsFault;
 use nvme_trace::TraceError;
-use nvme_words::WordsError;
+use nvme_words::{InputError, OnceError, WordsError};
 use nvme_workload::WorkloadError;
 use std::alloc::AllocError;
 use std::io::Write;

@@ -8,9 +8,10 @@ mod output;
 mod pipes;
 
 pub use commands::command;
-pub use nvme_input::{InputError, MAX_INPUT, MAX_READS, OnceError, once, take_input};
 pub use nvme_report::{Mode, WriteFault, report};
 pub use nvme_runs::{Ran, RunError, run, run_with, settled_run};
-pub use nvme_words::{file_named, output_named};
+pub use nvme_words::{
+    InputError, MAX_INPUT, MAX_READS, OnceError, file_named, once, output_named, take_input,
+};
 pub use output::flushed;
 pub use pipes::{Errors, Output};

@@ -4,3 +4,4 @@ mod Lines
 mod Naming
 mod OneRequest
 mod Reading
+mod Taking

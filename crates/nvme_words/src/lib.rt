@@ -1,13 +1,17 @@
-//! The command line of the program `nvmearb`: what its words ask for, and which file they name.
+//! What the program `nvmearb` is given: its words, its input, and one entry with its answer.
 #![tactic(auto)]
 
+mod entries;
 mod files;
+mod input;
 mod laws;
 mod program;
 mod requests;
 mod words;
 
+pub use entries::{OnceError, once};
 pub use files::{file_named, output_named};
+pub use input::{InputError, MAX_INPUT, MAX_READS, take_input};
 pub use laws::{
     lines_ask_for, lines_have_faults, lines_name_files, lines_name_outputs, lines_show_text,
     one_request,

@@ -2,7 +2,7 @@
 ghost use Rattle.std.specs.Prelude.{◌≡◌, ◌≤◌, ◌⊎◌, Ok, IfOk, IfErr, IfSome, OnOk};
 ghost use Rattle.std.specs.Io.KnownBytes.{Appends};
 ghost use Rattle.nvme_output.specs.Written.{AppendsPrefix};
-ghost use Rattle.nvme_input.specs.Once.{IsAnswer, entry_text};
+ghost use Rattle.nvme_words.specs.Once.{IsAnswer, entry_text};
 ghost use Rattle.nvme_sim.specs.Answers.{Appended, AppendedPart, HasAnswer};
 ghost use Rattle.nvme_sim.specs.Statuses.{IsBadEntry, status_of};
 ghost use Rattle.nvme_sim.specs.declared.faults.Fault.TheVariants as fault;
@@ -10,8 +10,8 @@ ghost use Rattle.nvme_sim.specs.declared.commands.Answer.TheVariants as answer;
 
 use super::Answer;
 use crate::faults::Fault;
-use nvme_input::{once, take_input};
 use nvme_output::{WriteFault, put};
+use nvme_words::{once, take_input};
 use std::alloc::Global;
 use std::io::{Read, Write};
 

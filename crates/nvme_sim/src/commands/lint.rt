@@ -9,8 +9,8 @@ ghost use Rattle.nvme_sim.specs.declared.commands.Answer.TheVariants as answer;
 
 use super::Answer;
 use crate::faults::Fault;
-use nvme_input::take_input;
 use nvme_lint::{LintError, Warning, lint};
+use nvme_words::take_input;
 use std::alloc::{AllocError, Global};
 use std::io::{self, Read, Write};
 

@@ -8,9 +8,9 @@ ghost use Rattle.nvme_runs.specs.declared.runs.RunError.TheVariants as run_fault
 
 use super::Answer;
 use crate::faults::Fault;
-use nvme_input::take_input;
 use nvme_lane::Mode;
 use nvme_runs::run;
+use nvme_words::take_input;
 use std::alloc::Global;
 use std::io::{Read, Write};
 use std::sync::Wait;

@@ -7,10 +7,10 @@ ghost use Rattle.nvme_sim.specs.declared.commands.Answer.TheVariants as answer;
 
 use super::Answer;
 use crate::faults::Fault;
-use nvme_input::take_input;
 use nvme_lane::Mode;
 use nvme_runs::settled_run;
 use nvme_tracer::write_trace;
+use nvme_words::take_input;
 use std::alloc::Global;
 use std::io::{Read, Write};
 use std::sync::Wait;

@@ -1,6 +1,6 @@
 -- What one entry's answer says of the text that was taken.
 use Rattle.std.proofs.Common.{◌≡◌, IfSome, rules}
-use Rattle.nvme_input.specs.Once.{IsAnswer, entry_text}
+use Rattle.nvme_words.specs.Once.{IsAnswer, entry_text}
 use Rattle.nvme_sim.specs.Statuses.{IsBadEntry}
 use Rattle.nvme_sim.proofs.Inputs.{bad_of_taken, ok_of_taken}
 use Rattle.nvme_sim.proofs.commands.entry.line_for.Goals as goal

@@ -1,7 +1,7 @@
 use Rattle.std.proofs.Common.{refl}
 use Rattle.hex.proofs.HexLemmas.{IsOk-decode_sized, IsOk-written}
 use Rattle.hex.specs.Hex.{decode_sized}
-use Rattle.nvme_input.proofs.entries.decoded.Goals as goal
+use Rattle.nvme_words.proofs.entries.decoded.Goals as goal
 
 pub returns-in-Ok-clause-digits : goal.returns-in-Ok-clause-digits
 returns-in-Ok-clause-digits c =

@@ -1,7 +1,7 @@
 ghost use Rattle.std.specs.Prelude.{◌≡◌, ◌≢◌, ◌≤◌, ◌↔◌, [], ◌∷◌, ◌++◌, length, IsErrOf, IfOk, IfSome, IsSome};
 ghost use Rattle.std.specs.List.{AllPass};
 ghost use Rattle.hex.specs.Hex.{decode_of, encode_lower, is_hex_digit};
-ghost use Rattle.nvme_input.specs.Once.{HasCompletion, IsAnswer, entry_text};
+ghost use Rattle.nvme_words.specs.Once.{HasCompletion, IsAnswer, entry_text};
 
 use nvme_entry::{Namespaces, Sqe, complete, outcome};
 use thiserror::Error;

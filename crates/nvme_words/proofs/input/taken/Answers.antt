@@ -1,8 +1,8 @@
 -- What was given was there, and where a read gives nothing all was taken.
 use Rattle.std.proofs.Common.{◌≡◌, take, ap, rules, arith}
 use Rattle.std.proofs.lemmas.List.{length-take-le}
-use Rattle.nvme_input.proofs.Reading.{all_taken, first_within, taken_within}
-use Rattle.nvme_input.proofs.input.taken.Goals as goal
+use Rattle.nvme_words.proofs.Taking.{all_taken, first_within, taken_within}
+use Rattle.nvme_words.proofs.input.taken.Goals as goal
 
 pub returns-then-has_failed-clause-given : goal.returns-then-has_failed-clause-given
 returns-then-has_failed-clause-given g c =
