@@ -1,10 +1,15 @@
 // The words at the head of statistics and pictures.
+ghost use Rattle.std.specs.Prelude.{◌≡◌, ◌≢◌, codes};
+
 use nvme_arbiter::{Mechanism, Settings};
 use nvme_trace::{SettingsInWords, mechanism_name};
 use std::io::{self, Write};
 
 /// The ending of a noun behind a number.
-pub fn plural(number: u64) -> &'static str {
+pub fn plural(number: u64) -> &'static str
+    ensures one { number ≡ 1 → result.now ≡ codes "" }
+    ensures more { number ≢ 1 → result.now ≡ codes "s" }
+{
     if number == 1 { "" } else { "s" }
 }
 

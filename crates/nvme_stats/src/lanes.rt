@@ -1,5 +1,7 @@
 // The rows of a trace: one for each queue in each class.
-ghost use Rattle.std.specs.Prelude.{◌<◌, IfSome};
+ghost use Rattle.std.specs.Prelude.{◌≡◌, ◌<◌, ◌+◌, ◌*◌, ℕ, None, IfSome};
+ghost use Rattle.nvme_arbiter.specs.declared.settings.Class.TheVariants.{Admin};
+ghost use Rattle.nvme_stats.specs.Rows.{IsIoQueue, IsRow};
 
 use nvme_arbiter::{Class, QUEUE_LIMIT, Seen};
 
@@ -20,7 +22,8 @@ pub const CLASSES: [Class; 5] = [
 
 // The number of I/O classes before a class.
 fn rank(class: Class) -> Option<usize>
-    ensures { IfSome result (λ rank. rank < 4) }
+    ensures some { IfSome result (λ rank. (rank < 4) × ((qid : ℕ) → IsIoQueue qid → IsRow class qid (rank * 64 + qid))) }
+    ensures none { result ≡ None → class ≡ Admin }
 {
     match class {
         Class::Admin => None,
@@ -31,9 +34,11 @@ fn rank(class: Class) -> Option<usize>
     }
 }
 
-/// The row of a queue in its class.
+/// The row of a queue in its class. A queue whose identifier isn't one of an I/O queue has none in an I/O class.
 pub fn lane_of(queue: &Seen) -> Option<usize>
-    ensures { IfSome result (λ lane. lane < LANES) }
+    ensures range { IfSome result (λ lane. lane < LANES) }
+    ensures some { IfSome result (λ lane. IsRow queue.now.class queue.now.qid lane) }
+    ensures none { result ≡ None → (lane : ℕ) → IsRow queue.now.class queue.now.qid lane → ⊥ }
 {
     let Some(rank) = rank(queue.class) else {
         return Some(0);
@@ -46,7 +51,10 @@ pub fn lane_of(queue: &Seen) -> Option<usize>
 }
 
 /// The queue of a row, with its class.
-pub fn queue_of_lane(lane: usize) -> Seen {
+pub fn queue_of_lane(lane: usize) -> Seen
+    ensures row { lane < LANES → IsRow result.class result.qid lane }
+    ensures count { result.count ≡ 0 }
+{
     if lane == 0 || lane >= LANES {
         return Seen::default();
     }
@@ -80,7 +88,9 @@ pub fn lanes_of_queue(qid: u16) -> [usize; 4] {
 }
 
 /// The class of a row.
-pub fn class_of_lane(lane: usize) -> Class {
+pub fn class_of_lane(lane: usize) -> Class
+    ensures { lane < LANES → (qid : ℕ) × IsRow result qid lane }
+{
     queue_of_lane(lane).class
 }
 

@@ -1,0 +1,20 @@
+-- The rows of statistics and pictures, and shares. (profile)
+use Rattle.std.specs.Prelude.{◌≡◌, ◌≤◌, ◌+◌, ◌*◌, ◌/◌, ℕ}
+use Rattle.nvme_arbiter.specs.declared.settings.Class.{Class}
+use Rattle.nvme_arbiter.specs.declared.settings.Class.TheVariants.{Admin, Urgent, High, Medium, Low}
+
+-- the number of an I/O queue
+abbrev pub IsIoQueue : ℕ → Type 0
+IsIoQueue qid = (1 ≤ qid) × (qid ≤ 64)
+
+-- a row is that of a queue in a class: the first is the admin queue's, and then come the I/O queues of each class
+abbrev pub IsRow : Class → ℕ → ℕ → Type 0
+IsRow Admin qid row = row ≡ 0
+IsRow Urgent qid row = IsIoQueue qid × (row ≡ qid)
+IsRow High qid row = IsIoQueue qid × (row ≡ 64 + qid)
+IsRow Medium qid row = IsIoQueue qid × (row ≡ 128 + qid)
+IsRow Low qid row = IsIoQueue qid × (row ≡ 192 + qid)
+
+-- the share of a part in a whole in hundredths of a percent: the nearest one, and of two the larger
+abbrev pub share_of : ℕ → ℕ → ℕ
+share_of part whole = (part * 10000 + whole / 2) / whole
