@@ -405,7 +405,7 @@ typedef struct nvmearb_slot {
 typedef struct nvmearb_ctrl {
     uint64_t mark;
     size_t count; /* the number of its slots */
-    uint64_t words[650];
+    uint64_t words[714];
 } nvmearb_ctrl;
 
 /* What a controller is made with. */
@@ -418,8 +418,8 @@ typedef struct nvmearb_config {
 } nvmearb_config;
 
 /* The kinds of steps. */
-#define NVMEARB_PICKED 1u      /* commands of an I/O queue were picked: nvmearb_ctrl_take gives them */
-#define NVMEARB_CARRIED_OUT 2u /* a command of the admin queue was picked and carried out */
+#define NVMEARB_PICKED 1u      /* commands of the device's were picked: nvmearb_ctrl_take gives them */
+#define NVMEARB_CARRIED_OUT 2u /* a command of the admin queue was picked and carried out by the controller */
 
 /* What a pick did. A field that a step of its kind doesn't have is 0. */
 typedef struct nvmearb_step {
@@ -623,6 +623,22 @@ uint32_t nvmearb_ctrl_init(nvmearb_ctrl *ctrl, nvmearb_slot *slots, size_t count
  * nvmearb_table_add_sq_region, whose refusals it has.
  */
 uint32_t nvmearb_ctrl_add_sq_region(nvmearb_ctrl *ctrl, uint64_t address, uint16_t slots, uint16_t *number);
+
+/*
+ * From now on the admin commands of this opcode are the device's: they are picked in their turn, and the device takes and
+ * completes them as it does commands of I/O queues, at any later time (an Asynchronous Event Request waits like this).
+ * nvmearb_ctrl_init forgets it. The opcodes 00h, 01h, 04h, 05h, 08h, 09h and 0Ah stay the controller's, and so does a
+ * fused command, which it refuses. The device checks PSDT.
+ * NVMEARB_ESTATE if `ctrl` isn't valid.
+ */
+uint32_t nvmearb_ctrl_own_opcode(nvmearb_ctrl *ctrl, uint8_t opcode);
+
+/*
+ * From now on Set Features and Get Features of this feature identifier are the device's, as nvmearb_ctrl_own_opcode tells.
+ * Of the controller's own features, 01h and 07h, just a Get Features is that selects (SEL) another value than the current.
+ * NVMEARB_ESTATE if `ctrl` isn't valid.
+ */
+uint32_t nvmearb_ctrl_own_feature(nvmearb_ctrl *ctrl, uint8_t fid);
 
 /* Adds a completion region, as nvmearb_ctrl_add_sq_region a submission region. */
 uint32_t nvmearb_ctrl_add_cq_region(nvmearb_ctrl *ctrl, uint64_t address, uint16_t slots, uint16_t *number);

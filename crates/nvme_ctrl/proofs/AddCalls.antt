@@ -17,7 +17,7 @@ use Rattle.nvme_log.specs.Histories.{table_history}
 use Rattle.nvme_log.specs.Rules.{FrontRules, sq_regions_of, cq_regions_of, slots_at}
 use Rattle.nvme_log.specs.Places.{fetched}
 use Rattle.nvme_log.specs.Completions.{posted_to, phase_after}
-use Rattle.nvme_ctrl.specs.Notes.{Notes, Logged, Tail, Head, Kept, Taken, Answered, logged}
+use Rattle.nvme_ctrl.specs.Notes.{Notes, Logged, Tail, Head, Kept, Passed, Taken, Answered, logged}
 use Rattle.nvme_ctrl.specs.Doorbells.{gap, sq_slots, cq_slots, submitted, consumed}
 use Rattle.nvme_ctrl.specs.Rings.{HasCounts, first_ring}
 use Rattle.nvme_ctrl.specs.Making.{with_region, is_late, adding_fault}
@@ -31,6 +31,7 @@ use Rattle.nvme_ctrl.specs.kept.Kept.{HasNumbers, HasItems, HoldsDoorbells, Hold
 use Rattle.nvme_ctrl.specs.kept.Pool.{IsChain}
 use Rattle.nvme_ctrl.specs.kept.State.{sq_at, cq_at, attachment_of}
 use Rattle.nvme_ctrl.proofs.AddedTables.{sq-added, sq-leaves, cq-added, cq-leaves, slots_last, slots_past, slots_other, sq-more, sq-same, cq-more, cq-same, sq-same_sq, sq-same_cq, sq-same_used, sq-more_sqs, sq-same_cqs, cq-same_cq, cq-same_sq, cq-same_used, cq-same_sqs, cq-more_cqs}
+use Rattle.nvme_ctrl.proofs.Passed.{passed_left}
 use Rattle.nvme_ctrl.proofs.Cookies.{cookies_left}
 use Rattle.nvme_ctrl.proofs.Growing.{Grows, grown, none_fetched, holds_when_grown}
 use Rattle.nvme_ctrl.proofs.RegionStates.{put_sq-each, put_cq-each}
@@ -74,6 +75,7 @@ submitted_same rules others (Tail region slot ∷ notes) r e = λ i.
 submitted_same rules others (Logged event ∷ notes) r e = submitted_same rules others notes r e
 submitted_same rules others (Head c slot ∷ notes) r e = submitted_same rules others notes r e
 submitted_same rules others (Kept c i cookie ∷ notes) r e = submitted_same rules others notes r e
+submitted_same rules others (Passed i ∷ notes) r e = submitted_same rules others notes r e
 submitted_same rules others (Taken tag c i ∷ notes) r e = submitted_same rules others notes r e
 submitted_same rules others (Answered c i answer ∷ notes) r e = submitted_same rules others notes r e
 
@@ -84,6 +86,7 @@ consumed_same rules others (Head region slot ∷ notes) r e = λ i.
 consumed_same rules others (Logged event ∷ notes) r e = consumed_same rules others notes r e
 consumed_same rules others (Tail c slot ∷ notes) r e = consumed_same rules others notes r e
 consumed_same rules others (Kept c i cookie ∷ notes) r e = consumed_same rules others notes r e
+consumed_same rules others (Passed i ∷ notes) r e = consumed_same rules others notes r e
 consumed_same rules others (Taken tag c i ∷ notes) r e = consumed_same rules others notes r e
 consumed_same rules others (Answered c i answer ∷ notes) r e = consumed_same rules others notes r e
 
@@ -113,6 +116,7 @@ submitted_none rules others (Tail region slot ∷ notes) r e = elim (cases_Bool 
 submitted_none rules others (Logged event ∷ notes) r e = submitted_none rules others notes r e
 submitted_none rules others (Head c slot ∷ notes) r e = submitted_none rules others notes r e
 submitted_none rules others (Kept c i cookie ∷ notes) r e = submitted_none rules others notes r e
+submitted_none rules others (Passed i ∷ notes) r e = submitted_none rules others notes r e
 submitted_none rules others (Taken tag c i ∷ notes) r e = submitted_none rules others notes r e
 submitted_none rules others (Answered c i answer ∷ notes) r e = submitted_none rules others notes r e
 
@@ -135,6 +139,7 @@ consumed_none rules others (Head region slot ∷ notes) r e = elim (cases_Bool (
 consumed_none rules others (Logged event ∷ notes) r e = consumed_none rules others notes r e
 consumed_none rules others (Tail c slot ∷ notes) r e = consumed_none rules others notes r e
 consumed_none rules others (Kept c i cookie ∷ notes) r e = consumed_none rules others notes r e
+consumed_none rules others (Passed i ∷ notes) r e = consumed_none rules others notes r e
 consumed_none rules others (Taken tag c i ∷ notes) r e = consumed_none rules others notes r e
 consumed_none rules others (Answered c i answer ∷ notes) r e = consumed_none rules others notes r e
 
@@ -350,6 +355,7 @@ module _ (rules : FrontRules) (late : Bool) (notes : Notes) (c : Controller) (po
       hand_entries = t.hand_entries;
       free_count = t.free_count;
       cookies = cookies_left notes pool pool (λ y. refl) c _ s.items refl t.cookies;
+      passed = passed_left notes c _ s.items s.items refl (λ x. refl) refl t.passed;
     }
 
     -- the controller stands with the region
@@ -531,6 +537,7 @@ module _ (rules : FrontRules) (late : Bool) (notes : Notes) (c : Controller) (po
       hand_entries = t.hand_entries;
       free_count = t.free_count;
       cookies = cookies_left notes pool pool (λ y. refl) c _ s.items refl t.cookies;
+      passed = passed_left notes c _ s.items s.items refl (λ x. refl) refl t.passed;
     }
 
     -- the controller stands with the region

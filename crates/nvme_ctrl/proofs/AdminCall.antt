@@ -106,7 +106,7 @@ module _ (rules : FrontRules) (late : Bool) (notes : Notes) (c : Controller) (sl
   is_open = (due rules late notes c slots s none idle pick board lawful stands queues arbiter places).is_open
 
   -- its queue is the admin queue
-  queue_is : queue ≡ admin_queue
+  pub queue_is : queue ≡ admin_queue
   queue_is =
       let attached = s.holds.queues.attached pick.qid queue is_open in
       let below = s.holds.queues.sq_there queue.region (record { qid = pick.qid; cq_region = attached.cq_region }) attached.attached in
@@ -135,19 +135,19 @@ module _ (rules : FrontRules) (late : Bool) (notes : Notes) (c : Controller) (sl
   pub linked : IsChain slots (sq_at c.sqs 0).window (x.tag ∷ tags_of rest)
   linked = subst (λ (its : List Item). IsChain slots (sq_at c.sqs 0).window (tags_of its)) oldest.is (s.has.window_chain 0)
 
-  waits : All (IsWaitingIn slots 0) (x ∷ rest)
+  pub waits : All (IsWaitingIn slots 0) (x ∷ rest)
   waits = subst (All (IsWaitingIn slots 0)) oldest.is (s.has.window_items 0)
 
-  first : IsWaitingIn slots 0 x
+  pub first : IsWaitingIn slots 0 x
   first = All-head (IsWaitingIn slots 0) x rest waits
 
-  unanswered_all : All (λ (it : Item). IsUnanswered notes it.place) (x ∷ rest)
+  pub unanswered_all : All (λ (it : Item). IsUnanswered notes it.place) (x ∷ rest)
   unanswered_all = subst (All (λ (it : Item). IsUnanswered notes it.place)) oldest.is (s.tags.windows_unanswered 0)
 
   cookies_all : All (HasCookie notes slots) (x ∷ rest)
   cookies_all = subst (All (HasCookie notes slots)) oldest.is (s.tags.cookies.windows 0)
 
-  window_is : (k.sq 0).window ≡ candidate_of x ∷ map candidate_of rest
+  pub window_is : (k.sq 0).window ≡ candidate_of x ∷ map candidate_of rest
   window_is = window_all ∙ ap (λ (its : List Item). map candidate_of its) oldest.is
 
   -- an Abort command has a second place

@@ -168,7 +168,7 @@ module _ (rules : FrontRules) (past mid : Past) (candidate : Candidate) (v : Ver
   -- so the answer of a command, where nothing is told, has the own status of its place
   answer : told_dw0 (has_aborted after candidate.index) v (dw0_in v) ≡ dw0_in v → All (HasOwnStatus rules after) (answered candidate v ∷ [])
   answer plain =
-      All-cons (HasOwnStatus rules after) (answered candidate v) [] (record {
+      All-cons (HasOwnStatus rules after) (answered candidate v) [] (λ carried. record {
         entry = candidate.entry;
         is_there = entry_after 0 candidate.index candidate.entry p.entry;
         status = sym (own_status-answered (answer_in (answered candidate v)));
@@ -211,7 +211,7 @@ module _ (rules : FrontRules) (past mid : Past) (candidate : Candidate) (qid : �
       let are = indices (λ (i : ℕ). is_aborted begun queue.region i ≡ true) (all_aborted queue is) in
       let not = indices (λ (i : ℕ). is_abort_requested begun queue.region i ≡ false) (none_requested queue is) in
       All-map (HasOwnStatus rules begun) (aborted qid queue.region) s.window
-      (λ j d lt.
+      (λ j d lt carried.
       let c : Candidate = get_or s.window j d in
       record {
         entry = c.entry;
@@ -255,7 +255,7 @@ module _ (rules : FrontRules) (past mid : Past) (candidate : Candidate) (sqid ci
   -- the answer of the command has the own status of its place
   told_own : (dw0 : ℕ) → (if has_aborted ended candidate.index then 0 else 1) ≡ dw0 → All (HasOwnStatus rules ended) (told_abort candidate dw0 ∷ [])
   told_own dw0 told =
-      All-cons (HasOwnStatus rules ended) (told_abort candidate dw0) [] (record {
+      All-cons (HasOwnStatus rules ended) (told_abort candidate dw0) [] (λ carried. record {
         entry = candidate.entry;
         is_there = entry_after rules past mid candidate (verdict.Abort sqid cid) p 0 candidate.index candidate.entry p.entry;
         status = sym (own_status-answered rules past mid candidate (verdict.Abort sqid cid) p (answer_in (told_abort candidate dw0)));
@@ -280,7 +280,7 @@ module _ (rules : FrontRules) (past mid : Past) (candidate : Candidate) (sqid ci
   requested_own r found one entry =
       subst (λ (es : List Event). All (HasOwnStatus rules (with_events es mid)) (requested sqid r found ∷ [])) (sym one)
       (All-cons (HasOwnStatus rules (Abort r found.index ∷ mid)) (requested sqid r found) []
-      (record {
+      (λ carried. record {
         entry = found.entry;
         is_there = ap (λ (xs : List Sqe). slice_get xs found.index) (p.same_fetched r) ∙ entry;
         status = rw (eq-eqb r r refl, eq-eqb found.index found.index refl, p.took sqid cid refl) refl;

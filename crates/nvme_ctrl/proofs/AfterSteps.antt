@@ -158,7 +158,7 @@ abbrev pub closed_event : PendingDelete → Event
 closed_event d = event.ClosedSq d.qid d.region
 
 abbrev pub deleted : PendingDelete → Ready
-deleted d = record { place = d.place; sqid = 0; cid = d.cid; with_queue = false; status = success; dw0 = 0 }
+deleted d = record { place = d.place; sqid = 0; cid = d.cid; with_queue = false; passed = false; status = success; dw0 = 0 }
 
 abbrev pub after_closed : Content → PendingDelete → TableView → Content
 after_closed k d table = with_ready (record k { deletion = None; table = table }) 0 (deleted d)

@@ -1,4 +1,5 @@
 -- The device answers a command: the controller stands at its log afterwards.
+use Rattle.std.proofs.Common.{◌&&◌, eqb-true}
 use Rattle.std.proofs.Common.{◌≡◌, ◌≢◌, ℕ, ◌+◌, ◌<◌, ◌≤◌, ◌^◌, ◌==◌, Bool, true, false, if◌then◌else◌, List, [], ◌∷◌, ◌++◌, length, drop, get_or, Option, Some, None, refl, sym, ap, ◌∙◌, subst, arith, inl, inr}
 use Rattle.std.specs.Prelude.{slice_set, is_none}
 use Rattle.std.specs.List.{All}
@@ -17,7 +18,7 @@ use Rattle.nvme_log.specs.declared.place.Place.{Place}
 use Rattle.nvme_ctrl.specs.Notes.{Notes, Answered, logged}
 use Rattle.nvme_ctrl.specs.Doorbells.{consumed}
 use Rattle.nvme_ctrl.specs.Rings.{HasCounts}
-use Rattle.nvme_ctrl.specs.Tags.{holder, answer_of, is_unanswered, is_out, all_posts}
+use Rattle.nvme_ctrl.specs.Tags.{holder, answer_of, is_unanswered, is_out, all_posts, is_of_device}
 use Rattle.nvme_ctrl.specs.Account.{IsAccount, IsAnswer}
 use Rattle.nvme_ctrl.specs.Calls.{HasAnswered}
 use Rattle.nvme_ctrl.specs.declared.slot.Slot.{Slot}
@@ -27,9 +28,10 @@ use Rattle.nvme_ctrl.specs.declared.state.Controller.{Controller}
 use Rattle.nvme_ctrl.specs.kept.Content.{Content, CqContent, Ready}
 use Rattle.nvme_ctrl.specs.kept.Standing.{Holds, IsReady, answer_in}
 use Rattle.nvme_ctrl.specs.inside.Steps.{done}
-use Rattle.nvme_ctrl.specs.kept.Kept.{Item, ReadyItem, Items, IsWaitingIn, IsOutIn, IsReadyIn, IsAmongOuts, HasNumbers, HasItems, HoldsDoorbells, HoldsTags, IsThrough, IsUnanswered, HasCookie, HasReadyCookie, HasEntry, StandsAt, tags_of, places_of, ready_tags, readies_of, untaken, pending_of, is_free}
+use Rattle.nvme_ctrl.specs.kept.Kept.{Item, ReadyItem, Items, IsWaitingIn, IsOutIn, IsReadyIn, IsAmongOuts, HasNumbers, HasItems, HoldsDoorbells, HoldsTags, IsThrough, IsUnanswered, HasCookie, HasReadyCookie, HasEntry, StandsAt, tags_of, places_of, ready_tags, readies_of, untaken, pending_of, is_free, IsDevices, IsReadyOf}
 use Rattle.nvme_ctrl.specs.kept.Pool.{slot_at, item_at, put_item, IsChain, IsNew, AreApart, SameItems, SameLinks}
 use Rattle.nvme_ctrl.specs.kept.State.{sq_at, cq_at}
+use Rattle.nvme_ctrl.proofs.Passed.{held_is_devices, devices_passed}
 use Rattle.nvme_ctrl.proofs.Cookies.{SameCookies, same_cookies-but, cookie_left, items_left, readies_left}
 use Rattle.nvme_ctrl.proofs.Pools.{length-put_item, item_at-put_item_same, item_at-put_item_other, chain-put_item, chain-other, length-apart, AreApart-others, IsNew-others}
 use Rattle.nvme_ctrl.proofs.OwnStatus.{All-unmap}
@@ -356,8 +358,9 @@ module _ (rules : FrontRules) (late : Bool) (notes : Notes) (c : Controller) (sl
         t.none_held y (λ e. not_out (state ∙ e)) (λ e. not_answered (state ∙ e))
   ]
 
-  not_admin : (it.place.region == 0) ≡ false
-  not_admin = (at_hand rules late notes c slots k g s n h t before it after are answer).io
+  -- it is a command of the device's
+  devices : IsDevices notes it.place
+  devices = held_is_devices notes c g t.untaken_are t.passed it.tag it.place held
 
   pub answer-tags : HoldsTags (Answered it.place.region it.place.index answer ∷ notes) (answered_controller c x chain) new left
   answer-tags = record {
@@ -375,7 +378,8 @@ module _ (rules : FrontRules) (late : Bool) (notes : Notes) (c : Controller) (sl
     outs_unanswered = all_unanswered (before ++ after) (others_out rules late notes c slots k g s n h t before it after are answer)
         (All-taken (λ (y : Item). IsUnanswered notes y.place) before it after
         (All-same (λ (y : Item). IsUnanswered notes y.place) (before ++ it ∷ after) g.outs (sym are) t.outs_unanswered)).1;
-    deletion_unanswered = λ pending. rw not_admin (t.deletion_unanswered pending);
+    deletion_unanswered = λ pending.
+        ap (λ (b : Bool). if b then Some answer else answer_of notes 0 g.delete_index) (not_deletion pending) ∙ t.deletion_unanswered pending;
     none_answered = λ r i past_all. answer_left (place_at r i) (is_other it.place.region it.place.index (place_at r i) (λ same_region same_index.
         let was = was_fetched rules late notes c slots k g s n h t before it after are answer in
         omega (arith, was, same_index, ap (λ (z : ℕ). length (fetched (logged notes) z)) same_region, past_all))) ∙ t.none_answered r i past_all;
@@ -383,6 +387,14 @@ module _ (rules : FrontRules) (late : Bool) (notes : Notes) (c : Controller) (sl
     hand_entries = All-same (HasEntry (logged notes)) (before ++ after ++ untaken c g) (before ++ (after ++ untaken c g)) hand_left
         (has_entries rules late notes c slots k g s n h t before it after are answer).1;
     free_count = t.free_count ∙ ap (λ (m : ℕ). m + all_posts (logged notes)) (sym size);
+    passed = record {
+      all_handed = t.passed.all_handed;
+      served = t.passed.served;
+      readies = at_put (λ y ws. All (IsReadyOf (Answered it.place.region it.place.index answer ∷ notes)) ws) g.readies x (g.readies x ++ item ∷ [])
+          (All-push (IsReadyOf (Answered it.place.region it.place.index answer ∷ notes)) (g.readies x) item (t.passed.readies x) (devices_passed notes it.place devices))
+          (λ y other. t.passed.readies y);
+      deletion = t.passed.deletion;
+    };
     cookies = record {
       windows = λ r. items_left notes slots new same (g.windows r) (t.cookies.windows r);
       outs = items_left notes slots new same (before ++ after) cookies.1;
@@ -393,6 +405,17 @@ module _ (rules : FrontRules) (late : Bool) (notes : Notes) (c : Controller) (sl
       none = t.cookies.none;
     };
   } where
+    not_deletion : c.deletion.pending ≢ 0 → (it.place.region == 0 && it.place.index == g.delete_index) ≡ false
+    not_deletion pending = by (it.place.region == 0) (it.place.index == g.delete_index) refl refl where
+      by : (a b : Bool) → (it.place.region == 0) ≡ a → (it.place.index == g.delete_index) ≡ b → (a && b) ≡ false
+      by true true e f =
+          let here : is_of_device notes 0 g.delete_index ≡ true = subst (λ (r : ℕ). is_of_device notes r g.delete_index ≡ true) (eqb-true it.place.region 0 e)
+          (subst (λ (j : ℕ). is_of_device notes it.place.region j ≡ true) (eqb-true it.place.index g.delete_index f) devices) in
+          let none = t.passed.deletion pending in
+          absurd (cc (here, none))
+      by true false e f = refl
+      by false b e f = refl
+
     same : SameCookies slots new
     same = same_cookies-but slots new it.tag others (ap (λ (z : Slot). z.cookie) now)
 
@@ -403,7 +426,7 @@ module _ (rules : FrontRules) (late : Bool) (notes : Notes) (c : Controller) (sl
   is_answer : IsAnswer rules notes it.place.region it.place.index answer
   is_answer = record {
     first = unanswered;
-    executed = rw not_admin (record { tag = it.tag; stands = held });
+    executed = rw devices (record { tag = it.tag; stands = held });
   }
 
   pub answer-account : IsAccount rules notes → IsAccount rules (Answered it.place.region it.place.index answer ∷ notes)

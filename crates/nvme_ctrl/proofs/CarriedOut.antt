@@ -1,4 +1,5 @@
 -- An admin command was carried out: the controller stands at the notes of its pick, of what it makes, and of its answer.
+use Rattle.nvme_ctrl.specs.Account.{PostsOwn}
 use Rattle.std.proofs.Common.{◌≡◌, ℕ, suc, ◌<◌, ◌==◌, ◌&&◌, Bool, true, false, if◌then◌else◌, List, [], ◌∷◌, ◌++◌, length, map, drop, Some, None, refl, sym, ap, ◌∙◌, subst, arith, inl, inr, eq-eqb}
 use Rattle.std.specs.Prelude.{slice_get, option_map, nat_lt, All}
 use Rattle.std.specs.List.{AllPairs}
@@ -21,32 +22,33 @@ use Rattle.nvme_log.specs.Account.{PostsOwnBy}
 use Rattle.nvme_log.specs.Aborts.{is_index}
 use Rattle.nvme_ctrl.specs.kept.Pool.{slot_at}
 use Rattle.nvme_ctrl.specs.Notes.{Notes, Logged, Answered, EachNote, logged}
-use Rattle.nvme_ctrl.specs.Tags.{answer_of, answers, cookie_of}
+use Rattle.nvme_ctrl.specs.Tags.{answer_of, answers, cookie_of, is_passed}
 use Rattle.nvme_ctrl.specs.Account.{IsLawfulEvent, IsLawful, IsAccount, IsCarriedOut, FetchesSubmitted, PostsOnFreeSlot, PostsWhatIsThrough}
 use Rattle.nvme_ctrl.specs.Steps.{with_logged, picked_notes, HasCarriedOut}
 use Rattle.nvme_ctrl.specs.declared.slot.Slot.{Slot}
 use Rattle.nvme_ctrl.specs.declared.state.Controller.{Controller}
 use Rattle.nvme_ctrl.specs.kept.Content.{Candidate, Ready, PendingDelete, Content, with_ready}
-use Rattle.nvme_ctrl.specs.kept.Standing.{Holds, HasOwnStatus, IsInHand, hand_of, answer_in}
+use Rattle.nvme_ctrl.specs.kept.Standing.{Holds, HasOwnStatus, IsInHand, hand_of, answer_in, HasItsStatus}
 use Rattle.nvme_ctrl.specs.inside.Steps.{applied_to, told}
 use Rattle.nvme_ctrl.specs.inside.Next.{IsNext, EachNext}
-use Rattle.nvme_ctrl.specs.kept.Kept.{Item, Items, IsWaitingIn, candidate_of, untaken}
+use Rattle.nvme_ctrl.specs.kept.Kept.{Item, Items, IsWaitingIn, candidate_of, untaken, IsDevices}
 use Rattle.nvme_ctrl.specs.inside.Loose.{Keeps}
 use Rattle.nvme_ctrl.specs.inside.Carrying.{IsApplied, HasBegun}
 use Rattle.nvme_ctrl.specs.kept.State.{picked_in}
+use Rattle.nvme_ctrl.proofs.Passed.{not_passed, hand_is_devices}
 use Rattle.nvme_ctrl.proofs.AfterSteps.{IsChosen, after_admin, admin_past}
 use Rattle.nvme_ctrl.proofs.Standing.{holds-admin}
 use Rattle.nvme_ctrl.proofs.AdminEvents.{next-admin}
 use Rattle.nvme_ctrl.proofs.AdminPick.{deleted_region, target_region}
 use Rattle.nvme_ctrl.proofs.Counts.{outstanding-pick}
 use Rattle.nvme_ctrl.proofs.EffectEvents.{AreEffects, made_are_effects, made_leave_region, effects_leave_fetched}
-use Rattle.nvme_ctrl.proofs.LaterNotes.{logged-with, answer_of-logged, cookie_of-logged, keeps-picked, IsOther, keeps-answered}
+use Rattle.nvme_ctrl.proofs.LaterNotes.{logged-with, answer_of-logged, cookie_of-logged, keeps-picked, IsOther, keeps-answered, is_passed-logged}
 use Rattle.nvme_ctrl.proofs.OwnStatus.{IsAnswerable, ready_is_answerable, answerable_is_done, candidates_wait, oldest_waits, waiting_is_unaborted, All-unmap}
 use Rattle.nvme_ctrl.proofs.SlotItems.{All-parts}
 use Rattle.nvme_ctrl.proofs.Windows.{window-below, window-ascending}
 
 -- ---- lawful events
-own_of-effect : (rules : FrontRules) (notes : Notes) (e : Event) → is_effect e ≡ true → PostsOwnBy rules (by_answers (answers notes)) (logged notes) e
+own_of-effect : (rules : FrontRules) (notes : Notes) (e : Event) → is_effect e ≡ true → PostsOwn rules notes e
 own_of-effect rules notes (event.Post c r i cqe) h = cc h
 own_of-effect rules notes e h = tt
 
@@ -136,6 +138,22 @@ module _ (rules : FrontRules) (late : Bool) (notes : Notes) (a : Controller) (sl
   -- so has its slot what the caller keeps with it
   pub cookie_kept : cookie_of made_notes 0 h.candidate.index ≡ Some (slot_at slots tag).cookie
   cookie_kept = cookie_of-logged made (picked_notes notes h.pick) 0 h.candidate.index ∙ h.cookie
+
+  -- it wasn't passed on
+  not_passed_before : is_passed notes h.candidate.index ≡ false
+  not_passed_before = by (is_passed notes h.candidate.index) refl where
+    by : (b : Bool) → is_passed notes h.candidate.index ≡ b → b ≡ false
+    by true e =
+        let waits : is_waiting (fate_of (logged notes) 0 h.candidate.index) ≡ true =
+        All-head (λ (c : Candidate). is_waiting (fate_of (logged notes) 0 c.index) ≡ true) h.candidate h.rest
+        (All-same (λ (c : Candidate). is_waiting (fate_of (logged notes) 0 c.index) ≡ true) (h.candidate ∷ h.rest) (h.before.sq 0).window (sym h.can_apply.oldest)
+        (candidates_wait (logged notes) 0 (h.before.sq 0) (h.holds.regions 0))) in
+        let done = h.keeps.tags.passed.served h.candidate.index e in
+        absurd (cc (waits, done))
+    by false e = refl
+
+  pub not_passed_on : is_passed made_notes h.candidate.index ≡ false
+  not_passed_on = is_passed-logged made (picked_notes notes h.pick) h.candidate.index ∙ not_passed_before
 
   -- the controller keeps the same at them
   pub keeps_made : Keeps rules made_notes a slots applied h.items
@@ -230,12 +248,10 @@ module _ (rules : FrontRules) (late : Bool) (notes : Notes) (a : Controller) (sl
 
   outs_other : All (λ (it : Item). IsOther h.candidate.index it.place) h.items.outs
   outs_other =
-      All-weaker (λ (it : Item). (it.place.region == 0) ≡ false) (λ (it : Item). IsOther h.candidate.index it.place)
-      (λ it io. rw (ne_eqb 0 it.place.region (λ e. let no = sym io ∙ eq-eqb it.place.region 0 (sym e) in cc no)) refl) h.items.outs
-      (All-parts (λ (it : Item). (it.place.region == 0) ≡ false) h.items.outs (untaken a h.items)
-      (All-unmap (λ (p : Place). (p.region == 0) ≡ false) (λ (it : Item). it.place) (h.items.outs ++ untaken a h.items)
-      (subst (All (λ (p : Place). (p.region == 0) ≡ false)) h.keeps.has.hand_is
-      (All-weaker (IsInHand (logged notes)) (λ (p : Place). (p.region == 0) ≡ false) (λ p i. i.io) h.before.hand h.holds.hand.each)))).0
+      (All-parts (λ (it : Item). IsOther h.candidate.index it.place) h.items.outs (untaken a h.items)
+      (All-weaker (λ (it : Item). IsDevices notes it.place) (λ (it : Item). IsOther h.candidate.index it.place)
+      (λ it is. not_passed notes it.place h.candidate.index is not_passed_before) (h.items.outs ++ untaken a h.items)
+      (hand_is_devices notes a slots h.items h.keeps.tags))).0
 
   -- the controller keeps the same when it is answered
   pub keeps_told : (answer : Answer) → Keeps rules (Answered 0 h.candidate.index answer ∷ made_notes) a slots applied h.items
@@ -253,8 +269,8 @@ module _ (rules : FrontRules) (late : Bool) (notes : Notes) (a : Controller) (sl
     holds_told : Holds rules late (logged made_notes) k
     holds_told = subst (Holds rules late (logged made_notes)) is (holds_made c board chosen)
 
-    own : late ≡ false → HasOwnStatus rules (logged made_notes) t
-    own on_time = last_of (HasOwnStatus rules (logged made_notes)) (before.cq 0).ready t ((holds_told.own on_time).own_statuses 0)
+    own : late ≡ false → HasItsStatus rules (logged made_notes) t
+    own on_time = last_of (HasOwnStatus rules (logged made_notes)) (before.cq 0).ready t ((holds_told.own on_time).own_statuses 0) refl
 
     done : is_waiting (fate_of (logged made_notes) 0 h.candidate.index) ≡ false
     done =
@@ -277,7 +293,7 @@ module _ (rules : FrontRules) (late : Bool) (notes : Notes) (a : Controller) (sl
 
     account_told : late ≡ false → IsAccount rules (Answered 0 h.candidate.index (answer_in t) ∷ made_notes)
     account_told on_time = record {
-      each = (record { first = unanswered; executed = carried on_time }, each_made on_time);
+      each = (record { first = unanswered; executed = rw not_passed_on (carried on_time) }, each_made on_time);
       lawful = holds_told.arbitration.lawful;
       effects_whole = (holds_told.own on_time).effects_whole;
     }

@@ -1,4 +1,6 @@
 -- The effect of an Abort command, carried out.
+use Rattle.nvme_ctrl.proofs.OpenQueues.{io_region}
+use Rattle.std.proofs.lemmas.Bool.{ne_eqb}
 use Rattle.std.proofs.Common.{◌≡◌, ℕ, ◌==◌, ◌&&◌, ◌||◌, Bool, true, false, if◌then◌else◌, List, ◌∷◌, length, Option, Some, None, refl, sym, ap, ◌∙◌, subst, arith, eq-eqb}
 use Rattle.std.specs.Prelude.{slice_set}
 use Rattle.std.proofs.lemmas.Bool.{ne_eqb}
@@ -91,6 +93,7 @@ module _ (rules : FrontRules) (late : Bool) (notes : Notes) (a : Controller) (sl
         let same = ap (λ (s : SqContent). s.unposted) left in
         record {
           there = there.0;
+          io = ne_eqb e.region 0 (io_region rules late (logged notes) h.before h.holds e.region sqid opened attached io);
           c = opened;
           posts_there = there.1;
           attached = ap (λ (s : SqContent). s.queue) left ∙ attached;

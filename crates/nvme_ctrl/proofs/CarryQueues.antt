@@ -1,5 +1,7 @@
 -- The beginning of a deletion, carried out.
-use Rattle.std.proofs.Common.{◌≡◌, ℕ, ◌+◌, ◌<◌, ◌^◌, Bool, true, List, ◌∷◌, length, map, Some, None, refl, sym, ap, ◌∙◌, subst, arith}
+use Rattle.nvme_ctrl.proofs.OpenQueues.{io_region}
+use Rattle.std.proofs.lemmas.Bool.{ne_eqb}
+use Rattle.std.proofs.Common.{◌≡◌, ℕ, ◌+◌, ◌<◌, ◌^◌, Bool, true, List, ◌∷◌, length, map, Some, None, refl, sym, ap, ◌∙◌, subst, arith, false}
 use Rattle.std.specs.Prelude.{IsSome, All}
 use Rattle.std.proofs.lemmas.Option.{same_Some}
 use Rattle.std.proofs.lemmas.List.Elements.{All-same}
@@ -17,7 +19,7 @@ use Rattle.nvme_log.specs.Places.{is_aborted, waiting, observation_of}
 use Rattle.nvme_log.specs.Effects.{closing_of}
 use Rattle.nvme_log.specs.Dispatches.{place_at}
 use Rattle.nvme_ctrl.specs.Notes.{Notes, logged}
-use Rattle.nvme_ctrl.specs.Tags.{answer_of}
+use Rattle.nvme_ctrl.specs.Tags.{answer_of, is_passed}
 use Rattle.nvme_ctrl.specs.Steps.{HasCarriedOut}
 use Rattle.nvme_ctrl.specs.declared.slot.Slot.{Slot}
 use Rattle.nvme_ctrl.specs.declared.state.Controller.{Controller}
@@ -28,7 +30,7 @@ use Rattle.nvme_ctrl.specs.inside.Carrying.{IsApplied, IsDroppable, deleting, Ha
 use Rattle.nvme_ctrl.specs.kept.Pool.{slot_at}
 use Rattle.nvme_ctrl.proofs.AfterSteps.{with_events, deleting_from}
 use Rattle.nvme_ctrl.proofs.AppliedQueues.{region_there, named_region, named_attached, named_on_board, begins_queue, begins_open, begins_io}
-use Rattle.nvme_ctrl.proofs.CarriedOut.{made_notes, applied, logged_is, unanswered, cookie_kept, keeps_made, carried_later}
+use Rattle.nvme_ctrl.proofs.CarriedOut.{made_notes, applied, logged_is, unanswered, cookie_kept, not_passed_on, keeps_made, carried_later}
 use Rattle.nvme_ctrl.proofs.FewUnposted.{few_unposted}
 use Rattle.nvme_ctrl.proofs.OwnStatus.{All-unmap, aborts_all}
 
@@ -82,7 +84,7 @@ module _ (rules : FrontRules) (late : Bool) (notes : Notes) (a : Controller) (sl
       (subst (λ (p : Past). All (λ (i : ℕ). is_aborted p region i ≡ true) (waiting (logged notes) region)) (sym made) (aborts_all region (waiting (logged notes) region) closing)))
 
   droppable : IsDroppable now k qid region opened
-  droppable = record { there = there.0; posts_there = there.1; attached = ap (λ (s : SqContent). s.queue) left ∙ attached; are_aborted = all_aborted }
+  droppable = record { there = there.0; posts_there = there.1; attached = ap (λ (s : SqContent). s.queue) left ∙ attached; are_aborted = all_aborted; io = ne_eqb region 0 (io_region rules late (logged notes) h.before h.holds region qid opened attached io) }
 
   -- few are unposted
   few : (k.sq region).unposted + length (k.sq region).window < 2 ^ 16
@@ -97,7 +99,7 @@ module _ (rules : FrontRules) (late : Bool) (notes : Notes) (a : Controller) (sl
   -- it began
   pub ended_begun : (b : Controller) (pool : List Slot)
       → ((rules : FrontRules) (notes : Notes) (k : Content) (g : Items) (c : ℕ) (candidate : Candidate) → Keeps rules notes a slots k g → a.picked ≡ 0 → IsLoose slots g tag
-      → (slot_at slots tag).entry ≡ candidate.entry → answer_of notes 0 candidate.index ≡ None → IsCookie notes slots tag (place_at 0 candidate.index) → IsDroppable notes k qid region c → (k.sq region).unposted + length (k.sq region).window < 2 ^ 16
+      → (slot_at slots tag).entry ≡ candidate.entry → answer_of notes 0 candidate.index ≡ None → IsCookie notes slots tag (place_at 0 candidate.index) → is_passed notes candidate.index ≡ false → IsDroppable notes k qid region c → (k.sq region).unposted + length (k.sq region).window < 2 ^ 16
       → HasBegun rules notes (deleting k qid region c candidate) b pool)
       → HasCarriedOut rules late notes (verdict_in did) b pool
   ended_begun b pool begun =
@@ -106,4 +108,4 @@ module _ (rules : FrontRules) (late : Bool) (notes : Notes) (a : Controller) (sl
       subst (λ (q : Queue). (h.before.sq q.region).queue ≡ Some (record { qid = qid; cq_region = opened }))
       (same_Some (begins_queue rules late notes a slots tag qid region h) queue (sym is_open ∙ open_too)) attached)
       (deleting k qid region opened h.candidate) (ap (deleting_from k qid opened h.candidate) is_open) b pool
-      (begun rules now k h.items opened h.candidate (keeps_made rules late notes a slots tag did h) h.none_picked h.loose h.entry (unanswered rules late notes a slots tag did h) (cookie_kept rules late notes a slots tag did h) droppable few)
+      (begun rules now k h.items opened h.candidate (keeps_made rules late notes a slots tag did h) h.none_picked h.loose h.entry (unanswered rules late notes a slots tag did h) (cookie_kept rules late notes a slots tag did h) (not_passed_on rules late notes a slots tag did h) droppable few)

@@ -1,5 +1,5 @@
 -- The deletion of a submission queue begins: its candidates are dropped, and its command waits in a slot of its own.
-use Rattle.std.proofs.Common.{◌≡◌, ◌≢◌, ℕ, ◌+◌, ◌<◌, ◌≤◌, ◌^◌, List, [], ◌++◌, length, map, drop, Some, None, refl, sym, ap, ◌∙◌, subst, arith, inl, inr, eq-eqb}
+use Rattle.std.proofs.Common.{◌≡◌, ◌≢◌, ℕ, ◌+◌, ◌<◌, ◌≤◌, ◌^◌, List, [], ◌++◌, length, map, drop, Some, None, refl, sym, ap, ◌∙◌, subst, arith, inl, inr, eq-eqb, false}
 use Rattle.std.specs.Prelude.{slice_set, IsTrue, min}
 use Rattle.std.proofs.lemmas.Bool.{cases_eq}
 use Rattle.std.proofs.lemmas.List.{length-map}
@@ -11,7 +11,7 @@ use Rattle.nvme_entry.specs.declared.submission.Sqe.{Sqe}
 use Rattle.nvme_log.specs.Rules.{FrontRules}
 use Rattle.nvme_log.specs.Dispatches.{place_at}
 use Rattle.nvme_ctrl.specs.Notes.{Notes, logged}
-use Rattle.nvme_ctrl.specs.Tags.{answer_of, holder, all_posts}
+use Rattle.nvme_ctrl.specs.Tags.{answer_of, holder, all_posts, is_passed}
 use Rattle.nvme_ctrl.specs.declared.slot.Slot.{Slot}
 use Rattle.nvme_ctrl.specs.declared.state.SqState.{SqState}
 use Rattle.nvme_ctrl.specs.declared.state.Controller.{Controller}
@@ -34,7 +34,7 @@ use Rattle.nvme_ctrl.proofs.Windowed.{keeps_region, keeps_board}
 -- what is kept, where a slot that is in no list has the command of the deletion
 module _ (rules : FrontRules) (notes : Notes) (a : Controller) (slots : List Slot) (k : Content) (g : Items) (h : Keeps rules notes a slots k g) (tag qid region : ℕ) (loose : IsLoose slots g tag)
     (candidate : Candidate) (entry : (slot_at slots tag).entry ≡ candidate.entry) (unanswered : answer_of notes 0 candidate.index ≡ None)
-    (cookie : IsCookie notes slots tag (place_at 0 candidate.index)) where
+    (cookie : IsCookie notes slots tag (place_at 0 candidate.index)) (not_passed_on : is_passed notes candidate.index ≡ false) where
   abbrev put : Slot
   put = record (slot_at slots tag) { state = 6 }
 
@@ -109,6 +109,7 @@ module _ (rules : FrontRules) (notes : Notes) (a : Controller) (slots : List Slo
     hand_entries = m.hand_entries;
     free_count = m.free_count ∙ ap (λ (n : ℕ). n + all_posts (logged notes)) (sym size);
     cookies = cookies_pending;
+    passed = (let p = m.passed in record { all_handed = p.all_handed; served = p.served; readies = p.readies; deletion = λ some. not_passed_on });
   } where
     left : SameCookies slots pool
     left = same_cookies-but slots pool tag others (ap (λ (s : Slot). s.cookie) here)
@@ -183,7 +184,7 @@ n_counted rules notes a slots k g region sq h none sq_is few =
 -- ---- all of it
 module _ (rules : FrontRules) (notes : Notes) (a : Controller) (slots : List Slot) (k : Content) (g : Items) (tag qid region c : ℕ) (candidate : Candidate)
     (h : Keeps rules notes a slots k g) (none : a.picked ≡ 0) (loose : IsLoose slots g tag) (entry : (slot_at slots tag).entry ≡ candidate.entry)
-    (unanswered : answer_of notes 0 candidate.index ≡ None) (cookie : IsCookie notes slots tag (place_at 0 candidate.index)) (d : IsDroppable notes k qid region c)
+    (unanswered : answer_of notes 0 candidate.index ≡ None) (cookie : IsCookie notes slots tag (place_at 0 candidate.index)) (not_passed_on : is_passed notes candidate.index ≡ false) (d : IsDroppable notes k qid region c)
     (sq : SqState) (n : ℕ) (sq_is : sq ≡ sq_at a.sqs region) (n_is : n ≡ sq.unposted + sq.window.len)
     (m : Controller) (m_is : m ≡ record a { sqs = slice_set a.sqs region (record sq { unposted = n }) }) where
   abbrev count : ℕ
@@ -216,6 +217,7 @@ module _ (rules : FrontRules) (notes : Notes) (a : Controller) (slots : List Slo
     posts_there = d.posts_there;
     attached = rw (eq-eqb region region refl) d.attached;
     are_aborted = rw (eq-eqb region region refl) d.are_aborted;
+    io = d.io;
   }
 
   -- they are dropped, and the deletion is pending
@@ -234,6 +236,6 @@ module _ (rules : FrontRules) (notes : Notes) (a : Controller) (slots : List Slo
       (keeps_board rules notes w mid (dropped counted qid region c) e.items board now e.keeps
       (closed ∙ ap (λ (z : BoardView). record z { queues = slice_set z.queues qid None }) e.keeps.numbers.board_is)
       (subst (λ (z : ArbiterFields). IsTrue (is_arbiter z)) (sym arbiter) e.keeps.numbers.is_arbiter))
-      tag qid region e.loose candidate (ap (λ (z : Slot). z.entry) e.slot ∙ entry) unanswered (cookie ∙ ap (λ (z : Slot). Some z.cookie) (sym e.slot))))) where
+      tag qid region e.loose candidate (ap (λ (z : Slot). z.entry) e.slot ∙ entry) unanswered (cookie ∙ ap (λ (z : Slot). Some z.cookie) (sym e.slot)) not_passed_on))) where
         now : BoardView
         now = record k.board { queues = slice_set k.board.queues qid None }

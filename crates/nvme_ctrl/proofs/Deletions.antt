@@ -1,5 +1,5 @@
 -- Deletions and picks in a controller's log.
-use Rattle.std.proofs.Common.{◌≡◌, ℕ, zero, suc, true, List, [], ◌∷◌, ◌++◌, Some, None, sym, ap, ◌∙◌, subst, inl, inr}
+use Rattle.std.proofs.Common.{◌≡◌, ℕ, zero, suc, true, List, [], ◌∷◌, ◌++◌, Some, None, sym, ap, ◌∙◌, subst, inl, inr, false}
 use Rattle.std.specs.Prelude.{slice_get}
 use Rattle.std.proofs.lemmas.Option.{same_Some}
 use Rattle.std.specs.List.{list_all}
@@ -18,10 +18,11 @@ use Rattle.nvme_log.proofs.DeletionAnswers.{deletes_answered_last, none-picked_a
 use Rattle.nvme_log.proofs.Members.{IsIn}
 use Rattle.nvme_log.proofs.Promise.{none_after_deletion}
 use Rattle.nvme_log.proofs.Prefixes.{arbitration_of-append}
+use Rattle.nvme_ctrl.proofs.Posting.{posted_done}
+use Rattle.nvme_log.specs.Places.{fate_of, is_waiting}
 use Rattle.nvme_ctrl.specs.Notes.{Notes, Logged, logged}
 use Rattle.nvme_ctrl.specs.Tags.{answers}
 use Rattle.nvme_ctrl.specs.Account.{IsLawful}
-use Rattle.nvme_ctrl.proofs.Accounted.{posts-own}
 use Rattle.nvme_ctrl.specs.Laws.{DeletesAreAnsweredLast, PicksAreLawful, NoneFetchedAfterDeletion, NonePickedAfterDeletion}
 use Rattle.nvme_ctrl.proofs.Noted.{EachNote-after, logged-append, each-event}
 
@@ -60,10 +61,10 @@ none_picked_after_deletion rules later middle before seen pick qid r i h takes =
     let all = EachNote-after (IsLawful rules) later (Logged (event.Pick seen pick) ∷ notes) h.each in
     let split : logged notes ≡ past = logged-append middle (Logged (event.Closing qid r) ∷ before) in
     let waits : IsIn i (waiting (logged notes) r) = in-at i takes.position (waiting (logged notes) r) takes.stands in
-    none-picked_after rules (by_answers (answers notes)) (logged middle) (logged before) qid r i
+    none-picked_after rules (logged middle) (logged before) qid r i
     (subst (Each (EffectsAtOnce rules)) split (each-event _ rules (λ past e it. it.effects_at_once) notes all.1))
     (subst (Each Deletes) split (each-event _ rules (λ past e it. it.deletes) notes all.1))
-    (subst (Each (PostsOwnBy rules (by_answers (answers notes)))) split (posts-own rules notes all.1))
+    (subst (λ (p : Past). is_posted p r i ≡ true → is_waiting (fate_of p r i) ≡ false) split (posted_done rules notes all.1 r i))
     (subst (λ (p : Past). pending p ≡ None) split all.0.deletes)
     (subst (λ (p : Past). IsIn i (waiting p r)) split waits)
   where

@@ -29,6 +29,7 @@ use Rattle.nvme_ctrl.specs.kept.Kept.{Items, HasNumbers, HasItems, HoldsDoorbell
 use Rattle.nvme_ctrl.specs.kept.Pool.{IsChain}
 use Rattle.nvme_ctrl.specs.kept.State.{sq_at, cq_at, attachment_of}
 use Rattle.nvme_ctrl.proofs.Cookies.{cookies_left, cookies_later}
+use Rattle.nvme_ctrl.proofs.Passed.{passed_left, passed_later}
 use Rattle.nvme_ctrl.proofs.OpenQueues.{open_region, any_upto}
 use Rattle.nvme_ctrl.proofs.RegionStates.{put_sq-each, put_cq-each}
 
@@ -238,6 +239,7 @@ module _ (rules : FrontRules) (late : Bool) (notes : Notes) (c : Controller) (sl
               hand_entries = s.tags.hand_entries;
               free_count = s.tags.free_count;
               cookies = cookies_later notes (Tail e.region slot ∷ notes) (with_sq_ring c e.region new) slots s.items (λ r i. refl) (λ r. refl) (cookies_left notes slots slots (λ y. refl) c (with_sq_ring c e.region new) s.items refl s.tags.cookies);
+              passed = passed_later notes (Tail e.region slot ∷ notes) (with_sq_ring c e.region new) s.items (λ i. refl) refl (λ i waits. waits) (passed_left notes c (with_sq_ring c e.region new) s.items s.items refl (λ x. refl) refl s.tags.passed);
             };
             account = λ on_time. (let a = s.account on_time in record { each = (tail, a.each); lawful = a.lawful; effects_whole = a.effects_whole });
           };
@@ -400,6 +402,7 @@ module _ (rules : FrontRules) (late : Bool) (notes : Notes) (c : Controller) (sl
               hand_entries = s.tags.hand_entries;
               free_count = s.tags.free_count;
               cookies = cookies_later notes (Head region slot ∷ notes) (with_cq_ring c region new) slots s.items (λ r i. refl) (λ r. refl) (cookies_left notes slots slots (λ y. refl) c (with_cq_ring c region new) s.items refl s.tags.cookies);
+              passed = passed_later notes (Head region slot ∷ notes) (with_cq_ring c region new) s.items (λ i. refl) refl (λ i waits. waits) (passed_left notes c (with_cq_ring c region new) s.items s.items refl (λ x. refl) refl s.tags.passed);
             };
             account = λ on_time. (let a = s.account on_time in record { each = (head, a.each); lawful = a.lawful; effects_whole = a.effects_whole });
           };

@@ -17,7 +17,7 @@ use Rattle.nvme_ctrl.specs.declared.chain.Chain.{Chain}
 use Rattle.nvme_ctrl.specs.declared.state.CqState.{CqState}
 use Rattle.nvme_ctrl.specs.declared.state.Controller.{Controller}
 use Rattle.nvme_ctrl.specs.kept.Content.{Ready, CqContent, Content, with_ready}
-use Rattle.nvme_ctrl.specs.kept.Kept.{Item, ReadyItem, Items, IsWaitingIn, IsOutIn, IsReadyIn, IsThrough, IsCookie, HasReadyCookie, HoldsCookies, HasNumbers, HasItems, HoldsDoorbells, HoldsTags, tags_of, ready_tags, readies_of, ready_state, is_free}
+use Rattle.nvme_ctrl.specs.kept.Kept.{is_passed_at, IsReadyOf, Item, ReadyItem, Items, IsWaitingIn, IsOutIn, IsReadyIn, IsThrough, IsCookie, HasReadyCookie, HoldsCookies, HasNumbers, HasItems, HoldsDoorbells, HoldsTags, tags_of, ready_tags, readies_of, ready_state, is_free}
 use Rattle.nvme_ctrl.specs.inside.Loose.{IsLoose, AreReadiesApart, Keeps, MakesReady, ended, with_item}
 use Rattle.nvme_ctrl.specs.kept.Pool.{slot_at, item_at, next_at, put_item, IsChain, IsNew, SameItems, SameLinks}
 use Rattle.nvme_ctrl.specs.kept.State.{no_cq_state, cq_at}
@@ -56,7 +56,7 @@ module _ (rules : FrontRules) (notes : Notes) (a : Controller) (slots : List Slo
     (pool : List Slot) (size : length pool ≡ length slots) (others : (y : ℕ) → y ≢ tag → item_at pool y ≡ item_at slots y)
     (links : SameLinks (ready_tags (g.readies region)) slots pool)
     (chain : Chain) (linked : IsChain pool chain (ready_tags (g.readies region) ++ tag ∷ []))
-    (ready : IsReadyIn pool (ended tag t)) (same : SameCookies slots pool) (cookie : IsCookie notes slots tag t.place) where
+    (ready : IsReadyIn pool (ended tag t)) (same : SameCookies slots pool) (cookie : IsCookie notes slots tag t.place) (passed_as : t.passed ≡ is_passed_at notes t.place) where
   abbrev later : Items
   later = with_item g region (ended tag t)
 
@@ -185,6 +185,12 @@ module _ (rules : FrontRules) (notes : Notes) (a : Controller) (slots : List Slo
     hand_entries = m.hand_entries;
     free_count = m.free_count ∙ ap (λ (n : ℕ). n + all_posts (logged notes)) (sym size);
     cookies = cookies_after;
+    passed = (let p = m.passed in record {
+      all_handed = p.all_handed;
+      served = p.served;
+      readies = each (λ x s c its. All (IsReadyOf notes) its) (All-push (IsReadyOf notes) (g.readies region) (ended tag t) (p.readies region) passed_as) (λ x other. p.readies x);
+      deletion = λ some. absurd (some h.none_pending);
+    });
   } where
     cookies_after : HoldsCookies notes after pool later
     cookies_after = let q = h.tags.cookies in record {
@@ -255,14 +261,14 @@ pub keeps_end : (rules : FrontRules) (notes : Notes) (a b : Controller) (slots m
     → ((xs : List ℕ) → IsChain mid cq.ready xs → tag < length mid → IsNew tag xs → length xs + 1 < 2 ^ 16 → IsChain pool chain (xs ++ tag ∷ []))
     → SameItems mid pool → ((xs : List ℕ) → IsChain mid cq.ready xs → SameLinks xs mid pool)
     → b ≡ record a { cqs = slice_set a.cqs region (record cq { ready = chain }) } → status.sct < 8
-    → IsLoose slots g tag → MakesReady slots tag state status dw0 t → IsThrough notes t → IsCookie notes slots tag t.place → region < 65
+    → IsLoose slots g tag → MakesReady slots tag state status dw0 t → IsThrough notes t → IsCookie notes slots tag t.place → t.passed ≡ is_passed_at notes t.place → region < 65
     → Keeps rules notes b pool (with_ready k region t) (with_item g region (ended tag t))
-keeps_end rules notes a b slots mid pool k g t tag state region dw0 status s cq chain h slot_is put cq_is pushes same links is few loose makes through cookie within =
+keeps_end rules notes a b slots mid pool k g t tag state region dw0 status s cq chain h slot_is put cq_is pushes same links is few loose makes through cookie passed_as within =
     subst (λ (c : Controller). Keeps rules notes c pool (with_ready k region t) (with_item g region (ended tag t)))
     (sym (is ∙ ap (λ (c : CqState). record a { cqs = slice_set a.cqs region (record c { ready = chain }) }) cq_is))
     (keeps_ended rules notes a slots k g h tag loose region within t through pool size others left chain
     (pushes (ready_tags (g.readies region)) linked (subst (λ (n : ℕ). tag < n) (sym mid_size) loose.inside) (loose.readies region) room) ready
-    (same_cookies-but slots pool tag others (ap (λ (x : Slot). x.cookie) now ∙ ap (λ (x : Slot). x.cookie) slot_is)) cookie) where
+    (same_cookies-but slots pool tag others (ap (λ (x : Slot). x.cookie) now ∙ ap (λ (x : Slot). x.cookie) slot_is)) cookie passed_as) where
       put_slot : Slot
       put_slot = record s { state = state; sct = status.sct; sc = status.sc; dw0 = dw0 }
 

@@ -38,6 +38,8 @@ use Rattle.nvme_ctrl.specs.kept.Kept.{Item, Items, HasNumbers, HasItems, HoldsDo
 use Rattle.nvme_ctrl.specs.kept.Pool.{slot_at, item_at, put_item, IsNew, AreApart, IsChain, SameItems, SameLinks}
 use Rattle.nvme_ctrl.specs.kept.Standing.{Holds, on_board}
 use Rattle.nvme_ctrl.specs.kept.State.{sq_at, cq_at, attachment_of, picked_in}
+use Rattle.nvme_ctrl.proofs.Passed.{passed_left, passed_later}
+use Rattle.nvme_log.proofs.Turns.{stays}
 use Rattle.nvme_ctrl.proofs.AfterSteps.{CanFetch, fetched_sq, came_board, after_fetch}
 use Rattle.nvme_ctrl.proofs.DoorbellCalls.{queue_of, is_open, sq_there, slots_are}
 use Rattle.nvme_ctrl.proofs.NextEvents.{next-fetch}
@@ -502,6 +504,7 @@ module _ (rules : FrontRules) (late : Bool) (notes : Notes) (c : Controller) (sl
           hand_entries = hand_entries_now;
           free_count = free_count_now;
           cookies = cookies_now;
+          passed = passed_later notes later after items (λ i. refl) refl (λ i waits. stays (Fetch e.region index entry) (logged notes) 0 i waits) (passed_left notes c after s.items items refl (λ x. refl) refl t.passed);
         }
 
     lawful_now : late ≡ false → IsLawfulEvent rules notes (Fetch e.region index entry)

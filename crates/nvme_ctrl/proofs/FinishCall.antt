@@ -26,11 +26,12 @@ use Rattle.nvme_ctrl.specs.Steps.{HasFinished, NoneFinishable}
 use Rattle.nvme_ctrl.specs.declared.slot.Slot.{Slot}
 use Rattle.nvme_ctrl.specs.declared.state.Controller.{Controller}
 use Rattle.nvme_ctrl.specs.kept.Content.{Candidate, Ready, PendingDelete, Content, with_ready}
-use Rattle.nvme_ctrl.specs.kept.Standing.{Holds, IsPending, IsInHand, HasOwnStatus, hand_of, as_deletion}
-use Rattle.nvme_ctrl.specs.kept.Kept.{Item, ReadyItem, Items, IsWaitingIn, IsOutIn, IsReadyIn, HasItems, HoldsTags, StandsAt, candidate_of, untaken, is_free}
+use Rattle.nvme_ctrl.specs.kept.Standing.{Holds, IsPending, IsInHand, HasOwnStatus, hand_of, as_deletion, HasItsStatus}
+use Rattle.nvme_ctrl.specs.kept.Kept.{Item, ReadyItem, Items, IsWaitingIn, IsOutIn, IsReadyIn, HasItems, HoldsTags, StandsAt, candidate_of, untaken, is_free, IsDevices}
 use Rattle.nvme_ctrl.specs.inside.Loose.{IsLoose, Keeps, ended, with_item}
 use Rattle.nvme_ctrl.specs.kept.Pool.{slot_at, item_at, put_item}
 use Rattle.nvme_ctrl.specs.kept.State.{sq_at, picked_in}
+use Rattle.nvme_ctrl.proofs.Passed.{not_passed, hand_is_devices}
 use Rattle.nvme_ctrl.proofs.Cookies.{same_cookies-but, cookies_left}
 use Rattle.nvme_ctrl.proofs.AfterSteps.{CanClose, deleted}
 use Rattle.nvme_ctrl.proofs.CarriedOut.{last_of, was_picked}
@@ -111,6 +112,7 @@ module _ (rules : FrontRules) (notes : Notes) (a : Controller) (slots : List Slo
     hand_entries = m.hand_entries;
     free_count = m.free_count ∙ ap (λ (n : ℕ). n + all_posts (logged notes)) (sym size);
     cookies = cookies_left notes slots pool (same_cookies-but slots pool tag others (ap (λ (s : Slot). s.cookie) here ∙ same_cookie)) a a g refl m.cookies;
+    passed = m.passed;
   }
 
   -- it stays in no list
@@ -218,11 +220,9 @@ module _ (rules : FrontRules) (late : Bool) (notes : Notes) (c : Controller) (sl
     -- no other command has its place
     hand_other : All (λ (it : Item). IsOther g.delete_index it.place) (g.outs ++ untaken c g)
     hand_other =
-        All-weaker (λ (it : Item). (it.place.region == 0) ≡ false) (λ (it : Item). IsOther g.delete_index it.place)
-        (λ it io. rw (ne_eqb 0 it.place.region (λ e. let no = sym io ∙ eq-eqb it.place.region 0 (sym e) in cc no)) refl) (g.outs ++ untaken c g)
-        (All-unmap (λ (p : Place). (p.region == 0) ≡ false) (λ (it : Item). it.place) (g.outs ++ untaken c g)
-        (subst (All (λ (p : Place). (p.region == 0) ≡ false)) s.has.hand_is
-        (All-weaker (IsInHand past) (λ (p : Place). (p.region == 0) ≡ false) (λ p i. i.io) k.hand s.holds.hand.each)))
+        All-weaker (λ (it : Item). IsDevices notes it.place) (λ (it : Item). IsOther g.delete_index it.place)
+        (λ it is. not_passed notes it.place g.delete_index is (s.tags.passed.deletion some)) (g.outs ++ untaken c g)
+        (hand_is_devices notes c slots g s.tags)
 
     waiting_other : All (λ (it : Item). IsOther g.delete_index it.place) (drop (picked_in c 0) (g.windows 0))
     waiting_other =
@@ -313,6 +313,7 @@ module _ (rules : FrontRules) (late : Bool) (notes : Notes) (c : Controller) (sl
         hand_entries = x.hand_entries;
         free_count = x.free_count;
         cookies = (let q = x.cookies in record { windows = q.windows; outs = q.outs; readies = q.readies; deletion = λ no. absurd (no refl); none = q.none });
+        passed = (let q = x.passed in record { all_handed = q.all_handed; served = q.served; readies = q.readies; deletion = λ no. absurd (no refl) });
       });
       apart = readies_are_apart rules late notes c slots s;
       none_pending = refl;
@@ -324,8 +325,8 @@ module _ (rules : FrontRules) (late : Bool) (notes : Notes) (c : Controller) (sl
         (All-parts (λ (it : Item). IsOther g.delete_index it.place) g.outs (untaken c g) hand_other).0
         (keeps-closed rules notes c.deletion.qid c.deletion.region m slots k1 g keeps_ended)
 
-    own : late ≡ false → HasOwnStatus rules later t
-    own on_time = last_of (HasOwnStatus rules later) (k.cq 0).ready t ((holds_after.own on_time).own_statuses 0)
+    own : late ≡ false → HasItsStatus rules later t
+    own on_time = last_of (HasOwnStatus rules later) (k.cq 0).ready t ((holds_after.own on_time).own_statuses 0) refl
 
     carried : late ≡ false → IsCarriedOut rules (Logged (event.ClosedSq c.deletion.qid c.deletion.region) ∷ notes) g.delete_index answer
     carried on_time = let o = own on_time in record {
@@ -343,7 +344,7 @@ module _ (rules : FrontRules) (late : Bool) (notes : Notes) (c : Controller) (sl
         let n = next-close rules late past k d (view_of table) s.holds can_close holds_after.regions on_time in
         record {
           each = (
-            record { first = unanswered; executed = carried on_time },
+            record { first = unanswered; executed = rw (s.tags.passed.deletion some) (carried on_time) },
             (
               record {
                 index_counts = n.index_counts;
@@ -397,7 +398,7 @@ module _ (rules : FrontRules) (late : Bool) (notes : Notes) (c : Controller) (sl
           (subst (λ (xs : List Slot). Keeps rules finished m xs k1 g) (sym put_is) (keeps_put rules finished m slots k1 g keeps_finished c.deletion.tag loose put six refl))
           (subst (λ (xs : List Slot). IsLoose xs g c.deletion.tag) (sym put_is) (loose_put rules finished m slots k1 g keeps_finished c.deletion.tag loose put six refl))
           (record { state_is = refl; region = ap (λ (x : Slot). x.region) here; cid = ap (λ (x : Slot). x.entry.cid) here; status_is = refl; dw0_is = refl })
-          (inr (rw (eq-eqb g.delete_index g.delete_index refl) refl)) (s.tags.cookies.deletion some ∙ ap (λ (x : Slot). Some x.cookie) (sym here)) (omega arith)
+          (inr (rw (eq-eqb g.delete_index g.delete_index refl) refl)) (s.tags.cookies.deletion some ∙ ap (λ (x : Slot). Some x.cookie) (sym here)) (sym (s.tags.passed.deletion some)) (omega arith)
 
 -- ---- where none is finished
 -- none is pending, or a command of its queue has no completion posted

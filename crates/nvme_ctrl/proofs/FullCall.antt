@@ -77,7 +77,7 @@ module _ (rules : FrontRules) (late : Bool) (notes : Notes) (c : Controller) (sl
         let waits : IsWaitingIn slots 0 x = All-head (IsWaitingIn slots 0) x oldest.rest (subst (All (IsWaitingIn slots 0)) oldest.is (s.has.window_items 0)) in
         ap (λ (z : ℕ). (slot_at slots z).entry) (linked-head slots (sq_at c.sqs 0).window.first (sq_at c.sqs 0).window.last x.tag (tags_of oldest.rest) linked.linked) ∙ waits.entry
 
-    entry_is : Some (oldest_entry c slots) ≡ admin_entry past
+    pub entry_is : Some (oldest_entry c slots) ≡ admin_entry past
     entry_is =
         ap (λ (e : Sqe). Some e) in_slot
         ∙ sym (admin_entry_is past (k.sq 0) (candidate_of x) (map candidate_of oldest.rest) (s.holds.regions 0) (window_all ∙ ap (λ (its : List Item). map candidate_of its) oldest.is))

@@ -1,5 +1,5 @@
 -- The places in hand are picked and unanswered after each step of a controller.
-use Rattle.std.proofs.Common.{◌≡◌, ℕ, ◌≤◌, Bool, true, false, List, ◌∷◌, ◌++◌, map, take, Option, Some, None, refl, sym, ap, ◌∙◌, subst, arith, ◌==◌, ◌&&◌, slice_index_or}
+use Rattle.std.proofs.Common.{◌≡◌, ℕ, ◌≤◌, Bool, true, false, List, ◌∷◌, ◌++◌, map, take, Option, Some, None, refl, sym, ap, ◌∙◌, subst, arith, ◌==◌, ◌&&◌, slice_index_or, not, nat_lt, length}
 use Rattle.std.specs.Prelude.{sum_by, option_map, All}
 use Rattle.std.proofs.lemmas.Bool.{eq-eqb, ne_eqb}
 use Rattle.std.proofs.lemmas.List.Sums.{get_or-le-sum_by}
@@ -17,7 +17,7 @@ use Rattle.nvme_admin.proofs.Changed.{TellsChange-entry}
 use Rattle.nvme_log.specs.declared.event.Event.TheVariants as event
 use Rattle.nvme_log.specs.Rules.{FrontRules, Past}
 use Rattle.nvme_log.specs.Queues.{Queue, open_sq, open_cq, cq_region_of}
-use Rattle.nvme_log.specs.Places.{waiting, entry_at, is_aborted, is_served, one_if}
+use Rattle.nvme_log.specs.Places.{waiting, entry_at, is_aborted, is_served, one_if, is_waiting, fate_of, fetched}
 use Rattle.nvme_log.specs.declared.place.Place.{Place}
 use Rattle.nvme_log.specs.Effects.{closing_of, closed_cq_of, abort_in, named, target_of}
 use Rattle.nvme_ctrl.specs.kept.Content.{Candidate, Attachment, Content}
@@ -39,7 +39,7 @@ pub record LeavesHand (past later : Past) : Type 0 where
   pub unaborted : (r i : ℕ) → is_served past r i ≡ true → is_aborted past r i ≡ false → is_aborted later r i ≡ false
 
 -- a place in hand was served
-hand_served : (past : Past) (k : Content) → HoldsReady past k (hand_of k) → All (λ (p : Place). is_served past p.region p.index ≡ true) k.hand
+pub hand_served : (past : Past) (k : Content) → HoldsReady past k (hand_of k) → All (λ (p : Place). is_served past p.region p.index ≡ true) k.hand
 hand_served past k ready j e lt =
     let p : Place = slice_index_or k.hand j e in
     let own : Place → ℕ = λ x. one_if (x.region == p.region && x.index == p.index) in
@@ -51,6 +51,16 @@ hand_served past k ready j e lt =
       counts_true true l = refl
       counts_true false l = absurd (omega arith)
 
+-- so it waits no longer
+pub hand_done : (past : Past) (k : Content) → HoldsReady past k (hand_of k) → All (λ (p : Place). is_waiting (fate_of past p.region p.index) ≡ false) k.hand
+hand_done past k ready j e lt =
+    let p : Place = slice_index_or k.hand j e in
+    by (nat_lt p.index (length (fetched past p.region))) (is_waiting (fate_of past p.region p.index)) (hand_served past k ready j e lt) where
+      by : (a b : Bool) → (a && not b) ≡ true → b ≡ false
+      by true true h = cc h
+      by true false h = refl
+      by false b h = cc h
+
 -- such a log leaves the places in hand
 hand_left : (past later : Past) (k : Content) → HoldsReady past k (hand_of k) → LeavesHand past later → All (IsInHand past) k.hand → All (IsInHand later) k.hand
 hand_left past later k ready l h j e lt =
@@ -60,7 +70,6 @@ hand_left past later k ready l h j e lt =
       entry = was.entry;
       is_there = l.entries p.region p.index was.entry was.is_there;
       not_aborted = l.unaborted p.region p.index (hand_served past k ready j e lt) was.not_aborted;
-      io = was.io;
       cq_region = was.cq_region;
       attached = l.cq_regions p.region was.cq_region was.attached;
     }
@@ -107,14 +116,13 @@ hand-io rules late past k queue seen pick board c s can observed io attached reg
     record {
       each = All-append (IsInHand later) k.hand (map (place_of r) taken) (λ i e lt.
           let was = s.hand.each i e lt in
-          record { entry = was.entry; is_there = was.is_there; not_aborted = was.not_aborted; io = was.io; cq_region = was.cq_region; attached = was.attached })
+          record { entry = was.entry; is_there = was.is_there; not_aborted = was.not_aborted; cq_region = was.cq_region; attached = was.attached })
           (All-map (IsInHand later) (place_of r) taken
           (All-take (λ (x : Candidate). IsInHand later (place_of r x)) pick.n (k.sq r).window
           (λ i e lt. record {
             entry = (slice_index_or (k.sq r).window i e).entry;
             is_there = sq.entries i e lt;
             not_aborted = waiting-unaborted past r (k.sq r) sq i e lt;
-            io = ne_eqb r 0 (io_region rules late past k s r pick.qid c attached io);
             cq_region = c;
             attached = s.queues.cq_region_is r ∙ ap (option_map (λ (a : Attachment). a.cq_region)) attached;
           })));

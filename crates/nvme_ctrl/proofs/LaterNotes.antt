@@ -20,7 +20,7 @@ use Rattle.nvme_log.specs.Effects.{is_effect}
 use Rattle.nvme_ctrl.specs.Notes.{Notes, Logged, Answered, logged}
 use Rattle.nvme_ctrl.specs.Doorbells.{submitted, consumed}
 use Rattle.nvme_ctrl.specs.Rings.{HasCounts}
-use Rattle.nvme_ctrl.specs.Tags.{holder, answer_of, cookie_of, all_fetches, all_posts}
+use Rattle.nvme_ctrl.specs.Tags.{holder, answer_of, cookie_of, all_fetches, all_posts, is_passed, handed}
 use Rattle.nvme_ctrl.specs.Steps.{with_logged}
 use Rattle.nvme_ctrl.specs.declared.slot.Slot.{Slot}
 use Rattle.nvme_ctrl.specs.declared.state.Controller.{Controller}
@@ -31,6 +31,8 @@ use Rattle.nvme_ctrl.specs.kept.Kept.{Item, ReadyItem, Items, IsThrough, HasEntr
 use Rattle.nvme_ctrl.specs.inside.Loose.{Keeps}
 use Rattle.nvme_ctrl.proofs.AfterSteps.{with_events}
 use Rattle.nvme_ctrl.proofs.Cookies.{cookies_later}
+use Rattle.nvme_ctrl.proofs.Passed.{passed_later}
+use Rattle.nvme_log.proofs.Turns.{stays}
 use Rattle.nvme_ctrl.proofs.EffectEvents.{AreEffects}
 use Rattle.nvme_ctrl.proofs.OutTags.{still_not_out-logged, still_not_out-answered}
 
@@ -44,6 +46,11 @@ pub answer_of-logged : (es : List Event) (notes : Notes) (r i : ℕ) → answer_
 answer_of-logged [] notes r i = refl
 answer_of-logged (e ∷ rest) notes r i = answer_of-logged rest (Logged e ∷ notes) r i
 
+-- and which admin commands were passed on
+pub is_passed-logged : (es : List Event) (notes : Notes) (i : ℕ) → is_passed (with_logged es notes) i ≡ is_passed notes i
+is_passed-logged [] notes i = refl
+is_passed-logged (e ∷ rest) notes i = is_passed-logged rest (Logged e ∷ notes) i
+
 -- and what the caller keeps
 pub cookie_of-logged : (es : List Event) (notes : Notes) (r i : ℕ) → cookie_of (with_logged es notes) r i ≡ cookie_of notes r i
 cookie_of-logged [] notes r i = refl
@@ -52,7 +59,7 @@ cookie_of-logged (e ∷ rest) notes r i = cookie_of-logged rest (Logged e ∷ no
 -- what an event leaves that neither fetches nor dispatches nor posts
 record IsQuiet (notes : Notes) (e : Event) : Type 0 where
   holders : (t : ℕ) → holder (Logged e ∷ notes) t ≡ holder notes t
-  dispatches : dispatched (e ∷ logged notes) ≡ dispatched (logged notes)
+  dispatches : handed (Logged e ∷ notes) ≡ handed notes
   fetches : (r : ℕ) → fetched (e ∷ logged notes) r ≡ fetched (logged notes) r
   posts : (c : ℕ) → posted_to (e ∷ logged notes) c ≡ posted_to (logged notes) c
   fetch_count : all_fetches (e ∷ logged notes) ≡ all_fetches (logged notes)
@@ -70,7 +77,7 @@ effect_is_quiet notes e h = record { holders = λ t. refl; dispatches = refl; fe
 pick_is_quiet : (notes : Notes) (seen : List Seen) (pick : Pick) → pick.qid ≡ 0 → IsQuiet notes (event.Pick seen pick)
 pick_is_quiet notes seen pick first = record {
   holders = λ t. refl;
-  dispatches = ap (λ (ps : List Place). dispatched (logged notes) ++ ps) (none (open_sq (logged notes) pick.qid)) ∙ append-nil (dispatched (logged notes));
+  dispatches = ap (λ (ps : List Place). handed notes ++ ps) (none (open_sq (logged notes) pick.qid)) ∙ append-nil (handed notes);
   fetches = λ r. refl;
   posts = λ c. refl;
   fetch_count = refl;
@@ -122,6 +129,7 @@ keeps-quiet rules notes e c slots k g quiet h = record {
         (g.outs ++ untaken c g) m.hand_entries;
     free_count = ap (λ (n : ℕ). c.free.len + n) quiet.fetch_count ∙ m.free_count ∙ ap (λ (n : ℕ). length slots + n) (sym quiet.post_count);
     cookies = cookies_later notes (Logged e ∷ notes) c slots g (λ r i. refl) quiet.fetches m.cookies;
+    passed = passed_later notes (Logged e ∷ notes) c g (λ i. refl) quiet.dispatches (λ i waits. stays e (logged notes) 0 i waits) m.passed;
   });
   apart = h.apart;
   none_pending = h.none_pending;
@@ -189,6 +197,7 @@ keeps-answered rules notes i answer c slots k g none there windows outs h = reco
     hand_entries = m.hand_entries;
     free_count = m.free_count;
     cookies = cookies_later notes (Answered 0 i answer ∷ notes) c slots g (λ r j. refl) (λ r. refl) m.cookies;
+    passed = passed_later notes (Answered 0 i answer ∷ notes) c g (λ j. refl) refl (λ j waits. waits) m.passed;
   });
   apart = h.apart;
   none_pending = h.none_pending;

@@ -23,7 +23,8 @@ pub mod QueueWords
 pub mod QueueChanges
 pub mod QueueVerdicts
 pub mod QueueSteps
-pub mod Observing
+pub mod Passed
+mod Observing
 pub mod Oldest
 pub mod DeletionSteps
 pub mod TableSteps
@@ -89,3 +90,7 @@ pub mod Aborting
 pub mod Standable
 pub mod AdminCall
 pub mod FinishCall
+mod Handing
+mod PassCall
+mod Posting
+mod OwnCall

@@ -1,4 +1,5 @@
 -- A controller that is made stands at the empty log, at the rules of its admin regions.
+use Rattle.nvme_ctrl.specs.Own.{no_own}
 use Rattle.std.proofs.Common.{◌≡◌, ◌≢◌, ℕ, ◌%◌, ◌<◌, ◌^◌, ◌==◌, ◌||◌, nat_lt, Bool, false, true, List, [], length, map, replicate, Some, None, refl, sym, ap, ◌∙◌, subst, arith, ne_eqb, IsTrue, if◌then◌else◌}
 use Rattle.std.specs.Prelude.{slice_set}
 use Rattle.std.proofs.Math.Nat.{zero-div, zero-mod}
@@ -98,6 +99,7 @@ made table board sq_slots cq_slots window free = record {
   picked = 0;
   picked_region = 0;
   deletion = record { pending = 0; region = 0; qid = 0; tag = 0 };
+  own = no_own;
 }
 
 module _ (mechanism : Mechanism) (settings : ArbitrationFields) (limits : Limits) (sq cq : Region) (sizes : List ℕ) (table : TableFields) (board : BoardFields)
@@ -213,6 +215,12 @@ module _ (mechanism : Mechanism) (settings : ArbitrationFields) (limits : Limits
       answered_held = λ t answered. refl;
       hand_entries = λ i e lt. absurd (omega (arith, lt));
       free_count = omega (arith, chain.len_is, length-upto n, size);
+      passed = record {
+        all_handed = λ i e lt. absurd (omega (arith, lt));
+        served = λ i is. cc is;
+        readies = λ x i e lt. absurd (omega (arith, lt));
+        deletion = λ pending. refl;
+      };
       cookies = record {
         windows = λ r i e lt. absurd (omega (arith, lt));
         outs = λ i e lt. absurd (omega (arith, lt));

@@ -1,4 +1,7 @@
 -- Each event of a controller is lawful: a fetch, an I/O pick, a post and the end of a deletion.
+use Rattle.nvme_log.specs.Answers.{Answer}
+use Rattle.nvme_entry.specs.Status.{StatusCode}
+use Rattle.nvme_log.specs.Completions.{own_status_by, own_dw0_by}
 use Rattle.std.proofs.Common.{◌≡◌, ℕ, zero, suc, ◌+◌, ◌%◌, ◌<◌, ◌≤◌, ◌==◌, ◌&&◌, not, nat_lt, nat_le, Bool, true, false, if◌then◌else◌, List, [], ◌∷◌, ◌++◌, length, map, filter, Option, Some, None, refl, sym, ap, ◌∙◌, subst, arith, inl, inr, length-append}
 use Rattle.std.specs.Prelude.{option_map}
 use Rattle.std.specs.List.{list_all}
@@ -25,7 +28,7 @@ use Rattle.nvme_log.specs.declared.place.Place.{Place}
 use Rattle.nvme_log.specs.Completions.{is_posted, posted_to, phase_after, outstanding, IsOwnBy}
 use Rattle.nvme_log.specs.Aborts.{is_index}
 use Rattle.nvme_ctrl.specs.kept.Content.{SqContent, Content}
-use Rattle.nvme_ctrl.specs.kept.Standing.{HasOwnStatus, HoldsReady, Holds, answer_in, held_by, hand_of, as_deletion, times_held, IsReady}
+use Rattle.nvme_ctrl.specs.kept.Standing.{HasOwnStatus, HoldsReady, Holds, answer_in, held_by, hand_of, as_deletion, times_held, IsReady, HasItsStatus}
 use Rattle.nvme_log.specs.Completions.{unposted_of}
 use Rattle.nvme_log.specs.Places.{one_if}
 use Rattle.nvme_ctrl.specs.inside.Steps.{CanPick}
@@ -157,14 +160,14 @@ next-post rules late past k c t rest cqe s can regions on_time =
 
 -- the posted completion is the own one of its place, where the answer is that of the ready completion
 pub posts-as-ready : (rules : FrontRules) (past : Past) (k : Content) (c : ℕ) (t : Ready) (rest : List Ready) (cqe : Cqe)
-    → Holds rules false past k → CanPost past k c t rest cqe → IsOwnBy rules (λ (e : Sqe). answer_in t) past c t.place.region t.place.index cqe
-posts-as-ready rules past k c t rest cqe s can =
+    → Holds rules false past k → CanPost past k c t rest cqe → t.passed ≡ false → IsOwnBy rules (λ (e : Sqe). answer_in t) past c t.place.region t.place.index cqe
+posts-as-ready rules past k c t rest cqe s can carried =
     let a = s.own refl in
     let r : ℕ = t.place.region in
     let ready : IsReady past k.deletion c t =
     All-head (IsReady past k.deletion c) t rest (All-same (IsReady past k.deletion c) (t ∷ rest) (k.cq c).ready (sym can.oldest) (s.ready.each c)) in
-    let own : HasOwnStatus rules past t = All-head (HasOwnStatus rules past) t rest
-    (All-same (HasOwnStatus rules past) (t ∷ rest) (k.cq c).ready (sym can.oldest) (a.own_statuses c)) in
+    let own : HasItsStatus rules past t = All-head (HasOwnStatus rules past) t rest
+    (All-same (HasOwnStatus rules past) (t ∷ rest) (k.cq c).ready (sym can.oldest) (a.own_statuses c)) carried in
     let fetches : (k.sq r).fetched ≡ length (fetched past r) = (s.regions r).counted ∙ ap (λ (xs : List Sqe). length xs) (sym (s.regions r).fetched_is) in
     let posts : (k.cq c).posted ≡ length (posted_to past c) = s.posts.counted c ∙ ap (λ (xs : List Cqe). length xs) (sym (s.posts.posted_is c)) in
     record {
@@ -177,6 +180,37 @@ posts-as-ready rules past k c t rest cqe s can =
       dw0 = can.dw0 ∙ own.dw0;
       sqhd = can.sqhd ∙ (λ j. fetches j % (sym (s.tabled.sq_slots r)) j);
       phase = can.phase ∙ (λ j. phase_after (posts j) ((sym (s.tabled.cq_slots c)) j));
+    }
+
+-- a completion is the own one of its place but for its status and Command Dword 0
+pub record IsOwnElse (rules : FrontRules) (answer : Sqe → Answer) (past : Past) (c r i : ℕ) (cqe : Cqe) : Type 0 where
+  pub status : StatusCode
+  pub dw0 : ℕ
+  pub own : IsOwnBy rules answer past c r i (record cqe { status = status; dw0 = dw0 })
+
+-- so is that of any ready completion
+pub posts-else : (rules : FrontRules) (late : Bool) (past : Past) (k : Content) (c : ℕ) (t : Ready) (rest : List Ready) (cqe : Cqe) (answer : Sqe → Answer)
+    → Holds rules late past k → CanPost past k c t rest cqe → IsOwnElse rules answer past c t.place.region t.place.index cqe
+posts-else rules late past k c t rest cqe answer s can =
+    let r : ℕ = t.place.region in
+    let ready : IsReady past k.deletion c t =
+    All-head (IsReady past k.deletion c) t rest (All-same (IsReady past k.deletion c) (t ∷ rest) (k.cq c).ready (sym can.oldest) (s.ready.each c)) in
+    let fetches : (k.sq r).fetched ≡ length (fetched past r) = (s.regions r).counted ∙ ap (λ (xs : List Sqe). length xs) (sym (s.regions r).fetched_is) in
+    let posts : (k.cq c).posted ≡ length (posted_to past c) = s.posts.counted c ∙ ap (λ (xs : List Cqe). length xs) (sym (s.posts.posted_is c)) in
+    record {
+      status = own_status_by rules (answer ready.entry) past r t.place.index ready.entry;
+      dw0 = own_dw0_by rules (answer ready.entry) past r t.place.index ready.entry;
+      own = record {
+        entry = ready.entry;
+        is_there = ready.is_there;
+        region = ready.region;
+        sqid = s.queues.qid_is r ∙ ap (λ (o : Option Attachment). option_map (λ (x : Attachment). x.qid) o) can.attached ∙ ap (λ (q : ℕ). Some q) (sym can.sqid);
+        cid = can.cid ∙ ready.cid;
+        status = refl;
+        dw0 = refl;
+        sqhd = can.sqhd ∙ (λ j. fetches j % (sym (s.tabled.sq_slots r)) j);
+        phase = can.phase ∙ (λ j. phase_after (posts j) ((sym (s.tabled.cq_slots c)) j));
+      };
     }
 
 -- ---- the end of a deletion

@@ -73,7 +73,7 @@ own_dw0-stays rules answer past later r i entry h =
 -- a ready completion keeps the status of its place in a later log
 pub HasOwnStatus-stays : (rules : FrontRules) (past later : Past) (t : Ready) → Stays rules past later t.place.region t.place.index
     → HasOwnStatus rules past t → HasOwnStatus rules later t
-HasOwnStatus-stays rules past later t s h = record {
+HasOwnStatus-stays rules past later t s own carried = let h = own carried in record {
   entry = h.entry;
   is_there = s.there h.entry h.is_there;
   status = h.status ∙ sym (own_status-stays rules (answer_in t) past later t.place.region t.place.index h.entry s);

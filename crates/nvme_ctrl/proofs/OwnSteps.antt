@@ -11,11 +11,14 @@ use Rattle.nvme_log.specs.declared.place.Place.{Place}
 use Rattle.nvme_ctrl.specs.kept.Content.{Content}
 use Rattle.nvme_ctrl.specs.kept.Standing.{HasOwnStatus, IsOwnDeletion, IsInHand, deleted_answer}
 use Rattle.nvme_ctrl.specs.inside.Steps.{done}
+use Rattle.nvme_ctrl.proofs.Handing.{handed_makes_none, handed_stays}
 use Rattle.nvme_ctrl.proofs.ReadyHand.{All-taken}
 use Rattle.nvme_ctrl.proofs.AfterSteps.{fetch_event, posted_cq, post_event, closed_event, deleted}
 use Rattle.nvme_ctrl.proofs.StepKeeps.{KeepsFetch, KeepsIo, KeepsAnswer, KeepsPost, KeepsClose, Own}
 use Rattle.nvme_ctrl.proofs.ServedPlaces.{entry_stays}
-use Rattle.nvme_ctrl.proofs.OwnStatus.{Stays, own_status-stays, own_dw0-stays, HasOwnStatus-stays, all_with_readies, all_chosen}
+use Rattle.nvme_log.specs.Places.{fate_of, is_waiting}
+use Rattle.nvme_ctrl.specs.kept.Standing.{hand_of}
+use Rattle.nvme_ctrl.proofs.OwnStatus.{IsAnswerable, ready_is_answerable, answerable_is_done, Stays, own_status-stays, own_dw0-stays, HasOwnStatus-stays, all_with_readies, all_chosen}
 
 -- ---- what is answered stays so
 -- the ready completions keep their status in a later log
@@ -58,10 +61,12 @@ pub own-io : KeepsIo Own
 own-io rules late past k queue seen pick board c s can saw io attached regions on_time =
     let a = s.own on_time in
     let later : Past = event.Pick seen pick ∷ past in
-    let apart : (pick.qid == 0) ≡ false = ne_eqb pick.qid 0 io in
+    let ready : (c : ℕ) → All (λ (t : Ready). is_waiting (fate_of past t.place.region t.place.index) ≡ false) (k.cq c).ready =
+    λ c. All-weaker (λ (t : Ready). IsAnswerable past (hand_of k) t.place.region t.place.index) (λ (t : Ready). is_waiting (fate_of past t.place.region t.place.index) ≡ false)
+    (λ t is. answerable_is_done past (hand_of k) t.place.region t.place.index is) (k.cq c).ready (ready_is_answerable past k (hand_of k) s.ready c) in
     record {
-      effects_whole = rw apart refl;
-      own_statuses = statuses_stay rules past later k (λ c j d lt. record { there = λ e h. h; aborted = refl; requested = refl; table = λ z. rw apart refl; told = λ z. rw apart refl }) a.own_statuses;
+      effects_whole = handed_makes_none rules past seen pick io;
+      own_statuses = statuses_stay rules past later k (λ c j d lt. handed_stays rules past seen pick io (get_or (k.cq c).ready j d).place.region (get_or (k.cq c).ready j d).place.index (ready c j d lt)) a.own_statuses;
       own_deletion = λ d is. cc (can.none_pending, is);
     }
 
@@ -73,11 +78,11 @@ own-answer rules late past k p before after sqid c cid answer entry s can there 
     record {
       effects_whole = a.effects_whole;
       own_statuses = all_with_readies (HasOwnStatus rules past) (record k { hand = before ++ after }) c (done sqid p cid answer ∷ []) a.own_statuses
-          (All-cons (HasOwnStatus rules past) (done sqid p cid answer) [] (record {
+          (All-cons (HasOwnStatus rules past) (done sqid p cid answer) [] (λ io. record {
             entry = entry;
             is_there = there;
-            status = rw (at.not_aborted, at.io) refl;
-            dw0 = rw (at.not_aborted, at.io) refl;
+            status = rw (at.not_aborted, io) refl;
+            dw0 = rw (at.not_aborted, io) refl;
           }) (All-nil (HasOwnStatus rules past)));
       own_deletion = a.own_deletion;
     }
@@ -108,6 +113,6 @@ own-close rules late past k d table s can regions on_time =
       own_statuses =
           all_with_readies (HasOwnStatus rules later) (record k { deletion = None; table = table }) 0 (deleted d ∷ [])
           (statuses_stay rules past later k (λ c j x lt. record { there = λ e h. h; aborted = refl; requested = refl; table = λ z. refl; told = λ z. refl }) a.own_statuses)
-          (All-cons (HasOwnStatus rules later) (deleted d) [] (record { entry = own.entry; is_there = own.is_there; status = sym own.status; dw0 = sym own.dw0 }) (All-nil (HasOwnStatus rules later)));
+          (All-cons (HasOwnStatus rules later) (deleted d) [] (λ carried. record { entry = own.entry; is_there = own.is_there; status = sym own.status; dw0 = sym own.dw0 }) (All-nil (HasOwnStatus rules later)));
       own_deletion = λ x is. cc is;
     }

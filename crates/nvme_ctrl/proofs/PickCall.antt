@@ -40,6 +40,12 @@ use Rattle.nvme_ctrl.specs.kept.Pool.{IsChain}
 use Rattle.nvme_ctrl.specs.kept.State.{sq_at, attachment_of, picked_in}
 use Rattle.nvme_ctrl.specs.kept.Kept.{Item, Items, IsWaitingIn, HasNumbers, HasItems, HoldsDoorbells, HoldsTags, HasEntry, StandsAt, tags_of, places_of, candidate_of, untaken}
 use Rattle.nvme_arbiter.proofs.Stands.{lawful as lawful_where_stands}
+use Rattle.nvme_log.proofs.Turns.{stays}
+use Rattle.nvme_ctrl.proofs.OpenQueues.{io_region}
+use Rattle.std.proofs.lemmas.List.Elements.{All-map, All-weaker}
+use Rattle.nvme_ctrl.specs.Tags.{is_passed, handed}
+use Rattle.std.specs.Prelude.{not, ◌||◌}
+use Rattle.nvme_ctrl.specs.kept.Kept.{IsDevices, HoldsPassed}
 use Rattle.nvme_ctrl.proofs.AfterSteps.{after_io, place_of}
 use Rattle.nvme_ctrl.proofs.Cookies.{cookies_left, cookies_later}
 use Rattle.nvme_ctrl.proofs.Counts.{outstanding-pick}
@@ -175,13 +181,13 @@ module _ (rules : FrontRules) (late : Bool) (notes : Notes) (c : Controller) (sl
   abbrev r : ℕ
   r = due.queue.region
 
-  attached : IsAttached now k pick.qid due.queue
+  pub attached : IsAttached now k pick.qid due.queue
   attached = s.holds.queues.attached pick.qid due.queue due.is_open
 
   there_in : r < k.nsq
   there_in = s.holds.queues.sq_there r (record { qid = pick.qid; cq_region = attached.cq_region }) attached.attached
 
-  there : r < length c.sqs
+  pub there : r < length c.sqs
   there = omega (arith, there_in, s.holds.tabled.few_sqs, s.numbers.sq_size)
 
   places_now : k.outstanding + pick.n ≤ max_outstanding
@@ -219,7 +225,7 @@ module _ (rules : FrontRules) (late : Bool) (notes : Notes) (c : Controller) (sl
   new = after_pick_io c board r pick.n
 
   -- ---- numbers
-  pick-numbers : HasNumbers new after
+  pub pick-numbers : HasNumbers new after
   pick-numbers = record {
     table_is = s.numbers.table_is;
     sized = s.numbers.sized;
@@ -248,7 +254,7 @@ module _ (rules : FrontRules) (late : Bool) (notes : Notes) (c : Controller) (sl
   pub picked_items : untaken new g ≡ take pick.n (g.windows r)
   picked_items = refl
 
-  none_untaken : untaken c g ≡ []
+  pub none_untaken : untaken c g ≡ []
   none_untaken = ap (λ (n : ℕ). take n (g.windows c.picked_region)) none
 
   taken_window : take pick.n (k.sq r).window ≡ map candidate_of (take pick.n (g.windows r))
@@ -264,7 +270,7 @@ module _ (rules : FrontRules) (late : Bool) (notes : Notes) (c : Controller) (sl
       ap (map (place_of r)) taken_window ∙ places-are slots r (take pick.n (g.windows r)) waits in
       (λ t. was t ++ more t) ∙ sym (map-append (λ (it : Item). it.place) g.outs (untaken new g))
 
-  pick-items : HasItems new slots after g
+  pub pick-items : HasItems new slots after g
   pick-items = record {
     window_chain = put_sq-each (λ x state. IsChain slots state.window (tags_of (g.windows x))) c.sqs r (picked_state c r pick.n) there
         (s.has.window_chain r) (λ x other. s.has.window_chain x);
@@ -289,7 +295,7 @@ module _ (rules : FrontRules) (late : Bool) (notes : Notes) (c : Controller) (sl
   }
 
   -- ---- doorbells
-  pick-doorbells : HoldsDoorbells rules (picked_notes notes pick) new
+  pub pick-doorbells : HoldsDoorbells rules (picked_notes notes pick) new
   pick-doorbells = record {
     sqs = put_sq-each (λ x state. 0 < state.ring.slots → HasCounts state.ring (length (fetched now x)) (submitted rules notes x)) c.sqs r (picked_state c r pick.n) there
         (s.doorbells.sqs r) (λ x other. s.doorbells.sqs x);
@@ -303,13 +309,32 @@ module _ (rules : FrontRules) (late : Bool) (notes : Notes) (c : Controller) (sl
 
   -- ---- tags
   module _ (io : pick.qid ≡ 0 → ⊥) where
-    dispatches : dispatched (logged (picked_notes notes pick)) ≡ dispatched now ++ places_of (untaken new g)
+    dispatches : handed (picked_notes notes pick) ≡ handed notes ++ places_of (untaken new g)
     dispatches =
-        ap (λ (o : Option Queue). dispatched now ++ dispatched_by now pick o) due.is_open
-        ∙ rw (ne_eqb pick.qid 0 io) (ap (λ (is : List ℕ). dispatched now ++ map (place_at r) (take pick.n is)) (s.holds.regions r).waiting_is
-        ∙ ap (λ (is : List ℕ). dispatched now ++ map (place_at r) is) (take-map (λ (x : Candidate). x.index) pick.n (k.sq r).window)
-        ∙ ap (λ (ps : List Place). dispatched now ++ ps)
+        ap (λ (o : Option Queue). handed notes ++ dispatched_by now pick o) due.is_open
+        ∙ rw (ne_eqb pick.qid 0 io) (ap (λ (is : List ℕ). handed notes ++ map (place_at r) (take pick.n is)) (s.holds.regions r).waiting_is
+        ∙ ap (λ (is : List ℕ). handed notes ++ map (place_at r) is) (take-map (λ (x : Candidate). x.index) pick.n (k.sq r).window)
+        ∙ ap (λ (ps : List Place). handed notes ++ ps)
         (indexes-are r (take pick.n (k.sq r).window) ∙ ap (map (place_of r)) taken_window ∙ places-are slots r (take pick.n (g.windows r)) waits))
+
+    -- what is handed over is the device's
+    picked_devices : All (IsDevices notes) (handed (picked_notes notes pick))
+    picked_devices =
+        subst (All (IsDevices notes)) (sym dispatches)
+        (All-append (IsDevices notes) (handed notes) (places_of (untaken new g)) s.tags.passed.all_handed
+        (All-map (IsDevices notes) (λ (it : Item). it.place) (take pick.n (g.windows r))
+        (All-weaker (IsWaitingIn slots r) (λ (it : Item). IsDevices notes it.place)
+        (λ it w. ap (λ (b : Bool). not b || is_passed notes it.place.index)
+        (ne_eqb it.place.region 0 (λ zero. io_region rules late now k s.holds r pick.qid attached.cq_region attached.attached io (sym w.place ∙ zero))))
+        (take pick.n (g.windows r)) waits)))
+
+    picked_passed : HoldsPassed (picked_notes notes pick) new g
+    picked_passed = record {
+      all_handed = picked_devices;
+      served = λ i is. stays (event.Pick (observation_of now) pick) now 0 i (s.tags.passed.served i is);
+      readies = s.tags.passed.readies;
+      deletion = s.tags.passed.deletion;
+    }
 
     pick-tags : HoldsTags (picked_notes notes pick) new slots g
     pick-tags = record {
@@ -330,10 +355,11 @@ module _ (rules : FrontRules) (late : Bool) (notes : Notes) (c : Controller) (sl
           (All-take (λ (x : Candidate). entry_at now r x.index ≡ Some x.entry) pick.n (k.sq r).window (s.holds.regions r).entries)));
       free_count = s.tags.free_count;
       cookies = cookies_later notes (picked_notes notes pick) new slots g (λ x i. refl) (λ x. refl) (cookies_left notes slots slots (λ y. refl) c new g refl s.tags.cookies);
+      passed = picked_passed;
     }
 
     pick-holds : Holds rules late (event.Pick (observation_of now) pick ∷ now) after
-    pick-holds = holds-io rules late now k due.queue (observation_of now) pick (board_of board) attached.cq_region s.holds can refl io attached.attached
+    pick-holds = holds-io rules late now k due.queue (observation_of now) pick (board_of board) attached.cq_region s.holds can refl (inl io) attached.attached
 
     -- the controller stands at its log with the pick
     pub pick-stands : StandsAt rules late (picked_notes notes pick) new slots
@@ -346,7 +372,7 @@ module _ (rules : FrontRules) (late : Bool) (notes : Notes) (c : Controller) (sl
       doorbells = pick-doorbells;
       tags = pick-tags;
       account = λ on_time.
-          let next = next-io outstanding-pick rules late now k due.queue (observation_of now) pick (board_of board) attached.cq_region s.holds can refl io attached.attached pick-holds.regions on_time in
+          let next = next-io outstanding-pick rules late now k due.queue (observation_of now) pick (board_of board) attached.cq_region s.holds can refl (inl io) attached.attached pick-holds.regions on_time in
           record {
             each = (
               record {
@@ -389,9 +415,9 @@ module _ (rules : FrontRules) (late : Bool) (notes : Notes) (c : Controller) (sl
 -- ---- no pick is made
 -- what is picked and not taken was dispatched, and not taken
 busy_picked : (rules : FrontRules) (late : Bool) (notes : Notes) (c : Controller) (slots : List Slot) → StandsAt rules late notes c slots → c.picked ≢ 0
-    → length (taken notes) < length (dispatched (logged notes))
+    → length (taken notes) < length (handed notes)
 busy_picked rules late notes c slots s some =
-    let all : length (dispatched (logged notes)) ≡ length (taken notes) + length (places_of (untaken c s.items)) =
+    let all : length (handed notes) ≡ length (taken notes) + length (places_of (untaken c s.items)) =
     ap (λ (ps : List Place). length ps) s.tags.untaken_are ∙ length-append (taken notes) (places_of (untaken c s.items)) in
     let many : length (places_of (untaken c s.items)) ≡ c.picked =
     length-map (untaken c s.items) (λ (it : Item). it.place) ∙ length-take-le c.picked (s.items.windows c.picked_region) s.has.picked_there in

@@ -1,20 +1,23 @@
 -- After a post the tags of a controller are those of its log, and its notes are an account.
-use Rattle.std.proofs.Common.{◌≡◌, ◌≢◌, ℕ, ◌+◌, ◌≤◌, ◌%◌, ◌==◌, ◌&&◌, ◌⊎◌, Bool, true, false, if◌then◌else◌, List, [], ◌∷◌, ◌++◌, length, Option, Some, None, is_some, refl, get_or, sym, ap, ◌∙◌, subst, arith, length-append, inl, inr}
+use Rattle.nvme_log.proofs.Turns.{admin-unaborted}
+use Rattle.nvme_log.specs.Account.{PostsOwnBy}
+use Rattle.nvme_ctrl.proofs.Noted.{each-event}
+use Rattle.std.proofs.Common.{◌≡◌, ◌≢◌, ℕ, ◌+◌, ◌≤◌, ◌%◌, ◌==◌, ◌&&◌, ◌⊎◌, Bool, true, false, if◌then◌else◌, List, [], ◌∷◌, ◌++◌, length, Option, Some, None, is_some, refl, get_or, sym, ap, ◌∙◌, subst, arith, length-append, inl, inr, eqb-true, MatchBool}
 use Rattle.std.specs.Prelude.{All, slice_set}
-use Rattle.std.proofs.lemmas.Bool.{cases_eq, eq-eqb, ne_eqb, or_left, or_right}
+use Rattle.std.proofs.lemmas.Bool.{cases_eq, eq-eqb, ne_eqb, or_left, or_right, and_parts}
 use Rattle.std.proofs.lemmas.List.Sums.{get_or-le-sum_by}
 use Rattle.std.proofs.lemmas.List.Elements.{All-head, All-tail, All-same, All-weaker}
 use Rattle.nvme_entry.specs.declared.submission.Sqe.{Sqe}
 use Rattle.nvme_entry.specs.declared.completion.Cqe.{Cqe}
 use Rattle.nvme_log.specs.declared.place.Place.{Place}
 use Rattle.nvme_log.specs.Rules.{FrontRules, Past}
-use Rattle.nvme_log.specs.Places.{is_aborted, one_if}
-use Rattle.nvme_log.specs.Completions.{posted_to, own_status_by, own_dw0_by, IsOwnBy}
+use Rattle.nvme_log.specs.Places.{is_aborted, one_if, is_waiting, fate_of}
+use Rattle.nvme_log.specs.Completions.{posted_to, own_status_by, own_dw0_by, IsOwnBy, is_posted}
 use Rattle.nvme_log.specs.Dispatches.{place_at}
 use Rattle.nvme_log.specs.Answers.{Answer, by_answers}
 use Rattle.nvme_ctrl.specs.Notes.{Notes}
-use Rattle.nvme_ctrl.specs.Tags.{is_place, holder, answer_of, answer_or, answers, is_out, all_fetches, all_posts, cookie_of}
-use Rattle.nvme_ctrl.specs.Account.{IsLawfulEvent, IsAccount}
+use Rattle.nvme_ctrl.specs.Tags.{is_place, holder, answer_of, answer_or, answers, is_out, all_fetches, all_posts, cookie_of, is_passed}
+use Rattle.nvme_ctrl.specs.Account.{IsLawfulEvent, IsAccount, PostsAnswer, PostsOwn}
 use Rattle.nvme_ctrl.specs.declared.slot.Slot.{Slot}
 use Rattle.nvme_ctrl.specs.kept.Content.{Ready}
 use Rattle.nvme_ctrl.specs.kept.Standing.{Holds, answer_in, hand_of, held_by, times_held}
@@ -26,9 +29,9 @@ use Rattle.nvme_ctrl.specs.Calls.{HasPosted}
 use Rattle.nvme_ctrl.specs.declared.chain.Chain.{Chain}
 use Rattle.nvme_ctrl.specs.declared.state.CqState.{CqState}
 use Rattle.nvme_ctrl.specs.declared.state.Controller.{Controller}
-use Rattle.nvme_ctrl.specs.kept.Kept.{Item, ReadyItem, places_of, ready_state, ready_tags, readies_of, untaken, IsThrough, HoldsTags, StandsAt, HasReadyCookie}
+use Rattle.nvme_ctrl.specs.kept.Kept.{Item, ReadyItem, places_of, ready_state, ready_tags, readies_of, untaken, IsThrough, HoldsTags, StandsAt, HasReadyCookie, IsReadyOf}
 use Rattle.nvme_ctrl.proofs.Cookies.{SameCookies, same_cookies-but, cookie_left, items_left, readies_left}
-use Rattle.nvme_ctrl.proofs.NextEvents.{next-post, posts-as-ready, oldest_answerable}
+use Rattle.nvme_ctrl.proofs.NextEvents.{next-post, posts-as-ready, oldest_answerable, posts-else}
 use Rattle.nvme_ctrl.proofs.OwnStatus.{All-unmap, IsAnswerable, ready_is_answerable}
 use Rattle.nvme_ctrl.proofs.PostedPlaces.{ready_unanswered}
 use Rattle.nvme_ctrl.proofs.ReadyHand.{times_held-append}
@@ -202,6 +205,12 @@ module _ (p : PostCall) where
         answered_held = answered_after;
         hand_entries = h.hand_entries;
         free_count = count_after;
+        passed = record {
+          all_handed = h.passed.all_handed;
+          served = h.passed.served;
+          readies = of_readies (IsReadyOf p.notes) h.passed.readies;
+          deletion = h.passed.deletion;
+        };
         cookies = record {
           windows = λ r. items_left p.notes p.slots p.new same (p.stands.items.windows r) (h.cookies.windows r);
           outs = items_left p.notes p.slots p.new same p.stands.items.outs h.cookies.outs;
@@ -217,15 +226,51 @@ module _ (p : PostCall) where
   through : IsThrough p.notes p.item.ready
   through = of_item (λ (it : ReadyItem). IsThrough p.notes it.ready) (p.stands.tags.through p.x)
 
-  is_own : p.late ≡ false → IsOwnBy p.rules (by_answers (answers p.notes) (place_at (region p) (index p))) (past_of p) p.x (region p) (index p) (cqe_of p)
-  is_own on_time =
+  passed_as : p.item.ready.passed ≡ (region p == 0 && is_passed p.notes (index p))
+  passed_as = of_item (IsReadyOf p.notes) (p.stands.tags.passed.readies p.x)
+
+  -- the completion of a command that was not passed on
+  is_own : p.late ≡ false → p.item.ready.passed ≡ false → IsOwnBy p.rules (by_answers (answers p.notes) (place_at (region p) (index p))) (past_of p) p.x (region p) (index p) (cqe_of p)
+  is_own on_time carried =
       own_by-answer p.rules (past_of p) p.x (region p) (index p) (cqe_of p) (λ e. answer_in p.item.ready) (by_answers (answers p.notes) (place_at (region p) (index p)))
       (elim through [
         | inl aborted ↦ inl aborted
         | inr answered ↦ inr (λ e. sym (ap answer_or answered))
       ])
       (posts-as-ready p.rules (past_of p) (content p) p.x p.item.ready (readies_of p.rest) (cqe_of p)
-      (subst (λ (late : Bool). Holds p.rules late (past_of p) (content p)) on_time p.stands.holds) (can_post p))
+      (subst (λ (late : Bool). Holds p.rules late (past_of p) (content p)) on_time p.stands.holds) (can_post p) carried)
+
+  -- that of one that was
+  of_device : p.late ≡ false → (region p == 0 && is_passed p.notes (index p)) ≡ true → is_posted (past_of p) (region p) (index p) ≡ false
+      → is_waiting (fate_of (past_of p) (region p) (index p)) ≡ false → PostsAnswer p.rules p.notes p.x (index p) (cqe_of p)
+  of_device on_time passed no_post done =
+      let zero : region p ≡ 0 = eqb-true (region p) 0 (and_parts (region p == 0) (is_passed p.notes (index p)) passed).0 in
+      let both = posts-else p.rules p.late (past_of p) (content p) p.x p.item.ready (readies_of p.rest) (cqe_of p) (λ e. answers p.notes (place_at 0 (index p))) p.stands.holds (can_post p) in
+      elim through [
+        | inl aborted ↦ absurd (admin-unaborted p.rules (past_of p) (each-event _ p.rules (λ past e it. it.effects_at_once) p.notes (p.stands.account on_time).each) (index p)
+            (subst (λ (r : ℕ). is_aborted (past_of p) r (index p) ≡ true) zero aborted))
+        | inr answered ↦ record {
+          answer = answer_in p.item.ready;
+          answered = subst (λ (r : ℕ). answer_of p.notes r (index p) ≡ Some (answer_in p.item.ready)) zero answered;
+          status_is = (can_post p).status;
+          dw0_is = (can_post p).dw0;
+          other_status = both.status;
+          other_dw0 = both.dw0;
+          all_else = (
+            subst (λ (r : ℕ). is_posted (past_of p) r (index p) ≡ false) zero no_post,
+            subst (λ (r : ℕ). is_waiting (fate_of (past_of p) r (index p)) ≡ false) zero done,
+            subst (λ (r : ℕ). IsOwnBy p.rules (λ e. answers p.notes (place_at 0 (index p))) (past_of p) p.x r (index p) (record (cqe_of p) { status = both.status; dw0 = both.dw0 })) zero both.own,
+          );
+        }
+      ]
+
+  posts_own : p.late ≡ false → is_posted (past_of p) (region p) (index p) ≡ false → is_waiting (fate_of (past_of p) (region p) (index p)) ≡ false
+      → PostsOwn p.rules p.notes (event_of p)
+  posts_own on_time no_post done = by (region p == 0 && is_passed p.notes (index p)) refl where
+    by : (b : Bool) → (region p == 0 && is_passed p.notes (index p)) ≡ b
+        → MatchBool b (PostsAnswer p.rules p.notes p.x (index p) (cqe_of p)) (PostsOwnBy p.rules (by_answers (answers p.notes)) (past_of p) (event_of p))
+    by true e = of_device on_time e no_post done
+    by false e = (no_post, done, is_own on_time (passed_as ∙ e))
 
   lawful_event : p.late ≡ false → IsLawfulEvent p.rules p.notes (event_of p)
   lawful_event on_time =
@@ -238,7 +283,7 @@ module _ (p : PostCall) where
         observed = next.observed;
         effects_at_once = next.effects_at_once;
         deletes = next.deletes;
-        posts_own = (first.no_post, first.was_served, is_own on_time);
+        posts_own = posts_own on_time first.no_post first.was_served;
         leaves_places = next.leaves_places;
         fetches_submitted = tt;
         posts_on_free_slot = omega (arith, has_room p, p.stands.holds.tabled.cq_slots p.x, p.stands.numbers.cq_slots p.x);

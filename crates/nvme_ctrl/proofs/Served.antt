@@ -9,7 +9,7 @@ use Rattle.nvme_log.specs.Answers.{Answer}
 use Rattle.nvme_log.specs.Completions.{is_posted}
 use Rattle.nvme_log.specs.Dispatches.{place_at}
 use Rattle.std.specs.Prelude.{is_some}
-use Rattle.nvme_ctrl.specs.Notes.{Notes, Note, Logged, Tail, Head, Kept, Taken, Answered, EachNote, logged}
+use Rattle.nvme_ctrl.specs.Notes.{Notes, Note, Logged, Tail, Head, Kept, Passed, Taken, Answered, EachNote, logged}
 use Rattle.nvme_ctrl.specs.Tags.{answer_of, is_through}
 use Rattle.nvme_ctrl.specs.Account.{IsLawful}
 
@@ -37,6 +37,7 @@ served-on (Logged e) notes place (inl h) = inl h
 served-on (Tail r slot) notes place (inl h) = inl h
 served-on (Head c slot) notes place (inl h) = inl h
 served-on (Kept r i cookie) notes place (inl h) = inl h
+served-on (Passed i) notes place (inl h) = inl h
 served-on (Taken tag r i) notes place (inl h) = inl h
 served-on (Answered r i answer) notes place (inl h) = inl h
 served-on (Answered r i answer) notes place (inr h) = inr (by (r == place.region && i == place.index) refl) where
@@ -47,6 +48,7 @@ served-on (Logged e) notes place (inr h) = inr (record { answer = h.answer; answ
 served-on (Tail r slot) notes place (inr h) = inr (record { answer = h.answer; answered = h.answered })
 served-on (Head c slot) notes place (inr h) = inr (record { answer = h.answer; answered = h.answered })
 served-on (Kept r i cookie) notes place (inr h) = inr (record { answer = h.answer; answered = h.answered })
+served-on (Passed i) notes place (inr h) = inr (record { answer = h.answer; answered = h.answered })
 served-on (Taken tag r i) notes place (inr h) = inr (record { answer = h.answer; answered = h.answered })
 
 -- what is through was aborted or answered

@@ -12,6 +12,7 @@ use Rattle.nvme_ctrl.specs.Notes.{Notes, Logged, Tail, EachNote, logged}
 use Rattle.nvme_ctrl.specs.Doorbells.{sq_slots, cq_slots, submitted, consumed}
 use Rattle.nvme_ctrl.specs.Account.{IsLawful}
 use Rattle.nvme_ctrl.specs.Laws.{SlotsAreFetchedInOrder, SlotsAreFree, CompletionsTellTheHead}
+use Rattle.nvme_ctrl.proofs.Posting.{posts_told}
 use Rattle.nvme_ctrl.proofs.Noted.{EachNote-after, logged-append}
 
 -- ---- submission queues
@@ -79,5 +80,5 @@ slots_are_free rules later between before c r i s j first second h same =
 
 pub completions_tell_the_head : CompletionsTellTheHead
 completions_tell_the_head rules later before c r i cqe h =
-    let it = (EachNote-after (IsLawful rules) later (Logged (Post c r i cqe) ∷ before) h.each).0.posts_own.2 in
+    let it = posts_told rules before c r i cqe (EachNote-after (IsLawful rules) later (Logged (Post c r i cqe) ∷ before) h.each).0.posts_own in
     (it.sqhd, it.phase)

@@ -1,5 +1,7 @@
 -- What a step of a controller keeps: the types of the lemmas on each part of what stands.
-use Rattle.std.proofs.Common.{◌≡◌, ℕ, Bool, false, List, [], ◌∷◌, Some}
+use Rattle.nvme_log.specs.Histories.{admin_entry}
+use Rattle.std.proofs.Common.{◌⊎◌, true}
+use Rattle.std.proofs.Common.{◌≡◌, ℕ, Bool, false, List, [], ◌∷◌, Some, ◌⊎◌}
 use Rattle.nvme_entry.specs.declared.submission.Sqe.{Sqe}
 use Rattle.nvme_entry.specs.declared.completion.Cqe.{Cqe}
 use Rattle.nvme_arbiter.specs.Board.{BoardView}
@@ -12,6 +14,7 @@ use Rattle.nvme_log.specs.Queues.{Queue, admin_queue}
 use Rattle.nvme_log.specs.Places.{observation_of, entry_at}
 use Rattle.nvme_log.specs.declared.place.Place.{Place}
 use Rattle.nvme_log.specs.Answers.{Answer}
+use Rattle.nvme_ctrl.specs.Own.{may_be_own}
 use Rattle.nvme_ctrl.specs.kept.Content.{Candidate, Ready, PendingDelete, Content}
 use Rattle.nvme_ctrl.specs.kept.Standing.{HoldsSq, HoldsReady, HoldsCounts, HoldsPosts, HoldsQueues, HoldsDeletion, HoldsArbitration, HoldsTable, HoldsHand, HoldsOwn, hand_of, Holds}
 use Rattle.nvme_ctrl.specs.inside.Next.{IsNext, EachNext}
@@ -28,9 +31,19 @@ KeepsFetch X = (rules : FrontRules) (late : Bool) (past : Past) (k : Content) (q
     → Holds rules late past k → CanFetch past k q queue
     → X rules late (fetch_event k queue entry ∷ past) (after_fetch k q queue entry)
 
+-- a pick of an I/O queue, or of an admin command that the controller has no part in: its commands are handed to the device
+pub record IsPassing (past : Past) (pick : Pick) : Type 0 where
+  pub of_admin : pick.qid ≡ 0
+  pub entry : Sqe
+  pub next : admin_entry past ≡ Some entry
+  pub may_be : may_be_own entry ≡ true
+
+abbrev pub IsHanded : Past → Pick → Type 0
+IsHanded past pick = (pick.qid ≡ 0 → ⊥) ⊎ IsPassing past pick
+
 abbrev pub KeepsIo : Invariant → Type 0
 KeepsIo X = (rules : FrontRules) (late : Bool) (past : Past) (k : Content) (queue : Queue) (seen : List Seen) (pick : Pick) (board : BoardView) (c : ℕ)
-    → Holds rules late past k → CanPick rules past k queue pick board → seen ≡ observation_of past → (pick.qid ≡ 0 → ⊥)
+    → Holds rules late past k → CanPick rules past k queue pick board → seen ≡ observation_of past → IsHanded past pick
     → (k.sq queue.region).queue ≡ Some (record { qid = pick.qid; cq_region = c })
     → X rules late (event.Pick seen pick ∷ past) (after_io k queue pick.n board)
 

@@ -1,4 +1,5 @@
 -- The steps of a controller keep its table at the table history of the log.
+use Rattle.std.proofs.Common.{inl, inr}
 use Rattle.std.proofs.Common.{◌≡◌, ℕ, ◌+◌, ◌-◌, ◌==◌, ◌≤◌, Bool, true, false, List, [], ◌∷◌, ◌++◌, map, length, Option, Some, None, refl, sym, ap, subst, ◌∙◌, eq-eqb, eqb-true, take}
 use Rattle.nvme_admin.specs.declared.bounds.TheConstants.{MAX_REGIONS}
 use Rattle.std.specs.Prelude.{if◌then◌else◌}
@@ -26,10 +27,11 @@ use Rattle.nvme_log.specs.Histories.{table_history, admin_entry, applied}
 use Rattle.nvme_log.specs.Effects.{closed_cq_of, closing_of, made_by, abort_in, named, target_of}
 use Rattle.nvme_ctrl.specs.kept.Content.{SqContent, CqContent, Content, with_sq, with_cq, with_ready}
 use Rattle.nvme_ctrl.specs.kept.Standing.{HoldsTable}
+use Rattle.nvme_ctrl.proofs.Handing.{table_stays}
 use Rattle.nvme_ctrl.proofs.Oldest.{admin_entry_is}
 use Rattle.nvme_ctrl.specs.inside.Steps.{applied_to, aborted, verdict_at, after_pick, picked_sq, oldest_named, requested, without_oldest}
 use Rattle.nvme_ctrl.proofs.AfterSteps.{with_events, with_readies, admin_past, after_admin, deleting_from, with_opened, with_deleting, after_io, after_post, after_closed, posted_cq, post_event, closed_event, aborting_from, aborting_in, with_requested}
-use Rattle.nvme_ctrl.proofs.StepKeeps.{KeepsFetch, KeepsIo, KeepsAdmin, KeepsPost, KeepsClose, Tabled}
+use Rattle.nvme_ctrl.proofs.StepKeeps.{KeepsFetch, KeepsIo, KeepsAdmin, KeepsPost, KeepsClose, Tabled, IsHanded}
 
 -- ---- the regions
 -- a submission region put in the place of one, with as many slots, leaves each number of slots
@@ -141,8 +143,26 @@ tabled-io rules late past k queue seen pick board c s can seen_is io attached =
     held rules late past (event.Pick seen pick ∷ past) k (after_io k queue pick.n board) s.tabled
     (leaves_both k (after_pick k queue pick.n board) (after_io k queue pick.n board) (leaves_pick k queue pick.n board)
     (leaves_none (after_pick k queue pick.n board) (after_io k queue pick.n board) refl refl refl refl))
-    refl refl s.tabled.history s.tabled.stands
-    (λ e. s.tabled.history_is e ∙ sym (cond-false (pick.qid == 0) (applied (admin_entry past) ++ table_history rules past) (table_history rules past) (ne_eqb pick.qid 0 io)))
+    refl refl (handed_history io).0 (handed_history io).1.0 (handed_history io).1.1
+  where
+    -- its history, at which the table stands
+    handed_history : IsHanded past pick → (h : TableHistory) × (StandsAt rules.start k.table h × (late ≡ false → h ≡ table_history rules (event.Pick seen pick ∷ past)))
+    handed_history (inl other) = (
+      s.tabled.history,
+      (
+        s.tabled.stands,
+        λ e. s.tabled.history_is e ∙ sym (cond-false (pick.qid == 0) (applied (admin_entry past) ++ table_history rules past) (table_history rules past) (ne_eqb pick.qid 0 other)),
+      ),
+    )
+    handed_history (inr p) = (
+      EntryApplied p.entry ∷ s.tabled.history,
+      (
+        table_stays rules.start k.table s.tabled.history p.entry p.may_be s.tabled.stands,
+        λ e. ap (λ (h : TableHistory). EntryApplied p.entry ∷ h) (s.tabled.history_is e)
+            ∙ sym (cond-true (pick.qid == 0) (applied (admin_entry past) ++ table_history rules past) (table_history rules past) (eq-eqb pick.qid 0 p.of_admin)
+            ∙ ap (λ (o : Option Sqe). applied o ++ table_history rules past) p.next),
+      ),
+    )
 
 -- a post leaves the table
 pub tabled-post : KeepsPost Tabled

@@ -1,21 +1,22 @@
 -- A tag stands for one command at a time, and a command has one tag.
-use Rattle.std.proofs.Common.{◌≡◌, ℕ, zero, suc, ◌<◌, ◌==◌, Bool, true, false, List, [], ◌∷◌, ◌++◌, length, map, take, Option, Some, None, refl, sym, ap, ◌∙◌, subst, arith, append_assoc, ◌⊎◌, inl, inr, if◌then◌else◌}
+use Rattle.std.proofs.Common.{◌≡◌, ℕ, zero, suc, ◌<◌, ◌==◌, Bool, true, false, List, [], ◌∷◌, ◌++◌, length, map, take, Option, Some, None, refl, sym, ap, ◌∙◌, subst, arith, append_assoc, ◌⊎◌, inl, inr, if◌then◌else◌, ◌||◌}
 use Rattle.std.specs.Prelude.{slice_get}
-use Rattle.std.proofs.lemmas.Bool.{cases_Bool, eqb-true}
+use Rattle.std.proofs.lemmas.Bool.{cases_Bool, eq-eqb, eqb-true, or_left, or_right}
 use Rattle.std.proofs.lemmas.Option.{same_Some}
 use mathlib.Core.List.{IsPrefix}
 use Rattle.nvme_arbiter.specs.declared.pick.Pick.{Pick}
 use Rattle.nvme_log.specs.declared.event.Event.TheVariants as event
-use Rattle.nvme_log.specs.Rules.{Past, FrontRules}
+use Rattle.nvme_log.specs.Rules.{Past, FrontRules, Each}
+use Rattle.nvme_log.specs.Effects.{EffectsAtOnce}
 use Rattle.nvme_log.specs.Queues.{Queue, open_sq}
 use Rattle.nvme_log.specs.Places.{waiting, fate_of, is_waiting, is_aborted}
 use Rattle.nvme_log.specs.declared.place.Place.{Place}
 use Rattle.nvme_log.specs.Dispatches.{place_at, dispatched_by, dispatched}
 use Rattle.nvme_log.proofs.AbortLaws.{WaitsNot, aborted-not_dispatched, dispatched-waits_not}
 use Rattle.nvme_log.proofs.Members.{IsIn, in-all, in-append_left, in-append_right, in-take, Ascending}
-use Rattle.nvme_log.proofs.Turns.{in-waits, waiting-rises}
-use Rattle.nvme_ctrl.specs.Notes.{Notes, Logged, Taken, EachNote, logged}
-use Rattle.nvme_ctrl.specs.Tags.{is_place, taken, holder}
+use Rattle.nvme_log.proofs.Turns.{in-waits, waiting-rises, region-io, admin-unaborted}
+use Rattle.nvme_ctrl.specs.Notes.{Notes, Logged, Passed, Taken, EachNote, logged}
+use Rattle.nvme_ctrl.specs.Tags.{is_place, is_passed, handed, taken, holder}
 use Rattle.nvme_ctrl.specs.Account.{IsLawful}
 use Rattle.nvme_ctrl.specs.Laws.{TagsAreApart}
 use Rattle.nvme_ctrl.proofs.Noted.{each-event}
@@ -26,6 +27,14 @@ abbrev IsApart : List Place → Type 0
 IsApart [] = Unit {0}
 IsApart (p ∷ ps) = ((q : Place) → IsIn q ps → p ≡ q → ⊥) × IsApart ps
 
+in-either : (q : Place) (xs ys : List Place) → IsIn q (xs ++ ys) → IsIn q xs ⊎ IsIn q ys
+in-either q [] ys is = inr is
+in-either q (x ∷ xs) ys (inl e) = inl (inl e)
+in-either q (x ∷ xs) ys (inr is) = elim (in-either q xs ys is) [
+  | inl left ↦ inl (inr left)
+  | inr right ↦ inr right
+]
+
 apart-append : (ps qs : List Place) → IsApart ps → IsApart qs → ((q : Place) → IsIn q ps → IsIn q qs → ⊥) → IsApart (ps ++ qs)
 apart-append [] qs a b h = b
 apart-append (p ∷ ps) qs a b h = (
@@ -35,14 +44,6 @@ apart-append (p ∷ ps) qs a b h = (
   ],
   apart-append ps qs a.1 b (λ q is. h q (inr is)),
 )
-  where
-    in-either : (q : Place) (xs ys : List Place) → IsIn q (xs ++ ys) → IsIn q xs ⊎ IsIn q ys
-    in-either q [] ys is = inr is
-    in-either q (x ∷ xs) ys (inl e) = inl (inl e)
-    in-either q (x ∷ xs) ys (inr is) = elim (in-either q xs ys is) [
-      | inl left ↦ inl (inr left)
-      | inr right ↦ inr right
-    ]
 
 -- an element of a mapped list
 record IsMapped (region : ℕ) (q : Place) (is : List ℕ) : Type 0 where
@@ -86,14 +87,80 @@ dispatched_by-apart past pick (Some queue) = by (pick.qid == 0) where
   by true = tt
   by false = apart-taken queue.region pick.n (waiting past queue.region) (waiting-rises past queue.region)
 
-dispatched-apart : (past : Past) → IsApart (dispatched past)
-dispatched-apart [] = tt
-dispatched-apart (event.Pick seen pick ∷ past) =
-    apart-append (dispatched past) (dispatched_by past pick (open_sq past pick.qid)) (dispatched-apart past) (dispatched_by-apart past pick (open_sq past pick.qid))
-    (λ q old new.
-    let no : is_waiting (fate_of past q.region q.index) ≡ false = in-all (WaitsNot past) q (dispatched past) (dispatched-waits_not past) old in
-    let yes = dispatched_by-waits past pick (open_sq past pick.qid) q new in cc)
-dispatched-apart (e ∷ past) = dispatched-apart past
+-- and is of an I/O queue
+dispatched_by-io : (rules : FrontRules) (past : Past) (pick : Pick) (o : Option Queue) (q : Place) → Each (EffectsAtOnce rules) past → open_sq past pick.qid ≡ o
+    → IsIn q (dispatched_by past pick o) → q.region ≡ 0 → ⊥
+dispatched_by-io rules past pick None q each is h admin = h
+dispatched_by-io rules past pick (Some queue) q each is h admin = by (pick.qid == 0) refl h where
+  by : (b : Bool) → (pick.qid == 0) ≡ b → IsIn q (if b then [] else map (place_at queue.region) (take pick.n (waiting past queue.region))) → ⊥
+  by true e k = k
+  by false e k =
+      let it = in-map queue.region q (take pick.n (waiting past queue.region)) k in
+      region-io rules past each pick.qid queue is (λ first. let other = sym e ∙ eq-eqb pick.qid 0 first in cc other) (ap (λ (p : Place). p.region) it.same ∙ admin)
+
+-- ---- the places that are handed over
+-- they were dispatched from I/O queues, or passed on
+record IsDispatched (notes : Notes) (q : Place) : Type 0 where
+  among : IsIn q (dispatched (logged notes))
+  io : q.region ≡ 0 → ⊥
+
+record IsPassedOn (notes : Notes) (q : Place) : Type 0 where
+  of_admin : q.region ≡ 0
+  passed : is_passed notes q.index ≡ true
+
+in-handed : (rules : FrontRules) (notes : Notes) → EachNote (IsLawful rules) notes → (q : Place) → IsIn q (handed notes) → IsDispatched notes q ⊎ IsPassedOn notes q
+in-handed rules [] h q is = absurd is
+in-handed rules (Logged (event.Pick seen pick) ∷ notes) h q is =
+    elim (in-either q (handed notes) (dispatched_by (logged notes) pick (open_sq (logged notes) pick.qid)) is) [
+      | inl old ↦ elim (in-handed rules notes h.1 q old) [
+        | inl it ↦ inl (record { among = in-append_left q (dispatched (logged notes)) (dispatched_by (logged notes) pick (open_sq (logged notes) pick.qid)) it.among; io = it.io })
+        | inr it ↦ inr (record { of_admin = it.of_admin; passed = it.passed })
+      ]
+      | inr new ↦ inl (record {
+        among = in-append_right q (dispatched (logged notes)) (dispatched_by (logged notes) pick (open_sq (logged notes) pick.qid)) new;
+        io = dispatched_by-io rules (logged notes) pick (open_sq (logged notes) pick.qid) q (each-event _ rules (λ past e it. it.effects_at_once) notes h.1) refl new;
+      })
+    ]
+in-handed rules (Passed j ∷ notes) h q is = elim (in-either q (handed notes) (place_at 0 j ∷ []) is) [
+  | inl old ↦ elim (in-handed rules notes h.1 q old) [
+    | inl it ↦ inl (record { among = it.among; io = it.io })
+    | inr it ↦ inr (record { of_admin = it.of_admin; passed = or_right (j == q.index) (is_passed notes q.index) it.passed })
+  ]
+  | inr new ↦ inr (record { of_admin = of_new new; passed = passed_new new })
+] where
+  of_new : IsIn q (place_at 0 j ∷ []) → q.region ≡ 0
+  of_new (inl e) = sym (ap (λ (p : Place). p.region) e)
+  of_new (inr e) = absurd e
+
+  passed_new : IsIn q (place_at 0 j ∷ []) → (j == q.index || is_passed notes q.index) ≡ true
+  passed_new (inl e) = or_left (j == q.index) (is_passed notes q.index) (eq-eqb j q.index (ap (λ (p : Place). p.index) e))
+  passed_new (inr e) = absurd e
+in-handed rules (note ∷ notes) h q is = elim (in-handed rules notes h.1 q is) [
+  | inl it ↦ inl (record { among = it.among; io = it.io })
+  | inr it ↦ inr (record { of_admin = it.of_admin; passed = it.passed })
+]
+
+handed-apart : (rules : FrontRules) (notes : Notes) → EachNote (IsLawful rules) notes → IsApart (handed notes)
+handed-apart rules [] h = tt
+handed-apart rules (Logged (event.Pick seen pick) ∷ notes) h =
+    apart-append (handed notes) (dispatched_by (logged notes) pick (open_sq (logged notes) pick.qid)) (handed-apart rules notes h.1)
+    (dispatched_by-apart (logged notes) pick (open_sq (logged notes) pick.qid)) (λ q old new. elim (in-handed rules notes h.1 q old) [
+      | inl it ↦
+          let no : is_waiting (fate_of (logged notes) q.region q.index) ≡ false = in-all (WaitsNot (logged notes)) q (dispatched (logged notes)) (dispatched-waits_not (logged notes)) it.among in
+          let yes = dispatched_by-waits (logged notes) pick (open_sq (logged notes) pick.qid) q new in
+          cc (no, yes)
+      | inr it ↦ dispatched_by-io rules (logged notes) pick (open_sq (logged notes) pick.qid) q (each-event _ rules (λ past e x. x.effects_at_once) notes h.1) refl new it.of_admin
+    ])
+handed-apart rules (Passed j ∷ notes) h =
+    apart-append (handed notes) (place_at 0 j ∷ []) (handed-apart rules notes h.1) (λ q none same. none, tt) (λ q old new. by q new (in-handed rules notes h.1 q old)) where
+      by : (q : Place) → IsIn q (place_at 0 j ∷ []) → IsDispatched notes q ⊎ IsPassedOn notes q → ⊥
+      by q (inl e) (inl it) = it.io (sym (ap (λ (p : Place). p.region) e))
+      by q (inl e) (inr it) =
+          let same : is_passed notes j ≡ true = ap (λ (p : Place). is_passed notes p.index) e ∙ it.passed in
+          let first = h.0.first in
+          cc (same, first)
+      by q (inr e) it = e
+handed-apart rules (note ∷ notes) h = handed-apart rules notes h.1
 
 -- ---- the places that the device took
 -- a tag that the post of another place leaves
@@ -112,7 +179,7 @@ holder-taken (Taken tag r i ∷ notes) t p h = by (tag == t) h (holder-taken not
 holder-taken (Logged (event.Post c r i cqe) ∷ notes) t p h = holder-taken notes t p (released c r i (holder notes t) p h)
 holder-taken (note ∷ notes) t p h = holder-taken notes t p h
 
--- they are the first of the dispatched ones
+-- they are the first of those that are handed over
 next-is : (xs rest : List Place) (x : Place) → slice_get (xs ++ rest) (length xs) ≡ Some x → slice_get rest 0 ≡ Some x
 next-is [] rest x h = h
 next-is (y ∷ xs) rest x h = next-is xs rest x h
@@ -123,21 +190,22 @@ longer xs (y ∷ rest) x all is h =
     let same : y ≡ x = same_Some _ _ h in
     (rest, append_assoc xs (x ∷ []) rest ∙ ap (λ (z : Place). xs ++ z ∷ rest) (sym same) ∙ is)
 
-more-dispatched : (xs all new : List Place) → IsPrefix xs all → IsPrefix xs (all ++ new)
-more-dispatched xs all new h = (h.0 ++ new, sym (append_assoc xs h.0 new) ∙ ap (λ (z : List Place). z ++ new) h.1)
+more-handed : (xs all new : List Place) → IsPrefix xs all → IsPrefix xs (all ++ new)
+more-handed xs all new h = (h.0 ++ new, sym (append_assoc xs h.0 new) ∙ ap (λ (z : List Place). z ++ new) h.1)
 
-pub taken-first : (rules : FrontRules) (notes : Notes) → EachNote (IsLawful rules) notes → IsPrefix (taken notes) (dispatched (logged notes))
+pub taken-first : (rules : FrontRules) (notes : Notes) → EachNote (IsLawful rules) notes → IsPrefix (taken notes) (handed notes)
 taken-first rules [] h = ([], refl)
 taken-first rules (Taken tag r i ∷ notes) h =
     let before = taken-first rules notes h.1 in
-    longer (taken notes) before.0 (place_at r i) (dispatched (logged notes)) before.1
+    longer (taken notes) before.0 (place_at r i) (handed notes) before.1
     (next-is (taken notes) before.0 (place_at r i) (subst (λ (z : List Place). slice_get z (length (taken notes)) ≡ Some (place_at r i)) (sym before.1) h.0.next))
 taken-first rules (Logged (event.Pick seen pick) ∷ notes) h =
-    more-dispatched (taken notes) (dispatched (logged notes)) (dispatched_by (logged notes) pick (open_sq (logged notes) pick.qid)) (taken-first rules notes h.1)
+    more-handed (taken notes) (handed notes) (dispatched_by (logged notes) pick (open_sq (logged notes) pick.qid)) (taken-first rules notes h.1)
+taken-first rules (Passed j ∷ notes) h = more-handed (taken notes) (handed notes) (place_at 0 j ∷ []) (taken-first rules notes h.1)
 taken-first rules (note ∷ notes) h = taken-first rules notes h.1
 
-holder-dispatched : (rules : FrontRules) (notes : Notes) → EachNote (IsLawful rules) notes → (t : ℕ) (p : Place) → holder notes t ≡ Some p → IsIn p (dispatched (logged notes))
-holder-dispatched rules notes h t p is =
+holder-handed : (rules : FrontRules) (notes : Notes) → EachNote (IsLawful rules) notes → (t : ℕ) (p : Place) → holder notes t ≡ Some p → IsIn p (handed notes)
+holder-handed rules notes h t p is =
     let first = taken-first rules notes h in
     subst (IsIn p) first.1 (in-append_left p (taken notes) first.0 (holder-taken notes t p is))
 
@@ -145,8 +213,13 @@ pub holder-unaborted : (rules : FrontRules) (notes : Notes) → EachNote (IsLawf
     → is_aborted (logged notes) r i ≡ false
 holder-unaborted rules notes h t r i is = elim (cases_Bool (is_aborted (logged notes) r i)) [
   | inl aborted ↦
-      let none = aborted-not_dispatched rules (logged notes) (each-event _ rules (λ past e it. it.effects_at_once) notes h) r i aborted in
-      absurd (in-all (λ (p : Place). p ≡ place_at r i → ⊥) (place_at r i) (dispatched (logged notes)) none (holder-dispatched rules notes h t (place_at r i) is) refl)
+      let at_once = each-event _ rules (λ past e it. it.effects_at_once) notes h in
+      elim (in-handed rules notes h (place_at r i) (holder-handed rules notes h t (place_at r i) is)) [
+        | inl it ↦
+            let none = aborted-not_dispatched rules (logged notes) at_once r i aborted in
+            absurd (in-all (λ (p : Place). p ≡ place_at r i → ⊥) (place_at r i) (dispatched (logged notes)) none it.among refl)
+        | inr it ↦ absurd (admin-unaborted rules (logged notes) at_once i (subst (λ (x : ℕ). is_aborted (logged notes) x i ≡ true) it.of_admin aborted))
+      ]
   | inr unaborted ↦ unaborted
 ]
 
@@ -165,7 +238,7 @@ taken-once : (rules : FrontRules) (notes : Notes) (tag r i : ℕ) → EachNote (
 taken-once rules notes tag r i h is =
     let first = taken-first rules (Taken tag r i ∷ notes) h in
     not-again (taken notes) first.0 (place_at r i)
-    (subst IsApart (sym (sym (append_assoc (taken notes) (place_at r i ∷ []) first.0) ∙ first.1)) (dispatched-apart (logged notes))) is
+    (subst IsApart (sym (sym (append_assoc (taken notes) (place_at r i ∷ []) first.0) ∙ first.1)) (handed-apart rules notes h.1)) is
 
 tags-apart : (rules : FrontRules) (notes : Notes) → EachNote (IsLawful rules) notes → (t u : ℕ) (p : Place) → holder notes t ≡ Some p → holder notes u ≡ Some p → t ≡ u
 tags-apart rules [] h t u p ht hu = cc ht

@@ -14,7 +14,7 @@ use Rattle.nvme_log.specs.declared.place.Place.{Place}
 use Rattle.nvme_ctrl.specs.Notes.{Notes, Taken, logged}
 use Rattle.nvme_ctrl.specs.Doorbells.{submitted}
 use Rattle.nvme_ctrl.specs.Rings.{HasCounts}
-use Rattle.nvme_ctrl.specs.Tags.{taken, holder, is_unanswered, all_posts}
+use Rattle.nvme_ctrl.specs.Tags.{taken, holder, is_unanswered, all_posts, handed}
 use Rattle.nvme_ctrl.specs.Account.{IsAccount}
 use Rattle.nvme_ctrl.specs.Calls.{HasTaken}
 use Rattle.nvme_ctrl.specs.declared.slot.Slot.{Slot}
@@ -25,6 +25,7 @@ use Rattle.nvme_ctrl.specs.kept.Content.{Content}
 use Rattle.nvme_ctrl.specs.kept.Kept.{Item, ReadyItem, Items, IsWaitingIn, IsOutIn, IsReadyIn, IsAmongOuts, HasNumbers, HasItems, HoldsDoorbells, HoldsTags, IsUnanswered, HasEntry, HasCookie, StandsAt, tags_of, places_of, ready_tags, candidate_of, untaken, pending_of, ready_state}
 use Rattle.nvme_ctrl.specs.kept.Pool.{slot_at, item_at, put_item, IsChain, AreApart}
 use Rattle.nvme_ctrl.specs.kept.State.{no_sq_state, sq_at, cq_at, attachment_of, picked_in}
+use Rattle.nvme_ctrl.proofs.Passed.{passed_left, passed_later}
 use Rattle.nvme_ctrl.proofs.Cookies.{SameCookies, same_cookies-but, cookie_left, items_left, readies_left}
 use Rattle.nvme_ctrl.proofs.Pools.{length-put_item, slot_at-put_item_same, item_at-put_item_other, chain-put_item, AreApart-push}
 use Rattle.nvme_ctrl.proofs.OwnStatus.{All-unmap}
@@ -273,6 +274,7 @@ module _ (c : Controller) (slots : List Slot) (k : Content) (g : Items) (h : Has
     ];
     hand_entries = subst (All (HasEntry (logged notes))) hand_stays t.hand_entries;
     free_count = t.free_count ∙ ap (λ (m : ℕ). m + all_posts (logged notes)) (sym size);
+    passed = passed_later notes (Taken it.tag it.place.region it.place.index ∷ notes) (took c chain) left (λ i. refl) refl (λ i waits. waits) (passed_left notes c (took c chain) g left refl (λ x. refl) refl t.passed);
     cookies = record {
       windows = at_put (λ x ws. All (HasCookie notes new) ws) g.windows c.picked_region rest (items_left notes slots new same rest (All-tail (HasCookie notes slots) it rest cookies))
           (λ x other. items_left notes slots new same (g.windows x) (t.cookies.windows x));
@@ -346,7 +348,7 @@ take-stands rules late notes c slots s some chain tag first others = by (s.items
       })
 
 -- where none is picked that the device hasn't taken, it took all that was picked
-pub none_left : (rules : FrontRules) (late : Bool) (notes : Notes) (c : Controller) (slots : List Slot) → StandsAt rules late notes c slots → c.picked ≡ 0 → dispatched (logged notes) ≡ taken notes
+pub none_left : (rules : FrontRules) (late : Bool) (notes : Notes) (c : Controller) (slots : List Slot) → StandsAt rules late notes c slots → c.picked ≡ 0 → handed notes ≡ taken notes
 none_left rules late notes c slots s none =
     s.tags.untaken_are ∙ ap (λ (n : ℕ). taken notes ++ places_of (take n (s.items.windows c.picked_region))) none ∙ append-nil (taken notes)
 

@@ -32,6 +32,7 @@ use Rattle.nvme_ctrl.specs.inside.Carrying.{opening}
 use Rattle.nvme_ctrl.specs.kept.Pool.{slot_at, IsChain, IsNew, SameItems, SameLinks}
 use Rattle.nvme_ctrl.specs.kept.State.{no_sq_state, sq_at, attachment_of, picked_in}
 use Rattle.nvme_ctrl.proofs.CarriedOut.{none_picked_in}
+use Rattle.nvme_ctrl.proofs.Passed.{passed_left}
 use Rattle.nvme_ctrl.proofs.Cookies.{SameCookies, same_cookies, items_left, readies_left, cookies_left}
 use Rattle.nvme_ctrl.proofs.Ending.{none_kept}
 use Rattle.nvme_ctrl.proofs.Pools.{chain-other}
@@ -205,6 +206,7 @@ module _ (rules : FrontRules) (notes : Notes) (a : Controller) (slots : List Slo
     hand_entries = subst (λ (its : List Item). All (HasEntry (logged notes)) (g.outs ++ its)) (none_untaken a g none_picked ∙ sym (none_untaken after later none_picked)) m.hand_entries;
     free_count = m.free_count ∙ ap (λ (n : ℕ). n + all_posts (logged notes)) (sym same.size);
     cookies = cookies_after;
+    passed = passed_left notes a after g later refl (λ x. refl) refl m.passed;
   } where
     left : SameCookies slots pool
     left = same_cookies slots pool same
@@ -284,6 +286,7 @@ keeps_outstanding rules notes a slots k g board v n m h is arbiter same = record
     hand_entries = m.hand_entries;
     free_count = m.free_count;
     cookies = cookies_left notes slots slots (λ y. refl) a _ g refl m.cookies;
+    passed = passed_left notes a _ g g refl (λ x. refl) refl m.passed;
   });
   apart = h.apart;
   none_pending = h.none_pending;
@@ -346,6 +349,7 @@ keeps_table rules notes a slots k g table t h is sized = record {
     hand_entries = m.hand_entries;
     free_count = m.free_count;
     cookies = cookies_left notes slots slots (λ y. refl) a _ g refl m.cookies;
+    passed = passed_left notes a _ g g refl (λ x. refl) refl m.passed;
   });
   apart = h.apart;
   none_pending = h.none_pending;

@@ -1,8 +1,10 @@
 -- What a controller may note, after what it noted before.
 -- (Base Specification, Command Submission and Completion Mechanism, Command Arbitration, Admin Command Set; tags, windows, outstanding places: profile)
-use Rattle.std.specs.Prelude.{◌≡◌, ℕ, ◌+◌, ◌<◌, ◌≤◌, Bool, true, false, ◌∷◌, length, Some, None, slice_get, MatchBool, ◌==◌}
+use Rattle.std.specs.Prelude.{◌≡◌, ℕ, ◌+◌, ◌<◌, ◌≤◌, Bool, true, false, ◌∷◌, length, Some, None, slice_get, MatchBool, ◌==◌, ◌&&◌}
 use Rattle.std.specs.List.{list_any}
+use Rattle.nvme_entry.specs.Status.{StatusCode}
 use Rattle.nvme_entry.specs.declared.submission.Sqe.{Sqe}
+use Rattle.nvme_entry.specs.declared.completion.Cqe.{Cqe}
 use Rattle.nvme_arbiter.specs.Lawful.{IsLawfulRun}
 use Rattle.nvme_log.specs.declared.event.Event.{Event}
 use Rattle.nvme_log.specs.declared.event.Event.TheVariants.{Fetch, Post}
@@ -11,16 +13,17 @@ use Rattle.nvme_log.specs.Queues.{is_open_region, open_cq}
 use Rattle.nvme_log.specs.Places.{fetched, fate_of, is_picked, entry_at}
 use Rattle.nvme_log.specs.Histories.{arbitration_of}
 use Rattle.nvme_log.specs.Effects.{made_last, effects_since, EffectsAtOnce}
-use Rattle.nvme_log.specs.Dispatches.{place_at, dispatched}
+use Rattle.nvme_log.specs.Dispatches.{place_at}
 use Rattle.nvme_log.specs.Completions.{posted_to, own_status, own_dw0}
 use Rattle.nvme_log.specs.Answers.{Answer, by_answers}
 use Rattle.nvme_log.specs.Account.{IndexCounts, ServedWhileOpen, Observed, Deletes, PostsOwnBy, LeavesPlaces, deleting_place}
 use Rattle.nvme_arbiter.specs.Limits.{queue_limit}
 use Rattle.nvme_log.specs.Rules.{upto}
-use Rattle.nvme_log.specs.Aborts.{is_index}
-use Rattle.nvme_ctrl.specs.Notes.{Notes, Note, Logged, Tail, Head, Kept, Taken, Answered, EachNote, logged}
+use Rattle.nvme_log.specs.Aborts.{is_index, just_picked}
+use Rattle.nvme_ctrl.specs.Notes.{Notes, Note, Logged, Tail, Head, Kept, Passed, Taken, Answered, EachNote, logged}
 use Rattle.nvme_ctrl.specs.Doorbells.{sq_slots, cq_slots, submitted, consumed}
-use Rattle.nvme_ctrl.specs.Tags.{taken, holder, answer_of, cookie_of, answers, is_through}
+use Rattle.nvme_ctrl.specs.Own.{may_be_own}
+use Rattle.nvme_ctrl.specs.Tags.{is_passed, is_of_device, handed, taken, holder, answer_of, cookie_of, answers, is_through}
 
 -- ---- events
 -- a fetch takes a command that the host submitted (Submission Queue y Tail Doorbell)
@@ -38,6 +41,22 @@ abbrev pub PostsWhatIsThrough : Notes → Event → Type 0
 PostsWhatIsThrough notes (Post c r i cqe) = is_through notes r i ≡ true
 PostsWhatIsThrough notes e = Unit {0}
 
+-- a completion is the own one of its place. An admin command that was passed on has the status and Command Dword 0 of the device's answer, and all else
+-- is as it would be without (Completion Queue Entry)
+pub record PostsAnswer (rules : FrontRules) (notes : Notes) (c i : ℕ) (cqe : Cqe) : Type 0 where
+  pub answer : Answer
+  pub answered : answer_of notes 0 i ≡ Some answer
+  pub status_is : cqe.status ≡ answer.status
+  pub dw0_is : cqe.dw0 ≡ answer.dw0
+  pub other_status : StatusCode
+  pub other_dw0 : ℕ
+  pub all_else : PostsOwnBy rules (by_answers (answers notes)) (logged notes) (Post c 0 i (record cqe { status = other_status; dw0 = other_dw0 }))
+
+abbrev pub PostsOwn : FrontRules → Notes → Event → Type 0
+PostsOwn rules notes (Post c r i cqe) =
+    MatchBool (r == 0 && is_passed notes i) (PostsAnswer rules notes c i cqe) (PostsOwnBy rules (by_answers (answers notes)) (logged notes) (Post c r i cqe))
+PostsOwn rules notes e = Unit {0}
+
 -- an event is lawful: it is one of an accounted log, where commands are answered as the notes say, and follows the doorbells
 pub record IsLawfulEvent (rules : FrontRules) (notes : Notes) (e : Event) : Type 0 where
   pub index_counts : IndexCounts (logged notes) e
@@ -45,7 +64,7 @@ pub record IsLawfulEvent (rules : FrontRules) (notes : Notes) (e : Event) : Type
   pub observed : Observed (logged notes) e
   pub effects_at_once : EffectsAtOnce rules (logged notes) e
   pub deletes : Deletes (logged notes) e
-  pub posts_own : PostsOwnBy rules (by_answers (answers notes)) (logged notes) e
+  pub posts_own : PostsOwn rules notes e
   pub leaves_places : LeavesPlaces rules (logged notes) e
   pub fetches_submitted : FetchesSubmitted rules notes e
   pub posts_on_free_slot : PostsOnFreeSlot rules notes e
@@ -75,9 +94,19 @@ pub record IsKept (notes : Notes) (r i : ℕ) : Type 0 where
   pub first : cookie_of notes r i ≡ None
 
 -- ---- the device
--- the device takes the picked commands of I/O queues in the order of the picks, each under a tag that stands for no command
+-- an admin command is passed on to the device at once when it was picked, where the controller has no part in it
+pub record IsPassed (notes : Notes) (i : ℕ) : Type 0 where
+  pub latest : just_picked (logged notes) ≡ Some i
+  pub picked : is_picked (fate_of (logged notes) 0 i) ≡ true
+  pub entry : Sqe
+  pub is_there : entry_at (logged notes) 0 i ≡ Some entry
+  pub may_be : may_be_own entry ≡ true
+  pub first : is_passed notes i ≡ false
+  pub unanswered : answer_of notes 0 i ≡ None
+
+-- the device takes the picked commands that are its own in the order of the picks, each under a tag that stands for no command
 pub record IsTaken (notes : Notes) (tag r i : ℕ) : Type 0 where
-  pub next : slice_get (dispatched (logged notes)) (length (taken notes)) ≡ Some (place_at r i)
+  pub next : slice_get (handed notes) (length (taken notes)) ≡ Some (place_at r i)
   pub free : holder notes tag ≡ None
 
 -- the controller carried out an admin command: all that it makes is there, and a deletion that it began is finished
@@ -95,10 +124,10 @@ pub record HasTag (notes : Notes) (r i : ℕ) : Type 0 where
   pub tag : ℕ
   pub stands : holder notes tag ≡ Some (place_at r i)
 
--- a command is answered once: an admin command when it is carried out, any other by the device, which has it
+-- a command is answered once: one of the device's by the device, which has it, and any other when it is carried out
 pub record IsAnswer (rules : FrontRules) (notes : Notes) (r i : ℕ) (answer : Answer) : Type 0 where
   pub first : answer_of notes r i ≡ None
-  pub executed : MatchBool (r == 0) (IsCarriedOut rules notes i answer) (HasTag notes r i)
+  pub executed : MatchBool (is_of_device notes r i) (HasTag notes r i) (IsCarriedOut rules notes i answer)
 
 -- ---- all of it
 abbrev pub IsLawful : FrontRules → Notes → Note → Type 0
@@ -106,6 +135,7 @@ IsLawful rules notes (Logged e) = IsLawfulEvent rules notes e
 IsLawful rules notes (Tail r slot) = IsTail rules notes r slot
 IsLawful rules notes (Head c slot) = IsHead rules notes c slot
 IsLawful rules notes (Kept r i cookie) = IsKept notes r i
+IsLawful rules notes (Passed i) = IsPassed notes i
 IsLawful rules notes (Taken tag r i) = IsTaken notes tag r i
 IsLawful rules notes (Answered r i answer) = IsAnswer rules notes r i answer
 

@@ -18,15 +18,20 @@ use Rattle.nvme_log.specs.Account.{IsAccountBy, latest_admin_place}
 use Rattle.nvme_log.specs.Laws.{PicksPlace}
 use Rattle.nvme_ctrl.specs.Notes.{Notes, Logged, logged}
 use Rattle.nvme_ctrl.specs.Doorbells.{sq_slots, cq_slots, submitted, consumed}
-use Rattle.nvme_ctrl.specs.Tags.{holder, answer_of, answers}
+use Rattle.nvme_ctrl.specs.Tags.{is_passed, is_of_device, holder, answer_of, answers}
 use Rattle.nvme_ctrl.specs.Account.{IsAccount}
 use Rattle.nvme_ctrl.specs.Standing.{Stands}
 use Rattle.nvme_ctrl.specs.declared.slot.Slot.{Slot}
 use Rattle.nvme_ctrl.specs.declared.state.Controller.{Controller}
 
--- the events of a controller's log are those of an accounted log, where the device answers: so every law of such logs holds of it
+-- no admin command was passed on
+abbrev pub NonePassed : Notes → Type 0
+NonePassed notes = (i : ℕ) → is_passed notes i ≡ false
+
+-- the events of a controller's log, where no admin command was passed on, are those of an accounted log, where the device answers: so every law of such
+-- logs holds of it
 abbrev pub EventsAreAccounted : Type 0
-EventsAreAccounted = (rules : FrontRules) (notes : Notes) (sent : ℕ → List Sqe) (collected : ℕ → List Cqe) → IsAccount rules notes
+EventsAreAccounted = (rules : FrontRules) (notes : Notes) (sent : ℕ → List Sqe) (collected : ℕ → List Cqe) → NonePassed notes → IsAccount rules notes
     → ((r : ℕ) → IsPrefix (fetched (logged notes) r) (sent r)) → ((c : ℕ) → IsPrefix (collected c) (posted_to (logged notes) c))
     → IsAccountBy rules (by_answers (answers notes)) sent (logged notes) collected
 
@@ -41,12 +46,12 @@ abbrev pub SlotsAreFetchedInOrder : Type 0
 SlotsAreFetchedInOrder = (rules : FrontRules) (later before : Notes) (r i : ℕ) (entry : Sqe) → IsAccount rules (later ++ Logged (event.Fetch r i entry) ∷ before)
     → FetchesTheNext rules before r i
 
--- a place was aborted, or its command was answered; the completion of an I/O command has that answer
+-- a place was aborted, or its command was answered; the completion of a command that is the device's has that answer
 pub record AnswersPlace (before : Notes) (r i : ℕ) (cqe : Cqe) : Type 0 where
   pub answer : Answer
   pub answered : answer_of before r i ≡ Some answer
-  pub status : r ≢ 0 → cqe.status ≡ answer.status
-  pub dw0 : r ≢ 0 → cqe.dw0 ≡ answer.dw0
+  pub status : is_of_device before r i ≡ true → cqe.status ≡ answer.status
+  pub dw0 : is_of_device before r i ≡ true → cqe.dw0 ≡ answer.dw0
 
 -- a completion is posted after the command's answer or its abort
 abbrev pub CompletionsFollowAnswers : Type 0

@@ -2,6 +2,7 @@ pub mod Notes
 pub mod Doorbells
 pub mod Tags
 pub mod Rings
+pub mod Own
 pub mod Account
 pub mod kept
 pub mod inside

@@ -14,9 +14,11 @@ pub data Note : Type 0 where
   Head : (c slot : ℕ) → Note
   -- the caller keeps a number with a command that was fetched, its cookie
   Kept : (r i cookie : ℕ) → Note
+  -- the controller passed a picked admin command on to the device, whose command it is
+  Passed : (i : ℕ) → Note
   -- the device took a picked command, which has this tag from now until its completion is posted
   Taken : (tag r i : ℕ) → Note
-  -- a picked command was answered: one of an I/O queue by the device, an admin command by the controller
+  -- a picked command was answered: one of an I/O queue or one that was passed on by the device, any other admin command by the controller
   Answered : (r i : ℕ) (answer : Answer) → Note
 
 abbrev pub Notes : Type 0

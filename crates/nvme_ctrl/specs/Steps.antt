@@ -13,18 +13,17 @@ use Rattle.nvme_log.specs.Histories.{arbitration_of}
 use Rattle.nvme_log.specs.Aborts.{places_for}
 use Rattle.nvme_log.specs.Effects.{made_by}
 use Rattle.nvme_log.specs.Answers.{Answer}
-use Rattle.nvme_log.specs.Dispatches.{dispatched}
 use Rattle.nvme_log.specs.Limits.{max_outstanding}
-use Rattle.nvme_ctrl.specs.Tags.{taken}
+use Rattle.nvme_ctrl.specs.Tags.{handed, taken}
 use Rattle.nvme_log.specs.Queues.{Deletion, pending}
 use Rattle.nvme_log.specs.Completions.{unposted_of, outstanding}
 use Rattle.nvme_log.specs.Account.{deleting_place}
-use Rattle.nvme_ctrl.specs.Notes.{Notes, Logged, Answered, logged}
+use Rattle.nvme_ctrl.specs.Notes.{Notes, Logged, Passed, Answered, logged}
 use Rattle.nvme_ctrl.specs.Standing.{Stands}
 use Rattle.nvme_ctrl.specs.declared.slot.Slot.{Slot}
 use Rattle.nvme_ctrl.specs.declared.state.Controller.{Controller}
 use Rattle.nvme_ctrl.specs.declared.picks.Step.{Step}
-use Rattle.nvme_ctrl.specs.declared.picks.Step.TheVariants.{Idle, Busy, Full, Picked, Done}
+use Rattle.nvme_ctrl.specs.declared.picks.Step.TheVariants.{Idle, Busy, Full, Picked, Passed as PassedOn, Done}
 
 -- the next pick is the lawful one, on exactly what waits
 abbrev pub IsNextPick : FrontRules → Notes → Option Pick → Type 0
@@ -54,9 +53,17 @@ pub record HasCarriedOut (rules : FrontRules) (late : Bool) (notes : Notes) (ver
   pub answer : Option Answer
   pub stands : Stands rules late (with_answer index answer (with_logged (made_by (logged notes) verdict) (picked_notes notes pick))) c slots
 
+-- a pick of the admin queue, whose command is passed on to the device
+pub record HasPassed (rules : FrontRules) (late : Bool) (notes : Notes) (pick : Pick) (c : Controller) (slots : List Slot) : Type 0 where
+  pub of_admin : pick.qid ≡ 0
+  pub next : IsNextPick rules notes (Some pick)
+  pub index : ℕ
+  pub oldest : slice_get (waiting (logged notes) 0) 0 ≡ Some index
+  pub stands : Stands rules late (Passed index ∷ picked_notes notes pick) c slots
+
 -- commands are picked that the device hasn't taken, or a deletion is pending
 abbrev pub IsBusy : Notes → Type 0
-IsBusy notes = (length (taken notes) < length (dispatched (logged notes))) ⊎ (pending (logged notes) ≢ None)
+IsBusy notes = (length (taken notes) < length (handed notes)) ⊎ (pending (logged notes) ≢ None)
 
 -- the next pick needs more places than are free
 pub record LacksPlaces (rules : FrontRules) (notes : Notes) : Type 0 where
@@ -70,6 +77,7 @@ HasStepped rules late notes Idle c slots = Stands rules late notes c slots × Is
 HasStepped rules late notes Busy c slots = Stands rules late notes c slots × IsBusy notes
 HasStepped rules late notes Full c slots = Stands rules late notes c slots × LacksPlaces rules notes
 HasStepped rules late notes (Picked pick) c slots = IsNextPick rules notes (Some pick) × Stands rules late (picked_notes notes pick) c slots
+HasStepped rules late notes (PassedOn pick) c slots = HasPassed rules late notes pick c slots
 HasStepped rules late notes (Done effect) c slots = HasCarriedOut rules late notes (verdict_in effect) c slots
 
 -- no deletion can be finished: none is pending, or a command of its queue has no completion posted yet

@@ -1,14 +1,32 @@
 -- The commands that the device has, their tags and their answers, and what the caller keeps with them.
 -- (Base Specification, Completion Queue Entry; tags: profile)
-use Rattle.std.specs.Prelude.{ℕ, ◌+◌, ◌==◌, ◌&&◌, ◌||◌, Bool, false, if◌then◌else◌, List, [], ◌∷◌, ◌++◌, Option, Some, None, is_none, is_some}
+use Rattle.std.specs.Prelude.{ℕ, ◌+◌, ◌==◌, ◌&&◌, ◌||◌, Bool, false, not, if◌then◌else◌, List, [], ◌∷◌, ◌++◌, Option, Some, None, is_none, is_some}
 use Rattle.nvme_entry.specs.Status.{success}
-use Rattle.nvme_log.specs.declared.event.Event.TheVariants.{Fetch, Post}
+use Rattle.nvme_log.specs.declared.event.Event.TheVariants.{Fetch, Pick, Post}
 use Rattle.nvme_log.specs.Rules.{Past}
 use Rattle.nvme_log.specs.Places.{is_aborted}
 use Rattle.nvme_log.specs.declared.place.Place.{Place}
-use Rattle.nvme_log.specs.Dispatches.{place_at}
+use Rattle.nvme_log.specs.Queues.{open_sq}
+use Rattle.nvme_log.specs.Dispatches.{place_at, dispatched_by}
 use Rattle.nvme_log.specs.Answers.{Answer, Answers}
-use Rattle.nvme_ctrl.specs.Notes.{Notes, Logged, Kept, Taken, Answered, logged}
+use Rattle.nvme_ctrl.specs.Notes.{Notes, Logged, Kept, Passed, Taken, Answered, logged}
+
+-- an admin command was passed on to the device
+abbrev pub is_passed : Notes → ℕ → Bool
+is_passed [] i = false
+is_passed (Passed index ∷ notes) i = index == i || is_passed notes i
+is_passed (note ∷ notes) i = is_passed notes i
+
+-- a command is the device's to answer: one of an I/O queue, or an admin command that was passed on
+abbrev pub is_of_device : Notes → ℕ → ℕ → Bool
+is_of_device notes r i = not (r == 0) || is_passed notes i
+
+-- the places whose commands the device is to take, in order: those of the picks of I/O queues, and the admin commands that were passed on
+abbrev pub handed : Notes → List Place
+handed [] = []
+handed (Logged (Pick seen pick) ∷ notes) = handed notes ++ dispatched_by (logged notes) pick (open_sq (logged notes) pick.qid)
+handed (Passed i ∷ notes) = handed notes ++ place_at 0 i ∷ []
+handed (note ∷ notes) = handed notes
 
 -- the places whose commands the device took, in order
 abbrev pub taken : Notes → List Place

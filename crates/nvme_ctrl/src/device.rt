@@ -15,10 +15,10 @@ impl Controller {
     ghost use Rattle.std.specs.Prelude.{◌≡◌, ℕ, ◌≢◌, Bool, true, false, List, ◌∷◌, None, Some, IfSome};
     ghost use Rattle.nvme_log.specs.Rules.{FrontRules};
     ghost use Rattle.nvme_log.specs.Answers as log;
-    ghost use Rattle.nvme_log.specs.Dispatches.{dispatched};
-    ghost use Rattle.nvme_ctrl.specs.Notes.{Notes, logged};
-    ghost use Rattle.nvme_ctrl.specs.Tags.{is_out, taken};
+    ghost use Rattle.nvme_ctrl.specs.Notes.{Notes};
+    ghost use Rattle.nvme_ctrl.specs.Tags.{is_out, handed, taken};
     ghost use Rattle.nvme_ctrl.specs.Standing.{Stands, IsController};
+    ghost use Rattle.nvme_ctrl.specs.Own.{own_of};
     ghost use Rattle.nvme_ctrl.specs.Calls.{HasTaken, HasAnswered};
     ghost use Rattle.nvme_ctrl.specs.declared.slot.Slot.{Slot};
 
@@ -28,7 +28,8 @@ impl Controller {
         requires front { IsController self.old slots.old }
         ensures front { IsController self.new slots.new }
         ensures none { result ≡ None → (self.new ≡ self.old) × (slots.new ≡ slots.old) }
-        ensures told { (rules : FrontRules) (late : Bool) (notes : Notes) → Stands rules late notes self.old slots.old → result ≡ None → dispatched (logged notes) ≡ taken notes }
+        ensures own { own_of self.new ≡ own_of self.old }
+        ensures told { (rules : FrontRules) (late : Bool) (notes : Notes) → Stands rules late notes self.old slots.old → result ≡ None → handed notes ≡ taken notes }
         ensures stands { (rules : FrontRules) (late : Bool) (notes : Notes) → Stands rules late notes self.old slots.old → IfSome result (λ tag. HasTaken rules late notes tag self.new slots.new) }
     {
         if self.picked == 0 {
@@ -50,6 +51,7 @@ impl Controller {
         requires front { IsController self.old slots.old }
         ensures front { IsController self.new slots.new }
         ensures refused { result ≡ false → (self.new ≡ self.old) × (slots.new ≡ slots.old) }
+        ensures own { own_of self.new ≡ own_of self.old }
         ensures answer { (rules : FrontRules) (late : Bool) (notes : Notes) → Stands rules late notes self.old slots.old → result ≡ is_out notes tag }
         ensures stands { (rules : FrontRules) (late : Bool) (notes : Notes) → Stands rules late notes self.old slots.old → result ≡ true → HasAnswered rules late notes tag (record { status = answer.status; dw0 = answer.dw0 }) self.new slots.new }
     {

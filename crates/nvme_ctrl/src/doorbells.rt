@@ -7,6 +7,7 @@ impl Controller {
     ghost use Rattle.nvme_log.specs.Rules.{FrontRules};
     ghost use Rattle.nvme_ctrl.specs.Notes.{Notes};
     ghost use Rattle.nvme_ctrl.specs.Standing.{Stands, IsController};
+    ghost use Rattle.nvme_ctrl.specs.Own.{own_of};
     ghost use Rattle.nvme_ctrl.specs.Calls.{window_limit, TailRung, HeadRung, IsTailOf, IsHeadOf};
     ghost use Rattle.nvme_ctrl.specs.declared.slot.Slot.{Slot};
 
@@ -14,6 +15,7 @@ impl Controller {
     /// where it has no such slot, and where its ring hasn't as many free slots: the doorbell value is invalid then.
     pub fn sq_tail(&mut self, qid: u16, slot: u16) -> bool
         ensures window { window_limit self.new ≡ window_limit self.old }
+        ensures own { own_of self.new ≡ own_of self.old }
         ensures refused { result ≡ false → self.new ≡ self.old }
         ensures front { (slots : List Slot) → IsController self.old slots → IsController self.new slots }
         ensures answer { (rules : FrontRules) (late : Bool) (notes : Notes) (slots : List Slot) → Stands rules late notes self.old slots → IsTrue result ↔ IsTailOf rules notes qid slot }
@@ -35,6 +37,7 @@ impl Controller {
     /// where it has no such slot, and where not as many completions were posted: the doorbell value is invalid then.
     pub fn cq_head(&mut self, cqid: u16, slot: u16) -> bool
         ensures window { window_limit self.new ≡ window_limit self.old }
+        ensures own { own_of self.new ≡ own_of self.old }
         ensures refused { result ≡ false → self.new ≡ self.old }
         ensures front { (slots : List Slot) → IsController self.old slots → IsController self.new slots }
         ensures answer { (rules : FrontRules) (late : Bool) (notes : Notes) (slots : List Slot) → Stands rules late notes self.old slots → IsTrue result ↔ IsHeadOf rules notes cqid slot }

@@ -31,8 +31,9 @@ impl Controller {
     ghost use Rattle.nvme_arbiter.specs.declared.settings.Mechanism.{Mechanism};
     ghost use Rattle.nvme_arbiter.specs.declared.settings.Class.TheVariants.{Admin};
     ghost use Rattle.nvme_admin.specs.Effects.{verdict_in};
+    ghost use Rattle.nvme_ctrl.specs.Own.{own_of};
     ghost use Rattle.nvme_ctrl.specs.Steps.{HasCarriedOut};
-    ghost use Rattle.nvme_ctrl.specs.Tags.{answer_of};
+    ghost use Rattle.nvme_ctrl.specs.Tags.{answer_of, is_passed};
     ghost use Rattle.nvme_ctrl.specs.declared.slot.Slot.{Slot};
     ghost use Rattle.nvme_ctrl.specs.inside.Carrying.{IsApplied, IsApplying, opening, IsDroppable, dropped, HasDropped, oldest_dropped, item_dropped, deleting, HasBegun, HasNoneNamed, IsAbortable, MayAbort, HasRequested};
     ghost use Rattle.nvme_admin.specs.declared.bounds.TheConstants.{MAX_REGIONS};
@@ -40,7 +41,7 @@ impl Controller {
     ghost use Rattle.nvme_ctrl.specs.Notes.{Notes};
     ghost use Rattle.nvme_ctrl.specs.kept.Content.{Candidate, Ready, Content, with_ready};
     ghost use Rattle.nvme_log.specs.Dispatches.{place_at};
-    ghost use Rattle.nvme_ctrl.specs.kept.Kept.{Item, Items, IsThrough, IsCookie};
+    ghost use Rattle.nvme_ctrl.specs.kept.Kept.{Item, Items, IsThrough, IsCookie, is_passed_at};
     ghost use Rattle.nvme_ctrl.specs.inside.Loose.{IsLoose, Keeps, MakesReady, ended, with_item};
     ghost use Rattle.nvme_ctrl.specs.kept.Pool.{slot_at, item_at};
 
@@ -53,7 +54,7 @@ impl Controller {
         answer: Answer,
         region: u8,
     )
-        ensures kept { (rules : FrontRules) (notes : Notes) (k : Content) (g : Items) (t : Ready) → Keeps rules notes self.old slots.old k g → IsLoose slots.old g tag → MakesReady slots.old tag state answer.status answer.dw0 t → IsThrough notes t → IsCookie notes slots.old tag t.place → region < MAX_REGIONS → Keeps rules notes self.new slots.new (with_ready k region t) (with_item g region (ended tag t)) }
+        ensures kept { (rules : FrontRules) (notes : Notes) (k : Content) (g : Items) (t : Ready) → Keeps rules notes self.old slots.old k g → IsLoose slots.old g tag → MakesReady slots.old tag state answer.status answer.dw0 t → IsThrough notes t → IsCookie notes slots.old tag t.place → t.passed ≡ is_passed_at notes t.place → region < MAX_REGIONS → Keeps rules notes self.new slots.new (with_ready k region t) (with_item g region (ended tag t)) }
         ensures left { self.new ≡ record self.old { cqs = self.new.cqs } }
         ensures size { length slots.new ≡ length slots.old }
         ensures others { (y : ℕ) → y ≢ tag → item_at slots.new y ≡ item_at slots.old y }
@@ -95,7 +96,8 @@ impl Controller {
     // answered when the deletion is finished. (Delete I/O Submission Queue)
     fn begin_delete(&mut self, slots: &mut [Slot], tag: u16, qid: u16, region: u8)
         requires on_board { IsSome (queue_at (board_of self.old.board).queues qid) }
-        ensures begun { (rules : FrontRules) (notes : Notes) (k : Content) (g : Items) (c : ℕ) (candidate : Candidate) → Keeps rules notes self.old slots.old k g → self.old.picked ≡ 0 → IsLoose slots.old g tag → (slot_at slots.old tag).entry ≡ candidate.entry → answer_of notes 0 candidate.index ≡ None → IsCookie notes slots.old tag (place_at 0 candidate.index) → IsDroppable notes k qid region c → (k.sq region).unposted + length (k.sq region).window < 2 ^ 16 → HasBegun rules notes (deleting k qid region c candidate) self.new slots.new }
+        ensures own { own_of self.new ≡ own_of self.old }
+        ensures begun { (rules : FrontRules) (notes : Notes) (k : Content) (g : Items) (c : ℕ) (candidate : Candidate) → Keeps rules notes self.old slots.old k g → self.old.picked ≡ 0 → IsLoose slots.old g tag → (slot_at slots.old tag).entry ≡ candidate.entry → answer_of notes 0 candidate.index ≡ None → IsCookie notes slots.old tag (place_at 0 candidate.index) → is_passed notes candidate.index ≡ false → IsDroppable notes k qid region c → (k.sq region).unposted + length (k.sq region).window < 2 ^ 16 → HasBegun rules notes (deleting k qid region c candidate) self.new slots.new }
     {
         let mut sq = self.sq(region);
         sq.unposted = sq.unposted.saturating_add(sq.window.len);
@@ -152,6 +154,7 @@ impl Controller {
     // nothing, where there is no such command. (Abort)
     fn abort(&mut self, slots: &mut [Slot], sqid: u16, cid: u16) -> bool
         requires may { MayAbort self.old slots.old sqid cid }
+        ensures own { own_of self.new ≡ own_of self.old }
         ensures none { result ≡ false → (self.new ≡ self.old) × (slots.new ≡ slots.old) }
         ensures none_named { (rules : FrontRules) (notes : Notes) (k : Content) (g : Items) → result ≡ false → Keeps rules notes self.old slots.old k g → self.old.picked ≡ 0 → HasNoneNamed k sqid cid }
         ensures aborted { (rules : FrontRules) (notes : Notes) (k : Content) (g : Items) (y : ℕ) → result ≡ true → Keeps rules notes self.old slots.old k g → self.old.picked ≡ 0 → IsAbortable notes k sqid cid → IsLoose slots.old g y → HasRequested rules notes k sqid cid slots.old y self.new slots.new }
@@ -181,6 +184,7 @@ impl Controller {
     // Puts new settings of arbitration in force. (Arbitration feature)
     fn set_arbitration(&mut self, settings: Settings)
         requires is_arbiter { IsTrue (is_arbiter self.old.board.arbiter) }
+        ensures own { own_of self.new ≡ own_of self.old }
         ensures kept { (rules : FrontRules) (notes : Notes) (slots : List Slot) (k : Content) (g : Items) → Keeps rules notes self.old slots k g → Keeps rules notes self.new slots (record k { board = board_of self.new.board }) g }
         ensures queues { (board_of self.new.board).queues ≡ (board_of self.old.board).queues }
         ensures stands { (mechanism : Mechanism) (first : ArbitrationFields) (h : History) → BoardStandsAt mechanism first h (board_of self.old.board) → BoardStandsAt mechanism first (Changed settings ∷ h) (board_of self.new.board) }
@@ -191,6 +195,7 @@ impl Controller {
     /// Carries out the effect of a picked admin command, which is in this slot.
     pub(crate) fn carry_out(&mut self, slots: &mut [Slot], tag: u16, effect: &Effect)
         requires applied { IsApplying self.old slots.old effect.now }
+        ensures own { own_of self.new ≡ own_of self.old }
         ensures stands { (rules : FrontRules) (late : Bool) (notes : Notes) → IsApplied rules late notes self.old slots.old tag effect.now → HasCarriedOut rules late notes (verdict_in effect.now) self.new slots.new }
     {
         match *effect {

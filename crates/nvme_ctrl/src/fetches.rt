@@ -10,6 +10,7 @@ impl Controller {
     ghost use Rattle.nvme_log.specs.Rules.{FrontRules};
     ghost use Rattle.nvme_ctrl.specs.Notes.{Notes};
     ghost use Rattle.nvme_ctrl.specs.Standing.{Stands, IsController};
+    ghost use Rattle.nvme_ctrl.specs.Own.{own_of};
     ghost use Rattle.nvme_ctrl.specs.Calls.{window_limit, MayFetch, HasFetched};
     ghost use Rattle.nvme_ctrl.specs.inside.Fetching.{IsFetchable};
     ghost use Rattle.nvme_ctrl.specs.declared.slot.Slot.{Slot};
@@ -50,6 +51,7 @@ impl Controller {
         ensures front { IsController self.new slots.new }
         ensures told { (rules : FrontRules) (late : Bool) (notes : Notes) → Stands rules late notes self.old slots.old → (slot : ℕ) → MayFetch rules notes (window_limit self.old) (length slots.old) qid slot → result ≡ true }
         ensures window { window_limit self.new ≡ window_limit self.old }
+        ensures own { own_of self.new ≡ own_of self.old }
         ensures size { length slots.new ≡ length slots.old }
         ensures refused { result ≡ false → (self.new ≡ self.old) × (slots.new ≡ slots.old) }
         ensures stands { (rules : FrontRules) (late : Bool) (notes : Notes) → Stands rules late notes self.old slots.old → result ≡ true → HasFetched rules late notes qid entry.now cookie self.new slots.new }

@@ -13,6 +13,7 @@ ghost use Rattle.nvme_ctrl.specs.Rings.{first_ring};
 ghost use Rattle.nvme_ctrl.specs.kept.State.{no_sq_state, no_cq_state};
 
 use crate::chain::Chain;
+use crate::own::OwnCommands;
 use crate::ring::Ring;
 use crate::slot::{Slot, put_item};
 use crate::state::{Controller, CqState, Deletion, SqState};
@@ -26,6 +27,7 @@ impl Controller {
     ghost use Rattle.nvme_ctrl.specs.Notes.{Notes};
     ghost use Rattle.nvme_ctrl.specs.Standing.{Stands, IsController};
     ghost use Rattle.nvme_ctrl.specs.Calls.{window_limit};
+    ghost use Rattle.nvme_ctrl.specs.Own.{no_own, own_of, with_opcode, with_feature};
     ghost use Rattle.nvme_ctrl.specs.Making.{first_rules, with_region, is_late, admin_fault, adding_fault};
     ghost use Rattle.nvme_ctrl.specs.declared.slot.Slot.{Slot};
 
@@ -49,6 +51,7 @@ impl Controller {
         ensures front { IfOk result (λ c. IsController c slots.new) }
         ensures stands { (sizes : List ℕ) → IfOk result (λ c. Stands (first_rules mechanism settings limits sq cq sizes) false [] c slots.new) }
         ensures window { IfOk result (λ c. window_limit c ≡ window) }
+        ensures own { IfOk result (λ c. own_of c ≡ no_own) }
         ensures size { length slots.new ≡ length slots.old }
     {
         let table = first_table(settings, limits, sq, cq)?;
@@ -68,6 +71,7 @@ impl Controller {
                 qid: 0,
                 tag: 0,
             },
+            own: OwnCommands::none(),
         })
     }
 
@@ -90,10 +94,36 @@ impl Controller {
         ensures front { OnOk result (IsController self.new slots.new) }
         ensures stands { (sizes : List ℕ) → OnOk result (Stands (first_rules mechanism settings limits sq cq sizes) false [] self.new slots.new) }
         ensures window { OnOk result (window_limit self.new ≡ window) }
+        ensures own { OnOk result (own_of self.new ≡ no_own) }
         ensures size { length slots.new ≡ length slots.old }
     {
         *self = Controller::new(mechanism, settings, limits, window, sq, cq, slots)?;
         Ok(())
+    }
+
+    /// From now on the admin commands of an opcode are the device's: they are picked in their turn, and the device takes
+    /// and answers them as it does commands of I/O queues, at any later time. A fused one isn't, and an opcode of the
+    /// controller's own stays the controller's. The device checks PSDT itself. (Base Specification, Opcodes for Admin
+    /// Commands)
+    pub fn own_opcode(&mut self, opcode: u8)
+        ensures own { own_of self.new ≡ with_opcode opcode (own_of self.old) }
+        ensures window { window_limit self.new ≡ window_limit self.old }
+        ensures front { (pool : List Slot) → IsController self.old pool → IsController self.new pool }
+        ensures stands { (rules : FrontRules) (late : Bool) (notes : Notes) (pool : List Slot) → Stands rules late notes self.old pool → Stands rules late notes self.new pool }
+    {
+        self.own.add_opcode(opcode);
+    }
+
+    /// From now on Set Features and Get Features of a feature identifier are the device's, as those of an opcode are by
+    /// `own_opcode`. Of Arbitration and Number of Queues just a Get Features is that selects another value than the
+    /// current one. (Base Specification, Set Features, Get Features, Select)
+    pub fn own_feature(&mut self, fid: u8)
+        ensures own { own_of self.new ≡ with_feature fid (own_of self.old) }
+        ensures window { window_limit self.new ≡ window_limit self.old }
+        ensures front { (pool : List Slot) → IsController self.old pool → IsController self.new pool }
+        ensures stands { (rules : FrontRules) (late : Bool) (notes : Notes) (pool : List Slot) → Stands rules late notes self.old pool → Stands rules late notes self.new pool }
+    {
+        self.own.add_feature(fid);
     }
 
     /// Adds a submission region of `slots` slots, and answers its number, which counts from 0 in the order of adding.
@@ -102,6 +132,7 @@ impl Controller {
     pub fn add_sq_region(&mut self, address: u64, slots: u16) -> Result<u8, AdminError>
         ensures unchanged { OnErr result (self.new ≡ self.old) }
         ensures window { window_limit self.new ≡ window_limit self.old }
+        ensures own { own_of self.new ≡ own_of self.old }
         ensures front { (pool : List Slot) → IsController self.old pool → IsController self.new pool }
         ensures refused { (rules : FrontRules) (late : Bool) (notes : Notes) (pool : List Slot) → Stands rules late notes self.old pool → IfErr result (λ e. adding_fault Submission address slots rules ≡ Some e) }
         ensures added { (rules : FrontRules) (late : Bool) (notes : Notes) (pool : List Slot) → Stands rules late notes self.old pool → OnOk result (adding_fault Submission address slots rules ≡ None) }
@@ -119,6 +150,7 @@ impl Controller {
     pub fn add_cq_region(&mut self, address: u64, slots: u16) -> Result<u8, AdminError>
         ensures unchanged { OnErr result (self.new ≡ self.old) }
         ensures window { window_limit self.new ≡ window_limit self.old }
+        ensures own { own_of self.new ≡ own_of self.old }
         ensures front { (pool : List Slot) → IsController self.old pool → IsController self.new pool }
         ensures refused { (rules : FrontRules) (late : Bool) (notes : Notes) (pool : List Slot) → Stands rules late notes self.old pool → IfErr result (λ e. adding_fault Completion address slots rules ≡ Some e) }
         ensures added { (rules : FrontRules) (late : Bool) (notes : Notes) (pool : List Slot) → Stands rules late notes self.old pool → OnOk result (adding_fault Completion address slots rules ≡ None) }

@@ -17,6 +17,8 @@ pub enum Step {
     Full,
     /// Commands of an I/O queue were picked, for the device to take.
     Picked(Pick),
+    /// A command of the admin queue was picked that is the device's, which is to take it.
+    Passed(Pick),
     /// A command of the admin queue was picked and carried out.
     Done(Effect),
 }
@@ -31,6 +33,9 @@ impl Controller {
     ghost use Rattle.nvme_log.specs.Aborts.{is_abort_entry};
     ghost use Rattle.nvme_ctrl.specs.Notes.{Notes};
     ghost use Rattle.nvme_ctrl.specs.Standing.{Stands, IsController};
+    ghost use Rattle.nvme_arbiter.specs.declared.pick.Pick.{Pick};
+    ghost use Rattle.nvme_admin.specs.declared.effect.Effect.{Effect};
+    ghost use Rattle.nvme_ctrl.specs.Own.{is_own, own_of, oldest_is_own};
     ghost use Rattle.nvme_ctrl.specs.Steps.{IsNextPick, HasStepped};
     ghost use Rattle.nvme_ctrl.specs.inside.Picks.{CanPickNow, oldest_entry, places_in};
     ghost use Rattle.nvme_ctrl.specs.declared.slot.Slot.{Slot};
@@ -61,6 +66,7 @@ impl Controller {
     fn pick_io(&mut self, slots: &[Slot], pick: Pick)
         requires can { CanPickNow self.old slots.now pick }
         requires io { pick.qid ≢ 0 }
+        ensures own { own_of self.new ≡ own_of self.old }
         ensures stands { (rules : FrontRules) (late : Bool) (notes : Notes) → Stands rules late notes self.old slots.now → HasStepped rules late notes (step.Picked pick) self.new slots.now }
     {
         self.board.keep(pick);
@@ -75,10 +81,36 @@ impl Controller {
         self.picked_region = queue.region;
     }
 
+    // Whether the oldest command of the admin queue's window is the device's.
+    fn is_own(&self, slots: &[Slot]) -> bool
+        ensures { result ≡ is_own self.now.own (oldest_entry self.now slots.now) }
+    {
+        let oldest = slot_at(slots, self.sq(0).window.first);
+        self.own.has(&oldest.entry)
+    }
+
+    // Makes the next pick, which is of the admin queue. Its command is the device's, which is to take it.
+    fn pass(&mut self, slots: &[Slot], pick: Pick)
+        requires can { CanPickNow self.old slots.now pick }
+        requires of_admin { pick.qid ≡ 0 }
+        requires own { is_own self.old.own (oldest_entry self.old slots.now) ≡ true }
+        ensures left { own_of self.new ≡ own_of self.old }
+        ensures stands { (rules : FrontRules) (late : Bool) (notes : Notes) → Stands rules late notes self.old slots.now → HasStepped rules late notes (step.Passed pick) self.new slots.now }
+    {
+        self.board.keep(pick);
+        let mut sq = self.sq(0);
+        sq.unposted = sq.unposted.saturating_add(1);
+        self.put_sq(0, sq);
+        self.outstanding = self.outstanding.saturating_add(1);
+        self.picked = 1;
+        self.picked_region = 0;
+    }
+
     // Makes the next pick, which is of the admin queue, and carries the command out.
     fn pick_admin(&mut self, slots: &mut [Slot], pick: Pick) -> Effect
         requires can { CanPickNow self.old slots.old pick }
         requires of_admin { pick.qid ≡ 0 }
+        ensures own { own_of self.new ≡ own_of self.old }
         ensures stands { (rules : FrontRules) (late : Bool) (notes : Notes) → Stands rules late notes self.old slots.old → HasStepped rules late notes (step.Done result) self.new slots.new }
     {
         self.board.keep(pick);
@@ -93,13 +125,18 @@ impl Controller {
         effect
     }
 
-    /// Makes the next pick of arbitration, if there is one and its places are free. Where it makes none, nothing changes.
+    /// Makes the next pick of arbitration, if there is one and its places are free. Where it makes none, nothing changes. A
+    /// command of the admin queue is passed on to the device exactly where it is the device's (`own_opcode`,
+    /// `own_feature`).
     pub fn pick(&mut self, slots: &mut [Slot]) -> Step
         requires front { IsController self.old slots.old }
         ensures front { IsController self.new slots.new }
         ensures idle { result ≡ step.Idle → (self.new ≡ self.old) × (slots.new ≡ slots.old) }
         ensures busy { result ≡ step.Busy → (self.new ≡ self.old) × (slots.new ≡ slots.old) }
         ensures full { result ≡ step.Full → (self.new ≡ self.old) × (slots.new ≡ slots.old) }
+        ensures passed { (rules : FrontRules) (late : Bool) (notes : Notes) → Stands rules late notes self.old slots.old → (pick : Pick) → result ≡ step.Passed pick → oldest_is_own (own_of self.old) notes ≡ Some true }
+        ensures carried_out { (rules : FrontRules) (late : Bool) (notes : Notes) → Stands rules late notes self.old slots.old → (effect : Effect) → result ≡ step.Done effect → oldest_is_own (own_of self.old) notes ≡ Some false }
+        ensures own { own_of self.new ≡ own_of self.old }
         ensures stands { (rules : FrontRules) (late : Bool) (notes : Notes) → Stands rules late notes self.old slots.old → HasStepped rules late notes result self.new slots.new }
     {
         if self.picked != 0 || self.deletion.pending != 0 {
@@ -111,11 +148,14 @@ impl Controller {
         if self.places_for(slots, pick) > MAX_OUTSTANDING.saturating_sub(self.outstanding) {
             return Step::Full;
         }
-        if pick.qid == 0 {
-            Step::Done(self.pick_admin(slots, pick))
-        } else {
+        if pick.qid != 0 {
             self.pick_io(slots, pick);
             Step::Picked(pick)
+        } else if self.is_own(slots) {
+            self.pass(slots, pick);
+            Step::Passed(pick)
+        } else {
+            Step::Done(self.pick_admin(slots, pick))
         }
     }
 }

@@ -3,6 +3,7 @@ ghost use Rattle.std.specs.Prelude.{◌≡◌, slice_set};
 ghost use Rattle.nvme_ctrl.specs.kept.State.{sq_at, cq_at};
 
 use crate::chain::Chain;
+use crate::own::OwnCommands;
 use crate::ring::Ring;
 use nvme_admin::{MAX_REGIONS, TableFields};
 use nvme_arbiter::BoardFields;
@@ -64,9 +65,11 @@ pub struct Controller {
     pub(crate) outstanding: u16,
     /// How many commands are picked and not taken.
     pub(crate) picked: u16,
-    /// Their region.
+    /// Their region. Region 0 has one where it is the device's.
     pub(crate) picked_region: u8,
     pub(crate) deletion: Deletion,
+    /// The admin commands that are the device's.
+    pub(crate) own: OwnCommands,
 }
 
 impl SqState {

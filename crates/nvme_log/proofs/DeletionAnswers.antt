@@ -124,31 +124,17 @@ deletes_answered_last rules middle before qid r c i cqe at_once deletes post pla
     ]
 
 -- ---- after the deletion began
--- a place whose completion was posted doesn't wait
-posted-waits_not : (rules : FrontRules) (executor : Executor) (past : Past) → Each (PostsOwnBy rules executor) past → (r i : ℕ) → is_posted past r i ≡ true → is_waiting (fate_of past r i) ≡ false
-posted-waits_not rules executor [] h r i p = cc p
-posted-waits_not rules executor (Post c region index cqe ∷ past) h r i p =
-    stays (Post c region index cqe) past r i (by (region == r && index == i) refl p (posted-waits_not rules executor past h.1 r i))
-  where
-    by : (b : Bool) → (region == r && index == i) ≡ b → (b || is_posted past r i) ≡ true → (is_posted past r i ≡ true → is_waiting (fate_of past r i) ≡ false) → is_waiting (fate_of past r i) ≡ false
-    by true e k earlier =
-        let same = and_parts (region == r) (index == i) e in
-        subst (λ (z : ℕ). is_waiting (fate_of past r z) ≡ false) (eqb-true index i same.1)
-        (subst (λ (z : ℕ). is_waiting (fate_of past z index) ≡ false) (eqb-true region r same.0) h.0.1)
-    by false e k earlier = earlier k
-posted-waits_not rules executor (e ∷ past) h r i p = stays e past r i (posted-waits_not rules executor past h.1 r i p)
-
--- no place of the queue waits when the next pick comes
-pub none-picked_after : (rules : FrontRules) (executor : Executor) (middle before : Past) (qid r i : ℕ) → Each (EffectsAtOnce rules) (middle ++ Closing qid r ∷ before)
-    → Each Deletes (middle ++ Closing qid r ∷ before) → Each (PostsOwnBy rules executor) (middle ++ Closing qid r ∷ before)
+-- no place of the queue waits when the next pick comes, where none waits whose completion was posted
+pub none-picked_after : (rules : FrontRules) (middle before : Past) (qid r i : ℕ) → Each (EffectsAtOnce rules) (middle ++ Closing qid r ∷ before)
+    → Each Deletes (middle ++ Closing qid r ∷ before) → (is_posted (middle ++ Closing qid r ∷ before) r i ≡ true → is_waiting (fate_of (middle ++ Closing qid r ∷ before) r i) ≡ false)
     → pending (middle ++ Closing qid r ∷ before) ≡ None → IsIn i (waiting (middle ++ Closing qid r ∷ before) r) → ⊥
-none-picked_after rules executor middle before qid r i at_once deletes own none waits =
+none-picked_after rules middle before qid r i at_once deletes done none waits =
     let past : Past = middle ++ Closing qid r ∷ before in
     elim (since rules middle before qid r at_once deletes) [
       | inl begun ↦ (let some = begun.pending_is in cc)
       | inr closed ↦
           let it = in-waits past r i waits in
           let posted : is_posted past r i ≡ true = all_below (λ (k : ℕ). is_posted past r k) (length (fetched past r)) (closed-all_posted past deletes r closed) i it.0 in
-          let not : is_waiting (fate_of past r i) ≡ false = posted-waits_not rules executor past own r i posted in
+          let not : is_waiting (fate_of past r i) ≡ false = done posted in
           let yes = it.1 in cc
     ]

@@ -87,7 +87,7 @@ pub extern "C" fn nvmearb_ctrl_pick(
         Step::Idle => NOTHING,
         Step::Busy => BUSY,
         Step::Full => FULL,
-        Step::Picked(pick) => {
+        Step::Picked(pick) | Step::Passed(pick) => {
             *step = StepFields {
                 kind: PICKED,
                 answer: plain_answer(0),

@@ -141,3 +141,27 @@ pub extern "C" fn nvmearb_ctrl_add_cq_region(
         Err(error) => refusal(error),
     }
 }
+
+/// From now on the admin commands of an opcode are the device's, but for fused ones and those of the controller's own
+/// opcodes.
+#[unsafe(no_mangle)]
+pub extern "C" fn nvmearb_ctrl_own_opcode(state: &mut CtrlState, opcode: u8) -> u32
+{
+    if !is_ctrl(state) {
+        return BAD_STATE;
+    }
+    state.ctrl.own_opcode(opcode);
+    OK
+}
+
+/// From now on Set Features and Get Features of a feature identifier are the device's, but for fused ones. Of the
+/// controller's own features just a Get Features is that selects another value than the current one.
+#[unsafe(no_mangle)]
+pub extern "C" fn nvmearb_ctrl_own_feature(state: &mut CtrlState, fid: u8) -> u32
+{
+    if !is_ctrl(state) {
+        return BAD_STATE;
+    }
+    state.ctrl.own_feature(fid);
+    OK
+}

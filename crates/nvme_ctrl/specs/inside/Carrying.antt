@@ -95,6 +95,8 @@ pub record IsDroppable (notes : Notes) (k : Content) (qid region c : ℕ) : Type
   pub posts_there : c < 65
   pub attached : (k.sq region).queue ≡ Some (record { qid = qid; cq_region = c })
   pub are_aborted : All (λ (x : Candidate). is_aborted (logged notes) region x.index ≡ true) (k.sq region).window
+  -- it isn't the admin queue's
+  pub io : (region == 0) ≡ false
 
 -- the candidates of a region were dropped. A slot that is in no list is left
 pub record HasDropped (rules : FrontRules) (notes : Notes) (k : Content) (slots : List Slot) (y : ℕ) (c : Controller) (pool : List Slot) : Type 0 where
@@ -127,6 +129,7 @@ HasNoneNamed k sqid cid = (entry : SqEntry) → sqid ≢ 0 → sq_of k.table sqi
 -- the candidate that it names in an open queue is aborted in the log
 pub record IsAbortableIn (notes : Notes) (k : Content) (sqid cid : ℕ) (entry : SqEntry) : Type 0 where
   pub there : entry.region < 65
+  pub io : (entry.region == 0) ≡ false
   pub c : ℕ
   pub posts_there : c < 65
   pub attached : (k.sq entry.region).queue ≡ Some (record { qid = sqid; cq_region = c })

@@ -53,19 +53,19 @@ applied_to k board table = record (after_pick k admin_queue 1 board) { table = t
 
 -- the answer of a command of the admin queue
 abbrev pub told : Candidate → StatusCode → ℕ → Ready
-told c status dw0 = record { place = place_at 0 c.index; sqid = 0; cid = c.entry.cid; with_queue = false; status = status; dw0 = dw0 }
+told c status dw0 = record { place = place_at 0 c.index; sqid = 0; cid = c.entry.cid; with_queue = false; passed = false; status = status; dw0 = dw0 }
 
--- a command of an I/O queue that its device answered
+-- a command that the device answered
 abbrev pub done : (sqid : ℕ) → Place → (cid : ℕ) → Answer → Ready
-done sqid p cid answer = record { place = p; sqid = sqid; cid = cid; with_queue = false; status = answer.status; dw0 = answer.dw0 }
+done sqid p cid answer = record { place = p; sqid = sqid; cid = cid; with_queue = false; passed = p.region == 0; status = answer.status; dw0 = answer.dw0 }
 
 -- a candidate of a queue that was aborted with the queue
 abbrev pub aborted : (sqid r : ℕ) → Candidate → Ready
-aborted sqid r c = record { place = place_at r c.index; sqid = sqid; cid = c.entry.cid; with_queue = true; status = aborted_by_deletion; dw0 = 0 }
+aborted sqid r c = record { place = place_at r c.index; sqid = sqid; cid = c.entry.cid; with_queue = true; passed = false; status = aborted_by_deletion; dw0 = 0 }
 
 -- a candidate of a queue that an Abort command aborted
 abbrev pub requested : (sqid r : ℕ) → Candidate → Ready
-requested sqid r c = record { place = place_at r c.index; sqid = sqid; cid = c.entry.cid; with_queue = false; status = abort_requested; dw0 = 0 }
+requested sqid r c = record { place = place_at r c.index; sqid = sqid; cid = c.entry.cid; with_queue = false; passed = false; status = abort_requested; dw0 = 0 }
 
 -- the oldest candidate of a window with a command identifier
 abbrev pub oldest_named : ℕ → List Candidate → Option Candidate

@@ -12,12 +12,14 @@ pub record Candidate : Type 0 where
   pub index : ℕ
   pub entry : Sqe
 
--- a picked or aborted command whose completion waits to be posted. One that was aborted with its queue takes no outstanding place
+-- a picked or aborted command whose completion waits to be posted. One that was aborted with its queue takes no outstanding place. An admin command
+-- that was passed on has the device's answer
 pub record Ready : Type 0 where
   pub place : Place
   pub sqid : ℕ
   pub cid : ℕ
   pub with_queue : Bool
+  pub passed : Bool
   pub status : StatusCode
   pub dw0 : ℕ
 

@@ -1,19 +1,19 @@
 -- When a controller keeps some content, and stands at its log (profile).
-use Rattle.std.specs.Prelude.{◌≡◌, ◌≢◌, ℕ, ◌+◌, ◌<◌, ◌≤◌, ◌^◌, ◌==◌, ◌⊎◌, Bool, true, false, if◌then◌else◌, List, [], ◌∷◌, ◌++◌, length, map, take, drop, Option, Some, None, IsTrue}
+use Rattle.std.specs.Prelude.{◌≡◌, ◌≢◌, ℕ, ◌+◌, ◌<◌, ◌≤◌, ◌^◌, ◌==◌, ◌&&◌, ◌⊎◌, Bool, true, false, if◌then◌else◌, List, [], ◌∷◌, ◌++◌, length, map, take, drop, Option, Some, None, IsTrue}
 use Rattle.std.specs.List.{All}
 use Rattle.nvme_entry.specs.declared.submission.Sqe.{Sqe}
 use Rattle.nvme_arbiter.specs.Layout.{is_arbiter, board_of}
 use Rattle.nvme_admin.specs.Layout.{view_of}
 use Rattle.nvme_admin.specs.Standing.{IsSized}
 use Rattle.nvme_log.specs.Rules.{FrontRules, Past}
-use Rattle.nvme_log.specs.Places.{fetched, is_aborted, entry_at}
+use Rattle.nvme_log.specs.Places.{fetched, is_aborted, entry_at, fate_of, is_waiting}
 use Rattle.nvme_log.specs.Completions.{posted_to, phase_after}
-use Rattle.nvme_log.specs.Dispatches.{place_at, dispatched}
+use Rattle.nvme_log.specs.Dispatches.{place_at}
 use Rattle.nvme_log.specs.declared.place.Place.{Place}
 use Rattle.nvme_ctrl.specs.Notes.{Notes, logged}
 use Rattle.nvme_ctrl.specs.Doorbells.{submitted, consumed}
 use Rattle.nvme_ctrl.specs.Rings.{HasCounts}
-use Rattle.nvme_ctrl.specs.Tags.{taken, holder, answer_of, cookie_of, is_out, all_fetches, all_posts}
+use Rattle.nvme_ctrl.specs.Tags.{is_passed, is_of_device, handed, taken, holder, answer_of, cookie_of, is_out, all_fetches, all_posts}
 use Rattle.nvme_ctrl.specs.Account.{IsAccount}
 use Rattle.nvme_ctrl.specs.declared.slot.Slot.{Slot}
 use Rattle.nvme_ctrl.specs.declared.state.Controller.{Controller}
@@ -197,9 +197,26 @@ pub record HoldsCookies (notes : Notes) (c : Controller) (slots : List Slot) (g 
   pub deletion : c.deletion.pending ≢ 0 → IsCookie notes slots c.deletion.tag (place_at 0 g.delete_index)
   pub none : (r i : ℕ) → length (fetched (logged notes) r) ≤ i → cookie_of notes r i ≡ None
 
+-- the place of an admin command that was passed on
+abbrev pub is_passed_at : Notes → Place → Bool
+is_passed_at notes p = p.region == 0 && is_passed notes p.index
+
+abbrev pub IsDevices : Notes → Place → Type 0
+IsDevices notes p = is_of_device notes p.region p.index ≡ true
+
+abbrev pub IsReadyOf : Notes → ReadyItem → Type 0
+IsReadyOf notes y = y.ready.passed ≡ is_passed_at notes y.ready.place
+
+-- what was handed over is the device's, and what was passed on waits no longer. What is ready was passed on or not, and the pending Delete wasn't
+pub record HoldsPassed (notes : Notes) (c : Controller) (g : Items) : Type 0 where
+  pub all_handed : All (IsDevices notes) (handed notes)
+  pub served : (i : ℕ) → is_passed notes i ≡ true → is_waiting (fate_of (logged notes) 0 i) ≡ false
+  pub readies : (x : ℕ) → All (IsReadyOf notes) (g.readies x)
+  pub deletion : c.deletion.pending ≢ 0 → is_passed notes g.delete_index ≡ false
+
 -- the tags, the answers and the cookies are those of the log
 pub record HoldsTags (notes : Notes) (c : Controller) (slots : List Slot) (g : Items) : Type 0 where
-  pub untaken_are : dispatched (logged notes) ≡ taken notes ++ places_of (untaken c g)
+  pub untaken_are : handed notes ≡ taken notes ++ places_of (untaken c g)
   pub outs_held : All (λ (it : Item). holder notes it.tag ≡ Some it.place) g.outs
   pub readies_held : (x : ℕ) → All (λ (y : ReadyItem). y.was_out ≡ true → holder notes y.tag ≡ Some y.ready.place) (g.readies x)
   pub none_held : (t : ℕ) → (slot_at slots t).state ≢ 2 → (slot_at slots t).state ≢ 3 → holder notes t ≡ None
@@ -215,6 +232,7 @@ pub record HoldsTags (notes : Notes) (c : Controller) (slots : List Slot) (g : I
   -- each slot that isn't free has a command that was fetched and whose completion isn't posted
   pub free_count : c.free.len + all_fetches (logged notes) ≡ length slots + all_posts (logged notes)
   pub cookies : HoldsCookies notes c slots g
+  pub passed : HoldsPassed notes c g
 
 -- a controller stands at its log. The log is accounted where no region was added after its first event
 pub record StandsAt (rules : FrontRules) (late : Bool) (notes : Notes) (c : Controller) (slots : List Slot) : Type 0 where

@@ -92,12 +92,11 @@ pub record HoldsReady (past : Past) (k : Content) (hand : List Place) : Type 0 w
   pub admin_region : cq_region_of past 0 ≡ Some 0
 
 -- ---- places in hand
--- a picked place of an I/O queue that has no answer: its entry, and the completion region of its queue
+-- a picked place that the device is to answer: its entry, and the completion region of its queue
 pub record IsInHand (past : Past) (p : Place) : Type 0 where
   pub entry : Sqe
   pub is_there : entry_at past p.region p.index ≡ Some entry
   pub not_aborted : is_aborted past p.region p.index ≡ false
-  pub io : (p.region == 0) ≡ false
   pub cq_region : ℕ
   pub attached : cq_region_of past p.region ≡ Some cq_region
 
@@ -222,11 +221,15 @@ abbrev pub answer_in : Ready → Answer
 answer_in t = record { status = t.status; dw0 = t.dw0 }
 
 -- a ready completion has the status and the Dword 0 of its place, where it is its answer
-pub record HasOwnStatus (rules : FrontRules) (past : Past) (t : Ready) : Type 0 where
+pub record HasItsStatus (rules : FrontRules) (past : Past) (t : Ready) : Type 0 where
   pub entry : Sqe
   pub is_there : entry_at past t.place.region t.place.index ≡ Some entry
   pub status : t.status ≡ own_status_by rules (answer_in t) past t.place.region t.place.index entry
   pub dw0 : t.dw0 ≡ own_dw0_by rules (answer_in t) past t.place.region t.place.index entry
+
+-- but for that of an admin command that was passed on
+abbrev pub HasOwnStatus : FrontRules → Past → Ready → Type 0
+HasOwnStatus rules past t = t.passed ≡ false → HasItsStatus rules past t
 
 -- the deletion that is pending is answered with success
 abbrev pub deleted_answer : Answer

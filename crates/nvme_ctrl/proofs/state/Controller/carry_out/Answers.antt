@@ -1,3 +1,4 @@
+use Rattle.nvme_ctrl.specs.declared.state.Controller.{Controller}
 use Rattle.std.proofs.Common.{refl, ap, ◌∙◌, subst, inl, inr}
 use Rattle.nvme_entry.specs.Status.{success}
 use Rattle.nvme_arbiter.specs.Board.{BoardView}
@@ -38,12 +39,14 @@ abort-requires c =
 
 pub returns-in-Done : goal.returns-in-Done
 returns-in-Done c = record {
+  own = ap (λ (z : Controller). z.own) c.end.ensures.left;
   stands = λ rules late notes. carried_as rules late notes c.args.self.now c.args.slots.now c.args.tag c.args.effect.now (effect.Done c.in-Done.status c.in-Done.dw0) c.end.new.self c.end.new.slots c.in-Done.is
       (λ h. ended_plain rules late notes c.args.self.now c.args.slots.now c.args.tag (effect.Done c.in-Done.status c.in-Done.dw0) h c.in-Done.status c.in-Done.dw0 tt refl c.end.new.self c.end.new.slots c.end.ensures.kept);
 }
 
 pub returns-in-OpenSq : goal.returns-in-OpenSq
 returns-in-OpenSq c = record {
+  own = ap (λ (z : Controller). z.own) c.end-in-OpenSq.ensures.left ∙ ap (λ (z : Controller). z.own) c.open_sq.ensures.left;
   stands = λ rules late notes. carried_as rules late notes c.args.self.now c.args.slots.now c.args.tag c.args.effect.now
       (effect.OpenSq c.in-OpenSq.qid c.in-OpenSq.region c.in-OpenSq.cqid c.in-OpenSq.cq_region c.in-OpenSq.class) c.end-in-OpenSq.new.self c.end-in-OpenSq.new.slots c.in-OpenSq.is
       (λ h. ended_opened rules late notes c.args.self.now c.args.slots.now c.args.tag c.in-OpenSq.qid c.in-OpenSq.region c.in-OpenSq.cqid c.in-OpenSq.cq_region c.in-OpenSq.class h
@@ -53,6 +56,7 @@ returns-in-OpenSq c = record {
 
 pub returns-in-OpenCq : goal.returns-in-OpenCq
 returns-in-OpenCq c = record {
+  own = ap (λ (z : Controller). z.own) c.end-in-OpenCq.ensures.left;
   stands = λ rules late notes.
       let end = ends_as c.args.self.now c.args.slots.now c.args.tag c.success-in-OpenCq.result.status success c.success-in-OpenCq.result.dw0 0 c.end-in-OpenCq.new.self c.end-in-OpenCq.new.slots
       c.success-in-OpenCq.ensures.status c.success-in-OpenCq.ensures.dw0 c.end-in-OpenCq.ensures.kept in
@@ -66,6 +70,7 @@ returns-in-OpenCq c = record {
 
 pub returns-in-BeginDelete : goal.returns-in-BeginDelete
 returns-in-BeginDelete c = record {
+  own = c.begin_delete.ensures.own;
   stands = λ rules late notes. carried_as rules late notes c.args.self.now c.args.slots.now c.args.tag c.args.effect.now (effect.BeginDelete c.in-BeginDelete.qid c.in-BeginDelete.region)
       c.begin_delete.new.self c.begin_delete.new.slots c.in-BeginDelete.is
       (λ h. ended_begun rules late notes c.args.self.now c.args.slots.now c.args.tag c.in-BeginDelete.qid c.in-BeginDelete.region h c.begin_delete.new.self c.begin_delete.new.slots c.begin_delete.ensures.begun);
@@ -73,6 +78,7 @@ returns-in-BeginDelete c = record {
 
 pub returns-after-abort : goal.returns-after-abort
 returns-after-abort c = record {
+  own = ap (λ (z : Controller). z.own) c.end-in-Abort.ensures.left ∙ c.abort.ensures.own;
   stands = λ rules late notes. carried_as rules late notes c.args.self.now c.args.slots.now c.args.tag c.args.effect.now (effect.Abort c.in-Abort.sqid c.in-Abort.cid) c.end-in-Abort.new.self c.end-in-Abort.new.slots c.in-Abort.is
       (λ h.
       let end = ends_as c.abort.new.self c.abort.new.slots c.args.tag c.success-in-Abort.result.status success c.success-in-Abort.result.dw0 c.if-abort.dw0 c.end-in-Abort.new.self c.end-in-Abort.new.slots
@@ -87,6 +93,7 @@ returns-after-abort c = record {
 
 pub returns-in-SetArbitration : goal.returns-in-SetArbitration
 returns-in-SetArbitration c = record {
+  own = ap (λ (z : Controller). z.own) c.end-in-SetArbitration.ensures.left ∙ c.set_arbitration.ensures.own;
   stands = λ rules late notes. carried_as rules late notes c.args.self.now c.args.slots.now c.args.tag c.args.effect.now (effect.SetArbitration c.in-SetArbitration.settings)
       c.end-in-SetArbitration.new.self c.end-in-SetArbitration.new.slots c.in-SetArbitration.is
       (λ h. ended_set rules late notes c.args.self.now c.args.slots.now c.args.tag c.in-SetArbitration.settings h c.set_arbitration.new.self c.end-in-SetArbitration.new.self c.end-in-SetArbitration.new.slots

@@ -1,9 +1,11 @@
-use Rattle.std.proofs.Common.{◌-◌, ◌<◌, Option, Some, subst, inl, inr, arith}
+use Rattle.std.specs.Prelude.{option_map}
+use Rattle.std.proofs.Common.{◌-◌, ◌<◌, Bool, ap, sym, ◌∙◌, Option, Some, subst, inl, inr, arith}
 use Rattle.nvme_arbiter.specs.declared.pick.Pick.{Pick}
 use Rattle.nvme_log.specs.Limits.{max_outstanding}
 use Rattle.nvme_ctrl.specs.Steps.{IsNextPick}
 use Rattle.nvme_ctrl.specs.inside.Picks.{places_in}
-use Rattle.nvme_ctrl.proofs.FullCall.{lacks_places}
+use Rattle.nvme_ctrl.specs.Own.{is_own}
+use Rattle.nvme_ctrl.proofs.FullCall.{lacks_places, entry_is}
 use Rattle.nvme_ctrl.proofs.PickCall.{next_is, is_busy}
 use Rattle.nvme_ctrl.proofs.state.Controller.pick.Goals as goal
 use Rattle.nvme_ctrl.proofs.state.Controller.pick.Goals.{then-self-ne0-via-then-self-ne0, then-self-ne0-via-else-self-ne0+then-self-ne0-2}
@@ -29,14 +31,35 @@ returns-then-places_for-saturating_sub-clause-stands c rules late notes s =
     (let a = c.if-places_for-saturating_sub.true in let b = c.places_for.ensures in let d = c.saturating_sub.ensures in omega (arith, a, b, d)) in
     (s, lacks_places rules late notes c.args.self.now c.args.slots.now s c.if-self-ne0.false c.in-Some.pick next lacking)
 
-pub returns-then-pick-eq0-clause-front : goal.returns-then-pick-eq0-clause-front
-returns-then-pick-eq0-clause-front c =
+pub returns-else-is_own-clause-front : goal.returns-else-is_own-clause-front
+returns-else-is_own-clause-front c =
     let was = c.requires.front in
     let step = c.pick_admin.ensures.stands was.rules was.late was.notes was.stands in
     record { rules = was.rules; late = was.late; notes = _; stands = step.stands }
 
-pub returns-else-pick-eq0-clause-front : goal.returns-else-pick-eq0-clause-front
-returns-else-pick-eq0-clause-front c =
+pub returns-then-pick-ne0-clause-front : goal.returns-then-pick-ne0-clause-front
+returns-then-pick-ne0-clause-front c =
     let was = c.requires.front in
     let step = c.pick_io.ensures.stands was.rules was.late was.notes was.stands in
     record { rules = was.rules; late = was.late; notes = _; stands = step.1 }
+
+pub returns-then-is_own-clause-front : goal.returns-then-is_own-clause-front
+returns-then-is_own-clause-front c =
+    let was = c.requires.front in
+    let step = c.pass.ensures.stands was.rules was.late was.notes was.stands in
+    record { rules = was.rules; late = was.late; notes = _; stands = step.stands }
+
+
+pub returns-then-is_own-clause-passed : goal.returns-then-is_own-clause-passed
+returns-then-is_own-clause-passed c rules late notes s given is =
+    let next : IsNextPick rules notes (Some c.in-Some.pick) =
+    subst (λ (o : Option Pick). IsNextPick rules notes o) c.in-Some.is (next_is rules late notes c.args.self.now c.args.slots.now s c.peek.result c.peek.ensures.lawful) in
+    ap (option_map (is_own c.args.self.now.own)) (sym (entry_is rules late notes c.args.self.now c.args.slots.now s c.if-self-ne0.false c.in-Some.pick next c.if-pick-ne0.false))
+    ∙ ap (λ (b : Bool). Some b) (sym c.is_own.ensures ∙ c.if-is_own.true)
+
+pub returns-else-is_own-clause-carried_out : goal.returns-else-is_own-clause-carried_out
+returns-else-is_own-clause-carried_out c rules late notes s given is =
+    let next : IsNextPick rules notes (Some c.in-Some.pick) =
+    subst (λ (o : Option Pick). IsNextPick rules notes o) c.in-Some.is (next_is rules late notes c.args.self.now c.args.slots.now s c.peek.result c.peek.ensures.lawful) in
+    ap (option_map (is_own c.args.self.now.own)) (sym (entry_is rules late notes c.args.self.now c.args.slots.now s c.if-self-ne0.false c.in-Some.pick next c.if-pick-ne0.false))
+    ∙ ap (λ (b : Bool). Some b) (sym c.is_own.ensures ∙ c.if-is_own.false)

@@ -1,3 +1,4 @@
+use Rattle.nvme_ctrl.specs.declared.state.Controller.{Controller}
 use Rattle.std.proofs.Common.{ℕ, ap, refl, ◌∙◌, Option}
 use Rattle.std.specs.Prelude.{unwrap_or}
 use Rattle.nvme_ctrl.proofs.AdminCall.{admin_call}
@@ -26,6 +27,7 @@ pub returns : goal.returns
 returns c =
     let a = c.args.self.now in
     record {
+      own = c.carry_out.ensures.own ∙ ap (λ (z : Controller). z.own) c.put_sq.ensures;
       stands = λ rules late notes s. c.carry_out.ensures.stands rules late notes
           (admin_call rules late notes a c.args.slots.now s c.requires.can.none_picked c.requires.can.none_pending c.args.pick c.keep.new.self (next_lawful a c.args.pick c.requires.can.next)
           c.keep.ensures.stands c.keep.ensures.queues c.keep.ensures.is_arbiter c.requires.can.places c.requires.of_admin

@@ -1,4 +1,5 @@
 -- The pick of the board is the next pick.
+use Rattle.std.proofs.Common.{refl}
 use Rattle.std.proofs.Common.{◌≡◌, ℕ, ◌+◌, sym, ap, subst, ◌∙◌}
 use Rattle.std.specs.Prelude.{slice_set, min}
 use Rattle.nvme_ctrl.specs.Steps.{HasStepped}
@@ -10,6 +11,7 @@ use Rattle.nvme_ctrl.proofs.state.Controller.pick_io.Goals as goal
 
 pub returns-in_default : goal.returns-in_default
 returns-in_default c = record {
+  own = refl;
   stands = λ rules late notes s.
       let self : Controller = c.args.self.now in
       let can = c.requires.can in
@@ -20,6 +22,7 @@ returns-in_default c = record {
 
 pub returns : goal.returns
 returns c = record {
+  own = ap (λ (z : Controller). z.own) c.put_sq.ensures;
   stands = λ rules late notes s.
       let self : Controller = c.args.self.now in
       let can = c.requires.can in

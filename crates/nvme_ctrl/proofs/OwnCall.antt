@@ -1,0 +1,72 @@
+-- Which commands are the device's is nothing that a log tells.
+use Rattle.std.proofs.Common.{Bool, List}
+use Rattle.nvme_log.specs.Rules.{FrontRules}
+use Rattle.nvme_ctrl.specs.Notes.{Notes}
+use Rattle.nvme_ctrl.specs.Standing.{IsController}
+use Rattle.nvme_ctrl.specs.declared.own.OwnCommands.{OwnCommands}
+use Rattle.nvme_ctrl.specs.declared.slot.Slot.{Slot}
+use Rattle.nvme_ctrl.specs.declared.state.Controller.{Controller}
+use Rattle.nvme_ctrl.specs.kept.Kept.{HasNumbers, HasItems, HoldsDoorbells, HoldsTags, HoldsCookies, HoldsPassed, StandsAt}
+
+-- a controller stands where it stood, whatever is the device's
+pub owned : (rules : FrontRules) (late : Bool) (notes : Notes) (c : Controller) (slots : List Slot) (own : OwnCommands) → StandsAt rules late notes c slots
+    → StandsAt rules late notes (record c { own = own }) slots
+owned rules late notes c slots own s = record {
+  content = s.content;
+  items = s.items;
+  holds = s.holds;
+  numbers = (let n = s.numbers in record {
+    table_is = n.table_is;
+    sized = n.sized;
+    board_is = n.board_is;
+    is_arbiter = n.is_arbiter;
+    outstanding_is = n.outstanding_is;
+    sq_queue = n.sq_queue;
+    sq_unposted = n.sq_unposted;
+    sq_slots = n.sq_slots;
+    cq_slots = n.cq_slots;
+    sq_some = n.sq_some;
+    sq_size = n.sq_size;
+    cq_size = n.cq_size;
+  });
+  has = (let m = s.has in record {
+    window_chain = m.window_chain;
+    window_items = m.window_items;
+    window_is = m.window_is;
+    picked_there = m.picked_there;
+    outs_items = m.outs_items;
+    outs_apart = m.outs_apart;
+    outs_all = m.outs_all;
+    hand_is = m.hand_is;
+    ready_chain = m.ready_chain;
+    ready_items = m.ready_items;
+    ready_is = m.ready_is;
+    deletion_is = m.deletion_is;
+    deletion_item = m.deletion_item;
+    deletion_inside = m.deletion_inside;
+    free_chain = m.free_chain;
+    free_items = m.free_items;
+    few = m.few;
+  });
+  doorbells = (let d = s.doorbells in record { sqs = d.sqs; cqs = d.cqs; phases = d.phases; no_tails = d.no_tails; no_heads = d.no_heads; no_posts = d.no_posts });
+  tags = (let t = s.tags in record {
+    untaken_are = t.untaken_are;
+    outs_held = t.outs_held;
+    readies_held = t.readies_held;
+    none_held = t.none_held;
+    through = t.through;
+    windows_unanswered = t.windows_unanswered;
+    outs_unanswered = t.outs_unanswered;
+    deletion_unanswered = t.deletion_unanswered;
+    none_answered = t.none_answered;
+    answered_held = t.answered_held;
+    hand_entries = t.hand_entries;
+    free_count = t.free_count;
+    cookies = (let q = t.cookies in record { windows = q.windows; outs = q.outs; readies = q.readies; deletion = q.deletion; none = q.none });
+    passed = (let p = t.passed in record { all_handed = p.all_handed; served = p.served; readies = p.readies; deletion = p.deletion });
+  });
+  account = s.account;
+}
+
+pub owned_front : (c : Controller) (slots : List Slot) (own : OwnCommands) → IsController c slots → IsController (record c { own = own }) slots
+owned_front c slots own is = record { rules = is.rules; late = is.late; notes = is.notes; stands = owned is.rules is.late is.notes c slots own is.stands }

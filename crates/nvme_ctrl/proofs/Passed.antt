@@ -1,0 +1,76 @@
+-- Which admin commands were passed on stays so.
+use Rattle.std.proofs.Common.{◌≡◌, ◌≢◌, ℕ, ◌==◌, ◌&&◌, ◌||◌, Bool, true, false, List, ◌∷◌, ◌++◌, length, Some, refl, sym, ap, ◌∙◌, subst}
+use Rattle.std.specs.Prelude.{not}
+use Rattle.std.specs.List.{All}
+use Rattle.std.proofs.lemmas.Bool.{eqb-true}
+use Rattle.std.proofs.lemmas.List.Elements.{All-weaker, All-append}
+use Rattle.nvme_log.specs.Places.{fate_of, is_waiting}
+use Rattle.nvme_log.specs.declared.place.Place.{Place}
+use Rattle.nvme_log.proofs.Members.{IsIn, in-all, in-append_left}
+use Rattle.nvme_ctrl.specs.Notes.{Notes, logged}
+use Rattle.nvme_ctrl.specs.Tags.{is_passed, is_of_device, handed, taken, holder}
+use Rattle.nvme_ctrl.specs.declared.state.Controller.{Controller}
+use Rattle.nvme_ctrl.specs.declared.state.Deletion.{Deletion}
+use Rattle.nvme_ctrl.specs.declared.slot.Slot.{Slot}
+use Rattle.nvme_ctrl.specs.kept.Kept.{Item, ReadyItem, Items, HoldsTags, IsDevices, IsReadyOf, HoldsPassed, is_passed_at, untaken, places_of}
+use Rattle.nvme_ctrl.proofs.OwnStatus.{All-unmap}
+use Rattle.nvme_ctrl.proofs.SlotItems.{All-parts}
+use Rattle.nvme_ctrl.proofs.TagLaws.{holder-taken}
+
+-- the same notes, completions and deletion
+pub passed_left : (notes : Notes) (c b : Controller) (f g : Items) → b.deletion ≡ c.deletion → ((x : ℕ) → g.readies x ≡ f.readies x) → g.delete_index ≡ f.delete_index
+    → HoldsPassed notes c f → HoldsPassed notes b g
+passed_left notes c b f g left readies index h = record {
+  all_handed = h.all_handed;
+  served = h.served;
+  readies = λ x. subst (All (IsReadyOf notes)) (sym (readies x)) (h.readies x);
+  deletion = subst (λ (d : Deletion). d.pending ≢ 0 → is_passed notes g.delete_index ≡ false) (sym left)
+      (subst (λ (i : ℕ). c.deletion.pending ≢ 0 → is_passed notes i ≡ false) (sym index) h.deletion);
+}
+
+-- other notes, which pass on and hand over the same
+pub passed_later : (notes later : Notes) (c : Controller) (g : Items) → ((i : ℕ) → is_passed later i ≡ is_passed notes i) → handed later ≡ handed notes
+    → ((i : ℕ) → is_waiting (fate_of (logged notes) 0 i) ≡ false → is_waiting (fate_of (logged later) 0 i) ≡ false)
+    → HoldsPassed notes c g → HoldsPassed later c g
+passed_later notes later c g same hands stays h = record {
+  all_handed = subst (All (IsDevices later)) (sym hands)
+      (All-weaker (IsDevices notes) (IsDevices later) (λ p is. ap (λ (b : Bool). not (p.region == 0) || b) (same p.index) ∙ is) (handed notes) h.all_handed);
+  served = λ i is. stays i (h.served i (sym (same i) ∙ is));
+  readies = λ x. All-weaker (IsReadyOf notes) (IsReadyOf later) (λ y is. is ∙ ap (λ (b : Bool). y.ready.place.region == 0 && b) (sym (same y.ready.place.index))) (g.readies x) (h.readies x);
+  deletion = λ some. same g.delete_index ∙ h.deletion some;
+}
+
+-- what a tag stands for is the device's
+pub held_is_devices : (notes : Notes) (c : Controller) (g : Items) → handed notes ≡ taken notes ++ places_of (untaken c g) → HoldsPassed notes c g
+    → (t : ℕ) (p : Place) → holder notes t ≡ Some p → IsDevices notes p
+held_is_devices notes c g hands h t p held =
+    in-all (IsDevices notes) p (taken notes ++ places_of (untaken c g)) (subst (All (IsDevices notes)) hands h.all_handed)
+    (in-append_left p (taken notes) (places_of (untaken c g)) (holder-taken notes t p held))
+
+-- of the admin queue just what was passed on is
+pub devices_passed : (notes : Notes) (p : Place) → IsDevices notes p → (p.region == 0) ≡ is_passed_at notes p
+devices_passed notes p is = by (p.region == 0) (is_passed notes p.index) is where
+  by : (a b : Bool) → (not a || b) ≡ true → a ≡ (a && b)
+  by true true h = refl
+  by true false h = cc h
+  by false b h = refl
+
+-- and a command that wasn't passed on is another
+pub not_passed : (notes : Notes) (p : Place) (i : ℕ) → IsDevices notes p → is_passed notes i ≡ false → (0 == p.region && i == p.index) ≡ false
+not_passed notes p i is none = by (0 == p.region) (i == p.index) refl refl where
+  by : (a b : Bool) → (0 == p.region) ≡ a → (i == p.index) ≡ b → (a && b) ≡ false
+  by true true e f =
+      let here : is_of_device notes 0 i ≡ true = subst (λ (r : ℕ). is_of_device notes r i ≡ true) (sym (eqb-true 0 p.region e))
+      (subst (λ (j : ℕ). is_of_device notes p.region j ≡ true) (sym (eqb-true i p.index f)) is) in
+      absurd (cc (here, none))
+  by true false e f = refl
+  by false b e f = refl
+
+-- what the device has, or is to take, is its own
+pub hand_is_devices : (notes : Notes) (c : Controller) (slots : List Slot) (g : Items) → HoldsTags notes c slots g → All (λ (it : Item). IsDevices notes it.place) (g.outs ++ untaken c g)
+hand_is_devices notes c slots g t =
+    All-append (λ (it : Item). IsDevices notes it.place) g.outs (untaken c g)
+    (All-weaker (λ (it : Item). holder notes it.tag ≡ Some it.place) (λ (it : Item). IsDevices notes it.place)
+    (λ it held. held_is_devices notes c g t.untaken_are t.passed it.tag it.place held) g.outs t.outs_held)
+    (All-unmap (IsDevices notes) (λ (it : Item). it.place) (untaken c g)
+    (All-parts (IsDevices notes) (taken notes) (places_of (untaken c g)) (subst (All (IsDevices notes)) t.untaken_are t.passed.all_handed)).1)
