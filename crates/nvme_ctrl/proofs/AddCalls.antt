@@ -17,7 +17,7 @@ use Rattle.nvme_log.specs.Histories.{table_history}
 use Rattle.nvme_log.specs.Rules.{FrontRules, sq_regions_of, cq_regions_of, slots_at}
 use Rattle.nvme_log.specs.Places.{fetched}
 use Rattle.nvme_log.specs.Completions.{posted_to, phase_after}
-use Rattle.nvme_ctrl.specs.Notes.{Notes, Logged, Tail, Head, Kept, Taken, Answered, logged}
+use Rattle.nvme_ctrl.specs.Notes.{Notes, Logged, Tail, Head, Kept, Taken, Answered, Marked, logged}
 use Rattle.nvme_ctrl.specs.Doorbells.{gap, sq_slots, cq_slots, submitted, consumed}
 use Rattle.nvme_ctrl.specs.Rings.{HasCounts, first_ring}
 use Rattle.nvme_ctrl.specs.Making.{with_region, is_late, adding_fault}
@@ -76,6 +76,7 @@ submitted_same rules others (Head c slot ∷ notes) r e = submitted_same rules o
 submitted_same rules others (Kept c i cookie ∷ notes) r e = submitted_same rules others notes r e
 submitted_same rules others (Taken tag c i ∷ notes) r e = submitted_same rules others notes r e
 submitted_same rules others (Answered c i answer ∷ notes) r e = submitted_same rules others notes r e
+submitted_same rules others (Marked c i marks ∷ notes) r e = submitted_same rules others notes r e
 
 consumed_same : (rules others : FrontRules) (notes : Notes) (r : ℕ) → cq_slots others r ≡ cq_slots rules r → consumed others notes r ≡ consumed rules notes r
 consumed_same rules others [] r e = refl
@@ -86,6 +87,7 @@ consumed_same rules others (Tail c slot ∷ notes) r e = consumed_same rules oth
 consumed_same rules others (Kept c i cookie ∷ notes) r e = consumed_same rules others notes r e
 consumed_same rules others (Taken tag c i ∷ notes) r e = consumed_same rules others notes r e
 consumed_same rules others (Answered c i answer ∷ notes) r e = consumed_same rules others notes r e
+consumed_same rules others (Marked c i marks ∷ notes) r e = consumed_same rules others notes r e
 
 -- a gap from slot 0 is as long as its end
 gap_from_0 : (n m slot : ℕ) → m ≡ 0 → gap n (m % n) slot ≡ slot
@@ -115,6 +117,7 @@ submitted_none rules others (Head c slot ∷ notes) r e = submitted_none rules o
 submitted_none rules others (Kept c i cookie ∷ notes) r e = submitted_none rules others notes r e
 submitted_none rules others (Taken tag c i ∷ notes) r e = submitted_none rules others notes r e
 submitted_none rules others (Answered c i answer ∷ notes) r e = submitted_none rules others notes r e
+submitted_none rules others (Marked c i marks ∷ notes) r e = submitted_none rules others notes r e
 
 consumed_none : (rules others : FrontRules) (notes : Notes) (r : ℕ) → consumed rules notes r ≡ 0 → consumed others notes r ≡ 0
 consumed_none rules others [] r e = refl
@@ -137,6 +140,7 @@ consumed_none rules others (Tail c slot ∷ notes) r e = consumed_none rules oth
 consumed_none rules others (Kept c i cookie ∷ notes) r e = consumed_none rules others notes r e
 consumed_none rules others (Taken tag c i ∷ notes) r e = consumed_none rules others notes r e
 consumed_none rules others (Answered c i answer ∷ notes) r e = consumed_none rules others notes r e
+consumed_none rules others (Marked c i marks ∷ notes) r e = consumed_none rules others notes r e
 
 -- ---- a controller that stands
 -- a region of which an identifier is told was opened for a queue
@@ -350,6 +354,8 @@ module _ (rules : FrontRules) (late : Bool) (notes : Notes) (c : Controller) (po
       hand_entries = t.hand_entries;
       free_count = t.free_count;
       cookies = cookies_left notes pool pool (λ y. refl) c _ s.items refl t.cookies;
+      none_marked = t.none_marked;
+      marks = t.marks;
     }
 
     -- the controller stands with the region
@@ -531,6 +537,8 @@ module _ (rules : FrontRules) (late : Bool) (notes : Notes) (c : Controller) (po
       hand_entries = t.hand_entries;
       free_count = t.free_count;
       cookies = cookies_left notes pool pool (λ y. refl) c _ s.items refl t.cookies;
+      none_marked = t.none_marked;
+      marks = t.marks;
     }
 
     -- the controller stands with the region

@@ -109,6 +109,8 @@ module _ (rules : FrontRules) (notes : Notes) (a : Controller) (slots : List Slo
     hand_entries = m.hand_entries;
     free_count = m.free_count ∙ ap (λ (n : ℕ). n + all_posts (logged notes)) (sym size);
     cookies = cookies_pending;
+    none_marked = m.none_marked;
+    marks = m.marks;
   } where
     left : SameCookies slots pool
     left = same_cookies-but slots pool tag others (ap (λ (s : Slot). s.cookie) here)

@@ -502,6 +502,8 @@ module _ (rules : FrontRules) (late : Bool) (notes : Notes) (c : Controller) (sl
           hand_entries = hand_entries_now;
           free_count = free_count_now;
           cookies = cookies_now;
+          none_marked = t.none_marked;
+          marks = t.marks;
         }
 
     lawful_now : late ≡ false → IsLawfulEvent rules notes (Fetch e.region index entry)

@@ -1,6 +1,6 @@
 -- What a controller may note, after what it noted before.
 -- (Base Specification, Command Submission and Completion Mechanism, Command Arbitration, Admin Command Set; tags, windows, outstanding places: profile)
-use Rattle.std.specs.Prelude.{◌≡◌, ℕ, ◌+◌, ◌<◌, ◌≤◌, Bool, true, false, ◌∷◌, length, Some, None, slice_get, MatchBool, ◌==◌}
+use Rattle.std.specs.Prelude.{◌≡◌, ℕ, ◌+◌, ◌<◌, ◌≤◌, Bool, true, false, ◌∷◌, length, Some, None, is_some, slice_get, MatchBool, ◌==◌}
 use Rattle.std.specs.List.{list_any}
 use Rattle.nvme_entry.specs.declared.submission.Sqe.{Sqe}
 use Rattle.nvme_arbiter.specs.Lawful.{IsLawfulRun}
@@ -18,9 +18,9 @@ use Rattle.nvme_log.specs.Account.{IndexCounts, ServedWhileOpen, Observed, Delet
 use Rattle.nvme_arbiter.specs.Limits.{queue_limit}
 use Rattle.nvme_log.specs.Rules.{upto}
 use Rattle.nvme_log.specs.Aborts.{is_index}
-use Rattle.nvme_ctrl.specs.Notes.{Notes, Note, Logged, Tail, Head, Kept, Taken, Answered, EachNote, logged}
+use Rattle.nvme_ctrl.specs.Notes.{Notes, Note, Logged, Tail, Head, Kept, Taken, Answered, Marked, EachNote, logged}
 use Rattle.nvme_ctrl.specs.Doorbells.{sq_slots, cq_slots, submitted, consumed}
-use Rattle.nvme_ctrl.specs.Tags.{taken, holder, answer_of, cookie_of, answers, is_through}
+use Rattle.nvme_ctrl.specs.Tags.{taken, holder, answer_of, cookie_of, marks_of, answers, is_through}
 
 -- ---- events
 -- a fetch takes a command that the host submitted (Submission Queue y Tail Doorbell)
@@ -100,6 +100,12 @@ pub record IsAnswer (rules : FrontRules) (notes : Notes) (r i : ℕ) (answer : A
   pub first : answer_of notes r i ≡ None
   pub executed : MatchBool (r == 0) (IsCarriedOut rules notes i answer) (HasTag notes r i)
 
+-- the device marks a completion once: that of a command that it has and answered
+pub record IsMarked (notes : Notes) (r i : ℕ) : Type 0 where
+  pub first : marks_of notes r i ≡ None
+  pub answered : is_some (answer_of notes r i) ≡ true
+  pub by_device : HasTag notes r i
+
 -- ---- all of it
 abbrev pub IsLawful : FrontRules → Notes → Note → Type 0
 IsLawful rules notes (Logged e) = IsLawfulEvent rules notes e
@@ -108,6 +114,7 @@ IsLawful rules notes (Head c slot) = IsHead rules notes c slot
 IsLawful rules notes (Kept r i cookie) = IsKept notes r i
 IsLawful rules notes (Taken tag r i) = IsTaken notes tag r i
 IsLawful rules notes (Answered r i answer) = IsAnswer rules notes r i answer
+IsLawful rules notes (Marked r i marks) = IsMarked notes r i
 
 pub record IsAccount (rules : FrontRules) (notes : Notes) : Type 0 where
   pub each : EachNote (IsLawful rules) notes

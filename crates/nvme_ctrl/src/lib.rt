@@ -16,6 +16,7 @@ mod fetches;
 pub mod laws;
 mod lookups;
 mod making;
+mod marks;
 mod picks;
 mod posts;
 mod ring;
@@ -23,6 +24,7 @@ mod slot;
 mod state;
 
 pub use device::Answer;
+pub use marks::Marks;
 pub use picks::Step;
 pub use posts::Post;
 pub use ring::Ring;
