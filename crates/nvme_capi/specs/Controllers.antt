@@ -1,5 +1,5 @@
 -- What a controller of C is, and what its calls write, in the library's terms (profile).
-use Rattle.std.specs.Prelude.{◌≡◌, ℕ, ◌==◌, ◌&&◌, nat_lt, Bool, true, false, List, [], length}
+use Rattle.std.specs.Prelude.{◌≡◌, ℕ, ◌+◌, ◌/◌, ◌%◌, ◌==◌, ◌&&◌, nat_lt, Bool, true, false, if◌then◌else◌, List, [], length, slice_index, slice_set}
 use Rattle.nvme_entry.specs.Completion.{IsCompletionEntry}
 use Rattle.nvme_entry.specs.declared.completion.Cqe.{Cqe}
 use Rattle.nvme_arbiter.specs.Settings.{settings_of}
@@ -15,6 +15,7 @@ use Rattle.nvme_ctrl.specs.Calls.{HasPosted}
 use Rattle.nvme_ctrl.specs.Posts.{IsPostOf}
 use Rattle.nvme_ctrl.specs.Steps.{HasCarriedOut}
 use Rattle.nvme_ctrl.specs.kept.Pool.{slot_at}
+use Rattle.nvme_ctrl.specs.declared.marks.Marks.{Marks}
 use Rattle.nvme_ctrl.specs.declared.slot.Slot.{Slot}
 use Rattle.nvme_ctrl.specs.declared.state.Controller.{Controller}
 use Rattle.nvme_capi.specs.Fields.{code_of}
@@ -68,15 +69,28 @@ pub record HasToldWhat (rules : FrontRules) (late : Bool) (notes : Notes) (told 
 abbrev pub device_answer : StatusFields → (dw0 : ℕ) → Answer
 device_answer f dw0 = record { status = code_of f; dw0 = dw0 }
 
+-- the marks that a number says: bit 0 is Do Not Retry, bit 1 is More
+abbrev pub marks_by : ℕ → Marks
+marks_by marks = record { more = marks / 2 == 1; do_not_retry = marks % 2 == 1 }
+
 -- ---- completions
+-- bytes are those of a completion queue entry with its marks: byte 15 has bits 31:24 of Dword 3, of which bits 29:28, CRD, are 0, bit 30 is More and
+-- bit 31 is Do Not Retry
+pub record IsMarkedEntry (bytes : List ℕ) (entry : Cqe) (marks : Marks) : Type 0 where
+  pub plain : List ℕ
+  pub layout : IsCompletionEntry plain entry
+  pub marked : bytes ≡ slice_set plain 15 (slice_index plain 15 % 0x10 + (if marks.more then 0x40 else 0) + (if marks.do_not_retry then 0x80 else 0))
+
 -- the bytes of a completion queue entry are told that is posted to a region, and the slot of the ring that they go into
 pub record HasPostedBytes (rules : FrontRules) (late : Bool) (notes : Notes) (region : ℕ) (f : PostFields) (c : Controller) (slots : List Slot) : Type 0 where
   pub cqe : Cqe
-  pub layout : IsCompletionEntry f.bytes cqe
-  pub posted : HasPosted rules late notes region f.slot cqe f.cookie c slots
+  pub marks : Marks
+  pub layout : IsMarkedEntry f.bytes cqe marks
+  pub posted : HasPosted rules late notes region f.slot cqe f.cookie marks c slots
 
 -- they are those of the command in the slot of the tag
 pub record IsPostIn (slots : List Slot) (f : PostFields) : Type 0 where
   pub cqe : Cqe
-  pub layout : IsCompletionEntry f.bytes cqe
-  pub command : IsPostOf (slot_at slots f.tag) cqe f.cookie
+  pub marks : Marks
+  pub layout : IsMarkedEntry f.bytes cqe marks
+  pub command : IsPostOf (slot_at slots f.tag) cqe f.cookie marks
