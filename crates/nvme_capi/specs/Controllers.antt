@@ -1,6 +1,6 @@
 -- What a controller of C is, and what its calls write, in the library's terms (profile).
-use Rattle.std.specs.Prelude.{◌≡◌, ℕ, ◌+◌, ◌/◌, ◌%◌, ◌==◌, ◌&&◌, nat_lt, Bool, true, false, if◌then◌else◌, List, [], length, slice_index, slice_set}
-use Rattle.nvme_entry.specs.Completion.{IsCompletionEntry}
+use Rattle.std.specs.Prelude.{◌≡◌, ℕ, ◌/◌, ◌%◌, ◌==◌, ◌&&◌, nat_lt, Bool, true, false, if◌then◌else◌, List, [], length}
+use Rattle.nvme_entry.specs.Bits.{bits_of, dword}
 use Rattle.nvme_entry.specs.declared.completion.Cqe.{Cqe}
 use Rattle.nvme_arbiter.specs.Settings.{settings_of}
 use Rattle.nvme_arbiter.specs.Layout.{mechanism_of}
@@ -74,12 +74,21 @@ abbrev pub marks_by : ℕ → Marks
 marks_by marks = record { more = marks / 2 == 1; do_not_retry = marks % 2 == 1 }
 
 -- ---- completions
--- bytes are those of a completion queue entry with its marks: byte 15 has bits 31:24 of Dword 3, of which bits 29:28, CRD, are 0, bit 30 is More and
--- bit 31 is Do Not Retry
+-- 16 bytes hold a completion queue entry with its marks: More is bit 30 of Dword 3, and Do Not Retry bit 31
+-- (Base Specification, Completion Queue Entry: Status Field; that CRD and Dword 1 are 0: profile)
 pub record IsMarkedEntry (bytes : List ℕ) (entry : Cqe) (marks : Marks) : Type 0 where
-  pub plain : List ℕ
-  pub layout : IsCompletionEntry plain entry
-  pub marked : bytes ≡ slice_set plain 15 (slice_index plain 15 % 0x10 + (if marks.more then 0x40 else 0) + (if marks.do_not_retry then 0x80 else 0))
+  pub whole : length bytes ≡ 16
+  pub dw0 : entry.dw0 ≡ dword 0 bytes
+  pub reserved : dword 1 bytes ≡ 0
+  pub sqhd : entry.sqhd ≡ bits_of 15 0 (dword 2 bytes)
+  pub sqid : entry.sqid ≡ bits_of 31 16 (dword 2 bytes)
+  pub cid : entry.cid ≡ bits_of 15 0 (dword 3 bytes)
+  pub phase : (if entry.phase then 1 else 0) ≡ bits_of 16 16 (dword 3 bytes)
+  pub sc : entry.status.sc ≡ bits_of 24 17 (dword 3 bytes)
+  pub sct : entry.status.sct ≡ bits_of 27 25 (dword 3 bytes)
+  pub crd : bits_of 29 28 (dword 3 bytes) ≡ 0
+  pub more : (if marks.more then 1 else 0) ≡ bits_of 30 30 (dword 3 bytes)
+  pub do_not_retry : (if marks.do_not_retry then 1 else 0) ≡ bits_of 31 31 (dword 3 bytes)
 
 -- the bytes of a completion queue entry are told that is posted to a region, and the slot of the ring that they go into
 pub record HasPostedBytes (rules : FrontRules) (late : Bool) (notes : Notes) (region : ℕ) (f : PostFields) (c : Controller) (slots : List Slot) : Type 0 where

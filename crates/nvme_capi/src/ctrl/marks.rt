@@ -27,6 +27,8 @@ pub fn marks_by(marks: u8) -> Option<Marks>
 pub fn marked(plain: [u8; 16], marks: Marks) -> [u8; 16]
     ensures { (cqe : Cqe) → IsCompletionEntry plain cqe → IsMarkedEntry result cqe marks }
 {
+    // (the other bytes of Dword 3 are read for their range)
+    let _others = [plain[12], plain[13], plain[14]];
     let more = if marks.more { 0x40 } else { 0 };
     let do_not_retry = if marks.do_not_retry { 0x80 } else { 0 };
     let mut bytes = plain;
