@@ -12,7 +12,7 @@ use Rattle.nvme_ctrl.specs.Notes.{Notes, logged}
 use Rattle.nvme_ctrl.specs.Doorbells.{consumed}
 use Rattle.nvme_ctrl.specs.Rings.{HasCounts}
 use Rattle.nvme_ctrl.specs.Marks.{marks_or, own_marks}
-use Rattle.nvme_ctrl.specs.Tags.{holder, marks_of, all_posts}
+use Rattle.nvme_ctrl.specs.Tags.{holder, all_posts}
 use Rattle.nvme_ctrl.specs.declared.marks.Marks.{Marks}
 use Rattle.nvme_ctrl.specs.declared.slot.Slot.{Slot}
 use Rattle.nvme_ctrl.specs.declared.chain.Chain.{Chain}

@@ -1,5 +1,5 @@
 -- The marks of completions: in slots, and in the log.
-use Rattle.std.proofs.Common.{◌≡◌, ◌==◌, Bool, true, false, if◌then◌else◌, refl}
+use Rattle.std.proofs.Common.{◌≡◌, ◌==◌, Bool, true, false, refl}
 use Rattle.nvme_ctrl.specs.declared.marks.Marks.{Marks}
 use Rattle.nvme_ctrl.specs.kept.Pool.{bit}
 

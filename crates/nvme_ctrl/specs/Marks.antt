@@ -1,5 +1,5 @@
 -- More and Do Not Retry of a completion. (Base Specification, Completion Queue Entry: Status Field; which statuses are final: profile)
-use Rattle.std.specs.Prelude.{ℕ, ◌==◌, ◌&&◌, Bool, false, if◌then◌else◌, List, [], ◌∷◌, Option, Some, None}
+use Rattle.std.specs.Prelude.{◌==◌, ◌&&◌, Bool, false, List, [], ◌∷◌, Option, Some, None}
 use Rattle.std.specs.List.{list_any}
 use Rattle.nvme_entry.specs.Status.{StatusCode, invalid_opcode, invalid_field, sequence_error, completion_queue_invalid, invalid_queue_identifier, invalid_queue_size, feature_not_saveable}
 use Rattle.nvme_ctrl.specs.declared.marks.Marks.{Marks}
