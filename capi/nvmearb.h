@@ -35,7 +35,7 @@
  *   4. For each queue, while nvmearb_ctrl_fetch tells a slot: read the entry there, and nvmearb_ctrl_fetched.
  *   5. While nvmearb_ctrl_take gives a command, execute it. Where it has none, nvmearb_ctrl_pick, and begin again,
  *      until that picks nothing either.
- *   6. nvmearb_ctrl_complete for each command that ends, in any order and at any time.
+ *   6. nvmearb_ctrl_complete, or nvmearb_ctrl_complete_with, for each command that ends, in any order and at any time.
  *   7. For each completion region, while nvmearb_ctrl_post gives a completion: write its bytes into the slot of the
  *      ring, Command Dword 3 last, since it has the phase tag, and then send the interrupt.
  *   8. After a pick that began a deletion (NVMEARB_BEGIN_DELETE), nvmearb_ctrl_finish after each 7., until it ends the
@@ -216,7 +216,7 @@ typedef struct nvmearb_status {
 #define NVMEARB_SC_WRITE_FAULT 0x80u
 #define NVMEARB_SC_UNRECOVERED_READ_ERROR 0x81u
 
-/* The fields of a completion queue entry. CRD, More and Do Not Retry have none: they are always 0. */
+/* The fields of a completion queue entry. CRD, More and Do Not Retry have none: nvmearb_cqe_encode writes 0. */
 typedef struct nvmearb_cqe {
     uint32_t dw0;  /* Command Dword 0 */
     uint16_t sqhd; /* submission queue head pointer: the index of a slot */
@@ -439,9 +439,21 @@ typedef struct nvmearb_command {
     uint16_t tag;    /* its name until its completion is posted */
 } nvmearb_command;
 
+/*
+ * The marks of a completion, beside its status: bits 31 and 30 of Command Dword 3. A host that finds Do Not Retry
+ * doesn't submit the same command again; without it Linux submits a failing Read six times. What a controller answers
+ * itself has Do Not Retry for the statuses 0/01, 0/02, 0/0c, 1/00, 1/01, 1/02 and 1/0d, for no other, and never More.
+ */
+#define NVMEARB_DNR 1u  /* Do Not Retry */
+#define NVMEARB_MORE 2u /* More: the Error Information log page has more of the command */
+
 /* A completion to be written into the ring of a completion queue. */
 typedef struct nvmearb_post {
-    uint8_t bytes[NVMEARB_CQE_BYTES]; /* the completion queue entry; the phase tag is in its last four bytes */
+    /*
+     * The completion queue entry; the phase tag is in its last four bytes. Byte 15 has Do Not Retry in bit 7 and More
+     * in bit 6. nvmearb_cqe_decode takes no entry with a mark.
+     */
+    uint8_t bytes[NVMEARB_CQE_BYTES];
     uint32_t cookie;                  /* that of its command */
     uint16_t tag;                     /* that of its command, free from now on */
     uint16_t slot;                    /* the slot of the ring */
@@ -704,6 +716,13 @@ uint32_t nvmearb_ctrl_take(nvmearb_ctrl *ctrl, nvmearb_slot *slots, size_t count
  */
 uint32_t nvmearb_ctrl_complete(nvmearb_ctrl *ctrl, nvmearb_slot *slots, size_t count, uint16_t tag,
                                const nvmearb_status *status, uint32_t dw0);
+
+/*
+ * The device completes a command, with marks: NVMEARB_DNR, NVMEARB_MORE, both or 0. nvmearb_ctrl_complete gives none.
+ * Otherwise as nvmearb_ctrl_complete; NVMEARB_EARG too if `marks` has another bit.
+ */
+uint32_t nvmearb_ctrl_complete_with(nvmearb_ctrl *ctrl, nvmearb_slot *slots, size_t count, uint16_t tag,
+                                    const nvmearb_status *status, uint32_t dw0, uint8_t marks);
 
 /*
  * Writes the completion that became ready first in a completion region, which goes into `slot` of its ring.

@@ -76,7 +76,8 @@ static void work(struct device *d)
     do {
         while (nvmearb_ctrl_take(&d->ctrl, d->slots, COMMANDS, &command) == NVMEARB_OK) {
             nvmearb_status status = execute(d, &command.entry);
-            nvmearb_ctrl_complete(&d->ctrl, d->slots, COMMANDS, command.tag, &status, 0);
+            uint8_t marks = status.sct || status.sc ? NVMEARB_DNR : 0; /* what fails here would fail again */
+            nvmearb_ctrl_complete_with(&d->ctrl, d->slots, COMMANDS, command.tag, &status, 0, marks);
         }
     } while (nvmearb_ctrl_pick(&d->ctrl, d->slots, COMMANDS, &step) == NVMEARB_OK);
 }
@@ -116,13 +117,16 @@ struct pair {
 static int run(struct pair *pair, nvmearb_sqe entry)
 {
     nvmearb_cqe done;
+    uint8_t bytes[NVMEARB_CQE_BYTES];
     entry.cid = pair->tail;
     nvmearb_sqe_encode(&entry, memory + sq_address[pair->qid] + pair->tail * NVMEARB_SQE_BYTES);
     pair->tail = (pair->tail + 1) % RING;
     if (rings(&device, 2 * pair->qid, pair->tail) != NVMEARB_OK)
         return -1;
-    if (nvmearb_cqe_decode(memory + cq_address[pair->qid] + pair->head * NVMEARB_CQE_BYTES, &done) != NVMEARB_OK ||
-        done.phase != pair->phase || done.cid != entry.cid || done.sqhd != pair->tail)
+    memcpy(bytes, memory + cq_address[pair->qid] + pair->head * NVMEARB_CQE_BYTES, sizeof bytes);
+    bytes[15] &= 0x0f; /* without its marks */
+    if (nvmearb_cqe_decode(bytes, &done) != NVMEARB_OK || done.phase != pair->phase || done.cid != entry.cid ||
+        done.sqhd != pair->tail)
         return -1;
     pair->head = (pair->head + 1) % RING;
     pair->phase ^= pair->head == 0;

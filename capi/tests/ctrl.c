@@ -98,16 +98,32 @@ static int completes(uint16_t tag, nvmearb_status status, uint32_t dw0, uint32_t
     return nvmearb_ctrl_complete(&ctrl, slots, SLOTS, tag, &status, dw0) == want;
 }
 
-/* A completion is posted with these fields, where the queue on the region has the identifier of the region. */
-static int posted(uint16_t region, uint16_t slot, uint16_t sqhd, uint16_t cid, uint8_t phase, nvmearb_status status,
-                  uint32_t dw0)
+static int completes_with(uint16_t tag, nvmearb_status status, unsigned marks, uint32_t want)
+{
+    return nvmearb_ctrl_complete_with(&ctrl, slots, SLOTS, tag, &status, 0, (uint8_t)marks) == want;
+}
+
+/*
+ * A completion is posted with these fields, where the queue on the region has the identifier of the region. `top` is
+ * bits 31:28 of Command Dword 3: 8 is Do Not Retry, and 4 is More.
+ */
+static int posted_with(uint16_t region, uint16_t slot, uint16_t sqhd, uint16_t cid, uint8_t phase,
+                       nvmearb_status status, uint32_t dw0, unsigned top)
 {
     nvmearb_post post;
     nvmearb_cqe cqe;
-    return nvmearb_ctrl_post(&ctrl, slots, SLOTS, region, &post) == NVMEARB_OK && post.slot == slot &&
-           post.cookie == 1000u + cid && nvmearb_cqe_decode(post.bytes, &cqe) == NVMEARB_OK && cqe.sqhd == sqhd &&
-           cqe.sqid == region && cqe.cid == cid && cqe.phase == phase && cqe.status.sct == status.sct &&
-           cqe.status.sc == status.sc && cqe.dw0 == dw0;
+    if (nvmearb_ctrl_post(&ctrl, slots, SLOTS, region, &post) != NVMEARB_OK || post.bytes[15] >> 4 != top)
+        return 0;
+    post.bytes[15] &= 0x0f;
+    return post.slot == slot && post.cookie == 1000u + cid && nvmearb_cqe_decode(post.bytes, &cqe) == NVMEARB_OK &&
+           cqe.sqhd == sqhd && cqe.sqid == region && cqe.cid == cid && cqe.phase == phase &&
+           cqe.status.sct == status.sct && cqe.status.sc == status.sc && cqe.dw0 == dw0;
+}
+
+static int posted(uint16_t region, uint16_t slot, uint16_t sqhd, uint16_t cid, uint8_t phase, nvmearb_status status,
+                  uint32_t dw0)
+{
+    return posted_with(region, slot, sqhd, cid, phase, status, dw0, 0);
 }
 
 static int none_to_post(uint16_t region)
@@ -303,6 +319,7 @@ struct call {
     uint16_t a, b;
     uint32_t dw0;
     nvmearb_status status;
+    uint8_t marks;
     uint8_t bytes[NVMEARB_SQE_BYTES];
     /* what it writes */
     uint16_t number;
@@ -311,7 +328,7 @@ struct call {
     nvmearb_command command;
     nvmearb_post post;
 };
-#define CALLS 16
+#define CALLS 17
 #define WITHOUT_SLOTS 8 /* the calls that take no slots come first */
 
 static uint32_t made(struct call *it, unsigned which)
@@ -347,8 +364,10 @@ static uint32_t made(struct call *it, unsigned which)
         return nvmearb_ctrl_post(it->ctrl, it->slots, it->count, it->a, &it->post);
     case 14:
         return nvmearb_ctrl_finish(it->ctrl, it->slots, it->count, &it->number);
-    default:
+    case 15:
         return nvmearb_ctrl_command(it->ctrl, it->slots, it->count, it->b, &it->command);
+    default:
+        return nvmearb_ctrl_complete_with(it->ctrl, it->slots, it->count, it->b, &it->status, it->dw0, it->marks);
     }
 }
 
@@ -396,7 +415,7 @@ static unsigned random_call(uint64_t *state, struct tally *tally)
 {
     static nvmearb_ctrl ctrl_before;
     static nvmearb_slot slots_before[SLOTS];
-    static const uint8_t often[CALLS] = {2, 2, 4, 8, 8, 9, 10, 10, 11, 11, 12, 12, 13, 13, 14, 15};
+    static const uint8_t often[CALLS] = {2, 2, 4, 8, 8, 9, 10, 10, 11, 11, 12, 16, 12, 13, 13, 14, 15};
     uint64_t word = drawn(state);
     struct call it = {.ctrl = &ctrl, .slots = slots, .count = SLOTS}, before;
     unsigned which = word & 1 ? often[(word >> 4) % CALLS] : (unsigned)(word >> 4) % CALLS, wrong = 0;
@@ -406,6 +425,7 @@ static unsigned random_call(uint64_t *state, struct tally *tally)
     it.b = word >> 60 ? (uint16_t)(word >> 32) % SLOTS : (uint16_t)(word >> 32);
     it.count = (word >> 55 & 31) ? SLOTS : (size_t)(word >> 32); /* (where it is another, no slot is looked at) */
     it.status.sct = (uint8_t)(word >> 40) % 9;
+    it.marks = (uint8_t)(word >> 48) % 5;
     if (which == 0 || which == 1) {
         it.b = word & 8 ? 4 : it.b; /* (the rings that Creates name) */
     }
@@ -422,7 +442,7 @@ static unsigned random_call(uint64_t *state, struct tally *tally)
     }
     tally->done[which]++;
     tally->held += (which == 8) - (which == 13);
-    tally->out += (which == 11) - (which == 12);
+    tally->out += (which == 11) - (which == 12 || which == 16);
     wrong += tally->held > SLOTS || tally->out > tally->held;
     wrong += (which == 11 || which == 15) && it.command.tag >= SLOTS;
     wrong += which == 13 && (it.post.tag >= SLOTS || it.post.slot >= 8);
@@ -472,6 +492,33 @@ static void random_states(void)
     CHECK(wrong == 0);
 }
 
+/* A device gives each of the four marks, and no other. The controller marks what no retry changes. */
+static void marks(void)
+{
+    nvmearb_status unread = {NVMEARB_SCT_MEDIA, NVMEARB_SC_UNRECOVERED_READ_ERROR};
+    nvmearb_status used = {NVMEARB_SCT_COMMAND_SPECIFIC, NVMEARB_SC_INVALID_QUEUE_DELETION};
+    nvmearb_status no_queue = {NVMEARB_SCT_COMMAND_SPECIFIC, NVMEARB_SC_INVALID_QUEUE_IDENTIFIER};
+    nvmearb_status unknown = {NVMEARB_SCT_GENERIC, NVMEARB_SC_INVALID_OPCODE};
+    uint16_t tags[3];
+    CHECK(is_prepared(NVMEARB_ROUND_ROBIN) && nvmearb_ctrl_sq_tail(&ctrl, 1, 3) == NVMEARB_OK);
+    CHECK(fetched(1, 0, NVMEARB_OPC_READ, 20, 0, 0, 0) && fetched(1, 1, NVMEARB_OPC_READ, 21, 0, 0, 0));
+    CHECK(fetched(1, 2, NVMEARB_OPC_READ, 22, 0, 0, 0) && picked(3));
+    CHECK(taken(20, &tags[0]) && taken(21, &tags[1]) && taken(22, &tags[2]));
+    CHECK(completes_with(tags[0], unread, 4, NVMEARB_EARG) && completes_with(tags[0], unread, 255, NVMEARB_EARG));
+    CHECK(completes_with(tags[0], (nvmearb_status){8, 0}, NVMEARB_DNR, NVMEARB_EARG));
+    CHECK(completes_with(SLOTS, unread, NVMEARB_DNR, NVMEARB_NONE));
+    CHECK(completes_with(tags[0], unread, NVMEARB_DNR, NVMEARB_OK));
+    CHECK(completes_with(tags[1], unread, NVMEARB_MORE, NVMEARB_OK));
+    CHECK(completes_with(tags[2], unread, NVMEARB_DNR | NVMEARB_MORE, NVMEARB_OK));
+    CHECK(posted_with(1, 0, 3, 20, 1, unread, 0, 8) && posted_with(1, 1, 3, 21, 1, unread, 0, 4));
+    CHECK(posted_with(1, 2, 3, 22, 1, unread, 0, 12));
+    CHECK(nvmearb_ctrl_sq_tail(&ctrl, 0, 5) == NVMEARB_OK && fetched(0, 2, NVMEARB_OPC_DELETE_CQ, 12, 0, 1, 0));
+    CHECK(fetched(0, 3, NVMEARB_OPC_DELETE_SQ, 13, 0, 2, 0) && fetched(0, 4, 0x06, 14, 0, 0, 0));
+    CHECK(carried_out(NVMEARB_DONE) && carried_out(NVMEARB_DONE) && carried_out(NVMEARB_DONE));
+    CHECK(posted_with(0, 2, 5, 12, 1, used, 0, 0) && posted_with(0, 3, 5, 13, 1, no_queue, 0, 8));
+    CHECK(posted_with(0, 4, 5, 14, 1, unknown, 0, 8));
+}
+
 int main(void)
 {
     wrong_configurations();
@@ -479,6 +526,7 @@ int main(void)
     rings_go_round();
     abort_and_deletion();
     windows_and_slots();
+    marks();
     refused_states();
     random_calls();
     random_states();

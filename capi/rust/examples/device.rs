@@ -2,7 +2,8 @@
 //! A device over a controller, to be copied: an array stands for guest memory, and another one for the blocks of its
 //! namespace. It serves the admin queues and one I/O queue pair. The host is at the bottom.
 use nvmearb::{admin_opcode, io_opcode};
-use nvmearb::{Config, Controller, Cqe, DoorbellError, Error, Mechanism, Region, Sqe, Status, CQE_BYTES, SQE_BYTES};
+use nvmearb::{Config, Controller, Cqe, DoorbellError, Error, Marks, Mechanism, Region, Sqe, Status};
+use nvmearb::{CQE_BYTES, SQE_BYTES};
 
 /// The slots of each ring.
 const RING: u16 = 8;
@@ -78,7 +79,9 @@ impl Device {
         while let Ok(Some(_)) = self.ctrl.pick() {
             while let Some(command) = self.ctrl.take() {
                 let status = self.execute(&command.entry);
-                self.ctrl.complete(command.tag, status, 0).expect("the command was taken");
+                // (what fails here would fail again)
+                let marks = if status == Status::SUCCESS { Marks::default() } else { Marks::DO_NOT_RETRY };
+                self.ctrl.complete_with(command.tag, status, 0, marks).expect("the command was taken");
             }
         }
     }
@@ -127,7 +130,9 @@ impl Pair {
         device.memory[place(sq, self.tail, SQE_BYTES)].copy_from_slice(&entry.to_bytes());
         self.tail = (self.tail + 1) % RING;
         device.ring(2 * self.qid, self.tail.into())?;
-        let done = Cqe::from_bytes(device.memory[place(cq, self.head, CQE_BYTES)].try_into()?)?;
+        let mut bytes: [u8; CQE_BYTES] = device.memory[place(cq, self.head, CQE_BYTES)].try_into()?;
+        bytes[15] &= 0x0f; // without its marks
+        let done = Cqe::from_bytes(&bytes)?;
         if (done.phase, done.cid, done.sqhd) != (self.phase, entry.cid, self.tail) {
             return Err("no completion came".into());
         }

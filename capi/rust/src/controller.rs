@@ -77,11 +77,30 @@ impl Command {
     }
 }
 
+/// The marks of a completion, beside its status. By default it has neither.
+#[derive(Clone, Copy, Debug, Default, PartialEq, Eq, Hash)]
+pub struct Marks {
+    /// More: the Error Information log page has more of the command.
+    pub more: bool,
+    /// Do Not Retry: the same command would fail again. Without it Linux submits a failing Read six times.
+    pub do_not_retry: bool,
+}
+
+impl Marks {
+    /// Do Not Retry alone.
+    pub const DO_NOT_RETRY: Marks = Marks { more: false, do_not_retry: true };
+
+    fn number(self) -> u8 {
+        u8::from(self.do_not_retry) * sys::NVMEARB_DNR + u8::from(self.more) * sys::NVMEARB_MORE
+    }
+}
+
 /// A completion to be written into the ring of a completion queue. The phase tag is in its last four bytes: write them
 /// after the others.
 #[derive(Clone, Copy, Debug, PartialEq, Eq, Hash)]
 pub struct Post {
-    /// The completion queue entry.
+    /// The completion queue entry. Byte 15 has Do Not Retry in bit 7 and More in bit 6, and
+    /// [`Cqe::from_bytes`](crate::Cqe::from_bytes) takes no entry with a mark.
     pub bytes: [u8; CQE_BYTES],
     /// The cookie of its command.
     pub cookie: u32,
@@ -96,6 +115,12 @@ impl Post {
         let sys::nvmearb_post { bytes, cookie, tag, slot } = *fields;
         Post { bytes, cookie, tag, slot }
     }
+
+    /// Its marks: those that the device gave, or for what the controller answers itself Do Not Retry where a retry can't
+    /// change the status.
+    pub fn marks(&self) -> Marks {
+        Marks { more: self.bytes[15] & 0x40 != 0, do_not_retry: self.bytes[15] & 0x80 != 0 }
+    }
 }
 
 /// The front of a whole controller, which is driven by calls. It owns its state and the slots that hold the commands.
@@ -108,7 +133,8 @@ impl Post {
 /// 3. For each queue, while [`Controller::fetch`] tells a slot: read the entry there, and [`Controller::fetched`].
 /// 4. While [`Controller::take`] gives a command, execute it. Where it has none, [`Controller::pick`], and begin again,
 ///    until that picks nothing either.
-/// 5. [`Controller::complete`] for each command that ends, in any order and at any time.
+/// 5. [`Controller::complete`] or [`Controller::complete_with`] for each command that ends, in any order and at any
+///    time.
 /// 6. For each completion region, while [`Controller::post`] gives a completion: write it into the slot of the ring,
 ///    and then send the interrupt.
 /// 7. After a pick that began a deletion, [`Controller::finish`] after each 6., until it ends the deletion. Until then
@@ -273,6 +299,16 @@ impl Controller {
         let (ctrl, slots, count) = self.parts();
         // SAFETY: references, and the slots are those of the state.
         checked(unsafe { sys::nvmearb_ctrl_complete(ctrl, slots, count, tag, &status.fields(), dw0) })
+    }
+
+    /// The device completes a command, with marks; [`Controller::complete`] gives it none.
+    ///
+    /// [`Error::Missing`]: as [`Controller::complete`].
+    pub fn complete_with(&mut self, tag: u16, status: Status, dw0: u32, marks: Marks) -> Result<(), Error> {
+        let (ctrl, slots, count) = self.parts();
+        let (status, marks) = (status.fields(), marks.number());
+        // SAFETY: references, and the slots are those of the state.
+        checked(unsafe { sys::nvmearb_ctrl_complete_with(ctrl, slots, count, tag, &status, dw0, marks) })
     }
 
     /// The completion that became ready first in a completion region. None if none is ready, or the host has freed no

@@ -222,7 +222,7 @@ impl fmt::Display for Status {
     }
 }
 
-/// The fields of a completion queue entry. CRD, More and Do Not Retry have none: they are always 0.
+/// The fields of a completion queue entry. CRD, More and Do Not Retry have none: [`Cqe::to_bytes`] writes 0.
 #[derive(Clone, Copy, Debug, Default, PartialEq, Eq, Hash)]
 pub struct Cqe {
     /// Command Dword 0.

@@ -318,6 +318,9 @@ pub struct nvmearb_config {
 pub const NVMEARB_PICKED: u32 = 1;
 pub const NVMEARB_CARRIED_OUT: u32 = 2;
 
+pub const NVMEARB_DNR: u8 = 1;
+pub const NVMEARB_MORE: u8 = 2;
+
 #[repr(C)]
 #[derive(Clone, Copy, Debug, Default, PartialEq, Eq)]
 pub struct nvmearb_step {
@@ -430,6 +433,7 @@ extern "C" {
     pub fn nvmearb_ctrl_pick(ctrl: *mut nvmearb_ctrl, slots: *mut nvmearb_slot, count: usize, step: *mut nvmearb_step) -> u32;
     pub fn nvmearb_ctrl_take(ctrl: *mut nvmearb_ctrl, slots: *mut nvmearb_slot, count: usize, command: *mut nvmearb_command) -> u32;
     pub fn nvmearb_ctrl_complete(ctrl: *mut nvmearb_ctrl, slots: *mut nvmearb_slot, count: usize, tag: u16, status: *const nvmearb_status, dw0: u32) -> u32;
+    pub fn nvmearb_ctrl_complete_with(ctrl: *mut nvmearb_ctrl, slots: *mut nvmearb_slot, count: usize, tag: u16, status: *const nvmearb_status, dw0: u32, marks: u8) -> u32;
     pub fn nvmearb_ctrl_post(ctrl: *mut nvmearb_ctrl, slots: *mut nvmearb_slot, count: usize, region: u16, post: *mut nvmearb_post) -> u32;
     pub fn nvmearb_ctrl_finish(ctrl: *mut nvmearb_ctrl, slots: *mut nvmearb_slot, count: usize, qid: *mut u16) -> u32;
     pub fn nvmearb_ctrl_command(ctrl: *const nvmearb_ctrl, slots: *const nvmearb_slot, count: usize, tag: u16, command: *mut nvmearb_command) -> u32;

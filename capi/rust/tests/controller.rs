@@ -2,7 +2,7 @@
 //! A controller: each call, and each refusal. Values are the specification's.
 use nvmearb::admin_opcode::{ABORT, CREATE_CQ, CREATE_SQ, DELETE_SQ, GET_FEATURES};
 use nvmearb::{
-    feature, io_opcode, Config, Controller, Cqe, DoorbellError, Error, Mechanism, Pick, Region, Sqe, Status,
+    feature, io_opcode, Config, Controller, Cqe, DoorbellError, Error, Marks, Mechanism, Pick, Region, Sqe, Status,
 };
 use nvmearb::{Step, Verdict, MAX_REGIONS, MAX_SLOTS};
 
@@ -56,10 +56,20 @@ fn taken(ctrl: &mut Controller, cid: u16) -> u16 {
     command.tag
 }
 
-/// A completion is posted in a region: its slot, SQHD, command identifier, phase tag, status and Command Dword 0.
+/// A completion is posted in a region: its slot, SQHD, command identifier, phase tag, status and Command Dword 0. It has
+/// neither mark.
 fn posted(ctrl: &mut Controller, region: u16, want: (u16, u16, u16, bool, Status, u32)) {
+    posted_with(ctrl, region, want, Marks::default());
+}
+
+/// So with its marks, which are bits 31 and 30 of Command Dword 3.
+fn posted_with(ctrl: &mut Controller, region: u16, want: (u16, u16, u16, bool, Status, u32), marks: Marks) {
     let post = ctrl.post(region).unwrap().expect("a completion is ready");
-    let cqe = Cqe::from_bytes(&post.bytes).unwrap();
+    let mut bytes = post.bytes;
+    assert_eq!((bytes[15] >> 7 & 1 == 1, bytes[15] >> 6 & 1 == 1), (marks.do_not_retry, marks.more));
+    assert_eq!(post.marks(), marks);
+    bytes[15] &= 0x3f;
+    let cqe = Cqe::from_bytes(&bytes).unwrap();
     assert_eq!((post.slot, cqe.sqhd, cqe.cid, cqe.phase, cqe.status, cqe.dw0), want);
     assert_eq!((cqe.sqid, post.cookie), (region, 1000 + u32::from(cqe.cid)));
 }
@@ -139,10 +149,12 @@ fn commands_go_through_and_rings_go_round() {
     assert_eq!(ctrl.complete(SLOTS as u16, Status::SUCCESS, 0), Err(Error::Missing));
     assert_eq!(ctrl.command(tags[2]), None);
     assert_eq!(ctrl.complete(tags[0], Status::SUCCESS, 5), Ok(()));
-    assert_eq!(ctrl.complete(tags[1], Status::LBA_OUT_OF_RANGE, 9), Ok(()));
+    let marks = Marks { more: true, do_not_retry: true };
+    assert_eq!(ctrl.complete_with(tags[1], Status::LBA_OUT_OF_RANGE, 9, marks), Ok(()));
+    assert_eq!(ctrl.complete_with(tags[1], Status::LBA_OUT_OF_RANGE, 9, marks), Err(Error::Missing));
     posted(&mut ctrl, 1, (0, 3, 22, true, Status::SUCCESS, 0));
     posted(&mut ctrl, 1, (1, 3, 20, true, Status::SUCCESS, 5));
-    posted(&mut ctrl, 1, (2, 3, 21, true, Status::LBA_OUT_OF_RANGE, 9));
+    posted_with(&mut ctrl, 1, (2, 3, 21, true, Status::LBA_OUT_OF_RANGE, 9), marks);
     assert_eq!((ctrl.post(1), ctrl.post(64), ctrl.post(65)), (Ok(None), Ok(None), Err(Error::Argument)));
     // slots 3, 0, 1, 2 of both rings: the phase tag is inverted, and three completions fill the queue
     assert_eq!(ctrl.cq_head(1, 3), Ok(()));

@@ -1,6 +1,6 @@
 // SPDX-License-Identifier: MIT
 //! Random calls, with random arguments: none panics, and each command gets one completion, its own.
-use nvmearb::{Admin, Board, Config, Controller, Cqe, Mechanism, Priority, Region, Sqe, Status, Table, Verdict};
+use nvmearb::{Admin, Board, Config, Controller, Cqe, Marks, Mechanism, Priority, Region, Sqe, Status, Table, Verdict};
 use std::collections::HashMap;
 
 /// A fixed sequence of numbers (splitmix64).
@@ -87,7 +87,9 @@ impl Driven {
     fn post(&mut self, region: u16) {
         if let Ok(Some(post)) = self.ctrl.post(region) {
             let entry = self.open.remove(&post.cookie).expect("its command has no other completion");
-            let cqe = Cqe::from_bytes(&post.bytes).unwrap();
+            let mut bytes = post.bytes;
+            bytes[15] &= 0x3f; // without its marks
+            let cqe = Cqe::from_bytes(&bytes).unwrap();
             assert_eq!(cqe.cid, entry.cid);
             self.posts[usize::from(cqe.sqid > 0)] += 1;
         }
@@ -109,7 +111,11 @@ impl Driven {
                     assert_eq!(self.open.get(&command.cookie), Some(&command.entry));
                 }
             }
-            7 | 8 => _ = self.ctrl.complete(drawn.below(24), Status::new(b as u8 % 8, a as u8).unwrap(), 0),
+            7 => _ = self.ctrl.complete(drawn.below(24), Status::new(b as u8 % 8, a as u8).unwrap(), 0),
+            8 => {
+                let marks = Marks { more: a % 2 == 1, do_not_retry: b % 2 == 1 };
+                _ = self.ctrl.complete_with(drawn.below(24), Status::new(b as u8 % 8, a as u8).unwrap(), 0, marks);
+            }
             9 | 10 => self.post(a),
             _ => {
                 self.ctrl.finish();

@@ -1,3 +1,4 @@
 mod Configurations
 mod Queues
 mod Refusals
+mod MarkedEntries

@@ -1,6 +1,6 @@
 -- What a controller of C is, and what its calls write, in the library's terms (profile).
-use Rattle.std.specs.Prelude.{◌≡◌, ℕ, ◌==◌, ◌&&◌, nat_lt, Bool, true, false, List, [], length}
-use Rattle.nvme_entry.specs.Completion.{IsCompletionEntry}
+use Rattle.std.specs.Prelude.{◌≡◌, ℕ, ◌/◌, ◌%◌, ◌==◌, ◌&&◌, nat_lt, Bool, true, false, if◌then◌else◌, List, [], length}
+use Rattle.nvme_entry.specs.Bits.{bits_of, dword}
 use Rattle.nvme_entry.specs.declared.completion.Cqe.{Cqe}
 use Rattle.nvme_arbiter.specs.Settings.{settings_of}
 use Rattle.nvme_arbiter.specs.Layout.{mechanism_of}
@@ -15,6 +15,7 @@ use Rattle.nvme_ctrl.specs.Calls.{HasPosted}
 use Rattle.nvme_ctrl.specs.Posts.{IsPostOf}
 use Rattle.nvme_ctrl.specs.Steps.{HasCarriedOut}
 use Rattle.nvme_ctrl.specs.kept.Pool.{slot_at}
+use Rattle.nvme_ctrl.specs.declared.marks.Marks.{Marks}
 use Rattle.nvme_ctrl.specs.declared.slot.Slot.{Slot}
 use Rattle.nvme_ctrl.specs.declared.state.Controller.{Controller}
 use Rattle.nvme_capi.specs.Fields.{code_of}
@@ -68,15 +69,37 @@ pub record HasToldWhat (rules : FrontRules) (late : Bool) (notes : Notes) (told 
 abbrev pub device_answer : StatusFields → (dw0 : ℕ) → Answer
 device_answer f dw0 = record { status = code_of f; dw0 = dw0 }
 
+-- the marks that a number says: bit 0 is Do Not Retry, bit 1 is More
+abbrev pub marks_by : ℕ → Marks
+marks_by marks = record { more = marks / 2 == 1; do_not_retry = marks % 2 == 1 }
+
 -- ---- completions
+-- 16 bytes hold a completion queue entry with its marks: More is bit 30 of Dword 3, and Do Not Retry bit 31
+-- (Base Specification, Completion Queue Entry: Status Field; that CRD and Dword 1 are 0: profile)
+pub record IsMarkedEntry (bytes : List ℕ) (entry : Cqe) (marks : Marks) : Type 0 where
+  pub whole : length bytes ≡ 16
+  pub dw0 : entry.dw0 ≡ dword 0 bytes
+  pub reserved : dword 1 bytes ≡ 0
+  pub sqhd : entry.sqhd ≡ bits_of 15 0 (dword 2 bytes)
+  pub sqid : entry.sqid ≡ bits_of 31 16 (dword 2 bytes)
+  pub cid : entry.cid ≡ bits_of 15 0 (dword 3 bytes)
+  pub phase : (if entry.phase then 1 else 0) ≡ bits_of 16 16 (dword 3 bytes)
+  pub sc : entry.status.sc ≡ bits_of 24 17 (dword 3 bytes)
+  pub sct : entry.status.sct ≡ bits_of 27 25 (dword 3 bytes)
+  pub crd : bits_of 29 28 (dword 3 bytes) ≡ 0
+  pub more : (if marks.more then 1 else 0) ≡ bits_of 30 30 (dword 3 bytes)
+  pub do_not_retry : (if marks.do_not_retry then 1 else 0) ≡ bits_of 31 31 (dword 3 bytes)
+
 -- the bytes of a completion queue entry are told that is posted to a region, and the slot of the ring that they go into
 pub record HasPostedBytes (rules : FrontRules) (late : Bool) (notes : Notes) (region : ℕ) (f : PostFields) (c : Controller) (slots : List Slot) : Type 0 where
   pub cqe : Cqe
-  pub layout : IsCompletionEntry f.bytes cqe
-  pub posted : HasPosted rules late notes region f.slot cqe f.cookie c slots
+  pub marks : Marks
+  pub layout : IsMarkedEntry f.bytes cqe marks
+  pub posted : HasPosted rules late notes region f.slot cqe f.cookie marks c slots
 
 -- they are those of the command in the slot of the tag
 pub record IsPostIn (slots : List Slot) (f : PostFields) : Type 0 where
   pub cqe : Cqe
-  pub layout : IsCompletionEntry f.bytes cqe
-  pub command : IsPostOf (slot_at slots f.tag) cqe f.cookie
+  pub marks : Marks
+  pub layout : IsMarkedEntry f.bytes cqe marks
+  pub command : IsPostOf (slot_at slots f.tag) cqe f.cookie marks

@@ -5,5 +5,6 @@
 mod commands;
 mod lookups;
 mod making;
+mod marks;
 mod rings;
 mod state;

@@ -20,7 +20,7 @@ use Rattle.nvme_entry.specs.Status.{abort_requested}
 use Rattle.nvme_entry.specs.declared.submission.Sqe.{Sqe}
 use Rattle.nvme_log.specs.Rules.{FrontRules}
 use Rattle.nvme_ctrl.proofs.Cookies.{cookie_left, same_cookies}
-use Rattle.nvme_ctrl.specs.Tags.{cookie_of}
+use Rattle.nvme_ctrl.specs.Tags.{answer_of, cookie_of}
 use Rattle.nvme_ctrl.specs.Notes.{Notes}
 use Rattle.nvme_ctrl.specs.declared.slot.Slot.{Slot}
 use Rattle.nvme_ctrl.specs.declared.chain.Chain.{Chain}
@@ -28,7 +28,7 @@ use Rattle.nvme_ctrl.specs.declared.state.SqState.{SqState}
 use Rattle.nvme_ctrl.specs.declared.state.Controller.{Controller}
 use Rattle.nvme_ctrl.specs.kept.Content.{Candidate, Ready, SqContent, Content, with_sq, with_ready}
 use Rattle.nvme_ctrl.specs.inside.Steps.{requested, oldest_named, without_oldest}
-use Rattle.nvme_ctrl.specs.kept.Kept.{is_passed_at, Item, Items, IsWaitingIn, IsUnanswered, IsThrough, tags_of, candidate_of, IsCookie, HasCookie}
+use Rattle.nvme_ctrl.specs.kept.Kept.{is_passed_at, Item, Items, IsWaitingIn, IsUnanswered, IsThrough, tags_of, candidate_of, IsCookie, HasCookie, IsUnmarked}
 use Rattle.nvme_ctrl.specs.inside.Loose.{IsLoose, Keeps, MakesReady, ended, with_item}
 use Rattle.nvme_ctrl.specs.inside.Carrying.{IsAbortableIn, HasRequested}
 use Rattle.nvme_ctrl.specs.kept.Pool.{slot_at, item_at, IsChain, IsNew, SameItems, SameLinks, named_in, without_named}
@@ -117,7 +117,7 @@ loose_same slots mid g y same h = let state = ap (λ (s : Slot). s.state) (same.
 abbrev pub KeepsRequest : (a : Controller) (slots : List Slot) (tag region : ℕ) (b : Controller) (pool : List Slot) → Type 0
 KeepsRequest a slots tag region b pool =
     (rules : FrontRules) (notes : Notes) (k : Content) (g : Items) (t : Ready) → Keeps rules notes a slots k g → IsLoose slots g tag → MakesReady slots tag 4 abort_requested 0 t → IsThrough notes t
-    → IsCookie notes slots tag t.place → t.passed ≡ is_passed_at notes t.place → region < 65
+    → IsCookie notes slots tag t.place → t.passed ≡ is_passed_at notes t.place → IsUnmarked notes t.place → region < 65
     → Keeps rules notes b pool (with_ready k region t) (with_item g region (ended tag t))
 
 -- the board with a candidate less
@@ -219,7 +219,7 @@ module _ (rules : FrontRules) (notes : Notes) (a : Controller) (slots : List Slo
     items = with_item (with_window g region rest) ab.c (ended x.tag t);
     keeps = subst (λ (z : ℕ). Keeps rules notes b pool (with_ready later z t) (with_item (with_window g region rest) z (ended x.tag t))) to
         (subst (λ (z : ℕ). KeepsRequest m mid z sq.cq_region b pool) (sym f.tag_is) request rules notes later (with_window g region rest) t keeps (loose_same slots mid (with_window g region rest) x.tag same loose) made
-        (inl (ab.is_aborted (candidate_of x) oldest)) cookie (sym (rw ab.io refl)) (subst (λ (z : ℕ). z < 65) (sym to) ab.posts_there));
+        (inl (ab.is_aborted (candidate_of x) oldest)) cookie (sym (rw ab.io refl)) unmarked (subst (λ (z : ℕ). z < 65) (sym to) ab.posts_there));
     loose = loose_ended mid pool (with_window g region rest) x.tag ab.c t y size (λ z differ. others z (λ e. differ (e ∙ sym f.tag_is))) (another y other)
         (loose_same slots mid (with_window g region rest) y same (loose_windowed slots g region rest y other (left_loose y other)));
     slot = others y (λ e. another y other (e ∙ sym f.tag_is)) ∙ same.items y;
@@ -260,6 +260,13 @@ module _ (rules : FrontRules) (notes : Notes) (a : Controller) (slots : List Slo
         (subst (λ (r : ℕ). cookie_of notes r x.place.index ≡ Some (slot_at slots x.tag).cookie) first.place
         (All-head (HasCookie notes slots) x f.among.behind
         (All-parts (HasCookie notes slots) f.among.before (x ∷ f.among.behind) (subst (All (HasCookie notes slots)) f.among.whole (h.tags.cookies.windows region))).1))
+
+    unmarked : IsUnmarked notes t.place
+    unmarked = h.tags.none_marked region x.place.index
+        (subst (λ (r : ℕ). answer_of notes r x.place.index ≡ None) first.place
+        (All-head (λ (it : Item). IsUnanswered notes it.place) x f.among.behind
+        (All-parts (λ (it : Item). IsUnanswered notes it.place) f.among.before (x ∷ f.among.behind)
+        (subst (All (λ (it : Item). IsUnanswered notes it.place)) f.among.whole (h.tags.windows_unanswered region))).1))
 
     made : MakesReady mid x.tag 4 abort_requested 0 t
     made = let same_slot = same.items x.tag in record {

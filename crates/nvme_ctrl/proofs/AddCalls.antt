@@ -17,7 +17,7 @@ use Rattle.nvme_log.specs.Histories.{table_history}
 use Rattle.nvme_log.specs.Rules.{FrontRules, sq_regions_of, cq_regions_of, slots_at}
 use Rattle.nvme_log.specs.Places.{fetched}
 use Rattle.nvme_log.specs.Completions.{posted_to, phase_after}
-use Rattle.nvme_ctrl.specs.Notes.{Notes, Logged, Tail, Head, Kept, Passed, Taken, Answered, logged}
+use Rattle.nvme_ctrl.specs.Notes.{Notes, Logged, Tail, Head, Kept, Passed, Taken, Answered, Marked, logged}
 use Rattle.nvme_ctrl.specs.Doorbells.{gap, sq_slots, cq_slots, submitted, consumed}
 use Rattle.nvme_ctrl.specs.Rings.{HasCounts, first_ring}
 use Rattle.nvme_ctrl.specs.Making.{with_region, is_late, adding_fault}
@@ -78,6 +78,7 @@ submitted_same rules others (Kept c i cookie ∷ notes) r e = submitted_same rul
 submitted_same rules others (Passed i ∷ notes) r e = submitted_same rules others notes r e
 submitted_same rules others (Taken tag c i ∷ notes) r e = submitted_same rules others notes r e
 submitted_same rules others (Answered c i answer ∷ notes) r e = submitted_same rules others notes r e
+submitted_same rules others (Marked c i marks ∷ notes) r e = submitted_same rules others notes r e
 
 consumed_same : (rules others : FrontRules) (notes : Notes) (r : ℕ) → cq_slots others r ≡ cq_slots rules r → consumed others notes r ≡ consumed rules notes r
 consumed_same rules others [] r e = refl
@@ -89,6 +90,7 @@ consumed_same rules others (Kept c i cookie ∷ notes) r e = consumed_same rules
 consumed_same rules others (Passed i ∷ notes) r e = consumed_same rules others notes r e
 consumed_same rules others (Taken tag c i ∷ notes) r e = consumed_same rules others notes r e
 consumed_same rules others (Answered c i answer ∷ notes) r e = consumed_same rules others notes r e
+consumed_same rules others (Marked c i marks ∷ notes) r e = consumed_same rules others notes r e
 
 -- a gap from slot 0 is as long as its end
 gap_from_0 : (n m slot : ℕ) → m ≡ 0 → gap n (m % n) slot ≡ slot
@@ -119,6 +121,7 @@ submitted_none rules others (Kept c i cookie ∷ notes) r e = submitted_none rul
 submitted_none rules others (Passed i ∷ notes) r e = submitted_none rules others notes r e
 submitted_none rules others (Taken tag c i ∷ notes) r e = submitted_none rules others notes r e
 submitted_none rules others (Answered c i answer ∷ notes) r e = submitted_none rules others notes r e
+submitted_none rules others (Marked c i marks ∷ notes) r e = submitted_none rules others notes r e
 
 consumed_none : (rules others : FrontRules) (notes : Notes) (r : ℕ) → consumed rules notes r ≡ 0 → consumed others notes r ≡ 0
 consumed_none rules others [] r e = refl
@@ -142,6 +145,7 @@ consumed_none rules others (Kept c i cookie ∷ notes) r e = consumed_none rules
 consumed_none rules others (Passed i ∷ notes) r e = consumed_none rules others notes r e
 consumed_none rules others (Taken tag c i ∷ notes) r e = consumed_none rules others notes r e
 consumed_none rules others (Answered c i answer ∷ notes) r e = consumed_none rules others notes r e
+consumed_none rules others (Marked c i marks ∷ notes) r e = consumed_none rules others notes r e
 
 -- ---- a controller that stands
 -- a region of which an identifier is told was opened for a queue
@@ -356,6 +360,8 @@ module _ (rules : FrontRules) (late : Bool) (notes : Notes) (c : Controller) (po
       free_count = t.free_count;
       cookies = cookies_left notes pool pool (λ y. refl) c _ s.items refl t.cookies;
       passed = passed_left notes c _ s.items s.items refl (λ x. refl) refl t.passed;
+      none_marked = t.none_marked;
+      marks = t.marks;
     }
 
     -- the controller stands with the region
@@ -538,6 +544,8 @@ module _ (rules : FrontRules) (late : Bool) (notes : Notes) (c : Controller) (po
       free_count = t.free_count;
       cookies = cookies_left notes pool pool (λ y. refl) c _ s.items refl t.cookies;
       passed = passed_left notes c _ s.items s.items refl (λ x. refl) refl t.passed;
+      none_marked = t.none_marked;
+      marks = t.marks;
     }
 
     -- the controller stands with the region

@@ -1,6 +1,6 @@
 -- The device answers a command: the controller stands at its log afterwards.
 use Rattle.std.proofs.Common.{◌&&◌, eqb-true}
-use Rattle.std.proofs.Common.{◌≡◌, ◌≢◌, ℕ, ◌+◌, ◌<◌, ◌≤◌, ◌^◌, ◌==◌, Bool, true, false, if◌then◌else◌, List, [], ◌∷◌, ◌++◌, length, drop, get_or, Option, Some, None, refl, sym, ap, ◌∙◌, subst, arith, inl, inr}
+use Rattle.std.proofs.Common.{◌≡◌, ◌≢◌, ℕ, ◌+◌, ◌<◌, ◌≤◌, ◌^◌, ◌==◌, ◌&&◌, Bool, true, false, if◌then◌else◌, List, [], ◌∷◌, ◌++◌, length, drop, get_or, Option, Some, None, refl, sym, ap, ◌∙◌, subst, arith, inl, inr}
 use Rattle.std.specs.Prelude.{slice_set, is_none}
 use Rattle.std.specs.List.{All}
 use Rattle.std.proofs.lemmas.Bool.{cases_eq, eq-eqb, ne_eqb}
@@ -12,15 +12,16 @@ use Rattle.nvme_log.specs.Rules.{FrontRules}
 use Rattle.nvme_log.specs.Answers.{Answer}
 use Rattle.nvme_log.specs.Queues.{cq_region_of}
 use Rattle.nvme_log.specs.Completions.{posted_to, phase_after}
-use Rattle.nvme_log.specs.Places.{fetched}
+use Rattle.nvme_log.specs.Places.{fetched, is_aborted}
 use Rattle.nvme_log.specs.Dispatches.{place_at}
 use Rattle.nvme_log.specs.declared.place.Place.{Place}
-use Rattle.nvme_ctrl.specs.Notes.{Notes, Answered, logged}
+use Rattle.nvme_ctrl.specs.Notes.{Notes, Answered, Marked, logged}
 use Rattle.nvme_ctrl.specs.Doorbells.{consumed}
 use Rattle.nvme_ctrl.specs.Rings.{HasCounts}
-use Rattle.nvme_ctrl.specs.Tags.{holder, answer_of, is_unanswered, is_out, all_posts, is_of_device}
-use Rattle.nvme_ctrl.specs.Account.{IsAccount, IsAnswer}
+use Rattle.nvme_ctrl.specs.Tags.{holder, answer_of, marks_of, is_unanswered, is_out, all_posts, is_of_device}
+use Rattle.nvme_ctrl.specs.Account.{IsAccount, IsAnswer, IsMarked}
 use Rattle.nvme_ctrl.specs.Calls.{HasAnswered}
+use Rattle.nvme_ctrl.specs.declared.marks.Marks.{Marks}
 use Rattle.nvme_ctrl.specs.declared.slot.Slot.{Slot}
 use Rattle.nvme_ctrl.specs.declared.chain.Chain.{Chain}
 use Rattle.nvme_ctrl.specs.declared.state.CqState.{CqState}
@@ -28,16 +29,17 @@ use Rattle.nvme_ctrl.specs.declared.state.Controller.{Controller}
 use Rattle.nvme_ctrl.specs.kept.Content.{Content, CqContent, Ready}
 use Rattle.nvme_ctrl.specs.kept.Standing.{Holds, IsReady, answer_in}
 use Rattle.nvme_ctrl.specs.inside.Steps.{done}
-use Rattle.nvme_ctrl.specs.kept.Kept.{Item, ReadyItem, Items, IsWaitingIn, IsOutIn, IsReadyIn, IsAmongOuts, HasNumbers, HasItems, HoldsDoorbells, HoldsTags, IsThrough, IsUnanswered, HasCookie, HasReadyCookie, HasEntry, StandsAt, tags_of, places_of, ready_tags, readies_of, untaken, pending_of, is_free, IsDevices, IsReadyOf}
-use Rattle.nvme_ctrl.specs.kept.Pool.{slot_at, item_at, put_item, IsChain, IsNew, AreApart, SameItems, SameLinks}
+use Rattle.nvme_ctrl.specs.kept.Kept.{Item, ReadyItem, Items, IsWaitingIn, IsOutIn, IsReadyIn, IsAmongOuts, HasNumbers, HasItems, HoldsDoorbells, HoldsTags, IsThrough, IsUnanswered, HasCookie, HasReadyCookie, HasMarks, HasEntry, StandsAt, tags_of, places_of, ready_tags, readies_of, untaken, pending_of, is_free, IsDevices, IsReadyOf}
+use Rattle.nvme_ctrl.specs.kept.Pool.{slot_at, item_at, put_item, bit, marks_in, IsChain, IsNew, AreApart, SameItems, SameLinks}
 use Rattle.nvme_ctrl.specs.kept.State.{sq_at, cq_at}
 use Rattle.nvme_ctrl.proofs.Passed.{held_is_devices, devices_passed}
 use Rattle.nvme_ctrl.proofs.Cookies.{SameCookies, same_cookies-but, cookie_left, items_left, readies_left}
 use Rattle.nvme_ctrl.proofs.Pools.{length-put_item, item_at-put_item_same, item_at-put_item_other, chain-put_item, chain-other, length-apart, AreApart-others, IsNew-others}
+use Rattle.nvme_ctrl.proofs.PutMarks.{put_marks}
 use Rattle.nvme_ctrl.proofs.OwnStatus.{All-unmap}
 use Rattle.nvme_ctrl.proofs.ReadyHand.{All-taken}
 use Rattle.nvme_ctrl.proofs.RegionStates.{put_cq-each}
-use Rattle.nvme_ctrl.proofs.OutTags.{still_not_out-answered}
+use Rattle.nvme_ctrl.proofs.OutTags.{still_not_out-answered, still_not_out-marked}
 use Rattle.nvme_ctrl.proofs.SlotItems.{All-both, at_put, ready_state-range, same_state, out_stays, all_waiting_stay, all_ready_stay, all_free_stay}
 use Rattle.nvme_ctrl.proofs.AnsweredPlaces.{IsOther, is_other, at_hand, has_entries, attached, answered, holds_answered, was_fetched, others_out, others_in_windows}
 
@@ -61,11 +63,12 @@ new_to_ready slots xs h y low = All-map (λ (z : ℕ). z ≢ y) (λ (x : ReadyIt
     (λ x ready e. omega (arith, ready.state, (ready_state-range x.was_out x.ready.with_queue).0, ap (λ (z : ℕ). (slot_at slots z).state) e, low)) xs h)
 
 -- ---- what is so afterwards
-abbrev pub answered_slot : Slot → Answer → Slot
-answered_slot slot answer = record slot { state = 3; sct = answer.status.sct; sc = answer.status.sc; dw0 = answer.dw0 }
+abbrev pub answered_slot : Slot → Answer → Marks → Slot
+answered_slot slot answer marks =
+    record slot { state = 3; sct = answer.status.sct; sc = answer.status.sc; dw0 = answer.dw0; more = bit marks.more; do_not_retry = bit marks.do_not_retry }
 
-abbrev pub answered_pool : List Slot → ℕ → Answer → List Slot
-answered_pool slots tag answer = put_item slots tag (answered_slot (slot_at slots tag) answer)
+abbrev pub answered_pool : List Slot → ℕ → Answer → Marks → List Slot
+answered_pool slots tag answer marks = put_item slots tag (answered_slot (slot_at slots tag) answer marks)
 
 abbrev pub answered_cq : Controller → ℕ → Chain → CqState
 answered_cq c x chain = record (cq_at c.cqs x) { ready = chain }
@@ -74,8 +77,8 @@ answered_cq c x chain = record (cq_at c.cqs x) { ready = chain }
 abbrev pub answered_controller : Controller → ℕ → Chain → Controller
 answered_controller c x chain = record c { cqs = slice_set c.cqs x (answered_cq c x chain) }
 
-abbrev ready_item : Item → (sqid : ℕ) → Answer → ReadyItem
-ready_item it sqid answer = record { tag = it.tag; ready = done sqid it.place it.entry.cid answer; was_out = true }
+abbrev ready_item : Item → (sqid : ℕ) → Answer → Marks → ReadyItem
+ready_item it sqid answer marks = record { tag = it.tag; ready = done sqid it.place it.entry.cid answer; was_out = true; marks = marks }
 
 -- what a push of a slot to a chain of a pool made
 pub record IsPushed (slots : List Slot) (old : Chain) (tag : ℕ) (new : List Slot) (longer : Chain) : Type 0 where
@@ -86,14 +89,14 @@ pub record IsPushed (slots : List Slot) (old : Chain) (tag : ℕ) (new : List Sl
 -- a command that the device has is answered
 module _ (rules : FrontRules) (late : Bool) (notes : Notes) (c : Controller) (slots : List Slot) (k : Content) (g : Items)
     (s : Holds rules late (logged notes) k) (n : HasNumbers c k) (h : HasItems c slots k g) (t : HoldsTags notes c slots g)
-    (before : List Item) (it : Item) (after : List Item) (are : g.outs ≡ before ++ it ∷ after) (answer : Answer) (types : answer.status.sct < 8)
+    (before : List Item) (it : Item) (after : List Item) (are : g.outs ≡ before ++ it ∷ after) (answer : Answer) (marks : Marks) (types : answer.status.sct < 8)
     (new : List Slot) (chain : Chain)
-    (p : IsPushed (answered_pool slots it.tag answer) (cq_at c.cqs (sq_at c.sqs it.place.region).cq_region).ready it.tag new chain) where
+    (p : IsPushed (answered_pool slots it.tag answer marks) (cq_at c.cqs (sq_at c.sqs it.place.region).cq_region).ready it.tag new chain) where
   abbrev x : ℕ
   x = (sq_at c.sqs it.place.region).cq_region
 
   abbrev item : ReadyItem
-  item = ready_item it (sq_at c.sqs it.place.region).qid answer
+  item = ready_item it (sq_at c.sqs it.place.region).qid answer marks
 
   abbrev left : Items
   left = record g { outs = before ++ after; readies = λ y. if y == x then g.readies x ++ item ∷ [] else g.readies y }
@@ -108,13 +111,13 @@ module _ (rules : FrontRules) (late : Bool) (notes : Notes) (c : Controller) (sl
   others_are = (All-taken (IsOutIn slots) before it after (All-same (IsOutIn slots) (before ++ it ∷ after) g.outs (sym are) h.outs_items)).1
 
   size : length new ≡ length slots
-  size = p.items.size ∙ length-put_item slots it.tag (answered_slot (slot_at slots it.tag) answer)
+  size = p.items.size ∙ length-put_item slots it.tag (answered_slot (slot_at slots it.tag) answer marks)
 
   others : (y : ℕ) → y ≢ it.tag → item_at new y ≡ item_at slots y
-  others y other = p.items.items y ∙ item_at-put_item_other slots it.tag (answered_slot (slot_at slots it.tag) answer) y other
+  others y other = p.items.items y ∙ item_at-put_item_other slots it.tag (answered_slot (slot_at slots it.tag) answer marks) y other
 
-  now : item_at new it.tag ≡ record (answered_slot (slot_at slots it.tag) answer) { next = 0 }
-  now = p.items.items it.tag ∙ item_at-put_item_same slots it.tag (answered_slot (slot_at slots it.tag) answer) out.inside
+  now : item_at new it.tag ≡ record (answered_slot (slot_at slots it.tag) answer marks) { next = 0 }
+  now = p.items.items it.tag ∙ item_at-put_item_same slots it.tag (answered_slot (slot_at slots it.tag) answer marks) out.inside
 
   entries : (y : ℕ) → (slot_at new y).entry ≡ (slot_at slots y).entry
   entries y = elim (cases_eq y it.tag) [
@@ -144,8 +147,8 @@ module _ (rules : FrontRules) (late : Bool) (notes : Notes) (c : Controller) (sl
   -- a chain of slots that aren't ready in the completion region is left
   chain_left : (old : Chain) (xs : List ℕ) → All (λ (y : ℕ). IsNew y (ready_tags (g.readies x))) xs → IsChain slots old xs → IsChain new old xs
   chain_left old xs apart linked =
-      let pool : List Slot = answered_pool slots it.tag answer in
-      let slot : Slot = answered_slot (slot_at slots it.tag) answer in
+      let pool : List Slot = answered_pool slots it.tag answer marks in
+      let slot : Slot = answered_slot (slot_at slots it.tag) answer marks in
       chain-other pool new old xs (ready_tags (g.readies x)) (chain-put_item slots old xs it.tag slot linked)
       (p.links (ready_tags (g.readies x)) (chain-put_item slots (cq_at c.cqs x).ready (ready_tags (g.readies x)) it.tag slot (h.ready_chain x))) p.items.size apart
 
@@ -184,7 +187,7 @@ module _ (rules : FrontRules) (late : Bool) (notes : Notes) (c : Controller) (sl
 
   here_ready : IsChain new chain (ready_tags (g.readies x) ++ it.tag ∷ [])
   here_ready =
-      let slot : Slot = answered_slot (slot_at slots it.tag) answer in
+      let slot : Slot = answered_slot (slot_at slots it.tag) answer marks in
       let old = h.ready_chain x in
       let fresh : IsNew it.tag (ready_tags (g.readies x)) = new_to_ready slots (g.readies x) (h.ready_items x) it.tag (omega (arith, out.state)) in
       let many = length-apart (length slots) (it.tag ∷ ready_tags (g.readies x)) (fresh, old.apart)
@@ -203,6 +206,7 @@ module _ (rules : FrontRules) (late : Bool) (notes : Notes) (c : Controller) (sl
     sc = ap (λ (z : Slot). z.sc) now;
     dw0 = ap (λ (z : Slot). z.dw0) now;
     not_both = λ e. refl;
+    marks = ap marks_in now ∙ put_marks marks;
   }
 
   ready_left : (y : ℕ) → All (IsReadyIn new) (g.readies y)
@@ -295,7 +299,11 @@ module _ (rules : FrontRules) (late : Bool) (notes : Notes) (c : Controller) (sl
     cq_size = length-set c.cqs x (answered_cq c x chain) ∙ n.cq_size;
   }
 
-  pub answer-doorbells : HoldsDoorbells rules notes c → HoldsDoorbells rules (Answered it.place.region it.place.index answer ∷ notes) (answered_controller c x chain)
+  -- the notes afterwards
+  abbrev told : Notes
+  told = Marked it.place.region it.place.index marks ∷ Answered it.place.region it.place.index answer ∷ notes
+
+  pub answer-doorbells : HoldsDoorbells rules notes c → HoldsDoorbells rules told (answered_controller c x chain)
   answer-doorbells d = record {
     sqs = d.sqs;
     cqs = put_cq-each (λ y state. 0 < state.ring.slots → HasCounts state.ring (consumed rules notes y) (length (posted_to (logged notes) y)))
@@ -362,7 +370,32 @@ module _ (rules : FrontRules) (late : Bool) (notes : Notes) (c : Controller) (sl
   devices : IsDevices notes it.place
   devices = held_is_devices notes c g t.untaken_are t.passed it.tag it.place held
 
-  pub answer-tags : HoldsTags (Answered it.place.region it.place.index answer ∷ notes) (answered_controller c x chain) new left
+  -- what is ready is of other places
+  ready_other : (w : ReadyItem) → IsThrough notes w.ready → IsOther it.place.region it.place.index w.ready.place
+  ready_other w (inl is_aborted_place) = is_other it.place.region it.place.index w.ready.place (λ same_region same_index.
+      (let clear = (at_hand rules late notes c slots k g s n h t before it after are answer).not_aborted in
+      let lost : false ≡ true = sym clear ∙ (λ j. is_aborted (logged notes) (same_region j) (same_index j)) ∙ is_aborted_place in cc lost))
+  ready_other w (inr has) = is_other it.place.region it.place.index w.ready.place (λ same_region same_index.
+      (let none : answer_of notes w.ready.place.region w.ready.place.index ≡ None =
+      (λ j. answer_of notes (sym same_region j) (sym same_index j)) ∙ unanswered in
+      let lost : None ≡ Some (answer_in w.ready) = sym none ∙ has in cc lost))
+
+  marks_left : (w : ReadyItem) → IsThrough notes w.ready → HasMarks notes w → HasMarks told w
+  marks_left w through has = rw (ready_other w through) has
+
+  all_marks : (ws : List ReadyItem) → All (λ (w : ReadyItem). IsThrough notes w.ready) ws → All (HasMarks notes) ws → All (HasMarks told) ws
+  all_marks ws through has = All-both (λ (w : ReadyItem). IsThrough notes w.ready) (HasMarks notes) (HasMarks told) marks_left ws through has
+
+  item_marks : HasMarks told item
+  item_marks = rw (eq-eqb it.place.region it.place.region refl, eq-eqb it.place.index it.place.index refl) refl
+
+  none_marked_now : (r i : ℕ) → answer_of told r i ≡ None → marks_of told r i ≡ None
+  none_marked_now r i = by (it.place.region == r && it.place.index == i) where
+    by : (b : Bool) → (if b then Some answer else answer_of notes r i) ≡ None → (if b then Some marks else marks_of notes r i) ≡ None
+    by true lost = absurd (cc lost)
+    by false is = t.none_marked r i is
+
+  pub answer-tags : HoldsTags told (answered_controller c x chain) new left
   answer-tags = record {
     untaken_are = t.untaken_are;
     outs_held = (All-taken (λ (y : Item). holder notes y.tag ≡ Some y.place) before it after
@@ -383,7 +416,7 @@ module _ (rules : FrontRules) (late : Bool) (notes : Notes) (c : Controller) (sl
     none_answered = λ r i past_all. answer_left (place_at r i) (is_other it.place.region it.place.index (place_at r i) (λ same_region same_index.
         let was = was_fetched rules late notes c slots k g s n h t before it after are answer in
         omega (arith, was, same_index, ap (λ (z : ℕ). length (fetched (logged notes) z)) same_region, past_all))) ∙ t.none_answered r i past_all;
-    answered_held = not_out_now;
+    answered_held = λ y state. still_not_out-marked it.place.region it.place.index marks (Answered it.place.region it.place.index answer ∷ notes) y (not_out_now y state);
     hand_entries = All-same (HasEntry (logged notes)) (before ++ after ++ untaken c g) (before ++ (after ++ untaken c g)) hand_left
         (has_entries rules late notes c slots k g s n h t before it after are answer).1;
     free_count = t.free_count ∙ ap (λ (m : ℕ). m + all_posts (logged notes)) (sym size);
@@ -404,6 +437,10 @@ module _ (rules : FrontRules) (late : Bool) (notes : Notes) (c : Controller) (sl
       deletion = λ pending. cookie_left notes slots new same c.deletion.tag (place_at 0 g.delete_index) (t.cookies.deletion pending);
       none = t.cookies.none;
     };
+    none_marked = none_marked_now;
+    marks = at_put (λ y ws. All (HasMarks told) ws) g.readies x (g.readies x ++ item ∷ [])
+        (All-push (HasMarks told) (g.readies x) item (all_marks (g.readies x) (t.through x) (t.marks x)) item_marks)
+        (λ y other. all_marks (g.readies y) (t.through y) (t.marks y));
   } where
     not_deletion : c.deletion.pending ≢ 0 → (it.place.region == 0 && it.place.index == g.delete_index) ≡ false
     not_deletion pending = by (it.place.region == 0) (it.place.index == g.delete_index) refl refl where
@@ -429,8 +466,15 @@ module _ (rules : FrontRules) (late : Bool) (notes : Notes) (c : Controller) (sl
     executed = rw devices (record { tag = it.tag; stands = held });
   }
 
-  pub answer-account : IsAccount rules notes → IsAccount rules (Answered it.place.region it.place.index answer ∷ notes)
-  answer-account a = record { each = (is_answer, a.each); lawful = a.lawful; effects_whole = a.effects_whole }
+  is_marked : IsMarked (Answered it.place.region it.place.index answer ∷ notes) it.place.region it.place.index
+  is_marked = record {
+    first = t.none_marked it.place.region it.place.index unanswered;
+    answered = rw has_answer refl;
+    by_device = record { tag = it.tag; stands = held };
+  }
+
+  pub answer-account : IsAccount rules notes → IsAccount rules told
+  answer-account a = record { each = (is_marked, (is_answer, a.each)); lawful = a.lawful; effects_whole = a.effects_whole }
 
   pub answer-held : holder notes it.tag ≡ Some it.place
   answer-held = held
@@ -438,50 +482,50 @@ module _ (rules : FrontRules) (late : Bool) (notes : Notes) (c : Controller) (sl
 -- ---- the call
 -- where an item is among those that the device has
 answer-item : (rules : FrontRules) (late : Bool) (notes : Notes) (c : Controller) (slots : List Slot) (s : StandsAt rules late notes c slots)
-    (before : List Item) (it : Item) (after : List Item) → s.items.outs ≡ before ++ it ∷ after → (answer : Answer) → answer.status.sct < 8
+    (before : List Item) (it : Item) (after : List Item) → s.items.outs ≡ before ++ it ∷ after → (answer : Answer) (marks : Marks) → answer.status.sct < 8
     → (new : List Slot) (chain : Chain) (x : ℕ) → (sq_at c.sqs (slot_at slots it.tag).region).cq_region ≡ x
-    → IsPushed (answered_pool slots it.tag answer) (cq_at c.cqs x).ready it.tag new chain
-    → HasAnswered rules late notes it.tag answer (answered_controller c x chain) new
-answer-item rules late notes c slots s before it after are answer types new chain x goes pushed =
-    subst (λ (y : ℕ). IsPushed (answered_pool slots it.tag answer) (cq_at c.cqs y).ready it.tag new chain → HasAnswered rules late notes it.tag answer (answered_controller c y chain) new)
+    → IsPushed (answered_pool slots it.tag answer marks) (cq_at c.cqs x).ready it.tag new chain
+    → HasAnswered rules late notes it.tag answer marks (answered_controller c x chain) new
+answer-item rules late notes c slots s before it after are answer marks types new chain x goes pushed =
+    subst (λ (y : ℕ). IsPushed (answered_pool slots it.tag answer marks) (cq_at c.cqs y).ready it.tag new chain → HasAnswered rules late notes it.tag answer marks (answered_controller c y chain) new)
     (sym (ap (λ (r : ℕ). (sq_at c.sqs r).cq_region) out.region) ∙ goes) stands pushed
   where
     out : IsOutIn slots it
     out = (All-taken (IsOutIn slots) before it after (All-same (IsOutIn slots) (before ++ it ∷ after) s.items.outs (sym are) s.has.outs_items)).0
 
-    stands : IsPushed (answered_pool slots it.tag answer) (cq_at c.cqs (sq_at c.sqs it.place.region).cq_region).ready it.tag new chain
-        → HasAnswered rules late notes it.tag answer (answered_controller c (sq_at c.sqs it.place.region).cq_region chain) new
+    stands : IsPushed (answered_pool slots it.tag answer marks) (cq_at c.cqs (sq_at c.sqs it.place.region).cq_region).ready it.tag new chain
+        → HasAnswered rules late notes it.tag answer marks (answered_controller c (sq_at c.sqs it.place.region).cq_region chain) new
     stands p = record {
       region = it.place.region;
       index = it.place.index;
-      held = answer-held rules late notes c slots s.content s.items s.holds s.numbers s.has s.tags before it after are answer types new chain p;
+      held = answer-held rules late notes c slots s.content s.items s.holds s.numbers s.has s.tags before it after are answer marks types new chain p;
       stands = record {
         content = answered rules late notes c slots s.content s.items s.holds s.numbers s.has s.tags before it after are answer;
         items = record s.items {
           outs = before ++ after;
-          readies = λ y. if y == (sq_at c.sqs it.place.region).cq_region then s.items.readies (sq_at c.sqs it.place.region).cq_region ++ ready_item it (sq_at c.sqs it.place.region).qid answer ∷ []
+          readies = λ y. if y == (sq_at c.sqs it.place.region).cq_region then s.items.readies (sq_at c.sqs it.place.region).cq_region ++ ready_item it (sq_at c.sqs it.place.region).qid answer marks ∷ []
               else s.items.readies y;
         };
         holds = holds_answered rules late notes c slots s.content s.items s.holds s.numbers s.has s.tags before it after are answer;
-        numbers = answer-numbers rules late notes c slots s.content s.items s.holds s.numbers s.has s.tags before it after are answer types new chain p;
-        has = answer-items rules late notes c slots s.content s.items s.holds s.numbers s.has s.tags before it after are answer types new chain p;
-        doorbells = answer-doorbells rules late notes c slots s.content s.items s.holds s.numbers s.has s.tags before it after are answer types new chain p s.doorbells;
-        tags = answer-tags rules late notes c slots s.content s.items s.holds s.numbers s.has s.tags before it after are answer types new chain p;
-        account = λ on_time. answer-account rules late notes c slots s.content s.items s.holds s.numbers s.has s.tags before it after are answer types new chain p (s.account on_time);
+        numbers = answer-numbers rules late notes c slots s.content s.items s.holds s.numbers s.has s.tags before it after are answer marks types new chain p;
+        has = answer-items rules late notes c slots s.content s.items s.holds s.numbers s.has s.tags before it after are answer marks types new chain p;
+        doorbells = answer-doorbells rules late notes c slots s.content s.items s.holds s.numbers s.has s.tags before it after are answer marks types new chain p s.doorbells;
+        tags = answer-tags rules late notes c slots s.content s.items s.holds s.numbers s.has s.tags before it after are answer marks types new chain p;
+        account = λ on_time. answer-account rules late notes c slots s.content s.items s.holds s.numbers s.has s.tags before it after are answer marks types new chain p (s.account on_time);
       };
     }
 
 -- the controller stands at its log with the note, where the slot of a command that the device has is ready
 pub answer-stands : (rules : FrontRules) (late : Bool) (notes : Notes) (c : Controller) (slots : List Slot) → StandsAt rules late notes c slots
-    → (tag : ℕ) → (slot_at slots tag).state ≡ 2 → (answer : Answer) → answer.status.sct < 8
+    → (tag : ℕ) → (slot_at slots tag).state ≡ 2 → (answer : Answer) (marks : Marks) → answer.status.sct < 8
     → (new : List Slot) (chain : Chain) (x : ℕ) → (sq_at c.sqs (slot_at slots tag).region).cq_region ≡ x
-    → IsPushed (answered_pool slots tag answer) (cq_at c.cqs x).ready tag new chain
-    → HasAnswered rules late notes tag answer (answered_controller c x chain) new
-answer-stands rules late notes c slots s tag state answer types new chain x =
+    → IsPushed (answered_pool slots tag answer marks) (cq_at c.cqs x).ready tag new chain
+    → HasAnswered rules late notes tag answer marks (answered_controller c x chain) new
+answer-stands rules late notes c slots s tag state answer marks types new chain x =
     let at = s.has.outs_all tag state in
-    subst (λ (y : ℕ). (sq_at c.sqs (slot_at slots y).region).cq_region ≡ x → IsPushed (answered_pool slots y answer) (cq_at c.cqs x).ready y new chain
-    → HasAnswered rules late notes y answer (answered_controller c x chain) new) at.tag
-    (answer-item rules late notes c slots s at.before at.item at.after at.are answer types new chain x)
+    subst (λ (y : ℕ). (sq_at c.sqs (slot_at slots y).region).cq_region ≡ x → IsPushed (answered_pool slots y answer marks) (cq_at c.cqs x).ready y new chain
+    → HasAnswered rules late notes y answer marks (answered_controller c x chain) new) at.tag
+    (answer-item rules late notes c slots s at.before at.item at.after at.are answer marks types new chain x)
 
 -- ---- what is answered
 -- the tag of a slot that the device has is out

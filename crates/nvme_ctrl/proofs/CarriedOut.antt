@@ -22,7 +22,7 @@ use Rattle.nvme_log.specs.Account.{PostsOwnBy}
 use Rattle.nvme_log.specs.Aborts.{is_index}
 use Rattle.nvme_ctrl.specs.kept.Pool.{slot_at}
 use Rattle.nvme_ctrl.specs.Notes.{Notes, Logged, Answered, EachNote, logged}
-use Rattle.nvme_ctrl.specs.Tags.{answer_of, answers, cookie_of, is_passed}
+use Rattle.nvme_ctrl.specs.Tags.{answer_of, answers, cookie_of, is_passed, marks_of}
 use Rattle.nvme_ctrl.specs.Account.{IsLawfulEvent, IsLawful, IsAccount, IsCarriedOut, FetchesSubmitted, PostsOnFreeSlot, PostsWhatIsThrough}
 use Rattle.nvme_ctrl.specs.Steps.{with_logged, picked_notes, HasCarriedOut}
 use Rattle.nvme_ctrl.specs.declared.slot.Slot.{Slot}
@@ -158,6 +158,10 @@ module _ (rules : FrontRules) (late : Bool) (notes : Notes) (a : Controller) (sl
   -- the controller keeps the same at them
   pub keeps_made : Keeps rules made_notes a slots applied h.items
   keeps_made = keeps-picked rules made notes (observation_of (logged notes)) h.pick a slots applied h.items are_effects h.of_admin h.keeps
+
+  -- the device doesn't mark its completion
+  pub unmarked : marks_of made_notes 0 h.candidate.index ≡ None
+  unmarked = keeps_made.tags.none_marked 0 h.candidate.index unanswered
 
   -- what the command leaves holds there
   pub holds_made : (c : ℕ) (board : BoardView) → IsChosen rules (logged notes) h.before c h.picked board v

@@ -18,19 +18,19 @@ use Rattle.nvme_ctrl.specs.declared.slot.Slot.{Slot}
 use Rattle.nvme_ctrl.specs.declared.state.Controller.{Controller}
 use Rattle.nvme_ctrl.specs.kept.Content.{Ready, Content, with_ready}
 use Rattle.nvme_ctrl.specs.inside.Steps.{told}
-use Rattle.nvme_ctrl.specs.kept.Kept.{Items, IsThrough, IsCookie, is_passed_at}
+use Rattle.nvme_ctrl.specs.kept.Kept.{Items, IsThrough, IsCookie, is_passed_at, IsUnmarked}
 use Rattle.nvme_ctrl.specs.inside.Loose.{IsLoose, Keeps, MakesReady, ended, with_item}
 use Rattle.nvme_ctrl.specs.inside.Carrying.{IsApplied, opening}
 use Rattle.nvme_ctrl.specs.kept.Pool.{item_at}
 use Rattle.nvme_ctrl.proofs.AfterSteps.{IsChosen, after_admin}
-use Rattle.nvme_ctrl.proofs.CarriedOut.{made_notes, applied, cookie_kept, not_passed_on, keeps_told, carried_told}
+use Rattle.nvme_ctrl.proofs.CarriedOut.{made_notes, applied, cookie_kept, not_passed_on, unmarked, keeps_told, carried_told}
 use Rattle.nvme_ctrl.proofs.AppliedQueues.{opens_for, opens_there}
 
 -- what a command that ends as an admin command is answered keeps
 abbrev pub KeepsEnd : (a : Controller) (slots : List Slot) (tag : ℕ) (status : StatusCode) (dw0 : ℕ) (b : Controller) (pool : List Slot) → Type 0
 KeepsEnd a slots tag status dw0 b pool =
     (rules : FrontRules) (notes : Notes) (k : Content) (g : Items) (t : Ready) → Keeps rules notes a slots k g → IsLoose slots g tag → MakesReady slots tag 4 status dw0 t → IsThrough notes t
-    → IsCookie notes slots tag t.place → t.passed ≡ is_passed_at notes t.place → 0 < 65
+    → IsCookie notes slots tag t.place → t.passed ≡ is_passed_at notes t.place → IsUnmarked notes t.place → 0 < 65
     → Keeps rules notes b pool (with_ready k 0 t) (with_item g 0 (ended tag t))
 
 module _ (rules : FrontRules) (late : Bool) (notes : Notes) (a : Controller) (slots : List Slot) (tag : ℕ) (did : Effect) (h : IsApplied rules late notes a slots tag did) where
@@ -52,7 +52,7 @@ module _ (rules : FrontRules) (late : Bool) (notes : Notes) (a : Controller) (sl
         status_is = refl;
         dw0_is = refl;
       }) (inr (rw (eq-eqb h.candidate.index h.candidate.index refl) refl))
-      (cookie_kept rules late notes a slots tag did h ∙ ap (λ (s : Slot). Some s.cookie) (sym slot)) (sym (not_passed_on rules late notes a slots tag did h)) (omega arith))
+      (cookie_kept rules late notes a slots tag did h ∙ ap (λ (s : Slot). Some s.cookie) (sym slot)) (sym (not_passed_on rules late notes a slots tag did h)) (unmarked rules late notes a slots tag did h) (omega arith))
 
   -- it was answered, and made no more of what is kept
   pub ended_plain : (status : StatusCode) (dw0 : ℕ) → IsChosen rules (logged notes) h.before 0 h.picked h.picked (verdict_in did)
@@ -97,9 +97,3 @@ pub carried_as : (rules : FrontRules) (late : Bool) (notes : Notes) (a : Control
     → (IsApplied rules late notes a slots tag this → HasCarriedOut rules late notes (verdict_in this) b pool) → IsApplied rules late notes a slots tag did → HasCarriedOut rules late notes (verdict_in did) b pool
 carried_as rules late notes a slots tag did this b pool is carried =
     subst (λ (e : Effect). IsApplied rules late notes a slots tag e → HasCarriedOut rules late notes (verdict_in e) b pool) (sym is) carried
-
--- its answer is success
-pub ends_as : (a : Controller) (slots : List Slot) (tag : ℕ) (status this : StatusCode) (dw0 n : ℕ) (b : Controller) (pool : List Slot) → status ≡ this → dw0 ≡ n
-    → KeepsEnd a slots tag status dw0 b pool → KeepsEnd a slots tag this n b pool
-ends_as a slots tag status this dw0 n b pool is same end =
-    subst (λ (s : StatusCode). KeepsEnd a slots tag s n b pool) is (subst (λ (x : ℕ). KeepsEnd a slots tag status x b pool) same end)

@@ -240,6 +240,8 @@ module _ (rules : FrontRules) (late : Bool) (notes : Notes) (c : Controller) (sl
               free_count = s.tags.free_count;
               cookies = cookies_later notes (Tail e.region slot ∷ notes) (with_sq_ring c e.region new) slots s.items (λ r i. refl) (λ r. refl) (cookies_left notes slots slots (λ y. refl) c (with_sq_ring c e.region new) s.items refl s.tags.cookies);
               passed = passed_later notes (Tail e.region slot ∷ notes) (with_sq_ring c e.region new) s.items (λ i. refl) refl (λ i waits. waits) (passed_left notes c (with_sq_ring c e.region new) s.items s.items refl (λ x. refl) refl s.tags.passed);
+              none_marked = s.tags.none_marked;
+              marks = s.tags.marks;
             };
             account = λ on_time. (let a = s.account on_time in record { each = (tail, a.each); lawful = a.lawful; effects_whole = a.effects_whole });
           };
@@ -403,6 +405,8 @@ module _ (rules : FrontRules) (late : Bool) (notes : Notes) (c : Controller) (sl
               free_count = s.tags.free_count;
               cookies = cookies_later notes (Head region slot ∷ notes) (with_cq_ring c region new) slots s.items (λ r i. refl) (λ r. refl) (cookies_left notes slots slots (λ y. refl) c (with_cq_ring c region new) s.items refl s.tags.cookies);
               passed = passed_later notes (Head region slot ∷ notes) (with_cq_ring c region new) s.items (λ i. refl) refl (λ i waits. waits) (passed_left notes c (with_cq_ring c region new) s.items s.items refl (λ x. refl) refl s.tags.passed);
+              none_marked = s.tags.none_marked;
+              marks = s.tags.marks;
             };
             account = λ on_time. (let a = s.account on_time in record { each = (head, a.each); lawful = a.lawful; effects_whole = a.effects_whole });
           };

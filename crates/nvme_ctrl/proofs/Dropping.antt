@@ -11,7 +11,7 @@ use Rattle.nvme_entry.specs.Status.{aborted_by_deletion}
 use Rattle.nvme_entry.specs.declared.submission.Sqe.{Sqe}
 use Rattle.nvme_log.specs.Rules.{FrontRules}
 use Rattle.nvme_log.specs.Places.{is_aborted}
-use Rattle.nvme_ctrl.specs.Tags.{cookie_of}
+use Rattle.nvme_ctrl.specs.Tags.{answer_of, cookie_of}
 use Rattle.nvme_ctrl.specs.Notes.{Notes, logged}
 use Rattle.nvme_ctrl.specs.declared.slot.Slot.{Slot}
 use Rattle.nvme_ctrl.specs.declared.chain.Chain.{Chain}
@@ -19,7 +19,7 @@ use Rattle.nvme_ctrl.specs.declared.state.SqState.{SqState}
 use Rattle.nvme_ctrl.specs.declared.state.Controller.{Controller}
 use Rattle.nvme_ctrl.specs.kept.Content.{Attachment, Candidate, Ready, SqContent, CqContent, Content, put_sq, put_cq, with_sq, with_ready}
 use Rattle.nvme_ctrl.specs.inside.Steps.{aborted}
-use Rattle.nvme_ctrl.specs.kept.Kept.{is_passed_at, Item, Items, IsWaitingIn, IsOutIn, IsUnanswered, IsThrough, tags_of, candidate_of, IsCookie, HasCookie}
+use Rattle.nvme_ctrl.specs.kept.Kept.{is_passed_at, Item, Items, IsWaitingIn, IsOutIn, IsUnanswered, IsThrough, tags_of, candidate_of, IsCookie, HasCookie, IsUnmarked}
 use Rattle.nvme_ctrl.specs.inside.Loose.{IsLoose, Keeps, MakesReady, ended, with_item}
 use Rattle.nvme_ctrl.specs.inside.Carrying.{IsDroppable, oldest_dropped, item_dropped, dropped, HasDropped}
 use Rattle.nvme_ctrl.specs.kept.Pool.{no_entry, slot_at, item_at, IsChain, IsNew}
@@ -92,7 +92,7 @@ first_there rules notes a slots k g region s x rest h is same =
 abbrev pub KeepsDrop : (a : Controller) (slots : List Slot) (tag region : ℕ) (b : Controller) (pool : List Slot) → Type 0
 KeepsDrop a slots tag region b pool =
     (rules : FrontRules) (notes : Notes) (k : Content) (g : Items) (t : Ready) → Keeps rules notes a slots k g → IsLoose slots g tag → MakesReady slots tag 5 aborted_by_deletion 0 t → IsThrough notes t
-    → IsCookie notes slots tag t.place → t.passed ≡ is_passed_at notes t.place → region < 65
+    → IsCookie notes slots tag t.place → t.passed ≡ is_passed_at notes t.place → IsUnmarked notes t.place → region < 65
     → Keeps rules notes b pool (with_ready k region t) (with_item g region (ended tag t))
 
 module _ (rules : FrontRules) (notes : Notes) (a : Controller) (slots : List Slot) (k : Content) (g : Items) (qid region c : ℕ) (x : Item) (rest : List Item)
@@ -120,6 +120,11 @@ module _ (rules : FrontRules) (notes : Notes) (a : Controller) (slots : List Slo
   cookie : IsCookie notes slots x.tag (aborted qid region (candidate_of x)).place
   cookie = subst (λ (r : ℕ). cookie_of notes r x.place.index ≡ Some (slot_at slots x.tag).cookie) first.place (All-head (HasCookie notes slots) x rest cookies)
 
+  unmarked : IsUnmarked notes (aborted qid region (candidate_of x)).place
+  unmarked = h.tags.none_marked region x.place.index
+      (subst (λ (r : ℕ). answer_of notes r x.place.index ≡ None) first.place
+      (All-head (λ (it : Item). IsUnanswered notes it.place) x rest (subst (All (λ (it : Item). IsUnanswered notes it.place)) is (h.tags.windows_unanswered region))))
+
   is_through : IsThrough notes (aborted qid region (candidate_of x))
   is_through = inl (All-head (λ (z : Candidate). is_aborted (logged notes) region z.index ≡ true) (candidate_of x) (map candidate_of rest)
       (subst (All (λ (z : Candidate). is_aborted (logged notes) region z.index ≡ true)) window_is d.are_aborted))
@@ -130,7 +135,7 @@ module _ (rules : FrontRules) (notes : Notes) (a : Controller) (slots : List Slo
       → Keeps rules notes b pool (oldest_dropped k qid region c x rest) (item_dropped g qid region c x rest)
   keeps_dropped sq chain m b pool tag sq_is linked m_is tag_is drops =
       subst (λ (z : ℕ). Keeps rules notes b pool (with_ready mid z t) (with_item (with_window g region rest) z (ended x.tag t))) to
-      (subst (λ (z : ℕ). KeepsDrop m slots z sq.cq_region b pool) tag_is drops rules notes mid (with_window g region rest) t keeps loose made is_through cookie (sym (rw d.io refl))
+      (subst (λ (z : ℕ). KeepsDrop m slots z sq.cq_region b pool) tag_is drops rules notes mid (with_window g region rest) t keeps loose made is_through cookie (sym (rw d.io refl)) unmarked
       (subst (λ (z : ℕ). z < 65) (sym to) d.posts_there)) where
         t : Ready
         t = aborted qid region (candidate_of x)

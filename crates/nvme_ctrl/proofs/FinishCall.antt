@@ -113,6 +113,8 @@ module _ (rules : FrontRules) (notes : Notes) (a : Controller) (slots : List Slo
     free_count = m.free_count ∙ ap (λ (n : ℕ). n + all_posts (logged notes)) (sym size);
     cookies = cookies_left notes slots pool (same_cookies-but slots pool tag others (ap (λ (s : Slot). s.cookie) here ∙ same_cookie)) a a g refl m.cookies;
     passed = m.passed;
+    none_marked = m.none_marked;
+    marks = m.marks;
   }
 
   -- it stays in no list
@@ -314,6 +316,8 @@ module _ (rules : FrontRules) (late : Bool) (notes : Notes) (c : Controller) (sl
         free_count = x.free_count;
         cookies = (let q = x.cookies in record { windows = q.windows; outs = q.outs; readies = q.readies; deletion = λ no. absurd (no refl); none = q.none });
         passed = (let q = x.passed in record { all_handed = q.all_handed; served = q.served; readies = q.readies; deletion = λ no. absurd (no refl) });
+        none_marked = x.none_marked;
+        marks = x.marks;
       });
       apart = readies_are_apart rules late notes c slots s;
       none_pending = refl;
@@ -398,7 +402,8 @@ module _ (rules : FrontRules) (late : Bool) (notes : Notes) (c : Controller) (sl
           (subst (λ (xs : List Slot). Keeps rules finished m xs k1 g) (sym put_is) (keeps_put rules finished m slots k1 g keeps_finished c.deletion.tag loose put six refl))
           (subst (λ (xs : List Slot). IsLoose xs g c.deletion.tag) (sym put_is) (loose_put rules finished m slots k1 g keeps_finished c.deletion.tag loose put six refl))
           (record { state_is = refl; region = ap (λ (x : Slot). x.region) here; cid = ap (λ (x : Slot). x.entry.cid) here; status_is = refl; dw0_is = refl })
-          (inr (rw (eq-eqb g.delete_index g.delete_index refl) refl)) (s.tags.cookies.deletion some ∙ ap (λ (x : Slot). Some x.cookie) (sym here)) (sym (s.tags.passed.deletion some)) (omega arith)
+          (inr (rw (eq-eqb g.delete_index g.delete_index refl) refl)) (s.tags.cookies.deletion some ∙ ap (λ (x : Slot). Some x.cookie) (sym here))
+          (sym (s.tags.passed.deletion some)) (s.tags.none_marked 0 g.delete_index unanswered) (omega arith)
 
 -- ---- where none is finished
 -- none is pending, or a command of its queue has no completion posted

@@ -56,6 +56,7 @@ pub mod PostItems
 pub mod PostLog
 pub mod OutTags
 pub mod Cookies
+pub mod PutMarks
 pub mod SlotItems
 pub mod TakeCall
 pub mod AnsweredPlaces

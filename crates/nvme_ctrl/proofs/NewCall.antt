@@ -228,6 +228,8 @@ module _ (mechanism : Mechanism) (settings : ArbitrationFields) (limits : Limits
         deletion = λ pending. absurd (pending refl);
         none = λ r i le. refl;
       };
+      none_marked = λ r i none. refl;
+      marks = λ x i e lt. absurd (omega (arith, lt));
     }
 
     -- the controller stands at the empty log

@@ -64,6 +64,8 @@ owned rules late notes c slots own s = record {
     free_count = t.free_count;
     cookies = (let q = t.cookies in record { windows = q.windows; outs = q.outs; readies = q.readies; deletion = q.deletion; none = q.none });
     passed = (let p = t.passed in record { all_handed = p.all_handed; served = p.served; readies = p.readies; deletion = p.deletion });
+    none_marked = t.none_marked;
+    marks = t.marks;
   });
   account = s.account;
 }

@@ -252,6 +252,8 @@ module _ (rules : FrontRules) (late : Bool) (notes : Notes) (c : Controller) (sl
     free_count = s.tags.free_count;
     cookies = cookies_later notes later new slots g (λ r j. refl) (λ r. refl) (cookies_left notes slots slots (λ y. refl) c new g refl s.tags.cookies);
     passed = passed_now;
+    none_marked = s.tags.none_marked;
+    marks = s.tags.marks;
   }
 
   -- the note is lawful

@@ -356,6 +356,8 @@ module _ (rules : FrontRules) (late : Bool) (notes : Notes) (c : Controller) (sl
       free_count = s.tags.free_count;
       cookies = cookies_later notes (picked_notes notes pick) new slots g (λ x i. refl) (λ x. refl) (cookies_left notes slots slots (λ y. refl) c new g refl s.tags.cookies);
       passed = picked_passed;
+      none_marked = s.tags.none_marked;
+      marks = s.tags.marks;
     }
 
     pick-holds : Holds rules late (event.Pick (observation_of now) pick ∷ now) after

@@ -7,6 +7,7 @@ use Rattle.std.specs.Prelude.{All, slice_set}
 use Rattle.std.proofs.lemmas.Bool.{cases_eq, eq-eqb, ne_eqb, or_left, or_right, and_parts}
 use Rattle.std.proofs.lemmas.List.Sums.{get_or-le-sum_by}
 use Rattle.std.proofs.lemmas.List.Elements.{All-head, All-tail, All-same, All-weaker}
+use Rattle.nvme_entry.specs.Status.{StatusCode}
 use Rattle.nvme_entry.specs.declared.submission.Sqe.{Sqe}
 use Rattle.nvme_entry.specs.declared.completion.Cqe.{Cqe}
 use Rattle.nvme_log.specs.declared.place.Place.{Place}
@@ -16,12 +17,13 @@ use Rattle.nvme_log.specs.Completions.{posted_to, own_status_by, own_dw0_by, IsO
 use Rattle.nvme_log.specs.Dispatches.{place_at}
 use Rattle.nvme_log.specs.Answers.{Answer, by_answers}
 use Rattle.nvme_ctrl.specs.Notes.{Notes}
-use Rattle.nvme_ctrl.specs.Tags.{is_place, holder, answer_of, answer_or, answers, is_out, all_fetches, all_posts, cookie_of, is_passed}
+use Rattle.nvme_ctrl.specs.Marks.{marks_or}
+use Rattle.nvme_ctrl.specs.Tags.{is_place, holder, answer_of, answer_or, answers, is_out, all_fetches, all_posts, cookie_of, is_passed, marks_of}
 use Rattle.nvme_ctrl.specs.Account.{IsLawfulEvent, IsAccount, PostsAnswer, PostsOwn}
 use Rattle.nvme_ctrl.specs.declared.slot.Slot.{Slot}
 use Rattle.nvme_ctrl.specs.kept.Content.{Ready}
 use Rattle.nvme_ctrl.specs.kept.Standing.{Holds, answer_in, hand_of, held_by, times_held}
-use Rattle.nvme_ctrl.specs.kept.Pool.{slot_at, put_item, IsChain}
+use Rattle.nvme_ctrl.specs.kept.Pool.{slot_at, put_item, marks_in, IsChain}
 use Rattle.nvme_ctrl.specs.kept.State.{cq_at}
 use Rattle.nvme_ctrl.specs.inside.Next.{IsNext}
 use Rattle.nvme_ctrl.specs.inside.Posting.{completion_of, counted_post}
@@ -29,7 +31,7 @@ use Rattle.nvme_ctrl.specs.Calls.{HasPosted}
 use Rattle.nvme_ctrl.specs.declared.chain.Chain.{Chain}
 use Rattle.nvme_ctrl.specs.declared.state.CqState.{CqState}
 use Rattle.nvme_ctrl.specs.declared.state.Controller.{Controller}
-use Rattle.nvme_ctrl.specs.kept.Kept.{Item, ReadyItem, places_of, ready_state, ready_tags, readies_of, untaken, IsThrough, HoldsTags, StandsAt, HasReadyCookie, IsReadyOf}
+use Rattle.nvme_ctrl.specs.kept.Kept.{Item, ReadyItem, places_of, ready_state, ready_tags, readies_of, untaken, IsThrough, HoldsTags, StandsAt, HasReadyCookie, IsReadyOf, HasMarks}
 use Rattle.nvme_ctrl.proofs.Cookies.{SameCookies, same_cookies-but, cookie_left, items_left, readies_left}
 use Rattle.nvme_ctrl.proofs.NextEvents.{next-post, posts-as-ready, oldest_answerable, posts-else}
 use Rattle.nvme_ctrl.proofs.OwnStatus.{All-unmap, IsAnswerable, ready_is_answerable}
@@ -218,6 +220,8 @@ module _ (p : PostCall) where
           deletion = λ pending. cookie_left p.notes p.slots p.new same p.c.deletion.tag (place_at 0 p.stands.items.delete_index) (h.cookies.deletion pending);
           none = h.cookies.none;
         };
+        none_marked = h.none_marked;
+        marks = of_readies (HasMarks p.notes) h.marks;
       } where
         same : SameCookies p.slots p.new
         same = same_cookies-but p.slots p.new (tag p) (other_kept p) (tag_cookie p)
@@ -304,6 +308,10 @@ module _ (p : PostCall) where
 kept : (p : PostCall) → cookie_of p.notes (region p) (index p) ≡ Some (command p).cookie
 kept p = of_item p (HasReadyCookie p.notes p.slots) (p.stands.tags.cookies.readies p.x)
 
+-- its marks are those of its place
+marked : (p : PostCall) → marks_in (command p) ≡ marks_or (cqe_of p).status (marks_of p.notes (region p) (index p))
+marked p = (ready_in p).marks ∙ of_item p (HasMarks p.notes) (p.stands.tags.marks p.x) ∙ ap (λ (s : StatusCode). marks_or s (marks_of p.notes (region p) (index p))) (sym (can_post p).status)
+
 pub stands_after : (p : PostCall) → StandsAt p.rules p.late (notes_after p) (controller_by p (command p).region) p.new
 stands_after p =
     subst (λ (r : ℕ). StandsAt p.rules p.late (notes_after p) (controller_by p r) p.new) (sym (ready_in p).region)
@@ -319,12 +327,13 @@ stands_after p =
     })
 
 pub posted_call : (p : PostCall)
-    → HasPosted p.rules p.late p.notes p.x (cq_at p.c.cqs p.x).ring.tail (cqe_of p) (command p).cookie (controller_by p (command p).region) p.new
+    → HasPosted p.rules p.late p.notes p.x (cq_at p.c.cqs p.x).ring.tail (cqe_of p) (command p).cookie (marks_in (command p)) (controller_by p (command p).region) p.new
 posted_call p = record {
   region = region p;
   index = index p;
   slot_is = (counts_before p).tail_is ∙ ap (λ (n : ℕ). length (posted_to (past_of p) p.x) % n) (p.stands.numbers.cq_slots p.x ∙ sym (p.stands.holds.tabled.cq_slots p.x));
   kept = kept p;
+  marked = marked p;
   stands = stands_after p;
 }
 
@@ -334,14 +343,14 @@ left_by c slots x tag cq free = record (counted_post (record c { cqs = slice_set
 
 pub call_posts : (rules : FrontRules) (late : Bool) (notes : Notes) (c : Controller) (slots : List Slot) (x tag : ℕ) (cq : CqState) (free : Chain) (new : List Slot)
     → StandsAt rules late notes c slots → HasDone (cq_at c.cqs x) c.free slots (freed slots tag) tag cq free new
-    → HasPosted rules late notes x (cq_at c.cqs x).ring.tail (completion_of c (slot_at slots tag) ((cq_at c.cqs x).phase == 1)) (slot_at slots tag).cookie (left_by c slots x tag cq free) new
+    → HasPosted rules late notes x (cq_at c.cqs x).ring.tail (completion_of c (slot_at slots tag) ((cq_at c.cqs x).phase == 1)) (slot_at slots tag).cookie (marks_in (slot_at slots tag)) (left_by c slots x tag cq free) new
 call_posts rules late notes c slots x tag cq free new stands did = by (stands.items.readies x) refl where
   by : (items : List ReadyItem) → stands.items.readies x ≡ items
-      → HasPosted rules late notes x (cq_at c.cqs x).ring.tail (completion_of c (slot_at slots tag) ((cq_at c.cqs x).phase == 1)) (slot_at slots tag).cookie (left_by c slots x tag cq free) new
+      → HasPosted rules late notes x (cq_at c.cqs x).ring.tail (completion_of c (slot_at slots tag) ((cq_at c.cqs x).phase == 1)) (slot_at slots tag).cookie (marks_in (slot_at slots tag)) (left_by c slots x tag cq free) new
   by [] e = absurd (did.some (subst (λ (items : List ReadyItem). IsChain slots (cq_at c.cqs x).ready (ready_tags items)) e (stands.has.ready_chain x)))
   by (item ∷ rest) e =
       let same : item.tag ≡ tag = did.first item.tag (ready_tags rest) (subst (λ (items : List ReadyItem). IsChain slots (cq_at c.cqs x).ready (ready_tags items)) e (stands.has.ready_chain x)) in
-      subst (λ (z : ℕ). HasPosted rules late notes x (cq_at c.cqs x).ring.tail (completion_of c (slot_at slots z) ((cq_at c.cqs x).phase == 1)) (slot_at slots z).cookie (left_by c slots x z cq free) new) same
+      subst (λ (z : ℕ). HasPosted rules late notes x (cq_at c.cqs x).ring.tail (completion_of c (slot_at slots z) ((cq_at c.cqs x).phase == 1)) (slot_at slots z).cookie (marks_in (slot_at slots z)) (left_by c slots x z cq free) new) same
       (posted_call (record {
         rules = rules;
         late = late;
@@ -365,7 +374,7 @@ pub steps_post : (rules : FrontRules) (late : Bool) (notes : Notes) (c put count
     → old ≡ cq_at c.cqs x → command ≡ slot_at slots tag → cqe ≡ completion_of c command (old.phase == 1) → put ≡ record c { cqs = slice_set c.cqs x cq }
     → counted ≡ counted_post put command → pool ≡ put_item slots tag (record command { state = 0 })
     → HasDone old counted.free slots pool tag cq free new → StandsAt rules late notes c slots
-    → HasPosted rules late notes x old.ring.tail cqe command.cookie (record counted { free = free }) new
+    → HasPosted rules late notes x old.ring.tail cqe command.cookie (marks_in command) (record counted { free = free }) new
 steps_post rules late notes c put counted slots pool x tag old cq command free new cqe is_old is_command is_cqe is_put is_counted is_pool did stands =
     let first : cqe ≡ completion_of c (slot_at slots tag) ((cq_at c.cqs x).phase == 1) = is_cqe ∙ (λ j. completion_of c (is_command j) ((is_old j).phase == 1)) in
     let left : counted ≡ counted_post (record c { cqs = slice_set c.cqs x cq }) (slot_at slots tag) = is_counted ∙ (λ j. counted_post (is_put j) (is_command j)) in
@@ -374,8 +383,8 @@ steps_post rules late notes c put counted slots pool x tag old cq command free n
     subst (λ (o : CqState). HasDone o c.free slots (freed slots tag) tag cq free new) is_old
     (subst (λ (b : Chain). HasDone old b slots (freed slots tag) tag cq free new) (ap (λ (k : Controller). k.free) left)
     (subst (λ (q : List Slot). HasDone old counted.free slots q tag cq free new) pools did)) in
-    subst (λ (t : ℕ). HasPosted rules late notes x t cqe command.cookie (record counted { free = free }) new) (sym (ap (λ (o : CqState). o.ring.tail) is_old))
-    (subst (λ (s : Slot). HasPosted rules late notes x (cq_at c.cqs x).ring.tail cqe s.cookie (record counted { free = free }) new) (sym is_command)
-    (subst (λ (q : Cqe). HasPosted rules late notes x (cq_at c.cqs x).ring.tail q (slot_at slots tag).cookie (record counted { free = free }) new) (sym first)
-    (subst (λ (k : Controller). HasPosted rules late notes x (cq_at c.cqs x).ring.tail (completion_of c (slot_at slots tag) ((cq_at c.cqs x).phase == 1)) (slot_at slots tag).cookie (record k { free = free }) new) (sym left)
+    subst (λ (t : ℕ). HasPosted rules late notes x t cqe command.cookie (marks_in command) (record counted { free = free }) new) (sym (ap (λ (o : CqState). o.ring.tail) is_old))
+    (subst (λ (s : Slot). HasPosted rules late notes x (cq_at c.cqs x).ring.tail cqe s.cookie (marks_in s) (record counted { free = free }) new) (sym is_command)
+    (subst (λ (q : Cqe). HasPosted rules late notes x (cq_at c.cqs x).ring.tail q (slot_at slots tag).cookie (marks_in (slot_at slots tag)) (record counted { free = free }) new) (sym first)
+    (subst (λ (k : Controller). HasPosted rules late notes x (cq_at c.cqs x).ring.tail (completion_of c (slot_at slots tag) ((cq_at c.cqs x).phase == 1)) (slot_at slots tag).cookie (marks_in (slot_at slots tag)) (record k { free = free }) new) (sym left)
     (call_posts rules late notes c slots x tag cq free new stands done))))

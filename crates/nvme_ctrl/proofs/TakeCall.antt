@@ -283,6 +283,8 @@ module _ (c : Controller) (slots : List Slot) (k : Content) (g : Items) (h : Has
       deletion = λ pending. cookie_left notes slots new same c.deletion.tag (place_at 0 g.delete_index) (t.cookies.deletion pending);
       none = t.cookies.none;
     };
+    none_marked = t.none_marked;
+    marks = t.marks;
   }
     where
       same : SameCookies slots new

@@ -29,7 +29,7 @@ use Rattle.nvme_ctrl.specs.kept.Content.{SqContent, Content, with_sq}
 use Rattle.nvme_ctrl.specs.kept.Kept.{Item, ReadyItem, Items, IsWaitingIn, IsOutIn, IsReadyIn, IsUnanswered, HasEntry, HasCookie, HoldsCookies, HasNumbers, HasItems, HoldsDoorbells, HoldsTags, tags_of, places_of, ready_tags, candidate_of, untaken, is_free}
 use Rattle.nvme_ctrl.specs.inside.Loose.{Keeps}
 use Rattle.nvme_ctrl.specs.inside.Carrying.{opening}
-use Rattle.nvme_ctrl.specs.kept.Pool.{slot_at, IsChain, IsNew, SameItems, SameLinks}
+use Rattle.nvme_ctrl.specs.kept.Pool.{slot_at, marks_in, IsChain, IsNew, SameItems, SameLinks}
 use Rattle.nvme_ctrl.specs.kept.State.{no_sq_state, sq_at, attachment_of, picked_in}
 use Rattle.nvme_ctrl.proofs.CarriedOut.{none_picked_in}
 use Rattle.nvme_ctrl.proofs.Passed.{passed_left}
@@ -107,6 +107,7 @@ module _ (rules : FrontRules) (notes : Notes) (a : Controller) (slots : List Slo
     sc = ap (λ (y : Slot). y.sc) e ∙ w.sc;
     dw0 = ap (λ (y : Slot). y.dw0) e ∙ w.dw0;
     not_both = w.not_both;
+    marks = ap marks_in e ∙ w.marks;
   }
 
   had_state : (x n : ℕ) → (slot_at pool x).state ≡ n → (slot_at slots x).state ≡ n
@@ -207,6 +208,8 @@ module _ (rules : FrontRules) (notes : Notes) (a : Controller) (slots : List Slo
     free_count = m.free_count ∙ ap (λ (n : ℕ). n + all_posts (logged notes)) (sym same.size);
     cookies = cookies_after;
     passed = passed_left notes a after g later refl (λ x. refl) refl m.passed;
+    none_marked = m.none_marked;
+    marks = m.marks;
   } where
     left : SameCookies slots pool
     left = same_cookies slots pool same
@@ -287,6 +290,8 @@ keeps_outstanding rules notes a slots k g board v n m h is arbiter same = record
     free_count = m.free_count;
     cookies = cookies_left notes slots slots (λ y. refl) a _ g refl m.cookies;
     passed = passed_left notes a _ g g refl (λ x. refl) refl m.passed;
+    none_marked = m.none_marked;
+    marks = m.marks;
   });
   apart = h.apart;
   none_pending = h.none_pending;
@@ -350,6 +355,8 @@ keeps_table rules notes a slots k g table t h is sized = record {
     free_count = m.free_count;
     cookies = cookies_left notes slots slots (λ y. refl) a _ g refl m.cookies;
     passed = passed_left notes a _ g g refl (λ x. refl) refl m.passed;
+    none_marked = m.none_marked;
+    marks = m.marks;
   });
   apart = h.apart;
   none_pending = h.none_pending;

@@ -1,6 +1,6 @@
 -- What a controller may note, after what it noted before.
 -- (Base Specification, Command Submission and Completion Mechanism, Command Arbitration, Admin Command Set; tags, windows, outstanding places: profile)
-use Rattle.std.specs.Prelude.{◌≡◌, ℕ, ◌+◌, ◌<◌, ◌≤◌, Bool, true, false, ◌∷◌, length, Some, None, slice_get, MatchBool, ◌==◌, ◌&&◌}
+use Rattle.std.specs.Prelude.{◌≡◌, ℕ, ◌+◌, ◌<◌, ◌≤◌, Bool, true, false, ◌∷◌, length, Some, None, is_some, slice_get, MatchBool, ◌==◌, ◌&&◌}
 use Rattle.std.specs.List.{list_any}
 use Rattle.nvme_entry.specs.Status.{StatusCode}
 use Rattle.nvme_entry.specs.declared.submission.Sqe.{Sqe}
@@ -20,10 +20,10 @@ use Rattle.nvme_log.specs.Account.{IndexCounts, ServedWhileOpen, Observed, Delet
 use Rattle.nvme_arbiter.specs.Limits.{queue_limit}
 use Rattle.nvme_log.specs.Rules.{upto}
 use Rattle.nvme_log.specs.Aborts.{is_index, just_picked}
-use Rattle.nvme_ctrl.specs.Notes.{Notes, Note, Logged, Tail, Head, Kept, Passed, Taken, Answered, EachNote, logged}
+use Rattle.nvme_ctrl.specs.Notes.{Notes, Note, Logged, Tail, Head, Kept, Passed, Taken, Answered, Marked, EachNote, logged}
 use Rattle.nvme_ctrl.specs.Doorbells.{sq_slots, cq_slots, submitted, consumed}
 use Rattle.nvme_ctrl.specs.Own.{may_be_own}
-use Rattle.nvme_ctrl.specs.Tags.{is_passed, is_of_device, handed, taken, holder, answer_of, cookie_of, answers, is_through}
+use Rattle.nvme_ctrl.specs.Tags.{is_passed, is_of_device, handed, taken, holder, answer_of, cookie_of, marks_of, answers, is_through}
 
 -- ---- events
 -- a fetch takes a command that the host submitted (Submission Queue y Tail Doorbell)
@@ -129,6 +129,12 @@ pub record IsAnswer (rules : FrontRules) (notes : Notes) (r i : ℕ) (answer : A
   pub first : answer_of notes r i ≡ None
   pub executed : MatchBool (is_of_device notes r i) (HasTag notes r i) (IsCarriedOut rules notes i answer)
 
+-- the device marks a completion once: that of a command that it has and answered
+pub record IsMarked (notes : Notes) (r i : ℕ) : Type 0 where
+  pub first : marks_of notes r i ≡ None
+  pub answered : is_some (answer_of notes r i) ≡ true
+  pub by_device : HasTag notes r i
+
 -- ---- all of it
 abbrev pub IsLawful : FrontRules → Notes → Note → Type 0
 IsLawful rules notes (Logged e) = IsLawfulEvent rules notes e
@@ -138,6 +144,7 @@ IsLawful rules notes (Kept r i cookie) = IsKept notes r i
 IsLawful rules notes (Passed i) = IsPassed notes i
 IsLawful rules notes (Taken tag r i) = IsTaken notes tag r i
 IsLawful rules notes (Answered r i answer) = IsAnswer rules notes r i answer
+IsLawful rules notes (Marked r i marks) = IsMarked notes r i
 
 pub record IsAccount (rules : FrontRules) (notes : Notes) : Type 0 where
   pub each : EachNote (IsLawful rules) notes

@@ -8,10 +8,12 @@ use Rattle.nvme_log.specs.Queues.{Queue, open_sq, open_cq, pending}
 use Rattle.nvme_log.specs.Places.{fetched, waiting}
 use Rattle.nvme_log.specs.Completions.{posted_to}
 use Rattle.nvme_log.specs.Answers.{Answer}
-use Rattle.nvme_ctrl.specs.Notes.{Notes, Logged, Tail, Head, Kept, Taken, Answered, logged}
+use Rattle.nvme_ctrl.specs.Notes.{Notes, Logged, Tail, Head, Kept, Taken, Answered, Marked, logged}
 use Rattle.nvme_ctrl.specs.Doorbells.{submitted, sq_slots, cq_slots}
-use Rattle.nvme_ctrl.specs.Tags.{holder, answer_of, cookie_of, all_fetches, all_posts}
+use Rattle.nvme_ctrl.specs.Marks.{marks_or}
+use Rattle.nvme_ctrl.specs.Tags.{holder, answer_of, cookie_of, marks_of, all_fetches, all_posts}
 use Rattle.nvme_ctrl.specs.Account.{IsTail, IsHead}
+use Rattle.nvme_ctrl.specs.declared.marks.Marks.{Marks}
 use Rattle.nvme_ctrl.specs.declared.slot.Slot.{Slot}
 use Rattle.nvme_ctrl.specs.declared.state.Controller.{Controller}
 use Rattle.nvme_ctrl.specs.Standing.{Stands}
@@ -72,18 +74,20 @@ pub record HasTaken (rules : FrontRules) (late : Bool) (notes : Notes) (tag : �
   pub unanswered : answer_of notes region index ≡ None
   pub stands : Stands rules late (Taken tag region index ∷ notes) c slots
 
--- the device answers the command of a tag
-pub record HasAnswered (rules : FrontRules) (late : Bool) (notes : Notes) (tag : ℕ) (answer : Answer) (c : Controller) (slots : List Slot) : Type 0 where
+-- the device answers the command of a tag, and marks its completion
+pub record HasAnswered (rules : FrontRules) (late : Bool) (notes : Notes) (tag : ℕ) (answer : Answer) (marks : Marks) (c : Controller) (slots : List Slot) : Type 0 where
   pub region : ℕ
   pub index : ℕ
   pub held : holder notes tag ≡ Some (record { region = region; index = index })
-  pub stands : Stands rules late (Answered region index answer ∷ notes) c slots
+  pub stands : Stands rules late (Marked region index marks ∷ Answered region index answer ∷ notes) c slots
 
 -- ---- completions
--- a completion is posted to a completion region, into the slot that is its next, and what the caller keeps with its command is given back
-pub record HasPosted (rules : FrontRules) (late : Bool) (notes : Notes) (x slot : ℕ) (cqe : Cqe) (cookie : ℕ) (c : Controller) (slots : List Slot) : Type 0 where
+-- a completion is posted to a completion region, into the slot that is its next, and what the caller keeps with its command is given back. Its marks
+-- are those of the device where it answered, else those of the completion's status
+pub record HasPosted (rules : FrontRules) (late : Bool) (notes : Notes) (x slot : ℕ) (cqe : Cqe) (cookie : ℕ) (marks : Marks) (c : Controller) (slots : List Slot) : Type 0 where
   pub region : ℕ
   pub index : ℕ
   pub slot_is : slot ≡ length (posted_to (logged notes) x) % cq_slots rules x
   pub kept : cookie_of notes region index ≡ Some cookie
+  pub marked : marks ≡ marks_or cqe.status (marks_of notes region index)
   pub stands : Stands rules late (Logged (Post x region index cqe) ∷ notes) c slots

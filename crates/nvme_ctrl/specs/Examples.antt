@@ -7,6 +7,7 @@ use Rattle.nvme_log.specs.declared.event.Event.TheVariants.{Fetch, OpenSq, OpenC
 use Rattle.nvme_log.specs.Answers.{Answer}
 use Rattle.nvme_log.specs.Examples.{get_arbitration, admin_picked, admin_posted, create_cq, create_sq, delete_sq, read, done, admin_seen, reads_seen, picked_of}
 use Rattle.nvme_ctrl.specs.Notes.{Notes, Logged, Tail, Head, Taken, Answered}
+use Rattle.nvme_ctrl.specs.declared.marks.Marks.{Marks}
 
 -- ---- four commands whose completions pass a ring of two slots twice
 -- the settings of the Arbitration feature, as an answer
@@ -156,3 +157,13 @@ delete_told =
 abbrev pub deletion_noted : Notes
 deletion_noted =
     Logged (Post 0 0 2 (done 0 2 success)) ∷ delete_told
+
+-- ---- marks
+abbrev pub unmarked : Marks
+unmarked = record { more = false; do_not_retry = false }
+
+abbrev pub not_retried : Marks
+not_retried = record { more = false; do_not_retry = true }
+
+abbrev pub more_told : Marks
+more_told = record { more = true; do_not_retry = false }

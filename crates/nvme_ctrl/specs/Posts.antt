@@ -7,6 +7,8 @@ use Rattle.nvme_log.specs.Completions.{is_posted, posted_to}
 use Rattle.nvme_ctrl.specs.Notes.{Notes, logged}
 use Rattle.nvme_ctrl.specs.Doorbells.{cq_slots, consumed}
 use Rattle.nvme_ctrl.specs.Tags.{is_through}
+use Rattle.nvme_ctrl.specs.kept.Pool.{marks_in}
+use Rattle.nvme_ctrl.specs.declared.marks.Marks.{Marks}
 use Rattle.nvme_ctrl.specs.declared.slot.Slot.{Slot}
 
 -- no slot of its ring is free: a full ring has one slot less than there are (Full Queue)
@@ -21,8 +23,9 @@ AllPosted notes x = (r i : ℕ) → cq_region_of (logged notes) r ≡ Some x →
 abbrev pub NonePostable : FrontRules → Notes → ℕ → Type 0
 NonePostable rules notes x = IsFullRing rules notes x ⊎ AllPosted notes x
 
--- a completion is that of the command in a slot, with what the caller kept with it
-pub record IsPostOf (command : Slot) (cqe : Cqe) (cookie : ℕ) : Type 0 where
+-- a completion is that of the command in a slot, with what the caller kept with it, and its marks
+pub record IsPostOf (command : Slot) (cqe : Cqe) (cookie : ℕ) (marks : Marks) : Type 0 where
   pub cid : cqe.cid ≡ command.entry.cid
   pub dw0 : cqe.dw0 ≡ command.dw0
   pub cookie_is : cookie ≡ command.cookie
+  pub marks_are : marks ≡ marks_in command

@@ -1,4 +1,4 @@
--- The commands that the device has, their tags and their answers, and what the caller keeps with them.
+-- The commands that the device has, their tags, their answers and their marks, and what the caller keeps with them.
 -- (Base Specification, Completion Queue Entry; tags: profile)
 use Rattle.std.specs.Prelude.{ℕ, ◌+◌, ◌==◌, ◌&&◌, ◌||◌, Bool, false, not, if◌then◌else◌, List, [], ◌∷◌, ◌++◌, Option, Some, None, is_none, is_some}
 use Rattle.nvme_entry.specs.Status.{success}
@@ -9,7 +9,8 @@ use Rattle.nvme_log.specs.declared.place.Place.{Place}
 use Rattle.nvme_log.specs.Queues.{open_sq}
 use Rattle.nvme_log.specs.Dispatches.{place_at, dispatched_by}
 use Rattle.nvme_log.specs.Answers.{Answer, Answers}
-use Rattle.nvme_ctrl.specs.Notes.{Notes, Logged, Kept, Passed, Taken, Answered, logged}
+use Rattle.nvme_ctrl.specs.Notes.{Notes, Logged, Kept, Passed, Taken, Answered, Marked, logged}
+use Rattle.nvme_ctrl.specs.declared.marks.Marks.{Marks}
 
 -- an admin command was passed on to the device
 abbrev pub is_passed : Notes → ℕ → Bool
@@ -88,3 +89,9 @@ answers notes place = answer_or (answer_of notes place.region place.index)
 -- a command is through, so that its completion may be posted: it was aborted or answered
 abbrev pub is_through : Notes → ℕ → ℕ → Bool
 is_through notes r i = is_aborted (logged notes) r i || is_some (answer_of notes r i)
+
+-- the marks that the device gave the completion of a place
+abbrev pub marks_of : Notes → ℕ → ℕ → Option Marks
+marks_of [] r i = None
+marks_of (Marked region index marks ∷ notes) r i = if region == r && index == i then Some marks else marks_of notes r i
+marks_of (note ∷ notes) r i = marks_of notes r i

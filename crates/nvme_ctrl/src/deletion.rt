@@ -1,5 +1,4 @@
 // The end of a deletion. (Base Specification, Delete I/O Submission Queue)
-use crate::device::Answer;
 use crate::slot::{ENDED, Slot, put_item, slot_at};
 use crate::state::Controller;
 use nvme_entry::Status;
@@ -42,11 +41,7 @@ impl Controller {
         // Its command is one of the admin queue.
         let slot = slot_at(slots, deletion.tag);
         put_item(slots, deletion.tag, Slot { region: 0, ..slot });
-        let answer = Answer {
-            status: Status::SUCCESS,
-            dw0: 0,
-        };
-        self.end(slots, deletion.tag, ENDED, answer, 0);
+        self.end(slots, deletion.tag, ENDED, Status::SUCCESS, 0, 0);
         Some(deletion.qid)
     }
 }

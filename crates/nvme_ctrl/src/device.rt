@@ -1,4 +1,5 @@
 // The commands that the device takes, and its answers. (tags: profile)
+use crate::marks::{Marks, bit};
 use crate::slot::{ANSWERED, OUT, Slot, put_item, slot_at};
 use crate::state::Controller;
 use nvme_entry::Status;
@@ -9,6 +10,8 @@ pub struct Answer {
     pub status: Status,
     /// Command Dword 0 of the completion.
     pub dw0: u32,
+    /// The marks of the completion.
+    pub marks: Marks,
 }
 
 impl Controller {
@@ -53,7 +56,7 @@ impl Controller {
         ensures refused { result ≡ false → (self.new ≡ self.old) × (slots.new ≡ slots.old) }
         ensures own { own_of self.new ≡ own_of self.old }
         ensures answer { (rules : FrontRules) (late : Bool) (notes : Notes) → Stands rules late notes self.old slots.old → result ≡ is_out notes tag }
-        ensures stands { (rules : FrontRules) (late : Bool) (notes : Notes) → Stands rules late notes self.old slots.old → result ≡ true → HasAnswered rules late notes tag (record { status = answer.status; dw0 = answer.dw0 }) self.new slots.new }
+        ensures stands { (rules : FrontRules) (late : Bool) (notes : Notes) → Stands rules late notes self.old slots.old → result ≡ true → HasAnswered rules late notes tag (record { status = answer.status; dw0 = answer.dw0 }) answer.marks self.new slots.new }
     {
         let slot = slot_at(slots, tag);
         if slot.state != OUT {
@@ -67,6 +70,8 @@ impl Controller {
                 sct: answer.status.sct,
                 sc: answer.status.sc,
                 dw0: answer.dw0,
+                more: bit(answer.marks.more),
+                do_not_retry: bit(answer.marks.do_not_retry),
                 ..slot
             },
         );

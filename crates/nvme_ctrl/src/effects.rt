@@ -1,24 +1,10 @@
 // The effects of admin commands, which the controller carries out within. (Base Specification, Admin Command Set)
-ghost use Rattle.std.specs.Prelude.{◌≡◌};
-ghost use Rattle.nvme_entry.specs.Status.{success};
-
-use crate::device::Answer;
+use crate::marks::{Marks, bit};
 use crate::slot::{DELETING, DROPPED, ENDED, Slot, put_item, slot_at};
 use crate::state::{Controller, Deletion};
 use nvme_admin::Effect;
 use nvme_arbiter::{Class, Settings};
 use nvme_entry::Status;
-
-// An answer with success.
-fn success(dw0: u32) -> Answer
-    ensures status { result.status ≡ success }
-    ensures dw0 { result.dw0 ≡ dw0 }
-{
-    Answer {
-        status: Status::SUCCESS,
-        dw0,
-    }
-}
 
 impl Controller {
     ghost use Rattle.std.specs.Prelude.{◌≡◌, ◌≢◌, ℕ, ◌+◌, ◌<◌, ◌≤◌, ◌^◌, ◌∷◌, ◌↔◌, Bool, true, false, List, length, Some, None, IsSome, IsTrue};
@@ -41,33 +27,38 @@ impl Controller {
     ghost use Rattle.nvme_ctrl.specs.Notes.{Notes};
     ghost use Rattle.nvme_ctrl.specs.kept.Content.{Candidate, Ready, Content, with_ready};
     ghost use Rattle.nvme_log.specs.Dispatches.{place_at};
-    ghost use Rattle.nvme_ctrl.specs.kept.Kept.{Item, Items, IsThrough, IsCookie, is_passed_at};
+    ghost use Rattle.nvme_ctrl.specs.kept.Kept.{Item, Items, IsThrough, IsCookie, is_passed_at, IsUnmarked};
     ghost use Rattle.nvme_ctrl.specs.inside.Loose.{IsLoose, Keeps, MakesReady, ended, with_item};
     ghost use Rattle.nvme_ctrl.specs.kept.Pool.{slot_at, item_at};
 
-    // The command of a slot ends: its completion is ready in a completion region.
+    // The command of a slot ends without the device: its completion is ready in a completion region, with the marks of its
+    // status.
     pub(crate) fn end(
         &mut self,
         slots: &mut [Slot],
         tag: u16,
         state: u8,
-        answer: Answer,
+        status: Status,
+        dw0: u32,
         region: u8,
     )
-        ensures kept { (rules : FrontRules) (notes : Notes) (k : Content) (g : Items) (t : Ready) → Keeps rules notes self.old slots.old k g → IsLoose slots.old g tag → MakesReady slots.old tag state answer.status answer.dw0 t → IsThrough notes t → IsCookie notes slots.old tag t.place → t.passed ≡ is_passed_at notes t.place → region < MAX_REGIONS → Keeps rules notes self.new slots.new (with_ready k region t) (with_item g region (ended tag t)) }
+        ensures kept { (rules : FrontRules) (notes : Notes) (k : Content) (g : Items) (t : Ready) → Keeps rules notes self.old slots.old k g → IsLoose slots.old g tag → MakesReady slots.old tag state status dw0 t → IsThrough notes t → IsCookie notes slots.old tag t.place → t.passed ≡ is_passed_at notes t.place → IsUnmarked notes t.place → region < MAX_REGIONS → Keeps rules notes self.new slots.new (with_ready k region t) (with_item g region (ended tag t)) }
         ensures left { self.new ≡ record self.old { cqs = self.new.cqs } }
         ensures size { length slots.new ≡ length slots.old }
         ensures others { (y : ℕ) → y ≢ tag → item_at slots.new y ≡ item_at slots.old y }
     {
         let slot = slot_at(slots, tag);
+        let marks = Marks::of(status);
         put_item(
             slots,
             tag,
             Slot {
                 state,
-                sct: answer.status.sct,
-                sc: answer.status.sc,
-                dw0: answer.dw0,
+                sct: status.sct,
+                sc: status.sc,
+                dw0,
+                more: bit(marks.more),
+                do_not_retry: bit(marks.do_not_retry),
                 ..slot
             },
         );
@@ -143,11 +134,8 @@ impl Controller {
             return;
         };
         self.put_sq(region, sq);
-        let answer = Answer {
-            status: Status::ABORTED_BY_DELETION,
-            dw0: 0,
-        };
-        self.end(slots, x, DROPPED, answer, sq.cq_region);
+        let status = Status::ABORTED_BY_DELETION;
+        self.end(slots, x, DROPPED, status, 0, sq.cq_region);
     }
 
     // Aborts the oldest waiting command with a command identifier in an open I/O submission queue. False, which changes
@@ -173,11 +161,8 @@ impl Controller {
         self.put_sq(queue.region, sq);
         self.outstanding = self.outstanding.saturating_add(1);
         self.board.went(sqid);
-        let answer = Answer {
-            status: Status::ABORT_REQUESTED,
-            dw0: 0,
-        };
-        self.end(slots, x, ENDED, answer, sq.cq_region);
+        let status = Status::ABORT_REQUESTED;
+        self.end(slots, x, ENDED, status, 0, sq.cq_region);
         true
     }
 
@@ -199,7 +184,7 @@ impl Controller {
         ensures stands { (rules : FrontRules) (late : Bool) (notes : Notes) → IsApplied rules late notes self.old slots.old tag effect.now → HasCarriedOut rules late notes (verdict_in effect.now) self.new slots.new }
     {
         match *effect {
-            Effect::Done(status, dw0) => self.end(slots, tag, ENDED, Answer { status, dw0 }, 0),
+            Effect::Done(status, dw0) => self.end(slots, tag, ENDED, status, dw0, 0),
             Effect::OpenSq {
                 qid,
                 region,
@@ -208,19 +193,19 @@ impl Controller {
                 ..
             } => {
                 self.open_sq(qid, region, cq_region, class);
-                self.end(slots, tag, ENDED, success(0), 0);
+                self.end(slots, tag, ENDED, Status::SUCCESS, 0, 0);
             }
             Effect::OpenCq { .. } | Effect::CloseCq { .. } => {
-                self.end(slots, tag, ENDED, success(0), 0);
+                self.end(slots, tag, ENDED, Status::SUCCESS, 0, 0);
             }
             Effect::BeginDelete { qid, region } => self.begin_delete(slots, tag, qid, region),
             Effect::Abort { sqid, cid } => {
                 let dw0 = if self.abort(slots, sqid, cid) { 0 } else { 1 };
-                self.end(slots, tag, ENDED, success(dw0), 0);
+                self.end(slots, tag, ENDED, Status::SUCCESS, dw0, 0);
             }
             Effect::SetArbitration(settings) => {
                 self.set_arbitration(settings);
-                self.end(slots, tag, ENDED, success(0), 0);
+                self.end(slots, tag, ENDED, Status::SUCCESS, 0, 0);
             }
         }
     }

@@ -1,12 +1,13 @@
 //! Laws of the log of a controller, over the definitions alone. Each function does nothing: its contract is the law.
 ghost use Rattle.std.specs.Prelude.{◌≡◌, ◌∷◌, [], true, Some, None};
-ghost use Rattle.nvme_entry.specs.Status.{success, lba_out_of_range};
+ghost use Rattle.nvme_entry.specs.Status.{code, success, lba_out_of_range};
 ghost use Rattle.nvme_log.specs.declared.event.Event.TheVariants.{Fetch, OpenCq, Post, ClosedSq};
 ghost use Rattle.nvme_log.specs.Examples.{two_slots, one_deletion, get_arbitration, admin_picked, admin_posted, read, done, admin_seen, reads_seen, picked_of};
-ghost use Rattle.nvme_ctrl.specs.Notes.{Logged, Tail, Head, Kept, Taken, Answered};
-ghost use Rattle.nvme_ctrl.specs.Tags.{cookie_of};
+ghost use Rattle.nvme_ctrl.specs.Notes.{Logged, Tail, Head, Kept, Taken, Answered, Marked};
+ghost use Rattle.nvme_ctrl.specs.Marks.{own_marks};
+ghost use Rattle.nvme_ctrl.specs.Tags.{cookie_of, marks_of};
 ghost use Rattle.nvme_ctrl.specs.Account.{IsLawful, IsAccount};
-ghost use Rattle.nvme_ctrl.specs.Examples.{told, three_of_four, four_fetched, first_picked, first_answered, first_posted, third_answered, two_passes, succeeded, out_of_range, create_picked, reads_submitted, reads_waiting, read_picked, read_taken, delete_begun, aborts_posted, read_answered, reads_posted, deletion_noted};
+ghost use Rattle.nvme_ctrl.specs.Examples.{told, three_of_four, four_fetched, first_picked, first_answered, first_posted, third_answered, two_passes, succeeded, out_of_range, create_picked, reads_submitted, reads_waiting, read_picked, read_taken, delete_begun, aborts_posted, read_answered, reads_posted, deletion_noted, unmarked, not_retried, more_told};
 ghost use Rattle.nvme_ctrl.specs.Laws.{ControllersKeepAccounts, EventsAreAccounted, SlotsAreFetchedInOrder, CompletionsFollowAnswers, OneCompletionEach, SlotsAreFree, CompletionsTellTheHead, DeletesAreAnsweredLast, NoneFetchedAfterDeletion, NonePickedAfterDeletion, PicksAreLawful, TagsAreApart};
 
 /// The log at which a controller stands is an account, where no region was added after its first note. So all that
@@ -127,4 +128,34 @@ pub fn wrong_answers_are_refused()
     ensures other_counts { IsLawful one_deletion reads_waiting (Logged (picked_of (admin_seen 1 ∷ reads_seen 2 ∷ []) 1)) → ⊥ }
     ensures closed_early { IsLawful one_deletion read_answered (Logged (ClosedSq 1 1)) → ⊥ }
     ensures told_early { IsLawful one_deletion reads_posted (Answered 0 2 succeeded) → ⊥ }
+{}
+
+/// Marks are told of their place alone. The device gives them once, to a command that it has and answered.
+pub fn marks_are_given_once()
+    ensures told { marks_of (Marked 1 1 more_told ∷ Marked 1 0 not_retried ∷ read_answered) 1 0 ≡ Some not_retried }
+    ensures other_index { marks_of (Marked 1 1 more_told ∷ Marked 1 0 not_retried ∷ read_answered) 1 2 ≡ None }
+    ensures other_region { marks_of (Marked 1 1 more_told ∷ Marked 1 0 not_retried ∷ read_answered) 0 0 ≡ None }
+    ensures marked { IsLawful one_deletion read_answered (Marked 1 0 not_retried) }
+    ensures marked_twice { IsLawful one_deletion (Marked 1 0 not_retried ∷ read_answered) (Marked 1 0 more_told) → ⊥ }
+    ensures marked_unanswered { IsLawful one_deletion read_taken (Marked 1 0 not_retried) → ⊥ }
+    ensures marked_own { IsLawful two_slots first_answered (Marked 0 0 not_retried) → ⊥ }
+    ensures marked_posted { IsLawful one_deletion reads_posted (Marked 1 0 not_retried) → ⊥ }
+{}
+
+/// Worked: what the controller answers itself is marked Do Not Retry where no retry changes it. Neither More nor Do Not
+/// Retry is set for success, for a command that was aborted, for a queue that has submission queues yet, and for any
+/// other status.
+pub fn own_answers_are_marked()
+    ensures invalid_opcode { own_marks (code 0 0x01) ≡ not_retried }
+    ensures invalid_field { own_marks (code 0 0x02) ≡ not_retried }
+    ensures sequence_error { own_marks (code 0 0x0c) ≡ not_retried }
+    ensures completion_queue_invalid { own_marks (code 1 0x00) ≡ not_retried }
+    ensures invalid_queue_identifier { own_marks (code 1 0x01) ≡ not_retried }
+    ensures invalid_queue_size { own_marks (code 1 0x02) ≡ not_retried }
+    ensures feature_not_saveable { own_marks (code 1 0x0d) ≡ not_retried }
+    ensures success { own_marks (code 0 0x00) ≡ unmarked }
+    ensures abort_requested { own_marks (code 0 0x07) ≡ unmarked }
+    ensures aborted_by_deletion { own_marks (code 0 0x08) ≡ unmarked }
+    ensures invalid_queue_deletion { own_marks (code 1 0x0c) ≡ unmarked }
+    ensures other { own_marks (code 2 0x01) ≡ unmarked }
 {}

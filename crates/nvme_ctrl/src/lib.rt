@@ -16,6 +16,7 @@ mod fetches;
 pub mod laws;
 mod lookups;
 mod making;
+mod marks;
 mod own;
 mod picks;
 mod posts;
@@ -24,6 +25,7 @@ mod slot;
 mod state;
 
 pub use device::Answer;
+pub use marks::Marks;
 pub use own::OwnCommands;
 pub use picks::Step;
 pub use posts::Post;

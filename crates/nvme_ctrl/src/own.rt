@@ -7,6 +7,7 @@ use nvme_entry::{AdminCommand, Sqe, admin_of};
 
 /// The features whose Set and Get the controller carries out itself: Arbitration and Number of Queues.
 const ARBITRATION: u8 = 0x01;
+
 const NUMBER_OF_QUEUES: u8 = 0x07;
 
 /// The admin commands that are the device's: those of the opcodes, and the Set Features and Get Features of the feature

@@ -1,4 +1,5 @@
 // The posts of a controller. (Base Specification, Completion Queue Entry, Phase Tag)
+use crate::marks::Marks;
 use crate::slot::{DROPPED, FREE, Slot, put_item, slot_at};
 use crate::state::{Controller, CqState};
 use nvme_entry::{Cqe, Status};
@@ -14,6 +15,8 @@ pub struct Post {
     pub tag: u16,
     /// What the caller kept with its command.
     pub cookie: u32,
+    /// Its marks: those that the device answered, else those of a status of the controller.
+    pub marks: Marks,
 }
 
 impl CqState {
@@ -85,8 +88,8 @@ impl Controller {
         ensures none { result ≡ None → (self.new ≡ self.old) × (slots.new ≡ slots.old) }
         ensures own { own_of self.new ≡ own_of self.old }
         ensures told { (rules : FrontRules) (late : Bool) (notes : Notes) → Stands rules late notes self.old slots.old → result ≡ None → NonePostable rules notes region }
-        ensures command { IfSome result (λ p. IsPostOf (slot_at slots.old p.tag) p.cqe p.cookie) }
-        ensures stands { (rules : FrontRules) (late : Bool) (notes : Notes) → Stands rules late notes self.old slots.old → IfSome result (λ p. HasPosted rules late notes region p.slot p.cqe p.cookie self.new slots.new) }
+        ensures command { IfSome result (λ p. IsPostOf (slot_at slots.old p.tag) p.cqe p.cookie p.marks) }
+        ensures stands { (rules : FrontRules) (late : Bool) (notes : Notes) → Stands rules late notes self.old slots.old → IfSome result (λ p. HasPosted rules late notes region p.slot p.cqe p.cookie p.marks self.new slots.new) }
     {
         let mut cq = self.cq(region);
         if cq.ring.is_full() {
@@ -113,6 +116,7 @@ impl Controller {
             cqe,
             tag,
             cookie: command.cookie,
+            marks: command.marks(),
         })
     }
 }

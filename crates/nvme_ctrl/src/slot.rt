@@ -2,6 +2,7 @@
 ghost use Rattle.std.specs.Prelude.{◌≡◌, slice_set};
 ghost use Rattle.nvme_ctrl.specs.kept.Pool.{slot_at, put_next, put_item};
 
+use crate::marks::Marks;
 use nvme_entry::{Sqe, Status};
 
 /// Nothing is in the slot.
@@ -39,11 +40,14 @@ pub struct Slot {
     pub region: u8,
     /// What it is used for, one of the constants above.
     pub state: u8,
+    /// The marks of its completion, where it ended: each 1 or 0.
+    pub more: u8,
+    pub do_not_retry: u8,
 }
 
 impl Slot {
     ghost use Rattle.std.specs.Prelude.{◌≡◌};
-    ghost use Rattle.nvme_ctrl.specs.kept.Pool.{no_slot};
+    ghost use Rattle.nvme_ctrl.specs.kept.Pool.{no_slot, marks_in};
 
     /// A free slot.
     pub fn free() -> Slot
@@ -74,6 +78,18 @@ impl Slot {
             sc: 0,
             region: 0,
             state: FREE,
+            more: 0,
+            do_not_retry: 0,
+        }
+    }
+
+    /// The marks of its completion.
+    pub fn marks(&self) -> Marks
+        ensures { result ≡ marks_in self.now }
+    {
+        Marks {
+            more: self.more == 1,
+            do_not_retry: self.do_not_retry == 1,
         }
     }
 }

@@ -4,7 +4,7 @@ ghost use Rattle.nvme_ctrl.specs.Standing.{IsController};
 
 use nvme_admin::{AdminError, Limits, Region};
 use nvme_arbiter::{Mechanism, Pick, Settings};
-use nvme_ctrl::{Answer, Controller, Post, Slot, Step};
+use nvme_ctrl::{Answer, Controller, Marks, Post, Slot, Step};
 use nvme_entry::{Sqe, Status};
 use std::alloc::AllocError;
 use std::process::Abort;
@@ -29,6 +29,18 @@ const CQ: u64 = 0x4000;
 const DONE: Answer = Answer {
     status: Status::SUCCESS,
     dw0: 0,
+    marks: Marks::NONE,
+};
+
+// Do Not Retry alone, and both marks.
+const DNR: Marks = Marks {
+    more: false,
+    do_not_retry: true,
+};
+
+const BOTH: Marks = Marks {
+    more: true,
+    do_not_retry: true,
 };
 
 // An entry of an opcode, with its command identifier, PRP1 and Command Dwords 10 and 11.
@@ -99,15 +111,21 @@ fn head(rt: &impl Abort, ctrl: &mut Controller, slots: &[Slot], cqid: u16, slot:
     assert_eq!(rt; ctrl.cq_head(cqid, slot), rung);
 }
 
-// A completion is posted: the slot, SQHD, the command identifier, the phase tag and the status.
-fn posted(rt: &impl Abort, post: Option<Post>, want: (u16, u16, u16, bool), status: Status) {
+// A completion is posted: the slot, SQHD, the command identifier, the phase tag, the status and the marks.
+fn posted(
+    rt: &impl Abort,
+    post: Option<Post>,
+    want: (u16, u16, u16, bool),
+    status: Status,
+    marks: Marks,
+) {
     let Some(post) = post else {
         assert!(rt; false, "none is posted");
         return;
     };
     let cqe = post.cqe;
     assert_eq!(rt; (post.slot, cqe.sqhd, cqe.cid, cqe.phase), want);
-    assert_eq!(rt; cqe.status, status);
+    assert_eq!(rt; (cqe.status, post.marks), (status, marks));
     assert_eq!(rt; post.cookie, u32::from(cqe.cid));
 }
 
@@ -172,6 +190,22 @@ fn step(rt: &impl Abort, ctrl: &mut Controller, slots: &mut [Slot], carries_out:
 }
 
 // A completion of a region is posted, as `posted` says.
+fn post_marked(
+    rt: &impl Abort,
+    ctrl: &mut Controller,
+    slots: &mut [Slot],
+    region: u8,
+    want: (u16, u16, u16, bool),
+    status: Status,
+    marks: Marks,
+)
+    requires { IsController ctrl.old slots.old }
+    ensures { IsController ctrl.new slots.new }
+{
+    posted(rt, ctrl.post(slots, region), want, status, marks);
+}
+
+// So is one with neither mark.
 fn post(
     rt: &impl Abort,
     ctrl: &mut Controller,
@@ -183,7 +217,7 @@ fn post(
     requires { IsController ctrl.old slots.old }
     ensures { IsController ctrl.new slots.new }
 {
-    posted(rt, ctrl.post(slots, region), want, status);
+    post_marked(rt, ctrl, slots, region, want, status, Marks::NONE);
 }
 
 // Two commands go through the rings from a slot on, with a phase tag.
@@ -259,8 +293,14 @@ fn device_answers_in_any_order(rt: HostRuntime) -> Result<(), Fail> {
     post(&rt, &mut ctrl, &mut slots, 1, after, Status::SUCCESS);
     assert_eq!(rt; ctrl.post(&mut slots, 1), None);
     let status = Status::LBA_OUT_OF_RANGE;
-    assert!(rt; ctrl.complete(&mut slots, second, Answer { status, dw0: 9 }));
-    post(&rt, &mut ctrl, &mut slots, 1, (2, 3, 21, true), status);
+    let answer = Answer {
+        status,
+        dw0: 9,
+        marks: BOTH,
+    };
+    assert!(rt; ctrl.complete(&mut slots, second, answer));
+    let last = (2, 3, 21, true);
+    post_marked(&rt, &mut ctrl, &mut slots, 1, last, status, BOTH);
     Ok(())
 }
 
@@ -353,13 +393,7 @@ fn reset_leaves_nothing(rt: HostRuntime) -> Result<(), Fail> {
     fetch(&rt, &mut ctrl, &mut slots, 0, 0, &create_cq(50));
     step(&rt, &mut ctrl, &mut slots, true);
     // (no region has the address)
-    post(
-        &rt,
-        &mut ctrl,
-        &mut slots,
-        0,
-        (0, 1, 50, true),
-        Status::INVALID_FIELD,
-    );
+    let status = Status::INVALID_FIELD;
+    post_marked(&rt, &mut ctrl, &mut slots, 0, (0, 1, 50, true), status, DNR);
     Ok(())
 }

@@ -2,7 +2,7 @@
 ghost use Rattle.nvme_ctrl.specs.Standing.{IsController};
 
 use crate::memory::{Memory, SLOTS};
-use nvme_ctrl::{Answer, Controller, Slot, Step, slot_at};
+use nvme_ctrl::{Answer, Controller, Marks, Slot, Step, slot_at};
 use nvme_entry::{Sqe, Status};
 
 /// The steps of one call of `execute`: enough for all commands of both queues.
@@ -24,14 +24,19 @@ pub fn fetch_queue(ctrl: &mut Controller, slots: &mut [Slot], memory: &Memory, q
     }
 }
 
-/// What the device answers to a command. This one has no blocks: a Flush succeeds, and it knows nothing else.
+/// What the device answers to a command. This one has no blocks: a Flush succeeds, and it knows nothing else, so that the
+/// host needn't retry.
 pub fn answer_to(entry: &Sqe) -> Answer {
     let status = if entry.opcode == 0 {
         Status::SUCCESS
     } else {
         Status::INVALID_OPCODE
     };
-    Answer { status, dw0: 0 }
+    Answer {
+        status,
+        dw0: 0,
+        marks: Marks::of(status),
+    }
 }
 
 /// Takes a picked command and answers it, or makes the next pick. The controller carries out admin commands itself. False
@@ -68,7 +73,7 @@ pub fn post_region(ctrl: &mut Controller, slots: &mut [Slot], memory: &mut Memor
         let Some(post) = ctrl.post(slots, region) else {
             return;
         };
-        memory.write(region, post.slot, post.cqe);
+        memory.write(region, post.slot, post.cqe, post.marks);
     }
 }
 

@@ -1,4 +1,5 @@
 // Guest memory, as far as the controller's rings lie in it.
+use nvme_ctrl::Marks;
 use nvme_entry::{Cqe, Sqe, Status};
 
 /// The slots of each ring.
@@ -7,11 +8,13 @@ pub const SLOTS: usize = 8;
 /// The slots of two rings of a kind: that of the admin queue, and that of one I/O queue.
 pub const ALL_SLOTS: usize = 16;
 
-/// The rings, one after the other by region: the submission rings, and the completion rings.
+/// The rings, one after the other by region: the submission rings, and the completion rings with the marks of each
+/// completion, which a device puts into bits 30 and 31 of its Dword 3.
 #[derive(Drop)]
 pub struct Memory {
     pub sqs: [Sqe; ALL_SLOTS],
     pub cqs: [Cqe; ALL_SLOTS],
+    pub marks: [Marks; ALL_SLOTS],
 }
 
 // Where a slot of a region's ring lies.
@@ -33,6 +36,7 @@ impl Memory {
         Memory {
             sqs: [Sqe::default(); ALL_SLOTS],
             cqs: [cqe; ALL_SLOTS],
+            marks: [Marks::NONE; ALL_SLOTS],
         }
     }
 
@@ -42,9 +46,11 @@ impl Memory {
     }
 
     /// Writes a completion into a slot of a completion ring, where there is one.
-    pub fn write(&mut self, region: u8, slot: u16, cqe: Cqe) {
-        if let Some(entry) = self.cqs.get_mut(place(region, slot)) {
-            *entry = cqe;
+    pub fn write(&mut self, region: u8, slot: u16, cqe: Cqe, marks: Marks) {
+        let at = place(region, slot);
+        if at < ALL_SLOTS {
+            self.cqs[at] = cqe;
+            self.marks[at] = marks;
         }
     }
 }

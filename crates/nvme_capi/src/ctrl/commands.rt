@@ -1,6 +1,5 @@
 // The commands of a controller of C: picks, what the device takes and answers, and completions.
 ghost use Rattle.std.specs.Prelude.{◌≡◌, ◌≢◌, ◌<◌, ◌≤◌, ◌⊎◌, ◌↔◌, Bool, true, false, None, Some, IsNone, IfSome, IsTrue, IsFalse};
-ghost use Rattle.nvme_entry.specs.Completion.{IsCompletionEntry};
 ghost use Rattle.nvme_log.specs.Rules.{FrontRules};
 ghost use Rattle.nvme_log.specs.Places.{entry_at};
 ghost use Rattle.nvme_log.specs.declared.place.Place.{Place};
@@ -14,15 +13,16 @@ ghost use Rattle.nvme_ctrl.specs.Steps.{IsNextPick, HasStepped, NoneFinishable, 
 ghost use Rattle.nvme_ctrl.specs.Posts.{NonePostable};
 ghost use Rattle.nvme_ctrl.specs.declared.picks.Step.TheVariants as made;
 ghost use Rattle.nvme_capi.specs.States.{pick_of_fields};
-ghost use Rattle.nvme_capi.specs.Controllers.{is_ctrl, has_slots, IsKept, HasToldWhat, IsCommandIn, device_answer, HasPostedBytes, IsPostIn};
+ghost use Rattle.nvme_capi.specs.Controllers.{is_ctrl, has_slots, IsKept, HasToldWhat, IsCommandIn, device_answer, marks_by, IsMarkedEntry, HasPostedBytes, IsPostIn};
 
 use crate::answers::{answer_of, plain_answer};
+use crate::ctrl::marks::{marked, marks_by};
 use crate::ctrl::state::{CommandFields, CtrlState, PostFields, StepFields, has_slots, is_ctrl};
 use crate::fields::StatusFields;
 use crate::results::{BAD_ARGUMENT, BAD_STATE, BUSY, FULL, NOTHING, OK};
 use crate::states::{PickFields, fields_of_pick};
 use nvme_admin::MAX_REGIONS;
-use nvme_ctrl::{Answer, Post, Slot, Step};
+use nvme_ctrl::{Answer, Marks, Post, Slot, Step};
 use nvme_entry::Status;
 
 // The kinds of a step.
@@ -148,8 +148,46 @@ pub extern "C" fn nvmearb_ctrl_take(
     }
 }
 
-/// The device answers the command of a tag, whose completion is ready then. BAD_ARGUMENT where the status code type is
-/// above 7, and NOTHING where the device has no command of this tag.
+// The device answers the command of a tag with marks.
+fn complete_marked(
+    state: &mut CtrlState,
+    slots: &mut [Slot],
+    tag: u16,
+    status: &StatusFields,
+    dw0: u32,
+    marks: Marks,
+) -> u32
+    requires kept { IsKept state.old slots.old }
+    ensures kept { IsKept state.new slots.new }
+    ensures bad_state { (result ≡ BAD_STATE) ↔ IsFalse (is_ctrl state.old) }
+    ensures bad_argument { (result ≡ BAD_ARGUMENT) ↔ (IsTrue (is_ctrl state.old) × (IsFalse (has_slots state.old slots.old) ⊎ (7 < status.now.sct))) }
+    ensures answer { (result ≡ OK) ⊎ ((result ≡ NOTHING) ⊎ ((result ≡ BAD_ARGUMENT) ⊎ (result ≡ BAD_STATE))) }
+    ensures nothing { (rules : FrontRules) (late : Bool) (notes : Notes) → Stands rules late notes state.old.ctrl slots.old → result ≡ NOTHING → is_out notes tag ≡ false }
+    ensures was_out { (rules : FrontRules) (late : Bool) (notes : Notes) → Stands rules late notes state.old.ctrl slots.old → result ≡ OK → is_out notes tag ≡ true }
+    ensures stands { (rules : FrontRules) (late : Bool) (notes : Notes) → Stands rules late notes state.old.ctrl slots.old → result ≡ OK → HasAnswered rules late notes tag (device_answer status.now dw0) marks state.new.ctrl slots.new }
+    ensures unchanged { result ≢ OK → (state.new ≡ state.old) × (slots.new ≡ slots.old) }
+{
+    if !is_ctrl(state) {
+        return BAD_STATE;
+    }
+    if !has_slots(state, slots) {
+        return BAD_ARGUMENT;
+    }
+    let Some(status) = Status::new(status.sct, status.sc) else {
+        return BAD_ARGUMENT;
+    };
+    if state
+        .ctrl
+        .complete(slots, tag, Answer { status, dw0, marks })
+    {
+        OK
+    } else {
+        NOTHING
+    }
+}
+
+/// The device answers the command of a tag, whose completion is ready then, with neither mark. BAD_ARGUMENT where the
+/// status code type is above 7, and NOTHING where the device has no command of this tag.
 #[unsafe(no_mangle)]
 pub extern "C" fn nvmearb_ctrl_complete(
     state: &mut CtrlState,
@@ -165,26 +203,40 @@ pub extern "C" fn nvmearb_ctrl_complete(
     ensures answer { (result ≡ OK) ⊎ ((result ≡ NOTHING) ⊎ ((result ≡ BAD_ARGUMENT) ⊎ (result ≡ BAD_STATE))) }
     ensures nothing { (rules : FrontRules) (late : Bool) (notes : Notes) → Stands rules late notes state.old.ctrl slots.old → result ≡ NOTHING → is_out notes tag ≡ false }
     ensures was_out { (rules : FrontRules) (late : Bool) (notes : Notes) → Stands rules late notes state.old.ctrl slots.old → result ≡ OK → is_out notes tag ≡ true }
-    ensures stands { (rules : FrontRules) (late : Bool) (notes : Notes) → Stands rules late notes state.old.ctrl slots.old → result ≡ OK → HasAnswered rules late notes tag (device_answer status.now dw0) state.new.ctrl slots.new }
+    ensures stands { (rules : FrontRules) (late : Bool) (notes : Notes) → Stands rules late notes state.old.ctrl slots.old → result ≡ OK → HasAnswered rules late notes tag (device_answer status.now dw0) (marks_by 0) state.new.ctrl slots.new }
+    ensures unchanged { result ≢ OK → (state.new ≡ state.old) × (slots.new ≡ slots.old) }
+{
+    complete_marked(state, slots, tag, status, dw0, Marks::NONE)
+}
+
+/// The device answers the command of a tag with marks, NVMEARB_DNR and NVMEARB_MORE. BAD_ARGUMENT where they have another
+/// bit too; otherwise as `nvmearb_ctrl_complete`.
+#[unsafe(no_mangle)]
+pub extern "C" fn nvmearb_ctrl_complete_with(
+    state: &mut CtrlState,
+    slots: &mut [Slot],
+    tag: u16,
+    status: &StatusFields,
+    dw0: u32,
+    marks: u8,
+) -> u32
+    requires kept { IsKept state.old slots.old }
+    ensures kept { IsKept state.new slots.new }
+    ensures bad_state { (result ≡ BAD_STATE) ↔ IsFalse (is_ctrl state.old) }
+    ensures bad_argument { (result ≡ BAD_ARGUMENT) ↔ (IsTrue (is_ctrl state.old) × (IsFalse (has_slots state.old slots.old) ⊎ ((7 < status.now.sct) ⊎ (3 < marks)))) }
+    ensures answer { (result ≡ OK) ⊎ ((result ≡ NOTHING) ⊎ ((result ≡ BAD_ARGUMENT) ⊎ (result ≡ BAD_STATE))) }
+    ensures nothing { (rules : FrontRules) (late : Bool) (notes : Notes) → Stands rules late notes state.old.ctrl slots.old → result ≡ NOTHING → is_out notes tag ≡ false }
+    ensures was_out { (rules : FrontRules) (late : Bool) (notes : Notes) → Stands rules late notes state.old.ctrl slots.old → result ≡ OK → is_out notes tag ≡ true }
+    ensures stands { (rules : FrontRules) (late : Bool) (notes : Notes) → Stands rules late notes state.old.ctrl slots.old → result ≡ OK → HasAnswered rules late notes tag (device_answer status.now dw0) (marks_by marks) state.new.ctrl slots.new }
     ensures unchanged { result ≢ OK → (state.new ≡ state.old) × (slots.new ≡ slots.old) }
 {
     if !is_ctrl(state) {
         return BAD_STATE;
     }
-    if !has_slots(state, slots) {
-        return BAD_ARGUMENT;
-    }
-    let Some(code) = Status::new(status.sct, status.sc) else {
+    let Some(marks) = marks_by(marks) else {
         return BAD_ARGUMENT;
     };
-    if state
-        .ctrl
-        .complete(slots, tag, Answer { status: code, dw0 })
-    {
-        OK
-    } else {
-        NOTHING
-    }
+    complete_marked(state, slots, tag, status, dw0, marks)
 }
 
 // The number of a completion region, where it can be one.
@@ -201,13 +253,13 @@ fn region_of(number: u16) -> Option<u8>
 
 // What is told of a completion.
 fn fields_of_post(it: &Post) -> PostFields
-    ensures layout { IsCompletionEntry result.bytes it.now.cqe }
+    ensures layout { IsMarkedEntry result.bytes it.now.cqe it.now.marks }
     ensures cookie { result.cookie ≡ it.now.cookie }
     ensures tag { result.tag ≡ it.now.tag }
     ensures slot { result.slot ≡ it.now.slot }
 {
     PostFields {
-        bytes: it.cqe.to_bytes(),
+        bytes: marked(it.cqe.to_bytes(), it.marks),
         cookie: it.cookie,
         tag: it.tag,
         slot: it.slot,

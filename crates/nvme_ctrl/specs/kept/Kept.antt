@@ -13,13 +13,15 @@ use Rattle.nvme_log.specs.declared.place.Place.{Place}
 use Rattle.nvme_ctrl.specs.Notes.{Notes, logged}
 use Rattle.nvme_ctrl.specs.Doorbells.{submitted, consumed}
 use Rattle.nvme_ctrl.specs.Rings.{HasCounts}
-use Rattle.nvme_ctrl.specs.Tags.{is_passed, is_of_device, handed, taken, holder, answer_of, cookie_of, is_out, all_fetches, all_posts}
+use Rattle.nvme_ctrl.specs.Marks.{marks_or}
+use Rattle.nvme_ctrl.specs.Tags.{is_passed, is_of_device, handed, taken, holder, answer_of, cookie_of, marks_of, is_out, all_fetches, all_posts}
 use Rattle.nvme_ctrl.specs.Account.{IsAccount}
+use Rattle.nvme_ctrl.specs.declared.marks.Marks.{Marks}
 use Rattle.nvme_ctrl.specs.declared.slot.Slot.{Slot}
 use Rattle.nvme_ctrl.specs.declared.state.Controller.{Controller}
 use Rattle.nvme_ctrl.specs.kept.Content.{Candidate, Ready, PendingDelete, Content}
 use Rattle.nvme_ctrl.specs.kept.Standing.{Holds, answer_in}
-use Rattle.nvme_ctrl.specs.kept.Pool.{slot_at, IsChain, AreApart}
+use Rattle.nvme_ctrl.specs.kept.Pool.{slot_at, marks_in, IsChain, AreApart}
 use Rattle.nvme_ctrl.specs.kept.State.{sq_at, cq_at, attachment_of, picked_in}
 
 -- ---- commands in slots
@@ -29,11 +31,12 @@ pub record Item : Type 0 where
   pub place : Place
   pub entry : Sqe
 
--- a command in a slot that is ready. The device had it, or not
+-- a command in a slot that is ready, with the marks of its completion. The device had it, or not
 pub record ReadyItem : Type 0 where
   pub tag : ℕ
   pub ready : Ready
   pub was_out : Bool
+  pub marks : Marks
 
 abbrev pub tags_of : List Item → List ℕ
 tags_of items = map (λ (it : Item). it.tag) items
@@ -89,6 +92,7 @@ pub record IsReadyIn (slots : List Slot) (x : ReadyItem) : Type 0 where
   pub dw0 : (slot_at slots x.tag).dw0 ≡ x.ready.dw0
   -- what the device had wasn't aborted with its queue
   pub not_both : x.was_out ≡ true → x.ready.with_queue ≡ false
+  pub marks : marks_in (slot_at slots x.tag) ≡ x.marks
 
 abbrev pub is_free : List Slot → ℕ → Type 0
 is_free slots x = (slot_at slots x).state ≡ 0
@@ -214,7 +218,15 @@ pub record HoldsPassed (notes : Notes) (c : Controller) (g : Items) : Type 0 whe
   pub readies : (x : ℕ) → All (IsReadyOf notes) (g.readies x)
   pub deletion : c.deletion.pending ≢ 0 → is_passed notes g.delete_index ≡ false
 
--- the tags, the answers and the cookies are those of the log
+-- the completion of a place isn't marked by the device
+abbrev pub IsUnmarked : Notes → Place → Type 0
+IsUnmarked notes p = marks_of notes p.region p.index ≡ None
+
+-- a ready completion has the marks of its place
+abbrev pub HasMarks : Notes → ReadyItem → Type 0
+HasMarks notes y = y.marks ≡ marks_or y.ready.status (marks_of notes y.ready.place.region y.ready.place.index)
+
+-- the tags, the answers, the cookies and the marks are those of the log
 pub record HoldsTags (notes : Notes) (c : Controller) (slots : List Slot) (g : Items) : Type 0 where
   pub untaken_are : handed notes ≡ taken notes ++ places_of (untaken c g)
   pub outs_held : All (λ (it : Item). holder notes it.tag ≡ Some it.place) g.outs
@@ -233,6 +245,9 @@ pub record HoldsTags (notes : Notes) (c : Controller) (slots : List Slot) (g : I
   pub free_count : c.free.len + all_fetches (logged notes) ≡ length slots + all_posts (logged notes)
   pub cookies : HoldsCookies notes c slots g
   pub passed : HoldsPassed notes c g
+  -- what isn't answered isn't marked
+  pub none_marked : (r i : ℕ) → answer_of notes r i ≡ None → marks_of notes r i ≡ None
+  pub marks : (x : ℕ) → All (HasMarks notes) (g.readies x)
 
 -- a controller stands at its log. The log is accounted where no region was added after its first event
 pub record StandsAt (rules : FrontRules) (late : Bool) (notes : Notes) (c : Controller) (slots : List Slot) : Type 0 where

@@ -19,10 +19,11 @@ returns-in-Some-post-clause-bad_argument c =
 pub returns-in-Some-post-clause-stands : goal.returns-in-Some-post-clause-stands
 returns-in-Some-post-clause-stands c = λ rules late notes s _. record {
   cqe = c.in-Some-post.it.cqe;
+  marks = c.in-Some-post.it.marks;
   layout = c.fields_of_post.ensures.layout;
-  posted = subst (λ (slot : ℕ). HasPosted rules late notes c.args.region slot c.in-Some-post.it.cqe c.fields_of_post.result.cookie c.post.new.self c.post.new.slots) (sym c.fields_of_post.ensures.slot)
-      (subst (λ (kept : ℕ). HasPosted rules late notes c.args.region c.in-Some-post.it.slot c.in-Some-post.it.cqe kept c.post.new.self c.post.new.slots) (sym c.fields_of_post.ensures.cookie)
-      (subst (λ (x : ℕ). HasPosted rules late notes x c.in-Some-post.it.slot c.in-Some-post.it.cqe c.in-Some-post.it.cookie c.post.new.self c.post.new.slots) c.in-Some.ensures.some
+  posted = subst (λ (slot : ℕ). HasPosted rules late notes c.args.region slot c.in-Some-post.it.cqe c.fields_of_post.result.cookie c.in-Some-post.it.marks c.post.new.self c.post.new.slots) (sym c.fields_of_post.ensures.slot)
+      (subst (λ (kept : ℕ). HasPosted rules late notes c.args.region c.in-Some-post.it.slot c.in-Some-post.it.cqe kept c.in-Some-post.it.marks c.post.new.self c.post.new.slots) (sym c.fields_of_post.ensures.cookie)
+      (subst (λ (x : ℕ). HasPosted rules late notes x c.in-Some-post.it.slot c.in-Some-post.it.cqe c.in-Some-post.it.cookie c.in-Some-post.it.marks c.post.new.self c.post.new.slots) c.in-Some.ensures.some
       (c.in-Some-post.ensures.stands rules late notes s)));
 }
 

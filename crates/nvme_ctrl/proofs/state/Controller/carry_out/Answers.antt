@@ -6,7 +6,7 @@ use Rattle.nvme_arbiter.specs.Queues.{queue_at}
 use Rattle.nvme_admin.specs.declared.effect.Effect.TheVariants as effect
 use Rattle.nvme_ctrl.specs.inside.Carrying.{IsApplying}
 use Rattle.nvme_ctrl.proofs.AppliedQueues.{opens_within, opens_free, opens_io}
-use Rattle.nvme_ctrl.proofs.CarryOut.{ended_plain, ended_opened, ended_set, carried_as, ends_as}
+use Rattle.nvme_ctrl.proofs.CarryOut.{ended_plain, ended_opened, ended_set, carried_as}
 use Rattle.nvme_ctrl.proofs.CarryQueues.{begins_on_board, ended_begun}
 use Rattle.nvme_ctrl.proofs.CarryAbort.{aborts_may, carried_found, carried_none}
 use Rattle.nvme_ctrl.proofs.state.Controller.carry_out.Goals.{then-abort, else-abort}
@@ -51,15 +51,14 @@ returns-in-OpenSq c = record {
       (effect.OpenSq c.in-OpenSq.qid c.in-OpenSq.region c.in-OpenSq.cqid c.in-OpenSq.cq_region c.in-OpenSq.class) c.end-in-OpenSq.new.self c.end-in-OpenSq.new.slots c.in-OpenSq.is
       (λ h. ended_opened rules late notes c.args.self.now c.args.slots.now c.args.tag c.in-OpenSq.qid c.in-OpenSq.region c.in-OpenSq.cqid c.in-OpenSq.cq_region c.in-OpenSq.class h
       c.open_sq.new.self c.end-in-OpenSq.new.self c.end-in-OpenSq.new.slots c.open_sq.ensures.kept
-      (ends_as c.open_sq.new.self c.args.slots.now c.args.tag c.success.result.status success c.success.result.dw0 0 c.end-in-OpenSq.new.self c.end-in-OpenSq.new.slots c.success.ensures.status c.success.ensures.dw0 c.end-in-OpenSq.ensures.kept));
+      c.end-in-OpenSq.ensures.kept);
 }
 
 pub returns-in-OpenCq : goal.returns-in-OpenCq
 returns-in-OpenCq c = record {
   own = ap (λ (z : Controller). z.own) c.end-in-OpenCq.ensures.left;
   stands = λ rules late notes.
-      let end = ends_as c.args.self.now c.args.slots.now c.args.tag c.success-in-OpenCq.result.status success c.success-in-OpenCq.result.dw0 0 c.end-in-OpenCq.new.self c.end-in-OpenCq.new.slots
-      c.success-in-OpenCq.ensures.status c.success-in-OpenCq.ensures.dw0 c.end-in-OpenCq.ensures.kept in
+      let end = c.end-in-OpenCq.ensures.kept in
       elim c.in-OpenCq.is [
         | inl x ↦ carried_as rules late notes c.args.self.now c.args.slots.now c.args.tag c.args.effect.now (effect.OpenCq x.0 x.1) c.end-in-OpenCq.new.self c.end-in-OpenCq.new.slots x.2
             (λ h. ended_plain rules late notes c.args.self.now c.args.slots.now c.args.tag (effect.OpenCq x.0 x.1) h success 0 tt refl c.end-in-OpenCq.new.self c.end-in-OpenCq.new.slots end)
@@ -81,8 +80,7 @@ returns-after-abort c = record {
   own = ap (λ (z : Controller). z.own) c.end-in-Abort.ensures.left ∙ c.abort.ensures.own;
   stands = λ rules late notes. carried_as rules late notes c.args.self.now c.args.slots.now c.args.tag c.args.effect.now (effect.Abort c.in-Abort.sqid c.in-Abort.cid) c.end-in-Abort.new.self c.end-in-Abort.new.slots c.in-Abort.is
       (λ h.
-      let end = ends_as c.abort.new.self c.abort.new.slots c.args.tag c.success-in-Abort.result.status success c.success-in-Abort.result.dw0 c.if-abort.dw0 c.end-in-Abort.new.self c.end-in-Abort.new.slots
-      c.success-in-Abort.ensures.status c.success-in-Abort.ensures.dw0 c.end-in-Abort.ensures.kept in
+      let end = c.end-in-Abort.ensures.kept in
       elim c.if-abort.branch [
         | then-abort w ↦ carried_found rules late notes c.args.self.now c.args.slots.now c.args.tag c.in-Abort.sqid c.in-Abort.cid h c.abort.new.self c.abort.new.slots c.abort.result c.if-abort.dw0
             c.abort.ensures.aborted w.if-abort.true w.dw0-is c.end-in-Abort.new.self c.end-in-Abort.new.slots end
@@ -98,6 +96,5 @@ returns-in-SetArbitration c = record {
       c.end-in-SetArbitration.new.self c.end-in-SetArbitration.new.slots c.in-SetArbitration.is
       (λ h. ended_set rules late notes c.args.self.now c.args.slots.now c.args.tag c.in-SetArbitration.settings h c.set_arbitration.new.self c.end-in-SetArbitration.new.self c.end-in-SetArbitration.new.slots
       c.set_arbitration.ensures.kept c.set_arbitration.ensures.queues c.set_arbitration.ensures.stands
-      (ends_as c.set_arbitration.new.self c.args.slots.now c.args.tag c.success-in-SetArbitration.result.status success c.success-in-SetArbitration.result.dw0 0 c.end-in-SetArbitration.new.self c.end-in-SetArbitration.new.slots
-      c.success-in-SetArbitration.ensures.status c.success-in-SetArbitration.ensures.dw0 c.end-in-SetArbitration.ensures.kept));
+      c.end-in-SetArbitration.ensures.kept);
 }

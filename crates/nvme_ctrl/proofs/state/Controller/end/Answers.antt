@@ -1,13 +1,23 @@
 use Rattle.std.proofs.Common.{arith, ap, ◌∙◌}
-use Rattle.nvme_ctrl.specs.declared.device.Answer.{Answer}
-use Rattle.nvme_ctrl.specs.kept.Pool.{put_item}
+use Rattle.nvme_entry.specs.Status.{StatusCode}
+use Rattle.nvme_ctrl.specs.declared.marks.Marks.{Marks}
+use Rattle.nvme_ctrl.specs.kept.Pool.{bit, put_item}
 use Rattle.nvme_ctrl.proofs.Ending.{keeps_end}
 use Rattle.nvme_ctrl.proofs.state.Controller.end.Goals as goal
 
 pub returns-clause-kept : goal.returns-clause-kept
-returns-clause-kept c = λ rules notes k g t h loose makes through cookie passed_as within.
-    keeps_end rules notes c.args.self.now c.put_cq.new.self c.args.slots.now c.put_item.new.slots c.push.new.slots k g t c.args.tag c.args.state c.args.region c.args.answer.dw0 c.args.answer.status
+returns-clause-kept c = λ rules notes k g t h loose makes through cookie passed_as unmarked within.
+    let more_is = c.bit.ensures ∙ ap (λ (m : Marks). bit m.more) c.of-marks.ensures in
+    let do_not_retry_is = c.bit-2.ensures ∙ ap (λ (m : Marks). bit m.do_not_retry) c.of-marks.ensures in
+    keeps_end rules notes c.args.self.now c.put_cq.new.self c.args.slots.now c.put_item.new.slots c.push.new.slots k g t c.args.tag c.args.state c.args.region c.args.dw0 c.args.status
     c.slot_at-slot.result c.cq-cq.result c.push.new.self h c.slot_at-slot.ensures
-    (c.put_item.ensures ∙ ap (λ (x : Answer). put_item c.args.slots.now c.args.tag (record c.slot_at-slot.result { state = c.args.state; sct = x.status.sct; sc = x.status.sc; dw0 = x.dw0 })) c.answer.view_is)
+    (c.put_item.ensures ∙ (λ j. put_item c.args.slots.now c.args.tag (record c.slot_at-slot.result {
+      state = c.args.state;
+      sct = (c.status.view_is j).sct;
+      sc = (c.status.view_is j).sc;
+      dw0 = c.args.dw0;
+      more = more_is j;
+      do_not_retry = do_not_retry_is j;
+    })))
     c.cq-cq.ensures c.push.ensures.chain c.push.ensures.items c.push.ensures.links c.put_cq.ensures
-    (omega (arith, c.answer.invariant, ap (λ (x : Answer). x.status.sct) c.answer.view_is)) loose makes through cookie passed_as within
+    (omega (arith, c.status.invariant, ap (λ (x : StatusCode). x.sct) c.status.view_is)) loose makes through cookie passed_as unmarked within

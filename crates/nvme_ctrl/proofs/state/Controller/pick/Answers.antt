@@ -49,7 +49,6 @@ returns-then-is_own-clause-front c =
     let step = c.pass.ensures.stands was.rules was.late was.notes was.stands in
     record { rules = was.rules; late = was.late; notes = _; stands = step.stands }
 
-
 pub returns-then-is_own-clause-passed : goal.returns-then-is_own-clause-passed
 returns-then-is_own-clause-passed c rules late notes s given is =
     let next : IsNextPick rules notes (Some c.in-Some.pick) =

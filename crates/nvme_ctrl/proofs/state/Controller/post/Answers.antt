@@ -4,6 +4,7 @@ use Rattle.nvme_log.specs.Rules.{FrontRules}
 use Rattle.nvme_ctrl.specs.Notes.{Notes}
 use Rattle.nvme_ctrl.specs.Standing.{Stands}
 use Rattle.nvme_ctrl.specs.Calls.{HasPosted}
+use Rattle.nvme_ctrl.specs.declared.marks.Marks.{Marks}
 use Rattle.nvme_ctrl.specs.declared.chain.Chain.{Chain}
 use Rattle.nvme_ctrl.specs.declared.state.Controller.{Controller}
 use Rattle.nvme_ctrl.specs.kept.Pool.{IsChain}
@@ -14,10 +15,10 @@ use Rattle.nvme_ctrl.proofs.PostCall.{HasDone}
 use Rattle.nvme_ctrl.proofs.PostLog.{steps_post}
 use Rattle.nvme_ctrl.proofs.state.Controller.post.Goals as goal
 
-abbrev after : goal.After-slots-2-1 → Controller
+abbrev after : goal.After-marks → Controller
 after c = record c.count_post.new.self { free = c.push.new.self }
 
-done : (c : goal.After-slots-2-1) → HasDone c.cq-cq.result c.count_post.new.self.free c.args.slots.now c.put_item.new.slots c.in_ok-tag.tag c.write.new.self c.push.new.self c.push.new.slots
+done : (c : goal.After-marks) → HasDone c.cq-cq.result c.count_post.new.self.free c.args.slots.now c.put_item.new.slots c.in_ok-tag.tag c.write.new.self c.push.new.self c.push.new.slots
 done c = record {
   room = c.is_full.ensures.room c.if-is_full.false;
   some = λ h. (let none = c.in_ok-tag.ensures.empty h in cc);
@@ -31,12 +32,13 @@ done c = record {
   links = c.push.ensures.links;
 }
 
-posted : (c : goal.After-slots-2-1) (rules : FrontRules) (late : Bool) (notes : Notes) → Stands rules late notes c.args.self.now c.args.slots.now
-    → HasPosted rules late notes c.args.region c.cq-cq.result.ring.tail c.completion-cqe.result c.slot_at-command.result.cookie (after c) c.push.new.slots
+posted : (c : goal.After-marks) (rules : FrontRules) (late : Bool) (notes : Notes) → Stands rules late notes c.args.self.now c.args.slots.now
+    → HasPosted rules late notes c.args.region c.cq-cq.result.ring.tail c.completion-cqe.result c.slot_at-command.result.cookie c.marks.result (after c) c.push.new.slots
 posted c rules late notes stands =
-    steps_post rules late notes c.args.self.now c.put_cq.new.self c.count_post.new.self c.args.slots.now c.put_item.new.slots c.args.region c.in_ok-tag.tag c.cq-cq.result c.write.new.self
+    subst (λ (m : Marks). HasPosted rules late notes c.args.region c.cq-cq.result.ring.tail c.completion-cqe.result c.slot_at-command.result.cookie m (after c) c.push.new.slots) (sym c.marks.ensures)
+    (steps_post rules late notes c.args.self.now c.put_cq.new.self c.count_post.new.self c.args.slots.now c.put_item.new.slots c.args.region c.in_ok-tag.tag c.cq-cq.result c.write.new.self
     c.slot_at-command.result c.push.new.self c.push.new.slots c.completion-cqe.result c.cq-cq.ensures c.slot_at-command.ensures c.completion-cqe.ensures c.put_cq.ensures c.count_post.ensures
-    c.put_item.ensures (done c) stands
+    c.put_item.ensures (done c) stands)
 
 pub returns-clause-front : goal.returns-clause-front
 returns-clause-front c =

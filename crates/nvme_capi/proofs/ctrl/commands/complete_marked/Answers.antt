@@ -3,7 +3,7 @@ use Rattle.nvme_entry.specs.Status.{StatusCode}
 use Rattle.nvme_ctrl.specs.Calls.{HasAnswered}
 use Rattle.nvme_capi.specs.Controllers.{is_ctrl, has_slots}
 use Rattle.nvme_capi.proofs.Refusals.{no_refusal}
-use Rattle.nvme_capi.proofs.ctrl.commands.nvmearb_ctrl_complete.Goals as goal
+use Rattle.nvme_capi.proofs.ctrl.commands.complete_marked.Goals as goal
 
 pub complete-requires : goal.complete-requires
 complete-requires c = record { front = c.requires.kept.front (sym c.is_ctrl.ensures ∙ c.if-not-is_ctrl.false) (sym c.has_slots.ensures ∙ c.if-not-has_slots.false) }
@@ -20,7 +20,7 @@ returns-then-complete-clause-was_out c = λ rules late notes s _. sym (c.complet
 
 pub returns-then-complete-clause-stands : goal.returns-then-complete-clause-stands
 returns-then-complete-clause-stands c = λ rules late notes s _.
-    subst (λ (code : StatusCode). HasAnswered rules late notes c.args.tag (record { status = code; dw0 = c.args.dw0 }) c.complete.new.self c.complete.new.slots)
+    subst (λ (code : StatusCode). HasAnswered rules late notes c.args.tag (record { status = code; dw0 = c.args.dw0 }) c.args.marks c.complete.new.self c.complete.new.slots)
     c.in-Some.ensures.some
     (c.complete.ensures.stands rules late notes s c.if-complete.true)
 

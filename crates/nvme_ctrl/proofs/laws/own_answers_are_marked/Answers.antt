@@ -1,0 +1,18 @@
+use Rattle.std.proofs.Common.{refl}
+use Rattle.nvme_ctrl.proofs.laws.own_answers_are_marked.Goals as goal
+
+pub returns : goal.returns
+returns c = record {
+  invalid_opcode = refl;
+  invalid_field = refl;
+  sequence_error = refl;
+  completion_queue_invalid = refl;
+  invalid_queue_identifier = refl;
+  invalid_queue_size = refl;
+  feature_not_saveable = refl;
+  success = refl;
+  abort_requested = refl;
+  aborted_by_deletion = refl;
+  invalid_queue_deletion = refl;
+  other = refl;
+}
