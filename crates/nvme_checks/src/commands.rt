@@ -23,7 +23,9 @@ fn psdt(entry: &Sqe) -> u8
 
 // Flush names no logical blocks, and takes the broadcast identifier.
 fn flush_status(nsid: u32, sizes: &[u64]) -> Status
-    ensures { result ≡ (if nsid == 0xffffffff then success else (if not (is_valid sizes.now nsid) then invalid_namespace else (if not (is_active sizes.now nsid) then invalid_field else success))) }
+    ensures { result ≡ (if nsid == 0xffffffff then success
+        else (if not (is_valid sizes.now nsid) then invalid_namespace
+        else (if not (is_active sizes.now nsid) then invalid_field else success))) }
 {
     if nsid == BROADCAST {
         return Status::SUCCESS;
