@@ -15,7 +15,8 @@
  * or one of its parts by itself, if you have a front of your own:
  *
  *   Entries  nvmearb_sqe_.., nvmearb_cqe_.., nvmearb_admin_of and nvmearb_settings_of give the fields of entries and
- *            dwords, and nvmearb_outcome the status of an I/O command. They keep no state.
+ *            dwords, and nvmearb_outcome, nvmearb_check and nvmearb_range the status of an I/O command. They keep no
+ *            state.
  *   Arbiter  nvmearb_arbiter_..: which submission queue is served next, and how many of its commands. Each pick is
  *            shown the open queues, and how many commands wait in each.
  *   Board    nvmearb_board_..: an arbiter that keeps the open queues and these numbers itself. It is told of each
@@ -66,7 +67,7 @@
  *      for all of them. A board counts at most NVMEARB_MAX_COUNT of a queue; tell it of further ones once some were
  *      picked.
  *   5. nvmearb_board_pick writes a queue and a number n. Take the n oldest waiting commands out of its ring.
- *        I/O:   nvmearb_sqe_decode, then nvmearb_outcome or an execution of one's own, then nvmearb_cqe_encode.
+ *        I/O:   nvmearb_sqe_decode, then nvmearb_check and an execution of one's own, then nvmearb_cqe_encode.
  *        Admin: nvmearb_table_apply, then what the verdict asks for (NVMEARB_DONE and below it), then
  *               nvmearb_cqe_encode.
  *
@@ -487,6 +488,29 @@ uint32_t nvmearb_cqe_encode(const nvmearb_cqe *fields, uint8_t bytes[NVMEARB_CQE
  * NVMEARB_EARG if `count` is above NVMEARB_MAX_NAMESPACES or a size is 0.
  */
 uint32_t nvmearb_outcome(const nvmearb_sqe *entry, const uint64_t *sizes, size_t count, nvmearb_status *status);
+
+/*
+ * Writes the status of an I/O command as nvmearb_outcome does, for a device that moves data by PRPs: it looks at PSDT
+ * too, and namespaces may be inactive and any number. A size of 0 says that the namespace identifier is inactive. The
+ * first of these that is so gives the status, and 0/00 where none is:
+ *   0/02, Invalid Field in Command: FUSE isn't 0; PSDT isn't 0, so that it asks for SGLs or is reserved
+ *   0/01, Invalid Command Opcode: the command is no Flush, Write or Read
+ *   0/02: NSID is FFFFFFFFh, and the command is no Flush. A Flush with this NSID succeeds
+ *   0/0B, Invalid Namespace or Format: NSID is 0 or above `count`
+ *   0/02: NSID is inactive
+ *   0/80, LBA Out of Range: SLBA + NLB + 1 of a Write or Read is more than the size
+ * With PSDT 0, over at most NVMEARB_MAX_NAMESPACES namespaces that are all active, it is the status that
+ * nvmearb_outcome writes. 0/01 says that the command passed what stands above it, so a device with more opcodes goes on
+ * from there.
+ */
+void nvmearb_check(const nvmearb_sqe *entry, const uint64_t *sizes, size_t count, nvmearb_status *status);
+
+/*
+ * Writes the status of a command that names logical blocks by NSID, SLBA and NLB (Command Dwords 10 to 12), as Write,
+ * Read, Write Uncorrectable, Compare, Write Zeroes and Verify do: that of the last four rows above, as of a Read. The
+ * opcode, FUSE and PSDT aren't looked at.
+ */
+void nvmearb_range(const nvmearb_sqe *entry, const uint64_t *sizes, size_t count, nvmearb_status *status);
 
 /* Writes the kind and the fields of an admin command. FUSE and the namespace identifier are ignored. */
 void nvmearb_admin_of(const nvmearb_sqe *entry, nvmearb_admin *command);

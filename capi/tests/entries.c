@@ -137,6 +137,68 @@ static void outcomes(void)
     CHECK(nvmearb_outcome(&entry, empty, 1, &status) == NVMEARB_OK);
 }
 
+/* The status that `call` writes of a command over namespaces of which the second is inactive, as a number. */
+static unsigned answered(void (*call)(const nvmearb_sqe *, const uint64_t *, size_t, nvmearb_status *), uint8_t opcode,
+                         uint8_t flags, uint32_t nsid, uint64_t slba, uint32_t nlb)
+{
+    static const uint64_t sizes[3] = {1000, 0, 0x100000000};
+    nvmearb_sqe entry;
+    nvmearb_status status = {0xee, 0xee};
+    memset(&entry, 0, sizeof entry);
+    entry.opcode = opcode;
+    entry.flags = flags;
+    entry.nsid = nsid;
+    entry.cdw10 = (uint32_t)slba;
+    entry.cdw11 = (uint32_t)(slba >> 32);
+    entry.cdw12 = nlb;
+    call(&entry, sizes, 3, &status);
+    return (unsigned)((unsigned)status.sct << 8 | status.sc);
+}
+
+static void checks(void)
+{
+    static const uint64_t many[17] = {1, 1, 1, 1, 1, 1, 1, 1, 1, 1, 1, 1, 1, 1, 1, 1, 1};
+    nvmearb_sqe entry;
+    nvmearb_status status;
+    CHECK(answered(nvmearb_check, 0x00, 0x00, 0xffffffff, 0, 0) == 0x0000);
+    CHECK(answered(nvmearb_check, 0x00, 0x00, 2, 0, 0) == 0x0002);
+    CHECK(answered(nvmearb_check, 0x00, 0x40, 1, 0, 0) == 0x0002);
+    CHECK(answered(nvmearb_check, 0x02, 0x00, 0xffffffff, 0, 0) == 0x0002);
+    CHECK(answered(nvmearb_check, 0x02, 0x00, 2, 0, 0) == 0x0002);
+    CHECK(answered(nvmearb_check, 0x02, 0x00, 4, 0, 0) == 0x000b);
+    CHECK(answered(nvmearb_check, 0x02, 0x00, 0, 0, 0) == 0x000b);
+    CHECK(answered(nvmearb_check, 0x02, 0x01, 1, 0, 0) == 0x0002);
+    CHECK(answered(nvmearb_check, 0x02, 0x3c, 1, 0, 0) == 0x0000);
+    CHECK(answered(nvmearb_check, 0x02, 0x40, 1, 0, 0) == 0x0002);
+    CHECK(answered(nvmearb_check, 0x01, 0x80, 1, 0, 0) == 0x0002);
+    CHECK(answered(nvmearb_check, 0x01, 0xc0, 1, 0, 0) == 0x0002);
+    CHECK(answered(nvmearb_check, 0x05, 0x40, 1, 0, 0) == 0x0002);
+    CHECK(answered(nvmearb_check, 0x05, 0x00, 1, 0, 0) == 0x0001);
+    CHECK(answered(nvmearb_check, 0x02, 0x00, 1, 999, 0) == 0x0000);
+    CHECK(answered(nvmearb_check, 0x01, 0x00, 1, 999, 1) == 0x0080);
+    CHECK(answered(nvmearb_check, 0x02, 0x00, 3, 0xffffffff, 0) == 0x0000);
+    CHECK(answered(nvmearb_check, 0x02, 0x00, 3, UINT64_MAX, 0xffff) == 0x0080);
+    memset(&entry, 0, sizeof entry);
+    entry.opcode = NVMEARB_OPC_READ;
+    entry.nsid = 17;
+    nvmearb_check(&entry, many, 17, &status);
+    CHECK(status.sct == 0 && status.sc == NVMEARB_SC_SUCCESS);
+    nvmearb_check(&entry, many, 0, &status);
+    CHECK(status.sct == 0 && status.sc == NVMEARB_SC_INVALID_NAMESPACE);
+}
+
+static void ranges(void)
+{
+    CHECK(answered(nvmearb_range, 0x05, 0x41, 1, 990, 9) == 0x0000);
+    CHECK(answered(nvmearb_range, 0x05, 0x41, 1, 990, 10) == 0x0080);
+    CHECK(answered(nvmearb_range, 0x08, 0x00, 2, 0, 0) == 0x0002);
+    CHECK(answered(nvmearb_range, 0x08, 0x00, 0xffffffff, 0, 0) == 0x0002);
+    CHECK(answered(nvmearb_range, 0x0c, 0x00, 0, 0, 0) == 0x000b);
+    CHECK(answered(nvmearb_range, 0x0c, 0x00, 4, 0, 0) == 0x000b);
+    CHECK(answered(nvmearb_range, 0x04, 0x00, 3, 0xffff0001, 0xfffe) == 0x0000);
+    CHECK(answered(nvmearb_range, 0x04, 0x00, 3, 0xffff0001, 0xffff) == 0x0080);
+}
+
 static nvmearb_admin admin(uint8_t opcode, uint32_t cdw10, uint32_t cdw11, uint64_t prp1)
 {
     nvmearb_sqe entry;
@@ -196,7 +258,7 @@ static void random_calls(void)
         uint8_t cq[NVMEARB_CQE_BYTES], cq_again[NVMEARB_CQE_BYTES];
         nvmearb_sqe entry;
         nvmearb_cqe done, random;
-        nvmearb_status status;
+        nvmearb_status status, told, fit;
         nvmearb_admin command;
         nvmearb_settings values;
         uint64_t sizes[20];
@@ -229,7 +291,20 @@ static void random_calls(void)
         for (size_t i = 0; i < count; i++) {
             reserved |= sizes[i] == 0;
         }
+        entry.opcode &= 3;
+        entry.flags &= (uint8_t)(word >> 32);
+        entry.nsid &= 31;
         wrong += nvmearb_outcome(&entry, sizes, count, &status) != (reserved ? NVMEARB_EARG : NVMEARB_OK);
+        nvmearb_check(&entry, sizes, count, &told);
+        nvmearb_range(&entry, sizes, count, &fit);
+        if (entry.flags & 0xc0) {
+            wrong += told.sct != 0 || told.sc != NVMEARB_SC_INVALID_FIELD;
+        } else if (!reserved) {
+            wrong += memcmp(&told, &status, sizeof told) != 0;
+        }
+        if ((entry.flags & 0xc3) == 0 && (entry.opcode == NVMEARB_OPC_WRITE || entry.opcode == NVMEARB_OPC_READ)) {
+            wrong += memcmp(&told, &fit, sizeof told) != 0;
+        }
         nvmearb_admin_of(&entry, &command);
         wrong += command.kind > NVMEARB_ADMIN_ABORT;
         nvmearb_settings_of((uint32_t)word, &values);
@@ -245,6 +320,8 @@ int main(void)
     completion_fields_by_place();
     refused_completions();
     outcomes();
+    checks();
+    ranges();
     admin_fields();
     settings();
     random_calls();

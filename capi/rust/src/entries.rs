@@ -88,6 +88,37 @@ impl Sqe {
             .map(|status| Status::of(&status))
     }
 
+    /// The status of an I/O command as [`Sqe::outcome`] has it, for a device that moves data by PRPs: it looks at PSDT
+    /// too, and namespaces may be inactive and any number. A size of 0 says that the namespace identifier is inactive.
+    /// The first of these that is so gives the status:
+    ///
+    /// * [`Status::INVALID_FIELD`]: FUSE isn't 0; PSDT isn't 0, so that it asks for SGLs or is reserved
+    /// * [`Status::INVALID_OPCODE`]: the command is no Flush, Write or Read
+    /// * [`Status::INVALID_FIELD`]: the namespace identifier is `0xffff_ffff`, and the command is no Flush. A Flush
+    ///   with this identifier succeeds
+    /// * [`Status::INVALID_NAMESPACE`]: the namespace identifier is 0 or above the number of sizes
+    /// * [`Status::INVALID_FIELD`]: the namespace identifier is inactive
+    /// * [`Status::LBA_OUT_OF_RANGE`]: the blocks of a Write or Read end past the namespace
+    ///
+    /// [`Status::INVALID_OPCODE`] says that the command passed what stands above it, so a device with more opcodes goes
+    /// on from there.
+    pub fn check(&self, sizes: &[u64]) -> Status {
+        let mut status = sys::nvmearb_status::default();
+        // SAFETY: references.
+        unsafe { sys::nvmearb_check(&self.fields(), sizes.as_ptr(), sizes.len(), &mut status) };
+        Status::of(&status)
+    }
+
+    /// The status of a command that names logical blocks by namespace identifier, SLBA and NLB (Command Dwords 10 to
+    /// 12), as Write, Read, Write Uncorrectable, Compare, Write Zeroes and Verify do: that of the last four rows of
+    /// [`Sqe::check`], as of a Read. The opcode, FUSE and PSDT aren't looked at.
+    pub fn range(&self, sizes: &[u64]) -> Status {
+        let mut status = sys::nvmearb_status::default();
+        // SAFETY: references.
+        unsafe { sys::nvmearb_range(&self.fields(), sizes.as_ptr(), sizes.len(), &mut status) };
+        Status::of(&status)
+    }
+
     pub(crate) fn fields(&self) -> sys::nvmearb_sqe {
         let Sqe { opcode, flags, cid, nsid, cdw2, cdw3, mptr, prp1, prp2, .. } = *self;
         let Sqe { cdw10, cdw11, cdw12, cdw13, cdw14, cdw15, .. } = *self;

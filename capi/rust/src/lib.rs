@@ -12,8 +12,8 @@
 //!
 //! or one of its parts by itself, if you have a front of your own:
 //!
-//! * [`Sqe`], [`Cqe`], [`Admin`] and [`Settings`] are the fields of entries and dwords, and [`Sqe::outcome`] is the
-//!   status of an I/O command.
+//! * [`Sqe`], [`Cqe`], [`Admin`] and [`Settings`] are the fields of entries and dwords, and [`Sqe::outcome`],
+//!   [`Sqe::check`] and [`Sqe::range`] are the status of an I/O command.
 //! * [`Arbiter`]: which submission queue is served next, and how many of its commands. Each pick is shown the open
 //!   queues, and how many commands wait in each.
 //! * [`Board`]: an arbiter that keeps the open queues and these numbers itself.

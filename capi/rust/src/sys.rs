@@ -394,6 +394,8 @@ extern "C" {
     pub fn nvmearb_cqe_decode(bytes: *const CqeBytes, fields: *mut nvmearb_cqe) -> u32;
     pub fn nvmearb_cqe_encode(fields: *const nvmearb_cqe, bytes: *mut CqeBytes) -> u32;
     pub fn nvmearb_outcome(entry: *const nvmearb_sqe, sizes: *const u64, count: usize, status: *mut nvmearb_status) -> u32;
+    pub fn nvmearb_check(entry: *const nvmearb_sqe, sizes: *const u64, count: usize, status: *mut nvmearb_status);
+    pub fn nvmearb_range(entry: *const nvmearb_sqe, sizes: *const u64, count: usize, status: *mut nvmearb_status);
     pub fn nvmearb_admin_of(entry: *const nvmearb_sqe, command: *mut nvmearb_admin);
     pub fn nvmearb_settings_of(cdw11: u32, settings: *mut nvmearb_settings);
 

@@ -92,6 +92,47 @@ fn outcomes_are_those_of_the_first_check() {
     assert_eq!(Sqe::default().outcome(&[5, 0]), Err(Error::Argument));
 }
 
+/// A command that names logical blocks, and namespaces of which the second is inactive.
+const NAMESPACES: [u64; 3] = [1000, 0, 1 << 32];
+fn blocks(opcode: u8, flags: u8, nsid: u32, slba: u64, nlb: u32) -> Sqe {
+    let (cdw10, cdw11) = (slba as u32, (slba >> 32) as u32);
+    Sqe { opcode, flags, nsid, cdw10, cdw11, cdw12: nlb, ..Sqe::default() }
+}
+
+#[test]
+fn checks_look_at_psdt_and_inactive_namespaces() {
+    use io_opcode::{FLUSH, READ, WRITE};
+    let check = |opcode, flags, nsid, slba, nlb| blocks(opcode, flags, nsid, slba, nlb).check(&NAMESPACES);
+    assert_eq!(check(FLUSH, 0, 0xffff_ffff, 0, 0), Status::SUCCESS);
+    assert_eq!(check(FLUSH, 0, 2, 0, 0), Status::INVALID_FIELD);
+    assert_eq!(check(READ, 0, 0xffff_ffff, 0, 0), Status::INVALID_FIELD);
+    assert_eq!(check(READ, 0, 2, 0, 0), Status::INVALID_FIELD);
+    assert_eq!(check(READ, 0, 4, 0, 0), Status::INVALID_NAMESPACE);
+    assert_eq!(check(READ, 0, 0, 0, 0), Status::INVALID_NAMESPACE);
+    assert_eq!(check(READ, 1, 1, 0, 0), Status::INVALID_FIELD); // FUSE
+    for psdt in [0x40, 0x80, 0xc0] {
+        assert_eq!(check(WRITE, psdt, 1, 0, 0), Status::INVALID_FIELD);
+    }
+    assert_eq!(check(0x05, 0, 1, 0, 0), Status::INVALID_OPCODE);
+    assert_eq!(check(READ, 0, 1, 999, 0), Status::SUCCESS);
+    assert_eq!(check(WRITE, 0, 1, 999, 1), Status::LBA_OUT_OF_RANGE);
+    assert_eq!(check(READ, 0, 3, u64::MAX, 0xffff), Status::LBA_OUT_OF_RANGE);
+    assert_eq!(blocks(READ, 0, 17, 0, 0).check(&[1; 17]), Status::SUCCESS);
+    assert_eq!(blocks(READ, 0, 1, 0, 0).check(&[]), Status::INVALID_NAMESPACE);
+}
+
+#[test]
+fn ranges_are_checked_of_any_opcode() {
+    let range = |opcode, nsid, slba, nlb| blocks(opcode, 0x41, nsid, slba, nlb).range(&NAMESPACES);
+    assert_eq!(range(0x05, 1, 990, 9), Status::SUCCESS);
+    assert_eq!(range(0x05, 1, 990, 10), Status::LBA_OUT_OF_RANGE);
+    assert_eq!(range(0x08, 2, 0, 0), Status::INVALID_FIELD);
+    assert_eq!(range(0x08, 0xffff_ffff, 0, 0), Status::INVALID_FIELD);
+    assert_eq!(range(0x0c, 0, 0, 0), Status::INVALID_NAMESPACE);
+    assert_eq!(range(0x0c, 3, 0xffff_0001, 0xfffe), Status::SUCCESS);
+    assert_eq!(range(0x0c, 3, 0xffff_0001, 0xffff), Status::LBA_OUT_OF_RANGE);
+}
+
 fn admin(opcode: u8, cdw10: u32, cdw11: u32, prp1: u64) -> Admin {
     Sqe { opcode, cdw10, cdw11, prp1, ..Sqe::default() }.admin()
 }

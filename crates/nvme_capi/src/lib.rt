@@ -8,6 +8,7 @@ mod admin;
 mod answers;
 mod arbiter;
 mod board;
+mod checks;
 mod ctrl;
 mod entries;
 mod fields;

@@ -1,0 +1,4 @@
+pub mod Identifiers
+pub mod Status
+pub mod Laws
+pub mod Examples
