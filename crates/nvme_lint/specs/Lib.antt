@@ -1,4 +1,3 @@
 pub mod Lints
-pub mod Places
 pub mod Warnings
 pub mod inside

@@ -1,4 +1,2 @@
 -- What only private contracts cite: no public clause reaches it.
 pub mod Regions
-pub mod Readings
-pub mod Tables

@@ -1,24 +1,15 @@
-//! Checks a workload file for its writer: where it is at fault and what was expected there, or what of a valid workload
-//! has no effect.
+//! Checks a workload file for its writer: what of a valid workload has no effect. Its faults are those that
+//! `nvme_workload::read_placed` answers.
 #![tactic(auto)]
 
 mod cause;
-mod fault;
-mod found;
 mod lints;
 mod named;
-mod place;
-mod places;
 mod scripts;
 mod site;
-mod tables;
-mod values;
 mod warning;
 mod warnings;
 
-pub use fault::{Details, Fault, Why};
-pub use found::Found;
-pub use lints::{LintError, lint};
-pub use place::Place;
+pub use lints::lint;
 pub use site::Site;
 pub use warning::{Kind, Warning};

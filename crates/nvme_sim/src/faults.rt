@@ -4,12 +4,11 @@ ghost use Rattle.nvme_sim.specs.declared.faults.Fault.TheVariants as fault;
 ghost use Rattle.nvme_runs.specs.declared.runs.RunError.TheVariants as run_fault;
 
 use nvme_front::FrontError;
-use nvme_lint::Details;
 use nvme_runs::RunError;
 use nvme_settings::SettingsFault;
 use nvme_trace::TraceError;
 use nvme_words::{InputError, OnceError, WordsError};
-use nvme_workload::WorkloadError;
+use nvme_workload::{Details, WorkloadError};
 use std::alloc::AllocError;
 use std::io::Write;
 use thiserror::Error;
@@ -33,7 +32,7 @@ pub(crate) enum Fault {
     #[error("nvmearb: {0}")]
     Run(RunError),
     #[error("nvmearb: workload: {0}")]
-    Workload(nvme_lint::Fault),
+    Workload(nvme_workload::Fault),
     #[error("nvmearb: workload: {0}")]
     Short(nvme_short::ShortFault),
     #[error("nvmearb: {0}")]
@@ -42,7 +41,7 @@ pub(crate) enum Fault {
     Settings(SettingsFault),
     // The second line tells the place of the fault, what stands there, and what was expected.
     #[error("nvmearb: workload: {0}")]
-    Placed(WorkloadError, nvme_lint::Fault),
+    Placed(WorkloadError, nvme_workload::Fault),
     #[error("nvmearb: front\nnvmearb: {0}")]
     Front(FrontError),
     // With the patience of the workload, which the second line tells.

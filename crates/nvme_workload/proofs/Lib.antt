@@ -1,2 +1,4 @@
 pub mod Turns
 pub mod SoundLemmas
+pub mod Lines
+pub mod Placed

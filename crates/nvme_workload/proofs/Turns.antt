@@ -1,13 +1,13 @@
--- The items of an array, read in turn.
-use Rattle.std.proofs.Common.{◌≡◌, ℕ, suc, ◌+◌, ◌<◌, ◌≤◌, List, [], ◌∷◌, length, get_or, drop, Result, Ok, Err, refl, sym, ap, ◌∙◌}
+-- The items of an array, read in turn with their indices.
+use Rattle.std.proofs.Common.{◌≡◌, ℕ, suc, ◌+◌, ◌<◌, ◌≤◌, List, [], ◌∷◌, length, get_or, drop, Result, Ok, refl, sym, ap, ◌∙◌}
 use Rattle.std.proofs.Math.ListN.{drop_of_length-le}
 use Rattle.toml.specs.Data.{Data, item}
 use Rattle.toml.specs.View.{view, items_view}
 use Rattle.toml.specs.declared.value.Value.{Value}
 use Rattle.toml.proofs.Views.{items_view-drop}
-use Rattle.nvme_workload.specs.declared.error.WorkloadError.{WorkloadError}
-use Rattle.nvme_workload.specs.declared.error.WorkloadError.TheVariants as faults
-use Rattle.nvme_workload.specs.Readings.{Fails, item_count, in_turn}
+use Rattle.nvme_workload.specs.declared.flaw.PlanError.{PlanError}
+use Rattle.nvme_workload.specs.declared.flaw.PlanError.TheVariants.{At, NoMemory}
+use Rattle.nvme_workload.specs.Readings.{FailsAt, item_count, in_turn}
 
 pub item_count_view : (vs : List Value) → item_count (items_view vs) ≡ length vs
 item_count_view [] = refl
@@ -17,26 +17,17 @@ item_at : (vs : List Value) (i : ℕ) (v : Value) → i < length vs → v ≡ ge
 item_at vs i v lt at = items_view-drop vs i v lt ∙ ap (λ w. item (view w) (items_view (drop (i + 1) vs))) (sym at)
 
 -- an item that is read
-pub turn_more : {A : Type 0} (next : A → Data → Result A WorkloadError) (vs : List Value) (i : ℕ) (v : Value) (before after : A) → i < length vs → v ≡ get_or vs i v → next before (view v) ≡ Ok after → in_turn next after (items_view (drop (i + 1) vs)) ≡ in_turn next before (items_view (drop i vs))
+pub turn_more : {A : Type 0} (next : ℕ → A → Data → Result A PlanError) (vs : List Value) (i : ℕ) (v : Value) (before after : A) → i < length vs → v ≡ get_or vs i v → next i before (view v) ≡ Ok after → in_turn next (i + 1) after (items_view (drop (i + 1) vs)) ≡ in_turn next i before (items_view (drop i vs))
 unfolding in_turn
 turn_more next vs i v before after lt at step = rw (item_at vs i v lt at, step)
 
 -- after the last item
-pub turns_done : {A : Type 0} (next : A → Data → Result A WorkloadError) (vs : List Value) (i : ℕ) (before : A) → length vs ≤ i → in_turn next before (items_view (drop i vs)) ≡ Ok before
+pub turns_done : {A : Type 0} (next : ℕ → A → Data → Result A PlanError) (vs : List Value) (i : ℕ) (before : A) → length vs ≤ i → in_turn next i before (items_view (drop i vs)) ≡ Ok before
 unfolding in_turn
 turns_done next vs i before le = rw (drop_of_length-le vs le)
 
-fault_ends : {A : Type 0} (next : A → Data → Result A WorkloadError) (vs : List Value) (i : ℕ) (v : Value) (before : A) (e : WorkloadError) → i < length vs → v ≡ get_or vs i v → next before (view v) ≡ Err e → in_turn next before (items_view (drop i vs)) ≡ Err e
-unfolding in_turn
-fault_ends next vs i v before e lt at step = rw (item_at vs i v lt at, step)
-
 -- a fault of an item is the fault of the whole
-pub turn_fails : {A : Type 0} (next : A → Data → Result A WorkloadError) (vs : List Value) (i : ℕ) (v : Value) (before : A) (total : Result A WorkloadError) (e : WorkloadError) → i < length vs → v ≡ get_or vs i v → Fails e (next before (view v)) → in_turn next before (items_view (drop i vs)) ≡ total → Fails e total
-turn_fails next vs i v before total faults.NoMemory lt at step same = tt
-turn_fails next vs i v before total faults.NotUtf8 lt at step same = sym same ∙ fault_ends next vs i v before _ lt at step
-turn_fails next vs i v before total faults.NotToml lt at step same = sym same ∙ fault_ends next vs i v before _ lt at step
-turn_fails next vs i v before total (faults.Missing k) lt at step same = sym same ∙ fault_ends next vs i v before _ lt at step
-turn_fails next vs i v before total (faults.Bad k) lt at step same = sym same ∙ fault_ends next vs i v before _ lt at step
-turn_fails next vs i v before total faults.Unknown lt at step same = sym same ∙ fault_ends next vs i v before _ lt at step
-turn_fails next vs i v before total faults.Limit lt at step same = sym same ∙ fault_ends next vs i v before _ lt at step
-turn_fails next vs i v before total faults.Repeated lt at step same = sym same ∙ fault_ends next vs i v before _ lt at step
+pub turn_fails : {A : Type 0} (next : ℕ → A → Data → Result A PlanError) (vs : List Value) (i : ℕ) (v : Value) (before : A) (total : Result A PlanError) (e : PlanError) → i < length vs → v ≡ get_or vs i v → FailsAt e (next i before (view v)) → in_turn next i before (items_view (drop i vs)) ≡ total → FailsAt e total
+unfolding in_turn
+turn_fails next vs i v before total NoMemory lt at step same = tt
+turn_fails next vs i v before total (At spot flaw) lt at step same = sym same ∙ rw (item_at vs i v lt at, step)

@@ -5,3 +5,5 @@ pub mod Regions
 pub mod Plan
 pub mod Sound
 pub mod Documents
+pub mod Places
+pub mod inside

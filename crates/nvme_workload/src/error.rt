@@ -1,8 +1,4 @@
-ghost use Rattle.std.specs.Prelude.{◌≡◌};
-ghost use Rattle.nvme_workload.specs.declared.error.WorkloadError.TheVariants.{NoMemory};
-
 use crate::key::Key;
-use std::alloc::{AllocError, AllocFailed};
 use thiserror::Error;
 
 /// The first fault of a workload file, or that memory was refused. Nothing is read after it, and nothing is
@@ -33,20 +29,4 @@ pub enum WorkloadError {
     /// Out of memory, before a fault was found.
     #[error("out of memory")]
     NoMemory,
-}
-
-impl From<AllocError> for WorkloadError {
-    ghost from_gives = { λ _ e. e ≡ NoMemory };
-
-    fn from(_e: AllocError) -> WorkloadError {
-        WorkloadError::NoMemory
-    }
-}
-
-impl<T: Drop> From<AllocFailed<T>> for WorkloadError {
-    ghost from_gives = { λ _ e. e ≡ NoMemory };
-
-    fn from(_e: AllocFailed<T>) -> WorkloadError {
-        WorkloadError::NoMemory
-    }
 }

@@ -1,68 +1,62 @@
 ghost use Rattle.std.specs.Prelude.{◌≡◌, ◌+◌, ◌≤◌, Ok, Some, IfOk, IfErr, OnOk, IsErrOf, length, vec_len, IsUtf8};
 ghost use Rattle.toml.specs.Parse.{parse_document};
 ghost use Rattle.toml.specs.View.{view, table_view};
-ghost use Rattle.nvme_workload.specs.Readings.{Fails, Gives, seen, number_at};
-ghost use Rattle.nvme_workload.specs.Plan.{plan_of, mechanism_of, with_size, sizes_of, plan_in, plan_of_text, workload_of};
+ghost use Rattle.nvme_workload.specs.Readings.{FailsAt, Gives, GivesAt, seen, number_at};
+ghost use Rattle.nvme_workload.specs.Plan.{plan_of, mechanism_of, with_size, sizes_of, reading_of, plan_in, plan_of_text, workload_of};
+ghost use Rattle.nvme_workload.specs.declared.place.Spot.TheVariants.{Top};
+ghost use Rattle.nvme_admin.specs.declared.bounds.TheConstants.{MAX_IO_QUEUES};
 ghost use Rattle.nvme_workload.specs.Documents.{IsFaultOf};
 ghost use Rattle.nvme_workload.specs.Sound.{IsLimit, AreSizes, IsSound};
 
 use crate::error::WorkloadError;
-use crate::key::Key;
+use crate::flaw::{Flaw, PlanError};
+use crate::key::{FILE_KEYS, Key};
 use crate::memory::is_enough_for;
+use crate::place::Spot;
 use crate::plan::Workload;
+use crate::ranges::{BLOCKS, DWORD, QUEUES, TURNS};
 use crate::regions::{completions_of, submissions_of};
 use crate::values::{array_of, number_at, only_keys, value_at, whole};
-use nvme_admin::{Limits, MAX_IO_QUEUES};
+use nvme_admin::Limits;
 use nvme_arbiter::{Mechanism, Settings};
 use nvme_entry::{MAX_NAMESPACES, Namespaces, SpaceError};
 use std::alloc::Global;
 use toml::{Table, Value};
 
-const KEYS: [Key; 8] = [
-    Key::Mechanism,
-    Key::Arbitration,
-    Key::SqLimit,
-    Key::CqLimit,
-    Key::Patience,
-    Key::Namespaces,
-    Key::Submission,
-    Key::Completion,
-];
-
 // The mechanism.
-fn mechanism_of(value: &Value) -> Result<Mechanism, WorkloadError>
+fn mechanism_of(value: &Value) -> Result<Mechanism, PlanError>
     ensures { result ≡ mechanism_of (view value.now) }
 {
     match value.as_str() {
         Some("round-robin") => Ok(Mechanism::RoundRobin),
         Some("weighted") => Ok(Mechanism::Weighted),
-        _ => Err(WorkloadError::Bad(Key::Mechanism)),
+        _ => Err(PlanError::At(Spot::Top, Flaw::Bad(Key::Mechanism))),
     }
 }
 
 // Appends the size of one more namespace.
 #[tactic(auto, unfolding(crate::specs::Plan::with_size))]
-fn push_size(sizes: &mut Vec<u64>, item: &Value) -> Result<(), WorkloadError>
+fn push_size(sizes: &mut Vec<u64>, item: &Value) -> Result<(), PlanError>
     ensures ok { OnOk result (with_size sizes.old.items (view item.now) ≡ Ok sizes.new.items) }
-    ensures err { IfErr result (λ e. Fails e (with_size sizes.old.items (view item.now))) }
+    ensures err { IfErr result (λ e. FailsAt e (with_size sizes.old.items (view item.now))) }
     ensures one { OnOk result (vec_len sizes.new ≡ vec_len sizes.old + 1) }
     ensures sound { OnOk result (AreSizes sizes.old.items → AreSizes sizes.new.items) }
 {
-    let size = whole(item, Key::Namespaces, 1, 0x7fff_ffff_ffff_ffff)?;
+    let size = whole(Spot::Top, item, Key::Namespaces, BLOCKS)?;
     sizes.push(size)?;
     Ok(())
 }
 
 // The namespaces.
 #[tactic(auto, using(crate::proofs::Turns::item_count_view), unfolding(crate::specs::Plan::sizes_of))]
-fn spaces_of(alloc: Global, value: &Value) -> Result<Namespaces, WorkloadError>
-    ensures value { Gives result (sizes_of (view value.now)) }
+fn spaces_of(alloc: Global, value: &Value) -> Result<Namespaces, PlanError>
+    ensures value { GivesAt result (sizes_of (view value.now)) }
     ensures few { IfOk result (λ sizes. length sizes ≤ MAX_NAMESPACES) }
     ensures sound { IfOk result AreSizes }
 {
-    let items = array_of(value, Key::Namespaces)?;
+    let items = array_of(Spot::Top, value, Key::Namespaces)?;
     if MAX_NAMESPACES < items.len() {
-        return Err(WorkloadError::Limit);
+        return Err(PlanError::At(Spot::Top, Flaw::Most(Key::Namespaces)));
     }
     let mut sizes = Vec::new(alloc);
     for item in items {
@@ -70,38 +64,38 @@ fn spaces_of(alloc: Global, value: &Value) -> Result<Namespaces, WorkloadError>
     }
     match Namespaces::new(&sizes) {
         Ok(spaces) => Ok(spaces),
-        Err(SpaceError::TooMany) => Err(WorkloadError::Limit),
-        Err(SpaceError::Empty) => Err(WorkloadError::Bad(Key::Namespaces)),
+        Err(SpaceError::TooMany) => Err(PlanError::At(Spot::Top, Flaw::Most(Key::Namespaces))),
+        Err(SpaceError::Empty) => Err(PlanError::At(Spot::Top, Flaw::Bad(Key::Namespaces))),
     }
 }
 
 // The limit on the queues of a kind.
-fn limit_at(table: &Table, key: Key) -> Result<u16, WorkloadError>
-    ensures value { result ≡ number_at key 1 MAX_IO_QUEUES (table_view table.now) }
+fn limit_at(table: &Table, key: Key) -> Result<u16, PlanError>
+    ensures value { result ≡ number_at Top key 1 MAX_IO_QUEUES (table_view table.now) }
     ensures in_range { IfOk result IsLimit }
 {
-    let limit = number_at(table, key, 1, u64::from(MAX_IO_QUEUES))?;
+    let limit = number_at(Spot::Top, table, key, QUEUES)?;
     Ok(limit as u16)
 }
 
-/// Reads a workload of the document of a file: what it says, or its first fault, as `read` does.
-#[tactic(auto, unfolding(crate::specs::Plan::plan_in))]
-pub fn read_document(alloc: Global, table: &Table) -> Result<Workload, WorkloadError>
-    ensures value { Gives (seen plan_of result) (plan_in (table_view table.now)) }
+/// The workload of a document, or its first flaw and the table where it is.
+#[tactic(auto, unfolding(crate::specs::Plan::reading_of))]
+pub(crate) fn reading_of(alloc: Global, table: &Table) -> Result<Workload, PlanError>
+    ensures value { GivesAt (seen plan_of result) (reading_of (table_view table.now)) }
     ensures sound { IfOk result (λ w. IsSound (plan_of w)) }
 {
-    only_keys(&KEYS, table)?;
-    let mechanism = mechanism_of(value_at(table, Key::Mechanism)?)?;
-    let arbitration = number_at(table, Key::Arbitration, 0, 0xffff_ffff)?;
+    only_keys(Spot::Top, &FILE_KEYS, table)?;
+    let mechanism = mechanism_of(value_at(Spot::Top, table, Key::Mechanism)?)?;
+    let arbitration = number_at(Spot::Top, table, Key::Arbitration, DWORD)?;
     let nsq = limit_at(table, Key::SqLimit)?;
     let ncq = limit_at(table, Key::CqLimit)?;
-    let patience = number_at(table, Key::Patience, 1, 0xffff_ffff)?;
-    let spaces = spaces_of(alloc, value_at(table, Key::Namespaces)?)?;
-    let submissions = submissions_of(alloc, value_at(table, Key::Submission)?)?;
+    let patience = number_at(Spot::Top, table, Key::Patience, TURNS)?;
+    let spaces = spaces_of(alloc, value_at(Spot::Top, table, Key::Namespaces)?)?;
+    let submissions = submissions_of(alloc, value_at(Spot::Top, table, Key::Submission)?)?;
     let completions = completions_of(
         alloc,
         submissions.as_slice(),
-        value_at(table, Key::Completion)?,
+        value_at(Spot::Top, table, Key::Completion)?,
     )?;
     Ok(Workload {
         mechanism,
@@ -112,6 +106,18 @@ pub fn read_document(alloc: Global, table: &Table) -> Result<Workload, WorkloadE
         submissions,
         completions,
     })
+}
+
+/// Reads a workload of the document of a file: what it says, or its first fault, as `read` does.
+pub fn read_document(alloc: Global, table: &Table) -> Result<Workload, WorkloadError>
+    ensures value { Gives (seen plan_of result) (plan_in (table_view table.now)) }
+    ensures sound { IfOk result (λ w. IsSound (plan_of w)) }
+{
+    match reading_of(alloc, table) {
+        Ok(workload) => Ok(workload),
+        Err(PlanError::At(_, flaw)) => Err(flaw.fault()),
+        Err(PlanError::NoMemory) => Err(WorkloadError::NoMemory),
+    }
 }
 
 /// Why a text gives no document.

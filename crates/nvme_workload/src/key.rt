@@ -73,3 +73,33 @@ impl Key {
         }
     }
 }
+
+/// The keys of the file's own table.
+pub(crate) const FILE_KEYS: [Key; 8] = [
+    Key::Mechanism,
+    Key::Arbitration,
+    Key::SqLimit,
+    Key::CqLimit,
+    Key::Patience,
+    Key::Namespaces,
+    Key::Submission,
+    Key::Completion,
+];
+
+/// The keys of a table of `submission`.
+pub(crate) const SUBMISSION_KEYS: [Key; 3] = [Key::Address, Key::Slots, Key::Script];
+
+/// The keys of a table of `completion`.
+pub(crate) const COMPLETION_KEYS: [Key; 2] = [Key::Address, Key::Slots];
+
+/// The keys of a table of `script`.
+pub(crate) const COMMAND_KEYS: [Key; 8] = [
+    Key::Op,
+    Key::Flags,
+    Key::Nsid,
+    Key::Prp1,
+    Key::Cdw10,
+    Key::Cdw11,
+    Key::Cdw12,
+    Key::Count,
+];

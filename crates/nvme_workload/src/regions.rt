@@ -1,24 +1,22 @@
 ghost use Rattle.std.specs.Prelude.{◌≡◌, ◌==◌, ◌+◌, ◌≤◌, false, [], length, vec_len, Ok, IfOk, IfErr, OnOk};
 ghost use Rattle.std.specs.List.{list_any};
 ghost use Rattle.toml.specs.View.{view, array_view, table_view};
-ghost use Rattle.nvme_workload.specs.Readings.{Fails, Gives, seen};
+ghost use Rattle.nvme_workload.specs.Readings.{FailsAt, GivesAt, seen};
 ghost use Rattle.nvme_workload.specs.Scripts.{most_commands};
 ghost use Rattle.nvme_workload.specs.Regions.{has_address, address_in, slots_in, command_count, submission_of, completion_of, regions_of, with_submission, with_completion, submissions_of, completions_of};
 ghost use Rattle.nvme_workload.specs.Sound.{IsNumbered, AreSlots, AreApart, AreSubmissions, AreCompletions, IsRegionCount};
 
-use crate::error::WorkloadError;
-use crate::key::Key;
+use crate::flaw::{Flaw, PlanError};
+use crate::key::{COMPLETION_KEYS, Key, SUBMISSION_KEYS};
+use crate::place::Spot;
 use crate::plan::{CqPlan, Sequence, SqPlan};
+use crate::ranges::{ADDRESS, SLOTS};
 use crate::scripts::script_of;
 use crate::values::{array_of, number_at, only_keys, table_of, value_at};
-use nvme_admin::{MAX_REGIONS, MAX_SLOTS, MIN_SLOTS};
+use nvme_admin::MAX_REGIONS;
 use std::alloc::Global;
 use toml::value::Array;
 use toml::{Table, Value};
-
-const SUBMISSION_KEYS: [Key; 3] = [Key::Address, Key::Slots, Key::Script];
-
-const COMPLETION_KEYS: [Key; 2] = [Key::Address, Key::Slots];
 
 // Whether a submission region of these has the address.
 fn submission_has(regions: &[SqPlan], address: u64) -> bool
@@ -37,32 +35,28 @@ fn completion_has(regions: &[CqPlan], address: u64) -> bool
 // The address of a region, which no region read before has.
 #[tactic(auto, unfolding(crate::specs::Regions::address_in))]
 fn address_in(
+    spot: Spot,
     submissions: &[SqPlan],
     completions: &[CqPlan],
     table: &Table,
-) -> Result<u64, WorkloadError>
-    ensures value { result ≡ address_in submissions.now completions.now (table_view table.now) }
+) -> Result<u64, PlanError>
+    ensures value { result ≡ address_in spot submissions.now completions.now (table_view table.now) }
     ensures fresh { IfOk result (λ a. has_address submissions.now completions.now a ≡ false) }
 {
-    let address = number_at(table, Key::Address, 0, 0x7fff_ffff_ffff_ffff)?;
+    let address = number_at(spot, table, Key::Address, ADDRESS)?;
     if submission_has(submissions, address) || completion_has(completions, address) {
-        return Err(WorkloadError::Repeated);
+        return Err(PlanError::At(spot, Flaw::Repeated));
     }
     Ok(address)
 }
 
 // The slots of a region.
 #[tactic(auto, unfolding(crate::specs::Regions::slots_in))]
-fn slots_in(table: &Table) -> Result<u16, WorkloadError>
-    ensures value { result ≡ slots_in (table_view table.now) }
+fn slots_in(spot: Spot, table: &Table) -> Result<u16, PlanError>
+    ensures value { result ≡ slots_in spot (table_view table.now) }
     ensures in_range { IfOk result AreSlots }
 {
-    let slots = number_at(
-        table,
-        Key::Slots,
-        u64::from(MIN_SLOTS),
-        u64::from(MAX_SLOTS),
-    )?;
+    let slots = number_at(spot, table, Key::Slots, SLOTS)?;
     Ok(slots as u16)
 }
 
@@ -73,20 +67,22 @@ fn submission_of(
     before: &[SqPlan],
     commands: usize,
     item: &Value,
-) -> Result<SqPlan, WorkloadError>
+) -> Result<SqPlan, PlanError>
     requires all { commands ≡ command_count before.now }
     requires fit { commands ≤ most_commands }
-    ensures value { Gives result (submission_of before.now (view item.now)) }
+    ensures value { GivesAt result (submission_of before.now (view item.now)) }
     ensures fits { IfOk result (λ p. commands + length p.script ≤ most_commands) }
     ensures slots { IfOk result (λ p. AreSlots p.slots) }
     ensures fresh { IfOk result (λ p. has_address before.now [] p.address ≡ false) }
     ensures numbered { IfOk result (λ p. IsNumbered p.script) }
 {
-    let table = table_of(item, Key::Submission)?;
-    only_keys(&SUBMISSION_KEYS, table)?;
-    let address = address_in(before, &[], table)?;
-    let slots = slots_in(table)?;
-    let script = script_of(alloc, value_at(table, Key::Script)?, commands)?;
+    let spot = Spot::Submission(before.len());
+    let table = table_of(spot, item, Key::Submission)?;
+    only_keys(spot, &SUBMISSION_KEYS, table)?;
+    let address = address_in(spot, before, &[], table)?;
+    let slots = slots_in(spot, table)?;
+    let script = value_at(spot, table, Key::Script)?;
+    let script = script_of(alloc, script, before.len(), commands)?;
     Ok(SqPlan {
         address,
         slots,
@@ -100,30 +96,31 @@ fn completion_of(
     submissions: &[SqPlan],
     before: &[CqPlan],
     item: &Value,
-) -> Result<CqPlan, WorkloadError>
+) -> Result<CqPlan, PlanError>
     ensures value { result ≡ completion_of submissions.now before.now (view item.now) }
     ensures slots { IfOk result (λ p. AreSlots p.slots) }
     ensures fresh { IfOk result (λ p. has_address submissions.now before.now p.address ≡ false) }
 {
-    let table = table_of(item, Key::Completion)?;
-    only_keys(&COMPLETION_KEYS, table)?;
-    let address = address_in(submissions, before, table)?;
-    let slots = slots_in(table)?;
+    let spot = Spot::Completion(before.len());
+    let table = table_of(spot, item, Key::Completion)?;
+    only_keys(spot, &COMPLETION_KEYS, table)?;
+    let address = address_in(spot, submissions, before, table)?;
+    let slots = slots_in(spot, table)?;
     Ok(CqPlan { address, slots })
 }
 
 // The items of the array of a kind's regions.
 #[tactic(auto, using(crate::proofs::Turns::item_count_view), unfolding(crate::specs::Regions::regions_of))]
-fn regions_of(value: &Value, key: Key) -> Result<&Array, WorkloadError>
+fn regions_of(value: &Value, key: Key) -> Result<&Array, PlanError>
     ensures value { seen (λ v. array_view v.now) result ≡ regions_of key (view value.now) }
     ensures count { IfOk result (λ v. IsRegionCount (vec_len v.now)) }
 {
-    let items = array_of(value, key)?;
+    let items = array_of(Spot::Top, value, key)?;
     if items.is_empty() {
-        return Err(WorkloadError::Bad(key));
+        return Err(PlanError::At(Spot::Top, Flaw::Bad(key)));
     }
     if MAX_REGIONS < items.len() {
-        return Err(WorkloadError::Limit);
+        return Err(PlanError::At(Spot::Top, Flaw::Most(key)));
     }
     Ok(items)
 }
@@ -135,11 +132,11 @@ fn push_submission(
     regions: &mut Vec<SqPlan>,
     commands: usize,
     item: &Value,
-) -> Result<usize, WorkloadError>
+) -> Result<usize, PlanError>
     requires all { commands ≡ command_count regions.old.items }
     requires fit { commands ≤ most_commands }
     ensures ok { OnOk result (with_submission regions.old.items (view item.now) ≡ Ok regions.new.items) }
-    ensures err { IfErr result (λ e. Fails e (with_submission regions.old.items (view item.now))) }
+    ensures err { IfErr result (λ e. FailsAt e (with_submission regions.old.items (view item.now))) }
     ensures commands { IfOk result (λ n. (n ≡ command_count regions.new.items) × (n ≤ most_commands)) }
     ensures one { OnOk result (vec_len regions.new ≡ vec_len regions.old + 1) }
     ensures sound { OnOk result (AreSubmissions regions.old.items → AreSubmissions regions.new.items) }
@@ -156,9 +153,9 @@ fn push_completion(
     submissions: &[SqPlan],
     regions: &mut Vec<CqPlan>,
     item: &Value,
-) -> Result<(), WorkloadError>
+) -> Result<(), PlanError>
     ensures ok { OnOk result (with_completion submissions.now regions.old.items (view item.now) ≡ Ok regions.new.items) }
-    ensures err { IfErr result (λ e. Fails e (with_completion submissions.now regions.old.items (view item.now))) }
+    ensures err { IfErr result (λ e. FailsAt e (with_completion submissions.now regions.old.items (view item.now))) }
     ensures one { OnOk result (vec_len regions.new ≡ vec_len regions.old + 1) }
     ensures sound { OnOk result (AreCompletions submissions.now regions.old.items → AreCompletions submissions.now regions.new.items) }
 {
@@ -169,11 +166,8 @@ fn push_completion(
 
 // The submission regions.
 #[tactic(auto, using(crate::proofs::SoundLemmas::submissions_none), unfolding(crate::specs::Regions::submissions_of))]
-pub(crate) fn submissions_of(
-    alloc: Global,
-    value: &Value,
-) -> Result<Sequence<SqPlan>, WorkloadError>
-    ensures value { Gives result (submissions_of (view value.now)) }
+pub(crate) fn submissions_of(alloc: Global, value: &Value) -> Result<Sequence<SqPlan>, PlanError>
+    ensures value { GivesAt result (submissions_of (view value.now)) }
     ensures count { IfOk result (λ s. IsRegionCount (length s)) }
     ensures sound { IfOk result AreSubmissions }
 {
@@ -192,9 +186,9 @@ pub(crate) fn completions_of(
     alloc: Global,
     submissions: &[SqPlan],
     value: &Value,
-) -> Result<Sequence<CqPlan>, WorkloadError>
+) -> Result<Sequence<CqPlan>, PlanError>
     requires { AreApart submissions.now [] }
-    ensures value { Gives result (completions_of submissions.now (view value.now)) }
+    ensures value { GivesAt result (completions_of submissions.now (view value.now)) }
     ensures count { IfOk result (λ s. IsRegionCount (length s)) }
     ensures sound { IfOk result (AreCompletions submissions.now) }
 {

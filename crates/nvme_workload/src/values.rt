@@ -1,11 +1,14 @@
-ghost use Rattle.std.specs.Prelude.{◌≡◌, ◌≤◌, IfOk, option_map};
+// Readings of values. A flaw is told of the table that is given.
+ghost use Rattle.std.specs.Prelude.{◌≡◌, ◌≤◌, false, true, None, IfOk, IfSome, option_map};
 ghost use Rattle.toml.specs.View.{view, array_view, table_view};
 ghost use Rattle.toml.specs.Data.{get_member};
 ghost use Rattle.nvme_workload.specs.Keys.{text_of};
-ghost use Rattle.nvme_workload.specs.Readings.{seen, is_known, only_keys, value_at, whole, array_of, table_of, number_at, number_or};
+ghost use Rattle.nvme_workload.specs.Readings.{seen, is_known, all_known, only_keys, value_at, whole, array_of, table_of, number_at, number_or};
 
-use crate::error::WorkloadError;
+use crate::flaw::{Flaw, PlanError};
 use crate::key::Key;
+use crate::place::Spot;
+use crate::ranges::Range;
 use toml::value::Array;
 use toml::{Table, Value};
 
@@ -21,96 +24,107 @@ fn is_known(keys: &[Key], name: &str) -> bool
     false
 }
 
-// That every key of the table is one of these.
-#[tactic(auto, unfolding(crate::specs::Readings::only_keys))]
-pub(crate) fn only_keys(keys: &[Key], table: &Table) -> Result<(), WorkloadError>
-    ensures { result ≡ only_keys keys.now (table_view table.now) }
+/// The first key of the table, in the order of bytes, that is none of these.
+pub(crate) fn unknown_key<'t>(keys: &[Key], table: &'t Table) -> Option<&'t str>
+    ensures some { IfSome result (λ _. all_known keys.now (table_view table.now) ≡ false) }
+    ensures none { result ≡ None → all_known keys.now (table_view table.now) ≡ true }
 {
     for (name, _value) in table.iter() {
         if !is_known(keys, name.as_str()) {
-            return Err(WorkloadError::Unknown);
+            return Some(name.as_str());
         }
     }
-    Ok(())
+    None
+}
+
+// That every key of the table is one of these.
+#[tactic(auto, unfolding(crate::specs::Readings::only_keys))]
+pub(crate) fn only_keys(spot: Spot, keys: &[Key], table: &Table) -> Result<(), PlanError>
+    ensures { result ≡ only_keys spot keys.now (table_view table.now) }
+{
+    match unknown_key(keys, table) {
+        None => Ok(()),
+        Some(_) => Err(PlanError::At(spot, Flaw::Unknown)),
+    }
 }
 
 // The value at a key, where the table has it.
-fn find(table: &Table, key: Key) -> Option<&Value>
+pub(crate) fn find(table: &Table, key: Key) -> Option<&Value>
     ensures { option_map (λ v. view v.now) result ≡ get_member (text_of key) (table_view table.now) }
 {
     table.get(key.name())
 }
 
 // The value at a key that the table has to have.
-pub(crate) fn value_at(table: &Table, key: Key) -> Result<&Value, WorkloadError>
-    ensures { seen (λ v. view v.now) result ≡ value_at key (table_view table.now) }
+pub(crate) fn value_at(spot: Spot, table: &Table, key: Key) -> Result<&Value, PlanError>
+    ensures { seen (λ v. view v.now) result ≡ value_at spot key (table_view table.now) }
 {
     match find(table, key) {
         Some(value) => Ok(value),
-        None => Err(WorkloadError::Missing(key)),
+        None => Err(PlanError::At(spot, Flaw::Missing(key))),
     }
 }
 
-// A whole number from low to high.
-pub(crate) fn whole(value: &Value, key: Key, low: u64, high: u64) -> Result<u64, WorkloadError>
-    ensures value { result ≡ whole key low high (view value.now) }
-    ensures in_range { IfOk result (λ n. (low ≤ n) × (n ≤ high)) }
+// A whole number of this range.
+pub(crate) fn whole(spot: Spot, value: &Value, key: Key, range: Range) -> Result<u64, PlanError>
+    ensures value { result ≡ whole spot key range.low range.high (view value.now) }
+    ensures in_range { IfOk result (λ n. (range.low ≤ n) × (n ≤ range.high)) }
 {
     let number = match value.as_integer() {
         Some(number) if number >= 0 => number as u64,
-        _ => return Err(WorkloadError::Bad(key)),
+        _ => return Err(PlanError::At(spot, Flaw::Bad(key))),
     };
-    if number < low || high < number {
-        return Err(WorkloadError::Bad(key));
+    if number < range.low || range.high < number {
+        return Err(PlanError::At(spot, Flaw::Bad(key)));
     }
     Ok(number)
 }
 
 // An array.
-pub(crate) fn array_of(value: &Value, key: Key) -> Result<&Array, WorkloadError>
-    ensures { seen (λ v. array_view v.now) result ≡ array_of key (view value.now) }
+pub(crate) fn array_of(spot: Spot, value: &Value, key: Key) -> Result<&Array, PlanError>
+    ensures { seen (λ v. array_view v.now) result ≡ array_of spot key (view value.now) }
 {
     match value.as_array() {
         Some(items) => Ok(items),
-        None => Err(WorkloadError::Bad(key)),
+        None => Err(PlanError::At(spot, Flaw::Bad(key))),
     }
 }
 
 // A table.
-pub(crate) fn table_of(value: &Value, key: Key) -> Result<&Table, WorkloadError>
-    ensures { seen (λ t. table_view t.now) result ≡ table_of key (view value.now) }
+pub(crate) fn table_of(spot: Spot, value: &Value, key: Key) -> Result<&Table, PlanError>
+    ensures { seen (λ t. table_view t.now) result ≡ table_of spot key (view value.now) }
 {
     match value.as_table() {
         Some(table) => Ok(table),
-        None => Err(WorkloadError::Bad(key)),
+        None => Err(PlanError::At(spot, Flaw::Bad(key))),
     }
 }
 
 // The number at a key that the table has to have.
 #[tactic(auto, unfolding(crate::specs::Readings::number_at))]
-pub(crate) fn number_at(table: &Table, key: Key, low: u64, high: u64) -> Result<u64, WorkloadError>
-    ensures value { result ≡ number_at key low high (table_view table.now) }
-    ensures in_range { IfOk result (λ n. (low ≤ n) × (n ≤ high)) }
+pub(crate) fn number_at(spot: Spot, table: &Table, key: Key, range: Range) -> Result<u64, PlanError>
+    ensures value { result ≡ number_at spot key range.low range.high (table_view table.now) }
+    ensures in_range { IfOk result (λ n. (range.low ≤ n) × (n ≤ range.high)) }
 {
-    whole(value_at(table, key)?, key, low, high)
+    whole(spot, value_at(spot, table, key)?, key, range)
 }
 
 // The number at a key that the table may leave out.
 #[tactic(auto, unfolding(crate::specs::Readings::number_or))]
 pub(crate) fn number_or(
+    spot: Spot,
     table: &Table,
     key: Key,
     default: u64,
-    low: u64,
-    high: u64,
-) -> Result<u64, WorkloadError>
-    requires low_default { low ≤ default }
-    requires high_default { default ≤ high }
-    ensures value { result ≡ number_or key default low high (table_view table.now) }
-    ensures in_range { IfOk result (λ n. (low ≤ n) × (n ≤ high)) }
+    range: Range,
+) -> Result<u64, PlanError>
+    requires low_default { range.low ≤ default }
+    requires high_default { default ≤ range.high }
+    ensures value { result ≡ number_or spot key default range.low range.high (table_view table.now) }
+    ensures in_range { IfOk result (λ n. (range.low ≤ n) × (n ≤ range.high)) }
 {
     match find(table, key) {
-        Some(value) => whole(value, key, low, high),
+        Some(value) => whole(spot, value, key, range),
         None => Ok(default),
     }
 }

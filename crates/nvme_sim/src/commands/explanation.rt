@@ -5,17 +5,16 @@ ghost use Rattle.nvme_sim.specs.inside.Explained.{IsExplained, IsExplainedFault}
 
 use super::Answer;
 use crate::faults::Fault;
-use nvme_lint::{LintError, lint};
 use nvme_runs::RunError;
-use nvme_workload::{WorkloadError, read};
+use nvme_workload::{ReadError, WorkloadError, read, read_placed};
 use std::alloc::Global;
 
 // The first fault of a workload, with its place.
 fn placed(alloc: Global, text: &[u8], error: WorkloadError) -> Fault
     ensures { status_of result ≡ 1 }
 {
-    match lint(alloc, text) {
-        Err(LintError::Fault(fault)) => Fault::Placed(error, fault),
+    match read_placed(alloc, text) {
+        Err(ReadError::Fault(fault)) => Fault::Placed(error, fault),
         _ => Fault::Run(RunError::Workload(error)),
     }
 }

@@ -9,8 +9,9 @@ ghost use Rattle.nvme_sim.specs.declared.commands.Answer.TheVariants as answer;
 
 use super::Answer;
 use crate::faults::Fault;
-use nvme_lint::{LintError, Warning, lint};
+use nvme_lint::{Warning, lint};
 use nvme_words::take_input;
+use nvme_workload::ReadError;
 use std::alloc::{AllocError, Global};
 use std::io::{self, Read, Write};
 
@@ -30,8 +31,8 @@ pub(super) fn warnings_of(alloc: Global, text: &[u8]) -> Result<Vec<Warning>, Fa
 {
     match lint(alloc, text) {
         Ok(warnings) => Ok(warnings),
-        Err(LintError::Fault(fault)) => Err(Fault::Workload(fault)),
-        Err(LintError::NoMemory) => Err(Fault::NoMemory(AllocError)),
+        Err(ReadError::Fault(fault)) => Err(Fault::Workload(fault)),
+        Err(ReadError::NoMemory) => Err(Fault::NoMemory(AllocError)),
     }
 }
 

@@ -9,5 +9,5 @@ abbrev pub invariant-loop-item : goal.invariant-loop-item
 invariant-loop-item l = record {
   sound : AreSizes l.sizes.items;
   count : length l.sizes.items ≡ l.item-index;
-  turns : in_turn with_size l.sizes.items (items_view (drop l.item-index l.item-items)) ≡ in_turn with_size [] (items_view l.item-items);
+  turns : in_turn (λ index. with_size) l.item-index l.sizes.items (items_view (drop l.item-index l.item-items)) ≡ in_turn (λ index. with_size) 0 [] (items_view l.item-items);
 }

@@ -9,5 +9,5 @@ abbrev pub invariant-loop-item : goal.invariant-loop-item
 invariant-loop-item l = record {
   sound : AreCompletions l.submissions l.regions.items;
   count : length l.regions.items ≡ l.item-index;
-  turns : in_turn (with_completion l.submissions) l.regions.items (items_view (drop l.item-index l.item-items)) ≡ in_turn (with_completion l.submissions) [] (items_view l.item-items);
+  turns : in_turn (λ index. with_completion l.submissions) l.item-index l.regions.items (items_view (drop l.item-index l.item-items)) ≡ in_turn (λ index. with_completion l.submissions) 0 [] (items_view l.item-items);
 }

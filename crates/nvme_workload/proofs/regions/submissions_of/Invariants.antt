@@ -12,5 +12,5 @@ invariant-loop-item l = record {
   count : length l.regions.items ≡ l.item-index;
   all : l.commands ≡ command_count l.regions.items;
   fit : l.commands ≤ most_commands;
-  turns : in_turn with_submission l.regions.items (items_view (drop l.item-index l.item-items)) ≡ in_turn with_submission [] (items_view l.item-items);
+  turns : in_turn (λ index. with_submission) l.item-index l.regions.items (items_view (drop l.item-index l.item-items)) ≡ in_turn (λ index. with_submission) 0 [] (items_view l.item-items);
 }

@@ -4,7 +4,7 @@ use Rattle.std.specs.List.{count_by, prefix_len}
 use Rattle.std.proofs.Math.Seq.{take-suc}
 use Rattle.std.proofs.lemmas.List.{reverse-append}
 use Rattle.std.proofs.lemmas.List.Sums.{sum_by-cons}
-use Rattle.nvme_lint.specs.Places.{is_newline, begins_character, column_behind}
+use Rattle.nvme_workload.specs.Places.{is_newline, begins_character, column_behind}
 
 -- the column behind bytes that are read back
 abbrev column_back : List ℕ → ℕ

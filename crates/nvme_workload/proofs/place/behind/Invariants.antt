@@ -1,7 +1,7 @@
 -- The place so far is that behind the bytes so far.
 use Rattle.std.proofs.Common.{◌≡◌, ◌+◌, ◌≤◌, take}
-use Rattle.nvme_lint.specs.Places.{line_behind, column_behind}
-use Rattle.nvme_lint.proofs.place.behind.Given as goal
+use Rattle.nvme_workload.specs.Places.{line_behind, column_behind}
+use Rattle.nvme_workload.proofs.place.behind.Given as goal
 
 abbrev pub invariant-loop-byte : goal.invariant-loop-byte
 invariant-loop-byte l = record {

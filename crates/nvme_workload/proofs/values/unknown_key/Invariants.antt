@@ -1,7 +1,7 @@
 use Rattle.std.proofs.Common.{◌≡◌}
 use Rattle.toml.specs.View.{members_view}
 use Rattle.nvme_workload.specs.Readings.{all_known}
-use Rattle.nvme_workload.proofs.values.only_keys.Given as goal
+use Rattle.nvme_workload.proofs.values.unknown_key.Given as goal
 
 abbrev pub invariant-loop-name : goal.invariant-loop-name
 invariant-loop-name l =

@@ -1,13 +1,11 @@
 ghost use Rattle.std.specs.Prelude.{◌≡◌};
-ghost use Rattle.nvme_lint.specs.Places.{begins_character, place_behind};
+ghost use Rattle.nvme_workload.specs.Places.{begins_character, place_behind};
 
 use std::fmt;
 
-/// Where a fault of a workload file is. Regions of a kind and items of a script count from 0.
+/// A table of a workload file. Regions of a kind and items of a script count from 0.
 #[derive(Clone, Copy, Debug, PartialEq, Eq)]
-pub enum Place {
-    /// A place in the text. Lines and columns count from 1, and columns count characters.
-    Text { line: usize, column: usize },
+pub enum Spot {
     /// The file's own table.
     Top,
     /// The table of a submission region.
@@ -18,14 +16,31 @@ pub enum Place {
     Completion(usize),
 }
 
+impl fmt::Display for Spot {
+    fn fmt<W: fmt::Write>(&self, f: &mut fmt::Formatter<W>) -> fmt::Result {
+        match self {
+            Spot::Top => write!(f, "top"),
+            Spot::Submission(region) => write!(f, "submission {region}"),
+            Spot::Item { region, item } => write!(f, "submission {region}, item {item}"),
+            Spot::Completion(region) => write!(f, "completion {region}"),
+        }
+    }
+}
+
+/// Where a fault of a workload file is.
+#[derive(Clone, Copy, Debug, PartialEq, Eq)]
+pub enum Place {
+    /// A place in the text. Lines and columns count from 1, and columns count characters.
+    Text { line: usize, column: usize },
+    /// A table, or an item where a table belongs.
+    Table(Spot),
+}
+
 impl fmt::Display for Place {
     fn fmt<W: fmt::Write>(&self, f: &mut fmt::Formatter<W>) -> fmt::Result {
         match self {
             Place::Text { line, column } => write!(f, "line {line}, column {column}"),
-            Place::Top => write!(f, "top"),
-            Place::Submission(region) => write!(f, "submission {region}"),
-            Place::Item { region, item } => write!(f, "submission {region}, item {item}"),
-            Place::Completion(region) => write!(f, "completion {region}"),
+            Place::Table(spot) => spot.fmt(f),
         }
     }
 }

@@ -1,10 +1,10 @@
 -- One byte more: it ends the line, begins a character, or goes on with one.
 use Rattle.std.proofs.Common.{rules, ◌≡◌, ◌<◌, true, false, length, get_or, arith}
 use Rattle.std.proofs.lemmas.List.Sums.{count_by_more_no, count_by_more_yes}
-use Rattle.nvme_lint.specs.Places.{is_newline, begins_character}
-use Rattle.nvme_lint.proofs.Lines.{column_of_newline, column_of_first, column_of_later}
-use Rattle.nvme_lint.proofs.place.behind.Goals as goal
-use Rattle.nvme_lint.proofs.place.behind.Goals.{then-byte-eq10, else-byte-eq10+then-begins_character, else-byte-eq10+else-begins_character}
+use Rattle.nvme_workload.specs.Places.{is_newline, begins_character}
+use Rattle.nvme_workload.proofs.Lines.{column_of_newline, column_of_first, column_of_later}
+use Rattle.nvme_workload.proofs.place.behind.Goals as goal
+use Rattle.nvme_workload.proofs.place.behind.Goals.{then-byte-eq10, else-byte-eq10+then-begins_character, else-byte-eq10+else-begins_character}
 
 pub loop-byte-preserved : goal.loop-byte-preserved
 loop-byte-preserved c =

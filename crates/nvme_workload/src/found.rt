@@ -1,7 +1,11 @@
 // What stands where a workload file is at fault.
+use crate::flaw::Flaw;
+use crate::key::Key;
+use crate::place::Spot;
+use crate::values::find;
 use std::alloc::{AllocError, Global};
 use std::fmt;
-use toml::Value;
+use toml::{Table, Value};
 
 // The most characters of a text of the file that are kept.
 const KEPT_CHARACTERS: usize = 100;
@@ -42,8 +46,8 @@ pub(crate) fn beginning_of(alloc: Global, text: &str) -> Result<String, AllocErr
     Ok(beginning)
 }
 
-/// What a value is.
-pub(crate) fn found_in(alloc: Global, value: Option<&Value>) -> Result<Found, AllocError> {
+// What a value is.
+fn found_in(alloc: Global, value: Option<&Value>) -> Result<Found, AllocError> {
     let found = match value {
         None => Found::Nothing,
         Some(Value::Integer(number)) => Found::Integer(*number),
@@ -54,4 +58,53 @@ pub(crate) fn found_in(alloc: Global, value: Option<&Value>) -> Result<Found, Al
         Some(_) => Found::Other("a value of another kind"),
     };
     Ok(found)
+}
+
+// An item of the array at a key.
+fn item_of(table: &Table, key: Key, index: usize) -> Option<&Value> {
+    find(table, key)?.as_array()?.get(index)
+}
+
+// The item of an array that stands for a table.
+fn item_at(table: &Table, spot: Spot) -> Option<&Value> {
+    match spot {
+        Spot::Top => None,
+        Spot::Submission(region) => item_of(table, Key::Submission, region),
+        Spot::Item { region, item } => {
+            let region = item_of(table, Key::Submission, region)?.as_table()?;
+            item_of(region, Key::Script, item)
+        }
+        Spot::Completion(region) => item_of(table, Key::Completion, region),
+    }
+}
+
+/// A table of a document.
+pub(crate) fn table_at(table: &Table, spot: Spot) -> Option<&Table> {
+    match spot {
+        Spot::Top => Some(table),
+        spot => item_at(table, spot)?.as_table(),
+    }
+}
+
+// The value of a key in a table, or the item that stands for the table, where that is none.
+fn value_in(table: &Table, spot: Spot, key: Key) -> Option<&Value> {
+    match table_at(table, spot) {
+        Some(found) => find(found, key),
+        None => item_at(table, spot),
+    }
+}
+
+/// What stands where a document has a flaw.
+pub(crate) fn found_at(
+    alloc: Global,
+    table: &Table,
+    spot: Spot,
+    flaw: Flaw,
+) -> Result<Found, AllocError> {
+    match flaw {
+        Flaw::Missing(_) => Ok(Found::Nothing),
+        Flaw::Bad(key) => found_in(alloc, value_in(table, spot, key)),
+        Flaw::Repeated => found_in(alloc, value_in(table, spot, Key::Address)),
+        Flaw::Unknown | Flaw::Most(_) => Ok(Found::Untold),
+    }
 }
