@@ -37,8 +37,8 @@ fn flush_status(nsid: u32, sizes: &[u64]) -> Status
     }
 }
 
-/// The status of an I/O command over namespaces of these sizes, on a device without SGLs: that of the first check that it
-/// fails, or success. The first size is that of namespace identifier 1, and 0 says that an identifier is inactive.
+/// The status of an I/O command over namespaces of these sizes, on a device without SGLs: that of the first check that
+/// it fails, or success. The first size is that of namespace identifier 1, and 0 says that an identifier is inactive.
 /// Flush, Write and Read are known; of every other opcode FUSE and PSDT are checked, and then it is Invalid Command
 /// Opcode. No data is moved.
 /// (Base Specification, Common Command Format; NVM Command Set Specification, Flush, Write and Read; the order of the
