@@ -419,18 +419,19 @@ typedef struct nvmearb_config {
 } nvmearb_config;
 
 /* The kinds of steps. */
-#define NVMEARB_PICKED 1u      /* commands of the device's were picked: nvmearb_ctrl_take gives them */
+#define NVMEARB_PICKED 1u      /* commands of an I/O queue were picked: nvmearb_ctrl_take gives them */
 #define NVMEARB_CARRIED_OUT 2u /* a command of the admin queue was picked and carried out by the controller */
+#define NVMEARB_PASSED 3u      /* a command of the admin queue was picked that is the device's: nvmearb_ctrl_take gives it */
 
 /* What a pick did. A field that a step of its kind doesn't have is 0. */
 typedef struct nvmearb_step {
-    uint32_t kind; /* NVMEARB_PICKED or NVMEARB_CARRIED_OUT */
+    uint32_t kind; /* NVMEARB_PICKED, NVMEARB_CARRIED_OUT or NVMEARB_PASSED */
     /*
      * NVMEARB_CARRIED_OUT: what the command came to. The caller needs to do nothing for it but to end a deletion
      * (NVMEARB_BEGIN_DELETE, by nvmearb_ctrl_finish). Its completion becomes ready by itself.
      */
     nvmearb_answer answer;
-    nvmearb_pick pick; /* NVMEARB_PICKED: the queue, and how many of its commands */
+    nvmearb_pick pick; /* NVMEARB_PICKED and NVMEARB_PASSED: the queue, and how many of its commands */
 } nvmearb_step;
 
 /* A command that the device has. */

@@ -4,10 +4,10 @@ ghost use Rattle.nvme_log.specs.Rules.{FrontRules};
 ghost use Rattle.nvme_log.specs.Places.{entry_at};
 ghost use Rattle.nvme_log.specs.declared.place.Place.{Place};
 ghost use Rattle.nvme_admin.specs.declared.bounds.TheConstants.{MAX_REGIONS};
+ghost use Rattle.nvme_ctrl.specs.Own.{own_of, oldest_is_own};
 ghost use Rattle.nvme_ctrl.specs.Notes.{Notes, logged};
 ghost use Rattle.nvme_ctrl.specs.Standing.{Stands};
-ghost use Rattle.nvme_log.specs.Dispatches.{dispatched};
-ghost use Rattle.nvme_ctrl.specs.Tags.{is_out, holder, taken, cookie_of};
+ghost use Rattle.nvme_ctrl.specs.Tags.{handed, is_out, holder, taken, cookie_of};
 ghost use Rattle.nvme_ctrl.specs.Calls.{HasTaken, HasAnswered};
 ghost use Rattle.nvme_ctrl.specs.Steps.{IsNextPick, HasStepped, NoneFinishable, HasFinished};
 ghost use Rattle.nvme_ctrl.specs.Posts.{NonePostable};
@@ -29,6 +29,8 @@ use nvme_entry::Status;
 const PICKED: u32 = 1;
 
 const CARRIED_OUT: u32 = 2;
+
+const PASSED: u32 = 3;
 
 /// Writes the pick that `nvmearb_ctrl_pick` makes next of the commands that wait now. The state stays as it was.
 #[unsafe(no_mangle)]
@@ -57,7 +59,8 @@ pub extern "C" fn nvmearb_ctrl_peek(state: &CtrlState, slots: &[Slot], pick: &mu
     }
 }
 
-/// Makes the next pick of arbitration, and writes what it did. An admin command that is picked is carried out.
+/// Makes the next pick of arbitration, and writes what it did. An admin command that is picked is carried out, or passed
+/// on to the device.
 #[unsafe(no_mangle)]
 pub extern "C" fn nvmearb_ctrl_pick(
     state: &mut CtrlState,
@@ -73,7 +76,11 @@ pub extern "C" fn nvmearb_ctrl_pick(
     ensures full { (rules : FrontRules) (late : Bool) (notes : Notes) → Stands rules late notes state.old.ctrl slots.old → result ≡ FULL → HasStepped rules late notes made.Full state.new.ctrl slots.new }
     ensures picked { (rules : FrontRules) (late : Bool) (notes : Notes) → Stands rules late notes state.old.ctrl slots.old → result ≡ OK → step.new.kind ≡ PICKED → HasStepped rules late notes (made.Picked (pick_of_fields step.new.pick)) state.new.ctrl slots.new }
     ensures carried_out { (rules : FrontRules) (late : Bool) (notes : Notes) → Stands rules late notes state.old.ctrl slots.old → result ≡ OK → step.new.kind ≡ CARRIED_OUT → HasToldWhat rules late notes step.new.answer state.new.ctrl slots.new }
-    ensures kinds { result ≡ OK → (step.new.kind ≡ PICKED) ⊎ (step.new.kind ≡ CARRIED_OUT) }
+    ensures passed { (rules : FrontRules) (late : Bool) (notes : Notes) → Stands rules late notes state.old.ctrl slots.old → result ≡ OK → step.new.kind ≡ PASSED → HasStepped rules late notes (made.Passed (pick_of_fields step.new.pick)) state.new.ctrl slots.new }
+    ensures own { (rules : FrontRules) (late : Bool) (notes : Notes) → Stands rules late notes state.old.ctrl slots.old → result ≡ OK → step.new.kind ≡ PASSED → oldest_is_own (own_of state.old.ctrl) notes ≡ Some true }
+    ensures not_own { (rules : FrontRules) (late : Bool) (notes : Notes) → Stands rules late notes state.old.ctrl slots.old → result ≡ OK → step.new.kind ≡ CARRIED_OUT → oldest_is_own (own_of state.old.ctrl) notes ≡ Some false }
+    ensures left { own_of state.new.ctrl ≡ own_of state.old.ctrl }
+    ensures kinds { result ≡ OK → (step.new.kind ≡ PICKED) ⊎ ((step.new.kind ≡ CARRIED_OUT) ⊎ (step.new.kind ≡ PASSED)) }
     ensures answer { (result ≡ OK) ⊎ ((result ≡ NOTHING) ⊎ ((result ≡ BUSY) ⊎ ((result ≡ FULL) ⊎ ((result ≡ BAD_ARGUMENT) ⊎ (result ≡ BAD_STATE))))) }
     ensures unchanged { result ≢ OK → (state.new ≡ state.old) × ((slots.new ≡ slots.old) × (step.new ≡ step.old)) }
 {
@@ -87,9 +94,17 @@ pub extern "C" fn nvmearb_ctrl_pick(
         Step::Idle => NOTHING,
         Step::Busy => BUSY,
         Step::Full => FULL,
-        Step::Picked(pick) | Step::Passed(pick) => {
+        Step::Picked(pick) => {
             *step = StepFields {
                 kind: PICKED,
+                answer: plain_answer(0),
+                pick: fields_of_pick(pick),
+            };
+            OK
+        }
+        Step::Passed(pick) => {
+            *step = StepFields {
+                kind: PASSED,
                 answer: plain_answer(0),
                 pick: fields_of_pick(pick),
             };
@@ -122,7 +137,7 @@ pub extern "C" fn nvmearb_ctrl_take(
     ensures bad_state { (result ≡ BAD_STATE) ↔ IsFalse (is_ctrl state.old) }
     ensures bad_argument { (result ≡ BAD_ARGUMENT) ↔ (IsTrue (is_ctrl state.old) × IsFalse (has_slots state.old slots.old)) }
     ensures answer { (result ≡ OK) ⊎ ((result ≡ NOTHING) ⊎ ((result ≡ BAD_ARGUMENT) ⊎ (result ≡ BAD_STATE))) }
-    ensures nothing { (rules : FrontRules) (late : Bool) (notes : Notes) → Stands rules late notes state.old.ctrl slots.old → result ≡ NOTHING → dispatched (logged notes) ≡ taken notes }
+    ensures nothing { (rules : FrontRules) (late : Bool) (notes : Notes) → Stands rules late notes state.old.ctrl slots.old → result ≡ NOTHING → handed notes ≡ taken notes }
     ensures stands { (rules : FrontRules) (late : Bool) (notes : Notes) → Stands rules late notes state.old.ctrl slots.old → result ≡ OK → HasTaken rules late notes command.new.tag state.new.ctrl slots.new }
     ensures command { result ≡ OK → IsCommandIn slots.new command.new.tag command.new }
     ensures cookie { result ≡ OK → (rules : FrontRules) (late : Bool) (notes : Notes) → Stands rules late notes state.new.ctrl slots.new → (place : Place) → holder notes command.new.tag ≡ Some place → is_out notes command.new.tag ≡ true → cookie_of notes place.region place.index ≡ Some command.new.cookie }

@@ -3,6 +3,7 @@ ghost use Rattle.std.specs.Prelude.{◌≡◌, ◌≢◌, ◌⊎◌, ◌↔◌, 
 ghost use Rattle.nvme_admin.specs.History.{Submission, Completion};
 ghost use Rattle.nvme_admin.specs.declared.region.AdminError.TheVariants.{Used, TooMany, Size};
 ghost use Rattle.nvme_log.specs.Rules.{FrontRules, sq_regions_of, cq_regions_of};
+ghost use Rattle.nvme_ctrl.specs.Own.{own_of, no_own, with_opcode, with_feature};
 ghost use Rattle.nvme_ctrl.specs.Notes.{Notes};
 ghost use Rattle.nvme_ctrl.specs.Standing.{Stands, IsController};
 ghost use Rattle.nvme_ctrl.specs.Calls.{window_limit};
@@ -40,6 +41,7 @@ pub extern "C" fn nvmearb_ctrl_init(
     ensures made { result ≡ OK → admin_fault config.now.asq config.now.acq ≡ None }
     ensures stands { result ≡ OK → (sizes : List ℕ) → IsMadeOf config.now sizes state.new.ctrl slots.new }
     ensures window { result ≡ OK → window_limit state.new.ctrl ≡ config.now.window }
+    ensures own { result ≡ OK → own_of state.new.ctrl ≡ no_own }
     ensures front { result ≡ OK → IsController state.new.ctrl slots.new }
     ensures ctrl { result ≡ OK → IsTrue (is_ctrl state.new) }
     ensures count { result ≡ OK → state.new.count ≡ length slots.new }
@@ -95,6 +97,7 @@ pub extern "C" fn nvmearb_ctrl_add_sq_region(
     ensures number { (rules : FrontRules) (late : Bool) (notes : Notes) (pool : List Slot) → Stands rules late notes state.old.ctrl pool → result ≡ OK → number.new ≡ length (sq_regions_of rules) }
     ensures stands { (rules : FrontRules) (late : Bool) (notes : Notes) (pool : List Slot) → Stands rules late notes state.old.ctrl pool → result ≡ OK → Stands (with_region Submission address slots rules) (is_late late notes) notes state.new.ctrl pool }
     ensures window { window_limit state.new.ctrl ≡ window_limit state.old.ctrl }
+    ensures own { own_of state.new.ctrl ≡ own_of state.old.ctrl }
     ensures kept { (pool : List Slot) → IsKept state.old pool → IsKept state.new pool }
     ensures unchanged { result ≢ OK → (state.new ≡ state.old) × (number.new ≡ number.old) }
 {
@@ -127,6 +130,7 @@ pub extern "C" fn nvmearb_ctrl_add_cq_region(
     ensures number { (rules : FrontRules) (late : Bool) (notes : Notes) (pool : List Slot) → Stands rules late notes state.old.ctrl pool → result ≡ OK → number.new ≡ length (cq_regions_of rules) }
     ensures stands { (rules : FrontRules) (late : Bool) (notes : Notes) (pool : List Slot) → Stands rules late notes state.old.ctrl pool → result ≡ OK → Stands (with_region Completion address slots rules) (is_late late notes) notes state.new.ctrl pool }
     ensures window { window_limit state.new.ctrl ≡ window_limit state.old.ctrl }
+    ensures own { own_of state.new.ctrl ≡ own_of state.old.ctrl }
     ensures kept { (pool : List Slot) → IsKept state.old pool → IsKept state.new pool }
     ensures unchanged { result ≢ OK → (state.new ≡ state.old) × (number.new ≡ number.old) }
 {
@@ -146,6 +150,13 @@ pub extern "C" fn nvmearb_ctrl_add_cq_region(
 /// opcodes.
 #[unsafe(no_mangle)]
 pub extern "C" fn nvmearb_ctrl_own_opcode(state: &mut CtrlState, opcode: u8) -> u32
+    ensures bad_state { (result ≡ BAD_STATE) ↔ IsFalse (is_ctrl state.old) }
+    ensures answer { (result ≡ OK) ⊎ (result ≡ BAD_STATE) }
+    ensures own { result ≡ OK → own_of state.new.ctrl ≡ with_opcode opcode (own_of state.old.ctrl) }
+    ensures stands { (rules : FrontRules) (late : Bool) (notes : Notes) (pool : List Slot) → Stands rules late notes state.old.ctrl pool → Stands rules late notes state.new.ctrl pool }
+    ensures window { window_limit state.new.ctrl ≡ window_limit state.old.ctrl }
+    ensures kept { (pool : List Slot) → IsKept state.old pool → IsKept state.new pool }
+    ensures unchanged { result ≢ OK → state.new ≡ state.old }
 {
     if !is_ctrl(state) {
         return BAD_STATE;
@@ -158,6 +169,13 @@ pub extern "C" fn nvmearb_ctrl_own_opcode(state: &mut CtrlState, opcode: u8) -> 
 /// controller's own features just a Get Features is that selects another value than the current one.
 #[unsafe(no_mangle)]
 pub extern "C" fn nvmearb_ctrl_own_feature(state: &mut CtrlState, fid: u8) -> u32
+    ensures bad_state { (result ≡ BAD_STATE) ↔ IsFalse (is_ctrl state.old) }
+    ensures answer { (result ≡ OK) ⊎ (result ≡ BAD_STATE) }
+    ensures own { result ≡ OK → own_of state.new.ctrl ≡ with_feature fid (own_of state.old.ctrl) }
+    ensures stands { (rules : FrontRules) (late : Bool) (notes : Notes) (pool : List Slot) → Stands rules late notes state.old.ctrl pool → Stands rules late notes state.new.ctrl pool }
+    ensures window { window_limit state.new.ctrl ≡ window_limit state.old.ctrl }
+    ensures kept { (pool : List Slot) → IsKept state.old pool → IsKept state.new pool }
+    ensures unchanged { result ≢ OK → state.new ≡ state.old }
 {
     if !is_ctrl(state) {
         return BAD_STATE;

@@ -24,6 +24,11 @@ returns-in-Picked-clause-picked c = λ rules late notes s _ _.
     subst (λ (pick : Pick). HasStepped rules late notes (made.Picked pick) c.pick.new.self c.pick.new.slots) (sym c.fields_of_pick.ensures.same)
     (subst (λ (it : Step). HasStepped rules late notes it c.pick.new.self c.pick.new.slots) c.in-Picked.is (c.pick.ensures.stands rules late notes s))
 
+pub returns-in-Passed-clause-passed : goal.returns-in-Passed-clause-passed
+returns-in-Passed-clause-passed c = λ rules late notes s _ _.
+    subst (λ (pick : Pick). HasStepped rules late notes (made.Passed pick) c.pick.new.self c.pick.new.slots) (sym c.fields_of_pick-in-Passed.ensures.same)
+    (subst (λ (it : Step). HasStepped rules late notes it c.pick.new.self c.pick.new.slots) c.in-Passed.is (c.pick.ensures.stands rules late notes s))
+
 pub returns-in-Done-clause-carried_out : goal.returns-in-Done-clause-carried_out
 returns-in-Done-clause-carried_out c = λ rules late notes s _ _. record {
   verdict = verdict_in c.in-Done.effect;
@@ -39,3 +44,9 @@ returns-in-Busy-clause-unchanged c = λ _. (let h = c.pick.ensures.busy c.in-Bus
 
 pub returns-in-Full-clause-unchanged : goal.returns-in-Full-clause-unchanged
 returns-in-Full-clause-unchanged c = λ _. (let h = c.pick.ensures.full c.in-Full.is in ((λ i. record c.args.state.now { ctrl = h.0 i }), (h.1, refl)))
+
+pub returns-in-Passed-clause-own : goal.returns-in-Passed-clause-own
+returns-in-Passed-clause-own c = λ rules late notes s _ _. c.pick.ensures.passed rules late notes s c.in-Passed.pick c.in-Passed.is
+
+pub returns-in-Done-clause-not_own : goal.returns-in-Done-clause-not_own
+returns-in-Done-clause-not_own c = λ rules late notes s _ _. c.pick.ensures.carried_out rules late notes s c.in-Done.effect c.in-Done.is
