@@ -1,0 +1,84 @@
+/*
+ * An NVMe device over nvmearb_ctrl, to be copied: registers, Identify, log pages, features, Asynchronous Event Requests,
+ * data by PRPs, interrupts, and blocks in memory. What fetches, arbitrates and posts is the library's controller. It
+ * tells of itself what NVM Express 1.4 asks of an I/O controller.
+ */
+#ifndef NVME_H
+#define NVME_H
+
+#include <nvmearb.h>
+
+#define NVME_QUEUES NVMEARB_MAX_IO_QUEUES          /* the most I/O queues of a kind */
+#define NVME_COMMANDS ((NVME_QUEUES + 1) * 256 + 256) /* the slots of the controller */
+#define NVME_NAMESPACES 2
+#define NVME_EVENT_REQUESTS 4 /* the most Asynchronous Event Requests that are held */
+#define NVME_BAR_BYTES 0x4000 /* the size of the registers, doorbells included */
+#define NVME_VENDOR_COMMAND 0xc0u
+
+/* What the device needs of the machine around it. */
+struct nvme_host {
+    void *context; /* handed to each of these */
+    /* Returns these bytes of guest memory, which don't cross a page, or NULL where they aren't memory. */
+    void *(*memory)(void *context, uint64_t address, size_t length);
+    /* The vectors whose interrupt is asserted from now on: bit 0 is vector 0, that of a pin. */
+    void (*interrupt)(void *context, uint32_t vectors);
+    /* The time in nanoseconds, from any beginning. */
+    uint64_t (*now)(void *context);
+    /* Executes an admin command of opcode C0h. NULL: there is none. */
+    nvmearb_status (*vendor)(void *context, const nvmearb_sqe *entry, uint32_t *dw0);
+};
+
+/* A namespace: `blocks` blocks of 2^shift bytes. */
+struct nvme_namespace {
+    uint8_t *bytes;
+    uint64_t blocks;
+    unsigned shift; /* 9 to 12 */
+};
+
+/* A ring in guest memory. Those of a completion queue have its interrupt too. */
+struct nvme_ring {
+    uint64_t address;
+    uint16_t slots, tail, head, vector;
+    uint8_t has_interrupt;
+};
+
+struct nvme {
+    struct nvme_host host;
+    struct nvme_namespace namespaces[NVME_NAMESPACES];
+    /* What one may choose, from the next reset on. A priority of 0 leaves that of the Create command. */
+    uint8_t is_weighted; /* weighted round robin, whatever CC.AMS says */
+    uint8_t priorities[NVME_QUEUES + 1]; /* NVMEARB_URGENT .. NVMEARB_LOW, by queue */
+    /* Faults and limits, at any time. */
+    uint32_t rate;    /* the most I/O commands picked in a second, or 0 for no limit */
+    uint32_t bad_nsid; /* Reads of this block fail; 0: none does */
+    uint64_t bad_block;
+    /* What was counted since nvme_init. */
+    uint32_t bad_reads, aborted, resets, events;
+    /* The device's own. */
+    nvmearb_ctrl ctrl;
+    nvmearb_slot slots[NVME_COMMANDS];
+    uint8_t marks[NVME_COMMANDS]; /* by tag: Do Not Retry */
+    struct nvme_ring sqs[NVMEARB_MAX_REGIONS], cqs[NVMEARB_MAX_REGIONS]; /* by region */
+    uint64_t tokens, due;
+    uint32_t registers[16], masked, asserted, features[16], thresholds[2];
+    uint16_t held[NVME_EVENT_REQUESTS], held_count;
+    uint8_t pending, is_told;
+    struct {
+        uint64_t count;
+        uint16_t qid;
+    } errors[4]; /* the newest first */
+};
+
+/* Makes a device, which isn't enabled. It must be zero but for what is said to be chosen. */
+void nvme_init(struct nvme *device, const struct nvme_host *host);
+
+/* Reads 1 to 8 bytes of the registers. */
+uint64_t nvme_read(struct nvme *device, uint64_t offset, unsigned size);
+
+/* Writes 4 or 8 bytes of the registers. Others are ignored. */
+void nvme_write(struct nvme *device, uint64_t offset, uint64_t value, unsigned size);
+
+/* Goes on with what waits for time. Returns the milliseconds after which to call it again, or -1. */
+int nvme_turn(struct nvme *device);
+
+#endif
