@@ -1,19 +1,19 @@
 /*
- * An NVMe device over nvmearb_ctrl, to be copied: registers, Identify, log pages, features, Asynchronous Event Requests,
- * data by PRPs, interrupts, and blocks in memory. What fetches, arbitrates and posts is the library's controller. It
- * tells of itself what NVM Express 1.4 asks of an I/O controller.
+ * An NVMe device over nvmearb_ctrl, to be copied: registers, Identify, log pages, features, Asynchronous Event
+ * Requests, data by PRPs, interrupts, and blocks in memory. What fetches, arbitrates and posts is the library's
+ * controller. admin.c has what the device tells of itself.
  */
 #ifndef NVME_H
 #define NVME_H
 
 #include <nvmearb.h>
 
-#define NVME_QUEUES NVMEARB_MAX_IO_QUEUES          /* the most I/O queues of a kind */
+#define NVME_QUEUES NVMEARB_MAX_IO_QUEUES             /* the most I/O queues of a kind */
 #define NVME_COMMANDS ((NVME_QUEUES + 1) * 256 + 256) /* the slots of the controller */
 #define NVME_NAMESPACES 2
-#define NVME_EVENT_REQUESTS 4 /* the most Asynchronous Event Requests that are held */
-#define NVME_BAR_BYTES 0x4000 /* the size of the registers, doorbells included */
-#define NVME_VENDOR_COMMAND 0xc0u
+#define NVME_BAR_BYTES 0x4000        /* the size of the registers, doorbells included */
+#define NVME_ARBITRATION 0x07030103u /* after a reset: burst 8; weights: high 8, medium 4, low 2 */
+#define NVME_EVENT_REQUEST 0x0cu     /* the opcode of Asynchronous Event Request */
 
 /* What the device needs of the machine around it. */
 struct nvme_host {
@@ -35,7 +35,7 @@ struct nvme_namespace {
     unsigned shift; /* 9 to 12 */
 };
 
-/* A ring in guest memory. Those of a completion queue have its interrupt too. */
+/* A ring in guest memory. That of a completion queue has its interrupt too. */
 struct nvme_ring {
     uint64_t address;
     uint16_t slots, tail, head, vector;
@@ -45,31 +45,29 @@ struct nvme_ring {
 struct nvme {
     struct nvme_host host;
     struct nvme_namespace namespaces[NVME_NAMESPACES];
-    /* What one may choose, from the next reset on. A priority of 0 leaves that of the Create command. */
-    uint8_t is_weighted; /* weighted round robin, whatever CC.AMS says */
-    uint8_t priorities[NVME_QUEUES + 1]; /* NVMEARB_URGENT .. NVMEARB_LOW, by queue */
-    /* Faults and limits, at any time. */
-    uint32_t rate;    /* the most I/O commands picked in a second, or 0 for no limit */
-    uint32_t bad_nsid; /* Reads of this block fail; 0: none does */
+    /* From the next reset on: weighted round robin whatever CC.AMS says, and priorities by queue instead of QPRIO. */
+    uint8_t is_weighted, priorities[NVME_QUEUES + 1]; /* NVMEARB_URGENT .. NVMEARB_LOW, or 0 */
+    /* At any time: the most I/O commands picked in a second (0: no limit), and a block whose Reads fail (0: none). */
+    uint32_t rate, bad_nsid;
     uint64_t bad_block;
-    /* What was counted since nvme_init. */
-    uint32_t bad_reads, aborted, resets, events;
+    /* Counts since nvme_init. */
+    uint32_t bad_reads, aborted, resets;
     /* The device's own. */
     nvmearb_ctrl ctrl;
     nvmearb_slot slots[NVME_COMMANDS];
-    uint8_t marks[NVME_COMMANDS]; /* by tag: Do Not Retry */
+    uint8_t marks[NVME_COMMANDS];                                        /* by tag: Do Not Retry */
     struct nvme_ring sqs[NVMEARB_MAX_REGIONS], cqs[NVMEARB_MAX_REGIONS]; /* by region */
     uint64_t tokens, due;
-    uint32_t registers[16], masked, asserted, features[16], thresholds[2];
-    uint16_t held[NVME_EVENT_REQUESTS], held_count;
-    uint8_t pending, is_told;
+    uint32_t registers[16], masked, asserted, features[16];
+    uint16_t held[4], held_count; /* Asynchronous Event Requests */
+    uint8_t pending, is_told;     /* error events; whether one was told and the log not read since */
     struct {
         uint64_t count;
         uint16_t qid;
     } errors[4]; /* the newest first */
 };
 
-/* Makes a device, which isn't enabled. It must be zero but for what is said to be chosen. */
+/* Makes a device, which isn't enabled. It must be zero but for namespaces and what may be chosen. */
 void nvme_init(struct nvme *device, const struct nvme_host *host);
 
 /* Reads 1 to 8 bytes of the registers. */
@@ -80,5 +78,16 @@ void nvme_write(struct nvme *device, uint64_t offset, uint64_t value, unsigned s
 
 /* Goes on with what waits for time. Returns the milliseconds after which to call it again, or -1. */
 int nvme_turn(struct nvme *device);
+
+/* Between nvme.c and admin.c: copies between the device's bytes and those that the PRPs of a command name. */
+nvmearb_status nvme_transfer(struct nvme *device, const nvmearb_sqe *entry, uint8_t *bytes, size_t length,
+                             int to_guest);
+
+/* Tells the controller which admin commands are the device's, and executes one of them, but for Event Requests. */
+void nvme_own(struct nvme *device);
+nvmearb_status nvme_admin(struct nvme *device, const nvmearb_sqe *entry, uint32_t *dw0);
+
+/* The value of a feature after a reset. */
+uint32_t nvme_feature_default(uint32_t fid, uint32_t cdw11);
 
 #endif
