@@ -230,13 +230,8 @@ static uint32_t post(struct nvme *d, uint16_t cqid)
 static int is_due(struct nvme *d)
 {
     nvmearb_pick next;
-    if (!d->rate || nvmearb_ctrl_peek(&d->ctrl, d->slots, NVME_COMMANDS, &next) != NVMEARB_OK || next.qid == 0)
-        return 1;
-    uint64_t now = d->host.now(d->host.context);
-    if (now < d->due)
-        return 0;
-    d->due = (d->due + 10000000 > now ? d->due : now) + next.n * 1000000000ull / d->rate;
-    return 1;
+    return !d->rate || d->now >= d->due ||
+           nvmearb_ctrl_peek(&d->ctrl, d->slots, NVME_COMMANDS, &next) != NVMEARB_OK || next.qid == 0;
 }
 
 /* Executes what arbitration picks. Returns whether it picked anything. */
@@ -247,6 +242,8 @@ static int work(struct nvme *d)
     int has_picked = 0;
     while (is_due(d) && nvmearb_ctrl_pick(&d->ctrl, d->slots, NVME_COMMANDS, &step) == NVMEARB_OK) {
         has_picked = 1;
+        if (d->rate && step.kind == NVMEARB_PICKED && step.pick.qid != 0)
+            d->due = (d->due + 10000000 > d->now ? d->due : d->now) + step.pick.n * 1000000000ull / d->rate;
         while (nvmearb_ctrl_take(&d->ctrl, d->slots, NVME_COMMANDS, &command) == NVMEARB_OK)
             start(d, &command);
     }
@@ -258,7 +255,7 @@ int nvme_turn(struct nvme *d)
     int goes_on = 1;
     uint16_t qid, gone;
     uint32_t vectors = 0;
-    nvmearb_pick next;
+    d->now = d->host.now(d->host.context);
     while (goes_on && !(d->registers[CSTS] & CFS)) {
         for (qid = 0; qid <= NVME_QUEUES; qid++)
             fetch(d, qid);
@@ -272,10 +269,7 @@ int nvme_turn(struct nvme *d)
     if (vectors != d->asserted)
         d->host.interrupt(d->host.context, vectors);
     d->asserted = vectors;
-    if (!d->rate || nvmearb_ctrl_peek(&d->ctrl, d->slots, NVME_COMMANDS, &next) != NVMEARB_OK)
-        return -1;
-    uint64_t now = d->host.now(d->host.context);
-    return now < d->due ? (int)((d->due - now) / 1000000 + 1) : 1;
+    return is_due(d) ? -1 : (int)((d->due - d->now) / 1000000 + 1);
 }
 
 /* ---- Registers ---- */
@@ -301,7 +295,7 @@ static void enable(struct nvme *d, uint32_t cc)
 /* CC.EN becomes 0, or the device is made. */
 static void reset(struct nvme *d)
 {
-    d->ctrl.mark = 0; /* so the library refuses every call */
+    memset(&d->ctrl, 0, sizeof d->ctrl); /* the library refuses every call on zeros */
     d->registers[CSTS] = d->masked = 0;
     d->held_count = d->pending = d->is_told = 0;
     d->tokens = d->due = 0;

@@ -57,7 +57,7 @@ struct nvme {
     nvmearb_slot slots[NVME_COMMANDS];
     uint8_t marks[NVME_COMMANDS];                                        /* by tag: Do Not Retry */
     struct nvme_ring sqs[NVMEARB_MAX_REGIONS], cqs[NVMEARB_MAX_REGIONS]; /* by region */
-    uint64_t tokens, due;
+    uint64_t tokens, now, due;
     uint32_t registers[16], masked, asserted, features[16];
     uint16_t held[4], held_count; /* Asynchronous Event Requests */
     uint8_t pending, is_told;     /* error events; whether one was told and the log not read since */
