@@ -57,11 +57,7 @@ static void bad(const char *format, ...)
     exit(1);
 }
 
-#define CHECK(holds, ...)                                                                                              \
-    do {                                                                                                               \
-        if (!(holds))                                                                                                  \
-            bad(__VA_ARGS__);                                                                                          \
-    } while (0)
+#define CHECK(holds, ...) ((holds) ? (void)0 : bad(__VA_ARGS__))
 
 /* Shows the last lines of the kernel about the device. */
 static void show_kernel(void)
@@ -111,11 +107,6 @@ static double seconds(void)
     struct timespec it;
     clock_gettime(CLOCK_MONOTONIC, &it);
     return (double)it.tv_sec + (double)it.tv_nsec / 1e9;
-}
-
-static void sleep_ms(unsigned ms)
-{
-    usleep(ms * 1000);
 }
 
 static uint64_t random_state = 88172645463325252u;
@@ -215,7 +206,7 @@ static void identity(void)
     CHECK(!strcmp(line_of("/sys/class/nvme/nvme0/firmware_rev"), "0.1"), "the firmware revision");
     CHECK(!strcmp(line_of("/sys/class/nvme/nvme0/queue_count"), "6"), "%s queues",
           line_of("/sys/class/nvme/nvme0/queue_count"));
-    good("%u MiB and %u MiB, six queues", disks[0].mib, disks[1].mib);
+    good("%u MiB and %u MiB, six queues, enabled %u times", disks[0].mib, disks[1].mib, choose(RESETS, 0, 0));
 }
 
 /* Random requests with patterns, and at the end the whole disk, against what was written. */
@@ -307,7 +298,7 @@ static void resets(void)
     choose(RATE, 400, 0);
     pid_t child = fio("/tmp/1", VERIFIED "nvme0n1 --bsrange=512-64k --size=24m");
     for (int k = 0; k < 6; k++) {
-        sleep_ms(300);
+        usleep(300000);
         reset();
     }
     CHECK(waitpid(child, NULL, WNOHANG) == 0, "fio ended before the resets");
@@ -347,7 +338,7 @@ static void linux_aborts(void)
                                 "--size=16m --filename=/dev/nvme0n1");
     double end = seconds() + 15;
     while (count < 3 && seconds() < end) {
-        sleep_ms(50);
+        usleep(50000);
         count = choose(ABORTED, 0, 0) - before;
     }
     choose(RATE, 0, 0);
@@ -433,17 +424,28 @@ static void begin_anew(void)
 }
 
 /* Linux names the memory of a command's data by PRP 1: so the address of a ring gets into a Create. */
-static void create(struct own *q, uint16_t qid, uint16_t cqid, uint32_t qprio)
+static int create_cq(struct own *q, uint16_t cqid, uint16_t slots)
 {
-    *q = (struct own){.qid = qid, .slots = 64, .cq_slots = 256, .phase = 1};
-    q->sq = memory + qid * 2 * PAGE;
     q->cq = (volatile uint32_t *)(memory + (cqid * 2 + 1) * PAGE);
-    if (qid == cqid) {
-        memset((void *)q->cq, 0, PAGE);
-        int status = admin(0x05, 0, (void *)q->cq, 255u << 16 | cqid, 1, 0, NULL);
-        CHECK(status == 0, "Create CQ %u: %x", cqid, status);
-    }
-    int status = admin(0x01, 0, q->sq, 63u << 16 | qid, (uint32_t)cqid << 16 | qprio << 1 | 1, 0, NULL);
+    q->cq_slots = slots;
+    memset((void *)q->cq, 0, PAGE);
+    return admin(0x05, 0, (void *)q->cq, (slots - 1u) << 16 | cqid, 1, 0, NULL);
+}
+
+static int create_sq(struct own *q, uint16_t qid, uint16_t cqid, uint32_t qprio)
+{
+    q->sq = memory + qid * 2 * PAGE;
+    q->slots = 64;
+    return admin(0x01, 0, q->sq, 63u << 16 | qid, (uint32_t)cqid << 16 | qprio << 1 | 1, 0, NULL);
+}
+
+/* Makes a pair of queues. */
+static void create(struct own *q, uint16_t qid, uint16_t cq_slots)
+{
+    *q = (struct own){.qid = qid, .phase = 1};
+    int status = create_cq(q, qid, cq_slots);
+    CHECK(status == 0, "Create CQ %u: %x", qid, status);
+    status = create_sq(q, qid, qid, 0);
     CHECK(status == 0, "Create SQ %u: %x", qid, status);
 }
 
@@ -500,20 +502,14 @@ static pid_t delete_sq(uint16_t qid)
     return child;
 }
 
-static void ends_well(pid_t child, const char *what)
-{
-    int status;
-    waitpid(child, &status, 0);
-    CHECK(status == 0, "%s: %x", what, status);
-}
-
 /* A queue is made, used, and deleted while commands wait in it. */
 static void one_round(unsigned *aborted)
 {
     struct own q;
     struct ended it;
     uint64_t seen = 0;
-    create(&q, FIRST_OWN, FIRST_OWN, 0);
+    int status;
+    create(&q, FIRST_OWN, 256);
     for (uint16_t k = 0; k < 20; k++)
         put_read(&q, k);
     ring(&q);
@@ -533,7 +529,8 @@ static void one_round(unsigned *aborted)
         CHECK(it.status == (it.cid < BURST ? 0 : 0x08), "cid %u has status %x", it.cid, it.status);
         *aborted += it.status == 0x08;
     }
-    ends_well(child, "Delete SQ");
+    waitpid(child, &status, 0);
+    CHECK(status == 0, "Delete SQ: %x", status);
     choose(RATE, 0, 0);
     CHECK(!take(&q, &it, 0), "a completion too many: cid %u", it.cid);
     CHECK(admin(0x04, 0, NULL, q.qid, 0, 0, NULL) == 0, "Delete CQ");
@@ -556,7 +553,7 @@ static void own_aborts(void)
     struct ended it;
     uint32_t dw0 = 9;
     begin_anew();
-    create(&q, FIRST_OWN, FIRST_OWN, 0);
+    create(&q, FIRST_OWN, 256);
     choose(RATE, 1, 0);
     for (uint16_t k = 0; k < 20; k++)
         put_read(&q, k);
@@ -568,6 +565,64 @@ static void own_aborts(void)
     for (unsigned k = 0; k < 20; k++)
         CHECK(take(&q, &it, 2000) && it.status == (it.cid == 15 ? 0x07 : 0), "cid %u has status %x", it.cid, it.status);
     good("found if it waits, else not");
+}
+
+/* A completion queue of four slots has three completions at most, however many are ready. */
+static void full(void)
+{
+    struct own q;
+    struct ended it;
+    begin_anew();
+    create(&q, FIRST_OWN, 4);
+    for (uint16_t k = 0; k < 60; k++)
+        put_read(&q, k);
+    ring(&q);
+    usleep(50000);
+    CHECK((q.cq[11] >> 16 & 1) == 1 && (q.cq[15] >> 16 & 1) == 0, "not just three slots are written");
+    for (uint16_t k = 0; k < 60; k++)
+        CHECK(take(&q, &it, 2000) && it.cid == k && it.status == 0, "completion %u: cid %u, status %x", k, it.cid,
+              it.status);
+    CHECK(!take(&q, &it, 0), "a completion too many: cid %u", it.cid);
+    good("60 completions by a queue of four slots");
+}
+
+/* Admin commands that are refused, and with which status. */
+static void refusals(void)
+{
+    static const struct {
+        const char *name;
+        uint32_t opcode, nsid, cdw10, cdw11;
+        int status;
+    } all[] = {
+        {"Create SQ with an identifier that is used", 0x01, 0, 63 << 16 | 3, 3 << 16 | 1, 0x101},
+        {"Create SQ with one that is too large", 0x01, 0, 63 << 16 | 30, 3 << 16 | 1, 0x101},
+        {"Create SQ with no such completion queue", 0x01, 0, 63 << 16 | 4, 5 << 16 | 1, 0x100},
+        {"Create SQ of one slot", 0x01, 0, 4, 3 << 16 | 1, 0x102},
+        {"Create SQ that isn't contiguous", 0x01, 0, 63 << 16 | 4, 3 << 16, 0x002},
+        {"Create CQ with identifier 0", 0x05, 0, 63 << 16, 1, 0x101},
+        {"Delete CQ of a submission queue", 0x04, 0, 3, 0, 0x10c},
+        {"Delete SQ that isn't there", 0x00, 0, 4, 0, 0x101},
+        {"Delete SQ 0", 0x00, 0, 0, 0, 0x101},
+        {"Set Features 07h after a Create", 0x09, 0, 7, 0x10001, 0x00c},
+        {"Set Features 01h, saved", 0x09, 0, 1u << 31 | 1, 0, 0x10d},
+        {"Set Features 0Bh, saved", 0x09, 0, 1u << 31 | 11, 0, 0x10d},
+        {"Get Features 7Fh", 0x0a, 0, 0x7f, 0, 0x002},
+        {"Identify of namespace 3", 0x06, 3, 0, 0, 0x00b},
+        {"Identify of CNS 1Ch", 0x06, 0, 0x1c, 0, 0x002},
+        {"Get Log Page 55h", 0x02, 0xffffffff, 1023 << 16 | 0x55, 0, 0x109},
+        {"Security Send", 0x81, 0, 0, 0, 0x001},
+    };
+    struct own q;
+    begin_anew();
+    create(&q, FIRST_OWN, 256);
+    for (size_t k = 0; k < sizeof all / sizeof all[0]; k++) {
+        void *data = memory + DATA; /* where the command has data or an address */
+        int has_data = all[k].opcode % 4 != 0 && all[k].opcode != 0x09 && all[k].opcode != 0x0a;
+        int status =
+            admin((uint8_t)all[k].opcode, all[k].nsid, has_data ? data : NULL, all[k].cdw10, all[k].cdw11, 0, NULL);
+        CHECK(status == all[k].status, "%s: status %x", all[k].name, status);
+    }
+    good("%zu", sizeof all / sizeof all[0]);
 }
 
 /* The status of a command. */
@@ -588,7 +643,7 @@ static void lists(void)
     uint8_t *data = NULL;
     begin_anew();
     data = memory + DATA;
-    create(&q, FIRST_OWN, FIRST_OWN, 0);
+    create(&q, FIRST_OWN, 256);
     uint64_t at = physical + DATA, list = DATA + 64 * PAGE, far = 1ull << 40;
     uint64_t *first = (uint64_t *)(memory + list + PAGE - 16), *rest = (uint64_t *)(memory + list + 2 * PAGE);
     for (int k = 0; k < PAGES * PAGE; k++)
@@ -624,8 +679,13 @@ static unsigned shares_of(uint32_t cdw11, const unsigned weights[OWN])
     unsigned checked = 0, left[OWN];
     begin_anew();
     set_arbitration(cdw11);
-    for (uint16_t k = 0; k < OWN; k++)
-        create(&q[k], (uint16_t)(FIRST_OWN + k), FIRST_OWN, k + 1u);
+    q[0] = (struct own){.qid = FIRST_OWN, .phase = 1};
+    CHECK(create_cq(&q[0], FIRST_OWN, 256) == 0, "Create CQ");
+    for (uint16_t k = 0; k < OWN; k++) {
+        q[k].qid = (uint16_t)(FIRST_OWN + k);
+        q[k].tail = 0;
+        CHECK(create_sq(&q[k], q[k].qid, FIRST_OWN, k + 1u) == 0, "Create SQ %u", q[k].qid);
+    }
     choose(RATE, 20, 0);
     for (int k = 0; k < OWN; k++) {
         for (uint16_t n = 0; n < 63; n++)
@@ -665,7 +725,7 @@ static void event(int events, const char *want)
                 CHECK(!strcmp(it + 9, want), "the event is %s", it + 9);
                 return;
             }
-        sleep_ms(5);
+        usleep(5000);
     }
     bad("no event %s", want);
 }
@@ -690,7 +750,7 @@ static void doorbell_events(void)
     int events = socket(AF_NETLINK, SOCK_DGRAM, NETLINK_KOBJECT_UEVENT);
     CHECK(bind(events, (struct sockaddr *)&all, sizeof all) == 0, "events: %s", strerror(errno));
     begin_anew();
-    create(&q, FIRST_OWN, FIRST_OWN, 0);
+    create(&q, FIRST_OWN, 256);
     doorbells[2 * 60] = 1; /* a queue that isn't there */
     event(events, "0x010000");
     error_log(1, 60);
@@ -724,10 +784,12 @@ int main(void)
     row("queues made and deleted", rounds, 60);
     row("Aborts", own_aborts, 20);
     row("data by lists", lists, 20);
+    row("a full completion queue", full, 20);
+    row("refused admin commands", refusals, 20);
     row("shares", shares, 30);
     row("bad doorbells", doorbell_events, 30);
     printf("end of %u\n", count);
     sync();
-    sleep_ms(100);
+    usleep(100000);
     reboot(RB_POWER_OFF);
 }
