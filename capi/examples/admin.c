@@ -116,9 +116,10 @@ static nvmearb_status get_log_page(struct nvme *d, const nvmearb_sqe *entry)
     default:
         return (nvmearb_status){NVMEARB_SCT_COMMAND_SPECIFIC, INVALID_LOG_PAGE};
     }
-    if (lid == 1 && !is_retained)
+    nvmearb_status status = nvme_transfer(d, entry, page, length, 1);
+    if (lid == 1 && !is_retained && status.sct == 0 && status.sc == 0)
         d->is_told = 0; /* the next error event may be told */
-    return nvme_transfer(d, entry, page, length, 1);
+    return status;
 }
 
 /* What a feature is after a reset. Of the temperature thresholds (THSEL, TMPSEL) there are the two of the device. */
