@@ -369,6 +369,112 @@ void shares(void)
     good("%u and %u commands in the order of weights 8, 4, 2 and 5, 2, 1", first, second);
 }
 
+/* A queue of the test below: its commands that haven't ended, by their identifiers, and which of them were aborted. */
+struct use {
+    struct own q;
+    uint64_t out, aborted;
+};
+static unsigned submitted, ended_well, ended_aborted, ended_deleted;
+
+/* Takes what is completed. A command ends once: with 0/07 if it was aborted, or else with success or `other`. */
+static void settle(struct own *cq, struct use *uses, int other)
+{
+    struct ended it;
+    while (take(cq, &it, 0)) {
+        CHECK(it.sqid >= FIRST_OWN && it.sqid < FIRST_OWN + OWN && it.cid < 64, "cid %u of queue %u", it.cid, it.sqid);
+        struct use *u = &uses[it.sqid - FIRST_OWN];
+        uint64_t bit = 1ull << it.cid;
+        CHECK(u->out & bit, "cid %u of queue %u ended twice", it.cid, it.sqid);
+        if (u->aborted & bit)
+            CHECK(it.status == 0x07, "cid %u was aborted, and has status %x", it.cid, it.status);
+        else
+            CHECK(it.status == 0 || it.status == other, "cid %u has status %x", it.cid, it.status);
+        u->out &= ~bit;
+        u->aborted &= ~bit;
+        ended_well += it.status == 0;
+        ended_aborted += it.status == 0x07;
+        ended_deleted += it.status == 0x08;
+    }
+}
+
+/* Submits up to eight Reads and Writes. */
+static void submit(struct use *u)
+{
+    unsigned count = (unsigned)random_below(8) + 1, place = (u->q.qid - FIRST_OWN) * 64u;
+    for (unsigned k = 0; k < count; k++) {
+        uint16_t cid = (uint16_t)random_below(63);
+        if (u->out >> cid & 1 || __builtin_popcountll(u->out) == 62)
+            continue;
+        uint32_t first = (place + cid) * 8;
+        put(&u->q, cid, 1 + (uint32_t)random_below(2), first, 1 + (uint32_t)random_below(8),
+            physical + DATA + (place + cid) * PAGE, 0);
+        u->out |= 1ull << cid;
+        submitted++;
+    }
+    ring(&u->q);
+}
+
+static void abort_one(struct use *u)
+{
+    uint32_t dw0 = 9;
+    uint64_t cid = random_below(63);
+    CHECK(admin(0x08, 0, NULL, (uint32_t)cid << 16 | u->q.qid, 0, 0, &dw0) == 0 && dw0 < 2, "Abort: %x", dw0);
+    CHECK(dw0 == 1 || u->out >> cid & 1, "an Abort found what wasn't there");
+    if (dw0 == 0)
+        u->aborted |= 1ull << cid;
+}
+
+/* Deletes a queue and makes it again. When the Delete is completed, all its commands are. */
+static void remake(struct own *cq, struct use *uses, struct use *u)
+{
+    settle(cq, uses, 0);
+    CHECK(admin(0x00, 0, NULL, u->q.qid, 0, 0, NULL) == 0, "Delete SQ %u", u->q.qid);
+    settle(cq, uses, 0x08);
+    CHECK(u->out == 0, "queue %u is deleted, and %llx of its commands aren't ended", u->q.qid,
+          (unsigned long long)u->out);
+    u->q.tail = 0;
+    CHECK(create_sq(&u->q, u->q.qid, FIRST_OWN, (uint32_t)random_below(4)) == 0, "Create SQ %u", u->q.qid);
+}
+
+/* Everything at once, at random: each command ends once, with a status that it may have. */
+void mixture(void)
+{
+    struct use uses[OWN] = {0};
+    struct own cq = {.qid = FIRST_OWN, .phase = 1};
+    unsigned remade = 0, rates[] = {0, 50, 500, 5000};
+    choose(WEIGHTED, 1, 0);
+    begin_anew();
+    CHECK(create_cq(&cq, FIRST_OWN, 256) == 0, "Create CQ");
+    for (uint16_t k = 0; k < OWN; k++) {
+        uses[k].q.qid = (uint16_t)(FIRST_OWN + k);
+        CHECK(create_sq(&uses[k].q, uses[k].q.qid, FIRST_OWN, k) == 0, "Create SQ %u", uses[k].q.qid);
+    }
+    for (unsigned step = 0; step < 2000; step++) {
+        struct use *u = &uses[random_below(OWN)];
+        uint64_t what = random_below(100);
+        if (what < 70)
+            submit(u);
+        else if (what < 90)
+            abort_one(u);
+        else if (what < 92 && remade < ROUNDS) {
+            remake(&cq, uses, u);
+            remade++;
+        } else if (what < 95)
+            choose(RATE, rates[random_below(4)], 0);
+        else if (what < 97)
+            set_arbitration((uint32_t)random_below(256) << 24 | (uint32_t)random_below(0x10000) << 8 | 3);
+        settle(&cq, uses, 0);
+    }
+    choose(RATE, 0, 0);
+    for (double end = seconds() + 5; uses[0].out | uses[1].out | uses[2].out;) {
+        CHECK(seconds() < end, "commands that don't end");
+        settle(&cq, uses, 0);
+    }
+    choose(WEIGHTED, 0, 0);
+    CHECK(submitted == ended_well + ended_aborted + ended_deleted, "%u were submitted", submitted);
+    good("%u commands, %u of them aborted, %u by %u deletions", submitted, ended_aborted, ended_deleted, remade);
+}
+
 /* Waits for an event that Linux tells. */
 static void event(int events, const char *want)
 {

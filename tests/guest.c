@@ -390,6 +390,7 @@ int main(void)
     row("refused admin commands", refusals, 20);
     row("features", features, 20);
     row("shares", shares, 30);
+    row("everything at once", mixture, 60);
     row("bad doorbells", doorbell_events, 30);
     printf("end of %u\n", count);
     sync();

@@ -31,6 +31,6 @@ void reset(void);
 
 /* The tests of queues that Linux doesn't know. */
 void rounds(void), own_aborts(void), lists(void), full(void), refusals(void), features(void), shares(void),
-    doorbell_events(void);
+    mixture(void), doorbell_events(void);
 
 #endif
