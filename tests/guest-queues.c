@@ -218,7 +218,7 @@ void full(void)
     good("60 completions by a queue of four slots");
 }
 
-/* Admin commands that are refused, and with which status. */
+/* Admin commands that are refused, and with which status. All but one don't ask for a retry: it may help there. */
 void refusals(void)
 {
     static const struct {
@@ -252,7 +252,8 @@ void refusals(void)
         int has_data = all[k].opcode % 4 != 0 && all[k].opcode != 0x09 && all[k].opcode != 0x0a;
         int status =
             admin((uint8_t)all[k].opcode, all[k].nsid, has_data ? data : NULL, all[k].cdw10, all[k].cdw11, 0, NULL);
-        CHECK(status == all[k].status, "%s: status %x", all[k].name, status);
+        int marked = all[k].status | (all[k].status == 0x10c ? 0 : 0x4000);
+        CHECK(status == marked, "%s: status %x", all[k].name, status);
     }
     good("%zu", sizeof all / sizeof all[0]);
 }

@@ -146,7 +146,7 @@ int admin(uint8_t opcode, uint32_t nsid, void *data, uint32_t cdw10, uint32_t cd
     CHECK(status >= 0, "admin command %02xh: %s", opcode, strerror(errno));
     if (dw0)
         *dw0 = it.result;
-    return status & 0x7ff;
+    return status & 0x47ff;
 }
 
 uint32_t choose(uint32_t what, uint32_t first, uint32_t second)

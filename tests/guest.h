@@ -16,7 +16,7 @@ void good(const char *format, ...);
 double seconds(void);
 uint64_t random_below(uint64_t limit);
 
-/* Sends an admin command, and returns its status without Do Not Retry. `data` has 4096 bytes, if it isn't NULL. */
+/* Sends an admin command, and returns its status with Do Not Retry (4000h). `data` has 4096 bytes, if it isn't NULL. */
 int admin(uint8_t opcode, uint32_t nsid, void *data, uint32_t cdw10, uint32_t cdw11, uint32_t cdw12, uint32_t *dw0);
 
 /* What the device lets a guest choose, and counts: numbers of choose() in capi/examples/qemu.c. */

@@ -101,8 +101,8 @@ static nvmearb_status execute(struct nvme *d, const nvmearb_sqe *entry)
 
 static void complete(struct nvme *d, uint16_t tag, nvmearb_status status, uint32_t dw0)
 {
-    d->marks[tag] = is_error(status); /* none of the device's errors goes away by itself */
-    nvmearb_ctrl_complete(&d->ctrl, d->slots, NVME_COMMANDS, tag, &status, dw0);
+    uint8_t marks = is_error(status) ? NVMEARB_DNR : 0; /* none of the device's errors goes away by itself */
+    nvmearb_ctrl_complete_with(&d->ctrl, d->slots, NVME_COMMANDS, tag, &status, dw0, marks);
 }
 
 static void hold(struct nvme *d, uint16_t tag)
@@ -209,9 +209,6 @@ static uint32_t post(struct nvme *d, uint16_t cqid)
     while (nvmearb_ctrl_post(&d->ctrl, d->slots, NVME_COMMANDS, region, &it) == NVMEARB_OK) {
         uint8_t *at = memory(d, ring->address + it.slot * sizeof it.bytes, sizeof it.bytes);
         d->aborted += (it.bytes[15] << 8 | it.bytes[14]) >> 1 == NVMEARB_SC_ABORT_REQUESTED;
-        if (d->marks[it.tag])
-            it.bytes[15] |= 0x80; /* Do Not Retry, until nvmearb_ctrl_complete takes it */
-        d->marks[it.tag] = 0;
         if (!at) {
             d->registers[CSTS] |= CFS;
             return 0;
@@ -230,8 +227,8 @@ static uint32_t post(struct nvme *d, uint16_t cqid)
 static int is_due(struct nvme *d)
 {
     nvmearb_pick next;
-    return !d->rate || d->now >= d->due ||
-           nvmearb_ctrl_peek(&d->ctrl, d->slots, NVME_COMMANDS, &next) != NVMEARB_OK || next.qid == 0;
+    return !d->rate || d->now >= d->due || nvmearb_ctrl_peek(&d->ctrl, d->slots, NVME_COMMANDS, &next) != NVMEARB_OK ||
+           next.qid == 0;
 }
 
 /* Executes what arbitration picks. Returns whether it picked anything. */
@@ -299,7 +296,6 @@ static void reset(struct nvme *d)
     d->registers[CSTS] = d->masked = 0;
     d->held_count = d->pending = d->is_told = 0;
     d->tokens = d->due = 0;
-    memset(d->marks, 0, sizeof d->marks);
     for (uint32_t fid = 0; fid < 16; fid++)
         d->features[fid] = nvme_feature_default(fid, 0);
 }

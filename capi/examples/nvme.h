@@ -55,7 +55,6 @@ struct nvme {
     /* The device's own. */
     nvmearb_ctrl ctrl;
     nvmearb_slot slots[NVME_COMMANDS];
-    uint8_t marks[NVME_COMMANDS];                                        /* by tag: Do Not Retry */
     struct nvme_ring sqs[NVMEARB_MAX_REGIONS], cqs[NVMEARB_MAX_REGIONS]; /* by region */
     uint64_t tokens, now, due;
     uint32_t registers[16], masked, asserted, features[16];
