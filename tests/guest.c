@@ -1,0 +1,399 @@
+/*
+ * The first process of the guest of tests/guest: tests the disks of the device of capi/examples/nvme.c, first through
+ * Linux, then by queues of its own. A test shows a line "row NAME: FIGURES" or "bad NAME: WHY", and the last
+ * line is "end of N", for N tests. The word only=TEXT leaves out those that haven't TEXT in their names.
+ */
+#define _GNU_SOURCE
+#include "guest.h"
+
+#include <errno.h>
+#include <fcntl.h>
+#include <linux/nvme_ioctl.h>
+#include <stdarg.h>
+#include <stdio.h>
+#include <stdlib.h>
+#include <string.h>
+#include <sys/ioctl.h>
+#include <sys/klog.h>
+#include <sys/mman.h>
+#include <sys/mount.h>
+#include <sys/reboot.h>
+#include <sys/stat.h>
+#include <sys/wait.h>
+#include <time.h>
+#include <unistd.h>
+
+#define MOST (1 << 20) /* the longest request: 1 MiB */
+
+static const struct disk {
+    const char *name, *path, *nguid;
+    unsigned mib, block;
+} disks[] = {{"nvme0n1", "/dev/nvme0n1", "6c69626e-766d-6561-7262-000001000000", 64, 512},
+             {"nvme0n2", "/dev/nvme0n2", "6c69626e-766d-6561-7262-000002000000", 32, 4096}};
+
+/* ---- Rows ---- */
+
+static const char *current;
+static unsigned count;
+
+void bad(const char *format, ...)
+{
+    va_list words;
+    va_start(words, format);
+    printf("bad %s: ", current);
+    vprintf(format, words);
+    printf("\n");
+    va_end(words);
+    exit(1);
+}
+
+/* Shows the last lines of the kernel about the device. */
+static void show_kernel(void)
+{
+    static char text[8192];
+    int n = klogctl(3, text, sizeof text - 1); /* SYSLOG_ACTION_READ_ALL */
+    text[n > 0 ? n : 0] = 0;
+    for (char *it = strtok(text, "\n"); it; it = strtok(NULL, "\n"))
+        if (strstr(it, "nvme"))
+            printf("kernel: %s\n", it);
+}
+
+/* Runs a test in a process of its own, of at most so many seconds. */
+static void row(const char *name, void (*test)(void), unsigned seconds)
+{
+    int status;
+    const char *only = getenv("only"); /* a word of the kernel's command line */
+    if (only && !strstr(name, only))
+        return;
+    current = name;
+    count++;
+    pid_t child = fork();
+    if (child == 0) {
+        alarm(seconds);
+        test();
+        exit(0);
+    }
+    waitpid(child, &status, 0);
+    if (WIFSIGNALED(status))
+        printf("bad %s: ended by signal %d\n", name, WTERMSIG(status));
+    if (status != 0)
+        show_kernel();
+}
+
+void good(const char *format, ...)
+{
+    va_list words;
+    va_start(words, format);
+    printf("row %s: ", current);
+    vprintf(format, words);
+    printf("\n");
+    va_end(words);
+}
+
+double seconds(void)
+{
+    struct timespec it;
+    clock_gettime(CLOCK_MONOTONIC, &it);
+    return (double)it.tv_sec + (double)it.tv_nsec / 1e9;
+}
+
+static uint64_t random_state = 88172645463325252u;
+uint64_t random_below(uint64_t limit)
+{
+    random_state ^= random_state << 13;
+    random_state ^= random_state >> 7;
+    random_state ^= random_state << 17;
+    return random_state % limit;
+}
+
+/* Reads a file of one line. */
+static const char *line_of(const char *path)
+{
+    static char line[256];
+    int fd = open(path, O_RDONLY);
+    ssize_t n = fd < 0 ? -1 : read(fd, line, sizeof line - 1);
+    CHECK(n >= 0, "%s: %s", path, strerror(errno));
+    close(fd);
+    while (n > 0 && (line[n - 1] == '\n' || line[n - 1] == ' '))
+        n--;
+    line[n] = 0;
+    return line;
+}
+
+static void write_line(const char *path, const char *line)
+{
+    int fd = open(path, O_WRONLY);
+    CHECK(fd >= 0 && write(fd, line, strlen(line)) > 0, "%s: %s", path, strerror(errno));
+    close(fd);
+}
+
+/* ---- Admin commands ---- */
+
+int admin(uint8_t opcode, uint32_t nsid, void *data, uint32_t cdw10, uint32_t cdw11, uint32_t cdw12, uint32_t *dw0)
+{
+    static int fd = -1;
+    struct nvme_admin_cmd it = {.opcode = opcode,
+                                .nsid = nsid,
+                                .addr = (uintptr_t)data,
+                                .data_len = data ? PAGE : 0,
+                                .cdw10 = cdw10,
+                                .cdw11 = cdw11,
+                                .cdw12 = cdw12,
+                                .timeout_ms = 20000};
+    if (fd < 0)
+        fd = open("/dev/nvme0", O_RDWR);
+    int status = ioctl(fd, NVME_IOCTL_ADMIN_CMD, &it);
+    CHECK(status >= 0, "admin command %02xh: %s", opcode, strerror(errno));
+    if (dw0)
+        *dw0 = it.result;
+    return status & 0x47ff;
+}
+
+uint32_t choose(uint32_t what, uint32_t first, uint32_t second)
+{
+    uint32_t dw0 = 0;
+    int status = admin(0xc0, 0, NULL, what, first, second, &dw0);
+    CHECK(status == 0, "the device's choice %u: status %x", what, status);
+    return dw0;
+}
+
+void set_arbitration(uint32_t cdw11)
+{
+    uint32_t dw0 = 0;
+    CHECK(admin(0x09, 0, NULL, 1, cdw11, 0, NULL) == 0, "Set Features");
+    CHECK(admin(0x0a, 0, NULL, 1, 0, 0, &dw0) == 0 && dw0 == cdw11, "Get Features after Set Features: %08x", dw0);
+}
+
+void reset(void)
+{
+    write_line("/sys/class/nvme/nvme0/reset_controller", "1");
+}
+
+/* ---- Through Linux ---- */
+
+static void identity(void)
+{
+    for (const struct disk *d = disks; d < disks + 2; d++) {
+        char path[64];
+        uint64_t bytes = 0;
+        int block = 0, fd = open(d->path, O_RDONLY);
+        CHECK(fd >= 0, "%s: %s", d->path, strerror(errno));
+        ioctl(fd, _IOR(0x12, 114, size_t), &bytes); /* BLKGETSIZE64 */
+        ioctl(fd, _IO(0x12, 104), &block);          /* BLKSSZGET */
+        CHECK(bytes == (uint64_t)d->mib << 20, "%s has %llu bytes", d->name, (unsigned long long)bytes);
+        CHECK(block == (int)d->block, "%s has blocks of %d", d->name, block);
+        snprintf(path, sizeof path, "/sys/block/%s/nguid", d->name);
+        CHECK(!strcmp(line_of(path), d->nguid), "%s is %s", d->name, line_of(path));
+    }
+    CHECK(!strcmp(line_of("/sys/class/nvme/nvme0/model"), "libnvmearb example"), "the model");
+    CHECK(!strcmp(line_of("/sys/class/nvme/nvme0/serial"), "1"), "the serial number");
+    CHECK(!strcmp(line_of("/sys/class/nvme/nvme0/firmware_rev"), "0.1"), "the firmware revision");
+    CHECK(!strcmp(line_of("/sys/class/nvme/nvme0/queue_count"), "6"), "%s queues",
+          line_of("/sys/class/nvme/nvme0/queue_count"));
+    good("%u MiB and %u MiB, six queues, enabled %u times", disks[0].mib, disks[1].mib, choose(RESETS, 0, 0));
+}
+
+/* Random requests with patterns, and at the end the whole disk, against what was written. */
+static unsigned patterns_of(const struct disk *d, unsigned requests)
+{
+    size_t size = (size_t)d->mib << 20, total = 0;
+    int fd = open(d->path, O_RDWR | O_DIRECT);
+    uint8_t *want = mmap(NULL, size, PROT_READ | PROT_WRITE, MAP_PRIVATE | MAP_ANONYMOUS, -1, 0);
+    uint8_t *room = aligned_alloc(PAGE, MOST + PAGE);
+    CHECK(fd >= 0, "%s: %s", d->path, strerror(errno));
+    for (size_t at = 0; at < size; at += MOST)
+        CHECK(pread(fd, want + at, MOST, (off_t)at) == MOST, "the first read at %zu: %s", at, strerror(errno));
+    for (unsigned k = 0; k < requests; k++) {
+        size_t most = (size_t)d->block << random_below(d->block == 512 ? 12 : 9);
+        size_t length = (1 + random_below(most / d->block)) * d->block;
+        size_t at = random_below((size - length) / d->block + 1) * d->block;
+        uint8_t *bytes = room + 512 * random_below(8);
+        if (random_below(2)) {
+            for (size_t i = 0; i < length; i += 8) {
+                uint64_t word = random_below(UINT64_MAX);
+                memcpy(bytes + i, &word, 8);
+            }
+            memcpy(want + at, bytes, length);
+            CHECK(pwrite(fd, bytes, length, (off_t)at) == (ssize_t)length, "write %u: %s", k, strerror(errno));
+        } else {
+            memset(bytes, 0x5a, length);
+            CHECK(pread(fd, bytes, length, (off_t)at) == (ssize_t)length, "read %u: %s", k, strerror(errno));
+            CHECK(!memcmp(bytes, want + at, length), "read %u of %zu bytes at %zu differs", k, length, at);
+        }
+        total += length;
+    }
+    for (size_t at = 0; at < size; at += MOST)
+        CHECK(pread(fd, room, MOST, (off_t)at) == MOST && !memcmp(room, want + at, MOST), "the last read at %zu", at);
+    return (unsigned)(total >> 20);
+}
+
+static void patterns(void)
+{
+    unsigned first = patterns_of(&disks[0], 300), second = patterns_of(&disks[1], 150);
+    good("450 requests of 512 bytes to 1 MiB, %u and %u MiB, and both disks compared", first, second);
+}
+
+/* Starts fio with these words, and its report in this file. */
+static pid_t fio(const char *report, const char *words)
+{
+    pid_t child = fork();
+    if (child == 0) {
+        static char line[1024];
+        char *word[64] = {"fio", "--minimal", "--direct=1"};
+        int n = 3, to = open(report, O_WRONLY | O_CREAT | O_TRUNC, 0644);
+        snprintf(line, sizeof line, "%s", words);
+        for (char *it = strtok(line, " "); it; it = strtok(NULL, " "))
+            word[n++] = it;
+        dup2(to, 1);
+        dup2(to, 2);
+        execv("/usr/bin/fio", word);
+        _exit(127);
+    }
+    return child;
+}
+
+static void fio_ends(pid_t child, const char *report)
+{
+    int status;
+    waitpid(child, &status, 0);
+    if (status == 0)
+        return;
+    static char text[400];
+    int fd = open(report, O_RDONLY);
+    ssize_t n = read(fd, text, sizeof text - 1);
+    for (ssize_t k = 0; k < n; k++)
+        text[k] = text[k] == '\n' ? '/' : text[k];
+    bad("fio ended with %x: %s", status, text);
+}
+
+#define VERIFIED                                                                                                       \
+    "--ioengine=libaio --rw=randwrite --verify=crc32c --verify_fatal=1 --iodepth=16 --name=job --filename=/dev/"
+
+static void verified(void)
+{
+    fio_ends(fio("/tmp/1", VERIFIED "nvme0n1 --bsrange=512-256k --size=32m"), "/tmp/1");
+    fio_ends(fio("/tmp/2", VERIFIED "nvme0n2 --bsrange=4k-1m --size=24m"), "/tmp/2");
+    good("56 MiB by fio, with crc32c");
+}
+
+static void resets(void)
+{
+    uint32_t before = choose(RESETS, 0, 0);
+    choose(RATE, 400, 0);
+    pid_t child = fio("/tmp/1", VERIFIED "nvme0n1 --bsrange=512-64k --size=24m");
+    for (int k = 0; k < 6; k++) {
+        usleep(300000);
+        reset();
+    }
+    CHECK(waitpid(child, NULL, WNOHANG) == 0, "fio ended before the resets");
+    choose(RATE, 0, 0);
+    fio_ends(child, "/tmp/1");
+    uint32_t count = choose(RESETS, 0, 0) - before;
+    CHECK(count == 6, "%u resets of 6", count);
+    good("%u under fio, no error", count);
+}
+
+static void failing(void)
+{
+    static uint8_t bytes[PAGE] __attribute__((aligned(PAGE)));
+    const off_t at = 1000 * 512;
+    int fd = open(disks[0].path, O_RDWR | O_DIRECT);
+    uint32_t before = choose(BAD_READS, 0, 0);
+    choose(BAD_BLOCK, 1, 1000);
+    CHECK(pread(fd, bytes, 512, at) < 0, "the bad block was read");
+    int why = errno;
+    CHECK(why == EIO || why == ENODATA, "the error is %s", strerror(why));
+    CHECK(choose(BAD_READS, 0, 0) - before == 1, "it was read %u times", choose(BAD_READS, 0, 0) - before);
+    CHECK(pread(fd, bytes, PAGE, at - PAGE) == PAGE && pread(fd, bytes, PAGE, at + 512) == PAGE, "its neighbours");
+    CHECK(pwrite(fd, bytes, 512, at) == 512, "the bad block isn't written");
+    choose(BAD_BLOCK, 0, 0);
+    CHECK(pread(fd, bytes, 512, at) == 512, "the block isn't good again");
+    good("sent once, %s", strerror(why));
+}
+
+static void linux_aborts(void)
+{
+    uint32_t before = choose(ABORTED, 0, 0), count = 0;
+    choose(WEIGHTED, 1, 0); /* so admin commands come first */
+    reset();
+    write_line("/sys/block/nvme0n1/queue/io_timeout", "1000");
+    choose(RATE, 4, 0);
+    pid_t child = fio("/tmp/1", "--name=job --ioengine=libaio --rw=randread --bs=4k --iodepth=40 --number_ios=200 "
+                                "--size=16m --filename=/dev/nvme0n1");
+    double end = seconds() + 15;
+    while (count < 3 && seconds() < end) {
+        usleep(50000);
+        count = choose(ABORTED, 0, 0) - before;
+    }
+    choose(RATE, 0, 0);
+    write_line("/sys/block/nvme0n1/queue/io_timeout", "30000");
+    CHECK(count >= 3, "%u commands were aborted", count);
+    fio_ends(child, "/tmp/1");
+    good("%u commands, and all were read in the end", count);
+}
+
+/* The reads in a second that fio reports in a line, which is that of a job. */
+static double reads_of(const char *report, int line)
+{
+    static char text[8192];
+    int fd = open(report, O_RDONLY);
+    ssize_t n = read(fd, text, sizeof text - 1);
+    char *it = text;
+    close(fd);
+    text[n > 0 ? n : 0] = 0;
+    for (int k = 0; it && k < line; k++)
+        it = (it = strchr(it, '\n')) ? it + 1 : NULL;
+    for (int k = 0; it && k < 7; k++)
+        it = (it = strchr(it, ';')) ? it + 1 : NULL;
+    CHECK(it, "fio's report is %s", text);
+    return atof(it);
+}
+
+#define READS                                                                                                          \
+    "--rw=randread --bs=512 --iodepth=64 --size=16m --time_based --ramp_time=1 --runtime=4 --filename=/dev/nvme0n1 "
+
+/* The queue that Linux polls has priority high, the other one low, and both always have commands. */
+static void linux_shares(void)
+{
+    choose(WEIGHTED, 1, 0);
+    choose(PRIORITY, 1, 4);
+    choose(PRIORITY, 2, 2);
+    reset();
+    set_arbitration(0x07030103);
+    choose(RATE, 800, 0);
+    fio_ends(fio("/tmp/1", READS "--name=low --ioengine=libaio --name=high --ioengine=io_uring --hipri=1"), "/tmp/1");
+    choose(RATE, 0, 0);
+    double low = reads_of("/tmp/1", 0), high = reads_of("/tmp/1", 1), share = high / low;
+    CHECK(share > 3.6 && share < 4.4, "%.0f to %.0f reads a second", high, low);
+    good("%.0f to %.0f reads a second, so %.2f for weights 8 to 2", high, low, share);
+}
+
+int main(void)
+{
+    mkdir("/tmp", 0755);
+    mount("proc", "/proc", "proc", 0, NULL);
+    mount("sys", "/sys", "sysfs", 0, NULL);
+    mount("dev", "/dev", "devtmpfs", 0, NULL);
+    setvbuf(stdout, NULL, _IOLBF, 0);
+    printf("\nbegin\n");
+    row("identity", identity, 20);
+    row("patterns", patterns, 60);
+    row("fio", verified, 60);
+    row("a failing read", failing, 20);
+    row("resets", resets, 60);
+    row("Aborts by Linux", linux_aborts, 40);
+    row("shares of Linux' queues", linux_shares, 40);
+    row("queues made and deleted", rounds, 60);
+    row("Aborts", own_aborts, 20);
+    row("data by lists", lists, 20);
+    row("a full completion queue", full, 20);
+    row("refused admin commands", refusals, 20);
+    row("features", features, 20);
+    row("shares", shares, 30);
+    row("everything at once", mixture, 60);
+    row("bad doorbells", doorbell_events, 30);
+    printf("end of %u\n", count);
+    sync();
+    usleep(100000);
+    reboot(RB_POWER_OFF);
+}
