@@ -95,3 +95,4 @@ mod Handing
 mod PassCall
 mod Posting
 mod OwnCall
+mod PassedNotes

@@ -1,12 +1,13 @@
 -- Worked logs of a controller, for which the definitions compute (profile).
-use Rattle.std.specs.Prelude.{ℕ, true, false, [], ◌∷◌}
-use Rattle.nvme_entry.specs.Status.{success, aborted_by_deletion, lba_out_of_range}
+use Rattle.std.specs.Prelude.{ℕ, ◌+◌, ◌*◌, true, false, [], ◌∷◌}
+use Rattle.nvme_entry.specs.Status.{StatusCode, success, aborted_by_deletion, lba_out_of_range}
+use Rattle.nvme_entry.specs.declared.submission.Sqe.{Sqe}
 use Rattle.nvme_entry.specs.declared.completion.Cqe.{Cqe}
 use Rattle.nvme_arbiter.specs.declared.settings.Class.TheVariants.{Urgent}
 use Rattle.nvme_log.specs.declared.event.Event.TheVariants.{Fetch, OpenSq, OpenCq, Closing, Abort, Post, ClosedSq}
 use Rattle.nvme_log.specs.Answers.{Answer}
 use Rattle.nvme_log.specs.Examples.{get_arbitration, admin_picked, admin_posted, create_cq, create_sq, delete_sq, read, done, admin_seen, reads_seen, picked_of}
-use Rattle.nvme_ctrl.specs.Notes.{Notes, Logged, Tail, Head, Taken, Answered}
+use Rattle.nvme_ctrl.specs.Notes.{Notes, Logged, Tail, Head, Passed, Taken, Answered}
 use Rattle.nvme_ctrl.specs.declared.marks.Marks.{Marks}
 
 -- ---- four commands whose completions pass a ring of two slots twice
@@ -167,3 +168,44 @@ not_retried = record { more = false; do_not_retry = true }
 
 abbrev pub more_told : Marks
 more_told = record { more = true; do_not_retry = false }
+
+-- ---- an admin command that is the device's
+-- an Identify (Opcodes for Admin Commands)
+abbrev pub identify : ℕ → Sqe
+identify cid = record (get_arbitration cid) { opcode = 0x06 }
+
+-- it is fetched
+abbrev pub identify_fetched : Notes
+identify_fetched =
+    Logged (Fetch 0 0 (identify 0)) ∷ Tail 0 1 ∷ []
+
+-- picked
+abbrev pub identify_picked : Notes
+identify_picked =
+    Logged (admin_picked 1) ∷ identify_fetched
+
+-- passed on to the device
+abbrev pub identify_passed : Notes
+identify_passed =
+    Passed 0 ∷ identify_picked
+
+-- taken by it
+abbrev pub identify_taken : Notes
+identify_taken =
+    Taken 7 0 0 ∷ identify_passed
+
+-- and answered
+abbrev pub identify_answered : Notes
+identify_answered =
+    Answered 0 0 succeeded ∷ identify_taken
+
+-- its completion, with a status
+abbrev pub identified : StatusCode → Cqe
+identified status = record { dw0 = 0; sqhd = 1; sqid = 0; cid = 0; phase = true; status = status }
+
+-- a Get Features and a Set Features of a feature identifier, the one with a value that is selected
+abbrev pub get_feature : (fid select : ℕ) → Sqe
+get_feature fid select = record (get_arbitration 0) { cdw10 = fid + 256 * select }
+
+abbrev pub set_feature : ℕ → Sqe
+set_feature fid = record (get_arbitration 0) { opcode = 0x09; cdw10 = fid }

@@ -1,13 +1,14 @@
 //! Laws of the log of a controller, over the definitions alone. Each function does nothing: its contract is the law.
-ghost use Rattle.std.specs.Prelude.{◌≡◌, ◌∷◌, [], true, Some, None};
-ghost use Rattle.nvme_entry.specs.Status.{code, success, lba_out_of_range};
+ghost use Rattle.std.specs.Prelude.{◌≡◌, ◌∷◌, [], true, false, Some, None};
+ghost use Rattle.nvme_entry.specs.Status.{invalid_opcode, code, success, lba_out_of_range};
 ghost use Rattle.nvme_log.specs.declared.event.Event.TheVariants.{Fetch, OpenCq, Post, ClosedSq};
-ghost use Rattle.nvme_log.specs.Examples.{two_slots, one_deletion, get_arbitration, admin_picked, admin_posted, read, done, admin_seen, reads_seen, picked_of};
-ghost use Rattle.nvme_ctrl.specs.Notes.{Logged, Tail, Head, Kept, Taken, Answered, Marked};
+ghost use Rattle.nvme_log.specs.Examples.{create_cq, two_slots, one_deletion, get_arbitration, admin_picked, admin_posted, read, done, admin_seen, reads_seen, picked_of};
+ghost use Rattle.nvme_ctrl.specs.Notes.{Logged, Tail, Head, Kept, Passed, Taken, Answered, Marked};
 ghost use Rattle.nvme_ctrl.specs.Marks.{own_marks};
 ghost use Rattle.nvme_ctrl.specs.Tags.{cookie_of, marks_of};
+ghost use Rattle.nvme_ctrl.specs.Own.{is_own, no_own, with_opcode, with_feature};
 ghost use Rattle.nvme_ctrl.specs.Account.{IsLawful, IsAccount};
-ghost use Rattle.nvme_ctrl.specs.Examples.{told, three_of_four, four_fetched, first_picked, first_answered, first_posted, third_answered, two_passes, succeeded, out_of_range, create_picked, reads_submitted, reads_waiting, read_picked, read_taken, delete_begun, aborts_posted, read_answered, reads_posted, deletion_noted, unmarked, not_retried, more_told};
+ghost use Rattle.nvme_ctrl.specs.Examples.{identify, identify_fetched, identify_picked, identify_passed, identify_taken, identify_answered, identified, get_feature, set_feature, told, three_of_four, four_fetched, first_picked, first_answered, first_posted, third_answered, two_passes, succeeded, out_of_range, create_picked, reads_submitted, reads_waiting, read_picked, read_taken, delete_begun, aborts_posted, read_answered, reads_posted, deletion_noted, unmarked, not_retried, more_told};
 ghost use Rattle.nvme_ctrl.specs.Laws.{ControllersKeepAccounts, EventsAreAccounted, SlotsAreFetchedInOrder, CompletionsFollowAnswers, OneCompletionEach, SlotsAreFree, CompletionsTellTheHead, DeletesAreAnsweredLast, NoneFetchedAfterDeletion, NonePickedAfterDeletion, PicksAreLawful, TagsAreApart};
 
 /// The log at which a controller stands is an account, where no region was added after its first note. So all that
@@ -16,8 +17,8 @@ pub fn controllers_keep_accounts()
     ensures { ControllersKeepAccounts }
 {}
 
-/// The events of a controller's log are those of an accounted log in which the device answers the I/O commands. So
-/// every law of such logs holds of it.
+/// The events of a controller's log in which no admin command was passed on are those of an accounted log in which the
+/// device answers the I/O commands. So every law of such logs holds of it.
 pub fn events_are_accounted()
     ensures { EventsAreAccounted }
 {}
@@ -28,7 +29,7 @@ pub fn slots_are_fetched_in_order()
     ensures { SlotsAreFetchedInOrder }
 {}
 
-/// A completion is posted after the answer of its command or its abort. That of an I/O command has the answer.
+/// A completion is posted after the answer of its command or its abort. That of a command of the device's has the answer.
 pub fn completions_follow_answers()
     ensures { CompletionsFollowAnswers }
 {}
@@ -158,4 +159,35 @@ pub fn own_answers_are_marked()
     ensures aborted_by_deletion { own_marks (code 0 0x08) ≡ unmarked }
     ensures invalid_queue_deletion { own_marks (code 1 0x0c) ≡ unmarked }
     ensures other { own_marks (code 2 0x01) ≡ unmarked }
+{}
+
+/// An admin command that is the device's is passed on at once when it was picked, and once, where the controller has no
+/// part in it. The device takes it, and answers it as it does commands of I/O queues.
+pub fn device_commands_are_passed_on()
+    ensures passed { IsLawful two_slots identify_picked (Passed 0) }
+    ensures taken { IsLawful two_slots identify_passed (Taken 7 0 0) }
+    ensures answered { IsLawful two_slots identify_taken (Answered 0 0 succeeded) }
+    ensures posted { IsLawful two_slots identify_answered (Logged (Post 0 0 0 (identified success))) }
+    ensures passed_twice { IsLawful two_slots identify_passed (Passed 0) → ⊥ }
+    ensures passed_unpicked { IsLawful two_slots identify_fetched (Passed 0) → ⊥ }
+    ensures passed_core { IsLawful two_slots first_picked (Passed 0) → ⊥ }
+    ensures taken_unpassed { IsLawful two_slots identify_picked (Taken 7 0 0) → ⊥ }
+    ensures answered_untaken { IsLawful two_slots identify_passed (Answered 0 0 succeeded) → ⊥ }
+    ensures posted_refused { IsLawful two_slots identify_answered (Logged (Post 0 0 0 (identified invalid_opcode))) → ⊥ }
+{}
+
+/// Which commands are the device's: those of the opcodes and feature identifiers that it announced, but for fused ones,
+/// those of the controller's own opcodes, and the controller's own features, of which just other values than the current
+/// one are the device's.
+pub fn own_commands_are_announced()
+    ensures opcode { is_own (with_opcode 0x06 no_own) (identify 0) ≡ true }
+    ensures unannounced { is_own (with_opcode 0x02 no_own) (identify 0) ≡ false }
+    ensures fused { is_own (with_opcode 0x06 no_own) (record (identify 0) { flags = 1 }) ≡ false }
+    ensures core_opcode { is_own (with_opcode 0x05 no_own) create_cq ≡ false }
+    ensures get_feature { is_own (with_feature 0x0b no_own) (get_feature 0x0b 0) ≡ true }
+    ensures set_feature { is_own (with_feature 0x0b no_own) (set_feature 0x0b) ≡ true }
+    ensures other_feature { is_own (with_feature 0x0b no_own) (get_feature 0x0a 0) ≡ false }
+    ensures current_value { is_own (with_feature 0x01 no_own) (get_feature 0x01 0) ≡ false }
+    ensures default_value { is_own (with_feature 0x01 no_own) (get_feature 0x01 1) ≡ true }
+    ensures set_core { is_own (with_feature 0x07 no_own) (set_feature 0x07) ≡ false }
 {}
