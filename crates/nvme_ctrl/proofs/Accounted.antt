@@ -2,7 +2,7 @@
 use Rattle.nvme_ctrl.specs.Notes.{Passed}
 use Rattle.nvme_log.specs.declared.event.Event.{Event}
 use Rattle.std.proofs.Common.{◌≡◌, ℕ, ◌==◌, ◌&&◌, Bool, true, false, [], ◌∷◌, Option, None, refl, sym, ap, ◌∙◌, subst, inl, inr, not, ◌≤◌, ◌||◌, if◌then◌else◌, ◌+◌, MatchBool, arith}
-use Rattle.std.proofs.lemmas.Bool.{cases_Bool, eq-eqb, eqb-true, MatchBool-at_true, MatchBool-at_false, ne_eqb, and_right, or_left}
+use Rattle.std.proofs.lemmas.Bool.{cases_Bool, eq-eqb, eqb-true, MatchBool-at_true, MatchBool-at_false, and_right, or_left}
 use Rattle.nvme_entry.specs.declared.submission.Sqe.{Sqe}
 use Rattle.nvme_log.specs.declared.event.Event.TheVariants.{Post}
 use Rattle.nvme_log.specs.Rules.{Past, FrontRules, Each}
@@ -11,7 +11,7 @@ use Rattle.nvme_log.specs.Answers.{Answer, Executor, by_answers}
 use Rattle.nvme_log.specs.Completions.{is_posted, IsOwnBy, posts_of}
 use Rattle.nvme_log.specs.Dispatches.{place_at}
 use Rattle.nvme_log.specs.Account.{PostsOwnBy}
-use Rattle.nvme_log.proofs.Posts.{one_post, posts_of-none}
+use Rattle.nvme_log.proofs.Posts.{posts_of-none}
 use Rattle.nvme_ctrl.specs.Notes.{Notes, Logged, Answered, EachNote, logged}
 use Rattle.nvme_ctrl.specs.Tags.{answer_of, answer_or, answers, is_of_device, is_passed}
 use Rattle.nvme_ctrl.specs.Account.{IsLawful, IsCarriedOut, HasTag, PostsOwn, PostsAnswer}

@@ -1,6 +1,6 @@
 -- An admin command was carried out: the controller stands at the notes of its pick, of what it makes, and of its answer.
 use Rattle.nvme_ctrl.specs.Account.{PostsOwn}
-use Rattle.std.proofs.Common.{◌≡◌, ℕ, suc, ◌<◌, ◌==◌, ◌&&◌, Bool, true, false, if◌then◌else◌, List, [], ◌∷◌, ◌++◌, length, map, drop, Some, None, refl, sym, ap, ◌∙◌, subst, arith, inl, inr, eq-eqb}
+use Rattle.std.proofs.Common.{◌≡◌, ℕ, suc, ◌<◌, ◌==◌, ◌&&◌, Bool, true, false, if◌then◌else◌, List, [], ◌∷◌, ◌++◌, length, map, drop, Some, None, refl, sym, ap, ◌∙◌, subst, arith, inl, inr}
 use Rattle.std.specs.Prelude.{slice_get, option_map, nat_lt, All}
 use Rattle.std.specs.List.{AllPairs}
 use Rattle.std.proofs.lemmas.Bool.{cases_eq, ne_eqb, and_parts, false_from_ne_true, eqb-true}
@@ -16,19 +16,18 @@ use Rattle.nvme_log.specs.declared.event.Event.TheVariants as event
 use Rattle.nvme_log.specs.declared.place.Place.{Place}
 use Rattle.nvme_log.specs.Rules.{FrontRules, Past}
 use Rattle.nvme_log.specs.Places.{fetched, is_aborted, fate_of, is_waiting, is_picked, unaborted_below, picked, waiting, observation_of, WasAborted, WasPicked, Waits}
-use Rattle.nvme_log.specs.Answers.{Answer, by_answers}
+use Rattle.nvme_log.specs.Answers.{Answer}
 use Rattle.nvme_log.specs.Effects.{made_by, is_effect}
-use Rattle.nvme_log.specs.Account.{PostsOwnBy}
 use Rattle.nvme_log.specs.Aborts.{is_index}
 use Rattle.nvme_ctrl.specs.kept.Pool.{slot_at}
 use Rattle.nvme_ctrl.specs.Notes.{Notes, Logged, Answered, EachNote, logged}
-use Rattle.nvme_ctrl.specs.Tags.{answer_of, answers, cookie_of, is_passed, marks_of}
+use Rattle.nvme_ctrl.specs.Tags.{answer_of, cookie_of, is_passed, marks_of}
 use Rattle.nvme_ctrl.specs.Account.{IsLawfulEvent, IsLawful, IsAccount, IsCarriedOut, FetchesSubmitted, PostsOnFreeSlot, PostsWhatIsThrough}
 use Rattle.nvme_ctrl.specs.Steps.{with_logged, picked_notes, HasCarriedOut}
 use Rattle.nvme_ctrl.specs.declared.slot.Slot.{Slot}
 use Rattle.nvme_ctrl.specs.declared.state.Controller.{Controller}
 use Rattle.nvme_ctrl.specs.kept.Content.{Candidate, Ready, PendingDelete, Content, with_ready}
-use Rattle.nvme_ctrl.specs.kept.Standing.{Holds, HasOwnStatus, IsInHand, hand_of, answer_in, HasItsStatus}
+use Rattle.nvme_ctrl.specs.kept.Standing.{Holds, HasOwnStatus, hand_of, answer_in, HasItsStatus}
 use Rattle.nvme_ctrl.specs.inside.Steps.{applied_to, told}
 use Rattle.nvme_ctrl.specs.inside.Next.{IsNext, EachNext}
 use Rattle.nvme_ctrl.specs.kept.Kept.{Item, Items, IsWaitingIn, candidate_of, untaken, IsDevices}

@@ -9,11 +9,10 @@ use Rattle.nvme_log.specs.declared.event.Event.TheVariants as event
 use Rattle.nvme_log.specs.Rules.{Past, Each}
 use Rattle.nvme_log.specs.Places.{places, waiting}
 use Rattle.nvme_log.specs.Queues.{pending}
-use Rattle.nvme_log.specs.Answers.{by_answers}
 use Rattle.nvme_log.specs.Histories.{arbitration_of}
 use Rattle.nvme_log.specs.Completions.{is_posted}
 use Rattle.nvme_log.specs.Effects.{EffectsAtOnce}
-use Rattle.nvme_log.specs.Account.{Deletes, PostsOwnBy}
+use Rattle.nvme_log.specs.Account.{Deletes}
 use Rattle.nvme_log.proofs.DeletionAnswers.{deletes_answered_last, none-picked_after}
 use Rattle.nvme_log.proofs.Members.{IsIn}
 use Rattle.nvme_log.proofs.Promise.{none_after_deletion}
@@ -21,7 +20,6 @@ use Rattle.nvme_log.proofs.Prefixes.{arbitration_of-append}
 use Rattle.nvme_ctrl.proofs.Posting.{posted_done}
 use Rattle.nvme_log.specs.Places.{fate_of, is_waiting}
 use Rattle.nvme_ctrl.specs.Notes.{Notes, Logged, logged}
-use Rattle.nvme_ctrl.specs.Tags.{answers}
 use Rattle.nvme_ctrl.specs.Account.{IsLawful}
 use Rattle.nvme_ctrl.specs.Laws.{DeletesAreAnsweredLast, PicksAreLawful, NoneFetchedAfterDeletion, NonePickedAfterDeletion}
 use Rattle.nvme_ctrl.proofs.Noted.{EachNote-after, logged-append, each-event}

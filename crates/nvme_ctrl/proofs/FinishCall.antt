@@ -11,7 +11,6 @@ use Rattle.nvme_admin.specs.declared.fields.TableFields.{TableFields}
 use Rattle.nvme_admin.specs.declared.verdict.SqEntry.{SqEntry}
 use Rattle.nvme_entry.specs.Status.{success}
 use Rattle.nvme_log.specs.declared.event.Event.TheVariants as event
-use Rattle.nvme_log.specs.declared.place.Place.{Place}
 use Rattle.nvme_log.specs.Queues.{Deletion, pending}
 use Rattle.nvme_log.specs.Completions.{unposted_of}
 use Rattle.std.proofs.lemmas.Option.{same_Some}
@@ -26,7 +25,7 @@ use Rattle.nvme_ctrl.specs.Steps.{HasFinished, NoneFinishable}
 use Rattle.nvme_ctrl.specs.declared.slot.Slot.{Slot}
 use Rattle.nvme_ctrl.specs.declared.state.Controller.{Controller}
 use Rattle.nvme_ctrl.specs.kept.Content.{Candidate, Ready, PendingDelete, Content, with_ready}
-use Rattle.nvme_ctrl.specs.kept.Standing.{Holds, IsPending, IsInHand, HasOwnStatus, hand_of, as_deletion, HasItsStatus}
+use Rattle.nvme_ctrl.specs.kept.Standing.{Holds, IsPending, HasOwnStatus, hand_of, as_deletion, HasItsStatus}
 use Rattle.nvme_ctrl.specs.kept.Kept.{Item, ReadyItem, Items, IsWaitingIn, IsOutIn, IsReadyIn, HasItems, HoldsTags, StandsAt, candidate_of, untaken, is_free, IsDevices}
 use Rattle.nvme_ctrl.specs.inside.Loose.{IsLoose, Keeps, ended, with_item}
 use Rattle.nvme_ctrl.specs.kept.Pool.{slot_at, item_at, put_item}

@@ -24,7 +24,6 @@ use Rattle.nvme_ctrl.specs.kept.Content.{Candidate, Attachment, Content}
 use Rattle.nvme_ctrl.specs.kept.Standing.{HoldsReady, IsInHand, Holds, held_by, hand_of}
 use Rattle.nvme_ctrl.specs.inside.Steps.{applied_to, verdict_at, oldest_named}
 use Rattle.nvme_ctrl.proofs.ServedPlaces.{aborts-leave, entry_stays}
-use Rattle.nvme_ctrl.proofs.OpenQueues.{io_region}
 use Rattle.nvme_ctrl.proofs.Readying.{waiting-unaborted}
 use Rattle.nvme_ctrl.proofs.ReadyAdmin.{aborts-other, served-apart, unused_apart}
 use Rattle.nvme_ctrl.proofs.ReadyHand.{times_held-append, All-taken}

@@ -1,5 +1,5 @@
 -- A pick whose commands are handed to the device leaves the queue table, and the statuses of what is ready.
-use Rattle.std.proofs.Common.{◌≡◌, ℕ, ◌==◌, ◌&&◌, Bool, true, false, if◌then◌else◌, List, [], ◌∷◌, ◌++◌, ◌⊎◌, inl, inr, Option, Some, None, refl, sym, ap, ◌∙◌, subst}
+use Rattle.std.proofs.Common.{◌≡◌, ℕ, ◌==◌, ◌&&◌, Bool, true, false, if◌then◌else◌, List, [], ◌∷◌, ◌⊎◌, inl, inr, Option, refl, sym, ap, ◌∙◌, subst}
 use Rattle.std.specs.Prelude.{not, slice_get}
 use Rattle.std.specs.List.{All}
 use Rattle.std.proofs.lemmas.Bool.{eq-eqb, ne_eqb, eqb-true, false_from_ne_true}
@@ -19,17 +19,15 @@ use Rattle.nvme_admin.specs.Checks.{status_over, rows_of, is_success, verdict_by
 use Rattle.nvme_admin.specs.Accepted.{effects_of, after_entry, queue_table, status_of, verdict_of}
 use Rattle.nvme_admin.specs.Standing.{TableView, Shows, StandsAt}
 use Rattle.nvme_admin.specs.declared.verdict.Verdict.TheVariants as verdict
-use Rattle.nvme_log.specs.declared.event.Event.{Event}
 use Rattle.nvme_log.specs.declared.event.Event.TheVariants as event
 use Rattle.nvme_log.specs.Rules.{FrontRules, Past}
 use Rattle.nvme_log.specs.Places.{waiting, fate_of, is_waiting}
 use Rattle.nvme_log.specs.Histories.{admin_entry, table_history}
-use Rattle.nvme_log.specs.Aborts.{is_index, taken_by, has_aborted}
-use Rattle.nvme_log.specs.Completions.{table_before}
+use Rattle.nvme_log.specs.Aborts.{is_index}
 use Rattle.nvme_log.specs.Effects.{made_by, made_of, made_last, effects_since}
 use Rattle.nvme_ctrl.specs.Own.{command_may_be_own, may_be_own}
 use Rattle.nvme_ctrl.proofs.OwnStatus.{Stays, waiting_wait}
-use Rattle.nvme_ctrl.proofs.StepKeeps.{IsHanded, IsPassing}
+use Rattle.nvme_ctrl.proofs.StepKeeps.{IsHanded}
 
 -- ---- the queue table
 -- a command reads a feature

@@ -14,7 +14,7 @@ use Rattle.nvme_log.specs.Rules.{FrontRules, Past}
 use Rattle.nvme_log.specs.Queues.{Queue, open_sq}
 use Rattle.nvme_log.specs.Places.{fetched, is_aborted}
 use Rattle.nvme_log.specs.Completions.{posted_to, phase_after}
-use Rattle.nvme_log.specs.Dispatches.{dispatched, dispatched_by}
+use Rattle.nvme_log.specs.Dispatches.{dispatched_by}
 use Rattle.nvme_log.specs.Answers.{Answer}
 use Rattle.nvme_log.specs.Effects.{is_effect}
 use Rattle.nvme_ctrl.specs.Notes.{Notes, Logged, Answered, logged}

@@ -6,7 +6,7 @@ use Rattle.nvme_ctrl.specs.Standing.{IsController}
 use Rattle.nvme_ctrl.specs.declared.own.OwnCommands.{OwnCommands}
 use Rattle.nvme_ctrl.specs.declared.slot.Slot.{Slot}
 use Rattle.nvme_ctrl.specs.declared.state.Controller.{Controller}
-use Rattle.nvme_ctrl.specs.kept.Kept.{HasNumbers, HasItems, HoldsDoorbells, HoldsTags, HoldsCookies, HoldsPassed, StandsAt}
+use Rattle.nvme_ctrl.specs.kept.Kept.{StandsAt}
 
 -- a controller stands where it stood, whatever is the device's
 pub owned : (rules : FrontRules) (late : Bool) (notes : Notes) (c : Controller) (slots : List Slot) (own : OwnCommands) → StandsAt rules late notes c slots

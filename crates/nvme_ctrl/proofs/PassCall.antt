@@ -1,12 +1,11 @@
 -- A pick of the admin queue whose command is passed on to the device: the controller stands at its log afterwards.
 use Rattle.std.proofs.Common.{◌||◌, ◌&&◌, ◌==◌, eqb-true}
-use Rattle.std.proofs.Common.{◌≡◌, ◌≢◌, ℕ, ◌+◌, ◌≤◌, Bool, true, false, List, [], ◌∷◌, ◌++◌, length, map, take, Option, Some, None, inr, refl, sym, ap, ◌∙◌, subst, not}
+use Rattle.std.proofs.Common.{◌≡◌, ℕ, ◌+◌, ◌≤◌, Bool, true, false, List, [], ◌∷◌, ◌++◌, map, take, Option, Some, None, inr, refl, sym, ap, ◌∙◌, subst, not}
 use Rattle.std.specs.Prelude.{slice_get, IsTrue}
 use Rattle.std.specs.List.{All}
 use Rattle.std.proofs.lemmas.Bool.{eq-eqb, or_left}
 use Rattle.std.proofs.lemmas.List.{append-nil}
-use Rattle.std.proofs.lemmas.List.Elements.{All-head, All-same, All-append, All-cons, All-nil, All-take, All-weaker}
-use Rattle.nvme_entry.specs.declared.submission.Sqe.{Sqe}
+use Rattle.std.proofs.lemmas.List.Elements.{All-head, All-same, All-append, All-cons, All-nil, All-weaker}
 use Rattle.nvme_arbiter.specs.Settings.{ArbitrationFields}
 use Rattle.nvme_arbiter.specs.History.{History, Picked}
 use Rattle.nvme_arbiter.specs.Lawful.{lawful_pick}
@@ -20,15 +19,14 @@ use Rattle.nvme_log.specs.declared.event.Event.TheVariants as event
 use Rattle.nvme_log.specs.declared.place.Place.{Place}
 use Rattle.nvme_log.specs.Limits.{max_outstanding}
 use Rattle.nvme_log.specs.Rules.{FrontRules, Past}
-use Rattle.nvme_log.specs.Queues.{Queue, admin_queue, open_sq}
-use Rattle.nvme_log.specs.Places.{waiting, observation_of, entry_at, fate_of, is_waiting, is_picked, is_aborted}
-use Rattle.nvme_log.specs.Histories.{admin_entry}
+use Rattle.nvme_log.specs.Queues.{Queue, open_sq}
+use Rattle.nvme_log.specs.Places.{waiting, observation_of, entry_at, fate_of, is_waiting, is_aborted}
 use Rattle.nvme_log.specs.Dispatches.{place_at, dispatched_by}
 use Rattle.nvme_log.proofs.Turns.{stays}
 use Rattle.nvme_ctrl.specs.Notes.{Notes, Passed, logged}
 use Rattle.nvme_ctrl.specs.Own.{may_be_own}
 use Rattle.nvme_ctrl.specs.Tags.{is_passed, handed, taken, answer_of}
-use Rattle.nvme_ctrl.specs.Account.{IsPassed, IsAccount}
+use Rattle.nvme_ctrl.specs.Account.{IsPassed}
 use Rattle.nvme_ctrl.specs.Steps.{HasStepped, picked_notes}
 use Rattle.nvme_ctrl.specs.declared.picks.Step.TheVariants as step
 use Rattle.nvme_ctrl.specs.declared.slot.Slot.{Slot}

@@ -1,18 +1,18 @@
 -- Which admin commands were passed on stays so.
-use Rattle.std.proofs.Common.{◌≡◌, ◌≢◌, ℕ, ◌==◌, ◌&&◌, ◌||◌, Bool, true, false, List, ◌∷◌, ◌++◌, length, Some, refl, sym, ap, ◌∙◌, subst}
+use Rattle.std.proofs.Common.{◌≡◌, ◌≢◌, ℕ, ◌==◌, ◌&&◌, ◌||◌, Bool, true, false, List, ◌++◌, Some, refl, sym, ap, ◌∙◌, subst}
 use Rattle.std.specs.Prelude.{not}
 use Rattle.std.specs.List.{All}
 use Rattle.std.proofs.lemmas.Bool.{eqb-true}
 use Rattle.std.proofs.lemmas.List.Elements.{All-weaker, All-append}
 use Rattle.nvme_log.specs.Places.{fate_of, is_waiting}
 use Rattle.nvme_log.specs.declared.place.Place.{Place}
-use Rattle.nvme_log.proofs.Members.{IsIn, in-all, in-append_left}
+use Rattle.nvme_log.proofs.Members.{in-all, in-append_left}
 use Rattle.nvme_ctrl.specs.Notes.{Notes, logged}
 use Rattle.nvme_ctrl.specs.Tags.{is_passed, is_of_device, handed, taken, holder}
 use Rattle.nvme_ctrl.specs.declared.state.Controller.{Controller}
 use Rattle.nvme_ctrl.specs.declared.state.Deletion.{Deletion}
 use Rattle.nvme_ctrl.specs.declared.slot.Slot.{Slot}
-use Rattle.nvme_ctrl.specs.kept.Kept.{Item, ReadyItem, Items, HoldsTags, IsDevices, IsReadyOf, HoldsPassed, is_passed_at, untaken, places_of}
+use Rattle.nvme_ctrl.specs.kept.Kept.{Item, Items, HoldsTags, IsDevices, IsReadyOf, HoldsPassed, is_passed_at, untaken, places_of}
 use Rattle.nvme_ctrl.proofs.OwnStatus.{All-unmap}
 use Rattle.nvme_ctrl.proofs.SlotItems.{All-parts}
 use Rattle.nvme_ctrl.proofs.TagLaws.{holder-taken}

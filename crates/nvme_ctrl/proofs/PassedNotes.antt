@@ -1,8 +1,7 @@
 -- Worked notes of an admin command that is passed on, lawful and not.
-use Rattle.std.proofs.Common.{◌≡◌, ℕ, true, false, [], ◌∷◌, Some, None, refl, sym, ap, ◌∙◌, subst, arith}
+use Rattle.std.proofs.Common.{◌≡◌, true, false, Some, None, refl, sym, ap, ◌∙◌, arith}
 use Rattle.std.proofs.lemmas.Option.{same_Some}
 use Rattle.nvme_entry.specs.Status.{StatusCode, success, invalid_opcode}
-use Rattle.nvme_entry.specs.declared.submission.Sqe.{Sqe}
 use Rattle.nvme_admin.specs.Accepted.{effects_of, queue_table, status_of, dw0_of, verdict_of}
 use Rattle.nvme_log.specs.declared.event.Event.TheVariants.{Post}
 use Rattle.nvme_log.specs.Answers.{Answer}

@@ -26,7 +26,7 @@ use Rattle.nvme_log.specs.Queues.{Queue}
 use Rattle.nvme_log.specs.declared.event.Event.TheVariants as event
 use Rattle.nvme_log.specs.declared.place.Place.{Place}
 use Rattle.nvme_log.specs.Places.{fetched, entry_at}
-use Rattle.nvme_log.specs.Dispatches.{place_at, dispatched, dispatched_by}
+use Rattle.nvme_log.specs.Dispatches.{place_at, dispatched_by}
 use Rattle.nvme_ctrl.specs.Notes.{Notes, logged}
 use Rattle.nvme_ctrl.specs.Doorbells.{submitted}
 use Rattle.nvme_ctrl.specs.Rings.{HasCounts}

@@ -1,13 +1,11 @@
 -- What a lawful completion says, of a command that was passed on and of any other.
-use Rattle.std.proofs.Common.{◌≡◌, ℕ, ◌+◌, ◌%◌, ◌==◌, ◌&&◌, ◌||◌, Bool, true, false, if◌then◌else◌, length, [], ◌∷◌, Option, Some, None, refl, sym, ap, ◌∙◌, subst}
+use Rattle.std.proofs.Common.{◌≡◌, ℕ, ◌%◌, ◌==◌, ◌&&◌, ◌||◌, Bool, true, false, length, [], ◌∷◌, Some, refl, sym, ap, ◌∙◌, subst}
 use Rattle.std.specs.Prelude.{not, MatchBool}
 use Rattle.std.proofs.lemmas.Bool.{eqb-true}
-use Rattle.nvme_entry.specs.Status.{StatusCode}
 use Rattle.nvme_entry.specs.declared.completion.Cqe.{Cqe}
 use Rattle.nvme_log.specs.declared.event.Event.TheVariants.{Post}
 use Rattle.nvme_log.specs.Rules.{FrontRules}
 use Rattle.nvme_log.specs.Places.{fetched, is_aborted, fate_of, is_waiting}
-use Rattle.nvme_log.specs.Dispatches.{place_at}
 use Rattle.nvme_log.specs.Completions.{is_posted, posted_to, phase_after}
 use Rattle.nvme_log.specs.Answers.{Answer, by_answers}
 use Rattle.nvme_log.specs.Account.{PostsOwnBy}

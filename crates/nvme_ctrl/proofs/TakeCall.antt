@@ -9,7 +9,7 @@ use Rattle.std.proofs.lemmas.Option.{same_Some}
 use Rattle.nvme_entry.specs.declared.submission.Sqe.{Sqe}
 use Rattle.nvme_log.specs.Rules.{FrontRules}
 use Rattle.nvme_log.specs.Places.{fetched}
-use Rattle.nvme_log.specs.Dispatches.{place_at, dispatched}
+use Rattle.nvme_log.specs.Dispatches.{place_at}
 use Rattle.nvme_log.specs.declared.place.Place.{Place}
 use Rattle.nvme_ctrl.specs.Notes.{Notes, Taken, logged}
 use Rattle.nvme_ctrl.specs.Doorbells.{submitted}

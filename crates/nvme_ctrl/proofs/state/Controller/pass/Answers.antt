@@ -1,7 +1,6 @@
 -- The pick of the board is the next pick, and its command is the device's.
-use Rattle.std.proofs.Common.{◌≡◌, ℕ, ◌+◌, ◌≤◌, sym, ap, subst, ◌∙◌, arith}
+use Rattle.std.proofs.Common.{◌≡◌, ℕ, ◌+◌, sym, ap, subst, ◌∙◌, arith}
 use Rattle.std.specs.Prelude.{slice_set, min}
-use Rattle.nvme_ctrl.specs.Own.{may_be_own}
 use Rattle.nvme_ctrl.specs.Steps.{HasStepped}
 use Rattle.nvme_ctrl.specs.declared.picks.Step.TheVariants as step
 use Rattle.nvme_ctrl.specs.declared.state.SqState.{SqState}
