@@ -1,7 +1,7 @@
 -- The command that deletes a queue is answered when all places of the queue are posted, and no place of the queue is picked after its deletion began.
 use Rattle.std.proofs.Common.{◌≡◌, ℕ, zero, suc, ◌==◌, ◌&&◌, ◌||◌, Bool, true, false, [], ◌∷◌, ◌++◌, length, Option, Some, None, refl, sym, ap, ◌∙◌, subst, ◌⊎◌, inl, inr}
 use Rattle.std.specs.List.{list_all}
-use Rattle.std.proofs.lemmas.Bool.{cases_Bool, eq-eqb, eqb-true, and_parts}
+use Rattle.std.proofs.lemmas.Bool.{cases_Bool, eq-eqb, eqb-true}
 use Rattle.std.proofs.lemmas.List.Folds.{list_all-append}
 use Rattle.std.proofs.lemmas.Option.{same_Some}
 use Rattle.nvme_entry.specs.declared.completion.Cqe.{Cqe}
@@ -10,14 +10,13 @@ use Rattle.nvme_log.specs.declared.event.Event.TheVariants.{Fetch, Pick, SetArbi
 use Rattle.nvme_log.specs.Rules.{Past, FrontRules, Each, upto}
 use Rattle.nvme_log.specs.Queues.{Deletion, pending, is_closed_region}
 use Rattle.nvme_log.specs.Places.{fetched, waiting, places, fate_of, is_waiting}
-use Rattle.nvme_log.specs.Answers.{Executor}
 use Rattle.nvme_log.specs.Aborts.{is_index}
 use Rattle.nvme_log.specs.Completions.{is_posted}
 use Rattle.nvme_log.specs.Effects.{made_last, effects_since, EffectsAtOnce}
-use Rattle.nvme_log.specs.Account.{Deletes, PostsOwnBy, deleting_place, latest_admin_place}
+use Rattle.nvme_log.specs.Account.{Deletes, deleting_place, latest_admin_place}
 use Rattle.nvme_log.proofs.Members.{IsIn}
 use Rattle.nvme_log.proofs.Posts.{all_below}
-use Rattle.nvme_log.proofs.Turns.{in-waits, stays}
+use Rattle.nvme_log.proofs.Turns.{in-waits}
 use Rattle.nvme_log.proofs.Promise.{pushed_some, last_once, closing_is_first}
 
 -- what holds of the numbers below n holds where it is weakened
