@@ -71,6 +71,12 @@ pub record LacksPlaces (rules : FrontRules) (notes : Notes) : Type 0 where
   pub next : IsNextPick rules notes (Some pick)
   pub places : max_outstanding < outstanding rules (logged notes) + places_for (logged notes) pick
 
+-- the next pick has more commands than there is room for
+pub record LacksRoom (rules : FrontRules) (notes : Notes) (room : ℕ) : Type 0 where
+  pub pick : Pick
+  pub next : IsNextPick rules notes (Some pick)
+  pub more : room < pick.n
+
 -- a step of arbitration. Where it did nothing, it leaves the controller as it was
 abbrev pub HasStepped : FrontRules → Bool → Notes → Step → Controller → List Slot → Type 0
 HasStepped rules late notes Idle c slots = Stands rules late notes c slots × IsNextPick rules notes None

@@ -36,7 +36,7 @@ impl Controller {
     ghost use Rattle.nvme_arbiter.specs.declared.pick.Pick.{Pick};
     ghost use Rattle.nvme_admin.specs.declared.effect.Effect.{Effect};
     ghost use Rattle.nvme_ctrl.specs.Own.{is_own, own_of, oldest_is_own};
-    ghost use Rattle.nvme_ctrl.specs.Steps.{IsNextPick, HasStepped};
+    ghost use Rattle.nvme_ctrl.specs.Steps.{IsNextPick, HasStepped, LacksRoom};
     ghost use Rattle.nvme_ctrl.specs.inside.Picks.{CanPickNow, oldest_entry, places_in};
     ghost use Rattle.nvme_ctrl.specs.declared.slot.Slot.{Slot};
     ghost use Rattle.nvme_ctrl.specs.declared.picks.Step.TheVariants as step;
@@ -157,5 +157,34 @@ impl Controller {
         } else {
             Step::Done(self.pick_admin(slots, pick))
         }
+    }
+
+    // Whether the next pick has more commands than this.
+    fn lacks_room(&self, slots: &[Slot], room: u16) -> bool
+        requires front { IsController self.now slots.now }
+        ensures lacks { (rules : FrontRules) (late : Bool) (notes : Notes) → Stands rules late notes self.now slots.now → result ≡ true → LacksRoom rules notes room }
+        ensures fits { (rules : FrontRules) (late : Bool) (notes : Notes) → Stands rules late notes self.now slots.now → result ≡ false → LacksRoom rules notes room → ⊥ }
+    {
+        match self.board.peek() {
+            Some(pick) => pick.n > room,
+            None => false,
+        }
+    }
+
+    /// Makes the next pick as `pick` does, where the device has room for all its commands, of which there are at most
+    /// `room`. None, which changes nothing, where the next pick has more: a pick is delayed, and never cut.
+    pub fn pick_within(&mut self, slots: &mut [Slot], room: u16) -> Option<Step>
+        requires front { IsController self.old slots.old }
+        ensures front { IsController self.new slots.new }
+        ensures none { result ≡ None → (self.new ≡ self.old) × (slots.new ≡ slots.old) }
+        ensures delayed { (rules : FrontRules) (late : Bool) (notes : Notes) → Stands rules late notes self.old slots.old → result ≡ None → LacksRoom rules notes room }
+        ensures own { own_of self.new ≡ own_of self.old }
+        ensures within { (rules : FrontRules) (late : Bool) (notes : Notes) → Stands rules late notes self.old slots.old → IfSome result (λ made. LacksRoom rules notes room → ⊥) }
+        ensures stands { (rules : FrontRules) (late : Bool) (notes : Notes) → Stands rules late notes self.old slots.old → IfSome result (λ made. HasStepped rules late notes made self.new slots.new) }
+    {
+        if self.lacks_room(slots, room) {
+            return None;
+        }
+        Some(self.pick(slots))
     }
 }
