@@ -8,9 +8,10 @@
  *
  *   Controller  nvmearb_ctrl_..: the front of a whole controller, which is driven by calls. It checks doorbells, says
  *               which slot is fetched next, arbitrates, carries out the admin commands on queues, features and Abort,
- *               hands the I/O commands to the device under tags, and gives each completion with its slot, SQHD and
- *               phase tag. Take it if you have a device: the device keeps registers, memory, data and interrupts.
- *               capi/examples/device.c is one.
+ *               hands I/O commands and the device's own admin commands, such as Identify, to the device under tags,
+ *               and gives each completion with its slot, SQHD and phase tag. Take it if you have a device: the device
+ *               keeps registers, memory, data and interrupts. capi/examples/device.c is a small one, and
+ *               capi/examples/nvme.c one that Linux takes for a disk in QEMU.
  *
  * or one of its parts by itself, if you have a front of your own:
  *
@@ -32,14 +33,16 @@
  *   2. When the host enables the controller (CC.EN), nvmearb_ctrl_init with the admin queues (AQA, ASQ, ACQ), and then
  *      nvmearb_ctrl_add_sq_region and nvmearb_ctrl_add_cq_region for each ring that a Create command may name. At a
  *      reset the same again: nothing of before is left.
- *   3. At each doorbell write nvmearb_ctrl_sq_tail or nvmearb_ctrl_cq_head.
- *   4. For each queue, while nvmearb_ctrl_fetch tells a slot: read the entry there, and nvmearb_ctrl_fetched.
- *   5. While nvmearb_ctrl_take gives a command, execute it. Where it has none, nvmearb_ctrl_pick, and begin again,
+ *   3. nvmearb_ctrl_own_opcode and nvmearb_ctrl_own_feature for the admin commands that the device answers itself, such
+ *      as Identify. Each nvmearb_ctrl_init forgets them.
+ *   4. At each doorbell write nvmearb_ctrl_sq_tail or nvmearb_ctrl_cq_head.
+ *   5. For each queue, while nvmearb_ctrl_fetch tells a slot: read the entry there, and nvmearb_ctrl_fetched.
+ *   6. While nvmearb_ctrl_take gives a command, execute it. Where it has none, nvmearb_ctrl_pick, and begin again,
  *      until that picks nothing either.
- *   6. nvmearb_ctrl_complete, or nvmearb_ctrl_complete_with, for each command that ends, in any order and at any time.
- *   7. For each completion region, while nvmearb_ctrl_post gives a completion: write its bytes into the slot of the
+ *   7. nvmearb_ctrl_complete, or nvmearb_ctrl_complete_with, for each command that ends, in any order and at any time.
+ *   8. For each completion region, while nvmearb_ctrl_post gives a completion: write its bytes into the slot of the
  *      ring, Command Dword 3 last, since it has the phase tag, and then send the interrupt.
- *   8. After a pick that began a deletion (NVMEARB_BEGIN_DELETE), nvmearb_ctrl_finish after each 7., until it ends the
+ *   9. After a pick that began a deletion (NVMEARB_BEGIN_DELETE), nvmearb_ctrl_finish after each 8., until it ends the
  *      deletion. Until then nothing is fetched or picked; what the device has of any queue may still be completed.
  *
  * What the caller of a controller owes, beside what is said of all calls below:
@@ -52,10 +55,13 @@
  *     nvmearb_ctrl_post. A ring of `slots` slots has 64 or 16 bytes for each, from the address of its region on.
  *   - It keeps the interrupt vector and enable bit of a Create (its Command Dword 11), if it has interrupts.
  *
- * What a controller doesn't do: it hands the device no admin command, and answers those that are none of its own with
- * 0/01, Invalid Command Opcode, so Identify too. A device that has such commands to answer takes the parts. A region is
- * used by one queue, once, until the next nvmearb_ctrl_init. At most 256 commands are picked and have no completion
- * posted.
+ * An admin command that is neither the controller's own nor the device's is answered with 0/01, Invalid Command Opcode,
+ * and Set and Get Features of such a feature identifier with 0/02, Invalid Field in Command.
+ *
+ * What a controller doesn't do: a Create names a region that was added before. There are at most NVMEARB_MAX_REGIONS of
+ * a kind until the next nvmearb_ctrl_init; an address is that of one, and one queue uses it, once. One deletion at a
+ * time is pending. At most 256 commands are picked and have no completion posted; an Asynchronous Event Request that
+ * the device holds is one of them.
  *
  * The order of calls, with a table and a board:
  *
@@ -421,7 +427,7 @@ typedef struct nvmearb_config {
 /* The kinds of steps. */
 #define NVMEARB_PICKED 1u      /* commands of an I/O queue were picked: nvmearb_ctrl_take gives them */
 #define NVMEARB_CARRIED_OUT 2u /* a command of the admin queue was picked and carried out by the controller */
-#define NVMEARB_PASSED 3u      /* a command of the admin queue was picked that is the device's: nvmearb_ctrl_take gives it */
+#define NVMEARB_PASSED 3u      /* an admin command was picked that is the device's: nvmearb_ctrl_take gives it */
 
 /* What a pick did. A field that a step of its kind doesn't have is 0. */
 typedef struct nvmearb_step {
@@ -661,24 +667,25 @@ uint32_t nvmearb_ctrl_init(nvmearb_ctrl *ctrl, nvmearb_slot *slots, size_t count
  */
 uint32_t nvmearb_ctrl_add_sq_region(nvmearb_ctrl *ctrl, uint64_t address, uint16_t slots, uint16_t *number);
 
+/* Adds a completion region, as nvmearb_ctrl_add_sq_region a submission region. */
+uint32_t nvmearb_ctrl_add_cq_region(nvmearb_ctrl *ctrl, uint64_t address, uint16_t slots, uint16_t *number);
+
 /*
- * From now on the admin commands of this opcode are the device's: they are picked in their turn, and the device takes and
- * completes them as it does commands of I/O queues, at any later time (an Asynchronous Event Request waits like this).
- * nvmearb_ctrl_init forgets it. The opcodes 00h, 01h, 04h, 05h, 08h, 09h and 0Ah stay the controller's, and so does a
- * fused command, which it refuses. The device checks PSDT.
+ * From now on the admin commands of this opcode are the device's: they are picked in their turn, and the device takes
+ * and completes them as it does commands of I/O queues, at any later time (an Asynchronous Event Request waits like
+ * this). nvmearb_ctrl_init forgets it. The opcodes 00h, 01h, 04h, 05h, 08h, 09h and 0Ah stay the controller's, and so
+ * does a fused command, which it refuses. The device checks PSDT.
  * NVMEARB_ESTATE if `ctrl` isn't valid.
  */
 uint32_t nvmearb_ctrl_own_opcode(nvmearb_ctrl *ctrl, uint8_t opcode);
 
 /*
- * From now on Set Features and Get Features of this feature identifier are the device's, as nvmearb_ctrl_own_opcode tells.
- * Of the controller's own features, 01h and 07h, just a Get Features is that selects (SEL) another value than the current.
+ * From now on Set Features and Get Features of this feature identifier are the device's, as nvmearb_ctrl_own_opcode
+ * tells. Of the controller's own features, 01h and 07h, just a Get Features is that selects (SEL) another value than
+ * the current one.
  * NVMEARB_ESTATE if `ctrl` isn't valid.
  */
 uint32_t nvmearb_ctrl_own_feature(nvmearb_ctrl *ctrl, uint8_t fid);
-
-/* Adds a completion region, as nvmearb_ctrl_add_sq_region a submission region. */
-uint32_t nvmearb_ctrl_add_cq_region(nvmearb_ctrl *ctrl, uint64_t address, uint16_t slots, uint16_t *number);
 
 /*
  * The host wrote the tail doorbell of a submission queue: `tail` is bits 15:00 of the value.
@@ -719,9 +726,9 @@ uint32_t nvmearb_ctrl_fetched(nvmearb_ctrl *ctrl, nvmearb_slot *slots, size_t co
 uint32_t nvmearb_ctrl_peek(const nvmearb_ctrl *ctrl, const nvmearb_slot *slots, size_t count, nvmearb_pick *pick);
 
 /*
- * Makes the next pick of arbitration, and writes what it did. An admin command is carried out at once: queues are
- * created, a deletion begins and the waiting commands of its queue are answered with 0/08, a waiting command is aborted
- * with 0/07, features are set and told.
+ * Makes the next pick of arbitration, and writes what it did. An admin command that isn't the device's is carried out
+ * at once: queues are created, a deletion begins and the waiting commands of its queue are answered with 0/08, a
+ * waiting command is aborted with 0/07, features are set and told.
  * NVMEARB_ESTATE, NVMEARB_EARG as nvmearb_ctrl_fetched; otherwise NVMEARB_BUSY if commands are picked and not taken or
  * a deletion is pending; otherwise NVMEARB_NONE if no command waits; otherwise NVMEARB_FULL if more than 256 commands
  * would be picked, or aborted by an Abort, and have no completion posted.

@@ -6,7 +6,7 @@
 #include "tell.h"
 
 _Static_assert(sizeof(nvmearb_slot) == 80, "nvmearb_slot");
-_Static_assert(sizeof(nvmearb_ctrl) == 5216, "nvmearb_ctrl");
+_Static_assert(sizeof(nvmearb_ctrl) == 5728, "nvmearb_ctrl");
 _Static_assert(sizeof(nvmearb_config) == 48 && offsetof(nvmearb_config, window) == 44, "nvmearb_config");
 _Static_assert(sizeof(nvmearb_step) == 36 && offsetof(nvmearb_step, pick) == 28, "nvmearb_step");
 _Static_assert(sizeof(nvmearb_command) == 72 && offsetof(nvmearb_command, tag) == 68, "nvmearb_command");
@@ -17,6 +17,9 @@ _Static_assert(sizeof(nvmearb_post) == 24 && offsetof(nvmearb_post, slot) == 22,
 #define ACQ 0x2000
 #define SQ 0x3000
 #define CQ 0x4000
+
+/* Identify, Asynchronous Event Request, and the feature identifier of Asynchronous Event Configuration. */
+enum { IDENTIFY = 0x06, EVENT_REQUEST = 0x0c, EVENTS = 0x0b };
 
 static nvmearb_ctrl ctrl;
 static nvmearb_slot slots[SLOTS], many[NVMEARB_MAX_SLOTS + 1];
@@ -328,43 +331,48 @@ struct call {
     nvmearb_command command;
     nvmearb_post post;
 };
-#define CALLS 17
-#define WITHOUT_SLOTS 8 /* the calls that take no slots come first */
+/* The calls. Those that take no slots come first. */
+enum { ADD_SQ, ADD_CQ, OWN_OPCODE, OWN_FEATURE, SQ_TAIL, CQ_HEAD, FETCH, SQ_OF, CQ_OF, WAITING, WITHOUT_SLOTS };
+enum { FETCHED = WITHOUT_SLOTS, PEEK, PICK, TAKE, COMPLETE, COMPLETE_WITH, POST, FINISH, COMMAND, CALLS };
 
 static uint32_t made(struct call *it, unsigned which)
 {
     switch (which) {
-    case 0:
+    case ADD_SQ:
         return nvmearb_ctrl_add_sq_region(it->ctrl, 0x1000u * (it->a % 8u), it->b, &it->number);
-    case 1:
+    case ADD_CQ:
         return nvmearb_ctrl_add_cq_region(it->ctrl, 0x1000u * (it->a % 8u), it->b, &it->number);
-    case 2:
+    case OWN_OPCODE:
+        return nvmearb_ctrl_own_opcode(it->ctrl, it->bytes[0]);
+    case OWN_FEATURE:
+        return nvmearb_ctrl_own_feature(it->ctrl, it->bytes[40]); /* (Command Dword 10) */
+    case SQ_TAIL:
         return nvmearb_ctrl_sq_tail(it->ctrl, it->a, it->b);
-    case 3:
+    case CQ_HEAD:
         return nvmearb_ctrl_cq_head(it->ctrl, it->a, it->b);
-    case 4:
+    case FETCH:
         return nvmearb_ctrl_fetch(it->ctrl, it->a, &it->number);
-    case 5:
+    case SQ_OF:
         return nvmearb_ctrl_sq(it->ctrl, it->a, &it->number);
-    case 6:
+    case CQ_OF:
         return nvmearb_ctrl_cq(it->ctrl, it->a, &it->number);
-    case 7:
+    case WAITING:
         return nvmearb_ctrl_waiting(it->ctrl, it->a, &it->number);
-    case 8:
+    case FETCHED:
         return nvmearb_ctrl_fetched(it->ctrl, it->slots, it->count, it->a, it->bytes, it->dw0);
-    case 9:
+    case PEEK:
         return nvmearb_ctrl_peek(it->ctrl, it->slots, it->count, &it->pick);
-    case 10:
+    case PICK:
         return nvmearb_ctrl_pick(it->ctrl, it->slots, it->count, &it->step);
-    case 11:
+    case TAKE:
         return nvmearb_ctrl_take(it->ctrl, it->slots, it->count, &it->command);
-    case 12:
+    case COMPLETE:
         return nvmearb_ctrl_complete(it->ctrl, it->slots, it->count, it->b, &it->status, it->dw0);
-    case 13:
+    case POST:
         return nvmearb_ctrl_post(it->ctrl, it->slots, it->count, it->a, &it->post);
-    case 14:
+    case FINISH:
         return nvmearb_ctrl_finish(it->ctrl, it->slots, it->count, &it->number);
-    case 15:
+    case COMMAND:
         return nvmearb_ctrl_command(it->ctrl, it->slots, it->count, it->b, &it->command);
     default:
         return nvmearb_ctrl_complete_with(it->ctrl, it->slots, it->count, it->b, &it->status, it->dw0, it->marks);
@@ -395,19 +403,20 @@ static void refused_states(void)
 /* An entry that may be one of each kind. */
 static void draw_entry(uint64_t *state, uint8_t *bytes)
 {
-    static const uint8_t opcodes[] = {0, 1, 2, 4, 5, 8, 9, 10, 0x0c, 0x80};
+    static const uint8_t opcodes[] = {0, 1, 2, 4, 5, 8, 9, 10, 0x0c, 0x80}, fids[] = {1, 7, 2, EVENTS};
     uint64_t word = drawn(state);
     uint8_t opcode = opcodes[word % sizeof opcodes];
     uint32_t low = (uint32_t)(word >> 8) % 4, high = opcode == NVMEARB_OPC_ABORT ? (uint32_t)(word >> 16) % 8 : 3;
     int is_feature = opcode == NVMEARB_OPC_SET_FEATURES || opcode == NVMEARB_OPC_GET_FEATURES;
-    uint32_t cdw10 = is_feature ? 1 + 6 * (low & 1) : high << 16 | low;
+    uint32_t select = (uint32_t)(word >> 52) % 2;
+    uint32_t cdw10 = is_feature ? select << 8 | fids[low] : high << 16 | low;
     uint32_t cdw11 = 0x10001 + (uint32_t)(word >> 48) % 8;
     entry_of(opcode, (uint16_t)(word >> 32) % 8, 0x1000 * (1 + (word >> 40) % 7), cdw10, cdw11, bytes);
 }
 
 /* How many commands the controller has, by what it answered. */
 struct tally {
-    unsigned held, out, done[CALLS];
+    unsigned held, out, passed, done[CALLS];
 };
 
 /* One call with drawn arguments over the controller. What it answers and writes fits the tally. */
@@ -415,7 +424,9 @@ static unsigned random_call(uint64_t *state, struct tally *tally)
 {
     static nvmearb_ctrl ctrl_before;
     static nvmearb_slot slots_before[SLOTS];
-    static const uint8_t often[CALLS] = {2, 2, 4, 8, 8, 9, 10, 10, 11, 11, 12, 16, 12, 13, 13, 14, 15};
+    static const uint8_t often[CALLS] = {SQ_TAIL, SQ_TAIL, FETCH,    FETCHED,  FETCHED,      FETCHED, PEEK,
+                                         PICK,    PICK,    TAKE,     TAKE,     TAKE,         POST,    POST,
+                                         FINISH,  COMMAND, COMPLETE, COMPLETE, COMPLETE_WITH};
     uint64_t word = drawn(state);
     struct call it = {.ctrl = &ctrl, .slots = slots, .count = SLOTS}, before;
     unsigned which = word & 1 ? often[(word >> 4) % CALLS] : (unsigned)(word >> 4) % CALLS, wrong = 0;
@@ -426,7 +437,7 @@ static unsigned random_call(uint64_t *state, struct tally *tally)
     it.count = (word >> 55 & 31) ? SLOTS : (size_t)(word >> 32); /* (where it is another, no slot is looked at) */
     it.status.sct = (uint8_t)(word >> 40) % 9;
     it.marks = (uint8_t)(word >> 48) % 5;
-    if (which == 0 || which == 1) {
+    if (which == ADD_SQ || which == ADD_CQ) {
         it.b = word & 8 ? 4 : it.b; /* (the rings that Creates name) */
     }
     draw_entry(state, it.bytes);
@@ -441,12 +452,13 @@ static unsigned random_call(uint64_t *state, struct tally *tally)
         return wrong + changes + (memcmp(&it, &before, sizeof it) != 0);
     }
     tally->done[which]++;
-    tally->held += (which == 8) - (which == 13);
-    tally->out += (which == 11) - (which == 12 || which == 16);
+    tally->held += (which == FETCHED) - (which == POST);
+    tally->out += (which == TAKE) - (which == COMPLETE || which == COMPLETE_WITH);
+    tally->passed += which == PICK && it.step.kind == NVMEARB_PASSED;
     wrong += tally->held > SLOTS || tally->out > tally->held;
-    wrong += (which == 11 || which == 15) && it.command.tag >= SLOTS;
-    wrong += which == 13 && (it.post.tag >= SLOTS || it.post.slot >= 8);
-    wrong += (which == 9 || (which >= 4 && which < 8) || which == 15) && changes;
+    wrong += (which == TAKE || which == COMMAND) && it.command.tag >= SLOTS;
+    wrong += which == POST && (it.post.tag >= SLOTS || it.post.slot >= 8);
+    wrong += (which == PEEK || (which >= FETCH && which < WITHOUT_SLOTS) || which == COMMAND) && changes;
     return wrong;
 }
 
@@ -467,7 +479,7 @@ static void random_calls(void)
     for (unsigned which = 0; which < CALLS; which++) {
         done += tally.done[which] > 0;
     }
-    CHECK(done == CALLS);
+    CHECK(done == CALLS && tally.passed > 0);
 }
 
 /* Calls over drawn bytes without the mark, with any arguments. Few slots are there, and none is looked at. */
@@ -519,6 +531,76 @@ static void marks(void)
     CHECK(posted_with(0, 4, 5, 14, 1, unknown, 0, 8));
 }
 
+/* A command of the admin queue is passed on to the device, which takes it under the tag that is told. */
+static int passed_on(uint8_t opcode, uint16_t cid, uint16_t *tag)
+{
+    nvmearb_step step;
+    nvmearb_command it;
+    int is_well = nvmearb_ctrl_pick(&ctrl, slots, SLOTS, &step) == NVMEARB_OK && step.kind == NVMEARB_PASSED &&
+                  step.pick.qid == 0 && step.pick.n == 1 && step.pick.fresh == 0 && step.answer.verdict == 0;
+    is_well = is_well && picks_none(NVMEARB_BUSY) && nvmearb_ctrl_take(&ctrl, slots, SLOTS, &it) == NVMEARB_OK;
+    *tag = it.tag;
+    return is_well && it.entry.opcode == opcode && it.entry.cid == cid && it.cookie == 1000u + cid;
+}
+
+/* An announced Identify is the device's. A fused one isn't, nor is a command of the controller's own. */
+static void own_opcodes(void)
+{
+    static const nvmearb_status unknown = {0, NVMEARB_SC_INVALID_OPCODE}, field = {0, NVMEARB_SC_INVALID_FIELD};
+    static const nvmearb_status none = {0, NVMEARB_SC_INVALID_NAMESPACE};
+    uint8_t bytes[NVMEARB_SQE_BYTES];
+    uint16_t tags[3], number;
+    CHECK(is_prepared(NVMEARB_ROUND_ROBIN) && nvmearb_ctrl_sq_tail(&ctrl, 0, 3) == NVMEARB_OK);
+    CHECK(fetched(0, 2, IDENTIFY, 12, 0x5000, 1, 0) && carried_out(NVMEARB_DONE)); /* it isn't announced yet */
+    CHECK(posted_with(0, 2, 3, 12, 1, unknown, 0, 8));
+    CHECK(nvmearb_ctrl_own_opcode(&ctrl, IDENTIFY) == NVMEARB_OK);
+    CHECK(nvmearb_ctrl_own_opcode(&ctrl, NVMEARB_OPC_CREATE_CQ) == NVMEARB_OK);
+    CHECK(nvmearb_ctrl_own_opcode(&ctrl, EVENT_REQUEST) == NVMEARB_OK);
+    CHECK(nvmearb_ctrl_add_cq_region(&ctrl, 0x6000, 4, &number) == NVMEARB_OK && number == 2);
+    CHECK(nvmearb_ctrl_sq_tail(&ctrl, 0, 0) == NVMEARB_OK && fetched(0, 3, EVENT_REQUEST, 13, 0, 0, 0));
+    CHECK(fetched(0, 4, IDENTIFY, 14, 0x5000, 1, 0) && fetched(0, 5, IDENTIFY, 15, 0x5000, 0, 0));
+    CHECK(passed_on(EVENT_REQUEST, 13, &tags[0]) && passed_on(IDENTIFY, 14, &tags[1]));
+    entry_of(IDENTIFY, 16, 0x5000, 1, 0, bytes);
+    bytes[1] = 1; /* fused */
+    CHECK(nvmearb_ctrl_fetched(&ctrl, slots, SLOTS, 0, bytes, 1016) == NVMEARB_OK);
+    CHECK(fetched(0, 7, NVMEARB_OPC_CREATE_CQ, 17, 0x6000, 0x00030002, 0x00000001));
+    CHECK(passed_on(IDENTIFY, 15, &tags[2]) && carried_out(NVMEARB_DONE) && carried_out(NVMEARB_OPEN_CQ));
+    /* the device answers in another order, and after commands that came later */
+    CHECK(posted_with(0, 3, 0, 16, 1, field, 0, 8) && posted(0, 4, 0, 17, 1, success, 0) && none_to_post(0));
+    CHECK(completes_with(tags[2], none, NVMEARB_DNR, NVMEARB_OK) && completes(tags[1], success, 9, NVMEARB_OK));
+    CHECK(posted_with(0, 5, 0, 15, 1, none, 0, 8) && posted(0, 6, 0, 14, 1, success, 9) && none_to_post(0));
+    CHECK(completes(tags[0], success, 0x10001, NVMEARB_OK) && completes(tags[0], success, 0, NVMEARB_NONE));
+    CHECK(posted(0, 7, 0, 13, 1, success, 0x10001) && none_to_post(0));
+}
+
+/* Announced features are the device's, and of the controller's own all values but the current. Init forgets them. */
+static void own_features(void)
+{
+    static const nvmearb_status unknown = {0, NVMEARB_SC_INVALID_OPCODE}, field = {0, NVMEARB_SC_INVALID_FIELD};
+    static const nvmearb_status sequence = {0, NVMEARB_SC_SEQUENCE_ERROR};
+    uint16_t tags[2];
+    CHECK(is_prepared(NVMEARB_ROUND_ROBIN) && nvmearb_ctrl_sq_tail(&ctrl, 0, 6) == NVMEARB_OK);
+    CHECK(nvmearb_ctrl_own_feature(&ctrl, NVMEARB_FID_ARBITRATION) == NVMEARB_OK);
+    CHECK(nvmearb_ctrl_own_feature(&ctrl, NVMEARB_FID_NUMBER_OF_QUEUES) == NVMEARB_OK);
+    CHECK(nvmearb_ctrl_own_feature(&ctrl, EVENTS) == NVMEARB_OK);
+    CHECK(fetched(0, 2, NVMEARB_OPC_GET_FEATURES, 12, 0, 0x001, 0) && carried_out(NVMEARB_DONE));
+    CHECK(fetched(0, 3, NVMEARB_OPC_GET_FEATURES, 13, 0, 0x101, 0));
+    CHECK(passed_on(NVMEARB_OPC_GET_FEATURES, 13, &tags[0]));
+    CHECK(fetched(0, 4, NVMEARB_OPC_SET_FEATURES, 14, 0, 0x007, 0x10001) && carried_out(NVMEARB_DONE));
+    CHECK(fetched(0, 5, NVMEARB_OPC_SET_FEATURES, 15, 0, EVENTS, 0x100));
+    CHECK(passed_on(NVMEARB_OPC_SET_FEATURES, 15, &tags[1]));
+    CHECK(completes(tags[1], success, 0, NVMEARB_OK) && completes(tags[0], success, 3, NVMEARB_OK));
+    CHECK(posted(0, 2, 6, 12, 1, success, 7) && posted_with(0, 3, 6, 14, 1, sequence, 0, 8));
+    CHECK(posted(0, 4, 6, 15, 1, success, 0) && posted(0, 5, 6, 13, 1, success, 3) && none_to_post(0));
+    CHECK(nvmearb_ctrl_own_opcode(&ctrl, IDENTIFY) == NVMEARB_OK);
+    CHECK(is_prepared(NVMEARB_ROUND_ROBIN) && nvmearb_ctrl_sq_tail(&ctrl, 0, 5) == NVMEARB_OK);
+    CHECK(fetched(0, 2, IDENTIFY, 12, 0x5000, 1, 0) && carried_out(NVMEARB_DONE));
+    CHECK(fetched(0, 3, NVMEARB_OPC_GET_FEATURES, 13, 0, 0x101, 0) && carried_out(NVMEARB_DONE));
+    CHECK(fetched(0, 4, NVMEARB_OPC_GET_FEATURES, 14, 0, EVENTS, 0) && carried_out(NVMEARB_DONE));
+    CHECK(posted_with(0, 2, 5, 12, 1, unknown, 0, 8) && posted(0, 3, 5, 13, 1, success, 7));
+    CHECK(posted_with(0, 4, 5, 14, 1, field, 0, 8));
+}
+
 int main(void)
 {
     wrong_configurations();
@@ -527,6 +609,8 @@ int main(void)
     abort_and_deletion();
     windows_and_slots();
     marks();
+    own_opcodes();
+    own_features();
     refused_states();
     random_calls();
     random_states();

@@ -48,6 +48,9 @@ pub enum Step {
     /// but to end a deletion ([`Verdict::BeginDelete`](crate::Verdict::BeginDelete), by [`Controller::finish`]). Its
     /// completion becomes ready by itself.
     CarriedOut(Answer),
+    /// A command of the admin queue was picked that is the device's ([`Controller::own_opcode`],
+    /// [`Controller::own_feature`]): [`Controller::take`] gives it.
+    Passed(Pick),
 }
 
 impl Step {
@@ -55,6 +58,7 @@ impl Step {
         match fields.kind {
             sys::NVMEARB_PICKED => Step::Picked(Pick::of(&fields.pick)),
             sys::NVMEARB_CARRIED_OUT => Step::CarriedOut(Answer::of(&fields.answer)),
+            sys::NVMEARB_PASSED => Step::Passed(Pick::of(&fields.pick)),
             kind => panic!("libnvmearb told a step of the kind {kind}, which can't be"),
         }
     }
@@ -116,8 +120,8 @@ impl Post {
         Post { bytes, cookie, tag, slot }
     }
 
-    /// Its marks: those that the device gave, or for what the controller answers itself Do Not Retry where a retry can't
-    /// change the status.
+    /// Its marks: those that the device gave, or for what the controller answers itself Do Not Retry where a retry
+    /// can't change the status.
     pub fn marks(&self) -> Marks {
         Marks { more: self.bytes[15] & 0x40 != 0, do_not_retry: self.bytes[15] & 0x80 != 0 }
     }
@@ -129,20 +133,24 @@ impl Post {
 ///
 /// 1. When the host enables the controller (CC.EN), [`Controller::new`] or [`Controller::reset`] with the admin queues,
 ///    and then [`Controller::add_sq_region`] and [`Controller::add_cq_region`] for each ring that a Create may name.
-/// 2. At each doorbell write [`Controller::sq_tail`] or [`Controller::cq_head`].
-/// 3. For each queue, while [`Controller::fetch`] tells a slot: read the entry there, and [`Controller::fetched`].
-/// 4. While [`Controller::take`] gives a command, execute it. Where it has none, [`Controller::pick`], and begin again,
+/// 2. [`Controller::own_opcode`] and [`Controller::own_feature`] for the admin commands that the device answers itself,
+///    such as Identify.
+/// 3. At each doorbell write [`Controller::sq_tail`] or [`Controller::cq_head`].
+/// 4. For each queue, while [`Controller::fetch`] tells a slot: read the entry there, and [`Controller::fetched`].
+/// 5. While [`Controller::take`] gives a command, execute it. Where it has none, [`Controller::pick`], and begin again,
 ///    until that picks nothing either.
-/// 5. [`Controller::complete`] or [`Controller::complete_with`] for each command that ends, in any order and at any
+/// 6. [`Controller::complete`] or [`Controller::complete_with`] for each command that ends, in any order and at any
 ///    time.
-/// 6. For each completion region, while [`Controller::post`] gives a completion: write it into the slot of the ring,
+/// 7. For each completion region, while [`Controller::post`] gives a completion: write it into the slot of the ring,
 ///    and then send the interrupt.
-/// 7. After a pick that began a deletion, [`Controller::finish`] after each 6., until it ends the deletion. Until then
+/// 8. After a pick that began a deletion, [`Controller::finish`] after each 7., until it ends the deletion. Until then
 ///    nothing is fetched or picked; what the device has of any queue may still be completed.
 ///
-/// It hands the device no admin command, and answers those that are none of its own with
-/// [`Status::INVALID_OPCODE`], so Identify too. A device that has such commands to answer takes the parts. A region is
-/// used by one queue, once, until the next reset. At most 256 commands are picked and have no completion posted.
+/// An admin command that is neither the controller's own nor the device's is answered with [`Status::INVALID_OPCODE`],
+/// and Set and Get Features of such a feature identifier with [`Status::INVALID_FIELD`]. A Create names a region that
+/// was added before. There are at most 65 of a kind until the next reset; an address is that of one, and one queue uses
+/// it, once. One deletion at a time is pending. At most 256 commands are picked and have no completion posted; an
+/// Asynchronous Event Request that the device holds is one of them.
 ///
 /// It isn't `Clone`: two copies would post the same completions.
 ///
@@ -161,8 +169,9 @@ impl Post {
 ///     },
 ///     16,
 /// )?;
-/// let entry = Sqe { opcode: admin_opcode::GET_FEATURES, cid: 5, cdw10: feature::ARBITRATION.into(), ..Sqe::default()
-/// }; ctrl.sq_tail(0, 1)?; // the host submitted a command to the admin queue
+/// let entry =
+///     Sqe { opcode: admin_opcode::GET_FEATURES, cid: 5, cdw10: feature::ARBITRATION.into(), ..Sqe::default() };
+/// ctrl.sq_tail(0, 1)?; // the host submitted a command to the admin queue
 /// assert_eq!(ctrl.fetch(0), Some(0)); // its entry is in slot 0
 /// ctrl.fetched(0, &entry.to_bytes(), 0)?;
 /// ctrl.pick()?; // the controller carries it out
@@ -224,6 +233,24 @@ impl Controller {
         written(|number| unsafe { sys::nvmearb_ctrl_add_cq_region(&mut *self.ctrl, address, slots, number) })
     }
 
+    /// From now on the admin commands of this opcode are the device's: they are picked in their turn
+    /// ([`Step::Passed`]), and the device takes and completes them as it does commands of I/O queues, at any later
+    /// time. An Asynchronous Event Request waits like this. [`Controller::reset`] forgets it. The opcodes 00h, 01h,
+    /// 04h, 05h, 08h, 09h and 0Ah stay the controller's, and so does a fused command, which it refuses. The device
+    /// checks PSDT.
+    pub fn own_opcode(&mut self, opcode: u8) {
+        // SAFETY: references.
+        sure(checked(unsafe { sys::nvmearb_ctrl_own_opcode(&mut *self.ctrl, opcode) }));
+    }
+
+    /// From now on Set Features and Get Features of this feature identifier are the device's, as
+    /// [`Controller::own_opcode`] tells. Of the controller's own features, 01h and 07h, just a Get Features is that
+    /// selects (SEL) another value than the current one.
+    pub fn own_feature(&mut self, fid: u8) {
+        // SAFETY: references.
+        sure(checked(unsafe { sys::nvmearb_ctrl_own_feature(&mut *self.ctrl, fid) }));
+    }
+
     /// The host wrote the tail doorbell of a submission queue: `tail` is bits 15:00 of the value.
     ///
     /// [`DoorbellError::Register`]: the queue isn't open or is closing. Otherwise [`DoorbellError::Value`]: the ring
@@ -270,10 +297,10 @@ impl Controller {
             .map(Pick::of)
     }
 
-    /// Makes the next pick of arbitration. None if no command waits. An admin command is carried out at once: queues
-    /// are created, a deletion begins and the waiting commands of its queue are answered with
-    /// [`Status::ABORTED_BY_DELETION`], a waiting command is aborted with [`Status::ABORT_REQUESTED`], features are set
-    /// and told.
+    /// Makes the next pick of arbitration. None if no command waits. An admin command that isn't the device's is
+    /// carried out at once: queues are created, a deletion begins and the waiting commands of its queue are answered
+    /// with [`Status::ABORTED_BY_DELETION`], a waiting command is aborted with [`Status::ABORT_REQUESTED`], features
+    /// are set and told.
     ///
     /// [`Error::Busy`]: commands are picked and not taken, or a deletion is pending. [`Error::Full`]: more than 256
     /// commands would be picked, or aborted by an Abort, and have no completion posted.

@@ -6,9 +6,10 @@
 //! Which layer to take:
 //!
 //! * [`Controller`]: the front of a whole controller, which is driven by calls. It checks doorbells, says which slot is
-//!   fetched next, arbitrates, carries out the admin commands on queues, features and Abort, hands the I/O commands
-//!   to the device under tags, and gives each completion with its slot, SQHD and phase tag. Take it if you have a
-//!   device: the device keeps registers, memory, data and interrupts. `examples/device.rs` is one.
+//!   fetched next, arbitrates, carries out the admin commands on queues, features and Abort, hands I/O commands and the
+//!   device's own admin commands, such as Identify, to the device under tags, and gives each completion with its slot,
+//!   SQHD and phase tag. Take it if you have a device: the device keeps registers, memory, data and interrupts.
+//!   `examples/device.rs` is one.
 //!
 //! or one of its parts by itself, if you have a front of your own:
 //!

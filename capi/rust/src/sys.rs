@@ -300,7 +300,7 @@ pub const NVMEARB_MAX_SLOTS: usize = 65535;
 pub struct nvmearb_ctrl {
     pub mark: u64,
     pub count: usize,
-    pub words: [u64; 650],
+    pub words: [u64; 714],
 }
 
 #[repr(C)]
@@ -317,6 +317,7 @@ pub struct nvmearb_config {
 
 pub const NVMEARB_PICKED: u32 = 1;
 pub const NVMEARB_CARRIED_OUT: u32 = 2;
+pub const NVMEARB_PASSED: u32 = 3;
 
 pub const NVMEARB_DNR: u8 = 1;
 pub const NVMEARB_MORE: u8 = 2;
@@ -375,7 +376,7 @@ const _: () = {
     assert!(size_of::<nvmearb_answer>() == 24);
     assert!(size_of::<nvmearb_queue>() == 8);
     assert!(size_of::<nvmearb_slot>() == 80);
-    assert!(size_of::<nvmearb_ctrl>() == 5216);
+    assert!(size_of::<nvmearb_ctrl>() == 5728);
     assert!(size_of::<nvmearb_config>() == 48);
     assert!(size_of::<nvmearb_step>() == 36);
     assert!(size_of::<nvmearb_command>() == 72);
@@ -427,6 +428,8 @@ extern "C" {
     pub fn nvmearb_ctrl_init(ctrl: *mut nvmearb_ctrl, slots: *mut nvmearb_slot, count: usize, config: *const nvmearb_config) -> u32;
     pub fn nvmearb_ctrl_add_sq_region(ctrl: *mut nvmearb_ctrl, address: u64, slots: u16, number: *mut u16) -> u32;
     pub fn nvmearb_ctrl_add_cq_region(ctrl: *mut nvmearb_ctrl, address: u64, slots: u16, number: *mut u16) -> u32;
+    pub fn nvmearb_ctrl_own_opcode(ctrl: *mut nvmearb_ctrl, opcode: u8) -> u32;
+    pub fn nvmearb_ctrl_own_feature(ctrl: *mut nvmearb_ctrl, fid: u8) -> u32;
     pub fn nvmearb_ctrl_sq_tail(ctrl: *mut nvmearb_ctrl, qid: u16, tail: u16) -> u32;
     pub fn nvmearb_ctrl_cq_head(ctrl: *mut nvmearb_ctrl, cqid: u16, head: u16) -> u32;
     pub fn nvmearb_ctrl_fetch(ctrl: *const nvmearb_ctrl, qid: u16, slot: *mut u16) -> u32;

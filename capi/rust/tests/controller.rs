@@ -1,6 +1,6 @@
 // SPDX-License-Identifier: MIT
 //! A controller: each call, and each refusal. Values are the specification's.
-use nvmearb::admin_opcode::{ABORT, CREATE_CQ, CREATE_SQ, DELETE_SQ, GET_FEATURES};
+use nvmearb::admin_opcode::{ABORT, CREATE_CQ, CREATE_SQ, DELETE_SQ, GET_FEATURES, SET_FEATURES};
 use nvmearb::{
     feature, io_opcode, Config, Controller, Cqe, DoorbellError, Error, Marks, Mechanism, Pick, Region, Sqe, Status,
 };
@@ -11,6 +11,9 @@ const ACQ: u64 = 0x2000;
 const SQ: u64 = 0x3000;
 const CQ: u64 = 0x4000;
 const SLOTS: usize = 16;
+/// The opcode of Identify, and the feature identifier of Asynchronous Event Configuration.
+const IDENTIFY: u8 = 0x06;
+const EVENTS: u8 = 0x0b;
 
 /// Admin queues of 8 slots, at most 4 I/O queues of a kind, no limit on the burst, a window of 4.
 fn config(mechanism: Mechanism) -> Config {
@@ -48,12 +51,24 @@ fn picked(ctrl: &mut Controller, n: u16) {
     assert_eq!(ctrl.pick(), Ok(Some(Step::Picked(pick))));
 }
 
-/// The device takes the Read of a command identifier. The answer is its tag.
-fn taken(ctrl: &mut Controller, cid: u16) -> u16 {
+/// The device takes a command. The answer is its tag.
+fn taken_entry(ctrl: &mut Controller, entry: Sqe) -> u16 {
     let command = ctrl.take().expect("a command was picked");
-    assert_eq!((command.entry, command.cookie), (read(cid), 1000 + u32::from(cid)));
+    assert_eq!((command.entry, command.cookie), (entry, 1000 + u32::from(entry.cid)));
     assert_eq!(ctrl.command(command.tag), Some(command));
     command.tag
+}
+
+/// The device takes the Read of a command identifier.
+fn taken(ctrl: &mut Controller, cid: u16) -> u16 {
+    taken_entry(ctrl, read(cid))
+}
+
+/// A command of the admin queue is passed on to the device, which takes it.
+fn passed_on(ctrl: &mut Controller, entry: Sqe) -> u16 {
+    assert_eq!(ctrl.pick(), Ok(Some(Step::Passed(Pick { qid: 0, n: 1, fresh: false }))));
+    assert_eq!(ctrl.pick(), Err(Error::Busy));
+    taken_entry(ctrl, entry)
 }
 
 /// A completion is posted in a region: its slot, SQHD, command identifier, phase tag, status and Command Dword 0. It has
@@ -221,6 +236,64 @@ fn reset_leaves_nothing_of_before() {
     fetched(&mut ctrl, 0, 0, admin(GET_FEATURES, 1, 0, feature::ARBITRATION.into(), 0));
     assert_eq!(carried_out(&mut ctrl), Verdict::Done);
     posted(&mut ctrl, 0, (0, 1, 1, true, Status::SUCCESS, 7));
+}
+
+#[test]
+fn announced_opcodes_are_the_devices() {
+    let mut ctrl = prepared(Mechanism::RoundRobin);
+    let identify = |cid| admin(IDENTIFY, cid, 0x5000, 1, 0);
+    assert_eq!(ctrl.sq_tail(0, 3), Ok(()));
+    fetched(&mut ctrl, 0, 2, identify(12));
+    assert_eq!(carried_out(&mut ctrl), Verdict::Done); // it isn't announced yet
+    posted_with(&mut ctrl, 0, (2, 3, 12, true, Status::INVALID_OPCODE, 0), Marks::DO_NOT_RETRY);
+    [IDENTIFY, CREATE_CQ].into_iter().for_each(|opcode| ctrl.own_opcode(opcode));
+    assert_eq!((ctrl.add_cq_region(0x6000, 4), ctrl.sq_tail(0, 7)), (Ok(2), Ok(())));
+    fetched(&mut ctrl, 0, 3, identify(13));
+    fetched(&mut ctrl, 0, 4, identify(14));
+    fetched(&mut ctrl, 0, 5, Sqe { flags: 1, ..identify(15) }); // fused
+    fetched(&mut ctrl, 0, 6, admin(CREATE_CQ, 16, 0x6000, 0x0003_0002, 0x0000_0001));
+    let first = passed_on(&mut ctrl, identify(13));
+    let second = passed_on(&mut ctrl, identify(14));
+    assert_eq!(carried_out(&mut ctrl), Verdict::Done);
+    assert_eq!(carried_out(&mut ctrl), Verdict::OpenCq { qid: 2, region: 2 });
+    // the device answers in another order
+    assert_eq!(ctrl.complete(second, Status::SUCCESS, 9), Ok(()));
+    assert_eq!(ctrl.complete_with(first, Status::INVALID_NAMESPACE, 5, Marks::DO_NOT_RETRY), Ok(()));
+    assert_eq!(ctrl.complete(first, Status::SUCCESS, 0), Err(Error::Missing));
+    posted_with(&mut ctrl, 0, (3, 7, 15, true, Status::INVALID_FIELD, 0), Marks::DO_NOT_RETRY);
+    posted(&mut ctrl, 0, (4, 7, 16, true, Status::SUCCESS, 0));
+    posted(&mut ctrl, 0, (5, 7, 14, true, Status::SUCCESS, 9));
+    posted_with(&mut ctrl, 0, (6, 7, 13, true, Status::INVALID_NAMESPACE, 5), Marks::DO_NOT_RETRY);
+}
+
+#[test]
+fn announced_features_are_the_devices_and_a_reset_forgets_them() {
+    let mut ctrl = prepared(Mechanism::RoundRobin);
+    let default_arbitration = admin(GET_FEATURES, 13, 0, 0x100 + u32::from(feature::ARBITRATION), 0);
+    for fid in [feature::ARBITRATION, feature::NUMBER_OF_QUEUES, EVENTS] {
+        ctrl.own_feature(fid);
+    }
+    assert_eq!(ctrl.sq_tail(0, 6), Ok(()));
+    fetched(&mut ctrl, 0, 2, admin(GET_FEATURES, 12, 0, feature::ARBITRATION.into(), 0));
+    fetched(&mut ctrl, 0, 3, default_arbitration);
+    fetched(&mut ctrl, 0, 4, admin(SET_FEATURES, 14, 0, feature::NUMBER_OF_QUEUES.into(), 0x0001_0001));
+    fetched(&mut ctrl, 0, 5, admin(SET_FEATURES, 15, 0, EVENTS.into(), 0x100));
+    assert_eq!(carried_out(&mut ctrl), Verdict::Done);
+    let first = passed_on(&mut ctrl, default_arbitration);
+    assert_eq!(carried_out(&mut ctrl), Verdict::Done);
+    let second = passed_on(&mut ctrl, admin(SET_FEATURES, 15, 0, EVENTS.into(), 0x100));
+    assert_eq!((ctrl.complete(first, Status::SUCCESS, 3), ctrl.complete(second, Status::SUCCESS, 0)), (Ok(()), Ok(())));
+    posted(&mut ctrl, 0, (2, 6, 12, true, Status::SUCCESS, 7));
+    posted_with(&mut ctrl, 0, (3, 6, 14, true, Status::SEQUENCE_ERROR, 0), Marks::DO_NOT_RETRY);
+    posted(&mut ctrl, 0, (4, 6, 13, true, Status::SUCCESS, 3));
+    posted(&mut ctrl, 0, (5, 6, 15, true, Status::SUCCESS, 0));
+    ctrl.own_opcode(IDENTIFY);
+    assert_eq!((ctrl.reset(&config(Mechanism::RoundRobin)), ctrl.sq_tail(0, 2)), (Ok(()), Ok(())));
+    fetched(&mut ctrl, 0, 0, admin(IDENTIFY, 1, 0, 1, 0));
+    fetched(&mut ctrl, 0, 1, admin(GET_FEATURES, 2, 0, EVENTS.into(), 0));
+    assert_eq!((carried_out(&mut ctrl), carried_out(&mut ctrl)), (Verdict::Done, Verdict::Done));
+    posted_with(&mut ctrl, 0, (0, 2, 1, true, Status::INVALID_OPCODE, 0), Marks::DO_NOT_RETRY);
+    posted_with(&mut ctrl, 0, (1, 2, 2, true, Status::INVALID_FIELD, 0), Marks::DO_NOT_RETRY);
 }
 
 #[test]

@@ -1,6 +1,7 @@
 // SPDX-License-Identifier: MIT
 //! Random calls, with random arguments: none panics, and each command gets one completion, its own.
-use nvmearb::{Admin, Board, Config, Controller, Cqe, Marks, Mechanism, Priority, Region, Sqe, Status, Table, Verdict};
+use nvmearb::Verdict;
+use nvmearb::{Admin, Board, Config, Controller, Cqe, Marks, Mechanism, Priority, Region, Sqe, Status, Step, Table};
 use std::collections::HashMap;
 
 /// A fixed sequence of numbers (splitmix64).
@@ -44,12 +45,13 @@ impl Drawn {
 }
 
 /// A controller, with the entries that were fetched and have no completion posted, by their cookies; and how many
-/// completions of admin and of I/O commands were posted.
+/// completions of admin and of I/O commands were posted, and how many admin commands were passed on.
 struct Driven {
     ctrl: Controller,
     open: HashMap<u32, Sqe>,
     cookie: u32,
     posts: [u32; 2],
+    passed: u32,
 }
 
 impl Driven {
@@ -68,7 +70,7 @@ impl Driven {
         while ctrl.pick().unwrap().is_some() {}
         while ctrl.post(0).unwrap().is_some() {}
         assert_eq!((ctrl.sq(1), ctrl.cq(1)), (Some(1), Some(1)));
-        Driven { ctrl, open: HashMap::new(), cookie: 0, posts: [0; 2] }
+        Driven { ctrl, open: HashMap::new(), cookie: 0, posts: [0; 2], passed: 0 }
     }
 
     fn fetched(&mut self, qid: u16, drawn: &mut Drawn) {
@@ -104,7 +106,7 @@ impl Driven {
             5 => {
                 let peeked = self.ctrl.peek().is_some();
                 assert!(peeked || !matches!(self.ctrl.pick(), Ok(Some(_))));
-                _ = self.ctrl.pick();
+                self.passed += u32::from(matches!(self.ctrl.pick(), Ok(Some(Step::Passed(_)))));
             }
             6 => {
                 if let Some(command) = self.ctrl.take() {
@@ -117,6 +119,10 @@ impl Driven {
                 _ = self.ctrl.complete_with(drawn.below(24), Status::new(b as u8 % 8, a as u8).unwrap(), 0, marks);
             }
             9 | 10 => self.post(a),
+            11 if a == 0 => {
+                self.ctrl.own_opcode(b as u8);
+                self.ctrl.own_feature(b as u8);
+            }
             _ => {
                 self.ctrl.finish();
                 let (command, queue) = (self.ctrl.command(b), (self.ctrl.sq(a), self.ctrl.cq(a)));
@@ -133,13 +139,14 @@ impl Driven {
 #[test]
 fn controllers_answer_each_command_once() {
     let mut drawn = Drawn(1);
-    let mut posts = [0; 2];
+    let (mut posts, mut passed) = ([0; 2], 0);
     for round in 0..1000 {
         let mut it = Driven::new(if round % 2 == 0 { Mechanism::RoundRobin } else { Mechanism::Weighted });
         (0..500).for_each(|_| it.step(&mut drawn));
         posts = [posts[0] + it.posts[0], posts[1] + it.posts[1]];
+        passed += it.passed;
     }
-    assert!(posts.iter().all(|n| *n > 1000), "{posts:?}");
+    assert!(posts.iter().all(|n| *n > 1000) && passed > 1000, "{posts:?}, {passed}");
 }
 
 #[test]
