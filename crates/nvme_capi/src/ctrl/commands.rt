@@ -142,6 +142,7 @@ pub extern "C" fn nvmearb_ctrl_take(
     ensures command { result ≡ OK → IsCommandIn slots.new command.new.tag command.new }
     ensures cookie { result ≡ OK → (rules : FrontRules) (late : Bool) (notes : Notes) → Stands rules late notes state.new.ctrl slots.new → (place : Place) → holder notes command.new.tag ≡ Some place → is_out notes command.new.tag ≡ true → cookie_of notes place.region place.index ≡ Some command.new.cookie }
     ensures entry { result ≡ OK → (rules : FrontRules) (late : Bool) (notes : Notes) → Stands rules late notes state.new.ctrl slots.new → (place : Place) → holder notes command.new.tag ≡ Some place → is_out notes command.new.tag ≡ true → entry_at (logged notes) place.region place.index ≡ Some command.new.entry }
+    ensures left { own_of state.new.ctrl ≡ own_of state.old.ctrl }
     ensures unchanged { result ≢ OK → (state.new ≡ state.old) × ((slots.new ≡ slots.old) × (command.new ≡ command.old)) }
 {
     if !is_ctrl(state) {
@@ -174,6 +175,7 @@ fn complete_marked(
 ) -> u32
     requires kept { IsKept state.old slots.old }
     ensures kept { IsKept state.new slots.new }
+    ensures left { own_of state.new.ctrl ≡ own_of state.old.ctrl }
     ensures bad_state { (result ≡ BAD_STATE) ↔ IsFalse (is_ctrl state.old) }
     ensures bad_argument { (result ≡ BAD_ARGUMENT) ↔ (IsTrue (is_ctrl state.old) × (IsFalse (has_slots state.old slots.old) ⊎ (7 < status.now.sct))) }
     ensures answer { (result ≡ OK) ⊎ ((result ≡ NOTHING) ⊎ ((result ≡ BAD_ARGUMENT) ⊎ (result ≡ BAD_STATE))) }
@@ -219,6 +221,7 @@ pub extern "C" fn nvmearb_ctrl_complete(
     ensures nothing { (rules : FrontRules) (late : Bool) (notes : Notes) → Stands rules late notes state.old.ctrl slots.old → result ≡ NOTHING → is_out notes tag ≡ false }
     ensures was_out { (rules : FrontRules) (late : Bool) (notes : Notes) → Stands rules late notes state.old.ctrl slots.old → result ≡ OK → is_out notes tag ≡ true }
     ensures stands { (rules : FrontRules) (late : Bool) (notes : Notes) → Stands rules late notes state.old.ctrl slots.old → result ≡ OK → HasAnswered rules late notes tag (device_answer status.now dw0) (marks_by 0) state.new.ctrl slots.new }
+    ensures left { own_of state.new.ctrl ≡ own_of state.old.ctrl }
     ensures unchanged { result ≢ OK → (state.new ≡ state.old) × (slots.new ≡ slots.old) }
 {
     complete_marked(state, slots, tag, status, dw0, Marks::NONE)
@@ -243,6 +246,7 @@ pub extern "C" fn nvmearb_ctrl_complete_with(
     ensures nothing { (rules : FrontRules) (late : Bool) (notes : Notes) → Stands rules late notes state.old.ctrl slots.old → result ≡ NOTHING → is_out notes tag ≡ false }
     ensures was_out { (rules : FrontRules) (late : Bool) (notes : Notes) → Stands rules late notes state.old.ctrl slots.old → result ≡ OK → is_out notes tag ≡ true }
     ensures stands { (rules : FrontRules) (late : Bool) (notes : Notes) → Stands rules late notes state.old.ctrl slots.old → result ≡ OK → HasAnswered rules late notes tag (device_answer status.now dw0) (marks_by marks) state.new.ctrl slots.new }
+    ensures left { own_of state.new.ctrl ≡ own_of state.old.ctrl }
     ensures unchanged { result ≢ OK → (state.new ≡ state.old) × (slots.new ≡ slots.old) }
 {
     if !is_ctrl(state) {
@@ -298,6 +302,7 @@ pub extern "C" fn nvmearb_ctrl_post(
     ensures nothing { (rules : FrontRules) (late : Bool) (notes : Notes) → Stands rules late notes state.old.ctrl slots.old → result ≡ NOTHING → NonePostable rules notes region }
     ensures stands { (rules : FrontRules) (late : Bool) (notes : Notes) → Stands rules late notes state.old.ctrl slots.old → result ≡ OK → HasPostedBytes rules late notes region post.new state.new.ctrl slots.new }
     ensures command { result ≡ OK → IsPostIn slots.old post.new }
+    ensures left { own_of state.new.ctrl ≡ own_of state.old.ctrl }
     ensures unchanged { result ≢ OK → (state.new ≡ state.old) × ((slots.new ≡ slots.old) × (post.new ≡ post.old)) }
 {
     if !is_ctrl(state) {
@@ -332,6 +337,7 @@ pub extern "C" fn nvmearb_ctrl_finish(
     ensures answer { (result ≡ OK) ⊎ ((result ≡ NOTHING) ⊎ ((result ≡ BAD_ARGUMENT) ⊎ (result ≡ BAD_STATE))) }
     ensures nothing { (rules : FrontRules) (late : Bool) (notes : Notes) → Stands rules late notes state.old.ctrl slots.old → result ≡ NOTHING → NoneFinishable notes }
     ensures stands { (rules : FrontRules) (late : Bool) (notes : Notes) → Stands rules late notes state.old.ctrl slots.old → result ≡ OK → HasFinished rules late notes qid.new state.new.ctrl slots.new }
+    ensures left { own_of state.new.ctrl ≡ own_of state.old.ctrl }
     ensures unchanged { result ≢ OK → (state.new ≡ state.old) × ((slots.new ≡ slots.old) × (qid.new ≡ qid.old)) }
 {
     if !is_ctrl(state) {

@@ -4,6 +4,7 @@ ghost use Rattle.nvme_entry.specs.Submission.{IsSubmissionEntry};
 ghost use Rattle.nvme_entry.specs.declared.submission.Sqe.{Sqe};
 ghost use Rattle.nvme_log.specs.Rules.{FrontRules};
 ghost use Rattle.nvme_log.specs.Queues.{open_sq, open_cq};
+ghost use Rattle.nvme_ctrl.specs.Own.{own_of};
 ghost use Rattle.nvme_ctrl.specs.Notes.{Notes, logged};
 ghost use Rattle.nvme_ctrl.specs.Standing.{Stands};
 ghost use Rattle.nvme_ctrl.specs.Calls.{window_limit, IsTailOf, TailRung, IsHeadOf, HeadRung, MayFetch, HasFetched};
@@ -28,6 +29,7 @@ pub extern "C" fn nvmearb_ctrl_sq_tail(state: &mut CtrlState, qid: u16, tail: u1
     ensures stands { (rules : FrontRules) (late : Bool) (notes : Notes) (slots : List Slot) → Stands rules late notes state.old.ctrl slots → result ≡ OK → TailRung rules late notes qid tail state.new.ctrl slots }
     ensures window { window_limit state.new.ctrl ≡ window_limit state.old.ctrl }
     ensures kept { (slots : List Slot) → IsKept state.old slots → IsKept state.new slots }
+    ensures left { own_of state.new.ctrl ≡ own_of state.old.ctrl }
     ensures unchanged { result ≢ OK → state.new ≡ state.old }
 {
     if !is_ctrl(state) {
@@ -56,6 +58,7 @@ pub extern "C" fn nvmearb_ctrl_cq_head(state: &mut CtrlState, cqid: u16, head: u
     ensures stands { (rules : FrontRules) (late : Bool) (notes : Notes) (slots : List Slot) → Stands rules late notes state.old.ctrl slots → result ≡ OK → HeadRung rules late notes cqid head state.new.ctrl slots }
     ensures window { window_limit state.new.ctrl ≡ window_limit state.old.ctrl }
     ensures kept { (slots : List Slot) → IsKept state.old slots → IsKept state.new slots }
+    ensures left { own_of state.new.ctrl ≡ own_of state.old.ctrl }
     ensures unchanged { result ≢ OK → state.new ≡ state.old }
 {
     if !is_ctrl(state) {
@@ -109,6 +112,7 @@ pub extern "C" fn nvmearb_ctrl_fetched(
     ensures nothing { (rules : FrontRules) (late : Bool) (notes : Notes) → Stands rules late notes state.old.ctrl slots.old → result ≡ NOTHING → (slot : ℕ) → MayFetch rules notes (window_limit state.old.ctrl) (length slots.old) qid slot → ⊥ }
     ensures stands { (rules : FrontRules) (late : Bool) (notes : Notes) → Stands rules late notes state.old.ctrl slots.old → result ≡ OK → (entry : Sqe) → IsSubmissionEntry bytes.now entry → HasFetched rules late notes qid entry cookie state.new.ctrl slots.new }
     ensures window { window_limit state.new.ctrl ≡ window_limit state.old.ctrl }
+    ensures left { own_of state.new.ctrl ≡ own_of state.old.ctrl }
     ensures unchanged { result ≢ OK → (state.new ≡ state.old) × (slots.new ≡ slots.old) }
 {
     if !is_ctrl(state) {
