@@ -1,0 +1,662 @@
+/*
+ * A controller under a hostile host and a hostile device: ten million calls with drawn arguments, under a fixed seed.
+ * An account of its own keeps each command in plain lists, and says before each call what it has to answer and to
+ * write. The account picks as an arbiter that is shown its counts, and answers admin commands as a queue table.
+ *
+ *   hostile [COUNT [SEED]]
+ */
+#include "tell.h"
+#include <nvmearb.h>
+#include <stdlib.h>
+#include <string.h>
+
+enum { SLOTS = 600, GUARD = 64, NO_COMMAND = SLOTS };
+
+/* ---- The account ---- */
+
+enum state { NOT_HERE, WAITING, PICKED, OUT, READY };
+
+/* A command, from its fetch until its completion is posted. */
+struct command {
+    enum state state;
+    int takes_place, has_tag;
+    uint16_t qid, sq, cq, tag; /* its submission queue, the regions of its queues, and its tag once it was taken */
+    uint32_t cookie, dw0;
+    nvmearb_status status;
+    uint8_t entry[NVMEARB_SQE_BYTES], marks;
+};
+
+/* Commands in an order, by their numbers. */
+struct list {
+    unsigned n;
+    uint16_t at[SLOTS];
+};
+
+/* The ring on a submission region, and on a completion region: what was counted there since the beginning. */
+struct sq {
+    uint64_t address;
+    uint16_t slots;
+    uint64_t submitted, fetched;
+    unsigned unposted;
+    struct list waiting;
+};
+struct cq {
+    uint64_t address;
+    uint16_t slots;
+    uint64_t consumed, posted;
+    struct list ready;
+};
+
+static struct account {
+    struct command commands[SLOTS];
+    unsigned slots, held, places, window, nsqs, ncqs;
+    int is_slow; /* the device hardly completes anything */
+    struct sq sqs[NVMEARB_MAX_REGIONS];
+    struct cq cqs[NVMEARB_MAX_REGIONS];
+    struct list picked;
+    uint16_t by_tag[SLOTS], deleting, closing; /* numbers of commands, or NO_COMMAND; the queue that is being deleted */
+    nvmearb_table table;
+    nvmearb_arbiter arbiter;
+    uint8_t opcodes[256], fids[256]; /* 1 for those that are the device's */
+} account;
+
+static void push(struct list *list, uint16_t number)
+{
+    list->at[list->n++] = number;
+}
+
+/* Takes the number at a place of a list. */
+static uint16_t pull(struct list *list, unsigned place)
+{
+    uint16_t number = list->at[place];
+    list->n--;
+    memmove(list->at + place, list->at + place + 1, (list->n - place) * sizeof *list->at);
+    return number;
+}
+
+static uint64_t gap(uint16_t slots, uint64_t from, uint16_t to)
+{
+    return (to + slots - from % slots) % slots;
+}
+
+/* The ring of a submission queue that is open and isn't closing. */
+static struct sq *open_sq(uint16_t qid)
+{
+    nvmearb_queue queue;
+    if (nvmearb_table_sq(&account.table, qid, &queue) != NVMEARB_OK || queue.closing)
+        return NULL;
+    return &account.sqs[queue.region];
+}
+
+static struct cq *open_cq(uint16_t cqid)
+{
+    uint16_t region;
+    return nvmearb_table_cq(&account.table, cqid, &region) == NVMEARB_OK ? &account.cqs[region] : NULL;
+}
+
+/* What an arbiter is shown: how many commands wait in each open queue. */
+static size_t observe(nvmearb_seen *seen)
+{
+    nvmearb_queue queue;
+    size_t n = 0;
+    for (uint16_t qid = 0; qid < NVMEARB_MAX_QUEUES; qid++)
+        if (nvmearb_table_sq(&account.table, qid, &queue) == NVMEARB_OK && !queue.closing)
+            seen[n++] = (nvmearb_seen){qid, queue.priority, (uint16_t)account.sqs[queue.region].waiting.n};
+    return n;
+}
+
+/* The statuses that no retry changes. */
+static int has_dnr(nvmearb_status it)
+{
+    static const nvmearb_status final[] = {{0, 0x01}, {0, 0x02}, {0, 0x0c}, {1, 0x00}, {1, 0x01}, {1, 0x02}, {1, 0x0d}};
+    for (unsigned k = 0; k < sizeof final / sizeof *final; k++)
+        if (it.sct == final[k].sct && it.sc == final[k].sc)
+            return 1;
+    return 0;
+}
+
+/* The completion of a command is ready. */
+static void ready(uint16_t number, nvmearb_status status, uint32_t dw0, uint8_t marks)
+{
+    struct command *it = &account.commands[number];
+    it->state = READY;
+    it->status = status;
+    it->dw0 = dw0;
+    it->marks = marks;
+    push(&account.cqs[it->cq].ready, number);
+}
+
+/* So is that of one which the controller answers itself. */
+static void answered(uint16_t number, nvmearb_status status, uint32_t dw0)
+{
+    ready(number, status, dw0, has_dnr(status) ? NVMEARB_DNR : 0);
+}
+
+/* ---- The draws ---- */
+
+static uint64_t seed;
+
+static uint32_t upto(uint32_t n)
+{
+    return (uint32_t)((drawn(&seed) >> 20) % n);
+}
+
+/* Mostly a queue with a small identifier, which is open. */
+static uint16_t draw_qid(void)
+{
+    uint16_t qid = (uint16_t)upto(6);
+    for (int k = 0; k < 3 && !open_sq(qid); k++)
+        qid = (uint16_t)upto(6);
+    return upto(60) ? qid : (uint16_t)upto(0x10000);
+}
+
+/* An entry for the admin queue, whose fields mostly fit what is there. */
+static void draw_admin(nvmearb_sqe *it)
+{
+    static const uint8_t opcodes[] = {0, 1, 1, 1, 4, 5, 5, 8, 8, 8, 9, 10, 10, 6, 0x0c}, fids[] = {1, 7, 2, 0x0b, 1};
+    uint32_t high = upto(8), sq = upto(account.nsqs), cq = upto(account.ncqs);
+    int is_sq;
+    it->opcode = opcodes[upto(sizeof opcodes)];
+    it->flags = (uint8_t)(upto(30) ? 0 : upto(256));
+    is_sq = it->opcode == NVMEARB_OPC_CREATE_SQ;
+    it->prp1 = upto(20) ? (is_sq ? account.sqs[sq].address : account.cqs[cq].address) : drawn(&seed);
+    it->cdw10 = is_sq ? account.sqs[sq].slots - 1u : account.cqs[cq].slots - 1u;
+    it->cdw10 = upto(6) | (it->opcode == NVMEARB_OPC_ABORT ? upto(12) : upto(20) ? it->cdw10 : upto(0x10000)) << 16;
+    it->cdw11 = 1 | upto(4) << 1 | upto(6) << 16;
+    if (it->opcode == NVMEARB_OPC_SET_FEATURES || it->opcode == NVMEARB_OPC_GET_FEATURES) {
+        it->cdw10 = fids[upto(sizeof fids)] | (high < 4 ? high << 8 : 0) | (upto(40) ? 0 : 0x80000000u);
+        it->cdw11 = (uint32_t)drawn(&seed);
+    }
+}
+
+/* What the host has in a slot when it is read: each reading finds something else. */
+static void draw_entry(uint16_t qid, uint8_t *bytes)
+{
+    nvmearb_sqe it;
+    draw_into(&seed, &it, sizeof it);
+    it.cid = (uint16_t)upto(12);
+    if (qid == 0)
+        draw_admin(&it);
+    nvmearb_sqe_encode(&it, bytes);
+}
+
+/* ---- The calls ---- */
+
+static struct {
+    uint8_t before[GUARD];
+    nvmearb_ctrl ctrl;
+    uint8_t between[GUARD];
+    nvmearb_slot slots[SLOTS];
+    uint8_t after[GUARD];
+} room;
+#define CTRL (&room.ctrl)
+#define POOL room.slots, account.slots
+
+static struct {
+    uint64_t ok, none, busy, full, refused, passed, deletions, aborts, marked, created, made;
+} tally;
+
+/* Whether a call answered what it had to. */
+static int is_right(uint32_t told, uint32_t want)
+{
+    tally.ok += told == NVMEARB_OK;
+    tally.none += told == NVMEARB_NONE;
+    tally.busy += told == NVMEARB_BUSY;
+    tally.full += told == NVMEARB_FULL;
+    tally.refused += told == NVMEARB_EARG || told == NVMEARB_EUSED || told == NVMEARB_EMANY || told == NVMEARB_ESIZE;
+    return told == want;
+}
+
+/* The controller is made, as at the end of a reset. Nothing of before is left. */
+static int make(void)
+{
+    static const uint16_t windows[] = {1, 2, 16, 256, 300};
+    nvmearb_config config = {{0x1000, (uint16_t)(2 + upto(40))}, {0x2000, (uint16_t)(2 + upto(40))},
+                             1 + upto(2), (uint32_t)drawn(&seed), (uint16_t)(1 + upto(6)), (uint16_t)(1 + upto(6)), 0};
+    uint16_t number;
+    memset(&account, 0, sizeof account);
+    config.window = windows[upto(5)];
+    account.window = config.window;
+    account.slots = upto(3) ? SLOTS : 1 + upto(SLOTS);
+    account.deleting = NO_COMMAND;
+    for (unsigned tag = 0; tag < SLOTS; tag++)
+        account.by_tag[tag] = NO_COMMAND;
+    account.is_slow = upto(3) == 0;
+    account.nsqs = account.ncqs = 1;
+    account.sqs[0].address = config.asq.address, account.sqs[0].slots = config.asq.slots;
+    account.cqs[0].address = config.acq.address, account.cqs[0].slots = config.acq.slots;
+    draw_into(&seed, &room, sizeof room);
+    memset(room.before, 0xa5, GUARD), memset(room.between, 0xa5, GUARD), memset(room.after, 0xa5, GUARD);
+    tally.made++;
+    return nvmearb_table_init(&account.table, config.nsq, config.ncq, config.cdw11) == NVMEARB_OK &&
+           nvmearb_table_add_sq_region(&account.table, 0x1000, config.asq.slots, &number) == NVMEARB_OK &&
+           nvmearb_table_add_cq_region(&account.table, 0x2000, config.acq.slots, &number) == NVMEARB_OK &&
+           nvmearb_arbiter_init(&account.arbiter, config.mechanism, config.cdw11) == NVMEARB_OK &&
+           nvmearb_ctrl_init(CTRL, POOL, &config) == NVMEARB_OK;
+}
+
+/* Nothing was written beside the controller and its slots. */
+static int is_whole(void)
+{
+    uint8_t want[GUARD];
+    memset(want, 0xa5, GUARD);
+    return !memcmp(room.before, want, GUARD) && !memcmp(room.between, want, GUARD) && !memcmp(room.after, want, GUARD);
+}
+
+static int adds(void)
+{
+    int is_sq = (int)upto(2);
+    uint64_t address = 0x1000 * (uint64_t)(1 + upto(200));
+    uint16_t slots = (uint16_t)(upto(20) ? 2 + upto(upto(2) ? 24 : 300) : upto(6000)), number = 0, found = 0;
+    uint32_t want = is_sq ? nvmearb_table_add_sq_region(&account.table, address, slots, &number)
+                          : nvmearb_table_add_cq_region(&account.table, address, slots, &number);
+    uint32_t told = is_sq ? nvmearb_ctrl_add_sq_region(CTRL, address, slots, &found)
+                          : nvmearb_ctrl_add_cq_region(CTRL, address, slots, &found);
+    if (want == NVMEARB_OK && is_sq) {
+        account.sqs[number].address = address, account.sqs[number].slots = slots;
+        account.nsqs++;
+    } else if (want == NVMEARB_OK) {
+        account.cqs[number].address = address, account.cqs[number].slots = slots;
+        account.ncqs++;
+    }
+    return is_right(told, want) && number == found;
+}
+
+static int announces(void)
+{
+    static const uint8_t opcodes[] = {6, 0x0c, 0, 8, 9}, fids[] = {1, 7, 0x0b};
+    uint8_t opcode = opcodes[upto(5)], fid = fids[upto(3)];
+    if (upto(2)) {
+        account.opcodes[opcode] = 1;
+        return is_right(nvmearb_ctrl_own_opcode(CTRL, opcode), NVMEARB_OK);
+    }
+    account.fids[fid] = 1;
+    return is_right(nvmearb_ctrl_own_feature(CTRL, fid), NVMEARB_OK);
+}
+
+static int rings_tail(void)
+{
+    uint16_t qid = draw_qid(), tail = (uint16_t)upto(0x10000);
+    struct sq *sq = open_sq(qid);
+    uint32_t want = NVMEARB_NONE;
+    uint64_t next = 0;
+    if (sq) {
+        tail = upto(30) ? (uint16_t)((sq->submitted + upto(20)) % sq->slots) : tail % (2 * sq->slots);
+        next = sq->submitted + gap(sq->slots, sq->submitted, tail);
+        want = tail < sq->slots && next < sq->fetched + sq->slots ? NVMEARB_OK : NVMEARB_EARG;
+        sq->submitted = want == NVMEARB_OK ? next : sq->submitted;
+    }
+    return is_right(nvmearb_ctrl_sq_tail(CTRL, qid, tail), want);
+}
+
+static int rings_head(void)
+{
+    uint16_t cqid = draw_qid(), head = (uint16_t)upto(0x10000);
+    struct cq *cq = open_cq(cqid);
+    uint32_t want = NVMEARB_NONE;
+    uint64_t next = 0;
+    if (cq) {
+        head = upto(30) ? (uint16_t)((cq->consumed + upto(cq->slots)) % cq->slots) : head % (2 * cq->slots);
+        next = cq->consumed + gap(cq->slots, cq->consumed, head);
+        want = head < cq->slots && next <= cq->posted ? NVMEARB_OK : NVMEARB_EARG;
+        cq->consumed = want == NVMEARB_OK ? next : cq->consumed;
+    }
+    return is_right(nvmearb_ctrl_cq_head(CTRL, cqid, head), want);
+}
+
+/* Whether a command of this queue may be fetched. */
+static int may_fetch(const struct sq *sq)
+{
+    unsigned window = account.window > NVMEARB_MAX_COUNT ? NVMEARB_MAX_COUNT : account.window;
+    return sq && account.deleting == NO_COMMAND && sq->fetched < sq->submitted && sq->waiting.n < window &&
+           sq->waiting.n + 1u < sq->slots && account.held < account.slots;
+}
+
+static uint16_t free_number(void)
+{
+    uint16_t number = 0;
+    while (number < SLOTS && account.commands[number].state != NOT_HERE)
+        number++;
+    return number;
+}
+
+static int fetches(void)
+{
+    uint16_t qid = draw_qid(), slot = 0xffff, number;
+    uint8_t bytes[NVMEARB_SQE_BYTES];
+    struct sq *sq = open_sq(qid);
+    uint32_t want = may_fetch(sq) ? NVMEARB_OK : NVMEARB_NONE, cookie = (uint32_t)drawn(&seed);
+    nvmearb_queue queue;
+    if (!is_right(nvmearb_ctrl_fetch(CTRL, qid, &slot), want))
+        return 0;
+    if (want == NVMEARB_OK && slot != sq->fetched % sq->slots)
+        return 0;
+    draw_entry(qid, bytes);
+    number = free_number();
+    if (want == NVMEARB_OK) {
+        struct command *it = &account.commands[number];
+        nvmearb_table_sq(&account.table, qid, &queue);
+        *it = (struct command){.state = WAITING, .qid = qid, .sq = queue.region, .cookie = cookie};
+        nvmearb_table_cq(&account.table, queue.cqid, &it->cq);
+        memcpy(it->entry, bytes, sizeof bytes);
+        push(&sq->waiting, number);
+        sq->fetched++, sq->unposted++, account.held++;
+    }
+    want = is_right(nvmearb_ctrl_fetched(CTRL, POOL, qid, bytes, cookie), want);
+    draw_into(&seed, bytes, sizeof bytes); /* (the controller has a copy) */
+    return (int)want;
+}
+
+/* Whether an admin command is the device's. */
+static int is_devices(const nvmearb_sqe *it)
+{
+    uint8_t fid = (uint8_t)it->cdw10;
+    int is_of_controller = fid == NVMEARB_FID_ARBITRATION || fid == NVMEARB_FID_NUMBER_OF_QUEUES;
+    int selects = it->opcode == NVMEARB_OPC_GET_FEATURES && (it->cdw10 >> 8 & 7) != 0;
+    if (it->flags & 3)
+        return 0;
+    switch (it->opcode) {
+    case NVMEARB_OPC_DELETE_SQ:
+    case NVMEARB_OPC_CREATE_SQ:
+    case NVMEARB_OPC_DELETE_CQ:
+    case NVMEARB_OPC_CREATE_CQ:
+    case NVMEARB_OPC_ABORT:
+        return 0;
+    case NVMEARB_OPC_SET_FEATURES:
+    case NVMEARB_OPC_GET_FEATURES:
+        return account.fids[fid] && (!is_of_controller || selects);
+    }
+    return account.opcodes[it->opcode];
+}
+
+/* A command is picked: it waits no longer. */
+static uint16_t pulled(struct sq *sq)
+{
+    uint16_t number = pull(&sq->waiting, 0);
+    account.commands[number].state = PICKED;
+    account.commands[number].takes_place = 1;
+    account.places++;
+    return number;
+}
+
+/* All commands that wait in a queue whose deletion begins are aborted. */
+static void abort_all(uint16_t qid)
+{
+    nvmearb_queue queue;
+    nvmearb_table_sq(&account.table, qid, &queue);
+    for (struct list *list = &account.sqs[queue.region].waiting; list->n;)
+        answered(pull(list, 0), (nvmearb_status){0, NVMEARB_SC_ABORTED_BY_DELETION}, 0);
+}
+
+/* The oldest command with this identifier that waits in a queue is aborted, if there is one. */
+static int aborts(uint16_t qid, uint16_t cid)
+{
+    struct sq *sq = qid ? open_sq(qid) : NULL;
+    for (unsigned place = 0; sq && place < sq->waiting.n; place++) {
+        const uint8_t *entry = account.commands[sq->waiting.at[place]].entry;
+        if ((entry[2] | entry[3] << 8) == cid) {
+            uint16_t number = pull(&sq->waiting, place);
+            account.commands[number].takes_place = 1;
+            account.places++;
+            tally.aborts++;
+            answered(number, (nvmearb_status){0, NVMEARB_SC_ABORT_REQUESTED}, 0);
+            return 1;
+        }
+    }
+    return 0;
+}
+
+/* An admin command is carried out. */
+static int carries_out(uint16_t number, const nvmearb_step *step)
+{
+    nvmearb_answer answer;
+    memset(&answer, 0, sizeof answer);
+    nvmearb_table_apply(&account.table, account.commands[number].entry, &answer);
+    if (step->kind != NVMEARB_CARRIED_OUT || memcmp(&answer, &step->answer, sizeof answer))
+        return 0;
+    tally.created += answer.verdict == NVMEARB_OPEN_SQ;
+    if (answer.verdict == NVMEARB_BEGIN_DELETE) {
+        abort_all(answer.qid);
+        account.deleting = number;
+        account.closing = answer.qid;
+        return 1;
+    }
+    if (answer.verdict == NVMEARB_SET_ARBITRATION)
+        nvmearb_arbiter_set(&account.arbiter, answer.cdw11);
+    if (answer.verdict == NVMEARB_ABORT)
+        answer.dw0 = !aborts(answer.qid, answer.cid);
+    answered(number, answer.status, answer.dw0);
+    return 1;
+}
+
+/* A pick that is to be made is made. */
+static int follows(const nvmearb_pick *pick, const nvmearb_step *step)
+{
+    struct sq *sq = open_sq(pick->qid);
+    nvmearb_sqe entry;
+    if (pick->qid == 0) {
+        uint16_t number = pulled(sq);
+        nvmearb_sqe_decode(account.commands[number].entry, &entry);
+        if (!is_devices(&entry))
+            return pick->n == 1 && carries_out(number, step);
+        push(&account.picked, number);
+        tally.passed++;
+        return step->kind == NVMEARB_PASSED && !memcmp(pick, &step->pick, sizeof *pick);
+    }
+    for (unsigned k = 0; k < pick->n; k++)
+        push(&account.picked, pulled(sq));
+    return step->kind == NVMEARB_PICKED && !memcmp(pick, &step->pick, sizeof *pick);
+}
+
+/* Whether a call with another number of slots is refused. */
+static int is_refused(void)
+{
+    nvmearb_step step;
+    nvmearb_pick pick;
+    size_t other = account.slots + 1 + upto(3);
+    return is_right(nvmearb_ctrl_pick(CTRL, room.slots, other, &step), NVMEARB_EARG) &&
+           is_right(nvmearb_ctrl_peek(CTRL, room.slots, other, &pick), NVMEARB_EARG);
+}
+
+static int picks(void)
+{
+    nvmearb_seen seen[NVMEARB_MAX_QUEUES];
+    nvmearb_pick pick = {0}, found = {0};
+    nvmearb_step step;
+    size_t n = observe(seen);
+    uint32_t want = nvmearb_arbiter_peek(&account.arbiter, seen, n, &pick);
+    if (!is_right(nvmearb_ctrl_peek(CTRL, POOL, &found), want) || memcmp(&pick, &found, sizeof pick))
+        return 0;
+    if (account.picked.n || account.deleting != NO_COMMAND) {
+        want = NVMEARB_BUSY;
+    } else if (want == NVMEARB_OK) {
+        const struct command *oldest = &account.commands[account.sqs[0].waiting.at[0]];
+        unsigned more = pick.qid == 0 && oldest->entry[0] == NVMEARB_OPC_ABORT ? 2 : pick.n;
+        want = account.places + more > 256 ? NVMEARB_FULL : NVMEARB_OK;
+    }
+    if (!is_right(nvmearb_ctrl_pick(CTRL, POOL, &step), want))
+        return 0;
+    if (want != NVMEARB_OK)
+        return 1;
+    nvmearb_arbiter_pick(&account.arbiter, seen, n, &pick);
+    return follows(&pick, &step);
+}
+
+/* What the device was given is the command as it was fetched. */
+static int is_given(const struct command *it, const nvmearb_command *found)
+{
+    nvmearb_sqe entry;
+    nvmearb_sqe_decode(it->entry, &entry);
+    return !memcmp(&entry, &found->entry, sizeof entry) && it->cookie == found->cookie;
+}
+
+static int takes(void)
+{
+    nvmearb_command found;
+    uint16_t number = account.picked.n ? pull(&account.picked, 0) : NO_COMMAND;
+    struct command *it = &account.commands[number % SLOTS];
+    if (!is_right(nvmearb_ctrl_take(CTRL, POOL, &found), number < SLOTS ? NVMEARB_OK : NVMEARB_NONE))
+        return 0;
+    if (number == NO_COMMAND)
+        return 1;
+    if (found.tag >= account.slots || account.by_tag[found.tag] != NO_COMMAND)
+        return 0;
+    account.by_tag[found.tag] = number;
+    it->state = OUT;
+    it->has_tag = 1;
+    it->tag = found.tag;
+    return is_given(it, &found);
+}
+
+/* A device that answers in any order, under tags that it may not have, with any status. */
+static int completes(void)
+{
+    uint16_t tag = (uint16_t)(upto(20) ? upto(account.slots) : upto(0x10000));
+    for (unsigned k = 0; k < 40 && (tag >= SLOTS || account.by_tag[tag] == NO_COMMAND); k++)
+        tag = (uint16_t)upto(account.slots);
+    uint16_t number = tag < SLOTS ? account.by_tag[tag] : NO_COMMAND;
+    nvmearb_status status = {(uint8_t)(upto(50) ? upto(8) : upto(256)), (uint8_t)upto(256)};
+    uint32_t dw0 = (uint32_t)drawn(&seed), told, want;
+    uint8_t marks = (uint8_t)(upto(50) ? upto(4) : upto(256)), is_marked = (uint8_t)upto(2);
+    int is_out = number != NO_COMMAND && account.commands[number].state == OUT;
+    want = status.sct > 7 || (is_marked && marks > 3) ? NVMEARB_EARG : is_out ? NVMEARB_OK : NVMEARB_NONE;
+    told = is_marked ? nvmearb_ctrl_complete_with(CTRL, POOL, tag, &status, dw0, marks)
+                     : nvmearb_ctrl_complete(CTRL, POOL, tag, &status, dw0);
+    if (want == NVMEARB_OK)
+        ready(number, status, dw0, is_marked ? marks : 0);
+    tally.marked += want == NVMEARB_OK && is_marked;
+    return is_right(told, want);
+}
+
+static void put(uint8_t *bytes, uint32_t dword)
+{
+    for (int k = 0; k < 4; k++)
+        bytes[k] = (uint8_t)(dword >> 8 * k);
+}
+
+/* The completion of a command, for the next slot of its ring. */
+static void completion(const struct command *it, uint8_t *bytes)
+{
+    const struct sq *sq = &account.sqs[it->sq];
+    const struct cq *cq = &account.cqs[it->cq];
+    uint32_t phase = !(cq->posted / cq->slots & 1), cid = it->entry[2] | (uint32_t)it->entry[3] << 8;
+    uint32_t final = (it->marks & NVMEARB_DNR) != 0, more = (it->marks & NVMEARB_MORE) != 0;
+    put(bytes, it->dw0);
+    put(bytes + 4, 0);
+    put(bytes + 8, (uint32_t)(sq->fetched % sq->slots) | (uint32_t)it->qid << 16);
+    put(bytes + 12, cid | phase << 16 | (uint32_t)it->status.sc << 17 | (uint32_t)it->status.sct << 25 | more << 30 |
+                        final << 31);
+}
+
+static int posts(void)
+{
+    uint16_t region = (uint16_t)upto(account.ncqs), number;
+    for (int k = 0; k < 8 && account.cqs[region].ready.n == 0; k++)
+        region = (uint16_t)upto(account.ncqs);
+    region = upto(60) ? region : (uint16_t)upto(0x10000);
+    struct cq *cq = &account.cqs[region % NVMEARB_MAX_REGIONS];
+    uint8_t bytes[NVMEARB_CQE_BYTES];
+    nvmearb_post found;
+    uint32_t want = NVMEARB_OK;
+    if (region >= NVMEARB_MAX_REGIONS)
+        want = NVMEARB_EARG;
+    else if (cq->ready.n == 0 || cq->posted + 1 >= cq->consumed + cq->slots)
+        want = NVMEARB_NONE;
+    if (!is_right(nvmearb_ctrl_post(CTRL, POOL, region, &found), want))
+        return 0;
+    if (want != NVMEARB_OK)
+        return 1;
+    number = pull(&cq->ready, 0);
+    struct command *it = &account.commands[number];
+    completion(it, bytes);
+    if (memcmp(bytes, found.bytes, sizeof bytes) || found.cookie != it->cookie || found.slot != cq->posted % cq->slots)
+        return 0;
+    if (it->has_tag && found.tag != it->tag)
+        return 0;
+    if (it->has_tag)
+        account.by_tag[it->tag] = NO_COMMAND;
+    cq->posted++;
+    account.sqs[it->sq].unposted--, account.held--, account.places -= (unsigned)it->takes_place;
+    it->state = NOT_HERE;
+    return 1;
+}
+
+static int finishes(void)
+{
+    uint16_t found = 0xffff;
+    nvmearb_queue queue;
+    uint32_t want = NVMEARB_NONE;
+    if (account.deleting != NO_COMMAND && nvmearb_table_sq(&account.table, account.closing, &queue) == NVMEARB_OK)
+        want = account.sqs[queue.region].unposted ? NVMEARB_NONE : NVMEARB_OK;
+    if (!is_right(nvmearb_ctrl_finish(CTRL, POOL, &found), want))
+        return 0;
+    if (want != NVMEARB_OK)
+        return 1;
+    answered(account.deleting, (nvmearb_status){0, 0}, 0);
+    account.deleting = NO_COMMAND;
+    tally.deletions++;
+    return found == account.closing && nvmearb_table_finish_delete(&account.table, found) == NVMEARB_OK;
+}
+
+/* The look-ups of a queue and of a tag. */
+static int looks(void)
+{
+    uint16_t qid = draw_qid(), tag = (uint16_t)upto(account.slots), region = 0, waiting = 0;
+    const struct sq *sq = open_sq(qid);
+    const struct cq *cq = open_cq(qid);
+    const struct command *it = account.by_tag[tag] == NO_COMMAND ? NULL : &account.commands[account.by_tag[tag]];
+    nvmearb_command found;
+    int is_out = it && it->state == OUT;
+    if (!is_right(nvmearb_ctrl_command(CTRL, POOL, tag, &found), is_out ? NVMEARB_OK : NVMEARB_NONE))
+        return 0;
+    if (is_out && (found.tag != tag || !is_given(it, &found)))
+        return 0;
+    if (!is_right(nvmearb_ctrl_waiting(CTRL, qid, &waiting), sq ? NVMEARB_OK : NVMEARB_NONE))
+        return 0;
+    if (!is_right(nvmearb_ctrl_sq(CTRL, qid, &region), sq ? NVMEARB_OK : NVMEARB_NONE))
+        return 0;
+    if (sq && (waiting != sq->waiting.n || sq != &account.sqs[region]))
+        return 0;
+    return is_right(nvmearb_ctrl_cq(CTRL, qid, &region), cq ? NVMEARB_OK : NVMEARB_NONE) &&
+           (!cq || cq == &account.cqs[region]);
+}
+
+/* ---- All of it ---- */
+
+/* One call, or a few that belong together. */
+static int call(void)
+{
+    enum { IN_FRONT = 9 }; /* those before the device's */
+    static int (*const calls[])(void) = {rings_tail, rings_tail, fetches, fetches,   fetches,   fetches, picks,
+                                         takes,      takes,      looks,   completes, completes, posts,   posts,
+                                         posts,      rings_head, finishes};
+    uint32_t which = upto(10000);
+    if (which == 0)
+        return is_whole() && make();
+    if (which < 100)
+        return adds();
+    if (which < 130)
+        return announces();
+    if (which < 160)
+        return is_refused();
+    if (account.is_slow && which % 32)
+        return calls[upto(IN_FRONT)]();
+    return calls[upto(sizeof calls / sizeof *calls)]();
+}
+
+int main(int count, char **words)
+{
+    uint64_t most = count > 1 ? strtoull(words[1], NULL, 0) : 10000000, made = 0;
+    seed = count > 2 ? strtoull(words[2], NULL, 0) : 53;
+    int holds = make();
+    for (; holds && made < most; made = tally.ok + tally.none + tally.busy + tally.full + tally.refused)
+        holds = call();
+    printf("%ju calls: %ju done, %ju none, %ju busy, %ju full, %ju refused\n", (uintmax_t)made, (uintmax_t)tally.ok,
+           (uintmax_t)tally.none, (uintmax_t)tally.busy, (uintmax_t)tally.full, (uintmax_t)tally.refused);
+    printf("%ju controllers, %ju queues created, %ju deleted, %ju commands aborted, %ju passed on, %ju marked\n",
+           (uintmax_t)tally.made, (uintmax_t)tally.created, (uintmax_t)tally.deletions, (uintmax_t)tally.aborts,
+           (uintmax_t)tally.passed, (uintmax_t)tally.marked);
+    CHECK(holds && is_whole() && made >= most);
+    CHECK(tally.busy && tally.full && tally.created && tally.deletions && tally.aborts && tally.passed && tally.marked);
+    return told();
+}
