@@ -31,8 +31,9 @@
  *
  *   1. Compare nvmearb_version() with NVMEARB_VERSION.
  *   2. When the host enables the controller (CC.EN), nvmearb_ctrl_init with the admin queues (AQA, ASQ, ACQ), and then
- *      nvmearb_ctrl_add_sq_region and nvmearb_ctrl_add_cq_region for each ring that a Create command may name. At a
- *      reset the same again: nothing of before is left.
+ *      nvmearb_ctrl_add_sq_region and nvmearb_ctrl_add_cq_region for each ring that a Create command may name. Where
+ *      the host chooses them later, see "Regions for any address" below. At a reset the same again: nothing of before
+ *      is left.
  *   3. nvmearb_ctrl_own_opcode and nvmearb_ctrl_own_feature for the admin commands that the device answers itself, such
  *      as Identify. Each nvmearb_ctrl_init forgets them.
  *   4. At each doorbell write nvmearb_ctrl_sq_tail or nvmearb_ctrl_cq_head.
@@ -43,7 +44,18 @@
  *   8. For each completion region, while nvmearb_ctrl_post gives a completion: write its bytes into the slot of the
  *      ring, Command Dword 3 last, since it has the phase tag, and then send the interrupt.
  *   9. After a pick that began a deletion (NVMEARB_BEGIN_DELETE), nvmearb_ctrl_finish after each 8., until it ends the
- *      deletion. Until then nothing is fetched or picked; what the device has of any queue may still be completed.
+ *      deletion. Until then nothing is fetched or picked of any queue, the admin queue included; what the device has of
+ *      any queue may still be completed and posted. So one command of the deleted queue that the device is slow to
+ *      complete, or a full ring of its completion queue, stops all queues for as long.
+ *  10. Go back to 5., for every queue, until a pass does nothing: picks make room for fetches, posts for picks
+ *      (NVMEARB_FULL), and the end of a deletion for both. The completion of its Delete is posted in the next pass.
+ *
+ * Regions for any address. A host chooses the addresses of its I/O queues after CC.EN. So the device adds a region when
+ * it reads a Create in 5., before nvmearb_ctrl_fetched: under a token of its own that no other region has as its
+ * address, of QSIZE + 1 slots. It puts the token into PRP entry 1 of its copy of the entry, and keeps the host's
+ * address, the interrupt vector and the enable bit by the number of the region. There are NVMEARB_MAX_REGIONS of a kind
+ * until the next nvmearb_ctrl_init, that of the admin queue included, so at most 64 such Creates of a kind, those that
+ * are refused afterwards among them. capi/examples/nvme.c does this (`place`).
  *
  * What the caller of a controller owes, beside what is said of all calls below:
  *
@@ -58,10 +70,14 @@
  * An admin command that is neither the controller's own nor the device's is answered with 0/01, Invalid Command Opcode,
  * and Set and Get Features of such a feature identifier with 0/02, Invalid Field in Command.
  *
- * What a controller doesn't do: a Create names a region that was added before. There are at most NVMEARB_MAX_REGIONS of
- * a kind until the next nvmearb_ctrl_init; an address is that of one, and one queue uses it, once. One deletion at a
- * time is pending. At most 256 commands are picked and have no completion posted; an Asynchronous Event Request that
- * the device holds is one of them.
+ * Restrictions. A Create is accepted only for a region that was added before, that no queue has used, and that has
+ * exactly QSIZE + 1 slots; PC must be 1. So CAP.MQES is at most 4095, and CAP.CQR is 1. There are at most
+ * NVMEARB_MAX_REGIONS of a kind until the next nvmearb_ctrl_init, and no two have one address. One deletion at a time
+ * is pending. At most 256 commands are picked and have no completion posted; an Asynchronous Event Request that the
+ * device holds is one of them.
+ *
+ * Save and restore. A controller and its slots are numbers without a pointer, so both together may be moved, or saved
+ * as bytes and restored by the same version of the library, if what is restored takes the place of the first.
  *
  * The order of calls, with a table and a board:
  *
@@ -112,7 +128,9 @@
  * interrupts was given.
  *
  * Numbers are in the machine's byte order, and bytes of entries in the specification's. The library is built for x86-64
- * (x86-64-v2, System V calling convention). Link with -lnvmearb; the only other symbols are memcpy and memset.
+ * (x86-64-v2, System V calling convention). Link with -lnvmearb; the only other symbols are memcpy and memset. With
+ * pkg-config: cc program.c $(pkg-config --cflags --libs nvmearb). Until version 1.0 any release may change what this
+ * header declares.
  */
 #ifndef NVMEARB_H
 #define NVMEARB_H
@@ -407,7 +425,8 @@ typedef struct nvmearb_slot {
 
 /*
  * A controller. nvmearb_ctrl_init initialises it. Its fields are the library's. It is valid if `mark` is what
- * nvmearb_ctrl_init writes. Neither it nor its slots are copied to be used beside the first, or written into.
+ * nvmearb_ctrl_init writes. Neither it nor its slots are copied to be used beside the first, or written into; both
+ * together may be moved or restored ("Save and restore" above).
  */
 typedef struct nvmearb_ctrl {
     uint64_t mark;
@@ -417,8 +436,8 @@ typedef struct nvmearb_ctrl {
 
 /* What a controller is made with. */
 typedef struct nvmearb_config {
-    nvmearb_region asq, acq; /* the admin queues: ASQ and ACQ, and the fields of AQA and 1 more */
-    uint32_t mechanism;      /* NVMEARB_ROUND_ROBIN or NVMEARB_WEIGHTED (CC.AMS) */
+    nvmearb_region asq, acq; /* the admin queues: ASQ and ACQ; slots are the fields of AQA plus 1 */
+    uint32_t mechanism;      /* CC.AMS 000b: NVMEARB_ROUND_ROBIN, 001b: NVMEARB_WEIGHTED */
     uint32_t cdw11;          /* the Arbitration feature; bits 07:03 are ignored */
     uint16_t nsq, ncq;       /* the most I/O submission and completion queues, 1 to NVMEARB_MAX_IO_QUEUES */
     uint16_t window;         /* the most commands of a queue that are fetched and not picked; above 256 it is 256 */
@@ -491,7 +510,7 @@ uint32_t nvmearb_cqe_encode(const nvmearb_cqe *fields, uint8_t bytes[NVMEARB_CQE
 /*
  * Writes the status of an I/O command: that of the first check that it fails, or success. Flush, Write and Read are
  * supported. `sizes` has the sizes of `count` namespaces in logical blocks, that of namespace identifier 1 first. No
- * data is moved.
+ * data is moved. PSDT isn't looked at: a device that moves data by PRPs calls nvmearb_check instead.
  * NVMEARB_EARG if `count` is above NVMEARB_MAX_NAMESPACES or a size is 0.
  */
 uint32_t nvmearb_outcome(const nvmearb_sqe *entry, const uint64_t *sizes, size_t count, nvmearb_status *status);
@@ -757,7 +776,8 @@ uint32_t nvmearb_ctrl_complete_with(nvmearb_ctrl *ctrl, nvmearb_slot *slots, siz
                                     const nvmearb_status *status, uint32_t dw0, uint8_t marks);
 
 /*
- * Writes the completion that became ready first in a completion region, which goes into `slot` of its ring.
+ * Writes the completion that became ready first in a completion region, which goes into `slot` of its ring. The region
+ * of a completion queue is what nvmearb_ctrl_cq tells for its CQID; that of the admin completion queue is 0.
  * NVMEARB_ESTATE, NVMEARB_EARG as nvmearb_ctrl_fetched; NVMEARB_EARG too if `region` is NVMEARB_MAX_REGIONS or more;
  * otherwise NVMEARB_NONE if none is ready, or the host has freed no slot of the ring.
  */

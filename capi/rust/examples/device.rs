@@ -7,12 +7,16 @@ use nvmearb::{CQE_BYTES, SQE_BYTES};
 
 /// The slots of each ring.
 const RING: u16 = 8;
+/// The slots of the controller: enough that commands of one of the two queues never keep those of the other from being
+/// fetched.
+const COMMANDS: usize = 2 * RING as usize + 256;
 /// The addresses of the rings in guest memory, by the number of their region: those of the admin queues and of the I/O
 /// queues.
 const SQS: [u64; 2] = [0x1000, 0x3000];
 const CQS: [u64; 2] = [0x2000, 0x4000];
 const BLOCKS: usize = 16;
 const BLOCK: usize = 512;
+const PAGE: u64 = 4096;
 
 struct Device {
     ctrl: Controller,
@@ -34,11 +38,11 @@ impl Device {
             acq: Region { address: CQS[0], slots: RING },
             mechanism: Mechanism::Weighted,
             cdw11: 0x0100_0001,
-            nsq: 4,
-            ncq: 4,
+            nsq: 1,
+            ncq: 1,
             window: RING,
         };
-        let mut ctrl = Controller::new(&config, 32)?;
+        let mut ctrl = Controller::new(&config, COMMANDS)?;
         ctrl.add_sq_region(SQS[1], RING)?;
         ctrl.add_cq_region(CQS[1], RING)?;
         Ok(Device { ctrl, blocks: vec![0; BLOCKS * BLOCK], memory: vec![0; 0x8000] })
@@ -54,14 +58,21 @@ impl Device {
         }
     }
 
-    /// Executes a command: Reads and Writes of blocks in one page that PRP1 names.
+    /// Executes a command: Reads and Writes of blocks in one page that PRP1 names. It reads no PRP2, and refuses what
+    /// goes over the end of the page with 0/02, Invalid Field in Command.
     fn execute(&mut self, entry: &Sqe) -> Status {
-        let status = entry.outcome(&[BLOCKS as u64]).unwrap_or(Status::INTERNAL_ERROR);
+        let status = entry.check(&[BLOCKS as u64]);
         if !status.is_success() || entry.opcode == io_opcode::FLUSH {
             return status;
         }
         let first = entry.cdw10 as usize * BLOCK;
         let length = ((entry.cdw12 & 0xffff) as usize + 1) * BLOCK;
+        if entry.prp1 % 4 != 0 {
+            return Status::PRP_OFFSET_INVALID;
+        }
+        if length as u64 > PAGE - entry.prp1 % PAGE {
+            return Status::INVALID_FIELD;
+        }
         let blocks = &mut self.blocks[first..first + length];
         let start = entry.prp1 as usize;
         let Some(data) = start.checked_add(length).and_then(|end| self.memory.get_mut(start..end)) else {
@@ -74,9 +85,12 @@ impl Device {
         status
     }
 
-    /// Executes what arbitration picks. A device may just as well complete a command later.
-    fn work(&mut self) {
+    /// Executes what arbitration picks. A device may just as well complete a command later. This and `post` answer
+    /// whether they did anything.
+    fn work(&mut self) -> bool {
+        let mut did = false;
         while let Ok(Some(_)) = self.ctrl.pick() {
+            did = true;
             while let Some(command) = self.ctrl.take() {
                 let status = self.execute(&command.entry);
                 // (what fails here would fail again)
@@ -84,15 +98,30 @@ impl Device {
                 self.ctrl.complete_with(command.tag, status, 0, marks).expect("the command was taken");
             }
         }
+        did
     }
 
     /// Writes the completions of a completion region, and would send the interrupt.
-    fn post(&mut self, region: u16) {
+    fn post(&mut self, region: u16) -> bool {
+        let mut did = false;
         while let Ok(Some(post)) = self.ctrl.post(region) {
+            did = true;
             let entry = &mut self.memory[place(CQS[usize::from(region)], post.slot, CQE_BYTES)];
-            entry[..12].copy_from_slice(&post.bytes[..12]); // between other threads: a barrier after this
+            entry[..12].copy_from_slice(&post.bytes[..12]);
+            // a host on another thread wants a release barrier here: Command Dword 3 has the phase tag
             entry[12..].copy_from_slice(&post.bytes[12..]);
         }
+        did
+    }
+
+    /// A pass over all queues: picks make room for fetches, posts for picks, and the end of a deletion for both.
+    fn pass(&mut self) -> bool {
+        self.fetch(0);
+        self.fetch(1);
+        let mut did = self.work();
+        did |= self.post(0);
+        did |= self.post(1);
+        did | self.ctrl.finish().is_some()
     }
 
     /// A doorbell write: `doorbell` is 2 * QID, or 2 * QID + 1 for a completion queue. An invalid one is an error
@@ -100,12 +129,7 @@ impl Device {
     fn ring(&mut self, doorbell: u16, value: u32) -> Result<(), DoorbellError> {
         let (qid, to) = (doorbell / 2, value as u16);
         let rung = if doorbell % 2 == 0 { self.ctrl.sq_tail(qid, to) } else { self.ctrl.cq_head(qid, to) };
-        self.fetch(0);
-        self.fetch(1);
-        self.work();
-        self.post(1);
-        self.ctrl.finish();
-        self.post(0);
+        while self.pass() {}
         rung
     }
 }
@@ -160,6 +184,10 @@ fn main() -> Result<(), Box<dyn std::error::Error>> {
     }
     let beyond = Sqe { cdw10: BLOCKS as u32, ..read };
     assert_eq!(io.run(&mut device, beyond)?, Status::LBA_OUT_OF_RANGE);
+    let over = Sqe { prp1: 0x6f00, ..read }; // over the end of its page
+    assert_eq!(io.run(&mut device, over)?, Status::INVALID_FIELD);
+    let sgl = Sqe { flags: 0x40, ..read }; // PSDT
+    assert_eq!(io.run(&mut device, sgl)?, Status::INVALID_FIELD);
     let delete = Sqe { opcode: admin_opcode::DELETE_SQ, cdw10: 1, ..Sqe::default() };
     assert_eq!(admin.run(&mut device, delete)?, Status::SUCCESS);
     assert_eq!(device.ring(2, 0), Err(DoorbellError::Register)); // the doorbell of a queue that is gone
