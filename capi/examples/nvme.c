@@ -198,8 +198,11 @@ static void fetch(struct nvme *d, uint16_t qid)
     }
 }
 
-/* Writes what is ready into a completion queue. Returns its vector, as a bit, if the host has entries to take there. */
-static uint32_t post(struct nvme *d, uint16_t cqid)
+/*
+ * Writes what is ready into a completion queue, and tells whether it wrote any. Returns its vector, as a bit, if the
+ * host has entries to take there.
+ */
+static uint32_t post(struct nvme *d, uint16_t cqid, int *has_posted)
 {
     nvmearb_post it;
     uint16_t region;
@@ -217,6 +220,7 @@ static uint32_t post(struct nvme *d, uint16_t cqid)
         atomic_thread_fence(memory_order_release);
         memcpy(at + 12, it.bytes + 12, 4);
         ring->tail = (uint16_t)((it.slot + 1) % ring->slots);
+        *has_posted = 1;
     }
     return ring->has_interrupt && ring->tail != ring->head ? 1u << ring->vector % 32 : 0;
 }
@@ -259,7 +263,7 @@ int nvme_turn(struct nvme *d)
         goes_on = work(d);
         tell_event(d);
         for (vectors = 0, qid = 0; qid <= NVME_QUEUES; qid++)
-            vectors |= post(d, qid);
+            vectors |= post(d, qid, &goes_on);
         goes_on |= nvmearb_ctrl_finish(&d->ctrl, d->slots, NVME_COMMANDS, &gone) == NVMEARB_OK;
     }
     vectors &= ~d->masked;
