@@ -1,24 +1,23 @@
 -- Regions that are added to a controller: it stands at its log afterwards, at the rules with the region.
 use Rattle.std.proofs.Common.{◌≡◌, ◌≢◌, ℕ, ◌+◌, ◌%◌, ◌<◌, ◌==◌, ◌||◌, nat_lt, Bool, true, false, if◌then◌else◌, List, [], ◌∷◌, ◌++◌, length, Option, Some, None, refl, sym, ap, ◌∙◌, subst, arith, inl, inr, option_map}
 use Rattle.std.specs.Prelude.{slice_set}
-use Rattle.std.proofs.Math.Nat.{zero-div, zero-mod}
-use Rattle.std.proofs.lemmas.Bool.{cases_Bool, cases_eq, cases_lt, eq-eqb, lt-ltb, or_parts, le-leb}
+use Rattle.std.proofs.Math.Nat.{zero-div}
+use Rattle.std.proofs.lemmas.Bool.{cases_eq, cases_lt, eq-eqb, lt-ltb, or_parts}
 use Rattle.std.proofs.lemmas.List.{length_push, length-set}
 use Rattle.nvme_entry.specs.declared.submission.Sqe.{Sqe}
 use Rattle.nvme_entry.specs.declared.completion.Cqe.{Cqe}
-use Rattle.nvme_admin.specs.History.{Start, TableHistory, RegionAdded, Submission, Completion}
+use Rattle.nvme_admin.specs.History.{Kind, Start, TableHistory, RegionAdded, Submission, Completion}
 use Rattle.nvme_admin.specs.Layout.{view_of}
 use Rattle.nvme_admin.specs.Standing.{TableView, StandsAt as TableStandsAt, IsSized, is_known, region_fault}
 use Rattle.nvme_admin.specs.declared.bounds.TheConstants.{MAX_REGIONS, MIN_SLOTS, MAX_SLOTS}
 use Rattle.nvme_admin.specs.declared.fields.TableFields.{TableFields}
 use Rattle.nvme_admin.specs.declared.region.Region.{Region}
 use Rattle.nvme_admin.specs.declared.region.AdminError.{AdminError}
-use Rattle.nvme_log.specs.Histories.{table_history}
 use Rattle.nvme_log.specs.Rules.{FrontRules, sq_regions_of, cq_regions_of, slots_at}
 use Rattle.nvme_log.specs.Places.{fetched}
 use Rattle.nvme_log.specs.Completions.{posted_to, phase_after}
-use Rattle.nvme_ctrl.specs.Notes.{Notes, Logged, Tail, Head, Kept, Passed, Taken, Answered, Marked, logged}
-use Rattle.nvme_ctrl.specs.Doorbells.{gap, sq_slots, cq_slots, submitted, consumed}
+use Rattle.nvme_ctrl.specs.Notes.{Notes, logged}
+use Rattle.nvme_ctrl.specs.Doorbells.{submitted, consumed}
 use Rattle.nvme_ctrl.specs.Rings.{HasCounts, first_ring}
 use Rattle.nvme_ctrl.specs.Making.{with_region, is_late, adding_fault}
 use Rattle.nvme_ctrl.specs.Account.{IsAccount}
@@ -27,10 +26,14 @@ use Rattle.nvme_ctrl.specs.declared.state.SqState.{SqState}
 use Rattle.nvme_ctrl.specs.declared.state.CqState.{CqState}
 use Rattle.nvme_ctrl.specs.declared.state.Controller.{Controller}
 use Rattle.nvme_ctrl.specs.kept.Content.{Attachment, Content}
+use Rattle.nvme_ctrl.specs.kept.Standing.{HoldsOwn}
 use Rattle.nvme_ctrl.specs.kept.Kept.{HasNumbers, HasItems, HoldsDoorbells, HoldsTags, StandsAt, tags_of, ready_tags}
 use Rattle.nvme_ctrl.specs.kept.Pool.{IsChain}
 use Rattle.nvme_ctrl.specs.kept.State.{sq_at, cq_at, attachment_of}
 use Rattle.nvme_ctrl.proofs.AddedTables.{sq-added, sq-leaves, cq-added, cq-leaves, slots_last, slots_past, slots_other, sq-more, sq-same, cq-more, cq-same, sq-same_sq, sq-same_cq, sq-same_used, sq-more_sqs, sq-same_cqs, cq-same_cq, cq-same_sq, cq-same_used, cq-same_sqs, cq-more_cqs}
+use Rattle.nvme_ctrl.proofs.DoorbellCounts.{submitted_same, submitted_none, consumed_same, consumed_none}
+use Rattle.nvme_ctrl.proofs.FurtherAccounts.{sound-notes, account-stays}
+use Rattle.nvme_ctrl.proofs.FurtherStanding.{in_time, has_history, own-holds}
 use Rattle.nvme_ctrl.proofs.Passed.{passed_left}
 use Rattle.nvme_ctrl.proofs.Cookies.{cookies_left}
 use Rattle.nvme_ctrl.proofs.Growing.{Grows, grown, none_fetched, holds_when_grown}
@@ -61,92 +64,6 @@ some_slots n e = elim (cases_lt n MIN_SLOTS) [
 added_some : (v : TableView) (rs : List Region) (a n : ℕ) → region_fault v rs a n ≡ None → 0 < n
 added_some v rs a n e = some_slots n (fault_parts (is_known v a) (length rs == MAX_REGIONS) (nat_lt n MIN_SLOTS || nat_lt MAX_SLOTS n) _ _ _ e).1
 
--- ---- whether it is late
-pub is_early : (late : Bool) (notes : Notes) → is_late late notes ≡ false → (notes ≡ []) × (late ≡ false)
-is_early late [] e = (refl, e)
-is_early late (note ∷ notes) e = cc
-
--- ---- doorbells under other rules
--- the slots of a region tell what its doorbells make
-submitted_same : (rules others : FrontRules) (notes : Notes) (r : ℕ) → sq_slots others r ≡ sq_slots rules r → submitted others notes r ≡ submitted rules notes r
-submitted_same rules others [] r e = refl
-submitted_same rules others (Tail region slot ∷ notes) r e = λ i.
-    if region == r then submitted_same rules others notes r e i + gap (e i) (submitted_same rules others notes r e i % e i) slot else submitted_same rules others notes r e i
-submitted_same rules others (Logged event ∷ notes) r e = submitted_same rules others notes r e
-submitted_same rules others (Head c slot ∷ notes) r e = submitted_same rules others notes r e
-submitted_same rules others (Kept c i cookie ∷ notes) r e = submitted_same rules others notes r e
-submitted_same rules others (Passed i ∷ notes) r e = submitted_same rules others notes r e
-submitted_same rules others (Taken tag c i ∷ notes) r e = submitted_same rules others notes r e
-submitted_same rules others (Answered c i answer ∷ notes) r e = submitted_same rules others notes r e
-submitted_same rules others (Marked c i marks ∷ notes) r e = submitted_same rules others notes r e
-
-consumed_same : (rules others : FrontRules) (notes : Notes) (r : ℕ) → cq_slots others r ≡ cq_slots rules r → consumed others notes r ≡ consumed rules notes r
-consumed_same rules others [] r e = refl
-consumed_same rules others (Head region slot ∷ notes) r e = λ i.
-    if region == r then consumed_same rules others notes r e i + gap (e i) (consumed_same rules others notes r e i % e i) slot else consumed_same rules others notes r e i
-consumed_same rules others (Logged event ∷ notes) r e = consumed_same rules others notes r e
-consumed_same rules others (Tail c slot ∷ notes) r e = consumed_same rules others notes r e
-consumed_same rules others (Kept c i cookie ∷ notes) r e = consumed_same rules others notes r e
-consumed_same rules others (Passed i ∷ notes) r e = consumed_same rules others notes r e
-consumed_same rules others (Taken tag c i ∷ notes) r e = consumed_same rules others notes r e
-consumed_same rules others (Answered c i answer ∷ notes) r e = consumed_same rules others notes r e
-consumed_same rules others (Marked c i marks ∷ notes) r e = consumed_same rules others notes r e
-
--- a gap from slot 0 is as long as its end
-gap_from_0 : (n m slot : ℕ) → m ≡ 0 → gap n (m % n) slot ≡ slot
-gap_from_0 n m slot z =
-    let start : m % n ≡ 0 = ap (λ (x : ℕ). x % n) z ∙ zero-mod n in
-    ap (λ (x : ℕ). gap n x slot) start ∙ rw (le-leb 0 slot (omega arith)) (omega arith)
-
--- where nothing came of the doorbells of a region they all named slot 0, whatever its slots
-submitted_none : (rules others : FrontRules) (notes : Notes) (r : ℕ) → submitted rules notes r ≡ 0 → submitted others notes r ≡ 0
-submitted_none rules others [] r e = refl
-submitted_none rules others (Tail region slot ∷ notes) r e = elim (cases_Bool (region == r)) [
-  | inl same ↦
-      let sum : submitted rules notes r + gap (sq_slots rules r) (submitted rules notes r % sq_slots rules r) slot ≡ 0 =
-      sym (λ j. if same j then submitted rules notes r + gap (sq_slots rules r) (submitted rules notes r % sq_slots rules r) slot else submitted rules notes r) ∙ e in
-      let none : submitted rules notes r ≡ 0 = omega (arith, sum) in
-      let before : submitted others notes r ≡ 0 = submitted_none rules others notes r none in
-      let first : slot ≡ 0 = omega (arith, sum, gap_from_0 (sq_slots rules r) (submitted rules notes r) slot none) in
-      (λ j. if same j then submitted others notes r + gap (sq_slots others r) (submitted others notes r % sq_slots others r) slot else submitted others notes r)
-      ∙ (let last = gap_from_0 (sq_slots others r) (submitted others notes r) slot before in omega (arith, before, last, first))
-  | inr other ↦
-      (λ j. if other j then submitted others notes r + gap (sq_slots others r) (submitted others notes r % sq_slots others r) slot else submitted others notes r)
-      ∙ submitted_none rules others notes r
-      (sym (λ j. if other j then submitted rules notes r + gap (sq_slots rules r) (submitted rules notes r % sq_slots rules r) slot else submitted rules notes r) ∙ e)
-]
-submitted_none rules others (Logged event ∷ notes) r e = submitted_none rules others notes r e
-submitted_none rules others (Head c slot ∷ notes) r e = submitted_none rules others notes r e
-submitted_none rules others (Kept c i cookie ∷ notes) r e = submitted_none rules others notes r e
-submitted_none rules others (Passed i ∷ notes) r e = submitted_none rules others notes r e
-submitted_none rules others (Taken tag c i ∷ notes) r e = submitted_none rules others notes r e
-submitted_none rules others (Answered c i answer ∷ notes) r e = submitted_none rules others notes r e
-submitted_none rules others (Marked c i marks ∷ notes) r e = submitted_none rules others notes r e
-
-consumed_none : (rules others : FrontRules) (notes : Notes) (r : ℕ) → consumed rules notes r ≡ 0 → consumed others notes r ≡ 0
-consumed_none rules others [] r e = refl
-consumed_none rules others (Head region slot ∷ notes) r e = elim (cases_Bool (region == r)) [
-  | inl same ↦
-      let sum : consumed rules notes r + gap (cq_slots rules r) (consumed rules notes r % cq_slots rules r) slot ≡ 0 =
-      sym (λ j. if same j then consumed rules notes r + gap (cq_slots rules r) (consumed rules notes r % cq_slots rules r) slot else consumed rules notes r) ∙ e in
-      let none : consumed rules notes r ≡ 0 = omega (arith, sum) in
-      let before : consumed others notes r ≡ 0 = consumed_none rules others notes r none in
-      let first : slot ≡ 0 = omega (arith, sum, gap_from_0 (cq_slots rules r) (consumed rules notes r) slot none) in
-      (λ j. if same j then consumed others notes r + gap (cq_slots others r) (consumed others notes r % cq_slots others r) slot else consumed others notes r)
-      ∙ (let last = gap_from_0 (cq_slots others r) (consumed others notes r) slot before in omega (arith, before, last, first))
-  | inr other ↦
-      (λ j. if other j then consumed others notes r + gap (cq_slots others r) (consumed others notes r % cq_slots others r) slot else consumed others notes r)
-      ∙ consumed_none rules others notes r
-      (sym (λ j. if other j then consumed rules notes r + gap (cq_slots rules r) (consumed rules notes r % cq_slots rules r) slot else consumed rules notes r) ∙ e)
-]
-consumed_none rules others (Logged event ∷ notes) r e = consumed_none rules others notes r e
-consumed_none rules others (Tail c slot ∷ notes) r e = consumed_none rules others notes r e
-consumed_none rules others (Kept c i cookie ∷ notes) r e = consumed_none rules others notes r e
-consumed_none rules others (Passed i ∷ notes) r e = consumed_none rules others notes r e
-consumed_none rules others (Taken tag c i ∷ notes) r e = consumed_none rules others notes r e
-consumed_none rules others (Answered c i answer ∷ notes) r e = consumed_none rules others notes r e
-consumed_none rules others (Marked c i marks ∷ notes) r e = consumed_none rules others notes r e
-
 -- ---- a controller that stands
 -- a region of which an identifier is told was opened for a queue
 opened_for : (o : Option Attachment) → Some 0 ≡ option_map (λ (a : Attachment). a.qid) o → (a : Attachment) × (o ≡ Some a)
@@ -164,16 +81,23 @@ module _ (rules : FrontRules) (late : Bool) (notes : Notes) (c : Controller) (po
   some_cqs : 0 < s.content.ncq
   some_cqs = let there = s.holds.queues.posts_there 0 admin_region.0 admin_region.1 in omega (arith, there)
 
-  -- the account of no note, whatever the regions
-  early_account : (others : FrontRules) → is_late late notes ≡ false → IsAccount others notes
-  early_account others on_time =
-      subst (λ (ns : Notes). IsAccount others ns) (sym (is_early late notes on_time).0) (record { each = tt; lawful = tt; effects_whole = refl })
+  -- so they are of the rules
+  sqs_there : 0 < length (sq_regions_of rules)
+  sqs_there = omega (arith, some_sqs, s.holds.tabled.sq_number)
 
-  -- the table stands at the regions before the first event
-  early_history : is_late late notes ≡ false → s.holds.tabled.history ≡ rules.regions
-  early_history on_time =
-      let early = is_early late notes on_time in
-      s.holds.tabled.history_is early.1 ∙ ap (λ (ns : Notes). table_history rules (logged ns)) early.0
+  cqs_there : 0 < length (cq_regions_of rules)
+  cqs_there = omega (arith, some_cqs, s.holds.tabled.cq_number)
+
+  -- the log is sound, and the answers are held, where the region isn't late
+  module _ (kind : Kind) (a n : ℕ) (on_time : is_late rules late notes a ≡ false) where
+    early_own : HoldsOwn (with_region kind a n rules) (logged notes) s.content
+    early_own =
+        let early = in_time rules late notes a on_time in
+        let account = s.account early.0 in
+        own-holds rules kind a n sqs_there cqs_there (logged notes) s.content (sound-notes rules kind a n sqs_there cqs_there notes account.each account.lawful) early.1 s.holds.ready (s.holds.own early.0)
+
+    early_account : IsAccount (with_region kind a n rules) notes
+    early_account = let early = in_time rules late notes a on_time in account-stays rules kind a n sqs_there cqs_there notes (s.account early.0) early.1
 
 -- ---- what is refused
 module _ (rules : FrontRules) (late : Bool) (notes : Notes) (c : Controller) (pool : List Slot) (s : StandsAt rules late notes c pool) (a n : ℕ) where
@@ -247,24 +171,24 @@ module _ (rules : FrontRules) (late : Bool) (notes : Notes) (c : Controller) (po
     sq_was_none : (sq_at c.sqs r).ring.slots ≡ 0
     sq_was_none = s.numbers.sq_slots r ∙ sym (s.holds.tabled.sq_slots r) ∙ slots_past (sq_regions_of rules) r (omega (arith, sq_is_last))
 
-    sq_grows : Grows rules (is_late late notes) (logged notes) sq_rules.regions s.content (λ (x : ℕ). slots_at (sq_regions_of sq_rules) x) (λ (x : ℕ). (s.content.cq x).slots) (s.content.nsq + 1) s.content.ncq (view_of table)
+    sq_grows : Grows rules (is_late rules late notes a) (logged notes) sq_rules.regions s.content (λ (x : ℕ). slots_at (sq_regions_of sq_rules) x) (λ (x : ℕ). (s.content.cq x).slots) (s.content.nsq + 1) s.content.ncq (view_of table)
     sq_grows =
         let h = s.holds.tabled.history in
         let before : TableStandsAt rules.start s.content.table h = s.holds.tabled.stands in
         let after : TableStandsAt rules.start (view_of table) (RegionAdded Submission a n ∷ h) =
         takes rules.start h (subst (λ (t : TableView). TableStandsAt rules.start t h) (sym s.numbers.table_is) before) in
         let there : 0 < length s.content.table.sq_regions = omega (arith, s.holds.tabled.sq_count, some_sqs rules late notes c pool s) in
+        let found = has_history rules Submission a n (sqs_there rules late notes c pool s) (cqs_there rules late notes c pool s) late notes h (view_of table) s.holds.tabled.history_is after in
         record {
           sqs = omega arith;
           cqs = omega arith;
           same_sq = sq-same_sq rules.start h s.content.table (view_of table) a n before after there;
           same_cq = sq-same_cq rules.start h s.content.table (view_of table) a n before after;
           same_used = sq-same_used rules.start h s.content.table (view_of table) a n before after;
-          history = RegionAdded Submission a n ∷ h;
-          stands = after;
-          history_is = λ on_time. ap (λ (g : TableHistory). RegionAdded Submission a n ∷ g) (early_history rules late notes c pool s on_time)
-              ∙ sym (ap (λ (ns : Notes). table_history sq_rules (logged ns)) (is_early late notes on_time).0);
-          no_event = λ on_time. ap logged (is_early late notes on_time).0;
+          history = found.history;
+          stands = found.stands;
+          history_is = found.history_is;
+          own = λ on_time. early_own rules late notes c pool s Submission a n on_time;
           sq_count = sq-more_sqs rules.start h s.content.table (view_of table) a n before after ∙ ap (λ (m : ℕ). m + 1) s.holds.tabled.sq_count;
           cq_count = sq-same_cqs rules.start h s.content.table (view_of table) a n before after ∙ s.holds.tabled.cq_count;
           sq_number = ap (λ (rs : List Region). length rs) (sq-more a n rules) ∙ length_push (sq_regions_of rules) (record { address = a; slots = n }) ∙ ap (λ (m : ℕ). m + 1) s.holds.tabled.sq_number;
@@ -323,7 +247,7 @@ module _ (rules : FrontRules) (late : Bool) (notes : Notes) (c : Controller) (po
     sq_counts : HasCounts (first_ring n) (length (fetched (logged notes) r)) (submitted sq_rules notes r)
     sq_counts =
         let d = s.doorbells in
-        let none : fetched (logged notes) r ≡ [] = none_fetched rules late (is_late late notes) (logged notes) s.content s.holds sq_rules.regions
+        let none : fetched (logged notes) r ≡ [] = none_fetched rules late (is_late rules late notes a) (logged notes) s.content s.holds sq_rules.regions
         (λ (x : ℕ). slots_at (sq_regions_of sq_rules) x) (λ (x : ℕ). (s.content.cq x).slots) (s.content.nsq + 1) s.content.ncq (view_of table) sq_grows r (omega (arith, sq_is_next)) in
         subst (λ (m : ℕ). HasCounts (first_ring n) (length (fetched (logged notes) r)) m) (sym (submitted_none rules sq_rules notes r (d.no_tails r sq_was_none)))
         (subst (λ (es : List Sqe). HasCounts (first_ring n) (length es) 0) (sym none) counts)
@@ -365,17 +289,17 @@ module _ (rules : FrontRules) (late : Bool) (notes : Notes) (c : Controller) (po
     }
 
     -- the controller stands with the region
-    pub sq_region-stands : StandsAt sq_rules (is_late late notes) notes (with_sq_region c table r n) pool
+    pub sq_region-stands : StandsAt sq_rules (is_late rules late notes a) notes (with_sq_region c table r n) pool
     sq_region-stands = record {
       content = sq_added;
       items = s.items;
-      holds = holds_when_grown rules late (is_late late notes) (logged notes) s.content s.holds sq_rules.regions
+      holds = holds_when_grown rules late (is_late rules late notes a) (logged notes) s.content s.holds sq_rules.regions
           (λ (x : ℕ). slots_at (sq_regions_of sq_rules) x) (λ (x : ℕ). (s.content.cq x).slots) (s.content.nsq + 1) s.content.ncq (view_of table) sq_grows;
       numbers = sq_numbers;
       has = sq_items;
       doorbells = sq_doorbells;
       tags = sq_tags;
-      account = early_account rules late notes c pool s sq_rules;
+      account = λ on_time. early_account rules late notes c pool s Submission a n on_time;
     }
 
 -- ---- a completion region more
@@ -431,24 +355,24 @@ module _ (rules : FrontRules) (late : Bool) (notes : Notes) (c : Controller) (po
     cq_was_none : (cq_at c.cqs r).ring.slots ≡ 0
     cq_was_none = s.numbers.cq_slots r ∙ sym (s.holds.tabled.cq_slots r) ∙ slots_past (cq_regions_of rules) r (omega (arith, cq_is_last))
 
-    cq_grows : Grows rules (is_late late notes) (logged notes) cq_rules.regions s.content (λ (x : ℕ). (s.content.sq x).slots) (λ (x : ℕ). slots_at (cq_regions_of cq_rules) x) s.content.nsq (s.content.ncq + 1) (view_of table)
+    cq_grows : Grows rules (is_late rules late notes a) (logged notes) cq_rules.regions s.content (λ (x : ℕ). (s.content.sq x).slots) (λ (x : ℕ). slots_at (cq_regions_of cq_rules) x) s.content.nsq (s.content.ncq + 1) (view_of table)
     cq_grows =
         let h = s.holds.tabled.history in
         let before : TableStandsAt rules.start s.content.table h = s.holds.tabled.stands in
         let after : TableStandsAt rules.start (view_of table) (RegionAdded Completion a n ∷ h) =
         takes rules.start h (subst (λ (t : TableView). TableStandsAt rules.start t h) (sym s.numbers.table_is) before) in
         let there : 0 < length s.content.table.cq_regions = omega (arith, s.holds.tabled.cq_count, some_cqs rules late notes c pool s) in
+        let found = has_history rules Completion a n (sqs_there rules late notes c pool s) (cqs_there rules late notes c pool s) late notes h (view_of table) s.holds.tabled.history_is after in
         record {
           sqs = omega arith;
           cqs = omega arith;
           same_sq = cq-same_sq rules.start h s.content.table (view_of table) a n before after;
           same_cq = cq-same_cq rules.start h s.content.table (view_of table) a n before after there;
           same_used = cq-same_used rules.start h s.content.table (view_of table) a n before after;
-          history = RegionAdded Completion a n ∷ h;
-          stands = after;
-          history_is = λ on_time. ap (λ (g : TableHistory). RegionAdded Completion a n ∷ g) (early_history rules late notes c pool s on_time)
-              ∙ sym (ap (λ (ns : Notes). table_history cq_rules (logged ns)) (is_early late notes on_time).0);
-          no_event = λ on_time. ap logged (is_early late notes on_time).0;
+          history = found.history;
+          stands = found.stands;
+          history_is = found.history_is;
+          own = λ on_time. early_own rules late notes c pool s Completion a n on_time;
           sq_count = cq-same_sqs rules.start h s.content.table (view_of table) a n before after ∙ s.holds.tabled.sq_count;
           cq_count = cq-more_cqs rules.start h s.content.table (view_of table) a n before after ∙ ap (λ (m : ℕ). m + 1) s.holds.tabled.cq_count;
           sq_number = ap (λ (rs : List Region). length rs) (cq-same a n rules) ∙ s.holds.tabled.sq_number;
@@ -549,15 +473,15 @@ module _ (rules : FrontRules) (late : Bool) (notes : Notes) (c : Controller) (po
     }
 
     -- the controller stands with the region
-    pub cq_region-stands : StandsAt cq_rules (is_late late notes) notes (with_cq_region c table r n) pool
+    pub cq_region-stands : StandsAt cq_rules (is_late rules late notes a) notes (with_cq_region c table r n) pool
     cq_region-stands = record {
       content = cq_added;
       items = s.items;
-      holds = holds_when_grown rules late (is_late late notes) (logged notes) s.content s.holds cq_rules.regions
+      holds = holds_when_grown rules late (is_late rules late notes a) (logged notes) s.content s.holds cq_rules.regions
           (λ (x : ℕ). (s.content.sq x).slots) (λ (x : ℕ). slots_at (cq_regions_of cq_rules) x) s.content.nsq (s.content.ncq + 1) (view_of table) cq_grows;
       numbers = cq_numbers;
       has = cq_items;
       doorbells = cq_doorbells;
       tags = cq_tags;
-      account = early_account rules late notes c pool s cq_rules;
+      account = λ on_time. early_account rules late notes c pool s Completion a n on_time;
     }

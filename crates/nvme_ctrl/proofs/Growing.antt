@@ -1,15 +1,14 @@
 -- What a controller keeps stands at its log after a region was added.
-use Rattle.std.proofs.Common.{◌≡◌, ℕ, zero, suc, ◌<◌, ◌≤◌, ◌&&◌, Bool, false, not, List, [], filter, length, Option, Some, None, refl, sym, ap, ◌∙◌, subst, arith, inl, inr, sum_by}
+use Rattle.std.proofs.Common.{◌≡◌, ℕ, zero, suc, ◌<◌, ◌≤◌, ◌&&◌, Bool, false, not, List, [], filter, length, Option, Some, None, refl, sym, ap, ◌∙◌, arith, inl, inr, sum_by}
 use Rattle.std.proofs.lemmas.List.Sums.{sum_by_push}
 use Rattle.std.proofs.lemmas.Bool.{cases_lt}
 use Rattle.nvme_entry.specs.declared.submission.Sqe.{Sqe}
 use Rattle.nvme_admin.specs.History.{TableHistory}
 use Rattle.nvme_admin.specs.Standing.{TableView, StandsAt, sq_of, cq_of, used_at}
 use Rattle.nvme_admin.specs.declared.bounds.TheConstants.{MAX_REGIONS}
-use Rattle.nvme_log.specs.Effects.{effects_since, made_last}
 use Rattle.nvme_log.specs.Histories.{table_history}
 use Rattle.nvme_log.specs.Rules.{FrontRules, Past, upto, sq_regions_of, cq_regions_of, slots_at}
-use Rattle.nvme_log.specs.Places.{fetched, places, entry_at}
+use Rattle.nvme_log.specs.Places.{fetched, places}
 use Rattle.nvme_log.specs.Completions.{is_posted, takes_place}
 use Rattle.nvme_log.specs.Laws.{as_open}
 use Rattle.nvme_ctrl.specs.kept.Content.{Attachment, PendingDelete, Content}
@@ -25,7 +24,7 @@ grown k sq_slots cq_slots nsq ncq table = record k {
   table = table;
 }
 
--- the regions that there are then, and the table with them. Before the first event the table is that of the regions
+-- the regions that there are then, the table with them, and what holds of answers at the rules with them
 pub record Grows (rules : FrontRules) (late : Bool) (past : Past) (regions : TableHistory) (k : Content) (sq_slots cq_slots : ℕ → ℕ) (nsq ncq : ℕ) (table : TableView) : Type 0 where
   pub sqs : k.nsq ≤ nsq
   pub cqs : k.ncq ≤ ncq
@@ -35,7 +34,7 @@ pub record Grows (rules : FrontRules) (late : Bool) (past : Past) (regions : Tab
   pub history : TableHistory
   pub stands : StandsAt rules.start table history
   pub history_is : late ≡ false → history ≡ table_history (record rules { regions = regions }) past
-  pub no_event : late ≡ false → past ≡ []
+  pub own : late ≡ false → HoldsOwn (record rules { regions = regions }) past k
   pub sq_count : length table.sq_regions ≡ nsq
   pub cq_count : length table.cq_regions ≡ ncq
   pub sq_number : length (sq_regions_of (record rules { regions = regions })) ≡ nsq
@@ -48,7 +47,7 @@ pub record Grows (rules : FrontRules) (late : Bool) (past : Past) (regions : Tab
   pub cq_regions_are : table.cq_regions ≡ cq_regions_of (record rules { regions = regions })
 
 -- a sum over more regions, of which the further ones have nothing
-sum_by-further : (f : ℕ → ℕ) (m n : ℕ) → m ≤ n → ((r : ℕ) → m ≤ r → f r ≡ 0) → sum_by f (upto n) ≡ sum_by f (upto m)
+pub sum_by-further : (f : ℕ → ℕ) (m n : ℕ) → m ≤ n → ((r : ℕ) → m ≤ r → f r ≡ 0) → sum_by f (upto n) ≡ sum_by f (upto m)
 sum_by-further f m zero le none = let same : m ≡ 0 = omega arith in ap (λ (x : ℕ). sum_by f (upto x)) (sym same)
 sum_by-further f m (suc n) le none = elim (cases_lt m (suc n)) [
   | inl below ↦ omega (arith, sum_by_push f (upto n) n, sum_by-further f m n (omega arith) none, none n (omega arith))
@@ -58,10 +57,6 @@ sum_by-further f m (suc n) le none = elim (cases_lt m (suc n)) [
 -- how many places of a region that were picked, or that an Abort command aborted, have no completion posted
 abbrev outstanding_in : Past → ℕ → ℕ
 outstanding_in past r = length (filter (λ (i : ℕ). takes_place past r i && not (is_posted past r i)) (places past r))
-
--- no place has an entry before the first event
-no_entry : (past : Past) (r i : ℕ) (entry : Sqe) → past ≡ [] → entry_at past r i ≡ Some entry → ⊥
-no_entry past r i entry none there = let here : entry_at [] r i ≡ Some entry = subst (λ (p : Past). entry_at p r i ≡ Some entry) none there in cc
 
 module _ (rules : FrontRules) (late later : Bool) (past : Past) (k : Content) (s : Holds rules late past k)
     (regions : TableHistory) (sq_slots cq_slots : ℕ → ℕ) (nsq ncq : ℕ) (table : TableView)
@@ -187,15 +182,11 @@ module _ (rules : FrontRules) (late later : Bool) (past : Past) (k : Content) (s
     cq_regions_are = g.cq_regions_are;
   }
 
-  -- before the first event nothing has a status
+  -- the answers stay
   grown_own : later ≡ false → HoldsOwn (record rules { regions = regions }) past (grown k sq_slots cq_slots nsq ncq table)
   grown_own on_time =
-      let none = g.no_event on_time in
-      record {
-        effects_whole = subst (λ (p : Past). effects_since p ≡ made_last (record rules { regions = regions }) p) (sym none) refl;
-        own_statuses = λ c i e lt. let r = s.ready.each c i e lt in absurd (no_entry past _ _ r.entry none r.is_there);
-        own_deletion = λ d h. let p = s.deletion.stands d h in absurd (no_entry past _ _ p.entry none p.is_there);
-      }
+      let o = g.own on_time in
+      record { effects_whole = o.effects_whole; own_statuses = o.own_statuses; own_deletion = o.own_deletion }
 
   -- more regions leave standing what is kept
   pub holds_when_grown : Holds (record rules { regions = regions }) later past (grown k sq_slots cq_slots nsq ncq table)

@@ -73,6 +73,15 @@ pub mod PoolCounts
 pub mod Freeing
 pub mod AddedTables
 pub mod Growing
+pub mod DoorbellCounts
+pub mod FurtherRegion
+pub mod FurtherTables
+pub mod FurtherHistories
+pub mod TakenCommands
+pub mod FurtherAnswers
+pub mod NotedRegions
+pub mod FurtherAccounts
+pub mod FurtherStanding
 pub mod AddCalls
 pub mod Beginning
 pub mod NewCall
@@ -91,6 +100,7 @@ pub mod Aborting
 pub mod Standable
 pub mod AdminCall
 pub mod FinishCall
+mod LateNotes
 mod Handing
 mod PassCall
 mod Posting

@@ -113,7 +113,7 @@ only_first a b c true h e = (refl, omega arith, omega arith)
 only_first a b c false h e = absurd (omega arith)
 
 -- a place stands where its region and index are
-same_place : (r i : ℕ) → one_if (r == r && i == i) ≡ 1
+pub same_place : (r i : ℕ) → one_if (r == r && i == i) ≡ 1
 same_place r i = rw (eq-eqb r r refl, eq-eqb i i refl) refl
 
 -- each place that is ready is one to answer

@@ -1,13 +1,16 @@
 -- Worked logs of a controller, for which the definitions compute (profile).
 use Rattle.std.specs.Prelude.{ℕ, ◌+◌, ◌*◌, true, false, [], ◌∷◌}
-use Rattle.nvme_entry.specs.Status.{StatusCode, success, aborted_by_deletion, lba_out_of_range}
+use Rattle.nvme_entry.specs.Status.{StatusCode, success, invalid_field, aborted_by_deletion, lba_out_of_range}
 use Rattle.nvme_entry.specs.declared.submission.Sqe.{Sqe}
 use Rattle.nvme_entry.specs.declared.completion.Cqe.{Cqe}
 use Rattle.nvme_arbiter.specs.declared.settings.Class.TheVariants.{Urgent}
+use Rattle.nvme_admin.specs.History.{Submission, Completion, RegionAdded}
 use Rattle.nvme_log.specs.declared.event.Event.TheVariants.{Fetch, OpenSq, OpenCq, Closing, Abort, Post, ClosedSq}
 use Rattle.nvme_log.specs.Answers.{Answer}
-use Rattle.nvme_log.specs.Examples.{get_arbitration, admin_picked, admin_posted, create_cq, create_sq, delete_sq, read, done, admin_seen, reads_seen, picked_of}
+use Rattle.nvme_log.specs.Rules.{FrontRules}
+use Rattle.nvme_log.specs.Examples.{one_deletion, get_arbitration, admin_picked, admin_posted, create_cq, create_sq, delete_sq, read, done, admin_seen, reads_seen, picked_of}
 use Rattle.nvme_ctrl.specs.Notes.{Notes, Logged, Tail, Head, Passed, Taken, Answered}
+use Rattle.nvme_ctrl.specs.Making.{with_region}
 use Rattle.nvme_ctrl.specs.declared.marks.Marks.{Marks}
 
 -- ---- four commands whose completions pass a ring of two slots twice
@@ -79,13 +82,17 @@ out_of_range = record { status = lba_out_of_range; dw0 = 0 }
 abbrev pub aborted_done : ℕ → Cqe
 aborted_done cid = done 1 cid aborted_by_deletion
 
+-- both Creates and the Delete are fetched
+abbrev pub creates_fetched : Notes
+creates_fetched =
+    Logged (Fetch 0 2 delete_sq)
+    ∷ Logged (Fetch 0 1 create_sq)
+    ∷ Logged (Fetch 0 0 create_cq) ∷ Tail 0 3 ∷ []
+
 -- the Create of completion queue 1 is picked
 abbrev pub create_picked : Notes
 create_picked =
-    Logged (picked_of (admin_seen 3 ∷ []) 0)
-    ∷ Logged (Fetch 0 2 delete_sq)
-    ∷ Logged (Fetch 0 1 create_sq)
-    ∷ Logged (Fetch 0 0 create_cq) ∷ Tail 0 3 ∷ []
+    Logged (picked_of (admin_seen 3 ∷ []) 0) ∷ creates_fetched
 
 -- completion queue 1 and submission queue 1 are there
 abbrev pub queue_made : Notes
@@ -158,6 +165,19 @@ delete_told =
 abbrev pub deletion_noted : Notes
 deletion_noted =
     Logged (Post 0 0 2 (done 0 2 success)) ∷ delete_told
+
+-- ---- a region that is added when its Create was fetched
+-- the rules of this log before the completion region at 9000h is added
+abbrev pub without_region : FrontRules
+without_region = record one_deletion { regions = RegionAdded Completion 0x8000 16 ∷ RegionAdded Submission 0x2000 8 ∷ RegionAdded Submission 0x1000 16 ∷ [] }
+
+-- and with it
+abbrev pub with_late_region : FrontRules
+with_late_region = with_region Completion 0x9000 64 without_region
+
+-- the answer to the Create where the region isn't there (Create I/O Completion Queue, PRP Entry 1; profile)
+abbrev pub create_refused : Answer
+create_refused = record { status = invalid_field; dw0 = 0 }
 
 -- ---- marks
 abbrev pub unmarked : Marks

@@ -8,7 +8,7 @@ use Rattle.nvme_arbiter.specs.declared.pick.Seen.{Seen}
 use Rattle.nvme_arbiter.specs.declared.pick.Pick.{Pick}
 use Rattle.nvme_arbiter.specs.Lawful.{IsLawfulPick}
 use Rattle.nvme_log.specs.declared.event.Event.TheVariants as event
-use Rattle.nvme_log.specs.Rules.{FrontRules}
+use Rattle.nvme_log.specs.Rules.{FrontRules, sq_regions_of, cq_regions_of}
 use Rattle.nvme_log.specs.Places.{fetched, is_aborted, places, observation_of}
 use Rattle.nvme_log.specs.declared.place.Place.{Place}
 use Rattle.nvme_log.specs.Histories.{arbitration_of}
@@ -16,7 +16,9 @@ use Rattle.nvme_log.specs.Completions.{is_posted, posted_to, posts_of, phase_aft
 use Rattle.nvme_log.specs.Answers.{Answer, by_answers}
 use Rattle.nvme_log.specs.Account.{IsAccountBy, latest_admin_place}
 use Rattle.nvme_log.specs.Laws.{PicksPlace}
+use Rattle.nvme_admin.specs.History.{Kind}
 use Rattle.nvme_ctrl.specs.Notes.{Notes, Logged, logged}
+use Rattle.nvme_ctrl.specs.Making.{with_region, is_named}
 use Rattle.nvme_ctrl.specs.Doorbells.{sq_slots, cq_slots, submitted, consumed}
 use Rattle.nvme_ctrl.specs.Tags.{is_passed, is_of_device, holder, answer_of, answers}
 use Rattle.nvme_ctrl.specs.Account.{IsAccount}
@@ -101,6 +103,11 @@ PicksAreLawful = (rules : FrontRules) (later before : Notes) (seen : List Seen) 
 abbrev pub TagsAreApart : Type 0
 TagsAreApart = (rules : FrontRules) (notes : Notes) → IsAccount rules notes → (t u : ℕ) (place : Place) → holder notes t ≡ Some place → holder notes u ≡ Some place → t ≡ u
 
--- the log at which a controller stands is an account, where no region was added after its first note
+-- the log at which a controller stands is an account, where no region was added late
 abbrev pub ControllersKeepAccounts : Type 0
 ControllersKeepAccounts = (rules : FrontRules) (notes : Notes) (c : Controller) (slots : List Slot) → Stands rules false notes c slots → IsAccount rules notes
+
+-- and it stays one at the rules with a region more, where no Create that was picked named the region's address. The admin regions are there
+abbrev pub RegionsLeaveAccounts : Type 0
+RegionsLeaveAccounts = (rules : FrontRules) (notes : Notes) (kind : Kind) (address slots : ℕ) → 0 < length (sq_regions_of rules) → 0 < length (cq_regions_of rules)
+    → IsAccount rules notes → is_named rules notes address ≡ false → IsAccount (with_region kind address slots rules) notes

@@ -1,16 +1,21 @@
 -- The rules of a controller that is made, and of one with a region more. (profile)
-use Rattle.std.specs.Prelude.{ℕ, ◌==◌, ◌||◌, nat_lt, Bool, true, if◌then◌else◌, List, [], ◌∷◌, length, Option, Some, None, is_some}
+use Rattle.std.specs.Prelude.{ℕ, ◌==◌, ◌||◌, nat_lt, Bool, false, if◌then◌else◌, List, [], ◌∷◌, length, Option, Some, None, is_some}
+use Rattle.std.specs.List.{list_any}
+use Rattle.nvme_entry.specs.AdminCommand.{admin_command_of}
+use Rattle.nvme_entry.specs.declared.admin.AdminCommand.{AdminCommand}
+use Rattle.nvme_entry.specs.declared.admin.AdminCommand.TheVariants.{CreateSq, CreateCq}
 use Rattle.nvme_arbiter.specs.Settings.{ArbitrationFields}
 use Rattle.nvme_arbiter.specs.declared.settings.Mechanism.{Mechanism}
-use Rattle.nvme_admin.specs.History.{Kind, RegionAdded, Submission, Completion, TableHistory}
+use Rattle.nvme_admin.specs.History.{Kind, TableStep, RegionAdded, EntryApplied, Submission, Completion, TableHistory}
 use Rattle.nvme_admin.specs.QueueTable.{region_number}
 use Rattle.nvme_admin.specs.declared.bounds.TheConstants.{MAX_REGIONS, MIN_SLOTS, MAX_SLOTS}
 use Rattle.nvme_admin.specs.declared.limits.Limits.{Limits}
 use Rattle.nvme_admin.specs.declared.region.Region.{Region}
 use Rattle.nvme_admin.specs.declared.region.AdminError.{AdminError}
 use Rattle.nvme_admin.specs.declared.region.AdminError.TheVariants.{Used, TooMany, Size}
+use Rattle.nvme_log.specs.Histories.{table_history}
 use Rattle.nvme_log.specs.Rules.{FrontRules, sq_regions_of, cq_regions_of}
-use Rattle.nvme_ctrl.specs.Notes.{Notes}
+use Rattle.nvme_ctrl.specs.Notes.{Notes, logged}
 
 -- the steps that add the admin regions
 abbrev pub first_regions : (sq cq : Region) → TableHistory
@@ -54,7 +59,21 @@ adding_fault kind address slots rules =
     else (if nat_lt slots MIN_SLOTS || nat_lt MAX_SLOTS slots then Some Size
     else None))
 
--- a region is added after the first event
-abbrev pub is_late : Bool → Notes → Bool
-is_late late [] = late
-is_late late (note ∷ notes) = true
+-- an admin command names an address: it is a Create, and its PRP1 is the address. (Create I/O Submission Queue, Create I/O Completion Queue, PRP Entry 1)
+abbrev pub command_names : ℕ → AdminCommand → Bool
+command_names address (CreateSq qid qsize prp1 cqid qprio pc) = address == prp1
+command_names address (CreateCq qid qsize prp1 pc) = address == prp1
+command_names address command = false
+
+-- a step applies an entry that names it
+abbrev pub step_names : ℕ → TableStep → Bool
+step_names address (EntryApplied entry) = command_names address (admin_command_of entry)
+step_names address step = false
+
+-- an admin command that was picked named an address
+abbrev pub is_named : FrontRules → Notes → ℕ → Bool
+is_named rules notes address = list_any (step_names address) (table_history rules (logged notes))
+
+-- a region is added late: a Create that was picked before named its address. Once one was, all later ones are
+abbrev pub is_late : FrontRules → Bool → Notes → ℕ → Bool
+is_late rules late notes address = late || is_named rules notes address

@@ -6,7 +6,8 @@ use Rattle.nvme_ctrl.specs.declared.slot.Slot.{Slot}
 use Rattle.nvme_ctrl.specs.declared.state.Controller.{Controller}
 use Rattle.nvme_ctrl.specs.kept.Kept.{StandsAt}
 
--- the controller with this pool stands at these notes. `late` says that a region was added after the first event: then nothing is said of the account
+-- the controller with this pool stands at these notes. `late` says that a region was added after a Create that named its address was picked: then nothing is
+-- said of the account
 abbrev pub Stands : FrontRules → Bool → Notes → Controller → List Slot → Type 0
 Stands rules late notes c slots = StandsAt rules late notes c slots
 

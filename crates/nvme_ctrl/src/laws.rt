@@ -7,14 +7,20 @@ ghost use Rattle.nvme_ctrl.specs.Notes.{Logged, Tail, Head, Kept, Passed, Taken,
 ghost use Rattle.nvme_ctrl.specs.Marks.{own_marks};
 ghost use Rattle.nvme_ctrl.specs.Tags.{cookie_of, marks_of};
 ghost use Rattle.nvme_ctrl.specs.Own.{is_own, no_own, with_opcode, with_feature};
+ghost use Rattle.nvme_ctrl.specs.Making.{is_named};
 ghost use Rattle.nvme_ctrl.specs.Account.{IsLawful, IsAccount};
-ghost use Rattle.nvme_ctrl.specs.Examples.{identify, identify_fetched, identify_picked, identify_passed, identify_taken, identify_answered, identified, get_feature, set_feature, told, three_of_four, four_fetched, first_picked, first_answered, first_posted, third_answered, two_passes, succeeded, out_of_range, create_picked, reads_submitted, reads_waiting, read_picked, read_taken, delete_begun, aborts_posted, read_answered, reads_posted, deletion_noted, unmarked, not_retried, more_told};
-ghost use Rattle.nvme_ctrl.specs.Laws.{ControllersKeepAccounts, EventsAreAccounted, SlotsAreFetchedInOrder, CompletionsFollowAnswers, OneCompletionEach, SlotsAreFree, CompletionsTellTheHead, DeletesAreAnsweredLast, NoneFetchedAfterDeletion, NonePickedAfterDeletion, PicksAreLawful, TagsAreApart};
+ghost use Rattle.nvme_ctrl.specs.Examples.{identify, identify_fetched, identify_picked, identify_passed, identify_taken, identify_answered, identified, get_feature, set_feature, told, three_of_four, four_fetched, first_picked, first_answered, first_posted, third_answered, two_passes, succeeded, out_of_range, without_region, with_late_region, creates_fetched, create_picked, create_refused, reads_submitted, reads_waiting, read_picked, read_taken, delete_begun, aborts_posted, read_answered, reads_posted, deletion_noted, unmarked, not_retried, more_told};
+ghost use Rattle.nvme_ctrl.specs.Laws.{ControllersKeepAccounts, RegionsLeaveAccounts, EventsAreAccounted, SlotsAreFetchedInOrder, CompletionsFollowAnswers, OneCompletionEach, SlotsAreFree, CompletionsTellTheHead, DeletesAreAnsweredLast, NoneFetchedAfterDeletion, NonePickedAfterDeletion, PicksAreLawful, TagsAreApart};
 
-/// The log at which a controller stands is an account, where no region was added after its first note. So all that
-/// follows holds of it.
+/// The log at which a controller stands is an account, where no region was added late: after a Create that named its
+/// address was picked. So all that follows holds of it.
 pub fn controllers_keep_accounts()
     ensures { ControllersKeepAccounts }
+{}
+
+/// An account stays one at the rules with a region more, where no Create that was picked named the region's address.
+pub fn regions_leave_accounts()
+    ensures { RegionsLeaveAccounts }
 {}
 
 /// The events of a controller's log in which no admin command was passed on are those of an accounted log in which the
@@ -76,6 +82,17 @@ pub fn worked_logs_are_accounted()
     ensures two_passes { IsAccount two_slots two_passes }
     ensures deletion { IsAccount one_deletion deletion_noted }
     ensures other_answer { IsLawful one_deletion (Answered 1 0 out_of_range ∷ aborts_posted) (Logged (Post 1 1 0 (done 1 0 lba_out_of_range))) }
+{}
+
+/// Worked: a region is added when the Create that names it is fetched. The log that goes on with the Create's completion
+/// queue is an account at the rules with the region. Where the Create was picked before and refused, it named the address,
+/// and the refusal is no answer at the rules with the region.
+pub fn regions_come_before_their_creates()
+    ensures unnamed { is_named without_region creates_fetched 0x9000 ≡ false }
+    ensures account { IsAccount with_late_region deletion_noted }
+    ensures named { is_named without_region create_picked 0x9000 ≡ true }
+    ensures refused { IsLawful without_region create_picked (Answered 0 0 create_refused) }
+    ensures refused_late { IsLawful with_late_region create_picked (Answered 0 0 create_refused) → ⊥ }
 {}
 
 /// What the caller keeps with a command is told of its place alone. It is kept once, and with a command that was

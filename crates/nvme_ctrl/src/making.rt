@@ -126,9 +126,11 @@ impl Controller {
         self.own.add_feature(fid);
     }
 
-    /// Adds a submission region of `slots` slots, and answers its number, which counts from 0 in the order of adding.
-    /// Refused where its address is that of another region, where there are `MAX_REGIONS` of its kind, and where the
-    /// number of slots is outside its limits, in this order. A refusal changes nothing. (profile)
+    /// Adds a submission region of `slots` slots, and answers its number, which counts from 0 in the order of adding. It may
+    /// be added at any time, as when the Create that names its address is fetched: the log stays an account, where no Create
+    /// that was picked before named the address. Refused where its address is that of another region, where there are
+    /// `MAX_REGIONS` of its kind, and where the number of slots is outside its limits, in this order. A refusal changes
+    /// nothing. (profile)
     pub fn add_sq_region(&mut self, address: u64, slots: u16) -> Result<u8, AdminError>
         ensures unchanged { OnErr result (self.new ≡ self.old) }
         ensures window { window_limit self.new ≡ window_limit self.old }
@@ -137,7 +139,7 @@ impl Controller {
         ensures refused { (rules : FrontRules) (late : Bool) (notes : Notes) (pool : List Slot) → Stands rules late notes self.old pool → IfErr result (λ e. adding_fault Submission address slots rules ≡ Some e) }
         ensures added { (rules : FrontRules) (late : Bool) (notes : Notes) (pool : List Slot) → Stands rules late notes self.old pool → OnOk result (adding_fault Submission address slots rules ≡ None) }
         ensures number { (rules : FrontRules) (late : Bool) (notes : Notes) (pool : List Slot) → Stands rules late notes self.old pool → IfOk result (λ r. r ≡ length (sq_regions_of rules)) }
-        ensures stands { (rules : FrontRules) (late : Bool) (notes : Notes) (pool : List Slot) → Stands rules late notes self.old pool → IfOk result (λ r. Stands (with_region Submission address slots rules) (is_late late notes) notes self.new pool) }
+        ensures stands { (rules : FrontRules) (late : Bool) (notes : Notes) (pool : List Slot) → Stands rules late notes self.old pool → IfOk result (λ r. Stands (with_region Submission address slots rules) (is_late rules late notes address) notes self.new pool) }
     {
         let region = self.table.add_sq_region(address, slots)?;
         let mut sq = self.sq(region);
@@ -146,7 +148,8 @@ impl Controller {
         Ok(region)
     }
 
-    /// Adds a completion region, as `add_sq_region` adds a submission region, with the same refusals.
+    /// Adds a completion region, as `add_sq_region` adds a submission region: at any time, with the same refusals. The log
+    /// stays an account under the same condition.
     pub fn add_cq_region(&mut self, address: u64, slots: u16) -> Result<u8, AdminError>
         ensures unchanged { OnErr result (self.new ≡ self.old) }
         ensures window { window_limit self.new ≡ window_limit self.old }
@@ -155,7 +158,7 @@ impl Controller {
         ensures refused { (rules : FrontRules) (late : Bool) (notes : Notes) (pool : List Slot) → Stands rules late notes self.old pool → IfErr result (λ e. adding_fault Completion address slots rules ≡ Some e) }
         ensures added { (rules : FrontRules) (late : Bool) (notes : Notes) (pool : List Slot) → Stands rules late notes self.old pool → OnOk result (adding_fault Completion address slots rules ≡ None) }
         ensures number { (rules : FrontRules) (late : Bool) (notes : Notes) (pool : List Slot) → Stands rules late notes self.old pool → IfOk result (λ r. r ≡ length (cq_regions_of rules)) }
-        ensures stands { (rules : FrontRules) (late : Bool) (notes : Notes) (pool : List Slot) → Stands rules late notes self.old pool → IfOk result (λ r. Stands (with_region Completion address slots rules) (is_late late notes) notes self.new pool) }
+        ensures stands { (rules : FrontRules) (late : Bool) (notes : Notes) (pool : List Slot) → Stands rules late notes self.old pool → IfOk result (λ r. Stands (with_region Completion address slots rules) (is_late rules late notes address) notes self.new pool) }
     {
         let region = self.table.add_cq_region(address, slots)?;
         let mut cq = self.cq(region);

@@ -249,7 +249,7 @@ pub record HoldsTags (notes : Notes) (c : Controller) (slots : List Slot) (g : I
   pub none_marked : (r i : ℕ) → answer_of notes r i ≡ None → marks_of notes r i ≡ None
   pub marks : (x : ℕ) → All (HasMarks notes) (g.readies x)
 
--- a controller stands at its log. The log is accounted where no region was added after its first event
+-- a controller stands at its log. The log is accounted where no region was added late
 pub record StandsAt (rules : FrontRules) (late : Bool) (notes : Notes) (c : Controller) (slots : List Slot) : Type 0 where
   pub content : Content
   pub items : Items

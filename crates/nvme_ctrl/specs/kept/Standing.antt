@@ -199,7 +199,7 @@ pub record HoldsArbitration (rules : FrontRules) (past : Past) (k : Content) : T
   pub stands : BoardStandsAt rules.mechanism rules.start.settings (arbitration_of past) k.board
   pub lawful : IsLawfulRun rules.mechanism rules.start.settings (arbitration_of past)
 
--- the table stands at a history. It is that of the log where no region was added after the first event
+-- the table stands at a history. It is that of the log where no region was added late
 pub record HoldsTable (rules : FrontRules) (late : Bool) (past : Past) (k : Content) : Type 0 where
   pub history : TableHistory
   pub stands : StandsAt rules.start k.table history
@@ -246,7 +246,7 @@ pub record HoldsOwn (rules : FrontRules) (past : Past) (k : Content) : Type 0 wh
   pub own_statuses : (c : ℕ) → All (HasOwnStatus rules past) (k.cq c).ready
   pub own_deletion : (d : PendingDelete) → k.deletion ≡ Some d → IsOwnDeletion rules past d
 
--- what a controller keeps holds at its log. Of statuses that is said where no region was added after the first event
+-- what a controller keeps holds at its log. Of statuses that is said where no region was added late
 pub record Holds (rules : FrontRules) (late : Bool) (past : Past) (k : Content) : Type 0 where
   pub regions : (r : ℕ) → HoldsSq past r (k.sq r)
   pub ready : HoldsReady past k (hand_of k)

@@ -19,12 +19,12 @@ returns-clause-stands c rules late notes pool s =
     let told = c.in_ok-region.ensures in
     let is = c.put_sq.ensures
     ∙ (λ i. record old { table = table; sqs = slice_set old.sqs r (record (c.sq-sq.ensures i) { ring = c.new-sq.ensures.value i }) }) in
-    subst (λ (x : Controller). StandsAt (with_region Submission c.args.address n rules) (is_late late notes) notes x pool) (sym is)
+    subst (λ (x : Controller). StandsAt (with_region Submission c.args.address n rules) (is_late rules late notes c.args.address) notes x pool) (sym is)
     (sq_region-stands rules late notes old pool s table c.args.address n r told.number told.added told.stands told.sized
     (subst (λ (ring : Ring). HasCounts ring 0 0) c.new-sq.ensures.value c.new-sq.ensures.counts))
 
 pub returns-clause-front : goal.returns-clause-front
-returns-clause-front c pool i = record { rules = with_region Submission c.args.address c.args.slots i.rules; late = is_late i.late i.notes; notes = i.notes; stands = returns-clause-stands c i.rules i.late i.notes pool i.stands }
+returns-clause-front c pool i = record { rules = with_region Submission c.args.address c.args.slots i.rules; late = is_late i.rules i.late i.notes c.args.address; notes = i.notes; stands = returns-clause-stands c i.rules i.late i.notes pool i.stands }
 
 pub returns-in_err-region-clause-front : goal.returns-in_err-region-clause-front
 returns-in_err-region-clause-front c pool i =

@@ -1,0 +1,99 @@
+-- What a controller holds of its table and of its answers, at the rules with a region more.
+use Rattle.std.proofs.Common.{◌≡◌, ℕ, ◌+◌, ◌<◌, ◌≤◌, ◌==◌, ◌&&◌, not, nat_lt, Bool, true, false, ◌∷◌, ◌++◌, length, get_or, Option, Some, refl, sym, ap, ◌∙◌, subst, arith, true≢false}
+use Rattle.std.proofs.lemmas.Bool.{and_parts, not-true, or_parts}
+use Rattle.std.proofs.lemmas.List.Sums.{sum_by_push}
+use Rattle.nvme_admin.specs.Accepted.{queue_table}
+use Rattle.nvme_admin.specs.History.{TableHistory, RegionAdded, Kind}
+use Rattle.nvme_admin.specs.Standing.{TableView, Shows, StandsAt as TableStandsAt}
+use Rattle.nvme_log.specs.Rules.{FrontRules, Past, sq_regions_of, cq_regions_of}
+use Rattle.nvme_log.specs.Histories.{table_history}
+use Rattle.nvme_log.specs.Places.{fetched, fate_of, is_waiting, one_if, is_served}
+use Rattle.nvme_log.specs.Completions.{posts_of}
+use Rattle.nvme_log.specs.declared.place.Place.{Place}
+use Rattle.nvme_ctrl.specs.Making.{with_region, is_late, is_named}
+use Rattle.nvme_ctrl.specs.Notes.{Notes, logged}
+use Rattle.nvme_ctrl.specs.kept.Content.{Ready, PendingDelete, Content}
+use Rattle.nvme_ctrl.specs.kept.Standing.{HoldsReady, HoldsOwn, HasItsStatus, HasOwnStatus, IsOwnDeletion, answer_in, deleted_answer, times_ready, times_held, held_by, hand_of}
+use Rattle.nvme_ctrl.proofs.FurtherTables.{added-further, table-further, sqs-further, cqs-further}
+use Rattle.nvme_ctrl.proofs.FurtherHistories.{IsUnnamed, history-further, made_last-further}
+use Rattle.nvme_ctrl.proofs.FurtherAnswers.{status-stays, dw0-stays}
+use Rattle.nvme_ctrl.proofs.OwnStatus.{IsAnswerable, ready_is_answerable, answerable_is_done, same_place}
+use Rattle.nvme_ctrl.proofs.TakenCommands.{IsSound}
+
+-- a region isn't late where none was before, and no Create named its address
+pub in_time : (rules : FrontRules) (late : Bool) (notes : Notes) (a : ℕ) → is_late rules late notes a ≡ false → (late ≡ false) × IsUnnamed rules a (logged notes)
+in_time rules late notes a e = or_parts late (is_named rules notes a) e
+
+-- of numbers that are together one if a test passes, the last at least one
+last_one : (a b c : ℕ) (served : Bool) → 1 ≤ c → a + b + c ≡ one_if served → served ≡ true
+last_one a b c true h e = refl
+last_one a b c false h e = absurd (omega (arith, h, e))
+
+-- the place of a pending deletion doesn't wait
+deletion_done : (past : Past) (k : Content) → HoldsReady past k (hand_of k) → (d : PendingDelete) → k.deletion ≡ Some d
+    → is_waiting (fate_of past d.place.region d.place.index) ≡ false
+deletion_done past k h d is =
+    let r = d.place.region in
+    let i = d.place.index in
+    let held : 1 ≤ times_held r i (hand_of k) =
+    subst (λ (o : Option PendingDelete). 1 ≤ times_held r i (k.hand ++ held_by o)) (sym is)
+    (omega (arith, sum_by_push (λ (p : Place). one_if (p.region == r && p.index == i)) k.hand d.place, same_place r i)) in
+    let served = last_one (times_ready k r i) (posts_of past r i) (times_held r i (hand_of k)) (is_served past r i) held (h.once r i) in
+    not-true (is_waiting (fate_of past r i)) (and_parts (nat_lt i (length (fetched past r))) (not (is_waiting (fate_of past r i))) served).1
+
+-- a history at which a table stands, which is that of the log where no region was added late
+pub record HasHistory (rules : FrontRules) (late : Bool) (past : Past) (table : TableView) : Type 0 where
+  pub history : TableHistory
+  pub stands : TableStandsAt rules.start table history
+  pub history_is : late ≡ false → history ≡ table_history rules past
+
+module _ (rules : FrontRules) (kind : Kind) (a n : ℕ) (some_sqs : 0 < length (sq_regions_of rules)) (some_cqs : 0 < length (cq_regions_of rules)) where
+  -- ---- the table
+  -- a region that is added last makes the table that it makes when it is added before
+  added-before : (past : Past) → IsUnnamed rules a past
+      → queue_table rules.start (RegionAdded kind a n ∷ table_history rules past) ≡ queue_table rules.start (table_history (with_region kind a n rules) past)
+  added-before past unnamed =
+      let h = table_history rules past in
+      let further = history-further rules kind a n some_sqs some_cqs past unnamed in
+      let last = added-further rules.start kind a n h (sqs-further rules.start kind a n h (table_history (with_region kind a n rules) past) further)
+      (cqs-further rules.start kind a n h (table_history (with_region kind a n rules) past) further) in
+      table-further rules.start kind a n h (RegionAdded kind a n ∷ h) last ∙ sym (table-further rules.start kind a n h (table_history (with_region kind a n rules) past) further)
+
+  pub has_history : (late : Bool) (notes : Notes) (h : TableHistory) (table : TableView) → (late ≡ false → h ≡ table_history rules (logged notes))
+      → TableStandsAt rules.start table (RegionAdded kind a n ∷ h) → HasHistory (with_region kind a n rules) (is_late rules late notes a) (logged notes) table
+  has_history late notes h table history_is stands = by (is_late rules late notes a) refl where
+    by : (b : Bool) → is_late rules late notes a ≡ b → HasHistory (with_region kind a n rules) b (logged notes) table
+    by true e = record { history = RegionAdded kind a n ∷ h; stands = stands; history_is = λ no. absurd (true≢false no) }
+    by false e =
+        let on_time = in_time rules late notes a e in
+        record {
+          history = table_history (with_region kind a n rules) (logged notes);
+          stands = subst (Shows table) (ap (λ (g : TableHistory). queue_table rules.start (RegionAdded kind a n ∷ g)) (history_is on_time.0) ∙ added-before (logged notes) on_time.1) stands;
+          history_is = λ no. refl;
+        }
+
+  -- ---- answers
+  pub own-holds : (past : Past) (k : Content) → IsSound rules past → IsUnnamed rules a past → HoldsReady past k (hand_of k) → HoldsOwn rules past k → HoldsOwn (with_region kind a n rules) past k
+  own-holds past k sound unnamed h own = record {
+    effects_whole = own.effects_whole ∙ sym (made_last-further rules kind a n some_sqs some_cqs past unnamed);
+    own_statuses = λ x j d lt. ready-holds (get_or (k.cq x).ready j d) (ready_is_answerable past k (hand_of k) h x j d lt) (own.own_statuses x j d lt);
+    own_deletion = λ d is. deletion-holds d (deletion_done past k h d is) (own.own_deletion d is);
+  } where
+    ready-holds : (t : Ready) → IsAnswerable past (hand_of k) t.place.region t.place.index → HasOwnStatus rules past t → HasOwnStatus (with_region kind a n rules) past t
+    ready-holds t it has not_passed =
+        let st : HasItsStatus rules past t = has not_passed in
+        let done = answerable_is_done past (hand_of k) t.place.region t.place.index it in
+        record {
+          entry = st.entry;
+          is_there = st.is_there;
+          status = st.status ∙ sym (status-stays rules kind a n some_sqs some_cqs past sound unnamed t.place.region t.place.index st.entry st.is_there done (answer_in t));
+          dw0 = st.dw0 ∙ sym (dw0-stays rules kind a n some_sqs some_cqs past sound unnamed t.place.region t.place.index st.entry st.is_there done (answer_in t));
+        }
+
+    deletion-holds : (d : PendingDelete) → is_waiting (fate_of past d.place.region d.place.index) ≡ false → IsOwnDeletion rules past d → IsOwnDeletion (with_region kind a n rules) past d
+    deletion-holds d done st = record {
+      entry = st.entry;
+      is_there = st.is_there;
+      status = status-stays rules kind a n some_sqs some_cqs past sound unnamed d.place.region d.place.index st.entry st.is_there done deleted_answer ∙ st.status;
+      dw0 = dw0-stays rules kind a n some_sqs some_cqs past sound unnamed d.place.region d.place.index st.entry st.is_there done deleted_answer ∙ st.dw0;
+    }
