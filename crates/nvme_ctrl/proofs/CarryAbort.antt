@@ -42,7 +42,7 @@ target_open past sqid queue h = by (sqid == 0) refl h where
   by false e is = ((λ z. let no = sym (eq-eqb sqid 0 z) ∙ e in cc no), is)
 
 -- so one of an I/O queue is that which is open
-target_is : (past : Past) (sqid : ℕ) → (sqid ≡ 0 → ⊥) → target_of past sqid ≡ open_sq past sqid
+pub target_is : (past : Past) (sqid : ℕ) → (sqid ≡ 0 → ⊥) → target_of past sqid ≡ open_sq past sqid
 target_is past sqid io = ap (λ (b : Bool). if b then None else open_sq past sqid) (ne_eqb sqid 0 io)
 
 module _ (rules : FrontRules) (late : Bool) (notes : Notes) (a : Controller) (slots : List Slot) (tag sqid cid : ℕ)

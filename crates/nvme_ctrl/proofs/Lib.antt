@@ -106,3 +106,6 @@ mod PassCall
 mod Posting
 mod OwnCall
 mod PassedNotes
+mod NamedTags
+mod WaitingNames
+mod AbortNotes

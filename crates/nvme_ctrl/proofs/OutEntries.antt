@@ -1,5 +1,5 @@
 -- The entry in the slot of a command that the device has, and what the caller keeps with it.
-use Rattle.std.proofs.Common.{◌≡◌, ℕ, ◌++◌, ◌∷◌, Bool, true, false, List, Some, sym, ap, ◌∙◌, subst, inl, inr}
+use Rattle.std.proofs.Common.{◌≡◌, ℕ, ◌<◌, ◌++◌, ◌∷◌, Bool, true, false, List, length, Some, sym, ap, ◌∙◌, subst, inl, inr}
 use Rattle.std.proofs.lemmas.Bool.{cases_eq}
 use Rattle.std.proofs.lemmas.Option.{same_Some}
 use Rattle.std.proofs.lemmas.List.Elements.{All-same}
@@ -42,12 +42,18 @@ module _ (rules : FrontRules) (late : Bool) (notes : Notes) (c : Controller) (sl
         let there : (slot_at slots tag).entry ≡ at.item.entry = ap (λ (t : ℕ). (slot_at slots t).entry) (sym at.tag) ∙ (of_it (IsOutIn slots) s.has.outs_items).entry in
         subst (λ (p : Place). entry_at (logged notes) p.region p.index ≡ Some (slot_at slots tag).entry) same (entry ∙ ap (λ (e : Sqe). Some e) (sym there))
 
+    region_in_slot : (slot_at slots tag).region ≡ place.region
+    region_in_slot = ap (λ (t : ℕ). (slot_at slots t).region) (sym at.tag) ∙ (of_it (IsOutIn slots) s.has.outs_items).region ∙ ap (λ (p : Place). p.region) same
+
+    in_pool : tag < length slots
+    in_pool = subst (λ (t : ℕ). t < length slots) at.tag (of_it (IsOutIn slots) s.has.outs_items).inside
+
     cookie_in_slot : cookie_of notes place.region place.index ≡ Some (slot_at slots tag).cookie
     cookie_in_slot = subst (λ (p : Place). cookie_of notes p.region p.index ≡ Some (slot_at slots tag).cookie) same
         (of_it (HasCookie notes slots) s.tags.cookies.outs ∙ ap (λ (t : ℕ). Some (slot_at slots t).cookie) at.tag)
 
   -- so for a tag that is out
-  is_two : is_out notes tag ≡ true → (slot_at slots tag).state ≡ 2
+  pub is_two : is_out notes tag ≡ true → (slot_at slots tag).state ≡ 2
   is_two out = elim (cases_eq (slot_at slots tag).state 2) [
     | inl state ↦ state
     | inr other ↦ absurd (never_both (is_out notes tag) out (other_is_not_out rules late notes c slots s tag other))
@@ -58,3 +64,9 @@ module _ (rules : FrontRules) (late : Bool) (notes : Notes) (c : Controller) (sl
 
   pub out_cookie : is_out notes tag ≡ true → cookie_of notes place.region place.index ≡ Some (slot_at slots tag).cookie
   out_cookie out = cookie_in_slot (is_two out)
+
+  pub out_region : is_out notes tag ≡ true → (slot_at slots tag).region ≡ place.region
+  out_region out = region_in_slot (is_two out)
+
+  pub out_inside : is_out notes tag ≡ true → tag < length slots
+  out_inside out = in_pool (is_two out)

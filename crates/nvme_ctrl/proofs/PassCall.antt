@@ -60,7 +60,7 @@ module _ (rules : FrontRules) (late : Bool) (notes : Notes) (c : Controller) (sl
     (arbiter : IsTrue (is_arbiter board.arbiter))
     (needs : places_in c slots pick + c.outstanding ≤ max_outstanding)
     (places : c.outstanding + pick.n ≤ max_outstanding) (first_is : pick.qid ≡ 0)
-    (may : may_be_own (oldest_entry c slots) ≡ true) where
+    (may : may_be_own (logged notes) (oldest_entry c slots) ≡ true) where
   abbrev k : Content
   k = s.content
 
@@ -139,7 +139,7 @@ module _ (rules : FrontRules) (late : Bool) (notes : Notes) (c : Controller) (sl
     of_admin = first_is;
     entry = x.entry;
     next = admin_entry_is now (k.sq 0) (candidate_of x) (map candidate_of rest) (s.holds.regions 0) window_here;
-    may_be = ap may_be_own entry_is ∙ may;
+    may_be = ap (may_be_own now) entry_is ∙ may;
   }
 
   -- ---- what is handed over
@@ -265,7 +265,7 @@ module _ (rules : FrontRules) (late : Bool) (notes : Notes) (c : Controller) (sl
     picked = was_picked picked_now 0 i unaborted done;
     entry = x.entry;
     is_there = entry_there;
-    may_be = ap may_be_own entry_is ∙ may;
+    may_be = ap (may_be_own now) entry_is ∙ may;
     first = not_passed;
     unanswered = unanswered;
   }

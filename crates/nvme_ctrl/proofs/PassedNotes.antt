@@ -2,12 +2,13 @@
 use Rattle.std.proofs.Common.{◌≡◌, true, false, Some, None, refl, sym, ap, ◌∙◌, arith}
 use Rattle.std.proofs.lemmas.Option.{same_Some}
 use Rattle.nvme_entry.specs.Status.{StatusCode, success, invalid_opcode}
+use Rattle.nvme_entry.specs.declared.submission.Sqe.{Sqe}
 use Rattle.nvme_admin.specs.Accepted.{effects_of, queue_table, status_of, dw0_of, verdict_of}
 use Rattle.nvme_log.specs.declared.event.Event.TheVariants.{Post}
 use Rattle.nvme_log.specs.Answers.{Answer}
 use Rattle.nvme_log.specs.Examples.{two_slots, get_arbitration}
-use Rattle.nvme_ctrl.specs.Notes.{Logged, Passed, Taken, Answered}
-use Rattle.nvme_ctrl.specs.Own.{may_be_own}
+use Rattle.nvme_ctrl.specs.Notes.{Logged, Passed, Taken, Answered, logged}
+use Rattle.nvme_ctrl.specs.Own.{may_be_own, before_pick}
 use Rattle.nvme_ctrl.specs.Account.{IsLawful}
 use Rattle.nvme_ctrl.specs.Examples.{succeeded, first_picked, identify, identify_fetched, identify_picked, identify_passed, identify_taken, identify_answered, identified}
 
@@ -52,7 +53,7 @@ passed_unpicked h = let e : None ≡ Some 0 = h.latest in cc e
 pub passed_core : IsLawful two_slots first_picked (Passed 0) → ⊥
 passed_core h =
     let is : get_arbitration 0 ≡ h.entry = same_Some (get_arbitration 0) h.entry h.is_there in
-    let e : false ≡ true = ap may_be_own is ∙ h.may_be in
+    let e : false ≡ true = ap (λ (entry : Sqe). may_be_own (before_pick (logged first_picked)) entry) is ∙ h.may_be in
     cc e
 
 pub taken_unpassed : IsLawful two_slots identify_picked (Taken 7 0 0) → ⊥

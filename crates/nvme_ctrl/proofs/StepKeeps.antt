@@ -31,12 +31,12 @@ KeepsFetch X = (rules : FrontRules) (late : Bool) (past : Past) (k : Content) (q
     → Holds rules late past k → CanFetch past k q queue
     → X rules late (fetch_event k queue entry ∷ past) (after_fetch k q queue entry)
 
--- a pick of an I/O queue, or of an admin command that the controller has no part in: its commands are handed to the device
+-- a pick of an I/O queue, or of an admin command that may be the device's: its commands are handed to the device
 pub record IsPassing (past : Past) (pick : Pick) : Type 0 where
   pub of_admin : pick.qid ≡ 0
   pub entry : Sqe
   pub next : admin_entry past ≡ Some entry
-  pub may_be : may_be_own entry ≡ true
+  pub may_be : may_be_own past entry ≡ true
 
 abbrev pub IsHanded : Past → Pick → Type 0
 IsHanded past pick = (pick.qid ≡ 0 → ⊥) ⊎ IsPassing past pick

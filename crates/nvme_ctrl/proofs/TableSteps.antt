@@ -157,7 +157,7 @@ tabled-io rules late past k queue seen pick board c s can seen_is io attached =
     handed_history (inr p) = (
       EntryApplied p.entry ∷ s.tabled.history,
       (
-        table_stays rules.start k.table s.tabled.history p.entry p.may_be s.tabled.stands,
+        table_stays rules.start k.table s.tabled.history past p.entry p.may_be s.tabled.stands,
         λ e. ap (λ (h : TableHistory). EntryApplied p.entry ∷ h) (s.tabled.history_is e)
             ∙ sym (cond-true (pick.qid == 0) (applied (admin_entry past) ++ table_history rules past) (table_history rules past) (eq-eqb pick.qid 0 p.of_admin)
             ∙ ap (λ (o : Option Sqe). applied o ++ table_history rules past) p.next),

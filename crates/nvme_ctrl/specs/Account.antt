@@ -22,7 +22,7 @@ use Rattle.nvme_log.specs.Rules.{upto}
 use Rattle.nvme_log.specs.Aborts.{is_index, just_picked}
 use Rattle.nvme_ctrl.specs.Notes.{Notes, Note, Logged, Tail, Head, Kept, Passed, Taken, Answered, Marked, EachNote, logged}
 use Rattle.nvme_ctrl.specs.Doorbells.{sq_slots, cq_slots, submitted, consumed}
-use Rattle.nvme_ctrl.specs.Own.{may_be_own}
+use Rattle.nvme_ctrl.specs.Own.{may_be_own, before_pick}
 use Rattle.nvme_ctrl.specs.Tags.{is_passed, is_of_device, handed, taken, holder, answer_of, cookie_of, marks_of, answers, is_through}
 
 -- ---- events
@@ -94,13 +94,13 @@ pub record IsKept (notes : Notes) (r i : ℕ) : Type 0 where
   pub first : cookie_of notes r i ≡ None
 
 -- ---- the device
--- an admin command is passed on to the device at once when it was picked, where the controller has no part in it
+-- an admin command is passed on to the device at once when it was picked, where it may be the device's. Of an Abort what waited at its pick tells that (Abort)
 pub record IsPassed (notes : Notes) (i : ℕ) : Type 0 where
   pub latest : just_picked (logged notes) ≡ Some i
   pub picked : is_picked (fate_of (logged notes) 0 i) ≡ true
   pub entry : Sqe
   pub is_there : entry_at (logged notes) 0 i ≡ Some entry
-  pub may_be : may_be_own entry ≡ true
+  pub may_be : may_be_own (before_pick (logged notes)) entry ≡ true
   pub first : is_passed notes i ≡ false
   pub unanswered : answer_of notes 0 i ≡ None
 

@@ -1,17 +1,18 @@
 -- What the calls of a controller answer, and what they note. (Base Specification, Command Submission and Completion Mechanism)
-use Rattle.std.specs.Prelude.{◌≡◌, ℕ, ◌+◌, ◌<◌, ◌%◌, Bool, List, ◌∷◌, length, Some, None}
+use Rattle.std.specs.Prelude.{◌≡◌, ℕ, ◌+◌, ◌<◌, ◌%◌, Bool, true, List, ◌∷◌, length, Some, None}
 use Rattle.nvme_entry.specs.declared.submission.Sqe.{Sqe}
 use Rattle.nvme_entry.specs.declared.completion.Cqe.{Cqe}
 use Rattle.nvme_log.specs.declared.event.Event.TheVariants.{Fetch, Post}
 use Rattle.nvme_log.specs.Rules.{FrontRules, window_at}
-use Rattle.nvme_log.specs.Queues.{Queue, open_sq, open_cq, pending}
-use Rattle.nvme_log.specs.Places.{fetched, waiting}
+use Rattle.nvme_log.specs.Queues.{Queue, open_sq, open_cq, pending, qid_of_region}
+use Rattle.nvme_log.specs.Places.{fetched, waiting, entry_at}
+use Rattle.nvme_log.specs.declared.place.Place.{Place}
 use Rattle.nvme_log.specs.Completions.{posted_to}
 use Rattle.nvme_log.specs.Answers.{Answer}
 use Rattle.nvme_ctrl.specs.Notes.{Notes, Logged, Tail, Head, Kept, Taken, Answered, Marked, logged}
 use Rattle.nvme_ctrl.specs.Doorbells.{submitted, sq_slots, cq_slots}
 use Rattle.nvme_ctrl.specs.Marks.{marks_or}
-use Rattle.nvme_ctrl.specs.Tags.{holder, answer_of, cookie_of, marks_of, all_fetches, all_posts}
+use Rattle.nvme_ctrl.specs.Tags.{holder, is_out, answer_of, cookie_of, marks_of, all_fetches, all_posts}
 use Rattle.nvme_ctrl.specs.Account.{IsTail, IsHead}
 use Rattle.nvme_ctrl.specs.declared.marks.Marks.{Marks}
 use Rattle.nvme_ctrl.specs.declared.slot.Slot.{Slot}
@@ -80,6 +81,16 @@ pub record HasAnswered (rules : FrontRules) (late : Bool) (notes : Notes) (tag :
   pub index : ℕ
   pub held : holder notes tag ≡ Some (record { region = region; index = index })
   pub stands : Stands rules late (Marked region index marks ∷ Answered region index answer ∷ notes) c slots
+
+-- a tag is that of a command that the device has: it has this command identifier, and is of the submission queue of this identifier
+pub record IsTagOf (notes : Notes) (qid cid tag : ℕ) : Type 0 where
+  pub out : is_out notes tag ≡ true
+  pub place : Place
+  pub held : holder notes tag ≡ Some place
+  pub queue : qid_of_region (logged notes) place.region ≡ Some qid
+  pub entry : Sqe
+  pub is_there : entry_at (logged notes) place.region place.index ≡ Some entry
+  pub cid_is : entry.cid ≡ cid
 
 -- ---- completions
 -- a completion is posted to a completion region, into the slot that is its next, and what the caller keeps with its command is given back. Its marks

@@ -1,6 +1,6 @@
 -- Worked logs of a controller, for which the definitions compute (profile).
 use Rattle.std.specs.Prelude.{ℕ, ◌+◌, ◌*◌, true, false, [], ◌∷◌}
-use Rattle.nvme_entry.specs.Status.{StatusCode, success, invalid_field, aborted_by_deletion, lba_out_of_range}
+use Rattle.nvme_entry.specs.Status.{StatusCode, success, invalid_field, aborted_by_deletion, lba_out_of_range, abort_requested}
 use Rattle.nvme_entry.specs.declared.submission.Sqe.{Sqe}
 use Rattle.nvme_entry.specs.declared.completion.Cqe.{Cqe}
 use Rattle.nvme_arbiter.specs.declared.settings.Class.TheVariants.{Urgent}
@@ -9,6 +9,7 @@ use Rattle.nvme_log.specs.declared.event.Event.TheVariants.{Fetch, OpenSq, OpenC
 use Rattle.nvme_log.specs.Answers.{Answer}
 use Rattle.nvme_log.specs.Rules.{FrontRules}
 use Rattle.nvme_log.specs.Examples.{one_deletion, get_arbitration, admin_picked, admin_posted, create_cq, create_sq, delete_sq, read, done, admin_seen, reads_seen, picked_of}
+use Rattle.nvme_log.specs.AbortExamples.{abort}
 use Rattle.nvme_ctrl.specs.Notes.{Notes, Logged, Tail, Head, Passed, Taken, Answered}
 use Rattle.nvme_ctrl.specs.Making.{with_region}
 use Rattle.nvme_ctrl.specs.declared.marks.Marks.{Marks}
@@ -82,28 +83,37 @@ out_of_range = record { status = lba_out_of_range; dw0 = 0 }
 abbrev pub aborted_done : ℕ → Cqe
 aborted_done cid = done 1 cid aborted_by_deletion
 
--- both Creates and the Delete are fetched
-abbrev pub creates_fetched : Notes
-creates_fetched =
-    Logged (Fetch 0 2 delete_sq)
+-- both Creates and a third admin command are fetched
+abbrev pub creates_fetched_before : Sqe → Notes
+creates_fetched_before third =
+    Logged (Fetch 0 2 third)
     ∷ Logged (Fetch 0 1 create_sq)
     ∷ Logged (Fetch 0 0 create_cq) ∷ Tail 0 3 ∷ []
 
--- the Create of completion queue 1 is picked
-abbrev pub create_picked : Notes
-create_picked =
-    Logged (picked_of (admin_seen 3 ∷ []) 0) ∷ creates_fetched
+abbrev pub creates_fetched : Notes
+creates_fetched = creates_fetched_before delete_sq
 
--- completion queue 1 and submission queue 1 are there
-abbrev pub queue_made : Notes
-queue_made =
+-- the Create of completion queue 1 is picked
+abbrev pub create_picked_before : Sqe → Notes
+create_picked_before third =
+    Logged (picked_of (admin_seen 3 ∷ []) 0) ∷ creates_fetched_before third
+
+abbrev pub create_picked : Notes
+create_picked = create_picked_before delete_sq
+
+-- completion queue 1 and submission queue 1 are there, before it
+abbrev pub queue_made_before : Sqe → Notes
+queue_made_before third =
     Logged (Post 0 0 1 (done 0 1 success))
     ∷ Answered 0 1 succeeded
     ∷ Logged (OpenSq 1 1 1 Urgent)
     ∷ Logged (picked_of (admin_seen 2 ∷ []) 0)
     ∷ Logged (Post 0 0 0 (done 0 0 success))
     ∷ Answered 0 0 succeeded
-    ∷ Logged (OpenCq 1 1) ∷ create_picked
+    ∷ Logged (OpenCq 1 1) ∷ create_picked_before third
+
+abbrev pub queue_made : Notes
+queue_made = queue_made_before delete_sq
 
 -- the host submits three Reads
 abbrev pub reads_submitted : Notes
@@ -229,3 +239,49 @@ get_feature fid select = record (get_arbitration 0) { cdw10 = fid + 256 * select
 
 abbrev pub set_feature : ℕ → Sqe
 set_feature fid = record (get_arbitration 0) { opcode = 0x09; cdw10 = fid }
+
+-- ---- an Abort that is the device's
+-- an Abort, with identifier 2, of a command of submission queue 1
+abbrev pub abort_of_read : ℕ → Sqe
+abort_of_read target = abort 2 1 target
+
+-- it waits, while the device has Read 0 under tag 7 and Reads 1 and 2 wait
+abbrev pub abort_waiting : ℕ → Notes
+abort_waiting target =
+    Taken 7 1 0
+    ∷ Logged (picked_of (admin_seen 1 ∷ reads_seen 3 ∷ []) 1)
+    ∷ Logged (Fetch 1 2 (read 2))
+    ∷ Logged (Fetch 1 1 (read 1))
+    ∷ Logged (Fetch 1 0 (read 0)) ∷ Tail 1 3 ∷ queue_made_before (abort_of_read target)
+
+-- it is picked
+abbrev pub abort_picked : ℕ → Notes
+abort_picked target =
+    Logged (picked_of (admin_seen 1 ∷ reads_seen 2 ∷ []) 0) ∷ abort_waiting target
+
+-- the Abort of Read 0 is passed on to the device
+abbrev pub abort_passed : Notes
+abort_passed =
+    Passed 2 ∷ abort_picked 0
+
+-- and taken by it
+abbrev pub abort_taken : Notes
+abort_taken =
+    Taken 8 0 2 ∷ abort_passed
+
+-- which ends the Read (Command Abort Requested)
+abbrev pub aborted_read : Answer
+aborted_read = record { status = abort_requested; dw0 = 0 }
+
+abbrev pub read_aborted : Notes
+read_aborted =
+    Answered 1 0 aborted_read ∷ abort_taken
+
+-- and answers the Abort: bit 0 of Command Dword 0 is clear, for a command that was aborted (Abort)
+abbrev pub abort_answered : Notes
+abort_answered =
+    Answered 0 2 succeeded ∷ read_aborted
+
+-- the completion of the Abort, with Command Dword 0
+abbrev pub abort_done : ℕ → Cqe
+abort_done dw0 = record (done 0 2 success) { dw0 = dw0 }

@@ -6,3 +6,4 @@ pub mod Posting
 pub mod Fetching
 pub mod Loose
 pub mod Carrying
+pub mod Lookups

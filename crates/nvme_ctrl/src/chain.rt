@@ -63,7 +63,7 @@ impl Chain {
 
     /// The first slot whose command has this identifier, and the one before it. The first slot of all has itself before
     /// it.
-    fn find(&self, slots: &[Slot], cid: u16) -> Option<(u16, u16)>
+    pub(crate) fn find(&self, slots: &[Slot], cid: u16) -> Option<(u16, u16)>
         ensures { (xs : List ℕ) → IsChain slots.now self.now xs → result ≡ found_in slots.now cid self.now.first xs }
     {
         let mut before = self.first;

@@ -1,15 +1,15 @@
 //! Laws of the log of a controller, over the definitions alone. Each function does nothing: its contract is the law.
 ghost use Rattle.std.specs.Prelude.{◌≡◌, ◌∷◌, [], true, false, Some, None};
-ghost use Rattle.nvme_entry.specs.Status.{invalid_opcode, code, success, lba_out_of_range};
+ghost use Rattle.nvme_entry.specs.Status.{invalid_opcode, code, success, abort_requested, lba_out_of_range};
 ghost use Rattle.nvme_log.specs.declared.event.Event.TheVariants.{Fetch, OpenCq, Post, ClosedSq};
 ghost use Rattle.nvme_log.specs.Examples.{create_cq, two_slots, one_deletion, get_arbitration, admin_picked, admin_posted, read, done, admin_seen, reads_seen, picked_of};
-ghost use Rattle.nvme_ctrl.specs.Notes.{Logged, Tail, Head, Kept, Passed, Taken, Answered, Marked};
+ghost use Rattle.nvme_ctrl.specs.Notes.{Logged, Tail, Head, Kept, Passed, Taken, Answered, Marked, logged};
 ghost use Rattle.nvme_ctrl.specs.Marks.{own_marks};
 ghost use Rattle.nvme_ctrl.specs.Tags.{cookie_of, marks_of};
 ghost use Rattle.nvme_ctrl.specs.Own.{is_own, no_own, with_opcode, with_feature};
 ghost use Rattle.nvme_ctrl.specs.Making.{is_named};
 ghost use Rattle.nvme_ctrl.specs.Account.{IsLawful, IsAccount};
-ghost use Rattle.nvme_ctrl.specs.Examples.{identify, identify_fetched, identify_picked, identify_passed, identify_taken, identify_answered, identified, get_feature, set_feature, told, three_of_four, four_fetched, first_picked, first_answered, first_posted, third_answered, two_passes, succeeded, out_of_range, without_region, with_late_region, creates_fetched, create_picked, create_refused, reads_submitted, reads_waiting, read_picked, read_taken, delete_begun, aborts_posted, read_answered, reads_posted, deletion_noted, unmarked, not_retried, more_told};
+ghost use Rattle.nvme_ctrl.specs.Examples.{identify, identify_fetched, identify_picked, identify_passed, identify_taken, identify_answered, identified, get_feature, set_feature, told, three_of_four, four_fetched, first_picked, first_answered, first_posted, third_answered, two_passes, succeeded, out_of_range, without_region, with_late_region, creates_fetched, create_picked, create_refused, reads_submitted, reads_waiting, read_picked, read_taken, delete_begun, aborts_posted, read_answered, reads_posted, deletion_noted, unmarked, not_retried, more_told, abort_of_read, abort_waiting, abort_picked, abort_passed, abort_taken, aborted_read, read_aborted, abort_answered, abort_done};
 ghost use Rattle.nvme_ctrl.specs.Laws.{ControllersKeepAccounts, RegionsLeaveAccounts, EventsAreAccounted, SlotsAreFetchedInOrder, CompletionsFollowAnswers, OneCompletionEach, SlotsAreFree, CompletionsTellTheHead, DeletesAreAnsweredLast, NoneFetchedAfterDeletion, NonePickedAfterDeletion, PicksAreLawful, TagsAreApart};
 
 /// The log at which a controller stands is an account, where no region was added late: after a Create that named its
@@ -193,18 +193,35 @@ pub fn device_commands_are_passed_on()
     ensures posted_refused { IsLawful two_slots identify_answered (Logged (Post 0 0 0 (identified invalid_opcode))) → ⊥ }
 {}
 
+/// An Abort of a command that the device has is passed on to it. The device ends that command, and answers the Abort, which
+/// is posted with its Command Dword 0. An Abort of a command that waits isn't passed on. (Abort)
+pub fn aborts_are_passed_on()
+    ensures passed { IsLawful one_deletion (abort_picked 0) (Passed 2) }
+    ensures taken { IsLawful one_deletion abort_passed (Taken 8 0 2) }
+    ensures ended { IsLawful one_deletion abort_taken (Answered 1 0 aborted_read) }
+    ensures answered { IsLawful one_deletion read_aborted (Answered 0 2 succeeded) }
+    ensures posted { IsLawful one_deletion abort_answered (Logged (Post 0 0 2 (abort_done 0))) }
+    ensures read_posted { IsLawful one_deletion abort_answered (Logged (Post 1 1 0 (done 1 0 abort_requested))) }
+    ensures passed_waiting { IsLawful one_deletion (abort_picked 1) (Passed 2) → ⊥ }
+    ensures posted_unaborted { IsLawful one_deletion abort_answered (Logged (Post 0 0 2 (abort_done 1))) → ⊥ }
+{}
+
 /// Which commands are the device's: those of the opcodes and feature identifiers that it announced, but for fused ones,
 /// those of the controller's own opcodes, and the controller's own features, of which just other values than the current
-/// one are the device's.
+/// one are the device's. Of Aborts, once announced, all are that name no command that waits.
 pub fn own_commands_are_announced()
-    ensures opcode { is_own (with_opcode 0x06 no_own) (identify 0) ≡ true }
-    ensures unannounced { is_own (with_opcode 0x02 no_own) (identify 0) ≡ false }
-    ensures fused { is_own (with_opcode 0x06 no_own) (record (identify 0) { flags = 1 }) ≡ false }
-    ensures core_opcode { is_own (with_opcode 0x05 no_own) create_cq ≡ false }
-    ensures get_feature { is_own (with_feature 0x0b no_own) (get_feature 0x0b 0) ≡ true }
-    ensures set_feature { is_own (with_feature 0x0b no_own) (set_feature 0x0b) ≡ true }
-    ensures other_feature { is_own (with_feature 0x0b no_own) (get_feature 0x0a 0) ≡ false }
-    ensures current_value { is_own (with_feature 0x01 no_own) (get_feature 0x01 0) ≡ false }
-    ensures default_value { is_own (with_feature 0x01 no_own) (get_feature 0x01 1) ≡ true }
-    ensures set_core { is_own (with_feature 0x07 no_own) (set_feature 0x07) ≡ false }
+    ensures opcode { is_own (with_opcode 0x06 no_own) [] (identify 0) ≡ true }
+    ensures unannounced { is_own (with_opcode 0x02 no_own) [] (identify 0) ≡ false }
+    ensures fused { is_own (with_opcode 0x06 no_own) [] (record (identify 0) { flags = 1 }) ≡ false }
+    ensures core_opcode { is_own (with_opcode 0x05 no_own) [] create_cq ≡ false }
+    ensures get_feature { is_own (with_feature 0x0b no_own) [] (get_feature 0x0b 0) ≡ true }
+    ensures set_feature { is_own (with_feature 0x0b no_own) [] (set_feature 0x0b) ≡ true }
+    ensures other_feature { is_own (with_feature 0x0b no_own) [] (get_feature 0x0a 0) ≡ false }
+    ensures current_value { is_own (with_feature 0x01 no_own) [] (get_feature 0x01 0) ≡ false }
+    ensures default_value { is_own (with_feature 0x01 no_own) [] (get_feature 0x01 1) ≡ true }
+    ensures set_core { is_own (with_feature 0x07 no_own) [] (set_feature 0x07) ≡ false }
+    ensures taken_abort { is_own (with_opcode 0x08 no_own) (logged (abort_waiting 0)) (abort_of_read 0) ≡ true }
+    ensures waiting_abort { is_own (with_opcode 0x08 no_own) (logged (abort_waiting 1)) (abort_of_read 1) ≡ false }
+    ensures unknown_abort { is_own (with_opcode 0x08 no_own) (logged (abort_waiting 3)) (abort_of_read 3) ≡ true }
+    ensures unannounced_abort { is_own no_own (logged (abort_waiting 0)) (abort_of_read 0) ≡ false }
 {}

@@ -4,14 +4,16 @@ use crate::state::Controller;
 use nvme_entry::Sqe;
 
 impl Controller {
-    ghost use Rattle.std.specs.Prelude.{◌≡◌, ℕ, Bool, true, List, Option, Some, None, length, option_map};
+    ghost use Rattle.std.specs.Prelude.{◌≡◌, ℕ, Bool, true, List, Option, Some, None, IfSome, length, option_map};
     ghost use Rattle.nvme_log.specs.Rules.{FrontRules};
     ghost use Rattle.nvme_log.specs.Queues.{Queue, open_sq, open_cq};
     ghost use Rattle.nvme_log.specs.Places.{entry_at, waiting};
     ghost use Rattle.nvme_log.specs.declared.place.Place.{Place};
     ghost use Rattle.nvme_ctrl.specs.Notes.{Notes, logged};
     ghost use Rattle.nvme_ctrl.specs.Tags.{is_out, holder, cookie_of};
-    ghost use Rattle.nvme_ctrl.specs.Standing.{Stands};
+    ghost use Rattle.nvme_ctrl.specs.Calls.{IsTagOf};
+    ghost use Rattle.nvme_ctrl.specs.Standing.{Stands, IsController};
+    ghost use Rattle.nvme_ctrl.specs.inside.Lookups.{is_named};
     ghost use Rattle.nvme_ctrl.specs.kept.Pool.{slot_at};
     ghost use Rattle.nvme_ctrl.specs.declared.slot.Slot.{Slot};
 
@@ -39,6 +41,32 @@ impl Controller {
         ensures { (rules : FrontRules) (late : Bool) (notes : Notes) → Stands rules late notes self.now slots.now → result ≡ is_out notes tag }
     {
         slot_at(slots, tag).state == OUT
+    }
+
+    // Whether a slot has a command with this identifier that the device has, of the submission queue with this one.
+    fn is_named(&self, slot: &Slot, qid: u16, cid: u16) -> bool
+        ensures { result ≡ is_named self.now slot.now qid cid }
+    {
+        let sq = self.sq(slot.region);
+        slot.state == OUT && slot.entry.cid == cid && sq.opened != 0 && sq.qid == qid
+    }
+
+    /// The tag of the command with this identifier, of the submission queue with this one, that the device has: it took
+    /// it, and hasn't answered it. None where it has no such command. A host gives no two commands of a queue one
+    /// identifier at a time; where it does, it is the tag of either. (Base Specification, Abort; Common Command Format,
+    /// Command Identifier)
+    pub fn named(&self, slots: &[Slot], qid: u16, cid: u16) -> Option<u16>
+        requires front { IsController self.now slots.now }
+        ensures found { (rules : FrontRules) (late : Bool) (notes : Notes) → Stands rules late notes self.now slots.now → IfSome result (λ tag. IsTagOf notes qid cid tag) }
+        ensures none { (rules : FrontRules) (late : Bool) (notes : Notes) → Stands rules late notes self.now slots.now → result ≡ None → (tag : ℕ) → IsTagOf notes qid cid tag → ⊥ }
+    {
+        for x in 0..slots.len() {
+            let tag = x as u16;
+            if self.is_named(&slot_at(slots, tag), qid, cid) {
+                return Some(tag);
+            }
+        }
+        None
     }
 
     /// The region of an open submission queue.

@@ -28,7 +28,7 @@ fn no_numbers() -> [u8; 256]
 
 impl OwnCommands {
     ghost use Rattle.std.specs.Prelude.{◌≡◌, slice_set};
-    ghost use Rattle.nvme_ctrl.specs.Own.{no_own, is_own, with_opcode, with_feature};
+    ghost use Rattle.nvme_ctrl.specs.Own.{no_own, kind_is_own, with_opcode, with_feature};
 
     /// No command is the device's.
     pub fn none() -> OwnCommands
@@ -40,7 +40,8 @@ impl OwnCommands {
         }
     }
 
-    /// The commands of an opcode are the device's too. Those of the controller's own opcodes stay the controller's.
+    /// The commands of an opcode are the device's too. Those of the controller's own opcodes stay the controller's, but for
+    /// Aborts that name no command that waits.
     pub fn add_opcode(&mut self, opcode: u8)
         ensures { self.new ≡ with_opcode opcode self.old }
     {
@@ -54,15 +55,18 @@ impl OwnCommands {
         self.features[usize::from(fid)] = 1;
     }
 
-    /// Whether an entry of the admin queue is a command of the device's.
+    /// Whether an entry of the admin queue is of a kind that is the device's. An Abort of such a kind is the device's where
+    /// it names no command that waits.
     pub fn has(&self, entry: &Sqe) -> bool
-        ensures { result ≡ is_own self.now entry.now }
+        ensures { result ≡ kind_is_own self.now entry.now }
     {
         if entry.fuse() != 0 {
             return false;
         }
         match admin_of(entry) {
-            AdminCommand::Other => self.opcodes[usize::from(entry.opcode)] != 0,
+            AdminCommand::Other | AdminCommand::Abort { .. } => {
+                self.opcodes[usize::from(entry.opcode)] != 0
+            }
             AdminCommand::SetFeatures { fid, .. } => {
                 self.features[usize::from(fid)] != 0 && !is_core_feature(fid)
             }

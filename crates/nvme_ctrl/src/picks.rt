@@ -3,7 +3,7 @@ use crate::slot::{Slot, slot_at};
 use crate::state::Controller;
 use nvme_admin::Effect;
 use nvme_arbiter::Pick;
-use nvme_entry::{AdminCommand, admin_of};
+use nvme_entry::{AdminCommand, Sqe, admin_of};
 use nvme_log::MAX_OUTSTANDING;
 
 /// What a step of arbitration did.
@@ -24,18 +24,20 @@ pub enum Step {
 }
 
 impl Controller {
-    ghost use Rattle.std.specs.Prelude.{◌≡◌, ◌≢◌, ℕ, ◌+◌, ◌≤◌, Bool, true, false, List, Option, Some, None, IfSome};
+    ghost use Rattle.std.specs.Prelude.{◌≡◌, ◌≢◌, ℕ, ◌+◌, ◌≤◌, Bool, true, false, not, List, Option, Some, None, IfSome};
     ghost use Rattle.nvme_arbiter.specs.Layout.{board_of};
     ghost use Rattle.nvme_arbiter.specs.Queues.{seen_of};
     ghost use Rattle.nvme_arbiter.specs.Standing.{pick_of};
     ghost use Rattle.nvme_log.specs.Rules.{FrontRules};
     ghost use Rattle.nvme_log.specs.Limits.{max_outstanding};
     ghost use Rattle.nvme_log.specs.Aborts.{is_abort_entry};
-    ghost use Rattle.nvme_ctrl.specs.Notes.{Notes};
+    ghost use Rattle.nvme_ctrl.specs.Notes.{Notes, logged};
     ghost use Rattle.nvme_ctrl.specs.Standing.{Stands, IsController};
     ghost use Rattle.nvme_arbiter.specs.declared.pick.Pick.{Pick};
     ghost use Rattle.nvme_admin.specs.declared.effect.Effect.{Effect};
-    ghost use Rattle.nvme_ctrl.specs.Own.{is_own, own_of, oldest_is_own};
+    ghost use Rattle.nvme_entry.specs.AdminCommand.{admin_command_of};
+    ghost use Rattle.nvme_entry.specs.declared.admin.AdminCommand.TheVariants as command;
+    ghost use Rattle.nvme_ctrl.specs.Own.{names_none, is_own, own_of, oldest_is_own};
     ghost use Rattle.nvme_ctrl.specs.Steps.{IsNextPick, HasStepped, LacksRoom};
     ghost use Rattle.nvme_ctrl.specs.inside.Picks.{CanPickNow, oldest_entry, places_in};
     ghost use Rattle.nvme_ctrl.specs.declared.slot.Slot.{Slot};
@@ -81,19 +83,42 @@ impl Controller {
         self.picked_region = queue.region;
     }
 
+    // Whether a command with this identifier waits in the I/O submission queue with this one. (Abort)
+    fn has_waiting(&self, slots: &[Slot], sqid: u16, cid: u16) -> bool
+        ensures { (rules : FrontRules) (late : Bool) (notes : Notes) → Stands rules late notes self.now slots.now → self.now.picked ≡ 0 → result ≡ not (names_none (logged notes) (command.Abort sqid cid)) }
+    {
+        if sqid == 0 {
+            return false;
+        }
+        let Some(region) = self.sq_region(sqid) else {
+            return false;
+        };
+        self.sq(region).window.find(slots, cid).is_some()
+    }
+
+    // Whether a command is no Abort that names a command that waits. (Abort)
+    fn names_none(&self, slots: &[Slot], entry: &Sqe) -> bool
+        ensures { (rules : FrontRules) (late : Bool) (notes : Notes) → Stands rules late notes self.now slots.now → self.now.picked ≡ 0 → result ≡ names_none (logged notes) (admin_command_of entry.now) }
+    {
+        match admin_of(entry) {
+            AdminCommand::Abort { sqid, cid } => !self.has_waiting(slots, sqid, cid),
+            _ => true,
+        }
+    }
+
     // Whether the oldest command of the admin queue's window is the device's.
     fn is_own(&self, slots: &[Slot]) -> bool
-        ensures { result ≡ is_own self.now.own (oldest_entry self.now slots.now) }
+        ensures { (rules : FrontRules) (late : Bool) (notes : Notes) → Stands rules late notes self.now slots.now → self.now.picked ≡ 0 → result ≡ is_own self.now.own (logged notes) (oldest_entry self.now slots.now) }
     {
         let oldest = slot_at(slots, self.sq(0).window.first);
-        self.own.has(&oldest.entry)
+        self.own.has(&oldest.entry) && self.names_none(slots, &oldest.entry)
     }
 
     // Makes the next pick, which is of the admin queue. Its command is the device's, which is to take it.
     fn pass(&mut self, slots: &[Slot], pick: Pick)
         requires can { CanPickNow self.old slots.now pick }
         requires of_admin { pick.qid ≡ 0 }
-        requires own { is_own self.old.own (oldest_entry self.old slots.now) ≡ true }
+        requires own { (rules : FrontRules) (late : Bool) (notes : Notes) → Stands rules late notes self.old slots.now → is_own self.old.own (logged notes) (oldest_entry self.old slots.now) ≡ true }
         ensures left { own_of self.new ≡ own_of self.old }
         ensures stands { (rules : FrontRules) (late : Bool) (notes : Notes) → Stands rules late notes self.old slots.now → HasStepped rules late notes (step.Passed pick) self.new slots.now }
     {
@@ -127,7 +152,8 @@ impl Controller {
 
     /// Makes the next pick of arbitration, if there is one and its places are free. Where it makes none, nothing changes. A
     /// command of the admin queue is passed on to the device exactly where it is the device's (`own_opcode`,
-    /// `own_feature`).
+    /// `own_feature`). An Abort of a command that waits never is: the controller ends that command. Any other Abort is,
+    /// where its opcode was announced. (Abort)
     pub fn pick(&mut self, slots: &mut [Slot]) -> Step
         requires front { IsController self.old slots.old }
         ensures front { IsController self.new slots.new }

@@ -1,14 +1,16 @@
 -- The pick of the board is the next pick, and its command is the device's.
 use Rattle.std.proofs.Common.{◌≡◌, ℕ, ◌+◌, sym, ap, subst, ◌∙◌, arith}
 use Rattle.std.specs.Prelude.{slice_set, min}
+use Rattle.nvme_ctrl.specs.Notes.{logged}
 use Rattle.nvme_ctrl.specs.Steps.{HasStepped}
+use Rattle.nvme_ctrl.specs.inside.Picks.{oldest_entry}
 use Rattle.nvme_ctrl.specs.declared.picks.Step.TheVariants as step
 use Rattle.nvme_ctrl.specs.declared.state.SqState.{SqState}
 use Rattle.nvme_ctrl.specs.declared.state.Controller.{Controller}
 use Rattle.nvme_ctrl.proofs.AdminCall.{admin_places, admin_one}
 use Rattle.nvme_ctrl.proofs.PassCall.{pass-call}
 use Rattle.nvme_ctrl.proofs.PickCall.{next_lawful, picked_state}
-use Rattle.nvme_ctrl.proofs.Served.{both}
+use Rattle.nvme_ctrl.proofs.WaitingNames.{own_may}
 use Rattle.nvme_ctrl.proofs.state.Controller.pass.Goals as goal
 
 pub returns : goal.returns
@@ -21,7 +23,7 @@ returns c = record {
       let one = admin_one rules late notes self c.args.slots.now s c.args.pick lawful c.requires.of_admin in
       let done = pass-call rules late notes self c.args.slots.now s can.none_picked can.none_pending c.args.pick c.keep.new.self
       lawful c.keep.ensures.stands c.keep.ensures.queues c.keep.ensures.is_arbiter can.places
-      (admin_places self c.args.slots.now c.args.pick (omega (arith, one)) can.places) c.requires.of_admin (both _ _ c.requires.own).0 in
+      (admin_places self c.args.slots.now c.args.pick (omega (arith, one)) can.places) c.requires.of_admin (own_may self.own (logged notes) (oldest_entry self c.args.slots.now) (c.requires.own rules late notes s)) in
       let unposted : c.saturating_add.result ≡ min (c.sq-sq.result.unposted + 1) 65535 = c.saturating_add.ensures in
       let put : c.put_sq.new.self ≡ record self { board = c.keep.new.self; sqs = slice_set self.sqs 0 (picked_state self 0 1) } =
       c.put_sq.ensures

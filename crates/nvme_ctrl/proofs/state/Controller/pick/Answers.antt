@@ -2,6 +2,7 @@ use Rattle.std.specs.Prelude.{option_map}
 use Rattle.std.proofs.Common.{◌-◌, ◌<◌, Bool, ap, sym, ◌∙◌, Option, Some, subst, inl, inr, arith}
 use Rattle.nvme_arbiter.specs.declared.pick.Pick.{Pick}
 use Rattle.nvme_log.specs.Limits.{max_outstanding}
+use Rattle.nvme_ctrl.specs.Notes.{logged}
 use Rattle.nvme_ctrl.specs.Steps.{IsNextPick}
 use Rattle.nvme_ctrl.specs.inside.Picks.{places_in}
 use Rattle.nvme_ctrl.specs.Own.{is_own}
@@ -53,12 +54,15 @@ pub returns-then-is_own-clause-passed : goal.returns-then-is_own-clause-passed
 returns-then-is_own-clause-passed c rules late notes s given is =
     let next : IsNextPick rules notes (Some c.in-Some.pick) =
     subst (λ (o : Option Pick). IsNextPick rules notes o) c.in-Some.is (next_is rules late notes c.args.self.now c.args.slots.now s c.peek.result c.peek.ensures.lawful) in
-    ap (option_map (is_own c.args.self.now.own)) (sym (entry_is rules late notes c.args.self.now c.args.slots.now s c.if-self-ne0.false c.in-Some.pick next c.if-pick-ne0.false))
-    ∙ ap (λ (b : Bool). Some b) (sym c.is_own.ensures ∙ c.if-is_own.true)
+    ap (option_map (is_own c.args.self.now.own (logged notes))) (sym (entry_is rules late notes c.args.self.now c.args.slots.now s c.if-self-ne0.false c.in-Some.pick next c.if-pick-ne0.false))
+    ∙ ap (λ (b : Bool). Some b) (sym (c.is_own.ensures rules late notes s c.if-self-ne0.false) ∙ c.if-is_own.true)
 
 pub returns-else-is_own-clause-carried_out : goal.returns-else-is_own-clause-carried_out
 returns-else-is_own-clause-carried_out c rules late notes s given is =
     let next : IsNextPick rules notes (Some c.in-Some.pick) =
     subst (λ (o : Option Pick). IsNextPick rules notes o) c.in-Some.is (next_is rules late notes c.args.self.now c.args.slots.now s c.peek.result c.peek.ensures.lawful) in
-    ap (option_map (is_own c.args.self.now.own)) (sym (entry_is rules late notes c.args.self.now c.args.slots.now s c.if-self-ne0.false c.in-Some.pick next c.if-pick-ne0.false))
-    ∙ ap (λ (b : Bool). Some b) (sym c.is_own.ensures ∙ c.if-is_own.false)
+    ap (option_map (is_own c.args.self.now.own (logged notes))) (sym (entry_is rules late notes c.args.self.now c.args.slots.now s c.if-self-ne0.false c.in-Some.pick next c.if-pick-ne0.false))
+    ∙ ap (λ (b : Bool). Some b) (sym (c.is_own.ensures rules late notes s c.if-self-ne0.false) ∙ c.if-is_own.false)
+
+pub pass-requires-clause-own : goal.pass-requires-clause-own
+pass-requires-clause-own c rules late notes s = sym (c.is_own.ensures rules late notes s c.if-self-ne0.false) ∙ c.if-is_own.true
