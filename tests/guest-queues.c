@@ -14,7 +14,8 @@
 
 #define FIRST_OWN 3 /* the queues that Linux makes and never uses: those of its polls but the first */
 #define OWN 3
-#define ROUNDS 50         /* a ring is added for each Create, and there are 65 of a kind between resets */
+#define ROUNDS 50         /* between resets: a ring is added for each Create, and there are 65 of a kind until the next */
+#define ALL_ROUNDS 200
 #define BURST 8           /* of a pick, at first */
 #define DATA (256 * PAGE) /* where data is in the memory of these queues; rings are before it */
 
@@ -170,13 +171,15 @@ static void one_round(unsigned *aborted)
 
 void rounds(void)
 {
-    unsigned aborted = 0;
-    for (int time = 0; time < 2; time++) {
-        begin_anew();
-        for (int k = 0; k < ROUNDS; k++)
-            one_round(&aborted);
+    unsigned aborted = 0, resets = 0;
+    for (unsigned made = 0; made < ALL_ROUNDS; made++) {
+        if (made % ROUNDS == 0) {
+            begin_anew();
+            resets++;
+        }
+        one_round(&aborted);
     }
-    good("%u queues made, used and deleted, %u commands answered 0/08", 2 * ROUNDS, aborted);
+    good("%u queues made, used and deleted over %u resets, %u commands answered 0/08", ALL_ROUNDS, resets, aborted);
 }
 
 void own_aborts(void)
