@@ -79,7 +79,8 @@ pub extern "C" fn nvmearb_ctrl_init(
     }
 }
 
-/// Adds a submission region, and writes its number, which counts from 0. Region 0 is the admin queue's. Refused as
+/// Adds a submission region, and writes its number, which counts from 0. Region 0 is the admin queue's. It may be added at
+/// any time: the log stays an account, where no Create that was picked before named the address. Refused as
 /// `nvmearb_table_add_sq_region` refuses.
 #[unsafe(no_mangle)]
 pub extern "C" fn nvmearb_ctrl_add_sq_region(
@@ -95,7 +96,7 @@ pub extern "C" fn nvmearb_ctrl_add_sq_region(
     ensures size { (rules : FrontRules) (late : Bool) (notes : Notes) (pool : List Slot) → Stands rules late notes state.old.ctrl pool → result ≡ BAD_SIZE → adding_fault Submission address slots rules ≡ Some Size }
     ensures added { (rules : FrontRules) (late : Bool) (notes : Notes) (pool : List Slot) → Stands rules late notes state.old.ctrl pool → result ≡ OK → adding_fault Submission address slots rules ≡ None }
     ensures number { (rules : FrontRules) (late : Bool) (notes : Notes) (pool : List Slot) → Stands rules late notes state.old.ctrl pool → result ≡ OK → number.new ≡ length (sq_regions_of rules) }
-    ensures stands { (rules : FrontRules) (late : Bool) (notes : Notes) (pool : List Slot) → Stands rules late notes state.old.ctrl pool → result ≡ OK → Stands (with_region Submission address slots rules) (is_late late notes) notes state.new.ctrl pool }
+    ensures stands { (rules : FrontRules) (late : Bool) (notes : Notes) (pool : List Slot) → Stands rules late notes state.old.ctrl pool → result ≡ OK → Stands (with_region Submission address slots rules) (is_late rules late notes address) notes state.new.ctrl pool }
     ensures window { window_limit state.new.ctrl ≡ window_limit state.old.ctrl }
     ensures own { own_of state.new.ctrl ≡ own_of state.old.ctrl }
     ensures kept { (pool : List Slot) → IsKept state.old pool → IsKept state.new pool }
@@ -128,7 +129,7 @@ pub extern "C" fn nvmearb_ctrl_add_cq_region(
     ensures size { (rules : FrontRules) (late : Bool) (notes : Notes) (pool : List Slot) → Stands rules late notes state.old.ctrl pool → result ≡ BAD_SIZE → adding_fault Completion address slots rules ≡ Some Size }
     ensures added { (rules : FrontRules) (late : Bool) (notes : Notes) (pool : List Slot) → Stands rules late notes state.old.ctrl pool → result ≡ OK → adding_fault Completion address slots rules ≡ None }
     ensures number { (rules : FrontRules) (late : Bool) (notes : Notes) (pool : List Slot) → Stands rules late notes state.old.ctrl pool → result ≡ OK → number.new ≡ length (cq_regions_of rules) }
-    ensures stands { (rules : FrontRules) (late : Bool) (notes : Notes) (pool : List Slot) → Stands rules late notes state.old.ctrl pool → result ≡ OK → Stands (with_region Completion address slots rules) (is_late late notes) notes state.new.ctrl pool }
+    ensures stands { (rules : FrontRules) (late : Bool) (notes : Notes) (pool : List Slot) → Stands rules late notes state.old.ctrl pool → result ≡ OK → Stands (with_region Completion address slots rules) (is_late rules late notes address) notes state.new.ctrl pool }
     ensures window { window_limit state.new.ctrl ≡ window_limit state.old.ctrl }
     ensures own { own_of state.new.ctrl ≡ own_of state.old.ctrl }
     ensures kept { (pool : List Slot) → IsKept state.old pool → IsKept state.new pool }
