@@ -1,6 +1,6 @@
 -- An Abort command takes the oldest candidate that it names out of a window: its completion is ready.
 use Rattle.std.proofs.Common.{◌≡◌, ◌≢◌, ℕ, ◌+◌, ◌-◌, ◌<◌, ◌==◌, Bool, true, false, if◌then◌else◌, List, [], ◌∷◌, ◌++◌, length, map, drop, Option, Some, None, refl, sym, ap, ◌∙◌, subst, arith, inl}
-use Rattle.std.specs.Prelude.{slice_set, min, IsTrue, IsSomeAnd, IfSome}
+use Rattle.std.specs.Prelude.{slice_set, min, IsTrue, IsSome, IsSomeAnd, IfSome}
 use Rattle.std.specs.List.{All}
 use Rattle.std.proofs.lemmas.List.{map-append}
 use Rattle.std.proofs.lemmas.List.Elements.{All-head, All-tail, All-append}
@@ -30,7 +30,8 @@ use Rattle.nvme_ctrl.specs.kept.Content.{Candidate, Ready, SqContent, Content, w
 use Rattle.nvme_ctrl.specs.inside.Steps.{requested, oldest_named, without_oldest}
 use Rattle.nvme_ctrl.specs.kept.Kept.{is_passed_at, Item, Items, IsWaitingIn, IsUnanswered, IsThrough, tags_of, candidate_of, IsCookie, HasCookie, IsUnmarked}
 use Rattle.nvme_ctrl.specs.inside.Loose.{IsLoose, Keeps, MakesReady, ended, with_item}
-use Rattle.nvme_ctrl.specs.inside.Carrying.{IsAbortableIn, HasRequested}
+use Rattle.nvme_ctrl.specs.inside.Carrying.{queue_in, IsAbortableIn, HasRequested}
+use Rattle.nvme_ctrl.specs.kept.Standing.{counted_on, on_board}
 use Rattle.nvme_ctrl.specs.kept.Pool.{slot_at, item_at, IsChain, IsNew, SameItems, SameLinks, named_in, without_named}
 use Rattle.nvme_ctrl.specs.kept.State.{sq_at}
 use Rattle.nvme_ctrl.proofs.CarriedOut.{none_picked_in}
@@ -121,9 +122,20 @@ KeepsRequest a slots tag region b pool =
     → Keeps rules notes b pool (with_ready k region t) (with_item g region (ended tag t))
 
 -- the board with a candidate less
-abbrev pub WentBoard : (old new : BoardFields) (sqid : ℕ) → Type 0
-WentBoard old new sqid =
-    IfSome (queue_at (board_of old).queues sqid) (λ (queue : OpenQueue). board_of new ≡ record (board_of old) { queues = slice_set (board_of old).queues sqid (Some (record queue { count = queue.count - 1 })) })
+abbrev pub WentBoard : (old new : BoardFields) (sqid : ℕ) (held : Bool) → Type 0
+WentBoard old new sqid held =
+    IfSome (queue_at (board_of old).queues sqid) (λ (queue : OpenQueue). board_of new ≡ record (board_of old) { queues = slice_set (board_of old).queues sqid (Some (record queue { count = if held then queue.count else queue.count - 1 })) })
+
+-- one command less counts, unless its queue is held
+went_on : (held kept : Bool) (n m : ℕ) → held ≡ kept → m + 1 ≡ n → (if held then (if kept then 0 else n) else (if kept then 0 else n) - 1) ≡ (if kept then 0 else m)
+went_on true true n m e less = refl
+went_on false false n m e less = omega (arith, less)
+went_on true false n m e less = absurd (cc e)
+went_on false true n m e less = absurd (cc e)
+
+some_on : (b : Bool) (n : ℕ) → b ≡ false → 0 < n → 0 < (if b then 0 else n)
+some_on true n off some = absurd (cc off)
+some_on false n off some = some
 
 module _ (rules : FrontRules) (notes : Notes) (a : Controller) (slots : List Slot) (k : Content) (g : Items) (sqid cid : ℕ) (h : Keeps rules notes a slots k g) (none : a.picked ≡ 0)
     (entry : SqEntry) (ab : IsAbortableIn notes k sqid cid entry) (tag : ℕ) (named : named_in slots cid (tags_of (g.windows entry.region)) ≡ Some tag) where
@@ -148,12 +160,17 @@ module _ (rules : FrontRules) (notes : Notes) (a : Controller) (slots : List Slo
   fewer : length (without_oldest cid (k.sq region).window) + 1 ≡ length (k.sq region).window
   fewer = found_one cid (k.sq region).window (candidate_of x) oldest
 
-  -- the queue has a candidate on the board
-  pub went_some : IsSomeAnd (queue_at (board_of a.board).queues sqid) (λ (queue : OpenQueue). 0 < queue.count)
-  went_some =
+  -- the queue is on the board
+  pub went_there : IsSome (queue_at (board_of a.board).queues sqid)
+  went_there = subst (λ (o : Option OpenQueue). IsSome o) (sym (ap (λ (v : BoardView). queue_at v.queues sqid) h.numbers.board_is ∙ ab.on_board)) refl
+
+  -- with a candidate, unless it is held
+  pub went_some : (sq : SqState) → sq ≡ sq_at a.sqs entry.region → (sq.held == 1) ≡ false → IsSomeAnd (queue_at (board_of a.board).queues sqid) (λ (queue : OpenQueue). 0 < queue.count)
+  went_some sq sq_is off =
+      let not_held : k.held region ≡ false = sym (ap (λ (z : SqState). z.held == 1) sq_is ∙ h.numbers.sq_held region) ∙ off in
       subst (λ (o : Option OpenQueue). IsSomeAnd o (λ (queue : OpenQueue). 0 < queue.count))
       (sym (ap (λ (v : BoardView). queue_at v.queues sqid) h.numbers.board_is ∙ ab.on_board))
-      (let some : 0 < length (k.sq region).window = omega (arith, fewer) in some)
+      (let some : 0 < length (k.sq region).window = omega (arith, fewer) in some_on (k.held region) _ not_held some)
 
   waits : All (IsWaitingIn slots region) (f.among.before ++ x ∷ f.among.behind)
   waits = subst (All (IsWaitingIn slots region)) f.among.whole (h.has.window_items region)
@@ -200,7 +217,7 @@ module _ (rules : FrontRules) (notes : Notes) (a : Controller) (slots : List Slo
   pub requested_one : (io : sqid ≢ 0) (in_table : sq_of k.table sqid ≡ Some entry) (y : ℕ) → IsLoose slots g y
       → (sq : SqState) (chain : Chain) (mid : List Slot) (n o : ℕ) (board : BoardFields) (m b : Controller) (pool : List Slot) → sq ≡ sq_at a.sqs region
       → IsChain mid chain (without_named slots cid (tags_of (g.windows region))) → SameItems slots mid → SameLinks (tags_of (g.windows region)) slots mid
-      → n ≡ sq.unposted + 1 → o ≡ a.outstanding + 1 → WentBoard a.board board sqid → board.arbiter ≡ a.board.arbiter
+      → n ≡ sq.unposted + 1 → o ≡ a.outstanding + 1 → WentBoard a.board board sqid (sq.held == 1) → board.arbiter ≡ a.board.arbiter
       → ((mechanism : Mechanism) (first : ArbitrationFields) (past : History) → BoardStandsAt mechanism first past (board_of a.board) → BoardStandsAt mechanism first past (board_of board))
       → m ≡ record a { sqs = slice_set a.sqs region (record sq { window = chain; unposted = n }); board = board; outstanding = o } → KeepsRequest m mid tag sq.cq_region b pool
       → length pool ≡ length mid → ((z : ℕ) → z ≢ tag → item_at pool z ≡ item_at mid z)
@@ -244,7 +261,7 @@ module _ (rules : FrontRules) (notes : Notes) (a : Controller) (slots : List Slo
 
     windowed : Keeps rules notes (record a { sqs = slice_set a.sqs region s }) mid (with_sq k region c) (with_window g region rest)
     windowed =
-        keeps_windowed rules notes a slots k g h none region ab.there s c rest mid same links refl (h.numbers.sq_queue region) unposted_is refl
+        keeps_windowed rules notes a slots k g h none region ab.there s c rest mid k.held k.classed (h.numbers.sq_held region) (λ r other. refl) same links refl (h.numbers.sq_queue region) unposted_is refl
         (subst (IsChain mid chain) f.without without) (others_hold (IsWaitingIn slots region) (h.has.window_items region)) (ap (without_oldest cid) window_is ∙ f.among.left)
         (others_hold (λ (it : Item). IsUnanswered notes it.place) (h.tags.windows_unanswered region)) (others_hold (HasCookie notes slots) (h.tags.cookies.windows region))
 
@@ -277,17 +294,17 @@ module _ (rules : FrontRules) (notes : Notes) (a : Controller) (slots : List Slo
       dw0_is = refl;
     }
 
-    went_is : board_of board ≡ record (board_of a.board) { queues = slice_set (board_of a.board).queues sqid (Some (record { class = entry.class; count = length (k.sq region).window - 1 })) }
+    went_is : board_of board ≡ record (board_of a.board) { queues = slice_set (board_of a.board).queues sqid (Some (counted_on k (queue_in entry) (length (without_oldest cid (k.sq region).window)))) }
     went_is =
-        subst (λ (q : Option OpenQueue). IfSome q (λ (queue : OpenQueue). board_of board ≡ record (board_of a.board) { queues = slice_set (board_of a.board).queues sqid (Some (record queue { count = queue.count - 1 })) }))
+        subst (λ (q : Option OpenQueue). IfSome q (λ (queue : OpenQueue). board_of board ≡ record (board_of a.board) { queues = slice_set (board_of a.board).queues sqid (Some (record queue { count = if sq.held == 1 then queue.count else queue.count - 1 })) }))
         (ap (λ (v : BoardView). queue_at v.queues sqid) h.numbers.board_is ∙ ab.on_board) went
+        ∙ ap (λ (z : ℕ). record (board_of a.board) { queues = slice_set (board_of a.board).queues sqid (Some (record (on_board k (queue_in entry)) { count = z })) })
+        (went_on (sq.held == 1) (k.held region) (length (k.sq region).window) (length (without_oldest cid (k.sq region).window)) (ap (λ (z : SqState). z.held == 1) sq_is ∙ h.numbers.sq_held region) fewer)
 
-    queues : (board_of board).queues ≡ slice_set k.board.queues sqid (Some (record { class = entry.class; count = length (without_oldest cid (k.sq region).window) }))
+    queues : (board_of board).queues ≡ slice_set k.board.queues sqid (Some (counted_on k (queue_in entry) (length (without_oldest cid (k.sq region).window))))
     queues =
-        let count : length (k.sq region).window - 1 ≡ length (without_oldest cid (k.sq region).window) = omega (arith, fewer) in
         ap (λ (v : BoardView). v.queues) went_is
-        ∙ ap (λ (v : BoardView). slice_set v.queues sqid (Some (record { class = entry.class; count = length (k.sq region).window - 1 }))) h.numbers.board_is
-        ∙ ap (λ (z : ℕ). slice_set k.board.queues sqid (Some (record { class = entry.class; count = z }))) count
+        ∙ ap (λ (v : BoardView). slice_set v.queues sqid (Some (counted_on k (queue_in entry) (length (without_oldest cid (k.sq region).window))))) h.numbers.board_is
 
 -- ---- the queue in the table
 -- one unposted place more in a region is counted

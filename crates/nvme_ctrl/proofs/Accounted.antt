@@ -1,20 +1,22 @@
 -- The events of a controller's log are accounted, with the answers of its notes.
-use Rattle.nvme_ctrl.specs.Notes.{Passed}
+use Rattle.nvme_ctrl.specs.Notes.{Passed, Held, Classed}
 use Rattle.nvme_log.specs.declared.event.Event.{Event}
 use Rattle.std.proofs.Common.{◌≡◌, ℕ, ◌==◌, ◌&&◌, Bool, true, false, [], ◌∷◌, Option, None, refl, sym, ap, ◌∙◌, subst, inl, inr, not, ◌≤◌, ◌||◌, if◌then◌else◌, ◌+◌, MatchBool, arith}
 use Rattle.std.proofs.lemmas.Bool.{cases_Bool, eq-eqb, eqb-true, MatchBool-at_true, MatchBool-at_false, and_right, or_left}
 use Rattle.nvme_entry.specs.declared.submission.Sqe.{Sqe}
-use Rattle.nvme_log.specs.declared.event.Event.TheVariants.{Post}
+use Rattle.nvme_log.specs.declared.event.Event.TheVariants.{Pick, Post}
 use Rattle.nvme_log.specs.Rules.{Past, FrontRules, Each}
 use Rattle.nvme_log.specs.Places.{is_aborted, is_picked, fate_of}
 use Rattle.nvme_log.specs.Answers.{Answer, Executor, by_answers}
 use Rattle.nvme_log.specs.Completions.{is_posted, IsOwnBy, posts_of}
 use Rattle.nvme_log.specs.Dispatches.{place_at}
-use Rattle.nvme_log.specs.Account.{PostsOwnBy}
+use Rattle.nvme_log.specs.Account.{Observed, PostsOwnBy}
 use Rattle.nvme_log.proofs.Posts.{posts_of-none}
 use Rattle.nvme_ctrl.specs.Notes.{Notes, Logged, Answered, EachNote, logged}
 use Rattle.nvme_ctrl.specs.Tags.{answer_of, answer_or, answers, is_of_device, is_passed}
-use Rattle.nvme_ctrl.specs.Account.{IsLawful, IsCarriedOut, HasTag, PostsOwn, PostsAnswer}
+use Rattle.nvme_ctrl.specs.Account.{IsLawful, IsCarriedOut, HasTag, PostsOwn, PostsAnswer, PicksOnObservation}
+use Rattle.nvme_ctrl.specs.Observation.{NoneArranged}
+use Rattle.nvme_ctrl.proofs.Arranged.{observed_as_in_the_log}
 use Rattle.nvme_ctrl.specs.Laws.{EventsAreAccounted, CompletionsFollowAnswers, OneCompletionEach, NonePassed}
 use Rattle.nvme_ctrl.proofs.Posting.{posts_told, posts_answer}
 use Rattle.nvme_ctrl.proofs.Noted.{EachNote-after, each-event}
@@ -85,12 +87,23 @@ posts-own rules (Logged e ∷ notes) none h = (here e h.0.posts_own, posts-own r
 posts-own rules (Passed i ∷ notes) none h = absurd (let one = none i in let yes : (i == i || is_passed notes i) ≡ true = or_left (i == i) (is_passed notes i) (eq-eqb i i refl) in cc (one, yes))
 posts-own rules (note ∷ notes) none h = posts-own rules notes none h.1
 
+-- where no queue was held and no class was set, picks are made on what the log shows
+observed : (rules : FrontRules) (notes : Notes) → NoneArranged notes → EachNote (IsLawful rules) notes → Each Observed (logged notes)
+observed rules [] none h = tt
+observed rules (Logged e ∷ notes) none h = (here e h.0.observed, observed rules notes none h.1) where
+  here : (e : Event) → PicksOnObservation notes e → Observed (logged notes) e
+  here (Pick seen pick) is = is ∙ observed_as_in_the_log notes none
+  here e is = tt
+observed rules (Held q on ∷ notes) none h = absurd (cc none)
+observed rules (Classed q class ∷ notes) none h = absurd (cc none)
+observed rules (note ∷ notes) none h = observed rules notes none h.1
+
 pub events_are_accounted : EventsAreAccounted
-events_are_accounted rules notes sent collected none h fetched_in_order collected_in_order = record {
+events_are_accounted rules notes sent collected none none_arranged h fetched_in_order collected_in_order = record {
   fetched_in_order = fetched_in_order;
   indexes_count = each-event _ rules (λ past e it. it.index_counts) notes h.each;
   served_while_open = each-event _ rules (λ past e it. it.served_while_open) notes h.each;
-  observed = each-event _ rules (λ past e it. it.observed) notes h.each;
+  observed = observed rules notes none_arranged h.each;
   effects_at_once = each-event _ rules (λ past e it. it.effects_at_once) notes h.each;
   effects_whole = h.effects_whole;
   deletes = each-event _ rules (λ past e it. it.deletes) notes h.each;

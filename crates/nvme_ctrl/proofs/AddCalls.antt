@@ -210,6 +210,7 @@ module _ (rules : FrontRules) (late : Bool) (notes : Notes) (c : Controller) (po
       is_arbiter = s.numbers.is_arbiter;
       outstanding_is = s.numbers.outstanding_is;
       sq_queue = put_sq-each (λ x state. attachment_of state ≡ (s.content.sq x).queue) c.sqs r (begun_sq c r n) sq_inside (s.numbers.sq_queue r) (λ x other. s.numbers.sq_queue x);
+      sq_held = put_sq-each (λ x state. (state.held == 1) ≡ s.content.held x) c.sqs r (begun_sq c r n) sq_inside (s.numbers.sq_held r) (λ x other. s.numbers.sq_held x);
       sq_unposted = put_sq-each (λ x state. state.unposted ≡ (s.content.sq x).unposted) c.sqs r (begun_sq c r n) sq_inside (s.numbers.sq_unposted r) (λ x other. s.numbers.sq_unposted x);
       sq_slots = put_sq-each (λ x state. state.ring.slots ≡ slots_at (sq_regions_of sq_rules) x) c.sqs r (begun_sq c r n) sq_inside sq_slots_here
           (λ x other. s.numbers.sq_slots x ∙ sym (s.holds.tabled.sq_slots x) ∙ sym (sq_slots_others x other));
@@ -299,6 +300,7 @@ module _ (rules : FrontRules) (late : Bool) (notes : Notes) (c : Controller) (po
       has = sq_items;
       doorbells = sq_doorbells;
       tags = sq_tags;
+      shown = record { held = s.shown.held; classed = s.shown.classed };
       account = λ on_time. early_account rules late notes c pool s Submission a n on_time;
     }
 
@@ -394,6 +396,7 @@ module _ (rules : FrontRules) (late : Bool) (notes : Notes) (c : Controller) (po
       is_arbiter = s.numbers.is_arbiter;
       outstanding_is = s.numbers.outstanding_is;
       sq_queue = s.numbers.sq_queue;
+      sq_held = s.numbers.sq_held;
       sq_unposted = s.numbers.sq_unposted;
       sq_slots = s.numbers.sq_slots;
       cq_slots = put_cq-each (λ x state. state.ring.slots ≡ slots_at (cq_regions_of cq_rules) x) c.cqs r (begun_cq c r n) cq_inside cq_slots_here
@@ -483,5 +486,6 @@ module _ (rules : FrontRules) (late : Bool) (notes : Notes) (c : Controller) (po
       has = cq_items;
       doorbells = cq_doorbells;
       tags = cq_tags;
+      shown = record { held = s.shown.held; classed = s.shown.classed };
       account = λ on_time. early_account rules late notes c pool s Completion a n on_time;
     }

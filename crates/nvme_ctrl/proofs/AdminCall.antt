@@ -195,7 +195,7 @@ module _ (rules : FrontRules) (late : Bool) (notes : Notes) (c : Controller) (sl
 
     windowed : Keeps rules notes (record c { sqs = slice_set c.sqs 0 picked_state }) slots (record k { sq = λ r. if r == 0 then picked_sq (k.sq 0) 1 else k.sq r }) (with_window g 0 rest)
     windowed =
-        keeps_windowed rules notes c slots k g keeps none 0 (omega arith) picked_state (picked_sq (k.sq 0) 1) rest slots (record { size = refl; items = λ z. refl }) (λ z new. refl)
+        keeps_windowed rules notes c slots k g keeps none 0 (omega arith) picked_state (picked_sq (k.sq 0) 1) rest slots k.held k.classed (s.numbers.sq_held 0) (λ z other. refl) (record { size = refl; items = λ z. refl }) (λ z new. refl)
         refl (s.numbers.sq_queue 0) (n_is ∙ ap (λ (z : SqState). z.unposted + 1) sq_is ∙ ap (λ (z : ℕ). z + 1) (s.numbers.sq_unposted 0)) refl popped (All-tail (IsWaitingIn slots 0) x rest waits)
         (ap (λ (w : List Candidate). drop 1 w) window_is) (All-tail (λ (it : Item). IsUnanswered notes it.place) x rest unanswered_all)
         (All-tail (HasCookie notes slots) x rest cookies_all)
@@ -214,6 +214,7 @@ module _ (rules : FrontRules) (late : Bool) (notes : Notes) (c : Controller) (sl
     is_applied = record {
       before = k;
       holds = s.holds;
+      shown = s.shown;
       account = s.account;
       pick = pick;
       picked = board_of board;

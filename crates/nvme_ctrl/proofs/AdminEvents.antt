@@ -30,7 +30,7 @@ use Rattle.nvme_log.specs.Histories.{table_history, admin_entry}
 use Rattle.nvme_log.specs.Answers.{Answer}
 use Rattle.nvme_log.specs.Completions.{table_before, own_status_by, own_dw0_by}
 use Rattle.nvme_log.specs.Effects.{closing_of, made_by, made_of, made_last, EffectsAtOnce, abort_in, target_of}
-use Rattle.nvme_log.specs.Account.{IndexCounts, ServedWhileOpen, Observed, Deletes, LeavesPlaces}
+use Rattle.nvme_log.specs.Account.{IndexCounts, ServedWhileOpen, Deletes, LeavesPlaces}
 use Rattle.nvme_ctrl.specs.kept.Content.{SqContent, Content, with_sq}
 use Rattle.nvme_ctrl.specs.kept.Standing.{HoldsSq, HasOwnStatus, IsOwnDeletion, Holds, hand_of, answer_in, deleted_answer}
 use Rattle.nvme_ctrl.specs.inside.Steps.{verdict_at, applied_to, aborted, oldest_named, without_oldest, requested}
@@ -41,7 +41,7 @@ use Rattle.nvme_ctrl.proofs.OwnSteps.{statuses_stay}
 use Rattle.nvme_ctrl.proofs.OpenQueues.{none_is_pending, not_closed_region, io_region}
 use Rattle.nvme_ctrl.proofs.NextEvents.{PickedAreOutstanding, leaves_places}
 use Rattle.nvme_ctrl.specs.inside.Next.{IsNext, EachNext}
-use Rattle.nvme_ctrl.proofs.EffectEvents.{next_effects, made_are_effects, index_of_effect, effect_is_served, effect_is_observed, effects_come_at_once, effects_are_whole, effects_leave_fetched, effects_leave_table, made_delete, made_leave_done, made_leave_requests, effects_leave_told, made_leave_region}
+use Rattle.nvme_ctrl.proofs.EffectEvents.{next_effects, made_are_effects, index_of_effect, effect_is_served, effects_come_at_once, effects_are_whole, effects_leave_fetched, effects_leave_table, made_delete, made_leave_done, made_leave_requests, effects_leave_told, made_leave_region}
 use Rattle.nvme_log.specs.Aborts.{is_index, is_abort_entry, is_abort_requested, took_abort, just_picked, has_aborted, told_dw0}
 use Rattle.nvme_log.proofs.AbortEntries.{verdict_is_abort, verdict_is_delete}
 use Rattle.nvme_ctrl.proofs.AbortRequests.{unrequested, took_pick, requests-aborts}
@@ -381,15 +381,15 @@ own-admin rules late past k seen pick picked candidate rest table c board s can 
     }
 
 -- lawful events, of which each clause holds of each
-all_next : (rules : FrontRules) (rest : List Event) (past : Past) → EachNext IndexCounts rest past → EachNext (ServedWhileOpen rules) rest past → EachNext Observed rest past
+all_next : (rules : FrontRules) (rest : List Event) (past : Past) → EachNext IndexCounts rest past → EachNext (ServedWhileOpen rules) rest past
     → EachNext (EffectsAtOnce rules) rest past → EachNext Deletes rest past → EachNext (LeavesPlaces rules) rest past → EachNext (IsNext rules) rest past
-all_next rules [] past i s o e d l = tt
-all_next rules (x ∷ rest) past i s o e d l = (
-  record { index_counts = i.0; served_while_open = s.0; observed = o.0; effects_at_once = e.0; deletes = d.0; leaves_places = l.0 },
-  all_next rules rest (x ∷ past) i.1 s.1 o.1 e.1 d.1 l.1,
+all_next rules [] past i s e d l = tt
+all_next rules (x ∷ rest) past i s e d l = (
+  record { index_counts = i.0; served_while_open = s.0; effects_at_once = e.0; deletes = d.0; leaves_places = l.0 },
+  all_next rules rest (x ∷ past) i.1 s.1 e.1 d.1 l.1,
 )
 
--- an admin pick is made on what arbitration saw, and what its command makes follows it at once
+-- an admin pick is of the open admin queue, and what its command makes follows it at once
 pub next-admin : PickedAreOutstanding → NextAdmin
 next-admin more rules late past k seen pick picked candidate rest table s can saw first one apply on_time =
     let a = s.own on_time in
@@ -401,13 +401,12 @@ next-admin more rules late past k seen pick picked candidate rest table s can sa
       record {
         index_counts = tt;
         served_while_open = rw can.is_open refl;
-        observed = saw;
         effects_at_once = a.effects_whole;
         deletes = none_is_pending rules late past k s can.none_pending;
         leaves_places = leaves_places more rules late past k admin_queue seen pick picked s can;
       },
       all_next rules made mid (next_effects IndexCounts index_of_effect made mid are) (next_effects (ServedWhileOpen rules) (effect_is_served rules) made mid are)
-          (next_effects Observed effect_is_observed made mid are) (effects_come_at_once rules made mid are p.made)
+          (effects_come_at_once rules made mid are p.made)
           (made_delete past mid v (λ q queue is. not_closed_region rules late past k s q queue is))
           (made_leave_places rules late past k seen pick picked candidate rest table s can first one apply),
     )

@@ -20,7 +20,8 @@ use Rattle.nvme_log.specs.Rules.{FrontRules, Past}
 use Rattle.nvme_log.specs.Queues.{Queue, open_sq, open_cq}
 use Rattle.nvme_log.specs.Completions.{phase_after}
 use Rattle.nvme_log.specs.Effects.{made_by, target_of}
-use Rattle.nvme_ctrl.specs.kept.Content.{Candidate, Ready, PendingDelete, SqContent, CqContent, Content, with_sq, with_cq, with_ready}
+use Rattle.nvme_ctrl.specs.kept.Content.{Candidate, Ready, PendingDelete, SqContent, CqContent, Content, with_sq, with_cq, with_ready, put_held, put_class}
+use Rattle.nvme_ctrl.specs.kept.Standing.{counted_on}
 use Rattle.nvme_log.specs.declared.place.Place.{Place}
 use Rattle.nvme_log.specs.Places.{one_if}
 use Rattle.nvme_log.specs.Dispatches.{place_at}
@@ -51,7 +52,7 @@ fetched_sq s entry = record s {
 
 abbrev pub came_board : Content → ℕ → Queue → BoardView
 came_board k q queue = record k.board {
-  queues = slice_set k.board.queues q (Some (record { class = queue.class; count = length (k.sq queue.region).window + 1 }));
+  queues = slice_set k.board.queues q (Some (counted_on k queue (length (k.sq queue.region).window + 1)));
 }
 
 abbrev pub fetch_event : Content → Queue → Sqe → Event
@@ -87,6 +88,8 @@ abbrev pub with_opened : Content → (qid region cq_region : ℕ) → Class → 
 with_opened k qid region cq_region class =
     record (with_sq k region (record (k.sq region) { queue = Some (record { qid = qid; cq_region = cq_region }) })) {
       board = record k.board { queues = slice_set k.board.queues qid (Some (record { class = class; count = 0 })) };
+      held = put_held k.held region false;
+      classed = put_class k.classed region None;
     }
 
 abbrev pub with_deleting : Content → (qid region c : ℕ) → Candidate → Content
@@ -183,7 +186,7 @@ after_admin past k candidate c board (verdict.Abort sqid cid) = aborting_from k 
 -- what c and `board` are where an Abort command takes a candidate of a queue
 pub record IsAbortChosen (rules : FrontRules) (k : Content) (sqid cid c : ℕ) (picked board : BoardView) (queue : Queue) : Type 0 where
   pub attached : (k.sq queue.region).queue ≡ Some (record { qid = sqid; cq_region = c })
-  pub queues : board.queues ≡ slice_set picked.queues sqid (Some (record { class = queue.class; count = length (without_oldest cid (k.sq queue.region).window) }))
+  pub queues : board.queues ≡ slice_set picked.queues sqid (Some (counted_on k queue (length (without_oldest cid (k.sq queue.region).window))))
   pub stands : (h : History) → BoardStandsAt rules.mechanism rules.start.settings h picked → BoardStandsAt rules.mechanism rules.start.settings h board
 
 -- what c and `board` are

@@ -290,6 +290,7 @@ module _ (rules : FrontRules) (late : Bool) (notes : Notes) (c : Controller) (sl
     is_arbiter = n.is_arbiter;
     outstanding_is = n.outstanding_is;
     sq_queue = n.sq_queue;
+    sq_held = n.sq_held;
     sq_unposted = n.sq_unposted;
     sq_slots = n.sq_slots;
     cq_slots = put_cq-each (λ y state. state.ring.slots ≡ (later.cq y).slots) c.cqs x (answered_cq c x chain) there (n.cq_slots x ∙ sym (same_slots x))
@@ -511,6 +512,7 @@ answer-item rules late notes c slots s before it after are answer marks types ne
         has = answer-items rules late notes c slots s.content s.items s.holds s.numbers s.has s.tags before it after are answer marks types new chain p;
         doorbells = answer-doorbells rules late notes c slots s.content s.items s.holds s.numbers s.has s.tags before it after are answer marks types new chain p s.doorbells;
         tags = answer-tags rules late notes c slots s.content s.items s.holds s.numbers s.has s.tags before it after are answer marks types new chain p;
+        shown = record { held = s.shown.held; classed = s.shown.classed };
         account = λ on_time. answer-account rules late notes c slots s.content s.items s.holds s.numbers s.has s.tags before it after are answer marks types new chain p (s.account on_time);
       };
     }

@@ -1,9 +1,9 @@
 -- The steps of a controller keep its board at the arbitration history of the log, which is a lawful run.
-use Rattle.std.proofs.Common.{◌≡◌, ℕ, ◌+◌, ◌<◌, ◌==◌, Bool, List, [], ◌∷◌, map, length, set, Option, Some, None, refl, sym, ap, subst, ◌∙◌, inl, inr, arith, take}
-use Rattle.std.specs.Prelude.{option_map, slice_set, IfSome}
+use Rattle.std.proofs.Common.{◌≡◌, ℕ, ◌+◌, ◌<◌, ◌≤◌, ◌==◌, Bool, true, false, List, [], ◌∷◌, map, length, set, Option, Some, None, refl, sym, ap, subst, ◌∙◌, inl, inr, arith, take}
+use Rattle.std.specs.Prelude.{option_map, slice_set, IfSome, if◌then◌else◌}
 use Rattle.std.proofs.lemmas.Bool.{cases_eq, cases_lt}
 use Rattle.std.proofs.lemmas.List.{get_or-set_same, get_or-set_other, set_past, length-set}
-use Rattle.nvme_arbiter.specs.Limits.{queue_limit}
+use Rattle.nvme_arbiter.specs.Limits.{highest_count, queue_limit}
 use Rattle.nvme_arbiter.specs.Board.{BoardView, BoardStandsAt}
 use Rattle.nvme_arbiter.specs.History.{History, Picked}
 use Rattle.nvme_arbiter.specs.Lawful.{IsLawfulRun, lawful_pick}
@@ -29,12 +29,11 @@ use Rattle.nvme_log.specs.declared.event.Event.TheVariants.{Abort}
 use Rattle.nvme_log.specs.declared.event.Event.TheVariants as event
 use Rattle.nvme_log.specs.Rules.{FrontRules, Past}
 use Rattle.nvme_log.specs.Queues.{Queue, admin_queue, open_sq, open_cq}
-use Rattle.nvme_log.specs.Places.{waiting, observation_of}
+use Rattle.nvme_log.specs.Places.{waiting}
 use Rattle.nvme_log.specs.Histories.{arbitration_of}
 use Rattle.nvme_log.specs.Effects.{closed_cq_of, closing_of, abort_in, named, target_of}
 use Rattle.nvme_ctrl.specs.kept.Content.{Content, SqContent}
-use Rattle.nvme_ctrl.specs.kept.Standing.{HoldsArbitration, Holds, on_board}
-use Rattle.nvme_ctrl.proofs.Observing.{seen_is_observed}
+use Rattle.nvme_ctrl.specs.kept.Standing.{HoldsArbitration, Holds, counted_on, on_board}
 use Rattle.nvme_ctrl.specs.inside.Steps.{CanPick, applied_to, verdict_at, oldest_named, picked_sq}
 use Rattle.nvme_ctrl.proofs.AfterSteps.{with_events, IsChosen, admin_past, after_admin, deleting_from, aborting_from, aborting_in}
 use Rattle.nvme_ctrl.proofs.StepKeeps.{KeepsFetch, KeepsIo, KeepsAdmin, KeepsPost, KeepsClose, Arbitration}
@@ -62,6 +61,11 @@ put_observed queues q queue is fits = elim (cases_lt q (length queues)) [
   | inr g ↦ subst (λ (xs : List (Option OpenQueue)). IsObservation (seen_of xs)) (sym (set_past queues q queue g)) is
 ]
 
+-- a count that is small is so of a queue that is held or not
+pub few_on : (b : Bool) (n m : ℕ) → n ≤ m → (if b then 0 else n) ≤ m
+few_on true n m few = omega arith
+few_on false n m few = few
+
 -- ---- a fetch
 -- an open queue with a candidate more
 pub arbitration-fetch : KeepsFetch Arbitration
@@ -69,7 +73,8 @@ arbitration-fetch rules late past k q queue entry s can =
     let here : queue_at k.board.queues q ≡ Some (on_board k queue) = s.queues.board q ∙ ap (option_map (on_board k)) can.is_open in
     let was : FitsUnder q (Some (on_board k queue)) = subst (FitsUnder q) here (fits_of k.board.queues q s.arbitration.stands.observed) in
     let room = can.room in
-    let fits : FitsUnder q (Some (record { class = queue.class; count = length (k.sq queue.region).window + 1 })) = record { qid = was.qid; count = omega arith; admin = was.admin } in
+    let few : length (k.sq queue.region).window + 1 ≤ highest_count = omega arith in
+    let fits : FitsUnder q (Some (counted_on k queue (length (k.sq queue.region).window + 1))) = record { qid = was.qid; count = few_on (k.held queue.region) _ _ few; admin = was.admin } in
     record {
       stands = record { stands = s.arbitration.stands.stands; observed = put_observed k.board.queues q _ s.arbitration.stands.observed (λ l. fits) };
       lawful = s.arbitration.lawful;
@@ -81,15 +86,14 @@ record HoldsPick (rules : FrontRules) (past : Past) (seen : List Seen) (pick : P
   stands : BoardStandsAt rules.mechanism rules.start.settings (arbitration_of (event.Pick seen pick ∷ past)) after
   lawful : IsLawfulRun rules.mechanism rules.start.settings (arbitration_of (event.Pick seen pick ∷ past))
 
--- a pick of the board is a lawful pick of the observation
+-- a pick of the board is a lawful pick of what it shows
 picks : (rules : FrontRules) (late : Bool) (past : Past) (k : Content) (queue : Queue) (seen : List Seen) (pick : Pick) (after : BoardView)
-    → Holds rules late past k → CanPick rules past k queue pick after → seen ≡ observation_of past → HoldsPick rules past seen pick after
+    → Holds rules late past k → CanPick rules past k queue pick after → seen ≡ seen_of k.board.queues → HoldsPick rules past seen pick after
 picks rules late past k queue seen pick after s can seen_is =
-    let observed : seen_of k.board.queues ≡ seen = seen_is_observed past k s.regions s.queues ∙ sym seen_is in
     record {
       stands = subst (λ (xs : List Seen). BoardStandsAt rules.mechanism rules.start.settings (Picked xs pick ∷ arbitration_of past) after) (sym seen_is) can.board_stands;
       lawful = (
-        subst IsObservation observed s.arbitration.stands.observed,
+        subst IsObservation (sym seen_is) s.arbitration.stands.observed,
         subst (λ (xs : List Seen). lawful_pick rules.mechanism rules.start.settings (arbitration_of past) xs ≡ Some pick) (sym seen_is) can.lawful,
         s.arbitration.lawful,
       );

@@ -77,6 +77,8 @@ first_content rules board table = record {
   outstanding = 0;
   deletion = None;
   hand = [];
+  held = λ r. false;
+  classed = λ r. None;
 }
 
 module _ (mechanism : Mechanism) (settings : ArbitrationFields) (limits : Limits) (sq cq : Region) (sizes : List ℕ) where

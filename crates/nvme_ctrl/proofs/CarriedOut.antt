@@ -6,31 +6,40 @@ use Rattle.std.specs.List.{AllPairs}
 use Rattle.std.proofs.lemmas.Bool.{cases_eq, ne_eqb, and_parts, false_from_ne_true, eqb-true}
 use Rattle.std.proofs.lemmas.List.Elements.{All-head, All-tail, All-same, All-weaker}
 use Rattle.nvme_arbiter.specs.Board.{BoardView}
+use Rattle.nvme_arbiter.specs.Lawful.{lawful_pick}
+use Rattle.nvme_arbiter.specs.Queues.{seen_of}
+use Rattle.nvme_arbiter.specs.declared.pick.Seen.{Seen}
+use Rattle.nvme_admin.specs.Changes.{TellsChange}
+use Rattle.nvme_admin.proofs.Changed.{TellsChange-entry}
 use Rattle.nvme_admin.specs.Effects.{verdict_in}
 use Rattle.nvme_admin.specs.declared.effect.Effect.{Effect}
 use Rattle.nvme_admin.specs.declared.verdict.Verdict.{Verdict}
+use Rattle.nvme_admin.specs.declared.verdict.Verdict.TheVariants as verdict
+use Rattle.nvme_log.specs.Histories.{arbitration_of}
+use Rattle.nvme_log.specs.Queues.{Queue, open_sq}
 use Rattle.nvme_entry.specs.Status.{StatusCode}
 use Rattle.nvme_entry.specs.declared.submission.Sqe.{Sqe}
 use Rattle.nvme_log.specs.declared.event.Event.{Event}
 use Rattle.nvme_log.specs.declared.event.Event.TheVariants as event
 use Rattle.nvme_log.specs.declared.place.Place.{Place}
 use Rattle.nvme_log.specs.Rules.{FrontRules, Past}
-use Rattle.nvme_log.specs.Places.{fetched, is_aborted, fate_of, is_waiting, is_picked, unaborted_below, picked, waiting, observation_of, WasAborted, WasPicked, Waits}
+use Rattle.nvme_log.specs.Places.{fetched, is_aborted, fate_of, is_waiting, is_picked, unaborted_below, picked, waiting, WasAborted, WasPicked, Waits}
 use Rattle.nvme_log.specs.Answers.{Answer}
 use Rattle.nvme_log.specs.Effects.{made_by, is_effect}
 use Rattle.nvme_log.specs.Aborts.{is_index}
 use Rattle.nvme_ctrl.specs.kept.Pool.{slot_at}
 use Rattle.nvme_ctrl.specs.Notes.{Notes, Logged, Answered, EachNote, logged}
 use Rattle.nvme_ctrl.specs.Tags.{answer_of, cookie_of, is_passed, marks_of}
-use Rattle.nvme_ctrl.specs.Account.{IsLawfulEvent, IsLawful, IsAccount, IsCarriedOut, FetchesSubmitted, PostsOnFreeSlot, PostsWhatIsThrough}
-use Rattle.nvme_ctrl.specs.Steps.{with_logged, picked_notes, HasCarriedOut}
+use Rattle.nvme_ctrl.specs.Account.{IsLawfulEvent, IsLawful, IsAccount, IsCarriedOut, FetchesSubmitted, PostsOnFreeSlot, PostsWhatIsThrough, PicksOnObservation}
+use Rattle.nvme_ctrl.specs.Observation.{observed_of}
+use Rattle.nvme_ctrl.specs.Steps.{with_logged, picked_notes, IsNextPick, HasCarriedOut}
 use Rattle.nvme_ctrl.specs.declared.slot.Slot.{Slot}
 use Rattle.nvme_ctrl.specs.declared.state.Controller.{Controller}
 use Rattle.nvme_ctrl.specs.kept.Content.{Candidate, Ready, PendingDelete, Content, with_ready}
 use Rattle.nvme_ctrl.specs.kept.Standing.{Holds, HasOwnStatus, hand_of, answer_in, HasItsStatus}
 use Rattle.nvme_ctrl.specs.inside.Steps.{applied_to, told}
 use Rattle.nvme_ctrl.specs.inside.Next.{IsNext, EachNext}
-use Rattle.nvme_ctrl.specs.kept.Kept.{Item, Items, IsWaitingIn, candidate_of, untaken, IsDevices}
+use Rattle.nvme_ctrl.specs.kept.Kept.{Item, Items, IsWaitingIn, candidate_of, untaken, IsDevices, HoldsShown}
 use Rattle.nvme_ctrl.specs.inside.Loose.{Keeps}
 use Rattle.nvme_ctrl.specs.inside.Carrying.{IsApplied, HasBegun}
 use Rattle.nvme_ctrl.specs.kept.State.{picked_in}
@@ -40,6 +49,8 @@ use Rattle.nvme_ctrl.proofs.Standing.{holds-admin}
 use Rattle.nvme_ctrl.proofs.AdminEvents.{next-admin}
 use Rattle.nvme_ctrl.proofs.AdminPick.{deleted_region, target_region}
 use Rattle.nvme_ctrl.proofs.Counts.{outstanding-pick}
+use Rattle.nvme_ctrl.proofs.Observing.{seen_is_observed}
+use Rattle.nvme_ctrl.proofs.Showing.{OpensApart, shown_verdict}
 use Rattle.nvme_ctrl.proofs.EffectEvents.{AreEffects, made_are_effects, made_leave_region, effects_leave_fetched}
 use Rattle.nvme_ctrl.proofs.LaterNotes.{logged-with, answer_of-logged, cookie_of-logged, keeps-picked, IsOther, keeps-answered, is_passed-logged}
 use Rattle.nvme_ctrl.proofs.OwnStatus.{IsAnswerable, ready_is_answerable, answerable_is_done, candidates_wait, oldest_waits, waiting_is_unaborted, All-unmap}
@@ -63,12 +74,16 @@ through-effect : (notes : Notes) (e : Event) → is_effect e ≡ true → PostsW
 through-effect notes (event.Post c r i cqe) h = cc h
 through-effect notes e h = tt
 
+observed-effect : (notes : Notes) (e : Event) → is_effect e ≡ true → PicksOnObservation notes e
+observed-effect notes (event.Pick seen pick) h = cc h
+observed-effect notes e h = tt
+
 -- an effect that is next is lawful
 lawful-effect : (rules : FrontRules) (notes : Notes) (e : Event) → is_effect e ≡ true → IsNext rules (logged notes) e → IsLawfulEvent rules notes e
 lawful-effect rules notes e is n = record {
   index_counts = n.index_counts;
   served_while_open = n.served_while_open;
-  observed = n.observed;
+  observed = observed-effect notes e is;
   effects_at_once = n.effects_at_once;
   deletes = n.deletes;
   posts_own = own_of-effect rules notes e is;
@@ -125,10 +140,18 @@ module _ (rules : FrontRules) (late : Bool) (notes : Notes) (a : Controller) (sl
   abbrev pub applied : Content
   applied = applied_to h.before h.picked h.table
 
+  -- the board that was kept shows what arbitration sees
+  saw : observed_of notes ≡ seen_of h.before.board.queues
+  saw = sym (seen_is_observed notes h.before h.holds.regions h.holds.queues h.shown)
+
+  -- so its pick was the next
+  is_next : IsNextPick rules notes (Some h.pick)
+  is_next = sym (subst (λ (xs : List Seen). lawful_pick rules.mechanism rules.start.settings (arbitration_of (logged notes)) xs ≡ Some h.pick) (sym saw) h.can_pick.lawful)
+
   pub are_effects : AreEffects made
   are_effects = made_are_effects (logged notes) v
 
-  pub logged_is : logged made_notes ≡ admin_past (logged notes) (event.Pick (observation_of (logged notes)) h.pick) v
+  pub logged_is : logged made_notes ≡ admin_past (logged notes) (event.Pick (observed_of notes) h.pick) v
   logged_is = logged-with made (picked_notes notes h.pick)
 
   pub unanswered : answer_of made_notes 0 h.candidate.index ≡ None
@@ -156,7 +179,7 @@ module _ (rules : FrontRules) (late : Bool) (notes : Notes) (a : Controller) (sl
 
   -- the controller keeps the same at them
   pub keeps_made : Keeps rules made_notes a slots applied h.items
-  keeps_made = keeps-picked rules made notes (observation_of (logged notes)) h.pick a slots applied h.items are_effects h.of_admin h.keeps
+  keeps_made = keeps-picked rules made notes (observed_of notes) h.pick a slots applied h.items are_effects h.of_admin h.keeps
 
   -- the device doesn't mark its completion
   pub unmarked : marks_of made_notes 0 h.candidate.index ≡ None
@@ -167,22 +190,41 @@ module _ (rules : FrontRules) (late : Bool) (notes : Notes) (a : Controller) (sl
       → Holds rules late (logged made_notes) (after_admin (logged notes) applied h.candidate c board v)
   holds_made c board chosen =
       subst (λ (p : Past). Holds rules late p (after_admin (logged notes) applied h.candidate c board v)) (sym logged_is)
-      (subst (λ (w : Verdict). Holds rules late (admin_past (logged notes) (event.Pick (observation_of (logged notes)) h.pick) w) (after_admin (logged notes) applied h.candidate c board w)) (sym h.verdict_is)
-      (holds-admin rules late (logged notes) h.before (observation_of (logged notes)) h.pick h.picked h.candidate h.rest h.table c board h.holds h.can_pick refl h.of_admin h.one h.can_apply
+      (subst (λ (w : Verdict). Holds rules late (admin_past (logged notes) (event.Pick (observed_of notes) h.pick) w) (after_admin (logged notes) applied h.candidate c board w)) (sym h.verdict_is)
+      (holds-admin rules late (logged notes) h.before (observed_of notes) h.pick h.picked h.candidate h.rest h.table c board h.holds h.can_pick saw h.of_admin h.one h.can_apply
       (subst (IsChosen rules (logged notes) h.before c h.picked board) h.verdict_is chosen)))
+
+  -- queues are shown as it leaves them
+  pub shown_made : (c : ℕ) (board : BoardView) → HoldsShown made_notes (after_admin (logged notes) applied h.candidate c board v)
+  shown_made c board =
+      shown_verdict (logged notes) (picked_notes notes h.pick) applied h.candidate c board (record { held = h.shown.held; classed = h.shown.classed }) v
+      (apart v (subst (TellsChange rules.start h.holds.tabled.history h.candidate.entry) (sym h.verdict_is) (TellsChange-entry rules.start h.holds.tabled.history h.candidate.entry)))
+    where
+      opened_apart : (region q : ℕ) (other : Queue) → (h.before.sq region).queue ≡ None → open_sq (logged notes) q ≡ Some other → other.region ≡ region → ⊥
+      opened_apart region q other none is same =
+          let attached = (h.holds.queues.attached q other is).attached in
+          let here : (h.before.sq region).queue ≡ Some (record { qid = q; cq_region = (h.holds.queues.attached q other is).cq_region }) =
+          subst (λ (r : ℕ). (h.before.sq r).queue ≡ Some (record { qid = q; cq_region = (h.holds.queues.attached q other is).cq_region })) same attached in
+          absurd (cc (none, here))
+
+      apart : (w : Verdict) → TellsChange rules.start h.holds.tabled.history h.candidate.entry w
+          → OpensApart (logged notes) (picked_notes notes h.pick) applied h.candidate c board (record { held = h.shown.held; classed = h.shown.classed }) w
+      apart (verdict.OpenSq qid region cqid class) tells = λ q other is same.
+          opened_apart region q other (h.holds.queues.unused region (h.holds.tabled.stands.sq_used region ∙ tells.due.unused)) is same
+      apart w tells = tt
 
   -- each of the notes is lawful
   pub each_made : late ≡ false → EachNote (IsLawful rules) made_notes
   each_made on_time =
-      let next : EachNext (IsNext rules) (event.Pick (observation_of (logged notes)) h.pick ∷ made) (logged notes) =
-      subst (λ (w : Verdict). EachNext (IsNext rules) (event.Pick (observation_of (logged notes)) h.pick ∷ made_by (logged notes) w) (logged notes)) (sym h.verdict_is)
-      (next-admin outstanding-pick rules late (logged notes) h.before (observation_of (logged notes)) h.pick h.picked h.candidate h.rest h.table h.holds h.can_pick refl h.of_admin h.one h.can_apply on_time) in
+      let next : EachNext (IsNext rules) (event.Pick (observed_of notes) h.pick ∷ made) (logged notes) =
+      subst (λ (w : Verdict). EachNext (IsNext rules) (event.Pick (observed_of notes) h.pick ∷ made_by (logged notes) w) (logged notes)) (sym h.verdict_is)
+      (next-admin outstanding-pick rules late (logged notes) h.before (observed_of notes) h.pick h.picked h.candidate h.rest h.table h.holds h.can_pick saw h.of_admin h.one h.can_apply on_time) in
       let n = next.0 in
       each-effect rules made (picked_notes notes h.pick) are_effects next.1 (
         record {
           index_counts = n.index_counts;
           served_while_open = n.served_while_open;
-          observed = n.observed;
+          observed = refl;
           effects_at_once = n.effects_at_once;
           deletes = n.deletes;
           posts_own = tt;
@@ -206,10 +248,10 @@ module _ (rules : FrontRules) (late : Bool) (notes : Notes) (a : Controller) (sl
       (All-same (λ (c : Candidate). is_waiting (fate_of (logged notes) 0 c.index) ≡ true) (h.candidate ∷ h.rest) (h.before.sq 0).window (sym h.can_apply.oldest)
       (candidates_wait (logged notes) 0 (h.before.sq 0) (h.holds.regions 0))) in
       ap (λ (p : Past). is_aborted p 0 h.candidate.index) logged_is
-      ∙ made_leave_region (logged notes) (event.Pick (observation_of (logged notes)) h.pick ∷ logged notes) v 0 h.candidate.index
-      (λ qid queue begins is same. deleted_region rules late (logged notes) h.before (observation_of (logged notes)) h.pick h.picked h.holds h.can_pick h.of_admin h.candidate qid queue
+      ∙ made_leave_region (logged notes) (event.Pick (observed_of notes) h.pick ∷ logged notes) v 0 h.candidate.index
+      (λ qid queue begins is same. deleted_region rules late (logged notes) h.before (observed_of notes) h.pick h.picked h.holds h.can_pick h.of_admin h.candidate qid queue
       (sym h.verdict_is ∙ begins) is (sym same))
-      (λ sqid queue is same. target_region rules late (logged notes) h.before (observation_of (logged notes)) h.pick h.picked h.holds h.can_pick h.of_admin sqid queue is (sym same))
+      (λ sqid queue is same. target_region rules late (logged notes) h.before (observed_of notes) h.pick h.picked h.holds h.can_pick h.of_admin sqid queue is (sym same))
       ∙ waiting_is_unaborted (logged notes) 0 h.candidate.index waits
 
   -- ---- its answer
@@ -221,7 +263,7 @@ module _ (rules : FrontRules) (late : Bool) (notes : Notes) (a : Controller) (sl
       (All-same (λ (c : Candidate). c.index < length (fetched (logged notes) 0)) (h.candidate ∷ h.rest) (h.before.sq 0).window (sym h.can_apply.oldest)
       (window-below (logged notes) 0 (h.before.sq 0) (h.holds.regions 0))) in
       subst (λ (xs : List Sqe). h.candidate.index < length xs)
-      (sym (ap (λ (p : Past). fetched p 0) logged_is ∙ effects_leave_fetched 0 made (event.Pick (observation_of (logged notes)) h.pick ∷ logged notes) are_effects)) below
+      (sym (ap (λ (p : Past). fetched p 0) logged_is ∙ effects_leave_fetched 0 made (event.Pick (observed_of notes) h.pick ∷ logged notes) are_effects)) below
 
   -- no other command has its place
   others : (r : ℕ) → All (λ (it : Item). IsOther h.candidate.index it.place) (h.items.windows r)
@@ -307,11 +349,21 @@ module _ (rules : FrontRules) (late : Bool) (notes : Notes) (a : Controller) (sl
     carried_told b pool g s = record {
       pick = h.pick;
       of_admin = h.of_admin;
-      next = sym h.can_pick.lawful;
+      next = is_next;
       index = h.candidate.index;
       oldest = first_waits;
       answer = Some (answer_in t);
-      stands = record { content = k; items = g; holds = holds_told; numbers = s.numbers; has = s.has; doorbells = s.doorbells; tags = s.tags; account = account_told };
+      stands = record {
+        content = k;
+        items = g;
+        holds = holds_told;
+        numbers = s.numbers;
+        has = s.has;
+        doorbells = s.doorbells;
+        tags = s.tags;
+        shown = (let shown : HoldsShown made_notes k = subst (HoldsShown made_notes) is (shown_made c board) in record { held = shown.held; classed = shown.classed });
+        account = account_told;
+      };
     }
 
   -- ---- it began a deletion, and is answered later
@@ -323,7 +375,7 @@ module _ (rules : FrontRules) (late : Bool) (notes : Notes) (a : Controller) (sl
       record {
         pick = h.pick;
         of_admin = h.of_admin;
-        next = sym h.can_pick.lawful;
+        next = is_next;
         index = h.candidate.index;
         oldest = first_waits;
         answer = None;
@@ -335,6 +387,7 @@ module _ (rules : FrontRules) (late : Bool) (notes : Notes) (a : Controller) (sl
           has = s.has;
           doorbells = s.doorbells;
           tags = s.tags;
+          shown = subst (HoldsShown made_notes) is (shown_made c board);
           account = λ on_time. record { each = each_made on_time; lawful = holds.arbitration.lawful; effects_whole = (holds.own on_time).effects_whole };
         };
       }

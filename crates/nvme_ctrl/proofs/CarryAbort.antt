@@ -16,15 +16,17 @@ use Rattle.nvme_log.specs.declared.event.Event.{Event}
 use Rattle.nvme_log.specs.declared.event.Event.TheVariants as event
 use Rattle.nvme_log.specs.Rules.{FrontRules, Past}
 use Rattle.nvme_log.specs.Queues.{Queue, open_sq}
-use Rattle.nvme_log.specs.Places.{is_aborted, observation_of}
+use Rattle.nvme_log.specs.Places.{is_aborted}
 use Rattle.nvme_log.specs.Effects.{abort_in, target_of}
 use Rattle.nvme_ctrl.specs.Notes.{Notes, logged}
+use Rattle.nvme_ctrl.specs.Observation.{observed_of}
 use Rattle.nvme_ctrl.specs.Steps.{HasCarriedOut}
 use Rattle.nvme_ctrl.specs.declared.slot.Slot.{Slot}
 use Rattle.nvme_ctrl.specs.declared.state.Controller.{Controller}
 use Rattle.nvme_ctrl.specs.kept.Content.{Candidate, SqContent, Content, with_ready}
 use Rattle.nvme_ctrl.specs.inside.Steps.{oldest_named, without_oldest}
 use Rattle.nvme_ctrl.specs.kept.Kept.{Items}
+use Rattle.nvme_ctrl.specs.kept.Standing.{counted_on}
 use Rattle.nvme_ctrl.specs.inside.Loose.{IsLoose, Keeps}
 use Rattle.nvme_ctrl.specs.inside.Carrying.{IsApplied, HasNoneNamed, IsAbortableIn, IsAbortable, MayAbort, requesting, HasRequested}
 use Rattle.nvme_ctrl.proofs.AfterSteps.{IsChosen, IsAbortChosen, after_admin, with_events, told_abort, aborting_from, aborting_in}
@@ -76,9 +78,9 @@ module _ (rules : FrontRules) (late : Bool) (notes : Notes) (a : Controller) (sl
     -- the candidate that is found is aborted
     found_aborted : (found : Candidate) → oldest_named cid (k.sq e.region).window ≡ Some found → is_aborted (logged told) e.region found.index ≡ true
     found_aborted found oldest =
-        let made : logged told ≡ event.Abort e.region found.index ∷ event.Pick (observation_of (logged notes)) h.pick ∷ logged notes =
+        let made : logged told ≡ event.Abort e.region found.index ∷ event.Pick (observed_of notes) h.pick ∷ logged notes =
         logged_is rules late notes a slots tag did h
-        ∙ ap (λ (es : List Event). with_events es (event.Pick (observation_of (logged notes)) h.pick ∷ logged notes))
+        ∙ ap (λ (es : List Event). with_events es (event.Pick (observed_of notes) h.pick ∷ logged notes))
         (ap (abort_in (logged notes) cid) target
         ∙ made_abort (logged notes) cid (queue_of e) (h.before.sq e.region) found (h.holds.regions e.region) (ap (λ (s : SqContent). oldest_named cid s.window) (sym left) ∙ oldest)) in
         let here : (e.region == e.region && found.index == found.index) ≡ true = rw (eq-eqb e.region e.region refl, eq-eqb found.index found.index refl) refl in
@@ -99,7 +101,7 @@ module _ (rules : FrontRules) (late : Bool) (notes : Notes) (a : Controller) (sl
           attached = ap (λ (s : SqContent). s.queue) left ∙ attached;
           is_aborted = found_aborted;
           on_board = named_on_board rules late notes a slots tag did h sqid (queue_of e) was_open io
-              ∙ ap (λ (s : SqContent). Some (record { class = e.class; count = length s.window })) (sym left);
+              ∙ ap (λ (s : SqContent). Some (counted_on h.before (queue_of e) (length s.window))) (sym left);
           few_unposted = omega arith;
           few_outstanding = omega arith;
         }
@@ -161,7 +163,7 @@ module _ (rules : FrontRules) (late : Bool) (notes : Notes) (a : Controller) (sl
             subst (λ (q : Queue). IsAbortChosen rules h.before sqid cid t.c h.picked t.board q) (same_Some (queue_of t.entry) queue (sym (target t.io t.entry t.in_table) ∙ is_target)) (record {
               attached = ap (λ (s : SqContent). s.queue) (sym region) ∙ t.attached;
               queues = t.queues
-                  ∙ ap (λ (s : SqContent). slice_set h.picked.queues sqid (Some (record { class = t.entry.class; count = length (without_oldest cid s.window) }))) region;
+                  ∙ ap (λ (s : SqContent). slice_set h.picked.queues sqid (Some (counted_on h.before (queue_of t.entry) (length (without_oldest cid s.window))))) region;
               stands = λ past stands. t.stands rules.mechanism rules.start.settings past stands;
             })
 

@@ -15,10 +15,11 @@ use Rattle.nvme_log.specs.declared.event.Event.{Event}
 use Rattle.nvme_log.specs.declared.event.Event.TheVariants as event
 use Rattle.nvme_log.specs.Rules.{FrontRules, Past}
 use Rattle.nvme_log.specs.Queues.{Queue, open_sq}
-use Rattle.nvme_log.specs.Places.{is_aborted, waiting, observation_of}
+use Rattle.nvme_log.specs.Places.{is_aborted, waiting}
 use Rattle.nvme_log.specs.Effects.{closing_of}
 use Rattle.nvme_log.specs.Dispatches.{place_at}
 use Rattle.nvme_ctrl.specs.Notes.{Notes, logged}
+use Rattle.nvme_ctrl.specs.Observation.{observed_of}
 use Rattle.nvme_ctrl.specs.Tags.{answer_of, is_passed}
 use Rattle.nvme_ctrl.specs.Steps.{HasCarriedOut}
 use Rattle.nvme_ctrl.specs.declared.slot.Slot.{Slot}
@@ -73,10 +74,10 @@ module _ (rules : FrontRules) (late : Bool) (notes : Notes) (a : Controller) (sl
   -- its candidates are aborted
   all_aborted : All (λ (x : Candidate). is_aborted (logged now) region x.index ≡ true) (k.sq region).window
   all_aborted =
-      let closing : Past = event.Closing qid region ∷ event.Pick (observation_of (logged notes)) h.pick ∷ logged notes in
+      let closing : Past = event.Closing qid region ∷ event.Pick (observed_of notes) h.pick ∷ logged notes in
       let made : logged now ≡ with_events (map (λ (i : ℕ). event.Abort region i) (waiting (logged notes) region)) closing =
       logged_is rules late notes a slots tag did h
-      ∙ ap (λ (es : List Event). with_events es (event.Pick (observation_of (logged notes)) h.pick ∷ logged notes)) (ap (closing_of (logged notes) qid) is_open) in
+      ∙ ap (λ (es : List Event). with_events es (event.Pick (observed_of notes) h.pick ∷ logged notes)) (ap (closing_of (logged notes) qid) is_open) in
       let are : map (λ (c : Candidate). c.index) (k.sq region).window ≡ waiting (logged notes) region =
       ap (λ (s : SqContent). map (λ (c : Candidate). c.index) s.window) left ∙ sym (h.holds.regions region).waiting_is in
       All-unmap (λ (i : ℕ). is_aborted (logged now) region i ≡ true) (λ (c : Candidate). c.index) (k.sq region).window

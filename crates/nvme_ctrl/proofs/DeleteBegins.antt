@@ -135,6 +135,7 @@ module _ (rules : FrontRules) (notes : Notes) (a : Controller) (slots : List Slo
       is_arbiter = n.is_arbiter;
       outstanding_is = n.outstanding_is;
       sq_queue = n.sq_queue;
+      sq_held = n.sq_held;
       sq_unposted = n.sq_unposted;
       sq_slots = n.sq_slots;
       cq_slots = n.cq_slots;
@@ -211,7 +212,7 @@ module _ (rules : FrontRules) (notes : Notes) (a : Controller) (slots : List Slo
   keeps_counted =
       subst (λ (z : Controller). Keeps rules notes z slots counted g)
       (sym (m_is ∙ ap (λ (z : SqState). record a { sqs = slice_set a.sqs region (record z { unposted = n }) }) sq_is))
-      (keeps_region rules notes a slots k g region (record (sq_at a.sqs region) { unposted = n }) (record (k.sq region) { unposted = count }) h none d.there refl refl (h.numbers.sq_queue region) n_counts refl refl)
+      (keeps_region rules notes a slots k g region (record (sq_at a.sqs region) { unposted = n }) (record (k.sq region) { unposted = count }) k.held k.classed (h.numbers.sq_held region) (λ r other. refl) h none d.there refl refl (h.numbers.sq_queue region) n_counts refl refl)
 
   pub droppable_counted : IsDroppable notes counted qid region c
   droppable_counted = record {

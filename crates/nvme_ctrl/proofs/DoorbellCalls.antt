@@ -106,6 +106,7 @@ sq_ring-numbers c k r ring there slots n = record {
   is_arbiter = n.is_arbiter;
   outstanding_is = n.outstanding_is;
   sq_queue = put_sq-each (λ x state. attachment_of state ≡ (k.sq x).queue) c.sqs r (with_ring (sq_at c.sqs r) ring) there (n.sq_queue r) (λ x other. n.sq_queue x);
+  sq_held = put_sq-each (λ x state. (state.held == 1) ≡ k.held x) c.sqs r (with_ring (sq_at c.sqs r) ring) there (n.sq_held r) (λ x other. n.sq_held x);
   sq_unposted = put_sq-each (λ x state. state.unposted ≡ (k.sq x).unposted) c.sqs r (with_ring (sq_at c.sqs r) ring) there (n.sq_unposted r) (λ x other. n.sq_unposted x);
   sq_slots = put_sq-each (λ x state. state.ring.slots ≡ (k.sq x).slots) c.sqs r (with_ring (sq_at c.sqs r) ring) there (slots ∙ n.sq_slots r) (λ x other. n.sq_slots x);
   cq_slots = n.cq_slots;
@@ -243,6 +244,7 @@ module _ (rules : FrontRules) (late : Bool) (notes : Notes) (c : Controller) (sl
               none_marked = s.tags.none_marked;
               marks = s.tags.marks;
             };
+            shown = record { held = s.shown.held; classed = s.shown.classed };
             account = λ on_time. (let a = s.account on_time in record { each = (tail, a.each); lawful = a.lawful; effects_whole = a.effects_whole });
           };
         }
@@ -269,6 +271,7 @@ cq_ring-numbers c k r ring there slots n = record {
   is_arbiter = n.is_arbiter;
   outstanding_is = n.outstanding_is;
   sq_queue = n.sq_queue;
+  sq_held = n.sq_held;
   sq_unposted = n.sq_unposted;
   sq_slots = n.sq_slots;
   cq_slots = put_cq-each (λ x state. state.ring.slots ≡ (k.cq x).slots) c.cqs r (record (cq_at c.cqs r) { ring = ring }) there (slots ∙ n.cq_slots r) (λ x other. n.cq_slots x);
@@ -408,6 +411,7 @@ module _ (rules : FrontRules) (late : Bool) (notes : Notes) (c : Controller) (sl
               none_marked = s.tags.none_marked;
               marks = s.tags.marks;
             };
+            shown = record { held = s.shown.held; classed = s.shown.classed };
             account = λ on_time. (let a = s.account on_time in record { each = (head, a.each); lawful = a.lawful; effects_whole = a.effects_whole });
           };
         }

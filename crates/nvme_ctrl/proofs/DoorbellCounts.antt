@@ -3,7 +3,7 @@ use Rattle.std.proofs.Common.{◌≡◌, ℕ, ◌+◌, ◌%◌, ◌==◌, if◌t
 use Rattle.std.proofs.Math.Nat.{zero-mod}
 use Rattle.std.proofs.lemmas.Bool.{cases_Bool, le-leb}
 use Rattle.nvme_log.specs.Rules.{FrontRules}
-use Rattle.nvme_ctrl.specs.Notes.{Notes, Logged, Tail, Head, Kept, Passed, Taken, Answered, Marked}
+use Rattle.nvme_ctrl.specs.Notes.{Notes, Logged, Tail, Head, Kept, Passed, Taken, Answered, Marked, Held, Classed}
 use Rattle.nvme_ctrl.specs.Doorbells.{gap, sq_slots, cq_slots, submitted, consumed}
 
 -- the slots of a region tell what its doorbells make
@@ -18,6 +18,8 @@ submitted_same rules others (Passed i ∷ notes) r e = submitted_same rules othe
 submitted_same rules others (Taken tag c i ∷ notes) r e = submitted_same rules others notes r e
 submitted_same rules others (Answered c i answer ∷ notes) r e = submitted_same rules others notes r e
 submitted_same rules others (Marked c i marks ∷ notes) r e = submitted_same rules others notes r e
+submitted_same rules others (Held q on ∷ notes) r e = submitted_same rules others notes r e
+submitted_same rules others (Classed q class ∷ notes) r e = submitted_same rules others notes r e
 
 pub consumed_same : (rules others : FrontRules) (notes : Notes) (r : ℕ) → cq_slots others r ≡ cq_slots rules r → consumed others notes r ≡ consumed rules notes r
 consumed_same rules others [] r e = refl
@@ -30,6 +32,8 @@ consumed_same rules others (Passed i ∷ notes) r e = consumed_same rules others
 consumed_same rules others (Taken tag c i ∷ notes) r e = consumed_same rules others notes r e
 consumed_same rules others (Answered c i answer ∷ notes) r e = consumed_same rules others notes r e
 consumed_same rules others (Marked c i marks ∷ notes) r e = consumed_same rules others notes r e
+consumed_same rules others (Held q on ∷ notes) r e = consumed_same rules others notes r e
+consumed_same rules others (Classed q class ∷ notes) r e = consumed_same rules others notes r e
 
 -- a gap from slot 0 is as long as its end
 gap_from_0 : (n m slot : ℕ) → m ≡ 0 → gap n (m % n) slot ≡ slot
@@ -61,6 +65,8 @@ submitted_none rules others (Passed i ∷ notes) r e = submitted_none rules othe
 submitted_none rules others (Taken tag c i ∷ notes) r e = submitted_none rules others notes r e
 submitted_none rules others (Answered c i answer ∷ notes) r e = submitted_none rules others notes r e
 submitted_none rules others (Marked c i marks ∷ notes) r e = submitted_none rules others notes r e
+submitted_none rules others (Held q on ∷ notes) r e = submitted_none rules others notes r e
+submitted_none rules others (Classed q class ∷ notes) r e = submitted_none rules others notes r e
 
 pub consumed_none : (rules others : FrontRules) (notes : Notes) (r : ℕ) → consumed rules notes r ≡ 0 → consumed others notes r ≡ 0
 consumed_none rules others [] r e = refl
@@ -85,3 +91,5 @@ consumed_none rules others (Passed i ∷ notes) r e = consumed_none rules others
 consumed_none rules others (Taken tag c i ∷ notes) r e = consumed_none rules others notes r e
 consumed_none rules others (Answered c i answer ∷ notes) r e = consumed_none rules others notes r e
 consumed_none rules others (Marked c i marks ∷ notes) r e = consumed_none rules others notes r e
+consumed_none rules others (Held q on ∷ notes) r e = consumed_none rules others notes r e
+consumed_none rules others (Classed q class ∷ notes) r e = consumed_none rules others notes r e

@@ -153,7 +153,7 @@ module _ (rules : FrontRules) (notes : Notes) (a : Controller) (slots : List Slo
         keeps =
             subst (λ (z : Controller). Keeps rules notes z slots mid (with_window g region rest))
             (sym (m_is ∙ ap (λ (z : SqState). record a { sqs = slice_set a.sqs region (record z { window = chain }) }) sq_is))
-            (keeps_windowed rules notes a slots k g h none region d.there s (record (k.sq region) { window = map candidate_of rest }) rest slots (record { size = refl; items = λ z. refl }) (λ z new. refl)
+            (keeps_windowed rules notes a slots k g h none region d.there s (record (k.sq region) { window = map candidate_of rest }) rest slots k.held k.classed (h.numbers.sq_held region) (λ z other. refl) (record { size = refl; items = λ z. refl }) (λ z new. refl)
             refl (h.numbers.sq_queue region) (h.numbers.sq_unposted region) refl linked (All-tail (IsWaitingIn slots region) x rest waits) refl
             (All-tail (λ (it : Item). IsUnanswered notes it.place) x rest (subst (All (λ (it : Item). IsUnanswered notes it.place)) is (h.tags.windows_unanswered region)))
             (All-tail (HasCookie notes slots) x rest cookies))

@@ -13,7 +13,7 @@ use Rattle.nvme_log.specs.Queues.{Queue, open_sq, open_cq, is_closed_region}
 use Rattle.nvme_log.specs.Places.{fetched, waiting, fate_of, is_waiting, is_aborted}
 use Rattle.nvme_log.specs.Completions.{table_before}
 use Rattle.nvme_log.specs.Effects.{is_effect, closing_of, closed_cq_of, made_by, made_last, effects_since, EffectsAtOnce, abort_in, named, target_of}
-use Rattle.nvme_log.specs.Account.{IndexCounts, ServedWhileOpen, Observed, Deletes}
+use Rattle.nvme_log.specs.Account.{IndexCounts, ServedWhileOpen, Deletes}
 use Rattle.nvme_ctrl.specs.inside.Next.{EachNext}
 use Rattle.nvme_ctrl.proofs.AfterSteps.{with_events}
 use Rattle.nvme_ctrl.proofs.OwnStatus.{aborts_leave_done, aborts_leave_region, aborts_leave, requests_leave, waits_apart, waiting_wait, named_wait}
@@ -71,11 +71,6 @@ pub effect_is_served : (rules : FrontRules) (past : Past) (e : Event) → is_eff
 effect_is_served rules past (Fetch region index entry) h = cc h
 effect_is_served rules past (Pick seen pick) h = cc h
 effect_is_served rules past e h = tt
-
--- nor is it a pick on what arbitration saw
-pub effect_is_observed : (past : Past) (e : Event) → is_effect e ≡ true → Observed past e
-effect_is_observed past (Pick seen pick) h = cc h
-effect_is_observed past e h = tt
 
 -- ---- effects at once
 -- an effect comes after those since the latest pick

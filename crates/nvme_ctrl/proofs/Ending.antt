@@ -118,6 +118,7 @@ module _ (rules : FrontRules) (notes : Notes) (a : Controller) (slots : List Slo
     is_arbiter = n.is_arbiter;
     outstanding_is = n.outstanding_is;
     sq_queue = n.sq_queue;
+    sq_held = n.sq_held;
     sq_unposted = n.sq_unposted;
     sq_slots = n.sq_slots;
     cq_slots = each (λ x s c its. s.ring.slots ≡ c.slots) (n.cq_slots region) (λ x other. n.cq_slots x);

@@ -36,7 +36,7 @@ use Rattle.nvme_ctrl.specs.kept.Content.{Candidate, SqContent, Content}
 use Rattle.nvme_ctrl.specs.inside.Fetching.{IsFetchable, waiting_in}
 use Rattle.nvme_ctrl.specs.kept.Kept.{Item, Items, HasNumbers, HasItems, HoldsDoorbells, HoldsTags, StandsAt, IsWaitingIn, IsOutIn, IsUnanswered, HasEntry, is_free, tags_of, ready_tags, places_of, candidate_of, untaken, ReadyItem, IsReadyIn, IsCookie, HasCookie, HasReadyCookie, HoldsCookies, ready_state}
 use Rattle.nvme_ctrl.specs.kept.Pool.{slot_at, item_at, put_item, IsNew, AreApart, IsChain, SameItems, SameLinks}
-use Rattle.nvme_ctrl.specs.kept.Standing.{Holds, on_board}
+use Rattle.nvme_ctrl.specs.kept.Standing.{Holds, counted_on, on_board}
 use Rattle.nvme_ctrl.specs.kept.State.{sq_at, cq_at, attachment_of, picked_in}
 use Rattle.nvme_ctrl.proofs.Passed.{passed_left, passed_later}
 use Rattle.nvme_log.proofs.Turns.{stays}
@@ -69,6 +69,18 @@ module _ (rules : FrontRules) (late : Bool) (notes : Notes) (c : Controller) (sl
   waits r = ap (λ (xs : List ℕ). length xs) (s.holds.regions r).waiting_is ∙ length-map (s.content.sq r).window (λ (x : Candidate). x.index) ∙ waiting_are r
 
 -- ---- when a fetch may be made
+-- a count that is below a number is so of a queue that is held or not
+below_on : (b : Bool) (n m : ℕ) → 0 < m → n < m → (if b then 0 else n) < m
+below_on true n m some below = some
+below_on false n m some below = below
+
+-- one command more counts, unless its queue is held
+came_on : (held kept : Bool) (n : ℕ) → held ≡ kept → (if held then (if kept then 0 else n) else (if kept then 0 else n) + 1) ≡ (if kept then 0 else n + 1)
+came_on true true n e = refl
+came_on false false n e = refl
+came_on true false n e = absurd (cc e)
+came_on false true n e = absurd (cc e)
+
 module _ (rules : FrontRules) (late : Bool) (notes : Notes) (c : Controller) (slots : List Slot) (s : StandsAt rules late notes c slots)
     (qid : ℕ) (e : SqEntry) (can : IsFetchable c qid e)
   where
@@ -113,7 +125,9 @@ module _ (rules : FrontRules) (late : Bool) (notes : Notes) (c : Controller) (sl
         ∙ ap (λ (o : Option Queue). option_map (on_board s.content) o) fetch_open
 
     pub may_come : IsSomeAnd (queue_at (board_of c.board).queues qid) (λ (queue : OpenQueue). queue.count < highest_count)
-    may_come = rw on_its_board (let room = can_fetch.room in omega (arith, room))
+    may_come =
+        let few : length (s.content.sq e.region).window < highest_count = let room = can_fetch.room in omega (arith, room) in
+        rw on_its_board (below_on (s.content.held e.region) _ _ (omega arith) few)
 
 -- ---- what a fetch leaves
 -- the free slot that is taken is the first
@@ -136,6 +150,8 @@ popped slots old new tag (x ∷ xs) h some is rest = record {
 -- a fetch leaves this: the free slots, the ring and the window of its region, the board, and the pool, where a slot of the free ones has the command
 pub record Fetches (c : Controller) (slots : List Slot) (qid : ℕ) (e : SqEntry) (entry : Sqe) (cookie tag : ℕ) (slot : Slot) (free window : Chain) (ring : Ring)
     (board : BoardFields) (pool : List Slot) : Type 0 where
+  pub held : Bool
+  pub held_is : held ≡ ((sq_at c.sqs e.region).held == 1)
   pub is_first : (x : ℕ) (rest : List ℕ) → IsChain slots c.free (x ∷ rest) → Some tag ≡ Some x
   pub free_left : (x : ℕ) (rest : List ℕ) → IsChain slots c.free (x ∷ rest) → IsChain slots free rest
   pub counts : (read written : ℕ) → HasCounts (sq_at c.sqs e.region).ring read written → read < written → HasCounts ring (read + 1) written
@@ -149,7 +165,7 @@ pub record Fetches (c : Controller) (slots : List Slot) (qid : ℕ) (e : SqEntry
   pub items : SameItems (put_item slots tag slot) pool
   pub links : (xs : List ℕ) → IsChain (put_item slots tag slot) (sq_at c.sqs e.region).window xs → SameLinks xs (put_item slots tag slot) pool
   pub came : IfSome (queue_at (board_of c.board).queues qid) (λ (queue : OpenQueue). board_of board ≡ record (board_of c.board) {
-    queues = slice_set (board_of c.board).queues qid (Some (record queue { count = queue.count + 1 }));
+    queues = slice_set (board_of c.board).queues qid (Some (record queue { count = if held then queue.count else queue.count + 1 }));
   })
   pub arbiter : board.arbiter ≡ c.board.arbiter
 
@@ -282,9 +298,12 @@ module _ (rules : FrontRules) (late : Bool) (notes : Notes) (c : Controller) (sl
     board_now =
         let on = on_its_board rules late notes c slots s qid e can in
         let came = subst (λ (o : Option OpenQueue). IfSome o (λ (queue : OpenQueue). board_of board ≡ record (board_of c.board) {
-          queues = slice_set (board_of c.board).queues qid (Some (record queue { count = queue.count + 1 }));
+          queues = slice_set (board_of c.board).queues qid (Some (record queue { count = if f.held then queue.count else queue.count + 1 }));
         })) on f.came in
-        came ∙ ap (λ (b : BoardView). record b { queues = slice_set b.queues qid (Some (record { class = e.class; count = length (s.content.sq e.region).window + 1 })) })
+        came
+        ∙ ap (λ (n : ℕ). record (board_of c.board) { queues = slice_set (board_of c.board).queues qid (Some (record (on_board s.content (queue_of e)) { count = n })) })
+        (came_on f.held (s.content.held e.region) (length (s.content.sq e.region).window) (f.held_is ∙ s.numbers.sq_held e.region))
+        ∙ ap (λ (b : BoardView). record b { queues = slice_set b.queues qid (Some (counted_on s.content (queue_of e) (length (s.content.sq e.region).window + 1))) })
         s.numbers.board_is
 
     numbers_now : HasNumbers after content
@@ -297,6 +316,7 @@ module _ (rules : FrontRules) (late : Bool) (notes : Notes) (c : Controller) (sl
           is_arbiter = subst (λ (a : ArbiterFields). IsTrue (is_arbiter a)) (sym f.arbiter) n.is_arbiter;
           outstanding_is = n.outstanding_is;
           sq_queue = each_region (λ x state k xs. attachment_of state ≡ k.queue) (n.sq_queue e.region) (λ x other. n.sq_queue x);
+          sq_held = each_region (λ x state k xs. (state.held == 1) ≡ s.content.held x) (n.sq_held e.region) (λ x other. n.sq_held x);
           sq_unposted = each_region (λ x state k xs. state.unposted ≡ k.unposted) (n.sq_unposted e.region) (λ x other. n.sq_unposted x);
           sq_slots = each_region (λ x state k xs. state.ring.slots ≡ k.slots) (f.same_slots ∙ n.sq_slots e.region) (λ x other. n.sq_slots x);
           cq_slots = n.cq_slots;
@@ -515,7 +535,7 @@ module _ (rules : FrontRules) (late : Bool) (notes : Notes) (c : Controller) (sl
         record {
           index_counts = next.index_counts;
           served_while_open = next.served_while_open;
-          observed = next.observed;
+          observed = tt;
           effects_at_once = next.effects_at_once;
           deletes = next.deletes;
           posts_own = tt;
@@ -545,6 +565,7 @@ module _ (rules : FrontRules) (late : Bool) (notes : Notes) (c : Controller) (sl
       has = items_now;
       doorbells = doorbells_now;
       tags = tags_now;
+      shown = record { held = s.shown.held; classed = s.shown.classed };
       account = account_now;
     }
 

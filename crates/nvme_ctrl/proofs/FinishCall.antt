@@ -273,6 +273,7 @@ module _ (rules : FrontRules) (late : Bool) (notes : Notes) (c : Controller) (sl
         is_arbiter = n.is_arbiter;
         outstanding_is = n.outstanding_is;
         sq_queue = n.sq_queue;
+        sq_held = n.sq_held;
         sq_unposted = n.sq_unposted;
         sq_slots = n.sq_slots;
         cq_slots = n.cq_slots;
@@ -352,7 +353,7 @@ module _ (rules : FrontRules) (late : Bool) (notes : Notes) (c : Controller) (sl
               record {
                 index_counts = n.index_counts;
                 served_while_open = n.served_while_open;
-                observed = n.observed;
+                observed = tt;
                 effects_at_once = n.effects_at_once;
                 deletes = n.deletes;
                 posts_own = tt;
@@ -383,6 +384,7 @@ module _ (rules : FrontRules) (late : Bool) (notes : Notes) (c : Controller) (sl
         has = kept.has;
         doorbells = kept.doorbells;
         tags = kept.tags;
+        shown = record { held = s.shown.held; classed = s.shown.classed };
         account = account_finished;
       };
     } where

@@ -43,7 +43,7 @@ module _ (rules : FrontRules) (late : Bool) (notes : Notes) (c : Controller) (sl
 
   can_be : IsPickable past k pick
   can_be = pickable rules.mechanism rules.start.settings (arbitration_of past) past k pick s.holds.queues s.holds.arbitration.stands.observed
-      (ap (λ (xs : List Seen). lawful_pick rules.mechanism rules.start.settings (arbitration_of past) xs) (seen_is_observed past k s.holds.regions s.holds.queues) ∙ sym next)
+      (ap (λ (xs : List Seen). lawful_pick rules.mechanism rules.start.settings (arbitration_of past) xs) (seen_is_observed notes k s.holds.regions s.holds.queues s.shown) ∙ sym next)
 
   -- ---- a pick of the admin queue
   module _ (first_is : pick.qid ≡ 0) where

@@ -21,7 +21,7 @@ use Rattle.nvme_log.specs.Dispatches.{place_at}
 use Rattle.nvme_log.specs.Account.{ServedWhileOpen, PostsOwnBy, LeavesPlaces}
 use Rattle.nvme_log.proofs.Waiting.{fetched-fetch}
 use Rattle.nvme_arbiter.specs.Lawful.{IsLawfulRun}
-use Rattle.nvme_ctrl.specs.Notes.{Notes, Note, Logged, Tail, Head, Kept, Passed, Taken, Answered, Marked, EachNote, logged}
+use Rattle.nvme_ctrl.specs.Notes.{Notes, Note, Logged, Tail, Head, Kept, Passed, Taken, Answered, Marked, Held, Classed, EachNote, logged}
 use Rattle.nvme_ctrl.specs.Doorbells.{sq_slots, cq_slots}
 use Rattle.nvme_ctrl.specs.Making.{with_region}
 use Rattle.nvme_ctrl.specs.Tags.{is_passed, is_of_device, answers}
@@ -34,6 +34,7 @@ use Rattle.nvme_ctrl.proofs.Growing.{sum_by-further}
 use Rattle.nvme_ctrl.proofs.Noted.{each-event}
 use Rattle.nvme_ctrl.proofs.NotedRegions.{LeavesRegions, leaves_regions}
 use Rattle.nvme_ctrl.proofs.TakenCommands.{IsSound, lawful-before}
+use Rattle.nvme_ctrl.proofs.ShownPicks.{picks-take}
 
 -- a list with an item more isn't empty
 not_empty : {A : Type 0} (xs : List A) (x : A) → xs ++ x ∷ [] ≡ [] → ⊥
@@ -242,6 +243,8 @@ module _ (rules : FrontRules) (kind : Kind) (a n : ℕ) (some_sqs : 0 < length (
     note-stays (Taken tag r i) left h = h
     note-stays (Answered r i answer) left h = answer-stays r i answer h
     note-stays (Marked r i marks) left h = h
+    note-stays (Held q on) left h = h
+    note-stays (Classed q class) left h = h
 
   -- ---- all notes
   -- a log is sound where its notes are lawful
@@ -249,7 +252,7 @@ module _ (rules : FrontRules) (kind : Kind) (a n : ℕ) (some_sqs : 0 < length (
   sound-notes notes h l = record {
     effects = each-event _ rules (λ past e it. it.effects_at_once) notes h;
     served = each-event _ rules (λ past e it. it.served_while_open) notes h;
-    observed = each-event _ rules (λ past e it. it.observed) notes h;
+    takes = picks-take rules notes h l;
     lawful = l;
   }
 

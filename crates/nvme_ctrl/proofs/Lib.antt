@@ -1,11 +1,13 @@
 pub mod Noted
 pub mod Served
 pub mod TagLaws
+pub mod Arranged
 pub mod Accounted
 pub mod Slots
 pub mod Deletions
 pub mod ExampleNotes
 pub mod WrongNotes
+pub mod ArrangedExamples
 pub mod Turns
 pub mod AfterSteps
 pub mod StepKeeps
@@ -25,6 +27,7 @@ pub mod QueueVerdicts
 pub mod QueueSteps
 pub mod Passed
 mod Observing
+pub mod Showing
 pub mod Oldest
 pub mod DeletionSteps
 pub mod TableSteps
@@ -78,6 +81,7 @@ pub mod FurtherRegion
 pub mod FurtherTables
 pub mod FurtherHistories
 pub mod TakenCommands
+pub mod ShownPicks
 pub mod FurtherAnswers
 pub mod NotedRegions
 pub mod FurtherAccounts
@@ -105,6 +109,7 @@ mod Handing
 mod PassCall
 mod Posting
 mod OwnCall
+mod HoldCall
 mod PassedNotes
 mod NamedTags
 mod WaitingNames

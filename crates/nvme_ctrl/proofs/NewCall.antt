@@ -154,6 +154,7 @@ module _ (mechanism : Mechanism) (settings : ArbitrationFields) (limits : Limits
       is_arbiter = arbiter;
       outstanding_is = refl;
       sq_queue = each_sq (λ x state. attachment_of state ≡ first_queue x) sq.slots refl no_queue;
+      sq_held = each_sq (λ x state. (state.held == 1) ≡ false) sq.slots refl (λ x other. refl);
       sq_unposted = each_sq (λ x state. state.unposted ≡ 0) sq.slots refl (λ x other. refl);
       sq_slots = each_sq (λ x state. state.ring.slots ≡ slots_at (sq_regions_of rules) x) sq.slots sq_here sq_others;
       cq_slots = each_cq (λ x state. state.ring.slots ≡ slots_at (cq_regions_of rules) x) cq.slots cq_here cq_others;
@@ -242,5 +243,6 @@ module _ (mechanism : Mechanism) (settings : ArbitrationFields) (limits : Limits
       has = new_items;
       doorbells = new_doorbells;
       tags = new_tags;
+      shown = record { held = λ q queue is. refl; classed = λ q queue is. refl };
       account = λ on_time. record { each = tt; lawful = tt; effects_whole = refl };
     }

@@ -58,7 +58,6 @@ next-fetch rules late past k q queue entry s can regions on_time =
     record {
       index_counts = region.counted ∙ ap (λ (xs : List Sqe). length xs) (sym region.fetched_is);
       served_while_open = (open_region rules late past k s q queue can.is_open, le-leb (length (waiting (fetch_event k queue entry ∷ past) r)) (window_at rules r) fits);
-      observed = tt;
       effects_at_once = a.effects_whole;
       deletes = (none_is_pending rules late past k s can.none_pending, not_closed_region rules late past k s q queue can.is_open);
       leaves_places = tt;
@@ -77,14 +76,13 @@ leaves_places more rules late past k queue seen pick board s can =
     le-leb (outstanding rules (event.Pick seen pick ∷ past)) max_outstanding
     (rw (more rules late past k queue seen pick board s can, ← s.counts.outstanding_is) can.places)
 
--- an I/O pick is made on what arbitration saw
+-- an I/O pick is of an open queue
 pub next-io : PickedAreOutstanding → KeepsIo Next
 next-io more rules late past k queue seen pick board c s can saw io attached regions on_time =
     let a = s.own on_time in
     record {
       index_counts = tt;
       served_while_open = rw can.is_open refl;
-      observed = saw;
       effects_at_once = a.effects_whole;
       deletes = none_is_pending rules late past k s can.none_pending;
       leaves_places = leaves_places more rules late past k queue seen pick board s can;
@@ -148,7 +146,6 @@ next-post rules late past k c t rest cqe s can regions on_time =
     record {
       index_counts = tt;
       served_while_open = tt;
-      observed = tt;
       effects_at_once = a.effects_whole;
       deletes = (
         unclosed rules late past k s r i answerable,
@@ -240,7 +237,6 @@ next-close rules late past k d table s can regions on_time =
     record {
       index_counts = tt;
       served_while_open = tt;
-      observed = tt;
       effects_at_once = a.effects_whole;
       deletes = (
         s.deletion.pending_is ∙ ap (λ (o : Option PendingDelete). option_map as_deletion o) can.pending,

@@ -1,9 +1,9 @@
--- What arbitration sees of the board is the observation of the log, and what a pick says of its queue.
-use Rattle.std.proofs.Common.{◌≡◌, ℕ, zero, suc, ◌+◌, ◌≤◌, ◌==◌, ◌&&◌, Bool, false, nat_lt, List, [], ◌∷◌, ◌++◌, length, take, slice_index_or, Option, Some, None, refl, sym, ap, subst, ◌∙◌, arith}
-use Rattle.std.specs.Prelude.{option_map, All, if◌then◌else◌}
+-- What the board shows is what arbitration sees, and what a pick says of its queue.
+use Rattle.std.proofs.Common.{◌≡◌, ℕ, zero, suc, ◌+◌, ◌≤◌, ◌==◌, ◌&&◌, Bool, false, true, nat_lt, List, [], ◌∷◌, ◌++◌, length, map, take, slice_index_or, Option, Some, None, refl, sym, ap, subst, ◌∙◌, arith}
+use Rattle.std.specs.Prelude.{option_map, unwrap_or, All, if◌then◌else◌}
 use Rattle.std.specs.List.{flat_map}
 use Rattle.std.proofs.lemmas.Bool.{cond-true, eq-eqb, and_parts}
-use Rattle.std.proofs.lemmas.List.{append-nil, length-map}
+use Rattle.std.proofs.lemmas.List.{append-nil, length-map, map-append}
 use Rattle.std.proofs.lemmas.List.Concat.{flat_map-append}
 use Rattle.std.proofs.lemmas.List.Elements.{All-filter, filter_passes}
 use Rattle.nvme_arbiter.specs.Settings.{ArbitrationFields, burst_of, IsLevel}
@@ -13,7 +13,7 @@ use Rattle.nvme_arbiter.specs.Next.{next}
 use Rattle.nvme_arbiter.specs.History.{History, settings_after, last_served, last_served_of, used_in_round}
 use Rattle.nvme_arbiter.specs.Rules.{within_burst}
 use Rattle.nvme_arbiter.specs.Lawful.{lawful_pick}
-use Rattle.nvme_arbiter.specs.Queues.{seen_of, queue_at, shown}
+use Rattle.nvme_arbiter.specs.Queues.{seen_of, queue_at}
 use Rattle.nvme_arbiter.specs.Queues as board
 use Rattle.nvme_arbiter.specs.declared.pick.OpenQueue.{OpenQueue}
 use Rattle.nvme_arbiter.specs.declared.pick.Pick.{Pick}
@@ -28,49 +28,60 @@ use Rattle.nvme_arbiter.proofs.PickLaws.{picks_are_measured}
 use Rattle.nvme_ctrl.specs.kept.Content.{Candidate}
 use Rattle.nvme_log.specs.Rules.{Past, upto}
 use Rattle.nvme_log.specs.Queues.{Queue, open_sq}
-use Rattle.nvme_log.specs.Places.{waiting, seen_as, observation_of}
+use Rattle.nvme_log.specs.Places.{waiting, seen_as}
+use Rattle.nvme_ctrl.specs.Notes.{Notes, logged}
+use Rattle.nvme_ctrl.specs.Observation.{is_held, class_set, shown, observed_of}
 use Rattle.nvme_ctrl.specs.kept.Content.{Content}
 use Rattle.nvme_ctrl.specs.kept.Standing.{HoldsSq, HoldsQueues, on_board}
+use Rattle.nvme_ctrl.specs.kept.Kept.{HoldsShown}
 
 -- ---- the observation
 -- the window of a region is as long as the list of its places that wait
 pub waiting_length : (past : Past) (k : Content) (r : ℕ) → HoldsSq past r (k.sq r) → length (waiting past r) ≡ length (k.sq r).window
 waiting_length past k r h = ap length h.waiting_is ∙ length-map (k.sq r).window (λ (c : Candidate). c.index)
 
--- an open queue is seen on the board as it is seen in the log
-seen_one : (past : Past) (k : Content) (q : ℕ) (queue : Queue) → ((r : ℕ) → HoldsSq past r (k.sq r))
-    → seen_as past q (Some queue) ≡ board.seen_as q (on_board k queue) ∷ []
-seen_one past k q queue h = rw (waiting_length past k queue.region (h queue.region)) refl
+module _ (notes : Notes) (k : Content) (h : (r : ℕ) → HoldsSq (logged notes) r (k.sq r)) (shows : HoldsShown notes k) where
+  abbrev past : Past
+  past = logged notes
 
--- one queue more of the board
-seen_more : (past : Past) (k : Content) (n : ℕ) (xs : List Seen) (o : Option Queue) → ((r : ℕ) → HoldsSq past r (k.sq r))
-    → queue_at k.board.queues n ≡ option_map (on_board k) o → xs ≡ seen_of (take n k.board.queues)
-    → xs ++ seen_as past n o ≡ seen_of (take (n + 1) k.board.queues)
-seen_more past k n xs None h e is = append-nil xs ∙ seen-none k.board.queues n xs e is
-seen_more past k n xs (Some queue) h e is = rw (seen_one past k n queue h) (seen-some k.board.queues n (on_board k queue) xs e is)
+  -- an open queue is seen on the board as it is shown
+  seen_one : (q : ℕ) (queue : Queue) → open_sq past q ≡ Some queue → map (shown notes) (seen_as past q (Some queue)) ≡ board.seen_as q (on_board k queue) ∷ []
+  seen_one q queue is =
+      let held : is_held notes q ≡ k.held queue.region = sym (shows.held q queue is) in
+      let classed : class_set notes q ≡ k.classed queue.region = sym (shows.classed q queue is) in
+      let counted : length (waiting past queue.region) ≡ length (k.sq queue.region).window = waiting_length past k queue.region (h queue.region) in
+      λ t. record { qid = q; class = unwrap_or (classed t) queue.class; count = if held t then 0 else counted t } ∷ []
 
--- the queues of the board below an identifier are seen as the open queues below it are, with their waiting places
-seen_below : (past : Past) (k : Content) → ((r : ℕ) → HoldsSq past r (k.sq r))
-    → ((q : ℕ) → queue_at k.board.queues q ≡ option_map (on_board k) (open_sq past q)) → (n : ℕ)
-    → flat_map (λ (q : ℕ). seen_as past q (open_sq past q)) (upto n) ≡ seen_of (take n k.board.queues)
-seen_below past k h b zero = refl
-seen_below past k h b (suc n) =
-    let more : suc n ≡ n + 1 = omega arith in
-    flat_map-append (λ (q : ℕ). seen_as past q (open_sq past q)) (upto n) (n ∷ [])
-    ∙ ap (λ (ys : List Seen). flat_map (λ (q : ℕ). seen_as past q (open_sq past q)) (upto n) ++ ys) (append-nil (seen_as past n (open_sq past n)))
-    ∙ seen_more past k n (flat_map (λ (q : ℕ). seen_as past q (open_sq past q)) (upto n)) (open_sq past n) h (b n) (seen_below past k h b n)
-    ∙ ap (λ (m : ℕ). seen_of (take m k.board.queues)) (sym more)
+  -- one queue more of the board
+  seen_more : (n : ℕ) (xs : List Seen) (o : Option Queue) → open_sq past n ≡ o
+      → queue_at k.board.queues n ≡ option_map (on_board k) o → xs ≡ seen_of (take n k.board.queues)
+      → xs ++ map (shown notes) (seen_as past n o) ≡ seen_of (take (n + 1) k.board.queues)
+  seen_more n xs None there e is = append-nil xs ∙ seen-none k.board.queues n xs e is
+  seen_more n xs (Some queue) there e is = rw (seen_one n queue there) (seen-some k.board.queues n (on_board k queue) xs e is)
 
--- what arbitration sees of the board, where it has this many places
-seen_all : (past : Past) (k : Content) (n : ℕ) → ((r : ℕ) → HoldsSq past r (k.sq r))
-    → ((q : ℕ) → queue_at k.board.queues q ≡ option_map (on_board k) (open_sq past q)) → length k.board.queues ≡ n
-    → flat_map (λ (q : ℕ). seen_as past q (open_sq past q)) (upto n) ≡ seen_of k.board.queues
-seen_all past k n h b size = seen-all k.board.queues n (flat_map (λ (q : ℕ). seen_as past q (open_sq past q)) (upto n)) (omega arith) (seen_below past k h b n)
+  -- the queues of the board below an identifier are seen as the open queues below it are shown
+  seen_below : ((q : ℕ) → queue_at k.board.queues q ≡ option_map (on_board k) (open_sq past q)) → (n : ℕ)
+      → map (shown notes) (flat_map (λ (q : ℕ). seen_as past q (open_sq past q)) (upto n)) ≡ seen_of (take n k.board.queues)
+  seen_below b zero = refl
+  seen_below b (suc n) =
+      let more : suc n ≡ n + 1 = omega arith in
+      let below : List Seen = flat_map (λ (q : ℕ). seen_as past q (open_sq past q)) (upto n) in
+      ap (λ (xs : List Seen). map (shown notes) xs)
+      (flat_map-append (λ (q : ℕ). seen_as past q (open_sq past q)) (upto n) (n ∷ [])
+      ∙ ap (λ (ys : List Seen). below ++ ys) (append-nil (seen_as past n (open_sq past n))))
+      ∙ map-append (shown notes) below (seen_as past n (open_sq past n))
+      ∙ seen_more n (map (shown notes) below) (open_sq past n) refl (b n) (seen_below b n)
+      ∙ ap (λ (m : ℕ). seen_of (take m k.board.queues)) (sym more)
 
--- what arbitration sees of the board is the observation of the log
-pub seen_is_observed : (past : Past) (k : Content) → ((r : ℕ) → HoldsSq past r (k.sq r)) → HoldsQueues past k
-    → seen_of k.board.queues ≡ observation_of past
-seen_is_observed past k h q = sym (seen_all past k queue_limit h q.board q.board_size)
+  -- what arbitration sees of the board, where it has this many places
+  seen_all : ((q : ℕ) → queue_at k.board.queues q ≡ option_map (on_board k) (open_sq past q)) → (n : ℕ) → length k.board.queues ≡ n
+      → map (shown notes) (flat_map (λ (q : ℕ). seen_as past q (open_sq past q)) (upto n)) ≡ seen_of k.board.queues
+  seen_all b n size = seen-all k.board.queues n (map (shown notes) (flat_map (λ (q : ℕ). seen_as past q (open_sq past q)) (upto n))) (omega arith) (seen_below b n)
+
+-- what the board shows is what arbitration sees
+pub seen_is_observed : (notes : Notes) (k : Content) → ((r : ℕ) → HoldsSq (logged notes) r (k.sq r)) → HoldsQueues (logged notes) k → HoldsShown notes k
+    → seen_of k.board.queues ≡ observed_of notes
+seen_is_observed notes k h q shows = sym (seen_all notes k h shows q.board queue_limit q.board_size)
 
 -- ---- a pick
 -- what a pick says of its queue: it is open on the board, with as many commands as are taken; of the admin queue one is taken
@@ -148,6 +159,11 @@ pub record IsPickable (past : Past) (k : Content) (pick : Pick) : Type 0 where
   pub enough : pick.n ≤ length (k.sq queue.region).window
   pub one_of_admin : pick.qid ≡ 0 → pick.n ≡ 1
 
+-- a count that is as many, of a queue that isn't held
+enough_on : (b : Bool) (n m : ℕ) → n ≤ (if b then 0 else m) → n ≤ m
+enough_on true n m le = omega (arith, le)
+enough_on false n m le = le
+
 -- the queue of a pick in the log, where the board has the queues of the log
 pickable_at : (past : Past) (k : Content) (pick : Pick) (o : Option Queue) → open_sq past pick.qid ≡ o
     → queue_at k.board.queues pick.qid ≡ option_map (on_board k) o → IsPeeked k.board.queues pick → IsPickable past k pick
@@ -159,7 +175,7 @@ pickable_at past k pick (Some queue) e b is =
       queue = queue;
       is_open = e;
       at_least_one = is.at_least_one;
-      enough = subst (λ (x : OpenQueue). pick.n ≤ x.count) (sym same) is.enough;
+      enough = enough_on (k.held queue.region) pick.n (length (k.sq queue.region).window) (subst (λ (x : OpenQueue). pick.n ≤ x.count) (sym same) is.enough);
       one_of_admin = is.one_of_admin;
     }
 

@@ -22,6 +22,7 @@ owned rules late notes c slots own s = record {
     is_arbiter = n.is_arbiter;
     outstanding_is = n.outstanding_is;
     sq_queue = n.sq_queue;
+    sq_held = n.sq_held;
     sq_unposted = n.sq_unposted;
     sq_slots = n.sq_slots;
     cq_slots = n.cq_slots;
@@ -67,6 +68,7 @@ owned rules late notes c slots own s = record {
     none_marked = t.none_marked;
     marks = t.marks;
   });
+  shown = record { held = s.shown.held; classed = s.shown.classed };
   account = s.account;
 }
 

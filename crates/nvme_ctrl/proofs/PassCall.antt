@@ -20,10 +20,11 @@ use Rattle.nvme_log.specs.declared.place.Place.{Place}
 use Rattle.nvme_log.specs.Limits.{max_outstanding}
 use Rattle.nvme_log.specs.Rules.{FrontRules, Past}
 use Rattle.nvme_log.specs.Queues.{Queue, open_sq}
-use Rattle.nvme_log.specs.Places.{waiting, observation_of, entry_at, fate_of, is_waiting, is_aborted}
+use Rattle.nvme_log.specs.Places.{waiting, entry_at, fate_of, is_waiting, is_aborted}
 use Rattle.nvme_log.specs.Dispatches.{place_at, dispatched_by}
 use Rattle.nvme_log.proofs.Turns.{stays}
 use Rattle.nvme_ctrl.specs.Notes.{Notes, Passed, logged}
+use Rattle.nvme_ctrl.specs.Observation.{observed_of}
 use Rattle.nvme_ctrl.specs.Own.{may_be_own}
 use Rattle.nvme_ctrl.specs.Tags.{is_passed, handed, taken, answer_of}
 use Rattle.nvme_ctrl.specs.Account.{IsPassed}
@@ -43,7 +44,7 @@ use Rattle.nvme_ctrl.proofs.Counts.{outstanding-pick}
 use Rattle.nvme_ctrl.proofs.HandSteps.{hand_done}
 use Rattle.nvme_ctrl.proofs.NextEvents.{next-io}
 use Rattle.nvme_ctrl.proofs.OwnStatus.{candidates_wait, oldest_waits, All-unmap, IsAnswerable, answerable_is_done, ready_is_answerable}
-use Rattle.nvme_ctrl.proofs.PickCall.{after_pick_io, due, can, attached, none_untaken, picked_items, pick-numbers, pick-items, pick-doorbells, next_is}
+use Rattle.nvme_ctrl.proofs.PickCall.{after_pick_io, due, can, attached, none_untaken, picked_items, pick-numbers, pick-items, pick-doorbells, saw, next_is}
 use Rattle.nvme_ctrl.proofs.SlotItems.{All-parts, All-both}
 use Rattle.nvme_ctrl.proofs.Standing.{holds-io}
 use Rattle.nvme_ctrl.proofs.StepKeeps.{IsPassing}
@@ -162,10 +163,10 @@ module _ (rules : FrontRules) (late : Bool) (notes : Notes) (c : Controller) (sl
       (s.tags.untaken_are ∙ ap (λ (its : List Item). taken notes ++ places_of its) (none_untaken rules late notes c slots s none idle pick board lawful stands queues arbiter places) ∙ append-nil (taken notes))
       ∙ ap (λ (p : Place). taken notes ++ p ∷ []) (sym place_is) ∙ ap (λ (its : List Item). taken notes ++ places_of its) (sym untaken_one)
 
-  pass-holds : Holds rules late (event.Pick (observation_of now) pick ∷ now) after
+  pass-holds : Holds rules late (event.Pick (observed_of notes) pick ∷ now) after
   pass-holds =
-      holds-io rules late now k queue (observation_of now) pick (board_of board) (attached rules late notes c slots s none idle pick board lawful stands queues arbiter places).cq_region s.holds
-      (can rules late notes c slots s none idle pick board lawful stands queues arbiter places) refl (inr passing)
+      holds-io rules late now k queue (observed_of notes) pick (board_of board) (attached rules late notes c slots s none idle pick board lawful stands queues arbiter places).cq_region s.holds
+      (can rules late notes c slots s none idle pick board lawful stands queues arbiter places) (saw rules late notes c slots s none idle pick board lawful stands queues arbiter places) (inr passing)
       (attached rules late notes c slots s none idle pick board lawful stands queues arbiter places).attached
 
   -- its place is in hand now, so it waits no longer
@@ -183,7 +184,7 @@ module _ (rules : FrontRules) (late : Bool) (notes : Notes) (c : Controller) (sl
         places-append (z ∷ zs) ys = ap (λ (ps : List Place). z.place ∷ ps) (places-append zs ys)
 
   abbrev picked_now : Past
-  picked_now = event.Pick (observation_of now) pick ∷ now
+  picked_now = event.Pick (observed_of notes) pick ∷ now
 
   unaborted : is_aborted picked_now 0 i ≡ false
   unaborted = (in_hand (IsInHand picked_now) pass-holds.hand.each).not_aborted
@@ -210,7 +211,7 @@ module _ (rules : FrontRules) (late : Bool) (notes : Notes) (c : Controller) (sl
 
     by : (j : ℕ) (b : Bool) → (i == j) ≡ b → (b || is_passed notes j) ≡ true → is_waiting (fate_of picked_now 0 j) ≡ false
     by j true e h = subst (λ (z : ℕ). is_waiting (fate_of picked_now 0 z) ≡ false) (eqb-true i j e) done
-    by j false e h = stays (event.Pick (observation_of now) pick) now 0 j (s.tags.passed.served j h)
+    by j false e h = stays (event.Pick (observed_of notes) pick) now 0 j (s.tags.passed.served j h)
 
     -- what is ready is another place
     same_at : (p : Place) → is_waiting (fate_of now p.region p.index) ≡ false → is_passed_at notes p ≡ is_passed_at later p
@@ -284,10 +285,11 @@ module _ (rules : FrontRules) (late : Bool) (notes : Notes) (c : Controller) (sl
     has = pick-items rules late notes c slots s none idle pick board lawful stands queues arbiter places;
     doorbells = pass-doorbells;
     tags = pass-tags;
+    shown = record { held = s.shown.held; classed = s.shown.classed };
     account = λ on_time.
-        let next = next-io outstanding-pick rules late now k queue (observation_of now) pick (board_of board)
+        let next = next-io outstanding-pick rules late now k queue (observed_of notes) pick (board_of board)
         (attached rules late notes c slots s none idle pick board lawful stands queues arbiter places).cq_region s.holds
-        (can rules late notes c slots s none idle pick board lawful stands queues arbiter places) refl (inr passing)
+        (can rules late notes c slots s none idle pick board lawful stands queues arbiter places) (saw rules late notes c slots s none idle pick board lawful stands queues arbiter places) (inr passing)
         (attached rules late notes c slots s none idle pick board lawful stands queues arbiter places).attached pass-holds.regions on_time in
         record {
           each = (
@@ -296,7 +298,7 @@ module _ (rules : FrontRules) (late : Bool) (notes : Notes) (c : Controller) (sl
               record {
                 index_counts = next.index_counts;
                 served_while_open = next.served_while_open;
-                observed = next.observed;
+                observed = refl;
                 effects_at_once = next.effects_at_once;
                 deletes = next.deletes;
                 posts_own = tt;

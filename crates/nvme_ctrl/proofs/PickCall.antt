@@ -67,7 +67,7 @@ use Rattle.nvme_arbiter.specs.declared.settings.Mechanism.{Mechanism}
 use Rattle.nvme_arbiter.specs.declared.pick.Pick.{Pick}
 use Rattle.nvme_arbiter.specs.declared.pick.Seen.{Seen}
 use Rattle.nvme_log.specs.Rules.{FrontRules, Past}
-use Rattle.nvme_log.specs.Places.{observation_of}
+use Rattle.nvme_ctrl.specs.Observation.{observed_of}
 use Rattle.nvme_log.specs.Histories.{arbitration_of}
 use Rattle.nvme_ctrl.specs.declared.slot.Slot.{Slot}
 use Rattle.nvme_ctrl.specs.declared.state.Controller.{Controller}
@@ -80,9 +80,13 @@ module _ (rules : FrontRules) (late : Bool) (notes : Notes) (c : Controller) (sl
   pub board_stands : BoardStandsAt rules.mechanism rules.start.settings (arbitration_of past) (board_of c.board)
   board_stands = subst (λ (b : BoardView). BoardStandsAt rules.mechanism rules.start.settings (arbitration_of past) b) (sym s.numbers.board_is) s.holds.arbitration.stands
 
-  -- and sees what waits
-  pub board_sees : seen_of (board_of c.board).queues ≡ observation_of past
-  board_sees = ap (λ (b : BoardView). seen_of b.queues) s.numbers.board_is ∙ seen_is_observed past s.content s.holds.regions s.holds.queues
+  -- the board that is kept shows it
+  pub saw_board : seen_of s.content.board.queues ≡ observed_of notes
+  saw_board = seen_is_observed notes s.content s.holds.regions s.holds.queues s.shown
+
+  -- and shows what arbitration sees
+  pub board_sees : seen_of (board_of c.board).queues ≡ observed_of notes
+  board_sees = ap (λ (b : BoardView). seen_of b.queues) s.numbers.board_is ∙ saw_board
 
   -- so what it would pick is the next pick
   pub next_is : (result : Option Pick)
@@ -193,16 +197,19 @@ module _ (rules : FrontRules) (late : Bool) (notes : Notes) (c : Controller) (sl
   places_now : k.outstanding + pick.n ≤ max_outstanding
   places_now = omega (arith, places, s.numbers.outstanding_is)
 
+  pub saw : observed_of notes ≡ seen_of k.board.queues
+  saw = sym (saw_board rules late notes c slots s)
+
   pub can : CanPick rules now k due.queue pick (board_of board)
   can = record {
     is_open = due.is_open;
     none_pending = none_deleting;
     enough = due.enough;
     places = places_now;
-    lawful = sym (next_is rules late notes c slots s (Some pick) lawful);
+    lawful = subst (λ (b : BoardView). lawful_pick rules.mechanism rules.start.settings (arbitration_of now) (seen_of b.queues) ≡ Some pick) s.numbers.board_is
+        (sym (lawful rules.mechanism rules.start.settings (arbitration_of now) (board_stands rules late notes c slots s)));
     board_queues = queues ∙ ap (λ (b : BoardView). queues_after b.queues pick) s.numbers.board_is;
-    board_stands = subst (λ (xs : List Seen). BoardStandsAt rules.mechanism rules.start.settings (Picked xs pick ∷ arbitration_of now) (board_of board))
-        (board_sees rules late notes c slots s)
+    board_stands = subst (λ (b : BoardView). BoardStandsAt rules.mechanism rules.start.settings (Picked (seen_of b.queues) pick ∷ arbitration_of now) (board_of board)) s.numbers.board_is
         (stands rules.mechanism rules.start.settings (arbitration_of now) (board_stands rules late notes c slots s));
   }
 
@@ -234,6 +241,7 @@ module _ (rules : FrontRules) (late : Bool) (notes : Notes) (c : Controller) (sl
     outstanding_is = outstanding_is;
     sq_queue = put_sq-each (λ x state. attachment_of state ≡ (after.sq x).queue) c.sqs r (picked_state c r pick.n) there
         (rw (eq-eqb r r refl) (s.numbers.sq_queue r)) (λ x other. rw (ne_eqb x r other) (s.numbers.sq_queue x));
+    sq_held = put_sq-each (λ x state. (state.held == 1) ≡ k.held x) c.sqs r (picked_state c r pick.n) there (s.numbers.sq_held r) (λ x other. s.numbers.sq_held x);
     sq_unposted = put_sq-each (λ x state. state.unposted ≡ (after.sq x).unposted) c.sqs r (picked_state c r pick.n) there
         (rw (eq-eqb r r refl) unposted_is) (λ x other. rw (ne_eqb x r other) (s.numbers.sq_unposted x));
     sq_slots = put_sq-each (λ x state. state.ring.slots ≡ (after.sq x).slots) c.sqs r (picked_state c r pick.n) there
@@ -331,7 +339,7 @@ module _ (rules : FrontRules) (late : Bool) (notes : Notes) (c : Controller) (sl
     picked_passed : HoldsPassed (picked_notes notes pick) new g
     picked_passed = record {
       all_handed = picked_devices;
-      served = λ i is. stays (event.Pick (observation_of now) pick) now 0 i (s.tags.passed.served i is);
+      served = λ i is. stays (event.Pick (observed_of notes) pick) now 0 i (s.tags.passed.served i is);
       readies = s.tags.passed.readies;
       deletion = s.tags.passed.deletion;
     }
@@ -360,8 +368,8 @@ module _ (rules : FrontRules) (late : Bool) (notes : Notes) (c : Controller) (sl
       marks = s.tags.marks;
     }
 
-    pick-holds : Holds rules late (event.Pick (observation_of now) pick ∷ now) after
-    pick-holds = holds-io rules late now k due.queue (observation_of now) pick (board_of board) attached.cq_region s.holds can refl (inl io) attached.attached
+    pick-holds : Holds rules late (event.Pick (observed_of notes) pick ∷ now) after
+    pick-holds = holds-io rules late now k due.queue (observed_of notes) pick (board_of board) attached.cq_region s.holds can saw (inl io) attached.attached
 
     -- the controller stands at its log with the pick
     pub pick-stands : StandsAt rules late (picked_notes notes pick) new slots
@@ -373,14 +381,15 @@ module _ (rules : FrontRules) (late : Bool) (notes : Notes) (c : Controller) (sl
       has = pick-items;
       doorbells = pick-doorbells;
       tags = pick-tags;
+      shown = record { held = s.shown.held; classed = s.shown.classed };
       account = λ on_time.
-          let next = next-io outstanding-pick rules late now k due.queue (observation_of now) pick (board_of board) attached.cq_region s.holds can refl (inl io) attached.attached pick-holds.regions on_time in
+          let next = next-io outstanding-pick rules late now k due.queue (observed_of notes) pick (board_of board) attached.cq_region s.holds can saw (inl io) attached.attached pick-holds.regions on_time in
           record {
             each = (
               record {
                 index_counts = next.index_counts;
                 served_while_open = next.served_while_open;
-                observed = next.observed;
+                observed = refl;
                 effects_at_once = next.effects_at_once;
                 deletes = next.deletes;
                 posts_own = tt;

@@ -284,7 +284,7 @@ module _ (p : PostCall) where
       record {
         index_counts = next.index_counts;
         served_while_open = next.served_while_open;
-        observed = next.observed;
+        observed = tt;
         effects_at_once = next.effects_at_once;
         deletes = next.deletes;
         posts_own = posts_own on_time first.no_post first.was_served;
@@ -323,6 +323,7 @@ stands_after p =
       has = has_after p;
       doorbells = doorbells_after p;
       tags = tags_after p;
+      shown = record { held = p.stands.shown.held; classed = p.stands.shown.classed };
       account = account_after p;
     })
 

@@ -58,6 +58,7 @@ numbers_after p =
       is_arbiter = h.is_arbiter;
       outstanding_is = outstanding_by p.item.was_out p.item.ready.with_queue _ _ _ h.outstanding_is i.state i.not_both;
       sq_queue = both_sqs (λ y s u. attachment_of s ≡ u.queue) p.c.sqs (content p).sq r (sq_after p.c r) sq_new (sqs_have p) (h.sq_queue r) (λ y d. h.sq_queue y);
+      sq_held = both_sqs (λ y s u. (s.held == 1) ≡ (content p).held y) p.c.sqs (content p).sq r (sq_after p.c r) sq_new (sqs_have p) (h.sq_held r) (λ y d. h.sq_held y);
       sq_unposted = both_sqs (λ y s u. s.unposted ≡ u.unposted) p.c.sqs (content p).sq r (sq_after p.c r) sq_new (sqs_have p)
           (ap (λ (n : ℕ). n - 1) (h.sq_unposted r)) (λ y d. h.sq_unposted y);
       sq_slots = both_sqs (λ y s u. s.ring.slots ≡ u.slots) p.c.sqs (content p).sq r (sq_after p.c r) sq_new (sqs_have p) (h.sq_slots r) (λ y d. h.sq_slots y);

@@ -1,5 +1,5 @@
 -- How each step changes the queues of a log and of what is kept.
-use Rattle.std.proofs.Common.{◌≡◌, ℕ, ◌≤◌, ◌<◌, ◌==◌, ◌||◌, ◌-◌, Bool, if◌then◌else◌, [], length, Option, Some, None, refl, sym, ◌∙◌, ap, subst, inl, inr, arith, true≢false}
+use Rattle.std.proofs.Common.{◌≡◌, ℕ, ◌≤◌, ◌<◌, ◌==◌, ◌||◌, ◌-◌, Bool, false, if◌then◌else◌, [], length, Option, Some, None, refl, sym, ◌∙◌, ap, subst, inl, inr, arith, true≢false}
 use Rattle.std.specs.Prelude.{option_map, slice_set, unwrap_or}
 use Rattle.std.proofs.lemmas.Bool.{cases_eq, eq-eqb, ne_eqb}
 use Rattle.std.proofs.lemmas.List.{length-set}
@@ -10,9 +10,9 @@ use Rattle.nvme_arbiter.specs.declared.settings.Class.{Class}
 use Rattle.nvme_ctrl.specs.kept.Content.{PendingDelete}
 use Rattle.nvme_ctrl.specs.kept.Content.{Attachment}
 use Rattle.nvme_log.specs.Queues.{Queue}
-use Rattle.nvme_ctrl.specs.kept.Content.{SqContent, put_sq}
+use Rattle.nvme_ctrl.specs.kept.Content.{SqContent, put_sq, put_held, put_class}
 use Rattle.nvme_ctrl.specs.kept.Standing.{IsGone, IsOpenedFor}
-use Rattle.nvme_ctrl.proofs.QueueWords.{LogQueues, QueueContent, counted, OpenedFor, IsBlank, Agree, at_same, at_other, chosen, put-queue, one_queue, on_others, on_same, on_board-set}
+use Rattle.nvme_ctrl.proofs.QueueWords.{LogQueues, QueueContent, with_count, counted, OpenedFor, IsBlank, Agree, at_same, at_other, chosen, put-queue, one_queue, on_others, as_others, on_same, on_board-set}
 
 -- a region that was opened for no queue isn't one that was
 unopened_apart : (sq : ℕ → SqContent) (r x q : ℕ) → OpenedFor (sq r) q → (sq x).queue ≡ None → x ≡ r → ⊥
@@ -49,21 +49,21 @@ module _ (l : LogQueues) (k : QueueContent) (h : Agree l k) where
   on_board q few = omega (arith, h.board_size, few)
 
   -- two open queues have two regions
-  apart_queues : (q p : ℕ) (queue other : Queue) → l.sqs q ≡ Some queue → l.sqs p ≡ Some other → (p ≡ q → ⊥) → other.region ≡ queue.region → ⊥
+  pub apart_queues : (q p : ℕ) (queue other : Queue) → l.sqs q ≡ Some queue → l.sqs p ≡ Some other → (p ≡ q → ⊥) → other.region ≡ queue.region → ⊥
   apart_queues q p queue other is is_other n e =
       n (one_queue (k.sq queue.region) p q (subst (λ (z : ℕ). OpenedFor (k.sq z) p) e (h.attached p other is_other)) (h.attached q queue is))
 
   -- the candidates of an open queue change, on the board too
   pub serve : (q : ℕ) (queue : Queue) (s : SqContent) → l.sqs q ≡ Some queue → s.queue ≡ (k.sq queue.region).queue
-      → Agree l (record k { sq = put_sq k.sq queue.region s; board = slice_set k.board q (Some (record { class = queue.class; count = length s.window })) })
+      → Agree l (record k { sq = put_sq k.sq queue.region s; board = slice_set k.board q (Some (with_count k.held k.classed queue (length s.window))) })
   serve q queue s is same =
       let here : OpenedFor (k.sq queue.region) q = h.attached q queue is in
-      let entry : OpenQueue = record { class = queue.class; count = length s.window } in
+      let entry : OpenQueue = with_count k.held k.classed queue (length s.window) in
       let later : ℕ → SqContent = put_sq k.sq queue.region s in
       record {
-        board = on_board-set k.board q (Some entry) (λ (p : ℕ). option_map (counted later) (l.sqs p)) (on_board q (h.few q queue is))
+        board = on_board-set k.board q (Some entry) (λ (p : ℕ). option_map (counted k.held k.classed later) (l.sqs p)) (on_board q (h.few q queue is))
             (rw (is, eq-eqb queue.region queue.region refl) refl)
-            (λ p n. h.board p ∙ on_others k.sq queue.region s (l.sqs p) (λ other is_other. apart_queues q p queue other is is_other n));
+            (λ p n. h.board p ∙ on_others k.held k.classed k.sq queue.region s (l.sqs p) (λ other is_other. apart_queues q p queue other is is_other n));
         board_size = length-set k.board q (Some entry) ∙ h.board_size;
         few = h.few;
         cq_there = h.cq_there;
@@ -80,13 +80,42 @@ module _ (l : LogQueues) (k : QueueContent) (h : Agree l k) where
         deleting = λ d e. still_opened_for k.sq queue.region s d same (h.deleting d e);
       }
 
+  -- an open queue is held or not, and in another class, on the board too
+  pub arrange : (q : ℕ) (queue : Queue) (on : Bool) (class : Option Class) → l.sqs q ≡ Some queue
+      → Agree l (record k {
+        board = slice_set k.board q (Some (counted (put_held k.held queue.region on) (put_class k.classed queue.region class) k.sq queue));
+        held = put_held k.held queue.region on;
+        classed = put_class k.classed queue.region class;
+      })
+  arrange q queue on class is =
+      let held : ℕ → Bool = put_held k.held queue.region on in
+      let classed : ℕ → Option Class = put_class k.classed queue.region class in
+      let entry : OpenQueue = counted held classed k.sq queue in
+      record {
+        board = on_board-set k.board q (Some entry) (λ (p : ℕ). option_map (counted held classed k.sq) (l.sqs p)) (on_board q (h.few q queue is))
+            (ap (option_map (counted held classed k.sq)) (sym is))
+            (λ p n. h.board p ∙ as_others k.held k.classed k.sq queue.region on class (l.sqs p) (λ other is_other. apart_queues q p queue other is is_other n));
+        board_size = length-set k.board q (Some entry) ∙ h.board_size;
+        few = h.few;
+        cq_there = h.cq_there;
+        qid_is = h.qid_is;
+        cq_region_is = h.cq_region_is;
+        attached = h.attached;
+        sq_there = h.sq_there;
+        posts_there = h.posts_there;
+        unopened = h.unopened;
+        gone = h.gone;
+        closed = h.closed;
+        deleting = h.deleting;
+      }
+
   -- a completion of a region is posted
   pub post : (r q : ℕ) → OpenedFor (k.sq r) q
       → Agree l (record k { sq = put_sq k.sq r (record (k.sq r) { unposted = (k.sq r).unposted - 1 }) })
   post r q here =
       let s : SqContent = record (k.sq r) { unposted = (k.sq r).unposted - 1 } in
       record {
-        board = λ p. h.board p ∙ on_same k.sq r s (l.sqs p) refl;
+        board = λ p. h.board p ∙ on_same k.held k.classed k.sq r s (l.sqs p) refl;
         board_size = h.board_size;
         few = h.few;
         cq_there = h.cq_there;
@@ -119,6 +148,8 @@ module _ (l : LogQueues) (k : QueueContent) (h : Agree l k) where
       (record k {
         sq = put_sq k.sq region (record (k.sq region) { queue = Some (record { qid = qid; cq_region = c }) });
         board = slice_set k.board qid (Some (record { class = class; count = 0 }));
+        held = put_held k.held region false;
+        classed = put_class k.classed region None;
       })
   open_one qid region cqid c class none cq there few =
       let blank : IsBlank l.closed region (k.sq region) = h.unopened region none in
@@ -126,13 +157,16 @@ module _ (l : LogQueues) (k : QueueContent) (h : Agree l k) where
       let s : SqContent = record (k.sq region) { queue = Some attachment } in
       let queue : Queue = record { region = region; cqid = cqid; class = class } in
       let sqs : ℕ → Option Queue = λ q. if qid == q then Some queue else l.sqs q in
+      let held : ℕ → Bool = put_held k.held region false in
+      let classed : ℕ → Option Class = put_class k.classed region None in
       let others : (q : ℕ) (other : Queue) → l.sqs q ≡ Some other → other.region ≡ region → ⊥ =
       λ q other is e. unopened_apart k.sq other.region region q (h.attached q other is) none (sym e) in
       record {
-        board = on_board-set k.board qid (Some (record { class = class; count = 0 })) (λ (p : ℕ). option_map (counted (put_sq k.sq region s)) (sqs p)) (on_board qid few)
+        board = on_board-set k.board qid (Some (record { class = class; count = 0 })) (λ (p : ℕ). option_map (counted held classed (put_sq k.sq region s)) (sqs p)) (on_board qid few)
             (rw (eq-eqb qid qid refl, eq-eqb region region refl, blank.none_waits) refl)
-            (λ p n. h.board p ∙ on_others k.sq region s (l.sqs p) (others p)
-            ∙ ap (option_map (counted (put_sq k.sq region s))) (sym (at_other qid p (Some queue) (l.sqs p) (λ e. n (sym e)))));
+            (λ p n. h.board p ∙ on_others k.held k.classed k.sq region s (l.sqs p) (others p)
+            ∙ as_others k.held k.classed (put_sq k.sq region s) region false None (l.sqs p) (others p)
+            ∙ ap (option_map (counted held classed (put_sq k.sq region s))) (sym (at_other qid p (Some queue) (l.sqs p) (λ e. n (sym e)))));
         board_size = length-set k.board qid (Some (record { class = class; count = 0 })) ∙ h.board_size;
         few = λ q other is. elim (chosen qid q (Some queue) (l.sqs q) other is) [
           | inl p ↦ subst (λ (z : ℕ). z ≤ highest_qid) p.0 few
@@ -245,10 +279,10 @@ module _ (l : LogQueues) (k : QueueContent) (h : Agree l k) where
         | inr m ↦ ((λ p. m.0 (sym p)), m.1)
       ] in
       record {
-        board = on_board-set k.board qid None (λ (p : ℕ). option_map (counted later) (sqs p)) (on_board qid (h.few qid queue is))
+        board = on_board-set k.board qid None (λ (p : ℕ). option_map (counted k.held k.classed later) (sqs p)) (on_board qid (h.few qid queue is))
             (rw (eq-eqb qid qid refl) refl)
-            (λ p m. h.board p ∙ on_others k.sq queue.region s (l.sqs p) (λ other is_other. apart_queues qid p queue other is is_other m)
-            ∙ ap (option_map (counted later)) (sym (at_other qid p None (l.sqs p) (λ e. m (sym e)))));
+            (λ p m. h.board p ∙ on_others k.held k.classed k.sq queue.region s (l.sqs p) (λ other is_other. apart_queues qid p queue other is is_other m)
+            ∙ ap (option_map (counted k.held k.classed later)) (sym (at_other qid p None (l.sqs p) (λ e. m (sym e)))));
         board_size = length-set k.board qid None ∙ h.board_size;
         few = λ q other e. h.few q other (still q other e).1;
         cq_there = h.cq_there;

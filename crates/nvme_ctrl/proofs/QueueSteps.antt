@@ -1,5 +1,5 @@
 -- Each step of a controller keeps the queues: those of the log are those of the table, of the board and of the regions.
-use Rattle.std.proofs.Common.{◌≡◌, ℕ, ◌+◌, ◌==◌, Bool, true, false, if◌then◌else◌, List, [], ◌∷◌, filter, length, Option, Some, None, refl, sym, ◌∙◌, ap, subst}
+use Rattle.std.proofs.Common.{◌≡◌, ℕ, ◌+◌, ◌-◌, ◌==◌, Bool, true, false, if◌then◌else◌, List, [], ◌∷◌, filter, length, Option, Some, None, refl, sym, ◌∙◌, ap, subst, arith}
 use Rattle.std.specs.Prelude.{option_map, slice_set}
 use Rattle.std.proofs.lemmas.List.{length-drop, length-map, length_push, nil_from_length}
 use Rattle.nvme_entry.specs.declared.submission.Sqe.{Sqe}
@@ -23,7 +23,7 @@ use Rattle.nvme_log.specs.Queues.{Queue, admin_queue, open_sq, open_cq}
 use Rattle.nvme_log.specs.Places.{waiting, is_waiting, fate_of}
 use Rattle.nvme_log.specs.Laws.{as_open, QueuesAre}
 use Rattle.nvme_ctrl.specs.kept.Content.{SqContent, Content, put_sq}
-use Rattle.nvme_ctrl.specs.kept.Standing.{HoldsSq, HoldsQueues, IsPending, IsOpenedFor, IsUnopened, Holds}
+use Rattle.nvme_ctrl.specs.kept.Standing.{HoldsSq, HoldsQueues, IsPending, IsOpenedFor, IsUnopened, Holds, counted_on}
 use Rattle.nvme_log.specs.Effects.{made_by}
 use Rattle.nvme_log.proofs.Tables.{as_open-unless_closing, finished_cq, step, events_sq, events_cq}
 use Rattle.nvme_log.proofs.UsedRegions.{used-entry, used-finished}
@@ -90,9 +90,10 @@ holds_queues past k h sqs cqs unused = record {
 }
 
 -- ---- the steps that leave the table
--- an open queue on the board, with a number of candidates
-abbrev counted_as : Queue → ℕ → OpenQueue
-counted_as queue n = record { class = queue.class; count = n }
+-- a count that is less by some, of a queue that is held or not
+fewer_on : (b : Bool) (n m : ℕ) → (if b then 0 else m) - n ≡ (if b then 0 else m - n)
+fewer_on true n m = omega arith
+fewer_on false n m = refl
 
 -- a pick takes the oldest candidates of an open queue
 pub pick-agrees : (past : Past) (k : Content) (queue : Queue) (seen : List Seen) (pick : Pick) (board : BoardView) → Agree (in_log past) (in_content k)
@@ -100,10 +101,11 @@ pub pick-agrees : (past : Past) (k : Content) (queue : Queue) (seen : List Seen)
     → Agree (in_log (event.Pick seen pick ∷ past)) (in_content (after_pick k queue pick.n board))
 pick-agrees past k queue seen pick board h is after =
     let s : SqContent = picked_sq (k.sq queue.region) pick.n in
-    let was : queue_at k.board.queues pick.qid ≡ Some (counted k.sq queue) = h.board pick.qid ∙ ap (option_map (counted k.sq)) is in
-    let now : board.queues ≡ slice_set k.board.queues pick.qid (Some (counted_as queue (length s.window))) =
+    let was : queue_at k.board.queues pick.qid ≡ Some (counted k.held k.classed k.sq queue) = h.board pick.qid ∙ ap (option_map (counted k.held k.classed k.sq)) is in
+    let now : board.queues ≡ slice_set k.board.queues pick.qid (Some (counted_on k queue (length s.window))) =
     after ∙ ap (λ (o : Option OpenQueue). slice_set k.board.queues pick.qid (option_map (fewer pick.n) o)) was
-    ∙ ap (λ (n : ℕ). slice_set k.board.queues pick.qid (Some (counted_as queue n))) (sym (length-drop pick.n (k.sq queue.region).window)) in
+    ∙ ap (λ (n : ℕ). slice_set k.board.queues pick.qid (Some (record (counted_on k queue 0) { count = n }))) (fewer_on (k.held queue.region) pick.n (length (k.sq queue.region).window))
+    ∙ ap (λ (n : ℕ). slice_set k.board.queues pick.qid (Some (counted_on k queue n))) (sym (length-drop pick.n (k.sq queue.region).window)) in
     subst (λ (z : List (Option OpenQueue)). Agree (in_log past) (record (in_content k) { sq = put_sq k.sq queue.region s; board = z })) (sym now)
     (serve (in_log past) (in_content k) h pick.qid queue s is refl)
 
@@ -113,8 +115,8 @@ queues-fetch rules late past k q queue entry s can _ =
     let h : HoldsQueues past k = s.queues in
     let a : Agree (in_log past) (in_content k) = agreement rules late past k s in
     let x : SqContent = fetched_sq (k.sq queue.region) entry in
-    let later : Agree (in_log past) (record (in_content k) { sq = put_sq k.sq queue.region x; board = slice_set k.board.queues q (Some (counted_as queue (length (k.sq queue.region).window + 1))) }) =
-    subst (λ (n : ℕ). Agree (in_log past) (record (in_content k) { sq = put_sq k.sq queue.region x; board = slice_set k.board.queues q (Some (counted_as queue n)) }))
+    let later : Agree (in_log past) (record (in_content k) { sq = put_sq k.sq queue.region x; board = slice_set k.board.queues q (Some (counted_on k queue (length (k.sq queue.region).window + 1))) }) =
+    subst (λ (n : ℕ). Agree (in_log past) (record (in_content k) { sq = put_sq k.sq queue.region x; board = slice_set k.board.queues q (Some (counted_on k queue n)) }))
     (length_push (k.sq queue.region).window _)
     (serve (in_log past) (in_content k) a q queue x can.is_open refl) in
     holds_queues _ _ later h.sqs h.cqs (λ r e. put-queue k.sq queue.region x refl r ∙ h.unused r e)
@@ -196,6 +198,8 @@ queues-admin rules late past k seen pick picked candidate rest table c board s c
       is_open = (target_is past sqid queue e).1;
       left = left;
       held = subst (λ (z : SqContent). HoldsSq past queue.region z) (sym left) (s.regions queue.region);
+      as_held = refl;
+      as_classed = refl;
     }) agrees)
     (λ q. events_sq rules (made_by past v) taken past (λ p. refl) q ∙ are.sq q ∙ ap as_open (sym (now.sq q)) ∙ ap (λ (w : TableView). as_open (sq_of w q)) (sym table_is))
     (λ q. events_cq rules (made_by past v) taken past (λ p. refl) q ∙ are.cq q ∙ sym (now.cq q) ∙ ap (λ (w : TableView). cq_of w q) (sym table_is))

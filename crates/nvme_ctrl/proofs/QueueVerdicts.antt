@@ -1,6 +1,6 @@
 -- What the verdict of an admin command makes of the queues.
 use Rattle.std.proofs.Common.{◌≡◌, ℕ, ◌+◌, ◌≤◌, ◌<◌, ◌==◌, Bool, false, List, [], ◌∷◌, map, length, Option, Some, None, refl, sym, ◌∙◌, ap, subst, arith}
-use Rattle.std.specs.Prelude.{slice_set}
+use Rattle.std.specs.Prelude.{slice_set, unwrap_or, if◌then◌else◌}
 use Rattle.std.proofs.lemmas.Bool.{eqb-false}
 use Rattle.nvme_arbiter.specs.Limits.{highest_qid}
 use Rattle.nvme_arbiter.specs.Board.{BoardView}
@@ -26,7 +26,7 @@ use Rattle.nvme_log.specs.Queues.{Queue, open_sq, open_cq}
 use Rattle.nvme_log.specs.Places.{waiting}
 use Rattle.nvme_log.specs.Effects.{abort_in, closing_of, closed_cq_of, made_by, target_of}
 use Rattle.nvme_ctrl.specs.kept.Content.{SqContent, Content, put_sq}
-use Rattle.nvme_ctrl.specs.kept.Standing.{HoldsSq}
+use Rattle.nvme_ctrl.specs.kept.Standing.{HoldsSq, counted_on}
 use Rattle.nvme_ctrl.specs.inside.Steps.{oldest_named, without_oldest}
 use Rattle.nvme_ctrl.proofs.AfterSteps.{IsAbortChosen, IsChosen, aborting_from, aborting_in, after_admin, deleting_from, with_events}
 use Rattle.nvme_ctrl.proofs.Named.{made_abort, made_none}
@@ -74,6 +74,8 @@ pub record IsTarget (past : Past) (before k : Content) (sqid : ℕ) (queue : Que
   pub is_open : open_sq past sqid ≡ Some queue
   pub left : k.sq queue.region ≡ before.sq queue.region
   pub held : HoldsSq past queue.region (k.sq queue.region)
+  pub as_held : k.held queue.region ≡ before.held queue.region
+  pub as_classed : k.classed queue.region ≡ before.classed queue.region
 
 -- the queues agree after a verdict, where they do when its place is picked
 module _ (rules : FrontRules) (history : TableHistory) (past : Past) (seen : List Seen) (pick : Pick) (before k : Content) (candidate : Candidate) (c : ℕ) (picked board : BoardView) where
@@ -89,8 +91,8 @@ module _ (rules : FrontRules) (history : TableHistory) (past : Past) (seen : Lis
   found-agrees queue sqid cid (Some found) is chosen same target h =
       let s : SqContent = record (k.sq queue.region) { window = without_oldest cid (k.sq queue.region).window; unposted = (k.sq queue.region).unposted + 1 } in
       let choice = chosen found refl in
-      let queues : slice_set k.board.queues sqid (Some (record { class = queue.class; count = length s.window })) ≡ board.queues =
-      (λ t. slice_set (same t) sqid (Some (record { class = queue.class; count = length (without_oldest cid (target.left t).window) }))) ∙ sym choice.queues in
+      let queues : slice_set k.board.queues sqid (Some (counted_on k queue (length s.window))) ≡ board.queues =
+      (λ t. slice_set (same t) sqid (Some (record { class = unwrap_or (target.as_classed t) queue.class; count = if target.as_held t then 0 else length (without_oldest cid (target.left t).window) }))) ∙ sym choice.queues in
       subst (λ (es : List Event). Agree (in_log (with_events es (event.Pick seen pick ∷ past))) (in_content (aborting_in k candidate sqid queue.region c cid board (Some found))))
       (sym (made_abort past cid queue (k.sq queue.region) found target.held is))
       (subst (λ (z : List (Option OpenQueue)). Agree (in_log past) (record (in_content k) { sq = put_sq k.sq queue.region s; board = z })) queues

@@ -1,6 +1,6 @@
 -- The queues of a log and of what is kept, without the table.
 use Rattle.std.proofs.Common.{◌≡◌, ℕ, ◌≤◌, ◌<◌, ◌==◌, ◌⊎◌, Bool, true, false, if◌then◌else◌, List, [], length, Option, Some, None, refl, sym, ◌∙◌, ap, subst, inl, inr}
-use Rattle.std.specs.Prelude.{option_map, slice_set}
+use Rattle.std.specs.Prelude.{option_map, slice_set, unwrap_or}
 use Rattle.std.proofs.lemmas.Bool.{cases_eq, eq-eqb, ne_eqb}
 use Rattle.std.proofs.lemmas.List.{get_or-set_same, get_or-set_other}
 use Rattle.nvme_arbiter.specs.Limits.{highest_qid, queue_limit}
@@ -12,7 +12,7 @@ use Rattle.nvme_ctrl.specs.kept.Content.{PendingDelete}
 use Rattle.nvme_ctrl.specs.kept.Content.{Attachment}
 use Rattle.nvme_log.specs.Rules.{Past}
 use Rattle.nvme_log.specs.Queues.{Queue, open_sq, open_cq, is_closed_region, qid_of_region, cq_region_of}
-use Rattle.nvme_ctrl.specs.kept.Content.{SqContent, Content, put_sq}
+use Rattle.nvme_ctrl.specs.kept.Content.{SqContent, Content, put_sq, put_held, put_class}
 use Rattle.nvme_ctrl.specs.kept.Standing.{IsGone, IsOpenedFor}
 
 -- what a log says of queues: the open ones, the closed regions, and what each region was opened for
@@ -33,13 +33,18 @@ pub record QueueContent : Type 0 where
   pub ncq : ℕ
   pub board : List (Option OpenQueue)
   pub deletion : Option PendingDelete
+  pub held : ℕ → Bool
+  pub classed : ℕ → Option Class
 
 abbrev pub in_content : Content → QueueContent
-in_content k = record { sq = k.sq; nsq = k.nsq; ncq = k.ncq; board = k.board.queues; deletion = k.deletion }
+in_content k = record { sq = k.sq; nsq = k.nsq; ncq = k.ncq; board = k.board.queues; deletion = k.deletion; held = k.held; classed = k.classed }
 
--- an open queue as the board has it
-abbrev pub counted : (ℕ → SqContent) → Queue → OpenQueue
-counted sq queue = record { class = queue.class; count = length (sq queue.region).window }
+-- an open queue as the board has it, where it has so many candidates, and with its number of candidates
+abbrev pub with_count : (ℕ → Bool) → (ℕ → Option Class) → Queue → ℕ → OpenQueue
+with_count held classed queue n = record { class = unwrap_or (classed queue.region) queue.class; count = if held queue.region then 0 else n }
+
+abbrev pub counted : (ℕ → Bool) → (ℕ → Option Class) → (ℕ → SqContent) → Queue → OpenQueue
+counted held classed sq queue = with_count held classed queue (length (sq queue.region).window)
 
 -- a region was opened for a queue
 pub record OpenedFor (s : SqContent) (q : ℕ) : Type 0 where
@@ -54,7 +59,7 @@ pub record IsBlank (closed : ℕ → Bool) (r : ℕ) (s : SqContent) : Type 0 wh
 
 -- the queues of a log are those that are kept, and those of the board
 pub record Agree (l : LogQueues) (k : QueueContent) : Type 0 where
-  pub board : (q : ℕ) → queue_at k.board q ≡ option_map (counted k.sq) (l.sqs q)
+  pub board : (q : ℕ) → queue_at k.board q ≡ option_map (counted k.held k.classed k.sq) (l.sqs q)
   pub board_size : length k.board ≡ queue_limit
   pub few : (q : ℕ) (queue : Queue) → l.sqs q ≡ Some queue → q ≤ highest_qid
   pub cq_there : (q c : ℕ) → l.cqs q ≡ Some c → c < k.ncq
@@ -107,18 +112,24 @@ one_queue s p q a b = ap (λ (o : Option Attachment). qid_in o) (sym a.opened �
 
 -- ---- the board
 -- a queue whose region is another has on the board what it had
-pub on_others : (sq : ℕ → SqContent) (r : ℕ) (s : SqContent) (o : Option Queue) → ((queue : Queue) → o ≡ Some queue → queue.region ≡ r → ⊥)
-    → option_map (counted sq) o ≡ option_map (counted (put_sq sq r s)) o
-on_others sq r s None apart = refl
-on_others sq r s (Some queue) apart = rw (at_other queue.region r s (sq queue.region) (apart queue refl)) refl
+pub on_others : (held : ℕ → Bool) (classed : ℕ → Option Class) (sq : ℕ → SqContent) (r : ℕ) (s : SqContent) (o : Option Queue)
+    → ((queue : Queue) → o ≡ Some queue → queue.region ≡ r → ⊥)
+    → option_map (counted held classed sq) o ≡ option_map (counted held classed (put_sq sq r s)) o
+on_others held classed sq r s None apart = refl
+on_others held classed sq r s (Some queue) apart = rw (at_other queue.region r s (sq queue.region) (apart queue refl)) refl
+
+-- so it has where that of a region is held or not, and is in another class
+pub as_others : (held : ℕ → Bool) (classed : ℕ → Option Class) (sq : ℕ → SqContent) (r : ℕ) (on : Bool) (class : Option Class) (o : Option Queue)
+    → ((queue : Queue) → o ≡ Some queue → queue.region ≡ r → ⊥)
+    → option_map (counted held classed sq) o ≡ option_map (counted (put_held held r on) (put_class classed r class) sq) o
+as_others held classed sq r on class None apart = refl
+as_others held classed sq r on class (Some queue) apart = rw (ne_eqb queue.region r (apart queue refl)) refl
 
 -- where the candidates of a region stay, every queue has what it had
-pub on_same : (sq : ℕ → SqContent) (r : ℕ) (s : SqContent) (o : Option Queue) → s.window ≡ (sq r).window
-    → option_map (counted sq) o ≡ option_map (counted (put_sq sq r s)) o
-on_same sq r s None e = refl
-on_same sq r s (Some queue) e = ap (λ (w : List Candidate). Some (queue_with queue.class (length w))) (sym (put-window sq r s e queue.region)) where
-  queue_with : Class → ℕ → OpenQueue
-  queue_with class count = record { class = class; count = count }
+pub on_same : (held : ℕ → Bool) (classed : ℕ → Option Class) (sq : ℕ → SqContent) (r : ℕ) (s : SqContent) (o : Option Queue) → s.window ≡ (sq r).window
+    → option_map (counted held classed sq) o ≡ option_map (counted held classed (put_sq sq r s)) o
+on_same held classed sq r s None e = refl
+on_same held classed sq r s (Some queue) e = ap (λ (w : List Candidate). Some (with_count held classed queue (length w))) (sym (put-window sq r s e queue.region))
 
 -- the board after the queue of one identifier changes
 pub on_board-set : (board : List (Option OpenQueue)) (q : ℕ) (x : Option OpenQueue) (now : ℕ → Option OpenQueue) → q < length board

@@ -5,13 +5,14 @@ use Rattle.std.proofs.Common.{◌≡◌, ℕ, Bool, false, List, [], ◌∷◌, 
 use Rattle.nvme_entry.specs.declared.submission.Sqe.{Sqe}
 use Rattle.nvme_entry.specs.declared.completion.Cqe.{Cqe}
 use Rattle.nvme_arbiter.specs.Board.{BoardView}
+use Rattle.nvme_arbiter.specs.Queues.{seen_of}
 use Rattle.nvme_arbiter.specs.declared.pick.Pick.{Pick}
 use Rattle.nvme_arbiter.specs.declared.pick.Seen.{Seen}
 use Rattle.nvme_admin.specs.Standing.{TableView}
 use Rattle.nvme_log.specs.declared.event.Event.TheVariants as event
 use Rattle.nvme_log.specs.Rules.{FrontRules, Past}
 use Rattle.nvme_log.specs.Queues.{Queue, admin_queue}
-use Rattle.nvme_log.specs.Places.{observation_of, entry_at}
+use Rattle.nvme_log.specs.Places.{entry_at}
 use Rattle.nvme_log.specs.declared.place.Place.{Place}
 use Rattle.nvme_log.specs.Answers.{Answer}
 use Rattle.nvme_ctrl.specs.Own.{may_be_own}
@@ -43,7 +44,7 @@ IsHanded past pick = (pick.qid ≡ 0 → ⊥) ⊎ IsPassing past pick
 
 abbrev pub KeepsIo : Invariant → Type 0
 KeepsIo X = (rules : FrontRules) (late : Bool) (past : Past) (k : Content) (queue : Queue) (seen : List Seen) (pick : Pick) (board : BoardView) (c : ℕ)
-    → Holds rules late past k → CanPick rules past k queue pick board → seen ≡ observation_of past → IsHanded past pick
+    → Holds rules late past k → CanPick rules past k queue pick board → seen ≡ seen_of k.board.queues → IsHanded past pick
     → (k.sq queue.region).queue ≡ Some (record { qid = pick.qid; cq_region = c })
     → X rules late (event.Pick seen pick ∷ past) (after_io k queue pick.n board)
 
@@ -57,7 +58,7 @@ KeepsAnswer X = (rules : FrontRules) (late : Bool) (past : Past) (k : Content) (
 abbrev pub KeepsAdmin : Invariant → Type 0
 KeepsAdmin X = (rules : FrontRules) (late : Bool) (past : Past) (k : Content) (seen : List Seen) (pick : Pick) (picked : BoardView)
     (candidate : Candidate) (rest : List Candidate) (table : TableView) (c : ℕ) (board : BoardView)
-    → (s : Holds rules late past k) → CanPick rules past k admin_queue pick picked → seen ≡ observation_of past → pick.qid ≡ 0 → pick.n ≡ 1
+    → (s : Holds rules late past k) → CanPick rules past k admin_queue pick picked → seen ≡ seen_of k.board.queues → pick.qid ≡ 0 → pick.n ≡ 1
     → CanApply rules past k s.tabled.history candidate rest table
     → IsChosen rules past k c picked board (verdict_at rules s.tabled.history candidate)
     → X rules late (admin_past past (event.Pick seen pick) (verdict_at rules s.tabled.history candidate))
@@ -113,6 +114,6 @@ Next rules late (e ∷ past) k = Regions rules late (e ∷ past) k → late ≡ 
 abbrev pub NextAdmin : Type 0
 NextAdmin = (rules : FrontRules) (late : Bool) (past : Past) (k : Content) (seen : List Seen) (pick : Pick) (picked : BoardView)
     (candidate : Candidate) (rest : List Candidate) (table : TableView)
-    → (s : Holds rules late past k) → CanPick rules past k admin_queue pick picked → seen ≡ observation_of past → pick.qid ≡ 0 → pick.n ≡ 1
+    → (s : Holds rules late past k) → CanPick rules past k admin_queue pick picked → seen ≡ seen_of k.board.queues → pick.qid ≡ 0 → pick.n ≡ 1
     → CanApply rules past k s.tabled.history candidate rest table → late ≡ false
     → EachNext (IsNext rules) (event.Pick seen pick ∷ made_by past (verdict_at rules s.tabled.history candidate)) past

@@ -221,6 +221,7 @@ module _ (c : Controller) (slots : List Slot) (k : Content) (g : Items) (h : Has
     is_arbiter = n.is_arbiter;
     outstanding_is = n.outstanding_is;
     sq_queue = put_sq-each (λ x state. attachment_of state ≡ (k.sq x).queue) c.sqs c.picked_region (took_sq c chain) there (n.sq_queue c.picked_region) (λ x other. n.sq_queue x);
+    sq_held = put_sq-each (λ x state. (state.held == 1) ≡ k.held x) c.sqs c.picked_region (took_sq c chain) there (n.sq_held c.picked_region) (λ x other. n.sq_held x);
     sq_unposted = put_sq-each (λ x state. state.unposted ≡ (k.sq x).unposted) c.sqs c.picked_region (took_sq c chain) there (n.sq_unposted c.picked_region) (λ x other. n.sq_unposted x);
     sq_slots = put_sq-each (λ x state. state.ring.slots ≡ (k.sq x).slots) c.sqs c.picked_region (took_sq c chain) there (n.sq_slots c.picked_region) (λ x other. n.sq_slots x);
     cq_slots = n.cq_slots;
@@ -327,6 +328,7 @@ take-first rules late notes c slots s it rest is some chain popped = record {
   has = take-items c slots s.content s.items s.has it rest is some chain popped;
   doorbells = take-doorbells c slots s.content s.items s.has it rest is some chain popped rules notes s.doorbells;
   tags = take-tags c slots s.content s.items s.has it rest is some chain popped notes s.tags;
+  shown = record { held = s.shown.held; classed = s.shown.classed };
   account = λ on_time. take-account c slots s.content s.items s.has it rest is some chain popped rules notes s.tags (s.account on_time);
 }
 

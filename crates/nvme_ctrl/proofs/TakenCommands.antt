@@ -9,7 +9,6 @@ use Rattle.nvme_entry.specs.declared.submission.Sqe.{Sqe}
 use Rattle.nvme_arbiter.specs.Lawful.{IsLawfulRun}
 use Rattle.nvme_arbiter.specs.declared.pick.Pick.{Pick}
 use Rattle.nvme_arbiter.specs.declared.pick.Seen.{Seen}
-use Rattle.nvme_arbiter.proofs.PickLaws.{picks_are_measured}
 use Rattle.nvme_log.specs.declared.event.Event.{Event}
 use Rattle.nvme_log.specs.declared.event.Event.TheVariants.{Fetch, SetArbitration}
 use Rattle.nvme_log.specs.declared.event.Event.TheVariants as event
@@ -18,10 +17,10 @@ use Rattle.nvme_log.specs.Queues.{Queue, admin_queue, open_sq, has_region}
 use Rattle.nvme_log.specs.Places.{fetched, picked, waiting, WasAborted, WasPicked, Waits, fate_of, is_waiting, is_aborted, unaborted_below, entry_at}
 use Rattle.nvme_log.specs.Histories.{arbitration_of, table_history, admin_entry, applied}
 use Rattle.nvme_log.specs.Effects.{EffectsAtOnce}
-use Rattle.nvme_log.specs.Account.{Observed, ServedWhileOpen}
+use Rattle.nvme_log.specs.Account.{ServedWhileOpen}
 use Rattle.nvme_log.proofs.AbortAnswers.{entry-stays}
 use Rattle.nvme_log.proofs.Fates.{length-upto}
-use Rattle.nvme_log.proofs.LogLengths.{TakesWaiting, takes-waiting}
+use Rattle.nvme_log.proofs.LogLengths.{TakesWaiting, TakesSome}
 use Rattle.nvme_log.proofs.Turns.{in-waits, admin-stays, region-io, admin-unaborted}
 use Rattle.nvme_log.proofs.Members.{IsIn}
 use Rattle.nvme_log.proofs.Waiting.{left, unaborted, waiting_is-drop, picked-pick, picked-pick_other}
@@ -72,7 +71,7 @@ was_picked a u p k none same w = by (nat_lt u p) refl (subst (λ (b : Bool). is_
 pub record IsSound (rules : FrontRules) (past : Past) : Type 0 where
   pub effects : Each (EffectsAtOnce rules) past
   pub served : Each (ServedWhileOpen rules) past
-  pub observed : Each Observed past
+  pub takes : Each TakesSome past
   pub lawful : IsLawfulRun rules.mechanism rules.start.settings (arbitration_of past)
 
 -- the picks before an event are lawful too
@@ -84,7 +83,7 @@ lawful-before rules e past l = l
 
 -- a log is sound before an event
 pub sound-before : (rules : FrontRules) (e : Event) (past : Past) → IsSound rules (e ∷ past) → IsSound rules past
-sound-before rules e past s = record { effects = s.effects.1; served = s.served.1; observed = s.observed.1; lawful = lawful-before rules e past s.lawful }
+sound-before rules e past s = record { effects = s.effects.1; served = s.served.1; takes = s.takes.1; lawful = lawful-before rules e past s.lawful }
 
 module _ (rules : FrontRules) where
   -- ---- the places of the admin queue
@@ -132,7 +131,7 @@ module _ (rules : FrontRules) where
     has : HasUnnamed a past place
 
   takes-next : (a : ℕ) (past : Past) (seen : List Seen) (pick : Pick) → IsSound rules (event.Pick seen pick ∷ past) → pick.qid ≡ 0 → IsUnnamed rules a (event.Pick seen pick ∷ past) → IsTakenNext a past
-  takes-next a past seen pick s admin h = by (takes-waiting rules past seen pick s.served.0 s.observed.0 (picks_are_measured rules.mechanism rules.start.settings (arbitration_of past) seen pick s.lawful.0 s.lawful.1)) where
+  takes-next a past seen pick s admin h = by s.takes.0 where
     by : TakesWaiting past pick → IsTakenNext a past
     by t =
         let here : Some t.queue ≡ Some admin_queue = sym t.is_open ∙ ap (open_sq past) admin ∙ admin-stays rules past s.effects.1 in

@@ -1,5 +1,5 @@
 -- A controller with something else in a submission region: the chain of the commands that wait in it, its count of unposted places, or its queue.
-use Rattle.std.proofs.Common.{◌≡◌, ◌≢◌, ℕ, ◌+◌, ◌<◌, ◌≤◌, ◌^◌, ◌==◌, if◌then◌else◌, List, [], ◌++◌, length, map, take, drop, Some, None, refl, sym, ap, ◌∙◌, subst, arith, inl, inr, eq-eqb}
+use Rattle.std.proofs.Common.{◌≡◌, ◌≢◌, ℕ, ◌+◌, ◌<◌, ◌≤◌, ◌^◌, ◌==◌, Bool, false, if◌then◌else◌, List, [], ◌++◌, length, map, take, drop, Option, Some, None, refl, sym, ap, ◌∙◌, subst, arith, inl, inr, eq-eqb}
 use Rattle.std.specs.Prelude.{slice_set}
 use Rattle.std.specs.List.{All}
 use Rattle.std.proofs.lemmas.Bool.{cases_eq, ne_eqb, cond-true}
@@ -25,7 +25,7 @@ use Rattle.nvme_ctrl.specs.declared.chain.Chain.{Chain}
 use Rattle.nvme_ctrl.specs.declared.ring.Ring.{Ring}
 use Rattle.nvme_ctrl.specs.declared.state.SqState.{SqState}
 use Rattle.nvme_ctrl.specs.declared.state.Controller.{Controller}
-use Rattle.nvme_ctrl.specs.kept.Content.{SqContent, Content, with_sq}
+use Rattle.nvme_ctrl.specs.kept.Content.{SqContent, Content, with_sq, put_held, put_class}
 use Rattle.nvme_ctrl.specs.kept.Kept.{Item, ReadyItem, Items, IsWaitingIn, IsOutIn, IsReadyIn, IsUnanswered, HasEntry, HasCookie, HoldsCookies, HasNumbers, HasItems, HoldsDoorbells, HoldsTags, tags_of, places_of, ready_tags, candidate_of, untaken, is_free}
 use Rattle.nvme_ctrl.specs.inside.Loose.{Keeps}
 use Rattle.nvme_ctrl.specs.inside.Carrying.{opening}
@@ -53,6 +53,7 @@ same_windows g region = λ t. record g { windows = λ r. each r t } where
 
 module _ (rules : FrontRules) (notes : Notes) (a : Controller) (slots : List Slot) (k : Content) (g : Items) (h : Keeps rules notes a slots k g) (none_picked : a.picked ≡ 0)
     (region : ℕ) (within : region < 65) (s : SqState) (c : SqContent) (items : List Item) (pool : List Slot)
+    (hs : ℕ → Bool) (cs : ℕ → Option Class) (held : (s.held == 1) ≡ hs region) (held_left : (r : ℕ) → r ≢ region → k.held r ≡ hs r)
     (same : SameItems slots pool) (links : SameLinks (tags_of (g.windows region)) slots pool)
     (ring : s.ring ≡ (sq_at a.sqs region).ring) (queue : attachment_of s ≡ c.queue) (unposted : s.unposted ≡ c.unposted) (slots_are : c.slots ≡ (k.sq region).slots)
     (linked : IsChain pool s.window (tags_of items)) (waiting : All (IsWaitingIn slots region) items) (window : c.window ≡ map candidate_of items)
@@ -61,7 +62,7 @@ module _ (rules : FrontRules) (notes : Notes) (a : Controller) (slots : List Slo
   after = record a { sqs = slice_set a.sqs region s }
 
   abbrev kept : Content
-  kept = with_sq k region c
+  kept = record (with_sq k region c) { held = hs; classed = cs }
 
   abbrev later : Items
   later = with_window g region items
@@ -149,6 +150,7 @@ module _ (rules : FrontRules) (notes : Notes) (a : Controller) (slots : List Slo
     is_arbiter = n.is_arbiter;
     outstanding_is = n.outstanding_is;
     sq_queue = each (λ r x y its. attachment_of x ≡ y.queue) queue (λ r other. n.sq_queue r);
+    sq_held = each (λ r x y its. (x.held == 1) ≡ hs r) held (λ r other. n.sq_held r ∙ held_left r other);
     sq_unposted = each (λ r x y its. x.unposted ≡ y.unposted) unposted (λ r other. n.sq_unposted r);
     sq_slots = each (λ r x y its. x.ring.slots ≡ y.slots) (ap (λ (z : Ring). z.slots) ring ∙ n.sq_slots region ∙ sym slots_are) (λ r other. n.sq_slots r);
     cq_slots = n.cq_slots;
@@ -228,12 +230,13 @@ module _ (rules : FrontRules) (notes : Notes) (a : Controller) (slots : List Slo
 
 -- ---- its queue or its count
 -- the same commands wait
-pub keeps_region : (rules : FrontRules) (notes : Notes) (a : Controller) (slots : List Slot) (k : Content) (g : Items) (region : ℕ) (s : SqState) (c : SqContent) → Keeps rules notes a slots k g
+pub keeps_region : (rules : FrontRules) (notes : Notes) (a : Controller) (slots : List Slot) (k : Content) (g : Items) (region : ℕ) (s : SqState) (c : SqContent) (hs : ℕ → Bool) (cs : ℕ → Option Class)
+    → (s.held == 1) ≡ hs region → ((r : ℕ) → r ≢ region → k.held r ≡ hs r) → Keeps rules notes a slots k g
     → a.picked ≡ 0 → region < 65 → s.ring ≡ (sq_at a.sqs region).ring → s.window ≡ (sq_at a.sqs region).window → attachment_of s ≡ c.queue → s.unposted ≡ c.unposted
-    → c.slots ≡ (k.sq region).slots → c.window ≡ (k.sq region).window → Keeps rules notes (record a { sqs = slice_set a.sqs region s }) slots (with_sq k region c) g
-keeps_region rules notes a slots k g region s c h none within ring chain queue unposted slots_are window =
-    subst (λ (f : Items). Keeps rules notes (record a { sqs = slice_set a.sqs region s }) slots (with_sq k region c) f) (same_windows g region)
-    (keeps_windowed rules notes a slots k g h none region within s c (g.windows region) slots (record { size = refl; items = λ x. refl }) (λ x new. refl) ring queue unposted slots_are
+    → c.slots ≡ (k.sq region).slots → c.window ≡ (k.sq region).window → Keeps rules notes (record a { sqs = slice_set a.sqs region s }) slots (record (with_sq k region c) { held = hs; classed = cs }) g
+keeps_region rules notes a slots k g region s c hs cs held held_left h none within ring chain queue unposted slots_are window =
+    subst (λ (f : Items). Keeps rules notes (record a { sqs = slice_set a.sqs region s }) slots (record (with_sq k region c) { held = hs; classed = cs }) f) (same_windows g region)
+    (keeps_windowed rules notes a slots k g h none region within s c (g.windows region) slots hs cs held held_left (record { size = refl; items = λ x. refl }) (λ x new. refl) ring queue unposted slots_are
     (subst (λ (ch : Chain). IsChain slots ch (tags_of (g.windows region))) (sym chain) (h.has.window_chain region)) (h.has.window_items region)
     (window ∙ h.has.window_is region ∙ ap (λ (n : ℕ). map candidate_of (drop n (g.windows region))) (none_picked_in a region none)) (h.tags.windows_unanswered region) (h.tags.cookies.windows region))
 
@@ -248,6 +251,7 @@ keeps_outstanding rules notes a slots k g board v n m h is arbiter same = record
     is_arbiter = arbiter;
     outstanding_is = same;
     sq_queue = n.sq_queue;
+    sq_held = n.sq_held;
     sq_unposted = n.sq_unposted;
     sq_slots = n.sq_slots;
     cq_slots = n.cq_slots;
@@ -313,6 +317,7 @@ keeps_table rules notes a slots k g table t h is sized = record {
     is_arbiter = n.is_arbiter;
     outstanding_is = n.outstanding_is;
     sq_queue = n.sq_queue;
+    sq_held = n.sq_held;
     sq_unposted = n.sq_unposted;
     sq_slots = n.sq_slots;
     cq_slots = n.cq_slots;
@@ -366,7 +371,7 @@ keeps_table rules notes a slots k g table t h is sized = record {
 pub keeps_opened : (rules : FrontRules) (notes : Notes) (a b : Controller) (slots : List Slot) (k : Content) (g : Items) (qid region cq_region : ℕ) (class : Class) (board : BoardFields) (sq : SqState)
     → Keeps rules notes a slots k g → a.picked ≡ 0 → region < 65
     → board_of board ≡ record (board_of a.board) { queues = slice_set (board_of a.board).queues qid (Some (record { class = class; count = 0 })) } → board.arbiter ≡ a.board.arbiter
-    → sq ≡ sq_at a.sqs region → b ≡ record a { board = board; sqs = slice_set a.sqs region (record sq { qid = qid; cq_region = cq_region; opened = 1 }) }
+    → sq ≡ sq_at a.sqs region → b ≡ record a { board = board; sqs = slice_set a.sqs region (record sq { qid = qid; cq_region = cq_region; opened = 1; held = 0 }) }
     → Keeps rules notes b slots (opening k qid region cq_region class) g
 keeps_opened rules notes a b slots k g qid region cq_region class board sq h none within opened arbiter is_sq is =
     let v : BoardView = record k.board { queues = slice_set k.board.queues qid (Some (record { class = class; count = 0 })) } in
@@ -374,8 +379,9 @@ keeps_opened rules notes a b slots k g qid region cq_region class board sq h non
     keeps_board rules notes a slots k g board v h
     (opened ∙ ap (λ (x : BoardView). record x { queues = slice_set x.queues qid (Some (record { class = class; count = 0 })) }) h.numbers.board_is)
     (subst (λ (x : ArbiterFields). IsTrue (is_arbiter x)) (sym arbiter) h.numbers.is_arbiter) in
-    let s : SqState = record (sq_at a.sqs region) { qid = qid; cq_region = cq_region; opened = 1 } in
+    let s : SqState = record (sq_at a.sqs region) { qid = qid; cq_region = cq_region; opened = 1; held = 0 } in
     subst (λ (c : Controller). Keeps rules notes c slots (opening k qid region cq_region class) g)
-    (sym (is ∙ ap (λ (x : SqState). record a { board = board; sqs = slice_set a.sqs region (record x { qid = qid; cq_region = cq_region; opened = 1 }) }) is_sq))
+    (sym (is ∙ ap (λ (x : SqState). record a { board = board; sqs = slice_set a.sqs region (record x { qid = qid; cq_region = cq_region; opened = 1; held = 0 }) }) is_sq))
     (keeps_region rules notes (record a { board = board }) slots (record k { board = v }) g region s (record (k.sq region) { queue = Some (record { qid = qid; cq_region = cq_region }) })
+    (put_held k.held region false) (put_class k.classed region None) (rw (eq-eqb region region refl) refl) (λ r other. rw (ne_eqb r region other) refl)
     on none within refl refl refl (h.numbers.sq_unposted region) refl refl)

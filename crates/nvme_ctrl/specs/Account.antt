@@ -1,28 +1,32 @@
 -- What a controller may note, after what it noted before.
--- (Base Specification, Command Submission and Completion Mechanism, Command Arbitration, Admin Command Set; tags, windows, outstanding places: profile)
-use Rattle.std.specs.Prelude.{◌≡◌, ℕ, ◌+◌, ◌<◌, ◌≤◌, Bool, true, false, ◌∷◌, length, Some, None, is_some, slice_get, MatchBool, ◌==◌, ◌&&◌}
+-- (Base Specification, Command Submission and Completion Mechanism, Command Arbitration, Admin Command Set; tags, windows, outstanding places, queues that
+-- are held, classes that are set: profile)
+use Rattle.std.specs.Prelude.{◌≡◌, ◌≢◌, ℕ, ◌+◌, ◌<◌, ◌≤◌, Bool, true, false, ◌∷◌, length, Some, None, is_some, slice_get, MatchBool, ◌==◌, ◌&&◌}
 use Rattle.std.specs.List.{list_any}
 use Rattle.nvme_entry.specs.Status.{StatusCode}
 use Rattle.nvme_entry.specs.declared.submission.Sqe.{Sqe}
 use Rattle.nvme_entry.specs.declared.completion.Cqe.{Cqe}
 use Rattle.nvme_arbiter.specs.Lawful.{IsLawfulRun}
+use Rattle.nvme_arbiter.specs.declared.settings.Class.{Class}
+use Rattle.nvme_arbiter.specs.declared.settings.Class.TheVariants.{Admin}
 use Rattle.nvme_log.specs.declared.event.Event.{Event}
-use Rattle.nvme_log.specs.declared.event.Event.TheVariants.{Fetch, Post}
+use Rattle.nvme_log.specs.declared.event.Event.TheVariants.{Fetch, Pick, Post}
 use Rattle.nvme_log.specs.Rules.{FrontRules}
-use Rattle.nvme_log.specs.Queues.{is_open_region, open_cq}
+use Rattle.nvme_log.specs.Queues.{Queue, is_open_region, open_sq, open_cq}
 use Rattle.nvme_log.specs.Places.{fetched, fate_of, is_picked, entry_at}
 use Rattle.nvme_log.specs.Histories.{arbitration_of}
 use Rattle.nvme_log.specs.Effects.{made_last, effects_since, EffectsAtOnce}
 use Rattle.nvme_log.specs.Dispatches.{place_at}
 use Rattle.nvme_log.specs.Completions.{posted_to, own_status, own_dw0}
 use Rattle.nvme_log.specs.Answers.{Answer, by_answers}
-use Rattle.nvme_log.specs.Account.{IndexCounts, ServedWhileOpen, Observed, Deletes, PostsOwnBy, LeavesPlaces, deleting_place}
+use Rattle.nvme_log.specs.Account.{IndexCounts, ServedWhileOpen, Deletes, PostsOwnBy, LeavesPlaces, deleting_place}
 use Rattle.nvme_arbiter.specs.Limits.{queue_limit}
 use Rattle.nvme_log.specs.Rules.{upto}
 use Rattle.nvme_log.specs.Aborts.{is_index, just_picked}
-use Rattle.nvme_ctrl.specs.Notes.{Notes, Note, Logged, Tail, Head, Kept, Passed, Taken, Answered, Marked, EachNote, logged}
+use Rattle.nvme_ctrl.specs.Notes.{Notes, Note, Logged, Tail, Head, Kept, Passed, Taken, Answered, Marked, Held, Classed, EachNote, logged}
 use Rattle.nvme_ctrl.specs.Doorbells.{sq_slots, cq_slots, submitted, consumed}
 use Rattle.nvme_ctrl.specs.Own.{may_be_own, before_pick}
+use Rattle.nvme_ctrl.specs.Observation.{observed_of}
 use Rattle.nvme_ctrl.specs.Tags.{is_passed, is_of_device, handed, taken, holder, answer_of, cookie_of, marks_of, answers, is_through}
 
 -- ---- events
@@ -30,6 +34,11 @@ use Rattle.nvme_ctrl.specs.Tags.{is_passed, is_of_device, handed, taken, holder,
 abbrev pub FetchesSubmitted : FrontRules → Notes → Event → Type 0
 FetchesSubmitted rules notes (Fetch r i entry) = length (fetched (logged notes) r) < submitted rules notes r
 FetchesSubmitted rules notes e = Unit {0}
+
+-- a pick is made on exactly what arbitration sees (Command Arbitration)
+abbrev pub PicksOnObservation : Notes → Event → Type 0
+PicksOnObservation notes (Pick seen pick) = seen ≡ observed_of notes
+PicksOnObservation notes e = Unit {0}
 
 -- a completion goes into a slot that the host consumed. A full queue has one slot less than its ring (Completion Queue y Head Doorbell, Full Queue)
 abbrev pub PostsOnFreeSlot : FrontRules → Notes → Event → Type 0
@@ -57,11 +66,11 @@ PostsOwn rules notes (Post c r i cqe) =
     MatchBool (r == 0 && is_passed notes i) (PostsAnswer rules notes c i cqe) (PostsOwnBy rules (by_answers (answers notes)) (logged notes) (Post c r i cqe))
 PostsOwn rules notes e = Unit {0}
 
--- an event is lawful: it is one of an accounted log, where commands are answered as the notes say, and follows the doorbells
+-- an event is lawful: it is one of an accounted log, where commands are answered and queues are shown as the notes say, and follows the doorbells
 pub record IsLawfulEvent (rules : FrontRules) (notes : Notes) (e : Event) : Type 0 where
   pub index_counts : IndexCounts (logged notes) e
   pub served_while_open : ServedWhileOpen rules (logged notes) e
-  pub observed : Observed (logged notes) e
+  pub observed : PicksOnObservation notes e
   pub effects_at_once : EffectsAtOnce rules (logged notes) e
   pub deletes : Deletes (logged notes) e
   pub posts_own : PostsOwn rules notes e
@@ -135,6 +144,18 @@ pub record IsMarked (notes : Notes) (r i : ℕ) : Type 0 where
   pub answered : is_some (answer_of notes r i) ≡ true
   pub by_device : HasTag notes r i
 
+-- the device holds an open submission queue, or holds it no longer
+pub record MayBeHeld (notes : Notes) (q : ℕ) : Type 0 where
+  pub queue : Queue
+  pub is_open : open_sq (logged notes) q ≡ Some queue
+
+-- it sets the class of an open I/O submission queue, which isn't that of the admin queue
+pub record MayBeClassed (notes : Notes) (q : ℕ) (class : Class) : Type 0 where
+  pub queue : Queue
+  pub is_open : open_sq (logged notes) q ≡ Some queue
+  pub io : q ≢ 0
+  pub class_of_io : class ≢ Admin
+
 -- ---- all of it
 abbrev pub IsLawful : FrontRules → Notes → Note → Type 0
 IsLawful rules notes (Logged e) = IsLawfulEvent rules notes e
@@ -145,6 +166,8 @@ IsLawful rules notes (Passed i) = IsPassed notes i
 IsLawful rules notes (Taken tag r i) = IsTaken notes tag r i
 IsLawful rules notes (Answered r i answer) = IsAnswer rules notes r i answer
 IsLawful rules notes (Marked r i marks) = IsMarked notes r i
+IsLawful rules notes (Held q on) = MayBeHeld notes q
+IsLawful rules notes (Classed q class) = MayBeClassed notes q class
 
 pub record IsAccount (rules : FrontRules) (notes : Notes) : Type 0 where
   pub each : EachNote (IsLawful rules) notes

@@ -3,15 +3,19 @@ use Rattle.std.specs.Prelude.{ℕ, ◌+◌, ◌*◌, true, false, [], ◌∷◌}
 use Rattle.nvme_entry.specs.Status.{StatusCode, success, invalid_field, aborted_by_deletion, lba_out_of_range, abort_requested}
 use Rattle.nvme_entry.specs.declared.submission.Sqe.{Sqe}
 use Rattle.nvme_entry.specs.declared.completion.Cqe.{Cqe}
-use Rattle.nvme_arbiter.specs.declared.settings.Class.TheVariants.{Urgent}
+use Rattle.nvme_arbiter.specs.declared.settings.Class.TheVariants.{Urgent, Low}
 use Rattle.nvme_admin.specs.History.{Submission, Completion, RegionAdded}
 use Rattle.nvme_log.specs.declared.event.Event.TheVariants.{Fetch, OpenSq, OpenCq, Closing, Abort, Post, ClosedSq}
 use Rattle.nvme_log.specs.Answers.{Answer}
 use Rattle.nvme_log.specs.Rules.{FrontRules}
 use Rattle.nvme_log.specs.Examples.{one_deletion, get_arbitration, admin_picked, admin_posted, create_cq, create_sq, delete_sq, read, done, admin_seen, reads_seen, picked_of}
 use Rattle.nvme_log.specs.AbortExamples.{abort}
-use Rattle.nvme_ctrl.specs.Notes.{Notes, Logged, Tail, Head, Passed, Taken, Answered}
+use Rattle.nvme_ctrl.specs.Notes.{Notes, Logged, Tail, Head, Passed, Taken, Answered, Held, Classed}
 use Rattle.nvme_ctrl.specs.Making.{with_region}
+use Rattle.nvme_arbiter.specs.declared.settings.Mechanism.TheVariants.{Weighted}
+use Rattle.nvme_arbiter.specs.declared.pick.Seen.{Seen}
+use Rattle.nvme_arbiter.specs.declared.pick.Pick.{Pick}
+use Rattle.nvme_arbiter.specs.Settings.{settings_of}
 use Rattle.nvme_ctrl.specs.declared.marks.Marks.{Marks}
 
 -- ---- four commands whose completions pass a ring of two slots twice
@@ -285,3 +289,46 @@ abort_answered =
 -- the completion of the Abort, with Command Dword 0
 abbrev pub abort_done : ℕ → Cqe
 abort_done dw0 = record (done 0 2 success) { dw0 = dw0 }
+
+-- ---- queues that are held, and classes that are set
+-- queue 1 is held while three of its commands wait, and its deletion begins, which aborts them
+abbrev pub held_and_deleted : Notes
+held_and_deleted =
+    Logged (Abort 1 2)
+    ∷ Logged (Abort 1 1)
+    ∷ Logged (Abort 1 0)
+    ∷ Logged (Closing 1 1)
+    ∷ Logged (picked_of (admin_seen 1 ∷ reads_seen 0 ∷ []) 0)
+    ∷ Held 1 true ∷ reads_waiting
+
+-- queue 1, whose Create asked for urgent, has the class low, and is picked so
+abbrev pub low_seen : ℕ → Seen
+low_seen count = record { qid = 1; class = Low; count = count }
+
+abbrev pub classed_and_picked : Notes
+classed_and_picked =
+    Logged (picked_of (admin_seen 1 ∷ low_seen 3 ∷ []) 1)
+    ∷ Classed 1 Low ∷ reads_waiting
+
+-- weighted round robin, burst 2, weights 4, 2 and 1
+abbrev pub weighted_rules : FrontRules
+weighted_rules = record {
+  mechanism = Weighted;
+  start = record { nsq = 16; ncq = 16; settings = settings_of 0x03010001 };
+  sizes = [];
+  regions = [];
+}
+
+-- two commands wait in an urgent queue 1, and two in a low queue 2
+abbrev pub two_waiting : Notes
+two_waiting =
+    Logged (Fetch 2 1 (read 1))
+    ∷ Logged (Fetch 2 0 (read 0))
+    ∷ Logged (Fetch 1 1 (read 1))
+    ∷ Logged (Fetch 1 0 (read 0))
+    ∷ Logged (OpenSq 2 2 1 Low)
+    ∷ Logged (OpenSq 1 1 1 Urgent) ∷ []
+
+-- a pick of so many commands of a queue, in which no round starts
+abbrev pub pick_of : (qid n : ℕ) → Pick
+pick_of qid n = record { qid = qid; n = n; fresh = false }

@@ -1,6 +1,6 @@
 -- Laws of the log of a controller, in the words of those who embed one. (profile)
-use Rattle.std.specs.Prelude.{◌≡◌, ◌⊎◌, ℕ, ◌+◌, ◌<◌, ◌≤◌, ◌%◌, true, false, List, ◌∷◌, ◌++◌, length, Some}
-use Rattle.std.specs.List.{list_all}
+use Rattle.std.specs.Prelude.{◌≡◌, ◌≢◌, ◌⊎◌, ℕ, ◌+◌, ◌<◌, ◌≤◌, ◌%◌, true, false, List, ◌∷◌, ◌++◌, length, Some}
+use Rattle.std.specs.List.{list_all, All}
 use mathlib.Core.List.{IsPrefix}
 use Rattle.nvme_entry.specs.declared.submission.Sqe.{Sqe}
 use Rattle.nvme_entry.specs.declared.completion.Cqe.{Cqe}
@@ -17,10 +17,11 @@ use Rattle.nvme_log.specs.Answers.{Answer, by_answers}
 use Rattle.nvme_log.specs.Account.{IsAccountBy, latest_admin_place}
 use Rattle.nvme_log.specs.Laws.{PicksPlace}
 use Rattle.nvme_admin.specs.History.{Kind}
-use Rattle.nvme_ctrl.specs.Notes.{Notes, Logged, logged}
+use Rattle.nvme_ctrl.specs.Notes.{Notes, Logged, logged, Note, Held}
 use Rattle.nvme_ctrl.specs.Making.{with_region, is_named}
 use Rattle.nvme_ctrl.specs.Doorbells.{sq_slots, cq_slots, submitted, consumed}
 use Rattle.nvme_ctrl.specs.Tags.{is_passed, is_of_device, holder, answer_of, answers}
+use Rattle.nvme_ctrl.specs.Observation.{is_held, observed_of, NoneArranged}
 use Rattle.nvme_ctrl.specs.Account.{IsAccount}
 use Rattle.nvme_ctrl.specs.Standing.{Stands}
 use Rattle.nvme_ctrl.specs.declared.slot.Slot.{Slot}
@@ -30,10 +31,10 @@ use Rattle.nvme_ctrl.specs.declared.state.Controller.{Controller}
 abbrev pub NonePassed : Notes → Type 0
 NonePassed notes = (i : ℕ) → is_passed notes i ≡ false
 
--- the events of a controller's log, where no admin command was passed on, are those of an accounted log, where the device answers: so every law of such
--- logs holds of it
+-- the events of a controller's log, where no admin command was passed on, no queue was held and no class was set, are those of an accounted log, where the
+-- device answers: so every law of such logs holds of it
 abbrev pub EventsAreAccounted : Type 0
-EventsAreAccounted = (rules : FrontRules) (notes : Notes) (sent : ℕ → List Sqe) (collected : ℕ → List Cqe) → NonePassed notes → IsAccount rules notes
+EventsAreAccounted = (rules : FrontRules) (notes : Notes) (sent : ℕ → List Sqe) (collected : ℕ → List Cqe) → NonePassed notes → NoneArranged notes → IsAccount rules notes
     → ((r : ℕ) → IsPrefix (fetched (logged notes) r) (sent r)) → ((c : ℕ) → IsPrefix (collected c) (posted_to (logged notes) c))
     → IsAccountBy rules (by_answers (answers notes)) sent (logged notes) collected
 
@@ -94,10 +95,32 @@ NonePickedAfterDeletion = (rules : FrontRules) (later middle before : Notes) (se
     → IsAccount rules (later ++ Logged (event.Pick seen pick) ∷ (middle ++ Logged (event.Closing qid r) ∷ before))
     → PicksPlace (logged (middle ++ Logged (event.Closing qid r) ∷ before)) pick r i → ⊥
 
--- each pick is the lawful one on the open queues with exactly their numbers of candidates (Command Arbitration)
+-- each pick is the lawful one on the open queues with exactly their numbers of candidates, but for queues that the device holds, of which arbitration sees
+-- none, and with the classes that it set (Command Arbitration)
 abbrev pub PicksAreLawful : Type 0
 PicksAreLawful = (rules : FrontRules) (later before : Notes) (seen : List Seen) (pick : Pick) → IsAccount rules (later ++ Logged (event.Pick seen pick) ∷ before)
-    → (seen ≡ observation_of (logged before)) × IsLawfulPick rules.mechanism rules.start.settings (arbitration_of (logged before)) seen pick
+    → (seen ≡ observed_of before) × IsLawfulPick rules.mechanism rules.start.settings (arbitration_of (logged before)) seen pick
+
+-- where the device neither held a queue nor set a class, arbitration sees what it does of a front's log
+abbrev pub ObservedAsInTheLog : Type 0
+ObservedAsInTheLog = (notes : Notes) → NoneArranged notes → observed_of notes ≡ observation_of (logged notes)
+
+-- no command of a queue is picked while the device holds it, whatever its class
+abbrev pub HeldQueuesWait : Type 0
+HeldQueuesWait = (rules : FrontRules) (later before : Notes) (seen : List Seen) (pick : Pick) → IsAccount rules (later ++ Logged (event.Pick seen pick) ∷ before)
+    → is_held before pick.qid ≡ false
+
+-- a note leaves a queue held: it neither holds the queue no longer, nor opens another queue under its identifier
+abbrev pub LeavesHeld : ℕ → Note → Type 0
+LeavesHeld q (Held qid on) = qid ≡ q → on ≡ true
+LeavesHeld q (Logged (event.OpenSq qid region cqid class)) = qid ≢ q
+LeavesHeld q note = Unit {0}
+
+-- so from the note that a queue is held no command of it is picked, until a note says that it isn't held, or another queue is opened under its identifier
+abbrev pub HeldQueuesWaitUntilTold : Type 0
+HeldQueuesWaitUntilTold = (rules : FrontRules) (later middle before : Notes) (seen : List Seen) (pick : Pick) (q : ℕ)
+    → IsAccount rules (later ++ Logged (event.Pick seen pick) ∷ (middle ++ Held q true ∷ before))
+    → All (LeavesHeld q) middle → pick.qid ≢ q
 
 -- a tag stands for one command at a time, and a command has one tag
 abbrev pub TagsAreApart : Type 0

@@ -4,6 +4,7 @@ pub mod Marks
 pub mod Tags
 pub mod Rings
 pub mod Own
+pub mod Observation
 pub mod Account
 pub mod kept
 pub mod inside

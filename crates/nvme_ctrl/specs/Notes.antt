@@ -1,6 +1,7 @@
 -- The log of a controller: what it does, and what host and device tell it. Nobody keeps it. It is read backwards, the newest note first.
 -- (Base Specification, Command Submission and Completion Mechanism; notes: profile)
-use Rattle.std.specs.Prelude.{ℕ, List, [], ◌∷◌}
+use Rattle.std.specs.Prelude.{ℕ, Bool, List, [], ◌∷◌}
+use Rattle.nvme_arbiter.specs.declared.settings.Class.{Class}
 use Rattle.nvme_log.specs.declared.event.Event.{Event}
 use Rattle.nvme_log.specs.Rules.{Past}
 use Rattle.nvme_log.specs.Answers.{Answer}
@@ -23,6 +24,10 @@ pub data Note : Type 0 where
   Answered : (r i : ℕ) (answer : Answer) → Note
   -- the device marks the completion of a command that it answered (Status Field: More, Do Not Retry)
   Marked : (r i : ℕ) (marks : Marks) → Note
+  -- the device holds an open submission queue, which leaves it out of arbitration, or holds it no longer (profile)
+  Held : (q : ℕ) (on : Bool) → Note
+  -- the device gives an open submission queue another priority class than it had (profile)
+  Classed : (q : ℕ) (class : Class) → Note
 
 abbrev pub Notes : Type 0
 Notes = List Note

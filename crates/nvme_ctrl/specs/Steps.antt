@@ -8,7 +8,7 @@ use Rattle.nvme_entry.specs.Status.{success}
 use Rattle.nvme_log.specs.declared.event.Event.{Event}
 use Rattle.nvme_log.specs.declared.event.Event.TheVariants as event
 use Rattle.nvme_log.specs.Rules.{FrontRules}
-use Rattle.nvme_log.specs.Places.{waiting, observation_of}
+use Rattle.nvme_log.specs.Places.{waiting}
 use Rattle.nvme_log.specs.Histories.{arbitration_of}
 use Rattle.nvme_log.specs.Aborts.{places_for}
 use Rattle.nvme_log.specs.Effects.{made_by}
@@ -19,24 +19,25 @@ use Rattle.nvme_log.specs.Queues.{Deletion, pending}
 use Rattle.nvme_log.specs.Completions.{unposted_of, outstanding}
 use Rattle.nvme_log.specs.Account.{deleting_place}
 use Rattle.nvme_ctrl.specs.Notes.{Notes, Logged, Passed, Answered, logged}
+use Rattle.nvme_ctrl.specs.Observation.{observed_of}
 use Rattle.nvme_ctrl.specs.Standing.{Stands}
 use Rattle.nvme_ctrl.specs.declared.slot.Slot.{Slot}
 use Rattle.nvme_ctrl.specs.declared.state.Controller.{Controller}
 use Rattle.nvme_ctrl.specs.declared.picks.Step.{Step}
 use Rattle.nvme_ctrl.specs.declared.picks.Step.TheVariants.{Idle, Busy, Full, Picked, Passed as PassedOn, Done}
 
--- the next pick is the lawful one, on exactly what waits
+-- the next pick is the lawful one, on exactly what arbitration sees
 abbrev pub IsNextPick : FrontRules → Notes → Option Pick → Type 0
-IsNextPick rules notes pick = pick ≡ lawful_pick rules.mechanism rules.start.settings (arbitration_of (logged notes)) (observation_of (logged notes))
+IsNextPick rules notes pick = pick ≡ lawful_pick rules.mechanism rules.start.settings (arbitration_of (logged notes)) (observed_of notes)
 
 -- events that are noted one after another
 abbrev pub with_logged : List Event → Notes → Notes
 with_logged [] notes = notes
 with_logged (e ∷ rest) notes = with_logged rest (Logged e ∷ notes)
 
--- the notes after a pick, on exactly what waits
+-- the notes after a pick, on exactly what arbitration sees
 abbrev pub picked_notes : Notes → Pick → Notes
-picked_notes notes pick = Logged (event.Pick (observation_of (logged notes)) pick) ∷ notes
+picked_notes notes pick = Logged (event.Pick (observed_of notes) pick) ∷ notes
 
 -- with the answer of an admin command, if it is answered
 abbrev pub with_answer : ℕ → Option Answer → Notes → Notes

@@ -1,4 +1,5 @@
 // The effects of admin commands, which the controller carries out within. (Base Specification, Admin Command Set)
+use crate::board_counts::went;
 use crate::marks::{Marks, bit};
 use crate::slot::{DELETING, DROPPED, ENDED, Slot, put_item, slot_at};
 use crate::state::{Controller, Deletion};
@@ -80,6 +81,7 @@ impl Controller {
         sq.qid = qid;
         sq.cq_region = cq_region;
         sq.opened = 1;
+        sq.held = 0;
         self.put_sq(region, sq);
     }
 
@@ -160,7 +162,7 @@ impl Controller {
         sq.unposted = sq.unposted.saturating_add(1);
         self.put_sq(queue.region, sq);
         self.outstanding = self.outstanding.saturating_add(1);
-        self.board.went(sqid);
+        went(&mut self.board, sqid, sq.held == 1);
         let status = Status::ABORT_REQUESTED;
         self.end(slots, x, ENDED, status, 0, sq.cq_region);
         true

@@ -1,4 +1,5 @@
 // The fetches of a controller. (Base Specification, Command Submission and Completion Mechanism; windows: profile)
+use crate::board_counts::came;
 use crate::slot::{Slot, WAITING, put_item};
 use crate::state::Controller;
 use nvme_admin::SqEntry;
@@ -75,10 +76,11 @@ impl Controller {
             },
         );
         let mut sq = self.sq(region);
+        let held = sq.held == 1;
         sq.ring.read();
         sq.window.push(slots, tag);
         self.put_sq(region, sq);
-        self.board.came(qid);
+        came(&mut self.board, qid, held);
         true
     }
 }

@@ -1,16 +1,19 @@
 //! Laws of the log of a controller, over the definitions alone. Each function does nothing: its contract is the law.
 ghost use Rattle.std.specs.Prelude.{◌≡◌, ◌∷◌, [], true, false, Some, None};
 ghost use Rattle.nvme_entry.specs.Status.{invalid_opcode, code, success, abort_requested, lba_out_of_range};
-ghost use Rattle.nvme_log.specs.declared.event.Event.TheVariants.{Fetch, OpenCq, Post, ClosedSq};
+ghost use Rattle.nvme_log.specs.declared.event.Event.TheVariants.{Fetch, OpenCq, Post, ClosedSq, OpenSq};
 ghost use Rattle.nvme_log.specs.Examples.{create_cq, two_slots, one_deletion, get_arbitration, admin_picked, admin_posted, read, done, admin_seen, reads_seen, picked_of};
-ghost use Rattle.nvme_ctrl.specs.Notes.{Logged, Tail, Head, Kept, Passed, Taken, Answered, Marked, logged};
+ghost use Rattle.nvme_ctrl.specs.Notes.{Logged, Tail, Head, Kept, Passed, Taken, Answered, Marked, logged, Held, Classed};
+ghost use Rattle.nvme_arbiter.specs.declared.settings.Class.TheVariants.{Admin, Urgent, Low};
+ghost use Rattle.nvme_ctrl.specs.Observation.{is_held, class_set};
+ghost use Rattle.nvme_ctrl.specs.Steps.{IsNextPick};
 ghost use Rattle.nvme_ctrl.specs.Marks.{own_marks};
 ghost use Rattle.nvme_ctrl.specs.Tags.{cookie_of, marks_of};
 ghost use Rattle.nvme_ctrl.specs.Own.{is_own, no_own, with_opcode, with_feature};
 ghost use Rattle.nvme_ctrl.specs.Making.{is_named};
 ghost use Rattle.nvme_ctrl.specs.Account.{IsLawful, IsAccount};
-ghost use Rattle.nvme_ctrl.specs.Examples.{identify, identify_fetched, identify_picked, identify_passed, identify_taken, identify_answered, identified, get_feature, set_feature, told, three_of_four, four_fetched, first_picked, first_answered, first_posted, third_answered, two_passes, succeeded, out_of_range, without_region, with_late_region, creates_fetched, create_picked, create_refused, reads_submitted, reads_waiting, read_picked, read_taken, delete_begun, aborts_posted, read_answered, reads_posted, deletion_noted, unmarked, not_retried, more_told, abort_of_read, abort_waiting, abort_picked, abort_passed, abort_taken, aborted_read, read_aborted, abort_answered, abort_done};
-ghost use Rattle.nvme_ctrl.specs.Laws.{ControllersKeepAccounts, RegionsLeaveAccounts, EventsAreAccounted, SlotsAreFetchedInOrder, CompletionsFollowAnswers, OneCompletionEach, SlotsAreFree, CompletionsTellTheHead, DeletesAreAnsweredLast, NoneFetchedAfterDeletion, NonePickedAfterDeletion, PicksAreLawful, TagsAreApart};
+ghost use Rattle.nvme_ctrl.specs.Examples.{identify, identify_fetched, identify_picked, identify_passed, identify_taken, identify_answered, identified, get_feature, set_feature, told, three_of_four, four_fetched, first_picked, first_answered, first_posted, third_answered, two_passes, succeeded, out_of_range, without_region, with_late_region, creates_fetched, create_picked, create_refused, reads_submitted, reads_waiting, read_picked, read_taken, delete_begun, aborts_posted, read_answered, reads_posted, deletion_noted, unmarked, not_retried, more_told, abort_of_read, abort_waiting, abort_picked, abort_passed, abort_taken, aborted_read, read_aborted, abort_answered, abort_done, held_and_deleted, classed_and_picked, weighted_rules, two_waiting, pick_of};
+ghost use Rattle.nvme_ctrl.specs.Laws.{ControllersKeepAccounts, RegionsLeaveAccounts, EventsAreAccounted, SlotsAreFetchedInOrder, CompletionsFollowAnswers, OneCompletionEach, SlotsAreFree, CompletionsTellTheHead, DeletesAreAnsweredLast, NoneFetchedAfterDeletion, NonePickedAfterDeletion, PicksAreLawful, TagsAreApart, ObservedAsInTheLog, HeldQueuesWait, HeldQueuesWaitUntilTold};
 
 /// The log at which a controller stands is an account, where no region was added late: after a Create that named its
 /// address was picked. So all that follows holds of it.
@@ -23,8 +26,8 @@ pub fn regions_leave_accounts()
     ensures { RegionsLeaveAccounts }
 {}
 
-/// The events of a controller's log in which no admin command was passed on are those of an accounted log in which the
-/// device answers the I/O commands. So every law of such logs holds of it.
+/// The events of a controller's log in which no admin command was passed on, no queue was held and no class was set are
+/// those of an accounted log in which the device answers the I/O commands. So every law of such logs holds of it.
 pub fn events_are_accounted()
     ensures { EventsAreAccounted }
 {}
@@ -66,9 +69,23 @@ pub fn nothing_is_served_after_deletion()
     ensures picked { NonePickedAfterDeletion }
 {}
 
-/// Each pick is the lawful one on the open queues, with exactly their numbers of candidates.
+/// Each pick is the lawful one on the open queues, with exactly their numbers of candidates, but for queues that are
+/// held, of which none is seen, and with the classes that were set.
 pub fn picks_are_lawful()
     ensures { PicksAreLawful }
+{}
+
+/// Where no queue was held and no class was set, arbitration sees the open queues with exactly their numbers of
+/// candidates, in the classes that their Creates asked for.
+pub fn unarranged_queues_are_seen()
+    ensures { ObservedAsInTheLog }
+{}
+
+/// No command of a queue is picked while it is held, whatever its class and whatever waits. It is held from the note that
+/// says so until one says that it isn't, or another queue is opened under its identifier.
+pub fn held_queues_wait()
+    ensures held { HeldQueuesWait }
+    ensures until_told { HeldQueuesWaitUntilTold }
 {}
 
 /// A tag stands for one command at a time, and a command has one tag.
@@ -224,4 +241,31 @@ pub fn own_commands_are_announced()
     ensures waiting_abort { is_own (with_opcode 0x08 no_own) (logged (abort_waiting 1)) (abort_of_read 1) ≡ false }
     ensures unknown_abort { is_own (with_opcode 0x08 no_own) (logged (abort_waiting 3)) (abort_of_read 3) ≡ true }
     ensures unannounced_abort { is_own no_own (logged (abort_waiting 0)) (abort_of_read 0) ≡ false }
+{}
+
+/// Worked: of two ready queues the urgent one is held, and the other is picked; once it isn't held any more, it is picked
+/// again. With the class low it gets no more commands than that weight. The deletion of a queue that is held aborts what
+/// waits in it. A queue that is opened isn't held, and has the class of its Create.
+pub fn arranged_queues_are_picked_so()
+    ensures urgent_first { IsNextPick weighted_rules two_waiting (Some (pick_of 1 2)) }
+    ensures urgent_held { IsNextPick weighted_rules (Held 1 true ∷ two_waiting) (Some (pick_of 2 1)) }
+    ensures both_held { IsNextPick weighted_rules (Held 2 true ∷ Held 1 true ∷ two_waiting) None }
+    ensures held_no_longer { IsNextPick weighted_rules (Held 1 false ∷ Held 1 true ∷ two_waiting) (Some (pick_of 1 2)) }
+    ensures classed_low { IsNextPick weighted_rules (Classed 1 Low ∷ two_waiting) (Some (pick_of 1 1)) }
+    ensures deletion { IsAccount one_deletion held_and_deleted }
+    ensures picked_low { IsAccount one_deletion classed_and_picked }
+    ensures opened_again { is_held (Logged (OpenSq 1 3 1 Urgent) ∷ Held 1 true ∷ two_waiting) 1 ≡ false }
+    ensures own_class_again { class_set (Logged (OpenSq 1 3 1 Urgent) ∷ Classed 1 Low ∷ two_waiting) 1 ≡ None }
+    ensures other_queue { is_held (Held 1 true ∷ two_waiting) 2 ≡ false }
+{}
+
+/// A queue is picked that is held, or in the class that it had before. A queue is held or gets a class that isn't open, the
+/// admin queue gets a class, or an I/O queue gets that of the admin queue.
+pub fn wrong_arrangements_are_refused()
+    ensures held_picked { IsLawful one_deletion (Held 1 true ∷ reads_waiting) (Logged (picked_of (admin_seen 1 ∷ reads_seen 3 ∷ []) 1)) → ⊥ }
+    ensures old_class { IsLawful one_deletion (Classed 1 Low ∷ reads_waiting) (Logged (picked_of (admin_seen 1 ∷ reads_seen 3 ∷ []) 1)) → ⊥ }
+    ensures held_unopened { IsLawful one_deletion reads_waiting (Held 2 true) → ⊥ }
+    ensures classed_unopened { IsLawful one_deletion reads_waiting (Classed 2 Low) → ⊥ }
+    ensures admin_classed { IsLawful one_deletion reads_waiting (Classed 0 Low) → ⊥ }
+    ensures classed_as_admin { IsLawful one_deletion reads_waiting (Classed 1 Admin) → ⊥ }
 {}

@@ -7,12 +7,14 @@
 //! `laws` has what holds of each such log.
 #![tactic(auto)]
 
+mod board_counts;
 mod chain;
 mod deletion;
 mod device;
 mod doorbells;
 mod effects;
 mod fetches;
+mod holds;
 pub mod laws;
 mod lookups;
 mod making;

@@ -10,7 +10,7 @@ use nvme_arbiter::BoardFields;
 
 /// A submission region: its ring, of which the controller reads, the chain of its commands that are picked and not
 /// taken, and then of those that wait, the number of picked or aborted commands with no completion posted, and the
-/// queue that it was opened for.
+/// queue that it was opened for, which is held or not.
 #[repr(C)]
 #[derive(Clone, Copy, Debug, Drop)]
 pub struct SqState {
@@ -21,6 +21,8 @@ pub struct SqState {
     pub cq_region: u8,
     /// 1 where it was opened for a queue, else 0.
     pub opened: u8,
+    /// 1 where its queue is held, else 0.
+    pub held: u8,
 }
 
 /// A completion region: its ring, of which the host reads, the chain of its commands whose completions are ready, and
@@ -95,6 +97,7 @@ impl SqState {
             qid: 0,
             cq_region: 0,
             opened: 0,
+            held: 0,
         }
     }
 }

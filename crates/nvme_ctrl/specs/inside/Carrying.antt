@@ -13,7 +13,7 @@ use Rattle.nvme_admin.specs.Effects.{verdict_in, NamesRegions}
 use Rattle.nvme_admin.specs.declared.effect.Effect.{Effect}
 use Rattle.nvme_admin.specs.declared.verdict.SqEntry.{SqEntry}
 use Rattle.nvme_log.specs.Rules.{FrontRules}
-use Rattle.nvme_log.specs.Queues.{admin_queue}
+use Rattle.nvme_log.specs.Queues.{Queue, admin_queue}
 use Rattle.nvme_log.specs.Places.{is_aborted}
 use Rattle.nvme_log.specs.Dispatches.{place_at}
 use Rattle.nvme_ctrl.specs.Notes.{Notes, logged}
@@ -21,11 +21,11 @@ use Rattle.nvme_ctrl.specs.Tags.{answer_of, cookie_of}
 use Rattle.nvme_ctrl.specs.Account.{IsAccount}
 use Rattle.nvme_ctrl.specs.declared.slot.Slot.{Slot}
 use Rattle.nvme_ctrl.specs.declared.state.Controller.{Controller}
-use Rattle.nvme_ctrl.specs.kept.Content.{Candidate, Content, with_sq, with_cq, with_ready}
+use Rattle.nvme_ctrl.specs.kept.Content.{Candidate, Content, with_sq, with_cq, with_ready, put_held, put_class}
 use Rattle.nvme_ctrl.specs.kept.Pool.{slot_at, item_at}
-use Rattle.nvme_ctrl.specs.kept.Standing.{Holds}
+use Rattle.nvme_ctrl.specs.kept.Standing.{Holds, counted_on, on_board}
 use Rattle.nvme_ctrl.specs.inside.Steps.{CanPick, CanApply, verdict_at, applied_to, aborted, requested, oldest_named, without_oldest}
-use Rattle.nvme_ctrl.specs.kept.Kept.{Item, Items, candidate_of, HasNumbers, HasItems, HoldsDoorbells, HoldsTags}
+use Rattle.nvme_ctrl.specs.kept.Kept.{Item, Items, candidate_of, HasNumbers, HasItems, HoldsDoorbells, HoldsTags, HoldsShown}
 use Rattle.nvme_ctrl.specs.inside.Loose.{IsLoose, Keeps, ended, with_item}
 
 -- ---- an admin command was picked, and applied to the table
@@ -34,6 +34,7 @@ pub record IsApplied (rules : FrontRules) (late : Bool) (notes : Notes) (c : Con
   -- before the pick
   pub before : Content
   pub holds : Holds rules late (logged notes) before
+  pub shown : HoldsShown notes before
   pub account : late ≡ false → IsAccount rules notes
   -- the pick, and the board after it
   pub pick : Pick
@@ -66,11 +67,13 @@ pub record IsApplying (c : Controller) (slots : List Slot) (did : Effect) : Type
   pub tag : ℕ
   pub applied : IsApplied rules late notes c slots tag did
 
--- ---- a submission queue is opened
+-- ---- a submission queue is opened, which isn't held, and whose class is its own
 abbrev pub opening : Content → (qid region cq_region : ℕ) → Class → Content
 opening k qid region cq_region class =
     record (with_sq k region (record (k.sq region) { queue = Some (record { qid = qid; cq_region = cq_region }) })) {
       board = record k.board { queues = slice_set k.board.queues qid (Some (record { class = class; count = 0 })) };
+      held = put_held k.held region false;
+      classed = put_class k.classed region None;
     }
 
 -- ---- the deletion of a submission queue begins
@@ -126,6 +129,10 @@ pub record HasBegun (rules : FrontRules) (notes : Notes) (k : Content) (c : Cont
 abbrev pub HasNoneNamed : Content → (sqid cid : ℕ) → Type 0
 HasNoneNamed k sqid cid = (entry : SqEntry) → sqid ≢ 0 → sq_of k.table sqid ≡ Some entry → oldest_named cid (k.sq entry.region).window ≡ None
 
+-- a queue of the table, as an open queue of the log
+abbrev pub queue_in : SqEntry → Queue
+queue_in entry = record { region = entry.region; cqid = entry.cqid; class = entry.class }
+
 -- the candidate that it names in an open queue is aborted in the log
 pub record IsAbortableIn (notes : Notes) (k : Content) (sqid cid : ℕ) (entry : SqEntry) : Type 0 where
   pub there : entry.region < 65
@@ -134,7 +141,7 @@ pub record IsAbortableIn (notes : Notes) (k : Content) (sqid cid : ℕ) (entry :
   pub posts_there : c < 65
   pub attached : (k.sq entry.region).queue ≡ Some (record { qid = sqid; cq_region = c })
   pub is_aborted : (found : Candidate) → oldest_named cid (k.sq entry.region).window ≡ Some found → is_aborted (logged notes) entry.region found.index ≡ true
-  pub on_board : queue_at k.board.queues sqid ≡ Some (record { class = entry.class; count = length (k.sq entry.region).window })
+  pub on_board : queue_at k.board.queues sqid ≡ Some (on_board k (queue_in entry))
   pub few_unposted : (k.sq entry.region).unposted + 1 < 2 ^ 16
   pub few_outstanding : k.outstanding + 1 < 2 ^ 16
 
@@ -169,7 +176,7 @@ pub record HasRequested (rules : FrontRules) (notes : Notes) (k : Content) (sqid
   pub found : Candidate
   pub oldest : oldest_named cid (k.sq entry.region).window ≡ Some found
   pub board : BoardView
-  pub queues : board.queues ≡ slice_set k.board.queues sqid (Some (record { class = entry.class; count = length (without_oldest cid (k.sq entry.region).window) }))
+  pub queues : board.queues ≡ slice_set k.board.queues sqid (Some (counted_on k (queue_in entry) (length (without_oldest cid (k.sq entry.region).window))))
   pub stands : (mechanism : Mechanism) (first : ArbitrationFields) (h : History) → BoardStandsAt mechanism first h k.board → BoardStandsAt mechanism first h board
   pub items : Items
   pub keeps : Keeps rules notes now pool (requesting k sqid entry.region c cid board found) items

@@ -1,14 +1,13 @@
--- What makes an event of a controller lawful, beside its doorbells and the answers of its device (profile).
+-- What makes an event of a controller lawful, beside its doorbells, the answers of its device, and what arbitration sees (profile).
 use Rattle.std.specs.Prelude.{List, [], ◌∷◌}
 use Rattle.nvme_log.specs.declared.event.Event.{Event}
 use Rattle.nvme_log.specs.Rules.{FrontRules, Past}
 use Rattle.nvme_log.specs.Effects.{EffectsAtOnce}
-use Rattle.nvme_log.specs.Account.{IndexCounts, ServedWhileOpen, Observed, Deletes, LeavesPlaces}
+use Rattle.nvme_log.specs.Account.{IndexCounts, ServedWhileOpen, Deletes, LeavesPlaces}
 
 pub record IsNext (rules : FrontRules) (past : Past) (e : Event) : Type 0 where
   pub index_counts : IndexCounts past e
   pub served_while_open : ServedWhileOpen rules past e
-  pub observed : Observed past e
   pub effects_at_once : EffectsAtOnce rules past e
   pub deletes : Deletes past e
   pub leaves_places : LeavesPlaces rules past e

@@ -4,6 +4,7 @@ use Rattle.nvme_entry.specs.Status.{StatusCode, abort_requested, aborted_by_dele
 use Rattle.nvme_arbiter.specs.History.{Picked}
 use Rattle.nvme_arbiter.specs.Lawful.{lawful_pick}
 use Rattle.nvme_arbiter.specs.Board.{BoardView, BoardStandsAt, queues_after}
+use Rattle.nvme_arbiter.specs.Queues.{seen_of}
 use Rattle.nvme_arbiter.specs.declared.pick.Pick.{Pick}
 use Rattle.nvme_admin.specs.History.{TableHistory, EntryApplied}
 use Rattle.nvme_admin.specs.Accepted.{verdict_of}
@@ -12,7 +13,6 @@ use Rattle.nvme_admin.specs.declared.verdict.Verdict.{Verdict}
 use Rattle.nvme_log.specs.Limits.{max_outstanding}
 use Rattle.nvme_log.specs.Rules.{FrontRules, Past}
 use Rattle.nvme_log.specs.Queues.{Queue, admin_queue, open_sq}
-use Rattle.nvme_log.specs.Places.{observation_of}
 use Rattle.nvme_log.specs.declared.place.Place.{Place}
 use Rattle.nvme_log.specs.Answers.{Answer}
 use Rattle.nvme_log.specs.Dispatches.{place_at}
@@ -26,9 +26,9 @@ pub record CanPick (rules : FrontRules) (past : Past) (k : Content) (queue : Que
   pub none_pending : k.deletion ≡ None
   pub enough : pick.n ≤ length (k.sq queue.region).window
   pub places : k.outstanding + pick.n ≤ max_outstanding
-  pub lawful : lawful_pick rules.mechanism rules.start.settings (arbitration_of past) (observation_of past) ≡ Some pick
+  pub lawful : lawful_pick rules.mechanism rules.start.settings (arbitration_of past) (seen_of k.board.queues) ≡ Some pick
   pub board_queues : board.queues ≡ queues_after k.board.queues pick
-  pub board_stands : BoardStandsAt rules.mechanism rules.start.settings (Picked (observation_of past) pick ∷ arbitration_of past) board
+  pub board_stands : BoardStandsAt rules.mechanism rules.start.settings (Picked (seen_of k.board.queues) pick ∷ arbitration_of past) board
 
 abbrev pub picked_sq : SqContent → ℕ → SqContent
 picked_sq s n = record s { window = drop n s.window; unposted = s.unposted + n }

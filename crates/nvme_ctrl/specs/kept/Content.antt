@@ -4,6 +4,7 @@ use Rattle.nvme_entry.specs.Status.{StatusCode}
 use Rattle.nvme_entry.specs.declared.submission.Sqe.{Sqe}
 use Rattle.nvme_entry.specs.declared.completion.Cqe.{Cqe}
 use Rattle.nvme_arbiter.specs.Board.{BoardView}
+use Rattle.nvme_arbiter.specs.declared.settings.Class.{Class}
 use Rattle.nvme_admin.specs.Standing.{TableView}
 use Rattle.nvme_log.specs.declared.place.Place.{Place}
 
@@ -71,6 +72,9 @@ pub record Content : Type 0 where
   pub deletion : Option PendingDelete
   -- the picked places of I/O queues that have no answer
   pub hand : List Place
+  -- by submission region: whether its queue is held, and the class that was set of it
+  pub held : ℕ → Bool
+  pub classed : ℕ → Option Class
 
 -- another region in the place of one
 abbrev pub put_sq : (ℕ → SqContent) → ℕ → SqContent → ℕ → SqContent
@@ -78,6 +82,13 @@ put_sq sq r s x = if x == r then s else sq x
 
 abbrev pub put_cq : (ℕ → CqContent) → ℕ → CqContent → ℕ → CqContent
 put_cq cq c s x = if x == c then s else cq x
+
+-- whether the queue of a region is held in the place of what was, and so the class that was set of it
+abbrev pub put_held : (ℕ → Bool) → ℕ → Bool → ℕ → Bool
+put_held held r on x = if x == r then on else held x
+
+abbrev pub put_class : (ℕ → Option Class) → ℕ → Option Class → ℕ → Option Class
+put_class classed r class x = if x == r then class else classed x
 
 abbrev pub with_sq : Content → ℕ → SqContent → Content
 with_sq k r s = record k { sq = put_sq k.sq r s }

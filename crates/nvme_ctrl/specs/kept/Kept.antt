@@ -6,6 +6,7 @@ use Rattle.nvme_arbiter.specs.Layout.{is_arbiter, board_of}
 use Rattle.nvme_admin.specs.Layout.{view_of}
 use Rattle.nvme_admin.specs.Standing.{IsSized}
 use Rattle.nvme_log.specs.Rules.{FrontRules, Past}
+use Rattle.nvme_log.specs.Queues.{Queue, open_sq}
 use Rattle.nvme_log.specs.Places.{fetched, is_aborted, entry_at, fate_of, is_waiting}
 use Rattle.nvme_log.specs.Completions.{posted_to, phase_after}
 use Rattle.nvme_log.specs.Dispatches.{place_at}
@@ -15,6 +16,7 @@ use Rattle.nvme_ctrl.specs.Doorbells.{submitted, consumed}
 use Rattle.nvme_ctrl.specs.Rings.{HasCounts}
 use Rattle.nvme_ctrl.specs.Marks.{marks_or}
 use Rattle.nvme_ctrl.specs.Tags.{is_passed, is_of_device, handed, taken, holder, answer_of, cookie_of, marks_of, is_out, all_fetches, all_posts}
+use Rattle.nvme_ctrl.specs.Observation.{is_held, class_set}
 use Rattle.nvme_ctrl.specs.Account.{IsAccount}
 use Rattle.nvme_ctrl.specs.declared.marks.Marks.{Marks}
 use Rattle.nvme_ctrl.specs.declared.slot.Slot.{Slot}
@@ -124,6 +126,7 @@ pub record HasNumbers (c : Controller) (k : Content) : Type 0 where
   pub is_arbiter : IsTrue (is_arbiter c.board.arbiter)
   pub outstanding_is : c.outstanding ≡ k.outstanding
   pub sq_queue : (r : ℕ) → attachment_of (sq_at c.sqs r) ≡ (k.sq r).queue
+  pub sq_held : (r : ℕ) → ((sq_at c.sqs r).held == 1) ≡ k.held r
   pub sq_unposted : (r : ℕ) → (sq_at c.sqs r).unposted ≡ (k.sq r).unposted
   pub sq_slots : (r : ℕ) → (sq_at c.sqs r).ring.slots ≡ (k.sq r).slots
   pub cq_slots : (x : ℕ) → (cq_at c.cqs x).ring.slots ≡ (k.cq x).slots
@@ -249,6 +252,11 @@ pub record HoldsTags (notes : Notes) (c : Controller) (slots : List Slot) (g : I
   pub none_marked : (r i : ℕ) → answer_of notes r i ≡ None → marks_of notes r i ≡ None
   pub marks : (x : ℕ) → All (HasMarks notes) (g.readies x)
 
+-- each open queue is held as its log says, and has the class that was set
+pub record HoldsShown (notes : Notes) (k : Content) : Type 0 where
+  pub held : (q : ℕ) (queue : Queue) → open_sq (logged notes) q ≡ Some queue → k.held queue.region ≡ is_held notes q
+  pub classed : (q : ℕ) (queue : Queue) → open_sq (logged notes) q ≡ Some queue → k.classed queue.region ≡ class_set notes q
+
 -- a controller stands at its log. The log is accounted where no region was added late
 pub record StandsAt (rules : FrontRules) (late : Bool) (notes : Notes) (c : Controller) (slots : List Slot) : Type 0 where
   pub content : Content
@@ -258,4 +266,5 @@ pub record StandsAt (rules : FrontRules) (late : Bool) (notes : Notes) (c : Cont
   pub has : HasItems c slots content items
   pub doorbells : HoldsDoorbells rules notes c
   pub tags : HoldsTags notes c slots items
+  pub shown : HoldsShown notes content
   pub account : late ≡ false → IsAccount rules notes

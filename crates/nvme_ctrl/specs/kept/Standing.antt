@@ -1,5 +1,5 @@
 -- When what a controller keeps holds at its log (profile).
-use Rattle.std.specs.Prelude.{◌≡◌, ℕ, zero, suc, ◌+◌, ◌≤◌, ◌<◌, ◌==◌, ◌&&◌, Bool, true, false, not, if◌then◌else◌, List, [], ◌++◌, length, filter, map, sum_by, Option, Some, None, option_map, option_to_list, All}
+use Rattle.std.specs.Prelude.{◌≡◌, ℕ, zero, suc, ◌+◌, ◌≤◌, ◌<◌, ◌==◌, ◌&&◌, Bool, true, false, not, if◌then◌else◌, List, [], ◌++◌, length, filter, map, sum_by, Option, Some, None, option_map, option_to_list, unwrap_or, All}
 use Rattle.nvme_entry.specs.Status.{success}
 use Rattle.nvme_entry.specs.declared.submission.Sqe.{Sqe}
 use Rattle.nvme_arbiter.specs.Limits.{highest_qid, highest_count, queue_limit}
@@ -113,9 +113,13 @@ pub record HoldsPosts (past : Past) (k : Content) : Type 0 where
   pub counted : (c : ℕ) → (k.cq c).posted ≡ length (k.cq c).sent
 
 -- ---- queues
--- an open queue as the board has it: its class, and its number of candidates
+-- an open queue as the board has it, where it has so many candidates: the class that was set, else its own, and a count of 0 where it is held
+abbrev pub counted_on : Content → Queue → ℕ → OpenQueue
+counted_on k queue n = record { class = unwrap_or (k.classed queue.region) queue.class; count = if k.held queue.region then 0 else n }
+
+-- with its number of candidates
 abbrev pub on_board : Content → Queue → OpenQueue
-on_board k queue = record { class = queue.class; count = length (k.sq queue.region).window }
+on_board k queue = counted_on k queue (length (k.sq queue.region).window)
 
 -- a region was opened for the queue that is open on it, and posts to the region of its completion queue
 pub record IsAttached (past : Past) (k : Content) (q : ℕ) (queue : Queue) : Type 0 where

@@ -14,7 +14,7 @@ abbrev pub no_chain : Chain
 no_chain = record { first = 0; last = 0; len = 0 }
 
 abbrev pub no_sq_state : SqState
-no_sq_state = record { ring = no_ring; window = no_chain; unposted = 0; qid = 0; cq_region = 0; opened = 0 }
+no_sq_state = record { ring = no_ring; window = no_chain; unposted = 0; qid = 0; cq_region = 0; opened = 0; held = 0 }
 
 abbrev pub no_cq_state : CqState
 no_cq_state = record { ring = no_ring; ready = no_chain; phase = 1 }

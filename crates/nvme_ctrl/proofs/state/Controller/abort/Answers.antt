@@ -1,6 +1,6 @@
 use Rattle.std.proofs.Common.{◌≡◌, ◌<◌, None, ◌∙◌, ap, sym, subst}
 use Rattle.std.proofs.lemmas.Option.{same_Some}
-use Rattle.std.specs.Prelude.{IsSomeAnd}
+use Rattle.std.specs.Prelude.{◌==◌, IsSome, IsSomeAnd}
 use Rattle.nvme_arbiter.specs.Layout.{board_of}
 use Rattle.nvme_arbiter.specs.Board.{BoardStandsAt}
 use Rattle.nvme_arbiter.specs.Queues.{queue_at}
@@ -10,7 +10,7 @@ use Rattle.nvme_admin.specs.declared.verdict.SqEntry.{SqEntry}
 use Rattle.nvme_ctrl.specs.declared.state.Controller.{Controller}
 use Rattle.nvme_ctrl.specs.kept.Kept.{tags_of}
 use Rattle.nvme_ctrl.specs.inside.Steps.{oldest_named}
-use Rattle.nvme_ctrl.proofs.Aborting.{none_left, chain_there, went_some, WentBoard, requested_one, few_unposted_more, few_outstanding_more}
+use Rattle.nvme_ctrl.proofs.Aborting.{none_left, chain_there, went_there, went_some, WentBoard, requested_one, few_unposted_more, few_outstanding_more}
 use Rattle.nvme_ctrl.proofs.state.Controller.abort.Goals as goal
 
 pub returns-in_default-take_named-clause-none_named : goal.returns-in_default-take_named-clause-none_named
@@ -28,9 +28,15 @@ went-requires c =
     let table = ap (λ (v : TableView). sq_of v c.args.sqid) m.keeps.numbers.table_is in
     let is = sym table ∙ sym c.sq.ensures ∙ c.in-Some.is in
     let chain = chain_there m.rules m.notes c.args.self.now c.args.slots.now m.content m.items c.in-Some.queue.region c.sq-sq.result m.keeps c.sq-sq.ensures in
-    subst (λ (x : Controller). IsSomeAnd (queue_at (board_of x.board).queues c.args.sqid) (λ (queue : OpenQueue). 0 < queue.count)) (sym c.put_sq.ensures)
-    (went_some m.rules m.notes c.args.self.now c.args.slots.now m.content m.items c.args.sqid c.args.cid m.keeps m.none_picked c.in-Some.queue (m.may c.in-Some.queue c.if-sqid-eq0.false is) c.in-Some-take_named.x
-    (sym (c.take_named.ensures.named (tags_of (m.items.windows c.in-Some.queue.region)) chain) ∙ c.in-Some-take_named.is))
+    let named = sym (c.take_named.ensures.named (tags_of (m.items.windows c.in-Some.queue.region)) chain) ∙ c.in-Some-take_named.is in
+    record {
+      there = subst (λ (x : Controller). IsSome (queue_at (board_of x.board).queues c.args.sqid)) (sym c.put_sq.ensures)
+          (went_there m.rules m.notes c.args.self.now c.args.slots.now m.content m.items c.args.sqid c.args.cid m.keeps m.none_picked c.in-Some.queue (m.may c.in-Some.queue c.if-sqid-eq0.false is)
+          c.in-Some-take_named.x named);
+      some = λ not_held. subst (λ (x : Controller). IsSomeAnd (queue_at (board_of x.board).queues c.args.sqid) (λ (queue : OpenQueue). 0 < queue.count)) (sym c.put_sq.ensures)
+          (went_some m.rules m.notes c.args.self.now c.args.slots.now m.content m.items c.args.sqid c.args.cid m.keeps m.none_picked c.in-Some.queue (m.may c.in-Some.queue c.if-sqid-eq0.false is)
+          c.in-Some-take_named.x named c.sq-sq.result c.sq-sq.ensures not_held);
+    }
 
 pub returns-clause-aborted : goal.returns-clause-aborted
 returns-clause-aborted c = λ rules notes k g y _ h none may other.
@@ -42,13 +48,13 @@ returns-clause-aborted c = λ rules notes k g y _ h none may other.
     let xs = tags_of (g.windows r) in
     requested_one rules notes c.args.self.now c.args.slots.now k g c.args.sqid c.args.cid h none c.in-Some.queue ab c.in-Some-take_named.x
     (sym (c.take_named.ensures.named xs chain) ∙ c.in-Some-take_named.is) c.if-sqid-eq0.false is y other
-    c.sq-sq.result c.take_named.new.self c.take_named.new.slots c.saturating_add.result c.saturating_add-self.result c.went.new.self _ c.end.new.self c.end.new.slots c.sq-sq.ensures
+    c.sq-sq.result c.take_named.new.self c.take_named.new.slots c.saturating_add.result c.saturating_add-self.result c.went.new.board _ c.end.new.self c.end.new.slots c.sq-sq.ensures
     (c.take_named.ensures.rest xs chain) c.take_named.ensures.items (c.take_named.ensures.links xs chain)
     (c.saturating_add.ensures ∙ few_unposted_more rules notes c.args.self.now c.args.slots.now k g c.args.sqid c.args.cid c.in-Some.queue c.sq-sq.result h ab c.sq-sq.ensures)
     (c.saturating_add-self.ensures
     ∙ few_outstanding_more rules notes c.args.self.now c.put_sq.new.self c.args.slots.now k g c.args.sqid c.args.cid c.in-Some.queue h ab (ap (λ (x : Controller). x.outstanding) c.put_sq.ensures))
-    (subst (λ (x : Controller). WentBoard x.board c.went.new.self c.args.sqid) c.put_sq.ensures c.went.ensures.went)
+    (subst (λ (x : Controller). WentBoard x.board c.went.new.board c.args.sqid (c.sq-sq.result.held == 1)) c.put_sq.ensures c.went.ensures.went)
     (c.went.ensures.arbiter ∙ ap (λ (x : Controller). x.board.arbiter) c.put_sq.ensures)
     (λ mechanism first past stands. c.went.ensures.stands mechanism first past (subst (λ (x : Controller). BoardStandsAt mechanism first past (board_of x.board)) (sym c.put_sq.ensures) stands))
-    (ap (λ (x : Controller). record x { board = c.went.new.self; outstanding = c.saturating_add-self.result }) c.put_sq.ensures)
+    (ap (λ (x : Controller). record x { board = c.went.new.board; outstanding = c.saturating_add-self.result }) c.put_sq.ensures)
     c.end.ensures.kept c.end.ensures.size c.end.ensures.others

@@ -1,5 +1,5 @@
 use Rattle.std.proofs.Common.{◌≡◌, ℕ, ◌+◌, ◌<◌, ◌^◌, Some, List, [], ◌∷◌, ◌++◌, length, refl, sym, ap, subst}
-use Rattle.std.specs.Prelude.{slice_set, IsSomeAnd, IfSome}
+use Rattle.std.specs.Prelude.{◌==◌, if◌then◌else◌, slice_set, IsSomeAnd, IfSome}
 use Rattle.nvme_arbiter.specs.Layout.{board_of}
 use Rattle.nvme_arbiter.specs.Limits.{highest_count}
 use Rattle.nvme_arbiter.specs.Queues.{queue_at}
@@ -48,11 +48,13 @@ abbrev waiting : goal.After-came → Slot
 waiting c = record c.free.result { entry = c.args.entry.now; cookie = c.args.cookie; region = c.in-Some.queue.region; state = 1 }
 
 fetches : (c : goal.After-came) → Fetches c.args.self.now c.args.slots.now c.args.qid c.in-Some.queue c.args.entry.now c.args.cookie c.in-Some-pop.tag (waiting c) c.pop.new.self
-    c.push.new.self c.read.new.self c.came.new.self c.push.new.slots
+    c.push.new.self c.read.new.self c.came.new.board c.push.new.slots
 fetches c =
     let pool : List Slot = c.push.new.slots in
     let tag : ℕ = c.in-Some-pop.tag in
     record {
+      held = c.sq-sq.result.held == 1;
+      held_is = ap (λ (state : SqState). state.held == 1) c.sq-sq.ensures;
       is_first = c.in-Some-pop.ensures.some;
       free_left = c.in-Some-pop.ensures.rest;
       counts = subst (λ (state : SqState). (read written : ℕ) → HasCounts state.ring read written → read < written → HasCounts c.read.new.self (read + 1) written)
@@ -69,22 +71,22 @@ fetches c =
       items = subst (λ (slots : List Slot). SameItems slots pool) c.put_item.ensures c.push.ensures.items;
       links = subst (λ (slots : List Slot). (xs : List ℕ) → IsChain slots (sq_at c.args.self.now.sqs c.in-Some.queue.region).window xs → SameLinks xs slots pool) c.put_item.ensures
           (subst (λ (state : SqState). (xs : List ℕ) → IsChain c.put_item.new.slots state.window xs → SameLinks xs c.put_item.new.slots pool) c.sq-sq.ensures c.push.ensures.links);
-      came = subst (λ (board : BoardFields). IfSome (queue_at (board_of board).queues c.args.qid) (λ (queue : OpenQueue). board_of c.came.new.self ≡ record (board_of board) {
-        queues = slice_set (board_of board).queues c.args.qid (Some (record queue { count = queue.count + 1 }));
+      came = subst (λ (board : BoardFields). IfSome (queue_at (board_of board).queues c.args.qid) (λ (queue : OpenQueue). board_of c.came.new.board ≡ record (board_of board) {
+        queues = slice_set (board_of board).queues c.args.qid (Some (record queue { count = if c.sq-sq.result.held == 1 then queue.count else queue.count + 1 }));
       })) (ap (λ (self : Controller). self.board) c.put_sq.ensures) c.came.ensures.came;
-      arbiter = subst (λ (board : BoardFields). c.came.new.self.arbiter ≡ board.arbiter) (ap (λ (self : Controller). self.board) c.put_sq.ensures) c.came.ensures.arbiter;
+      arbiter = subst (λ (board : BoardFields). c.came.new.board.arbiter ≡ board.arbiter) (ap (λ (self : Controller). self.board) c.put_sq.ensures) c.came.ensures.arbiter;
     }
 
 pub returns-clause-stands : goal.returns-clause-stands
 returns-clause-stands c rules late notes s told =
     let self : Controller = c.args.self.now in
     let region = c.in-Some.queue.region in
-    subst (λ (after : Controller). HasFetched rules late notes c.args.qid c.args.entry.now c.args.cookie (record after { board = c.came.new.self }) c.push.new.slots) (sym c.put_sq.ensures)
+    subst (λ (after : Controller). HasFetched rules late notes c.args.qid c.args.entry.now c.args.cookie (record after { board = c.came.new.board }) c.push.new.slots) (sym c.put_sq.ensures)
     (subst (λ (state : SqState). HasFetched rules late notes c.args.qid c.args.entry.now c.args.cookie
-    (record self { sqs = slice_set self.sqs region (fetched_state state c.push.new.self c.read.new.self); free = c.pop.new.self; board = c.came.new.self }) c.push.new.slots)
+    (record self { sqs = slice_set self.sqs region (fetched_state state c.push.new.self c.read.new.self); free = c.pop.new.self; board = c.came.new.board }) c.push.new.slots)
     (sym c.sq-sq.ensures)
     (has_fetched rules late notes self c.args.slots.now s c.args.qid c.in-Some.queue c.in-Some.ensures.some c.args.entry.now c.args.cookie c.in-Some-pop.tag (waiting c) c.pop.new.self
-    c.push.new.self c.read.new.self c.came.new.self c.push.new.slots (fetches c)))
+    c.push.new.self c.read.new.self c.came.new.board c.push.new.slots (fetches c)))
 
 pub returns-clause-front : goal.returns-clause-front
 returns-clause-front c =

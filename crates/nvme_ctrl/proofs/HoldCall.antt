@@ -1,0 +1,421 @@
+-- The device holds a queue, holds it no longer, or sets its class: the controller stands at its log with the note.
+use Rattle.std.proofs.Common.{◌≡◌, ◌≢◌, ℕ, ◌<◌, ◌==◌, Bool, true, false, if◌then◌else◌, List, ◌∷◌, length, Option, Some, None, refl, sym, ap, ◌∙◌, subst, arith, inl, inr}
+use Rattle.std.specs.Prelude.{slice_set, option_map, unwrap_or, min, IsTrue}
+use Rattle.std.proofs.lemmas.Bool.{cases_eq, eq-eqb, eqb-true, eqb-false}
+use Rattle.std.proofs.lemmas.List.{length-set, set-get_or}
+use Rattle.std.proofs.lemmas.Option.{same_Some}
+use Rattle.nvme_arbiter.specs.Settings.{ArbitrationFields}
+use Rattle.nvme_arbiter.specs.History.{History}
+use Rattle.nvme_arbiter.specs.Board.{BoardView, BoardStandsAt}
+use Rattle.nvme_arbiter.specs.Layout.{is_arbiter, board_of}
+use Rattle.nvme_arbiter.specs.Queues.{queue_at}
+use Rattle.nvme_arbiter.specs.declared.arbiter_fields.ArbiterFields.{ArbiterFields}
+use Rattle.nvme_arbiter.specs.declared.board_fields.BoardFields.{BoardFields}
+use Rattle.nvme_arbiter.specs.declared.pick.OpenQueue.{OpenQueue}
+use Rattle.nvme_arbiter.specs.declared.settings.Class.{Class}
+use Rattle.nvme_arbiter.specs.declared.settings.Class.TheVariants.{Admin}
+use Rattle.nvme_arbiter.specs.declared.settings.Mechanism.{Mechanism}
+use Rattle.nvme_admin.specs.Layout.{view_of}
+use Rattle.nvme_admin.specs.Standing.{TableView, sq_of}
+use Rattle.nvme_admin.specs.declared.verdict.SqEntry.{SqEntry}
+use Rattle.nvme_log.specs.Rules.{FrontRules, Past}
+use Rattle.nvme_log.specs.Places.{fetched}
+use Rattle.nvme_log.specs.Queues.{Queue, open_sq}
+use Rattle.nvme_log.specs.Histories.{arbitration_of}
+use Rattle.nvme_log.specs.Laws.{as_open}
+use Rattle.nvme_ctrl.specs.Notes.{Notes, Held, Classed, logged}
+use Rattle.nvme_ctrl.specs.Doorbells.{submitted}
+use Rattle.nvme_ctrl.specs.Rings.{HasCounts}
+use Rattle.nvme_ctrl.specs.Observation.{is_held, class_set}
+use Rattle.nvme_ctrl.specs.Account.{MayBeHeld, MayBeClassed}
+use Rattle.nvme_ctrl.specs.declared.slot.Slot.{Slot}
+use Rattle.nvme_ctrl.specs.declared.state.SqState.{SqState}
+use Rattle.nvme_ctrl.specs.declared.state.Controller.{Controller}
+use Rattle.nvme_ctrl.specs.kept.Content.{PendingDelete, Content, put_held, put_class}
+use Rattle.nvme_ctrl.specs.kept.Kept.{HasNumbers, HasItems, HoldsDoorbells, StandsAt, tags_of}
+use Rattle.nvme_ctrl.specs.kept.Pool.{IsChain}
+use Rattle.nvme_ctrl.specs.kept.Standing.{HoldsReady, HoldsDeletion, HoldsQueues, IsPending, Holds, hand_of, on_board}
+use Rattle.nvme_ctrl.specs.kept.State.{no_sq_state, sq_at, attachment_of}
+use Rattle.nvme_ctrl.specs.inside.Fetching.{waiting_in}
+use Rattle.nvme_ctrl.proofs.AppliedQueues.{IsOpenEntry, open_entry}
+use Rattle.nvme_ctrl.proofs.Cookies.{cookies_left, cookies_later}
+use Rattle.nvme_ctrl.proofs.DoorbellCalls.{sq_there}
+use Rattle.nvme_ctrl.proofs.FetchCalls.{waiting_are}
+use Rattle.nvme_ctrl.proofs.Passed.{passed_left, passed_later}
+use Rattle.nvme_ctrl.proofs.QueueChanges.{apart_queues, arrange}
+use Rattle.nvme_ctrl.proofs.QueueSteps.{agreement, holds_queues}
+use Rattle.nvme_ctrl.proofs.QueueWords.{in_log, in_content, counted, at_same, at_other}
+use Rattle.nvme_ctrl.proofs.RegionStates.{put_sq-each}
+
+-- another number for whether a queue is held
+abbrev pub held_state : SqState → ℕ → SqState
+held_state sq h = record sq { held = h }
+
+abbrev pub arranged : Controller → (r h : ℕ) → BoardFields → Controller
+arranged c r h board = record c { board = board; sqs = slice_set c.sqs r (held_state (sq_at c.sqs r) h) }
+
+-- the same in its place leaves it
+put_held-same : (held : ℕ → Bool) (r x : ℕ) → put_held held r (held r) x ≡ held x
+put_held-same held r x = elim (cases_eq x r) [
+  | inl same ↦ at_same x r (held r) (held x) same ∙ ap held (sym same)
+  | inr other ↦ at_other x r (held r) (held x) other
+]
+
+put_class-same : (classed : ℕ → Option Class) (r x : ℕ) → put_class classed r (classed r) x ≡ classed x
+put_class-same classed r x = elim (cases_eq x r) [
+  | inl same ↦ at_same x r (classed r) (classed x) same ∙ ap classed (sym same)
+  | inr other ↦ at_other x r (classed r) (classed x) other
+]
+
+module _ (rules : FrontRules) (late : Bool) (notes : Notes) (c : Controller) (slots : List Slot) (s : StandsAt rules late notes c slots)
+    (q : ℕ) (queue : Queue) (is_open : open_sq (logged notes) q ≡ Some queue)
+    (on : Bool) (class : Option Class) (h : ℕ) (h_is : (h == 1) ≡ on) (board : BoardFields)
+    (shows : board_of board ≡ record (board_of c.board) {
+      queues = slice_set (board_of c.board).queues q (Some (record { class = unwrap_or class queue.class; count = if on then 0 else length (s.content.sq queue.region).window }));
+    })
+    (arbiter : board.arbiter ≡ c.board.arbiter)
+    (stands : (mechanism : Mechanism) (first : ArbitrationFields) (past : History) → BoardStandsAt mechanism first past (board_of c.board) → BoardStandsAt mechanism first past (board_of board)) where
+  abbrev k : Content
+  k = s.content
+
+  abbrev past : Past
+  past = logged notes
+
+  abbrev r : ℕ
+  r = queue.region
+
+  abbrev now : Content
+  now = record k {
+    board = record k.board { queues = slice_set k.board.queues q (Some (counted (put_held k.held r on) (put_class k.classed r class) k.sq queue)) };
+    held = put_held k.held r on;
+    classed = put_class k.classed r class;
+  }
+
+  abbrev after : Controller
+  after = arranged c r h board
+
+  there : r < length c.sqs
+  there = sq_there rules late notes c slots s q queue is_open
+
+  shown_is : Some (record { class = unwrap_or class queue.class; count = if on then 0 else length (k.sq r).window }) ≡ Some (counted (put_held k.held r on) (put_class k.classed r class) k.sq queue)
+  shown_is = rw (eq-eqb r r refl) refl
+
+  board_is : board_of board ≡ now.board
+  board_is =
+      shows
+      ∙ ap (λ (o : Option OpenQueue). record (board_of c.board) { queues = slice_set (board_of c.board).queues q o }) shown_is
+      ∙ ap (λ (b : BoardView). record b { queues = slice_set b.queues q (Some (counted (put_held k.held r on) (put_class k.classed r class) k.sq queue)) }) s.numbers.board_is
+
+  -- ---- what is kept
+  queues_now : HoldsQueues past now
+  queues_now = holds_queues past now (arrange (in_log past) (in_content k) (agreement rules late past k s.holds) q queue on class is_open) s.holds.queues.sqs s.holds.queues.cqs s.holds.queues.unused
+
+  ready_now : HoldsReady past now (hand_of now)
+  ready_now = let m = s.holds.ready in record {
+    once = m.once;
+    each = m.each;
+    taken = m.taken;
+    few_aborted = m.few_aborted;
+    few_taken = m.few_taken;
+    none_beyond = m.none_beyond;
+    admin_qid = m.admin_qid;
+    admin_region = m.admin_region;
+  }
+
+  pending_now : (d : PendingDelete) → IsPending past k d → IsPending past now d
+  pending_now d p = record {
+    closing = p.closing;
+    in_table = p.in_table;
+    is_closing = p.is_closing;
+    region = p.region;
+    of_admin = p.of_admin;
+    entry = p.entry;
+    is_there = p.is_there;
+    cid = p.cid;
+    not_aborted = p.not_aborted;
+    none_waits = p.none_waits;
+    not_closed = p.not_closed;
+    not_admin = p.not_admin;
+    attached = p.attached;
+  }
+
+  deletion_now : HoldsDeletion past now
+  deletion_now = let m = s.holds.deletion in record {
+    pending_is = m.pending_is;
+    place_is = m.place_is;
+    stands = λ d e. pending_now d (m.stands d e);
+    closing_is = m.closing_is;
+  }
+
+  board_stands_now : BoardStandsAt rules.mechanism rules.start.settings (arbitration_of past) now.board
+  board_stands_now =
+      subst (λ (b : BoardView). BoardStandsAt rules.mechanism rules.start.settings (arbitration_of past) b) board_is
+      (stands rules.mechanism rules.start.settings (arbitration_of past)
+      (subst (λ (b : BoardView). BoardStandsAt rules.mechanism rules.start.settings (arbitration_of past) b) (sym s.numbers.board_is) s.holds.arbitration.stands))
+
+  holds_now : Holds rules late past now
+  holds_now = let m = s.holds in record {
+    regions = m.regions;
+    ready = ready_now;
+    hand = record { each = m.hand.each };
+    counts = record { unposted = m.counts.unposted; outstanding_is = m.counts.outstanding_is };
+    posts = record { posted_is = m.posts.posted_is; counted = m.posts.counted };
+    queues = queues_now;
+    deletion = deletion_now;
+    arbitration = record { stands = board_stands_now; lawful = m.arbitration.lawful };
+    tabled = (let t = m.tabled in record {
+      history = t.history;
+      stands = t.stands;
+      history_is = t.history_is;
+      sq_count = t.sq_count;
+      cq_count = t.cq_count;
+      sq_number = t.sq_number;
+      cq_number = t.cq_number;
+      few_sqs = t.few_sqs;
+      few_cqs = t.few_cqs;
+      sq_slots = t.sq_slots;
+      cq_slots = t.cq_slots;
+      sq_regions_are = t.sq_regions_are;
+      cq_regions_are = t.cq_regions_are;
+    });
+    own = λ on_time. (let o = m.own on_time in record { effects_whole = o.effects_whole; own_statuses = o.own_statuses; own_deletion = o.own_deletion });
+  }
+
+  -- ---- what lies in memory
+  each_state : (P : ℕ → SqState → Type 0) → P r (held_state (sq_at c.sqs r) h) → ((x : ℕ) → x ≢ r → P x (sq_at c.sqs x)) → (x : ℕ) → P x (sq_at after.sqs x)
+  each_state P here others = put_sq-each P c.sqs r (held_state (sq_at c.sqs r) h) there here others
+
+  numbers_now : HasNumbers after now
+  numbers_now = let n = s.numbers in record {
+    table_is = n.table_is;
+    sized = n.sized;
+    board_is = board_is;
+    is_arbiter = subst (λ (a : ArbiterFields). IsTrue (is_arbiter a)) (sym arbiter) n.is_arbiter;
+    outstanding_is = n.outstanding_is;
+    sq_queue = each_state (λ x state. attachment_of state ≡ (k.sq x).queue) (n.sq_queue r) (λ x other. n.sq_queue x);
+    sq_held = each_state (λ x state. (state.held == 1) ≡ put_held k.held r on x) (h_is ∙ sym (at_same r r on (k.held r) refl))
+        (λ x other. n.sq_held x ∙ sym (at_other x r on (k.held x) other));
+    sq_unposted = each_state (λ x state. state.unposted ≡ (k.sq x).unposted) (n.sq_unposted r) (λ x other. n.sq_unposted x);
+    sq_slots = each_state (λ x state. state.ring.slots ≡ (k.sq x).slots) (n.sq_slots r) (λ x other. n.sq_slots x);
+    cq_slots = n.cq_slots;
+    sq_some = n.sq_some;
+    sq_size = length-set c.sqs r (held_state (sq_at c.sqs r) h) ∙ n.sq_size;
+    cq_size = n.cq_size;
+  }
+
+  items_now : HasItems after slots now s.items
+  items_now = let m = s.has in record {
+    window_chain = each_state (λ x state. IsChain slots state.window (tags_of (s.items.windows x))) (m.window_chain r) (λ x other. m.window_chain x);
+    window_items = m.window_items;
+    window_is = m.window_is;
+    picked_there = m.picked_there;
+    outs_items = m.outs_items;
+    outs_apart = m.outs_apart;
+    outs_all = m.outs_all;
+    hand_is = m.hand_is;
+    ready_chain = m.ready_chain;
+    ready_items = m.ready_items;
+    ready_is = m.ready_is;
+    deletion_is = m.deletion_is;
+    deletion_item = m.deletion_item;
+    deletion_inside = m.deletion_inside;
+    free_chain = m.free_chain;
+    free_items = m.free_items;
+    few = m.few;
+  }
+
+  doorbells_now : HoldsDoorbells rules notes after
+  doorbells_now = let d = s.doorbells in record {
+    sqs = each_state (λ x state. 0 < state.ring.slots → HasCounts state.ring (length (fetched past x)) (submitted rules notes x)) (d.sqs r) (λ x other. d.sqs x);
+    cqs = d.cqs;
+    phases = d.phases;
+    no_tails = each_state (λ x state. state.ring.slots ≡ 0 → submitted rules notes x ≡ 0) (d.no_tails r) (λ x other. d.no_tails x);
+    no_heads = d.no_heads;
+    no_posts = d.no_posts;
+  }
+
+  -- ---- what is shown
+  -- another open queue has another region
+  apart : (p : ℕ) (other : Queue) → open_sq past p ≡ Some other → (q == p) ≡ false → other.region ≢ r
+  apart p other is_other differs = apart_queues (in_log past) (in_content k) (agreement rules late past k s.holds) q p queue other is_open is_other (λ e. eqb-false q p differs (sym e))
+
+  same_queue : (p : ℕ) (other : Queue) → open_sq past p ≡ Some other → (q == p) ≡ true → other.region ≡ r
+  same_queue p other is_other same = ap (λ (z : Queue). z.region) (same_Some other queue (sym is_other ∙ ap (open_sq past) (sym (eqb-true q p same)) ∙ is_open))
+
+  held_now : (p : ℕ) (other : Queue) → open_sq past p ≡ Some other → put_held k.held r on other.region ≡ (if q == p then on else is_held notes p)
+  held_now p other is_other = by (q == p) refl where
+    by : (b : Bool) → (q == p) ≡ b → put_held k.held r on other.region ≡ (if b then on else is_held notes p)
+    by true e = at_same other.region r on (k.held other.region) (same_queue p other is_other e)
+    by false e = at_other other.region r on (k.held other.region) (apart p other is_other e) ∙ s.shown.held p other is_other
+
+  classed_now : (p : ℕ) (other : Queue) → open_sq past p ≡ Some other → put_class k.classed r class other.region ≡ (if q == p then class else class_set notes p)
+  classed_now p other is_other = by (q == p) refl where
+    by : (b : Bool) → (q == p) ≡ b → put_class k.classed r class other.region ≡ (if b then class else class_set notes p)
+    by true e = at_same other.region r class (k.classed other.region) (same_queue p other is_other e)
+    by false e = at_other other.region r class (k.classed other.region) (apart p other is_other e) ∙ s.shown.classed p other is_other
+
+  -- ---- the controller stands at its log with the note
+  -- that the queue is held, or is held no longer
+  pub held_stands : class ≡ k.classed r → StandsAt rules late (Held q on ∷ notes) after slots
+  held_stands left = record {
+    content = now;
+    items = s.items;
+    holds = holds_now;
+    numbers = numbers_now;
+    has = items_now;
+    doorbells = (let d = doorbells_now in record { sqs = d.sqs; cqs = d.cqs; phases = d.phases; no_tails = d.no_tails; no_heads = d.no_heads; no_posts = d.no_posts });
+    tags = (let t = s.tags in record {
+      untaken_are = t.untaken_are;
+      outs_held = t.outs_held;
+      readies_held = t.readies_held;
+      none_held = t.none_held;
+      through = t.through;
+      windows_unanswered = t.windows_unanswered;
+      outs_unanswered = t.outs_unanswered;
+      deletion_unanswered = t.deletion_unanswered;
+      none_answered = t.none_answered;
+      answered_held = t.answered_held;
+      hand_entries = t.hand_entries;
+      free_count = t.free_count;
+      cookies = cookies_later notes (Held q on ∷ notes) after slots s.items (λ x i. refl) (λ x. refl) (cookies_left notes slots slots (λ y. refl) c after s.items refl t.cookies);
+      passed = passed_later notes (Held q on ∷ notes) after s.items (λ i. refl) refl (λ i waits. waits) (passed_left notes c after s.items s.items refl (λ x. refl) refl t.passed);
+      none_marked = t.none_marked;
+      marks = t.marks;
+    });
+    shown = record {
+      held = held_now;
+      classed = λ p other is_other. ap (λ (o : Option Class). put_class k.classed r o other.region) left ∙ put_class-same k.classed r other.region ∙ s.shown.classed p other is_other;
+    };
+    account = λ on_time. (let a = s.account on_time in record { each = (record { queue = queue; is_open = is_open }, a.each); lawful = a.lawful; effects_whole = a.effects_whole });
+  }
+
+  -- and that its class is set
+  pub classed_stands : (io : q ≢ 0) (given : Class) → given ≢ Admin → class ≡ Some given → on ≡ k.held r → StandsAt rules late (Classed q given ∷ notes) after slots
+  classed_stands io given class_of_io is left = record {
+    content = now;
+    items = s.items;
+    holds = holds_now;
+    numbers = numbers_now;
+    has = items_now;
+    doorbells = (let d = doorbells_now in record { sqs = d.sqs; cqs = d.cqs; phases = d.phases; no_tails = d.no_tails; no_heads = d.no_heads; no_posts = d.no_posts });
+    tags = (let t = s.tags in record {
+      untaken_are = t.untaken_are;
+      outs_held = t.outs_held;
+      readies_held = t.readies_held;
+      none_held = t.none_held;
+      through = t.through;
+      windows_unanswered = t.windows_unanswered;
+      outs_unanswered = t.outs_unanswered;
+      deletion_unanswered = t.deletion_unanswered;
+      none_answered = t.none_answered;
+      answered_held = t.answered_held;
+      hand_entries = t.hand_entries;
+      free_count = t.free_count;
+      cookies = cookies_later notes (Classed q given ∷ notes) after slots s.items (λ x i. refl) (λ x. refl) (cookies_left notes slots slots (λ y. refl) c after s.items refl t.cookies);
+      passed = passed_later notes (Classed q given ∷ notes) after s.items (λ i. refl) refl (λ i waits. waits) (passed_left notes c after s.items s.items refl (λ x. refl) refl t.passed);
+      none_marked = t.none_marked;
+      marks = t.marks;
+    });
+    shown = record {
+      held = λ p other is_other. ap (λ (b : Bool). put_held k.held r b other.region) left ∙ put_held-same k.held r other.region ∙ s.shown.held p other is_other;
+      classed = λ p other is_other. classed_now p other is_other ∙ ap (λ (o : Option Class). if q == p then o else class_set notes p) is;
+    };
+    account = λ on_time. (let a = s.account on_time in record {
+      each = (record { queue = queue; is_open = is_open; io = io; class_of_io = class_of_io }, a.each);
+      lawful = a.lawful;
+      effects_whole = a.effects_whole;
+    });
+  }
+
+-- ---- the open queue
+-- a queue that is on the board is open in the log
+pub record IsOpenOn (notes : Notes) (k : Content) (q : ℕ) (seen : OpenQueue) : Type 0 where
+  pub queue : Queue
+  pub is_open : open_sq (logged notes) q ≡ Some queue
+  pub shown : seen ≡ on_board k queue
+
+open_on_board : (notes : Notes) (k : Content) (q : ℕ) (seen : OpenQueue) (o : Option Queue) → open_sq (logged notes) q ≡ o → Some seen ≡ option_map (on_board k) o → IsOpenOn notes k q seen
+open_on_board notes k q seen None is h = absurd (cc h)
+open_on_board notes k q seen (Some queue) is h = record { queue = queue; is_open = is; shown = same_Some seen (on_board k queue) h }
+
+module _ (rules : FrontRules) (late : Bool) (notes : Notes) (c : Controller) (slots : List Slot) (s : StandsAt rules late notes c slots) (q : ℕ) where
+  on_board_is : queue_at (board_of c.board).queues q ≡ option_map (on_board s.content) (open_sq (logged notes) q)
+  on_board_is = ap (λ (b : BoardView). queue_at b.queues q) s.numbers.board_is ∙ s.holds.queues.board q
+
+  pub is_open_on : (seen : OpenQueue) → queue_at (board_of c.board).queues q ≡ Some seen → IsOpenOn notes s.content q seen
+  is_open_on seen is = open_on_board notes s.content q seen (open_sq (logged notes) q) refl (sym is ∙ on_board_is)
+
+  -- its region is that of the table
+  pub region_on : (seen : OpenQueue) (is : queue_at (board_of c.board).queues q ≡ Some seen) (e : SqEntry) → sq_of (view_of c.table) q ≡ Some e → (is_open_on seen is).queue.region ≡ e.region
+  region_on seen is e there =
+      let it = is_open_on seen is in
+      let table : as_open (sq_of (view_of c.table) q) ≡ Some it.queue = ap (λ (t : TableView). as_open (sq_of t q)) s.numbers.table_is ∙ sym (s.holds.queues.sqs q) ∙ it.is_open in
+      let entry : IsOpenEntry (sq_of (view_of c.table) q) it.queue = open_entry (sq_of (view_of c.table) q) it.queue table in
+      sym entry.region ∙ ap (λ (z : SqEntry). z.region) (same_Some entry.entry e (sym entry.there ∙ there))
+
+  -- so it may be held, and its class may be set
+  pub may_be_held : (seen : OpenQueue) → queue_at (board_of c.board).queues q ≡ Some seen → MayBeHeld notes q
+  may_be_held seen is = let it = is_open_on seen is in record { queue = it.queue; is_open = it.is_open }
+
+  pub may_be_classed : (seen : OpenQueue) → queue_at (board_of c.board).queues q ≡ Some seen → q ≢ 0 → (class : Class) → class ≢ Admin → MayBeClassed notes q class
+  may_be_classed seen is io class class_of_io = let it = is_open_on seen is in record { queue = it.queue; is_open = it.is_open; io = io; class_of_io = class_of_io }
+
+-- a queue of a class, with a count
+abbrev queue_with : Class → ℕ → OpenQueue
+queue_with class count = record { class = class; count = count }
+
+-- a queue of the board is shown in a class and with a count
+abbrev pub IsShownOn : (old new : BoardFields) (q : ℕ) → OpenQueue → Type 0
+IsShownOn old new q queue = board_of new ≡ record (board_of old) { queues = slice_set (board_of old).queues q (Some queue) }
+
+-- its arbiter stands where it stood
+abbrev pub StandsOn : (old new : BoardFields) → Type 0
+StandsOn old new = (mechanism : Mechanism) (first : ArbitrationFields) (past : History) → BoardStandsAt mechanism first past (board_of old) → BoardStandsAt mechanism first past (board_of new)
+
+-- ---- as they are called
+-- a queue is held, or held no longer
+pub hold_call : (rules : FrontRules) (late : Bool) (notes : Notes) (c : Controller) (slots : List Slot) (s : StandsAt rules late notes c slots) (q : ℕ) (seen : OpenQueue)
+    (is : queue_at (board_of c.board).queues q ≡ Some seen) (e : SqEntry) (in_table : sq_of (view_of c.table) q ≡ Some e)
+    (on : Bool) (count h : ℕ) (board : BoardFields)
+    → count ≡ (if on then 0 else min (waiting_in c e.region) 256) → h ≡ (if on then 1 else 0)
+    → IsShownOn c.board board q (record { class = seen.class; count = count }) → board.arbiter ≡ c.board.arbiter → StandsOn c.board board
+    → StandsAt rules late (Held q on ∷ notes) (arranged c e.region h board) slots
+hold_call rules late notes c slots s q seen is e in_table on count h board count_is h_is shows arbiter stands =
+    subst (λ (r : ℕ). StandsAt rules late (Held q on ∷ notes) (arranged c r h board) slots) region_is
+    (held_stands rules late notes c slots s q it.queue it.is_open on (s.content.classed it.queue.region) h (ap (λ (n : ℕ). n == 1) h_is ∙ told on) board
+    (shows ∙ ap (λ (x : OpenQueue). record (board_of c.board) { queues = slice_set (board_of c.board).queues q (Some x) }) shown_is)
+    arbiter stands refl)
+  where
+    it : IsOpenOn notes s.content q seen
+    it = is_open_on rules late notes c slots s q seen is
+
+    region_is : it.queue.region ≡ e.region
+    region_is = region_on rules late notes c slots s q seen is e in_table
+
+    told : (b : Bool) → ((if b then 1 else 0) == 1) ≡ b
+    told true = refl
+    told false = refl
+
+    waits : min (waiting_in c e.region) 256 ≡ length (s.content.sq it.queue.region).window
+    waits =
+        let as_many = waiting_are rules late notes c slots s e.region in
+        let few = (s.holds.regions e.region).few_waiting in
+        let same : length (s.content.sq e.region).window ≡ length (s.content.sq it.queue.region).window = ap (λ (r : ℕ). length (s.content.sq r).window) (sym region_is) in
+        omega (arith, as_many, few, same)
+
+    shown_is : queue_with seen.class count ≡ queue_with (unwrap_or (s.content.classed it.queue.region) it.queue.class) (if on then 0 else length (s.content.sq it.queue.region).window)
+    shown_is = λ t. queue_with (it.shown t).class ((count_is ∙ ap (λ (n : ℕ). if on then 0 else n) waits) t)
+
+-- the class of a queue is set
+pub class_call : (rules : FrontRules) (late : Bool) (notes : Notes) (c : Controller) (slots : List Slot) (s : StandsAt rules late notes c slots) (q : ℕ) (seen : OpenQueue)
+    (is : queue_at (board_of c.board).queues q ≡ Some seen) (io : q ≢ 0) (class : Class) (class_of_io : class ≢ Admin) (board : BoardFields)
+    → IsShownOn c.board board q (record { class = class; count = seen.count }) → board.arbiter ≡ c.board.arbiter → StandsOn c.board board
+    → StandsAt rules late (Classed q class ∷ notes) (record c { board = board }) slots
+class_call rules late notes c slots s q seen is io class class_of_io board shows arbiter stands =
+    subst (λ (sqs : List SqState). StandsAt rules late (Classed q class ∷ notes) (record c { board = board; sqs = sqs }) slots) (set-get_or c.sqs it.queue.region no_sq_state)
+    (classed_stands rules late notes c slots s q it.queue it.is_open (s.content.held it.queue.region) (Some class) (sq_at c.sqs it.queue.region).held (s.numbers.sq_held it.queue.region) board
+    (shows ∙ ap (λ (n : ℕ). record (board_of c.board) { queues = slice_set (board_of c.board).queues q (Some (record { class = class; count = n })) }) (ap (λ (x : OpenQueue). x.count) it.shown))
+    arbiter stands io class class_of_io refl refl)
+  where
+    it : IsOpenOn notes s.content q seen
+    it = is_open_on rules late notes c slots s q seen is
