@@ -693,8 +693,9 @@ uint32_t nvmearb_ctrl_add_cq_region(nvmearb_ctrl *ctrl, uint64_t address, uint16
 /*
  * From now on the admin commands of this opcode are the device's: they are picked in their turn, and the device takes
  * and completes them as it does commands of I/O queues, at any later time (an Asynchronous Event Request waits like
- * this). nvmearb_ctrl_init forgets it. The opcodes 00h, 01h, 04h, 05h, 08h, 09h and 0Ah stay the controller's, and so
- * does a fused command, which it refuses. The device checks PSDT.
+ * this). nvmearb_ctrl_init forgets it. The opcodes 00h, 01h, 04h, 05h, 09h and 0Ah stay the controller's, and so does
+ * a fused command, which it refuses. Of Aborts (08h) the device's are those that name no command that waits, which the
+ * device answers with bit 0 of Command Dword 0 clear if it aborted the command. The device checks PSDT.
  * NVMEARB_ESTATE if `ctrl` isn't valid.
  */
 uint32_t nvmearb_ctrl_own_opcode(nvmearb_ctrl *ctrl, uint8_t opcode);

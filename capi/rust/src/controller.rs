@@ -236,8 +236,9 @@ impl Controller {
     /// From now on the admin commands of this opcode are the device's: they are picked in their turn
     /// ([`Step::Passed`]), and the device takes and completes them as it does commands of I/O queues, at any later
     /// time. An Asynchronous Event Request waits like this. [`Controller::reset`] forgets it. The opcodes 00h, 01h,
-    /// 04h, 05h, 08h, 09h and 0Ah stay the controller's, and so does a fused command, which it refuses. The device
-    /// checks PSDT.
+    /// 04h, 05h, 09h and 0Ah stay the controller's, and so does a fused command, which it refuses. Of Aborts (08h) the
+    /// device's are those that name no command that waits, which the device answers with bit 0 of Command Dword 0
+    /// clear if it aborted the command. The device checks PSDT.
     pub fn own_opcode(&mut self, opcode: u8) {
         // SAFETY: references.
         sure(checked(unsafe { sys::nvmearb_ctrl_own_opcode(&mut *self.ctrl, opcode) }));

@@ -148,7 +148,7 @@ pub extern "C" fn nvmearb_ctrl_add_cq_region(
 }
 
 /// From now on the admin commands of an opcode are the device's, but for fused ones and those of the controller's own
-/// opcodes.
+/// opcodes. Of Aborts (08h) those are that name no command that waits.
 #[unsafe(no_mangle)]
 pub extern "C" fn nvmearb_ctrl_own_opcode(state: &mut CtrlState, opcode: u8) -> u32
     ensures bad_state { (result ≡ BAD_STATE) ↔ IsFalse (is_ctrl state.old) }
