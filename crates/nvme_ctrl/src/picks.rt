@@ -9,7 +9,7 @@ use nvme_log::MAX_OUTSTANDING;
 /// What a step of arbitration did.
 #[derive(Clone, Copy, Debug, PartialEq, Eq)]
 pub enum Step {
-    /// No command waits.
+    /// No command waits, but in queues that are held.
     Idle,
     /// Commands are picked that the device hasn't taken, or a deletion is pending.
     Busy,
@@ -43,7 +43,8 @@ impl Controller {
     ghost use Rattle.nvme_ctrl.specs.declared.slot.Slot.{Slot};
     ghost use Rattle.nvme_ctrl.specs.declared.picks.Step.TheVariants as step;
 
-    /// The pick that arbitration makes next, of the commands that wait now. None where none waits.
+    /// The pick that arbitration makes next, of the commands that wait now. None where none waits, but in queues that are
+    /// held.
     pub fn next_pick(&self, slots: &[Slot]) -> Option<Pick>
         requires front { IsController self.now slots.now }
         ensures { (rules : FrontRules) (late : Bool) (notes : Notes) → Stands rules late notes self.now slots.now → IsNextPick rules notes result }
