@@ -432,7 +432,7 @@ typedef struct nvmearb_slot {
 typedef struct nvmearb_ctrl {
     uint64_t mark;
     size_t count; /* the number of its slots */
-    uint64_t words[714];
+    uint64_t words[730];
 } nvmearb_ctrl;
 
 /* What a controller is made with. */

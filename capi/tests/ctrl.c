@@ -6,7 +6,7 @@
 #include "tell.h"
 
 _Static_assert(sizeof(nvmearb_slot) == 80, "nvmearb_slot");
-_Static_assert(sizeof(nvmearb_ctrl) == 5728, "nvmearb_ctrl");
+_Static_assert(sizeof(nvmearb_ctrl) == 5856, "nvmearb_ctrl");
 _Static_assert(sizeof(nvmearb_config) == 48 && offsetof(nvmearb_config, window) == 44, "nvmearb_config");
 _Static_assert(sizeof(nvmearb_step) == 36 && offsetof(nvmearb_step, pick) == 28, "nvmearb_step");
 _Static_assert(sizeof(nvmearb_command) == 72 && offsetof(nvmearb_command, tag) == 68, "nvmearb_command");
