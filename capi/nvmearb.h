@@ -55,8 +55,9 @@
  * address, of QSIZE + 1 slots. It puts the token into PRP entry 1 of its copy of the entry, and keeps the host's
  * address, the interrupt vector and the enable bit by the number of the region. There are NVMEARB_MAX_REGIONS of a kind
  * until the next nvmearb_ctrl_init, that of the admin queue included, so at most 64 such Creates of a kind, those that
- * are refused afterwards among them. What docs/PROVED.md says of the log of a controller holds then too, since no Create
- * that was picked before named the token. capi/examples/nvme.c does this (`place`).
+ * are refused afterwards among them. What docs/PROVED.md says of the log of a controller holds then too, as long as no
+ * Create that was picked before named the token; one for which no region could be added has the host's address.
+ * capi/examples/nvme.c does this (`place`).
  *
  * What the caller of a controller owes, beside what is said of all calls below:
  *
