@@ -37,7 +37,7 @@ posted = record {
   served_while_open = tt;
   observed = tt;
   effects_at_once = refl;
-  deletes = (refl, refl);
+  deletes = (refl, λ s. refl);
   posts_own = record {
     answer = succeeded;
     answered = refl;
@@ -66,7 +66,7 @@ read_posted = record {
   served_while_open = tt;
   observed = tt;
   effects_at_once = refl;
-  deletes = (refl, refl);
+  deletes = (refl, λ s. refl);
   posts_own = (refl, refl, record { entry = read 0; is_there = refl; region = refl; sqid = refl; cid = refl; status = refl; dw0 = refl; sqhd = refl; phase = refl });
   leaves_places = tt;
   fetches_submitted = tt;

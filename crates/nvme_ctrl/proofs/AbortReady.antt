@@ -87,7 +87,6 @@ module _ (past : Past) (k : Content) (candidate : Candidate) (rest : List Candid
           deleting = λ e. cc;
         }) (All-nil (IsReady later gone.deletion c));
         taken = omega arith;
-        few_aborted = omega (arith, ready.few_aborted);
         few_taken = omega (arith, few);
         admin_qid = ready.admin_qid;
         admin_region = ready.admin_region;
@@ -119,7 +118,6 @@ module _ (past : Past) (k : Content) (candidate : Candidate) (rest : List Candid
           deleting = λ e. cc;
         }) (All-nil (IsReady later gone.deletion 0));
         taken = omega arith;
-        few_aborted = omega (arith, middle.few_aborted);
         few_taken = middle.few_taken;
         admin_qid = ready.admin_qid;
         admin_region = ready.admin_region;

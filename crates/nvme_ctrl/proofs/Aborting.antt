@@ -109,6 +109,7 @@ loose_same slots mid g y same h = let state = ap (λ (s : Slot). s.state) (same.
   windows = h.windows;
   outs = h.outs;
   readies = h.readies;
+  deletes = h.deletes;
   free = h.free;
   not_out = λ e. h.not_out (sym state ∙ e);
   not_answered = λ e. h.not_answered (sym state ∙ e);
@@ -214,7 +215,7 @@ module _ (rules : FrontRules) (notes : Notes) (a : Controller) (slots : List Slo
         (All-tail (λ (z : ℕ). z ≢ y) x.tag (tags_of f.among.behind) behind))
 
   -- it is aborted
-  pub requested_one : (io : sqid ≢ 0) (in_table : sq_of k.table sqid ≡ Some entry) (y : ℕ) → IsLoose slots g y
+  pub requested_one : (io : sqid ≢ 0) (in_table : sq_of k.table sqid ≡ Some entry) (not_closing : entry.closing ≡ false) (y : ℕ) → IsLoose slots g y
       → (sq : SqState) (chain : Chain) (mid : List Slot) (n o : ℕ) (board : BoardFields) (m b : Controller) (pool : List Slot) → sq ≡ sq_at a.sqs region
       → IsChain mid chain (without_named slots cid (tags_of (g.windows region))) → SameItems slots mid → SameLinks (tags_of (g.windows region)) slots mid
       → n ≡ sq.unposted + 1 → o ≡ a.outstanding + 1 → WentBoard a.board board sqid (sq.held == 1) → board.arbiter ≡ a.board.arbiter
@@ -222,10 +223,11 @@ module _ (rules : FrontRules) (notes : Notes) (a : Controller) (slots : List Slo
       → m ≡ record a { sqs = slice_set a.sqs region (record sq { window = chain; unposted = n }); board = board; outstanding = o } → KeepsRequest m mid tag sq.cq_region b pool
       → length pool ≡ length mid → ((z : ℕ) → z ≢ tag → item_at pool z ≡ item_at mid z)
       → HasRequested rules notes k sqid cid slots y b pool
-  requested_one io in_table y other sq chain mid n o board m b pool sq_is without same links unposted outstanding went arbiter stands m_is request size others = record {
+  requested_one io in_table not_closing y other sq chain mid n o board m b pool sq_is without same links unposted outstanding went arbiter stands m_is request size others = record {
     io = io;
     entry = entry;
     in_table = in_table;
+    not_closing = not_closing;
     c = ab.c;
     attached = ab.attached;
     found = candidate_of x;

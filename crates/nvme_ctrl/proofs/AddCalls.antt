@@ -34,8 +34,6 @@ use Rattle.nvme_ctrl.proofs.AddedTables.{sq-added, sq-leaves, cq-added, cq-leave
 use Rattle.nvme_ctrl.proofs.DoorbellCounts.{submitted_same, submitted_none, consumed_same, consumed_none}
 use Rattle.nvme_ctrl.proofs.FurtherAccounts.{sound-notes, account-stays}
 use Rattle.nvme_ctrl.proofs.FurtherStanding.{in_time, has_history, own-holds}
-use Rattle.nvme_ctrl.proofs.Passed.{passed_left}
-use Rattle.nvme_ctrl.proofs.Cookies.{cookies_left}
 use Rattle.nvme_ctrl.proofs.Growing.{Grows, grown, none_fetched, holds_when_grown}
 use Rattle.nvme_ctrl.proofs.RegionStates.{put_sq-each, put_cq-each}
 
@@ -94,7 +92,7 @@ module _ (rules : FrontRules) (late : Bool) (notes : Notes) (c : Controller) (po
     early_own =
         let early = in_time rules late notes a on_time in
         let account = s.account early.0 in
-        own-holds rules kind a n sqs_there cqs_there (logged notes) s.content (sound-notes rules kind a n sqs_there cqs_there notes account.each account.lawful) early.1 s.holds.ready (s.holds.own early.0)
+        own-holds rules kind a n sqs_there cqs_there late (logged notes) s.content (sound-notes rules kind a n sqs_there cqs_there notes account.each account.lawful) early.1 s.holds (s.holds.own early.0)
 
     early_account : IsAccount (with_region kind a n rules) notes
     early_account = let early = in_time rules late notes a on_time in account-stays rules kind a n sqs_there cqs_there notes (s.account early.0) early.1
@@ -236,9 +234,7 @@ module _ (rules : FrontRules) (late : Bool) (notes : Notes) (c : Controller) (po
       ready_chain = h.ready_chain;
       ready_items = h.ready_items;
       ready_is = h.ready_is;
-      deletion_is = h.deletion_is;
-      deletion_item = h.deletion_item;
-      deletion_inside = h.deletion_inside;
+      deletions = h.deletions;
       free_chain = h.free_chain;
       free_items = h.free_items;
       few = h.few;
@@ -278,13 +274,13 @@ module _ (rules : FrontRules) (late : Bool) (notes : Notes) (c : Controller) (po
       through = t.through;
       windows_unanswered = t.windows_unanswered;
       outs_unanswered = t.outs_unanswered;
-      deletion_unanswered = t.deletion_unanswered;
+      deletes_unanswered = t.deletes_unanswered;
       none_answered = t.none_answered;
       answered_held = t.answered_held;
       hand_entries = t.hand_entries;
       free_count = t.free_count;
-      cookies = cookies_left notes pool pool (λ y. refl) c _ s.items refl t.cookies;
-      passed = passed_left notes c _ s.items s.items refl (λ x. refl) refl t.passed;
+      cookies = t.cookies;
+      passed = t.passed;
       none_marked = t.none_marked;
       marks = t.marks;
     }
@@ -419,9 +415,7 @@ module _ (rules : FrontRules) (late : Bool) (notes : Notes) (c : Controller) (po
       ready_chain = put_cq-each (λ x state. IsChain pool state.ready (ready_tags (s.items.readies x))) c.cqs r (begun_cq c r n) cq_inside (h.ready_chain r) (λ x other. h.ready_chain x);
       ready_items = h.ready_items;
       ready_is = h.ready_is;
-      deletion_is = h.deletion_is;
-      deletion_item = h.deletion_item;
-      deletion_inside = h.deletion_inside;
+      deletions = h.deletions;
       free_chain = h.free_chain;
       free_items = h.free_items;
       few = h.few;
@@ -464,13 +458,13 @@ module _ (rules : FrontRules) (late : Bool) (notes : Notes) (c : Controller) (po
       through = t.through;
       windows_unanswered = t.windows_unanswered;
       outs_unanswered = t.outs_unanswered;
-      deletion_unanswered = t.deletion_unanswered;
+      deletes_unanswered = t.deletes_unanswered;
       none_answered = t.none_answered;
       answered_held = t.answered_held;
       hand_entries = t.hand_entries;
       free_count = t.free_count;
-      cookies = cookies_left notes pool pool (λ y. refl) c _ s.items refl t.cookies;
-      passed = passed_left notes c _ s.items s.items refl (λ x. refl) refl t.passed;
+      cookies = t.cookies;
+      passed = t.passed;
       none_marked = t.none_marked;
       marks = t.marks;
     }

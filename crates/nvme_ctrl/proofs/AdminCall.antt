@@ -42,6 +42,7 @@ use Rattle.nvme_ctrl.specs.kept.Pool.{slot_at, IsChain}
 use Rattle.nvme_ctrl.specs.kept.State.{sq_at}
 use Rattle.nvme_ctrl.proofs.CarriedOut.{none_picked_in}
 use Rattle.nvme_ctrl.proofs.Dropping.{loose_waited}
+use Rattle.nvme_ctrl.proofs.DeletedQueues.{open_undeleted}
 use Rattle.nvme_ctrl.proofs.FewUnposted.{few_unposted}
 use Rattle.nvme_ctrl.proofs.Observing.{pickable}
 use Rattle.nvme_ctrl.proofs.OpenQueues.{admin_is_open}
@@ -83,7 +84,7 @@ admin_one rules late notes c slots s pick lawful first_is =
     (sym (lawful rules.mechanism rules.start.settings (arbitration_of (logged notes)) (board_stands rules late notes c slots s))))).one_of_admin first_is
 
 module _ (rules : FrontRules) (late : Bool) (notes : Notes) (c : Controller) (slots : List Slot) (s : StandsAt rules late notes c slots)
-    (none : c.picked ≡ 0) (idle : c.deletion.pending ≡ 0) (pick : Pick) (board : BoardFields)
+    (none : c.picked ≡ 0) (pick : Pick) (board : BoardFields)
     (lawful : (m : Mechanism) (first : ArbitrationFields) (h : History) → BoardStandsAt m first h (board_of c.board) → Some pick ≡ lawful_pick m first h (seen_of (board_of c.board).queues))
     (stands : (m : Mechanism) (first : ArbitrationFields) (h : History) → BoardStandsAt m first h (board_of c.board) → BoardStandsAt m first (Picked (seen_of (board_of c.board).queues) pick ∷ h) (board_of board))
     (queues : (board_of board).queues ≡ queues_after (board_of c.board).queues pick)
@@ -97,13 +98,13 @@ module _ (rules : FrontRules) (late : Bool) (notes : Notes) (c : Controller) (sl
   g = s.items
 
   keeps : Keeps rules notes c slots k g
-  keeps = keeps_standing rules late notes c slots s idle
+  keeps = keeps_standing rules late notes c slots s
 
   abbrev queue : Queue
-  queue = (due rules late notes c slots s none idle pick board lawful stands queues arbiter places).queue
+  queue = (due rules late notes c slots s none pick board lawful stands queues arbiter places).queue
 
   is_open : open_sq (logged notes) pick.qid ≡ Some queue
-  is_open = (due rules late notes c slots s none idle pick board lawful stands queues arbiter places).is_open
+  is_open = (due rules late notes c slots s none pick board lawful stands queues arbiter places).is_open
 
   -- its queue is the admin queue
   pub queue_is : queue ≡ admin_queue
@@ -114,10 +115,10 @@ module _ (rules : FrontRules) (late : Bool) (notes : Notes) (c : Controller) (sl
       same_Some queue admin_queue (sym is_open ∙ ap (open_sq (logged notes)) first_is ∙ admin_is_open rules late (logged notes) k s.holds some)
 
   pub one : pick.n ≡ 1
-  one = (due rules late notes c slots s none idle pick board lawful stands queues arbiter places).one_of_admin first_is
+  one = (due rules late notes c slots s none pick board lawful stands queues arbiter places).one_of_admin first_is
 
   can_admin : CanPick rules (logged notes) k admin_queue pick (board_of board)
-  can_admin = subst (λ (q : Queue). CanPick rules (logged notes) k q pick (board_of board)) queue_is (can rules late notes c slots s none idle pick board lawful stands queues arbiter places)
+  can_admin = subst (λ (q : Queue). CanPick rules (logged notes) k q pick (board_of board)) queue_is (can rules late notes c slots s none pick board lawful stands queues arbiter places)
 
   window_all : (k.sq 0).window ≡ map candidate_of (g.windows 0)
   window_all = s.has.window_is 0 ∙ ap (λ (n : ℕ). map candidate_of (drop n (g.windows 0))) (none_picked_in c 0 none)
@@ -168,7 +169,7 @@ module _ (rules : FrontRules) (late : Bool) (notes : Notes) (c : Controller) (sl
       let as_many = ap (λ (z : SqState). z.unposted) sq_is in
       let attached = s.holds.queues.attached pick.qid admin_queue can_admin.is_open in
       let below = s.holds.queues.sq_there 0 (record { qid = pick.qid; cq_region = attached.cq_region }) attached.attached in
-      let few = few_unposted rules late (logged notes) k s.holds can_admin.none_pending 0 below in
+      let few = few_unposted rules late (logged notes) k s.holds 0 (open_undeleted rules late (logged notes) k s.holds pick.qid admin_queue can_admin.is_open) below in
       let same = s.numbers.sq_unposted 0 in
       let most = can_admin.places in
       omega arith
@@ -246,7 +247,7 @@ module _ (rules : FrontRules) (late : Bool) (notes : Notes) (c : Controller) (sl
 
 -- ---- as it is picked
 pub admin_call : (rules : FrontRules) (late : Bool) (notes : Notes) (c : Controller) (slots : List Slot) (s : StandsAt rules late notes c slots)
-    (none : c.picked ≡ 0) (idle : c.deletion.pending ≡ 0) (pick : Pick) (board : BoardFields)
+    (none : c.picked ≡ 0) (pick : Pick) (board : BoardFields)
     (lawful : (m : Mechanism) (first : ArbitrationFields) (h : History) → BoardStandsAt m first h (board_of c.board) → Some pick ≡ lawful_pick m first h (seen_of (board_of c.board).queues))
     → ((m : Mechanism) (first : ArbitrationFields) (h : History) → BoardStandsAt m first h (board_of c.board) → BoardStandsAt m first (Picked (seen_of (board_of c.board).queues) pick ∷ h) (board_of board))
     → (board_of board).queues ≡ queues_after (board_of c.board).queues pick → IsTrue (is_arbiter board.arbiter) → places_in c slots pick + c.outstanding ≤ max_outstanding → pick.qid ≡ 0
@@ -257,11 +258,11 @@ pub admin_call : (rules : FrontRules) (late : Bool) (notes : Notes) (c : Control
     → ((start : Start) (h : TableHistory) → TableStandsAt start (view_of p.table) h → verdict_in did ≡ verdict_of start h slot.entry)
     → ((start : Start) (h : TableHistory) → TableStandsAt start (view_of p.table) h → TableStandsAt start (view_of table) (EntryApplied slot.entry ∷ h))
     → NamesRegions (view_of p.table) did → IsSized (view_of table) → IsApplied rules late notes m slots tag did
-admin_call rules late notes c slots s none idle pick board lawful stands queues arbiter needs first_is sq chain popped tag n o slot table p m did sq_is some left unwrap n_is p_is o_is slot_is m_is verdict applies names sized =
-    is_applied rules late notes c slots s none idle pick board lawful stands queues arbiter needs places first_is sq chain tag n o slot.entry table m did
+admin_call rules late notes c slots s none pick board lawful stands queues arbiter needs first_is sq chain popped tag n o slot table p m did sq_is some left unwrap n_is p_is o_is slot_is m_is verdict applies names sized =
+    is_applied rules late notes c slots s none pick board lawful stands queues arbiter needs places first_is sq chain tag n o slot.entry table m did
     sq_is (left it.first.tag (tags_of it.rest) there) (unwrap it.first.tag (some it.first.tag (tags_of it.rest) there))
-    (n_is ∙ unposted_capped rules late notes c slots s none idle pick board lawful stands queues arbiter needs places first_is sq sq_is)
-    (o_is ∙ ap (λ (z : Controller). min (z.outstanding + 1) 65535) p_is ∙ outstanding_capped rules late notes c slots s none idle pick board lawful stands queues arbiter needs places first_is)
+    (n_is ∙ unposted_capped rules late notes c slots s none pick board lawful stands queues arbiter needs places first_is sq sq_is)
+    (o_is ∙ ap (λ (z : Controller). min (z.outstanding + 1) 65535) p_is ∙ outstanding_capped rules late notes c slots s none pick board lawful stands queues arbiter needs places first_is)
     (ap (λ (z : Slot). z.entry) slot_is) (m_is ∙ ap (λ (z : Controller). record z { outstanding = o; table = table }) p_is)
     (λ start h was. verdict start h (subst (λ (z : Controller). TableStandsAt start (view_of z.table) h) (sym p_is) was))
     (λ start h was. applies start h (subst (λ (z : Controller). TableStandsAt start (view_of z.table) h) (sym p_is) was))
@@ -270,8 +271,8 @@ admin_call rules late notes c slots s none idle pick board lawful stands queues 
       places = admin_places c slots pick (let one = admin_one rules late notes c slots s pick lawful first_is in omega (arith, one)) needs
 
       it : IsSplit (s.items.windows 0)
-      it = oldest rules late notes c slots s none idle pick board lawful stands queues arbiter needs places first_is
+      it = oldest rules late notes c slots s none pick board lawful stands queues arbiter needs places first_is
 
       there : IsChain slots sq.window (it.first.tag ∷ tags_of it.rest)
       there = subst (λ (z : SqState). IsChain slots z.window (it.first.tag ∷ tags_of it.rest)) (sym sq_is)
-          (linked rules late notes c slots s none idle pick board lawful stands queues arbiter needs places first_is)
+          (linked rules late notes c slots s none pick board lawful stands queues arbiter needs places first_is)

@@ -30,15 +30,18 @@ use Rattle.nvme_log.specs.Histories.{table_history, admin_entry}
 use Rattle.nvme_log.specs.Answers.{Answer}
 use Rattle.nvme_log.specs.Completions.{table_before, own_status_by, own_dw0_by}
 use Rattle.nvme_log.specs.Effects.{closing_of, made_by, made_of, made_last, EffectsAtOnce, abort_in, target_of}
-use Rattle.nvme_log.specs.Account.{IndexCounts, ServedWhileOpen, Deletes, LeavesPlaces}
+use Rattle.nvme_log.specs.Account.{IndexCounts, ServedWhileOpen, LeavesPlaces}
+use Rattle.nvme_ctrl.specs.Deletions.{FollowsDeletions}
 use Rattle.nvme_ctrl.specs.kept.Content.{SqContent, Content, with_sq}
 use Rattle.nvme_ctrl.specs.kept.Standing.{HoldsSq, HasOwnStatus, IsOwnDeletion, Holds, hand_of, answer_in, deleted_answer}
 use Rattle.nvme_ctrl.specs.inside.Steps.{verdict_at, applied_to, aborted, oldest_named, without_oldest, requested}
 use Rattle.nvme_ctrl.proofs.AfterSteps.{with_events, answered, with_opened, deleting_from, after_admin, told_abort, with_requested, aborting_in, aborting_from}
 use Rattle.nvme_ctrl.proofs.StepKeeps.{KeepsAdmin, Own, NextAdmin}
 use Rattle.nvme_ctrl.proofs.OwnStatus.{Stays, all_with_readies, ready_is_answerable, answerable_is_done, waiting_is_unaborted, candidates_wait, oldest_waits, All-unmap, aborts_all, verdict_answers_status, verdict_answers_dw0, waiting_wait}
-use Rattle.nvme_ctrl.proofs.OwnSteps.{statuses_stay}
-use Rattle.nvme_ctrl.proofs.OpenQueues.{none_is_pending, not_closed_region, io_region}
+use Rattle.nvme_ctrl.proofs.OwnSteps.{statuses_stay, deletion_stays}
+use Rattle.nvme_ctrl.proofs.OpenQueues.{not_closed_region, io_region}
+use Rattle.nvme_ctrl.proofs.DeletedQueues.{undeleted_region, undeleted_queue, deletion_done}
+use Rattle.nvme_ctrl.proofs.PendingDeletions.{Here, Elsewhere, is_put}
 use Rattle.nvme_ctrl.proofs.NextEvents.{PickedAreOutstanding, leaves_places}
 use Rattle.nvme_ctrl.specs.inside.Next.{IsNext, EachNext}
 use Rattle.nvme_ctrl.proofs.EffectEvents.{next_effects, made_are_effects, index_of_effect, effect_is_served, effects_come_at_once, effects_are_whole, effects_leave_fetched, effects_leave_table, made_delete, made_leave_done, made_leave_requests, effects_leave_told, made_leave_region}
@@ -177,10 +180,6 @@ module _ (rules : FrontRules) (past mid : Past) (candidate : Candidate) (v : Ver
       (All-nil (HasOwnStatus rules after))
 
 -- ---- the answers
--- where no deletion is kept, none is answered
-no_deletion : (rules : FrontRules) (past : Past) (o : Option PendingDelete) → o ≡ None → (d : PendingDelete) → o ≡ Some d → IsOwnDeletion rules past d
-no_deletion rules past o none d is = cc (none, is)
-
 -- the deletion of a queue begins: its candidates are aborted, and its command is answered later
 module _ (rules : FrontRules) (past mid : Past) (candidate : Candidate) (qid : ℕ) (p : IsPicked rules past mid candidate (BeginDelete qid)) where
   -- the log with the beginning of the deletion
@@ -232,19 +231,21 @@ module _ (rules : FrontRules) (past mid : Past) (candidate : Candidate) (qid : �
       (map (aborted qid queue.region) (now.sq queue.region).window) old
       (aborted_own queue is (now.sq queue.region) (regions queue.region (p.not_admin qid queue refl is)))
 
-  -- the deletion is to be answered with success
-  deletion_own : (now : Content) (c : ℕ) (o : Option Queue) → now.deletion ≡ None → (d : PendingDelete)
-      → (deleting_from now qid c candidate o).deletion ≡ Some d → IsOwnDeletion rules begun d
-  deletion_own now c None none d is = no_deletion rules begun now.deletion none d is
-  deletion_own now c (Some queue) none d is =
-      subst (λ (x : PendingDelete). IsOwnDeletion rules begun x)
-      (same_Some (record { place = place_at 0 candidate.index; cid = candidate.entry.cid; qid = qid; region = queue.region }) d is)
-      (record {
-        entry = candidate.entry;
-        is_there = entry_after rules past mid candidate (BeginDelete qid) p 0 candidate.index candidate.entry p.entry;
-        status = own_status-answered rules past mid candidate (BeginDelete qid) p deleted_answer;
-        dw0 = own_dw0-answered rules past mid candidate (BeginDelete qid) p deleted_answer;
-      })
+  -- the deletion is to be answered with success, as the others are
+  deletion_own : (now : Content) (c : ℕ) (o : Option Queue) → ((r : ℕ) (d : PendingDelete) → now.deletion r ≡ Some d → IsOwnDeletion rules begun d)
+      → (r : ℕ) (d : PendingDelete) → (deleting_from now qid c candidate o).deletion r ≡ Some d → IsOwnDeletion rules begun d
+  deletion_own now c None old r d is = old r d is
+  deletion_own now c (Some queue) old r d is = elim (is_put now.deletion queue.region (Some this) r d is) [
+    | Here e same ↦ subst (λ (x : PendingDelete). IsOwnDeletion rules begun x) (same_Some this d same) (record {
+      entry = candidate.entry;
+      is_there = entry_after rules past mid candidate (BeginDelete qid) p 0 candidate.index candidate.entry p.entry;
+      status = own_status-answered rules past mid candidate (BeginDelete qid) p deleted_answer;
+      dw0 = own_dw0-answered rules past mid candidate (BeginDelete qid) p deleted_answer;
+    })
+    | Elsewhere other there ↦ old r d there
+  ] where
+    this : PendingDelete
+    this = record { place = place_at 0 candidate.index; cid = candidate.entry.cid; qid = qid; region = queue.region }
 
 -- an Abort command takes a candidate, or finds none
 module _ (rules : FrontRules) (past mid : Past) (candidate : Candidate) (sqid cid : ℕ) (p : IsPicked rules past mid candidate (verdict.Abort sqid cid)) where
@@ -313,7 +314,7 @@ module _ (rules : FrontRules) (past mid : Past) (candidate : Candidate) (sqid ci
   target_own now c board (Some queue) is old regions =
       found_own now c board queue is (regions queue.region (p.not_target sqid queue is)) old (oldest_named cid (now.sq queue.region).window) refl
 
-  -- it leaves the pending deletion
+  -- it leaves the pending deletions
   target_deletion : (now : Content) (c : ℕ) (board : BoardView) (o : Option Queue) → (aborting_from now candidate sqid c cid board o).deletion ≡ now.deletion
   target_deletion now c board None = refl
   target_deletion now c board (Some queue) = found (oldest_named cid (now.sq queue.region).window) where
@@ -344,18 +345,17 @@ module _ (rules : FrontRules) (past mid : Past) (candidate : Candidate) (now : C
   readies_own (verdict.Abort sqid cid) p old regions = target_own rules past mid candidate sqid cid p now c board (target_of past sqid) refl old regions
   readies_own (BeginDelete qid) p old regions = deleting_own rules past mid candidate qid p now c (open_sq past qid) refl old regions
 
-  -- and a deletion that begins is to be answered with success
-  pending_own : (v : Verdict) → IsPicked rules past mid candidate v → now.deletion ≡ None → (d : PendingDelete)
-      → (after_admin past now candidate c board v).deletion ≡ Some d → IsOwnDeletion rules (with_events (made_by past v) mid) d
-  pending_own (BeginDelete qid) p none d is = deletion_own rules past mid candidate qid p now c (open_sq past qid) none d is
-  pending_own (verdict.Abort sqid cid) p none d is =
-      no_deletion rules (with_events (made_by past (verdict.Abort sqid cid)) mid) now.deletion none d
-      (sym (target_deletion rules past mid candidate sqid cid p now c board (target_of past sqid)) ∙ is)
-  pending_own (Done status dw0) p none d is = no_deletion rules mid now.deletion none d is
-  pending_own (verdict.OpenSq qid region cqid class) p none d is = no_deletion rules (event.OpenSq qid region cqid class ∷ mid) now.deletion none d is
-  pending_own (verdict.OpenCq qid region) p none d is = no_deletion rules (event.OpenCq qid region ∷ mid) now.deletion none d is
-  pending_own (CloseCq qid) p none d is = no_deletion rules (with_events (made_by past (CloseCq qid)) mid) now.deletion none d is
-  pending_own (verdict.SetArbitration settings) p none d is = no_deletion rules (event.SetArbitration settings ∷ mid) now.deletion none d is
+  -- and each deletion that is pending is to be answered with success
+  pending_own : (v : Verdict) → IsPicked rules past mid candidate v → ((r : ℕ) (d : PendingDelete) → now.deletion r ≡ Some d → IsOwnDeletion rules (with_events (made_by past v) mid) d)
+      → (r : ℕ) (d : PendingDelete) → (after_admin past now candidate c board v).deletion r ≡ Some d → IsOwnDeletion rules (with_events (made_by past v) mid) d
+  pending_own (BeginDelete qid) p old r d is = deletion_own rules past mid candidate qid p now c (open_sq past qid) old r d is
+  pending_own (verdict.Abort sqid cid) p old r d is =
+      old r d (ap (λ (f : ℕ → Option PendingDelete). f r) (sym (target_deletion rules past mid candidate sqid cid p now c board (target_of past sqid))) ∙ is)
+  pending_own (Done status dw0) p old r d is = old r d is
+  pending_own (verdict.OpenSq qid region cqid class) p old r d is = old r d is
+  pending_own (verdict.OpenCq qid region) p old r d is = old r d is
+  pending_own (CloseCq qid) p old r d is = old r d is
+  pending_own (verdict.SetArbitration settings) p old r d is = old r d is
 
 -- ---- an admin pick
 -- its answer has the own status of its place
@@ -377,12 +377,13 @@ own-admin rules late past k seen pick picked candidate rest table c board s can 
           done_stays rules past mid candidate v p t.place.region t.place.index (answerable_is_done past (hand_of k) t.place.region t.place.index (ready_is_answerable past k (hand_of k) s.ready x j d lt)))
           a.own_statuses)
           (λ r io. rw (ne_eqb r 0 io) (s.regions r));
-      own_deletion = pending_own rules past mid candidate now c board v p can.none_pending;
+      own_deletion = pending_own rules past mid candidate now c board v p
+          (λ r d is. deletion_stays rules past later d (done_stays rules past mid candidate v p d.place.region d.place.index (deletion_done rules late past k s r d is)) (a.own_deletion r d is));
     }
 
 -- lawful events, of which each clause holds of each
 all_next : (rules : FrontRules) (rest : List Event) (past : Past) → EachNext IndexCounts rest past → EachNext (ServedWhileOpen rules) rest past
-    → EachNext (EffectsAtOnce rules) rest past → EachNext Deletes rest past → EachNext (LeavesPlaces rules) rest past → EachNext (IsNext rules) rest past
+    → EachNext (EffectsAtOnce rules) rest past → EachNext FollowsDeletions rest past → EachNext (LeavesPlaces rules) rest past → EachNext (IsNext rules) rest past
 all_next rules [] past i s e d l = tt
 all_next rules (x ∷ rest) past i s e d l = (
   record { index_counts = i.0; served_while_open = s.0; effects_at_once = e.0; deletes = d.0; leaves_places = l.0 },
@@ -402,11 +403,11 @@ next-admin more rules late past k seen pick picked candidate rest table s can sa
         index_counts = tt;
         served_while_open = rw can.is_open refl;
         effects_at_once = a.effects_whole;
-        deletes = none_is_pending rules late past k s can.none_pending;
+        deletes = undeleted_queue rules late past k s pick.qid admin_queue can.is_open;
         leaves_places = leaves_places more rules late past k admin_queue seen pick picked s can;
       },
       all_next rules made mid (next_effects IndexCounts index_of_effect made mid are) (next_effects (ServedWhileOpen rules) (effect_is_served rules) made mid are)
           (effects_come_at_once rules made mid are p.made)
-          (made_delete past mid v (λ q queue is. not_closed_region rules late past k s q queue is))
+          (made_delete past mid v (λ q queue is. (undeleted_region rules late past k s q queue is, not_closed_region rules late past k s q queue is)))
           (made_leave_places rules late past k seen pick picked candidate rest table s can first one apply),
     )

@@ -20,7 +20,7 @@ use Rattle.nvme_log.specs.Rules.{FrontRules, Past}
 use Rattle.nvme_log.specs.Queues.{Queue, open_sq, open_cq}
 use Rattle.nvme_log.specs.Completions.{phase_after}
 use Rattle.nvme_log.specs.Effects.{made_by, target_of}
-use Rattle.nvme_ctrl.specs.kept.Content.{Candidate, Ready, PendingDelete, SqContent, CqContent, Content, with_sq, with_cq, with_ready, put_held, put_class}
+use Rattle.nvme_ctrl.specs.kept.Content.{Candidate, Ready, PendingDelete, SqContent, CqContent, Content, with_sq, with_cq, with_ready, put_held, put_class, put_deletion}
 use Rattle.nvme_ctrl.specs.kept.Standing.{counted_on}
 use Rattle.nvme_log.specs.declared.place.Place.{Place}
 use Rattle.nvme_log.specs.Places.{one_if}
@@ -40,7 +40,6 @@ with_readies k c ts = with_cq k c (record (k.cq c) { ready = (k.cq c).ready ++ t
 -- ---- a fetch
 pub record CanFetch (past : Past) (k : Content) (q : ℕ) (queue : Queue) : Type 0 where
   pub is_open : open_sq past q ≡ Some queue
-  pub none_pending : k.deletion ≡ None
   pub room : length (k.sq queue.region).window < window_of (k.sq queue.region).slots
 
 abbrev pub fetched_sq : SqContent → Sqe → SqContent
@@ -97,7 +96,7 @@ with_deleting k qid region c candidate =
     record (with_readies (with_sq k region (record (k.sq region) { window = []; unposted = (k.sq region).unposted + length (k.sq region).window })) c
     (map (aborted qid region) (k.sq region).window)) {
       board = record k.board { queues = slice_set k.board.queues qid None };
-      deletion = Some (record { place = place_at 0 candidate.index; cid = candidate.entry.cid; qid = qid; region = region });
+      deletion = put_deletion k.deletion region (Some (record { place = place_at 0 candidate.index; cid = candidate.entry.cid; qid = qid; region = region }));
     }
 
 -- the answer of an Abort command: Command Dword 0 is 0 where it aborted a candidate, and 1 otherwise
@@ -153,7 +152,7 @@ after_post k c t rest cqe =
 
 -- ---- the end of a deletion
 pub record CanClose (rules : FrontRules) (k : Content) (history : TableHistory) (d : PendingDelete) (table : TableView) : Type 0 where
-  pub pending : k.deletion ≡ Some d
+  pub pending : k.deletion d.region ≡ Some d
   pub all_posted : (k.sq d.region).unposted ≡ 0
   pub table_stands : StandsAt rules.start table (DeletionFinished d.qid ∷ history)
 
@@ -164,7 +163,7 @@ abbrev pub deleted : PendingDelete → Ready
 deleted d = record { place = d.place; sqid = 0; cid = d.cid; with_queue = false; passed = false; status = success; dw0 = 0 }
 
 abbrev pub after_closed : Content → PendingDelete → TableView → Content
-after_closed k d table = with_ready (record k { deletion = None; table = table }) 0 (deleted d)
+after_closed k d table = with_ready (record k { deletion = put_deletion k.deletion d.region None; table = table }) 0 (deleted d)
 
 -- what an admin command leaves, by its verdict. c is the completion region of a queue that is opened or deleted, or whose candidate is aborted, and
 -- `board` is the board with new settings, or with a candidate less

@@ -29,7 +29,7 @@ use Rattle.nvme_ctrl.specs.declared.state.Controller.{Controller}
 use Rattle.nvme_ctrl.specs.kept.Content.{Content, CqContent, Ready}
 use Rattle.nvme_ctrl.specs.kept.Standing.{Holds, IsReady, answer_in}
 use Rattle.nvme_ctrl.specs.inside.Steps.{done}
-use Rattle.nvme_ctrl.specs.kept.Kept.{Item, ReadyItem, Items, IsWaitingIn, IsOutIn, IsReadyIn, IsAmongOuts, HasNumbers, HasItems, HoldsDoorbells, HoldsTags, IsThrough, IsUnanswered, HasCookie, HasReadyCookie, HasMarks, HasEntry, StandsAt, tags_of, places_of, ready_tags, readies_of, untaken, pending_of, is_free, IsDevices, IsReadyOf}
+use Rattle.nvme_ctrl.specs.kept.Kept.{Item, ReadyItem, Items, IsWaitingIn, IsOutIn, IsReadyIn, IsAmongOuts, HasNumbers, HasItems, HoldsDoorbells, HoldsTags, IsThrough, IsUnanswered, HasCookie, HasReadyCookie, HasMarks, HasEntry, StandsAt, tags_of, places_of, ready_tags, readies_of, untaken, is_free, IsDevices, IsReadyOf, DeleteItem}
 use Rattle.nvme_ctrl.specs.kept.Pool.{slot_at, item_at, put_item, bit, marks_in, IsChain, IsNew, AreApart, SameItems, SameLinks}
 use Rattle.nvme_ctrl.specs.kept.State.{sq_at, cq_at}
 use Rattle.nvme_ctrl.proofs.Passed.{held_is_devices, devices_passed}
@@ -40,8 +40,9 @@ use Rattle.nvme_ctrl.proofs.OwnStatus.{All-unmap}
 use Rattle.nvme_ctrl.proofs.ReadyHand.{All-taken}
 use Rattle.nvme_ctrl.proofs.RegionStates.{put_cq-each}
 use Rattle.nvme_ctrl.proofs.OutTags.{still_not_out-answered, still_not_out-marked}
-use Rattle.nvme_ctrl.proofs.SlotItems.{All-both, at_put, ready_state-range, same_state, out_stays, all_waiting_stay, all_ready_stay, all_free_stay}
+use Rattle.nvme_ctrl.proofs.SlotItems.{All-both, at_put, ready_state-range, out_stays, all_waiting_stay, all_ready_stay, all_free_stay}
 use Rattle.nvme_ctrl.proofs.AnsweredPlaces.{IsOther, is_other, at_hand, has_entries, attached, answered, holds_answered, was_fetched, others_out, others_in_windows}
+use Rattle.nvme_ctrl.proofs.PendingDeletions.{deletions_stay}
 
 -- ---- what the device has, without a command
 -- a command among some is among those that are left without another
@@ -243,13 +244,8 @@ module _ (rules : FrontRules) (late : Bool) (notes : Notes) (c : Controller) (sl
   hand_left : before ++ after ++ untaken c g ≡ before ++ (after ++ untaken c g)
   hand_left = append_assoc before after (untaken c g)
 
-  deletion_left : pending_of c slots g ≡ pending_of c new left
-  deletion_left = ap (λ (cid : ℕ). if c.deletion.pending == 0 then None
-      else Some (record { place = place_at 0 g.delete_index; cid = cid; qid = c.deletion.qid; region = c.deletion.region }))
-      (ap (λ (e : Sqe). e.cid) (sym (entries c.deletion.tag)))
-
-  deletion_other : c.deletion.pending ≢ 0 → c.deletion.tag ≢ it.tag
-  deletion_other pending e = omega (arith, h.deletion_item pending, out.state, ap (λ (z : ℕ). (slot_at slots z).state) e)
+  deletes_other : (r : ℕ) (d : DeleteItem) → g.deletes r ≡ Some d → d.tag ≢ it.tag
+  deletes_other r d at e = omega (arith, (h.deletions.items r d at).state, out.state, ap (λ (z : ℕ). (slot_at slots z).state) e)
 
   -- ---- all of it
   pub answer-items : HasItems (answered_controller c x chain) new later left
@@ -271,9 +267,7 @@ module _ (rules : FrontRules) (late : Bool) (notes : Notes) (c : Controller) (sl
       | inl same ↦ subst (λ (z : ℕ). (later.cq z).ready ≡ readies_of (left.readies z)) (sym same) ready_here
       | inr other ↦ ready_at y other ∙ ready_elsewhere y other
     ];
-    deletion_is = h.deletion_is ∙ deletion_left;
-    deletion_item = λ pending. same_state slots new it.tag size others c.deletion.tag 6 (deletion_other pending) (h.deletion_item pending);
-    deletion_inside = λ pending. subst (λ (m : ℕ). c.deletion.tag < m) (sym size) (h.deletion_inside pending);
+    deletions = deletions_stay c.deletions c.pending_deletions slots new k.deletion g.deletes it.tag size others deletes_other h.deletions;
     free_chain = free_left;
     free_items = all_free_stay slots new it.tag size others g.free (λ e. omega (arith, out.state, e)) h.free_items;
     few = subst (λ (m : ℕ). m < 2 ^ 16) (sym size) h.few;
@@ -412,8 +406,7 @@ module _ (rules : FrontRules) (late : Bool) (notes : Notes) (c : Controller) (sl
     outs_unanswered = all_unanswered (before ++ after) (others_out rules late notes c slots k g s n h t before it after are answer)
         (All-taken (λ (y : Item). IsUnanswered notes y.place) before it after
         (All-same (λ (y : Item). IsUnanswered notes y.place) (before ++ it ∷ after) g.outs (sym are) t.outs_unanswered)).1;
-    deletion_unanswered = λ pending.
-        ap (λ (b : Bool). if b then Some answer else answer_of notes 0 g.delete_index) (not_deletion pending) ∙ t.deletion_unanswered pending;
+    deletes_unanswered = λ r d at. ap (λ (b : Bool). if b then Some answer else answer_of notes 0 d.index) (not_deletion r d at) ∙ t.deletes_unanswered r d at;
     none_answered = λ r i past_all. answer_left (place_at r i) (is_other it.place.region it.place.index (place_at r i) (λ same_region same_index.
         let was = was_fetched rules late notes c slots k g s n h t before it after are answer in
         omega (arith, was, same_index, ap (λ (z : ℕ). length (fetched (logged notes) z)) same_region, past_all))) ∙ t.none_answered r i past_all;
@@ -427,7 +420,7 @@ module _ (rules : FrontRules) (late : Bool) (notes : Notes) (c : Controller) (sl
       readies = at_put (λ y ws. All (IsReadyOf (Answered it.place.region it.place.index answer ∷ notes)) ws) g.readies x (g.readies x ++ item ∷ [])
           (All-push (IsReadyOf (Answered it.place.region it.place.index answer ∷ notes)) (g.readies x) item (t.passed.readies x) (devices_passed notes it.place devices))
           (λ y other. t.passed.readies y);
-      deletion = t.passed.deletion;
+      deletes = t.passed.deletes;
     };
     cookies = record {
       windows = λ r. items_left notes slots new same (g.windows r) (t.cookies.windows r);
@@ -435,7 +428,7 @@ module _ (rules : FrontRules) (late : Bool) (notes : Notes) (c : Controller) (sl
       readies = at_put (λ y ws. All (HasReadyCookie notes new) ws) g.readies x (g.readies x ++ item ∷ [])
           (readies_left notes slots new same (g.readies x ++ item ∷ []) (All-push (HasReadyCookie notes slots) (g.readies x) item (t.cookies.readies x) cookies.0))
           (λ y other. readies_left notes slots new same (g.readies y) (t.cookies.readies y));
-      deletion = λ pending. cookie_left notes slots new same c.deletion.tag (place_at 0 g.delete_index) (t.cookies.deletion pending);
+      deletes = λ r d at. cookie_left notes slots new same d.tag (place_at 0 d.index) (t.cookies.deletes r d at);
       none = t.cookies.none;
     };
     none_marked = none_marked_now;
@@ -443,13 +436,13 @@ module _ (rules : FrontRules) (late : Bool) (notes : Notes) (c : Controller) (sl
         (All-push (HasMarks told) (g.readies x) item (all_marks (g.readies x) (t.through x) (t.marks x)) item_marks)
         (λ y other. all_marks (g.readies y) (t.through y) (t.marks y));
   } where
-    not_deletion : c.deletion.pending ≢ 0 → (it.place.region == 0 && it.place.index == g.delete_index) ≡ false
-    not_deletion pending = by (it.place.region == 0) (it.place.index == g.delete_index) refl refl where
-      by : (a b : Bool) → (it.place.region == 0) ≡ a → (it.place.index == g.delete_index) ≡ b → (a && b) ≡ false
+    not_deletion : (r : ℕ) (d : DeleteItem) → g.deletes r ≡ Some d → (it.place.region == 0 && it.place.index == d.index) ≡ false
+    not_deletion r d at = by (it.place.region == 0) (it.place.index == d.index) refl refl where
+      by : (a b : Bool) → (it.place.region == 0) ≡ a → (it.place.index == d.index) ≡ b → (a && b) ≡ false
       by true true e f =
-          let here : is_of_device notes 0 g.delete_index ≡ true = subst (λ (r : ℕ). is_of_device notes r g.delete_index ≡ true) (eqb-true it.place.region 0 e)
-          (subst (λ (j : ℕ). is_of_device notes it.place.region j ≡ true) (eqb-true it.place.index g.delete_index f) devices) in
-          let none = t.passed.deletion pending in
+          let here : is_of_device notes 0 d.index ≡ true = subst (λ (x : ℕ). is_of_device notes x d.index ≡ true) (eqb-true it.place.region 0 e)
+          (subst (λ (j : ℕ). is_of_device notes it.place.region j ≡ true) (eqb-true it.place.index d.index f) devices) in
+          let none = t.passed.deletes r d at in
           absurd (cc (here, none))
       by true false e f = refl
       by false b e f = refl

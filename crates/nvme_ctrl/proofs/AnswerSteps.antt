@@ -1,4 +1,4 @@
--- What an answer leaves: counts, queues, the pending deletion, the board and the table.
+-- What an answer leaves: counts, queues, the pending deletions, the board and the table.
 use Rattle.std.proofs.Common.{◌≡◌, ℕ, ◌==◌, Bool, true, false, if◌then◌else◌, List, [], ◌∷◌, ◌++◌, refl, sym, ap, ◌∙◌, eqb-true}
 use Rattle.nvme_log.specs.Rules.{FrontRules, Past}
 use Rattle.nvme_log.specs.declared.place.Place.{Place}
@@ -39,12 +39,12 @@ module _ (rules : FrontRules) (late : Bool) (past : Past) (k : Content) (cq : �
     deleting = h.deleting;
   }
 
-  -- the pending deletion is left
+  -- the pending deletions are left
   deletion-left : HoldsDeletion past k → HoldsDeletion past (with_hand k cq hand)
   deletion-left h = record {
-    pending_is = h.pending_is;
     place_is = h.place_is;
-    stands = λ d e. let is = h.stands d e in record {
+    stands = λ r d e. let is = h.stands r d e in record {
+      at = is.at;
       closing = is.closing;
       in_table = is.in_table;
       is_closing = is.is_closing;
@@ -59,7 +59,6 @@ module _ (rules : FrontRules) (late : Bool) (past : Past) (k : Content) (cq : �
       not_admin = is.not_admin;
       attached = is.attached;
     };
-    closing_is = h.closing_is;
   }
 
   -- the board is left
@@ -105,7 +104,7 @@ pub queues-answer : KeepsAnswer Queues
 queues-answer rules late past k p before after sqid c cid answer entry s can there names regions =
     queues-left rules late past k (after_answer k p before after sqid c cid answer).cq (before ++ after) s.queues
 
--- and the pending deletion
+-- and the pending deletions
 pub deleting-answer : KeepsAnswer Deleting
 deleting-answer rules late past k p before after sqid c cid answer entry s can there names regions =
     deletion-left rules late past k (after_answer k p before after sqid c cid answer).cq (before ++ after) s.deletion

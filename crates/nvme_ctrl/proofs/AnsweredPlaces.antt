@@ -15,7 +15,7 @@ use Rattle.nvme_ctrl.specs.declared.slot.Slot.{Slot}
 use Rattle.nvme_ctrl.specs.declared.state.SqState.{SqState}
 use Rattle.nvme_ctrl.specs.declared.state.Controller.{Controller}
 use Rattle.nvme_ctrl.specs.kept.Content.{Attachment, Candidate, Ready, Content}
-use Rattle.nvme_ctrl.specs.kept.Standing.{Holds, IsInHand, times_held, held_by, hand_of}
+use Rattle.nvme_ctrl.specs.kept.Standing.{Holds, IsInHand, times_held, held_upto, hand_of}
 use Rattle.nvme_ctrl.specs.inside.Steps.{done}
 use Rattle.nvme_ctrl.specs.kept.Kept.{Item, Items, IsWaitingIn, HasNumbers, HasItems, HoldsTags, HasEntry, places_of, candidate_of, untaken}
 use Rattle.nvme_ctrl.specs.kept.State.{sq_at, attachment_of, picked_in}
@@ -24,6 +24,7 @@ use Rattle.nvme_ctrl.proofs.OwnStatus.{All-unmap, IsAnswerable, ready_is_answera
 use Rattle.nvme_ctrl.proofs.ReadyHand.{All-taken, times_held-append}
 use Rattle.nvme_ctrl.proofs.Standing.{holds-answer}
 use Rattle.nvme_ctrl.proofs.SlotItems.{All-both, All-parts}
+use Rattle.nvme_admin.specs.declared.bounds.TheConstants.{MAX_REGIONS}
 
 -- ---- other places
 -- a place is another than this one
@@ -118,7 +119,7 @@ module _ (rules : FrontRules) (late : Bool) (notes : Notes) (c : Controller) (sl
   -- those in hand
   others_in_hand : All (λ (y : Item). IsOther it.place.region it.place.index y.place) (before ++ behind)
   others_in_hand =
-      let held = times_held-append it.place.region it.place.index (places_of before ++ places_of behind) (held_by k.deletion) in
+      let held = times_held-append it.place.region it.place.index (places_of before ++ places_of behind) (held_upto k.deletion MAX_REGIONS) in
       All-unmap (IsOther it.place.region it.place.index) (λ (y : Item). y.place) (before ++ behind)
       (All-same (IsOther it.place.region it.place.index) (places_of (before ++ behind)) (places_of before ++ places_of behind) (map-append (λ (y : Item). y.place) before behind)
       (none_held it.place.region it.place.index (places_of before ++ places_of behind) (omega (arith, held, answerable.not_held))))

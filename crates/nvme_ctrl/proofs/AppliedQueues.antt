@@ -1,6 +1,6 @@
 -- What the table, the board and the log say of the queue that an applied admin command is about.
 use Rattle.std.proofs.Common.{◌≡◌, ℕ, ◌<◌, ◌≤◌, Bool, true, false, if◌then◌else◌, List, [], length, Option, Some, None, refl, sym, ap, subst, ◌∙◌, arith}
-use Rattle.std.specs.Prelude.{option_map, IsSomeAnd}
+use Rattle.std.specs.Prelude.{option_map, IsSomeAnd, not}
 use Rattle.std.proofs.lemmas.List.{get_or-set_other}
 use Rattle.nvme_arbiter.specs.Limits.{highest_qid}
 use Rattle.nvme_arbiter.specs.Queues.{queue_at, fewer}
@@ -22,13 +22,14 @@ use Rattle.nvme_log.specs.Laws.{as_open}
 use Rattle.nvme_ctrl.specs.Notes.{Notes, logged}
 use Rattle.nvme_ctrl.specs.declared.slot.Slot.{Slot}
 use Rattle.nvme_ctrl.specs.declared.state.Controller.{Controller}
-use Rattle.nvme_ctrl.specs.kept.Content.{Content, PendingDelete, Attachment}
+use Rattle.nvme_ctrl.specs.kept.Content.{Content, Attachment}
 use Rattle.nvme_ctrl.specs.kept.Standing.{IsAttached, on_board}
 use Rattle.nvme_ctrl.specs.inside.Steps.{picked_sq, applied_to}
 use Rattle.nvme_ctrl.specs.inside.Carrying.{IsApplied}
 use Rattle.nvme_ctrl.proofs.AdminPick.{other_region}
 use Rattle.nvme_ctrl.proofs.QueueWords.{at_same, at_other}
 use Rattle.nvme_ctrl.proofs.QueueVerdicts.{few_queues}
+use Rattle.nvme_admin.specs.Checks.{is_open}
 
 -- a queue of the table, as an open queue of the log
 abbrev pub queue_of : SqEntry → Queue
@@ -39,14 +40,15 @@ queue_of e = record { region = e.region; cqid = e.cqid; class = e.class }
 pub record IsOpenEntry (o : Option SqEntry) (queue : Queue) : Type 0 where
   pub entry : SqEntry
   pub there : o ≡ Some entry
+  pub not_closing : entry.closing ≡ false
   pub region : entry.region ≡ queue.region
 
 pub open_entry : (o : Option SqEntry) (queue : Queue) → as_open o ≡ Some queue → IsOpenEntry o queue
 open_entry None queue h = absurd (cc h)
-open_entry (Some x) queue h = by x.closing h where
-  by : (b : Bool) → (if b then None else Some (queue_of x)) ≡ Some queue → IsOpenEntry (Some x) queue
-  by true e = absurd (cc e)
-  by false e = record { entry = x; there = refl; region = (let same : queue_of x ≡ queue = cc in ap (λ (q : Queue). q.region) same) }
+open_entry (Some x) queue h = by x.closing refl h where
+  by : (b : Bool) → x.closing ≡ b → (if b then None else Some (queue_of x)) ≡ Some queue → IsOpenEntry (Some x) queue
+  by true closes e = absurd (cc e)
+  by false closes e = record { entry = x; there = refl; not_closing = closes; region = (let same : queue_of x ≡ queue = cc in ap (λ (q : Queue). q.region) same) }
 
 -- a queue with a region, of those that are there
 pub record IsOn (o : Option SqEntry) (region : ℕ) : Type 0 where
@@ -74,16 +76,6 @@ module _ (rules : FrontRules) (late : Bool) (notes : Notes) (a : Controller) (sl
   -- the queues of the log before the command are those of the table then
   pub sqs_before : (q : ℕ) → open_sq (logged notes) q ≡ as_open (sq_at rules.start h.holds.tabled.history q)
   sqs_before q = h.holds.queues.sqs q ∙ ap as_open (h.holds.tabled.stands.sq q)
-
-  -- no queue is closing in the table before it
-  pub none_closing : (q : ℕ) (e : SqEntry) → sq_of h.before.table q ≡ Some e → e.closing ≡ false
-  none_closing q e is = by e.closing refl where
-    by : (b : Bool) → e.closing ≡ b → b ≡ false
-    by false closes = refl
-    by true closes =
-        let pending = h.holds.deletion.closing_is q e is closes in
-        let none : option_map (λ (d : PendingDelete). d.qid) h.before.deletion ≡ None = ap (option_map (λ (d : PendingDelete). d.qid)) h.can_pick.none_pending in
-        absurd (cc (pending, none))
 
   -- a region is one of the controller's
   pub region_there : (r : ℕ) (x : Attachment) → (h.before.sq r).queue ≡ Some x → (r < 65) × (x.cq_region < 65)
@@ -171,6 +163,15 @@ module _ (rules : FrontRules) (late : Bool) (notes : Notes) (a : Controller) (sl
   pub begins_before : IsOn (sq_of h.before.table qid) region
   begins_before = is_on (sq_of h.before.table qid) region h.names
 
+  -- which wasn't closing
+  begins_not_closing : begins_before.entry.closing ≡ false
+  begins_not_closing =
+      let is : is_open (Some begins_before.entry) ≡ true = ap (λ (o : Option SqEntry). is_open o) (sym begins_before.is ∙ h.holds.tabled.stands.sq qid) ∙ may_begin.open_sq in
+      by begins_before.entry.closing is where
+        by : (b : Bool) → not b ≡ true → b ≡ false
+        by true lost = cc lost
+        by false was = refl
+
   -- it was open, on the region
   abbrev pub begins_queue : Queue
   begins_queue = record (queue_of begins_before.entry) { region = region }
@@ -178,7 +179,7 @@ module _ (rules : FrontRules) (late : Bool) (notes : Notes) (a : Controller) (sl
   pub begins_open : open_sq (logged notes) qid ≡ Some begins_queue
   begins_open =
       h.holds.queues.sqs qid ∙ ap as_open begins_before.is
-      ∙ ap (λ (b : Bool). if b then None else Some (queue_of begins_before.entry)) (none_closing rules late notes a slots tag (effect.BeginDelete qid region) h qid begins_before.entry begins_before.is)
+      ∙ ap (λ (b : Bool). if b then None else Some (queue_of begins_before.entry)) begins_not_closing
       ∙ ap (λ (r : ℕ). Some (record (queue_of begins_before.entry) { region = r })) begins_before.on
 
 -- ---- an Abort command
@@ -192,7 +193,5 @@ module _ (rules : FrontRules) (late : Bool) (notes : Notes) (a : Controller) (sl
   pub aborts_is : open_sq (logged notes) sqid ≡ as_open (sq_of h.table sqid)
   aborts_is = h.holds.queues.sqs sqid ∙ ap as_open aborts_before
 
-  pub aborts_open : (e : SqEntry) → sq_of h.table sqid ≡ Some e → open_sq (logged notes) sqid ≡ Some (queue_of e)
-  aborts_open e is =
-      aborts_is ∙ ap as_open is
-      ∙ ap (λ (b : Bool). if b then None else Some (queue_of e)) (none_closing rules late notes a slots tag (effect.Abort sqid cid) h sqid e (aborts_before ∙ is))
+  pub aborts_open : (e : SqEntry) → sq_of h.table sqid ≡ Some e → e.closing ≡ false → open_sq (logged notes) sqid ≡ Some (queue_of e)
+  aborts_open e is not_closing = aborts_is ∙ ap as_open is ∙ ap (λ (b : Bool). if b then None else Some (queue_of e)) not_closing

@@ -46,7 +46,7 @@ held_account = record {
       (
         record { index_counts = tt; served_while_open = tt; observed = tt; effects_at_once = (Abort 1 1 ∷ Abort 1 2 ∷ [], refl); deletes = refl; posts_own = tt; leaves_places = refl; fetches_submitted = tt; posts_on_free_slot = tt; posts_what_is_through = tt },
         (
-          record { index_counts = tt; served_while_open = tt; observed = tt; effects_at_once = (Abort 1 0 ∷ Abort 1 1 ∷ Abort 1 2 ∷ [], refl); deletes = tt; posts_own = tt; leaves_places = tt; fetches_submitted = tt; posts_on_free_slot = tt; posts_what_is_through = tt },
+          record { index_counts = tt; served_while_open = tt; observed = tt; effects_at_once = (Abort 1 0 ∷ Abort 1 1 ∷ Abort 1 2 ∷ [], refl); deletes = (refl, refl); posts_own = tt; leaves_places = tt; fetches_submitted = tt; posts_on_free_slot = tt; posts_what_is_through = tt },
           (
             record { index_counts = tt; served_while_open = refl; observed = refl; effects_at_once = refl; deletes = refl; posts_own = tt; leaves_places = refl; fetches_submitted = tt; posts_on_free_slot = tt; posts_what_is_through = tt },
             (record { queue = record { region = 1; cqid = 1; class = Urgent }; is_open = refl }, each_of_reads),

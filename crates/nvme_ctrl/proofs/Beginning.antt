@@ -1,5 +1,5 @@
 -- What a controller with its admin regions alone keeps holds at the empty log.
-use Rattle.std.proofs.Common.{◌≡◌, ℕ, zero, suc, ◌+◌, ◌<◌, ◌==◌, ◌||◌, ◌&&◌, nat_lt, Bool, true, false, not, if◌then◌else◌, List, [], ◌∷◌, length, replicate, Option, Some, None, refl, sym, ap, ◌∙◌, subst, arith, inl, inr, option_map, eqb-true, ne_eqb, get_or-set_same, get_or-set_other}
+use Rattle.std.proofs.Common.{◌≡◌, ℕ, zero, suc, ◌+◌, ◌<◌, ◌==◌, ◌||◌, ◌&&◌, nat_lt, Bool, true, false, not, if◌then◌else◌, List, [], ◌∷◌, length, replicate, Option, Some, None, refl, sym, ap, ◌∙◌, subst, arith, inl, inr, option_map, eqb-true, ne_eqb, get_or-set_same, get_or-set_other, ◌++◌}
 use Rattle.std.specs.Prelude.{slice_set, get_or}
 use Rattle.std.proofs.lemmas.Bool.{cases_Bool, cases_eq, cases_lt, or_parts, le-ltb}
 use Rattle.std.proofs.lemmas.List.{get_or-replicate, get_or_past, length-replicate, length-set}
@@ -17,15 +17,15 @@ use Rattle.nvme_admin.specs.Standing.{TableView, StandsAt, sq_of, cq_of, used_at
 use Rattle.nvme_admin.specs.declared.bounds.TheConstants.{MAX_REGIONS}
 use Rattle.nvme_admin.specs.declared.limits.Limits.{Limits}
 use Rattle.nvme_admin.specs.declared.region.Region.{Region}
-use Rattle.nvme_admin.specs.declared.verdict.SqEntry.{SqEntry}
 use Rattle.nvme_log.specs.Rules.{FrontRules, upto, sq_regions_of, cq_regions_of, slots_at}
 use Rattle.nvme_log.specs.Queues.{Queue, admin_queue}
 use Rattle.nvme_log.specs.Places.{entry_at, fate_of, is_waiting, one_if}
 use Rattle.nvme_log.specs.Laws.{as_open}
 use Rattle.nvme_ctrl.specs.Making.{first_rules, first_regions}
 use Rattle.nvme_ctrl.specs.kept.Content.{Candidate, Attachment, Content}
-use Rattle.nvme_ctrl.specs.kept.Standing.{HoldsSq, HoldsReady, HoldsCounts, HoldsQueues, HoldsDeletion, HoldsTable, HasOwnStatus, IsReady, IsInHand, Holds, over_regions, on_board, first_queue}
+use Rattle.nvme_ctrl.specs.kept.Standing.{HoldsSq, HoldsReady, HoldsCounts, HoldsQueues, HoldsDeletion, HoldsTable, HasOwnStatus, IsReady, IsInHand, Holds, over_regions, on_board, first_queue, hand_of, held_upto, times_held}
 use Rattle.nvme_ctrl.proofs.Readying.{sum_by-none}
+use Rattle.nvme_log.specs.declared.place.Place.{Place}
 
 -- a sum over completion regions of which none has something
 over_regions-none : (n : ℕ) → over_regions (λ (c : ℕ). 0) n ≡ 0
@@ -75,7 +75,7 @@ first_content rules board table = record {
   board = board;
   table = table;
   outstanding = 0;
-  deletion = None;
+  deletion = λ (r : ℕ). None;
   hand = [];
   held = λ r. false;
   classed = λ r. None;
@@ -147,13 +147,18 @@ module _ (mechanism : Mechanism) (settings : ArbitrationFields) (limits : Limits
     none_posted = λ i le. refl;
   }
 
+  -- and none is in hand
+  none_held : (n : ℕ) → held_upto (λ r. None) n ≡ []
+  unfolding held_upto
+  none_held zero = refl
+  none_held (suc n) = ap (λ (ps : List Place). ps ++ []) (none_held n)
+
   -- nothing is ready
-  first_ready : HoldsReady [] k []
+  first_ready : HoldsReady [] k (hand_of k)
   first_ready = record {
-    once = λ r i. (λ j. over_regions-none MAX_REGIONS j + 0 + 0) ∙ sym (none_served i (not (is_waiting (fate_of [] r i))));
-    each = λ c. All-nil (IsReady [] None c);
-    taken = (λ j. over_regions-none MAX_REGIONS j + 0);
-    few_aborted = rw (over_regions-none MAX_REGIONS) (omega arith);
+    once = λ r i. (λ j. over_regions-none MAX_REGIONS j + 0 + times_held r i (none_held MAX_REGIONS j)) ∙ sym (none_served i (not (is_waiting (fate_of [] r i))));
+    each = λ c. All-nil (IsReady [] (λ r. None) c);
+    taken = (λ j. over_regions-none MAX_REGIONS j + length (none_held MAX_REGIONS j));
     few_taken = omega arith;
     none_beyond = λ c le. refl;
     admin_qid = refl;
@@ -194,20 +199,15 @@ module _ (mechanism : Mechanism) (settings : ArbitrationFields) (limits : Limits
         (λ j. if other j then Some first_attachment else None);
     unopened = λ r h. record { nothing_got = refl; not_closed = refl };
     gone = λ r h. cc;
-    deleting = λ d h. cc;
+    deleting = λ r d h. cc;
     closed = λ q r queue h. cc;
   }
 
   -- no deletion is pending
   first_deletion : HoldsDeletion [] k
   first_deletion = record {
-    pending_is = refl;
-    place_is = refl;
-    stands = λ d h. cc;
-    closing_is = λ q e there closes.
-        let same : admin_entry ≡ e = (only_zero q admin_entry e (sym (table_sq q) ∙ there)).1 in
-        let was_open : false ≡ true = ap (λ (x : SqEntry). x.closing) same ∙ closes in
-        cc;
+    place_is = λ r. refl;
+    stands = λ r d h. cc;
   }
 
   -- the table stands at the regions
@@ -240,5 +240,5 @@ module _ (mechanism : Mechanism) (settings : ArbitrationFields) (limits : Limits
     deletion = first_deletion;
     arbitration = record { stands = stands; lawful = tt };
     tabled = first_tabled;
-    own = λ on_time. record { effects_whole = refl; own_statuses = λ c. All-nil (HasOwnStatus rules []); own_deletion = λ d h. cc };
+    own = λ on_time. record { effects_whole = refl; own_statuses = λ c. All-nil (HasOwnStatus rules []); own_deletion = λ r d h. cc };
   }

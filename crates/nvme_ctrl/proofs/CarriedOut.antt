@@ -1,7 +1,7 @@
 -- An admin command was carried out: the controller stands at the notes of its pick, of what it makes, and of its answer.
 use Rattle.nvme_ctrl.specs.Account.{PostsOwn}
 use Rattle.std.proofs.Common.{◌≡◌, ℕ, suc, ◌<◌, ◌==◌, ◌&&◌, Bool, true, false, if◌then◌else◌, List, [], ◌∷◌, ◌++◌, length, map, drop, Some, None, refl, sym, ap, ◌∙◌, subst, arith, inl, inr}
-use Rattle.std.specs.Prelude.{slice_get, option_map, nat_lt, All}
+use Rattle.std.specs.Prelude.{slice_get, nat_lt, All}
 use Rattle.std.specs.List.{AllPairs}
 use Rattle.std.proofs.lemmas.Bool.{cases_eq, ne_eqb, and_parts, false_from_ne_true, eqb-true}
 use Rattle.std.proofs.lemmas.List.Elements.{All-head, All-tail, All-same, All-weaker}
@@ -26,7 +26,7 @@ use Rattle.nvme_log.specs.Rules.{FrontRules, Past}
 use Rattle.nvme_log.specs.Places.{fetched, is_aborted, fate_of, is_waiting, is_picked, unaborted_below, picked, waiting, WasAborted, WasPicked, Waits}
 use Rattle.nvme_log.specs.Answers.{Answer}
 use Rattle.nvme_log.specs.Effects.{made_by, is_effect}
-use Rattle.nvme_log.specs.Aborts.{is_index}
+use Rattle.nvme_log.specs.Dispatches.{place_at}
 use Rattle.nvme_ctrl.specs.kept.Pool.{slot_at}
 use Rattle.nvme_ctrl.specs.Notes.{Notes, Logged, Answered, EachNote, logged}
 use Rattle.nvme_ctrl.specs.Tags.{answer_of, cookie_of, is_passed, marks_of}
@@ -35,16 +35,18 @@ use Rattle.nvme_ctrl.specs.Observation.{observed_of}
 use Rattle.nvme_ctrl.specs.Steps.{with_logged, picked_notes, IsNextPick, HasCarriedOut}
 use Rattle.nvme_ctrl.specs.declared.slot.Slot.{Slot}
 use Rattle.nvme_ctrl.specs.declared.state.Controller.{Controller}
-use Rattle.nvme_ctrl.specs.kept.Content.{Candidate, Ready, PendingDelete, Content, with_ready}
+use Rattle.nvme_ctrl.specs.kept.Content.{Candidate, Ready, Content, with_ready}
 use Rattle.nvme_ctrl.specs.kept.Standing.{Holds, HasOwnStatus, hand_of, answer_in, HasItsStatus}
 use Rattle.nvme_ctrl.specs.inside.Steps.{applied_to, told}
 use Rattle.nvme_ctrl.specs.inside.Next.{IsNext, EachNext}
-use Rattle.nvme_ctrl.specs.kept.Kept.{Item, Items, IsWaitingIn, candidate_of, untaken, IsDevices, HoldsShown}
+use Rattle.nvme_ctrl.specs.kept.Kept.{Item, Items, IsWaitingIn, candidate_of, untaken, IsDevices, HoldsShown, DeleteItem, deletion_in}
 use Rattle.nvme_ctrl.specs.inside.Loose.{Keeps}
 use Rattle.nvme_ctrl.specs.inside.Carrying.{IsApplied, HasBegun}
 use Rattle.nvme_ctrl.specs.kept.State.{picked_in}
 use Rattle.nvme_ctrl.proofs.Passed.{not_passed, hand_is_devices}
 use Rattle.nvme_ctrl.proofs.AfterSteps.{IsChosen, after_admin, admin_past}
+use Rattle.nvme_ctrl.proofs.DeletedQueues.{deletion_done, unheld_undeleting}
+use Rattle.nvme_ctrl.proofs.PendingDeletions.{deletion_item}
 use Rattle.nvme_ctrl.proofs.Standing.{holds-admin}
 use Rattle.nvme_ctrl.proofs.AdminEvents.{next-admin}
 use Rattle.nvme_ctrl.proofs.AdminPick.{deleted_region, target_region}
@@ -161,15 +163,19 @@ module _ (rules : FrontRules) (late : Bool) (notes : Notes) (a : Controller) (sl
   pub cookie_kept : cookie_of made_notes 0 h.candidate.index ≡ Some (slot_at slots tag).cookie
   cookie_kept = cookie_of-logged made (picked_notes notes h.pick) 0 h.candidate.index ∙ h.cookie
 
+  -- it waited
+  waits_before : is_waiting (fate_of (logged notes) 0 h.candidate.index) ≡ true
+  waits_before =
+      All-head (λ (c : Candidate). is_waiting (fate_of (logged notes) 0 c.index) ≡ true) h.candidate h.rest
+      (All-same (λ (c : Candidate). is_waiting (fate_of (logged notes) 0 c.index) ≡ true) (h.candidate ∷ h.rest) (h.before.sq 0).window (sym h.can_apply.oldest)
+      (candidates_wait (logged notes) 0 (h.before.sq 0) (h.holds.regions 0)))
+
   -- it wasn't passed on
   not_passed_before : is_passed notes h.candidate.index ≡ false
   not_passed_before = by (is_passed notes h.candidate.index) refl where
     by : (b : Bool) → is_passed notes h.candidate.index ≡ b → b ≡ false
     by true e =
-        let waits : is_waiting (fate_of (logged notes) 0 h.candidate.index) ≡ true =
-        All-head (λ (c : Candidate). is_waiting (fate_of (logged notes) 0 c.index) ≡ true) h.candidate h.rest
-        (All-same (λ (c : Candidate). is_waiting (fate_of (logged notes) 0 c.index) ≡ true) (h.candidate ∷ h.rest) (h.before.sq 0).window (sym h.can_apply.oldest)
-        (candidates_wait (logged notes) 0 (h.before.sq 0) (h.holds.regions 0))) in
+        let waits = waits_before in
         let done = h.keeps.tags.passed.served h.candidate.index e in
         absurd (cc (waits, done))
     by false e = refl
@@ -243,10 +249,7 @@ module _ (rules : FrontRules) (late : Bool) (notes : Notes) (a : Controller) (sl
   -- which isn't aborted
   pub unaborted : is_aborted (logged made_notes) 0 h.candidate.index ≡ false
   unaborted =
-      let waits : is_waiting (fate_of (logged notes) 0 h.candidate.index) ≡ true =
-      All-head (λ (c : Candidate). is_waiting (fate_of (logged notes) 0 c.index) ≡ true) h.candidate h.rest
-      (All-same (λ (c : Candidate). is_waiting (fate_of (logged notes) 0 c.index) ≡ true) (h.candidate ∷ h.rest) (h.before.sq 0).window (sym h.can_apply.oldest)
-      (candidates_wait (logged notes) 0 (h.before.sq 0) (h.holds.regions 0))) in
+      let waits = waits_before in
       ap (λ (p : Past). is_aborted p 0 h.candidate.index) logged_is
       ∙ made_leave_region (logged notes) (event.Pick (observed_of notes) h.pick ∷ logged notes) v 0 h.candidate.index
       (λ qid queue begins is same. deleted_region rules late (logged notes) h.before (observed_of notes) h.pick h.picked h.holds h.can_pick h.of_admin h.candidate qid queue
@@ -298,13 +301,23 @@ module _ (rules : FrontRules) (late : Bool) (notes : Notes) (a : Controller) (sl
       (λ it is. not_passed notes it.place h.candidate.index is not_passed_before) (h.items.outs ++ untaken a h.items)
       (hand_is_devices notes a slots h.items h.keeps.tags))).0
 
+  -- the Delete of a deletion that is pending was picked before
+  deletes_other : (r : ℕ) (it : DeleteItem) → h.items.deletes r ≡ Some it → IsOther h.candidate.index (place_at 0 it.index)
+  deletes_other r it at = false_from_ne_true (0 == 0 && h.candidate.index == it.index) (λ e.
+      let d = deletion_item a.deletions a.pending_deletions slots h.before.deletion h.items.deletes h.keeps.has.deletions r it at in
+      let ended : is_waiting (fate_of (logged notes) 0 it.index) ≡ false = deletion_done rules late (logged notes) h.before h.holds r (deletion_in slots r it) d in
+      let same : h.candidate.index ≡ it.index = eqb-true h.candidate.index it.index e in
+      let here : is_waiting (fate_of (logged notes) 0 h.candidate.index) ≡ false = subst (λ (z : ℕ). is_waiting (fate_of (logged notes) 0 z) ≡ false) (sym same) ended in
+      let waited = waits_before in
+      absurd (cc (here, waited)))
+
   -- the controller keeps the same when it is answered
   pub keeps_told : (answer : Answer) → Keeps rules (Answered 0 h.candidate.index answer ∷ made_notes) a slots applied h.items
-  keeps_told answer = keeps-answered rules made_notes h.candidate.index answer a slots applied h.items unanswered there others outs_other keeps_made
+  keeps_told answer = keeps-answered rules made_notes h.candidate.index answer a slots applied h.items unanswered there others outs_other deletes_other keeps_made
 
   -- ---- it was answered
   module _ (before : Content) (status : StatusCode) (dw0 : ℕ) (c : ℕ) (board : BoardView) (chosen : IsChosen rules (logged notes) h.before c h.picked board v)
-      (is : after_admin (logged notes) applied h.candidate c board v ≡ with_ready before 0 (told h.candidate status dw0)) (none : before.deletion ≡ None) where
+      (is : after_admin (logged notes) applied h.candidate c board v ≡ with_ready before 0 (told h.candidate status dw0)) where
     abbrev t : Ready
     t = told h.candidate status dw0
 
@@ -317,11 +330,13 @@ module _ (rules : FrontRules) (late : Bool) (notes : Notes) (a : Controller) (sl
     own : late ≡ false → HasItsStatus rules (logged made_notes) t
     own on_time = last_of (HasOwnStatus rules (logged made_notes)) (before.cq 0).ready t ((holds_told.own on_time).own_statuses 0) refl
 
+    answerable : IsAnswerable (logged made_notes) (hand_of k) 0 h.candidate.index
+    answerable =
+        last_of (λ (x : Ready). IsAnswerable (logged made_notes) (hand_of k) x.place.region x.place.index) (before.cq 0).ready t
+        (ready_is_answerable (logged made_notes) k (hand_of k) holds_told.ready 0)
+
     done : is_waiting (fate_of (logged made_notes) 0 h.candidate.index) ≡ false
-    done =
-        answerable_is_done (logged made_notes) (hand_of k) 0 h.candidate.index
-        (last_of (λ (x : Ready). IsAnswerable (logged made_notes) (hand_of k) x.place.region x.place.index) (before.cq 0).ready t
-        (ready_is_answerable (logged made_notes) k (hand_of k) holds_told.ready 0))
+    done = answerable_is_done (logged made_notes) (hand_of k) 0 h.candidate.index answerable
 
     carried : late ≡ false → IsCarriedOut rules made_notes h.candidate.index (answer_in t)
     carried on_time =
@@ -331,7 +346,7 @@ module _ (rules : FrontRules) (late : Bool) (notes : Notes) (a : Controller) (sl
           is_there = o.is_there;
           picked = was_picked (logged made_notes) 0 h.candidate.index unaborted done;
           whole = (holds_told.own on_time).effects_whole;
-          finished = ap (is_index h.candidate.index) (holds_told.deletion.place_is ∙ ap (option_map (λ (d : PendingDelete). d.place.index)) none);
+          finished = unheld_undeleting rules late (logged made_notes) k holds_told 0 h.candidate.index answerable.not_held;
           status = o.status;
           dw0 = o.dw0;
         }

@@ -33,6 +33,7 @@ use Rattle.nvme_ctrl.proofs.AfterSteps.{IsChosen, IsAbortChosen, after_admin, wi
 use Rattle.nvme_ctrl.proofs.AppliedQueues.{queue_of, IsOpenEntry, open_entry, region_there, named_region, named_attached, named_on_board, aborts_is, aborts_open}
 use Rattle.nvme_ctrl.proofs.CarriedOut.{applied, logged_is, keeps_told}
 use Rattle.nvme_ctrl.proofs.CarryOut.{KeepsEnd, told_notes, ended_told}
+use Rattle.nvme_ctrl.proofs.DeletedQueues.{open_undeleted}
 use Rattle.nvme_ctrl.proofs.FewUnposted.{few_unposted}
 use Rattle.nvme_ctrl.proofs.Named.{made_abort}
 
@@ -59,9 +60,9 @@ module _ (rules : FrontRules) (late : Bool) (notes : Notes) (a : Controller) (sl
   told = told_notes rules late notes a slots tag did h success 0
 
   -- ---- an open queue of the table
-  module _ (io : sqid ≡ 0 → ⊥) (e : SqEntry) (is : sq_of h.table sqid ≡ Some e) where
+  module _ (io : sqid ≡ 0 → ⊥) (e : SqEntry) (is : sq_of h.table sqid ≡ Some e) (not_closing : e.closing ≡ false) where
     was_open : open_sq (logged notes) sqid ≡ Some (queue_of e)
-    was_open = aborts_open rules late notes a slots tag sqid cid h e is
+    was_open = aborts_open rules late notes a slots tag sqid cid h e is not_closing
 
     left : k.sq e.region ≡ h.before.sq e.region
     left = named_region rules late notes a slots tag did h sqid (queue_of e) was_open io
@@ -90,7 +91,7 @@ module _ (rules : FrontRules) (late : Bool) (notes : Notes) (a : Controller) (sl
     abortable : IsAbortableIn told k sqid cid e
     abortable =
         let there = region_there rules late notes a slots tag did h e.region (record { qid = sqid; cq_region = opened }) attached in
-        let unposted = few_unposted rules late (logged notes) h.before h.holds h.can_pick.none_pending e.region (h.holds.queues.sq_there e.region (record { qid = sqid; cq_region = opened }) attached) in
+        let unposted = few_unposted rules late (logged notes) h.before h.holds e.region (open_undeleted rules late (logged notes) h.before h.holds sqid (queue_of e) was_open) (h.holds.queues.sq_there e.region (record { qid = sqid; cq_region = opened }) attached) in
         let places = h.can_pick.places in
         let same = ap (λ (s : SqContent). s.unposted) left in
         record {
@@ -107,7 +108,7 @@ module _ (rules : FrontRules) (late : Bool) (notes : Notes) (a : Controller) (sl
         }
 
   may_abort : IsAbortable told k sqid cid
-  may_abort e io is = abortable io e is
+  may_abort e io is not_closing = abortable io e is not_closing
 
   pub aborts_may : MayAbort a slots sqid cid
   aborts_may = record {
@@ -127,7 +128,7 @@ module _ (rules : FrontRules) (late : Bool) (notes : Notes) (a : Controller) (sl
       let target = target_open (logged notes) sqid queue is in
       let open_now : IsOpenEntry (sq_of h.table sqid) queue = open_entry (sq_of h.table sqid) queue (sym (aborts_is rules late notes a slots tag sqid cid h) ∙ target.1) in
       let now : oldest_named cid (k.sq queue.region).window ≡ None =
-      subst (λ (r : ℕ). oldest_named cid (k.sq r).window ≡ None) open_now.region (none open_now.entry target.0 open_now.there) in
+      subst (λ (r : ℕ). oldest_named cid (k.sq r).window ≡ None) open_now.region (none open_now.entry target.0 open_now.there open_now.not_closing) in
       (now, subst (λ (s : SqContent). oldest_named cid s.window ≡ None) (named_region rules late notes a slots tag did h sqid queue target.1 target.0) now)
 
   none_after : HasNoneNamed k sqid cid → after_admin (logged notes) k h.candidate 0 h.picked (verdict.Abort sqid cid) ≡ with_ready k 0 (told_abort h.candidate 1)
@@ -142,25 +143,25 @@ module _ (rules : FrontRules) (late : Bool) (notes : Notes) (a : Controller) (sl
   ended_none none b pool end =
       ended_told rules late notes a slots tag did h k success 1 0 h.picked
       (λ queue found is_target is_oldest. let no = sym (none_there none queue is_target).1 ∙ is_oldest in absurd (cc no))
-      (none_after none) h.can_pick.none_pending a slots h.items (keeps_told rules late notes a slots tag did h (record { status = success; dw0 = 1 })) h.loose refl b pool end
+      (none_after none) a slots h.items (keeps_told rules late notes a slots tag did h (record { status = success; dw0 = 1 })) h.loose refl b pool end
 
   -- ---- where one is found
   pub ended_found : (m : Controller) (mid : List Slot) → HasRequested rules told k sqid cid slots tag m mid → (b : Controller) (pool : List Slot) → KeepsEnd m mid tag success 0 b pool
       → HasCarriedOut rules late notes (verdict_in did) b pool
   ended_found m mid t b pool end =
-      ended_told rules late notes a slots tag did h (requesting k sqid t.entry.region t.c cid t.board t.found) success 0 t.c t.board chosen after h.can_pick.none_pending
+      ended_told rules late notes a slots tag did h (requesting k sqid t.entry.region t.c cid t.board t.found) success 0 t.c t.board chosen after
       m mid t.items t.keeps t.loose t.slot b pool end where
         region : k.sq t.entry.region ≡ h.before.sq t.entry.region
-        region = left t.io t.entry t.in_table
+        region = left t.io t.entry t.in_table t.not_closing
 
         after : after_admin (logged notes) k h.candidate t.c t.board (verdict.Abort sqid cid) ≡ with_ready (requesting k sqid t.entry.region t.c cid t.board t.found) 0 (told_abort h.candidate 0)
         after =
-            ap (aborting_from k h.candidate sqid t.c cid t.board) (target t.io t.entry t.in_table)
+            ap (aborting_from k h.candidate sqid t.c cid t.board) (target t.io t.entry t.in_table t.not_closing)
             ∙ ap (aborting_in k h.candidate sqid t.entry.region t.c cid t.board) t.oldest
 
         chosen : IsChosen rules (logged notes) h.before t.c h.picked t.board (verdict.Abort sqid cid)
         chosen queue found is_target is_oldest =
-            subst (λ (q : Queue). IsAbortChosen rules h.before sqid cid t.c h.picked t.board q) (same_Some (queue_of t.entry) queue (sym (target t.io t.entry t.in_table) ∙ is_target)) (record {
+            subst (λ (q : Queue). IsAbortChosen rules h.before sqid cid t.c h.picked t.board q) (same_Some (queue_of t.entry) queue (sym (target t.io t.entry t.in_table t.not_closing) ∙ is_target)) (record {
               attached = ap (λ (s : SqContent). s.queue) (sym region) ∙ t.attached;
               queues = t.queues
                   ∙ ap (λ (s : SqContent). slice_set h.picked.queues sqid (Some (counted_on h.before (queue_of t.entry) (length (without_oldest cid s.window))))) region;

@@ -1,5 +1,5 @@
 -- The effect of each admin command, carried out.
-use Rattle.std.proofs.Common.{◌≡◌, ℕ, ◌<◌, Bool, List, ◌∷◌, Some, None, refl, sym, ap, ◌∙◌, subst, arith, inr, eq-eqb}
+use Rattle.std.proofs.Common.{◌≡◌, ℕ, ◌<◌, Bool, List, ◌∷◌, Some, refl, sym, ap, ◌∙◌, subst, arith, inr, eq-eqb}
 use Rattle.nvme_arbiter.specs.Settings.{ArbitrationFields}
 use Rattle.nvme_arbiter.specs.History.{History, Changed}
 use Rattle.nvme_arbiter.specs.Board.{BoardView, BoardStandsAt}
@@ -40,11 +40,11 @@ module _ (rules : FrontRules) (late : Bool) (notes : Notes) (a : Controller) (sl
 
   -- it was answered, after something was done before
   pub ended_told : (before : Content) (status : StatusCode) (dw0 c : ℕ) (board : BoardView) → IsChosen rules (logged notes) h.before c h.picked board (verdict_in did)
-      → after_admin (logged notes) (applied rules late notes a slots tag did h) h.candidate c board (verdict_in did) ≡ with_ready before 0 (told h.candidate status dw0) → before.deletion ≡ None
+      → after_admin (logged notes) (applied rules late notes a slots tag did h) h.candidate c board (verdict_in did) ≡ with_ready before 0 (told h.candidate status dw0)
       → (m : Controller) (mid : List Slot) (g : Items) → Keeps rules (told_notes status dw0) m mid before g → IsLoose mid g tag → item_at mid tag ≡ item_at slots tag
       → (b : Controller) (pool : List Slot) → KeepsEnd m mid tag status dw0 b pool → HasCarriedOut rules late notes (verdict_in did) b pool
-  ended_told before status dw0 c board chosen is none m mid g keeps loose slot b pool end =
-      carried_told rules late notes a slots tag did h before status dw0 c board chosen is none b pool (with_item g 0 (ended tag (told h.candidate status dw0)))
+  ended_told before status dw0 c board chosen is m mid g keeps loose slot b pool end =
+      carried_told rules late notes a slots tag did h before status dw0 c board chosen is b pool (with_item g 0 (ended tag (told h.candidate status dw0)))
       (end rules (told_notes status dw0) before g (told h.candidate status dw0) keeps loose (record {
         state_is = refl;
         region = ap (λ (s : Slot). s.region) slot ∙ h.region;
@@ -59,7 +59,7 @@ module _ (rules : FrontRules) (late : Bool) (notes : Notes) (a : Controller) (sl
       → after_admin (logged notes) (applied rules late notes a slots tag did h) h.candidate 0 h.picked (verdict_in did) ≡ with_ready (applied rules late notes a slots tag did h) 0 (told h.candidate status dw0)
       → (b : Controller) (pool : List Slot) → KeepsEnd a slots tag status dw0 b pool → HasCarriedOut rules late notes (verdict_in did) b pool
   ended_plain status dw0 chosen is b pool end =
-      ended_told (applied rules late notes a slots tag did h) status dw0 0 h.picked chosen is h.can_pick.none_pending a slots h.items
+      ended_told (applied rules late notes a slots tag did h) status dw0 0 h.picked chosen is a slots h.items
       (keeps_told rules late notes a slots tag did h (record { status = status; dw0 = dw0 })) h.loose refl b pool end
 
 -- a submission queue was opened
@@ -71,7 +71,7 @@ ended_opened rules late notes a slots tag qid region cqid cq_region class h m b 
     let did : Effect = effect.OpenSq qid region cqid cq_region class in
     let k : Content = applied rules late notes a slots tag did h in
     ended_told rules late notes a slots tag did h (opening k qid region cq_region class) success 0 cq_region h.picked
-    (opens_for rules late notes a slots tag qid region cqid cq_region class h) refl h.can_pick.none_pending m slots h.items
+    (opens_for rules late notes a slots tag qid region cqid cq_region class h) refl m slots h.items
     (opened rules (told_notes rules late notes a slots tag did h success 0) slots k h.items (keeps_told rules late notes a slots tag did h (record { status = success; dw0 = 0 })) h.none_picked
     (opens_there rules late notes a slots tag qid region cqid cq_region class h)) h.loose refl b pool end
 
@@ -88,7 +88,7 @@ ended_set rules late notes a slots tag settings h m b pool set queues stands end
     ended_told rules late notes a slots tag did h (record k { board = board_of m.board }) success 0 0 (board_of m.board) (
       queues ∙ ap (λ (v : BoardView). v.queues) h.keeps.numbers.board_is,
       λ past s. stands rules.mechanism rules.start.settings past (subst (λ (v : BoardView). BoardStandsAt rules.mechanism rules.start.settings past v) (sym h.keeps.numbers.board_is) s),
-    ) refl h.can_pick.none_pending m slots h.items
+    ) refl m slots h.items
     (set rules (told_notes rules late notes a slots tag did h success 0) slots k h.items (keeps_told rules late notes a slots tag did h (record { status = success; dw0 = 0 }))) h.loose refl b pool end
 
 -- ---- as it was carried out

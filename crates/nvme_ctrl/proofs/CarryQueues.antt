@@ -1,5 +1,6 @@
 -- The beginning of a deletion, carried out.
 use Rattle.nvme_ctrl.proofs.OpenQueues.{io_region}
+use Rattle.nvme_ctrl.proofs.DeletedQueues.{open_undeleted}
 use Rattle.std.proofs.lemmas.Bool.{ne_eqb}
 use Rattle.std.proofs.Common.{◌≡◌, ℕ, ◌+◌, ◌<◌, ◌^◌, Bool, true, List, ◌∷◌, length, map, Some, None, refl, sym, ap, ◌∙◌, subst, arith, false}
 use Rattle.std.specs.Prelude.{IsSome, All}
@@ -84,13 +85,17 @@ module _ (rules : FrontRules) (late : Bool) (notes : Notes) (a : Controller) (sl
       (All-same (λ (i : ℕ). is_aborted (logged now) region i ≡ true) (map (λ (c : Candidate). c.index) (k.sq region).window) (waiting (logged notes) region) are
       (subst (λ (p : Past). All (λ (i : ℕ). is_aborted p region i ≡ true) (waiting (logged notes) region)) (sym made) (aborts_all region (waiting (logged notes) region) closing)))
 
+  -- it isn't being deleted yet
+  undeleted : h.before.deletion region ≡ None
+  undeleted = open_undeleted rules late (logged notes) h.before h.holds qid (begins_queue rules late notes a slots tag qid region h) is_open
+
   droppable : IsDroppable now k qid region opened
-  droppable = record { there = there.0; posts_there = there.1; attached = ap (λ (s : SqContent). s.queue) left ∙ attached; are_aborted = all_aborted; io = ne_eqb region 0 (io_region rules late (logged notes) h.before h.holds region qid opened attached io) }
+  droppable = record { there = there.0; posts_there = there.1; attached = ap (λ (s : SqContent). s.queue) left ∙ attached; are_aborted = all_aborted; io = ne_eqb region 0 (io_region rules late (logged notes) h.before h.holds region qid opened attached io); undeleted = undeleted }
 
   -- few are unposted
   few : (k.sq region).unposted + length (k.sq region).window < 2 ^ 16
   few =
-      let unposted = few_unposted rules late (logged notes) h.before h.holds h.can_pick.none_pending region (h.holds.queues.sq_there region (record { qid = qid; cq_region = opened }) attached) in
+      let unposted = few_unposted rules late (logged notes) h.before h.holds region undeleted (h.holds.queues.sq_there region (record { qid = qid; cq_region = opened }) attached) in
       let waits = (h.holds.regions region).few_waiting in
       let places = h.can_pick.places in
       let same = ap (λ (s : SqContent). s.unposted) left in
@@ -100,7 +105,7 @@ module _ (rules : FrontRules) (late : Bool) (notes : Notes) (a : Controller) (sl
   -- it began
   pub ended_begun : (b : Controller) (pool : List Slot)
       → ((rules : FrontRules) (notes : Notes) (k : Content) (g : Items) (c : ℕ) (candidate : Candidate) → Keeps rules notes a slots k g → a.picked ≡ 0 → IsLoose slots g tag
-      → (slot_at slots tag).entry ≡ candidate.entry → answer_of notes 0 candidate.index ≡ None → IsCookie notes slots tag (place_at 0 candidate.index) → is_passed notes candidate.index ≡ false → IsDroppable notes k qid region c → (k.sq region).unposted + length (k.sq region).window < 2 ^ 16
+      → (slot_at slots tag).entry ≡ candidate.entry → (slot_at slots tag).region ≡ 0 → answer_of notes 0 candidate.index ≡ None → IsCookie notes slots tag (place_at 0 candidate.index) → is_passed notes candidate.index ≡ false → IsDroppable notes k qid region c → (k.sq region).unposted + length (k.sq region).window < 2 ^ 16
       → HasBegun rules notes (deleting k qid region c candidate) b pool)
       → HasCarriedOut rules late notes (verdict_in did) b pool
   ended_begun b pool begun =
@@ -109,4 +114,4 @@ module _ (rules : FrontRules) (late : Bool) (notes : Notes) (a : Controller) (sl
       subst (λ (q : Queue). (h.before.sq q.region).queue ≡ Some (record { qid = qid; cq_region = opened }))
       (same_Some (begins_queue rules late notes a slots tag qid region h) queue (sym is_open ∙ open_too)) attached)
       (deleting k qid region opened h.candidate) (ap (deleting_from k qid opened h.candidate) is_open) b pool
-      (begun rules now k h.items opened h.candidate (keeps_made rules late notes a slots tag did h) h.none_picked h.loose h.entry (unanswered rules late notes a slots tag did h) (cookie_kept rules late notes a slots tag did h) (not_passed_on rules late notes a slots tag did h) droppable few)
+      (begun rules now k h.items opened h.candidate (keeps_made rules late notes a slots tag did h) h.none_picked h.loose h.entry h.region (unanswered rules late notes a slots tag did h) (cookie_kept rules late notes a slots tag did h) (not_passed_on rules late notes a slots tag did h) droppable few)

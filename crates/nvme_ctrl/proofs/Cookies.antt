@@ -10,8 +10,6 @@ use Rattle.nvme_log.specs.declared.place.Place.{Place}
 use Rattle.nvme_ctrl.specs.Notes.{Notes, logged}
 use Rattle.nvme_ctrl.specs.Tags.{cookie_of}
 use Rattle.nvme_ctrl.specs.declared.slot.Slot.{Slot}
-use Rattle.nvme_ctrl.specs.declared.state.Controller.{Controller}
-use Rattle.nvme_ctrl.specs.declared.state.Deletion.{Deletion}
 use Rattle.nvme_ctrl.specs.kept.Kept.{Item, ReadyItem, Items, IsCookie, HasCookie, HasReadyCookie, HoldsCookies}
 use Rattle.nvme_ctrl.specs.kept.Pool.{slot_at, item_at, SameItems}
 
@@ -41,24 +39,13 @@ module _ (notes : Notes) (slots pool : List Slot) (same : SameCookies slots pool
   pub readies_left : (ys : List ReadyItem) → All (HasReadyCookie notes slots) ys → All (HasReadyCookie notes pool) ys
   readies_left ys = All-weaker (HasReadyCookie notes slots) (HasReadyCookie notes pool) (λ y. cookie_left y.tag y.ready.place) ys
 
-  -- the commands are the same
-  pub cookies_left : (c b : Controller) (g : Items) → b.deletion ≡ c.deletion → HoldsCookies notes c slots g → HoldsCookies notes b pool g
-  cookies_left c b g left h = record {
-    windows = λ r. items_left (g.windows r) (h.windows r);
-    outs = items_left g.outs h.outs;
-    readies = λ x. readies_left (g.readies x) (h.readies x);
-    deletion = subst (λ (d : Deletion). d.pending ≢ 0 → IsCookie notes pool d.tag (place_at 0 g.delete_index)) (sym left)
-        (λ some. cookie_left c.deletion.tag (place_at 0 g.delete_index) (h.deletion some));
-    none = h.none;
-  }
-
 -- other notes, which keep the same and fetch nothing
-pub cookies_later : (notes later : Notes) (c : Controller) (slots : List Slot) (g : Items) → ((r i : ℕ) → cookie_of later r i ≡ cookie_of notes r i)
-    → ((r : ℕ) → fetched (logged later) r ≡ fetched (logged notes) r) → HoldsCookies notes c slots g → HoldsCookies later c slots g
-cookies_later notes later c slots g same fetches h = record {
+pub cookies_later : (notes later : Notes) (slots : List Slot) (g : Items) → ((r i : ℕ) → cookie_of later r i ≡ cookie_of notes r i)
+    → ((r : ℕ) → fetched (logged later) r ≡ fetched (logged notes) r) → HoldsCookies notes slots g → HoldsCookies later slots g
+cookies_later notes later slots g same fetches h = record {
   windows = λ r. All-weaker (HasCookie notes slots) (HasCookie later slots) (λ it is. same it.place.region it.place.index ∙ is) (g.windows r) (h.windows r);
   outs = All-weaker (HasCookie notes slots) (HasCookie later slots) (λ it is. same it.place.region it.place.index ∙ is) g.outs h.outs;
   readies = λ x. All-weaker (HasReadyCookie notes slots) (HasReadyCookie later slots) (λ y is. same y.ready.place.region y.ready.place.index ∙ is) (g.readies x) (h.readies x);
-  deletion = λ some. same 0 g.delete_index ∙ h.deletion some;
+  deletes = λ r it is. same 0 it.index ∙ h.deletes r it is;
   none = λ r i past. same r i ∙ h.none r i (subst (λ (xs : List Sqe). length xs ≤ i) (fetches r) past);
 }

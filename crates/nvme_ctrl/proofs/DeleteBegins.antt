@@ -3,6 +3,7 @@ use Rattle.std.proofs.Common.{◌≡◌, ◌≢◌, ℕ, ◌+◌, ◌<◌, ◌�
 use Rattle.std.specs.Prelude.{slice_set, IsTrue, min}
 use Rattle.std.proofs.lemmas.Bool.{cases_eq}
 use Rattle.std.proofs.lemmas.List.{length-map}
+use Rattle.std.proofs.lemmas.Option.{same_Some}
 use Rattle.nvme_arbiter.specs.Board.{BoardView}
 use Rattle.nvme_arbiter.specs.Layout.{is_arbiter, board_of}
 use Rattle.nvme_arbiter.specs.declared.board_fields.BoardFields.{BoardFields}
@@ -15,15 +16,16 @@ use Rattle.nvme_ctrl.specs.Tags.{answer_of, holder, all_posts, is_passed}
 use Rattle.nvme_ctrl.specs.declared.slot.Slot.{Slot}
 use Rattle.nvme_ctrl.specs.declared.state.SqState.{SqState}
 use Rattle.nvme_ctrl.specs.declared.state.Controller.{Controller}
-use Rattle.nvme_ctrl.specs.kept.Content.{Candidate, SqContent, Content, put_sq, put_cq, with_sq}
+use Rattle.nvme_ctrl.specs.kept.Content.{Candidate, PendingDelete, SqContent, Content, put_sq, put_cq, put_deletion, with_sq}
 use Rattle.nvme_ctrl.specs.inside.Steps.{aborted}
-use Rattle.nvme_ctrl.specs.kept.Kept.{Item, ReadyItem, Items, IsWaitingIn, IsOutIn, IsReadyIn, IsCookie, HoldsCookies, HasItems, HoldsTags, candidate_of, is_free}
+use Rattle.nvme_ctrl.specs.kept.Kept.{Item, ReadyItem, DeleteItem, Items, deletion_in, put_delete, HasDeletions, IsUnanswered, IsWaitingIn, IsOutIn, IsReadyIn, IsCookie, HoldsCookies, HasItems, HoldsTags, candidate_of, is_free}
 use Rattle.nvme_ctrl.specs.inside.Loose.{IsLoose, Keeps}
 use Rattle.nvme_ctrl.specs.inside.Carrying.{IsDroppable, dropped, HasDropped, deleting, HasBegun}
 use Rattle.nvme_ctrl.specs.kept.Pool.{slot_at, item_at, put_item}
 use Rattle.nvme_ctrl.specs.kept.State.{sq_at}
 use Rattle.nvme_ctrl.proofs.CarriedOut.{none_picked_in}
 use Rattle.nvme_ctrl.proofs.Cookies.{SameCookies, same_cookies-but, cookie_left, items_left, readies_left}
+use Rattle.nvme_ctrl.proofs.PendingDeletions.{Here, Elsewhere, is_put, deletions_stay, none_deletes, deletions_begun}
 use Rattle.nvme_ctrl.proofs.Dropping.{put_sq-twice, window_length}
 use Rattle.nvme_ctrl.proofs.OwnStatus.{All-unmap}
 use Rattle.nvme_ctrl.proofs.Pools.{length-put_item, slot_at-put_item_same, item_at-put_item_other, chain-put_item}
@@ -34,7 +36,8 @@ use Rattle.nvme_ctrl.proofs.Windowed.{keeps_region, keeps_board}
 -- what is kept, where a slot that is in no list has the command of the deletion
 module _ (rules : FrontRules) (notes : Notes) (a : Controller) (slots : List Slot) (k : Content) (g : Items) (h : Keeps rules notes a slots k g) (tag qid region : ℕ) (loose : IsLoose slots g tag)
     (candidate : Candidate) (entry : (slot_at slots tag).entry ≡ candidate.entry) (unanswered : answer_of notes 0 candidate.index ≡ None)
-    (cookie : IsCookie notes slots tag (place_at 0 candidate.index)) (not_passed_on : is_passed notes candidate.index ≡ false) where
+    (cookie : IsCookie notes slots tag (place_at 0 candidate.index)) (not_passed_on : is_passed notes candidate.index ≡ false)
+    (count : ℕ) (count_is : count ≡ min (a.pending_deletions + 1) 65535) (within : region < 65) (undeleted : k.deletion region ≡ None) (first : (slot_at slots tag).region ≡ 0) where
   abbrev put : Slot
   put = record (slot_at slots tag) { state = 6 }
 
@@ -42,13 +45,19 @@ module _ (rules : FrontRules) (notes : Notes) (a : Controller) (slots : List Slo
   pool = put_item slots tag put
 
   abbrev pending : Controller
-  pending = record a { deletion = record { pending = 1; region = region; qid = qid; tag = tag } }
+  pending = record a { deletions = slice_set a.deletions region (record { pending = 1; tag = tag }); pending_deletions = count }
+
+  abbrev begins : PendingDelete
+  begins = record { place = place_at 0 candidate.index; cid = candidate.entry.cid; qid = qid; region = region }
 
   abbrev waiting_content : Content
-  waiting_content = record k { deletion = Some (record { place = place_at 0 candidate.index; cid = candidate.entry.cid; qid = qid; region = region }) }
+  waiting_content = record k { deletion = put_deletion k.deletion region (Some begins) }
+
+  abbrev item : DeleteItem
+  item = record { tag = tag; index = candidate.index; qid = qid }
 
   abbrev later : Items
-  later = record g { delete_index = candidate.index }
+  later = record g { deletes = put_delete g.deletes region (Some item) }
 
   size : length pool ≡ length slots
   size = length-put_item slots tag put
@@ -64,6 +73,19 @@ module _ (rules : FrontRules) (notes : Notes) (a : Controller) (slots : List Slo
     | inl same ↦ absurd (let at : (slot_at pool tag).state ≡ n = subst (λ (y : ℕ). (slot_at pool y).state ≡ n) same is in
         let six = ap (λ (s : Slot). s.state) here in omega (arith, at, six, low))
     | inr other ↦ ap (λ (s : Slot). s.state) (sym (others x other)) ∙ is
+  ]
+
+  deletions_still : HasDeletions a.deletions a.pending_deletions pool k.deletion g.deletes
+  deletions_still = deletions_stay a.deletions a.pending_deletions slots pool k.deletion g.deletes tag size others loose.deletes h.has.deletions
+
+  begins_is : deletion_in pool region item ≡ begins
+  begins_is = ap (λ (e : Sqe). record { place = place_at 0 candidate.index; cid = e.cid; qid = qid; region = region }) (ap (λ (s : Slot). s.entry) here ∙ entry)
+
+  -- what holds of the Deletes, and of this one, holds of all
+  each_delete : (P : DeleteItem → Type 0) → P item → ((r : ℕ) (it : DeleteItem) → g.deletes r ≡ Some it → P it) → (r : ℕ) (it : DeleteItem) → later.deletes r ≡ Some it → P it
+  each_delete P here_too there r it is = elim (is_put g.deletes region (Some item) r it is) [
+    | Here e same ↦ subst P (same_Some item it same) here_too
+    | Elsewhere d at ↦ there r it at
   ]
 
   has_pending : HasItems pending pool waiting_content later
@@ -82,9 +104,10 @@ module _ (rules : FrontRules) (notes : Notes) (a : Controller) (slots : List Slo
     ready_items = λ x. All-both (λ (it : ReadyItem). it.tag ≢ tag) (IsReadyIn slots) (IsReadyIn pool) (ready_stays slots pool tag size others) (g.readies x)
         (All-unmap (λ (y : ℕ). y ≢ tag) (λ (it : ReadyItem). it.tag) (g.readies x) (loose.readies x)) (m.ready_items x);
     ready_is = m.ready_is;
-    deletion_is = ap (λ (e : Sqe). Some (record { place = place_at 0 candidate.index; cid = e.cid; qid = qid; region = region })) (sym (ap (λ (s : Slot). s.entry) here ∙ entry));
-    deletion_item = λ some. ap (λ (s : Slot). s.state) here;
-    deletion_inside = λ some. subst (λ (n : ℕ). tag < n) (sym size) loose.inside;
+    deletions = subst (λ (d : PendingDelete). HasDeletions (slice_set a.deletions region (record { pending = 1; tag = tag })) count pool (put_deletion k.deletion region (Some d)) later.deletes) begins_is
+        (deletions_begun a.deletions a.pending_deletions count pool k.deletion g.deletes region item deletions_still within
+        (none_deletes a.deletions a.pending_deletions slots k.deletion g.deletes m.deletions region undeleted)
+        (record { inside = subst (λ (n : ℕ). tag < n) (sym size) loose.inside; state = ap (λ (s : Slot). s.state) here; region = ap (λ (s : Slot). s.region) here ∙ first }) loose.deletes count_is);
     free_chain = chain-put_item slots _ _ tag put m.free_chain;
     free_items = All-both (λ (x : ℕ). x ≢ tag) (is_free slots) (is_free pool) (λ x other. same_state slots pool tag size others x 0 other) g.free loose.free m.free_items;
     few = subst (λ (n : ℕ). n < 2 ^ 16) (sym size) m.few;
@@ -103,25 +126,26 @@ module _ (rules : FrontRules) (notes : Notes) (a : Controller) (slots : List Slo
     through = m.through;
     windows_unanswered = m.windows_unanswered;
     outs_unanswered = m.outs_unanswered;
-    deletion_unanswered = λ some. unanswered;
+    deletes_unanswered = each_delete (λ (it : DeleteItem). IsUnanswered notes (place_at 0 it.index)) unanswered m.deletes_unanswered;
     none_answered = m.none_answered;
     answered_held = λ x is. m.answered_held x (had_state x 3 (omega arith) is);
     hand_entries = m.hand_entries;
     free_count = m.free_count ∙ ap (λ (n : ℕ). n + all_posts (logged notes)) (sym size);
     cookies = cookies_pending;
-    passed = (let p = m.passed in record { all_handed = p.all_handed; served = p.served; readies = p.readies; deletion = λ some. not_passed_on });
+    passed = (let p = m.passed in record { all_handed = p.all_handed; served = p.served; readies = p.readies; deletes = each_delete (λ (it : DeleteItem). is_passed notes it.index ≡ false) not_passed_on p.deletes });
     none_marked = m.none_marked;
     marks = m.marks;
   } where
     left : SameCookies slots pool
     left = same_cookies-but slots pool tag others (ap (λ (s : Slot). s.cookie) here)
 
-    cookies_pending : HoldsCookies notes pending pool later
+    cookies_pending : HoldsCookies notes pool later
     cookies_pending = let q = h.tags.cookies in record {
       windows = λ r. items_left notes slots pool left (g.windows r) (q.windows r);
       outs = items_left notes slots pool left g.outs q.outs;
       readies = λ x. readies_left notes slots pool left (g.readies x) (q.readies x);
-      deletion = λ some. cookie_left notes slots pool left tag (place_at 0 candidate.index) cookie;
+      deletes = each_delete (λ (it : DeleteItem). IsCookie notes pool it.tag (place_at 0 it.index)) (cookie_left notes slots pool left tag (place_at 0 candidate.index) cookie)
+          (λ r it is. cookie_left notes slots pool left it.tag (place_at 0 it.index) (q.deletes r it is));
       none = q.none;
     }
 
@@ -188,6 +212,7 @@ n_counted rules notes a slots k g region sq h none sq_is few =
 module _ (rules : FrontRules) (notes : Notes) (a : Controller) (slots : List Slot) (k : Content) (g : Items) (tag qid region c : ℕ) (candidate : Candidate)
     (h : Keeps rules notes a slots k g) (none : a.picked ≡ 0) (loose : IsLoose slots g tag) (entry : (slot_at slots tag).entry ≡ candidate.entry)
     (unanswered : answer_of notes 0 candidate.index ≡ None) (cookie : IsCookie notes slots tag (place_at 0 candidate.index)) (not_passed_on : is_passed notes candidate.index ≡ false) (d : IsDroppable notes k qid region c)
+    (first : (slot_at slots tag).region ≡ 0)
     (sq : SqState) (n : ℕ) (sq_is : sq ≡ sq_at a.sqs region) (n_is : n ≡ sq.unposted + sq.window.len)
     (m : Controller) (m_is : m ≡ record a { sqs = slice_set a.sqs region (record sq { unposted = n }) }) where
   abbrev count : ℕ
@@ -221,24 +246,26 @@ module _ (rules : FrontRules) (notes : Notes) (a : Controller) (slots : List Slo
     attached = rw (eq-eqb region region refl) d.attached;
     are_aborted = rw (eq-eqb region region refl) d.are_aborted;
     io = d.io;
+    undeleted = d.undeleted;
   }
 
   -- they are dropped, and the deletion is pending
-  pub begun_deleting : (w b : Controller) (mid pool : List Slot) (board : BoardFields) (s : Slot) → HasDropped rules notes (dropped counted qid region c) slots tag w mid
+  pub begun_deleting : (w b : Controller) (mid pool : List Slot) (board : BoardFields) (s : Slot) (pending : ℕ) → HasDropped rules notes (dropped counted qid region c) slots tag w mid
       → board_of board ≡ record (board_of w.board) { queues = slice_set (board_of w.board).queues qid None } → board.arbiter ≡ w.board.arbiter → s ≡ slot_at mid tag
-      → pool ≡ put_item mid tag (record s { state = 6 }) → b ≡ record w { board = board; deletion = record { pending = 1; region = region; qid = qid; tag = tag } }
+      → pool ≡ put_item mid tag (record s { state = 6 }) → pending ≡ min (w.pending_deletions + 1) 65535
+      → b ≡ record w { board = board; deletions = slice_set w.deletions region (record { pending = 1; tag = tag }); pending_deletions = pending }
       → HasBegun rules notes (deleting k qid region c candidate) b pool
-  begun_deleting w b mid pool board s e closed arbiter s_is pool_is b_is =
+  begun_deleting w b mid pool board s pending e closed arbiter s_is pool_is pending_is b_is =
       subst (λ (z : Controller). HasBegun rules notes (deleting k qid region c candidate) z pool) (sym b_is)
-      (subst (λ (z : List Slot). HasBegun rules notes (deleting k qid region c candidate) (record w { board = board; deletion = record { pending = 1; region = region; qid = qid; tag = tag } }) z)
+      (subst (λ (z : List Slot). HasBegun rules notes (deleting k qid region c candidate) (record w { board = board; deletions = slice_set w.deletions region (record { pending = 1; tag = tag }); pending_deletions = pending }) z)
       (sym (pool_is ∙ ap (λ (z : Slot). put_item mid tag (record z { state = 6 })) s_is))
-      (subst (λ (z : Content). HasBegun rules notes (record z { board = now; deletion = Some (record { place = place_at 0 candidate.index; cid = candidate.entry.cid; qid = qid; region = region }) })
-      (record w { board = board; deletion = record { pending = 1; region = region; qid = qid; tag = tag } }) (put_item mid tag (record (slot_at mid tag) { state = 6 })))
+      (subst (λ (z : Content). HasBegun rules notes (record z { board = now; deletion = put_deletion k.deletion region (Some (record { place = place_at 0 candidate.index; cid = candidate.entry.cid; qid = qid; region = region })) })
+      (record w { board = board; deletions = slice_set w.deletions region (record { pending = 1; tag = tag }); pending_deletions = pending }) (put_item mid tag (record (slot_at mid tag) { state = 6 })))
       (dropped_counted k qid region c count)
       (begun_pending rules notes (record w { board = board }) mid (record (dropped counted qid region c) { board = now }) e.items
       (keeps_board rules notes w mid (dropped counted qid region c) e.items board now e.keeps
       (closed ∙ ap (λ (z : BoardView). record z { queues = slice_set z.queues qid None }) e.keeps.numbers.board_is)
       (subst (λ (z : ArbiterFields). IsTrue (is_arbiter z)) (sym arbiter) e.keeps.numbers.is_arbiter))
-      tag qid region e.loose candidate (ap (λ (z : Slot). z.entry) e.slot ∙ entry) unanswered (cookie ∙ ap (λ (z : Slot). Some z.cookie) (sym e.slot)) not_passed_on))) where
+      tag qid region e.loose candidate (ap (λ (z : Slot). z.entry) e.slot ∙ entry) unanswered (cookie ∙ ap (λ (z : Slot). Some z.cookie) (sym e.slot)) not_passed_on pending pending_is d.there d.undeleted (ap (λ (z : Slot). z.region) e.slot ∙ first)))) where
         now : BoardView
         now = record k.board { queues = slice_set k.board.queues qid None }

@@ -1,16 +1,17 @@
--- The steps of a controller keep what it keeps of a pending deletion.
-use Rattle.std.proofs.Common.{◌≡◌, ℕ, ◌-◌, ◌==◌, ◌&&◌, ◌||◌, Bool, true, false, List, [], ◌∷◌, map, take, Option, Some, None, refl, sym, ap, subst, ◌∙◌, inl, inr, eq-eqb, eqb-true, true≢false}
+-- The steps of a controller keep what it keeps of pending deletions.
+use Rattle.std.proofs.Common.{◌≡◌, ℕ, ◌-◌, ◌==◌, ◌&&◌, ◌||◌, not, Bool, true, false, List, [], ◌∷◌, map, take, Option, Some, None, refl, sym, ap, subst, ◌∙◌, inl, inr, eq-eqb, eqb-true, true≢false}
 use Rattle.std.specs.Prelude.{option_map, if◌then◌else◌, slice_get}
-use Rattle.std.proofs.lemmas.Bool.{ne_eqb, cond-true, cond-false, false_from_ne_true}
+use Rattle.std.proofs.lemmas.Bool.{cases_eq, ne_eqb, cond-true, cond-false, false_from_ne_true}
+use Rattle.std.proofs.lemmas.Option.{same_Some}
 use Rattle.nvme_arbiter.specs.Board.{BoardView}
 use Rattle.nvme_arbiter.specs.declared.pick.Pick.{Pick}
 use Rattle.nvme_arbiter.specs.declared.pick.Seen.{Seen}
-use Rattle.nvme_admin.specs.History.{TableHistory, DeletionFinished}
+use Rattle.nvme_arbiter.specs.declared.settings.Class.{Class}
 use Rattle.nvme_admin.specs.QueueTable.{as_closing, unless_closing}
 use Rattle.nvme_admin.specs.Checks.{is_open}
-use Rattle.nvme_admin.specs.Accepted.{sq_at}
-use Rattle.nvme_admin.specs.Changes.{TellsChange, sq_after}
-use Rattle.nvme_admin.specs.Standing.{TableView, StandsAt, sq_of}
+use Rattle.nvme_admin.specs.Accepted.{queue_table, sq_at}
+use Rattle.nvme_admin.specs.Changes.{IsDue, TellsChange, sq_after}
+use Rattle.nvme_admin.specs.Standing.{TableView, sq_of}
 use Rattle.nvme_admin.specs.declared.verdict.SqEntry.{SqEntry}
 use Rattle.nvme_admin.specs.declared.verdict.Verdict.{Verdict}
 use Rattle.nvme_admin.specs.declared.verdict.Verdict.TheVariants.{Done, BeginDelete, CloseCq}
@@ -19,59 +20,74 @@ use Rattle.nvme_admin.proofs.Changed.{TellsChange-entry, finish-takes_one}
 use Rattle.nvme_entry.specs.declared.submission.Sqe.{Sqe}
 use Rattle.nvme_log.specs.declared.event.Event.TheVariants.{Abort}
 use Rattle.nvme_log.specs.declared.event.Event.TheVariants as event
-use Rattle.nvme_ctrl.specs.kept.Content.{Candidate}
-use Rattle.nvme_ctrl.specs.kept.Content.{PendingDelete}
-use Rattle.nvme_ctrl.specs.kept.Content.{Attachment}
 use Rattle.nvme_log.specs.Rules.{FrontRules, Past}
-use Rattle.nvme_log.specs.Queues.{Queue, admin_queue, open_sq, open_cq, pending, is_closed_region}
+use Rattle.nvme_log.specs.Queues.{Queue, admin_queue, open_sq, open_cq, is_closed_region}
 use Rattle.nvme_log.specs.Places.{fetched, waiting, is_aborted, entry_at}
 use Rattle.nvme_log.specs.Dispatches.{place_at}
 use Rattle.nvme_log.specs.Effects.{abort_in, closed_cq_of, closing_of, named, target_of}
-use Rattle.nvme_log.specs.Account.{deleting_place, latest_admin_place}
+use Rattle.nvme_log.specs.Account.{latest_admin_place}
 use Rattle.nvme_log.specs.Laws.{as_open}
-use Rattle.nvme_ctrl.specs.kept.Content.{SqContent, Content, put_sq}
-use Rattle.nvme_ctrl.specs.kept.Standing.{HoldsQueues, HoldsDeletion, IsPending, Holds, as_deletion}
+use Rattle.nvme_ctrl.specs.Deletions.{deleting}
+use Rattle.nvme_ctrl.specs.kept.Content.{Candidate, PendingDelete, Attachment, SqContent, Content, put_sq, put_deletion}
+use Rattle.nvme_ctrl.specs.kept.Standing.{HoldsQueues, HoldsDeletion, IsPending, Holds}
+use Rattle.nvme_ctrl.proofs.DeletedQueues.{undeleted_apart}
 use Rattle.nvme_ctrl.proofs.Oldest.{oldest_place, oldest_entry, oldest_unaborted}
-use Rattle.nvme_ctrl.proofs.QueueWords.{chosen, put-queue}
-use Rattle.nvme_ctrl.specs.inside.Steps.{CanPick, CanApply, picked_sq, applied_to, verdict_at, oldest_named}
-use Rattle.nvme_ctrl.proofs.AfterSteps.{with_events, admin_past, after_admin, aborting_from, aborting_in, deleting_from}
+use Rattle.nvme_ctrl.proofs.PendingDeletions.{Here, Elsewhere, is_put}
+use Rattle.nvme_ctrl.proofs.QueueWords.{at_other, put-queue}
+use Rattle.nvme_ctrl.proofs.Regions.{target_is}
+use Rattle.nvme_ctrl.proofs.ServedPlaces.{entry_stays}
+use Rattle.nvme_ctrl.specs.inside.Steps.{CanApply, picked_sq, applied_to, verdict_at, oldest_named}
+use Rattle.nvme_ctrl.proofs.AfterSteps.{with_events, fetched_sq, fetch_event, after_fetch, closed_event, after_closed, admin_past, after_admin, aborting_from, aborting_in, deleting_from}
 use Rattle.nvme_ctrl.proofs.StepKeeps.{KeepsFetch, KeepsIo, KeepsAdmin, KeepsPost, KeepsClose, Deleting}
 
--- ---- where no deletion is pending
--- a deletion that isn't there stands
-none_stands : (past : Past) (k : Content) → k.deletion ≡ None → (d : PendingDelete) → k.deletion ≡ Some d → IsPending past k d
-none_stands past k none d e = absurd (cc)
-
--- no queue is closing
-abbrev NoneCloses : (ℕ → Option SqEntry) → Type 0
-NoneCloses sqs = (q : ℕ) (e : SqEntry) → sqs q ≡ Some e → e.closing ≡ true → ⊥
-
--- with no deletion pending, no queue of the table is closing
-none_closes : (past : Past) (k : Content) → HoldsDeletion past k → k.deletion ≡ None → NoneCloses (sq_of k.table)
-none_closes past k h none q e is closes =
-    let qid : option_map (λ (d : PendingDelete). d.qid) k.deletion ≡ Some q = h.closing_is q e is closes in
-    let no_qid : None ≡ Some q = sym (ap (option_map (λ (d : PendingDelete). d.qid)) none) ∙ qid in
-    cc
-
--- with no deletion pending, events that leave the pending deletion keep it, where no queue is closing afterwards
-none_kept : (past later : Past) (k after : Content) → HoldsDeletion past k → k.deletion ≡ None → after.deletion ≡ k.deletion
-    → pending later ≡ pending past → deleting_place later ≡ deleting_place past → NoneCloses (sq_of after.table) → HoldsDeletion later after
-none_kept past later k after h none same p q closes = record {
-  pending_is = p ∙ h.pending_is ∙ ap (option_map as_deletion) (sym same);
-  place_is = q ∙ h.place_is ∙ ap (option_map (λ (d : PendingDelete). d.place.index)) (sym same);
-  stands = none_stands later after (same ∙ none);
-  closing_is = λ x e is closing. absurd (closes x e is closing);
+-- ---- a deletion stands
+-- where its queue and its command are left
+stays : (past later : Past) (k after : Content) (r : ℕ) (d : PendingDelete) → IsPending past k r d → sq_of after.table d.qid ≡ sq_of k.table d.qid
+    → ((e : Sqe) → entry_at past d.place.region d.place.index ≡ Some e → entry_at later d.place.region d.place.index ≡ Some e)
+    → is_aborted later d.place.region d.place.index ≡ is_aborted past d.place.region d.place.index
+    → (after.sq d.region).window ≡ (k.sq d.region).window → (after.sq d.region).queue ≡ (k.sq d.region).queue
+    → is_closed_region later d.region ≡ is_closed_region past d.region → IsPending later after r d
+stays past later k after r d is table entries aborted window queue closed = record {
+  at = is.at;
+  closing = is.closing;
+  in_table = table ∙ is.in_table;
+  is_closing = is.is_closing;
+  region = is.region;
+  of_admin = is.of_admin;
+  entry = is.entry;
+  is_there = entries is.entry is.is_there;
+  cid = is.cid;
+  not_aborted = aborted ∙ is.not_aborted;
+  none_waits = window ∙ is.none_waits;
+  not_closed = closed ∙ is.not_closed;
+  not_admin = is.not_admin;
+  attached = ap (option_map (λ (a : Attachment). a.qid)) queue ∙ is.attached;
 }
 
--- a fetch is made where no deletion is pending
-pub deleting-fetch : KeepsFetch Deleting
-deleting-fetch rules late past k q queue entry s can regions =
-    none_kept past _ k _ s.deletion can.none_pending refl refl refl (none_closes past k s.deletion can.none_pending)
+-- a region in whose place another is put
+apart : (sq : ℕ → SqContent) (r : ℕ) (s : SqContent) (x : ℕ) → (x ≡ r → ⊥) → put_sq sq r s x ≡ sq x
+apart sq r s x other = at_other x r s (sq x) other
 
--- and so is an I/O pick
+-- a fetch is of an open queue, which isn't being deleted
+pub deleting-fetch : KeepsFetch Deleting
+deleting-fetch rules late past k q queue entry s can regions = record {
+  place_is = s.deletion.place_is;
+  stands = λ r d e.
+      let left = apart k.sq queue.region (fetched_sq (k.sq queue.region) entry) d.region (undeleted_apart rules late past k s q queue r d can.is_open e) in
+      stays past (fetch_event k queue entry ∷ past) k (after_fetch k q queue entry) r d (s.deletion.stands r d e) refl
+      (λ x there. entry_stays past queue.region (k.sq queue.region).fetched d.place.region d.place.index entry x there) refl
+      (ap (λ (z : SqContent). z.window) left) (ap (λ (z : SqContent). z.queue) left) refl;
+}
+
+-- so is an I/O pick
 pub deleting-io : KeepsIo Deleting
-deleting-io rules late past k queue seen pick board c s can seen_is io attached regions =
-    none_kept past _ k _ s.deletion can.none_pending refl refl refl (none_closes past k s.deletion can.none_pending)
+deleting-io rules late past k queue seen pick board c s can seen_is io attached regions = record {
+  place_is = s.deletion.place_is;
+  stands = λ r d e.
+      let left = apart k.sq queue.region (picked_sq (k.sq queue.region) pick.n) d.region (undeleted_apart rules late past k s pick.qid queue r d can.is_open e) in
+      stays past (event.Pick seen pick ∷ past) k _ r d (s.deletion.stands r d e) refl (λ x there. there) refl
+      (ap (λ (z : SqContent). z.window) left) (ap (λ (z : SqContent). z.queue) left) refl;
+}
 
 -- ---- a post
 -- a region put in the place of one, with the same window, leaves each window
@@ -84,74 +100,54 @@ put_window sq r s x false same e = refl
 put_emptied : (sq : ℕ → SqContent) (r : ℕ) (s : SqContent) → s.window ≡ [] → (put_sq sq r s r).window ≡ []
 put_emptied sq r s h = rw (eq-eqb r r refl) h
 
--- a post leaves the pending deletion
+-- a post leaves the pending deletions
 pub deleting-post : KeepsPost Deleting
 deleting-post rules late past k c t rest cqe s can regions = record {
-  pending_is = s.deletion.pending_is;
   place_is = s.deletion.place_is;
-  stands = λ d e. let is = s.deletion.stands d e in record {
-    closing = is.closing;
-    in_table = is.in_table;
-    is_closing = is.is_closing;
-    region = is.region;
-    of_admin = is.of_admin;
-    entry = is.entry;
-    is_there = is.is_there;
-    cid = is.cid;
-    not_aborted = is.not_aborted;
-    none_waits = put_window k.sq t.place.region (record (k.sq t.place.region) { unposted = (k.sq t.place.region).unposted - 1 }) d.region (d.region == t.place.region) refl refl ∙ is.none_waits;
-    not_closed = is.not_closed;
-    not_admin = is.not_admin;
-    attached = ap (option_map (λ (a : Attachment). a.qid)) (put-queue k.sq t.place.region (record (k.sq t.place.region) { unposted = (k.sq t.place.region).unposted - 1 }) refl d.region) ∙ is.attached;
-  };
-  closing_is = s.deletion.closing_is;
+  stands = λ r d e.
+      let posted : SqContent = record (k.sq t.place.region) { unposted = (k.sq t.place.region).unposted - 1 } in
+      stays past _ k _ r d (s.deletion.stands r d e) refl (λ x there. there) refl
+      (put_window k.sq t.place.region posted d.region (d.region == t.place.region) refl refl) (put-queue k.sq t.place.region posted refl d.region) refl;
 }
 
 -- ---- the end of a deletion
--- a closing queue is taken away: what is left isn't closing
-left_open : (o : Option SqEntry) (e : SqEntry) → unless_closing o ≡ Some e → e.closing ≡ true → ⊥
-left_open None e is closes = cc
-left_open (Some x) e is closes = by_closing x.closing refl where
-  by_closing : (b : Bool) → x.closing ≡ b → ⊥
-  by_closing true h = let none : None ≡ Some e = sym (cond-true x.closing None (Some x) h) ∙ is in cc
-  by_closing false h =
-      let same : Some x ≡ Some e = sym (cond-false x.closing None (Some x) h) ∙ is in
-      let one : x ≡ e = cc in
-      true≢false (sym closes ∙ ap (λ (y : SqEntry). y.closing) (sym one) ∙ h)
+-- a deletion less is kept so
+less : (deletion : ℕ → Option PendingDelete) (r x : ℕ) (old : Option ℕ) → old ≡ option_map (λ (d : PendingDelete). d.place.index) (deletion x)
+    → (if r == x then None else old) ≡ option_map (λ (d : PendingDelete). d.place.index) (put_deletion deletion r None x)
+less deletion r x old e = elim (cases_eq x r) [
+  | inl same ↦ rw (eq-eqb x r same, eq-eqb r x (sym same)) refl
+  | inr other ↦ rw (ne_eqb x r other, ne_eqb r x (λ z. other (sym z))) e
+]
 
--- no queue but that of the pending deletion was closing, and it is taken away
-none_closes-finished : (rules : FrontRules) (past : Past) (k : Content) (history : TableHistory) (d : PendingDelete) (table : TableView)
-    → HoldsDeletion past k → k.deletion ≡ Some d → StandsAt rules.start k.table history → StandsAt rules.start table (DeletionFinished d.qid ∷ history)
-    → NoneCloses (sq_of table)
-none_closes-finished rules past k history d table h pending_is before after q e is closes =
-    let left : (if d.qid == q then unless_closing (sq_at rules.start history q) else sq_at rules.start history q) ≡ Some e =
-    sym (finish-takes_one rules.start history d.qid q) ∙ sym (after.sq q) ∙ is in
-    elim (chosen d.qid q (unless_closing (sq_at rules.start history q)) (sq_at rules.start history q) e left) [
-      | inl p ↦ left_open (sq_at rules.start history q) e p.1 closes
-      | inr n ↦
-          let qid : Some d.qid ≡ Some q = sym (ap (option_map (λ (x : PendingDelete). x.qid)) pending_is) ∙ h.closing_is q e (before.sq q ∙ n.1) closes in
-          n.0 (cc)
-    ]
-
--- after it none is pending, and no queue is closing
+-- the other deletions stand after it
 pub deleting-close : KeepsClose Deleting
 deleting-close rules late past k d table s can regions = record {
-  pending_is = refl;
-  place_is = refl;
-  stands = λ e f. absurd (cc);
-  closing_is = λ q e is closes. absurd (none_closes-finished rules past k s.tabled.history d table s.deletion can.pending s.tabled.stands can.table_stands q e is closes);
-}
+  place_is = λ r. less k.deletion d.region r (deleting past r) (s.deletion.place_is r);
+  stands = λ r x e. elim (is_put k.deletion d.region None r x e) [
+    | Here same none ↦ absurd (cc none)
+    | Elsewhere differs there ↦ still r x differs there
+  ];
+} where
+  still : (r : ℕ) (x : PendingDelete) → (r ≡ d.region → ⊥) → k.deletion r ≡ Some x → IsPending (closed_event d ∷ past) (after_closed k d table) r x
+  still r x differs there =
+      let one = s.deletion.stands d.region d can.pending in
+      let is = s.deletion.stands r x there in
+      let qids : d.qid ≡ x.qid → ⊥ = λ e.
+      let moved : Some one.closing ≡ Some is.closing = sym one.in_table ∙ ap (sq_of k.table) e ∙ is.in_table in
+      differs (sym is.at ∙ sym is.region ∙ ap (λ (z : SqEntry). z.region) (sym (same_Some one.closing is.closing moved)) ∙ one.region) in
+      let left : sq_of table x.qid ≡ sq_of k.table x.qid =
+      can.table_stands.sq x.qid ∙ finish-takes_one rules.start s.tabled.history d.qid x.qid
+      ∙ ap (λ (b : Bool). if b then unless_closing (sq_at rules.start s.tabled.history x.qid) else sq_at rules.start s.tabled.history x.qid) (ne_eqb d.qid x.qid qids)
+      ∙ sym (s.tabled.stands.sq x.qid) in
+      let closed : is_closed_region (closed_event d ∷ past) x.region ≡ is_closed_region past x.region =
+      ap (λ (b : Bool). b || is_closed_region past x.region) (ne_eqb d.region x.region (λ e. differs (sym is.at ∙ sym e))) in
+      stays past (closed_event d ∷ past) k (after_closed k d table) r x is left (λ e h. h) refl refl refl closed
 
 -- ---- aborts
--- aborts leave the pending deletion
-aborts_leave_pending : (r : ℕ) (is : List ℕ) (past : Past) → pending (with_events (map (λ (i : ℕ). Abort r i) is) past) ≡ pending past
-aborts_leave_pending r [] past = refl
-aborts_leave_pending r (i ∷ is) past = aborts_leave_pending r is (Abort r i ∷ past)
-
--- and the place of its command
-aborts_leave_deleting : (r : ℕ) (is : List ℕ) (past : Past) → deleting_place (with_events (map (λ (i : ℕ). Abort r i) is) past) ≡ deleting_place past
-aborts_leave_deleting r [] past = refl
-aborts_leave_deleting r (i ∷ is) past = aborts_leave_deleting r is (Abort r i ∷ past)
+-- aborts leave the places of the commands of deletions
+aborts_leave_deleting : (r x : ℕ) (is : List ℕ) (past : Past) → deleting (with_events (map (λ (i : ℕ). Abort r i) is) past) x ≡ deleting past x
+aborts_leave_deleting r x [] past = refl
+aborts_leave_deleting r x (i ∷ is) past = aborts_leave_deleting r x is (Abort r i ∷ past)
 
 -- and what was fetched
 aborts_leave_fetched : (r x : ℕ) (is : List ℕ) (past : Past) → fetched (with_events (map (λ (i : ℕ). Abort r i) is) past) x ≡ fetched past x
@@ -175,7 +171,7 @@ aborts_leave_aborted r x j (i ∷ is) past n = aborts_leave_aborted r x j is (Ab
 
 -- ---- an admin pick
 -- the region of an I/O queue isn't that of the admin queue
-pub io_region : (past : Past) (k : Content) (qid : ℕ) (queue : Queue) → HoldsQueues past k → open_sq past 0 ≡ Some admin_queue → open_sq past qid ≡ Some queue
+io_region : (past : Past) (k : Content) (qid : ℕ) (queue : Queue) → HoldsQueues past k → open_sq past 0 ≡ Some admin_queue → open_sq past qid ≡ Some queue
     → (qid ≡ 0 → ⊥) → queue.region ≡ 0 → ⊥
 io_region past k qid queue h admin io not_admin e =
     let a = h.attached 0 admin_queue admin in
@@ -195,24 +191,9 @@ opened_in entry queue false e h =
     ap (λ (x : Queue). x.region) same
 
 -- an open queue of the log is one of the table
-pub open_entry : (o : Option SqEntry) (queue : Queue) → as_open o ≡ Some queue → (entry : SqEntry) × (o ≡ Some entry) × (entry.region ≡ queue.region)
+open_entry : (o : Option SqEntry) (queue : Queue) → as_open o ≡ Some queue → (entry : SqEntry) × (o ≡ Some entry) × (entry.region ≡ queue.region)
 open_entry None queue h = absurd (cc)
 open_entry (Some entry) queue h = (entry, refl, opened_in entry queue entry.closing refl h)
-
--- a verdict that isn't the begin of a deletion makes no queue closing: one that it opens isn't
-none_closes-after : (v : Verdict) (sqs : ℕ → Option SqEntry) → ((qid : ℕ) → v ≡ BeginDelete qid → ⊥) → NoneCloses sqs → NoneCloses (sq_after v sqs)
-none_closes-after (Done status dw0) sqs no_begin none q e is closes = none q e is closes
-none_closes-after (verdict.OpenCq qid region) sqs no_begin none q e is closes = none q e is closes
-none_closes-after (CloseCq qid) sqs no_begin none q e is closes = none q e is closes
-none_closes-after (verdict.Abort sqid cid) sqs no_begin none q e is closes = none q e is closes
-none_closes-after (verdict.SetArbitration settings) sqs no_begin none q e is closes = none q e is closes
-none_closes-after (BeginDelete qid) sqs no_begin none q e is closes = no_begin qid refl
-none_closes-after (verdict.OpenSq qid region cqid class) sqs no_begin none q e is closes =
-    let opened : SqEntry = record { region = region; cqid = cqid; class = class; closing = false } in
-    elim (chosen qid q (Some opened) (sqs q) e is) [
-      | inl p ↦ let same : opened ≡ e = cc in true≢false (sym closes ∙ ap (λ (x : SqEntry). x.closing) (sym same))
-      | inr n ↦ none q e n.1 closes
-    ]
 
 -- a queue that is open is one of the log
 open_in_log : (o : Option SqEntry) → is_open o ≡ true → as_open o ≡ None → ⊥
@@ -225,63 +206,7 @@ open_in_log (Some entry) e none = by_closing entry.closing refl where
       let some : Some queue ≡ None = sym (cond-false entry.closing None (Some queue) h) ∙ none in
       cc
 
--- the deletion of a queue begins: it is pending afterwards, on the region of the queue, with the place of the picked command
-begun : (rules : FrontRules) (late : Bool) (past : Past) (k : Content) (seen : List Seen) (pick : Pick) (picked : BoardView)
-    (candidate : Candidate) (rest : List Candidate) (table : TableView) (c qid : ℕ) (queue : Queue)
-    → (s : Holds rules late past k) → open_sq past 0 ≡ Some admin_queue → pick.qid ≡ 0
-    → CanApply rules past k s.tabled.history candidate rest table → TellsChange rules.start s.tabled.history candidate.entry (BeginDelete qid)
-    → open_sq past qid ≡ Some queue → NoneCloses (sq_at rules.start s.tabled.history)
-    → HoldsDeletion (with_events (closing_of past qid (Some queue)) (event.Pick seen pick ∷ past)) (deleting_from (applied_to k picked table) qid c candidate (Some queue))
-begun rules late past k seen pick picked candidate rest table c qid queue s admin zero_is can tells is_open none =
-    let r : ℕ = queue.region in
-    let is : List ℕ = waiting past r in
-    let before : Past = event.Closing qid r ∷ event.Pick seen pick ∷ past in
-    let after : Content = deleting_from (applied_to k picked table) qid c candidate (Some queue) in
-    let found = open_entry (sq_of k.table qid) queue (sym (s.queues.sqs qid) ∙ is_open) in
-    let apart : r ≡ 0 → ⊥ = io_region past k qid queue s.queues admin is_open tells.due.not_admin in
-    let d : PendingDelete = record { place = place_at 0 candidate.index; cid = candidate.entry.cid; qid = qid; region = r } in
-    let place : latest_admin_place (event.Pick seen pick ∷ past) ≡ Some candidate.index =
-    cond-true (pick.qid == 0) (slice_get (waiting past 0) 0) (latest_admin_place past) (eq-eqb pick.qid 0 zero_is) ∙ oldest_place past 0 (k.sq 0) (s.regions 0) candidate rest can.oldest in
-    let in_table : sq_of table qid ≡ Some (as_closing found.0) =
-    can.table_stands.sq qid ∙ tells.sqs qid
-    ∙ cond-true (qid == qid) (option_map as_closing (sq_at rules.start s.tabled.history qid)) (sq_at rules.start s.tabled.history qid) (eq-eqb qid qid refl)
-    ∙ ap (option_map as_closing) (sym (s.tabled.stands.sq qid) ∙ found.1) in
-    let entry : entry_at (with_events (closing_of past qid (Some queue)) (event.Pick seen pick ∷ past)) 0 candidate.index ≡ Some candidate.entry =
-    ap (λ (xs : List Sqe). slice_get xs candidate.index) (aborts_leave_fetched r 0 is before) ∙ oldest_entry past 0 (k.sq 0) (s.regions 0) candidate rest can.oldest in
-    let not_aborted : is_aborted (with_events (closing_of past qid (Some queue)) (event.Pick seen pick ∷ past)) 0 candidate.index ≡ false =
-    aborts_leave_aborted r 0 candidate.index is before apart ∙ oldest_unaborted past 0 (k.sq 0) (s.regions 0) candidate rest can.oldest in
-    let none_waits : (after.sq r).window ≡ [] = put_emptied (applied_to k picked table).sq r _ refl in
-    let not_closed : is_closed_region (with_events (closing_of past qid (Some queue)) (event.Pick seen pick ∷ past)) r ≡ false =
-    aborts_leave_closed r r is before ∙ false_from_ne_true (is_closed_region past r) (λ h. s.queues.closed qid r queue h is_open refl) in
-    let opened = s.queues.attached qid queue is_open in
-    let attached : option_map (λ (a : Attachment). a.qid) (after.sq r).queue ≡ Some qid =
-    ap (option_map (λ (a : Attachment). a.qid)) (put-queue (applied_to k picked table).sq r _ refl r ∙ put-queue k.sq 0 (picked_sq (k.sq 0) 1) refl r ∙ opened.attached) in
-    let stands : IsPending (with_events (closing_of past qid (Some queue)) (event.Pick seen pick ∷ past)) after d = record {
-      closing = as_closing found.0;
-      in_table = in_table;
-      is_closing = refl;
-      region = found.2;
-      of_admin = refl;
-      entry = candidate.entry;
-      is_there = entry;
-      cid = refl;
-      not_aborted = not_aborted;
-      none_waits = none_waits;
-      not_closed = not_closed;
-      not_admin = apart;
-      attached = attached;
-    } in
-    record {
-      pending_is = aborts_leave_pending r is before;
-      place_is = aborts_leave_deleting r is before ∙ place;
-      stands = λ e h. let same : d ≡ e = cc in subst (λ (x : PendingDelete). IsPending (with_events (closing_of past qid (Some queue)) (event.Pick seen pick ∷ past)) after x) same stands;
-      closing_is = λ q e is closes. elim (chosen qid q (option_map as_closing (sq_at rules.start s.tabled.history q)) (sq_at rules.start s.tabled.history q) e (sym (tells.sqs q) ∙ sym (can.table_stands.sq q) ∙ is)) [
-        | inl p ↦ ap (λ (x : ℕ). Some x) p.0
-        | inr n ↦ absurd (none q e n.1 closes)
-      ];
-    }
-
--- an Abort command leaves the pending deletion
+-- an Abort command leaves the pending deletions
 aborting_leaves_deletion : (k : Content) (candidate : Candidate) (sqid c cid : ℕ) (board : BoardView) (o : Option Queue) → (aborting_from k candidate sqid c cid board o).deletion ≡ k.deletion
 aborting_leaves_deletion k candidate sqid c cid board None = refl
 aborting_leaves_deletion k candidate sqid c cid board (Some queue) = found (oldest_named cid (k.sq queue.region).window) where
@@ -298,51 +223,189 @@ aborting_leaves_table k candidate sqid c cid board (Some queue) = found (oldest_
   found (Some it) = refl
 
 -- so does what it makes
-abort_leaves_pending : (past later : Past) (cid : ℕ) (o : Option Queue) → pending (with_events (abort_in past cid o) later) ≡ pending later
-abort_leaves_pending past later cid None = refl
-abort_leaves_pending past later cid (Some queue) = aborts_leave_pending queue.region (take 1 (named past queue.region cid)) later
+abort_leaves_deleting : (past later : Past) (cid x : ℕ) (o : Option Queue) → deleting (with_events (abort_in past cid o) later) x ≡ deleting later x
+abort_leaves_deleting past later cid x None = refl
+abort_leaves_deleting past later cid x (Some queue) = aborts_leave_deleting queue.region x (take 1 (named past queue.region cid)) later
 
-abort_leaves_deleting : (past later : Past) (cid : ℕ) (o : Option Queue) → deleting_place (with_events (abort_in past cid o) later) ≡ deleting_place later
-abort_leaves_deleting past later cid None = refl
-abort_leaves_deleting past later cid (Some queue) = aborts_leave_deleting queue.region (take 1 (named past queue.region cid)) later
+-- ---- an admin pick
+-- what a command is to be answered by may begin no deletion of a queue that is closing, nor open it
+closing_left : (v : Verdict) (sqs : ℕ → Option SqEntry) (q : ℕ) (e : SqEntry) → ((qid region cqid : ℕ) (class : Class) → v ≡ verdict.OpenSq qid region cqid class → sqs qid ≡ None)
+    → ((qid : ℕ) → v ≡ BeginDelete qid → is_open (sqs qid) ≡ true) → sqs q ≡ Some e → e.closing ≡ true → sq_after v sqs q ≡ Some e
+closing_left (Done status dw0) sqs q e free may is closes = is
+closing_left (verdict.OpenCq qid region) sqs q e free may is closes = is
+closing_left (CloseCq qid) sqs q e free may is closes = is
+closing_left (verdict.Abort sqid cid) sqs q e free may is closes = is
+closing_left (verdict.SetArbitration settings) sqs q e free may is closes = is
+closing_left (verdict.OpenSq qid region cqid class) sqs q e free may is closes = at_other qid q _ (sqs q) (λ same.
+    let none : sqs q ≡ None = subst (λ (z : ℕ). sqs z ≡ None) same (free qid region cqid class refl) in
+    cc (none, is)) ∙ is
+closing_left (BeginDelete qid) sqs q e free may is closes = at_other qid q _ (sqs q) (λ same.
+    let yes : is_open (sqs q) ≡ true = subst (λ (z : ℕ). is_open (sqs z) ≡ true) same (may qid refl) in
+    let no : is_open (sqs q) ≡ false = ap (λ (o : Option SqEntry). is_open o) is ∙ ap not closes in
+    true≢false (sym yes ∙ no)) ∙ is
 
--- an admin pick, by the verdict of its command
-by_verdict : (rules : FrontRules) (late : Bool) (past : Past) (k : Content) (seen : List Seen) (pick : Pick) (picked : BoardView)
-    (candidate : Candidate) (rest : List Candidate) (table : TableView) (c : ℕ) (board : BoardView) (v : Verdict)
-    → (s : Holds rules late past k) → CanPick rules past k admin_queue pick picked → pick.qid ≡ 0
-    → CanApply rules past k s.tabled.history candidate rest table → TellsChange rules.start s.tabled.history candidate.entry v
-    → NoneCloses (sq_at rules.start s.tabled.history) → (((qid : ℕ) → v ≡ BeginDelete qid → ⊥) → NoneCloses (sq_of table))
-    → HoldsDeletion (admin_past past (event.Pick seen pick) v) (after_admin past (applied_to k picked table) candidate c board v)
-by_verdict rules late past k seen pick picked candidate rest table c board (Done status dw0) s can z apply tells none later =
-    none_kept past _ k _ s.deletion can.none_pending refl refl refl (later (λ q e. cc))
-by_verdict rules late past k seen pick picked candidate rest table c board (verdict.OpenSq qid region cqid class) s can z apply tells none later =
-    none_kept past _ k _ s.deletion can.none_pending refl refl refl (later (λ q e. cc))
-by_verdict rules late past k seen pick picked candidate rest table c board (verdict.OpenCq qid region) s can z apply tells none later =
-    none_kept past _ k _ s.deletion can.none_pending refl refl refl (later (λ q e. cc))
-by_verdict rules late past k seen pick picked candidate rest table c board (verdict.SetArbitration settings) s can z apply tells none later =
-    none_kept past _ k _ s.deletion can.none_pending refl refl refl (later (λ q e. cc))
-by_verdict rules late past k seen pick picked candidate rest table c board (verdict.Abort sqid cid) s can z apply tells none later =
-    let o : Option Queue = target_of past sqid in
-    let after : Content = aborting_from (applied_to k picked table) candidate sqid c cid board o in
-    none_kept past (with_events (abort_in past cid o) (event.Pick seen pick ∷ past)) k after s.deletion can.none_pending
-    (aborting_leaves_deletion (applied_to k picked table) candidate sqid c cid board o)
-    (abort_leaves_pending past (event.Pick seen pick ∷ past) cid o) (abort_leaves_deleting past (event.Pick seen pick ∷ past) cid o)
-    (subst (λ (t : TableView). NoneCloses (sq_of t)) (sym (aborting_leaves_table (applied_to k picked table) candidate sqid c cid board o)) (later (λ q e. cc)))
-by_verdict rules late past k seen pick picked candidate rest table c board (CloseCq qid) s can z apply tells none later = by_cq (open_cq past qid) where
-  by_cq : (o : Option ℕ) → HoldsDeletion (with_events (closed_cq_of qid o) (event.Pick seen pick ∷ past)) (after_admin past (applied_to k picked table) candidate c board (CloseCq qid))
-  by_cq None = none_kept past _ k _ s.deletion can.none_pending refl refl refl (later (λ q e. cc))
-  by_cq (Some region) = none_kept past _ k _ s.deletion can.none_pending refl refl refl (later (λ q e. cc))
-by_verdict rules late past k seen pick picked candidate rest table c board (BeginDelete qid) s can z apply tells none later = by_sq (open_sq past qid) refl where
-  by_sq : (o : Option Queue) → open_sq past qid ≡ o → HoldsDeletion (with_events (closing_of past qid o) (event.Pick seen pick ∷ past)) (deleting_from (applied_to k picked table) qid c candidate o)
-  by_sq None e = absurd (open_in_log (sq_at rules.start s.tabled.history qid) tells.due.open_sq (ap as_open (sym (s.tabled.stands.sq qid)) ∙ sym (s.queues.sqs qid) ∙ e))
-  by_sq (Some queue) e =
-      begun rules late past k seen pick picked candidate rest table c qid queue s (subst (λ (q : ℕ). open_sq past q ≡ Some admin_queue) z can.is_open) z apply tells e none
+module _ (rules : FrontRules) (late : Bool) (past : Past) (k : Content) (seen : List Seen) (pick : Pick) (picked : BoardView)
+    (candidate : Candidate) (rest : List Candidate) (table : TableView) (c : ℕ) (board : BoardView) (s : Holds rules late past k)
+    (admin : open_sq past 0 ≡ Some admin_queue) (zero_is : pick.qid ≡ 0) (can : CanApply rules past k s.tabled.history candidate rest table) where
+  abbrev taken : Past
+  taken = event.Pick seen pick ∷ past
 
--- an admin pick keeps what is kept of the pending deletion
+  abbrev now : Content
+  now = applied_to k picked table
+
+  -- the table has its closing queues yet
+  table_left : (v : Verdict) → TellsChange rules.start s.tabled.history candidate.entry v → (r : ℕ) (d : PendingDelete) → k.deletion r ≡ Some d → sq_of table d.qid ≡ sq_of k.table d.qid
+  table_left v tells r d e =
+      let p = s.deletion.stands r d e in
+      let was : sq_at rules.start s.tabled.history d.qid ≡ Some p.closing = sym (s.tabled.stands.sq d.qid) ∙ p.in_table in
+      can.table_stands.sq d.qid ∙ tells.sqs d.qid
+      ∙ closing_left v (sq_at rules.start s.tabled.history) d.qid p.closing
+      (λ qid region cqid class is. let due = subst (λ (z : Verdict). IsDue (queue_table rules.start s.tabled.history) z) is tells.due in due.free)
+      (λ qid is. let due = subst (λ (z : Verdict). IsDue (queue_table rules.start s.tabled.history) z) is tells.due in due.open_sq) was p.is_closing
+      ∙ sym p.in_table
+
+  -- and the pick left their regions
+  region_left : (r : ℕ) (d : PendingDelete) → k.deletion r ≡ Some d → now.sq d.region ≡ k.sq d.region
+  region_left r d e = apart k.sq 0 (picked_sq (k.sq 0) 1) d.region (s.deletion.stands r d e).not_admin
+
+  -- a deletion stands where nothing but the admin queue's region is changed of the regions
+  stands_left : (later : Past) (after : Content) (r : ℕ) (d : PendingDelete) → k.deletion r ≡ Some d → sq_of after.table d.qid ≡ sq_of k.table d.qid
+      → ((x j : ℕ) → entry_at later x j ≡ entry_at past x j) → ((j : ℕ) → is_aborted later 0 j ≡ is_aborted past 0 j) → ((x : ℕ) → is_closed_region later x ≡ is_closed_region past x)
+      → (after.sq d.region).window ≡ (k.sq d.region).window → (after.sq d.region).queue ≡ (k.sq d.region).queue → IsPending later after r d
+  stands_left later after r d e same entries aborted closed window queue =
+      let p = s.deletion.stands r d e in
+      stays past later k after r d p same (λ x there. entries d.place.region d.place.index ∙ there)
+      (subst (λ (z : ℕ). is_aborted later z d.place.index ≡ is_aborted past z d.place.index) (sym p.of_admin) (aborted d.place.index)) window queue (closed d.region)
+
+  -- as it does of most commands
+  plain : (v : Verdict) → TellsChange rules.start s.tabled.history candidate.entry v → (later : Past) (after : Content) → after.deletion ≡ k.deletion → after.table ≡ table
+      → ((r : ℕ) (d : PendingDelete) → k.deletion r ≡ Some d → after.sq d.region ≡ k.sq d.region) → ((r : ℕ) → deleting later r ≡ deleting past r)
+      → ((x j : ℕ) → entry_at later x j ≡ entry_at past x j) → ((j : ℕ) → is_aborted later 0 j ≡ is_aborted past 0 j) → ((x : ℕ) → is_closed_region later x ≡ is_closed_region past x)
+      → HoldsDeletion later after
+  plain v tells later after deletions same sqs deletes entries aborted closed = record {
+    place_is = λ r. deletes r ∙ s.deletion.place_is r ∙ ap (λ (f : ℕ → Option PendingDelete). option_map (λ (d : PendingDelete). d.place.index) (f r)) (sym deletions);
+    stands = λ r d e.
+        let there : k.deletion r ≡ Some d = ap (λ (f : ℕ → Option PendingDelete). f r) (sym deletions) ∙ e in
+        stands_left later after r d there (ap (λ (t : TableView). sq_of t d.qid) same ∙ table_left v tells r d there) entries aborted closed
+        (ap (λ (z : SqContent). z.window) (sqs r d there)) (ap (λ (z : SqContent). z.queue) (sqs r d there));
+  }
+
+  -- the deletion of a queue begins: it is pending afterwards, on the region of the queue, with the place of the picked command
+  begun : (qid : ℕ) (queue : Queue) → TellsChange rules.start s.tabled.history candidate.entry (BeginDelete qid) → open_sq past qid ≡ Some queue
+      → HoldsDeletion (with_events (closing_of past qid (Some queue)) taken) (deleting_from now qid c candidate (Some queue))
+  begun qid queue tells is_open =
+      let due = tells.due in
+      let r : ℕ = queue.region in
+      let is : List ℕ = waiting past r in
+      let before : Past = event.Closing qid r ∷ taken in
+      let later : Past = with_events (closing_of past qid (Some queue)) taken in
+      let after : Content = deleting_from now qid c candidate (Some queue) in
+      let found = open_entry (sq_of k.table qid) queue (sym (s.queues.sqs qid) ∙ is_open) in
+      let other : r ≡ 0 → ⊥ = io_region past k qid queue s.queues admin is_open due.not_admin in
+      let d : PendingDelete = record { place = place_at 0 candidate.index; cid = candidate.entry.cid; qid = qid; region = r } in
+      let place : latest_admin_place taken ≡ Some candidate.index =
+      cond-true (pick.qid == 0) (slice_get (waiting past 0) 0) (latest_admin_place past) (eq-eqb pick.qid 0 zero_is) ∙ oldest_place past 0 (k.sq 0) (s.regions 0) candidate rest can.oldest in
+      let in_table : sq_of table qid ≡ Some (as_closing found.0) =
+      can.table_stands.sq qid ∙ tells.sqs qid
+      ∙ cond-true (qid == qid) (option_map as_closing (sq_at rules.start s.tabled.history qid)) (sq_at rules.start s.tabled.history qid) (eq-eqb qid qid refl)
+      ∙ ap (option_map as_closing) (sym (s.tabled.stands.sq qid) ∙ found.1) in
+      let entry : entry_at later 0 candidate.index ≡ Some candidate.entry =
+      ap (λ (xs : List Sqe). slice_get xs candidate.index) (aborts_leave_fetched r 0 is before) ∙ oldest_entry past 0 (k.sq 0) (s.regions 0) candidate rest can.oldest in
+      let not_aborted : is_aborted later 0 candidate.index ≡ false =
+      aborts_leave_aborted r 0 candidate.index is before other ∙ oldest_unaborted past 0 (k.sq 0) (s.regions 0) candidate rest can.oldest in
+      let none_waits : (after.sq r).window ≡ [] = put_emptied now.sq r _ refl in
+      let not_closed : is_closed_region later r ≡ false =
+      aborts_leave_closed r r is before ∙ false_from_ne_true (is_closed_region past r) (λ h. s.queues.closed qid r queue h is_open refl) in
+      let opened = s.queues.attached qid queue is_open in
+      let attached : option_map (λ (a : Attachment). a.qid) (after.sq r).queue ≡ Some qid =
+      ap (option_map (λ (a : Attachment). a.qid)) (put-queue now.sq r _ refl r ∙ put-queue k.sq 0 (picked_sq (k.sq 0) 1) refl r ∙ opened.attached) in
+      let this : IsPending later after r d = record {
+        at = refl;
+        closing = as_closing found.0;
+        in_table = in_table;
+        is_closing = refl;
+        region = found.2;
+        of_admin = refl;
+        entry = candidate.entry;
+        is_there = entry;
+        cid = refl;
+        not_aborted = not_aborted;
+        none_waits = none_waits;
+        not_closed = not_closed;
+        not_admin = other;
+        attached = attached;
+      } in
+      record {
+        place_is = λ x. aborts_leave_deleting r x is before ∙ more x place;
+        stands = λ x e at. elim (is_put k.deletion r (Some d) x e at) [
+          | Here same one ↦ subst (λ (y : ℕ). IsPending later after y e) (sym same) (subst (IsPending later after r) (same_Some d e one) this)
+          | Elsewhere differs there ↦
+              let left = apart now.sq r _ e.region (undeleted_apart rules late past k s qid queue x e is_open there) ∙ region_left x e there in
+              stands_left later after x e there (table_left (BeginDelete qid) tells x e there) (λ y j. ap (λ (xs : List Sqe). slice_get xs j) (aborts_leave_fetched r y is before))
+              (λ j. aborts_leave_aborted r 0 j is before other) (λ y. aborts_leave_closed r y is before) (ap (λ (z : SqContent). z.window) left) (ap (λ (z : SqContent). z.queue) left)
+        ];
+      } where
+        more : (x : ℕ) → latest_admin_place taken ≡ Some candidate.index
+            → (if queue.region == x then latest_admin_place taken else deleting past x)
+            ≡ option_map (λ (z : PendingDelete). z.place.index) (put_deletion k.deletion queue.region (Some (record { place = place_at 0 candidate.index; cid = candidate.entry.cid; qid = qid; region = queue.region })) x)
+        more x place = elim (cases_eq x queue.region) [
+          | inl same ↦ rw (eq-eqb x queue.region same, eq-eqb queue.region x (sym same)) place
+          | inr other ↦ rw (ne_eqb x queue.region other, ne_eqb queue.region x (λ z. other (sym z))) (s.deletion.place_is x)
+        ]
+
+  -- the region of an Abort command's queue isn't being deleted
+  aborting_left : (sqid cid : ℕ) (o : Option Queue) → target_of past sqid ≡ o → (r : ℕ) (d : PendingDelete) → k.deletion r ≡ Some d
+      → (aborting_from now candidate sqid c cid board o).sq d.region ≡ k.sq d.region
+  aborting_left sqid cid None target r d e = region_left r d e
+  aborting_left sqid cid (Some queue) target r d e = found (oldest_named cid (now.sq queue.region).window) where
+    found : (o : Option Candidate) → (aborting_in now candidate sqid queue.region c cid board o).sq d.region ≡ k.sq d.region
+    found None = region_left r d e
+    found (Some it) = apart now.sq queue.region _ d.region (undeleted_apart rules late past k s sqid queue r d (target_is past sqid queue target).1 e) ∙ region_left r d e
+
+  aborted_left : (sqid cid : ℕ) (o : Option Queue) → target_of past sqid ≡ o → (j : ℕ) → is_aborted (with_events (abort_in past cid o) taken) 0 j ≡ is_aborted past 0 j
+  aborted_left sqid cid None target j = refl
+  aborted_left sqid cid (Some queue) target j =
+      let t = target_is past sqid queue target in
+      aborts_leave_aborted queue.region 0 j (take 1 (named past queue.region cid)) taken (io_region past k sqid queue s.queues admin t.1 t.0)
+
+  entries_left : (cid x j : ℕ) (o : Option Queue) → entry_at (with_events (abort_in past cid o) taken) x j ≡ entry_at past x j
+  entries_left cid x j None = refl
+  entries_left cid x j (Some queue) = ap (λ (xs : List Sqe). slice_get xs j) (aborts_leave_fetched queue.region x (take 1 (named past queue.region cid)) taken)
+
+  closed_left : (cid x : ℕ) (o : Option Queue) → is_closed_region (with_events (abort_in past cid o) taken) x ≡ is_closed_region past x
+  closed_left cid x None = refl
+  closed_left cid x (Some queue) = aborts_leave_closed queue.region x (take 1 (named past queue.region cid)) taken
+
+  -- by the verdict of its command
+  by_verdict : (v : Verdict) → TellsChange rules.start s.tabled.history candidate.entry v → HoldsDeletion (admin_past past (event.Pick seen pick) v) (after_admin past now candidate c board v)
+  by_verdict (Done status dw0) tells = plain (Done status dw0) tells _ _ refl refl region_left (λ r. refl) (λ x j. refl) (λ j. refl) (λ x. refl)
+  by_verdict (verdict.OpenCq qid region) tells = plain (verdict.OpenCq qid region) tells _ _ refl refl region_left (λ r. refl) (λ x j. refl) (λ j. refl) (λ x. refl)
+  by_verdict (verdict.SetArbitration settings) tells = plain (verdict.SetArbitration settings) tells _ _ refl refl region_left (λ r. refl) (λ x j. refl) (λ j. refl) (λ x. refl)
+  by_verdict (CloseCq qid) tells = by_cq (open_cq past qid) where
+    by_cq : (o : Option ℕ) → HoldsDeletion (with_events (closed_cq_of qid o) taken) (after_admin past now candidate c board (CloseCq qid))
+    by_cq None = plain (CloseCq qid) tells _ _ refl refl region_left (λ r. refl) (λ x j. refl) (λ j. refl) (λ x. refl)
+    by_cq (Some region) = plain (CloseCq qid) tells _ _ refl refl region_left (λ r. refl) (λ x j. refl) (λ j. refl) (λ x. refl)
+  by_verdict (verdict.OpenSq qid region cqid class) tells =
+      let due = tells.due in
+      plain (verdict.OpenSq qid region cqid class) tells _ _ refl refl
+      (λ r d e. apart now.sq region _ d.region (λ same.
+      let none : (k.sq region).queue ≡ None = s.queues.unused region (s.tabled.stands.sq_used region ∙ due.unused) in
+      let o = s.queues.deleting r d e in
+      let some = o.opened in
+      let moved : (k.sq d.region).queue ≡ None = ap (λ (z : ℕ). (k.sq z).queue) same ∙ none in
+      cc (some, moved)) ∙ region_left r d e) (λ r. refl) (λ x j. refl) (λ j. refl) (λ x. refl)
+  by_verdict (verdict.Abort sqid cid) tells =
+      let o : Option Queue = target_of past sqid in
+      plain (verdict.Abort sqid cid) tells (with_events (abort_in past cid o) taken) (aborting_from now candidate sqid c cid board o)
+      (aborting_leaves_deletion now candidate sqid c cid board o) (aborting_leaves_table now candidate sqid c cid board o)
+      (aborting_left sqid cid o refl) (λ r. abort_leaves_deleting past taken cid r o) (λ x j. entries_left cid x j o) (aborted_left sqid cid o refl) (λ x. closed_left cid x o)
+  by_verdict (BeginDelete qid) tells = by_sq (open_sq past qid) refl where
+    by_sq : (o : Option Queue) → open_sq past qid ≡ o → HoldsDeletion (with_events (closing_of past qid o) taken) (deleting_from now qid c candidate o)
+    by_sq None e = absurd (let due = tells.due in open_in_log (sq_at rules.start s.tabled.history qid) due.open_sq (ap as_open (sym (s.tabled.stands.sq qid)) ∙ sym (s.queues.sqs qid) ∙ e))
+    by_sq (Some queue) e = begun qid queue tells e
+
+-- an admin pick keeps what is kept of pending deletions
 pub deleting-admin : KeepsAdmin Deleting
 deleting-admin rules late past k seen pick picked candidate rest table c board s can seen_is z one apply chosen regions =
-    let v : Verdict = verdict_at rules s.tabled.history candidate in
-    let tells : TellsChange rules.start s.tabled.history candidate.entry v = TellsChange-entry rules.start s.tabled.history candidate.entry in
-    let none : NoneCloses (sq_at rules.start s.tabled.history) = λ q e is. none_closes past k s.deletion can.none_pending q e (s.tabled.stands.sq q ∙ is) in
-    by_verdict rules late past k seen pick picked candidate rest table c board v s can z apply tells none
-    (λ no_begin q e is. none_closes-after v (sq_at rules.start s.tabled.history) no_begin none q e (sym (tells.sqs q) ∙ sym (apply.table_stands.sq q) ∙ is))
+    by_verdict rules late past k seen pick picked candidate rest table c board s (subst (λ (q : ℕ). open_sq past q ≡ Some admin_queue) z can.is_open) z apply
+    (verdict_at rules s.tabled.history candidate) (TellsChange-entry rules.start s.tabled.history candidate.entry)

@@ -28,8 +28,8 @@ use Rattle.nvme_ctrl.specs.Standing.{IsController}
 use Rattle.nvme_ctrl.specs.kept.Kept.{Items, HasNumbers, HasItems, HoldsDoorbells, StandsAt, tags_of, ready_tags}
 use Rattle.nvme_ctrl.specs.kept.Pool.{IsChain}
 use Rattle.nvme_ctrl.specs.kept.State.{sq_at, cq_at, attachment_of}
-use Rattle.nvme_ctrl.proofs.Cookies.{cookies_left, cookies_later}
-use Rattle.nvme_ctrl.proofs.Passed.{passed_left, passed_later}
+use Rattle.nvme_ctrl.proofs.Cookies.{cookies_later}
+use Rattle.nvme_ctrl.proofs.Passed.{passed_later}
 use Rattle.nvme_ctrl.proofs.OpenQueues.{open_region, any_upto}
 use Rattle.nvme_ctrl.proofs.RegionStates.{put_sq-each, put_cq-each}
 
@@ -129,9 +129,7 @@ sq_ring-items c slots k g r ring there h = record {
   ready_chain = h.ready_chain;
   ready_items = h.ready_items;
   ready_is = h.ready_is;
-  deletion_is = h.deletion_is;
-  deletion_item = h.deletion_item;
-  deletion_inside = h.deletion_inside;
+  deletions = h.deletions;
   free_chain = h.free_chain;
   free_items = h.free_items;
   few = h.few;
@@ -234,13 +232,13 @@ module _ (rules : FrontRules) (late : Bool) (notes : Notes) (c : Controller) (sl
               through = s.tags.through;
               windows_unanswered = s.tags.windows_unanswered;
               outs_unanswered = s.tags.outs_unanswered;
-              deletion_unanswered = s.tags.deletion_unanswered;
+              deletes_unanswered = s.tags.deletes_unanswered;
               none_answered = s.tags.none_answered;
               answered_held = s.tags.answered_held;
               hand_entries = s.tags.hand_entries;
               free_count = s.tags.free_count;
-              cookies = cookies_later notes (Tail e.region slot ∷ notes) (with_sq_ring c e.region new) slots s.items (λ r i. refl) (λ r. refl) (cookies_left notes slots slots (λ y. refl) c (with_sq_ring c e.region new) s.items refl s.tags.cookies);
-              passed = passed_later notes (Tail e.region slot ∷ notes) (with_sq_ring c e.region new) s.items (λ i. refl) refl (λ i waits. waits) (passed_left notes c (with_sq_ring c e.region new) s.items s.items refl (λ x. refl) refl s.tags.passed);
+              cookies = cookies_later notes (Tail e.region slot ∷ notes) slots s.items (λ r i. refl) (λ r. refl) s.tags.cookies;
+              passed = passed_later notes (Tail e.region slot ∷ notes) s.items (λ i. refl) refl (λ i waits. waits) s.tags.passed;
               none_marked = s.tags.none_marked;
               marks = s.tags.marks;
             };
@@ -294,9 +292,7 @@ cq_ring-items c slots k g r ring there h = record {
   ready_chain = put_cq-each (λ x state. IsChain slots state.ready (ready_tags (g.readies x))) c.cqs r (record (cq_at c.cqs r) { ring = ring }) there (h.ready_chain r) (λ x other. h.ready_chain x);
   ready_items = h.ready_items;
   ready_is = h.ready_is;
-  deletion_is = h.deletion_is;
-  deletion_item = h.deletion_item;
-  deletion_inside = h.deletion_inside;
+  deletions = h.deletions;
   free_chain = h.free_chain;
   free_items = h.free_items;
   few = h.few;
@@ -401,13 +397,13 @@ module _ (rules : FrontRules) (late : Bool) (notes : Notes) (c : Controller) (sl
               through = s.tags.through;
               windows_unanswered = s.tags.windows_unanswered;
               outs_unanswered = s.tags.outs_unanswered;
-              deletion_unanswered = s.tags.deletion_unanswered;
+              deletes_unanswered = s.tags.deletes_unanswered;
               none_answered = s.tags.none_answered;
               answered_held = s.tags.answered_held;
               hand_entries = s.tags.hand_entries;
               free_count = s.tags.free_count;
-              cookies = cookies_later notes (Head region slot ∷ notes) (with_cq_ring c region new) slots s.items (λ r i. refl) (λ r. refl) (cookies_left notes slots slots (λ y. refl) c (with_cq_ring c region new) s.items refl s.tags.cookies);
-              passed = passed_later notes (Head region slot ∷ notes) (with_cq_ring c region new) s.items (λ i. refl) refl (λ i waits. waits) (passed_left notes c (with_cq_ring c region new) s.items s.items refl (λ x. refl) refl s.tags.passed);
+              cookies = cookies_later notes (Head region slot ∷ notes) slots s.items (λ r i. refl) (λ r. refl) s.tags.cookies;
+              passed = passed_later notes (Head region slot ∷ notes) s.items (λ i. refl) refl (λ i waits. waits) s.tags.passed;
               none_marked = s.tags.none_marked;
               marks = s.tags.marks;
             };

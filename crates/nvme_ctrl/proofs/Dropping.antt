@@ -26,6 +26,7 @@ use Rattle.nvme_ctrl.specs.kept.Pool.{no_entry, slot_at, item_at, IsChain, IsNew
 use Rattle.nvme_ctrl.specs.kept.State.{sq_at, attachment_of}
 use Rattle.nvme_ctrl.proofs.CarriedOut.{none_picked_in}
 use Rattle.nvme_ctrl.proofs.Ending.{new_to_ready, loose_ended}
+use Rattle.nvme_ctrl.proofs.PendingDeletions.{deletes_apart}
 use Rattle.nvme_ctrl.proofs.Pools.{IsNew-by}
 use Rattle.nvme_ctrl.proofs.Windowed.{with_window, keeps_windowed}
 
@@ -53,6 +54,7 @@ module _ (rules : FrontRules) (notes : Notes) (a : Controller) (slots : List Slo
     outs = All-map (λ (y : ℕ). y ≢ x.tag) (λ (it : Item). it.tag) g.outs
         (All-weaker (IsOutIn slots) (λ (it : Item). it.tag ≢ x.tag) (λ it o e. absurd (cc (sym o.state ∙ ap (λ (z : ℕ). (slot_at slots z).state) e ∙ waits.state))) g.outs h.has.outs_items);
     readies = new_to_ready rules notes a slots k g h x.tag 1 waits.state (omega arith);
+    deletes = deletes_apart a.deletions a.pending_deletions slots k.deletion g.deletes x.tag h.has.deletions (λ e. absurd (cc (sym e ∙ waits.state)));
     free = IsNew-by (λ (y : ℕ). (slot_at slots y).state ≡ 0) x.tag g.free h.has.free_items (λ e. absurd (cc (sym e ∙ waits.state)));
     not_out = λ e. absurd (cc (sym e ∙ waits.state));
     not_answered = λ e. absurd (cc (sym e ∙ waits.state));
@@ -72,6 +74,7 @@ loose_windowed slots g region rest y h new = record {
   windows = λ r. by (r == region) r;
   outs = h.outs;
   readies = h.readies;
+  deletes = h.deletes;
   free = h.free;
   not_out = h.not_out;
   not_answered = h.not_answered;
@@ -270,6 +273,7 @@ droppable_step notes k qid region c x rest d is = record {
   posts_there = d.posts_there;
   attached = rw (eq-eqb region region refl) d.attached;
   io = d.io;
+  undeleted = d.undeleted;
   are_aborted = rw (eq-eqb region region refl)
       (All-tail (λ (z : Candidate). is_aborted (logged notes) region z.index ≡ true) (candidate_of x) (map candidate_of rest)
       (subst (All (λ (z : Candidate). is_aborted (logged notes) region z.index ≡ true)) is d.are_aborted));

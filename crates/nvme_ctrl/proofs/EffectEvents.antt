@@ -13,7 +13,8 @@ use Rattle.nvme_log.specs.Queues.{Queue, open_sq, open_cq, is_closed_region}
 use Rattle.nvme_log.specs.Places.{fetched, waiting, fate_of, is_waiting, is_aborted}
 use Rattle.nvme_log.specs.Completions.{table_before}
 use Rattle.nvme_log.specs.Effects.{is_effect, closing_of, closed_cq_of, made_by, made_last, effects_since, EffectsAtOnce, abort_in, named, target_of}
-use Rattle.nvme_log.specs.Account.{IndexCounts, ServedWhileOpen, Deletes}
+use Rattle.nvme_log.specs.Account.{IndexCounts, ServedWhileOpen}
+use Rattle.nvme_ctrl.specs.Deletions.{deleting, FollowsDeletions}
 use Rattle.nvme_ctrl.specs.inside.Next.{EachNext}
 use Rattle.nvme_ctrl.proofs.AfterSteps.{with_events}
 use Rattle.nvme_ctrl.proofs.OwnStatus.{aborts_leave_done, aborts_leave_region, aborts_leave, requests_leave, waits_apart, waiting_wait, named_wait}
@@ -135,36 +136,36 @@ effects_leave_fetched r (e ∷ rest) past are = effects_leave_fetched r rest (e 
 
 -- ---- deletions
 -- the aborted candidates are of a region that isn't closed
-aborts_delete : (r : ℕ) (is : List ℕ) (past : Past) → is_closed_region past r ≡ false → EachNext Deletes (map (λ (i : ℕ). Abort r i) is) past
+aborts_delete : (r : ℕ) (is : List ℕ) (past : Past) → is_closed_region past r ≡ false → EachNext FollowsDeletions (map (λ (i : ℕ). Abort r i) is) past
 aborts_delete r [] past h = tt
 aborts_delete r (i ∷ is) past h = (h, aborts_delete r is (Abort r i ∷ past) h)
 
--- so the beginning of a deletion aborts no candidate of a closed region
-closing_deletes : (past mid : Past) (qid : ℕ) (o : Option Queue) → ((queue : Queue) → o ≡ Some queue → is_closed_region mid queue.region ≡ false)
-    → EachNext Deletes (closing_of past qid o) mid
+-- so a deletion begins of a queue that isn't being deleted, and aborts no candidate of a closed region
+closing_deletes : (past mid : Past) (qid : ℕ) (o : Option Queue) → ((queue : Queue) → o ≡ Some queue → (deleting mid queue.region ≡ None) × (is_closed_region mid queue.region ≡ false))
+    → EachNext FollowsDeletions (closing_of past qid o) mid
 closing_deletes past mid qid None h = tt
-closing_deletes past mid qid (Some queue) h = (tt, aborts_delete queue.region (waiting past queue.region) (Closing qid queue.region ∷ mid) (h queue refl))
+closing_deletes past mid qid (Some queue) h = (h queue refl, aborts_delete queue.region (waiting past queue.region) (Closing qid queue.region ∷ mid) (h queue refl).1)
 
 -- and the closing of a completion queue aborts none
-closed_deletes : (mid : Past) (qid : ℕ) (o : Option ℕ) → EachNext Deletes (closed_cq_of qid o) mid
+closed_deletes : (mid : Past) (qid : ℕ) (o : Option ℕ) → EachNext FollowsDeletions (closed_cq_of qid o) mid
 closed_deletes mid qid None = tt
 closed_deletes mid qid (Some region) = (tt, tt)
 
 -- an Abort command aborts a candidate of an open queue
 abort_deletes : (past mid : Past) (cid : ℕ) (o : Option Queue) → ((queue : Queue) → o ≡ Some queue → is_closed_region mid queue.region ≡ false)
-    → EachNext Deletes (abort_in past cid o) mid
+    → EachNext FollowsDeletions (abort_in past cid o) mid
 abort_deletes past mid cid None h = tt
 abort_deletes past mid cid (Some queue) h = aborts_delete queue.region (take 1 (named past queue.region cid)) mid (h queue refl)
 
--- what a verdict makes aborts candidates of open queues alone
-pub made_delete : (past mid : Past) (v : Verdict) → ((q : ℕ) (queue : Queue) → open_sq past q ≡ Some queue → is_closed_region mid queue.region ≡ false)
-    → EachNext Deletes (made_by past v) mid
+-- what a verdict makes deletes open queues, and aborts candidates of open queues, alone
+pub made_delete : (past mid : Past) (v : Verdict) → ((q : ℕ) (queue : Queue) → open_sq past q ≡ Some queue → (deleting mid queue.region ≡ None) × (is_closed_region mid queue.region ≡ false))
+    → EachNext FollowsDeletions (made_by past v) mid
 made_delete past mid (Done status dw0) h = tt
 made_delete past mid (verdict.OpenSq qid region cqid class) h = (tt, tt)
 made_delete past mid (verdict.OpenCq qid region) h = (tt, tt)
 made_delete past mid (BeginDelete qid) h = closing_deletes past mid qid (open_sq past qid) (h qid)
 made_delete past mid (CloseCq qid) h = closed_deletes mid qid (open_cq past qid)
-made_delete past mid (verdict.Abort sqid cid) h = abort_deletes past mid cid (target_of past sqid) (λ queue is. h sqid queue (target_is past sqid queue is).1)
+made_delete past mid (verdict.Abort sqid cid) h = abort_deletes past mid cid (target_of past sqid) (λ queue is. (h sqid queue (target_is past sqid queue is).1).1)
 made_delete past mid (verdict.SetArbitration settings) h = (tt, tt)
 
 -- ---- aborts

@@ -2,12 +2,13 @@
 use Rattle.std.proofs.Common.{◌≡◌, ◌≢◌, ℕ, ◌+◌, ◌<◌, ◌≤◌, ◌^◌, ◌==◌, Bool, true, false, if◌then◌else◌, List, [], ◌∷◌, ◌++◌, length, Option, Some, None, refl, sym, ap, ◌∙◌, subst, arith, inl, inr, eq-eqb}
 use Rattle.std.specs.Prelude.{slice_set}
 use Rattle.std.specs.List.{All}
-use Rattle.std.proofs.lemmas.Bool.{cases_eq, ne_eqb, cond-true}
+use Rattle.std.proofs.lemmas.Bool.{cases_eq, ne_eqb}
 use Rattle.std.proofs.lemmas.List.{get_or-set_same, get_or-set_other, length-set, map-append}
 use Rattle.std.proofs.lemmas.List.Elements.{All-cons, All-push, All-weaker, All-map}
 use Rattle.nvme_entry.specs.Status.{StatusCode}
 use Rattle.nvme_log.specs.Rules.{FrontRules}
 use Rattle.nvme_log.specs.Completions.{posted_to, phase_after}
+use Rattle.nvme_log.specs.Dispatches.{place_at}
 use Rattle.nvme_ctrl.specs.Notes.{Notes, logged}
 use Rattle.nvme_ctrl.specs.Doorbells.{consumed}
 use Rattle.nvme_ctrl.specs.Rings.{HasCounts}
@@ -23,7 +24,8 @@ use Rattle.nvme_ctrl.specs.kept.Kept.{is_passed_at, IsReadyOf, Item, ReadyItem, 
 use Rattle.nvme_ctrl.specs.inside.Loose.{IsLoose, AreReadiesApart, Keeps, MakesReady, ended, with_item}
 use Rattle.nvme_ctrl.specs.kept.Pool.{slot_at, item_at, next_at, put_item, bit, marks_in, IsChain, IsNew, SameItems, SameLinks}
 use Rattle.nvme_ctrl.specs.kept.State.{no_cq_state, cq_at}
-use Rattle.nvme_ctrl.proofs.Cookies.{SameCookies, same_cookies-but, items_left, readies_left}
+use Rattle.nvme_ctrl.proofs.Cookies.{SameCookies, same_cookies-but, cookie_left, items_left, readies_left}
+use Rattle.nvme_ctrl.proofs.PendingDeletions.{deletions_stay}
 use Rattle.nvme_ctrl.proofs.PutMarks.{put_marks}
 use Rattle.nvme_ctrl.proofs.OwnStatus.{All-unmap}
 use Rattle.nvme_ctrl.proofs.Pools.{length-put_item, item_at-put_item_same, item_at-put_item_other, next_at-put_item, chain-put_item, IsNew-nil, IsNew-cons, IsNew-append, chain-other, length-apart}
@@ -47,12 +49,6 @@ module _ (rules : FrontRules) (notes : Notes) (a : Controller) (slots : List Slo
   -- and the free ones
   pub free_unready : (y : ℕ) → All (λ (x : ℕ). IsNew x (ready_tags (g.readies y))) g.free
   free_unready y = All-weaker (is_free slots) (λ (x : ℕ). IsNew x (ready_tags (g.readies y))) (λ x f. new_to_ready x 0 f (omega arith) y) g.free h.has.free_items
-
-  -- no deletion is kept
-  pub none_kept : k.deletion ≡ None
-  none_kept =
-      h.has.deletion_is
-      ∙ cond-true (a.deletion.pending == 0) None (Some (record { place = _; cid = (slot_at slots a.deletion.tag).entry.cid; qid = a.deletion.qid; region = a.deletion.region })) (eq-eqb a.deletion.pending 0 h.none_pending)
 
 module _ (rules : FrontRules) (notes : Notes) (a : Controller) (slots : List Slot) (k : Content) (g : Items) (h : Keeps rules notes a slots k g)
     (tag : ℕ) (loose : IsLoose slots g tag) (region : ℕ) (within : region < 65) (t : Ready) (through : IsThrough notes t)
@@ -145,10 +141,7 @@ module _ (rules : FrontRules) (notes : Notes) (a : Controller) (slots : List Slo
     ready_is = each (λ x s c its. c.ready ≡ readies_of its)
         (ap (λ (ts : List Ready). ts ++ t ∷ []) (m.ready_is region) ∙ sym (map-append (λ (it : ReadyItem). it.ready) (g.readies region) (ended tag t ∷ [])))
         (λ x other. m.ready_is x);
-    deletion_is = none_kept rules notes a slots k g h
-        ∙ sym (cond-true (a.deletion.pending == 0) None (Some (record { place = _; cid = (slot_at pool a.deletion.tag).entry.cid; qid = a.deletion.qid; region = a.deletion.region })) (eq-eqb a.deletion.pending 0 h.none_pending));
-    deletion_item = λ some. absurd (some h.none_pending);
-    deletion_inside = λ some. absurd (some h.none_pending);
+    deletions = deletions_stay a.deletions a.pending_deletions slots pool k.deletion g.deletes tag size others loose.deletes m.deletions;
     free_chain = left _ _ m.free_chain (free_unready rules notes a slots k g h region);
     free_items = All-both (λ (x : ℕ). x ≢ tag) (is_free slots) (is_free pool) (λ x other. same_state slots pool tag size others x 0 other) g.free loose.free m.free_items;
     few = subst (λ (n : ℕ). n < 2 ^ 16) (sym size) m.few;
@@ -183,7 +176,7 @@ module _ (rules : FrontRules) (notes : Notes) (a : Controller) (slots : List Slo
         (All-push (λ (y : ReadyItem). IsThrough notes y.ready) (g.readies region) (ended tag t) (m.through region) through) (λ x other. m.through x);
     windows_unanswered = m.windows_unanswered;
     outs_unanswered = m.outs_unanswered;
-    deletion_unanswered = m.deletion_unanswered;
+    deletes_unanswered = m.deletes_unanswered;
     none_answered = m.none_answered;
     answered_held = λ x is. m.answered_held x (had_state x 3 (omega arith) is);
     hand_entries = m.hand_entries;
@@ -193,20 +186,20 @@ module _ (rules : FrontRules) (notes : Notes) (a : Controller) (slots : List Slo
       all_handed = p.all_handed;
       served = p.served;
       readies = each (λ x s c its. All (IsReadyOf notes) its) (All-push (IsReadyOf notes) (g.readies region) (ended tag t) (p.readies region) passed_as) (λ x other. p.readies x);
-      deletion = λ some. absurd (some h.none_pending);
+      deletes = p.deletes;
     });
     none_marked = m.none_marked;
     marks = each (λ x s c its. All (HasMarks notes) its)
         (All-push (HasMarks notes) (g.readies region) (ended tag t) (m.marks region) (ap (λ (o : Option Marks). marks_or t.status o) (sym unmarked))) (λ x other. m.marks x);
   } where
-    cookies_after : HoldsCookies notes after pool later
+    cookies_after : HoldsCookies notes pool later
     cookies_after = let q = h.tags.cookies in record {
       windows = λ r. items_left notes slots pool same (g.windows r) (q.windows r);
       outs = items_left notes slots pool same g.outs q.outs;
       readies = each (λ x s c its. All (HasReadyCookie notes pool) its)
           (readies_left notes slots pool same (g.readies region ++ ended tag t ∷ []) (All-push (HasReadyCookie notes slots) (g.readies region) (ended tag t) (q.readies region) cookie))
           (λ x other. readies_left notes slots pool same (g.readies x) (q.readies x));
-      deletion = λ some. absurd (some h.none_pending);
+      deletes = λ r it is. cookie_left notes slots pool same it.tag (place_at 0 it.index) (q.deletes r it is);
       none = q.none;
     }
 
@@ -237,7 +230,6 @@ module _ (rules : FrontRules) (notes : Notes) (a : Controller) (slots : List Slo
     doorbells = doorbells_after;
     tags = tags_after;
     apart = apart_after;
-    none_pending = h.none_pending;
   }
 
 -- another slot that is in no list stays so
@@ -250,6 +242,7 @@ loose_ended slots pool g tag region t y size others differ loose =
       windows = loose.windows;
       outs = loose.outs;
       readies = λ x. by (x == region) x;
+      deletes = loose.deletes;
       free = loose.free;
       not_out = λ e. loose.not_out (sym state ∙ e);
       not_answered = λ e. loose.not_answered (sym state ∙ e);

@@ -43,7 +43,6 @@ use Rattle.nvme_log.proofs.Turns.{stays}
 use Rattle.nvme_ctrl.proofs.AfterSteps.{CanFetch, fetched_sq, came_board, after_fetch}
 use Rattle.nvme_ctrl.proofs.DoorbellCalls.{queue_of, is_open, sq_there, slots_are}
 use Rattle.nvme_ctrl.proofs.NextEvents.{next-fetch}
-use Rattle.nvme_ctrl.proofs.OpenQueues.{none_is_pending}
 use Rattle.nvme_ctrl.proofs.Pools.{length-put_item, item_at-put_item_same, item_at-put_item_other, chain-put_item, chain-other, length-apart}
 use Rattle.nvme_ctrl.proofs.RegionStates.{put_region-each}
 use Rattle.nvme_ctrl.proofs.ServedPlaces.{entry_stays}
@@ -52,6 +51,7 @@ use Rattle.nvme_ctrl.proofs.SlotStates.{window-states, window-regions, ready-sta
 use Rattle.nvme_ctrl.proofs.OutTags.{still_not_out-logged}
 use Rattle.nvme_ctrl.proofs.Standing.{holds-fetch}
 use Rattle.nvme_ctrl.proofs.Turns.{filled-is}
+use Rattle.nvme_ctrl.proofs.PendingDeletions.{deletions_stay}
 
 -- ---- what waits
 module _ (rules : FrontRules) (late : Bool) (notes : Notes) (c : Controller) (slots : List Slot) (s : StandsAt rules late notes c slots) where
@@ -87,13 +87,9 @@ module _ (rules : FrontRules) (late : Bool) (notes : Notes) (c : Controller) (sl
     pub fetch_open : open_sq (logged notes) qid ≡ Some (queue_of e)
     fetch_open = is_open rules late notes c slots s qid e can.in_table can.not_closing
 
-    none_kept : s.content.deletion ≡ None
-    none_kept = s.has.deletion_is ∙ rw can.none_pending refl
-
     pub can_fetch : CanFetch (logged notes) s.content qid (queue_of e)
     can_fetch = record {
       is_open = fetch_open;
-      none_pending = none_kept;
       room = rw (waiting_are rules late notes c slots s e.region, ← s.numbers.sq_slots e.region) can.room;
     }
 
@@ -110,7 +106,6 @@ module _ (rules : FrontRules) (late : Bool) (notes : Notes) (c : Controller) (sl
     may_fetch = record {
       queue = queue_of e;
       is_open = fetch_open;
-      none_pending = none_is_pending rules late (logged notes) s.content s.holds none_kept;
       submitted = more_submitted;
       in_window = rw (waits rules late notes c slots s e.region) can.in_window;
       has_room = rw (waits rules late notes c slots s e.region, ← slots_are rules late notes c slots s e.region) can.room;
@@ -394,9 +389,8 @@ module _ (rules : FrontRules) (late : Bool) (notes : Notes) (c : Controller) (sl
               (λ t least is. omega (arith, least, is)) (ready_tags (s.items.readies x)) (ready-states slots (s.items.readies x) (h.ready_items x))));
           ready_items = λ x. all_ready_stay slots pool tag size left (s.items.readies x) (let zero = was_free in omega (arith, zero)) (h.ready_items x);
           ready_is = h.ready_is;
-          deletion_is = none_kept rules late notes c slots s qid e can ∙ rw can.none_pending refl;
-          deletion_item = λ some. absurd (some can.none_pending);
-          deletion_inside = λ some. absurd (some can.none_pending);
+          deletions = deletions_stay c.deletions c.pending_deletions slots pool s.content.deletion s.items.deletes tag size left
+              (λ r d at. other_than d.tag 6 (h.deletions.items r d at).state (omega arith)) h.deletions;
           free_chain = chain_left free first_free.rest first_free.chain
               (elsewhere first_free.rest (All-weaker (is_free slots) (λ (t : ℕ). (slot_at slots t).state ≢ 1) (λ t zero is. omega (arith, zero, is)) first_free.rest rest_free));
           free_items = All-weaker (λ (x : ℕ). x ≢ tag × is_free slots x) (is_free pool) (λ x both. same_state slots pool tag size left x 0 both.0 both.1) first_free.rest both_free;
@@ -493,14 +487,14 @@ module _ (rules : FrontRules) (late : Bool) (notes : Notes) (c : Controller) (sl
           absurd (omega (arith, here, more, is, same_index))
       by false same = s.tags.cookies.none x i (let least = fetched_least (logged notes) e.region index entry x in omega (arith, least, le))
 
-    cookies_now : HoldsCookies later after pool items
+    cookies_now : HoldsCookies later pool items
     cookies_now = record {
       windows = each_region (λ x state k xs. All (HasCookie later pool) xs)
           (All-push (HasCookie later pool) (s.items.windows e.region) item (windows_kept e.region) item_kept) (λ x other. windows_kept x);
       outs = All-both (IsOutIn slots) (HasCookie notes slots) (HasCookie later pool) (λ it w h. keeps_other it.tag it.place (other_than it.tag 2 w.state (omega arith)) h)
           s.items.outs s.has.outs_items s.tags.cookies.outs;
       readies = λ x. All-both (IsReadyIn slots) (HasReadyCookie notes slots) (HasReadyCookie later pool) ready_kept (s.items.readies x) (s.has.ready_items x) (s.tags.cookies.readies x);
-      deletion = λ some. absurd (some can.none_pending);
+      deletes = λ r d at. keeps_other d.tag (place_at 0 d.index) (other_than d.tag 6 (s.has.deletions.items r d at).state (omega arith)) (s.tags.cookies.deletes r d at);
       none = none_kept_now;
     }
 
@@ -518,13 +512,13 @@ module _ (rules : FrontRules) (late : Bool) (notes : Notes) (c : Controller) (sl
               (t.none_answered e.region index (let is = index_is in omega (arith, is))))
               (λ x other. t.windows_unanswered x);
           outs_unanswered = t.outs_unanswered;
-          deletion_unanswered = t.deletion_unanswered;
+          deletes_unanswered = t.deletes_unanswered;
           none_answered = none_answered_now;
           answered_held = answered_held_now;
           hand_entries = hand_entries_now;
           free_count = free_count_now;
           cookies = cookies_now;
-          passed = passed_later notes later after items (λ i. refl) refl (λ i waits. stays (Fetch e.region index entry) (logged notes) 0 i waits) (passed_left notes c after s.items items refl (λ x. refl) refl t.passed);
+          passed = passed_later notes later items (λ i. refl) refl (λ i waits. stays (Fetch e.region index entry) (logged notes) 0 i waits) (passed_left notes s.items items (λ x. refl) refl t.passed);
           none_marked = t.none_marked;
           marks = t.marks;
         }

@@ -1,7 +1,5 @@
 -- What may be fetched by the log is told: the controller sees that it may.
-use Rattle.std.proofs.Common.{◌≡◌, ◌≢◌, ℕ, ◌%◌, ◌<◌, ◌==◌, Bool, true, false, if◌then◌else◌, List, [], ◌∷◌, length, Option, Some, None, refl, sym, ap, ◌∙◌, subst, arith, inl, inr}
-use Rattle.std.specs.Prelude.{option_map}
-use Rattle.std.proofs.lemmas.Bool.{cases_eq, ne_eqb}
+use Rattle.std.proofs.Common.{◌≡◌, ◌≢◌, ℕ, ◌%◌, ◌<◌, Bool, true, false, if◌then◌else◌, List, [], ◌∷◌, length, Option, Some, None, refl, sym, ap, ◌∙◌, subst, arith}
 use Rattle.std.proofs.lemmas.Option.{same_Some}
 use Rattle.nvme_admin.specs.Layout.{view_of}
 use Rattle.nvme_admin.specs.Standing.{sq_of}
@@ -18,11 +16,9 @@ use Rattle.nvme_ctrl.specs.Calls.{window_limit, MayFetch}
 use Rattle.nvme_ctrl.specs.declared.chain.Chain.{Chain}
 use Rattle.nvme_ctrl.specs.declared.slot.Slot.{Slot}
 use Rattle.nvme_ctrl.specs.declared.state.Controller.{Controller}
-use Rattle.nvme_ctrl.specs.kept.Content.{PendingDelete}
 use Rattle.nvme_ctrl.specs.inside.Fetching.{IsFetchable, filled, waiting_in}
-use Rattle.nvme_ctrl.specs.kept.Kept.{StandsAt, pending_of}
+use Rattle.nvme_ctrl.specs.kept.Kept.{StandsAt}
 use Rattle.nvme_ctrl.specs.kept.Pool.{IsChain}
-use Rattle.nvme_ctrl.specs.kept.Standing.{as_deletion}
 use Rattle.nvme_ctrl.specs.kept.State.{sq_at}
 use Rattle.nvme_ctrl.proofs.DoorbellCalls.{queue_of, open_is, slots_are}
 use Rattle.nvme_ctrl.proofs.FetchCalls.{waits}
@@ -42,29 +38,11 @@ has_open (Some e) queue h = by e.closing refl h where
   by true is none = cc none
   by false is some = record { entry = e; is_there = refl; not_closing = is; queue_is = sym (same_Some (queue_of e) queue some) }
 
--- no deletion is kept where none is pending
-none_deleted : (o : Option PendingDelete) → option_map as_deletion o ≡ None → o ≡ None
-none_deleted None h = refl
-none_deleted (Some d) h = cc h
-
-begun_is_some : (b : Bool) (d : PendingDelete) → b ≡ false → (if b then None else Some d) ≡ None → ⊥
-begun_is_some true d h none = cc h
-begun_is_some false d h none = cc none
-
 module _ (rules : FrontRules) (late : Bool) (notes : Notes) (c : Controller) (slots : List Slot) (s : StandsAt rules late notes c slots)
     (qid slot : ℕ) (m : MayFetch rules notes (window_limit c) (length slots) qid slot)
   where
     pub in_table : HasOpen (sq_of (view_of c.table) qid) m.queue
     in_table = has_open (sq_of (view_of c.table) qid) m.queue (sym (open_is rules late notes c slots s qid) ∙ m.is_open)
-
-    none_begun : c.deletion.pending ≡ 0
-    none_begun = elim (cases_eq c.deletion.pending 0) [
-      | inl zero ↦ zero
-      | inr some ↦
-          let none : pending_of c slots s.items ≡ None = sym s.has.deletion_is ∙ none_deleted s.content.deletion (sym s.holds.deletion.pending_is ∙ m.none_pending) in
-          let begun : (c.deletion.pending == 0) ≡ false = ne_eqb c.deletion.pending 0 some in
-          absurd (begun_is_some (c.deletion.pending == 0) _ begun none)
-    ]
 
     counted : HasCounts (sq_at c.sqs m.queue.region).ring (length (fetched (logged notes) m.queue.region)) (submitted rules notes m.queue.region)
     counted = s.doorbells.sqs m.queue.region (let room = m.has_room in let same = slots_are rules late notes c slots s m.queue.region in omega (arith, room, same))
@@ -78,7 +56,6 @@ module _ (rules : FrontRules) (late : Bool) (notes : Notes) (c : Controller) (sl
         record {
           in_table = in_table.is_there;
           not_closing = in_table.not_closing;
-          none_pending = none_begun;
           some_free = λ zero. (let count = s.tags.free_count in let some = m.some_free in omega (arith, zero, count, some));
           some_submitted = λ zero. (let all = filled-is (sq_at c.sqs r).ring (length (fetched (logged notes) r)) (submitted rules notes r) counted in
               let none = subst (λ (x : ℕ). filled (sq_at c.sqs x).ring ≡ 0) (sym same) zero in

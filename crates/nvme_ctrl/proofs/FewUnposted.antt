@@ -1,10 +1,9 @@
--- How many places are unposted, where no deletion is pending.
-use Rattle.std.proofs.Common.{◌≡◌, ℕ, zero, suc, ◌<◌, ◌≤◌, ◌==◌, ◌&&◌, ◌||◌, nat_lt, Bool, true, false, not, List, [], ◌∷◌, length, Option, None, refl, sym, ap, ◌∙◌, arith, inl, inr, true≢false}
+-- How many places of a region are unposted, where its queue isn't being deleted.
+use Rattle.std.proofs.Common.{◌≡◌, ℕ, zero, suc, ◌<◌, ◌≤◌, ◌==◌, ◌&&◌, ◌||◌, nat_lt, Bool, true, false, not, List, [], ◌∷◌, length, None, refl, sym, ap, ◌∙◌, arith, inl, inr, true≢false}
 use Rattle.std.specs.Prelude.{All, sum_by, slice_index_or}
-use Rattle.std.proofs.lemmas.Bool.{cases_lt, cases_eq, eqb-true, and_parts, and_from, not_from_false, lt-ltb}
+use Rattle.std.proofs.lemmas.Bool.{false_from_ne_true, cases_lt, cases_eq, eqb-true, and_parts, and_from, not_from_false, lt-ltb}
 use Rattle.std.proofs.lemmas.List.Sums.{sum_by-le, sum_by-append}
 use Rattle.nvme_admin.specs.declared.bounds.TheConstants.{MAX_REGIONS}
-use Rattle.nvme_ctrl.specs.kept.Content.{PendingDelete}
 use Rattle.nvme_ctrl.specs.kept.Content.{Ready}
 use Rattle.nvme_log.specs.Rules.{FrontRules, Past, upto, sq_regions_of}
 use Rattle.nvme_log.specs.Places.{fetched, picked, fate_of, is_waiting, is_picked, is_aborted, unaborted_below, places}
@@ -12,7 +11,7 @@ use Rattle.nvme_log.specs.declared.place.Place.{Place}
 use Rattle.nvme_log.specs.Aborts.{is_abort_requested, is_aborted_with_queue}
 use Rattle.nvme_log.specs.Completions.{is_posted, takes_place}
 use Rattle.nvme_ctrl.specs.kept.Content.{Content}
-use Rattle.nvme_ctrl.specs.kept.Standing.{HoldsSq, HoldsReady, IsReady, Holds, times_in, times_ready, times_held, held_by, hand_of, IsInHand}
+use Rattle.nvme_ctrl.specs.kept.Standing.{HoldsSq, HoldsReady, HoldsDeletion, IsReady, Holds, times_in, times_ready, times_held, held_upto, hand_of, IsInHand}
 use Rattle.nvme_log.specs.Places.{one_if, is_served}
 use Rattle.nvme_log.specs.Completions.{unposted_of}
 use Rattle.nvme_log.proofs.Posts.{posts_of-none}
@@ -20,6 +19,7 @@ use Rattle.nvme_log.proofs.Counting.{counts_less, fate_by}
 use Rattle.nvme_ctrl.proofs.PostedPlaces.{outstanding_of}
 use Rattle.nvme_ctrl.proofs.Readying.{over_none}
 use Rattle.nvme_ctrl.proofs.ReadyHand.{times_held-append}
+use Rattle.nvme_ctrl.proofs.PendingDeletions.{held-none}
 use Rattle.nvme_ctrl.proofs.ReadyAdmin.{not_deleting}
 
 -- ---- unposted places
@@ -28,8 +28,8 @@ counts_none : (b : Bool) → (b ≡ true → ⊥) → one_if b ≤ 0
 counts_none true n = absurd (n refl)
 counts_none false n = omega arith
 
--- where no deletion is pending, no ready completion is that of a place that was aborted with its queue
-ready-unaborted : (past : Past) (k : Content) (r i : ℕ) → HoldsReady past k (hand_of k) → k.deletion ≡ None → is_aborted_with_queue past r i ≡ true
+-- where the queue of a region isn't being deleted, no ready completion is that of a place that was aborted with it
+ready-unaborted : (past : Past) (k : Content) (r i : ℕ) → HoldsReady past k (hand_of k) → k.deletion r ≡ None → is_aborted_with_queue past r i ≡ true
     → times_ready k r i ≡ 0
 ready-unaborted past k r i h none gone =
     over_none (λ (c : ℕ). times_in r i (k.cq c).ready) MAX_REGIONS (λ c l.
@@ -40,7 +40,7 @@ ready-unaborted past k r i h none gone =
           let is : IsReady past k.deletion c t = h.each c j d m in
           counts_none (t.place.region == r && t.place.index == i) (λ e.
           let same = and_parts (t.place.region == r) (t.place.index == i) e in
-          not_deleting past k.deletion c t is none
+          not_deleting past k.deletion c t is (ap k.deletion (eqb-true t.place.region r same.0) ∙ none)
           (is.with_queue ∙ ap (λ (z : ℕ). is_aborted_with_queue past z t.place.index) (eqb-true t.place.region r same.0)
           ∙ ap (λ (z : ℕ). is_aborted_with_queue past r z) (eqb-true t.place.index i same.1) ∙ gone))),
     ))
@@ -58,17 +58,19 @@ places-unaborted past ps r i each gone =
           true≢false (sym gone ∙ ap (λ (z : ℕ). is_aborted past z i) (sym (eqb-true p.region r same.0)) ∙ ap (is_aborted past p.region) (sym (eqb-true p.index i same.1)) ∙ is.not_aborted))),
     )
 
--- so no aborted place is in hand, where no deletion is pending
-hand-unaborted : (past : Past) (k : Content) (r i : ℕ) → All (IsInHand past) k.hand → k.deletion ≡ None → is_aborted past r i ≡ true
+-- so no aborted place is in hand: the commands of deletions weren't aborted
+hand-unaborted : (past : Past) (k : Content) (r i : ℕ) → All (IsInHand past) k.hand → HoldsDeletion past k → is_aborted past r i ≡ true
     → times_held r i (hand_of k) ≡ 0
-hand-unaborted past k r i each none gone =
-    let held : times_held r i (held_by k.deletion) ≡ 0 = ap (λ (d : Option PendingDelete). times_held r i (held_by d)) none in
-    omega (arith, times_held-append r i k.hand (held_by k.deletion), places-unaborted past k.hand r i each gone)
+hand-unaborted past k r i each deletes gone =
+    let held = held-none r i k.deletion MAX_REGIONS (λ x d is. false_from_ne_true (d.place.region == r && d.place.index == i) (λ h.
+    let same = and_parts (d.place.region == r) (d.place.index == i) h in
+    true≢false (sym gone ∙ ap (λ (z : ℕ). is_aborted past z i) (sym (eqb-true d.place.region r same.0)) ∙ ap (is_aborted past d.place.region) (sym (eqb-true d.place.index i same.1)) ∙ (deletes.stands x d is).not_aborted))) in
+    omega (arith, times_held-append r i k.hand (held_upto k.deletion MAX_REGIONS), places-unaborted past k.hand r i each gone, held)
 
 -- so a place that was aborted with its queue has its completion posted
 aborted-posted : (past : Past) (k : Content) (r i : ℕ) → ((x : ℕ) → HoldsSq past x (k.sq x)) → HoldsReady past k (hand_of k)
-    → All (IsInHand past) k.hand → k.deletion ≡ None → is_aborted_with_queue past r i ≡ true → is_posted past r i ≡ false → ⊥
-aborted-posted past k r i regions h each none gone fresh =
+    → All (IsInHand past) k.hand → HoldsDeletion past k → k.deletion r ≡ None → is_aborted_with_queue past r i ≡ true → is_posted past r i ≡ false → ⊥
+aborted-posted past k r i regions h each deletes none gone fresh =
     let named : is_aborted past r i ≡ true = (and_parts (is_aborted past r i) (not (is_abort_requested past r i)) gone).0 in
     elim (cases_lt i (length (k.sq r).got)) [
       | inl there ↦
@@ -78,7 +80,7 @@ aborted-posted past k r i regions h each none gone fresh =
           let once = h.once r i in
           let unready = ready-unaborted past k r i h none gone in
           let unposted = posts_of-none past r i fresh in
-          let hand = hand-unaborted past k r i each none named in
+          let hand = hand-unaborted past k r i each deletes named in
           absurd (omega arith)
       | inr beyond ↦ true≢false (sym named ∙ (regions r).none_aborted i beyond)
     ]
@@ -93,14 +95,14 @@ part_of f r (suc n) l =
       | inr d ↦ omega (arith, part_of f r n (omega arith))
     ]
 
--- where no deletion is pending, no more places of a region are unposted than are outstanding
-pub few_unposted : (rules : FrontRules) (late : Bool) (past : Past) (k : Content) → Holds rules late past k → k.deletion ≡ None → (r : ℕ) → r < k.nsq
+-- so no more places of such a region are unposted than are outstanding
+pub few_unposted : (rules : FrontRules) (late : Bool) (past : Past) (k : Content) → Holds rules late past k → (r : ℕ) → k.deletion r ≡ None → r < k.nsq
     → (k.sq r).unposted ≤ k.outstanding
-few_unposted rules late past k s none r there =
+few_unposted rules late past k s r none there =
     let picks : unposted_of past r ≤ outstanding_of past r =
     counts_less (λ (i : ℕ). not (is_waiting (fate_of past r i)) && not (is_posted past r i)) (λ (i : ℕ). takes_place past r i && not (is_posted past r i))
     (λ (i : ℕ). takes (is_aborted past r i) (nat_lt (unaborted_below past r i) (picked past r)) (is_posted past r i) (is_abort_requested past r i)
-    (λ gone kept fresh. aborted-posted past k r i s.regions s.ready s.hand.each none
+    (λ gone kept fresh. aborted-posted past k r i s.regions s.ready s.hand.each s.deletion none
     (and_from (is_aborted past r i) (not (is_abort_requested past r i)) gone (not_from_false (is_abort_requested past r i) kept)) fresh))
     (places past r) in
     let all = part_of (λ (x : ℕ). outstanding_of past x) r (length (sq_regions_of rules)) (omega (arith, s.tabled.sq_number)) in

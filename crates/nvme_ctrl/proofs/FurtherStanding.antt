@@ -1,45 +1,26 @@
 -- What a controller holds of its table and of its answers, at the rules with a region more.
-use Rattle.std.proofs.Common.{◌≡◌, ℕ, ◌+◌, ◌<◌, ◌≤◌, ◌==◌, ◌&&◌, not, nat_lt, Bool, true, false, ◌∷◌, ◌++◌, length, get_or, Option, Some, refl, sym, ap, ◌∙◌, subst, arith, true≢false}
-use Rattle.std.proofs.lemmas.Bool.{and_parts, not-true, or_parts}
-use Rattle.std.proofs.lemmas.List.Sums.{sum_by_push}
+use Rattle.std.proofs.Common.{◌≡◌, ℕ, ◌<◌, Bool, true, false, ◌∷◌, length, get_or, refl, sym, ap, ◌∙◌, subst, true≢false}
+use Rattle.std.proofs.lemmas.Bool.{or_parts}
 use Rattle.nvme_admin.specs.Accepted.{queue_table}
 use Rattle.nvme_admin.specs.History.{TableHistory, RegionAdded, Kind}
 use Rattle.nvme_admin.specs.Standing.{TableView, Shows, StandsAt as TableStandsAt}
 use Rattle.nvme_log.specs.Rules.{FrontRules, Past, sq_regions_of, cq_regions_of}
 use Rattle.nvme_log.specs.Histories.{table_history}
-use Rattle.nvme_log.specs.Places.{fetched, fate_of, is_waiting, one_if, is_served}
-use Rattle.nvme_log.specs.Completions.{posts_of}
-use Rattle.nvme_log.specs.declared.place.Place.{Place}
+use Rattle.nvme_log.specs.Places.{fate_of, is_waiting}
 use Rattle.nvme_ctrl.specs.Making.{with_region, is_late, is_named}
 use Rattle.nvme_ctrl.specs.Notes.{Notes, logged}
 use Rattle.nvme_ctrl.specs.kept.Content.{Ready, PendingDelete, Content}
-use Rattle.nvme_ctrl.specs.kept.Standing.{HoldsReady, HoldsOwn, HasItsStatus, HasOwnStatus, IsOwnDeletion, answer_in, deleted_answer, times_ready, times_held, held_by, hand_of}
+use Rattle.nvme_ctrl.specs.kept.Standing.{HoldsOwn, HasItsStatus, HasOwnStatus, IsOwnDeletion, answer_in, deleted_answer, hand_of, Holds}
 use Rattle.nvme_ctrl.proofs.FurtherTables.{added-further, table-further, sqs-further, cqs-further}
 use Rattle.nvme_ctrl.proofs.FurtherHistories.{IsUnnamed, history-further, made_last-further}
 use Rattle.nvme_ctrl.proofs.FurtherAnswers.{status-stays, dw0-stays}
-use Rattle.nvme_ctrl.proofs.OwnStatus.{IsAnswerable, ready_is_answerable, answerable_is_done, same_place}
+use Rattle.nvme_ctrl.proofs.OwnStatus.{IsAnswerable, ready_is_answerable, answerable_is_done}
 use Rattle.nvme_ctrl.proofs.TakenCommands.{IsSound}
+use Rattle.nvme_ctrl.proofs.DeletedQueues.{deletion_done}
 
 -- a region isn't late where none was before, and no Create named its address
 pub in_time : (rules : FrontRules) (late : Bool) (notes : Notes) (a : ℕ) → is_late rules late notes a ≡ false → (late ≡ false) × IsUnnamed rules a (logged notes)
 in_time rules late notes a e = or_parts late (is_named rules notes a) e
-
--- of numbers that are together one if a test passes, the last at least one
-last_one : (a b c : ℕ) (served : Bool) → 1 ≤ c → a + b + c ≡ one_if served → served ≡ true
-last_one a b c true h e = refl
-last_one a b c false h e = absurd (omega (arith, h, e))
-
--- the place of a pending deletion doesn't wait
-deletion_done : (past : Past) (k : Content) → HoldsReady past k (hand_of k) → (d : PendingDelete) → k.deletion ≡ Some d
-    → is_waiting (fate_of past d.place.region d.place.index) ≡ false
-deletion_done past k h d is =
-    let r = d.place.region in
-    let i = d.place.index in
-    let held : 1 ≤ times_held r i (hand_of k) =
-    subst (λ (o : Option PendingDelete). 1 ≤ times_held r i (k.hand ++ held_by o)) (sym is)
-    (omega (arith, sum_by_push (λ (p : Place). one_if (p.region == r && p.index == i)) k.hand d.place, same_place r i)) in
-    let served = last_one (times_ready k r i) (posts_of past r i) (times_held r i (hand_of k)) (is_served past r i) held (h.once r i) in
-    not-true (is_waiting (fate_of past r i)) (and_parts (nat_lt i (length (fetched past r))) (not (is_waiting (fate_of past r i))) served).1
 
 -- a history at which a table stands, which is that of the log where no region was added late
 pub record HasHistory (rules : FrontRules) (late : Bool) (past : Past) (table : TableView) : Type 0 where
@@ -73,11 +54,11 @@ module _ (rules : FrontRules) (kind : Kind) (a n : ℕ) (some_sqs : 0 < length (
         }
 
   -- ---- answers
-  pub own-holds : (past : Past) (k : Content) → IsSound rules past → IsUnnamed rules a past → HoldsReady past k (hand_of k) → HoldsOwn rules past k → HoldsOwn (with_region kind a n rules) past k
-  own-holds past k sound unnamed h own = record {
+  pub own-holds : (late : Bool) (past : Past) (k : Content) → IsSound rules past → IsUnnamed rules a past → Holds rules late past k → HoldsOwn rules past k → HoldsOwn (with_region kind a n rules) past k
+  own-holds late past k sound unnamed s own = record {
     effects_whole = own.effects_whole ∙ sym (made_last-further rules kind a n some_sqs some_cqs past unnamed);
-    own_statuses = λ x j d lt. ready-holds (get_or (k.cq x).ready j d) (ready_is_answerable past k (hand_of k) h x j d lt) (own.own_statuses x j d lt);
-    own_deletion = λ d is. deletion-holds d (deletion_done past k h d is) (own.own_deletion d is);
+    own_statuses = λ x j d lt. ready-holds (get_or (k.cq x).ready j d) (ready_is_answerable past k (hand_of k) s.ready x j d lt) (own.own_statuses x j d lt);
+    own_deletion = λ r d is. deletion-holds d (deletion_done rules late past k s r d is) (own.own_deletion r d is);
   } where
     ready-holds : (t : Ready) → IsAnswerable past (hand_of k) t.place.region t.place.index → HasOwnStatus rules past t → HasOwnStatus (with_region kind a n rules) past t
     ready-holds t it has not_passed =

@@ -91,7 +91,6 @@ module _ (rules : FrontRules) (late later : Bool) (past : Past) (k : Content) (s
     once = s.ready.once;
     each = s.ready.each;
     taken = s.ready.taken;
-    few_aborted = s.ready.few_aborted;
     few_taken = s.ready.few_taken;
     none_beyond = s.ready.none_beyond;
     admin_qid = s.ready.admin_qid;
@@ -134,12 +133,13 @@ module _ (rules : FrontRules) (late later : Bool) (past : Past) (k : Content) (s
     unopened = λ r h. let u = s.queues.unopened r h in record { nothing_got = u.nothing_got; not_closed = u.not_closed };
     gone = λ r h. let u = s.queues.gone r h in record { all_posted = u.all_posted; none_waits = u.none_waits };
     closed = s.queues.closed;
-    deleting = λ d h. let o = s.queues.deleting d h in record { cq_region = o.cq_region; opened = o.opened };
+    deleting = λ r d h. let o = s.queues.deleting r d h in record { cq_region = o.cq_region; opened = o.opened };
   }
 
-  -- the pending deletion stays
-  grown_pending : (d : PendingDelete) → IsPending past k d → IsPending past (grown k sq_slots cq_slots nsq ncq table) d
-  grown_pending d p = record {
+  -- the pending deletions stay
+  grown_pending : (r : ℕ) (d : PendingDelete) → IsPending past k r d → IsPending past (grown k sq_slots cq_slots nsq ncq table) r d
+  grown_pending r d p = record {
+    at = p.at;
     closing = p.closing;
     in_table = g.same_sq d.qid ∙ p.in_table;
     is_closing = p.is_closing;
@@ -158,10 +158,8 @@ module _ (rules : FrontRules) (late later : Bool) (past : Past) (k : Content) (s
   -- and what is said of deletions
   grown_deletion : HoldsDeletion past (grown k sq_slots cq_slots nsq ncq table)
   grown_deletion = record {
-    pending_is = s.deletion.pending_is;
     place_is = s.deletion.place_is;
-    stands = λ d h. grown_pending d (s.deletion.stands d h);
-    closing_is = λ q e there closes. s.deletion.closing_is q e (sym (g.same_sq q) ∙ there) closes;
+    stands = λ r d h. grown_pending r d (s.deletion.stands r d h);
   }
 
   -- the table stands at a history with the new region

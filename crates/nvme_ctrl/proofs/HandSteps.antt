@@ -21,7 +21,7 @@ use Rattle.nvme_log.specs.Places.{waiting, entry_at, is_aborted, is_served, one_
 use Rattle.nvme_log.specs.declared.place.Place.{Place}
 use Rattle.nvme_log.specs.Effects.{closing_of, closed_cq_of, abort_in, named, target_of}
 use Rattle.nvme_ctrl.specs.kept.Content.{Candidate, Attachment, Content}
-use Rattle.nvme_ctrl.specs.kept.Standing.{HoldsReady, IsInHand, Holds, held_by, hand_of}
+use Rattle.nvme_ctrl.specs.kept.Standing.{HoldsReady, IsInHand, Holds, held_upto, hand_of}
 use Rattle.nvme_ctrl.specs.inside.Steps.{applied_to, verdict_at, oldest_named}
 use Rattle.nvme_ctrl.proofs.ServedPlaces.{aborts-leave, entry_stays}
 use Rattle.nvme_ctrl.proofs.Readying.{waiting-unaborted}
@@ -30,6 +30,7 @@ use Rattle.nvme_ctrl.proofs.ReadyHand.{times_held-append, All-taken}
 use Rattle.nvme_ctrl.proofs.AfterSteps.{with_events, admin_past, after_admin, deleting_from, fetch_event, post_event, closed_event, aborting_from, aborting_in, place_of}
 use Rattle.nvme_ctrl.proofs.StepKeeps.{KeepsFetch, KeepsIo, KeepsAnswer, KeepsAdmin, KeepsPost, KeepsClose, Hand}
 use Rattle.nvme_ctrl.proofs.Named.{named_among}
+use Rattle.nvme_admin.specs.declared.bounds.TheConstants.{MAX_REGIONS}
 
 -- a log goes on so that entries and completion regions stay, and that places that were served and not aborted aren't aborted
 pub record LeavesHand (past later : Past) : Type 0 where
@@ -45,7 +46,7 @@ hand_served past k ready j e lt =
     let itself : own p ≡ 1 = rw (eq-eqb p.region p.region refl, eq-eqb p.index p.index refl) refl in
     let here : own p ≤ sum_by own k.hand = get_or-le-sum_by own k.hand j e lt in
     counts_true (is_served past p.region p.index)
-    (omega (arith, ready.once p.region p.index, times_held-append p.region p.index k.hand (held_by k.deletion))) where
+    (omega (arith, ready.once p.region p.index, times_held-append p.region p.index k.hand (held_upto k.deletion MAX_REGIONS))) where
       counts_true : (b : Bool) → 1 ≤ one_if b → b ≡ true
       counts_true true l = refl
       counts_true false l = absurd (omega arith)

@@ -38,10 +38,10 @@ use Rattle.nvme_ctrl.specs.kept.Standing.{HoldsReady, HoldsDeletion, HoldsQueues
 use Rattle.nvme_ctrl.specs.kept.State.{no_sq_state, sq_at, attachment_of}
 use Rattle.nvme_ctrl.specs.inside.Fetching.{waiting_in}
 use Rattle.nvme_ctrl.proofs.AppliedQueues.{IsOpenEntry, open_entry}
-use Rattle.nvme_ctrl.proofs.Cookies.{cookies_left, cookies_later}
+use Rattle.nvme_ctrl.proofs.Cookies.{cookies_later}
 use Rattle.nvme_ctrl.proofs.DoorbellCalls.{sq_there}
 use Rattle.nvme_ctrl.proofs.FetchCalls.{waiting_are}
-use Rattle.nvme_ctrl.proofs.Passed.{passed_left, passed_later}
+use Rattle.nvme_ctrl.proofs.Passed.{passed_later}
 use Rattle.nvme_ctrl.proofs.QueueChanges.{apart_queues, arrange}
 use Rattle.nvme_ctrl.proofs.QueueSteps.{agreement, holds_queues}
 use Rattle.nvme_ctrl.proofs.QueueWords.{in_log, in_content, counted, at_same, at_other}
@@ -115,15 +115,15 @@ module _ (rules : FrontRules) (late : Bool) (notes : Notes) (c : Controller) (sl
     once = m.once;
     each = m.each;
     taken = m.taken;
-    few_aborted = m.few_aborted;
     few_taken = m.few_taken;
     none_beyond = m.none_beyond;
     admin_qid = m.admin_qid;
     admin_region = m.admin_region;
   }
 
-  pending_now : (d : PendingDelete) → IsPending past k d → IsPending past now d
-  pending_now d p = record {
+  pending_now : (x : ℕ) (d : PendingDelete) → IsPending past k x d → IsPending past now x d
+  pending_now x d p = record {
+    at = p.at;
     closing = p.closing;
     in_table = p.in_table;
     is_closing = p.is_closing;
@@ -141,10 +141,8 @@ module _ (rules : FrontRules) (late : Bool) (notes : Notes) (c : Controller) (sl
 
   deletion_now : HoldsDeletion past now
   deletion_now = let m = s.holds.deletion in record {
-    pending_is = m.pending_is;
     place_is = m.place_is;
-    stands = λ d e. pending_now d (m.stands d e);
-    closing_is = m.closing_is;
+    stands = λ x d e. pending_now x d (m.stands x d e);
   }
 
   board_stands_now : BoardStandsAt rules.mechanism rules.start.settings (arbitration_of past) now.board
@@ -216,9 +214,7 @@ module _ (rules : FrontRules) (late : Bool) (notes : Notes) (c : Controller) (sl
     ready_chain = m.ready_chain;
     ready_items = m.ready_items;
     ready_is = m.ready_is;
-    deletion_is = m.deletion_is;
-    deletion_item = m.deletion_item;
-    deletion_inside = m.deletion_inside;
+    deletions = m.deletions;
     free_chain = m.free_chain;
     free_items = m.free_items;
     few = m.few;
@@ -272,13 +268,13 @@ module _ (rules : FrontRules) (late : Bool) (notes : Notes) (c : Controller) (sl
       through = t.through;
       windows_unanswered = t.windows_unanswered;
       outs_unanswered = t.outs_unanswered;
-      deletion_unanswered = t.deletion_unanswered;
+      deletes_unanswered = t.deletes_unanswered;
       none_answered = t.none_answered;
       answered_held = t.answered_held;
       hand_entries = t.hand_entries;
       free_count = t.free_count;
-      cookies = cookies_later notes (Held q on ∷ notes) after slots s.items (λ x i. refl) (λ x. refl) (cookies_left notes slots slots (λ y. refl) c after s.items refl t.cookies);
-      passed = passed_later notes (Held q on ∷ notes) after s.items (λ i. refl) refl (λ i waits. waits) (passed_left notes c after s.items s.items refl (λ x. refl) refl t.passed);
+      cookies = cookies_later notes (Held q on ∷ notes) slots s.items (λ x i. refl) (λ x. refl) t.cookies;
+      passed = passed_later notes (Held q on ∷ notes) s.items (λ i. refl) refl (λ i waits. waits) t.passed;
       none_marked = t.none_marked;
       marks = t.marks;
     });
@@ -306,13 +302,13 @@ module _ (rules : FrontRules) (late : Bool) (notes : Notes) (c : Controller) (sl
       through = t.through;
       windows_unanswered = t.windows_unanswered;
       outs_unanswered = t.outs_unanswered;
-      deletion_unanswered = t.deletion_unanswered;
+      deletes_unanswered = t.deletes_unanswered;
       none_answered = t.none_answered;
       answered_held = t.answered_held;
       hand_entries = t.hand_entries;
       free_count = t.free_count;
-      cookies = cookies_later notes (Classed q given ∷ notes) after slots s.items (λ x i. refl) (λ x. refl) (cookies_left notes slots slots (λ y. refl) c after s.items refl t.cookies);
-      passed = passed_later notes (Classed q given ∷ notes) after s.items (λ i. refl) refl (λ i waits. waits) (passed_left notes c after s.items s.items refl (λ x. refl) refl t.passed);
+      cookies = cookies_later notes (Classed q given ∷ notes) slots s.items (λ x i. refl) (λ x. refl) t.cookies;
+      passed = passed_later notes (Classed q given ∷ notes) s.items (λ i. refl) refl (λ i waits. waits) t.passed;
       none_marked = t.none_marked;
       marks = t.marks;
     });

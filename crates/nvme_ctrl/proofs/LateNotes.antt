@@ -15,7 +15,7 @@ named = refl
 
 pub refused : IsLawful without_region create_picked (Answered 0 0 create_refused)
 unfolding effects_of queue_table status_of dw0_of verdict_of
-refused = record { first = refl; executed = record { entry = create_cq; is_there = refl; picked = refl; whole = refl; finished = refl; status = refl; dw0 = refl } }
+refused = record { first = refl; executed = record { entry = create_cq; is_there = refl; picked = refl; whole = refl; finished = λ r. refl; status = refl; dw0 = refl } }
 
 -- what the Create makes isn't there
 pub refused_late : IsLawful with_late_region create_picked (Answered 0 0 create_refused) → ⊥

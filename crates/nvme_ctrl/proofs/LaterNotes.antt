@@ -14,7 +14,7 @@ use Rattle.nvme_log.specs.Rules.{FrontRules, Past}
 use Rattle.nvme_log.specs.Queues.{Queue, open_sq}
 use Rattle.nvme_log.specs.Places.{fetched, is_aborted}
 use Rattle.nvme_log.specs.Completions.{posted_to, phase_after}
-use Rattle.nvme_log.specs.Dispatches.{dispatched_by}
+use Rattle.nvme_log.specs.Dispatches.{place_at, dispatched_by}
 use Rattle.nvme_log.specs.Answers.{Answer}
 use Rattle.nvme_log.specs.Effects.{is_effect}
 use Rattle.nvme_ctrl.specs.Notes.{Notes, Logged, Answered, logged}
@@ -27,7 +27,7 @@ use Rattle.nvme_ctrl.specs.declared.state.Controller.{Controller}
 use Rattle.nvme_ctrl.specs.kept.Content.{Ready, Content}
 use Rattle.nvme_ctrl.specs.kept.Standing.{answer_in}
 use Rattle.nvme_ctrl.specs.kept.State.{sq_at, cq_at}
-use Rattle.nvme_ctrl.specs.kept.Kept.{Item, ReadyItem, Items, IsThrough, HasEntry, untaken}
+use Rattle.nvme_ctrl.specs.kept.Kept.{Item, ReadyItem, DeleteItem, Items, IsThrough, HasEntry, untaken}
 use Rattle.nvme_ctrl.specs.inside.Loose.{Keeps}
 use Rattle.nvme_ctrl.proofs.AfterSteps.{with_events}
 use Rattle.nvme_ctrl.proofs.Cookies.{cookies_later}
@@ -122,19 +122,18 @@ keeps-quiet rules notes e c slots k g quiet h = record {
     through = λ x. All-weaker (λ (y : ReadyItem). IsThrough notes y.ready) (λ (y : ReadyItem). IsThrough (Logged e ∷ notes) y.ready) (λ y is. through-event notes e y.ready is) (g.readies x) (m.through x);
     windows_unanswered = m.windows_unanswered;
     outs_unanswered = m.outs_unanswered;
-    deletion_unanswered = m.deletion_unanswered;
+    deletes_unanswered = m.deletes_unanswered;
     none_answered = λ r i past. m.none_answered r i (subst (λ (xs : List Sqe). length xs ≤ i) (quiet.fetches r) past);
     answered_held = λ t is. still_not_out-logged e notes t (m.answered_held t is);
     hand_entries = All-weaker (HasEntry (logged notes)) (HasEntry (e ∷ logged notes)) (λ it is. ap (λ (xs : List Sqe). slice_get xs it.place.index) (quiet.fetches it.place.region) ∙ is)
         (g.outs ++ untaken c g) m.hand_entries;
     free_count = ap (λ (n : ℕ). c.free.len + n) quiet.fetch_count ∙ m.free_count ∙ ap (λ (n : ℕ). length slots + n) (sym quiet.post_count);
-    cookies = cookies_later notes (Logged e ∷ notes) c slots g (λ r i. refl) quiet.fetches m.cookies;
-    passed = passed_later notes (Logged e ∷ notes) c g (λ i. refl) quiet.dispatches (λ i waits. stays e (logged notes) 0 i waits) m.passed;
+    cookies = cookies_later notes (Logged e ∷ notes) slots g (λ r i. refl) quiet.fetches m.cookies;
+    passed = passed_later notes (Logged e ∷ notes) g (λ i. refl) quiet.dispatches (λ i waits. stays e (logged notes) 0 i waits) m.passed;
     none_marked = m.none_marked;
     marks = m.marks;
   });
   apart = h.apart;
-  none_pending = h.none_pending;
 }
 
 -- so do the effects of an admin command
@@ -180,8 +179,9 @@ answer_is_other notes i p a none some = false_from_ne_true (0 == p.region && i =
 pub keeps-answered : (rules : FrontRules) (notes : Notes) (i : ℕ) (answer : Answer) (c : Controller) (slots : List Slot) (k : Content) (g : Items)
     → answer_of notes 0 i ≡ None → i < length (fetched (logged notes) 0)
     → ((r : ℕ) → All (λ (it : Item). IsOther i it.place) (g.windows r)) → All (λ (it : Item). IsOther i it.place) g.outs
+    → ((r : ℕ) (it : DeleteItem) → g.deletes r ≡ Some it → IsOther i (place_at 0 it.index))
     → Keeps rules notes c slots k g → Keeps rules (Answered 0 i answer ∷ notes) c slots k g
-keeps-answered rules notes i answer c slots k g none there windows outs h = record {
+keeps-answered rules notes i answer c slots k g none there windows outs deletes h = record {
   numbers = h.numbers;
   has = h.has;
   doorbells = (let d = h.doorbells in record { sqs = d.sqs; cqs = d.cqs; phases = d.phases; no_tails = d.no_tails; no_heads = d.no_heads; no_posts = d.no_posts });
@@ -193,18 +193,17 @@ keeps-answered rules notes i answer c slots k g none there windows outs h = reco
     through = λ x. All-weaker (λ (y : ReadyItem). IsThrough notes y.ready) (λ (y : ReadyItem). IsThrough (Answered 0 i answer ∷ notes) y.ready) (λ y is. still y.ready is) (g.readies x) (m.through x);
     windows_unanswered = λ r k d lt. other_answer notes i answer _ (windows r k d lt) ∙ m.windows_unanswered r k d lt;
     outs_unanswered = λ k d lt. other_answer notes i answer _ (outs k d lt) ∙ m.outs_unanswered k d lt;
-    deletion_unanswered = λ some. absurd (some h.none_pending);
+    deletes_unanswered = λ r it is. other_answer notes i answer (place_at 0 it.index) (deletes r it is) ∙ m.deletes_unanswered r it is;
     none_answered = λ r j past. other_answer notes i answer (record { region = r; index = j }) (beyond r j past) ∙ m.none_answered r j past;
     answered_held = λ t is. still_not_out-answered 0 i answer notes t (m.answered_held t is);
     hand_entries = m.hand_entries;
     free_count = m.free_count;
-    cookies = cookies_later notes (Answered 0 i answer ∷ notes) c slots g (λ r j. refl) (λ r. refl) m.cookies;
-    passed = passed_later notes (Answered 0 i answer ∷ notes) c g (λ j. refl) refl (λ j waits. waits) m.passed;
+    cookies = cookies_later notes (Answered 0 i answer ∷ notes) slots g (λ r j. refl) (λ r. refl) m.cookies;
+    passed = passed_later notes (Answered 0 i answer ∷ notes) g (λ j. refl) refl (λ j waits. waits) m.passed;
     none_marked = λ r j none_there. unmarked r j (0 == r && i == j) none_there;
     marks = m.marks;
   });
   apart = h.apart;
-  none_pending = h.none_pending;
 } where
   unmarked : (r j : ℕ) (b : Bool) → (if b then Some answer else answer_of notes r j) ≡ None → marks_of notes r j ≡ None
   unmarked r j true lost = absurd (cc lost)

@@ -38,8 +38,8 @@ pub mod ReadyHand
 pub mod ReadyAdmin
 pub mod AbortReady
 pub mod ReadySteps
-pub mod ReadyRoom
 pub mod OpenQueues
+pub mod DeletedQueues
 pub mod HandSteps
 pub mod AnswerSteps
 pub mod OwnStatus
@@ -58,6 +58,7 @@ pub mod PostNumbers
 pub mod PostItems
 pub mod PostLog
 pub mod OutTags
+pub mod PendingDeletions
 pub mod Cookies
 pub mod PutMarks
 pub mod SlotItems

@@ -31,10 +31,10 @@ use Rattle.nvme_ctrl.specs.declared.state.SqState.{SqState}
 use Rattle.nvme_ctrl.specs.declared.state.CqState.{CqState}
 use Rattle.nvme_ctrl.specs.declared.state.Controller.{Controller}
 use Rattle.nvme_ctrl.specs.kept.Content.{Content}
-use Rattle.nvme_ctrl.specs.kept.Kept.{Item, Items, HasNumbers, HasItems, HoldsDoorbells, HoldsTags, StandsAt, IsWaitingIn, IsOutIn, IsReadyIn, candidate_of}
+use Rattle.nvme_ctrl.specs.kept.Kept.{Item, Items, HasNumbers, HasItems, HoldsDoorbells, HoldsTags, StandsAt, IsWaitingIn, IsOutIn, IsReadyIn, candidate_of, HasDeletions}
 use Rattle.nvme_ctrl.specs.kept.Pool.{IsChain, slot_at}
 use Rattle.nvme_ctrl.specs.kept.Standing.{first_queue}
-use Rattle.nvme_ctrl.specs.kept.State.{no_sq_state, no_cq_state, no_chain, sq_at, cq_at, attachment_of, picked_in}
+use Rattle.nvme_ctrl.specs.kept.State.{no_sq_state, no_cq_state, no_chain, sq_at, cq_at, attachment_of, picked_in, no_deletion, deletion_at, pending_tag}
 use Rattle.nvme_ctrl.proofs.AddCalls.{some_slots}
 use Rattle.nvme_ctrl.proofs.AddedTables.{slots_past}
 use Rattle.nvme_ctrl.proofs.Beginning.{first_content, first_holds, first_sq_regions, first_cq_regions, same_each}
@@ -80,7 +80,7 @@ first_ring-counts n some = record { some = some; head_is = sym (zero-mod n); tai
 
 -- no command is in a slot
 abbrev pub no_items : ℕ → Items
-no_items n = record { windows = λ (r : ℕ). []; outs = []; readies = λ (x : ℕ). []; free = upto n; delete_index = 0 }
+no_items n = record { windows = λ (r : ℕ). []; outs = []; readies = λ (x : ℕ). []; deletes = λ (r : ℕ). None; free = upto n }
 
 -- the chain of no slot
 no_chain-is : (slots : List Slot) → IsChain slots no_chain []
@@ -98,7 +98,8 @@ made table board sq_slots cq_slots window free = record {
   outstanding = 0;
   picked = 0;
   picked_region = 0;
-  deletion = record { pending = 0; region = 0; qid = 0; tag = 0 };
+  deletions = replicate 65 no_deletion;
+  pending_deletions = 0;
   own = no_own;
 }
 
@@ -163,6 +164,19 @@ module _ (mechanism : Mechanism) (settings : ArbitrationFields) (limits : Limits
       cq_size = length-set (replicate 65 no_cq_state) 0 (first_cq_state cq.slots) ∙ length-replicate 65 no_cq_state;
     }
 
+    none_pending : (r : ℕ) → deletion_at (replicate 65 no_deletion) r ≡ no_deletion
+    none_pending r = same_each 65 r no_deletion
+
+    new_deletions : HasDeletions (replicate 65 no_deletion) 0 slots (λ r. None) (λ r. None)
+    new_deletions = record {
+      are = λ r. refl;
+      tags = λ r. ap pending_tag (none_pending r);
+      items = λ r it at. cc at;
+      apart = λ r x it other at there same. cc at;
+      counted = refl;
+      size = length-replicate 65 no_deletion;
+    }
+
     new_items : HasItems c slots k (no_items n)
     new_items = record {
       window_chain = each_sq (λ x state. IsChain slots state.window []) sq.slots (no_chain-is slots) (λ x other. no_chain-is slots);
@@ -176,9 +190,7 @@ module _ (mechanism : Mechanism) (settings : ArbitrationFields) (limits : Limits
       ready_chain = each_cq (λ x state. IsChain slots state.ready []) cq.slots (no_chain-is slots) (λ x other. no_chain-is slots);
       ready_items = λ x. All-nil (IsReadyIn slots);
       ready_is = λ x. refl;
-      deletion_is = refl;
-      deletion_item = λ pending. absurd (pending refl);
-      deletion_inside = λ pending. absurd (pending refl);
+      deletions = new_deletions;
       free_chain = chain;
       free_items = λ i e lt. all_free _;
       few = few;
@@ -211,7 +223,7 @@ module _ (mechanism : Mechanism) (settings : ArbitrationFields) (limits : Limits
       through = λ x i e lt. absurd (omega (arith, lt));
       windows_unanswered = λ r i e lt. absurd (omega (arith, lt));
       outs_unanswered = λ i e lt. absurd (omega (arith, lt));
-      deletion_unanswered = λ pending. refl;
+      deletes_unanswered = λ r it at. refl;
       none_answered = λ r i le. refl;
       answered_held = λ t answered. refl;
       hand_entries = λ i e lt. absurd (omega (arith, lt));
@@ -220,13 +232,13 @@ module _ (mechanism : Mechanism) (settings : ArbitrationFields) (limits : Limits
         all_handed = λ i e lt. absurd (omega (arith, lt));
         served = λ i is. cc is;
         readies = λ x i e lt. absurd (omega (arith, lt));
-        deletion = λ pending. refl;
+        deletes = λ r it at. refl;
       };
       cookies = record {
         windows = λ r i e lt. absurd (omega (arith, lt));
         outs = λ i e lt. absurd (omega (arith, lt));
         readies = λ x i e lt. absurd (omega (arith, lt));
-        deletion = λ pending. absurd (pending refl);
+        deletes = λ r it at. cc at;
         none = λ r i le. refl;
       };
       none_marked = λ r i none. refl;

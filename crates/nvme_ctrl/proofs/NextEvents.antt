@@ -2,14 +2,13 @@
 use Rattle.nvme_log.specs.Answers.{Answer}
 use Rattle.nvme_entry.specs.Status.{StatusCode}
 use Rattle.nvme_log.specs.Completions.{own_status_by, own_dw0_by}
-use Rattle.std.proofs.Common.{◌≡◌, ℕ, zero, suc, ◌+◌, ◌%◌, ◌<◌, ◌≤◌, ◌==◌, ◌&&◌, not, nat_lt, nat_le, Bool, true, false, if◌then◌else◌, List, [], ◌∷◌, ◌++◌, length, map, filter, Option, Some, None, refl, sym, ap, ◌∙◌, subst, arith, inl, inr, length-append}
-use Rattle.std.specs.Prelude.{option_map}
+use Rattle.std.proofs.Common.{◌≡◌, ℕ, zero, suc, ◌+◌, ◌%◌, ◌<◌, ◌≤◌, ◌==◌, ◌&&◌, not, nat_lt, nat_le, Bool, true, false, if◌then◌else◌, List, [], ◌∷◌, length, map, filter, Option, Some, refl, sym, ap, ◌∙◌, subst, arith, inl, inr, length-append}
+use Rattle.std.specs.Prelude.{option_map, is_some}
 use Rattle.std.specs.List.{list_all}
-use Rattle.std.proofs.lemmas.Bool.{cases_lt, and_parts, false_from_ne_true, eqb-true, and_right, eq-eqb, le-leb, ltb-true}
+use Rattle.std.proofs.lemmas.Bool.{cases_lt, and_parts, false_from_ne_true, eq-eqb, le-leb, ltb-true}
 use Rattle.std.proofs.lemmas.List.{length-map, length_push}
 use Rattle.std.proofs.lemmas.Option.{same_Some}
 use Rattle.std.proofs.lemmas.List.Elements.{All-head, All-same, filter-append}
-use Rattle.std.proofs.lemmas.List.Sums.{sum_by-append}
 use Rattle.nvme_entry.specs.declared.submission.Sqe.{Sqe}
 use Rattle.nvme_entry.specs.declared.completion.Cqe.{Cqe}
 use Rattle.nvme_arbiter.specs.Board.{BoardView}
@@ -26,15 +25,14 @@ use Rattle.nvme_log.specs.Queues.{Queue, is_closed_region}
 use Rattle.nvme_log.specs.Places.{fetched, waiting, places, fate_of, is_waiting}
 use Rattle.nvme_log.specs.declared.place.Place.{Place}
 use Rattle.nvme_log.specs.Completions.{is_posted, posted_to, phase_after, outstanding, IsOwnBy}
-use Rattle.nvme_log.specs.Aborts.{is_index}
 use Rattle.nvme_ctrl.specs.kept.Content.{SqContent, Content}
-use Rattle.nvme_ctrl.specs.kept.Standing.{HasOwnStatus, HoldsReady, Holds, answer_in, held_by, hand_of, as_deletion, times_held, IsReady, HasItsStatus}
+use Rattle.nvme_ctrl.specs.kept.Standing.{HasOwnStatus, HoldsReady, Holds, answer_in, hand_of, IsReady, HasItsStatus}
 use Rattle.nvme_log.specs.Completions.{unposted_of}
-use Rattle.nvme_log.specs.Places.{one_if}
 use Rattle.nvme_ctrl.specs.inside.Steps.{CanPick}
 use Rattle.nvme_ctrl.proofs.AfterSteps.{CanPost, fetch_event, fetched_sq, after_fetch}
 use Rattle.nvme_ctrl.proofs.StepKeeps.{KeepsFetch, KeepsIo, KeepsPost, KeepsClose, Next}
-use Rattle.nvme_ctrl.proofs.OpenQueues.{open_region, not_closed_region, none_is_pending}
+use Rattle.nvme_ctrl.proofs.OpenQueues.{open_region, not_closed_region}
+use Rattle.nvme_ctrl.proofs.DeletedQueues.{undeleted_region, undeleted_queue, unheld_undeleting}
 use Rattle.nvme_ctrl.proofs.OwnStatus.{IsAnswerable, ready_is_answerable, answerable_is_done, answerable_is_unposted}
 
 -- a window, where another region is put in the place of one
@@ -59,7 +57,7 @@ next-fetch rules late past k q queue entry s can regions on_time =
       index_counts = region.counted ∙ ap (λ (xs : List Sqe). length xs) (sym region.fetched_is);
       served_while_open = (open_region rules late past k s q queue can.is_open, le-leb (length (waiting (fetch_event k queue entry ∷ past) r)) (window_at rules r) fits);
       effects_at_once = a.effects_whole;
-      deletes = (none_is_pending rules late past k s can.none_pending, not_closed_region rules late past k s q queue can.is_open);
+      deletes = (undeleted_region rules late past k s q queue can.is_open, not_closed_region rules late past k s q queue can.is_open);
       leaves_places = tt;
     }
 
@@ -84,7 +82,7 @@ next-io more rules late past k queue seen pick board c s can saw io attached reg
       index_counts = tt;
       served_while_open = rw can.is_open refl;
       effects_at_once = a.effects_whole;
-      deletes = none_is_pending rules late past k s can.none_pending;
+      deletes = undeleted_queue rules late past k s pick.qid queue can.is_open;
       leaves_places = leaves_places more rules late past k queue seen pick board s can;
     }
 
@@ -111,18 +109,6 @@ unposted_place past hand r i h =
     kept_upto (λ (x : ℕ). not (is_waiting (fate_of past r x)) && not (is_posted past r x)) (length (fetched past r)) i fetched_place
     (rw (answerable_is_done past hand r i h, answerable_is_unposted past hand r i h) refl)
 
--- a place that isn't in hand isn't held by a deletion
-not_held : (jobs held : List Place) (r i : ℕ) → times_held r i (jobs ++ held) ≡ 0 → times_held r i held ≡ 0
-not_held jobs held r i h = omega (arith, h, sum_by-append (λ (p : Place). one_if (p.region == r && p.index == i)) jobs held)
-
--- a place that isn't the held one isn't that of the pending deletion
-not_held_place : (o : Option PendingDelete) (r i : ℕ) → ((d : PendingDelete) → o ≡ Some d → d.place.region ≡ 0) → times_held r i (held_by o) ≡ 0 → (r == 0 && is_index i (option_map (λ (d : PendingDelete). d.place.index) o)) ≡ false
-not_held_place None r i first h = and_right (r == 0) false refl
-not_held_place (Some d) r i first h = false_from_ne_true (r == 0 && d.place.index == i) (λ same.
-    let parts = and_parts (r == 0) (d.place.index == i) same in
-    let held : one_if (d.place.region == r && d.place.index == i) ≡ 1 = rw (eq-eqb d.place.region r (first d refl ∙ sym (eqb-true r 0 parts.0)), eq-eqb d.place.index i (eqb-true d.place.index i parts.1)) refl in
-    absurd (omega (arith, held, h)))
-
 -- the region of a ready completion isn't closed
 pub unclosed : (rules : FrontRules) (late : Bool) (past : Past) (k : Content) → Holds rules late past k → (r i : ℕ) → IsAnswerable past (hand_of k) r i
     → is_closed_region past r ≡ false
@@ -136,7 +122,7 @@ oldest_answerable past k c t rest ready oldest =
     All-head (λ (x : Ready). IsAnswerable past (hand_of k) x.place.region x.place.index) t rest
     (All-same (λ (x : Ready). IsAnswerable past (hand_of k) x.place.region x.place.index) (t ∷ rest) (k.cq c).ready (sym oldest) (ready_is_answerable past k (hand_of k) ready c))
 
--- a post is of a region that isn't closed, and isn't the answer of a pending deletion
+-- a post is of a region that isn't closed, and isn't the answer of a deletion that is pending
 pub next-post : KeepsPost Next
 next-post rules late past k c t rest cqe s can regions on_time =
     let a = s.own on_time in
@@ -147,11 +133,7 @@ next-post rules late past k c t rest cqe s can regions on_time =
       index_counts = tt;
       served_while_open = tt;
       effects_at_once = a.effects_whole;
-      deletes = (
-        unclosed rules late past k s r i answerable,
-        subst (λ (o : Option ℕ). (r == 0 && is_index i o) ≡ false) (sym s.deletion.place_is) (not_held_place k.deletion r i (λ d is. (s.deletion.stands d is).of_admin)
-            (not_held k.hand (held_by k.deletion) r i answerable.not_held)),
-      );
+      deletes = (unclosed rules late past k s r i answerable, unheld_undeleting rules late past k s r i answerable.not_held);
       leaves_places = tt;
     }
 
@@ -231,7 +213,7 @@ all_posted waits posted (i ∷ is) n w =
 pub next-close : KeepsClose Next
 next-close rules late past k d table s can regions on_time =
     let a = s.own on_time in
-    let stands = s.deletion.stands d can.pending in
+    let stands = s.deletion.stands d.region d can.pending in
     let none_waits : waiting past d.region ≡ [] = (s.regions d.region).waiting_is ∙ ap (λ (cs : List Candidate). map (λ (x : Candidate). x.index) cs) stands.none_waits in
     let posted : unposted_of past d.region ≡ 0 = sym (s.counts.unposted d.region) ∙ can.all_posted in
     record {
@@ -239,7 +221,8 @@ next-close rules late past k d table s can regions on_time =
       served_while_open = tt;
       effects_at_once = a.effects_whole;
       deletes = (
-        s.deletion.pending_is ∙ ap (λ (o : Option PendingDelete). option_map as_deletion o) can.pending,
+        ap (λ (o : Option ℕ). is_some o) (s.deletion.place_is d.region ∙ ap (λ (o : Option PendingDelete). option_map (λ (x : PendingDelete). x.place.index) o) can.pending),
+        s.queues.qid_is d.region ∙ stands.attached,
         all_posted (λ (i : ℕ). is_waiting (fate_of past d.region i)) (λ (i : ℕ). is_posted past d.region i) (places past d.region) posted none_waits,
       );
       leaves_places = tt;

@@ -1,10 +1,10 @@
 -- Where nothing is ready in a completion region, what is through of its queues is posted; and a ring with no free slot is full.
-use Rattle.std.proofs.Common.{◌≡◌, ◌≢◌, ℕ, ◌+◌, ◌<◌, ◌≤◌, ◌==◌, ◌&&◌, Bool, true, false, if◌then◌else◌, List, [], ◌∷◌, ◌++◌, length, map, drop, Option, Some, None, refl, sym, ap, ◌∙◌, subst, arith, inl, inr}
+use Rattle.std.proofs.Common.{◌≡◌, ℕ, ◌+◌, ◌<◌, ◌≤◌, ◌==◌, ◌&&◌, Bool, true, false, List, [], ◌∷◌, ◌++◌, length, map, drop, Some, None, refl, sym, ap, ◌∙◌, subst, arith, inl, inr}
 use Rattle.std.specs.Prelude.{All, sum_by}
 use Rattle.std.proofs.lemmas.Bool.{cases_eq, cases_lt, eq-eqb, eqb-true, lt-ltb, and_parts, false_from_ne_true, true_from_ne_false, false≢true}
 use Rattle.std.proofs.lemmas.Option.{same_Some}
 use Rattle.std.proofs.lemmas.List.Sums.{sum_by-cons}
-use Rattle.std.proofs.lemmas.List.Elements.{All-nil, All-cons, All-head, All-tail, All-same, All-map, All-weaker, All-append, All-take, All-drop}
+use Rattle.std.proofs.lemmas.List.Elements.{All-nil, All-head, All-tail, All-same, All-map, All-weaker, All-append, All-take, All-drop}
 use Rattle.nvme_entry.specs.declared.submission.Sqe.{Sqe}
 use Rattle.nvme_admin.specs.declared.bounds.TheConstants.{MAX_REGIONS}
 use Rattle.nvme_log.specs.declared.place.Place.{Place}
@@ -21,7 +21,7 @@ use Rattle.nvme_ctrl.specs.Posts.{IsFullRing, AllPosted}
 use Rattle.nvme_ctrl.specs.declared.slot.Slot.{Slot}
 use Rattle.nvme_ctrl.specs.declared.state.Controller.{Controller}
 use Rattle.nvme_ctrl.specs.kept.Content.{Candidate, Ready, PendingDelete}
-use Rattle.nvme_ctrl.specs.kept.Standing.{IsInHand, IsReady, times_in, times_held, held_by}
+use Rattle.nvme_ctrl.specs.kept.Standing.{IsInHand, IsReady, times_in, times_held, held_upto}
 use Rattle.nvme_ctrl.specs.kept.Pool.{IsChain}
 use Rattle.nvme_ctrl.specs.kept.State.{cq_at, picked_in}
 use Rattle.nvme_ctrl.specs.kept.Kept.{Item, ReadyItem, ready_tags, readies_of, candidate_of, places_of, untaken, IsWaitingIn, IsUnanswered, StandsAt}
@@ -32,6 +32,7 @@ use Rattle.nvme_ctrl.proofs.Served.{IsServed, through-served}
 use Rattle.nvme_ctrl.proofs.SlotItems.{All-both}
 use Rattle.nvme_ctrl.proofs.Turns.{filled-is}
 use Rattle.nvme_ctrl.proofs.Windows.{window-waits, served-or_window}
+use Rattle.nvme_ctrl.proofs.PendingDeletions.{held-none, some_deletes}
 
 -- a test that none passes counts none
 none_of : {X : Type 0} (test : X → Bool) (xs : List X) → All (λ (z : X). test z ≡ false) xs → sum_by (λ (z : X). one_if (test z)) xs ≡ 0
@@ -43,13 +44,6 @@ none_of {X = X} test (x ∷ xs) h =
       ap one_if (All-head (λ (z : X). test z ≡ false) x xs h),
       none_of test xs (All-tail (λ (z : X). test z ≡ false) x xs h),
     )
-
--- the pending deletion, where there is one
-pending_place : (pending : ℕ) (m d : PendingDelete) → Some d ≡ (if pending == 0 then None else Some m) → (pending ≢ 0) × (d.place ≡ m.place)
-pending_place pending m d h = by (pending == 0) refl h where
-  by : (b : Bool) → (pending == 0) ≡ b → Some d ≡ (if b then None else Some m) → (pending ≢ 0) × (d.place ≡ m.place)
-  by true e k = cc k
-  by false e k = (λ zero. absurd (false≢true (sym e ∙ eq-eqb pending 0 zero)), ap (λ (z : PendingDelete). z.place) (same_Some d m k))
 
 module _ (rules : FrontRules) (late : Bool) (notes : Notes) (c : Controller) (slots : List Slot) (stands : StandsAt rules late notes c slots) where
   -- ---- a place that is through
@@ -113,18 +107,12 @@ module _ (rules : FrontRules) (late : Bool) (notes : Notes) (c : Controller) (sl
       (All-both (IsInHand (logged notes)) (IsUnanswered notes) (λ (q : Place). (q.region == r && q.index == i) ≡ false)
       (λ q h u. undone_other r i served q h.not_aborted u) stands.content.hand stands.holds.hand.each unanswered)
 
-  -- nor that of the pending deletion
-  not_deleting : (r i : ℕ) → IsServed notes (place_at r i) → times_held r i (held_by stands.content.deletion) ≡ 0
-  not_deleting r i served = by stands.content.deletion refl where
-    by : (o : Option PendingDelete) → stands.content.deletion ≡ o → times_held r i (held_by o) ≡ 0
-    by None e = refl
-    by (Some d) e =
-        let is = pending_place c.deletion.pending _ d (sym e ∙ stands.has.deletion_is) in
-        let unanswered : IsUnanswered notes d.place = subst (IsUnanswered notes) (sym is.1) (stands.tags.deletion_unanswered is.0) in
-        let unaborted : is_aborted (logged notes) d.place.region d.place.index ≡ false = (stands.holds.deletion.stands d e).not_aborted in
-        none_of (λ (q : Place). q.region == r && q.index == i) (d.place ∷ [])
-        (All-cons (λ (q : Place). (q.region == r && q.index == i) ≡ false) d.place [] (undone_other r i served d.place unaborted unanswered)
-        (All-nil (λ (q : Place). (q.region == r && q.index == i) ≡ false)))
+  -- nor that of a pending deletion
+  not_deleting : (r i : ℕ) → IsServed notes (place_at r i) → times_held r i (held_upto stands.content.deletion MAX_REGIONS) ≡ 0
+  not_deleting r i served = held-none r i stands.content.deletion MAX_REGIONS (λ x d e.
+      let is = some_deletes c.deletions c.pending_deletions slots stands.content.deletion stands.items.deletes stands.has.deletions x d e in
+      let unanswered : IsUnanswered notes d.place = subst (IsUnanswered notes) (ap (λ (z : PendingDelete). z.place) (sym is.same)) (stands.tags.deletes_unanswered x is.item is.is) in
+      undone_other r i served d.place (stands.holds.deletion.stands x d e).not_aborted unanswered)
 
   -- nor ready, where nothing is ready in the region that it posts to
   not_ready_at : (x r i : ℕ) → (stands.content.cq x).ready ≡ [] → cq_region_of (logged notes) r ≡ Some x → (y : ℕ) → times_in r i (stands.content.cq y).ready ≡ 0
@@ -149,7 +137,7 @@ module _ (rules : FrontRules) (late : Bool) (notes : Notes) (c : Controller) (sl
         not_waiting r i served,
         over_none (λ (y : ℕ). times_in r i (stands.content.cq y).ready) MAX_REGIONS (λ y lt. not_ready_at x r i empty region y),
         posts_of-none (logged notes) r i unposted,
-        times_held-append r i stands.content.hand (held_by stands.content.deletion),
+        times_held-append r i stands.content.hand (held_upto stands.content.deletion MAX_REGIONS),
         not_in_hand r i served,
         not_deleting r i served,
       ))

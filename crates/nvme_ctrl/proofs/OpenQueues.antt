@@ -1,6 +1,5 @@
 -- The open queues and their regions.
-use Rattle.std.proofs.Common.{◌≡◌, ℕ, zero, suc, ◌<◌, Bool, true, false, List, [], ◌∷◌, length, Option, Some, None, refl, sym, ap, ◌∙◌, subst, arith, inl, inr}
-use Rattle.std.specs.Prelude.{option_map}
+use Rattle.std.proofs.Common.{◌≡◌, ℕ, zero, suc, ◌<◌, Bool, true, false, List, [], ◌∷◌, length, Option, Some, refl, sym, ap, ◌∙◌, subst, arith, inl, inr}
 use Rattle.std.specs.List.{list_any}
 use Rattle.std.proofs.lemmas.Bool.{cases_lt, false_from_ne_true, eq-eqb, or_left, or_right}
 use Rattle.std.proofs.lemmas.Option.{same_Some}
@@ -9,14 +8,13 @@ use Rattle.nvme_arbiter.specs.Limits.{queue_limit}
 use Rattle.nvme_admin.specs.declared.verdict.SqEntry.{SqEntry}
 use Rattle.nvme_admin.specs.QueueTable.{admin_sq}
 use Rattle.nvme_admin.specs.Accepted.{queue_table}
-use Rattle.nvme_ctrl.specs.kept.Content.{PendingDelete}
 use Rattle.nvme_ctrl.specs.kept.Content.{Attachment}
 use Rattle.nvme_log.specs.Rules.{Past, FrontRules, upto}
-use Rattle.nvme_log.specs.Queues.{Queue, admin_queue, open_sq, has_region, is_open_region, pending, is_closed_region}
+use Rattle.nvme_log.specs.Queues.{Queue, admin_queue, open_sq, has_region, is_open_region, is_closed_region}
 use Rattle.nvme_log.specs.Laws.{as_open}
 use Rattle.nvme_ctrl.specs.kept.Content.{Content}
 use Rattle.nvme_admin.specs.declared.region.Region.{Region}
-use Rattle.nvme_ctrl.specs.kept.Standing.{Holds, as_deletion}
+use Rattle.nvme_ctrl.specs.kept.Standing.{Holds}
 
 -- ---- queues
 -- a test passes among the numbers below n where it passes at one
@@ -42,10 +40,6 @@ module _ (rules : FrontRules) (late : Bool) (past : Past) (k : Content) (s : Hol
   -- nor is its deletion finished
   pub not_closed_region : (q : ℕ) (queue : Queue) → open_sq past q ≡ Some queue → is_closed_region past queue.region ≡ false
   not_closed_region q queue is = false_from_ne_true (is_closed_region past queue.region) (λ closed. s.queues.closed q queue.region queue closed is refl)
-
-  -- no deletion is pending where none is kept
-  pub none_is_pending : k.deletion ≡ None → pending past ≡ None
-  none_is_pending none = s.deletion.pending_is ∙ ap (λ (o : Option PendingDelete). option_map as_deletion o) none
 
   -- the admin queue is open once there is a region
   pub admin_is_open : 0 < k.nsq → open_sq past 0 ≡ Some admin_queue

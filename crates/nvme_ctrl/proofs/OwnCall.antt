@@ -42,9 +42,7 @@ owned rules late notes c slots own s = record {
     ready_chain = m.ready_chain;
     ready_items = m.ready_items;
     ready_is = m.ready_is;
-    deletion_is = m.deletion_is;
-    deletion_item = m.deletion_item;
-    deletion_inside = m.deletion_inside;
+    deletions = m.deletions;
     free_chain = m.free_chain;
     free_items = m.free_items;
     few = m.few;
@@ -58,13 +56,13 @@ owned rules late notes c slots own s = record {
     through = t.through;
     windows_unanswered = t.windows_unanswered;
     outs_unanswered = t.outs_unanswered;
-    deletion_unanswered = t.deletion_unanswered;
+    deletes_unanswered = t.deletes_unanswered;
     none_answered = t.none_answered;
     answered_held = t.answered_held;
     hand_entries = t.hand_entries;
     free_count = t.free_count;
-    cookies = (let q = t.cookies in record { windows = q.windows; outs = q.outs; readies = q.readies; deletion = q.deletion; none = q.none });
-    passed = (let p = t.passed in record { all_handed = p.all_handed; served = p.served; readies = p.readies; deletion = p.deletion });
+    cookies = t.cookies;
+    passed = t.passed;
     none_marked = t.none_marked;
     marks = t.marks;
   });

@@ -7,7 +7,7 @@ use Rattle.nvme_ctrl.specs.kept.Content.{Ready}
 use Rattle.nvme_ctrl.specs.kept.Content.{PendingDelete}
 use Rattle.nvme_log.specs.Rules.{Past, FrontRules}
 use Rattle.nvme_log.specs.declared.place.Place.{Place}
-use Rattle.nvme_ctrl.specs.kept.Content.{Content}
+use Rattle.nvme_ctrl.specs.kept.Content.{Content, put_deletion}
 use Rattle.nvme_ctrl.specs.kept.Standing.{HasOwnStatus, IsOwnDeletion, IsInHand, deleted_answer}
 use Rattle.nvme_ctrl.specs.inside.Steps.{done}
 use Rattle.nvme_ctrl.proofs.Handing.{handed_makes_none, handed_stays}
@@ -15,6 +15,8 @@ use Rattle.nvme_ctrl.proofs.ReadyHand.{All-taken}
 use Rattle.nvme_ctrl.proofs.AfterSteps.{fetch_event, posted_cq, post_event, closed_event, deleted}
 use Rattle.nvme_ctrl.proofs.StepKeeps.{KeepsFetch, KeepsIo, KeepsAnswer, KeepsPost, KeepsClose, Own}
 use Rattle.nvme_ctrl.proofs.ServedPlaces.{entry_stays}
+use Rattle.nvme_ctrl.proofs.DeletedQueues.{deletion_done}
+use Rattle.nvme_ctrl.proofs.PendingDeletions.{Here, Elsewhere, is_put}
 use Rattle.nvme_log.specs.Places.{fate_of, is_waiting}
 use Rattle.nvme_ctrl.specs.kept.Standing.{hand_of}
 use Rattle.nvme_ctrl.proofs.OwnStatus.{IsAnswerable, ready_is_answerable, answerable_is_done, Stays, own_status-stays, own_dw0-stays, HasOwnStatus-stays, all_with_readies, all_chosen}
@@ -26,7 +28,7 @@ pub statuses_stay : (rules : FrontRules) (past later : Past) (k : Content)
     → ((c : ℕ) → All (HasOwnStatus rules past) (k.cq c).ready) → (c : ℕ) → All (HasOwnStatus rules later) (k.cq c).ready
 statuses_stay rules past later k stay own c j d lt = HasOwnStatus-stays rules past later (get_or (k.cq c).ready j d) (stay c j d lt) (own c j d lt)
 
--- a pending deletion is still answered with success
+-- a deletion that is pending is still answered with success
 pub deletion_stays : (rules : FrontRules) (past later : Past) (d : PendingDelete) → Stays rules past later d.place.region d.place.index
     → IsOwnDeletion rules past d → IsOwnDeletion rules later d
 deletion_stays rules past later d s h = record {
@@ -52,7 +54,7 @@ own-fetch rules late past k q queue entry s can regions on_time =
     record {
       effects_whole = a.effects_whole;
       own_statuses = statuses_stay rules past (fetch_event k queue entry ∷ past) k (λ c j d lt. stays (get_or (k.cq c).ready j d).place) a.own_statuses;
-      own_deletion = λ d is. deletion_stays rules past (fetch_event k queue entry ∷ past) d (stays d.place) (a.own_deletion d is);
+      own_deletion = λ r d is. deletion_stays rules past (fetch_event k queue entry ∷ past) d (stays d.place) (a.own_deletion r d is);
     }
 
 -- an I/O pick leaves it: it makes nothing ready
@@ -66,7 +68,7 @@ own-io rules late past k queue seen pick board c s can saw io attached regions o
     record {
       effects_whole = handed_makes_none rules past seen pick io;
       own_statuses = statuses_stay rules past later k (λ c j d lt. handed_stays rules past seen pick io (get_or (k.cq c).ready j d).place.region (get_or (k.cq c).ready j d).place.index (ready c j d lt)) a.own_statuses;
-      own_deletion = λ d is. cc (can.none_pending, is);
+      own_deletion = λ r d is. deletion_stays rules past later d (handed_stays rules past seen pick io d.place.region d.place.index (deletion_done rules late past k s r d is)) (a.own_deletion r d is);
     }
 
 -- an answer is the own status of its place
@@ -98,7 +100,7 @@ own-post rules late past k c t rest cqe s can regions on_time =
       own_statuses = λ x. all_chosen (HasOwnStatus rules later) (x == c) (posted_cq (k.cq c) rest cqe) (k.cq x)
           (All-weaker (HasOwnStatus rules past) (HasOwnStatus rules later) (λ y h. HasOwnStatus-stays rules past later y (record { there = λ e h. h; aborted = refl; requested = refl; table = λ z. refl; told = λ z. refl }) h) rest (All-tail (HasOwnStatus rules past) t rest owns))
           (statuses_stay rules past later k (λ c j d lt. record { there = λ e h. h; aborted = refl; requested = refl; table = λ z. refl; told = λ z. refl }) a.own_statuses x);
-      own_deletion = λ d is. deletion_stays rules past later d (record { there = λ e h. h; aborted = refl; requested = refl; table = λ z. refl; told = λ z. refl }) (a.own_deletion d is);
+      own_deletion = λ r d is. deletion_stays rules past later d (record { there = λ e h. h; aborted = refl; requested = refl; table = λ z. refl; told = λ z. refl }) (a.own_deletion r d is);
     }
 
 -- the command of a deletion is answered with success at its end
@@ -106,12 +108,15 @@ pub own-close : KeepsClose Own
 own-close rules late past k d table s can regions on_time =
     let a = s.own on_time in
     let later : Past = closed_event d ∷ past in
-    let own = a.own_deletion d can.pending in
+    let own = a.own_deletion d.region d can.pending in
     record {
       effects_whole = a.effects_whole;
       own_statuses =
-          all_with_readies (HasOwnStatus rules later) (record k { deletion = None; table = table }) 0 (deleted d ∷ [])
+          all_with_readies (HasOwnStatus rules later) (record k { deletion = put_deletion k.deletion d.region None; table = table }) 0 (deleted d ∷ [])
           (statuses_stay rules past later k (λ c j x lt. record { there = λ e h. h; aborted = refl; requested = refl; table = λ z. refl; told = λ z. refl }) a.own_statuses)
           (All-cons (HasOwnStatus rules later) (deleted d) [] (λ carried. record { entry = own.entry; is_there = own.is_there; status = sym own.status; dw0 = sym own.dw0 }) (All-nil (HasOwnStatus rules later)));
-      own_deletion = λ x is. cc is;
+      own_deletion = λ r x is. elim (is_put k.deletion d.region None r x is) [
+        | Here e none ↦ cc none
+        | Elsewhere differs there ↦ deletion_stays rules past later x (record { there = λ e h. h; aborted = refl; requested = refl; table = λ z. refl; told = λ z. refl }) (a.own_deletion r x there)
+      ];
     }

@@ -34,12 +34,12 @@ use Rattle.nvme_ctrl.specs.declared.slot.Slot.{Slot}
 use Rattle.nvme_ctrl.specs.declared.state.Controller.{Controller}
 use Rattle.nvme_ctrl.specs.kept.Content.{Candidate, Content, Ready}
 use Rattle.nvme_ctrl.specs.kept.Standing.{Holds, IsInHand, hand_of}
-use Rattle.nvme_ctrl.specs.kept.Kept.{Item, Items, IsWaitingIn, IsUnanswered, IsDevices, HasEntry, HoldsDoorbells, HoldsPassed, HoldsTags, StandsAt, candidate_of, places_of, tags_of, untaken, IsReadyOf, ReadyItem, is_passed_at}
+use Rattle.nvme_ctrl.specs.kept.Kept.{Item, Items, IsWaitingIn, IsUnanswered, IsDevices, HasEntry, HoldsDoorbells, HoldsPassed, HoldsTags, StandsAt, candidate_of, places_of, tags_of, untaken, IsReadyOf, ReadyItem, is_passed_at, DeleteItem, deletion_in}
 use Rattle.nvme_ctrl.specs.inside.Picks.{oldest_entry, places_in}
 use Rattle.nvme_ctrl.proofs.AdminCall.{queue_is, one, oldest, linked, window_is, first, unanswered_all}
 use Rattle.nvme_ctrl.proofs.AfterSteps.{after_io}
 use Rattle.nvme_ctrl.proofs.CarriedOut.{was_picked}
-use Rattle.nvme_ctrl.proofs.Cookies.{cookies_left, cookies_later}
+use Rattle.nvme_ctrl.proofs.Cookies.{cookies_later}
 use Rattle.nvme_ctrl.proofs.Counts.{outstanding-pick}
 use Rattle.nvme_ctrl.proofs.HandSteps.{hand_done}
 use Rattle.nvme_ctrl.proofs.NextEvents.{next-io}
@@ -52,9 +52,11 @@ use Rattle.nvme_ctrl.proofs.Oldest.{admin_entry_is}
 use Rattle.nvme_ctrl.proofs.Pools.{linked-head}
 use Rattle.nvme_ctrl.specs.kept.Pool.{slot_at}
 use Rattle.nvme_ctrl.specs.kept.State.{sq_at}
+use Rattle.nvme_ctrl.proofs.PendingDeletions.{deletion_item}
+use Rattle.nvme_ctrl.proofs.DeletedQueues.{deletion_done}
 
 module _ (rules : FrontRules) (late : Bool) (notes : Notes) (c : Controller) (slots : List Slot) (s : StandsAt rules late notes c slots)
-    (none : c.picked ≡ 0) (idle : c.deletion.pending ≡ 0) (pick : Pick) (board : BoardFields)
+    (none : c.picked ≡ 0) (pick : Pick) (board : BoardFields)
     (lawful : (m : Mechanism) (first : ArbitrationFields) (h : History) → BoardStandsAt m first h (board_of c.board) → Some pick ≡ lawful_pick m first h (seen_of (board_of c.board).queues))
     (stands : (m : Mechanism) (first : ArbitrationFields) (h : History) → BoardStandsAt m first h (board_of c.board) → BoardStandsAt m first (Picked (seen_of (board_of c.board).queues) pick ∷ h) (board_of board))
     (queues : (board_of board).queues ≡ queues_after (board_of c.board).queues pick)
@@ -72,22 +74,22 @@ module _ (rules : FrontRules) (late : Bool) (notes : Notes) (c : Controller) (sl
   now = logged notes
 
   abbrev x : Item
-  x = (oldest rules late notes c slots s none idle pick board lawful stands queues arbiter needs places first_is).first
+  x = (oldest rules late notes c slots s none pick board lawful stands queues arbiter needs places first_is).first
 
   abbrev rest : List Item
-  rest = (oldest rules late notes c slots s none idle pick board lawful stands queues arbiter needs places first_is).rest
+  rest = (oldest rules late notes c slots s none pick board lawful stands queues arbiter needs places first_is).rest
 
   windows_are : g.windows 0 ≡ x ∷ rest
-  windows_are = (oldest rules late notes c slots s none idle pick board lawful stands queues arbiter needs places first_is).is
+  windows_are = (oldest rules late notes c slots s none pick board lawful stands queues arbiter needs places first_is).is
 
   abbrev queue : Queue
-  queue = (due rules late notes c slots s none idle pick board lawful stands queues arbiter places).queue
+  queue = (due rules late notes c slots s none pick board lawful stands queues arbiter places).queue
 
   region_is : queue.region ≡ 0
-  region_is = ap (λ (q : Queue). q.region) (queue_is rules late notes c slots s none idle pick board lawful stands queues arbiter needs places first_is)
+  region_is = ap (λ (q : Queue). q.region) (queue_is rules late notes c slots s none pick board lawful stands queues arbiter needs places first_is)
 
   one_is : pick.n ≡ 1
-  one_is = one rules late notes c slots s none idle pick board lawful stands queues arbiter needs places first_is
+  one_is = one rules late notes c slots s none pick board lawful stands queues arbiter needs places first_is
 
   abbrev new : Controller
   new = after_pick_io c board queue.region pick.n
@@ -102,15 +104,15 @@ module _ (rules : FrontRules) (late : Bool) (notes : Notes) (c : Controller) (sl
   later = Passed i ∷ picked_notes notes pick
 
   window_here : (k.sq 0).window ≡ candidate_of x ∷ map candidate_of rest
-  window_here = window_is rules late notes c slots s none idle pick board lawful stands queues arbiter needs places first_is
+  window_here = window_is rules late notes c slots s none pick board lawful stands queues arbiter needs places first_is
 
   waits_there : IsWaitingIn slots 0 x
-  waits_there = first rules late notes c slots s none idle pick board lawful stands queues arbiter needs places first_is
+  waits_there = first rules late notes c slots s none pick board lawful stands queues arbiter needs places first_is
 
   -- it is the one that is looked at
   entry_is : x.entry ≡ oldest_entry c slots
   entry_is =
-      let there = linked rules late notes c slots s none idle pick board lawful stands queues arbiter needs places first_is in
+      let there = linked rules late notes c slots s none pick board lawful stands queues arbiter needs places first_is in
       let first_slot : (sq_at c.sqs 0).window.first ≡ x.tag = linked-head slots (sq_at c.sqs 0).window.first (sq_at c.sqs 0).window.last x.tag (tags_of rest) there.linked in
       sym (ap (λ (z : ℕ). (slot_at slots z).entry) first_slot ∙ waits_there.entry)
 
@@ -146,7 +148,7 @@ module _ (rules : FrontRules) (late : Bool) (notes : Notes) (c : Controller) (sl
   -- ---- what is handed over
   untaken_one : untaken new g ≡ x ∷ []
   untaken_one =
-      picked_items rules late notes c slots s none idle pick board lawful stands queues arbiter places
+      picked_items rules late notes c slots s none pick board lawful stands queues arbiter places
       ∙ ap (λ (r : ℕ). take pick.n (g.windows r)) region_is ∙ ap (λ (its : List Item). take pick.n its) windows_are ∙ ap (λ (n : ℕ). take n (x ∷ rest)) one_is
 
   quiet : (o : Option Queue) → dispatched_by now pick o ≡ []
@@ -160,14 +162,14 @@ module _ (rules : FrontRules) (late : Bool) (notes : Notes) (c : Controller) (sl
   untaken_now =
       hands
       ∙ ap (λ (ps : List Place). ps ++ place_at 0 i ∷ [])
-      (s.tags.untaken_are ∙ ap (λ (its : List Item). taken notes ++ places_of its) (none_untaken rules late notes c slots s none idle pick board lawful stands queues arbiter places) ∙ append-nil (taken notes))
+      (s.tags.untaken_are ∙ ap (λ (its : List Item). taken notes ++ places_of its) (none_untaken rules late notes c slots s none pick board lawful stands queues arbiter places) ∙ append-nil (taken notes))
       ∙ ap (λ (p : Place). taken notes ++ p ∷ []) (sym place_is) ∙ ap (λ (its : List Item). taken notes ++ places_of its) (sym untaken_one)
 
   pass-holds : Holds rules late (event.Pick (observed_of notes) pick ∷ now) after
   pass-holds =
-      holds-io rules late now k queue (observed_of notes) pick (board_of board) (attached rules late notes c slots s none idle pick board lawful stands queues arbiter places).cq_region s.holds
-      (can rules late notes c slots s none idle pick board lawful stands queues arbiter places) (saw rules late notes c slots s none idle pick board lawful stands queues arbiter places) (inr passing)
-      (attached rules late notes c slots s none idle pick board lawful stands queues arbiter places).attached
+      holds-io rules late now k queue (observed_of notes) pick (board_of board) (attached rules late notes c slots s none pick board lawful stands queues arbiter places).cq_region s.holds
+      (can rules late notes c slots s none pick board lawful stands queues arbiter places) (saw rules late notes c slots s none pick board lawful stands queues arbiter places) (inr passing)
+      (attached rules late notes c slots s none pick board lawful stands queues arbiter places).attached
 
   -- its place is in hand now, so it waits no longer
   in_hand : (P : Place → Type 0) → All P after.hand → P (place_at 0 i)
@@ -177,7 +179,7 @@ module _ (rules : FrontRules) (late : Bool) (notes : Notes) (c : Controller) (sl
       (All-same P (x.place ∷ []) (places_of (untaken new g)) (sym (ap places_of untaken_one))
       (All-parts P (places_of g.outs) (places_of (untaken new g)) (subst (All P) (hand_now ∙ places-append g.outs (untaken new g)) all)).1)) where
         hand_now : after.hand ≡ places_of (g.outs ++ untaken new g)
-        hand_now = (pick-items rules late notes c slots s none idle pick board lawful stands queues arbiter places).hand_is
+        hand_now = (pick-items rules late notes c slots s none pick board lawful stands queues arbiter places).hand_is
 
         places-append : (xs ys : List Item) → places_of (xs ++ ys) ≡ places_of xs ++ places_of ys
         places-append [] ys = refl
@@ -192,7 +194,7 @@ module _ (rules : FrontRules) (late : Bool) (notes : Notes) (c : Controller) (sl
   done : is_waiting (fate_of picked_now 0 i) ≡ false
   done = in_hand (λ (p : Place). is_waiting (fate_of picked_now p.region p.index) ≡ false) (hand_done picked_now after pass-holds.ready)
 
-  passed_now : HoldsPassed later new g
+  passed_now : HoldsPassed later g
   passed_now = record {
     all_handed = subst (All (IsDevices later)) (sym hands)
         (All-append (IsDevices later) (handed notes) (place_at 0 i ∷ [])
@@ -200,7 +202,7 @@ module _ (rules : FrontRules) (late : Bool) (notes : Notes) (c : Controller) (sl
         (All-cons (IsDevices later) (place_at 0 i) [] (or_left (i == i) (is_passed notes i) (eq-eqb i i refl)) (All-nil (IsDevices later))));
     served = λ j is. by j (i == j) refl is;
     readies = λ y. readies_stay y;
-    deletion = λ some. absurd (some idle);
+    deletes = λ r it at. delete_stays r it at (i == it.index) refl;
   } where
     still : (p : Place) → IsDevices notes p → IsDevices later p
     still p is = mono (p.region == 0) (i == p.index) (is_passed notes p.index) is where
@@ -212,6 +214,15 @@ module _ (rules : FrontRules) (late : Bool) (notes : Notes) (c : Controller) (sl
     by : (j : ℕ) (b : Bool) → (i == j) ≡ b → (b || is_passed notes j) ≡ true → is_waiting (fate_of picked_now 0 j) ≡ false
     by j true e h = subst (λ (z : ℕ). is_waiting (fate_of picked_now 0 z) ≡ false) (eqb-true i j e) done
     by j false e h = stays (event.Pick (observed_of notes) pick) now 0 j (s.tags.passed.served j h)
+
+    -- a Delete whose deletion is pending was picked before
+    delete_stays : (r : ℕ) (it : DeleteItem) → g.deletes r ≡ Some it → (b : Bool) → (i == it.index) ≡ b → (b || is_passed notes it.index) ≡ false
+    delete_stays r it at true e =
+        let d = deletion_item c.deletions c.pending_deletions slots k.deletion g.deletes s.has.deletions r it at in
+        let ended : is_waiting (fate_of now 0 it.index) ≡ false = deletion_done rules late now k s.holds r (deletion_in slots r it) d in
+        let here : is_waiting (fate_of now 0 i) ≡ false = subst (λ (z : ℕ). is_waiting (fate_of now 0 z) ≡ false) (sym (eqb-true i it.index e)) ended in
+        absurd (cc (here, waited))
+    delete_stays r it at false e = s.tags.passed.deletes r it at
 
     -- what is ready is another place
     same_at : (p : Place) → is_waiting (fate_of now p.region p.index) ≡ false → is_passed_at notes p ≡ is_passed_at later p
@@ -242,14 +253,14 @@ module _ (rules : FrontRules) (late : Bool) (notes : Notes) (c : Controller) (sl
     through = s.tags.through;
     windows_unanswered = s.tags.windows_unanswered;
     outs_unanswered = s.tags.outs_unanswered;
-    deletion_unanswered = s.tags.deletion_unanswered;
+    deletes_unanswered = s.tags.deletes_unanswered;
     none_answered = s.tags.none_answered;
     answered_held = s.tags.answered_held;
     hand_entries = All-append (HasEntry now) g.outs (untaken new g) (All-parts (HasEntry now) g.outs (untaken c g) s.tags.hand_entries).0
         (subst (All (HasEntry now)) (sym untaken_one)
         (All-cons (HasEntry now) x [] (ap (λ (r : ℕ). entry_at now r i) waits_there.place ∙ entry_there) (All-nil (HasEntry now))));
     free_count = s.tags.free_count;
-    cookies = cookies_later notes later new slots g (λ r j. refl) (λ r. refl) (cookies_left notes slots slots (λ y. refl) c new g refl s.tags.cookies);
+    cookies = cookies_later notes later slots g (λ r j. refl) (λ r. refl) s.tags.cookies;
     passed = passed_now;
     none_marked = s.tags.none_marked;
     marks = s.tags.marks;
@@ -258,7 +269,7 @@ module _ (rules : FrontRules) (late : Bool) (notes : Notes) (c : Controller) (sl
   -- the note is lawful
   unanswered : answer_of notes 0 i ≡ None
   unanswered = subst (λ (r : ℕ). answer_of notes r i ≡ None) waits_there.place
-      (All-head (λ (it : Item). IsUnanswered notes it.place) x rest (unanswered_all rules late notes c slots s none idle pick board lawful stands queues arbiter needs places first_is))
+      (All-head (λ (it : Item). IsUnanswered notes it.place) x rest (unanswered_all rules late notes c slots s none pick board lawful stands queues arbiter needs places first_is))
 
   is_passed_now : IsPassed (picked_notes notes pick) i
   is_passed_now = record {
@@ -272,7 +283,7 @@ module _ (rules : FrontRules) (late : Bool) (notes : Notes) (c : Controller) (sl
   }
 
   pass-doorbells : HoldsDoorbells rules later new
-  pass-doorbells = let d = pick-doorbells rules late notes c slots s none idle pick board lawful stands queues arbiter places in
+  pass-doorbells = let d = pick-doorbells rules late notes c slots s none pick board lawful stands queues arbiter places in
       record { sqs = d.sqs; cqs = d.cqs; phases = d.phases; no_tails = d.no_tails; no_heads = d.no_heads; no_posts = d.no_posts }
 
   -- the controller stands at its log with the pick and the note
@@ -281,16 +292,16 @@ module _ (rules : FrontRules) (late : Bool) (notes : Notes) (c : Controller) (sl
     content = after;
     items = g;
     holds = pass-holds;
-    numbers = pick-numbers rules late notes c slots s none idle pick board lawful stands queues arbiter places;
-    has = pick-items rules late notes c slots s none idle pick board lawful stands queues arbiter places;
+    numbers = pick-numbers rules late notes c slots s none pick board lawful stands queues arbiter places;
+    has = pick-items rules late notes c slots s none pick board lawful stands queues arbiter places;
     doorbells = pass-doorbells;
     tags = pass-tags;
     shown = record { held = s.shown.held; classed = s.shown.classed };
     account = λ on_time.
         let next = next-io outstanding-pick rules late now k queue (observed_of notes) pick (board_of board)
-        (attached rules late notes c slots s none idle pick board lawful stands queues arbiter places).cq_region s.holds
-        (can rules late notes c slots s none idle pick board lawful stands queues arbiter places) (saw rules late notes c slots s none idle pick board lawful stands queues arbiter places) (inr passing)
-        (attached rules late notes c slots s none idle pick board lawful stands queues arbiter places).attached pass-holds.regions on_time in
+        (attached rules late notes c slots s none pick board lawful stands queues arbiter places).cq_region s.holds
+        (can rules late notes c slots s none pick board lawful stands queues arbiter places) (saw rules late notes c slots s none pick board lawful stands queues arbiter places) (inr passing)
+        (attached rules late notes c slots s none pick board lawful stands queues arbiter places).attached pass-holds.regions on_time in
         record {
           each = (
             is_passed_now,

@@ -1,5 +1,5 @@
 -- Which admin commands were passed on stays so.
-use Rattle.std.proofs.Common.{◌≡◌, ◌≢◌, ℕ, ◌==◌, ◌&&◌, ◌||◌, Bool, true, false, List, ◌++◌, Some, refl, sym, ap, ◌∙◌, subst}
+use Rattle.std.proofs.Common.{◌≡◌, ℕ, ◌==◌, ◌&&◌, ◌||◌, Bool, true, false, List, ◌++◌, Option, Some, refl, sym, ap, ◌∙◌, subst}
 use Rattle.std.specs.Prelude.{not}
 use Rattle.std.specs.List.{All}
 use Rattle.std.proofs.lemmas.Bool.{eqb-true}
@@ -10,38 +10,35 @@ use Rattle.nvme_log.proofs.Members.{in-all, in-append_left}
 use Rattle.nvme_ctrl.specs.Notes.{Notes, logged}
 use Rattle.nvme_ctrl.specs.Tags.{is_passed, is_of_device, handed, taken, holder}
 use Rattle.nvme_ctrl.specs.declared.state.Controller.{Controller}
-use Rattle.nvme_ctrl.specs.declared.state.Deletion.{Deletion}
 use Rattle.nvme_ctrl.specs.declared.slot.Slot.{Slot}
-use Rattle.nvme_ctrl.specs.kept.Kept.{Item, Items, HoldsTags, IsDevices, IsReadyOf, HoldsPassed, is_passed_at, untaken, places_of}
+use Rattle.nvme_ctrl.specs.kept.Kept.{Item, DeleteItem, Items, HoldsTags, IsDevices, IsReadyOf, HoldsPassed, is_passed_at, untaken, places_of}
 use Rattle.nvme_ctrl.proofs.OwnStatus.{All-unmap}
 use Rattle.nvme_ctrl.proofs.SlotItems.{All-parts}
 use Rattle.nvme_ctrl.proofs.TagLaws.{holder-taken}
 
--- the same notes, completions and deletion
-pub passed_left : (notes : Notes) (c b : Controller) (f g : Items) → b.deletion ≡ c.deletion → ((x : ℕ) → g.readies x ≡ f.readies x) → g.delete_index ≡ f.delete_index
-    → HoldsPassed notes c f → HoldsPassed notes b g
-passed_left notes c b f g left readies index h = record {
+-- the same notes, completions and deletions
+pub passed_left : (notes : Notes) (f g : Items) → ((x : ℕ) → g.readies x ≡ f.readies x) → g.deletes ≡ f.deletes → HoldsPassed notes f → HoldsPassed notes g
+passed_left notes f g readies deletes h = record {
   all_handed = h.all_handed;
   served = h.served;
   readies = λ x. subst (All (IsReadyOf notes)) (sym (readies x)) (h.readies x);
-  deletion = subst (λ (d : Deletion). d.pending ≢ 0 → is_passed notes g.delete_index ≡ false) (sym left)
-      (subst (λ (i : ℕ). c.deletion.pending ≢ 0 → is_passed notes i ≡ false) (sym index) h.deletion);
+  deletes = subst (λ (f : ℕ → Option DeleteItem). (r : ℕ) (it : DeleteItem) → f r ≡ Some it → is_passed notes it.index ≡ false) (sym deletes) h.deletes;
 }
 
 -- other notes, which pass on and hand over the same
-pub passed_later : (notes later : Notes) (c : Controller) (g : Items) → ((i : ℕ) → is_passed later i ≡ is_passed notes i) → handed later ≡ handed notes
+pub passed_later : (notes later : Notes) (g : Items) → ((i : ℕ) → is_passed later i ≡ is_passed notes i) → handed later ≡ handed notes
     → ((i : ℕ) → is_waiting (fate_of (logged notes) 0 i) ≡ false → is_waiting (fate_of (logged later) 0 i) ≡ false)
-    → HoldsPassed notes c g → HoldsPassed later c g
-passed_later notes later c g same hands stays h = record {
+    → HoldsPassed notes g → HoldsPassed later g
+passed_later notes later g same hands stays h = record {
   all_handed = subst (All (IsDevices later)) (sym hands)
       (All-weaker (IsDevices notes) (IsDevices later) (λ p is. ap (λ (b : Bool). not (p.region == 0) || b) (same p.index) ∙ is) (handed notes) h.all_handed);
   served = λ i is. stays i (h.served i (sym (same i) ∙ is));
   readies = λ x. All-weaker (IsReadyOf notes) (IsReadyOf later) (λ y is. is ∙ ap (λ (b : Bool). y.ready.place.region == 0 && b) (sym (same y.ready.place.index))) (g.readies x) (h.readies x);
-  deletion = λ some. same g.delete_index ∙ h.deletion some;
+  deletes = λ r it is. same it.index ∙ h.deletes r it is;
 }
 
 -- what a tag stands for is the device's
-pub held_is_devices : (notes : Notes) (c : Controller) (g : Items) → handed notes ≡ taken notes ++ places_of (untaken c g) → HoldsPassed notes c g
+pub held_is_devices : (notes : Notes) (c : Controller) (g : Items) → handed notes ≡ taken notes ++ places_of (untaken c g) → HoldsPassed notes g
     → (t : ℕ) (p : Place) → holder notes t ≡ Some p → IsDevices notes p
 held_is_devices notes c g hands h t p held =
     in-all (IsDevices notes) p (taken notes ++ places_of (untaken c g)) (subst (All (IsDevices notes)) hands h.all_handed)

@@ -1,12 +1,6 @@
 -- The next pick, and a pick of an I/O queue: the controller stands at its log afterwards.
-use Rattle.std.proofs.Common.{◌≢◌, ◌⊎◌, inl, inr}
-use Rattle.std.specs.Prelude.{option_map}
+use Rattle.std.proofs.Common.{◌≢◌, inl}
 use Rattle.std.proofs.lemmas.List.{length-append, length-take-le}
-use Rattle.nvme_log.specs.Queues.{pending}
-use Rattle.nvme_ctrl.specs.kept.Content.{PendingDelete}
-use Rattle.nvme_ctrl.specs.kept.Standing.{as_deletion}
-use Rattle.nvme_ctrl.specs.kept.Kept.{pending_of}
-use Rattle.nvme_ctrl.specs.kept.Pool.{slot_at}
 use Rattle.std.proofs.Common.{◌≡◌, ℕ, ◌+◌, ◌<◌, ◌≤◌, ◌==◌, ◌&&◌, Bool, true, false, if◌then◌else◌, List, [], ◌∷◌, ◌++◌, length, map, take, drop, Option, Some, None, refl, sym, ap, ◌∙◌, subst, arith}
 use Rattle.std.specs.Prelude.{min, slice_set, IsTrue}
 use Rattle.std.specs.List.{All}
@@ -47,7 +41,7 @@ use Rattle.nvme_ctrl.specs.Tags.{is_passed, handed}
 use Rattle.std.specs.Prelude.{not, ◌||◌}
 use Rattle.nvme_ctrl.specs.kept.Kept.{IsDevices, HoldsPassed}
 use Rattle.nvme_ctrl.proofs.AfterSteps.{after_io, place_of}
-use Rattle.nvme_ctrl.proofs.Cookies.{cookies_left, cookies_later}
+use Rattle.nvme_ctrl.proofs.Cookies.{cookies_later}
 use Rattle.nvme_ctrl.proofs.Counts.{outstanding-pick}
 use Rattle.nvme_ctrl.proofs.FewUnposted.{few_unposted}
 use Rattle.nvme_ctrl.proofs.NextEvents.{next-io}
@@ -71,6 +65,7 @@ use Rattle.nvme_ctrl.specs.Observation.{observed_of}
 use Rattle.nvme_log.specs.Histories.{arbitration_of}
 use Rattle.nvme_ctrl.specs.declared.slot.Slot.{Slot}
 use Rattle.nvme_ctrl.specs.declared.state.Controller.{Controller}
+use Rattle.nvme_ctrl.proofs.DeletedQueues.{open_undeleted}
 
 module _ (rules : FrontRules) (late : Bool) (notes : Notes) (c : Controller) (slots : List Slot) (s : StandsAt rules late notes c slots) where
   abbrev past : Past
@@ -152,7 +147,7 @@ after_pick_io c board r n =
     record c { board = board; sqs = slice_set c.sqs r (picked_state c r n); outstanding = min (c.outstanding + n) 65535; picked = n; picked_region = r }
 
 module _ (rules : FrontRules) (late : Bool) (notes : Notes) (c : Controller) (slots : List Slot) (s : StandsAt rules late notes c slots)
-    (none : c.picked ≡ 0) (idle : c.deletion.pending ≡ 0) (pick : Pick) (board : BoardFields)
+    (none : c.picked ≡ 0) (pick : Pick) (board : BoardFields)
     (lawful : (m : Mechanism) (first : ArbitrationFields) (h : History) → BoardStandsAt m first h (board_of c.board) → Some pick ≡ lawful_pick m first h (seen_of (board_of c.board).queues))
     (stands : (m : Mechanism) (first : ArbitrationFields) (h : History) → BoardStandsAt m first h (board_of c.board) → BoardStandsAt m first (Picked (seen_of (board_of c.board).queues) pick ∷ h) (board_of board))
     (queues : (board_of board).queues ≡ queues_after (board_of c.board).queues pick)
@@ -173,9 +168,6 @@ module _ (rules : FrontRules) (late : Bool) (notes : Notes) (c : Controller) (sl
     by : (b : Bool) → (if b then c.picked else 0) ≡ 0
     by true = none
     by false = refl
-
-  pub none_deleting : k.deletion ≡ None
-  none_deleting = s.has.deletion_is ∙ rw idle refl
 
   pub due : IsPickable now k pick
   due = pickable rules.mechanism rules.start.settings (arbitration_of now) now k pick s.holds.queues s.holds.arbitration.stands.observed
@@ -203,7 +195,6 @@ module _ (rules : FrontRules) (late : Bool) (notes : Notes) (c : Controller) (sl
   pub can : CanPick rules now k due.queue pick (board_of board)
   can = record {
     is_open = due.is_open;
-    none_pending = none_deleting;
     enough = due.enough;
     places = places_now;
     lawful = subst (λ (b : BoardView). lawful_pick rules.mechanism rules.start.settings (arbitration_of now) (seen_of b.queues) ≡ Some pick) s.numbers.board_is
@@ -215,7 +206,7 @@ module _ (rules : FrontRules) (late : Bool) (notes : Notes) (c : Controller) (sl
 
   -- few places are unposted
   few : (k.sq r).unposted ≤ k.outstanding
-  few = few_unposted rules late now k s.holds none_deleting r there_in
+  few = few_unposted rules late now k s.holds r (open_undeleted rules late now k s.holds pick.qid due.queue due.is_open) there_in
 
   unposted_is : (picked_state c r pick.n).unposted ≡ (k.sq r).unposted + pick.n
   unposted_is =
@@ -294,9 +285,7 @@ module _ (rules : FrontRules) (late : Bool) (notes : Notes) (c : Controller) (sl
     ready_chain = s.has.ready_chain;
     ready_items = s.has.ready_items;
     ready_is = s.has.ready_is;
-    deletion_is = s.has.deletion_is;
-    deletion_item = s.has.deletion_item;
-    deletion_inside = s.has.deletion_inside;
+    deletions = s.has.deletions;
     free_chain = s.has.free_chain;
     free_items = s.has.free_items;
     few = s.has.few;
@@ -336,12 +325,12 @@ module _ (rules : FrontRules) (late : Bool) (notes : Notes) (c : Controller) (sl
         (ne_eqb it.place.region 0 (λ zero. io_region rules late now k s.holds r pick.qid attached.cq_region attached.attached io (sym w.place ∙ zero))))
         (take pick.n (g.windows r)) waits)))
 
-    picked_passed : HoldsPassed (picked_notes notes pick) new g
+    picked_passed : HoldsPassed (picked_notes notes pick) g
     picked_passed = record {
       all_handed = picked_devices;
       served = λ i is. stays (event.Pick (observed_of notes) pick) now 0 i (s.tags.passed.served i is);
       readies = s.tags.passed.readies;
-      deletion = s.tags.passed.deletion;
+      deletes = s.tags.passed.deletes;
     }
 
     pick-tags : HoldsTags (picked_notes notes pick) new slots g
@@ -354,7 +343,7 @@ module _ (rules : FrontRules) (late : Bool) (notes : Notes) (c : Controller) (sl
       through = s.tags.through;
       windows_unanswered = s.tags.windows_unanswered;
       outs_unanswered = s.tags.outs_unanswered;
-      deletion_unanswered = s.tags.deletion_unanswered;
+      deletes_unanswered = s.tags.deletes_unanswered;
       none_answered = s.tags.none_answered;
       answered_held = s.tags.answered_held;
       hand_entries = All-append (HasEntry now) g.outs (untaken new g) (All-parts (HasEntry now) g.outs (untaken c g) s.tags.hand_entries).0
@@ -362,7 +351,7 @@ module _ (rules : FrontRules) (late : Bool) (notes : Notes) (c : Controller) (sl
           (All-same (λ (x : Candidate). entry_at now r x.index ≡ Some x.entry) (map candidate_of (take pick.n (g.windows r))) (take pick.n (k.sq r).window) (sym taken_window)
           (All-take (λ (x : Candidate). entry_at now r x.index ≡ Some x.entry) pick.n (k.sq r).window (s.holds.regions r).entries)));
       free_count = s.tags.free_count;
-      cookies = cookies_later notes (picked_notes notes pick) new slots g (λ x i. refl) (λ x. refl) (cookies_left notes slots slots (λ y. refl) c new g refl s.tags.cookies);
+      cookies = cookies_later notes (picked_notes notes pick) slots g (λ x i. refl) (λ x. refl) s.tags.cookies;
       passed = picked_passed;
       none_marked = s.tags.none_marked;
       marks = s.tags.marks;
@@ -425,29 +414,10 @@ module _ (rules : FrontRules) (late : Bool) (notes : Notes) (c : Controller) (sl
 
 -- ---- no pick is made
 -- what is picked and not taken was dispatched, and not taken
-busy_picked : (rules : FrontRules) (late : Bool) (notes : Notes) (c : Controller) (slots : List Slot) → StandsAt rules late notes c slots → c.picked ≢ 0
-    → length (taken notes) < length (handed notes)
-busy_picked rules late notes c slots s some =
+pub is_busy : (rules : FrontRules) (late : Bool) (notes : Notes) (c : Controller) (slots : List Slot) → StandsAt rules late notes c slots → c.picked ≢ 0 → IsBusy notes
+is_busy rules late notes c slots s some =
     let all : length (handed notes) ≡ length (taken notes) + length (places_of (untaken c s.items)) =
     ap (λ (ps : List Place). length ps) s.tags.untaken_are ∙ length-append (taken notes) (places_of (untaken c s.items)) in
     let many : length (places_of (untaken c s.items)) ≡ c.picked =
     length-map (untaken c s.items) (λ (it : Item). it.place) ∙ length-take-le c.picked (s.items.windows c.picked_region) s.has.picked_there in
     omega (arith, all, many, some)
-
--- a deletion is pending in the log where one is kept
-busy_deleting : (rules : FrontRules) (late : Bool) (notes : Notes) (c : Controller) (slots : List Slot) → StandsAt rules late notes c slots → c.deletion.pending ≢ 0
-    → pending (logged notes) ≢ None
-busy_deleting rules late notes c slots s some none =
-    let is : pending (logged notes) ≡ option_map as_deletion (pending_of c slots s.items) =
-    s.holds.deletion.pending_is ∙ ap (λ (o : Option PendingDelete). option_map as_deletion o) s.has.deletion_is in
-    by (c.deletion.pending == 0) (ne_eqb c.deletion.pending 0 some) is where
-      by : (b : Bool) → b ≡ false
-          → pending (logged notes) ≡ option_map as_deletion (if b then None else Some (record { place = place_at 0 s.items.delete_index; cid = (slot_at slots c.deletion.tag).entry.cid; qid = c.deletion.qid; region = c.deletion.region }))
-          → ⊥
-      by true e is = cc e
-      by false e is = cc (none, is)
-
-pub is_busy : (rules : FrontRules) (late : Bool) (notes : Notes) (c : Controller) (slots : List Slot) → StandsAt rules late notes c slots
-    → (c.picked ≢ 0) ⊎ (c.deletion.pending ≢ 0) → IsBusy notes
-is_busy rules late notes c slots s (inl some) = inl (busy_picked rules late notes c slots s some)
-is_busy rules late notes c slots s (inr some) = inr (busy_deleting rules late notes c slots s some)

@@ -1,5 +1,5 @@
 -- After a post the slots of a controller have its commands.
-use Rattle.std.proofs.Common.{◌≡◌, ◌≢◌, ℕ, ◌-◌, ◌<◌, ◌≤◌, ◌^◌, ◌==◌, Bool, true, false, if◌then◌else◌, List, [], ◌∷◌, ◌++◌, length, Some, None, refl, sym, ap, ◌∙◌, subst, arith, inl, inr, length-append}
+use Rattle.std.proofs.Common.{◌≡◌, ◌≢◌, ℕ, ◌-◌, ◌<◌, ◌≤◌, ◌^◌, ◌==◌, Bool, true, false, if◌then◌else◌, List, [], ◌∷◌, ◌++◌, length, refl, sym, ap, ◌∙◌, subst, arith, inl, inr, length-append}
 use Rattle.std.specs.Prelude.{slice_set, All}
 use Rattle.std.proofs.lemmas.Bool.{cases_eq, eq-eqb, ne_eqb, eqb-true}
 use Rattle.std.proofs.lemmas.Option.{same_Some}
@@ -10,11 +10,12 @@ use Rattle.nvme_ctrl.specs.declared.chain.Chain.{Chain}
 use Rattle.nvme_ctrl.specs.kept.Standing.{IsReady}
 use Rattle.nvme_ctrl.specs.kept.Pool.{slot_at, item_at, IsNew, AreApart, IsChain}
 use Rattle.nvme_ctrl.specs.kept.State.{sq_at, cq_at}
-use Rattle.nvme_ctrl.specs.kept.Kept.{Item, ReadyItem, tags_of, ready_tags, readies_of, ready_state, IsWaitingIn, IsOutIn, IsReadyIn, IsAmongOuts, is_free, pending_of, HasItems}
+use Rattle.nvme_ctrl.specs.kept.Kept.{Item, ReadyItem, tags_of, ready_tags, readies_of, ready_state, IsWaitingIn, IsOutIn, IsReadyIn, IsAmongOuts, is_free, HasItems}
 use Rattle.nvme_ctrl.proofs.OwnStatus.{All-unmap}
 use Rattle.nvme_ctrl.proofs.RegionStates.{put_sq-each, put_cq-each}
 use Rattle.nvme_ctrl.proofs.Pools.{length-put_item, item_at-put_item_same, item_at-put_item_other, IsNew-by, AreApart-push, chain-put_item, chain-other, length-apart}
 use Rattle.nvme_ctrl.proofs.SlotItems.{All-both, at_put, ready_state-range, waiting_stays, out_stays, ready_stays}
+use Rattle.nvme_ctrl.proofs.PendingDeletions.{deletions_stay}
 use Rattle.nvme_ctrl.proofs.PostCall.{freed, PostCall, content, past_of, region, content_after, sq_after, controller_after, put_readies, items_after, ready_in, is_ready, sqs_have, cqs_have}
 
 module _ (p : PostCall) where
@@ -156,17 +157,6 @@ module _ (p : PostCall) where
   pub tag_cookie : (slot_at p.new tag).cookie ≡ (slot_at p.slots tag).cookie
   tag_cookie = ap (λ (s : Slot). s.cookie) (p.did.items.items tag ∙ item_at-put_item_same p.slots tag (record (slot_at p.slots tag) { state = 0 }) tag_inside)
 
-  -- ---- the deletion
-  deletion_cid : p.c.deletion.pending ≢ 0 → (slot_at p.slots p.c.deletion.tag).entry.cid ≡ (slot_at p.new p.c.deletion.tag).entry.cid
-  deletion_cid some = sym (ap (λ (s : Slot). s.entry.cid) (other_kept p.c.deletion.tag (higher p.c.deletion.tag 6 (p.stands.has.deletion_item some) (omega arith))))
-
-  deletion_after : pending_of p.c p.slots p.stands.items ≡ pending_of (controller_after p) p.new (items_after p)
-  deletion_after = elim (cases_eq p.c.deletion.pending 0) [
-    | inl none ↦ rw (eq-eqb p.c.deletion.pending 0 none) refl
-    | inr some ↦ ap (λ (cid : ℕ). if p.c.deletion.pending == 0 then None
-        else Some (record { place = record { region = 0; index = p.stands.items.delete_index }; cid = cid; qid = p.c.deletion.qid; region = p.c.deletion.region })) (deletion_cid some)
-  ]
-
   -- ---- all of it
   window_after : (r : ℕ) → IsChain p.new (sq_at (controller_after p).sqs r).window (tags_of (p.stands.items.windows r))
   window_after = put_sq-each (λ r s. IsChain p.new s.window (tags_of (p.stands.items.windows r))) p.c.sqs (region p) (sq_after p.c (region p)) (sqs_have p)
@@ -200,9 +190,8 @@ module _ (p : PostCall) where
         ready_chain = λ y. chain_kept (cq_at (slice_set p.c.cqs p.x p.cq) y).ready (ready_tags ((items_after p).readies y)) (ready_chains y) (ready_unfree ((items_after p).readies y) (readies_before y));
         ready_items = λ y. All-both (IsReadyIn p.slots) (λ (it : ReadyItem). it.tag ≢ tag) (IsReadyIn p.new) ready_kept ((items_after p).readies y) (readies_before y) (readies_apart y);
         ready_is = ready_contents;
-        deletion_is = h.deletion_is ∙ deletion_after;
-        deletion_item = λ some. ap (λ (s : Slot). s.state) (other_kept p.c.deletion.tag (higher p.c.deletion.tag 6 (h.deletion_item some) (omega arith))) ∙ h.deletion_item some;
-        deletion_inside = λ some. subst (λ (n : ℕ). p.c.deletion.tag < n) (sym size_is) (h.deletion_inside some);
+        deletions = deletions_stay p.c.deletions p.c.pending_deletions p.slots p.new (content p).deletion p.stands.items.deletes tag size_is other_kept
+            (λ r it is. higher it.tag 6 (h.deletions.items r it is).state (omega arith)) h.deletions;
         free_chain = free_after;
         free_items = All-push (is_free p.new) p.stands.items.free tag (All-weaker (is_free p.slots) (is_free p.new) free_kept p.stands.items.free h.free_items) tag_freed;
         few = subst (λ (n : ℕ). n < 2 ^ 16) (sym size_is) h.few;

@@ -22,7 +22,7 @@ use Rattle.nvme_ctrl.specs.Tags.{is_place, holder, answer_of, answer_or, answers
 use Rattle.nvme_ctrl.specs.Account.{IsLawfulEvent, IsAccount, PostsAnswer, PostsOwn}
 use Rattle.nvme_ctrl.specs.declared.slot.Slot.{Slot}
 use Rattle.nvme_ctrl.specs.kept.Content.{Ready}
-use Rattle.nvme_ctrl.specs.kept.Standing.{Holds, answer_in, hand_of, held_by, times_held}
+use Rattle.nvme_ctrl.specs.kept.Standing.{Holds, answer_in, hand_of, times_held, held_upto}
 use Rattle.nvme_ctrl.specs.kept.Pool.{slot_at, put_item, marks_in, IsChain}
 use Rattle.nvme_ctrl.specs.kept.State.{cq_at}
 use Rattle.nvme_ctrl.specs.inside.Next.{IsNext}
@@ -42,6 +42,7 @@ use Rattle.nvme_ctrl.proofs.PostNumbers.{numbers_after, counts_before, has_room,
 use Rattle.nvme_ctrl.proofs.PostItems.{tag, size_is, other_kept, tag_freed, ready_contents, has_after, tag_cookie}
 use Rattle.nvme_ctrl.proofs.OutTags.{still_not_out-logged}
 use Rattle.nvme_ctrl.proofs.SlotItems.{All-both, All-parts, at_put}
+use Rattle.nvme_admin.specs.declared.bounds.TheConstants.{MAX_REGIONS}
 
 -- ---- who holds a tag after a post
 -- another place than the posted one keeps its tag
@@ -132,7 +133,7 @@ module _ (p : PostCall) where
   none_in_hand : times_held (region p) (index p) (content p).hand ≡ 0
   none_in_hand =
       let all = (oldest_answerable (past_of p) (content p) p.x p.item.ready (readies_of p.rest) p.stands.holds.ready (oldest_is p)).not_held in
-      omega (arith, all, times_held-append (region p) (index p) (content p).hand (held_by (content p).deletion))
+      omega (arith, all, times_held-append (region p) (index p) (content p).hand (held_upto (content p).deletion MAX_REGIONS))
 
   outs_other : All (λ (it : Item). IsOther it.place) p.stands.items.outs
   outs_other =
@@ -202,7 +203,7 @@ module _ (p : PostCall) where
         through = of_readies (λ (it : ReadyItem). IsThrough p.notes it.ready) h.through;
         windows_unanswered = h.windows_unanswered;
         outs_unanswered = h.outs_unanswered;
-        deletion_unanswered = h.deletion_unanswered;
+        deletes_unanswered = h.deletes_unanswered;
         none_answered = h.none_answered;
         answered_held = answered_after;
         hand_entries = h.hand_entries;
@@ -211,13 +212,13 @@ module _ (p : PostCall) where
           all_handed = h.passed.all_handed;
           served = h.passed.served;
           readies = of_readies (IsReadyOf p.notes) h.passed.readies;
-          deletion = h.passed.deletion;
+          deletes = h.passed.deletes;
         };
         cookies = record {
           windows = λ r. items_left p.notes p.slots p.new same (p.stands.items.windows r) (h.cookies.windows r);
           outs = items_left p.notes p.slots p.new same p.stands.items.outs h.cookies.outs;
           readies = λ y. readies_left p.notes p.slots p.new same ((items_after p).readies y) (of_readies (HasReadyCookie p.notes p.slots) h.cookies.readies y);
-          deletion = λ pending. cookie_left p.notes p.slots p.new same p.c.deletion.tag (place_at 0 p.stands.items.delete_index) (h.cookies.deletion pending);
+          deletes = λ r it is. cookie_left p.notes p.slots p.new same it.tag (place_at 0 it.index) (h.cookies.deletes r it is);
           none = h.cookies.none;
         };
         none_marked = h.none_marked;

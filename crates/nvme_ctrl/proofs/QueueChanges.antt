@@ -10,9 +10,10 @@ use Rattle.nvme_arbiter.specs.declared.settings.Class.{Class}
 use Rattle.nvme_ctrl.specs.kept.Content.{PendingDelete}
 use Rattle.nvme_ctrl.specs.kept.Content.{Attachment}
 use Rattle.nvme_log.specs.Queues.{Queue}
-use Rattle.nvme_ctrl.specs.kept.Content.{SqContent, put_sq, put_held, put_class}
+use Rattle.nvme_ctrl.specs.kept.Content.{SqContent, put_sq, put_held, put_class, put_deletion}
 use Rattle.nvme_ctrl.specs.kept.Standing.{IsGone, IsOpenedFor}
 use Rattle.nvme_ctrl.proofs.QueueWords.{LogQueues, QueueContent, with_count, counted, OpenedFor, IsBlank, Agree, at_same, at_other, chosen, put-queue, one_queue, on_others, as_others, on_same, on_board-set}
+use Rattle.nvme_ctrl.proofs.PendingDeletions.{Here, Elsewhere, is_put}
 
 -- a region that was opened for no queue isn't one that was
 unopened_apart : (sq : ℕ → SqContent) (r x q : ℕ) → OpenedFor (sq r) q → (sq x).queue ≡ None → x ≡ r → ⊥
@@ -77,7 +78,7 @@ module _ (l : LogQueues) (k : QueueContent) (h : Agree l k) where
             put_elsewhere (IsBlank l.closed r) k.sq queue.region s r (unopened_apart k.sq queue.region r q here none) (h.unopened r none);
         gone = λ r e. put_elsewhere IsGone k.sq queue.region s r (λ p. h.closed q r queue e is (sym p)) (h.gone r e);
         closed = h.closed;
-        deleting = λ d e. still_opened_for k.sq queue.region s d same (h.deleting d e);
+        deleting = λ r d e. still_opened_for k.sq queue.region s d same (h.deleting r d e);
       }
 
   -- an open queue is held or not, and in another class, on the board too
@@ -134,7 +135,7 @@ module _ (l : LogQueues) (k : QueueContent) (h : Agree l k) where
           | inr n ↦ put_elsewhere IsGone k.sq r s x n (h.gone x e)
         ];
         closed = h.closed;
-        deleting = λ d e. still_opened_for k.sq r s d refl (h.deleting d e);
+        deleting = λ x d e. still_opened_for k.sq r s d refl (h.deleting x d e);
       }
 
   -- a queue is opened on a region that was opened for none
@@ -208,8 +209,8 @@ module _ (l : LogQueues) (k : QueueContent) (h : Agree l k) where
           | inl p ↦ true≢false (sym e ∙ ap l.closed (sym (ap region_in p.1 ∙ same)) ∙ blank.not_closed)
           | inr n ↦ h.closed q r other e n.1 same
         ];
-        deleting = λ d e.
-            let was : IsOpenedFor k.sq d = h.deleting d e in
+        deleting = λ x d e.
+            let was : IsOpenedFor k.sq d = h.deleting x d e in
             record {
               cq_region = was.cq_region;
               opened = put_elsewhere (λ (z : SqContent). z.queue ≡ Some (opened_by d.qid was.cq_region)) k.sq region s d.region
@@ -266,7 +267,7 @@ module _ (l : LogQueues) (k : QueueContent) (h : Agree l k) where
       (record k {
         sq = put_sq k.sq queue.region (record (k.sq queue.region) { window = []; unposted = n });
         board = slice_set k.board qid None;
-        deletion = Some d;
+        deletion = put_deletion k.deletion queue.region (Some d);
       })
   begin_delete qid c n queue d is opened qid_is region_is =
       let s : SqContent = record (k.sq queue.region) { window = []; unposted = n } in
@@ -296,13 +297,16 @@ module _ (l : LogQueues) (k : QueueContent) (h : Agree l k) where
             put_elsewhere (IsBlank l.closed r) k.sq queue.region s r (unopened_apart k.sq queue.region r qid here none) (h.unopened r none);
         gone = λ r e. put_elsewhere IsGone k.sq queue.region s r (λ p. h.closed qid r queue e is (sym p)) (h.gone r e);
         closed = λ q r other e was same. h.closed q r other e (still q other was).1 same;
-        deleting = λ x e. subst (IsOpenedFor later) (ap (λ (o : Option PendingDelete). unwrap_or o d) e)
-            (record { cq_region = c; opened = put_here (λ (z : SqContent). z.queue ≡ Some (opened_by d.qid c)) k.sq queue.region s d.region region_is (opened ∙ ap (λ (z : ℕ). Some (opened_by z c)) (sym qid_is)) });
+        deleting = λ x e at. elim (is_put k.deletion queue.region (Some d) x e at) [
+          | Here same one ↦ subst (IsOpenedFor later) (ap (λ (o : Option PendingDelete). unwrap_or o d) one)
+              (record { cq_region = c; opened = put_here (λ (z : SqContent). z.queue ≡ Some (opened_by d.qid c)) k.sq queue.region s d.region region_is (opened ∙ ap (λ (z : ℕ). Some (opened_by z c)) (sym qid_is)) })
+          | Elsewhere differs there ↦ still_opened_for k.sq queue.region s e refl (h.deleting x e there)
+        ];
       }
 
   -- the deletion of a queue, which isn't open, is finished
   pub finish : (c : ℕ) (d : PendingDelete) → (k.sq d.region).queue ≡ Some (record { qid = d.qid; cq_region = c }) → l.sqs d.qid ≡ None → IsGone (k.sq d.region)
-      → Agree (record l { closed = λ r. d.region == r || l.closed r }) (record k { deletion = None })
+      → Agree (record l { closed = λ r. d.region == r || l.closed r }) (record k { deletion = put_deletion k.deletion d.region None })
   finish c d opened none over =
       let here : OpenedFor (k.sq d.region) d.qid = record { cq_region = c; opened = opened } in
       record {
@@ -332,5 +336,8 @@ module _ (l : LogQueues) (k : QueueContent) (h : Agree l k) where
               none-some queue (sym none ∙ ap l.sqs (sym q_is) ∙ is)
           | inr n ↦ h.closed q r queue (sym (ap (λ (b : Bool). b || l.closed r) (ne_eqb d.region r n)) ∙ e) is same
         ];
-        deleting = λ x e. absurd (none-some x e);
+        deleting = λ x e at. elim (is_put k.deletion d.region None x e at) [
+          | Here same none_there ↦ absurd (none-some e none_there)
+          | Elsewhere differs there ↦ h.deleting x e there
+        ];
       }

@@ -31,6 +31,7 @@ use Rattle.nvme_ctrl.specs.inside.Steps.{picked_sq, after_pick, applied_to, verd
 use Rattle.nvme_ctrl.proofs.AfterSteps.{fetched_sq, after_admin, with_events}
 use Rattle.nvme_ctrl.proofs.StepKeeps.{Queues, KeepsFetch, KeepsIo, KeepsAdmin, KeepsPost, KeepsClose}
 use Rattle.nvme_ctrl.proofs.QueueWords.{in_log, in_content, counted, OpenedFor, Agree, at_same, put-queue}
+use Rattle.nvme_ctrl.proofs.DeletedQueues.{closing_not_open}
 use Rattle.nvme_ctrl.proofs.Regions.{target_is, target_left}
 use Rattle.nvme_ctrl.proofs.QueueVerdicts.{few_queues, verdict-agrees, verdict-table, verdict-unused}
 use Rattle.nvme_ctrl.proofs.QueueChanges.{serve, post, finish}
@@ -136,10 +137,6 @@ queues-post rules late past k c t rest cqe s can _ =
     (λ r e. put-queue k.sq t.place.region _ refl r ∙ h.unused r e)
 
 -- ---- the end of a deletion
--- a queue that is closing isn't open
-closing_not_open : (closing : SqEntry) → closing.closing ≡ true → as_open (Some closing) ≡ None
-closing_not_open closing e = rw e refl
-
 -- the end of a deletion takes away a queue that was closing
 taken : (b : Bool) (o : Option SqEntry) → as_open o ≡ as_open (if b then unless_closing o else o)
 taken true o = sym (as_open-unless_closing o)
@@ -149,8 +146,8 @@ taken false o = refl
 pub queues-close : KeepsClose Queues
 queues-close rules late past k d table s can _ =
     let h : HoldsQueues past k = s.queues in
-    let p : IsPending past k d = s.deletion.stands d can.pending in
-    let o : IsOpenedFor k.sq d = h.deleting d can.pending in
+    let p : IsPending past k d.region d = s.deletion.stands d.region d can.pending in
+    let o : IsOpenedFor k.sq d = h.deleting d.region d can.pending in
     let t : TableHistory = s.tabled.history in
     let was : StandsAt rules.start k.table t = s.tabled.stands in
     let now : StandsAt rules.start table (DeletionFinished d.qid ∷ t) = can.table_stands in

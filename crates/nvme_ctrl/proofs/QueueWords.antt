@@ -32,7 +32,7 @@ pub record QueueContent : Type 0 where
   pub nsq : ℕ
   pub ncq : ℕ
   pub board : List (Option OpenQueue)
-  pub deletion : Option PendingDelete
+  pub deletion : ℕ → Option PendingDelete
   pub held : ℕ → Bool
   pub classed : ℕ → Option Class
 
@@ -71,7 +71,7 @@ pub record Agree (l : LogQueues) (k : QueueContent) : Type 0 where
   pub unopened : (r : ℕ) → (k.sq r).queue ≡ None → IsBlank l.closed r (k.sq r)
   pub gone : (r : ℕ) → l.closed r ≡ true → IsGone (k.sq r)
   pub closed : (q r : ℕ) (queue : Queue) → l.closed r ≡ true → l.sqs q ≡ Some queue → queue.region ≡ r → ⊥
-  pub deleting : (d : PendingDelete) → k.deletion ≡ Some d → IsOpenedFor k.sq d
+  pub deleting : (r : ℕ) (d : PendingDelete) → k.deletion r ≡ Some d → IsOpenedFor k.sq d
 
 -- ---- look-ups
 -- a choice by a number, where it is that number, and where it isn't

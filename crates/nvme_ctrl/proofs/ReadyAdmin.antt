@@ -1,9 +1,9 @@
 -- What an admin command makes ready: its answer, or the aborted candidates of the queue that it deletes.
 use Rattle.std.proofs.Common.{◌≡◌, ℕ, ◌+◌, ◌<◌, ◌≤◌, ◌==◌, ◌&&◌, ◌||◌, nat_lt, Bool, true, false, not, List, [], ◌∷◌, ◌++◌, map, length, take, slice_index_or, Option, Some, None, refl, sym, ap, ◌∙◌, subst, arith, inl, inr}
-use Rattle.std.specs.Prelude.{sum_by, All, option_map}
+use Rattle.std.specs.Prelude.{sum_by, All, option_map, is_some}
 use Rattle.std.proofs.lemmas.Bool.{cases_eq, eq-eqb, ne_eqb, or_right}
-use Rattle.std.proofs.lemmas.List.{length-append, length-drop}
-use Rattle.std.proofs.lemmas.List.Sums.{sum_by-cons, sum_by-le}
+use Rattle.std.proofs.lemmas.List.{length-append}
+use Rattle.std.proofs.lemmas.List.Sums.{sum_by-cons}
 use Rattle.std.proofs.lemmas.List.Elements.{All-nil, All-cons, All-drop, All-map, All-same, All-head}
 use Rattle.nvme_entry.specs.Status.{StatusCode}
 use Rattle.nvme_arbiter.specs.Board.{BoardView}
@@ -23,20 +23,22 @@ use Rattle.nvme_log.specs.Rules.{FrontRules, Past}
 use Rattle.nvme_log.specs.Queues.{cq_region_of, qid_of_region}
 use Rattle.nvme_log.specs.Places.{fetched, fate_of, is_waiting, waiting, entry_at, is_aborted}
 use Rattle.nvme_log.specs.declared.place.Place.{Place}
+use Rattle.nvme_log.specs.Dispatches.{place_at}
 use Rattle.nvme_log.specs.Completions.{posts_of}
 use Rattle.nvme_log.specs.Aborts.{took_abort, is_abort_requested, is_aborted_with_queue}
-use Rattle.nvme_ctrl.specs.kept.Content.{SqContent, Content, put_sq}
-use Rattle.nvme_ctrl.specs.kept.Standing.{HoldsSq, HoldsReady, IsReady, times_in, times_held, held_by, hand_of, ready_aborted, Holds}
+use Rattle.nvme_ctrl.specs.kept.Content.{SqContent, Content, put_sq, put_deletion}
+use Rattle.nvme_ctrl.specs.kept.Standing.{HoldsSq, HoldsReady, IsReady, times_in, times_held, held_by, held_upto, hand_of, Holds}
 use Rattle.nvme_log.specs.Places.{is_served, one_if}
 use Rattle.nvme_log.proofs.Waiting.{times-upto}
 use Rattle.nvme_ctrl.proofs.Windows.{times_in_window, All-from_map, sum_by-map}
 use Rattle.nvme_ctrl.proofs.ServedPlaces.{aborts-leave}
 use Rattle.nvme_ctrl.proofs.AbortRequests.{unrequested, not_with_queue, requests-aborts}
-use Rattle.nvme_ctrl.proofs.Readying.{over_none, GrowsBy, put-grows, readies, sum_by-none, sum_by-ones, IsMade, times_in-own, times_in-other, Moves, served-moves, at_put, waiting-unaborted}
-use Rattle.nvme_ctrl.proofs.ReadyChange.{aborted-sum, becomes-ready, pick-moves}
+use Rattle.nvme_ctrl.proofs.Readying.{GrowsBy, put-grows, readies, sum_by-none, IsMade, times_in-own, times_in-other, Moves, served-moves, at_put, waiting-unaborted}
+use Rattle.nvme_ctrl.proofs.ReadyChange.{becomes-ready, pick-moves}
 use Rattle.nvme_ctrl.proofs.ReadyHand.{times_held-append}
 use Rattle.nvme_ctrl.specs.inside.Steps.{picked_sq, aborted, applied_to, told}
-use Rattle.nvme_ctrl.proofs.AfterSteps.{with_events, place_of, with_deleting}
+use Rattle.nvme_ctrl.proofs.AfterSteps.{with_events, with_deleting}
+use Rattle.nvme_ctrl.proofs.PendingDeletions.{put-same, put-other, held-put, times_held-by}
 
 -- ---- regions
 -- the region of a queue that is opened was opened for none before, so it posts nowhere
@@ -115,12 +117,12 @@ at_oldest P xs x rest e h = All-head P x rest (All-same P (x ∷ rest) xs (sym e
 
 -- the relation of what is ready to the log is kept
 pub answers-ready : (past later : Past) (k after : Content) (candidate : Candidate) (rest : List Candidate) (status : StatusCode) (dw0 : ℕ)
-    → HoldsReady past k (hand_of k) → ((r : ℕ) → HoldsSq past r (k.sq r)) → (k.sq 0).window ≡ candidate ∷ rest → k.deletion ≡ None
+    → HoldsReady past k (hand_of k) → ((r : ℕ) → HoldsSq past r (k.sq r)) → (k.sq 0).window ≡ candidate ∷ rest
     → k.outstanding + 1 ≤ max_outstanding → SamePlaces past later → Answers k after (told candidate status dw0) → ((r : ℕ) → HoldsSq later r (after.sq r))
     → HoldsReady later after (hand_of after)
-answers-ready past later k after candidate rest status dw0 ready before oldest none few same a regions =
+answers-ready past later k after candidate rest status dw0 ready before oldest few same a regions =
     let hand : hand_of after ≡ hand_of k =
-    ap (λ (ps : List Place). ps ++ held_by after.deletion) a.hand ∙ ap (λ (d : Option PendingDelete). k.hand ++ held_by d) a.deletion in
+    ap (λ (ps : List Place). ps ++ held_upto after.deletion MAX_REGIONS) a.hand ∙ ap (λ (d : ℕ → Option PendingDelete). k.hand ++ held_upto d MAX_REGIONS) a.deletion in
     let entry : entry_at past 0 candidate.index ≡ Some candidate.entry =
     at_oldest (λ (c : Candidate). entry_at past 0 c.index ≡ Some c.entry) (k.sq 0).window candidate rest oldest (before 0).entries in
     let fresh : is_aborted past 0 candidate.index ≡ false =
@@ -144,7 +146,7 @@ answers-ready past later k after candidate rest status dw0 ready before oldest n
         is_there = same.entries t.place.region t.place.index ∙ h.is_there;
         cid = h.cid;
         with_queue = h.with_queue ∙ sym (same.with_queue t.place.region t.place.index);
-        deleting = λ e. ap (option_map (λ (d : PendingDelete). d.region)) a.deletion ∙ h.deleting e;
+        deleting = λ e. ap (λ (d : ℕ → Option PendingDelete). is_some (d t.place.region)) a.deletion ∙ h.deleting e;
       };
       new = All-cons (IsReady later after.deletion 0) (told candidate status dw0) [] (record {
         region = same.cq_regions 0 0 ready.admin_region;
@@ -156,32 +158,18 @@ answers-ready past later k after candidate rest status dw0 ready before oldest n
         deleting = λ e. cc;
       }) (All-nil (IsReady later after.deletion 0));
       taken = omega (arith, a.outstanding, ap (λ (xs : List Place). length xs) hand);
-      few_aborted = omega (arith, ready.few_aborted);
       few_taken = omega (arith, a.outstanding);
       admin_qid = same.qids 0 0 ready.admin_qid;
       admin_region = same.cq_regions 0 0 ready.admin_region;
     })
 
 -- ---- a deletion that begins
--- where no deletion is pending, no ready completion is that of a place that was aborted with its queue
-pub not_deleting : (past : Past) (deletion : Option PendingDelete) (c : ℕ) (t : Ready) → IsReady past deletion c t → deletion ≡ None → t.with_queue ≡ true → ⊥
+-- where the queue of a region isn't being deleted, no ready completion is that of a place that was aborted with it
+pub not_deleting : (past : Past) (deletion : ℕ → Option PendingDelete) (c : ℕ) (t : Ready) → IsReady past deletion c t → deletion t.place.region ≡ None → t.with_queue ≡ true → ⊥
 not_deleting past deletion c t h none e =
-    let here : option_map (λ (d : PendingDelete). d.region) deletion ≡ None = ap (option_map (λ (d : PendingDelete). d.region)) none in
+    let here : is_some (deletion t.place.region) ≡ false = ap (λ (o : Option PendingDelete). is_some o) none in
     let there = h.deleting e in
-    cc
-
--- so there is none
-pub none-aborted : (past : Past) (k : Content) (hand : List Place) → HoldsReady past k hand → k.deletion ≡ None → ready_aborted k ≡ 0
-none-aborted past k hand h none =
-    aborted-sum k ∙ over_none (λ (c : ℕ). sum_by (λ (t : Ready). one_if t.with_queue) (k.cq c).ready) MAX_REGIONS (λ c l.
-    omega (
-      arith,
-      sum_by-le (λ (t : Ready). one_if t.with_queue) 0 (k.cq c).ready (λ j d m.
-          counts_none (slice_index_or (k.cq c).ready j d).with_queue (not_deleting past k.deletion c (slice_index_or (k.cq c).ready j d) (h.each c j d m) none)),
-    )) where
-      counts_none : (b : Bool) → (b ≡ true → ⊥) → one_if b ≤ 0
-      counts_none true n = absurd (n refl)
-      counts_none false n = omega arith
+    cc (here, there)
 
 -- a served place is none of those that wait
 pub served-apart : (past : Past) (r q j : ℕ) → is_served past q j ≡ true → sum_by (λ (i : ℕ). one_if (r == q && i == j)) (waiting past r) ≡ 0
@@ -212,25 +200,22 @@ closing-moves sq qid region i r s got none =
 left-candidates : (k : Content) (Q : Candidate → Type 0) (r : ℕ) → All Q (k.sq r).window → All Q (put_sq k.sq 0 (picked_sq (k.sq 0) 1) r).window
 left-candidates k Q = at_put (λ (x : ℕ) (u v : SqContent). All Q u.window → All Q v.window) k.sq 0 (picked_sq (k.sq 0) 1) (All-drop Q 1 (k.sq 0).window) (λ x d h. h)
 
--- and they are no more
-left-fewer : (k : Content) (r : ℕ) → length (put_sq k.sq 0 (picked_sq (k.sq 0) 1) r).window ≤ length (k.sq r).window
-left-fewer k = at_put (λ (x : ℕ) (u v : SqContent). length v.window ≤ length u.window) k.sq 0 (picked_sq (k.sq 0) 1) (omega (arith, length-drop 1 (k.sq 0).window)) (λ x d. omega arith)
-
 -- the relation of what is ready to the log is kept
 pub deletes-ready : (past : Past) (k : Content) (candidate : Candidate) (rest : List Candidate) (seen : List Seen) (pick : Pick) (board : BoardView) (table : TableView) (region qid c : ℕ)
-    → HoldsReady past k (hand_of k) → ((r : ℕ) → HoldsSq past r (k.sq r)) → (k.sq 0).window ≡ candidate ∷ rest → k.deletion ≡ None
-    → k.outstanding + 1 ≤ max_outstanding → c < MAX_REGIONS → cq_region_of past region ≡ Some c → qid_of_region past region ≡ Some qid → took_abort (event.Pick seen pick ∷ past) ≡ false
+    → HoldsReady past k (hand_of k) → ((r : ℕ) → HoldsSq past r (k.sq r)) → (k.sq 0).window ≡ candidate ∷ rest → k.deletion region ≡ None
+    → region < MAX_REGIONS → k.outstanding + 1 ≤ max_outstanding → c < MAX_REGIONS → cq_region_of past region ≡ Some c → qid_of_region past region ≡ Some qid → took_abort (event.Pick seen pick ∷ past) ≡ false
     → ((r : ℕ) → HoldsSq (with_events (map (λ (i : ℕ). Abort region i) (waiting past region)) (Closing qid region ∷ event.Pick seen pick ∷ past)) r ((with_deleting (applied_to k board table) qid region c candidate).sq r))
     → HoldsReady (with_events (map (λ (i : ℕ). Abort region i) (waiting past region)) (Closing qid region ∷ event.Pick seen pick ∷ past))
     (with_deleting (applied_to k board table) qid region c candidate) (hand_of (with_deleting (applied_to k board table) qid region c candidate))
-deletes-ready past k candidate rest seen pick board table region qid c ready before oldest none few small attached named_by took regions =
+deletes-ready past k candidate rest seen pick board table region qid c ready before oldest none within few small attached named_by took regions =
     let ws : List ℕ = waiting past region in
     let middle : Past = Closing qid region ∷ event.Pick seen pick ∷ past in
     let later : Past = with_events (map (λ (i : ℕ). Abort region i) ws) middle in
     let mid : ℕ → SqContent = put_sq k.sq 0 (picked_sq (k.sq 0) 1) in
     let after : Content = with_deleting (applied_to k board table) qid region c candidate in
     let ts : List Ready = map (aborted qid region) (mid region).window in
-    let hand : held_by k.deletion ≡ [] = ap held_by none in
+    let place : PendingDelete = record { place = place_at 0 candidate.index; cid = candidate.entry.cid; qid = qid; region = region } in
+    let kept : ℕ → Option PendingDelete = put_deletion k.deletion region (Some place) in
     let region_stays = λ (r : ℕ). aborts-leave (λ (p : Past). cq_region_of p r) (λ p r i. refl) region ws middle in
     let qid_stays = λ (r : ℕ). aborts-leave (λ (p : Past). qid_of_region p r) (λ p r i. refl) region ws middle in
     let entry_stays = λ (r j : ℕ). aborts-leave (λ (p : Past). entry_at p r j) (λ p r i. refl) region ws middle in
@@ -250,9 +235,11 @@ deletes-ready past k candidate rest seen pick board table region qid c ready bef
           omega (
             arith,
             served-moves past later r i (one_if (0 == r && candidate.index == i) + times_in r i ts) (k.sq r) (after.sq r) (before r) (regions r) (omega arith),
-            times_held-append r i k.hand (held_by k.deletion),
-            times_held-append r i k.hand (place_of 0 candidate ∷ []),
-            ap (times_held r i) hand,
+            times_held-append r i k.hand (held_upto k.deletion MAX_REGIONS),
+            times_held-append r i k.hand (held_upto kept MAX_REGIONS),
+            held-put (times_held r i) (times_held-append r i) k.deletion region (Some place) MAX_REGIONS within,
+            ap (λ (o : Option PendingDelete). times_held r i (held_by o)) none,
+            times_held-by r i place,
           );
       stay = λ x t served h. record {
         region = region_stays t.place.region ∙ h.region;
@@ -263,7 +250,10 @@ deletes-ready past k candidate rest seen pick board table region qid c ready bef
         with_queue = h.with_queue ∙ sym (λ p.
             aborts-other region t.place.region t.place.index ws middle (served-apart past region t.place.region t.place.index served.served) p
             && not (requests-aborts region t.place.region t.place.index ws middle took p));
-        deleting = λ e. absurd (not_deleting past k.deletion x t h none e);
+        deleting = λ e. elim (cases_eq t.place.region region) [
+          | inl same ↦ absurd (not_deleting past k.deletion x t h (ap k.deletion same ∙ none) e)
+          | inr other ↦ ap (λ (o : Option PendingDelete). is_some o) (put-other k.deletion region (Some place) t.place.region other) ∙ h.deleting e
+        ];
       };
       new = All-map (IsReady later after.deletion c) (aborted qid region) (mid region).window
           (left-candidates k (λ (x : Candidate). IsReady later after.deletion c (aborted qid region x)) region
@@ -274,21 +264,18 @@ deletes-ready past k candidate rest seen pick board table region qid c ready bef
             is_there = entry_stays region (slice_index_or (k.sq region).window j d).index ∙ (before region).entries j d l;
             cid = refl;
             with_queue = sym (λ p. named j d l p && not (unasked j d l p));
-            deleting = λ e. refl;
+            deleting = λ e. ap (λ (o : Option PendingDelete). is_some o) (put-same k.deletion region (Some place));
           }));
       taken =
           let each = sum_by-map (λ (t : Ready). one_if (not t.with_queue)) (aborted qid region) (mid region).window in
           let nothing = sum_by-none (mid region).window in
           omega (
             arith,
-            length-append k.hand (held_by k.deletion),
-            length-append k.hand (place_of 0 candidate ∷ []),
-            ap (λ (xs : List Place). length xs) hand,
+            length-append k.hand (held_upto k.deletion MAX_REGIONS),
+            length-append k.hand (held_upto kept MAX_REGIONS),
+            held-put (λ (xs : List Place). length xs) (λ xs ys. length-append xs ys) k.deletion region (Some place) MAX_REGIONS within,
+            ap (λ (o : Option PendingDelete). length (held_by o)) none,
           );
-      few_aborted =
-          let each = sum_by-map (λ (t : Ready). one_if t.with_queue) (aborted qid region) (mid region).window in
-          let ones = sum_by-ones (mid region).window in
-          omega (arith, none-aborted past k (hand_of k) ready none, left-fewer k region, (before region).few_waiting);
       few_taken = few;
       admin_qid = qid_stays 0 ∙ ready.admin_qid;
       admin_region = region_stays 0 ∙ ready.admin_region;

@@ -5,7 +5,6 @@ use Rattle.std.proofs.lemmas.Bool.{cases_eq, cases_lt, eq-eqb}
 use Rattle.std.proofs.lemmas.List.{take-append-drop}
 use Rattle.std.proofs.lemmas.List.Sums.{sum_by-append, get_or-le-sum_by, length-filter}
 use Rattle.std.proofs.lemmas.List.Elements.{All-append, All-same}
-use Rattle.nvme_arbiter.specs.Limits.{highest_count}
 use Rattle.nvme_admin.specs.declared.bounds.TheConstants.{MAX_REGIONS}
 use Rattle.nvme_ctrl.specs.kept.Content.{Candidate}
 use Rattle.nvme_ctrl.specs.kept.Content.{Ready}
@@ -15,7 +14,7 @@ use Rattle.nvme_log.specs.Queues.{cq_region_of, qid_of_region}
 use Rattle.nvme_log.specs.Completions.{posts_of}
 use Rattle.nvme_ctrl.specs.kept.Content.{SqContent, Content}
 use Rattle.nvme_log.specs.declared.place.Place.{Place}
-use Rattle.nvme_ctrl.specs.kept.Standing.{HoldsReady, IsReady, times_in, times_held, times_ready, ready_picked, ready_aborted}
+use Rattle.nvme_ctrl.specs.kept.Standing.{HoldsReady, IsReady, times_in, times_held, times_ready, ready_picked}
 use Rattle.nvme_log.specs.Places.{is_served, one_if}
 use Rattle.nvme_ctrl.proofs.Windows.{times_in_window}
 use Rattle.nvme_ctrl.specs.inside.Steps.{picked_sq}
@@ -25,11 +24,6 @@ use Rattle.nvme_ctrl.proofs.Readying.{Moves, over_same, over_at, GrowsBy, readie
 pub picked-sum : (k : Content) → ready_picked k ≡ sum_ready (λ (t : Ready). one_if (not t.with_queue)) (readies k.cq) MAX_REGIONS
 picked-sum k =
     over_same _ _ MAX_REGIONS (λ c l. length-filter (λ (t : Ready). not t.with_queue) (k.cq c).ready)
-
--- so are those of places that were aborted with their queue
-pub aborted-sum : (k : Content) → ready_aborted k ≡ sum_ready (λ (t : Ready). one_if t.with_queue) (readies k.cq) MAX_REGIONS
-aborted-sum k =
-    over_same _ _ MAX_REGIONS (λ c l. length-filter (λ (t : Ready). t.with_queue) (k.cq c).ready)
 
 -- a test that counts passes
 counts_true : (b : Bool) → 1 ≤ one_if b → b ≡ true
@@ -75,7 +69,6 @@ pub record Becomes (past later : Past) (k after : Content) (hand held : List Pla
   pub stay : (c : ℕ) (t : Ready) → IsServed past t → IsReady past k.deletion c t → IsReady later after.deletion c t
   pub new : All (IsReady later after.deletion a) ts
   pub taken : sum_by (λ (t : Ready). one_if (not t.with_queue)) ts + length held + k.outstanding ≡ after.outstanding + length hand
-  pub few_aborted : ready_aborted k + sum_by (λ (t : Ready). one_if t.with_queue) ts ≤ highest_count
   pub few_taken : after.outstanding ≤ max_outstanding
   pub admin_qid : qid_of_region later 0 ≡ Some 0
   pub admin_region : cq_region_of later 0 ≡ Some 0
@@ -98,7 +91,6 @@ becomes-ready past later k after hand held a ts h b = record {
     | inr d ↦ All-same (IsReady later after.deletion c) _ _ (b.grows.elsewhere c d) (kept c)
   ];
   taken = omega (arith, h.taken, b.taken, picked-sum k, picked-sum after, sum_ready-grows (λ (t : Ready). one_if (not t.with_queue)) (readies k.cq) (readies after.cq) a MAX_REGIONS ts b.grows b.small);
-  few_aborted = omega (arith, b.few_aborted, aborted-sum k, aborted-sum after, sum_ready-grows (λ (t : Ready). one_if t.with_queue) (readies k.cq) (readies after.cq) a MAX_REGIONS ts b.grows b.small);
   few_taken = b.few_taken;
   none_beyond = λ c l. b.grows.elsewhere c (λ e. absurd (omega (arith, b.small))) ∙ h.none_beyond c l;
   admin_qid = b.admin_qid;

@@ -5,12 +5,13 @@ use Rattle.std.proofs.lemmas.Bool.{eq-eqb, ne_eqb}
 use Rattle.std.proofs.lemmas.List.{length-append}
 use Rattle.std.proofs.lemmas.List.Sums.{sum_by-cons, sum_by-append}
 use Rattle.std.proofs.lemmas.List.Elements.{All-nil, All-cons, All-head, All-tail, All-same}
+use Rattle.nvme_admin.specs.declared.bounds.TheConstants.{MAX_REGIONS}
 use Rattle.nvme_log.specs.Rules.{Past}
 use Rattle.nvme_log.specs.declared.place.Place.{Place}
 use Rattle.nvme_log.specs.Completions.{posted_to}
 use Rattle.nvme_log.specs.Places.{one_if}
 use Rattle.nvme_ctrl.specs.kept.Content.{Candidate, Ready, Attachment, CqContent, Content, put_cq}
-use Rattle.nvme_ctrl.specs.kept.Standing.{HoldsPosts, IsInHand, IsReady, held_by, hand_of, times_held}
+use Rattle.nvme_ctrl.specs.kept.Standing.{HoldsPosts, IsInHand, IsReady, held_upto, hand_of, times_held}
 use Rattle.nvme_ctrl.proofs.Windows.{times_in_window}
 use Rattle.nvme_ctrl.proofs.Readying.{put-grows, at_put_cq}
 use Rattle.nvme_ctrl.proofs.AbortRequests.{not_with_queue}
@@ -77,8 +78,8 @@ ready-answer rules late past k p before after sqid c cid answer entry s can ther
       served = λ r i.
           omega (
             arith,
-            times_held-append r i k.hand (held_by k.deletion),
-            times_held-append r i (before ++ after) (held_by k.deletion),
+            times_held-append r i k.hand (held_upto k.deletion MAX_REGIONS),
+            times_held-append r i (before ++ after) (held_upto k.deletion MAX_REGIONS),
             ap (times_held r i) can.in_hand,
             times_held-taken r i before p after,
           );
@@ -95,13 +96,12 @@ ready-answer rules late past k p before after sqid c cid answer entry s can ther
       taken =
           omega (
             arith,
-            length-append k.hand (held_by k.deletion),
-            length-append (before ++ after) (held_by k.deletion),
+            length-append k.hand (held_upto k.deletion MAX_REGIONS),
+            length-append (before ++ after) (held_upto k.deletion MAX_REGIONS),
             length-append before after,
             length-append before (p ∷ after),
             ap (λ (ps : List Place). length ps) can.in_hand,
           );
-      few_aborted = omega (arith, s.ready.few_aborted);
       few_taken = s.ready.few_taken;
       admin_qid = s.ready.admin_qid;
       admin_region = s.ready.admin_region;

@@ -1,6 +1,6 @@
 -- What is ready and what is posted stand after each step of a controller.
 use Rattle.std.proofs.Common.{◌≡◌, ℕ, ◌+◌, ◌<◌, ◌≤◌, ◌==◌, ◌&&◌, Bool, true, false, not, if◌then◌else◌, List, [], ◌∷◌, ◌++◌, map, length, take, Option, Some, None, refl, sym, ap, ◌∙◌, subst, arith, inl, inr}
-use Rattle.std.specs.Prelude.{All, option_map, option_to_list}
+use Rattle.std.specs.Prelude.{All, option_map, option_to_list, is_some}
 use Rattle.std.proofs.lemmas.Bool.{cases_eq, false_from_ne_true, eq-eqb, ne_eqb}
 use Rattle.std.proofs.lemmas.List.{length-append, length-map, length-take-le}
 use Rattle.std.proofs.lemmas.List.Elements.{All-nil, All-cons, All-tail, All-same}
@@ -32,13 +32,15 @@ use Rattle.nvme_log.specs.declared.place.Place.{Place}
 use Rattle.nvme_log.specs.Completions.{is_posted, posts_of, posted_to}
 use Rattle.nvme_log.specs.Effects.{abort_in, closing_of, closed_cq_of, named, target_of}
 use Rattle.nvme_log.proofs.AbortEntries.{verdict_is_abort}
-use Rattle.nvme_ctrl.specs.kept.Content.{SqContent, CqContent, Content, put_sq, with_ready}
-use Rattle.nvme_ctrl.specs.kept.Standing.{HoldsSq, HoldsPosts, IsPending, IsReady, times_held, held_by, hand_of, Holds}
+use Rattle.nvme_ctrl.specs.kept.Content.{SqContent, CqContent, Content, put_sq, put_deletion, with_ready}
+use Rattle.nvme_ctrl.specs.kept.Standing.{HoldsSq, HoldsPosts, IsPending, IsReady, times_held, held_by, held_upto, hand_of, Holds}
 use Rattle.nvme_log.specs.Places.{one_if, is_served}
 use Rattle.nvme_ctrl.proofs.AbortRequests.{not_with_queue}
 use Rattle.nvme_ctrl.proofs.ServedPlaces.{served-fetch, aborts-leave, entry_stays}
 use Rattle.nvme_ctrl.proofs.Readying.{unposted-counts, waiting-unaborted, Pops, readies, sum_ready-pops, at_put_cq, put-grows, none-grows, Moves, served-moves, at_put}
-use Rattle.nvme_ctrl.proofs.ReadyChange.{picked-sum, aborted-sum, pick-moves, becomes-ready}
+use Rattle.nvme_ctrl.proofs.ReadyChange.{picked-sum, pick-moves, becomes-ready}
+use Rattle.nvme_ctrl.proofs.PendingDeletions.{put-other, held-put}
+use Rattle.nvme_ctrl.proofs.DeletedQueues.{deletion_there, open_undeleted}
 use Rattle.nvme_log.proofs.Posts.{posts_of-some}
 use Rattle.nvme_ctrl.proofs.ReadyHand.{times_held-append, places-own, places-other, same_posts}
 use Rattle.nvme_ctrl.proofs.ReadyAdmin.{unused_apart, unused_unnamed, SamePlaces, Answers, answers-ready, deletes-ready}
@@ -80,7 +82,6 @@ ready-fetch rules late past k q queue entry s can after =
       };
       new = λ j d l. absurd (omega arith);
       taken = omega arith;
-      few_aborted = omega (arith, s.ready.few_aborted);
       few_taken = s.ready.few_taken;
       admin_qid = s.ready.admin_qid;
       admin_region = s.ready.admin_region;
@@ -109,8 +110,8 @@ ready-io rules late past k queue seen pick board c s can observed io attached af
           omega (
             arith,
             served-moves past (event.Pick seen pick ∷ past) r i (times_held r i places) (k.sq r) _ (s.regions r) (after r) moves,
-            times_held-append r i k.hand (held_by k.deletion),
-            times_held-append r i (k.hand ++ places) (held_by k.deletion),
+            times_held-append r i k.hand (held_upto k.deletion MAX_REGIONS),
+            times_held-append r i (k.hand ++ places) (held_upto k.deletion MAX_REGIONS),
             times_held-append r i k.hand places,
           );
       stay = λ x t served h. record { region = h.region; queue = h.queue; entry = h.entry; is_there = h.is_there; cid = h.cid; with_queue = h.with_queue; deleting = h.deleting };
@@ -119,12 +120,11 @@ ready-io rules late past k queue seen pick board c s can observed io attached af
           let size : length taken ≡ pick.n = length-take-le pick.n (k.sq region).window can.enough in
           omega (
             arith,
-            length-append k.hand (held_by k.deletion),
-            length-append (k.hand ++ places) (held_by k.deletion),
+            length-append k.hand (held_upto k.deletion MAX_REGIONS),
+            length-append (k.hand ++ places) (held_upto k.deletion MAX_REGIONS),
             length-append k.hand places,
             length-map taken (place_of region),
           );
-      few_aborted = omega (arith, s.ready.few_aborted);
       few_taken = can.places;
       admin_qid = s.ready.admin_qid;
       admin_region = s.ready.admin_region;
@@ -155,7 +155,6 @@ ready-post rules late past k c t rest cqe s can after =
     let small : c < MAX_REGIONS = omega (arith, can.there, s.tabled.few_cqs) in
     let pops = post-pops k c t rest cqe can.oldest in
     let picked = sum_ready-pops (λ (u : Ready). one_if (not u.with_queue)) (readies k.cq) (readies (after_post k c t rest cqe).cq) c MAX_REGIONS t pops small in
-    let aborts = sum_ready-pops (λ (u : Ready). one_if u.with_queue) (readies k.cq) (readies (after_post k c t rest cqe).cq) c MAX_REGIONS t pops small in
     let picked_before = picked-sum k in
     let picked_after = picked-sum (after_post k c t rest cqe) in
     record {
@@ -170,7 +169,6 @@ ready-post rules late past k c t rest cqe s can after =
           (All-tail (IsReady later k.deletion c) t rest (All-same (IsReady later k.deletion c) _ _ (sym can.oldest) (stays c)))
           (λ x d. stays x);
       taken = omega (arith, s.ready.taken);
-      few_aborted = omega (arith, aborted-sum k, aborted-sum (after_post k c t rest cqe), s.ready.few_aborted);
       few_taken = omega (arith, s.ready.few_taken);
       none_beyond = at_put_cq (λ (x : ℕ) (u : CqContent). MAX_REGIONS ≤ x → u.ready ≡ []) k.cq c (posted_cq (k.cq c) rest cqe)
           (λ l. absurd (omega arith)) (λ x d. s.ready.none_beyond x);
@@ -198,18 +196,24 @@ posts-post rules late past k c t rest cqe s can = record {
 not_posted : (past : Past) (r i : ℕ) → posts_of past r i ≡ 0 → is_posted past r i ≡ false
 not_posted past r i e = false_from_ne_true (is_posted past r i) (λ (p : is_posted past r i ≡ true). omega (arith, posts_of-some past r i p))
 
--- the end of a deletion makes its answer ready. No aborted place of the closed queue is ready any more, since all its places are posted
+-- the end of a deletion makes its answer ready. No aborted place of its queue is ready any more, since all its places are posted
 pub ready-close : KeepsClose ReadyOnes
 ready-close rules late past k d table s can after =
-    let held : held_by k.deletion ≡ d.place ∷ [] = ap held_by can.pending in
-    let pends : IsPending past k d = s.deletion.stands d can.pending in
-    let region : option_map (λ (x : PendingDelete). x.region) k.deletion ≡ Some d.region = ap (option_map (λ (x : PendingDelete). x.region)) can.pending in
+    let left : ℕ → Option PendingDelete = put_deletion k.deletion d.region None in
+    let there : d.region < MAX_REGIONS = deletion_there rules late past k s d.region d can.pending in
+    let pends : IsPending past k d.region d = s.deletion.stands d.region d can.pending in
     becomes-ready past (closed_event d ∷ past) k (after_closed k d table) (hand_of k) (hand_of (after_closed k d table)) 0 (deleted d ∷ []) s.ready (record {
       small = omega arith;
       grows = put-grows k.cq 0 (deleted d ∷ []);
       posts = λ r i. refl;
       served = λ r i.
-          omega (arith, times_held-append r i k.hand (held_by k.deletion), times_held-append r i k.hand [], ap (times_held r i) held);
+          omega (
+            arith,
+            times_held-append r i k.hand (held_upto k.deletion MAX_REGIONS),
+            times_held-append r i k.hand (held_upto left MAX_REGIONS),
+            held-put (times_held r i) (times_held-append r i) k.deletion d.region None MAX_REGIONS there,
+            ap (λ (o : Option PendingDelete). times_held r i (held_by o)) can.pending,
+          );
       stay = λ c t served h. record {
         region = h.region;
         queue = h.queue;
@@ -217,13 +221,13 @@ ready-close rules late past k d table s can after =
         is_there = h.is_there;
         cid = h.cid;
         with_queue = h.with_queue;
-        deleting = λ e.
-            let same : Some d.region ≡ Some t.place.region = sym region ∙ h.deleting e in
-            let at : d.region ≡ t.place.region = cc in
-            absurd (unposted-counts past t.place.region t.place.index served.served (not_posted past t.place.region t.place.index served.no_post)
-            (sym (s.counts.unposted t.place.region) ∙ ap (λ (r : ℕ). (k.sq r).unposted) (sym at) ∙ can.all_posted));
+        deleting = λ e. elim (cases_eq t.place.region d.region) [
+          | inl at ↦ absurd (unposted-counts past t.place.region t.place.index served.served (not_posted past t.place.region t.place.index served.no_post)
+              (sym (s.counts.unposted t.place.region) ∙ ap (λ (r : ℕ). (k.sq r).unposted) at ∙ can.all_posted))
+          | inr other ↦ ap (λ (o : Option PendingDelete). is_some o) (put-other k.deletion d.region None t.place.region other) ∙ h.deleting e
+        ];
       };
-      new = All-cons (IsReady (closed_event d ∷ past) None 0) (deleted d) [] (record {
+      new = All-cons (IsReady (closed_event d ∷ past) left 0) (deleted d) [] (record {
         region = ap (λ (r : ℕ). cq_region_of past r) pends.of_admin ∙ s.ready.admin_region;
         queue = ap (λ (r : ℕ). qid_of_region past r) pends.of_admin ∙ s.ready.admin_qid;
         entry = pends.entry;
@@ -231,9 +235,14 @@ ready-close rules late past k d table s can after =
         cid = pends.cid;
         with_queue = sym (not_with_queue past d.place.region d.place.index pends.not_aborted);
         deleting = λ e. cc;
-      }) (All-nil (IsReady (closed_event d ∷ past) None 0));
-      taken = omega (arith, length-append k.hand (held_by k.deletion), length-append k.hand [], ap (λ (xs : List Place). length xs) held);
-      few_aborted = omega (arith, s.ready.few_aborted);
+      }) (All-nil (IsReady (closed_event d ∷ past) left 0));
+      taken = omega (
+        arith,
+        length-append k.hand (held_upto k.deletion MAX_REGIONS),
+        length-append k.hand (held_upto left MAX_REGIONS),
+        held-put (λ (xs : List Place). length xs) (λ xs ys. length-append xs ys) k.deletion d.region None MAX_REGIONS there,
+        ap (λ (o : Option PendingDelete). length (held_by o)) can.pending,
+      );
       few_taken = s.ready.few_taken;
       admin_qid = s.ready.admin_qid;
       admin_region = s.ready.admin_region;
@@ -250,7 +259,7 @@ module _ (rules : FrontRules) (late : Bool) (past : Past) (k : Content) (seen : 
   -- the answer of a command is ready, where the places of the log are as before
   answer : (later : Past) (after : Content) (status : StatusCode) (dw0 : ℕ) → SamePlaces past later → Answers k after (told candidate status dw0) → ReadyOnes rules late later after
   answer later after status dw0 same a regions =
-      answers-ready past later k after candidate rest status dw0 s.ready s.regions apply.oldest can.none_pending (omega (arith, can.places)) same a regions
+      answers-ready past later k after candidate rest status dw0 s.ready s.regions apply.oldest (omega (arith, can.places)) same a regions
 
   -- with the status and the Command Dword 0 of a verdict
   answer_by : (later : Past) (after : Content) (v : Verdict) → SamePlaces past later → Answers k after (answered candidate v) → ReadyOnes rules late later after
@@ -271,7 +280,8 @@ module _ (rules : FrontRules) (late : Bool) (past : Past) (k : Content) (seen : 
   begins_delete qid None e is chosen = answer_by _ _ (BeginDelete qid) pick-leaves (leaves_answer picked (answered candidate (BeginDelete qid)))
   begins_delete qid (Some queue) e is chosen =
       let attached = chosen queue e in
-      deletes-ready past k candidate rest seen pick picked table queue.region qid c s.ready s.regions apply.oldest can.none_pending (omega (arith, can.places))
+      deletes-ready past k candidate rest seen pick picked table queue.region qid c s.ready s.regions apply.oldest (open_undeleted rules late past k s qid queue e)
+      (omega (arith, s.queues.sq_there queue.region (record { qid = qid; cq_region = c }) attached, s.tabled.few_sqs)) (omega (arith, can.places))
       (omega (arith, s.queues.posts_there queue.region (record { qid = qid; cq_region = c }) attached, s.tabled.few_cqs))
       (s.queues.cq_region_is queue.region ∙ ap (option_map (λ (a : Attachment). a.cq_region)) attached)
       (s.queues.qid_is queue.region ∙ ap (option_map (λ (a : Attachment). a.qid)) attached)

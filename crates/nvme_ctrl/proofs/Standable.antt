@@ -35,6 +35,6 @@ module _ (rules : FrontRules) (late : Bool) (notes : Notes) (c : Controller) (sl
       (λ other there e. differ (same_Some x y (sym here ∙ ap (λ (z : ℕ). cq_region_of (logged notes) (slot_at slots z).region) (sym e) ∙ there))) (s.items.readies y) (in_region y)))
       (s.items.readies x) (in_region x))
 
-  -- where no deletion is pending, all is kept
-  pub keeps_standing : c.deletion.pending ≡ 0 → Keeps rules notes c slots s.content s.items
-  keeps_standing idle = record { numbers = s.numbers; has = s.has; doorbells = s.doorbells; tags = s.tags; apart = readies_are_apart; none_pending = idle }
+  -- so all is kept
+  pub keeps_standing : Keeps rules notes c slots s.content s.items
+  keeps_standing = record { numbers = s.numbers; has = s.has; doorbells = s.doorbells; tags = s.tags; apart = readies_are_apart }

@@ -25,7 +25,7 @@ use Rattle.nvme_log.specs.Queues.{Queue, admin_queue, open_sq, open_cq}
 use Rattle.nvme_log.specs.Places.{waiting}
 use Rattle.nvme_log.specs.Histories.{table_history, admin_entry, applied}
 use Rattle.nvme_log.specs.Effects.{closed_cq_of, closing_of, made_by, abort_in, named, target_of}
-use Rattle.nvme_ctrl.specs.kept.Content.{SqContent, CqContent, Content, with_sq, with_cq, with_ready}
+use Rattle.nvme_ctrl.specs.kept.Content.{SqContent, CqContent, Content, with_sq, with_cq, with_ready, put_deletion}
 use Rattle.nvme_ctrl.specs.kept.Standing.{HoldsTable}
 use Rattle.nvme_ctrl.proofs.Handing.{table_stays}
 use Rattle.nvme_ctrl.proofs.Oldest.{admin_entry_is}
@@ -177,7 +177,7 @@ tabled-post rules late past k c t rest cqe s can =
 -- the end of a deletion is a step of the table history
 pub tabled-close : KeepsClose Tabled
 tabled-close rules late past k d table s can =
-    let one : Content = record k { deletion = None; table = table } in
+    let one : Content = record k { deletion = put_deletion k.deletion d.region None; table = table } in
     held rules late past (closed_event d ∷ past) k (after_closed k d table) s.tabled
     (leaves_both k one (after_closed k d table) (leaves_none k one refl refl refl refl) (leaves_cq one 0 _ refl))
     (can.table_stands.sq_regions ∙ finish-sq_regions rules.start s.tabled.history d.qid ∙ sym s.tabled.stands.sq_regions)

@@ -6,7 +6,6 @@ use Rattle.std.proofs.lemmas.Bool.{cases_lt, cases_eq, eq-eqb, ne_eqb}
 use Rattle.std.proofs.lemmas.List.{append-nil, append_assoc, map-append, length-set, get_or_past}
 use Rattle.std.proofs.lemmas.List.Elements.{All-head, All-tail, All-push, All-weaker, All-map}
 use Rattle.std.proofs.lemmas.Option.{same_Some}
-use Rattle.nvme_entry.specs.declared.submission.Sqe.{Sqe}
 use Rattle.nvme_log.specs.Rules.{FrontRules}
 use Rattle.nvme_log.specs.Places.{fetched}
 use Rattle.nvme_log.specs.Dispatches.{place_at}
@@ -22,7 +21,7 @@ use Rattle.nvme_ctrl.specs.declared.chain.Chain.{Chain}
 use Rattle.nvme_ctrl.specs.declared.state.SqState.{SqState}
 use Rattle.nvme_ctrl.specs.declared.state.Controller.{Controller}
 use Rattle.nvme_ctrl.specs.kept.Content.{Content}
-use Rattle.nvme_ctrl.specs.kept.Kept.{Item, ReadyItem, Items, IsWaitingIn, IsOutIn, IsReadyIn, IsAmongOuts, HasNumbers, HasItems, HoldsDoorbells, HoldsTags, IsUnanswered, HasEntry, HasCookie, StandsAt, tags_of, places_of, ready_tags, candidate_of, untaken, pending_of, ready_state}
+use Rattle.nvme_ctrl.specs.kept.Kept.{Item, ReadyItem, Items, IsWaitingIn, IsOutIn, IsReadyIn, IsAmongOuts, HasNumbers, HasItems, HoldsDoorbells, HoldsTags, IsUnanswered, HasEntry, HasCookie, StandsAt, tags_of, places_of, ready_tags, candidate_of, untaken, ready_state}
 use Rattle.nvme_ctrl.specs.kept.Pool.{slot_at, item_at, put_item, IsChain, AreApart}
 use Rattle.nvme_ctrl.specs.kept.State.{no_sq_state, sq_at, cq_at, attachment_of, picked_in}
 use Rattle.nvme_ctrl.proofs.Passed.{passed_left, passed_later}
@@ -30,7 +29,8 @@ use Rattle.nvme_ctrl.proofs.Cookies.{SameCookies, same_cookies-but, cookie_left,
 use Rattle.nvme_ctrl.proofs.Pools.{length-put_item, slot_at-put_item_same, item_at-put_item_other, chain-put_item, AreApart-push}
 use Rattle.nvme_ctrl.proofs.OwnStatus.{All-unmap}
 use Rattle.nvme_ctrl.proofs.RegionStates.{put_sq-each}
-use Rattle.nvme_ctrl.proofs.SlotItems.{All-both, at_put, take_step, drop_step, ready_state-range, other_state, same_state, waiting_stays, out_stays, all_ready_stay, all_free_stay}
+use Rattle.nvme_ctrl.proofs.SlotItems.{All-both, at_put, take_step, drop_step, ready_state-range, other_state, waiting_stays, out_stays, all_ready_stay, all_free_stay}
+use Rattle.nvme_ctrl.proofs.PendingDeletions.{deletions_stay}
 
 -- the item between two lists
 slice_get-next : {X : Type 0} (xs : List X) (x : X) (ys : List X) → slice_get (xs ++ x ∷ ys) (length xs) ≡ Some x
@@ -177,11 +177,6 @@ module _ (c : Controller) (slots : List Slot) (k : Content) (g : Items) (h : Has
         }
   ]
 
-  deletion_left : pending_of c slots g ≡ pending_of (took c chain) new left
-  deletion_left = ap (λ (cid : ℕ). if c.deletion.pending == 0 then None
-      else Some (record { place = place_at 0 g.delete_index; cid = cid; qid = c.deletion.qid; region = c.deletion.region }))
-      (ap (λ (e : Sqe). e.cid) (sym (entries c.deletion.tag)))
-
   -- ---- all of it
   pub take-items : HasItems (took c chain) new k left
   take-items = record {
@@ -200,10 +195,8 @@ module _ (c : Controller) (slots : List Slot) (k : Content) (g : Items) (h : Has
     ready_chain = λ x. chain-put_item slots (cq_at c.cqs x).ready (ready_tags (g.readies x)) it.tag (took_slot (slot_at slots it.tag)) (h.ready_chain x);
     ready_items = λ x. all_ready_stay slots new it.tag size others (g.readies x) (omega (arith, first.state)) (h.ready_items x);
     ready_is = h.ready_is;
-    deletion_is = h.deletion_is ∙ deletion_left;
-    deletion_item = λ pending. same_state slots new it.tag size others c.deletion.tag 6
-        (another c.deletion.tag 6 (h.deletion_item pending) (λ e. omega (arith, e))) (h.deletion_item pending);
-    deletion_inside = λ pending. subst (λ (n : ℕ). c.deletion.tag < n) (sym size) (h.deletion_inside pending);
+    deletions = deletions_stay c.deletions c.pending_deletions slots new k.deletion g.deletes it.tag size others
+        (λ r x at. another x.tag 6 (h.deletions.items r x at).state (λ e. omega (arith, e))) h.deletions;
     free_chain = chain-put_item slots c.free g.free it.tag (took_slot (slot_at slots it.tag)) h.free_chain;
     free_items = all_free_stay slots new it.tag size others g.free (λ e. omega (arith, first.state, e)) h.free_items;
     few = subst (λ (n : ℕ). n < 2 ^ 16) (sym size) h.few;
@@ -267,7 +260,7 @@ module _ (c : Controller) (slots : List Slot) (k : Content) (g : Items) (h : Has
     windows_unanswered = at_put (λ x ws. All (λ (y : Item). IsUnanswered notes y.place) ws) g.windows c.picked_region rest
         (All-tail (λ (y : Item). IsUnanswered notes y.place) it rest unanswered) (λ x other. t.windows_unanswered x);
     outs_unanswered = All-push (λ (y : Item). IsUnanswered notes y.place) g.outs it t.outs_unanswered (All-head (λ (y : Item). IsUnanswered notes y.place) it rest unanswered);
-    deletion_unanswered = t.deletion_unanswered;
+    deletes_unanswered = t.deletes_unanswered;
     none_answered = t.none_answered;
     answered_held = λ y state. elim (cases_eq y it.tag) [
       | inl same ↦ absurd (omega (arith, state, ap (λ (z : ℕ). (slot_at new z).state) same, ap (λ (s : Slot). s.state) is_out_now))
@@ -275,13 +268,13 @@ module _ (c : Controller) (slots : List Slot) (k : Content) (g : Items) (h : Has
     ];
     hand_entries = subst (All (HasEntry (logged notes))) hand_stays t.hand_entries;
     free_count = t.free_count ∙ ap (λ (m : ℕ). m + all_posts (logged notes)) (sym size);
-    passed = passed_later notes (Taken it.tag it.place.region it.place.index ∷ notes) (took c chain) left (λ i. refl) refl (λ i waits. waits) (passed_left notes c (took c chain) g left refl (λ x. refl) refl t.passed);
+    passed = passed_later notes (Taken it.tag it.place.region it.place.index ∷ notes) left (λ i. refl) refl (λ i waits. waits) (passed_left notes g left (λ x. refl) refl t.passed);
     cookies = record {
       windows = at_put (λ x ws. All (HasCookie notes new) ws) g.windows c.picked_region rest (items_left notes slots new same rest (All-tail (HasCookie notes slots) it rest cookies))
           (λ x other. items_left notes slots new same (g.windows x) (t.cookies.windows x));
       outs = items_left notes slots new same (g.outs ++ it ∷ []) (All-push (HasCookie notes slots) g.outs it t.cookies.outs (All-head (HasCookie notes slots) it rest cookies));
       readies = λ x. readies_left notes slots new same (g.readies x) (t.cookies.readies x);
-      deletion = λ pending. cookie_left notes slots new same c.deletion.tag (place_at 0 g.delete_index) (t.cookies.deletion pending);
+      deletes = λ r x at. cookie_left notes slots new same x.tag (place_at 0 x.index) (t.cookies.deletes r x at);
       none = t.cookies.none;
     };
     none_marked = t.none_marked;

@@ -1,8 +1,8 @@
 -- A controller with something else in a submission region: the chain of the commands that wait in it, its count of unposted places, or its queue.
-use Rattle.std.proofs.Common.{◌≡◌, ◌≢◌, ℕ, ◌+◌, ◌<◌, ◌≤◌, ◌^◌, ◌==◌, Bool, false, if◌then◌else◌, List, [], ◌++◌, length, map, take, drop, Option, Some, None, refl, sym, ap, ◌∙◌, subst, arith, inl, inr, eq-eqb}
+use Rattle.std.proofs.Common.{◌≡◌, ◌≢◌, ℕ, ◌+◌, ◌<◌, ◌≤◌, ◌^◌, ◌==◌, Bool, false, if◌then◌else◌, List, [], ◌++◌, length, map, take, drop, Option, Some, refl, sym, ap, ◌∙◌, subst, arith, inl, inr, eq-eqb}
 use Rattle.std.specs.Prelude.{slice_set}
 use Rattle.std.specs.List.{All}
-use Rattle.std.proofs.lemmas.Bool.{cases_eq, ne_eqb, cond-true}
+use Rattle.std.proofs.lemmas.Bool.{cases_eq, ne_eqb}
 use Rattle.std.proofs.lemmas.List.{get_or-set_same, get_or-set_other, length-set}
 use Rattle.std.proofs.lemmas.List.Elements.{All-weaker, All-map}
 use Rattle.nvme_arbiter.specs.Board.{BoardView}
@@ -15,6 +15,7 @@ use Rattle.nvme_admin.specs.Standing.{TableView, IsSized}
 use Rattle.nvme_admin.specs.declared.fields.TableFields.{TableFields}
 use Rattle.std.specs.Prelude.{IsTrue}
 use Rattle.nvme_log.specs.Rules.{FrontRules}
+use Rattle.nvme_log.specs.Dispatches.{place_at}
 use Rattle.nvme_log.specs.Places.{fetched}
 use Rattle.nvme_ctrl.specs.Notes.{Notes, logged}
 use Rattle.nvme_ctrl.specs.Doorbells.{submitted}
@@ -33,8 +34,8 @@ use Rattle.nvme_ctrl.specs.kept.Pool.{slot_at, marks_in, IsChain, IsNew, SameIte
 use Rattle.nvme_ctrl.specs.kept.State.{no_sq_state, sq_at, attachment_of, picked_in}
 use Rattle.nvme_ctrl.proofs.CarriedOut.{none_picked_in}
 use Rattle.nvme_ctrl.proofs.Passed.{passed_left}
-use Rattle.nvme_ctrl.proofs.Cookies.{SameCookies, same_cookies, items_left, readies_left, cookies_left}
-use Rattle.nvme_ctrl.proofs.Ending.{none_kept}
+use Rattle.nvme_ctrl.proofs.Cookies.{SameCookies, same_cookies, cookie_left, items_left, readies_left}
+use Rattle.nvme_ctrl.proofs.PendingDeletions.{deletions_left}
 use Rattle.nvme_ctrl.proofs.Pools.{chain-other}
 use Rattle.nvme_ctrl.proofs.SlotItems.{ready_state-range}
 
@@ -174,10 +175,7 @@ module _ (rules : FrontRules) (notes : Notes) (a : Controller) (slots : List Slo
     ready_chain = λ x. left _ _ (m.ready_chain x) (readies_apart x);
     ready_items = λ x. All-weaker (IsReadyIn slots) (IsReadyIn pool) still_ready (g.readies x) (m.ready_items x);
     ready_is = m.ready_is;
-    deletion_is = none_kept rules notes a slots k g h
-        ∙ sym (cond-true (a.deletion.pending == 0) None (Some (record { place = _; cid = (slot_at pool a.deletion.tag).entry.cid; qid = a.deletion.qid; region = a.deletion.region })) (eq-eqb a.deletion.pending 0 h.none_pending));
-    deletion_item = λ some. absurd (some h.none_pending);
-    deletion_inside = λ some. absurd (some h.none_pending);
+    deletions = deletions_left a.deletions a.pending_deletions slots pool k.deletion g.deletes same.size (λ r it is. same.items it.tag) m.deletions;
     free_chain = left _ _ m.free_chain (All-weaker (is_free slots) (λ (x : ℕ). IsNew x (tags_of (g.windows region))) (λ x f. state_apart x 0 f (λ e. absurd (cc e))) g.free m.free_items);
     free_items = All-weaker (is_free slots) (is_free pool) (λ x f. ap (λ (y : Slot). y.state) (same.items x) ∙ f) g.free m.free_items;
     few = subst (λ (n : ℕ). n < 2 ^ 16) (sym same.size) m.few;
@@ -203,30 +201,30 @@ module _ (rules : FrontRules) (notes : Notes) (a : Controller) (slots : List Slo
     through = m.through;
     windows_unanswered = each (λ r x y its. All (λ (it : Item). IsUnanswered notes it.place) its) unanswered (λ r other. m.windows_unanswered r);
     outs_unanswered = m.outs_unanswered;
-    deletion_unanswered = m.deletion_unanswered;
+    deletes_unanswered = m.deletes_unanswered;
     none_answered = m.none_answered;
     answered_held = λ x is. m.answered_held x (had_state x 3 is);
     hand_entries = subst (λ (its : List Item). All (HasEntry (logged notes)) (g.outs ++ its)) (none_untaken a g none_picked ∙ sym (none_untaken after later none_picked)) m.hand_entries;
     free_count = m.free_count ∙ ap (λ (n : ℕ). n + all_posts (logged notes)) (sym same.size);
     cookies = cookies_after;
-    passed = passed_left notes a after g later refl (λ x. refl) refl m.passed;
+    passed = passed_left notes g later (λ x. refl) refl m.passed;
     none_marked = m.none_marked;
     marks = m.marks;
   } where
     left : SameCookies slots pool
     left = same_cookies slots pool same
 
-    cookies_after : HoldsCookies notes after pool later
+    cookies_after : HoldsCookies notes pool later
     cookies_after = let q = h.tags.cookies in record {
       windows = each (λ r x y its. All (HasCookie notes pool) its) (items_left notes slots pool left items cookies) (λ r other. items_left notes slots pool left (g.windows r) (q.windows r));
       outs = items_left notes slots pool left g.outs q.outs;
       readies = λ x. readies_left notes slots pool left (g.readies x) (q.readies x);
-      deletion = λ some. absurd (some h.none_pending);
+      deletes = λ r it is. cookie_left notes slots pool left it.tag (place_at 0 it.index) (q.deletes r it is);
       none = q.none;
     }
 
   pub keeps_windowed : Keeps rules notes after pool kept later
-  keeps_windowed = record { numbers = numbers_after; has = items_after; doorbells = doorbells_after; tags = tags_after; apart = h.apart; none_pending = h.none_pending }
+  keeps_windowed = record { numbers = numbers_after; has = items_after; doorbells = doorbells_after; tags = tags_after; apart = h.apart }
 
 -- ---- its queue or its count
 -- the same commands wait
@@ -271,9 +269,7 @@ keeps_outstanding rules notes a slots k g board v n m h is arbiter same = record
     ready_chain = m.ready_chain;
     ready_items = m.ready_items;
     ready_is = m.ready_is;
-    deletion_is = m.deletion_is;
-    deletion_item = m.deletion_item;
-    deletion_inside = m.deletion_inside;
+    deletions = m.deletions;
     free_chain = m.free_chain;
     free_items = m.free_items;
     few = m.few;
@@ -287,18 +283,17 @@ keeps_outstanding rules notes a slots k g board v n m h is arbiter same = record
     through = m.through;
     windows_unanswered = m.windows_unanswered;
     outs_unanswered = m.outs_unanswered;
-    deletion_unanswered = m.deletion_unanswered;
+    deletes_unanswered = m.deletes_unanswered;
     none_answered = m.none_answered;
     answered_held = m.answered_held;
     hand_entries = m.hand_entries;
     free_count = m.free_count;
-    cookies = cookies_left notes slots slots (λ y. refl) a _ g refl m.cookies;
-    passed = passed_left notes a _ g g refl (λ x. refl) refl m.passed;
+    cookies = m.cookies;
+    passed = m.passed;
     none_marked = m.none_marked;
     marks = m.marks;
   });
   apart = h.apart;
-  none_pending = h.none_pending;
 }
 
 -- the board alone
@@ -337,9 +332,7 @@ keeps_table rules notes a slots k g table t h is sized = record {
     ready_chain = m.ready_chain;
     ready_items = m.ready_items;
     ready_is = m.ready_is;
-    deletion_is = m.deletion_is;
-    deletion_item = m.deletion_item;
-    deletion_inside = m.deletion_inside;
+    deletions = m.deletions;
     free_chain = m.free_chain;
     free_items = m.free_items;
     few = m.few;
@@ -353,18 +346,17 @@ keeps_table rules notes a slots k g table t h is sized = record {
     through = m.through;
     windows_unanswered = m.windows_unanswered;
     outs_unanswered = m.outs_unanswered;
-    deletion_unanswered = m.deletion_unanswered;
+    deletes_unanswered = m.deletes_unanswered;
     none_answered = m.none_answered;
     answered_held = m.answered_held;
     hand_entries = m.hand_entries;
     free_count = m.free_count;
-    cookies = cookies_left notes slots slots (λ y. refl) a _ g refl m.cookies;
-    passed = passed_left notes a _ g g refl (λ x. refl) refl m.passed;
+    cookies = m.cookies;
+    passed = m.passed;
     none_marked = m.none_marked;
     marks = m.marks;
   });
   apart = h.apart;
-  none_pending = h.none_pending;
 }
 
 -- ---- a queue is opened

@@ -15,7 +15,7 @@ use Rattle.nvme_log.specs.Examples.{two_slots, one_deletion, create_cq, get_arbi
 use Rattle.nvme_ctrl.specs.Notes.{logged, Logged, Tail, Head, Kept, Taken, Answered, Marked}
 use Rattle.nvme_ctrl.specs.Tags.{is_place}
 use Rattle.nvme_ctrl.specs.Account.{IsLawful}
-use Rattle.nvme_ctrl.specs.Examples.{told, three_of_four, four_fetched, first_picked, first_answered, first_posted, third_answered, succeeded, out_of_range, create_picked, reads_submitted, reads_waiting, read_picked, read_taken, delete_begun, aborts_posted, read_answered, reads_posted, not_retried, more_told}
+use Rattle.nvme_ctrl.specs.Examples.{told, three_of_four, four_fetched, first_picked, first_answered, first_posted, third_answered, succeeded, out_of_range, create_picked, reads_submitted, reads_waiting, read_picked, read_taken, delete_begun, aborts_posted, read_answered, reads_posted, not_retried, more_told, two_deletions, two_closing, third_served, second_gone}
 
 pub other_answer : IsLawful one_deletion (Answered 1 0 out_of_range ∷ aborts_posted) (Logged (Post 1 1 0 (done 1 0 lba_out_of_range)))
 unfolding effects_of queue_table status_of dw0_of verdict_of
@@ -24,7 +24,7 @@ other_answer = record {
   served_while_open = tt;
   observed = tt;
   effects_at_once = refl;
-  deletes = (refl, refl);
+  deletes = (refl, λ s. refl);
   posts_own = (refl, refl, record { entry = read 0; is_there = refl; region = refl; sqid = refl; cid = refl; status = refl; dw0 = refl; sqhd = refl; phase = refl });
   leaves_places = tt;
   fetches_submitted = tt;
@@ -139,10 +139,23 @@ pub other_counts : IsLawful one_deletion reads_waiting (Logged (picked_of (admin
 other_counts h = let e : 3 ≡ 4 = ap (λ (seen : List Seen). sum_by (λ (s : Seen). s.count) seen) h.observed in omega (arith, e)
 
 pub closed_early : IsLawful one_deletion read_answered (Logged (ClosedSq 1 1)) → ⊥
-closed_early h = let e : false ≡ true = h.deletes.1 in cc e
+closed_early h = let e : false ≡ true = h.deletes.2 in cc e
 
 pub told_early : IsLawful one_deletion reads_posted (Answered 0 2 succeeded) → ⊥
-told_early h = let e : true ≡ false = h.executed.finished in cc e
+told_early h = let e : true ≡ false = h.executed.finished 1 in cc e
+
+-- ---- two deletions
+pub answered_early : IsLawful two_deletions second_gone (Answered 0 4 succeeded) → ⊥
+answered_early h = let e : true ≡ false = h.executed.finished 1 in cc e
+
+pub fetched_closing : IsLawful two_deletions two_closing (Logged (Fetch 1 1 (read 1))) → ⊥
+fetched_closing h = let e : Some 4 ≡ None = h.deletes.0 in cc e
+
+pub finished_early : IsLawful two_deletions third_served (Logged (ClosedSq 1 1)) → ⊥
+finished_early h = let e : false ≡ true = h.deletes.2 in cc e
+
+pub finished_other : IsLawful two_deletions third_served (Logged (ClosedSq 1 2)) → ⊥
+finished_other h = let e : 2 ≡ 1 = same_Some 2 1 h.deletes.1 in omega (arith, e)
 
 -- ---- marks
 pub marked_twice : IsLawful one_deletion (Marked 1 0 not_retried ∷ read_answered) (Marked 1 0 more_told) → ⊥

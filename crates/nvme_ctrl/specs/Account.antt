@@ -19,7 +19,7 @@ use Rattle.nvme_log.specs.Effects.{made_last, effects_since, EffectsAtOnce}
 use Rattle.nvme_log.specs.Dispatches.{place_at}
 use Rattle.nvme_log.specs.Completions.{posted_to, own_status, own_dw0}
 use Rattle.nvme_log.specs.Answers.{Answer, by_answers}
-use Rattle.nvme_log.specs.Account.{IndexCounts, ServedWhileOpen, Deletes, PostsOwnBy, LeavesPlaces, deleting_place}
+use Rattle.nvme_log.specs.Account.{IndexCounts, ServedWhileOpen, PostsOwnBy, LeavesPlaces}
 use Rattle.nvme_arbiter.specs.Limits.{queue_limit}
 use Rattle.nvme_log.specs.Rules.{upto}
 use Rattle.nvme_log.specs.Aborts.{is_index, just_picked}
@@ -27,6 +27,7 @@ use Rattle.nvme_ctrl.specs.Notes.{Notes, Note, Logged, Tail, Head, Kept, Passed,
 use Rattle.nvme_ctrl.specs.Doorbells.{sq_slots, cq_slots, submitted, consumed}
 use Rattle.nvme_ctrl.specs.Own.{may_be_own, before_pick}
 use Rattle.nvme_ctrl.specs.Observation.{observed_of}
+use Rattle.nvme_ctrl.specs.Deletions.{DeletesNone, FollowsDeletions}
 use Rattle.nvme_ctrl.specs.Tags.{is_passed, is_of_device, handed, taken, holder, answer_of, cookie_of, marks_of, answers, is_through}
 
 -- ---- events
@@ -72,7 +73,7 @@ pub record IsLawfulEvent (rules : FrontRules) (notes : Notes) (e : Event) : Type
   pub served_while_open : ServedWhileOpen rules (logged notes) e
   pub observed : PicksOnObservation notes e
   pub effects_at_once : EffectsAtOnce rules (logged notes) e
-  pub deletes : Deletes (logged notes) e
+  pub deletes : FollowsDeletions (logged notes) e
   pub posts_own : PostsOwn rules notes e
   pub leaves_places : LeavesPlaces rules (logged notes) e
   pub fetches_submitted : FetchesSubmitted rules notes e
@@ -118,13 +119,13 @@ pub record IsTaken (notes : Notes) (tag r i : ℕ) : Type 0 where
   pub next : slice_get (handed notes) (length (taken notes)) ≡ Some (place_at r i)
   pub free : holder notes tag ≡ None
 
--- the controller carried out an admin command: all that it makes is there, and a deletion that it began is finished
+-- the controller carried out an admin command: all that it makes is there, and each deletion that it began is finished
 pub record IsCarriedOut (rules : FrontRules) (notes : Notes) (i : ℕ) (answer : Answer) : Type 0 where
   pub entry : Sqe
   pub is_there : entry_at (logged notes) 0 i ≡ Some entry
   pub picked : is_picked (fate_of (logged notes) 0 i) ≡ true
   pub whole : effects_since (logged notes) ≡ made_last rules (logged notes)
-  pub finished : is_index i (deleting_place (logged notes)) ≡ false
+  pub finished : DeletesNone (logged notes) i
   pub status : answer.status ≡ own_status rules (logged notes) 0 i entry
   pub dw0 : answer.dw0 ≡ own_dw0 rules (logged notes) 0 i entry
 

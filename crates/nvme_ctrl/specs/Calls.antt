@@ -4,7 +4,7 @@ use Rattle.nvme_entry.specs.declared.submission.Sqe.{Sqe}
 use Rattle.nvme_entry.specs.declared.completion.Cqe.{Cqe}
 use Rattle.nvme_log.specs.declared.event.Event.TheVariants.{Fetch, Post}
 use Rattle.nvme_log.specs.Rules.{FrontRules, window_at}
-use Rattle.nvme_log.specs.Queues.{Queue, open_sq, open_cq, pending, qid_of_region}
+use Rattle.nvme_log.specs.Queues.{Queue, open_sq, open_cq, qid_of_region}
 use Rattle.nvme_log.specs.Places.{fetched, waiting, entry_at}
 use Rattle.nvme_log.specs.declared.place.Place.{Place}
 use Rattle.nvme_log.specs.Completions.{posted_to}
@@ -48,12 +48,11 @@ pub record HeadRung (rules : FrontRules) (late : Bool) (notes : Notes) (cqid slo
 abbrev pub window_limit : Controller → ℕ
 window_limit c = c.window
 
--- the slot of an open queue that is to be fetched next: the host submitted it, no deletion is pending, fewer commands of the queue wait than its
--- window holds, and of a pool of so many slots one is free
+-- the slot of an open queue that is to be fetched next: the host submitted it, fewer commands of the queue wait than its window holds,
+-- and of a pool of so many slots one is free
 pub record MayFetch (rules : FrontRules) (notes : Notes) (window pool qid slot : ℕ) : Type 0 where
   pub queue : Queue
   pub is_open : open_sq (logged notes) qid ≡ Some queue
-  pub none_pending : pending (logged notes) ≡ None
   pub submitted : length (fetched (logged notes) queue.region) < submitted rules notes queue.region
   pub in_window : length (waiting (logged notes) queue.region) < window
   pub has_room : length (waiting (logged notes) queue.region) < window_at rules queue.region

@@ -7,6 +7,7 @@ use Rattle.nvme_arbiter.specs.declared.settings.Class.TheVariants.{Urgent, Low}
 use Rattle.nvme_admin.specs.History.{Submission, Completion, RegionAdded}
 use Rattle.nvme_log.specs.declared.event.Event.TheVariants.{Fetch, OpenSq, OpenCq, Closing, Abort, Post, ClosedSq}
 use Rattle.nvme_log.specs.Answers.{Answer}
+use Rattle.nvme_arbiter.specs.declared.pick.Seen.{Seen}
 use Rattle.nvme_log.specs.Rules.{FrontRules}
 use Rattle.nvme_log.specs.Examples.{one_deletion, get_arbitration, admin_picked, admin_posted, create_cq, create_sq, delete_sq, read, done, admin_seen, reads_seen, picked_of}
 use Rattle.nvme_log.specs.AbortExamples.{abort}
@@ -192,6 +193,101 @@ with_late_region = with_region Completion 0x9000 64 without_region
 -- the answer to the Create where the region isn't there (Create I/O Completion Queue, PRP Entry 1; profile)
 abbrev pub create_refused : Answer
 create_refused = record { status = invalid_field; dw0 = 0 }
+
+-- ---- two queues that are deleted at once, while a third one goes on
+-- round robin, burst 1, one namespace of 1,000 blocks, four submission and two completion regions
+abbrev pub two_deletions : FrontRules
+two_deletions = record one_deletion {
+  regions = RegionAdded Completion 0x9000 64 ∷ RegionAdded Completion 0x8000 16
+      ∷ RegionAdded Submission 0x4000 8 ∷ RegionAdded Submission 0x3000 8 ∷ RegionAdded Submission 0x2000 8 ∷ RegionAdded Submission 0x1000 16 ∷ [];
+}
+
+-- the Create of a submission queue on the region of its number, and the Delete of one
+abbrev pub create_queue : ℕ → Sqe
+create_queue q = record create_sq { cid = q; prp1 = 0x1000 + 0x1000 * q; cdw10 = 0x00070000 + q }
+
+abbrev pub delete_queue : (cid q : ℕ) → Sqe
+delete_queue cid q = record delete_sq { cid = cid; cdw10 = q }
+
+abbrev pub queue_seen : (q count : ℕ) → Seen
+queue_seen q count = record { qid = q; class = Urgent; count = count }
+
+-- the host submitted the Creates of a completion queue and of three submission queues, and two Deletes, which are fetched
+abbrev pub deletes_submitted : Notes
+deletes_submitted =
+    Logged (Fetch 0 5 (delete_queue 5 2))
+    ∷ Logged (Fetch 0 4 (delete_queue 4 1))
+    ∷ Logged (Fetch 0 3 (create_queue 3))
+    ∷ Logged (Fetch 0 2 (create_queue 2))
+    ∷ Logged (Fetch 0 1 (create_queue 1))
+    ∷ Logged (Fetch 0 0 create_cq)
+    ∷ Tail 0 6 ∷ []
+
+-- three submission queues are open, which post to one completion queue
+abbrev pub three_opened : Notes
+three_opened =
+    Logged (Post 0 0 3 (record (done 0 3 success) { sqhd = 6 }))
+    ∷ Answered 0 3 succeeded
+    ∷ Logged (OpenSq 3 3 1 Urgent)
+    ∷ Logged (picked_of (admin_seen 3 ∷ queue_seen 1 0 ∷ queue_seen 2 0 ∷ []) 0)
+    ∷ Logged (Post 0 0 2 (record (done 0 2 success) { sqhd = 6 }))
+    ∷ Answered 0 2 succeeded
+    ∷ Logged (OpenSq 2 2 1 Urgent)
+    ∷ Logged (picked_of (admin_seen 4 ∷ queue_seen 1 0 ∷ []) 0)
+    ∷ Logged (Post 0 0 1 (record (done 0 1 success) { sqhd = 6 }))
+    ∷ Answered 0 1 succeeded
+    ∷ Logged (OpenSq 1 1 1 Urgent)
+    ∷ Logged (picked_of (admin_seen 5 ∷ []) 0)
+    ∷ Logged (Post 0 0 0 (record (done 0 0 success) { sqhd = 6 }))
+    ∷ Answered 0 0 succeeded
+    ∷ Logged (OpenCq 1 1)
+    ∷ Logged (picked_of (admin_seen 6 ∷ []) 0) ∷ deletes_submitted
+
+-- the host submitted two commands to queue 1, and the device has the first
+abbrev pub first_taken : Notes
+first_taken =
+    Taken 7 1 0
+    ∷ Logged (picked_of (admin_seen 2 ∷ queue_seen 1 1 ∷ queue_seen 2 0 ∷ queue_seen 3 0 ∷ []) 1)
+    ∷ Logged (Fetch 1 0 (read 0))
+    ∷ Tail 1 2 ∷ three_opened
+
+-- two of the queues are being deleted
+abbrev pub two_closing : Notes
+two_closing =
+    Logged (Closing 2 2)
+    ∷ Logged (picked_of (admin_seen 1 ∷ queue_seen 2 0 ∷ queue_seen 3 0 ∷ []) 0)
+    ∷ Logged (Closing 1 1)
+    ∷ Logged (picked_of (admin_seen 2 ∷ queue_seen 1 0 ∷ queue_seen 2 0 ∷ queue_seen 3 0 ∷ []) 0) ∷ first_taken
+
+-- a command of the third is fetched, picked, executed and posted meanwhile
+abbrev pub third_served : Notes
+third_served =
+    Logged (Post 1 3 0 (record (done 3 0 success) { sqhd = 1 }))
+    ∷ Answered 3 0 succeeded
+    ∷ Taken 8 3 0
+    ∷ Logged (picked_of (admin_seen 0 ∷ queue_seen 3 1 ∷ []) 3)
+    ∷ Logged (Fetch 3 0 (read 0))
+    ∷ Tail 3 1 ∷ two_closing
+
+-- the deletion of queue 2 is finished, and its Delete is answered
+abbrev pub second_gone : Notes
+second_gone =
+    Logged (Post 0 0 5 (record (done 0 5 success) { sqhd = 6 }))
+    ∷ Answered 0 5 succeeded
+    ∷ Logged (ClosedSq 2 2) ∷ third_served
+
+-- the device answers its command, whose completion is posted
+abbrev pub first_left : Notes
+first_left =
+    Logged (Post 1 1 0 (record (done 1 0 success) { sqhd = 1 }))
+    ∷ Answered 1 0 succeeded ∷ second_gone
+
+-- so is the deletion of queue 1
+abbrev pub both_gone : Notes
+both_gone =
+    Logged (Post 0 0 4 (record (done 0 4 success) { sqhd = 6 }))
+    ∷ Answered 0 4 succeeded
+    ∷ Logged (ClosedSq 1 1) ∷ first_left
 
 -- ---- marks
 abbrev pub unmarked : Marks

@@ -8,13 +8,13 @@ use Rattle.nvme_arbiter.specs.declared.pick.Seen.{Seen}
 use Rattle.nvme_arbiter.specs.declared.pick.Pick.{Pick}
 use Rattle.nvme_arbiter.specs.Lawful.{IsLawfulPick}
 use Rattle.nvme_log.specs.declared.event.Event.TheVariants as event
-use Rattle.nvme_log.specs.Rules.{FrontRules, sq_regions_of, cq_regions_of}
+use Rattle.nvme_log.specs.Rules.{FrontRules, sq_regions_of, cq_regions_of, Each}
 use Rattle.nvme_log.specs.Places.{fetched, is_aborted, places, observation_of}
 use Rattle.nvme_log.specs.declared.place.Place.{Place}
 use Rattle.nvme_log.specs.Histories.{arbitration_of}
 use Rattle.nvme_log.specs.Completions.{is_posted, posted_to, posts_of, phase_after}
 use Rattle.nvme_log.specs.Answers.{Answer, by_answers}
-use Rattle.nvme_log.specs.Account.{IsAccountBy, latest_admin_place}
+use Rattle.nvme_log.specs.Account.{Deletes, IsAccountBy, latest_admin_place}
 use Rattle.nvme_log.specs.Laws.{PicksPlace}
 use Rattle.nvme_admin.specs.History.{Kind}
 use Rattle.nvme_ctrl.specs.Notes.{Notes, Logged, logged, Note, Held}
@@ -31,10 +31,11 @@ use Rattle.nvme_ctrl.specs.declared.state.Controller.{Controller}
 abbrev pub NonePassed : Notes → Type 0
 NonePassed notes = (i : ℕ) → is_passed notes i ≡ false
 
--- the events of a controller's log, where no admin command was passed on, no queue was held and no class was set, are those of an accounted log, where the
--- device answers: so every law of such logs holds of it
+-- the events of a controller's log, where no admin command was passed on, no queue was held and no class was set, and which keep a front's order of
+-- deletions, one at a time with nothing fetched or picked meanwhile, are those of an accounted log, where the device answers: so every law of such logs
+-- holds of it
 abbrev pub EventsAreAccounted : Type 0
-EventsAreAccounted = (rules : FrontRules) (notes : Notes) (sent : ℕ → List Sqe) (collected : ℕ → List Cqe) → NonePassed notes → NoneArranged notes → IsAccount rules notes
+EventsAreAccounted = (rules : FrontRules) (notes : Notes) (sent : ℕ → List Sqe) (collected : ℕ → List Cqe) → NonePassed notes → NoneArranged notes → Each Deletes (logged notes) → IsAccount rules notes
     → ((r : ℕ) → IsPrefix (fetched (logged notes) r) (sent r)) → ((c : ℕ) → IsPrefix (collected c) (posted_to (logged notes) c))
     → IsAccountBy rules (by_answers (answers notes)) sent (logged notes) collected
 

@@ -1,5 +1,5 @@
 -- The steps of arbitration of a controller, and the end of a deletion. (Base Specification, Command Arbitration, Admin Command Set)
-use Rattle.std.specs.Prelude.{◌≡◌, ◌≢◌, ◌⊎◌, ℕ, ◌+◌, ◌<◌, Bool, List, [], ◌∷◌, length, Option, Some, None, slice_get}
+use Rattle.std.specs.Prelude.{◌≡◌, ◌≢◌, ℕ, ◌+◌, ◌<◌, Bool, List, [], ◌∷◌, length, Option, Some, None, slice_get}
 use Rattle.nvme_arbiter.specs.Lawful.{lawful_pick}
 use Rattle.nvme_arbiter.specs.declared.pick.Pick.{Pick}
 use Rattle.nvme_admin.specs.declared.verdict.Verdict.{Verdict}
@@ -15,9 +15,8 @@ use Rattle.nvme_log.specs.Effects.{made_by}
 use Rattle.nvme_log.specs.Answers.{Answer}
 use Rattle.nvme_log.specs.Limits.{max_outstanding}
 use Rattle.nvme_ctrl.specs.Tags.{handed, taken}
-use Rattle.nvme_log.specs.Queues.{Deletion, pending}
 use Rattle.nvme_log.specs.Completions.{unposted_of, outstanding}
-use Rattle.nvme_log.specs.Account.{deleting_place}
+use Rattle.nvme_ctrl.specs.Deletions.{deleting}
 use Rattle.nvme_ctrl.specs.Notes.{Notes, Logged, Passed, Answered, logged}
 use Rattle.nvme_ctrl.specs.Observation.{observed_of}
 use Rattle.nvme_ctrl.specs.Standing.{Stands}
@@ -62,9 +61,9 @@ pub record HasPassed (rules : FrontRules) (late : Bool) (notes : Notes) (pick : 
   pub oldest : slice_get (waiting (logged notes) 0) 0 ≡ Some index
   pub stands : Stands rules late (Passed index ∷ picked_notes notes pick) c slots
 
--- commands are picked that the device hasn't taken, or a deletion is pending
+-- commands are picked that the device hasn't taken
 abbrev pub IsBusy : Notes → Type 0
-IsBusy notes = (length (taken notes) < length (handed notes)) ⊎ (pending (logged notes) ≢ None)
+IsBusy notes = length (taken notes) < length (handed notes)
 
 -- the next pick needs more places than are free
 pub record LacksPlaces (rules : FrontRules) (notes : Notes) : Type 0 where
@@ -87,13 +86,13 @@ HasStepped rules late notes (Picked pick) c slots = IsNextPick rules notes (Some
 HasStepped rules late notes (PassedOn pick) c slots = HasPassed rules late notes pick c slots
 HasStepped rules late notes (Done effect) c slots = HasCarriedOut rules late notes (verdict_in effect) c slots
 
--- no deletion can be finished: none is pending, or a command of its queue has no completion posted yet
+-- no deletion can be finished: of each queue that is being deleted a command has no completion posted yet
 abbrev pub NoneFinishable : Notes → Type 0
-NoneFinishable notes = (deletion : Deletion) → pending (logged notes) ≡ Some deletion → unposted_of (logged notes) deletion.region ≢ 0
+NoneFinishable notes = (region index : ℕ) → deleting (logged notes) region ≡ Some index → unposted_of (logged notes) region ≢ 0
 
 -- a deletion is finished, and its Delete is answered with success
 pub record HasFinished (rules : FrontRules) (late : Bool) (notes : Notes) (qid : ℕ) (c : Controller) (slots : List Slot) : Type 0 where
   pub region : ℕ
   pub index : ℕ
-  pub deleting : deleting_place (logged notes) ≡ Some index
+  pub deletes : deleting (logged notes) region ≡ Some index
   pub stands : Stands rules late (Answered 0 index (record { status = success; dw0 = 0 }) ∷ Logged (event.ClosedSq qid region) ∷ notes) c slots

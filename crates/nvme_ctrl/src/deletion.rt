@@ -1,29 +1,47 @@
-// The end of a deletion. (Base Specification, Delete I/O Submission Queue)
-use crate::slot::{ENDED, Slot, put_item, slot_at};
-use crate::state::Controller;
+// The end of deletions. (Base Specification, Delete I/O Submission Queue)
+use crate::slot::{ENDED, Slot};
+use crate::state::{Controller, Deletion};
+use nvme_admin::MAX_REGIONS;
 use nvme_entry::Status;
 
 impl Controller {
-    ghost use Rattle.std.specs.Prelude.{◌≡◌, ◌≢◌, ◌⊎◌, ℕ, Bool, true, false, List, None, IfSome};
+    ghost use Rattle.std.specs.Prelude.{◌≡◌, ◌≢◌, ◌⊎◌, ◌<◌, ℕ, Bool, true, false, List, None, IfSome};
     ghost use Rattle.nvme_log.specs.Rules.{FrontRules};
     ghost use Rattle.nvme_ctrl.specs.Notes.{Notes};
     ghost use Rattle.nvme_ctrl.specs.Standing.{Stands, IsController};
     ghost use Rattle.nvme_ctrl.specs.Own.{own_of};
     ghost use Rattle.nvme_ctrl.specs.Steps.{HasFinished, NoneFinishable};
-    ghost use Rattle.nvme_ctrl.specs.kept.State.{sq_at};
+    ghost use Rattle.nvme_ctrl.specs.kept.State.{sq_at, deletion_at, IsFinishable};
 
-    // Whether a deletion is pending, and all completions of its queue are posted.
-    fn is_finishable(&self) -> bool
-        ensures pending { result ≡ true → self.now.deletion.pending ≢ 0 }
-        ensures posted { result ≡ true → (sq_at self.now.sqs self.now.deletion.region).unposted ≡ 0 }
-        ensures none { result ≡ false → (self.now.deletion.pending ≡ 0) ⊎ ((sq_at self.now.sqs self.now.deletion.region).unposted ≢ 0) }
+    // Whether the deletion of a region's queue is pending, and all completions of the queue are posted.
+    fn is_finishable(&self, region: u8) -> bool
+        ensures pending { result ≡ true → (deletion_at self.now.deletions region).pending ≢ 0 }
+        ensures posted { result ≡ true → (sq_at self.now.sqs region).unposted ≡ 0 }
+        ensures none { result ≡ false → ((deletion_at self.now.deletions region).pending ≡ 0) ⊎ ((sq_at self.now.sqs region).unposted ≢ 0) }
     {
-        self.deletion.pending != 0 && self.sq(self.deletion.region).unposted == 0
+        self.deletion(region).pending != 0 && self.sq(region).unposted == 0
     }
 
-    /// Finishes the pending deletion, if all completions of its queue are posted, and tells the identifier of the queue.
-    /// The completion of the Delete is then ready. None, which changes nothing, where no deletion is pending, and while
-    /// completions of the queue are to be posted.
+    // The first region whose queue's deletion can be finished. None is looked at where no deletion is pending.
+    fn finishable(&self) -> Option<u8>
+        ensures some { IfSome result (λ region. IsFinishable self.now region) }
+        ensures none { result ≡ None → (self.now.pending_deletions ≡ 0) ⊎ ((r : ℕ) → r < MAX_REGIONS → IsFinishable self.now r → ⊥) }
+    {
+        if self.pending_deletions == 0 {
+            return None;
+        }
+        for region in 0..MAX_REGIONS as u8 {
+            if self.is_finishable(region) {
+                return Some(region);
+            }
+        }
+        None
+    }
+
+    /// Finishes a deletion, if all completions of its queue are posted, and tells the identifier of the queue. The
+    /// completion of the Delete is then ready. Of several the first region's is finished; call it until it tells none.
+    /// None, which changes nothing, where no deletion is pending, and while completions are to be posted of each queue that
+    /// is being deleted.
     pub fn finish(&mut self, slots: &mut [Slot]) -> Option<u16>
         requires front { IsController self.old slots.old }
         ensures front { IsController self.new slots.new }
@@ -32,16 +50,13 @@ impl Controller {
         ensures told { (rules : FrontRules) (late : Bool) (notes : Notes) → Stands rules late notes self.old slots.old → result ≡ None → NoneFinishable notes }
         ensures stands { (rules : FrontRules) (late : Bool) (notes : Notes) → Stands rules late notes self.old slots.old → IfSome result (λ qid. HasFinished rules late notes qid self.new slots.new) }
     {
-        if !self.is_finishable() {
-            return None;
-        }
-        let deletion = self.deletion;
-        self.table.finish_delete(deletion.qid);
-        self.deletion.pending = 0;
-        // Its command is one of the admin queue.
-        let slot = slot_at(slots, deletion.tag);
-        put_item(slots, deletion.tag, Slot { region: 0, ..slot });
-        self.end(slots, deletion.tag, ENDED, Status::SUCCESS, 0, 0);
-        Some(deletion.qid)
+        let region = self.finishable()?;
+        let qid = self.sq(region).qid;
+        let tag = self.deletion(region).tag;
+        self.table.finish_delete(qid);
+        self.put_deletion(region, Deletion::none());
+        self.pending_deletions = self.pending_deletions.saturating_sub(1);
+        self.end(slots, tag, ENDED, Status::SUCCESS, 0, 0);
+        Some(qid)
     }
 }

@@ -86,11 +86,11 @@ impl Controller {
     }
 
     // Begins the deletion of a submission queue. Its candidates are dropped: their completions are ready. The Delete is
-    // answered when the deletion is finished. (Delete I/O Submission Queue)
+    // answered when the deletion is finished. Other deletions may be pending. (Delete I/O Submission Queue)
     fn begin_delete(&mut self, slots: &mut [Slot], tag: u16, qid: u16, region: u8)
         requires on_board { IsSome (queue_at (board_of self.old.board).queues qid) }
         ensures own { own_of self.new ≡ own_of self.old }
-        ensures begun { (rules : FrontRules) (notes : Notes) (k : Content) (g : Items) (c : ℕ) (candidate : Candidate) → Keeps rules notes self.old slots.old k g → self.old.picked ≡ 0 → IsLoose slots.old g tag → (slot_at slots.old tag).entry ≡ candidate.entry → answer_of notes 0 candidate.index ≡ None → IsCookie notes slots.old tag (place_at 0 candidate.index) → is_passed notes candidate.index ≡ false → IsDroppable notes k qid region c → (k.sq region).unposted + length (k.sq region).window < 2 ^ 16 → HasBegun rules notes (deleting k qid region c candidate) self.new slots.new }
+        ensures begun { (rules : FrontRules) (notes : Notes) (k : Content) (g : Items) (c : ℕ) (candidate : Candidate) → Keeps rules notes self.old slots.old k g → self.old.picked ≡ 0 → IsLoose slots.old g tag → (slot_at slots.old tag).entry ≡ candidate.entry → (slot_at slots.old tag).region ≡ 0 → answer_of notes 0 candidate.index ≡ None → IsCookie notes slots.old tag (place_at 0 candidate.index) → is_passed notes candidate.index ≡ false → IsDroppable notes k qid region c → (k.sq region).unposted + length (k.sq region).window < 2 ^ 16 → HasBegun rules notes (deleting k qid region c candidate) self.new slots.new }
     {
         let mut sq = self.sq(region);
         sq.unposted = sq.unposted.saturating_add(sq.window.len);
@@ -106,12 +106,8 @@ impl Controller {
                 ..slot
             },
         );
-        self.deletion = Deletion {
-            pending: 1,
-            region,
-            qid,
-            tag,
-        };
+        self.put_deletion(region, Deletion { pending: 1, tag });
+        self.pending_deletions = self.pending_deletions.saturating_add(1);
     }
 
     // Drops all candidates of a submission region.
@@ -155,6 +151,9 @@ impl Controller {
         let Some(queue) = self.table.sq(sqid) else {
             return false;
         };
+        if queue.closing {
+            return false;
+        }
         let mut sq = self.sq(queue.region);
         let Some(x) = sq.window.take_named(slots, cid) else {
             return false;

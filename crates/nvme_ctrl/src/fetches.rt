@@ -23,7 +23,7 @@ impl Controller {
         ensures none { (e : entry.SqEntry) → IsFetchable self.now qid e → result ≢ None }
     {
         let queue = self.table.sq(qid)?;
-        if queue.closing || self.deletion.pending != 0 || self.free.len == 0 {
+        if queue.closing || self.free.len == 0 {
             return None;
         }
         let sq = self.sq(queue.region);
@@ -35,8 +35,8 @@ impl Controller {
     }
 
     /// The slot of the ring of an open submission queue whose entry is to be read next. None where the queue isn't open,
-    /// where the host submitted no more, where as many of its commands wait as its window holds, where no slot of the
-    /// pool is free, and while a deletion is pending.
+    /// where the host submitted no more, where as many of its commands wait as its window holds, and where no slot
+    /// of the pool is free. A queue isn't open any more once its deletion began.
     pub fn fetch(&self, qid: u16) -> Option<u16>
         ensures may { (rules : FrontRules) (late : Bool) (notes : Notes) (slots : List Slot) → Stands rules late notes self.now slots → IfSome result (λ slot. MayFetch rules notes (window_limit self.now) (length slots) qid slot) }
         ensures told { (rules : FrontRules) (late : Bool) (notes : Notes) (slots : List Slot) → Stands rules late notes self.now slots → (slot : ℕ) → MayFetch rules notes (window_limit self.now) (length slots) qid slot → result ≡ Some slot }

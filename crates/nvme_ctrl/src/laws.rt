@@ -12,7 +12,7 @@ ghost use Rattle.nvme_ctrl.specs.Tags.{cookie_of, marks_of};
 ghost use Rattle.nvme_ctrl.specs.Own.{is_own, no_own, with_opcode, with_feature};
 ghost use Rattle.nvme_ctrl.specs.Making.{is_named};
 ghost use Rattle.nvme_ctrl.specs.Account.{IsLawful, IsAccount};
-ghost use Rattle.nvme_ctrl.specs.Examples.{identify, identify_fetched, identify_picked, identify_passed, identify_taken, identify_answered, identified, get_feature, set_feature, told, three_of_four, four_fetched, first_picked, first_answered, first_posted, third_answered, two_passes, succeeded, out_of_range, without_region, with_late_region, creates_fetched, create_picked, create_refused, reads_submitted, reads_waiting, read_picked, read_taken, delete_begun, aborts_posted, read_answered, reads_posted, deletion_noted, unmarked, not_retried, more_told, abort_of_read, abort_waiting, abort_picked, abort_passed, abort_taken, aborted_read, read_aborted, abort_answered, abort_done, held_and_deleted, classed_and_picked, weighted_rules, two_waiting, pick_of};
+ghost use Rattle.nvme_ctrl.specs.Examples.{identify, identify_fetched, identify_picked, identify_passed, identify_taken, identify_answered, identified, get_feature, set_feature, told, three_of_four, four_fetched, first_picked, first_answered, first_posted, third_answered, two_passes, succeeded, out_of_range, without_region, with_late_region, creates_fetched, create_picked, create_refused, reads_submitted, reads_waiting, read_picked, read_taken, delete_begun, aborts_posted, read_answered, reads_posted, deletion_noted, unmarked, not_retried, more_told, abort_of_read, abort_waiting, abort_picked, abort_passed, abort_taken, aborted_read, read_aborted, abort_answered, abort_done, held_and_deleted, classed_and_picked, weighted_rules, two_waiting, pick_of, two_deletions, two_closing, third_served, second_gone, both_gone};
 ghost use Rattle.nvme_ctrl.specs.Laws.{ControllersKeepAccounts, RegionsLeaveAccounts, EventsAreAccounted, SlotsAreFetchedInOrder, CompletionsFollowAnswers, OneCompletionEach, SlotsAreFree, CompletionsTellTheHead, DeletesAreAnsweredLast, NoneFetchedAfterDeletion, NonePickedAfterDeletion, PicksAreLawful, TagsAreApart, ObservedAsInTheLog, HeldQueuesWait, HeldQueuesWaitUntilTold};
 
 /// The log at which a controller stands is an account, where no region was added late: after a Create that named its
@@ -26,8 +26,9 @@ pub fn regions_leave_accounts()
     ensures { RegionsLeaveAccounts }
 {}
 
-/// The events of a controller's log in which no admin command was passed on, no queue was held and no class was set are
-/// those of an accounted log in which the device answers the I/O commands. So every law of such logs holds of it.
+/// The events of a controller's log in which no admin command was passed on, no queue was held and no class was set, and
+/// in which deletions keep the order of a front's, are those of an accounted log in which the device answers the I/O
+/// commands. So every law of such logs holds of it.
 pub fn events_are_accounted()
     ensures { EventsAreAccounted }
 {}
@@ -110,6 +111,18 @@ pub fn regions_come_before_their_creates()
     ensures named { is_named without_region create_picked 0x9000 ≡ true }
     ensures refused { IsLawful without_region create_picked (Answered 0 0 create_refused) }
     ensures refused_late { IsLawful with_late_region create_picked (Answered 0 0 create_refused) → ⊥ }
+{}
+
+/// Worked: two queues are deleted at once, while a third goes on. The device has a command of the first, so the deletion
+/// of the second is finished before. Until the command has its completion, the deletion of the first isn't finished,
+/// and its Delete isn't answered. No command of a closing queue is fetched, and a deletion is finished for its own
+/// queue.
+pub fn deletions_are_apart()
+    ensures account { IsAccount two_deletions both_gone }
+    ensures answered_early { IsLawful two_deletions second_gone (Answered 0 4 succeeded) → ⊥ }
+    ensures fetched_closing { IsLawful two_deletions two_closing (Logged (Fetch 1 1 (read 1))) → ⊥ }
+    ensures finished_early { IsLawful two_deletions third_served (Logged (ClosedSq 1 1)) → ⊥ }
+    ensures finished_other { IsLawful two_deletions third_served (Logged (ClosedSq 1 2)) → ⊥ }
 {}
 
 /// What the caller keeps with a command is told of its place alone. It is kept once, and with a command that was

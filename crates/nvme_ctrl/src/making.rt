@@ -10,7 +10,7 @@ ghost use Rattle.nvme_log.specs.Rules.{upto};
 ghost use Rattle.nvme_ctrl.specs.Making.{first_regions, admin_fault};
 ghost use Rattle.nvme_ctrl.specs.kept.Pool.{IsChain, slot_at};
 ghost use Rattle.nvme_ctrl.specs.Rings.{first_ring};
-ghost use Rattle.nvme_ctrl.specs.kept.State.{no_sq_state, no_cq_state};
+ghost use Rattle.nvme_ctrl.specs.kept.State.{no_sq_state, no_cq_state, no_deletion};
 
 use crate::chain::Chain;
 use crate::own::OwnCommands;
@@ -65,12 +65,8 @@ impl Controller {
             outstanding: 0,
             picked: 0,
             picked_region: 0,
-            deletion: Deletion {
-                pending: 0,
-                region: 0,
-                qid: 0,
-                tag: 0,
-            },
+            deletions: no_deletions(),
+            pending_deletions: 0,
             own: OwnCommands::none(),
         })
     }
@@ -218,6 +214,13 @@ fn first_cqs(slots: u16) -> [CqState; MAX_REGIONS]
     let mut cqs = [CqState::none(); MAX_REGIONS];
     cqs[0].ring = Ring::new(slots);
     cqs
+}
+
+// No deletion is pending.
+fn no_deletions() -> [Deletion; MAX_REGIONS]
+    ensures { result ≡ replicate 65 no_deletion }
+{
+    [Deletion::none(); MAX_REGIONS]
 }
 
 // Makes all slots free, and a chain of them.

@@ -11,7 +11,7 @@ use nvme_log::MAX_OUTSTANDING;
 pub enum Step {
     /// No command waits, but in queues that are held.
     Idle,
-    /// Commands are picked that the device hasn't taken, or a deletion is pending.
+    /// Commands are picked that the device hasn't taken.
     Busy,
     /// The next pick needs more places than are free. A place is free again after its command's completion was posted.
     Full,
@@ -166,7 +166,7 @@ impl Controller {
         ensures own { own_of self.new ≡ own_of self.old }
         ensures stands { (rules : FrontRules) (late : Bool) (notes : Notes) → Stands rules late notes self.old slots.old → HasStepped rules late notes result self.new slots.new }
     {
-        if self.picked != 0 || self.deletion.pending != 0 {
+        if self.picked != 0 {
             return Step::Busy;
         }
         let Some(pick) = self.board.peek() else {

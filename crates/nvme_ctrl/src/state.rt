@@ -1,6 +1,6 @@
 // What a controller keeps.
 ghost use Rattle.std.specs.Prelude.{◌≡◌, slice_set};
-ghost use Rattle.nvme_ctrl.specs.kept.State.{sq_at, cq_at};
+ghost use Rattle.nvme_ctrl.specs.kept.State.{sq_at, cq_at, deletion_at};
 
 use crate::chain::Chain;
 use crate::own::OwnCommands;
@@ -36,17 +36,13 @@ pub struct CqState {
     pub phase: u8,
 }
 
-/// The deletion of a submission queue that began and isn't finished.
+/// The deletion of a submission region's queue.
 #[repr(C)]
 #[derive(Clone, Copy, Debug, Drop)]
 pub struct Deletion {
-    /// 1 where one is pending, else 0.
+    /// 1 where it began and isn't finished, else 0.
     pub pending: u8,
-    /// The region of the queue.
-    pub region: u8,
-    /// The identifier of the queue.
-    pub qid: u16,
-    /// The slot of the Delete command.
+    /// The slot of the Delete command, where it is pending.
     pub tag: u16,
 }
 
@@ -69,7 +65,9 @@ pub struct Controller {
     pub(crate) picked: u16,
     /// Their region. Region 0 has one where it is the device's.
     pub(crate) picked_region: u8,
-    pub(crate) deletion: Deletion,
+    /// The deletion of the queue of each submission region, and how many of them are pending.
+    pub(crate) deletions: [Deletion; MAX_REGIONS],
+    pub(crate) pending_deletions: u16,
     /// The admin commands that are the device's.
     pub(crate) own: OwnCommands,
 }
@@ -126,9 +124,21 @@ impl CqState {
     }
 }
 
+impl Deletion {
+    ghost use Rattle.std.specs.Prelude.{◌≡◌};
+    ghost use Rattle.nvme_ctrl.specs.kept.State.{no_deletion};
+
+    /// None is pending.
+    pub fn none() -> Deletion
+        ensures { result ≡ no_deletion }
+    {
+        Deletion { pending: 0, tag: 0 }
+    }
+}
+
 impl Controller {
     ghost use Rattle.std.specs.Prelude.{◌≡◌, slice_set};
-    ghost use Rattle.nvme_ctrl.specs.kept.State.{sq_at, cq_at, picked_in};
+    ghost use Rattle.nvme_ctrl.specs.kept.State.{sq_at, cq_at, deletion_at, picked_in};
 
     /// The state of a submission region.
     pub(crate) fn sq(&self, region: u8) -> SqState
@@ -171,6 +181,28 @@ impl Controller {
         let region = usize::from(region);
         if region < MAX_REGIONS {
             self.cqs[region] = state;
+        }
+    }
+
+    /// The deletion of the queue of a submission region.
+    pub(crate) fn deletion(&self, region: u8) -> Deletion
+        ensures { result ≡ deletion_at self.now.deletions region }
+    {
+        let region = usize::from(region);
+        if region < MAX_REGIONS {
+            self.deletions[region]
+        } else {
+            Deletion::none()
+        }
+    }
+
+    /// Puts the deletion of the queue of a submission region in its place.
+    pub(crate) fn put_deletion(&mut self, region: u8, deletion: Deletion)
+        ensures { self.new ≡ record self.old { deletions = slice_set self.old.deletions region deletion } }
+    {
+        let region = usize::from(region);
+        if region < MAX_REGIONS {
+            self.deletions[region] = deletion;
         }
     }
 

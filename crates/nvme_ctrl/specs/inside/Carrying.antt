@@ -21,7 +21,7 @@ use Rattle.nvme_ctrl.specs.Tags.{answer_of, cookie_of}
 use Rattle.nvme_ctrl.specs.Account.{IsAccount}
 use Rattle.nvme_ctrl.specs.declared.slot.Slot.{Slot}
 use Rattle.nvme_ctrl.specs.declared.state.Controller.{Controller}
-use Rattle.nvme_ctrl.specs.kept.Content.{Candidate, Content, with_sq, with_cq, with_ready, put_held, put_class}
+use Rattle.nvme_ctrl.specs.kept.Content.{Candidate, Content, with_sq, with_cq, with_ready, put_held, put_class, put_deletion}
 use Rattle.nvme_ctrl.specs.kept.Pool.{slot_at, item_at}
 use Rattle.nvme_ctrl.specs.kept.Standing.{Holds, counted_on, on_board}
 use Rattle.nvme_ctrl.specs.inside.Steps.{CanPick, CanApply, verdict_at, applied_to, aborted, requested, oldest_named, without_oldest}
@@ -98,8 +98,9 @@ pub record IsDroppable (notes : Notes) (k : Content) (qid region c : ℕ) : Type
   pub posts_there : c < 65
   pub attached : (k.sq region).queue ≡ Some (record { qid = qid; cq_region = c })
   pub are_aborted : All (λ (x : Candidate). is_aborted (logged notes) region x.index ≡ true) (k.sq region).window
-  -- it isn't the admin queue's
+  -- it isn't the admin queue's, and isn't being deleted
   pub io : (region == 0) ≡ false
+  pub undeleted : k.deletion region ≡ None
 
 -- the candidates of a region were dropped. A slot that is in no list is left
 pub record HasDropped (rules : FrontRules) (notes : Notes) (k : Content) (slots : List Slot) (y : ℕ) (c : Controller) (pool : List Slot) : Type 0 where
@@ -113,7 +114,7 @@ deleting k qid region c candidate =
     record (with_cq (with_sq k region (record (k.sq region) { window = []; unposted = (k.sq region).unposted + length (k.sq region).window })) c
     (record (k.cq c) { ready = (k.cq c).ready ++ map (aborted qid region) (k.sq region).window })) {
       board = record k.board { queues = slice_set k.board.queues qid None };
-      deletion = Some (record { place = place_at 0 candidate.index; cid = candidate.entry.cid; qid = qid; region = region });
+      deletion = put_deletion k.deletion region (Some (record { place = place_at 0 candidate.index; cid = candidate.entry.cid; qid = qid; region = region }));
     }
 
 -- a controller keeps some content, with some items
@@ -127,7 +128,7 @@ pub record HasBegun (rules : FrontRules) (notes : Notes) (k : Content) (c : Cont
 -- ---- an Abort command
 -- no candidate of an open I/O submission queue has a command identifier
 abbrev pub HasNoneNamed : Content → (sqid cid : ℕ) → Type 0
-HasNoneNamed k sqid cid = (entry : SqEntry) → sqid ≢ 0 → sq_of k.table sqid ≡ Some entry → oldest_named cid (k.sq entry.region).window ≡ None
+HasNoneNamed k sqid cid = (entry : SqEntry) → sqid ≢ 0 → sq_of k.table sqid ≡ Some entry → entry.closing ≡ false → oldest_named cid (k.sq entry.region).window ≡ None
 
 -- a queue of the table, as an open queue of the log
 abbrev pub queue_in : SqEntry → Queue
@@ -146,7 +147,7 @@ pub record IsAbortableIn (notes : Notes) (k : Content) (sqid cid : ℕ) (entry :
   pub few_outstanding : k.outstanding + 1 < 2 ^ 16
 
 abbrev pub IsAbortable : Notes → Content → (sqid cid : ℕ) → Type 0
-IsAbortable notes k sqid cid = (entry : SqEntry) → sqid ≢ 0 → sq_of k.table sqid ≡ Some entry → IsAbortableIn notes k sqid cid entry
+IsAbortable notes k sqid cid = (entry : SqEntry) → sqid ≢ 0 → sq_of k.table sqid ≡ Some entry → entry.closing ≡ false → IsAbortableIn notes k sqid cid entry
 
 -- a controller keeps some content, of which an Abort command may abort a candidate
 pub record MayAbort (c : Controller) (slots : List Slot) (sqid cid : ℕ) : Type 0 where
@@ -171,6 +172,7 @@ pub record HasRequested (rules : FrontRules) (notes : Notes) (k : Content) (sqid
   pub io : sqid ≢ 0
   pub entry : SqEntry
   pub in_table : sq_of k.table sqid ≡ Some entry
+  pub not_closing : entry.closing ≡ false
   pub c : ℕ
   pub attached : (k.sq entry.region).queue ≡ Some (record { qid = sqid; cq_region = c })
   pub found : Candidate

@@ -17,11 +17,10 @@ filled ring = gap ring.slots ring.head ring.tail
 abbrev pub waiting_in : Controller → ℕ → ℕ
 waiting_in c r = (sq_at c.sqs r).window.len - picked_in c r
 
--- the queue is open, no deletion is pending, a slot is free, the host submitted more, and its window has room
+-- the queue is open, a slot is free, the host submitted more, and its window has room
 pub record IsFetchable (c : Controller) (qid : ℕ) (e : SqEntry) : Type 0 where
   pub in_table : sq_of (view_of c.table) qid ≡ Some e
   pub not_closing : e.closing ≡ false
-  pub none_pending : c.deletion.pending ≡ 0
   pub some_free : c.free.len ≢ 0
   pub some_submitted : filled (sq_at c.sqs e.region).ring ≢ 0
   pub in_window : waiting_in c e.region < c.window

@@ -1,5 +1,5 @@
 -- A slot between two lists of a controller, and what a controller keeps while a command is carried out (profile).
-use Rattle.std.specs.Prelude.{◌≡◌, ◌≢◌, ℕ, ◌<◌, ◌==◌, false, if◌then◌else◌, List, [], ◌∷◌, ◌++◌, length}
+use Rattle.std.specs.Prelude.{◌≡◌, ◌≢◌, ℕ, ◌<◌, ◌==◌, false, if◌then◌else◌, List, [], ◌∷◌, ◌++◌, length, Some}
 use Rattle.std.specs.List.{All}
 use Rattle.nvme_entry.specs.Status.{StatusCode}
 use Rattle.nvme_log.specs.Rules.{FrontRules}
@@ -9,7 +9,7 @@ use Rattle.nvme_ctrl.specs.declared.slot.Slot.{Slot}
 use Rattle.nvme_ctrl.specs.declared.state.Controller.{Controller}
 use Rattle.nvme_ctrl.specs.kept.Content.{Ready, Content}
 use Rattle.nvme_ctrl.specs.kept.Pool.{slot_at, IsNew}
-use Rattle.nvme_ctrl.specs.kept.Kept.{ReadyItem, Items, tags_of, ready_tags, ready_state, HasNumbers, HasItems, HoldsDoorbells, HoldsTags}
+use Rattle.nvme_ctrl.specs.kept.Kept.{ReadyItem, DeleteItem, Items, tags_of, ready_tags, ready_state, HasNumbers, HasItems, HoldsDoorbells, HoldsTags}
 
 -- a slot is in no list, and the device hadn't its command
 pub record IsLoose (slots : List Slot) (g : Items) (x : ℕ) : Type 0 where
@@ -17,6 +17,7 @@ pub record IsLoose (slots : List Slot) (g : Items) (x : ℕ) : Type 0 where
   pub windows : (r : ℕ) → IsNew x (tags_of (g.windows r))
   pub outs : IsNew x (tags_of g.outs)
   pub readies : (y : ℕ) → IsNew x (ready_tags (g.readies y))
+  pub deletes : (r : ℕ) (it : DeleteItem) → g.deletes r ≡ Some it → it.tag ≢ x
   pub free : IsNew x g.free
   pub not_out : (slot_at slots x).state ≢ 2
   pub not_answered : (slot_at slots x).state ≢ 3
@@ -25,14 +26,13 @@ pub record IsLoose (slots : List Slot) (g : Items) (x : ℕ) : Type 0 where
 abbrev pub AreReadiesApart : Items → Type 0
 AreReadiesApart g = (x y : ℕ) → x ≢ y → All (λ (tag : ℕ). IsNew tag (ready_tags (g.readies y))) (ready_tags (g.readies x))
 
--- a controller keeps some content and items, at notes that it needn't stand at yet. No deletion is pending
+-- a controller keeps some content and items, at notes that it needn't stand at yet
 pub record Keeps (rules : FrontRules) (notes : Notes) (c : Controller) (slots : List Slot) (k : Content) (g : Items) : Type 0 where
   pub numbers : HasNumbers c k
   pub has : HasItems c slots k g
   pub doorbells : HoldsDoorbells rules notes c
   pub tags : HoldsTags notes c slots g
   pub apart : AreReadiesApart g
-  pub none_pending : c.deletion.pending ≡ 0
 
 -- a state and an answer make the command of a slot ready so
 pub record MakesReady (slots : List Slot) (tag state : ℕ) (status : StatusCode) (dw0 : ℕ) (t : Ready) : Type 0 where

@@ -24,6 +24,5 @@ places_in c slots pick = if pick.qid == 0 && is_abort_entry (Some (oldest_entry 
 pub record CanPickNow (c : Controller) (slots : List Slot) (pick : Pick) : Type 0 where
   pub front : IsController c slots
   pub none_picked : c.picked ≡ 0
-  pub none_pending : c.deletion.pending ≡ 0
   pub next : pick_of (board_of c.board).kept (seen_of (board_of c.board).queues) ≡ Some pick
   pub places : places_in c slots pick + c.outstanding ≤ max_outstanding

@@ -23,7 +23,6 @@ use Rattle.nvme_ctrl.specs.kept.Content.{Candidate, Ready, SqContent, Content, w
 -- a pick, after which n places are in hand: picked, and neither ready nor posted
 pub record CanPick (rules : FrontRules) (past : Past) (k : Content) (queue : Queue) (pick : Pick) (board : BoardView) : Type 0 where
   pub is_open : open_sq past pick.qid ≡ Some queue
-  pub none_pending : k.deletion ≡ None
   pub enough : pick.n ≤ length (k.sq queue.region).window
   pub places : k.outstanding + pick.n ≤ max_outstanding
   pub lawful : lawful_pick rules.mechanism rules.start.settings (arbitration_of past) (seen_of k.board.queues) ≡ Some pick

@@ -24,7 +24,7 @@ pub record Ready : Type 0 where
   pub status : StatusCode
   pub dw0 : ℕ
 
--- a deletion that began and isn't finished: its command, and the queue that it deletes
+-- a deletion that began and isn't finished: its command, and the queue that it deletes with its region
 pub record PendingDelete : Type 0 where
   pub place : Place
   pub cid : ℕ
@@ -69,7 +69,8 @@ pub record Content : Type 0 where
   pub board : BoardView
   pub table : TableView
   pub outstanding : ℕ
-  pub deletion : Option PendingDelete
+  -- the deletion of the queue of each region
+  pub deletion : ℕ → Option PendingDelete
   -- the picked places of I/O queues that have no answer
   pub hand : List Place
   -- by submission region: whether its queue is held, and the class that was set of it
@@ -89,6 +90,10 @@ put_held held r on x = if x == r then on else held x
 
 abbrev pub put_class : (ℕ → Option Class) → ℕ → Option Class → ℕ → Option Class
 put_class classed r class x = if x == r then class else classed x
+
+-- another deletion in the place of that of a region
+abbrev pub put_deletion : (ℕ → Option PendingDelete) → ℕ → Option PendingDelete → ℕ → Option PendingDelete
+put_deletion deletion r d x = if x == r then d else deletion x
 
 abbrev pub with_sq : Content → ℕ → SqContent → Content
 with_sq k r s = record k { sq = put_sq k.sq r s }

@@ -1,5 +1,5 @@
 -- When a controller keeps some content, and stands at its log (profile).
-use Rattle.std.specs.Prelude.{◌≡◌, ◌≢◌, ℕ, ◌+◌, ◌<◌, ◌≤◌, ◌^◌, ◌==◌, ◌&&◌, ◌⊎◌, Bool, true, false, if◌then◌else◌, List, [], ◌∷◌, ◌++◌, length, map, take, drop, Option, Some, None, IsTrue}
+use Rattle.std.specs.Prelude.{◌≡◌, ◌≢◌, ℕ, ◌+◌, ◌<◌, ◌≤◌, ◌^◌, ◌==◌, ◌&&◌, ◌⊎◌, Bool, true, false, if◌then◌else◌, List, [], ◌∷◌, ◌++◌, length, map, take, drop, Option, Some, None, option_map, IsTrue}
 use Rattle.std.specs.List.{All}
 use Rattle.nvme_entry.specs.declared.submission.Sqe.{Sqe}
 use Rattle.nvme_arbiter.specs.Layout.{is_arbiter, board_of}
@@ -21,10 +21,11 @@ use Rattle.nvme_ctrl.specs.Account.{IsAccount}
 use Rattle.nvme_ctrl.specs.declared.marks.Marks.{Marks}
 use Rattle.nvme_ctrl.specs.declared.slot.Slot.{Slot}
 use Rattle.nvme_ctrl.specs.declared.state.Controller.{Controller}
+use Rattle.nvme_ctrl.specs.declared.state.Deletion.{Deletion}
 use Rattle.nvme_ctrl.specs.kept.Content.{Candidate, Ready, PendingDelete, Content}
 use Rattle.nvme_ctrl.specs.kept.Standing.{Holds, answer_in}
 use Rattle.nvme_ctrl.specs.kept.Pool.{slot_at, marks_in, IsChain, AreApart}
-use Rattle.nvme_ctrl.specs.kept.State.{sq_at, cq_at, attachment_of, picked_in}
+use Rattle.nvme_ctrl.specs.kept.State.{sq_at, cq_at, deletion_at, pending_tag, count_pending, attachment_of, picked_in}
 
 -- ---- commands in slots
 -- a command in a slot that waits, or that the device has: its slot, its place, which nobody keeps, and its entry
@@ -39,6 +40,12 @@ pub record ReadyItem : Type 0 where
   pub ready : Ready
   pub was_out : Bool
   pub marks : Marks
+
+-- the Delete of a region whose deletion is pending: its slot, its index, which nobody keeps, and the queue that it deletes
+pub record DeleteItem : Type 0 where
+  pub tag : ℕ
+  pub index : ℕ
+  pub qid : ℕ
 
 abbrev pub tags_of : List Item → List ℕ
 tags_of items = map (λ (it : Item). it.tag) items
@@ -56,14 +63,13 @@ abbrev pub readies_of : List ReadyItem → List Ready
 readies_of items = map (λ (x : ReadyItem). x.ready) items
 
 -- the commands in slots, which nobody keeps as lists: those of each submission region that are picked and not taken and then those that wait, those
--- that the device has, those that are ready in each completion region, and the free slots
+-- that the device has, those that are ready in each completion region, the Deletes of the regions, and the free slots
 pub record Items : Type 0 where
   pub windows : ℕ → List Item
   pub outs : List Item
   pub readies : ℕ → List ReadyItem
+  pub deletes : ℕ → Option DeleteItem
   pub free : List ℕ
-  -- the index of the Delete whose deletion is pending
-  pub delete_index : ℕ
 
 -- a slot has a command that waits in a region, or is picked and not taken
 pub record IsWaitingIn (slots : List Slot) (r : ℕ) (it : Item) : Type 0 where
@@ -111,11 +117,28 @@ pub record IsAmongOuts (items : List Item) (x : ℕ) : Type 0 where
 abbrev pub untaken : Controller → Items → List Item
 untaken c g = take c.picked (g.windows c.picked_region)
 
--- the pending deletion
-abbrev pub pending_of : Controller → List Slot → Items → Option PendingDelete
-pending_of c slots g =
-    if c.deletion.pending == 0 then None
-    else Some (record { place = place_at 0 g.delete_index; cid = (slot_at slots c.deletion.tag).entry.cid; qid = c.deletion.qid; region = c.deletion.region })
+-- another Delete in the place of that of a region
+abbrev pub put_delete : (ℕ → Option DeleteItem) → ℕ → Option DeleteItem → ℕ → Option DeleteItem
+put_delete deletes r it x = if x == r then it else deletes x
+
+-- the pending deletion of a region, by the slot of its Delete
+abbrev pub deletion_in : List Slot → ℕ → DeleteItem → PendingDelete
+deletion_in slots r it = record { place = place_at 0 it.index; cid = (slot_at slots it.tag).entry.cid; qid = it.qid; region = r }
+
+-- a slot has the Delete of a region, which was fetched from the admin queue
+pub record IsDeletingIn (slots : List Slot) (it : DeleteItem) : Type 0 where
+  pub inside : it.tag < length slots
+  pub state : (slot_at slots it.tag).state ≡ 6
+  pub region : (slot_at slots it.tag).region ≡ 0
+
+-- these are the pending deletions, and the slots of their Deletes
+pub record HasDeletions (deletions : List Deletion) (deleting : ℕ) (slots : List Slot) (kept : ℕ → Option PendingDelete) (deletes : ℕ → Option DeleteItem) : Type 0 where
+  pub are : (r : ℕ) → kept r ≡ option_map (deletion_in slots r) (deletes r)
+  pub tags : (r : ℕ) → pending_tag (deletion_at deletions r) ≡ option_map (λ (it : DeleteItem). it.tag) (deletes r)
+  pub items : (r : ℕ) (it : DeleteItem) → deletes r ≡ Some it → IsDeletingIn slots it
+  pub apart : (r x : ℕ) (it other : DeleteItem) → deletes r ≡ Some it → deletes x ≡ Some other → it.tag ≡ other.tag → r ≡ x
+  pub counted : deleting ≡ count_pending deletions
+  pub size : length deletions ≡ 65
 
 -- ---- what is kept
 -- the numbers of a controller are those of some content
@@ -151,10 +174,8 @@ pub record HasItems (c : Controller) (slots : List Slot) (k : Content) (g : Item
   pub ready_chain : (x : ℕ) → IsChain slots (cq_at c.cqs x).ready (ready_tags (g.readies x))
   pub ready_items : (x : ℕ) → All (IsReadyIn slots) (g.readies x)
   pub ready_is : (x : ℕ) → (k.cq x).ready ≡ readies_of (g.readies x)
-  -- the Delete whose deletion is pending
-  pub deletion_is : k.deletion ≡ pending_of c slots g
-  pub deletion_item : c.deletion.pending ≢ 0 → (slot_at slots c.deletion.tag).state ≡ 6
-  pub deletion_inside : c.deletion.pending ≢ 0 → c.deletion.tag < length slots
+  -- the Deletes whose deletions are pending
+  pub deletions : HasDeletions c.deletions c.pending_deletions slots k.deletion g.deletes
   -- the free slots
   pub free_chain : IsChain slots c.free g.free
   pub free_items : All (is_free slots) g.free
@@ -197,11 +218,11 @@ abbrev pub HasReadyCookie : Notes → List Slot → ReadyItem → Type 0
 HasReadyCookie notes slots y = IsCookie notes slots y.tag y.ready.place
 
 -- so has each slot with a command
-pub record HoldsCookies (notes : Notes) (c : Controller) (slots : List Slot) (g : Items) : Type 0 where
+pub record HoldsCookies (notes : Notes) (slots : List Slot) (g : Items) : Type 0 where
   pub windows : (r : ℕ) → All (HasCookie notes slots) (g.windows r)
   pub outs : All (HasCookie notes slots) g.outs
   pub readies : (x : ℕ) → All (HasReadyCookie notes slots) (g.readies x)
-  pub deletion : c.deletion.pending ≢ 0 → IsCookie notes slots c.deletion.tag (place_at 0 g.delete_index)
+  pub deletes : (r : ℕ) (it : DeleteItem) → g.deletes r ≡ Some it → IsCookie notes slots it.tag (place_at 0 it.index)
   pub none : (r i : ℕ) → length (fetched (logged notes) r) ≤ i → cookie_of notes r i ≡ None
 
 -- the place of an admin command that was passed on
@@ -214,12 +235,12 @@ IsDevices notes p = is_of_device notes p.region p.index ≡ true
 abbrev pub IsReadyOf : Notes → ReadyItem → Type 0
 IsReadyOf notes y = y.ready.passed ≡ is_passed_at notes y.ready.place
 
--- what was handed over is the device's, and what was passed on waits no longer. What is ready was passed on or not, and the pending Delete wasn't
-pub record HoldsPassed (notes : Notes) (c : Controller) (g : Items) : Type 0 where
+-- what was handed over is the device's, and what was passed on waits no longer. What is ready was passed on or not, and no pending Delete was
+pub record HoldsPassed (notes : Notes) (g : Items) : Type 0 where
   pub all_handed : All (IsDevices notes) (handed notes)
   pub served : (i : ℕ) → is_passed notes i ≡ true → is_waiting (fate_of (logged notes) 0 i) ≡ false
   pub readies : (x : ℕ) → All (IsReadyOf notes) (g.readies x)
-  pub deletion : c.deletion.pending ≢ 0 → is_passed notes g.delete_index ≡ false
+  pub deletes : (r : ℕ) (it : DeleteItem) → g.deletes r ≡ Some it → is_passed notes it.index ≡ false
 
 -- the completion of a place isn't marked by the device
 abbrev pub IsUnmarked : Notes → Place → Type 0
@@ -238,7 +259,7 @@ pub record HoldsTags (notes : Notes) (c : Controller) (slots : List Slot) (g : I
   pub through : (x : ℕ) → All (λ (y : ReadyItem). IsThrough notes y.ready) (g.readies x)
   pub windows_unanswered : (r : ℕ) → All (λ (it : Item). IsUnanswered notes it.place) (g.windows r)
   pub outs_unanswered : All (λ (it : Item). IsUnanswered notes it.place) g.outs
-  pub deletion_unanswered : c.deletion.pending ≢ 0 → IsUnanswered notes (place_at 0 g.delete_index)
+  pub deletes_unanswered : (r : ℕ) (it : DeleteItem) → g.deletes r ≡ Some it → IsUnanswered notes (place_at 0 it.index)
   pub none_answered : (r i : ℕ) → length (fetched (logged notes) r) ≤ i → answer_of notes r i ≡ None
   -- a slot whose command was answered isn't out
   pub answered_held : (t : ℕ) → (slot_at slots t).state ≡ 3 → is_out notes t ≡ false
@@ -246,8 +267,8 @@ pub record HoldsTags (notes : Notes) (c : Controller) (slots : List Slot) (g : I
   pub hand_entries : All (HasEntry (logged notes)) (g.outs ++ untaken c g)
   -- each slot that isn't free has a command that was fetched and whose completion isn't posted
   pub free_count : c.free.len + all_fetches (logged notes) ≡ length slots + all_posts (logged notes)
-  pub cookies : HoldsCookies notes c slots g
-  pub passed : HoldsPassed notes c g
+  pub cookies : HoldsCookies notes slots g
+  pub passed : HoldsPassed notes g
   -- what isn't answered isn't marked
   pub none_marked : (r i : ℕ) → answer_of notes r i ≡ None → marks_of notes r i ≡ None
   pub marks : (x : ℕ) → All (HasMarks notes) (g.readies x)

@@ -1,5 +1,5 @@
 -- When what a controller keeps holds at its log (profile).
-use Rattle.std.specs.Prelude.{◌≡◌, ℕ, zero, suc, ◌+◌, ◌≤◌, ◌<◌, ◌==◌, ◌&&◌, Bool, true, false, not, if◌then◌else◌, List, [], ◌++◌, length, filter, map, sum_by, Option, Some, None, option_map, option_to_list, unwrap_or, All}
+use Rattle.std.specs.Prelude.{◌≡◌, ℕ, zero, suc, ◌+◌, ◌≤◌, ◌<◌, ◌==◌, ◌&&◌, Bool, true, false, not, if◌then◌else◌, List, [], ◌++◌, length, filter, map, sum_by, Option, Some, None, option_map, option_to_list, unwrap_or, All, is_some}
 use Rattle.nvme_entry.specs.Status.{success}
 use Rattle.nvme_entry.specs.declared.submission.Sqe.{Sqe}
 use Rattle.nvme_arbiter.specs.Limits.{highest_qid, highest_count, queue_limit}
@@ -13,7 +13,7 @@ use Rattle.nvme_admin.specs.declared.bounds.TheConstants.{MAX_REGIONS}
 use Rattle.nvme_admin.specs.declared.verdict.SqEntry.{SqEntry}
 use Rattle.nvme_log.specs.Limits.{max_outstanding}
 use Rattle.nvme_log.specs.Rules.{FrontRules, Past, sq_regions_of, cq_regions_of, slots_at}
-use Rattle.nvme_log.specs.Queues.{Queue, Deletion, open_sq, open_cq, pending, is_closed_region, qid_of_region, cq_region_of}
+use Rattle.nvme_log.specs.Queues.{Queue, open_sq, open_cq, is_closed_region, qid_of_region, cq_region_of}
 use Rattle.nvme_log.specs.Places.{fetched, waiting, picked, is_aborted, unaborted_below, entry_at, is_served, one_if}
 use Rattle.nvme_log.specs.declared.place.Place.{Place}
 use Rattle.nvme_log.specs.Histories.{arbitration_of, table_history}
@@ -21,8 +21,8 @@ use Rattle.nvme_log.specs.Aborts.{is_aborted_with_queue}
 use Rattle.nvme_log.specs.Answers.{Answer}
 use Rattle.nvme_log.specs.Completions.{is_posted, posts_of, posted_to, outstanding, own_status_by, own_dw0_by, unposted_of}
 use Rattle.nvme_log.specs.Effects.{effects_since, made_last}
-use Rattle.nvme_log.specs.Account.{deleting_place}
 use Rattle.nvme_log.specs.Laws.{as_open}
+use Rattle.nvme_ctrl.specs.Deletions.{deleting}
 use Rattle.nvme_ctrl.specs.kept.Content.{Candidate, Ready, PendingDelete, Attachment, SqContent, Content}
 
 -- ---- a submission region's places
@@ -53,38 +53,39 @@ over_regions f (suc n) = over_regions f n + f n
 abbrev pub times_ready : Content → ℕ → ℕ → ℕ
 times_ready k r i = over_regions (λ (c : ℕ). times_in r i (k.cq c).ready) MAX_REGIONS
 
--- the ready completions that hold an outstanding place, and those of places that were aborted with their queue
+-- the ready completions that hold an outstanding place: those of places that weren't aborted with their queue
 abbrev pub ready_picked : Content → ℕ
 ready_picked k = over_regions (λ (c : ℕ). length (filter (λ (t : Ready). not t.with_queue) (k.cq c).ready)) MAX_REGIONS
-
-abbrev pub ready_aborted : Content → ℕ
-ready_aborted k = over_regions (λ (c : ℕ). length (filter (λ (t : Ready). t.with_queue) (k.cq c).ready)) MAX_REGIONS
 
 -- the place of the command of a deletion, which is answered when the deletion is finished
 abbrev pub held_by : Option PendingDelete → List Place
 held_by deletion = option_to_list (option_map (λ (d : PendingDelete). d.place) deletion)
 
--- the places that are picked and neither ready nor posted: those that have no answer yet, and that of the deletion
+-- those of the deletions of the first n regions
+unfoldable pub held_upto : (ℕ → Option PendingDelete) → ℕ → List Place
+held_upto deletion zero = []
+held_upto deletion (suc n) = held_upto deletion n ++ held_by (deletion n)
+
+-- the places that are picked and neither ready nor posted: those that have no answer yet, and those of the deletions
 abbrev pub hand_of : Content → List Place
-hand_of k = k.hand ++ held_by k.deletion
+hand_of k = k.hand ++ held_upto k.deletion MAX_REGIONS
 
 -- what is ready in a completion region is a completion of a place that goes there: it has the identifiers of its queue and of its command. One
--- that was aborted with its queue is of the queue that is being deleted
-pub record IsReady (past : Past) (deletion : Option PendingDelete) (c : ℕ) (t : Ready) : Type 0 where
+-- that was aborted with its queue is of a queue that is being deleted
+pub record IsReady (past : Past) (deletion : ℕ → Option PendingDelete) (c : ℕ) (t : Ready) : Type 0 where
   pub region : cq_region_of past t.place.region ≡ Some c
   pub queue : qid_of_region past t.place.region ≡ Some t.sqid
   pub entry : Sqe
   pub is_there : entry_at past t.place.region t.place.index ≡ Some entry
   pub cid : t.cid ≡ entry.cid
   pub with_queue : t.with_queue ≡ is_aborted_with_queue past t.place.region t.place.index
-  pub deleting : t.with_queue ≡ true → option_map (λ (d : PendingDelete). d.region) deletion ≡ Some t.place.region
+  pub deleting : t.with_queue ≡ true → is_some (deletion t.place.region) ≡ true
 
 -- each picked or aborted place is once ready, once posted or once in hand: picked, but neither ready nor posted
 pub record HoldsReady (past : Past) (k : Content) (hand : List Place) : Type 0 where
   pub once : (r i : ℕ) → times_ready k r i + posts_of past r i + times_held r i hand ≡ one_if (is_served past r i)
   pub each : (c : ℕ) → All (IsReady past k.deletion c) (k.cq c).ready
   pub taken : ready_picked k + length hand ≡ k.outstanding
-  pub few_aborted : ready_aborted k ≤ highest_count
   pub few_taken : k.outstanding ≤ max_outstanding
   pub none_beyond : (c : ℕ) → MAX_REGIONS ≤ c → (k.cq c).ready ≡ []
   -- the admin queue is that of region 0, and posts to completion region 0
@@ -126,11 +127,6 @@ pub record IsAttached (past : Past) (k : Content) (q : ℕ) (queue : Queue) : Ty
   pub cq_region : ℕ
   pub attached : (k.sq queue.region).queue ≡ Some (record { qid = q; cq_region = cq_region })
 
--- a queue that is closing in the table is the one whose deletion is pending
-abbrev pub is_closing : Option SqEntry → Bool
-is_closing None = false
-is_closing (Some entry) = entry.closing
-
 -- a region that was opened for no queue: nothing happened to it
 pub record IsUnopened (past : Past) (r : ℕ) (s : SqContent) : Type 0 where
   pub nothing_got : s.got ≡ []
@@ -166,15 +162,13 @@ pub record HoldsQueues (past : Past) (k : Content) : Type 0 where
   -- the region of a closed queue isn't opened again
   pub gone : (r : ℕ) → is_closed_region past r ≡ true → IsGone (k.sq r)
   pub closed : (q r : ℕ) (queue : Queue) → is_closed_region past r ≡ true → open_sq past q ≡ Some queue → queue.region ≡ r → ⊥
-  -- the region of the pending deletion was opened for its queue
-  pub deleting : (d : PendingDelete) → k.deletion ≡ Some d → IsOpenedFor k.sq d
+  -- the region of a deletion was opened for its queue
+  pub deleting : (r : ℕ) (d : PendingDelete) → k.deletion r ≡ Some d → IsOpenedFor k.sq d
 
--- ---- the pending deletion
-abbrev pub as_deletion : PendingDelete → Deletion
-as_deletion d = record { qid = d.qid; region = d.region }
-
+-- ---- the deletions
 -- its queue is closing in the table, no candidate of it is left, and its region isn't closed yet
-pub record IsPending (past : Past) (k : Content) (d : PendingDelete) : Type 0 where
+pub record IsPending (past : Past) (k : Content) (r : ℕ) (d : PendingDelete) : Type 0 where
+  pub at : d.region ≡ r
   pub closing : SqEntry
   pub in_table : sq_of k.table d.qid ≡ Some closing
   pub is_closing : closing.closing ≡ true
@@ -192,11 +186,8 @@ pub record IsPending (past : Past) (k : Content) (d : PendingDelete) : Type 0 wh
   pub attached : option_map (λ (a : Attachment). a.qid) (k.sq d.region).queue ≡ Some d.qid
 
 pub record HoldsDeletion (past : Past) (k : Content) : Type 0 where
-  pub pending_is : pending past ≡ option_map as_deletion k.deletion
-  pub place_is : deleting_place past ≡ option_map (λ (d : PendingDelete). d.place.index) k.deletion
-  pub stands : (d : PendingDelete) → k.deletion ≡ Some d → IsPending past k d
-  -- a queue that is closing in the table is that whose deletion is pending
-  pub closing_is : (q : ℕ) (e : SqEntry) → sq_of k.table q ≡ Some e → e.closing ≡ true → option_map (λ (d : PendingDelete). d.qid) k.deletion ≡ Some q
+  pub place_is : (r : ℕ) → deleting past r ≡ option_map (λ (d : PendingDelete). d.place.index) (k.deletion r)
+  pub stands : (r : ℕ) (d : PendingDelete) → k.deletion r ≡ Some d → IsPending past k r d
 
 -- ---- arbitration and the table
 pub record HoldsArbitration (rules : FrontRules) (past : Past) (k : Content) : Type 0 where
@@ -235,7 +226,7 @@ pub record HasItsStatus (rules : FrontRules) (past : Past) (t : Ready) : Type 0 
 abbrev pub HasOwnStatus : FrontRules → Past → Ready → Type 0
 HasOwnStatus rules past t = t.passed ≡ false → HasItsStatus rules past t
 
--- the deletion that is pending is answered with success
+-- a deletion that is pending is answered with success
 abbrev pub deleted_answer : Answer
 deleted_answer = record { status = success; dw0 = 0 }
 
@@ -248,7 +239,7 @@ pub record IsOwnDeletion (rules : FrontRules) (past : Past) (d : PendingDelete) 
 pub record HoldsOwn (rules : FrontRules) (past : Past) (k : Content) : Type 0 where
   pub effects_whole : effects_since past ≡ made_last rules past
   pub own_statuses : (c : ℕ) → All (HasOwnStatus rules past) (k.cq c).ready
-  pub own_deletion : (d : PendingDelete) → k.deletion ≡ Some d → IsOwnDeletion rules past d
+  pub own_deletion : (r : ℕ) (d : PendingDelete) → k.deletion r ≡ Some d → IsOwnDeletion rules past d
 
 -- what a controller keeps holds at its log. Of statuses that is said where no region was added late
 pub record Holds (rules : FrontRules) (late : Bool) (past : Past) (k : Content) : Type 0 where

@@ -14,7 +14,7 @@ use Rattle.nvme_ctrl.proofs.Aborting.{none_left, chain_there, went_there, went_s
 use Rattle.nvme_ctrl.proofs.state.Controller.abort.Goals as goal
 
 pub returns-in_default-take_named-clause-none_named : goal.returns-in_default-take_named-clause-none_named
-returns-in_default-take_named-clause-none_named c = λ rules notes k g _ h none entry io is.
+returns-in_default-take_named-clause-none_named c = λ rules notes k g _ h none entry io is not_closing.
     let table = ap (λ (v : TableView). sq_of v c.args.sqid) h.numbers.table_is in
     let one = same_Some c.in-Some.queue entry (sym c.in-Some.is ∙ c.sq.ensures ∙ table ∙ is) in
     let chain = chain_there rules notes c.args.self.now c.args.slots.now k g c.in-Some.queue.region c.sq-sq.result h c.sq-sq.ensures in
@@ -31,10 +31,10 @@ went-requires c =
     let named = sym (c.take_named.ensures.named (tags_of (m.items.windows c.in-Some.queue.region)) chain) ∙ c.in-Some-take_named.is in
     record {
       there = subst (λ (x : Controller). IsSome (queue_at (board_of x.board).queues c.args.sqid)) (sym c.put_sq.ensures)
-          (went_there m.rules m.notes c.args.self.now c.args.slots.now m.content m.items c.args.sqid c.args.cid m.keeps m.none_picked c.in-Some.queue (m.may c.in-Some.queue c.if-sqid-eq0.false is)
+          (went_there m.rules m.notes c.args.self.now c.args.slots.now m.content m.items c.args.sqid c.args.cid m.keeps m.none_picked c.in-Some.queue (m.may c.in-Some.queue c.if-sqid-eq0.false is c.if-queue.false)
           c.in-Some-take_named.x named);
       some = λ not_held. subst (λ (x : Controller). IsSomeAnd (queue_at (board_of x.board).queues c.args.sqid) (λ (queue : OpenQueue). 0 < queue.count)) (sym c.put_sq.ensures)
-          (went_some m.rules m.notes c.args.self.now c.args.slots.now m.content m.items c.args.sqid c.args.cid m.keeps m.none_picked c.in-Some.queue (m.may c.in-Some.queue c.if-sqid-eq0.false is)
+          (went_some m.rules m.notes c.args.self.now c.args.slots.now m.content m.items c.args.sqid c.args.cid m.keeps m.none_picked c.in-Some.queue (m.may c.in-Some.queue c.if-sqid-eq0.false is c.if-queue.false)
           c.in-Some-take_named.x named c.sq-sq.result c.sq-sq.ensures not_held);
     }
 
@@ -42,12 +42,12 @@ pub returns-clause-aborted : goal.returns-clause-aborted
 returns-clause-aborted c = λ rules notes k g y _ h none may other.
     let table = ap (λ (v : TableView). sq_of v c.args.sqid) h.numbers.table_is in
     let is = sym table ∙ sym c.sq.ensures ∙ c.in-Some.is in
-    let ab = may c.in-Some.queue c.if-sqid-eq0.false is in
+    let ab = may c.in-Some.queue c.if-sqid-eq0.false is c.if-queue.false in
     let r = c.in-Some.queue.region in
     let chain = chain_there rules notes c.args.self.now c.args.slots.now k g r c.sq-sq.result h c.sq-sq.ensures in
     let xs = tags_of (g.windows r) in
     requested_one rules notes c.args.self.now c.args.slots.now k g c.args.sqid c.args.cid h none c.in-Some.queue ab c.in-Some-take_named.x
-    (sym (c.take_named.ensures.named xs chain) ∙ c.in-Some-take_named.is) c.if-sqid-eq0.false is y other
+    (sym (c.take_named.ensures.named xs chain) ∙ c.in-Some-take_named.is) c.if-sqid-eq0.false is c.if-queue.false y other
     c.sq-sq.result c.take_named.new.self c.take_named.new.slots c.saturating_add.result c.saturating_add-self.result c.went.new.board _ c.end.new.self c.end.new.slots c.sq-sq.ensures
     (c.take_named.ensures.rest xs chain) c.take_named.ensures.items (c.take_named.ensures.links xs chain)
     (c.saturating_add.ensures ∙ few_unposted_more rules notes c.args.self.now c.args.slots.now k g c.args.sqid c.args.cid c.in-Some.queue c.sq-sq.result h ab c.sq-sq.ensures)
@@ -58,3 +58,11 @@ returns-clause-aborted c = λ rules notes k g y _ h none may other.
     (λ mechanism first past stands. c.went.ensures.stands mechanism first past (subst (λ (x : Controller). BoardStandsAt mechanism first past (board_of x.board)) (sym c.put_sq.ensures) stands))
     (ap (λ (x : Controller). record x { board = c.went.new.board; outstanding = c.saturating_add-self.result }) c.put_sq.ensures)
     c.end.ensures.kept c.end.ensures.size c.end.ensures.others
+
+pub returns-then-queue-clause-none_named : goal.returns-then-queue-clause-none_named
+returns-then-queue-clause-none_named c = λ rules notes k g _ h none entry io is not_closing.
+    let table = ap (λ (v : TableView). sq_of v c.args.sqid) h.numbers.table_is in
+    let one = same_Some c.in-Some.queue entry (sym c.in-Some.is ∙ c.sq.ensures ∙ table ∙ is) in
+    let closes = c.if-queue.true in
+    let opened = ap (λ (e : SqEntry). e.closing) one ∙ not_closing in
+    absurd (cc (closes, opened))

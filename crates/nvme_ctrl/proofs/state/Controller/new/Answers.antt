@@ -11,8 +11,8 @@ returns-clause-stands c sizes =
     let table = c.in_ok-table.table in
     let board = c.first_board.result in
     let first : Controller = made table board a.sq.slots a.cq.slots a.window c.all_free.result in
-    let is : record first { sqs = c.first_sqs.result; cqs = c.first_cqs.result; own = c.none.result } ≡ first =
-    λ i. record first { sqs = c.first_sqs.ensures i; cqs = c.first_cqs.ensures i; own = c.none.ensures i } in
+    let is : record first { sqs = c.first_sqs.result; cqs = c.first_cqs.result; deletions = c.no_deletions.result; own = c.none.result } ≡ first =
+    λ i. record first { sqs = c.first_sqs.ensures i; cqs = c.first_cqs.ensures i; deletions = c.no_deletions.ensures i; own = c.none.ensures i } in
     subst (λ (x : Controller). StandsAt (first_rules a.mechanism a.settings a.limits a.sq a.cq sizes) false [] x c.all_free.new.slots) (sym is)
     (new-stands a.mechanism a.settings a.limits a.sq a.cq sizes table board a.window c.all_free.new.slots c.all_free.result (length a.slots.now)
     c.in_ok-table.ensures.stands c.in_ok-table.ensures.sized c.first_board.ensures.stands c.first_board.ensures.queues c.first_board.ensures.is_arbiter

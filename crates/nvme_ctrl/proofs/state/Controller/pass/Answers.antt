@@ -21,7 +21,7 @@ returns c = record {
       let can = c.requires.can in
       let lawful = next_lawful self c.args.pick can.next in
       let one = admin_one rules late notes self c.args.slots.now s c.args.pick lawful c.requires.of_admin in
-      let done = pass-call rules late notes self c.args.slots.now s can.none_picked can.none_pending c.args.pick c.keep.new.self
+      let done = pass-call rules late notes self c.args.slots.now s can.none_picked c.args.pick c.keep.new.self
       lawful c.keep.ensures.stands c.keep.ensures.queues c.keep.ensures.is_arbiter can.places
       (admin_places self c.args.slots.now c.args.pick (omega (arith, one)) can.places) c.requires.of_admin (own_may self.own (logged notes) (oldest_entry self c.args.slots.now) (c.requires.own rules late notes s)) in
       let unposted : c.saturating_add.result ≡ min (c.sq-sq.result.unposted + 1) 65535 = c.saturating_add.ensures in

@@ -1,5 +1,5 @@
 use Rattle.std.specs.Prelude.{option_map}
-use Rattle.std.proofs.Common.{◌-◌, ◌<◌, Bool, ap, sym, ◌∙◌, Option, Some, subst, inl, inr, arith}
+use Rattle.std.proofs.Common.{◌-◌, ◌<◌, Bool, ap, sym, ◌∙◌, Option, Some, subst, arith}
 use Rattle.nvme_arbiter.specs.declared.pick.Pick.{Pick}
 use Rattle.nvme_log.specs.Limits.{max_outstanding}
 use Rattle.nvme_ctrl.specs.Notes.{logged}
@@ -9,16 +9,9 @@ use Rattle.nvme_ctrl.specs.Own.{is_own}
 use Rattle.nvme_ctrl.proofs.FullCall.{lacks_places, entry_is}
 use Rattle.nvme_ctrl.proofs.PickCall.{next_is, is_busy}
 use Rattle.nvme_ctrl.proofs.state.Controller.pick.Goals as goal
-use Rattle.nvme_ctrl.proofs.state.Controller.pick.Goals.{then-self-ne0-via-then-self-ne0, then-self-ne0-via-else-self-ne0+then-self-ne0-2}
 
 pub returns-then-self-ne0-clause-stands : goal.returns-then-self-ne0-clause-stands
-returns-then-self-ne0-clause-stands c rules late notes s = (
-  s,
-  is_busy rules late notes c.args.self.now c.args.slots.now s (elim c.then-self-ne0.branch [
-    | then-self-ne0-via-then-self-ne0 w ↦ inl w.if-self-ne0.true
-    | then-self-ne0-via-else-self-ne0+then-self-ne0-2 w ↦ inr w.if-self-ne0-2.true
-  ]),
-)
+returns-then-self-ne0-clause-stands c rules late notes s = (s, is_busy rules late notes c.args.self.now c.args.slots.now s c.if-self-ne0.true)
 
 pub returns-in_default-clause-stands : goal.returns-in_default-clause-stands
 returns-in_default-clause-stands c rules late notes s =

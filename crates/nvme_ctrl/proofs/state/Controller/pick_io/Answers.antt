@@ -15,7 +15,7 @@ returns-in_default c = record {
   stands = λ rules late notes s.
       let self : Controller = c.args.self.now in
       let can = c.requires.can in
-      absurd (due_found rules late notes self c.args.slots.now s can.none_picked can.none_pending c.args.pick c.keep.new.self
+      absurd (due_found rules late notes self c.args.slots.now s can.none_picked c.args.pick c.keep.new.self
       (next_lawful self c.args.pick can.next) c.keep.ensures.stands c.keep.ensures.queues c.keep.ensures.is_arbiter
       (io_places self c.args.slots.now c.args.pick c.requires.io can.places) (sym c.sq.ensures ∙ c.in_default.is));
 }
@@ -28,7 +28,7 @@ returns c = record {
       let can = c.requires.can in
       let r : ℕ = c.in-Some.queue.region in
       let n : ℕ = c.args.pick.n in
-      let done = pick-call rules late notes self c.args.slots.now s can.none_picked can.none_pending c.args.pick c.keep.new.self
+      let done = pick-call rules late notes self c.args.slots.now s can.none_picked c.args.pick c.keep.new.self
       (next_lawful self c.args.pick can.next) c.keep.ensures.stands c.keep.ensures.queues c.keep.ensures.is_arbiter
       (io_places self c.args.slots.now c.args.pick c.requires.io can.places) c.requires.io c.in-Some.queue (sym c.sq.ensures ∙ c.in-Some.is) in
       let unposted : c.saturating_add.result ≡ min (c.sq-sq.result.unposted + n) 65535 = c.saturating_add.ensures in

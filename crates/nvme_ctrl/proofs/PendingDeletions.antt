@@ -1,0 +1,305 @@
+-- The pending deletions: the places that they hold, and the slots of their commands.
+use Rattle.std.proofs.Common.{◌≡◌, ◌≢◌, ℕ, zero, suc, ◌+◌, ◌-◌, ◌<◌, ◌≤◌, ◌==◌, ◌&&◌, Bool, true, false, not, if◌then◌else◌, List, ◌++◌, length, Option, Some, None, refl, sym, ap, ◌∙◌, subst, arith, inl, inr}
+use Rattle.std.specs.Prelude.{slice_set, option_map, min}
+use Rattle.std.proofs.lemmas.Bool.{cases_eq, cases_lt, eq-eqb, ne_eqb}
+use Rattle.std.proofs.lemmas.Option.{same_Some}
+use Rattle.std.proofs.lemmas.List.{length-set, get_or-set_same, get_or-set_other, get_or_past}
+use Rattle.std.proofs.lemmas.List.Sums.{sum_by-append, sum_by-set, sum_by-le, get_or-le-sum_by}
+use Rattle.nvme_log.specs.Places.{one_if}
+use Rattle.nvme_log.specs.declared.place.Place.{Place}
+use Rattle.nvme_log.specs.Dispatches.{place_at}
+use Rattle.nvme_ctrl.specs.declared.slot.Slot.{Slot}
+use Rattle.nvme_ctrl.specs.declared.state.Deletion.{Deletion}
+use Rattle.nvme_ctrl.specs.kept.Content.{PendingDelete, put_deletion}
+use Rattle.nvme_ctrl.specs.kept.Standing.{held_by, held_upto, times_held}
+use Rattle.nvme_ctrl.specs.kept.Kept.{DeleteItem, deletion_in, put_delete, IsDeletingIn, HasDeletions}
+use Rattle.nvme_ctrl.specs.kept.Pool.{slot_at, item_at}
+use Rattle.nvme_ctrl.specs.kept.State.{no_deletion, deletion_at, pending_tag, count_pending}
+
+-- ---- one deletion in the place of another
+pub put-same : {A : Type 0} (f : ℕ → A) (r : ℕ) (o : A) → (if r == r then o else f r) ≡ o
+put-same f r o = rw (eq-eqb r r refl) refl
+
+pub put-other : {A : Type 0} (f : ℕ → A) (r : ℕ) (o : A) (x : ℕ) → (x ≡ r → ⊥) → (if x == r then o else f x) ≡ f x
+put-other f r o x d = rw (ne_eqb x r d) refl
+
+-- one that is there is the one that was put, or another that was there
+pub data IsPut {A : Type 0} (f : ℕ → Option A) (r : ℕ) (o : Option A) (x : ℕ) (a : A) : Type 0 where
+  Here : x ≡ r → o ≡ Some a → IsPut f r o x a
+  Elsewhere : (x ≡ r → ⊥) → f x ≡ Some a → IsPut f r o x a
+
+pub is_put : {A : Type 0} (f : ℕ → Option A) (r : ℕ) (o : Option A) (x : ℕ) (a : A) → (if x == r then o else f x) ≡ Some a → IsPut f r o x a
+is_put f r o x a is = elim (cases_eq x r) [
+  | inl e ↦ Here e (sym (ap (λ (b : Bool). if b then o else f x) (eq-eqb x r e)) ∙ is)
+  | inr d ↦ Elsewhere d (sym (ap (λ (b : Bool). if b then o else f x) (ne_eqb x r d)) ∙ is)
+]
+
+-- ---- the places that are held
+-- a count of places that adds up
+abbrev pub AddsUp : (List Place → ℕ) → Type 0
+AddsUp count = (xs ys : List Place) → count (xs ++ ys) ≡ count xs + count ys
+
+-- what is put beyond the first n regions changes nothing of them
+held-beyond : (count : List Place → ℕ) → AddsUp count → (f : ℕ → Option PendingDelete) (r : ℕ) (o : Option PendingDelete) (n : ℕ) → n ≤ r
+    → count (held_upto (put_deletion f r o) n) ≡ count (held_upto f n)
+unfolding held_upto
+held-beyond count adds f r o zero l = refl
+held-beyond count adds f r o (suc n) l =
+    let here : count (held_by (put_deletion f r o n)) ≡ count (held_by (f n)) = ap (λ (d : Option PendingDelete). count (held_by d)) (put-other f r o n (λ e. absurd (omega arith))) in
+    omega (arith, adds (held_upto (put_deletion f r o) n) (held_by (put_deletion f r o n)), adds (held_upto f n) (held_by (f n)), held-beyond count adds f r o n (omega arith), here)
+
+-- what is put among them
+pub held-put : (count : List Place → ℕ) → AddsUp count → (f : ℕ → Option PendingDelete) (r : ℕ) (o : Option PendingDelete) (n : ℕ) → r < n
+    → count (held_upto (put_deletion f r o) n) + count (held_by (f r)) ≡ count (held_upto f n) + count (held_by o)
+unfolding held_upto
+held-put count adds f r o zero l = absurd (omega arith)
+held-put count adds f r o (suc n) l = elim (cases_eq n r) [
+  | inl e ↦
+      let here : count (held_by (put_deletion f r o n)) ≡ count (held_by o) =
+      ap (λ (d : Option PendingDelete). count (held_by d)) (subst (λ (z : ℕ). put_deletion f r o z ≡ o) (sym e) (put-same f r o)) in
+      let there : count (held_by (f n)) ≡ count (held_by (f r)) = ap (λ (z : ℕ). count (held_by (f z))) e in
+      omega (arith, adds (held_upto (put_deletion f r o) n) (held_by (put_deletion f r o n)), adds (held_upto f n) (held_by (f n)), held-beyond count adds f r o n (omega arith), here, there)
+  | inr d ↦
+      let here : count (held_by (put_deletion f r o n)) ≡ count (held_by (f n)) = ap (λ (z : Option PendingDelete). count (held_by z)) (put-other f r o n d) in
+      omega (arith, adds (held_upto (put_deletion f r o) n) (held_by (put_deletion f r o n)), adds (held_upto f n) (held_by (f n)), held-put count adds f r o n (omega arith), here)
+]
+
+-- how often a place is held by one deletion
+pub times_held-by : (r i : ℕ) (d : PendingDelete) → times_held r i (held_by (Some d)) ≡ one_if (d.place.region == r && d.place.index == i)
+times_held-by r i d = omega arith
+
+-- a place is held at least as often as one deletion holds it
+pub held-one : (r i : ℕ) (f : ℕ → Option PendingDelete) (x : ℕ) (d : PendingDelete) (n : ℕ) → x < n → f x ≡ Some d
+    → one_if (d.place.region == r && d.place.index == i) ≤ times_held r i (held_upto f n)
+unfolding held_upto
+held-one r i f x d zero l is = absurd (omega arith)
+held-one r i f x d (suc n) l is =
+    let split = sum_by-append (λ (p : Place). one_if (p.region == r && p.index == i)) (held_upto f n) (held_by (f n)) in
+    elim (cases_eq x n) [
+      | inl e ↦
+          let here : times_held r i (held_by (f n)) ≡ times_held r i (held_by (Some d)) = ap (λ (o : Option PendingDelete). times_held r i (held_by o)) (ap f (sym e) ∙ is) in
+          omega (arith, split, here, times_held-by r i d)
+      | inr differs ↦ omega (arith, split, held-one r i f x d n (omega arith) is)
+    ]
+
+-- a place that no deletion holds isn't held
+pub held-none : (r i : ℕ) (f : ℕ → Option PendingDelete) (n : ℕ) → ((x : ℕ) (d : PendingDelete) → f x ≡ Some d → (d.place.region == r && d.place.index == i) ≡ false)
+    → times_held r i (held_upto f n) ≡ 0
+unfolding held_upto
+held-none r i f zero none = refl
+held-none r i f (suc n) none =
+    omega (arith, sum_by-append (λ (p : Place). one_if (p.region == r && p.index == i)) (held_upto f n) (held_by (f n)), held-none r i f n none, one (f n) refl) where
+      one : (o : Option PendingDelete) → f n ≡ o → times_held r i (held_by o) ≡ 0
+      one None is = refl
+      one (Some d) is = times_held-by r i d ∙ ap one_if (none n d is)
+
+-- ---- the slots of their commands
+-- where what is in their slots is left, all is
+pub deletions_left : (deletions : List Deletion) (pending : ℕ) (slots new : List Slot) (kept : ℕ → Option PendingDelete) (deletes : ℕ → Option DeleteItem)
+    → length new ≡ length slots → ((r : ℕ) (it : DeleteItem) → deletes r ≡ Some it → item_at new it.tag ≡ item_at slots it.tag)
+    → HasDeletions deletions pending slots kept deletes → HasDeletions deletions pending new kept deletes
+deletions_left deletions pending slots new kept deletes size same h = record {
+  are = λ r. h.are r ∙ by r (deletes r) refl;
+  tags = h.tags;
+  items = λ r it is. let i = h.items r it is in let e = same r it is in record {
+    inside = subst (λ (n : ℕ). it.tag < n) (sym size) i.inside;
+    state = ap (λ (s : Slot). s.state) e ∙ i.state;
+    region = ap (λ (s : Slot). s.region) e ∙ i.region;
+  };
+  apart = h.apart;
+  counted = h.counted;
+  size = h.size;
+} where
+  by : (r : ℕ) (o : Option DeleteItem) → deletes r ≡ o → option_map (deletion_in slots r) o ≡ option_map (deletion_in new r) o
+  by r None is = refl
+  by r (Some it) is =
+      ap (λ (s : Slot). Some (record { place = place_at 0 it.index; cid = s.entry.cid; qid = it.qid; region = r })) (sym (same r it is))
+
+-- where another slot was changed
+pub deletions_stay : (deletions : List Deletion) (pending : ℕ) (slots new : List Slot) (kept : ℕ → Option PendingDelete) (deletes : ℕ → Option DeleteItem) (tag : ℕ)
+    → length new ≡ length slots → ((y : ℕ) → y ≢ tag → item_at new y ≡ item_at slots y) → ((r : ℕ) (it : DeleteItem) → deletes r ≡ Some it → it.tag ≢ tag)
+    → HasDeletions deletions pending slots kept deletes → HasDeletions deletions pending new kept deletes
+deletions_stay deletions pending slots new kept deletes tag size others apart h =
+    deletions_left deletions pending slots new kept deletes size (λ r it is. others it.tag (apart r it is)) h
+
+-- a slot of another state is none of theirs
+pub deletes_apart : (deletions : List Deletion) (pending : ℕ) (slots : List Slot) (kept : ℕ → Option PendingDelete) (deletes : ℕ → Option DeleteItem) (tag : ℕ)
+    → HasDeletions deletions pending slots kept deletes → (slot_at slots tag).state ≢ 6 → (r : ℕ) (it : DeleteItem) → deletes r ≡ Some it → it.tag ≢ tag
+deletes_apart deletions pending slots kept deletes tag h other r it is e = other (ap (λ (y : ℕ). (slot_at slots y).state) (sym e) ∙ (h.items r it is).state)
+
+-- what is kept of a region is what its slot has
+pub deletion_item : (deletions : List Deletion) (pending : ℕ) (slots : List Slot) (kept : ℕ → Option PendingDelete) (deletes : ℕ → Option DeleteItem)
+    → HasDeletions deletions pending slots kept deletes → (r : ℕ) (it : DeleteItem) → deletes r ≡ Some it → kept r ≡ Some (deletion_in slots r it)
+deletion_item deletions pending slots kept deletes h r it is = h.are r ∙ ap (option_map (deletion_in slots r)) is
+
+-- where none is kept of a region, no slot has one
+pub none_deletes : (deletions : List Deletion) (pending : ℕ) (slots : List Slot) (kept : ℕ → Option PendingDelete) (deletes : ℕ → Option DeleteItem)
+    → HasDeletions deletions pending slots kept deletes → (r : ℕ) → kept r ≡ None → deletes r ≡ None
+none_deletes deletions pending slots kept deletes h r none = by (deletes r) refl where
+  by : (o : Option DeleteItem) → deletes r ≡ o → o ≡ None
+  by None is = refl
+  by (Some it) is = absurd (cc (none, deletion_item deletions pending slots kept deletes h r it is))
+
+-- one that is kept is in a slot
+pub record HasDelete (slots : List Slot) (deletes : ℕ → Option DeleteItem) (r : ℕ) (d : PendingDelete) : Type 0 where
+  pub item : DeleteItem
+  pub is : deletes r ≡ Some item
+  pub same : d ≡ deletion_in slots r item
+
+pub some_deletes : (deletions : List Deletion) (pending : ℕ) (slots : List Slot) (kept : ℕ → Option PendingDelete) (deletes : ℕ → Option DeleteItem)
+    → HasDeletions deletions pending slots kept deletes → (r : ℕ) (d : PendingDelete) → kept r ≡ Some d → HasDelete slots deletes r d
+some_deletes deletions pending slots kept deletes h r d some = by (deletes r) refl where
+  by : (o : Option DeleteItem) → deletes r ≡ o → HasDelete slots deletes r d
+  by None is = absurd (let none : kept r ≡ None = h.are r ∙ ap (option_map (deletion_in slots r)) is in cc (none, some))
+  by (Some it) is = record { item = it; is = is; same = same_Some d (deletion_in slots r it) (sym some ∙ deletion_item deletions pending slots kept deletes h r it is) }
+
+-- ---- the flags
+-- the flag of a region, where another one is put
+deletion-same : (deletions : List Deletion) (r : ℕ) (d : Deletion) → r < length deletions → deletion_at (slice_set deletions r d) r ≡ d
+deletion-same deletions r d there = get_or-set_same deletions r d no_deletion there
+
+deletion-other : (deletions : List Deletion) (r : ℕ) (d : Deletion) (x : ℕ) → (x ≡ r → ⊥) → deletion_at (slice_set deletions r d) x ≡ deletion_at deletions x
+deletion-other deletions r d x other = get_or-set_other deletions r x d no_deletion other
+
+-- a flag that is set tells the slot
+pub flagged : (d : Deletion) → d.pending ≢ 0 → pending_tag d ≡ Some d.tag
+flagged d some = ap (λ (b : Bool). if b then None else Some d.tag) (ne_eqb d.pending 0 some)
+
+pub unflagged : (d : Deletion) → d.pending ≡ 0 → pending_tag d ≡ None
+unflagged d none = ap (λ (b : Bool). if b then None else Some d.tag) (eq-eqb d.pending 0 none)
+
+-- a pending deletion is in a slot
+pub record IsFlagged (deletes : ℕ → Option DeleteItem) (r tag : ℕ) : Type 0 where
+  pub item : DeleteItem
+  pub is : deletes r ≡ Some item
+  pub tag_is : item.tag ≡ tag
+
+pub flagged_item : (deletions : List Deletion) (pending : ℕ) (slots : List Slot) (kept : ℕ → Option PendingDelete) (deletes : ℕ → Option DeleteItem)
+    → HasDeletions deletions pending slots kept deletes → (r : ℕ) → (deletion_at deletions r).pending ≢ 0 → IsFlagged deletes r (deletion_at deletions r).tag
+flagged_item deletions pending slots kept deletes h r some = by (deletes r) refl where
+  tag : option_map (λ (it : DeleteItem). it.tag) (deletes r) ≡ Some (deletion_at deletions r).tag
+  tag = sym (h.tags r) ∙ flagged (deletion_at deletions r) some
+
+  by : (o : Option DeleteItem) → deletes r ≡ o → IsFlagged deletes r (deletion_at deletions r).tag
+  by None is = absurd (let none = ap (option_map (λ (it : DeleteItem). it.tag)) is in cc (none, tag))
+  by (Some it) is = record { item = it; is = is; tag_is = same_Some it.tag (deletion_at deletions r).tag (sym (ap (option_map (λ (x : DeleteItem). x.tag)) is) ∙ tag) }
+
+-- one that is in a slot is pending
+pub item_flagged : (deletions : List Deletion) (pending : ℕ) (slots : List Slot) (kept : ℕ → Option PendingDelete) (deletes : ℕ → Option DeleteItem)
+    → HasDeletions deletions pending slots kept deletes → (r : ℕ) (it : DeleteItem) → deletes r ≡ Some it → (deletion_at deletions r).pending ≢ 0
+item_flagged deletions pending slots kept deletes h r it is idle =
+    let tag = h.tags r ∙ ap (option_map (λ (x : DeleteItem). x.tag)) is in
+    let none = unflagged (deletion_at deletions r) idle in
+    cc (tag, none)
+
+-- no more are pending than there are
+few_one : (b : Bool) → one_if b ≤ 1
+few_one true = omega arith
+few_one false = omega arith
+
+pub few_pending : (deletions : List Deletion) → count_pending deletions ≤ length deletions
+few_pending deletions =
+    omega (arith, sum_by-le (λ (d : Deletion). one_if (not (d.pending == 0))) 1 deletions (λ j d l. few_one (not (_ == 0))))
+
+-- where none is counted, none is pending
+pub none_counted : (deletions : List Deletion) (pending : ℕ) (slots : List Slot) (kept : ℕ → Option PendingDelete) (deletes : ℕ → Option DeleteItem)
+    → HasDeletions deletions pending slots kept deletes → pending ≡ 0 → (r : ℕ) → (deletion_at deletions r).pending ≡ 0
+none_counted deletions pending slots kept deletes h uncounted r = elim (cases_lt r (length deletions)) [
+  | inl below ↦ by (deletion_at deletions r).pending (get_or-le-sum_by (λ (d : Deletion). one_if (not (d.pending == 0))) deletions r no_deletion below)
+  | inr beyond ↦ ap (λ (d : Deletion). d.pending) (get_or_past deletions r no_deletion beyond)
+] where
+  by : (n : ℕ) → one_if (not (n == 0)) ≤ count_pending deletions → n ≡ 0
+  by n few = elim (cases_eq n 0) [
+    | inl is ↦ is
+    | inr some ↦ absurd (omega (arith, few, h.counted, uncounted, ap (λ (b : Bool). one_if (not b)) (ne_eqb n 0 some)))
+  ]
+
+-- ---- one begins
+pub deletions_begun : (deletions : List Deletion) (pending now : ℕ) (slots : List Slot) (kept : ℕ → Option PendingDelete) (deletes : ℕ → Option DeleteItem) (region : ℕ) (it : DeleteItem)
+    → HasDeletions deletions pending slots kept deletes → region < 65 → deletes region ≡ None → IsDeletingIn slots it
+    → ((r : ℕ) (other : DeleteItem) → deletes r ≡ Some other → other.tag ≢ it.tag) → now ≡ min (pending + 1) 65535
+    → HasDeletions (slice_set deletions region (record { pending = 1; tag = it.tag })) now slots (put_deletion kept region (Some (deletion_in slots region it))) (put_delete deletes region (Some it))
+deletions_begun deletions pending now slots kept deletes region it h within none is others now_is = record {
+  are = λ r. elim (cases_eq r region) [
+    | inl e ↦ subst (λ (z : ℕ). put_deletion kept region (Some (deletion_in slots region it)) z ≡ option_map (deletion_in slots z) (put_delete deletes region (Some it) z)) (sym e)
+        (put-same kept region (Some (deletion_in slots region it)) ∙ ap (option_map (deletion_in slots region)) (sym (put-same deletes region (Some it))))
+    | inr d ↦ put-other kept region (Some (deletion_in slots region it)) r d ∙ h.are r ∙ ap (option_map (deletion_in slots r)) (sym (put-other deletes region (Some it) r d))
+  ];
+  tags = λ r. elim (cases_eq r region) [
+    | inl e ↦ subst (λ (z : ℕ). pending_tag (deletion_at (slice_set deletions region new) z) ≡ option_map (λ (x : DeleteItem). x.tag) (put_delete deletes region (Some it) z)) (sym e)
+        (ap pending_tag (deletion-same deletions region new there) ∙ ap (option_map (λ (x : DeleteItem). x.tag)) (sym (put-same deletes region (Some it))))
+    | inr d ↦ ap pending_tag (deletion-other deletions region new r d) ∙ h.tags r ∙ ap (option_map (λ (x : DeleteItem). x.tag)) (sym (put-other deletes region (Some it) r d))
+  ];
+  items = λ r x at. elim (is_put deletes region (Some it) r x at) [
+    | Here e same ↦ subst (IsDeletingIn slots) (same_Some it x same) is
+    | Elsewhere d there ↦ h.items r x there
+  ];
+  apart = λ r x a b at_r at_x same. elim (is_put deletes region (Some it) r a at_r) [
+    | Here e is_a ↦ elim (is_put deletes region (Some it) x b at_x) [
+      | Here f is_b ↦ e ∙ sym f
+      | Elsewhere d there_b ↦ absurd (others x b there_b (sym same ∙ ap (λ (z : DeleteItem). z.tag) (sym (same_Some it a is_a))))
+    ]
+    | Elsewhere d there_a ↦ elim (is_put deletes region (Some it) x b at_x) [
+      | Here f is_b ↦ absurd (others r a there_a (same ∙ ap (λ (z : DeleteItem). z.tag) (sym (same_Some it b is_b))))
+      | Elsewhere d2 there_b ↦ h.apart r x a b there_a there_b same
+    ]
+  ];
+  counted = now_is ∙ count;
+  size = length-set deletions region new ∙ h.size;
+} where
+  new : Deletion
+  new = record { pending = 1; tag = it.tag }
+
+  there : region < length deletions
+  there = let size = h.size in omega (arith, size, within)
+
+  was : (deletion_at deletions region).pending ≡ 0
+  was = elim (cases_eq (deletion_at deletions region).pending 0) [
+    | inl idle ↦ idle
+    | inr some ↦ absurd (let f = flagged_item deletions pending slots kept deletes h region some in let is = f.is in cc (is, none))
+  ]
+
+  count : min (pending + 1) 65535 ≡ count_pending (slice_set deletions region new)
+  count =
+      let sum = sum_by-set (λ (d : Deletion). one_if (not (d.pending == 0))) deletions region new no_deletion there in
+      let before : one_if (not ((deletion_at deletions region).pending == 0)) ≡ 0 = ap (λ (b : Bool). one_if (not b)) (eq-eqb (deletion_at deletions region).pending 0 was) in
+      omega (arith, sum, before, h.counted, few_pending deletions, h.size)
+
+-- ---- one ends
+pub deletions_ended : (deletions : List Deletion) (pending : ℕ) (slots : List Slot) (kept : ℕ → Option PendingDelete) (deletes : ℕ → Option DeleteItem) (region : ℕ) (it : DeleteItem)
+    → HasDeletions deletions pending slots kept deletes → region < 65 → deletes region ≡ Some it
+    → HasDeletions (slice_set deletions region no_deletion) (pending - 1) slots (put_deletion kept region None) (put_delete deletes region None)
+deletions_ended deletions pending slots kept deletes region it h within is = record {
+  are = λ r. elim (cases_eq r region) [
+    | inl e ↦ subst (λ (z : ℕ). put_deletion kept region None z ≡ option_map (deletion_in slots z) (put_delete deletes region None z)) (sym e)
+        (put-same kept region None ∙ ap (option_map (deletion_in slots region)) (sym (put-same deletes region None)))
+    | inr d ↦ put-other kept region None r d ∙ h.are r ∙ ap (option_map (deletion_in slots r)) (sym (put-other deletes region None r d))
+  ];
+  tags = λ r. elim (cases_eq r region) [
+    | inl e ↦ subst (λ (z : ℕ). pending_tag (deletion_at (slice_set deletions region no_deletion) z) ≡ option_map (λ (x : DeleteItem). x.tag) (put_delete deletes region None z)) (sym e)
+        (ap pending_tag (deletion-same deletions region no_deletion there) ∙ ap (option_map (λ (x : DeleteItem). x.tag)) (sym (put-same deletes region None)))
+    | inr d ↦ ap pending_tag (deletion-other deletions region no_deletion r d) ∙ h.tags r ∙ ap (option_map (λ (x : DeleteItem). x.tag)) (sym (put-other deletes region None r d))
+  ];
+  items = λ r x at. elim (is_put deletes region None r x at) [
+    | Here e same ↦ absurd (cc same)
+    | Elsewhere d there ↦ h.items r x there
+  ];
+  apart = λ r x a b at_r at_x same. elim (is_put deletes region None r a at_r) [
+    | Here e is_a ↦ absurd (cc is_a)
+    | Elsewhere d there_a ↦ elim (is_put deletes region None x b at_x) [
+      | Here f is_b ↦ absurd (cc is_b)
+      | Elsewhere d2 there_b ↦ h.apart r x a b there_a there_b same
+    ]
+  ];
+  counted = count;
+  size = length-set deletions region no_deletion ∙ h.size;
+} where
+  there : region < length deletions
+  there = let size = h.size in omega (arith, size, within)
+
+  count : pending - 1 ≡ count_pending (slice_set deletions region no_deletion)
+  count =
+      let sum = sum_by-set (λ (d : Deletion). one_if (not (d.pending == 0))) deletions region no_deletion no_deletion there in
+      let before : one_if (not ((deletion_at deletions region).pending == 0)) ≡ 1 =
+      ap (λ (b : Bool). one_if (not b)) (ne_eqb (deletion_at deletions region).pending 0 (item_flagged deletions pending slots kept deletes h region it is)) in
+      omega (arith, sum, before, h.counted)
