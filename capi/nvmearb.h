@@ -43,10 +43,10 @@
  *   7. nvmearb_ctrl_complete, or nvmearb_ctrl_complete_with, for each command that ends, in any order and at any time.
  *   8. For each completion region, while nvmearb_ctrl_post gives a completion: write its bytes into the slot of the
  *      ring, Command Dword 3 last, since it has the phase tag, and then send the interrupt.
- *   9. After a pick that began a deletion (NVMEARB_BEGIN_DELETE), nvmearb_ctrl_finish after each 8., until it ends the
- *      deletion. Until then nothing is fetched or picked of any queue, the admin queue included; what the device has of
- *      any queue may still be completed and posted. So one command of the deleted queue that the device is slow to
- *      complete, or a full ring of its completion queue, stops all queues for as long.
+ *   9. After a pick that began a deletion (NVMEARB_BEGIN_DELETE), nvmearb_ctrl_finish after each 8., while it ends one.
+ *      Until then nothing is fetched or picked of that queue, and its Delete isn't answered; what the device has of it
+ *      may still be completed and posted. Other queues go on, the admin queue among them, and further deletions may
+ *      begin: each waits for the commands of its own queue.
  *  10. Go back to 5., for every queue, until a pass does nothing: picks make room for fetches, posts for picks
  *      (NVMEARB_FULL), and the end of a deletion for both. The completion of its Delete is posted in the next pass.
  *
@@ -74,9 +74,8 @@
  *
  * Restrictions. A Create is accepted only for a region that was added before, that no queue has used, and that has
  * exactly QSIZE + 1 slots; PC must be 1. So CAP.MQES is at most 4095, and CAP.CQR is 1. There are at most
- * NVMEARB_MAX_REGIONS of a kind until the next nvmearb_ctrl_init, and no two have one address. One deletion at a time
- * is pending. At most 256 commands are picked and have no completion posted; an Asynchronous Event Request that the
- * device holds is one of them.
+ * NVMEARB_MAX_REGIONS of a kind until the next nvmearb_ctrl_init, and no two have one address. At most 256 commands are
+ * picked and have no completion posted; an Asynchronous Event Request that the device holds is one of them.
  *
  * Save and restore. A controller and its slots are numbers without a pointer, so both together may be moved, or saved
  * as bytes and restored by the same version of the library, if what is restored takes the place of the first.
@@ -161,7 +160,7 @@ extern "C" {
 #define NVMEARB_EUSED 4u  /* another region has this address */
 #define NVMEARB_EMANY 5u  /* there are NVMEARB_MAX_REGIONS regions of this kind */
 #define NVMEARB_ESIZE 6u  /* a region has 2 to 4096 slots */
-#define NVMEARB_BUSY 7u   /* nothing can be picked yet: commands are to be taken, or a deletion is to be finished */
+#define NVMEARB_BUSY 7u   /* nothing can be picked yet: commands are to be taken */
 #define NVMEARB_FULL 8u   /* nothing can be picked yet: too many commands were picked and aren't completed */
 
 /* The length of a submission and of a completion entry in bytes. */
@@ -433,7 +432,7 @@ typedef struct nvmearb_slot {
 typedef struct nvmearb_ctrl {
     uint64_t mark;
     size_t count; /* the number of its slots */
-    uint64_t words[730];
+    uint64_t words[762];
 } nvmearb_ctrl;
 
 /* What a controller is made with. */
@@ -727,7 +726,8 @@ uint32_t nvmearb_ctrl_cq_head(nvmearb_ctrl *ctrl, uint16_t cqid, uint16_t head);
 /*
  * Writes the slot of the ring of a submission queue whose entry is fetched next.
  * NVMEARB_ESTATE if `ctrl` isn't valid; otherwise NVMEARB_NONE if the queue isn't open, the host submitted no more, as
- * many of its commands wait as the window or the ring allows, no slot of `ctrl` is free, or a deletion is pending.
+ * many of its commands wait as the window or the ring allows, or no slot of `ctrl` is free. A queue isn't open any more
+ * once its deletion began.
  */
 uint32_t nvmearb_ctrl_fetch(const nvmearb_ctrl *ctrl, uint16_t qid, uint16_t *slot);
 
@@ -751,9 +751,9 @@ uint32_t nvmearb_ctrl_peek(const nvmearb_ctrl *ctrl, const nvmearb_slot *slots, 
  * Makes the next pick of arbitration, and writes what it did. An admin command that isn't the device's is carried out
  * at once: queues are created, a deletion begins and the waiting commands of its queue are answered with 0/08, a
  * waiting command is aborted with 0/07, features are set and told.
- * NVMEARB_ESTATE, NVMEARB_EARG as nvmearb_ctrl_fetched; otherwise NVMEARB_BUSY if commands are picked and not taken or
- * a deletion is pending; otherwise NVMEARB_NONE if no command waits; otherwise NVMEARB_FULL if more than 256 commands
- * would be picked, or aborted by an Abort, and have no completion posted.
+ * NVMEARB_ESTATE, NVMEARB_EARG as nvmearb_ctrl_fetched; otherwise NVMEARB_BUSY if commands are picked and not taken;
+ * otherwise NVMEARB_NONE if no command waits; otherwise NVMEARB_FULL if more than 256 commands would be picked, or
+ * aborted by an Abort, and have no completion posted.
  */
 uint32_t nvmearb_ctrl_pick(nvmearb_ctrl *ctrl, nvmearb_slot *slots, size_t count, nvmearb_step *step);
 
@@ -787,10 +787,11 @@ uint32_t nvmearb_ctrl_complete_with(nvmearb_ctrl *ctrl, nvmearb_slot *slots, siz
 uint32_t nvmearb_ctrl_post(nvmearb_ctrl *ctrl, nvmearb_slot *slots, size_t count, uint16_t region, nvmearb_post *post);
 
 /*
- * Finishes the pending deletion of a submission queue, and writes its identifier, which is free then. The completion of
- * the Delete is ready then.
- * NVMEARB_ESTATE, NVMEARB_EARG as nvmearb_ctrl_fetched; otherwise NVMEARB_NONE if no deletion is pending, or a command
- * that was fetched from the queue has no completion posted yet.
+ * Finishes a deletion of a submission queue, all of whose commands have their completions posted, and writes its
+ * identifier, which is free then. The completion of the Delete is ready then. Of several it is that of the first
+ * region.
+ * NVMEARB_ESTATE, NVMEARB_EARG as nvmearb_ctrl_fetched; otherwise NVMEARB_NONE if of each queue that is being deleted a
+ * command that was fetched has no completion posted yet.
  */
 uint32_t nvmearb_ctrl_finish(nvmearb_ctrl *ctrl, nvmearb_slot *slots, size_t count, uint16_t *qid);
 

@@ -6,7 +6,7 @@
 #include "tell.h"
 
 _Static_assert(sizeof(nvmearb_slot) == 80, "nvmearb_slot");
-_Static_assert(sizeof(nvmearb_ctrl) == 5856, "nvmearb_ctrl");
+_Static_assert(sizeof(nvmearb_ctrl) == 6112, "nvmearb_ctrl");
 _Static_assert(sizeof(nvmearb_config) == 48 && offsetof(nvmearb_config, window) == 44, "nvmearb_config");
 _Static_assert(sizeof(nvmearb_step) == 36 && offsetof(nvmearb_step, pick) == 28, "nvmearb_step");
 _Static_assert(sizeof(nvmearb_command) == 72 && offsetof(nvmearb_command, tag) == 68, "nvmearb_command");
@@ -279,7 +279,7 @@ static void abort_and_deletion(void)
     CHECK(fetched(0, 3, NVMEARB_OPC_DELETE_SQ, 13, 0, 1, 0));
     CHECK(posted(1, 0, 3, 42, 1, requested, 0) && posted(0, 2, 4, 12, 1, success, 0));
     CHECK(nvmearb_ctrl_finish(&ctrl, slots, SLOTS, &qid) == NVMEARB_NONE && carried_out(NVMEARB_BEGIN_DELETE));
-    CHECK(picks_none(NVMEARB_BUSY) && nvmearb_ctrl_sq_tail(&ctrl, 1, 0) == NVMEARB_NONE);
+    CHECK(picks_none(NVMEARB_NONE) && nvmearb_ctrl_sq_tail(&ctrl, 1, 0) == NVMEARB_NONE);
     CHECK(none_to_fetch(0) && none_to_fetch(1) && nvmearb_ctrl_sq(&ctrl, 1, &qid) == NVMEARB_NONE);
     CHECK(posted(1, 1, 3, 41, 1, deleted, 0) && none_to_post(1));
     CHECK(nvmearb_ctrl_finish(&ctrl, slots, SLOTS, &qid) == NVMEARB_NONE && qid == 0xeeee);
@@ -292,6 +292,28 @@ static void abort_and_deletion(void)
     CHECK(nvmearb_ctrl_sq_tail(&ctrl, 0, 1) == NVMEARB_OK);
     CHECK(fetched(0, 0, NVMEARB_OPC_GET_FEATURES, 1, 0, NVMEARB_FID_ARBITRATION, 0) && carried_out(NVMEARB_DONE));
     CHECK(posted(0, 0, 1, 1, 1, success, 7));
+}
+
+/* Two queues are deleted at once, while the device has a command of the first. The admin queue goes on. */
+static void two_deletions(void)
+{
+    uint16_t qid = 0xeeee, tag = 0, number = 0;
+    CHECK(is_prepared(NVMEARB_ROUND_ROBIN));
+    CHECK(nvmearb_ctrl_add_sq_region(&ctrl, SQ + 0x2000, 4, &number) == NVMEARB_OK && number == 2);
+    CHECK(nvmearb_ctrl_sq_tail(&ctrl, 1, 1) == NVMEARB_OK && read_fetched(0, 40) && picked(1) && taken(40, &tag));
+    CHECK(nvmearb_ctrl_sq_tail(&ctrl, 0, 6) == NVMEARB_OK);
+    CHECK(fetched(0, 2, NVMEARB_OPC_CREATE_SQ, 12, SQ + 0x2000, 0x00030002, 0x00010001) &&
+          carried_out(NVMEARB_OPEN_SQ));
+    CHECK(fetched(0, 3, NVMEARB_OPC_DELETE_SQ, 13, 0, 1, 0) && carried_out(NVMEARB_BEGIN_DELETE));
+    CHECK(fetched(0, 4, NVMEARB_OPC_DELETE_SQ, 14, 0, 2, 0) && carried_out(NVMEARB_BEGIN_DELETE));
+    CHECK(fetched(0, 5, NVMEARB_OPC_GET_FEATURES, 15, 0, NVMEARB_FID_ARBITRATION, 0) && carried_out(NVMEARB_DONE));
+    CHECK(posted(0, 2, 6, 12, 1, success, 0) && posted(0, 3, 6, 15, 1, success, 7) && none_to_post(0));
+    CHECK(nvmearb_ctrl_finish(&ctrl, slots, SLOTS, &qid) == NVMEARB_OK && qid == 2);
+    CHECK(nvmearb_ctrl_finish(&ctrl, slots, SLOTS, &qid) == NVMEARB_NONE && qid == 2);
+    CHECK(posted(0, 4, 6, 14, 1, success, 0) && completes(tag, success, 0, NVMEARB_OK));
+    CHECK(nvmearb_ctrl_finish(&ctrl, slots, SLOTS, &qid) == NVMEARB_NONE && posted(1, 0, 1, 40, 1, success, 0));
+    CHECK(nvmearb_ctrl_finish(&ctrl, slots, SLOTS, &qid) == NVMEARB_OK && qid == 1);
+    CHECK(posted(0, 5, 6, 13, 1, success, 0) && none_to_post(0) && picks_none(NVMEARB_NONE));
 }
 
 /* The window, and a pool without a free slot. */
@@ -607,6 +629,7 @@ int main(void)
     regions();
     rings_go_round();
     abort_and_deletion();
+    two_deletions();
     windows_and_slots();
     marks();
     own_opcodes();

@@ -38,6 +38,7 @@ struct sq {
     uint16_t slots;
     uint64_t submitted, fetched;
     unsigned unposted;
+    uint16_t deleting, closing; /* the Delete whose deletion is pending, or NO_COMMAND; its queue */
     struct list waiting;
 };
 struct cq {
@@ -49,12 +50,12 @@ struct cq {
 
 static struct account {
     struct command commands[SLOTS];
-    unsigned slots, held, places, window, nsqs, ncqs;
+    unsigned slots, held, places, window, nsqs, ncqs, pending;
     int is_slow; /* the device hardly completes anything */
     struct sq sqs[NVMEARB_MAX_REGIONS];
     struct cq cqs[NVMEARB_MAX_REGIONS];
     struct list picked;
-    uint16_t by_tag[SLOTS], deleting, closing; /* numbers of commands, or NO_COMMAND; the queue that is being deleted */
+    uint16_t by_tag[SLOTS]; /* numbers of commands, or NO_COMMAND */
     nvmearb_table table;
     nvmearb_arbiter arbiter;
     uint8_t opcodes[256], fids[256]; /* 1 for those that are the device's */
@@ -193,7 +194,7 @@ static struct {
 #define POOL room.slots, account.slots
 
 static struct {
-    uint64_t ok, none, busy, full, refused, passed, deletions, aborts, marked, created, made;
+    uint64_t ok, none, busy, full, refused, passed, deletions, together, aborts, marked, created, made;
 } tally;
 
 /* Whether a call answered what it had to. */
@@ -218,7 +219,8 @@ static int make(void)
     config.window = windows[upto(5)];
     account.window = config.window;
     account.slots = upto(3) ? SLOTS : 1 + upto(SLOTS);
-    account.deleting = NO_COMMAND;
+    for (unsigned region = 0; region < NVMEARB_MAX_REGIONS; region++)
+        account.sqs[region].deleting = NO_COMMAND;
     for (unsigned tag = 0; tag < SLOTS; tag++)
         account.by_tag[tag] = NO_COMMAND;
     account.is_slow = upto(3) == 0;
@@ -308,8 +310,8 @@ static int rings_head(void)
 static int may_fetch(const struct sq *sq)
 {
     unsigned window = account.window > NVMEARB_MAX_COUNT ? NVMEARB_MAX_COUNT : account.window;
-    return sq && account.deleting == NO_COMMAND && sq->fetched < sq->submitted && sq->waiting.n < window &&
-           sq->waiting.n + 1u < sq->slots && account.held < account.slots;
+    return sq && sq->fetched < sq->submitted && sq->waiting.n < window && sq->waiting.n + 1u < sq->slots &&
+           account.held < account.slots;
 }
 
 static uint16_t free_number(void)
@@ -379,13 +381,17 @@ static uint16_t pulled(struct sq *sq)
     return number;
 }
 
-/* All commands that wait in a queue whose deletion begins are aborted. */
-static void abort_all(uint16_t qid)
+/* The deletion of a queue begins, by this command. All commands that wait in the queue are aborted. */
+static void begin_deletion(uint16_t qid, uint16_t number)
 {
     nvmearb_queue queue;
     nvmearb_table_sq(&account.table, qid, &queue);
-    for (struct list *list = &account.sqs[queue.region].waiting; list->n;)
-        answered(pull(list, 0), (nvmearb_status){0, NVMEARB_SC_ABORTED_BY_DELETION}, 0);
+    struct sq *sq = &account.sqs[queue.region];
+    while (sq->waiting.n)
+        answered(pull(&sq->waiting, 0), (nvmearb_status){0, NVMEARB_SC_ABORTED_BY_DELETION}, 0);
+    sq->deleting = number;
+    sq->closing = qid;
+    tally.together += account.pending++ > 0;
 }
 
 /* The oldest command with this identifier that waits in a queue is aborted, if there is one. */
@@ -416,9 +422,7 @@ static int carries_out(uint16_t number, const nvmearb_step *step)
         return 0;
     tally.created += answer.verdict == NVMEARB_OPEN_SQ;
     if (answer.verdict == NVMEARB_BEGIN_DELETE) {
-        abort_all(answer.qid);
-        account.deleting = number;
-        account.closing = answer.qid;
+        begin_deletion(answer.qid, number);
         return 1;
     }
     if (answer.verdict == NVMEARB_SET_ARBITRATION)
@@ -467,7 +471,7 @@ static int picks(void)
     uint32_t want = nvmearb_arbiter_peek(&account.arbiter, seen, n, &pick);
     if (!is_right(nvmearb_ctrl_peek(CTRL, POOL, &found), want) || memcmp(&pick, &found, sizeof pick))
         return 0;
-    if (account.picked.n || account.deleting != NO_COMMAND) {
+    if (account.picked.n) {
         want = NVMEARB_BUSY;
     } else if (want == NVMEARB_OK) {
         const struct command *oldest = &account.commands[account.sqs[0].waiting.at[0]];
@@ -581,21 +585,22 @@ static int posts(void)
     return 1;
 }
 
+/* The deletion of the first region that has one whose commands are all posted is finished. */
 static int finishes(void)
 {
     uint16_t found = 0xffff;
-    nvmearb_queue queue;
-    uint32_t want = NVMEARB_NONE;
-    if (account.deleting != NO_COMMAND && nvmearb_table_sq(&account.table, account.closing, &queue) == NVMEARB_OK)
-        want = account.sqs[queue.region].unposted ? NVMEARB_NONE : NVMEARB_OK;
-    if (!is_right(nvmearb_ctrl_finish(CTRL, POOL, &found), want))
+    struct sq *sq = account.sqs, *end = sq + NVMEARB_MAX_REGIONS;
+    while (sq < end && (sq->deleting == NO_COMMAND || sq->unposted))
+        sq++;
+    if (!is_right(nvmearb_ctrl_finish(CTRL, POOL, &found), sq < end ? NVMEARB_OK : NVMEARB_NONE))
         return 0;
-    if (want != NVMEARB_OK)
+    if (sq == end)
         return 1;
-    answered(account.deleting, (nvmearb_status){0, 0}, 0);
-    account.deleting = NO_COMMAND;
+    answered(sq->deleting, (nvmearb_status){0, 0}, 0);
+    sq->deleting = NO_COMMAND;
+    account.pending--;
     tally.deletions++;
-    return found == account.closing && nvmearb_table_finish_delete(&account.table, found) == NVMEARB_OK;
+    return found == sq->closing && nvmearb_table_finish_delete(&account.table, found) == NVMEARB_OK;
 }
 
 /* The look-ups of a queue and of a tag. */
@@ -657,6 +662,6 @@ int main(int count, char **words)
            (uintmax_t)tally.made, (uintmax_t)tally.created, (uintmax_t)tally.deletions, (uintmax_t)tally.aborts,
            (uintmax_t)tally.passed, (uintmax_t)tally.marked);
     CHECK(holds && is_whole() && made >= most);
-    CHECK(tally.busy && tally.full && tally.created && tally.deletions && tally.aborts && tally.passed && tally.marked);
+    CHECK(tally.busy && tally.full && tally.created && tally.deletions && tally.together && tally.aborts && tally.passed && tally.marked);
     return told();
 }

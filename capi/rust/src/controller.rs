@@ -143,14 +143,15 @@ impl Post {
 ///    time.
 /// 7. For each completion region, while [`Controller::post`] gives a completion: write it into the slot of the ring,
 ///    and then send the interrupt.
-/// 8. After a pick that began a deletion, [`Controller::finish`] after each 7., until it ends the deletion. Until then
-///    nothing is fetched or picked; what the device has of any queue may still be completed.
+/// 8. After a pick that began a deletion, [`Controller::finish`] after each 7., while it ends one. Until then nothing is
+///    fetched or picked of that queue; what the device has of it may still be completed. Other queues go on, and further
+///    deletions may begin.
 ///
 /// An admin command that is neither the controller's own nor the device's is answered with [`Status::INVALID_OPCODE`],
 /// and Set and Get Features of such a feature identifier with [`Status::INVALID_FIELD`]. A Create names a region that
 /// was added before. There are at most 65 of a kind until the next reset; an address is that of one, and one queue uses
-/// it, once. One deletion at a time is pending. At most 256 commands are picked and have no completion posted; an
-/// Asynchronous Event Request that the device holds is one of them.
+/// it, once. At most 256 commands are picked and have no completion posted; an Asynchronous Event Request that the
+/// device holds is one of them.
 ///
 /// It isn't `Clone`: two copies would post the same completions.
 ///
@@ -271,8 +272,8 @@ impl Controller {
     }
 
     /// The slot of the ring of a submission queue whose entry is fetched next. None if the queue isn't open, the host
-    /// submitted no more, as many of its commands wait as the window or the ring allows, no slot of the controller is
-    /// free, or a deletion is pending.
+    /// submitted no more, as many of its commands wait as the window or the ring allows, or no slot of the controller
+    /// is free. A queue isn't open any more once its deletion began.
     pub fn fetch(&self, qid: u16) -> Option<u16> {
         // SAFETY: references.
         sure(found(|slot| unsafe { sys::nvmearb_ctrl_fetch(&*self.ctrl, qid, slot) }))
@@ -303,8 +304,8 @@ impl Controller {
     /// with [`Status::ABORTED_BY_DELETION`], a waiting command is aborted with [`Status::ABORT_REQUESTED`], features
     /// are set and told.
     ///
-    /// [`Error::Busy`]: commands are picked and not taken, or a deletion is pending. [`Error::Full`]: more than 256
-    /// commands would be picked, or aborted by an Abort, and have no completion posted.
+    /// [`Error::Busy`]: commands are picked and not taken. [`Error::Full`]: more than 256 commands would be picked, or
+    /// aborted by an Abort, and have no completion posted.
     pub fn pick(&mut self) -> Result<Option<Step>, Error> {
         let (ctrl, slots, count) = self.parts();
         // SAFETY: references, and the slots are those of the state.
@@ -350,9 +351,9 @@ impl Controller {
         Ok(post.as_ref().map(Post::of))
     }
 
-    /// Finishes the pending deletion of a submission queue, and answers its identifier, which is free then. The
-    /// completion of the Delete is ready then. None if no deletion is pending, or a command that was fetched from the
-    /// queue has no completion posted yet.
+    /// Finishes a deletion of a submission queue, all of whose commands have their completions posted, and answers its
+    /// identifier, which is free then. The completion of the Delete is ready then. Of several it is that of the first
+    /// region. None if of each queue that is being deleted a command that was fetched has no completion posted yet.
     pub fn finish(&mut self) -> Option<u16> {
         let (ctrl, slots, count) = self.parts();
         // SAFETY: references, and the slots are those of the state.

@@ -17,7 +17,7 @@ pub enum Error {
     TooMany,
     /// A region has 2 to 4096 slots. (`NVMEARB_ESIZE`)
     Size,
-    /// Nothing can be picked yet: commands are to be taken, or a deletion is to be finished. (`NVMEARB_BUSY`)
+    /// Nothing can be picked yet: commands are to be taken. (`NVMEARB_BUSY`)
     Busy,
     /// Nothing can be picked yet: too many commands were picked and aren't completed. (`NVMEARB_FULL`)
     Full,
@@ -31,7 +31,7 @@ impl fmt::Display for Error {
             Error::Used => "another region has this address",
             Error::TooMany => "there are 65 regions of this kind",
             Error::Size => "a region has 2 to 4096 slots",
-            Error::Busy => "commands are to be taken, or a deletion is to be finished, before the next pick",
+            Error::Busy => "commands are to be taken before the next pick",
             Error::Full => "too many commands were picked and aren't completed",
         })
     }

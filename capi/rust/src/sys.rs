@@ -300,7 +300,7 @@ pub const NVMEARB_MAX_SLOTS: usize = 65535;
 pub struct nvmearb_ctrl {
     pub mark: u64,
     pub count: usize,
-    pub words: [u64; 730],
+    pub words: [u64; 762],
 }
 
 #[repr(C)]
@@ -376,7 +376,7 @@ const _: () = {
     assert!(size_of::<nvmearb_answer>() == 24);
     assert!(size_of::<nvmearb_queue>() == 8);
     assert!(size_of::<nvmearb_slot>() == 80);
-    assert!(size_of::<nvmearb_ctrl>() == 5856);
+    assert!(size_of::<nvmearb_ctrl>() == 6112);
     assert!(size_of::<nvmearb_config>() == 48);
     assert!(size_of::<nvmearb_step>() == 36);
     assert!(size_of::<nvmearb_command>() == 72);

@@ -214,7 +214,7 @@ fn deletion_waits_for_its_commands() {
     fetched(&mut ctrl, 0, 2, admin(DELETE_SQ, 13, 0, 1, 0));
     assert_eq!(ctrl.finish(), None);
     assert_eq!(carried_out(&mut ctrl), Verdict::BeginDelete { qid: 1 });
-    assert_eq!((ctrl.pick(), ctrl.sq_tail(1, 0)), (Err(Error::Busy), Err(DoorbellError::Register)));
+    assert_eq!((ctrl.pick(), ctrl.sq_tail(1, 0)), (Ok(None), Err(DoorbellError::Register)));
     assert_eq!((ctrl.fetch(0), ctrl.fetch(1), ctrl.sq(1), ctrl.waiting(1)), (None, None, None, None));
     posted(&mut ctrl, 1, (0, 2, 41, true, Status::ABORTED_BY_DELETION, 0));
     assert_eq!((ctrl.finish(), ctrl.complete(tag, Status::SUCCESS, 0), ctrl.finish()), (None, Ok(()), None));

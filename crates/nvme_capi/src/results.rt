@@ -21,7 +21,7 @@ pub const TOO_MANY: u32 = 5;
 /// The number of slots is out of range for a region, 2 to 4,096. Nothing changed.
 pub const BAD_SIZE: u32 = 6;
 
-/// Nothing can be picked yet: picked commands are to be taken, or a deletion is pending.
+/// Nothing can be picked yet: picked commands are to be taken.
 pub const BUSY: u32 = 7;
 
 /// Nothing can be picked yet: the next pick needs more places than are free.

@@ -323,7 +323,8 @@ pub extern "C" fn nvmearb_ctrl_post(
     }
 }
 
-/// Finishes the pending deletion, if all completions of its queue are posted, and writes the identifier of the queue.
+/// Finishes a deletion, if all completions of its queue are posted, and writes the identifier of the queue. Of several
+/// the first region's is finished.
 #[unsafe(no_mangle)]
 pub extern "C" fn nvmearb_ctrl_finish(
     state: &mut CtrlState,

@@ -22,7 +22,7 @@ pub struct CtrlState {
 }
 
 // The header has these sizes.
-const _: () = prove!(size_of::<CtrlState>() == 5856);
+const _: () = prove!(size_of::<CtrlState>() == 6112);
 
 const _: () = prove!(size_of::<Slot>() == 80);
 
