@@ -10,7 +10,7 @@ use std::alloc::AllocError;
 use std::process::Abort;
 use std::test::*;
 
-// The regions of the admin rings, and the addresses of those of the I/O queue pair.
+// The regions of the admin rings, and the addresses of those of the I/O queue pair and of a second submission queue.
 const ASQ: Region = Region {
     address: 0x1000,
     slots: 8,
@@ -24,6 +24,8 @@ const ACQ: Region = Region {
 const SQ: u64 = 0x3000;
 
 const CQ: u64 = 0x4000;
+
+const SECOND: u64 = 0x5000;
 
 // What the device answers to a command that succeeds.
 const DONE: Answer = Answer {
@@ -334,7 +336,8 @@ fn abort_one(rt: &impl Abort, ctrl: &mut Controller, slots: &mut [Slot])
     post(rt, ctrl, slots, 0, (2, 3, 12, true), Status::SUCCESS);
 }
 
-// Delete of submission queue 1: nothing is fetched or picked any more. (Base Specification, Delete I/O Submission Queue)
+// Delete of submission queue 1: nothing of it is fetched or picked any more. (Base Specification, Delete I/O Submission
+// Queue)
 fn begin_delete(rt: &impl Abort, ctrl: &mut Controller, slots: &mut [Slot])
     requires { IsController ctrl.old slots.old }
     ensures { IsController ctrl.new slots.new }
@@ -343,7 +346,7 @@ fn begin_delete(rt: &impl Abort, ctrl: &mut Controller, slots: &mut [Slot])
     tail(rt, ctrl, slots, 0, 4, true);
     fetch(rt, ctrl, slots, 0, 3, &delete);
     step(rt, ctrl, slots, true);
-    assert_eq!(rt; ctrl.pick(slots), Step::Busy);
+    assert_eq!(rt; ctrl.pick(slots), Step::Idle);
     tail(rt, ctrl, slots, 1, 0, false);
     assert_eq!(rt; (ctrl.fetch(0), ctrl.fetch(1)), (None, None));
     assert_eq!(rt; ctrl.finish(slots), None);
@@ -363,6 +366,54 @@ fn abort_and_deletion_end_what_waits(rt: HostRuntime) -> Result<(), Fail> {
     assert_eq!(rt; ctrl.post(&mut slots, 0), None);
     assert_eq!(rt; ctrl.finish(&mut slots), Some(1));
     let last = (3, 4, 13, true);
+    post(&rt, &mut ctrl, &mut slots, 0, last, Status::SUCCESS);
+    assert_eq!(rt; ctrl.pick(&mut slots), Step::Idle);
+    Ok(())
+}
+
+// The host creates submission queue 2 on its region, and deletes it and queue 1. Then it asks for the Arbitration feature,
+// while both are being deleted. (Base Specification, Get Features)
+fn delete_both(rt: &impl Abort, ctrl: &mut Controller, slots: &mut [Slot])
+    requires { IsController ctrl.old slots.old }
+    ensures { IsController ctrl.new slots.new }
+{
+    tail(rt, ctrl, slots, 0, 6, true);
+    fetch(rt, ctrl, slots, 0, 2, &entry(0x01, 12, SECOND, 0x0003_0002, 0x0001_0001));
+    step(rt, ctrl, slots, true);
+    fetch(rt, ctrl, slots, 0, 3, &entry(0x00, 13, 0, 1, 0));
+    step(rt, ctrl, slots, true);
+    fetch(rt, ctrl, slots, 0, 4, &entry(0x00, 14, 0, 2, 0));
+    step(rt, ctrl, slots, true);
+    fetch(rt, ctrl, slots, 0, 5, &entry(0x0a, 15, 0, 1, 0));
+    step(rt, ctrl, slots, true);
+    post(rt, ctrl, slots, 0, (2, 6, 12, true), Status::SUCCESS);
+    post(rt, ctrl, slots, 0, (3, 6, 15, true), Status::SUCCESS);
+    assert_eq!(rt; ctrl.post(slots, 0), None);
+}
+
+// The device has a command of queue 1, so the deletion of queue 2 ends first.
+#[test]
+fn deletions_are_apart(rt: HostRuntime) -> Result<(), Fail> {
+    let mut slots = [Slot::free(); 16];
+    let mut ctrl = prepared(&rt, Mechanism::RoundRobin, &mut slots)?;
+    ctrl.add_sq_region(SECOND, 4)?;
+    tail(&rt, &mut ctrl, &slots, 1, 1, true);
+    fetch(&rt, &mut ctrl, &mut slots, 1, 0, &read(40));
+    step(&rt, &mut ctrl, &mut slots, false);
+    let Some(tag) = ctrl.take(&mut slots) else {
+        return Err(Fail::from(AllocError));
+    };
+    delete_both(&rt, &mut ctrl, &mut slots);
+    assert_eq!(rt; ctrl.finish(&mut slots), Some(2));
+    assert_eq!(rt; ctrl.finish(&mut slots), None);
+    let last = (4, 6, 14, true);
+    post(&rt, &mut ctrl, &mut slots, 0, last, Status::SUCCESS);
+    assert!(rt; ctrl.complete(&mut slots, tag, DONE));
+    assert_eq!(rt; ctrl.finish(&mut slots), None);
+    let last = (0, 1, 40, true);
+    post(&rt, &mut ctrl, &mut slots, 1, last, Status::SUCCESS);
+    assert_eq!(rt; ctrl.finish(&mut slots), Some(1));
+    let last = (5, 6, 13, true);
     post(&rt, &mut ctrl, &mut slots, 0, last, Status::SUCCESS);
     assert_eq!(rt; ctrl.pick(&mut slots), Step::Idle);
     Ok(())
