@@ -115,3 +115,4 @@ mod PassedNotes
 mod NamedTags
 mod WaitingNames
 mod AbortNotes
+mod KeptRanges

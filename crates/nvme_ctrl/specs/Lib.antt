@@ -14,5 +14,6 @@ pub mod Calls
 pub mod Posts
 pub mod Steps
 pub mod Making
+pub mod Ranges
 pub mod Laws
 pub mod Examples

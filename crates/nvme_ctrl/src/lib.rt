@@ -23,6 +23,7 @@ mod marks;
 mod own;
 mod picks;
 mod posts;
+mod ranges;
 mod ring;
 mod slot;
 mod state;
