@@ -59,12 +59,22 @@
  * Create that was picked before named the token; one for which no region could be added has the host's address.
  * capi/examples/nvme.c does this (`place`).
  *
+ * Holding a queue. While a device can't serve a queue, say since a namespace of it is busy, nvmearb_ctrl_hold leaves it
+ * out of arbitration, and the others go on. nvmearb_ctrl_set_class gives it another priority class.
+ *
+ * Aborts. The controller aborts a command that waits: it is answered with 0/07, Command Abort Requested. An Abort that
+ * names any other command is answered with 1 as Command Dword 0, not aborted, unless the device announced
+ * NVMEARB_OPC_ABORT by nvmearb_ctrl_own_opcode. Then it is passed on to the device, which looks up the tag of that
+ * command by nvmearb_ctrl_named, ends it if it can (with 0/07), and completes the Abort with 0 as Command Dword 0, or 1
+ * where it couldn't. Where the host has more Aborts out than Identify allows (ACL), the device completes one with 1/03,
+ * Abort Command Limit Exceeded. capi/examples/admin.c ends Asynchronous Event Requests so.
+ *
  * What the caller of a controller owes, beside what is said of all calls below:
  *
  *   - It hands each call the array of slots that it gave to nvmearb_ctrl_init, and writes neither into it nor into the
  *     controller. These calls trust what is in both: where anything else is written behind a right mark, a call may
  *     read and write beyond the controller and its slots. Memory that was never initialised has no mark but by chance;
- *     zeros have none.
+ *     zeros have none. nvmearb_ctrl_verify finds most of what was written there.
  *   - It reads no slot of a ring but the one that nvmearb_ctrl_fetch tells, and posts no completion but those of
  *     nvmearb_ctrl_post. A ring of `slots` slots has 64 or 16 bytes for each, from the address of its region on.
  *   - It keeps the interrupt vector and enable bit of a Create (its Command Dword 11), if it has interrupts.
@@ -115,7 +125,7 @@
  *
  * Every function is proved (crates/nvme_capi). None allocates, waits, starts a thread, or reads or writes anything but
  * what its arguments point to, and all return. Every bit pattern of the arguments is answered, but for that of a
- * controller and its slots (above). Left to the caller:
+ * controller and its slots (above), which nvmearb_ctrl_verify alone takes with any content. Left to the caller:
  *
  *   - A pointer isn't null, is aligned for its type, and points to as many objects as its comment says, which live at
  *     least as long as the call. This holds for an array of length 0 too.
@@ -129,9 +139,9 @@
  * interrupts was given.
  *
  * Numbers are in the machine's byte order, and bytes of entries in the specification's. The library is built for x86-64
- * (x86-64-v2, System V calling convention). Link with -lnvmearb; the only other symbols are memcpy and memset. With
- * pkg-config: cc program.c $(pkg-config --cflags --libs nvmearb). Until version 1.0 any release may change what this
- * header declares.
+ * (x86-64-v2, System V calling convention), and the README ("Install") says how for AArch64. Link with -lnvmearb; the
+ * only other symbols are memcpy and memset. With pkg-config: cc program.c $(pkg-config --cflags --libs nvmearb). Until
+ * version 1.0 any release may change what this header declares.
  */
 #ifndef NVMEARB_H
 #define NVMEARB_H
@@ -693,9 +703,9 @@ uint32_t nvmearb_ctrl_add_cq_region(nvmearb_ctrl *ctrl, uint64_t address, uint16
 /*
  * From now on the admin commands of this opcode are the device's: they are picked in their turn, and the device takes
  * and completes them as it does commands of I/O queues, at any later time (an Asynchronous Event Request waits like
- * this). nvmearb_ctrl_init forgets it. The opcodes 00h, 01h, 04h, 05h, 09h and 0Ah stay the controller's, and so does
- * a fused command, which it refuses. Of Aborts (08h) the device's are those that name no command that waits, which the
- * device answers with bit 0 of Command Dword 0 clear if it aborted the command. The device checks PSDT.
+ * this). nvmearb_ctrl_init forgets it. The opcodes 00h, 01h, 04h, 05h, 09h and 0Ah stay the controller's, and so does a
+ * fused command, which it refuses. The device checks PSDT. Of Abort, 08h, an announced one is the device's where it
+ * names no command that waits ("Aborts" above).
  * NVMEARB_ESTATE if `ctrl` isn't valid.
  */
 uint32_t nvmearb_ctrl_own_opcode(nvmearb_ctrl *ctrl, uint8_t opcode);
@@ -707,6 +717,24 @@ uint32_t nvmearb_ctrl_own_opcode(nvmearb_ctrl *ctrl, uint8_t opcode);
  * NVMEARB_ESTATE if `ctrl` isn't valid.
  */
 uint32_t nvmearb_ctrl_own_feature(nvmearb_ctrl *ctrl, uint8_t fid);
+
+/*
+ * From now on no command of a submission queue is picked, if `on` is 1, or they are again, if it is 0. What waits in it
+ * stays there, and up to the window it is fetched as before; an Abort and a deletion still end it. Commands that were
+ * picked stay picked. The queue may be the admin queue. A queue that is created anew isn't held.
+ * NVMEARB_ESTATE if `ctrl` isn't valid; otherwise NVMEARB_EARG if `on` is above 1; otherwise NVMEARB_NONE if the queue
+ * isn't open or is closing.
+ */
+uint32_t nvmearb_ctrl_hold(nvmearb_ctrl *ctrl, uint16_t qid, uint8_t on);
+
+/*
+ * From now on an I/O submission queue has this priority class, NVMEARB_URGENT to NVMEARB_LOW, whatever its Create asked
+ * for (QPRIO). Linux asks for urgent for all, so that weights do nothing there: by this a device gives priorities. A
+ * queue that is created anew has the class of its Create. Under round robin a class has no effect.
+ * NVMEARB_ESTATE if `ctrl` isn't valid; otherwise NVMEARB_EARG if `priority` is none of the four; otherwise
+ * NVMEARB_NONE if `qid` is 0, or the queue isn't open or is closing.
+ */
+uint32_t nvmearb_ctrl_set_class(nvmearb_ctrl *ctrl, uint16_t qid, uint16_t priority);
 
 /*
  * The host wrote the tail doorbell of a submission queue: `tail` is bits 15:00 of the value.
@@ -743,7 +771,8 @@ uint32_t nvmearb_ctrl_fetched(nvmearb_ctrl *ctrl, nvmearb_slot *slots, size_t co
 /*
  * Writes the pick that arbitration makes next of the commands that wait now, whether or not nvmearb_ctrl_pick can make
  * it already.
- * NVMEARB_ESTATE, NVMEARB_EARG as nvmearb_ctrl_fetched; otherwise NVMEARB_NONE if no command waits.
+ * NVMEARB_ESTATE, NVMEARB_EARG as nvmearb_ctrl_fetched; otherwise NVMEARB_NONE if no command waits but in queues that
+ * are held.
  */
 uint32_t nvmearb_ctrl_peek(const nvmearb_ctrl *ctrl, const nvmearb_slot *slots, size_t count, nvmearb_pick *pick);
 
@@ -752,8 +781,8 @@ uint32_t nvmearb_ctrl_peek(const nvmearb_ctrl *ctrl, const nvmearb_slot *slots, 
  * at once: queues are created, a deletion begins and the waiting commands of its queue are answered with 0/08, a
  * waiting command is aborted with 0/07, features are set and told.
  * NVMEARB_ESTATE, NVMEARB_EARG as nvmearb_ctrl_fetched; otherwise NVMEARB_BUSY if commands are picked and not taken;
- * otherwise NVMEARB_NONE if no command waits; otherwise NVMEARB_FULL if more than 256 commands would be picked, or
- * aborted by an Abort, and have no completion posted.
+ * otherwise NVMEARB_NONE if no command waits but in queues that are held; otherwise NVMEARB_FULL if more than 256
+ * commands would be picked, or aborted by an Abort, and have no completion posted.
  */
 uint32_t nvmearb_ctrl_pick(nvmearb_ctrl *ctrl, nvmearb_slot *slots, size_t count, nvmearb_step *step);
 
@@ -803,6 +832,15 @@ uint32_t nvmearb_ctrl_command(const nvmearb_ctrl *ctrl, const nvmearb_slot *slot
                               nvmearb_command *command);
 
 /*
+ * Writes the tag of the command with the identifier `cid`, of the submission queue `qid`, that the device has, so that
+ * a device finds what an Abort names. If the host gave two of them one identifier, it is the tag of either.
+ * NVMEARB_ESTATE, NVMEARB_EARG as nvmearb_ctrl_fetched; otherwise NVMEARB_NONE if the device has no such command: it
+ * waits, say, or is completed.
+ */
+uint32_t nvmearb_ctrl_named(const nvmearb_ctrl *ctrl, const nvmearb_slot *slots, size_t count, uint16_t qid,
+                            uint16_t cid, uint16_t *tag);
+
+/*
  * Writes the number of the region of a submission queue.
  * NVMEARB_ESTATE if `ctrl` isn't valid; otherwise NVMEARB_NONE if the queue isn't open or is closing.
  */
@@ -819,6 +857,17 @@ uint32_t nvmearb_ctrl_cq(const nvmearb_ctrl *ctrl, uint16_t cqid, uint16_t *regi
  * NVMEARB_ESTATE if `ctrl` isn't valid; otherwise NVMEARB_NONE if the queue isn't open or is closing.
  */
 uint32_t nvmearb_ctrl_waiting(const nvmearb_ctrl *ctrl, uint16_t qid, uint16_t *count);
+
+/*
+ * Tests whether something was written into a controller or its slots by mistake. Unlike the calls above it trusts
+ * nothing behind the mark, and reads no further than `count` slots. It looks at each head and tail, each region and tag
+ * that is used as one, each count that has a limit, and each chain of slots: that it has as many as it says, in the
+ * pool and used for it. So it takes as long as there are slots, and is meant for tests, and for a call that answers
+ * what it shouldn't. What the library wrote passes; not each mistake is found, such as another command in a slot.
+ * NVMEARB_ESTATE if `ctrl` isn't valid, `count` isn't that of nvmearb_ctrl_init, or one of these numbers is out of
+ * range.
+ */
+uint32_t nvmearb_ctrl_verify(const nvmearb_ctrl *ctrl, const nvmearb_slot *slots, size_t count);
 
 #ifdef __cplusplus
 }

@@ -186,7 +186,7 @@ void own_aborts(void)
 {
     struct own q;
     struct ended it;
-    uint32_t dw0 = 9;
+    uint32_t dw0 = 9, found = 0;
     begin_anew();
     create(&q, FIRST_OWN, 256);
     choose(RATE, 1, 0);
@@ -199,7 +199,10 @@ void own_aborts(void)
     choose(RATE, 0, 0);
     for (unsigned k = 0; k < 20; k++)
         CHECK(take(&q, &it, 2000) && it.status == (it.cid == 15 ? 0x07 : 0), "cid %u has status %x", it.cid, it.status);
-    good("found if it waits, else not");
+    for (uint32_t cid = 0; cid < 64; cid++, found += dw0 == 0)
+        CHECK(admin(0x08, 0, NULL, cid << 16, 0, 0, &dw0) == 0 && dw0 < 2, "an Abort of an admin command: %x", dw0);
+    CHECK(found == 1, "%u event requests of Linux were aborted", found);
+    good("found if it waits, or is an event request, else not");
 }
 
 /* A completion queue of four slots has three completions at most, however many are ready. */

@@ -1,5 +1,5 @@
-/* The admin commands of the device of nvme.h: Identify, Get Log Page, Set and Get Features, as NVM Express 1.4 has
- * them. */
+/* The admin commands of the device of nvme.h: Identify, Get Log Page, Set and Get Features, Abort, as NVM Express 1.4
+ * has them. */
 #include "nvme.h"
 
 #include <string.h>
@@ -151,6 +151,25 @@ static nvmearb_status feature(struct nvme *d, const nvmearb_sqe *entry, uint32_t
     return success;
 }
 
+/*
+ * An Abort of a command that doesn't wait. All that the device has for a while are event requests, so it ends one of
+ * those, and nothing else. Returns Command Dword 0: 0 where it ended one.
+ */
+static uint32_t abort_command(struct nvme *d, const nvmearb_sqe *entry)
+{
+    nvmearb_status requested = {NVMEARB_SCT_GENERIC, NVMEARB_SC_ABORT_REQUESTED};
+    uint16_t sqid = entry->cdw10 & 0xffff, cid = entry->cdw10 >> 16, tag, k = 0;
+    if (nvmearb_ctrl_named(&d->ctrl, d->slots, NVME_COMMANDS, sqid, cid, &tag) != NVMEARB_OK)
+        return 1;
+    while (k < d->held_count && d->held[k] != tag)
+        k++;
+    if (k == d->held_count)
+        return 1;
+    nvmearb_ctrl_complete(&d->ctrl, d->slots, NVME_COMMANDS, tag, &requested, 0);
+    memmove(d->held + k, d->held + k + 1, (size_t)(--d->held_count - k) * sizeof d->held[0]);
+    return 0;
+}
+
 nvmearb_status nvme_admin(struct nvme *d, const nvmearb_sqe *entry, uint32_t *dw0)
 {
     switch (entry->opcode) {
@@ -158,6 +177,9 @@ nvmearb_status nvme_admin(struct nvme *d, const nvmearb_sqe *entry, uint32_t *dw
         return get_log_page(d, entry);
     case IDENTIFY:
         return identify(d, entry);
+    case NVMEARB_OPC_ABORT:
+        *dw0 = abort_command(d, entry);
+        return success;
     case VENDOR:
         return d->host.vendor(d->host.context, entry, dw0);
     default:
@@ -167,7 +189,7 @@ nvmearb_status nvme_admin(struct nvme *d, const nvmearb_sqe *entry, uint32_t *dw
 
 void nvme_own(struct nvme *d)
 {
-    static const uint8_t opcodes[] = {GET_LOG_PAGE, IDENTIFY, NVME_EVENT_REQUEST};
+    static const uint8_t opcodes[] = {GET_LOG_PAGE, IDENTIFY, NVME_EVENT_REQUEST, NVMEARB_OPC_ABORT};
     static const uint8_t fids[] = {NVMEARB_FID_ARBITRATION, NVMEARB_FID_NUMBER_OF_QUEUES, POWER, TEMPERATURE,
                                    RECOVERY, COALESCING, VECTORS, ATOMICITY, EVENTS};
     for (size_t k = 0; k < sizeof opcodes; k++)

@@ -152,8 +152,7 @@ static void start(struct nvme *d, const nvmearb_command *command)
 
 /*
  * Until a Create may name any address: adds a region for its ring under a token, which it puts into the copy of the
- * entry. It also chooses the priority. A Create that no region can be added for is left to the controller, which
- * refuses it.
+ * entry. A Create that no region can be added for is left to the controller, which refuses it.
  */
 static void place(struct nvme *d, uint8_t *bytes)
 {
@@ -174,8 +173,6 @@ static void place(struct nvme *d, uint8_t *bytes)
     (is_sq ? d->sqs : d->cqs)[region] =
         (struct nvme_ring){entry.prp1, slots, 0, 0, (uint16_t)(entry.cdw11 >> 16), entry.cdw11 >> 1 & 1};
     entry.prp1 = token;
-    if (is_sq && it.qid <= NVME_QUEUES && d->priorities[it.qid])
-        entry.cdw11 = (entry.cdw11 & ~6u) | (d->priorities[it.qid] - 1u) << 1;
     nvmearb_sqe_encode(&entry, bytes);
 }
 
@@ -235,6 +232,13 @@ static int is_due(struct nvme *d)
            next.qid == 0;
 }
 
+/* A queue was created: it gets the priority that was chosen for it, whatever the host asked for. */
+static void set_priority(struct nvme *d, uint16_t qid)
+{
+    if (d->priorities[qid])
+        nvmearb_ctrl_set_class(&d->ctrl, qid, d->priorities[qid]);
+}
+
 /* Executes what arbitration picks. Returns whether it picked anything. */
 static int work(struct nvme *d)
 {
@@ -243,6 +247,8 @@ static int work(struct nvme *d)
     int has_picked = 0;
     while (is_due(d) && nvmearb_ctrl_pick(&d->ctrl, d->slots, NVME_COMMANDS, &step) == NVMEARB_OK) {
         has_picked = 1;
+        if (step.kind == NVMEARB_CARRIED_OUT && step.answer.verdict == NVMEARB_OPEN_SQ)
+            set_priority(d, step.answer.qid);
         if (d->rate && step.kind == NVMEARB_PICKED && step.pick.qid != 0)
             d->due = (d->due + 10000000 > d->now ? d->due : d->now) + step.pick.n * 1000000000ull / d->rate;
         while (nvmearb_ctrl_take(&d->ctrl, d->slots, NVME_COMMANDS, &command) == NVMEARB_OK)

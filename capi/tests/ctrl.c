@@ -1,8 +1,5 @@
 /* A controller: each call with its refusals, and random calls on random states. Values are the specification's. */
-#include <nvmearb.h>
-
-#include <string.h>
-
+#include "ctrl.h"
 #include "tell.h"
 
 _Static_assert(sizeof(nvmearb_slot) == 80, "nvmearb_slot");
@@ -11,151 +8,6 @@ _Static_assert(sizeof(nvmearb_config) == 48 && offsetof(nvmearb_config, window) 
 _Static_assert(sizeof(nvmearb_step) == 36 && offsetof(nvmearb_step, pick) == 28, "nvmearb_step");
 _Static_assert(sizeof(nvmearb_command) == 72 && offsetof(nvmearb_command, tag) == 68, "nvmearb_command");
 _Static_assert(sizeof(nvmearb_post) == 24 && offsetof(nvmearb_post, slot) == 22, "nvmearb_post");
-
-#define SLOTS 16
-#define ASQ 0x1000
-#define ACQ 0x2000
-#define SQ 0x3000
-#define CQ 0x4000
-
-/* Identify, Asynchronous Event Request, and the feature identifier of Asynchronous Event Configuration. */
-enum { IDENTIFY = 0x06, EVENT_REQUEST = 0x0c, EVENTS = 0x0b };
-
-static nvmearb_ctrl ctrl;
-static nvmearb_slot slots[SLOTS], many[NVMEARB_MAX_SLOTS + 1];
-static const nvmearb_status success = {NVMEARB_SCT_GENERIC, NVMEARB_SC_SUCCESS};
-
-/* Admin queues of 8 slots, at most 4 I/O queues of a kind, no limit on the burst, a window of 4. */
-static const nvmearb_config config = {{ASQ, 8}, {ACQ, 8}, NVMEARB_ROUND_ROBIN, 7, 4, 4, 4};
-
-/* The bytes of an entry. */
-static void entry_of(uint8_t opcode, uint16_t cid, uint64_t prp1, uint32_t cdw10, uint32_t cdw11, uint8_t *bytes)
-{
-    nvmearb_sqe entry = {.opcode = opcode, .cid = cid, .nsid = 1, .prp1 = prp1, .cdw10 = cdw10, .cdw11 = cdw11};
-    nvmearb_sqe_encode(&entry, bytes);
-}
-
-/* The entry that is to be read next is that of a slot, and it is read. */
-static int fetched(uint16_t qid, uint16_t slot, uint8_t opcode, uint16_t cid, uint64_t prp1, uint32_t cdw10,
-                   uint32_t cdw11)
-{
-    uint8_t bytes[NVMEARB_SQE_BYTES];
-    uint16_t told = 0xeeee;
-    entry_of(opcode, cid, prp1, cdw10, cdw11, bytes);
-    return nvmearb_ctrl_fetch(&ctrl, qid, &told) == NVMEARB_OK && told == slot &&
-           nvmearb_ctrl_fetched(&ctrl, slots, SLOTS, qid, bytes, 1000u + cid) == NVMEARB_OK;
-}
-
-static int read_fetched(uint16_t slot, uint16_t cid)
-{
-    return fetched(1, slot, NVMEARB_OPC_READ, cid, 0, 0, 0);
-}
-
-/* Nothing is to be read. */
-static int none_to_fetch(uint16_t qid)
-{
-    uint16_t told = 0xeeee;
-    return nvmearb_ctrl_fetch(&ctrl, qid, &told) == NVMEARB_NONE && told == 0xeeee;
-}
-
-/* A command of the admin queue is carried out, and comes to this verdict. */
-static int carried_out(uint32_t verdict)
-{
-    nvmearb_step step;
-    return nvmearb_ctrl_pick(&ctrl, slots, SLOTS, &step) == NVMEARB_OK && step.kind == NVMEARB_CARRIED_OUT &&
-           step.answer.verdict == verdict;
-}
-
-/* Commands of queue 1 are picked. */
-static int picked(uint16_t n)
-{
-    nvmearb_step step;
-    nvmearb_pick pick;
-    return nvmearb_ctrl_peek(&ctrl, slots, SLOTS, &pick) == NVMEARB_OK && pick.qid == 1 && pick.n == n &&
-           nvmearb_ctrl_pick(&ctrl, slots, SLOTS, &step) == NVMEARB_OK && step.kind == NVMEARB_PICKED &&
-           step.pick.qid == 1 && step.pick.n == n && step.pick.fresh == 0;
-}
-
-/* A pick answers this, and writes nothing. */
-static int picks_none(uint32_t want)
-{
-    nvmearb_step step, before;
-    memset(&step, 0xee, sizeof step);
-    before = step;
-    return nvmearb_ctrl_pick(&ctrl, slots, SLOTS, &step) == want && memcmp(&step, &before, sizeof step) == 0;
-}
-
-/* The command with this identifier is taken, under the tag that is told. */
-static int taken(uint16_t cid, uint16_t *tag)
-{
-    nvmearb_command command, again;
-    int is_well = nvmearb_ctrl_take(&ctrl, slots, SLOTS, &command) == NVMEARB_OK && command.entry.cid == cid &&
-                  command.entry.opcode == NVMEARB_OPC_READ && command.entry.nsid == 1 && command.cookie == 1000u + cid;
-    *tag = command.tag;
-    return is_well && nvmearb_ctrl_command(&ctrl, slots, SLOTS, command.tag, &again) == NVMEARB_OK &&
-           again.tag == command.tag && again.entry.cid == cid && again.cookie == command.cookie;
-}
-
-static int completes(uint16_t tag, nvmearb_status status, uint32_t dw0, uint32_t want)
-{
-    return nvmearb_ctrl_complete(&ctrl, slots, SLOTS, tag, &status, dw0) == want;
-}
-
-static int completes_with(uint16_t tag, nvmearb_status status, unsigned marks, uint32_t want)
-{
-    return nvmearb_ctrl_complete_with(&ctrl, slots, SLOTS, tag, &status, 0, (uint8_t)marks) == want;
-}
-
-/*
- * A completion is posted with these fields, where the queue on the region has the identifier of the region. `top` is
- * bits 31:28 of Command Dword 3: 8 is Do Not Retry, and 4 is More.
- */
-static int posted_with(uint16_t region, uint16_t slot, uint16_t sqhd, uint16_t cid, uint8_t phase,
-                       nvmearb_status status, uint32_t dw0, unsigned top)
-{
-    nvmearb_post post;
-    nvmearb_cqe cqe;
-    if (nvmearb_ctrl_post(&ctrl, slots, SLOTS, region, &post) != NVMEARB_OK || post.bytes[15] >> 4 != top)
-        return 0;
-    post.bytes[15] &= 0x0f;
-    return post.slot == slot && post.cookie == 1000u + cid && nvmearb_cqe_decode(post.bytes, &cqe) == NVMEARB_OK &&
-           cqe.sqhd == sqhd && cqe.sqid == region && cqe.cid == cid && cqe.phase == phase &&
-           cqe.status.sct == status.sct && cqe.status.sc == status.sc && cqe.dw0 == dw0;
-}
-
-static int posted(uint16_t region, uint16_t slot, uint16_t sqhd, uint16_t cid, uint8_t phase, nvmearb_status status,
-                  uint32_t dw0)
-{
-    return posted_with(region, slot, sqhd, cid, phase, status, dw0, 0);
-}
-
-static int none_to_post(uint16_t region)
-{
-    nvmearb_post post;
-    return nvmearb_ctrl_post(&ctrl, slots, SLOTS, region, &post) == NVMEARB_NONE;
-}
-
-/* A controller with the regions of queues 1, of 4 slots. */
-static int is_made(uint32_t mechanism)
-{
-    nvmearb_config it = config;
-    uint16_t sq = 0, cq = 0;
-    it.mechanism = mechanism;
-    return nvmearb_ctrl_init(&ctrl, slots, SLOTS, &it) == NVMEARB_OK &&
-           nvmearb_ctrl_add_sq_region(&ctrl, SQ, 4, &sq) == NVMEARB_OK && sq == 1 &&
-           nvmearb_ctrl_add_cq_region(&ctrl, CQ, 4, &cq) == NVMEARB_OK && cq == 1;
-}
-
-/* And one whose host created both queues. */
-static int is_prepared(uint32_t mechanism)
-{
-    return is_made(mechanism) && nvmearb_ctrl_sq_tail(&ctrl, 0, 2) == NVMEARB_OK &&
-           fetched(0, 0, NVMEARB_OPC_CREATE_CQ, 10, CQ, 0x00030001, 0x00000001) &&
-           fetched(0, 1, NVMEARB_OPC_CREATE_SQ, 11, SQ, 0x00030001, 0x00010001) && none_to_fetch(0) &&
-           carried_out(NVMEARB_OPEN_CQ) && carried_out(NVMEARB_OPEN_SQ) && picks_none(NVMEARB_NONE) &&
-           posted(0, 0, 2, 10, 1, success, 0) && posted(0, 1, 2, 11, 1, success, 0) && none_to_post(0) &&
-           nvmearb_ctrl_cq_head(&ctrl, 0, 3) == NVMEARB_EARG && nvmearb_ctrl_cq_head(&ctrl, 0, 2) == NVMEARB_OK;
-}
 
 static uint32_t init_with(nvmearb_config with, size_t count)
 {
@@ -354,8 +206,9 @@ struct call {
     nvmearb_post post;
 };
 /* The calls. Those that take no slots come first. */
-enum { ADD_SQ, ADD_CQ, OWN_OPCODE, OWN_FEATURE, SQ_TAIL, CQ_HEAD, FETCH, SQ_OF, CQ_OF, WAITING, WITHOUT_SLOTS };
-enum { FETCHED = WITHOUT_SLOTS, PEEK, PICK, TAKE, COMPLETE, COMPLETE_WITH, POST, FINISH, COMMAND, CALLS };
+enum { ADD_SQ, ADD_CQ, OWN_OPCODE, OWN_FEATURE, HOLD, SET_CLASS, SQ_TAIL, CQ_HEAD };
+enum { FETCH = CQ_HEAD + 1, SQ_OF, CQ_OF, WAITING, WITHOUT_SLOTS };
+enum { FETCHED = WITHOUT_SLOTS, PEEK, PICK, TAKE, COMPLETE, COMPLETE_WITH, POST, FINISH, COMMAND, NAMED, CALLS };
 
 static uint32_t made(struct call *it, unsigned which)
 {
@@ -368,6 +221,10 @@ static uint32_t made(struct call *it, unsigned which)
         return nvmearb_ctrl_own_opcode(it->ctrl, it->bytes[0]);
     case OWN_FEATURE:
         return nvmearb_ctrl_own_feature(it->ctrl, it->bytes[40]); /* (Command Dword 10) */
+    case HOLD:
+        return nvmearb_ctrl_hold(it->ctrl, it->a, it->marks);
+    case SET_CLASS:
+        return nvmearb_ctrl_set_class(it->ctrl, it->a, it->b);
     case SQ_TAIL:
         return nvmearb_ctrl_sq_tail(it->ctrl, it->a, it->b);
     case CQ_HEAD:
@@ -396,6 +253,8 @@ static uint32_t made(struct call *it, unsigned which)
         return nvmearb_ctrl_finish(it->ctrl, it->slots, it->count, &it->number);
     case COMMAND:
         return nvmearb_ctrl_command(it->ctrl, it->slots, it->count, it->b, &it->command);
+    case NAMED:
+        return nvmearb_ctrl_named(it->ctrl, it->slots, it->count, it->a, it->b, &it->number);
     default:
         return nvmearb_ctrl_complete_with(it->ctrl, it->slots, it->count, it->b, &it->status, it->dw0, it->marks);
     }
@@ -446,9 +305,10 @@ static unsigned random_call(uint64_t *state, struct tally *tally)
 {
     static nvmearb_ctrl ctrl_before;
     static nvmearb_slot slots_before[SLOTS];
-    static const uint8_t often[CALLS] = {SQ_TAIL, SQ_TAIL, FETCH,    FETCHED,  FETCHED,      FETCHED, PEEK,
-                                         PICK,    PICK,    TAKE,     TAKE,     TAKE,         POST,    POST,
-                                         FINISH,  COMMAND, COMPLETE, COMPLETE, COMPLETE_WITH};
+    static const uint8_t often[CALLS] = {SQ_TAIL, SQ_TAIL, FETCH,    FETCHED,  FETCHED,       FETCHED, PEEK,
+                                         PICK,    PICK,    TAKE,     TAKE,     TAKE,          POST,    POST,
+                                         FINISH,  COMMAND, COMPLETE, COMPLETE, COMPLETE_WITH, NAMED,   HOLD,
+                                         HOLD};
     uint64_t word = drawn(state);
     struct call it = {.ctrl = &ctrl, .slots = slots, .count = SLOTS}, before;
     unsigned which = word & 1 ? often[(word >> 4) % CALLS] : (unsigned)(word >> 4) % CALLS, wrong = 0;
@@ -480,7 +340,8 @@ static unsigned random_call(uint64_t *state, struct tally *tally)
     wrong += tally->held > SLOTS || tally->out > tally->held;
     wrong += (which == TAKE || which == COMMAND) && it.command.tag >= SLOTS;
     wrong += which == POST && (it.post.tag >= SLOTS || it.post.slot >= 8);
-    wrong += (which == PEEK || (which >= FETCH && which < WITHOUT_SLOTS) || which == COMMAND) && changes;
+    wrong += which == NAMED && it.number >= SLOTS;
+    wrong += (which == PEEK || (which >= FETCH && which < WITHOUT_SLOTS) || which >= COMMAND) && changes;
     return wrong;
 }
 
@@ -496,6 +357,7 @@ static void random_calls(void)
             tally.held = tally.out = 0;
         }
         wrong += random_call(&state, &tally);
+        wrong += round % 16 == 0 && nvmearb_ctrl_verify(&ctrl, slots, SLOTS) != NVMEARB_OK;
     }
     CHECK(wrong == 0);
     for (unsigned which = 0; which < CALLS; which++) {
@@ -623,6 +485,102 @@ static void own_features(void)
     CHECK(posted_with(0, 4, 5, 14, 1, field, 0, 8));
 }
 
+/* The next pick is of this queue. */
+static int is_next(uint16_t qid)
+{
+    nvmearb_pick pick;
+    return nvmearb_ctrl_peek(&ctrl, slots, SLOTS, &pick) == NVMEARB_OK && pick.qid == qid;
+}
+
+/* What waits in a queue that is held stays there, and others go on. An Abort still ends it. */
+static void holds(void)
+{
+    static const nvmearb_status requested = {NVMEARB_SCT_GENERIC, NVMEARB_SC_ABORT_REQUESTED};
+    uint16_t tag = 0, count = 0;
+    CHECK(is_prepared(NVMEARB_WEIGHTED) && nvmearb_ctrl_sq_tail(&ctrl, 1, 3) == NVMEARB_OK);
+    CHECK(nvmearb_ctrl_hold(&ctrl, 1, 2) == NVMEARB_EARG && nvmearb_ctrl_hold(&ctrl, 2, 255) == NVMEARB_EARG);
+    CHECK(nvmearb_ctrl_hold(&ctrl, 2, 1) == NVMEARB_NONE && nvmearb_ctrl_hold(&ctrl, 65535, 0) == NVMEARB_NONE);
+    CHECK(read_fetched(0, 40) && is_next(1) && nvmearb_ctrl_hold(&ctrl, 1, 1) == NVMEARB_OK && picks_none(NVMEARB_NONE));
+    CHECK(read_fetched(1, 41) && nvmearb_ctrl_hold(&ctrl, 1, 1) == NVMEARB_OK && picks_none(NVMEARB_NONE));
+    CHECK(nvmearb_ctrl_waiting(&ctrl, 1, &count) == NVMEARB_OK && count == 2);
+    CHECK(nvmearb_ctrl_sq_tail(&ctrl, 0, 4) == NVMEARB_OK);
+    CHECK(fetched(0, 2, NVMEARB_OPC_ABORT, 12, 0, 41u << 16 | 1, 0) && carried_out(NVMEARB_ABORT));
+    CHECK(posted(1, 0, 2, 41, 1, requested, 0) && posted(0, 2, 3, 12, 1, success, 0) && picks_none(NVMEARB_NONE));
+    CHECK(nvmearb_ctrl_hold(&ctrl, 1, 0) == NVMEARB_OK && picked(1) && taken(40, &tag));
+    CHECK(completes(tag, success, 0, NVMEARB_OK) && posted(1, 1, 2, 40, 1, success, 0));
+    CHECK(nvmearb_ctrl_hold(&ctrl, 0, 1) == NVMEARB_OK && read_fetched(2, 42));
+    CHECK(fetched(0, 3, NVMEARB_OPC_GET_FEATURES, 13, 0, NVMEARB_FID_ARBITRATION, 0) && picked(1) && taken(42, &tag));
+    CHECK(picks_none(NVMEARB_NONE) && nvmearb_ctrl_hold(&ctrl, 0, 0) == NVMEARB_OK && carried_out(NVMEARB_DONE));
+}
+
+/* The class that a device sets is that of arbitration, until the queue is created anew. */
+static void classes(void)
+{
+    uint16_t number;
+    CHECK(is_prepared(NVMEARB_WEIGHTED) && nvmearb_ctrl_sq_tail(&ctrl, 0, 5) == NVMEARB_OK);
+    CHECK(nvmearb_ctrl_add_sq_region(&ctrl, 0x5000, 4, &number) == NVMEARB_OK && number == 2);
+    CHECK(nvmearb_ctrl_add_sq_region(&ctrl, 0x6000, 4, &number) == NVMEARB_OK && number == 3);
+    CHECK(fetched(0, 2, NVMEARB_OPC_CREATE_SQ, 12, 0x5000, 0x00030002, 0x00010001) && carried_out(NVMEARB_OPEN_SQ));
+    CHECK(nvmearb_ctrl_set_class(&ctrl, 1, NVMEARB_ADMIN) == NVMEARB_EARG);
+    CHECK(nvmearb_ctrl_set_class(&ctrl, 1, 5) == NVMEARB_EARG && nvmearb_ctrl_set_class(&ctrl, 3, 65535) == NVMEARB_EARG);
+    CHECK(nvmearb_ctrl_set_class(&ctrl, 0, NVMEARB_LOW) == NVMEARB_NONE);
+    CHECK(nvmearb_ctrl_set_class(&ctrl, 3, NVMEARB_LOW) == NVMEARB_NONE);
+    CHECK(nvmearb_ctrl_sq_tail(&ctrl, 1, 1) == NVMEARB_OK && nvmearb_ctrl_sq_tail(&ctrl, 2, 1) == NVMEARB_OK);
+    CHECK(read_fetched(0, 40) && fetched(2, 0, NVMEARB_OPC_READ, 41, 0, 0, 0) && is_next(1));
+    CHECK(nvmearb_ctrl_set_class(&ctrl, 1, NVMEARB_MEDIUM) == NVMEARB_OK && is_next(2));
+    CHECK(nvmearb_ctrl_set_class(&ctrl, 2, NVMEARB_LOW) == NVMEARB_OK && is_next(1));
+    CHECK(nvmearb_ctrl_set_class(&ctrl, 2, NVMEARB_HIGH) == NVMEARB_OK && is_next(2));
+    CHECK(nvmearb_ctrl_set_class(&ctrl, 1, NVMEARB_URGENT) == NVMEARB_OK && is_next(1));
+    CHECK(nvmearb_ctrl_set_class(&ctrl, 1, NVMEARB_LOW) == NVMEARB_OK && nvmearb_ctrl_hold(&ctrl, 2, 1) == NVMEARB_OK);
+    CHECK(fetched(0, 3, NVMEARB_OPC_DELETE_SQ, 13, 0, 2, 0) && carried_out(NVMEARB_BEGIN_DELETE));
+    CHECK(nvmearb_ctrl_set_class(&ctrl, 2, NVMEARB_LOW) == NVMEARB_NONE);
+    CHECK(nvmearb_ctrl_hold(&ctrl, 2, 0) == NVMEARB_NONE);
+    nvmearb_post post;
+    CHECK(nvmearb_ctrl_post(&ctrl, slots, SLOTS, 1, &post) == NVMEARB_OK && post.bytes[14] >> 1 == 0x08);
+    CHECK(nvmearb_ctrl_finish(&ctrl, slots, SLOTS, &number) == NVMEARB_OK && number == 2);
+    CHECK(fetched(0, 4, NVMEARB_OPC_CREATE_SQ, 14, 0x6000, 0x00030002, 0x00010005) && carried_out(NVMEARB_OPEN_SQ));
+    CHECK(nvmearb_ctrl_sq_tail(&ctrl, 2, 1) == NVMEARB_OK && fetched(2, 0, NVMEARB_OPC_READ, 42, 0, 0, 0) && is_next(2));
+    CHECK(nvmearb_ctrl_set_class(&ctrl, 1, NVMEARB_HIGH) == NVMEARB_OK && is_next(1)); /* (QPRIO was medium) */
+}
+
+/* The tag of the command of these identifiers is told, or that the device has none. */
+static int is_named(uint16_t qid, uint16_t cid, uint16_t tag)
+{
+    uint16_t told = 0xeeee;
+    uint32_t want = tag == 0xeeee ? NVMEARB_NONE : NVMEARB_OK;
+    return nvmearb_ctrl_named(&ctrl, slots, SLOTS, qid, cid, &told) == want && told == tag;
+}
+
+/* An announced Abort is the device's where it names no command that waits. The device finds what it names. */
+static void own_aborts(void)
+{
+    static const nvmearb_status requested = {NVMEARB_SCT_GENERIC, NVMEARB_SC_ABORT_REQUESTED};
+    static const nvmearb_status exceeded = {NVMEARB_SCT_COMMAND_SPECIFIC, 0x03};
+    const uint16_t none = 0xeeee;
+    uint16_t tags[2] = {0}, aborts[3] = {0};
+    CHECK(is_prepared(NVMEARB_WEIGHTED) && nvmearb_ctrl_sq_tail(&ctrl, 1, 3) == NVMEARB_OK);
+    CHECK(read_fetched(0, 40) && read_fetched(1, 41) && picked(2) && is_named(1, 40, none));
+    CHECK(taken(40, &tags[0]) && taken(41, &tags[1]) && read_fetched(2, 42) && tags[0] != tags[1]);
+    CHECK(is_named(1, 40, tags[0]) && is_named(1, 41, tags[1]) && is_named(1, 42, none));
+    CHECK(is_named(0, 40, none) && is_named(2, 40, none) && is_named(65535, 40, none) && is_named(1, 65535, none));
+    /* it isn't announced yet */
+    CHECK(nvmearb_ctrl_sq_tail(&ctrl, 0, 6) == NVMEARB_OK);
+    CHECK(fetched(0, 2, NVMEARB_OPC_ABORT, 12, 0, 40u << 16 | 1, 0) && carried_out(NVMEARB_ABORT));
+    CHECK(posted(0, 2, 3, 12, 1, success, 1) && nvmearb_ctrl_own_opcode(&ctrl, NVMEARB_OPC_ABORT) == NVMEARB_OK);
+    CHECK(fetched(0, 3, NVMEARB_OPC_ABORT, 13, 0, 42u << 16 | 1, 0) && carried_out(NVMEARB_ABORT));
+    CHECK(posted(1, 0, 3, 42, 1, requested, 0) && posted(0, 3, 4, 13, 1, success, 0));
+    CHECK(fetched(0, 4, NVMEARB_OPC_ABORT, 14, 0, 40u << 16 | 1, 0) && passed_on(NVMEARB_OPC_ABORT, 14, &aborts[0]));
+    CHECK(fetched(0, 5, NVMEARB_OPC_ABORT, 15, 0, 42u << 16 | 1, 0) && passed_on(NVMEARB_OPC_ABORT, 15, &aborts[1]));
+    CHECK(nvmearb_ctrl_sq_tail(&ctrl, 0, 7) == NVMEARB_OK && nvmearb_ctrl_cq_head(&ctrl, 0, 4) == NVMEARB_OK);
+    CHECK(fetched(0, 6, NVMEARB_OPC_ABORT, 16, 0, 41u << 16, 0) && passed_on(NVMEARB_OPC_ABORT, 16, &aborts[2]));
+    CHECK(is_named(0, 14, aborts[0]) && is_named(0, 15, aborts[1]) && is_named(0, 16, aborts[2]));
+    CHECK(completes(tags[0], requested, 0, NVMEARB_OK) && is_named(1, 40, none));
+    CHECK(completes(aborts[0], success, 0, NVMEARB_OK) && completes(aborts[1], success, 1, NVMEARB_OK));
+    CHECK(completes_with(aborts[2], exceeded, NVMEARB_DNR, NVMEARB_OK) && is_named(0, 16, none));
+    CHECK(posted(1, 1, 3, 40, 1, requested, 0) && posted(0, 4, 7, 14, 1, success, 0));
+    CHECK(posted(0, 5, 7, 15, 1, success, 1) && posted_with(0, 6, 7, 16, 1, exceeded, 0, 8));
+}
+
 int main(void)
 {
     wrong_configurations();
@@ -634,6 +592,9 @@ int main(void)
     marks();
     own_opcodes();
     own_features();
+    own_aborts();
+    holds();
+    classes();
     refused_states();
     random_calls();
     random_states();

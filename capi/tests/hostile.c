@@ -59,6 +59,8 @@ static struct account {
     nvmearb_table table;
     nvmearb_arbiter arbiter;
     uint8_t opcodes[256], fids[256]; /* 1 for those that are the device's */
+    /* 1 for queues that are held, and the classes that were set, or 0 */
+    uint8_t holds[NVMEARB_MAX_QUEUES], classes[NVMEARB_MAX_QUEUES];
 } account;
 
 static void push(struct list *list, uint16_t number)
@@ -95,14 +97,15 @@ static struct cq *open_cq(uint16_t cqid)
     return nvmearb_table_cq(&account.table, cqid, &region) == NVMEARB_OK ? &account.cqs[region] : NULL;
 }
 
-/* What an arbiter is shown: how many commands wait in each open queue. */
+/* What an arbiter is shown: how many commands wait in each open queue, none in one that is held. */
 static size_t observe(nvmearb_seen *seen)
 {
     nvmearb_queue queue;
     size_t n = 0;
     for (uint16_t qid = 0; qid < NVMEARB_MAX_QUEUES; qid++)
         if (nvmearb_table_sq(&account.table, qid, &queue) == NVMEARB_OK && !queue.closing)
-            seen[n++] = (nvmearb_seen){qid, queue.priority, (uint16_t)account.sqs[queue.region].waiting.n};
+            seen[n++] = (nvmearb_seen){qid, account.classes[qid] ? account.classes[qid] : queue.priority,
+                                       (uint16_t)(account.holds[qid] ? 0 : account.sqs[queue.region].waiting.n)};
     return n;
 }
 
@@ -194,7 +197,8 @@ static struct {
 #define POOL room.slots, account.slots
 
 static struct {
-    uint64_t ok, none, busy, full, refused, passed, deletions, together, aborts, marked, created, made;
+    uint64_t ok, none, busy, full, refused, passed, passed_aborts, named, held, classed, deletions, together, aborts, marked, created,
+        made;
 } tally;
 
 /* Whether a call answered what it had to. */
@@ -237,12 +241,12 @@ static int make(void)
            nvmearb_ctrl_init(CTRL, POOL, &config) == NVMEARB_OK;
 }
 
-/* Nothing was written beside the controller and its slots. */
+/* Nothing was written beside the controller and its slots, and their numbers are within their ranges. */
 static int is_whole(void)
 {
     uint8_t want[GUARD];
     memset(want, 0xa5, GUARD);
-    return !memcmp(room.before, want, GUARD) && !memcmp(room.between, want, GUARD) && !memcmp(room.after, want, GUARD);
+    return nvmearb_ctrl_verify(CTRL, POOL) == NVMEARB_OK && !memcmp(room.before, want, GUARD) && !memcmp(room.between, want, GUARD) && !memcmp(room.after, want, GUARD);
 }
 
 static int adds(void)
@@ -274,6 +278,31 @@ static int announces(void)
     }
     account.fids[fid] = 1;
     return is_right(nvmearb_ctrl_own_feature(CTRL, fid), NVMEARB_OK);
+}
+
+/* The device holds a queue, or holds it no longer. */
+static int holds(void)
+{
+    uint16_t qid = draw_qid();
+    uint8_t on = (uint8_t)(upto(20) ? upto(3) == 0 : upto(256));
+    uint32_t want = on > 1 ? NVMEARB_EARG : open_sq(qid) ? NVMEARB_OK : NVMEARB_NONE;
+    if (want == NVMEARB_OK)
+        account.holds[qid] = on;
+    tally.held += want == NVMEARB_OK && on;
+    return is_right(nvmearb_ctrl_hold(CTRL, qid, on), want);
+}
+
+/* It sets the class of one. */
+static int sets_class(void)
+{
+    uint16_t qid = draw_qid(), priority = (uint16_t)(upto(20) ? 1 + upto(4) : upto(10));
+    uint32_t want = priority < NVMEARB_URGENT || priority > NVMEARB_LOW ? NVMEARB_EARG
+                    : qid && open_sq(qid)                               ? NVMEARB_OK
+                                                                        : NVMEARB_NONE;
+    if (want == NVMEARB_OK)
+        account.classes[qid] = (uint8_t)priority;
+    tally.classed += want == NVMEARB_OK;
+    return is_right(nvmearb_ctrl_set_class(CTRL, qid, priority), want);
 }
 
 static int rings_tail(void)
@@ -349,6 +378,18 @@ static int fetches(void)
     return (int)want;
 }
 
+/* The place of the oldest command with this identifier that waits in an open I/O queue, or -1. */
+static int waits_at(uint16_t qid, uint16_t cid)
+{
+    const struct sq *sq = qid ? open_sq(qid) : NULL;
+    for (unsigned place = 0; sq && place < sq->waiting.n; place++) {
+        const uint8_t *entry = account.commands[sq->waiting.at[place]].entry;
+        if ((entry[2] | entry[3] << 8) == cid)
+            return (int)place;
+    }
+    return -1;
+}
+
 /* Whether an admin command is the device's. */
 static int is_devices(const nvmearb_sqe *it)
 {
@@ -362,8 +403,9 @@ static int is_devices(const nvmearb_sqe *it)
     case NVMEARB_OPC_CREATE_SQ:
     case NVMEARB_OPC_DELETE_CQ:
     case NVMEARB_OPC_CREATE_CQ:
-    case NVMEARB_OPC_ABORT:
         return 0;
+    case NVMEARB_OPC_ABORT:
+        return account.opcodes[NVMEARB_OPC_ABORT] && waits_at((uint16_t)it->cdw10, (uint16_t)(it->cdw10 >> 16)) < 0;
     case NVMEARB_OPC_SET_FEATURES:
     case NVMEARB_OPC_GET_FEATURES:
         return account.fids[fid] && (!is_of_controller || selects);
@@ -397,19 +439,15 @@ static void begin_deletion(uint16_t qid, uint16_t number)
 /* The oldest command with this identifier that waits in a queue is aborted, if there is one. */
 static int aborts(uint16_t qid, uint16_t cid)
 {
-    struct sq *sq = qid ? open_sq(qid) : NULL;
-    for (unsigned place = 0; sq && place < sq->waiting.n; place++) {
-        const uint8_t *entry = account.commands[sq->waiting.at[place]].entry;
-        if ((entry[2] | entry[3] << 8) == cid) {
-            uint16_t number = pull(&sq->waiting, place);
-            account.commands[number].takes_place = 1;
-            account.places++;
-            tally.aborts++;
-            answered(number, (nvmearb_status){0, NVMEARB_SC_ABORT_REQUESTED}, 0);
-            return 1;
-        }
-    }
-    return 0;
+    int place = waits_at(qid, cid);
+    if (place < 0)
+        return 0;
+    uint16_t number = pull(&open_sq(qid)->waiting, (unsigned)place);
+    account.commands[number].takes_place = 1;
+    account.places++;
+    tally.aborts++;
+    answered(number, (nvmearb_status){0, NVMEARB_SC_ABORT_REQUESTED}, 0);
+    return 1;
 }
 
 /* An admin command is carried out. */
@@ -420,7 +458,10 @@ static int carries_out(uint16_t number, const nvmearb_step *step)
     nvmearb_table_apply(&account.table, account.commands[number].entry, &answer);
     if (step->kind != NVMEARB_CARRIED_OUT || memcmp(&answer, &step->answer, sizeof answer))
         return 0;
-    tally.created += answer.verdict == NVMEARB_OPEN_SQ;
+    if (answer.verdict == NVMEARB_OPEN_SQ) {
+        tally.created++;
+        account.holds[answer.qid] = account.classes[answer.qid] = 0;
+    }
     if (answer.verdict == NVMEARB_BEGIN_DELETE) {
         begin_deletion(answer.qid, number);
         return 1;
@@ -445,6 +486,7 @@ static int follows(const nvmearb_pick *pick, const nvmearb_step *step)
             return pick->n == 1 && carries_out(number, step);
         push(&account.picked, number);
         tally.passed++;
+        tally.passed_aborts += entry.opcode == NVMEARB_OPC_ABORT;
         return step->kind == NVMEARB_PASSED && !memcmp(pick, &step->pick, sizeof *pick);
     }
     for (unsigned k = 0; k < pick->n; k++)
@@ -603,6 +645,29 @@ static int finishes(void)
     return found == sq->closing && nvmearb_table_finish_delete(&account.table, found) == NVMEARB_OK;
 }
 
+/* The tag of a command by its queue and its identifier: of two with one identifier it is either. */
+static int names(void)
+{
+    uint16_t qid = (uint16_t)upto(6), cid = (uint16_t)upto(12), tag = 0xffff;
+    uint32_t want = NVMEARB_NONE;
+    int is_one = 0;
+    for (unsigned number = 0; number < SLOTS; number++) {
+        const struct command *it = &account.commands[number];
+        if (it->state == OUT && it->qid == qid && (it->entry[2] | it->entry[3] << 8) == cid)
+            want = NVMEARB_OK;
+    }
+    if (!is_right(nvmearb_ctrl_named(CTRL, POOL, qid, cid, &tag), want))
+        return 0;
+    if (want != NVMEARB_OK)
+        return tag == 0xffff;
+    for (unsigned number = 0; number < SLOTS; number++) {
+        const struct command *it = &account.commands[number];
+        is_one |= it->state == OUT && it->qid == qid && (it->entry[2] | it->entry[3] << 8) == cid && it->tag == tag;
+    }
+    tally.named++;
+    return is_one;
+}
+
 /* The look-ups of a queue and of a tag. */
 static int looks(void)
 {
@@ -644,6 +709,14 @@ static int call(void)
         return announces();
     if (which < 160)
         return is_refused();
+    if (which < 200)
+        return is_whole();
+    if (which < 400)
+        return names();
+    if (which < 450)
+        return holds();
+    if (which < 480)
+        return sets_class();
     if (account.is_slow && which % 32)
         return calls[upto(IN_FRONT)]();
     return calls[upto(sizeof calls / sizeof *calls)]();
@@ -658,10 +731,13 @@ int main(int count, char **words)
         holds = call();
     printf("%ju calls: %ju done, %ju none, %ju busy, %ju full, %ju refused\n", (uintmax_t)made, (uintmax_t)tally.ok,
            (uintmax_t)tally.none, (uintmax_t)tally.busy, (uintmax_t)tally.full, (uintmax_t)tally.refused);
-    printf("%ju controllers, %ju queues created, %ju deleted, %ju commands aborted, %ju passed on, %ju marked\n",
-           (uintmax_t)tally.made, (uintmax_t)tally.created, (uintmax_t)tally.deletions, (uintmax_t)tally.aborts,
-           (uintmax_t)tally.passed, (uintmax_t)tally.marked);
+    printf("%ju controllers, %ju queues created, %ju deleted, %ju commands aborted\n", (uintmax_t)tally.made,
+           (uintmax_t)tally.created, (uintmax_t)tally.deletions, (uintmax_t)tally.aborts);
+    printf("%ju commands passed on, %ju of them Aborts, %ju named, %ju marked\n", (uintmax_t)tally.passed,
+           (uintmax_t)tally.passed_aborts, (uintmax_t)tally.named, (uintmax_t)tally.marked);
+    printf("%ju queues held, %ju classes set\n", (uintmax_t)tally.held, (uintmax_t)tally.classed);
     CHECK(holds && is_whole() && made >= most);
     CHECK(tally.busy && tally.full && tally.created && tally.deletions && tally.together && tally.aborts && tally.passed && tally.marked);
+    CHECK(tally.passed_aborts && tally.named && tally.held && tally.classed);
     return told();
 }

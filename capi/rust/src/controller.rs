@@ -2,7 +2,7 @@
 //! The controller.
 use crate::error::{checked, found, rung, sure, written};
 use crate::sys::{self, nvmearb_ctrl, nvmearb_slot};
-use crate::{check_version, Answer, DoorbellError, Error, Mechanism, OneCaller, Pick, Region, Sqe, Status};
+use crate::{check_version, Answer, DoorbellError, Error, Mechanism, OneCaller, Pick, Priority, Region, Sqe, Status};
 use crate::{CQE_BYTES, MAX_SLOTS, SQE_BYTES};
 use std::fmt;
 
@@ -237,9 +237,12 @@ impl Controller {
     /// From now on the admin commands of this opcode are the device's: they are picked in their turn
     /// ([`Step::Passed`]), and the device takes and completes them as it does commands of I/O queues, at any later
     /// time. An Asynchronous Event Request waits like this. [`Controller::reset`] forgets it. The opcodes 00h, 01h,
-    /// 04h, 05h, 09h and 0Ah stay the controller's, and so does a fused command, which it refuses. Of Aborts (08h) the
-    /// device's are those that name no command that waits, which the device answers with bit 0 of Command Dword 0
-    /// clear if it aborted the command. The device checks PSDT.
+    /// 04h, 05h, 09h and 0Ah stay the controller's, and so does a fused command, which it refuses. The device checks
+    /// PSDT.
+    ///
+    /// An Abort, 08h, is the device's where it was announced and names no command that waits. The device finds the tag
+    /// of that command by [`Controller::named`], ends it if it can, and completes the Abort with 0 as Command Dword 0,
+    /// or 1 where it couldn't. One that isn't the device's is answered with 1 where no command waits.
     pub fn own_opcode(&mut self, opcode: u8) {
         // SAFETY: references.
         sure(checked(unsafe { sys::nvmearb_ctrl_own_opcode(&mut *self.ctrl, opcode) }));
@@ -251,6 +254,27 @@ impl Controller {
     pub fn own_feature(&mut self, fid: u8) {
         // SAFETY: references.
         sure(checked(unsafe { sys::nvmearb_ctrl_own_feature(&mut *self.ctrl, fid) }));
+    }
+
+    /// From now on no command of a submission queue is picked (`on`), or they are again. What waits in it stays there,
+    /// and up to the window it is fetched as before; an Abort and a deletion still end it. Commands that were picked
+    /// stay picked. The queue may be the admin queue. A queue that is created anew isn't held.
+    ///
+    /// [`Error::Missing`]: the queue isn't open or is closing.
+    pub fn hold(&mut self, qid: u16, on: bool) -> Result<(), Error> {
+        // SAFETY: references.
+        checked(unsafe { sys::nvmearb_ctrl_hold(&mut *self.ctrl, qid, u8::from(on)) })
+    }
+
+    /// From now on an I/O submission queue has this priority class, whatever its Create asked for (QPRIO). Linux asks
+    /// for urgent for all, so that weights do nothing there. A queue that is created anew has the class of its Create.
+    /// Under round robin a class has no effect.
+    ///
+    /// [`Error::Argument`]: `priority` is [`Priority::Admin`]. Otherwise [`Error::Missing`]: `qid` is 0, or the queue
+    /// isn't open or is closing.
+    pub fn set_class(&mut self, qid: u16, priority: Priority) -> Result<(), Error> {
+        // SAFETY: references.
+        checked(unsafe { sys::nvmearb_ctrl_set_class(&mut *self.ctrl, qid, priority as u16) })
     }
 
     /// The host wrote the tail doorbell of a submission queue: `tail` is bits 15:00 of the value.
@@ -290,7 +314,7 @@ impl Controller {
     }
 
     /// The pick that arbitration makes next of the commands that wait now, whether or not [`Controller::pick`] can make
-    /// it already. None if no command waits.
+    /// it already. None if no command waits but in queues that are held.
     pub fn peek(&self) -> Option<Pick> {
         let (ctrl, slots) = (&*self.ctrl, &*self.slots);
         // SAFETY: references, and the slots are those of the state.
@@ -299,10 +323,10 @@ impl Controller {
             .map(Pick::of)
     }
 
-    /// Makes the next pick of arbitration. None if no command waits. An admin command that isn't the device's is
-    /// carried out at once: queues are created, a deletion begins and the waiting commands of its queue are answered
-    /// with [`Status::ABORTED_BY_DELETION`], a waiting command is aborted with [`Status::ABORT_REQUESTED`], features
-    /// are set and told.
+    /// Makes the next pick of arbitration. None if no command waits but in queues that are held. An admin command that
+    /// isn't the device's is carried out at once: queues are created, a deletion begins and the waiting commands of its
+    /// queue are answered with [`Status::ABORTED_BY_DELETION`], a waiting command is aborted with
+    /// [`Status::ABORT_REQUESTED`], features are set and told.
     ///
     /// [`Error::Busy`]: commands are picked and not taken. [`Error::Full`]: more than 256 commands would be picked, or
     /// aborted by an Abort, and have no completion posted.
@@ -369,6 +393,14 @@ impl Controller {
             .map(Command::of)
     }
 
+    /// The tag of the command with the identifier `cid`, of the submission queue `qid`, that the device has, so that it
+    /// finds what an Abort names. None if the device has no such command: it waits, say, or is completed.
+    pub fn named(&self, qid: u16, cid: u16) -> Option<u16> {
+        let (ctrl, slots) = (&*self.ctrl, &*self.slots);
+        // SAFETY: references, and the slots are those of the state.
+        sure(found(|tag| unsafe { sys::nvmearb_ctrl_named(ctrl, slots.as_ptr(), slots.len(), qid, cid, tag) }))
+    }
+
     /// The number of the region of a submission queue. None if the queue isn't open or is closing.
     pub fn sq(&self, qid: u16) -> Option<u16> {
         // SAFETY: references.
@@ -386,6 +418,14 @@ impl Controller {
     pub fn waiting(&self, qid: u16) -> Option<u16> {
         // SAFETY: references.
         sure(found(|count| unsafe { sys::nvmearb_ctrl_waiting(&*self.ctrl, qid, count) }))
+    }
+
+    /// Whether the numbers of the controller and its slots are within their ranges. They are unless something outside of
+    /// Rust's rules wrote into them, such as a device of the machine: this finds most of that, and looks at each slot.
+    pub fn is_in_range(&self) -> bool {
+        let (ctrl, slots) = (&*self.ctrl, &*self.slots);
+        // SAFETY: references.
+        unsafe { sys::nvmearb_ctrl_verify(ctrl, slots.as_ptr(), slots.len()) == sys::NVMEARB_OK }
     }
 
     /// The state, the slots, and their number, as calls take them.

@@ -40,8 +40,8 @@
 //! # The library
 //!
 //! `make -C capi install PREFIX=FOLDER` installs it, and `nvmearb = { path = "capi/rust" }` is the dependency. The
-//! build looks for `libnvmearb.a` in the folder that `NVMEARB_LIB_DIR` names, else by pkg-config. The library is built
-//! for x86-64 alone.
+//! build looks for `libnvmearb.a` in the folder that `NVMEARB_LIB_DIR` names, else by pkg-config. `make` builds it for
+//! x86-64.
 //!
 //! It allocates nothing, starts no thread and keeps no pointer: all states can be moved, and sent to other threads.
 //! Calls on one state run one after another, so no state is `Sync`. An [`Arbiter`], a [`Board`], a [`Table`] and a

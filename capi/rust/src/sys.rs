@@ -430,6 +430,8 @@ extern "C" {
     pub fn nvmearb_ctrl_add_cq_region(ctrl: *mut nvmearb_ctrl, address: u64, slots: u16, number: *mut u16) -> u32;
     pub fn nvmearb_ctrl_own_opcode(ctrl: *mut nvmearb_ctrl, opcode: u8) -> u32;
     pub fn nvmearb_ctrl_own_feature(ctrl: *mut nvmearb_ctrl, fid: u8) -> u32;
+    pub fn nvmearb_ctrl_hold(ctrl: *mut nvmearb_ctrl, qid: u16, on: u8) -> u32;
+    pub fn nvmearb_ctrl_set_class(ctrl: *mut nvmearb_ctrl, qid: u16, priority: u16) -> u32;
     pub fn nvmearb_ctrl_sq_tail(ctrl: *mut nvmearb_ctrl, qid: u16, tail: u16) -> u32;
     pub fn nvmearb_ctrl_cq_head(ctrl: *mut nvmearb_ctrl, cqid: u16, head: u16) -> u32;
     pub fn nvmearb_ctrl_fetch(ctrl: *const nvmearb_ctrl, qid: u16, slot: *mut u16) -> u32;
@@ -442,7 +444,9 @@ extern "C" {
     pub fn nvmearb_ctrl_post(ctrl: *mut nvmearb_ctrl, slots: *mut nvmearb_slot, count: usize, region: u16, post: *mut nvmearb_post) -> u32;
     pub fn nvmearb_ctrl_finish(ctrl: *mut nvmearb_ctrl, slots: *mut nvmearb_slot, count: usize, qid: *mut u16) -> u32;
     pub fn nvmearb_ctrl_command(ctrl: *const nvmearb_ctrl, slots: *const nvmearb_slot, count: usize, tag: u16, command: *mut nvmearb_command) -> u32;
+    pub fn nvmearb_ctrl_named(ctrl: *const nvmearb_ctrl, slots: *const nvmearb_slot, count: usize, qid: u16, cid: u16, tag: *mut u16) -> u32;
     pub fn nvmearb_ctrl_sq(ctrl: *const nvmearb_ctrl, qid: u16, region: *mut u16) -> u32;
     pub fn nvmearb_ctrl_cq(ctrl: *const nvmearb_ctrl, cqid: u16, region: *mut u16) -> u32;
     pub fn nvmearb_ctrl_waiting(ctrl: *const nvmearb_ctrl, qid: u16, count: *mut u16) -> u32;
+    pub fn nvmearb_ctrl_verify(ctrl: *const nvmearb_ctrl, slots: *const nvmearb_slot, count: usize) -> u32;
 }

@@ -2,7 +2,8 @@
 //! A controller: each call, and each refusal. Values are the specification's.
 use nvmearb::admin_opcode::{ABORT, CREATE_CQ, CREATE_SQ, DELETE_SQ, GET_FEATURES, SET_FEATURES};
 use nvmearb::{
-    feature, io_opcode, Config, Controller, Cqe, DoorbellError, Error, Marks, Mechanism, Pick, Region, Sqe, Status,
+    feature, io_opcode, Config, Controller, Cqe, DoorbellError, Error, Marks, Mechanism, Pick, Priority, Region, Sqe,
+    Status,
 };
 use nvmearb::{Step, Verdict, MAX_REGIONS, MAX_SLOTS};
 
@@ -200,6 +201,43 @@ fn abort_takes_a_waiting_command() {
     assert_eq!(carried_out(&mut ctrl), Verdict::Abort { sqid: 1, cid: 42 });
     posted(&mut ctrl, 1, (0, 3, 42, true, Status::ABORT_REQUESTED, 0));
     posted(&mut ctrl, 0, (2, 3, 12, true, Status::SUCCESS, 0));
+}
+
+#[test]
+fn abort_of_what_is_out_is_the_devices() {
+    let mut ctrl = prepared(Mechanism::Weighted);
+    ctrl.own_opcode(ABORT);
+    assert_eq!(ctrl.sq_tail(1, 2), Ok(()));
+    fetched(&mut ctrl, 1, 0, read(40));
+    assert_eq!(ctrl.named(1, 40), None);
+    picked(&mut ctrl, 1);
+    let tag = taken(&mut ctrl, 40);
+    fetched(&mut ctrl, 1, 1, read(41));
+    assert_eq!((ctrl.named(1, 40), ctrl.named(1, 41), ctrl.named(2, 40)), (Some(tag), None, None));
+    assert_eq!(ctrl.sq_tail(0, 4), Ok(()));
+    fetched(&mut ctrl, 0, 2, admin(ABORT, 12, 0, 41 << 16 | 1, 0));
+    fetched(&mut ctrl, 0, 3, admin(ABORT, 13, 0, 40 << 16 | 1, 0));
+    assert_eq!(carried_out(&mut ctrl), Verdict::Abort { sqid: 1, cid: 41 });
+    let abort = passed_on(&mut ctrl, admin(ABORT, 13, 0, 40 << 16 | 1, 0));
+    assert_eq!((ctrl.named(0, 13), ctrl.complete(tag, Status::ABORT_REQUESTED, 0)), (Some(abort), Ok(())));
+    assert_eq!((ctrl.named(1, 40), ctrl.complete(abort, Status::SUCCESS, 0)), (None, Ok(())));
+    posted(&mut ctrl, 1, (0, 2, 41, true, Status::ABORT_REQUESTED, 0));
+    posted(&mut ctrl, 1, (1, 2, 40, true, Status::ABORT_REQUESTED, 0));
+    posted(&mut ctrl, 0, (2, 4, 12, true, Status::SUCCESS, 0));
+    posted(&mut ctrl, 0, (3, 4, 13, true, Status::SUCCESS, 0));
+}
+
+#[test]
+fn held_queue_waits_and_classes_are_set() {
+    let mut ctrl = prepared(Mechanism::Weighted);
+    assert_eq!((ctrl.hold(2, true), ctrl.set_class(0, Priority::Low)), (Err(Error::Missing), Err(Error::Missing)));
+    assert_eq!(ctrl.set_class(1, Priority::Admin), Err(Error::Argument));
+    assert_eq!(ctrl.sq_tail(1, 1), Ok(()));
+    fetched(&mut ctrl, 1, 0, read(40));
+    assert_eq!((ctrl.hold(1, true), ctrl.pick(), ctrl.waiting(1)), (Ok(()), Ok(None), Some(1)));
+    assert_eq!((ctrl.hold(1, false), ctrl.set_class(1, Priority::Low)), (Ok(()), Ok(())));
+    assert_eq!(ctrl.peek().map(|pick| (pick.qid, pick.n)), Some((1, 1)));
+    assert!(ctrl.is_in_range());
 }
 
 #[test]

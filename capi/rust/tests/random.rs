@@ -123,6 +123,12 @@ impl Driven {
                 self.ctrl.own_opcode(b as u8);
                 self.ctrl.own_feature(b as u8);
             }
+            11 if a == 1 => {
+                let priority = [Priority::Urgent, Priority::High, Priority::Medium, Priority::Low][usize::from(b) % 4];
+                assert_eq!(self.ctrl.hold(b % 3, b % 5 == 0).is_ok(), self.ctrl.sq(b % 3).is_some());
+                assert_eq!(self.ctrl.set_class(b % 3, priority).is_ok(), b % 3 != 0 && self.ctrl.sq(b % 3).is_some());
+                assert!(self.ctrl.named(b % 3, b).map_or(true, |tag| self.ctrl.command(tag).is_some()));
+            }
             _ => {
                 self.ctrl.finish();
                 let (command, queue) = (self.ctrl.command(b), (self.ctrl.sq(a), self.ctrl.cq(a)));
@@ -143,6 +149,7 @@ fn controllers_answer_each_command_once() {
     for round in 0..1000 {
         let mut it = Driven::new(if round % 2 == 0 { Mechanism::RoundRobin } else { Mechanism::Weighted });
         (0..500).for_each(|_| it.step(&mut drawn));
+        assert!(it.ctrl.is_in_range());
         posts = [posts[0] + it.posts[0], posts[1] + it.posts[1]];
         passed += it.passed;
     }

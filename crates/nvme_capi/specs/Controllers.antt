@@ -1,8 +1,9 @@
 -- What a controller of C is, and what its calls write, in the library's terms (profile).
-use Rattle.std.specs.Prelude.{◌≡◌, ℕ, ◌/◌, ◌%◌, ◌==◌, ◌&&◌, nat_lt, Bool, true, false, if◌then◌else◌, List, [], length}
+use Rattle.std.specs.Prelude.{◌≡◌, ℕ, ◌/◌, ◌%◌, ◌==◌, ◌&&◌, nat_lt, Bool, true, false, if◌then◌else◌, List, [], length, Option, None}
 use Rattle.nvme_entry.specs.Bits.{bits_of, dword}
 use Rattle.nvme_entry.specs.declared.completion.Cqe.{Cqe}
-use Rattle.nvme_arbiter.specs.Settings.{settings_of}
+use Rattle.nvme_arbiter.specs.Settings.{settings_of, class_of_number}
+use Rattle.nvme_arbiter.specs.declared.settings.Class.{Class}
 use Rattle.nvme_arbiter.specs.Layout.{mechanism_of}
 use Rattle.nvme_admin.specs.declared.limits.Limits.{Limits}
 use Rattle.nvme_admin.specs.declared.verdict.Verdict.{Verdict}
@@ -64,6 +65,10 @@ pub record HasToldWhat (rules : FrontRules) (late : Bool) (notes : Notes) (told 
   pub verdict : Verdict
   pub told_is : told ≡ answer_of verdict
   pub carried_out : HasCarriedOut rules late notes verdict c slots
+
+-- the priority class of an I/O queue that a number says: 1 urgent to 4 low
+abbrev pub io_class_of : ℕ → Option Class
+io_class_of n = if n == 0 then None else class_of_number n
 
 -- the answer of a device
 abbrev pub device_answer : StatusFields → (dw0 : ℕ) → Answer

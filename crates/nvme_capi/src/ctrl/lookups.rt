@@ -1,14 +1,15 @@
 // What is seen of a controller of C.
-ghost use Rattle.std.specs.Prelude.{◌≡◌, ◌≢◌, ◌⊎◌, ◌↔◌, Bool, true, false, List, length, None, Some, IsTrue, IsFalse, IsSomeAnd};
+ghost use Rattle.std.specs.Prelude.{◌≡◌, ◌≢◌, ◌⊎◌, ◌↔◌, ℕ, Bool, true, false, List, length, None, Some, IsTrue, IsFalse, IsSomeAnd};
 ghost use Rattle.nvme_log.specs.Rules.{FrontRules};
 ghost use Rattle.nvme_log.specs.Queues.{open_sq, open_cq};
 ghost use Rattle.nvme_log.specs.Places.{entry_at, waiting};
 ghost use Rattle.nvme_log.specs.declared.place.Place.{Place};
 ghost use Rattle.nvme_ctrl.specs.Notes.{Notes, logged};
 ghost use Rattle.nvme_ctrl.specs.Standing.{Stands};
+ghost use Rattle.nvme_ctrl.specs.Calls.{IsTagOf};
 ghost use Rattle.nvme_ctrl.specs.Tags.{is_out, holder, cookie_of};
 ghost use Rattle.nvme_ctrl.specs.declared.slot.Slot.{Slot};
-ghost use Rattle.nvme_capi.specs.Controllers.{is_ctrl, has_slots, IsCommandIn};
+ghost use Rattle.nvme_capi.specs.Controllers.{is_ctrl, has_slots, IsKept, IsCommandIn};
 
 use crate::ctrl::state::{CommandFields, CtrlState, has_slots, is_ctrl};
 use crate::results::{BAD_ARGUMENT, BAD_STATE, NOTHING, OK};
@@ -47,6 +48,38 @@ pub extern "C" fn nvmearb_ctrl_command(
         tag,
     };
     OK
+}
+
+/// Writes the tag of the command with this identifier, of the submission queue with this one, where the device has one.
+#[unsafe(no_mangle)]
+pub extern "C" fn nvmearb_ctrl_named(
+    state: &CtrlState,
+    slots: &[Slot],
+    qid: u16,
+    cid: u16,
+    tag: &mut u16,
+) -> u32
+    requires kept { IsKept state.now slots.now }
+    ensures bad_state { (result ≡ BAD_STATE) ↔ IsFalse (is_ctrl state.now) }
+    ensures bad_argument { (result ≡ BAD_ARGUMENT) ↔ (IsTrue (is_ctrl state.now) × IsFalse (has_slots state.now slots.now)) }
+    ensures answer { (result ≡ OK) ⊎ ((result ≡ NOTHING) ⊎ ((result ≡ BAD_ARGUMENT) ⊎ (result ≡ BAD_STATE))) }
+    ensures found { (rules : FrontRules) (late : Bool) (notes : Notes) → Stands rules late notes state.now.ctrl slots.now → result ≡ OK → IsTagOf notes qid cid tag.new }
+    ensures nothing { (rules : FrontRules) (late : Bool) (notes : Notes) → Stands rules late notes state.now.ctrl slots.now → result ≡ NOTHING → (it : ℕ) → IsTagOf notes qid cid it → ⊥ }
+    ensures unchanged { result ≢ OK → tag.new ≡ tag.old }
+{
+    if !is_ctrl(state) {
+        return BAD_STATE;
+    }
+    if !has_slots(state, slots) {
+        return BAD_ARGUMENT;
+    }
+    match state.ctrl.named(slots, qid, cid) {
+        Some(it) => {
+            *tag = it;
+            OK
+        }
+        None => NOTHING,
+    }
 }
 
 /// Writes the number of the region of a submission queue, where it is open.
