@@ -11,7 +11,6 @@ use Rattle.std.proofs.lemmas.List.Recursion.{and_from_places}
 use Rattle.nvme_admin.specs.declared.bounds.TheConstants.{MAX_REGIONS}
 use Rattle.nvme_log.specs.Rules.{FrontRules}
 use Rattle.nvme_log.specs.Queues.{cq_region_of}
-use Rattle.nvme_log.specs.Dispatches.{place_at}
 use Rattle.nvme_ctrl.specs.Notes.{Notes, logged}
 use Rattle.nvme_ctrl.specs.Rings.{HasCounts}
 use Rattle.nvme_ctrl.specs.Ranges.{is_used_as, is_item, is_placed, is_link, are_linked, is_chain, is_ring, is_attached, is_sq, is_cq, is_deletion, has_counts, has_numbers, has_regions, is_in_range}
@@ -21,11 +20,11 @@ use Rattle.nvme_ctrl.specs.declared.chain.Chain.{Chain}
 use Rattle.nvme_ctrl.specs.declared.slot.Slot.{Slot}
 use Rattle.nvme_ctrl.specs.declared.state.SqState.{SqState}
 use Rattle.nvme_ctrl.specs.declared.state.Controller.{Controller}
-use Rattle.nvme_ctrl.specs.kept.Content.{Attachment, PendingDelete, Ready}
+use Rattle.nvme_ctrl.specs.kept.Content.{Attachment, Ready}
 use Rattle.nvme_ctrl.specs.kept.Standing.{IsReady, IsInHand}
 use Rattle.nvme_ctrl.specs.kept.Pool.{no_slot, slot_at, next_at, AreLinked, IsChain}
-use Rattle.nvme_ctrl.specs.kept.State.{no_sq_state, no_cq_state, sq_at, cq_at, attachment_of}
-use Rattle.nvme_ctrl.specs.kept.Kept.{Item, ReadyItem, IsWaitingIn, IsOutIn, IsReadyIn, is_free, tags_of, ready_tags, untaken, pending_of, StandsAt}
+use Rattle.nvme_ctrl.specs.kept.State.{no_sq_state, no_cq_state, no_deletion, sq_at, cq_at, deletion_at, pending_tag, attachment_of}
+use Rattle.nvme_ctrl.specs.kept.Kept.{Item, ReadyItem, DeleteItem, IsWaitingIn, IsOutIn, IsReadyIn, is_free, tags_of, ready_tags, untaken, StandsAt}
 use Rattle.nvme_ctrl.proofs.Pools.{length-chain}
 use Rattle.nvme_ctrl.proofs.SlotItems.{All-both, All-parts, ready_state-range}
 use Rattle.nvme_ctrl.proofs.ReadyHand.{All-taken}
@@ -124,13 +123,6 @@ attached_of s h = elim (cases_eq s.opened 0) [
   | inr some ↦ rw (ne_eqb s.opened 0 some) (and_from (nat_lt 0 s.ring.slots) (nat_lt s.cq_region MAX_REGIONS) (lt-ltb 0 s.ring.slots (h some).0) (lt-ltb s.cq_region MAX_REGIONS (h some).1))
 ]
 
--- the queue of a region
-attachment-qid : (s : SqState) (a : Attachment) → attachment_of s ≡ Some a → s.qid ≡ a.qid
-attachment-qid s a is = by (s.opened == 0) is where
-  by : (b : Bool) → (if b then None else Some (record { qid = s.qid; cq_region = s.cq_region })) ≡ Some a → s.qid ≡ a.qid
-  by true e = cc e
-  by false e = ap (λ (x : Attachment). x.qid) (same_Some (record { qid = s.qid; cq_region = s.cq_region }) a e)
-
 -- ---- a controller
 module _ (rules : FrontRules) (late : Bool) (notes : Notes) (c : Controller) (slots : List Slot) (s : StandsAt rules late notes c slots) where
   -- a region with a queue is one of those that can be there
@@ -203,22 +195,23 @@ module _ (rules : FrontRules) (late : Bool) (notes : Notes) (c : Controller) (sl
     | inr other ↦ rw (ne_eqb (slot_at slots x).state 2 other) refl
   ]
 
-  -- the pending deletion
-  deletion_qid : c.deletion.pending ≢ 0 → (sq_at c.sqs c.deletion.region).qid ≡ c.deletion.qid
-  deletion_qid some =
-      let d : PendingDelete =
-      record { place = place_at 0 s.items.delete_index; cid = (slot_at slots c.deletion.tag).entry.cid; qid = c.deletion.qid; region = c.deletion.region } in
-      let is : pending_of c slots s.items ≡ Some d = rw (ne_eqb c.deletion.pending 0 some) refl in
-      let one = s.holds.queues.deleting d (s.has.deletion_is ∙ is) in
-      attachment-qid (sq_at c.sqs c.deletion.region) (record { qid = c.deletion.qid; cq_region = one.cq_region }) (s.numbers.sq_queue c.deletion.region ∙ one.opened)
+  -- the pending deletions
+  deletion_in_range : (r : ℕ) → is_deletion slots (deletion_at c.deletions r) ≡ true
+  deletion_in_range r = elim (cases_eq (deletion_at c.deletions r).pending 0) [
+    | inl none ↦ rw (eq-eqb (deletion_at c.deletions r).pending 0 none) refl
+    | inr some ↦ by (s.items.deletes r) refl some (sym (tag_is some) ∙ s.has.deletions.tags r)
+  ] where
+    tag_is : (deletion_at c.deletions r).pending ≢ 0 → pending_tag (deletion_at c.deletions r) ≡ Some (deletion_at c.deletions r).tag
+    tag_is some = rw (ne_eqb (deletion_at c.deletions r).pending 0 some) refl
 
-  deletion_in_range : is_deletion c slots c.deletion ≡ true
-  deletion_in_range = elim (cases_eq c.deletion.pending 0) [
-    | inl none ↦ rw (eq-eqb c.deletion.pending 0 none) refl
-    | inr some ↦ rw (ne_eqb c.deletion.pending 0 some)
-        (and_from _ _ (eq-eqb _ _ (deletion_qid some))
-        (and_from _ _ (lt-ltb c.deletion.tag (length slots) (s.has.deletion_inside some)) (eq-eqb _ _ (s.has.deletion_item some))))
-  ]
+    by : (o : Option DeleteItem) → s.items.deletes r ≡ o → (deletion_at c.deletions r).pending ≢ 0
+        → Some (deletion_at c.deletions r).tag ≡ option_map (λ (it : DeleteItem). it.tag) o → is_deletion slots (deletion_at c.deletions r) ≡ true
+    by None e some h = cc h
+    by (Some it) e some h =
+        let tag : (deletion_at c.deletions r).tag ≡ it.tag = same_Some (deletion_at c.deletions r).tag it.tag h in
+        let has = s.has.deletions.items r it e in
+        rw (ne_eqb (deletion_at c.deletions r).pending 0 some)
+        (and_from _ _ (lt-ltb (deletion_at c.deletions r).tag (length slots) (omega (arith, tag, has.inside))) (eq-eqb _ _ (ap (λ (t : ℕ). (slot_at slots t).state) tag ∙ has.state)))
 
   -- the counts
   counts_in_range : has_counts c ≡ true
@@ -238,7 +231,7 @@ module _ (rules : FrontRules) (late : Bool) (notes : Notes) (c : Controller) (sl
   all_in_range : is_in_range c slots ≡ true
   all_in_range =
       and_from (has_numbers c slots) (has_regions c slots && list_all is_placed slots)
-      (and_from _ _ s.numbers.is_arbiter (and_from _ _ counts_in_range (and_from _ _ deletion_in_range free_in_range)))
+      (and_from _ _ s.numbers.is_arbiter (and_from _ _ counts_in_range (and_from _ _ (all_at (is_deletion slots) c.deletions no_deletion (λ r below. deletion_in_range r)) free_in_range)))
       (and_from (has_regions c slots) (list_all is_placed slots)
       (and_from _ _ (all_at (is_sq slots) c.sqs no_sq_state (λ r below. sq_in_range r (omega (arith, below, s.numbers.sq_size)))) (all_at (is_cq slots) c.cqs no_cq_state (λ x below. cq_in_range x)))
       (all_at is_placed slots no_slot (λ x below. placed x)))

@@ -59,11 +59,9 @@ abbrev pub is_cq : List Slot → CqState → Bool
 is_cq slots s = is_ring s.ring && is_chain 3 5 slots s.ready
 
 -- ---- a controller
--- the pending deletion is that of the queue of its region, and its command is a Delete
-abbrev pub is_deletion : Controller → List Slot → Deletion → Bool
-is_deletion c slots d =
-    if d.pending == 0 then true
-    else ((sq_at c.sqs d.region).qid == d.qid) && (nat_lt d.tag (length slots) && ((slot_at slots d.tag).state == 6))
+-- the slot of a pending deletion is one of the pool, and its command is a Delete
+abbrev pub is_deletion : List Slot → Deletion → Bool
+is_deletion slots d = if d.pending == 0 then true else nat_lt d.tag (length slots) && ((slot_at slots d.tag).state == 6)
 
 -- the counts are within their limits
 abbrev pub has_counts : Controller → Bool
@@ -71,7 +69,7 @@ has_counts c = nat_le c.outstanding max_outstanding && nat_le c.picked (sq_at c.
 
 -- its own numbers
 abbrev pub has_numbers : Controller → List Slot → Bool
-has_numbers c slots = is_arbiter c.board.arbiter && (has_counts c && (is_deletion c slots c.deletion && is_chain 0 0 slots c.free))
+has_numbers c slots = is_arbiter c.board.arbiter && (has_counts c && (list_all (is_deletion slots) c.deletions && is_chain 0 0 slots c.free))
 
 -- those of its regions
 abbrev pub has_regions : Controller → List Slot → Bool

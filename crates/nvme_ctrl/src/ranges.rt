@@ -1,19 +1,19 @@
 // The ranges of the numbers of a controller and its slots, as they lie in memory.
 ghost use Rattle.std.specs.Prelude.{◌≡◌};
 ghost use Rattle.std.specs.List.{list_all};
-ghost use Rattle.nvme_ctrl.specs.Ranges.{is_item, is_placed, is_link, is_chain, is_ring, is_attached, is_sq, is_cq};
+ghost use Rattle.nvme_ctrl.specs.Ranges.{is_item, is_placed, is_link, is_chain, is_ring, is_attached, is_sq, is_cq, is_deletion};
 
 use crate::chain::Chain;
 use crate::ring::Ring;
 use crate::slot::{ANSWERED, DELETING, DROPPED, FREE, OUT, Slot, WAITING, slot_at};
-use crate::state::{Controller, CqState, SqState};
+use crate::state::{Controller, CqState, Deletion, SqState};
 use nvme_admin::MAX_REGIONS;
 use nvme_log::MAX_OUTSTANDING;
 
 impl Controller {
     ghost use Rattle.std.specs.Prelude.{◌≡◌, true};
     ghost use Rattle.nvme_ctrl.specs.Standing.{IsController};
-    ghost use Rattle.nvme_ctrl.specs.Ranges.{has_counts, is_deletion, has_numbers, has_regions, is_in_range};
+    ghost use Rattle.nvme_ctrl.specs.Ranges.{has_counts, has_numbers, has_regions, is_in_range};
 
     /// Whether the numbers of the controller and of these slots are within their ranges: counts and limits, the head and
     /// tail of each ring, the queues of regions, and the chains, each as long as it says, linked within the pool, of
@@ -39,7 +39,7 @@ impl Controller {
     {
         self.board.arbiter.is_arbiter()
             && self.has_counts()
-            && self.has_deletion(slots)
+            && are_deletions(&self.deletions, slots)
             && is_chain(&self.free, slots, FREE, FREE)
     }
 
@@ -55,19 +55,6 @@ impl Controller {
         ensures { result ≡ has_counts self.now }
     {
         self.outstanding <= MAX_OUTSTANDING && self.picked <= self.sq(self.picked_region).window.len
-    }
-
-    // Whether the pending deletion is that of the queue of its region, with a Delete command.
-    fn has_deletion(&self, slots: &[Slot]) -> bool
-        ensures { result ≡ is_deletion self.now slots.now self.now.deletion }
-    {
-        let it = self.deletion;
-        if it.pending == 0 {
-            return true;
-        }
-        self.sq(it.region).qid == it.qid
-            && usize::from(it.tag) < slots.len()
-            && slot_at(slots, it.tag).state == DELETING
     }
 }
 
@@ -165,4 +152,20 @@ fn are_cqs(cqs: &[CqState], slots: &[Slot]) -> bool
     ensures { result ≡ list_all (is_cq slots.now) cqs.now }
 {
     cqs.iter().all(|cq| is_cq(cq, slots))
+}
+
+// Whether a deletion that is pending has the slot of a Delete.
+fn is_deletion(deletion: &Deletion, slots: &[Slot]) -> bool
+    ensures { result ≡ is_deletion slots.now deletion.now }
+{
+    deletion.pending == 0
+        || (usize::from(deletion.tag) < slots.len()
+            && slot_at(slots, deletion.tag).state == DELETING)
+}
+
+// Whether all deletions that are pending have.
+fn are_deletions(deletions: &[Deletion], slots: &[Slot]) -> bool
+    ensures { result ≡ list_all (is_deletion slots.now) deletions.now }
+{
+    deletions.iter().all(|deletion| is_deletion(deletion, slots))
 }
