@@ -424,8 +424,10 @@ typedef struct nvmearb_queue {
 /*
  * A slot of a controller: it holds one command from its fetch until its completion is posted, and its number is the
  * command's tag. The caller keeps an array of them, whose content is the library's. Nothing is fetched while none is
- * free. With fewer than (nsq + 1) * window + 256 slots, commands of one queue may so keep those of another from being
- * fetched.
+ * free. With `window` slots for each submission region, the admin queue's included, and 256 more, one is free for each
+ * command that may be fetched otherwise, while no queue is being deleted. With fewer, commands of one queue may keep
+ * those of another from being fetched. Commands that a deletion drops hold their slots until their completions are
+ * posted.
  */
 typedef struct nvmearb_slot {
     uint64_t words[10];

@@ -190,7 +190,10 @@ pub struct Controller {
 impl Controller {
     /// A controller with its admin queues alone, which are open, on region 0 of each kind. It has `slots` slots: one
     /// holds one command from its fetch until its completion is posted, and nothing is fetched while none is free. With
-    /// fewer than `(nsq + 1) * window + 256`, commands of one queue may so keep those of another from being fetched.
+    /// `window` slots for each submission region, the admin queue's included, and 256 more, one is free for each command
+    /// that may be fetched otherwise, while no queue is being deleted. With fewer, commands of one queue may keep
+    /// those of another from being fetched. Commands that a deletion drops hold their slots until their completions are
+    /// posted.
     ///
     /// [`Error::Argument`]: `slots` isn't 1 to [`MAX_SLOTS`], `nsq` or `ncq` isn't 1 to
     /// [`MAX_IO_QUEUES`](crate::MAX_IO_QUEUES), or `window` is 0. Otherwise the first of these: [`Error::Size`]: `asq`

@@ -68,7 +68,7 @@ hand-unaborted past k r i each deletes gone =
     omega (arith, times_held-append r i k.hand (held_upto k.deletion MAX_REGIONS), places-unaborted past k.hand r i each gone, held)
 
 -- so a place that was aborted with its queue has its completion posted
-aborted-posted : (past : Past) (k : Content) (r i : ℕ) → ((x : ℕ) → HoldsSq past x (k.sq x)) → HoldsReady past k (hand_of k)
+pub aborted-posted : (past : Past) (k : Content) (r i : ℕ) → ((x : ℕ) → HoldsSq past x (k.sq x)) → HoldsReady past k (hand_of k)
     → All (IsInHand past) k.hand → HoldsDeletion past k → k.deletion r ≡ None → is_aborted_with_queue past r i ≡ true → is_posted past r i ≡ false → ⊥
 aborted-posted past k r i regions h each deletes none gone fresh =
     let named : is_aborted past r i ≡ true = (and_parts (is_aborted past r i) (not (is_abort_requested past r i)) gone).0 in

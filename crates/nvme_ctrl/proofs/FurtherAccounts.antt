@@ -37,11 +37,11 @@ use Rattle.nvme_ctrl.proofs.TakenCommands.{IsSound, lawful-before}
 use Rattle.nvme_ctrl.proofs.ShownPicks.{picks-take}
 
 -- a list with an item more isn't empty
-not_empty : {A : Type 0} (xs : List A) (x : A) → xs ++ x ∷ [] ≡ [] → ⊥
+pub not_empty : {A : Type 0} (xs : List A) (x : A) → xs ++ x ∷ [] ≡ [] → ⊥
 not_empty {A = A} xs x e = let none : length (xs ++ x ∷ []) ≡ 0 = ap (λ (ys : List A). length ys) e in absurd (omega (arith, none, length_push xs x))
 
 -- what was fetched and posted of a region before an event
-fetched-before : (e : Event) (past : Past) (r : ℕ) → fetched (e ∷ past) r ≡ [] → fetched past r ≡ []
+pub fetched-before : (e : Event) (past : Past) (r : ℕ) → fetched (e ∷ past) r ≡ [] → fetched past r ≡ []
 fetched-before (Fetch region index entry) past r h = by (region == r) h where
   by : (b : Bool) → (if b then fetched past r ++ entry ∷ [] else fetched past r) ≡ [] → fetched past r ≡ []
   by true k = absurd (not_empty (fetched past r) entry k)

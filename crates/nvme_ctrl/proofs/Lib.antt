@@ -88,6 +88,8 @@ pub mod NotedRegions
 pub mod FurtherAccounts
 pub mod FurtherStanding
 pub mod AddCalls
+pub mod Sums
+pub mod HeldSlots
 pub mod Beginning
 pub mod NewCall
 pub mod OutEntries
