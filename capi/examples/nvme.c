@@ -152,7 +152,8 @@ static void start(struct nvme *d, const nvmearb_command *command)
 
 /*
  * Until a Create may name any address: adds a region for its ring under a token, which it puts into the copy of the
- * entry. A Create that no region can be added for is left to the controller, which refuses it.
+ * entry. A Create that no region can be added for is left to the controller under an address that is used, so that it
+ * is refused.
  */
 static void place(struct nvme *d, uint8_t *bytes)
 {
@@ -167,8 +168,11 @@ static void place(struct nvme *d, uint8_t *bytes)
         return;
     uint32_t told = is_sq ? nvmearb_ctrl_add_sq_region(&d->ctrl, token, slots, &region)
                           : nvmearb_ctrl_add_cq_region(&d->ctrl, token, slots, &region);
-    if (told != NVMEARB_OK)
+    if (told != NVMEARB_OK) {
+        entry.prp1 = d->sqs[0].address; /* no host may name a later token */
+        nvmearb_sqe_encode(&entry, bytes);
         return;
+    }
     d->tokens++;
     (is_sq ? d->sqs : d->cqs)[region] =
         (struct nvme_ring){entry.prp1, slots, 0, 0, (uint16_t)(entry.cdw11 >> 16), entry.cdw11 >> 1 & 1};

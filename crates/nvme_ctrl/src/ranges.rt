@@ -167,5 +167,7 @@ fn is_deletion(deletion: &Deletion, slots: &[Slot]) -> bool
 fn are_deletions(deletions: &[Deletion], slots: &[Slot]) -> bool
     ensures { result ≡ list_all (is_deletion slots.now) deletions.now }
 {
-    deletions.iter().all(|deletion| is_deletion(deletion, slots))
+    deletions
+        .iter()
+        .all(|deletion| is_deletion(deletion, slots))
 }
