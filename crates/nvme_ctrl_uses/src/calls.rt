@@ -336,6 +336,48 @@ fn abort_one(rt: &impl Abort, ctrl: &mut Controller, slots: &mut [Slot])
     post(rt, ctrl, slots, 0, (2, 3, 12, true), Status::SUCCESS);
 }
 
+// An Abort of command 20 of queue 1 is passed on to the device, which has that command: it ends it, and answers the Abort.
+// (Base Specification, Abort)
+fn abort_taken(rt: &impl Abort, ctrl: &mut Controller, slots: &mut [Slot])
+    requires { IsController ctrl.old slots.old }
+    ensures { IsController ctrl.new slots.new }
+{
+    let abort = entry(0x08, 12, 0, 20 << 16 | 1, 0);
+    tail(rt, ctrl, slots, 0, 3, true);
+    fetch(rt, ctrl, slots, 0, 2, &abort);
+    assert!(rt; matches!(ctrl.pick(slots), Step::Passed(_)));
+    // (of the admin queue it has no command 20)
+    assert_eq!(rt; ctrl.named(slots, 0, 20), None);
+    let Some(tag) = ctrl.named(slots, 1, 20) else {
+        assert!(rt; false, "the device has no command 20");
+        return;
+    };
+    let answer = Answer {
+        status: Status::ABORT_REQUESTED,
+        dw0: 0,
+        marks: Marks::NONE,
+    };
+    assert!(rt; ctrl.complete(slots, tag, answer));
+    assert_eq!(rt; ctrl.named(slots, 1, 20), None);
+    serve_one(rt, ctrl, slots);
+}
+
+#[test]
+fn device_aborts_what_it_has(rt: HostRuntime) -> Result<(), Fail> {
+    let mut slots = [Slot::free(); 16];
+    let mut ctrl = prepared(&rt, Mechanism::RoundRobin, &mut slots)?;
+    ctrl.own_opcode(0x08);
+    fill(&rt, &mut ctrl, &mut slots, 20);
+    let tags = take_three(&rt, &mut ctrl, &mut slots);
+    assert!(rt; tags.is_some());
+    abort_taken(&rt, &mut ctrl, &mut slots);
+    let ended = Status::ABORT_REQUESTED;
+    post(&rt, &mut ctrl, &mut slots, 1, (0, 3, 20, true), ended);
+    let last = (2, 3, 12, true);
+    post(&rt, &mut ctrl, &mut slots, 0, last, Status::SUCCESS);
+    Ok(())
+}
+
 // Delete of submission queue 1: nothing of it is fetched or picked any more. (Base Specification, Delete I/O Submission
 // Queue)
 fn begin_delete(rt: &impl Abort, ctrl: &mut Controller, slots: &mut [Slot])
