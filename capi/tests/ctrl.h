@@ -105,7 +105,7 @@ static inline int completes_with(uint16_t tag, nvmearb_status status, unsigned m
  * bits 31:28 of Command Dword 3: 8 is Do Not Retry, and 4 is More.
  */
 static inline int posted_with(uint16_t region, uint16_t slot, uint16_t sqhd, uint16_t cid, uint8_t phase,
-                       nvmearb_status status, uint32_t dw0, unsigned top)
+                              nvmearb_status status, uint32_t dw0, unsigned top)
 {
     nvmearb_post post;
     nvmearb_cqe cqe;
@@ -117,8 +117,8 @@ static inline int posted_with(uint16_t region, uint16_t slot, uint16_t sqhd, uin
            cqe.status.sct == status.sct && cqe.status.sc == status.sc && cqe.dw0 == dw0;
 }
 
-static inline int posted(uint16_t region, uint16_t slot, uint16_t sqhd, uint16_t cid, uint8_t phase, nvmearb_status status,
-                  uint32_t dw0)
+static inline int posted(uint16_t region, uint16_t slot, uint16_t sqhd, uint16_t cid, uint8_t phase,
+                         nvmearb_status status, uint32_t dw0)
 {
     return posted_with(region, slot, sqhd, cid, phase, status, dw0, 0);
 }

@@ -13,7 +13,7 @@ enum {
     FREE_SLOTS = CQS + NVMEARB_MAX_REGIONS * CQ_SIZE
 };
 enum { HEAD = 2, TAIL = 4, FIRST = 6, LAST = 8, LENGTH = 10, CQ_REGION = 16, OPENED = 17 };
-enum { OUTSTANDING = FREE_SLOTS + 8, PICKED_COUNT = FREE_SLOTS + 10, DELETION = FREE_SLOTS + 14 };
+enum { OUTSTANDING = FREE_SLOTS + 8, PICKED_COUNT = FREE_SLOTS + 10, DELETION = FREE_SLOTS + 14, DELETION_SIZE = 4 };
 enum { NEXT = 72, STATUS_TYPE = 74, REGION = 76, USED = 77 };
 
 /* The controller and its slots pass, and don't with another number in `bytes` of these. */
@@ -66,9 +66,9 @@ static void overwritten(void)
     CHECK(nvmearb_ctrl_verify(&ctrl, many, SLOTS) == NVMEARB_ESTATE);
     CHECK(posted_with(0, 2, 4, 12, 1, (nvmearb_status){0, 1}, 0, 8) && nvmearb_ctrl_sq_tail(&ctrl, 0, 5) == NVMEARB_OK);
     CHECK(fetched(0, 4, NVMEARB_OPC_DELETE_SQ, 14, 0, 1, 0) && carried_out(NVMEARB_BEGIN_DELETE));
-    other = (uint16_t)number_at(DELETION + 4);
-    CHECK(finds(&ctrl, DELETION + 1, 0, 1) && finds(&ctrl, DELETION + 2, 2, 2) && finds(&ctrl, DELETION + 4, SLOTS, 2));
-    CHECK(finds(&ctrl, DELETION + 4, tag, 2) && finds(&slots[other], USED, 0, 1));
+    other = (uint16_t)number_at(DELETION + DELETION_SIZE + 2);
+    CHECK(finds(&ctrl, DELETION + DELETION_SIZE + 2, SLOTS, 2) && finds(&ctrl, DELETION + DELETION_SIZE + 2, tag, 2));
+    CHECK(finds(&slots[other], USED, 0, 1));
 }
 
 /* A state and slots of any content are answered, and left. */
