@@ -420,7 +420,14 @@ fn delete_both(rt: &impl Abort, ctrl: &mut Controller, slots: &mut [Slot])
     ensures { IsController ctrl.new slots.new }
 {
     tail(rt, ctrl, slots, 0, 6, true);
-    fetch(rt, ctrl, slots, 0, 2, &entry(0x01, 12, SECOND, 0x0003_0002, 0x0001_0001));
+    fetch(
+        rt,
+        ctrl,
+        slots,
+        0,
+        2,
+        &entry(0x01, 12, SECOND, 0x0003_0002, 0x0001_0001),
+    );
     step(rt, ctrl, slots, true);
     fetch(rt, ctrl, slots, 0, 3, &entry(0x00, 13, 0, 1, 0));
     step(rt, ctrl, slots, true);
