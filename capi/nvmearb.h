@@ -43,10 +43,11 @@
  *   7. nvmearb_ctrl_complete, or nvmearb_ctrl_complete_with, for each command that ends, in any order and at any time.
  *   8. For each completion region, while nvmearb_ctrl_post gives a completion: write its bytes into the slot of the
  *      ring, Command Dword 3 last, since it has the phase tag, and then send the interrupt.
- *   9. After a pick that began a deletion (NVMEARB_BEGIN_DELETE), nvmearb_ctrl_finish after each 8., while it ends one.
- *      Until then nothing is fetched or picked of that queue, and its Delete isn't answered; what the device has of it
- *      may still be completed and posted. Other queues go on, the admin queue among them, and further deletions may
- *      begin: each waits for the commands of its own queue.
+ *   9. After a pick that began a deletion (NVMEARB_BEGIN_DELETE), nvmearb_ctrl_finish at once and after each 8., while
+ *      it ends one. Until then nothing is fetched or picked of that queue, its Delete isn't answered, and a Delete of its
+ *      completion queue is refused (1/0C, Invalid Queue Deletion); what the device has of it may still be completed and
+ *      posted. Other queues go on, the admin queue among them, and further deletions may begin: each waits for the
+ *      commands of its own queue.
  *  10. Go back to 5., for every queue, until a pass does nothing: picks make room for fetches, posts for picks
  *      (NVMEARB_FULL), and the end of a deletion for both. The completion of its Delete is posted in the next pass.
  *

@@ -91,6 +91,7 @@ static nvmearb_status execute(struct device *d, const nvmearb_sqe *entry)
 static int work(struct device *d)
 {
     int did = 0;
+    uint16_t gone;
     nvmearb_command command;
     nvmearb_step step;
     for (; nvmearb_ctrl_pick(&d->ctrl, d->slots, COMMANDS, &step) == NVMEARB_OK; did = 1) {
@@ -99,6 +100,7 @@ static int work(struct device *d)
             uint8_t marks = status.sct || status.sc ? NVMEARB_DNR : 0; /* what fails here would fail again */
             nvmearb_ctrl_complete_with(&d->ctrl, d->slots, COMMANDS, command.tag, &status, 0, marks);
         }
+        nvmearb_ctrl_finish(&d->ctrl, d->slots, COMMANDS, &gone); /* of an empty queue, before its completion queue's */
     }
     return did;
 }

@@ -143,9 +143,10 @@ impl Post {
 ///    time.
 /// 7. For each completion region, while [`Controller::post`] gives a completion: write it into the slot of the ring,
 ///    and then send the interrupt.
-/// 8. After a pick that began a deletion, [`Controller::finish`] after each 7., while it ends one. Until then nothing is
-///    fetched or picked of that queue; what the device has of it may still be completed. Other queues go on, and further
-///    deletions may begin.
+/// 8. After a pick that began a deletion, [`Controller::finish`] at once and after each 7., while it ends one. Until then
+///    nothing is fetched or picked of that queue, and a Delete of its completion queue is refused with
+///    [`Status::INVALID_QUEUE_DELETION`]; what the device has of it may still be completed. Other queues go on, and
+///    further deletions may begin.
 ///
 /// An admin command that is neither the controller's own nor the device's is answered with [`Status::INVALID_OPCODE`],
 /// and Set and Get Features of such a feature identifier with [`Status::INVALID_FIELD`]. A Create names a region that
