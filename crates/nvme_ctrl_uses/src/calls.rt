@@ -141,6 +141,23 @@ fn add_regions(ctrl: &mut Controller, slots: &[Slot]) -> Result<(), AdminError>
     Ok(())
 }
 
+// Adds the submission region of a second queue.
+fn add_second(ctrl: &mut Controller, slots: &[Slot]) -> Result<(), AdminError>
+    requires { IsController ctrl.old slots.now }
+    ensures { IsController ctrl.new slots.now }
+{
+    ctrl.add_sq_region(SECOND, 4)?;
+    Ok(())
+}
+
+// Announces Abort, so that Aborts of what the device has are the device's.
+fn own_aborts(ctrl: &mut Controller, slots: &[Slot])
+    requires { IsController ctrl.old slots.now }
+    ensures { IsController ctrl.new slots.now }
+{
+    ctrl.own_opcode(0x08);
+}
+
 // A controller with the I/O regions, whose host created both queues.
 fn prepared(
     rt: &impl Abort,
@@ -366,7 +383,7 @@ fn abort_taken(rt: &impl Abort, ctrl: &mut Controller, slots: &mut [Slot])
 fn device_aborts_what_it_has(rt: HostRuntime) -> Result<(), Fail> {
     let mut slots = [Slot::free(); 16];
     let mut ctrl = prepared(&rt, Mechanism::RoundRobin, &mut slots)?;
-    ctrl.own_opcode(0x08);
+    own_aborts(&mut ctrl, &slots);
     fill(&rt, &mut ctrl, &mut slots, 20);
     let tags = take_three(&rt, &mut ctrl, &mut slots);
     assert!(rt; tags.is_some());
@@ -445,7 +462,7 @@ fn delete_both(rt: &impl Abort, ctrl: &mut Controller, slots: &mut [Slot])
 fn deletions_are_apart(rt: HostRuntime) -> Result<(), Fail> {
     let mut slots = [Slot::free(); 16];
     let mut ctrl = prepared(&rt, Mechanism::RoundRobin, &mut slots)?;
-    ctrl.add_sq_region(SECOND, 4)?;
+    add_second(&mut ctrl, &slots)?;
     tail(&rt, &mut ctrl, &slots, 1, 1, true);
     fetch(&rt, &mut ctrl, &mut slots, 1, 0, &read(40));
     step(&rt, &mut ctrl, &mut slots, false);
