@@ -1,16 +1,15 @@
 -- Admin commands that are played one by one, and the regions that they leave unused.
-use Rattle.std.proofs.Common.{◌≡◌, ℕ, suc, ◌+◌, ◌<◌, ◌≤◌, Bool, Option, List, [], ◌∷◌, ◌++◌, length, drop, get_or, refl, sym, ap, ◌∙◌, subst, arith, append_assoc}
+use Rattle.std.proofs.Common.{◌≡◌, ℕ, suc, ◌+◌, ◌<◌, ◌≤◌, Bool, List, [], ◌∷◌, ◌++◌, length, drop, get_or, refl, sym, ap, ◌∙◌, subst, arith, append_assoc}
 use Rattle.std.proofs.Math.Seq.{drop-cons}
 use Rattle.std.specs.Prelude.{reverse}
 use Rattle.std.proofs.lemmas.List.{append-nil, drop_all, reverse-append}
 use Rattle.nvme_entry.specs.declared.submission.Sqe.{Sqe}
 use Rattle.nvme_admin.specs.History.{Start, TableHistory}
-use Rattle.nvme_admin.specs.Accepted.{status_of}
+use Rattle.nvme_admin.specs.Accepted.{queue_table, status_of}
 use Rattle.nvme_admin.specs.Standing.{TableView, StandsAt}
 use Rattle.nvme_workload.specs.declared.plan.SqPlan.{SqPlan}
 use Rattle.nvme_workload.specs.declared.plan.CqPlan.{CqPlan}
-use Rattle.nvme_lint.specs.Warnings.{history_after, history_of, refusal, refusals_of, warning_unless, unused_sqs, unused_cqs, of_script, of_scripts}
-use Rattle.nvme_lint.specs.declared.site.Site.{Site}
+use Rattle.nvme_lint.specs.Warnings.{history_after, history_of, Telling, of_commands, warning_unless, unused_sqs, unused_cqs, of_script, of_scripts}
 use Rattle.nvme_lint.specs.declared.warning.Warning.{Warning}
 use Rattle.nvme_lint.specs.declared.warning.Warning.TheVariants.{Unused}
 use Rattle.nvme_lint.specs.declared.warning.Kind.TheVariants as kind
@@ -21,10 +20,10 @@ abbrev pub history_then : Start → TableHistory → List Sqe → TableHistory
 history_then start h [] = h
 history_then start h (entry ∷ script) = history_then start (history_after start h entry) script
 
-abbrev pub refusals_then : (Sqe → Option Site) → Start → TableHistory → ℕ → List Sqe → List Warning
-refusals_then site start h number [] = []
-refusals_then site start h number (entry ∷ script) =
-    refusal site number entry (status_of start h entry) ++ refusals_then site start (history_after start h entry) (suc number) script
+abbrev pub commands_then : Telling → Start → TableHistory → ℕ → List Sqe → List Warning
+commands_then tell start h number [] = []
+commands_then tell start h number (entry ∷ script) =
+    tell (queue_table start h) number entry (status_of start h entry) ++ commands_then tell start (history_after start h entry) (suc number) script
 
 abbrev pub sqs_then : (ℕ → Bool) → ℕ → List SqPlan → List Warning
 sqs_then used number [] = []
@@ -49,15 +48,15 @@ history_from start h [] earlier = refl
 history_from start h (entry ∷ script) earlier =
     history_from start h script (entry ∷ earlier) ∙ ap (λ es. history_of start h es) (sym (first_moves entry script earlier))
 
-refusals_from : (site : Sqe → Option Site) (start : Start) (h : TableHistory) (script earlier : List Sqe)
-    → refusals_of site start h earlier ++ refusals_then site start (history_of start h earlier) (length earlier) script ≡ refusals_of site start h (reverse script ++ earlier)
-unfolding history_of refusals_of
-refusals_from site start h [] earlier = append-nil (refusals_of site start h earlier)
-refusals_from site start h (entry ∷ script) earlier =
+commands_from : (tell : Telling) (start : Start) (h : TableHistory) (script earlier : List Sqe)
+    → of_commands tell start h earlier ++ commands_then tell start (history_of start h earlier) (length earlier) script ≡ of_commands tell start h (reverse script ++ earlier)
+unfolding history_of of_commands
+commands_from tell start h [] earlier = append-nil (of_commands tell start h earlier)
+commands_from tell start h (entry ∷ script) earlier =
     let now : TableHistory = history_of start h earlier in
-    sym (append_assoc (refusals_of site start h earlier) (refusal site (length earlier) entry (status_of start now entry))
-    (refusals_then site start (history_after start now entry) (suc (length earlier)) script))
-    ∙ refusals_from site start h script (entry ∷ earlier) ∙ ap (λ es. refusals_of site start h es) (sym (first_moves entry script earlier))
+    sym (append_assoc (of_commands tell start h earlier) (tell (queue_table start now) (length earlier) entry (status_of start now entry))
+    (commands_then tell start (history_after start now entry) (suc (length earlier)) script))
+    ∙ commands_from tell start h script (entry ∷ earlier) ∙ ap (λ es. of_commands tell start h es) (sym (first_moves entry script earlier))
 
 sqs_from : (used : ℕ → Bool) (plans earlier : List SqPlan)
     → unused_sqs used earlier ++ sqs_then used (length earlier) plans ≡ unused_sqs used (reverse plans ++ earlier)
@@ -82,9 +81,9 @@ pub history_all : (start : Start) (h : TableHistory) (script : List Sqe) → his
 unfolding history_of
 history_all start h script = history_from start h script [] ∙ ap (λ es. history_of start h es) (append-nil (reverse script))
 
-refusals_all : (site : Sqe → Option Site) (start : Start) (h : TableHistory) (script : List Sqe) → refusals_then site start h 0 script ≡ refusals_of site start h (reverse script)
-unfolding history_of refusals_of
-refusals_all site start h script = refusals_from site start h script [] ∙ ap (λ es. refusals_of site start h es) (append-nil (reverse script))
+commands_all : (tell : Telling) (start : Start) (h : TableHistory) (script : List Sqe) → commands_then tell start h 0 script ≡ of_commands tell start h (reverse script)
+unfolding history_of of_commands
+commands_all tell start h script = commands_from tell start h script [] ∙ ap (λ es. of_commands tell start h es) (append-nil (reverse script))
 
 pub sqs_are_all : (used : ℕ → Bool) (plans : List SqPlan) → sqs_then used 0 plans ≡ unused_sqs used (reverse plans)
 unfolding unused_sqs
@@ -97,10 +96,10 @@ cqs_are_all used plans = cqs_from used plans [] ∙ ap (λ rs. unused_cqs used r
 -- ---- commands that are played
 -- a table stands at a history after the commands before this number, and these warnings are those of these commands: what is left of the
 -- script leads from there to the same warnings and to the same history
-pub record Plays (site : Sqe → Option Site) (start : Start) (h : TableHistory) (before : List Warning) (script : List Sqe) (number : ℕ) (table : TableView) (warnings : List Warning) : Type 0 where
+pub record Plays (tell : Telling) (start : Start) (h : TableHistory) (before : List Warning) (script : List Sqe) (number : ℕ) (table : TableView) (warnings : List Warning) : Type 0 where
   pub now : TableHistory
   pub stands : StandsAt start table now
-  pub told : warnings ++ refusals_then site start now number (drop number script) ≡ before ++ refusals_then site start h 0 script
+  pub told : warnings ++ commands_then tell start now number (drop number script) ≡ before ++ commands_then tell start h 0 script
   pub history : history_then start now (drop number script) ≡ history_then start h script
 
 -- what stands where there is no command
@@ -112,35 +111,35 @@ next : (i : ℕ) → i + 1 ≡ suc i
 next i = omega arith
 
 -- the first command of what is left is played
-pub plays_one : (site : Sqe → Option Site) (start : Start) (h : TableHistory) (before : List Warning) (script : List Sqe) (number : ℕ) (d : Sqe) (old new : TableView) (warnings told : List Warning)
-    → number < length script → (p : Plays site start h before script number old warnings)
-    → StandsAt start new (history_after start p.now (get_or script number d)) → told ≡ warnings ++ refusal site number (get_or script number d) (status_of start p.now (get_or script number d))
-    → Plays site start h before script (number + 1) new told
-plays_one site start h before script number d old new warnings told there p stands more =
+pub plays_one : (tell : Telling) (start : Start) (h : TableHistory) (before : List Warning) (script : List Sqe) (number : ℕ) (d : Sqe) (old new : TableView) (warnings told : List Warning)
+    → number < length script → (p : Plays tell start h before script number old warnings)
+    → StandsAt start new (history_after start p.now (get_or script number d)) → told ≡ warnings ++ tell (queue_table start p.now) number (get_or script number d) (status_of start p.now (get_or script number d))
+    → Plays tell start h before script (number + 1) new told
+plays_one tell start h before script number d old new warnings told there p stands more =
     let entry = get_or script number d in
     let later = history_after start p.now entry in
     record {
       now = later;
       stands = stands;
-      told = ap (λ n. told ++ refusals_then site start later n (drop n script)) (next number)
-          ∙ ap (λ ws. ws ++ refusals_then site start later (suc number) (drop (suc number) script)) more
-          ∙ append_assoc warnings (refusal site number entry (status_of start p.now entry)) (refusals_then site start later (suc number) (drop (suc number) script))
-          ∙ sym (ap (λ es. warnings ++ refusals_then site start p.now number es) (drop-cons script number d there))
+      told = ap (λ n. told ++ commands_then tell start later n (drop n script)) (next number)
+          ∙ ap (λ ws. ws ++ commands_then tell start later (suc number) (drop (suc number) script)) more
+          ∙ append_assoc warnings (tell (queue_table start p.now) number entry (status_of start p.now entry)) (commands_then tell start later (suc number) (drop (suc number) script))
+          ∙ sym (ap (λ es. warnings ++ commands_then tell start p.now number es) (drop-cons script number d there))
           ∙ p.told;
       history = ap (λ n. history_then start later (drop n script)) (next number) ∙ sym (ap (λ es. history_then start p.now es) (drop-cons script number d there)) ∙ p.history;
     }
 
 -- nothing is played at first
-pub plays_none : (site : Sqe → Option Site) (start : Start) (h : TableHistory) (before : List Warning) (script : List Sqe) (table : TableView) → StandsAt start table h → Plays site start h before script 0 table before
-plays_none site start h before script table stands = record { now = h; stands = stands; told = refl; history = refl }
+pub plays_none : (tell : Telling) (start : Start) (h : TableHistory) (before : List Warning) (script : List Sqe) (table : TableView) → StandsAt start table h → Plays tell start h before script 0 table before
+plays_none tell start h before script table stands = record { now = h; stands = stands; told = refl; history = refl }
 
 -- where nothing is left, all is played
-pub plays_all : (site : Sqe → Option Site) (start : Start) (h : TableHistory) (before : List Warning) (script : List Sqe) (number : ℕ) (table : TableView) (warnings : List Warning)
-    → length script ≤ number → Plays site start h before script number table warnings
-    → (warnings ≡ before ++ refusals_of site start h (reverse script)) × StandsAt start table (history_of start h (reverse script))
-plays_all site start h before script number table warnings over p =
+pub plays_all : (tell : Telling) (start : Start) (h : TableHistory) (before : List Warning) (script : List Sqe) (number : ℕ) (table : TableView) (warnings : List Warning)
+    → length script ≤ number → Plays tell start h before script number table warnings
+    → (warnings ≡ before ++ of_commands tell start h (reverse script)) × StandsAt start table (history_of start h (reverse script))
+plays_all tell start h before script number table warnings over p =
     let none = drop_all number script over in (
-      sym (append-nil warnings) ∙ sym (ap (λ es. warnings ++ refusals_then site start p.now number es) none) ∙ p.told ∙ ap (λ ws. before ++ ws) (refusals_all site start h script),
+      sym (append-nil warnings) ∙ sym (ap (λ es. warnings ++ commands_then tell start p.now number es) none) ∙ p.told ∙ ap (λ ws. before ++ ws) (commands_all tell start h script),
       subst (λ (g : TableHistory). StandsAt start table g) (sym (ap (λ es. history_then start p.now es) none) ∙ p.history ∙ history_all start h script) p.stands,
     )
 

@@ -1,6 +1,6 @@
 -- What of a valid workload has no effect, by the queue table after its admin commands. A front begins none of them before
 -- the deletion that the one before began is finished, so that their answers depend on nothing else. (profile)
-use Rattle.std.specs.Prelude.{◌≡◌, ℕ, Bool, ◌==◌, ◌&&◌, ◌||◌, not, nat_lt, if◌then◌else◌, List, [], ◌∷◌, ◌++◌, length, reverse, Ok, Option, Some, None, option_map, slice_get}
+use Rattle.std.specs.Prelude.{◌≡◌, ℕ, ◌/◌, ◌%◌, Bool, false, ◌==◌, ◌&&◌, ◌||◌, not, nat_lt, if◌then◌else◌, List, [], ◌∷◌, ◌++◌, length, reverse, Ok, Option, Some, None, option_map, slice_get}
 use Rattle.std.specs.List.{count_by, position}
 use Rattle.nvme_entry.specs.Outcome.{outcome_of}
 use Rattle.nvme_entry.specs.Status.{StatusCode, success}
@@ -9,6 +9,7 @@ use Rattle.nvme_admin.specs.History.{Start, TableHistory, Submission, Completion
 use Rattle.nvme_admin.specs.QueueTable.{QueueTable}
 use Rattle.nvme_admin.specs.Checks.{is_success}
 use Rattle.nvme_admin.specs.Accepted.{queue_table, status_of, verdict_of}
+use Rattle.nvme_admin.specs.declared.verdict.SqEntry.{SqEntry}
 use Rattle.nvme_admin.specs.declared.verdict.Verdict.{Verdict}
 use Rattle.nvme_admin.specs.declared.verdict.Verdict.TheVariants.{BeginDelete}
 use Rattle.nvme_workload.specs.declared.plan.SqPlan.{SqPlan}
@@ -16,7 +17,7 @@ use Rattle.nvme_workload.specs.declared.plan.CqPlan.{CqPlan}
 use Rattle.nvme_workload.specs.Plan.{Plan, workload_of}
 use Rattle.nvme_lint.specs.declared.site.Site.{Site}
 use Rattle.nvme_lint.specs.declared.warning.Warning.{Warning}
-use Rattle.nvme_lint.specs.declared.warning.Warning.TheVariants.{Refused, Unused, TooLong, Failing}
+use Rattle.nvme_lint.specs.declared.warning.Warning.TheVariants.{Refused, NoTarget, Unused, TooLong, Failing}
 use Rattle.nvme_lint.specs.declared.warning.Kind.TheVariants as kind
 
 -- what the table of a workload begins with
@@ -78,15 +79,45 @@ abbrev pub site_of : List SqPlan → List CqPlan → Sqe → Option Site
 site_of sqs cqs entry =
     if entry.opcode == 0x01 then sq_site_at sqs entry.prp1 else (if entry.opcode == 0x05 then cq_site_at cqs entry.prp1 else None)
 
--- the warning of the command of this number, where its status isn't success, with the region that it names
-abbrev pub refusal : (Sqe → Option Site) → ℕ → Sqe → StatusCode → List Warning
-refusal site number entry status = warning_unless (is_success status) (Refused number entry status (site entry))
+-- how many commands the script of a region has, where there is one
+abbrev pub script_length : Option SqPlan → ℕ
+script_length None = 0
+script_length (Some region) = length region.script
+
+-- how many commands a queue has, where it is open: those of the script of its region
+abbrev pub commands_of : List SqPlan → Option SqEntry → Option ℕ
+commands_of sqs queue = option_map (λ (q : SqEntry). script_length (slice_get sqs q.region)) queue
+
+-- a CID is that of one of so many commands, which count from 0
+abbrev pub has_cid : Option ℕ → ℕ → Bool
+has_cid None cid = false
+has_cid (Some commands) cid = nat_lt cid commands
+
+-- an Abort (08h) names a command that there isn't, where its queue has so many commands. (Abort, Command Dword 10: CID 31:16)
+abbrev pub aborts_none : Option ℕ → Sqe → Bool
+aborts_none commands entry = (entry.opcode == 0x08) && not (has_cid commands (entry.cdw10 / 65536))
+
+-- the warning of the command of this number: its status isn't success, or it aborts a command that there isn't
+abbrev pub of_command : ℕ → Sqe → StatusCode → Option Site → Option ℕ → List Warning
+of_command number entry status site commands =
+    if is_success status then warning_unless (not (aborts_none commands entry)) (NoTarget number entry commands)
+    else Refused number entry status site ∷ []
+
+-- how a command is told, by the queue table before it, its number and its status
+abbrev pub Telling : Type 0
+Telling = QueueTable → ℕ → Sqe → StatusCode → List Warning
+
+-- with the region that a Create names, and the commands of the queue that an Abort names. (Abort, Command Dword 10: SQID 15:00)
+abbrev pub told_of : List SqPlan → List CqPlan → Telling
+told_of sqs cqs table number entry status =
+    of_command number entry status (site_of sqs cqs entry) (commands_of sqs (table.sq (entry.cdw10 % 65536)))
 
 -- the warnings of these admin commands, of which the latest comes first. The number of a command is that of the commands before it
-unfoldable pub refusals_of : (Sqe → Option Site) → Start → TableHistory → List Sqe → List Warning
-refusals_of site start h [] = []
-refusals_of site start h (entry ∷ earlier) =
-    refusals_of site start h earlier ++ refusal site (length earlier) entry (status_of start (history_of start h earlier) entry)
+unfoldable pub of_commands : Telling → Start → TableHistory → List Sqe → List Warning
+of_commands tell start h [] = []
+of_commands tell start h (entry ∷ earlier) =
+    of_commands tell start h earlier
+    ++ tell (queue_table start (history_of start h earlier)) (length earlier) entry (status_of start (history_of start h earlier) entry)
 
 -- the warnings of these submission regions, of which the last comes first, where `used` tells on which a queue was created
 unfoldable pub unused_sqs : (ℕ → Bool) → List SqPlan → List Warning
@@ -141,11 +172,11 @@ admin_script (region ∷ regions) = region.script
 abbrev pub last_table : Plan → QueueTable
 last_table p = queue_table (start_of p) (history_of (start_of p) (first_history p) (reverse (admin_script p.submissions)))
 
--- the warnings of a workload: the admin commands that are refused, in order, then the submission regions that no queue was created
--- on, then such completion regions, then the scripts that are too long for their rings or come to nothing
+-- the warnings of a workload: the admin commands that are refused or abort a command that there isn't, in order, then the
+-- submission regions that no queue was created on, then such completion regions, then the scripts that are too long for their rings or come to nothing
 abbrev pub warnings_of : Plan → List Warning
 warnings_of p =
-    refusals_of (site_of p.submissions p.completions) (start_of p) (first_history p) (reverse (admin_script p.submissions))
+    of_commands (told_of p.submissions p.completions) (start_of p) (first_history p) (reverse (admin_script p.submissions))
     ++ unused_sqs (last_table p).sq_region_used (reverse p.submissions)
     ++ unused_cqs (last_table p).cq_region_used (reverse p.completions)
     ++ of_scripts p.sizes (last_table p).sq_region_used (reverse p.submissions)

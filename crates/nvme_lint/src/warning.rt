@@ -21,6 +21,13 @@ pub enum Warning {
         status: Status,
         site: Option<Site>,
     },
+    /// An Abort of the admin script names a command that its queue doesn't have: the queue isn't open there, or it has so
+    /// many `commands`, by the script of its region. So nothing is aborted.
+    NoTarget {
+        command: usize,
+        entry: Sqe,
+        commands: Option<usize>,
+    },
     /// No queue is created on a region. If it is a submission region, none of the `commands` of its script is fetched.
     Unused {
         kind: Kind,
@@ -75,6 +82,26 @@ fn write_refused<W: fmt::Write>(
     write!(f, " is refused with {status}{cause}")
 }
 
+// Writes that an Abort names a command that its queue doesn't have.
+fn write_no_target<W: fmt::Write>(
+    command: usize,
+    entry: &Sqe,
+    commands: Option<usize>,
+    f: &mut fmt::Formatter<W>,
+) -> fmt::Result {
+    let (qid, cid) = (entry.cdw10 % 0x1_0000, entry.cdw10 / 0x1_0000);
+    write!(
+        f,
+        "command 0.{command}: Abort of command {cid} of queue {qid} aborts nothing: "
+    )?;
+    match commands {
+        None => f.write_str("no such queue is open"),
+        Some(0) => f.write_str("its script has no command"),
+        Some(1) => f.write_str("its script has command 0 alone"),
+        Some(commands) => write!(f, "its script has commands 0 to {}", commands - 1),
+    }
+}
+
 // Writes that a submission region isn't used.
 fn write_unused<W: fmt::Write>(
     region: usize,
@@ -106,6 +133,11 @@ impl fmt::Display for Warning {
                 };
                 write_refused(command, &cause, f)
             }
+            Warning::NoTarget {
+                command,
+                entry,
+                commands,
+            } => write_no_target(command, &entry, commands, f),
             Warning::Unused {
                 kind: Kind::Completion,
                 region,

@@ -1,19 +1,19 @@
 // Finds what of a valid workload has no effect. The admin commands are applied in order: a front begins none before the
 // deletion of an earlier one is finished, so their answers depend on nothing else.
-ghost use Rattle.std.specs.Prelude.{◌≡◌, ℕ, ◌≤◌, ◌++◌, [], length, map, reverse, IfOk, OnOk};
+ghost use Rattle.std.specs.Prelude.{◌≡◌, ℕ, ◌≤◌, ◌++◌, [], length, map, reverse, slice_get, ◌%◌, IfOk, OnOk};
 ghost use Rattle.std.specs.List.{All};
 ghost use Rattle.nvme_admin.specs.Checks.{is_success};
 ghost use Rattle.nvme_admin.specs.declared.bounds.TheConstants.{MAX_REGIONS};
 ghost use Rattle.nvme_admin.specs.History.{Start, TableHistory};
 ghost use Rattle.nvme_admin.specs.Accepted.{status_of};
-ghost use Rattle.nvme_admin.specs.Standing.{StandsAt, used_at};
+ghost use Rattle.nvme_admin.specs.Standing.{StandsAt, sq_of, used_at};
 ghost use Rattle.nvme_workload.specs.Plan.{plan_of};
 ghost use Rattle.nvme_workload.specs.Sound.{IsSound, AreSlots, AreSubmissions, AreApart, IsRegionCount};
-ghost use Rattle.nvme_lint.specs.Warnings.{start_of, with_sqs, with_cqs, first_history, history_after, history_of, refusals_of, site_of, unused_sqs, unused_cqs, warning_unless, warnings_of};
+ghost use Rattle.nvme_lint.specs.Warnings.{start_of, with_sqs, with_cqs, first_history, aborts_none, commands_of, has_cid, history_after, history_of, of_command, of_commands, script_length, told_of, unused_sqs, unused_cqs, warning_unless, warnings_of};
 ghost use Rattle.nvme_lint.specs.inside.Regions.{sq_site, cq_site};
 
 use crate::scripts::push_scripts;
-use crate::site::site_of;
+use crate::site::{Site, site_of};
 use crate::warning::{Kind, Warning};
 use nvme_admin::{Table, Verdict};
 use nvme_entry::{Sqe, Status};
@@ -105,8 +105,74 @@ pub(crate) fn push_unless(
     Ok(())
 }
 
-// Applies the admin commands, and appends a warning for each that is refused.
-fn push_refused(
+// Whether a CID is that of one of so many commands.
+fn has_cid(commands: Option<usize>, cid: u32) -> bool
+    ensures { result ≡ has_cid commands cid }
+{
+    match commands {
+        Some(commands) => u64::from(cid) < commands as u64,
+        None => false,
+    }
+}
+
+// Whether a command is an Abort of a command that its queue, which has so many, doesn't have.
+fn aborts_none(commands: Option<usize>, entry: &Sqe) -> bool
+    ensures { result ≡ aborts_none commands entry.now }
+{
+    entry.opcode == 0x08 && !has_cid(commands, entry.cdw10 / 0x1_0000)
+}
+
+// How many commands the script of a region has, or 0 where there is no such region.
+fn script_length(sqs: &[SqPlan], region: usize) -> usize
+    ensures { result ≡ script_length (slice_get sqs.now region) }
+{
+    match sqs.get(region) {
+        Some(plan) => plan.script.as_slice().len(),
+        None => 0,
+    }
+}
+
+// How many commands the queue has that an Abort names, where it is open.
+fn commands_at(table: &Table, sqs: &[SqPlan], entry: &Sqe) -> Option<usize>
+    ensures { result ≡ commands_of sqs.now (sq_of table.now (entry.now.cdw10 % 65536)) }
+{
+    match table.sq((entry.cdw10 % 0x1_0000) as u16) {
+        Some(queue) => Some(script_length(sqs, usize::from(queue.region))),
+        None => None,
+    }
+}
+
+// Appends the warning of an admin command, if there is one.
+fn push_command(
+    warnings: &mut Vec<Warning>,
+    command: usize,
+    entry: &Sqe,
+    status: Status,
+    site: Option<Site>,
+    commands: Option<usize>,
+) -> Result<(), AllocError>
+    ensures told { OnOk result (warnings.new.items ≡ warnings.old.items ++ of_command command entry.now status site commands) }
+{
+    let entry = *entry;
+    if !is_success(status) {
+        let refused = Warning::Refused {
+            command,
+            entry,
+            status,
+            site,
+        };
+        return push_unless(warnings, false, refused);
+    }
+    let no_target = Warning::NoTarget {
+        command,
+        entry,
+        commands,
+    };
+    push_unless(warnings, !aborts_none(commands, &entry), no_target)
+}
+
+// Applies the admin commands, and appends the warning of each.
+fn push_commands(
     warnings: &mut Vec<Warning>,
     table: &mut Table,
     sqs: &[SqPlan],
@@ -114,18 +180,14 @@ fn push_refused(
     script: &[Sqe],
 ) -> Result<(), AllocError>
     requires stands { (start : Start) × (h : TableHistory) × StandsAt start table.old h }
-    ensures told { OnOk result ((start : Start) (h : TableHistory) → StandsAt start table.old h → warnings.new.items ≡ warnings.old.items ++ refusals_of (site_of sqs.now cqs.now) start h (reverse script.now)) }
+    ensures told { OnOk result ((start : Start) (h : TableHistory) → StandsAt start table.old h → warnings.new.items ≡ warnings.old.items ++ of_commands (told_of sqs.now cqs.now) start h (reverse script.now)) }
     ensures stands { OnOk result ((start : Start) (h : TableHistory) → StandsAt start table.old h → StandsAt start table.new (history_of start h (reverse script.now))) }
 {
     for (command, entry) in script.iter().enumerate() {
+        let commands = commands_at(table, sqs, entry);
         let status = play(table, entry);
-        let refused = Warning::Refused {
-            command,
-            entry: *entry,
-            status,
-            site: site_of(sqs, cqs, entry),
-        };
-        push_unless(warnings, is_success(status), refused)?;
+        let site = site_of(sqs, cqs, entry);
+        push_command(warnings, command, entry, status, site, commands)?;
     }
     Ok(())
 }
@@ -170,8 +232,8 @@ fn push_unused_cqs(
     Ok(())
 }
 
-/// What of a workload has no effect: first the admin commands that are refused, in order, then the regions that no
-/// queue is created on, submission regions first, then the scripts that are too long for their rings or come to nothing.
+/// What of a workload has no effect: first the admin commands that are refused or abort a command that there isn't, in
+/// order, then the regions that no queue is created on, submission regions first, then the scripts that are too long for their rings or come to nothing.
 pub(crate) fn warnings_of(alloc: Global, workload: &Workload) -> Result<Vec<Warning>, AllocError>
     requires sound { IsSound (plan_of workload.now) }
     ensures told { IfOk result (λ ws. ws.items ≡ warnings_of (plan_of workload.now)) }
@@ -181,7 +243,7 @@ pub(crate) fn warnings_of(alloc: Global, workload: &Workload) -> Result<Vec<Warn
     let mut warnings = Vec::new(alloc);
     let mut table = first_table(workload);
     let script = submissions[0].script.as_slice();
-    push_refused(&mut warnings, &mut table, submissions, completions, script)?;
+    push_commands(&mut warnings, &mut table, submissions, completions, script)?;
     push_unused_sqs(&mut warnings, &table, submissions)?;
     push_unused_cqs(&mut warnings, &table, completions)?;
     push_scripts(&mut warnings, &table, submissions, &workload.spaces)?;

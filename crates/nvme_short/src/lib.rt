@@ -8,4 +8,4 @@ mod told;
 
 pub use expansion::{ExpandError, expand, read_short, short_in, stood_for};
 pub use nvme_short_form::{Fault, Form, Item, Key, Place, Queue, Run, ShortError, Step};
-pub use told::ShortFault;
+pub use told::{ShortFault, is_short_key};

@@ -14,6 +14,11 @@ use toml::{Table, Value};
 // The most characters of an unknown key that are kept.
 const KEY_CHARACTERS: usize = 100;
 
+/// Whether a key is one of the table of a short file, whether or not the other form has it too.
+pub fn is_short_key(name: &str) -> bool {
+    FILE_KEYS.iter().any(|key| key.name() == name)
+}
+
 /// The first fault of a short workload file: where it is, and what was expected there.
 #[derive(Debug, Drop)]
 pub struct ShortFault {
@@ -60,15 +65,14 @@ fn item_keys(item: &Table) -> &'static [Key] {
     }
 }
 
-// A key of the table that isn't known, or of its weights, with the keys that are.
+// A key of the table that isn't known, with the keys that are.
 fn unknown_in<'t>(keys: &'static [Key], table: &'t Table) -> Option<(&'t str, &'static [Key])> {
-    if let Some(name) = unknown_key(keys, table) {
-        return Some((name, keys));
-    }
-    match table.get(Key::Weights.name()) {
-        Some(Value::Table(weights)) => Some((unknown_key(&WEIGHT_KEYS, weights)?, &WEIGHT_KEYS)),
-        _ => None,
-    }
+    Some((unknown_key(keys, table)?, keys))
+}
+
+// A key of the weights of a table that isn't known, with the keys that are.
+fn unknown_weight(table: &Table) -> Option<(&str, &'static [Key])> {
+    unknown_in(&WEIGHT_KEYS, table.get(Key::Weights.name())?.as_table()?)
 }
 
 // The unknown key of an item of a script, or of the script that it repeats.
@@ -76,8 +80,8 @@ fn unknown_in_item(item: &Table) -> Option<(&str, &'static [Key])> {
     if item.get(Key::Repeat.name()).is_none() {
         return unknown_in(item_keys(item), item);
     }
-    if let Some(name) = unknown_key(&REPEAT_KEYS, item) {
-        return Some((name, &REPEAT_KEYS));
+    if let Some(found) = unknown_in(&REPEAT_KEYS, item) {
+        return Some(found);
     }
     let Some(Value::Array(inner)) = item.get(Key::Script.name()) else {
         return None;
@@ -99,8 +103,8 @@ fn unknown_at(document: &Table, place: Place) -> Option<(&str, &'static [Key])> 
         Place::Queue(number) => {
             let table = table_at(document, Key::Queue, number.saturating_sub(1))?;
             let is_shared = table.get(Key::Cq.name()).is_some();
-            let keys = if is_shared { &SHARED_KEYS } else { &QUEUE_KEYS };
-            Some((unknown_key(keys, table)?, keys))
+            let keys: &'static [Key] = if is_shared { &SHARED_KEYS } else { &QUEUE_KEYS };
+            unknown_in(keys, table)
         }
         Place::Item { queue, item } => {
             let table = table_at(document, Key::Queue, queue.saturating_sub(1))?;
@@ -110,6 +114,8 @@ fn unknown_at(document: &Table, place: Place) -> Option<(&str, &'static [Key])> 
             let table = table_at(document, Key::Admin, item)?;
             unknown_in(item_keys(table), table)
         }
+        Place::Weights => unknown_weight(document),
+        Place::AdminWeights(item) => unknown_weight(table_at(document, Key::Admin, item)?),
     }
 }
 

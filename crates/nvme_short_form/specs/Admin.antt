@@ -39,14 +39,20 @@ abbrev pub optional_burst : Place → Option Data → Result ℕ ShortError
 optional_burst at None = Ok 0
 optional_burst at (Some d) = burst_given at d (as_str d)
 
+-- where the weights of a table are: of the file's own, or of an item of `admin`
+abbrev pub weights_place : Place → Place
+weights_place place.Top = place.Weights
+weights_place (place.Admin index) = place.AdminWeights index
+weights_place at = at
+
 -- the fields of the weights, each zero based
 unfoldable pub weights_of : Place → Data → Result ℕ ShortError
 weights_of at d = do
   table ← table_of at key.Weights d
-  only_keys at weight_keys table
-  high ← number_or at key.High 1 1 256 table
-  medium ← number_or at key.Medium 1 1 256 table
-  low ← number_or at key.Low 1 1 256 table
+  only_keys (weights_place at) weight_keys table
+  high ← number_or (weights_place at) key.High 1 1 256 table
+  medium ← number_or (weights_place at) key.Medium 1 1 256 table
+  low ← number_or (weights_place at) key.Low 1 1 256 table
   Ok (256 * (low - 1) + 65536 * (medium - 1) + 16777216 * (high - 1))
 
 abbrev pub optional_weights : Place → Option Data → Result ℕ ShortError

@@ -3,7 +3,7 @@ ghost use Rattle.std.specs.Prelude.{◌≡◌, ◌≤◌, [], Ok, IfOk, IfErr};
 ghost use Rattle.toml.specs.View.{view, items_view, table_view};
 ghost use Rattle.nvme_workload.specs.Scripts.{most_commands};
 ghost use Rattle.nvme_short_form.specs.Readings.{Fails, in_turn, value_in};
-ghost use Rattle.nvme_short_form.specs.Admin.{optional_burst, optional_weights, weights_of, arbitration_in, admin_item, queue_at, abort_of, set_of, optional_feature, get_of, step_of, step_count, with_step, steps_in};
+ghost use Rattle.nvme_short_form.specs.Admin.{optional_burst, optional_weights, weights_of, weights_place, arbitration_in, admin_item, queue_at, abort_of, set_of, optional_feature, get_of, step_of, step_count, with_step, steps_in};
 ghost use Rattle.nvme_short_form.specs.declared.key.Key.TheVariants as key;
 
 use crate::command::{Item, raw_of};
@@ -48,6 +48,17 @@ fn burst_in(place: Place, table: &Table) -> Result<u32, ShortError>
     }
 }
 
+// Where the weights of a table are: of the file's own, or of an item of `admin`.
+fn weights_place(place: Place) -> Place
+    ensures { result ≡ weights_place place }
+{
+    match place {
+        Place::Top => Place::Weights,
+        Place::Admin(item) => Place::AdminWeights(item),
+        place => place,
+    }
+}
+
 // The fields of the weights.
 #[tactic(auto, unfolding(crate::specs::Admin::weights_of))]
 fn weights_of(place: Place, value: &Value) -> Result<u32, ShortError>
@@ -55,10 +66,11 @@ fn weights_of(place: Place, value: &Value) -> Result<u32, ShortError>
     ensures in_range { IfOk result (λ fields. fields ≤ 0xffff_ff00) }
 {
     let table = table_of(place, Key::Weights, value)?;
-    only_keys(place, &WEIGHT_KEYS, table)?;
-    let high = number_or(place, Key::High, 1, 1, 256, table)?;
-    let medium = number_or(place, Key::Medium, 1, 1, 256, table)?;
-    let low = number_or(place, Key::Low, 1, 1, 256, table)?;
+    let at = weights_place(place);
+    only_keys(at, &WEIGHT_KEYS, table)?;
+    let high = number_or(at, Key::High, 1, 1, 256, table)?;
+    let medium = number_or(at, Key::Medium, 1, 1, 256, table)?;
+    let low = number_or(at, Key::Low, 1, 1, 256, table)?;
     let fields = 0x100 * (low - 1) + 0x1_0000 * (medium - 1) + 0x100_0000 * (high - 1);
     Ok(fields as u32)
 }

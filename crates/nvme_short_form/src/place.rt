@@ -11,6 +11,10 @@ pub enum Place {
     Item { queue: usize, item: usize },
     /// An item of `admin`.
     Admin(usize),
+    /// The table of `weights` of the file's own table.
+    Weights,
+    /// The table of `weights` of an item of `admin`.
+    AdminWeights(usize),
 }
 
 impl fmt::Display for Place {
@@ -20,6 +24,8 @@ impl fmt::Display for Place {
             Place::Queue(queue) => write!(f, "queue {queue}"),
             Place::Item { queue, item } => write!(f, "queue {queue}, item {item}"),
             Place::Admin(item) => write!(f, "admin, item {item}"),
+            Place::Weights => write!(f, "top, weights"),
+            Place::AdminWeights(item) => write!(f, "admin, item {item}, weights"),
         }
     }
 }

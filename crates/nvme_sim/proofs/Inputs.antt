@@ -44,6 +44,7 @@ use Rattle.nvme_sim.specs.Files.{IsBadFile, OfFile}
 use Rattle.nvme_sim.specs.Statuses.{IsBadEntry, IsBadWorkload, IsNoWorkload, IsTooLong, run_status, status_of, trace_status}
 use Rattle.nvme_words.specs.Requests.{IsAskedBy}
 use Rattle.nvme_words.specs.declared.requests.Request.{Request}
+use Rattle.nvme_words.specs.declared.requests.OptionsFault.TheVariants as unfit
 use Rattle.nvme_words.specs.declared.requests.Request.TheVariants as request
 use Rattle.nvme_words.specs.Words.{asks, asks_alone, is_option, reads_file, reads_workload, shows_trace}
 
@@ -392,4 +393,6 @@ only_check words (request.Trace mode workers) asked a = not_both (asks (codes "t
 only_check words (request.Chart range) asked a = not_both (shows_trace words) asked (check_shows_none words (alone_asks (codes "check") words a))
 only_check words (request.Stats numbers) asked a = not_both (shows_trace words) asked (check_shows_none words (alone_asks (codes "check") words a))
 only_check words (request.Settings reading) asked a = not_both (asks (codes "settings") words) asked (check_is words (alone_asks (codes "check") words a) (codes "settings"))
+only_check words (request.Unfit unfit.AllOfSpec) asked a = not_both (asks_alone (codes "check") words) a asked.1
+only_check words (request.Unfit (unfit.Behind range)) asked a = not_both (shows_trace words) asked (check_shows_none words (alone_asks (codes "check") words a))
 only_check words (request.Help text) asked a = not_both (asks_alone (codes "check") words) a asked

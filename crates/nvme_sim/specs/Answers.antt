@@ -65,6 +65,7 @@ module _ {W : Type 0} (contents : W → Option (List ℕ)) (old new : W) where
   Does (request.Chart range) bytes = IsTrace bytes
   Does (request.Stats numbers) bytes = IsTrace bytes
   Does (request.Settings reading) bytes = (x : ℕ) × (reading ≡ Ok x)
+  Does (request.Unfit why) bytes = ⊥
   Does (request.Help text) bytes = Unit {0}
 
   -- a write of what a check answers failed. Of the text of a pick that isn't allowed nothing is said
@@ -89,6 +90,7 @@ module _ {W : Type 0} (contents : W → Option (List ℕ)) (old new : W) where
   FailsToWrite (request.Chart range) bytes = IsTrace bytes
   FailsToWrite (request.Stats numbers) bytes = IsTrace bytes
   FailsToWrite (request.Settings reading) bytes = (x : ℕ) × (reading ≡ Ok x)
+  FailsToWrite (request.Unfit why) bytes = ⊥
   FailsToWrite (request.Help text) bytes = Unit {0}
 
 -- the words ask for something of which P holds

@@ -89,6 +89,7 @@ fn done<R: Read + Drop, W: Write, T: Threads + Wait + Sync>(
         Request::Chart(range) => charted(alloc, range, input, output),
         Request::Stats(numbers) => counted(alloc, numbers, input, output),
         Request::Settings(reading) => translated(reading, output),
+        Request::Unfit(fault) => Err(Fault::Options(fault)),
     }
 }
 
@@ -130,9 +131,8 @@ fn served<R: Read + Drop, W: Write, T: Threads + Wait + Sync>(
 /// clauses don't say what they are. With 2 the output is as it was. So it is with 1, except for the answer of `check`, and with 3, unless a
 /// write failed: then it has a prefix of such an answer.
 ///
-/// A fault is told on `errors` in one line, or two with `run` and `trace`, or in the text of `clap`, and a write that
-/// fails there is ignored. It may
-/// wait for another thread.
+/// A fault is told on `errors` in one line, or two, or in the text of `clap`, and a write that fails there is ignored. It
+/// may wait for another thread.
 pub fn command<R: Read + Drop, W: Write, E: Write, T: Threads + Wait + Sync>(
     rt: &T,
     alloc: Global,
@@ -156,7 +156,7 @@ pub fn command<R: Read + Drop, W: Write, E: Write, T: Threads + Wait + Sync>(
         Ok(Answer::Refused) => 1,
         Ok(Answer::Warned) => 4,
         Err(fault) => {
-            let _ = fault.tell(errors);
+            let _ = fault.tell(alloc, words, errors);
             fault.status()
         }
     }

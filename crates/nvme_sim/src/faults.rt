@@ -3,18 +3,19 @@ ghost use Rattle.nvme_sim.specs.Statuses.{fault_of_words, status_of};
 ghost use Rattle.nvme_sim.specs.declared.faults.Fault.TheVariants as fault;
 ghost use Rattle.nvme_runs.specs.declared.runs.RunError.TheVariants as run_fault;
 
+use crate::second_line::SecondLine;
 use nvme_front::FrontError;
 use nvme_runs::RunError;
 use nvme_settings::SettingsFault;
-use nvme_trace::TraceError;
-use nvme_words::{InputError, OnceError, WordsError};
-use nvme_workload::{Details, WorkloadError};
-use std::alloc::AllocError;
+use nvme_trace::{Field, LineFault, TraceError};
+use nvme_words::{InputError, OnceError, OptionsFault, WordsError};
+use nvme_workload::WorkloadError;
+use std::alloc::{AllocError, Global};
 use std::io::Write;
 use thiserror::Error;
 
 /// Why the program doesn't answer. Each fault is told in one line, except one of the command line, whose text may have
-/// several, and those of the words `run` and `trace` that have a second line.
+/// several, and those that have a second line: of a workload, and with the words `run` and `trace` others too.
 #[derive(Debug, Drop, Error)]
 pub(crate) enum Fault {
     #[error("{0}")]
@@ -37,11 +38,26 @@ pub(crate) enum Fault {
     Short(nvme_short::ShortFault),
     #[error("nvmearb: {0}")]
     Trace(TraceError),
+    // Of a trace that is shown and not judged.
+    #[error("nvmearb: {0}")]
+    Shown(TraceError),
     #[error("nvmearb: settings: {0}")]
     Settings(SettingsFault),
+    #[error("nvmearb: {0}")]
+    Options(OptionsFault),
     // The second line tells the place of the fault, what stands there, and what was expected.
     #[error("nvmearb: workload: {0}")]
     Placed(WorkloadError, nvme_workload::Fault),
+    // Of a short file, where only the other form is read.
+    #[error("nvmearb: workload: {0}")]
+    Unread(WorkloadError),
+    // The second line tells how many commands the script of the region has, and how many its ring holds.
+    #[error("nvmearb: script too long for ring {region}")]
+    TooLong {
+        region: u8,
+        commands: usize,
+        slots: u16,
+    },
     #[error("nvmearb: front\nnvmearb: {0}")]
     Front(FrontError),
     // With the patience of the workload, which the second line tells.
@@ -71,22 +87,64 @@ impl Fault {
         match self {
             Fault::Entry(_) | Fault::Input(InputError::TooLong) => 1,
             Fault::Run(RunError::Workload(_)) => 1,
-            Fault::Workload(_) | Fault::Placed(..) | Fault::Short(_) => 1,
-            Fault::Trace(TraceError::Line { .. }) => 1,
-            Fault::CommandLine(_) | Fault::Words | Fault::Settings(_) => 2,
+            Fault::Workload(_) | Fault::Placed(..) | Fault::Short(_) | Fault::Unread(_) => 1,
+            Fault::Trace(TraceError::Line { .. }) | Fault::Shown(TraceError::Line { .. }) => 1,
+            Fault::CommandLine(_) | Fault::Words | Fault::Settings(_) | Fault::Options(_) => 2,
             Fault::Run(RunError::Workers) => 2,
             Fault::Input(_) | Fault::NoMemory(_) | Fault::Write => 3,
-            Fault::Run(_) | Fault::Front(_) | Fault::GaveUp(_) | Fault::Trace(_) => 3,
+            Fault::Run(_) | Fault::Front(_) | Fault::GaveUp(_) | Fault::TooLong { .. } => 3,
+            Fault::Trace(_) | Fault::Shown(_) => 3,
         }
     }
 
-    /// Writes the text, with a newline at its end.
-    pub(crate) fn tell<E: Write>(&self, errors: &mut E) -> std::io::Result<()> {
+    /// Writes the text, with a newline at its end. A fault of a workload names the file that the words name.
+    pub(crate) fn tell<E: Write>(
+        &self,
+        alloc: Global,
+        words: &[String],
+        errors: &mut E,
+    ) -> std::io::Result<()> {
         match self {
             Fault::CommandLine(error) => write!(errors, "{error}"),
             Fault::Placed(_, fault) => {
-                let details = Details(fault);
-                writeln!(errors, "{self}\nnvmearb: {details}")
+                writeln!(errors, "{self}")?;
+                SecondLine::of_placed(alloc, words, fault).write(errors)
+            }
+            Fault::Workload(fault) => {
+                writeln!(errors, "{self}")?;
+                SecondLine::of_workload(alloc, words, fault).write(errors)
+            }
+            Fault::Short(_) => {
+                writeln!(errors, "{self}")?;
+                SecondLine::of_file(alloc, words).write(errors)
+            }
+            Fault::Unread(_) => {
+                let what = "a short workload file: run reads it, and expand writes it out";
+                writeln!(errors, "{self}\nnvmearb: {what}")
+            }
+            Fault::TooLong {
+                commands,
+                slots,
+                ..
+            } => {
+                let held = slots.saturating_sub(1);
+                writeln!(
+                    errors,
+                    "{self}\nnvmearb: its script has {commands} commands, and its ring of {slots} slots holds {held}: take --live"
+                )
+            }
+            Fault::Shown(
+                TraceError::Line {
+                    line,
+                    fault: LineFault::Missing(Field::Fresh),
+                    ..
+                },
+            ) => {
+                let fault = LineFault::Missing(Field::Fresh);
+                writeln!(
+                    errors,
+                    "nvmearb: trace: line {line}: {fault}: wanted true or false"
+                )
             }
             Fault::GaveUp(patience) => {
                 let turns = if *patience == 1 { "turn" } else { "turns" };

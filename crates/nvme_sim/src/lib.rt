@@ -6,6 +6,7 @@ mod faults;
 pub mod laws;
 mod output;
 mod pipes;
+mod second_line;
 
 pub use commands::command;
 pub use nvme_report::{Mode, WriteFault, report};

@@ -64,6 +64,7 @@ text_answers app words kind (Ok (request.Trace when workers)) has h = absurd h
 text_answers app words kind (Ok (request.Chart range)) has h = absurd h
 text_answers app words kind (Ok (request.Stats numbers)) has h = absurd h
 text_answers app words kind (Ok (request.Settings reading)) has h = absurd h
+text_answers app words kind (Ok (request.Unfit why)) has h = absurd h
 text_answers app words kind (Err (error.CommandLine text)) (inl memory) (same, other, help) = absurd (other memory)
 text_answers app words kind (Err (error.CommandLine text)) (inr among) (same, other, help) =
     (subst (λ (k : ErrorKind). IsAmong k (faults_of app words)) (sym same) among, (λ h. help (subst (IsHelp words) same h)))

@@ -1,5 +1,6 @@
 -- A subcommand with its values asks for one thing: the request that is picked by its name.
-use Rattle.std.proofs.Common.{◌<◌, ◌^◌, unwrap_or, subst, ◌≡◌, ◌≢◌, ◌∙◌, if◌then◌else◌, cond, ℕ, Bool, true, false, List, Option, Some, None, codes, refl, sym, ap, ap₂, inl, inr, ⊎_elim}
+use Rattle.std.proofs.Common.{◌<◌, ◌≤◌, nat_lt, ◌^◌, unwrap_or, subst, ◌≡◌, ◌≢◌, ◌∙◌, if◌then◌else◌, cond, ℕ, Bool, true, false, List, Option, Some, None, codes, refl, sym, ap, ap₂, inl, inr, ⊎_elim}
+use Rattle.std.proofs.lemmas.Bool.{le-ltb, lt-ltb}
 use Rattle.std.proofs.lemmas.Slice.Eq.{bytes_eq-Decides}
 use Rattle.std.specs.Option.{option_map_or}
 use Rattle.std.specs.Str.{bytes_eq}
@@ -10,6 +11,7 @@ use Rattle.nvme_words.specs.Requests.{AreNumbers, Given, IsFlag, IsFormat, IsNum
 use Rattle.nvme_words.specs.declared.requests.Format.{Format}
 use Rattle.nvme_words.specs.declared.requests.Format.TheVariants as format
 use Rattle.nvme_words.specs.declared.requests.Numbers.{Numbers}
+use Rattle.nvme_words.specs.declared.requests.OptionsFault.TheVariants as unfit
 use Rattle.nvme_words.specs.declared.requests.Range.{Range}
 use Rattle.nvme_words.specs.declared.requests.Request.{Request}
 use Rattle.nvme_words.specs.declared.requests.Request.TheVariants as request
@@ -78,7 +80,23 @@ numbers_are rows numbers are =
     ∙ ap₂ (λ (b : Bool) (f : Format). numbers_from (range_in rows) (number_in (codes "window") rows) b f) three four
 
 abbrev check_for : Bool → Bool → Request
-check_for spec all = cond spec request.CheckSpec (cond all request.CheckAll request.Check)
+check_for spec all = cond spec (cond all (request.Unfit unfit.AllOfSpec) request.CheckSpec) (cond all request.CheckAll request.Check)
+
+-- a request for the picks in a range, unless it ends before it begins
+abbrev within : Range → Request → Request
+within range r = cond (nat_lt range.last range.first) (request.Unfit (unfit.Behind range)) r
+
+is_within : (range : Range) (r : Request) → range.first ≤ range.last → r ≡ within range r
+is_within range r least = ap (λ (b : Bool). cond b (request.Unfit (unfit.Behind range)) r) (sym (le-ltb range.last range.first least))
+
+is_behind : (range : Range) (r : Request) → range.last < range.first → request.Unfit (unfit.Behind range) ≡ within range r
+is_behind range r behind = ap (λ (b : Bool). cond b (request.Unfit (unfit.Behind range)) r) (sym (lt-ltb range.last range.first behind))
+
+abbrev chart_for : Range → Request
+chart_for range = within range (request.Chart range)
+
+abbrev stats_for : Numbers → Request
+stats_for numbers = within numbers.range (request.Stats numbers)
 
 abbrev picked : Given → Mode → Request
 picked given when =
@@ -90,8 +108,8 @@ picked given when =
     else if bytes_eq given.0 (codes "expand") then request.Expand
     else if bytes_eq given.0 (codes "check") then check_for (is_text (codes "true") (first_of (codes "spec") given.1)) (is_text (codes "true") (first_of (codes "all") given.1))
     else if bytes_eq given.0 (codes "trace") then request.Trace when (number_in (codes "workers") given.1)
-    else if bytes_eq given.0 (codes "chart") then request.Chart (range_in given.1)
-    else if bytes_eq given.0 (codes "stats") then request.Stats (numbers_in given.1)
+    else if bytes_eq given.0 (codes "chart") then chart_for (range_in given.1)
+    else if bytes_eq given.0 (codes "stats") then stats_for (numbers_in given.1)
     else request.Settings (settings_given given.1)
 
 module _ (given : Given) (when : Mode) (only : (w : Mode) → SubmitsBy given.1 w → w ≡ when) where
@@ -105,12 +123,21 @@ module _ (given : Given) (when : Mode) (only : (w : Mode) → SubmitsBy given.1 
   is_picked request.Lint h = rw h refl
   is_picked request.Expand h = rw h refl
   is_picked request.Check h = rw h.0 (ap₂ check_for (flag_is (codes "spec") given.1 false h.1) (flag_is (codes "all") given.1 false h.2))
-  is_picked request.CheckSpec h = rw h.0 (ap (λ (b : Bool). check_for b (is_text (codes "true") (first_of (codes "all") given.1))) (flag_is (codes "spec") given.1 true h.1))
+  is_picked request.CheckSpec h = rw h.0 (ap₂ check_for (flag_is (codes "spec") given.1 true h.1) (flag_is (codes "all") given.1 false h.2))
   is_picked request.CheckAll h = rw h.0 (ap₂ check_for (flag_is (codes "spec") given.1 false h.1) (flag_is (codes "all") given.1 true h.2))
   is_picked (request.Trace w n) h = rw h.0 (ap₂ request.Trace (only w h.1) (number_is 8 (codes "workers") given.1 n h.2))
-  is_picked (request.Chart range) h = rw h.0 (ap request.Chart (range_is given.1 range h.1))
-  is_picked (request.Stats numbers) h = rw h.0 (ap request.Stats (numbers_are given.1 numbers h.1))
+  is_picked (request.Chart range) h = rw h.0 (is_within range (request.Chart range) h.2 ∙ ap chart_for (range_is given.1 range h.1))
+  is_picked (request.Stats numbers) h = rw h.0 (is_within numbers.range (request.Stats numbers) h.2 ∙ ap stats_for (numbers_are given.1 numbers h.1))
   is_picked (request.Settings reading) h = rw h.0 (ap request.Settings h.1)
+  is_picked (request.Unfit unfit.AllOfSpec) h = rw h.0 (ap₂ check_for (flag_is (codes "spec") given.1 true h.1) (flag_is (codes "all") given.1 true h.2))
+  is_picked (request.Unfit (unfit.Behind range)) (behind, inl h) =
+      rw h.0 (is_behind range (request.Chart range) behind ∙ ap chart_for (range_is given.1 range h.1))
+  is_picked (request.Unfit (unfit.Behind range)) (behind, inr h) =
+      let numbers : Numbers = h.1 in
+      let same : numbers.range ≡ range = h.3 in
+      let late : numbers.range.last < numbers.range.first = subst (λ (r : Range). r.last < r.first) (sym same) behind in
+      rw h.0 (ap (λ (r : Range). request.Unfit (unfit.Behind r)) (sym same)
+      ∙ (is_behind numbers.range (request.Stats numbers) late ∙ ap stats_for (numbers_are given.1 numbers h.2)))
   is_picked (request.Help text) h = absurd h
 
   both_picked : (r s : Request) → IsRequestOf given r → IsRequestOf given s → r ≡ s

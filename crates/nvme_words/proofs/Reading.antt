@@ -7,6 +7,7 @@ use Rattle.clap.specs.Words.{ReadsOne, Text, found_of, one_text, rows_of}
 use Rattle.clap.specs.declared.parser.matches.ArgMatches.{ArgMatches}
 use Rattle.clap.proofs.WalkLemmas.{one_text-rows}
 use Rattle.nvme_words.specs.declared.requests.Numbers.{Numbers}
+use Rattle.nvme_words.specs.declared.requests.OptionsFault.TheVariants as unfit
 use Rattle.nvme_words.specs.declared.requests.Range.{Range}
 use Rattle.nvme_words.specs.declared.requests.Request.{Request}
 use Rattle.nvme_words.specs.declared.requests.Request.TheVariants as request
@@ -56,6 +57,9 @@ no_blocks given is none = go
     go (request.Chart range) h = not (codes "chart") refl h.0
     go (request.Stats numbers) h = not (codes "stats") refl h.0
     go (request.Settings reading) h = not (codes "settings") refl h.0
+    go (request.Unfit unfit.AllOfSpec) h = not (codes "check") refl h.0
+    go (request.Unfit (unfit.Behind range)) h =
+        ⊎_elim (λ e. not (codes "chart") refl e.0) (λ e. not (codes "stats") refl e.0) h.1
     go (request.Help text) h = h
 
 -- where there is no range, `chart` asks for nothing
@@ -80,6 +84,9 @@ no_range given is none = go
     go (request.Chart range) h = none range h.1
     go (request.Stats numbers) h = not (codes "stats") refl h.0
     go (request.Settings reading) h = not (codes "settings") refl h.0
+    go (request.Unfit unfit.AllOfSpec) h = not (codes "check") refl h.0
+    go (request.Unfit (unfit.Behind range)) h =
+        ⊎_elim (λ e. none range e.1) (λ e. not (codes "stats") refl e.0) h.1
     go (request.Help text) h = h
 
 -- where there are no numbers, `stats` asks for nothing
@@ -104,6 +111,9 @@ no_numbers given is none = go
     go (request.Chart range) h = not (codes "chart") refl h.0
     go (request.Stats numbers) h = none numbers h.1
     go (request.Settings reading) h = not (codes "settings") refl h.0
+    go (request.Unfit unfit.AllOfSpec) h = not (codes "check") refl h.0
+    go (request.Unfit (unfit.Behind range)) h =
+        ⊎_elim (λ e. not (codes "chart") refl e.0) (λ e. none e.1 e.2) h.1
     go (request.Help text) h = h
 
 -- where there is no number of workers, no run is asked for
@@ -121,4 +131,6 @@ no_workers given once lint expand check chart stats settings none (request.Trace
 no_workers given once lint expand check chart stats settings none (request.Chart range) h = chart h.0
 no_workers given once lint expand check chart stats settings none (request.Stats numbers) h = stats h.0
 no_workers given once lint expand check chart stats settings none (request.Settings reading) h = settings h.0
+no_workers given once lint expand check chart stats settings none (request.Unfit unfit.AllOfSpec) h = check h.0
+no_workers given once lint expand check chart stats settings none (request.Unfit (unfit.Behind range)) h = ⊎_elim (λ e. chart e.0) (λ e. stats e.0) h.1
 no_workers given once lint expand check chart stats settings none (request.Help text) h = h

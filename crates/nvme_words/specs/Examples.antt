@@ -133,6 +133,9 @@ check_spec = codes "check" ∷ codes "--spec" ∷ codes "a.json" ∷ []
 abbrev pub check_all : List Text
 check_all = codes "check" ∷ codes "a.json" ∷ codes "--all" ∷ []
 
+abbrev pub check_all_spec : List Text
+check_all_spec = codes "check" ∷ codes "--all" ∷ codes "--spec" ∷ []
+
 abbrev pub chart_file : List Text
 chart_file = codes "chart" ∷ codes "a.json" ∷ []
 
@@ -150,6 +153,15 @@ stats_json = codes "stats" ∷ codes "a.json" ∷ codes "--format" ∷ codes "js
 
 abbrev pub stats_part : List Text
 stats_part = codes "stats" ∷ codes "--from" ∷ codes "2" ∷ codes "--to=9" ∷ codes "--window" ∷ codes "3" ∷ codes "--backlogged" ∷ codes "--format=csv" ∷ []
+
+abbrev pub stats_behind : List Text
+stats_behind = codes "stats" ∷ codes "--from" ∷ codes "10" ∷ codes "--to" ∷ codes "5" ∷ []
+
+abbrev pub chart_behind : List Text
+chart_behind = codes "chart" ∷ codes "--from=10" ∷ codes "--to=9" ∷ []
+
+abbrev pub chart_one_pick : List Text
+chart_one_pick = codes "chart" ∷ codes "--from=10" ∷ codes "--to=10" ∷ []
 
 abbrev pub settings_dword : List Text
 settings_dword = codes "settings" ∷ codes "0x07030103" ∷ []

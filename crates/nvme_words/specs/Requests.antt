@@ -1,5 +1,5 @@
 -- Which words ask for what. (profile)
-use Rattle.std.specs.Prelude.{⊤, ◌≡◌, ◌≢◌, ◌⊎◌, ◌<◌, ◌^◌, ℕ, Bool, true, false, ◌||◌, not, if◌then◌else◌, List, [], map, Option, Some, None, Result, Ok, Err, String, string_bytes, codes}
+use Rattle.std.specs.Prelude.{⊤, ◌≡◌, ◌≢◌, ◌⊎◌, ◌<◌, ◌≤◌, ◌^◌, ℕ, Bool, true, false, ◌||◌, not, if◌then◌else◌, List, [], map, Option, Some, None, Result, Ok, Err, String, string_bytes, codes}
 use Rattle.std.specs.Global.{Global}
 use Rattle.std.specs.Str.{bytes_eq}
 use Rattle.std.specs.Str.Parse.{IsNumeral, digits_value, without_leading_plus}
@@ -11,6 +11,8 @@ use Rattle.nvme_words.specs.declared.requests.Format.{Format}
 use Rattle.nvme_words.specs.declared.requests.Format.TheVariants as format
 use Rattle.nvme_words.specs.declared.requests.Range.{Range}
 use Rattle.nvme_words.specs.declared.requests.Numbers.{Numbers}
+use Rattle.nvme_words.specs.declared.requests.OptionsFault.{OptionsFault}
+use Rattle.nvme_words.specs.declared.requests.OptionsFault.TheVariants as unfit
 use Rattle.nvme_words.specs.declared.requests.Request.{Request}
 use Rattle.nvme_words.specs.declared.requests.Request.TheVariants as request
 use Rattle.nvme_lane.specs.declared.mode.Mode.{Mode}
@@ -35,6 +37,8 @@ IsAskedBy words (request.Trace mode workers) = asks (codes "trace") words ≡ tr
 IsAskedBy words (request.Chart range) = shows_trace words ≡ true
 IsAskedBy words (request.Stats numbers) = shows_trace words ≡ true
 IsAskedBy words (request.Settings reading) = asks (codes "settings") words ≡ true
+IsAskedBy words (request.Unfit unfit.AllOfSpec) = (asks (codes "check") words ≡ true) × (asks_alone (codes "check") words ≡ false)
+IsAskedBy words (request.Unfit (unfit.Behind range)) = shows_trace words ≡ true
 IsAskedBy words (request.Help text) = asks_alone (codes "check") words ≡ false
 
 -- ---- what a subcommand and its values ask for
@@ -81,6 +85,17 @@ abbrev pub RunsBy : Given → Mode → Type 0
 RunsBy given mode = ((given.0 ≡ codes "loaded") × (mode ≡ Loaded))
     ⊎ ((given.0 ≡ codes "live") × (mode ≡ Live))
 
+-- the picks that a picture or statistics are to look at
+abbrev pub ShowsPicks : Given → Range → Type 0
+ShowsPicks given range = ((given.0 ≡ codes "chart") × IsRange given.1 range)
+    ⊎ ((given.0 ≡ codes "stats") × (numbers : Numbers) × AreNumbers given.1 numbers × (numbers.range ≡ range))
+
+-- options that don't go together: all picks that differ from the profile's are asked for where the specification alone
+-- judges, or the first pick is behind the last one
+abbrev pub IsUnfit : Given → OptionsFault → Type 0
+IsUnfit given unfit.AllOfSpec = (given.0 ≡ codes "check") × IsFlag (codes "spec") given.1 true × IsFlag (codes "all") given.1 true
+IsUnfit given (unfit.Behind range) = (range.last < range.first) × ShowsPicks given range
+
 abbrev pub IsRequestOf : Given → Request → Type 0
 IsRequestOf given (request.Once blocks) = (given.0 ≡ codes "once") × IsNumber 64 (codes "blocks") given.1 blocks
 IsRequestOf given (request.Run mode workers) = RunsBy given mode × IsNumber 8 (codes "workers") given.1 workers
@@ -89,13 +104,15 @@ IsRequestOf given (request.RunFile mode workers) =
 IsRequestOf given request.Lint = given.0 ≡ codes "lint"
 IsRequestOf given request.Expand = given.0 ≡ codes "expand"
 IsRequestOf given request.Check = (given.0 ≡ codes "check") × IsFlag (codes "spec") given.1 false × IsFlag (codes "all") given.1 false
-IsRequestOf given request.CheckSpec = (given.0 ≡ codes "check") × IsFlag (codes "spec") given.1 true
+IsRequestOf given request.CheckSpec = (given.0 ≡ codes "check") × IsFlag (codes "spec") given.1 true × IsFlag (codes "all") given.1 false
 IsRequestOf given request.CheckAll = (given.0 ≡ codes "check") × IsFlag (codes "spec") given.1 false × IsFlag (codes "all") given.1 true
 IsRequestOf given (request.Trace mode workers) =
     (given.0 ≡ codes "trace") × SubmitsBy given.1 mode × IsNumber 8 (codes "workers") given.1 workers
-IsRequestOf given (request.Chart range) = (given.0 ≡ codes "chart") × IsRange given.1 range
-IsRequestOf given (request.Stats numbers) = (given.0 ≡ codes "stats") × AreNumbers given.1 numbers
+IsRequestOf given (request.Chart range) = (given.0 ≡ codes "chart") × IsRange given.1 range × (range.first ≤ range.last)
+IsRequestOf given (request.Stats numbers) =
+    (given.0 ≡ codes "stats") × AreNumbers given.1 numbers × (numbers.range.first ≤ numbers.range.last)
 IsRequestOf given (request.Settings reading) = (given.0 ≡ codes "settings") × (reading ≡ settings_given given.1)
+IsRequestOf given (request.Unfit why) = IsUnfit given why
 IsRequestOf given (request.Help text) = ⊥
 
 -- ---- what words ask for
@@ -112,6 +129,7 @@ given_by app words = subcommand_of app (map string_bytes words)
 abbrev pub IsSaid : List (String Global) → Request → Type 0
 IsSaid words request.CheckSpec = asks_alone (codes "check") words ≡ false
 IsSaid words request.CheckAll = asks_alone (codes "check") words ≡ false
+IsSaid words (request.Unfit unfit.AllOfSpec) = asks_alone (codes "check") words ≡ false
 IsSaid words request = ⊤
 
 -- the subcommand is the word after the program's name, and asks for this

@@ -16,4 +16,4 @@ pub use laws::{
     lines_ask_for, lines_have_faults, lines_name_files, lines_name_outputs, lines_show_text,
     one_request,
 };
-pub use requests::{Format, Numbers, Range, Request, WordsError, asked_of};
+pub use requests::{Format, Numbers, OptionsFault, Range, Request, WordsError, asked_of};

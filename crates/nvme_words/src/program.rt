@@ -27,7 +27,7 @@ Input:
 Ranges:
   N               1 to 8 workers
   B               1 to 9223372036854775807 logical blocks
-  FIRST, LAST     numbers of picks, counted from 1, both included
+  FIRST, LAST     numbers of picks, counted from 1, both included, FIRST at most LAST
   DWORD           a number of 32 bits, in hexadecimal as 0x07030103 or in decimal
   BURST           1, 2, 4, 8, 16, 32, 64, or none for no limit
   WEIGHTS         of high, medium and low, each 1 to 256, as 8:4:2

@@ -1,8 +1,8 @@
 // What the words of the command line ask for.
-ghost use Rattle.std.specs.Prelude.{◌≡◌, IfOk, IfNone, IfSome, codes};
-ghost use Rattle.clap.specs.Words.{found_of, kind_of, rows_of, subcommand_rows_of};
+ghost use Rattle.std.specs.Prelude.{◌≡◌, List, IfOk, IfNone, IfSome, codes};
+ghost use Rattle.clap.specs.Words.{Row, found_of, kind_of, rows_of, subcommand_rows_of};
 ghost use Rattle.nvme_words.specs.CommandLine.{OnCommandLine};
-ghost use Rattle.nvme_words.specs.Requests.{AreNumbers, IsAnswerTo, IsAskedBy, IsFlag, IsFormat, IsRange, IsSaid, SubmitsBy, settings_given};
+ghost use Rattle.nvme_words.specs.Requests.{AreNumbers, IsAnswerTo, IsAskedBy, IsFlag, IsFormat, IsRange, IsRequestOf, IsSaid, SubmitsBy, settings_given};
 ghost use Rattle.nvme_words.specs.inside.Found.{IsNumberIfAny, IsOneIfAny, IsRequestIfAny, IsRequestOfIfAny, IsTextFor};
 
 use crate::program::program;
@@ -47,6 +47,17 @@ pub enum Format {
     Csv,
 }
 
+/// Which options of a subcommand don't go together.
+#[derive(Clone, Copy, Debug, PartialEq, Eq, Error)]
+pub enum OptionsFault {
+    /// `check` is given `--spec` and `--all`. Which picks differ is asked of the profile alone.
+    #[error("--all is of the profile alone, not of --spec")]
+    AllOfSpec,
+    /// The first pick that is to be looked at is behind the last one.
+    #[error("--from {first} is behind --to {last}", first = .0.first, last = .0.last)]
+    Behind(Range),
+}
+
 /// What the words ask for.
 #[derive(Drop)]
 pub enum Request {
@@ -69,13 +80,15 @@ pub enum Request {
     CheckAll,
     /// The trace of a run of a workload in this mode, with this many workers, 1 to 8.
     Trace(Mode, u8),
-    /// A picture of a trace, as SVG.
+    /// A picture of a trace, as SVG. The range doesn't end before it begins.
     Chart(Range),
-    /// Statistics of a trace.
+    /// Statistics of a trace. The range doesn't end before it begins.
     Stats(Numbers),
     /// The settings of the Arbitration feature that a dword or words say, as Command Dword 11 of Set Features, or why
     /// they say none.
     Settings(Result<u32, SettingsFault>),
+    /// Nothing: their options don't go together.
+    Unfit(OptionsFault),
     /// The text of the help, or the version.
     Help(clap::Error),
 }
@@ -204,6 +217,40 @@ fn numbers_of(matches: &ArgMatches) -> Option<Numbers>
     })
 }
 
+// Which check is asked for.
+fn check_of(matches: &ArgMatches) -> Request
+    ensures { IsRequestOf (codes "check", rows_of (found_of matches.now)) result }
+{
+    match (spec_of(matches), all_of(matches)) {
+        (false, false) => Request::Check,
+        (true, false) => Request::CheckSpec,
+        (false, true) => Request::CheckAll,
+        (true, true) => Request::Unfit(OptionsFault::AllOfSpec),
+    }
+}
+
+// What a picture of the picks in a range is asked for by: a range that ends before it begins asks for none.
+fn chart_of(range: Range) -> Request
+    ensures { (rows : List Row) → IsRange rows range → IsRequestOf (codes "chart", rows) result }
+{
+    if range.last < range.first {
+        Request::Unfit(OptionsFault::Behind(range))
+    } else {
+        Request::Chart(range)
+    }
+}
+
+// What statistics with these numbers are asked for by: a range that ends before it begins asks for none.
+fn stats_of(numbers: Numbers) -> Request
+    ensures { (rows : List Row) → AreNumbers rows numbers → IsRequestOf (codes "stats", rows) result }
+{
+    if numbers.range.last < numbers.range.first {
+        Request::Unfit(OptionsFault::Behind(numbers.range))
+    } else {
+        Request::Stats(numbers)
+    }
+}
+
 // The settings that are to be translated.
 fn settings_of(matches: &ArgMatches) -> Result<u32, SettingsFault>
     ensures { result ≡ settings_given (rows_of (found_of matches.now)) }
@@ -226,12 +273,10 @@ fn request_of(name: &str, matches: &ArgMatches) -> Option<Request>
         "run" => Some(Request::RunFile(mode_of(matches), workers_of(matches)?)),
         "lint" => Some(Request::Lint),
         "expand" => Some(Request::Expand),
-        "check" if spec_of(matches) => Some(Request::CheckSpec),
-        "check" if all_of(matches) => Some(Request::CheckAll),
-        "check" => Some(Request::Check),
+        "check" => Some(check_of(matches)),
         "trace" => Some(Request::Trace(mode_of(matches), workers_of(matches)?)),
-        "chart" => Some(Request::Chart(range_of(matches)?)),
-        "stats" => Some(Request::Stats(numbers_of(matches)?)),
+        "chart" => Some(chart_of(range_of(matches)?)),
+        "stats" => Some(stats_of(numbers_of(matches)?)),
         "settings" => Some(Request::Settings(settings_of(matches))),
         _ => None,
     }
@@ -242,7 +287,11 @@ fn said(words: &[String], request: Request) -> Option<Request>
     ensures some { IfSome result (λ said. (said ≡ request) × IsSaid words.now request) }
     ensures none { IfNone result (IsSaid words.now request → ⊥) }
 {
-    if matches!(&request, Request::CheckSpec | Request::CheckAll) && asks_alone(words, "check") {
+    let has_option = matches!(
+        &request,
+        Request::CheckSpec | Request::CheckAll | Request::Unfit(OptionsFault::AllOfSpec)
+    );
+    if has_option && asks_alone(words, "check") {
         None
     } else {
         Some(request)

@@ -35,7 +35,7 @@ pub(super) fn charted<R: Read + Drop, W: Write>(
     };
     let picture = match chart(alloc, input, selection) {
         Ok(picture) => picture,
-        Err(error) => return Err(Fault::Trace(error)),
+        Err(error) => return Err(Fault::Shown(error)),
     };
     match picture.write_svg(output) {
         Ok(()) => Ok(Answer::Done),

@@ -29,6 +29,23 @@ fn out_of_patience(alloc: Global, text: &[u8]) -> Fault
     }
 }
 
+// That a script is too long for its ring, with the lengths of both.
+fn too_long(alloc: Global, text: &[u8], region: u8) -> Fault
+    ensures { status_of result ≡ 3 }
+{
+    let Ok(workload) = read(alloc, text) else {
+        return Fault::Run(RunError::TooLong(region));
+    };
+    match workload.submissions.as_slice().get(usize::from(region)) {
+        Some(plan) => Fault::TooLong {
+            region,
+            commands: plan.script.as_slice().len(),
+            slots: plan.slots,
+        },
+        None => Fault::Run(RunError::TooLong(region)),
+    }
+}
+
 // A fault of a run of this text, with what is known of it.
 fn explained_fault(alloc: Global, text: &[u8], fault: Fault) -> Fault
     ensures { IsExplainedFault fault result }
@@ -36,6 +53,7 @@ fn explained_fault(alloc: Global, text: &[u8], fault: Fault) -> Fault
     match fault {
         Fault::Run(RunError::Workload(error)) => placed(alloc, text, error),
         Fault::Run(RunError::Front(error)) => Fault::Front(error),
+        Fault::Run(RunError::TooLong(region)) => too_long(alloc, text, region),
         Fault::Run(RunError::GaveUp) => out_of_patience(alloc, text),
         fault => fault,
     }

@@ -35,7 +35,7 @@ pub(super) fn counted<R: Read + Drop, W: Write>(
     let window = Some(numbers.window).filter(|window| *window > 0);
     let statistics = match stats(alloc, input, selection, window) {
         Ok(statistics) => statistics,
-        Err(error) => return Err(Fault::Trace(error)),
+        Err(error) => return Err(Fault::Shown(error)),
     };
     let written = match numbers.format {
         Format::Text => statistics.write_text(output),

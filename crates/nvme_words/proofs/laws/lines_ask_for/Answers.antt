@@ -5,11 +5,12 @@ use Rattle.clap.specs.ValueTests.{accepts}
 use Rattle.clap.specs.Words.{Text, first_of, one_of}
 use Rattle.clap.specs.declared.builder.value_parser.ValueParser.TheVariants as vp
 use Rattle.clap.proofs.OnLiterals.{clap_on_literals}
-use Rattle.nvme_words.specs.Examples.{all_numbers, all_picks, alone, chart_file, chart_output, check_all, check_file, check_spec, expand_file, lint_input, live_8, loaded_2, once_8, once_most, run_file, run_live_3, settings_both, settings_dword, settings_words, stats_json, stats_part, trace_2, trace_live}
+use Rattle.nvme_words.specs.Examples.{all_numbers, all_picks, alone, chart_behind, chart_file, chart_one_pick, chart_output, check_all, check_all_spec, check_file, check_spec, expand_file, lint_input, live_8, loaded_2, once_8, once_most, run_file, run_live_3, settings_both, settings_dword, settings_words, stats_behind, stats_json, stats_part, trace_2, trace_live}
 use Rattle.std.specs.Global.{Global}
 use Rattle.nvme_words.specs.Words.{asks_alone}
 use Rattle.nvme_words.specs.Requests.{IsRange, SubmitsBy}
 use Rattle.nvme_words.specs.declared.requests.Format.TheVariants as format
+use Rattle.nvme_words.specs.declared.requests.OptionsFault.TheVariants as unfit
 use Rattle.nvme_words.specs.declared.requests.Request.TheVariants as request
 use Rattle.nvme_settings.specs.declared.reading.SettingsFault.TheVariants as said
 use Rattle.nvme_lane.specs.declared.mode.Mode.TheVariants.{Loaded, Live}
@@ -72,11 +73,15 @@ not_alone a b (w ∷ x ∷ y ∷ z ∷ zs) e = refl
 
 pub returns-clause-check_spec : goal.returns-clause-check_spec
 unfolding clap_on_literals
-returns-clause-check_spec c = line_asks (codes "check") _ (given_at check_spec) (request.CheckSpec) refl (refl, refl) (not_alone (codes "--spec") (codes "a.json")) (λ p q r. (refl, refl))
+returns-clause-check_spec c = line_asks (codes "check") _ (given_at check_spec) (request.CheckSpec) refl (refl, refl, other_text (first_of (codes "all") (given_at check_spec).1) (codes "false") (codes "true") refl refl) (not_alone (codes "--spec") (codes "a.json")) (λ p q r. (refl, refl))
 
 pub returns-clause-check_all : goal.returns-clause-check_all
 unfolding clap_on_literals
 returns-clause-check_all c = line_asks (codes "check") _ (given_at check_all) (request.CheckAll) refl (refl, other_text (first_of (codes "spec") (given_at check_all).1) (codes "false") (codes "true") refl refl, refl) (not_alone (codes "a.json") (codes "--all")) (λ p q r. (refl, refl))
+
+pub returns-clause-check_all_spec : goal.returns-clause-check_all_spec
+unfolding clap_on_literals
+returns-clause-check_all_spec c = line_asks (codes "check") _ (given_at check_all_spec) (request.Unfit unfit.AllOfSpec) refl (refl, refl, refl) (not_alone (codes "--all") (codes "--spec")) (λ p q r. (refl, refl))
 
 pub returns-clause-trace : goal.returns-clause-trace
 unfolding clap_on_literals
@@ -98,12 +103,42 @@ range_given line f t first last one two = (
 pub returns-clause-chart : goal.returns-clause-chart
 unfolding clap_on_literals
 returns-clause-chart c = line_asks (codes "chart") _ (given_at chart_file) (request.Chart all_picks) refl
-    (refl, range_given chart_file (codes "1") (codes "9223372036854775807") refl refl refl refl) (λ words e. tt) (λ p q r. (refl, refl))
+    (refl, range_given chart_file (codes "1") (codes "9223372036854775807") refl refl refl refl, omega arith) (λ words e. tt) (λ p q r. (refl, refl))
 
 pub returns-clause-chart_output : goal.returns-clause-chart_output
 unfolding clap_on_literals
 returns-clause-chart_output c = line_asks (codes "chart") _ (given_at chart_output) (request.Chart all_picks) refl
-    (refl, range_given chart_output (codes "1") (codes "9223372036854775807") refl refl refl refl) (λ words e. tt) (λ p q r. (refl, refl))
+    (refl, range_given chart_output (codes "1") (codes "9223372036854775807") refl refl refl refl, omega arith) (λ words e. tt) (λ p q r. (refl, refl))
+
+pub returns-clause-chart_one_pick : goal.returns-clause-chart_one_pick
+unfolding clap_on_literals
+returns-clause-chart_one_pick c = line_asks (codes "chart") _ (given_at chart_one_pick) (request.Chart (record { first = 10; last = 10 })) refl
+    (refl, range_given chart_one_pick (codes "10") (codes "10") refl refl refl refl, omega arith) (λ words e. tt) (λ p q r. (refl, refl))
+
+pub returns-clause-chart_behind : goal.returns-clause-chart_behind
+unfolding clap_on_literals
+returns-clause-chart_behind c = line_asks (codes "chart") _ (given_at chart_behind) (request.Unfit (unfit.Behind (record { first = 10; last = 9 }))) refl
+    (omega arith, inl (refl, range_given chart_behind (codes "10") (codes "9") refl refl refl refl)) (λ words e. tt) (λ p q r. (refl, refl))
+
+pub returns-clause-stats_behind : goal.returns-clause-stats_behind
+unfolding clap_on_literals
+returns-clause-stats_behind c = line_asks (codes "stats") _ (given_at stats_behind) (request.Unfit (unfit.Behind (record { first = 10; last = 5 }))) refl (
+  omega arith,
+  inr (
+    refl,
+    record { range = record { first = 10; last = 5 }; window = 0; backlogged = false; format = format.Text },
+    (
+      range_given stats_behind (codes "10") (codes "5") refl refl refl refl,
+      number_of 64 18446744073709551615 (codes "window") (codes "0") (given_at stats_behind).1 refl refl (omega arith),
+      other_text (first_of (codes "backlogged") (given_at stats_behind).1) (codes "false") (codes "true") refl refl,
+      (
+        other_text (first_of (codes "format") (given_at stats_behind).1) (codes "text") (codes "json") refl refl,
+        other_text (first_of (codes "format") (given_at stats_behind).1) (codes "text") (codes "csv") refl refl,
+      ),
+    ),
+    refl,
+  ),
+) (λ words e. tt) (λ p q r. (refl, refl))
 
 pub returns-clause-stats : goal.returns-clause-stats
 unfolding clap_on_literals
@@ -118,6 +153,7 @@ returns-clause-stats c = line_asks (codes "stats") _ (given_at (alone (codes "st
       other_text (first_of (codes "format") (given_at (alone (codes "stats"))).1) (codes "text") (codes "csv") refl refl,
     ),
   ),
+  omega arith,
 ) (λ words e. tt) (λ p q r. (refl, refl))
 
 pub returns-clause-stats_json : goal.returns-clause-stats_json
@@ -130,6 +166,7 @@ returns-clause-stats_json c = line_asks (codes "stats") _ (given_at stats_json) 
     other_text (first_of (codes "backlogged") (given_at stats_json).1) (codes "false") (codes "true") refl refl,
     refl,
   ),
+  omega arith,
 ) (λ words e. tt) (λ p q r. (refl, refl))
 
 pub returns-clause-stats_part : goal.returns-clause-stats_part
@@ -143,6 +180,7 @@ returns-clause-stats_part c = line_asks (codes "stats") _ (given_at stats_part)
         refl,
         refl,
       ),
+      omega arith,
     ) (λ words e. tt) (λ p q r. (refl, refl))
 
 pub returns-clause-settings_dword : goal.returns-clause-settings_dword

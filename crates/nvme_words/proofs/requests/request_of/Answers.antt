@@ -1,4 +1,4 @@
-use Rattle.std.proofs.Common.{rules, ◌≡◌, None}
+use Rattle.std.proofs.Common.{rules, ◌≡◌, None, codes}
 use Rattle.clap.specs.Words.{found_of, rows_of}
 use Rattle.nvme_words.proofs.Reading.{no_blocks, no_numbers, no_range, no_workers}
 use Rattle.nvme_words.proofs.requests.request_of.Goals as goal
@@ -44,3 +44,18 @@ returns-in_err-numbers_of-in-stats c =
     let none : c.numbers_of.result ≡ None = search rules in
     let left : c.from_residual-in_err-numbers_of-in-stats.result ≡ None = search rules in
     rw left (no_numbers (c.args.name.now, rows_of (found_of c.args.matches.now)) (search rules) (rw none at c.numbers_of.ensures))
+
+pub returns-in-check : goal.returns-in-check
+returns-in-check c =
+    let is : c.args.name.now ≡ codes "check" = search rules in
+    rw is c.check_of.ensures
+
+pub returns-in_ok-range_of-in-chart : goal.returns-in_ok-range_of-in-chart
+returns-in_ok-range_of-in-chart c =
+    let is : c.args.name.now ≡ codes "chart" = search rules in
+    rw is (c.chart_of.ensures (rows_of (found_of c.args.matches.now)) c.in_ok-range_of-in-chart.ensures)
+
+pub returns-in_ok-numbers_of-in-stats : goal.returns-in_ok-numbers_of-in-stats
+returns-in_ok-numbers_of-in-stats c =
+    let is : c.args.name.now ≡ codes "stats" = search rules in
+    rw is (c.stats_of.ensures (rows_of (found_of c.args.matches.now)) c.in_ok-numbers_of-in-stats.ensures)
