@@ -1,12 +1,11 @@
 -- What holds of an answer holds of it with its fault explained.
-use Rattle.std.proofs.Common.{◌≡◌, ◌≢◌, ◌⊎◌, ◌∙◌, Result, Ok, Err, inl, inr, refl, sym, ap}
+use Rattle.std.proofs.Common.{◌≡◌, ◌⊎◌, ◌∙◌, Result, Ok, Err, inl, inr, sym, ap}
 use Rattle.std.specs.Prelude.{IfErr, OnOk}
-use Rattle.nvme_runs.specs.declared.runs.RunError.{RunError}
 use Rattle.nvme_runs.specs.declared.runs.RunError.TheVariants as run
 use Rattle.nvme_sim.specs.Statuses.{status_of}
 use Rattle.nvme_sim.specs.declared.faults.Fault.{Fault}
 use Rattle.nvme_sim.specs.declared.faults.Fault.TheVariants as fault
-use Rattle.nvme_sim.specs.inside.Explained.{IsExplained, IsExplainedFault}
+use Rattle.nvme_sim.specs.inside.Explained.{IsExplained}
 
 pub answer_stays : {T : Type 0} (was is : Result T Fault) (x : T) → IsExplained was is → is ≡ Ok x → was ≡ Ok x
 answer_stays (Ok a) (Ok b) x same e = ap (λ y. Ok y) (sym same) ∙ e
@@ -48,14 +47,3 @@ write_stays (Ok a) (Err f) P same h = absurd same
 write_stays (Err f) (Ok b) P same h = tt
 write_stays (Err f) (Err g) P same (inl w) = inl (same.write (inl w) ∙ w)
 write_stays (Err f) (Err g) P same (inr p) = inr p
-
--- the fault of a run, explained: it is that of a write, or nothing was written
-pub run_untouched : {W : Type 0} (old new : W) (e : RunError) (is : Fault) → IsExplainedFault (fault.Run e) is → (e ≢ run.Write → new ≡ old)
-    → (is ≡ fault.Run run.Write) ⊎ (new ≡ old)
-run_untouched old new run.Write is same untouched = inl (same.write (inr refl))
-run_untouched old new (run.Workload w) is same untouched = inr (untouched (λ q. cc q))
-run_untouched old new run.Workers is same untouched = inr (untouched (λ q. cc q))
-run_untouched old new (run.TooLong r) is same untouched = inr (untouched (λ q. cc q))
-run_untouched old new run.NoMemory is same untouched = inr (untouched (λ q. cc q))
-run_untouched old new (run.Front f) is same untouched = inr (untouched (λ q. cc q))
-run_untouched old new run.GaveUp is same untouched = inr (untouched (λ q. cc q))

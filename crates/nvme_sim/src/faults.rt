@@ -48,9 +48,6 @@ pub(crate) enum Fault {
     // The second line tells the place of the fault, what stands there, and what was expected.
     #[error("nvmearb: workload: {0}")]
     Placed(WorkloadError, nvme_workload::Fault),
-    // Of a short file, where only the other form is read.
-    #[error("nvmearb: workload: {0}")]
-    Unread(WorkloadError),
     // The second line tells how many commands the script of the region has, and how many its ring holds.
     #[error("nvmearb: script too long for ring {region}")]
     TooLong {
@@ -87,7 +84,7 @@ impl Fault {
         match self {
             Fault::Entry(_) | Fault::Input(InputError::TooLong) => 1,
             Fault::Run(RunError::Workload(_)) => 1,
-            Fault::Workload(_) | Fault::Placed(..) | Fault::Short(_) | Fault::Unread(_) => 1,
+            Fault::Workload(_) | Fault::Placed(..) | Fault::Short(_) => 1,
             Fault::Trace(TraceError::Line { .. }) | Fault::Shown(TraceError::Line { .. }) => 1,
             Fault::CommandLine(_) | Fault::Words | Fault::Settings(_) | Fault::Options(_) => 2,
             Fault::Run(RunError::Workers) => 2,
@@ -117,10 +114,6 @@ impl Fault {
             Fault::Short(_) => {
                 writeln!(errors, "{self}")?;
                 SecondLine::of_file(alloc, words).write(errors)
-            }
-            Fault::Unread(_) => {
-                let what = "a short workload file: run reads it, and expand writes it out";
-                writeln!(errors, "{self}\nnvmearb: {what}")
             }
             Fault::TooLong {
                 commands,

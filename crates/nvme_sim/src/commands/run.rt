@@ -2,7 +2,6 @@
 ghost use Rattle.std.specs.Prelude.{◌≡◌, ◌⊎◌, Ok, IfErr, IfSome, OnOk};
 ghost use Rattle.nvme_sim.specs.Answers.{Appended, AppendedPart, HasReport};
 ghost use Rattle.nvme_sim.specs.Statuses.{IsBadWorkload, status_of};
-ghost use Rattle.nvme_sim.specs.inside.Explained.{IsExplainedFault};
 ghost use Rattle.nvme_sim.specs.declared.faults.Fault.TheVariants as fault;
 ghost use Rattle.nvme_sim.specs.declared.commands.Answer.TheVariants as answer;
 ghost use Rattle.nvme_runs.specs.declared.runs.RunError.TheVariants as run_fault;
@@ -10,29 +9,12 @@ ghost use Rattle.nvme_runs.specs.declared.runs.RunError.TheVariants as run_fault
 use super::Answer;
 use crate::faults::Fault;
 use nvme_lane::Mode;
-use nvme_runs::{RunError, run};
-use nvme_short::short_in;
+use nvme_runs::run;
 use nvme_words::take_input;
 use std::alloc::Global;
 use std::io::{Read, Write};
 use std::sync::Wait;
 use std::thread::Threads;
-
-// Whether a text is a short workload file. It isn't inlined, so that its stack isn't that of the run.
-#[inline(never)]
-fn is_short(alloc: Global, text: &[u8]) -> bool {
-    matches!(short_in(alloc, text), Ok(Some(_)))
-}
-
-// The fault of a run of this text. Of a short file it is told that it isn't read here.
-fn fault_of_run(alloc: Global, text: &[u8], error: RunError) -> Fault
-    ensures { IsExplainedFault (fault.Run error) result }
-{
-    match error {
-        RunError::Workload(error) if is_short(alloc, text) => Fault::Unread(error),
-        error => Fault::Run(error),
-    }
-}
 
 /// Runs a workload with so many workers, and writes its report.
 #[inline(never)]
@@ -53,6 +35,6 @@ pub(super) fn ran<R: Read + Drop, W: Write, T: Threads + Wait + Sync>(
     let text = take_input(alloc, input).map_err(Fault::Input)?;
     match run(rt, alloc, text.as_slice(), mode, workers, output) {
         Ok(_) => Ok(Answer::Done),
-        Err(error) => Err(fault_of_run(alloc, text.as_slice(), error)),
+        Err(error) => Err(Fault::Run(error)),
     }
 }

@@ -1,8 +1,7 @@
 -- What a run says of the text that was taken.
-use Rattle.std.proofs.Common.{◌≡◌, ◌∙◌, IfSome, rules, sym}
+use Rattle.std.proofs.Common.{◌≡◌, IfSome, rules}
 use Rattle.nvme_sim.specs.Answers.{Appended, HasReport}
 use Rattle.nvme_sim.proofs.Inputs.{bad_workload, of_taken, run_failed}
-use Rattle.nvme_sim.proofs.Explaining.{run_untouched}
 use Rattle.nvme_sim.proofs.commands.run.ran.Goals as goal
 
 pub returns-in-Ok-clause-done : goal.returns-in-Ok-clause-done
@@ -14,10 +13,7 @@ returns-in-Ok-clause-done g c =
 pub returns-clause-input : goal.returns-clause-input
 returns-clause-input g c =
     let whole : IfSome (g.R.Read.remaining c.args.input) (λ rest. c.as_slice.result.now ≡ rest) = search rules in
-    λ one. bad_workload (g.R.Read.remaining c.args.input) c.as_slice.result.now c.in-Err.error whole c.in-Err.ensures.means.workload (sym c.fault_of_run.ensures.status ∙ one)
-
-pub returns-clause-untouched : goal.returns-clause-untouched
-returns-clause-untouched g c = run_untouched c.args.output.now c.run.new.writer c.in-Err.error c.fault_of_run.result c.fault_of_run.ensures c.in-Err.ensures.means.untouched
+    bad_workload (g.R.Read.remaining c.args.input) c.as_slice.result.now c.in-Err.error whole c.in-Err.ensures.means.workload
 
 pub returns-clause-failed : goal.returns-clause-failed
 returns-clause-failed g c =
