@@ -1,8 +1,8 @@
 -- An admin entry is applied.
-use Rattle.std.proofs.Common.{◌≡◌, ℕ, ◌==◌, ◌&&◌, Bool, true, false, not, if◌then◌else◌, ◌∷◌, Option, Some, None, refl, sym, ◌∙◌, ap, subst, inl, inr, eqb-true, eq-eqb, true≢false}
+use Rattle.std.proofs.Common.{◌≡◌, ℕ, ◌==◌, ◌&&◌, Bool, true, false, not, if◌then◌else◌, List, ◌∷◌, ◌++◌, Option, Some, None, refl, sym, ◌∙◌, ap, subst, inl, inr, eqb-true, eq-eqb, true≢false}
 use Rattle.std.proofs.Math.Path.{fun_ext}
 use Rattle.std.proofs.lemmas.Bool.{cases_Bool}
-use Rattle.nvme_entry.specs.Checks.{first_failed}
+use Rattle.nvme_entry.specs.Checks.{Check, first_failed}
 use Rattle.nvme_entry.specs.Status.{StatusCode, success, invalid_field}
 use Rattle.nvme_entry.specs.Submission.{fuse_of}
 use Rattle.nvme_entry.specs.AdminCommand.{admin_command_of}
@@ -14,14 +14,18 @@ use Rattle.nvme_admin.specs.declared.verdict.Verdict.{Verdict}
 use Rattle.nvme_admin.specs.declared.verdict.Verdict.TheVariants.{Done, SetArbitration}
 use Rattle.nvme_admin.specs.History.{Start, TableHistory, EntryApplied, Effects, Accepted}
 use Rattle.nvme_admin.specs.QueueTable.{QueueTable, table_in, number_of_queues}
-use Rattle.nvme_admin.specs.Checks.{row, rows_of, status_over, is_success, verdict_by, verdict_after, opened_sq, opened_cq, dw0_by, dw0_after, status_in, dw0_in}
+use Rattle.nvme_admin.specs.Checks.{row, rows_of, placing_rows, status_over, is_success, verdict_by, verdict_after, opened_sq, opened_cq, dw0_by, dw0_after, status_in, dw0_in}
 use Rattle.nvme_admin.specs.Accepted.{effects_of, queue_table, status_of, verdict_of, dw0_of}
 use Rattle.nvme_admin.specs.Steps.{table_after}
 use Rattle.nvme_admin.specs.Standing.{TableView, Shows, StandsAt, Does, table_of}
 use Rattle.nvme_admin.proofs.Slots.{other}
 
--- a table that shows a queue table has it
-pub table_of-shown : (v : TableView) (t : QueueTable) → Shows v t → table_of v ≡ t
+-- a queue table in which no created queue is counted
+abbrev pub uncounted : QueueTable → QueueTable
+uncounted t = record t { sqs_made = 0; cqs_made = 0 }
+
+-- a table that shows a queue table has it, but for how many queues were created
+pub table_of-shown : (v : TableView) (t : QueueTable) → Shows v t → table_of v ≡ uncounted t
 table_of-shown v t s = λ i. record {
   sq = (fun_ext s.sq) i;
   cq = (fun_ext s.cq) i;
@@ -34,7 +38,41 @@ table_of-shown v t s = λ i. record {
   numbers_set = s.numbers_set i;
   created = s.created i;
   settings = s.settings i;
+  placing = (sym s.placing) i;
+  sqs_made = 0;
+  cqs_made = 0;
 }
+
+-- that number decides no status and no verdict
+rows_of-uncounted : (t : QueueTable) (command : AdminCommand) → rows_of (uncounted t) command ≡ rows_of t command
+rows_of-uncounted t (CreateSq qid qsize prp1 cqid qprio pc) = refl
+rows_of-uncounted t (CreateCq qid qsize prp1 pc) = refl
+rows_of-uncounted t (DeleteSq qid) = refl
+rows_of-uncounted t (DeleteCq qid) = refl
+rows_of-uncounted t (SetFeatures fid sv cdw11) = refl
+rows_of-uncounted t (GetFeatures fid) = refl
+rows_of-uncounted t (Abort sqid cid) = refl
+rows_of-uncounted t Other = refl
+
+verdict_after-uncounted : (t : QueueTable) (command : AdminCommand) → verdict_after (uncounted t) command ≡ verdict_after t command
+verdict_after-uncounted t (CreateSq qid qsize prp1 cqid qprio pc) = refl
+verdict_after-uncounted t (CreateCq qid qsize prp1 pc) = refl
+verdict_after-uncounted t (DeleteSq qid) = refl
+verdict_after-uncounted t (DeleteCq qid) = refl
+verdict_after-uncounted t (SetFeatures fid sv cdw11) = refl
+verdict_after-uncounted t (GetFeatures fid) = refl
+verdict_after-uncounted t (Abort sqid cid) = refl
+verdict_after-uncounted t Other = refl
+
+pub status_over-shown : (v : TableView) (t : QueueTable) (entry : Sqe) → Shows v t → status_over (table_of v) entry ≡ status_over t entry
+status_over-shown v t entry s =
+    ap (λ (u : QueueTable). status_over u entry) (table_of-shown v t s)
+    ∙ ap (λ (rows : List Check). first_failed (row (not (fuse_of entry == 0)) invalid_field ∷ placing_rows t.placing entry ++ rows)) (rows_of-uncounted t (admin_command_of entry))
+
+pub verdict_by-shown : (v : TableView) (t : QueueTable) (status : StatusCode) (command : AdminCommand) → Shows v t → verdict_by status (table_of v) command ≡ verdict_by status t command
+verdict_by-shown v t status command s =
+    ap (λ (u : QueueTable). verdict_by status u command) (table_of-shown v t s)
+    ∙ ap (λ (w : Verdict). if is_success status then w else Done status 0) (verdict_after-uncounted t command)
 
 -- success is the one status that is accepted
 pub is_success-only : (s : StatusCode) → is_success s ≡ true → s ≡ success
@@ -121,9 +159,9 @@ unfolding queue_table status_of verdict_of
 Applies-by start h old new entry verdict s shown status is stands = record {
   stands = stands;
   is =
-      let here : s ≡ status_of start h entry = sym status ∙ ap (λ (t : QueueTable). status_over t entry) (table_of-shown old (queue_table start h) shown) in
-      let there : table_of new ≡ queue_table start (EntryApplied entry ∷ h) = table_of-shown new (queue_table start (EntryApplied entry ∷ h)) stands in
-      is ∙ (λ i. verdict_by (here i) (there i) (admin_command_of entry));
+      let here : s ≡ status_of start h entry = sym status ∙ status_over-shown old (queue_table start h) entry shown in
+      is ∙ verdict_by-shown new (queue_table start (EntryApplied entry ∷ h)) s (admin_command_of entry) stands
+      ∙ (λ i. verdict_by (here i) (queue_table start (EntryApplied entry ∷ h)) (admin_command_of entry));
 }
 
 -- an entry that is refused
@@ -133,7 +171,7 @@ pub Applies-refused : (start : Start) (h : TableHistory) (v : TableView) (entry 
 unfolding effects_of queue_table
 Applies-refused start h v entry verdict s shown status fails is =
     let effects : Effects = effects_of start h in
-    let here : s ≡ status_over (table_in start effects) entry = sym status ∙ ap (λ (t : QueueTable). status_over t entry) (table_of-shown v (table_in start effects) shown) in
+    let here : s ≡ status_over (table_in start effects) entry = sym status ∙ status_over-shown v (table_in start effects) entry shown in
     let failed : is_success (status_over (table_in start effects) entry) ≡ false = ap is_success (sym here) ∙ fails in
     Applies-by start h v v entry verdict s shown status is
     (subst (λ (b : Bool). Shows v (table_in start (if b then Accepted (admin_command_of entry) ∷ effects else effects))) (sym failed) shown)
@@ -146,24 +184,24 @@ pub Applies-accepted : (start : Start) (h : TableHistory) (old new : TableView) 
 unfolding effects_of queue_table
 Applies-accepted start h old new entry verdict s shown status passes is takes =
     let effects : Effects = effects_of start h in
-    let here : s ≡ status_over (table_in start effects) entry = sym status ∙ ap (λ (t : QueueTable). status_over t entry) (table_of-shown old (table_in start effects) shown) in
+    let here : s ≡ status_over (table_in start effects) entry = sym status ∙ status_over-shown old (table_in start effects) entry shown in
     let passed : is_success (status_over (table_in start effects) entry) ≡ true = ap is_success (sym here) ∙ passes in
     Applies-by start h old new entry verdict s shown status is
     (subst (λ (b : Bool). Shows new (table_in start (if b then Accepted (admin_command_of entry) ∷ effects else effects))) (sym passed) (takes start effects shown))
 
 -- the status of an entry that isn't fused is that of its command's rows
-status_over-alone : (t : QueueTable) (entry : Sqe) → fuse_of entry ≡ 0 → status_over t entry ≡ first_failed (rows_of t (admin_command_of entry))
-status_over-alone t entry alone = ap (λ (b : Bool). first_failed (row (not b) invalid_field ∷ rows_of t (admin_command_of entry))) (eq-eqb (fuse_of entry) 0 alone)
+status_over-alone : (v : TableView) (entry : Sqe) → fuse_of entry ≡ 0 → status_over (table_of v) entry ≡ first_failed (rows_of (table_of v) (admin_command_of entry))
+status_over-alone v entry alone = ap (λ (b : Bool). first_failed (row (not b) invalid_field ∷ rows_of (table_of v) (admin_command_of entry))) (eq-eqb (fuse_of entry) 0 alone)
 
 status_over-fused : (t : QueueTable) (entry : Sqe) → (fuse_of entry ≡ 0 → ⊥) → status_over t entry ≡ invalid_field
-status_over-fused t entry fused = ap (λ (b : Bool). first_failed (row (not b) invalid_field ∷ rows_of t (admin_command_of entry))) (other (fuse_of entry) 0 fused)
+status_over-fused t entry fused = ap (λ (b : Bool). first_failed (row (not b) invalid_field ∷ placing_rows t.placing entry ++ rows_of t (admin_command_of entry))) (other (fuse_of entry) 0 fused)
 
 -- an entry that isn't fused
 pub Applies-alone : (start : Start) (h : TableHistory) (old new : TableView) (entry : Sqe) (verdict : Verdict) (command : AdminCommand) (fuse : ℕ)
     → command ≡ admin_command_of entry → fuse ≡ fuse_of entry → fuse ≡ 0 → Does old new command verdict → StandsAt start old h → Applies start h new entry verdict
 Applies-alone start h old new entry verdict command fuse command_is fuse_is alone does_it shown =
     let s : StatusCode = first_failed (rows_of (table_of old) (admin_command_of entry)) in
-    let status : status_over (table_of old) entry ≡ s = status_over-alone (table_of old) entry (sym fuse_is ∙ alone) in
+    let status : status_over (table_of old) entry ≡ s = status_over-alone old entry (sym fuse_is ∙ alone) in
     let does : Does old new (admin_command_of entry) verdict = subst (λ (k : AdminCommand). Does old new k verdict) command_is does_it in
     elim (cases_Bool (is_success s)) [
       | inl passes ↦ Applies-accepted start h old new entry verdict s shown status passes does.verdict_is (does.accepted passes)
@@ -206,7 +244,7 @@ pub AppliesTo-alone : (old new : TableView) (entry : Sqe) (verdict : Verdict) (c
     → command ≡ admin_command_of entry → fuse ≡ fuse_of entry → fuse ≡ 0 → Does old new command verdict → AppliesTo old new entry verdict
 AppliesTo-alone old new entry verdict command fuse command_is fuse_is alone does_it =
     let s : StatusCode = first_failed (rows_of (table_of old) (admin_command_of entry)) in
-    let status : status_over (table_of old) entry ≡ s = status_over-alone (table_of old) entry (sym fuse_is ∙ alone) in
+    let status : status_over (table_of old) entry ≡ s = status_over-alone old entry (sym fuse_is ∙ alone) in
     let does : Does old new (admin_command_of entry) verdict = subst (λ (k : AdminCommand). Does old new k verdict) command_is does_it in
     let told : status_in verdict ≡ s = ap status_in does.verdict_is ∙ status_in-verdict s (table_of new) (admin_command_of entry) in
     record {

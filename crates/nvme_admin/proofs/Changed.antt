@@ -11,15 +11,16 @@ use Rattle.nvme_admin.specs.declared.verdict.SqEntry.{SqEntry}
 use Rattle.nvme_admin.specs.declared.verdict.Verdict.{Verdict}
 use Rattle.nvme_admin.specs.declared.verdict.Verdict.TheVariants.{Done, SetArbitration}
 use Rattle.nvme_admin.specs.History.{Start, Effects, Accepted, Finished}
-use Rattle.nvme_admin.specs.QueueTable.{table_in, arbitration, number_of_queues, class_of, as_closing, unless_closing, region_number, sq_in, cq_in, io_sq_in, io_cq_in, sq_regions_in, cq_regions_in, settings_in, admin_sq, admin_cq}
+use Rattle.nvme_admin.specs.QueueTable.{table_in, arbitration, number_of_queues, class_of, as_closing, unless_closing, number_by, placing_in, sq_in, cq_in, io_sq_in, io_cq_in, sq_regions_in, cq_regions_in, sq_named_in, cq_named_in, settings_in, admin_sq, admin_cq}
 use Rattle.nvme_admin.specs.Checks.{rows_of, status_over, is_success, verdict_after, opened_sq, opened_cq, dw0_after}
 use Rattle.nvme_admin.specs.Accepted.{effects_of, queue_table, status_of, verdict_of}
 use Rattle.nvme_admin.specs.Changes.{IsDue, sq_after, cq_after, settings_after, VerdictsTellChange, FinishTakesOne, RegionOpensAdmin, CqRegionOpensAdmin}
 use Rattle.nvme_admin.proofs.Slots.{other, same, admin_sq-append, admin_cq-append}
+use Rattle.nvme_admin.proofs.Lives.{Lives, fresh-sqs, fresh-cqs, lives}
 use Rattle.nvme_admin.proofs.Reached.{Passes, create_sq-found, create_cq-found, delete_sq-found, delete_cq-found, none-matches, not_false, status_over-passes}
 
 -- what changes the queue of an I/O identifier leaves the admin queue
-under-admin : {A : Type 0} (f : A → A) (k q : ℕ) (a b : A) → (k ≡ 0 → ⊥)
+pub under-admin : {A : Type 0} (f : A → A) (k q : ℕ) (a b : A) → (k ≡ 0 → ⊥)
     → (if q == 0 then a else (if k == q then f b else b)) ≡ (if k == q then f (if q == 0 then a else b) else (if q == 0 then a else b))
 under-admin f k q a b io = elim (cases_eq q 0) [
   | inl z ↦
@@ -34,7 +35,7 @@ under-admin f k q a b io = elim (cases_eq q 0) [
 ]
 
 -- the identifier that was written
-at-own : {A : Type 0} (k : ℕ) (a x b : A) → (k ≡ 0 → ⊥) → (if k == 0 then a else (if k == k then x else b)) ≡ x
+pub at-own : {A : Type 0} (k : ℕ) (a x b : A) → (k ≡ 0 → ⊥) → (if k == 0 then a else (if k == k then x else b)) ≡ x
 at-own k a x b io =
     let zero : (k == 0) ≡ false = other k 0 io in
     let here : (k == k) ≡ true = same k in
@@ -61,11 +62,11 @@ class_of-io qprio h =
     ]
 
 module _ (start : Start) (e : Effects) where
-  tells-create_sq : (qid qsize prp1 cqid qprio : ℕ) (pc : Bool) → Passes (table_in start e) (CreateSq qid qsize prp1 cqid qprio pc)
+  tells-create_sq : (qid qsize prp1 cqid qprio : ℕ) (pc : Bool) → Lives e → Passes (table_in start e) (CreateSq qid qsize prp1 cqid qprio pc)
       → Tells start e (CreateSq qid qsize prp1 cqid qprio pc) (opened_sq qid (sq_in (Accepted (CreateSq qid qsize prp1 cqid qprio pc) ∷ e) qid))
-  tells-create_sq qid qsize prp1 cqid qprio pc h =
+  tells-create_sq qid qsize prp1 cqid qprio pc l h =
       let found = create_sq-found (table_in start e) qid qsize prp1 cqid qprio pc h in
-      let region : ℕ = unwrap_or (region_number (sq_regions_in e) prp1) 0 in
+      let region : ℕ = unwrap_or (number_by (placing_in e) (length (sq_named_in e)) (sq_regions_in e) prp1) 0 in
       let is : region ≡ found.region.number = ap (λ (o : Option ℕ). unwrap_or o 0) found.region.found in
       let queue : SqEntry = record { region = region; cqid = cqid; class = class_of qprio; closing = false } in
       let here : sq_in (Accepted (CreateSq qid qsize prp1 cqid qprio pc) ∷ e) qid ≡ Some queue = at-own qid (admin_sq (sq_regions_in e)) (Some queue) (io_sq_in e qid) found.not_admin in
@@ -75,8 +76,8 @@ module _ (start : Start) (e : Effects) where
           free = found.free;
           cq_not_admin = found.cq_not_admin;
           cq_open = found.cq_open;
-          unused = ap (table_in start e).sq_region_used is ∙ found.region.unused;
-          there = subst (λ (n : ℕ). n < length (sq_regions_in e)) (sym is) found.region.there;
+          unused = ap (table_in start e).sq_region_used is ∙ found.region.unused (fresh-sqs e l);
+          there = λ by_regions. subst (λ (n : ℕ). n < length (sq_regions_in e)) (sym is) (found.region.there by_regions);
           class_of_io = class_of-io qprio;
         };
         sqs = λ q. under-admin (λ _. Some queue) qid q (admin_sq (sq_regions_in e)) (io_sq_in e q) found.not_admin;
@@ -84,19 +85,19 @@ module _ (start : Start) (e : Effects) where
         settings = refl;
       })
 
-  tells-create_cq : (qid qsize prp1 : ℕ) (pc : Bool) → Passes (table_in start e) (CreateCq qid qsize prp1 pc)
+  tells-create_cq : (qid qsize prp1 : ℕ) (pc : Bool) → Lives e → Passes (table_in start e) (CreateCq qid qsize prp1 pc)
       → Tells start e (CreateCq qid qsize prp1 pc) (opened_cq qid (cq_in (Accepted (CreateCq qid qsize prp1 pc) ∷ e) qid))
-  tells-create_cq qid qsize prp1 pc h =
+  tells-create_cq qid qsize prp1 pc l h =
       let found = create_cq-found (table_in start e) qid qsize prp1 pc h in
-      let region : ℕ = unwrap_or (region_number (cq_regions_in e) prp1) 0 in
+      let region : ℕ = unwrap_or (number_by (placing_in e) (length (cq_named_in e)) (cq_regions_in e) prp1) 0 in
       let is : region ≡ found.region.number = ap (λ (o : Option ℕ). unwrap_or o 0) found.region.found in
       let here : cq_in (Accepted (CreateCq qid qsize prp1 pc) ∷ e) qid ≡ Some region = at-own qid (admin_cq (cq_regions_in e)) (Some region) (io_cq_in e qid) found.not_admin in
       subst (λ (o : Option ℕ). Tells start e (CreateCq qid qsize prp1 pc) (opened_cq qid o)) (sym here) (record {
         due = record {
           not_admin = found.not_admin;
           free = found.free;
-          unused = ap (table_in start e).cq_region_used is ∙ found.region.unused;
-          there = subst (λ (n : ℕ). n < length (cq_regions_in e)) (sym is) found.region.there;
+          unused = ap (table_in start e).cq_region_used is ∙ found.region.unused (fresh-cqs e l);
+          there = λ by_regions. subst (λ (n : ℕ). n < length (cq_regions_in e)) (sym is) (found.region.there by_regions);
         };
         sqs = λ q. refl;
         cqs = λ q. under-admin (λ _. Some region) qid q (admin_cq (cq_regions_in e)) (io_cq_in e q) found.not_admin;
@@ -114,10 +115,10 @@ module _ (start : Start) (e : Effects) where
   }
   tells-set false fid cdw11 dw0 sv is one = record { due = tt; sqs = λ q. refl; cqs = λ q. refl; settings = refl }
 
-  tells : (command : AdminCommand) → Passes (table_in start e) command → Tells start e command (verdict_after (table_in start (Accepted command ∷ e)) command)
-  tells (CreateSq qid qsize prp1 cqid qprio pc) h = tells-create_sq qid qsize prp1 cqid qprio pc h
-  tells (CreateCq qid qsize prp1 pc) h = tells-create_cq qid qsize prp1 pc h
-  tells (DeleteSq qid) h =
+  tells : (command : AdminCommand) → Lives e → Passes (table_in start e) command → Tells start e command (verdict_after (table_in start (Accepted command ∷ e)) command)
+  tells (CreateSq qid qsize prp1 cqid qprio pc) l h = tells-create_sq qid qsize prp1 cqid qprio pc l h
+  tells (CreateCq qid qsize prp1 pc) l h = tells-create_cq qid qsize prp1 pc l h
+  tells (DeleteSq qid) l h =
       let found = delete_sq-found (table_in start e) qid h in
       record {
         due = record { not_admin = found.0; open_sq = found.1 };
@@ -125,7 +126,7 @@ module _ (start : Start) (e : Effects) where
         cqs = λ q. refl;
         settings = refl;
       }
-  tells (DeleteCq qid) h =
+  tells (DeleteCq qid) l h =
       let found = delete_cq-found (table_in start e) qid h in
       record {
         due = record { not_admin = found.0; open_cq = found.1; unattached = found.2 };
@@ -133,7 +134,7 @@ module _ (start : Start) (e : Effects) where
         cqs = λ q. under-admin (λ _. None) qid q (admin_cq (cq_regions_in e)) (io_cq_in e q) found.0;
         settings = refl;
       }
-  tells (SetFeatures fid sv cdw11) h =
+  tells (SetFeatures fid sv cdw11) l h =
       let r = none-matches (rows_of (table_in start e) (SetFeatures fid sv cdw11)) (refl, (refl, (refl, (refl, tt)))) h in
       let known : (fid == arbitration || fid == number_of_queues) ≡ true = not_false (fid == arbitration || fid == number_of_queues) r.0 in
       tells-set (fid == number_of_queues) fid cdw11 (dw0_after (table_in start (Accepted (SetFeatures fid sv cdw11) ∷ e)) (SetFeatures fid sv cdw11)) sv refl
@@ -142,22 +143,22 @@ module _ (start : Start) (e : Effects) where
       or_true-left : (a b : Bool) → (a || b) ≡ true → b ≡ false → a ≡ true
       or_true-left true b h n = refl
       or_true-left false b h n = sym n ∙ h
-  tells (GetFeatures fid) h = record { due = tt; sqs = λ q. refl; cqs = λ q. refl; settings = refl }
-  tells (Abort sqid cid) h = record { due = tt; sqs = λ q. refl; cqs = λ q. refl; settings = refl }
-  tells Other h = record { due = tt; sqs = λ q. refl; cqs = λ q. refl; settings = refl }
+  tells (GetFeatures fid) l h = record { due = tt; sqs = λ q. refl; cqs = λ q. refl; settings = refl }
+  tells (Abort sqid cid) l h = record { due = tt; sqs = λ q. refl; cqs = λ q. refl; settings = refl }
+  tells Other l h = record { due = tt; sqs = λ q. refl; cqs = λ q. refl; settings = refl }
 
 -- an entry that passes its checks, or doesn't
-told : (start : Start) (e : Effects) (command : AdminCommand) (status : StatusCode) (b : Bool) → (b ≡ true → Passes (table_in start e) command)
+told : (start : Start) (e : Effects) (command : AdminCommand) (status : StatusCode) (b : Bool) → Lives e → (b ≡ true → Passes (table_in start e) command)
     → let after = (if b then Accepted command ∷ e else e) in
     let verdict = (if b then verdict_after (table_in start after) command else Done status 0) in
     IsDue (table_in start e) verdict
     × ((q : ℕ) → sq_in after q ≡ sq_after verdict (sq_in e) q)
     × ((q : ℕ) → cq_in after q ≡ cq_after verdict (cq_in e) q)
     × (settings_in start after ≡ settings_after verdict (settings_in start e))
-told start e command status true passes =
-    let t = tells start e command (passes refl) in
+told start e command status true l passes =
+    let t = tells start e command l (passes refl) in
     (t.due, t.sqs, t.cqs, t.settings)
-told start e command status false passes = (tt, (λ q. refl), (λ q. refl), refl)
+told start e command status false l passes = (tt, (λ q. refl), (λ q. refl), refl)
 
 -- the verdict of an entry tells its change
 pub TellsChange-entry : VerdictsTellChange
@@ -165,7 +166,7 @@ unfolding effects_of queue_table status_of verdict_of
 TellsChange-entry start h entry =
     let e : Effects = effects_of start h in
     let status : StatusCode = status_over (table_in start e) entry in
-    let all = told start e (admin_command_of entry) status (is_success status) (status_over-passes (table_in start e) entry) in
+    let all = told start e (admin_command_of entry) status (is_success status) (lives start h) (status_over-passes (table_in start e) entry) in
     record { due = all.0; sqs = all.1; cqs = all.2; settings = all.3 }
 
 -- ---- the other steps

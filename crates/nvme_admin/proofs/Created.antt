@@ -44,6 +44,7 @@ module _ (v w : TableView) (opened : v ≡ w) (sized : IsSized v) (qid qsize prp
           numbers_set = refl;
           created = refl;
           settings = refl;
+          placing = refl;
         };
         refused = λ h. absurd (passing (first_failed (rows_of (table_of v) command)) passes h);
       } in
@@ -79,6 +80,7 @@ module _ (v w : TableView) (opened : v ≡ w) (sized : IsSized v) (qid qsize prp
           numbers_set = refl;
           created = refl;
           settings = refl;
+          placing = refl;
         };
         refused = λ h. absurd (passing (first_failed (rows_of (table_of v) command)) passes h);
       } in
@@ -110,6 +112,7 @@ Does-delete_sq v w qid q queue opened q_is io found closing =
         numbers_set = refl;
         created = refl;
         settings = refl;
+        placing = refl;
       };
       refused = λ h. absurd (passing (first_failed (rows_of (table_of v) command)) passes h);
     } in
@@ -141,6 +144,7 @@ Does-delete_cq v w qid q region opened q_is io found alone =
         numbers_set = refl;
         created = refl;
         settings = refl;
+        placing = refl;
       };
       refused = λ h. absurd (passing (first_failed (rows_of (table_of v) command)) passes h);
     } in

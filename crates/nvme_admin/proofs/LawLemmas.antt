@@ -1,5 +1,5 @@
 -- Laws over table histories.
-use Rattle.std.proofs.Common.{◌≡◌, ℕ, zero, suc, ◌<◌, ◌≤◌, ◌==◌, ◌||◌, ◌&&◌, ◌⊎◌, Bool, true, false, if◌then◌else◌, List, [], ◌∷◌, ◌++◌, Option, Some, None, is_some, is_none, refl, sym, ◌∙◌, ap, subst, arith, inl, inr, true≢false, eqb-true, option_map, option_to_list, unwrap_or, eq-eqb, le_trans}
+use Rattle.std.proofs.Common.{◌≡◌, ℕ, zero, suc, ◌<◌, ◌≤◌, ◌==◌, ◌||◌, ◌&&◌, ◌⊎◌, Bool, true, false, if◌then◌else◌, List, [], ◌∷◌, ◌++◌, length, Option, Some, None, is_some, is_none, refl, sym, ◌∙◌, ap, subst, arith, inl, inr, true≢false, eqb-true, option_map, option_to_list, unwrap_or, eq-eqb, le_trans}
 use Rattle.std.specs.List.{list_any}
 use Rattle.std.proofs.lemmas.Bool.{cases_Bool, cases_eq, eqb-false}
 use Rattle.std.proofs.lemmas.Option.{none-some, same_Some}
@@ -9,12 +9,13 @@ use Rattle.nvme_entry.specs.declared.admin.AdminCommand.TheVariants.{DeleteSq, C
 use Rattle.nvme_admin.specs.declared.bounds.TheConstants.{MAX_REGIONS}
 use Rattle.nvme_admin.specs.declared.region.Region.{Region}
 use Rattle.nvme_admin.specs.declared.verdict.SqEntry.{SqEntry}
-use Rattle.nvme_admin.specs.History.{Start, TableHistory, RegionAdded, EntryApplied, DeletionFinished, Effects, Accepted}
-use Rattle.nvme_admin.specs.QueueTable.{QueueTable, table_in, is_used, class_of, admin_sq, number_of_queues, region_number, as_closing, unless_closing, sq_in, io_sq_in, io_cq_in, sq_regions_in, sq_named_in, cq_named_in, first_request_in, created_in, nsq_by, ncq_by}
+use Rattle.nvme_admin.specs.History.{Start, TableHistory, RegionAdded, EntryApplied, DeletionFinished, PlacedAnywhere, Effects, Accepted}
+use Rattle.nvme_admin.specs.QueueTable.{QueueTable, table_in, is_used, class_of, admin_sq, number_of_queues, number_by, placing_in, as_closing, unless_closing, sq_in, io_sq_in, io_cq_in, sq_regions_in, sq_named_in, cq_named_in, first_request_in, created_in, nsq_by, ncq_by}
 use Rattle.nvme_admin.specs.Checks.{rows_of, status_over, is_success, some_below, attaches}
 use Rattle.nvme_admin.specs.Accepted.{effects_of, queue_table, status_of}
-use Rattle.nvme_admin.specs.Laws.{AttachedStayOpen, NamedOnce, RegionsAreUsedOnce, NoRequestAfterCreate, NumbersStayFixed, RegionsTellQueues}
+use Rattle.nvme_admin.specs.Laws.{AttachedStayOpen, NamedOnce, RegionsAreUsedOnce, NoRequestAfterCreate, NumbersStayFixed, RegionsTellQueues, PlacingStays}
 use Rattle.nvme_admin.proofs.Slots.{other, same, sq_in-io, cq_in-io}
+use Rattle.nvme_admin.proofs.Lives.{Lives, fresh-sqs, fresh-cqs, reached-alive}
 use Rattle.nvme_admin.proofs.Reached.{Passes, reached, none-matches, create_sq-found, create_cq-found, delete_cq-found, set_numbers-found, status_over-passes}
 
 -- ---- attached queues stay open
@@ -114,6 +115,7 @@ attached start small h =
     (λ e kind address slots p. p)
     (attached-step start small)
     (λ e qid p q queue after. p q queue (finished-back (qid == q) (io_sq_in e q) queue after))
+    (λ e placing p. p)
     h
 
 pub attached-stay_open : AttachedStayOpen
@@ -123,24 +125,24 @@ attached-stay_open start h q queue small io is =
     ap (λ (o : Option ℕ). is_some o) (cq_in-io (effects_of start h) queue.cqid a.2) ∙ a.3
 
 -- ---- a region is used at most once
-named-step : (start : Start) (e : Effects) (command : AdminCommand) → NamedOnce (sq_named_in e) × NamedOnce (cq_named_in e) → Passes (table_in start e) command
+named-step : (start : Start) (e : Effects) (command : AdminCommand) → Lives e → NamedOnce (sq_named_in e) × NamedOnce (cq_named_in e) → Passes (table_in start e) command
     → NamedOnce (sq_named_in (Accepted command ∷ e)) × NamedOnce (cq_named_in (Accepted command ∷ e))
-named-step start e (CreateSq qid qsize prp1 cqid qprio pc) p passes =
+named-step start e (CreateSq qid qsize prp1 cqid qprio pc) l p passes =
     let found = create_sq-found (table_in start e) qid qsize prp1 cqid qprio pc passes in
-    (subst (λ (o : Option ℕ). NamedOnce (option_to_list o ++ sq_named_in e)) (sym found.region.found) (found.region.unused, p.0), p.1)
-named-step start e (CreateCq qid qsize prp1 pc) p passes =
+    (subst (λ (o : Option ℕ). NamedOnce (option_to_list o ++ sq_named_in e)) (sym found.region.found) (found.region.unused (fresh-sqs e l), p.0), p.1)
+named-step start e (CreateCq qid qsize prp1 pc) l p passes =
     let found = create_cq-found (table_in start e) qid qsize prp1 pc passes in
-    (p.0, subst (λ (o : Option ℕ). NamedOnce (option_to_list o ++ cq_named_in e)) (sym found.region.found) (found.region.unused, p.1))
-named-step start e (DeleteSq qid) p passes = p
-named-step start e (DeleteCq qid) p passes = p
-named-step start e (SetFeatures fid sv cdw11) p passes = p
-named-step start e (GetFeatures fid) p passes = p
-named-step start e (Abort sqid cid) p passes = p
-named-step start e Other p passes = p
+    (p.0, subst (λ (o : Option ℕ). NamedOnce (option_to_list o ++ cq_named_in e)) (sym found.region.found) (found.region.unused (fresh-cqs e l), p.1))
+named-step start e (DeleteSq qid) l p passes = p
+named-step start e (DeleteCq qid) l p passes = p
+named-step start e (SetFeatures fid sv cdw11) l p passes = p
+named-step start e (GetFeatures fid) l p passes = p
+named-step start e (Abort sqid cid) l p passes = p
+named-step start e Other l p passes = p
 
 pub regions-are_used_once : RegionsAreUsedOnce
 regions-are_used_once start h =
-    reached start (λ e. NamedOnce (sq_named_in e) × NamedOnce (cq_named_in e)) (tt, tt) (λ e kind address slots p. p) (named-step start) (λ e qid p. p) h
+    reached-alive start (λ e. NamedOnce (sq_named_in e) × NamedOnce (cq_named_in e)) (tt, tt) (λ e kind address slots p. p) (named-step start) (λ e qid p. p) (λ e placing p. p) h
 
 -- ---- Number of Queues
 created-step : (e : Effects) (command : AdminCommand) → created_in e ≡ true → created_in (Accepted command ∷ e) ≡ true
@@ -162,6 +164,7 @@ unfolding effects_of
 created-stays start [] h c = c
 created-stays start (RegionAdded kind address slots ∷ later) h c = created-stays start later h c
 created-stays start (DeletionFinished qid ∷ later) h c = created-stays start later h c
+created-stays start (PlacedAnywhere p ∷ later) h c = created-stays start later h c
 created-stays start (EntryApplied entry ∷ later) h c =
     created-entry (is_success (status_over (table_in start (effects_of start (later ++ h))) entry)) (effects_of start (later ++ h)) (admin_command_of entry) (created-stays start later h c)
 
@@ -214,6 +217,7 @@ unfolding effects_of
 fixed-later start [] h f = (f, refl)
 fixed-later start (RegionAdded kind address slots ∷ later) h f = fixed-later start later h f
 fixed-later start (DeletionFinished qid ∷ later) h f = fixed-later start later h f
+fixed-later start (PlacedAnywhere p ∷ later) h f = fixed-later start later h f
 fixed-later start (EntryApplied entry ∷ later) h f =
     let e : Effects = effects_of start (later ++ h) in
     let before = fixed-later start later h f in
@@ -233,6 +237,26 @@ unfolding queue_table
 numbers-stay_fixed start later h f =
     let kept = (fixed-later start later h f).1 in
     (ap (nsq_by start) kept, ap (ncq_by start) kept)
+
+-- ---- where queues may lie
+placing-entry : (b : Bool) (e : Effects) (command : AdminCommand) → placing_in (if b then Accepted command ∷ e else e) ≡ placing_in e
+placing-entry true e command = refl
+placing-entry false e command = refl
+
+placing-later : (start : Start) (later h : TableHistory) → created_in (effects_of start h) ≡ true → placing_in (effects_of start (later ++ h)) ≡ placing_in (effects_of start h)
+unfolding effects_of
+placing-later start [] h c = refl
+placing-later start (RegionAdded kind address slots ∷ later) h c = placing-later start later h c
+placing-later start (DeletionFinished qid ∷ later) h c = placing-later start later h c
+placing-later start (PlacedAnywhere p ∷ later) h c =
+    let still = created-stays start later h c in
+    (λ i. if still i then placing_in (effects_of start (later ++ h)) else Some p) ∙ placing-later start later h c
+placing-later start (EntryApplied entry ∷ later) h c =
+    placing-entry (is_success (status_over (table_in start (effects_of start (later ++ h))) entry)) (effects_of start (later ++ h)) (admin_command_of entry) ∙ placing-later start later h c
+
+pub placing-stays : PlacingStays
+unfolding queue_table
+placing-stays start later h c = placing-later start later h c
 
 -- ---- a region tells its queue
 -- a queue's region is used, and isn't the admin queue's
@@ -264,14 +288,14 @@ used-here : (named : List ℕ) (k : ℕ) → is_used (k ∷ named) k ≡ true
 used-here named k = (λ i. (k == 0) || ((same k) i || list_any (λ n. n == k) named)) ∙ or-here (k == 0) (list_any (λ n. n == k) named)
 
 module _ (start : Start) where
-  regions-create : (e : Effects) (qid qsize prp1 cqid qprio : ℕ) (pc : Bool) → HasUsed e × TellsQueue e → Passes (table_in start e) (CreateSq qid qsize prp1 cqid qprio pc)
+  regions-create : (e : Effects) (qid qsize prp1 cqid qprio : ℕ) (pc : Bool) → Lives e → HasUsed e × TellsQueue e → Passes (table_in start e) (CreateSq qid qsize prp1 cqid qprio pc)
       → HasUsed (Accepted (CreateSq qid qsize prp1 cqid qprio pc) ∷ e) × TellsQueue (Accepted (CreateSq qid qsize prp1 cqid qprio pc) ∷ e)
-  regions-create e qid qsize prp1 cqid qprio pc p passes =
+  regions-create e qid qsize prp1 cqid qprio pc l p passes =
       let found = create_sq-found (table_in start e) qid qsize prp1 cqid qprio pc passes in
       let k : ℕ = found.region.number in
-      let new : SqEntry = record { region = unwrap_or (region_number (sq_regions_in e) prp1) 0; cqid = cqid; class = class_of qprio; closing = false } in
+      let new : SqEntry = record { region = unwrap_or (number_by (placing_in e) (length (sq_named_in e)) (sq_regions_in e) prp1) 0; cqid = cqid; class = class_of qprio; closing = false } in
       let is : new.region ≡ k = ap (λ (o : Option ℕ). unwrap_or o 0) found.region.found in
-      let unused : is_used (sq_named_in e) k ≡ false = found.region.unused in
+      let unused : is_used (sq_named_in e) k ≡ false = found.region.unused (fresh-sqs e l) in
       let not_zero : k ≡ 0 → ⊥ = eqb-false k 0 (or-left (k == 0) (list_any (λ n. n == k) (sq_named_in e)) unused) in
       let apart : (q : ℕ) (b : SqEntry) → io_sq_in e q ≡ Some b → k ≡ b.region → ⊥ =
       λ q b h to. true≢false (sym (ap (is_used (sq_named_in e)) to ∙ (p.0 q b h).0) ∙ unused) in (
@@ -300,10 +324,10 @@ module _ (start : Start) where
         ]),
       )
 
-  regions-step : (e : Effects) (command : AdminCommand) → HasUsed e × TellsQueue e → Passes (table_in start e) command → HasUsed (Accepted command ∷ e) × TellsQueue (Accepted command ∷ e)
-  regions-step e (CreateSq qid qsize prp1 cqid qprio pc) p passes = regions-create e qid qsize prp1 cqid qprio pc p passes
-  regions-step e (CreateCq qid qsize prp1 pc) p passes = p
-  regions-step e (DeleteSq qid) p passes = (
+  regions-step : (e : Effects) (command : AdminCommand) → Lives e → HasUsed e × TellsQueue e → Passes (table_in start e) command → HasUsed (Accepted command ∷ e) × TellsQueue (Accepted command ∷ e)
+  regions-step e (CreateSq qid qsize prp1 cqid qprio pc) l p passes = regions-create e qid qsize prp1 cqid qprio pc l p passes
+  regions-step e (CreateCq qid qsize prp1 pc) l p passes = p
+  regions-step e (DeleteSq qid) l p passes = (
     (λ q a h.
         let back = region-back (qid == q) (io_sq_in e q) a h in
         let old = p.0 q back.0 back.1 in
@@ -313,15 +337,15 @@ module _ (start : Start) where
         let second = region-back (qid == r) (io_sq_in e r) b h in
         p.1 q r first.0 second.0 first.1 second.1 (first.2 ∙ same_region ∙ sym second.2)),
   )
-  regions-step e (DeleteCq qid) p passes = p
-  regions-step e (SetFeatures fid sv cdw11) p passes = p
-  regions-step e (GetFeatures fid) p passes = p
-  regions-step e (Abort sqid cid) p passes = p
-  regions-step e Other p passes = p
+  regions-step e (DeleteCq qid) l p passes = p
+  regions-step e (SetFeatures fid sv cdw11) l p passes = p
+  regions-step e (GetFeatures fid) l p passes = p
+  regions-step e (Abort sqid cid) l p passes = p
+  regions-step e Other l p passes = p
 
   regions-reached : (h : TableHistory) → HasUsed (effects_of start h) × TellsQueue (effects_of start h)
   regions-reached h =
-      reached start (λ e. HasUsed e × TellsQueue e)
+      reached-alive start (λ e. HasUsed e × TellsQueue e)
       ((λ q a none. absurd (none-some a none)), (λ q r a b none. absurd (none-some a none)))
       (λ e kind address slots p. p)
       regions-step
@@ -329,6 +353,7 @@ module _ (start : Start) where
         (λ q a after. p.0 q a (finished-back (qid == q) (io_sq_in e q) a after)),
         (λ q r a b g after. p.1 q r a b (finished-back (qid == q) (io_sq_in e q) a g) (finished-back (qid == r) (io_sq_in e r) b after)),
       ))
+      (λ e placing p. p)
       h
 
 -- the admin queue's region is region 0

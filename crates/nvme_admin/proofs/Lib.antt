@@ -1,9 +1,12 @@
 pub mod Applied
 pub mod Changed
 pub mod Created
+pub mod FurtherLemmas
 pub mod LawLemmas
+pub mod Lives
 pub mod PlaceLemmas
 pub mod Queues
 pub mod Reached
 pub mod Shown
 pub mod Slots
+pub mod Stepped

@@ -1,7 +1,8 @@
 -- The places of a table, as what they say is written and looked through.
-use Rattle.std.proofs.Common.{◌≡◌, ◌∙◌, ℕ, suc, ◌||◌, Bool, true, false, List, [], ◌∷◌, Option, None, length, replicate, set, refl, ap}
+use Rattle.std.proofs.Common.{◌≡◌, ◌∙◌, ℕ, suc, ◌||◌, Bool, true, false, nat_lt, if◌then◌else◌, List, [], ◌∷◌, Option, Some, None, length, get_or, slice_get, replicate, set, refl, sym, ap, subst, ltb-true, ltb-false}
 use Rattle.std.specs.List.{list_any}
 use Rattle.std.proofs.lemmas.List.{map-set, length-map}
+use Rattle.std.proofs.lemmas.Option.{slice_get_read, slice_get_past}
 use lib.LanesLaws.{map-replicate}
 use Rattle.nvme_admin.specs.Layout.{up, flags_in, sq_of_place, sqs_of_places, cq_of_place, cqs_of_places, view_of}
 use Rattle.nvme_admin.specs.declared.layout.Flag.{Flag}
@@ -9,7 +10,9 @@ use Rattle.nvme_admin.specs.declared.layout.SqPlace.{SqPlace}
 use Rattle.nvme_admin.specs.declared.layout.CqPlace.{CqPlace}
 use Rattle.nvme_admin.specs.declared.bounds.TheConstants.{MAX_REGIONS}
 use Rattle.nvme_admin.specs.declared.fields.TableFields.{TableFields}
-use Rattle.nvme_admin.specs.Standing.{IsSized}
+use Rattle.nvme_admin.specs.declared.region.Region.{Region}
+use Rattle.nvme_admin.specs.Standing.{TableView, IsSized, sq_renewed, sq_renewed_as, cq_renewed, cq_renewed_as}
+use Rattle.nvme_admin.proofs.Slots.{other}
 use Rattle.nvme_admin.specs.declared.verdict.SqEntry.{SqEntry}
 
 -- a table has a place for each region and each identifier
@@ -47,3 +50,24 @@ flags-first n f g down is = λ i. is i ∷ (map-replicate up n f ∙ ap (replica
 pub any-place : (test : Option SqEntry → Bool) (ps : List SqPlace) → list_any (λ p. test (sq_of_place p)) ps ≡ list_any test (sqs_of_places ps)
 any-place test [] = refl
 any-place test (p ∷ ps) = ap (λ b. test (sq_of_place p) || b) (any-place test ps)
+
+-- a region that a look-up finds, or doesn't
+pub region-found : (xs rs : List Region) (k : ℕ) (r : Region) → xs ≡ rs → true ≡ nat_lt k (length xs) → r ≡ get_or xs k r → slice_get rs k ≡ Some r
+region-found xs rs k r same there at = subst (λ (ys : List Region). slice_get ys k ≡ Some r) same (slice_get_read xs (length xs) k r refl (ltb-true k (length xs) (sym there)) at)
+
+pub region-missing : (xs rs : List Region) (k : ℕ) → xs ≡ rs → false ≡ nat_lt k (length xs) → slice_get rs k ≡ None
+region-missing xs rs k same past = subst (λ (ys : List Region). slice_get ys k ≡ None) same (slice_get_past xs k (ltb-false k (length xs) (sym past)))
+
+-- a region is renewed
+module _ (v : TableView) (k slots : ℕ) (r : Region) (io : k ≡ 0 → ⊥) where
+  pub sq-renewed : slice_get v.sq_regions k ≡ Some r
+      → record v { sq_regions = set v.sq_regions k (record { address = r.address; slots = slots }); sq_used = set v.sq_used k false } ≡ sq_renewed v k slots
+  sq-renewed here =
+      sym (ap (sq_renewed_as v k slots) here
+      ∙ (λ i. if (other k 0 io) i then v else record v { sq_regions = set v.sq_regions k (record { address = r.address; slots = slots }); sq_used = set v.sq_used k false }))
+
+  pub cq-renewed : slice_get v.cq_regions k ≡ Some r
+      → record v { cq_regions = set v.cq_regions k (record { address = r.address; slots = slots }); cq_used = set v.cq_used k false } ≡ cq_renewed v k slots
+  cq-renewed here =
+      sym (ap (cq_renewed_as v k slots) here
+      ∙ (λ i. if (other k 0 io) i then v else record v { cq_regions = set v.cq_regions k (record { address = r.address; slots = slots }); cq_used = set v.cq_used k false }))

@@ -1,12 +1,12 @@
 -- What an open queue's Create found, for as long as the queue is there.
-use Rattle.std.proofs.Common.{◌≡◌, ℕ, zero, suc, ◌+◌, ◌≤◌, ◌==◌, ◌⊎◌, Bool, true, false, if◌then◌else◌, List, [], ◌∷◌, ◌++◌, Option, Some, None, refl, sym, ◌∙◌, ap, subst, inl, inr, unwrap_or, slice_get, eqb-true}
+use Rattle.std.proofs.Common.{◌≡◌, ℕ, zero, suc, ◌+◌, ◌≤◌, ◌==◌, ◌⊎◌, Bool, true, false, if◌then◌else◌, List, [], ◌∷◌, ◌++◌, length, Option, Some, None, refl, sym, ◌∙◌, ap, subst, inl, inr, unwrap_or, slice_get, eqb-true}
 use Rattle.std.proofs.lemmas.Option.{none-some, same_Some}
 use Rattle.nvme_entry.specs.declared.admin.AdminCommand.{AdminCommand}
 use Rattle.nvme_entry.specs.declared.admin.AdminCommand.TheVariants.{DeleteSq, CreateSq, DeleteCq, CreateCq, Abort, SetFeatures, GetFeatures, Other}
 use Rattle.nvme_admin.specs.declared.region.Region.{Region}
 use Rattle.nvme_admin.specs.declared.verdict.SqEntry.{SqEntry}
-use Rattle.nvme_admin.specs.History.{Start, TableHistory, Kind, Submission, Completion, Effects, Added, Accepted}
-use Rattle.nvme_admin.specs.QueueTable.{table_in, region_number, io_sq_in, io_cq_in, sq_regions_in, cq_regions_in, first_request_in, created_in, nsq_by, ncq_by}
+use Rattle.nvme_admin.specs.History.{Start, TableHistory, Placing, Kind, Submission, Completion, Effects, Added, Accepted}
+use Rattle.nvme_admin.specs.QueueTable.{table_in, number_by, placing_in, io_sq_in, io_cq_in, sq_regions_in, cq_regions_in, sq_named_in, cq_named_in, first_request_in, created_in, nsq_by, ncq_by}
 use Rattle.nvme_admin.specs.Accepted.{effects_of, queue_table}
 use Rattle.nvme_admin.specs.Laws.{SqsAreAllotted, CqsAreAllotted, sq_asked_in, cq_asked_in, SqsHaveTheirRegions, CqsHaveTheirRegions}
 use Rattle.nvme_admin.proofs.Slots.{sq_in-io, cq_in-io}
@@ -79,6 +79,7 @@ module _ (start : Start) where
       (λ e kind address slots p. p)
       allotted-step
       (λ e qid p. ((λ q queue after. p.0 q queue (finished-back (qid == q) (io_sq_in e q) queue after)), p.1))
+      (λ e placing p. p)
       h
 
 pub sqs-are_allotted : SqsAreAllotted
@@ -119,11 +120,16 @@ region-own b x o regions k own at = (x, (λ i. if own i then Some x else o), at)
 region-other : (b : Bool) (x : Region) (o : Option Region) (regions : List Region) (k : ℕ) → b ≡ false → HasRegion o regions k → HasRegion (if b then Some x else o) regions k
 region-other b x o regions k apart a = (a.0, (λ i. if apart i then Some x else o) ∙ a.1, a.2)
 
+-- where queues lie on regions after a step that says otherwise, they did before it
+on-regions : (b : Bool) (o : Option Placing) (p : Placing) → (if b then o else Some p) ≡ None → o ≡ None
+on-regions true o p h = h
+on-regions false o p h = absurd (none-some p (sym h))
+
 module _ (start : Start) where
-  has_regions-step : (e : Effects) (command : AdminCommand) → HaveRegions e → Passes (table_in start e) command → HaveRegions (Accepted command ∷ e)
-  has_regions-step e (CreateSq qid qsize prp1 cqid qprio pc) p passes =
-      let found = create_sq-asked (table_in start e) qid qsize prp1 cqid qprio pc passes in
-      let is : unwrap_or (region_number (sq_regions_in e) prp1) 0 ≡ found.0 = ap (λ (o : Option ℕ). unwrap_or o 0) found.1 in (
+  has_regions-step : (e : Effects) (command : AdminCommand) → placing_in e ≡ None → HaveRegions e → Passes (table_in start e) command → HaveRegions (Accepted command ∷ e)
+  has_regions-step e (CreateSq qid qsize prp1 cqid qprio pc) by_regions p passes =
+      let found = create_sq-asked (table_in start e) qid qsize prp1 cqid qprio pc by_regions passes in
+      let is : unwrap_or (number_by (placing_in e) (length (sq_named_in e)) (sq_regions_in e) prp1) 0 ≡ found.0 = ap (λ (o : Option ℕ). unwrap_or o 0) found.1 in (
         (λ q queue h. elim (of-choice (qid == q) _ (io_sq_in e q) queue h) [
           | inl own ↦ region-own (qid == q) _ (sq_asked_in e q) (sq_regions_in e) queue.region own.0
               (subst (λ (n : ℕ). slice_get (sq_regions_in e) n ≡ Some (record { address = prp1; slots = qsize + 1 })) (sym is ∙ ap (λ (x : SqEntry). x.region) own.1) found.2)
@@ -131,9 +137,9 @@ module _ (start : Start) where
         ]),
         p.1,
       )
-  has_regions-step e (CreateCq qid qsize prp1 pc) p passes =
-      let found = create_cq-asked (table_in start e) qid qsize prp1 pc passes in
-      let is : unwrap_or (region_number (cq_regions_in e) prp1) 0 ≡ found.0 = ap (λ (o : Option ℕ). unwrap_or o 0) found.1 in (
+  has_regions-step e (CreateCq qid qsize prp1 pc) by_regions p passes =
+      let found = create_cq-asked (table_in start e) qid qsize prp1 pc by_regions passes in
+      let is : unwrap_or (number_by (placing_in e) (length (cq_named_in e)) (cq_regions_in e) prp1) 0 ≡ found.0 = ap (λ (o : Option ℕ). unwrap_or o 0) found.1 in (
         p.0,
         (λ q k h. elim (of-choice (qid == q) _ (io_cq_in e q) k h) [
           | inl own ↦ region-own (qid == q) _ (cq_asked_in e q) (cq_regions_in e) k own.0
@@ -141,31 +147,32 @@ module _ (start : Start) where
           | inr before ↦ region-other (qid == q) _ (cq_asked_in e q) (cq_regions_in e) k before.0 (p.1 q k before.1)
         ]),
       )
-  has_regions-step e (DeleteSq qid) p passes = (
+  has_regions-step e (DeleteSq qid) by_regions p passes = (
     (λ q queue h.
         let back = region-back (qid == q) (io_sq_in e q) queue h in
         subst (HasRegion (sq_asked_in e q) (sq_regions_in e)) back.2 (p.0 q back.0 back.1)),
     p.1,
   )
-  has_regions-step e (DeleteCq qid) p passes = (p.0, (λ q k h. p.1 q k (unless-closed (qid == q) (io_cq_in e q) k h)))
-  has_regions-step e (SetFeatures fid sv cdw11) p passes = p
-  has_regions-step e (GetFeatures fid) p passes = p
-  has_regions-step e (Abort sqid cid) p passes = p
-  has_regions-step e Other p passes = p
+  has_regions-step e (DeleteCq qid) by_regions p passes = (p.0, (λ q k h. p.1 q k (unless-closed (qid == q) (io_cq_in e q) k h)))
+  has_regions-step e (SetFeatures fid sv cdw11) by_regions p passes = p
+  has_regions-step e (GetFeatures fid) by_regions p passes = p
+  has_regions-step e (Abort sqid cid) by_regions p passes = p
+  has_regions-step e Other by_regions p passes = p
 
-  has_regions : (h : TableHistory) → HaveRegions (effects_of start h)
+  has_regions : (h : TableHistory) → placing_in (effects_of start h) ≡ None → HaveRegions (effects_of start h)
   has_regions h =
-      reached start HaveRegions
-      ((λ q queue none. absurd (none-some queue none)), (λ q k none. absurd (none-some k none)))
-      regions-added
-      has_regions-step
-      (λ e qid p. ((λ q queue after. p.0 q queue (finished-back (qid == q) (io_sq_in e q) queue after)), p.1))
+      reached start (λ e. placing_in e ≡ None → HaveRegions e)
+      (λ by_regions. ((λ q queue none. absurd (none-some queue none)), (λ q k none. absurd (none-some k none))))
+      (λ e kind address slots p by_regions. regions-added e kind address slots (p by_regions))
+      (λ e command p passes by_regions. has_regions-step e command by_regions (p by_regions) passes)
+      (λ e qid p by_regions. ((λ q queue after. (p by_regions).0 q queue (finished-back (qid == q) (io_sq_in e q) queue after)), (p by_regions).1))
+      (λ e placing p by_regions. p (on-regions (created_in e) (placing_in e) placing by_regions))
       h
 
 pub sqs-have_their_regions : SqsHaveTheirRegions
 unfolding queue_table
-sqs-have_their_regions start h q queue io is = (has_regions start h).0 q queue (sym (sq_in-io (effects_of start h) q io) ∙ is)
+sqs-have_their_regions start h q queue by_regions io is = (has_regions start h by_regions).0 q queue (sym (sq_in-io (effects_of start h) q io) ∙ is)
 
 pub cqs-have_their_regions : CqsHaveTheirRegions
 unfolding queue_table
-cqs-have_their_regions start h q k io is = (has_regions start h).1 q k (sym (cq_in-io (effects_of start h) q io) ∙ is)
+cqs-have_their_regions start h q k by_regions io is = (has_regions start h by_regions).1 q k (sym (cq_in-io (effects_of start h) q io) ∙ is)

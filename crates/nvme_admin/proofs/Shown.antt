@@ -6,7 +6,7 @@ use Rattle.nvme_admin.specs.declared.bounds.TheConstants.{MAX_REGIONS}
 use Rattle.nvme_admin.specs.declared.region.Region.{Region}
 use Rattle.nvme_admin.specs.declared.verdict.SqEntry.{SqEntry}
 use Rattle.nvme_admin.specs.History.{Start, Effects, Submission, Completion, Added, Accepted, Finished}
-use Rattle.nvme_admin.specs.QueueTable.{table_in, region_number, class_of, as_closing, unless_closing, io_sq_in, sq_regions_in, cq_regions_in, sq_named_in, cq_named_in}
+use Rattle.nvme_admin.specs.QueueTable.{table_in, region_number, number_by, placing_in, class_of, as_closing, unless_closing, io_sq_in, sq_regions_in, cq_regions_in, sq_named_in, cq_named_in}
 use Rattle.nvme_admin.specs.Standing.{TableView, IsSized, Shows, sq_of, cq_of}
 use Rattle.nvme_admin.proofs.Slots.{other, same, within, closing_some, admin_sq-open, admin_sq-append, admin_cq-append, sq-set, cq-set, sq-set-admin, cq-set-admin, used-set}
 
@@ -32,6 +32,7 @@ module _ (start : Start) (e : Effects) (v : TableView) where
     numbers_set = s.numbers_set;
     created = s.created;
     settings = s.settings;
+    placing = s.placing;
   }
 
   pub Shows-delete_cq : (k region : ℕ) → (k ≡ 0 → ⊥) → cq_of v k ≡ Some region → Shows v (table_in start e)
@@ -51,6 +52,7 @@ module _ (start : Start) (e : Effects) (v : TableView) where
     numbers_set = s.numbers_set;
     created = s.created;
     settings = s.settings;
+    placing = s.placing;
   }
 
   pub Shows-finish : (k : ℕ) → IsSomeAnd (sq_of v k) (λ queue. queue.closing ≡ true) → Shows v (table_in start e)
@@ -79,13 +81,15 @@ module _ (start : Start) (e : Effects) (v : TableView) where
         numbers_set = s.numbers_set;
         created = s.created;
         settings = s.settings;
+        placing = s.placing;
       }
 
   pub Shows-create_cq : (qid qsize prp1 : ℕ) (pc : Bool) (k : ℕ) → IsSized v → (qid ≡ 0 → ⊥) → qid < MAX_REGIONS → k < MAX_REGIONS → region_number v.cq_regions prp1 ≡ Some k
       → Shows v (table_in start e)
       → Shows (record v { cqs = set v.cqs qid (Some k); cq_used = set v.cq_used k true; created = true }) (table_in start (Accepted (CreateCq qid qsize prp1 pc) ∷ e))
   Shows-create_cq qid qsize prp1 pc k sized io room place named s =
-      let number : Some k ≡ region_number (cq_regions_in e) prp1 = sym named ∙ ap (λ (rs : List Region). region_number rs prp1) s.cq_regions in
+      let number : Some k ≡ number_by (placing_in e) (length (cq_named_in e)) (cq_regions_in e) prp1 =
+      sym named ∙ ap (λ (rs : List Region). region_number rs prp1) s.cq_regions ∙ (λ i. number_by ((sym s.placing) i) (length (cq_named_in e)) (cq_regions_in e) prp1) in
       let within_cqs : qid < length v.cqs = rw sized.cqs room in
       let within_used : k < length v.cq_used = rw sized.cq_used place in
       record {
@@ -97,12 +101,13 @@ module _ (start : Start) (e : Effects) (v : TableView) where
         sq_regions = s.sq_regions;
         cq_regions = s.cq_regions;
         sq_used = s.sq_used;
-        cq_used = used-set v.cq_used (cq_named_in e) k (region_number (cq_regions_in e) prp1) within_used number s.cq_used;
+        cq_used = used-set v.cq_used (cq_named_in e) k (number_by (placing_in e) (length (cq_named_in e)) (cq_regions_in e) prp1) within_used number s.cq_used;
         nsq = s.nsq;
         ncq = s.ncq;
         numbers_set = s.numbers_set;
         created = refl;
         settings = s.settings;
+        placing = s.placing;
       }
 
   pub Shows-create_sq : (qid qsize prp1 cqid qprio : ℕ) (pc : Bool) (k : ℕ) → IsSized v → (qid ≡ 0 → ⊥) → qid < MAX_REGIONS → k < MAX_REGIONS → region_number v.sq_regions prp1 ≡ Some k
@@ -110,7 +115,8 @@ module _ (start : Start) (e : Effects) (v : TableView) where
       → Shows (record v { sqs = set v.sqs qid (Some (record { region = k; cqid = cqid; class = class_of qprio; closing = false })); sq_used = set v.sq_used k true; created = true })
       (table_in start (Accepted (CreateSq qid qsize prp1 cqid qprio pc) ∷ e))
   Shows-create_sq qid qsize prp1 cqid qprio pc k sized io room place named s =
-      let number : Some k ≡ region_number (sq_regions_in e) prp1 = sym named ∙ ap (λ (rs : List Region). region_number rs prp1) s.sq_regions in
+      let number : Some k ≡ number_by (placing_in e) (length (sq_named_in e)) (sq_regions_in e) prp1 =
+      sym named ∙ ap (λ (rs : List Region). region_number rs prp1) s.sq_regions ∙ (λ i. number_by ((sym s.placing) i) (length (sq_named_in e)) (sq_regions_in e) prp1) in
       let within_sqs : qid < length v.sqs = rw sized.sqs room in
       let within_used : k < length v.sq_used = rw sized.sq_used place in
       record {
@@ -121,13 +127,14 @@ module _ (start : Start) (e : Effects) (v : TableView) where
         cq = s.cq;
         sq_regions = s.sq_regions;
         cq_regions = s.cq_regions;
-        sq_used = used-set v.sq_used (sq_named_in e) k (region_number (sq_regions_in e) prp1) within_used number s.sq_used;
+        sq_used = used-set v.sq_used (sq_named_in e) k (number_by (placing_in e) (length (sq_named_in e)) (sq_regions_in e) prp1) within_used number s.sq_used;
         cq_used = s.cq_used;
         nsq = s.nsq;
         ncq = s.ncq;
         numbers_set = s.numbers_set;
         created = refl;
         settings = s.settings;
+        placing = s.placing;
       }
 
   pub Shows-add_sq : (address slots : ℕ) → IsSized v → Shows v (table_in start e)
@@ -149,6 +156,7 @@ module _ (start : Start) (e : Effects) (v : TableView) where
         numbers_set = s.numbers_set;
         created = s.created;
         settings = s.settings;
+        placing = s.placing;
       }
 
   pub Shows-add_cq : (address slots : ℕ) → IsSized v → Shows v (table_in start e)
@@ -170,4 +178,5 @@ module _ (start : Start) (e : Effects) (v : TableView) where
         numbers_set = s.numbers_set;
         created = s.created;
         settings = s.settings;
+        placing = s.placing;
       }

@@ -8,7 +8,7 @@ use Rattle.nvme_entry.specs.declared.admin.AdminCommand.{AdminCommand}
 use Rattle.nvme_arbiter.specs.Settings.{ArbitrationFields}
 use Rattle.nvme_admin.specs.declared.verdict.SqEntry.{SqEntry}
 use Rattle.nvme_admin.specs.declared.verdict.Verdict.{Verdict}
-use Rattle.nvme_admin.specs.History.{Start, TableHistory, RegionAdded, EntryApplied, DeletionFinished, Added, Accepted, Finished, Effects}
+use Rattle.nvme_admin.specs.History.{Start, TableHistory, RegionAdded, EntryApplied, DeletionFinished, PlacedAnywhere, Added, Accepted, Finished, Anywhere, Effects}
 use Rattle.nvme_admin.specs.QueueTable.{QueueTable, table_in}
 use Rattle.nvme_admin.specs.Checks.{status_over, is_success, verdict_by, dw0_by}
 
@@ -23,6 +23,7 @@ effects_of start (RegionAdded kind address slots ∷ past) = Added kind address 
 effects_of start (EntryApplied entry ∷ past) =
     after_entry (status_over (table_in start (effects_of start past)) entry) (admin_command_of entry) (effects_of start past)
 effects_of start (DeletionFinished qid ∷ past) = Finished qid ∷ effects_of start past
+effects_of start (PlacedAnywhere p ∷ past) = Anywhere p ∷ effects_of start past
 
 -- the queue table of a history
 unfoldable pub queue_table : Start → TableHistory → QueueTable

@@ -38,7 +38,7 @@ pub record MayOpenSq (t : QueueTable) (qid region cqid : ℕ) (class : Class) : 
   pub cq_not_admin : cqid ≢ 0
   pub cq_open : is_some (t.cq cqid) ≡ true
   pub unused : t.sq_region_used region ≡ false
-  pub there : region < length t.sq_regions
+  pub there : t.placing ≡ None → region < length t.sq_regions
   pub class_of_io : class ≢ Admin
 
 -- a completion queue may be opened over a queue table
@@ -46,7 +46,7 @@ pub record MayOpenCq (t : QueueTable) (qid region : ℕ) : Type 0 where
   pub not_admin : qid ≢ 0
   pub free : t.cq qid ≡ None
   pub unused : t.cq_region_used region ≡ false
-  pub there : region < length t.cq_regions
+  pub there : t.placing ≡ None → region < length t.cq_regions
 
 -- the deletion of a submission queue may begin over a queue table
 pub record MayBeginDelete (t : QueueTable) (qid : ℕ) : Type 0 where

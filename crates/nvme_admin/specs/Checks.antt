@@ -1,5 +1,5 @@
 -- The checks of admin commands over a queue table. The first row that a command fails gives its status (order: profile).
-use Rattle.std.specs.Prelude.{ℕ, zero, suc, ◌+◌, ◌-◌, ◌*◌, ◌^◌, ◌==◌, ◌&&◌, ◌||◌, Bool, true, false, not, nat_lt, if◌then◌else◌, List, [], ◌∷◌, Option, Some, None, is_none, is_some, slice_get}
+use Rattle.std.specs.Prelude.{ℕ, zero, suc, ◌+◌, ◌-◌, ◌*◌, ◌^◌, ◌==◌, ◌&&◌, ◌||◌, Bool, true, false, not, nat_lt, if◌then◌else◌, List, [], ◌∷◌, ◌++◌, Option, Some, None, is_none, is_some, slice_get}
 use Rattle.nvme_entry.specs.Checks.{Check, first_failed}
 use Rattle.nvme_entry.specs.Status.{StatusCode, success, invalid_opcode, invalid_field, sequence_error, completion_queue_invalid, invalid_queue_identifier, invalid_queue_size, invalid_queue_deletion, feature_not_saveable}
 use Rattle.nvme_entry.specs.Submission.{fuse_of}
@@ -14,6 +14,8 @@ use Rattle.nvme_admin.specs.declared.region.Region.{Region}
 use Rattle.nvme_admin.specs.declared.verdict.SqEntry.{SqEntry}
 use Rattle.nvme_admin.specs.declared.verdict.Verdict.{Verdict}
 use Rattle.nvme_admin.specs.declared.verdict.Verdict.TheVariants.{Done, OpenSq, OpenCq, BeginDelete, CloseCq, Abort, SetArbitration}
+use Rattle.nvme_admin.specs.History.{Placing}
+use Rattle.nvme_admin.specs.Placing.{prp_offset_invalid, invalid_interrupt_vector, vector_of, is_aligned}
 use Rattle.nvme_admin.specs.QueueTable.{QueueTable, region_number, arbitration, number_of_queues, nsqr_of, ncqr_of}
 
 -- a row of the checks: when a command fails it, and the status that answers it then
@@ -62,8 +64,8 @@ rows_of t (CreateCq qid qsize prp1 pc) =
     ∷ row (qid == 0 || nat_lt t.ncq qid || is_some (t.cq qid)) invalid_queue_identifier
     -- QSIZE: a queue has at least two slots, and at most those of the largest region. (Create I/O Completion Queue, Command Dword 10; profile)
     ∷ row (qsize == 0 || nat_lt MAX_QSIZE qsize) invalid_queue_size
-    -- PRP1: the address of an unused region of QSIZE + 1 slots (profile)
-    ∷ row (not (is_free t.cq_regions t.cq_region_used prp1 (qsize + 1))) invalid_field
+    -- PRP1: the address of an unused region of QSIZE + 1 slots, unless queues may lie anywhere (profile)
+    ∷ row (is_none t.placing && not (is_free t.cq_regions t.cq_region_used prp1 (qsize + 1))) invalid_field
     ∷ []
 rows_of t (CreateSq qid qsize prp1 cqid qprio pc) =
     -- PC, as above. (Create I/O Submission Queue, Command Dword 11)
@@ -77,7 +79,7 @@ rows_of t (CreateSq qid qsize prp1 cqid qprio pc) =
     -- CQID: a completion queue that is open. (Create I/O Submission Queue, Command Dword 11)
     ∷ row (is_none (t.cq cqid)) completion_queue_invalid
     -- PRP1, as above (profile)
-    ∷ row (not (is_free t.sq_regions t.sq_region_used prp1 (qsize + 1))) invalid_field
+    ∷ row (is_none t.placing && not (is_free t.sq_regions t.sq_region_used prp1 (qsize + 1))) invalid_field
     ∷ []
 rows_of t (DeleteSq qid) =
     -- QID: an I/O submission queue that is open; closing isn't open. (Delete I/O Submission Queue, Command Dword 10)
@@ -110,13 +112,35 @@ rows_of t Other =
     row true invalid_opcode
     ∷ []
 
+-- the rows of a command where queues may lie anywhere
+abbrev pub placing_rows_of : Placing → Sqe → AdminCommand → List Check
+placing_rows_of p entry (CreateCq qid qsize prp1 pc) =
+    -- QSIZE: at most MQES. (Create I/O Completion Queue, Command Dword 10)
+    row (nat_lt p.mqes qsize) invalid_queue_size
+    -- PRP1: its offset in the memory page is 0. (Create I/O Completion Queue, PRP Entry 1)
+    ∷ row (not (is_aligned p.page prp1)) prp_offset_invalid
+    -- IV: below the number of vectors, whatever IEN. (Create I/O Completion Queue, Command Dword 11; whatever IEN: profile)
+    ∷ row (not (nat_lt (vector_of entry) p.vectors)) invalid_interrupt_vector
+    ∷ []
+placing_rows_of p entry (CreateSq qid qsize prp1 cqid qprio pc) =
+    -- QSIZE and PRP1, as above. (Create I/O Submission Queue, Command Dword 10 and PRP Entry 1)
+    row (nat_lt p.mqes qsize) invalid_queue_size
+    ∷ row (not (is_aligned p.page prp1)) prp_offset_invalid
+    ∷ []
+placing_rows_of p entry command = []
+
+-- the rows that an entry has beside those of its command: a Create where queues may lie anywhere
+abbrev pub placing_rows : Option Placing → Sqe → List Check
+placing_rows None entry = []
+placing_rows (Some p) entry = placing_rows_of p entry (admin_command_of entry)
+
 -- the status of an admin entry over a queue table
 abbrev pub status_over : QueueTable → Sqe → StatusCode
 status_over t entry =
     first_failed (
     -- FUSE: no fused admin command is supported. (Common Command Format, Command Dword 0; profile)
     row (not (fuse_of entry == 0)) invalid_field
-    ∷ rows_of t (admin_command_of entry))
+    ∷ placing_rows t.placing entry ++ rows_of t (admin_command_of entry))
 
 -- accepted is success: Generic Command Status, Successful Completion
 abbrev pub is_success : StatusCode → Bool

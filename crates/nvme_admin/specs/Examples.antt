@@ -6,9 +6,10 @@ use Rattle.nvme_entry.specs.declared.submission.Sqe.{Sqe}
 use Rattle.nvme_arbiter.specs.Settings.{settings_of}
 use Rattle.nvme_arbiter.specs.declared.settings.Class.TheVariants.{Urgent, High, Medium, Low}
 use Rattle.nvme_admin.specs.declared.verdict.Verdict.TheVariants.{Done, OpenSq, OpenCq, BeginDelete, CloseCq, Abort, SetArbitration}
-use Rattle.nvme_admin.specs.History.{Start, TableHistory, Submission, Completion, RegionAdded, EntryApplied, DeletionFinished}
+use Rattle.nvme_admin.specs.History.{Start, Placing, TableHistory, Submission, Completion, RegionAdded, EntryApplied, DeletionFinished, PlacedAnywhere}
 use Rattle.nvme_admin.specs.Accepted.{queue_table, status_of, dw0_of, verdict_of, sq_at, cq_at, nsq_at, ncq_at, settings_at}
 use Rattle.nvme_admin.specs.Changes.{admin_queue}
+use Rattle.nvme_admin.specs.Placing.{prp_offset_invalid, invalid_interrupt_vector, interrupts_of, vector_of}
 
 -- an entry by its opcode, its flags, PRP1 and Command Dwords 10 and 11
 abbrev pub entry_of : (opcode flags prp1 cdw10 cdw11 : ℕ) → Sqe
@@ -275,3 +276,110 @@ pub record CommandsComeTo : Type 0 where
   pub numbers : verdict_of four_and_three regions_added (set_feature 7 0x00070007) ≡ Done success 0x00020003
   pub gets : verdict_of four_and_three queues_made (get_feature 1) ≡ Done success 0x03010001
   pub refused : verdict_of four_and_three queues_made (delete_cq 1) ≡ Done invalid_queue_deletion 0
+
+-- ---- queues that lie anywhere
+
+-- pages of 4096 bytes, queues of at most 64 slots, and two interrupt vectors
+abbrev pub two_vectors : Placing
+two_vectors = record { page = 4096; mqes = 63; vectors = 2 }
+
+-- the admin queues have the only regions
+abbrev pub placed : TableHistory
+placed = PlacedAnywhere two_vectors ∷ RegionAdded Completion 0x8000 16 ∷ RegionAdded Submission 0x1000 16 ∷ []
+
+-- two completion queues and a submission queue, all at one address
+abbrev pub one_address : TableHistory
+one_address =
+    EntryApplied (create_sq 1 7 0x20000 1 1 1) ∷ EntryApplied (create_cq 2 15 0x20000 1) ∷ EntryApplied (create_cq 1 63 0x20000 1)
+    ∷ placed
+
+-- a second submission queue there, and the first one deleted and created again with more slots
+abbrev pub created_again : TableHistory
+created_again =
+    EntryApplied (create_sq 1 15 0x20000 2 0 1) ∷ DeletionFinished 1 ∷ EntryApplied (delete_sq 1) ∷ EntryApplied (create_sq 2 7 0x20000 1 2 1)
+    ∷ one_address
+
+-- each way to fail a row, then entries that fail a row and the next, and then the rows that are left of the command
+abbrev pub placed_cq_cases : List Case
+placed_cq_cases =
+    gives (create_cq 3 63 0x20000 1) success
+    ∷ gives (create_cq 3 63 0x20000 0x00010003) success
+    ∷ gives (create_cq 3 1 0 1) success
+    ∷ gives (create_cq 3 15 0x8000 1) success
+    ∷ gives (create_cq 3 64 0x20000 1) invalid_queue_size
+    ∷ gives (create_cq 3 63 0x20001 1) prp_offset_invalid
+    ∷ gives (create_cq 3 63 0x20800 1) prp_offset_invalid
+    ∷ gives (create_cq 3 63 0x20000 0x00020003) invalid_interrupt_vector
+    ∷ gives (create_cq 3 63 0x20000 0x00020001) invalid_interrupt_vector
+    ∷ gives (entry_of 0x05 1 0x20800 (3 + 0x10000 * 64) 1) invalid_field
+    ∷ gives (create_cq 3 64 0x20800 0x00020001) invalid_queue_size
+    ∷ gives (create_cq 3 63 0x20800 0x00020001) prp_offset_invalid
+    ∷ gives (create_cq 3 63 0x20000 0x00020000) invalid_interrupt_vector
+    ∷ gives (create_cq 3 63 0x20000 0) invalid_field
+    ∷ gives (create_cq 1 63 0x20000 1) invalid_queue_identifier
+    ∷ gives (create_cq 3 0 0x20000 1) invalid_queue_size
+    ∷ []
+
+-- CQID stands where a completion queue's vector does
+abbrev pub placed_sq_cases : List Case
+placed_sq_cases =
+    gives (create_sq 2 63 0x20000 2 0 1) success
+    ∷ gives (create_sq 2 1 0 1 0 1) success
+    ∷ gives (create_sq 2 64 0x20000 2 0 1) invalid_queue_size
+    ∷ gives (create_sq 2 63 0x20001 2 0 1) prp_offset_invalid
+    ∷ gives (create_sq 2 63 0x20800 2 0 1) prp_offset_invalid
+    ∷ gives (entry_of 0x01 1 0x20800 (2 + 0x10000 * 64) 1) invalid_field
+    ∷ gives (create_sq 2 64 0x20800 2 0 1) invalid_queue_size
+    ∷ gives (create_sq 2 63 0x20800 2 0 0) prp_offset_invalid
+    ∷ gives (create_sq 2 63 0x20000 2 0 0) invalid_field
+    ∷ gives (create_sq 1 63 0x20000 2 0 1) invalid_queue_identifier
+    ∷ gives (create_sq 2 0 0x20000 2 0 1) invalid_queue_size
+    ∷ gives (create_sq 2 63 0x20000 3 0 1) completion_queue_invalid
+    ∷ []
+
+-- the other commands have no further row
+abbrev pub placed_other_cases : List Case
+placed_other_cases =
+    gives (delete_sq 1) success
+    ∷ gives (delete_sq 2) invalid_queue_identifier
+    ∷ gives (delete_cq 1) invalid_queue_deletion
+    ∷ gives (delete_cq 2) success
+    ∷ gives (set_feature 7 0) sequence_error
+    ∷ gives (get_feature 1) success
+    ∷ gives (entry_of 0x0c 0 0x20001 (3 + 0x10000 * 64) 0) invalid_opcode
+    ∷ []
+
+-- each new queue has a region of its own, whatever its address
+pub record QueuesLieAnywhere : Type 0 where
+  pub first : sq_at four_and_three one_address 1 ≡ Some (record { region = 1; cqid = 1; class = High; closing = false })
+  pub second : sq_at four_and_three created_again 2 ≡ Some (record { region = 2; cqid = 1; class = Medium; closing = false })
+  pub third : sq_at four_and_three created_again 1 ≡ Some (record { region = 3; cqid = 2; class = Urgent; closing = false })
+  pub cqs : map (cq_at four_and_three created_again) (0 ∷ 1 ∷ 2 ∷ 3 ∷ []) ≡ Some 0 ∷ Some 1 ∷ Some 2 ∷ None ∷ []
+  pub admin : sq_at four_and_three created_again 0 ≡ Some admin_queue
+  pub sqs_used : map (queue_table four_and_three created_again).sq_region_used (0 ∷ 1 ∷ 2 ∷ 3 ∷ 4 ∷ []) ≡ true ∷ true ∷ true ∷ true ∷ false ∷ []
+  pub cqs_used : map (queue_table four_and_three created_again).cq_region_used (0 ∷ 1 ∷ 2 ∷ 3 ∷ []) ≡ true ∷ true ∷ true ∷ false ∷ []
+  pub made : ((queue_table four_and_three created_again).sqs_made ≡ 3) × ((queue_table four_and_three created_again).cqs_made ≡ 2)
+  pub none_made : ((queue_table four_and_three placed).sqs_made ≡ 0) × ((queue_table four_and_three placed).cqs_made ≡ 0)
+  pub opens_sq : verdict_of four_and_three created_again (create_sq 3 7 0x20000 1 3 1) ≡ OpenSq 3 4 1 Low
+  pub opens_cq : verdict_of four_and_three created_again (create_cq 3 7 0x20000 1) ≡ OpenCq 3 3
+  pub made_on_regions : ((queue_table four_and_three both_finished).sqs_made ≡ 2) × ((queue_table four_and_three both_finished).cqs_made ≡ 1)
+
+-- where queues may lie is said before the first Create, and the latest word counts
+abbrev pub no_page : Placing
+no_page = record { page = 0; mqes = 7; vectors = 1 }
+
+pub record PlacingIsKept : Type 0 where
+  pub none : (queue_table four_and_three queues_made).placing ≡ None
+  pub said : (queue_table four_and_three placed).placing ≡ Some two_vectors
+  pub kept : (queue_table four_and_three created_again).placing ≡ Some two_vectors
+  pub latest : (queue_table four_and_three (PlacedAnywhere no_page ∷ placed)).placing ≡ Some no_page
+  pub late : (queue_table four_and_three (PlacedAnywhere no_page ∷ one_address)).placing ≡ Some two_vectors
+  pub late_on_regions : (queue_table four_and_three (PlacedAnywhere two_vectors ∷ queues_made)).placing ≡ None
+  pub late_changes_nothing : status_of four_and_three (PlacedAnywhere two_vectors ∷ queues_made) (create_cq 2 31 0x20000 1) ≡ invalid_field
+  -- of a page of 0 bytes only address 0 is a multiple
+  pub no_page_refuses : status_of four_and_three (PlacedAnywhere no_page ∷ placed) (create_cq 1 7 0x20000 1) ≡ prp_offset_invalid
+  pub no_page_accepts : status_of four_and_three (PlacedAnywhere no_page ∷ placed) (create_cq 1 7 0 1) ≡ success
+  -- the fields of an entry
+  pub vector : vector_of (create_cq 1 7 0 0x80050003) ≡ 0x8005
+  pub interrupts : interrupts_of (create_cq 1 7 0 0x00050003) ≡ true
+  pub no_interrupts : interrupts_of (create_cq 1 7 0 0x00050001) ≡ false

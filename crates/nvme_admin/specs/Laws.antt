@@ -1,13 +1,13 @@
 -- Laws over table histories (profile).
-use Rattle.std.specs.Prelude.{◌≡◌, ◌≢◌, ℕ, ◌+◌, ◌==◌, ◌<◌, ◌≤◌, ◌⊎◌, Bool, true, false, if◌then◌else◌, List, [], ◌∷◌, ◌++◌, Option, Some, None, is_some, slice_get}
+use Rattle.std.specs.Prelude.{◌≡◌, ◌≢◌, ℕ, suc, ◌+◌, ◌==◌, ◌<◌, ◌≤◌, ◌⊎◌, Bool, true, false, if◌then◌else◌, List, [], ◌∷◌, ◌++◌, Option, Some, None, is_some, slice_get}
 use Rattle.nvme_entry.specs.AdminCommand.{admin_command_of}
 use Rattle.nvme_entry.specs.declared.submission.Sqe.{Sqe}
 use Rattle.nvme_entry.specs.declared.admin.AdminCommand.TheVariants.{CreateSq, CreateCq, SetFeatures}
 use Rattle.nvme_admin.specs.declared.bounds.TheConstants.{MAX_REGIONS}
 use Rattle.nvme_admin.specs.declared.verdict.SqEntry.{SqEntry}
 use Rattle.nvme_admin.specs.declared.region.Region.{Region}
-use Rattle.nvme_admin.specs.History.{Start, TableHistory, Effects, Accepted}
-use Rattle.nvme_admin.specs.QueueTable.{is_used, sq_named_in, cq_named_in, number_of_queues}
+use Rattle.nvme_admin.specs.History.{Start, TableHistory, EntryApplied, Effects, Accepted}
+use Rattle.nvme_admin.specs.QueueTable.{is_used, sq_named_in, cq_named_in, number_of_queues, class_of}
 use Rattle.nvme_admin.specs.Accepted.{effects_of, queue_table, is_accepted, sq_at, cq_at, nsq_at, ncq_at}
 
 -- the completion queue that an I/O submission queue, open or closing, is attached to is open
@@ -64,11 +64,41 @@ cq_asked_in (Accepted (CreateCq qid qsize prp1 pc) ∷ past) q =
     if qid == q then Some (record { address = prp1; slots = qsize + 1 }) else cq_asked_in past q
 cq_asked_in (e ∷ past) q = cq_asked_in past q
 
--- an I/O queue's region is the one that its Create asked for, of a submission queue, open or closing, and of a completion queue
+-- where queues lie on regions, an I/O queue's region is the one that its Create asked for, of a submission queue, open or closing, and of a completion queue
 abbrev pub SqsHaveTheirRegions : Type 0
-SqsHaveTheirRegions = (start : Start) (h : TableHistory) (q : ℕ) (queue : SqEntry) → q ≢ 0 → sq_at start h q ≡ Some queue
+SqsHaveTheirRegions = (start : Start) (h : TableHistory) (q : ℕ) (queue : SqEntry) → (queue_table start h).placing ≡ None → q ≢ 0 → sq_at start h q ≡ Some queue
     → (r : Region) × (sq_asked_in (effects_of start h) q ≡ Some r) × (slice_get (queue_table start h).sq_regions queue.region ≡ Some r)
 
 abbrev pub CqsHaveTheirRegions : Type 0
-CqsHaveTheirRegions = (start : Start) (h : TableHistory) (q k : ℕ) → q ≢ 0 → cq_at start h q ≡ Some k
+CqsHaveTheirRegions = (start : Start) (h : TableHistory) (q k : ℕ) → (queue_table start h).placing ≡ None → q ≢ 0 → cq_at start h q ≡ Some k
     → (r : Region) × (cq_asked_in (effects_of start h) q ≡ Some r) × (slice_get (queue_table start h).cq_regions k ≡ Some r)
+
+-- after an accepted Create, whatever follows it, where queues may lie doesn't change
+abbrev pub PlacingStays : Type 0
+PlacingStays = (start : Start) (later h : TableHistory) → (queue_table start h).created ≡ true
+    → (queue_table start (later ++ h)).placing ≡ (queue_table start h).placing
+
+-- each accepted Create of a kind is counted, wherever queues may lie
+abbrev pub SqCreatesAreCounted : Type 0
+SqCreatesAreCounted = (start : Start) (h : TableHistory) (entry : Sqe) (qid qsize prp1 cqid qprio : ℕ) (pc : Bool)
+    → admin_command_of entry ≡ CreateSq qid qsize prp1 cqid qprio pc → is_accepted start h entry ≡ true
+    → (queue_table start (EntryApplied entry ∷ h)).sqs_made ≡ suc (queue_table start h).sqs_made
+
+abbrev pub CqCreatesAreCounted : Type 0
+CqCreatesAreCounted = (start : Start) (h : TableHistory) (entry : Sqe) (qid qsize prp1 : ℕ) (pc : Bool)
+    → admin_command_of entry ≡ CreateCq qid qsize prp1 pc → is_accepted start h entry ≡ true
+    → (queue_table start (EntryApplied entry ∷ h)).cqs_made ≡ suc (queue_table start h).cqs_made
+
+-- where queues may lie anywhere, the region of a new queue is the next after those of the queues of its kind that were made before
+abbrev pub SqLivesAreCounted : Type 0
+SqLivesAreCounted = (start : Start) (h : TableHistory) (entry : Sqe) (qid qsize prp1 cqid qprio : ℕ) (pc : Bool)
+    → is_some (queue_table start h).placing ≡ true
+    → admin_command_of entry ≡ CreateSq qid qsize prp1 cqid qprio pc → is_accepted start h entry ≡ true
+    → sq_at start (EntryApplied entry ∷ h) qid
+    ≡ Some (record { region = suc (queue_table start h).sqs_made; cqid = cqid; class = class_of qprio; closing = false })
+
+abbrev pub CqLivesAreCounted : Type 0
+CqLivesAreCounted = (start : Start) (h : TableHistory) (entry : Sqe) (qid qsize prp1 : ℕ) (pc : Bool)
+    → is_some (queue_table start h).placing ≡ true
+    → admin_command_of entry ≡ CreateCq qid qsize prp1 pc → is_accepted start h entry ≡ true
+    → cq_at start (EntryApplied entry ∷ h) qid ≡ Some (suc (queue_table start h).cqs_made)

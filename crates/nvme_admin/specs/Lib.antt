@@ -3,9 +3,11 @@ pub mod Changes
 pub mod Checks
 pub mod Effects
 pub mod Examples
+pub mod Further
 pub mod History
 pub mod Laws
 pub mod Layout
+pub mod Placing
 pub mod QueueTable
 pub mod Standing
 pub mod Steps

@@ -1,6 +1,6 @@
 -- The queue table: what stands after the steps that took effect, by looking back over them.
 -- (Base Specification: Create and Delete I/O Submission and Completion Queue, Arbitration feature, Number of Queues feature)
-use Rattle.std.specs.Prelude.{ℕ, ◌+◌, ◌==◌, ◌&&◌, ◌||◌, Bool, true, false, min, if◌then◌else◌, List, [], ◌∷◌, ◌++◌, Option, Some, None, is_none, is_some, option_map, option_to_list, unwrap_or, position}
+use Rattle.std.specs.Prelude.{ℕ, suc, ◌+◌, ◌==◌, ◌&&◌, ◌||◌, Bool, true, false, min, if◌then◌else◌, List, [], ◌∷◌, ◌++◌, length, Option, Some, None, is_none, is_some, option_map, option_to_list, unwrap_or, position}
 use Rattle.std.specs.List.{list_any}
 use Rattle.nvme_entry.specs.Bits.{bits_of}
 use Rattle.nvme_entry.specs.declared.admin.AdminCommand.TheVariants.{DeleteSq, CreateSq, DeleteCq, CreateCq, SetFeatures}
@@ -9,7 +9,7 @@ use Rattle.nvme_arbiter.specs.declared.settings.Class.{Class}
 use Rattle.nvme_arbiter.specs.declared.settings.Class.TheVariants.{Admin, Urgent, High, Medium, Low}
 use Rattle.nvme_admin.specs.declared.region.Region.{Region}
 use Rattle.nvme_admin.specs.declared.verdict.SqEntry.{SqEntry}
-use Rattle.nvme_admin.specs.History.{Submission, Completion, Start, Added, Accepted, Finished, Effects}
+use Rattle.nvme_admin.specs.History.{Submission, Completion, Start, Placing, Added, Accepted, Finished, Anywhere, Effects}
 
 -- the queue table, as total look-ups
 pub record QueueTable : Type 0 where
@@ -31,6 +31,11 @@ pub record QueueTable : Type 0 where
   pub created : Bool
   -- the settings of the Arbitration feature
   pub settings : ArbitrationFields
+  -- what a Create may ask for where queues may lie anywhere, and None where each lies on a region that was added
+  pub placing : Option Placing
+  -- how many I/O queues of each kind were created, by accepted Creates
+  pub sqs_made : ℕ
+  pub cqs_made : ℕ
 
 -- the identifier of the Arbitration feature
 abbrev pub arbitration : ℕ
@@ -48,6 +53,25 @@ class_of qprio = if qprio == 0 then Urgent else (if qprio == 1 then High else (i
 abbrev pub region_number : List Region → ℕ → Option ℕ
 region_number regions address = position (λ r. r.address == address) regions
 
+-- whether a Create of either kind was ever accepted
+abbrev pub created_in : Effects → Bool
+created_in [] = false
+created_in (Accepted (CreateSq qid qsize prp1 cqid qprio pc) ∷ past) = true
+created_in (Accepted (CreateCq qid qsize prp1 pc) ∷ past) = true
+created_in (e ∷ past) = created_in past
+
+-- what a Create may ask for where queues may lie anywhere: the latest step that says so before the first accepted Create (profile)
+abbrev pub placing_in : Effects → Option Placing
+placing_in [] = None
+placing_in (Anywhere p ∷ past) = if created_in past then placing_in past else Some p
+placing_in (e ∷ past) = placing_in past
+
+-- the number of a new queue's region, where one is there: that of the region at PRP1. Where queues may lie anywhere, each new queue has a
+-- region of its own, which counts from 1 over the queues of its kind that were made before (profile)
+abbrev pub number_by : Option Placing → (made : ℕ) → List Region → (prp1 : ℕ) → Option ℕ
+number_by None made regions prp1 = region_number regions prp1
+number_by (Some p) made regions prp1 = Some (suc made)
+
 -- the submission regions
 abbrev pub sq_regions_in : Effects → List Region
 sq_regions_in [] = []
@@ -60,16 +84,16 @@ cq_regions_in [] = []
 cq_regions_in (Added Completion address slots ∷ past) = cq_regions_in past ++ record { address = address; slots = slots } ∷ []
 cq_regions_in (e ∷ past) = cq_regions_in past
 
--- the numbers of the submission regions that accepted Creates named, the newest first
+-- the numbers of the submission regions that accepted Creates named or made, the newest first
 abbrev pub sq_named_in : Effects → List ℕ
 sq_named_in [] = []
-sq_named_in (Accepted (CreateSq qid qsize prp1 cqid qprio pc) ∷ past) = option_to_list (region_number (sq_regions_in past) prp1) ++ sq_named_in past
+sq_named_in (Accepted (CreateSq qid qsize prp1 cqid qprio pc) ∷ past) = option_to_list (number_by (placing_in past) (length (sq_named_in past)) (sq_regions_in past) prp1) ++ sq_named_in past
 sq_named_in (e ∷ past) = sq_named_in past
 
--- the numbers of the completion regions that accepted Creates named, the newest first
+-- the numbers of the completion regions that accepted Creates named or made, the newest first
 abbrev pub cq_named_in : Effects → List ℕ
 cq_named_in [] = []
-cq_named_in (Accepted (CreateCq qid qsize prp1 pc) ∷ past) = option_to_list (region_number (cq_regions_in past) prp1) ++ cq_named_in past
+cq_named_in (Accepted (CreateCq qid qsize prp1 pc) ∷ past) = option_to_list (number_by (placing_in past) (length (cq_named_in past)) (cq_regions_in past) prp1) ++ cq_named_in past
 cq_named_in (e ∷ past) = cq_named_in past
 
 -- a region is used where it is region 0 or an accepted Create named it (profile)
@@ -91,7 +115,7 @@ abbrev pub io_sq_in : Effects → ℕ → Option SqEntry
 io_sq_in [] q = None
 io_sq_in (Accepted (CreateSq qid qsize prp1 cqid qprio pc) ∷ past) q =
     if qid == q
-    then Some (record { region = unwrap_or (region_number (sq_regions_in past) prp1) 0; cqid = cqid; class = class_of qprio; closing = false })
+    then Some (record { region = unwrap_or (number_by (placing_in past) (length (sq_named_in past)) (sq_regions_in past) prp1) 0; cqid = cqid; class = class_of qprio; closing = false })
     else io_sq_in past q
 io_sq_in (Accepted (DeleteSq qid) ∷ past) q = if qid == q then option_map as_closing (io_sq_in past q) else io_sq_in past q
 io_sq_in (Finished qid ∷ past) q = if qid == q then unless_closing (io_sq_in past q) else io_sq_in past q
@@ -101,7 +125,7 @@ io_sq_in (e ∷ past) q = io_sq_in past q
 abbrev pub io_cq_in : Effects → ℕ → Option ℕ
 io_cq_in [] q = None
 io_cq_in (Accepted (CreateCq qid qsize prp1 pc) ∷ past) q =
-    if qid == q then Some (unwrap_or (region_number (cq_regions_in past) prp1) 0) else io_cq_in past q
+    if qid == q then Some (unwrap_or (number_by (placing_in past) (length (cq_named_in past)) (cq_regions_in past) prp1) 0) else io_cq_in past q
 io_cq_in (Accepted (DeleteCq qid) ∷ past) q = if qid == q then None else io_cq_in past q
 io_cq_in (e ∷ past) q = io_cq_in past q
 
@@ -147,13 +171,6 @@ abbrev pub ncq_by : Start → Option ℕ → ℕ
 ncq_by start None = start.ncq
 ncq_by start (Some cdw11) = min (ncqr_of cdw11 + 1) start.ncq
 
--- whether a Create of either kind was ever accepted
-abbrev pub created_in : Effects → Bool
-created_in [] = false
-created_in (Accepted (CreateSq qid qsize prp1 cqid qprio pc) ∷ past) = true
-created_in (Accepted (CreateCq qid qsize prp1 pc) ∷ past) = true
-created_in (e ∷ past) = created_in past
-
 -- the settings of the latest accepted Set of Arbitration, and before any the first ones
 abbrev pub settings_in : Start → Effects → ArbitrationFields
 settings_in start [] = start.settings
@@ -174,4 +191,7 @@ table_in start effects = record {
   numbers_set = is_some (first_request_in effects);
   created = created_in effects;
   settings = settings_in start effects;
+  placing = placing_in effects;
+  sqs_made = length (sq_named_in effects);
+  cqs_made = length (cq_named_in effects);
 }

@@ -1,5 +1,5 @@
 -- What a contract sees of a `Table`, and when a table stands at a table history (profile).
-use Rattle.std.specs.Prelude.{◌≡◌, ℕ, ◌==◌, Bool, true, false, nat_lt, ◌||◌, if◌then◌else◌, List, ◌∷◌, length, Option, Some, None, is_some, slice_index_or}
+use Rattle.std.specs.Prelude.{◌≡◌, ℕ, ◌==◌, Bool, true, false, nat_lt, ◌||◌, if◌then◌else◌, List, ◌∷◌, length, Option, Some, None, is_some, slice_get, slice_index_or, slice_set}
 use Rattle.nvme_entry.specs.Status.{StatusCode}
 use Rattle.nvme_entry.specs.declared.admin.AdminCommand.{AdminCommand}
 use Rattle.nvme_arbiter.specs.Settings.{ArbitrationFields}
@@ -56,7 +56,7 @@ cq_of v q = slice_index_or v.cqs q None
 abbrev pub used_at : List Bool → ℕ → Bool
 used_at used k = slice_index_or used k false
 
--- a table has this queue table
+-- a table has this queue table, in which each queue lies on a region. How many queues were created isn't seen
 pub record Shows (v : TableView) (t : QueueTable) : Type 0 where
   pub sq : (q : ℕ) → sq_of v q ≡ t.sq q
   pub cq : (q : ℕ) → cq_of v q ≡ t.cq q
@@ -69,12 +69,13 @@ pub record Shows (v : TableView) (t : QueueTable) : Type 0 where
   pub numbers_set : v.numbers_set ≡ t.numbers_set
   pub created : v.created ≡ t.created
   pub settings : v.settings ≡ t.settings
+  pub placing : t.placing ≡ None
 
 -- a table stands at a history: it has the queue table of the history
 abbrev pub StandsAt : Start → TableView → TableHistory → Type 0
 StandsAt start v h = Shows v (queue_table start h)
 
--- the queue table that a table has
+-- the queue table that a table has, in which no created queue is counted
 abbrev pub table_of : TableView → QueueTable
 table_of v = record {
   sq = sq_of v;
@@ -88,7 +89,29 @@ table_of v = record {
   numbers_set = v.numbers_set;
   created = v.created;
   settings = v.settings;
+  placing = None;
+  sqs_made = 0;
+  cqs_made = 0;
 }
+
+-- a table in which a region of this number is renewed, where one is there and it isn't the admin queue's: it has this number of slots and is
+-- unused (profile)
+abbrev pub sq_renewed_as : TableView → (k slots : ℕ) → Option Region → TableView
+sq_renewed_as v k slots None = v
+sq_renewed_as v k slots (Some r) =
+    if k == 0 then v else record v { sq_regions = slice_set v.sq_regions k (record r { slots = slots }); sq_used = slice_set v.sq_used k false }
+
+abbrev pub sq_renewed : TableView → (k slots : ℕ) → TableView
+sq_renewed v k slots = sq_renewed_as v k slots (slice_get v.sq_regions k)
+
+-- the same of completion regions
+abbrev pub cq_renewed_as : TableView → (k slots : ℕ) → Option Region → TableView
+cq_renewed_as v k slots None = v
+cq_renewed_as v k slots (Some r) =
+    if k == 0 then v else record v { cq_regions = slice_set v.cq_regions k (record r { slots = slots }); cq_used = slice_set v.cq_used k false }
+
+abbrev pub cq_renewed : TableView → (k slots : ℕ) → TableView
+cq_renewed v k slots = cq_renewed_as v k slots (slice_get v.cq_regions k)
 
 -- the status of a command over the queue table that a table has
 abbrev pub command_status : TableView → AdminCommand → StatusCode

@@ -1,19 +1,19 @@
 -- What a step makes of a queue table, by that queue table alone.
 -- (Base Specification, Create and Delete I/O Submission and Completion Queue, Arbitration feature, Number of Queues feature)
-use Rattle.std.specs.Prelude.{ℕ, ◌+◌, ◌==◌, ◌&&◌, ◌||◌, Bool, true, false, not, min, if◌then◌else◌, [], Option, Some, None, option_map, unwrap_or}
+use Rattle.std.specs.Prelude.{ℕ, suc, ◌+◌, ◌==◌, ◌&&◌, ◌||◌, Bool, true, false, not, min, if◌then◌else◌, [], Option, Some, None, option_map, unwrap_or}
 use Rattle.nvme_entry.specs.declared.admin.AdminCommand.{AdminCommand}
 use Rattle.nvme_entry.specs.declared.admin.AdminCommand.TheVariants.{DeleteSq, CreateSq, DeleteCq, CreateCq, SetFeatures}
 use Rattle.nvme_arbiter.specs.Settings.{ArbitrationFields, settings_of}
 use Rattle.nvme_admin.specs.declared.verdict.SqEntry.{SqEntry}
 use Rattle.nvme_admin.specs.History.{Start}
-use Rattle.nvme_admin.specs.QueueTable.{QueueTable, region_number, class_of, as_closing, arbitration, number_of_queues, nsqr_of, ncqr_of}
+use Rattle.nvme_admin.specs.QueueTable.{QueueTable, number_by, class_of, as_closing, arbitration, number_of_queues, nsqr_of, ncqr_of}
 
--- the number of the region at the address of a Create
+-- the number of the region of a new queue, by PRP1 of its Create
 abbrev pub sq_region_at : QueueTable → ℕ → ℕ
-sq_region_at t prp1 = unwrap_or (region_number t.sq_regions prp1) 0
+sq_region_at t prp1 = unwrap_or (number_by t.placing t.sqs_made t.sq_regions prp1) 0
 
 abbrev pub cq_region_at : QueueTable → ℕ → ℕ
-cq_region_at t prp1 = unwrap_or (region_number t.cq_regions prp1) 0
+cq_region_at t prp1 = unwrap_or (number_by t.placing t.cqs_made t.cq_regions prp1) 0
 
 -- the submission queues after an accepted command: a Create opens its own, and a Delete makes its own closing
 abbrev pub sqs_by : QueueTable → AdminCommand → ℕ → Option SqEntry
@@ -67,7 +67,16 @@ abbrev pub settings_by : QueueTable → AdminCommand → ArbitrationFields
 settings_by t (SetFeatures fid sv cdw11) = if fid == arbitration then settings_of cdw11 else t.settings
 settings_by t command = t.settings
 
--- the queue table after an accepted command. No command adds a region
+-- how many I/O queues of each kind were created, after an accepted command
+abbrev pub sqs_made_by : QueueTable → AdminCommand → ℕ
+sqs_made_by t (CreateSq qid qsize prp1 cqid qprio pc) = suc t.sqs_made
+sqs_made_by t command = t.sqs_made
+
+abbrev pub cqs_made_by : QueueTable → AdminCommand → ℕ
+cqs_made_by t (CreateCq qid qsize prp1 pc) = suc t.cqs_made
+cqs_made_by t command = t.cqs_made
+
+-- the queue table after an accepted command. No command adds a region, or changes where queues may lie
 abbrev pub table_after : QueueTable → AdminCommand → QueueTable
 table_after t command = record {
   sq = sqs_by t command;
@@ -81,9 +90,12 @@ table_after t command = record {
   numbers_set = numbers_set_by t command;
   created = created_by t command;
   settings = settings_by t command;
+  placing = t.placing;
+  sqs_made = sqs_made_by t command;
+  cqs_made = cqs_made_by t command;
 }
 
--- the queue table with which a table begins: no region and no queue, and of each kind region 0 counts as used
+-- the queue table with which a table begins: no region and no queue, each queue to lie on a region, and of each kind region 0 counts as used
 abbrev pub empty_table : Start → QueueTable
 empty_table start = record {
   sq = λ q. None;
@@ -97,4 +109,7 @@ empty_table start = record {
   numbers_set = false;
   created = false;
   settings = start.settings;
+  placing = None;
+  sqs_made = 0;
+  cqs_made = 0;
 }

@@ -42,7 +42,7 @@ impl TableFields {
     ghost use Rattle.nvme_admin.specs.Changes.{admin_queue};
     ghost use Rattle.nvme_admin.specs.Steps.{table_after, empty_table};
     ghost use Rattle.nvme_admin.specs.Effects.{verdict_in, NamesRegions};
-    ghost use Rattle.nvme_admin.specs.Standing.{Does, StandsAt, Shows, IsSized, table_of, sq_of, cq_of, used_at, region_fault};
+    ghost use Rattle.nvme_admin.specs.Standing.{Does, StandsAt, Shows, IsSized, table_of, sq_of, cq_of, used_at, region_fault, sq_renewed, cq_renewed};
 
     /// A table with no region, within the limits, with the settings of the Arbitration feature.
     pub fn new(limits: Limits, settings: Settings) -> TableFields
@@ -168,6 +168,37 @@ impl TableFields {
         self.cq_regions.push(Region { address, slots });
         self.cqs[0] = CqPlace::of(Some(0));
         Ok(number as u8)
+    }
+
+    /// Gives the submission region of this number another number of slots, and makes it unused. Nothing
+    /// changes where no such region is there, or it is region 0. (profile)
+    pub fn renew_sq_region(&mut self, number: u8, slots: u16)
+        ensures renewed { view_of self.new ≡ sq_renewed (view_of self.old) number slots }
+        ensures sized { IsSized (view_of self.new) }
+    {
+        let number = usize::from(number);
+        if number == 0 {
+            return;
+        }
+        if let Some(&region) = self.sq_regions.as_slice().get(number) {
+            self.sq_regions.put(number, Region { slots, ..region });
+            self.sq_used[number] = Flag::of(false);
+        }
+    }
+
+    /// Renews a completion region, as `renew_sq_region` renews a submission region.
+    pub fn renew_cq_region(&mut self, number: u8, slots: u16)
+        ensures renewed { view_of self.new ≡ cq_renewed (view_of self.old) number slots }
+        ensures sized { IsSized (view_of self.new) }
+    {
+        let number = usize::from(number);
+        if number == 0 {
+            return;
+        }
+        if let Some(&region) = self.cq_regions.as_slice().get(number) {
+            self.cq_regions.put(number, Region { slots, ..region });
+            self.cq_used[number] = Flag::of(false);
+        }
     }
 
     // The checks of a region to be added to `count` regions of its kind.

@@ -1,7 +1,8 @@
 // Laws over table histories: what follows from the definitions alone.
 ghost use Rattle.nvme_admin.specs.Changes.{VerdictsTellChange, FinishTakesOne, RegionOpensAdmin, CqRegionOpensAdmin};
-ghost use Rattle.nvme_admin.specs.Examples.{AreAnswered, four_and_three, regions_added, queues_made, create_cq_cases, create_sq_cases, delete_sq_cases, delete_cq_cases, request_cases, set_feature_cases, get_feature_cases, other_cases, QueuesAreMade, DeletionsFinish, NumbersAreFixed, SettingsAreKept, CommandsComeTo};
-ghost use Rattle.nvme_admin.specs.Laws.{AttachedStayOpen, RegionsAreUsedOnce, NoRequestAfterCreate, NumbersStayFixed, RegionsTellQueues, SqsAreAllotted, CqsAreAllotted, SqsHaveTheirRegions, CqsHaveTheirRegions};
+ghost use Rattle.nvme_admin.specs.Examples.{AreAnswered, four_and_three, regions_added, queues_made, create_cq_cases, create_sq_cases, delete_sq_cases, delete_cq_cases, request_cases, set_feature_cases, get_feature_cases, other_cases, QueuesAreMade, DeletionsFinish, NumbersAreFixed, SettingsAreKept, CommandsComeTo, one_address, placed_cq_cases, placed_sq_cases, placed_other_cases, QueuesLieAnywhere, PlacingIsKept};
+ghost use Rattle.nvme_admin.specs.Further.{RegionsDontMatter, TablesBeginEmpty, TablesGoByCommands};
+ghost use Rattle.nvme_admin.specs.Laws.{AttachedStayOpen, RegionsAreUsedOnce, NoRequestAfterCreate, NumbersStayFixed, RegionsTellQueues, SqsAreAllotted, CqsAreAllotted, SqsHaveTheirRegions, CqsHaveTheirRegions, PlacingStays, SqCreatesAreCounted, CqCreatesAreCounted, SqLivesAreCounted, CqLivesAreCounted};
 
 /// The completion queue that an open or closing I/O submission queue is attached to stays open.
 pub fn attached_queues_stay_open()
@@ -46,10 +47,39 @@ pub fn queues_are_allotted()
     ensures cqs { CqsAreAllotted }
 {}
 
-/// The region of an open or closing I/O queue has the address that its Create gave as PRP1, and QSIZE + 1 slots.
+/// Where queues lie on regions, the region of an open or closing I/O queue has the address that its Create gave as PRP1,
+/// and QSIZE + 1 slots.
 pub fn queues_have_their_regions()
     ensures sqs { SqsHaveTheirRegions }
     ensures cqs { CqsHaveTheirRegions }
+{}
+
+/// A queue table begins empty, and goes from one accepted command to the next.
+pub fn tables_go_by_commands()
+    ensures first { TablesBeginEmpty }
+    ensures next { TablesGoByCommands }
+{}
+
+/// Where queues may lie stays as it is once a Create was accepted.
+pub fn placing_stays()
+    ensures { PlacingStays }
+{}
+
+/// Each accepted Create of a kind is counted.
+pub fn creates_are_counted()
+    ensures sqs { SqCreatesAreCounted }
+    ensures cqs { CqCreatesAreCounted }
+{}
+
+/// Where queues may lie anywhere, the number of a new queue's region is 1 more than how many of its kind were created before.
+pub fn lives_are_counted()
+    ensures sqs { SqLivesAreCounted }
+    ensures cqs { CqLivesAreCounted }
+{}
+
+/// Where queues may lie anywhere, a region more changes nothing but the regions.
+pub fn regions_dont_matter()
+    ensures { RegionsDontMatter }
 {}
 
 /// Worked: each row of the checks of Create I/O Completion Queue, with its status and its place among the rows.
@@ -103,4 +133,21 @@ pub fn settings_are_kept()
 /// Worked: the effect of a command of each kind.
 pub fn commands_come_to()
     ensures { CommandsComeTo }
+{}
+
+/// Worked: the rows of both Creates where queues may lie anywhere, and that no other command has one more.
+pub fn placed_rows()
+    ensures cq { AreAnswered four_and_three one_address placed_cq_cases }
+    ensures sq { AreAnswered four_and_three one_address placed_sq_cases }
+    ensures other { AreAnswered four_and_three one_address placed_other_cases }
+{}
+
+/// Worked: five queues at one address, of which one is deleted and created again.
+pub fn queues_lie_anywhere()
+    ensures { QueuesLieAnywhere }
+{}
+
+/// Worked: where queues may lie, said before a Create and after one.
+pub fn placing_is_kept()
+    ensures { PlacingIsKept }
 {}

@@ -1,6 +1,6 @@
 // What a table is made of in memory. Each pattern of bits of these types says something, so that a table can lie where
 // others write. Contracts see what it says.
-ghost use Rattle.std.specs.Prelude.{◌≡◌, ◌≤◌, ◌<◌, ◌++◌, ◌∷◌, [], length};
+ghost use Rattle.std.specs.Prelude.{◌≡◌, ◌≤◌, ◌<◌, ◌++◌, ◌∷◌, [], length, slice_set};
 ghost use Rattle.nvme_admin.specs.Layout.{up, allotted_in, settings_in, sq_of_place, cq_of_place, regions_in};
 
 use crate::bounds::{MAX_IO_QUEUES, MAX_REGIONS};
@@ -211,5 +211,13 @@ impl Regions {
     {
         self.places[usize::from(self.count)] = region;
         self.count += 1;
+    }
+
+    /// Puts a region in the place of another.
+    pub fn put(&mut self, number: usize, region: Region)
+        requires { number < length (regions_in self.old) }
+        ensures { regions_in self.new ≡ slice_set (regions_in self.old) number region }
+    {
+        self.places[number] = region;
     }
 }

@@ -103,7 +103,7 @@ module _ (a : FrontState) (candidate : Candidate) (qid region cqid cq_region : �
   -- its region is one of the front's
   pub opens_there : (r : ℕ) → r ≡ region → r < length a.sqs.items
   opens_there r e =
-      let there = may_open.there in
+      let there = may_open.there h.stands.tabled.stands.placing in
       let table = ap (λ (xs : List Region). length xs) h.stands.tabled.stands.sq_regions in
       let count = h.stands.tabled.sq_count in
       let same = same_sqs a candidate (effect.OpenSq qid region cqid cq_region class) h in

@@ -9,7 +9,7 @@ use Rattle.std.proofs.lemmas.Option.{none-some, same_Some, slice_get_within}
 use Rattle.nvme_entry.specs.declared.submission.Sqe.{Sqe}
 use Rattle.nvme_entry.specs.declared.completion.Cqe.{Cqe}
 use Rattle.nvme_admin.specs.declared.region.Region.{Region}
-use Rattle.nvme_admin.specs.History.{TableHistory, TableStep, RegionAdded, EntryApplied, DeletionFinished, Submission, Completion}
+use Rattle.nvme_admin.specs.History.{TableHistory, TableStep, RegionAdded, EntryApplied, DeletionFinished, PlacedAnywhere, Submission, Completion}
 use Rattle.nvme_admin.specs.QueueTable.{QueueTable}
 use Rattle.nvme_admin.specs.Changes.{admin_queue}
 use Rattle.nvme_admin.specs.Accepted.{queue_table, status_of}
@@ -67,6 +67,7 @@ sqs-append (RegionAdded Submission address slots ∷ h) g =
 sqs-append (RegionAdded Completion address slots ∷ h) g = sqs-append h g
 sqs-append (EntryApplied entry ∷ h) g = sqs-append h g
 sqs-append (DeletionFinished qid ∷ h) g = sqs-append h g
+sqs-append (PlacedAnywhere p ∷ h) g = sqs-append h g
 
 cqs-append : (h g : TableHistory) → length (added_cqs (h ++ g)) ≡ length (added_cqs h) + length (added_cqs g)
 cqs-append [] g = omega arith
@@ -76,6 +77,7 @@ cqs-append (RegionAdded Completion address slots ∷ h) g =
 cqs-append (RegionAdded Submission address slots ∷ h) g = cqs-append h g
 cqs-append (EntryApplied entry ∷ h) g = cqs-append h g
 cqs-append (DeletionFinished qid ∷ h) g = cqs-append h g
+cqs-append (PlacedAnywhere p ∷ h) g = cqs-append h g
 
 sqs_number : (plans : List SqPlan) → length (added_sqs (sq_additions plans)) ≡ length plans
 sqs_number [] = refl

@@ -183,6 +183,7 @@ queues-admin rules late past k seen pick picked candidate rest table c board s c
     holds_queues (with_events (made_by past v) taken) later
     (verdict-agrees rules t past seen pick k kept candidate c picked board v (record {
       due = tells.due;
+      on_regions = was.placing;
       cqs_there = ap length (sym was.cq_regions) ∙ s.tabled.cq_count;
       sqs_there = ap length (sym was.sq_regions) ∙ s.tabled.sq_count;
       still = still;

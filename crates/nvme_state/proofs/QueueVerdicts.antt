@@ -63,6 +63,7 @@ deletes-agree past now k candidate qid c (Some queue) h is opened =
 -- what is given of an admin pick whose verdict is v: `before` is what was kept before it, and k what is kept when its place is picked
 pub record Applies (rules : FrontRules) (history : TableHistory) (before k : Content) (v : Verdict) : Type 0 where
   pub due : IsDue (queue_table rules.start history) v
+  pub on_regions : (queue_table rules.start history).placing ≡ None
   pub cqs_there : length (queue_table rules.start history).cq_regions ≡ k.ncq
   pub sqs_there : length (queue_table rules.start history).sq_regions ≡ k.nsq
   pub still : (r : ℕ) → (k.sq r).queue ≡ (before.sq r).queue
@@ -117,11 +118,11 @@ module _ (rules : FrontRules) (history : TableHistory) (past : Past) (seen : Lis
   verdict-agrees (verdict.SetArbitration settings) a chosen same target h =
       subst (λ (z : List (Option OpenQueue)). Agree (in_log past) (record (in_content k) { board = z })) (same ∙ sym chosen.0) h
   verdict-agrees (verdict.OpenCq qid region) a chosen same target h =
-      open_other (in_log past) (in_content k) h qid region (subst (λ (n : ℕ). region < n) a.cqs_there a.due.there)
+      open_other (in_log past) (in_content k) h qid region (subst (λ (n : ℕ). region < n) a.cqs_there (a.due.there a.on_regions))
   verdict-agrees (CloseCq qid) a chosen same target h = closes-agree qid (open_cq past qid) (event.Pick seen pick ∷ past) (in_content k) h
   verdict-agrees (verdict.OpenSq qid region cqid class) a chosen same target h =
       open_one (in_log past) (in_content k) h qid region cqid c class (a.unused region a.due.unused) chosen
-      (subst (λ (n : ℕ). region < n) a.sqs_there a.due.there) (a.few qid region cqid class refl)
+      (subst (λ (n : ℕ). region < n) a.sqs_there (a.due.there a.on_regions)) (a.few qid region cqid class refl)
   verdict-agrees (BeginDelete qid) a chosen same target h =
       deletes-agree past (event.Pick seen pick ∷ past) k candidate qid c (open_sq past qid) h refl (λ queue e. a.still queue.region ∙ chosen queue e)
 

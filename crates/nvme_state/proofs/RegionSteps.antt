@@ -1,5 +1,5 @@
 -- The queue table of a history in which only regions were added.
-use Rattle.std.proofs.Common.{◌≡◌, ℕ, ◌==◌, Bool, true, false, if◌then◌else◌, List, [], ◌∷◌, ◌++◌, map, None, refl, sym, ap, ◌∙◌, subst, append_assoc, append-nil, is_some}
+use Rattle.std.proofs.Common.{◌≡◌, ℕ, ◌==◌, Bool, true, false, if◌then◌else◌, List, [], ◌∷◌, ◌++◌, length, map, None, refl, sym, ap, ◌∙◌, subst, append_assoc, append-nil, is_some}
 use Rattle.std.specs.List.{list_all}
 use Rattle.std.proofs.lemmas.List.{map-append, reverse-append}
 use Rattle.std.proofs.lemmas.List.Folds.{list_all-append}
@@ -7,8 +7,8 @@ use Rattle.std.proofs.lemmas.Bool.{and_from}
 use Rattle.nvme_entry.specs.declared.submission.Sqe.{Sqe}
 use Rattle.nvme_entry.specs.declared.completion.Cqe.{Cqe}
 use Rattle.nvme_lane.specs.View.{GetView, PutView}
-use Rattle.nvme_admin.specs.History.{Submission, Completion, Start, TableStep, RegionAdded, EntryApplied, DeletionFinished, TableHistory, Effects}
-use Rattle.nvme_admin.specs.QueueTable.{QueueTable, table_in, io_sq_in, io_cq_in, admin_sq, admin_cq, is_used, sq_regions_in, cq_regions_in, sq_named_in, cq_named_in, first_request_in, created_in, settings_in, nsq_by, ncq_by}
+use Rattle.nvme_admin.specs.History.{Submission, Completion, Start, TableStep, RegionAdded, EntryApplied, DeletionFinished, PlacedAnywhere, TableHistory, Effects}
+use Rattle.nvme_admin.specs.QueueTable.{QueueTable, table_in, io_sq_in, io_cq_in, admin_sq, admin_cq, is_used, sq_regions_in, cq_regions_in, sq_named_in, cq_named_in, first_request_in, created_in, settings_in, placing_in, nsq_by, ncq_by}
 use Rattle.nvme_admin.specs.Accepted.{effects_of, queue_table}
 use Rattle.nvme_admin.specs.Standing.{TableView, Shows}
 use Rattle.nvme_admin.specs.declared.region.Region.{Region}
@@ -19,6 +19,7 @@ abbrev pub is_addition : TableStep → Bool
 is_addition (RegionAdded kind address slots) = true
 is_addition (EntryApplied entry) = false
 is_addition (DeletionFinished qid) = false
+is_addition (PlacedAnywhere p) = false
 
 -- only regions were added
 abbrev pub only_adds : TableHistory → Bool
@@ -50,6 +51,9 @@ first_table start sqs cqs = record {
   numbers_set = false;
   created = false;
   settings = start.settings;
+  placing = None;
+  sqs_made = 0;
+  cqs_made = 0;
 }
 
 -- steps that took effect which leave all but the regions
@@ -63,6 +67,7 @@ record Leaves (start : Start) (e : Effects) (h : TableHistory) : Type 0 where
   no_request : first_request_in e ≡ None
   not_created : created_in e ≡ false
   same_settings : settings_in start e ≡ start.settings
+  on_regions : placing_in e ≡ None
 
 -- additions leave all but the regions
 leaves : (start : Start) (h : TableHistory) → only_adds h ≡ true → Leaves start (effects_of start h) h
@@ -77,6 +82,7 @@ leaves start [] adds = record {
   no_request = refl;
   not_created = refl;
   same_settings = refl;
+  on_regions = refl;
 }
 leaves start (RegionAdded Submission address slots ∷ h) adds =
     let l = leaves start h adds in
@@ -90,6 +96,7 @@ leaves start (RegionAdded Submission address slots ∷ h) adds =
       no_request = l.no_request;
       not_created = l.not_created;
       same_settings = l.same_settings;
+      on_regions = l.on_regions;
     }
 leaves start (RegionAdded Completion address slots ∷ h) adds =
     let l = leaves start h adds in
@@ -103,9 +110,11 @@ leaves start (RegionAdded Completion address slots ∷ h) adds =
       no_request = l.no_request;
       not_created = l.not_created;
       same_settings = l.same_settings;
+      on_regions = l.on_regions;
     }
 leaves start (EntryApplied entry ∷ h) adds = cc
 leaves start (DeletionFinished qid ∷ h) adds = cc
+leaves start (PlacedAnywhere p ∷ h) adds = cc
 
 -- what leaves all but the regions has the table of the regions
 table_of-leaves : (start : Start) (e : Effects) (h : TableHistory) → Leaves start e h → table_in start e ≡ first_table start (added_sqs h) (added_cqs h)
@@ -121,6 +130,9 @@ table_of-leaves start e h l = λ i. record {
   numbers_set = is_some (l.no_request i);
   created = l.not_created i;
   settings = l.same_settings i;
+  placing = l.on_regions i;
+  sqs_made = length (l.no_sq_named i);
+  cqs_made = length (l.no_cq_named i);
 }
 
 -- the queue table of additions alone is that of their regions
@@ -142,6 +154,7 @@ added_sqs-append (RegionAdded Submission address slots ∷ h) g =
 added_sqs-append (RegionAdded Completion address slots ∷ h) g = added_sqs-append h g
 added_sqs-append (EntryApplied entry ∷ h) g = added_sqs-append h g
 added_sqs-append (DeletionFinished qid ∷ h) g = added_sqs-append h g
+added_sqs-append (PlacedAnywhere p ∷ h) g = added_sqs-append h g
 
 -- the same of completion regions
 added_cqs-append : (h g : TableHistory) → added_cqs (h ++ g) ≡ added_cqs g ++ added_cqs h
@@ -151,6 +164,7 @@ added_cqs-append (RegionAdded Completion address slots ∷ h) g =
 added_cqs-append (RegionAdded Submission address slots ∷ h) g = added_cqs-append h g
 added_cqs-append (EntryApplied entry ∷ h) g = added_cqs-append h g
 added_cqs-append (DeletionFinished qid ∷ h) g = added_cqs-append h g
+added_cqs-append (PlacedAnywhere p ∷ h) g = added_cqs-append h g
 
 -- two histories of additions alone, one after the other
 only_adds-append : (h g : TableHistory) → only_adds h ≡ true → only_adds g ≡ true → only_adds (h ++ g) ≡ true

@@ -1,4 +1,4 @@
-use Rattle.std.proofs.Common.{◌∙◌, ap, ◌-◌, None, false, get_or}
+use Rattle.std.proofs.Common.{refl, ◌∙◌, ap, ◌-◌, None, false, get_or}
 use Rattle.nvme_admin.specs.declared.bounds.TheConstants.{MAX_REGIONS}
 use Rattle.nvme_admin.specs.Accepted.{effects_of, queue_table}
 use Rattle.nvme_admin.proofs.PlaceLemmas.{sqs-none, cqs-none, flags-first}
@@ -23,6 +23,7 @@ returns c =
         numbers_set = c.of-7.ensures;
         created = c.of-8.ensures;
         settings = c.of-2.ensures;
+        placing = refl;
       };
       empty = record {
         sq = λ q. ap (λ qs. get_or qs q None) sqs ∙ read-replicate MAX_REGIONS q None;
@@ -36,5 +37,6 @@ returns c =
         numbers_set = c.of-7.ensures;
         created = c.of-8.ensures;
         settings = c.of-2.ensures;
+        placing = refl;
       };
     }
