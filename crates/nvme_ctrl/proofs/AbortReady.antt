@@ -6,8 +6,7 @@ use Rattle.std.proofs.lemmas.List.Elements.{All-nil, All-cons}
 use Rattle.nvme_arbiter.specs.Board.{BoardView}
 use Rattle.nvme_arbiter.specs.declared.pick.Pick.{Pick}
 use Rattle.nvme_arbiter.specs.declared.pick.Seen.{Seen}
-use Rattle.nvme_admin.specs.Standing.{TableView}
-use Rattle.nvme_admin.specs.declared.bounds.TheConstants.{MAX_REGIONS}
+use Rattle.nvme_admin.specs.QueueTable.{QueueTable}
 use Rattle.nvme_log.specs.declared.event.Event.TheVariants.{Abort}
 use Rattle.nvme_log.specs.declared.event.Event.TheVariants as event
 use Rattle.nvme_ctrl.specs.kept.Content.{Candidate}
@@ -36,7 +35,7 @@ taken-moves sq sqid region i r s found got left =
     (rw (got, eq-eqb region region refl) (omega (arith, left)))
     (λ x d. rw (ne_eqb region x (λ e. d (sym e))) (omega arith)) r
 
-module _ (past : Past) (k : Content) (candidate : Candidate) (rest : List Candidate) (seen : List Seen) (pick : Pick) (picked board : BoardView) (table : TableView)
+module _ (past : Past) (k : Content) (candidate : Candidate) (rest : List Candidate) (seen : List Seen) (pick : Pick) (picked board : BoardView) (table : QueueTable)
     (sqid region c cid : ℕ) (found : Candidate) where
   -- the log with the abort
   abbrev later : Past
@@ -59,13 +58,14 @@ module _ (past : Past) (k : Content) (candidate : Candidate) (rest : List Candid
 
   -- the completion of the aborted candidate is ready, and the place of the Abort command is in hand
   request-ready : HoldsReady past k (hand_of k) → ((r : ℕ) → HoldsSq past r (k.sq r)) → (k.sq 0).window ≡ candidate ∷ rest
-      → k.outstanding + 2 ≤ max_outstanding → c < MAX_REGIONS → cq_region_of past region ≡ Some c → qid_of_region past region ≡ Some sqid → took_abort (event.Pick seen pick ∷ past) ≡ true
+      → k.outstanding + 2 ≤ max_outstanding → c < k.ncq → cq_region_of past region ≡ Some c → qid_of_region past region ≡ Some sqid → took_abort (event.Pick seen pick ∷ past) ≡ true
       → entry_at past region found.index ≡ Some found.entry → is_aborted past region found.index ≡ false
       → ((i : ℕ) → times_in_window i (now.sq region).window ≡ one_if (found.index == i) + times_in_window i less.window)
       → ((r : ℕ) → HoldsSq later r (gone.sq r)) → HoldsReady later gone (place_of 0 candidate ∷ hand_of k)
   request-ready ready before oldest few small attached named took entry fresh left regions =
       becomes-ready past later k gone (hand_of k) (place_of 0 candidate ∷ hand_of k) c (requested sqid region found ∷ []) ready (record {
         small = small;
+        ncq = refl;
         grows = put-grows k.cq c (requested sqid region found ∷ []);
         posts = λ r i. refl;
         served = λ r i.
@@ -94,7 +94,7 @@ module _ (past : Past) (k : Content) (candidate : Candidate) (rest : List Candid
 
   -- then its answer is ready, too
   pub aborts-ready : HoldsReady past k (hand_of k) → ((r : ℕ) → HoldsSq past r (k.sq r)) → (k.sq 0).window ≡ candidate ∷ rest
-      → k.outstanding + 2 ≤ max_outstanding → c < MAX_REGIONS → cq_region_of past region ≡ Some c → qid_of_region past region ≡ Some sqid → took_abort (event.Pick seen pick ∷ past) ≡ true
+      → k.outstanding + 2 ≤ max_outstanding → c < k.ncq → cq_region_of past region ≡ Some c → qid_of_region past region ≡ Some sqid → took_abort (event.Pick seen pick ∷ past) ≡ true
       → entry_at past region found.index ≡ Some found.entry → is_aborted past region found.index ≡ false
       → ((i : ℕ) → times_in_window i (now.sq region).window ≡ one_if (found.index == i) + times_in_window i less.window)
       → ((r : ℕ) → HoldsSq later r (gone.sq r))
@@ -102,7 +102,8 @@ module _ (past : Past) (k : Content) (candidate : Candidate) (rest : List Candid
   aborts-ready ready before oldest few small attached named took entry fresh left regions =
       let middle = request-ready ready before oldest few small attached named took entry fresh left regions in
       becomes-ready later later gone (aborting_in now candidate sqid region c cid board (Some found)) (place_of 0 candidate ∷ hand_of k) (hand_of k) 0 (told_abort candidate 0 ∷ []) middle (record {
-        small = omega arith;
+        small = omega (arith, small);
+        ncq = refl;
         grows = put-grows gone.cq 0 (told_abort candidate 0 ∷ []);
         posts = λ r i. refl;
         served = λ r i. omega (arith, sum_by-cons (λ (p : Place). one_if (p.region == r && p.index == i)) (place_of 0 candidate) (hand_of k));

@@ -1,4 +1,5 @@
 -- An Abort command takes the oldest candidate that it names out of a window: its completion is ready.
+use Rattle.std.specs.Prelude.{option_map}
 use Rattle.std.proofs.Common.{◌≡◌, ◌≢◌, ℕ, ◌+◌, ◌-◌, ◌<◌, ◌==◌, Bool, true, false, if◌then◌else◌, List, [], ◌∷◌, ◌++◌, length, map, drop, Option, Some, None, refl, sym, ap, ◌∙◌, subst, arith, inl}
 use Rattle.std.specs.Prelude.{slice_set, min, IsTrue, IsSome, IsSomeAnd, IfSome}
 use Rattle.std.specs.List.{All}
@@ -14,6 +15,9 @@ use Rattle.nvme_arbiter.specs.declared.pick.OpenQueue.{OpenQueue}
 use Rattle.nvme_arbiter.specs.declared.board_fields.BoardFields.{BoardFields}
 use Rattle.nvme_arbiter.specs.declared.arbiter_fields.ArbiterFields.{ArbiterFields}
 use Rattle.nvme_arbiter.specs.declared.settings.Mechanism.{Mechanism}
+use Rattle.nvme_admin.specs.QueueTable.{QueueTable}
+use Rattle.nvme_placing.specs.Telling.{Tells, content_of, unplaced}
+use Rattle.nvme_placing.specs.declared.table.PlacedTable.{PlacedTable}
 use Rattle.nvme_admin.specs.Standing.{sq_of}
 use Rattle.nvme_admin.specs.declared.verdict.SqEntry.{SqEntry}
 use Rattle.nvme_entry.specs.Status.{abort_requested}
@@ -28,14 +32,14 @@ use Rattle.nvme_ctrl.specs.declared.state.SqState.{SqState}
 use Rattle.nvme_ctrl.specs.declared.state.Controller.{Controller}
 use Rattle.nvme_ctrl.specs.kept.Content.{Candidate, Ready, SqContent, Content, with_sq, with_ready}
 use Rattle.nvme_ctrl.specs.inside.Steps.{requested, oldest_named, without_oldest}
-use Rattle.nvme_ctrl.specs.kept.Kept.{is_passed_at, Item, Items, IsWaitingIn, IsUnanswered, IsThrough, tags_of, candidate_of, IsCookie, HasCookie, IsUnmarked}
+use Rattle.nvme_ctrl.specs.kept.Kept.{is_passed_at, Item, Items, IsWaitingIn, IsUnanswered, IsThrough, IsSqOf, HasNumbers, tags_of, candidate_of, IsCookie, HasCookie, IsUnmarked}
 use Rattle.nvme_ctrl.specs.inside.Loose.{IsLoose, Keeps, MakesReady, ended, with_item}
 use Rattle.nvme_ctrl.specs.inside.Carrying.{queue_in, IsAbortableIn, HasRequested}
 use Rattle.nvme_ctrl.specs.kept.Standing.{counted_on, on_board}
 use Rattle.nvme_ctrl.specs.kept.Pool.{slot_at, item_at, IsChain, IsNew, SameItems, SameLinks, named_in, without_named}
 use Rattle.nvme_ctrl.specs.kept.State.{sq_at}
-use Rattle.nvme_ctrl.proofs.CarriedOut.{none_picked_in}
-use Rattle.nvme_ctrl.proofs.Dropping.{attached_region, loose_waited, loose_windowed}
+use Rattle.nvme_ctrl.proofs.CarriedOut.{none_picked_of}
+use Rattle.nvme_ctrl.proofs.Dropping.{posts_to, loose_waited, loose_windowed}
 use Rattle.nvme_ctrl.proofs.Ending.{loose_ended}
 use Rattle.nvme_ctrl.proofs.Named.{found_one}
 use Rattle.nvme_ctrl.proofs.Pools.{IsNew-others, IsNew-left, IsNew-right, IsNew-append}
@@ -58,13 +62,13 @@ record Finds (slots : List Slot) (cid tag : ℕ) (its : List Item) : Type 0 wher
   among : Among cid its item
   without : without_named slots cid (tags_of its) ≡ tags_of (among.before ++ among.behind)
 
-finds : (slots : List Slot) (r cid tag : ℕ) (its : List Item) → All (IsWaitingIn slots r) its → named_in slots cid (tags_of its) ≡ Some tag → Finds slots cid tag its
-finds slots r cid tag [] waits h = absurd (cc h)
-finds slots r cid tag (it ∷ its) waits h =
+finds : (slots : List Slot) (q r cid tag : ℕ) (its : List Item) → All (IsWaitingIn slots q r) its → named_in slots cid (tags_of its) ≡ Some tag → Finds slots cid tag its
+finds slots q r cid tag [] waits h = absurd (cc h)
+finds slots q r cid tag (it ∷ its) waits h =
     by (it.entry.cid == cid) same refl (subst (λ (b : Bool). (if b then Some it.tag else named_in slots cid (tags_of its)) ≡ Some tag) same h)
-    (finds slots r cid tag its (All-tail (IsWaitingIn slots r) it its waits)) where
+    (finds slots q r cid tag its (All-tail (IsWaitingIn slots q r) it its waits)) where
       same : ((slot_at slots it.tag).entry.cid == cid) ≡ (it.entry.cid == cid)
-      same = ap (λ (e : Sqe). e.cid == cid) (All-head (IsWaitingIn slots r) it its waits).entry
+      same = ap (λ (e : Sqe). e.cid == cid) (All-head (IsWaitingIn slots q r) it its waits).entry
 
       by : (b : Bool) → ((slot_at slots it.tag).entry.cid == cid) ≡ b → (it.entry.cid == cid) ≡ b → (if b then Some it.tag else named_in slots cid (tags_of its)) ≡ Some tag
           → (named_in slots cid (tags_of its) ≡ Some tag → Finds slots cid tag its) → Finds slots cid tag (it ∷ its)
@@ -90,11 +94,11 @@ finds slots r cid tag (it ∷ its) waits h =
           }
 
 -- where none has the name, no candidate has it
-pub none_finds : (slots : List Slot) (r cid : ℕ) (its : List Item) → All (IsWaitingIn slots r) its → named_in slots cid (tags_of its) ≡ None → oldest_named cid (map candidate_of its) ≡ None
-none_finds slots r cid [] waits h = refl
-none_finds slots r cid (it ∷ its) waits h =
-    by ((slot_at slots it.tag).entry.cid == cid) (it.entry.cid == cid) (ap (λ (e : Sqe). e.cid == cid) (All-head (IsWaitingIn slots r) it its waits).entry) h
-    (none_finds slots r cid its (All-tail (IsWaitingIn slots r) it its waits)) where
+pub none_finds : (slots : List Slot) (q r cid : ℕ) (its : List Item) → All (IsWaitingIn slots q r) its → named_in slots cid (tags_of its) ≡ None → oldest_named cid (map candidate_of its) ≡ None
+none_finds slots q r cid [] waits h = refl
+none_finds slots q r cid (it ∷ its) waits h =
+    by ((slot_at slots it.tag).entry.cid == cid) (it.entry.cid == cid) (ap (λ (e : Sqe). e.cid == cid) (All-head (IsWaitingIn slots q r) it its waits).entry) h
+    (none_finds slots q r cid its (All-tail (IsWaitingIn slots q r) it its waits)) where
       by : (b c : Bool) → b ≡ c → (if b then Some it.tag else named_in slots cid (tags_of its)) ≡ None → (named_in slots cid (tags_of its) ≡ None → oldest_named cid (map candidate_of its) ≡ None)
           → (if c then Some (candidate_of it) else oldest_named cid (map candidate_of its)) ≡ None
       by true c e h later = absurd (cc h)
@@ -116,11 +120,11 @@ loose_same slots mid g y same h = let state = ap (λ (s : Slot). s.state) (same.
 }
 
 -- a command that ends as an Abort command asked
-abbrev pub KeepsRequest : (a : Controller) (slots : List Slot) (tag region : ℕ) (b : Controller) (pool : List Slot) → Type 0
-KeepsRequest a slots tag region b pool =
+abbrev pub KeepsRequest : (a : Controller) (slots : List Slot) (tag cqid : ℕ) (b : Controller) (pool : List Slot) → Type 0
+KeepsRequest a slots tag cqid b pool =
     (rules : FrontRules) (notes : Notes) (k : Content) (g : Items) (t : Ready) → Keeps rules notes a slots k g → IsLoose slots g tag → MakesReady slots tag 4 abort_requested 0 t → IsThrough notes t
-    → IsCookie notes slots tag t.place → t.passed ≡ is_passed_at notes t.place → IsUnmarked notes t.place → region < 65
-    → Keeps rules notes b pool (with_ready k region t) (with_item g region (ended tag t))
+    → IsCookie notes slots tag t.place → t.passed ≡ is_passed_at notes t.place → IsUnmarked notes t.place
+    → (x : ℕ) → k.cq_life cqid ≡ Some x → k.sq_id t.place.region ≡ Some t.sqid → Keeps rules notes b pool (with_ready k x t) (with_item g x (ended tag t))
 
 -- the board with a candidate less
 abbrev pub WentBoard : (old new : BoardFields) (sqid : ℕ) (held : Bool) → Type 0
@@ -144,7 +148,7 @@ module _ (rules : FrontRules) (notes : Notes) (a : Controller) (slots : List Slo
   region = entry.region
 
   abbrev f : Finds slots cid tag (g.windows region)
-  f = finds slots region cid tag (g.windows region) (h.has.window_items region) named
+  f = finds slots sqid region cid tag (g.windows region) (h.has.window_items sqid region ab.there) named
 
   abbrev x : Item
   x = f.item
@@ -153,7 +157,7 @@ module _ (rules : FrontRules) (notes : Notes) (a : Controller) (slots : List Slo
   rest = f.among.before ++ f.among.behind
 
   window_is : (k.sq region).window ≡ map candidate_of (g.windows region)
-  window_is = h.has.window_is region ∙ ap (λ (n : ℕ). map candidate_of (drop n (g.windows region))) (none_picked_in a region none)
+  window_is = h.has.window_is region ∙ ap (λ (n : ℕ). map candidate_of (drop n (g.windows region))) (none_picked_of a (k.sq_id region) none)
 
   oldest : oldest_named cid (k.sq region).window ≡ Some (candidate_of x)
   oldest = ap (oldest_named cid) window_is ∙ f.among.oldest
@@ -166,18 +170,18 @@ module _ (rules : FrontRules) (notes : Notes) (a : Controller) (slots : List Slo
   went_there = subst (λ (o : Option OpenQueue). IsSome o) (sym (ap (λ (v : BoardView). queue_at v.queues sqid) h.numbers.board_is ∙ ab.on_board)) refl
 
   -- with a candidate, unless it is held
-  pub went_some : (sq : SqState) → sq ≡ sq_at a.sqs entry.region → (sq.held == 1) ≡ false → IsSomeAnd (queue_at (board_of a.board).queues sqid) (λ (queue : OpenQueue). 0 < queue.count)
+  pub went_some : (sq : SqState) → sq ≡ sq_at a.sqs sqid → (sq.held == 1) ≡ false → IsSomeAnd (queue_at (board_of a.board).queues sqid) (λ (queue : OpenQueue). 0 < queue.count)
   went_some sq sq_is off =
-      let not_held : k.held region ≡ false = sym (ap (λ (z : SqState). z.held == 1) sq_is ∙ h.numbers.sq_held region) ∙ off in
+      let not_held : k.held region ≡ false = sym (ap (λ (z : SqState). z.held == 1) sq_is ∙ (h.numbers.sqs sqid region ab.there).held) ∙ off in
       subst (λ (o : Option OpenQueue). IsSomeAnd o (λ (queue : OpenQueue). 0 < queue.count))
       (sym (ap (λ (v : BoardView). queue_at v.queues sqid) h.numbers.board_is ∙ ab.on_board))
       (let some : 0 < length (k.sq region).window = omega (arith, fewer) in some_on (k.held region) _ not_held some)
 
-  waits : All (IsWaitingIn slots region) (f.among.before ++ x ∷ f.among.behind)
-  waits = subst (All (IsWaitingIn slots region)) f.among.whole (h.has.window_items region)
+  waits : All (IsWaitingIn slots sqid region) (f.among.before ++ x ∷ f.among.behind)
+  waits = subst (All (IsWaitingIn slots sqid region)) f.among.whole (h.has.window_items sqid region ab.there)
 
-  first : IsWaitingIn slots region x
-  first = All-head (IsWaitingIn slots region) x f.among.behind (All-parts (IsWaitingIn slots region) f.among.before (x ∷ f.among.behind) waits).1
+  first : IsWaitingIn slots sqid region x
+  first = All-head (IsWaitingIn slots sqid region) x f.among.behind (All-parts (IsWaitingIn slots sqid region) f.among.before (x ∷ f.among.behind) waits).1
 
   -- what holds of all holds of the others
   others_hold : (P : Item → Type 0) → All P (g.windows region) → All P rest
@@ -185,8 +189,8 @@ module _ (rules : FrontRules) (notes : Notes) (a : Controller) (slots : List Slo
       let parts = All-parts P f.among.before (x ∷ f.among.behind) (subst (All P) f.among.whole each) in
       All-append P f.among.before f.among.behind parts.0 (All-tail P x f.among.behind parts.1)
 
-  linked : IsChain slots (sq_at a.sqs region).window (tags_of f.among.before ++ x.tag ∷ tags_of f.among.behind)
-  linked = subst (IsChain slots (sq_at a.sqs region).window) (ap tags_of f.among.whole ∙ map-append (λ (it : Item). it.tag) f.among.before (x ∷ f.among.behind)) (h.has.window_chain region)
+  linked : IsChain slots (sq_at a.sqs sqid).window (tags_of f.among.before ++ x.tag ∷ tags_of f.among.behind)
+  linked = subst (IsChain slots (sq_at a.sqs sqid).window) (ap tags_of f.among.whole ∙ map-append (λ (it : Item). it.tag) f.among.before (x ∷ f.among.behind)) (h.has.window_chain sqid region ab.there)
 
   inside : x.tag < length slots
   inside = All-head (λ (z : ℕ). z < length slots) x.tag (tags_of f.among.behind) (All-parts (λ (z : ℕ). z < length slots) (tags_of f.among.before) (x.tag ∷ tags_of f.among.behind) linked.inside).1
@@ -195,7 +199,7 @@ module _ (rules : FrontRules) (notes : Notes) (a : Controller) (slots : List Slo
   rest_tags = sym (map-append (λ (it : Item). it.tag) f.among.before f.among.behind)
 
   loose : IsLoose slots (with_window g region rest) x.tag
-  loose = loose_waited rules notes a slots k g h region x first inside rest (subst (IsNew x.tag) rest_tags (IsNew-others (tags_of f.among.before) x.tag (tags_of f.among.behind) linked.apart))
+  loose = loose_waited rules notes a slots k g h sqid region ab.there x first inside rest (subst (IsNew x.tag) rest_tags (IsNew-others (tags_of f.among.before) x.tag (tags_of f.among.behind) linked.apart))
 
   -- another slot in no list is none of them
   module _ (y : ℕ) (other : IsLoose slots g y) where
@@ -215,12 +219,12 @@ module _ (rules : FrontRules) (notes : Notes) (a : Controller) (slots : List Slo
         (All-tail (λ (z : ℕ). z ≢ y) x.tag (tags_of f.among.behind) behind))
 
   -- it is aborted
-  pub requested_one : (io : sqid ≢ 0) (in_table : sq_of k.table sqid ≡ Some entry) (not_closing : entry.closing ≡ false) (y : ℕ) → IsLoose slots g y
-      → (sq : SqState) (chain : Chain) (mid : List Slot) (n o : ℕ) (board : BoardFields) (m b : Controller) (pool : List Slot) → sq ≡ sq_at a.sqs region
+  pub requested_one : (io : sqid ≢ 0) (in_table : k.table.sq sqid ≡ Some entry) (not_closing : entry.closing ≡ false) (y : ℕ) → IsLoose slots g y
+      → (sq : SqState) (chain : Chain) (mid : List Slot) (n o : ℕ) (board : BoardFields) (m b : Controller) (pool : List Slot) → sq ≡ sq_at a.sqs sqid
       → IsChain mid chain (without_named slots cid (tags_of (g.windows region))) → SameItems slots mid → SameLinks (tags_of (g.windows region)) slots mid
       → n ≡ sq.unposted + 1 → o ≡ a.outstanding + 1 → WentBoard a.board board sqid (sq.held == 1) → board.arbiter ≡ a.board.arbiter
       → ((mechanism : Mechanism) (first : ArbitrationFields) (past : History) → BoardStandsAt mechanism first past (board_of a.board) → BoardStandsAt mechanism first past (board_of board))
-      → m ≡ record a { sqs = slice_set a.sqs region (record sq { window = chain; unposted = n }); board = board; outstanding = o } → KeepsRequest m mid tag sq.cq_region b pool
+      → m ≡ record a { sqs = slice_set a.sqs sqid (record sq { window = chain; unposted = n }); board = board; outstanding = o } → KeepsRequest m mid tag sq.cqid b pool
       → length pool ≡ length mid → ((z : ℕ) → z ≢ tag → item_at pool z ≡ item_at mid z)
       → HasRequested rules notes k sqid cid slots y b pool
   requested_one io in_table not_closing y other sq chain mid n o board m b pool sq_is without same links unposted outstanding went arbiter stands m_is request size others = record {
@@ -236,9 +240,8 @@ module _ (rules : FrontRules) (notes : Notes) (a : Controller) (slots : List Slo
     queues = queues;
     stands = λ mechanism first past s. stands mechanism first past (subst (λ (v : BoardView). BoardStandsAt mechanism first past v) (sym h.numbers.board_is) s);
     items = with_item (with_window g region rest) ab.c (ended x.tag t);
-    keeps = subst (λ (z : ℕ). Keeps rules notes b pool (with_ready later z t) (with_item (with_window g region rest) z (ended x.tag t))) to
-        (subst (λ (z : ℕ). KeepsRequest m mid z sq.cq_region b pool) (sym f.tag_is) request rules notes later (with_window g region rest) t keeps (loose_same slots mid (with_window g region rest) x.tag same loose) made
-        (inl (ab.is_aborted (candidate_of x) oldest)) cookie (sym (rw ab.io refl)) unmarked (subst (λ (z : ℕ). z < 65) (sym to) ab.posts_there));
+    keeps = subst (λ (z : ℕ). KeepsRequest m mid z sq.cqid b pool) (sym f.tag_is) request rules notes later (with_window g region rest) t keeps (loose_same slots mid (with_window g region rest) x.tag same loose) made
+        (inl (ab.is_aborted (candidate_of x) oldest)) cookie (sym (rw ab.io refl)) unmarked ab.c to (h.numbers.sq_ids.ids_are sqid region ab.there);
     loose = loose_ended mid pool (with_window g region rest) x.tag ab.c t y size (λ z differ. others z (λ e. differ (e ∙ sym f.tag_is))) (another y other)
         (loose_same slots mid (with_window g region rest) y same (loose_windowed slots g region rest y other (left_loose y other)));
     slot = others y (λ e. another y other (e ∙ sym f.tag_is)) ∙ same.items y;
@@ -247,7 +250,7 @@ module _ (rules : FrontRules) (notes : Notes) (a : Controller) (slots : List Slo
     t = requested sqid region (candidate_of x)
 
     s : SqState
-    s = record (sq_at a.sqs region) { window = chain; unposted = n }
+    s = record (sq_at a.sqs sqid) { window = chain; unposted = n }
 
     c : SqContent
     c = record (k.sq region) { window = without_oldest cid (k.sq region).window; unposted = (k.sq region).unposted + 1 }
@@ -255,23 +258,23 @@ module _ (rules : FrontRules) (notes : Notes) (a : Controller) (slots : List Slo
     later : Content
     later = record (with_sq k region c) { board = board_of board; outstanding = k.outstanding + 1 }
 
-    to : sq.cq_region ≡ ab.c
-    to = ap (λ (z : SqState). z.cq_region) sq_is ∙ attached_region (sq_at a.sqs region) sqid ab.c (h.numbers.sq_queue region ∙ ab.attached)
+    to : k.cq_life sq.cqid ≡ Some ab.c
+    to = ap (λ (z : SqState). k.cq_life z.cqid) sq_is ∙ posts_to rules notes a slots k g sqid region ab.c h ab.there ab.attached
 
     unposted_is : n ≡ (k.sq region).unposted + 1
-    unposted_is = unposted ∙ ap (λ (z : SqState). z.unposted + 1) sq_is ∙ ap (λ (z : ℕ). z + 1) (h.numbers.sq_unposted region)
+    unposted_is = unposted ∙ ap (λ (z : SqState). z.unposted + 1) sq_is ∙ ap (λ (z : ℕ). z + 1) (h.numbers.sqs sqid region ab.there).unposted
 
-    windowed : Keeps rules notes (record a { sqs = slice_set a.sqs region s }) mid (with_sq k region c) (with_window g region rest)
+    windowed : Keeps rules notes (record a { sqs = slice_set a.sqs sqid s }) mid (with_sq k region c) (with_window g region rest)
     windowed =
-        keeps_windowed rules notes a slots k g h none region ab.there s c rest mid k.held k.classed (h.numbers.sq_held region) (λ r other. refl) same links refl (h.numbers.sq_queue region) unposted_is refl
-        (subst (IsChain mid chain) f.without without) (others_hold (IsWaitingIn slots region) (h.has.window_items region)) (ap (without_oldest cid) window_is ∙ f.among.left)
+        keeps_windowed rules notes a slots k g h none sqid region ab.there s c rest mid k.held k.classed (h.numbers.sqs sqid region ab.there).held (λ r other. refl) same links refl refl refl unposted_is refl
+        (subst (IsChain mid chain) f.without without) (others_hold (IsWaitingIn slots sqid region) (h.has.window_items sqid region ab.there)) (ap (without_oldest cid) window_is ∙ f.among.left)
         (others_hold (λ (it : Item). IsUnanswered notes it.place) (h.tags.windows_unanswered region)) (others_hold (HasCookie notes slots) (h.tags.cookies.windows region))
 
     keeps : Keeps rules notes m mid later (with_window g region rest)
     keeps =
         subst (λ (z : Controller). Keeps rules notes z mid later (with_window g region rest))
-        (sym (m_is ∙ ap (λ (z : SqState). record a { sqs = slice_set a.sqs region (record z { window = chain; unposted = n }); board = board; outstanding = o }) sq_is))
-        (keeps_outstanding rules notes (record a { sqs = slice_set a.sqs region s }) mid (with_sq k region c) (with_window g region rest) board (board_of board) o (k.outstanding + 1) windowed refl
+        (sym (m_is ∙ ap (λ (z : SqState). record a { sqs = slice_set a.sqs sqid (record z { window = chain; unposted = n }); board = board; outstanding = o }) sq_is))
+        (keeps_outstanding rules notes (record a { sqs = slice_set a.sqs sqid s }) mid (with_sq k region c) (with_window g region rest) board (board_of board) o (k.outstanding + 1) windowed refl
         (subst (λ (z : ArbiterFields). IsTrue (is_arbiter z)) (sym arbiter) h.numbers.is_arbiter) (outstanding ∙ ap (λ (z : ℕ). z + 1) h.numbers.outstanding_is))
 
     cookie : IsCookie notes mid x.tag t.place
@@ -290,7 +293,7 @@ module _ (rules : FrontRules) (notes : Notes) (a : Controller) (slots : List Slo
     made : MakesReady mid x.tag 4 abort_requested 0 t
     made = let same_slot = same.items x.tag in record {
       state_is = refl;
-      region = ap (λ (z : Slot). z.region) same_slot ∙ first.region;
+      sqid = ap (λ (z : Slot). z.sqid) same_slot ∙ first.queue;
       cid = ap (λ (z : Slot). z.entry.cid) same_slot ∙ ap (λ (z : Sqe). z.cid) first.entry;
       status_is = refl;
       dw0_is = refl;
@@ -301,7 +304,7 @@ module _ (rules : FrontRules) (notes : Notes) (a : Controller) (slots : List Slo
         subst (λ (q : Option OpenQueue). IfSome q (λ (queue : OpenQueue). board_of board ≡ record (board_of a.board) { queues = slice_set (board_of a.board).queues sqid (Some (record queue { count = if sq.held == 1 then queue.count else queue.count - 1 })) }))
         (ap (λ (v : BoardView). queue_at v.queues sqid) h.numbers.board_is ∙ ab.on_board) went
         ∙ ap (λ (z : ℕ). record (board_of a.board) { queues = slice_set (board_of a.board).queues sqid (Some (record (on_board k (queue_in entry)) { count = z })) })
-        (went_on (sq.held == 1) (k.held region) (length (k.sq region).window) (length (without_oldest cid (k.sq region).window)) (ap (λ (z : SqState). z.held == 1) sq_is ∙ h.numbers.sq_held region) fewer)
+        (went_on (sq.held == 1) (k.held region) (length (k.sq region).window) (length (without_oldest cid (k.sq region).window)) (ap (λ (z : SqState). z.held == 1) sq_is ∙ (h.numbers.sqs sqid region ab.there).held) fewer)
 
     queues : (board_of board).queues ≡ slice_set k.board.queues sqid (Some (counted_on k (queue_in entry) (length (without_oldest cid (k.sq region).window))))
     queues =
@@ -309,12 +312,37 @@ module _ (rules : FrontRules) (notes : Notes) (a : Controller) (slots : List Slo
         ∙ ap (λ (v : BoardView). slice_set v.queues sqid (Some (counted_on k (queue_in entry) (length (without_oldest cid (k.sq region).window))))) h.numbers.board_is
 
 -- ---- the queue in the table
+-- a queue that some content has is on its region in all that a controller keeps
+pub kept_life : (a : Controller) (k m : Content) → HasNumbers a k → HasNumbers a m → (q r : ℕ) → m.sq_life q ≡ Some r → (entry : SqEntry) → k.table.sq q ≡ Some entry
+    → k.sq_life q ≡ Some entry.region
+kept_life a k m h n q r is entry in_table = by (k.sq_life q) refl where
+  s : IsSqOf a m q r
+  s = n.sqs q r is
+
+  by : (o : Option ℕ) → k.sq_life q ≡ o → o ≡ Some entry.region
+  by None none = absurd (let slots = ap (λ (z : SqState). z.ring.slots) (h.no_sqs q none) in let some = s.some in let same = s.slots in omega (arith, slots, some, same))
+  by (Some x) there =
+      let t = h.sqs q x there in
+      ap (λ (y : ℕ). Some y) (sym t.on ∙ ap (λ (e : SqEntry). e.region) (same_Some t.entry entry (sym t.in_table ∙ in_table)))
+
+-- a queue of the code's table is one of the table that it tells, wherever it lies
+pub record IsToldOf (queue : SqEntry) (o : Option SqEntry) : Type 0 where
+  pub entry : SqEntry
+  pub there : o ≡ Some entry
+  pub same : unplaced queue ≡ unplaced entry
+
+pub told_queue : (p : PlacedTable) (t : QueueTable) → Tells p t → (q : ℕ) (queue : SqEntry) → sq_of (content_of p) q ≡ Some queue → IsToldOf queue (t.sq q)
+told_queue p t tells q queue is = by (t.sq q) (ap (option_map unplaced) (sym is) ∙ tells.sq q) where
+  by : (o : Option SqEntry) → Some (unplaced queue) ≡ option_map unplaced o → IsToldOf queue o
+  by None e = absurd (cc e)
+  by (Some entry) e = record { entry = entry; there = refl; same = same_Some (unplaced queue) (unplaced entry) e }
+
 -- one unposted place more in a region is counted
 pub few_unposted_more : (rules : FrontRules) (notes : Notes) (a : Controller) (slots : List Slot) (k : Content) (g : Items) (sqid cid : ℕ) (entry : SqEntry) (sq : SqState) → Keeps rules notes a slots k g
-    → IsAbortableIn notes k sqid cid entry → sq ≡ sq_at a.sqs entry.region → min (sq.unposted + 1) 65535 ≡ sq.unposted + 1
+    → IsAbortableIn notes k sqid cid entry → sq ≡ sq_at a.sqs sqid → min (sq.unposted + 1) 65535 ≡ sq.unposted + 1
 few_unposted_more rules notes a slots k g sqid cid entry sq h ab sq_is =
     let same = ap (λ (z : SqState). z.unposted) sq_is in
-    let is = h.numbers.sq_unposted entry.region in
+    let is = (h.numbers.sqs sqid entry.region ab.there).unposted in
     let few = ab.few_unposted in
     omega arith
 
@@ -326,14 +354,14 @@ few_outstanding_more rules notes a m slots k g sqid cid entry h ab same =
     let few = ab.few_outstanding in
     omega arith
 
--- the chain of a region's window
-pub chain_there : (rules : FrontRules) (notes : Notes) (a : Controller) (slots : List Slot) (k : Content) (g : Items) (region : ℕ) (sq : SqState) → Keeps rules notes a slots k g
-    → sq ≡ sq_at a.sqs region → IsChain slots sq.window (tags_of (g.windows region))
-chain_there rules notes a slots k g region sq h is = subst (λ (s : SqState). IsChain slots s.window (tags_of (g.windows region))) (sym is) (h.has.window_chain region)
+-- the chain of a queue's window
+pub chain_there : (rules : FrontRules) (notes : Notes) (a : Controller) (slots : List Slot) (k : Content) (g : Items) (qid region : ℕ) (sq : SqState) → Keeps rules notes a slots k g
+    → k.sq_life qid ≡ Some region → sq ≡ sq_at a.sqs qid → IsChain slots sq.window (tags_of (g.windows region))
+chain_there rules notes a slots k g qid region sq h life is = subst (λ (s : SqState). IsChain slots s.window (tags_of (g.windows region))) (sym is) (h.has.window_chain qid region life)
 
 -- where no slot has the name, no candidate has it
-pub none_left : (rules : FrontRules) (notes : Notes) (a : Controller) (slots : List Slot) (k : Content) (g : Items) (cid region : ℕ) → Keeps rules notes a slots k g → a.picked ≡ 0
+pub none_left : (rules : FrontRules) (notes : Notes) (a : Controller) (slots : List Slot) (k : Content) (g : Items) (cid qid region : ℕ) → Keeps rules notes a slots k g → a.picked ≡ 0 → k.sq_life qid ≡ Some region
     → named_in slots cid (tags_of (g.windows region)) ≡ None → oldest_named cid (k.sq region).window ≡ None
-none_left rules notes a slots k g cid region h none named =
-    ap (oldest_named cid) (h.has.window_is region ∙ ap (λ (n : ℕ). map candidate_of (drop n (g.windows region))) (none_picked_in a region none))
-    ∙ none_finds slots region cid (g.windows region) (h.has.window_items region) named
+none_left rules notes a slots k g cid qid region h none life named =
+    ap (oldest_named cid) (h.has.window_is region ∙ ap (λ (n : ℕ). map candidate_of (drop n (g.windows region))) (none_picked_of a (k.sq_id region) none))
+    ∙ none_finds slots qid region cid (g.windows region) (h.has.window_items qid region life) named

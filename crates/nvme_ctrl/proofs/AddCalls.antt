@@ -1,66 +1,39 @@
 -- Regions that are added to a controller: it stands at its log afterwards, at the rules with the region.
-use Rattle.std.proofs.Common.{◌≡◌, ◌≢◌, ℕ, ◌+◌, ◌%◌, ◌<◌, ◌==◌, ◌||◌, nat_lt, Bool, true, false, if◌then◌else◌, List, [], ◌∷◌, ◌++◌, length, Option, Some, None, refl, sym, ap, ◌∙◌, subst, arith, inl, inr, option_map}
-use Rattle.std.specs.Prelude.{slice_set}
-use Rattle.std.proofs.Math.Nat.{zero-div}
-use Rattle.std.proofs.lemmas.Bool.{cases_eq, cases_lt, eq-eqb, lt-ltb, or_parts}
-use Rattle.std.proofs.lemmas.List.{length_push, length-set}
-use Rattle.nvme_entry.specs.declared.submission.Sqe.{Sqe}
-use Rattle.nvme_entry.specs.declared.completion.Cqe.{Cqe}
-use Rattle.nvme_admin.specs.History.{Kind, Start, TableHistory, RegionAdded, Submission, Completion}
-use Rattle.nvme_admin.specs.Layout.{view_of}
-use Rattle.nvme_admin.specs.Standing.{TableView, StandsAt as TableStandsAt, IsSized, is_known, region_fault}
-use Rattle.nvme_admin.specs.declared.bounds.TheConstants.{MAX_REGIONS, MIN_SLOTS, MAX_SLOTS}
-use Rattle.nvme_admin.specs.declared.fields.TableFields.{TableFields}
+use Rattle.std.proofs.Common.{◌≡◌, ◌≢◌, ℕ, ◌+◌, ◌<◌, Bool, true, false, if◌then◌else◌, List, [], ◌∷◌, ◌++◌, length, Option, Some, None, is_some, refl, sym, ap, ◌∙◌, subst, arith, option_map}
+use Rattle.std.specs.Prelude.{Result, Ok, Err, OnOk, IfOk, OnErr, IfErr}
+use Rattle.std.proofs.lemmas.Bool.{false_from_ne_true}
+use Rattle.std.proofs.lemmas.List.{length_push}
+use Rattle.nvme_admin.specs.History.{Kind, Placing, Start, TableHistory, RegionAdded, Submission, Completion}
+use Rattle.nvme_admin.specs.Accepted.{queue_table}
+use Rattle.nvme_admin.specs.QueueTable.{QueueTable}
+use Rattle.nvme_admin.specs.Standing.{region_fault}
+use Rattle.nvme_admin.specs.declared.region.AdminError.TheVariants.{TooMany}
+use Rattle.nvme_placing.specs.Telling.{Tells, content_of, placing_of}
+use Rattle.nvme_placing.specs.declared.table.PlacedTable.{PlacedTable}
 use Rattle.nvme_admin.specs.declared.region.Region.{Region}
 use Rattle.nvme_admin.specs.declared.region.AdminError.{AdminError}
 use Rattle.nvme_log.specs.Rules.{FrontRules, sq_regions_of, cq_regions_of, slots_at}
 use Rattle.nvme_log.specs.Places.{fetched}
-use Rattle.nvme_log.specs.Completions.{posted_to, phase_after}
+use Rattle.nvme_log.specs.Completions.{posted_to}
 use Rattle.nvme_ctrl.specs.Notes.{Notes, logged}
-use Rattle.nvme_ctrl.specs.Doorbells.{submitted, consumed}
-use Rattle.nvme_ctrl.specs.Rings.{HasCounts, first_ring}
-use Rattle.nvme_ctrl.specs.Making.{with_region, is_late, adding_fault}
+use Rattle.nvme_ctrl.specs.Rings.{HasCounts}
+use Rattle.nvme_ctrl.specs.Making.{with_region, is_late, adding_fault, placing_in}
 use Rattle.nvme_ctrl.specs.Account.{IsAccount}
 use Rattle.nvme_ctrl.specs.declared.slot.Slot.{Slot}
-use Rattle.nvme_ctrl.specs.declared.state.SqState.{SqState}
-use Rattle.nvme_ctrl.specs.declared.state.CqState.{CqState}
+use Rattle.nvme_ctrl.specs.Standing.{IsController}
 use Rattle.nvme_ctrl.specs.declared.state.Controller.{Controller}
 use Rattle.nvme_ctrl.specs.kept.Content.{Attachment, Content}
 use Rattle.nvme_ctrl.specs.kept.Standing.{HoldsOwn}
-use Rattle.nvme_ctrl.specs.kept.Kept.{HasNumbers, HasItems, HoldsDoorbells, HoldsTags, StandsAt, tags_of, ready_tags}
-use Rattle.nvme_ctrl.specs.kept.Pool.{IsChain}
-use Rattle.nvme_ctrl.specs.kept.State.{sq_at, cq_at, attachment_of}
-use Rattle.nvme_ctrl.proofs.AddedTables.{sq-added, sq-leaves, cq-added, cq-leaves, slots_last, slots_past, slots_other, sq-more, sq-same, cq-more, cq-same, sq-same_sq, sq-same_cq, sq-same_used, sq-more_sqs, sq-same_cqs, cq-same_cq, cq-same_sq, cq-same_used, cq-same_sqs, cq-more_cqs}
+use Rattle.nvme_ctrl.specs.kept.Kept.{HasNumbers, HasItems, HoldsDoorbells, HoldsTags, StandsAt}
+use Rattle.nvme_ctrl.specs.kept.State.{sq_at, cq_at}
+use Rattle.nvme_ctrl.proofs.AddedTables.{sq-added, sq-leaves, cq-added, cq-leaves, slots_other, sq-same_placing, cq-same_placing, sq-more, sq-same, cq-more, cq-same, sq-same_sq, sq-same_cq, sq-same_used, sq-same_cq_used, sq-more_sqs, sq-same_cqs, cq-same_cq, cq-same_sq, cq-same_used, cq-same_cq_used, cq-same_sqs, cq-more_cqs}
 use Rattle.nvme_ctrl.proofs.DoorbellCounts.{submitted_same, submitted_none, consumed_same, consumed_none}
 use Rattle.nvme_ctrl.proofs.FurtherAccounts.{sound-notes, account-stays}
+use Rattle.nvme_ctrl.proofs.DoorbellCalls.{has_none}
+use Rattle.nvme_ctrl.proofs.FurtherHistories.{region-placing}
 use Rattle.nvme_ctrl.proofs.FurtherStanding.{in_time, has_history, own-holds}
-use Rattle.nvme_ctrl.proofs.Growing.{Grows, grown, none_fetched, holds_when_grown}
-use Rattle.nvme_ctrl.proofs.RegionStates.{put_sq-each, put_cq-each}
-
--- ---- what the table refuses
-fault_parts : (a b c : Bool) (x y z : AdminError) → (if a then Some x else (if b then Some y else (if c then Some z else None))) ≡ None → (b ≡ false) × (c ≡ false)
-fault_parts true b c x y z e = cc
-fault_parts false true c x y z e = cc
-fault_parts false false true x y z e = cc
-fault_parts false false false x y z e = (refl, refl)
-
--- a region that can be added has a number below the most, and some slots
-added_few : (v : TableView) (rs : List Region) (a n : ℕ) → region_fault v rs a n ≡ None → length rs ≢ MAX_REGIONS
-added_few v rs a n e all =
-    let parts = fault_parts (is_known v a) (length rs == MAX_REGIONS) (nat_lt n MIN_SLOTS || nat_lt MAX_SLOTS n) _ _ _ e in
-    let yes = eq-eqb (length rs) MAX_REGIONS all in
-    let no = parts.0 in
-    cc
-
--- what isn't too few slots is some
-pub some_slots : (n : ℕ) → (nat_lt n MIN_SLOTS || nat_lt MAX_SLOTS n) ≡ false → 0 < n
-some_slots n e = elim (cases_lt n MIN_SLOTS) [
-  | inl below ↦ let yes = lt-ltb n MIN_SLOTS below in let no = (or_parts (nat_lt n MIN_SLOTS) (nat_lt MAX_SLOTS n) e).0 in cc
-  | inr from ↦ omega (arith, from)
-]
-
-added_some : (v : TableView) (rs : List Region) (a n : ℕ) → region_fault v rs a n ≡ None → 0 < n
-added_some v rs a n e = some_slots n (fault_parts (is_known v a) (length rs == MAX_REGIONS) (nat_lt n MIN_SLOTS || nat_lt MAX_SLOTS n) _ _ _ e).1
+use Rattle.nvme_ctrl.proofs.Growing.{Grows, grown, holds_when_grown}
+use Rattle.nvme_ctrl.proofs.QueueStates.{IsSqWith, sq_of_with}
 
 -- ---- a controller that stands
 -- a region of which an identifier is told was opened for a queue
@@ -98,66 +71,74 @@ module _ (rules : FrontRules) (late : Bool) (notes : Notes) (c : Controller) (po
     early_account = let early = in_time rules late notes a on_time in account-stays rules kind a n sqs_there cqs_there notes (s.account early.0) early.1
 
 -- ---- what is refused
+-- nothing else is refused first where queues lie on regions, and all is where they may lie anywhere
+refused_first : (placing : Option Placing) (fault : Option AdminError) → placing ≡ None → fault ≡ (if is_some placing then Some TooMany else fault)
+refused_first placing fault none = sym (ap (λ (p : Option Placing). if is_some p then Some TooMany else fault) none)
+
+all_refused : (placing : Option Placing) (fault : Option AdminError) → is_some placing ≡ true → (if is_some placing then Some TooMany else fault) ≡ Some TooMany
+all_refused placing fault some = ap (λ (b : Bool). if b then Some TooMany else fault) some
+
 module _ (rules : FrontRules) (late : Bool) (notes : Notes) (c : Controller) (pool : List Slot) (s : StandsAt rules late notes c pool) (a n : ℕ) where
-  -- the regions of the table are those of the rules
-  table_sqs : (view_of c.table).sq_regions ≡ sq_regions_of rules
-  table_sqs = ap (λ (t : TableView). t.sq_regions) s.numbers.table_is ∙ s.holds.tabled.sq_regions_are
+  -- the rules say where queues may lie as the table does
+  rules_placing : placing_in rules ≡ placing_of c.table
+  rules_placing = sym s.holds.tabled.placing ∙ s.numbers.tells.placing
 
-  table_cqs : (view_of c.table).cq_regions ≡ cq_regions_of rules
-  table_cqs = ap (λ (t : TableView). t.cq_regions) s.numbers.table_is ∙ s.holds.tabled.cq_regions_are
+  module _ (on : placing_of c.table ≡ None) where
+    -- the regions of the table are those of the rules
+    table_sqs : (content_of c.table).sq_regions ≡ sq_regions_of rules
+    table_sqs = (s.numbers.tells.by_regions on).sq_regions ∙ s.holds.tabled.sq_regions_are
 
-  -- so what the table refuses is what the rules refuse
-  pub sq-fault : region_fault (view_of c.table) (view_of c.table).sq_regions a n ≡ adding_fault Submission a n rules
-  sq-fault = λ i. region_fault (record (view_of c.table) { sq_regions = table_sqs i; cq_regions = table_cqs i }) (table_sqs i) a n
+    table_cqs : (content_of c.table).cq_regions ≡ cq_regions_of rules
+    table_cqs = (s.numbers.tells.by_regions on).cq_regions ∙ s.holds.tabled.cq_regions_are
 
-  pub cq-fault : region_fault (view_of c.table) (view_of c.table).cq_regions a n ≡ adding_fault Completion a n rules
-  cq-fault = λ i. region_fault (record (view_of c.table) { sq_regions = table_sqs i; cq_regions = table_cqs i }) (table_cqs i) a n
+    -- so what the table refuses is what the rules refuse
+    pub sq-fault : region_fault (content_of c.table) (content_of c.table).sq_regions a n ≡ adding_fault Submission a n rules
+    sq-fault =
+        (λ i. region_fault (record (content_of c.table) { sq_regions = table_sqs i; cq_regions = table_cqs i }) (table_sqs i) a n)
+        ∙ refused_first (placing_in rules) _ (rules_placing ∙ on)
 
-  -- and where it refuses nothing, neither do they
-  pub sq-no_fault : region_fault (view_of c.table) (view_of c.table).sq_regions a n ≡ None → adding_fault Submission a n rules ≡ None
-  sq-no_fault none = sym sq-fault ∙ none
+    pub cq-fault : region_fault (content_of c.table) (content_of c.table).cq_regions a n ≡ adding_fault Completion a n rules
+    cq-fault =
+        (λ i. region_fault (record (content_of c.table) { sq_regions = table_sqs i; cq_regions = table_cqs i }) (table_cqs i) a n)
+        ∙ refused_first (placing_in rules) _ (rules_placing ∙ on)
 
-  pub cq-no_fault : region_fault (view_of c.table) (view_of c.table).cq_regions a n ≡ None → adding_fault Completion a n rules ≡ None
-  cq-no_fault none = sym cq-fault ∙ none
+  -- where queues may lie anywhere all is refused
+  pub anywhere-fault : (kind : Kind) → is_some (placing_of c.table) ≡ true → adding_fault kind a n rules ≡ Some TooMany
+  anywhere-fault kind some = all_refused (placing_in rules) _ (ap (λ (p : Option Placing). is_some p) rules_placing ∙ some)
+
+-- the controller with another table
+abbrev pub with_table : Controller → PlacedTable → Controller
+with_table c table = record c { table = table }
 
 -- ---- a submission region more
--- the state of the region, of which nothing was submitted
-abbrev pub begun_sq : Controller → ℕ → ℕ → SqState
-begun_sq c r n = record (sq_at c.sqs r) { ring = first_ring n }
-
--- the controller with it
-abbrev pub with_sq_region : Controller → TableFields → ℕ → ℕ → Controller
-with_sq_region c table r n = record c { table = table; sqs = slice_set c.sqs r (begun_sq c r n) }
-
 module _ (rules : FrontRules) (late : Bool) (notes : Notes) (c : Controller) (pool : List Slot) (s : StandsAt rules late notes c pool)
-    (table : TableFields) (a n r : ℕ) (number : r ≡ length (view_of c.table).sq_regions)
-    (fault : region_fault (view_of c.table) (view_of c.table).sq_regions a n ≡ None)
-    (takes : (start : Start) (h : TableHistory) → TableStandsAt start (view_of c.table) h → TableStandsAt start (view_of table) (RegionAdded Submission a n ∷ h))
-    (sized : IsSized (view_of table)) (counts : HasCounts (first_ring n) 0 0)
+    (table : PlacedTable) (a n r : ℕ) (on : placing_of c.table ≡ None) (number : r ≡ length (content_of c.table).sq_regions)
+    (takes : (start : Start) (h : TableHistory) → Tells c.table (queue_table start h) → Tells table (queue_table start (RegionAdded Submission a n ∷ h)))
   where
+    -- the queue table with it
+    abbrev sq_table : QueueTable
+    sq_table = queue_table rules.start (RegionAdded Submission a n ∷ s.holds.tabled.history)
+
+    -- whose queues lie on regions
+    sq_on_regions : is_some sq_table.placing ≡ true → ⊥
+    sq_on_regions some =
+        let same = sq-same_placing rules.start s.holds.tabled.history s.content.table sq_table a n s.holds.tabled.table_is refl in
+        let none : is_some (placing_of c.table) ≡ true = ap (λ (p : Option Placing). is_some p) (sym (same ∙ s.numbers.tells.placing)) ∙ some in
+        cc (none, on)
+
     abbrev sq_rules : FrontRules
     sq_rules = with_region Submission a n rules
 
     abbrev sq_added : Content
-    sq_added = grown s.content (λ (x : ℕ). slots_at (sq_regions_of sq_rules) x) (λ (x : ℕ). (s.content.cq x).slots) (s.content.nsq + 1) s.content.ncq (view_of table)
+    sq_added = grown s.content (λ (x : ℕ). slots_at (sq_regions_of sq_rules) x) (λ (x : ℕ). (s.content.cq x).slots) (s.content.nsq + 1) s.content.ncq sq_table
 
     sq_is_next : r ≡ s.content.nsq
-    sq_is_next = number ∙ ap (λ (t : TableView). length t.sq_regions) s.numbers.table_is ∙ s.holds.tabled.sq_count
+    sq_is_next = number ∙ ap (λ (rs : List Region). length rs) (s.numbers.tells.by_regions on).sq_regions ∙ s.holds.tabled.sq_count
 
     sq_is_last : length (sq_regions_of rules) ≡ r
     sq_is_last = s.holds.tabled.sq_number ∙ sym sq_is_next
 
-    sq_few : r < 65
-    sq_few = let most = s.holds.tabled.few_sqs in let other = added_few (view_of c.table) (view_of c.table).sq_regions a n fault in omega (arith, most, other, number, sq_is_next)
-
-    sq_inside : r < length c.sqs
-    sq_inside = omega (arith, sq_few, s.numbers.sq_size)
-
     -- the slots of the regions
-    sq_slots_here : n ≡ slots_at (sq_regions_of sq_rules) r
-    sq_slots_here = sym (ap (λ (rs : List Region). slots_at rs r) (sq-more a n rules)
-        ∙ subst (λ (x : ℕ). slots_at (sq_regions_of rules ++ record { address = a; slots = n } ∷ []) x ≡ n) sq_is_last (slots_last (sq_regions_of rules) (record { address = a; slots = n })))
-
     sq_slots_others : (x : ℕ) → x ≢ r → slots_at (sq_regions_of sq_rules) x ≡ slots_at (sq_regions_of rules) x
     sq_slots_others x other = ap (λ (rs : List Region). slots_at rs x) (sq-more a n rules)
         ∙ slots_other (sq_regions_of rules) (record { address = a; slots = n }) x (λ e. other (e ∙ sq_is_last))
@@ -165,66 +146,82 @@ module _ (rules : FrontRules) (late : Bool) (notes : Notes) (c : Controller) (po
     cq_slots_left : (x : ℕ) → slots_at (cq_regions_of sq_rules) x ≡ slots_at (cq_regions_of rules) x
     cq_slots_left x = ap (λ (rs : List Region). slots_at rs x) (sq-same a n rules)
 
-    -- the region wasn't there
-    sq_was_none : (sq_at c.sqs r).ring.slots ≡ 0
-    sq_was_none = s.numbers.sq_slots r ∙ sym (s.holds.tabled.sq_slots r) ∙ slots_past (sq_regions_of rules) r (omega (arith, sq_is_last))
-
-    sq_grows : Grows rules (is_late rules late notes a) (logged notes) sq_rules.regions s.content (λ (x : ℕ). slots_at (sq_regions_of sq_rules) x) (λ (x : ℕ). (s.content.cq x).slots) (s.content.nsq + 1) s.content.ncq (view_of table)
+    sq_grows : Grows rules (is_late rules late notes a) (logged notes) sq_rules.regions s.content (λ (x : ℕ). slots_at (sq_regions_of sq_rules) x) (λ (x : ℕ). (s.content.cq x).slots) (s.content.nsq + 1) s.content.ncq sq_table
     sq_grows =
         let h = s.holds.tabled.history in
-        let before : TableStandsAt rules.start s.content.table h = s.holds.tabled.stands in
-        let after : TableStandsAt rules.start (view_of table) (RegionAdded Submission a n ∷ h) =
-        takes rules.start h (subst (λ (t : TableView). TableStandsAt rules.start t h) (sym s.numbers.table_is) before) in
+        let before = s.holds.tabled.table_is in
+        let after : sq_table ≡ queue_table rules.start (RegionAdded Submission a n ∷ h) = refl in
         let there : 0 < length s.content.table.sq_regions = omega (arith, s.holds.tabled.sq_count, some_sqs rules late notes c pool s) in
-        let found = has_history rules Submission a n (sqs_there rules late notes c pool s) (cqs_there rules late notes c pool s) late notes h (view_of table) s.holds.tabled.history_is after in
+        let found = has_history rules Submission a n (sqs_there rules late notes c pool s) (cqs_there rules late notes c pool s) late notes h sq_table s.holds.tabled.history_is after in
         record {
           sqs = omega arith;
           cqs = omega arith;
-          same_sq = sq-same_sq rules.start h s.content.table (view_of table) a n before after there;
-          same_cq = sq-same_cq rules.start h s.content.table (view_of table) a n before after;
-          same_used = sq-same_used rules.start h s.content.table (view_of table) a n before after;
+          same_sq = sq-same_sq rules.start h s.content.table sq_table a n before after there;
+          same_cq = sq-same_cq rules.start h s.content.table sq_table a n before after;
+          same_used = sq-same_used rules.start h s.content.table sq_table a n before after;
+          same_cq_used = sq-same_cq_used rules.start h s.content.table sq_table a n before after;
           history = found.history;
-          stands = found.stands;
+          table_is = found.table_is;
+          placing_is = sq-same_placing rules.start h s.content.table sq_table a n before after ∙ s.holds.tabled.placing ∙ sym (region-placing Submission a n rules);
+          in_time = λ some. absurd (sq_on_regions some);
           history_is = found.history_is;
           own = λ on_time. early_own rules late notes c pool s Submission a n on_time;
-          sq_count = sq-more_sqs rules.start h s.content.table (view_of table) a n before after ∙ ap (λ (m : ℕ). m + 1) s.holds.tabled.sq_count;
-          cq_count = sq-same_cqs rules.start h s.content.table (view_of table) a n before after ∙ s.holds.tabled.cq_count;
+          sq_count = sq-more_sqs rules.start h s.content.table sq_table a n before after ∙ ap (λ (m : ℕ). m + 1) s.holds.tabled.sq_count;
+          cq_count = sq-same_cqs rules.start h s.content.table sq_table a n before after ∙ s.holds.tabled.cq_count;
           sq_number = ap (λ (rs : List Region). length rs) (sq-more a n rules) ∙ length_push (sq_regions_of rules) (record { address = a; slots = n }) ∙ ap (λ (m : ℕ). m + 1) s.holds.tabled.sq_number;
           cq_number = ap (λ (rs : List Region). length rs) (sq-same a n rules) ∙ s.holds.tabled.cq_number;
-          few_sqs = omega (arith, sq_few, sq_is_next);
-          few_cqs = s.holds.tabled.few_cqs;
           sq_slots_are = λ x. refl;
           cq_slots_are = λ x. cq_slots_left x ∙ s.holds.tabled.cq_slots x;
-          sq_regions_are = sq-added rules.start h s.content.table (view_of table) a n before after
+          sq_regions_are = sq-added rules.start h s.content.table sq_table a n before after
               ∙ ap (λ (rs : List Region). rs ++ record { address = a; slots = n } ∷ []) s.holds.tabled.sq_regions_are ∙ sym (sq-more a n rules);
-          cq_regions_are = sq-leaves rules.start h s.content.table (view_of table) a n before after ∙ s.holds.tabled.cq_regions_are ∙ sym (sq-same a n rules);
+          cq_regions_are = sq-leaves rules.start h s.content.table sq_table a n before after ∙ s.holds.tabled.cq_regions_are ∙ sym (sq-same a n rules);
         }
 
-    sq_numbers : HasNumbers (with_sq_region c table r n) sq_added
-    sq_numbers = record {
-      table_is = refl;
-      sized = sized;
-      board_is = s.numbers.board_is;
-      is_arbiter = s.numbers.is_arbiter;
-      outstanding_is = s.numbers.outstanding_is;
-      sq_queue = put_sq-each (λ x state. attachment_of state ≡ (s.content.sq x).queue) c.sqs r (begun_sq c r n) sq_inside (s.numbers.sq_queue r) (λ x other. s.numbers.sq_queue x);
-      sq_held = put_sq-each (λ x state. (state.held == 1) ≡ s.content.held x) c.sqs r (begun_sq c r n) sq_inside (s.numbers.sq_held r) (λ x other. s.numbers.sq_held x);
-      sq_unposted = put_sq-each (λ x state. state.unposted ≡ (s.content.sq x).unposted) c.sqs r (begun_sq c r n) sq_inside (s.numbers.sq_unposted r) (λ x other. s.numbers.sq_unposted x);
-      sq_slots = put_sq-each (λ x state. state.ring.slots ≡ slots_at (sq_regions_of sq_rules) x) c.sqs r (begun_sq c r n) sq_inside sq_slots_here
-          (λ x other. s.numbers.sq_slots x ∙ sym (s.holds.tabled.sq_slots x) ∙ sym (sq_slots_others x other));
-      cq_slots = s.numbers.cq_slots;
-      sq_some = λ x below. elim (cases_eq x r) [
-        | inl same ↦ subst (λ (m : ℕ). 0 < m) (sq_slots_here ∙ ap (λ (y : ℕ). slots_at (sq_regions_of sq_rules) y) (sym same)) (added_some (view_of c.table) (view_of c.table).sq_regions a n fault)
-        | inr other ↦ subst (λ (m : ℕ). 0 < m) (sym (s.holds.tabled.sq_slots x) ∙ sym (sq_slots_others x other)) (s.numbers.sq_some x (omega (arith, below, other, sq_is_next)))
-      ];
-      sq_size = length-set c.sqs r (begun_sq c r n) ∙ s.numbers.sq_size;
-      cq_size = s.numbers.cq_size;
+    -- no queue is on the region
+    sq_apart : (x : ℕ) (a : Attachment) → (s.content.sq x).queue ≡ Some a → x ≢ r
+    sq_apart x a opened same = let below = s.holds.queues.sq_there x a opened in omega (arith, below, same, sq_is_next)
+
+    sq_left : (q x : ℕ) → s.content.sq_life q ≡ Some x → IsSqWith sq_table s.content.cq_life q x (sq_at c.sqs q) (sq_added.sq x) (s.content.held x)
+    sq_left q x is =
+        let h = s.numbers.sqs q x is in
+        let slots : (s.content.sq x).slots ≡ slots_at (sq_regions_of sq_rules) x = sym (s.holds.tabled.sq_slots x) ∙ sym (sq_slots_others x (sq_apart x (record { qid = q; cq_region = h.cq_region }) h.opened)) in
+        record {
+          entry = h.entry;
+          in_table = sq_grows.same_sq q ∙ h.in_table;
+          on = h.on;
+          to = h.to;
+          cq_region = h.cq_region;
+          cq_open = h.cq_open;
+          opened = h.opened;
+          held_is = h.held;
+          unposted = h.unposted;
+          slots = h.slots ∙ slots;
+          some = subst (λ (m : ℕ). 0 < m) slots h.some;
+        }
+
+    sq_numbers : HasNumbers (with_table c table) sq_added
+    sq_numbers = let n = s.numbers in record {
+      tells = takes rules.start s.holds.tabled.history (subst (Tells c.table) s.holds.tabled.table_is n.tells);
+      board_is = n.board_is;
+      is_arbiter = n.is_arbiter;
+      outstanding_is = n.outstanding_is;
+      sq_ids = n.sq_ids;
+      cq_ids = n.cq_ids;
+      sqs = λ q x is. sq_of_with (with_table c table) sq_added q x (sq_left q x is);
+      cqs = λ q x is. (let h = n.cqs q x is in record { slots = h.slots; some = h.some });
+      few_sqs = n.few_sqs;
+      few_cqs = n.few_cqs;
+      no_sqs = n.no_sqs;
+      no_cqs = n.no_cqs;
+      sq_size = n.sq_size;
+      cq_size = n.cq_size;
     }
 
-    sq_items : HasItems (with_sq_region c table r n) pool sq_added s.items
+    sq_items : HasItems (with_table c table) pool sq_added s.items
     sq_items = let h = s.has in record {
-      window_chain = put_sq-each (λ x state. IsChain pool state.window (tags_of (s.items.windows x))) c.sqs r (begun_sq c r n) sq_inside (h.window_chain r) (λ x other. h.window_chain x);
+      window_chain = h.window_chain;
       window_items = h.window_items;
+      window_none = h.window_none;
       window_is = h.window_is;
       picked_there = h.picked_there;
       outs_items = h.outs_items;
@@ -233,6 +230,7 @@ module _ (rules : FrontRules) (late : Bool) (notes : Notes) (c : Controller) (po
       hand_is = h.hand_is;
       ready_chain = h.ready_chain;
       ready_items = h.ready_items;
+      ready_none = h.ready_none;
       ready_is = h.ready_is;
       deletions = h.deletions;
       free_chain = h.free_chain;
@@ -240,32 +238,22 @@ module _ (rules : FrontRules) (late : Bool) (notes : Notes) (c : Controller) (po
       few = h.few;
     }
 
-    -- nothing was fetched of the region, and nothing submitted
-    sq_counts : HasCounts (first_ring n) (length (fetched (logged notes) r)) (submitted sq_rules notes r)
-    sq_counts =
-        let d = s.doorbells in
-        let none : fetched (logged notes) r ≡ [] = none_fetched rules late (is_late rules late notes a) (logged notes) s.content s.holds sq_rules.regions
-        (λ (x : ℕ). slots_at (sq_regions_of sq_rules) x) (λ (x : ℕ). (s.content.cq x).slots) (s.content.nsq + 1) s.content.ncq (view_of table) sq_grows r (omega (arith, sq_is_next)) in
-        subst (λ (m : ℕ). HasCounts (first_ring n) (length (fetched (logged notes) r)) m) (sym (submitted_none rules sq_rules notes r (d.no_tails r sq_was_none)))
-        (subst (λ (es : List Sqe). HasCounts (first_ring n) (length es) 0) (sym none) counts)
-
-    sq_doorbells : HoldsDoorbells sq_rules notes (with_sq_region c table r n)
+    -- nothing was submitted to a region that no queue was opened on, and of the others the slots are left
+    sq_doorbells : HoldsDoorbells sq_rules notes (with_table c table) sq_added
     sq_doorbells =
         let d = s.doorbells in
         record {
-          sqs = put_sq-each (λ x state. 0 < state.ring.slots → HasCounts state.ring (length (fetched (logged notes) x)) (submitted sq_rules notes x)) c.sqs r (begun_sq c r n) sq_inside
-              (λ some. sq_counts)
-              (λ x other some. subst (HasCounts (sq_at c.sqs x).ring (length (fetched (logged notes) x))) (sym (submitted_same rules sq_rules notes x (sq_slots_others x other))) (d.sqs x some));
-          cqs = λ x some. subst (λ (m : ℕ). HasCounts (cq_at c.cqs x).ring m (length (posted_to (logged notes) x))) (sym (consumed_same rules sq_rules notes x (cq_slots_left x))) (d.cqs x some);
+          sqs = λ q x is. subst (HasCounts (sq_at c.sqs q).ring (length (fetched (logged notes) x)))
+              (sym (submitted_same rules sq_rules notes x (sq_slots_others x (sq_apart x (record { qid = q; cq_region = (s.numbers.sqs q x is).cq_region }) (s.numbers.sqs q x is).opened))))
+              (d.sqs q x is);
+          cqs = λ q x is. subst (λ (m : ℕ). HasCounts (cq_at c.cqs q).ring m (length (posted_to (logged notes) x))) (sym (consumed_same rules sq_rules notes x (cq_slots_left x))) (d.cqs q x is);
           phases = d.phases;
-          no_tails = put_sq-each (λ x state. state.ring.slots ≡ 0 → submitted sq_rules notes x ≡ 0) c.sqs r (begun_sq c r n) sq_inside
-              (λ none. submitted_none rules sq_rules notes r (d.no_tails r sq_was_none))
-              (λ x other none. submitted_same rules sq_rules notes x (sq_slots_others x other) ∙ d.no_tails x none);
-          no_heads = λ x none. consumed_same rules sq_rules notes x (cq_slots_left x) ∙ d.no_heads x none;
+          no_tails = λ x none. submitted_none rules sq_rules notes x (d.no_tails x none);
+          no_heads = λ x none. consumed_none rules sq_rules notes x (d.no_heads x none);
           no_posts = d.no_posts;
         }
 
-    sq_tags : HoldsTags notes (with_sq_region c table r n) pool s.items
+    sq_tags : HoldsTags notes (with_table c table) pool sq_added s.items
     sq_tags = let t = s.tags in record {
       untaken_are = t.untaken_are;
       outs_held = t.outs_held;
@@ -286,62 +274,50 @@ module _ (rules : FrontRules) (late : Bool) (notes : Notes) (c : Controller) (po
     }
 
     -- the controller stands with the region
-    pub sq_region-stands : StandsAt sq_rules (is_late rules late notes a) notes (with_sq_region c table r n) pool
+    pub sq_region-stands : StandsAt sq_rules (is_late rules late notes a) notes (with_table c table) pool
     sq_region-stands = record {
       content = sq_added;
       items = s.items;
       holds = holds_when_grown rules late (is_late rules late notes a) (logged notes) s.content s.holds sq_rules.regions
-          (λ (x : ℕ). slots_at (sq_regions_of sq_rules) x) (λ (x : ℕ). (s.content.cq x).slots) (s.content.nsq + 1) s.content.ncq (view_of table) sq_grows;
+          (λ (x : ℕ). slots_at (sq_regions_of sq_rules) x) (λ (x : ℕ). (s.content.cq x).slots) (s.content.nsq + 1) s.content.ncq sq_table sq_grows;
       numbers = sq_numbers;
       has = sq_items;
       doorbells = sq_doorbells;
       tags = sq_tags;
       shown = record { held = s.shown.held; classed = s.shown.classed };
+      regions = record { sqs = λ some. absurd (sq_on_regions some); cqs = λ some. absurd (sq_on_regions some) };
       account = λ on_time. early_account rules late notes c pool s Submission a n on_time;
     }
 
 -- ---- a completion region more
--- the state of the region, of which nothing was consumed
-abbrev pub begun_cq : Controller → ℕ → ℕ → CqState
-begun_cq c r n = record (cq_at c.cqs r) { ring = first_ring n }
-
--- the controller with it
-abbrev pub with_cq_region : Controller → TableFields → ℕ → ℕ → Controller
-with_cq_region c table r n = record c { table = table; cqs = slice_set c.cqs r (begun_cq c r n) }
-
--- the phase tag of a ring of which nothing was posted
-first_phase : (n : ℕ) → phase_after 0 n ≡ true
-first_phase n = ap (λ (x : ℕ). x % 2 == 0) (zero-div n)
-
 module _ (rules : FrontRules) (late : Bool) (notes : Notes) (c : Controller) (pool : List Slot) (s : StandsAt rules late notes c pool)
-    (table : TableFields) (a n r : ℕ) (number : r ≡ length (view_of c.table).cq_regions)
-    (fault : region_fault (view_of c.table) (view_of c.table).cq_regions a n ≡ None)
-    (takes : (start : Start) (h : TableHistory) → TableStandsAt start (view_of c.table) h → TableStandsAt start (view_of table) (RegionAdded Completion a n ∷ h))
-    (sized : IsSized (view_of table)) (counts : HasCounts (first_ring n) 0 0)
+    (table : PlacedTable) (a n r : ℕ) (on : placing_of c.table ≡ None) (number : r ≡ length (content_of c.table).cq_regions)
+    (takes : (start : Start) (h : TableHistory) → Tells c.table (queue_table start h) → Tells table (queue_table start (RegionAdded Completion a n ∷ h)))
   where
+    -- the queue table with it
+    abbrev cq_table : QueueTable
+    cq_table = queue_table rules.start (RegionAdded Completion a n ∷ s.holds.tabled.history)
+
+    -- whose queues lie on regions
+    cq_on_regions : is_some cq_table.placing ≡ true → ⊥
+    cq_on_regions some =
+        let same = cq-same_placing rules.start s.holds.tabled.history s.content.table cq_table a n s.holds.tabled.table_is refl in
+        let none : is_some (placing_of c.table) ≡ true = ap (λ (p : Option Placing). is_some p) (sym (same ∙ s.numbers.tells.placing)) ∙ some in
+        cc (none, on)
+
     abbrev cq_rules : FrontRules
     cq_rules = with_region Completion a n rules
 
     abbrev cq_added : Content
-    cq_added = grown s.content (λ (x : ℕ). (s.content.sq x).slots) (λ (x : ℕ). slots_at (cq_regions_of cq_rules) x) s.content.nsq (s.content.ncq + 1) (view_of table)
+    cq_added = grown s.content (λ (x : ℕ). (s.content.sq x).slots) (λ (x : ℕ). slots_at (cq_regions_of cq_rules) x) s.content.nsq (s.content.ncq + 1) cq_table
 
     cq_is_next : r ≡ s.content.ncq
-    cq_is_next = number ∙ ap (λ (t : TableView). length t.cq_regions) s.numbers.table_is ∙ s.holds.tabled.cq_count
+    cq_is_next = number ∙ ap (λ (rs : List Region). length rs) (s.numbers.tells.by_regions on).cq_regions ∙ s.holds.tabled.cq_count
 
     cq_is_last : length (cq_regions_of rules) ≡ r
     cq_is_last = s.holds.tabled.cq_number ∙ sym cq_is_next
 
-    cq_few : r < 65
-    cq_few = let most = s.holds.tabled.few_cqs in let other = added_few (view_of c.table) (view_of c.table).cq_regions a n fault in omega (arith, most, other, number, cq_is_next)
-
-    cq_inside : r < length c.cqs
-    cq_inside = omega (arith, cq_few, s.numbers.cq_size)
-
     -- the slots of the regions
-    cq_slots_here : n ≡ slots_at (cq_regions_of cq_rules) r
-    cq_slots_here = sym (ap (λ (rs : List Region). slots_at rs r) (cq-more a n rules)
-        ∙ subst (λ (x : ℕ). slots_at (cq_regions_of rules ++ record { address = a; slots = n } ∷ []) x ≡ n) cq_is_last (slots_last (cq_regions_of rules) (record { address = a; slots = n })))
-
     cq_slots_others : (x : ℕ) → x ≢ r → slots_at (cq_regions_of cq_rules) x ≡ slots_at (cq_regions_of rules) x
     cq_slots_others x other = ap (λ (rs : List Region). slots_at rs x) (cq-more a n rules)
         ∙ slots_other (cq_regions_of rules) (record { address = a; slots = n }) x (λ e. other (e ∙ cq_is_last))
@@ -349,71 +325,91 @@ module _ (rules : FrontRules) (late : Bool) (notes : Notes) (c : Controller) (po
     sq_slots_left : (x : ℕ) → slots_at (sq_regions_of cq_rules) x ≡ slots_at (sq_regions_of rules) x
     sq_slots_left x = ap (λ (rs : List Region). slots_at rs x) (cq-same a n rules)
 
-    -- the region wasn't there
-    cq_was_none : (cq_at c.cqs r).ring.slots ≡ 0
-    cq_was_none = s.numbers.cq_slots r ∙ sym (s.holds.tabled.cq_slots r) ∙ slots_past (cq_regions_of rules) r (omega (arith, cq_is_last))
-
-    cq_grows : Grows rules (is_late rules late notes a) (logged notes) cq_rules.regions s.content (λ (x : ℕ). (s.content.sq x).slots) (λ (x : ℕ). slots_at (cq_regions_of cq_rules) x) s.content.nsq (s.content.ncq + 1) (view_of table)
+    cq_grows : Grows rules (is_late rules late notes a) (logged notes) cq_rules.regions s.content (λ (x : ℕ). (s.content.sq x).slots) (λ (x : ℕ). slots_at (cq_regions_of cq_rules) x) s.content.nsq (s.content.ncq + 1) cq_table
     cq_grows =
         let h = s.holds.tabled.history in
-        let before : TableStandsAt rules.start s.content.table h = s.holds.tabled.stands in
-        let after : TableStandsAt rules.start (view_of table) (RegionAdded Completion a n ∷ h) =
-        takes rules.start h (subst (λ (t : TableView). TableStandsAt rules.start t h) (sym s.numbers.table_is) before) in
+        let before = s.holds.tabled.table_is in
+        let after : cq_table ≡ queue_table rules.start (RegionAdded Completion a n ∷ h) = refl in
         let there : 0 < length s.content.table.cq_regions = omega (arith, s.holds.tabled.cq_count, some_cqs rules late notes c pool s) in
-        let found = has_history rules Completion a n (sqs_there rules late notes c pool s) (cqs_there rules late notes c pool s) late notes h (view_of table) s.holds.tabled.history_is after in
+        let found = has_history rules Completion a n (sqs_there rules late notes c pool s) (cqs_there rules late notes c pool s) late notes h cq_table s.holds.tabled.history_is after in
         record {
           sqs = omega arith;
           cqs = omega arith;
-          same_sq = cq-same_sq rules.start h s.content.table (view_of table) a n before after;
-          same_cq = cq-same_cq rules.start h s.content.table (view_of table) a n before after there;
-          same_used = cq-same_used rules.start h s.content.table (view_of table) a n before after;
+          same_sq = cq-same_sq rules.start h s.content.table cq_table a n before after;
+          same_cq = cq-same_cq rules.start h s.content.table cq_table a n before after there;
+          same_used = cq-same_used rules.start h s.content.table cq_table a n before after;
+          same_cq_used = cq-same_cq_used rules.start h s.content.table cq_table a n before after;
           history = found.history;
-          stands = found.stands;
+          table_is = found.table_is;
+          placing_is = cq-same_placing rules.start h s.content.table cq_table a n before after ∙ s.holds.tabled.placing ∙ sym (region-placing Completion a n rules);
+          in_time = λ some. absurd (cq_on_regions some);
           history_is = found.history_is;
           own = λ on_time. early_own rules late notes c pool s Completion a n on_time;
-          sq_count = cq-same_sqs rules.start h s.content.table (view_of table) a n before after ∙ s.holds.tabled.sq_count;
-          cq_count = cq-more_cqs rules.start h s.content.table (view_of table) a n before after ∙ ap (λ (m : ℕ). m + 1) s.holds.tabled.cq_count;
+          sq_count = cq-same_sqs rules.start h s.content.table cq_table a n before after ∙ s.holds.tabled.sq_count;
+          cq_count = cq-more_cqs rules.start h s.content.table cq_table a n before after ∙ ap (λ (m : ℕ). m + 1) s.holds.tabled.cq_count;
           sq_number = ap (λ (rs : List Region). length rs) (cq-same a n rules) ∙ s.holds.tabled.sq_number;
           cq_number = ap (λ (rs : List Region). length rs) (cq-more a n rules) ∙ length_push (cq_regions_of rules) (record { address = a; slots = n }) ∙ ap (λ (m : ℕ). m + 1) s.holds.tabled.cq_number;
-          few_sqs = s.holds.tabled.few_sqs;
-          few_cqs = omega (arith, cq_few, cq_is_next);
           sq_slots_are = λ x. sq_slots_left x ∙ s.holds.tabled.sq_slots x;
           cq_slots_are = λ x. refl;
-          sq_regions_are = cq-leaves rules.start h s.content.table (view_of table) a n before after ∙ s.holds.tabled.sq_regions_are ∙ sym (cq-same a n rules);
-          cq_regions_are = cq-added rules.start h s.content.table (view_of table) a n before after
+          sq_regions_are = cq-leaves rules.start h s.content.table cq_table a n before after ∙ s.holds.tabled.sq_regions_are ∙ sym (cq-same a n rules);
+          cq_regions_are = cq-added rules.start h s.content.table cq_table a n before after
               ∙ ap (λ (rs : List Region). rs ++ record { address = a; slots = n } ∷ []) s.holds.tabled.cq_regions_are ∙ sym (cq-more a n rules);
         }
 
-    cq_numbers : HasNumbers (with_cq_region c table r n) cq_added
-    cq_numbers = record {
-      table_is = refl;
-      sized = sized;
-      board_is = s.numbers.board_is;
-      is_arbiter = s.numbers.is_arbiter;
-      outstanding_is = s.numbers.outstanding_is;
-      sq_queue = s.numbers.sq_queue;
-      sq_held = s.numbers.sq_held;
-      sq_unposted = s.numbers.sq_unposted;
-      sq_slots = s.numbers.sq_slots;
-      cq_slots = put_cq-each (λ x state. state.ring.slots ≡ slots_at (cq_regions_of cq_rules) x) c.cqs r (begun_cq c r n) cq_inside cq_slots_here
-          (λ x other. s.numbers.cq_slots x ∙ sym (s.holds.tabled.cq_slots x) ∙ sym (cq_slots_others x other));
-      sq_some = s.numbers.sq_some;
-      sq_size = s.numbers.sq_size;
-      cq_size = length-set c.cqs r (begun_cq c r n) ∙ s.numbers.cq_size;
+    -- no queue is on the region
+    cq_apart : (q x : ℕ) → s.content.cq_life q ≡ Some x → x ≢ r
+    cq_apart q x is same = let below = s.holds.queues.cq_there q x (sym (s.holds.lives.cqs q) ∙ is) in omega (arith, below, same, cq_is_next)
+
+    cq_slots_stay : (q x : ℕ) → s.content.cq_life q ≡ Some x → (s.content.cq x).slots ≡ slots_at (cq_regions_of cq_rules) x
+    cq_slots_stay q x is = sym (s.holds.tabled.cq_slots x) ∙ sym (cq_slots_others x (cq_apart q x is))
+
+    sq_stays : (q x : ℕ) → s.content.sq_life q ≡ Some x → IsSqWith cq_table s.content.cq_life q x (sq_at c.sqs q) (cq_added.sq x) (s.content.held x)
+    sq_stays q x is = let h = s.numbers.sqs q x is in record {
+      entry = h.entry;
+      in_table = cq_grows.same_sq q ∙ h.in_table;
+      on = h.on;
+      to = h.to;
+      cq_region = h.cq_region;
+      cq_open = h.cq_open;
+      opened = h.opened;
+      held_is = h.held;
+      unposted = h.unposted;
+      slots = h.slots;
+      some = h.some;
     }
 
-    cq_items : HasItems (with_cq_region c table r n) pool cq_added s.items
+    cq_numbers : HasNumbers (with_table c table) cq_added
+    cq_numbers = let n = s.numbers in record {
+      tells = takes rules.start s.holds.tabled.history (subst (Tells c.table) s.holds.tabled.table_is n.tells);
+      board_is = n.board_is;
+      is_arbiter = n.is_arbiter;
+      outstanding_is = n.outstanding_is;
+      sq_ids = n.sq_ids;
+      cq_ids = n.cq_ids;
+      sqs = λ q x is. sq_of_with (with_table c table) cq_added q x (sq_stays q x is);
+      cqs = λ q x is. (let h = n.cqs q x is in record { slots = h.slots ∙ cq_slots_stay q x is; some = subst (λ (m : ℕ). 0 < m) (cq_slots_stay q x is) h.some });
+      few_sqs = n.few_sqs;
+      few_cqs = n.few_cqs;
+      no_sqs = n.no_sqs;
+      no_cqs = n.no_cqs;
+      sq_size = n.sq_size;
+      cq_size = n.cq_size;
+    }
+
+    cq_items : HasItems (with_table c table) pool cq_added s.items
     cq_items = let h = s.has in record {
       window_chain = h.window_chain;
       window_items = h.window_items;
+      window_none = h.window_none;
       window_is = h.window_is;
       picked_there = h.picked_there;
       outs_items = h.outs_items;
       outs_apart = h.outs_apart;
       outs_all = h.outs_all;
       hand_is = h.hand_is;
-      ready_chain = put_cq-each (λ x state. IsChain pool state.ready (ready_tags (s.items.readies x))) c.cqs r (begun_cq c r n) cq_inside (h.ready_chain r) (λ x other. h.ready_chain x);
+      ready_chain = h.ready_chain;
       ready_items = h.ready_items;
+      ready_none = h.ready_none;
       ready_is = h.ready_is;
       deletions = h.deletions;
       free_chain = h.free_chain;
@@ -421,35 +417,21 @@ module _ (rules : FrontRules) (late : Bool) (notes : Notes) (c : Controller) (po
       few = h.few;
     }
 
-    -- nothing was posted to the region, and nothing consumed
-    cq_counts : HasCounts (first_ring n) (consumed cq_rules notes r) (length (posted_to (logged notes) r))
-    cq_counts =
-        let d = s.doorbells in
-        subst (λ (m : ℕ). HasCounts (first_ring n) m (length (posted_to (logged notes) r))) (sym (consumed_none rules cq_rules notes r (d.no_heads r cq_was_none)))
-        (subst (λ (es : List Cqe). HasCounts (first_ring n) 0 (length es)) (sym (d.no_posts r cq_was_none)) counts)
-
-    cq_doorbells : HoldsDoorbells cq_rules notes (with_cq_region c table r n)
+    -- nothing was consumed of a region that no queue was opened on, and of the others the slots are left
+    cq_doorbells : HoldsDoorbells cq_rules notes (with_table c table) cq_added
     cq_doorbells =
         let d = s.doorbells in
         record {
-          sqs = λ x some. subst (HasCounts (sq_at c.sqs x).ring (length (fetched (logged notes) x))) (sym (submitted_same rules cq_rules notes x (sq_slots_left x))) (d.sqs x some);
-          cqs = put_cq-each (λ x state. 0 < state.ring.slots → HasCounts state.ring (consumed cq_rules notes x) (length (posted_to (logged notes) x))) c.cqs r (begun_cq c r n) cq_inside
-              (λ some. cq_counts)
-              (λ x other some. subst (λ (m : ℕ). HasCounts (cq_at c.cqs x).ring m (length (posted_to (logged notes) x))) (sym (consumed_same rules cq_rules notes x (cq_slots_others x other))) (d.cqs x some));
-          phases = put_cq-each (λ x state. (state.phase == 1) ≡ phase_after (length (posted_to (logged notes) x)) state.ring.slots) c.cqs r (begun_cq c r n) cq_inside
-              (let none : length (posted_to (logged notes) r) ≡ 0 = ap (λ (es : List Cqe). length es) (d.no_posts r cq_was_none) in
-              d.phases r ∙ ap (λ (m : ℕ). phase_after m (cq_at c.cqs r).ring.slots) none ∙ first_phase (cq_at c.cqs r).ring.slots
-              ∙ sym (ap (λ (m : ℕ). phase_after m n) none ∙ first_phase n))
-              (λ x other. d.phases x);
-          no_tails = λ x none. submitted_same rules cq_rules notes x (sq_slots_left x) ∙ d.no_tails x none;
-          no_heads = put_cq-each (λ x state. state.ring.slots ≡ 0 → consumed cq_rules notes x ≡ 0) c.cqs r (begun_cq c r n) cq_inside
-              (λ none. consumed_none rules cq_rules notes r (d.no_heads r cq_was_none))
-              (λ x other none. consumed_same rules cq_rules notes x (cq_slots_others x other) ∙ d.no_heads x none);
-          no_posts = put_cq-each (λ x state. state.ring.slots ≡ 0 → posted_to (logged notes) x ≡ []) c.cqs r (begun_cq c r n) cq_inside
-              (λ none. d.no_posts r cq_was_none) (λ x other. d.no_posts x);
+          sqs = λ q x is. subst (HasCounts (sq_at c.sqs q).ring (length (fetched (logged notes) x))) (sym (submitted_same rules cq_rules notes x (sq_slots_left x))) (d.sqs q x is);
+          cqs = λ q x is. subst (λ (m : ℕ). HasCounts (cq_at c.cqs q).ring m (length (posted_to (logged notes) x)))
+              (sym (consumed_same rules cq_rules notes x (cq_slots_others x (cq_apart q x is)))) (d.cqs q x is);
+          phases = d.phases;
+          no_tails = λ x none. submitted_none rules cq_rules notes x (d.no_tails x none);
+          no_heads = λ x none. consumed_none rules cq_rules notes x (d.no_heads x none);
+          no_posts = d.no_posts;
         }
 
-    cq_tags : HoldsTags notes (with_cq_region c table r n) pool s.items
+    cq_tags : HoldsTags notes (with_table c table) pool cq_added s.items
     cq_tags = let t = s.tags in record {
       untaken_are = t.untaken_are;
       outs_held = t.outs_held;
@@ -470,16 +452,120 @@ module _ (rules : FrontRules) (late : Bool) (notes : Notes) (c : Controller) (po
     }
 
     -- the controller stands with the region
-    pub cq_region-stands : StandsAt cq_rules (is_late rules late notes a) notes (with_cq_region c table r n) pool
+    pub cq_region-stands : StandsAt cq_rules (is_late rules late notes a) notes (with_table c table) pool
     cq_region-stands = record {
       content = cq_added;
       items = s.items;
       holds = holds_when_grown rules late (is_late rules late notes a) (logged notes) s.content s.holds cq_rules.regions
-          (λ (x : ℕ). (s.content.sq x).slots) (λ (x : ℕ). slots_at (cq_regions_of cq_rules) x) s.content.nsq (s.content.ncq + 1) (view_of table) cq_grows;
+          (λ (x : ℕ). (s.content.sq x).slots) (λ (x : ℕ). slots_at (cq_regions_of cq_rules) x) s.content.nsq (s.content.ncq + 1) cq_table cq_grows;
       numbers = cq_numbers;
       has = cq_items;
       doorbells = cq_doorbells;
       tags = cq_tags;
       shown = record { held = s.shown.held; classed = s.shown.classed };
+      regions = record { sqs = λ some. absurd (cq_on_regions some); cqs = λ some. absurd (cq_on_regions some) };
       account = λ on_time. early_account rules late notes c pool s Completion a n on_time;
     }
+
+-- ---- as they are called
+abbrev error_of : AdminError → Result ℕ AdminError
+error_of e = Err e
+
+same_Err : (a b : AdminError) → error_of a ≡ error_of b → a ≡ b
+same_Err a b e = cc
+
+-- a table that a submission region was added to, or that was left
+pub record AddsSq (old new : PlacedTable) (a n : ℕ) (result : Result ℕ AdminError) : Type 0 where
+  pub anywhere : is_some (placing_of old) ≡ true → result ≡ Err TooMany
+  pub refused : placing_of old ≡ None → IfErr result (λ (e : AdminError). region_fault (content_of old) (content_of old).sq_regions a n ≡ Some e)
+  pub added : OnOk result (region_fault (content_of old) (content_of old).sq_regions a n ≡ None)
+  pub number : IfOk result (λ (r : ℕ). r ≡ length (content_of old).sq_regions)
+  pub stands : OnOk result ((start : Start) (h : TableHistory) → Tells old (queue_table start h) → Tells new (queue_table start (RegionAdded Submission a n ∷ h)))
+  pub unchanged : OnErr result (new ≡ old)
+
+-- it was added just where queues lie on regions
+sq-on : (old new : PlacedTable) (a n r : ℕ) → AddsSq old new a n (Ok r) → placing_of old ≡ None
+sq-on old new a n r h = has_none (placing_of old) (false_from_ne_true (is_some (placing_of old)) (λ some. let refused = h.anywhere some in cc))
+
+pub sq-call : (rules : FrontRules) (late : Bool) (notes : Notes) (c : Controller) (pool : List Slot) (s : StandsAt rules late notes c pool)
+    (table : PlacedTable) (a n : ℕ) (result : Result ℕ AdminError) → AddsSq c.table table a n result
+    → IfOk result (λ (r : ℕ). StandsAt (with_region Submission a n rules) (is_late rules late notes a) notes (with_table c table) pool)
+sq-call rules late notes c pool s table a n (Ok r) h = sq_region-stands rules late notes c pool s table a n r (sq-on c.table table a n r h) h.number h.stands
+sq-call rules late notes c pool s table a n (Err e) h = tt
+
+pub sq-front : (c : Controller) (pool : List Slot) (table : PlacedTable) (a n : ℕ) (result : Result ℕ AdminError) → AddsSq c.table table a n result
+    → IsController c pool → IsController (with_table c table) pool
+sq-front c pool table a n (Ok r) h i = record {
+  rules = with_region Submission a n i.rules;
+  late = is_late i.rules i.late i.notes a;
+  notes = i.notes;
+  stands = sq-call i.rules i.late i.notes c pool i.stands table a n (Ok r) h;
+}
+sq-front c pool table a n (Err e) h i = subst (λ (t : PlacedTable). IsController (with_table c t) pool) (sym h.unchanged) i
+
+pub sq-answered : (rules : FrontRules) (late : Bool) (notes : Notes) (c : Controller) (pool : List Slot) (s : StandsAt rules late notes c pool)
+    (table : PlacedTable) (a n : ℕ) (result : Result ℕ AdminError) → AddsSq c.table table a n result
+    → OnOk result (adding_fault Submission a n rules ≡ None) × IfErr result (λ (e : AdminError). adding_fault Submission a n rules ≡ Some e)
+    × IfOk result (λ (r : ℕ). r ≡ length (sq_regions_of rules))
+sq-answered rules late notes c pool s table a n (Ok r) h =
+    let on = sq-on c.table table a n r h in
+    (sym (sq-fault rules late notes c pool s a n on) ∙ h.added, tt, h.number ∙ ap (λ (rs : List Region). length rs) (table_sqs rules late notes c pool s a n on))
+sq-answered rules late notes c pool s table a n (Err e) h = (tt, by (placing_of c.table) refl, tt) where
+  by : (p : Option Placing) → placing_of c.table ≡ p → adding_fault Submission a n rules ≡ Some e
+  by None on = sym (sq-fault rules late notes c pool s a n on) ∙ h.refused on
+  by (Some p) is =
+      let some : is_some (placing_of c.table) ≡ true = ap (λ (o : Option Placing). is_some o) is in
+      anywhere-fault rules late notes c pool s a n Submission some ∙ ap Some (sym (same_Err e TooMany (h.anywhere some)))
+
+pub sq-unchanged : (c : Controller) (table : PlacedTable) (a n : ℕ) (result : Result ℕ AdminError) → AddsSq c.table table a n result
+    → OnErr result (with_table c table ≡ c)
+sq-unchanged c table a n (Ok r) h = tt
+sq-unchanged c table a n (Err e) h = ap (λ (t : PlacedTable). with_table c t) h.unchanged
+
+-- a table that a completion region was added to, or that was left
+pub record AddsCq (old new : PlacedTable) (a n : ℕ) (result : Result ℕ AdminError) : Type 0 where
+  pub anywhere : is_some (placing_of old) ≡ true → result ≡ Err TooMany
+  pub refused : placing_of old ≡ None → IfErr result (λ (e : AdminError). region_fault (content_of old) (content_of old).cq_regions a n ≡ Some e)
+  pub added : OnOk result (region_fault (content_of old) (content_of old).cq_regions a n ≡ None)
+  pub number : IfOk result (λ (r : ℕ). r ≡ length (content_of old).cq_regions)
+  pub stands : OnOk result ((start : Start) (h : TableHistory) → Tells old (queue_table start h) → Tells new (queue_table start (RegionAdded Completion a n ∷ h)))
+  pub unchanged : OnErr result (new ≡ old)
+
+-- it was added just where queues lie on regions
+cq-on : (old new : PlacedTable) (a n r : ℕ) → AddsCq old new a n (Ok r) → placing_of old ≡ None
+cq-on old new a n r h = has_none (placing_of old) (false_from_ne_true (is_some (placing_of old)) (λ some. let refused = h.anywhere some in cc))
+
+pub cq-call : (rules : FrontRules) (late : Bool) (notes : Notes) (c : Controller) (pool : List Slot) (s : StandsAt rules late notes c pool)
+    (table : PlacedTable) (a n : ℕ) (result : Result ℕ AdminError) → AddsCq c.table table a n result
+    → IfOk result (λ (r : ℕ). StandsAt (with_region Completion a n rules) (is_late rules late notes a) notes (with_table c table) pool)
+cq-call rules late notes c pool s table a n (Ok r) h = cq_region-stands rules late notes c pool s table a n r (cq-on c.table table a n r h) h.number h.stands
+cq-call rules late notes c pool s table a n (Err e) h = tt
+
+pub cq-front : (c : Controller) (pool : List Slot) (table : PlacedTable) (a n : ℕ) (result : Result ℕ AdminError) → AddsCq c.table table a n result
+    → IsController c pool → IsController (with_table c table) pool
+cq-front c pool table a n (Ok r) h i = record {
+  rules = with_region Completion a n i.rules;
+  late = is_late i.rules i.late i.notes a;
+  notes = i.notes;
+  stands = cq-call i.rules i.late i.notes c pool i.stands table a n (Ok r) h;
+}
+cq-front c pool table a n (Err e) h i = subst (λ (t : PlacedTable). IsController (with_table c t) pool) (sym h.unchanged) i
+
+pub cq-answered : (rules : FrontRules) (late : Bool) (notes : Notes) (c : Controller) (pool : List Slot) (s : StandsAt rules late notes c pool)
+    (table : PlacedTable) (a n : ℕ) (result : Result ℕ AdminError) → AddsCq c.table table a n result
+    → OnOk result (adding_fault Completion a n rules ≡ None) × IfErr result (λ (e : AdminError). adding_fault Completion a n rules ≡ Some e)
+    × IfOk result (λ (r : ℕ). r ≡ length (cq_regions_of rules))
+cq-answered rules late notes c pool s table a n (Ok r) h =
+    let on = cq-on c.table table a n r h in
+    (sym (cq-fault rules late notes c pool s a n on) ∙ h.added, tt, h.number ∙ ap (λ (rs : List Region). length rs) (table_cqs rules late notes c pool s a n on))
+cq-answered rules late notes c pool s table a n (Err e) h = (tt, by (placing_of c.table) refl, tt) where
+  by : (p : Option Placing) → placing_of c.table ≡ p → adding_fault Completion a n rules ≡ Some e
+  by None on = sym (cq-fault rules late notes c pool s a n on) ∙ h.refused on
+  by (Some p) is =
+      let some : is_some (placing_of c.table) ≡ true = ap (λ (o : Option Placing). is_some o) is in
+      anywhere-fault rules late notes c pool s a n Completion some ∙ ap Some (sym (same_Err e TooMany (h.anywhere some)))
+
+pub cq-unchanged : (c : Controller) (table : PlacedTable) (a n : ℕ) (result : Result ℕ AdminError) → AddsCq c.table table a n result
+    → OnErr result (with_table c table ≡ c)
+cq-unchanged c table a n (Ok r) h = tt
+cq-unchanged c table a n (Err e) h = ap (λ (t : PlacedTable). with_table c t) h.unchanged

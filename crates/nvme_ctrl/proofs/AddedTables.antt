@@ -7,7 +7,7 @@ use Rattle.nvme_admin.specs.History.{Start, TableHistory, RegionAdded, Submissio
 use Rattle.nvme_admin.specs.QueueTable.{admin_sq, admin_cq}
 use Rattle.nvme_admin.specs.Changes.{admin_queue as admin_entry}
 use Rattle.nvme_admin.specs.Accepted.{effects_of, queue_table, sq_at, cq_at}
-use Rattle.nvme_admin.specs.Standing.{TableView, StandsAt, sq_of, cq_of, used_at}
+use Rattle.nvme_admin.specs.QueueTable.{QueueTable}
 use Rattle.nvme_admin.specs.declared.region.Region.{Region}
 use Rattle.nvme_admin.proofs.Changed.{region-opens_admin, cq_region-opens_admin}
 use Rattle.nvme_log.specs.Rules.{FrontRules, sq_regions_of, cq_regions_of, slots_at}
@@ -23,16 +23,16 @@ admin_cq-some : (rs : List Region) → 0 < length rs → admin_cq rs ≡ Some 0
 admin_cq-some [] lt = absurd (omega arith)
 admin_cq-some (r ∷ rs) lt = refl
 
-module _ (start : Start) (h : TableHistory) (v : TableView) (stands : StandsAt start v h) where
+module _ (start : Start) (h : TableHistory) (v : QueueTable) (is : v ≡ queue_table start h) where
   -- the admin queues are in the table once their regions are there
   admin_sq-there : 0 < length v.sq_regions → sq_at start h 0 ≡ Some admin_entry
   unfolding queue_table
-  admin_sq-there some = ap admin_sq (sym stands.sq_regions) ∙ admin_sq-some v.sq_regions some
+  admin_sq-there some = ap (λ (t : QueueTable). admin_sq t.sq_regions) (sym is) ∙ admin_sq-some v.sq_regions some
 
   -- the same of the admin completion queue
   admin_cq-there : 0 < length v.cq_regions → cq_at start h 0 ≡ Some 0
   unfolding queue_table
-  admin_cq-there some = ap admin_cq (sym stands.cq_regions) ∙ admin_cq-some v.cq_regions some
+  admin_cq-there some = ap (λ (t : QueueTable). admin_cq t.cq_regions) (sym is) ∙ admin_cq-some v.cq_regions some
 
 -- what is there already stays when it is put there again
 put_again : {A : Type 0} (f : ℕ → Option A) (x : A) → f 0 ≡ Some x → (q : ℕ) → (if q == 0 then Some x else f q) ≡ f q
@@ -41,80 +41,99 @@ put_again f x here q = elim (cases_eq q 0) [
   | inr n ↦ λ j. if (ne_eqb q 0 n) j then Some x else f q
 ]
 
-module _ (start : Start) (h : TableHistory) (v w : TableView) (a n : ℕ) (before : StandsAt start v h) where
+module _ (start : Start) (h : TableHistory) (v w : QueueTable) (a n : ℕ) (before : v ≡ queue_table start h) where
   -- a new submission region leaves the submission queues of the table,
-  pub sq-same_sq : StandsAt start w (RegionAdded Submission a n ∷ h) → 0 < length v.sq_regions → (q : ℕ) → sq_of w q ≡ sq_of v q
+  pub sq-same_sq : w ≡ queue_table start (RegionAdded Submission a n ∷ h) → 0 < length v.sq_regions → (q : ℕ) → w.sq q ≡ v.sq q
   sq-same_sq after some q =
-      after.sq q ∙ region-opens_admin start h a n q ∙ put_again (λ (z : ℕ). sq_at start h z) admin_entry (admin_sq-there start h v before some) q ∙ sym (before.sq q)
+      ap (λ (t : QueueTable). t.sq q) after ∙ region-opens_admin start h a n q ∙ put_again (λ (z : ℕ). sq_at start h z) admin_entry (admin_sq-there start h v before some) q ∙ sym (ap (λ (t : QueueTable). t.sq q) before)
 
   -- its completion queues,
-  pub sq-same_cq : StandsAt start w (RegionAdded Submission a n ∷ h) → (q : ℕ) → cq_of w q ≡ cq_of v q
+  pub sq-same_cq : w ≡ queue_table start (RegionAdded Submission a n ∷ h) → (q : ℕ) → w.cq q ≡ v.cq q
   unfolding effects_of queue_table
-  sq-same_cq after q = after.cq q ∙ sym (before.cq q)
+  sq-same_cq after q = ap (λ (t : QueueTable). t.cq q) after ∙ sym (ap (λ (t : QueueTable). t.cq q) before)
 
   -- and which regions are used;
-  pub sq-same_used : StandsAt start w (RegionAdded Submission a n ∷ h) → (r : ℕ) → used_at w.sq_used r ≡ used_at v.sq_used r
+  pub sq-same_used : w ≡ queue_table start (RegionAdded Submission a n ∷ h) → (r : ℕ) → w.sq_region_used r ≡ v.sq_region_used r
   unfolding effects_of queue_table
-  sq-same_used after r = after.sq_used r ∙ sym (before.sq_used r)
+  sq-same_used after r = ap (λ (t : QueueTable). t.sq_region_used r) after ∙ sym (ap (λ (t : QueueTable). t.sq_region_used r) before)
+
+  -- of both kinds;
+  pub sq-same_cq_used : w ≡ queue_table start (RegionAdded Submission a n ∷ h) → (r : ℕ) → w.cq_region_used r ≡ v.cq_region_used r
+  unfolding effects_of queue_table
+  sq-same_cq_used after r = ap (λ (t : QueueTable). t.cq_region_used r) after ∙ sym (ap (λ (t : QueueTable). t.cq_region_used r) before)
 
   -- there is one submission region more,
-  pub sq-more_sqs : StandsAt start w (RegionAdded Submission a n ∷ h) → length w.sq_regions ≡ length v.sq_regions + 1
+  pub sq-more_sqs : w ≡ queue_table start (RegionAdded Submission a n ∷ h) → length w.sq_regions ≡ length v.sq_regions + 1
   unfolding effects_of queue_table
   sq-more_sqs after =
-      ap (λ (rs : List Region). length rs) after.sq_regions ∙ length_push (queue_table start h).sq_regions (record { address = a; slots = n })
-      ∙ ap (λ (rs : List Region). length rs + 1) (sym before.sq_regions)
+      ap (λ (t : QueueTable). length t.sq_regions) after ∙ length_push (queue_table start h).sq_regions (record { address = a; slots = n })
+      ∙ ap (λ (rs : List Region). length rs + 1) (sym (ap (λ (t : QueueTable). t.sq_regions) before))
 
   -- which is the new one,
-  pub sq-added : StandsAt start w (RegionAdded Submission a n ∷ h) → w.sq_regions ≡ v.sq_regions ++ record { address = a; slots = n } ∷ []
+  pub sq-added : w ≡ queue_table start (RegionAdded Submission a n ∷ h) → w.sq_regions ≡ v.sq_regions ++ record { address = a; slots = n } ∷ []
   unfolding effects_of queue_table
-  sq-added after = after.sq_regions ∙ ap (λ (rs : List Region). rs ++ record { address = a; slots = n } ∷ []) (sym before.sq_regions)
+  sq-added after = ap (λ (t : QueueTable). t.sq_regions) after ∙ ap (λ (rs : List Region). rs ++ record { address = a; slots = n } ∷ []) (sym (ap (λ (t : QueueTable). t.sq_regions) before))
 
   -- and the completion regions are left,
-  pub sq-leaves : StandsAt start w (RegionAdded Submission a n ∷ h) → w.cq_regions ≡ v.cq_regions
+  pub sq-leaves : w ≡ queue_table start (RegionAdded Submission a n ∷ h) → w.cq_regions ≡ v.cq_regions
   unfolding effects_of queue_table
-  sq-leaves after = after.cq_regions ∙ sym before.cq_regions
+  sq-leaves after = ap (λ (t : QueueTable). t.cq_regions) after ∙ sym (ap (λ (t : QueueTable). t.cq_regions) before)
 
   -- as many as they are
-  pub sq-same_cqs : StandsAt start w (RegionAdded Submission a n ∷ h) → length w.cq_regions ≡ length v.cq_regions
+  pub sq-same_cqs : w ≡ queue_table start (RegionAdded Submission a n ∷ h) → length w.cq_regions ≡ length v.cq_regions
   unfolding effects_of queue_table
   sq-same_cqs after = ap (λ (rs : List Region). length rs) (sq-leaves after)
 
+  -- where queues may lie stays
+  pub sq-same_placing : w ≡ queue_table start (RegionAdded Submission a n ∷ h) → w.placing ≡ v.placing
+  unfolding effects_of queue_table
+  sq-same_placing after = ap (λ (t : QueueTable). t.placing) after ∙ sym (ap (λ (t : QueueTable). t.placing) before)
+
+  pub cq-same_placing : w ≡ queue_table start (RegionAdded Completion a n ∷ h) → w.placing ≡ v.placing
+  unfolding effects_of queue_table
+  cq-same_placing after = ap (λ (t : QueueTable). t.placing) after ∙ sym (ap (λ (t : QueueTable). t.placing) before)
+
   -- a new completion region leaves the completion queues of the table,
-  pub cq-same_cq : StandsAt start w (RegionAdded Completion a n ∷ h) → 0 < length v.cq_regions → (q : ℕ) → cq_of w q ≡ cq_of v q
+  pub cq-same_cq : w ≡ queue_table start (RegionAdded Completion a n ∷ h) → 0 < length v.cq_regions → (q : ℕ) → w.cq q ≡ v.cq q
   cq-same_cq after some q =
-      after.cq q ∙ cq_region-opens_admin start h a n q ∙ put_again (λ (z : ℕ). cq_at start h z) 0 (admin_cq-there start h v before some) q ∙ sym (before.cq q)
+      ap (λ (t : QueueTable). t.cq q) after ∙ cq_region-opens_admin start h a n q ∙ put_again (λ (z : ℕ). cq_at start h z) 0 (admin_cq-there start h v before some) q ∙ sym (ap (λ (t : QueueTable). t.cq q) before)
 
   -- its submission queues,
-  pub cq-same_sq : StandsAt start w (RegionAdded Completion a n ∷ h) → (q : ℕ) → sq_of w q ≡ sq_of v q
+  pub cq-same_sq : w ≡ queue_table start (RegionAdded Completion a n ∷ h) → (q : ℕ) → w.sq q ≡ v.sq q
   unfolding effects_of queue_table
-  cq-same_sq after q = after.sq q ∙ sym (before.sq q)
+  cq-same_sq after q = ap (λ (t : QueueTable). t.sq q) after ∙ sym (ap (λ (t : QueueTable). t.sq q) before)
 
   -- and which regions are used;
-  pub cq-same_used : StandsAt start w (RegionAdded Completion a n ∷ h) → (r : ℕ) → used_at w.sq_used r ≡ used_at v.sq_used r
+  pub cq-same_used : w ≡ queue_table start (RegionAdded Completion a n ∷ h) → (r : ℕ) → w.sq_region_used r ≡ v.sq_region_used r
   unfolding effects_of queue_table
-  cq-same_used after r = after.sq_used r ∙ sym (before.sq_used r)
+  cq-same_used after r = ap (λ (t : QueueTable). t.sq_region_used r) after ∙ sym (ap (λ (t : QueueTable). t.sq_region_used r) before)
+
+  -- of both kinds;
+  pub cq-same_cq_used : w ≡ queue_table start (RegionAdded Completion a n ∷ h) → (r : ℕ) → w.cq_region_used r ≡ v.cq_region_used r
+  unfolding effects_of queue_table
+  cq-same_cq_used after r = ap (λ (t : QueueTable). t.cq_region_used r) after ∙ sym (ap (λ (t : QueueTable). t.cq_region_used r) before)
 
   -- the submission regions are left,
-  pub cq-leaves : StandsAt start w (RegionAdded Completion a n ∷ h) → w.sq_regions ≡ v.sq_regions
+  pub cq-leaves : w ≡ queue_table start (RegionAdded Completion a n ∷ h) → w.sq_regions ≡ v.sq_regions
   unfolding effects_of queue_table
-  cq-leaves after = after.sq_regions ∙ sym before.sq_regions
+  cq-leaves after = ap (λ (t : QueueTable). t.sq_regions) after ∙ sym (ap (λ (t : QueueTable). t.sq_regions) before)
 
   -- as many as they are,
-  pub cq-same_sqs : StandsAt start w (RegionAdded Completion a n ∷ h) → length w.sq_regions ≡ length v.sq_regions
+  pub cq-same_sqs : w ≡ queue_table start (RegionAdded Completion a n ∷ h) → length w.sq_regions ≡ length v.sq_regions
   unfolding effects_of queue_table
   cq-same_sqs after = ap (λ (rs : List Region). length rs) (cq-leaves after)
 
   -- and there is one completion region more,
-  pub cq-more_cqs : StandsAt start w (RegionAdded Completion a n ∷ h) → length w.cq_regions ≡ length v.cq_regions + 1
+  pub cq-more_cqs : w ≡ queue_table start (RegionAdded Completion a n ∷ h) → length w.cq_regions ≡ length v.cq_regions + 1
   unfolding effects_of queue_table
   cq-more_cqs after =
-      ap (λ (rs : List Region). length rs) after.cq_regions ∙ length_push (queue_table start h).cq_regions (record { address = a; slots = n })
-      ∙ ap (λ (rs : List Region). length rs + 1) (sym before.cq_regions)
+      ap (λ (t : QueueTable). length t.cq_regions) after ∙ length_push (queue_table start h).cq_regions (record { address = a; slots = n })
+      ∙ ap (λ (rs : List Region). length rs + 1) (sym (ap (λ (t : QueueTable). t.cq_regions) before))
 
   -- which is the new one
-  pub cq-added : StandsAt start w (RegionAdded Completion a n ∷ h) → w.cq_regions ≡ v.cq_regions ++ record { address = a; slots = n } ∷ []
+  pub cq-added : w ≡ queue_table start (RegionAdded Completion a n ∷ h) → w.cq_regions ≡ v.cq_regions ++ record { address = a; slots = n } ∷ []
   unfolding effects_of queue_table
-  cq-added after = after.cq_regions ∙ ap (λ (rs : List Region). rs ++ record { address = a; slots = n } ∷ []) (sym before.cq_regions)
+  cq-added after = ap (λ (t : QueueTable). t.cq_regions) after ∙ ap (λ (rs : List Region). rs ++ record { address = a; slots = n } ∷ []) (sym (ap (λ (t : QueueTable). t.cq_regions) before))
 
 -- ---- slots
 -- the slots of regions with one more

@@ -5,7 +5,7 @@ use Rattle.std.proofs.lemmas.Bool.{ne_eqb}
 use Rattle.nvme_arbiter.specs.Board.{BoardView}
 use Rattle.nvme_arbiter.specs.declared.pick.Pick.{Pick}
 use Rattle.nvme_arbiter.specs.declared.pick.Seen.{Seen}
-use Rattle.nvme_admin.specs.Standing.{TableView}
+use Rattle.nvme_admin.specs.QueueTable.{QueueTable}
 use Rattle.nvme_admin.specs.declared.verdict.Verdict.TheVariants.{BeginDelete}
 use Rattle.nvme_admin.specs.declared.verdict.Verdict.TheVariants as verdict
 use Rattle.nvme_ctrl.specs.kept.Content.{Candidate}
@@ -67,7 +67,7 @@ module _ (rules : FrontRules) (late : Bool) (past : Past) (k : Content) (seen : 
   took_request candidate rest sqid cid oldest is = took candidate rest oldest ∙ verdict_is_abort rules.start s.tabled.history candidate.entry sqid cid is
 
   -- an Abort command makes an abort of the oldest candidate that it names, where there is one
-  pub made_request : (table : TableView) (sqid cid : ℕ) (queue : Queue) → target_of past sqid ≡ Some queue
+  pub made_request : (table : QueueTable) (sqid cid : ℕ) (queue : Queue) → target_of past sqid ≡ Some queue
       → take 1 (named past queue.region cid) ≡ map (λ (c : Candidate). c.index) (option_to_list (oldest_named cid ((applied_to k picked table).sq queue.region).window))
   made_request table sqid cid queue is =
       first_named past queue.region cid (k.sq queue.region) (s.regions queue.region)
@@ -75,7 +75,7 @@ module _ (rules : FrontRules) (late : Bool) (past : Past) (k : Content) (seen : 
       (sym (put_sq-other k.sq 0 (picked_sq (k.sq 0) 1) queue.region (target_region sqid queue is)))
 
   -- that candidate is one of its region before the pick
-  pub found_before : (table : TableView) (sqid cid : ℕ) (queue : Queue) (found : Candidate) → target_of past sqid ≡ Some queue
+  pub found_before : (table : QueueTable) (sqid cid : ℕ) (queue : Queue) (found : Candidate) → target_of past sqid ≡ Some queue
       → oldest_named cid ((applied_to k picked table).sq queue.region).window ≡ Some found → oldest_named cid (k.sq queue.region).window ≡ Some found
   found_before table sqid cid queue found is here =
       ap (λ (z : SqContent). oldest_named cid z.window) (sym (put_sq-other k.sq 0 (picked_sq (k.sq 0) 1) queue.region (target_region sqid queue is))) ∙ here

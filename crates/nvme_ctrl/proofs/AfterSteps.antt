@@ -9,8 +9,9 @@ use Rattle.nvme_log.specs.Limits.{window_of}
 use Rattle.nvme_arbiter.specs.Board.{BoardView, BoardStandsAt}
 use Rattle.nvme_arbiter.specs.declared.settings.Class.{Class}
 use Rattle.nvme_admin.specs.History.{TableHistory, DeletionFinished}
+use Rattle.nvme_admin.specs.Accepted.{queue_table}
 use Rattle.nvme_admin.specs.Checks.{status_in, dw0_in}
-use Rattle.nvme_admin.specs.Standing.{TableView, StandsAt}
+use Rattle.nvme_admin.specs.QueueTable.{QueueTable}
 use Rattle.nvme_admin.specs.declared.verdict.Verdict.{Verdict}
 use Rattle.nvme_admin.specs.declared.verdict.Verdict.TheVariants.{Done, BeginDelete, CloseCq}
 use Rattle.nvme_admin.specs.declared.verdict.Verdict.TheVariants as verdict
@@ -20,12 +21,13 @@ use Rattle.nvme_log.specs.Rules.{FrontRules, Past}
 use Rattle.nvme_log.specs.Queues.{Queue, open_sq, open_cq}
 use Rattle.nvme_log.specs.Completions.{phase_after}
 use Rattle.nvme_log.specs.Effects.{made_by, target_of}
-use Rattle.nvme_ctrl.specs.kept.Content.{Candidate, Ready, PendingDelete, SqContent, CqContent, Content, with_sq, with_cq, with_ready, put_held, put_class, put_deletion}
+use Rattle.nvme_ctrl.specs.kept.Content.{Candidate, Ready, PendingDelete, SqContent, CqContent, Content, with_sq, with_cq, with_ready, put_held, put_class, put_deletion, put_life}
 use Rattle.nvme_ctrl.specs.kept.Standing.{counted_on}
 use Rattle.nvme_log.specs.declared.place.Place.{Place}
 use Rattle.nvme_log.specs.Places.{one_if}
 use Rattle.nvme_log.specs.Dispatches.{place_at}
 use Rattle.nvme_log.specs.Answers.{Answer}
+use Rattle.nvme_ctrl.specs.inside.Carrying.{opening_cq}
 use Rattle.nvme_ctrl.specs.inside.Steps.{aborted, after_pick, done, oldest_named, requested, told, without_oldest}
 
 -- a log with some events after it, in their order
@@ -89,6 +91,8 @@ with_opened k qid region cq_region class =
       board = record k.board { queues = slice_set k.board.queues qid (Some (record { class = class; count = 0 })) };
       held = put_held k.held region false;
       classed = put_class k.classed region None;
+      sq_life = put_life k.sq_life qid (Some region);
+      sq_id = put_life k.sq_id region (Some qid);
     }
 
 abbrev pub with_deleting : Content → (qid region c : ℕ) → Candidate → Content
@@ -151,10 +155,10 @@ after_post k c t rest cqe =
     }
 
 -- ---- the end of a deletion
-pub record CanClose (rules : FrontRules) (k : Content) (history : TableHistory) (d : PendingDelete) (table : TableView) : Type 0 where
+pub record CanClose (rules : FrontRules) (k : Content) (history : TableHistory) (d : PendingDelete) (table : QueueTable) : Type 0 where
   pub pending : k.deletion d.region ≡ Some d
   pub all_posted : (k.sq d.region).unposted ≡ 0
-  pub table_stands : StandsAt rules.start table (DeletionFinished d.qid ∷ history)
+  pub table_is : table ≡ queue_table rules.start (DeletionFinished d.qid ∷ history)
 
 abbrev pub closed_event : PendingDelete → Event
 closed_event d = event.ClosedSq d.qid d.region
@@ -162,8 +166,26 @@ closed_event d = event.ClosedSq d.qid d.region
 abbrev pub deleted : PendingDelete → Ready
 deleted d = record { place = d.place; sqid = 0; cid = d.cid; with_queue = false; passed = false; status = success; dw0 = 0 }
 
-abbrev pub after_closed : Content → PendingDelete → TableView → Content
-after_closed k d table = with_ready (record k { deletion = put_deletion k.deletion d.region None; table = table }) 0 (deleted d)
+-- the queue of a deletion is gone
+abbrev pub closing_sq : Content → PendingDelete → QueueTable → Content
+closing_sq k d table = record k {
+  deletion = put_deletion k.deletion d.region None;
+  table = table;
+  sq_life = put_life k.sq_life d.qid None;
+  sq_id = put_life k.sq_id d.region None;
+}
+
+abbrev pub after_closed : Content → PendingDelete → QueueTable → Content
+after_closed k d table = with_ready (closing_sq k d table) 0 (deleted d)
+
+-- a region has no identifier any more, where there is one
+abbrev pub without_id : (ℕ → Option ℕ) → Option ℕ → ℕ → Option ℕ
+without_id ids None = ids
+without_id ids (Some region) = put_life ids region None
+
+-- a completion queue is closed, which was open on a region
+abbrev pub closing_from : Content → (qid : ℕ) → Option ℕ → Content
+closing_from k qid region = record k { cq_life = put_life k.cq_life qid None; cq_id = without_id k.cq_id region }
 
 -- what an admin command leaves, by its verdict. c is the completion region of a queue that is opened or deleted, or whose candidate is aborted, and
 -- `board` is the board with new settings, or with a candidate less
@@ -175,8 +197,8 @@ abbrev pub after_admin : Past → Content → Candidate → (c : ℕ) → BoardV
 after_admin past k candidate c board (Done status dw0) = with_ready k 0 (answered candidate (Done status dw0))
 after_admin past k candidate c board (verdict.OpenSq qid region cqid class) =
     with_ready (with_opened k qid region c class) 0 (answered candidate (verdict.OpenSq qid region cqid class))
-after_admin past k candidate c board (verdict.OpenCq qid region) = with_ready k 0 (answered candidate (verdict.OpenCq qid region))
-after_admin past k candidate c board (CloseCq qid) = with_ready k 0 (answered candidate (CloseCq qid))
+after_admin past k candidate c board (verdict.OpenCq qid region) = with_ready (opening_cq k qid region) 0 (answered candidate (verdict.OpenCq qid region))
+after_admin past k candidate c board (CloseCq qid) = with_ready (closing_from k qid (open_cq past qid)) 0 (answered candidate (CloseCq qid))
 after_admin past k candidate c board (verdict.SetArbitration settings) =
     with_ready (record k { board = board }) 0 (answered candidate (verdict.SetArbitration settings))
 after_admin past k candidate c board (BeginDelete qid) = deleting_from k qid c candidate (open_sq past qid)

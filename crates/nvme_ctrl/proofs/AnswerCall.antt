@@ -1,7 +1,7 @@
 -- The device answers a command: the controller stands at its log afterwards.
 use Rattle.std.proofs.Common.{◌&&◌, eqb-true}
 use Rattle.std.proofs.Common.{◌≡◌, ◌≢◌, ℕ, ◌+◌, ◌<◌, ◌≤◌, ◌^◌, ◌==◌, ◌&&◌, Bool, true, false, if◌then◌else◌, List, [], ◌∷◌, ◌++◌, length, drop, get_or, Option, Some, None, refl, sym, ap, ◌∙◌, subst, arith, inl, inr}
-use Rattle.std.specs.Prelude.{slice_set, is_none}
+use Rattle.std.specs.Prelude.{slice_set, is_none, unwrap_or}
 use Rattle.std.specs.List.{All}
 use Rattle.std.proofs.lemmas.Bool.{cases_eq, eq-eqb, ne_eqb}
 use Rattle.std.proofs.lemmas.List.{append_assoc, map-append, length-set}
@@ -24,24 +24,25 @@ use Rattle.nvme_ctrl.specs.Calls.{HasAnswered}
 use Rattle.nvme_ctrl.specs.declared.marks.Marks.{Marks}
 use Rattle.nvme_ctrl.specs.declared.slot.Slot.{Slot}
 use Rattle.nvme_ctrl.specs.declared.chain.Chain.{Chain}
+use Rattle.nvme_ctrl.specs.declared.ring.Ring.{Ring}
 use Rattle.nvme_ctrl.specs.declared.state.CqState.{CqState}
 use Rattle.nvme_ctrl.specs.declared.state.Controller.{Controller}
 use Rattle.nvme_ctrl.specs.kept.Content.{Content, CqContent, Ready}
 use Rattle.nvme_ctrl.specs.kept.Standing.{Holds, IsReady, answer_in}
 use Rattle.nvme_ctrl.specs.inside.Steps.{done}
-use Rattle.nvme_ctrl.specs.kept.Kept.{Item, ReadyItem, Items, IsWaitingIn, IsOutIn, IsReadyIn, IsAmongOuts, HasNumbers, HasItems, HoldsDoorbells, HoldsTags, IsThrough, IsUnanswered, HasCookie, HasReadyCookie, HasMarks, HasEntry, StandsAt, tags_of, places_of, ready_tags, readies_of, untaken, is_free, IsDevices, IsReadyOf, DeleteItem}
+use Rattle.nvme_ctrl.specs.kept.Kept.{Item, ReadyItem, Items, IsWaitingIn, IsOutIn, IsReadyIn, IsSqOf, IsCqOf, IsAmongOuts, HasNumbers, HasItems, HoldsDoorbells, HoldsTags, IsThrough, IsUnanswered, HasCookie, HasReadyCookie, HasMarks, HasEntry, StandsAt, tags_of, places_of, ready_tags, readies_of, untaken, is_free, IsDevices, IsReadyOf, DeleteItem}
 use Rattle.nvme_ctrl.specs.kept.Pool.{slot_at, item_at, put_item, bit, marks_in, IsChain, IsNew, AreApart, SameItems, SameLinks}
-use Rattle.nvme_ctrl.specs.kept.State.{sq_at, cq_at}
+use Rattle.nvme_ctrl.specs.kept.State.{no_cq_state, sq_at, cq_at}
 use Rattle.nvme_ctrl.proofs.Passed.{held_is_devices, devices_passed}
 use Rattle.nvme_ctrl.proofs.Cookies.{SameCookies, same_cookies-but, cookie_left, items_left, readies_left}
 use Rattle.nvme_ctrl.proofs.Pools.{length-put_item, item_at-put_item_same, item_at-put_item_other, chain-put_item, chain-other, length-apart, AreApart-others, IsNew-others}
 use Rattle.nvme_ctrl.proofs.PutMarks.{put_marks}
 use Rattle.nvme_ctrl.proofs.OwnStatus.{All-unmap}
 use Rattle.nvme_ctrl.proofs.ReadyHand.{All-taken}
-use Rattle.nvme_ctrl.proofs.RegionStates.{put_cq-each}
+use Rattle.nvme_ctrl.proofs.Lives.{put_cq-lives, put_cq-states}
 use Rattle.nvme_ctrl.proofs.OutTags.{still_not_out-answered, still_not_out-marked}
 use Rattle.nvme_ctrl.proofs.SlotItems.{All-both, at_put, ready_state-range, out_stays, all_waiting_stay, all_ready_stay, all_free_stay}
-use Rattle.nvme_ctrl.proofs.AnsweredPlaces.{IsOther, is_other, at_hand, has_entries, attached, answered, holds_answered, was_fetched, others_out, others_in_windows}
+use Rattle.nvme_ctrl.proofs.AnsweredPlaces.{IsOther, is_other, at_hand, has_entries, has_it, queue_is, goes_to, answered, holds_answered, was_fetched, others_out, others_in_windows}
 use Rattle.nvme_ctrl.proofs.PendingDeletions.{deletions_stay}
 
 -- ---- what the device has, without a command
@@ -58,9 +59,9 @@ among_others (x ∷ before) it after (y ∷ first) item last are other =
     record { before = x ∷ at.before; item = at.item; after = at.after; are = ap (λ (its : List Item). x ∷ its) at.are; tag = at.tag }
 
 -- a slot that isn't ready is new to those that are
-new_to_ready : (slots : List Slot) (xs : List ReadyItem) → All (IsReadyIn slots) xs → (y : ℕ) → (slot_at slots y).state ≤ 2 → IsNew y (ready_tags xs)
-new_to_ready slots xs h y low = All-map (λ (z : ℕ). z ≢ y) (λ (x : ReadyItem). x.tag) xs
-    (All-weaker (IsReadyIn slots) (λ (x : ReadyItem). x.tag ≢ y)
+new_to_ready : (ids : ℕ → Option ℕ) (slots : List Slot) (xs : List ReadyItem) → All (IsReadyIn ids slots) xs → (y : ℕ) → (slot_at slots y).state ≤ 2 → IsNew y (ready_tags xs)
+new_to_ready ids slots xs h y low = All-map (λ (z : ℕ). z ≢ y) (λ (x : ReadyItem). x.tag) xs
+    (All-weaker (IsReadyIn ids slots) (λ (x : ReadyItem). x.tag ≢ y)
     (λ x ready e. omega (arith, ready.state, (ready_state-range x.was_out x.ready.with_queue).0, ap (λ (z : ℕ). (slot_at slots z).state) e, low)) xs h)
 
 -- ---- what is so afterwards
@@ -72,11 +73,11 @@ abbrev pub answered_pool : List Slot → ℕ → Answer → Marks → List Slot
 answered_pool slots tag answer marks = put_item slots tag (answered_slot (slot_at slots tag) answer marks)
 
 abbrev pub answered_cq : Controller → ℕ → Chain → CqState
-answered_cq c x chain = record (cq_at c.cqs x) { ready = chain }
+answered_cq c q chain = record (cq_at c.cqs q) { ready = chain }
 
--- the controller, where a completion region has a ready completion more
+-- the controller, where a completion queue has a ready completion more
 abbrev pub answered_controller : Controller → ℕ → Chain → Controller
-answered_controller c x chain = record c { cqs = slice_set c.cqs x (answered_cq c x chain) }
+answered_controller c q chain = record c { cqs = slice_set c.cqs q (answered_cq c q chain) }
 
 abbrev ready_item : Item → (sqid : ℕ) → Answer → Marks → ReadyItem
 ready_item it sqid answer marks = record { tag = it.tag; ready = done sqid it.place it.entry.cid answer; was_out = true; marks = marks }
@@ -89,15 +90,22 @@ pub record IsPushed (slots : List Slot) (old : Chain) (tag : ℕ) (new : List Sl
 
 -- a command that the device has is answered
 module _ (rules : FrontRules) (late : Bool) (notes : Notes) (c : Controller) (slots : List Slot) (k : Content) (g : Items)
-    (s : Holds rules late (logged notes) k) (n : HasNumbers c k) (h : HasItems c slots k g) (t : HoldsTags notes c slots g)
+    (s : Holds rules late (logged notes) k) (n : HasNumbers c k) (h : HasItems c slots k g) (t : HoldsTags notes c slots k g)
     (before : List Item) (it : Item) (after : List Item) (are : g.outs ≡ before ++ it ∷ after) (answer : Answer) (marks : Marks) (types : answer.status.sct < 8)
     (new : List Slot) (chain : Chain)
-    (p : IsPushed (answered_pool slots it.tag answer marks) (cq_at c.cqs (sq_at c.sqs it.place.region).cq_region).ready it.tag new chain) where
+    (p : IsPushed (answered_pool slots it.tag answer marks) (cq_at c.cqs (sq_at c.sqs (slot_at slots it.tag).sqid).cqid).ready it.tag new chain) where
+  -- its queue, and the completion queue of that with its region
+  abbrev sqid : ℕ
+  sqid = (slot_at slots it.tag).sqid
+
+  abbrev cqid : ℕ
+  cqid = (sq_at c.sqs sqid).cqid
+
   abbrev x : ℕ
-  x = (sq_at c.sqs it.place.region).cq_region
+  x = goes_to rules late notes c slots k g s n h t before it after are answer
 
   abbrev item : ReadyItem
-  item = ready_item it (sq_at c.sqs it.place.region).qid answer marks
+  item = ready_item it sqid answer marks
 
   abbrev left : Items
   left = record g { outs = before ++ after; readies = λ y. if y == x then g.readies x ++ item ∷ [] else g.readies y }
@@ -105,11 +113,11 @@ module _ (rules : FrontRules) (late : Bool) (notes : Notes) (c : Controller) (sl
   abbrev later : Content
   later = answered rules late notes c slots k g s n h t before it after are answer
 
-  out : IsOutIn slots it
-  out = (All-taken (IsOutIn slots) before it after (All-same (IsOutIn slots) (before ++ it ∷ after) g.outs (sym are) h.outs_items)).0
+  out : IsOutIn k.sq_id slots it
+  out = has_it rules late notes c slots k g s n h t before it after are answer
 
-  others_are : All (IsOutIn slots) (before ++ after)
-  others_are = (All-taken (IsOutIn slots) before it after (All-same (IsOutIn slots) (before ++ it ∷ after) g.outs (sym are) h.outs_items)).1
+  others_are : All (IsOutIn k.sq_id slots) (before ++ after)
+  others_are = (All-taken (IsOutIn k.sq_id slots) before it after (All-same (IsOutIn k.sq_id slots) (before ++ it ∷ after) g.outs (sym are) h.outs_items)).1
 
   size : length new ≡ length slots
   size = p.items.size ∙ length-put_item slots it.tag (answered_slot (slot_at slots it.tag) answer marks)
@@ -126,14 +134,16 @@ module _ (rules : FrontRules) (late : Bool) (notes : Notes) (c : Controller) (sl
     | inr other ↦ ap (λ (z : Slot). z.entry) (others y other)
   ]
 
-  -- ---- the completion region
-  is_attached : (k.sq it.place.region).queue ≡ Some (record { qid = (sq_at c.sqs it.place.region).qid; cq_region = x })
-  is_attached = attached rules late notes c slots k g s n h t before it after are answer
+  -- ---- the completion queue
+  cq_life : k.cq_life cqid ≡ Some x
+  cq_life = (queue_is rules late notes c slots k g s n h t before it after are answer).cq_open
 
-  there : x < length c.cqs
-  there =
-      let below = s.queues.posts_there it.place.region (record { qid = (sq_at c.sqs it.place.region).qid; cq_region = x }) is_attached in
-      omega (arith, below, s.tabled.few_cqs, n.cq_size)
+  there : cqid < length c.cqs
+  there = subst (λ (m : ℕ). cqid < m) (sym n.cq_size) (n.few_cqs cqid x cq_life)
+
+  -- its ready completions are in a chain
+  old_chain : IsChain slots (cq_at c.cqs cqid).ready (ready_tags (g.readies x))
+  old_chain = h.ready_chain cqid x cq_life
 
   here_readies : left.readies x ≡ g.readies x ++ item ∷ []
   here_readies = rw (eq-eqb x x refl) refl
@@ -151,56 +161,60 @@ module _ (rules : FrontRules) (late : Bool) (notes : Notes) (c : Controller) (sl
       let pool : List Slot = answered_pool slots it.tag answer marks in
       let slot : Slot = answered_slot (slot_at slots it.tag) answer marks in
       chain-other pool new old xs (ready_tags (g.readies x)) (chain-put_item slots old xs it.tag slot linked)
-      (p.links (ready_tags (g.readies x)) (chain-put_item slots (cq_at c.cqs x).ready (ready_tags (g.readies x)) it.tag slot (h.ready_chain x))) p.items.size apart
+      (p.links (ready_tags (g.readies x)) (chain-put_item slots (cq_at c.cqs cqid).ready (ready_tags (g.readies x)) it.tag slot old_chain)) p.items.size apart
 
-  window_left : (r : ℕ) → IsChain new (sq_at c.sqs r).window (tags_of (g.windows r))
-  window_left r = chain_left (sq_at c.sqs r).window (tags_of (g.windows r))
+  window_left : (q r : ℕ) → k.sq_life q ≡ Some r → IsChain new (sq_at c.sqs q).window (tags_of (g.windows r))
+  window_left q r is = chain_left (sq_at c.sqs q).window (tags_of (g.windows r))
       (All-map (λ (y : ℕ). IsNew y (ready_tags (g.readies x))) (λ (y : Item). y.tag) (g.windows r)
-      (All-weaker (IsWaitingIn slots r) (λ (y : Item). IsNew y.tag (ready_tags (g.readies x)))
-      (λ y waits. new_to_ready slots (g.readies x) (h.ready_items x) y.tag (omega (arith, waits.state))) (g.windows r) (h.window_items r)))
-      (h.window_chain r)
+      (All-weaker (IsWaitingIn slots q r) (λ (y : Item). IsNew y.tag (ready_tags (g.readies x)))
+      (λ y waits. new_to_ready k.sq_id slots (g.readies x) (h.ready_items x) y.tag (omega (arith, waits.state))) (g.windows r) (h.window_items q r is)))
+      (h.window_chain q r is)
 
   free_left : IsChain new c.free g.free
   free_left = chain_left c.free g.free
       (All-weaker (is_free slots) (λ (y : ℕ). IsNew y (ready_tags (g.readies x)))
-      (λ y free. new_to_ready slots (g.readies x) (h.ready_items x) y (omega (arith, free))) g.free h.free_items)
+      (λ y free. new_to_ready k.sq_id slots (g.readies x) (h.ready_items x) y (omega (arith, free))) g.free h.free_items)
       h.free_chain
 
+  -- the region of the queue of a slot
+  abbrev region_of : ℕ → ℕ
+  region_of z = unwrap_or (k.sq_life (slot_at slots z).sqid) 0
+
   -- what is ready in a completion region goes there
-  ready_goes : (y : ℕ) → All (λ (w : ReadyItem). cq_region_of (logged notes) (slot_at slots w.tag).region ≡ Some y) (g.readies y)
-  ready_goes y = All-both (λ (w : ReadyItem). IsReady (logged notes) k.deletion y w.ready) (IsReadyIn slots)
-      (λ (w : ReadyItem). cq_region_of (logged notes) (slot_at slots w.tag).region ≡ Some y)
-      (λ w ready is_in. ap (cq_region_of (logged notes)) is_in.region ∙ ready.region) (g.readies y)
+  ready_goes : (y : ℕ) → All (λ (w : ReadyItem). cq_region_of (logged notes) (region_of w.tag) ≡ Some y) (g.readies y)
+  ready_goes y = All-both (λ (w : ReadyItem). IsReady (logged notes) k.deletion y w.ready) (IsReadyIn k.sq_id slots)
+      (λ (w : ReadyItem). cq_region_of (logged notes) (region_of w.tag) ≡ Some y)
+      (λ w ready is_in. ap (λ (o : Option ℕ). cq_region_of (logged notes) (unwrap_or o 0)) (n.sq_ids.lives_are w.ready.place.region (slot_at slots w.tag).sqid is_in.queue) ∙ ready.region) (g.readies y)
       (All-unmap (IsReady (logged notes) k.deletion y) (λ (w : ReadyItem). w.ready) (g.readies y)
       (All-same (IsReady (logged notes) k.deletion y) (readies_of (g.readies y)) (k.cq y).ready (sym (h.ready_is y)) (s.ready.each y)))
       (h.ready_items y)
 
-  other_ready : (y : ℕ) → y ≢ x → IsChain new (cq_at c.cqs y).ready (ready_tags (g.readies y))
-  other_ready y other = chain_left (cq_at c.cqs y).ready (ready_tags (g.readies y))
+  other_ready : (q y : ℕ) → k.cq_life q ≡ Some y → y ≢ x → IsChain new (cq_at c.cqs q).ready (ready_tags (g.readies y))
+  other_ready q y is other = chain_left (cq_at c.cqs q).ready (ready_tags (g.readies y))
       (All-map (λ (z : ℕ). IsNew z (ready_tags (g.readies x))) (λ (w : ReadyItem). w.tag) (g.readies y)
-      (All-weaker (λ (w : ReadyItem). cq_region_of (logged notes) (slot_at slots w.tag).region ≡ Some y) (λ (w : ReadyItem). IsNew w.tag (ready_tags (g.readies x)))
+      (All-weaker (λ (w : ReadyItem). cq_region_of (logged notes) (region_of w.tag) ≡ Some y) (λ (w : ReadyItem). IsNew w.tag (ready_tags (g.readies x)))
       (λ w goes. All-map (λ (z : ℕ). z ≢ w.tag) (λ (v : ReadyItem). v.tag) (g.readies x)
-      (All-weaker (λ (v : ReadyItem). cq_region_of (logged notes) (slot_at slots v.tag).region ≡ Some x) (λ (v : ReadyItem). v.tag ≢ w.tag)
-      (λ v comes e. other (same_Some y x (sym goes ∙ sym (ap (λ (z : ℕ). cq_region_of (logged notes) (slot_at slots z).region) e) ∙ comes)))
+      (All-weaker (λ (v : ReadyItem). cq_region_of (logged notes) (region_of v.tag) ≡ Some x) (λ (v : ReadyItem). v.tag ≢ w.tag)
+      (λ v comes e. other (same_Some y x (sym goes ∙ sym (ap (λ (z : ℕ). cq_region_of (logged notes) (region_of z)) e) ∙ comes)))
       (g.readies x) (ready_goes x)))
       (g.readies y) (ready_goes y)))
-      (h.ready_chain y)
+      (h.ready_chain q y is)
 
   here_ready : IsChain new chain (ready_tags (g.readies x) ++ it.tag ∷ [])
   here_ready =
       let slot : Slot = answered_slot (slot_at slots it.tag) answer marks in
-      let old = h.ready_chain x in
-      let fresh : IsNew it.tag (ready_tags (g.readies x)) = new_to_ready slots (g.readies x) (h.ready_items x) it.tag (omega (arith, out.state)) in
-      let many = length-apart (length slots) (it.tag ∷ ready_tags (g.readies x)) (fresh, old.apart)
-      (All-cons (λ (z : ℕ). z < length slots) it.tag (ready_tags (g.readies x)) out.inside old.inside) in
-      p.chain (ready_tags (g.readies x)) (chain-put_item slots (cq_at c.cqs x).ready (ready_tags (g.readies x)) it.tag slot old)
+      let fresh : IsNew it.tag (ready_tags (g.readies x)) = new_to_ready k.sq_id slots (g.readies x) (h.ready_items x) it.tag (omega (arith, out.state)) in
+      let many = length-apart (length slots) (it.tag ∷ ready_tags (g.readies x)) (fresh, old_chain.apart)
+      (All-cons (λ (z : ℕ). z < length slots) it.tag (ready_tags (g.readies x)) out.inside old_chain.inside) in
+      p.chain (ready_tags (g.readies x)) (chain-put_item slots (cq_at c.cqs cqid).ready (ready_tags (g.readies x)) it.tag slot old_chain)
       (subst (λ (m : ℕ). it.tag < m) (sym (length-put_item slots it.tag slot)) out.inside) fresh (omega (arith, many, h.few))
 
   -- ---- what is ready
-  item_ready : IsReadyIn new item
+  item_ready : IsReadyIn k.sq_id new item
   item_ready = record {
     state = ap (λ (z : Slot). z.state) now;
-    region = ap (λ (z : Slot). z.region) now ∙ out.region;
+    queue = out.queue ∙ sym (ap (λ (z : Slot). Some z.sqid) now);
+    sqid = ap (λ (z : Slot). z.sqid) now;
     cid = ap (λ (z : Slot). z.entry.cid) now ∙ ap (λ (e : Sqe). e.cid) out.entry;
     sct = ap (λ (z : Slot). z.sct) now;
     few_types = subst (λ (m : ℕ). m < 8) (sym (ap (λ (z : Slot). z.sct) now)) types;
@@ -210,8 +224,8 @@ module _ (rules : FrontRules) (late : Bool) (notes : Notes) (c : Controller) (sl
     marks = ap marks_in now ∙ put_marks marks;
   }
 
-  ready_left : (y : ℕ) → All (IsReadyIn new) (g.readies y)
-  ready_left y = all_ready_stay slots new it.tag size others (g.readies y) (omega (arith, out.state)) (h.ready_items y)
+  ready_left : (y : ℕ) → All (IsReadyIn k.sq_id new) (g.readies y)
+  ready_left y = all_ready_stay slots new it.tag size others k.sq_id (g.readies y) (omega (arith, out.state)) (h.ready_items y)
 
   ready_here : (later.cq x).ready ≡ readies_of (left.readies x)
   ready_here = at_here ∙ ap (λ (ts : List Ready). ts ++ item.ready ∷ []) (h.ready_is x) ∙ sym (map-append (λ (w : ReadyItem). w.ready) (g.readies x) (item ∷ []))
@@ -241,33 +255,37 @@ module _ (rules : FrontRules) (late : Bool) (notes : Notes) (c : Controller) (sl
         (among_others before it after at.before at.item at.after (sym are ∙ at.are) (λ e. other (sym at.tag ∙ e)))
   ]
 
-  hand_left : before ++ after ++ untaken c g ≡ before ++ (after ++ untaken c g)
-  hand_left = append_assoc before after (untaken c g)
+  hand_left : before ++ after ++ untaken c k g ≡ before ++ (after ++ untaken c k g)
+  hand_left = append_assoc before after (untaken c k g)
 
   deletes_other : (r : ℕ) (d : DeleteItem) → g.deletes r ≡ Some d → d.tag ≢ it.tag
   deletes_other r d at e = omega (arith, (h.deletions.items r d at).state, out.state, ap (λ (z : ℕ). (slot_at slots z).state) e)
 
   -- ---- all of it
-  pub answer-items : HasItems (answered_controller c x chain) new later left
+  pub answer-items : HasItems (answered_controller c cqid chain) new later left
   answer-items = record {
     window_chain = window_left;
-    window_items = λ r. all_waiting_stay slots new it.tag size others r (g.windows r) (λ e. omega (arith, out.state, e)) (h.window_items r);
+    window_items = λ q r is. all_waiting_stay slots new it.tag size others q r (g.windows r) (λ e. omega (arith, out.state, e)) (h.window_items q r is);
+    window_none = h.window_none;
     window_is = h.window_is;
     picked_there = h.picked_there;
-    outs_items = All-both (IsOutIn slots) (λ (y : Item). y.tag ≢ it.tag) (IsOutIn new) (λ y is_out_in other. out_stays slots new it.tag size others y other is_out_in)
+    outs_items = All-both (IsOutIn k.sq_id slots) (λ (y : Item). y.tag ≢ it.tag) (IsOutIn k.sq_id new) (λ y is_out_in other. out_stays slots new it.tag size others k.sq_id y other is_out_in)
         (before ++ after) others_are outs_other;
     outs_apart = subst AreApart (sym (map-append (λ (y : Item). y.tag) before after)) (AreApart-others (tags_of before) it.tag (tags_of after) apart_before);
     outs_all = outs_left;
-    hand_is = sym (map-append (λ (y : Item). y.place) before (after ++ untaken c g)) ∙ ap places_of (sym hand_left);
-    ready_chain = put_cq-each (λ y state. IsChain new state.ready (ready_tags (left.readies y))) c.cqs x (answered_cq c x chain) there
-        (subst (IsChain new chain) (sym (ap ready_tags here_readies ∙ map-append (λ (w : ReadyItem). w.tag) (g.readies x) (item ∷ []))) here_ready)
-        (λ y other. subst (λ (ws : List ReadyItem). IsChain new (cq_at c.cqs y).ready (ready_tags ws)) (elsewhere y other) (other_ready y other));
-    ready_items = at_put (λ y ws. All (IsReadyIn new) ws) g.readies x (g.readies x ++ item ∷ []) (All-push (IsReadyIn new) (g.readies x) item (ready_left x) item_ready) (λ y other. ready_left y);
+    hand_is = sym (map-append (λ (y : Item). y.place) before (after ++ untaken c k g)) ∙ ap places_of (sym hand_left);
+    ready_chain = put_cq-lives (λ q y state content ws. IsChain new state.ready (ready_tags ws)) k.cq_life k.cq_id n.cq_ids c.cqs k.cq g.readies cqid x (answered_cq c cqid chain)
+        (k.cq x) (g.readies x ++ item ∷ []) cq_life there
+        (subst (IsChain new chain) (sym (map-append (λ (w : ReadyItem). w.tag) (g.readies x) (item ∷ []))) here_ready)
+        (λ q y another other is. other_ready q y is other);
+    ready_items = at_put (λ y ws. All (IsReadyIn k.sq_id new) ws) g.readies x (g.readies x ++ item ∷ []) (All-push (IsReadyIn k.sq_id new) (g.readies x) item (ready_left x) item_ready) (λ y other. ready_left y);
+    ready_none = at_put (λ y ws. k.cq_id y ≡ None → ws ≡ []) g.readies x (g.readies x ++ item ∷ [])
+        (λ none. absurd (let id = n.cq_ids.ids_are cqid x cq_life in cc (none, id))) (λ y other. h.ready_none y);
     ready_is = λ y. elim (cases_eq y x) [
       | inl same ↦ subst (λ (z : ℕ). (later.cq z).ready ≡ readies_of (left.readies z)) (sym same) ready_here
       | inr other ↦ ready_at y other ∙ ready_elsewhere y other
     ];
-    deletions = deletions_stay c.deletions c.pending_deletions slots new k.deletion g.deletes it.tag size others deletes_other h.deletions;
+    deletions = deletions_stay c.deletions c.pending_deletions slots new k.sq_life k.deletion g.deletes it.tag size others deletes_other h.deletions;
     free_chain = free_left;
     free_items = all_free_stay slots new it.tag size others g.free (λ e. omega (arith, out.state, e)) h.free_items;
     few = subst (λ (m : ℕ). m < 2 ^ 16) (sym size) h.few;
@@ -276,40 +294,67 @@ module _ (rules : FrontRules) (late : Bool) (notes : Notes) (c : Controller) (sl
       ready_at : (y : ℕ) → y ≢ x → (later.cq y).ready ≡ (k.cq y).ready
       ready_at y other = rw (ne_eqb y x other) refl
 
-  pub answer-numbers : HasNumbers (answered_controller c x chain) later
+  -- ---- the numbers
+  -- the rings and the phase tags are left
+  ring_left : (q : ℕ) → (cq_at (answered_controller c cqid chain).cqs q).ring ≡ (cq_at c.cqs q).ring
+  ring_left q = put_cq-states (λ y state. state.ring ≡ (cq_at c.cqs y).ring) c.cqs cqid (answered_cq c cqid chain) there refl q (λ other. refl)
+
+  phase_left : (q : ℕ) → (cq_at (answered_controller c cqid chain).cqs q).phase ≡ (cq_at c.cqs q).phase
+  phase_left q = put_cq-states (λ y state. state.phase ≡ (cq_at c.cqs y).phase) c.cqs cqid (answered_cq c cqid chain) there refl q (λ other. refl)
+
+  sq_left : (q r : ℕ) → IsSqOf c k q r → IsSqOf (answered_controller c cqid chain) later q r
+  sq_left q r a = record {
+    entry = a.entry;
+    in_table = a.in_table;
+    on = a.on;
+    to = a.to;
+    cq_region = a.cq_region;
+    cq_open = a.cq_open;
+    opened = a.opened;
+    held = a.held;
+    unposted = a.unposted;
+    slots = a.slots;
+    some = a.some;
+  }
+
+  cq_left : (q y : ℕ) → IsCqOf c k q y → IsCqOf (answered_controller c cqid chain) later q y
+  cq_left q y a = record {
+    slots = ap (λ (r : Ring). r.slots) (ring_left q) ∙ a.slots ∙ sym (same_slots y);
+    some = subst (λ (m : ℕ). 0 < m) (sym (same_slots y)) a.some;
+  }
+
+  pub answer-numbers : HasNumbers (answered_controller c cqid chain) later
   answer-numbers = record {
-    table_is = n.table_is;
-    sized = n.sized;
+    tells = n.tells;
     board_is = n.board_is;
     is_arbiter = n.is_arbiter;
     outstanding_is = n.outstanding_is;
-    sq_queue = n.sq_queue;
-    sq_held = n.sq_held;
-    sq_unposted = n.sq_unposted;
-    sq_slots = n.sq_slots;
-    cq_slots = put_cq-each (λ y state. state.ring.slots ≡ (later.cq y).slots) c.cqs x (answered_cq c x chain) there (n.cq_slots x ∙ sym (same_slots x))
-        (λ y other. n.cq_slots y ∙ sym (same_slots y));
-    sq_some = n.sq_some;
+    sq_ids = n.sq_ids;
+    cq_ids = n.cq_ids;
+    sqs = λ q r is. sq_left q r (n.sqs q r is);
+    cqs = λ q y is. cq_left q y (n.cqs q y is);
+    few_sqs = n.few_sqs;
+    few_cqs = n.few_cqs;
+    no_sqs = n.no_sqs;
+    no_cqs = λ q none. put_cq-states (λ y state. k.cq_life y ≡ None → state ≡ no_cq_state) c.cqs cqid (answered_cq c cqid chain) there
+        (λ closed. absurd (cc (closed, cq_life))) q (λ other. n.no_cqs q) none;
     sq_size = n.sq_size;
-    cq_size = length-set c.cqs x (answered_cq c x chain) ∙ n.cq_size;
+    cq_size = length-set c.cqs cqid (answered_cq c cqid chain) ∙ n.cq_size;
   }
 
   -- the notes afterwards
   abbrev told : Notes
   told = Marked it.place.region it.place.index marks ∷ Answered it.place.region it.place.index answer ∷ notes
 
-  pub answer-doorbells : HoldsDoorbells rules notes c → HoldsDoorbells rules told (answered_controller c x chain)
+  pub answer-doorbells : HoldsDoorbells rules notes c k → HoldsDoorbells rules told (answered_controller c cqid chain) later
   answer-doorbells d = record {
     sqs = d.sqs;
-    cqs = put_cq-each (λ y state. 0 < state.ring.slots → HasCounts state.ring (consumed rules notes y) (length (posted_to (logged notes) y)))
-        c.cqs x (answered_cq c x chain) there (d.cqs x) (λ y other. d.cqs y);
-    phases = put_cq-each (λ y state. (state.phase == 1) ≡ phase_after (length (posted_to (logged notes) y)) state.ring.slots)
-        c.cqs x (answered_cq c x chain) there (d.phases x) (λ y other. d.phases y);
+    cqs = λ q y is. subst (λ (r : Ring). HasCounts r (consumed rules notes y) (length (posted_to (logged notes) y))) (sym (ring_left q)) (d.cqs q y is);
+    phases = λ q y is. ap (λ (m : ℕ). m == 1) (phase_left q) ∙ d.phases q y is
+        ∙ ap (λ (r : Ring). phase_after (length (posted_to (logged notes) y)) r.slots) (sym (ring_left q));
     no_tails = d.no_tails;
-    no_heads = put_cq-each (λ y state. state.ring.slots ≡ 0 → consumed rules notes y ≡ 0) c.cqs x (answered_cq c x chain) there (d.no_heads x)
-        (λ y other. d.no_heads y);
-    no_posts = put_cq-each (λ y state. state.ring.slots ≡ 0 → posted_to (logged notes) y ≡ []) c.cqs x (answered_cq c x chain) there (d.no_posts x)
-        (λ y other. d.no_posts y);
+    no_heads = d.no_heads;
+    no_posts = d.no_posts;
   }
 
   -- ---- the log
@@ -363,7 +408,7 @@ module _ (rules : FrontRules) (late : Bool) (notes : Notes) (c : Controller) (sl
 
   -- it is a command of the device's
   devices : IsDevices notes it.place
-  devices = held_is_devices notes c g t.untaken_are t.passed it.tag it.place held
+  devices = held_is_devices notes c k g t.untaken_are t.passed it.tag it.place held
 
   -- what is ready is of other places
   ready_other : (w : ReadyItem) → IsThrough notes w.ready → IsOther it.place.region it.place.index w.ready.place
@@ -390,7 +435,7 @@ module _ (rules : FrontRules) (late : Bool) (notes : Notes) (c : Controller) (sl
     by true lost = absurd (cc lost)
     by false is = t.none_marked r i is
 
-  pub answer-tags : HoldsTags told (answered_controller c x chain) new left
+  pub answer-tags : HoldsTags told (answered_controller c cqid chain) new later left
   answer-tags = record {
     untaken_are = t.untaken_are;
     outs_held = (All-taken (λ (y : Item). holder notes y.tag ≡ Some y.place) before it after
@@ -411,7 +456,7 @@ module _ (rules : FrontRules) (late : Bool) (notes : Notes) (c : Controller) (sl
         let was = was_fetched rules late notes c slots k g s n h t before it after are answer in
         omega (arith, was, same_index, ap (λ (z : ℕ). length (fetched (logged notes) z)) same_region, past_all))) ∙ t.none_answered r i past_all;
     answered_held = λ y state. still_not_out-marked it.place.region it.place.index marks (Answered it.place.region it.place.index answer ∷ notes) y (not_out_now y state);
-    hand_entries = All-same (HasEntry (logged notes)) (before ++ after ++ untaken c g) (before ++ (after ++ untaken c g)) hand_left
+    hand_entries = All-same (HasEntry (logged notes)) (before ++ after ++ untaken c k g) (before ++ (after ++ untaken c k g)) hand_left
         (has_entries rules late notes c slots k g s n h t before it after are answer).1;
     free_count = t.free_count ∙ ap (λ (m : ℕ). m + all_posts (logged notes)) (sym size);
     passed = record {
@@ -477,50 +522,40 @@ module _ (rules : FrontRules) (late : Bool) (notes : Notes) (c : Controller) (sl
 -- where an item is among those that the device has
 answer-item : (rules : FrontRules) (late : Bool) (notes : Notes) (c : Controller) (slots : List Slot) (s : StandsAt rules late notes c slots)
     (before : List Item) (it : Item) (after : List Item) → s.items.outs ≡ before ++ it ∷ after → (answer : Answer) (marks : Marks) → answer.status.sct < 8
-    → (new : List Slot) (chain : Chain) (x : ℕ) → (sq_at c.sqs (slot_at slots it.tag).region).cq_region ≡ x
-    → IsPushed (answered_pool slots it.tag answer marks) (cq_at c.cqs x).ready it.tag new chain
-    → HasAnswered rules late notes it.tag answer marks (answered_controller c x chain) new
-answer-item rules late notes c slots s before it after are answer marks types new chain x goes pushed =
-    subst (λ (y : ℕ). IsPushed (answered_pool slots it.tag answer marks) (cq_at c.cqs y).ready it.tag new chain → HasAnswered rules late notes it.tag answer marks (answered_controller c y chain) new)
-    (sym (ap (λ (r : ℕ). (sq_at c.sqs r).cq_region) out.region) ∙ goes) stands pushed
-  where
-    out : IsOutIn slots it
-    out = (All-taken (IsOutIn slots) before it after (All-same (IsOutIn slots) (before ++ it ∷ after) s.items.outs (sym are) s.has.outs_items)).0
-
-    stands : IsPushed (answered_pool slots it.tag answer marks) (cq_at c.cqs (sq_at c.sqs it.place.region).cq_region).ready it.tag new chain
-        → HasAnswered rules late notes it.tag answer marks (answered_controller c (sq_at c.sqs it.place.region).cq_region chain) new
-    stands p = record {
-      region = it.place.region;
-      index = it.place.index;
-      held = answer-held rules late notes c slots s.content s.items s.holds s.numbers s.has s.tags before it after are answer marks types new chain p;
-      stands = record {
-        content = answered rules late notes c slots s.content s.items s.holds s.numbers s.has s.tags before it after are answer;
-        items = record s.items {
-          outs = before ++ after;
-          readies = λ y. if y == (sq_at c.sqs it.place.region).cq_region then s.items.readies (sq_at c.sqs it.place.region).cq_region ++ ready_item it (sq_at c.sqs it.place.region).qid answer marks ∷ []
-              else s.items.readies y;
-        };
-        holds = holds_answered rules late notes c slots s.content s.items s.holds s.numbers s.has s.tags before it after are answer;
-        numbers = answer-numbers rules late notes c slots s.content s.items s.holds s.numbers s.has s.tags before it after are answer marks types new chain p;
-        has = answer-items rules late notes c slots s.content s.items s.holds s.numbers s.has s.tags before it after are answer marks types new chain p;
-        doorbells = answer-doorbells rules late notes c slots s.content s.items s.holds s.numbers s.has s.tags before it after are answer marks types new chain p s.doorbells;
-        tags = answer-tags rules late notes c slots s.content s.items s.holds s.numbers s.has s.tags before it after are answer marks types new chain p;
-        shown = record { held = s.shown.held; classed = s.shown.classed };
-        account = λ on_time. answer-account rules late notes c slots s.content s.items s.holds s.numbers s.has s.tags before it after are answer marks types new chain p (s.account on_time);
-      };
-    }
+    → (new : List Slot) (chain : Chain)
+    → IsPushed (answered_pool slots it.tag answer marks) (cq_at c.cqs (sq_at c.sqs (slot_at slots it.tag).sqid).cqid).ready it.tag new chain
+    → HasAnswered rules late notes it.tag answer marks (answered_controller c (sq_at c.sqs (slot_at slots it.tag).sqid).cqid chain) new
+answer-item rules late notes c slots s before it after are answer marks types new chain p = record {
+  region = it.place.region;
+  index = it.place.index;
+  held = answer-held rules late notes c slots s.content s.items s.holds s.numbers s.has s.tags before it after are answer marks types new chain p;
+  stands = record {
+    content = answered rules late notes c slots s.content s.items s.holds s.numbers s.has s.tags before it after are answer;
+    items = left rules late notes c slots s.content s.items s.holds s.numbers s.has s.tags before it after are answer marks types new chain p;
+    holds = holds_answered rules late notes c slots s.content s.items s.holds s.numbers s.has s.tags before it after are answer;
+    numbers = answer-numbers rules late notes c slots s.content s.items s.holds s.numbers s.has s.tags before it after are answer marks types new chain p;
+    has = answer-items rules late notes c slots s.content s.items s.holds s.numbers s.has s.tags before it after are answer marks types new chain p;
+    doorbells = answer-doorbells rules late notes c slots s.content s.items s.holds s.numbers s.has s.tags before it after are answer marks types new chain p s.doorbells;
+    tags = answer-tags rules late notes c slots s.content s.items s.holds s.numbers s.has s.tags before it after are answer marks types new chain p;
+    shown = record { held = s.shown.held; classed = s.shown.classed };
+    regions = record { sqs = s.regions.sqs; cqs = s.regions.cqs };
+    account = λ on_time. answer-account rules late notes c slots s.content s.items s.holds s.numbers s.has s.tags before it after are answer marks types new chain p (s.account on_time);
+  };
+}
 
 -- the controller stands at its log with the note, where the slot of a command that the device has is ready
 pub answer-stands : (rules : FrontRules) (late : Bool) (notes : Notes) (c : Controller) (slots : List Slot) → StandsAt rules late notes c slots
     → (tag : ℕ) → (slot_at slots tag).state ≡ 2 → (answer : Answer) (marks : Marks) → answer.status.sct < 8
-    → (new : List Slot) (chain : Chain) (x : ℕ) → (sq_at c.sqs (slot_at slots tag).region).cq_region ≡ x
-    → IsPushed (answered_pool slots tag answer marks) (cq_at c.cqs x).ready tag new chain
-    → HasAnswered rules late notes tag answer marks (answered_controller c x chain) new
-answer-stands rules late notes c slots s tag state answer marks types new chain x =
+    → (new : List Slot) (chain : Chain) (q : ℕ) → (sq_at c.sqs (slot_at slots tag).sqid).cqid ≡ q
+    → IsPushed (answered_pool slots tag answer marks) (cq_at c.cqs q).ready tag new chain
+    → HasAnswered rules late notes tag answer marks (answered_controller c q chain) new
+answer-stands rules late notes c slots s tag state answer marks types new chain q goes =
     let at = s.has.outs_all tag state in
-    subst (λ (y : ℕ). (sq_at c.sqs (slot_at slots y).region).cq_region ≡ x → IsPushed (answered_pool slots y answer marks) (cq_at c.cqs x).ready y new chain
-    → HasAnswered rules late notes y answer marks (answered_controller c x chain) new) at.tag
-    (answer-item rules late notes c slots s at.before at.item at.after at.are answer marks types new chain x)
+    subst (λ (z : ℕ). IsPushed (answered_pool slots tag answer marks) (cq_at c.cqs z).ready tag new chain
+    → HasAnswered rules late notes tag answer marks (answered_controller c z chain) new) goes
+    (subst (λ (y : ℕ). IsPushed (answered_pool slots y answer marks) (cq_at c.cqs (sq_at c.sqs (slot_at slots y).sqid).cqid).ready y new chain
+    → HasAnswered rules late notes y answer marks (answered_controller c (sq_at c.sqs (slot_at slots y).sqid).cqid chain) new) at.tag
+    (answer-item rules late notes c slots s at.before at.item at.after at.are answer marks types new chain))
 
 -- ---- what is answered
 -- the tag of a slot that the device has is out

@@ -69,14 +69,15 @@ module _ (rules : FrontRules) (late : Bool) (past : Past) (k : Content) (cq : �
   table-left : ((c : ℕ) → (cq c).slots ≡ (k.cq c).slots) → HoldsTable rules late past k → HoldsTable rules late past (with_hand k cq hand)
   table-left slots h = record {
     history = h.history;
-    stands = h.stands;
+    table_is = h.table_is;
+    few_queues = h.few_queues;
+    in_time = h.in_time;
+    placing = h.placing;
     history_is = h.history_is;
     sq_count = h.sq_count;
     cq_count = h.cq_count;
     sq_number = h.sq_number;
     cq_number = h.cq_number;
-    few_sqs = h.few_sqs;
-    few_cqs = h.few_cqs;
     sq_slots = h.sq_slots;
     cq_slots = λ c. h.cq_slots c ∙ sym (slots c);
     sq_regions_are = h.sq_regions_are;

@@ -1,6 +1,6 @@
 -- The device answers a command: its place is none of those of the others.
-use Rattle.std.proofs.Common.{◌≡◌, ℕ, ◌<◌, ◌==◌, ◌&&◌, not, nat_lt, Bool, true, false, if◌then◌else◌, List, [], ◌∷◌, ◌++◌, length, map, take, drop, Option, Some, None, refl, sym, ap, ◌∙◌, subst, arith, inl, inr}
-use Rattle.std.specs.Prelude.{option_map}
+use Rattle.std.proofs.Common.{◌≡◌, ℕ, ◌<◌, ◌==◌, ◌&&◌, not, nat_lt, Bool, true, false, List, [], ◌∷◌, ◌++◌, length, map, take, drop, Option, Some, None, refl, sym, ap, ◌∙◌, subst, arith, inl, inr}
+use Rattle.std.specs.Prelude.{unwrap_or}
 use Rattle.std.specs.List.{All}
 use Rattle.std.proofs.lemmas.Bool.{cases_eq, eq-eqb, ne_eqb, eqb-true, ltb-true, and_parts, false_from_ne_true, true≢false}
 use Rattle.std.proofs.lemmas.List.{append_assoc, map-append, take-append-drop}
@@ -12,19 +12,18 @@ use Rattle.nvme_log.specs.Places.{fetched, fate_of, is_waiting, one_if}
 use Rattle.nvme_log.specs.declared.place.Place.{Place}
 use Rattle.nvme_ctrl.specs.Notes.{Notes, logged}
 use Rattle.nvme_ctrl.specs.declared.slot.Slot.{Slot}
-use Rattle.nvme_ctrl.specs.declared.state.SqState.{SqState}
 use Rattle.nvme_ctrl.specs.declared.state.Controller.{Controller}
-use Rattle.nvme_ctrl.specs.kept.Content.{Attachment, Candidate, Ready, Content}
+use Rattle.nvme_ctrl.specs.kept.Content.{Candidate, Ready, Content}
 use Rattle.nvme_ctrl.specs.kept.Standing.{Holds, IsInHand, times_held, held_upto, hand_of}
 use Rattle.nvme_ctrl.specs.inside.Steps.{done}
-use Rattle.nvme_ctrl.specs.kept.Kept.{Item, Items, IsWaitingIn, HasNumbers, HasItems, HoldsTags, HasEntry, places_of, candidate_of, untaken}
-use Rattle.nvme_ctrl.specs.kept.State.{sq_at, attachment_of, picked_in}
+use Rattle.nvme_ctrl.specs.kept.Kept.{Item, Items, IsWaitingIn, IsOutIn, IsSqOf, HasNumbers, HasItems, HoldsTags, HasEntry, places_of, candidate_of, untaken, picked_region, picked_of}
+use Rattle.nvme_ctrl.specs.kept.Pool.{slot_at}
+use Rattle.nvme_ctrl.specs.kept.State.{picked_in}
 use Rattle.nvme_ctrl.proofs.AfterSteps.{CanAnswer, after_answer}
 use Rattle.nvme_ctrl.proofs.OwnStatus.{All-unmap, IsAnswerable, ready_is_answerable, answerable_is_done, candidates_wait}
 use Rattle.nvme_ctrl.proofs.ReadyHand.{All-taken, times_held-append}
 use Rattle.nvme_ctrl.proofs.Standing.{holds-answer}
 use Rattle.nvme_ctrl.proofs.SlotItems.{All-both, All-parts}
-use Rattle.nvme_admin.specs.declared.bounds.TheConstants.{MAX_REGIONS}
 
 -- ---- other places
 -- a place is another than this one
@@ -47,25 +46,16 @@ none_held r i (p ∷ ps) h =
     absurd (omega (arith, sums, here, h))))
     (none_held r i ps (omega (arith, sums, h)))
 
--- ---- the queue of a region
--- a region that posts to a completion region was opened for a queue
-attachment_is : (s : SqState) (o : Option Attachment) (x : ℕ) → attachment_of s ≡ o → option_map (λ (a : Attachment). a.cq_region) o ≡ Some x
-    → o ≡ Some (record { qid = s.qid; cq_region = s.cq_region })
-attachment_is s o x is posts = by (s.opened == 0) is where
-  by : (b : Bool) → (if b then None else Some (record { qid = s.qid; cq_region = s.cq_region })) ≡ o → o ≡ Some (record { qid = s.qid; cq_region = s.cq_region })
-  by true none = (let lost : None ≡ Some x = ap (λ (a : Option Attachment). option_map (λ (b : Attachment). b.cq_region) a) none ∙ posts in cc lost)
-  by false some = sym some
-
 -- ---- a command that the device has
 module _ (rules : FrontRules) (late : Bool) (notes : Notes) (c : Controller) (slots : List Slot) (k : Content) (g : Items)
-    (s : Holds rules late (logged notes) k) (n : HasNumbers c k) (h : HasItems c slots k g) (t : HoldsTags notes c slots g)
+    (s : Holds rules late (logged notes) k) (n : HasNumbers c k) (h : HasItems c slots k g) (t : HoldsTags notes c slots k g)
     (before : List Item) (it : Item) (after : List Item) (are : g.outs ≡ before ++ it ∷ after) (answer : Answer) where
   -- the others in hand that are behind it
   abbrev pub behind : List Item
-  behind = after ++ untaken c g
+  behind = after ++ untaken c k g
 
-  pub whole : g.outs ++ untaken c g ≡ before ++ it ∷ behind
-  whole = ap (λ (its : List Item). its ++ untaken c g) are ∙ append_assoc before (it ∷ after) (untaken c g)
+  pub whole : g.outs ++ untaken c k g ≡ before ++ it ∷ behind
+  whole = ap (λ (its : List Item). its ++ untaken c k g) are ∙ append_assoc before (it ∷ after) (untaken c k g)
 
   in_hand : k.hand ≡ places_of before ++ it.place ∷ places_of behind
   in_hand = h.hand_is ∙ ap places_of whole ∙ map-append (λ (y : Item). y.place) before (it ∷ behind)
@@ -76,18 +66,27 @@ module _ (rules : FrontRules) (late : Bool) (notes : Notes) (c : Controller) (sl
 
   pub has_entries : HasEntry (logged notes) it × All (HasEntry (logged notes)) (before ++ behind)
   has_entries = All-taken (HasEntry (logged notes)) before it behind
-      (All-same (HasEntry (logged notes)) (before ++ it ∷ behind) (g.outs ++ untaken c g) (sym whole) t.hand_entries)
+      (All-same (HasEntry (logged notes)) (before ++ it ∷ behind) (g.outs ++ untaken c k g) (sym whole) t.hand_entries)
+
+  -- its slot
+  pub has_it : IsOutIn k.sq_id slots it
+  has_it = (All-taken (IsOutIn k.sq_id slots) before it after (All-same (IsOutIn k.sq_id slots) (before ++ it ∷ after) g.outs (sym are) h.outs_items)).0
 
   -- its queue, and the completion region of that
   abbrev pub sqid : ℕ
-  sqid = (sq_at c.sqs it.place.region).qid
+  sqid = (slot_at slots it.tag).sqid
+
+  life : k.sq_life sqid ≡ Some it.place.region
+  life = n.sq_ids.lives_are it.place.region sqid has_it.queue
+
+  pub queue_is : IsSqOf c k sqid it.place.region
+  queue_is = n.sqs sqid it.place.region life
 
   abbrev pub goes_to : ℕ
-  goes_to = (sq_at c.sqs it.place.region).cq_region
+  goes_to = queue_is.cq_region
 
-  pub attached : (k.sq it.place.region).queue ≡ Some (record { qid = sqid; cq_region = goes_to })
-  attached = attachment_is (sq_at c.sqs it.place.region) (k.sq it.place.region).queue at_hand.cq_region (n.sq_queue it.place.region)
-      (sym (s.queues.cq_region_is it.place.region) ∙ at_hand.attached)
+  attached : (k.sq it.place.region).queue ≡ Some (record { qid = sqid; cq_region = goes_to })
+  attached = queue_is.opened
 
   can : CanAnswer k it.place (places_of before) (places_of behind) sqid goes_to
   can = record { in_hand = in_hand; attached = attached }
@@ -119,14 +118,14 @@ module _ (rules : FrontRules) (late : Bool) (notes : Notes) (c : Controller) (sl
   -- those in hand
   others_in_hand : All (λ (y : Item). IsOther it.place.region it.place.index y.place) (before ++ behind)
   others_in_hand =
-      let held = times_held-append it.place.region it.place.index (places_of before ++ places_of behind) (held_upto k.deletion MAX_REGIONS) in
+      let held = times_held-append it.place.region it.place.index (places_of before ++ places_of behind) (held_upto k.deletion k.nsq) in
       All-unmap (IsOther it.place.region it.place.index) (λ (y : Item). y.place) (before ++ behind)
       (All-same (IsOther it.place.region it.place.index) (places_of (before ++ behind)) (places_of before ++ places_of behind) (map-append (λ (y : Item). y.place) before behind)
       (none_held it.place.region it.place.index (places_of before ++ places_of behind) (omega (arith, held, answerable.not_held))))
 
-  parts : All (λ (y : Item). IsOther it.place.region it.place.index y.place) (before ++ after) × All (λ (y : Item). IsOther it.place.region it.place.index y.place) (untaken c g)
-  parts = All-parts (λ (y : Item). IsOther it.place.region it.place.index y.place) (before ++ after) (untaken c g)
-      (All-same (λ (y : Item). IsOther it.place.region it.place.index y.place) (before ++ after ++ untaken c g) (before ++ behind) (append_assoc before after (untaken c g)) others_in_hand)
+  parts : All (λ (y : Item). IsOther it.place.region it.place.index y.place) (before ++ after) × All (λ (y : Item). IsOther it.place.region it.place.index y.place) (untaken c k g)
+  parts = All-parts (λ (y : Item). IsOther it.place.region it.place.index y.place) (before ++ after) (untaken c k g)
+      (All-same (λ (y : Item). IsOther it.place.region it.place.index y.place) (before ++ after ++ untaken c k g) (before ++ behind) (append_assoc before after (untaken c k g)) others_in_hand)
 
   pub others_out : All (λ (y : Item). IsOther it.place.region it.place.index y.place) (before ++ after)
   others_out = parts.0
@@ -139,29 +138,37 @@ module _ (rules : FrontRules) (late : Bool) (notes : Notes) (c : Controller) (sl
       (λ j. is_waiting (fate_of (logged notes) ((same_region ∙ own) j) (same_index j))) in
       true≢false (sym waits ∙ sym both ∙ served))
 
-  others_waiting : (r : ℕ) → All (λ (y : Item). IsOther it.place.region it.place.index y.place) (drop (picked_in c r) (g.windows r))
-  others_waiting r =
-      All-both (λ (y : Item). is_waiting (fate_of (logged notes) r y.place.index) ≡ true) (IsWaitingIn slots r) (λ (y : Item). IsOther it.place.region it.place.index y.place)
-      (λ y waits waiting. waiting_is_other r y waits waiting.place) (drop (picked_in c r) (g.windows r))
-      (All-unmap (λ (d : Candidate). is_waiting (fate_of (logged notes) r d.index) ≡ true) candidate_of (drop (picked_in c r) (g.windows r))
-      (All-same (λ (d : Candidate). is_waiting (fate_of (logged notes) r d.index) ≡ true) (map candidate_of (drop (picked_in c r) (g.windows r))) (k.sq r).window
-      (sym (h.window_is r)) (candidates_wait (logged notes) r (k.sq r) (s.regions r))))
-      (All-drop (IsWaitingIn slots r) (picked_in c r) (g.windows r) (h.window_items r))
+  -- in the window of a queue, those behind the picked ones wait
+  others_waiting : (q r : ℕ) → k.sq_id r ≡ Some q → All (λ (y : Item). IsOther it.place.region it.place.index y.place) (drop (picked_in c q) (g.windows r))
+  others_waiting q r id =
+      All-both (λ (y : Item). is_waiting (fate_of (logged notes) r y.place.index) ≡ true) (IsWaitingIn slots q r) (λ (y : Item). IsOther it.place.region it.place.index y.place)
+      (λ y waits waiting. waiting_is_other r y waits waiting.place) (drop (picked_in c q) (g.windows r))
+      (All-unmap (λ (d : Candidate). is_waiting (fate_of (logged notes) r d.index) ≡ true) candidate_of (drop (picked_in c q) (g.windows r))
+      (All-same (λ (d : Candidate). is_waiting (fate_of (logged notes) r d.index) ≡ true) (map candidate_of (drop (picked_in c q) (g.windows r))) (k.sq r).window
+      (sym (h.window_is r ∙ ap (λ (o : Option ℕ). map candidate_of (drop (picked_of c o) (g.windows r))) id)) (candidates_wait (logged notes) r (k.sq r) (s.regions r))))
+      (All-drop (IsWaitingIn slots q r) (picked_in c q) (g.windows r) (h.window_items q r (n.sq_ids.lives_are r q id)))
 
   -- those that are picked and not taken
-  others_picked : (r : ℕ) → All (λ (y : Item). IsOther it.place.region it.place.index y.place) (take (picked_in c r) (g.windows r))
-  others_picked r = elim (cases_eq r c.picked_region) [
+  others_picked : (q r : ℕ) → k.sq_id r ≡ Some q → All (λ (y : Item). IsOther it.place.region it.place.index y.place) (take (picked_in c q) (g.windows r))
+  others_picked q r id = elim (cases_eq q c.picked_qid) [
     | inl same ↦
-        let number : picked_in c c.picked_region ≡ c.picked = rw (eq-eqb c.picked_region c.picked_region refl) refl in
-        subst (λ (z : ℕ). All (λ (y : Item). IsOther it.place.region it.place.index y.place) (take (picked_in c z) (g.windows z))) (sym same)
-        (subst (λ (m : ℕ). All (λ (y : Item). IsOther it.place.region it.place.index y.place) (take m (g.windows c.picked_region))) (sym number) parts.1)
+        let number : picked_in c q ≡ c.picked = rw (eq-eqb q c.picked_qid same) refl in
+        let region : picked_region c k ≡ r = ap (λ (p : ℕ). unwrap_or (k.sq_life p) 0) (sym same) ∙ ap (λ (o : Option ℕ). unwrap_or o 0) (n.sq_ids.lives_are r q id) in
+        subst (λ (m : ℕ). All (λ (y : Item). IsOther it.place.region it.place.index y.place) (take m (g.windows r))) (sym number)
+        (subst (λ (z : ℕ). All (λ (y : Item). IsOther it.place.region it.place.index y.place) (take c.picked (g.windows z))) region parts.1)
     | inr other ↦
-        let number : picked_in c r ≡ 0 = rw (ne_eqb r c.picked_region other) refl in
+        let number : picked_in c q ≡ 0 = rw (ne_eqb q c.picked_qid other) refl in
         subst (λ (m : ℕ). All (λ (y : Item). IsOther it.place.region it.place.index y.place) (take m (g.windows r))) (sym number)
         (All-nil (λ (y : Item). IsOther it.place.region it.place.index y.place))
   ]
 
+  -- a region without a queue has no window
   pub others_in_windows : (r : ℕ) → All (λ (y : Item). IsOther it.place.region it.place.index y.place) (g.windows r)
-  others_in_windows r = All-same (λ (y : Item). IsOther it.place.region it.place.index y.place) (g.windows r)
-      (take (picked_in c r) (g.windows r) ++ drop (picked_in c r) (g.windows r)) (sym (take-append-drop (picked_in c r) (g.windows r)))
-      (All-append (λ (y : Item). IsOther it.place.region it.place.index y.place) (take (picked_in c r) (g.windows r)) (drop (picked_in c r) (g.windows r)) (others_picked r) (others_waiting r))
+  others_in_windows r = by (k.sq_id r) refl where
+    by : (o : Option ℕ) → k.sq_id r ≡ o → All (λ (y : Item). IsOther it.place.region it.place.index y.place) (g.windows r)
+    by None id = All-same (λ (y : Item). IsOther it.place.region it.place.index y.place) (g.windows r) [] (h.window_none r id)
+        (All-nil (λ (y : Item). IsOther it.place.region it.place.index y.place))
+    by (Some q) id = All-same (λ (y : Item). IsOther it.place.region it.place.index y.place) (g.windows r)
+        (take (picked_in c q) (g.windows r) ++ drop (picked_in c q) (g.windows r)) (sym (take-append-drop (picked_in c q) (g.windows r)))
+        (All-append (λ (y : Item). IsOther it.place.region it.place.index y.place) (take (picked_in c q) (g.windows r)) (drop (picked_in c q) (g.windows r))
+        (others_picked q r id) (others_waiting q r id))

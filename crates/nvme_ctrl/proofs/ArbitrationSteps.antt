@@ -19,7 +19,7 @@ use Rattle.nvme_arbiter.proofs.MaskLemmas.{find_qid, observed_of}
 use Rattle.nvme_arbiter.proofs.NextLemmas.{IfSome-find}
 use Rattle.nvme_admin.specs.History.{TableHistory}
 use Rattle.nvme_admin.specs.Changes.{TellsChange}
-use Rattle.nvme_admin.specs.Standing.{TableView}
+use Rattle.nvme_admin.specs.QueueTable.{QueueTable}
 use Rattle.nvme_admin.specs.declared.verdict.Verdict.{Verdict}
 use Rattle.nvme_admin.specs.declared.verdict.Verdict.TheVariants.{Done, BeginDelete, CloseCq}
 use Rattle.nvme_admin.specs.declared.verdict.Verdict.TheVariants as verdict
@@ -118,7 +118,7 @@ pick_size rules past k queue pick after can size =
     ap length can.board_queues ∙ length-set k.board.queues pick.qid (option_map (board.fewer pick.n) (queue_at k.board.queues pick.qid)) ∙ size
 
 module _ (rules : FrontRules) (late : Bool) (past : Past) (k : Content) (seen : List Seen) (pick : Pick) (picked : BoardView)
-    (candidate : Candidate) (table : TableView) (c : ℕ) (after : BoardView) (is : HoldsPick rules past seen pick picked) (size : length picked.queues ≡ queue_limit) where
+    (candidate : Candidate) (table : QueueTable) (c : ℕ) (after : BoardView) (is : HoldsPick rules past seen pick picked) (size : length picked.queues ≡ queue_limit) where
   -- a queue is opened with no candidate
   opens : (qid : ℕ) (class : Class) → (qid ≡ 0 → ⊥) → (class ≡ Admin → ⊥)
       → BoardStandsAt rules.mechanism rules.start.settings (arbitration_of (event.Pick seen pick ∷ past))

@@ -5,25 +5,24 @@ use Rattle.std.proofs.lemmas.Bool.{cases_Bool, cases_eq, cases_lt, or_parts, le-
 use Rattle.std.proofs.lemmas.List.{get_or-replicate, get_or_past, length-replicate, length-set}
 use Rattle.std.proofs.lemmas.List.Elements.{All-nil}
 use Rattle.nvme_arbiter.specs.Limits.{queue_limit}
-use Rattle.nvme_arbiter.specs.Settings.{ArbitrationFields}
 use Rattle.nvme_arbiter.specs.Board.{BoardView, BoardStandsAt}
 use Rattle.nvme_arbiter.specs.Queues.{queue_at}
 use Rattle.nvme_arbiter.specs.declared.settings.Class.TheVariants.{Admin}
-use Rattle.nvme_arbiter.specs.declared.settings.Mechanism.{Mechanism}
 use Rattle.nvme_arbiter.specs.declared.pick.OpenQueue.{OpenQueue}
 use Rattle.nvme_admin.specs.Accepted.{effects_of, queue_table}
 use Rattle.nvme_admin.specs.Changes.{admin_queue as admin_entry}
-use Rattle.nvme_admin.specs.Standing.{TableView, StandsAt, sq_of, cq_of, used_at}
-use Rattle.nvme_admin.specs.declared.bounds.TheConstants.{MAX_REGIONS}
-use Rattle.nvme_admin.specs.declared.limits.Limits.{Limits}
+use Rattle.nvme_admin.specs.QueueTable.{QueueTable}
+use Rattle.nvme_admin.specs.History.{Start, Placing, TableHistory, RegionAdded, Submission, Completion}
 use Rattle.nvme_admin.specs.declared.region.Region.{Region}
+use Rattle.nvme_admin.specs.declared.verdict.SqEntry.{SqEntry}
 use Rattle.nvme_log.specs.Rules.{FrontRules, upto, sq_regions_of, cq_regions_of, slots_at}
 use Rattle.nvme_log.specs.Queues.{Queue, admin_queue}
 use Rattle.nvme_log.specs.Places.{entry_at, fate_of, is_waiting, one_if}
 use Rattle.nvme_log.specs.Laws.{as_open}
-use Rattle.nvme_ctrl.specs.Making.{first_rules, first_regions}
+use Rattle.nvme_ctrl.specs.inside.First.{first_steps}
+use Rattle.nvme_ctrl.specs.kept.Kept.{HasRegionsMade}
 use Rattle.nvme_ctrl.specs.kept.Content.{Candidate, Attachment, Content}
-use Rattle.nvme_ctrl.specs.kept.Standing.{HoldsSq, HoldsReady, HoldsCounts, HoldsQueues, HoldsDeletion, HoldsTable, HasOwnStatus, IsReady, IsInHand, Holds, over_regions, on_board, first_queue, hand_of, held_upto, times_held}
+use Rattle.nvme_ctrl.specs.kept.Standing.{HoldsSq, HoldsReady, HoldsCounts, HoldsQueues, HoldsDeletion, HoldsLives, HoldsTable, HasOwnStatus, IsReady, IsInHand, Holds, over_regions, on_board, is_on, first_queue, hand_of, held_upto, times_held}
 use Rattle.nvme_ctrl.proofs.Readying.{sum_by-none}
 use Rattle.nvme_log.specs.declared.place.Place.{Place}
 
@@ -65,60 +64,99 @@ same_each n i a = elim (cases_lt i n) [
 abbrev first_attachment : Attachment
 first_attachment = record { qid = 0; cq_region = 0 }
 
+-- the admin queue, on region 0, is kept alone
+abbrev pub first_life : ℕ → Option ℕ
+first_life q = if q == 0 then Some 0 else None
+
+-- ---- the table of a controller with its admin regions alone
+abbrev pub first_history : Option Placing → (sq_address sq_slots cq_address cq_slots : ℕ) → TableHistory
+first_history placing sq_address sq_slots cq_address cq_slots = RegionAdded Completion cq_address cq_slots ∷ RegionAdded Submission sq_address sq_slots ∷ first_steps placing
+
+-- it has the admin queues alone
+pub record HasFirst (t : QueueTable) (sq_address sq_slots cq_address cq_slots : ℕ) : Type 0 where
+  pub sq : (q : ℕ) → t.sq q ≡ (if q == 0 then Some admin_entry else None)
+  pub cq : (q : ℕ) → t.cq q ≡ (if q == 0 then Some 0 else None)
+  pub used : (r : ℕ) → t.sq_region_used r ≡ (r == 0 || false)
+  pub cq_used : (r : ℕ) → t.cq_region_used r ≡ (r == 0 || false)
+  pub sq_regions : t.sq_regions ≡ record { address = sq_address; slots = sq_slots } ∷ []
+  pub cq_regions : t.cq_regions ≡ record { address = cq_address; slots = cq_slots } ∷ []
+  pub sqs_made : t.sqs_made ≡ 0
+  pub cqs_made : t.cqs_made ≡ 0
+
+has_first : (start : Start) (placing : Option Placing) (sq_address sq_slots cq_address cq_slots : ℕ)
+    → HasFirst (queue_table start (first_history placing sq_address sq_slots cq_address cq_slots)) sq_address sq_slots cq_address cq_slots
+unfolding effects_of queue_table
+has_first start None sq_address sq_slots cq_address cq_slots = record {
+  sq = λ q. refl;
+  cq = λ q. refl;
+  used = λ r. refl;
+  cq_used = λ r. refl;
+  sq_regions = refl;
+  cq_regions = refl;
+  sqs_made = refl;
+  cqs_made = refl;
+}
+has_first start (Some p) sq_address sq_slots cq_address cq_slots = record {
+  sq = λ q. refl;
+  cq = λ q. refl;
+  used = λ r. refl;
+  cq_used = λ r. refl;
+  sq_regions = refl;
+  cq_regions = refl;
+  sqs_made = refl;
+  cqs_made = refl;
+}
+
 -- the content of a controller with its admin regions alone
-abbrev pub first_content : FrontRules → BoardView → TableView → Content
-first_content rules board table = record {
+abbrev pub first_content : FrontRules → BoardView → Content
+first_content rules board = record {
   sq = λ (r : ℕ). record { got = []; window = []; fetched = 0; unposted = 0; queue = first_queue r; slots = slots_at (sq_regions_of rules) r };
   cq = λ (c : ℕ). record { sent = []; posted = 0; ready = []; slots = slots_at (cq_regions_of rules) c };
   nsq = 1;
   ncq = 1;
   board = board;
-  table = table;
+  table = queue_table rules.start rules.regions;
   outstanding = 0;
   deletion = λ (r : ℕ). None;
   hand = [];
   held = λ r. false;
   classed = λ r. None;
+  sq_life = first_life;
+  sq_id = first_life;
+  cq_life = first_life;
+  cq_id = first_life;
 }
 
-module _ (mechanism : Mechanism) (settings : ArbitrationFields) (limits : Limits) (sq cq : Region) (sizes : List ℕ) where
+module _ (rules : FrontRules) (placing : Option Placing) (sq_address sq_slots cq_address cq_slots : ℕ)
+    (regions_are : rules.regions ≡ first_history placing sq_address sq_slots cq_address cq_slots) where
+  pub first_table : HasFirst (queue_table rules.start rules.regions) sq_address sq_slots cq_address cq_slots
+  first_table =
+      subst (λ (h : TableHistory). HasFirst (queue_table rules.start h) sq_address sq_slots cq_address cq_slots) (sym regions_are)
+      (has_first rules.start placing sq_address sq_slots cq_address cq_slots)
+
   -- the admin regions are the first ones
-  pub first_sq_regions : sq_regions_of (first_rules mechanism settings limits sq cq sizes) ≡ record { address = sq.address; slots = sq.slots } ∷ []
-  unfolding effects_of queue_table
-  first_sq_regions = refl
+  pub first_sq_regions : sq_regions_of rules ≡ record { address = sq_address; slots = sq_slots } ∷ []
+  first_sq_regions = first_table.sq_regions
 
-  pub first_cq_regions : cq_regions_of (first_rules mechanism settings limits sq cq sizes) ≡ record { address = cq.address; slots = cq.slots } ∷ []
-  unfolding effects_of queue_table
-  first_cq_regions = refl
+  pub first_cq_regions : cq_regions_of rules ≡ record { address = cq_address; slots = cq_slots } ∷ []
+  first_cq_regions = first_table.cq_regions
 
-module _ (mechanism : Mechanism) (settings : ArbitrationFields) (limits : Limits) (sq cq : Region) (sizes : List ℕ) (board : BoardView) (table : TableView)
-    (shown : StandsAt (first_rules mechanism settings limits sq cq sizes).start table (first_regions sq cq))
-    (stands : BoardStandsAt mechanism settings [] board)
+module _ (rules : FrontRules) (placing : Option Placing) (sq_address sq_slots cq_address cq_slots : ℕ)
+    (regions_are : rules.regions ≡ first_history placing sq_address sq_slots cq_address cq_slots) (board : BoardView)
+    (stands : BoardStandsAt rules.mechanism rules.start.settings [] board)
     (queues : board.queues ≡ slice_set (replicate queue_limit None) 0 (Some (record { class = Admin; count = 0 }))) where
-  abbrev rules : FrontRules
-  rules = first_rules mechanism settings limits sq cq sizes
-
   abbrev k : Content
-  k = first_content rules board table
+  k = first_content rules board
 
   -- the table has the admin queues alone
-  table_sq : (q : ℕ) → sq_of table q ≡ (if q == 0 then Some admin_entry else None)
-  unfolding effects_of queue_table
-  table_sq q = shown.sq q
+  shown : HasFirst k.table sq_address sq_slots cq_address cq_slots
+  shown = first_table rules placing sq_address sq_slots cq_address cq_slots regions_are
 
-  table_cq : (q : ℕ) → cq_of table q ≡ (if q == 0 then Some 0 else None)
-  unfolding effects_of queue_table
-  table_cq q = shown.cq q
+  table_sqs : length k.table.sq_regions ≡ 1
+  table_sqs = ap (λ (rs : List Region). length rs) shown.sq_regions
 
-  table_used : (r : ℕ) → used_at table.sq_used r ≡ (r == 0 || false)
-  unfolding effects_of queue_table
-  table_used r = shown.sq_used r
-
-  table_sqs : length table.sq_regions ≡ 1
-  table_sqs = ap (λ (rs : List Region). length rs) (shown.sq_regions ∙ first_sq_regions mechanism settings limits sq cq sizes)
-
-  table_cqs : length table.cq_regions ≡ 1
-  table_cqs = ap (λ (rs : List Region). length rs) (shown.cq_regions ∙ first_cq_regions mechanism settings limits sq cq sizes)
+  table_cqs : length k.table.cq_regions ≡ 1
+  table_cqs = ap (λ (rs : List Region). length rs) shown.cq_regions
 
   -- the board has the admin queue alone
   board_has : (q : ℕ) → queue_at board.queues q ≡ (if q == 0 then Some (record { class = Admin; count = 0 }) else None)
@@ -156,9 +194,9 @@ module _ (mechanism : Mechanism) (settings : ArbitrationFields) (limits : Limits
   -- nothing is ready
   first_ready : HoldsReady [] k (hand_of k)
   first_ready = record {
-    once = λ r i. (λ j. over_regions-none MAX_REGIONS j + 0 + times_held r i (none_held MAX_REGIONS j)) ∙ sym (none_served i (not (is_waiting (fate_of [] r i))));
+    once = λ r i. (λ j. over_regions-none 1 j + 0 + times_held r i (none_held 1 j)) ∙ sym (none_served i (not (is_waiting (fate_of [] r i))));
     each = λ c. All-nil (IsReady [] (λ r. None) c);
-    taken = (λ j. over_regions-none MAX_REGIONS j + length (none_held MAX_REGIONS j));
+    taken = (λ j. over_regions-none 1 j + length (none_held 1 j));
     few_taken = omega arith;
     none_beyond = λ c le. refl;
     admin_qid = refl;
@@ -175,8 +213,8 @@ module _ (mechanism : Mechanism) (settings : ArbitrationFields) (limits : Limits
   -- the admin queues alone are open
   first_queues : HoldsQueues [] k
   first_queues = record {
-    sqs = λ q. as_first (q == 0) ∙ ap as_open (sym (table_sq q));
-    cqs = λ q. sym (table_cq q);
+    sqs = λ q. as_first (q == 0) ∙ ap as_open (sym (shown.sq q));
+    cqs = λ q. sym (shown.cq q);
     board = λ q. board_has q ∙ choice (on_board k) (q == 0) admin_queue (record { class = Admin; count = 0 }) refl;
     board_size =
         let closed : Option OpenQueue = None in
@@ -195,7 +233,7 @@ module _ (mechanism : Mechanism) (settings : ArbitrationFields) (limits : Limits
     sq_there = λ r a h. let z : r ≡ 0 = (only_zero r first_attachment a h).0 in omega arith;
     posts_there = λ r a h. subst (λ (x : Attachment). x.cq_region < 1) (only_zero r first_attachment a h).1 (omega arith);
     unused = λ r h.
-        let other : (r == 0) ≡ false = (or_parts (r == 0) false (sym (table_used r) ∙ h)).0 in
+        let other : (r == 0) ≡ false = (or_parts (r == 0) false (sym (shown.used r) ∙ h)).0 in
         (λ j. if other j then Some first_attachment else None);
     unopened = λ r h. record { nothing_got = refl; not_closed = refl };
     gone = λ r h. cc;
@@ -210,22 +248,51 @@ module _ (mechanism : Mechanism) (settings : ArbitrationFields) (limits : Limits
     stands = λ r d h. cc;
   }
 
-  -- the table stands at the regions
+  -- the admin queues alone are kept
+  first_lives : HoldsLives [] k
+  first_lives = record {
+    sqs = λ q queue h.
+        let only = only_zero q admin_queue queue h in
+        ap first_life only.0 ∙ ap (λ (x : Queue). Some x.region) only.1;
+    deleted = λ r d h. cc;
+    cqs = λ q. refl;
+    not_closed = λ q r h. refl;
+    named = λ q r h.
+        let only = only_zero q 0 r h in
+        ap first_life (sym only.1) ∙ ap (λ (x : ℕ). Some x) (sym only.0);
+    in_table = λ q r h.
+        let only = only_zero q 0 r h in
+        ap (λ (o : Option SqEntry). is_on r o) (shown.sq q ∙ ap (λ (x : ℕ). if x == 0 then Some admin_entry else None) only.0) ∙ ap (λ (x : ℕ). 0 == x) (sym only.1);
+    there = λ r q h fresh.
+        let only = only_zero r 0 q h in
+        ap first_life (sym only.1) ∙ ap (λ (x : ℕ). Some x) (sym only.0);
+    unopened = λ x h. (or_parts (x == 0) false (sym (shown.cq_used x) ∙ h)).0;
+  }
+
+  -- the table is that of the regions
   first_tabled : HoldsTable rules false [] k
   first_tabled = record {
-    history = first_regions sq cq;
-    stands = shown;
+    history = rules.regions;
+    table_is = refl;
+    few_queues = λ q entry h. let z : q ≡ 0 = (only_zero q admin_entry entry (sym (shown.sq q) ∙ h)).0 in omega arith;
+    placing = refl;
+    in_time = λ h. refl;
     history_is = λ h. refl;
     sq_count = table_sqs;
     cq_count = table_cqs;
-    sq_number = ap (λ (rs : List Region). length rs) (first_sq_regions mechanism settings limits sq cq sizes);
-    cq_number = ap (λ (rs : List Region). length rs) (first_cq_regions mechanism settings limits sq cq sizes);
-    few_sqs = omega arith;
-    few_cqs = omega arith;
+    sq_number = table_sqs;
+    cq_number = table_cqs;
     sq_slots = λ r. refl;
     cq_slots = λ c. refl;
-    sq_regions_are = shown.sq_regions;
-    cq_regions_are = shown.cq_regions;
+    sq_regions_are = refl;
+    cq_regions_are = refl;
+  }
+
+  -- no queue was created
+  pub first_made : HasRegionsMade k
+  first_made = record {
+    sqs = λ some. ap (λ (n : ℕ). suc n) (sym shown.sqs_made);
+    cqs = λ some. ap (λ (n : ℕ). suc n) (sym shown.cqs_made);
   }
 
   -- all of it
@@ -238,6 +305,7 @@ module _ (mechanism : Mechanism) (settings : ArbitrationFields) (limits : Limits
     posts = record { posted_is = λ c. refl; counted = λ c. refl };
     queues = first_queues;
     deletion = first_deletion;
+    lives = first_lives;
     arbitration = record { stands = stands; lawful = tt };
     tabled = first_tabled;
     own = λ on_time. record { effects_whole = refl; own_statuses = λ c. All-nil (HasOwnStatus rules []); own_deletion = λ r d h. cc };

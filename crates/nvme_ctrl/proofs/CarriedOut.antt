@@ -1,17 +1,17 @@
 -- An admin command was carried out: the controller stands at the notes of its pick, of what it makes, and of its answer.
 use Rattle.nvme_ctrl.specs.Account.{PostsOwn}
-use Rattle.std.proofs.Common.{◌≡◌, ℕ, suc, ◌<◌, ◌==◌, ◌&&◌, Bool, true, false, if◌then◌else◌, List, [], ◌∷◌, ◌++◌, length, map, drop, Some, None, refl, sym, ap, ◌∙◌, subst, arith, inl, inr}
-use Rattle.std.specs.Prelude.{slice_get, nat_lt, All}
+use Rattle.std.proofs.Common.{◌≡◌, ℕ, suc, ◌<◌, ◌==◌, ◌&&◌, Bool, true, false, if◌then◌else◌, List, [], ◌∷◌, ◌++◌, length, map, drop, Option, Some, None, refl, sym, ap, ◌∙◌, subst, arith, inl, inr}
+use Rattle.std.specs.Prelude.{slice_get, nat_lt, All, is_some}
 use Rattle.std.specs.List.{AllPairs}
 use Rattle.std.proofs.lemmas.Bool.{cases_eq, ne_eqb, and_parts, false_from_ne_true, eqb-true}
-use Rattle.std.proofs.lemmas.List.Elements.{All-head, All-tail, All-same, All-weaker}
+use Rattle.std.proofs.lemmas.List.Elements.{All-nil, All-head, All-tail, All-same, All-weaker}
 use Rattle.nvme_arbiter.specs.Board.{BoardView}
 use Rattle.nvme_arbiter.specs.Lawful.{lawful_pick}
 use Rattle.nvme_arbiter.specs.Queues.{seen_of}
 use Rattle.nvme_arbiter.specs.declared.pick.Seen.{Seen}
 use Rattle.nvme_admin.specs.Changes.{TellsChange}
 use Rattle.nvme_admin.proofs.Changed.{TellsChange-entry}
-use Rattle.nvme_admin.specs.Effects.{verdict_in}
+use Rattle.nvme_admin.specs.QueueTable.{QueueTable}
 use Rattle.nvme_admin.specs.declared.effect.Effect.{Effect}
 use Rattle.nvme_admin.specs.declared.verdict.Verdict.{Verdict}
 use Rattle.nvme_admin.specs.declared.verdict.Verdict.TheVariants as verdict
@@ -25,7 +25,7 @@ use Rattle.nvme_log.specs.declared.place.Place.{Place}
 use Rattle.nvme_log.specs.Rules.{FrontRules, Past}
 use Rattle.nvme_log.specs.Places.{fetched, is_aborted, fate_of, is_waiting, is_picked, unaborted_below, picked, waiting, WasAborted, WasPicked, Waits}
 use Rattle.nvme_log.specs.Answers.{Answer}
-use Rattle.nvme_log.specs.Effects.{made_by, is_effect}
+use Rattle.nvme_log.specs.Effects.{made_by, is_effect, target_of}
 use Rattle.nvme_log.specs.Dispatches.{place_at}
 use Rattle.nvme_ctrl.specs.kept.Pool.{slot_at}
 use Rattle.nvme_ctrl.specs.Notes.{Notes, Logged, Answered, EachNote, logged}
@@ -37,14 +37,14 @@ use Rattle.nvme_ctrl.specs.declared.slot.Slot.{Slot}
 use Rattle.nvme_ctrl.specs.declared.state.Controller.{Controller}
 use Rattle.nvme_ctrl.specs.kept.Content.{Candidate, Ready, Content, with_ready}
 use Rattle.nvme_ctrl.specs.kept.Standing.{Holds, HasOwnStatus, hand_of, answer_in, HasItsStatus}
-use Rattle.nvme_ctrl.specs.inside.Steps.{applied_to, told}
+use Rattle.nvme_ctrl.specs.inside.Steps.{applied_to, told, oldest_named}
 use Rattle.nvme_ctrl.specs.inside.Next.{IsNext, EachNext}
-use Rattle.nvme_ctrl.specs.kept.Kept.{Item, Items, IsWaitingIn, candidate_of, untaken, IsDevices, HoldsShown, DeleteItem, deletion_in}
+use Rattle.nvme_ctrl.specs.kept.Kept.{Item, Items, IsWaitingIn, candidate_of, picked_of, untaken, IsDevices, HoldsShown, HasRegionsMade, DeleteItem, deletion_in}
 use Rattle.nvme_ctrl.specs.inside.Loose.{Keeps}
 use Rattle.nvme_ctrl.specs.inside.Carrying.{IsApplied, HasBegun}
 use Rattle.nvme_ctrl.specs.kept.State.{picked_in}
 use Rattle.nvme_ctrl.proofs.Passed.{not_passed, hand_is_devices}
-use Rattle.nvme_ctrl.proofs.AfterSteps.{IsChosen, after_admin, admin_past}
+use Rattle.nvme_ctrl.proofs.AfterSteps.{IsChosen, after_admin, admin_past, deleting_from, aborting_in, aborting_from}
 use Rattle.nvme_ctrl.proofs.DeletedQueues.{deletion_done, unheld_undeleting}
 use Rattle.nvme_ctrl.proofs.PendingDeletions.{deletion_item}
 use Rattle.nvme_ctrl.proofs.Standing.{holds-admin}
@@ -111,12 +111,17 @@ last_of P (y ∷ ys) x h = last_of P ys x (All-tail P y (ys ++ x ∷ []) h)
 first_pairs : {X : Type 0} (R : X → X → Type 0) (x : X) (xs : List X) → AllPairs R (x ∷ xs) → All (R x) xs
 first_pairs R x xs h k d lt = h 0 (suc k) d (omega arith) (omega (arith, lt))
 
--- where none is picked, none is in a region
+-- where none is picked, none is of a queue
 pub none_picked_in : (c : Controller) (r : ℕ) → c.picked ≡ 0 → picked_in c r ≡ 0
-none_picked_in c r none = by (r == c.picked_region) where
+none_picked_in c r none = by (r == c.picked_qid) where
   by : (b : Bool) → (if b then c.picked else 0) ≡ 0
   by true = none
   by false = refl
+
+-- nor of the queue of a region
+pub none_picked_of : (c : Controller) (id : Option ℕ) → c.picked ≡ 0 → picked_of c id ≡ 0
+none_picked_of c None none = refl
+none_picked_of c (Some q) none = none_picked_in c q none
 
 -- a place that is neither aborted nor waiting was picked
 pub was_picked : (past : Past) (r i : ℕ) → is_aborted past r i ≡ false → is_waiting (fate_of past r i) ≡ false → is_picked (fate_of past r i) ≡ true
@@ -128,10 +133,8 @@ was_picked past r i clear done = by (is_aborted past r i) (nat_lt (unaborted_bel
   by false false clear done = absurd (cc done)
 
 -- ---- the pick and what the command makes
-module _ (rules : FrontRules) (late : Bool) (notes : Notes) (a : Controller) (slots : List Slot) (tag : ℕ) (did : Effect) (h : IsApplied rules late notes a slots tag did) where
-  abbrev v : Verdict
-  v = verdict_in did
-
+module _ (rules : FrontRules) (late : Bool) (notes : Notes) (a : Controller) (slots : List Slot) (tag : ℕ) (did : Effect) (v : Verdict)
+    (h : IsApplied rules late notes a slots tag did v) where
   abbrev pub made : List Event
   made = made_by (logged notes) v
 
@@ -216,8 +219,38 @@ module _ (rules : FrontRules) (late : Bool) (notes : Notes) (a : Controller) (sl
       apart : (w : Verdict) → TellsChange rules.start h.holds.tabled.history h.candidate.entry w
           → OpensApart (logged notes) (picked_notes notes h.pick) applied h.candidate c board (record { held = h.shown.held; classed = h.shown.classed }) w
       apart (verdict.OpenSq qid region cqid class) tells = λ q other is same.
-          opened_apart region q other (h.holds.queues.unused region (h.holds.tabled.stands.sq_used region ∙ tells.due.unused)) is same
+          opened_apart region q other (h.holds.queues.unused region (ap (λ (t : QueueTable). t.sq_region_used region) h.holds.tabled.table_is ∙ tells.due.unused)) is same
       apart w tells = tt
+
+  -- and the regions are those of the queues that were made
+  regions-made : (c : ℕ) (board : BoardView) → HasRegionsMade (after_admin (logged notes) applied h.candidate c board v)
+  regions-made c board = by v where
+    same : (k : Content) → k.table ≡ h.table → k.nsq ≡ h.before.nsq → k.ncq ≡ h.before.ncq → HasRegionsMade k
+    same k table nsq ncq = record {
+      sqs = λ some. nsq ∙ h.made.sqs (ap (λ (t : QueueTable). is_some t.placing) (sym table) ∙ some) ∙ ap (λ (t : QueueTable). suc t.sqs_made) (sym table);
+      cqs = λ some. ncq ∙ h.made.cqs (ap (λ (t : QueueTable). is_some t.placing) (sym table) ∙ some) ∙ ap (λ (t : QueueTable). suc t.cqs_made) (sym table);
+    }
+
+    deletes : (qid : ℕ) (o : Option Queue) → HasRegionsMade (deleting_from applied qid c h.candidate o)
+    deletes qid None = same _ refl refl refl
+    deletes qid (Some queue) = same _ refl refl refl
+
+    found : (sqid region cid : ℕ) (o : Option Candidate) → HasRegionsMade (aborting_in applied h.candidate sqid region c cid board o)
+    found sqid region cid None = same _ refl refl refl
+    found sqid region cid (Some x) = same _ refl refl refl
+
+    aborts : (sqid cid : ℕ) (o : Option Queue) → HasRegionsMade (aborting_from applied h.candidate sqid c cid board o)
+    aborts sqid cid None = same _ refl refl refl
+    aborts sqid cid (Some queue) = found sqid queue.region cid (oldest_named cid (applied.sq queue.region).window)
+
+    by : (w : Verdict) → HasRegionsMade (after_admin (logged notes) applied h.candidate c board w)
+    by (verdict.Done status dw0) = same _ refl refl refl
+    by (verdict.OpenSq qid region cqid class) = same _ refl refl refl
+    by (verdict.OpenCq qid region) = same _ refl refl refl
+    by (verdict.BeginDelete qid) = deletes qid (open_sq (logged notes) qid)
+    by (verdict.CloseCq qid) = same _ refl refl refl
+    by (verdict.Abort sqid cid) = aborts sqid cid (target_of (logged notes) sqid)
+    by (verdict.SetArbitration settings) = same _ refl refl refl
 
   -- each of the notes is lawful
   pub each_made : late ≡ false → EachNote (IsLawful rules) made_notes
@@ -275,7 +308,7 @@ module _ (rules : FrontRules) (late : Bool) (notes : Notes) (a : Controller) (sl
         (All-weaker (λ (it : Item). h.candidate.index < it.place.index) (λ (it : Item). IsOther h.candidate.index it.place) (λ it above. index_apart it.place above) (h.items.windows 0)
         (All-unmap (λ (c : Candidate). h.candidate.index < c.index) candidate_of (h.items.windows 0)
         (All-same (λ (c : Candidate). h.candidate.index < c.index) (map candidate_of (h.items.windows 0)) h.rest rest_is later)))
-    | inr other ↦ All-weaker (IsWaitingIn slots r) (λ (it : Item). IsOther h.candidate.index it.place) (λ it w. region_apart it.place (λ e. other (sym w.place ∙ e))) (h.items.windows r) (h.keeps.has.window_items r)
+    | inr other ↦ other_window r other (h.before.sq_id r) refl
   ] where
     index_apart : (p : Place) → h.candidate.index < p.index → IsOther h.candidate.index p
     index_apart p above = false_from_ne_true (0 == p.region && h.candidate.index == p.index) (λ e.
@@ -285,35 +318,48 @@ module _ (rules : FrontRules) (late : Bool) (notes : Notes) (a : Controller) (sl
     region_apart : (p : Place) → (p.region ≡ 0 → ⊥) → IsOther h.candidate.index p
     region_apart p not = rw (ne_eqb 0 p.region (λ e. not (sym e))) refl
 
+    -- those of the queue of another region, where there is one
+    other_window : (r : ℕ) → (r ≡ 0 → ⊥) → (id : Option ℕ) → h.before.sq_id r ≡ id → All (λ (it : Item). IsOther h.candidate.index it.place) (h.items.windows r)
+    other_window r other None none = subst (All (λ (it : Item). IsOther h.candidate.index it.place)) (sym (h.keeps.has.window_none r none)) (All-nil (λ (it : Item). IsOther h.candidate.index it.place))
+    other_window r other (Some q) id =
+        All-weaker (IsWaitingIn slots q r) (λ (it : Item). IsOther h.candidate.index it.place) (λ it w. region_apart it.place (λ e. other (sym w.place ∙ e))) (h.items.windows r)
+        (h.keeps.has.window_items q r (h.keeps.numbers.sq_ids.lives_are r q id))
+
     later : All (λ (c : Candidate). h.candidate.index < c.index) h.rest
     later = first_pairs (λ (x y : Candidate). x.index < y.index) h.candidate h.rest
         (subst (λ (cs : List Candidate). AllPairs (λ (x y : Candidate). x.index < y.index) cs) h.can_apply.oldest (window-ascending (logged notes) 0 (h.before.sq 0) (h.holds.regions 0)))
 
     rest_is : map candidate_of (h.items.windows 0) ≡ h.rest
     rest_is =
-        ap (λ (n : ℕ). map candidate_of (drop n (h.items.windows 0))) (sym (none_picked_in a 0 h.none_picked))
+        ap (λ (n : ℕ). map candidate_of (drop n (h.items.windows 0))) (sym (none_picked_of a (h.before.sq_id 0) h.none_picked))
         ∙ sym (h.keeps.has.window_is 0) ∙ ap (λ (cs : List Candidate). drop 1 cs) h.can_apply.oldest
 
   outs_other : All (λ (it : Item). IsOther h.candidate.index it.place) h.items.outs
   outs_other =
-      (All-parts (λ (it : Item). IsOther h.candidate.index it.place) h.items.outs (untaken a h.items)
+      (All-parts (λ (it : Item). IsOther h.candidate.index it.place) h.items.outs (untaken a applied h.items)
       (All-weaker (λ (it : Item). IsDevices notes it.place) (λ (it : Item). IsOther h.candidate.index it.place)
-      (λ it is. not_passed notes it.place h.candidate.index is not_passed_before) (h.items.outs ++ untaken a h.items)
-      (hand_is_devices notes a slots h.items h.keeps.tags))).0
+      (λ it is. not_passed notes it.place h.candidate.index is not_passed_before) (h.items.outs ++ untaken a applied h.items)
+      (hand_is_devices notes a slots applied h.items h.keeps.tags))).0
 
   -- the Delete of a deletion that is pending was picked before
   deletes_other : (r : ℕ) (it : DeleteItem) → h.items.deletes r ≡ Some it → IsOther h.candidate.index (place_at 0 it.index)
   deletes_other r it at = false_from_ne_true (0 == 0 && h.candidate.index == it.index) (λ e.
-      let d = deletion_item a.deletions a.pending_deletions slots h.before.deletion h.items.deletes h.keeps.has.deletions r it at in
+      let d = deletion_item a.deletions a.pending_deletions slots h.before.sq_life h.before.deletion h.items.deletes h.keeps.has.deletions r it at in
       let ended : is_waiting (fate_of (logged notes) 0 it.index) ≡ false = deletion_done rules late (logged notes) h.before h.holds r (deletion_in slots r it) d in
       let same : h.candidate.index ≡ it.index = eqb-true h.candidate.index it.index e in
       let here : is_waiting (fate_of (logged notes) 0 h.candidate.index) ≡ false = subst (λ (z : ℕ). is_waiting (fate_of (logged notes) 0 z) ≡ false) (sym same) ended in
       let waited = waits_before in
       absurd (cc (here, waited)))
 
-  -- the controller keeps the same when it is answered
+  -- what is kept at the notes before is kept when it is answered
+  pub keeps_told_of : (m : Controller) (k : Content) (answer : Answer) → Keeps rules notes m slots k h.items → Keeps rules (Answered 0 h.candidate.index answer ∷ made_notes) m slots k h.items
+  keeps_told_of m k answer kept =
+      keeps-answered rules made_notes h.candidate.index answer m slots k h.items unanswered there others outs_other deletes_other
+      (keeps-picked rules made notes (observed_of notes) h.pick m slots k h.items are_effects h.of_admin kept)
+
+  -- so the controller keeps the same
   pub keeps_told : (answer : Answer) → Keeps rules (Answered 0 h.candidate.index answer ∷ made_notes) a slots applied h.items
-  keeps_told answer = keeps-answered rules made_notes h.candidate.index answer a slots applied h.items unanswered there others outs_other deletes_other keeps_made
+  keeps_told answer = keeps_told_of a applied answer h.keeps
 
   -- ---- it was answered
   module _ (before : Content) (status : StatusCode) (dw0 : ℕ) (c : ℕ) (board : BoardView) (chosen : IsChosen rules (logged notes) h.before c h.picked board v)
@@ -377,6 +423,7 @@ module _ (rules : FrontRules) (late : Bool) (notes : Notes) (a : Controller) (sl
         doorbells = s.doorbells;
         tags = s.tags;
         shown = (let shown : HoldsShown made_notes k = subst (HoldsShown made_notes) is (shown_made c board) in record { held = shown.held; classed = shown.classed });
+        regions = subst HasRegionsMade is (regions-made c board);
         account = account_told;
       };
     }
@@ -403,6 +450,7 @@ module _ (rules : FrontRules) (late : Bool) (notes : Notes) (a : Controller) (sl
           doorbells = s.doorbells;
           tags = s.tags;
           shown = subst (HoldsShown made_notes) is (shown_made c board);
+          regions = subst HasRegionsMade is (regions-made c board);
           account = λ on_time. record { each = each_made on_time; lawful = holds.arbitration.lawful; effects_whole = (holds.own on_time).effects_whole };
         };
       }

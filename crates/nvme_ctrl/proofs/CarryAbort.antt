@@ -5,11 +5,9 @@ use Rattle.std.proofs.Common.{◌≡◌, ℕ, ◌==◌, ◌&&◌, ◌||◌, Bool
 use Rattle.std.specs.Prelude.{slice_set}
 use Rattle.std.proofs.lemmas.Bool.{ne_eqb}
 use Rattle.std.proofs.lemmas.Option.{same_Some}
-use Rattle.nvme_admin.specs.Standing.{sq_of}
 use Rattle.nvme_admin.specs.declared.verdict.SqEntry.{SqEntry}
-use Rattle.nvme_admin.specs.Effects.{verdict_in}
+use Rattle.nvme_admin.specs.declared.verdict.Verdict.{Verdict}
 use Rattle.nvme_admin.specs.declared.effect.Effect.{Effect}
-use Rattle.nvme_admin.specs.declared.effect.Effect.TheVariants as effect
 use Rattle.nvme_admin.specs.declared.verdict.Verdict.TheVariants as verdict
 use Rattle.nvme_entry.specs.Status.{success}
 use Rattle.nvme_log.specs.declared.event.Event.{Event}
@@ -30,7 +28,7 @@ use Rattle.nvme_ctrl.specs.kept.Standing.{counted_on}
 use Rattle.nvme_ctrl.specs.inside.Loose.{IsLoose, Keeps}
 use Rattle.nvme_ctrl.specs.inside.Carrying.{IsApplied, HasNoneNamed, IsAbortableIn, IsAbortable, MayAbort, requesting, HasRequested}
 use Rattle.nvme_ctrl.proofs.AfterSteps.{IsChosen, IsAbortChosen, after_admin, with_events, told_abort, aborting_from, aborting_in}
-use Rattle.nvme_ctrl.proofs.AppliedQueues.{queue_of, IsOpenEntry, open_entry, region_there, named_region, named_attached, named_on_board, aborts_is, aborts_open}
+use Rattle.nvme_ctrl.proofs.AppliedQueues.{queue_of, IsOpenEntry, open_entry, named_region, named_attached, named_on_board, aborts_is, aborts_open}
 use Rattle.nvme_ctrl.proofs.CarriedOut.{applied, logged_is, keeps_told}
 use Rattle.nvme_ctrl.proofs.CarryOut.{KeepsEnd, told_notes, ended_told}
 use Rattle.nvme_ctrl.proofs.DeletedQueues.{open_undeleted}
@@ -48,30 +46,30 @@ target_open past sqid queue h = by (sqid == 0) refl h where
 pub target_is : (past : Past) (sqid : ℕ) → (sqid ≡ 0 → ⊥) → target_of past sqid ≡ open_sq past sqid
 target_is past sqid io = ap (λ (b : Bool). if b then None else open_sq past sqid) (ne_eqb sqid 0 io)
 
-module _ (rules : FrontRules) (late : Bool) (notes : Notes) (a : Controller) (slots : List Slot) (tag sqid cid : ℕ)
-    (h : IsApplied rules late notes a slots tag (effect.Abort sqid cid)) where
-  abbrev did : Effect
-  did = effect.Abort sqid cid
+module _ (rules : FrontRules) (late : Bool) (notes : Notes) (a : Controller) (slots : List Slot) (tag sqid cid : ℕ) (did : Effect)
+    (h : IsApplied rules late notes a slots tag did (verdict.Abort sqid cid)) where
+  abbrev v : Verdict
+  v = verdict.Abort sqid cid
 
   abbrev k : Content
-  k = applied rules late notes a slots tag did h
+  k = applied rules late notes a slots tag did v h
 
   abbrev told : Notes
-  told = told_notes rules late notes a slots tag did h success 0
+  told = told_notes rules late notes a slots tag did v h success 0
 
   -- ---- an open queue of the table
-  module _ (io : sqid ≡ 0 → ⊥) (e : SqEntry) (is : sq_of h.table sqid ≡ Some e) (not_closing : e.closing ≡ false) where
+  module _ (io : sqid ≡ 0 → ⊥) (e : SqEntry) (is : h.table.sq sqid ≡ Some e) (not_closing : e.closing ≡ false) where
     was_open : open_sq (logged notes) sqid ≡ Some (queue_of e)
-    was_open = aborts_open rules late notes a slots tag sqid cid h e is not_closing
+    was_open = aborts_open rules late notes a slots tag sqid cid did h e is not_closing
 
     left : k.sq e.region ≡ h.before.sq e.region
-    left = named_region rules late notes a slots tag did h sqid (queue_of e) was_open io
+    left = named_region rules late notes a slots tag did v h sqid (queue_of e) was_open io
 
     abbrev opened : ℕ
-    opened = (named_attached rules late notes a slots tag did h sqid (queue_of e) was_open io).cq_region
+    opened = (named_attached rules late notes a slots tag did v h sqid (queue_of e) was_open io).cq_region
 
     attached : (h.before.sq e.region).queue ≡ Some (record { qid = sqid; cq_region = opened })
-    attached = (named_attached rules late notes a slots tag did h sqid (queue_of e) was_open io).attached
+    attached = (named_attached rules late notes a slots tag did v h sqid (queue_of e) was_open io).attached
 
     target : target_of (logged notes) sqid ≡ Some (queue_of e)
     target = target_is (logged notes) sqid io ∙ was_open
@@ -80,7 +78,7 @@ module _ (rules : FrontRules) (late : Bool) (notes : Notes) (a : Controller) (sl
     found_aborted : (found : Candidate) → oldest_named cid (k.sq e.region).window ≡ Some found → is_aborted (logged told) e.region found.index ≡ true
     found_aborted found oldest =
         let made : logged told ≡ event.Abort e.region found.index ∷ event.Pick (observed_of notes) h.pick ∷ logged notes =
-        logged_is rules late notes a slots tag did h
+        logged_is rules late notes a slots tag did v h
         ∙ ap (λ (es : List Event). with_events es (event.Pick (observed_of notes) h.pick ∷ logged notes))
         (ap (abort_in (logged notes) cid) target
         ∙ made_abort (logged notes) cid (queue_of e) (h.before.sq e.region) found (h.holds.regions e.region) (ap (λ (s : SqContent). oldest_named cid s.window) (sym left) ∙ oldest)) in
@@ -90,18 +88,16 @@ module _ (rules : FrontRules) (late : Bool) (notes : Notes) (a : Controller) (sl
 
     abortable : IsAbortableIn told k sqid cid e
     abortable =
-        let there = region_there rules late notes a slots tag did h e.region (record { qid = sqid; cq_region = opened }) attached in
         let unposted = few_unposted rules late (logged notes) h.before h.holds e.region (open_undeleted rules late (logged notes) h.before h.holds sqid (queue_of e) was_open) (h.holds.queues.sq_there e.region (record { qid = sqid; cq_region = opened }) attached) in
         let places = h.can_pick.places in
         let same = ap (λ (s : SqContent). s.unposted) left in
         record {
-          there = there.0;
+          there = h.holds.lives.sqs sqid (queue_of e) was_open;
           io = ne_eqb e.region 0 (io_region rules late (logged notes) h.before h.holds e.region sqid opened attached io);
           c = opened;
-          posts_there = there.1;
           attached = ap (λ (s : SqContent). s.queue) left ∙ attached;
           is_aborted = found_aborted;
-          on_board = named_on_board rules late notes a slots tag did h sqid (queue_of e) was_open io
+          on_board = named_on_board rules late notes a slots tag did v h sqid (queue_of e) was_open io
               ∙ ap (λ (s : SqContent). Some (counted_on h.before (queue_of e) (length s.window))) (sym left);
           few_unposted = omega arith;
           few_outstanding = omega arith;
@@ -116,7 +112,7 @@ module _ (rules : FrontRules) (late : Bool) (notes : Notes) (a : Controller) (sl
     notes = told;
     content = k;
     items = h.items;
-    keeps = keeps_told rules late notes a slots tag did h (record { status = success; dw0 = 0 });
+    keeps = keeps_told rules late notes a slots tag did v h (record { status = success; dw0 = 0 });
     none_picked = h.none_picked;
     may = may_abort;
   }
@@ -126,10 +122,10 @@ module _ (rules : FrontRules) (late : Bool) (notes : Notes) (a : Controller) (sl
       → (oldest_named cid (k.sq queue.region).window ≡ None) × (oldest_named cid (h.before.sq queue.region).window ≡ None)
   none_there none queue is =
       let target = target_open (logged notes) sqid queue is in
-      let open_now : IsOpenEntry (sq_of h.table sqid) queue = open_entry (sq_of h.table sqid) queue (sym (aborts_is rules late notes a slots tag sqid cid h) ∙ target.1) in
+      let open_now : IsOpenEntry (h.table.sq sqid) queue = open_entry (h.table.sq sqid) queue (sym (aborts_is rules late notes a slots tag sqid cid did h) ∙ target.1) in
       let now : oldest_named cid (k.sq queue.region).window ≡ None =
       subst (λ (r : ℕ). oldest_named cid (k.sq r).window ≡ None) open_now.region (none open_now.entry target.0 open_now.there open_now.not_closing) in
-      (now, subst (λ (s : SqContent). oldest_named cid s.window ≡ None) (named_region rules late notes a slots tag did h sqid queue target.1 target.0) now)
+      (now, subst (λ (s : SqContent). oldest_named cid s.window ≡ None) (named_region rules late notes a slots tag did v h sqid queue target.1 target.0) now)
 
   none_after : HasNoneNamed k sqid cid → after_admin (logged notes) k h.candidate 0 h.picked (verdict.Abort sqid cid) ≡ with_ready k 0 (told_abort h.candidate 1)
   none_after none = by (target_of (logged notes) sqid) (none_there none) where
@@ -139,17 +135,17 @@ module _ (rules : FrontRules) (late : Bool) (notes : Notes) (a : Controller) (sl
     by (Some queue) it = ap (aborting_in k h.candidate sqid queue.region 0 cid h.picked) (it queue refl).0
 
   -- it is answered so
-  pub ended_none : HasNoneNamed k sqid cid → (b : Controller) (pool : List Slot) → KeepsEnd a slots tag success 1 b pool → HasCarriedOut rules late notes (verdict_in did) b pool
+  pub ended_none : HasNoneNamed k sqid cid → (b : Controller) (pool : List Slot) → KeepsEnd a slots tag success 1 b pool → HasCarriedOut rules late notes v b pool
   ended_none none b pool end =
-      ended_told rules late notes a slots tag did h k success 1 0 h.picked
+      ended_told rules late notes a slots tag did v h k success 1 0 h.picked
       (λ queue found is_target is_oldest. let no = sym (none_there none queue is_target).1 ∙ is_oldest in absurd (cc no))
-      (none_after none) a slots h.items (keeps_told rules late notes a slots tag did h (record { status = success; dw0 = 1 })) h.loose refl b pool end
+      (none_after none) a slots h.items (keeps_told rules late notes a slots tag did v h (record { status = success; dw0 = 1 })) h.loose refl b pool end
 
   -- ---- where one is found
   pub ended_found : (m : Controller) (mid : List Slot) → HasRequested rules told k sqid cid slots tag m mid → (b : Controller) (pool : List Slot) → KeepsEnd m mid tag success 0 b pool
-      → HasCarriedOut rules late notes (verdict_in did) b pool
+      → HasCarriedOut rules late notes v b pool
   ended_found m mid t b pool end =
-      ended_told rules late notes a slots tag did h (requesting k sqid t.entry.region t.c cid t.board t.found) success 0 t.c t.board chosen after
+      ended_told rules late notes a slots tag did v h (requesting k sqid t.entry.region t.c cid t.board t.found) success 0 t.c t.board chosen after
       m mid t.items t.keeps t.loose t.slot b pool end where
         region : k.sq t.entry.region ≡ h.before.sq t.entry.region
         region = left t.io t.entry t.in_table t.not_closing
@@ -173,19 +169,19 @@ module _ (rules : FrontRules) (late : Bool) (notes : Notes) (a : Controller) (sl
   pub carried_found : (m : Controller) (mid : List Slot) (found : Bool) (dw0 : ℕ)
       → ((rules : FrontRules) (notes : Notes) (k : Content) (g : Items) (y : ℕ) → found ≡ true → Keeps rules notes a slots k g → a.picked ≡ 0 → IsAbortable notes k sqid cid → IsLoose slots g y
       → HasRequested rules notes k sqid cid slots y m mid)
-      → found ≡ true → dw0 ≡ 0 → (b : Controller) (pool : List Slot) → KeepsEnd m mid tag success dw0 b pool → HasCarriedOut rules late notes (verdict_in did) b pool
+      → found ≡ true → dw0 ≡ 0 → (b : Controller) (pool : List Slot) → KeepsEnd m mid tag success dw0 b pool → HasCarriedOut rules late notes v b pool
   carried_found m mid found dw0 aborted is zero b pool end =
       ended_found m mid
-      (aborted rules told k h.items tag is (keeps_told rules late notes a slots tag did h (record { status = success; dw0 = 0 })) h.none_picked may_abort h.loose)
+      (aborted rules told k h.items tag is (keeps_told rules late notes a slots tag did v h (record { status = success; dw0 = 0 })) h.none_picked may_abort h.loose)
       b pool (subst (λ (n : ℕ). KeepsEnd m mid tag success n b pool) zero end)
 
   -- none was there
   pub carried_none : (m : Controller) (mid : List Slot) (found : Bool) (dw0 : ℕ)
       → (found ≡ false → (m ≡ a) × (mid ≡ slots))
       → ((rules : FrontRules) (notes : Notes) (k : Content) (g : Items) → found ≡ false → Keeps rules notes a slots k g → a.picked ≡ 0 → HasNoneNamed k sqid cid)
-      → found ≡ false → dw0 ≡ 1 → (b : Controller) (pool : List Slot) → KeepsEnd m mid tag success dw0 b pool → HasCarriedOut rules late notes (verdict_in did) b pool
+      → found ≡ false → dw0 ≡ 1 → (b : Controller) (pool : List Slot) → KeepsEnd m mid tag success dw0 b pool → HasCarriedOut rules late notes v b pool
   carried_none m mid found dw0 same none is one b pool end =
-      ended_none (none rules told k h.items is (keeps_told rules late notes a slots tag did h (record { status = success; dw0 = 0 })) h.none_picked) b pool
+      ended_none (none rules told k h.items is (keeps_told rules late notes a slots tag did v h (record { status = success; dw0 = 0 })) h.none_picked) b pool
       (subst (λ (n : ℕ). KeepsEnd a slots tag success n b pool) one
       (subst (λ (z : Controller). KeepsEnd z slots tag success dw0 b pool) (same is).0
       (subst (λ (z : List Slot). KeepsEnd m z tag success dw0 b pool) (same is).1 end)))

@@ -9,9 +9,9 @@ use Rattle.std.proofs.lemmas.List.Elements.{All-same}
 use Rattle.nvme_arbiter.specs.Board.{BoardView}
 use Rattle.nvme_arbiter.specs.Layout.{board_of}
 use Rattle.nvme_arbiter.specs.Queues.{queue_at}
-use Rattle.nvme_admin.specs.Effects.{verdict_in}
+use Rattle.nvme_admin.specs.declared.verdict.Verdict.{Verdict}
+use Rattle.nvme_admin.specs.declared.verdict.Verdict.TheVariants as verdict
 use Rattle.nvme_admin.specs.declared.effect.Effect.{Effect}
-use Rattle.nvme_admin.specs.declared.effect.Effect.TheVariants as effect
 use Rattle.nvme_log.specs.declared.event.Event.{Event}
 use Rattle.nvme_log.specs.declared.event.Event.TheVariants as event
 use Rattle.nvme_log.specs.Rules.{FrontRules, Past}
@@ -31,53 +31,56 @@ use Rattle.nvme_ctrl.specs.inside.Loose.{IsLoose, Keeps}
 use Rattle.nvme_ctrl.specs.inside.Carrying.{IsApplied, IsDroppable, deleting, HasBegun}
 use Rattle.nvme_ctrl.specs.kept.Pool.{slot_at}
 use Rattle.nvme_ctrl.proofs.AfterSteps.{with_events, deleting_from}
-use Rattle.nvme_ctrl.proofs.AppliedQueues.{region_there, named_region, named_attached, named_on_board, begins_queue, begins_open, begins_io}
+use Rattle.nvme_ctrl.proofs.AppliedQueues.{named_region, named_attached, named_on_board, begins_queue, begins_open, begins_io}
 use Rattle.nvme_ctrl.proofs.CarriedOut.{made_notes, applied, logged_is, unanswered, cookie_kept, not_passed_on, keeps_made, carried_later}
 use Rattle.nvme_ctrl.proofs.FewUnposted.{few_unposted}
 use Rattle.nvme_ctrl.proofs.OwnStatus.{All-unmap, aborts_all}
 
 -- ---- the deletion of a submission queue begins
-module _ (rules : FrontRules) (late : Bool) (notes : Notes) (a : Controller) (slots : List Slot) (tag qid region : ℕ)
-    (h : IsApplied rules late notes a slots tag (effect.BeginDelete qid region)) where
-  abbrev did : Effect
-  did = effect.BeginDelete qid region
+module _ (rules : FrontRules) (late : Bool) (notes : Notes) (a : Controller) (slots : List Slot) (tag qid : ℕ) (did : Effect)
+    (h : IsApplied rules late notes a slots tag did (verdict.BeginDelete qid)) where
+  abbrev v : Verdict
+  v = verdict.BeginDelete qid
+
+  abbrev region : ℕ
+  region = (begins_queue rules late notes a slots tag qid did h).region
 
   abbrev k : Content
-  k = applied rules late notes a slots tag did h
+  k = applied rules late notes a slots tag did v h
 
   abbrev now : Notes
-  now = made_notes rules late notes a slots tag did h
+  now = made_notes rules late notes a slots tag did v h
 
   io : qid ≡ 0 → ⊥
-  io = begins_io rules late notes a slots tag qid region h
+  io = begins_io rules late notes a slots tag qid did h
 
-  is_open : open_sq (logged notes) qid ≡ Some (begins_queue rules late notes a slots tag qid region h)
-  is_open = begins_open rules late notes a slots tag qid region h
+  is_open : open_sq (logged notes) qid ≡ Some (begins_queue rules late notes a slots tag qid did h)
+  is_open = begins_open rules late notes a slots tag qid did h
 
   -- its queue is on the board
   pub begins_on_board : IsSome (queue_at (board_of a.board).queues qid)
   begins_on_board =
-      let here = named_on_board rules late notes a slots tag did h qid (begins_queue rules late notes a slots tag qid region h) is_open io in
+      let here = named_on_board rules late notes a slots tag did v h qid (begins_queue rules late notes a slots tag qid did h) is_open io in
       rw (ap (λ (v : BoardView). queue_at v.queues qid) h.keeps.numbers.board_is ∙ here) refl
 
   left : k.sq region ≡ h.before.sq region
-  left = named_region rules late notes a slots tag did h qid (begins_queue rules late notes a slots tag qid region h) is_open io
+  left = named_region rules late notes a slots tag did v h qid (begins_queue rules late notes a slots tag qid did h) is_open io
 
   abbrev opened : ℕ
-  opened = (named_attached rules late notes a slots tag did h qid (begins_queue rules late notes a slots tag qid region h) is_open io).cq_region
+  opened = (named_attached rules late notes a slots tag did v h qid (begins_queue rules late notes a slots tag qid did h) is_open io).cq_region
 
   attached : (h.before.sq region).queue ≡ Some (record { qid = qid; cq_region = opened })
-  attached = (named_attached rules late notes a slots tag did h qid (begins_queue rules late notes a slots tag qid region h) is_open io).attached
+  attached = (named_attached rules late notes a slots tag did v h qid (begins_queue rules late notes a slots tag qid did h) is_open io).attached
 
-  there : (region < 65) × (opened < 65)
-  there = region_there rules late notes a slots tag did h region (record { qid = qid; cq_region = opened }) attached
+  there : k.sq_life qid ≡ Some region
+  there = h.holds.lives.sqs qid (begins_queue rules late notes a slots tag qid did h) is_open
 
   -- its candidates are aborted
   all_aborted : All (λ (x : Candidate). is_aborted (logged now) region x.index ≡ true) (k.sq region).window
   all_aborted =
       let closing : Past = event.Closing qid region ∷ event.Pick (observed_of notes) h.pick ∷ logged notes in
       let made : logged now ≡ with_events (map (λ (i : ℕ). event.Abort region i) (waiting (logged notes) region)) closing =
-      logged_is rules late notes a slots tag did h
+      logged_is rules late notes a slots tag did v h
       ∙ ap (λ (es : List Event). with_events es (event.Pick (observed_of notes) h.pick ∷ logged notes)) (ap (closing_of (logged notes) qid) is_open) in
       let are : map (λ (c : Candidate). c.index) (k.sq region).window ≡ waiting (logged notes) region =
       ap (λ (s : SqContent). map (λ (c : Candidate). c.index) s.window) left ∙ sym (h.holds.regions region).waiting_is in
@@ -87,10 +90,10 @@ module _ (rules : FrontRules) (late : Bool) (notes : Notes) (a : Controller) (sl
 
   -- it isn't being deleted yet
   undeleted : h.before.deletion region ≡ None
-  undeleted = open_undeleted rules late (logged notes) h.before h.holds qid (begins_queue rules late notes a slots tag qid region h) is_open
+  undeleted = open_undeleted rules late (logged notes) h.before h.holds qid (begins_queue rules late notes a slots tag qid did h) is_open
 
   droppable : IsDroppable now k qid region opened
-  droppable = record { there = there.0; posts_there = there.1; attached = ap (λ (s : SqContent). s.queue) left ∙ attached; are_aborted = all_aborted; io = ne_eqb region 0 (io_region rules late (logged notes) h.before h.holds region qid opened attached io); undeleted = undeleted }
+  droppable = record { there = there; attached = ap (λ (s : SqContent). s.queue) left ∙ attached; are_aborted = all_aborted; io = ne_eqb region 0 (io_region rules late (logged notes) h.before h.holds region qid opened attached io); undeleted = undeleted }
 
   -- few are unposted
   few : (k.sq region).unposted + length (k.sq region).window < 2 ^ 16
@@ -104,14 +107,14 @@ module _ (rules : FrontRules) (late : Bool) (notes : Notes) (a : Controller) (sl
 
   -- it began
   pub ended_begun : (b : Controller) (pool : List Slot)
-      → ((rules : FrontRules) (notes : Notes) (k : Content) (g : Items) (c : ℕ) (candidate : Candidate) → Keeps rules notes a slots k g → a.picked ≡ 0 → IsLoose slots g tag
-      → (slot_at slots tag).entry ≡ candidate.entry → (slot_at slots tag).region ≡ 0 → answer_of notes 0 candidate.index ≡ None → IsCookie notes slots tag (place_at 0 candidate.index) → is_passed notes candidate.index ≡ false → IsDroppable notes k qid region c → (k.sq region).unposted + length (k.sq region).window < 2 ^ 16
+      → ((rules : FrontRules) (notes : Notes) (k : Content) (g : Items) (region c : ℕ) (candidate : Candidate) → Keeps rules notes a slots k g → a.picked ≡ 0 → IsLoose slots g tag
+      → (slot_at slots tag).entry ≡ candidate.entry → (slot_at slots tag).sqid ≡ 0 → answer_of notes 0 candidate.index ≡ None → IsCookie notes slots tag (place_at 0 candidate.index) → is_passed notes candidate.index ≡ false → IsDroppable notes k qid region c → (k.sq region).unposted + length (k.sq region).window < 2 ^ 16
       → HasBegun rules notes (deleting k qid region c candidate) b pool)
-      → HasCarriedOut rules late notes (verdict_in did) b pool
+      → HasCarriedOut rules late notes v b pool
   ended_begun b pool begun =
-      carried_later rules late notes a slots tag did h opened h.picked
+      carried_later rules late notes a slots tag did v h opened h.picked
       (λ queue open_too.
       subst (λ (q : Queue). (h.before.sq q.region).queue ≡ Some (record { qid = qid; cq_region = opened }))
-      (same_Some (begins_queue rules late notes a slots tag qid region h) queue (sym is_open ∙ open_too)) attached)
+      (same_Some (begins_queue rules late notes a slots tag qid did h) queue (sym is_open ∙ open_too)) attached)
       (deleting k qid region opened h.candidate) (ap (deleting_from k qid opened h.candidate) is_open) b pool
-      (begun rules now k h.items opened h.candidate (keeps_made rules late notes a slots tag did h) h.none_picked h.loose h.entry h.region (unanswered rules late notes a slots tag did h) (cookie_kept rules late notes a slots tag did h) (not_passed_on rules late notes a slots tag did h) droppable few)
+      (begun rules now k h.items region opened h.candidate (keeps_made rules late notes a slots tag did v h) h.none_picked h.loose h.entry h.queue (unanswered rules late notes a slots tag did v h) (cookie_kept rules late notes a slots tag did v h) (not_passed_on rules late notes a slots tag did v h) droppable few)

@@ -8,7 +8,7 @@ use Rattle.nvme_entry.specs.declared.submission.Sqe.{Sqe}
 use Rattle.nvme_arbiter.specs.Board.{BoardView}
 use Rattle.nvme_arbiter.specs.declared.pick.Pick.{Pick}
 use Rattle.nvme_arbiter.specs.declared.pick.Seen.{Seen}
-use Rattle.nvme_admin.specs.Standing.{TableView}
+use Rattle.nvme_admin.specs.QueueTable.{QueueTable}
 use Rattle.nvme_admin.specs.declared.verdict.Verdict.{Verdict}
 use Rattle.nvme_admin.specs.declared.verdict.Verdict.TheVariants.{Done, BeginDelete, CloseCq}
 use Rattle.nvme_admin.specs.declared.verdict.Verdict.TheVariants as verdict
@@ -28,7 +28,7 @@ use Rattle.nvme_ctrl.specs.kept.Content.{SqContent, Content, put_sq, with_ready}
 use Rattle.nvme_log.specs.Places.{one_if}
 use Rattle.nvme_ctrl.specs.kept.Standing.{IsReady, HoldsSq, HoldsCounts, hand_of, Holds}
 use Rattle.nvme_ctrl.specs.inside.Steps.{picked_sq, applied_to, oldest_named, without_oldest, verdict_at, CanPick}
-use Rattle.nvme_ctrl.proofs.AfterSteps.{with_events, aborting_in, aborting_from, admin_past, after_admin, after_fetch, after_io, answered, fetch_event, fetched_sq, deleting_from, post_event}
+use Rattle.nvme_ctrl.proofs.AfterSteps.{closing_from, with_events, aborting_in, aborting_from, admin_past, after_admin, after_fetch, after_io, answered, fetch_event, fetched_sq, deleting_from, post_event}
 use Rattle.nvme_ctrl.proofs.StepKeeps.{KeepsFetch, KeepsIo, KeepsAdmin, KeepsPost, KeepsClose, Counts}
 use Rattle.nvme_log.proofs.Counting.{count_of-push, sums_differ}
 use Rattle.nvme_ctrl.proofs.PostedPlaces.{posted_places, posted_takers, requested_places, outstanding_of, PostedServed, unposted_by, picked_are, unaborted_are, outstanding_by, posted_served, pick_served, abort_served, aborts_posted, aborts_served, waiting_unposted, post_places, post_takers, post_served, ready_unanswered}
@@ -262,7 +262,7 @@ outstanding-admin rules late past k seen pick board s can one =
 
 -- the abort of an Abort command leaves one place more outstanding
 pub outstanding-request : (rules : FrontRules) (late : Bool) (past : Past) (k : Content) (seen : List Seen) (pick : Pick) (picked : BoardView)
-    (candidate : Candidate) (rest : List Candidate) (table : TableView) (s : Holds rules late past k) → CanPick rules past k admin_queue pick picked
+    (candidate : Candidate) (rest : List Candidate) (table : QueueTable) (s : Holds rules late past k) → CanPick rules past k admin_queue pick picked
     → pick.qid ≡ 0 → (k.sq 0).window ≡ candidate ∷ rest → (sqid cid : ℕ) (queue : Queue) (found : Candidate) → target_of past sqid ≡ Some queue
     → oldest_named cid ((applied_to k picked table).sq queue.region).window ≡ Some found → verdict_at rules s.tabled.history candidate ≡ verdict.Abort sqid cid
     → outstanding rules (event.Abort queue.region found.index ∷ event.Pick seen pick ∷ past) ≡ outstanding rules (event.Pick seen pick ∷ past) + 1
@@ -279,7 +279,7 @@ outstanding-request rules late past k seen pick picked candidate rest table s ca
     ∙ ap (λ (b : Bool). outstanding rules mid + one_if b) (took_request rules late past k seen pick picked s can first candidate rest sqid cid oldest is)
 
 module _ (rules : FrontRules) (late : Bool) (past : Past) (k : Content) (seen : List Seen) (pick : Pick) (picked : BoardView)
-    (candidate : Candidate) (rest : List Candidate) (table : TableView) (c : ℕ) (board : BoardView) (s : Holds rules late past k)
+    (candidate : Candidate) (rest : List Candidate) (table : QueueTable) (c : ℕ) (board : BoardView) (s : Holds rules late past k)
     (can : CanPick rules past k admin_queue pick picked) (first : pick.qid ≡ 0) (one : pick.n ≡ 1) (oldest : (k.sq 0).window ≡ candidate ∷ rest) where
   -- the log after the pick, and what is kept
   abbrev mid : Past
@@ -323,7 +323,7 @@ module _ (rules : FrontRules) (late : Bool) (past : Past) (k : Content) (seen : 
   )
 
   -- a completion queue is closed, where it is open
-  closes_cq : (qid : ℕ) (o : Option ℕ) → Leaves (closed_cq_of qid o) (with_ready now 0 (answered candidate (CloseCq qid)))
+  closes_cq : (qid : ℕ) (o : Option ℕ) → Leaves (closed_cq_of qid o) (with_ready (closing_from now qid o) 0 (answered candidate (CloseCq qid)))
   closes_cq qid None = leaves_none [] _ (λ r. refl) mid_served (λ r. refl) refl refl
   closes_cq qid (Some region) = leaves_none (event.ClosedCq qid region ∷ []) _ (λ r. refl) mid_served (λ r. refl) refl refl
 

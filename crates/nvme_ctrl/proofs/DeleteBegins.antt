@@ -23,10 +23,11 @@ use Rattle.nvme_ctrl.specs.inside.Loose.{IsLoose, Keeps}
 use Rattle.nvme_ctrl.specs.inside.Carrying.{IsDroppable, dropped, HasDropped, deleting, HasBegun}
 use Rattle.nvme_ctrl.specs.kept.Pool.{slot_at, item_at, put_item}
 use Rattle.nvme_ctrl.specs.kept.State.{sq_at}
-use Rattle.nvme_ctrl.proofs.CarriedOut.{none_picked_in}
+use Rattle.nvme_ctrl.proofs.CarriedOut.{none_picked_of}
 use Rattle.nvme_ctrl.proofs.Cookies.{SameCookies, same_cookies-but, cookie_left, items_left, readies_left}
 use Rattle.nvme_ctrl.proofs.PendingDeletions.{Here, Elsewhere, is_put, deletions_stay, none_deletes, deletions_begun}
 use Rattle.nvme_ctrl.proofs.Dropping.{put_sq-twice, window_length}
+use Rattle.nvme_ctrl.proofs.Lives.{one_id}
 use Rattle.nvme_ctrl.proofs.OwnStatus.{All-unmap}
 use Rattle.nvme_ctrl.proofs.Pools.{length-put_item, slot_at-put_item_same, item_at-put_item_other, chain-put_item}
 use Rattle.nvme_ctrl.proofs.SlotItems.{All-both, same_state, waiting_stays, out_stays, ready_stays}
@@ -37,7 +38,7 @@ use Rattle.nvme_ctrl.proofs.Windowed.{keeps_region, keeps_board}
 module _ (rules : FrontRules) (notes : Notes) (a : Controller) (slots : List Slot) (k : Content) (g : Items) (h : Keeps rules notes a slots k g) (tag qid region : ℕ) (loose : IsLoose slots g tag)
     (candidate : Candidate) (entry : (slot_at slots tag).entry ≡ candidate.entry) (unanswered : answer_of notes 0 candidate.index ≡ None)
     (cookie : IsCookie notes slots tag (place_at 0 candidate.index)) (not_passed_on : is_passed notes candidate.index ≡ false)
-    (count : ℕ) (count_is : count ≡ min (a.pending_deletions + 1) 65535) (within : region < 65) (undeleted : k.deletion region ≡ None) (first : (slot_at slots tag).region ≡ 0) where
+    (count : ℕ) (count_is : count ≡ min (a.pending_deletions + 1) 65535) (life : k.sq_life qid ≡ Some region) (undeleted : k.deletion region ≡ None) (first : (slot_at slots tag).sqid ≡ 0) where
   abbrev put : Slot
   put = record (slot_at slots tag) { state = 6 }
 
@@ -45,7 +46,7 @@ module _ (rules : FrontRules) (notes : Notes) (a : Controller) (slots : List Slo
   pool = put_item slots tag put
 
   abbrev pending : Controller
-  pending = record a { deletions = slice_set a.deletions region (record { pending = 1; tag = tag }); pending_deletions = count }
+  pending = record a { deletions = slice_set a.deletions qid (record { pending = 1; tag = tag }); pending_deletions = count }
 
   abbrev begins : PendingDelete
   begins = record { place = place_at 0 candidate.index; cid = candidate.entry.cid; qid = qid; region = region }
@@ -75,8 +76,8 @@ module _ (rules : FrontRules) (notes : Notes) (a : Controller) (slots : List Slo
     | inr other ↦ ap (λ (s : Slot). s.state) (sym (others x other)) ∙ is
   ]
 
-  deletions_still : HasDeletions a.deletions a.pending_deletions pool k.deletion g.deletes
-  deletions_still = deletions_stay a.deletions a.pending_deletions slots pool k.deletion g.deletes tag size others loose.deletes h.has.deletions
+  deletions_still : HasDeletions a.deletions a.pending_deletions pool k.sq_life k.deletion g.deletes
+  deletions_still = deletions_stay a.deletions a.pending_deletions slots pool k.sq_life k.deletion g.deletes tag size others loose.deletes h.has.deletions
 
   begins_is : deletion_in pool region item ≡ begins
   begins_is = ap (λ (e : Sqe). record { place = place_at 0 candidate.index; cid = e.cid; qid = qid; region = region }) (ap (λ (s : Slot). s.entry) here ∙ entry)
@@ -90,30 +91,33 @@ module _ (rules : FrontRules) (notes : Notes) (a : Controller) (slots : List Slo
 
   has_pending : HasItems pending pool waiting_content later
   has_pending = let m = h.has in record {
-    window_chain = λ r. chain-put_item slots _ _ tag put (m.window_chain r);
-    window_items = λ r. All-both (λ (it : Item). it.tag ≢ tag) (IsWaitingIn slots r) (IsWaitingIn pool r) (λ it. waiting_stays slots pool tag size others r it) (g.windows r)
-        (All-unmap (λ (x : ℕ). x ≢ tag) (λ (it : Item). it.tag) (g.windows r) (loose.windows r)) (m.window_items r);
+    window_chain = λ q r is. chain-put_item slots _ _ tag put (m.window_chain q r is);
+    window_items = λ q r is. All-both (λ (it : Item). it.tag ≢ tag) (IsWaitingIn slots q r) (IsWaitingIn pool q r) (λ it. waiting_stays slots pool tag size others q r it) (g.windows r)
+        (All-unmap (λ (x : ℕ). x ≢ tag) (λ (it : Item). it.tag) (g.windows r) (loose.windows r)) (m.window_items q r is);
+    window_none = m.window_none;
     window_is = m.window_is;
     picked_there = m.picked_there;
-    outs_items = All-both (λ (it : Item). it.tag ≢ tag) (IsOutIn slots) (IsOutIn pool) (out_stays slots pool tag size others) g.outs
+    outs_items = All-both (λ (it : Item). it.tag ≢ tag) (IsOutIn k.sq_id slots) (IsOutIn k.sq_id pool) (out_stays slots pool tag size others k.sq_id) g.outs
         (All-unmap (λ (x : ℕ). x ≢ tag) (λ (it : Item). it.tag) g.outs loose.outs) m.outs_items;
     outs_apart = m.outs_apart;
     outs_all = λ x is. m.outs_all x (had_state x 2 (omega arith) is);
     hand_is = m.hand_is;
-    ready_chain = λ x. chain-put_item slots _ _ tag put (m.ready_chain x);
-    ready_items = λ x. All-both (λ (it : ReadyItem). it.tag ≢ tag) (IsReadyIn slots) (IsReadyIn pool) (ready_stays slots pool tag size others) (g.readies x)
+    ready_chain = λ q x is. chain-put_item slots _ _ tag put (m.ready_chain q x is);
+    ready_items = λ x. All-both (λ (it : ReadyItem). it.tag ≢ tag) (IsReadyIn k.sq_id slots) (IsReadyIn k.sq_id pool) (ready_stays slots pool tag size others k.sq_id) (g.readies x)
         (All-unmap (λ (y : ℕ). y ≢ tag) (λ (it : ReadyItem). it.tag) (g.readies x) (loose.readies x)) (m.ready_items x);
+    ready_none = m.ready_none;
     ready_is = m.ready_is;
-    deletions = subst (λ (d : PendingDelete). HasDeletions (slice_set a.deletions region (record { pending = 1; tag = tag })) count pool (put_deletion k.deletion region (Some d)) later.deletes) begins_is
-        (deletions_begun a.deletions a.pending_deletions count pool k.deletion g.deletes region item deletions_still within
-        (none_deletes a.deletions a.pending_deletions slots k.deletion g.deletes m.deletions region undeleted)
-        (record { inside = subst (λ (n : ℕ). tag < n) (sym size) loose.inside; state = ap (λ (s : Slot). s.state) here; region = ap (λ (s : Slot). s.region) here ∙ first }) loose.deletes count_is);
+    deletions = subst (λ (d : PendingDelete). HasDeletions (slice_set a.deletions qid (record { pending = 1; tag = tag })) count pool k.sq_life (put_deletion k.deletion region (Some d)) later.deletes) begins_is
+        (deletions_begun a.deletions a.pending_deletions count pool k.sq_life k.deletion g.deletes qid region item deletions_still
+        (λ q is. one_id k.sq_life k.sq_id h.numbers.sq_ids q qid region is life) life refl (h.numbers.few_sqs qid region life)
+        (none_deletes a.deletions a.pending_deletions slots k.sq_life k.deletion g.deletes m.deletions region undeleted)
+        (record { inside = subst (λ (n : ℕ). tag < n) (sym size) loose.inside; state = ap (λ (s : Slot). s.state) here; queue = ap (λ (s : Slot). s.sqid) here ∙ first }) loose.deletes count_is);
     free_chain = chain-put_item slots _ _ tag put m.free_chain;
     free_items = All-both (λ (x : ℕ). x ≢ tag) (is_free slots) (is_free pool) (λ x other. same_state slots pool tag size others x 0 other) g.free loose.free m.free_items;
     few = subst (λ (n : ℕ). n < 2 ^ 16) (sym size) m.few;
   }
 
-  tags_pending : HoldsTags notes pending pool later
+  tags_pending : HoldsTags notes pending pool waiting_content later
   tags_pending = let m = h.tags in record {
     untaken_are = m.untaken_are;
     outs_held = m.outs_held;
@@ -153,17 +157,30 @@ module _ (rules : FrontRules) (notes : Notes) (a : Controller) (slots : List Slo
   begun_pending = record {
     items = later;
     numbers = (let n = h.numbers in record {
-      table_is = n.table_is;
-      sized = n.sized;
+      tells = n.tells;
       board_is = n.board_is;
       is_arbiter = n.is_arbiter;
       outstanding_is = n.outstanding_is;
-      sq_queue = n.sq_queue;
-      sq_held = n.sq_held;
-      sq_unposted = n.sq_unposted;
-      sq_slots = n.sq_slots;
-      cq_slots = n.cq_slots;
-      sq_some = n.sq_some;
+      sq_ids = n.sq_ids;
+      cq_ids = n.cq_ids;
+      sqs = λ q r is. let x = n.sqs q r is in record {
+        entry = x.entry;
+        in_table = x.in_table;
+        on = x.on;
+        to = x.to;
+        cq_region = x.cq_region;
+        cq_open = x.cq_open;
+        opened = x.opened;
+        held = x.held;
+        unposted = x.unposted;
+        slots = x.slots;
+        some = x.some;
+      };
+      cqs = λ q x is. let y = n.cqs q x is in record { slots = y.slots; some = y.some };
+      few_sqs = n.few_sqs;
+      few_cqs = n.few_cqs;
+      no_sqs = n.no_sqs;
+      no_cqs = n.no_cqs;
       sq_size = n.sq_size;
       cq_size = n.cq_size;
     });
@@ -196,14 +213,14 @@ dropped_counted k qid region c n = λ t. record k { sq = λ x. sq x t; cq = λ x
   cq x = ap (λ (z : SqContent). put_cq k.cq c (record (k.cq c) { ready = (k.cq c).ready ++ map (aborted qid region) z.window }) x) here
 
 -- the sum isn't capped
-pub n_counted : (rules : FrontRules) (notes : Notes) (a : Controller) (slots : List Slot) (k : Content) (g : Items) (region : ℕ) (sq : SqState) → Keeps rules notes a slots k g → a.picked ≡ 0
-    → sq ≡ sq_at a.sqs region → (k.sq region).unposted + length (k.sq region).window < 2 ^ 16 → min (sq.unposted + sq.window.len) 65535 ≡ sq.unposted + sq.window.len
-n_counted rules notes a slots k g region sq h none sq_is few =
+pub n_counted : (rules : FrontRules) (notes : Notes) (a : Controller) (slots : List Slot) (k : Content) (g : Items) (qid region : ℕ) (sq : SqState) → Keeps rules notes a slots k g → a.picked ≡ 0
+    → k.sq_life qid ≡ Some region → sq ≡ sq_at a.sqs qid → (k.sq region).unposted + length (k.sq region).window < 2 ^ 16 → min (sq.unposted + sq.window.len) 65535 ≡ sq.unposted + sq.window.len
+n_counted rules notes a slots k g qid region sq h none life sq_is few =
     let many : length (k.sq region).window ≡ length (g.windows region) =
-    ap (λ (w : List Candidate). length w) (h.has.window_is region ∙ ap (λ (i : ℕ). map candidate_of (drop i (g.windows region))) (none_picked_in a region none))
+    ap (λ (w : List Candidate). length w) (h.has.window_is region ∙ ap (λ (i : ℕ). map candidate_of (drop i (g.windows region))) (none_picked_of a (k.sq_id region) none))
     ∙ length-map (g.windows region) candidate_of in
-    let len = window_length rules notes a slots k g region h in
-    let unposted = h.numbers.sq_unposted region in
+    let len = window_length rules notes a slots k g qid region h life in
+    let unposted = (h.numbers.sqs qid region life).unposted in
     let same = ap (λ (s : SqState). s.unposted) sq_is in
     let as_long = ap (λ (s : SqState). s.window.len) sq_is in
     omega arith
@@ -212,9 +229,9 @@ n_counted rules notes a slots k g region sq h none sq_is few =
 module _ (rules : FrontRules) (notes : Notes) (a : Controller) (slots : List Slot) (k : Content) (g : Items) (tag qid region c : ℕ) (candidate : Candidate)
     (h : Keeps rules notes a slots k g) (none : a.picked ≡ 0) (loose : IsLoose slots g tag) (entry : (slot_at slots tag).entry ≡ candidate.entry)
     (unanswered : answer_of notes 0 candidate.index ≡ None) (cookie : IsCookie notes slots tag (place_at 0 candidate.index)) (not_passed_on : is_passed notes candidate.index ≡ false) (d : IsDroppable notes k qid region c)
-    (first : (slot_at slots tag).region ≡ 0)
-    (sq : SqState) (n : ℕ) (sq_is : sq ≡ sq_at a.sqs region) (n_is : n ≡ sq.unposted + sq.window.len)
-    (m : Controller) (m_is : m ≡ record a { sqs = slice_set a.sqs region (record sq { unposted = n }) }) where
+    (first : (slot_at slots tag).sqid ≡ 0)
+    (sq : SqState) (n : ℕ) (sq_is : sq ≡ sq_at a.sqs qid) (n_is : n ≡ sq.unposted + sq.window.len)
+    (m : Controller) (m_is : m ≡ record a { sqs = slice_set a.sqs qid (record sq { unposted = n }) }) where
   abbrev count : ℕ
   count = (k.sq region).unposted + length (k.sq region).window
 
@@ -224,10 +241,10 @@ module _ (rules : FrontRules) (notes : Notes) (a : Controller) (slots : List Slo
   n_counts : n ≡ count
   n_counts =
       let many : length (k.sq region).window ≡ length (g.windows region) =
-      ap (λ (w : List Candidate). length w) (h.has.window_is region ∙ ap (λ (i : ℕ). map candidate_of (drop i (g.windows region))) (none_picked_in a region none))
+      ap (λ (w : List Candidate). length w) (h.has.window_is region ∙ ap (λ (i : ℕ). map candidate_of (drop i (g.windows region))) (none_picked_of a (k.sq_id region) none))
       ∙ length-map (g.windows region) candidate_of in
-      let len = window_length rules notes a slots k g region h in
-      let unposted = h.numbers.sq_unposted region in
+      let len = window_length rules notes a slots k g qid region h d.there in
+      let unposted = (h.numbers.sqs qid region d.there).unposted in
       let same = ap (λ (s : SqState). s.unposted) sq_is in
       let as_long = ap (λ (s : SqState). s.window.len) sq_is in
       omega arith
@@ -236,13 +253,12 @@ module _ (rules : FrontRules) (notes : Notes) (a : Controller) (slots : List Slo
   pub keeps_counted : Keeps rules notes m slots counted g
   keeps_counted =
       subst (λ (z : Controller). Keeps rules notes z slots counted g)
-      (sym (m_is ∙ ap (λ (z : SqState). record a { sqs = slice_set a.sqs region (record z { unposted = n }) }) sq_is))
-      (keeps_region rules notes a slots k g region (record (sq_at a.sqs region) { unposted = n }) (record (k.sq region) { unposted = count }) k.held k.classed (h.numbers.sq_held region) (λ r other. refl) h none d.there refl refl (h.numbers.sq_queue region) n_counts refl refl)
+      (sym (m_is ∙ ap (λ (z : SqState). record a { sqs = slice_set a.sqs qid (record z { unposted = n }) }) sq_is))
+      (keeps_region rules notes a slots k g qid region (record (sq_at a.sqs qid) { unposted = n }) (record (k.sq region) { unposted = count }) k.held k.classed (h.numbers.sqs qid region d.there).held (λ r other. refl) h none d.there refl refl refl refl n_counts refl refl)
 
   pub droppable_counted : IsDroppable notes counted qid region c
   droppable_counted = record {
     there = d.there;
-    posts_there = d.posts_there;
     attached = rw (eq-eqb region region refl) d.attached;
     are_aborted = rw (eq-eqb region region refl) d.are_aborted;
     io = d.io;
@@ -253,19 +269,19 @@ module _ (rules : FrontRules) (notes : Notes) (a : Controller) (slots : List Slo
   pub begun_deleting : (w b : Controller) (mid pool : List Slot) (board : BoardFields) (s : Slot) (pending : ℕ) → HasDropped rules notes (dropped counted qid region c) slots tag w mid
       → board_of board ≡ record (board_of w.board) { queues = slice_set (board_of w.board).queues qid None } → board.arbiter ≡ w.board.arbiter → s ≡ slot_at mid tag
       → pool ≡ put_item mid tag (record s { state = 6 }) → pending ≡ min (w.pending_deletions + 1) 65535
-      → b ≡ record w { board = board; deletions = slice_set w.deletions region (record { pending = 1; tag = tag }); pending_deletions = pending }
+      → b ≡ record w { board = board; deletions = slice_set w.deletions qid (record { pending = 1; tag = tag }); pending_deletions = pending }
       → HasBegun rules notes (deleting k qid region c candidate) b pool
   begun_deleting w b mid pool board s pending e closed arbiter s_is pool_is pending_is b_is =
       subst (λ (z : Controller). HasBegun rules notes (deleting k qid region c candidate) z pool) (sym b_is)
-      (subst (λ (z : List Slot). HasBegun rules notes (deleting k qid region c candidate) (record w { board = board; deletions = slice_set w.deletions region (record { pending = 1; tag = tag }); pending_deletions = pending }) z)
+      (subst (λ (z : List Slot). HasBegun rules notes (deleting k qid region c candidate) (record w { board = board; deletions = slice_set w.deletions qid (record { pending = 1; tag = tag }); pending_deletions = pending }) z)
       (sym (pool_is ∙ ap (λ (z : Slot). put_item mid tag (record z { state = 6 })) s_is))
       (subst (λ (z : Content). HasBegun rules notes (record z { board = now; deletion = put_deletion k.deletion region (Some (record { place = place_at 0 candidate.index; cid = candidate.entry.cid; qid = qid; region = region })) })
-      (record w { board = board; deletions = slice_set w.deletions region (record { pending = 1; tag = tag }); pending_deletions = pending }) (put_item mid tag (record (slot_at mid tag) { state = 6 })))
+      (record w { board = board; deletions = slice_set w.deletions qid (record { pending = 1; tag = tag }); pending_deletions = pending }) (put_item mid tag (record (slot_at mid tag) { state = 6 })))
       (dropped_counted k qid region c count)
       (begun_pending rules notes (record w { board = board }) mid (record (dropped counted qid region c) { board = now }) e.items
       (keeps_board rules notes w mid (dropped counted qid region c) e.items board now e.keeps
       (closed ∙ ap (λ (z : BoardView). record z { queues = slice_set z.queues qid None }) e.keeps.numbers.board_is)
       (subst (λ (z : ArbiterFields). IsTrue (is_arbiter z)) (sym arbiter) e.keeps.numbers.is_arbiter))
-      tag qid region e.loose candidate (ap (λ (z : Slot). z.entry) e.slot ∙ entry) unanswered (cookie ∙ ap (λ (z : Slot). Some z.cookie) (sym e.slot)) not_passed_on pending pending_is d.there d.undeleted (ap (λ (z : Slot). z.region) e.slot ∙ first)))) where
+      tag qid region e.loose candidate (ap (λ (z : Slot). z.entry) e.slot ∙ entry) unanswered (cookie ∙ ap (λ (z : Slot). Some z.cookie) (sym e.slot)) not_passed_on pending pending_is d.there d.undeleted (ap (λ (z : Slot). z.sqid) e.slot ∙ first)))) where
         now : BoardView
         now = record k.board { queues = slice_set k.board.queues qid None }

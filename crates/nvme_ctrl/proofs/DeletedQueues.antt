@@ -4,7 +4,6 @@ use Rattle.std.specs.Prelude.{option_map, is_some}
 use Rattle.std.proofs.lemmas.Bool.{and_parts, false_from_ne_true, not-true}
 use Rattle.std.proofs.lemmas.Option.{same_Some}
 use Rattle.std.proofs.lemmas.List.Sums.{sum_by-append}
-use Rattle.nvme_admin.specs.declared.bounds.TheConstants.{MAX_REGIONS}
 use Rattle.nvme_admin.specs.declared.verdict.SqEntry.{SqEntry}
 use Rattle.nvme_log.specs.Rules.{FrontRules, Past}
 use Rattle.nvme_log.specs.Queues.{Queue, open_sq}
@@ -32,13 +31,13 @@ served_in false x y z e l = absurd (omega arith)
 
 module _ (rules : FrontRules) (late : Bool) (past : Past) (k : Content) (s : Holds rules late past k) where
   -- the region of a deletion is there
-  pub deletion_there : (r : ℕ) (d : PendingDelete) → k.deletion r ≡ Some d → r < MAX_REGIONS
-  deletion_there r d is =
+  pub deletion_within : (r : ℕ) (d : PendingDelete) → k.deletion r ≡ Some d → r < k.nsq
+  deletion_within r d is =
       let p = s.deletion.stands r d is in
       let o = s.queues.deleting r d is in
       let below = s.queues.sq_there d.region (record { qid = d.qid; cq_region = o.cq_region }) o.opened in
       let at = p.at in
-      omega (arith, below, at, s.tabled.few_sqs)
+      omega (arith, below, at)
 
   -- the region of an open queue has none
   pub open_undeleted : (q : ℕ) (queue : Queue) → open_sq past q ≡ Some queue → k.deletion queue.region ≡ None
@@ -76,8 +75,8 @@ module _ (rules : FrontRules) (late : Bool) (past : Past) (k : Content) (s : Hol
   -- the place of the command of a deletion is in hand
   pub deletion_held : (r : ℕ) (d : PendingDelete) → k.deletion r ≡ Some d → 1 ≤ times_held d.place.region d.place.index (hand_of k)
   deletion_held r d is =
-      let one = held-one d.place.region d.place.index k.deletion r d MAX_REGIONS (deletion_there r d is) is in
-      let all = sum_by-append (λ (p : Place). one_if (p.region == d.place.region && p.index == d.place.index)) k.hand (held_upto k.deletion MAX_REGIONS) in
+      let one = held-one d.place.region d.place.index k.deletion r d k.nsq (deletion_within r d is) is in
+      let all = sum_by-append (λ (p : Place). one_if (p.region == d.place.region && p.index == d.place.index)) k.hand (held_upto k.deletion k.nsq) in
       omega (arith, one, all, itself d.place)
 
   -- so it doesn't wait

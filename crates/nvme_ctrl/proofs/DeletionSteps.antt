@@ -11,7 +11,7 @@ use Rattle.nvme_admin.specs.QueueTable.{as_closing, unless_closing}
 use Rattle.nvme_admin.specs.Checks.{is_open}
 use Rattle.nvme_admin.specs.Accepted.{queue_table, sq_at}
 use Rattle.nvme_admin.specs.Changes.{IsDue, TellsChange, sq_after}
-use Rattle.nvme_admin.specs.Standing.{TableView, sq_of}
+use Rattle.nvme_admin.specs.QueueTable.{QueueTable}
 use Rattle.nvme_admin.specs.declared.verdict.SqEntry.{SqEntry}
 use Rattle.nvme_admin.specs.declared.verdict.Verdict.{Verdict}
 use Rattle.nvme_admin.specs.declared.verdict.Verdict.TheVariants.{Done, BeginDelete, CloseCq}
@@ -42,7 +42,7 @@ use Rattle.nvme_ctrl.proofs.StepKeeps.{KeepsFetch, KeepsIo, KeepsAdmin, KeepsPos
 
 -- ---- a deletion stands
 -- where its queue and its command are left
-stays : (past later : Past) (k after : Content) (r : ℕ) (d : PendingDelete) → IsPending past k r d → sq_of after.table d.qid ≡ sq_of k.table d.qid
+stays : (past later : Past) (k after : Content) (r : ℕ) (d : PendingDelete) → IsPending past k r d → after.table.sq d.qid ≡ k.table.sq d.qid
     → ((e : Sqe) → entry_at past d.place.region d.place.index ≡ Some e → entry_at later d.place.region d.place.index ≡ Some e)
     → is_aborted later d.place.region d.place.index ≡ is_aborted past d.place.region d.place.index
     → (after.sq d.region).window ≡ (k.sq d.region).window → (after.sq d.region).queue ≡ (k.sq d.region).queue
@@ -133,12 +133,12 @@ deleting-close rules late past k d table s can regions = record {
       let one = s.deletion.stands d.region d can.pending in
       let is = s.deletion.stands r x there in
       let qids : d.qid ≡ x.qid → ⊥ = λ e.
-      let moved : Some one.closing ≡ Some is.closing = sym one.in_table ∙ ap (sq_of k.table) e ∙ is.in_table in
+      let moved : Some one.closing ≡ Some is.closing = sym one.in_table ∙ ap k.table.sq e ∙ is.in_table in
       differs (sym is.at ∙ sym is.region ∙ ap (λ (z : SqEntry). z.region) (sym (same_Some one.closing is.closing moved)) ∙ one.region) in
-      let left : sq_of table x.qid ≡ sq_of k.table x.qid =
-      can.table_stands.sq x.qid ∙ finish-takes_one rules.start s.tabled.history d.qid x.qid
+      let left : table.sq x.qid ≡ k.table.sq x.qid =
+      ap (λ (t : QueueTable). t.sq x.qid) can.table_is ∙ finish-takes_one rules.start s.tabled.history d.qid x.qid
       ∙ ap (λ (b : Bool). if b then unless_closing (sq_at rules.start s.tabled.history x.qid) else sq_at rules.start s.tabled.history x.qid) (ne_eqb d.qid x.qid qids)
-      ∙ sym (s.tabled.stands.sq x.qid) in
+      ∙ sym (ap (λ (t : QueueTable). t.sq x.qid) s.tabled.table_is) in
       let closed : is_closed_region (closed_event d ∷ past) x.region ≡ is_closed_region past x.region =
       ap (λ (b : Bool). b || is_closed_region past x.region) (ne_eqb d.region x.region (λ e. differs (sym is.at ∙ sym e))) in
       stays past (closed_event d ∷ past) k (after_closed k d table) r x is left (λ e h. h) refl refl refl closed
@@ -245,7 +245,7 @@ closing_left (BeginDelete qid) sqs q e free may is closes = at_other qid q _ (sq
     true≢false (sym yes ∙ no)) ∙ is
 
 module _ (rules : FrontRules) (late : Bool) (past : Past) (k : Content) (seen : List Seen) (pick : Pick) (picked : BoardView)
-    (candidate : Candidate) (rest : List Candidate) (table : TableView) (c : ℕ) (board : BoardView) (s : Holds rules late past k)
+    (candidate : Candidate) (rest : List Candidate) (table : QueueTable) (c : ℕ) (board : BoardView) (s : Holds rules late past k)
     (admin : open_sq past 0 ≡ Some admin_queue) (zero_is : pick.qid ≡ 0) (can : CanApply rules past k s.tabled.history candidate rest table) where
   abbrev taken : Past
   taken = event.Pick seen pick ∷ past
@@ -254,11 +254,11 @@ module _ (rules : FrontRules) (late : Bool) (past : Past) (k : Content) (seen : 
   now = applied_to k picked table
 
   -- the table has its closing queues yet
-  table_left : (v : Verdict) → TellsChange rules.start s.tabled.history candidate.entry v → (r : ℕ) (d : PendingDelete) → k.deletion r ≡ Some d → sq_of table d.qid ≡ sq_of k.table d.qid
+  table_left : (v : Verdict) → TellsChange rules.start s.tabled.history candidate.entry v → (r : ℕ) (d : PendingDelete) → k.deletion r ≡ Some d → table.sq d.qid ≡ k.table.sq d.qid
   table_left v tells r d e =
       let p = s.deletion.stands r d e in
-      let was : sq_at rules.start s.tabled.history d.qid ≡ Some p.closing = sym (s.tabled.stands.sq d.qid) ∙ p.in_table in
-      can.table_stands.sq d.qid ∙ tells.sqs d.qid
+      let was : sq_at rules.start s.tabled.history d.qid ≡ Some p.closing = sym (ap (λ (t : QueueTable). t.sq d.qid) s.tabled.table_is) ∙ p.in_table in
+      ap (λ (t : QueueTable). t.sq d.qid) can.table_is ∙ tells.sqs d.qid
       ∙ closing_left v (sq_at rules.start s.tabled.history) d.qid p.closing
       (λ qid region cqid class is. let due = subst (λ (z : Verdict). IsDue (queue_table rules.start s.tabled.history) z) is tells.due in due.free)
       (λ qid is. let due = subst (λ (z : Verdict). IsDue (queue_table rules.start s.tabled.history) z) is tells.due in due.open_sq) was p.is_closing
@@ -269,7 +269,7 @@ module _ (rules : FrontRules) (late : Bool) (past : Past) (k : Content) (seen : 
   region_left r d e = apart k.sq 0 (picked_sq (k.sq 0) 1) d.region (s.deletion.stands r d e).not_admin
 
   -- a deletion stands where nothing but the admin queue's region is changed of the regions
-  stands_left : (later : Past) (after : Content) (r : ℕ) (d : PendingDelete) → k.deletion r ≡ Some d → sq_of after.table d.qid ≡ sq_of k.table d.qid
+  stands_left : (later : Past) (after : Content) (r : ℕ) (d : PendingDelete) → k.deletion r ≡ Some d → after.table.sq d.qid ≡ k.table.sq d.qid
       → ((x j : ℕ) → entry_at later x j ≡ entry_at past x j) → ((j : ℕ) → is_aborted later 0 j ≡ is_aborted past 0 j) → ((x : ℕ) → is_closed_region later x ≡ is_closed_region past x)
       → (after.sq d.region).window ≡ (k.sq d.region).window → (after.sq d.region).queue ≡ (k.sq d.region).queue → IsPending later after r d
   stands_left later after r d e same entries aborted closed window queue =
@@ -286,7 +286,7 @@ module _ (rules : FrontRules) (late : Bool) (past : Past) (k : Content) (seen : 
     place_is = λ r. deletes r ∙ s.deletion.place_is r ∙ ap (λ (f : ℕ → Option PendingDelete). option_map (λ (d : PendingDelete). d.place.index) (f r)) (sym deletions);
     stands = λ r d e.
         let there : k.deletion r ≡ Some d = ap (λ (f : ℕ → Option PendingDelete). f r) (sym deletions) ∙ e in
-        stands_left later after r d there (ap (λ (t : TableView). sq_of t d.qid) same ∙ table_left v tells r d there) entries aborted closed
+        stands_left later after r d there (ap (λ (t : QueueTable). t.sq d.qid) same ∙ table_left v tells r d there) entries aborted closed
         (ap (λ (z : SqContent). z.window) (sqs r d there)) (ap (λ (z : SqContent). z.queue) (sqs r d there));
   }
 
@@ -300,15 +300,15 @@ module _ (rules : FrontRules) (late : Bool) (past : Past) (k : Content) (seen : 
       let before : Past = event.Closing qid r ∷ taken in
       let later : Past = with_events (closing_of past qid (Some queue)) taken in
       let after : Content = deleting_from now qid c candidate (Some queue) in
-      let found = open_entry (sq_of k.table qid) queue (sym (s.queues.sqs qid) ∙ is_open) in
+      let found = open_entry (k.table.sq qid) queue (sym (s.queues.sqs qid) ∙ is_open) in
       let other : r ≡ 0 → ⊥ = io_region past k qid queue s.queues admin is_open due.not_admin in
       let d : PendingDelete = record { place = place_at 0 candidate.index; cid = candidate.entry.cid; qid = qid; region = r } in
       let place : latest_admin_place taken ≡ Some candidate.index =
       cond-true (pick.qid == 0) (slice_get (waiting past 0) 0) (latest_admin_place past) (eq-eqb pick.qid 0 zero_is) ∙ oldest_place past 0 (k.sq 0) (s.regions 0) candidate rest can.oldest in
-      let in_table : sq_of table qid ≡ Some (as_closing found.0) =
-      can.table_stands.sq qid ∙ tells.sqs qid
+      let in_table : table.sq qid ≡ Some (as_closing found.0) =
+      ap (λ (t : QueueTable). t.sq qid) can.table_is ∙ tells.sqs qid
       ∙ cond-true (qid == qid) (option_map as_closing (sq_at rules.start s.tabled.history qid)) (sq_at rules.start s.tabled.history qid) (eq-eqb qid qid refl)
-      ∙ ap (option_map as_closing) (sym (s.tabled.stands.sq qid) ∙ found.1) in
+      ∙ ap (option_map as_closing) (sym (ap (λ (t : QueueTable). t.sq qid) s.tabled.table_is) ∙ found.1) in
       let entry : entry_at later 0 candidate.index ≡ Some candidate.entry =
       ap (λ (xs : List Sqe). slice_get xs candidate.index) (aborts_leave_fetched r 0 is before) ∙ oldest_entry past 0 (k.sq 0) (s.regions 0) candidate rest can.oldest in
       let not_aborted : is_aborted later 0 candidate.index ≡ false =
@@ -389,7 +389,7 @@ module _ (rules : FrontRules) (late : Bool) (past : Past) (k : Content) (seen : 
       let due = tells.due in
       plain (verdict.OpenSq qid region cqid class) tells _ _ refl refl
       (λ r d e. apart now.sq region _ d.region (λ same.
-      let none : (k.sq region).queue ≡ None = s.queues.unused region (s.tabled.stands.sq_used region ∙ due.unused) in
+      let none : (k.sq region).queue ≡ None = s.queues.unused region (ap (λ (t : QueueTable). t.sq_region_used region) s.tabled.table_is ∙ due.unused) in
       let o = s.queues.deleting r d e in
       let some = o.opened in
       let moved : (k.sq d.region).queue ≡ None = ap (λ (z : ℕ). (k.sq z).queue) same ∙ none in
@@ -401,7 +401,7 @@ module _ (rules : FrontRules) (late : Bool) (past : Past) (k : Content) (seen : 
       (aborting_left sqid cid o refl) (λ r. abort_leaves_deleting past taken cid r o) (λ x j. entries_left cid x j o) (aborted_left sqid cid o refl) (λ x. closed_left cid x o)
   by_verdict (BeginDelete qid) tells = by_sq (open_sq past qid) refl where
     by_sq : (o : Option Queue) → open_sq past qid ≡ o → HoldsDeletion (with_events (closing_of past qid o) taken) (deleting_from now qid c candidate o)
-    by_sq None e = absurd (let due = tells.due in open_in_log (sq_at rules.start s.tabled.history qid) due.open_sq (ap as_open (sym (s.tabled.stands.sq qid)) ∙ sym (s.queues.sqs qid) ∙ e))
+    by_sq None e = absurd (let due = tells.due in open_in_log (sq_at rules.start s.tabled.history qid) due.open_sq (ap as_open (sym (ap (λ (t : QueueTable). t.sq qid) s.tabled.table_is)) ∙ sym (s.queues.sqs qid) ∙ e))
     by_sq (Some queue) e = begun qid queue tells e
 
 -- an admin pick keeps what is kept of pending deletions

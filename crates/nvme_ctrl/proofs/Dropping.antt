@@ -1,5 +1,5 @@
--- The candidates of a submission region are dropped, the oldest first: their completions are ready.
-use Rattle.std.proofs.Common.{◌≡◌, ◌≢◌, ℕ, ◌+◌, ◌<◌, ◌≤◌, ◌==◌, Bool, true, false, if◌then◌else◌, List, [], ◌∷◌, ◌++◌, zero, suc, length, get_or, map, drop, Some, None, refl, sym, ap, ◌∙◌, subst, arith, inl, inr, eq-eqb, append_assoc, append-nil}
+-- The candidates of a submission queue are dropped, the oldest first: their completions are ready.
+use Rattle.std.proofs.Common.{◌≡◌, ◌≢◌, ℕ, ◌+◌, ◌<◌, ◌≤◌, ◌==◌, Bool, true, false, if◌then◌else◌, List, [], ◌∷◌, ◌++◌, zero, suc, length, get_or, map, drop, Option, Some, None, refl, sym, ap, ◌∙◌, subst, arith, inl, inr, eq-eqb, append_assoc, append-nil}
 use Rattle.std.specs.Prelude.{slice_set}
 use Rattle.std.specs.List.{All}
 use Rattle.std.proofs.lemmas.Option.{same_Some}
@@ -23,48 +23,51 @@ use Rattle.nvme_ctrl.specs.kept.Kept.{is_passed_at, Item, Items, IsWaitingIn, Is
 use Rattle.nvme_ctrl.specs.inside.Loose.{IsLoose, Keeps, MakesReady, ended, with_item}
 use Rattle.nvme_ctrl.specs.inside.Carrying.{IsDroppable, oldest_dropped, item_dropped, dropped, HasDropped}
 use Rattle.nvme_ctrl.specs.kept.Pool.{no_entry, slot_at, item_at, IsChain, IsNew}
-use Rattle.nvme_ctrl.specs.kept.State.{sq_at, attachment_of}
-use Rattle.nvme_ctrl.proofs.CarriedOut.{none_picked_in}
+use Rattle.nvme_ctrl.specs.kept.State.{sq_at}
+use Rattle.nvme_ctrl.proofs.CarriedOut.{none_picked_of}
 use Rattle.nvme_ctrl.proofs.Ending.{new_to_ready, loose_ended}
 use Rattle.nvme_ctrl.proofs.PendingDeletions.{deletes_apart}
-use Rattle.nvme_ctrl.proofs.Pools.{IsNew-by}
+use Rattle.nvme_ctrl.proofs.Lives.{one_life}
+use Rattle.nvme_ctrl.proofs.Pools.{IsNew-by, IsNew-nil}
 use Rattle.nvme_ctrl.proofs.Windowed.{with_window, keeps_windowed}
 
--- the completion region of a queue that a region was opened for
-pub attached_region : (s : SqState) (qid c : ℕ) → attachment_of s ≡ Some (record { qid = qid; cq_region = c }) → s.cq_region ≡ c
-attached_region s qid c h = by (s.opened == 0) h where
-  here : Attachment
-  here = record { qid = s.qid; cq_region = s.cq_region }
-
-  named : Attachment
-  named = record { qid = qid; cq_region = c }
-
-  by : (b : Bool) → (if b then None else Some here) ≡ Some named → s.cq_region ≡ c
-  by true e = absurd (cc e)
-  by false e = ap (λ (x : Attachment). x.cq_region) (same_Some here named e)
+-- the completion queue of a submission queue is the one of the region that it posts to
+pub posts_to : (rules : FrontRules) (notes : Notes) (a : Controller) (slots : List Slot) (k : Content) (g : Items) (qid region c : ℕ) → Keeps rules notes a slots k g → k.sq_life qid ≡ Some region
+    → (k.sq region).queue ≡ Some (record { qid = qid; cq_region = c }) → k.cq_life (sq_at a.sqs qid).cqid ≡ Some c
+posts_to rules notes a slots k g qid region c h life attached =
+    let s = h.numbers.sqs qid region life in
+    let same = same_Some (record { qid = qid; cq_region = s.cq_region }) (record { qid = qid; cq_region = c }) (sym s.opened ∙ attached) in
+    s.cq_open ∙ ap (λ (x : Attachment). Some x.cq_region) same
 
 -- ---- a slot that waited, and that is in the window no more
 module _ (rules : FrontRules) (notes : Notes) (a : Controller) (slots : List Slot) (k : Content) (g : Items) (h : Keeps rules notes a slots k g)
-    (region : ℕ) (x : Item) (waits : IsWaitingIn slots region x) (inside : x.tag < length slots) (rest : List Item) (apart : IsNew x.tag (tags_of rest)) where
+    (qid region : ℕ) (life : k.sq_life qid ≡ Some region) (x : Item) (waits : IsWaitingIn slots qid region x) (inside : x.tag < length slots) (rest : List Item) (apart : IsNew x.tag (tags_of rest)) where
   -- it is in no list
   pub loose_waited : IsLoose slots (with_window g region rest) x.tag
   loose_waited = record {
     inside = inside;
     windows = window;
     outs = All-map (λ (y : ℕ). y ≢ x.tag) (λ (it : Item). it.tag) g.outs
-        (All-weaker (IsOutIn slots) (λ (it : Item). it.tag ≢ x.tag) (λ it o e. absurd (cc (sym o.state ∙ ap (λ (z : ℕ). (slot_at slots z).state) e ∙ waits.state))) g.outs h.has.outs_items);
+        (All-weaker (IsOutIn k.sq_id slots) (λ (it : Item). it.tag ≢ x.tag) (λ it o e. absurd (cc (sym o.state ∙ ap (λ (z : ℕ). (slot_at slots z).state) e ∙ waits.state))) g.outs h.has.outs_items);
     readies = new_to_ready rules notes a slots k g h x.tag 1 waits.state (omega arith);
-    deletes = deletes_apart a.deletions a.pending_deletions slots k.deletion g.deletes x.tag h.has.deletions (λ e. absurd (cc (sym e ∙ waits.state)));
+    deletes = deletes_apart a.deletions a.pending_deletions slots k.sq_life k.deletion g.deletes x.tag h.has.deletions (λ e. absurd (cc (sym e ∙ waits.state)));
     free = IsNew-by (λ (y : ℕ). (slot_at slots y).state ≡ 0) x.tag g.free h.has.free_items (λ e. absurd (cc (sym e ∙ waits.state)));
     not_out = λ e. absurd (cc (sym e ∙ waits.state));
     not_answered = λ e. absurd (cc (sym e ∙ waits.state));
   } where
+    -- the queue of another region, where there is one
+    other_window : (r : ℕ) → r ≢ region → (id : Option ℕ) → k.sq_id r ≡ id → IsNew x.tag (tags_of (g.windows r))
+    other_window r other None none = subst (λ (its : List Item). IsNew x.tag (tags_of its)) (sym (h.has.window_none r none)) (IsNew-nil x.tag)
+    other_window r other (Some q) id =
+        let there : k.sq_life q ≡ Some r = h.numbers.sq_ids.lives_are r q id in
+        let differs : q ≢ qid = λ e. other (one_life k.sq_life qid r region (subst (λ (n : ℕ). k.sq_life n ≡ Some r) e there) life) in
+        All-map (λ (y : ℕ). y ≢ x.tag) (λ (it : Item). it.tag) (g.windows r)
+        (All-weaker (IsWaitingIn slots q r) (λ (it : Item). it.tag ≢ x.tag) (λ it w e. differs (sym w.queue ∙ ap (λ (z : ℕ). (slot_at slots z).sqid) e ∙ waits.queue)) (g.windows r) (h.has.window_items q r there))
+
     window : (r : ℕ) → IsNew x.tag (tags_of ((with_window g region rest).windows r))
     window r = elim (cases_eq r region) [
       | inl same ↦ subst (λ (n : ℕ). IsNew x.tag (tags_of ((with_window g region rest).windows n))) (sym same) (rw (eq-eqb region region refl) apart)
-      | inr other ↦ rw (ne_eqb r region other)
-          (All-map (λ (y : ℕ). y ≢ x.tag) (λ (it : Item). it.tag) (g.windows r)
-          (All-weaker (IsWaitingIn slots r) (λ (it : Item). it.tag ≢ x.tag) (λ it w e. other (sym w.region ∙ ap (λ (z : ℕ). (slot_at slots z).region) e ∙ waits.region)) (g.windows r) (h.has.window_items r)))
+      | inr other ↦ rw (ne_eqb r region other) (other_window r other (k.sq_id r) refl)
     ]
 
 -- another slot that is in no list stays so, where fewer wait
@@ -84,37 +87,37 @@ loose_windowed slots g region rest y h new = record {
   by false r = h.windows r
 
 -- the first of those that wait is the first of the chain
-pub first_there : (rules : FrontRules) (notes : Notes) (a : Controller) (slots : List Slot) (k : Content) (g : Items) (region : ℕ) (s : SqState) (x : Item) (rest : List Item) → Keeps rules notes a slots k g
-    → g.windows region ≡ x ∷ rest → s ≡ sq_at a.sqs region → IsChain slots s.window (x.tag ∷ tags_of rest)
-first_there rules notes a slots k g region s x rest h is same =
+pub first_there : (rules : FrontRules) (notes : Notes) (a : Controller) (slots : List Slot) (k : Content) (g : Items) (qid region : ℕ) (s : SqState) (x : Item) (rest : List Item) → Keeps rules notes a slots k g
+    → k.sq_life qid ≡ Some region → g.windows region ≡ x ∷ rest → s ≡ sq_at a.sqs qid → IsChain slots s.window (x.tag ∷ tags_of rest)
+first_there rules notes a slots k g qid region s x rest h life is same =
     subst (λ (z : SqState). IsChain slots z.window (x.tag ∷ tags_of rest)) (sym same)
-    (subst (λ (its : List Item). IsChain slots (sq_at a.sqs region).window (tags_of its)) is (h.has.window_chain region))
+    (subst (λ (its : List Item). IsChain slots (sq_at a.sqs qid).window (tags_of its)) is (h.has.window_chain qid region life))
 
 -- ---- the oldest candidate
 -- a command that ends with its queue
-abbrev pub KeepsDrop : (a : Controller) (slots : List Slot) (tag region : ℕ) (b : Controller) (pool : List Slot) → Type 0
-KeepsDrop a slots tag region b pool =
+abbrev pub KeepsDrop : (a : Controller) (slots : List Slot) (tag cqid : ℕ) (b : Controller) (pool : List Slot) → Type 0
+KeepsDrop a slots tag cqid b pool =
     (rules : FrontRules) (notes : Notes) (k : Content) (g : Items) (t : Ready) → Keeps rules notes a slots k g → IsLoose slots g tag → MakesReady slots tag 5 aborted_by_deletion 0 t → IsThrough notes t
-    → IsCookie notes slots tag t.place → t.passed ≡ is_passed_at notes t.place → IsUnmarked notes t.place → region < 65
-    → Keeps rules notes b pool (with_ready k region t) (with_item g region (ended tag t))
+    → IsCookie notes slots tag t.place → t.passed ≡ is_passed_at notes t.place → IsUnmarked notes t.place
+    → (x : ℕ) → k.cq_life cqid ≡ Some x → k.sq_id t.place.region ≡ Some t.sqid → Keeps rules notes b pool (with_ready k x t) (with_item g x (ended tag t))
 
 module _ (rules : FrontRules) (notes : Notes) (a : Controller) (slots : List Slot) (k : Content) (g : Items) (qid region c : ℕ) (x : Item) (rest : List Item)
     (h : Keeps rules notes a slots k g) (none : a.picked ≡ 0) (d : IsDroppable notes k qid region c) (is : g.windows region ≡ x ∷ rest) where
-  pub oldest_chain : IsChain slots (sq_at a.sqs region).window (x.tag ∷ tags_of rest)
-  oldest_chain = subst (λ (its : List Item). IsChain slots (sq_at a.sqs region).window (tags_of its)) is (h.has.window_chain region)
+  pub oldest_chain : IsChain slots (sq_at a.sqs qid).window (x.tag ∷ tags_of rest)
+  oldest_chain = subst (λ (its : List Item). IsChain slots (sq_at a.sqs qid).window (tags_of its)) is (h.has.window_chain qid region d.there)
 
-  waits : All (IsWaitingIn slots region) (x ∷ rest)
-  waits = subst (All (IsWaitingIn slots region)) is (h.has.window_items region)
+  waits : All (IsWaitingIn slots qid region) (x ∷ rest)
+  waits = subst (All (IsWaitingIn slots qid region)) is (h.has.window_items qid region d.there)
 
-  first : IsWaitingIn slots region x
-  first = All-head (IsWaitingIn slots region) x rest waits
+  first : IsWaitingIn slots qid region x
+  first = All-head (IsWaitingIn slots qid region) x rest waits
 
   loose : IsLoose slots (with_window g region rest) x.tag
-  loose = loose_waited rules notes a slots k g h region x first (All-head (λ (z : ℕ). z < length slots) x.tag (tags_of rest) oldest_chain.inside) rest oldest_chain.apart.0
+  loose = loose_waited rules notes a slots k g h qid region d.there x first (All-head (λ (z : ℕ). z < length slots) x.tag (tags_of rest) oldest_chain.inside) rest oldest_chain.apart.0
 
   pub window_is : (k.sq region).window ≡ map candidate_of (x ∷ rest)
   window_is =
-      h.has.window_is region ∙ ap (λ (n : ℕ). map candidate_of (drop n (g.windows region))) (none_picked_in a region none)
+      h.has.window_is region ∙ ap (λ (n : ℕ). map candidate_of (drop n (g.windows region))) (none_picked_of a (k.sq_id region) none)
       ∙ ap (λ (its : List Item). map candidate_of its) is
 
   cookies : All (HasCookie notes slots) (x ∷ rest)
@@ -133,13 +136,12 @@ module _ (rules : FrontRules) (notes : Notes) (a : Controller) (slots : List Slo
       (subst (All (λ (z : Candidate). is_aborted (logged notes) region z.index ≡ true)) window_is d.are_aborted))
 
   -- it is dropped
-  pub keeps_dropped : (sq : SqState) (chain : Chain) (m b : Controller) (pool : List Slot) (tag : ℕ) → sq ≡ sq_at a.sqs region → IsChain slots chain (tags_of rest)
-      → m ≡ record a { sqs = slice_set a.sqs region (record sq { window = chain }) } → tag ≡ x.tag → KeepsDrop m slots tag sq.cq_region b pool
+  pub keeps_dropped : (sq : SqState) (chain : Chain) (m b : Controller) (pool : List Slot) (tag : ℕ) → sq ≡ sq_at a.sqs qid → IsChain slots chain (tags_of rest)
+      → m ≡ record a { sqs = slice_set a.sqs qid (record sq { window = chain }) } → tag ≡ x.tag → KeepsDrop m slots tag sq.cqid b pool
       → Keeps rules notes b pool (oldest_dropped k qid region c x rest) (item_dropped g qid region c x rest)
   keeps_dropped sq chain m b pool tag sq_is linked m_is tag_is drops =
-      subst (λ (z : ℕ). Keeps rules notes b pool (with_ready mid z t) (with_item (with_window g region rest) z (ended x.tag t))) to
-      (subst (λ (z : ℕ). KeepsDrop m slots z sq.cq_region b pool) tag_is drops rules notes mid (with_window g region rest) t keeps loose made is_through cookie (sym (rw d.io refl)) unmarked
-      (subst (λ (z : ℕ). z < 65) (sym to) d.posts_there)) where
+      subst (λ (z : ℕ). KeepsDrop m slots z sq.cqid b pool) tag_is drops rules notes mid (with_window g region rest) t keeps loose made is_through cookie (sym (rw d.io refl)) unmarked c to
+      (h.numbers.sq_ids.ids_are qid region d.there) where
         t : Ready
         t = aborted qid region (candidate_of x)
 
@@ -147,24 +149,24 @@ module _ (rules : FrontRules) (notes : Notes) (a : Controller) (slots : List Slo
         mid = with_sq k region (record (k.sq region) { window = map candidate_of rest })
 
         s : SqState
-        s = record (sq_at a.sqs region) { window = chain }
+        s = record (sq_at a.sqs qid) { window = chain }
 
-        to : sq.cq_region ≡ c
-        to = ap (λ (z : SqState). z.cq_region) sq_is ∙ attached_region (sq_at a.sqs region) qid c (h.numbers.sq_queue region ∙ d.attached)
+        to : k.cq_life sq.cqid ≡ Some c
+        to = ap (λ (z : SqState). k.cq_life z.cqid) sq_is ∙ posts_to rules notes a slots k g qid region c h d.there d.attached
 
         keeps : Keeps rules notes m slots mid (with_window g region rest)
         keeps =
             subst (λ (z : Controller). Keeps rules notes z slots mid (with_window g region rest))
-            (sym (m_is ∙ ap (λ (z : SqState). record a { sqs = slice_set a.sqs region (record z { window = chain }) }) sq_is))
-            (keeps_windowed rules notes a slots k g h none region d.there s (record (k.sq region) { window = map candidate_of rest }) rest slots k.held k.classed (h.numbers.sq_held region) (λ z other. refl) (record { size = refl; items = λ z. refl }) (λ z new. refl)
-            refl (h.numbers.sq_queue region) (h.numbers.sq_unposted region) refl linked (All-tail (IsWaitingIn slots region) x rest waits) refl
+            (sym (m_is ∙ ap (λ (z : SqState). record a { sqs = slice_set a.sqs qid (record z { window = chain }) }) sq_is))
+            (keeps_windowed rules notes a slots k g h none qid region d.there s (record (k.sq region) { window = map candidate_of rest }) rest slots k.held k.classed (h.numbers.sqs qid region d.there).held (λ z other. refl)
+            (record { size = refl; items = λ z. refl }) (λ z new. refl) refl refl refl (h.numbers.sqs qid region d.there).unposted refl linked (All-tail (IsWaitingIn slots qid region) x rest waits) refl
             (All-tail (λ (it : Item). IsUnanswered notes it.place) x rest (subst (All (λ (it : Item). IsUnanswered notes it.place)) is (h.tags.windows_unanswered region)))
             (All-tail (HasCookie notes slots) x rest cookies))
 
         made : MakesReady slots x.tag 5 aborted_by_deletion 0 t
         made = record {
           state_is = refl;
-          region = first.region;
+          sqid = first.queue;
           cid = ap (λ (z : Sqe). z.cid) first.entry;
           status_is = refl;
           dw0_is = refl;
@@ -270,7 +272,6 @@ pub droppable_step : (notes : Notes) (k : Content) (qid region c : ℕ) (x : Ite
     → IsDroppable notes (oldest_dropped k qid region c x rest) qid region c
 droppable_step notes k qid region c x rest d is = record {
   there = d.there;
-  posts_there = d.posts_there;
   attached = rw (eq-eqb region region refl) d.attached;
   io = d.io;
   undeleted = d.undeleted;
@@ -284,10 +285,10 @@ pub dropping_step : (rules : FrontRules) (notes : Notes) (k : Content) (qid regi
     → now.picked ≡ 0 → IsDropping rules notes k qid region c slots y now pool (x ∷ rest)
     → ((k : Content) (g : Items) → Keeps rules notes now pool k g → now.picked ≡ 0 → IsDroppable notes k qid region c → g.windows region ≡ x ∷ rest
     → Keeps rules notes later after (oldest_dropped k qid region c x rest) (item_dropped g qid region c x rest))
-    → length after ≡ length pool → ((k : Content) (g : Items) → Keeps rules notes now pool k g → g.windows region ≡ x ∷ rest → (z : ℕ) → z ≢ x.tag → item_at after z ≡ item_at pool z)
+    → length after ≡ length pool → ((k : Content) (g : Items) → Keeps rules notes now pool k g → k.sq_life qid ≡ Some region → g.windows region ≡ x ∷ rest → (z : ℕ) → z ≢ x.tag → item_at after z ≡ item_at pool z)
     → IsDropping rules notes k qid region c slots y later after rest
 dropping_step rules notes k qid region c slots y now later pool after x rest none h drops size others =
-    let same : (z : ℕ) → z ≢ x.tag → item_at after z ≡ item_at pool z = others h.content h.items h.keeps h.window in
+    let same : (z : ℕ) → z ≢ x.tag → item_at after z ≡ item_at pool z = others h.content h.items h.keeps h.may.there h.window in
     let w : (h.content.sq region).window ≡ map candidate_of (x ∷ rest) = window_is rules notes now pool h.content h.items qid region c x rest h.keeps none h.may h.window in
     record {
       content = oldest_dropped h.content qid region c x rest;
@@ -305,7 +306,7 @@ pub dropping_end : (rules : FrontRules) (notes : Notes) (k : Content) (qid regio
     → now.picked ≡ 0 → IsDropping rules notes k qid region c slots y now pool [] → HasDropped rules notes (dropped k qid region c) slots y now pool
 dropping_end rules notes k qid region c slots y now pool none h =
     let w : (h.content.sq region).window ≡ [] =
-    h.keeps.has.window_is region ∙ ap (λ (n : ℕ). map candidate_of (drop n (h.items.windows region))) (none_picked_in now region none) ∙ ap (λ (its : List Item). map candidate_of its) h.window in
+    h.keeps.has.window_is region ∙ ap (λ (n : ℕ). map candidate_of (drop n (h.items.windows region))) (none_picked_of now (h.content.sq_id region) none) ∙ ap (λ (its : List Item). map candidate_of its) h.window in
     record {
       items = h.items;
       keeps = subst (λ (z : Content). Keeps rules notes now pool z h.items) (sym (all_dropped h.content qid region c w) ∙ h.whole) h.keeps;
@@ -329,14 +330,14 @@ pub dropping_next : (rules : FrontRules) (notes : Notes) (k : Content) (qid regi
     → ((k : Content) (g : Items) (x : Item) (rest : List Item) → Keeps rules notes now pool k g → now.picked ≡ 0 → IsDroppable notes k qid region c → g.windows region ≡ x ∷ rest
     → Keeps rules notes later after (oldest_dropped k qid region c x rest) (item_dropped g qid region c x rest))
     → length after ≡ length pool
-    → ((k : Content) (g : Items) (x : Item) (rest : List Item) → Keeps rules notes now pool k g → g.windows region ≡ x ∷ rest → (z : ℕ) → z ≢ x.tag → item_at after z ≡ item_at pool z)
+    → ((k : Content) (g : Items) (x : Item) (rest : List Item) → Keeps rules notes now pool k g → k.sq_life qid ≡ Some region → g.windows region ≡ x ∷ rest → (z : ℕ) → z ≢ x.tag → item_at after z ≡ item_at pool z)
     → IsDropping rules notes k qid region c slots y later after (drop (i + 1) xs)
 dropping_next rules notes k qid region c slots y now later pool after xs i more none h drops size others =
     let x : Item = get_or xs i no_item in
     let rest : List Item = drop (i + 1) xs in
     dropping_step rules notes k qid region c slots y now later pool after x rest none
     (subst (IsDropping rules notes k qid region c slots y now pool) (drop_more xs i no_item more) h)
-    (λ k g keeps none may is. drops k g x rest keeps none may is) size (λ k g keeps is. others k g x rest keeps is)
+    (λ k g keeps none may is. drops k g x rest keeps none may is) size (λ k g keeps life is. others k g x rest keeps life is)
 
 drop-none : (xs : List Item) (i : ℕ) → length xs ≤ i → drop i xs ≡ []
 drop-none [] zero h = refl
@@ -351,6 +352,6 @@ dropping_done rules notes k qid region c slots y now pool xs i past none h =
     dropping_end rules notes k qid region c slots y now pool none (subst (IsDropping rules notes k qid region c slots y now pool) (drop-none xs i past) h)
 
 -- as many wait as the chain has slots
-pub window_length : (rules : FrontRules) (notes : Notes) (a : Controller) (slots : List Slot) (k : Content) (g : Items) (region : ℕ) → Keeps rules notes a slots k g
-    → (sq_at a.sqs region).window.len ≡ length (g.windows region)
-window_length rules notes a slots k g region h = (h.has.window_chain region).len_is ∙ length-map (g.windows region) (λ (it : Item). it.tag)
+pub window_length : (rules : FrontRules) (notes : Notes) (a : Controller) (slots : List Slot) (k : Content) (g : Items) (qid region : ℕ) → Keeps rules notes a slots k g
+    → k.sq_life qid ≡ Some region → (sq_at a.sqs qid).window.len ≡ length (g.windows region)
+window_length rules notes a slots k g qid region h life = (h.has.window_chain qid region life).len_is ∙ length-map (g.windows region) (λ (it : Item). it.tag)

@@ -1,9 +1,9 @@
--- A command whose slot is between two lists becomes ready in a completion region.
+-- A command whose slot is between two lists becomes ready in a completion queue.
 use Rattle.std.proofs.Common.{◌≡◌, ◌≢◌, ℕ, ◌+◌, ◌<◌, ◌≤◌, ◌^◌, ◌==◌, Bool, true, false, if◌then◌else◌, List, [], ◌∷◌, ◌++◌, length, Option, Some, None, refl, sym, ap, ◌∙◌, subst, arith, inl, inr, eq-eqb}
 use Rattle.std.specs.Prelude.{slice_set}
 use Rattle.std.specs.List.{All}
 use Rattle.std.proofs.lemmas.Bool.{cases_eq, ne_eqb}
-use Rattle.std.proofs.lemmas.List.{get_or-set_same, get_or-set_other, length-set, map-append}
+use Rattle.std.proofs.lemmas.List.{length-set, map-append}
 use Rattle.std.proofs.lemmas.List.Elements.{All-cons, All-push, All-weaker, All-map}
 use Rattle.nvme_entry.specs.Status.{StatusCode}
 use Rattle.nvme_log.specs.Rules.{FrontRules}
@@ -25,6 +25,7 @@ use Rattle.nvme_ctrl.specs.inside.Loose.{IsLoose, AreReadiesApart, Keeps, MakesR
 use Rattle.nvme_ctrl.specs.kept.Pool.{slot_at, item_at, next_at, put_item, bit, marks_in, IsChain, IsNew, SameItems, SameLinks}
 use Rattle.nvme_ctrl.specs.kept.State.{no_cq_state, cq_at}
 use Rattle.nvme_ctrl.proofs.Cookies.{SameCookies, same_cookies-but, cookie_left, items_left, readies_left}
+use Rattle.nvme_ctrl.proofs.Lives.{put_cq-lives, put_cq-states}
 use Rattle.nvme_ctrl.proofs.PendingDeletions.{deletions_stay}
 use Rattle.nvme_ctrl.proofs.PutMarks.{put_marks}
 use Rattle.nvme_ctrl.proofs.OwnStatus.{All-unmap}
@@ -36,26 +37,26 @@ module _ (rules : FrontRules) (notes : Notes) (a : Controller) (slots : List Slo
   pub new_to_ready : (x n : ℕ) → (slot_at slots x).state ≡ n → n ≤ 2 → (y : ℕ) → IsNew x (ready_tags (g.readies y))
   new_to_ready x n is low y =
       All-map (λ (z : ℕ). z ≢ x) (λ (it : ReadyItem). it.tag) (g.readies y)
-      (All-weaker (IsReadyIn slots) (λ (it : ReadyItem). it.tag ≢ x)
+      (All-weaker (IsReadyIn k.sq_id slots) (λ (it : ReadyItem). it.tag ≢ x)
       (λ it r e. absurd (omega (arith, ap (λ (z : ℕ). (slot_at slots z).state) e, r.state, (ready_state-range it.was_out it.ready.with_queue).0, is, low)))
       (g.readies y) (h.has.ready_items y))
 
   -- so with those that wait
-  pub windows_unready : (r y : ℕ) → All (λ (x : ℕ). IsNew x (ready_tags (g.readies y))) (tags_of (g.windows r))
-  windows_unready r y =
+  pub windows_unready : (q r y : ℕ) → k.sq_life q ≡ Some r → All (λ (x : ℕ). IsNew x (ready_tags (g.readies y))) (tags_of (g.windows r))
+  windows_unready q r y life =
       All-map (λ (x : ℕ). IsNew x (ready_tags (g.readies y))) (λ (it : Item). it.tag) (g.windows r)
-      (All-weaker (IsWaitingIn slots r) (λ (it : Item). IsNew it.tag (ready_tags (g.readies y))) (λ it w. new_to_ready it.tag 1 w.state (omega arith) y) (g.windows r) (h.has.window_items r))
+      (All-weaker (IsWaitingIn slots q r) (λ (it : Item). IsNew it.tag (ready_tags (g.readies y))) (λ it w. new_to_ready it.tag 1 w.state (omega arith) y) (g.windows r) (h.has.window_items q r life))
 
   -- and the free ones
   pub free_unready : (y : ℕ) → All (λ (x : ℕ). IsNew x (ready_tags (g.readies y))) g.free
   free_unready y = All-weaker (is_free slots) (λ (x : ℕ). IsNew x (ready_tags (g.readies y))) (λ x f. new_to_ready x 0 f (omega arith) y) g.free h.has.free_items
 
 module _ (rules : FrontRules) (notes : Notes) (a : Controller) (slots : List Slot) (k : Content) (g : Items) (h : Keeps rules notes a slots k g)
-    (tag : ℕ) (loose : IsLoose slots g tag) (region : ℕ) (within : region < 65) (t : Ready) (through : IsThrough notes t)
+    (tag : ℕ) (loose : IsLoose slots g tag) (cqid region : ℕ) (life : k.cq_life cqid ≡ Some region) (t : Ready) (through : IsThrough notes t)
     (pool : List Slot) (size : length pool ≡ length slots) (others : (y : ℕ) → y ≢ tag → item_at pool y ≡ item_at slots y)
     (links : SameLinks (ready_tags (g.readies region)) slots pool)
     (chain : Chain) (linked : IsChain pool chain (ready_tags (g.readies region) ++ tag ∷ []))
-    (ready : IsReadyIn pool (ended tag t)) (same : SameCookies slots pool) (cookie : IsCookie notes slots tag t.place) (passed_as : t.passed ≡ is_passed_at notes t.place) (unmarked : IsUnmarked notes t.place) where
+    (ready : IsReadyIn k.sq_id pool (ended tag t)) (same : SameCookies slots pool) (cookie : IsCookie notes slots tag t.place) (passed_as : t.passed ≡ is_passed_at notes t.place) (unmarked : IsUnmarked notes t.place) where
   abbrev later : Items
   later = with_item g region (ended tag t)
 
@@ -63,25 +64,37 @@ module _ (rules : FrontRules) (notes : Notes) (a : Controller) (slots : List Slo
   kept = with_ready k region t
 
   abbrev state : CqState
-  state = record (cq_at a.cqs region) { ready = chain }
+  state = record (cq_at a.cqs cqid) { ready = chain }
 
   abbrev after : Controller
-  after = record a { cqs = slice_set a.cqs region state }
+  after = record a { cqs = slice_set a.cqs cqid state }
 
-  there : region < length a.cqs
-  there = let size = h.numbers.cq_size in omega (arith, within)
+  there : cqid < length a.cqs
+  there = let size = h.numbers.cq_size in let within = h.numbers.few_cqs cqid region life in omega (arith, within)
+
+  abbrev ready_content : CqContent
+  ready_content = record (k.cq region) { ready = (k.cq region).ready ++ t ∷ [] }
+
+  -- what is so of each open completion queue
+  each : (P : ℕ → ℕ → CqState → CqContent → Type 0) → P cqid region state ready_content
+      → ((q x : ℕ) → q ≢ cqid → x ≢ region → k.cq_life q ≡ Some x → P q x (cq_at a.cqs q) (k.cq x))
+      → (q x : ℕ) → k.cq_life q ≡ Some x → P q x (cq_at after.cqs q) (kept.cq x)
+  each P here other =
+      put_cq-lives (λ q x s c (its : List ReadyItem). P q x s c) k.cq_life k.cq_id h.numbers.cq_ids a.cqs k.cq g.readies cqid region state ready_content [] life there here other
+
+  -- with what is ready in it
+  each_ready : (P : ℕ → ℕ → CqState → List ReadyItem → Type 0) → P cqid region state (g.readies region ++ ended tag t ∷ [])
+      → ((q x : ℕ) → q ≢ cqid → x ≢ region → k.cq_life q ≡ Some x → P q x (cq_at a.cqs q) (g.readies x))
+      → (q x : ℕ) → k.cq_life q ≡ Some x → P q x (cq_at after.cqs q) (later.readies x)
+  each_ready P here other =
+      put_cq-lives (λ q x s (c : CqContent) its. P q x s its) k.cq_life k.cq_id h.numbers.cq_ids a.cqs k.cq g.readies cqid region state ready_content (g.readies region ++ ended tag t ∷ []) life there here other
 
   -- what is so of each completion region
-  each : (P : ℕ → CqState → CqContent → List ReadyItem → Type 0)
-      → P region state (record (k.cq region) { ready = (k.cq region).ready ++ t ∷ [] }) (g.readies region ++ ended tag t ∷ [])
-      → ((x : ℕ) → x ≢ region → P x (cq_at a.cqs x) (k.cq x) (g.readies x))
-      → (x : ℕ) → P x (cq_at after.cqs x) (kept.cq x) (later.readies x)
-  each P here other x = elim (cases_eq x region) [
-    | inl same ↦ subst (λ (n : ℕ). P n (cq_at after.cqs n) (kept.cq n) (later.readies n)) (sym same)
-        (subst (λ (s : CqState). P region s (kept.cq region) (later.readies region)) (sym (get_or-set_same a.cqs region state no_cq_state there))
-        (rw (eq-eqb region region refl) here))
-    | inr differs ↦ subst (λ (s : CqState). P x s (kept.cq x) (later.readies x)) (sym (get_or-set_other a.cqs region x state no_cq_state differs))
-        (rw (ne_eqb x region differs) (other x differs))
+  each_region : (P : ℕ → CqContent → List ReadyItem → Type 0) → P region ready_content (g.readies region ++ ended tag t ∷ [])
+      → ((x : ℕ) → x ≢ region → P x (k.cq x) (g.readies x)) → (x : ℕ) → P x (kept.cq x) (later.readies x)
+  each_region P here other x = elim (cases_eq x region) [
+    | inl same ↦ subst (λ (n : ℕ). P n (kept.cq n) (later.readies n)) (sym same) (rw (eq-eqb region region refl) here)
+    | inr differs ↦ rw (ne_eqb x region differs) (other x differs)
   ]
 
   -- the tags in the region are one more
@@ -108,63 +121,81 @@ module _ (rules : FrontRules) (notes : Notes) (a : Controller) (slots : List Slo
 
   numbers_after : HasNumbers after kept
   numbers_after = let n = h.numbers in record {
-    table_is = n.table_is;
-    sized = n.sized;
+    tells = n.tells;
     board_is = n.board_is;
     is_arbiter = n.is_arbiter;
     outstanding_is = n.outstanding_is;
-    sq_queue = n.sq_queue;
-    sq_held = n.sq_held;
-    sq_unposted = n.sq_unposted;
-    sq_slots = n.sq_slots;
-    cq_slots = each (λ x s c its. s.ring.slots ≡ c.slots) (n.cq_slots region) (λ x other. n.cq_slots x);
-    sq_some = n.sq_some;
+    sq_ids = n.sq_ids;
+    cq_ids = n.cq_ids;
+    sqs = λ q r is. let s = n.sqs q r is in record {
+      entry = s.entry;
+      in_table = s.in_table;
+      on = s.on;
+      to = s.to;
+      cq_region = s.cq_region;
+      cq_open = s.cq_open;
+      opened = s.opened;
+      held = s.held;
+      unposted = s.unposted;
+      slots = s.slots;
+      some = s.some;
+    };
+    cqs = λ q x is. record {
+      slots = each (λ q x s c. s.ring.slots ≡ c.slots) (n.cqs cqid region life).slots (λ q x other apart is. (n.cqs q x is).slots) q x is;
+      some = each (λ q x s c. 0 < c.slots) (n.cqs cqid region life).some (λ q x other apart is. (n.cqs q x is).some) q x is;
+    };
+    few_sqs = n.few_sqs;
+    few_cqs = n.few_cqs;
+    no_sqs = n.no_sqs;
+    no_cqs = λ q. put_cq-states (λ (q : ℕ) (s : CqState). k.cq_life q ≡ None → s ≡ no_cq_state) a.cqs cqid state there (λ none. absurd (cc (none, life))) q (λ other. n.no_cqs q);
     sq_size = n.sq_size;
-    cq_size = length-set a.cqs region state ∙ n.cq_size;
+    cq_size = length-set a.cqs cqid state ∙ n.cq_size;
   }
 
   items_after : HasItems after pool kept later
   items_after = let m = h.has in record {
-    window_chain = λ r. left _ _ (m.window_chain r) (windows_unready rules notes a slots k g h r region);
-    window_items = λ r. All-both (λ (it : Item). it.tag ≢ tag) (IsWaitingIn slots r) (IsWaitingIn pool r) (λ it. waiting_stays slots pool tag size others r it) (g.windows r)
-        (All-unmap (λ (x : ℕ). x ≢ tag) (λ (it : Item). it.tag) (g.windows r) (loose.windows r)) (m.window_items r);
+    window_chain = λ q r is. left _ _ (m.window_chain q r is) (windows_unready rules notes a slots k g h q r region is);
+    window_items = λ q r is. All-both (λ (it : Item). it.tag ≢ tag) (IsWaitingIn slots q r) (IsWaitingIn pool q r) (λ it. waiting_stays slots pool tag size others q r it) (g.windows r)
+        (All-unmap (λ (x : ℕ). x ≢ tag) (λ (it : Item). it.tag) (g.windows r) (loose.windows r)) (m.window_items q r is);
+    window_none = m.window_none;
     window_is = m.window_is;
     picked_there = m.picked_there;
-    outs_items = All-both (λ (it : Item). it.tag ≢ tag) (IsOutIn slots) (IsOutIn pool) (out_stays slots pool tag size others) g.outs
+    outs_items = All-both (λ (it : Item). it.tag ≢ tag) (IsOutIn k.sq_id slots) (IsOutIn k.sq_id pool) (out_stays slots pool tag size others k.sq_id) g.outs
         (All-unmap (λ (x : ℕ). x ≢ tag) (λ (it : Item). it.tag) g.outs loose.outs) m.outs_items;
     outs_apart = m.outs_apart;
     outs_all = λ x is. m.outs_all x (had_state x 2 (omega arith) is);
     hand_is = m.hand_is;
-    ready_chain = each (λ x s c its. IsChain pool s.ready (ready_tags its)) (subst (IsChain pool chain) (sym tags_are) linked)
-        (λ x other. left _ _ (m.ready_chain x) (h.apart x region other));
-    ready_items = each (λ x s c its. All (IsReadyIn pool) its) (All-push (IsReadyIn pool) (g.readies region) (ended tag t) (still region) ready) (λ x other. still x);
-    ready_is = each (λ x s c its. c.ready ≡ readies_of its)
+    ready_chain = each_ready (λ q x s its. IsChain pool s.ready (ready_tags its)) (subst (IsChain pool chain) (sym tags_are) linked)
+        (λ q x other apart is. left _ _ (m.ready_chain q x is) (h.apart x region apart));
+    ready_items = each_region (λ x c its. All (IsReadyIn k.sq_id pool) its) (All-push (IsReadyIn k.sq_id pool) (g.readies region) (ended tag t) (still region) ready) (λ x other. still x);
+    ready_none = each_region (λ x c its. k.cq_id x ≡ None → its ≡ []) (λ none. absurd (let id = h.numbers.cq_ids.ids_are cqid region life in cc (none, id))) (λ x other. m.ready_none x);
+    ready_is = each_region (λ x c its. c.ready ≡ readies_of its)
         (ap (λ (ts : List Ready). ts ++ t ∷ []) (m.ready_is region) ∙ sym (map-append (λ (it : ReadyItem). it.ready) (g.readies region) (ended tag t ∷ [])))
         (λ x other. m.ready_is x);
-    deletions = deletions_stay a.deletions a.pending_deletions slots pool k.deletion g.deletes tag size others loose.deletes m.deletions;
+    deletions = deletions_stay a.deletions a.pending_deletions slots pool k.sq_life k.deletion g.deletes tag size others loose.deletes m.deletions;
     free_chain = left _ _ m.free_chain (free_unready rules notes a slots k g h region);
     free_items = All-both (λ (x : ℕ). x ≢ tag) (is_free slots) (is_free pool) (λ x other. same_state slots pool tag size others x 0 other) g.free loose.free m.free_items;
     few = subst (λ (n : ℕ). n < 2 ^ 16) (sym size) m.few;
   } where
-    still : (x : ℕ) → All (IsReadyIn pool) (g.readies x)
-    still x = All-both (λ (it : ReadyItem). it.tag ≢ tag) (IsReadyIn slots) (IsReadyIn pool) (ready_stays slots pool tag size others) (g.readies x)
+    still : (x : ℕ) → All (IsReadyIn k.sq_id pool) (g.readies x)
+    still x = All-both (λ (it : ReadyItem). it.tag ≢ tag) (IsReadyIn k.sq_id slots) (IsReadyIn k.sq_id pool) (ready_stays slots pool tag size others k.sq_id) (g.readies x)
         (All-unmap (λ (y : ℕ). y ≢ tag) (λ (it : ReadyItem). it.tag) (g.readies x) (loose.readies x)) (h.has.ready_items x)
 
-  doorbells_after : HoldsDoorbells rules notes after
+  doorbells_after : HoldsDoorbells rules notes after kept
   doorbells_after = let d = h.doorbells in record {
     sqs = d.sqs;
-    cqs = each (λ x s c its. 0 < s.ring.slots → HasCounts s.ring (consumed rules notes x) (length (posted_to (logged notes) x))) (d.cqs region) (λ x other. d.cqs x);
-    phases = each (λ x s c its. (s.phase == 1) ≡ phase_after (length (posted_to (logged notes) x)) s.ring.slots) (d.phases region) (λ x other. d.phases x);
+    cqs = each (λ q x s c. HasCounts s.ring (consumed rules notes x) (length (posted_to (logged notes) x))) (d.cqs cqid region life) (λ q x other apart is. d.cqs q x is);
+    phases = each (λ q x s c. (s.phase == 1) ≡ phase_after (length (posted_to (logged notes) x)) s.ring.slots) (d.phases cqid region life) (λ q x other apart is. d.phases q x is);
     no_tails = d.no_tails;
-    no_heads = each (λ x s c its. s.ring.slots ≡ 0 → consumed rules notes x ≡ 0) (d.no_heads region) (λ x other. d.no_heads x);
-    no_posts = each (λ x s c its. s.ring.slots ≡ 0 → posted_to (logged notes) x ≡ []) (d.no_posts region) (λ x other. d.no_posts x);
+    no_heads = d.no_heads;
+    no_posts = d.no_posts;
   }
 
-  tags_after : HoldsTags notes after pool later
+  tags_after : HoldsTags notes after pool kept later
   tags_after = let m = h.tags in record {
     untaken_are = m.untaken_are;
     outs_held = m.outs_held;
-    readies_held = each (λ x s c its. All (λ (y : ReadyItem). y.was_out ≡ true → holder notes y.tag ≡ Some y.ready.place) its)
+    readies_held = each_region (λ x c its. All (λ (y : ReadyItem). y.was_out ≡ true → holder notes y.tag ≡ Some y.ready.place) its)
         (All-push (λ (y : ReadyItem). y.was_out ≡ true → holder notes y.tag ≡ Some y.ready.place) (g.readies region) (ended tag t) (m.readies_held region) (λ no. absurd (cc no)))
         (λ x other. m.readies_held x);
     none_held = λ x not_out not_answered. elim (cases_eq x tag) [
@@ -172,7 +203,7 @@ module _ (rules : FrontRules) (notes : Notes) (a : Controller) (slots : List Slo
       | inr other ↦ let state = ap (λ (s : Slot). s.state) (others x other) in
           m.none_held x (λ e. not_out (state ∙ e)) (λ e. not_answered (state ∙ e))
     ];
-    through = each (λ x s c its. All (λ (y : ReadyItem). IsThrough notes y.ready) its)
+    through = each_region (λ x c its. All (λ (y : ReadyItem). IsThrough notes y.ready) its)
         (All-push (λ (y : ReadyItem). IsThrough notes y.ready) (g.readies region) (ended tag t) (m.through region) through) (λ x other. m.through x);
     windows_unanswered = m.windows_unanswered;
     outs_unanswered = m.outs_unanswered;
@@ -185,18 +216,18 @@ module _ (rules : FrontRules) (notes : Notes) (a : Controller) (slots : List Slo
     passed = (let p = m.passed in record {
       all_handed = p.all_handed;
       served = p.served;
-      readies = each (λ x s c its. All (IsReadyOf notes) its) (All-push (IsReadyOf notes) (g.readies region) (ended tag t) (p.readies region) passed_as) (λ x other. p.readies x);
+      readies = each_region (λ x c its. All (IsReadyOf notes) its) (All-push (IsReadyOf notes) (g.readies region) (ended tag t) (p.readies region) passed_as) (λ x other. p.readies x);
       deletes = p.deletes;
     });
     none_marked = m.none_marked;
-    marks = each (λ x s c its. All (HasMarks notes) its)
+    marks = each_region (λ x c its. All (HasMarks notes) its)
         (All-push (HasMarks notes) (g.readies region) (ended tag t) (m.marks region) (ap (λ (o : Option Marks). marks_or t.status o) (sym unmarked))) (λ x other. m.marks x);
   } where
     cookies_after : HoldsCookies notes pool later
     cookies_after = let q = h.tags.cookies in record {
       windows = λ r. items_left notes slots pool same (g.windows r) (q.windows r);
       outs = items_left notes slots pool same g.outs q.outs;
-      readies = each (λ x s c its. All (HasReadyCookie notes pool) its)
+      readies = each_region (λ x c its. All (HasReadyCookie notes pool) its)
           (readies_left notes slots pool same (g.readies region ++ ended tag t ∷ []) (All-push (HasReadyCookie notes slots) (g.readies region) (ended tag t) (q.readies region) cookie))
           (λ x other. readies_left notes slots pool same (g.readies x) (q.readies x));
       deletes = λ r it is. cookie_left notes slots pool same it.tag (place_at 0 it.index) (q.deletes r it is);
@@ -254,19 +285,20 @@ loose_ended slots pool g tag region t y size others differ loose =
       by false x = loose.readies x
 
 -- ---- as a slot is put, and pushed
--- all is kept where its answer was put into the slot, and the slot pushed onto the chain of a completion region
-pub keeps_end : (rules : FrontRules) (notes : Notes) (a b : Controller) (slots mid pool : List Slot) (k : Content) (g : Items) (t : Ready) (tag state region dw0 : ℕ) (status : StatusCode)
+-- all is kept where its answer was put into the slot, and the slot pushed onto the chain of a completion queue
+pub keeps_end : (rules : FrontRules) (notes : Notes) (a b : Controller) (slots mid pool : List Slot) (k : Content) (g : Items) (t : Ready) (tag state cqid dw0 : ℕ) (status : StatusCode)
     (s : Slot) (cq : CqState) (chain : Chain) → Keeps rules notes a slots k g
-    → s ≡ slot_at slots tag → mid ≡ put_item slots tag (record s { state = state; sct = status.sct; sc = status.sc; dw0 = dw0; more = bit (own_marks status).more; do_not_retry = bit (own_marks status).do_not_retry }) → cq ≡ cq_at a.cqs region
+    → s ≡ slot_at slots tag → mid ≡ put_item slots tag (record s { state = state; sct = status.sct; sc = status.sc; dw0 = dw0; more = bit (own_marks status).more; do_not_retry = bit (own_marks status).do_not_retry }) → cq ≡ cq_at a.cqs cqid
     → ((xs : List ℕ) → IsChain mid cq.ready xs → tag < length mid → IsNew tag xs → length xs + 1 < 2 ^ 16 → IsChain pool chain (xs ++ tag ∷ []))
     → SameItems mid pool → ((xs : List ℕ) → IsChain mid cq.ready xs → SameLinks xs mid pool)
-    → b ≡ record a { cqs = slice_set a.cqs region (record cq { ready = chain }) } → status.sct < 8
-    → IsLoose slots g tag → MakesReady slots tag state status dw0 t → IsThrough notes t → IsCookie notes slots tag t.place → t.passed ≡ is_passed_at notes t.place → IsUnmarked notes t.place → region < 65
+    → b ≡ record a { cqs = slice_set a.cqs cqid (record cq { ready = chain }) } → status.sct < 8
+    → IsLoose slots g tag → MakesReady slots tag state status dw0 t → IsThrough notes t → IsCookie notes slots tag t.place → t.passed ≡ is_passed_at notes t.place → IsUnmarked notes t.place
+    → (region : ℕ) → k.cq_life cqid ≡ Some region → k.sq_id t.place.region ≡ Some t.sqid
     → Keeps rules notes b pool (with_ready k region t) (with_item g region (ended tag t))
-keeps_end rules notes a b slots mid pool k g t tag state region dw0 status s cq chain h slot_is put cq_is pushes same links is few loose makes through cookie passed_as unmarked within =
+keeps_end rules notes a b slots mid pool k g t tag state cqid dw0 status s cq chain h slot_is put cq_is pushes same links is few loose makes through cookie passed_as unmarked region life of_queue =
     subst (λ (c : Controller). Keeps rules notes c pool (with_ready k region t) (with_item g region (ended tag t)))
-    (sym (is ∙ ap (λ (c : CqState). record a { cqs = slice_set a.cqs region (record c { ready = chain }) }) cq_is))
-    (keeps_ended rules notes a slots k g h tag loose region within t through pool size others left chain
+    (sym (is ∙ ap (λ (c : CqState). record a { cqs = slice_set a.cqs cqid (record c { ready = chain }) }) cq_is))
+    (keeps_ended rules notes a slots k g h tag loose cqid region life t through pool size others left chain
     (pushes (ready_tags (g.readies region)) linked (subst (λ (n : ℕ). tag < n) (sym mid_size) loose.inside) (loose.readies region) room) ready
     (same_cookies-but slots pool tag others (ap (λ (x : Slot). x.cookie) now ∙ ap (λ (x : Slot). x.cookie) slot_is)) cookie passed_as unmarked) where
       put_slot : Slot
@@ -285,7 +317,7 @@ keeps_end rules notes a b slots mid pool k g t tag state region dw0 status s cq 
       linked =
           subst (λ (xs : List Slot). IsChain xs cq.ready (ready_tags (g.readies region))) (sym put)
           (chain-put_item slots cq.ready (ready_tags (g.readies region)) tag put_slot
-          (subst (λ (c : CqState). IsChain slots c.ready (ready_tags (g.readies region))) (sym cq_is) (h.has.ready_chain region)))
+          (subst (λ (c : CqState). IsChain slots c.ready (ready_tags (g.readies region))) (sym cq_is) (h.has.ready_chain cqid region life)))
 
       left : SameLinks (ready_tags (g.readies region)) slots pool
       left x new = links (ready_tags (g.readies region)) linked x new ∙ ap (λ (xs : List Slot). next_at xs x) put ∙ next_at-put_item slots tag put_slot x
@@ -293,7 +325,7 @@ keeps_end rules notes a b slots mid pool k g t tag state region dw0 status s cq 
       -- the chain and the slot are no more than the pool
       room : length (ready_tags (g.readies region)) + 1 < 2 ^ 16
       room =
-          let was = h.has.ready_chain region in
+          let was = h.has.ready_chain cqid region life in
           let all = length-apart (length slots) (tag ∷ ready_tags (g.readies region)) (loose.readies region, was.apart)
           (All-cons (λ (x : ℕ). x < length slots) tag (ready_tags (g.readies region)) loose.inside was.inside) in
           let few = h.has.few in
@@ -302,10 +334,14 @@ keeps_end rules notes a b slots mid pool k g t tag state region dw0 status s cq 
       now : item_at pool tag ≡ record put_slot { next = 0 }
       now = same.items tag ∙ ap (λ (xs : List Slot). item_at xs tag) put ∙ item_at-put_item_same slots tag put_slot loose.inside
 
-      ready : IsReadyIn pool (ended tag t)
+      slot_queue : (slot_at pool tag).sqid ≡ t.sqid
+      slot_queue = ap (λ (x : Slot). x.sqid) now ∙ ap (λ (x : Slot). x.sqid) slot_is ∙ makes.sqid
+
+      ready : IsReadyIn k.sq_id pool (ended tag t)
       ready = record {
         state = ap (λ (x : Slot). x.state) now ∙ makes.state_is;
-        region = ap (λ (x : Slot). x.region) now ∙ ap (λ (x : Slot). x.region) slot_is ∙ makes.region;
+        queue = of_queue ∙ sym (ap (λ (n : ℕ). Some n) slot_queue);
+        sqid = slot_queue;
         cid = ap (λ (x : Slot). x.entry.cid) now ∙ ap (λ (x : Slot). x.entry.cid) slot_is ∙ makes.cid;
         sct = ap (λ (x : Slot). x.sct) now ∙ ap (λ (x : StatusCode). x.sct) makes.status_is;
         few_types = subst (λ (n : ℕ). n < 8) (sym (ap (λ (x : Slot). x.sct) now)) few;

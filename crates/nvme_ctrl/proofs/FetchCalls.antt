@@ -1,10 +1,10 @@
 -- A fetch from a queue: when it may be made, and that the controller stands at its log afterwards.
 use Rattle.std.proofs.Common.{◌≡◌, ◌≢◌, ℕ, ◌+◌, ◌-◌, ◌%◌, ◌^◌, ◌<◌, ◌≤◌, ◌==◌, Bool, false, if◌then◌else◌, List, [], ◌∷◌, ◌++◌, length, map, take, drop, Option, Some, None, refl, sym, ap, ◌∙◌, subst, arith, inl, inr, length-append, length-drop, true, ◌&&◌}
-use Rattle.std.specs.Prelude.{slice_set, IsTrue, IsSomeAnd, IfSome, option_map}
+use Rattle.std.specs.Prelude.{slice_set, IsTrue, IsSomeAnd, IfSome, option_map, unwrap_or}
 use Rattle.std.specs.List.{All}
 use Rattle.std.proofs.lemmas.Bool.{cases_eq, eq-eqb, ne_eqb, and_parts, eqb-true}
 use Rattle.std.proofs.lemmas.List.{length-map, length-set, map-append, take-append-le, drop-append-le}
-use Rattle.std.proofs.lemmas.List.Elements.{All-head, All-tail, All-same, All-cons, All-weaker, All-push}
+use Rattle.std.proofs.lemmas.List.Elements.{All-nil, All-head, All-tail, All-same, All-cons, All-weaker, All-push}
 use Rattle.std.proofs.lemmas.Option.{same_Some}
 use Rattle.nvme_entry.specs.declared.submission.Sqe.{Sqe}
 use Rattle.nvme_arbiter.specs.Board.{BoardView}
@@ -14,8 +14,12 @@ use Rattle.nvme_arbiter.specs.Queues.{queue_at}
 use Rattle.nvme_arbiter.specs.declared.arbiter_fields.ArbiterFields.{ArbiterFields}
 use Rattle.nvme_arbiter.specs.declared.board_fields.BoardFields.{BoardFields}
 use Rattle.nvme_arbiter.specs.declared.pick.OpenQueue.{OpenQueue}
+use Rattle.nvme_admin.specs.QueueTable.{QueueTable}
+use Rattle.nvme_admin.specs.Standing.{sq_of}
 use Rattle.nvme_admin.specs.declared.verdict.SqEntry.{SqEntry}
+use Rattle.nvme_placing.specs.Telling.{Tells, content_of}
 use Rattle.nvme_log.specs.declared.event.Event.TheVariants.{Fetch}
+use Rattle.nvme_log.specs.Limits.{window_of}
 use Rattle.nvme_log.specs.Rules.{FrontRules, Past}
 use Rattle.nvme_log.specs.Queues.{Queue, open_sq}
 use Rattle.nvme_log.specs.Places.{fetched, waiting}
@@ -33,40 +37,57 @@ use Rattle.nvme_ctrl.specs.declared.slot.Slot.{Slot}
 use Rattle.nvme_ctrl.specs.declared.state.SqState.{SqState}
 use Rattle.nvme_ctrl.specs.declared.state.Controller.{Controller}
 use Rattle.nvme_ctrl.specs.kept.Content.{Candidate, SqContent, Content}
-use Rattle.nvme_ctrl.specs.inside.Fetching.{IsFetchable, waiting_in}
-use Rattle.nvme_ctrl.specs.kept.Kept.{Item, Items, HasNumbers, HasItems, HoldsDoorbells, HoldsTags, StandsAt, IsWaitingIn, IsOutIn, IsUnanswered, HasEntry, is_free, tags_of, ready_tags, places_of, candidate_of, untaken, ReadyItem, IsReadyIn, IsCookie, HasCookie, HasReadyCookie, HoldsCookies, ready_state}
+use Rattle.nvme_ctrl.specs.inside.Fetching.{IsFetchable, filled, waiting_in}
+use Rattle.nvme_ctrl.specs.kept.Kept.{Item, Items, HasNumbers, HasItems, HoldsDoorbells, HoldsTags, StandsAt, IsWaitingIn, IsOutIn, IsUnanswered, HasEntry, is_free, tags_of, ready_tags, places_of, candidate_of, picked_region, picked_of, untaken, ReadyItem, IsReadyIn, IsCookie, HasCookie, HasReadyCookie, HoldsCookies, ready_state}
 use Rattle.nvme_ctrl.specs.kept.Pool.{slot_at, item_at, put_item, IsNew, AreApart, IsChain, SameItems, SameLinks}
 use Rattle.nvme_ctrl.specs.kept.Standing.{Holds, counted_on, on_board}
-use Rattle.nvme_ctrl.specs.kept.State.{sq_at, cq_at, attachment_of, picked_in}
+use Rattle.nvme_ctrl.specs.kept.State.{sq_at, cq_at, picked_in}
 use Rattle.nvme_ctrl.proofs.Passed.{passed_left, passed_later}
 use Rattle.nvme_log.proofs.Turns.{stays}
 use Rattle.nvme_ctrl.proofs.AfterSteps.{CanFetch, fetched_sq, came_board, after_fetch}
-use Rattle.nvme_ctrl.proofs.DoorbellCalls.{queue_of, is_open, sq_there, slots_are}
+use Rattle.nvme_ctrl.proofs.DoorbellCalls.{queue_of, is_open, sq_lives, sq_there, slots_are}
 use Rattle.nvme_ctrl.proofs.NextEvents.{next-fetch}
 use Rattle.nvme_ctrl.proofs.Pools.{length-put_item, item_at-put_item_same, item_at-put_item_other, chain-put_item, chain-other, length-apart}
-use Rattle.nvme_ctrl.proofs.RegionStates.{put_region-each}
+use Rattle.nvme_ctrl.proofs.Lives.{put_sq-lives}
+use Rattle.nvme_ctrl.proofs.QueueStates.{IsSqWith, sq_with, sq_of_with, put_content-each, put_sq-none}
 use Rattle.nvme_ctrl.proofs.ServedPlaces.{entry_stays}
 use Rattle.nvme_ctrl.proofs.SlotItems.{out_stays, all_waiting_stay, all_ready_stay, same_state, All-both, ready_state-range}
-use Rattle.nvme_ctrl.proofs.SlotStates.{window-states, window-regions, ready-states, apart-by}
+use Rattle.nvme_ctrl.proofs.SlotStates.{window-states, window-queues, ready-states, apart-by}
 use Rattle.nvme_ctrl.proofs.OutTags.{still_not_out-logged}
 use Rattle.nvme_ctrl.proofs.Standing.{holds-fetch}
+use Rattle.nvme_ctrl.proofs.ToldQueues.{told_some, closing_same}
 use Rattle.nvme_ctrl.proofs.Turns.{filled-is}
 use Rattle.nvme_ctrl.proofs.PendingDeletions.{deletions_stay}
 
 -- ---- what waits
 module _ (rules : FrontRules) (late : Bool) (notes : Notes) (c : Controller) (slots : List Slot) (s : StandsAt rules late notes c slots) where
-  pub waiting_are : (r : ℕ) → length (s.content.sq r).window ≡ waiting_in c r
-  waiting_are r =
-      let len : (sq_at c.sqs r).window.len ≡ length (s.items.windows r) =
-      (s.has.window_chain r).len_is ∙ length-map (s.items.windows r) (λ (it : Item). it.tag) in
+  -- so many of a queue are picked
+  pub picked_are : (q r : ℕ) → s.content.sq_life q ≡ Some r → picked_of c (s.content.sq_id r) ≡ picked_in c q
+  picked_are q r life = ap (picked_of c) (s.numbers.sq_ids.ids_are q r life)
+
+  pub waiting_are : (q r : ℕ) → s.content.sq_life q ≡ Some r → length (s.content.sq r).window ≡ waiting_in c q
+  waiting_are q r life =
+      let len : (sq_at c.sqs q).window.len ≡ length (s.items.windows r) =
+      (s.has.window_chain q r life).len_is ∙ length-map (s.items.windows r) (λ (it : Item). it.tag) in
       ap (λ (xs : List Candidate). length xs) (s.has.window_is r)
-      ∙ length-map (drop (picked_in c r) (s.items.windows r)) candidate_of
-      ∙ length-drop (picked_in c r) (s.items.windows r)
-      ∙ ap (λ (n : ℕ). n - picked_in c r) (sym len)
+      ∙ length-map (drop (picked_of c (s.content.sq_id r)) (s.items.windows r)) candidate_of
+      ∙ length-drop (picked_of c (s.content.sq_id r)) (s.items.windows r)
+      ∙ ap (λ (n : ℕ). length (s.items.windows r) - n) (picked_are q r life)
+      ∙ ap (λ (n : ℕ). n - picked_in c q) (sym len)
 
   -- as many wait by the log
-  pub waits : (r : ℕ) → length (waiting (logged notes) r) ≡ waiting_in c r
-  waits r = ap (λ (xs : List ℕ). length xs) (s.holds.regions r).waiting_is ∙ length-map (s.content.sq r).window (λ (x : Candidate). x.index) ∙ waiting_are r
+  pub waits : (q r : ℕ) → s.content.sq_life q ≡ Some r → length (waiting (logged notes) r) ≡ waiting_in c q
+  waits q r life =
+      ap (λ (xs : List ℕ). length xs) (s.holds.regions r).waiting_is ∙ length-map (s.content.sq r).window (λ (x : Candidate). x.index) ∙ waiting_are q r life
+
+  -- what waits stands in slots of its state
+  pub all_wait : (r : ℕ) → All (λ (it : Item). (slot_at slots it.tag).state ≡ 1) (s.items.windows r)
+  all_wait r = by (s.content.sq_id r) refl where
+    by : (o : Option ℕ) → s.content.sq_id r ≡ o → All (λ (it : Item). (slot_at slots it.tag).state ≡ 1) (s.items.windows r)
+    by None is = subst (λ (its : List Item). All (λ (it : Item). (slot_at slots it.tag).state ≡ 1) its) (sym (s.has.window_none r is))
+        (All-nil (λ (it : Item). (slot_at slots it.tag).state ≡ 1))
+    by (Some q) is = All-weaker (IsWaitingIn slots q r) (λ (it : Item). (slot_at slots it.tag).state ≡ 1) (λ it w. w.state) (s.items.windows r)
+        (s.has.window_items q r (s.numbers.sq_ids.lives_are r q is))
 
 -- ---- when a fetch may be made
 -- a count that is below a number is so of a queue that is held or not
@@ -81,36 +102,72 @@ came_on false false n e = refl
 came_on true false n e = absurd (cc e)
 came_on false true n e = absurd (cc e)
 
+-- a queue of a queue table is open, and the controller sees that it may be fetched from
+pub record CanBeFetched (c : Controller) (t : QueueTable) (qid : ℕ) (e : SqEntry) : Type 0 where
+  pub in_table : t.sq qid ≡ Some e
+  pub not_closing : e.closing ≡ false
+  pub some_free : c.free.len ≢ 0
+  pub some_submitted : filled (sq_at c.sqs qid).ring ≢ 0
+  pub in_window : waiting_in c qid < c.window
+  pub room : waiting_in c qid < window_of (sq_at c.sqs qid).ring.slots
+
+-- one is told so
+pub record IsToldFetchable (c : Controller) (t : QueueTable) (qid : ℕ) : Type 0 where
+  pub entry : SqEntry
+  pub can : CanBeFetched c t qid entry
+
+pub told_fetchable : (c : Controller) (t : QueueTable) → Tells c.table t → (qid : ℕ) (e : SqEntry) → IsFetchable c qid e → IsToldFetchable c t qid
+told_fetchable c t tells qid e can =
+    let told_as = told_some (sq_of (content_of c.table) qid) (t.sq qid) (tells.sq qid) e can.in_table in
+    record {
+      entry = told_as.entry;
+      can = record {
+        in_table = told_as.is_there;
+        not_closing = closing_same e told_as.entry told_as.same ∙ can.not_closing;
+        some_free = can.some_free;
+        some_submitted = can.some_submitted;
+        in_window = can.in_window;
+        room = can.room;
+      };
+    }
+
 module _ (rules : FrontRules) (late : Bool) (notes : Notes) (c : Controller) (slots : List Slot) (s : StandsAt rules late notes c slots)
-    (qid : ℕ) (e : SqEntry) (can : IsFetchable c qid e)
+    (qid : ℕ) (e : SqEntry) (can : CanBeFetched c s.content.table qid e)
   where
     pub fetch_open : open_sq (logged notes) qid ≡ Some (queue_of e)
     fetch_open = is_open rules late notes c slots s qid e can.in_table can.not_closing
 
+    pub fetch_life : s.content.sq_life qid ≡ Some e.region
+    fetch_life = sq_lives rules late notes c slots s qid (queue_of e) fetch_open
+
+    -- there is a place for its state
+    pub few_queues : qid < 65
+    few_queues = s.numbers.few_sqs qid e.region (s.holds.lives.sqs qid (queue_of e) fetch_open)
+
     pub can_fetch : CanFetch (logged notes) s.content qid (queue_of e)
     can_fetch = record {
       is_open = fetch_open;
-      room = rw (waiting_are rules late notes c slots s e.region, ← s.numbers.sq_slots e.region) can.room;
+      room = rw (waiting_are rules late notes c slots s qid e.region fetch_life, ← (s.numbers.sqs qid e.region fetch_life).slots) can.room;
     }
 
-    fetch_counts : HasCounts (sq_at c.sqs e.region).ring (length (fetched (logged notes) e.region)) (submitted rules notes e.region)
-    fetch_counts = s.doorbells.sqs e.region (let room = can.room in omega (arith, room))
+    fetch_counts : HasCounts (sq_at c.sqs qid).ring (length (fetched (logged notes) e.region)) (submitted rules notes e.region)
+    fetch_counts = s.doorbells.sqs qid e.region fetch_life
 
     pub more_submitted : length (fetched (logged notes) e.region) < submitted rules notes e.region
     more_submitted =
-        let filled_up = filled-is (sq_at c.sqs e.region).ring (length (fetched (logged notes) e.region)) (submitted rules notes e.region) fetch_counts in
+        let filled_up = filled-is (sq_at c.sqs qid).ring (length (fetched (logged notes) e.region)) (submitted rules notes e.region) fetch_counts in
         let more = can.some_submitted in
         omega (arith, filled_up, more)
 
-    pub may_fetch : MayFetch rules notes (window_limit c) (length slots) qid (sq_at c.sqs e.region).ring.head
+    pub may_fetch : MayFetch rules notes (window_limit c) (length slots) qid (sq_at c.sqs qid).ring.head
     may_fetch = record {
       queue = queue_of e;
       is_open = fetch_open;
       submitted = more_submitted;
-      in_window = rw (waits rules late notes c slots s e.region) can.in_window;
-      has_room = rw (waits rules late notes c slots s e.region, ← slots_are rules late notes c slots s e.region) can.room;
+      in_window = rw (waits rules late notes c slots s qid e.region fetch_life) can.in_window;
+      has_room = rw (waits rules late notes c slots s qid e.region fetch_life, ← slots_are rules late notes c slots s qid e.region fetch_life) can.room;
       some_free = let some = can.some_free in let count = s.tags.free_count in omega (arith, some, count);
-      slot_is = fetch_counts.head_is ∙ ap (λ (n : ℕ). length (fetched (logged notes) e.region) % n) (slots_are rules late notes c slots s e.region);
+      slot_is = fetch_counts.head_is ∙ ap (λ (n : ℕ). length (fetched (logged notes) e.region) % n) (slots_are rules late notes c slots s qid e.region fetch_life);
     }
 
     -- its queue is on the board
@@ -142,23 +199,23 @@ popped slots old new tag (x ∷ xs) h some is rest = record {
   chain = rest x xs h;
 }
 
--- a fetch leaves this: the free slots, the ring and the window of its region, the board, and the pool, where a slot of the free ones has the command
-pub record Fetches (c : Controller) (slots : List Slot) (qid : ℕ) (e : SqEntry) (entry : Sqe) (cookie tag : ℕ) (slot : Slot) (free window : Chain) (ring : Ring)
+-- a fetch leaves this: the free slots, the ring and the window of its queue, the board, and the pool, where a slot of the free ones has the command
+pub record Fetches (c : Controller) (slots : List Slot) (qid : ℕ) (entry : Sqe) (cookie tag : ℕ) (slot : Slot) (free window : Chain) (ring : Ring)
     (board : BoardFields) (pool : List Slot) : Type 0 where
   pub held : Bool
-  pub held_is : held ≡ ((sq_at c.sqs e.region).held == 1)
+  pub held_is : held ≡ ((sq_at c.sqs qid).held == 1)
   pub is_first : (x : ℕ) (rest : List ℕ) → IsChain slots c.free (x ∷ rest) → Some tag ≡ Some x
   pub free_left : (x : ℕ) (rest : List ℕ) → IsChain slots c.free (x ∷ rest) → IsChain slots free rest
-  pub counts : (read written : ℕ) → HasCounts (sq_at c.sqs e.region).ring read written → read < written → HasCounts ring (read + 1) written
-  pub same_slots : ring.slots ≡ (sq_at c.sqs e.region).ring.slots
+  pub counts : (read written : ℕ) → HasCounts (sq_at c.sqs qid).ring read written → read < written → HasCounts ring (read + 1) written
+  pub same_slots : ring.slots ≡ (sq_at c.sqs qid).ring.slots
   pub state : slot.state ≡ 1
-  pub region : slot.region ≡ e.region
+  pub queue : slot.sqid ≡ qid
   pub has : slot.entry ≡ entry
   pub keeps : slot.cookie ≡ cookie
-  pub chain : (xs : List ℕ) → IsChain (put_item slots tag slot) (sq_at c.sqs e.region).window xs → tag < length (put_item slots tag slot) → IsNew tag xs
+  pub chain : (xs : List ℕ) → IsChain (put_item slots tag slot) (sq_at c.sqs qid).window xs → tag < length (put_item slots tag slot) → IsNew tag xs
       → length xs + 1 < 2 ^ 16 → IsChain pool window (xs ++ tag ∷ [])
   pub items : SameItems (put_item slots tag slot) pool
-  pub links : (xs : List ℕ) → IsChain (put_item slots tag slot) (sq_at c.sqs e.region).window xs → SameLinks xs (put_item slots tag slot) pool
+  pub links : (xs : List ℕ) → IsChain (put_item slots tag slot) (sq_at c.sqs qid).window xs → SameLinks xs (put_item slots tag slot) pool
   pub came : IfSome (queue_at (board_of c.board).queues qid) (λ (queue : OpenQueue). board_of board ≡ record (board_of c.board) {
     queues = slice_set (board_of c.board).queues qid (Some (record queue { count = if held then queue.count else queue.count + 1 }));
   })
@@ -168,8 +225,8 @@ abbrev pub fetched_state : SqState → Chain → Ring → SqState
 fetched_state state window ring = record state { ring = ring; window = window }
 
 abbrev pub fetched_controller : Controller → ℕ → Chain → Chain → Ring → BoardFields → Controller
-fetched_controller c r free window ring board =
-    record c { sqs = slice_set c.sqs r (fetched_state (sq_at c.sqs r) window ring); free = free; board = board }
+fetched_controller c q free window ring board =
+    record c { sqs = slice_set c.sqs q (fetched_state (sq_at c.sqs q) window ring); free = free; board = board }
 
 abbrev pub fetched_item : (tag r n : ℕ) → Sqe → Item
 fetched_item tag r n entry = record { tag = tag; place = place_at r n; entry = entry }
@@ -191,9 +248,18 @@ fetched_least past r n entry x = elim (cases_eq x r) [
 ]
 
 module _ (rules : FrontRules) (late : Bool) (notes : Notes) (c : Controller) (slots : List Slot) (s : StandsAt rules late notes c slots)
-    (qid : ℕ) (e : SqEntry) (can : IsFetchable c qid e) (entry : Sqe) (cookie tag : ℕ) (slot : Slot) (free window : Chain) (ring : Ring) (board : BoardFields)
-    (pool : List Slot) (f : Fetches c slots qid e entry cookie tag slot free window ring board pool)
+    (qid : ℕ) (e : SqEntry) (can : CanBeFetched c s.content.table qid e) (entry : Sqe) (cookie tag : ℕ) (slot : Slot) (free window : Chain) (ring : Ring) (board : BoardFields)
+    (pool : List Slot) (f : Fetches c slots qid entry cookie tag slot free window ring board pool)
   where
+    life : s.content.sq_life qid ≡ Some e.region
+    life = fetch_life rules late notes c slots s qid e can
+
+    its_items : All (IsWaitingIn slots qid e.region) (s.items.windows e.region)
+    its_items = s.has.window_items qid e.region life
+
+    its_chain : IsChain slots (sq_at c.sqs qid).window (tags_of (s.items.windows e.region))
+    its_chain = s.has.window_chain qid e.region life
+
     first_free : IsPopped slots s.items.free free tag
     first_free = popped slots c.free free tag s.items.free s.has.free_chain can.some_free f.is_first f.free_left
 
@@ -225,19 +291,19 @@ module _ (rules : FrontRules) (late : Bool) (notes : Notes) (c : Controller) (sl
         (λ t some same. (let zero = ap (λ (y : ℕ). (slot_at slots y).state) same ∙ was_free in omega (arith, zero, some))) xs each
 
     -- ---- the chains
-    chain_now : IsChain (put_item slots tag slot) (sq_at c.sqs e.region).window (tags_of (s.items.windows e.region))
-    chain_now = chain-put_item slots (sq_at c.sqs e.region).window (tags_of (s.items.windows e.region)) tag slot (s.has.window_chain e.region)
+    chain_now : IsChain (put_item slots tag slot) (sq_at c.sqs qid).window (tags_of (s.items.windows e.region))
+    chain_now = chain-put_item slots (sq_at c.sqs qid).window (tags_of (s.items.windows e.region)) tag slot its_chain
 
     tag_new : IsNew tag (tags_of (s.items.windows e.region))
     tag_new = new_to (tags_of (s.items.windows e.region))
         (All-weaker (λ (t : ℕ). (slot_at slots t).state ≡ 1) (λ (t : ℕ). 0 < (slot_at slots t).state) (λ t is. omega (arith, is))
-        (tags_of (s.items.windows e.region)) (window-states slots e.region (s.items.windows e.region) (s.has.window_items e.region)))
+        (tags_of (s.items.windows e.region)) (window-states slots qid e.region (s.items.windows e.region) its_items))
 
     pushed_chain : IsChain pool window (tags_of (s.items.windows e.region) ++ tag ∷ [])
     pushed_chain =
         let tags : List ℕ = tags_of (s.items.windows e.region) in
-        let few = length-apart (length slots) (tag ∷ tags) (tag_new, (s.has.window_chain e.region).apart)
-        (All-cons (λ (x : ℕ). x < length slots) tag tags tag_there (s.has.window_chain e.region).inside) in
+        let few = length-apart (length slots) (tag ∷ tags) (tag_new, its_chain.apart)
+        (All-cons (λ (x : ℕ). x < length slots) tag tags tag_there its_chain.inside) in
         let small = s.has.few in
         f.chain tags chain_now (subst (λ (n : ℕ). tag < n) (sym (length-put_item slots tag slot)) tag_there) tag_new (omega (arith, few, small))
 
@@ -250,16 +316,16 @@ module _ (rules : FrontRules) (late : Bool) (notes : Notes) (c : Controller) (sl
     elsewhere : (xs : List ℕ) → All (λ (t : ℕ). (slot_at slots t).state ≢ 1) xs → All (λ (x : ℕ). IsNew x (tags_of (s.items.windows e.region))) xs
     elsewhere xs each =
         apart-by (λ (t : ℕ). (slot_at slots t).state ≢ 1) (λ (t : ℕ). (slot_at slots t).state ≡ 1) (λ t differs is. differs is) xs
-        (tags_of (s.items.windows e.region)) each (window-states slots e.region (s.items.windows e.region) (s.has.window_items e.region))
+        (tags_of (s.items.windows e.region)) each (window-states slots qid e.region (s.items.windows e.region) its_items)
 
-    other_windows : (x : ℕ) → x ≢ e.region → All (λ (t : ℕ). IsNew t (tags_of (s.items.windows e.region))) (tags_of (s.items.windows x))
-    other_windows x other =
-        apart-by (λ (t : ℕ). (slot_at slots t).region ≡ x) (λ (t : ℕ). (slot_at slots t).region ≡ e.region) (λ t here there. other (sym here ∙ there))
+    other_windows : (p x : ℕ) → p ≢ qid → s.content.sq_life p ≡ Some x → All (λ (t : ℕ). IsNew t (tags_of (s.items.windows e.region))) (tags_of (s.items.windows x))
+    other_windows p x other is =
+        apart-by (λ (t : ℕ). (slot_at slots t).sqid ≡ p) (λ (t : ℕ). (slot_at slots t).sqid ≡ qid) (λ t here there. other (sym here ∙ there))
         (tags_of (s.items.windows x)) (tags_of (s.items.windows e.region))
-        (window-regions slots x (s.items.windows x) (s.has.window_items x)) (window-regions slots e.region (s.items.windows e.region) (s.has.window_items e.region))
+        (window-queues slots p x (s.items.windows x) (s.has.window_items p x is)) (window-queues slots qid e.region (s.items.windows e.region) its_items)
 
-    -- ---- what is so of each region
-    there : e.region < length c.sqs
+    -- ---- what is so of each queue
+    there : qid < length c.sqs
     there = sq_there rules late notes c slots s qid (queue_of e) (fetch_open rules late notes c slots s qid e can)
 
     abbrev index : ℕ
@@ -269,7 +335,7 @@ module _ (rules : FrontRules) (late : Bool) (notes : Notes) (c : Controller) (sl
     item = fetched_item tag e.region index entry
 
     abbrev after : Controller
-    after = fetched_controller c e.region free window ring board
+    after = fetched_controller c qid free window ring board
 
     abbrev content : Content
     content = after_fetch s.content qid (queue_of e) entry
@@ -280,13 +346,20 @@ module _ (rules : FrontRules) (late : Bool) (notes : Notes) (c : Controller) (sl
     abbrev later : Notes
     later = Kept e.region index cookie ∷ Logged (Fetch e.region index entry) ∷ notes
 
-    each_region : (P : ℕ → SqState → SqContent → List Item → Type 0)
-        → P e.region (fetched_state (sq_at c.sqs e.region) window ring) (fetched_sq (s.content.sq e.region) entry) (s.items.windows e.region ++ item ∷ [])
-        → ((x : ℕ) → x ≢ e.region → P x (sq_at c.sqs x) (s.content.sq x) (s.items.windows x))
-        → (x : ℕ) → P x (sq_at after.sqs x) (content.sq x) (items.windows x)
+    each_queue : (P : ℕ → ℕ → SqState → SqContent → List Item → Type 0)
+        → P qid e.region (fetched_state (sq_at c.sqs qid) window ring) (fetched_sq (s.content.sq e.region) entry) (s.items.windows e.region ++ item ∷ [])
+        → ((p x : ℕ) → p ≢ qid → x ≢ e.region → s.content.sq_life p ≡ Some x → P p x (sq_at c.sqs p) (s.content.sq x) (s.items.windows x))
+        → (p x : ℕ) → s.content.sq_life p ≡ Some x → P p x (sq_at after.sqs p) (content.sq x) (items.windows x)
+    each_queue P here others =
+        put_sq-lives P s.content.sq_life s.content.sq_id s.numbers.sq_ids c.sqs s.content.sq s.items.windows qid e.region (fetched_state (sq_at c.sqs qid) window ring)
+        (fetched_sq (s.content.sq e.region) entry) (s.items.windows e.region ++ item ∷ []) life there here others
+
+    -- and of each region
+    each_region : (P : ℕ → SqContent → List Item → Type 0)
+        → P e.region (fetched_sq (s.content.sq e.region) entry) (s.items.windows e.region ++ item ∷ [])
+        → ((x : ℕ) → x ≢ e.region → P x (s.content.sq x) (s.items.windows x)) → (x : ℕ) → P x (content.sq x) (items.windows x)
     each_region P here others =
-        put_region-each P c.sqs s.content.sq s.items.windows e.region (fetched_state (sq_at c.sqs e.region) window ring) (fetched_sq (s.content.sq e.region) entry)
-        (s.items.windows e.region ++ item ∷ []) there here others
+        put_content-each P s.content.sq s.items.windows e.region (fetched_sq (s.content.sq e.region) entry) (s.items.windows e.region ++ item ∷ []) here others
 
     -- ---- the numbers
     board_now : board_of board ≡ came_board s.content qid (queue_of e)
@@ -297,64 +370,84 @@ module _ (rules : FrontRules) (late : Bool) (notes : Notes) (c : Controller) (sl
         })) on f.came in
         came
         ∙ ap (λ (n : ℕ). record (board_of c.board) { queues = slice_set (board_of c.board).queues qid (Some (record (on_board s.content (queue_of e)) { count = n })) })
-        (came_on f.held (s.content.held e.region) (length (s.content.sq e.region).window) (f.held_is ∙ s.numbers.sq_held e.region))
+        (came_on f.held (s.content.held e.region) (length (s.content.sq e.region).window) (f.held_is ∙ (s.numbers.sqs qid e.region life).held))
         ∙ ap (λ (b : BoardView). record b { queues = slice_set b.queues qid (Some (counted_on s.content (queue_of e) (length (s.content.sq e.region).window + 1))) })
         s.numbers.board_is
+
+    fetched_with : IsSqWith s.content.table s.content.cq_life qid e.region (fetched_state (sq_at c.sqs qid) window ring) (fetched_sq (s.content.sq e.region) entry) (s.content.held e.region)
+    fetched_with = let h = s.numbers.sqs qid e.region life in record {
+      entry = h.entry;
+      in_table = h.in_table;
+      on = h.on;
+      to = h.to;
+      cq_region = h.cq_region;
+      cq_open = h.cq_open;
+      opened = h.opened;
+      held_is = h.held;
+      unposted = h.unposted;
+      slots = f.same_slots ∙ h.slots;
+      some = h.some;
+    }
 
     numbers_now : HasNumbers after content
     numbers_now =
         let n = s.numbers in
         record {
-          table_is = n.table_is;
-          sized = n.sized;
+          tells = n.tells;
           board_is = board_now;
           is_arbiter = subst (λ (a : ArbiterFields). IsTrue (is_arbiter a)) (sym f.arbiter) n.is_arbiter;
           outstanding_is = n.outstanding_is;
-          sq_queue = each_region (λ x state k xs. attachment_of state ≡ k.queue) (n.sq_queue e.region) (λ x other. n.sq_queue x);
-          sq_held = each_region (λ x state k xs. (state.held == 1) ≡ s.content.held x) (n.sq_held e.region) (λ x other. n.sq_held x);
-          sq_unposted = each_region (λ x state k xs. state.unposted ≡ k.unposted) (n.sq_unposted e.region) (λ x other. n.sq_unposted x);
-          sq_slots = each_region (λ x state k xs. state.ring.slots ≡ k.slots) (f.same_slots ∙ n.sq_slots e.region) (λ x other. n.sq_slots x);
-          cq_slots = n.cq_slots;
-          sq_some = each_region (λ x state k xs. x < s.content.nsq → 0 < k.slots) (n.sq_some e.region) (λ x other. n.sq_some x);
-          sq_size = length-set c.sqs e.region (fetched_state (sq_at c.sqs e.region) window ring) ∙ n.sq_size;
+          sq_ids = n.sq_ids;
+          cq_ids = n.cq_ids;
+          sqs = λ p x is. sq_of_with after content p x
+              (each_queue (λ p x state k xs. IsSqWith s.content.table s.content.cq_life p x state k (s.content.held x)) fetched_with
+              (λ p x other apart is. sq_with c s.content p x (n.sqs p x is)) p x is);
+          cqs = λ p x is. (let h = n.cqs p x is in record { slots = h.slots; some = h.some });
+          few_sqs = n.few_sqs;
+          few_cqs = n.few_cqs;
+          no_sqs = put_sq-none c s.content n qid e.region life (fetched_state (sq_at c.sqs qid) window ring);
+          no_cqs = n.no_cqs;
+          sq_size = length-set c.sqs qid (fetched_state (sq_at c.sqs qid) window ring) ∙ n.sq_size;
           cq_size = n.cq_size;
         }
 
     -- ---- the commands
-    picked_le : (x : ℕ) → picked_in c x ≤ length (s.items.windows x)
-    picked_le x = elim (cases_eq x c.picked_region) [
-      | inl same ↦ subst (λ (y : ℕ). picked_in c y ≤ length (s.items.windows y)) (sym same) (rw (eq-eqb c.picked_region c.picked_region refl) s.has.picked_there)
-      | inr other ↦ rw (ne_eqb x c.picked_region other) (omega arith)
-    ]
+    picked_le : picked_of c (s.content.sq_id e.region) ≤ length (s.items.windows e.region)
+    picked_le = rw (picked_are rules late notes c slots s qid e.region life) (elim (cases_eq qid c.picked_qid) [
+      | inl same ↦
+          let region : picked_region c s.content ≡ e.region = ap (λ (o : Option ℕ). unwrap_or o 0) (subst (λ (p : ℕ). s.content.sq_life p ≡ Some e.region) same life) in
+          rw (eq-eqb qid c.picked_qid same) (subst (λ (x : ℕ). c.picked ≤ length (s.items.windows x)) region s.has.picked_there)
+      | inr other ↦ rw (ne_eqb qid c.picked_qid other) (omega arith)
+    ])
 
-    window_now : (fetched_sq (s.content.sq e.region) entry).window ≡ map candidate_of (drop (picked_in c e.region) (s.items.windows e.region ++ item ∷ []))
+    window_now : (fetched_sq (s.content.sq e.region) entry).window ≡ map candidate_of (drop (picked_of c (s.content.sq_id e.region)) (s.items.windows e.region ++ item ∷ []))
     window_now =
-        let n : ℕ = picked_in c e.region in
+        let n : ℕ = picked_of c (s.content.sq_id e.region) in
         let xs : List Item = s.items.windows e.region in
         ap (λ (cs : List Candidate). cs ++ record { index = index; entry = entry } ∷ []) (s.has.window_is e.region)
-        ∙ sym (ap (λ (ys : List Item). map candidate_of ys) (drop-append-le n xs (item ∷ []) (picked_le e.region)) ∙ map-append candidate_of (drop n xs) (item ∷ []))
+        ∙ sym (ap (λ (ys : List Item). map candidate_of ys) (drop-append-le n xs (item ∷ []) picked_le) ∙ map-append candidate_of (drop n xs) (item ∷ []))
 
-    item_now : IsWaitingIn pool e.region item
+    item_now : IsWaitingIn pool qid e.region item
     item_now = record {
       state = ap (λ (x : Slot). x.state) now ∙ f.state;
-      region = ap (λ (x : Slot). x.region) now ∙ f.region;
+      queue = ap (λ (x : Slot). x.sqid) now ∙ f.queue;
       entry = ap (λ (x : Slot). x.entry) now ∙ f.has;
       place = refl;
     }
 
-    windows_left : (x : ℕ) → All (IsWaitingIn pool x) (s.items.windows x)
-    windows_left x =
-        all_waiting_stay slots pool tag size left x (s.items.windows x) (λ is. (let zero = was_free in omega (arith, zero, is))) (s.has.window_items x)
+    windows_left : (p x : ℕ) → s.content.sq_life p ≡ Some x → All (IsWaitingIn pool p x) (s.items.windows x)
+    windows_left p x is =
+        all_waiting_stay slots pool tag size left p x (s.items.windows x) (λ is. (let zero = was_free in omega (arith, zero, is))) (s.has.window_items p x is)
 
-    untaken_left : take c.picked (items.windows c.picked_region) ≡ take c.picked (s.items.windows c.picked_region)
+    untaken_left : untaken after content items ≡ untaken c s.content s.items
     untaken_left =
-        each_region (λ x state k xs. c.picked ≤ length (s.items.windows x) → take c.picked xs ≡ take c.picked (s.items.windows x))
-        (λ le. take-append-le c.picked (s.items.windows e.region) (item ∷ []) le) (λ x other le. refl) c.picked_region s.has.picked_there
+        each_region (λ x k xs. c.picked ≤ length (s.items.windows x) → take c.picked xs ≡ take c.picked (s.items.windows x))
+        (λ le. take-append-le c.picked (s.items.windows e.region) (item ∷ []) le) (λ x other le. refl) (picked_region c s.content) s.has.picked_there
 
-    longer : length (s.items.windows c.picked_region) ≤ length (items.windows c.picked_region)
+    longer : length (s.items.windows (picked_region c s.content)) ≤ length (items.windows (picked_region c s.content))
     longer =
-        each_region (λ x state k xs. length (s.items.windows x) ≤ length xs)
-        (omega (arith, length-append (s.items.windows e.region) (item ∷ []))) (λ x other. omega arith) c.picked_region
+        each_region (λ x k xs. length (s.items.windows x) ≤ length xs)
+        (omega (arith, length-append (s.items.windows e.region) (item ∷ []))) (λ x other. omega arith) (picked_region c s.content)
 
     not_new : (x n : ℕ) → (slot_at pool x).state ≡ n → n ≢ 1 → x ≢ tag
     not_new x n is differs same = differs (sym is ∙ ap (λ (y : ℕ). (slot_at pool y).state) same ∙ ap (λ (y : Slot). y.state) now ∙ f.state)
@@ -372,24 +465,27 @@ module _ (rules : FrontRules) (late : Bool) (notes : Notes) (c : Controller) (sl
     items_now =
         let h = s.has in
         record {
-          window_chain = each_region (λ x state k xs. IsChain pool state.window (tags_of xs))
+          window_chain = each_queue (λ p x state k xs. IsChain pool state.window (tags_of xs))
               (subst (IsChain pool window) (sym (map-append (λ (it : Item). it.tag) (s.items.windows e.region) (item ∷ []))) pushed_chain)
-              (λ x other. chain_left (sq_at c.sqs x).window (tags_of (s.items.windows x)) (h.window_chain x) (other_windows x other));
-          window_items = each_region (λ x state k xs. All (IsWaitingIn pool x) xs)
-              (All-push (IsWaitingIn pool e.region) (s.items.windows e.region) item (windows_left e.region) item_now) (λ x other. windows_left x);
-          window_is = each_region (λ x state k xs. k.window ≡ map candidate_of (drop (picked_in c x) xs)) window_now (λ x other. h.window_is x);
+              (λ p x other apart is. chain_left (sq_at c.sqs p).window (tags_of (s.items.windows x)) (h.window_chain p x is) (other_windows p x other is));
+          window_items = each_queue (λ p x state k xs. All (IsWaitingIn pool p x) xs)
+              (All-push (IsWaitingIn pool qid e.region) (s.items.windows e.region) item (windows_left qid e.region life) item_now) (λ p x other apart is. windows_left p x is);
+          window_none = each_region (λ x k xs. s.content.sq_id x ≡ None → xs ≡ [])
+              (λ none. absurd (let here = s.numbers.sq_ids.ids_are qid e.region life in cc (none, here))) (λ x other. h.window_none x);
+          window_is = each_region (λ x k xs. k.window ≡ map candidate_of (drop (picked_of c (s.content.sq_id x)) xs)) window_now (λ x other. h.window_is x);
           picked_there = let le = h.picked_there in omega (arith, le, longer);
-          outs_items = All-weaker (IsOutIn slots) (IsOutIn pool)
-              (λ it w. out_stays slots pool tag size left it (other_than it.tag 2 w.state (omega arith)) w) s.items.outs h.outs_items;
+          outs_items = All-weaker (IsOutIn s.content.sq_id slots) (IsOutIn s.content.sq_id pool)
+              (λ it w. out_stays slots pool tag size left s.content.sq_id it (other_than it.tag 2 w.state (omega arith)) w) s.items.outs h.outs_items;
           outs_apart = h.outs_apart;
           outs_all = λ x is. h.outs_all x (sym (ap (λ (y : Slot). y.state) (left x (not_new x 2 is (λ same. omega (arith, same))))) ∙ is);
           hand_is = h.hand_is ∙ ap (λ (xs : List Item). places_of (s.items.outs ++ xs)) (sym untaken_left);
-          ready_chain = λ x. chain_left (cq_at c.cqs x).ready (ready_tags (s.items.readies x)) (h.ready_chain x)
+          ready_chain = λ p x is. chain_left (cq_at c.cqs p).ready (ready_tags (s.items.readies x)) (h.ready_chain p x is)
               (elsewhere (ready_tags (s.items.readies x)) (All-weaker (λ (t : ℕ). 3 ≤ (slot_at slots t).state) (λ (t : ℕ). (slot_at slots t).state ≢ 1)
-              (λ t least is. omega (arith, least, is)) (ready_tags (s.items.readies x)) (ready-states slots (s.items.readies x) (h.ready_items x))));
-          ready_items = λ x. all_ready_stay slots pool tag size left (s.items.readies x) (let zero = was_free in omega (arith, zero)) (h.ready_items x);
+              (λ t least is. omega (arith, least, is)) (ready_tags (s.items.readies x)) (ready-states s.content.sq_id slots (s.items.readies x) (h.ready_items x))));
+          ready_items = λ x. all_ready_stay slots pool tag size left s.content.sq_id (s.items.readies x) (let zero = was_free in omega (arith, zero)) (h.ready_items x);
+          ready_none = h.ready_none;
           ready_is = h.ready_is;
-          deletions = deletions_stay c.deletions c.pending_deletions slots pool s.content.deletion s.items.deletes tag size left
+          deletions = deletions_stay c.deletions c.pending_deletions slots pool s.content.sq_life s.content.deletion s.items.deletes tag size left
               (λ r d at. other_than d.tag 6 (h.deletions.items r d at).state (omega arith)) h.deletions;
           free_chain = chain_left free first_free.rest first_free.chain
               (elsewhere first_free.rest (All-weaker (is_free slots) (λ (t : ℕ). (slot_at slots t).state ≢ 1) (λ t zero is. omega (arith, zero, is)) first_free.rest rest_free));
@@ -404,18 +500,17 @@ module _ (rules : FrontRules) (late : Bool) (notes : Notes) (c : Controller) (sl
     holds_now : Holds rules late (logged later) content
     holds_now = holds-fetch rules late (logged notes) s.content qid (queue_of e) entry s.holds (can_fetch rules late notes c slots s qid e can)
 
-    doorbells_now : HoldsDoorbells rules later after
+    doorbells_now : HoldsDoorbells rules later after content
     doorbells_now = record {
-      sqs = each_region (λ x state k xs. 0 < state.ring.slots → HasCounts state.ring (length (fetched (logged later) x)) (submitted rules notes x))
-          (λ some. subst (λ (n : ℕ). HasCounts ring n (submitted rules notes e.region)) (sym (fetched_more (logged notes) e.region index entry))
+      sqs = each_queue (λ p x state k xs. HasCounts state.ring (length (fetched (logged later) x)) (submitted rules notes x))
+          (subst (λ (n : ℕ). HasCounts ring n (submitted rules notes e.region)) (sym (fetched_more (logged notes) e.region index entry))
           (f.counts (length (fetched (logged notes) e.region)) (submitted rules notes e.region) (fetch_counts rules late notes c slots s qid e can)
           (more_submitted rules late notes c slots s qid e can)))
-          (λ x other some. subst (λ (ys : List Sqe). HasCounts (sq_at c.sqs x).ring (length ys) (submitted rules notes x))
-          (sym (fetched_others (logged notes) e.region index entry x other)) (s.doorbells.sqs x some));
+          (λ p x other apart is. subst (λ (ys : List Sqe). HasCounts (sq_at c.sqs p).ring (length ys) (submitted rules notes x))
+          (sym (fetched_others (logged notes) e.region index entry x apart)) (s.doorbells.sqs p x is));
       cqs = s.doorbells.cqs;
       phases = s.doorbells.phases;
-      no_tails = each_region (λ x state k xs. state.ring.slots ≡ 0 → submitted rules notes x ≡ 0)
-          (λ none. s.doorbells.no_tails e.region (sym f.same_slots ∙ none)) (λ x other. s.doorbells.no_tails x);
+      no_tails = each_region (λ x k xs. k.queue ≡ None → submitted rules notes x ≡ 0) (s.doorbells.no_tails e.region) (λ x other. s.doorbells.no_tails x);
       no_heads = s.doorbells.no_heads;
       no_posts = s.doorbells.no_posts;
     }
@@ -436,10 +531,10 @@ module _ (rules : FrontRules) (late : Bool) (notes : Notes) (c : Controller) (sl
         let other : t ≢ tag = not_new t 3 is (λ same. omega (arith, same)) in
         still_not_out-logged (Fetch e.region index entry) notes t (s.tags.answered_held t (sym (ap (λ (y : Slot). y.state) (left t other)) ∙ is))
 
-    hand_entries_now : All (HasEntry (logged later)) (s.items.outs ++ untaken after items)
+    hand_entries_now : All (HasEntry (logged later)) (s.items.outs ++ untaken after content items)
     hand_entries_now =
         All-weaker (HasEntry (logged notes)) (HasEntry (logged later))
-        (λ it h. entry_stays (logged notes) e.region index it.place.region it.place.index entry it.entry h) (s.items.outs ++ untaken after items)
+        (λ it h. entry_stays (logged notes) e.region index it.place.region it.place.index entry it.entry h) (s.items.outs ++ untaken after content items)
         (subst (λ (xs : List Item). All (HasEntry (logged notes)) (s.items.outs ++ xs)) (sym untaken_left) s.tags.hand_entries)
 
     free_count_now : free.len + (all_fetches (logged notes) + 1) ≡ length pool + all_posts (logged notes)
@@ -464,13 +559,13 @@ module _ (rules : FrontRules) (late : Bool) (notes : Notes) (c : Controller) (sl
       by false same = h ∙ ap (λ (x : Slot). Some x.cookie) (sym (left t other))
 
     windows_kept : (x : ℕ) → All (HasCookie later pool) (s.items.windows x)
-    windows_kept x = All-both (IsWaitingIn slots x) (HasCookie notes slots) (HasCookie later pool)
-        (λ it w h. keeps_other it.tag it.place (other_than it.tag 1 w.state (omega arith)) h) (s.items.windows x) (s.has.window_items x) (s.tags.cookies.windows x)
+    windows_kept x = All-both (λ (it : Item). (slot_at slots it.tag).state ≡ 1) (HasCookie notes slots) (HasCookie later pool)
+        (λ it state h. keeps_other it.tag it.place (other_than it.tag 1 state (omega arith)) h) (s.items.windows x) (all_wait rules late notes c slots s x) (s.tags.cookies.windows x)
 
     item_kept : HasCookie later pool item
     item_kept = rw (eq-eqb e.region e.region refl, eq-eqb index index refl) (ap (λ (n : ℕ). Some n) (sym (ap (λ (x : Slot). x.cookie) now ∙ f.keeps)))
 
-    ready_kept : (y : ReadyItem) → IsReadyIn slots y → HasReadyCookie notes slots y → HasReadyCookie later pool y
+    ready_kept : (y : ReadyItem) → IsReadyIn s.content.sq_id slots y → HasReadyCookie notes slots y → HasReadyCookie later pool y
     ready_kept y r h =
         keeps_other y.tag y.ready.place
         (other_than y.tag (ready_state y.was_out y.ready.with_queue) r.state (let low = (ready_state-range y.was_out y.ready.with_queue).0 in omega (arith, low))) h
@@ -489,16 +584,16 @@ module _ (rules : FrontRules) (late : Bool) (notes : Notes) (c : Controller) (sl
 
     cookies_now : HoldsCookies later pool items
     cookies_now = record {
-      windows = each_region (λ x state k xs. All (HasCookie later pool) xs)
+      windows = each_region (λ x k xs. All (HasCookie later pool) xs)
           (All-push (HasCookie later pool) (s.items.windows e.region) item (windows_kept e.region) item_kept) (λ x other. windows_kept x);
-      outs = All-both (IsOutIn slots) (HasCookie notes slots) (HasCookie later pool) (λ it w h. keeps_other it.tag it.place (other_than it.tag 2 w.state (omega arith)) h)
+      outs = All-both (IsOutIn s.content.sq_id slots) (HasCookie notes slots) (HasCookie later pool) (λ it w h. keeps_other it.tag it.place (other_than it.tag 2 w.state (omega arith)) h)
           s.items.outs s.has.outs_items s.tags.cookies.outs;
-      readies = λ x. All-both (IsReadyIn slots) (HasReadyCookie notes slots) (HasReadyCookie later pool) ready_kept (s.items.readies x) (s.has.ready_items x) (s.tags.cookies.readies x);
+      readies = λ x. All-both (IsReadyIn s.content.sq_id slots) (HasReadyCookie notes slots) (HasReadyCookie later pool) ready_kept (s.items.readies x) (s.has.ready_items x) (s.tags.cookies.readies x);
       deletes = λ r d at. keeps_other d.tag (place_at 0 d.index) (other_than d.tag 6 (s.has.deletions.items r d at).state (omega arith)) (s.tags.cookies.deletes r d at);
       none = none_kept_now;
     }
 
-    tags_now : HoldsTags later after pool items
+    tags_now : HoldsTags later after pool content items
     tags_now =
         let t = s.tags in
         record {
@@ -507,7 +602,7 @@ module _ (rules : FrontRules) (late : Bool) (notes : Notes) (c : Controller) (sl
           readies_held = t.readies_held;
           none_held = none_held_now;
           through = t.through;
-          windows_unanswered = each_region (λ x state k xs. All (λ (it : Item). IsUnanswered notes it.place) xs)
+          windows_unanswered = each_region (λ x k xs. All (λ (it : Item). IsUnanswered notes it.place) xs)
               (All-push (λ (it : Item). IsUnanswered notes it.place) (s.items.windows e.region) item (t.windows_unanswered e.region)
               (t.none_answered e.region index (let is = index_is in omega (arith, is))))
               (λ x other. t.windows_unanswered x);
@@ -560,13 +655,14 @@ module _ (rules : FrontRules) (late : Bool) (notes : Notes) (c : Controller) (sl
       doorbells = doorbells_now;
       tags = tags_now;
       shown = record { held = s.shown.held; classed = s.shown.classed };
+      regions = record { sqs = s.regions.sqs; cqs = s.regions.cqs };
       account = account_now;
     }
 
     pub has_fetched : HasFetched rules late notes qid entry cookie after pool
     unfolding may_fetch
     has_fetched = record {
-      slot = (sq_at c.sqs e.region).ring.head;
-      may = subst (λ (n : ℕ). MayFetch rules notes (window_limit c) n qid (sq_at c.sqs e.region).ring.head) (sym size) (may_fetch rules late notes c slots s qid e can);
+      slot = (sq_at c.sqs qid).ring.head;
+      may = subst (λ (n : ℕ). MayFetch rules notes (window_limit c) n qid (sq_at c.sqs qid).ring.head) (sym size) (may_fetch rules late notes c slots s qid e can);
       stands = subst (λ (n : ℕ). StandsAt rules late (Kept e.region n cookie ∷ Logged (Fetch e.region n entry) ∷ notes) after pool) index_is stands_now;
     }

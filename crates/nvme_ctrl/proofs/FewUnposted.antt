@@ -3,7 +3,6 @@ use Rattle.std.proofs.Common.{◌≡◌, ℕ, zero, suc, ◌<◌, ◌≤◌, ◌
 use Rattle.std.specs.Prelude.{All, sum_by, slice_index_or}
 use Rattle.std.proofs.lemmas.Bool.{false_from_ne_true, cases_lt, cases_eq, eqb-true, and_parts, and_from, not_from_false, lt-ltb}
 use Rattle.std.proofs.lemmas.List.Sums.{sum_by-le, sum_by-append}
-use Rattle.nvme_admin.specs.declared.bounds.TheConstants.{MAX_REGIONS}
 use Rattle.nvme_ctrl.specs.kept.Content.{Ready}
 use Rattle.nvme_log.specs.Rules.{FrontRules, Past, upto, sq_regions_of}
 use Rattle.nvme_log.specs.Places.{fetched, picked, fate_of, is_waiting, is_picked, is_aborted, unaborted_below, places}
@@ -32,7 +31,7 @@ counts_none false n = omega arith
 ready-unaborted : (past : Past) (k : Content) (r i : ℕ) → HoldsReady past k (hand_of k) → k.deletion r ≡ None → is_aborted_with_queue past r i ≡ true
     → times_ready k r i ≡ 0
 ready-unaborted past k r i h none gone =
-    over_none (λ (c : ℕ). times_in r i (k.cq c).ready) MAX_REGIONS (λ c l.
+    over_none (λ (c : ℕ). times_in r i (k.cq c).ready) k.ncq (λ c l.
     omega (
       arith,
       sum_by-le (λ (t : Ready). one_if (t.place.region == r && t.place.index == i)) 0 (k.cq c).ready (λ j d m.
@@ -62,10 +61,10 @@ places-unaborted past ps r i each gone =
 hand-unaborted : (past : Past) (k : Content) (r i : ℕ) → All (IsInHand past) k.hand → HoldsDeletion past k → is_aborted past r i ≡ true
     → times_held r i (hand_of k) ≡ 0
 hand-unaborted past k r i each deletes gone =
-    let held = held-none r i k.deletion MAX_REGIONS (λ x d is. false_from_ne_true (d.place.region == r && d.place.index == i) (λ h.
+    let held = held-none r i k.deletion k.nsq (λ x d is. false_from_ne_true (d.place.region == r && d.place.index == i) (λ h.
     let same = and_parts (d.place.region == r) (d.place.index == i) h in
     true≢false (sym gone ∙ ap (λ (z : ℕ). is_aborted past z i) (sym (eqb-true d.place.region r same.0)) ∙ ap (is_aborted past d.place.region) (sym (eqb-true d.place.index i same.1)) ∙ (deletes.stands x d is).not_aborted))) in
-    omega (arith, times_held-append r i k.hand (held_upto k.deletion MAX_REGIONS), places-unaborted past k.hand r i each gone, held)
+    omega (arith, times_held-append r i k.hand (held_upto k.deletion k.nsq), places-unaborted past k.hand r i each gone, held)
 
 -- so a place that was aborted with its queue has its completion posted
 pub aborted-posted : (past : Past) (k : Content) (r i : ℕ) → ((x : ℕ) → HoldsSq past x (k.sq x)) → HoldsReady past k (hand_of k)

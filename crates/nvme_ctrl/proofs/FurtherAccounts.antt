@@ -1,4 +1,4 @@
--- A log that is an account stays one at the rules with a region more, where no entry that was applied names its address.
+-- A log that is an account stays one at the rules with a region more, where no entry that was applied names its address, and where queues may lie anywhere.
 use Rattle.std.proofs.Common.{◌≡◌, ℕ, ◌<◌, ◌%◌, ◌==◌, ◌&&◌, Bool, true, false, if◌then◌else◌, List, [], ◌∷◌, ◌++◌, length, filter, not, Some, refl, sym, ap, ◌∙◌, subst, arith, inl, inr, MatchBool}
 use Rattle.std.specs.Prelude.{slice_get, nat_le}
 use mathlib.Core.List.{IsPrefix}
@@ -28,7 +28,7 @@ use Rattle.nvme_ctrl.specs.Tags.{is_passed, is_of_device, answers}
 use Rattle.nvme_ctrl.specs.Account.{FetchesSubmitted, PostsOnFreeSlot, PostsAnswer, PostsOwn, IsLawfulEvent, IsCarriedOut, HasTag, IsAnswer, IsLawful, IsAccount}
 use Rattle.nvme_ctrl.proofs.AddedTables.{slots_past}
 use Rattle.nvme_ctrl.proofs.DoorbellCounts.{submitted_same, consumed_same}
-use Rattle.nvme_ctrl.proofs.FurtherHistories.{IsUnnamed, unnamed-before, made_last-further}
+use Rattle.nvme_ctrl.proofs.FurtherHistories.{IsPassedBy, passed-before, made_last-further}
 use Rattle.nvme_ctrl.proofs.FurtherAnswers.{status-stays, dw0-stays}
 use Rattle.nvme_ctrl.proofs.Growing.{sum_by-further}
 use Rattle.nvme_ctrl.proofs.Noted.{each-event}
@@ -115,7 +115,7 @@ module _ (rules : FrontRules) (kind : Kind) (a n : ℕ) (some_sqs : 0 < length (
       (λ r beyond. ap (λ (xs : List Sqe). length (filter (λ (i : ℕ). takes_place past r i && not (is_posted past r i)) (upto (length xs)))) (left.none_fetched r beyond))
 
   -- ---- an event
-  module _ (notes : Notes) (sound : IsSound rules (logged notes)) (unnamed : IsUnnamed rules a (logged notes)) where
+  module _ (notes : Notes) (sound : IsSound rules (logged notes)) (passed : IsPassedBy rules a (logged notes)) where
     served-stays : (e : Event) → LeavesRegions rules others (e ∷ logged notes) → ServedWhileOpen rules (logged notes) e → ServedWhileOpen others (logged notes) e
     served-stays (Fetch r i entry) left h =
         (h.0, subst (λ (slots : ℕ). nat_le (length (waiting (Fetch r i entry ∷ logged notes) r)) (window_of slots) ≡ true) (sym (fetch-there (logged notes) r i entry left)) h.1)
@@ -125,7 +125,7 @@ module _ (rules : FrontRules) (kind : Kind) (a n : ℕ) (some_sqs : 0 < length (
     effects-stay : (e : Event) → EffectsAtOnce rules (logged notes) e → EffectsAtOnce others (logged notes) e
     effects-stay e h =
         subst (λ (made : List Event). MatchBool (is_effect e) (IsPrefix (effects_since (logged notes) ++ e ∷ []) made) (effects_since (logged notes) ≡ made))
-        (sym (made_last-further rules kind a n some_sqs some_cqs (logged notes) unnamed)) h
+        (sym (made_last-further rules kind a n some_sqs some_cqs (logged notes) passed)) h
 
     own-stays : (executor : Executor) (c r i : ℕ) (cqe : Cqe) → LeavesRegions rules others (logged notes) → cq_slots others c ≡ cq_slots rules c
         → PostsOwnBy rules executor (logged notes) (Post c r i cqe) → PostsOwnBy others executor (logged notes) (Post c r i cqe)
@@ -140,8 +140,8 @@ module _ (rules : FrontRules) (kind : Kind) (a n : ℕ) (some_sqs : 0 < length (
             region = own.region;
             sqid = own.sqid;
             cid = own.cid;
-            status = own.status ∙ sym (status-stays rules kind a n some_sqs some_cqs (logged notes) sound unnamed r i own.entry own.is_there h.1 answer);
-            dw0 = own.dw0 ∙ sym (dw0-stays rules kind a n some_sqs some_cqs (logged notes) sound unnamed r i own.entry own.is_there h.1 answer);
+            status = own.status ∙ sym (status-stays rules kind a n some_sqs some_cqs (logged notes) sound passed r i own.entry own.is_there h.1 answer);
+            dw0 = own.dw0 ∙ sym (dw0-stays rules kind a n some_sqs some_cqs (logged notes) sound passed r i own.entry own.is_there h.1 answer);
             sqhd = own.sqhd ∙ ap (λ (m : ℕ). length (fetched (logged notes) r) % m) (sym (fetched-there (logged notes) r i own.entry left own.is_there));
             phase = own.phase ∙ ap (λ (m : ℕ). phase_after (length (posted_to (logged notes) c)) m) (sym same);
           },
@@ -209,10 +209,10 @@ module _ (rules : FrontRules) (kind : Kind) (a n : ℕ) (some_sqs : 0 < length (
           entry = h.entry;
           is_there = h.is_there;
           picked = h.picked;
-          whole = h.whole ∙ sym (made_last-further rules kind a n some_sqs some_cqs (logged notes) unnamed);
+          whole = h.whole ∙ sym (made_last-further rules kind a n some_sqs some_cqs (logged notes) passed);
           finished = h.finished;
-          status = h.status ∙ sym (status-stays rules kind a n some_sqs some_cqs (logged notes) sound unnamed 0 i h.entry h.is_there done (outcome_answer rules h.entry));
-          dw0 = h.dw0 ∙ sym (dw0-stays rules kind a n some_sqs some_cqs (logged notes) sound unnamed 0 i h.entry h.is_there done (outcome_answer rules h.entry));
+          status = h.status ∙ sym (status-stays rules kind a n some_sqs some_cqs (logged notes) sound passed 0 i h.entry h.is_there done (outcome_answer rules h.entry));
+          dw0 = h.dw0 ∙ sym (dw0-stays rules kind a n some_sqs some_cqs (logged notes) sound passed 0 i h.entry h.is_there done (outcome_answer rules h.entry));
         }
 
     answer-stays : (r i : ℕ) (answer : Answer) → IsAnswer rules notes r i answer → IsAnswer others notes r i answer
@@ -256,21 +256,21 @@ module _ (rules : FrontRules) (kind : Kind) (a n : ℕ) (some_sqs : 0 < length (
     lawful = l;
   }
 
-  notes-stay : (notes : Notes) → EachNote (IsLawful rules) notes → IsLawfulRun rules.mechanism rules.start.settings (arbitration_of (logged notes)) → IsUnnamed rules a (logged notes)
+  notes-stay : (notes : Notes) → EachNote (IsLawful rules) notes → IsLawfulRun rules.mechanism rules.start.settings (arbitration_of (logged notes)) → IsPassedBy rules a (logged notes)
       → LeavesRegions rules others (logged notes) → EachNote (IsLawful others) notes
   notes-stay [] h l u left = tt
   notes-stay (Logged e ∷ notes) h l u left =
       let lawful = lawful-before rules e (logged notes) l in
-      let unnamed = unnamed-before rules a e (logged notes) u in (
-        note-stays notes (sound-notes notes h.1 lawful) unnamed (Logged e) left h.0,
-        notes-stay notes h.1 lawful unnamed (leaves-before rules others e (logged notes) left),
+      let passed = passed-before rules a e (logged notes) u in (
+        note-stays notes (sound-notes notes h.1 lawful) passed (Logged e) left h.0,
+        notes-stay notes h.1 lawful passed (leaves-before rules others e (logged notes) left),
       )
   notes-stay (note ∷ notes) h l u left = (note-stays notes (sound-notes notes h.1 l) u note left h.0, notes-stay notes h.1 l u left)
 
   -- the log stays an account
-  pub account-stays : (notes : Notes) → IsAccount rules notes → IsUnnamed rules a (logged notes) → IsAccount others notes
-  account-stays notes h unnamed = record {
-    each = notes-stay notes h.each h.lawful unnamed (leaves_regions rules kind a n notes h.each);
+  pub account-stays : (notes : Notes) → IsAccount rules notes → IsPassedBy rules a (logged notes) → IsAccount others notes
+  account-stays notes h passed = record {
+    each = notes-stay notes h.each h.lawful passed (leaves_regions rules kind a n notes h.each);
     lawful = h.lawful;
-    effects_whole = h.effects_whole ∙ sym (made_last-further rules kind a n some_sqs some_cqs (logged notes) unnamed);
+    effects_whole = h.effects_whole ∙ sym (made_last-further rules kind a n some_sqs some_cqs (logged notes) passed);
   }

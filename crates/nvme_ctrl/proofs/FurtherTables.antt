@@ -1,5 +1,7 @@
--- Table histories to one of which a region was added before: entries that don't name its address are answered alike after both.
-use Rattle.std.proofs.Common.{◌≡◌, ℕ, ◌+◌, ◌<◌, ◌==◌, ◌&&◌, ◌||◌, Bool, true, false, not, nat_lt, if◌then◌else◌, List, [], ◌∷◌, ◌++◌, length, Some, None, is_none, is_some, option_map, option_to_list, unwrap_or, refl, sym, ap, ◌∙◌, subst, arith}
+-- Table histories to one of which a region was added before: entries that don't name its address, and all entries where queues may lie anywhere, are answered
+-- alike after both.
+use Rattle.std.proofs.Common.{◌≡◌, ℕ, ◌+◌, ◌<◌, ◌==◌, ◌&&◌, ◌||◌, Bool, true, false, not, nat_lt, if◌then◌else◌, List, [], ◌∷◌, ◌++◌, length, Option, Some, None, is_none, is_some, option_map, option_to_list, unwrap_or, refl, sym, ap, ◌∙◌, subst, arith, inl, inr, true≢false}
+use Rattle.std.specs.Prelude.{◌⊎◌}
 use Rattle.nvme_entry.specs.Status.{StatusCode, invalid_field, completion_queue_invalid, invalid_queue_identifier, invalid_queue_size}
 use Rattle.nvme_entry.specs.Checks.{Check, first_failed}
 use Rattle.nvme_entry.specs.Submission.{fuse_of}
@@ -11,9 +13,9 @@ use Rattle.nvme_arbiter.specs.Settings.{settings_of}
 use Rattle.nvme_admin.specs.declared.bounds.TheConstants.{MAX_QSIZE}
 use Rattle.nvme_admin.specs.declared.region.Region.{Region}
 use Rattle.nvme_admin.specs.declared.verdict.Verdict.TheVariants.{Done}
-use Rattle.nvme_admin.specs.History.{Start, TableHistory, RegionAdded, EntryApplied, DeletionFinished, Kind, Submission, Completion, Effects, Added, Accepted, Finished}
-use Rattle.nvme_admin.specs.QueueTable.{QueueTable, table_in, region_number, class_of, as_closing, unless_closing, is_used, admin_sq, admin_cq, arbitration, number_of_queues, sq_regions_in, cq_regions_in, sq_named_in, cq_named_in, io_sq_in, io_cq_in, first_request_in, created_in, settings_in, nsq_by, ncq_by}
-use Rattle.nvme_admin.specs.Checks.{row, rows_of, status_over, is_success, verdict_by, verdict_after, dw0_by, dw0_after}
+use Rattle.nvme_admin.specs.History.{Start, TableHistory, Placing, RegionAdded, EntryApplied, DeletionFinished, Kind, Submission, Completion, Effects, Added, Accepted, Finished}
+use Rattle.nvme_admin.specs.QueueTable.{QueueTable, table_in, number_by, placing_in, class_of, as_closing, unless_closing, is_used, admin_sq, admin_cq, arbitration, number_of_queues, sq_regions_in, cq_regions_in, sq_named_in, cq_named_in, io_sq_in, io_cq_in, first_request_in, created_in, settings_in, nsq_by, ncq_by}
+use Rattle.nvme_admin.specs.Checks.{row, rows_of, is_free, placing_rows, status_over, is_success, verdict_by, verdict_after, dw0_by, dw0_after}
 use Rattle.nvme_admin.specs.Accepted.{after_entry, effects_of, queue_table, status_of, verdict_of, dw0_of}
 use Rattle.nvme_ctrl.specs.Making.{command_names}
 use Rattle.nvme_ctrl.proofs.FurtherRegion.{sqs_with, cqs_with, sq_number_with, cq_number_with, sq_free_with, cq_free_with}
@@ -22,28 +24,45 @@ use Rattle.nvme_ctrl.proofs.FurtherRegion.{sqs_with, cqs_with, sq_number_with, c
 abbrev pub table_with : Kind → (a n : ℕ) → QueueTable → QueueTable
 table_with kind a n t = record t { sq_regions = sqs_with kind a n t.sq_regions; cq_regions = cqs_with kind a n t.cq_regions }
 
+-- a command asks for no region at an address: it doesn't name the address, or queues may lie anywhere
+abbrev pub PassesBy : ℕ → Option Placing → AdminCommand → Type 0
+PassesBy a placing command = (command_names a command ≡ false) ⊎ (is_some placing ≡ true)
+
+-- whether no region is free where one is wanted: none is wanted where queues may lie anywhere
+wanted_same : (placing : Option Placing) (x y : Bool) → (x ≡ y) ⊎ (is_some placing ≡ true) → (is_none placing && not x) ≡ (is_none placing && not y)
+wanted_same None x y (inl same) = ap not same
+wanted_same None x y (inr some) = absurd (true≢false (sym some))
+wanted_same (Some p) x y either = refl
+
+-- what one of two cases gives
+pub in_first : {A B C : Type 0} → (A → B) → A ⊎ C → B ⊎ C
+in_first f (inl x) = inl (f x)
+in_first f (inr z) = inr z
+
 module _ (start : Start) (kind : Kind) (a n : ℕ) where
   -- ---- a table with a region more
-  -- a command that doesn't name its address is checked alike
-  rows_with : (t : QueueTable) (command : AdminCommand) → command_names a command ≡ false → rows_of (table_with kind a n t) command ≡ rows_of t command
+  -- a command that doesn't ask for it is checked alike
+  rows_with : (t : QueueTable) (command : AdminCommand) → PassesBy a t.placing command → rows_of (table_with kind a n t) command ≡ rows_of t command
   rows_with t (CreateCq qid qsize prp1 pc) other =
-      ap (λ (free : Bool).
+      ap (λ (lacks : Bool).
       row (not pc) invalid_field
       ∷ row (qid == 0 || nat_lt t.ncq qid || is_some (t.cq qid)) invalid_queue_identifier
       ∷ row (qsize == 0 || nat_lt MAX_QSIZE qsize) invalid_queue_size
-      ∷ row (not free) invalid_field
+      ∷ row lacks invalid_field
       ∷ [])
-      (cq_free_with a n prp1 other kind t.cq_regions t.cq_region_used (qsize + 1))
+      (wanted_same t.placing (is_free (cqs_with kind a n t.cq_regions) t.cq_region_used prp1 (qsize + 1)) (is_free t.cq_regions t.cq_region_used prp1 (qsize + 1))
+      (in_first (λ (e : (a == prp1) ≡ false). cq_free_with a n prp1 e kind t.cq_regions t.cq_region_used (qsize + 1)) other))
   rows_with t (CreateSq qid qsize prp1 cqid qprio pc) other =
-      ap (λ (free : Bool).
+      ap (λ (lacks : Bool).
       row (not pc) invalid_field
       ∷ row (qid == 0 || nat_lt t.nsq qid || is_some (t.sq qid)) invalid_queue_identifier
       ∷ row (qsize == 0 || nat_lt MAX_QSIZE qsize) invalid_queue_size
       ∷ row (cqid == 0 || nat_lt t.ncq cqid) invalid_queue_identifier
       ∷ row (is_none (t.cq cqid)) completion_queue_invalid
-      ∷ row (not free) invalid_field
+      ∷ row lacks invalid_field
       ∷ [])
-      (sq_free_with a n prp1 other kind t.sq_regions t.sq_region_used (qsize + 1))
+      (wanted_same t.placing (is_free (sqs_with kind a n t.sq_regions) t.sq_region_used prp1 (qsize + 1)) (is_free t.sq_regions t.sq_region_used prp1 (qsize + 1))
+      (in_first (λ (e : (a == prp1) ≡ false). sq_free_with a n prp1 e kind t.sq_regions t.sq_region_used (qsize + 1)) other))
   rows_with t (DeleteSq qid) other = refl
   rows_with t (DeleteCq qid) other = refl
   rows_with t (Abort sqid cid) other = refl
@@ -51,8 +70,8 @@ module _ (start : Start) (kind : Kind) (a n : ℕ) where
   rows_with t (GetFeatures fid) other = refl
   rows_with t Other other = refl
 
-  status_with : (t : QueueTable) (entry : Sqe) → command_names a (admin_command_of entry) ≡ false → status_over (table_with kind a n t) entry ≡ status_over t entry
-  status_with t entry other = ap (λ (rows : List Check). first_failed (row (not (fuse_of entry == 0)) invalid_field ∷ rows)) (rows_with t (admin_command_of entry) other)
+  status_with : (t : QueueTable) (entry : Sqe) → PassesBy a t.placing (admin_command_of entry) → status_over (table_with kind a n t) entry ≡ status_over t entry
+  status_with t entry other = ap (λ (rows : List Check). first_failed (row (not (fuse_of entry == 0)) invalid_field ∷ placing_rows t.placing entry ++ rows)) (rows_with t (admin_command_of entry) other)
 
   -- what is answered of an accepted command doesn't rest on regions
   verdict_with : (t : QueueTable) (command : AdminCommand) → verdict_after (table_with kind a n t) command ≡ verdict_after t command
@@ -87,6 +106,7 @@ module _ (start : Start) (kind : Kind) (a n : ℕ) where
     request : first_request_in f ≡ first_request_in e
     created : created_in f ≡ created_in e
     settings : settings_in start f ≡ settings_in start e
+    placing : placing_in f ≡ placing_in e
     some_sqs : 0 < length (sq_regions_in e)
     some_cqs : 0 < length (cq_regions_in e)
 
@@ -118,13 +138,27 @@ module _ (start : Start) (kind : Kind) (a n : ℕ) where
         numbers_set = is_some (s.request i);
         created = s.created i;
         settings = s.settings i;
+        placing = s.placing i;
+        sqs_made = length (s.sq_named i);
+        cqs_made = length (s.cq_named i);
       }
 
-  -- they stay so by an accepted command that doesn't name its address
-  further_accepted : (e f : Effects) (command : AdminCommand) → command_names a command ≡ false → Further e f → Further (Accepted command ∷ e) (Accepted command ∷ f)
+  -- a queue that is created at another address has the region number that it had, on a region or anywhere
+  sq_next_with : (placing : Option Placing) (made prp1 : ℕ) → ((a == prp1) ≡ false) ⊎ (is_some placing ≡ true) → (rs : List Region) → number_by placing made (sqs_with kind a n rs) prp1 ≡ number_by placing made rs prp1
+  sq_next_with None made prp1 (inl other) rs = sq_number_with a n prp1 other kind rs
+  sq_next_with None made prp1 (inr some) rs = absurd (true≢false (sym some))
+  sq_next_with (Some p) made prp1 other rs = refl
+
+  cq_next_with : (placing : Option Placing) (made prp1 : ℕ) → ((a == prp1) ≡ false) ⊎ (is_some placing ≡ true) → (rs : List Region) → number_by placing made (cqs_with kind a n rs) prp1 ≡ number_by placing made rs prp1
+  cq_next_with None made prp1 (inl other) rs = cq_number_with a n prp1 other kind rs
+  cq_next_with None made prp1 (inr some) rs = absurd (true≢false (sym some))
+  cq_next_with (Some p) made prp1 other rs = refl
+
+  -- they stay so by an accepted command that doesn't ask for it
+  further_accepted : (e f : Effects) (command : AdminCommand) → PassesBy a (placing_in e) command → Further e f → Further (Accepted command ∷ e) (Accepted command ∷ f)
   further_accepted e f (CreateSq qid qsize prp1 cqid qprio pc) other s =
-      let number : region_number (sq_regions_in f) prp1 ≡ region_number (sq_regions_in e) prp1 =
-      ap (λ (rs : List Region). region_number rs prp1) s.sqs ∙ sq_number_with a n prp1 other kind (sq_regions_in e) in
+      let number : number_by (placing_in f) (length (sq_named_in f)) (sq_regions_in f) prp1 ≡ number_by (placing_in e) (length (sq_named_in e)) (sq_regions_in e) prp1 =
+      (λ i. number_by (s.placing i) (length (s.sq_named i)) (s.sqs i) prp1) ∙ sq_next_with (placing_in e) (length (sq_named_in e)) prp1 other (sq_regions_in e) in
       record {
         sqs = s.sqs;
         cqs = s.cqs;
@@ -135,12 +169,13 @@ module _ (start : Start) (kind : Kind) (a n : ℕ) where
         request = s.request;
         created = refl;
         settings = s.settings;
+        placing = s.placing;
         some_sqs = s.some_sqs;
         some_cqs = s.some_cqs;
       }
   further_accepted e f (CreateCq qid qsize prp1 pc) other s =
-      let number : region_number (cq_regions_in f) prp1 ≡ region_number (cq_regions_in e) prp1 =
-      ap (λ (rs : List Region). region_number rs prp1) s.cqs ∙ cq_number_with a n prp1 other kind (cq_regions_in e) in
+      let number : number_by (placing_in f) (length (cq_named_in f)) (cq_regions_in f) prp1 ≡ number_by (placing_in e) (length (cq_named_in e)) (cq_regions_in e) prp1 =
+      (λ i. number_by (s.placing i) (length (s.cq_named i)) (s.cqs i) prp1) ∙ cq_next_with (placing_in e) (length (cq_named_in e)) prp1 other (cq_regions_in e) in
       record {
         sqs = s.sqs;
         cqs = s.cqs;
@@ -151,6 +186,7 @@ module _ (start : Start) (kind : Kind) (a n : ℕ) where
         request = s.request;
         created = refl;
         settings = s.settings;
+        placing = s.placing;
         some_sqs = s.some_sqs;
         some_cqs = s.some_cqs;
       }
@@ -164,6 +200,7 @@ module _ (start : Start) (kind : Kind) (a n : ℕ) where
     request = s.request;
     created = s.created;
     settings = s.settings;
+    placing = s.placing;
     some_sqs = s.some_sqs;
     some_cqs = s.some_cqs;
   }
@@ -177,6 +214,7 @@ module _ (start : Start) (kind : Kind) (a n : ℕ) where
     request = s.request;
     created = s.created;
     settings = s.settings;
+    placing = s.placing;
     some_sqs = s.some_sqs;
     some_cqs = s.some_cqs;
   }
@@ -190,6 +228,7 @@ module _ (start : Start) (kind : Kind) (a n : ℕ) where
     request = λ i. if fid == number_of_queues && is_none (s.request i) then Some cdw11 else s.request i;
     created = s.created;
     settings = λ i. if fid == arbitration then settings_of cdw11 else s.settings i;
+    placing = s.placing;
     some_sqs = s.some_sqs;
     some_cqs = s.some_cqs;
   }
@@ -203,6 +242,7 @@ module _ (start : Start) (kind : Kind) (a n : ℕ) where
     request = s.request;
     created = s.created;
     settings = s.settings;
+    placing = s.placing;
     some_sqs = s.some_sqs;
     some_cqs = s.some_cqs;
   }
@@ -216,6 +256,7 @@ module _ (start : Start) (kind : Kind) (a n : ℕ) where
     request = s.request;
     created = s.created;
     settings = s.settings;
+    placing = s.placing;
     some_sqs = s.some_sqs;
     some_cqs = s.some_cqs;
   }
@@ -229,6 +270,7 @@ module _ (start : Start) (kind : Kind) (a n : ℕ) where
     request = s.request;
     created = s.created;
     settings = s.settings;
+    placing = s.placing;
     some_sqs = s.some_sqs;
     some_cqs = s.some_cqs;
   }
@@ -245,12 +287,13 @@ module _ (start : Start) (kind : Kind) (a n : ℕ) where
     request = s.request;
     created = s.created;
     settings = s.settings;
+    placing = s.placing;
     some_sqs = s.some_sqs;
     some_cqs = s.some_cqs;
   }
 
   -- and by an entry
-  further_entry : (e f : Effects) (entry : Sqe) → command_names a (admin_command_of entry) ≡ false → Further e f
+  further_entry : (e f : Effects) (entry : Sqe) → PassesBy a (placing_in e) (admin_command_of entry) → Further e f
       → Further (after_entry (status_over (table_in start e) entry) (admin_command_of entry) e) (after_entry (status_over (table_in start f) entry) (admin_command_of entry) f)
   further_entry e f entry other s =
       let same : status_over (table_in start f) entry ≡ status_over (table_in start e) entry =
@@ -281,6 +324,7 @@ module _ (start : Start) (kind : Kind) (a n : ℕ) where
       request = refl;
       created = refl;
       settings = refl;
+      placing = refl;
       some_sqs = sqs;
       some_cqs = cqs;
     };
@@ -294,8 +338,8 @@ module _ (start : Start) (kind : Kind) (a n : ℕ) where
     more_cqs Completion e = refl
 
   -- where it was added before
-  pub entry-further : (h g : TableHistory) (entry : Sqe) → command_names a (admin_command_of entry) ≡ false → IsFurther h g → IsFurther (EntryApplied entry ∷ h) (EntryApplied entry ∷ g)
-  unfolding effects_of
+  pub entry-further : (h g : TableHistory) (entry : Sqe) → PassesBy a (queue_table start h).placing (admin_command_of entry) → IsFurther h g → IsFurther (EntryApplied entry ∷ h) (EntryApplied entry ∷ g)
+  unfolding effects_of queue_table
   entry-further h g entry other s = record { effects = further_entry (effects_of start h) (effects_of start g) entry other s.effects }
 
   pub finished-further : (h g : TableHistory) (qid : ℕ) → IsFurther h g → IsFurther (DeletionFinished qid ∷ h) (DeletionFinished qid ∷ g)
@@ -316,12 +360,12 @@ module _ (start : Start) (kind : Kind) (a n : ℕ) where
   unfolding queue_table
   cqs-further h g s = s.effects.some_cqs
 
-  -- an entry that doesn't name the address is answered alike
-  pub status-further : (h g : TableHistory) (entry : Sqe) → command_names a (admin_command_of entry) ≡ false → IsFurther h g → status_of start g entry ≡ status_of start h entry
+  -- an entry that doesn't ask for it is answered alike
+  pub status-further : (h g : TableHistory) (entry : Sqe) → PassesBy a (queue_table start h).placing (admin_command_of entry) → IsFurther h g → status_of start g entry ≡ status_of start h entry
   unfolding status_of
   status-further h g entry other s = ap (λ (t : QueueTable). status_over t entry) (table-further h g s) ∙ status_with (queue_table start h) entry other
 
-  pub verdict-further : (h g : TableHistory) (entry : Sqe) → command_names a (admin_command_of entry) ≡ false → IsFurther h g → verdict_of start g entry ≡ verdict_of start h entry
+  pub verdict-further : (h g : TableHistory) (entry : Sqe) → PassesBy a (queue_table start h).placing (admin_command_of entry) → IsFurther h g → verdict_of start g entry ≡ verdict_of start h entry
   unfolding verdict_of
   verdict-further h g entry other s =
       let t : QueueTable = queue_table start (EntryApplied entry ∷ h) in
@@ -329,7 +373,7 @@ module _ (start : Start) (kind : Kind) (a n : ℕ) where
       (λ i. verdict_by (status-further h g entry other s i) (after i) (admin_command_of entry))
       ∙ (λ i. if is_success (status_of start h entry) then verdict_with t (admin_command_of entry) i else Done (status_of start h entry) 0)
 
-  pub dw0-further : (h g : TableHistory) (entry : Sqe) → command_names a (admin_command_of entry) ≡ false → IsFurther h g → dw0_of start g entry ≡ dw0_of start h entry
+  pub dw0-further : (h g : TableHistory) (entry : Sqe) → PassesBy a (queue_table start h).placing (admin_command_of entry) → IsFurther h g → dw0_of start g entry ≡ dw0_of start h entry
   unfolding dw0_of
   dw0-further h g entry other s =
       let t : QueueTable = queue_table start (EntryApplied entry ∷ h) in

@@ -1,21 +1,25 @@
 -- What a controller keeps stands at its log after a region was added.
-use Rattle.std.proofs.Common.{◌≡◌, ℕ, zero, suc, ◌<◌, ◌≤◌, ◌&&◌, Bool, false, not, List, [], filter, length, Option, Some, None, refl, sym, ap, ◌∙◌, arith, inl, inr, sum_by}
+use Rattle.std.proofs.Common.{◌≡◌, ℕ, zero, suc, ◌<◌, ◌≤◌, ◌&&◌, Bool, true, false, not, List, [], ◌++◌, filter, length, Option, Some, None, is_some, refl, sym, ap, ◌∙◌, subst, arith, inl, inr, sum_by}
 use Rattle.std.proofs.lemmas.List.Sums.{sum_by_push}
 use Rattle.std.proofs.lemmas.Bool.{cases_lt}
+use Rattle.std.proofs.lemmas.List.{append-nil}
 use Rattle.nvme_entry.specs.declared.submission.Sqe.{Sqe}
 use Rattle.nvme_admin.specs.History.{TableHistory}
-use Rattle.nvme_admin.specs.Standing.{TableView, StandsAt, sq_of, cq_of, used_at}
-use Rattle.nvme_admin.specs.declared.bounds.TheConstants.{MAX_REGIONS}
+use Rattle.nvme_admin.specs.QueueTable.{QueueTable}
+use Rattle.nvme_admin.specs.Accepted.{queue_table}
 use Rattle.nvme_log.specs.Histories.{table_history}
 use Rattle.nvme_log.specs.Rules.{FrontRules, Past, upto, sq_regions_of, cq_regions_of, slots_at}
 use Rattle.nvme_log.specs.Places.{fetched, places}
 use Rattle.nvme_log.specs.Completions.{is_posted, takes_place}
 use Rattle.nvme_log.specs.Laws.{as_open}
-use Rattle.nvme_ctrl.specs.kept.Content.{Attachment, PendingDelete, Content}
-use Rattle.nvme_ctrl.specs.kept.Standing.{HoldsSq, HoldsReady, HoldsHand, HoldsCounts, HoldsPosts, HoldsQueues, HoldsDeletion, HoldsTable, HoldsOwn, IsPending, Holds, hand_of}
+use Rattle.nvme_log.specs.declared.place.Place.{Place}
+use Rattle.nvme_ctrl.specs.kept.Content.{Attachment, PendingDelete, Ready, Content}
+use Rattle.nvme_ctrl.specs.Making.{placing_in}
+use Rattle.nvme_ctrl.specs.kept.Standing.{HoldsSq, HoldsReady, HoldsHand, HoldsCounts, HoldsPosts, HoldsQueues, HoldsDeletion, HoldsLives, HoldsTable, HoldsOwn, IsPending, Holds, hand_of, held_by, held_upto, over_regions, times_in, is_on}
+use Rattle.nvme_ctrl.proofs.DeletedQueues.{deletion_within}
 
 -- more regions, of which nothing is kept but their slots, and a table with the same queues
-abbrev pub grown : Content → (sq_slots cq_slots : ℕ → ℕ) → (nsq ncq : ℕ) → TableView → Content
+abbrev pub grown : Content → (sq_slots cq_slots : ℕ → ℕ) → (nsq ncq : ℕ) → QueueTable → Content
 grown k sq_slots cq_slots nsq ncq table = record k {
   sq = λ (r : ℕ). record (k.sq r) { slots = sq_slots r };
   cq = λ (c : ℕ). record (k.cq c) { slots = cq_slots c };
@@ -25,22 +29,23 @@ grown k sq_slots cq_slots nsq ncq table = record k {
 }
 
 -- the regions that there are then, the table with them, and what holds of answers at the rules with them
-pub record Grows (rules : FrontRules) (late : Bool) (past : Past) (regions : TableHistory) (k : Content) (sq_slots cq_slots : ℕ → ℕ) (nsq ncq : ℕ) (table : TableView) : Type 0 where
+pub record Grows (rules : FrontRules) (late : Bool) (past : Past) (regions : TableHistory) (k : Content) (sq_slots cq_slots : ℕ → ℕ) (nsq ncq : ℕ) (table : QueueTable) : Type 0 where
   pub sqs : k.nsq ≤ nsq
   pub cqs : k.ncq ≤ ncq
-  pub same_sq : (q : ℕ) → sq_of table q ≡ sq_of k.table q
-  pub same_cq : (q : ℕ) → cq_of table q ≡ cq_of k.table q
-  pub same_used : (r : ℕ) → used_at table.sq_used r ≡ used_at k.table.sq_used r
+  pub same_sq : (q : ℕ) → table.sq q ≡ k.table.sq q
+  pub same_cq : (q : ℕ) → table.cq q ≡ k.table.cq q
+  pub same_used : (r : ℕ) → table.sq_region_used r ≡ k.table.sq_region_used r
+  pub same_cq_used : (r : ℕ) → table.cq_region_used r ≡ k.table.cq_region_used r
   pub history : TableHistory
-  pub stands : StandsAt rules.start table history
+  pub table_is : table ≡ queue_table rules.start history
+  pub placing_is : table.placing ≡ placing_in (record rules { regions = regions })
+  pub in_time : is_some table.placing ≡ true → late ≡ false
   pub history_is : late ≡ false → history ≡ table_history (record rules { regions = regions }) past
   pub own : late ≡ false → HoldsOwn (record rules { regions = regions }) past k
   pub sq_count : length table.sq_regions ≡ nsq
   pub cq_count : length table.cq_regions ≡ ncq
   pub sq_number : length (sq_regions_of (record rules { regions = regions })) ≡ nsq
   pub cq_number : length (cq_regions_of (record rules { regions = regions })) ≡ ncq
-  pub few_sqs : nsq ≤ MAX_REGIONS
-  pub few_cqs : ncq ≤ MAX_REGIONS
   pub sq_slots_are : (r : ℕ) → slots_at (sq_regions_of (record rules { regions = regions })) r ≡ sq_slots r
   pub cq_slots_are : (c : ℕ) → slots_at (cq_regions_of (record rules { regions = regions })) c ≡ cq_slots c
   pub sq_regions_are : table.sq_regions ≡ sq_regions_of (record rules { regions = regions })
@@ -54,12 +59,32 @@ sum_by-further f m (suc n) le none = elim (cases_lt m (suc n)) [
   | inr from ↦ let same : m ≡ suc n = omega arith in ap (λ (x : ℕ). sum_by f (upto x)) (sym same)
 ]
 
+-- the same of sums over completion regions
+over_further : (f : ℕ → ℕ) (m n : ℕ) → m ≤ n → ((r : ℕ) → m ≤ r → f r ≡ 0) → over_regions f n ≡ over_regions f m
+unfolding over_regions
+over_further f m zero le none = let same : m ≡ 0 = omega arith in ap (over_regions f) (sym same)
+over_further f m (suc n) le none = elim (cases_lt m (suc n)) [
+  | inl below ↦ omega (arith, over_further f m n (omega arith) none, none n (omega arith))
+  | inr from ↦ let same : m ≡ suc n = omega arith in ap (over_regions f) (sym same)
+]
+
+-- and of the deletions of regions
+held_further : (deletion : ℕ → Option PendingDelete) (m n : ℕ) → m ≤ n → ((r : ℕ) → m ≤ r → deletion r ≡ None) → held_upto deletion n ≡ held_upto deletion m
+unfolding held_upto
+held_further deletion m zero le none = let same : m ≡ 0 = omega arith in ap (held_upto deletion) (sym same)
+held_further deletion m (suc n) le none = elim (cases_lt m (suc n)) [
+  | inl below ↦
+      ap (λ (o : Option PendingDelete). held_upto deletion n ++ held_by o) (none n (omega arith)) ∙ append-nil (held_upto deletion n)
+      ∙ held_further deletion m n (omega arith) none
+  | inr from ↦ let same : m ≡ suc n = omega arith in ap (held_upto deletion) (sym same)
+]
+
 -- how many places of a region that were picked, or that an Abort command aborted, have no completion posted
 abbrev outstanding_in : Past → ℕ → ℕ
 outstanding_in past r = length (filter (λ (i : ℕ). takes_place past r i && not (is_posted past r i)) (places past r))
 
 module _ (rules : FrontRules) (late later : Bool) (past : Past) (k : Content) (s : Holds rules late past k)
-    (regions : TableHistory) (sq_slots cq_slots : ℕ → ℕ) (nsq ncq : ℕ) (table : TableView)
+    (regions : TableHistory) (sq_slots cq_slots : ℕ → ℕ) (nsq ncq : ℕ) (table : QueueTable)
     (g : Grows rules later past regions k sq_slots cq_slots nsq ncq table) where
   -- nothing was got from a region that isn't there
   none_opened : (r : ℕ) → k.nsq ≤ r → (o : Option Attachment) → (k.sq r).queue ≡ o → (k.sq r).got ≡ []
@@ -85,17 +110,39 @@ module _ (rules : FrontRules) (late later : Bool) (past : Past) (k : Content) (s
         none_posted = h.none_posted;
       }
 
-  -- what is ready stays
-  grown_ready : HoldsReady past (grown k sq_slots cq_slots nsq ncq table) (hand_of k)
-  grown_ready = record {
-    once = s.ready.once;
+  -- a region that isn't there has no deletion
+  none_deleted : (r : ℕ) → k.nsq ≤ r → k.deletion r ≡ None
+  none_deleted r past_end = by (k.deletion r) refl where
+    by : (o : Option PendingDelete) → k.deletion r ≡ o → o ≡ None
+    by None is = refl
+    by (Some d) is = let there = deletion_within rules late past k s r d is in absurd (omega (arith, there, past_end))
+
+  -- the places in hand stay
+  same_hand : hand_of (grown k sq_slots cq_slots nsq ncq table) ≡ hand_of k
+  same_hand = ap (λ (ps : List Place). k.hand ++ ps) (held_further k.deletion k.nsq nsq g.sqs none_deleted)
+
+  -- what is ready stays: nothing is ready in a new region
+  grown_ready : HoldsReady past (grown k sq_slots cq_slots nsq ncq table) (hand_of (grown k sq_slots cq_slots nsq ncq table))
+  grown_ready = subst (λ (hand : List Place). HoldsReady past (grown k sq_slots cq_slots nsq ncq table) hand) (sym same_hand) (record {
+    once = λ r i.
+        omega (
+          arith,
+          s.ready.once r i,
+          over_further (λ (c : ℕ). times_in r i (k.cq c).ready) k.ncq ncq g.cqs (λ c beyond. ap (λ (ts : List Ready). times_in r i ts) (s.ready.none_beyond c beyond)),
+        );
     each = s.ready.each;
-    taken = s.ready.taken;
+    taken =
+        omega (
+          arith,
+          s.ready.taken,
+          over_further (λ (c : ℕ). length (filter (λ (t : Ready). not t.with_queue) (k.cq c).ready)) k.ncq ncq g.cqs
+              (λ c beyond. ap (λ (ts : List Ready). length (filter (λ (t : Ready). not t.with_queue) ts)) (s.ready.none_beyond c beyond)),
+        );
     few_taken = s.ready.few_taken;
-    none_beyond = s.ready.none_beyond;
+    none_beyond = λ c beyond. s.ready.none_beyond c (let more = g.cqs in omega (arith, beyond, more));
     admin_qid = s.ready.admin_qid;
     admin_region = s.ready.admin_region;
-  }
+  })
 
   -- so does what is in hand
   grown_hand : HoldsHand past (grown k sq_slots cq_slots nsq ncq table)
@@ -162,18 +209,32 @@ module _ (rules : FrontRules) (late later : Bool) (past : Past) (k : Content) (s
     stands = λ r d h. grown_pending r d (s.deletion.stands r d h);
   }
 
+  -- and the queues whose state is kept
+  grown_lives : HoldsLives past (grown k sq_slots cq_slots nsq ncq table)
+  grown_lives = record {
+    sqs = s.lives.sqs;
+    deleted = s.lives.deleted;
+    cqs = s.lives.cqs;
+    not_closed = s.lives.not_closed;
+    named = s.lives.named;
+    in_table = λ q r h. ap (is_on r) (g.same_sq q) ∙ s.lives.in_table q r h;
+    there = s.lives.there;
+    unopened = λ x h. s.lives.unopened x (sym (g.same_cq_used x) ∙ h);
+  }
+
   -- the table stands at a history with the new region
   grown_table : HoldsTable (record rules { regions = regions }) later past (grown k sq_slots cq_slots nsq ncq table)
   grown_table = record {
     history = g.history;
-    stands = g.stands;
+    table_is = g.table_is;
+    few_queues = λ q entry e. s.tabled.few_queues q entry (sym (g.same_sq q) ∙ e);
+    placing = g.placing_is;
+    in_time = g.in_time;
     history_is = g.history_is;
     sq_count = g.sq_count;
     cq_count = g.cq_count;
     sq_number = g.sq_number;
     cq_number = g.cq_number;
-    few_sqs = g.few_sqs;
-    few_cqs = g.few_cqs;
     sq_slots = g.sq_slots_are;
     cq_slots = g.cq_slots_are;
     sq_regions_are = g.sq_regions_are;
@@ -196,6 +257,7 @@ module _ (rules : FrontRules) (late later : Bool) (past : Past) (k : Content) (s
     posts = grown_posts;
     queues = grown_queues;
     deletion = grown_deletion;
+    lives = grown_lives;
     arbitration = record { stands = s.arbitration.stands; lawful = s.arbitration.lawful };
     tabled = grown_table;
     own = grown_own;

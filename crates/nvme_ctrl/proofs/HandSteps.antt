@@ -30,7 +30,6 @@ use Rattle.nvme_ctrl.proofs.ReadyHand.{times_held-append, All-taken}
 use Rattle.nvme_ctrl.proofs.AfterSteps.{with_events, admin_past, after_admin, deleting_from, fetch_event, post_event, closed_event, aborting_from, aborting_in, place_of}
 use Rattle.nvme_ctrl.proofs.StepKeeps.{KeepsFetch, KeepsIo, KeepsAnswer, KeepsAdmin, KeepsPost, KeepsClose, Hand}
 use Rattle.nvme_ctrl.proofs.Named.{named_among}
-use Rattle.nvme_admin.specs.declared.bounds.TheConstants.{MAX_REGIONS}
 
 -- a log goes on so that entries and completion regions stay, and that places that were served and not aborted aren't aborted
 pub record LeavesHand (past later : Past) : Type 0 where
@@ -46,7 +45,7 @@ hand_served past k ready j e lt =
     let itself : own p ≡ 1 = rw (eq-eqb p.region p.region refl, eq-eqb p.index p.index refl) refl in
     let here : own p ≤ sum_by own k.hand = get_or-le-sum_by own k.hand j e lt in
     counts_true (is_served past p.region p.index)
-    (omega (arith, ready.once p.region p.index, times_held-append p.region p.index k.hand (held_upto k.deletion MAX_REGIONS))) where
+    (omega (arith, ready.once p.region p.index, times_held-append p.region p.index k.hand (held_upto k.deletion k.nsq))) where
       counts_true : (b : Bool) → 1 ≤ one_if b → b ≡ true
       counts_true true l = refl
       counts_true false l = absurd (omega arith)

@@ -15,14 +15,10 @@ use Rattle.nvme_arbiter.specs.declared.pick.OpenQueue.{OpenQueue}
 use Rattle.nvme_arbiter.specs.declared.settings.Class.{Class}
 use Rattle.nvme_arbiter.specs.declared.settings.Class.TheVariants.{Admin}
 use Rattle.nvme_arbiter.specs.declared.settings.Mechanism.{Mechanism}
-use Rattle.nvme_admin.specs.Layout.{view_of}
-use Rattle.nvme_admin.specs.Standing.{TableView, sq_of}
-use Rattle.nvme_admin.specs.declared.verdict.SqEntry.{SqEntry}
 use Rattle.nvme_log.specs.Rules.{FrontRules, Past}
 use Rattle.nvme_log.specs.Places.{fetched}
 use Rattle.nvme_log.specs.Queues.{Queue, open_sq}
 use Rattle.nvme_log.specs.Histories.{arbitration_of}
-use Rattle.nvme_log.specs.Laws.{as_open}
 use Rattle.nvme_ctrl.specs.Notes.{Notes, Held, Classed, logged}
 use Rattle.nvme_ctrl.specs.Doorbells.{submitted}
 use Rattle.nvme_ctrl.specs.Rings.{HasCounts}
@@ -35,24 +31,24 @@ use Rattle.nvme_ctrl.specs.kept.Content.{PendingDelete, Content, put_held, put_c
 use Rattle.nvme_ctrl.specs.kept.Kept.{HasNumbers, HasItems, HoldsDoorbells, StandsAt, tags_of}
 use Rattle.nvme_ctrl.specs.kept.Pool.{IsChain}
 use Rattle.nvme_ctrl.specs.kept.Standing.{HoldsReady, HoldsDeletion, HoldsQueues, IsPending, Holds, hand_of, on_board}
-use Rattle.nvme_ctrl.specs.kept.State.{no_sq_state, sq_at, attachment_of}
+use Rattle.nvme_ctrl.specs.kept.State.{no_sq_state, sq_at}
 use Rattle.nvme_ctrl.specs.inside.Fetching.{waiting_in}
-use Rattle.nvme_ctrl.proofs.AppliedQueues.{IsOpenEntry, open_entry}
 use Rattle.nvme_ctrl.proofs.Cookies.{cookies_later}
-use Rattle.nvme_ctrl.proofs.DoorbellCalls.{sq_there}
+use Rattle.nvme_ctrl.proofs.DoorbellCalls.{sq_lives, sq_there}
 use Rattle.nvme_ctrl.proofs.FetchCalls.{waiting_are}
 use Rattle.nvme_ctrl.proofs.Passed.{passed_later}
 use Rattle.nvme_ctrl.proofs.QueueChanges.{apart_queues, arrange}
 use Rattle.nvme_ctrl.proofs.QueueSteps.{agreement, holds_queues}
 use Rattle.nvme_ctrl.proofs.QueueWords.{in_log, in_content, counted, at_same, at_other}
-use Rattle.nvme_ctrl.proofs.RegionStates.{put_sq-each}
+use Rattle.nvme_ctrl.proofs.Lives.{put_sq-states}
+use Rattle.nvme_ctrl.proofs.QueueStates.{IsSqWith, sq_of_with, put_sq-with, put_sq-none, put_sq-regions}
 
 -- another number for whether a queue is held
 abbrev pub held_state : SqState → ℕ → SqState
 held_state sq h = record sq { held = h }
 
-abbrev pub arranged : Controller → (r h : ℕ) → BoardFields → Controller
-arranged c r h board = record c { board = board; sqs = slice_set c.sqs r (held_state (sq_at c.sqs r) h) }
+abbrev pub arranged : Controller → (q h : ℕ) → BoardFields → Controller
+arranged c q h board = record c { board = board; sqs = slice_set c.sqs q (held_state (sq_at c.sqs q) h) }
 
 -- the same in its place leaves it
 put_held-same : (held : ℕ → Bool) (r x : ℕ) → put_held held r (held r) x ≡ held x
@@ -92,9 +88,12 @@ module _ (rules : FrontRules) (late : Bool) (notes : Notes) (c : Controller) (sl
   }
 
   abbrev after : Controller
-  after = arranged c r h board
+  after = arranged c q h board
 
-  there : r < length c.sqs
+  life : k.sq_life q ≡ Some r
+  life = sq_lives rules late notes c slots s q queue is_open
+
+  there : q < length c.sqs
   there = sq_there rules late notes c slots s q queue is_open
 
   shown_is : Some (record { class = unwrap_or class queue.class; count = if on then 0 else length (k.sq r).window }) ≡ Some (counted (put_held k.held r on) (put_class k.classed r class) k.sq queue)
@@ -160,17 +159,19 @@ module _ (rules : FrontRules) (late : Bool) (notes : Notes) (c : Controller) (sl
     posts = record { posted_is = m.posts.posted_is; counted = m.posts.counted };
     queues = queues_now;
     deletion = deletion_now;
+    lives = (let l = m.lives in record { sqs = l.sqs; deleted = l.deleted; cqs = l.cqs; not_closed = l.not_closed; unopened = l.unopened; named = l.named; in_table = l.in_table; there = l.there });
     arbitration = record { stands = board_stands_now; lawful = m.arbitration.lawful };
     tabled = (let t = m.tabled in record {
       history = t.history;
-      stands = t.stands;
+      table_is = t.table_is;
+      few_queues = t.few_queues;
+      in_time = t.in_time;
+      placing = t.placing;
       history_is = t.history_is;
       sq_count = t.sq_count;
       cq_count = t.cq_count;
       sq_number = t.sq_number;
       cq_number = t.cq_number;
-      few_sqs = t.few_sqs;
-      few_cqs = t.few_cqs;
       sq_slots = t.sq_slots;
       cq_slots = t.cq_slots;
       sq_regions_are = t.sq_regions_are;
@@ -180,31 +181,49 @@ module _ (rules : FrontRules) (late : Bool) (notes : Notes) (c : Controller) (sl
   }
 
   -- ---- what lies in memory
-  each_state : (P : ℕ → SqState → Type 0) → P r (held_state (sq_at c.sqs r) h) → ((x : ℕ) → x ≢ r → P x (sq_at c.sqs x)) → (x : ℕ) → P x (sq_at after.sqs x)
-  each_state P here others = put_sq-each P c.sqs r (held_state (sq_at c.sqs r) h) there here others
+  abbrev state : SqState
+  state = held_state (sq_at c.sqs q) h
+
+  held_with : IsSqWith k.table k.cq_life q r state (k.sq r) (put_held k.held r on r)
+  held_with = let m = s.numbers.sqs q r life in record {
+    entry = m.entry;
+    in_table = m.in_table;
+    on = m.on;
+    to = m.to;
+    cq_region = m.cq_region;
+    cq_open = m.cq_open;
+    opened = m.opened;
+    held_is = h_is ∙ sym (at_same r r on (k.held r) refl);
+    unposted = m.unposted;
+    slots = m.slots;
+    some = m.some;
+  }
 
   numbers_now : HasNumbers after now
   numbers_now = let n = s.numbers in record {
-    table_is = n.table_is;
-    sized = n.sized;
+    tells = n.tells;
     board_is = board_is;
     is_arbiter = subst (λ (a : ArbiterFields). IsTrue (is_arbiter a)) (sym arbiter) n.is_arbiter;
     outstanding_is = n.outstanding_is;
-    sq_queue = each_state (λ x state. attachment_of state ≡ (k.sq x).queue) (n.sq_queue r) (λ x other. n.sq_queue x);
-    sq_held = each_state (λ x state. (state.held == 1) ≡ put_held k.held r on x) (h_is ∙ sym (at_same r r on (k.held r) refl))
-        (λ x other. n.sq_held x ∙ sym (at_other x r on (k.held x) other));
-    sq_unposted = each_state (λ x state. state.unposted ≡ (k.sq x).unposted) (n.sq_unposted r) (λ x other. n.sq_unposted x);
-    sq_slots = each_state (λ x state. state.ring.slots ≡ (k.sq x).slots) (n.sq_slots r) (λ x other. n.sq_slots x);
-    cq_slots = n.cq_slots;
-    sq_some = n.sq_some;
-    sq_size = length-set c.sqs r (held_state (sq_at c.sqs r) h) ∙ n.sq_size;
+    sq_ids = n.sq_ids;
+    cq_ids = n.cq_ids;
+    sqs = λ p x is. sq_of_with after now p x
+        (put_sq-with c k n q r life state k.sq (put_held k.held r on) held_with (λ y other. refl) (λ y other. at_other y r on (k.held y) other) p x is);
+    cqs = λ p x is. (let m = n.cqs p x is in record { slots = m.slots; some = m.some });
+    few_sqs = n.few_sqs;
+    few_cqs = n.few_cqs;
+    no_sqs = put_sq-none c k n q r life state;
+    no_cqs = n.no_cqs;
+    sq_size = length-set c.sqs q state ∙ n.sq_size;
     cq_size = n.cq_size;
   }
 
   items_now : HasItems after slots now s.items
   items_now = let m = s.has in record {
-    window_chain = each_state (λ x state. IsChain slots state.window (tags_of (s.items.windows x))) (m.window_chain r) (λ x other. m.window_chain x);
+    window_chain = λ p. put_sq-states (λ y state. (x : ℕ) → k.sq_life y ≡ Some x → IsChain slots state.window (tags_of (s.items.windows x)))
+        c.sqs q state there (m.window_chain q) p (λ other. m.window_chain p);
     window_items = m.window_items;
+    window_none = m.window_none;
     window_is = m.window_is;
     picked_there = m.picked_there;
     outs_items = m.outs_items;
@@ -213,6 +232,7 @@ module _ (rules : FrontRules) (late : Bool) (notes : Notes) (c : Controller) (sl
     hand_is = m.hand_is;
     ready_chain = m.ready_chain;
     ready_items = m.ready_items;
+    ready_none = m.ready_none;
     ready_is = m.ready_is;
     deletions = m.deletions;
     free_chain = m.free_chain;
@@ -220,12 +240,13 @@ module _ (rules : FrontRules) (late : Bool) (notes : Notes) (c : Controller) (sl
     few = m.few;
   }
 
-  doorbells_now : HoldsDoorbells rules notes after
+  doorbells_now : HoldsDoorbells rules notes after now
   doorbells_now = let d = s.doorbells in record {
-    sqs = each_state (λ x state. 0 < state.ring.slots → HasCounts state.ring (length (fetched past x)) (submitted rules notes x)) (d.sqs r) (λ x other. d.sqs x);
+    sqs = put_sq-regions (λ p x state. HasCounts state.ring (length (fetched past x)) (submitted rules notes x)) k.sq_life k.sq_id s.numbers.sq_ids c.sqs q r state life there
+        (d.sqs q r life) (λ p x other apart is. d.sqs p x is);
     cqs = d.cqs;
     phases = d.phases;
-    no_tails = each_state (λ x state. state.ring.slots ≡ 0 → submitted rules notes x ≡ 0) (d.no_tails r) (λ x other. d.no_tails x);
+    no_tails = d.no_tails;
     no_heads = d.no_heads;
     no_posts = d.no_posts;
   }
@@ -282,6 +303,7 @@ module _ (rules : FrontRules) (late : Bool) (notes : Notes) (c : Controller) (sl
       held = held_now;
       classed = λ p other is_other. ap (λ (o : Option Class). put_class k.classed r o other.region) left ∙ put_class-same k.classed r other.region ∙ s.shown.classed p other is_other;
     };
+    regions = record { sqs = s.regions.sqs; cqs = s.regions.cqs };
     account = λ on_time. (let a = s.account on_time in record { each = (record { queue = queue; is_open = is_open }, a.each); lawful = a.lawful; effects_whole = a.effects_whole });
   }
 
@@ -316,6 +338,7 @@ module _ (rules : FrontRules) (late : Bool) (notes : Notes) (c : Controller) (sl
       held = λ p other is_other. ap (λ (b : Bool). put_held k.held r b other.region) left ∙ put_held-same k.held r other.region ∙ s.shown.held p other is_other;
       classed = λ p other is_other. classed_now p other is_other ∙ ap (λ (o : Option Class). if q == p then o else class_set notes p) is;
     };
+    regions = record { sqs = s.regions.sqs; cqs = s.regions.cqs };
     account = λ on_time. (let a = s.account on_time in record {
       each = (record { queue = queue; is_open = is_open; io = io; class_of_io = class_of_io }, a.each);
       lawful = a.lawful;
@@ -341,14 +364,6 @@ module _ (rules : FrontRules) (late : Bool) (notes : Notes) (c : Controller) (sl
   pub is_open_on : (seen : OpenQueue) → queue_at (board_of c.board).queues q ≡ Some seen → IsOpenOn notes s.content q seen
   is_open_on seen is = open_on_board notes s.content q seen (open_sq (logged notes) q) refl (sym is ∙ on_board_is)
 
-  -- its region is that of the table
-  pub region_on : (seen : OpenQueue) (is : queue_at (board_of c.board).queues q ≡ Some seen) (e : SqEntry) → sq_of (view_of c.table) q ≡ Some e → (is_open_on seen is).queue.region ≡ e.region
-  region_on seen is e there =
-      let it = is_open_on seen is in
-      let table : as_open (sq_of (view_of c.table) q) ≡ Some it.queue = ap (λ (t : TableView). as_open (sq_of t q)) s.numbers.table_is ∙ sym (s.holds.queues.sqs q) ∙ it.is_open in
-      let entry : IsOpenEntry (sq_of (view_of c.table) q) it.queue = open_entry (sq_of (view_of c.table) q) it.queue table in
-      sym entry.region ∙ ap (λ (z : SqEntry). z.region) (same_Some entry.entry e (sym entry.there ∙ there))
-
   -- so it may be held, and its class may be set
   pub may_be_held : (seen : OpenQueue) → queue_at (board_of c.board).queues q ≡ Some seen → MayBeHeld notes q
   may_be_held seen is = let it = is_open_on seen is in record { queue = it.queue; is_open = it.is_open }
@@ -371,33 +386,27 @@ StandsOn old new = (mechanism : Mechanism) (first : ArbitrationFields) (past : H
 -- ---- as they are called
 -- a queue is held, or held no longer
 pub hold_call : (rules : FrontRules) (late : Bool) (notes : Notes) (c : Controller) (slots : List Slot) (s : StandsAt rules late notes c slots) (q : ℕ) (seen : OpenQueue)
-    (is : queue_at (board_of c.board).queues q ≡ Some seen) (e : SqEntry) (in_table : sq_of (view_of c.table) q ≡ Some e)
-    (on : Bool) (count h : ℕ) (board : BoardFields)
-    → count ≡ (if on then 0 else min (waiting_in c e.region) 256) → h ≡ (if on then 1 else 0)
+    (is : queue_at (board_of c.board).queues q ≡ Some seen) (on : Bool) (count h : ℕ) (board : BoardFields)
+    → count ≡ (if on then 0 else min (waiting_in c q) 256) → h ≡ (if on then 1 else 0)
     → IsShownOn c.board board q (record { class = seen.class; count = count }) → board.arbiter ≡ c.board.arbiter → StandsOn c.board board
-    → StandsAt rules late (Held q on ∷ notes) (arranged c e.region h board) slots
-hold_call rules late notes c slots s q seen is e in_table on count h board count_is h_is shows arbiter stands =
-    subst (λ (r : ℕ). StandsAt rules late (Held q on ∷ notes) (arranged c r h board) slots) region_is
-    (held_stands rules late notes c slots s q it.queue it.is_open on (s.content.classed it.queue.region) h (ap (λ (n : ℕ). n == 1) h_is ∙ told on) board
+    → StandsAt rules late (Held q on ∷ notes) (arranged c q h board) slots
+hold_call rules late notes c slots s q seen is on count h board count_is h_is shows arbiter stands =
+    held_stands rules late notes c slots s q it.queue it.is_open on (s.content.classed it.queue.region) h (ap (λ (n : ℕ). n == 1) h_is ∙ told on) board
     (shows ∙ ap (λ (x : OpenQueue). record (board_of c.board) { queues = slice_set (board_of c.board).queues q (Some x) }) shown_is)
-    arbiter stands refl)
+    arbiter stands refl
   where
     it : IsOpenOn notes s.content q seen
     it = is_open_on rules late notes c slots s q seen is
-
-    region_is : it.queue.region ≡ e.region
-    region_is = region_on rules late notes c slots s q seen is e in_table
 
     told : (b : Bool) → ((if b then 1 else 0) == 1) ≡ b
     told true = refl
     told false = refl
 
-    waits : min (waiting_in c e.region) 256 ≡ length (s.content.sq it.queue.region).window
+    waits : min (waiting_in c q) 256 ≡ length (s.content.sq it.queue.region).window
     waits =
-        let as_many = waiting_are rules late notes c slots s e.region in
-        let few = (s.holds.regions e.region).few_waiting in
-        let same : length (s.content.sq e.region).window ≡ length (s.content.sq it.queue.region).window = ap (λ (r : ℕ). length (s.content.sq r).window) (sym region_is) in
-        omega (arith, as_many, few, same)
+        let as_many = waiting_are rules late notes c slots s q it.queue.region (sq_lives rules late notes c slots s q it.queue it.is_open) in
+        let few = (s.holds.regions it.queue.region).few_waiting in
+        omega (arith, as_many, few)
 
     shown_is : queue_with seen.class count ≡ queue_with (unwrap_or (s.content.classed it.queue.region) it.queue.class) (if on then 0 else length (s.content.sq it.queue.region).window)
     shown_is = λ t. queue_with (it.shown t).class ((count_is ∙ ap (λ (n : ℕ). if on then 0 else n) waits) t)
@@ -408,8 +417,9 @@ pub class_call : (rules : FrontRules) (late : Bool) (notes : Notes) (c : Control
     → IsShownOn c.board board q (record { class = class; count = seen.count }) → board.arbiter ≡ c.board.arbiter → StandsOn c.board board
     → StandsAt rules late (Classed q class ∷ notes) (record c { board = board }) slots
 class_call rules late notes c slots s q seen is io class class_of_io board shows arbiter stands =
-    subst (λ (sqs : List SqState). StandsAt rules late (Classed q class ∷ notes) (record c { board = board; sqs = sqs }) slots) (set-get_or c.sqs it.queue.region no_sq_state)
-    (classed_stands rules late notes c slots s q it.queue it.is_open (s.content.held it.queue.region) (Some class) (sq_at c.sqs it.queue.region).held (s.numbers.sq_held it.queue.region) board
+    subst (λ (sqs : List SqState). StandsAt rules late (Classed q class ∷ notes) (record c { board = board; sqs = sqs }) slots) (set-get_or c.sqs q no_sq_state)
+    (classed_stands rules late notes c slots s q it.queue it.is_open (s.content.held it.queue.region) (Some class) (sq_at c.sqs q).held
+    (s.numbers.sqs q it.queue.region (sq_lives rules late notes c slots s q it.queue it.is_open)).held board
     (shows ∙ ap (λ (n : ℕ). record (board_of c.board) { queues = slice_set (board_of c.board).queues q (Some (record { class = class; count = n })) }) (ap (λ (x : OpenQueue). x.count) it.shown))
     arbiter stands io class class_of_io refl refl)
   where

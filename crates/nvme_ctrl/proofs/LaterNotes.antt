@@ -1,7 +1,7 @@
 -- What notes leave of what a controller keeps: the pick of an admin command, what it makes, and its answer.
 use Rattle.std.proofs.Common.{◌≡◌, ℕ, ◌<◌, ◌≤◌, ◌==◌, ◌&&◌, Bool, true, false, if◌then◌else◌, List, [], ◌∷◌, ◌++◌, ◌+◌, length, Option, Some, None, refl, sym, ap, ◌∙◌, subst, arith, inl, inr, eq-eqb, eqb-true, append-nil}
 use Rattle.std.specs.Prelude.{slice_get, All}
-use Rattle.std.proofs.lemmas.Bool.{or_right, and_parts, false_from_ne_true}
+use Rattle.std.proofs.lemmas.Bool.{or_right, or_parts, and_parts, false_from_ne_true}
 use Rattle.std.proofs.lemmas.List.Elements.{All-weaker}
 use Rattle.nvme_arbiter.specs.declared.pick.Pick.{Pick}
 use Rattle.nvme_arbiter.specs.declared.pick.Seen.{Seen}
@@ -25,7 +25,7 @@ use Rattle.nvme_ctrl.specs.Steps.{with_logged}
 use Rattle.nvme_ctrl.specs.declared.slot.Slot.{Slot}
 use Rattle.nvme_ctrl.specs.declared.state.Controller.{Controller}
 use Rattle.nvme_ctrl.specs.kept.Content.{Ready, Content}
-use Rattle.nvme_ctrl.specs.kept.Standing.{answer_in}
+use Rattle.nvme_ctrl.specs.kept.Standing.{answer_in, is_opened_cq}
 use Rattle.nvme_ctrl.specs.kept.State.{sq_at, cq_at}
 use Rattle.nvme_ctrl.specs.kept.Kept.{Item, ReadyItem, DeleteItem, Items, IsThrough, HasEntry, untaken}
 use Rattle.nvme_ctrl.specs.inside.Loose.{Keeps}
@@ -99,6 +99,11 @@ through-event notes e t h = elim h [
   | inr answers ↦ inr answers
 ]
 
+-- a completion region on which no queue was opened yet
+pub unopened_before : (e : Event) (past : Past) (x : ℕ) → is_opened_cq (e ∷ past) x ≡ false → is_opened_cq past x ≡ false
+unopened_before (event.OpenCq qid region) past x none = (or_parts (region == x) (is_opened_cq past x) none).1
+unopened_before e past x none = none
+
 -- a quiet event leaves what is kept
 keeps-quiet : (rules : FrontRules) (notes : Notes) (e : Event) (c : Controller) (slots : List Slot) (k : Content) (g : Items) → IsQuiet notes e
     → Keeps rules notes c slots k g → Keeps rules (Logged e ∷ notes) c slots k g
@@ -106,12 +111,12 @@ keeps-quiet rules notes e c slots k g quiet h = record {
   numbers = h.numbers;
   has = h.has;
   doorbells = (let d = h.doorbells in record {
-    sqs = λ r some. subst (λ (xs : List Sqe). HasCounts (sq_at c.sqs r).ring (length xs) (submitted rules notes r)) (sym (quiet.fetches r)) (d.sqs r some);
-    cqs = λ x some. subst (λ (xs : List Cqe). HasCounts (cq_at c.cqs x).ring (consumed rules notes x) (length xs)) (sym (quiet.posts x)) (d.cqs x some);
-    phases = λ x. d.phases x ∙ ap (λ (xs : List Cqe). phase_after (length xs) (cq_at c.cqs x).ring.slots) (sym (quiet.posts x));
+    sqs = λ q r life. subst (λ (xs : List Sqe). HasCounts (sq_at c.sqs q).ring (length xs) (submitted rules notes r)) (sym (quiet.fetches r)) (d.sqs q r life);
+    cqs = λ q x life. subst (λ (xs : List Cqe). HasCounts (cq_at c.cqs q).ring (consumed rules notes x) (length xs)) (sym (quiet.posts x)) (d.cqs q x life);
+    phases = λ q x life. d.phases q x life ∙ ap (λ (xs : List Cqe). phase_after (length xs) (cq_at c.cqs q).ring.slots) (sym (quiet.posts x));
     no_tails = d.no_tails;
-    no_heads = d.no_heads;
-    no_posts = λ x none. quiet.posts x ∙ d.no_posts x none;
+    no_heads = λ x none. d.no_heads x (unopened_before e (logged notes) x none);
+    no_posts = λ x none. quiet.posts x ∙ d.no_posts x (unopened_before e (logged notes) x none);
   });
   tags = (let m = h.tags in record {
     untaken_are = quiet.dispatches ∙ m.untaken_are;
@@ -126,7 +131,7 @@ keeps-quiet rules notes e c slots k g quiet h = record {
     none_answered = λ r i past. m.none_answered r i (subst (λ (xs : List Sqe). length xs ≤ i) (quiet.fetches r) past);
     answered_held = λ t is. still_not_out-logged e notes t (m.answered_held t is);
     hand_entries = All-weaker (HasEntry (logged notes)) (HasEntry (e ∷ logged notes)) (λ it is. ap (λ (xs : List Sqe). slice_get xs it.place.index) (quiet.fetches it.place.region) ∙ is)
-        (g.outs ++ untaken c g) m.hand_entries;
+        (g.outs ++ untaken c k g) m.hand_entries;
     free_count = ap (λ (n : ℕ). c.free.len + n) quiet.fetch_count ∙ m.free_count ∙ ap (λ (n : ℕ). length slots + n) (sym quiet.post_count);
     cookies = cookies_later notes (Logged e ∷ notes) slots g (λ r i. refl) quiet.fetches m.cookies;
     passed = passed_later notes (Logged e ∷ notes) g (λ i. refl) quiet.dispatches (λ i waits. stays e (logged notes) 0 i waits) m.passed;

@@ -30,6 +30,11 @@ mod Observing
 pub mod Showing
 pub mod Oldest
 pub mod DeletionSteps
+pub mod UsedCqRegions
+pub mod LifeSteps
+pub mod LifeLaws
+pub mod AppliedLives
+pub mod AskedSlots
 pub mod TableSteps
 pub mod ArbitrationSteps
 pub mod Readying
@@ -44,6 +49,7 @@ pub mod HandSteps
 pub mod AnswerSteps
 pub mod OwnStatus
 pub mod MadePlaces
+pub mod MadeRegions
 pub mod EffectEvents
 pub mod OwnSteps
 pub mod NextEvents
@@ -51,7 +57,8 @@ pub mod AdminEvents
 pub mod Standing
 pub mod Pools
 pub mod Chains
-pub mod RegionStates
+pub mod QueueStates
+pub mod Lives
 pub mod Phases
 pub mod PostCall
 pub mod PostNumbers
@@ -73,6 +80,7 @@ pub mod SlotStates
 pub mod FetchCalls
 pub mod NoPosts
 pub mod FetchTold
+pub mod ToldQueues
 pub mod PoolCounts
 pub mod Freeing
 pub mod AddedTables
@@ -87,6 +95,7 @@ pub mod FurtherAnswers
 pub mod NotedRegions
 pub mod FurtherAccounts
 pub mod FurtherStanding
+pub mod ComingRegions
 pub mod AddCalls
 pub mod Sums
 pub mod HeldSlots
@@ -99,6 +108,7 @@ pub mod CarriedOut
 pub mod AppliedQueues
 pub mod CarryOut
 pub mod Windowed
+pub mod Opening
 pub mod Dropping
 pub mod CarryQueues
 pub mod CarryAbort
@@ -118,3 +128,5 @@ mod NamedTags
 mod WaitingNames
 mod AbortNotes
 mod KeptRanges
+pub mod ToldVerdicts
+pub mod CountedCreates

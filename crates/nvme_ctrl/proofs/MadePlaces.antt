@@ -6,7 +6,7 @@ use Rattle.std.proofs.lemmas.List.Elements.{All-head, All-tail}
 use Rattle.nvme_arbiter.specs.Board.{BoardView}
 use Rattle.nvme_arbiter.specs.declared.pick.Pick.{Pick}
 use Rattle.nvme_arbiter.specs.declared.pick.Seen.{Seen}
-use Rattle.nvme_admin.specs.Standing.{TableView}
+use Rattle.nvme_admin.specs.QueueTable.{QueueTable}
 use Rattle.nvme_admin.specs.declared.verdict.Verdict.{Verdict}
 use Rattle.nvme_admin.specs.declared.verdict.Verdict.TheVariants.{Done, BeginDelete, CloseCq}
 use Rattle.nvme_admin.specs.declared.verdict.Verdict.TheVariants as verdict
@@ -45,7 +45,7 @@ aborts_leave_places rules r (i ∷ is) past e fresh took region few =
     )
 
 module _ (rules : FrontRules) (late : Bool) (past : Past) (k : Content) (seen : List Seen) (pick : Pick) (picked : BoardView)
-    (candidate : Candidate) (rest : List Candidate) (table : TableView) (s : Holds rules late past k)
+    (candidate : Candidate) (rest : List Candidate) (table : QueueTable) (s : Holds rules late past k)
     (can : CanPick rules past k admin_queue pick picked) (first : pick.qid ≡ 0) (one : pick.n ≡ 1) (apply : CanApply rules past k s.tabled.history candidate rest table) where
   -- the log after the pick
   abbrev mid : Past

@@ -1,15 +1,14 @@
 -- Where nothing is ready in a completion region, what is through of its queues is posted; and a ring with no free slot is full.
-use Rattle.std.proofs.Common.{◌≡◌, ℕ, ◌+◌, ◌<◌, ◌≤◌, ◌==◌, ◌&&◌, Bool, true, false, List, [], ◌∷◌, ◌++◌, length, map, drop, Some, None, refl, sym, ap, ◌∙◌, subst, arith, inl, inr}
+use Rattle.std.proofs.Common.{◌≡◌, ℕ, ◌+◌, ◌<◌, ◌≤◌, ◌==◌, ◌&&◌, Bool, true, false, List, [], ◌∷◌, ◌++◌, length, map, drop, Option, Some, None, refl, sym, ap, ◌∙◌, subst, arith, inl, inr}
 use Rattle.std.specs.Prelude.{All, sum_by}
 use Rattle.std.proofs.lemmas.Bool.{cases_eq, cases_lt, eq-eqb, eqb-true, lt-ltb, and_parts, false_from_ne_true, true_from_ne_false, false≢true}
 use Rattle.std.proofs.lemmas.Option.{same_Some}
 use Rattle.std.proofs.lemmas.List.Sums.{sum_by-cons}
 use Rattle.std.proofs.lemmas.List.Elements.{All-nil, All-head, All-tail, All-same, All-map, All-weaker, All-append, All-take, All-drop}
 use Rattle.nvme_entry.specs.declared.submission.Sqe.{Sqe}
-use Rattle.nvme_admin.specs.declared.bounds.TheConstants.{MAX_REGIONS}
 use Rattle.nvme_log.specs.declared.place.Place.{Place}
 use Rattle.nvme_log.specs.Rules.{FrontRules}
-use Rattle.nvme_log.specs.Queues.{cq_region_of}
+use Rattle.nvme_log.specs.Queues.{open_cq, cq_region_of}
 use Rattle.nvme_log.specs.Places.{fetched, fate_of, is_aborted, is_waiting, is_served, one_if}
 use Rattle.nvme_log.specs.Completions.{is_posted, posted_to}
 use Rattle.nvme_log.specs.Dispatches.{place_at}
@@ -23,8 +22,8 @@ use Rattle.nvme_ctrl.specs.declared.state.Controller.{Controller}
 use Rattle.nvme_ctrl.specs.kept.Content.{Candidate, Ready, PendingDelete}
 use Rattle.nvme_ctrl.specs.kept.Standing.{IsInHand, IsReady, times_in, times_held, held_upto}
 use Rattle.nvme_ctrl.specs.kept.Pool.{IsChain}
-use Rattle.nvme_ctrl.specs.kept.State.{cq_at, picked_in}
-use Rattle.nvme_ctrl.specs.kept.Kept.{Item, ReadyItem, ready_tags, readies_of, candidate_of, places_of, untaken, IsWaitingIn, IsUnanswered, StandsAt}
+use Rattle.nvme_ctrl.specs.kept.State.{cq_at}
+use Rattle.nvme_ctrl.specs.kept.Kept.{Item, ReadyItem, ready_tags, readies_of, candidate_of, places_of, picked_region, picked_of, untaken, IsWaitingIn, IsUnanswered, StandsAt}
 use Rattle.nvme_ctrl.proofs.OwnStatus.{waiting_is_unaborted}
 use Rattle.nvme_ctrl.proofs.Readying.{over_none}
 use Rattle.nvme_ctrl.proofs.ReadyHand.{times_held-append}
@@ -71,18 +70,28 @@ module _ (rules : FrontRules) (late : Bool) (notes : Notes) (c : Controller) (sl
     ])
   ]
 
+  -- what waits in a region is of its place
+  window_regions : (r : ℕ) → All (λ (it : Item). it.place.region ≡ r) (stands.items.windows r)
+  window_regions r = by (stands.content.sq_id r) refl where
+    by : (o : Option ℕ) → stands.content.sq_id r ≡ o → All (λ (it : Item). it.place.region ≡ r) (stands.items.windows r)
+    by None none = All-same (λ (it : Item). it.place.region ≡ r) (stands.items.windows r) [] (stands.has.window_none r none) (All-nil (λ (it : Item). it.place.region ≡ r))
+    by (Some q) is =
+        All-weaker (IsWaitingIn slots q r) (λ (it : Item). it.place.region ≡ r) (λ it h. h.place) (stands.items.windows r)
+        (stands.has.window_items q r (stands.numbers.sq_ids.lives_are r q is))
+
   -- it doesn't wait
   not_waiting : (r i : ℕ) → IsServed notes (place_at r i) → one_if (is_served (logged notes) r i) ≡ 1
   not_waiting r i served =
       let s = stands.content.sq r in
       let all : List Item = stands.items.windows r in
+      let picked : ℕ = picked_of c (stands.content.sq_id r) in
       let unanswered : All (λ (it : Item). answer_of notes r it.place.index ≡ None) all =
-      All-both (IsWaitingIn slots r) (λ (it : Item). IsUnanswered notes it.place) (λ (it : Item). answer_of notes r it.place.index ≡ None)
-      (λ it h u. ap (λ (z : ℕ). answer_of notes z it.place.index) (sym h.place) ∙ u) all (stands.has.window_items r) (stands.tags.windows_unanswered r) in
+      All-both (λ (it : Item). it.place.region ≡ r) (λ (it : Item). IsUnanswered notes it.place) (λ (it : Item). answer_of notes r it.place.index ≡ None)
+      (λ it at u. ap (λ (z : ℕ). answer_of notes z it.place.index) (sym at) ∙ u) all (window_regions r) (stands.tags.windows_unanswered r) in
       let candidates : All (λ (z : Candidate). answer_of notes r z.index ≡ None) s.window =
-      All-same (λ (z : Candidate). answer_of notes r z.index ≡ None) s.window (map candidate_of (drop (picked_in c r) all)) (stands.has.window_is r)
-      (All-map (λ (z : Candidate). answer_of notes r z.index ≡ None) candidate_of (drop (picked_in c r) all)
-      (All-drop (λ (it : Item). answer_of notes r it.place.index ≡ None) (picked_in c r) all unanswered)) in
+      All-same (λ (z : Candidate). answer_of notes r z.index ≡ None) s.window (map candidate_of (drop picked all)) (stands.has.window_is r)
+      (All-map (λ (z : Candidate). answer_of notes r z.index ≡ None) candidate_of (drop picked all)
+      (All-drop (λ (it : Item). answer_of notes r it.place.index ≡ None) picked all unanswered)) in
       let others : All (λ (z : Candidate). (z.index == i) ≡ false) s.window =
       All-both (λ (z : Candidate). is_waiting (fate_of (logged notes) r z.index) ≡ true) (λ (z : Candidate). answer_of notes r z.index ≡ None) (λ (z : Candidate). (z.index == i) ≡ false)
       (λ z w u. subst (λ (b : Bool). (b && z.index == i) ≡ false) (eq-eqb r r refl) (undone_other r i served (place_at r z.index) (waiting_is_unaborted (logged notes) r z.index w) u))
@@ -97,20 +106,20 @@ module _ (rules : FrontRules) (late : Bool) (notes : Notes) (c : Controller) (sl
   -- it isn't in hand
   not_in_hand : (r i : ℕ) → IsServed notes (place_at r i) → times_held r i stands.content.hand ≡ 0
   not_in_hand r i served =
-      let held : List Item = stands.items.outs ++ untaken c stands.items in
+      let held : List Item = stands.items.outs ++ untaken c stands.content stands.items in
       let unanswered : All (IsUnanswered notes) stands.content.hand =
       All-same (IsUnanswered notes) stands.content.hand (places_of held) stands.has.hand_is
       (All-map (IsUnanswered notes) (λ (it : Item). it.place) held
-      (All-append (λ (it : Item). IsUnanswered notes it.place) stands.items.outs (untaken c stands.items) stands.tags.outs_unanswered
-      (All-take (λ (it : Item). IsUnanswered notes it.place) c.picked (stands.items.windows c.picked_region) (stands.tags.windows_unanswered c.picked_region)))) in
+      (All-append (λ (it : Item). IsUnanswered notes it.place) stands.items.outs (untaken c stands.content stands.items) stands.tags.outs_unanswered
+      (All-take (λ (it : Item). IsUnanswered notes it.place) c.picked (stands.items.windows (picked_region c stands.content)) (stands.tags.windows_unanswered (picked_region c stands.content))))) in
       none_of (λ (q : Place). q.region == r && q.index == i) stands.content.hand
       (All-both (IsInHand (logged notes)) (IsUnanswered notes) (λ (q : Place). (q.region == r && q.index == i) ≡ false)
       (λ q h u. undone_other r i served q h.not_aborted u) stands.content.hand stands.holds.hand.each unanswered)
 
   -- nor that of a pending deletion
-  not_deleting : (r i : ℕ) → IsServed notes (place_at r i) → times_held r i (held_upto stands.content.deletion MAX_REGIONS) ≡ 0
-  not_deleting r i served = held-none r i stands.content.deletion MAX_REGIONS (λ x d e.
-      let is = some_deletes c.deletions c.pending_deletions slots stands.content.deletion stands.items.deletes stands.has.deletions x d e in
+  not_deleting : (r i : ℕ) → IsServed notes (place_at r i) → times_held r i (held_upto stands.content.deletion stands.content.nsq) ≡ 0
+  not_deleting r i served = held-none r i stands.content.deletion stands.content.nsq (λ x d e.
+      let is = some_deletes c.deletions c.pending_deletions slots stands.content.sq_life stands.content.deletion stands.items.deletes stands.has.deletions x d e in
       let unanswered : IsUnanswered notes d.place = subst (IsUnanswered notes) (ap (λ (z : PendingDelete). z.place) (sym is.same)) (stands.tags.deletes_unanswered x is.item is.is) in
       undone_other r i served d.place (stands.holds.deletion.stands x d e).not_aborted unanswered)
 
@@ -135,31 +144,32 @@ module _ (rules : FrontRules) (late : Bool) (notes : Notes) (c : Controller) (sl
         arith,
         stands.holds.ready.once r i,
         not_waiting r i served,
-        over_none (λ (y : ℕ). times_in r i (stands.content.cq y).ready) MAX_REGIONS (λ y lt. not_ready_at x r i empty region y),
+        over_none (λ (y : ℕ). times_in r i (stands.content.cq y).ready) stands.content.ncq (λ y lt. not_ready_at x r i empty region y),
         posts_of-none (logged notes) r i unposted,
-        times_held-append r i stands.content.hand (held_upto stands.content.deletion MAX_REGIONS),
+        times_held-append r i stands.content.hand (held_upto stands.content.deletion stands.content.nsq),
         not_in_hand r i served,
         not_deleting r i served,
       ))
 
   -- no slot is ready where the chain has none
-  pub none_ready : (x : ℕ) → ((y : ℕ) (rest : List ℕ) → IsChain slots (cq_at c.cqs x).ready (y ∷ rest) → ⊥) → (stands.content.cq x).ready ≡ []
-  none_ready x none = stands.has.ready_is x ∙ by (stands.items.readies x) (stands.has.ready_chain x) where
-    by : (items : List ReadyItem) → IsChain slots (cq_at c.cqs x).ready (ready_tags items) → readies_of items ≡ []
+  pub none_ready : (q x : ℕ) → stands.content.cq_life q ≡ Some x → ((y : ℕ) (rest : List ℕ) → IsChain slots (cq_at c.cqs q).ready (y ∷ rest) → ⊥) → (stands.content.cq x).ready ≡ []
+  none_ready q x life none = stands.has.ready_is x ∙ by (stands.items.readies x) (stands.has.ready_chain q x life) where
+    by : (items : List ReadyItem) → IsChain slots (cq_at c.cqs q).ready (ready_tags items) → readies_of items ≡ []
     by [] h = refl
     by (it ∷ rest) h = absurd (none it.tag (ready_tags rest) h)
 
+  -- an open queue is on the region that is kept of it
+  pub open_life : (q x : ℕ) → open_cq (logged notes) q ≡ Some x → stands.content.cq_life q ≡ Some x
+  open_life q x is = stands.holds.lives.cqs q ∙ is
+
   -- ---- a ring with no free slot
-  pub full_ring : (x : ℕ) → (cq_at c.cqs x).ring.slots ≤ gap (cq_at c.cqs x).ring.slots (cq_at c.cqs x).ring.head (cq_at c.cqs x).ring.tail + 1 → IsFullRing rules notes x
-  full_ring x filled =
-      let slots_are = stands.holds.tabled.cq_slots x in
-      let ring_is = stands.numbers.cq_slots x in
-      elim (cases_lt 0 (cq_at c.cqs x).ring.slots) [
-        | inl some ↦ (
-            let is = filled-is (cq_at c.cqs x).ring (consumed rules notes x) (length (posted_to (logged notes) x)) (stands.doorbells.cqs x some) in
-            omega (arith, slots_are, ring_is, filled, is))
-        | inr none ↦ (
-            let zero : (cq_at c.cqs x).ring.slots ≡ 0 = omega (arith, none) in
-            let heads = stands.doorbells.no_heads x zero in
-            omega (arith, slots_are, ring_is, zero, heads))
-      ]
+  pub full_ring : (q x : ℕ) → stands.content.cq_life q ≡ Some x
+      → (cq_at c.cqs q).ring.slots ≤ gap (cq_at c.cqs q).ring.slots (cq_at c.cqs q).ring.head (cq_at c.cqs q).ring.tail + 1 → IsFullRing rules notes x
+  full_ring q x life filled =
+      omega (
+        arith,
+        stands.holds.tabled.cq_slots x,
+        (stands.numbers.cqs q x life).slots,
+        filled,
+        filled-is (cq_at c.cqs q).ring (consumed rules notes x) (length (posted_to (logged notes) x)) (stands.doorbells.cqs q x life),
+      )

@@ -1,12 +1,11 @@
 -- The open queues and their regions.
-use Rattle.std.proofs.Common.{◌≡◌, ℕ, zero, suc, ◌<◌, Bool, true, false, List, [], ◌∷◌, length, Option, Some, refl, sym, ap, ◌∙◌, subst, arith, inl, inr}
+use Rattle.std.proofs.Common.{◌≡◌, ℕ, zero, suc, ◌<◌, Bool, true, false, List, [], ◌∷◌, length, Some, refl, sym, ap, ◌∙◌, subst, arith, inl, inr}
 use Rattle.std.specs.List.{list_any}
 use Rattle.std.proofs.lemmas.Bool.{cases_lt, false_from_ne_true, eq-eqb, or_left, or_right}
 use Rattle.std.proofs.lemmas.Option.{same_Some}
 use Rattle.std.proofs.lemmas.List.Folds.{list_any-append}
 use Rattle.nvme_arbiter.specs.Limits.{queue_limit}
-use Rattle.nvme_admin.specs.declared.verdict.SqEntry.{SqEntry}
-use Rattle.nvme_admin.specs.QueueTable.{admin_sq}
+use Rattle.nvme_admin.specs.QueueTable.{QueueTable, admin_sq}
 use Rattle.nvme_admin.specs.Accepted.{queue_table}
 use Rattle.nvme_ctrl.specs.kept.Content.{Attachment}
 use Rattle.nvme_log.specs.Rules.{Past, FrontRules, upto}
@@ -45,10 +44,9 @@ module _ (rules : FrontRules) (late : Bool) (past : Past) (k : Content) (s : Hol
   pub admin_is_open : 0 < k.nsq → open_sq past 0 ≡ Some admin_queue
   unfolding queue_table
   admin_is_open there =
-      let table = s.tabled.stands in
       let some : 0 < length (queue_table rules.start s.tabled.history).sq_regions =
-      omega (arith, there, ap (λ (rs : List Region). length rs) table.sq_regions, s.tabled.sq_count) in
-      s.queues.sqs 0 ∙ ap (λ (o : Option SqEntry). as_open o) (table.sq 0) ∙ admin_open (queue_table rules.start s.tabled.history).sq_regions some
+      omega (arith, there, ap (λ (t : QueueTable). length t.sq_regions) s.tabled.table_is, s.tabled.sq_count) in
+      s.queues.sqs 0 ∙ ap (λ (t : QueueTable). as_open (t.sq 0)) s.tabled.table_is ∙ admin_open (queue_table rules.start s.tabled.history).sq_regions some
 
   -- an I/O queue's region isn't the admin queue's
   pub io_region : (r qid c : ℕ) → (k.sq r).queue ≡ Some (record { qid = qid; cq_region = c }) → (qid ≡ 0 → ⊥) → r ≡ 0 → ⊥

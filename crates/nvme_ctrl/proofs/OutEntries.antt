@@ -38,15 +38,15 @@ module _ (rules : FrontRules) (late : Bool) (notes : Notes) (c : Controller) (sl
 
     entry_in_slot : entry_at (logged notes) place.region place.index ≡ Some (slot_at slots tag).entry
     entry_in_slot =
-        let entry = of_it (HasEntry (logged notes)) (All-parts (HasEntry (logged notes)) s.items.outs (untaken c s.items) s.tags.hand_entries).0 in
-        let there : (slot_at slots tag).entry ≡ at.item.entry = ap (λ (t : ℕ). (slot_at slots t).entry) (sym at.tag) ∙ (of_it (IsOutIn slots) s.has.outs_items).entry in
+        let entry = of_it (HasEntry (logged notes)) (All-parts (HasEntry (logged notes)) s.items.outs (untaken c s.content s.items) s.tags.hand_entries).0 in
+        let there : (slot_at slots tag).entry ≡ at.item.entry = ap (λ (t : ℕ). (slot_at slots t).entry) (sym at.tag) ∙ (of_it (IsOutIn s.content.sq_id slots) s.has.outs_items).entry in
         subst (λ (p : Place). entry_at (logged notes) p.region p.index ≡ Some (slot_at slots tag).entry) same (entry ∙ ap (λ (e : Sqe). Some e) (sym there))
 
-    region_in_slot : (slot_at slots tag).region ≡ place.region
-    region_in_slot = ap (λ (t : ℕ). (slot_at slots t).region) (sym at.tag) ∙ (of_it (IsOutIn slots) s.has.outs_items).region ∙ ap (λ (p : Place). p.region) same
+    queue_in_slot : s.content.sq_id place.region ≡ Some (slot_at slots tag).sqid
+    queue_in_slot = ap (λ (p : Place). s.content.sq_id p.region) (sym same) ∙ (of_it (IsOutIn s.content.sq_id slots) s.has.outs_items).queue ∙ ap (λ (t : ℕ). Some (slot_at slots t).sqid) at.tag
 
     in_pool : tag < length slots
-    in_pool = subst (λ (t : ℕ). t < length slots) at.tag (of_it (IsOutIn slots) s.has.outs_items).inside
+    in_pool = subst (λ (t : ℕ). t < length slots) at.tag (of_it (IsOutIn s.content.sq_id slots) s.has.outs_items).inside
 
     cookie_in_slot : cookie_of notes place.region place.index ≡ Some (slot_at slots tag).cookie
     cookie_in_slot = subst (λ (p : Place). cookie_of notes p.region p.index ≡ Some (slot_at slots tag).cookie) same
@@ -65,8 +65,8 @@ module _ (rules : FrontRules) (late : Bool) (notes : Notes) (c : Controller) (sl
   pub out_cookie : is_out notes tag ≡ true → cookie_of notes place.region place.index ≡ Some (slot_at slots tag).cookie
   out_cookie out = cookie_in_slot (is_two out)
 
-  pub out_region : is_out notes tag ≡ true → (slot_at slots tag).region ≡ place.region
-  out_region out = region_in_slot (is_two out)
+  pub out_queue : is_out notes tag ≡ true → s.content.sq_id place.region ≡ Some (slot_at slots tag).sqid
+  out_queue out = queue_in_slot (is_two out)
 
   pub out_inside : is_out notes tag ≡ true → tag < length slots
   out_inside out = in_pool (is_two out)

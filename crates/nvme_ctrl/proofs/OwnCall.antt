@@ -7,6 +7,7 @@ use Rattle.nvme_ctrl.specs.declared.own.OwnCommands.{OwnCommands}
 use Rattle.nvme_ctrl.specs.declared.slot.Slot.{Slot}
 use Rattle.nvme_ctrl.specs.declared.state.Controller.{Controller}
 use Rattle.nvme_ctrl.specs.kept.Kept.{StandsAt}
+use Rattle.nvme_ctrl.proofs.QueueStates.{sq_with, sq_of_with}
 
 -- a controller stands where it stood, whatever is the device's
 pub owned : (rules : FrontRules) (late : Bool) (notes : Notes) (c : Controller) (slots : List Slot) (own : OwnCommands) → StandsAt rules late notes c slots
@@ -16,23 +17,25 @@ owned rules late notes c slots own s = record {
   items = s.items;
   holds = s.holds;
   numbers = (let n = s.numbers in record {
-    table_is = n.table_is;
-    sized = n.sized;
+    tells = n.tells;
     board_is = n.board_is;
     is_arbiter = n.is_arbiter;
     outstanding_is = n.outstanding_is;
-    sq_queue = n.sq_queue;
-    sq_held = n.sq_held;
-    sq_unposted = n.sq_unposted;
-    sq_slots = n.sq_slots;
-    cq_slots = n.cq_slots;
-    sq_some = n.sq_some;
+    sq_ids = n.sq_ids;
+    cq_ids = n.cq_ids;
+    sqs = λ q r is. sq_of_with (record c { own = own }) s.content q r (sq_with c s.content q r (n.sqs q r is));
+    cqs = λ q x is. (let h = n.cqs q x is in record { slots = h.slots; some = h.some });
+    few_sqs = n.few_sqs;
+    few_cqs = n.few_cqs;
+    no_sqs = n.no_sqs;
+    no_cqs = n.no_cqs;
     sq_size = n.sq_size;
     cq_size = n.cq_size;
   });
   has = (let m = s.has in record {
     window_chain = m.window_chain;
     window_items = m.window_items;
+    window_none = m.window_none;
     window_is = m.window_is;
     picked_there = m.picked_there;
     outs_items = m.outs_items;
@@ -41,6 +44,7 @@ owned rules late notes c slots own s = record {
     hand_is = m.hand_is;
     ready_chain = m.ready_chain;
     ready_items = m.ready_items;
+    ready_none = m.ready_none;
     ready_is = m.ready_is;
     deletions = m.deletions;
     free_chain = m.free_chain;
@@ -67,6 +71,7 @@ owned rules late notes c slots own s = record {
     marks = t.marks;
   });
   shown = record { held = s.shown.held; classed = s.shown.classed };
+  regions = record { sqs = s.regions.sqs; cqs = s.regions.cqs };
   account = s.account;
 }
 

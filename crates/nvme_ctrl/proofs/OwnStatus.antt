@@ -10,7 +10,6 @@ use Rattle.nvme_entry.specs.declared.submission.Sqe.{Sqe}
 use Rattle.nvme_entry.specs.declared.admin.AdminCommand.{AdminCommand}
 use Rattle.nvme_entry.specs.declared.admin.AdminCommand.TheVariants.{DeleteSq, CreateSq, DeleteCq, CreateCq, Abort, SetFeatures, GetFeatures, Other}
 use Rattle.nvme_arbiter.specs.Settings.{ArbitrationFields}
-use Rattle.nvme_admin.specs.declared.bounds.TheConstants.{MAX_REGIONS}
 use Rattle.nvme_admin.specs.declared.verdict.SqEntry.{SqEntry}
 use Rattle.nvme_admin.specs.History.{Start, TableHistory, EntryApplied}
 use Rattle.nvme_admin.specs.QueueTable.{QueueTable, number_of_queues}
@@ -119,11 +118,11 @@ same_place r i = rw (eq-eqb r r refl, eq-eqb i i refl) refl
 -- each place that is ready is one to answer
 pub ready_is_answerable : (past : Past) (k : Content) (hand : List Place) → HoldsReady past k hand
     → (c : ℕ) → All (λ (t : Ready). IsAnswerable past hand t.place.region t.place.index) (k.cq c).ready
-ready_is_answerable past k hand h c j d lt = elim (cases_lt c MAX_REGIONS) [
+ready_is_answerable past k hand h c j d lt = elim (cases_lt c k.ncq) [
   | inl below ↦
       let t : Ready = get_or (k.cq c).ready j d in
       let once = h.once t.place.region t.place.index in
-      let among = over_regions-at (λ (x : ℕ). times_in t.place.region t.place.index (k.cq x).ready) MAX_REGIONS c below in
+      let among = over_regions-at (λ (x : ℕ). times_in t.place.region t.place.index (k.cq x).ready) k.ncq c below in
       let here = get_or-le-sum_by (λ (x : Ready). one_if (x.place.region == t.place.region && x.place.index == t.place.index)) (k.cq c).ready j d lt in
       let first : 1 ≤ times_ready k t.place.region t.place.index = omega (arith, among, here, same_place t.place.region t.place.index) in
       let parts = only_first (times_ready k t.place.region t.place.index) (posts_of past t.place.region t.place.index) (times_held t.place.region t.place.index hand) (is_served past t.place.region t.place.index) first once in

@@ -19,7 +19,10 @@ use Rattle.nvme_log.specs.declared.event.Event.TheVariants as event
 use Rattle.nvme_log.specs.declared.place.Place.{Place}
 use Rattle.nvme_log.specs.Limits.{max_outstanding}
 use Rattle.nvme_log.specs.Rules.{FrontRules, Past}
-use Rattle.nvme_log.specs.Queues.{Queue, open_sq}
+use Rattle.nvme_log.specs.Queues.{Queue, admin_queue, open_sq}
+use Rattle.nvme_ctrl.specs.inside.Loose.{Keeps}
+use Rattle.nvme_ctrl.specs.inside.Steps.{CanPick}
+use Rattle.nvme_ctrl.proofs.Standable.{keeps_standing}
 use Rattle.nvme_log.specs.Places.{waiting, entry_at, fate_of, is_waiting, is_aborted}
 use Rattle.nvme_log.specs.Dispatches.{place_at, dispatched_by}
 use Rattle.nvme_log.proofs.Turns.{stays}
@@ -36,7 +39,7 @@ use Rattle.nvme_ctrl.specs.kept.Content.{Candidate, Content, Ready}
 use Rattle.nvme_ctrl.specs.kept.Standing.{Holds, IsInHand, hand_of}
 use Rattle.nvme_ctrl.specs.kept.Kept.{Item, Items, IsWaitingIn, IsUnanswered, IsDevices, HasEntry, HoldsDoorbells, HoldsPassed, HoldsTags, StandsAt, candidate_of, places_of, tags_of, untaken, IsReadyOf, ReadyItem, is_passed_at, DeleteItem, deletion_in}
 use Rattle.nvme_ctrl.specs.inside.Picks.{oldest_entry, places_in}
-use Rattle.nvme_ctrl.proofs.AdminCall.{queue_is, one, oldest, linked, window_is, first, unanswered_all}
+use Rattle.nvme_ctrl.proofs.AdminCall.{queue_is, one, can_admin, oldest, linked, window_is, first, unanswered_all}
 use Rattle.nvme_ctrl.proofs.AfterSteps.{after_io}
 use Rattle.nvme_ctrl.proofs.CarriedOut.{was_picked}
 use Rattle.nvme_ctrl.proofs.Cookies.{cookies_later}
@@ -73,14 +76,23 @@ module _ (rules : FrontRules) (late : Bool) (notes : Notes) (c : Controller) (sl
   abbrev now : Past
   now = logged notes
 
+  pub one_is : pick.n ≡ 1
+  one_is = one rules late notes c slots s none pick board lawful stands queues arbiter needs places first_is
+
+  pub keeps : Keeps rules notes c slots k g
+  keeps = keeps_standing rules late notes c slots s
+
+  pub can_be : CanPick rules (logged notes) k admin_queue pick (board_of board)
+  can_be = can_admin rules late notes c slots s none pick board lawful stands queues arbiter needs places first_is
+
   abbrev x : Item
-  x = (oldest rules late notes c slots s none pick board lawful stands queues arbiter needs places first_is).first
+  x = (oldest rules late notes c slots k g s.holds s.shown s.account keeps none pick board can_be arbiter needs places first_is one_is).first
 
   abbrev rest : List Item
-  rest = (oldest rules late notes c slots s none pick board lawful stands queues arbiter needs places first_is).rest
+  rest = (oldest rules late notes c slots k g s.holds s.shown s.account keeps none pick board can_be arbiter needs places first_is one_is).rest
 
   windows_are : g.windows 0 ≡ x ∷ rest
-  windows_are = (oldest rules late notes c slots s none pick board lawful stands queues arbiter needs places first_is).is
+  windows_are = (oldest rules late notes c slots k g s.holds s.shown s.account keeps none pick board can_be arbiter needs places first_is one_is).is
 
   abbrev queue : Queue
   queue = (due rules late notes c slots s none pick board lawful stands queues arbiter places).queue
@@ -88,11 +100,8 @@ module _ (rules : FrontRules) (late : Bool) (notes : Notes) (c : Controller) (sl
   region_is : queue.region ≡ 0
   region_is = ap (λ (q : Queue). q.region) (queue_is rules late notes c slots s none pick board lawful stands queues arbiter needs places first_is)
 
-  one_is : pick.n ≡ 1
-  one_is = one rules late notes c slots s none pick board lawful stands queues arbiter needs places first_is
-
   abbrev new : Controller
-  new = after_pick_io c board queue.region pick.n
+  new = after_pick_io c board pick.qid pick.n
 
   abbrev after : Content
   after = after_io k queue pick.n (board_of board)
@@ -104,15 +113,15 @@ module _ (rules : FrontRules) (late : Bool) (notes : Notes) (c : Controller) (sl
   later = Passed i ∷ picked_notes notes pick
 
   window_here : (k.sq 0).window ≡ candidate_of x ∷ map candidate_of rest
-  window_here = window_is rules late notes c slots s none pick board lawful stands queues arbiter needs places first_is
+  window_here = window_is rules late notes c slots k g s.holds s.shown s.account keeps none pick board can_be arbiter needs places first_is one_is
 
-  waits_there : IsWaitingIn slots 0 x
-  waits_there = first rules late notes c slots s none pick board lawful stands queues arbiter needs places first_is
+  waits_there : IsWaitingIn slots 0 0 x
+  waits_there = first rules late notes c slots k g s.holds s.shown s.account keeps none pick board can_be arbiter needs places first_is one_is
 
   -- it is the one that is looked at
   entry_is : x.entry ≡ oldest_entry c slots
   entry_is =
-      let there = linked rules late notes c slots s none pick board lawful stands queues arbiter needs places first_is in
+      let there = linked rules late notes c slots k g s.holds s.shown s.account keeps none pick board can_be arbiter needs places first_is one_is in
       let first_slot : (sq_at c.sqs 0).window.first ≡ x.tag = linked-head slots (sq_at c.sqs 0).window.first (sq_at c.sqs 0).window.last x.tag (tags_of rest) there.linked in
       sym (ap (λ (z : ℕ). (slot_at slots z).entry) first_slot ∙ waits_there.entry)
 
@@ -146,7 +155,7 @@ module _ (rules : FrontRules) (late : Bool) (notes : Notes) (c : Controller) (sl
   }
 
   -- ---- what is handed over
-  untaken_one : untaken new g ≡ x ∷ []
+  untaken_one : untaken new after g ≡ x ∷ []
   untaken_one =
       picked_items rules late notes c slots s none pick board lawful stands queues arbiter places
       ∙ ap (λ (r : ℕ). take pick.n (g.windows r)) region_is ∙ ap (λ (its : List Item). take pick.n its) windows_are ∙ ap (λ (n : ℕ). take n (x ∷ rest)) one_is
@@ -158,7 +167,7 @@ module _ (rules : FrontRules) (late : Bool) (notes : Notes) (c : Controller) (sl
   hands : handed later ≡ handed notes ++ place_at 0 i ∷ []
   hands = ap (λ (ps : List Place). (handed notes ++ ps) ++ place_at 0 i ∷ []) (quiet (open_sq now pick.qid)) ∙ ap (λ (ps : List Place). ps ++ place_at 0 i ∷ []) (append-nil (handed notes))
 
-  untaken_now : handed later ≡ taken notes ++ places_of (untaken new g)
+  untaken_now : handed later ≡ taken notes ++ places_of (untaken new after g)
   untaken_now =
       hands
       ∙ ap (λ (ps : List Place). ps ++ place_at 0 i ∷ [])
@@ -176,9 +185,9 @@ module _ (rules : FrontRules) (late : Bool) (notes : Notes) (c : Controller) (sl
   in_hand P all =
       subst P place_is
       (All-head P x.place []
-      (All-same P (x.place ∷ []) (places_of (untaken new g)) (sym (ap places_of untaken_one))
-      (All-parts P (places_of g.outs) (places_of (untaken new g)) (subst (All P) (hand_now ∙ places-append g.outs (untaken new g)) all)).1)) where
-        hand_now : after.hand ≡ places_of (g.outs ++ untaken new g)
+      (All-same P (x.place ∷ []) (places_of (untaken new after g)) (sym (ap places_of untaken_one))
+      (All-parts P (places_of g.outs) (places_of (untaken new after g)) (subst (All P) (hand_now ∙ places-append g.outs (untaken new after g)) all)).1)) where
+        hand_now : after.hand ≡ places_of (g.outs ++ untaken new after g)
         hand_now = (pick-items rules late notes c slots s none pick board lawful stands queues arbiter places).hand_is
 
         places-append : (xs ys : List Item) → places_of (xs ++ ys) ≡ places_of xs ++ places_of ys
@@ -218,7 +227,7 @@ module _ (rules : FrontRules) (late : Bool) (notes : Notes) (c : Controller) (sl
     -- a Delete whose deletion is pending was picked before
     delete_stays : (r : ℕ) (it : DeleteItem) → g.deletes r ≡ Some it → (b : Bool) → (i == it.index) ≡ b → (b || is_passed notes it.index) ≡ false
     delete_stays r it at true e =
-        let d = deletion_item c.deletions c.pending_deletions slots k.deletion g.deletes s.has.deletions r it at in
+        let d = deletion_item c.deletions c.pending_deletions slots k.sq_life k.deletion g.deletes s.has.deletions r it at in
         let ended : is_waiting (fate_of now 0 it.index) ≡ false = deletion_done rules late now k s.holds r (deletion_in slots r it) d in
         let here : is_waiting (fate_of now 0 i) ≡ false = subst (λ (z : ℕ). is_waiting (fate_of now 0 z) ≡ false) (sym (eqb-true i it.index e)) ended in
         absurd (cc (here, waited))
@@ -244,7 +253,7 @@ module _ (rules : FrontRules) (late : Bool) (notes : Notes) (c : Controller) (sl
         (λ t is. answerable_is_done now (hand_of k) t.place.region t.place.index is) (k.cq y).ready (ready_is_answerable now k (hand_of k) s.holds.ready y))))
         (s.tags.passed.readies y)
 
-  pass-tags : HoldsTags later new slots g
+  pass-tags : HoldsTags later new slots after g
   pass-tags = record {
     untaken_are = untaken_now;
     outs_held = s.tags.outs_held;
@@ -256,7 +265,7 @@ module _ (rules : FrontRules) (late : Bool) (notes : Notes) (c : Controller) (sl
     deletes_unanswered = s.tags.deletes_unanswered;
     none_answered = s.tags.none_answered;
     answered_held = s.tags.answered_held;
-    hand_entries = All-append (HasEntry now) g.outs (untaken new g) (All-parts (HasEntry now) g.outs (untaken c g) s.tags.hand_entries).0
+    hand_entries = All-append (HasEntry now) g.outs (untaken new after g) (All-parts (HasEntry now) g.outs (untaken c k g) s.tags.hand_entries).0
         (subst (All (HasEntry now)) (sym untaken_one)
         (All-cons (HasEntry now) x [] (ap (λ (r : ℕ). entry_at now r i) waits_there.place ∙ entry_there) (All-nil (HasEntry now))));
     free_count = s.tags.free_count;
@@ -269,7 +278,7 @@ module _ (rules : FrontRules) (late : Bool) (notes : Notes) (c : Controller) (sl
   -- the note is lawful
   unanswered : answer_of notes 0 i ≡ None
   unanswered = subst (λ (r : ℕ). answer_of notes r i ≡ None) waits_there.place
-      (All-head (λ (it : Item). IsUnanswered notes it.place) x rest (unanswered_all rules late notes c slots s none pick board lawful stands queues arbiter needs places first_is))
+      (All-head (λ (it : Item). IsUnanswered notes it.place) x rest (unanswered_all rules late notes c slots k g s.holds s.shown s.account keeps none pick board can_be arbiter needs places first_is one_is))
 
   is_passed_now : IsPassed (picked_notes notes pick) i
   is_passed_now = record {
@@ -282,7 +291,7 @@ module _ (rules : FrontRules) (late : Bool) (notes : Notes) (c : Controller) (sl
     unanswered = unanswered;
   }
 
-  pass-doorbells : HoldsDoorbells rules later new
+  pass-doorbells : HoldsDoorbells rules later new after
   pass-doorbells = let d = pick-doorbells rules late notes c slots s none pick board lawful stands queues arbiter places in
       record { sqs = d.sqs; cqs = d.cqs; phases = d.phases; no_tails = d.no_tails; no_heads = d.no_heads; no_posts = d.no_posts }
 
@@ -297,6 +306,7 @@ module _ (rules : FrontRules) (late : Bool) (notes : Notes) (c : Controller) (sl
     doorbells = pass-doorbells;
     tags = pass-tags;
     shown = record { held = s.shown.held; classed = s.shown.classed };
+    regions = record { sqs = s.regions.sqs; cqs = s.regions.cqs };
     account = λ on_time.
         let next = next-io outstanding-pick rules late now k queue (observed_of notes) pick (board_of board)
         (attached rules late notes c slots s none pick board lawful stands queues arbiter places).cq_region s.holds
@@ -330,5 +340,5 @@ module _ (rules : FrontRules) (late : Bool) (notes : Notes) (c : Controller) (sl
   pub pass-call : HasStepped rules late notes (step.Passed pick) (after_pick_io c board 0 1) slots
   pass-call =
       subst (λ (n : ℕ). HasStepped rules late notes (step.Passed pick) (after_pick_io c board 0 n) slots) one_is
-      (subst (λ (r : ℕ). HasStepped rules late notes (step.Passed pick) (after_pick_io c board r pick.n) slots) region_is
+      (subst (λ (q : ℕ). HasStepped rules late notes (step.Passed pick) (after_pick_io c board q pick.n) slots) first_is
       (record { of_admin = first_is; next = next_is rules late notes c slots s (Some pick) lawful; index = i; oldest = front; stands = pass-stands }))

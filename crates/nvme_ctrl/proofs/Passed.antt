@@ -11,6 +11,7 @@ use Rattle.nvme_ctrl.specs.Notes.{Notes, logged}
 use Rattle.nvme_ctrl.specs.Tags.{is_passed, is_of_device, handed, taken, holder}
 use Rattle.nvme_ctrl.specs.declared.state.Controller.{Controller}
 use Rattle.nvme_ctrl.specs.declared.slot.Slot.{Slot}
+use Rattle.nvme_ctrl.specs.kept.Content.{Content}
 use Rattle.nvme_ctrl.specs.kept.Kept.{Item, DeleteItem, Items, HoldsTags, IsDevices, IsReadyOf, HoldsPassed, is_passed_at, untaken, places_of}
 use Rattle.nvme_ctrl.proofs.OwnStatus.{All-unmap}
 use Rattle.nvme_ctrl.proofs.SlotItems.{All-parts}
@@ -38,11 +39,11 @@ passed_later notes later g same hands stays h = record {
 }
 
 -- what a tag stands for is the device's
-pub held_is_devices : (notes : Notes) (c : Controller) (g : Items) → handed notes ≡ taken notes ++ places_of (untaken c g) → HoldsPassed notes g
+pub held_is_devices : (notes : Notes) (c : Controller) (k : Content) (g : Items) → handed notes ≡ taken notes ++ places_of (untaken c k g) → HoldsPassed notes g
     → (t : ℕ) (p : Place) → holder notes t ≡ Some p → IsDevices notes p
-held_is_devices notes c g hands h t p held =
-    in-all (IsDevices notes) p (taken notes ++ places_of (untaken c g)) (subst (All (IsDevices notes)) hands h.all_handed)
-    (in-append_left p (taken notes) (places_of (untaken c g)) (holder-taken notes t p held))
+held_is_devices notes c k g hands h t p held =
+    in-all (IsDevices notes) p (taken notes ++ places_of (untaken c k g)) (subst (All (IsDevices notes)) hands h.all_handed)
+    (in-append_left p (taken notes) (places_of (untaken c k g)) (holder-taken notes t p held))
 
 -- of the admin queue just what was passed on is
 pub devices_passed : (notes : Notes) (p : Place) → IsDevices notes p → (p.region == 0) ≡ is_passed_at notes p
@@ -64,10 +65,10 @@ not_passed notes p i is none = by (0 == p.region) (i == p.index) refl refl where
   by false b e f = refl
 
 -- what the device has, or is to take, is its own
-pub hand_is_devices : (notes : Notes) (c : Controller) (slots : List Slot) (g : Items) → HoldsTags notes c slots g → All (λ (it : Item). IsDevices notes it.place) (g.outs ++ untaken c g)
-hand_is_devices notes c slots g t =
-    All-append (λ (it : Item). IsDevices notes it.place) g.outs (untaken c g)
+pub hand_is_devices : (notes : Notes) (c : Controller) (slots : List Slot) (k : Content) (g : Items) → HoldsTags notes c slots k g → All (λ (it : Item). IsDevices notes it.place) (g.outs ++ untaken c k g)
+hand_is_devices notes c slots k g t =
+    All-append (λ (it : Item). IsDevices notes it.place) g.outs (untaken c k g)
     (All-weaker (λ (it : Item). holder notes it.tag ≡ Some it.place) (λ (it : Item). IsDevices notes it.place)
-    (λ it held. held_is_devices notes c g t.untaken_are t.passed it.tag it.place held) g.outs t.outs_held)
-    (All-unmap (IsDevices notes) (λ (it : Item). it.place) (untaken c g)
-    (All-parts (IsDevices notes) (taken notes) (places_of (untaken c g)) (subst (All (IsDevices notes)) t.untaken_are t.passed.all_handed)).1)
+    (λ it held. held_is_devices notes c k g t.untaken_are t.passed it.tag it.place held) g.outs t.outs_held)
+    (All-unmap (IsDevices notes) (λ (it : Item). it.place) (untaken c k g)
+    (All-parts (IsDevices notes) (taken notes) (places_of (untaken c k g)) (subst (All (IsDevices notes)) t.untaken_are t.passed.all_handed)).1)

@@ -2,19 +2,15 @@
 use Rattle.std.proofs.Common.{◌≢◌, inl}
 use Rattle.std.proofs.lemmas.List.{length-append, length-take-le}
 use Rattle.std.proofs.Common.{◌≡◌, ℕ, ◌+◌, ◌<◌, ◌≤◌, ◌==◌, ◌&&◌, Bool, true, false, if◌then◌else◌, List, [], ◌∷◌, ◌++◌, length, map, take, drop, Option, Some, None, refl, sym, ap, ◌∙◌, subst, arith}
-use Rattle.std.specs.Prelude.{min, slice_set, IsTrue}
+use Rattle.std.specs.Prelude.{min, slice_set, unwrap_or, IsTrue}
 use Rattle.std.specs.List.{All}
 use Rattle.std.proofs.lemmas.Bool.{eq-eqb, ne_eqb}
 use Rattle.std.proofs.lemmas.List.{append-nil, drop-map, length-map, length-set, map-append, take-map}
 use Rattle.std.proofs.lemmas.List.Elements.{All-append, All-head, All-same, All-tail, All-take}
 use Rattle.nvme_arbiter.specs.declared.board_fields.BoardFields.{BoardFields}
 use Rattle.nvme_log.specs.Limits.{max_outstanding}
-use Rattle.nvme_log.specs.Laws.{as_open}
 use Rattle.nvme_log.specs.Aborts.{is_abort_entry}
 use Rattle.nvme_ctrl.specs.inside.Picks.{oldest_entry, places_in}
-use Rattle.nvme_admin.specs.Layout.{view_of}
-use Rattle.nvme_admin.specs.Standing.{TableView, sq_of}
-use Rattle.nvme_admin.specs.declared.verdict.SqEntry.{SqEntry}
 use Rattle.nvme_ctrl.specs.declared.picks.Step.TheVariants as step
 use Rattle.nvme_log.specs.Queues.{Queue}
 use Rattle.nvme_log.specs.declared.event.Event.TheVariants as event
@@ -27,12 +23,12 @@ use Rattle.nvme_ctrl.specs.Rings.{HasCounts}
 use Rattle.nvme_ctrl.specs.Tags.{taken}
 use Rattle.nvme_ctrl.specs.Steps.{IsNextPick, HasStepped, IsBusy, picked_notes}
 use Rattle.nvme_ctrl.specs.declared.state.SqState.{SqState}
-use Rattle.nvme_ctrl.specs.kept.Content.{Candidate, SqContent, Content}
+use Rattle.nvme_ctrl.specs.kept.Content.{Candidate, Content}
 use Rattle.nvme_ctrl.specs.kept.Standing.{Holds, IsAttached}
 use Rattle.nvme_ctrl.specs.inside.Steps.{CanPick, picked_sq}
 use Rattle.nvme_ctrl.specs.kept.Pool.{IsChain}
-use Rattle.nvme_ctrl.specs.kept.State.{sq_at, attachment_of, picked_in}
-use Rattle.nvme_ctrl.specs.kept.Kept.{Item, Items, IsWaitingIn, HasNumbers, HasItems, HoldsDoorbells, HoldsTags, HasEntry, StandsAt, tags_of, places_of, candidate_of, untaken}
+use Rattle.nvme_ctrl.specs.kept.State.{sq_at}
+use Rattle.nvme_ctrl.specs.kept.Kept.{Item, Items, IsWaitingIn, HasNumbers, HasItems, HoldsDoorbells, HoldsTags, HasEntry, StandsAt, tags_of, places_of, candidate_of, picked_region, picked_of, untaken}
 use Rattle.nvme_arbiter.proofs.Stands.{lawful as lawful_where_stands}
 use Rattle.nvme_log.proofs.Turns.{stays}
 use Rattle.nvme_ctrl.proofs.OpenQueues.{io_region}
@@ -47,7 +43,8 @@ use Rattle.nvme_ctrl.proofs.FewUnposted.{few_unposted}
 use Rattle.nvme_ctrl.proofs.NextEvents.{next-io}
 use Rattle.nvme_ctrl.proofs.Observing.{IsPickable, pickable, seen_is_observed}
 use Rattle.nvme_ctrl.proofs.OwnStatus.{All-unmap}
-use Rattle.nvme_ctrl.proofs.RegionStates.{put_sq-each}
+use Rattle.nvme_ctrl.proofs.Lives.{one_life, put_sq-states, put_sq-lives}
+use Rattle.nvme_ctrl.proofs.QueueStates.{IsSqWith, sq_with, sq_of_with, put_sq-regions, put_sq-none, kept_there, none_picked_of}
 use Rattle.nvme_ctrl.proofs.SlotItems.{All-both, All-parts, at_put}
 use Rattle.nvme_ctrl.proofs.Standing.{holds-io}
 use Rattle.nvme_arbiter.specs.Settings.{ArbitrationFields}
@@ -106,17 +103,17 @@ io_places c slots pick io places = by (pick.qid == 0) (ne_eqb pick.qid 0 io) pla
 
 -- ---- candidates of items
 -- the places of the candidates of waiting items are those of the items
-places-are : (slots : List Slot) (r : ℕ) (its : List Item) → All (IsWaitingIn slots r) its → map (place_of r) (map candidate_of its) ≡ places_of its
-places-are slots r [] h = refl
-places-are slots r (it ∷ its) h =
-    let here : place_of r (candidate_of it) ≡ it.place = λ t. record { region = sym (All-head (IsWaitingIn slots r) it its h).place t; index = it.place.index } in
-    λ t. here t ∷ places-are slots r its (All-tail (IsWaitingIn slots r) it its h) t
+places-are : (slots : List Slot) (q r : ℕ) (its : List Item) → All (IsWaitingIn slots q r) its → map (place_of r) (map candidate_of its) ≡ places_of its
+places-are slots q r [] h = refl
+places-are slots q r (it ∷ its) h =
+    let here : place_of r (candidate_of it) ≡ it.place = λ t. record { region = sym (All-head (IsWaitingIn slots q r) it its h).place t; index = it.place.index } in
+    λ t. here t ∷ places-are slots q r its (All-tail (IsWaitingIn slots q r) it its h) t
 
 -- their entries are those of their places
-entries-are : (past : Past) (slots : List Slot) (r : ℕ) (its : List Item) → All (IsWaitingIn slots r) its
+entries-are : (past : Past) (slots : List Slot) (q r : ℕ) (its : List Item) → All (IsWaitingIn slots q r) its
     → All (λ (c : Candidate). entry_at past r c.index ≡ Some c.entry) (map candidate_of its) → All (HasEntry past) its
-entries-are past slots r its waits entries =
-    All-both (IsWaitingIn slots r) (λ (it : Item). entry_at past r it.place.index ≡ Some it.entry) (HasEntry past)
+entries-are past slots q r its waits entries =
+    All-both (IsWaitingIn slots q r) (λ (it : Item). entry_at past r it.place.index ≡ Some it.entry) (HasEntry past)
     (λ it w e. ap (λ (x : ℕ). entry_at past x it.place.index) w.place ∙ e) its waits
     (All-unmap (λ (c : Candidate). entry_at past r c.index ≡ Some c.entry) candidate_of its entries)
 
@@ -129,22 +126,13 @@ indexes-are : (r : ℕ) (cs : List Candidate) → map (place_at r) (map (λ (c :
 indexes-are r [] = refl
 indexes-are r (c ∷ cs) = ap (λ (ps : List Place). place_at r c.index ∷ ps) (indexes-are r cs)
 
--- a queue that is open in the table
-by_closing : (b : Bool) (q queue : Queue) → (if b then None else Some q) ≡ Some queue → q ≡ queue
-by_closing true q queue h = absurd (cc)
-by_closing false q queue h = cc
-
-region_of-open : (o : Option SqEntry) (entry : SqEntry) (queue : Queue) → as_open o ≡ Some queue → o ≡ Some entry → entry.region ≡ queue.region
-region_of-open o entry queue h is =
-    ap (λ (q : Queue). q.region) (by_closing entry.closing (record { region = entry.region; cqid = entry.cqid; class = entry.class }) queue (ap as_open (sym is) ∙ h))
-
 -- ---- a pick of an I/O queue
-abbrev pub picked_state : Controller → (r n : ℕ) → SqState
-picked_state c r n = record (sq_at c.sqs r) { unposted = min ((sq_at c.sqs r).unposted + n) 65535 }
+abbrev pub picked_state : Controller → (q n : ℕ) → SqState
+picked_state c q n = record (sq_at c.sqs q) { unposted = min ((sq_at c.sqs q).unposted + n) 65535 }
 
-abbrev pub after_pick_io : Controller → BoardFields → (r n : ℕ) → Controller
-after_pick_io c board r n =
-    record c { board = board; sqs = slice_set c.sqs r (picked_state c r n); outstanding = min (c.outstanding + n) 65535; picked = n; picked_region = r }
+abbrev pub after_pick_io : Controller → BoardFields → (q n : ℕ) → Controller
+after_pick_io c board q n =
+    record c { board = board; sqs = slice_set c.sqs q (picked_state c q n); outstanding = min (c.outstanding + n) 65535; picked = n; picked_qid = q }
 
 module _ (rules : FrontRules) (late : Bool) (notes : Notes) (c : Controller) (slots : List Slot) (s : StandsAt rules late notes c slots)
     (none : c.picked ≡ 0) (pick : Pick) (board : BoardFields)
@@ -162,20 +150,19 @@ module _ (rules : FrontRules) (late : Bool) (notes : Notes) (c : Controller) (sl
   abbrev now : Past
   now = logged notes
 
-  -- nothing is picked and not taken
-  pub none_in : (r : ℕ) → picked_in c r ≡ 0
-  none_in r = by (r == c.picked_region) where
-    by : (b : Bool) → (if b then c.picked else 0) ≡ 0
-    by true = none
-    by false = refl
-
   pub due : IsPickable now k pick
   due = pickable rules.mechanism rules.start.settings (arbitration_of now) now k pick s.holds.queues s.holds.arbitration.stands.observed
       (subst (λ (b : BoardView). lawful_pick rules.mechanism rules.start.settings (arbitration_of now) (seen_of b.queues) ≡ Some pick) s.numbers.board_is
       (sym (lawful rules.mechanism rules.start.settings (arbitration_of now) (board_stands rules late notes c slots s))))
 
+  abbrev q : ℕ
+  q = pick.qid
+
   abbrev r : ℕ
   r = due.queue.region
+
+  pub due_life : k.sq_life q ≡ Some r
+  due_life = s.holds.lives.sqs q due.queue due.is_open
 
   pub attached : IsAttached now k pick.qid due.queue
   attached = s.holds.queues.attached pick.qid due.queue due.is_open
@@ -183,8 +170,8 @@ module _ (rules : FrontRules) (late : Bool) (notes : Notes) (c : Controller) (sl
   there_in : r < k.nsq
   there_in = s.holds.queues.sq_there r (record { qid = pick.qid; cq_region = attached.cq_region }) attached.attached
 
-  pub there : r < length c.sqs
-  there = omega (arith, there_in, s.holds.tabled.few_sqs, s.numbers.sq_size)
+  pub there : q < length c.sqs
+  there = kept_there c k s.numbers q r due_life
 
   places_now : k.outstanding + pick.n ≤ max_outstanding
   places_now = omega (arith, places, s.numbers.outstanding_is)
@@ -208,82 +195,113 @@ module _ (rules : FrontRules) (late : Bool) (notes : Notes) (c : Controller) (sl
   few : (k.sq r).unposted ≤ k.outstanding
   few = few_unposted rules late now k s.holds r (open_undeleted rules late now k s.holds pick.qid due.queue due.is_open) there_in
 
-  unposted_is : (picked_state c r pick.n).unposted ≡ (k.sq r).unposted + pick.n
+  unposted_is : (picked_state c q pick.n).unposted ≡ (k.sq r).unposted + pick.n
   unposted_is =
-      let was = s.numbers.sq_unposted r in
-      capped ((sq_at c.sqs r).unposted + pick.n) (omega (arith, was, few, places_now)) ∙ ap (λ (n : ℕ). n + pick.n) was
+      let was = (s.numbers.sqs q r due_life).unposted in
+      capped ((sq_at c.sqs q).unposted + pick.n) (omega (arith, was, few, places_now)) ∙ ap (λ (n : ℕ). n + pick.n) was
 
-  outstanding_is : (after_pick_io c board r pick.n).outstanding ≡ k.outstanding + pick.n
+  outstanding_is : (after_pick_io c board q pick.n).outstanding ≡ k.outstanding + pick.n
   outstanding_is = capped (c.outstanding + pick.n) (omega (arith, places)) ∙ ap (λ (n : ℕ). n + pick.n) s.numbers.outstanding_is
 
   abbrev after : Content
   after = after_io k due.queue pick.n (board_of board)
 
   abbrev new : Controller
-  new = after_pick_io c board r pick.n
+  new = after_pick_io c board q pick.n
 
   -- ---- numbers
+  picked_with : IsSqWith k.table k.cq_life q r (picked_state c q pick.n) (picked_sq (k.sq r) pick.n) (k.held r)
+  picked_with = let h = s.numbers.sqs q r due_life in record {
+    entry = h.entry;
+    in_table = h.in_table;
+    on = h.on;
+    to = h.to;
+    cq_region = h.cq_region;
+    cq_open = h.cq_open;
+    opened = h.opened;
+    held_is = h.held;
+    unposted = unposted_is;
+    slots = h.slots;
+    some = h.some;
+  }
+
   pub pick-numbers : HasNumbers new after
-  pick-numbers = record {
-    table_is = s.numbers.table_is;
-    sized = s.numbers.sized;
+  pick-numbers = let n = s.numbers in record {
+    tells = n.tells;
     board_is = refl;
     is_arbiter = is_arbiter_still;
     outstanding_is = outstanding_is;
-    sq_queue = put_sq-each (λ x state. attachment_of state ≡ (after.sq x).queue) c.sqs r (picked_state c r pick.n) there
-        (rw (eq-eqb r r refl) (s.numbers.sq_queue r)) (λ x other. rw (ne_eqb x r other) (s.numbers.sq_queue x));
-    sq_held = put_sq-each (λ x state. (state.held == 1) ≡ k.held x) c.sqs r (picked_state c r pick.n) there (s.numbers.sq_held r) (λ x other. s.numbers.sq_held x);
-    sq_unposted = put_sq-each (λ x state. state.unposted ≡ (after.sq x).unposted) c.sqs r (picked_state c r pick.n) there
-        (rw (eq-eqb r r refl) unposted_is) (λ x other. rw (ne_eqb x r other) (s.numbers.sq_unposted x));
-    sq_slots = put_sq-each (λ x state. state.ring.slots ≡ (after.sq x).slots) c.sqs r (picked_state c r pick.n) there
-        (rw (eq-eqb r r refl) (s.numbers.sq_slots r)) (λ x other. rw (ne_eqb x r other) (s.numbers.sq_slots x));
-    cq_slots = s.numbers.cq_slots;
-    sq_some = at_put (λ (x : ℕ) (u : SqContent). x < k.nsq → 0 < u.slots) k.sq r (picked_sq (k.sq r) pick.n) (s.numbers.sq_some r) (λ x other. s.numbers.sq_some x);
-    sq_size = length-set c.sqs r (picked_state c r pick.n) ∙ s.numbers.sq_size;
-    cq_size = s.numbers.cq_size;
+    sq_ids = n.sq_ids;
+    cq_ids = n.cq_ids;
+    sqs = λ p x is. sq_of_with new after p x
+        (put_sq-lives (λ p x state u its. IsSqWith k.table k.cq_life p x state u (k.held x)) k.sq_life k.sq_id n.sq_ids c.sqs k.sq g.windows q r (picked_state c q pick.n)
+        (picked_sq (k.sq r) pick.n) (g.windows r) due_life there picked_with (λ p x other apart is. sq_with c k p x (n.sqs p x is)) p x is);
+    cqs = λ p x is. (let h = n.cqs p x is in record { slots = h.slots; some = h.some });
+    few_sqs = n.few_sqs;
+    few_cqs = n.few_cqs;
+    no_sqs = put_sq-none c k n q r due_life (picked_state c q pick.n);
+    no_cqs = n.no_cqs;
+    sq_size = length-set c.sqs q (picked_state c q pick.n) ∙ n.sq_size;
+    cq_size = n.cq_size;
   }
 
   -- ---- items
   window_was : (x : ℕ) → (k.sq x).window ≡ map candidate_of (g.windows x)
-  window_was x = s.has.window_is x ∙ ap (λ (n : ℕ). map candidate_of (drop n (g.windows x))) (none_in x)
+  window_was x = s.has.window_is x ∙ ap (λ (n : ℕ). map candidate_of (drop n (g.windows x))) (none_picked_of c (k.sq_id x) none)
 
   enough : pick.n ≤ length (g.windows r)
   enough = omega (arith, due.enough, ap (λ (cs : List Candidate). length cs) (window_was r), length-map (g.windows r) candidate_of)
 
-  pub picked_items : untaken new g ≡ take pick.n (g.windows r)
-  picked_items = refl
+  -- the commands that are picked
+  abbrev its : List Item
+  its = take pick.n (g.windows r)
 
-  pub none_untaken : untaken c g ≡ []
-  none_untaken = ap (λ (n : ℕ). take n (g.windows c.picked_region)) none
+  picked_there : picked_region new after ≡ r
+  picked_there = ap (λ (o : Option ℕ). unwrap_or o 0) due_life
 
-  taken_window : take pick.n (k.sq r).window ≡ map candidate_of (take pick.n (g.windows r))
+  pub picked_items : untaken new after g ≡ its
+  picked_items = ap (λ (x : ℕ). take pick.n (g.windows x)) picked_there
+
+  pub none_untaken : untaken c k g ≡ []
+  none_untaken = ap (λ (n : ℕ). take n (g.windows (picked_region c k))) none
+
+  -- none of another region is
+  picked_other : (x : ℕ) → x ≢ r → picked_of new (k.sq_id x) ≡ 0
+  picked_other x other = by (k.sq_id x) refl where
+    by : (o : Option ℕ) → k.sq_id x ≡ o → picked_of new o ≡ 0
+    by None is = refl
+    by (Some p) is = ap (λ (b : Bool). if b then pick.n else 0)
+        (ne_eqb p q (λ same. other (one_life k.sq_life q x r (subst (λ (n : ℕ). k.sq_life n ≡ Some x) same (s.numbers.sq_ids.lives_are x p is)) due_life)))
+
+  taken_window : take pick.n (k.sq r).window ≡ map candidate_of its
   taken_window = ap (take pick.n) (window_was r) ∙ take-map candidate_of pick.n (g.windows r)
 
-  waits : All (IsWaitingIn slots r) (take pick.n (g.windows r))
-  waits = All-take (IsWaitingIn slots r) pick.n (g.windows r) (s.has.window_items r)
+  waits : All (IsWaitingIn slots q r) its
+  waits = All-take (IsWaitingIn slots q r) pick.n (g.windows r) (s.has.window_items q r due_life)
 
-  hand_is : after.hand ≡ places_of (g.outs ++ untaken new g)
+  hand_is : after.hand ≡ places_of (g.outs ++ untaken new after g)
   hand_is =
-      let was : k.hand ≡ places_of g.outs = s.has.hand_is ∙ ap (λ (its : List Item). places_of (g.outs ++ its)) none_untaken ∙ ap places_of (append-nil g.outs) in
-      let more : map (place_of r) (take pick.n (k.sq r).window) ≡ places_of (untaken new g) =
-      ap (map (place_of r)) taken_window ∙ places-are slots r (take pick.n (g.windows r)) waits in
-      (λ t. was t ++ more t) ∙ sym (map-append (λ (it : Item). it.place) g.outs (untaken new g))
+      let was : k.hand ≡ places_of g.outs = s.has.hand_is ∙ ap (λ (more : List Item). places_of (g.outs ++ more)) none_untaken ∙ ap places_of (append-nil g.outs) in
+      let more : map (place_of r) (take pick.n (k.sq r).window) ≡ places_of its = ap (map (place_of r)) taken_window ∙ places-are slots q r its waits in
+      (λ t. was t ++ more t) ∙ sym (map-append (λ (it : Item). it.place) g.outs its) ∙ sym (ap (λ (more : List Item). places_of (g.outs ++ more)) picked_items)
 
   pub pick-items : HasItems new slots after g
   pick-items = record {
-    window_chain = put_sq-each (λ x state. IsChain slots state.window (tags_of (g.windows x))) c.sqs r (picked_state c r pick.n) there
-        (s.has.window_chain r) (λ x other. s.has.window_chain x);
+    window_chain = λ p. put_sq-states (λ y state. (x : ℕ) → k.sq_life y ≡ Some x → IsChain slots state.window (tags_of (g.windows x))) c.sqs q (picked_state c q pick.n) there
+        (s.has.window_chain q) p (λ other. s.has.window_chain p);
     window_items = s.has.window_items;
-    window_is = at_put (λ x u. u.window ≡ map candidate_of (drop (picked_in new x) (g.windows x))) k.sq r (picked_sq (k.sq r) pick.n)
-        (rw (eq-eqb r r refl) (ap (drop pick.n) (window_was r) ∙ drop-map candidate_of pick.n (g.windows r)))
-        (λ x other. rw (ne_eqb x r other) (window_was x));
-    picked_there = enough;
+    window_none = s.has.window_none;
+    window_is = at_put (λ x u. u.window ≡ map candidate_of (drop (picked_of new (k.sq_id x)) (g.windows x))) k.sq r (picked_sq (k.sq r) pick.n)
+        (rw (s.numbers.sq_ids.ids_are q r due_life, eq-eqb q q refl) (ap (drop pick.n) (window_was r) ∙ drop-map candidate_of pick.n (g.windows r)))
+        (λ x other. rw (picked_other x other) (window_was x));
+    picked_there = subst (λ (x : ℕ). pick.n ≤ length (g.windows x)) (sym picked_there) enough;
     outs_items = s.has.outs_items;
     outs_apart = s.has.outs_apart;
     outs_all = s.has.outs_all;
     hand_is = hand_is;
     ready_chain = s.has.ready_chain;
     ready_items = s.has.ready_items;
+    ready_none = s.has.ready_none;
     ready_is = s.has.ready_is;
     deletions = s.has.deletions;
     free_chain = s.has.free_chain;
@@ -292,38 +310,37 @@ module _ (rules : FrontRules) (late : Bool) (notes : Notes) (c : Controller) (sl
   }
 
   -- ---- doorbells
-  pub pick-doorbells : HoldsDoorbells rules (picked_notes notes pick) new
+  pub pick-doorbells : HoldsDoorbells rules (picked_notes notes pick) new after
   pick-doorbells = record {
-    sqs = put_sq-each (λ x state. 0 < state.ring.slots → HasCounts state.ring (length (fetched now x)) (submitted rules notes x)) c.sqs r (picked_state c r pick.n) there
-        (s.doorbells.sqs r) (λ x other. s.doorbells.sqs x);
+    sqs = put_sq-regions (λ p x state. HasCounts state.ring (length (fetched now x)) (submitted rules notes x)) k.sq_life k.sq_id s.numbers.sq_ids c.sqs q r (picked_state c q pick.n)
+        due_life there (s.doorbells.sqs q r due_life) (λ p x other apart is. s.doorbells.sqs p x is);
     cqs = s.doorbells.cqs;
     phases = s.doorbells.phases;
-    no_tails = put_sq-each (λ x state. state.ring.slots ≡ 0 → submitted rules notes x ≡ 0) c.sqs r (picked_state c r pick.n) there
-        (s.doorbells.no_tails r) (λ x other. s.doorbells.no_tails x);
+    no_tails = at_put (λ x u. u.queue ≡ None → submitted rules notes x ≡ 0) k.sq r (picked_sq (k.sq r) pick.n) (s.doorbells.no_tails r) (λ x other. s.doorbells.no_tails x);
     no_heads = s.doorbells.no_heads;
     no_posts = s.doorbells.no_posts;
   }
 
   -- ---- tags
   module _ (io : pick.qid ≡ 0 → ⊥) where
-    dispatches : handed (picked_notes notes pick) ≡ handed notes ++ places_of (untaken new g)
+    dispatches : handed (picked_notes notes pick) ≡ handed notes ++ places_of its
     dispatches =
         ap (λ (o : Option Queue). handed notes ++ dispatched_by now pick o) due.is_open
         ∙ rw (ne_eqb pick.qid 0 io) (ap (λ (is : List ℕ). handed notes ++ map (place_at r) (take pick.n is)) (s.holds.regions r).waiting_is
         ∙ ap (λ (is : List ℕ). handed notes ++ map (place_at r) is) (take-map (λ (x : Candidate). x.index) pick.n (k.sq r).window)
         ∙ ap (λ (ps : List Place). handed notes ++ ps)
-        (indexes-are r (take pick.n (k.sq r).window) ∙ ap (map (place_of r)) taken_window ∙ places-are slots r (take pick.n (g.windows r)) waits))
+        (indexes-are r (take pick.n (k.sq r).window) ∙ ap (map (place_of r)) taken_window ∙ places-are slots q r its waits))
 
     -- what is handed over is the device's
     picked_devices : All (IsDevices notes) (handed (picked_notes notes pick))
     picked_devices =
         subst (All (IsDevices notes)) (sym dispatches)
-        (All-append (IsDevices notes) (handed notes) (places_of (untaken new g)) s.tags.passed.all_handed
-        (All-map (IsDevices notes) (λ (it : Item). it.place) (take pick.n (g.windows r))
-        (All-weaker (IsWaitingIn slots r) (λ (it : Item). IsDevices notes it.place)
+        (All-append (IsDevices notes) (handed notes) (places_of its) s.tags.passed.all_handed
+        (All-map (IsDevices notes) (λ (it : Item). it.place) its
+        (All-weaker (IsWaitingIn slots q r) (λ (it : Item). IsDevices notes it.place)
         (λ it w. ap (λ (b : Bool). not b || is_passed notes it.place.index)
         (ne_eqb it.place.region 0 (λ zero. io_region rules late now k s.holds r pick.qid attached.cq_region attached.attached io (sym w.place ∙ zero))))
-        (take pick.n (g.windows r)) waits)))
+        its waits)))
 
     picked_passed : HoldsPassed (picked_notes notes pick) g
     picked_passed = record {
@@ -333,10 +350,11 @@ module _ (rules : FrontRules) (late : Bool) (notes : Notes) (c : Controller) (sl
       deletes = s.tags.passed.deletes;
     }
 
-    pick-tags : HoldsTags (picked_notes notes pick) new slots g
+    pick-tags : HoldsTags (picked_notes notes pick) new slots after g
     pick-tags = record {
-      untaken_are = dispatches ∙ ap (λ (ps : List Place). ps ++ places_of (untaken new g))
-          (s.tags.untaken_are ∙ ap (λ (its : List Item). taken notes ++ places_of its) none_untaken ∙ append-nil (taken notes));
+      untaken_are = dispatches ∙ ap (λ (ps : List Place). ps ++ places_of its)
+          (s.tags.untaken_are ∙ ap (λ (more : List Item). taken notes ++ places_of more) none_untaken ∙ append-nil (taken notes))
+          ∙ sym (ap (λ (more : List Item). taken notes ++ places_of more) picked_items);
       outs_held = s.tags.outs_held;
       readies_held = s.tags.readies_held;
       none_held = s.tags.none_held;
@@ -346,10 +364,11 @@ module _ (rules : FrontRules) (late : Bool) (notes : Notes) (c : Controller) (sl
       deletes_unanswered = s.tags.deletes_unanswered;
       none_answered = s.tags.none_answered;
       answered_held = s.tags.answered_held;
-      hand_entries = All-append (HasEntry now) g.outs (untaken new g) (All-parts (HasEntry now) g.outs (untaken c g) s.tags.hand_entries).0
-          (entries-are now slots r (take pick.n (g.windows r)) waits
-          (All-same (λ (x : Candidate). entry_at now r x.index ≡ Some x.entry) (map candidate_of (take pick.n (g.windows r))) (take pick.n (k.sq r).window) (sym taken_window)
-          (All-take (λ (x : Candidate). entry_at now r x.index ≡ Some x.entry) pick.n (k.sq r).window (s.holds.regions r).entries)));
+      hand_entries = subst (λ (more : List Item). All (HasEntry now) (g.outs ++ more)) (sym picked_items)
+          (All-append (HasEntry now) g.outs its (All-parts (HasEntry now) g.outs (untaken c k g) s.tags.hand_entries).0
+          (entries-are now slots q r its waits
+          (All-same (λ (x : Candidate). entry_at now r x.index ≡ Some x.entry) (map candidate_of its) (take pick.n (k.sq r).window) (sym taken_window)
+          (All-take (λ (x : Candidate). entry_at now r x.index ≡ Some x.entry) pick.n (k.sq r).window (s.holds.regions r).entries))));
       free_count = s.tags.free_count;
       cookies = cookies_later notes (picked_notes notes pick) slots g (λ x i. refl) (λ x. refl) s.tags.cookies;
       passed = picked_passed;
@@ -371,6 +390,7 @@ module _ (rules : FrontRules) (late : Bool) (notes : Notes) (c : Controller) (sl
       doorbells = pick-doorbells;
       tags = pick-tags;
       shown = record { held = s.shown.held; classed = s.shown.classed };
+      regions = record { sqs = s.regions.sqs; cqs = s.regions.cqs };
       account = λ on_time.
           let next = next-io outstanding-pick rules late now k due.queue (observed_of notes) pick (board_of board) attached.cq_region s.holds can saw (inl io) attached.attached pick-holds.regions on_time in
           record {
@@ -394,30 +414,16 @@ module _ (rules : FrontRules) (late : Bool) (notes : Notes) (c : Controller) (sl
           };
     }
 
-  -- ---- the call
-  -- the queue of the pick is in the table
-  due_table : as_open (sq_of (view_of c.table) pick.qid) ≡ Some due.queue
-  due_table = ap (λ (t : TableView). as_open (sq_of t pick.qid)) s.numbers.table_is ∙ sym (s.holds.queues.sqs pick.qid) ∙ due.is_open
-
-  pub due_found : sq_of (view_of c.table) pick.qid ≡ None → ⊥
-  due_found h = (let e : None ≡ Some due.queue = ap as_open (sym h) ∙ due_table in cc)
-
-  pub due_region : (entry : SqEntry) → sq_of (view_of c.table) pick.qid ≡ Some entry → entry.region ≡ r
-  due_region entry is = region_of-open (sq_of (view_of c.table) pick.qid) entry due.queue due_table is
-
   -- so the controller of the call stands
-  pub pick-call : (io : pick.qid ≡ 0 → ⊥) (entry : SqEntry) → sq_of (view_of c.table) pick.qid ≡ Some entry
-      → HasStepped rules late notes (step.Picked pick) (after_pick_io c board entry.region pick.n) slots
-  pick-call io entry is =
-      subst (λ (x : ℕ). HasStepped rules late notes (step.Picked pick) (after_pick_io c board x pick.n) slots) (sym (due_region entry is))
-      (next_is rules late notes c slots s (Some pick) lawful, pick-stands io)
+  pub pick-call : (io : pick.qid ≡ 0 → ⊥) → HasStepped rules late notes (step.Picked pick) (after_pick_io c board q pick.n) slots
+  pick-call io = (next_is rules late notes c slots s (Some pick) lawful, pick-stands io)
 
 -- ---- no pick is made
 -- what is picked and not taken was dispatched, and not taken
 pub is_busy : (rules : FrontRules) (late : Bool) (notes : Notes) (c : Controller) (slots : List Slot) → StandsAt rules late notes c slots → c.picked ≢ 0 → IsBusy notes
 is_busy rules late notes c slots s some =
-    let all : length (handed notes) ≡ length (taken notes) + length (places_of (untaken c s.items)) =
-    ap (λ (ps : List Place). length ps) s.tags.untaken_are ∙ length-append (taken notes) (places_of (untaken c s.items)) in
-    let many : length (places_of (untaken c s.items)) ≡ c.picked =
-    length-map (untaken c s.items) (λ (it : Item). it.place) ∙ length-take-le c.picked (s.items.windows c.picked_region) s.has.picked_there in
+    let all : length (handed notes) ≡ length (taken notes) + length (places_of (untaken c s.content s.items)) =
+    ap (λ (ps : List Place). length ps) s.tags.untaken_are ∙ length-append (taken notes) (places_of (untaken c s.content s.items)) in
+    let many : length (places_of (untaken c s.content s.items)) ≡ c.picked =
+    length-map (untaken c s.content s.items) (λ (it : Item). it.place) ∙ length-take-le c.picked (s.items.windows (picked_region c s.content)) s.has.picked_there in
     omega (arith, all, many, some)

@@ -1,5 +1,5 @@
 -- A post: what its function did, the command whose completion is posted, and that it may be.
-use Rattle.std.proofs.Common.{◌≡◌, ℕ, ◌+◌, ◌-◌, ◌<◌, ◌^◌, ◌%◌, ◌==◌, Bool, true, false, if◌then◌else◌, List, [], ◌∷◌, ◌++◌, length, Option, Some, None, sym, ap, ◌∙◌, arith}
+use Rattle.std.proofs.Common.{◌≡◌, ℕ, ◌+◌, ◌-◌, ◌<◌, ◌^◌, ◌%◌, ◌==◌, Bool, if◌then◌else◌, List, [], ◌∷◌, ◌++◌, length, Option, Some, None, sym, ap, ◌∙◌, arith}
 use Rattle.std.specs.Prelude.{slice_set, option_map}
 use Rattle.std.proofs.lemmas.Option.{same_Some}
 use Rattle.std.proofs.lemmas.List.Elements.{All-head, All-same}
@@ -20,7 +20,7 @@ use Rattle.nvme_ctrl.specs.declared.state.Controller.{Controller}
 use Rattle.nvme_ctrl.specs.kept.Content.{Attachment, Content}
 use Rattle.nvme_ctrl.specs.kept.Standing.{IsReady, Holds}
 use Rattle.nvme_ctrl.specs.kept.Pool.{slot_at, put_item, IsNew, IsChain, SameItems, SameLinks}
-use Rattle.nvme_ctrl.specs.kept.State.{sq_at, cq_at, attachment_of}
+use Rattle.nvme_ctrl.specs.kept.State.{sq_at, cq_at}
 use Rattle.nvme_ctrl.specs.kept.Kept.{ReadyItem, Items, readies_of, IsReadyIn, StandsAt}
 use Rattle.nvme_ctrl.specs.inside.Posting.{completion_of}
 use Rattle.nvme_ctrl.proofs.AfterSteps.{CanPost, post_event, after_post}
@@ -44,13 +44,14 @@ pub record HasDone (old : CqState) (before : Chain) (slots pool : List Slot) (ta
   pub items : SameItems pool new
   pub links : (xs : List ℕ) → IsChain pool before xs → SameLinks xs pool new
 
--- a controller that stands, of which the oldest ready completion of a region is posted
+-- a controller that stands, of which the oldest ready completion of an open completion queue is posted
 pub record PostCall : Type 0 where
   pub rules : FrontRules
   pub late : Bool
   pub notes : Notes
   pub c : Controller
   pub slots : List Slot
+  pub cqid : ℕ
   pub x : ℕ
   pub item : ReadyItem
   pub rest : List ReadyItem
@@ -58,8 +59,9 @@ pub record PostCall : Type 0 where
   pub free : Chain
   pub new : List Slot
   pub stands : StandsAt rules late notes c slots
+  pub life : stands.content.cq_life cqid ≡ Some x
   pub are : stands.items.readies x ≡ item ∷ rest
-  pub did : HasDone (cq_at c.cqs x) c.free slots (freed slots item.tag) item.tag cq free new
+  pub did : HasDone (cq_at c.cqs cqid) c.free slots (freed slots item.tag) item.tag cq free new
 
 abbrev pub content : PostCall → Content
 content p = p.stands.content
@@ -77,7 +79,7 @@ abbrev pub index : PostCall → ℕ
 index p = p.item.ready.place.index
 
 abbrev pub cqe_of : PostCall → Cqe
-cqe_of p = completion_of p.c (command p) ((cq_at p.c.cqs p.x).phase == 1)
+cqe_of p = completion_of p.c (command p) ((cq_at p.c.cqs p.cqid).phase == 1)
 
 abbrev pub event_of : PostCall → Event
 event_of p = post_event p.x p.item.ready (cqe_of p)
@@ -91,20 +93,17 @@ notes_after p = Logged (event_of p) ∷ p.notes
 abbrev pub content_after : PostCall → Content
 content_after p = after_post (content p) p.x p.item.ready (readies_of p.rest) (cqe_of p)
 
--- the state of its region, and the controller, afterwards
+-- the state of its queue, and the controller, afterwards
 abbrev pub sq_after : Controller → ℕ → SqState
-sq_after c r = record (sq_at c.sqs r) { unposted = (sq_at c.sqs r).unposted - 1 }
+sq_after c q = record (sq_at c.sqs q) { unposted = (sq_at c.sqs q).unposted - 1 }
 
-abbrev pub controller_by : PostCall → ℕ → Controller
-controller_by p r = record p.c {
-  sqs = slice_set p.c.sqs r (sq_after p.c r);
-  cqs = slice_set p.c.cqs p.x p.cq;
+abbrev pub controller_after : PostCall → Controller
+controller_after p = record p.c {
+  sqs = slice_set p.c.sqs (command p).sqid (sq_after p.c (command p).sqid);
+  cqs = slice_set p.c.cqs p.cqid p.cq;
   outstanding = if (command p).state == 5 then p.c.outstanding else p.c.outstanding - 1;
   free = p.free;
 }
-
-abbrev pub controller_after : PostCall → Controller
-controller_after p = controller_by p (region p)
 
 abbrev pub put_readies : (ℕ → List ReadyItem) → ℕ → List ReadyItem → ℕ → List ReadyItem
 put_readies readies x items y = if y == x then items else readies y
@@ -113,8 +112,14 @@ abbrev pub items_after : PostCall → Items
 items_after p = record p.stands.items { readies = put_readies p.stands.items.readies p.x p.rest; free = p.stands.items.free ++ p.item.tag ∷ [] }
 
 -- ---- the command that is posted
-pub ready_in : (p : PostCall) → IsReadyIn p.slots p.item
-ready_in p = All-head (IsReadyIn p.slots) p.item p.rest (All-same (IsReadyIn p.slots) (p.item ∷ p.rest) (p.stands.items.readies p.x) (sym p.are) (p.stands.has.ready_items p.x))
+pub ready_in : (p : PostCall) → IsReadyIn (content p).sq_id p.slots p.item
+ready_in p =
+    let P = IsReadyIn (content p).sq_id p.slots in
+    All-head P p.item p.rest (All-same P (p.item ∷ p.rest) (p.stands.items.readies p.x) (sym p.are) (p.stands.has.ready_items p.x))
+
+-- its queue is open or closing, and on its region
+pub life_is : (p : PostCall) → (content p).sq_life (command p).sqid ≡ Some (region p)
+life_is p = p.stands.numbers.sq_ids.lives_are (region p) (command p).sqid (ready_in p).queue
 
 pub oldest_is : (p : PostCall) → ((content p).cq p.x).ready ≡ p.item.ready ∷ readies_of p.rest
 oldest_is p = p.stands.has.ready_is p.x ∙ ap readies_of p.are
@@ -139,29 +144,16 @@ attached_is p =
     (sym (is_ready p).queue ∙ p.stands.holds.queues.qid_is (region p))
     (sym (is_ready p).region ∙ p.stands.holds.queues.cq_region_is (region p))
 
-pub region_there : (p : PostCall) → region p < (content p).nsq
-region_there p = p.stands.holds.queues.sq_there (region p) (record { qid = p.item.ready.sqid; cq_region = p.x }) (attached_is p)
-
 pub posts_there : (p : PostCall) → p.x < (content p).ncq
 posts_there p = p.stands.holds.queues.posts_there (region p) (record { qid = p.item.ready.sqid; cq_region = p.x }) (attached_is p)
 
-pub sqs_have : (p : PostCall) → region p < length p.c.sqs
-sqs_have p = omega (arith, region_there p, p.stands.holds.tabled.few_sqs, p.stands.numbers.sq_size)
+pub sqs_have : (p : PostCall) → (command p).sqid < length p.c.sqs
+sqs_have p = omega (arith, p.stands.numbers.few_sqs (command p).sqid (region p) (life_is p), p.stands.numbers.sq_size)
 
-pub cqs_have : (p : PostCall) → p.x < length p.c.cqs
-cqs_have p = omega (arith, posts_there p, p.stands.holds.tabled.few_cqs, p.stands.numbers.cq_size)
-
--- its region's ring has slots
-pub some_slots : (p : PostCall) → 0 < (sq_at p.c.sqs (region p)).ring.slots
-some_slots p = omega (arith, p.stands.numbers.sq_some (region p) (region_there p), p.stands.numbers.sq_slots (region p))
+pub cqs_have : (p : PostCall) → p.cqid < length p.c.cqs
+cqs_have p = omega (arith, p.stands.numbers.few_cqs p.cqid p.x p.life, p.stands.numbers.cq_size)
 
 -- ---- its completion
-qid_of : (s : SqState) (a : Attachment) → attachment_of s ≡ Some a → s.qid ≡ a.qid
-qid_of s a h = by (s.opened == 0) h where
-  by : (b : Bool) → (if b then None else Some (record { qid = s.qid; cq_region = s.cq_region })) ≡ Some a → s.qid ≡ a.qid
-  by true k = cc k
-  by false k = ap (λ (b : Attachment). b.qid) (same_Some _ a k)
-
 small_mod : (n : ℕ) → n < 8 → n % 8 ≡ n
 small_mod n h = omega (arith, h)
 
@@ -177,12 +169,12 @@ can_post p =
       oldest = oldest_is p;
       there = posts_there p;
       attached = attached_is p;
-      sqid = ap (λ (z : ℕ). (sq_at p.c.sqs z).qid) i.region ∙ qid_of (sq_at p.c.sqs r) (record { qid = p.item.ready.sqid; cq_region = p.x }) (s.numbers.sq_queue r ∙ attached_is p);
+      sqid = i.sqid;
       cid = i.cid;
       status = λ j. record { sct = types j; sc = i.sc j };
       dw0 = i.dw0;
-      sqhd = ap (λ (z : ℕ). (sq_at p.c.sqs z).ring.head) i.region ∙ (s.doorbells.sqs r (some_slots p)).head_is ∙ (λ j. fetches j % s.numbers.sq_slots r j);
-      phase = s.doorbells.phases p.x ∙ (λ j. phase_after (posts j) (s.numbers.cq_slots p.x j));
+      sqhd = (s.doorbells.sqs (command p).sqid r (life_is p)).head_is ∙ (λ j. fetches j % (s.numbers.sqs (command p).sqid r (life_is p)).slots j);
+      phase = s.doorbells.phases p.cqid p.x p.life ∙ (λ j. phase_after (posts j) ((s.numbers.cqs p.cqid p.x p.life).slots j));
     }
 
 -- what the controller keeps holds afterwards

@@ -1,6 +1,6 @@
 -- After a post the slots of a controller have its commands.
-use Rattle.std.proofs.Common.{◌≡◌, ◌≢◌, ℕ, ◌-◌, ◌<◌, ◌≤◌, ◌^◌, ◌==◌, Bool, true, false, if◌then◌else◌, List, [], ◌∷◌, ◌++◌, length, refl, sym, ap, ◌∙◌, subst, arith, inl, inr, length-append}
-use Rattle.std.specs.Prelude.{slice_set, All}
+use Rattle.std.proofs.Common.{◌≡◌, ◌≢◌, ℕ, ◌-◌, ◌<◌, ◌≤◌, ◌^◌, ◌==◌, Bool, true, false, if◌then◌else◌, List, [], ◌∷◌, ◌++◌, length, map, drop, Option, Some, None, refl, sym, ap, ◌∙◌, subst, arith, inl, inr, length-append}
+use Rattle.std.specs.Prelude.{All}
 use Rattle.std.proofs.lemmas.Bool.{cases_eq, eq-eqb, ne_eqb, eqb-true}
 use Rattle.std.proofs.lemmas.Option.{same_Some}
 use Rattle.std.proofs.lemmas.List.Elements.{All-head, All-tail, All-same, All-map, All-weaker, All-push}
@@ -10,13 +10,20 @@ use Rattle.nvme_ctrl.specs.declared.chain.Chain.{Chain}
 use Rattle.nvme_ctrl.specs.kept.Standing.{IsReady}
 use Rattle.nvme_ctrl.specs.kept.Pool.{slot_at, item_at, IsNew, AreApart, IsChain}
 use Rattle.nvme_ctrl.specs.kept.State.{sq_at, cq_at}
-use Rattle.nvme_ctrl.specs.kept.Kept.{Item, ReadyItem, tags_of, ready_tags, readies_of, ready_state, IsWaitingIn, IsOutIn, IsReadyIn, IsAmongOuts, is_free, HasItems}
+use Rattle.nvme_ctrl.specs.kept.Kept.{Item, ReadyItem, tags_of, ready_tags, readies_of, ready_state, IsWaitingIn, IsOutIn, IsReadyIn, IsAmongOuts, is_free, candidate_of, picked_of, HasItems}
 use Rattle.nvme_ctrl.proofs.OwnStatus.{All-unmap}
-use Rattle.nvme_ctrl.proofs.RegionStates.{put_sq-each, put_cq-each}
+use Rattle.nvme_ctrl.proofs.Lives.{one_life, put_cq-lives}
+use Rattle.nvme_ctrl.proofs.PostNumbers.{sq_left}
+use Rattle.nvme_ctrl.specs.declared.state.Controller.{Controller}
 use Rattle.nvme_ctrl.proofs.Pools.{length-put_item, item_at-put_item_same, item_at-put_item_other, IsNew-by, AreApart-push, chain-put_item, chain-other, length-apart}
 use Rattle.nvme_ctrl.proofs.SlotItems.{All-both, at_put, ready_state-range, waiting_stays, out_stays, ready_stays}
 use Rattle.nvme_ctrl.proofs.PendingDeletions.{deletions_stay}
-use Rattle.nvme_ctrl.proofs.PostCall.{freed, PostCall, content, past_of, region, content_after, sq_after, controller_after, put_readies, items_after, ready_in, is_ready, sqs_have, cqs_have}
+use Rattle.nvme_ctrl.proofs.PostCall.{freed, PostCall, content, past_of, command, region, content_after, controller_after, put_readies, items_after, ready_in, life_is, is_ready, cqs_have}
+
+-- what is picked of a queue and not taken is left, where the picked commands are
+pub picked_left : (c before : Controller) → c.picked ≡ before.picked → c.picked_qid ≡ before.picked_qid → (o : Option ℕ) → picked_of c o ≡ picked_of before o
+picked_left c before picked queue None = refl
+picked_left c before picked queue (Some q) = λ j. if q == queue j then picked j else 0
 
 module _ (p : PostCall) where
   abbrev pub tag : ℕ
@@ -26,7 +33,7 @@ module _ (p : PostCall) where
   pub tag_inside : tag < length p.slots
   tag_inside =
       let P : ℕ → Type 0 = λ z. z < length p.slots in
-      All-head P tag (ready_tags p.rest) (All-same P (tag ∷ ready_tags p.rest) (ready_tags (p.stands.items.readies p.x)) (sym (ap ready_tags p.are)) (p.stands.has.ready_chain p.x).inside)
+      All-head P tag (ready_tags p.rest) (All-same P (tag ∷ ready_tags p.rest) (ready_tags (p.stands.items.readies p.x)) (sym (ap ready_tags p.are)) (p.stands.has.ready_chain p.cqid p.x p.life).inside)
 
   pub size_is : length p.new ≡ length p.slots
   size_is = p.did.items.size ∙ length-put_item p.slots tag (record (slot_at p.slots tag) { state = 0 })
@@ -61,15 +68,15 @@ module _ (p : PostCall) where
       chain-other (freed p.slots tag) p.new c xs p.stands.items.free (freed_chain c xs h)
       (p.did.links p.stands.items.free (freed_chain p.c.free p.stands.items.free p.stands.has.free_chain)) p.did.items.size new_to
 
-  window_unfree : (r : ℕ) → All (λ (y : ℕ). IsNew y p.stands.items.free) (tags_of (p.stands.items.windows r))
-  window_unfree r =
+  window_unfree : (q r : ℕ) → (content p).sq_life q ≡ Some r → All (λ (y : ℕ). IsNew y p.stands.items.free) (tags_of (p.stands.items.windows r))
+  window_unfree q r life =
       All-map (λ (y : ℕ). IsNew y p.stands.items.free) (λ (it : Item). it.tag) (p.stands.items.windows r)
-      (All-weaker (IsWaitingIn p.slots r) (λ (it : Item). IsNew it.tag p.stands.items.free) (λ it h. unfree it.tag 1 h.state (omega arith)) (p.stands.items.windows r) (p.stands.has.window_items r))
+      (All-weaker (IsWaitingIn p.slots q r) (λ (it : Item). IsNew it.tag p.stands.items.free) (λ it h. unfree it.tag 1 h.state (omega arith)) (p.stands.items.windows r) (p.stands.has.window_items q r life))
 
-  ready_unfree : (items : List ReadyItem) → All (IsReadyIn p.slots) items → All (λ (y : ℕ). IsNew y p.stands.items.free) (ready_tags items)
+  ready_unfree : (items : List ReadyItem) → All (IsReadyIn (content p).sq_id p.slots) items → All (λ (y : ℕ). IsNew y p.stands.items.free) (ready_tags items)
   ready_unfree items h =
       All-map (λ (y : ℕ). IsNew y p.stands.items.free) (λ (it : ReadyItem). it.tag) items
-      (All-weaker (IsReadyIn p.slots) (λ (it : ReadyItem). IsNew it.tag p.stands.items.free)
+      (All-weaker (IsReadyIn (content p).sq_id p.slots) (λ (it : ReadyItem). IsNew it.tag p.stands.items.free)
       (λ it i. unfree it.tag (ready_state it.was_out it.ready.with_queue) i.state (omega (arith, (ready_state-range it.was_out it.ready.with_queue).0))) items h)
 
   tag_unfree : IsNew tag p.stands.items.free
@@ -87,14 +94,14 @@ module _ (p : PostCall) where
       (omega (arith, few, length-append p.stands.items.free (tag ∷ []), p.stands.has.few))
 
   -- ---- items
-  waiting_kept : (r : ℕ) (it : Item) → IsWaitingIn p.slots r it → IsWaitingIn p.new r it
-  waiting_kept r it h = waiting_stays p.slots p.new tag size_is other_kept r it (lower it.tag 1 h.state (omega arith)) h
+  waiting_kept : (q r : ℕ) (it : Item) → IsWaitingIn p.slots q r it → IsWaitingIn p.new q r it
+  waiting_kept q r it h = waiting_stays p.slots p.new tag size_is other_kept q r it (lower it.tag 1 h.state (omega arith)) h
 
-  out_kept : (it : Item) → IsOutIn p.slots it → IsOutIn p.new it
-  out_kept it h = out_stays p.slots p.new tag size_is other_kept it (lower it.tag 2 h.state (omega arith)) h
+  out_kept : (it : Item) → IsOutIn (content p).sq_id p.slots it → IsOutIn (content p).sq_id p.new it
+  out_kept it h = out_stays p.slots p.new tag size_is other_kept (content p).sq_id it (lower it.tag 2 h.state (omega arith)) h
 
-  ready_kept : (it : ReadyItem) → IsReadyIn p.slots it → it.tag ≢ tag → IsReadyIn p.new it
-  ready_kept it h other = ready_stays p.slots p.new tag size_is other_kept it other h
+  ready_kept : (it : ReadyItem) → IsReadyIn (content p).sq_id p.slots it → it.tag ≢ tag → IsReadyIn (content p).sq_id p.new it
+  ready_kept it h other = ready_stays p.slots p.new tag size_is other_kept (content p).sq_id it other h
 
   free_kept : (y : ℕ) → is_free p.slots y → is_free p.new y
   free_kept y h = ap (λ (s : Slot). s.state) (other_kept y (lower y 0 h (omega arith))) ∙ h
@@ -103,7 +110,7 @@ module _ (p : PostCall) where
   -- in the same region the chain is apart
   rest_apart : All (λ (it : ReadyItem). it.tag ≢ tag) p.rest
   rest_apart =
-      let apart : AreApart (tag ∷ ready_tags p.rest) = subst AreApart (ap ready_tags p.are) (p.stands.has.ready_chain p.x).apart in
+      let apart : AreApart (tag ∷ ready_tags p.rest) = subst AreApart (ap ready_tags p.are) (p.stands.has.ready_chain p.cqid p.x p.life).apart in
       All-unmap (λ (y : ℕ). y ≢ tag) (λ (it : ReadyItem). it.tag) p.rest apart.0
 
   -- and what is ready in another one is of another queue
@@ -112,40 +119,44 @@ module _ (p : PostCall) where
       All-unmap (IsReady (past_of p) (content p).deletion y) (λ (it : ReadyItem). it.ready) (p.stands.items.readies y)
       (All-same (IsReady (past_of p) (content p).deletion y) (readies_of (p.stands.items.readies y)) ((content p).cq y).ready (sym (p.stands.has.ready_is y)) (p.stands.holds.ready.each y))
 
-  elsewhere_apart : (y : ℕ) → y ≢ p.x → (it : ReadyItem) → IsReadyIn p.slots it → IsReady (past_of p) (content p).deletion y it.ready → it.tag ≢ tag
+  elsewhere_apart : (y : ℕ) → y ≢ p.x → (it : ReadyItem) → IsReadyIn (content p).sq_id p.slots it → IsReady (past_of p) (content p).deletion y it.ready → it.tag ≢ tag
   elsewhere_apart y other it i h same =
-      let regions : it.ready.place.region ≡ region p = sym i.region ∙ ap (λ (z : ℕ). (slot_at p.slots z).region) same ∙ (ready_in p).region in
+      let ids = p.stands.numbers.sq_ids in
+      let life : (content p).sq_life (command p).sqid ≡ Some it.ready.place.region =
+      subst (λ (z : ℕ). (content p).sq_life (slot_at p.slots z).sqid ≡ Some it.ready.place.region) same (ids.lives_are it.ready.place.region (slot_at p.slots it.tag).sqid i.queue) in
+      let regions : it.ready.place.region ≡ region p = one_life (content p).sq_life (command p).sqid it.ready.place.region (region p) life (life_is p) in
       other (same_Some y p.x (sym h.region ∙ ap (λ (r : ℕ). cq_region_of (past_of p) r) regions ∙ (is_ready p).region))
 
   -- what is ready before, in its region without the command
-  rest_ready : All (IsReadyIn p.slots) p.rest
-  rest_ready = All-tail (IsReadyIn p.slots) p.item p.rest (All-same (IsReadyIn p.slots) (p.item ∷ p.rest) (p.stands.items.readies p.x) (sym p.are) (p.stands.has.ready_items p.x))
+  rest_ready : All (IsReadyIn (content p).sq_id p.slots) p.rest
+  rest_ready =
+      let P = IsReadyIn (content p).sq_id p.slots in
+      All-tail P p.item p.rest (All-same P (p.item ∷ p.rest) (p.stands.items.readies p.x) (sym p.are) (p.stands.has.ready_items p.x))
 
-  pub readies_before : (y : ℕ) → All (IsReadyIn p.slots) ((items_after p).readies y)
-  readies_before = at_put (λ y items. All (IsReadyIn p.slots) items) p.stands.items.readies p.x p.rest rest_ready (λ y d. p.stands.has.ready_items y)
+  pub readies_before : (y : ℕ) → All (IsReadyIn (content p).sq_id p.slots) ((items_after p).readies y)
+  readies_before = at_put (λ y items. All (IsReadyIn (content p).sq_id p.slots) items) p.stands.items.readies p.x p.rest rest_ready (λ y d. p.stands.has.ready_items y)
 
   pub readies_apart : (y : ℕ) → All (λ (it : ReadyItem). it.tag ≢ tag) ((items_after p).readies y)
   readies_apart = at_put (λ y items. All (λ (it : ReadyItem). it.tag ≢ tag) items) p.stands.items.readies p.x p.rest rest_apart
-      (λ y d. All-both (IsReadyIn p.slots) (λ (it : ReadyItem). IsReady (past_of p) (content p).deletion y it.ready) (λ (it : ReadyItem). it.tag ≢ tag)
+      (λ y d. All-both (IsReadyIn (content p).sq_id p.slots) (λ (it : ReadyItem). IsReady (past_of p) (content p).deletion y it.ready) (λ (it : ReadyItem). it.tag ≢ tag)
       (elsewhere_apart y d) (p.stands.items.readies y) (p.stands.has.ready_items y) (ready_of y))
 
   -- the chain of the ready slots, without the first one
   rest_chain : IsChain p.slots p.cq.ready (ready_tags p.rest)
-  rest_chain = p.did.rest tag (ready_tags p.rest) (subst (IsChain p.slots (cq_at p.c.cqs p.x).ready) (ap ready_tags p.are) (p.stands.has.ready_chain p.x))
+  rest_chain = p.did.rest tag (ready_tags p.rest) (subst (IsChain p.slots (cq_at p.c.cqs p.cqid).ready) (ap ready_tags p.are) (p.stands.has.ready_chain p.cqid p.x p.life))
 
   -- of both the states and the lists
-  ready_chains : (y : ℕ) → IsChain p.slots (cq_at (slice_set p.c.cqs p.x p.cq) y).ready (ready_tags ((items_after p).readies y))
-  ready_chains y = elim (cases_eq y p.x) [
-    | inl same ↦ subst (λ (n : ℕ). IsChain p.slots (cq_at (slice_set p.c.cqs p.x p.cq) n).ready (ready_tags ((items_after p).readies n))) (sym same)
-        (rw (eq-eqb p.x p.x refl, put_readies) here)
-    | inr other ↦ rw (ne_eqb y p.x other, put_readies) (there y other)
-  ] where
-    here : IsChain p.slots (cq_at (slice_set p.c.cqs p.x p.cq) p.x).ready (ready_tags p.rest)
-    here = put_cq-each (λ y s. y ≡ p.x → IsChain p.slots s.ready (ready_tags p.rest)) p.c.cqs p.x p.cq (cqs_have p) (λ e. rest_chain) (λ y d e. absurd (d e)) p.x refl
+  ready_chains : (q y : ℕ) → (content p).cq_life q ≡ Some y → IsChain p.slots (cq_at (controller_after p).cqs q).ready (ready_tags ((items_after p).readies y))
+  ready_chains =
+      put_cq-lives (λ q y state s (items : List ReadyItem). IsChain p.slots state.ready (ready_tags items)) (content p).cq_life (content p).cq_id p.stands.numbers.cq_ids p.c.cqs (content p).cq
+      p.stands.items.readies p.cqid p.x p.cq ((content p).cq p.x) p.rest p.life (cqs_have p) rest_chain (λ q y other apart life. p.stands.has.ready_chain q y life)
 
-    there : (y : ℕ) → y ≢ p.x → IsChain p.slots (cq_at (slice_set p.c.cqs p.x p.cq) y).ready (ready_tags (p.stands.items.readies y))
-    there y other = put_cq-each (λ z s. z ≢ p.x → IsChain p.slots s.ready (ready_tags (p.stands.items.readies z))) p.c.cqs p.x p.cq (cqs_have p)
-        (λ d. absurd (d refl)) (λ z d e. p.stands.has.ready_chain z) y other
+  -- nothing is ready where no queue is open
+  ready_none_after : (y : ℕ) → (content p).cq_id y ≡ None → (items_after p).readies y ≡ []
+  ready_none_after y none = elim (cases_eq y p.x) [
+    | inl same ↦ absurd (let id = subst (λ (z : ℕ). (content p).cq_id z ≡ Some p.cqid) (sym same) (p.stands.numbers.cq_ids.ids_are p.cqid p.x p.life) in cc (id, none))
+    | inr other ↦ rw (ne_eqb y p.x other, put_readies) (p.stands.has.ready_none y none)
+  ]
 
   pub ready_contents : (y : ℕ) → ((content_after p).cq y).ready ≡ readies_of ((items_after p).readies y)
   ready_contents y = elim (cases_eq y p.x) [
@@ -158,10 +169,10 @@ module _ (p : PostCall) where
   tag_cookie = ap (λ (s : Slot). s.cookie) (p.did.items.items tag ∙ item_at-put_item_same p.slots tag (record (slot_at p.slots tag) { state = 0 }) tag_inside)
 
   -- ---- all of it
-  window_after : (r : ℕ) → IsChain p.new (sq_at (controller_after p).sqs r).window (tags_of (p.stands.items.windows r))
-  window_after = put_sq-each (λ r s. IsChain p.new s.window (tags_of (p.stands.items.windows r))) p.c.sqs (region p) (sq_after p.c (region p)) (sqs_have p)
-      (chain_kept (sq_at p.c.sqs (region p)).window (tags_of (p.stands.items.windows (region p))) (p.stands.has.window_chain (region p)) (window_unfree (region p)))
-      (λ r d. chain_kept (sq_at p.c.sqs r).window (tags_of (p.stands.items.windows r)) (p.stands.has.window_chain r) (window_unfree r))
+  window_after : (q r : ℕ) → (content p).sq_life q ≡ Some r → IsChain p.new (sq_at (controller_after p).sqs q).window (tags_of (p.stands.items.windows r))
+  window_after q r life =
+      subst (λ (window : Chain). IsChain p.new window (tags_of (p.stands.items.windows r))) (sym (sq_left p q r life).window)
+      (chain_kept (sq_at p.c.sqs q).window (tags_of (p.stands.items.windows r)) (p.stands.has.window_chain q r life) (window_unfree q r life))
 
   windows_are : (r : ℕ) → ((content_after p).sq r).window ≡ ((content p).sq r).window
   windows_are r = by (r == region p) refl where
@@ -180,17 +191,22 @@ module _ (p : PostCall) where
       let h = p.stands.has in
       record {
         window_chain = window_after;
-        window_items = λ r. All-weaker (IsWaitingIn p.slots r) (IsWaitingIn p.new r) (waiting_kept r) (p.stands.items.windows r) (h.window_items r);
-        window_is = λ r. windows_are r ∙ h.window_is r;
+        window_items = λ q r life. All-weaker (IsWaitingIn p.slots q r) (IsWaitingIn p.new q r) (waiting_kept q r) (p.stands.items.windows r) (h.window_items q r life);
+        window_none = h.window_none;
+        window_is = λ r. windows_are r ∙ h.window_is r
+            ∙ ap (λ (n : ℕ). map candidate_of (drop n (p.stands.items.windows r))) (sym (picked_left (controller_after p) p.c refl refl ((content p).sq_id r)));
         picked_there = h.picked_there;
-        outs_items = All-weaker (IsOutIn p.slots) (IsOutIn p.new) out_kept p.stands.items.outs h.outs_items;
+        outs_items = All-weaker (IsOutIn (content p).sq_id p.slots) (IsOutIn (content p).sq_id p.new) out_kept p.stands.items.outs h.outs_items;
         outs_apart = h.outs_apart;
         outs_all = outs_among;
         hand_is = h.hand_is;
-        ready_chain = λ y. chain_kept (cq_at (slice_set p.c.cqs p.x p.cq) y).ready (ready_tags ((items_after p).readies y)) (ready_chains y) (ready_unfree ((items_after p).readies y) (readies_before y));
-        ready_items = λ y. All-both (IsReadyIn p.slots) (λ (it : ReadyItem). it.tag ≢ tag) (IsReadyIn p.new) ready_kept ((items_after p).readies y) (readies_before y) (readies_apart y);
+        ready_chain = λ q y life. chain_kept (cq_at (controller_after p).cqs q).ready (ready_tags ((items_after p).readies y)) (ready_chains q y life)
+            (ready_unfree ((items_after p).readies y) (readies_before y));
+        ready_items = λ y. All-both (IsReadyIn (content p).sq_id p.slots) (λ (it : ReadyItem). it.tag ≢ tag) (IsReadyIn (content p).sq_id p.new) ready_kept ((items_after p).readies y)
+            (readies_before y) (readies_apart y);
+        ready_none = ready_none_after;
         ready_is = ready_contents;
-        deletions = deletions_stay p.c.deletions p.c.pending_deletions p.slots p.new (content p).deletion p.stands.items.deletes tag size_is other_kept
+        deletions = deletions_stay p.c.deletions p.c.pending_deletions p.slots p.new (content p).sq_life (content p).deletion p.stands.items.deletes tag size_is other_kept
             (λ r it is. higher it.tag 6 (h.deletions.items r it is).state (omega arith)) h.deletions;
         free_chain = free_after;
         free_items = All-push (is_free p.new) p.stands.items.free tag (All-weaker (is_free p.slots) (is_free p.new) free_kept p.stands.items.free h.free_items) tag_freed;

@@ -2,11 +2,11 @@
 use Rattle.nvme_log.proofs.Turns.{admin-unaborted}
 use Rattle.nvme_log.specs.Account.{PostsOwnBy}
 use Rattle.nvme_ctrl.proofs.Noted.{each-event}
-use Rattle.std.proofs.Common.{◌≡◌, ◌≢◌, ℕ, ◌+◌, ◌≤◌, ◌%◌, ◌==◌, ◌&&◌, ◌⊎◌, Bool, true, false, if◌then◌else◌, List, [], ◌∷◌, ◌++◌, length, Option, Some, None, is_some, refl, get_or, sym, ap, ◌∙◌, subst, arith, length-append, inl, inr, eqb-true, MatchBool}
+use Rattle.std.proofs.Common.{◌≡◌, ◌≢◌, ℕ, ◌+◌, ◌<◌, ◌≤◌, ◌%◌, ◌==◌, ◌&&◌, ◌⊎◌, Bool, true, false, if◌then◌else◌, List, [], ◌∷◌, ◌++◌, length, Option, Some, None, is_some, refl, get_or, sym, ap, ◌∙◌, subst, arith, length-append, inl, inr, eqb-true, MatchBool}
 use Rattle.std.specs.Prelude.{All, slice_set}
 use Rattle.std.proofs.lemmas.Bool.{cases_eq, eq-eqb, ne_eqb, or_left, or_right, and_parts}
 use Rattle.std.proofs.lemmas.List.Sums.{get_or-le-sum_by}
-use Rattle.std.proofs.lemmas.List.Elements.{All-head, All-tail, All-same, All-weaker}
+use Rattle.std.proofs.lemmas.List.Elements.{All-nil, All-head, All-tail, All-same, All-weaker}
 use Rattle.nvme_entry.specs.Status.{StatusCode}
 use Rattle.nvme_entry.specs.declared.submission.Sqe.{Sqe}
 use Rattle.nvme_entry.specs.declared.completion.Cqe.{Cqe}
@@ -24,7 +24,7 @@ use Rattle.nvme_ctrl.specs.declared.slot.Slot.{Slot}
 use Rattle.nvme_ctrl.specs.kept.Content.{Ready}
 use Rattle.nvme_ctrl.specs.kept.Standing.{Holds, answer_in, hand_of, times_held, held_upto}
 use Rattle.nvme_ctrl.specs.kept.Pool.{slot_at, put_item, marks_in, IsChain}
-use Rattle.nvme_ctrl.specs.kept.State.{cq_at}
+use Rattle.nvme_ctrl.specs.kept.State.{no_cq_state, cq_at}
 use Rattle.nvme_ctrl.specs.inside.Next.{IsNext}
 use Rattle.nvme_ctrl.specs.inside.Posting.{completion_of, counted_post}
 use Rattle.nvme_ctrl.specs.Calls.{HasPosted}
@@ -37,12 +37,11 @@ use Rattle.nvme_ctrl.proofs.NextEvents.{next-post, posts-as-ready, oldest_answer
 use Rattle.nvme_ctrl.proofs.OwnStatus.{All-unmap, IsAnswerable, ready_is_answerable}
 use Rattle.nvme_ctrl.proofs.PostedPlaces.{ready_unanswered}
 use Rattle.nvme_ctrl.proofs.ReadyHand.{times_held-append}
-use Rattle.nvme_ctrl.proofs.PostCall.{freed, HasDone, PostCall, content, past_of, command, region, index, cqe_of, event_of, later, notes_after, content_after, controller_by, controller_after, items_after, ready_in, oldest_is, can_post, holds_after}
+use Rattle.nvme_ctrl.proofs.PostCall.{freed, HasDone, PostCall, content, past_of, command, region, index, cqe_of, event_of, later, notes_after, content_after, controller_after, items_after, ready_in, oldest_is, can_post, holds_after}
 use Rattle.nvme_ctrl.proofs.PostNumbers.{numbers_after, counts_before, has_room, doorbells_after}
 use Rattle.nvme_ctrl.proofs.PostItems.{tag, size_is, other_kept, tag_freed, ready_contents, has_after, tag_cookie}
 use Rattle.nvme_ctrl.proofs.OutTags.{still_not_out-logged}
 use Rattle.nvme_ctrl.proofs.SlotItems.{All-both, All-parts, at_put}
-use Rattle.nvme_admin.specs.declared.bounds.TheConstants.{MAX_REGIONS}
 
 -- ---- who holds a tag after a post
 -- another place than the posted one keeps its tag
@@ -133,12 +132,12 @@ module _ (p : PostCall) where
   none_in_hand : times_held (region p) (index p) (content p).hand ≡ 0
   none_in_hand =
       let all = (oldest_answerable (past_of p) (content p) p.x p.item.ready (readies_of p.rest) p.stands.holds.ready (oldest_is p)).not_held in
-      omega (arith, all, times_held-append (region p) (index p) (content p).hand (held_upto (content p).deletion MAX_REGIONS))
+      omega (arith, all, times_held-append (region p) (index p) (content p).hand (held_upto (content p).deletion (content p).nsq))
 
   outs_other : All (λ (it : Item). IsOther it.place) p.stands.items.outs
   outs_other =
-      let held : List Item = p.stands.items.outs ++ untaken p.c p.stands.items in
-      (All-parts (λ (it : Item). IsOther it.place) p.stands.items.outs (untaken p.c p.stands.items)
+      let held : List Item = p.stands.items.outs ++ untaken p.c (content p) p.stands.items in
+      (All-parts (λ (it : Item). IsOther it.place) p.stands.items.outs (untaken p.c (content p) p.stands.items)
       (All-unmap IsOther (λ (it : Item). it.place) held
       (All-same IsOther (places_of held) (content p).hand (sym p.stands.has.hand_is) (none_held_there (region p) (index p) (content p).hand none_in_hand)))).0
 
@@ -187,7 +186,7 @@ module _ (p : PostCall) where
         size_is p,
       )
 
-  pub tags_after : HoldsTags (notes_after p) (controller_after p) p.new (items_after p)
+  pub tags_after : HoldsTags (notes_after p) (controller_after p) p.new (content_after p) (items_after p)
   tags_after =
       let h = p.stands.tags in
       record {
@@ -291,7 +290,7 @@ module _ (p : PostCall) where
         posts_own = posts_own on_time first.no_post first.was_served;
         leaves_places = next.leaves_places;
         fetches_submitted = tt;
-        posts_on_free_slot = omega (arith, has_room p, p.stands.holds.tabled.cq_slots p.x, p.stands.numbers.cq_slots p.x);
+        posts_on_free_slot = omega (arith, has_room p, p.stands.holds.tabled.cq_slots p.x, (p.stands.numbers.cqs p.cqid p.x p.life).slots);
         posts_what_is_through = elim through [
           | inl aborted ↦ or_left (is_aborted (past_of p) (region p) (index p)) (is_some (answer_of p.notes (region p) (index p))) aborted
           | inr answered ↦ or_right (is_aborted (past_of p) (region p) (index p)) (is_some (answer_of p.notes (region p) (index p))) (rw answered refl)
@@ -313,52 +312,58 @@ kept p = of_item p (HasReadyCookie p.notes p.slots) (p.stands.tags.cookies.readi
 marked : (p : PostCall) → marks_in (command p) ≡ marks_or (cqe_of p).status (marks_of p.notes (region p) (index p))
 marked p = (ready_in p).marks ∙ of_item p (HasMarks p.notes) (p.stands.tags.marks p.x) ∙ ap (λ (s : StatusCode). marks_or s (marks_of p.notes (region p) (index p))) (sym (can_post p).status)
 
-pub stands_after : (p : PostCall) → StandsAt p.rules p.late (notes_after p) (controller_by p (command p).region) p.new
-stands_after p =
-    subst (λ (r : ℕ). StandsAt p.rules p.late (notes_after p) (controller_by p r) p.new) (sym (ready_in p).region)
-    (record {
-      content = content_after p;
-      items = items_after p;
-      holds = holds_after p;
-      numbers = numbers_after p;
-      has = has_after p;
-      doorbells = doorbells_after p;
-      tags = tags_after p;
-      shown = record { held = p.stands.shown.held; classed = p.stands.shown.classed };
-      account = account_after p;
-    })
+pub stands_after : (p : PostCall) → StandsAt p.rules p.late (notes_after p) (controller_after p) p.new
+stands_after p = record {
+  content = content_after p;
+  items = items_after p;
+  holds = holds_after p;
+  numbers = numbers_after p;
+  has = has_after p;
+  doorbells = doorbells_after p;
+  tags = tags_after p;
+  shown = record { held = p.stands.shown.held; classed = p.stands.shown.classed };
+  regions = record { sqs = p.stands.regions.sqs; cqs = p.stands.regions.cqs };
+  account = account_after p;
+}
 
 pub posted_call : (p : PostCall)
-    → HasPosted p.rules p.late p.notes p.x (cq_at p.c.cqs p.x).ring.tail (cqe_of p) (command p).cookie (marks_in (command p)) (controller_by p (command p).region) p.new
+    → HasPosted p.rules p.late p.notes p.cqid (cq_at p.c.cqs p.cqid).ring.tail (cqe_of p) (command p).cookie (marks_in (command p)) (controller_after p) p.new
 posted_call p = record {
+  x = p.x;
+  is_open = sym (p.stands.holds.lives.cqs p.cqid) ∙ p.life;
   region = region p;
   index = index p;
-  slot_is = (counts_before p).tail_is ∙ ap (λ (n : ℕ). length (posted_to (past_of p) p.x) % n) (p.stands.numbers.cq_slots p.x ∙ sym (p.stands.holds.tabled.cq_slots p.x));
+  slot_is = (counts_before p).tail_is ∙ ap (λ (n : ℕ). length (posted_to (past_of p) p.x) % n) ((p.stands.numbers.cqs p.cqid p.x p.life).slots ∙ sym (p.stands.holds.tabled.cq_slots p.x));
   kept = kept p;
   marked = marked p;
   stands = stands_after p;
 }
 
 -- the controller that the function leaves
-abbrev pub left_by : Controller → List Slot → ℕ → ℕ → CqState → Chain → Controller
-left_by c slots x tag cq free = record (counted_post (record c { cqs = slice_set c.cqs x cq }) (slot_at slots tag)) { free = free }
+abbrev pub left_by : Controller → List Slot → (cqid tag : ℕ) → CqState → Chain → Controller
+left_by c slots cqid tag cq free = record (counted_post (record c { cqs = slice_set c.cqs cqid cq }) (slot_at slots tag)) { free = free }
 
-pub call_posts : (rules : FrontRules) (late : Bool) (notes : Notes) (c : Controller) (slots : List Slot) (x tag : ℕ) (cq : CqState) (free : Chain) (new : List Slot)
-    → StandsAt rules late notes c slots → HasDone (cq_at c.cqs x) c.free slots (freed slots tag) tag cq free new
-    → HasPosted rules late notes x (cq_at c.cqs x).ring.tail (completion_of c (slot_at slots tag) ((cq_at c.cqs x).phase == 1)) (slot_at slots tag).cookie (marks_in (slot_at slots tag)) (left_by c slots x tag cq free) new
-call_posts rules late notes c slots x tag cq free new stands did = by (stands.items.readies x) refl where
-  by : (items : List ReadyItem) → stands.items.readies x ≡ items
-      → HasPosted rules late notes x (cq_at c.cqs x).ring.tail (completion_of c (slot_at slots tag) ((cq_at c.cqs x).phase == 1)) (slot_at slots tag).cookie (marks_in (slot_at slots tag)) (left_by c slots x tag cq free) new
-  by [] e = absurd (did.some (subst (λ (items : List ReadyItem). IsChain slots (cq_at c.cqs x).ready (ready_tags items)) e (stands.has.ready_chain x)))
-  by (item ∷ rest) e =
-      let same : item.tag ≡ tag = did.first item.tag (ready_tags rest) (subst (λ (items : List ReadyItem). IsChain slots (cq_at c.cqs x).ready (ready_tags items)) e (stands.has.ready_chain x)) in
-      subst (λ (z : ℕ). HasPosted rules late notes x (cq_at c.cqs x).ring.tail (completion_of c (slot_at slots z) ((cq_at c.cqs x).phase == 1)) (slot_at slots z).cookie (marks_in (slot_at slots z)) (left_by c slots x z cq free) new) same
+-- no completion is ready in a queue that isn't open
+none_open : (c : Controller) (slots : List Slot) (cqid : ℕ) → cq_at c.cqs cqid ≡ no_cq_state → IsChain slots (cq_at c.cqs cqid).ready []
+none_open c slots cqid none = subst (λ (s : CqState). IsChain slots s.ready []) (sym none) (record { len_is = refl; inside = All-nil (λ (x : ℕ). x < length slots); apart = tt; linked = tt })
+
+pub call_posts : (rules : FrontRules) (late : Bool) (notes : Notes) (c : Controller) (slots : List Slot) (cqid tag : ℕ) (cq : CqState) (free : Chain) (new : List Slot)
+    → StandsAt rules late notes c slots → HasDone (cq_at c.cqs cqid) c.free slots (freed slots tag) tag cq free new
+    → HasPosted rules late notes cqid (cq_at c.cqs cqid).ring.tail (completion_of c (slot_at slots tag) ((cq_at c.cqs cqid).phase == 1)) (slot_at slots tag).cookie (marks_in (slot_at slots tag)) (left_by c slots cqid tag cq free) new
+call_posts rules late notes c slots cqid tag cq free new stands did = by (stands.content.cq_life cqid) refl where
+  on : (x : ℕ) → stands.content.cq_life cqid ≡ Some x → (items : List ReadyItem) → stands.items.readies x ≡ items
+      → HasPosted rules late notes cqid (cq_at c.cqs cqid).ring.tail (completion_of c (slot_at slots tag) ((cq_at c.cqs cqid).phase == 1)) (slot_at slots tag).cookie (marks_in (slot_at slots tag)) (left_by c slots cqid tag cq free) new
+  on x life [] e = absurd (did.some (subst (λ (items : List ReadyItem). IsChain slots (cq_at c.cqs cqid).ready (ready_tags items)) e (stands.has.ready_chain cqid x life)))
+  on x life (item ∷ rest) e =
+      let same : item.tag ≡ tag = did.first item.tag (ready_tags rest) (subst (λ (items : List ReadyItem). IsChain slots (cq_at c.cqs cqid).ready (ready_tags items)) e (stands.has.ready_chain cqid x life)) in
+      subst (λ (z : ℕ). HasPosted rules late notes cqid (cq_at c.cqs cqid).ring.tail (completion_of c (slot_at slots z) ((cq_at c.cqs cqid).phase == 1)) (slot_at slots z).cookie (marks_in (slot_at slots z)) (left_by c slots cqid z cq free) new) same
       (posted_call (record {
         rules = rules;
         late = late;
         notes = notes;
         c = c;
         slots = slots;
+        cqid = cqid;
         x = x;
         item = item;
         rest = rest;
@@ -366,27 +371,33 @@ call_posts rules late notes c slots x tag cq free new stands did = by (stands.it
         free = free;
         new = new;
         stands = stands;
+        life = life;
         are = e;
-        did = subst (λ (z : ℕ). HasDone (cq_at c.cqs x) c.free slots (freed slots z) z cq free new) (sym same) did;
+        did = subst (λ (z : ℕ). HasDone (cq_at c.cqs cqid) c.free slots (freed slots z) z cq free new) (sym same) did;
       }))
 
+  by : (o : Option ℕ) → stands.content.cq_life cqid ≡ o
+      → HasPosted rules late notes cqid (cq_at c.cqs cqid).ring.tail (completion_of c (slot_at slots tag) ((cq_at c.cqs cqid).phase == 1)) (slot_at slots tag).cookie (marks_in (slot_at slots tag)) (left_by c slots cqid tag cq free) new
+  by None closed = absurd (did.some (none_open c slots cqid (stands.numbers.no_cqs cqid closed)))
+  by (Some x) life = on x life (stands.items.readies x) refl
+
 -- so do the steps of the function, one after another
-pub steps_post : (rules : FrontRules) (late : Bool) (notes : Notes) (c put counted : Controller) (slots pool : List Slot) (x tag : ℕ) (old cq : CqState) (command : Slot) (free : Chain)
+pub steps_post : (rules : FrontRules) (late : Bool) (notes : Notes) (c put counted : Controller) (slots pool : List Slot) (cqid tag : ℕ) (old cq : CqState) (command : Slot) (free : Chain)
     (new : List Slot) (cqe : Cqe)
-    → old ≡ cq_at c.cqs x → command ≡ slot_at slots tag → cqe ≡ completion_of c command (old.phase == 1) → put ≡ record c { cqs = slice_set c.cqs x cq }
+    → old ≡ cq_at c.cqs cqid → command ≡ slot_at slots tag → cqe ≡ completion_of c command (old.phase == 1) → put ≡ record c { cqs = slice_set c.cqs cqid cq }
     → counted ≡ counted_post put command → pool ≡ put_item slots tag (record command { state = 0 })
     → HasDone old counted.free slots pool tag cq free new → StandsAt rules late notes c slots
-    → HasPosted rules late notes x old.ring.tail cqe command.cookie (marks_in command) (record counted { free = free }) new
-steps_post rules late notes c put counted slots pool x tag old cq command free new cqe is_old is_command is_cqe is_put is_counted is_pool did stands =
-    let first : cqe ≡ completion_of c (slot_at slots tag) ((cq_at c.cqs x).phase == 1) = is_cqe ∙ (λ j. completion_of c (is_command j) ((is_old j).phase == 1)) in
-    let left : counted ≡ counted_post (record c { cqs = slice_set c.cqs x cq }) (slot_at slots tag) = is_counted ∙ (λ j. counted_post (is_put j) (is_command j)) in
+    → HasPosted rules late notes cqid old.ring.tail cqe command.cookie (marks_in command) (record counted { free = free }) new
+steps_post rules late notes c put counted slots pool cqid tag old cq command free new cqe is_old is_command is_cqe is_put is_counted is_pool did stands =
+    let first : cqe ≡ completion_of c (slot_at slots tag) ((cq_at c.cqs cqid).phase == 1) = is_cqe ∙ (λ j. completion_of c (is_command j) ((is_old j).phase == 1)) in
+    let left : counted ≡ counted_post (record c { cqs = slice_set c.cqs cqid cq }) (slot_at slots tag) = is_counted ∙ (λ j. counted_post (is_put j) (is_command j)) in
     let pools : pool ≡ freed slots tag = is_pool ∙ ap (λ (s : Slot). put_item slots tag (record s { state = 0 })) is_command in
-    let done : HasDone (cq_at c.cqs x) c.free slots (freed slots tag) tag cq free new =
+    let done : HasDone (cq_at c.cqs cqid) c.free slots (freed slots tag) tag cq free new =
     subst (λ (o : CqState). HasDone o c.free slots (freed slots tag) tag cq free new) is_old
     (subst (λ (b : Chain). HasDone old b slots (freed slots tag) tag cq free new) (ap (λ (k : Controller). k.free) left)
     (subst (λ (q : List Slot). HasDone old counted.free slots q tag cq free new) pools did)) in
-    subst (λ (t : ℕ). HasPosted rules late notes x t cqe command.cookie (marks_in command) (record counted { free = free }) new) (sym (ap (λ (o : CqState). o.ring.tail) is_old))
-    (subst (λ (s : Slot). HasPosted rules late notes x (cq_at c.cqs x).ring.tail cqe s.cookie (marks_in s) (record counted { free = free }) new) (sym is_command)
-    (subst (λ (q : Cqe). HasPosted rules late notes x (cq_at c.cqs x).ring.tail q (slot_at slots tag).cookie (marks_in (slot_at slots tag)) (record counted { free = free }) new) (sym first)
-    (subst (λ (k : Controller). HasPosted rules late notes x (cq_at c.cqs x).ring.tail (completion_of c (slot_at slots tag) ((cq_at c.cqs x).phase == 1)) (slot_at slots tag).cookie (marks_in (slot_at slots tag)) (record k { free = free }) new) (sym left)
-    (call_posts rules late notes c slots x tag cq free new stands done))))
+    subst (λ (t : ℕ). HasPosted rules late notes cqid t cqe command.cookie (marks_in command) (record counted { free = free }) new) (sym (ap (λ (o : CqState). o.ring.tail) is_old))
+    (subst (λ (s : Slot). HasPosted rules late notes cqid (cq_at c.cqs cqid).ring.tail cqe s.cookie (marks_in s) (record counted { free = free }) new) (sym is_command)
+    (subst (λ (q : Cqe). HasPosted rules late notes cqid (cq_at c.cqs cqid).ring.tail q (slot_at slots tag).cookie (marks_in (slot_at slots tag)) (record counted { free = free }) new) (sym first)
+    (subst (λ (k : Controller). HasPosted rules late notes cqid (cq_at c.cqs cqid).ring.tail (completion_of c (slot_at slots tag) ((cq_at c.cqs cqid).phase == 1)) (slot_at slots tag).cookie (marks_in (slot_at slots tag)) (record k { free = free }) new) (sym left)
+    (call_posts rules late notes c slots cqid tag cq free new stands done))))

@@ -1,39 +1,72 @@
 -- After a post the numbers of a controller are those of its content, and its rings go by the doorbells.
-use Rattle.std.proofs.Common.{◌≡◌, ◌≢◌, ℕ, ◌+◌, ◌-◌, ◌<◌, ◌==◌, Bool, true, false, not, if◌then◌else◌, List, [], ◌∷◌, length, refl, sym, ap, ◌∙◌, subst, arith, inl, inr, length-append}
-use Rattle.std.specs.Prelude.{slice_set}
-use Rattle.std.proofs.lemmas.Bool.{cases_eq, eq-eqb, ne_eqb}
-use Rattle.std.proofs.lemmas.List.{length-set, get_or-set_same, get_or-set_other}
+use Rattle.std.proofs.Common.{◌≡◌, ◌≢◌, ℕ, ◌+◌, ◌-◌, ◌<◌, ◌==◌, Bool, true, false, not, if◌then◌else◌, [], ◌∷◌, length, Option, Some, None, ◌||◌, refl, sym, ap, ◌∙◌, subst, arith, length-append}
+use Rattle.std.proofs.lemmas.Bool.{eq-eqb, ne_eqb, or_left, or_right}
+use Rattle.std.proofs.lemmas.List.{length-set}
 use Rattle.nvme_log.specs.Places.{fetched, one_if}
 use Rattle.nvme_log.specs.Completions.{posted_to, phase_after}
 use Rattle.nvme_ctrl.specs.Doorbells.{submitted, consumed}
 use Rattle.nvme_ctrl.specs.Rings.{HasCounts}
 use Rattle.nvme_ctrl.specs.declared.state.SqState.{SqState}
-use Rattle.nvme_ctrl.specs.declared.state.CqState.{CqState}
-use Rattle.nvme_ctrl.specs.kept.Content.{SqContent, CqContent, put_sq, put_cq}
-use Rattle.nvme_ctrl.specs.kept.State.{no_sq_state, no_cq_state, sq_at, cq_at, attachment_of}
+use Rattle.nvme_ctrl.specs.kept.Content.{SqContent, CqContent}
+use Rattle.nvme_ctrl.specs.kept.State.{no_sq_state, no_cq_state, sq_at, cq_at}
 use Rattle.nvme_ctrl.specs.kept.Kept.{ready_state, readies_of, HasNumbers, HoldsDoorbells}
 use Rattle.nvme_ctrl.proofs.AfterSteps.{posted_cq}
-use Rattle.nvme_ctrl.proofs.RegionStates.{put_sq-each, put_cq-each}
+use Rattle.nvme_ctrl.proofs.Lives.{put_sq-lives, put_cq-lives, put_sq-states, put_cq-states}
+use Rattle.nvme_ctrl.proofs.SlotItems.{at_put}
+use Rattle.nvme_log.specs.declared.event.Event.TheVariants.{OpenCq, ClosedCq}
+use Rattle.nvme_log.specs.Rules.{Past}
+use Rattle.nvme_log.specs.Queues.{open_cq}
+use Rattle.nvme_ctrl.specs.kept.Standing.{is_opened_cq}
+use Rattle.nvme_ctrl.specs.declared.ring.Ring.{Ring}
+use Rattle.std.proofs.lemmas.Option.{same_Some}
 use Rattle.nvme_ctrl.proofs.Turns.{filled-is}
-use Rattle.nvme_ctrl.proofs.PostCall.{PostCall, content, past_of, region, cqe_of, later, notes_after, content_after, sq_after, controller_after, ready_in, sqs_have, cqs_have}
+use Rattle.nvme_ctrl.proofs.PostCall.{PostCall, content, past_of, command, region, cqe_of, later, notes_after, content_after, sq_after, controller_after, ready_in, life_is, sqs_have, cqs_have}
 
--- ---- the states of regions, with what they are of
--- what is so of each region and of its content, where another one is put in the place of one of both
-pub both_sqs : (P : ℕ → SqState → SqContent → Type 0) (sqs : List SqState) (f : ℕ → SqContent) (r : ℕ) (s : SqState) (u : SqContent) → r < length sqs → P r s u
-    → ((y : ℕ) → y ≢ r → P y (sq_at sqs y) (f y)) → (y : ℕ) → P y (sq_at (slice_set sqs r s) y) (put_sq f r u y)
-both_sqs P sqs f r s u there here others y = elim (cases_eq y r) [
-  | inl same ↦ subst (λ (n : ℕ). P n (sq_at (slice_set sqs r s) n) (put_sq f r u n)) (sym same)
-      (rw (eq-eqb r r refl, put_sq) (subst (λ (z : SqState). P r z u) (sym (get_or-set_same sqs r s no_sq_state there)) here))
-  | inr other ↦ rw (ne_eqb y r other, put_sq) (subst (λ (z : SqState). P y z (f y)) (sym (get_or-set_other sqs r y s no_sq_state other)) (others y other))
-]
+-- ---- the states of submission queues, with the content of their regions
+-- what isn't counted by a post is left
+pub record IsSqLeft (old state : SqState) (before after : SqContent) : Type 0 where
+  pub ring : state.ring ≡ old.ring
+  pub window : state.window ≡ old.window
+  pub cqid : state.cqid ≡ old.cqid
+  pub held : state.held ≡ old.held
+  pub queue : after.queue ≡ before.queue
+  pub slots : after.slots ≡ before.slots
+  pub unposted : state.unposted ≡ after.unposted
 
-pub both_cqs : (P : ℕ → CqState → CqContent → Type 0) (cqs : List CqState) (f : ℕ → CqContent) (x : ℕ) (s : CqState) (u : CqContent) → x < length cqs → P x s u
-    → ((y : ℕ) → y ≢ x → P y (cq_at cqs y) (f y)) → (y : ℕ) → P y (cq_at (slice_set cqs x s) y) (put_cq f x u y)
-both_cqs P cqs f x s u there here others y = elim (cases_eq y x) [
-  | inl same ↦ subst (λ (n : ℕ). P n (cq_at (slice_set cqs x s) n) (put_cq f x u n)) (sym same)
-      (rw (eq-eqb x x refl, put_cq) (subst (λ (z : CqState). P x z u) (sym (get_or-set_same cqs x s no_cq_state there)) here))
-  | inr other ↦ rw (ne_eqb y x other, put_cq) (subst (λ (z : CqState). P y z (f y)) (sym (get_or-set_other cqs x y s no_cq_state other)) (others y other))
-]
+pub sq_left : (p : PostCall) (q r : ℕ) → (content p).sq_life q ≡ Some r
+    → IsSqLeft (sq_at p.c.sqs q) (sq_at (controller_after p).sqs q) ((content p).sq r) ((content_after p).sq r)
+sq_left p =
+    let h = p.stands.numbers in
+    let r : ℕ = region p in
+    let q : ℕ = (command p).sqid in
+    let sq_new : SqContent = record ((content p).sq r) { unposted = ((content p).sq r).unposted - 1 } in
+    put_sq-lives (λ y x state s (more : Bool). IsSqLeft (sq_at p.c.sqs y) state ((content p).sq x) s) (content p).sq_life (content p).sq_id h.sq_ids p.c.sqs (content p).sq (λ x. true) q r
+    (sq_after p.c q) sq_new true (life_is p) (sqs_have p)
+    (record { ring = refl; window = refl; cqid = refl; held = refl; queue = refl; slots = refl; unposted = ap (λ (n : ℕ). n - 1) (h.sqs q r (life_is p)).unposted })
+    (λ y x other apart life. record { ring = refl; window = refl; cqid = refl; held = refl; queue = refl; slots = refl; unposted = (h.sqs y x life).unposted })
+
+-- the queue that a region was opened for is left
+pub queue_left : (p : PostCall) (r : ℕ) → ((content_after p).sq r).queue ≡ ((content p).sq r).queue
+queue_left p = at_put (λ r (s : SqContent). s.queue ≡ ((content p).sq r).queue) (content p).sq (region p) (record ((content p).sq (region p)) { unposted = ((content p).sq (region p)).unposted - 1 })
+    refl (λ r other. refl)
+
+-- one that is open was opened
+opened_later : (b : Bool) (region x : ℕ) (o : Option ℕ) (rest : Bool) → (if b then Some region else o) ≡ Some x → (o ≡ Some x → rest ≡ true) → (region == x || rest) ≡ true
+opened_later true region x o rest is earlier = or_left (region == x) rest (eq-eqb region x (same_Some region x is))
+opened_later false region x o rest is earlier = or_right (region == x) rest (earlier is)
+
+closed_later : (b : Bool) (x : ℕ) (o : Option ℕ) (rest : Bool) → (if b then None else o) ≡ Some x → (o ≡ Some x → rest ≡ true) → rest ≡ true
+closed_later true x o rest is earlier = cc is
+closed_later false x o rest is earlier = earlier is
+
+pub open_is_opened : (past : Past) (q x : ℕ) → open_cq past q ≡ Some x → is_opened_cq past x ≡ true
+open_is_opened [] q x is = by (q == 0) is where
+  by : (b : Bool) → (if b then Some 0 else None) ≡ Some x → (x == 0) ≡ true
+  by true h = eq-eqb x 0 (sym (same_Some 0 x h))
+  by false h = cc h
+open_is_opened (OpenCq qid region ∷ past) q x is = opened_later (qid == q) region x (open_cq past q) (is_opened_cq past x) is (open_is_opened past q x)
+open_is_opened (ClosedCq qid region ∷ past) q x is = closed_later (qid == q) x (open_cq past q) (is_opened_cq past x) is (open_is_opened past q x)
+open_is_opened (e ∷ past) q x is = open_is_opened past q x is
 
 -- ---- numbers
 -- one less is outstanding, unless the command was aborted with its queue
@@ -48,33 +81,51 @@ pub numbers_after : (p : PostCall) → HasNumbers (controller_after p) (content_
 numbers_after p =
     let h = p.stands.numbers in
     let i = ready_in p in
-    let r : ℕ = region p in
-    let sq_new : SqContent = record ((content p).sq r) { unposted = ((content p).sq r).unposted - 1 } in
     let cq_new : CqContent = posted_cq ((content p).cq p.x) (readies_of p.rest) (cqe_of p) in
     record {
-      table_is = h.table_is;
-      sized = h.sized;
+      tells = h.tells;
       board_is = h.board_is;
       is_arbiter = h.is_arbiter;
       outstanding_is = outstanding_by p.item.was_out p.item.ready.with_queue _ _ _ h.outstanding_is i.state i.not_both;
-      sq_queue = both_sqs (λ y s u. attachment_of s ≡ u.queue) p.c.sqs (content p).sq r (sq_after p.c r) sq_new (sqs_have p) (h.sq_queue r) (λ y d. h.sq_queue y);
-      sq_held = both_sqs (λ y s u. (s.held == 1) ≡ (content p).held y) p.c.sqs (content p).sq r (sq_after p.c r) sq_new (sqs_have p) (h.sq_held r) (λ y d. h.sq_held y);
-      sq_unposted = both_sqs (λ y s u. s.unposted ≡ u.unposted) p.c.sqs (content p).sq r (sq_after p.c r) sq_new (sqs_have p)
-          (ap (λ (n : ℕ). n - 1) (h.sq_unposted r)) (λ y d. h.sq_unposted y);
-      sq_slots = both_sqs (λ y s u. s.ring.slots ≡ u.slots) p.c.sqs (content p).sq r (sq_after p.c r) sq_new (sqs_have p) (h.sq_slots r) (λ y d. h.sq_slots y);
-      cq_slots = both_cqs (λ y s u. s.ring.slots ≡ u.slots) p.c.cqs (content p).cq p.x p.cq cq_new (cqs_have p) (p.did.same_slots ∙ h.cq_slots p.x) (λ y d. h.cq_slots y);
-      sq_some = both_sqs (λ y s u. y < (content p).nsq → 0 < u.slots) p.c.sqs (content p).sq r (sq_after p.c r) sq_new (sqs_have p) (h.sq_some r) (λ y d. h.sq_some y);
-      sq_size = length-set p.c.sqs r (sq_after p.c r) ∙ h.sq_size;
-      cq_size = length-set p.c.cqs p.x p.cq ∙ h.cq_size;
-    }
+      sq_ids = h.sq_ids;
+      cq_ids = h.cq_ids;
+      sqs = λ q r life. let w = h.sqs q r life in let l = sq_left p q r life in record {
+        entry = w.entry;
+        in_table = w.in_table;
+        on = w.on;
+        to = w.to ∙ sym l.cqid;
+        cq_region = w.cq_region;
+        cq_open = ap (content p).cq_life l.cqid ∙ w.cq_open;
+        opened = l.queue ∙ w.opened;
+        held = ap (λ (n : ℕ). n == 1) l.held ∙ w.held;
+        unposted = l.unposted;
+        slots = ap (λ (ring : Ring). ring.slots) l.ring ∙ w.slots ∙ sym l.slots;
+        some = subst (λ (n : ℕ). 0 < n) (sym l.slots) w.some;
+      };
+      cqs = λ q x life. let both = cqs_after q x life in record { slots = both.0; some = both.1 };
+      few_sqs = h.few_sqs;
+      few_cqs = h.few_cqs;
+      no_sqs = λ q none. put_sq-states (λ y state. (content p).sq_life y ≡ None → state ≡ no_sq_state) p.c.sqs (command p).sqid (sq_after p.c (command p).sqid) (sqs_have p)
+          (λ no. absurd (let life = life_is p in cc (no, life))) q (λ other no. h.no_sqs q no) none;
+      no_cqs = λ q none. put_cq-states (λ y state. (content p).cq_life y ≡ None → state ≡ no_cq_state) p.c.cqs p.cqid p.cq (cqs_have p)
+          (λ no. absurd (let life = p.life in cc (no, life))) q (λ other no. h.no_cqs q no) none;
+      sq_size = length-set p.c.sqs (command p).sqid (sq_after p.c (command p).sqid) ∙ h.sq_size;
+      cq_size = length-set p.c.cqs p.cqid p.cq ∙ h.cq_size;
+    } where
+      cqs_after : (q x : ℕ) → (content p).cq_life q ≡ Some x → ((cq_at (controller_after p).cqs q).ring.slots ≡ ((content_after p).cq x).slots) × (0 < ((content_after p).cq x).slots)
+      cqs_after =
+          let h = p.stands.numbers in
+          put_cq-lives (λ y x state s (more : Bool). (state.ring.slots ≡ s.slots) × (0 < s.slots)) (content p).cq_life (content p).cq_id h.cq_ids p.c.cqs (content p).cq (λ x. true) p.cqid p.x
+          p.cq (posted_cq ((content p).cq p.x) (readies_of p.rest) (cqe_of p)) true p.life (cqs_have p)
+          (p.did.same_slots ∙ (h.cqs p.cqid p.x p.life).slots, (h.cqs p.cqid p.x p.life).some)
+          (λ y x other apart life. ((h.cqs y x life).slots, (h.cqs y x life).some))
 
--- ---- rings
--- the ring of the completion region has slots, and one that the host consumed
-pub counts_before : (p : PostCall) → HasCounts (cq_at p.c.cqs p.x).ring (consumed p.rules p.notes p.x) (length (posted_to (past_of p) p.x))
-counts_before p = p.stands.doorbells.cqs p.x (omega (arith, p.did.room))
+-- ---- doorbells
+pub counts_before : (p : PostCall) → HasCounts (cq_at p.c.cqs p.cqid).ring (consumed p.rules p.notes p.x) (length (posted_to (past_of p) p.x))
+counts_before p = p.stands.doorbells.cqs p.cqid p.x p.life
 
-pub has_room : (p : PostCall) → length (posted_to (past_of p) p.x) + 1 < consumed p.rules p.notes p.x + (cq_at p.c.cqs p.x).ring.slots
-has_room p = omega (arith, filled-is (cq_at p.c.cqs p.x).ring (consumed p.rules p.notes p.x) (length (posted_to (past_of p) p.x)) (counts_before p), p.did.room)
+pub has_room : (p : PostCall) → length (posted_to (past_of p) p.x) + 1 < consumed p.rules p.notes p.x + (cq_at p.c.cqs p.cqid).ring.slots
+has_room p = omega (arith, filled-is (cq_at p.c.cqs p.cqid).ring (consumed p.rules p.notes p.x) (length (posted_to (past_of p) p.x)) (counts_before p), p.did.room)
 
 -- one completion more is posted to it, and none to another
 posted_here : (p : PostCall) → length (posted_to (past_of p) p.x) + 1 ≡ length (posted_to (later p) p.x)
@@ -83,26 +134,26 @@ posted_here p = rw (eq-eqb p.x p.x refl) (sym (length-append (posted_to (past_of
 posted_there : (p : PostCall) (y : ℕ) → y ≢ p.x → length (posted_to (past_of p) y) ≡ length (posted_to (later p) y)
 posted_there p y other = rw (ne_eqb p.x y (λ e. other (sym e))) refl
 
-pub doorbells_after : (p : PostCall) → HoldsDoorbells p.rules (notes_after p) (controller_after p)
-doorbells_after p =
-    let h = p.stands.doorbells in
-    let r : ℕ = region p in
-    let read : ℕ → ℕ = λ y. consumed p.rules p.notes y in
-    let no_slots : p.cq.ring.slots ≡ 0 → ⊥ = λ none. omega (arith, none, p.did.same_slots, p.did.room) in
-    let counts : HasCounts p.cq.ring (read p.x) (length (posted_to (later p) p.x)) =
-    subst (HasCounts p.cq.ring (read p.x)) (posted_here p) (p.did.counts (read p.x) (length (posted_to (past_of p) p.x)) (counts_before p) (has_room p)) in
-    let phase : (p.cq.phase == 1) ≡ phase_after (length (posted_to (later p) p.x)) p.cq.ring.slots =
-    p.did.phase (read p.x) (length (posted_to (past_of p) p.x)) (counts_before p) (has_room p) (h.phases p.x)
-    ∙ (λ j. phase_after (posted_here p j) (sym p.did.same_slots j)) in
-    record {
-      sqs = put_sq-each (λ y s. 0 < s.ring.slots → HasCounts s.ring (length (fetched (past_of p) y)) (submitted p.rules p.notes y)) p.c.sqs r (sq_after p.c r) (sqs_have p)
-          (h.sqs r) (λ y d. h.sqs y);
-      cqs = put_cq-each (λ y s. 0 < s.ring.slots → HasCounts s.ring (read y) (length (posted_to (later p) y))) p.c.cqs p.x p.cq (cqs_have p)
-          (λ some. counts) (λ y d some. subst (HasCounts (cq_at p.c.cqs y).ring (read y)) (posted_there p y d) (h.cqs y some));
-      phases = put_cq-each (λ y s. (s.phase == 1) ≡ phase_after (length (posted_to (later p) y)) s.ring.slots) p.c.cqs p.x p.cq (cqs_have p)
-          phase (λ y d. h.phases y ∙ ap (λ (n : ℕ). phase_after n (cq_at p.c.cqs y).ring.slots) (posted_there p y d));
-      no_tails = put_sq-each (λ y s. s.ring.slots ≡ 0 → submitted p.rules p.notes y ≡ 0) p.c.sqs r (sq_after p.c r) (sqs_have p) (h.no_tails r) (λ y d. h.no_tails y);
-      no_heads = put_cq-each (λ y s. s.ring.slots ≡ 0 → read y ≡ 0) p.c.cqs p.x p.cq (cqs_have p) (λ none. absurd (no_slots none)) (λ y d. h.no_heads y);
-      no_posts = put_cq-each (λ y s. s.ring.slots ≡ 0 → posted_to (later p) y ≡ []) p.c.cqs p.x p.cq (cqs_have p) (λ none. absurd (no_slots none))
-          (λ y d none. rw (ne_eqb p.x y (λ e. d (sym e))) (h.no_posts y none));
-    }
+pub doorbells_after : (p : PostCall) → HoldsDoorbells p.rules (notes_after p) (controller_after p) (content_after p)
+doorbells_after p = record {
+  sqs = λ q r life. subst (λ (ring : Ring). HasCounts ring (length (fetched (past_of p) r)) (submitted p.rules p.notes r)) (sym (sq_left p q r life).ring) (p.stands.doorbells.sqs q r life);
+  cqs = put_cq-lives (λ y x state s (more : Bool). HasCounts state.ring (consumed p.rules p.notes x) (length (posted_to (later p) x))) (content p).cq_life (content p).cq_id p.stands.numbers.cq_ids
+      p.c.cqs (content p).cq (λ x. true) p.cqid p.x p.cq ((content p).cq p.x) true p.life (cqs_have p)
+      counts (λ y x other apart life. subst (HasCounts (cq_at p.c.cqs y).ring (consumed p.rules p.notes x)) (posted_there p x apart) (p.stands.doorbells.cqs y x life));
+  phases = put_cq-lives (λ y x state s (more : Bool). (state.phase == 1) ≡ phase_after (length (posted_to (later p) x)) state.ring.slots) (content p).cq_life (content p).cq_id p.stands.numbers.cq_ids
+      p.c.cqs (content p).cq (λ x. true) p.cqid p.x p.cq ((content p).cq p.x) true p.life (cqs_have p)
+      phase (λ y x other apart life. p.stands.doorbells.phases y x life ∙ ap (λ (n : ℕ). phase_after n (cq_at p.c.cqs y).ring.slots) (posted_there p x apart));
+  no_tails = λ r none. p.stands.doorbells.no_tails r (sym (queue_left p r) ∙ none);
+  no_heads = p.stands.doorbells.no_heads;
+  no_posts = λ x none.
+      rw (ne_eqb p.x x (λ e. absurd (let opened = open_is_opened (past_of p) p.cqid p.x (sym (p.stands.holds.lives.cqs p.cqid) ∙ p.life) in
+      let unopened : is_opened_cq (past_of p) p.x ≡ false = ap (is_opened_cq (past_of p)) e ∙ none in cc (opened, unopened)))) (p.stands.doorbells.no_posts x none);
+} where
+  counts : HasCounts p.cq.ring (consumed p.rules p.notes p.x) (length (posted_to (later p) p.x))
+  counts = subst (HasCounts p.cq.ring (consumed p.rules p.notes p.x)) (posted_here p)
+      (p.did.counts (consumed p.rules p.notes p.x) (length (posted_to (past_of p) p.x)) (counts_before p) (has_room p))
+
+  phase : (p.cq.phase == 1) ≡ phase_after (length (posted_to (later p) p.x)) p.cq.ring.slots
+  phase =
+      p.did.phase (consumed p.rules p.notes p.x) (length (posted_to (past_of p) p.x)) (counts_before p) (has_room p) (p.stands.doorbells.phases p.cqid p.x p.life)
+      ∙ (λ j. phase_after (posted_here p j) (sym p.did.same_slots j))

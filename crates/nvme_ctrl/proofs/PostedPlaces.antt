@@ -5,7 +5,6 @@ use Rattle.std.proofs.lemmas.List.Elements.{filter_passes}
 use Rattle.std.proofs.lemmas.List.Sums.{sum_by-cons}
 use Rattle.std.specs.Prelude.{slice_index_or}
 use Rattle.nvme_entry.specs.declared.completion.Cqe.{Cqe}
-use Rattle.nvme_admin.specs.declared.bounds.TheConstants.{MAX_REGIONS}
 use Rattle.nvme_log.specs.declared.event.Event.TheVariants.{Abort, Post}
 use Rattle.nvme_log.specs.declared.event.Event.TheVariants as event
 use Rattle.nvme_ctrl.specs.kept.Content.{Ready}
@@ -270,11 +269,11 @@ ready_unanswered past k hand h c t rest oldest =
     sum_by-cons (λ (z : Ready). one_if (z.place.region == t.place.region && z.place.index == t.place.index)) t rest in
     let here : one_if (t.place.region == t.place.region && t.place.index == t.place.index) ≡ 1 = rw (eq-eqb t.place.region t.place.region refl, eq-eqb t.place.index t.place.index refl) refl in
     let there : times_in t.place.region t.place.index (k.cq c).ready ≡ times_in t.place.region t.place.index (t ∷ rest) = ap (λ (z : List Ready). times_in t.place.region t.place.index z) oldest in
-    let within : c < MAX_REGIONS =
-    ⊎_elim (λ (lt : c < MAX_REGIONS). lt)
-    (λ (le : MAX_REGIONS ≤ c). absurd (let none = h.none_beyond c le in cc))
-    (cases_lt c MAX_REGIONS) in
-    let part = over_regions_at (λ (z : ℕ). times_in t.place.region t.place.index (k.cq z).ready) c MAX_REGIONS within in
+    let within : c < k.ncq =
+    ⊎_elim (λ (lt : c < k.ncq). lt)
+    (λ (le : k.ncq ≤ c). absurd (let none = h.none_beyond c le in cc))
+    (cases_lt c k.ncq) in
+    let part = over_regions_at (λ (z : ℕ). times_in t.place.region t.place.index (k.cq z).ready) c k.ncq within in
     let once = h.once t.place.region t.place.index in
     let some : 1 ≤ one_if (is_served past t.place.region t.place.index) = omega (arith, first, here, there, part, once) in
     let few : one_if (is_served past t.place.region t.place.index) ≤ 1 = at_most (is_served past t.place.region t.place.index) in

@@ -8,7 +8,7 @@ use Rattle.nvme_arbiter.specs.Board.{BoardView, queues_after}
 use Rattle.nvme_arbiter.specs.declared.pick.OpenQueue.{OpenQueue}
 use Rattle.nvme_arbiter.specs.declared.pick.Pick.{Pick}
 use Rattle.nvme_arbiter.specs.declared.pick.Seen.{Seen}
-use Rattle.nvme_admin.specs.Standing.{TableView, StandsAt, sq_of, cq_of, used_at}
+use Rattle.nvme_admin.specs.QueueTable.{QueueTable}
 use Rattle.nvme_admin.specs.History.{TableHistory, DeletionFinished, EntryApplied}
 use Rattle.nvme_admin.specs.QueueTable.{unless_closing}
 use Rattle.nvme_admin.specs.Accepted.{queue_table, sq_at}
@@ -33,7 +33,7 @@ use Rattle.nvme_ctrl.proofs.StepKeeps.{Queues, KeepsFetch, KeepsIo, KeepsAdmin, 
 use Rattle.nvme_ctrl.proofs.QueueWords.{in_log, in_content, counted, OpenedFor, Agree, at_same, put-queue}
 use Rattle.nvme_ctrl.proofs.DeletedQueues.{closing_not_open}
 use Rattle.nvme_ctrl.proofs.Regions.{target_is, target_left}
-use Rattle.nvme_ctrl.proofs.QueueVerdicts.{few_queues, verdict-agrees, verdict-table, verdict-unused}
+use Rattle.nvme_ctrl.proofs.QueueVerdicts.{opens_there, opens_cq_there, verdict-agrees, verdict-table, verdict-unused}
 use Rattle.nvme_ctrl.proofs.QueueChanges.{serve, post, finish}
 
 -- ---- the queues without the table, and with it
@@ -67,9 +67,9 @@ agreement rules late past k s =
 
 -- queues that agree are held, where they are those of the table
 pub holds_queues : (past : Past) (k : Content) → Agree (in_log past) (in_content k)
-    → ((q : ℕ) → open_sq past q ≡ as_open (sq_of k.table q))
-    → ((q : ℕ) → open_cq past q ≡ cq_of k.table q)
-    → ((r : ℕ) → used_at k.table.sq_used r ≡ false → (k.sq r).queue ≡ None)
+    → ((q : ℕ) → open_sq past q ≡ as_open (k.table.sq q))
+    → ((q : ℕ) → open_cq past q ≡ k.table.cq q)
+    → ((r : ℕ) → k.table.sq_region_used r ≡ false → (k.sq r).queue ≡ None)
     → HoldsQueues past k
 holds_queues past k h sqs cqs unused = record {
   sqs = sqs;
@@ -149,14 +149,14 @@ queues-close rules late past k d table s can _ =
     let p : IsPending past k d.region d = s.deletion.stands d.region d can.pending in
     let o : IsOpenedFor k.sq d = h.deleting d.region d can.pending in
     let t : TableHistory = s.tabled.history in
-    let was : StandsAt rules.start k.table t = s.tabled.stands in
-    let now : StandsAt rules.start table (DeletionFinished d.qid ∷ t) = can.table_stands in
+    let was : k.table ≡ queue_table rules.start t = s.tabled.table_is in
+    let now : table ≡ queue_table rules.start (DeletionFinished d.qid ∷ t) = can.table_is in
     let none : open_sq past d.qid ≡ None = h.sqs d.qid ∙ ap as_open p.in_table ∙ closing_not_open p.closing p.is_closing in
     holds_queues _ _
     (finish (in_log past) (in_content k) (agreement rules late past k s) o.cq_region d o.opened none (record { all_posted = can.all_posted; none_waits = p.none_waits }))
-    (λ q. h.sqs q ∙ ap as_open (was.sq q) ∙ taken (d.qid == q) (sq_at rules.start t q) ∙ ap as_open (sym (finish-takes_one rules.start t d.qid q)) ∙ ap as_open (sym (now.sq q)))
-    (λ q. h.cqs q ∙ was.cq q ∙ finished_cq rules t d.qid q ∙ sym (now.cq q))
-    (λ r e. h.unused r (was.sq_used r ∙ sym (used-finished rules.start t d.qid r) ∙ sym (now.sq_used r) ∙ e))
+    (λ q. h.sqs q ∙ ap as_open (ap (λ (x : QueueTable). x.sq q) was) ∙ taken (d.qid == q) (sq_at rules.start t q) ∙ ap as_open (sym (finish-takes_one rules.start t d.qid q)) ∙ ap as_open (sym (ap (λ (x : QueueTable). x.sq q) now)))
+    (λ q. h.cqs q ∙ ap (λ (x : QueueTable). x.cq q) was ∙ finished_cq rules t d.qid q ∙ sym (ap (λ (x : QueueTable). x.cq q) now))
+    (λ r e. h.unused r (ap (λ (x : QueueTable). x.sq_region_used r) was ∙ sym (used-finished rules.start t d.qid r) ∙ sym (ap (λ (x : QueueTable). x.sq_region_used r) now) ∙ e))
 
 -- ---- an admin pick
 -- an admin pick takes the admin queue's oldest candidate, and its verdict changes the queues as it changes the table
@@ -167,8 +167,8 @@ queues-admin rules late past k seen pick picked candidate rest table c board s c
     let u : TableHistory = EntryApplied candidate.entry ∷ t in
     let v : Verdict = verdict_at rules t candidate in
     let tells : TellsChange rules.start t candidate.entry v = TellsChange-entry rules.start t candidate.entry in
-    let was : StandsAt rules.start k.table t = s.tabled.stands in
-    let now : StandsAt rules.start table u = apply.table_stands in
+    let was : k.table ≡ queue_table rules.start t = s.tabled.table_is in
+    let now : table ≡ queue_table rules.start u = apply.table_is in
     let kept : Content = applied_to k picked table in
     let taken : Past = event.Pick seen pick ∷ past in
     let later : Content = after_admin past kept candidate c board v in
@@ -178,16 +178,16 @@ queues-admin rules late past k seen pick picked candidate rest table c board s c
     subst (λ (n : ℕ). Agree (in_log past) (in_content (after_pick k admin_queue n picked))) one
     (pick-agrees past k admin_queue seen pick picked (agreement rules late past k s) can.is_open can.board_queues) in
     let are : QueuesAre rules u (with_events (made_by past v) past) =
-    step rules t u past v (record { sq = λ q. h.sqs q ∙ ap as_open (was.sq q); cq = λ q. h.cqs q ∙ was.cq q }) tells.sqs tells.cqs in
+    step rules t u past v (record { sq = λ q. h.sqs q ∙ ap as_open (ap (λ (x : QueueTable). x.sq q) was); cq = λ q. h.cqs q ∙ ap (λ (x : QueueTable). x.cq q) was }) tells.sqs tells.cqs in
     holds_queues (with_events (made_by past v) taken) later
     (verdict-agrees rules t past seen pick k kept candidate c picked board v (record {
       due = tells.due;
-      cqs_there = ap length (sym was.cq_regions) ∙ s.tabled.cq_count;
-      sqs_there = ap length (sym was.sq_regions) ∙ s.tabled.sq_count;
+      sq_there = λ qid region cqid class e. opens_there rules late past k candidate rest table s apply qid region cqid class e;
+      cq_there = λ qid region e. opens_cq_there rules late past k candidate rest table s apply qid region e;
       still = still;
-      unused = λ r e. still r ∙ h.unused r (was.sq_used r ∙ e);
-      few = λ qid region cqid class e. few_queues table apply.sized qid _
-          (now.sq qid ∙ tells.sqs qid ∙ ap (λ (w : Verdict). sq_after w (sq_at rules.start t) qid) e ∙ at_same qid qid _ _ refl);
+      unused = λ r e. still r ∙ h.unused r (ap (λ (x : QueueTable). x.sq_region_used r) was ∙ e);
+      few = λ qid region cqid class e. apply.few_queues qid _
+          (ap (λ (x : QueueTable). x.sq qid) now ∙ tells.sqs qid ∙ ap (λ (w : Verdict). sq_after w (sq_at rules.start t) qid) e ∙ at_same qid qid _ _ refl);
     }) chosen refl (λ sqid queue e.
     let admin : open_sq past 0 ≡ Some admin_queue = subst (λ (q : ℕ). open_sq past q ≡ Some admin_queue) zero can.is_open in
     let left : kept.sq queue.region ≡ k.sq queue.region = target_left past k h admin sqid queue e (picked_sq (k.sq 0) 1) in
@@ -198,7 +198,7 @@ queues-admin rules late past k seen pick picked candidate rest table c board s c
       as_held = refl;
       as_classed = refl;
     }) agrees)
-    (λ q. events_sq rules (made_by past v) taken past (λ p. refl) q ∙ are.sq q ∙ ap as_open (sym (now.sq q)) ∙ ap (λ (w : TableView). as_open (sq_of w q)) (sym table_is))
-    (λ q. events_cq rules (made_by past v) taken past (λ p. refl) q ∙ are.cq q ∙ sym (now.cq q) ∙ ap (λ (w : TableView). cq_of w q) (sym table_is))
-    (λ r e. verdict-unused past kept candidate c board (queue_table rules.start t).sq_region_used (λ x f. still x ∙ h.unused x (was.sq_used x ∙ f)) v r
-    (sym (used-entry rules.start t candidate.entry r) ∙ sym (now.sq_used r) ∙ ap (λ (w : TableView). used_at w.sq_used r) (sym table_is) ∙ e))
+    (λ q. events_sq rules (made_by past v) taken past (λ p. refl) q ∙ are.sq q ∙ ap as_open (sym (ap (λ (x : QueueTable). x.sq q) now)) ∙ ap (λ (w : QueueTable). as_open (w.sq q)) (sym table_is))
+    (λ q. events_cq rules (made_by past v) taken past (λ p. refl) q ∙ are.cq q ∙ sym (ap (λ (x : QueueTable). x.cq q) now) ∙ ap (λ (w : QueueTable). w.cq q) (sym table_is))
+    (λ r e. verdict-unused past kept candidate c board (queue_table rules.start t).sq_region_used (λ x f. still x ∙ h.unused x (ap (λ (w : QueueTable). w.sq_region_used x) was ∙ f)) v r
+    (sym (used-entry rules.start t candidate.entry r) ∙ sym (ap (λ (x : QueueTable). x.sq_region_used r) now) ∙ ap (λ (w : QueueTable). w.sq_region_used r) (sym table_is) ∙ e))

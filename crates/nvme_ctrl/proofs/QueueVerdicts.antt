@@ -1,6 +1,7 @@
 -- What the verdict of an admin command makes of the queues.
-use Rattle.std.proofs.Common.{◌≡◌, ℕ, ◌+◌, ◌≤◌, ◌<◌, ◌==◌, Bool, false, List, [], ◌∷◌, map, length, Option, Some, None, refl, sym, ◌∙◌, ap, subst, arith}
-use Rattle.std.specs.Prelude.{slice_set, unwrap_or, if◌then◌else◌}
+use Rattle.std.proofs.Common.{◌≡◌, ℕ, zero, suc, ◌+◌, ◌≤◌, ◌<◌, ◌==◌, Bool, false, List, [], ◌∷◌, map, length, Option, Some, None, refl, sym, ◌∙◌, ap, subst, arith}
+use Rattle.std.proofs.lemmas.Option.{none-some}
+use Rattle.std.specs.Prelude.{is_some, slice_get, slice_set, unwrap_or, if◌then◌else◌}
 use Rattle.std.proofs.lemmas.Bool.{eqb-false}
 use Rattle.nvme_arbiter.specs.Limits.{highest_qid}
 use Rattle.nvme_arbiter.specs.Board.{BoardView}
@@ -8,37 +9,73 @@ use Rattle.nvme_arbiter.specs.declared.pick.OpenQueue.{OpenQueue}
 use Rattle.nvme_arbiter.specs.declared.settings.Class.{Class}
 use Rattle.nvme_arbiter.specs.declared.pick.Pick.{Pick}
 use Rattle.nvme_arbiter.specs.declared.pick.Seen.{Seen}
-use Rattle.nvme_admin.specs.History.{TableHistory}
+use Rattle.nvme_admin.specs.History.{TableHistory, Placing}
+use Rattle.nvme_admin.specs.declared.region.Region.{Region}
 use Rattle.nvme_admin.specs.Accepted.{queue_table}
 use Rattle.nvme_admin.specs.Changes.{IsDue}
-use Rattle.nvme_admin.specs.Standing.{TableView, IsSized, sq_of}
-use Rattle.nvme_admin.specs.declared.verdict.SqEntry.{SqEntry}
+use Rattle.nvme_admin.specs.QueueTable.{QueueTable}
 use Rattle.nvme_admin.specs.declared.verdict.Verdict.{Verdict}
 use Rattle.nvme_admin.specs.declared.verdict.Verdict.TheVariants.{Done, BeginDelete, CloseCq}
 use Rattle.nvme_admin.specs.declared.verdict.Verdict.TheVariants as verdict
 use Rattle.nvme_admin.proofs.Reached.{or_false-parts}
-use Rattle.nvme_admin.proofs.Slots.{within}
+use Rattle.nvme_admin.proofs.Changed.{TellsChange-entry}
 use Rattle.nvme_log.specs.declared.event.Event.{Event}
 use Rattle.nvme_log.specs.declared.event.Event.TheVariants as event
 use Rattle.nvme_ctrl.specs.kept.Content.{Candidate}
-use Rattle.nvme_log.specs.Rules.{FrontRules, Past}
+use Rattle.nvme_log.specs.Rules.{FrontRules, Past, sq_regions_of, cq_regions_of}
 use Rattle.nvme_log.specs.Queues.{Queue, open_sq, open_cq}
 use Rattle.nvme_log.specs.Places.{waiting}
 use Rattle.nvme_log.specs.Effects.{abort_in, closing_of, closed_cq_of, made_by, target_of}
 use Rattle.nvme_ctrl.specs.kept.Content.{SqContent, Content, put_sq}
-use Rattle.nvme_ctrl.specs.kept.Standing.{HoldsSq, counted_on}
-use Rattle.nvme_ctrl.specs.inside.Steps.{oldest_named, without_oldest}
+use Rattle.nvme_ctrl.specs.kept.Standing.{Holds, HoldsSq, counted_on}
+use Rattle.nvme_ctrl.specs.inside.Steps.{CanApply, HasNextRegion, oldest_named, verdict_at, without_oldest}
 use Rattle.nvme_ctrl.proofs.AfterSteps.{IsAbortChosen, IsChosen, aborting_from, aborting_in, after_admin, deleting_from, with_events}
 use Rattle.nvme_ctrl.proofs.Named.{made_abort, made_none}
 use Rattle.nvme_log.proofs.UsedRegions.{used_after}
 use Rattle.nvme_ctrl.proofs.QueueWords.{QueueContent, in_log, in_content, Agree, at_other, put-queue}
 use Rattle.nvme_ctrl.proofs.QueueChanges.{serve, open_one, open_other, close_other, begin_delete}
 
--- the identifier of a queue of a table is one that a board has
-pub few_queues : (table : TableView) → IsSized table → (q : ℕ) (entry : SqEntry) → sq_of table q ≡ Some entry → q ≤ highest_qid
-few_queues table sized q entry e =
-    let below : q < length table.sqs = within table.sqs q entry e in
-    omega (arith, sized.sqs, below)
+-- ---- the region of a queue that a command opens
+-- a region that is there has a number below theirs
+within : (regions : List Region) (r : ℕ) (x : Region) → slice_get regions r ≡ Some x → r < length regions
+within [] r x e = absurd (none-some x e)
+within (y ∷ regions) zero x e = omega arith
+within (y ∷ regions) (suc r) x e = let below = within regions r x e in omega arith
+
+module _ (rules : FrontRules) (late : Bool) (past : Past) (k : Content) (candidate : Candidate) (rest : List Candidate) (table : QueueTable) (s : Holds rules late past k)
+    (can : CanApply rules past k s.tabled.history candidate rest table) where
+  -- it is one of the regions: where queues lie on regions the command names it, and anywhere the rules have it
+  pub opens_there : (qid region cqid : ℕ) (class : Class) → verdict_at rules s.tabled.history candidate ≡ verdict.OpenSq qid region cqid class → region < k.nsq
+  opens_there qid region cqid class is = by k.table.placing refl where
+    due : IsDue (queue_table rules.start s.tabled.history) (verdict.OpenSq qid region cqid class)
+    due = subst (λ (z : Verdict). IsDue (queue_table rules.start s.tabled.history) z) is (TellsChange-entry rules.start s.tabled.history candidate.entry).due
+
+    placed : HasNextRegion rules k.table candidate (verdict.OpenSq qid region cqid class)
+    placed = subst (λ (z : Verdict). HasNextRegion rules k.table candidate z) is can.placed
+
+    by : (p : Option Placing) → k.table.placing ≡ p → region < k.nsq
+    by None none =
+        subst (λ (n : ℕ). region < n) (ap (λ (t : QueueTable). length t.sq_regions) (sym s.tabled.table_is) ∙ s.tabled.sq_count)
+        (due.there (ap (λ (t : QueueTable). t.placing) (sym s.tabled.table_is) ∙ none))
+    by (Some p) some =
+        subst (λ (n : ℕ). region < n) s.tabled.sq_number
+        (within (sq_regions_of rules) region _ (placed (ap (λ (o : Option Placing). is_some o) some)))
+
+  pub opens_cq_there : (qid region : ℕ) → verdict_at rules s.tabled.history candidate ≡ verdict.OpenCq qid region → region < k.ncq
+  opens_cq_there qid region is = by k.table.placing refl where
+    due : IsDue (queue_table rules.start s.tabled.history) (verdict.OpenCq qid region)
+    due = subst (λ (z : Verdict). IsDue (queue_table rules.start s.tabled.history) z) is (TellsChange-entry rules.start s.tabled.history candidate.entry).due
+
+    placed : HasNextRegion rules k.table candidate (verdict.OpenCq qid region)
+    placed = subst (λ (z : Verdict). HasNextRegion rules k.table candidate z) is can.placed
+
+    by : (p : Option Placing) → k.table.placing ≡ p → region < k.ncq
+    by None none =
+        subst (λ (n : ℕ). region < n) (ap (λ (t : QueueTable). length t.cq_regions) (sym s.tabled.table_is) ∙ s.tabled.cq_count)
+        (due.there (ap (λ (t : QueueTable). t.placing) (sym s.tabled.table_is) ∙ none))
+    by (Some p) some =
+        subst (λ (n : ℕ). region < n) s.tabled.cq_number
+        (within (cq_regions_of rules) region _ (placed (ap (λ (o : Option Placing). is_some o) some)))
 
 -- ---- what agrees after a verdict
 -- aborts leave the queues
@@ -63,8 +100,8 @@ deletes-agree past now k candidate qid c (Some queue) h is opened =
 -- what is given of an admin pick whose verdict is v: `before` is what was kept before it, and k what is kept when its place is picked
 pub record Applies (rules : FrontRules) (history : TableHistory) (before k : Content) (v : Verdict) : Type 0 where
   pub due : IsDue (queue_table rules.start history) v
-  pub cqs_there : length (queue_table rules.start history).cq_regions ≡ k.ncq
-  pub sqs_there : length (queue_table rules.start history).sq_regions ≡ k.nsq
+  pub sq_there : (qid region cqid : ℕ) (class : Class) → v ≡ verdict.OpenSq qid region cqid class → region < k.nsq
+  pub cq_there : (qid region : ℕ) → v ≡ verdict.OpenCq qid region → region < k.ncq
   pub still : (r : ℕ) → (k.sq r).queue ≡ (before.sq r).queue
   pub unused : (r : ℕ) → (queue_table rules.start history).sq_region_used r ≡ false → (k.sq r).queue ≡ None
   pub few : (qid region cqid : ℕ) (class : Class) → v ≡ verdict.OpenSq qid region cqid class → qid ≤ highest_qid
@@ -119,11 +156,11 @@ module _ (rules : FrontRules) (history : TableHistory) (past : Past) (seen : Lis
   verdict-agrees (verdict.SetArbitration settings) a chosen same target h =
       subst (λ (z : List (Option OpenQueue)). Agree (in_log past) (record (in_content k) { board = z })) (same ∙ sym chosen.0) h
   verdict-agrees (verdict.OpenCq qid region) a chosen same target h =
-      open_other (in_log past) (in_content k) h qid region (subst (λ (n : ℕ). region < n) a.cqs_there a.due.there)
+      open_other (in_log past) (in_content k) h qid region (a.cq_there qid region refl)
   verdict-agrees (CloseCq qid) a chosen same target h = closes-agree qid (open_cq past qid) (event.Pick seen pick ∷ past) (in_content k) h
   verdict-agrees (verdict.OpenSq qid region cqid class) a chosen same target h =
       open_one (in_log past) (in_content k) h qid region cqid c class (a.unused region a.due.unused) chosen
-      (subst (λ (n : ℕ). region < n) a.sqs_there a.due.there) (a.few qid region cqid class refl)
+      (a.sq_there qid region cqid class refl) (a.few qid region cqid class refl)
   verdict-agrees (BeginDelete qid) a chosen same target h =
       deletes-agree past (event.Pick seen pick ∷ past) k candidate qid c (open_sq past qid) h refl (λ queue e. a.still queue.region ∙ chosen queue e)
 

@@ -9,9 +9,8 @@ use Rattle.nvme_entry.specs.Status.{StatusCode}
 use Rattle.nvme_arbiter.specs.Board.{BoardView}
 use Rattle.nvme_arbiter.specs.declared.pick.Pick.{Pick}
 use Rattle.nvme_arbiter.specs.declared.pick.Seen.{Seen}
-use Rattle.nvme_admin.specs.Standing.{TableView}
+use Rattle.nvme_admin.specs.QueueTable.{QueueTable}
 use Rattle.nvme_admin.specs.Accepted.{queue_table}
-use Rattle.nvme_admin.specs.declared.bounds.TheConstants.{MAX_REGIONS}
 use Rattle.nvme_log.specs.declared.event.Event.TheVariants.{Abort, Closing}
 use Rattle.nvme_log.specs.declared.event.Event.TheVariants as event
 use Rattle.nvme_ctrl.specs.kept.Content.{Candidate}
@@ -45,7 +44,7 @@ use Rattle.nvme_ctrl.proofs.PendingDeletions.{put-same, put-other, held-put, tim
 pub unused_apart : (rules : FrontRules) (late : Bool) (past : Past) (k : Content) (s : Holds rules late past k) (region : ℕ)
     → (queue_table rules.start s.tabled.history).sq_region_used region ≡ false → (r x : ℕ) → cq_region_of past r ≡ Some x → region ≡ r → ⊥
 unused_apart rules late past k s region unused r x h e =
-    let none : (k.sq region).queue ≡ None = s.queues.unused region (s.tabled.stands.sq_used region ∙ unused) in
+    let none : (k.sq region).queue ≡ None = s.queues.unused region (ap (λ (t : QueueTable). t.sq_region_used region) s.tabled.table_is ∙ unused) in
     let nowhere : cq_region_of past region ≡ None = s.queues.cq_region_is region ∙ ap (option_map (λ (a : Attachment). a.cq_region)) none in
     let here : cq_region_of past region ≡ Some x = subst (λ (z : ℕ). cq_region_of past z ≡ Some x) (sym e) h in
     cc
@@ -54,7 +53,7 @@ unused_apart rules late past k s region unused r x h e =
 pub unused_unnamed : (rules : FrontRules) (late : Bool) (past : Past) (k : Content) (s : Holds rules late past k) (region : ℕ)
     → (queue_table rules.start s.tabled.history).sq_region_used region ≡ false → (r x : ℕ) → qid_of_region past r ≡ Some x → region ≡ r → ⊥
 unused_unnamed rules late past k s region unused r x h e =
-    let none : (k.sq region).queue ≡ None = s.queues.unused region (s.tabled.stands.sq_used region ∙ unused) in
+    let none : (k.sq region).queue ≡ None = s.queues.unused region (ap (λ (t : QueueTable). t.sq_region_used region) s.tabled.table_is ∙ unused) in
     let nobody : qid_of_region past region ≡ None = s.queues.qid_is region ∙ ap (option_map (λ (a : Attachment). a.qid)) none in
     let here : qid_of_region past region ≡ Some x = subst (λ (z : ℕ). qid_of_region past z ≡ Some x) (sym e) h in
     cc
@@ -99,6 +98,8 @@ pub record Answers (k after : Content) (t : Ready) : Type 0 where
   pub hand : after.hand ≡ k.hand
   pub deletion : after.deletion ≡ k.deletion
   pub outstanding : after.outstanding ≡ k.outstanding + 1
+  pub nsq : after.nsq ≡ k.nsq
+  pub ncq : after.ncq ≡ k.ncq
   pub windows : (r : ℕ) → (after.sq r).window ≡ (put_sq k.sq 0 (picked_sq (k.sq 0) 1) r).window
   pub got : (r : ℕ) → (after.sq r).got ≡ (put_sq k.sq 0 (picked_sq (k.sq 0) 1) r).got
 
@@ -118,17 +119,19 @@ at_oldest P xs x rest e h = All-head P x rest (All-same P (x ∷ rest) xs (sym e
 -- the relation of what is ready to the log is kept
 pub answers-ready : (past later : Past) (k after : Content) (candidate : Candidate) (rest : List Candidate) (status : StatusCode) (dw0 : ℕ)
     → HoldsReady past k (hand_of k) → ((r : ℕ) → HoldsSq past r (k.sq r)) → (k.sq 0).window ≡ candidate ∷ rest
-    → k.outstanding + 1 ≤ max_outstanding → SamePlaces past later → Answers k after (told candidate status dw0) → ((r : ℕ) → HoldsSq later r (after.sq r))
+    → 0 < k.ncq → k.outstanding + 1 ≤ max_outstanding → SamePlaces past later → Answers k after (told candidate status dw0) → ((r : ℕ) → HoldsSq later r (after.sq r))
     → HoldsReady later after (hand_of after)
-answers-ready past later k after candidate rest status dw0 ready before oldest few same a regions =
+answers-ready past later k after candidate rest status dw0 ready before oldest some few same a regions =
     let hand : hand_of after ≡ hand_of k =
-    ap (λ (ps : List Place). ps ++ held_upto after.deletion MAX_REGIONS) a.hand ∙ ap (λ (d : ℕ → Option PendingDelete). k.hand ++ held_upto d MAX_REGIONS) a.deletion in
+    ap (λ (ps : List Place). ps ++ held_upto after.deletion after.nsq) a.hand ∙ ap (λ (d : ℕ → Option PendingDelete). k.hand ++ held_upto d after.nsq) a.deletion
+    ∙ ap (λ (n : ℕ). k.hand ++ held_upto k.deletion n) a.nsq in
     let entry : entry_at past 0 candidate.index ≡ Some candidate.entry =
     at_oldest (λ (c : Candidate). entry_at past 0 c.index ≡ Some c.entry) (k.sq 0).window candidate rest oldest (before 0).entries in
     let fresh : is_aborted past 0 candidate.index ≡ false =
     at_oldest (λ (c : Candidate). is_aborted past 0 c.index ≡ false) (k.sq 0).window candidate rest oldest (waiting-unaborted past 0 (k.sq 0) (before 0)) in
     becomes-ready past later k after (hand_of k) (hand_of after) 0 (told candidate status dw0 ∷ []) ready (record {
-      small = omega arith;
+      small = some;
+      ncq = a.ncq;
       grows = a.grows;
       posts = same.posts;
       served = λ r i.
@@ -201,9 +204,9 @@ left-candidates : (k : Content) (Q : Candidate → Type 0) (r : ℕ) → All Q (
 left-candidates k Q = at_put (λ (x : ℕ) (u v : SqContent). All Q u.window → All Q v.window) k.sq 0 (picked_sq (k.sq 0) 1) (All-drop Q 1 (k.sq 0).window) (λ x d h. h)
 
 -- the relation of what is ready to the log is kept
-pub deletes-ready : (past : Past) (k : Content) (candidate : Candidate) (rest : List Candidate) (seen : List Seen) (pick : Pick) (board : BoardView) (table : TableView) (region qid c : ℕ)
+pub deletes-ready : (past : Past) (k : Content) (candidate : Candidate) (rest : List Candidate) (seen : List Seen) (pick : Pick) (board : BoardView) (table : QueueTable) (region qid c : ℕ)
     → HoldsReady past k (hand_of k) → ((r : ℕ) → HoldsSq past r (k.sq r)) → (k.sq 0).window ≡ candidate ∷ rest → k.deletion region ≡ None
-    → region < MAX_REGIONS → k.outstanding + 1 ≤ max_outstanding → c < MAX_REGIONS → cq_region_of past region ≡ Some c → qid_of_region past region ≡ Some qid → took_abort (event.Pick seen pick ∷ past) ≡ false
+    → region < k.nsq → k.outstanding + 1 ≤ max_outstanding → c < k.ncq → cq_region_of past region ≡ Some c → qid_of_region past region ≡ Some qid → took_abort (event.Pick seen pick ∷ past) ≡ false
     → ((r : ℕ) → HoldsSq (with_events (map (λ (i : ℕ). Abort region i) (waiting past region)) (Closing qid region ∷ event.Pick seen pick ∷ past)) r ((with_deleting (applied_to k board table) qid region c candidate).sq r))
     → HoldsReady (with_events (map (λ (i : ℕ). Abort region i) (waiting past region)) (Closing qid region ∷ event.Pick seen pick ∷ past))
     (with_deleting (applied_to k board table) qid region c candidate) (hand_of (with_deleting (applied_to k board table) qid region c candidate))
@@ -227,6 +230,7 @@ deletes-ready past k candidate rest seen pick board table region qid c ready bef
     ∙ unrequested past region (slice_index_or (k.sq region).window j d).index (waiting-unaborted past region (k.sq region) (before region) j d l) in
     becomes-ready past later k after (hand_of k) (hand_of after) c ts ready (record {
       small = small;
+      ncq = refl;
       grows = put-grows k.cq c ts;
       posts = λ r i. aborts-leave (λ (p : Past). posts_of p r i) (λ p r i. refl) region ws middle;
       served = λ r i.
@@ -235,9 +239,9 @@ deletes-ready past k candidate rest seen pick board table region qid c ready bef
           omega (
             arith,
             served-moves past later r i (one_if (0 == r && candidate.index == i) + times_in r i ts) (k.sq r) (after.sq r) (before r) (regions r) (omega arith),
-            times_held-append r i k.hand (held_upto k.deletion MAX_REGIONS),
-            times_held-append r i k.hand (held_upto kept MAX_REGIONS),
-            held-put (times_held r i) (times_held-append r i) k.deletion region (Some place) MAX_REGIONS within,
+            times_held-append r i k.hand (held_upto k.deletion k.nsq),
+            times_held-append r i k.hand (held_upto kept k.nsq),
+            held-put (times_held r i) (times_held-append r i) k.deletion region (Some place) k.nsq within,
             ap (λ (o : Option PendingDelete). times_held r i (held_by o)) none,
             times_held-by r i place,
           );
@@ -271,9 +275,9 @@ deletes-ready past k candidate rest seen pick board table region qid c ready bef
           let nothing = sum_by-none (mid region).window in
           omega (
             arith,
-            length-append k.hand (held_upto k.deletion MAX_REGIONS),
-            length-append k.hand (held_upto kept MAX_REGIONS),
-            held-put (λ (xs : List Place). length xs) (λ xs ys. length-append xs ys) k.deletion region (Some place) MAX_REGIONS within,
+            length-append k.hand (held_upto k.deletion k.nsq),
+            length-append k.hand (held_upto kept k.nsq),
+            held-put (λ (xs : List Place). length xs) (λ xs ys. length-append xs ys) k.deletion region (Some place) k.nsq within,
             ap (λ (o : Option PendingDelete). length (held_by o)) none,
           );
       few_taken = few;

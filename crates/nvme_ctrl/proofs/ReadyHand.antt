@@ -5,7 +5,6 @@ use Rattle.std.proofs.lemmas.Bool.{eq-eqb, ne_eqb}
 use Rattle.std.proofs.lemmas.List.{length-append}
 use Rattle.std.proofs.lemmas.List.Sums.{sum_by-cons, sum_by-append}
 use Rattle.std.proofs.lemmas.List.Elements.{All-nil, All-cons, All-head, All-tail, All-same}
-use Rattle.nvme_admin.specs.declared.bounds.TheConstants.{MAX_REGIONS}
 use Rattle.nvme_log.specs.Rules.{Past}
 use Rattle.nvme_log.specs.declared.place.Place.{Place}
 use Rattle.nvme_log.specs.Completions.{posted_to}
@@ -72,14 +71,15 @@ ready-answer rules late past k p before after sqid c cid answer entry s can ther
     let t : Ready = done sqid p cid answer in
     let at : IsInHand past p = (All-taken (IsInHand past) before p after (All-same (IsInHand past) (before ++ p ∷ after) k.hand (sym can.in_hand) s.hand.each)).0 in
     becomes-ready past past k new (hand_of k) (hand_of new) c (t ∷ []) s.ready (record {
-      small = omega (arith, s.queues.posts_there p.region (record { qid = sqid; cq_region = c }) can.attached, s.tabled.few_cqs);
+      small = s.queues.posts_there p.region (record { qid = sqid; cq_region = c }) can.attached;
+      ncq = refl;
       grows = put-grows k.cq c (t ∷ []);
       posts = λ r i. refl;
       served = λ r i.
           omega (
             arith,
-            times_held-append r i k.hand (held_upto k.deletion MAX_REGIONS),
-            times_held-append r i (before ++ after) (held_upto k.deletion MAX_REGIONS),
+            times_held-append r i k.hand (held_upto k.deletion k.nsq),
+            times_held-append r i (before ++ after) (held_upto k.deletion k.nsq),
             ap (times_held r i) can.in_hand,
             times_held-taken r i before p after,
           );
@@ -96,8 +96,8 @@ ready-answer rules late past k p before after sqid c cid answer entry s can ther
       taken =
           omega (
             arith,
-            length-append k.hand (held_upto k.deletion MAX_REGIONS),
-            length-append (before ++ after) (held_upto k.deletion MAX_REGIONS),
+            length-append k.hand (held_upto k.deletion k.nsq),
+            length-append (before ++ after) (held_upto k.deletion k.nsq),
             length-append before after,
             length-append before (p ∷ after),
             ap (λ (ps : List Place). length ps) can.in_hand,

@@ -10,8 +10,7 @@ use Rattle.nvme_entry.specs.declared.completion.Cqe.{Cqe}
 use Rattle.nvme_arbiter.specs.Board.{BoardView}
 use Rattle.nvme_arbiter.specs.declared.pick.Pick.{Pick}
 use Rattle.nvme_arbiter.specs.declared.pick.Seen.{Seen}
-use Rattle.nvme_admin.specs.declared.bounds.TheConstants.{MAX_REGIONS}
-use Rattle.nvme_admin.specs.Standing.{TableView}
+use Rattle.nvme_admin.specs.QueueTable.{QueueTable}
 use Rattle.nvme_admin.specs.Accepted.{queue_table}
 use Rattle.nvme_admin.specs.Changes.{IsDue}
 use Rattle.nvme_admin.specs.Checks.{status_in, dw0_in}
@@ -38,9 +37,9 @@ use Rattle.nvme_log.specs.Places.{one_if, is_served}
 use Rattle.nvme_ctrl.proofs.AbortRequests.{not_with_queue}
 use Rattle.nvme_ctrl.proofs.ServedPlaces.{served-fetch, aborts-leave, entry_stays}
 use Rattle.nvme_ctrl.proofs.Readying.{unposted-counts, waiting-unaborted, Pops, readies, sum_ready-pops, at_put_cq, put-grows, none-grows, Moves, served-moves, at_put}
-use Rattle.nvme_ctrl.proofs.ReadyChange.{picked-sum, pick-moves, becomes-ready}
+use Rattle.nvme_ctrl.proofs.ReadyChange.{some_cqs, picked-sum, pick-moves, becomes-ready}
 use Rattle.nvme_ctrl.proofs.PendingDeletions.{put-other, held-put}
-use Rattle.nvme_ctrl.proofs.DeletedQueues.{deletion_there, open_undeleted}
+use Rattle.nvme_ctrl.proofs.DeletedQueues.{deletion_within, open_undeleted}
 use Rattle.nvme_log.proofs.Posts.{posts_of-some}
 use Rattle.nvme_ctrl.proofs.ReadyHand.{times_held-append, places-own, places-other, same_posts}
 use Rattle.nvme_ctrl.proofs.ReadyAdmin.{unused_apart, unused_unnamed, SamePlaces, Answers, answers-ready, deletes-ready}
@@ -66,7 +65,8 @@ fetch_serves past region index entry s h r i =
 pub ready-fetch : KeepsFetch ReadyOnes
 ready-fetch rules late past k q queue entry s can after =
     becomes-ready past (fetch_event k queue entry ∷ past) k (after_fetch k q queue entry) (hand_of k) (hand_of k) 0 [] s.ready (record {
-      small = omega arith;
+      small = some_cqs past k (hand_of k) s.ready s.queues;
+      ncq = refl;
       grows = none-grows (λ (c : ℕ). (k.cq c).ready) 0;
       posts = λ r i. refl;
       served = λ r i.
@@ -100,7 +100,8 @@ ready-io rules late past k queue seen pick board c s can observed io attached af
     let places : List Place = map (place_of region) taken in
     let new : Content = after_io k queue pick.n board in
     becomes-ready past (event.Pick seen pick ∷ past) k new (hand_of k) (hand_of new) 0 [] s.ready (record {
-      small = omega arith;
+      small = some_cqs past k (hand_of k) s.ready s.queues;
+      ncq = refl;
       grows = none-grows (λ (x : ℕ). (k.cq x).ready) 0;
       posts = λ r i. refl;
       served = λ r i.
@@ -110,8 +111,8 @@ ready-io rules late past k queue seen pick board c s can observed io attached af
           omega (
             arith,
             served-moves past (event.Pick seen pick ∷ past) r i (times_held r i places) (k.sq r) _ (s.regions r) (after r) moves,
-            times_held-append r i k.hand (held_upto k.deletion MAX_REGIONS),
-            times_held-append r i (k.hand ++ places) (held_upto k.deletion MAX_REGIONS),
+            times_held-append r i k.hand (held_upto k.deletion k.nsq),
+            times_held-append r i (k.hand ++ places) (held_upto k.deletion k.nsq),
             times_held-append r i k.hand places,
           );
       stay = λ x t served h. record { region = h.region; queue = h.queue; entry = h.entry; is_there = h.is_there; cid = h.cid; with_queue = h.with_queue; deleting = h.deleting };
@@ -120,8 +121,8 @@ ready-io rules late past k queue seen pick board c s can observed io attached af
           let size : length taken ≡ pick.n = length-take-le pick.n (k.sq region).window can.enough in
           omega (
             arith,
-            length-append k.hand (held_upto k.deletion MAX_REGIONS),
-            length-append (k.hand ++ places) (held_upto k.deletion MAX_REGIONS),
+            length-append k.hand (held_upto k.deletion k.nsq),
+            length-append (k.hand ++ places) (held_upto k.deletion k.nsq),
             length-append k.hand places,
             length-map taken (place_of region),
           );
@@ -152,9 +153,9 @@ post-pops k c t rest cqe e = record {
 pub ready-post : KeepsPost ReadyOnes
 ready-post rules late past k c t rest cqe s can after =
     let later : Past = post_event c t cqe ∷ past in
-    let small : c < MAX_REGIONS = omega (arith, can.there, s.tabled.few_cqs) in
+    let small : c < k.ncq = can.there in
     let pops = post-pops k c t rest cqe can.oldest in
-    let picked = sum_ready-pops (λ (u : Ready). one_if (not u.with_queue)) (readies k.cq) (readies (after_post k c t rest cqe).cq) c MAX_REGIONS t pops small in
+    let picked = sum_ready-pops (λ (u : Ready). one_if (not u.with_queue)) (readies k.cq) (readies (after_post k c t rest cqe).cq) c k.ncq t pops small in
     let picked_before = picked-sum k in
     let picked_after = picked-sum (after_post k c t rest cqe) in
     record {
@@ -163,15 +164,15 @@ ready-post rules late past k c t rest cqe s can after =
             arith,
             s.ready.once r i,
             more_if (t.place.region == r && t.place.index == i) (posts_of past r i),
-            sum_ready-pops (λ (u : Ready). one_if (u.place.region == r && u.place.index == i)) (readies k.cq) (readies (after_post k c t rest cqe).cq) c MAX_REGIONS t pops small,
+            sum_ready-pops (λ (u : Ready). one_if (u.place.region == r && u.place.index == i)) (readies k.cq) (readies (after_post k c t rest cqe).cq) c k.ncq t pops small,
           );
       each = at_put_cq (λ (x : ℕ) (u : CqContent). All (IsReady later k.deletion x) u.ready) k.cq c (posted_cq (k.cq c) rest cqe)
           (All-tail (IsReady later k.deletion c) t rest (All-same (IsReady later k.deletion c) _ _ (sym can.oldest) (stays c)))
           (λ x d. stays x);
       taken = omega (arith, s.ready.taken);
       few_taken = omega (arith, s.ready.few_taken);
-      none_beyond = at_put_cq (λ (x : ℕ) (u : CqContent). MAX_REGIONS ≤ x → u.ready ≡ []) k.cq c (posted_cq (k.cq c) rest cqe)
-          (λ l. absurd (omega arith)) (λ x d. s.ready.none_beyond x);
+      none_beyond = at_put_cq (λ (x : ℕ) (u : CqContent). k.ncq ≤ x → u.ready ≡ []) k.cq c (posted_cq (k.cq c) rest cqe)
+          (λ l. absurd (omega (arith, small))) (λ x d. s.ready.none_beyond x);
       admin_qid = s.ready.admin_qid;
       admin_region = s.ready.admin_region;
     } where
@@ -200,18 +201,19 @@ not_posted past r i e = false_from_ne_true (is_posted past r i) (λ (p : is_post
 pub ready-close : KeepsClose ReadyOnes
 ready-close rules late past k d table s can after =
     let left : ℕ → Option PendingDelete = put_deletion k.deletion d.region None in
-    let there : d.region < MAX_REGIONS = deletion_there rules late past k s d.region d can.pending in
+    let there : d.region < k.nsq = deletion_within rules late past k s d.region d can.pending in
     let pends : IsPending past k d.region d = s.deletion.stands d.region d can.pending in
     becomes-ready past (closed_event d ∷ past) k (after_closed k d table) (hand_of k) (hand_of (after_closed k d table)) 0 (deleted d ∷ []) s.ready (record {
-      small = omega arith;
+      small = some_cqs past k (hand_of k) s.ready s.queues;
+      ncq = refl;
       grows = put-grows k.cq 0 (deleted d ∷ []);
       posts = λ r i. refl;
       served = λ r i.
           omega (
             arith,
-            times_held-append r i k.hand (held_upto k.deletion MAX_REGIONS),
-            times_held-append r i k.hand (held_upto left MAX_REGIONS),
-            held-put (times_held r i) (times_held-append r i) k.deletion d.region None MAX_REGIONS there,
+            times_held-append r i k.hand (held_upto k.deletion k.nsq),
+            times_held-append r i k.hand (held_upto left k.nsq),
+            held-put (times_held r i) (times_held-append r i) k.deletion d.region None k.nsq there,
             ap (λ (o : Option PendingDelete). times_held r i (held_by o)) can.pending,
           );
       stay = λ c t served h. record {
@@ -238,9 +240,9 @@ ready-close rules late past k d table s can after =
       }) (All-nil (IsReady (closed_event d ∷ past) left 0));
       taken = omega (
         arith,
-        length-append k.hand (held_upto k.deletion MAX_REGIONS),
-        length-append k.hand (held_upto left MAX_REGIONS),
-        held-put (λ (xs : List Place). length xs) (λ xs ys. length-append xs ys) k.deletion d.region None MAX_REGIONS there,
+        length-append k.hand (held_upto k.deletion k.nsq),
+        length-append k.hand (held_upto left k.nsq),
+        held-put (λ (xs : List Place). length xs) (λ xs ys. length-append xs ys) k.deletion d.region None k.nsq there,
         ap (λ (o : Option PendingDelete). length (held_by o)) can.pending,
       );
       few_taken = s.ready.few_taken;
@@ -254,12 +256,12 @@ posts-close rules late past k d table s can = same_posts past (closed_event d �
 
 -- ---- an admin pick
 module _ (rules : FrontRules) (late : Bool) (past : Past) (k : Content) (seen : List Seen) (pick : Pick) (picked : BoardView)
-    (candidate : Candidate) (rest : List Candidate) (table : TableView) (c : ℕ) (board : BoardView) (s : Holds rules late past k)
+    (candidate : Candidate) (rest : List Candidate) (table : QueueTable) (c : ℕ) (board : BoardView) (s : Holds rules late past k)
     (can : CanPick rules past k admin_queue pick picked) (first : pick.qid ≡ 0) (one : pick.n ≡ 1) (apply : CanApply rules past k s.tabled.history candidate rest table) where
   -- the answer of a command is ready, where the places of the log are as before
   answer : (later : Past) (after : Content) (status : StatusCode) (dw0 : ℕ) → SamePlaces past later → Answers k after (told candidate status dw0) → ReadyOnes rules late later after
   answer later after status dw0 same a regions =
-      answers-ready past later k after candidate rest status dw0 s.ready s.regions apply.oldest (omega (arith, can.places)) same a regions
+      answers-ready past later k after candidate rest status dw0 s.ready s.regions apply.oldest (some_cqs past k (hand_of k) s.ready s.queues) (omega (arith, can.places)) same a regions
 
   -- with the status and the Command Dword 0 of a verdict
   answer_by : (later : Past) (after : Content) (v : Verdict) → SamePlaces past later → Answers k after (answered candidate v) → ReadyOnes rules late later after
@@ -267,7 +269,11 @@ module _ (rules : FrontRules) (late : Bool) (past : Past) (k : Content) (seen : 
 
   -- nothing but the board, the table and the oldest candidate is changed
   leaves_answer : (b : BoardView) (t : Ready) → Answers k (with_ready (record (applied_to k picked table) { board = b }) 0 t) t
-  leaves_answer b t = record { grows = put-grows k.cq 0 (t ∷ []); hand = refl; deletion = refl; outstanding = refl; windows = λ r. refl; got = λ r. refl }
+  leaves_answer b t = record { grows = put-grows k.cq 0 (t ∷ []); hand = refl; deletion = refl; outstanding = refl; nsq = refl; ncq = refl; windows = λ r. refl; got = λ r. refl }
+
+  -- nor which completion queues have their state kept
+  leaves_cqs : (lives ids : ℕ → Option ℕ) (t : Ready) → Answers k (with_ready (record (applied_to k picked table) { cq_life = lives; cq_id = ids }) 0 t) t
+  leaves_cqs lives ids t = record { grows = put-grows k.cq 0 (t ∷ []); hand = refl; deletion = refl; outstanding = refl; nsq = refl; ncq = refl; windows = λ r. refl; got = λ r. refl }
 
   -- a pick alone leaves the places
   pick-leaves : SamePlaces past (event.Pick seen pick ∷ past)
@@ -281,8 +287,8 @@ module _ (rules : FrontRules) (late : Bool) (past : Past) (k : Content) (seen : 
   begins_delete qid (Some queue) e is chosen =
       let attached = chosen queue e in
       deletes-ready past k candidate rest seen pick picked table queue.region qid c s.ready s.regions apply.oldest (open_undeleted rules late past k s qid queue e)
-      (omega (arith, s.queues.sq_there queue.region (record { qid = qid; cq_region = c }) attached, s.tabled.few_sqs)) (omega (arith, can.places))
-      (omega (arith, s.queues.posts_there queue.region (record { qid = qid; cq_region = c }) attached, s.tabled.few_cqs))
+      (s.queues.sq_there queue.region (record { qid = qid; cq_region = c }) attached) (omega (arith, can.places))
+      (s.queues.posts_there queue.region (record { qid = qid; cq_region = c }) attached)
       (s.queues.cq_region_is queue.region ∙ ap (option_map (λ (a : Attachment). a.cq_region)) attached)
       (s.queues.qid_is queue.region ∙ ap (option_map (λ (a : Attachment). a.qid)) attached)
       (took_delete rules late past k seen pick picked s can first candidate rest qid apply.oldest is)
@@ -308,7 +314,7 @@ module _ (rules : FrontRules) (late : Bool) (past : Past) (k : Content) (seen : 
       let attached = (chosen queue found target before).attached in
       aborts-ready past k candidate rest seen pick picked board table sqid queue.region c cid found s.ready s.regions apply.oldest
       (apply.second (verdict_is_abort rules.start s.tabled.history candidate.entry sqid cid is))
-      (omega (arith, s.queues.posts_there queue.region (record { qid = sqid; cq_region = c }) attached, s.tabled.few_cqs))
+      (s.queues.posts_there queue.region (record { qid = sqid; cq_region = c }) attached)
       (s.queues.cq_region_is queue.region ∙ ap (option_map (λ (a : Attachment). a.cq_region)) attached)
       (s.queues.qid_is queue.region ∙ ap (option_map (λ (a : Attachment). a.qid)) attached)
       (took_request rules late past k seen pick picked s can first candidate rest sqid cid apply.oldest is)
@@ -345,6 +351,8 @@ module _ (rules : FrontRules) (late : Bool) (past : Past) (k : Content) (seen : 
     hand = refl;
     deletion = refl;
     outstanding = refl;
+    nsq = refl;
+    ncq = refl;
     windows = opened-keeps (λ (x : SqContent). x.window) (put_sq k.sq 0 (picked_sq (k.sq 0) 1)) region _ refl;
     got = opened-keeps (λ (x : SqContent). x.got) (put_sq k.sq 0 (picked_sq (k.sq 0) 1)) region _ refl;
   })
@@ -354,8 +362,8 @@ module _ (rules : FrontRules) (late : Bool) (past : Past) (k : Content) (seen : 
     qids = λ r x h. h;
     entries = λ r i. refl;
     with_queue = λ r i. refl;
-  }) (leaves_answer picked (answered candidate (verdict.OpenCq qid region)))
-  commands (CloseCq qid) is due chosen = answer_by _ _ (CloseCq qid) (closing-leaves qid (open_cq past qid)) (leaves_answer picked (answered candidate (CloseCq qid)))
+  }) (leaves_cqs _ _ (answered candidate (verdict.OpenCq qid region)))
+  commands (CloseCq qid) is due chosen = answer_by _ _ (CloseCq qid) (closing-leaves qid (open_cq past qid)) (leaves_cqs _ _ (answered candidate (CloseCq qid)))
   commands (verdict.SetArbitration settings) is due chosen = answer_by _ _ (verdict.SetArbitration settings) (record {
     posts = λ r i. refl;
     cq_regions = λ r x h. h;
@@ -394,7 +402,7 @@ made_posts past pick (verdict.Abort sqid cid) h x = aborting (target_of past sqi
   aborting (Some queue) = aborts-leave (λ (p : Past). posted_to p x) (λ p r i. refl) queue.region (take 1 (named past queue.region cid)) (pick ∷ past) ∙ h x
 
 -- what each verdict leaves posts nothing
-left_posts : (rules : FrontRules) (past later : Past) (k : Content) (candidate : Candidate) (c : ℕ) (picked board : BoardView) (table : TableView) (v : Verdict)
+left_posts : (rules : FrontRules) (past later : Past) (k : Content) (candidate : Candidate) (c : ℕ) (picked board : BoardView) (table : QueueTable) (v : Verdict)
     → HoldsPosts past k → ((x : ℕ) → posted_to later x ≡ posted_to past x) → HoldsPosts later (after_admin past (applied_to k picked table) candidate c board v)
 left_posts rules past later k candidate c picked board table (Done status dw0) h same = same_posts past later k _ 0 _ h refl same
 left_posts rules past later k candidate c picked board table (verdict.OpenSq qid region cqid class) h same = same_posts past later k _ 0 _ h refl same

@@ -1,6 +1,5 @@
 -- A pick takes a command that waits, whatever queues are held and whatever classes are set.
-use Rattle.std.proofs.Common.{◌≡◌, ℕ, ◌≤◌, ◌<◌, ◌==◌, Bool, true, false, if◌then◌else◌, List, [], ◌∷◌, length, map, find, Option, Some, None, refl, sym, ap, ◌∙◌, subst, arith, inl, inr}
-use Rattle.std.specs.Prelude.{is_some}
+use Rattle.std.proofs.Common.{◌≡◌, ℕ, ◌≤◌, ◌<◌, ◌==◌, Bool, true, false, if◌then◌else◌, List, [], ◌∷◌, length, map, find, Some, refl, sym, ap, ◌∙◌, subst, arith, inl, inr}
 use Rattle.std.proofs.lemmas.Bool.{eqb-true}
 use Rattle.std.proofs.lemmas.Option.{same_Some}
 use Rattle.nvme_arbiter.specs.Laws.{IsMeasured}
@@ -12,7 +11,7 @@ use Rattle.nvme_arbiter.proofs.PickLaws.{picks_are_measured}
 use Rattle.nvme_log.specs.declared.event.Event.{Event}
 use Rattle.nvme_log.specs.declared.event.Event.TheVariants as event
 use Rattle.nvme_log.specs.Rules.{FrontRules, Each}
-use Rattle.nvme_log.specs.Queues.{Queue, open_sq}
+use Rattle.nvme_log.specs.Queues.{open_sq}
 use Rattle.nvme_log.specs.Places.{waiting, observation_of}
 use Rattle.nvme_log.specs.Histories.{arbitration_of}
 use Rattle.nvme_log.proofs.LoadedPlaces.{seen-in}

@@ -1,5 +1,5 @@
 -- What is in slots, where one of them is changed.
-use Rattle.std.proofs.Common.{◌≡◌, ◌≢◌, ℕ, zero, suc, ◌-◌, ◌<◌, ◌≤◌, ◌==◌, Bool, true, false, if◌then◌else◌, List, [], ◌∷◌, ◌++◌, length, take, drop, get_or, refl, sym, ap, ◌∙◌, subst, arith, inl, inr}
+use Rattle.std.proofs.Common.{◌≡◌, ◌≢◌, ℕ, zero, suc, ◌-◌, ◌<◌, ◌≤◌, ◌==◌, Bool, true, false, if◌then◌else◌, List, [], ◌∷◌, ◌++◌, length, take, drop, get_or, Option, Some, refl, sym, ap, ◌∙◌, subst, arith, inl, inr}
 use Rattle.std.specs.List.{All}
 use Rattle.std.proofs.lemmas.Bool.{cases_eq, eq-eqb, ne_eqb}
 use Rattle.std.proofs.lemmas.List.Elements.{All-nil, All-cons, All-head, All-tail}
@@ -53,34 +53,35 @@ module _ (slots new : List Slot) (tag : ℕ) (size : length new ≡ length slots
   same_state y n other h = ap (λ (s : Slot). s.state) (others y other) ∙ h
 
   -- what waits in another slot is left
-  pub waiting_stays : (r : ℕ) (it : Item) → it.tag ≢ tag → IsWaitingIn slots r it → IsWaitingIn new r it
-  waiting_stays r it other h =
+  pub waiting_stays : (q r : ℕ) (it : Item) → it.tag ≢ tag → IsWaitingIn slots q r it → IsWaitingIn new q r it
+  waiting_stays q r it other h =
       let same = others it.tag other in
       record {
         state = ap (λ (s : Slot). s.state) same ∙ h.state;
-        region = ap (λ (s : Slot). s.region) same ∙ h.region;
+        queue = ap (λ (s : Slot). s.sqid) same ∙ h.queue;
         entry = ap (λ (s : Slot). s.entry) same ∙ h.entry;
         place = h.place;
       }
 
   -- so is what the device has
-  pub out_stays : (it : Item) → it.tag ≢ tag → IsOutIn slots it → IsOutIn new it
-  out_stays it other h =
+  pub out_stays : (ids : ℕ → Option ℕ) (it : Item) → it.tag ≢ tag → IsOutIn ids slots it → IsOutIn ids new it
+  out_stays ids it other h =
       let same = others it.tag other in
       record {
         inside = subst (λ (n : ℕ). it.tag < n) (sym size) h.inside;
         state = ap (λ (s : Slot). s.state) same ∙ h.state;
-        region = ap (λ (s : Slot). s.region) same ∙ h.region;
+        queue = h.queue ∙ sym (ap (λ (s : Slot). Some s.sqid) same);
         entry = ap (λ (s : Slot). s.entry) same ∙ h.entry;
       }
 
   -- and what is ready
-  pub ready_stays : (x : ReadyItem) → x.tag ≢ tag → IsReadyIn slots x → IsReadyIn new x
-  ready_stays x other h =
+  pub ready_stays : (ids : ℕ → Option ℕ) (x : ReadyItem) → x.tag ≢ tag → IsReadyIn ids slots x → IsReadyIn ids new x
+  ready_stays ids x other h =
       let same = others x.tag other in
       record {
         state = ap (λ (s : Slot). s.state) same ∙ h.state;
-        region = ap (λ (s : Slot). s.region) same ∙ h.region;
+        queue = h.queue ∙ sym (ap (λ (s : Slot). Some s.sqid) same);
+        sqid = ap (λ (s : Slot). s.sqid) same ∙ h.sqid;
         cid = ap (λ (s : Slot). s.entry.cid) same ∙ h.cid;
         sct = ap (λ (s : Slot). s.sct) same ∙ h.sct;
         few_types = subst (λ (n : ℕ). n < 8) (sym (ap (λ (s : Slot). s.sct) same)) h.few_types;
@@ -91,17 +92,17 @@ module _ (slots new : List Slot) (tag : ℕ) (size : length new ≡ length slots
       }
 
   -- a slot that doesn't wait is left by a change to one that does, and so by the states
-  pub all_waiting_stay : (r : ℕ) (its : List Item) → (slot_at slots tag).state ≢ 1 → All (IsWaitingIn slots r) its → All (IsWaitingIn new r) its
-  all_waiting_stay r its not h k d lt =
+  pub all_waiting_stay : (q r : ℕ) (its : List Item) → (slot_at slots tag).state ≢ 1 → All (IsWaitingIn slots q r) its → All (IsWaitingIn new q r) its
+  all_waiting_stay q r its not h k d lt =
       let it : Item = get_or its k d in
-      waiting_stays r it (λ e. not (ap (λ (y : ℕ). (slot_at slots y).state) (sym e) ∙ (h k d lt).state)) (h k d lt)
+      waiting_stays q r it (λ e. not (ap (λ (y : ℕ). (slot_at slots y).state) (sym e) ∙ (h k d lt).state)) (h k d lt)
 
-  pub all_ready_stay : (xs : List ReadyItem) → (slot_at slots tag).state ≤ 2 → All (IsReadyIn slots) xs → All (IsReadyIn new) xs
-  all_ready_stay xs low h k d lt =
+  pub all_ready_stay : (ids : ℕ → Option ℕ) (xs : List ReadyItem) → (slot_at slots tag).state ≤ 2 → All (IsReadyIn ids slots) xs → All (IsReadyIn ids new) xs
+  all_ready_stay ids xs low h k d lt =
       let x : ReadyItem = get_or xs k d in
       let state = (h k d lt).state in
       let range = (ready_state-range x.was_out x.ready.with_queue).0 in
-      ready_stays x (λ e. absurd (omega (arith, ap (λ (y : ℕ). (slot_at slots y).state) e, state, range, low))) (h k d lt)
+      ready_stays ids x (λ e. absurd (omega (arith, ap (λ (y : ℕ). (slot_at slots y).state) e, state, range, low))) (h k d lt)
 
   pub all_free_stay : (ys : List ℕ) → (slot_at slots tag).state ≢ 0 → All (is_free slots) ys → All (is_free new) ys
   all_free_stay ys not h k d lt =

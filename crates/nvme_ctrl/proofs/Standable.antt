@@ -1,5 +1,6 @@
 -- A controller that stands at its notes keeps its content there.
-use Rattle.std.proofs.Common.{◌≡◌, ◌≢◌, ℕ, Bool, List, Some, sym, ap, ◌∙◌}
+use Rattle.std.proofs.Common.{◌≡◌, ◌≢◌, ℕ, Bool, List, Option, Some, sym, ap, ◌∙◌}
+use Rattle.std.specs.Prelude.{unwrap_or}
 use Rattle.std.specs.List.{All}
 use Rattle.std.proofs.lemmas.List.Elements.{All-weaker, All-map, All-same}
 use Rattle.std.proofs.lemmas.Option.{same_Some}
@@ -16,11 +17,17 @@ use Rattle.nvme_ctrl.proofs.OwnStatus.{All-unmap}
 use Rattle.nvme_ctrl.proofs.SlotItems.{All-both}
 
 module _ (rules : FrontRules) (late : Bool) (notes : Notes) (c : Controller) (slots : List Slot) (s : StandsAt rules late notes c slots) where
+  -- the region of the queue of a slot
+  abbrev region_at : ℕ → ℕ
+  region_at x = unwrap_or (s.content.sq_life (slot_at slots x).sqid) 0
+
   -- the completion region of the slot of a ready command
-  in_region : (x : ℕ) → All (λ (it : ReadyItem). cq_region_of (logged notes) (slot_at slots it.tag).region ≡ Some x) (s.items.readies x)
+  in_region : (x : ℕ) → All (λ (it : ReadyItem). cq_region_of (logged notes) (region_at it.tag) ≡ Some x) (s.items.readies x)
   in_region x =
-      All-both (IsReadyIn slots) (λ (it : ReadyItem). IsReady (logged notes) s.content.deletion x it.ready) (λ (it : ReadyItem). cq_region_of (logged notes) (slot_at slots it.tag).region ≡ Some x)
-      (λ it r is. ap (cq_region_of (logged notes)) r.region ∙ is.region) (s.items.readies x) (s.has.ready_items x)
+      All-both (IsReadyIn s.content.sq_id slots) (λ (it : ReadyItem). IsReady (logged notes) s.content.deletion x it.ready) (λ (it : ReadyItem). cq_region_of (logged notes) (region_at it.tag) ≡ Some x)
+      (λ it r is.
+      ap (λ (o : Option ℕ). cq_region_of (logged notes) (unwrap_or o 0)) (s.numbers.sq_ids.lives_are it.ready.place.region (slot_at slots it.tag).sqid r.queue) ∙ is.region)
+      (s.items.readies x) (s.has.ready_items x)
       (All-unmap (IsReady (logged notes) s.content.deletion x) (λ (it : ReadyItem). it.ready) (s.items.readies x)
       (All-same (IsReady (logged notes) s.content.deletion x) (readies_of (s.items.readies x)) (s.content.cq x).ready (sym (s.has.ready_is x)) (s.holds.ready.each x)))
 
@@ -28,11 +35,11 @@ module _ (rules : FrontRules) (late : Bool) (notes : Notes) (c : Controller) (sl
   pub readies_are_apart : AreReadiesApart s.items
   readies_are_apart x y differ =
       All-map (λ (tag : ℕ). IsNew tag (ready_tags (s.items.readies y))) (λ (it : ReadyItem). it.tag) (s.items.readies x)
-      (All-weaker (λ (it : ReadyItem). cq_region_of (logged notes) (slot_at slots it.tag).region ≡ Some x) (λ (it : ReadyItem). IsNew it.tag (ready_tags (s.items.readies y)))
+      (All-weaker (λ (it : ReadyItem). cq_region_of (logged notes) (region_at it.tag) ≡ Some x) (λ (it : ReadyItem). IsNew it.tag (ready_tags (s.items.readies y)))
       (λ it here.
       All-map (λ (tag : ℕ). tag ≢ it.tag) (λ (other : ReadyItem). other.tag) (s.items.readies y)
-      (All-weaker (λ (other : ReadyItem). cq_region_of (logged notes) (slot_at slots other.tag).region ≡ Some y) (λ (other : ReadyItem). other.tag ≢ it.tag)
-      (λ other there e. differ (same_Some x y (sym here ∙ ap (λ (z : ℕ). cq_region_of (logged notes) (slot_at slots z).region) (sym e) ∙ there))) (s.items.readies y) (in_region y)))
+      (All-weaker (λ (other : ReadyItem). cq_region_of (logged notes) (region_at other.tag) ≡ Some y) (λ (other : ReadyItem). other.tag ≢ it.tag)
+      (λ other there e. differ (same_Some x y (sym here ∙ ap (λ (z : ℕ). cq_region_of (logged notes) (region_at z)) (sym e) ∙ there))) (s.items.readies y) (in_region y)))
       (s.items.readies x) (in_region x))
 
   -- so all is kept

@@ -9,6 +9,7 @@ use Rattle.nvme_ctrl.proofs.AnswerSteps.{regions-answer, counts-answer, queues-a
 use Rattle.nvme_ctrl.proofs.Counts.{counts-fetch, counts-io, counts-admin, counts-post, counts-close}
 use Rattle.nvme_ctrl.proofs.QueueSteps.{queues-fetch, queues-io, queues-admin, queues-post, queues-close}
 use Rattle.nvme_ctrl.proofs.DeletionSteps.{deleting-fetch, deleting-io, deleting-admin, deleting-post, deleting-close}
+use Rattle.nvme_ctrl.proofs.LifeSteps.{lives-fetch, lives-io, lives-answer, lives-admin, lives-post, lives-close}
 use Rattle.nvme_ctrl.proofs.ArbitrationSteps.{arbitration-fetch, arbitration-io, arbitration-admin, arbitration-post, arbitration-close}
 use Rattle.nvme_ctrl.proofs.OwnSteps.{own-fetch, own-io, own-answer, own-post, own-close}
 use Rattle.nvme_ctrl.proofs.AdminEvents.{own-admin}
@@ -28,6 +29,7 @@ holds-fetch rules late past k q queue entry s can =
       posts = posts-fetch rules late past k q queue entry s can;
       queues = queues-fetch rules late past k q queue entry s can r;
       deletion = deleting-fetch rules late past k q queue entry s can r;
+      lives = lives-fetch rules late past k q queue entry s can;
       arbitration = arbitration-fetch rules late past k q queue entry s can;
       tabled = tabled-fetch rules late past k q queue entry s can;
       own = own-fetch rules late past k q queue entry s can r;
@@ -44,6 +46,7 @@ holds-io rules late past k queue seen pick board c s can is io at =
       posts = posts-io rules late past k queue seen pick board c s can is io at;
       queues = queues-io rules late past k queue seen pick board c s can is io at r;
       deletion = deleting-io rules late past k queue seen pick board c s can is io at r;
+      lives = lives-io rules late past k queue seen pick board c s can is io at;
       arbitration = arbitration-io rules late past k queue seen pick board c s can is io at;
       tabled = tabled-io rules late past k queue seen pick board c s can is io at;
       own = own-io rules late past k queue seen pick board c s can is io at r;
@@ -60,6 +63,7 @@ holds-admin rules late past k seen pick picked candidate rest table c board s ca
       posts = posts-admin rules late past k seen pick picked candidate rest table c board s can is z one apply chosen;
       queues = queues-admin rules late past k seen pick picked candidate rest table c board s can is z one apply chosen r;
       deletion = deleting-admin rules late past k seen pick picked candidate rest table c board s can is z one apply chosen r;
+      lives = lives-admin rules late past k seen pick picked candidate rest table c board s can is z one apply chosen;
       arbitration = arbitration-admin rules late past k seen pick picked candidate rest table c board s can is z one apply chosen;
       tabled = tabled-admin rules late past k seen pick picked candidate rest table c board s can is z one apply chosen;
       own = own-admin rules late past k seen pick picked candidate rest table c board s can is z one apply chosen r;
@@ -76,6 +80,7 @@ holds-post rules late past k c t rest cqe s can =
       posts = posts-post rules late past k c t rest cqe s can;
       queues = queues-post rules late past k c t rest cqe s can r;
       deletion = deleting-post rules late past k c t rest cqe s can r;
+      lives = lives-post rules late past k c t rest cqe s can;
       arbitration = arbitration-post rules late past k c t rest cqe s can;
       tabled = tabled-post rules late past k c t rest cqe s can;
       own = own-post rules late past k c t rest cqe s can r;
@@ -92,6 +97,7 @@ holds-close rules late past k d table s can =
       posts = posts-close rules late past k d table s can;
       queues = queues-close rules late past k d table s can r;
       deletion = deleting-close rules late past k d table s can r;
+      lives = lives-close rules late past k d table s can;
       arbitration = arbitration-close rules late past k d table s can;
       tabled = tabled-close rules late past k d table s can;
       own = own-close rules late past k d table s can r;
@@ -108,6 +114,7 @@ holds-answer rules late past k p before after sqid c cid answer entry s can ther
       posts = posts-answer rules late past k p before after sqid c cid answer entry s can there names;
       queues = queues-answer rules late past k p before after sqid c cid answer entry s can there names r;
       deletion = deleting-answer rules late past k p before after sqid c cid answer entry s can there names r;
+      lives = lives-answer rules late past k p before after sqid c cid answer entry s can there names;
       arbitration = arbitration-answer rules late past k p before after sqid c cid answer entry s can there names;
       tabled = tabled-answer rules late past k p before after sqid c cid answer entry s can there names;
       own = own-answer rules late past k p before after sqid c cid answer entry s can there names r;

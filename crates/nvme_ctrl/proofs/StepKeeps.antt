@@ -8,7 +8,7 @@ use Rattle.nvme_arbiter.specs.Board.{BoardView}
 use Rattle.nvme_arbiter.specs.Queues.{seen_of}
 use Rattle.nvme_arbiter.specs.declared.pick.Pick.{Pick}
 use Rattle.nvme_arbiter.specs.declared.pick.Seen.{Seen}
-use Rattle.nvme_admin.specs.Standing.{TableView}
+use Rattle.nvme_admin.specs.QueueTable.{QueueTable}
 use Rattle.nvme_log.specs.declared.event.Event.TheVariants as event
 use Rattle.nvme_log.specs.Rules.{FrontRules, Past}
 use Rattle.nvme_log.specs.Queues.{Queue, admin_queue}
@@ -17,7 +17,7 @@ use Rattle.nvme_log.specs.declared.place.Place.{Place}
 use Rattle.nvme_log.specs.Answers.{Answer}
 use Rattle.nvme_ctrl.specs.Own.{may_be_own}
 use Rattle.nvme_ctrl.specs.kept.Content.{Candidate, Ready, PendingDelete, Content}
-use Rattle.nvme_ctrl.specs.kept.Standing.{HoldsSq, HoldsReady, HoldsCounts, HoldsPosts, HoldsQueues, HoldsDeletion, HoldsArbitration, HoldsTable, HoldsHand, HoldsOwn, hand_of, Holds}
+use Rattle.nvme_ctrl.specs.kept.Standing.{HoldsSq, HoldsReady, HoldsCounts, HoldsPosts, HoldsQueues, HoldsDeletion, HoldsLives, HoldsArbitration, HoldsTable, HoldsHand, HoldsOwn, hand_of, Holds}
 use Rattle.nvme_ctrl.specs.inside.Next.{IsNext, EachNext}
 use Rattle.nvme_log.specs.Effects.{made_by}
 use Rattle.nvme_ctrl.specs.inside.Steps.{CanPick, CanApply, verdict_at, applied_to}
@@ -57,7 +57,7 @@ KeepsAnswer X = (rules : FrontRules) (late : Bool) (past : Past) (k : Content) (
 
 abbrev pub KeepsAdmin : Invariant → Type 0
 KeepsAdmin X = (rules : FrontRules) (late : Bool) (past : Past) (k : Content) (seen : List Seen) (pick : Pick) (picked : BoardView)
-    (candidate : Candidate) (rest : List Candidate) (table : TableView) (c : ℕ) (board : BoardView)
+    (candidate : Candidate) (rest : List Candidate) (table : QueueTable) (c : ℕ) (board : BoardView)
     → (s : Holds rules late past k) → CanPick rules past k admin_queue pick picked → seen ≡ seen_of k.board.queues → pick.qid ≡ 0 → pick.n ≡ 1
     → CanApply rules past k s.tabled.history candidate rest table
     → IsChosen rules past k c picked board (verdict_at rules s.tabled.history candidate)
@@ -70,7 +70,7 @@ KeepsPost X = (rules : FrontRules) (late : Bool) (past : Past) (k : Content) (c 
     → X rules late (post_event c t cqe ∷ past) (after_post k c t rest cqe)
 
 abbrev pub KeepsClose : Invariant → Type 0
-KeepsClose X = (rules : FrontRules) (late : Bool) (past : Past) (k : Content) (d : PendingDelete) (table : TableView)
+KeepsClose X = (rules : FrontRules) (late : Bool) (past : Past) (k : Content) (d : PendingDelete) (table : QueueTable)
     → (s : Holds rules late past k) → CanClose rules k s.tabled.history d table
     → X rules late (closed_event d ∷ past) (after_closed k d table)
 
@@ -96,6 +96,9 @@ Queues rules late past k = Regions rules late past k → HoldsQueues past k
 abbrev pub Deleting : Invariant
 Deleting rules late past k = Regions rules late past k → HoldsDeletion past k
 
+abbrev pub Lives : Invariant
+Lives rules late past k = HoldsLives past k
+
 abbrev pub Arbitration : Invariant
 Arbitration rules late past k = HoldsArbitration rules past k
 
@@ -113,7 +116,7 @@ Next rules late (e ∷ past) k = Regions rules late (e ∷ past) k → late ≡ 
 -- each event of an admin pick is lawful: the pick, and what its command makes
 abbrev pub NextAdmin : Type 0
 NextAdmin = (rules : FrontRules) (late : Bool) (past : Past) (k : Content) (seen : List Seen) (pick : Pick) (picked : BoardView)
-    (candidate : Candidate) (rest : List Candidate) (table : TableView)
+    (candidate : Candidate) (rest : List Candidate) (table : QueueTable)
     → (s : Holds rules late past k) → CanPick rules past k admin_queue pick picked → seen ≡ seen_of k.board.queues → pick.qid ≡ 0 → pick.n ≡ 1
     → CanApply rules past k s.tabled.history candidate rest table → late ≡ false
     → EachNext (IsNext rules) (event.Pick seen pick ∷ made_by past (verdict_at rules s.tabled.history candidate)) past

@@ -1,17 +1,18 @@
 -- The steps of a controller keep its table at the table history of the log.
 use Rattle.std.proofs.Common.{inl, inr}
-use Rattle.std.proofs.Common.{◌≡◌, ℕ, ◌+◌, ◌-◌, ◌==◌, ◌≤◌, Bool, true, false, List, [], ◌∷◌, ◌++◌, map, length, Option, Some, None, refl, sym, ap, subst, ◌∙◌, eq-eqb, eqb-true, take}
-use Rattle.nvme_admin.specs.declared.bounds.TheConstants.{MAX_REGIONS}
-use Rattle.std.specs.Prelude.{if◌then◌else◌}
+use Rattle.std.proofs.Common.{◌≡◌, ℕ, ◌+◌, ◌-◌, ◌==◌, Bool, true, false, List, [], ◌∷◌, ◌++◌, map, length, Option, Some, None, refl, sym, ap, subst, ◌∙◌, eq-eqb, eqb-true, take}
+use Rattle.std.specs.Prelude.{if◌then◌else◌, is_some}
+use Rattle.std.proofs.lemmas.Option.{none-some}
 use Rattle.std.proofs.lemmas.Bool.{ne_eqb, cond-true, cond-false}
 use Rattle.nvme_arbiter.specs.Board.{BoardView}
 use Rattle.nvme_entry.specs.declared.admin.AdminCommand.{AdminCommand}
 use Rattle.nvme_entry.specs.declared.submission.Sqe.{Sqe}
-use Rattle.nvme_admin.specs.History.{Start, TableHistory, EntryApplied, DeletionFinished, Effects, Accepted}
-use Rattle.nvme_admin.specs.QueueTable.{sq_regions_in, cq_regions_in, table_in}
+use Rattle.nvme_admin.proofs.Changed.{finish-takes_one}
+use Rattle.nvme_admin.specs.History.{Start, Placing, TableHistory, EntryApplied, DeletionFinished, Effects, Accepted}
+use Rattle.nvme_admin.specs.QueueTable.{QueueTable, sq_regions_in, cq_regions_in, placing_in, unless_closing, table_in}
 use Rattle.nvme_admin.specs.Checks.{status_over, is_success}
-use Rattle.nvme_admin.specs.Accepted.{effects_of, queue_table}
-use Rattle.nvme_admin.specs.Standing.{TableView, StandsAt}
+use Rattle.nvme_admin.specs.Accepted.{effects_of, queue_table, sq_at}
+use Rattle.nvme_admin.specs.declared.verdict.SqEntry.{SqEntry}
 use Rattle.nvme_entry.specs.AdminCommand.{admin_command_of}
 use Rattle.nvme_admin.specs.declared.verdict.Verdict.{Verdict}
 use Rattle.nvme_admin.specs.declared.verdict.Verdict.TheVariants.{Done, BeginDelete, CloseCq}
@@ -25,12 +26,13 @@ use Rattle.nvme_log.specs.Queues.{Queue, admin_queue, open_sq, open_cq}
 use Rattle.nvme_log.specs.Places.{waiting}
 use Rattle.nvme_log.specs.Histories.{table_history, admin_entry, applied}
 use Rattle.nvme_log.specs.Effects.{closed_cq_of, closing_of, made_by, abort_in, named, target_of}
-use Rattle.nvme_ctrl.specs.kept.Content.{SqContent, CqContent, Content, with_sq, with_cq, with_ready, put_deletion}
-use Rattle.nvme_ctrl.specs.kept.Standing.{HoldsTable}
+use Rattle.nvme_ctrl.specs.kept.Content.{SqContent, CqContent, Content, with_sq, with_cq, with_ready}
+use Rattle.nvme_ctrl.specs.kept.Standing.{FewQueues, HoldsTable}
 use Rattle.nvme_ctrl.proofs.Handing.{table_stays}
 use Rattle.nvme_ctrl.proofs.Oldest.{admin_entry_is}
 use Rattle.nvme_ctrl.specs.inside.Steps.{applied_to, aborted, verdict_at, after_pick, picked_sq, oldest_named, requested, without_oldest}
-use Rattle.nvme_ctrl.proofs.AfterSteps.{with_events, with_readies, admin_past, after_admin, deleting_from, with_opened, with_deleting, after_io, after_post, after_closed, posted_cq, post_event, closed_event, aborting_from, aborting_in, with_requested}
+use Rattle.nvme_ctrl.specs.inside.Carrying.{opening_cq}
+use Rattle.nvme_ctrl.proofs.AfterSteps.{closing_sq, closing_from, with_events, with_readies, admin_past, after_admin, deleting_from, with_opened, with_deleting, after_io, after_post, after_closed, posted_cq, post_event, closed_event, aborting_from, aborting_in, with_requested}
 use Rattle.nvme_ctrl.proofs.StepKeeps.{KeepsFetch, KeepsIo, KeepsAdmin, KeepsPost, KeepsClose, Tabled, IsHanded}
 
 -- ---- the regions
@@ -105,21 +107,42 @@ pub finish-cq_regions : (start : Start) (h : TableHistory) (qid : ℕ) → (queu
 unfolding effects_of queue_table
 finish-cq_regions start h qid = refl
 
+-- neither changes where queues may lie
+accepted-placing : (b : Bool) (command : AdminCommand) (e : Effects) → placing_in (if b then Accepted command ∷ e else e) ≡ placing_in e
+accepted-placing true command e = refl
+accepted-placing false command e = refl
+
+pub entry-placing : (start : Start) (h : TableHistory) (entry : Sqe) → (queue_table start (EntryApplied entry ∷ h)).placing ≡ (queue_table start h).placing
+unfolding effects_of queue_table
+entry-placing start h entry = accepted-placing (is_success (status_over (table_in start (effects_of start h)) entry)) (admin_command_of entry) (effects_of start h)
+
+pub finish-placing : (start : Start) (h : TableHistory) (qid : ℕ) → (queue_table start (DeletionFinished qid ∷ h)).placing ≡ (queue_table start h).placing
+unfolding effects_of queue_table
+finish-placing start h qid = refl
+
+-- a queue that the end of a deletion leaves was there before
+was_there : (b : Bool) (o : Option SqEntry) (entry : SqEntry) → (if b then unless_closing o else o) ≡ Some entry → (e : SqEntry) × (o ≡ Some e)
+was_there false o entry is = (entry, is)
+was_there true None entry is = absurd (none-some entry is)
+was_there true (Some e) entry is = (e, refl)
+
 -- ---- what is kept of the table
 -- where the regions are left, the table stands at its new history
 held : (rules : FrontRules) (late : Bool) (past later : Past) (k after : Content) → HoldsTable rules late past k → LeavesRegions k after
     → after.table.sq_regions ≡ k.table.sq_regions → after.table.cq_regions ≡ k.table.cq_regions
-    → (h : TableHistory) → StandsAt rules.start after.table h → (late ≡ false → h ≡ table_history rules later) → HoldsTable rules late later after
-held rules late past later k after t l sqs cqs h stands is = record {
+    → (h : TableHistory) → after.table ≡ queue_table rules.start h → FewQueues after.table → after.table.placing ≡ k.table.placing
+    → (late ≡ false → h ≡ table_history rules later) → HoldsTable rules late later after
+held rules late past later k after t l sqs cqs h table few same_placing is = record {
   history = h;
-  stands = stands;
+  table_is = table;
+  few_queues = few;
+  placing = same_placing ∙ t.placing;
+  in_time = λ e. t.in_time (ap (λ (o : Option Placing). is_some o) (sym same_placing) ∙ e);
   history_is = is;
   sq_count = ap length sqs ∙ t.sq_count ∙ sym l.nsq;
   cq_count = ap length cqs ∙ t.cq_count ∙ sym l.ncq;
   sq_number = t.sq_number ∙ sym l.nsq;
   cq_number = t.cq_number ∙ sym l.ncq;
-  few_sqs = subst (λ (n : ℕ). n ≤ MAX_REGIONS) (sym l.nsq) t.few_sqs;
-  few_cqs = subst (λ (n : ℕ). n ≤ MAX_REGIONS) (sym l.ncq) t.few_cqs;
   sq_slots = λ r. t.sq_slots r ∙ sym (l.sq r);
   cq_slots = λ c. t.cq_slots c ∙ sym (l.cq c);
   sq_regions_are = sqs ∙ t.sq_regions_are;
@@ -129,7 +152,7 @@ held rules late past later k after t l sqs cqs h stands is = record {
 -- a fetch leaves the table
 pub tabled-fetch : KeepsFetch Tabled
 tabled-fetch rules late past k q queue entry s can =
-    held rules late past _ k _ s.tabled (leaves_both k _ _ (leaves_sq k queue.region _ refl) (leaves_none _ _ refl refl refl refl)) refl refl s.tabled.history s.tabled.stands s.tabled.history_is
+    held rules late past _ k _ s.tabled (leaves_both k _ _ (leaves_sq k queue.region _ refl) (leaves_none _ _ refl refl refl refl)) refl refl s.tabled.history s.tabled.table_is s.tabled.few_queues refl s.tabled.history_is
 
 -- a pick leaves the regions
 leaves_pick : (k : Content) (queue : Queue) (n : ℕ) (board : BoardView) → LeavesRegions k (after_pick k queue n board)
@@ -143,21 +166,21 @@ tabled-io rules late past k queue seen pick board c s can seen_is io attached =
     held rules late past (event.Pick seen pick ∷ past) k (after_io k queue pick.n board) s.tabled
     (leaves_both k (after_pick k queue pick.n board) (after_io k queue pick.n board) (leaves_pick k queue pick.n board)
     (leaves_none (after_pick k queue pick.n board) (after_io k queue pick.n board) refl refl refl refl))
-    refl refl (handed_history io).0 (handed_history io).1.0 (handed_history io).1.1
+    refl refl (handed_history io).0 (handed_history io).1.0 s.tabled.few_queues refl (handed_history io).1.1
   where
     -- its history, at which the table stands
-    handed_history : IsHanded past pick → (h : TableHistory) × (StandsAt rules.start k.table h × (late ≡ false → h ≡ table_history rules (event.Pick seen pick ∷ past)))
+    handed_history : IsHanded past pick → (h : TableHistory) × ((k.table ≡ queue_table rules.start h) × (late ≡ false → h ≡ table_history rules (event.Pick seen pick ∷ past)))
     handed_history (inl other) = (
       s.tabled.history,
       (
-        s.tabled.stands,
+        s.tabled.table_is,
         λ e. s.tabled.history_is e ∙ sym (cond-false (pick.qid == 0) (applied (admin_entry past) ++ table_history rules past) (table_history rules past) (ne_eqb pick.qid 0 other)),
       ),
     )
     handed_history (inr p) = (
       EntryApplied p.entry ∷ s.tabled.history,
       (
-        table_stays rules.start k.table s.tabled.history past p.entry p.may_be s.tabled.stands,
+        s.tabled.table_is ∙ sym (table_stays rules.start s.tabled.history past p.entry p.may_be),
         λ e. ap (λ (h : TableHistory). EntryApplied p.entry ∷ h) (s.tabled.history_is e)
             ∙ sym (cond-true (pick.qid == 0) (applied (admin_entry past) ++ table_history rules past) (table_history rules past) (eq-eqb pick.qid 0 p.of_admin)
             ∙ ap (λ (o : Option Sqe). applied o ++ table_history rules past) p.next),
@@ -172,18 +195,26 @@ tabled-post rules late past k c t rest cqe s can =
     held rules late past (post_event c t cqe ∷ past) k (after_post k c t rest cqe) s.tabled
     (leaves_both k one (after_post k c t rest cqe) (leaves_sq k t.place.region _ refl)
     (leaves_both one two (after_post k c t rest cqe) (leaves_cq one c _ refl) (leaves_none two (after_post k c t rest cqe) refl refl refl refl)))
-    refl refl s.tabled.history s.tabled.stands s.tabled.history_is
+    refl refl s.tabled.history s.tabled.table_is s.tabled.few_queues refl s.tabled.history_is
 
 -- the end of a deletion is a step of the table history
 pub tabled-close : KeepsClose Tabled
 tabled-close rules late past k d table s can =
-    let one : Content = record k { deletion = put_deletion k.deletion d.region None; table = table } in
+    let one : Content = closing_sq k d table in
     held rules late past (closed_event d ∷ past) k (after_closed k d table) s.tabled
     (leaves_both k one (after_closed k d table) (leaves_none k one refl refl refl refl) (leaves_cq one 0 _ refl))
-    (can.table_stands.sq_regions ∙ finish-sq_regions rules.start s.tabled.history d.qid ∙ sym s.tabled.stands.sq_regions)
-    (can.table_stands.cq_regions ∙ finish-cq_regions rules.start s.tabled.history d.qid ∙ sym s.tabled.stands.cq_regions)
-    (DeletionFinished d.qid ∷ s.tabled.history) can.table_stands
+    (ap (λ (t : QueueTable). t.sq_regions) can.table_is ∙ finish-sq_regions rules.start s.tabled.history d.qid ∙ sym (ap (λ (t : QueueTable). t.sq_regions) s.tabled.table_is))
+    (ap (λ (t : QueueTable). t.cq_regions) can.table_is ∙ finish-cq_regions rules.start s.tabled.history d.qid ∙ sym (ap (λ (t : QueueTable). t.cq_regions) s.tabled.table_is))
+    (DeletionFinished d.qid ∷ s.tabled.history) can.table_is few
+    (ap (λ (t : QueueTable). t.placing) can.table_is ∙ finish-placing rules.start s.tabled.history d.qid ∙ sym (ap (λ (t : QueueTable). t.placing) s.tabled.table_is))
     (λ e. ap (λ (h : TableHistory). DeletionFinished d.qid ∷ h) (s.tabled.history_is e))
+  where
+    -- its queues are those that it had
+    few : FewQueues table
+    few q entry is =
+        let before = was_there (d.qid == q) (sq_at rules.start s.tabled.history q) entry
+        (sym (finish-takes_one rules.start s.tabled.history d.qid q) ∙ sym (ap (λ (t : QueueTable). t.sq q) can.table_is) ∙ is) in
+        s.tabled.few_queues q before.0 (ap (λ (t : QueueTable). t.sq q) s.tabled.table_is ∙ before.1)
 
 -- ---- an admin pick
 -- a ready completion more leaves the regions
@@ -197,8 +228,12 @@ leaves_verdict past k candidate c board (verdict.OpenSq qid region cqid class) =
     let one : Content = with_sq k region (record (k.sq region) { queue = Some (record { qid = qid; cq_region = c }) }) in
     let two : Content = with_opened k qid region c class in
     leaves_both k two _ (leaves_both k one two (leaves_sq k region _ refl) (leaves_none one two refl refl refl refl)) (leaves_ready two 0 _)
-leaves_verdict past k candidate c board (verdict.OpenCq qid region) = leaves_ready k 0 _
-leaves_verdict past k candidate c board (CloseCq qid) = leaves_ready k 0 _
+leaves_verdict past k candidate c board (verdict.OpenCq qid region) =
+    let one : Content = opening_cq k qid region in
+    leaves_both k one _ (leaves_none k one refl refl refl refl) (leaves_ready one 0 _)
+leaves_verdict past k candidate c board (CloseCq qid) =
+    let one : Content = closing_from k qid (open_cq past qid) in
+    leaves_both k one _ (leaves_none k one refl refl refl refl) (leaves_ready one 0 _)
 leaves_verdict past k candidate c board (verdict.SetArbitration settings) =
     let one : Content = record k { board = board } in
     leaves_both k one _ (leaves_none k one refl refl refl refl) (leaves_ready one 0 _)
@@ -283,8 +318,9 @@ tabled-admin rules late past k seen pick picked candidate rest table c board s c
     held rules late past (admin_past past (event.Pick seen pick) v) k after s.tabled
     (leaves_both k (after_pick k admin_queue 1 picked) after (leaves_pick k admin_queue 1 picked)
     (leaves_both (after_pick k admin_queue 1 picked) before after (leaves_none (after_pick k admin_queue 1 picked) before refl refl refl refl) (leaves_verdict past before candidate c board v)))
-    (ap (λ (t : TableView). t.sq_regions) same ∙ apply.table_stands.sq_regions ∙ entry-sq_regions rules.start s.tabled.history candidate.entry ∙ sym s.tabled.stands.sq_regions)
-    (ap (λ (t : TableView). t.cq_regions) same ∙ apply.table_stands.cq_regions ∙ entry-cq_regions rules.start s.tabled.history candidate.entry ∙ sym s.tabled.stands.cq_regions)
+    (ap (λ (t : QueueTable). t.sq_regions) same ∙ ap (λ (t : QueueTable). t.sq_regions) apply.table_is ∙ entry-sq_regions rules.start s.tabled.history candidate.entry ∙ sym (ap (λ (t : QueueTable). t.sq_regions) s.tabled.table_is))
+    (ap (λ (t : QueueTable). t.cq_regions) same ∙ ap (λ (t : QueueTable). t.cq_regions) apply.table_is ∙ entry-cq_regions rules.start s.tabled.history candidate.entry ∙ sym (ap (λ (t : QueueTable). t.cq_regions) s.tabled.table_is))
     (EntryApplied candidate.entry ∷ s.tabled.history)
-    (subst (λ (t : TableView). StandsAt rules.start t (EntryApplied candidate.entry ∷ s.tabled.history)) (sym same) apply.table_stands)
+    (same ∙ apply.table_is) (subst FewQueues (sym same) apply.few_queues)
+    (ap (λ (t : QueueTable). t.placing) (same ∙ apply.table_is) ∙ entry-placing rules.start s.tabled.history candidate.entry ∙ sym (ap (λ (t : QueueTable). t.placing) s.tabled.table_is))
     (λ e. ap (λ (h : TableHistory). EntryApplied candidate.entry ∷ h) (s.tabled.history_is e) ∙ sym picks ∙ sym (made_leave_history rules past (event.Pick seen pick ∷ past) v))

@@ -3,7 +3,6 @@ use Rattle.std.proofs.Common.{◌≡◌, ℕ, ◌==◌, ◌&&◌, Bool, true, fa
 use Rattle.std.specs.Prelude.{is_some, option_map, option_to_list}
 use Rattle.std.specs.List.{All}
 use Rattle.std.proofs.lemmas.List.Elements.{All-head, All-tail}
-use Rattle.std.proofs.lemmas.Option.{same_Some}
 use Rattle.nvme_entry.specs.AdminCommand.{admin_command_of}
 use Rattle.nvme_entry.specs.declared.submission.Sqe.{Sqe}
 use Rattle.nvme_entry.specs.declared.admin.AdminCommand.{AdminCommand}
@@ -19,8 +18,8 @@ use Rattle.nvme_ctrl.specs.declared.own.OwnCommands.{OwnCommands}
 use Rattle.nvme_ctrl.specs.declared.slot.Slot.{Slot}
 use Rattle.nvme_ctrl.specs.declared.state.Controller.{Controller}
 use Rattle.nvme_ctrl.specs.kept.Content.{Candidate}
-use Rattle.nvme_ctrl.specs.kept.Kept.{Item, IsWaitingIn, StandsAt, candidate_of, tags_of}
-use Rattle.nvme_ctrl.specs.kept.Pool.{slot_at, named_in, found_in}
+use Rattle.nvme_ctrl.specs.kept.Kept.{Item, IsWaitingIn, StandsAt, candidate_of, tags_of, picked_of}
+use Rattle.nvme_ctrl.specs.kept.Pool.{slot_at, named_in, found_in, IsChain}
 use Rattle.nvme_ctrl.specs.kept.State.{sq_at}
 use Rattle.nvme_ctrl.specs.inside.Steps.{oldest_named}
 use Rattle.nvme_ctrl.proofs.CarriedOut.{none_picked_in}
@@ -65,27 +64,26 @@ unopened_names_none past sqid cid unopened = by (sqid == 0) where
   by false = ap (λ (o : Option Queue). length (abort_in past cid o) == 0) unopened
 
 -- ---- an open queue
--- the queue whose region is told
-pub record IsOpenOn (o : Option Queue) (r : ℕ) : Type 0 where
+-- a queue that is told is open
+pub record IsOpen (o : Option Queue) : Type 0 where
   pub queue : Queue
   pub is : o ≡ Some queue
-  pub region : r ≡ queue.region
 
-pub told_open : (o : Option Queue) (r : ℕ) → Some r ≡ option_map (λ (queue : Queue). queue.region) o → IsOpenOn o r
-told_open None r told = absurd (cc told)
-told_open (Some queue) r told = record { queue = queue; is = refl; region = same_Some r queue.region told }
+pub some_open : (o : Option Queue) → is_some o ≡ true → IsOpen o
+some_open None told = absurd (cc told)
+some_open (Some queue) told = record { queue = queue; is = refl }
 
 -- where none is told, none is open
-pub told_none : (o : Option Queue) (r : Option ℕ) → r ≡ option_map (λ (queue : Queue). queue.region) o → ((x : ℕ) → r ≡ Some x → ⊥) → o ≡ None
-told_none None r told none = refl
-told_none (Some queue) r told none = absurd (none queue.region told)
+pub none_open : (o : Option Queue) → is_some o ≡ false → o ≡ None
+none_open None told = refl
+none_open (Some queue) told = absurd (cc told)
 
 -- a slot of a window is found where a candidate is
-found_both : (slots : List Slot) (r cid : ℕ) (its : List Item) → All (IsWaitingIn slots r) its → is_some (named_in slots cid (tags_of its)) ≡ is_some (oldest_named cid (map candidate_of its))
-found_both slots r cid [] waits = refl
-found_both slots r cid (it ∷ its) waits =
-    by ((slot_at slots it.tag).entry.cid == cid) (it.entry.cid == cid) (ap (λ (e : Sqe). e.cid == cid) (All-head (IsWaitingIn slots r) it its waits).entry)
-    (found_both slots r cid its (All-tail (IsWaitingIn slots r) it its waits)) where
+found_both : (slots : List Slot) (q r cid : ℕ) (its : List Item) → All (IsWaitingIn slots q r) its → is_some (named_in slots cid (tags_of its)) ≡ is_some (oldest_named cid (map candidate_of its))
+found_both slots q r cid [] waits = refl
+found_both slots q r cid (it ∷ its) waits =
+    by ((slot_at slots it.tag).entry.cid == cid) (it.entry.cid == cid) (ap (λ (e : Sqe). e.cid == cid) (All-head (IsWaitingIn slots q r) it its waits).entry)
+    (found_both slots q r cid its (All-tail (IsWaitingIn slots q r) it its waits)) where
       by : (b c : Bool) → b ≡ c → is_some (named_in slots cid (tags_of its)) ≡ is_some (oldest_named cid (map candidate_of its))
           → is_some (if b then Some it.tag else named_in slots cid (tags_of its)) ≡ is_some (if c then Some (candidate_of it) else oldest_named cid (map candidate_of its))
       by true true e later = refl
@@ -115,19 +113,27 @@ module _ (rules : FrontRules) (late : Bool) (notes : Notes) (c : Controller) (sl
   abbrev its : List Item
   its = s.items.windows r
 
+  life : s.content.sq_life sqid ≡ Some r
+  life = s.holds.lives.sqs sqid queue opened
+
   window_all : (s.content.sq r).window ≡ map candidate_of its
-  window_all = s.has.window_is r ∙ ap (λ (n : ℕ). map candidate_of (drop n its)) (none_picked_in c r none)
+  window_all = s.has.window_is r ∙ ap (λ (o : Option ℕ). map candidate_of (drop (picked_of c o) its)) (s.numbers.sq_ids.ids_are sqid r life)
+      ∙ ap (λ (n : ℕ). map candidate_of (drop n its)) (none_picked_in c sqid none)
+
+  -- the slots of its window are in a chain
+  pub window_linked : IsChain slots (sq_at c.sqs sqid).window (tags_of its)
+  window_linked = s.has.window_chain sqid r life
 
   made : abort_of now sqid cid ≡ abort_in now cid (Some queue)
   made = ap (λ (o : Option Queue). abort_in now cid o) (target_is now sqid io ∙ opened)
 
   -- the Abort finds what the window has
-  pub window_names : (o : Option (ℕ × ℕ)) → o ≡ found_in slots cid (sq_at c.sqs r).window.first (tags_of its) → is_some o ≡ not (names_none now (command.Abort sqid cid))
+  pub window_names : (o : Option (ℕ × ℕ)) → o ≡ found_in slots cid (sq_at c.sqs sqid).window.first (tags_of its) → is_some o ≡ not (names_none now (command.Abort sqid cid))
   window_names o found =
       without_before o
       ∙ ap (λ (x : Option (ℕ × ℕ)). is_some (option_map (λ (y : ℕ × ℕ). y.1) x)) found
-      ∙ ap (λ (x : Option ℕ). is_some x) (sym (named-found slots cid (sq_at c.sqs r).window.first (tags_of its)))
-      ∙ found_both slots r cid its (s.has.window_items r)
+      ∙ ap (λ (x : Option ℕ). is_some x) (sym (named-found slots cid (sq_at c.sqs sqid).window.first (tags_of its)))
+      ∙ found_both slots sqid r cid its (s.has.window_items sqid r life)
       ∙ ap (λ (w : List Candidate). is_some (oldest_named cid w)) (sym window_all)
       ∙ made_where r (oldest_named cid (s.content.sq r).window)
       ∙ ap (λ (is : List ℕ). not (length (map (λ (i : ℕ). event.Abort r i) is) == 0)) (sym (first_named now r cid (s.content.sq r) (s.holds.regions r)))

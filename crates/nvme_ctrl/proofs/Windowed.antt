@@ -1,18 +1,19 @@
--- A controller with something else in a submission region: the chain of the commands that wait in it, its count of unposted places, or its queue.
-use Rattle.std.proofs.Common.{◌≡◌, ◌≢◌, ℕ, ◌+◌, ◌<◌, ◌≤◌, ◌^◌, ◌==◌, Bool, false, if◌then◌else◌, List, [], ◌++◌, length, map, take, drop, Option, Some, refl, sym, ap, ◌∙◌, subst, arith, inl, inr, eq-eqb, None}
-use Rattle.std.specs.Prelude.{slice_set}
+-- A controller with another state of a submission queue: the chain of the commands that wait in it, or its count of unposted places.
+use Rattle.std.proofs.Common.{◌≡◌, ◌≢◌, ℕ, ◌+◌, ◌<◌, ◌≤◌, ◌^◌, ◌==◌, Bool, true, false, if◌then◌else◌, List, [], ◌++◌, length, map, take, drop, Option, Some, refl, sym, ap, ◌∙◌, subst, arith, inl, inr, eq-eqb, None}
+use Rattle.std.specs.Prelude.{slice_set, option_map}
 use Rattle.std.specs.List.{All}
 use Rattle.std.proofs.lemmas.Bool.{cases_eq, ne_eqb}
+use Rattle.std.proofs.lemmas.Option.{none-some, same_Some}
 use Rattle.std.proofs.lemmas.List.{get_or-set_same, get_or-set_other, length-set}
 use Rattle.std.proofs.lemmas.List.Elements.{All-weaker, All-map}
 use Rattle.nvme_arbiter.specs.Board.{BoardView}
 use Rattle.nvme_arbiter.specs.Layout.{is_arbiter, board_of}
 use Rattle.nvme_arbiter.specs.declared.board_fields.BoardFields.{BoardFields}
-use Rattle.nvme_arbiter.specs.declared.arbiter_fields.ArbiterFields.{ArbiterFields}
 use Rattle.nvme_arbiter.specs.declared.settings.Class.{Class}
-use Rattle.nvme_admin.specs.Layout.{view_of}
-use Rattle.nvme_admin.specs.Standing.{TableView, IsSized}
-use Rattle.nvme_admin.specs.declared.fields.TableFields.{TableFields}
+use Rattle.nvme_placing.specs.Telling.{Tells}
+use Rattle.nvme_admin.specs.QueueTable.{QueueTable}
+use Rattle.nvme_admin.specs.declared.verdict.SqEntry.{SqEntry}
+use Rattle.nvme_placing.specs.declared.table.PlacedTable.{PlacedTable}
 use Rattle.std.specs.Prelude.{IsTrue}
 use Rattle.nvme_log.specs.Rules.{FrontRules}
 use Rattle.nvme_log.specs.Dispatches.{place_at}
@@ -25,17 +26,16 @@ use Rattle.nvme_ctrl.specs.declared.slot.Slot.{Slot}
 use Rattle.nvme_ctrl.specs.declared.chain.Chain.{Chain}
 use Rattle.nvme_ctrl.specs.declared.ring.Ring.{Ring}
 use Rattle.nvme_ctrl.specs.declared.state.SqState.{SqState}
+use Rattle.nvme_ctrl.specs.declared.state.Deletion.{Deletion}
 use Rattle.nvme_ctrl.specs.declared.state.Controller.{Controller}
-use Rattle.nvme_ctrl.specs.kept.Content.{SqContent, Content, with_sq, put_held, put_class}
-use Rattle.nvme_ctrl.specs.kept.Kept.{Item, ReadyItem, Items, IsWaitingIn, IsOutIn, IsReadyIn, IsUnanswered, HasEntry, HasCookie, HoldsCookies, HasNumbers, HasItems, HoldsDoorbells, HoldsTags, tags_of, places_of, ready_tags, candidate_of, untaken, is_free}
+use Rattle.nvme_ctrl.specs.kept.Content.{PendingDelete, SqContent, Content, with_sq}
+use Rattle.nvme_ctrl.specs.kept.Kept.{Item, ReadyItem, DeleteItem, Items, HasDeletions, IsSqOf, deletion_in, picked_of, picked_region, IsWaitingIn, IsOutIn, IsReadyIn, IsUnanswered, HasEntry, HasCookie, HoldsCookies, HasNumbers, HasItems, HoldsDoorbells, HoldsTags, tags_of, places_of, ready_tags, candidate_of, untaken, is_free}
 use Rattle.nvme_ctrl.specs.inside.Loose.{Keeps}
-use Rattle.nvme_ctrl.specs.inside.Carrying.{opening}
 use Rattle.nvme_ctrl.specs.kept.Pool.{slot_at, marks_in, IsChain, IsNew, SameItems, SameLinks}
-use Rattle.nvme_ctrl.specs.kept.State.{no_sq_state, sq_at, attachment_of, picked_in}
-use Rattle.nvme_ctrl.proofs.CarriedOut.{none_picked_in}
+use Rattle.nvme_ctrl.specs.kept.State.{no_sq_state, sq_at}
+use Rattle.nvme_ctrl.proofs.LifeLaws.{StaysIn}
 use Rattle.nvme_ctrl.proofs.Passed.{passed_left}
 use Rattle.nvme_ctrl.proofs.Cookies.{SameCookies, same_cookies, cookie_left, items_left, readies_left}
-use Rattle.nvme_ctrl.proofs.PendingDeletions.{deletions_left}
 use Rattle.nvme_ctrl.proofs.Pools.{chain-other}
 use Rattle.nvme_ctrl.proofs.SlotItems.{ready_state-range}
 
@@ -52,15 +52,65 @@ same_windows g region = λ t. record g { windows = λ r. each r t } where
     | inr other ↦ rw (ne_eqb r region other) refl
   ]
 
+-- ---- where none is picked
+-- none is in a region
+pub none_picked_of : (c : Controller) (o : Option ℕ) → c.picked ≡ 0 → picked_of c o ≡ 0
+none_picked_of c None none = refl
+none_picked_of c (Some q) none = by (q == c.picked_qid) where
+  by : (b : Bool) → (if b then c.picked else 0) ≡ 0
+  by true = none
+  by false = refl
+
+-- and none is untaken
+pub none_untaken : (c : Controller) (k : Content) (g : Items) → c.picked ≡ 0 → untaken c k g ≡ []
+none_untaken c k g none = ap (λ (n : ℕ). take n (g.windows (picked_region c k))) none
+
+-- ---- pending deletions
+-- they stay where what is in each slot is left
+deletions_same : (deletions : List Deletion) (deleting : ℕ) (slots pool : List Slot) (lives : ℕ → Option ℕ) (kept : ℕ → Option PendingDelete) (deletes : ℕ → Option DeleteItem)
+    → SameItems slots pool → HasDeletions deletions deleting slots lives kept deletes → HasDeletions deletions deleting pool lives kept deletes
+deletions_same deletions deleting slots pool lives kept deletes same h = record {
+  are = λ r. h.are r ∙ each r (deletes r);
+  tags = h.tags;
+  queues = h.queues;
+  items = λ r it is. let was = h.items r it is in let e = same.items it.tag in record {
+    inside = subst (λ (n : ℕ). it.tag < n) (sym same.size) was.inside;
+    state = ap (λ (x : Slot). x.state) e ∙ was.state;
+    queue = ap (λ (x : Slot). x.sqid) e ∙ was.queue;
+  };
+  apart = h.apart;
+  counted = h.counted;
+  size = h.size;
+} where
+  each : (r : ℕ) (o : Option DeleteItem) → option_map (deletion_in slots r) o ≡ option_map (deletion_in pool r) o
+  each r None = refl
+  each r (Some it) = ap (λ (x : Slot). Some (record { place = place_at 0 it.index; cid = x.entry.cid; qid = it.qid; region = r })) (sym (same.items it.tag))
+
+-- ---- another state of a queue
+-- a state is that of a content, as it is of a controller
+pub record IsSqWith (k : Content) (hs : ℕ → Bool) (q r : ℕ) (x : SqState) (y : SqContent) : Type 0 where
+  pub entry : SqEntry
+  pub in_table : k.table.sq q ≡ Some entry
+  pub on : entry.region ≡ r
+  pub to : entry.cqid ≡ x.cqid
+  pub cq_region : ℕ
+  pub cq_open : k.cq_life x.cqid ≡ Some cq_region
+  pub opened : y.queue ≡ Some (record { qid = q; cq_region = cq_region })
+  pub held : (x.held == 1) ≡ hs r
+  pub unposted : x.unposted ≡ y.unposted
+  pub slots : x.ring.slots ≡ y.slots
+  pub some : 0 < y.slots
+
 module _ (rules : FrontRules) (notes : Notes) (a : Controller) (slots : List Slot) (k : Content) (g : Items) (h : Keeps rules notes a slots k g) (none_picked : a.picked ≡ 0)
-    (region : ℕ) (within : region < 65) (s : SqState) (c : SqContent) (items : List Item) (pool : List Slot)
+    (qid region : ℕ) (live : k.sq_life qid ≡ Some region) (s : SqState) (c : SqContent) (items : List Item) (pool : List Slot)
     (hs : ℕ → Bool) (cs : ℕ → Option Class) (held : (s.held == 1) ≡ hs region) (held_left : (r : ℕ) → r ≢ region → k.held r ≡ hs r)
     (same : SameItems slots pool) (links : SameLinks (tags_of (g.windows region)) slots pool)
-    (ring : s.ring ≡ (sq_at a.sqs region).ring) (queue : attachment_of s ≡ c.queue) (unposted : s.unposted ≡ c.unposted) (slots_are : c.slots ≡ (k.sq region).slots)
-    (linked : IsChain pool s.window (tags_of items)) (waiting : All (IsWaitingIn slots region) items) (window : c.window ≡ map candidate_of items)
+    (ring : s.ring ≡ (sq_at a.sqs qid).ring) (to : s.cqid ≡ (sq_at a.sqs qid).cqid) (queue : c.queue ≡ (k.sq region).queue) (unposted : s.unposted ≡ c.unposted)
+    (slots_are : c.slots ≡ (k.sq region).slots)
+    (linked : IsChain pool s.window (tags_of items)) (waiting : All (IsWaitingIn slots qid region) items) (window : c.window ≡ map candidate_of items)
     (unanswered : All (λ (it : Item). IsUnanswered notes it.place) items) (cookies : All (HasCookie notes slots) items) where
   abbrev after : Controller
-  after = record a { sqs = slice_set a.sqs region s }
+  after = record a { sqs = slice_set a.sqs qid s }
 
   abbrev kept : Content
   kept = record (with_sq k region c) { held = hs; classed = cs }
@@ -68,41 +118,66 @@ module _ (rules : FrontRules) (notes : Notes) (a : Controller) (slots : List Slo
   abbrev later : Items
   later = with_window g region items
 
-  there : region < length a.sqs
-  there = let size = h.numbers.sq_size in omega (arith, within)
+  there : qid < length a.sqs
+  there = omega (arith, h.numbers.sq_size, h.numbers.few_sqs qid region live)
+
+  -- another queue is on another region
+  apart : (q r : ℕ) → k.sq_life q ≡ Some r → q ≢ qid → r ≢ region
+  apart q r is other e =
+      let one = h.numbers.sq_ids.ids_are q r is in
+      let two = h.numbers.sq_ids.ids_are qid region live in
+      other (same_Some q qid (sym one ∙ ap k.sq_id e ∙ two))
 
   -- what is so of each submission region
-  each : (P : ℕ → SqState → SqContent → List Item → Type 0) → P region s c items → ((r : ℕ) → r ≢ region → P r (sq_at a.sqs r) (k.sq r) (g.windows r))
-      → (r : ℕ) → P r (sq_at after.sqs r) (kept.sq r) (later.windows r)
-  each P here other r = elim (cases_eq r region) [
-    | inl is ↦ subst (λ (n : ℕ). P n (sq_at after.sqs n) (kept.sq n) (later.windows n)) (sym is)
-        (subst (λ (x : SqState). P region x (kept.sq region) (later.windows region)) (sym (get_or-set_same a.sqs region s no_sq_state there))
-        (rw (eq-eqb region region refl) here))
-    | inr differs ↦ subst (λ (x : SqState). P r x (kept.sq r) (later.windows r)) (sym (get_or-set_other a.sqs region r s no_sq_state differs))
-        (rw (ne_eqb r region differs) (other r differs))
+  each_region : (P : ℕ → SqContent → List Item → Type 0) → P region c items → ((r : ℕ) → r ≢ region → P r (k.sq r) (g.windows r))
+      → (r : ℕ) → P r (kept.sq r) (later.windows r)
+  each_region P here other r = elim (cases_eq r region) [
+    | inl is ↦ subst (λ (n : ℕ). P n (kept.sq n) (later.windows n)) (sym is) (rw (eq-eqb region region refl) here)
+    | inr differs ↦ rw (ne_eqb r region differs) (other r differs)
   ]
 
+  -- what is so of each submission queue
+  each_but : (P : ℕ → ℕ → SqState → SqContent → List Item → Type 0) → P qid region s c items
+      → ((q r : ℕ) → k.sq_life q ≡ Some r → q ≢ qid → P q r (sq_at a.sqs q) (k.sq r) (g.windows r))
+      → (q r : ℕ) → k.sq_life q ≡ Some r → P q r (sq_at after.sqs q) (kept.sq r) (later.windows r)
+  each_but P here other q r is = elim (cases_eq q qid) [
+    | inl e ↦
+        let at : r ≡ region = same_Some r region (sym is ∙ ap k.sq_life e ∙ live) in
+        subst (λ (n : ℕ). P n r (sq_at after.sqs n) (kept.sq r) (later.windows r)) (sym e)
+        (subst (λ (n : ℕ). P qid n (sq_at after.sqs qid) (kept.sq n) (later.windows n)) (sym at)
+        (subst (λ (x : SqState). P qid region x (kept.sq region) (later.windows region)) (sym (get_or-set_same a.sqs qid s no_sq_state there))
+        (rw (eq-eqb region region refl) here)))
+    | inr differs ↦ subst (λ (x : SqState). P q r x (kept.sq r) (later.windows r)) (sym (get_or-set_other a.sqs qid q s no_sq_state differs))
+        (rw (ne_eqb r region (apart q r is differs)) (other q r is differs))
+  ]
+
+  each : (P : ℕ → ℕ → SqState → SqContent → List Item → Type 0) → P qid region s c items
+      → ((q r : ℕ) → k.sq_life q ≡ Some r → P q r (sq_at a.sqs q) (k.sq r) (g.windows r))
+      → (q r : ℕ) → k.sq_life q ≡ Some r → P q r (sq_at after.sqs q) (kept.sq r) (later.windows r)
+  each P here other = each_but P here (λ q r is differs. other q r is)
+
   -- what is in a slot is left
-  still_waits : (r : ℕ) (it : Item) → IsWaitingIn slots r it → IsWaitingIn pool r it
-  still_waits r it w = let e = same.items it.tag in record {
+  still_waits : (q r : ℕ) (it : Item) → IsWaitingIn slots q r it → IsWaitingIn pool q r it
+  still_waits q r it w = let e = same.items it.tag in record {
     state = ap (λ (x : Slot). x.state) e ∙ w.state;
-    region = ap (λ (x : Slot). x.region) e ∙ w.region;
+    queue = ap (λ (x : Slot). x.sqid) e ∙ w.queue;
     entry = ap (λ (x : Slot). x.entry) e ∙ w.entry;
     place = w.place;
   }
 
-  still_out : (it : Item) → IsOutIn slots it → IsOutIn pool it
+  still_out : (it : Item) → IsOutIn k.sq_id slots it → IsOutIn k.sq_id pool it
   still_out it w = let e = same.items it.tag in record {
     inside = subst (λ (n : ℕ). it.tag < n) (sym same.size) w.inside;
     state = ap (λ (x : Slot). x.state) e ∙ w.state;
-    region = ap (λ (x : Slot). x.region) e ∙ w.region;
+    queue = w.queue ∙ ap (λ (x : Slot). Some x.sqid) (sym e);
     entry = ap (λ (x : Slot). x.entry) e ∙ w.entry;
   }
 
-  still_ready : (x : ReadyItem) → IsReadyIn slots x → IsReadyIn pool x
+  still_ready : (x : ReadyItem) → IsReadyIn k.sq_id slots x → IsReadyIn k.sq_id pool x
   still_ready x w = let e = same.items x.tag in record {
     state = ap (λ (y : Slot). y.state) e ∙ w.state;
-    region = ap (λ (y : Slot). y.region) e ∙ w.region;
+    queue = w.queue ∙ ap (λ (y : Slot). Some y.sqid) (sym e);
+    sqid = ap (λ (y : Slot). y.sqid) e ∙ w.sqid;
     cid = ap (λ (y : Slot). y.entry.cid) e ∙ w.cid;
     sct = ap (λ (y : Slot). y.sct) e ∙ w.sct;
     few_types = subst (λ (n : ℕ). n < 8) (sym (ap (λ (y : Slot). y.sct) e)) w.few_types;
@@ -115,96 +190,146 @@ module _ (rules : FrontRules) (notes : Notes) (a : Controller) (slots : List Slo
   had_state : (x n : ℕ) → (slot_at pool x).state ≡ n → (slot_at slots x).state ≡ n
   had_state x n is = ap (λ (y : Slot). y.state) (sym (same.items x)) ∙ is
 
-  -- no slot of another state waits in the region, nor one of another region
+  -- no slot of another state waits in the queue, nor one of another queue
   state_apart : (x n : ℕ) → (slot_at slots x).state ≡ n → n ≢ 1 → IsNew x (tags_of (g.windows region))
   state_apart x n is not =
       All-map (λ (y : ℕ). y ≢ x) (λ (it : Item). it.tag) (g.windows region)
-      (All-weaker (IsWaitingIn slots region) (λ (it : Item). it.tag ≢ x) (λ it w e. not (sym is ∙ ap (λ (y : ℕ). (slot_at slots y).state) (sym e) ∙ w.state)) (g.windows region) (h.has.window_items region))
+      (All-weaker (IsWaitingIn slots qid region) (λ (it : Item). it.tag ≢ x) (λ it w e. not (sym is ∙ ap (λ (y : ℕ). (slot_at slots y).state) (sym e) ∙ w.state)) (g.windows region)
+      (h.has.window_items qid region live))
 
-  region_apart : (x r : ℕ) → (slot_at slots x).region ≡ r → r ≢ region → IsNew x (tags_of (g.windows region))
-  region_apart x r is not =
+  queue_apart : (x q : ℕ) → (slot_at slots x).sqid ≡ q → q ≢ qid → IsNew x (tags_of (g.windows region))
+  queue_apart x q is not =
       All-map (λ (y : ℕ). y ≢ x) (λ (it : Item). it.tag) (g.windows region)
-      (All-weaker (IsWaitingIn slots region) (λ (it : Item). it.tag ≢ x) (λ it w e. not (sym is ∙ ap (λ (y : ℕ). (slot_at slots y).region) (sym e) ∙ w.region)) (g.windows region) (h.has.window_items region))
+      (All-weaker (IsWaitingIn slots qid region) (λ (it : Item). it.tag ≢ x) (λ it w e. not (sym is ∙ ap (λ (y : ℕ). (slot_at slots y).sqid) (sym e) ∙ w.queue)) (g.windows region)
+      (h.has.window_items qid region live))
 
-  windows_apart : (r : ℕ) → r ≢ region → All (λ (x : ℕ). IsNew x (tags_of (g.windows region))) (tags_of (g.windows r))
-  windows_apart r other =
+  windows_apart : (q r : ℕ) → k.sq_life q ≡ Some r → q ≢ qid → All (λ (x : ℕ). IsNew x (tags_of (g.windows region))) (tags_of (g.windows r))
+  windows_apart q r is other =
       All-map (λ (x : ℕ). IsNew x (tags_of (g.windows region))) (λ (it : Item). it.tag) (g.windows r)
-      (All-weaker (IsWaitingIn slots r) (λ (it : Item). IsNew it.tag (tags_of (g.windows region))) (λ it w. region_apart it.tag r w.region other) (g.windows r) (h.has.window_items r))
+      (All-weaker (IsWaitingIn slots q r) (λ (it : Item). IsNew it.tag (tags_of (g.windows region))) (λ it w. queue_apart it.tag q w.queue other) (g.windows r) (h.has.window_items q r is))
 
   readies_apart : (y : ℕ) → All (λ (x : ℕ). IsNew x (tags_of (g.windows region))) (ready_tags (g.readies y))
   readies_apart y =
       All-map (λ (x : ℕ). IsNew x (tags_of (g.windows region))) (λ (it : ReadyItem). it.tag) (g.readies y)
-      (All-weaker (IsReadyIn slots) (λ (it : ReadyItem). IsNew it.tag (tags_of (g.windows region)))
+      (All-weaker (IsReadyIn k.sq_id slots) (λ (it : ReadyItem). IsNew it.tag (tags_of (g.windows region)))
       (λ it w. state_apart it.tag _ w.state (λ e. absurd (let low = (ready_state-range it.was_out it.ready.with_queue).0 in omega (arith, e, low)))) (g.readies y) (h.has.ready_items y))
 
   left : (ch : Chain) (xs : List ℕ) → IsChain slots ch xs → All (λ (x : ℕ). IsNew x (tags_of (g.windows region))) xs → IsChain pool ch xs
   left ch xs is apart = chain-other slots pool ch xs (tags_of (g.windows region)) is links same.size apart
 
-  none_untaken : (b : Controller) (f : Items) → b.picked ≡ 0 → untaken b f ≡ []
-  none_untaken b f none = ap (λ (n : ℕ). take n (f.windows b.picked_region)) none
+  -- the state of each queue is that of its content
+  queues_after : (q r : ℕ) → k.sq_life q ≡ Some r → IsSqOf after kept q r
+  queues_after q r is =
+      let w : IsSqWith k hs q r (sq_at after.sqs q) (kept.sq r) =
+      each_but (λ q r x y its. IsSqWith k hs q r x y) here other q r is in
+      record {
+        entry = w.entry;
+        in_table = w.in_table;
+        on = w.on;
+        to = w.to;
+        cq_region = w.cq_region;
+        cq_open = w.cq_open;
+        opened = w.opened;
+        held = w.held;
+        unposted = w.unposted;
+        slots = w.slots;
+        some = w.some;
+      } where
+        here : IsSqWith k hs qid region s c
+        here = let w = h.numbers.sqs qid region live in record {
+          entry = w.entry;
+          in_table = w.in_table;
+          on = w.on;
+          to = w.to ∙ sym to;
+          cq_region = w.cq_region;
+          cq_open = ap k.cq_life to ∙ w.cq_open;
+          opened = queue ∙ w.opened;
+          held = held;
+          unposted = unposted;
+          slots = ap (λ (z : Ring). z.slots) ring ∙ w.slots ∙ sym slots_are;
+          some = subst (λ (z : ℕ). 0 < z) (sym slots_are) w.some;
+        }
+
+        other : (q r : ℕ) → k.sq_life q ≡ Some r → q ≢ qid → IsSqWith k hs q r (sq_at a.sqs q) (k.sq r)
+        other q r is differs = let w = h.numbers.sqs q r is in record {
+          entry = w.entry;
+          in_table = w.in_table;
+          on = w.on;
+          to = w.to;
+          cq_region = w.cq_region;
+          cq_open = w.cq_open;
+          opened = w.opened;
+          held = w.held ∙ held_left r (apart q r is differs);
+          unposted = w.unposted;
+          slots = w.slots;
+          some = w.some;
+        }
 
   numbers_after : HasNumbers after kept
   numbers_after = let n = h.numbers in record {
-    table_is = n.table_is;
-    sized = n.sized;
+    tells = n.tells;
     board_is = n.board_is;
     is_arbiter = n.is_arbiter;
     outstanding_is = n.outstanding_is;
-    sq_queue = each (λ r x y its. attachment_of x ≡ y.queue) queue (λ r other. n.sq_queue r);
-    sq_held = each (λ r x y its. (x.held == 1) ≡ hs r) held (λ r other. n.sq_held r ∙ held_left r other);
-    sq_unposted = each (λ r x y its. x.unposted ≡ y.unposted) unposted (λ r other. n.sq_unposted r);
-    sq_slots = each (λ r x y its. x.ring.slots ≡ y.slots) (ap (λ (z : Ring). z.slots) ring ∙ n.sq_slots region ∙ sym slots_are) (λ r other. n.sq_slots r);
-    cq_slots = n.cq_slots;
-    sq_some = each (λ r x y its. r < k.nsq → 0 < y.slots) (λ below. subst (λ (z : ℕ). 0 < z) (sym slots_are) (n.sq_some region below)) (λ r other. n.sq_some r);
-    sq_size = length-set a.sqs region s ∙ n.sq_size;
+    sq_ids = n.sq_ids;
+    cq_ids = n.cq_ids;
+    sqs = queues_after;
+    cqs = λ q x is. let w = n.cqs q x is in record { slots = w.slots; some = w.some };
+    few_sqs = n.few_sqs;
+    few_cqs = n.few_cqs;
+    no_sqs = λ q none. get_or-set_other a.sqs qid q s no_sq_state (λ e. none-some region (sym none ∙ ap k.sq_life e ∙ live)) ∙ n.no_sqs q none;
+    no_cqs = n.no_cqs;
+    sq_size = length-set a.sqs qid s ∙ n.sq_size;
     cq_size = n.cq_size;
   }
 
   items_after : HasItems after pool kept later
   items_after = let m = h.has in record {
-    window_chain = each (λ r x y its. IsChain pool x.window (tags_of its)) linked (λ r other. left _ _ (m.window_chain r) (windows_apart r other));
-    window_items = each (λ r x y its. All (IsWaitingIn pool r) its) (All-weaker (IsWaitingIn slots region) (IsWaitingIn pool region) (still_waits region) items waiting)
-        (λ r other. All-weaker (IsWaitingIn slots r) (IsWaitingIn pool r) (still_waits r) (g.windows r) (m.window_items r));
-    window_is = each (λ r x y its. y.window ≡ map candidate_of (drop (picked_in after r) its))
-        (window ∙ ap (λ (n : ℕ). map candidate_of (drop n items)) (sym (none_picked_in after region none_picked))) (λ r other. m.window_is r);
-    picked_there = subst (λ (n : ℕ). n ≤ length (later.windows a.picked_region)) (sym none_picked) (omega arith);
-    outs_items = All-weaker (IsOutIn slots) (IsOutIn pool) still_out g.outs m.outs_items;
+    window_chain = each_but (λ q r x y its. IsChain pool x.window (tags_of its)) linked (λ q r is other. left _ _ (m.window_chain q r is) (windows_apart q r is other));
+    window_items = each (λ q r x y its. All (IsWaitingIn pool q r) its) (All-weaker (IsWaitingIn slots qid region) (IsWaitingIn pool qid region) (still_waits qid region) items waiting)
+        (λ q r is. All-weaker (IsWaitingIn slots q r) (IsWaitingIn pool q r) (still_waits q r) (g.windows r) (m.window_items q r is));
+    window_none = each_region (λ r y its. k.sq_id r ≡ None → its ≡ []) (λ none. absurd (none-some qid (sym none ∙ h.numbers.sq_ids.ids_are qid region live))) (λ r other. m.window_none r);
+    window_is = each_region (λ r y its. y.window ≡ map candidate_of (drop (picked_of after (k.sq_id r)) its))
+        (window ∙ ap (λ (n : ℕ). map candidate_of (drop n items)) (sym (none_picked_of after (k.sq_id region) none_picked))) (λ r other. m.window_is r);
+    picked_there = subst (λ (n : ℕ). n ≤ length (later.windows (picked_region after kept))) (sym none_picked) (omega arith);
+    outs_items = All-weaker (IsOutIn k.sq_id slots) (IsOutIn k.sq_id pool) still_out g.outs m.outs_items;
     outs_apart = m.outs_apart;
     outs_all = λ x is. m.outs_all x (had_state x 2 is);
-    hand_is = m.hand_is ∙ ap (λ (its : List Item). places_of (g.outs ++ its)) (none_untaken a g none_picked ∙ sym (none_untaken after later none_picked));
-    ready_chain = λ x. left _ _ (m.ready_chain x) (readies_apart x);
-    ready_items = λ x. All-weaker (IsReadyIn slots) (IsReadyIn pool) still_ready (g.readies x) (m.ready_items x);
+    hand_is = m.hand_is ∙ ap (λ (its : List Item). places_of (g.outs ++ its)) (none_untaken a k g none_picked ∙ sym (none_untaken after kept later none_picked));
+    ready_chain = λ q x is. left _ _ (m.ready_chain q x is) (readies_apart x);
+    ready_items = λ x. All-weaker (IsReadyIn k.sq_id slots) (IsReadyIn k.sq_id pool) still_ready (g.readies x) (m.ready_items x);
+    ready_none = m.ready_none;
     ready_is = m.ready_is;
-    deletions = deletions_left a.deletions a.pending_deletions slots pool k.deletion g.deletes same.size (λ r it is. same.items it.tag) m.deletions;
+    deletions = deletions_same a.deletions a.pending_deletions slots pool k.sq_life k.deletion g.deletes same m.deletions;
     free_chain = left _ _ m.free_chain (All-weaker (is_free slots) (λ (x : ℕ). IsNew x (tags_of (g.windows region))) (λ x f. state_apart x 0 f (λ e. absurd (cc e))) g.free m.free_items);
     free_items = All-weaker (is_free slots) (is_free pool) (λ x f. ap (λ (y : Slot). y.state) (same.items x) ∙ f) g.free m.free_items;
     few = subst (λ (n : ℕ). n < 2 ^ 16) (sym same.size) m.few;
   }
 
-  doorbells_after : HoldsDoorbells rules notes after
+  doorbells_after : HoldsDoorbells rules notes after kept
   doorbells_after = let d = h.doorbells in record {
-    sqs = each (λ r x y its. 0 < x.ring.slots → HasCounts x.ring (length (fetched (logged notes) r)) (submitted rules notes r))
-        (subst (λ (z : Ring). 0 < z.slots → HasCounts z (length (fetched (logged notes) region)) (submitted rules notes region)) (sym ring) (d.sqs region)) (λ r other. d.sqs r);
+    sqs = each (λ q r x y its. HasCounts x.ring (length (fetched (logged notes) r)) (submitted rules notes r))
+        (subst (λ (z : Ring). HasCounts z (length (fetched (logged notes) region)) (submitted rules notes region)) (sym ring) (d.sqs qid region live)) (λ q r is. d.sqs q r is);
     cqs = d.cqs;
     phases = d.phases;
-    no_tails = each (λ r x y its. x.ring.slots ≡ 0 → submitted rules notes r ≡ 0) (subst (λ (z : Ring). z.slots ≡ 0 → submitted rules notes region ≡ 0) (sym ring) (d.no_tails region)) (λ r other. d.no_tails r);
+    no_tails = each_region (λ r y its. y.queue ≡ None → submitted rules notes r ≡ 0) (λ none. d.no_tails region (sym queue ∙ none)) (λ r other. d.no_tails r);
     no_heads = d.no_heads;
     no_posts = d.no_posts;
   }
 
-  tags_after : HoldsTags notes after pool later
+  tags_after : HoldsTags notes after pool kept later
   tags_after = let m = h.tags in record {
-    untaken_are = m.untaken_are ∙ ap (λ (its : List Item). taken notes ++ places_of its) (none_untaken a g none_picked ∙ sym (none_untaken after later none_picked));
+    untaken_are = m.untaken_are ∙ ap (λ (its : List Item). taken notes ++ places_of its) (none_untaken a k g none_picked ∙ sym (none_untaken after kept later none_picked));
     outs_held = m.outs_held;
     readies_held = m.readies_held;
     none_held = λ x not_out not_answered. let e = ap (λ (y : Slot). y.state) (same.items x) in m.none_held x (λ is. not_out (e ∙ is)) (λ is. not_answered (e ∙ is));
     through = m.through;
-    windows_unanswered = each (λ r x y its. All (λ (it : Item). IsUnanswered notes it.place) its) unanswered (λ r other. m.windows_unanswered r);
+    windows_unanswered = each_region (λ r y its. All (λ (it : Item). IsUnanswered notes it.place) its) unanswered (λ r other. m.windows_unanswered r);
     outs_unanswered = m.outs_unanswered;
     deletes_unanswered = m.deletes_unanswered;
     none_answered = m.none_answered;
     answered_held = λ x is. m.answered_held x (had_state x 3 is);
-    hand_entries = subst (λ (its : List Item). All (HasEntry (logged notes)) (g.outs ++ its)) (none_untaken a g none_picked ∙ sym (none_untaken after later none_picked)) m.hand_entries;
+    hand_entries = subst (λ (its : List Item). All (HasEntry (logged notes)) (g.outs ++ its)) (none_untaken a k g none_picked ∙ sym (none_untaken after kept later none_picked)) m.hand_entries;
     free_count = m.free_count ∙ ap (λ (n : ℕ). n + all_posts (logged notes)) (sym same.size);
     cookies = cookies_after;
     passed = passed_left notes g later (λ x. refl) refl m.passed;
@@ -216,7 +341,7 @@ module _ (rules : FrontRules) (notes : Notes) (a : Controller) (slots : List Slo
 
     cookies_after : HoldsCookies notes pool later
     cookies_after = let q = h.tags.cookies in record {
-      windows = each (λ r x y its. All (HasCookie notes pool) its) (items_left notes slots pool left items cookies) (λ r other. items_left notes slots pool left (g.windows r) (q.windows r));
+      windows = each_region (λ r y its. All (HasCookie notes pool) its) (items_left notes slots pool left items cookies) (λ r other. items_left notes slots pool left (g.windows r) (q.windows r));
       outs = items_left notes slots pool left g.outs q.outs;
       readies = λ x. readies_left notes slots pool left (g.readies x) (q.readies x);
       deletes = λ r it is. cookie_left notes slots pool left it.tag (place_at 0 it.index) (q.deletes r it is);
@@ -226,40 +351,55 @@ module _ (rules : FrontRules) (notes : Notes) (a : Controller) (slots : List Slo
   pub keeps_windowed : Keeps rules notes after pool kept later
   keeps_windowed = record { numbers = numbers_after; has = items_after; doorbells = doorbells_after; tags = tags_after; apart = h.apart }
 
--- ---- its queue or its count
+-- ---- its count
 -- the same commands wait
-pub keeps_region : (rules : FrontRules) (notes : Notes) (a : Controller) (slots : List Slot) (k : Content) (g : Items) (region : ℕ) (s : SqState) (c : SqContent) (hs : ℕ → Bool) (cs : ℕ → Option Class)
+pub keeps_region : (rules : FrontRules) (notes : Notes) (a : Controller) (slots : List Slot) (k : Content) (g : Items) (qid region : ℕ) (s : SqState) (c : SqContent) (hs : ℕ → Bool) (cs : ℕ → Option Class)
     → (s.held == 1) ≡ hs region → ((r : ℕ) → r ≢ region → k.held r ≡ hs r) → Keeps rules notes a slots k g
-    → a.picked ≡ 0 → region < 65 → s.ring ≡ (sq_at a.sqs region).ring → s.window ≡ (sq_at a.sqs region).window → attachment_of s ≡ c.queue → s.unposted ≡ c.unposted
-    → c.slots ≡ (k.sq region).slots → c.window ≡ (k.sq region).window → Keeps rules notes (record a { sqs = slice_set a.sqs region s }) slots (record (with_sq k region c) { held = hs; classed = cs }) g
-keeps_region rules notes a slots k g region s c hs cs held held_left h none within ring chain queue unposted slots_are window =
-    subst (λ (f : Items). Keeps rules notes (record a { sqs = slice_set a.sqs region s }) slots (record (with_sq k region c) { held = hs; classed = cs }) f) (same_windows g region)
-    (keeps_windowed rules notes a slots k g h none region within s c (g.windows region) slots hs cs held held_left (record { size = refl; items = λ x. refl }) (λ x new. refl) ring queue unposted slots_are
-    (subst (λ (ch : Chain). IsChain slots ch (tags_of (g.windows region))) (sym chain) (h.has.window_chain region)) (h.has.window_items region)
-    (window ∙ h.has.window_is region ∙ ap (λ (n : ℕ). map candidate_of (drop n (g.windows region))) (none_picked_in a region none)) (h.tags.windows_unanswered region) (h.tags.cookies.windows region))
+    → a.picked ≡ 0 → k.sq_life qid ≡ Some region → s.ring ≡ (sq_at a.sqs qid).ring → s.window ≡ (sq_at a.sqs qid).window → s.cqid ≡ (sq_at a.sqs qid).cqid
+    → c.queue ≡ (k.sq region).queue → s.unposted ≡ c.unposted
+    → c.slots ≡ (k.sq region).slots → c.window ≡ (k.sq region).window → Keeps rules notes (record a { sqs = slice_set a.sqs qid s }) slots (record (with_sq k region c) { held = hs; classed = cs }) g
+keeps_region rules notes a slots k g qid region s c hs cs held held_left h none live ring chain to queue unposted slots_are window =
+    subst (λ (f : Items). Keeps rules notes (record a { sqs = slice_set a.sqs qid s }) slots (record (with_sq k region c) { held = hs; classed = cs }) f) (same_windows g region)
+    (keeps_windowed rules notes a slots k g h none qid region live s c (g.windows region) slots hs cs held held_left (record { size = refl; items = λ x. refl }) (λ x new. refl) ring to queue unposted slots_are
+    (subst (λ (ch : Chain). IsChain slots ch (tags_of (g.windows region))) (sym chain) (h.has.window_chain qid region live)) (h.has.window_items qid region live)
+    (window ∙ h.has.window_is region ∙ ap (λ (n : ℕ). map candidate_of (drop n (g.windows region))) (none_picked_of a (k.sq_id region) none)) (h.tags.windows_unanswered region) (h.tags.cookies.windows region))
 
 -- ---- the board, and the number of outstanding places
 pub keeps_outstanding : (rules : FrontRules) (notes : Notes) (a : Controller) (slots : List Slot) (k : Content) (g : Items) (board : BoardFields) (v : BoardView) (n m : ℕ) → Keeps rules notes a slots k g
     → board_of board ≡ v → IsTrue (is_arbiter board.arbiter) → n ≡ m → Keeps rules notes (record a { board = board; outstanding = n }) slots (record k { board = v; outstanding = m }) g
 keeps_outstanding rules notes a slots k g board v n m h is arbiter same = record {
   numbers = (let n = h.numbers in record {
-    table_is = n.table_is;
-    sized = n.sized;
+    tells = n.tells;
     board_is = is;
     is_arbiter = arbiter;
     outstanding_is = same;
-    sq_queue = n.sq_queue;
-    sq_held = n.sq_held;
-    sq_unposted = n.sq_unposted;
-    sq_slots = n.sq_slots;
-    cq_slots = n.cq_slots;
-    sq_some = n.sq_some;
+    sq_ids = n.sq_ids;
+    cq_ids = n.cq_ids;
+    sqs = λ q r is. let w = n.sqs q r is in record {
+      entry = w.entry;
+      in_table = w.in_table;
+      on = w.on;
+      to = w.to;
+      cq_region = w.cq_region;
+      cq_open = w.cq_open;
+      opened = w.opened;
+      held = w.held;
+      unposted = w.unposted;
+      slots = w.slots;
+      some = w.some;
+    };
+    cqs = λ q x is. let w = n.cqs q x is in record { slots = w.slots; some = w.some };
+    few_sqs = n.few_sqs;
+    few_cqs = n.few_cqs;
+    no_sqs = n.no_sqs;
+    no_cqs = n.no_cqs;
     sq_size = n.sq_size;
     cq_size = n.cq_size;
   });
   has = (let m = h.has in record {
     window_chain = m.window_chain;
     window_items = m.window_items;
+    window_none = m.window_none;
     window_is = m.window_is;
     picked_there = m.picked_there;
     outs_items = m.outs_items;
@@ -268,6 +408,7 @@ keeps_outstanding rules notes a slots k g board v n m h is arbiter same = record
     hand_is = m.hand_is;
     ready_chain = m.ready_chain;
     ready_items = m.ready_items;
+    ready_none = m.ready_none;
     ready_is = m.ready_is;
     deletions = m.deletions;
     free_chain = m.free_chain;
@@ -302,27 +443,45 @@ pub keeps_board : (rules : FrontRules) (notes : Notes) (a : Controller) (slots :
 keeps_board rules notes a slots k g board v h is arbiter = keeps_outstanding rules notes a slots k g board v a.outstanding k.outstanding h is arbiter h.numbers.outstanding_is
 
 -- ---- the table
-pub keeps_table : (rules : FrontRules) (notes : Notes) (a : Controller) (slots : List Slot) (k : Content) (g : Items) (table : TableFields) (t : TableView) → Keeps rules notes a slots k g
-    → view_of table ≡ t → IsSized t → Keeps rules notes (record a { table = table }) slots (record k { table = t }) g
-keeps_table rules notes a slots k g table t h is sized = record {
+pub keeps_table : (rules : FrontRules) (notes : Notes) (a : Controller) (slots : List Slot) (k : Content) (g : Items) (table : PlacedTable) (t : QueueTable) → Keeps rules notes a slots k g
+    → Tells table t → ((q r : ℕ) (entry : SqEntry) → k.sq_life q ≡ Some r → k.table.sq q ≡ Some entry → StaysIn t q entry)
+    → Keeps rules notes (record a { table = table }) slots (record k { table = t }) g
+keeps_table rules notes a slots k g table t h tells stays = record {
   numbers = (let n = h.numbers in record {
-    table_is = is;
-    sized = sized;
+    tells = tells;
     board_is = n.board_is;
     is_arbiter = n.is_arbiter;
     outstanding_is = n.outstanding_is;
-    sq_queue = n.sq_queue;
-    sq_held = n.sq_held;
-    sq_unposted = n.sq_unposted;
-    sq_slots = n.sq_slots;
-    cq_slots = n.cq_slots;
-    sq_some = n.sq_some;
+    sq_ids = n.sq_ids;
+    cq_ids = n.cq_ids;
+    sqs = λ q r is.
+        let w = n.sqs q r is in
+        let st = stays q r w.entry is w.in_table in
+        record {
+          entry = st.now;
+          in_table = st.in_table;
+          on = st.region ∙ w.on;
+          to = st.cqid ∙ w.to;
+          cq_region = w.cq_region;
+          cq_open = w.cq_open;
+          opened = w.opened;
+          held = w.held;
+          unposted = w.unposted;
+          slots = w.slots;
+          some = w.some;
+        };
+    cqs = λ q x is. let w = n.cqs q x is in record { slots = w.slots; some = w.some };
+    few_sqs = n.few_sqs;
+    few_cqs = n.few_cqs;
+    no_sqs = n.no_sqs;
+    no_cqs = n.no_cqs;
     sq_size = n.sq_size;
     cq_size = n.cq_size;
   });
   has = (let m = h.has in record {
     window_chain = m.window_chain;
     window_items = m.window_items;
+    window_none = m.window_none;
     window_is = m.window_is;
     picked_there = m.picked_there;
     outs_items = m.outs_items;
@@ -331,6 +490,7 @@ keeps_table rules notes a slots k g table t h is sized = record {
     hand_is = m.hand_is;
     ready_chain = m.ready_chain;
     ready_items = m.ready_items;
+    ready_none = m.ready_none;
     ready_is = m.ready_is;
     deletions = m.deletions;
     free_chain = m.free_chain;
@@ -358,22 +518,3 @@ keeps_table rules notes a slots k g table t h is sized = record {
   });
   apart = h.apart;
 }
-
--- ---- a queue is opened
-pub keeps_opened : (rules : FrontRules) (notes : Notes) (a b : Controller) (slots : List Slot) (k : Content) (g : Items) (qid region cq_region : ℕ) (class : Class) (board : BoardFields) (sq : SqState)
-    → Keeps rules notes a slots k g → a.picked ≡ 0 → region < 65
-    → board_of board ≡ record (board_of a.board) { queues = slice_set (board_of a.board).queues qid (Some (record { class = class; count = 0 })) } → board.arbiter ≡ a.board.arbiter
-    → sq ≡ sq_at a.sqs region → b ≡ record a { board = board; sqs = slice_set a.sqs region (record sq { qid = qid; cq_region = cq_region; opened = 1; held = 0 }) }
-    → Keeps rules notes b slots (opening k qid region cq_region class) g
-keeps_opened rules notes a b slots k g qid region cq_region class board sq h none within opened arbiter is_sq is =
-    let v : BoardView = record k.board { queues = slice_set k.board.queues qid (Some (record { class = class; count = 0 })) } in
-    let on : Keeps rules notes (record a { board = board }) slots (record k { board = v }) g =
-    keeps_board rules notes a slots k g board v h
-    (opened ∙ ap (λ (x : BoardView). record x { queues = slice_set x.queues qid (Some (record { class = class; count = 0 })) }) h.numbers.board_is)
-    (subst (λ (x : ArbiterFields). IsTrue (is_arbiter x)) (sym arbiter) h.numbers.is_arbiter) in
-    let s : SqState = record (sq_at a.sqs region) { qid = qid; cq_region = cq_region; opened = 1; held = 0 } in
-    subst (λ (c : Controller). Keeps rules notes c slots (opening k qid region cq_region class) g)
-    (sym (is ∙ ap (λ (x : SqState). record a { board = board; sqs = slice_set a.sqs region (record x { qid = qid; cq_region = cq_region; opened = 1; held = 0 }) }) is_sq))
-    (keeps_region rules notes (record a { board = board }) slots (record k { board = v }) g region s (record (k.sq region) { queue = Some (record { qid = qid; cq_region = cq_region }) })
-    (put_held k.held region false) (put_class k.classed region None) (rw (eq-eqb region region refl) refl) (λ r other. rw (ne_eqb r region other) refl)
-    on none within refl refl refl (h.numbers.sq_unposted region) refl refl)

@@ -92,9 +92,11 @@ pub record IsTagOf (notes : Notes) (qid cid tag : ℕ) : Type 0 where
   pub cid_is : entry.cid ≡ cid
 
 -- ---- completions
--- a completion is posted to a completion region, into the slot that is its next, and what the caller keeps with its command is given back. Its marks
--- are those of the device where it answered, else those of the completion's status
-pub record HasPosted (rules : FrontRules) (late : Bool) (notes : Notes) (x slot : ℕ) (cqe : Cqe) (cookie : ℕ) (marks : Marks) (c : Controller) (slots : List Slot) : Type 0 where
+-- a completion is posted to an open completion queue, into the slot that is its next, and what the caller keeps with its command is given back. Its
+-- marks are those of the device where it answered, else those of the completion's status
+pub record HasPosted (rules : FrontRules) (late : Bool) (notes : Notes) (cqid slot : ℕ) (cqe : Cqe) (cookie : ℕ) (marks : Marks) (c : Controller) (slots : List Slot) : Type 0 where
+  pub x : ℕ
+  pub is_open : open_cq (logged notes) cqid ≡ Some x
   pub region : ℕ
   pub index : ℕ
   pub slot_is : slot ≡ length (posted_to (logged notes) x) % cq_slots rules x

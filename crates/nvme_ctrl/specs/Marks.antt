@@ -2,6 +2,7 @@
 use Rattle.std.specs.Prelude.{◌==◌, ◌&&◌, Bool, false, List, [], ◌∷◌, Option, Some, None}
 use Rattle.std.specs.List.{list_any}
 use Rattle.nvme_entry.specs.Status.{StatusCode, invalid_opcode, invalid_field, sequence_error, completion_queue_invalid, invalid_queue_identifier, invalid_queue_size, feature_not_saveable}
+use Rattle.nvme_admin.specs.Placing.{prp_offset_invalid, invalid_interrupt_vector}
 use Rattle.nvme_ctrl.specs.declared.marks.Marks.{Marks}
 
 abbrev pub is_status : StatusCode → StatusCode → Bool
@@ -16,7 +17,9 @@ final_statuses =
     ∷ completion_queue_invalid
     ∷ invalid_queue_identifier
     ∷ invalid_queue_size
-    ∷ feature_not_saveable ∷ []
+    ∷ feature_not_saveable
+    ∷ prp_offset_invalid
+    ∷ invalid_interrupt_vector ∷ []
 
 abbrev pub is_final : StatusCode → Bool
 is_final status = list_any (is_status status) final_statuses

@@ -15,18 +15,18 @@ use Rattle.nvme_ctrl.specs.kept.Pool.{slot_at, next_at}
 use Rattle.nvme_ctrl.specs.kept.State.{sq_at}
 
 -- ---- slots
--- the state of a slot is within these two. One with a command has a region, and one whose command ended a status code type of three bits
+-- the state of a slot is within these two. One with a command has a queue, and one whose command ended a status code type of three bits
 abbrev pub is_used_as : (lowest highest : ℕ) → Slot → Bool
 is_used_as lowest highest s =
-    nat_le lowest s.state && (nat_le s.state highest && ((s.state == 0 || nat_lt s.region MAX_REGIONS) && (nat_lt s.state 3 || nat_lt s.sct 8)))
+    nat_le lowest s.state && (nat_le s.state highest && ((s.state == 0 || nat_lt s.sqid MAX_REGIONS) && (nat_lt s.state 3 || nat_lt s.sct 8)))
 
 -- so it is with the slot of a number, which is one of the pool
 abbrev pub is_item : (lowest highest : ℕ) → List Slot → ℕ → Bool
 is_item lowest highest slots x = nat_lt x (length slots) && is_used_as lowest highest (slot_at slots x)
 
--- the command that the device has is of a region
+-- the command that the device has is of a queue
 abbrev pub is_placed : Slot → Bool
-is_placed s = if s.state == 2 then nat_lt s.region MAX_REGIONS else true
+is_placed s = if s.state == 2 then nat_lt s.sqid MAX_REGIONS else true
 
 -- ---- chains
 -- a slot can be the next one of a chain, with so many behind it
@@ -42,16 +42,16 @@ are_linked lowest highest slots last x (suc n) = is_link lowest highest slots la
 abbrev pub is_chain : (lowest highest : ℕ) → List Slot → Chain → Bool
 is_chain lowest highest slots c = nat_le c.len (length slots) && are_linked lowest highest slots c.last c.first c.len
 
--- ---- regions
+-- ---- queues
 -- the head and the tail are slots of the ring, where it has any
 abbrev pub is_ring : Ring → Bool
 is_ring r = if r.slots == 0 then true else nat_lt r.head r.slots && nat_lt r.tail r.slots
 
--- the region of a queue has a ring, and completions go to a region
+-- the completions of a queue that has a ring go to a queue
 abbrev pub is_attached : SqState → Bool
-is_attached s = if s.opened == 0 then true else nat_lt 0 s.ring.slots && nat_lt s.cq_region MAX_REGIONS
+is_attached s = if s.ring.slots == 0 then true else nat_lt s.cqid MAX_REGIONS
 
--- the commands of a submission region wait, and those of a completion region ended
+-- the commands of a submission queue wait, and those of a completion queue ended
 abbrev pub is_sq : List Slot → SqState → Bool
 is_sq slots s = is_ring s.ring && (is_attached s && is_chain 1 1 slots s.window)
 
@@ -65,16 +65,16 @@ is_deletion slots d = if d.pending == 0 then true else nat_lt d.tag (length slot
 
 -- the counts are within their limits
 abbrev pub has_counts : Controller → Bool
-has_counts c = nat_le c.outstanding max_outstanding && nat_le c.picked (sq_at c.sqs c.picked_region).window.len
+has_counts c = nat_le c.outstanding max_outstanding && nat_le c.picked (sq_at c.sqs c.picked_qid).window.len
 
 -- its own numbers
 abbrev pub has_numbers : Controller → List Slot → Bool
 has_numbers c slots = is_arbiter c.board.arbiter && (has_counts c && (list_all (is_deletion slots) c.deletions && is_chain 0 0 slots c.free))
 
--- those of its regions
-abbrev pub has_regions : Controller → List Slot → Bool
-has_regions c slots = list_all (is_sq slots) c.sqs && list_all (is_cq slots) c.cqs
+-- those of its queues
+abbrev pub has_queues : Controller → List Slot → Bool
+has_queues c slots = list_all (is_sq slots) c.sqs && list_all (is_cq slots) c.cqs
 
 -- all of it
 abbrev pub is_in_range : Controller → List Slot → Bool
-is_in_range c slots = has_numbers c slots && (has_regions c slots && list_all is_placed slots)
+is_in_range c slots = has_numbers c slots && (has_queues c slots && list_all is_placed slots)

@@ -4,11 +4,14 @@ use Rattle.nvme_arbiter.specs.Lawful.{lawful_pick}
 use Rattle.nvme_arbiter.specs.declared.pick.Pick.{Pick}
 use Rattle.nvme_admin.specs.declared.verdict.Verdict.{Verdict}
 use Rattle.nvme_admin.specs.Effects.{verdict_in}
+use Rattle.nvme_admin.specs.declared.effect.Effect.{Effect}
+use Rattle.nvme_placing.specs.Telling.{IsToldBy}
+use Rattle.nvme_entry.specs.declared.submission.Sqe.{Sqe}
 use Rattle.nvme_entry.specs.Status.{success}
 use Rattle.nvme_log.specs.declared.event.Event.{Event}
 use Rattle.nvme_log.specs.declared.event.Event.TheVariants as event
 use Rattle.nvme_log.specs.Rules.{FrontRules}
-use Rattle.nvme_log.specs.Places.{waiting}
+use Rattle.nvme_log.specs.Places.{waiting, entry_at}
 use Rattle.nvme_log.specs.Histories.{arbitration_of}
 use Rattle.nvme_log.specs.Aborts.{places_for}
 use Rattle.nvme_log.specs.Effects.{made_by}
@@ -18,6 +21,7 @@ use Rattle.nvme_ctrl.specs.Tags.{handed, taken}
 use Rattle.nvme_log.specs.Completions.{unposted_of, outstanding}
 use Rattle.nvme_ctrl.specs.Deletions.{deleting}
 use Rattle.nvme_ctrl.specs.Notes.{Notes, Logged, Passed, Answered, logged}
+use Rattle.nvme_ctrl.specs.Making.{placing_in, placed}
 use Rattle.nvme_ctrl.specs.Observation.{observed_of}
 use Rattle.nvme_ctrl.specs.Standing.{Stands}
 use Rattle.nvme_ctrl.specs.declared.slot.Slot.{Slot}
@@ -53,6 +57,14 @@ pub record HasCarriedOut (rules : FrontRules) (late : Bool) (notes : Notes) (ver
   pub answer : Option Answer
   pub stands : Stands rules late (with_answer index answer (with_logged (made_by (logged notes) verdict) (picked_notes notes pick))) c slots
 
+-- so with its entry. The effect tells the verdict; where queues may lie anywhere, the verdict has another number for the region of a new queue, and the rules
+-- have that region then
+pub record HasDone (rules : FrontRules) (late : Bool) (notes : Notes) (effect : Effect) (entry : Sqe) (c : Controller) (slots : List Slot) : Type 0 where
+  pub verdict : Verdict
+  pub told : IsToldBy (placing_in rules) (verdict_in effect) verdict
+  pub carried_out : HasCarriedOut (placed verdict entry rules) late notes verdict c slots
+  pub its_entry : entry_at (logged notes) 0 carried_out.index ≡ Some entry
+
 -- a pick of the admin queue, whose command is passed on to the device
 pub record HasPassed (rules : FrontRules) (late : Bool) (notes : Notes) (pick : Pick) (c : Controller) (slots : List Slot) : Type 0 where
   pub of_admin : pick.qid ≡ 0
@@ -84,7 +96,7 @@ HasStepped rules late notes Busy c slots = Stands rules late notes c slots × Is
 HasStepped rules late notes Full c slots = Stands rules late notes c slots × LacksPlaces rules notes
 HasStepped rules late notes (Picked pick) c slots = IsNextPick rules notes (Some pick) × Stands rules late (picked_notes notes pick) c slots
 HasStepped rules late notes (PassedOn pick) c slots = HasPassed rules late notes pick c slots
-HasStepped rules late notes (Done effect) c slots = HasCarriedOut rules late notes (verdict_in effect) c slots
+HasStepped rules late notes (Done effect entry) c slots = HasDone rules late notes effect entry c slots
 
 -- no deletion can be finished: of each queue that is being deleted a command has no completion posted yet
 abbrev pub NoneFinishable : Notes → Type 0

@@ -4,6 +4,7 @@ pub mod Picks
 pub mod Next
 pub mod Posting
 pub mod Fetching
+pub mod First
 pub mod Loose
 pub mod Carrying
 pub mod Lookups

@@ -1,6 +1,6 @@
 // The end of deletions. (Base Specification, Delete I/O Submission Queue)
 use crate::slot::{ENDED, Slot};
-use crate::state::{Controller, Deletion};
+use crate::state::{Controller, Deletion, SqState};
 use nvme_admin::MAX_REGIONS;
 use nvme_entry::Status;
 
@@ -13,33 +13,33 @@ impl Controller {
     ghost use Rattle.nvme_ctrl.specs.Steps.{HasFinished, NoneFinishable};
     ghost use Rattle.nvme_ctrl.specs.kept.State.{sq_at, deletion_at, IsFinishable};
 
-    // Whether the deletion of a region's queue is pending, and all completions of the queue are posted.
-    fn is_finishable(&self, region: u8) -> bool
-        ensures pending { result ≡ true → (deletion_at self.now.deletions region).pending ≢ 0 }
-        ensures posted { result ≡ true → (sq_at self.now.sqs region).unposted ≡ 0 }
-        ensures none { result ≡ false → ((deletion_at self.now.deletions region).pending ≡ 0) ⊎ ((sq_at self.now.sqs region).unposted ≢ 0) }
+    // Whether the deletion of a queue is pending, and all completions of the queue are posted.
+    fn is_finishable(&self, qid: u16) -> bool
+        ensures pending { result ≡ true → (deletion_at self.now.deletions qid).pending ≢ 0 }
+        ensures posted { result ≡ true → (sq_at self.now.sqs qid).unposted ≡ 0 }
+        ensures none { result ≡ false → ((deletion_at self.now.deletions qid).pending ≡ 0) ⊎ ((sq_at self.now.sqs qid).unposted ≢ 0) }
     {
-        self.deletion(region).pending != 0 && self.sq(region).unposted == 0
+        self.deletion(qid).pending != 0 && self.sq(qid).unposted == 0
     }
 
-    // The first region whose queue's deletion can be finished. None is looked at where no deletion is pending.
-    fn finishable(&self) -> Option<u8>
-        ensures some { IfSome result (λ region. IsFinishable self.now region) }
-        ensures none { result ≡ None → (self.now.pending_deletions ≡ 0) ⊎ ((r : ℕ) → r < MAX_REGIONS → IsFinishable self.now r → ⊥) }
+    // The first queue whose deletion can be finished. None is looked at where no deletion is pending.
+    fn finishable(&self) -> Option<u16>
+        ensures some { IfSome result (λ qid. IsFinishable self.now qid) }
+        ensures none { result ≡ None → (self.now.pending_deletions ≡ 0) ⊎ ((q : ℕ) → q < MAX_REGIONS → IsFinishable self.now q → ⊥) }
     {
         if self.pending_deletions == 0 {
             return None;
         }
-        for region in 0..MAX_REGIONS as u8 {
-            if self.is_finishable(region) {
-                return Some(region);
+        for qid in 0..MAX_REGIONS as u16 {
+            if self.is_finishable(qid) {
+                return Some(qid);
             }
         }
         None
     }
 
     /// Finishes a deletion, if all completions of its queue are posted, and tells the identifier of the queue. The
-    /// completion of the Delete is then ready. Of several the first region's is finished; call it until it tells none.
+    /// completion of the Delete is then ready. Of several the first queue's is finished; call it until it tells none.
     /// None, which changes nothing, where no deletion is pending, and while completions are to be posted of each queue that
     /// is being deleted.
     pub fn finish(&mut self, slots: &mut [Slot]) -> Option<u16>
@@ -50,11 +50,11 @@ impl Controller {
         ensures told { (rules : FrontRules) (late : Bool) (notes : Notes) → Stands rules late notes self.old slots.old → result ≡ None → NoneFinishable notes }
         ensures stands { (rules : FrontRules) (late : Bool) (notes : Notes) → Stands rules late notes self.old slots.old → IfSome result (λ qid. HasFinished rules late notes qid self.new slots.new) }
     {
-        let region = self.finishable()?;
-        let qid = self.sq(region).qid;
-        let tag = self.deletion(region).tag;
+        let qid = self.finishable()?;
+        let tag = self.deletion(qid).tag;
         self.table.finish_delete(qid);
-        self.put_deletion(region, Deletion::none());
+        self.put_sq(qid, SqState::none());
+        self.put_deletion(qid, Deletion::none());
         self.pending_deletions = self.pending_deletions.saturating_sub(1);
         self.end(slots, tag, ENDED, Status::SUCCESS, 0, 0);
         Some(qid)

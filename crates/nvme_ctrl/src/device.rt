@@ -38,10 +38,10 @@ impl Controller {
         if self.picked == 0 {
             return None;
         }
-        let region = self.picked_region;
-        let mut sq = self.sq(region);
+        let qid = self.picked_qid;
+        let mut sq = self.sq(qid);
         let tag = sq.window.pop(slots)?;
-        self.put_sq(region, sq);
+        self.put_sq(qid, sq);
         let slot = slot_at(slots, tag);
         put_item(slots, tag, Slot { state: OUT, ..slot });
         self.picked -= 1;
@@ -75,10 +75,10 @@ impl Controller {
                 ..slot
             },
         );
-        let region = self.sq(slot.region).cq_region;
-        let mut cq = self.cq(region);
+        let cqid = self.sq(u16::from(slot.sqid)).cqid;
+        let mut cq = self.cq(cqid);
         cq.ready.push(slots, tag);
-        self.put_cq(region, cq);
+        self.put_cq(cqid, cq);
         true
     }
 }

@@ -27,9 +27,9 @@ impl Controller {
         if queue.closing {
             return false;
         }
-        let mut sq = self.sq(queue.region);
+        let mut sq = self.sq(qid);
         let rung = sq.ring.write_to(slot);
-        self.put_sq(queue.region, sq);
+        self.put_sq(qid, sq);
         rung
     }
 
@@ -43,12 +43,12 @@ impl Controller {
         ensures answer { (rules : FrontRules) (late : Bool) (notes : Notes) (slots : List Slot) → Stands rules late notes self.old slots → IsTrue result ↔ IsHeadOf rules notes cqid slot }
         ensures stands { (rules : FrontRules) (late : Bool) (notes : Notes) (slots : List Slot) → Stands rules late notes self.old slots → result ≡ true → HeadRung rules late notes cqid slot self.new slots }
     {
-        let Some(region) = self.table.cq(cqid) else {
+        if self.table.cq(cqid).is_none() {
             return false;
-        };
-        let mut cq = self.cq(region);
+        }
+        let mut cq = self.cq(cqid);
         let rung = cq.ring.read_to(slot);
-        self.put_cq(region, cq);
+        self.put_cq(cqid, cq);
         rung
     }
 }

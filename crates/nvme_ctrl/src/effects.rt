@@ -1,14 +1,31 @@
 // The effects of admin commands, which the controller carries out within. (Base Specification, Admin Command Set)
+ghost use Rattle.std.specs.Prelude.{◌≡◌};
+ghost use Rattle.nvme_entry.specs.AdminCommand.{admin_command_of};
+ghost use Rattle.nvme_ctrl.specs.Making.{slots_asked};
+
 use crate::board_counts::went;
 use crate::marks::{Marks, bit};
+use crate::ring::Ring;
 use crate::slot::{DELETING, DROPPED, ENDED, Slot, put_item, slot_at};
-use crate::state::{Controller, Deletion};
+use crate::state::{Controller, CqState, Deletion, SqState};
 use nvme_admin::Effect;
 use nvme_arbiter::{Class, Settings};
-use nvme_entry::Status;
+use nvme_entry::{AdminCommand, Sqe, Status, admin_of};
+
+// The number of slots that a Create asks for.
+fn asked_slots(entry: &Sqe) -> u16
+    ensures { result ≡ slots_asked (admin_command_of entry.now) }
+{
+    match admin_of(entry) {
+        AdminCommand::CreateSq { qsize, .. } | AdminCommand::CreateCq { qsize, .. } => {
+            qsize.saturating_add(1)
+        }
+        _ => 1,
+    }
+}
 
 impl Controller {
-    ghost use Rattle.std.specs.Prelude.{◌≡◌, ◌≢◌, ℕ, ◌+◌, ◌<◌, ◌≤◌, ◌^◌, ◌∷◌, ◌↔◌, Bool, true, false, List, length, Some, None, IsSome, IsTrue};
+    ghost use Rattle.std.specs.Prelude.{◌≡◌, ◌≢◌, ℕ, ◌+◌, ◌<◌, ◌≤◌, ◌^◌, [], ◌∷◌, ◌↔◌, Bool, true, false, List, length, Some, None, IsSome, IsTrue};
     ghost use Rattle.nvme_arbiter.specs.Layout.{board_of, is_arbiter};
     ghost use Rattle.nvme_arbiter.specs.Limits.{highest_qid};
     ghost use Rattle.nvme_arbiter.specs.History.{History, Changed};
@@ -17,12 +34,12 @@ impl Controller {
     ghost use Rattle.nvme_arbiter.specs.Settings.{ArbitrationFields};
     ghost use Rattle.nvme_arbiter.specs.declared.settings.Mechanism.{Mechanism};
     ghost use Rattle.nvme_arbiter.specs.declared.settings.Class.TheVariants.{Admin};
-    ghost use Rattle.nvme_admin.specs.Effects.{verdict_in};
+    ghost use Rattle.nvme_admin.specs.declared.verdict.Verdict.{Verdict};
     ghost use Rattle.nvme_ctrl.specs.Own.{own_of};
     ghost use Rattle.nvme_ctrl.specs.Steps.{HasCarriedOut};
     ghost use Rattle.nvme_ctrl.specs.Tags.{answer_of, is_passed};
     ghost use Rattle.nvme_ctrl.specs.declared.slot.Slot.{Slot};
-    ghost use Rattle.nvme_ctrl.specs.inside.Carrying.{IsApplied, IsApplying, opening, IsDroppable, dropped, HasDropped, oldest_dropped, item_dropped, deleting, HasBegun, HasNoneNamed, IsAbortable, MayAbort, HasRequested};
+    ghost use Rattle.nvme_ctrl.specs.inside.Carrying.{IsApplied, IsApplying, IsOpenable, IsCqOpenable, IsUnattached, opening, opening_cq, closing_cq, IsDroppable, dropped, HasDropped, oldest_dropped, item_dropped, deleting, HasBegun, HasNoneNamed, IsAbortable, MayAbort, HasRequested};
     ghost use Rattle.nvme_admin.specs.declared.bounds.TheConstants.{MAX_REGIONS};
     ghost use Rattle.nvme_log.specs.Rules.{FrontRules};
     ghost use Rattle.nvme_ctrl.specs.Notes.{Notes};
@@ -32,7 +49,7 @@ impl Controller {
     ghost use Rattle.nvme_ctrl.specs.inside.Loose.{IsLoose, Keeps, MakesReady, ended, with_item};
     ghost use Rattle.nvme_ctrl.specs.kept.Pool.{slot_at, item_at};
 
-    // The command of a slot ends without the device: its completion is ready in a completion region, with the marks of its
+    // The command of a slot ends without the device: its completion is ready in a completion queue, with the marks of its
     // status.
     pub(crate) fn end(
         &mut self,
@@ -41,9 +58,9 @@ impl Controller {
         state: u8,
         status: Status,
         dw0: u32,
-        region: u8,
+        cqid: u16,
     )
-        ensures kept { (rules : FrontRules) (notes : Notes) (k : Content) (g : Items) (t : Ready) → Keeps rules notes self.old slots.old k g → IsLoose slots.old g tag → MakesReady slots.old tag state status dw0 t → IsThrough notes t → IsCookie notes slots.old tag t.place → t.passed ≡ is_passed_at notes t.place → IsUnmarked notes t.place → region < MAX_REGIONS → Keeps rules notes self.new slots.new (with_ready k region t) (with_item g region (ended tag t)) }
+        ensures kept { (rules : FrontRules) (notes : Notes) (k : Content) (g : Items) (t : Ready) → Keeps rules notes self.old slots.old k g → IsLoose slots.old g tag → MakesReady slots.old tag state status dw0 t → IsThrough notes t → IsCookie notes slots.old tag t.place → t.passed ≡ is_passed_at notes t.place → IsUnmarked notes t.place → (x : ℕ) → k.cq_life cqid ≡ Some x → k.sq_id t.place.region ≡ Some t.sqid → Keeps rules notes self.new slots.new (with_ready k x t) (with_item g x (ended tag t)) }
         ensures left { self.new ≡ record self.old { cqs = self.new.cqs } }
         ensures size { length slots.new ≡ length slots.old }
         ensures others { (y : ℕ) → y ≢ tag → item_at slots.new y ≡ item_at slots.old y }
@@ -63,39 +80,65 @@ impl Controller {
                 ..slot
             },
         );
-        let mut cq = self.cq(region);
+        let mut cq = self.cq(cqid);
         cq.ready.push(slots, tag);
-        self.put_cq(region, cq);
+        self.put_cq(cqid, cq);
     }
 
     // Opens a submission queue. (Create I/O Submission Queue)
-    fn open_sq(&mut self, qid: u16, region: u8, cq_region: u8, class: Class)
+    fn open_sq(&mut self, qid: u16, size: u16, cqid: u16, class: Class)
+        requires some { 0 < size }
         requires within { qid ≤ highest_qid }
         requires not_open { queue_at (board_of self.old.board).queues qid ≡ None }
         requires admin { (class ≡ Admin) ↔ (qid ≡ 0) }
-        ensures kept { (rules : FrontRules) (notes : Notes) (slots : List Slot) (k : Content) (g : Items) → Keeps rules notes self.old slots k g → self.old.picked ≡ 0 → region < MAX_REGIONS → Keeps rules notes self.new slots (opening k qid region cq_region class) g }
+        ensures kept { (rules : FrontRules) (notes : Notes) (slots : List Slot) (k : Content) (g : Items) → (region x : ℕ) → Keeps rules notes self.old slots k g → self.old.picked ≡ 0 → IsOpenable rules notes k qid size cqid region x → Keeps rules notes self.new slots (opening k qid region x class) g }
         ensures left { self.new ≡ record self.old { board = self.new.board; sqs = self.new.sqs } }
     {
         self.board.open(qid, class);
-        let mut sq = self.sq(region);
-        sq.qid = qid;
-        sq.cq_region = cq_region;
-        sq.opened = 1;
-        sq.held = 0;
-        self.put_sq(region, sq);
+        self.put_sq(
+            qid,
+            SqState {
+                ring: Ring::new(size),
+                cqid,
+                ..SqState::none()
+            },
+        );
+    }
+
+    // Opens a completion queue. (Create I/O Completion Queue)
+    fn open_cq(&mut self, cqid: u16, size: u16)
+        requires some { 0 < size }
+        ensures kept { (rules : FrontRules) (notes : Notes) (slots : List Slot) (k : Content) (g : Items) (x : ℕ) → Keeps rules notes self.old slots k g → IsCqOpenable rules notes k cqid size x → Keeps rules notes self.new slots (opening_cq k cqid x) g }
+        ensures left { self.new ≡ record self.old { cqs = self.new.cqs } }
+    {
+        self.put_cq(
+            cqid,
+            CqState {
+                ring: Ring::new(size),
+                ..CqState::none()
+            },
+        );
+    }
+
+    // Closes a completion queue, to which no submission queue is attached. (Delete I/O Completion Queue)
+    fn close_cq(&mut self, cqid: u16)
+        ensures kept { (rules : FrontRules) (notes : Notes) (slots : List Slot) (k : Content) (g : Items) (x : ℕ) → Keeps rules notes self.old slots k g → k.cq_life cqid ≡ Some x → g.readies x ≡ [] → IsUnattached k cqid x → Keeps rules notes self.new slots (closing_cq k cqid x) g }
+        ensures left { self.new ≡ record self.old { cqs = self.new.cqs } }
+    {
+        self.put_cq(cqid, CqState::none());
     }
 
     // Begins the deletion of a submission queue. Its candidates are dropped: their completions are ready. The Delete is
     // answered when the deletion is finished. Other deletions may be pending. (Delete I/O Submission Queue)
-    fn begin_delete(&mut self, slots: &mut [Slot], tag: u16, qid: u16, region: u8)
+    fn begin_delete(&mut self, slots: &mut [Slot], tag: u16, qid: u16)
         requires on_board { IsSome (queue_at (board_of self.old.board).queues qid) }
         ensures own { own_of self.new ≡ own_of self.old }
-        ensures begun { (rules : FrontRules) (notes : Notes) (k : Content) (g : Items) (c : ℕ) (candidate : Candidate) → Keeps rules notes self.old slots.old k g → self.old.picked ≡ 0 → IsLoose slots.old g tag → (slot_at slots.old tag).entry ≡ candidate.entry → (slot_at slots.old tag).region ≡ 0 → answer_of notes 0 candidate.index ≡ None → IsCookie notes slots.old tag (place_at 0 candidate.index) → is_passed notes candidate.index ≡ false → IsDroppable notes k qid region c → (k.sq region).unposted + length (k.sq region).window < 2 ^ 16 → HasBegun rules notes (deleting k qid region c candidate) self.new slots.new }
+        ensures begun { (rules : FrontRules) (notes : Notes) (k : Content) (g : Items) (region c : ℕ) (candidate : Candidate) → Keeps rules notes self.old slots.old k g → self.old.picked ≡ 0 → IsLoose slots.old g tag → (slot_at slots.old tag).entry ≡ candidate.entry → (slot_at slots.old tag).sqid ≡ 0 → answer_of notes 0 candidate.index ≡ None → IsCookie notes slots.old tag (place_at 0 candidate.index) → is_passed notes candidate.index ≡ false → IsDroppable notes k qid region c → (k.sq region).unposted + length (k.sq region).window < 2 ^ 16 → HasBegun rules notes (deleting k qid region c candidate) self.new slots.new }
     {
-        let mut sq = self.sq(region);
+        let mut sq = self.sq(qid);
         sq.unposted = sq.unposted.saturating_add(sq.window.len);
-        self.put_sq(region, sq);
-        self.drop_window(slots, region);
+        self.put_sq(qid, sq);
+        self.drop_window(slots, qid);
         self.board.close(qid);
         let slot = slot_at(slots, tag);
         put_item(
@@ -106,34 +149,34 @@ impl Controller {
                 ..slot
             },
         );
-        self.put_deletion(region, Deletion { pending: 1, tag });
+        self.put_deletion(qid, Deletion { pending: 1, tag });
         self.pending_deletions = self.pending_deletions.saturating_add(1);
     }
 
-    // Drops all candidates of a submission region.
-    fn drop_window(&mut self, slots: &mut [Slot], region: u8)
-        ensures dropped { (rules : FrontRules) (notes : Notes) (k : Content) (g : Items) (qid c y : ℕ) → Keeps rules notes self.old slots.old k g → self.old.picked ≡ 0 → IsDroppable notes k qid region c → IsLoose slots.old g y → HasDropped rules notes (dropped k qid region c) slots.old y self.new slots.new }
+    // Drops all candidates of a submission queue.
+    fn drop_window(&mut self, slots: &mut [Slot], qid: u16)
+        ensures dropped { (rules : FrontRules) (notes : Notes) (k : Content) (g : Items) (region c y : ℕ) → Keeps rules notes self.old slots.old k g → self.old.picked ≡ 0 → IsDroppable notes k qid region c → IsLoose slots.old g y → HasDropped rules notes (dropped k qid region c) slots.old y self.new slots.new }
         ensures left { self.new ≡ record self.old { sqs = self.new.sqs; cqs = self.new.cqs } }
     {
-        for _ in 0..self.sq(region).window.len {
-            self.drop_oldest(slots, region);
+        for _ in 0..self.sq(qid).window.len {
+            self.drop_oldest(slots, qid);
         }
     }
 
-    // Drops the oldest candidate of a submission region.
-    fn drop_oldest(&mut self, slots: &mut [Slot], region: u8)
-        ensures dropped { (rules : FrontRules) (notes : Notes) (k : Content) (g : Items) (qid c : ℕ) (x : Item) (rest : List Item) → Keeps rules notes self.old slots.old k g → self.old.picked ≡ 0 → IsDroppable notes k qid region c → g.windows region ≡ x ∷ rest → Keeps rules notes self.new slots.new (oldest_dropped k qid region c x rest) (item_dropped g qid region c x rest) }
-        ensures others { (rules : FrontRules) (notes : Notes) (k : Content) (g : Items) (x : Item) (rest : List Item) → Keeps rules notes self.old slots.old k g → g.windows region ≡ x ∷ rest → (y : ℕ) → y ≢ x.tag → item_at slots.new y ≡ item_at slots.old y }
+    // Drops the oldest candidate of a submission queue.
+    fn drop_oldest(&mut self, slots: &mut [Slot], qid: u16)
+        ensures dropped { (rules : FrontRules) (notes : Notes) (k : Content) (g : Items) (region c : ℕ) (x : Item) (rest : List Item) → Keeps rules notes self.old slots.old k g → self.old.picked ≡ 0 → IsDroppable notes k qid region c → g.windows region ≡ x ∷ rest → Keeps rules notes self.new slots.new (oldest_dropped k qid region c x rest) (item_dropped g qid region c x rest) }
+        ensures others { (rules : FrontRules) (notes : Notes) (k : Content) (g : Items) (region : ℕ) (x : Item) (rest : List Item) → Keeps rules notes self.old slots.old k g → k.sq_life qid ≡ Some region → g.windows region ≡ x ∷ rest → (y : ℕ) → y ≢ x.tag → item_at slots.new y ≡ item_at slots.old y }
         ensures size { length slots.new ≡ length slots.old }
         ensures left { self.new ≡ record self.old { sqs = self.new.sqs; cqs = self.new.cqs } }
     {
-        let mut sq = self.sq(region);
+        let mut sq = self.sq(qid);
         let Some(x) = sq.window.pop(slots) else {
             return;
         };
-        self.put_sq(region, sq);
+        self.put_sq(qid, sq);
         let status = Status::ABORTED_BY_DELETION;
-        self.end(slots, x, DROPPED, status, 0, sq.cq_region);
+        self.end(slots, x, DROPPED, status, 0, sq.cqid);
     }
 
     // Aborts the oldest waiting command with a command identifier in an open I/O submission queue. False, which changes
@@ -154,16 +197,16 @@ impl Controller {
         if queue.closing {
             return false;
         }
-        let mut sq = self.sq(queue.region);
+        let mut sq = self.sq(sqid);
         let Some(x) = sq.window.take_named(slots, cid) else {
             return false;
         };
         sq.unposted = sq.unposted.saturating_add(1);
-        self.put_sq(queue.region, sq);
+        self.put_sq(sqid, sq);
         self.outstanding = self.outstanding.saturating_add(1);
         went(&mut self.board, sqid, sq.held == 1);
         let status = Status::ABORT_REQUESTED;
-        self.end(slots, x, ENDED, status, 0, sq.cq_region);
+        self.end(slots, x, ENDED, status, 0, sq.cqid);
         true
     }
 
@@ -182,24 +225,30 @@ impl Controller {
     pub(crate) fn carry_out(&mut self, slots: &mut [Slot], tag: u16, effect: &Effect)
         requires applied { IsApplying self.old slots.old effect.now }
         ensures own { own_of self.new ≡ own_of self.old }
-        ensures stands { (rules : FrontRules) (late : Bool) (notes : Notes) → IsApplied rules late notes self.old slots.old tag effect.now → HasCarriedOut rules late notes (verdict_in effect.now) self.new slots.new }
+        ensures stands { (rules : FrontRules) (late : Bool) (notes : Notes) (verdict : Verdict) → IsApplied rules late notes self.old slots.old tag effect.now verdict → HasCarriedOut rules late notes verdict self.new slots.new }
     {
         match *effect {
             Effect::Done(status, dw0) => self.end(slots, tag, ENDED, status, dw0, 0),
             Effect::OpenSq {
                 qid,
-                region,
-                cq_region,
+                cqid,
                 class,
                 ..
             } => {
-                self.open_sq(qid, region, cq_region, class);
+                let size = asked_slots(&slot_at(slots, tag).entry);
+                self.open_sq(qid, size, cqid, class);
                 self.end(slots, tag, ENDED, Status::SUCCESS, 0, 0);
             }
-            Effect::OpenCq { .. } | Effect::CloseCq { .. } => {
+            Effect::OpenCq { qid, .. } => {
+                let size = asked_slots(&slot_at(slots, tag).entry);
+                self.open_cq(qid, size);
                 self.end(slots, tag, ENDED, Status::SUCCESS, 0, 0);
             }
-            Effect::BeginDelete { qid, region } => self.begin_delete(slots, tag, qid, region),
+            Effect::CloseCq { qid, .. } => {
+                self.close_cq(qid);
+                self.end(slots, tag, ENDED, Status::SUCCESS, 0, 0);
+            }
+            Effect::BeginDelete { qid, .. } => self.begin_delete(slots, tag, qid),
             Effect::Abort { sqid, cid } => {
                 let dw0 = if self.abort(slots, sqid, cid) { 0 } else { 1 };
                 self.end(slots, tag, ENDED, Status::SUCCESS, dw0, 0);

@@ -26,8 +26,8 @@ impl Controller {
         if queue.closing || self.free.len == 0 {
             return None;
         }
-        let sq = self.sq(queue.region);
-        let waiting = sq.window.len.saturating_sub(self.picked_in(queue.region));
+        let sq = self.sq(qid);
+        let waiting = sq.window.len.saturating_sub(self.picked_in(qid));
         if sq.ring.filled() == 0 || waiting >= self.window || waiting >= window_of(sq.ring.slots) {
             return None;
         }
@@ -41,8 +41,8 @@ impl Controller {
         ensures may { (rules : FrontRules) (late : Bool) (notes : Notes) (slots : List Slot) → Stands rules late notes self.now slots → IfSome result (λ slot. MayFetch rules notes (window_limit self.now) (length slots) qid slot) }
         ensures told { (rules : FrontRules) (late : Bool) (notes : Notes) (slots : List Slot) → Stands rules late notes self.now slots → (slot : ℕ) → MayFetch rules notes (window_limit self.now) (length slots) qid slot → result ≡ Some slot }
     {
-        let queue = self.fetchable(qid)?;
-        Some(self.sq(queue.region).ring.head)
+        self.fetchable(qid)?;
+        Some(self.sq(qid).ring.head)
     }
 
     /// The entry was read that `fetch` told. Its command waits then. The cookie is kept with it. False, which changes
@@ -57,29 +57,28 @@ impl Controller {
         ensures refused { result ≡ false → (self.new ≡ self.old) × (slots.new ≡ slots.old) }
         ensures stands { (rules : FrontRules) (late : Bool) (notes : Notes) → Stands rules late notes self.old slots.old → result ≡ true → HasFetched rules late notes qid entry.now cookie self.new slots.new }
     {
-        let Some(queue) = self.fetchable(qid) else {
+        if self.fetchable(qid).is_none() {
             return false;
-        };
+        }
         let Some(tag) = self.free.pop(slots) else {
             return false;
         };
-        let region = queue.region;
         put_item(
             slots,
             tag,
             Slot {
                 entry: *entry,
                 cookie,
-                region,
+                sqid: qid as u8,
                 state: WAITING,
                 ..Slot::free()
             },
         );
-        let mut sq = self.sq(region);
+        let mut sq = self.sq(qid);
         let held = sq.held == 1;
         sq.ring.read();
         sq.window.push(slots, tag);
-        self.put_sq(region, sq);
+        self.put_sq(qid, sq);
         came(&mut self.board, qid, held);
         true
     }

@@ -29,15 +29,12 @@ impl Controller {
         let Some(seen) = self.board.queue(qid) else {
             return false;
         };
-        let Some(queue) = self.table.sq(qid) else {
-            return false;
-        };
-        let mut sq = self.sq(queue.region);
-        let waiting = sq.window.len.saturating_sub(self.picked_in(queue.region));
+        let mut sq = self.sq(qid);
+        let waiting = sq.window.len.saturating_sub(self.picked_in(qid));
         let count = if on { 0 } else { waiting.min(HIGHEST_COUNT) };
         show(&mut self.board, qid, seen.class, count);
         sq.held = bit(on);
-        self.put_sq(queue.region, sq);
+        self.put_sq(qid, sq);
         true
     }
 

@@ -4,7 +4,7 @@ use crate::state::Controller;
 use nvme_entry::Sqe;
 
 impl Controller {
-    ghost use Rattle.std.specs.Prelude.{◌≡◌, ℕ, Bool, true, List, Option, Some, None, IfSome, length, option_map};
+    ghost use Rattle.std.specs.Prelude.{◌≡◌, ℕ, Bool, true, List, Option, Some, None, IfSome, length, option_map, is_some};
     ghost use Rattle.nvme_log.specs.Rules.{FrontRules};
     ghost use Rattle.nvme_log.specs.Queues.{Queue, open_sq, open_cq};
     ghost use Rattle.nvme_log.specs.Places.{entry_at, waiting};
@@ -12,8 +12,9 @@ impl Controller {
     ghost use Rattle.nvme_ctrl.specs.Notes.{Notes, logged};
     ghost use Rattle.nvme_ctrl.specs.Tags.{is_out, holder, cookie_of};
     ghost use Rattle.nvme_ctrl.specs.Calls.{IsTagOf};
+    ghost use Rattle.nvme_ctrl.specs.Making.{placing_in};
     ghost use Rattle.nvme_ctrl.specs.Standing.{Stands, IsController};
-    ghost use Rattle.nvme_ctrl.specs.inside.Lookups.{is_named};
+    ghost use Rattle.nvme_ctrl.specs.inside.Lookups.{is_found};
     ghost use Rattle.nvme_ctrl.specs.kept.Pool.{slot_at};
     ghost use Rattle.nvme_ctrl.specs.declared.slot.Slot.{Slot};
 
@@ -45,10 +46,9 @@ impl Controller {
 
     // Whether a slot has a command with this identifier that the device has, of the submission queue with this one.
     fn is_named(&self, slot: &Slot, qid: u16, cid: u16) -> bool
-        ensures { result ≡ is_named self.now slot.now qid cid }
+        ensures { result ≡ is_found slot.now qid cid }
     {
-        let sq = self.sq(slot.region);
-        slot.state == OUT && slot.entry.cid == cid && sq.opened != 0 && sq.qid == qid
+        slot.state == OUT && u16::from(slot.sqid) == qid && slot.entry.cid == cid
     }
 
     /// The tag of the command with this identifier, of the submission queue with this one, that the device has: it took
@@ -69,9 +69,10 @@ impl Controller {
         None
     }
 
-    /// The region of an open submission queue.
+    /// The region of an open submission queue. Where queues may lie anywhere, its number is the identifier.
     pub fn sq_region(&self, qid: u16) -> Option<u8>
-        ensures { (rules : FrontRules) (late : Bool) (notes : Notes) (pool : List Slot) → Stands rules late notes self.now pool → result ≡ option_map (λ queue. queue.region) (open_sq (logged notes) qid) }
+        ensures told { (rules : FrontRules) (late : Bool) (notes : Notes) (pool : List Slot) → Stands rules late notes self.now pool → is_some result ≡ is_some (open_sq (logged notes) qid) }
+        ensures on_regions { (rules : FrontRules) (late : Bool) (notes : Notes) (pool : List Slot) → Stands rules late notes self.now pool → placing_in rules ≡ None → result ≡ option_map (λ queue. queue.region) (open_sq (logged notes) qid) }
     {
         let queue = self.table.sq(qid)?;
         if queue.closing {
@@ -81,9 +82,10 @@ impl Controller {
         }
     }
 
-    /// The region of an open completion queue.
+    /// The region of an open completion queue, as `sq_region` tells that of a submission queue.
     pub fn cq_region(&self, cqid: u16) -> Option<u8>
-        ensures { (rules : FrontRules) (late : Bool) (notes : Notes) (pool : List Slot) → Stands rules late notes self.now pool → result ≡ open_cq (logged notes) cqid }
+        ensures told { (rules : FrontRules) (late : Bool) (notes : Notes) (pool : List Slot) → Stands rules late notes self.now pool → is_some result ≡ is_some (open_cq (logged notes) cqid) }
+        ensures on_regions { (rules : FrontRules) (late : Bool) (notes : Notes) (pool : List Slot) → Stands rules late notes self.now pool → placing_in rules ≡ None → result ≡ open_cq (logged notes) cqid }
     {
         self.table.cq(cqid)
     }
@@ -94,12 +96,9 @@ impl Controller {
         ensures waits { (rules : FrontRules) (late : Bool) (notes : Notes) (pool : List Slot) → Stands rules late notes self.now pool
             → (queue : Queue) → open_sq (logged notes) qid ≡ Some queue → result ≡ length (waiting (logged notes) queue.region) }
     {
-        let Some(region) = self.sq_region(qid) else {
+        if self.sq_region(qid).is_none() {
             return 0;
-        };
-        self.sq(region)
-            .window
-            .len
-            .saturating_sub(self.picked_in(region))
+        }
+        self.sq(qid).window.len.saturating_sub(self.picked_in(qid))
     }
 }

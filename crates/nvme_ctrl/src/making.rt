@@ -1,12 +1,16 @@
 // The making of a controller, and its regions.
-ghost use Rattle.std.specs.Prelude.{◌≡◌, ℕ, ◌<◌, ◌^◌, length, List, OnOk, IfOk, IfErr, slice_set, replicate, Some, None, [], IsTrue};
+ghost use Rattle.std.specs.Prelude.{◌≡◌, ℕ, ◌<◌, ◌^◌, length, false, List, OnOk, IfOk, IfErr, slice_set, replicate, Some, None, [], IsTrue};
 ghost use Rattle.nvme_arbiter.specs.Limits.{queue_limit};
 ghost use Rattle.nvme_arbiter.specs.Board.{BoardStandsAt};
 ghost use Rattle.nvme_arbiter.specs.Layout.{is_arbiter, board_of};
 ghost use Rattle.nvme_arbiter.specs.declared.settings.Class.TheVariants.{Admin};
-ghost use Rattle.nvme_admin.specs.Layout.{view_of};
-ghost use Rattle.nvme_admin.specs.Standing.{StandsAt, IsSized};
-ghost use Rattle.nvme_log.specs.Rules.{upto};
+ghost use Rattle.nvme_admin.specs.Accepted.{queue_table};
+ghost use Rattle.nvme_placing.specs.Telling.{Tells};
+ghost use Rattle.nvme_log.specs.Rules.{FrontRules, upto};
+ghost use Rattle.nvme_ctrl.specs.Standing.{Stands};
+ghost use Rattle.nvme_ctrl.specs.Calls.{window_limit};
+ghost use Rattle.nvme_ctrl.specs.Own.{no_own, own_of};
+ghost use Rattle.nvme_ctrl.specs.inside.First.{IsFirst};
 ghost use Rattle.nvme_ctrl.specs.Making.{first_regions, admin_fault};
 ghost use Rattle.nvme_ctrl.specs.kept.Pool.{IsChain, slot_at};
 ghost use Rattle.nvme_ctrl.specs.Rings.{first_ring};
@@ -17,18 +21,21 @@ use crate::own::OwnCommands;
 use crate::ring::Ring;
 use crate::slot::{Slot, put_item};
 use crate::state::{Controller, CqState, Deletion, SqState};
-use nvme_admin::{AdminError, Limits, MAX_REGIONS, Region, TableFields};
+use nvme_admin::{AdminError, Limits, MAX_REGIONS, Region};
 use nvme_arbiter::{BoardFields, Class, Mechanism, Settings};
+use nvme_placing::{PlacedTable, Placement};
 
 impl Controller {
-    ghost use Rattle.std.specs.Prelude.{◌≡◌, ℕ, ◌<◌, ◌^◌, false, Bool, List, [], ◌∷◌, length, OnOk, IfOk, OnErr, IfErr, Some, None};
+    ghost use Rattle.std.specs.Prelude.{◌≡◌, ℕ, ◌<◌, ◌^◌, ◌&&◌, true, false, Bool, List, [], ◌∷◌, length, OnOk, IfOk, OnErr, IfErr, Some, None};
     ghost use Rattle.nvme_admin.specs.History.{Submission, Completion};
     ghost use Rattle.nvme_log.specs.Rules.{FrontRules, sq_regions_of, cq_regions_of};
     ghost use Rattle.nvme_ctrl.specs.Notes.{Notes};
     ghost use Rattle.nvme_ctrl.specs.Standing.{Stands, IsController};
     ghost use Rattle.nvme_ctrl.specs.Calls.{window_limit};
     ghost use Rattle.nvme_ctrl.specs.Own.{no_own, own_of, with_opcode, with_feature};
-    ghost use Rattle.nvme_ctrl.specs.Making.{first_rules, with_region, is_late, admin_fault, adding_fault};
+    ghost use Rattle.nvme_placing.specs.Telling.{placing_by, is_ring_size};
+    ghost use Rattle.nvme_admin.specs.declared.region.AdminError.TheVariants.{Size};
+    ghost use Rattle.nvme_ctrl.specs.Making.{first_rules, anywhere_rules, with_region, is_late, admin_fault, adding_fault};
     ghost use Rattle.nvme_ctrl.specs.declared.slot.Slot.{Slot};
 
     /// A controller with its admin regions alone, region 0 of each kind, and with all slots of the pool free. The admin
@@ -55,20 +62,41 @@ impl Controller {
         ensures size { length slots.new ≡ length slots.old }
     {
         let table = first_table(settings, limits, sq, cq)?;
-        Ok(Controller {
-            table,
-            board: first_board(mechanism, settings),
-            sqs: first_sqs(sq.slots),
-            cqs: first_cqs(cq.slots),
-            free: all_free(slots),
-            window,
-            outstanding: 0,
-            picked: 0,
-            picked_region: 0,
-            deletions: no_deletions(),
-            pending_deletions: 0,
-            own: OwnCommands::none(),
-        })
+        Ok(first_controller(
+            table, mechanism, settings, window, sq.slots, cq.slots, slots,
+        ))
+    }
+
+    /// A controller whose queues may lie anywhere in memory, as `new` makes one whose queues lie on regions: a Create names
+    /// any address that is a multiple of the page, and the memory of a queue may be used again after its deletion. A Create
+    /// is refused whose QSIZE is above MQES (1/02), whose PRP1 isn't a multiple of the page (0/13), and of a completion
+    /// queue whose interrupt vector isn't below their number (1/08), in this order and before all other checks but that of
+    /// FUSE. Refused where a number of slots of the admin queues is outside its limits. The pool is left then. (Base
+    /// Specification, Controller Capabilities, MQES, Create I/O Completion Queue, Create I/O Submission Queue; profile)
+    pub fn anywhere(
+        mechanism: Mechanism,
+        settings: Settings,
+        limits: Limits,
+        placement: Placement,
+        window: u16,
+        sq: Region,
+        cq: Region,
+        slots: &mut [Slot],
+    ) -> Result<Controller, AdminError>
+        requires few { length slots.old < 2 ^ 16 }
+        ensures refused { IfErr result (λ e. (e ≡ Size) × ((is_ring_size sq.slots && is_ring_size cq.slots) ≡ false)) }
+        ensures made { OnOk result ((is_ring_size sq.slots && is_ring_size cq.slots) ≡ true) }
+        ensures unchanged { OnErr result (slots.new ≡ slots.old) }
+        ensures front { IfOk result (λ c. IsController c slots.new) }
+        ensures stands { (sizes : List ℕ) → IfOk result (λ c. Stands (anywhere_rules mechanism settings limits (placing_by placement) sq cq sizes) false [] c slots.new) }
+        ensures window { IfOk result (λ c. window_limit c ≡ window) }
+        ensures own { IfOk result (λ c. own_of c ≡ no_own) }
+        ensures size { length slots.new ≡ length slots.old }
+    {
+        let table = PlacedTable::anywhere(limits, settings, placement, sq.slots, cq.slots)?;
+        Ok(first_controller(
+            table, mechanism, settings, window, sq.slots, cq.slots, slots,
+        ))
     }
 
     /// Makes the controller anew, as `new` does, with all slots of the pool free: nothing is left of its queues and commands.
@@ -128,7 +156,7 @@ impl Controller {
     /// be added at any time, as when the Create that names its address is fetched: the log stays an account, where no Create
     /// that was picked before named the address. Refused where its address is that of another region, where there are
     /// `MAX_REGIONS` of its kind, and where the number of slots is outside its limits, in this order. A refusal changes
-    /// nothing. (profile)
+    /// nothing. Where queues may lie anywhere, all are refused with `TooMany`. (profile)
     pub fn add_sq_region(&mut self, address: u64, slots: u16) -> Result<u8, AdminError>
         ensures unchanged { OnErr result (self.new ≡ self.old) }
         ensures window { window_limit self.new ≡ window_limit self.old }
@@ -139,11 +167,7 @@ impl Controller {
         ensures number { (rules : FrontRules) (late : Bool) (notes : Notes) (pool : List Slot) → Stands rules late notes self.old pool → IfOk result (λ r. r ≡ length (sq_regions_of rules)) }
         ensures stands { (rules : FrontRules) (late : Bool) (notes : Notes) (pool : List Slot) → Stands rules late notes self.old pool → IfOk result (λ r. Stands (with_region Submission address slots rules) (is_late rules late notes address) notes self.new pool) }
     {
-        let region = self.table.add_sq_region(address, slots)?;
-        let mut sq = self.sq(region);
-        sq.ring = Ring::new(slots);
-        self.put_sq(region, sq);
-        Ok(region)
+        self.table.add_sq_region(address, slots)
     }
 
     /// Adds a completion region, as `add_sq_region` adds a submission region: at any time, with the same refusals. The log
@@ -158,27 +182,57 @@ impl Controller {
         ensures number { (rules : FrontRules) (late : Bool) (notes : Notes) (pool : List Slot) → Stands rules late notes self.old pool → IfOk result (λ r. r ≡ length (cq_regions_of rules)) }
         ensures stands { (rules : FrontRules) (late : Bool) (notes : Notes) (pool : List Slot) → Stands rules late notes self.old pool → IfOk result (λ r. Stands (with_region Completion address slots rules) (is_late rules late notes address) notes self.new pool) }
     {
-        let region = self.table.add_cq_region(address, slots)?;
-        let mut cq = self.cq(region);
-        cq.ring = Ring::new(slots);
-        self.put_cq(region, cq);
-        Ok(region)
+        self.table.add_cq_region(address, slots)
     }
 }
 
-// The table with the admin regions.
+// A controller with this table, in which the admin queues of these numbers of slots are open and no other. All slots are
+// free.
+fn first_controller(
+    table: PlacedTable,
+    mechanism: Mechanism,
+    settings: Settings,
+    window: u16,
+    sq_slots: u16,
+    cq_slots: u16,
+    slots: &mut [Slot],
+) -> Controller
+    requires few { length slots.old < 2 ^ 16 }
+    requires some_sq { 0 < sq_slots }
+    requires some_cq { 0 < cq_slots }
+    ensures stands { (rules : FrontRules) → IsFirst rules mechanism settings table sq_slots cq_slots → Stands rules false [] result slots.new }
+    ensures window { window_limit result ≡ window }
+    ensures own { own_of result ≡ no_own }
+    ensures size { length slots.new ≡ length slots.old }
+{
+    Controller {
+        table,
+        board: first_board(mechanism, settings),
+        sqs: first_sqs(sq_slots),
+        cqs: first_cqs(cq_slots),
+        free: all_free(slots),
+        window,
+        outstanding: 0,
+        picked: 0,
+        picked_qid: 0,
+        deletions: no_deletions(),
+        pending_deletions: 0,
+        own: OwnCommands::none(),
+    }
+}
+
+// The table with the admin regions, on which queues are to lie.
 fn first_table(
     settings: Settings,
     limits: Limits,
     sq: Region,
     cq: Region,
-) -> Result<TableFields, AdminError>
+) -> Result<PlacedTable, AdminError>
     ensures refused { IfErr result (λ e. admin_fault sq cq ≡ Some e) }
     ensures made { OnOk result (admin_fault sq cq ≡ None) }
-    ensures stands { IfOk result (λ t. StandsAt (record { nsq = limits.nsq; ncq = limits.ncq; settings = settings }) (view_of t) (first_regions sq cq)) }
-    ensures sized { IfOk result (λ t. IsSized (view_of t)) }
+    ensures tells { IfOk result (λ t. Tells t (queue_table (record { nsq = limits.nsq; ncq = limits.ncq; settings = settings }) (first_regions sq cq))) }
 {
-    let mut table = TableFields::new(limits, settings);
+    let mut table = PlacedTable::on_regions(limits, settings);
     table.add_sq_region(sq.address, sq.slots)?;
     table.add_cq_region(cq.address, cq.slots)?;
     Ok(table)
@@ -195,18 +249,17 @@ fn first_board(mechanism: Mechanism, settings: Settings) -> BoardFields
     board
 }
 
-// The states of the submission regions, of which the admin queue's is there.
+// The states of the submission queues, of which the admin queue is open.
 fn first_sqs(slots: u16) -> [SqState; MAX_REGIONS]
     requires { 0 < slots }
-    ensures { result ≡ slice_set (replicate 65 no_sq_state) 0 (record no_sq_state { ring = first_ring slots; opened = 1 }) }
+    ensures { result ≡ slice_set (replicate 65 no_sq_state) 0 (record no_sq_state { ring = first_ring slots }) }
 {
     let mut sqs = [SqState::none(); MAX_REGIONS];
     sqs[0].ring = Ring::new(slots);
-    sqs[0].opened = 1;
     sqs
 }
 
-// The states of the completion regions, of which the admin queue's is there.
+// The states of the completion queues, of which the admin queue is open.
 fn first_cqs(slots: u16) -> [CqState; MAX_REGIONS]
     requires { 0 < slots }
     ensures { result ≡ slice_set (replicate 65 no_cq_state) 0 (record no_cq_state { ring = first_ring slots }) }

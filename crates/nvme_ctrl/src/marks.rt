@@ -4,6 +4,7 @@ ghost use Rattle.nvme_ctrl.specs.Marks.{is_status, is_final, own_marks};
 ghost use Rattle.nvme_ctrl.specs.kept.Pool.{bit};
 
 use nvme_entry::Status;
+use nvme_placing::{INVALID_INTERRUPT_VECTOR, PRP_OFFSET_INVALID};
 
 /// What the status field of a completion says beside its status.
 #[derive(Clone, Copy, Debug, PartialEq, Eq)]
@@ -32,6 +33,8 @@ fn is_final(status: Status) -> bool
         || is_status(status, Status::INVALID_QUEUE_IDENTIFIER)
         || is_status(status, Status::INVALID_QUEUE_SIZE)
         || is_status(status, Status::FEATURE_NOT_SAVEABLE)
+        || is_status(status, PRP_OFFSET_INVALID)
+        || is_status(status, INVALID_INTERRUPT_VECTOR)
 }
 
 impl Marks {

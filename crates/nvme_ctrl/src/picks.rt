@@ -19,8 +19,9 @@ pub enum Step {
     Picked(Pick),
     /// A command of the admin queue was picked that is the device's, which is to take it.
     Passed(Pick),
-    /// A command of the admin queue was picked and carried out.
-    Done(Effect),
+    /// A command of the admin queue was picked and carried out: what it did, and its entry. Where queues may lie anywhere,
+    /// the number of a new queue's region is its identifier.
+    Done(Effect, Sqe),
 }
 
 impl Controller {
@@ -35,6 +36,7 @@ impl Controller {
     ghost use Rattle.nvme_ctrl.specs.Standing.{Stands, IsController};
     ghost use Rattle.nvme_arbiter.specs.declared.pick.Pick.{Pick};
     ghost use Rattle.nvme_admin.specs.declared.effect.Effect.{Effect};
+    ghost use Rattle.nvme_entry.specs.declared.submission.Sqe.{Sqe};
     ghost use Rattle.nvme_entry.specs.AdminCommand.{admin_command_of};
     ghost use Rattle.nvme_entry.specs.declared.admin.AdminCommand.TheVariants as command;
     ghost use Rattle.nvme_ctrl.specs.Own.{names_none, is_own, own_of, oldest_is_own};
@@ -73,15 +75,12 @@ impl Controller {
         ensures stands { (rules : FrontRules) (late : Bool) (notes : Notes) → Stands rules late notes self.old slots.now → HasStepped rules late notes (step.Picked pick) self.new slots.now }
     {
         self.board.keep(pick);
-        let Some(queue) = self.table.sq(pick.qid) else {
-            return;
-        };
-        let mut sq = self.sq(queue.region);
+        let mut sq = self.sq(pick.qid);
         sq.unposted = sq.unposted.saturating_add(pick.n);
-        self.put_sq(queue.region, sq);
+        self.put_sq(pick.qid, sq);
         self.outstanding = self.outstanding.saturating_add(pick.n);
         self.picked = pick.n;
-        self.picked_region = queue.region;
+        self.picked_qid = pick.qid;
     }
 
     // Whether a command with this identifier waits in the I/O submission queue with this one. (Abort)
@@ -91,10 +90,7 @@ impl Controller {
         if sqid == 0 {
             return false;
         }
-        let Some(region) = self.sq_region(sqid) else {
-            return false;
-        };
-        self.sq(region).window.find(slots, cid).is_some()
+        self.sq_region(sqid).is_some() && self.sq(sqid).window.find(slots, cid).is_some()
     }
 
     // Whether a command is no Abort that names a command that waits. (Abort)
@@ -129,15 +125,15 @@ impl Controller {
         self.put_sq(0, sq);
         self.outstanding = self.outstanding.saturating_add(1);
         self.picked = 1;
-        self.picked_region = 0;
+        self.picked_qid = 0;
     }
 
     // Makes the next pick, which is of the admin queue, and carries the command out.
-    fn pick_admin(&mut self, slots: &mut [Slot], pick: Pick) -> Effect
+    fn pick_admin(&mut self, slots: &mut [Slot], pick: Pick) -> (Effect, Sqe)
         requires can { CanPickNow self.old slots.old pick }
         requires of_admin { pick.qid ≡ 0 }
         ensures own { own_of self.new ≡ own_of self.old }
-        ensures stands { (rules : FrontRules) (late : Bool) (notes : Notes) → Stands rules late notes self.old slots.old → HasStepped rules late notes (step.Done result) self.new slots.new }
+        ensures stands { (rules : FrontRules) (late : Bool) (notes : Notes) → Stands rules late notes self.old slots.old → HasStepped rules late notes (step.Done result.0 result.1) self.new slots.new }
     {
         self.board.keep(pick);
         let mut sq = self.sq(0);
@@ -148,7 +144,7 @@ impl Controller {
         let entry = slot_at(slots, tag).entry;
         let effect = self.table.execute(&entry);
         self.carry_out(slots, tag, &effect);
-        effect
+        (effect, entry)
     }
 
     /// Makes the next pick of arbitration, if there is one and its places are free. Where it makes none, nothing changes. A
@@ -162,7 +158,7 @@ impl Controller {
         ensures busy { result ≡ step.Busy → (self.new ≡ self.old) × (slots.new ≡ slots.old) }
         ensures full { result ≡ step.Full → (self.new ≡ self.old) × (slots.new ≡ slots.old) }
         ensures passed { (rules : FrontRules) (late : Bool) (notes : Notes) → Stands rules late notes self.old slots.old → (pick : Pick) → result ≡ step.Passed pick → oldest_is_own (own_of self.old) notes ≡ Some true }
-        ensures carried_out { (rules : FrontRules) (late : Bool) (notes : Notes) → Stands rules late notes self.old slots.old → (effect : Effect) → result ≡ step.Done effect → oldest_is_own (own_of self.old) notes ≡ Some false }
+        ensures carried_out { (rules : FrontRules) (late : Bool) (notes : Notes) → Stands rules late notes self.old slots.old → (effect : Effect) (entry : Sqe) → result ≡ step.Done effect entry → oldest_is_own (own_of self.old) notes ≡ Some false }
         ensures own { own_of self.new ≡ own_of self.old }
         ensures stands { (rules : FrontRules) (late : Bool) (notes : Notes) → Stands rules late notes self.old slots.old → HasStepped rules late notes result self.new slots.new }
     {
@@ -182,7 +178,8 @@ impl Controller {
             self.pass(slots, pick);
             Step::Passed(pick)
         } else {
-            Step::Done(self.pick_admin(slots, pick))
+            let (effect, entry) = self.pick_admin(slots, pick);
+            Step::Done(effect, entry)
         }
     }
 

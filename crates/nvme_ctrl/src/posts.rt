@@ -40,9 +40,10 @@ impl CqState {
 
 impl Controller {
     ghost use Rattle.nvme_ctrl.specs.Own.{own_of};
-    ghost use Rattle.std.specs.Prelude.{◌≡◌, ℕ, Bool, true, false, List, ◌∷◌, None, IfSome};
+    ghost use Rattle.std.specs.Prelude.{◌≡◌, ℕ, Bool, true, false, List, ◌∷◌, None, Some, IfSome};
     ghost use Rattle.nvme_log.specs.Rules.{FrontRules};
-    ghost use Rattle.nvme_ctrl.specs.Notes.{Notes};
+    ghost use Rattle.nvme_log.specs.Queues.{open_cq};
+    ghost use Rattle.nvme_ctrl.specs.Notes.{Notes, logged};
     ghost use Rattle.nvme_ctrl.specs.Standing.{Stands, IsController};
     ghost use Rattle.nvme_ctrl.specs.Calls.{HasPosted};
     ghost use Rattle.nvme_ctrl.specs.Posts.{NonePostable, IsPostOf};
@@ -54,11 +55,10 @@ impl Controller {
     fn completion(&self, command: &Slot, phase: bool) -> Cqe
         ensures { result ≡ completion_of self.now command.now phase }
     {
-        let sq = self.sq(command.region);
         Cqe {
             dw0: command.dw0,
-            sqhd: sq.ring.head,
-            sqid: sq.qid,
+            sqhd: self.sq(u16::from(command.sqid)).ring.head,
+            sqid: u16::from(command.sqid),
             cid: command.entry.cid,
             phase,
             status: Status {
@@ -72,26 +72,27 @@ impl Controller {
     fn count_post(&mut self, command: &Slot)
         ensures { self.new ≡ counted_post self.old command.now }
     {
-        let mut sq = self.sq(command.region);
+        let sqid = u16::from(command.sqid);
+        let mut sq = self.sq(sqid);
         sq.unposted = sq.unposted.saturating_sub(1);
-        self.put_sq(command.region, sq);
+        self.put_sq(sqid, sq);
         if command.state != DROPPED {
             self.outstanding = self.outstanding.saturating_sub(1);
         }
     }
 
-    /// Posts the completion that became ready first in a completion region. None, which changes nothing, exactly where
-    /// none is ready, and where the host has freed no slot of the ring.
-    pub fn post(&mut self, slots: &mut [Slot], region: u8) -> Option<Post>
+    /// Posts the completion that became ready first in an open completion queue. None, which changes nothing, exactly where
+    /// the queue isn't open, where none is ready, and where the host has freed no slot of the ring.
+    pub fn post(&mut self, slots: &mut [Slot], cqid: u16) -> Option<Post>
         requires front { IsController self.old slots.old }
         ensures front { IsController self.new slots.new }
         ensures none { result ≡ None → (self.new ≡ self.old) × (slots.new ≡ slots.old) }
         ensures own { own_of self.new ≡ own_of self.old }
-        ensures told { (rules : FrontRules) (late : Bool) (notes : Notes) → Stands rules late notes self.old slots.old → result ≡ None → NonePostable rules notes region }
+        ensures told { (rules : FrontRules) (late : Bool) (notes : Notes) → Stands rules late notes self.old slots.old → result ≡ None → (x : ℕ) → open_cq (logged notes) cqid ≡ Some x → NonePostable rules notes x }
         ensures command { IfSome result (λ p. IsPostOf (slot_at slots.old p.tag) p.cqe p.cookie p.marks) }
-        ensures stands { (rules : FrontRules) (late : Bool) (notes : Notes) → Stands rules late notes self.old slots.old → IfSome result (λ p. HasPosted rules late notes region p.slot p.cqe p.cookie p.marks self.new slots.new) }
+        ensures stands { (rules : FrontRules) (late : Bool) (notes : Notes) → Stands rules late notes self.old slots.old → IfSome result (λ p. HasPosted rules late notes cqid p.slot p.cqe p.cookie p.marks self.new slots.new) }
     {
-        let mut cq = self.cq(region);
+        let mut cq = self.cq(cqid);
         if cq.ring.is_full() {
             return None;
         }
@@ -100,7 +101,7 @@ impl Controller {
         let cqe = self.completion(&command, cq.phase == 1);
         let slot = cq.ring.tail;
         cq.write();
-        self.put_cq(region, cq);
+        self.put_cq(cqid, cq);
         self.count_post(&command);
         put_item(
             slots,

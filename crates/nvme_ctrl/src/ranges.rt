@@ -13,10 +13,10 @@ use nvme_log::MAX_OUTSTANDING;
 impl Controller {
     ghost use Rattle.std.specs.Prelude.{◌≡◌, true};
     ghost use Rattle.nvme_ctrl.specs.Standing.{IsController};
-    ghost use Rattle.nvme_ctrl.specs.Ranges.{has_counts, has_numbers, has_regions, is_in_range};
+    ghost use Rattle.nvme_ctrl.specs.Ranges.{has_counts, has_numbers, has_queues, is_in_range};
 
     /// Whether the numbers of the controller and of these slots are within their ranges: counts and limits, the head and
-    /// tail of each ring, the queues of regions, and the chains, each as long as it says, linked within the pool, of
+    /// tail of each ring, the identifiers of queues, and the chains, each as long as it says, linked within the pool, of
     /// slots that are used for it. Each controller with the slots that its calls were given is so; one that something
     /// else wrote into need not be. It looks at each slot, and is there to find faults. (profile)
     pub fn is_in_range(&self, slots: &[Slot]) -> bool
@@ -30,7 +30,7 @@ impl Controller {
     fn has_ranges(&self, slots: &[Slot]) -> bool
         ensures { result ≡ is_in_range self.now slots.now }
     {
-        self.has_numbers(slots) && self.has_regions(slots) && are_placed(slots)
+        self.has_numbers(slots) && self.has_queues(slots) && are_placed(slots)
     }
 
     // Whether its own numbers are.
@@ -43,9 +43,9 @@ impl Controller {
             && is_chain(&self.free, slots, FREE, FREE)
     }
 
-    // Whether those of its regions are.
-    fn has_regions(&self, slots: &[Slot]) -> bool
-        ensures { result ≡ has_regions self.now slots.now }
+    // Whether those of its queues are.
+    fn has_queues(&self, slots: &[Slot]) -> bool
+        ensures { result ≡ has_queues self.now slots.now }
     {
         are_sqs(&self.sqs, slots) && are_cqs(&self.cqs, slots)
     }
@@ -54,7 +54,7 @@ impl Controller {
     fn has_counts(&self) -> bool
         ensures { result ≡ has_counts self.now }
     {
-        self.outstanding <= MAX_OUTSTANDING && self.picked <= self.sq(self.picked_region).window.len
+        self.outstanding <= MAX_OUTSTANDING && self.picked <= self.sq(self.picked_qid).window.len
     }
 }
 
@@ -68,15 +68,15 @@ fn is_item(slots: &[Slot], x: u16, lowest: u8, highest: u8) -> bool
     let it = slot_at(slots, x);
     lowest <= it.state
         && it.state <= highest
-        && (it.state == FREE || usize::from(it.region) < MAX_REGIONS)
+        && (it.state == FREE || usize::from(it.sqid) < MAX_REGIONS)
         && (it.state < ANSWERED || it.sct < 8)
 }
 
-// Whether a command that the device has is of a region.
+// Whether a command that the device has is of a queue.
 fn is_placed(slot: &Slot) -> bool
     ensures { result ≡ is_placed slot.now }
 {
-    slot.state != OUT || usize::from(slot.region) < MAX_REGIONS
+    slot.state != OUT || usize::from(slot.sqid) < MAX_REGIONS
 }
 
 // Whether a slot can be the next one of a chain, with so many behind it.
@@ -86,7 +86,7 @@ fn is_link(chain: &Chain, slots: &[Slot], x: u16, behind: u16, lowest: u8, highe
     is_item(slots, x, lowest, highest) && (behind > 0 || x == chain.last)
 }
 
-// Whether the commands that the device has are of regions.
+// Whether the commands that the device has are of queues.
 fn are_placed(slots: &[Slot]) -> bool
     ensures { result ≡ list_all is_placed slots.now }
 {
@@ -119,35 +119,35 @@ fn is_ring(ring: &Ring) -> bool
     ring.slots == 0 || (ring.head < ring.slots && ring.tail < ring.slots)
 }
 
-// Whether the region of a queue has a ring, and its completions a region.
+// Whether the completions of a queue that has a ring go to a queue.
 fn is_attached(sq: &SqState) -> bool
     ensures { result ≡ is_attached sq.now }
 {
-    sq.opened == 0 || (sq.ring.slots > 0 && usize::from(sq.cq_region) < MAX_REGIONS)
+    sq.ring.slots == 0 || usize::from(sq.cqid) < MAX_REGIONS
 }
 
-// Whether a submission region is within its ranges, with commands that wait.
+// Whether a submission queue is within its ranges, with commands that wait.
 fn is_sq(sq: &SqState, slots: &[Slot]) -> bool
     ensures { result ≡ is_sq slots.now sq.now }
 {
     is_ring(&sq.ring) && is_attached(sq) && is_chain(&sq.window, slots, WAITING, WAITING)
 }
 
-// Whether a completion region is within its ranges, with commands that ended.
+// Whether a completion queue is within its ranges, with commands that ended.
 fn is_cq(cq: &CqState, slots: &[Slot]) -> bool
     ensures { result ≡ is_cq slots.now cq.now }
 {
     is_ring(&cq.ring) && is_chain(&cq.ready, slots, ANSWERED, DROPPED)
 }
 
-// Whether all submission regions are.
+// Whether all submission queues are.
 fn are_sqs(sqs: &[SqState], slots: &[Slot]) -> bool
     ensures { result ≡ list_all (is_sq slots.now) sqs.now }
 {
     sqs.iter().all(|sq| is_sq(sq, slots))
 }
 
-// Whether all completion regions are.
+// Whether all completion queues are.
 fn are_cqs(cqs: &[CqState], slots: &[Slot]) -> bool
     ensures { result ≡ list_all (is_cq slots.now) cqs.now }
 {

@@ -36,8 +36,8 @@ pub struct Slot {
     /// The status of its completion, where it ended.
     pub sct: u8,
     pub sc: u8,
-    /// The submission region that it was fetched from.
-    pub region: u8,
+    /// The identifier of the submission queue that it was fetched from.
+    pub sqid: u8,
     /// What it is used for, one of the constants above.
     pub state: u8,
     /// The marks of its completion, where it ended: each 1 or 0.
@@ -76,7 +76,7 @@ impl Slot {
             next: 0,
             sct: 0,
             sc: 0,
-            region: 0,
+            sqid: 0,
             state: FREE,
             more: 0,
             do_not_retry: 0,

@@ -5,28 +5,26 @@ ghost use Rattle.nvme_ctrl.specs.kept.State.{sq_at, cq_at, deletion_at};
 use crate::chain::Chain;
 use crate::own::OwnCommands;
 use crate::ring::Ring;
-use nvme_admin::{MAX_REGIONS, TableFields};
+use nvme_admin::MAX_REGIONS;
 use nvme_arbiter::BoardFields;
+use nvme_placing::PlacedTable;
 
-/// A submission region: its ring, of which the controller reads, the chain of its commands that are picked and not
-/// taken, and then of those that wait, the number of picked or aborted commands with no completion posted, and the
-/// queue that it was opened for, which is held or not.
+/// A submission queue, open or closing: its ring, of which the controller reads, the chain of its commands that are
+/// picked and not taken, and then of those that wait, the number of picked or aborted commands with no completion
+/// posted, the completion queue that it posts to, and whether it is held.
 #[repr(C)]
 #[derive(Clone, Copy, Debug, Drop)]
 pub struct SqState {
     pub ring: Ring,
     pub window: Chain,
     pub unposted: u16,
-    pub qid: u16,
-    pub cq_region: u8,
-    /// 1 where it was opened for a queue, else 0.
-    pub opened: u8,
-    /// 1 where its queue is held, else 0.
+    pub cqid: u16,
+    /// 1 where it is held, else 0.
     pub held: u8,
 }
 
-/// A completion region: its ring, of which the host reads, the chain of its commands whose completions are ready, and
-/// the phase tag of the next one.
+/// An open completion queue: its ring, of which the host reads, the chain of its commands whose completions are ready,
+/// and the phase tag of the next one.
 #[repr(C)]
 #[derive(Clone, Copy, Debug, Drop)]
 pub struct CqState {
@@ -36,7 +34,7 @@ pub struct CqState {
     pub phase: u8,
 }
 
-/// The deletion of a submission region's queue.
+/// The deletion of a submission queue.
 #[repr(C)]
 #[derive(Clone, Copy, Debug, Drop)]
 pub struct Deletion {
@@ -46,12 +44,12 @@ pub struct Deletion {
     pub tag: u16,
 }
 
-/// The core of a controller, of numbers alone: its queue table, the board of its arbiter, and the state of each region.
-/// Its commands are in the slots of a pool, which each call is given.
+/// The core of a controller, of numbers alone: its queue table, the board of its arbiter, and the state of each queue, by
+/// its identifier. Its commands are in the slots of a pool, which each call is given.
 #[repr(C)]
 #[derive(Drop)]
 pub struct Controller {
-    pub(crate) table: TableFields,
+    pub(crate) table: PlacedTable,
     pub(crate) board: BoardFields,
     pub(crate) sqs: [SqState; MAX_REGIONS],
     pub(crate) cqs: [CqState; MAX_REGIONS],
@@ -63,9 +61,9 @@ pub struct Controller {
     pub(crate) outstanding: u16,
     /// How many commands are picked and not taken.
     pub(crate) picked: u16,
-    /// Their region. Region 0 has one where it is the device's.
-    pub(crate) picked_region: u8,
-    /// The deletion of the queue of each submission region, and how many of them are pending.
+    /// Their submission queue. The admin queue has one where it is the device's.
+    pub(crate) picked_qid: u16,
+    /// The deletion of each submission queue, and how many of them are pending.
     pub(crate) deletions: [Deletion; MAX_REGIONS],
     pub(crate) pending_deletions: u16,
     /// The admin commands that are the device's.
@@ -76,7 +74,7 @@ impl SqState {
     ghost use Rattle.std.specs.Prelude.{◌≡◌};
     ghost use Rattle.nvme_ctrl.specs.kept.State.{no_sq_state};
 
-    /// The state of no region.
+    /// The state of no queue.
     pub fn none() -> SqState
         ensures { result ≡ no_sq_state }
     {
@@ -92,9 +90,7 @@ impl SqState {
                 len: 0,
             },
             unposted: 0,
-            qid: 0,
-            cq_region: 0,
-            opened: 0,
+            cqid: 0,
             held: 0,
         }
     }
@@ -104,7 +100,7 @@ impl CqState {
     ghost use Rattle.std.specs.Prelude.{◌≡◌};
     ghost use Rattle.nvme_ctrl.specs.kept.State.{no_cq_state};
 
-    /// The state of no region.
+    /// The state of no queue.
     pub fn none() -> CqState
         ensures { result ≡ no_cq_state }
     {
@@ -140,77 +136,77 @@ impl Controller {
     ghost use Rattle.std.specs.Prelude.{◌≡◌, slice_set};
     ghost use Rattle.nvme_ctrl.specs.kept.State.{sq_at, cq_at, deletion_at, picked_in};
 
-    /// The state of a submission region.
-    pub(crate) fn sq(&self, region: u8) -> SqState
-        ensures { result ≡ sq_at self.now.sqs region }
+    /// The state of a submission queue.
+    pub(crate) fn sq(&self, qid: u16) -> SqState
+        ensures { result ≡ sq_at self.now.sqs qid }
     {
-        let region = usize::from(region);
-        if region < MAX_REGIONS {
-            self.sqs[region]
+        let qid = usize::from(qid);
+        if qid < MAX_REGIONS {
+            self.sqs[qid]
         } else {
             SqState::none()
         }
     }
 
-    /// The state of a completion region.
-    pub(crate) fn cq(&self, region: u8) -> CqState
-        ensures { result ≡ cq_at self.now.cqs region }
+    /// The state of a completion queue.
+    pub(crate) fn cq(&self, cqid: u16) -> CqState
+        ensures { result ≡ cq_at self.now.cqs cqid }
     {
-        let region = usize::from(region);
-        if region < MAX_REGIONS {
-            self.cqs[region]
+        let cqid = usize::from(cqid);
+        if cqid < MAX_REGIONS {
+            self.cqs[cqid]
         } else {
             CqState::none()
         }
     }
 
-    /// Puts the state of a submission region in its place.
-    pub(crate) fn put_sq(&mut self, region: u8, state: SqState)
-        ensures { self.new ≡ record self.old { sqs = slice_set self.old.sqs region state } }
+    /// Puts the state of a submission queue in its place.
+    pub(crate) fn put_sq(&mut self, qid: u16, state: SqState)
+        ensures { self.new ≡ record self.old { sqs = slice_set self.old.sqs qid state } }
     {
-        let region = usize::from(region);
-        if region < MAX_REGIONS {
-            self.sqs[region] = state;
+        let qid = usize::from(qid);
+        if qid < MAX_REGIONS {
+            self.sqs[qid] = state;
         }
     }
 
-    /// Puts the state of a completion region in its place.
-    pub(crate) fn put_cq(&mut self, region: u8, state: CqState)
-        ensures { self.new ≡ record self.old { cqs = slice_set self.old.cqs region state } }
+    /// Puts the state of a completion queue in its place.
+    pub(crate) fn put_cq(&mut self, cqid: u16, state: CqState)
+        ensures { self.new ≡ record self.old { cqs = slice_set self.old.cqs cqid state } }
     {
-        let region = usize::from(region);
-        if region < MAX_REGIONS {
-            self.cqs[region] = state;
+        let cqid = usize::from(cqid);
+        if cqid < MAX_REGIONS {
+            self.cqs[cqid] = state;
         }
     }
 
-    /// The deletion of the queue of a submission region.
-    pub(crate) fn deletion(&self, region: u8) -> Deletion
-        ensures { result ≡ deletion_at self.now.deletions region }
+    /// The deletion of a submission queue.
+    pub(crate) fn deletion(&self, qid: u16) -> Deletion
+        ensures { result ≡ deletion_at self.now.deletions qid }
     {
-        let region = usize::from(region);
-        if region < MAX_REGIONS {
-            self.deletions[region]
+        let qid = usize::from(qid);
+        if qid < MAX_REGIONS {
+            self.deletions[qid]
         } else {
             Deletion::none()
         }
     }
 
-    /// Puts the deletion of the queue of a submission region in its place.
-    pub(crate) fn put_deletion(&mut self, region: u8, deletion: Deletion)
-        ensures { self.new ≡ record self.old { deletions = slice_set self.old.deletions region deletion } }
+    /// Puts the deletion of a submission queue in its place.
+    pub(crate) fn put_deletion(&mut self, qid: u16, deletion: Deletion)
+        ensures { self.new ≡ record self.old { deletions = slice_set self.old.deletions qid deletion } }
     {
-        let region = usize::from(region);
-        if region < MAX_REGIONS {
-            self.deletions[region] = deletion;
+        let qid = usize::from(qid);
+        if qid < MAX_REGIONS {
+            self.deletions[qid] = deletion;
         }
     }
 
-    /// How many commands of a submission region are picked and not taken.
-    pub(crate) fn picked_in(&self, region: u8) -> u16
-        ensures { result ≡ picked_in self.now region }
+    /// How many commands of a submission queue are picked and not taken.
+    pub(crate) fn picked_in(&self, qid: u16) -> u16
+        ensures { result ≡ picked_in self.now qid }
     {
-        if region == self.picked_region {
+        if qid == self.picked_qid {
             self.picked
         } else {
             0

@@ -6,6 +6,7 @@ use nvme_admin::{AdminError, Limits, Region};
 use nvme_arbiter::{Mechanism, Pick, Settings};
 use nvme_ctrl::{Answer, Controller, Marks, Post, Slot, Step};
 use nvme_entry::{Sqe, Status};
+use nvme_placing::{PRP_OFFSET_INVALID, Placement};
 use std::alloc::AllocError;
 use std::process::Abort;
 use std::test::*;
@@ -204,16 +205,16 @@ fn step(rt: &impl Abort, ctrl: &mut Controller, slots: &mut [Slot], carries_out:
     ensures { IsController ctrl.new slots.new }
 {
     let step = ctrl.pick(slots);
-    assert_eq!(rt; matches!(step, Step::Done(_)), carries_out);
+    assert_eq!(rt; matches!(step, Step::Done(..)), carries_out);
     assert!(rt; carries_out || matches!(step, Step::Picked(_)));
 }
 
-// A completion of a region is posted, as `posted` says.
+// A completion is posted to a completion queue, as `posted` says.
 fn post_marked(
     rt: &impl Abort,
     ctrl: &mut Controller,
     slots: &mut [Slot],
-    region: u8,
+    cqid: u16,
     want: (u16, u16, u16, bool),
     status: Status,
     marks: Marks,
@@ -221,7 +222,7 @@ fn post_marked(
     requires { IsController ctrl.old slots.old }
     ensures { IsController ctrl.new slots.new }
 {
-    posted(rt, ctrl.post(slots, region), want, status, marks);
+    posted(rt, ctrl.post(slots, cqid), want, status, marks);
 }
 
 // So is one with neither mark.
@@ -229,14 +230,14 @@ fn post(
     rt: &impl Abort,
     ctrl: &mut Controller,
     slots: &mut [Slot],
-    region: u8,
+    cqid: u16,
     want: (u16, u16, u16, bool),
     status: Status,
 )
     requires { IsController ctrl.old slots.old }
     ensures { IsController ctrl.new slots.new }
 {
-    post_marked(rt, ctrl, slots, region, want, status, Marks::NONE);
+    post_marked(rt, ctrl, slots, cqid, want, status, Marks::NONE);
 }
 
 // Two commands go through the rings from a slot on, with a phase tag.
@@ -512,5 +513,71 @@ fn reset_leaves_nothing(rt: HostRuntime) -> Result<(), Fail> {
     // (no region has the address)
     let status = Status::INVALID_FIELD;
     post_marked(&rt, &mut ctrl, &mut slots, 0, (0, 1, 50, true), status, DNR);
+    Ok(())
+}
+
+// A controller whose queues may lie anywhere, for pages of 4,096 bytes, rings of at most 8 slots, and 2 vectors.
+fn anywhere(slots: &mut [Slot]) -> Result<Controller, AdminError>
+    requires few { length slots.old < 2 ^ 16 }
+    ensures front { IfOk result (λ c. IsController c slots.new) }
+{
+    let placement = Placement {
+        page: 4096,
+        mqes: 7,
+        vectors: 2,
+    };
+    Controller::anywhere(
+        Mechanism::RoundRobin,
+        Settings::from_cdw11(7),
+        Limits { nsq: 4, ncq: 4 },
+        placement,
+        4,
+        ASQ,
+        ACQ,
+        slots,
+    )
+}
+
+// The host creates a queue pair, and deletes the submission queue. It creates it again in the same memory, with 2 slots,
+// and then another one at no multiple of the page.
+fn create_again(rt: &impl Abort, ctrl: &mut Controller, slots: &mut [Slot])
+    requires { IsController ctrl.old slots.old }
+    ensures { IsController ctrl.new slots.new }
+{
+    tail(rt, ctrl, slots, 0, 5, true);
+    fetch(rt, ctrl, slots, 0, 0, &create_cq(10));
+    step(rt, ctrl, slots, true);
+    fetch(rt, ctrl, slots, 0, 1, &create_sq(11));
+    step(rt, ctrl, slots, true);
+    fetch(rt, ctrl, slots, 0, 2, &entry(0x00, 12, 0, 1, 0));
+    step(rt, ctrl, slots, true);
+    assert_eq!(rt; ctrl.finish(slots), Some(1));
+    let again = entry(0x01, 13, SQ, 0x0001_0001, 0x0001_0001);
+    fetch(rt, ctrl, slots, 0, 3, &again);
+    step(rt, ctrl, slots, true);
+    let within = entry(0x01, 14, SQ + 8, 0x0001_0002, 0x0001_0001);
+    fetch(rt, ctrl, slots, 0, 4, &within);
+    step(rt, ctrl, slots, true);
+}
+
+#[test]
+fn memory_is_used_again(rt: HostRuntime) -> Result<(), Fail> {
+    let mut slots = [Slot::free(); 16];
+    let mut ctrl = anywhere(&mut slots)?;
+    create_again(&rt, &mut ctrl, &mut slots);
+    let done = Status::SUCCESS;
+    post(&rt, &mut ctrl, &mut slots, 0, (0, 5, 10, true), done);
+    post(&rt, &mut ctrl, &mut slots, 0, (1, 5, 11, true), done);
+    post(&rt, &mut ctrl, &mut slots, 0, (2, 5, 12, true), done);
+    post(&rt, &mut ctrl, &mut slots, 0, (3, 5, 13, true), done);
+    let last = (4, 5, 14, true);
+    post_marked(&rt, &mut ctrl, &mut slots, 0, last, PRP_OFFSET_INVALID, DNR);
+    // (the ring of 2 slots has one entry at most, and the region is told as the identifier)
+    tail(&rt, &mut ctrl, &slots, 1, 2, false);
+    tail(&rt, &mut ctrl, &slots, 1, 1, true);
+    fetch(&rt, &mut ctrl, &mut slots, 1, 0, &read(40));
+    assert_eq!(rt; (ctrl.sq_region(1), ctrl.cq_region(1)), (Some(1), Some(1)));
+    assert_eq!(rt; ctrl.sq_region(2), None);
+    assert_eq!(rt; ctrl.add_sq_region(SECOND, 4), Err(AdminError::TooMany));
     Ok(())
 }

@@ -8,8 +8,8 @@ use nvme_entry::{Sqe, Status};
 /// The steps of one call of `execute`: enough for all commands of both queues.
 pub const STEPS: usize = 64;
 
-/// Fetches what the host submitted to the queue on a submission region, until its window is full.
-pub fn fetch_queue(ctrl: &mut Controller, slots: &mut [Slot], memory: &Memory, qid: u16, region: u8)
+/// Fetches what the host submitted to a queue, until its window is full.
+pub fn fetch_queue(ctrl: &mut Controller, slots: &mut [Slot], memory: &Memory, qid: u16)
     requires front { IsController ctrl.old slots.old }
     ensures front { IsController ctrl.new slots.new }
 {
@@ -17,7 +17,7 @@ pub fn fetch_queue(ctrl: &mut Controller, slots: &mut [Slot], memory: &Memory, q
         let Some(slot) = ctrl.fetch(qid) else {
             return;
         };
-        let Some(entry) = memory.read(region, slot) else {
+        let Some(entry) = memory.read(qid, slot) else {
             return;
         };
         ctrl.fetched(slots, qid, &entry, 0);
@@ -46,7 +46,7 @@ pub fn step(ctrl: &mut Controller, slots: &mut [Slot]) -> bool
     ensures front { IsController ctrl.new slots.new }
 {
     let Some(tag) = ctrl.take(slots) else {
-        return matches!(ctrl.pick(slots), Step::Picked(_) | Step::Done(_));
+        return matches!(ctrl.pick(slots), Step::Picked(_) | Step::Done(..));
     };
     let answer = answer_to(&slot_at(slots, tag).entry);
     ctrl.complete(slots, tag, answer)
@@ -64,29 +64,29 @@ pub fn execute(ctrl: &mut Controller, slots: &mut [Slot])
     }
 }
 
-/// Writes the completions that are ready in a completion region, until its ring is full.
-pub fn post_region(ctrl: &mut Controller, slots: &mut [Slot], memory: &mut Memory, region: u8)
+/// Writes the completions that are ready in a completion queue, until its ring is full.
+pub fn post_queue(ctrl: &mut Controller, slots: &mut [Slot], memory: &mut Memory, cqid: u16)
     requires front { IsController ctrl.old slots.old }
     ensures front { IsController ctrl.new slots.new }
 {
     for _ in 0..SLOTS {
-        let Some(post) = ctrl.post(slots, region) else {
+        let Some(post) = ctrl.post(slots, cqid) else {
             return;
         };
-        memory.write(region, post.slot, post.cqe, post.marks);
+        memory.write(cqid, post.slot, post.cqe, post.marks);
     }
 }
 
-/// Serves the admin queues and the queue pair on region 1, whose identifier is 1. A deletion is finished once all
+/// Serves the admin queues and the queue pair 1. A deletion is finished once all
 /// completions of its queue are written.
 pub fn serve(ctrl: &mut Controller, slots: &mut [Slot], memory: &mut Memory)
     requires front { IsController ctrl.old slots.old }
     ensures front { IsController ctrl.new slots.new }
 {
-    fetch_queue(ctrl, slots, memory, 0, 0);
-    fetch_queue(ctrl, slots, memory, 1, 1);
+    fetch_queue(ctrl, slots, memory, 0);
+    fetch_queue(ctrl, slots, memory, 1);
     execute(ctrl, slots);
-    post_region(ctrl, slots, memory, 1);
+    post_queue(ctrl, slots, memory, 1);
     ctrl.finish(slots);
-    post_region(ctrl, slots, memory, 0);
+    post_queue(ctrl, slots, memory, 0);
 }

@@ -8,7 +8,7 @@ pub const SLOTS: usize = 8;
 /// The slots of two rings of a kind: that of the admin queue, and that of one I/O queue.
 pub const ALL_SLOTS: usize = 16;
 
-/// The rings, one after the other by region: the submission rings, and the completion rings with the marks of each
+/// The rings, one after the other by queue: the submission rings, and the completion rings with the marks of each
 /// completion, which a device puts into bits 30 and 31 of its Dword 3.
 #[derive(Drop)]
 pub struct Memory {
@@ -17,9 +17,9 @@ pub struct Memory {
     pub marks: [Marks; ALL_SLOTS],
 }
 
-// Where a slot of a region's ring lies.
-fn place(region: u8, slot: u16) -> usize {
-    usize::from(region) * SLOTS + usize::from(slot)
+// Where a slot of a queue's ring lies.
+fn place(qid: u16, slot: u16) -> usize {
+    usize::from(qid) * SLOTS + usize::from(slot)
 }
 
 impl Memory {
@@ -41,13 +41,13 @@ impl Memory {
     }
 
     /// The entry in a slot of a submission ring, where there is one.
-    pub fn read(&self, region: u8, slot: u16) -> Option<Sqe> {
-        self.sqs.get(place(region, slot)).copied()
+    pub fn read(&self, qid: u16, slot: u16) -> Option<Sqe> {
+        self.sqs.get(place(qid, slot)).copied()
     }
 
     /// Writes a completion into a slot of a completion ring, where there is one.
-    pub fn write(&mut self, region: u8, slot: u16, cqe: Cqe, marks: Marks) {
-        let at = place(region, slot);
+    pub fn write(&mut self, cqid: u16, slot: u16, cqe: Cqe, marks: Marks) {
+        let at = place(cqid, slot);
         if at < ALL_SLOTS {
             self.cqs[at] = cqe;
             self.marks[at] = marks;

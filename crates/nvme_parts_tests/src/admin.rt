@@ -2,7 +2,7 @@ ghost use Rattle.std.specs.Prelude.{◌≤◌};
 
 mod reading;
 
-use nvme_admin::{AdminError, Effect, Limits, SqEntry, Table, Verdict};
+use nvme_admin::{AdminError, Effect, Limits, SqEntry, Table, TableFields, Verdict};
 use nvme_arbiter::{Class, Settings};
 use nvme_entry::{Sqe, Status};
 use std::process::Abort;
@@ -316,6 +316,79 @@ fn region_refusals(rt: HostRuntime) {
     expect_sq(&rt, &mut table, 300, 1, Err(AdminError::TooMany));
     expect_cq(&rt, &mut table, 300, 2, Err(AdminError::TooMany));
     expect_cq(&rt, &mut table, 101, 2, Err(AdminError::Used));
+}
+
+// A table with two regions of 8 slots of each kind, with completion queue 1 and submission queue 1 on the second ones.
+fn with_queues(rt: &impl Abort) -> Result<TableFields, AdminError> {
+    let mut table = TableFields::new(Limits { nsq: 4, ncq: 4 }, Settings::from_cdw11(0));
+    table.add_sq_region(0x1000, 8)?;
+    table.add_sq_region(0x2000, 8)?;
+    table.add_cq_region(0x8000, 8)?;
+    table.add_cq_region(0x9000, 8)?;
+    let created = Effect::OpenCq { qid: 1, region: 1 };
+    assert_eq!(rt; table.execute(&entry(5, 0x9000, 0x0007_0001, 1)), created);
+    let opened = Effect::OpenSq {
+        qid: 1,
+        region: 1,
+        cqid: 1,
+        cq_region: 1,
+        class: Class::Urgent,
+    };
+    assert_eq!(rt;
+        table.execute(&entry(1, 0x2000, 0x0007_0001, 0x0001_0001)),
+        opened
+    );
+    Ok(table)
+}
+
+// Deletes submission queue 1 of such a table.
+fn delete_first(rt: &impl Abort, table: &mut TableFields) {
+    let closing = Effect::BeginDelete { qid: 1, region: 1 };
+    assert_eq!(rt; table.execute(&entry(0, 0, 1, 0)), closing);
+    match table.sq(1) {
+        Some(queue) if queue.closing => table.finish_delete(1),
+        _ => {}
+    }
+}
+
+#[test]
+fn submission_region_is_renewed(rt: HostRuntime) -> Result<(), Fail> {
+    let mut table = with_queues(&rt)?;
+    delete_first(&rt, &mut table);
+    let create_sq = entry(1, 0x2000, 0x000f_0001, 0x0001_0003);
+    let refused = Effect::Done(Status::INVALID_FIELD, 0);
+    assert_eq!(rt; table.execute(&create_sq), refused);
+    table.renew_sq_region(0, 16);
+    table.renew_sq_region(1, 16);
+    table.renew_sq_region(2, 16);
+    assert!(rt; table.is_sq_region_used(0) && !table.is_sq_region_used(1));
+    let opened = Effect::OpenSq {
+        qid: 1,
+        region: 1,
+        cqid: 1,
+        cq_region: 1,
+        class: Class::High,
+    };
+    assert_eq!(rt; table.execute(&create_sq), opened);
+    Ok(())
+}
+
+#[test]
+fn completion_region_is_renewed(rt: HostRuntime) -> Result<(), Fail> {
+    let mut table = with_queues(&rt)?;
+    delete_first(&rt, &mut table);
+    let closed = Effect::CloseCq { qid: 1, region: 1 };
+    assert_eq!(rt; table.execute(&entry(4, 0, 1, 0)), closed);
+    let create_cq = entry(5, 0x9000, 0x000f_0001, 1);
+    let refused = Effect::Done(Status::INVALID_FIELD, 0);
+    assert_eq!(rt; table.execute(&create_cq), refused);
+    table.renew_cq_region(0, 16);
+    table.renew_cq_region(1, 16);
+    table.renew_cq_region(2, 16);
+    assert!(rt; table.is_cq_region_used(0) && !table.is_cq_region_used(1));
+    let created = Effect::OpenCq { qid: 1, region: 1 };
+    assert_eq!(rt; table.execute(&create_cq), created);
+    Ok(())
 }
 
 #[test]

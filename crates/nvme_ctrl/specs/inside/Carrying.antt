@@ -8,29 +8,31 @@ use Rattle.nvme_arbiter.specs.Queues.{queue_at}
 use Rattle.nvme_arbiter.specs.declared.pick.Pick.{Pick}
 use Rattle.nvme_arbiter.specs.declared.settings.Mechanism.{Mechanism}
 use Rattle.nvme_arbiter.specs.declared.settings.Class.{Class}
-use Rattle.nvme_admin.specs.Standing.{TableView, sq_of}
-use Rattle.nvme_admin.specs.Effects.{verdict_in, NamesRegions}
+use Rattle.nvme_admin.specs.QueueTable.{QueueTable}
+use Rattle.nvme_admin.specs.Effects.{verdict_in}
+use Rattle.nvme_admin.specs.declared.verdict.Verdict.{Verdict}
+use Rattle.nvme_placing.specs.Telling.{IsToldBy}
 use Rattle.nvme_admin.specs.declared.effect.Effect.{Effect}
 use Rattle.nvme_admin.specs.declared.verdict.SqEntry.{SqEntry}
 use Rattle.nvme_log.specs.Rules.{FrontRules}
 use Rattle.nvme_log.specs.Queues.{Queue, admin_queue}
-use Rattle.nvme_log.specs.Places.{is_aborted}
+use Rattle.nvme_log.specs.Places.{fetched, is_aborted}
 use Rattle.nvme_log.specs.Dispatches.{place_at}
 use Rattle.nvme_ctrl.specs.Notes.{Notes, logged}
 use Rattle.nvme_ctrl.specs.Tags.{answer_of, cookie_of}
 use Rattle.nvme_ctrl.specs.Account.{IsAccount}
 use Rattle.nvme_ctrl.specs.declared.slot.Slot.{Slot}
 use Rattle.nvme_ctrl.specs.declared.state.Controller.{Controller}
-use Rattle.nvme_ctrl.specs.kept.Content.{Candidate, Content, with_sq, with_cq, with_ready, put_held, put_class, put_deletion}
+use Rattle.nvme_ctrl.specs.kept.Content.{Candidate, Content, with_sq, with_cq, with_ready, put_held, put_class, put_deletion, put_life}
 use Rattle.nvme_ctrl.specs.kept.Pool.{slot_at, item_at}
-use Rattle.nvme_ctrl.specs.kept.Standing.{Holds, counted_on, on_board}
-use Rattle.nvme_ctrl.specs.inside.Steps.{CanPick, CanApply, verdict_at, applied_to, aborted, requested, oldest_named, without_oldest}
-use Rattle.nvme_ctrl.specs.kept.Kept.{Item, Items, candidate_of, HasNumbers, HasItems, HoldsDoorbells, HoldsTags, HoldsShown}
+use Rattle.nvme_ctrl.specs.kept.Standing.{Holds, counted_on, on_board, is_opened_cq}
+use Rattle.nvme_ctrl.specs.inside.Steps.{HasNextRegion, CanPick, CanApply, verdict_at, applied_to, aborted, requested, oldest_named, without_oldest}
+use Rattle.nvme_ctrl.specs.kept.Kept.{Item, Items, candidate_of, HasNumbers, HasItems, HoldsDoorbells, HoldsTags, HoldsShown, HasRegionsMade}
 use Rattle.nvme_ctrl.specs.inside.Loose.{IsLoose, Keeps, ended, with_item}
 
 -- ---- an admin command was picked, and applied to the table
 -- the controller doesn't stand at its notes yet, which are those before the pick
-pub record IsApplied (rules : FrontRules) (late : Bool) (notes : Notes) (c : Controller) (slots : List Slot) (tag : ℕ) (did : Effect) : Type 0 where
+pub record IsApplied (rules : FrontRules) (late : Bool) (notes : Notes) (c : Controller) (slots : List Slot) (tag : ℕ) (did : Effect) (verdict : Verdict) : Type 0 where
   -- before the pick
   pub before : Content
   pub holds : Holds rules late (logged notes) before
@@ -45,16 +47,20 @@ pub record IsApplied (rules : FrontRules) (late : Bool) (notes : Notes) (c : Con
   -- the candidate, and the table after it
   pub candidate : Candidate
   pub rest : List Candidate
-  pub table : TableView
+  pub table : QueueTable
   pub can_apply : CanApply rules (logged notes) before holds.tabled.history candidate rest table
-  pub verdict_is : verdict_in did ≡ verdict_at rules holds.tabled.history candidate
-  pub names : NamesRegions before.table did
+  pub verdict_is : verdict ≡ verdict_at rules holds.tabled.history candidate
+  pub told : IsToldBy before.table.placing (verdict_in did) verdict
+  -- the rules have the region of a queue that is created anywhere
+  pub placed : HasNextRegion rules before.table candidate verdict
+  -- so its regions are those of the queues that were made
+  pub made : HasRegionsMade (applied_to before picked table)
   -- the controller after the pick, where the slot of the candidate is in no list
   pub items : Items
   pub keeps : Keeps rules notes c slots (applied_to before picked table) items
   pub none_picked : c.picked ≡ 0
   pub loose : IsLoose slots items tag
-  pub region : (slot_at slots tag).region ≡ 0
+  pub queue : (slot_at slots tag).sqid ≡ 0
   pub entry : (slot_at slots tag).entry ≡ candidate.entry
   pub unanswered : answer_of notes 0 candidate.index ≡ None
   pub cookie : cookie_of notes 0 candidate.index ≡ Some (slot_at slots tag).cookie
@@ -65,16 +71,58 @@ pub record IsApplying (c : Controller) (slots : List Slot) (did : Effect) : Type
   pub late : Bool
   pub notes : Notes
   pub tag : ℕ
-  pub applied : IsApplied rules late notes c slots tag did
+  pub verdict : Verdict
+  pub applied : IsApplied rules late notes c slots tag did verdict
 
--- ---- a submission queue is opened, which isn't held, and whose class is its own
+-- ---- queues are opened and closed
+-- a submission queue may be opened on a region of this size, to which nothing happened, and post to a completion queue
+pub record IsOpenable (rules : FrontRules) (notes : Notes) (k : Content) (qid size cqid region c : ℕ) : Type 0 where
+  pub entry : SqEntry
+  pub in_table : k.table.sq qid ≡ Some entry
+  pub on : entry.region ≡ region
+  pub to : entry.cqid ≡ cqid
+  pub few : qid < 65
+  pub no_queue : k.sq_life qid ≡ None
+  pub no_life : k.sq_id region ≡ None
+  pub unopened : (k.sq region).queue ≡ None
+  pub nothing_fetched : fetched (logged notes) region ≡ []
+  pub none_unposted : (k.sq region).unposted ≡ 0
+  pub undeleted : k.deletion region ≡ None
+  pub size_is : size ≡ (k.sq region).slots
+  pub some : 0 < size
+  pub cq_open : k.cq_life cqid ≡ Some c
+
+-- a completion queue may be opened on a region of this size, on which none was opened
+pub record IsCqOpenable (rules : FrontRules) (notes : Notes) (k : Content) (cqid size c : ℕ) : Type 0 where
+  pub few : cqid < 65
+  pub no_queue : k.cq_life cqid ≡ None
+  pub no_life : k.cq_id c ≡ None
+  pub unopened : is_opened_cq (logged notes) c ≡ false
+  pub size_is : size ≡ (k.cq c).slots
+  pub some : 0 < size
+
+-- no submission queue, open or closing, is attached to a completion queue, which isn't the admin queue's
+pub record IsUnattached (k : Content) (cqid c : ℕ) : Type 0 where
+  pub io : (cqid == 0) ≡ false
+  pub none : (q : ℕ) (entry : SqEntry) → k.table.sq q ≡ Some entry → entry.cqid ≡ cqid → ⊥
+
+-- a submission queue was opened, which isn't held, and whose class is its own
 abbrev pub opening : Content → (qid region cq_region : ℕ) → Class → Content
 opening k qid region cq_region class =
     record (with_sq k region (record (k.sq region) { queue = Some (record { qid = qid; cq_region = cq_region }) })) {
       board = record k.board { queues = slice_set k.board.queues qid (Some (record { class = class; count = 0 })) };
       held = put_held k.held region false;
       classed = put_class k.classed region None;
+      sq_life = put_life k.sq_life qid (Some region);
+      sq_id = put_life k.sq_id region (Some qid);
     }
+
+-- a completion queue was opened, and closed
+abbrev pub opening_cq : Content → (cqid c : ℕ) → Content
+opening_cq k cqid c = record k { cq_life = put_life k.cq_life cqid (Some c); cq_id = put_life k.cq_id c (Some cqid) }
+
+abbrev pub closing_cq : Content → (cqid c : ℕ) → Content
+closing_cq k cqid c = record k { cq_life = put_life k.cq_life cqid None; cq_id = put_life k.cq_id c None }
 
 -- ---- the deletion of a submission queue begins
 -- the candidates of its region were dropped: their completions are ready
@@ -94,8 +142,7 @@ item_dropped g qid region c x rest =
 
 -- the region was opened for the queue, whose candidates are aborted in the log
 pub record IsDroppable (notes : Notes) (k : Content) (qid region c : ℕ) : Type 0 where
-  pub there : region < 65
-  pub posts_there : c < 65
+  pub there : k.sq_life qid ≡ Some region
   pub attached : (k.sq region).queue ≡ Some (record { qid = qid; cq_region = c })
   pub are_aborted : All (λ (x : Candidate). is_aborted (logged notes) region x.index ≡ true) (k.sq region).window
   -- it isn't the admin queue's, and isn't being deleted
@@ -122,13 +169,13 @@ pub record HasBegun (rules : FrontRules) (notes : Notes) (k : Content) (c : Cont
   pub items : Items
   pub numbers : HasNumbers c k
   pub has : HasItems c pool k items
-  pub doorbells : HoldsDoorbells rules notes c
-  pub tags : HoldsTags notes c pool items
+  pub doorbells : HoldsDoorbells rules notes c k
+  pub tags : HoldsTags notes c pool k items
 
 -- ---- an Abort command
 -- no candidate of an open I/O submission queue has a command identifier
 abbrev pub HasNoneNamed : Content → (sqid cid : ℕ) → Type 0
-HasNoneNamed k sqid cid = (entry : SqEntry) → sqid ≢ 0 → sq_of k.table sqid ≡ Some entry → entry.closing ≡ false → oldest_named cid (k.sq entry.region).window ≡ None
+HasNoneNamed k sqid cid = (entry : SqEntry) → sqid ≢ 0 → k.table.sq sqid ≡ Some entry → entry.closing ≡ false → oldest_named cid (k.sq entry.region).window ≡ None
 
 -- a queue of the table, as an open queue of the log
 abbrev pub queue_in : SqEntry → Queue
@@ -136,10 +183,9 @@ queue_in entry = record { region = entry.region; cqid = entry.cqid; class = entr
 
 -- the candidate that it names in an open queue is aborted in the log
 pub record IsAbortableIn (notes : Notes) (k : Content) (sqid cid : ℕ) (entry : SqEntry) : Type 0 where
-  pub there : entry.region < 65
+  pub there : k.sq_life sqid ≡ Some entry.region
   pub io : (entry.region == 0) ≡ false
   pub c : ℕ
-  pub posts_there : c < 65
   pub attached : (k.sq entry.region).queue ≡ Some (record { qid = sqid; cq_region = c })
   pub is_aborted : (found : Candidate) → oldest_named cid (k.sq entry.region).window ≡ Some found → is_aborted (logged notes) entry.region found.index ≡ true
   pub on_board : queue_at k.board.queues sqid ≡ Some (on_board k (queue_in entry))
@@ -147,7 +193,7 @@ pub record IsAbortableIn (notes : Notes) (k : Content) (sqid cid : ℕ) (entry :
   pub few_outstanding : k.outstanding + 1 < 2 ^ 16
 
 abbrev pub IsAbortable : Notes → Content → (sqid cid : ℕ) → Type 0
-IsAbortable notes k sqid cid = (entry : SqEntry) → sqid ≢ 0 → sq_of k.table sqid ≡ Some entry → entry.closing ≡ false → IsAbortableIn notes k sqid cid entry
+IsAbortable notes k sqid cid = (entry : SqEntry) → sqid ≢ 0 → k.table.sq sqid ≡ Some entry → entry.closing ≡ false → IsAbortableIn notes k sqid cid entry
 
 -- a controller keeps some content, of which an Abort command may abort a candidate
 pub record MayAbort (c : Controller) (slots : List Slot) (sqid cid : ℕ) : Type 0 where
@@ -171,7 +217,7 @@ requesting k sqid region c cid board found =
 pub record HasRequested (rules : FrontRules) (notes : Notes) (k : Content) (sqid cid : ℕ) (slots : List Slot) (y : ℕ) (now : Controller) (pool : List Slot) : Type 0 where
   pub io : sqid ≢ 0
   pub entry : SqEntry
-  pub in_table : sq_of k.table sqid ≡ Some entry
+  pub in_table : k.table.sq sqid ≡ Some entry
   pub not_closing : entry.closing ≡ false
   pub c : ℕ
   pub attached : (k.sq entry.region).queue ≡ Some (record { qid = sqid; cq_region = c })

@@ -1,6 +1,6 @@
 -- When a controller may fetch from a queue, by what it keeps in memory (profile).
 use Rattle.std.specs.Prelude.{◌≡◌, ◌≢◌, ℕ, ◌-◌, ◌<◌, false, Some}
-use Rattle.nvme_admin.specs.Layout.{view_of}
+use Rattle.nvme_placing.specs.Telling.{content_of}
 use Rattle.nvme_admin.specs.Standing.{sq_of}
 use Rattle.nvme_admin.specs.declared.verdict.SqEntry.{SqEntry}
 use Rattle.nvme_log.specs.Limits.{window_of}
@@ -13,15 +13,15 @@ use Rattle.nvme_ctrl.specs.kept.State.{sq_at, picked_in}
 abbrev pub filled : Ring → ℕ
 filled ring = gap ring.slots ring.head ring.tail
 
--- how many commands of a region wait
+-- how many commands of a queue wait
 abbrev pub waiting_in : Controller → ℕ → ℕ
-waiting_in c r = (sq_at c.sqs r).window.len - picked_in c r
+waiting_in c q = (sq_at c.sqs q).window.len - picked_in c q
 
 -- the queue is open, a slot is free, the host submitted more, and its window has room
 pub record IsFetchable (c : Controller) (qid : ℕ) (e : SqEntry) : Type 0 where
-  pub in_table : sq_of (view_of c.table) qid ≡ Some e
+  pub in_table : sq_of (content_of c.table) qid ≡ Some e
   pub not_closing : e.closing ≡ false
   pub some_free : c.free.len ≢ 0
-  pub some_submitted : filled (sq_at c.sqs e.region).ring ≢ 0
-  pub in_window : waiting_in c e.region < c.window
-  pub room : waiting_in c e.region < window_of (sq_at c.sqs e.region).ring.slots
+  pub some_submitted : filled (sq_at c.sqs qid).ring ≢ 0
+  pub in_window : waiting_in c qid < c.window
+  pub room : waiting_in c qid < window_of (sq_at c.sqs qid).ring.slots

@@ -30,14 +30,14 @@ AreReadiesApart g = (x y : ℕ) → x ≢ y → All (λ (tag : ℕ). IsNew tag (
 pub record Keeps (rules : FrontRules) (notes : Notes) (c : Controller) (slots : List Slot) (k : Content) (g : Items) : Type 0 where
   pub numbers : HasNumbers c k
   pub has : HasItems c slots k g
-  pub doorbells : HoldsDoorbells rules notes c
-  pub tags : HoldsTags notes c slots g
+  pub doorbells : HoldsDoorbells rules notes c k
+  pub tags : HoldsTags notes c slots k g
   pub apart : AreReadiesApart g
 
 -- a state and an answer make the command of a slot ready so
 pub record MakesReady (slots : List Slot) (tag state : ℕ) (status : StatusCode) (dw0 : ℕ) (t : Ready) : Type 0 where
   pub state_is : state ≡ ready_state false t.with_queue
-  pub region : (slot_at slots tag).region ≡ t.place.region
+  pub sqid : (slot_at slots tag).sqid ≡ t.sqid
   pub cid : (slot_at slots tag).entry.cid ≡ t.cid
   pub status_is : status ≡ t.status
   pub dw0_is : dw0 ≡ t.dw0

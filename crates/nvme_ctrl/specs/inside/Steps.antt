@@ -1,5 +1,5 @@
 -- The candidate that an Abort command takes, commands that become ready, and what a controller keeps after a pick and after its admin command was applied (profile).
-use Rattle.std.specs.Prelude.{◌≡◌, ℕ, ◌+◌, ◌≤◌, ◌==◌, true, false, if◌then◌else◌, List, [], ◌∷◌, length, drop, Option, Some, None}
+use Rattle.std.specs.Prelude.{◌≡◌, ℕ, ◌+◌, ◌≤◌, ◌==◌, true, false, if◌then◌else◌, List, [], ◌∷◌, length, drop, slice_get, Option, Some, None, is_some}
 use Rattle.nvme_entry.specs.Status.{StatusCode, abort_requested, aborted_by_deletion}
 use Rattle.nvme_arbiter.specs.History.{Picked}
 use Rattle.nvme_arbiter.specs.Lawful.{lawful_pick}
@@ -7,11 +7,14 @@ use Rattle.nvme_arbiter.specs.Board.{BoardView, BoardStandsAt, queues_after}
 use Rattle.nvme_arbiter.specs.Queues.{seen_of}
 use Rattle.nvme_arbiter.specs.declared.pick.Pick.{Pick}
 use Rattle.nvme_admin.specs.History.{TableHistory, EntryApplied}
-use Rattle.nvme_admin.specs.Accepted.{verdict_of}
-use Rattle.nvme_admin.specs.Standing.{TableView, StandsAt, IsSized}
+use Rattle.nvme_admin.specs.Accepted.{queue_table, verdict_of}
+use Rattle.nvme_admin.specs.QueueTable.{QueueTable}
 use Rattle.nvme_admin.specs.declared.verdict.Verdict.{Verdict}
+use Rattle.nvme_admin.specs.declared.verdict.Verdict.TheVariants.{OpenSq, OpenCq}
+use Rattle.nvme_entry.specs.AdminCommand.{admin_command_of}
+use Rattle.nvme_ctrl.specs.Making.{slots_asked}
 use Rattle.nvme_log.specs.Limits.{max_outstanding}
-use Rattle.nvme_log.specs.Rules.{FrontRules, Past}
+use Rattle.nvme_log.specs.Rules.{FrontRules, Past, sq_regions_of, cq_regions_of}
 use Rattle.nvme_log.specs.Queues.{Queue, admin_queue, open_sq}
 use Rattle.nvme_log.specs.declared.place.Place.{Place}
 use Rattle.nvme_log.specs.Answers.{Answer}
@@ -19,6 +22,7 @@ use Rattle.nvme_log.specs.Dispatches.{place_at}
 use Rattle.nvme_log.specs.Histories.{arbitration_of}
 use Rattle.nvme_log.specs.Aborts.{is_abort_entry}
 use Rattle.nvme_ctrl.specs.kept.Content.{Candidate, Ready, SqContent, Content, with_sq}
+use Rattle.nvme_ctrl.specs.kept.Standing.{FewQueues}
 
 -- a pick, after which n places are in hand: picked, and neither ready nor posted
 pub record CanPick (rules : FrontRules) (past : Past) (k : Content) (queue : Queue) (pick : Pick) (board : BoardView) : Type 0 where
@@ -36,18 +40,28 @@ abbrev pub after_pick : Content → Queue → ℕ → BoardView → Content
 after_pick k queue n board =
     record (with_sq k queue.region (picked_sq (k.sq queue.region) n)) { board = board; outstanding = k.outstanding + n }
 
--- an admin pick: its command is applied to the table. An Abort command needs a second place, for what it may abort
-pub record CanApply (rules : FrontRules) (past : Past) (k : Content) (history : TableHistory) (candidate : Candidate) (rest : List Candidate) (table : TableView) : Type 0 where
-  pub oldest : (k.sq 0).window ≡ candidate ∷ rest
-  pub table_stands : StandsAt rules.start table (EntryApplied candidate.entry ∷ history)
-  pub sized : IsSized table
-  pub second : is_abort_entry (Some candidate.entry) ≡ true → k.outstanding + 2 ≤ max_outstanding
-
 abbrev pub verdict_at : FrontRules → TableHistory → Candidate → Verdict
 verdict_at rules history candidate = verdict_of rules.start history candidate.entry
 
+-- where queues may lie anywhere, the regions have that of the queue that a verdict opens, as its Create asks for it
+abbrev pub HasNextRegion : FrontRules → QueueTable → Candidate → Verdict → Type 0
+HasNextRegion rules t candidate (OpenSq qid region cqid class) = is_some t.placing ≡ true
+    → slice_get (sq_regions_of rules) region ≡ Some (record { address = candidate.entry.prp1; slots = slots_asked (admin_command_of candidate.entry) })
+HasNextRegion rules t candidate (OpenCq qid region) = is_some t.placing ≡ true
+    → slice_get (cq_regions_of rules) region ≡ Some (record { address = candidate.entry.prp1; slots = slots_asked (admin_command_of candidate.entry) })
+HasNextRegion rules t candidate verdict = Unit {0}
+
+-- an admin pick: its command is applied to the table. An Abort command needs a second place, for what it may abort
+pub record CanApply (rules : FrontRules) (past : Past) (k : Content) (history : TableHistory) (candidate : Candidate) (rest : List Candidate) (table : QueueTable) : Type 0 where
+  pub oldest : (k.sq 0).window ≡ candidate ∷ rest
+  pub table_is : table ≡ queue_table rules.start (EntryApplied candidate.entry ∷ history)
+  pub few_queues : FewQueues table
+  -- the rules have the region of a queue that is created anywhere
+  pub placed : HasNextRegion rules k.table candidate (verdict_at rules history candidate)
+  pub second : is_abort_entry (Some candidate.entry) ≡ true → k.outstanding + 2 ≤ max_outstanding
+
 -- the admin queue's oldest candidate is picked, and the table is changed
-abbrev pub applied_to : Content → BoardView → TableView → Content
+abbrev pub applied_to : Content → BoardView → QueueTable → Content
 applied_to k board table = record (after_pick k admin_queue 1 board) { table = table }
 
 -- the answer of a command of the admin queue

@@ -5,7 +5,7 @@ use Rattle.nvme_entry.specs.declared.submission.Sqe.{Sqe}
 use Rattle.nvme_entry.specs.declared.completion.Cqe.{Cqe}
 use Rattle.nvme_arbiter.specs.Board.{BoardView}
 use Rattle.nvme_arbiter.specs.declared.settings.Class.{Class}
-use Rattle.nvme_admin.specs.Standing.{TableView}
+use Rattle.nvme_admin.specs.QueueTable.{QueueTable}
 use Rattle.nvme_log.specs.declared.place.Place.{Place}
 
 -- a fetched command that waits to be picked: its index among the fetches of its region, and its entry
@@ -67,7 +67,7 @@ pub record Content : Type 0 where
   pub nsq : ℕ
   pub ncq : ℕ
   pub board : BoardView
-  pub table : TableView
+  pub table : QueueTable
   pub outstanding : ℕ
   -- the deletion of the queue of each region
   pub deletion : ℕ → Option PendingDelete
@@ -76,6 +76,12 @@ pub record Content : Type 0 where
   -- by submission region: whether its queue is held, and the class that was set of it
   pub held : ℕ → Bool
   pub classed : ℕ → Option Class
+  -- the regions of the queues whose state is kept, by identifier, and the identifiers by region: of submission queues that are open or closing, and of
+  -- open completion queues
+  pub sq_life : ℕ → Option ℕ
+  pub sq_id : ℕ → Option ℕ
+  pub cq_life : ℕ → Option ℕ
+  pub cq_id : ℕ → Option ℕ
 
 -- another region in the place of one
 abbrev pub put_sq : (ℕ → SqContent) → ℕ → SqContent → ℕ → SqContent
@@ -94,6 +100,10 @@ put_class classed r class x = if x == r then class else classed x
 -- another deletion in the place of that of a region
 abbrev pub put_deletion : (ℕ → Option PendingDelete) → ℕ → Option PendingDelete → ℕ → Option PendingDelete
 put_deletion deletion r d x = if x == r then d else deletion x
+
+-- another region, or identifier, in the place of one
+abbrev pub put_life : (ℕ → Option ℕ) → ℕ → Option ℕ → ℕ → Option ℕ
+put_life lives q life x = if x == q then life else lives x
 
 abbrev pub with_sq : Content → ℕ → SqContent → Content
 with_sq k r s = record k { sq = put_sq k.sq r s }

@@ -1,10 +1,10 @@
 -- When a controller keeps some content, and stands at its log (profile).
-use Rattle.std.specs.Prelude.{◌≡◌, ◌≢◌, ℕ, ◌+◌, ◌<◌, ◌≤◌, ◌^◌, ◌==◌, ◌&&◌, ◌⊎◌, Bool, true, false, if◌then◌else◌, List, [], ◌∷◌, ◌++◌, length, map, take, drop, Option, Some, None, option_map, IsTrue}
+use Rattle.std.specs.Prelude.{◌≡◌, ◌≢◌, ℕ, suc, ◌+◌, ◌<◌, ◌≤◌, ◌^◌, ◌==◌, ◌&&◌, ◌⊎◌, Bool, true, false, if◌then◌else◌, List, [], ◌∷◌, ◌++◌, length, map, take, drop, Option, Some, None, option_map, unwrap_or, is_some, IsTrue}
 use Rattle.std.specs.List.{All}
 use Rattle.nvme_entry.specs.declared.submission.Sqe.{Sqe}
 use Rattle.nvme_arbiter.specs.Layout.{is_arbiter, board_of}
-use Rattle.nvme_admin.specs.Layout.{view_of}
-use Rattle.nvme_admin.specs.Standing.{IsSized}
+use Rattle.nvme_placing.specs.Telling.{Tells}
+use Rattle.nvme_admin.specs.declared.verdict.SqEntry.{SqEntry}
 use Rattle.nvme_log.specs.Rules.{FrontRules, Past}
 use Rattle.nvme_log.specs.Queues.{Queue, open_sq}
 use Rattle.nvme_log.specs.Places.{fetched, is_aborted, entry_at, fate_of, is_waiting}
@@ -23,9 +23,9 @@ use Rattle.nvme_ctrl.specs.declared.slot.Slot.{Slot}
 use Rattle.nvme_ctrl.specs.declared.state.Controller.{Controller}
 use Rattle.nvme_ctrl.specs.declared.state.Deletion.{Deletion}
 use Rattle.nvme_ctrl.specs.kept.Content.{Candidate, Ready, PendingDelete, Content}
-use Rattle.nvme_ctrl.specs.kept.Standing.{Holds, answer_in}
+use Rattle.nvme_ctrl.specs.kept.Standing.{Holds, answer_in, is_opened_cq}
 use Rattle.nvme_ctrl.specs.kept.Pool.{slot_at, marks_in, IsChain, AreApart}
-use Rattle.nvme_ctrl.specs.kept.State.{sq_at, cq_at, deletion_at, pending_tag, count_pending, attachment_of, picked_in}
+use Rattle.nvme_ctrl.specs.kept.State.{no_sq_state, no_cq_state, sq_at, cq_at, deletion_at, pending_tag, count_pending, picked_in}
 
 -- ---- commands in slots
 -- a command in a slot that waits, or that the device has: its slot, its place, which nobody keeps, and its entry
@@ -71,27 +71,28 @@ pub record Items : Type 0 where
   pub deletes : ℕ → Option DeleteItem
   pub free : List ℕ
 
--- a slot has a command that waits in a region, or is picked and not taken
-pub record IsWaitingIn (slots : List Slot) (r : ℕ) (it : Item) : Type 0 where
+-- a slot has a command that waits in the queue of an identifier on a region, or is picked and not taken
+pub record IsWaitingIn (slots : List Slot) (q r : ℕ) (it : Item) : Type 0 where
   pub state : (slot_at slots it.tag).state ≡ 1
-  pub region : (slot_at slots it.tag).region ≡ r
+  pub queue : (slot_at slots it.tag).sqid ≡ q
   pub entry : (slot_at slots it.tag).entry ≡ it.entry
   pub place : it.place.region ≡ r
 
--- a slot has a command that the device has
-pub record IsOutIn (slots : List Slot) (it : Item) : Type 0 where
+-- a slot has a command that the device has, of a queue that is open or closing
+pub record IsOutIn (ids : ℕ → Option ℕ) (slots : List Slot) (it : Item) : Type 0 where
   pub inside : it.tag < length slots
   pub state : (slot_at slots it.tag).state ≡ 2
-  pub region : (slot_at slots it.tag).region ≡ it.place.region
+  pub queue : ids it.place.region ≡ Some (slot_at slots it.tag).sqid
   pub entry : (slot_at slots it.tag).entry ≡ it.entry
 
 -- the state of the slot of a command that is ready
 abbrev pub ready_state : (was_out with_queue : Bool) → ℕ
 ready_state was_out with_queue = if was_out then 3 else (if with_queue then 5 else 4)
 
-pub record IsReadyIn (slots : List Slot) (x : ReadyItem) : Type 0 where
+pub record IsReadyIn (ids : ℕ → Option ℕ) (slots : List Slot) (x : ReadyItem) : Type 0 where
   pub state : (slot_at slots x.tag).state ≡ ready_state x.was_out x.ready.with_queue
-  pub region : (slot_at slots x.tag).region ≡ x.ready.place.region
+  pub queue : ids x.ready.place.region ≡ Some (slot_at slots x.tag).sqid
+  pub sqid : (slot_at slots x.tag).sqid ≡ x.ready.sqid
   pub cid : (slot_at slots x.tag).entry.cid ≡ x.ready.cid
   pub sct : (slot_at slots x.tag).sct ≡ x.ready.status.sct
   -- a status code type has three bits (Status Field)
@@ -113,9 +114,18 @@ pub record IsAmongOuts (items : List Item) (x : ℕ) : Type 0 where
   pub are : items ≡ before ++ item ∷ after
   pub tag : item.tag ≡ x
 
+-- the region of the queue whose commands are picked and not taken
+abbrev pub picked_region : Controller → Content → ℕ
+picked_region c k = unwrap_or (k.sq_life c.picked_qid) 0
+
 -- the picked commands that the device hasn't taken
-abbrev pub untaken : Controller → Items → List Item
-untaken c g = take c.picked (g.windows c.picked_region)
+abbrev pub untaken : Controller → Content → Items → List Item
+untaken c k g = take c.picked (g.windows (picked_region c k))
+
+-- how many commands of a region are picked and not taken, by the identifier of its queue
+abbrev pub picked_of : Controller → Option ℕ → ℕ
+picked_of c None = 0
+picked_of c (Some q) = picked_in c q
 
 -- another Delete in the place of that of a region
 abbrev pub put_delete : (ℕ → Option DeleteItem) → ℕ → Option DeleteItem → ℕ → Option DeleteItem
@@ -129,71 +139,103 @@ deletion_in slots r it = record { place = place_at 0 it.index; cid = (slot_at sl
 pub record IsDeletingIn (slots : List Slot) (it : DeleteItem) : Type 0 where
   pub inside : it.tag < length slots
   pub state : (slot_at slots it.tag).state ≡ 6
-  pub region : (slot_at slots it.tag).region ≡ 0
+  pub queue : (slot_at slots it.tag).sqid ≡ 0
 
--- these are the pending deletions, and the slots of their Deletes
-pub record HasDeletions (deletions : List Deletion) (deleting : ℕ) (slots : List Slot) (kept : ℕ → Option PendingDelete) (deletes : ℕ → Option DeleteItem) : Type 0 where
+-- the Delete of the queue of a region, where there is one
+abbrev pub delete_of : (ℕ → Option DeleteItem) → Option ℕ → Option DeleteItem
+delete_of deletes None = None
+delete_of deletes (Some r) = deletes r
+
+-- these are the pending deletions, by queue, and the slots of their Deletes
+pub record HasDeletions (deletions : List Deletion) (deleting : ℕ) (slots : List Slot) (lives : ℕ → Option ℕ) (kept : ℕ → Option PendingDelete) (deletes : ℕ → Option DeleteItem) : Type 0 where
   pub are : (r : ℕ) → kept r ≡ option_map (deletion_in slots r) (deletes r)
-  pub tags : (r : ℕ) → pending_tag (deletion_at deletions r) ≡ option_map (λ (it : DeleteItem). it.tag) (deletes r)
+  pub tags : (q : ℕ) → pending_tag (deletion_at deletions q) ≡ option_map (λ (it : DeleteItem). it.tag) (delete_of deletes (lives q))
+  pub queues : (r : ℕ) (it : DeleteItem) → deletes r ≡ Some it → lives it.qid ≡ Some r
   pub items : (r : ℕ) (it : DeleteItem) → deletes r ≡ Some it → IsDeletingIn slots it
   pub apart : (r x : ℕ) (it other : DeleteItem) → deletes r ≡ Some it → deletes x ≡ Some other → it.tag ≡ other.tag → r ≡ x
   pub counted : deleting ≡ count_pending deletions
   pub size : length deletions ≡ 65
 
 -- ---- what is kept
+-- regions by identifier, and identifiers by region, tell one another
+pub record AreIds (lives ids : ℕ → Option ℕ) : Type 0 where
+  pub ids_are : (q r : ℕ) → lives q ≡ Some r → ids r ≡ Some q
+  pub lives_are : (r q : ℕ) → ids r ≡ Some q → lives q ≡ Some r
+  -- the admin queue is that of region 0
+  pub admin : lives 0 ≡ Some 0
+
+-- the state of a submission queue on a region is that of its content. It is in the table, and attached to the open completion queue of an identifier
+pub record IsSqOf (c : Controller) (k : Content) (q r : ℕ) : Type 0 where
+  pub entry : SqEntry
+  pub in_table : k.table.sq q ≡ Some entry
+  pub on : entry.region ≡ r
+  pub to : entry.cqid ≡ (sq_at c.sqs q).cqid
+  pub cq_region : ℕ
+  pub cq_open : k.cq_life (sq_at c.sqs q).cqid ≡ Some cq_region
+  pub opened : (k.sq r).queue ≡ Some (record { qid = q; cq_region = cq_region })
+  pub held : ((sq_at c.sqs q).held == 1) ≡ k.held r
+  pub unposted : (sq_at c.sqs q).unposted ≡ (k.sq r).unposted
+  pub slots : (sq_at c.sqs q).ring.slots ≡ (k.sq r).slots
+  pub some : 0 < (k.sq r).slots
+
+-- so that of a completion queue
+pub record IsCqOf (c : Controller) (k : Content) (q x : ℕ) : Type 0 where
+  pub slots : (cq_at c.cqs q).ring.slots ≡ (k.cq x).slots
+  pub some : 0 < (k.cq x).slots
+
 -- the numbers of a controller are those of some content
 pub record HasNumbers (c : Controller) (k : Content) : Type 0 where
-  pub table_is : view_of c.table ≡ k.table
-  pub sized : IsSized k.table
+  pub tells : Tells c.table k.table
   pub board_is : board_of c.board ≡ k.board
   pub is_arbiter : IsTrue (is_arbiter c.board.arbiter)
   pub outstanding_is : c.outstanding ≡ k.outstanding
-  pub sq_queue : (r : ℕ) → attachment_of (sq_at c.sqs r) ≡ (k.sq r).queue
-  pub sq_held : (r : ℕ) → ((sq_at c.sqs r).held == 1) ≡ k.held r
-  pub sq_unposted : (r : ℕ) → (sq_at c.sqs r).unposted ≡ (k.sq r).unposted
-  pub sq_slots : (r : ℕ) → (sq_at c.sqs r).ring.slots ≡ (k.sq r).slots
-  pub cq_slots : (x : ℕ) → (cq_at c.cqs x).ring.slots ≡ (k.cq x).slots
-  -- a region that is there has slots
-  pub sq_some : (r : ℕ) → r < k.nsq → 0 < (k.sq r).slots
+  pub sq_ids : AreIds k.sq_life k.sq_id
+  pub cq_ids : AreIds k.cq_life k.cq_id
+  pub sqs : (q r : ℕ) → k.sq_life q ≡ Some r → IsSqOf c k q r
+  pub cqs : (q x : ℕ) → k.cq_life q ≡ Some x → IsCqOf c k q x
+  -- there is a place for each of them, and nothing of any other
+  pub few_sqs : (q r : ℕ) → k.sq_life q ≡ Some r → q < 65
+  pub few_cqs : (q x : ℕ) → k.cq_life q ≡ Some x → q < 65
+  pub no_sqs : (q : ℕ) → k.sq_life q ≡ None → sq_at c.sqs q ≡ no_sq_state
+  pub no_cqs : (q : ℕ) → k.cq_life q ≡ None → cq_at c.cqs q ≡ no_cq_state
   pub sq_size : length c.sqs ≡ 65
   pub cq_size : length c.cqs ≡ 65
 
 -- the slots have its commands
 pub record HasItems (c : Controller) (slots : List Slot) (k : Content) (g : Items) : Type 0 where
   -- those that wait
-  pub window_chain : (r : ℕ) → IsChain slots (sq_at c.sqs r).window (tags_of (g.windows r))
-  pub window_items : (r : ℕ) → All (IsWaitingIn slots r) (g.windows r)
-  pub window_is : (r : ℕ) → (k.sq r).window ≡ map candidate_of (drop (picked_in c r) (g.windows r))
-  pub picked_there : c.picked ≤ length (g.windows c.picked_region)
+  pub window_chain : (q r : ℕ) → k.sq_life q ≡ Some r → IsChain slots (sq_at c.sqs q).window (tags_of (g.windows r))
+  pub window_items : (q r : ℕ) → k.sq_life q ≡ Some r → All (IsWaitingIn slots q r) (g.windows r)
+  pub window_none : (r : ℕ) → k.sq_id r ≡ None → g.windows r ≡ []
+  pub window_is : (r : ℕ) → (k.sq r).window ≡ map candidate_of (drop (picked_of c (k.sq_id r)) (g.windows r))
+  pub picked_there : c.picked ≤ length (g.windows (picked_region c k))
   -- those that the device has
-  pub outs_items : All (IsOutIn slots) g.outs
+  pub outs_items : All (IsOutIn k.sq_id slots) g.outs
   pub outs_apart : AreApart (tags_of g.outs)
   pub outs_all : (x : ℕ) → (slot_at slots x).state ≡ 2 → IsAmongOuts g.outs x
-  pub hand_is : k.hand ≡ places_of (g.outs ++ untaken c g)
+  pub hand_is : k.hand ≡ places_of (g.outs ++ untaken c k g)
   -- those that are ready
-  pub ready_chain : (x : ℕ) → IsChain slots (cq_at c.cqs x).ready (ready_tags (g.readies x))
-  pub ready_items : (x : ℕ) → All (IsReadyIn slots) (g.readies x)
+  pub ready_chain : (q x : ℕ) → k.cq_life q ≡ Some x → IsChain slots (cq_at c.cqs q).ready (ready_tags (g.readies x))
+  pub ready_items : (x : ℕ) → All (IsReadyIn k.sq_id slots) (g.readies x)
+  pub ready_none : (x : ℕ) → k.cq_id x ≡ None → g.readies x ≡ []
   pub ready_is : (x : ℕ) → (k.cq x).ready ≡ readies_of (g.readies x)
   -- the Deletes whose deletions are pending
-  pub deletions : HasDeletions c.deletions c.pending_deletions slots k.deletion g.deletes
+  pub deletions : HasDeletions c.deletions c.pending_deletions slots k.sq_life k.deletion g.deletes
   -- the free slots
   pub free_chain : IsChain slots c.free g.free
   pub free_items : All (is_free slots) g.free
   pub few : length slots < 2 ^ 16
 
 -- ---- its log
--- a ring goes by the doorbells
-abbrev pub GoesBy : (slots : ℕ) → Type 0 → Type 0
-GoesBy slots P = 0 < slots → P
-
-pub record HoldsDoorbells (rules : FrontRules) (notes : Notes) (c : Controller) : Type 0 where
-  pub sqs : (r : ℕ) → 0 < (sq_at c.sqs r).ring.slots → HasCounts (sq_at c.sqs r).ring (length (fetched (logged notes) r)) (submitted rules notes r)
-  pub cqs : (x : ℕ) → 0 < (cq_at c.cqs x).ring.slots → HasCounts (cq_at c.cqs x).ring (consumed rules notes x) (length (posted_to (logged notes) x))
-  pub phases : (x : ℕ) → ((cq_at c.cqs x).phase == 1) ≡ phase_after (length (posted_to (logged notes) x)) (cq_at c.cqs x).ring.slots
-  -- nothing is noted of a region that isn't there
-  pub no_tails : (r : ℕ) → (sq_at c.sqs r).ring.slots ≡ 0 → submitted rules notes r ≡ 0
-  pub no_heads : (x : ℕ) → (cq_at c.cqs x).ring.slots ≡ 0 → consumed rules notes x ≡ 0
-  pub no_posts : (x : ℕ) → (cq_at c.cqs x).ring.slots ≡ 0 → posted_to (logged notes) x ≡ []
+-- the rings and the phase tags go by the doorbells and the posts
+pub record HoldsDoorbells (rules : FrontRules) (notes : Notes) (c : Controller) (k : Content) : Type 0 where
+  pub sqs : (q r : ℕ) → k.sq_life q ≡ Some r → HasCounts (sq_at c.sqs q).ring (length (fetched (logged notes) r)) (submitted rules notes r)
+  pub cqs : (q x : ℕ) → k.cq_life q ≡ Some x → HasCounts (cq_at c.cqs q).ring (consumed rules notes x) (length (posted_to (logged notes) x))
+  pub phases : (q x : ℕ) → k.cq_life q ≡ Some x → ((cq_at c.cqs q).phase == 1) ≡ phase_after (length (posted_to (logged notes) x)) (cq_at c.cqs q).ring.slots
+  -- nothing is noted of a region that no queue was opened on
+  pub no_tails : (r : ℕ) → (k.sq r).queue ≡ None → submitted rules notes r ≡ 0
+  pub no_heads : (x : ℕ) → is_opened_cq (logged notes) x ≡ false → consumed rules notes x ≡ 0
+  pub no_posts : (x : ℕ) → is_opened_cq (logged notes) x ≡ false → posted_to (logged notes) x ≡ []
 
 -- a ready completion is through: its command was aborted, or answered so
 abbrev pub IsThrough : Notes → Ready → Type 0
@@ -251,8 +293,8 @@ abbrev pub HasMarks : Notes → ReadyItem → Type 0
 HasMarks notes y = y.marks ≡ marks_or y.ready.status (marks_of notes y.ready.place.region y.ready.place.index)
 
 -- the tags, the answers, the cookies and the marks are those of the log
-pub record HoldsTags (notes : Notes) (c : Controller) (slots : List Slot) (g : Items) : Type 0 where
-  pub untaken_are : handed notes ≡ taken notes ++ places_of (untaken c g)
+pub record HoldsTags (notes : Notes) (c : Controller) (slots : List Slot) (k : Content) (g : Items) : Type 0 where
+  pub untaken_are : handed notes ≡ taken notes ++ places_of (untaken c k g)
   pub outs_held : All (λ (it : Item). holder notes it.tag ≡ Some it.place) g.outs
   pub readies_held : (x : ℕ) → All (λ (y : ReadyItem). y.was_out ≡ true → holder notes y.tag ≡ Some y.ready.place) (g.readies x)
   pub none_held : (t : ℕ) → (slot_at slots t).state ≢ 2 → (slot_at slots t).state ≢ 3 → holder notes t ≡ None
@@ -264,7 +306,7 @@ pub record HoldsTags (notes : Notes) (c : Controller) (slots : List Slot) (g : I
   -- a slot whose command was answered isn't out
   pub answered_held : (t : ℕ) → (slot_at slots t).state ≡ 3 → is_out notes t ≡ false
   -- what is picked and unanswered has the entry of its place
-  pub hand_entries : All (HasEntry (logged notes)) (g.outs ++ untaken c g)
+  pub hand_entries : All (HasEntry (logged notes)) (g.outs ++ untaken c k g)
   -- each slot that isn't free has a command that was fetched and whose completion isn't posted
   pub free_count : c.free.len + all_fetches (logged notes) ≡ length slots + all_posts (logged notes)
   pub cookies : HoldsCookies notes slots g
@@ -278,6 +320,11 @@ pub record HoldsShown (notes : Notes) (k : Content) : Type 0 where
   pub held : (q : ℕ) (queue : Queue) → open_sq (logged notes) q ≡ Some queue → k.held queue.region ≡ is_held notes q
   pub classed : (q : ℕ) (queue : Queue) → open_sq (logged notes) q ≡ Some queue → k.classed queue.region ≡ class_set notes q
 
+-- where queues may lie anywhere, the regions are those of the admin queues and of the queues that were created
+pub record HasRegionsMade (k : Content) : Type 0 where
+  pub sqs : is_some k.table.placing ≡ true → k.nsq ≡ suc k.table.sqs_made
+  pub cqs : is_some k.table.placing ≡ true → k.ncq ≡ suc k.table.cqs_made
+
 -- a controller stands at its log. The log is accounted where no region was added late
 pub record StandsAt (rules : FrontRules) (late : Bool) (notes : Notes) (c : Controller) (slots : List Slot) : Type 0 where
   pub content : Content
@@ -285,7 +332,8 @@ pub record StandsAt (rules : FrontRules) (late : Bool) (notes : Notes) (c : Cont
   pub holds : Holds rules late (logged notes) content
   pub numbers : HasNumbers c content
   pub has : HasItems c slots content items
-  pub doorbells : HoldsDoorbells rules notes c
-  pub tags : HoldsTags notes c slots items
+  pub doorbells : HoldsDoorbells rules notes c content
+  pub tags : HoldsTags notes c slots content items
   pub shown : HoldsShown notes content
+  pub regions : HasRegionsMade content
   pub account : late ≡ false → IsAccount rules notes

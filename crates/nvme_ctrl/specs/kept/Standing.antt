@@ -1,5 +1,5 @@
 -- When what a controller keeps holds at its log (profile).
-use Rattle.std.specs.Prelude.{◌≡◌, ℕ, zero, suc, ◌+◌, ◌≤◌, ◌<◌, ◌==◌, ◌&&◌, Bool, true, false, not, if◌then◌else◌, List, [], ◌++◌, length, filter, map, sum_by, Option, Some, None, option_map, option_to_list, unwrap_or, All, is_some}
+use Rattle.std.specs.Prelude.{◌≡◌, ℕ, zero, suc, ◌+◌, ◌≤◌, ◌<◌, ◌==◌, ◌&&◌, ◌||◌, Bool, true, false, not, if◌then◌else◌, List, [], ◌∷◌, ◌++◌, length, filter, map, sum_by, Option, Some, None, option_map, option_to_list, unwrap_or, All, is_some}
 use Rattle.nvme_entry.specs.Status.{success}
 use Rattle.nvme_entry.specs.declared.submission.Sqe.{Sqe}
 use Rattle.nvme_arbiter.specs.Limits.{highest_qid, highest_count, queue_limit}
@@ -8,9 +8,10 @@ use Rattle.nvme_arbiter.specs.Board.{BoardStandsAt}
 use Rattle.nvme_arbiter.specs.Queues.{queue_at}
 use Rattle.nvme_arbiter.specs.declared.pick.OpenQueue.{OpenQueue}
 use Rattle.nvme_admin.specs.History.{TableHistory}
-use Rattle.nvme_admin.specs.Standing.{StandsAt, sq_of, cq_of, used_at}
-use Rattle.nvme_admin.specs.declared.bounds.TheConstants.{MAX_REGIONS}
+use Rattle.nvme_admin.specs.Accepted.{queue_table}
+use Rattle.nvme_admin.specs.QueueTable.{QueueTable}
 use Rattle.nvme_admin.specs.declared.verdict.SqEntry.{SqEntry}
+use Rattle.nvme_log.specs.declared.event.Event.TheVariants.{OpenCq}
 use Rattle.nvme_log.specs.Limits.{max_outstanding}
 use Rattle.nvme_log.specs.Rules.{FrontRules, Past, sq_regions_of, cq_regions_of, slots_at}
 use Rattle.nvme_log.specs.Queues.{Queue, open_sq, open_cq, is_closed_region, qid_of_region, cq_region_of}
@@ -23,6 +24,7 @@ use Rattle.nvme_log.specs.Completions.{is_posted, posts_of, posted_to, outstandi
 use Rattle.nvme_log.specs.Effects.{effects_since, made_last}
 use Rattle.nvme_log.specs.Laws.{as_open}
 use Rattle.nvme_ctrl.specs.Deletions.{deleting}
+use Rattle.nvme_ctrl.specs.Making.{placing_in}
 use Rattle.nvme_ctrl.specs.kept.Content.{Candidate, Ready, PendingDelete, Attachment, SqContent, Content}
 
 -- ---- a submission region's places
@@ -45,17 +47,17 @@ times_in r i ready = sum_by (λ (t : Ready). one_if (t.place.region == r && t.pl
 abbrev pub times_held : ℕ → ℕ → List Place → ℕ
 times_held r i hand = sum_by (λ (p : Place). one_if (p.region == r && p.index == i)) hand
 
--- something of each completion region, summed over all that there can be
+-- something of each completion region, summed over the first n
 unfoldable pub over_regions : (ℕ → ℕ) → ℕ → ℕ
 over_regions f zero = 0
 over_regions f (suc n) = over_regions f n + f n
 
 abbrev pub times_ready : Content → ℕ → ℕ → ℕ
-times_ready k r i = over_regions (λ (c : ℕ). times_in r i (k.cq c).ready) MAX_REGIONS
+times_ready k r i = over_regions (λ (c : ℕ). times_in r i (k.cq c).ready) k.ncq
 
 -- the ready completions that hold an outstanding place: those of places that weren't aborted with their queue
 abbrev pub ready_picked : Content → ℕ
-ready_picked k = over_regions (λ (c : ℕ). length (filter (λ (t : Ready). not t.with_queue) (k.cq c).ready)) MAX_REGIONS
+ready_picked k = over_regions (λ (c : ℕ). length (filter (λ (t : Ready). not t.with_queue) (k.cq c).ready)) k.ncq
 
 -- the place of the command of a deletion, which is answered when the deletion is finished
 abbrev pub held_by : Option PendingDelete → List Place
@@ -68,7 +70,7 @@ held_upto deletion (suc n) = held_upto deletion n ++ held_by (deletion n)
 
 -- the places that are picked and neither ready nor posted: those that have no answer yet, and those of the deletions
 abbrev pub hand_of : Content → List Place
-hand_of k = k.hand ++ held_upto k.deletion MAX_REGIONS
+hand_of k = k.hand ++ held_upto k.deletion k.nsq
 
 -- what is ready in a completion region is a completion of a place that goes there: it has the identifiers of its queue and of its command. One
 -- that was aborted with its queue is of a queue that is being deleted
@@ -87,7 +89,7 @@ pub record HoldsReady (past : Past) (k : Content) (hand : List Place) : Type 0 w
   pub each : (c : ℕ) → All (IsReady past k.deletion c) (k.cq c).ready
   pub taken : ready_picked k + length hand ≡ k.outstanding
   pub few_taken : k.outstanding ≤ max_outstanding
-  pub none_beyond : (c : ℕ) → MAX_REGIONS ≤ c → (k.cq c).ready ≡ []
+  pub none_beyond : (c : ℕ) → k.ncq ≤ c → (k.cq c).ready ≡ []
   -- the admin queue is that of region 0, and posts to completion region 0
   pub admin_qid : qid_of_region past 0 ≡ Some 0
   pub admin_region : cq_region_of past 0 ≡ Some 0
@@ -144,8 +146,8 @@ pub record IsOpenedFor (sq : ℕ → SqContent) (d : PendingDelete) : Type 0 whe
 
 pub record HoldsQueues (past : Past) (k : Content) : Type 0 where
   -- the open queues are those of the table, and of the board
-  pub sqs : (q : ℕ) → open_sq past q ≡ as_open (sq_of k.table q)
-  pub cqs : (q : ℕ) → open_cq past q ≡ cq_of k.table q
+  pub sqs : (q : ℕ) → open_sq past q ≡ as_open (k.table.sq q)
+  pub cqs : (q : ℕ) → open_cq past q ≡ k.table.cq q
   pub board : (q : ℕ) → queue_at k.board.queues q ≡ option_map (on_board k) (open_sq past q)
   pub board_size : length k.board.queues ≡ queue_limit
   pub few : (q : ℕ) (queue : Queue) → open_sq past q ≡ Some queue → q ≤ highest_qid
@@ -157,7 +159,7 @@ pub record HoldsQueues (past : Past) (k : Content) : Type 0 where
   pub sq_there : (r : ℕ) (a : Attachment) → (k.sq r).queue ≡ Some a → r < k.nsq
   pub posts_there : (r : ℕ) (a : Attachment) → (k.sq r).queue ≡ Some a → a.cq_region < k.ncq
   -- a region that the table doesn't use was opened for none
-  pub unused : (r : ℕ) → used_at k.table.sq_used r ≡ false → (k.sq r).queue ≡ None
+  pub unused : (r : ℕ) → k.table.sq_region_used r ≡ false → (k.sq r).queue ≡ None
   pub unopened : (r : ℕ) → (k.sq r).queue ≡ None → IsUnopened past r (k.sq r)
   -- the region of a closed queue isn't opened again
   pub gone : (r : ℕ) → is_closed_region past r ≡ true → IsGone (k.sq r)
@@ -170,7 +172,7 @@ pub record HoldsQueues (past : Past) (k : Content) : Type 0 where
 pub record IsPending (past : Past) (k : Content) (r : ℕ) (d : PendingDelete) : Type 0 where
   pub at : d.region ≡ r
   pub closing : SqEntry
-  pub in_table : sq_of k.table d.qid ≡ Some closing
+  pub in_table : k.table.sq d.qid ≡ Some closing
   pub is_closing : closing.closing ≡ true
   pub region : closing.region ≡ d.region
   -- its command is one of the admin queue, and wasn't aborted
@@ -189,22 +191,55 @@ pub record HoldsDeletion (past : Past) (k : Content) : Type 0 where
   pub place_is : (r : ℕ) → deleting past r ≡ option_map (λ (d : PendingDelete). d.place.index) (k.deletion r)
   pub stands : (r : ℕ) (d : PendingDelete) → k.deletion r ≡ Some d → IsPending past k r d
 
+-- ---- the queues whose state is kept
+-- a completion queue was opened on a region: the admin queue is on region 0
+abbrev pub is_opened_cq : Past → ℕ → Bool
+is_opened_cq [] x = x == 0
+is_opened_cq (OpenCq qid region ∷ past) x = region == x || is_opened_cq past x
+is_opened_cq (e ∷ past) x = is_opened_cq past x
+
+-- a submission queue of the table, open or closing, has this region
+abbrev pub is_on : ℕ → Option SqEntry → Bool
+is_on r None = false
+is_on r (Some entry) = entry.region == r
+
+-- they are those that are open, and the submission queues that are being deleted
+pub record HoldsLives (past : Past) (k : Content) : Type 0 where
+  pub sqs : (q : ℕ) (queue : Queue) → open_sq past q ≡ Some queue → k.sq_life q ≡ Some queue.region
+  pub deleted : (r : ℕ) (d : PendingDelete) → k.deletion r ≡ Some d → k.sq_life d.qid ≡ Some r
+  pub cqs : (q : ℕ) → k.cq_life q ≡ open_cq past q
+  pub not_closed : (q r : ℕ) → k.sq_life q ≡ Some r → is_closed_region past r ≡ false
+  -- the region of each was opened for it, and is that of its entry in the table
+  pub named : (q r : ℕ) → k.sq_life q ≡ Some r → qid_of_region past r ≡ Some q
+  pub in_table : (q r : ℕ) → k.sq_life q ≡ Some r → is_on r (k.table.sq q) ≡ true
+  -- a region that was opened and isn't closed is that of one
+  pub there : (r q : ℕ) → qid_of_region past r ≡ Some q → is_closed_region past r ≡ false → k.sq_life q ≡ Some r
+  -- no queue was opened on a completion region that the table doesn't use
+  pub unopened : (x : ℕ) → k.table.cq_region_used x ≡ false → is_opened_cq past x ≡ false
+
 -- ---- arbitration and the table
 pub record HoldsArbitration (rules : FrontRules) (past : Past) (k : Content) : Type 0 where
   pub stands : BoardStandsAt rules.mechanism rules.start.settings (arbitration_of past) k.board
   pub lawful : IsLawfulRun rules.mechanism rules.start.settings (arbitration_of past)
 
--- the table stands at a history. It is that of the log where no region was added late
+-- the identifiers of the queues of a table are within their limit
+abbrev pub FewQueues : QueueTable → Type 0
+FewQueues t = (q : ℕ) (entry : SqEntry) → t.sq q ≡ Some entry → q ≤ highest_qid
+
+-- the table is that of a history. It is that of the log where no region was added late
 pub record HoldsTable (rules : FrontRules) (late : Bool) (past : Past) (k : Content) : Type 0 where
   pub history : TableHistory
-  pub stands : StandsAt rules.start k.table history
+  pub table_is : k.table ≡ queue_table rules.start history
+  pub few_queues : FewQueues k.table
+  -- where its queues may lie is as the rules say
+  pub placing : k.table.placing ≡ placing_in rules
+  -- no region is added late where queues may lie anywhere
+  pub in_time : is_some k.table.placing ≡ true → late ≡ false
   pub history_is : late ≡ false → history ≡ table_history rules past
   pub sq_count : length k.table.sq_regions ≡ k.nsq
   pub cq_count : length k.table.cq_regions ≡ k.ncq
   pub sq_number : length (sq_regions_of rules) ≡ k.nsq
   pub cq_number : length (cq_regions_of rules) ≡ k.ncq
-  pub few_sqs : k.nsq ≤ MAX_REGIONS
-  pub few_cqs : k.ncq ≤ MAX_REGIONS
   pub sq_slots : (r : ℕ) → slots_at (sq_regions_of rules) r ≡ (k.sq r).slots
   pub cq_slots : (c : ℕ) → slots_at (cq_regions_of rules) c ≡ (k.cq c).slots
   pub sq_regions_are : k.table.sq_regions ≡ sq_regions_of rules
@@ -250,6 +285,7 @@ pub record Holds (rules : FrontRules) (late : Bool) (past : Past) (k : Content) 
   pub posts : HoldsPosts past k
   pub queues : HoldsQueues past k
   pub deletion : HoldsDeletion past k
+  pub lives : HoldsLives past k
   pub arbitration : HoldsArbitration rules past k
   pub tabled : HoldsTable rules late past k
   pub own : late ≡ false → HoldsOwn rules past k
@@ -258,8 +294,3 @@ pub record Holds (rules : FrontRules) (late : Bool) (past : Past) (k : Content) 
 -- the queue of a region of a controller with no event: region 0 has the admin queue
 abbrev pub first_queue : ℕ → Option Attachment
 first_queue r = if r == 0 then Some (record { qid = 0; cq_region = 0 }) else None
-
--- a submission queue of the table, open or closing, has this region
-abbrev pub is_on : ℕ → Option SqEntry → Bool
-is_on r None = false
-is_on r (Some entry) = entry.region == r

@@ -1,34 +1,35 @@
-use Rattle.std.proofs.Common.{◌∙◌, sym, subst, slice_set}
-use Rattle.nvme_admin.specs.History.{Completion}
-use Rattle.nvme_ctrl.specs.Making.{with_region, is_late}
-use Rattle.nvme_admin.specs.declared.fields.TableFields.{TableFields}
-use Rattle.nvme_ctrl.specs.Standing.{IsController}
-use Rattle.nvme_ctrl.specs.Rings.{HasCounts}
-use Rattle.nvme_ctrl.specs.declared.ring.Ring.{Ring}
-use Rattle.nvme_ctrl.specs.declared.state.Controller.{Controller}
-use Rattle.nvme_ctrl.specs.kept.Kept.{StandsAt}
-use Rattle.nvme_ctrl.proofs.AddCalls.{cq_region-stands, cq-no_fault}
+use Rattle.nvme_ctrl.proofs.AddCalls.{AddsCq, cq-call, cq-front, cq-answered, cq-unchanged}
 use Rattle.nvme_ctrl.proofs.state.Controller.add_cq_region.Goals as goal
+
+-- what the table answered
+adds : (c : goal.After-add_cq_region) → AddsCq c.args.self.now.table c.add_cq_region.new.self c.args.address c.args.slots c.add_cq_region.result
+adds c = let t = c.add_cq_region.ensures in record {
+  anywhere = t.anywhere;
+  refused = t.refused;
+  added = t.added;
+  number = t.number;
+  stands = t.stands;
+  unchanged = t.unchanged;
+}
 
 pub returns-clause-stands : goal.returns-clause-stands
 returns-clause-stands c rules late notes pool s =
-    let old = c.args.self.now in
-    let table = c.add_cq_region.new.self in
-    let r = c.in_ok-region.region in
-    let n = c.args.slots in
-    let told = c.in_ok-region.ensures in
-    let is = c.put_cq.ensures
-    ∙ (λ i. record old { table = table; cqs = slice_set old.cqs r (record (c.cq-cq.ensures i) { ring = c.new-cq.ensures.value i }) }) in
-    subst (λ (x : Controller). StandsAt (with_region Completion c.args.address n rules) (is_late rules late notes c.args.address) notes x pool) (sym is)
-    (cq_region-stands rules late notes old pool s table c.args.address n r told.number told.added told.stands told.sized
-    (subst (λ (ring : Ring). HasCounts ring 0 0) c.new-cq.ensures.value c.new-cq.ensures.counts))
+    cq-call rules late notes c.args.self.now pool s c.add_cq_region.new.self c.args.address c.args.slots c.add_cq_region.result (adds c)
 
 pub returns-clause-front : goal.returns-clause-front
-returns-clause-front c pool i = record { rules = with_region Completion c.args.address c.args.slots i.rules; late = is_late i.rules i.late i.notes c.args.address; notes = i.notes; stands = returns-clause-stands c i.rules i.late i.notes pool i.stands }
-
-pub returns-in_err-region-clause-front : goal.returns-in_err-region-clause-front
-returns-in_err-region-clause-front c pool i =
-    subst (λ (t : TableFields). IsController (record c.args.self.now { table = t }) pool) (sym c.in_err-region.ensures.unchanged) i
+returns-clause-front c pool i = cq-front c.args.self.now pool c.add_cq_region.new.self c.args.address c.args.slots c.add_cq_region.result (adds c) i
 
 pub returns-clause-added : goal.returns-clause-added
-returns-clause-added c rules late notes pool s = cq-no_fault rules late notes c.args.self.now pool s c.args.address c.args.slots c.in_ok-region.ensures.added
+returns-clause-added c rules late notes pool s =
+    (cq-answered rules late notes c.args.self.now pool s c.add_cq_region.new.self c.args.address c.args.slots c.add_cq_region.result (adds c)).0
+
+pub returns-clause-refused : goal.returns-clause-refused
+returns-clause-refused c rules late notes pool s =
+    (cq-answered rules late notes c.args.self.now pool s c.add_cq_region.new.self c.args.address c.args.slots c.add_cq_region.result (adds c)).1
+
+pub returns-clause-number : goal.returns-clause-number
+returns-clause-number c rules late notes pool s =
+    (cq-answered rules late notes c.args.self.now pool s c.add_cq_region.new.self c.args.address c.args.slots c.add_cq_region.result (adds c)).2
+
+pub returns-clause-unchanged : goal.returns-clause-unchanged
+returns-clause-unchanged c = cq-unchanged c.args.self.now c.add_cq_region.new.self c.args.address c.args.slots c.add_cq_region.result (adds c)

@@ -7,14 +7,14 @@ use Rattle.nvme_ctrl.proofs.state.Controller.begin_delete.Goals as goal
 pub returns : goal.returns
 returns c = record {
   own = ap (λ (z : Controller). z.own) c.put_deletion.ensures ∙ ap (λ (z : Controller). z.own) c.drop_window.ensures.left ∙ ap (λ (z : Controller). z.own) c.put_sq.ensures;
-  begun = λ rules notes k g to candidate h none loose entry first unanswered cookie not_passed_on d few.
+  begun = λ rules notes k g region to candidate h none loose entry first unanswered cookie not_passed_on d few.
       let a = c.args.self.now in
-      let n_is = c.saturating_add.ensures ∙ n_counted rules notes a c.args.slots.now k g c.args.region c.sq-sq.result h none c.sq-sq.ensures few in
-      let counted = keeps_counted rules notes a c.args.slots.now k g c.args.tag c.args.qid c.args.region to candidate h none loose entry unanswered cookie not_passed_on d first c.sq-sq.result c.saturating_add.result c.sq-sq.ensures n_is c.put_sq.new.self c.put_sq.ensures in
-      let may = droppable_counted rules notes a c.args.slots.now k g c.args.tag c.args.qid c.args.region to candidate h none loose entry unanswered cookie not_passed_on d first c.sq-sq.result c.saturating_add.result c.sq-sq.ensures n_is c.put_sq.new.self c.put_sq.ensures in
-      begun_deleting rules notes a c.args.slots.now k g c.args.tag c.args.qid c.args.region to candidate h none loose entry unanswered cookie not_passed_on d first c.sq-sq.result c.saturating_add.result c.sq-sq.ensures n_is c.put_sq.new.self c.put_sq.ensures
+      let n_is = c.saturating_add.ensures ∙ n_counted rules notes a c.args.slots.now k g c.args.qid region c.sq-sq.result h none d.there c.sq-sq.ensures few in
+      let counted = keeps_counted rules notes a c.args.slots.now k g c.args.tag c.args.qid region to candidate h none loose entry unanswered cookie not_passed_on d first c.sq-sq.result c.saturating_add.result c.sq-sq.ensures n_is c.put_sq.new.self c.put_sq.ensures in
+      let may = droppable_counted rules notes a c.args.slots.now k g c.args.tag c.args.qid region to candidate h none loose entry unanswered cookie not_passed_on d first c.sq-sq.result c.saturating_add.result c.sq-sq.ensures n_is c.put_sq.new.self c.put_sq.ensures in
+      begun_deleting rules notes a c.args.slots.now k g c.args.tag c.args.qid region to candidate h none loose entry unanswered cookie not_passed_on d first c.sq-sq.result c.saturating_add.result c.sq-sq.ensures n_is c.put_sq.new.self c.put_sq.ensures
       c.drop_window.new.self _ c.drop_window.new.slots c.put_item.new.slots c.close.new.self c.slot_at-slot.result c.saturating_add-self.result
-      (c.drop_window.ensures.dropped rules notes _ g c.args.qid to c.args.tag counted (ap (λ (x : Controller). x.picked) c.put_sq.ensures ∙ none) may loose)
+      (c.drop_window.ensures.dropped rules notes _ g region to c.args.tag counted (ap (λ (x : Controller). x.picked) c.put_sq.ensures ∙ none) may loose)
       c.close.ensures.closed c.close.ensures.arbiter c.slot_at-slot.ensures c.put_item.ensures
       (c.saturating_add-self.ensures ∙ ap (λ (x : Controller). min (x.pending_deletions + 1) 65535) c.put_deletion.ensures)
       (ap (λ (x : Controller). record x { pending_deletions = c.saturating_add-self.result }) c.put_deletion.ensures);

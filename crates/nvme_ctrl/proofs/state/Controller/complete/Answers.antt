@@ -32,9 +32,10 @@ returns-clause-stands c rules late notes s is_done =
     let tag : ℕ = c.args.tag in
     let answer : Answer = record { status = c.args.answer.status; dw0 = c.args.answer.dw0 } in
     let marks : Marks = c.args.answer.marks in
-    let x : ℕ = c.sq-region.result.cq_region in
-    let goes : (sq_at self.sqs (slot_at slots tag).region).cq_region ≡ x =
-    ap (λ (z : Slot). (sq_at self.sqs z.region).cq_region) (sym c.slot_at-slot.ensures) ∙ ap (λ (q : SqState). q.cq_region) (sym c.sq-region.ensures) in
+    let x : ℕ = c.sq-cqid.result.cqid in
+    let goes : (sq_at self.sqs (slot_at slots tag).sqid).cqid ≡ x =
+    ap (λ (z : Slot). (sq_at self.sqs z.sqid).cqid) (sym c.slot_at-slot.ensures) ∙ ap (λ (n : ℕ). (sq_at self.sqs n).cqid) (sym c.from.ensures)
+    ∙ ap (λ (q : SqState). q.cqid) (sym c.sq-cqid.ensures) in
     let view = c.answer.view_is in
     let inside : c.answer.inside.0.0.sct < 8 = (let low = c.answer.invariant in omega (arith, low)) in
     let types : answer.status.sct < 8 = subst (λ (a : told.Answer). a.status.sct < 8) view inside in

@@ -12,8 +12,8 @@ use Rattle.nvme_ctrl.proofs.state.Controller.drop_window.Given as goal
 
 abbrev pub invariant-loop : goal.invariant-loop
 invariant-loop l = record {
-  end : l.end ≡ (sq_at l.fn.self.sqs l.region).window.len;
+  end : l.end ≡ (sq_at l.fn.self.sqs l.qid).window.len;
   left : l.self ≡ record l.fn.self { sqs = l.self.sqs; cqs = l.self.cqs };
-  dropping : (rules : FrontRules) (notes : Notes) (k : Content) (g : Items) (qid c y : ℕ) → Keeps rules notes l.fn.self l.fn.slots k g → l.fn.self.picked ≡ 0 → IsDroppable notes k qid l.region c → IsLoose l.fn.slots g y
-      → IsDropping rules notes k qid l.region c l.fn.slots y l.self l.slots (drop l.counter (g.windows l.region));
+  dropping : (rules : FrontRules) (notes : Notes) (k : Content) (g : Items) (region c y : ℕ) → Keeps rules notes l.fn.self l.fn.slots k g → l.fn.self.picked ≡ 0 → IsDroppable notes k l.qid region c → IsLoose l.fn.slots g y
+      → IsDropping rules notes k l.qid region c l.fn.slots y l.self l.slots (drop l.counter (g.windows region));
 }

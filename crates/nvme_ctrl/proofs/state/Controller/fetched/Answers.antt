@@ -1,4 +1,4 @@
-use Rattle.std.proofs.Common.{◌≡◌, ℕ, ◌+◌, ◌<◌, ◌^◌, Some, List, [], ◌∷◌, ◌++◌, length, refl, sym, ap, subst}
+use Rattle.std.proofs.Common.{◌≡◌, ℕ, ◌+◌, ◌<◌, ◌^◌, Some, not, List, [], ◌∷◌, ◌++◌, length, refl, sym, ap, ◌∙◌, subst, arith}
 use Rattle.std.specs.Prelude.{◌==◌, if◌then◌else◌, slice_set, IsSomeAnd, IfSome}
 use Rattle.nvme_arbiter.specs.Layout.{board_of}
 use Rattle.nvme_arbiter.specs.Limits.{highest_count}
@@ -17,59 +17,76 @@ use Rattle.nvme_ctrl.specs.declared.state.SqState.{SqState}
 use Rattle.nvme_ctrl.specs.declared.state.Controller.{Controller}
 use Rattle.nvme_ctrl.specs.kept.Pool.{IsNew, IsChain, SameItems, SameLinks}
 use Rattle.nvme_ctrl.specs.kept.State.{sq_at}
-use Rattle.nvme_ctrl.proofs.FetchCalls.{Fetches, fetched_state, has_fetched, may_come}
-use Rattle.nvme_ctrl.proofs.FetchTold.{is_fetchable, some_popped}
+use Rattle.nvme_ctrl.proofs.DoorbellCalls.{has_none}
+use Rattle.nvme_ctrl.proofs.FetchCalls.{Fetches, fetched_state, has_fetched, may_come, few_queues, told_fetchable}
+use Rattle.nvme_ctrl.proofs.FetchTold.{is_fetchable, some_popped, MayBeFetched, may_be_fetched}
 use Rattle.nvme_ctrl.proofs.state.Controller.fetched.Goals as goal
 
-pub returns-in_default-pop-clause-front : goal.returns-in_default-pop-clause-front
-returns-in_default-pop-clause-front c =
-    subst (λ (free : Chain). IsController (record c.args.self.now { free = free }) c.args.slots.now) (sym (c.in_default-pop.ensures.none refl)) c.requires.front
+pub returns-in_default-clause-front : goal.returns-in_default-clause-front
+returns-in_default-clause-front c =
+    subst (λ (free : Chain). IsController (record c.args.self.now { free = free }) c.args.slots.now) (sym (c.in_default.ensures.none refl)) c.requires.front
 
-pub returns-in_default-pop-clause-refused : goal.returns-in_default-pop-clause-refused
-returns-in_default-pop-clause-refused c refused = (ap (λ (free : Chain). record c.args.self.now { free = free }) (c.in_default-pop.ensures.none refl), refl)
+pub returns-in_default-clause-refused : goal.returns-in_default-clause-refused
+returns-in_default-clause-refused c refused = (ap (λ (free : Chain). record c.args.self.now { free = free }) (c.in_default.ensures.none refl), refl)
+
+pub returns-then-is_none-clause-told : goal.returns-then-is_none-clause-told
+returns-then-is_none-clause-told c rules late notes s slot m =
+    absurd (c.fetchable.ensures.none _ (is_fetchable rules late notes c.args.self.now c.args.slots.now s c.args.qid slot m) (has_none c.fetchable.result (c.is_none.ensures ∙ ap not c.if-is_none.true)))
 
 pub returns-in_default-clause-told : goal.returns-in_default-clause-told
 returns-in_default-clause-told c rules late notes s slot m =
-    absurd (c.fetchable.ensures.none _ (is_fetchable rules late notes c.args.self.now c.args.slots.now s c.args.qid slot m) c.in_default.is)
+    absurd (some_popped c.args.slots.now c.args.self.now.free s.items.free c.pop.result s.has.free_chain
+    (may_be_fetched c.args.self.now c.args.qid c.fetchable.result c.fetchable.ensures.some (c.is_none.ensures ∙ ap not c.if-is_none.false)).can.some_free c.pop.ensures.some c.in_default.is)
 
-pub returns-in_default-pop-clause-told : goal.returns-in_default-pop-clause-told
-returns-in_default-pop-clause-told c rules late notes s slot m =
-    absurd (some_popped c.args.slots.now c.args.self.now.free s.items.free c.pop.result s.has.free_chain c.in-Some.ensures.some.some_free c.pop.ensures.some c.in_default-pop.is)
+-- an identifier of a queue whose state is kept fits a slot
+pub overflow_cast-qid : goal.overflow_cast-qid
+overflow_cast-qid c =
+    let front = c.requires.front in
+    let found = may_be_fetched c.args.self.now c.args.qid c.fetchable.result c.fetchable.ensures.some (c.is_none.ensures ∙ ap not c.if-is_none.false) in
+    let it = told_fetchable c.args.self.now front.stands.content.table front.stands.numbers.tells c.args.qid found.entry found.can in
+    let few : c.args.qid < 65 = few_queues front.rules front.late front.notes c.args.self.now c.args.slots.now front.stands c.args.qid it.entry it.can in
+    omega (arith, few)
 
 pub came-requires : goal.came-requires
 came-requires c =
     let front = c.requires.front in
+    let found = may_be_fetched c.args.self.now c.args.qid c.fetchable.result c.fetchable.ensures.some (c.is_none.ensures ∙ ap not c.if-is_none.false) in
+    let it = told_fetchable c.args.self.now front.stands.content.table front.stands.numbers.tells c.args.qid found.entry found.can in
     subst (λ (board : BoardFields). IsSomeAnd (queue_at (board_of board).queues c.args.qid) (λ (queue : OpenQueue). queue.count < highest_count))
     (sym (ap (λ (self : Controller). self.board) c.put_sq.ensures))
-    (may_come front.rules front.late front.notes c.args.self.now c.args.slots.now front.stands c.args.qid c.in-Some.queue c.in-Some.ensures.some)
+    (may_come front.rules front.late front.notes c.args.self.now c.args.slots.now front.stands c.args.qid it.entry it.can)
+
+-- its queue
+fetched_from : (c : goal.After-came) → MayBeFetched c.args.self.now c.args.qid
+fetched_from c = may_be_fetched c.args.self.now c.args.qid c.fetchable.result c.fetchable.ensures.some (c.is_none.ensures ∙ ap not c.if-is_none.false)
 
 -- the command's slot
 abbrev waiting : goal.After-came → Slot
-waiting c = record c.free.result { entry = c.args.entry.now; cookie = c.args.cookie; region = c.in-Some.queue.region; state = 1 }
+waiting c = record c.free.result { entry = c.args.entry.now; cookie = c.args.cookie; sqid = c.args.qid; state = 1 }
 
-fetches : (c : goal.After-came) → Fetches c.args.self.now c.args.slots.now c.args.qid c.in-Some.queue c.args.entry.now c.args.cookie c.in-Some-pop.tag (waiting c) c.pop.new.self
+fetches : (c : goal.After-came) → Fetches c.args.self.now c.args.slots.now c.args.qid c.args.entry.now c.args.cookie c.in-Some.tag (waiting c) c.pop.new.self
     c.push.new.self c.read.new.self c.came.new.board c.push.new.slots
 fetches c =
     let pool : List Slot = c.push.new.slots in
-    let tag : ℕ = c.in-Some-pop.tag in
+    let tag : ℕ = c.in-Some.tag in
     record {
       held = c.sq-sq.result.held == 1;
       held_is = ap (λ (state : SqState). state.held == 1) c.sq-sq.ensures;
-      is_first = c.in-Some-pop.ensures.some;
-      free_left = c.in-Some-pop.ensures.rest;
+      is_first = c.in-Some.ensures.some;
+      free_left = c.in-Some.ensures.rest;
       counts = subst (λ (state : SqState). (read written : ℕ) → HasCounts state.ring read written → read < written → HasCounts c.read.new.self (read + 1) written)
           c.sq-sq.ensures c.read.ensures.counts;
       same_slots = subst (λ (state : SqState). c.read.new.self.slots ≡ state.ring.slots) c.sq-sq.ensures c.read.ensures.slots;
       state = refl;
-      region = refl;
+      queue = refl;
       has = refl;
       keeps = refl;
-      chain = subst (λ (slots : List Slot). (xs : List ℕ) → IsChain slots (sq_at c.args.self.now.sqs c.in-Some.queue.region).window xs → tag < length slots → IsNew tag xs
+      chain = subst (λ (slots : List Slot). (xs : List ℕ) → IsChain slots (sq_at c.args.self.now.sqs c.args.qid).window xs → tag < length slots → IsNew tag xs
           → length xs + 1 < 2 ^ 16 → IsChain pool c.push.new.self (xs ++ tag ∷ [])) c.put_item.ensures
           (subst (λ (state : SqState). (xs : List ℕ) → IsChain c.put_item.new.slots state.window xs → tag < length c.put_item.new.slots → IsNew tag xs
           → length xs + 1 < 2 ^ 16 → IsChain pool c.push.new.self (xs ++ tag ∷ [])) c.sq-sq.ensures c.push.ensures.chain);
       items = subst (λ (slots : List Slot). SameItems slots pool) c.put_item.ensures c.push.ensures.items;
-      links = subst (λ (slots : List Slot). (xs : List ℕ) → IsChain slots (sq_at c.args.self.now.sqs c.in-Some.queue.region).window xs → SameLinks xs slots pool) c.put_item.ensures
+      links = subst (λ (slots : List Slot). (xs : List ℕ) → IsChain slots (sq_at c.args.self.now.sqs c.args.qid).window xs → SameLinks xs slots pool) c.put_item.ensures
           (subst (λ (state : SqState). (xs : List ℕ) → IsChain c.put_item.new.slots state.window xs → SameLinks xs c.put_item.new.slots pool) c.sq-sq.ensures c.push.ensures.links);
       came = subst (λ (board : BoardFields). IfSome (queue_at (board_of board).queues c.args.qid) (λ (queue : OpenQueue). board_of c.came.new.board ≡ record (board_of board) {
         queues = slice_set (board_of board).queues c.args.qid (Some (record queue { count = if c.sq-sq.result.held == 1 then queue.count else queue.count + 1 }));
@@ -80,12 +97,13 @@ fetches c =
 pub returns-clause-stands : goal.returns-clause-stands
 returns-clause-stands c rules late notes s told =
     let self : Controller = c.args.self.now in
-    let region = c.in-Some.queue.region in
+    let found = fetched_from c in
+    let it = told_fetchable self s.content.table s.numbers.tells c.args.qid found.entry found.can in
     subst (λ (after : Controller). HasFetched rules late notes c.args.qid c.args.entry.now c.args.cookie (record after { board = c.came.new.board }) c.push.new.slots) (sym c.put_sq.ensures)
     (subst (λ (state : SqState). HasFetched rules late notes c.args.qid c.args.entry.now c.args.cookie
-    (record self { sqs = slice_set self.sqs region (fetched_state state c.push.new.self c.read.new.self); free = c.pop.new.self; board = c.came.new.board }) c.push.new.slots)
+    (record self { sqs = slice_set self.sqs c.args.qid (fetched_state state c.push.new.self c.read.new.self); free = c.pop.new.self; board = c.came.new.board }) c.push.new.slots)
     (sym c.sq-sq.ensures)
-    (has_fetched rules late notes self c.args.slots.now s c.args.qid c.in-Some.queue c.in-Some.ensures.some c.args.entry.now c.args.cookie c.in-Some-pop.tag (waiting c) c.pop.new.self
+    (has_fetched rules late notes self c.args.slots.now s c.args.qid it.entry it.can c.args.entry.now c.args.cookie c.in-Some.tag (waiting c) c.pop.new.self
     c.push.new.self c.read.new.self c.came.new.board c.push.new.slots (fetches c)))
 
 pub returns-clause-front : goal.returns-clause-front

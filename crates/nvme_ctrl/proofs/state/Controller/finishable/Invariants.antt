@@ -2,5 +2,5 @@ use Rattle.std.proofs.Common.{ℕ, ◌<◌}
 use Rattle.nvme_ctrl.specs.kept.State.{IsFinishable}
 use Rattle.nvme_ctrl.proofs.state.Controller.finishable.Given as goal
 
-abbrev pub invariant-loop-region : goal.invariant-loop-region
-invariant-loop-region l = (r : ℕ) → r < l.region → IsFinishable l.self r → ⊥
+abbrev pub invariant-loop-qid : goal.invariant-loop-qid
+invariant-loop-qid l = (q : ℕ) → q < l.qid → IsFinishable l.self q → ⊥

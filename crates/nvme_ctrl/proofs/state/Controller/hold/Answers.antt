@@ -9,14 +9,14 @@ use Rattle.nvme_ctrl.proofs.HoldCall.{held_state, may_be_held, hold_call}
 use Rattle.nvme_ctrl.proofs.state.Controller.hold.Goals.{then-on, else-on}
 use Rattle.nvme_ctrl.proofs.state.Controller.hold.Goals as goal
 
--- what waits in its region
-waits : (c : goal.After-put_sq) → c.saturating_sub-waiting.result ≡ waiting_in c.args.self.now c.in-Some-sq.queue.region
+-- what waits in it
+waits : (c : goal.After-put_sq) → c.saturating_sub-waiting.result ≡ waiting_in c.args.self.now c.args.qid
 waits c = c.saturating_sub-waiting.ensures ∙ (λ i. (c.sq-sq.ensures i).window.len - c.picked_in.ensures i)
 
 -- its count
-counts : (c : goal.After-put_sq) → c.if-on.count ≡ (if c.args.on then 0 else min (waiting_in c.args.self.now c.in-Some-sq.queue.region) 256)
+counts : (c : goal.After-put_sq) → c.if-on.count ≡ (if c.args.on then 0 else min (waiting_in c.args.self.now c.args.qid) 256)
 counts c =
-    let most : ℕ = min (waiting_in c.args.self.now c.in-Some-sq.queue.region) 256 in
+    let most : ℕ = min (waiting_in c.args.self.now c.args.qid) 256 in
     elim c.if-on.branch [
       | then-on w ↦ w.count-is ∙ ap (λ (b : Bool). if b then 0 else most) (sym w.if-on.true)
       | else-on w ↦ w.count-is ∙ w.min-count.ensures ∙ ap (λ (n : ℕ). min n 256) (waits c) ∙ ap (λ (b : Bool). if b then 0 else most) (sym w.if-on.false)
@@ -31,11 +31,10 @@ returns-clause-answer c rules late notes pool s = (
 pub returns-clause-stands : goal.returns-clause-stands
 returns-clause-stands c rules late notes pool s told =
     let self : Controller = c.args.self.now in
-    let region = c.in-Some-sq.queue.region in
     subst (λ (after : Controller). StandsAt rules late (Held c.args.qid c.args.on ∷ notes) after pool) (sym c.put_sq.ensures)
     (subst (λ (state : SqState). StandsAt rules late (Held c.args.qid c.args.on ∷ notes)
-    (record self { board = c.show.new.board; sqs = slice_set self.sqs region (held_state state c.bit.result) }) pool) (sym c.sq-sq.ensures)
-    (hold_call rules late notes self pool s c.args.qid c.in-Some.seen (sym c.queue.ensures.is_there ∙ c.in-Some.is) c.in-Some-sq.queue (sym c.sq.ensures ∙ c.in-Some-sq.is)
+    (record self { board = c.show.new.board; sqs = slice_set self.sqs c.args.qid (held_state state c.bit.result) }) pool) (sym c.sq-sq.ensures)
+    (hold_call rules late notes self pool s c.args.qid c.in-Some.seen (sym c.queue.ensures.is_there ∙ c.in-Some.is)
     c.args.on c.if-on.count c.bit.result c.show.new.board (counts c) c.bit.ensures c.show.ensures.shown c.show.ensures.arbiter c.show.ensures.stands))
 
 pub returns-clause-front : goal.returns-clause-front

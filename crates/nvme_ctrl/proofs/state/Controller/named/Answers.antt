@@ -2,7 +2,7 @@ use Rattle.std.proofs.Common.{◌<◌, ℕ, refl, sym, ap, ◌∙◌, arith, len
 use Rattle.std.proofs.lemmas.Bool.{cases_eq}
 use Rattle.nvme_ctrl.specs.declared.slot.Slot.{Slot}
 use Rattle.nvme_ctrl.specs.kept.Pool.{slot_at}
-use Rattle.nvme_ctrl.specs.inside.Lookups.{is_named}
+use Rattle.nvme_ctrl.specs.inside.Lookups.{is_found}
 use Rattle.nvme_ctrl.proofs.NamedTags.{named_tag, tag_named, tag_inside}
 use Rattle.nvme_ctrl.proofs.state.Controller.named.Goals as goal
 
@@ -10,14 +10,14 @@ pub returns-then-is_named-clause-found : goal.returns-then-is_named-clause-found
 returns-then-is_named-clause-found c rules late notes s =
     let self = c.args.self.now in
     named_tag rules late notes self c.args.slots.now s c.args.qid c.args.cid c.loop-x.x
-    (ap (λ (x : Slot). is_named self x c.args.qid c.args.cid) (sym c.slot_at.ensures) ∙ sym c.is_named.ensures ∙ c.if-is_named.true)
+    (ap (λ (x : Slot). is_found x c.args.qid c.args.cid) (sym c.slot_at.ensures) ∙ sym c.is_named.ensures ∙ c.if-is_named.true)
 
 pub loop-x-preserved : goal.loop-x-preserved
 loop-x-preserved c = record {
   end = refl;
   none = λ tag lt. elim (cases_eq tag c.loop-x.x) [
-    | inl same ↦ ap (λ (t : ℕ). is_named c.args.self.now (slot_at c.args.slots.now t) c.args.qid c.args.cid) same
-        ∙ ap (λ (x : Slot). is_named c.args.self.now x c.args.qid c.args.cid) (sym c.slot_at.ensures) ∙ sym c.is_named.ensures ∙ c.if-is_named.false
+    | inl same ↦ ap (λ (t : ℕ). is_found (slot_at c.args.slots.now t) c.args.qid c.args.cid) same
+        ∙ ap (λ (x : Slot). is_found x c.args.qid c.args.cid) (sym c.slot_at.ensures) ∙ sym c.is_named.ensures ∙ c.if-is_named.false
     | inr other ↦ c.loop-x.invariant.none tag (omega arith)
   ];
 }

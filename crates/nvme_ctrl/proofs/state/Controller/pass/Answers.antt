@@ -29,6 +29,6 @@ returns c = record {
       c.put_sq.ensures
       ∙ ap (λ (u : ℕ). record self { board = c.keep.new.self; sqs = slice_set self.sqs 0 (record c.sq-sq.result { unposted = u }) }) unposted
       ∙ ap (λ (q : SqState). record self { board = c.keep.new.self; sqs = slice_set self.sqs 0 (record q { unposted = min (q.unposted + 1) 65535 }) }) c.sq-sq.ensures in
-      subst (λ (o : ℕ). HasStepped rules late notes (step.Passed c.args.pick) (record c.put_sq.new.self { outstanding = o; picked = 1; picked_region = 0 }) c.args.slots.now) (sym c.saturating_add-self.ensures)
-      (subst (λ (x : Controller). HasStepped rules late notes (step.Passed c.args.pick) (record x { outstanding = min (x.outstanding + 1) 65535; picked = 1; picked_region = 0 }) c.args.slots.now) (sym put) done);
+      subst (λ (o : ℕ). HasStepped rules late notes (step.Passed c.args.pick) (record c.put_sq.new.self { outstanding = o; picked = 1; picked_qid = 0 }) c.args.slots.now) (sym c.saturating_add-self.ensures)
+      (subst (λ (x : Controller). HasStepped rules late notes (step.Passed c.args.pick) (record x { outstanding = min (x.outstanding + 1) 65535; picked = 1; picked_qid = 0 }) c.args.slots.now) (sym put) done);
 }

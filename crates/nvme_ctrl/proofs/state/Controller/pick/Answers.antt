@@ -28,8 +28,8 @@ returns-then-places_for-saturating_sub-clause-stands c rules late notes s =
 pub returns-else-is_own-clause-front : goal.returns-else-is_own-clause-front
 returns-else-is_own-clause-front c =
     let was = c.requires.front in
-    let step = c.pick_admin.ensures.stands was.rules was.late was.notes was.stands in
-    record { rules = was.rules; late = was.late; notes = _; stands = step.stands }
+    let step = c.pick_admin-effect.ensures.stands was.rules was.late was.notes was.stands in
+    record { rules = _; late = was.late; notes = _; stands = step.carried_out.stands }
 
 pub returns-then-pick-ne0-clause-front : goal.returns-then-pick-ne0-clause-front
 returns-then-pick-ne0-clause-front c =
@@ -51,7 +51,7 @@ returns-then-is_own-clause-passed c rules late notes s given is =
     ∙ ap (λ (b : Bool). Some b) (sym (c.is_own.ensures rules late notes s c.if-self-ne0.false) ∙ c.if-is_own.true)
 
 pub returns-else-is_own-clause-carried_out : goal.returns-else-is_own-clause-carried_out
-returns-else-is_own-clause-carried_out c rules late notes s given is =
+returns-else-is_own-clause-carried_out c rules late notes s given entry is =
     let next : IsNextPick rules notes (Some c.in-Some.pick) =
     subst (λ (o : Option Pick). IsNextPick rules notes o) c.in-Some.is (next_is rules late notes c.args.self.now c.args.slots.now s c.peek.result c.peek.ensures.lawful) in
     ap (option_map (is_own c.args.self.now.own (logged notes))) (sym (entry_is rules late notes c.args.self.now c.args.slots.now s c.if-self-ne0.false c.in-Some.pick next c.if-pick-ne0.false))

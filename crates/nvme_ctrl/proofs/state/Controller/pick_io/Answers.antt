@@ -1,24 +1,12 @@
 -- The pick of the board is the next pick.
-use Rattle.std.proofs.Common.{refl}
 use Rattle.std.proofs.Common.{◌≡◌, ℕ, ◌+◌, sym, ap, subst, ◌∙◌}
 use Rattle.std.specs.Prelude.{slice_set, min}
 use Rattle.nvme_ctrl.specs.Steps.{HasStepped}
 use Rattle.nvme_ctrl.specs.declared.picks.Step.TheVariants as step
 use Rattle.nvme_ctrl.specs.declared.state.SqState.{SqState}
 use Rattle.nvme_ctrl.specs.declared.state.Controller.{Controller}
-use Rattle.nvme_ctrl.proofs.PickCall.{next_lawful, io_places, due_found, pick-call, picked_state}
+use Rattle.nvme_ctrl.proofs.PickCall.{next_lawful, io_places, pick-call, picked_state}
 use Rattle.nvme_ctrl.proofs.state.Controller.pick_io.Goals as goal
-
-pub returns-in_default : goal.returns-in_default
-returns-in_default c = record {
-  own = refl;
-  stands = λ rules late notes s.
-      let self : Controller = c.args.self.now in
-      let can = c.requires.can in
-      absurd (due_found rules late notes self c.args.slots.now s can.none_picked c.args.pick c.keep.new.self
-      (next_lawful self c.args.pick can.next) c.keep.ensures.stands c.keep.ensures.queues c.keep.ensures.is_arbiter
-      (io_places self c.args.slots.now c.args.pick c.requires.io can.places) (sym c.sq.ensures ∙ c.in_default.is));
-}
 
 pub returns : goal.returns
 returns c = record {
@@ -26,16 +14,16 @@ returns c = record {
   stands = λ rules late notes s.
       let self : Controller = c.args.self.now in
       let can = c.requires.can in
-      let r : ℕ = c.in-Some.queue.region in
+      let q : ℕ = c.args.pick.qid in
       let n : ℕ = c.args.pick.n in
       let done = pick-call rules late notes self c.args.slots.now s can.none_picked c.args.pick c.keep.new.self
       (next_lawful self c.args.pick can.next) c.keep.ensures.stands c.keep.ensures.queues c.keep.ensures.is_arbiter
-      (io_places self c.args.slots.now c.args.pick c.requires.io can.places) c.requires.io c.in-Some.queue (sym c.sq.ensures ∙ c.in-Some.is) in
+      (io_places self c.args.slots.now c.args.pick c.requires.io can.places) c.requires.io in
       let unposted : c.saturating_add.result ≡ min (c.sq-sq.result.unposted + n) 65535 = c.saturating_add.ensures in
-      let put : c.put_sq.new.self ≡ record self { board = c.keep.new.self; sqs = slice_set self.sqs r (picked_state self r n) } =
+      let put : c.put_sq.new.self ≡ record self { board = c.keep.new.self; sqs = slice_set self.sqs q (picked_state self q n) } =
       c.put_sq.ensures
-      ∙ ap (λ (u : ℕ). record self { board = c.keep.new.self; sqs = slice_set self.sqs r (record c.sq-sq.result { unposted = u }) }) unposted
-      ∙ ap (λ (q : SqState). record self { board = c.keep.new.self; sqs = slice_set self.sqs r (record q { unposted = min (q.unposted + n) 65535 }) }) c.sq-sq.ensures in
-      subst (λ (o : ℕ). HasStepped rules late notes (step.Picked c.args.pick) (record c.put_sq.new.self { outstanding = o; picked = n; picked_region = r }) c.args.slots.now) (sym c.saturating_add-self.ensures)
-      (subst (λ (x : Controller). HasStepped rules late notes (step.Picked c.args.pick) (record x { outstanding = min (x.outstanding + n) 65535; picked = n; picked_region = r }) c.args.slots.now) (sym put) done);
+      ∙ ap (λ (u : ℕ). record self { board = c.keep.new.self; sqs = slice_set self.sqs q (record c.sq-sq.result { unposted = u }) }) unposted
+      ∙ ap (λ (z : SqState). record self { board = c.keep.new.self; sqs = slice_set self.sqs q (record z { unposted = min (z.unposted + n) 65535 }) }) c.sq-sq.ensures in
+      subst (λ (o : ℕ). HasStepped rules late notes (step.Picked c.args.pick) (record c.put_sq.new.self { outstanding = o; picked = n; picked_qid = q }) c.args.slots.now) (sym c.saturating_add-self.ensures)
+      (subst (λ (x : Controller). HasStepped rules late notes (step.Picked c.args.pick) (record x { outstanding = min (x.outstanding + n) 65535; picked = n; picked_qid = q }) c.args.slots.now) (sym put) done);
 }

@@ -10,7 +10,7 @@ use Rattle.nvme_ctrl.specs.declared.state.Controller.{Controller}
 use Rattle.nvme_ctrl.specs.kept.Pool.{IsChain}
 use Rattle.nvme_ctrl.specs.Doorbells.{gap}
 use Rattle.nvme_ctrl.specs.declared.state.CqState.{CqState}
-use Rattle.nvme_ctrl.proofs.NoPosts.{full_ring, all_posted, none_ready}
+use Rattle.nvme_ctrl.proofs.NoPosts.{full_ring, all_posted, none_ready, open_life}
 use Rattle.nvme_ctrl.proofs.PostCall.{HasDone}
 use Rattle.nvme_ctrl.proofs.PostLog.{steps_post}
 use Rattle.nvme_ctrl.proofs.state.Controller.post.Goals as goal
@@ -33,10 +33,10 @@ done c = record {
 }
 
 posted : (c : goal.After-marks) (rules : FrontRules) (late : Bool) (notes : Notes) → Stands rules late notes c.args.self.now c.args.slots.now
-    → HasPosted rules late notes c.args.region c.cq-cq.result.ring.tail c.completion-cqe.result c.slot_at-command.result.cookie c.marks.result (after c) c.push.new.slots
+    → HasPosted rules late notes c.args.cqid c.cq-cq.result.ring.tail c.completion-cqe.result c.slot_at-command.result.cookie c.marks.result (after c) c.push.new.slots
 posted c rules late notes stands =
-    subst (λ (m : Marks). HasPosted rules late notes c.args.region c.cq-cq.result.ring.tail c.completion-cqe.result c.slot_at-command.result.cookie m (after c) c.push.new.slots) (sym c.marks.ensures)
-    (steps_post rules late notes c.args.self.now c.put_cq.new.self c.count_post.new.self c.args.slots.now c.put_item.new.slots c.args.region c.in_ok-tag.tag c.cq-cq.result c.write.new.self
+    subst (λ (m : Marks). HasPosted rules late notes c.args.cqid c.cq-cq.result.ring.tail c.completion-cqe.result c.slot_at-command.result.cookie m (after c) c.push.new.slots) (sym c.marks.ensures)
+    (steps_post rules late notes c.args.self.now c.put_cq.new.self c.count_post.new.self c.args.slots.now c.put_item.new.slots c.args.cqid c.in_ok-tag.tag c.cq-cq.result c.write.new.self
     c.slot_at-command.result c.push.new.self c.push.new.slots c.completion-cqe.result c.cq-cq.ensures c.slot_at-command.ensures c.completion-cqe.ensures c.put_cq.ensures c.count_post.ensures
     c.put_item.ensures (done c) stands)
 
@@ -50,12 +50,12 @@ pub returns-clause-stands : goal.returns-clause-stands
 returns-clause-stands c = posted c
 
 pub returns-then-is_full-clause-told : goal.returns-then-is_full-clause-told
-returns-then-is_full-clause-told c rules late notes stands none =
-    inl (full_ring rules late notes c.args.self.now c.args.slots.now stands c.args.region
+returns-then-is_full-clause-told c rules late notes stands none x is =
+    inl (full_ring rules late notes c.args.self.now c.args.slots.now stands c.args.cqid x (open_life rules late notes c.args.self.now c.args.slots.now stands c.args.cqid x is)
     (subst (λ (o : CqState). o.ring.slots ≤ gap o.ring.slots o.ring.head o.ring.tail + 1) c.cq-cq.ensures (c.is_full.ensures.full c.if-is_full.true)))
 
 pub returns-in_err-tag-clause-told : goal.returns-in_err-tag-clause-told
-returns-in_err-tag-clause-told c rules late notes stands none =
-    inr (all_posted rules late notes c.args.self.now c.args.slots.now stands c.args.region
-    (none_ready rules late notes c.args.self.now c.args.slots.now stands c.args.region
+returns-in_err-tag-clause-told c rules late notes stands none x is =
+    inr (all_posted rules late notes c.args.self.now c.args.slots.now stands x
+    (none_ready rules late notes c.args.self.now c.args.slots.now stands c.args.cqid x (open_life rules late notes c.args.self.now c.args.slots.now stands c.args.cqid x is)
     (λ y rest h. (let some = c.in_err-tag.ensures.some y rest (subst (λ (o : CqState). IsChain c.args.slots.now o.ready (y ∷ rest)) (sym c.cq-cq.ensures) h) in cc))))

@@ -16,15 +16,15 @@ returns-clause-stands c rules late notes s =
     let self : Controller = c.args.self.now in
     let slots : List Slot = c.args.slots.now in
     let tag : ℕ = c.in_ok-tag.tag in
-    let window : (x : ℕ) (rest : List ℕ) → IsChain slots (sq_at self.sqs self.picked_region).window (x ∷ rest) → IsChain slots c.sq-sq.result.window (x ∷ rest) =
+    let window : (x : ℕ) (rest : List ℕ) → IsChain slots (sq_at self.sqs self.picked_qid).window (x ∷ rest) → IsChain slots c.sq-sq.result.window (x ∷ rest) =
     λ x rest linked. subst (λ (q : SqState). IsChain slots q.window (x ∷ rest)) (sym c.sq-sq.ensures) linked in
     let done : HasTaken rules late notes tag (took self c.pop.new.self) (took_pool slots tag) =
     take-stands rules late notes self slots s c.if-self-eq0.false c.pop.new.self tag
     (λ x rest linked. c.in_ok-tag.ensures.some x rest (window x rest linked))
     (λ x rest linked. c.pop.ensures.rest x rest (window x rest linked)) in
     let pool : c.put_item.new.slots ≡ took_pool slots tag = c.put_item.ensures ∙ ap (λ (slot : Slot). put_item slots tag (took_slot slot)) c.slot_at-slot.ensures in
-    let put : c.put_sq.new.self ≡ record self { sqs = slice_set self.sqs self.picked_region (took_sq self c.pop.new.self) } =
-    c.put_sq.ensures ∙ ap (λ (q : SqState). record self { sqs = slice_set self.sqs self.picked_region (record q { window = c.pop.new.self }) }) c.sq-sq.ensures in
+    let put : c.put_sq.new.self ≡ record self { sqs = slice_set self.sqs self.picked_qid (took_sq self c.pop.new.self) } =
+    c.put_sq.ensures ∙ ap (λ (q : SqState). record self { sqs = slice_set self.sqs self.picked_qid (record q { window = c.pop.new.self }) }) c.sq-sq.ensures in
     subst (λ (x : Controller). HasTaken rules late notes tag (record x { picked = x.picked - 1 }) c.put_item.new.slots) (sym put)
     (subst (λ (new : List Slot). HasTaken rules late notes tag (took self c.pop.new.self) new) (sym pool) done)
 
