@@ -125,7 +125,7 @@ static void submit(uint16_t qid, uint16_t tail, const uint8_t *bytes)
 }
 
 /* What was fetched goes through, and the host consumes the completions. */
-static void serve(uint16_t region, uint16_t head)
+static void serve(uint16_t cqid, uint16_t head)
 {
     const nvmearb_status success = {0, 0};
     nvmearb_step step;
@@ -136,9 +136,9 @@ static void serve(uint16_t region, uint16_t head)
             nvmearb_ctrl_complete(&ctrl, slots, COMMANDS, command.tag, &success, 0);
         }
     }
-    while (nvmearb_ctrl_post(&ctrl, slots, COMMANDS, region, &post) == NVMEARB_OK) {
+    while (nvmearb_ctrl_post(&ctrl, slots, COMMANDS, cqid, &post) == NVMEARB_OK) {
     }
-    if (nvmearb_ctrl_cq_head(&ctrl, region, head) != NVMEARB_OK) {
+    if (nvmearb_ctrl_cq_head(&ctrl, cqid, head) != NVMEARB_OK) {
         give_up();
     }
 }

@@ -30,10 +30,9 @@
  * The order of calls, with a controller:
  *
  *   1. Compare nvmearb_version() with NVMEARB_VERSION.
- *   2. When the host enables the controller (CC.EN), nvmearb_ctrl_init with the admin queues (AQA, ASQ, ACQ), and then
- *      nvmearb_ctrl_add_sq_region and nvmearb_ctrl_add_cq_region for each ring that a Create command may name. Where
- *      the host chooses them later, see "Regions for any address" below. At a reset the same again: nothing of before
- *      is left.
+ *   2. When the host enables the controller (CC.EN), nvmearb_ctrl_init_anywhere with the admin queues (AQA, ASQ, ACQ):
+ *      the host may put its queues anywhere in memory ("Where queues lie" below). At a reset the same again: nothing of
+ *      before is left.
  *   3. nvmearb_ctrl_own_opcode and nvmearb_ctrl_own_feature for the admin commands that the device answers itself, such
  *      as Identify. Each nvmearb_ctrl_init forgets them.
  *   4. At each doorbell write nvmearb_ctrl_sq_tail or nvmearb_ctrl_cq_head.
@@ -41,7 +40,7 @@
  *   6. While nvmearb_ctrl_take gives a command, execute it. Where it has none, nvmearb_ctrl_pick, and begin again,
  *      until that picks nothing either.
  *   7. nvmearb_ctrl_complete, or nvmearb_ctrl_complete_with, for each command that ends, in any order and at any time.
- *   8. For each completion region, while nvmearb_ctrl_post gives a completion: write its bytes into the slot of the
+ *   8. For each completion queue, while nvmearb_ctrl_post gives a completion: write its bytes into the slot of the
  *      ring, Command Dword 3 last, since it has the phase tag, and then send the interrupt.
  *   9. After a pick that began a deletion (NVMEARB_BEGIN_DELETE), nvmearb_ctrl_finish at once and after each 8., while
  *      it ends one. Until then nothing is fetched or picked of that queue, its Delete isn't answered, and a Delete of its
@@ -51,14 +50,16 @@
  *  10. Go back to 5., for every queue, until a pass does nothing: picks make room for fetches, posts for picks
  *      (NVMEARB_FULL), and the end of a deletion for both. The completion of its Delete is posted in the next pass.
  *
- * Regions for any address. A host chooses the addresses of its I/O queues after CC.EN. So the device adds a region when
- * it reads a Create in 5., before nvmearb_ctrl_fetched: under a token of its own that no other region has as its
- * address, of QSIZE + 1 slots. It puts the token into PRP entry 1 of its copy of the entry, and keeps the host's
- * address, the interrupt vector and the enable bit by the number of the region. There are NVMEARB_MAX_REGIONS of a kind
- * until the next nvmearb_ctrl_init, that of the admin queue included, so at most 64 such Creates of a kind, those that
- * are refused afterwards among them. What docs/PROVED.md says of the log of a controller holds then too, as long as no
- * Create that was picked before named the token; one for which no region could be added has the host's address.
- * capi/examples/nvme.c does this (`place`).
+ * Where queues lie. After nvmearb_ctrl_init_anywhere a Create command names any address that is a multiple of the
+ * memory page, and at most as many slots and the interrupt vectors that the device has; each Create is a queue of its
+ * own, and there may be any number of them. The step of the pick that carries a Create out tells its address, slots,
+ * vector and interrupt enable (nvmearb_asked); the device keeps them by the identifier of the queue, until the next
+ * Create of that identifier. The memory may be used again once the queue is deleted. capi/examples/nvme.c does this.
+ * After nvmearb_ctrl_init a Create names a region that was added before, by nvmearb_ctrl_add_sq_region or
+ * nvmearb_ctrl_add_cq_region, that no queue has used, and that has exactly QSIZE + 1 slots. There are
+ * NVMEARB_MAX_REGIONS of a kind, and no two have one address. What docs/PROVED.md says of the log of a controller holds
+ * as long as no Create that was picked before named the address of a region that is added. capi/examples/device.c does
+ * this.
  *
  * Holding a queue. While a device can't serve a queue, say since a namespace of it is busy, nvmearb_ctrl_hold leaves it
  * out of arbitration, and the others go on. nvmearb_ctrl_set_class gives it another priority class.
@@ -78,15 +79,14 @@
  *     zeros have none. nvmearb_ctrl_verify finds most of what was written there.
  *   - It reads no slot of a ring but the one that nvmearb_ctrl_fetch tells, and posts no completion but those of
  *     nvmearb_ctrl_post. A ring of `slots` slots has 64 or 16 bytes for each, from the address of its region on.
- *   - It keeps the interrupt vector and enable bit of a Create (its Command Dword 11), if it has interrupts.
+ *   - It keeps the address of each queue, and the interrupt vector and enable bit, as the step of its Create tells.
  *
  * An admin command that is neither the controller's own nor the device's is answered with 0/01, Invalid Command Opcode,
  * and Set and Get Features of such a feature identifier with 0/02, Invalid Field in Command.
  *
- * Restrictions. A Create is accepted only for a region that was added before, that no queue has used, and that has
- * exactly QSIZE + 1 slots; PC must be 1. So CAP.MQES is at most 4095, and CAP.CQR is 1. There are at most
- * NVMEARB_MAX_REGIONS of a kind until the next nvmearb_ctrl_init, and no two have one address. At most 256 commands are
- * picked and have no completion posted; an Asynchronous Event Request that the device holds is one of them.
+ * Restrictions. PC must be 1, and a ring has at most 4096 slots. So CAP.MQES is at most 4095, and CAP.CQR is 1. At most
+ * 256 commands are picked and have no completion posted; an Asynchronous Event Request that the device holds is one of
+ * them.
  *
  * Save and restore. A controller and its slots are numbers without a pointer, so both together may be moved, or saved
  * as bytes and restored by the same version of the library, if what is restored takes the place of the first.
@@ -407,7 +407,7 @@ typedef struct nvmearb_answer {
     uint32_t dw0;          /* Command Dword 0 of its completion; NVMEARB_ABORT: 0, and the caller decides */
     uint32_t cdw11;        /* NVMEARB_SET_ARBITRATION: the settings, with bits 07:03 as 0 */
     uint16_t qid;          /* the queue identifier; NVMEARB_ABORT: SQID, the command's submission queue */
-    uint16_t region;       /* NVMEARB_OPEN_SQ, NVMEARB_OPEN_CQ: the number of its region */
+    uint16_t region;       /* NVMEARB_OPEN_SQ, NVMEARB_OPEN_CQ: the number of its region; anywhere, its identifier */
     uint16_t cqid;         /* NVMEARB_OPEN_SQ: its completion queue */
     uint16_t priority;     /* NVMEARB_OPEN_SQ: NVMEARB_URGENT .. NVMEARB_LOW */
     nvmearb_status status; /* the status of its completion */
@@ -426,7 +426,8 @@ typedef struct nvmearb_queue {
  * A slot of a controller: it holds one command from its fetch until its completion is posted, and its number is the
  * command's tag. The caller keeps an array of them, whose content is the library's. Nothing is fetched while none is
  * free. With `window` slots for each submission region, the admin queue's included, and 256 more, one is free for each
- * command that may be fetched otherwise, while no queue is being deleted. With fewer, commands of one queue may keep
+ * command that may be fetched otherwise, while no queue is being deleted. Where queues may lie anywhere, take `window`
+ * slots for each queue that may be open; that these suffice isn't proved. With fewer, commands of one queue may keep
  * those of another from being fetched. Commands that a deletion drops hold their slots until their completions are
  * posted.
  */
@@ -445,7 +446,7 @@ typedef struct nvmearb_slot {
 typedef struct nvmearb_ctrl {
     uint64_t mark;
     size_t count; /* the number of its slots */
-    uint64_t words[762];
+    uint64_t words[748];
 } nvmearb_ctrl;
 
 /* What a controller is made with. */
@@ -456,6 +457,21 @@ typedef struct nvmearb_config {
     uint16_t nsq, ncq;       /* the most I/O submission and completion queues, 1 to NVMEARB_MAX_IO_QUEUES */
     uint16_t window;         /* the most commands of a queue that are fetched and not picked; above 256 it is 256 */
 } nvmearb_config;
+
+/* What a Create command may ask for where queues may lie anywhere in memory. */
+typedef struct nvmearb_placement {
+    uint32_t page;    /* the memory page in bytes (CC.MPS), 1 or more: PRP1 is a multiple of it */
+    uint16_t mqes;    /* the largest QSIZE, which is zero based (CAP.MQES) */
+    uint16_t vectors; /* the number of interrupt vectors: IV is below it */
+} nvmearb_placement;
+
+/* What a Create command asks for. */
+typedef struct nvmearb_asked {
+    uint64_t address;    /* PRP1: where the ring lies */
+    uint16_t qsize;      /* QSIZE: its slots less 1 */
+    uint16_t vector;     /* IV of a completion queue */
+    uint16_t interrupts; /* IEN of a completion queue: 1 or 0 */
+} nvmearb_asked;
 
 /* The kinds of steps. */
 #define NVMEARB_PICKED 1u      /* commands of an I/O queue were picked: nvmearb_ctrl_take gives them */
@@ -471,6 +487,8 @@ typedef struct nvmearb_step {
      */
     nvmearb_answer answer;
     nvmearb_pick pick; /* NVMEARB_PICKED and NVMEARB_PASSED: the queue, and how many of its commands */
+    /* NVMEARB_CARRIED_OUT, where `answer` is NVMEARB_OPEN_SQ or NVMEARB_OPEN_CQ: what the Create asked for. */
+    nvmearb_asked asked;
 } nvmearb_step;
 
 /* A command that the device has. */
@@ -483,7 +501,8 @@ typedef struct nvmearb_command {
 /*
  * The marks of a completion, beside its status: bits 31 and 30 of Command Dword 3. A host that finds Do Not Retry
  * doesn't submit the same command again; without it Linux submits a failing Read six times. What a controller answers
- * itself has Do Not Retry for the statuses 0/01, 0/02, 0/0c, 1/00, 1/01, 1/02 and 1/0d, for no other, and never More.
+ * itself has Do Not Retry for the statuses 0/01, 0/02, 0/0c, 0/13, 1/00, 1/01, 1/02, 1/08 and 1/0d, for no other, and
+ * never More.
  */
 #define NVMEARB_DNR 1u  /* Do Not Retry */
 #define NVMEARB_MORE 2u /* More: the Error Information log page has more of the command */
@@ -695,8 +714,18 @@ uint32_t nvmearb_table_settings(const nvmearb_table *table, nvmearb_settings *se
 uint32_t nvmearb_ctrl_init(nvmearb_ctrl *ctrl, nvmearb_slot *slots, size_t count, const nvmearb_config *config);
 
 /*
+ * Initialises a controller as nvmearb_ctrl_init does, but one whose queues may lie anywhere in memory. A Create is
+ * refused with 1/02, Invalid Queue Size, if QSIZE is above `mqes` or 4095; with 0/13, PRP Offset Invalid, if PRP1 isn't
+ * a multiple of the page; and with 1/08, Invalid Interrupt Vector, if IV isn't below `vectors`, whatever IEN.
+ * NVMEARB_EARG as nvmearb_ctrl_init, and if `page` is 0; otherwise NVMEARB_ESIZE if `asq` or `acq` doesn't have 2 to
+ * 4096 slots. Their addresses are not compared.
+ */
+uint32_t nvmearb_ctrl_init_anywhere(nvmearb_ctrl *ctrl, nvmearb_slot *slots, size_t count, const nvmearb_config *config,
+                                    const nvmearb_placement *placement);
+
+/*
  * Adds a submission region, which a Create I/O Submission Queue may name, and writes its number. Otherwise as
- * nvmearb_table_add_sq_region, whose refusals it has.
+ * nvmearb_table_add_sq_region, whose refusals it has. NVMEARB_EMANY if queues may lie anywhere.
  */
 uint32_t nvmearb_ctrl_add_sq_region(nvmearb_ctrl *ctrl, uint64_t address, uint16_t slots, uint16_t *number);
 
@@ -811,17 +840,16 @@ uint32_t nvmearb_ctrl_complete_with(nvmearb_ctrl *ctrl, nvmearb_slot *slots, siz
                                     const nvmearb_status *status, uint32_t dw0, uint8_t marks);
 
 /*
- * Writes the completion that became ready first in a completion region, which goes into `slot` of its ring. The region
- * of a completion queue is what nvmearb_ctrl_cq tells for its CQID; that of the admin completion queue is 0.
- * NVMEARB_ESTATE, NVMEARB_EARG as nvmearb_ctrl_fetched; NVMEARB_EARG too if `region` is NVMEARB_MAX_REGIONS or more;
- * otherwise NVMEARB_NONE if none is ready, or the host has freed no slot of the ring.
+ * Writes the completion that became ready first in the completion queue `cqid`, which goes into `slot` of its ring.
+ * NVMEARB_ESTATE, NVMEARB_EARG as nvmearb_ctrl_fetched; otherwise NVMEARB_NONE if the queue isn't open, if none is
+ * ready, or if the host has freed no slot of the ring.
  */
-uint32_t nvmearb_ctrl_post(nvmearb_ctrl *ctrl, nvmearb_slot *slots, size_t count, uint16_t region, nvmearb_post *post);
+uint32_t nvmearb_ctrl_post(nvmearb_ctrl *ctrl, nvmearb_slot *slots, size_t count, uint16_t cqid, nvmearb_post *post);
 
 /*
  * Finishes a deletion of a submission queue, all of whose commands have their completions posted, and writes its
- * identifier, which is free then. The completion of the Delete is ready then. Of several it is that of the first
- * region.
+ * identifier, which is free then. The completion of the Delete is ready then. Of several it is the first one by
+ * identifier.
  * NVMEARB_ESTATE, NVMEARB_EARG as nvmearb_ctrl_fetched; otherwise NVMEARB_NONE if of each queue that is being deleted a
  * command that was fetched has no completion posted yet.
  */
@@ -844,13 +872,13 @@ uint32_t nvmearb_ctrl_named(const nvmearb_ctrl *ctrl, const nvmearb_slot *slots,
                             uint16_t cid, uint16_t *tag);
 
 /*
- * Writes the number of the region of a submission queue.
+ * Writes the number of the region of a submission queue; where queues may lie anywhere, it is `qid`.
  * NVMEARB_ESTATE if `ctrl` isn't valid; otherwise NVMEARB_NONE if the queue isn't open or is closing.
  */
 uint32_t nvmearb_ctrl_sq(const nvmearb_ctrl *ctrl, uint16_t qid, uint16_t *region);
 
 /*
- * Writes the number of the region of a completion queue.
+ * Writes the number of the region of a completion queue; where queues may lie anywhere, it is `cqid`.
  * NVMEARB_ESTATE if `ctrl` isn't valid; otherwise NVMEARB_NONE if the queue isn't open.
  */
 uint32_t nvmearb_ctrl_cq(const nvmearb_ctrl *ctrl, uint16_t cqid, uint16_t *region);

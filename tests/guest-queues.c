@@ -14,8 +14,8 @@
 
 #define FIRST_OWN 3 /* the queues that Linux makes and never uses: those of its polls but the first */
 #define OWN 3
-#define ROUNDS 50         /* between resets: a ring is added for each Create, and there are 65 of a kind until the next */
-#define ALL_ROUNDS 200
+#define ROUNDS 300        /* more than there are identifiers, and the rings lie in the same memory */
+#define REMADE 50
 #define BURST 8           /* of a pick, at first */
 #define DATA (256 * PAGE) /* where data is in the memory of these queues; rings are before it */
 
@@ -171,15 +171,11 @@ static void one_round(unsigned *aborted)
 
 void rounds(void)
 {
-    unsigned aborted = 0, resets = 0;
-    for (unsigned made = 0; made < ALL_ROUNDS; made++) {
-        if (made % ROUNDS == 0) {
-            begin_anew();
-            resets++;
-        }
+    unsigned aborted = 0;
+    begin_anew();
+    for (unsigned made = 0; made < ROUNDS; made++)
         one_round(&aborted);
-    }
-    good("%u queues made, used and deleted over %u resets, %u commands answered 0/08", ALL_ROUNDS, resets, aborted);
+    good("%u queues made, used and deleted without a reset, %u commands answered 0/08", ROUNDS, aborted);
 }
 
 void own_aborts(void)
@@ -463,7 +459,7 @@ void mixture(void)
             submit(u);
         else if (what < 90)
             abort_one(u);
-        else if (what < 92 && remade < ROUNDS) {
+        else if (what < 92 && remade < REMADE) {
             remake(&cq, uses, u);
             remade++;
         } else if (what < 95)

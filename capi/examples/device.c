@@ -105,12 +105,15 @@ static int work(struct device *d)
     return did;
 }
 
-/* Writes the completions of a completion region, and would send the interrupt. */
-static int post(struct device *d, uint16_t region)
+/* Writes the completions of a completion queue, and would send the interrupt. */
+static int post(struct device *d, uint16_t cqid)
 {
     int did = 0;
+    uint16_t region;
     nvmearb_post post;
-    for (; nvmearb_ctrl_post(&d->ctrl, d->slots, COMMANDS, region, &post) == NVMEARB_OK; did = 1) {
+    if (nvmearb_ctrl_cq(&d->ctrl, cqid, &region) != NVMEARB_OK)
+        return 0;
+    for (; nvmearb_ctrl_post(&d->ctrl, d->slots, COMMANDS, cqid, &post) == NVMEARB_OK; did = 1) {
         uint8_t *entry = memory + cq_address[region] + post.slot * NVMEARB_CQE_BYTES;
         memcpy(entry, post.bytes, 12);
         /* a host on another thread wants a release barrier here: Command Dword 3 has the phase tag */

@@ -5,6 +5,7 @@
 #include <string.h>
 
 #define PAGE 4096u
+#define MQES 4095 /* the largest QSIZE */
 
 /* The registers, by their number of four bytes, and bits of CSTS. */
 enum { CAP_LOW, CAP_HIGH, VS, INTMS, INTMC, CC, CSTS = 7, AQA = 9, ASQ, ASQ_HIGH, ACQ, ACQ_HIGH };
@@ -150,51 +151,27 @@ static void start(struct nvme *d, const nvmearb_command *command)
 
 /* ---- Rings ---- */
 
-/*
- * Until a Create may name any address: adds a region for its ring under a token, which it puts into the copy of the
- * entry. A Create that no region can be added for is left to the controller under an address that is used, so that it
- * is refused.
- */
-static void place(struct nvme *d, uint8_t *bytes)
+/* A queue was created: its ring, by its identifier. */
+static void open_ring(struct nvme *d, const nvmearb_answer *made, const nvmearb_asked *asked)
 {
-    nvmearb_admin it;
-    nvmearb_sqe entry;
-    nvmearb_sqe_decode(bytes, &entry);
-    nvmearb_admin_of(&entry, &it);
-    int is_sq = it.kind == NVMEARB_ADMIN_CREATE_SQ;
-    uint64_t token = (1ull << 63) + d->tokens * PAGE;
-    uint16_t region, slots = (uint16_t)(it.qsize + 1);
-    if ((!is_sq && it.kind != NVMEARB_ADMIN_CREATE_CQ) || entry.prp1 % PAGE)
-        return;
-    uint32_t told = is_sq ? nvmearb_ctrl_add_sq_region(&d->ctrl, token, slots, &region)
-                          : nvmearb_ctrl_add_cq_region(&d->ctrl, token, slots, &region);
-    if (told != NVMEARB_OK) {
-        entry.prp1 = d->sqs[0].address; /* no host may name a later token */
-        nvmearb_sqe_encode(&entry, bytes);
-        return;
-    }
-    d->tokens++;
-    (is_sq ? d->sqs : d->cqs)[region] =
-        (struct nvme_ring){entry.prp1, slots, 0, 0, (uint16_t)(entry.cdw11 >> 16), entry.cdw11 >> 1 & 1};
-    entry.prp1 = token;
-    nvmearb_sqe_encode(&entry, bytes);
+    struct nvme_ring *ring = (made->verdict == NVMEARB_OPEN_SQ ? d->sqs : d->cqs) + made->qid;
+    *ring = (struct nvme_ring){.address = asked->address,
+                               .slots = (uint16_t)(asked->qsize + 1),
+                               .vector = asked->vector,
+                               .has_interrupt = (uint8_t)asked->interrupts};
 }
 
 static void fetch(struct nvme *d, uint16_t qid)
 {
-    uint16_t slot, region;
+    uint16_t slot;
     uint8_t bytes[NVMEARB_SQE_BYTES]; /* a copy: the host may write there */
-    if (nvmearb_ctrl_sq(&d->ctrl, qid, &region) != NVMEARB_OK)
-        return;
     while (nvmearb_ctrl_fetch(&d->ctrl, qid, &slot) == NVMEARB_OK) {
-        const void *at = memory(d, d->sqs[region].address + slot * sizeof bytes, sizeof bytes);
+        const void *at = memory(d, d->sqs[qid].address + slot * sizeof bytes, sizeof bytes);
         if (!at) {
             d->registers[CSTS] |= CFS;
             return;
         }
         memcpy(bytes, at, sizeof bytes);
-        if (qid == 0)
-            place(d, bytes);
         nvmearb_ctrl_fetched(&d->ctrl, d->slots, NVME_COMMANDS, qid, bytes, qid);
     }
 }
@@ -209,8 +186,8 @@ static uint32_t post(struct nvme *d, uint16_t cqid, int *has_posted)
     uint16_t region;
     if (nvmearb_ctrl_cq(&d->ctrl, cqid, &region) != NVMEARB_OK)
         return 0;
-    struct nvme_ring *ring = &d->cqs[region];
-    while (nvmearb_ctrl_post(&d->ctrl, d->slots, NVME_COMMANDS, region, &it) == NVMEARB_OK) {
+    struct nvme_ring *ring = &d->cqs[cqid];
+    while (nvmearb_ctrl_post(&d->ctrl, d->slots, NVME_COMMANDS, cqid, &it) == NVMEARB_OK) {
         uint8_t *at = memory(d, ring->address + it.slot * sizeof it.bytes, sizeof it.bytes);
         d->aborted += (it.bytes[15] << 8 | it.bytes[14]) >> 1 == NVMEARB_SC_ABORT_REQUESTED;
         if (!at) {
@@ -243,6 +220,16 @@ static void set_priority(struct nvme *d, uint16_t qid)
         nvmearb_ctrl_set_class(&d->ctrl, qid, d->priorities[qid]);
 }
 
+/* An admin command was carried out: a queue that it created has its ring, and its priority. */
+static void opened(struct nvme *d, const nvmearb_step *step)
+{
+    uint32_t did = step->answer.verdict;
+    if (did == NVMEARB_OPEN_SQ || did == NVMEARB_OPEN_CQ)
+        open_ring(d, &step->answer, &step->asked);
+    if (did == NVMEARB_OPEN_SQ)
+        set_priority(d, step->answer.qid);
+}
+
 /* Executes what arbitration picks. Returns whether it picked anything. */
 static int work(struct nvme *d)
 {
@@ -251,8 +238,8 @@ static int work(struct nvme *d)
     int has_picked = 0;
     while (is_due(d) && nvmearb_ctrl_pick(&d->ctrl, d->slots, NVME_COMMANDS, &step) == NVMEARB_OK) {
         has_picked = 1;
-        if (step.kind == NVMEARB_CARRIED_OUT && step.answer.verdict == NVMEARB_OPEN_SQ)
-            set_priority(d, step.answer.qid);
+        if (step.kind == NVMEARB_CARRIED_OUT)
+            opened(d, &step);
         if (d->rate && step.kind == NVMEARB_PICKED && step.pick.qid != 0)
             d->due = (d->due + 10000000 > d->now ? d->due : d->now) + step.pick.n * 1000000000ull / d->rate;
         while (nvmearb_ctrl_take(&d->ctrl, d->slots, NVME_COMMANDS, &command) == NVMEARB_OK)
@@ -293,11 +280,13 @@ static void enable(struct nvme *d, uint32_t cc)
     nvmearb_region acq = {(uint64_t)r[ACQ_HIGH] << 32 | r[ACQ], (uint16_t)((r[AQA] >> 16 & 0xfff) + 1)};
     uint32_t ams = cc >> 11 & 7, mechanism = d->is_weighted || ams ? NVMEARB_WEIGHTED : NVMEARB_ROUND_ROBIN;
     nvmearb_config config = {asq, acq, mechanism, NVME_ARBITRATION, NVME_QUEUES, NVME_QUEUES, 256};
+    nvmearb_placement placement = {PAGE, MQES, NVME_VECTORS};
     d->sqs[0] = (struct nvme_ring){asq.address, asq.slots, 0, 0, 0, 0};
     d->cqs[0] = (struct nvme_ring){acq.address, acq.slots, 0, 0, 0, 1};
     d->resets++;
     d->registers[CSTS] = CFS; /* unless all is as CAP allows: CSS and MPS are 0, AMS is 0 or 1 */
-    if (cc & 0x7f0 || ams > 1 || nvmearb_ctrl_init(&d->ctrl, d->slots, NVME_COMMANDS, &config) != NVMEARB_OK)
+    if (cc & 0x7f0 || ams > 1 ||
+        nvmearb_ctrl_init_anywhere(&d->ctrl, d->slots, NVME_COMMANDS, &config, &placement) != NVMEARB_OK)
         return;
     nvme_own(d);
     d->registers[CSTS] = RDY;
@@ -309,7 +298,7 @@ static void reset(struct nvme *d)
     memset(&d->ctrl, 0, sizeof d->ctrl); /* the library refuses every call on zeros */
     d->registers[CSTS] = d->masked = 0;
     d->held_count = d->pending = d->is_told = 0;
-    d->tokens = d->due = 0;
+    d->due = 0;
     for (uint32_t fid = 0; fid < 16; fid++)
         d->features[fid] = nvme_feature_default(fid, 0);
 }
@@ -317,10 +306,10 @@ static void reset(struct nvme *d)
 /* The doorbells of a queue are one after the other, that of its submission queue first. */
 static void ring_doorbell(struct nvme *d, uint64_t index, uint32_t value)
 {
-    uint16_t qid = (uint16_t)(index / 2), to = (uint16_t)value, region;
+    uint16_t qid = (uint16_t)(index / 2), to = (uint16_t)value;
     uint32_t told = index % 2 ? nvmearb_ctrl_cq_head(&d->ctrl, qid, to) : nvmearb_ctrl_sq_tail(&d->ctrl, qid, to);
-    if (told == NVMEARB_OK && index % 2 && nvmearb_ctrl_cq(&d->ctrl, qid, &region) == NVMEARB_OK)
-        d->cqs[region].head = to;
+    if (told == NVMEARB_OK && index % 2)
+        d->cqs[qid].head = to;
     if (told == NVMEARB_NONE || told == NVMEARB_EARG)
         note_error(d, qid, told == NVMEARB_NONE ? INVALID_REGISTER : INVALID_VALUE);
 }
@@ -381,7 +370,7 @@ void nvme_init(struct nvme *d, const struct nvme_host *host)
 {
     d->host = *host;
     /* CAP: 4096 slots, contiguous queues, weighted round robin, ready within 10 seconds, the NVM command set. */
-    d->registers[CAP_LOW] = 4095 | 1u << 16 | 1u << 17 | 20u << 24;
+    d->registers[CAP_LOW] = MQES | 1u << 16 | 1u << 17 | 20u << 24;
     d->registers[CAP_HIGH] = 1u << 5;
     d->registers[VS] = 0x10400;
     reset(d);

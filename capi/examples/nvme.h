@@ -11,6 +11,7 @@
 #define NVME_QUEUES NVMEARB_MAX_IO_QUEUES             /* the most I/O queues of a kind */
 #define NVME_COMMANDS ((NVME_QUEUES + 1) * 256 + 256) /* the slots of the controller */
 #define NVME_NAMESPACES 2
+#define NVME_VECTORS 1               /* the interrupt vectors: that of a pin */
 #define NVME_BAR_BYTES 0x4000        /* the size of the registers, doorbells included */
 #define NVME_ARBITRATION 0x07030103u /* after a reset: burst 8; weights: high 8, medium 4, low 2 */
 #define NVME_EVENT_REQUEST 0x0cu     /* the opcode of Asynchronous Event Request */
@@ -55,8 +56,8 @@ struct nvme {
     /* The device's own. */
     nvmearb_ctrl ctrl;
     nvmearb_slot slots[NVME_COMMANDS];
-    struct nvme_ring sqs[NVMEARB_MAX_REGIONS], cqs[NVMEARB_MAX_REGIONS]; /* by region */
-    uint64_t tokens, now, due;
+    struct nvme_ring sqs[NVME_QUEUES + 1], cqs[NVME_QUEUES + 1]; /* by identifier */
+    uint64_t now, due;
     uint32_t registers[16], masked, asserted, features[16];
     uint16_t held[4], held_count; /* Asynchronous Event Requests */
     uint8_t pending, is_told;     /* error events; whether one was told and the log not read since */

@@ -596,19 +596,16 @@ static void completion(const struct command *it, uint8_t *bytes)
 
 static int posts(void)
 {
-    uint16_t region = (uint16_t)upto(account.ncqs), number;
-    for (int k = 0; k < 8 && account.cqs[region].ready.n == 0; k++)
-        region = (uint16_t)upto(account.ncqs);
-    region = upto(60) ? region : (uint16_t)upto(0x10000);
-    struct cq *cq = &account.cqs[region % NVMEARB_MAX_REGIONS];
+    uint16_t cqid = draw_qid(), number;
+    struct cq *cq = open_cq(cqid);
+    for (int k = 0; k < 8 && (!cq || cq->ready.n == 0); k++)
+        cqid = draw_qid(), cq = open_cq(cqid);
     uint8_t bytes[NVMEARB_CQE_BYTES];
     nvmearb_post found;
     uint32_t want = NVMEARB_OK;
-    if (region >= NVMEARB_MAX_REGIONS)
-        want = NVMEARB_EARG;
-    else if (cq->ready.n == 0 || cq->posted + 1 >= cq->consumed + cq->slots)
+    if (!cq || cq->ready.n == 0 || cq->posted + 1 >= cq->consumed + cq->slots)
         want = NVMEARB_NONE;
-    if (!is_right(nvmearb_ctrl_post(CTRL, POOL, region, &found), want))
+    if (!is_right(nvmearb_ctrl_post(CTRL, POOL, cqid, &found), want))
         return 0;
     if (want != NVMEARB_OK)
         return 1;
@@ -627,16 +624,17 @@ static int posts(void)
     return 1;
 }
 
-/* The deletion of the first region that has one whose commands are all posted is finished. */
+/* The deletion of the first queue whose commands are all posted is finished. */
 static int finishes(void)
 {
     uint16_t found = 0xffff;
-    struct sq *sq = account.sqs, *end = sq + NVMEARB_MAX_REGIONS;
-    while (sq < end && (sq->deleting == NO_COMMAND || sq->unposted))
-        sq++;
-    if (!is_right(nvmearb_ctrl_finish(CTRL, POOL, &found), sq < end ? NVMEARB_OK : NVMEARB_NONE))
+    struct sq *sq = NULL;
+    for (struct sq *it = account.sqs; it < account.sqs + NVMEARB_MAX_REGIONS; it++)
+        if (it->deleting != NO_COMMAND && it->unposted == 0 && (!sq || it->closing < sq->closing))
+            sq = it;
+    if (!is_right(nvmearb_ctrl_finish(CTRL, POOL, &found), sq ? NVMEARB_OK : NVMEARB_NONE))
         return 0;
-    if (sq == end)
+    if (!sq)
         return 1;
     answered(sq->deleting, (nvmearb_status){0, 0}, 0);
     sq->deleting = NO_COMMAND;

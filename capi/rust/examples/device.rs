@@ -101,10 +101,11 @@ impl Device {
         did
     }
 
-    /// Writes the completions of a completion region, and would send the interrupt.
-    fn post(&mut self, region: u16) -> bool {
+    /// Writes the completions of a completion queue, and would send the interrupt.
+    fn post(&mut self, cqid: u16) -> bool {
         let mut did = false;
-        while let Ok(Some(post)) = self.ctrl.post(region) {
+        let Some(region) = self.ctrl.cq(cqid) else { return false };
+        while let Some(post) = self.ctrl.post(cqid) {
             did = true;
             let entry = &mut self.memory[place(CQS[usize::from(region)], post.slot, CQE_BYTES)];
             entry[..12].copy_from_slice(&post.bytes[..12]);

@@ -39,6 +39,43 @@ impl Config {
     }
 }
 
+/// What a Create may ask for where queues may lie anywhere in memory.
+#[derive(Clone, Copy, Debug, PartialEq, Eq, Hash)]
+pub struct Placement {
+    /// The memory page in bytes (CC.MPS), 1 or more: PRP1 is a multiple of it.
+    pub page: u32,
+    /// The largest QSIZE, which is zero based (CAP.MQES).
+    pub mqes: u16,
+    /// The number of interrupt vectors: IV is below it.
+    pub vectors: u16,
+}
+
+impl Placement {
+    fn fields(&self) -> sys::nvmearb_placement {
+        sys::nvmearb_placement { page: self.page, mqes: self.mqes, vectors: self.vectors }
+    }
+}
+
+/// What a Create asks for.
+#[derive(Clone, Copy, Debug, Default, PartialEq, Eq, Hash)]
+pub struct Asked {
+    /// PRP1: where the ring lies.
+    pub address: u64,
+    /// QSIZE: its slots less 1.
+    pub qsize: u16,
+    /// IV of a completion queue.
+    pub vector: u16,
+    /// IEN of a completion queue.
+    pub interrupts: bool,
+}
+
+impl Asked {
+    fn of(fields: &sys::nvmearb_asked) -> Asked {
+        let sys::nvmearb_asked { address, qsize, vector, interrupts } = *fields;
+        Asked { address, qsize, vector, interrupts: interrupts != 0 }
+    }
+}
+
 /// What a pick did.
 #[derive(Clone, Copy, Debug, PartialEq, Eq, Hash)]
 pub enum Step {
@@ -46,8 +83,9 @@ pub enum Step {
     Picked(Pick),
     /// A command of the admin queue was picked and carried out, and came to this. The caller needs to do nothing for it
     /// but to end a deletion ([`Verdict::BeginDelete`](crate::Verdict::BeginDelete), by [`Controller::finish`]). Its
-    /// completion becomes ready by itself.
-    CarriedOut(Answer),
+    /// completion becomes ready by itself. Of a Create, it tells what that asked for; of any other command this has no
+    /// meaning.
+    CarriedOut(Answer, Asked),
     /// A command of the admin queue was picked that is the device's ([`Controller::own_opcode`],
     /// [`Controller::own_feature`]): [`Controller::take`] gives it.
     Passed(Pick),
@@ -57,7 +95,7 @@ impl Step {
     fn of(fields: &sys::nvmearb_step) -> Step {
         match fields.kind {
             sys::NVMEARB_PICKED => Step::Picked(Pick::of(&fields.pick)),
-            sys::NVMEARB_CARRIED_OUT => Step::CarriedOut(Answer::of(&fields.answer)),
+            sys::NVMEARB_CARRIED_OUT => Step::CarriedOut(Answer::of(&fields.answer), Asked::of(&fields.asked)),
             sys::NVMEARB_PASSED => Step::Passed(Pick::of(&fields.pick)),
             kind => panic!("libnvmearb told a step of the kind {kind}, which can't be"),
         }
@@ -131,8 +169,9 @@ impl Post {
 ///
 /// The order of calls:
 ///
-/// 1. When the host enables the controller (CC.EN), [`Controller::new`] or [`Controller::reset`] with the admin queues,
-///    and then [`Controller::add_sq_region`] and [`Controller::add_cq_region`] for each ring that a Create may name.
+/// 1. When the host enables the controller (CC.EN), [`Controller::anywhere`] or [`Controller::reset_anywhere`] with the
+///    admin queues: the host may put its queues anywhere in memory. After [`Controller::new`] a Create names a ring that
+///    was added by [`Controller::add_sq_region`] or [`Controller::add_cq_region`].
 /// 2. [`Controller::own_opcode`] and [`Controller::own_feature`] for the admin commands that the device answers itself,
 ///    such as Identify.
 /// 3. At each doorbell write [`Controller::sq_tail`] or [`Controller::cq_head`].
@@ -141,7 +180,7 @@ impl Post {
 ///    until that picks nothing either.
 /// 6. [`Controller::complete`] or [`Controller::complete_with`] for each command that ends, in any order and at any
 ///    time.
-/// 7. For each completion region, while [`Controller::post`] gives a completion: write it into the slot of the ring,
+/// 7. For each completion queue, while [`Controller::post`] gives a completion: write it into the slot of the ring,
 ///    and then send the interrupt.
 /// 8. After a pick that began a deletion, [`Controller::finish`] at once and after each 7., while it ends one. Until then
 ///    nothing is fetched or picked of that queue, and a Delete of its completion queue is refused with
@@ -177,7 +216,7 @@ impl Post {
 /// assert_eq!(ctrl.fetch(0), Some(0)); // its entry is in slot 0
 /// ctrl.fetched(0, &entry.to_bytes(), 0)?;
 /// ctrl.pick()?; // the controller carries it out
-/// let post = ctrl.post(0)?.expect("its completion is ready");
+/// let post = ctrl.post(0).expect("its completion is ready");
 /// assert_eq!((post.slot, Cqe::from_bytes(&post.bytes)?.dw0), (0, 7));
 /// # Ok::<(), Box<dyn std::error::Error>>(())
 /// ```
@@ -205,14 +244,19 @@ impl Controller {
     ///
     /// If the library isn't of this crate's version.
     pub fn new(config: &Config, slots: usize) -> Result<Controller, Error> {
+        let mut controller = Controller::with_slots(slots)?;
+        controller.reset(config)?;
+        Ok(controller)
+    }
+
+    // One that isn't made yet.
+    fn with_slots(slots: usize) -> Result<Controller, Error> {
         check_version();
         if slots > MAX_SLOTS {
             return Err(Error::Argument); // (before that much memory is asked for)
         }
         let slots = vec![nvmearb_slot::default(); slots].into_boxed_slice();
-        let mut controller = Controller { ctrl: Box::default(), slots, one_caller: OneCaller::default() };
-        controller.reset(config)?;
-        Ok(controller)
+        Ok(Controller { ctrl: Box::default(), slots, one_caller: OneCaller::default() })
     }
 
     /// Makes the controller anew with the slots that it has, as at a controller reset: nothing of before is left.
@@ -223,10 +267,36 @@ impl Controller {
         checked(unsafe { sys::nvmearb_ctrl_init(ctrl, slots, count, &config.fields()) })
     }
 
+    /// A controller whose queues may lie anywhere in memory, as [`Controller::new`] makes one whose queues lie on
+    /// regions. A Create is refused with 1/02 if QSIZE is above `mqes`, with 0/13 if PRP1 isn't a multiple of the page,
+    /// and with 1/08 if IV isn't below `vectors`.
+    ///
+    /// [`Error::Argument`]: as [`Controller::new`], and if `page` is 0. Otherwise [`Error::Size`]: `asq` or `acq`
+    /// doesn't have 2 to 4096 slots.
+    ///
+    /// # Panics
+    ///
+    /// If the library isn't of this crate's version.
+    pub fn anywhere(config: &Config, placement: &Placement, slots: usize) -> Result<Controller, Error> {
+        let mut controller = Controller::with_slots(slots)?;
+        controller.reset_anywhere(config, placement)?;
+        Ok(controller)
+    }
+
+    /// Makes the controller anew as [`Controller::anywhere`], with the slots that it has. Refused as that, and then the
+    /// controller is as it was.
+    pub fn reset_anywhere(&mut self, config: &Config, placement: &Placement) -> Result<(), Error> {
+        let (ctrl, slots, count) = self.parts();
+        let (config, placement) = (config.fields(), placement.fields());
+        // SAFETY: references.
+        checked(unsafe { sys::nvmearb_ctrl_init_anywhere(ctrl, slots, count, &config, &placement) })
+    }
+
     /// Adds a submission region, which a Create I/O Submission Queue may name, and answers its number.
     ///
     /// The first of these: [`Error::Used`]: a region of either kind has this address. [`Error::TooMany`]: there are
-    /// [`MAX_REGIONS`](crate::MAX_REGIONS) submission regions. [`Error::Size`]: `slots` isn't 2 to 4096.
+    /// [`MAX_REGIONS`](crate::MAX_REGIONS) submission regions, or queues may lie anywhere. [`Error::Size`]: `slots` isn't
+    /// 2 to 4096.
     pub fn add_sq_region(&mut self, address: u64, slots: u16) -> Result<u16, Error> {
         // SAFETY: references.
         written(|number| unsafe { sys::nvmearb_ctrl_add_sq_region(&mut *self.ctrl, address, slots, number) })
@@ -368,20 +438,18 @@ impl Controller {
         checked(unsafe { sys::nvmearb_ctrl_complete_with(ctrl, slots, count, tag, &status, dw0, marks) })
     }
 
-    /// The completion that became ready first in a completion region. None if none is ready, or the host has freed no
-    /// slot of the ring.
-    ///
-    /// [`Error::Argument`]: `region` is [`MAX_REGIONS`](crate::MAX_REGIONS) or more.
-    pub fn post(&mut self, region: u16) -> Result<Option<Post>, Error> {
+    /// The completion that became ready first in the completion queue `cqid`. None if the queue isn't open, if none is
+    /// ready, or if the host has freed no slot of the ring.
+    pub fn post(&mut self, cqid: u16) -> Option<Post> {
         let (ctrl, slots, count) = self.parts();
         // SAFETY: references, and the slots are those of the state.
-        let post = found(|post| unsafe { sys::nvmearb_ctrl_post(ctrl, slots, count, region, post) })?;
-        Ok(post.as_ref().map(Post::of))
+        let post = sure(found(|post| unsafe { sys::nvmearb_ctrl_post(ctrl, slots, count, cqid, post) }));
+        post.as_ref().map(Post::of)
     }
 
     /// Finishes a deletion of a submission queue, all of whose commands have their completions posted, and answers its
-    /// identifier, which is free then. The completion of the Delete is ready then. Of several it is that of the first
-    /// region. None if of each queue that is being deleted a command that was fetched has no completion posted yet.
+    /// identifier, which is free then. The completion of the Delete is ready then. Of several it is the first one by
+    /// identifier. None if of each queue that is being deleted a command that was fetched has no completion posted yet.
     pub fn finish(&mut self) -> Option<u16> {
         let (ctrl, slots, count) = self.parts();
         // SAFETY: references, and the slots are those of the state.

@@ -300,7 +300,7 @@ pub const NVMEARB_MAX_SLOTS: usize = 65535;
 pub struct nvmearb_ctrl {
     pub mark: u64,
     pub count: usize,
-    pub words: [u64; 762],
+    pub words: [u64; 748],
 }
 
 #[repr(C)]
@@ -313,6 +313,23 @@ pub struct nvmearb_config {
     pub nsq: u16,
     pub ncq: u16,
     pub window: u16,
+}
+
+#[repr(C)]
+#[derive(Clone, Copy, Debug, Default, PartialEq, Eq)]
+pub struct nvmearb_placement {
+    pub page: u32,
+    pub mqes: u16,
+    pub vectors: u16,
+}
+
+#[repr(C)]
+#[derive(Clone, Copy, Debug, Default, PartialEq, Eq)]
+pub struct nvmearb_asked {
+    pub address: u64,
+    pub qsize: u16,
+    pub vector: u16,
+    pub interrupts: u16,
 }
 
 pub const NVMEARB_PICKED: u32 = 1;
@@ -328,6 +345,7 @@ pub struct nvmearb_step {
     pub kind: u32,
     pub answer: nvmearb_answer,
     pub pick: nvmearb_pick,
+    pub asked: nvmearb_asked,
 }
 
 #[repr(C)]
@@ -376,9 +394,11 @@ const _: () = {
     assert!(size_of::<nvmearb_answer>() == 24);
     assert!(size_of::<nvmearb_queue>() == 8);
     assert!(size_of::<nvmearb_slot>() == 80);
-    assert!(size_of::<nvmearb_ctrl>() == 6112);
+    assert!(size_of::<nvmearb_ctrl>() == 6000);
     assert!(size_of::<nvmearb_config>() == 48);
-    assert!(size_of::<nvmearb_step>() == 36);
+    assert!(size_of::<nvmearb_placement>() == 8);
+    assert!(size_of::<nvmearb_asked>() == 16);
+    assert!(size_of::<nvmearb_step>() == 56);
     assert!(size_of::<nvmearb_command>() == 72);
     assert!(size_of::<nvmearb_post>() == 24);
 };
@@ -426,6 +446,7 @@ extern "C" {
     pub fn nvmearb_table_settings(table: *const nvmearb_table, settings: *mut nvmearb_settings) -> u32;
 
     pub fn nvmearb_ctrl_init(ctrl: *mut nvmearb_ctrl, slots: *mut nvmearb_slot, count: usize, config: *const nvmearb_config) -> u32;
+    pub fn nvmearb_ctrl_init_anywhere(ctrl: *mut nvmearb_ctrl, slots: *mut nvmearb_slot, count: usize, config: *const nvmearb_config, placement: *const nvmearb_placement) -> u32;
     pub fn nvmearb_ctrl_add_sq_region(ctrl: *mut nvmearb_ctrl, address: u64, slots: u16, number: *mut u16) -> u32;
     pub fn nvmearb_ctrl_add_cq_region(ctrl: *mut nvmearb_ctrl, address: u64, slots: u16, number: *mut u16) -> u32;
     pub fn nvmearb_ctrl_own_opcode(ctrl: *mut nvmearb_ctrl, opcode: u8) -> u32;
@@ -441,7 +462,7 @@ extern "C" {
     pub fn nvmearb_ctrl_take(ctrl: *mut nvmearb_ctrl, slots: *mut nvmearb_slot, count: usize, command: *mut nvmearb_command) -> u32;
     pub fn nvmearb_ctrl_complete(ctrl: *mut nvmearb_ctrl, slots: *mut nvmearb_slot, count: usize, tag: u16, status: *const nvmearb_status, dw0: u32) -> u32;
     pub fn nvmearb_ctrl_complete_with(ctrl: *mut nvmearb_ctrl, slots: *mut nvmearb_slot, count: usize, tag: u16, status: *const nvmearb_status, dw0: u32, marks: u8) -> u32;
-    pub fn nvmearb_ctrl_post(ctrl: *mut nvmearb_ctrl, slots: *mut nvmearb_slot, count: usize, region: u16, post: *mut nvmearb_post) -> u32;
+    pub fn nvmearb_ctrl_post(ctrl: *mut nvmearb_ctrl, slots: *mut nvmearb_slot, count: usize, cqid: u16, post: *mut nvmearb_post) -> u32;
     pub fn nvmearb_ctrl_finish(ctrl: *mut nvmearb_ctrl, slots: *mut nvmearb_slot, count: usize, qid: *mut u16) -> u32;
     pub fn nvmearb_ctrl_command(ctrl: *const nvmearb_ctrl, slots: *const nvmearb_slot, count: usize, tag: u16, command: *mut nvmearb_command) -> u32;
     pub fn nvmearb_ctrl_named(ctrl: *const nvmearb_ctrl, slots: *const nvmearb_slot, count: usize, qid: u16, cid: u16, tag: *mut u16) -> u32;

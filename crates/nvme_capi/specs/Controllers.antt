@@ -6,15 +6,20 @@ use Rattle.nvme_arbiter.specs.Settings.{settings_of, class_of_number}
 use Rattle.nvme_arbiter.specs.declared.settings.Class.{Class}
 use Rattle.nvme_arbiter.specs.Layout.{mechanism_of}
 use Rattle.nvme_admin.specs.declared.limits.Limits.{Limits}
-use Rattle.nvme_admin.specs.declared.verdict.Verdict.{Verdict}
 use Rattle.nvme_log.specs.Rules.{FrontRules}
 use Rattle.nvme_log.specs.Answers.{Answer}
 use Rattle.nvme_ctrl.specs.Notes.{Notes}
 use Rattle.nvme_ctrl.specs.Standing.{Stands, IsController}
-use Rattle.nvme_ctrl.specs.Making.{first_rules}
+use Rattle.nvme_ctrl.specs.Making.{first_rules, anywhere_rules}
 use Rattle.nvme_ctrl.specs.Calls.{HasPosted}
 use Rattle.nvme_ctrl.specs.Posts.{IsPostOf}
-use Rattle.nvme_ctrl.specs.Steps.{HasCarriedOut}
+use Rattle.nvme_ctrl.specs.Steps.{HasDone}
+use Rattle.nvme_admin.specs.Effects.{verdict_in}
+use Rattle.nvme_admin.specs.Placing.{vector_of, interrupts_of}
+use Rattle.nvme_admin.specs.declared.effect.Effect.{Effect}
+use Rattle.nvme_entry.specs.declared.submission.Sqe.{Sqe}
+use Rattle.nvme_capi.specs.declared.ctrl.state.AskedFields.{AskedFields}
+use Rattle.nvme_capi.specs.declared.ctrl.state.PlacementFields.{PlacementFields}
 use Rattle.nvme_ctrl.specs.kept.Pool.{slot_at}
 use Rattle.nvme_ctrl.specs.declared.marks.Marks.{Marks}
 use Rattle.nvme_ctrl.specs.declared.slot.Slot.{Slot}
@@ -53,6 +58,13 @@ pub record IsMadeOf (f : ConfigFields) (sizes : List ℕ) (c : Controller) (slot
   pub ncq_is : limits.ncq ≡ f.ncq
   pub stands : Stands (first_rules (mechanism_of f.mechanism) (settings_of f.cdw11) limits f.asq f.acq sizes) false [] c slots
 
+-- so where queues may lie anywhere
+pub record IsMadeAnywhereOf (f : ConfigFields) (p : PlacementFields) (sizes : List ℕ) (c : Controller) (slots : List Slot) : Type 0 where
+  pub limits : Limits
+  pub nsq_is : limits.nsq ≡ f.nsq
+  pub ncq_is : limits.ncq ≡ f.ncq
+  pub stands : Stands (anywhere_rules (mechanism_of f.mechanism) (settings_of f.cdw11) limits (record { page = p.page; mqes = p.mqes; vectors = p.vectors }) f.asq f.acq sizes) false [] c slots
+
 -- ---- commands
 -- a command is the one in the slot of a tag, with what the caller keeps with it
 pub record IsCommandIn (slots : List Slot) (tag : ℕ) (f : CommandFields) : Type 0 where
@@ -60,11 +72,20 @@ pub record IsCommandIn (slots : List Slot) (tag : ℕ) (f : CommandFields) : Typ
   pub entry : f.entry ≡ (slot_at slots tag).entry
   pub cookie_is : f.cookie ≡ (slot_at slots tag).cookie
 
--- a command of the admin queue was picked and carried out, and what it came to is told
-pub record HasToldWhat (rules : FrontRules) (late : Bool) (notes : Notes) (told : AnswerFields) (c : Controller) (slots : List Slot) : Type 0 where
-  pub verdict : Verdict
-  pub told_is : told ≡ answer_of verdict
-  pub carried_out : HasCarriedOut rules late notes verdict c slots
+-- what a Create asks for: PRP1, QSIZE, which is zero based, IV and IEN. (Create I/O Submission Queue, Create I/O Completion Queue)
+pub record IsAsked (f : AskedFields) (entry : Sqe) : Type 0 where
+  pub address_is : f.address ≡ entry.prp1
+  pub qsize_is : f.qsize ≡ bits_of 31 16 entry.cdw10
+  pub vector_is : f.vector ≡ vector_of entry
+  pub interrupts_is : f.interrupts ≡ (if interrupts_of entry then 1 else 0)
+
+-- a command of the admin queue was picked and carried out, and what it came to is told, with what its entry asks for
+pub record HasToldWhat (rules : FrontRules) (late : Bool) (notes : Notes) (told : AnswerFields) (asked : AskedFields) (c : Controller) (slots : List Slot) : Type 0 where
+  pub effect : Effect
+  pub entry : Sqe
+  pub told_is : told ≡ answer_of (verdict_in effect)
+  pub asked_is : IsAsked asked entry
+  pub done : HasDone rules late notes effect entry c slots
 
 -- the priority class of an I/O queue that a number says: 1 urgent to 4 low
 abbrev pub io_class_of : ℕ → Option Class
@@ -95,12 +116,12 @@ pub record IsMarkedEntry (bytes : List ℕ) (entry : Cqe) (marks : Marks) : Type
   pub more : (if marks.more then 1 else 0) ≡ bits_of 30 30 (dword 3 bytes)
   pub do_not_retry : (if marks.do_not_retry then 1 else 0) ≡ bits_of 31 31 (dword 3 bytes)
 
--- the bytes of a completion queue entry are told that is posted to a region, and the slot of the ring that they go into
-pub record HasPostedBytes (rules : FrontRules) (late : Bool) (notes : Notes) (region : ℕ) (f : PostFields) (c : Controller) (slots : List Slot) : Type 0 where
+-- the bytes of a completion queue entry are told that is posted to a completion queue, and the slot of the ring that they go into
+pub record HasPostedBytes (rules : FrontRules) (late : Bool) (notes : Notes) (cqid : ℕ) (f : PostFields) (c : Controller) (slots : List Slot) : Type 0 where
   pub cqe : Cqe
   pub marks : Marks
   pub layout : IsMarkedEntry f.bytes cqe marks
-  pub posted : HasPosted rules late notes region f.slot cqe f.cookie marks c slots
+  pub posted : HasPosted rules late notes cqid f.slot cqe f.cookie marks c slots
 
 -- they are those of the command in the slot of the tag
 pub record IsPostIn (slots : List Slot) (f : PostFields) : Type 0 where

@@ -1,9 +1,11 @@
 // The commands of a controller of C: picks, what the device takes and answers, and completions.
-ghost use Rattle.std.specs.Prelude.{◌≡◌, ◌≢◌, ◌<◌, ◌≤◌, ◌⊎◌, ◌↔◌, Bool, true, false, None, Some, IsNone, IfSome, IsTrue, IsFalse};
+ghost use Rattle.std.specs.Prelude.{◌≡◌, ◌≢◌, ◌<◌, ◌≤◌, ◌⊎◌, ◌↔◌, ℕ, Bool, true, false, None, Some, IfSome, IsTrue, IsFalse};
+ghost use Rattle.nvme_entry.specs.Bits.{bits_of};
+ghost use Rattle.nvme_admin.specs.Placing.{interrupts_of};
 ghost use Rattle.nvme_log.specs.Rules.{FrontRules};
 ghost use Rattle.nvme_log.specs.Places.{entry_at};
+ghost use Rattle.nvme_log.specs.Queues.{open_cq};
 ghost use Rattle.nvme_log.specs.declared.place.Place.{Place};
-ghost use Rattle.nvme_admin.specs.declared.bounds.TheConstants.{MAX_REGIONS};
 ghost use Rattle.nvme_ctrl.specs.Own.{own_of, oldest_is_own};
 ghost use Rattle.nvme_ctrl.specs.Notes.{Notes, logged};
 ghost use Rattle.nvme_ctrl.specs.Standing.{Stands};
@@ -13,17 +15,18 @@ ghost use Rattle.nvme_ctrl.specs.Steps.{IsNextPick, HasStepped, NoneFinishable, 
 ghost use Rattle.nvme_ctrl.specs.Posts.{NonePostable};
 ghost use Rattle.nvme_ctrl.specs.declared.picks.Step.TheVariants as made;
 ghost use Rattle.nvme_capi.specs.States.{pick_of_fields};
-ghost use Rattle.nvme_capi.specs.Controllers.{is_ctrl, has_slots, IsKept, HasToldWhat, IsCommandIn, device_answer, marks_by, IsMarkedEntry, HasPostedBytes, IsPostIn};
+ghost use Rattle.nvme_capi.specs.Controllers.{is_ctrl, has_slots, IsKept, HasToldWhat, IsAsked, IsCommandIn, device_answer, marks_by, IsMarkedEntry, HasPostedBytes, IsPostIn};
 
 use crate::answers::{answer_of, plain_answer};
 use crate::ctrl::marks::{marked, marks_by};
-use crate::ctrl::state::{CommandFields, CtrlState, PostFields, StepFields, has_slots, is_ctrl};
+use crate::ctrl::state::{
+    AskedFields, CommandFields, CtrlState, PostFields, StepFields, has_slots, is_ctrl,
+};
 use crate::fields::StatusFields;
 use crate::results::{BAD_ARGUMENT, BAD_STATE, BUSY, FULL, NOTHING, OK};
 use crate::states::{PickFields, fields_of_pick};
-use nvme_admin::MAX_REGIONS;
 use nvme_ctrl::{Answer, Marks, Post, Slot, Step};
-use nvme_entry::Status;
+use nvme_entry::{Sqe, Status};
 
 // The kinds of a step.
 const PICKED: u32 = 1;
@@ -59,6 +62,42 @@ pub extern "C" fn nvmearb_ctrl_peek(state: &CtrlState, slots: &[Slot], pick: &mu
     }
 }
 
+// Of no Create nothing is asked for.
+fn nothing_asked() -> AskedFields {
+    AskedFields {
+        address: 0,
+        qsize: 0,
+        vector: 0,
+        interrupts: 0,
+    }
+}
+
+// Bits 31:16 of a command dword.
+fn high_half(dword: u32) -> u16
+    ensures { result ≡ bits_of 31 16 dword }
+{
+    (dword / 0x1_0000) as u16
+}
+
+// Whether a Create asks for interrupts.
+fn has_interrupts(entry: &Sqe) -> bool
+    ensures { result ≡ interrupts_of entry.now }
+{
+    entry.cdw11 / 2 % 2 == 1
+}
+
+// What a Create asks for.
+fn asked_by(entry: &Sqe) -> AskedFields
+    ensures { IsAsked result entry.now }
+{
+    AskedFields {
+        address: entry.prp1,
+        qsize: high_half(entry.cdw10),
+        vector: high_half(entry.cdw11),
+        interrupts: u16::from(has_interrupts(entry)),
+    }
+}
+
 /// Makes the next pick of arbitration, and writes what it did. An admin command that is picked is carried out, or passed
 /// on to the device.
 #[unsafe(no_mangle)]
@@ -75,7 +114,7 @@ pub extern "C" fn nvmearb_ctrl_pick(
     ensures busy { (rules : FrontRules) (late : Bool) (notes : Notes) → Stands rules late notes state.old.ctrl slots.old → result ≡ BUSY → HasStepped rules late notes made.Busy state.new.ctrl slots.new }
     ensures full { (rules : FrontRules) (late : Bool) (notes : Notes) → Stands rules late notes state.old.ctrl slots.old → result ≡ FULL → HasStepped rules late notes made.Full state.new.ctrl slots.new }
     ensures picked { (rules : FrontRules) (late : Bool) (notes : Notes) → Stands rules late notes state.old.ctrl slots.old → result ≡ OK → step.new.kind ≡ PICKED → HasStepped rules late notes (made.Picked (pick_of_fields step.new.pick)) state.new.ctrl slots.new }
-    ensures carried_out { (rules : FrontRules) (late : Bool) (notes : Notes) → Stands rules late notes state.old.ctrl slots.old → result ≡ OK → step.new.kind ≡ CARRIED_OUT → HasToldWhat rules late notes step.new.answer state.new.ctrl slots.new }
+    ensures carried_out { (rules : FrontRules) (late : Bool) (notes : Notes) → Stands rules late notes state.old.ctrl slots.old → result ≡ OK → step.new.kind ≡ CARRIED_OUT → HasToldWhat rules late notes step.new.answer step.new.asked state.new.ctrl slots.new }
     ensures passed { (rules : FrontRules) (late : Bool) (notes : Notes) → Stands rules late notes state.old.ctrl slots.old → result ≡ OK → step.new.kind ≡ PASSED → HasStepped rules late notes (made.Passed (pick_of_fields step.new.pick)) state.new.ctrl slots.new }
     ensures own { (rules : FrontRules) (late : Bool) (notes : Notes) → Stands rules late notes state.old.ctrl slots.old → result ≡ OK → step.new.kind ≡ PASSED → oldest_is_own (own_of state.old.ctrl) notes ≡ Some true }
     ensures not_own { (rules : FrontRules) (late : Bool) (notes : Notes) → Stands rules late notes state.old.ctrl slots.old → result ≡ OK → step.new.kind ≡ CARRIED_OUT → oldest_is_own (own_of state.old.ctrl) notes ≡ Some false }
@@ -99,6 +138,7 @@ pub extern "C" fn nvmearb_ctrl_pick(
                 kind: PICKED,
                 answer: plain_answer(0),
                 pick: fields_of_pick(pick),
+                asked: nothing_asked(),
             };
             OK
         }
@@ -107,10 +147,11 @@ pub extern "C" fn nvmearb_ctrl_pick(
                 kind: PASSED,
                 answer: plain_answer(0),
                 pick: fields_of_pick(pick),
+                asked: nothing_asked(),
             };
             OK
         }
-        Step::Done(effect) => {
+        Step::Done(effect, entry) => {
             *step = StepFields {
                 kind: CARRIED_OUT,
                 answer: answer_of(effect.verdict()),
@@ -119,6 +160,7 @@ pub extern "C" fn nvmearb_ctrl_pick(
                     n: 0,
                     fresh: 0,
                 },
+                asked: asked_by(&entry),
             };
             OK
         }
@@ -258,18 +300,6 @@ pub extern "C" fn nvmearb_ctrl_complete_with(
     complete_marked(state, slots, tag, status, dw0, marks)
 }
 
-// The number of a completion region, where it can be one.
-fn region_of(number: u16) -> Option<u8>
-    ensures none { IsNone result ↔ (MAX_REGIONS ≤ number) }
-    ensures some { IfSome result (λ region. region ≡ number) }
-{
-    if usize::from(number) < MAX_REGIONS {
-        Some(number as u8)
-    } else {
-        None
-    }
-}
-
 // What is told of a completion.
 fn fields_of_post(it: &Post) -> PostFields
     ensures layout { IsMarkedEntry result.bytes it.now.cqe it.now.marks }
@@ -285,22 +315,22 @@ fn fields_of_post(it: &Post) -> PostFields
     }
 }
 
-/// Writes the completion that became ready first in a completion region, with the slot of its ring. The command's slot is
-/// free then.
+/// Writes the completion that became ready first in an open completion queue, with the slot of its ring. The command's
+/// slot is free then.
 #[unsafe(no_mangle)]
 pub extern "C" fn nvmearb_ctrl_post(
     state: &mut CtrlState,
     slots: &mut [Slot],
-    region: u16,
+    cqid: u16,
     post: &mut PostFields,
 ) -> u32
     requires kept { IsKept state.old slots.old }
     ensures kept { IsKept state.new slots.new }
     ensures bad_state { (result ≡ BAD_STATE) ↔ IsFalse (is_ctrl state.old) }
-    ensures bad_argument { (result ≡ BAD_ARGUMENT) ↔ (IsTrue (is_ctrl state.old) × (IsFalse (has_slots state.old slots.old) ⊎ (MAX_REGIONS ≤ region))) }
+    ensures bad_argument { (result ≡ BAD_ARGUMENT) ↔ (IsTrue (is_ctrl state.old) × IsFalse (has_slots state.old slots.old)) }
     ensures answer { (result ≡ OK) ⊎ ((result ≡ NOTHING) ⊎ ((result ≡ BAD_ARGUMENT) ⊎ (result ≡ BAD_STATE))) }
-    ensures nothing { (rules : FrontRules) (late : Bool) (notes : Notes) → Stands rules late notes state.old.ctrl slots.old → result ≡ NOTHING → NonePostable rules notes region }
-    ensures stands { (rules : FrontRules) (late : Bool) (notes : Notes) → Stands rules late notes state.old.ctrl slots.old → result ≡ OK → HasPostedBytes rules late notes region post.new state.new.ctrl slots.new }
+    ensures nothing { (rules : FrontRules) (late : Bool) (notes : Notes) → Stands rules late notes state.old.ctrl slots.old → result ≡ NOTHING → (x : ℕ) → open_cq (logged notes) cqid ≡ Some x → NonePostable rules notes x }
+    ensures stands { (rules : FrontRules) (late : Bool) (notes : Notes) → Stands rules late notes state.old.ctrl slots.old → result ≡ OK → HasPostedBytes rules late notes cqid post.new state.new.ctrl slots.new }
     ensures command { result ≡ OK → IsPostIn slots.old post.new }
     ensures left { own_of state.new.ctrl ≡ own_of state.old.ctrl }
     ensures unchanged { result ≢ OK → (state.new ≡ state.old) × ((slots.new ≡ slots.old) × (post.new ≡ post.old)) }
@@ -311,10 +341,7 @@ pub extern "C" fn nvmearb_ctrl_post(
     if !has_slots(state, slots) {
         return BAD_ARGUMENT;
     }
-    let Some(number) = region_of(region) else {
-        return BAD_ARGUMENT;
-    };
-    match state.ctrl.post(slots, number) {
+    match state.ctrl.post(slots, cqid) {
         Some(it) => {
             *post = fields_of_post(&it);
             OK
@@ -324,7 +351,7 @@ pub extern "C" fn nvmearb_ctrl_post(
 }
 
 /// Finishes a deletion, if all completions of its queue are posted, and writes the identifier of the queue. Of several
-/// the first region's is finished.
+/// the first queue's is finished.
 #[unsafe(no_mangle)]
 pub extern "C" fn nvmearb_ctrl_finish(
     state: &mut CtrlState,

@@ -1,5 +1,6 @@
 // What is seen of a controller of C.
-ghost use Rattle.std.specs.Prelude.{◌≡◌, ◌≢◌, ◌⊎◌, ◌↔◌, ℕ, Bool, true, false, List, length, None, Some, IsTrue, IsFalse, IsSomeAnd};
+ghost use Rattle.std.specs.Prelude.{◌≡◌, ◌≢◌, ◌⊎◌, ◌↔◌, ℕ, Bool, true, false, List, length, None, Some, IsTrue, IsFalse, IsSomeAnd, is_some};
+ghost use Rattle.nvme_ctrl.specs.Making.{placing_in};
 ghost use Rattle.nvme_log.specs.Rules.{FrontRules};
 ghost use Rattle.nvme_log.specs.Queues.{open_sq, open_cq};
 ghost use Rattle.nvme_log.specs.Places.{entry_at, waiting};
@@ -82,13 +83,15 @@ pub extern "C" fn nvmearb_ctrl_named(
     }
 }
 
-/// Writes the number of the region of a submission queue, where it is open.
+/// Writes the number of the region of a submission queue, where it is open. Where queues may lie anywhere, it is the
+/// identifier.
 #[unsafe(no_mangle)]
 pub extern "C" fn nvmearb_ctrl_sq(state: &CtrlState, qid: u16, region: &mut u16) -> u32
     ensures bad_state { (result ≡ BAD_STATE) ↔ IsFalse (is_ctrl state.now) }
     ensures answer { (result ≡ OK) ⊎ ((result ≡ NOTHING) ⊎ (result ≡ BAD_STATE)) }
     ensures nothing { (rules : FrontRules) (late : Bool) (notes : Notes) (slots : List Slot) → Stands rules late notes state.now.ctrl slots → result ≡ NOTHING → open_sq (logged notes) qid ≡ None }
-    ensures found { (rules : FrontRules) (late : Bool) (notes : Notes) (slots : List Slot) → Stands rules late notes state.now.ctrl slots → result ≡ OK → IsSomeAnd (open_sq (logged notes) qid) (λ queue. region.new ≡ queue.region) }
+    ensures found { (rules : FrontRules) (late : Bool) (notes : Notes) (slots : List Slot) → Stands rules late notes state.now.ctrl slots → result ≡ OK → is_some (open_sq (logged notes) qid) ≡ true }
+    ensures on_regions { (rules : FrontRules) (late : Bool) (notes : Notes) (slots : List Slot) → Stands rules late notes state.now.ctrl slots → placing_in rules ≡ None → result ≡ OK → IsSomeAnd (open_sq (logged notes) qid) (λ queue. region.new ≡ queue.region) }
     ensures unchanged { result ≢ OK → region.new ≡ region.old }
 {
     if !is_ctrl(state) {
@@ -103,13 +106,14 @@ pub extern "C" fn nvmearb_ctrl_sq(state: &CtrlState, qid: u16, region: &mut u16)
     }
 }
 
-/// Writes the number of the region of a completion queue, where it is open.
+/// Writes the number of the region of a completion queue, where it is open, as `nvmearb_ctrl_sq`.
 #[unsafe(no_mangle)]
 pub extern "C" fn nvmearb_ctrl_cq(state: &CtrlState, cqid: u16, region: &mut u16) -> u32
     ensures bad_state { (result ≡ BAD_STATE) ↔ IsFalse (is_ctrl state.now) }
     ensures answer { (result ≡ OK) ⊎ ((result ≡ NOTHING) ⊎ (result ≡ BAD_STATE)) }
     ensures nothing { (rules : FrontRules) (late : Bool) (notes : Notes) (slots : List Slot) → Stands rules late notes state.now.ctrl slots → result ≡ NOTHING → open_cq (logged notes) cqid ≡ None }
-    ensures found { (rules : FrontRules) (late : Bool) (notes : Notes) (slots : List Slot) → Stands rules late notes state.now.ctrl slots → result ≡ OK → open_cq (logged notes) cqid ≡ Some region.new }
+    ensures found { (rules : FrontRules) (late : Bool) (notes : Notes) (slots : List Slot) → Stands rules late notes state.now.ctrl slots → result ≡ OK → is_some (open_cq (logged notes) cqid) ≡ true }
+    ensures on_regions { (rules : FrontRules) (late : Bool) (notes : Notes) (slots : List Slot) → Stands rules late notes state.now.ctrl slots → placing_in rules ≡ None → result ≡ OK → open_cq (logged notes) cqid ≡ Some region.new }
     ensures unchanged { result ≢ OK → region.new ≡ region.old }
 {
     if !is_ctrl(state) {

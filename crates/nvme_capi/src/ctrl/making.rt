@@ -1,5 +1,5 @@
 // The making of a controller of C, and its regions.
-ghost use Rattle.std.specs.Prelude.{◌≡◌, ◌≢◌, ◌⊎◌, ◌↔◌, ℕ, Bool, List, length, Some, None, IsTrue, IsFalse};
+ghost use Rattle.std.specs.Prelude.{◌≡◌, ◌≢◌, ◌⊎◌, ◌↔◌, ◌&&◌, ℕ, Bool, true, false, List, length, Some, None, IsNone, IfSome, IsTrue, IsFalse};
 ghost use Rattle.nvme_admin.specs.History.{Submission, Completion};
 ghost use Rattle.nvme_admin.specs.declared.region.AdminError.TheVariants.{Used, TooMany, Size};
 ghost use Rattle.nvme_log.specs.Rules.{FrontRules, sq_regions_of, cq_regions_of};
@@ -9,15 +9,17 @@ ghost use Rattle.nvme_ctrl.specs.Standing.{Stands, IsController};
 ghost use Rattle.nvme_ctrl.specs.Calls.{window_limit};
 ghost use Rattle.nvme_ctrl.specs.Making.{admin_fault, adding_fault, with_region, is_late};
 ghost use Rattle.nvme_ctrl.specs.declared.slot.Slot.{Slot};
-ghost use Rattle.nvme_capi.specs.Controllers.{is_ctrl, is_config, IsMadeOf, IsKept};
+ghost use Rattle.nvme_capi.specs.Controllers.{is_ctrl, is_config, IsMadeOf, IsMadeAnywhereOf, IsKept};
+ghost use Rattle.nvme_placing.specs.Telling.{is_ring_size};
 
 use crate::arbiter::mechanism_with;
-use crate::ctrl::state::{ConfigFields, CtrlState, MARK, is_ctrl};
+use crate::ctrl::state::{ConfigFields, CtrlState, MARK, PlacementFields, is_ctrl};
 use crate::results::{BAD_ARGUMENT, BAD_SIZE, BAD_STATE, OK, TOO_MANY, USED};
 use crate::table::{is_limit, refusal};
 use nvme_admin::Limits;
 use nvme_arbiter::Settings;
 use nvme_ctrl::{Controller, Slot};
+use nvme_placing::Placement;
 
 // Whether the numbers of a configuration are in their ranges, and so many slots can be a pool.
 fn is_config(config: &ConfigFields, count: usize) -> bool
@@ -79,9 +81,80 @@ pub extern "C" fn nvmearb_ctrl_init(
     }
 }
 
+// What a Create may ask for, where the page isn't 0.
+fn placement_of(placement: &PlacementFields) -> Option<Placement>
+    ensures some { IfSome result (λ p. (p.page ≡ placement.now.page) × ((p.mqes ≡ placement.now.mqes) × (p.vectors ≡ placement.now.vectors))) }
+    ensures none { IsNone result ↔ (placement.now.page ≡ 0) }
+{
+    if placement.page == 0 {
+        return None;
+    }
+    Some(Placement {
+        page: placement.page,
+        mqes: placement.mqes,
+        vectors: placement.vectors,
+    })
+}
+
+/// Makes a controller as `nvmearb_ctrl_init` makes one, but whose queues may lie anywhere in memory.
+#[unsafe(no_mangle)]
+pub extern "C" fn nvmearb_ctrl_init_anywhere(
+    state: &mut CtrlState,
+    slots: &mut [Slot],
+    config: &ConfigFields,
+    placement: &PlacementFields,
+) -> u32
+    ensures refused { (result ≡ BAD_ARGUMENT) ↔ (IsFalse (is_config config.now (length slots.old)) ⊎ (((config.now.mechanism ≢ 1) × (config.now.mechanism ≢ 2)) ⊎ (placement.now.page ≡ 0))) }
+    ensures answer { (result ≡ OK) ⊎ ((result ≡ BAD_ARGUMENT) ⊎ (result ≡ BAD_SIZE)) }
+    ensures size { result ≡ BAD_SIZE → (is_ring_size config.now.asq.slots && is_ring_size config.now.acq.slots) ≡ false }
+    ensures made { result ≡ OK → (is_ring_size config.now.asq.slots && is_ring_size config.now.acq.slots) ≡ true }
+    ensures stands { result ≡ OK → (sizes : List ℕ) → IsMadeAnywhereOf config.now placement.now sizes state.new.ctrl slots.new }
+    ensures window { result ≡ OK → window_limit state.new.ctrl ≡ config.now.window }
+    ensures own { result ≡ OK → own_of state.new.ctrl ≡ no_own }
+    ensures front { result ≡ OK → IsController state.new.ctrl slots.new }
+    ensures ctrl { result ≡ OK → IsTrue (is_ctrl state.new) }
+    ensures count { result ≡ OK → state.new.count ≡ length slots.new }
+    ensures unchanged { result ≢ OK → (state.new ≡ state.old) × (slots.new ≡ slots.old) }
+{
+    let Some(mechanism) = mechanism_with(config.mechanism) else {
+        return BAD_ARGUMENT;
+    };
+    let Some(placement) = placement_of(placement) else {
+        return BAD_ARGUMENT;
+    };
+    let count = slots.len();
+    if !is_config(config, count) {
+        return BAD_ARGUMENT;
+    }
+    let limits = Limits {
+        nsq: config.nsq,
+        ncq: config.ncq,
+    };
+    match Controller::anywhere(
+        mechanism,
+        Settings::from_cdw11(config.cdw11),
+        limits,
+        placement,
+        config.window,
+        config.asq,
+        config.acq,
+        slots,
+    ) {
+        Ok(ctrl) => {
+            *state = CtrlState {
+                mark: MARK,
+                count,
+                ctrl,
+            };
+            OK
+        }
+        Err(_) => BAD_SIZE,
+    }
+}
+
 /// Adds a submission region, and writes its number, which counts from 0. Region 0 is the admin queue's. It may be added at
 /// any time: the log stays an account, where no Create that was picked before named the address. Refused as
-/// `nvmearb_table_add_sq_region` refuses.
+/// `nvmearb_table_add_sq_region` refuses, and as too many where queues may lie anywhere.
 #[unsafe(no_mangle)]
 pub extern "C" fn nvmearb_ctrl_add_sq_region(
     state: &mut CtrlState,

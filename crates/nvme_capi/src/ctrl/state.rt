@@ -22,7 +22,7 @@ pub struct CtrlState {
 }
 
 // The header has these sizes.
-const _: () = prove!(size_of::<CtrlState>() == 6112);
+const _: () = prove!(size_of::<CtrlState>() == 6000);
 
 const _: () = prove!(size_of::<Slot>() == 80);
 
@@ -44,6 +44,30 @@ pub struct ConfigFields {
     pub window: u16,
 }
 
+/// `nvmearb_placement`: what a Create may ask for where queues may lie anywhere in memory.
+#[repr(C)]
+#[derive(Clone, Copy, Drop)]
+pub struct PlacementFields {
+    /// The memory page in bytes.
+    pub page: u32,
+    /// The largest QSIZE.
+    pub mqes: u16,
+    /// The number of interrupt vectors.
+    pub vectors: u16,
+}
+
+/// `nvmearb_asked`: the memory that a Create asks for, and the interrupts of a completion queue.
+#[repr(C)]
+#[derive(Clone, Copy, Drop)]
+pub struct AskedFields {
+    pub address: u64,
+    /// The number of slots less 1.
+    pub qsize: u16,
+    pub vector: u16,
+    /// 1 or 0.
+    pub interrupts: u16,
+}
+
 /// `nvmearb_step`: what a pick did. The kind is 1 where commands of an I/O queue were picked, and 2 where an admin command
 /// was picked and carried out. What a step of its kind doesn't have is 0.
 #[repr(C)]
@@ -52,6 +76,8 @@ pub struct StepFields {
     pub kind: u32,
     pub answer: AnswerFields,
     pub pick: PickFields,
+    /// What the command asks for, if it is a Create.
+    pub asked: AskedFields,
 }
 
 /// `nvmearb_command`: a command that the device has.

@@ -2,7 +2,6 @@ use Rattle.std.proofs.Common.{◌∙◌, refl, sym, ap, subst}
 use Rattle.nvme_ctrl.specs.declared.picks.Step.{Step}
 use Rattle.nvme_ctrl.specs.declared.picks.Step.TheVariants as made
 use Rattle.nvme_arbiter.specs.declared.pick.Pick.{Pick}
-use Rattle.nvme_admin.specs.Effects.{verdict_in}
 use Rattle.nvme_ctrl.specs.Steps.{HasStepped}
 use Rattle.nvme_capi.specs.Tables.{answer_of}
 use Rattle.nvme_capi.proofs.ctrl.commands.nvmearb_ctrl_pick.Goals as goal
@@ -31,9 +30,11 @@ returns-in-Passed-clause-passed c = λ rules late notes s _ _.
 
 pub returns-in-Done-clause-carried_out : goal.returns-in-Done-clause-carried_out
 returns-in-Done-clause-carried_out c = λ rules late notes s _ _. record {
-  verdict = verdict_in c.in-Done.effect;
+  effect = c.in-Done.effect;
+  entry = c.in-Done.entry;
   told_is = c.answer_of.ensures ∙ ap answer_of c.verdict.ensures;
-  carried_out = subst (λ (it : Step). HasStepped rules late notes it c.pick.new.self c.pick.new.slots) c.in-Done.is (c.pick.ensures.stands rules late notes s);
+  asked_is = c.asked_by.ensures;
+  done = subst (λ (it : Step). HasStepped rules late notes it c.pick.new.self c.pick.new.slots) c.in-Done.is (c.pick.ensures.stands rules late notes s);
 }
 
 pub returns-in-Idle-clause-unchanged : goal.returns-in-Idle-clause-unchanged
@@ -49,4 +50,4 @@ pub returns-in-Passed-clause-own : goal.returns-in-Passed-clause-own
 returns-in-Passed-clause-own c = λ rules late notes s _ _. c.pick.ensures.passed rules late notes s c.in-Passed.pick c.in-Passed.is
 
 pub returns-in-Done-clause-not_own : goal.returns-in-Done-clause-not_own
-returns-in-Done-clause-not_own c = λ rules late notes s _ _. c.pick.ensures.carried_out rules late notes s c.in-Done.effect c.in-Done.is
+returns-in-Done-clause-not_own c = λ rules late notes s _ _. c.pick.ensures.carried_out rules late notes s c.in-Done.effect c.in-Done.entry c.in-Done.is

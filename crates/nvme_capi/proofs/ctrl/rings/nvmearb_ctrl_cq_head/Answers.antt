@@ -1,9 +1,11 @@
 use Rattle.std.proofs.Common.{◌≡◌, ◌∙◌, true, false, None, Some, not, sym, ap}
+use Rattle.nvme_log.specs.Queues.{open_cq}
+use Rattle.nvme_ctrl.specs.Notes.{logged}
 use Rattle.nvme_capi.proofs.Queues.{none_there, some_there}
 use Rattle.nvme_capi.proofs.ctrl.rings.nvmearb_ctrl_cq_head.Goals as goal
 
 pub returns-then-is_none-clause-nothing : goal.returns-then-is_none-clause-nothing
-returns-then-is_none-clause-nothing c = λ rules late notes slots s _. sym (c.cq_region.ensures rules late notes slots s) ∙ none_there c.cq_region.result (c.is_none.ensures ∙ ap not c.if-is_none.true)
+returns-then-is_none-clause-nothing c = λ rules late notes slots s _. none_there (open_cq (logged notes) c.args.cqid) (sym (c.cq_region.ensures.told rules late notes slots s) ∙ (c.is_none.ensures ∙ ap not c.if-is_none.true))
 
 pub returns-then-cq_head-clause-valid : goal.returns-then-cq_head-clause-valid
 returns-then-cq_head-clause-valid c = λ rules late notes slots s _. (c.cq_head.ensures.answer rules late notes slots s).0 c.if-cq_head.true
@@ -16,8 +18,8 @@ returns-then-cq_head-clause-kept c = λ slots k. record { front = λ m n. c.cq_h
 
 pub returns-else-cq_head-clause-is_open : goal.returns-else-cq_head-clause-is_open
 returns-else-cq_head-clause-is_open c = λ rules late notes slots s _ none.
-    let it = some_there c.cq_region.result (c.is_none.ensures ∙ ap not c.if-is_none.false) in
-    let lost : None ≡ Some it.0 = sym none ∙ (sym (c.cq_region.ensures rules late notes slots s) ∙ it.1) in
+    let it = some_there (open_cq (logged notes) c.args.cqid) (sym (c.cq_region.ensures.told rules late notes slots s) ∙ (c.is_none.ensures ∙ ap not c.if-is_none.false)) in
+    let lost : None ≡ Some it.0 = sym none ∙ it.1 in
     cc lost
 
 pub returns-else-cq_head-clause-invalid : goal.returns-else-cq_head-clause-invalid
