@@ -71,6 +71,7 @@ static void wrong_ones(void)
     uint16_t number = 0xeeee;
     lies.page = 0;
     CHECK(init_with(it, lies, SLOTS) == NVMEARB_EARG && init_with(it, placement, 0) == NVMEARB_EARG);
+    CHECK(nvmearb_ctrl_init_anywhere(&ctrl, many, NVMEARB_MAX_SLOTS + 1, &it, &placement) == NVMEARB_EARG);
     it.mechanism = 3;
     CHECK(init_with(it, placement, SLOTS) == NVMEARB_EARG);
     it = config, it.acq.slots = 1;

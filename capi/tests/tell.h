@@ -26,7 +26,7 @@ static int told(void)
 }
 
 /* The next number of a fixed sequence (splitmix64). */
-static uint64_t drawn(uint64_t *state)
+static inline uint64_t drawn(uint64_t *state)
 {
     uint64_t z = *state += 0x9e3779b97f4a7c15u;
     z = (z ^ (z >> 30)) * 0xbf58476d1ce4e5b9u;
@@ -35,7 +35,7 @@ static uint64_t drawn(uint64_t *state)
 }
 
 /* Fills an object with drawn bytes. */
-static void draw_into(uint64_t *state, void *object, size_t size)
+static inline void draw_into(uint64_t *state, void *object, size_t size)
 {
     unsigned char *bytes = object;
     for (size_t i = 0; i < size; i++) {

@@ -2,19 +2,20 @@
 #include "ctrl.h"
 #include "tell.h"
 
-/* Where numbers lie in a controller and in a slot. Each region has a ring of slots, head and tail, and a chain of first,
+/* Where numbers lie in a controller and in a slot. Each queue has a ring of slots, head and tail, and a chain of first,
  * last and length, each of 2 bytes. */
 enum {
-    BOARD = 16 + sizeof(nvmearb_table) - 8,
+    PLACING = 16, /* where queues may lie */
+    BOARD = 16 + sizeof(nvmearb_table) - 8 + PLACING,
     SQS = BOARD + sizeof(nvmearb_board) - 8,
-    SQ_SIZE = 20,
+    SQ_SIZE = 18,
     CQS = SQS + NVMEARB_MAX_REGIONS * SQ_SIZE,
     CQ_SIZE = 14,
     FREE_SLOTS = CQS + NVMEARB_MAX_REGIONS * CQ_SIZE
 };
-enum { HEAD = 2, TAIL = 4, FIRST = 6, LAST = 8, LENGTH = 10, CQ_REGION = 16, OPENED = 17 };
+enum { HEAD = 2, TAIL = 4, FIRST = 6, LAST = 8, LENGTH = 10, CQID = 14 };
 enum { OUTSTANDING = FREE_SLOTS + 8, PICKED_COUNT = FREE_SLOTS + 10, DELETION = FREE_SLOTS + 14, DELETION_SIZE = 4 };
-enum { NEXT = 72, STATUS_TYPE = 74, REGION = 76, USED = 77 };
+enum { NEXT = 72, STATUS_TYPE = 74, SQID = 76, USED = 77 };
 
 /* The controller and its slots pass, and don't with another number in `bytes` of these. */
 static int finds(void *at, unsigned where, unsigned value, unsigned bytes)
@@ -52,12 +53,12 @@ static void overwritten(void)
     CHECK(fetched(0, 3, IDENTIFY, 13, 0, 0, 0) && carried_out(NVMEARB_DONE) && carried_out(NVMEARB_DONE));
     CHECK(finds(&ctrl, SQS + SQ_SIZE + HEAD, 4, 2) && finds(&ctrl, SQS + SQ_SIZE + TAIL, 4, 2));
     CHECK(finds(&ctrl, CQS + CQ_SIZE + HEAD, 4, 2) && finds(&ctrl, CQS + CQ_SIZE + TAIL, 4, 2));
-    CHECK(finds(&ctrl, SQS + SQ_SIZE + CQ_REGION, 65, 1) && finds(&ctrl, SQS + 2 * SQ_SIZE + OPENED, 1, 1));
+    CHECK(finds(&ctrl, SQS + SQ_SIZE + CQID, 65, 2));
     wrong_chain(SQS + SQ_SIZE + FIRST, 3);
     wrong_chain(CQS + FIRST, 1);
     wrong_chain(FREE_SLOTS, 1);
     CHECK(finds(&slots[number_at(SQS + SQ_SIZE + LAST)], USED, 7, 1));
-    CHECK(finds(&slots[number_at(SQS + SQ_SIZE + FIRST)], REGION, 65, 1) && finds(&slots[tag], REGION, 65, 1));
+    CHECK(finds(&slots[number_at(SQS + SQ_SIZE + FIRST)], SQID, 65, 1) && finds(&slots[tag], SQID, 65, 1));
     CHECK(finds(&slots[number_at(CQS + FIRST)], STATUS_TYPE, 8, 1));
     CHECK(finds(&ctrl, OUTSTANDING, 257, 2) && finds(&ctrl, PICKED_COUNT, 3, 2));
     CHECK(finds(&ctrl, SQS - 40, 3, 2) && finds(&ctrl, SQS - 40 + 10, 2, 2)); /* the mechanism, and the last served */
