@@ -237,7 +237,7 @@ typedef struct nvmearb_status {
 #define NVMEARB_SC_ABORTED_BY_DELETION 0x08u      /* * Command Aborted due to SQ Deletion */
 #define NVMEARB_SC_INVALID_NAMESPACE 0x0bu        /* * Invalid Namespace or Format */
 #define NVMEARB_SC_SEQUENCE_ERROR 0x0cu           /* * Command Sequence Error */
-#define NVMEARB_SC_PRP_OFFSET_INVALID 0x13u
+#define NVMEARB_SC_PRP_OFFSET_INVALID 0x13u       /* * */
 #define NVMEARB_SC_LBA_OUT_OF_RANGE 0x80u         /* * */
 #define NVMEARB_SC_CAPACITY_EXCEEDED 0x81u
 #define NVMEARB_SC_NAMESPACE_NOT_READY 0x82u
@@ -246,6 +246,7 @@ typedef struct nvmearb_status {
 #define NVMEARB_SC_COMPLETION_QUEUE_INVALID 0x00u /* * */
 #define NVMEARB_SC_INVALID_QUEUE_IDENTIFIER 0x01u /* * */
 #define NVMEARB_SC_INVALID_QUEUE_SIZE 0x02u       /* * */
+#define NVMEARB_SC_INVALID_INTERRUPT_VECTOR 0x08u /* * */
 #define NVMEARB_SC_INVALID_QUEUE_DELETION 0x0cu   /* * */
 #define NVMEARB_SC_FEATURE_NOT_SAVEABLE 0x0du     /* * Feature Identifier Not Saveable */
 

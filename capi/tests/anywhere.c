@@ -5,9 +5,9 @@
 enum { PAGE = 0x1000, ROUNDS = 400, AT_SQ = 0x20000, AT_CQ = 0x30000 };
 
 static const nvmearb_placement placement = {PAGE, 7, 2};
-static const nvmearb_status bad_size = {NVMEARB_SCT_COMMAND_SPECIFIC, 0x02};
-static const nvmearb_status bad_vector = {NVMEARB_SCT_COMMAND_SPECIFIC, 0x08};
-static const nvmearb_status bad_identifier = {NVMEARB_SCT_COMMAND_SPECIFIC, 0x01};
+static const nvmearb_status bad_size = {NVMEARB_SCT_COMMAND_SPECIFIC, NVMEARB_SC_INVALID_QUEUE_SIZE};
+static const nvmearb_status bad_vector = {NVMEARB_SCT_COMMAND_SPECIFIC, NVMEARB_SC_INVALID_INTERRUPT_VECTOR};
+static const nvmearb_status bad_identifier = {NVMEARB_SCT_COMMAND_SPECIFIC, NVMEARB_SC_INVALID_QUEUE_IDENTIFIER};
 static const nvmearb_status bad_offset = {NVMEARB_SCT_GENERIC, NVMEARB_SC_PRP_OFFSET_INVALID};
 
 static uint32_t init_with(nvmearb_config with, nvmearb_placement lies, size_t count)
