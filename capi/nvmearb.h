@@ -31,35 +31,44 @@
  *
  *   1. Compare nvmearb_version() with NVMEARB_VERSION.
  *   2. When the host enables the controller (CC.EN), nvmearb_ctrl_init_anywhere with the admin queues (AQA, ASQ, ACQ):
- *      the host may put its queues anywhere in memory ("Where queues lie" below). At a reset the same again: nothing of
- *      before is left.
+ *      the host may put its queues anywhere in memory ("Where queues lie" below). When CC.EN becomes 0, stop: make no
+ *      call until it is 1 again, forget all tags, since they will be those of other commands, and begin again here.
+ *      Nothing of before is left. Zeros in the controller make each call answer NVMEARB_ESTATE.
  *   3. nvmearb_ctrl_own_opcode and nvmearb_ctrl_own_feature for the admin commands that the device answers itself, such
- *      as Identify. Each nvmearb_ctrl_init forgets them.
+ *      as Identify. Each making of the controller forgets them.
  *   4. At each doorbell write nvmearb_ctrl_sq_tail or nvmearb_ctrl_cq_head.
  *   5. For each queue, while nvmearb_ctrl_fetch tells a slot: read the entry there, and nvmearb_ctrl_fetched.
  *   6. While nvmearb_ctrl_take gives a command, execute it. Where it has none, nvmearb_ctrl_pick, and begin again,
- *      until that picks nothing either.
+ *      until that picks nothing either. At a step that created a queue (NVMEARB_OPEN_SQ, NVMEARB_OPEN_CQ), keep where
+ *      it lies. At one that began a deletion (NVMEARB_BEGIN_DELETE), do 9. at once.
  *   7. nvmearb_ctrl_complete, or nvmearb_ctrl_complete_with, for each command that ends, in any order and at any time.
  *   8. For each completion queue, while nvmearb_ctrl_post gives a completion: write its bytes into the slot of the
- *      ring, Command Dword 3 last, since it has the phase tag, and then send the interrupt.
- *   9. After a pick that began a deletion (NVMEARB_BEGIN_DELETE), nvmearb_ctrl_finish at once and after each 8., while
- *      it ends one. Until then nothing is fetched or picked of that queue, its Delete isn't answered, and a Delete of its
- *      completion queue is refused (1/0C, Invalid Queue Deletion); what the device has of it may still be completed and
- *      posted. Other queues go on, the admin queue among them, and further deletions may begin: each waits for the
- *      commands of its own queue.
+ *      ring, Command Dword 3 last, since it has the phase tag, and then send the interrupt of the queue's vector, if
+ *      its enable bit is set.
+ *   9. After a pick that began a deletion, nvmearb_ctrl_finish at once and after each 8., while it ends one. Until it
+ *      ends, nothing is fetched or picked of that queue, its Delete isn't answered, and a Delete of its completion
+ *      queue is refused (1/0C, Invalid Queue Deletion): also one that came with it, if this isn't done at once. What
+ *      the device has of the queue may still be completed and posted. Other queues go on, the admin queue among them,
+ *      and further deletions may begin: each waits for the commands of its own queue.
  *  10. Go back to 5., for every queue, until a pass does nothing: picks make room for fetches, posts for picks
  *      (NVMEARB_FULL), and the end of a deletion for both. The completion of its Delete is posted in the next pass.
  *
- * Where queues lie. After nvmearb_ctrl_init_anywhere a Create command names any address that is a multiple of the
- * memory page, and at most as many slots and the interrupt vectors that the device has; each Create is a queue of its
- * own, and there may be any number of them. The step of the pick that carries a Create out tells its address, slots,
- * vector and interrupt enable (nvmearb_asked); the device keeps them by the identifier of the queue, until the next
- * Create of that identifier. The memory may be used again once the queue is deleted. capi/examples/nvme.c does this.
- * After nvmearb_ctrl_init a Create names a region that was added before, by nvmearb_ctrl_add_sq_region or
- * nvmearb_ctrl_add_cq_region, that no queue has used, and that has exactly QSIZE + 1 slots. There are
- * NVMEARB_MAX_REGIONS of a kind, and no two have one address. What docs/PROVED.md says of the log of a controller holds
- * as long as no Create that was picked before named the address of a region that is added. capi/examples/device.c does
- * this.
+ * Where queues lie. There are two ways.
+ *
+ *   Anywhere    nvmearb_ctrl_init_anywhere: the host chooses where its queues lie, as Linux does. A Create command
+ *               names any address that is a multiple of the memory page. There may be any number of Creates, and the
+ *               host may use the memory of a queue again once its Delete is answered. The step of an accepted Create
+ *               tells its address, slots, vector and interrupt enable (nvmearb_asked). The device keeps them by the
+ *               identifier, those of submission queues and of completion queues apart, until the next accepted Create
+ *               of that identifier and kind. The admin queues lie at ASQ and ACQ, with vector 0 and interrupts enabled.
+ *               The library doesn't know the memory: a Create at an address where none is, or over another ring, is
+ *               accepted. The device checks each access, and that no address goes over the end of all addresses. Where
+ *               an access to a ring fails it sets CSTS.CFS, and waits for the reset. All examples but loop.c are so.
+ *   On regions  nvmearb_ctrl_init: the device says beforehand where rings may lie, by nvmearb_ctrl_add_sq_region and
+ *               nvmearb_ctrl_add_cq_region. A Create names the address of such a region that no queue has used, and has
+ *               exactly QSIZE + 1 slots. There are NVMEARB_MAX_REGIONS of a kind, and no two have one address. A region
+ *               is added before a Create of its address is picked: of a controller whose device adds one later,
+ *               docs/PROVED.md promises less.
  *
  * Holding a queue. While a device can't serve a queue, say since a namespace of it is busy, nvmearb_ctrl_hold leaves it
  * out of arbitration, and the others go on. nvmearb_ctrl_set_class gives it another priority class.
@@ -73,13 +82,12 @@
  *
  * What the caller of a controller owes, beside what is said of all calls below:
  *
- *   - It hands each call the array of slots that it gave to nvmearb_ctrl_init, and writes neither into it nor into the
+ *   - It hands each call the array of slots that the controller was made with, and writes neither into it nor into the
  *     controller. These calls trust what is in both: where anything else is written behind a right mark, a call may
  *     read and write beyond the controller and its slots. Memory that was never initialised has no mark but by chance;
  *     zeros have none. nvmearb_ctrl_verify finds most of what was written there.
  *   - It reads no slot of a ring but the one that nvmearb_ctrl_fetch tells, and posts no completion but those of
- *     nvmearb_ctrl_post. A ring of `slots` slots has 64 or 16 bytes for each, from the address of its region on.
- *   - It keeps the address of each queue, and the interrupt vector and enable bit, as the step of its Create tells.
+ *     nvmearb_ctrl_post. A ring has 64 or 16 bytes for each slot, from its address on.
  *
  * An admin command that is neither the controller's own nor the device's is answered with 0/01, Invalid Command Opcode,
  * and Set and Get Features of such a feature identifier with 0/02, Invalid Field in Command.
@@ -169,7 +177,7 @@ extern "C" {
 #define NVMEARB_EARG 2u   /* an argument isn't valid */
 #define NVMEARB_ESTATE 3u /* the state isn't valid: it wasn't initialised, or was overwritten */
 #define NVMEARB_EUSED 4u  /* another region has this address */
-#define NVMEARB_EMANY 5u  /* there are NVMEARB_MAX_REGIONS regions of this kind */
+#define NVMEARB_EMANY 5u  /* there are NVMEARB_MAX_REGIONS regions of this kind, or queues may lie anywhere */
 #define NVMEARB_ESIZE 6u  /* a region has 2 to 4096 slots */
 #define NVMEARB_BUSY 7u   /* nothing can be picked yet: commands are to be taken */
 #define NVMEARB_FULL 8u   /* nothing can be picked yet: too many commands were picked and aren't completed */
@@ -427,10 +435,10 @@ typedef struct nvmearb_queue {
  * A slot of a controller: it holds one command from its fetch until its completion is posted, and its number is the
  * command's tag. The caller keeps an array of them, whose content is the library's. Nothing is fetched while none is
  * free. With `window` slots for each submission region, the admin queue's included, and 256 more, one is free for each
- * command that may be fetched otherwise, while no queue is being deleted. Where queues may lie anywhere, take `window`
- * slots for each queue that may be open; that these suffice isn't proved. With fewer, commands of one queue may keep
- * those of another from being fetched. Commands that a deletion drops hold their slots until their completions are
- * posted.
+ * command that may be fetched otherwise, while no queue is being deleted. Where queues may lie anywhere, take as many
+ * for each submission queue that may be open: (nsq + 1) * window + 256; that these suffice isn't proved. With fewer,
+ * commands of one queue may keep those of another from being fetched. Commands that a deletion drops hold their slots
+ * until their completions are posted.
  */
 typedef struct nvmearb_slot {
     uint64_t words[10];
@@ -440,8 +448,8 @@ typedef struct nvmearb_slot {
 #define NVMEARB_MAX_SLOTS 65535
 
 /*
- * A controller. nvmearb_ctrl_init initialises it. Its fields are the library's. It is valid if `mark` is what
- * nvmearb_ctrl_init writes. Neither it nor its slots are copied to be used beside the first, or written into; both
+ * A controller. nvmearb_ctrl_init_anywhere or nvmearb_ctrl_init makes it. Its fields are the library's. It is valid if
+ * `mark` is what these write. Neither it nor its slots are copied to be used beside the first, or written into; both
  * together may be moved or restored ("Save and restore" above).
  */
 typedef struct nvmearb_ctrl {
@@ -461,17 +469,17 @@ typedef struct nvmearb_config {
 
 /* What a Create command may ask for where queues may lie anywhere in memory. */
 typedef struct nvmearb_placement {
-    uint32_t page;    /* the memory page in bytes (CC.MPS), 1 or more: PRP1 is a multiple of it */
-    uint16_t mqes;    /* the largest QSIZE, which is zero based (CAP.MQES) */
-    uint16_t vectors; /* the number of interrupt vectors: IV is below it */
+    uint32_t page;    /* the memory page in bytes, 2 to the power of 12 + CC.MPS: PRP1 is a multiple of it */
+    uint16_t mqes;    /* the largest QSIZE, which is zero based (CAP.MQES), at least 1 */
+    uint16_t vectors; /* the number of interrupt vectors, at least 1, also for a device with a pin: IV is below it */
 } nvmearb_placement;
 
-/* What a Create command asks for. */
+/* What a Create command that made a queue asked for. */
 typedef struct nvmearb_asked {
     uint64_t address;    /* PRP1: where the ring lies */
     uint16_t qsize;      /* QSIZE: its slots less 1 */
-    uint16_t vector;     /* IV of a completion queue */
-    uint16_t interrupts; /* IEN of a completion queue: 1 or 0 */
+    uint16_t vector;     /* IV of a completion queue; 0 of a submission queue */
+    uint16_t interrupts; /* IEN of a completion queue: 1 or 0; 0 of a submission queue */
 } nvmearb_asked;
 
 /* The kinds of steps. */
@@ -483,12 +491,13 @@ typedef struct nvmearb_asked {
 typedef struct nvmearb_step {
     uint32_t kind; /* NVMEARB_PICKED, NVMEARB_CARRIED_OUT or NVMEARB_PASSED */
     /*
-     * NVMEARB_CARRIED_OUT: what the command came to. The caller needs to do nothing for it but to end a deletion
-     * (NVMEARB_BEGIN_DELETE, by nvmearb_ctrl_finish). Its completion becomes ready by itself.
+     * NVMEARB_CARRIED_OUT: what the command came to. The caller ends a deletion (NVMEARB_BEGIN_DELETE, by
+     * nvmearb_ctrl_finish), and keeps `asked` of a queue that was created. Nothing else is left to do: its completion
+     * becomes ready by itself.
      */
     nvmearb_answer answer;
     nvmearb_pick pick; /* NVMEARB_PICKED and NVMEARB_PASSED: the queue, and how many of its commands */
-    /* NVMEARB_CARRIED_OUT, where `answer` is NVMEARB_OPEN_SQ or NVMEARB_OPEN_CQ: what the Create asked for. */
+    /* NVMEARB_CARRIED_OUT, where the verdict of `answer` is NVMEARB_OPEN_SQ or NVMEARB_OPEN_CQ; else all 0. */
     nvmearb_asked asked;
 } nvmearb_step;
 
@@ -715,9 +724,13 @@ uint32_t nvmearb_table_settings(const nvmearb_table *table, nvmearb_settings *se
 uint32_t nvmearb_ctrl_init(nvmearb_ctrl *ctrl, nvmearb_slot *slots, size_t count, const nvmearb_config *config);
 
 /*
- * Initialises a controller as nvmearb_ctrl_init does, but one whose queues may lie anywhere in memory. A Create is
- * refused with 1/02, Invalid Queue Size, if QSIZE is above `mqes` or 4095; with 0/13, PRP Offset Invalid, if PRP1 isn't
- * a multiple of the page; and with 1/08, Invalid Interrupt Vector, if IV isn't below `vectors`, whatever IEN.
+ * Initialises a controller as nvmearb_ctrl_init does, but one whose queues may lie anywhere in memory. The first of
+ * these that applies refuses a Create that isn't fused: 1/02, Invalid Queue Size, if QSIZE is above `mqes` or 4095;
+ * 0/13, PRP Offset Invalid, if PRP1 isn't a multiple of the page; of a completion queue 1/08, Invalid Interrupt
+ * Vector, if IV isn't below `vectors`, whatever IEN; 0/02, Invalid Field in Command, if PC is 0; 1/01, Invalid Queue
+ * Identifier, if QID is 0, above the allotted number, or that of a queue that is open or closing; 1/02 if QSIZE is 0;
+ * of a submission queue 1/01 if CQID is 0 or above the allotted number, and 1/00, Completion Queue Invalid, if that
+ * queue isn't open.
  * NVMEARB_EARG as nvmearb_ctrl_init, and if `page` is 0; otherwise NVMEARB_ESIZE if `asq` or `acq` doesn't have 2 to
  * 4096 slots. Their addresses are not compared.
  */
@@ -736,9 +749,9 @@ uint32_t nvmearb_ctrl_add_cq_region(nvmearb_ctrl *ctrl, uint64_t address, uint16
 /*
  * From now on the admin commands of this opcode are the device's: they are picked in their turn, and the device takes
  * and completes them as it does commands of I/O queues, at any later time (an Asynchronous Event Request waits like
- * this). nvmearb_ctrl_init forgets it. The opcodes 00h, 01h, 04h, 05h, 09h and 0Ah stay the controller's, and so does a
- * fused command, which it refuses. The device checks PSDT. Of Abort, 08h, an announced one is the device's where it
- * names no command that waits ("Aborts" above).
+ * this). Each making of the controller forgets it. The opcodes 00h, 01h, 04h, 05h, 09h and 0Ah stay the controller's,
+ * and so does a fused command, which it refuses. The device checks PSDT, which the controller doesn't look at. Of
+ * Abort, 08h, an announced one is the device's where it names no command that waits ("Aborts" above).
  * NVMEARB_ESTATE if `ctrl` isn't valid.
  */
 uint32_t nvmearb_ctrl_own_opcode(nvmearb_ctrl *ctrl, uint8_t opcode);
@@ -873,13 +886,13 @@ uint32_t nvmearb_ctrl_named(const nvmearb_ctrl *ctrl, const nvmearb_slot *slots,
                             uint16_t cid, uint16_t *tag);
 
 /*
- * Writes the number of the region of a submission queue; where queues may lie anywhere, it is `qid`.
+ * Whether a submission queue is open: writes the number of its region, which is `qid` where queues may lie anywhere.
  * NVMEARB_ESTATE if `ctrl` isn't valid; otherwise NVMEARB_NONE if the queue isn't open or is closing.
  */
 uint32_t nvmearb_ctrl_sq(const nvmearb_ctrl *ctrl, uint16_t qid, uint16_t *region);
 
 /*
- * Writes the number of the region of a completion queue; where queues may lie anywhere, it is `cqid`.
+ * Whether a completion queue is open: writes the number of its region, which is `cqid` where queues may lie anywhere.
  * NVMEARB_ESTATE if `ctrl` isn't valid; otherwise NVMEARB_NONE if the queue isn't open.
  */
 uint32_t nvmearb_ctrl_cq(const nvmearb_ctrl *ctrl, uint16_t cqid, uint16_t *region);

@@ -17,46 +17,60 @@
 struct device {
     nvmearb_ctrl ctrl;
     nvmearb_slot slots[COMMANDS];
+    uint64_t sqs[QUEUES + 1], cqs[QUEUES + 1]; /* where the rings lie, by the identifiers of their queues */
+    int has_failed;                            /* CSTS.CFS: a ring isn't in memory, and the device waits for a reset */
     uint8_t blocks[BLOCKS][BLOCK];
 };
 static struct device device;
 
 /* Guest memory: the rings, and pages of data. */
 static uint8_t memory[0x8000];
-static const uint64_t sq_address[] = {0x1000, 0x3000}, cq_address[] = {0x2000, 0x4000}; /* by region */
 
-/* CC.EN becomes 1. */
-static uint32_t enable(struct device *d)
+/* Where bytes lie in guest memory, or NULL. */
+static uint8_t *place(uint64_t address, size_t length)
+{
+    return address > sizeof memory || length > sizeof memory - address ? NULL : memory + address;
+}
+
+/* CC.EN becomes 1: the host has written ASQ and ACQ. Nothing is left of before. */
+static uint32_t enable(struct device *d, uint64_t asq, uint64_t acq)
 {
     nvmearb_config config = {
-        .asq = {.address = sq_address[0], .slots = RING},
-        .acq = {.address = cq_address[0], .slots = RING},
+        .asq = {.address = asq, .slots = RING},
+        .acq = {.address = acq, .slots = RING},
         .mechanism = NVMEARB_WEIGHTED,
         .cdw11 = 0x01000001, /* burst 2; weights: high 2, medium 1, low 1 */
         .nsq = QUEUES,
         .ncq = QUEUES,
         .window = RING,
     };
-    uint16_t region;
-    uint32_t told = nvmearb_ctrl_init(&d->ctrl, d->slots, COMMANDS, &config);
-    for (int k = 1; told == NVMEARB_OK && k <= QUEUES; k++) {
-        told = nvmearb_ctrl_add_sq_region(&d->ctrl, sq_address[k], RING, &region);
-        if (told == NVMEARB_OK)
-            told = nvmearb_ctrl_add_cq_region(&d->ctrl, cq_address[k], RING, &region);
-    }
-    return told;
+    nvmearb_placement placement = {.page = PAGE, .mqes = RING - 1, .vectors = 1};
+    d->sqs[0] = asq, d->cqs[0] = acq;
+    d->has_failed = 0;
+    return nvmearb_ctrl_init_anywhere(&d->ctrl, d->slots, COMMANDS, &config, &placement);
+}
+
+/* Keeps where the queue lies that a Create made. With interrupts, the vector and the enable bit are kept too. */
+static void keep(struct device *d, const nvmearb_step *step)
+{
+    if (step->answer.verdict == NVMEARB_OPEN_SQ)
+        d->sqs[step->answer.qid] = step->asked.address;
+    if (step->answer.verdict == NVMEARB_OPEN_CQ)
+        d->cqs[step->answer.qid] = step->asked.address;
 }
 
 /* Fetches what the host submitted to a queue. This and the three below return whether they did anything. */
 static int fetch(struct device *d, uint16_t qid)
 {
     int did = 0;
-    uint16_t slot, region;
+    uint16_t slot;
     uint8_t bytes[NVMEARB_SQE_BYTES]; /* a copy: the host may write there */
-    if (nvmearb_ctrl_sq(&d->ctrl, qid, &region) != NVMEARB_OK)
-        return 0;
     for (; nvmearb_ctrl_fetch(&d->ctrl, qid, &slot) == NVMEARB_OK; did = 1) {
-        memcpy(bytes, memory + sq_address[region] + slot * NVMEARB_SQE_BYTES, sizeof bytes);
+        const uint8_t *entry = place(d->sqs[qid] + slot * sizeof bytes, sizeof bytes);
+        d->has_failed |= !entry;
+        if (!entry)
+            return 0;
+        memcpy(bytes, entry, sizeof bytes);
         nvmearb_ctrl_fetched(&d->ctrl, d->slots, COMMANDS, qid, bytes, qid);
     }
     return did;
@@ -78,12 +92,13 @@ static nvmearb_status execute(struct device *d, const nvmearb_sqe *entry)
         return (nvmearb_status){NVMEARB_SCT_GENERIC, NVMEARB_SC_PRP_OFFSET_INVALID};
     if (length > PAGE - entry->prp1 % PAGE)
         return (nvmearb_status){NVMEARB_SCT_GENERIC, NVMEARB_SC_INVALID_FIELD};
-    if (entry->prp1 > sizeof memory || length > sizeof memory - entry->prp1)
+    uint8_t *data = place(entry->prp1, length);
+    if (!data)
         return (nvmearb_status){NVMEARB_SCT_GENERIC, NVMEARB_SC_DATA_TRANSFER_ERROR};
     if (entry->opcode == NVMEARB_OPC_READ)
-        memcpy(memory + entry->prp1, d->blocks[entry->cdw10], length);
+        memcpy(data, d->blocks[entry->cdw10], length);
     else
-        memcpy(d->blocks[entry->cdw10], memory + entry->prp1, length);
+        memcpy(d->blocks[entry->cdw10], data, length);
     return status;
 }
 
@@ -95,6 +110,7 @@ static int work(struct device *d)
     nvmearb_command command;
     nvmearb_step step;
     for (; nvmearb_ctrl_pick(&d->ctrl, d->slots, COMMANDS, &step) == NVMEARB_OK; did = 1) {
+        keep(d, &step);
         while (nvmearb_ctrl_take(&d->ctrl, d->slots, COMMANDS, &command) == NVMEARB_OK) {
             nvmearb_status status = execute(d, &command.entry);
             uint8_t marks = status.sct || status.sc ? NVMEARB_DNR : 0; /* what fails here would fail again */
@@ -109,12 +125,12 @@ static int work(struct device *d)
 static int post(struct device *d, uint16_t cqid)
 {
     int did = 0;
-    uint16_t region;
     nvmearb_post post;
-    if (nvmearb_ctrl_cq(&d->ctrl, cqid, &region) != NVMEARB_OK)
-        return 0;
     for (; nvmearb_ctrl_post(&d->ctrl, d->slots, COMMANDS, cqid, &post) == NVMEARB_OK; did = 1) {
-        uint8_t *entry = memory + cq_address[region] + post.slot * NVMEARB_CQE_BYTES;
+        uint8_t *entry = place(d->cqs[cqid] + post.slot * sizeof post.bytes, sizeof post.bytes);
+        d->has_failed |= !entry;
+        if (!entry)
+            return 0;
         memcpy(entry, post.bytes, 12);
         /* a host on another thread wants a release barrier here: Command Dword 3 has the phase tag */
         memcpy(entry + 12, post.bytes + 12, 4);
@@ -140,10 +156,13 @@ static uint32_t rings(struct device *d, uint16_t doorbell, uint32_t value)
 {
     uint16_t qid = doorbell / 2, to = (uint16_t)value;
     uint32_t told = doorbell % 2 ? nvmearb_ctrl_cq_head(&d->ctrl, qid, to) : nvmearb_ctrl_sq_tail(&d->ctrl, qid, to);
-    while (pass(d))
+    while (!d->has_failed && pass(d))
         ;
     return told;
 }
+
+/* Where the host puts its rings, by the identifiers of their queues. */
+static const uint64_t sq_address[] = {0x1000, 0x3000}, cq_address[] = {0x2000, 0x4000};
 
 /* The host's side of a queue pair. */
 struct pair {
@@ -198,7 +217,7 @@ int main(void)
     nvmearb_sqe create_sq = {.opcode = NVMEARB_OPC_CREATE_SQ, .prp1 = sq_address[1], .cdw10 = cdw10, .cdw11 = 0x10001};
     nvmearb_sqe write = {.opcode = NVMEARB_OPC_WRITE, .nsid = 1, .prp1 = 0x5000, .cdw10 = 3};
     nvmearb_sqe read = {.opcode = NVMEARB_OPC_READ, .nsid = 1, .prp1 = 0x6000, .cdw10 = 3}, over = read, sgl = read;
-    int wrong = enable(&device) != NVMEARB_OK;
+    int wrong = enable(&device, sq_address[0], cq_address[0]) != NVMEARB_OK;
     wrong += run(&admin, create_cq) != 0 || run(&admin, create_sq) != 0;
     for (int n = 0; n < 20; n++) { /* twice round the rings and more */
         memset(memory + 0x5000, n, BLOCK);

@@ -235,6 +235,7 @@ static int work(struct nvme *d)
 {
     nvmearb_command command;
     nvmearb_step step;
+    uint16_t gone;
     int has_picked = 0;
     while (is_due(d) && nvmearb_ctrl_pick(&d->ctrl, d->slots, NVME_COMMANDS, &step) == NVMEARB_OK) {
         has_picked = 1;
@@ -244,6 +245,7 @@ static int work(struct nvme *d)
             d->due = (d->due + 10000000 > d->now ? d->due : d->now) + step.pick.n * 1000000000ull / d->rate;
         while (nvmearb_ctrl_take(&d->ctrl, d->slots, NVME_COMMANDS, &command) == NVMEARB_OK)
             start(d, &command);
+        nvmearb_ctrl_finish(&d->ctrl, d->slots, NVME_COMMANDS, &gone); /* at once, if nothing of its queue is held */
     }
     return has_picked;
 }

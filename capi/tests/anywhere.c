@@ -60,7 +60,9 @@ static int through(uint8_t opcode, uint64_t prp1, uint32_t cdw10, uint32_t cdw11
 
 static int refuses(uint8_t opcode, uint64_t prp1, uint32_t cdw10, uint32_t cdw11, nvmearb_status status)
 {
-    return through(opcode, prp1, cdw10, cdw11, NVMEARB_DONE, status, NULL);
+    nvmearb_asked asked = {1, 1, 1, 1};
+    return through(opcode, prp1, cdw10, cdw11, NVMEARB_DONE, status, &asked) && !asked.address && !asked.qsize &&
+           !asked.vector && !asked.interrupts;
 }
 
 /* What can't be made so. */
@@ -98,7 +100,7 @@ static void limits(void)
     CHECK(refuses(NVMEARB_OPC_CREATE_SQ, AT_SQ + 0x800, 7 << 16 | 1, 1 << 16 | 1, bad_offset));
     CHECK(refuses(NVMEARB_OPC_CREATE_SQ, AT_SQ, 8 << 16 | 1, 1 << 16 | 1, bad_size));
     CHECK(through(NVMEARB_OPC_CREATE_SQ, AT_SQ, 7 << 16 | 1, 1 << 16 | 1, NVMEARB_OPEN_SQ, success, &asked));
-    CHECK(asked.address == AT_SQ && asked.qsize == 7);
+    CHECK(asked.address == AT_SQ && asked.qsize == 7 && asked.vector == 0 && asked.interrupts == 0);
     /* two queues at one address, which is the host's affair */
     CHECK(through(NVMEARB_OPC_CREATE_CQ, AT_CQ, 3 << 16 | 2, 1, NVMEARB_OPEN_CQ, success, &asked));
     CHECK(asked.vector == 0 && asked.interrupts == 0);

@@ -2,16 +2,15 @@
 //! A device over a controller, to be copied: an array stands for guest memory, and another one for the blocks of its
 //! namespace. It serves the admin queues and one I/O queue pair. The host is at the bottom.
 use nvmearb::{admin_opcode, io_opcode};
-use nvmearb::{Config, Controller, Cqe, DoorbellError, Error, Marks, Mechanism, Region, Sqe, Status};
-use nvmearb::{CQE_BYTES, SQE_BYTES};
+use nvmearb::{Answer, Asked, Config, Controller, Cqe, DoorbellError, Error, Marks, Mechanism, Placement, Region, Sqe};
+use nvmearb::{Status, Step, Verdict, CQE_BYTES, SQE_BYTES};
 
 /// The slots of each ring.
 const RING: u16 = 8;
 /// The slots of the controller: enough that commands of one of the two queues never keep those of the other from being
 /// fetched.
 const COMMANDS: usize = 2 * RING as usize + 256;
-/// The addresses of the rings in guest memory, by the number of their region: those of the admin queues and of the I/O
-/// queues.
+/// Where the host puts its rings, by the identifiers of their queues.
 const SQS: [u64; 2] = [0x1000, 0x3000];
 const CQS: [u64; 2] = [0x2000, 0x4000];
 const BLOCKS: usize = 16;
@@ -20,40 +19,58 @@ const PAGE: u64 = 4096;
 
 struct Device {
     ctrl: Controller,
+    /// Where the rings lie, by the identifiers of their queues.
+    sqs: [u64; 2],
+    cqs: [u64; 2],
+    /// CSTS.CFS: a ring isn't in memory, and the device waits for a reset.
+    has_failed: bool,
     blocks: Vec<u8>,
     memory: Vec<u8>,
 }
 
-/// Where a slot of a ring lies.
-fn place(ring: u64, slot: u16, bytes: usize) -> std::ops::Range<usize> {
-    let start = ring as usize + usize::from(slot) * bytes;
-    start..start + bytes
+/// Where a slot of a ring lies. The last addresses have none.
+fn place(ring: u64, slot: u16, bytes: usize) -> Option<std::ops::Range<usize>> {
+    let start = usize::try_from(ring).ok()?.checked_add(usize::from(slot) * bytes)?;
+    Some(start..start.checked_add(bytes)?)
 }
 
 impl Device {
-    /// CC.EN becomes 1.
-    fn enabled() -> Result<Device, Error> {
+    /// CC.EN becomes 1: the host has written ASQ and ACQ.
+    fn enabled(asq: u64, acq: u64) -> Result<Device, Error> {
         let config = Config {
-            asq: Region { address: SQS[0], slots: RING },
-            acq: Region { address: CQS[0], slots: RING },
+            asq: Region { address: asq, slots: RING },
+            acq: Region { address: acq, slots: RING },
             mechanism: Mechanism::Weighted,
             cdw11: 0x0100_0001,
             nsq: 1,
             ncq: 1,
             window: RING,
         };
-        let mut ctrl = Controller::new(&config, COMMANDS)?;
-        ctrl.add_sq_region(SQS[1], RING)?;
-        ctrl.add_cq_region(CQS[1], RING)?;
-        Ok(Device { ctrl, blocks: vec![0; BLOCKS * BLOCK], memory: vec![0; 0x8000] })
+        let placement = Placement { page: PAGE as u32, mqes: RING - 1, vectors: 1 };
+        let ctrl = Controller::anywhere(&config, &placement, COMMANDS)?;
+        let (blocks, memory) = (vec![0; BLOCKS * BLOCK], vec![0; 0x8000]);
+        Ok(Device { ctrl, sqs: [asq, 0], cqs: [acq, 0], has_failed: false, blocks, memory })
+    }
+
+    /// Keeps where the queue lies that a Create made. With interrupts, the vector and the enable bit are kept too.
+    fn keep(&mut self, answer: Answer, asked: Asked) {
+        match answer.verdict {
+            Verdict::OpenSq { qid, .. } => self.sqs[usize::from(qid)] = asked.address,
+            Verdict::OpenCq { qid, .. } => self.cqs[usize::from(qid)] = asked.address,
+            _ => (),
+        }
     }
 
     /// Fetches what the host submitted to a queue.
     fn fetch(&mut self, qid: u16) {
-        let Some(region) = self.ctrl.sq(qid) else { return };
         while let Some(slot) = self.ctrl.fetch(qid) {
             let mut bytes = [0; SQE_BYTES]; // a copy: the host may write there
-            bytes.copy_from_slice(&self.memory[place(SQS[usize::from(region)], slot, SQE_BYTES)]);
+            let at = place(self.sqs[usize::from(qid)], slot, SQE_BYTES);
+            let Some(entry) = at.and_then(|at| self.memory.get(at)) else {
+                self.has_failed = true;
+                return;
+            };
+            bytes.copy_from_slice(entry);
             self.ctrl.fetched(qid, &bytes, qid.into()).expect("the slot was told");
         }
     }
@@ -89,8 +106,12 @@ impl Device {
     /// whether they did anything.
     fn work(&mut self) -> bool {
         let mut did = false;
-        while let Ok(Some(_)) = self.ctrl.pick() {
+        while let Ok(Some(step)) = self.ctrl.pick() {
             did = true;
+            if let Step::CarriedOut(answer, asked) = step {
+                self.keep(answer, asked);
+                self.ctrl.finish(); // of an empty queue, before a Delete of its completion queue
+            }
             while let Some(command) = self.ctrl.take() {
                 let status = self.execute(&command.entry);
                 // (what fails here would fail again)
@@ -104,10 +125,13 @@ impl Device {
     /// Writes the completions of a completion queue, and would send the interrupt.
     fn post(&mut self, cqid: u16) -> bool {
         let mut did = false;
-        let Some(region) = self.ctrl.cq(cqid) else { return false };
         while let Some(post) = self.ctrl.post(cqid) {
             did = true;
-            let entry = &mut self.memory[place(CQS[usize::from(region)], post.slot, CQE_BYTES)];
+            let at = place(self.cqs[usize::from(cqid)], post.slot, CQE_BYTES);
+            let Some(entry) = at.and_then(|at| self.memory.get_mut(at)) else {
+                self.has_failed = true;
+                return false;
+            };
             entry[..12].copy_from_slice(&post.bytes[..12]);
             // a host on another thread wants a release barrier here: Command Dword 3 has the phase tag
             entry[12..].copy_from_slice(&post.bytes[12..]);
@@ -130,7 +154,7 @@ impl Device {
     fn ring(&mut self, doorbell: u16, value: u32) -> Result<(), DoorbellError> {
         let (qid, to) = (doorbell / 2, value as u16);
         let rung = if doorbell % 2 == 0 { self.ctrl.sq_tail(qid, to) } else { self.ctrl.cq_head(qid, to) };
-        while self.pass() {}
+        while !self.has_failed && self.pass() {}
         rung
     }
 }
@@ -152,10 +176,12 @@ impl Pair {
     fn run(&mut self, device: &mut Device, entry: Sqe) -> Result<Status, Box<dyn std::error::Error>> {
         let entry = Sqe { cid: self.tail, ..entry };
         let (sq, cq) = (SQS[usize::from(self.qid)], CQS[usize::from(self.qid)]);
-        device.memory[place(sq, self.tail, SQE_BYTES)].copy_from_slice(&entry.to_bytes());
+        let at = place(sq, self.tail, SQE_BYTES).ok_or("no such slot")?;
+        device.memory[at].copy_from_slice(&entry.to_bytes());
         self.tail = (self.tail + 1) % RING;
         device.ring(2 * self.qid, self.tail.into())?;
-        let mut bytes: [u8; CQE_BYTES] = device.memory[place(cq, self.head, CQE_BYTES)].try_into()?;
+        let at = place(cq, self.head, CQE_BYTES).ok_or("no such slot")?;
+        let mut bytes: [u8; CQE_BYTES] = device.memory[at].try_into()?;
         bytes[15] &= 0x0f; // without its marks
         let done = Cqe::from_bytes(&bytes)?;
         if (done.phase, done.cid, done.sqhd) != (self.phase, entry.cid, self.tail) {
@@ -169,7 +195,7 @@ impl Pair {
 }
 
 fn main() -> Result<(), Box<dyn std::error::Error>> {
-    let mut device = Device::enabled()?;
+    let mut device = Device::enabled(SQS[0], CQS[0])?;
     let (mut admin, mut io) = (Pair::new(0), Pair::new(1));
     let create = |opcode, prp1, cdw11| Sqe { opcode, prp1, cdw10: 0x0007_0001, cdw11, ..Sqe::default() };
     assert_eq!(admin.run(&mut device, create(admin_opcode::CREATE_CQ, CQS[1], 1))?, Status::SUCCESS);

@@ -115,7 +115,7 @@ pub enum Verdict {
     OpenSq {
         /// The queue identifier.
         qid: u16,
-        /// The number of its region.
+        /// The number of its region; where queues may lie anywhere, the identifier.
         region: u16,
         /// Its completion queue.
         cqid: u16,
@@ -126,7 +126,7 @@ pub enum Verdict {
     OpenCq {
         /// The queue identifier.
         qid: u16,
-        /// The number of its region.
+        /// The number of its region; where queues may lie anywhere, the identifier.
         region: u16,
     },
     /// A submission queue is closing, and the command isn't answered yet. The caller fetches and picks no more commands

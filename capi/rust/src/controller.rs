@@ -42,11 +42,11 @@ impl Config {
 /// What a Create may ask for where queues may lie anywhere in memory.
 #[derive(Clone, Copy, Debug, PartialEq, Eq, Hash)]
 pub struct Placement {
-    /// The memory page in bytes (CC.MPS), 1 or more: PRP1 is a multiple of it.
+    /// The memory page in bytes, 2 to the power of 12 + CC.MPS: PRP1 is a multiple of it.
     pub page: u32,
-    /// The largest QSIZE, which is zero based (CAP.MQES).
+    /// The largest QSIZE, which is zero based (CAP.MQES), at least 1.
     pub mqes: u16,
-    /// The number of interrupt vectors: IV is below it.
+    /// The number of interrupt vectors, at least 1, also for a device with a pin: IV is below it.
     pub vectors: u16,
 }
 
@@ -56,16 +56,16 @@ impl Placement {
     }
 }
 
-/// What a Create asks for.
+/// What a Create that made a queue asked for. After any other command all is 0.
 #[derive(Clone, Copy, Debug, Default, PartialEq, Eq, Hash)]
 pub struct Asked {
     /// PRP1: where the ring lies.
     pub address: u64,
     /// QSIZE: its slots less 1.
     pub qsize: u16,
-    /// IV of a completion queue.
+    /// IV of a completion queue; 0 of a submission queue.
     pub vector: u16,
-    /// IEN of a completion queue.
+    /// IEN of a completion queue; false of a submission queue.
     pub interrupts: bool,
 }
 
@@ -81,10 +81,9 @@ impl Asked {
 pub enum Step {
     /// Commands of an I/O queue were picked: [`Controller::take`] gives them.
     Picked(Pick),
-    /// A command of the admin queue was picked and carried out, and came to this. The caller needs to do nothing for it
-    /// but to end a deletion ([`Verdict::BeginDelete`](crate::Verdict::BeginDelete), by [`Controller::finish`]). Its
-    /// completion becomes ready by itself. Of a Create, it tells what that asked for; of any other command this has no
-    /// meaning.
+    /// A command of the admin queue was picked and carried out, and came to this. The caller ends a deletion
+    /// ([`Verdict::BeginDelete`](crate::Verdict::BeginDelete), by [`Controller::finish`]), and keeps what a Create asked
+    /// for that made a queue. Nothing else is left to do: its completion becomes ready by itself.
     CarriedOut(Answer, Asked),
     /// A command of the admin queue was picked that is the device's ([`Controller::own_opcode`],
     /// [`Controller::own_feature`]): [`Controller::take`] gives it.
@@ -170,35 +169,43 @@ impl Post {
 /// The order of calls:
 ///
 /// 1. When the host enables the controller (CC.EN), [`Controller::anywhere`] or [`Controller::reset_anywhere`] with the
-///    admin queues: the host may put its queues anywhere in memory. After [`Controller::new`] a Create names a ring that
-///    was added by [`Controller::add_sq_region`] or [`Controller::add_cq_region`].
+///    admin queues: the host chooses where its queues lie. (After [`Controller::new`] a Create names a region that was
+///    added by [`Controller::add_sq_region`] or [`Controller::add_cq_region`].) When CC.EN becomes 0, make no call until
+///    it is 1 again, and forget all tags: after the reset they are those of other commands.
 /// 2. [`Controller::own_opcode`] and [`Controller::own_feature`] for the admin commands that the device answers itself,
 ///    such as Identify.
 /// 3. At each doorbell write [`Controller::sq_tail`] or [`Controller::cq_head`].
 /// 4. For each queue, while [`Controller::fetch`] tells a slot: read the entry there, and [`Controller::fetched`].
 /// 5. While [`Controller::take`] gives a command, execute it. Where it has none, [`Controller::pick`], and begin again,
-///    until that picks nothing either.
+///    until that picks nothing either. At a step that created a queue keep its [`Asked`] by the identifier, those of
+///    submission queues and of completion queues apart. At one that began a deletion do 8. at once.
 /// 6. [`Controller::complete`] or [`Controller::complete_with`] for each command that ends, in any order and at any
 ///    time.
 /// 7. For each completion queue, while [`Controller::post`] gives a completion: write it into the slot of the ring,
-///    and then send the interrupt.
-/// 8. After a pick that began a deletion, [`Controller::finish`] at once and after each 7., while it ends one. Until then
-///    nothing is fetched or picked of that queue, and a Delete of its completion queue is refused with
-///    [`Status::INVALID_QUEUE_DELETION`]; what the device has of it may still be completed. Other queues go on, and
-///    further deletions may begin.
+///    and then send the interrupt of the queue's vector, if its enable bit is set.
+/// 8. After a pick that began a deletion, [`Controller::finish`] at once and after each 7., while it ends one. Until it
+///    ends, nothing is fetched or picked of that queue, and a Delete of its completion queue is refused with
+///    [`Status::INVALID_QUEUE_DELETION`], also one that came with it. What the device has of the queue may still be
+///    completed. Other queues go on, and further deletions may begin.
 ///
 /// An admin command that is neither the controller's own nor the device's is answered with [`Status::INVALID_OPCODE`],
-/// and Set and Get Features of such a feature identifier with [`Status::INVALID_FIELD`]. A Create names a region that
-/// was added before. There are at most 65 of a kind until the next reset; an address is that of one, and one queue uses
-/// it, once. At most 256 commands are picked and have no completion posted; an Asynchronous Event Request that the
+/// and Set and Get Features of such a feature identifier with [`Status::INVALID_FIELD`].
+///
+/// After [`Controller::anywhere`] a Create names any address, and the host may use the memory of a queue again once its
+/// Delete is answered. The library doesn't know the memory: a Create at an address where none is, or over another ring,
+/// is accepted. Where an access to a ring fails, the device sets CSTS.CFS and waits for the reset. After
+/// [`Controller::new`] a Create names a region that was added before. There are at most 65 of a kind until the next
+/// reset; an address is that of one, and one queue uses it, once.
+///
+/// At most 256 commands are picked and have no completion posted; an Asynchronous Event Request that the
 /// device holds is one of them.
 ///
 /// It isn't `Clone`: two copies would post the same completions.
 ///
 /// ```
-/// use nvmearb::{admin_opcode, feature, Config, Controller, Cqe, Mechanism, Region, Sqe};
+/// use nvmearb::{admin_opcode, feature, Config, Controller, Cqe, Mechanism, Placement, Region, Sqe};
 ///
-/// let mut ctrl = Controller::new(
+/// let mut ctrl = Controller::anywhere(
 ///     &Config {
 ///         asq: Region { address: 0x1000, slots: 8 },
 ///         acq: Region { address: 0x2000, slots: 8 },
@@ -208,7 +215,8 @@ impl Post {
 ///         ncq: 4,
 ///         window: 8,
 ///     },
-///     16,
+///     &Placement { page: 4096, mqes: 4095, vectors: 1 },
+///     5 * 8 + 256,
 /// )?;
 /// let entry =
 ///     Sqe { opcode: admin_opcode::GET_FEATURES, cid: 5, cdw10: feature::ARBITRATION.into(), ..Sqe::default() };
@@ -268,8 +276,15 @@ impl Controller {
     }
 
     /// A controller whose queues may lie anywhere in memory, as [`Controller::new`] makes one whose queues lie on
-    /// regions. A Create is refused with 1/02 if QSIZE is above `mqes`, with 0/13 if PRP1 isn't a multiple of the page,
-    /// and with 1/08 if IV isn't below `vectors`.
+    /// regions. Take `(nsq + 1) * window + 256` slots; that these suffice isn't proved.
+    ///
+    /// The first of these that applies refuses a Create that isn't fused. [`Status::INVALID_QUEUE_SIZE`]: QSIZE is
+    /// above `mqes` or 4095. [`Status::PRP_OFFSET_INVALID`]: PRP1 isn't a multiple of the page.
+    /// [`Status::INVALID_INTERRUPT_VECTOR`]: IV of a completion queue isn't below `vectors`, whatever IEN.
+    /// [`Status::INVALID_FIELD`]: PC is 0. [`Status::INVALID_QUEUE_IDENTIFIER`]: QID is 0, above the allotted number, or
+    /// that of a queue that is open or closing. [`Status::INVALID_QUEUE_SIZE`]: QSIZE is 0. Of a submission queue
+    /// [`Status::INVALID_QUEUE_IDENTIFIER`]: CQID is 0 or above the allotted number, and
+    /// [`Status::COMPLETION_QUEUE_INVALID`]: that queue isn't open.
     ///
     /// [`Error::Argument`]: as [`Controller::new`], and if `page` is 0. Otherwise [`Error::Size`]: `asq` or `acq`
     /// doesn't have 2 to 4096 slots.
@@ -295,8 +310,8 @@ impl Controller {
     /// Adds a submission region, which a Create I/O Submission Queue may name, and answers its number.
     ///
     /// The first of these: [`Error::Used`]: a region of either kind has this address. [`Error::TooMany`]: there are
-    /// [`MAX_REGIONS`](crate::MAX_REGIONS) submission regions, or queues may lie anywhere. [`Error::Size`]: `slots` isn't
-    /// 2 to 4096.
+    /// [`MAX_REGIONS`](crate::MAX_REGIONS) submission regions, or queues may lie anywhere. [`Error::Size`]: `slots`
+    /// isn't 2 to 4096.
     pub fn add_sq_region(&mut self, address: u64, slots: u16) -> Result<u16, Error> {
         // SAFETY: references.
         written(|number| unsafe { sys::nvmearb_ctrl_add_sq_region(&mut *self.ctrl, address, slots, number) })
@@ -310,9 +325,9 @@ impl Controller {
 
     /// From now on the admin commands of this opcode are the device's: they are picked in their turn
     /// ([`Step::Passed`]), and the device takes and completes them as it does commands of I/O queues, at any later
-    /// time. An Asynchronous Event Request waits like this. [`Controller::reset`] forgets it. The opcodes 00h, 01h,
-    /// 04h, 05h, 09h and 0Ah stay the controller's, and so does a fused command, which it refuses. The device checks
-    /// PSDT.
+    /// time. An Asynchronous Event Request waits like this. A reset forgets it. The opcodes 00h, 01h, 04h, 05h, 09h and
+    /// 0Ah stay the controller's, and so does a fused command, which it refuses. The device checks PSDT, which the
+    /// controller doesn't look at.
     ///
     /// An Abort, 08h, is the device's where it was announced and names no command that waits. The device finds the tag
     /// of that command by [`Controller::named`], ends it if it can, and completes the Abort with 0 as Command Dword 0,
@@ -473,13 +488,15 @@ impl Controller {
         sure(found(|tag| unsafe { sys::nvmearb_ctrl_named(ctrl, slots.as_ptr(), slots.len(), qid, cid, tag) }))
     }
 
-    /// The number of the region of a submission queue. None if the queue isn't open or is closing.
+    /// The number of the region of a submission queue, which is `qid` where queues may lie anywhere. None if the queue
+    /// isn't open or is closing.
     pub fn sq(&self, qid: u16) -> Option<u16> {
         // SAFETY: references.
         sure(found(|region| unsafe { sys::nvmearb_ctrl_sq(&*self.ctrl, qid, region) }))
     }
 
-    /// The number of the region of a completion queue. None if the queue isn't open.
+    /// The number of the region of a completion queue, which is `cqid` where queues may lie anywhere. None if the queue
+    /// isn't open.
     pub fn cq(&self, cqid: u16) -> Option<u16> {
         // SAFETY: references.
         sure(found(|region| unsafe { sys::nvmearb_ctrl_cq(&*self.ctrl, cqid, region) }))

@@ -13,7 +13,7 @@ pub enum Error {
     Argument,
     /// Another region has this address. (`NVMEARB_EUSED`)
     Used,
-    /// There are [`MAX_REGIONS`](crate::MAX_REGIONS) regions of this kind. (`NVMEARB_EMANY`)
+    /// There are [`MAX_REGIONS`](crate::MAX_REGIONS) regions of this kind, or queues may lie anywhere. (`NVMEARB_EMANY`)
     TooMany,
     /// A region has 2 to 4096 slots. (`NVMEARB_ESIZE`)
     Size,
@@ -29,7 +29,7 @@ impl fmt::Display for Error {
             Error::Missing => "there is no such queue or command",
             Error::Argument => "an argument isn't valid",
             Error::Used => "another region has this address",
-            Error::TooMany => "there are 65 regions of this kind",
+            Error::TooMany => "no region of this kind can be added",
             Error::Size => "a region has 2 to 4096 slots",
             Error::Busy => "commands are to be taken before the next pick",
             Error::Full => "too many commands were picked and aren't completed",

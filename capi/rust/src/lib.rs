@@ -45,8 +45,8 @@
 //!
 //! It allocates nothing, starts no thread and keeps no pointer: all states can be moved, and sent to other threads.
 //! Calls on one state run one after another, so no state is `Sync`. An [`Arbiter`], a [`Board`], a [`Table`] and a
-//! [`Controller`] are made only if the library is of this crate's version: else their `new` panics
-//! ([`is_library_of_this_version`]).
+//! [`Controller`] are made only if the library is of this crate's version: else their making
+//! panics ([`is_library_of_this_version`]).
 //!
 //! # What a call promises
 //!

@@ -55,8 +55,9 @@ impl Host {
     }
 
     fn is_refused(&mut self, opcode: u8, prp1: u64, cdw10: u32, cdw11: u32, want: Status) {
-        let (answer, _, status, marks) = self.goes_through(opcode, prp1, cdw10, cdw11);
+        let (answer, asked, status, marks) = self.goes_through(opcode, prp1, cdw10, cdw11);
         assert_eq!((answer.verdict, status, marks), (Verdict::Done, want, Marks::DO_NOT_RETRY));
+        assert_eq!(asked, Asked::default());
     }
 
     /// A Read goes through queue 1.
@@ -100,7 +101,7 @@ fn creates_are_refused_and_told() {
     host.is_refused(CREATE_SQ, AT_SQ + 0x800, 7 << 16 | 1, 1 << 16 | 1, Status::PRP_OFFSET_INVALID);
     let (answer, asked) = host.succeeds(CREATE_SQ, AT_SQ, 3 << 16 | 1, 1 << 16 | 1);
     assert!(matches!(answer.verdict, Verdict::OpenSq { qid: 1, region: 1, cqid: 1, .. }));
-    assert_eq!((asked.address, asked.qsize), (AT_SQ, 3));
+    assert_eq!(asked, Asked { address: AT_SQ, qsize: 3, vector: 0, interrupts: false });
     assert_eq!((host.ctrl.sq(1), host.ctrl.cq(1), host.ctrl.sq(2)), (Some(1), Some(1), None));
     assert_eq!(host.ctrl.reset_anywhere(&config(), &PLACEMENT), Ok(()));
     assert_eq!((host.ctrl.sq(1), host.ctrl.cq(1)), (None, None));

@@ -17,6 +17,7 @@ use Rattle.nvme_ctrl.specs.Steps.{HasDone}
 use Rattle.nvme_admin.specs.Effects.{verdict_in}
 use Rattle.nvme_admin.specs.Placing.{vector_of, interrupts_of}
 use Rattle.nvme_admin.specs.declared.effect.Effect.{Effect}
+use Rattle.nvme_admin.specs.declared.effect.Effect.TheVariants.{OpenSq, OpenCq}
 use Rattle.nvme_entry.specs.declared.submission.Sqe.{Sqe}
 use Rattle.nvme_capi.specs.declared.ctrl.state.AskedFields.{AskedFields}
 use Rattle.nvme_capi.specs.declared.ctrl.state.PlacementFields.{PlacementFields}
@@ -72,19 +73,19 @@ pub record IsCommandIn (slots : List Slot) (tag : ℕ) (f : CommandFields) : Typ
   pub entry : f.entry ≡ (slot_at slots tag).entry
   pub cookie_is : f.cookie ≡ (slot_at slots tag).cookie
 
--- what a Create asks for: PRP1, QSIZE, which is zero based, IV and IEN. (Create I/O Submission Queue, Create I/O Completion Queue)
-pub record IsAsked (f : AskedFields) (entry : Sqe) : Type 0 where
-  pub address_is : f.address ≡ entry.prp1
-  pub qsize_is : f.qsize ≡ bits_of 31 16 entry.cdw10
-  pub vector_is : f.vector ≡ vector_of entry
-  pub interrupts_is : f.interrupts ≡ (if interrupts_of entry then 1 else 0)
+-- what a Create that made a queue asked for: PRP1, QSIZE, which is zero based, and of a completion queue IV and IEN; 0 of
+-- all other commands. (Base Specification, Create I/O Submission Queue, Create I/O Completion Queue)
+abbrev pub asked_in : Effect → Sqe → AskedFields
+asked_in (OpenSq qid region cqid cq_region class) entry = record { address = entry.prp1; qsize = bits_of 31 16 entry.cdw10; vector = 0; interrupts = 0 }
+asked_in (OpenCq qid region) entry = record { address = entry.prp1; qsize = bits_of 31 16 entry.cdw10; vector = vector_of entry; interrupts = if interrupts_of entry then 1 else 0 }
+asked_in effect entry = record { address = 0; qsize = 0; vector = 0; interrupts = 0 }
 
--- a command of the admin queue was picked and carried out, and what it came to is told, with what its entry asks for
+-- a command of the admin queue was picked and carried out, and what it came to is told, with what it asked for
 pub record HasToldWhat (rules : FrontRules) (late : Bool) (notes : Notes) (told : AnswerFields) (asked : AskedFields) (c : Controller) (slots : List Slot) : Type 0 where
   pub effect : Effect
   pub entry : Sqe
   pub told_is : told ≡ answer_of (verdict_in effect)
-  pub asked_is : IsAsked asked entry
+  pub asked_is : asked ≡ asked_in effect entry
   pub done : HasDone rules late notes effect entry c slots
 
 -- the priority class of an I/O queue that a number says: 1 urgent to 4 low

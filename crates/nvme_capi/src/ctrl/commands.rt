@@ -15,7 +15,7 @@ ghost use Rattle.nvme_ctrl.specs.Steps.{IsNextPick, HasStepped, NoneFinishable, 
 ghost use Rattle.nvme_ctrl.specs.Posts.{NonePostable};
 ghost use Rattle.nvme_ctrl.specs.declared.picks.Step.TheVariants as made;
 ghost use Rattle.nvme_capi.specs.States.{pick_of_fields};
-ghost use Rattle.nvme_capi.specs.Controllers.{is_ctrl, has_slots, IsKept, HasToldWhat, IsAsked, IsCommandIn, device_answer, marks_by, IsMarkedEntry, HasPostedBytes, IsPostIn};
+ghost use Rattle.nvme_capi.specs.Controllers.{is_ctrl, has_slots, IsKept, HasToldWhat, asked_in, IsCommandIn, device_answer, marks_by, IsMarkedEntry, HasPostedBytes, IsPostIn};
 
 use crate::answers::{answer_of, plain_answer};
 use crate::ctrl::marks::{marked, marks_by};
@@ -25,6 +25,7 @@ use crate::ctrl::state::{
 use crate::fields::StatusFields;
 use crate::results::{BAD_ARGUMENT, BAD_STATE, BUSY, FULL, NOTHING, OK};
 use crate::states::{PickFields, fields_of_pick};
+use nvme_admin::Effect;
 use nvme_ctrl::{Answer, Marks, Post, Slot, Step};
 use nvme_entry::{Sqe, Status};
 
@@ -62,8 +63,10 @@ pub extern "C" fn nvmearb_ctrl_peek(state: &CtrlState, slots: &[Slot], pick: &mu
     }
 }
 
-// Of no Create nothing is asked for.
-fn nothing_asked() -> AskedFields {
+// Nothing is asked for but by a Create.
+fn nothing_asked() -> AskedFields
+    ensures { result ≡ record { address = 0; qsize = 0; vector = 0; interrupts = 0 } }
+{
     AskedFields {
         address: 0,
         qsize: 0,
@@ -86,15 +89,24 @@ fn has_interrupts(entry: &Sqe) -> bool
     entry.cdw11 / 2 % 2 == 1
 }
 
-// What a Create asks for.
-fn asked_by(entry: &Sqe) -> AskedFields
-    ensures { IsAsked result entry.now }
+// What a command that was carried out asked for, if it made a queue.
+fn asked_by(effect: &Effect, entry: &Sqe) -> AskedFields
+    ensures { result ≡ asked_in effect.now entry.now }
 {
-    AskedFields {
-        address: entry.prp1,
-        qsize: high_half(entry.cdw10),
-        vector: high_half(entry.cdw11),
-        interrupts: u16::from(has_interrupts(entry)),
+    match effect {
+        Effect::OpenSq { .. } => AskedFields {
+            address: entry.prp1,
+            qsize: high_half(entry.cdw10),
+            vector: 0,
+            interrupts: 0,
+        },
+        Effect::OpenCq { .. } => AskedFields {
+            address: entry.prp1,
+            qsize: high_half(entry.cdw10),
+            vector: high_half(entry.cdw11),
+            interrupts: u16::from(has_interrupts(entry)),
+        },
+        _ => nothing_asked(),
     }
 }
 
@@ -160,7 +172,7 @@ pub extern "C" fn nvmearb_ctrl_pick(
                     n: 0,
                     fresh: 0,
                 },
-                asked: asked_by(&entry),
+                asked: asked_by(&effect, &entry),
             };
             OK
         }
