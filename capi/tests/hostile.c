@@ -1,140 +1,19 @@
 /*
- * A controller under a hostile host and a hostile device: ten million calls with drawn arguments, under a fixed seed.
- * An account of its own keeps each command in plain lists, and says before each call what it has to answer and to
- * write. The account picks as an arbiter that is shown its counts, and answers admin commands as a queue table.
+ * Controllers under a hostile host and a hostile device: ten million calls with drawn arguments, under a fixed seed. An
+ * account of its own (account.h) keeps each queue and each command in plain lists, and says before each call what it
+ * has to answer and to write. The account picks as an arbiter that is shown its counts. Of about every second
+ * controller queues may lie anywhere. Of the others they lie on regions, and a queue table answers as the account does.
  *
  *   hostile [COUNT [SEED]]
  */
+#include "account.h"
 #include "tell.h"
-#include <nvmearb.h>
 #include <stdlib.h>
-#include <string.h>
 
-enum { SLOTS = 600, GUARD = 64, NO_COMMAND = SLOTS };
+enum { GUARD = 64, IDENTIFIERS = 6 };
 
-/* ---- The account ---- */
-
-enum state { NOT_HERE, WAITING, PICKED, OUT, READY };
-
-/* A command, from its fetch until its completion is posted. */
-struct command {
-    enum state state;
-    int takes_place, has_tag;
-    uint16_t qid, sq, cq, tag; /* its submission queue, the regions of its queues, and its tag once it was taken */
-    uint32_t cookie, dw0;
-    nvmearb_status status;
-    uint8_t entry[NVMEARB_SQE_BYTES], marks;
-};
-
-/* Commands in an order, by their numbers. */
-struct list {
-    unsigned n;
-    uint16_t at[SLOTS];
-};
-
-/* The ring on a submission region, and on a completion region: what was counted there since the beginning. */
-struct sq {
-    uint64_t address;
-    uint16_t slots;
-    uint64_t submitted, fetched;
-    unsigned unposted;
-    uint16_t deleting, closing; /* the Delete whose deletion is pending, or NO_COMMAND; its queue */
-    struct list waiting;
-};
-struct cq {
-    uint64_t address;
-    uint16_t slots;
-    uint64_t consumed, posted;
-    struct list ready;
-};
-
-static struct account {
-    struct command commands[SLOTS];
-    unsigned slots, held, places, window, nsqs, ncqs, pending;
-    int is_slow; /* the device hardly completes anything */
-    struct sq sqs[NVMEARB_MAX_REGIONS];
-    struct cq cqs[NVMEARB_MAX_REGIONS];
-    struct list picked;
-    uint16_t by_tag[SLOTS]; /* numbers of commands, or NO_COMMAND */
-    nvmearb_table table;
-    nvmearb_arbiter arbiter;
-    uint8_t opcodes[256], fids[256]; /* 1 for those that are the device's */
-    /* 1 for queues that are held, and the classes that were set, or 0 */
-    uint8_t holds[NVMEARB_MAX_QUEUES], classes[NVMEARB_MAX_QUEUES];
-} account;
-
-static void push(struct list *list, uint16_t number)
-{
-    list->at[list->n++] = number;
-}
-
-/* Takes the number at a place of a list. */
-static uint16_t pull(struct list *list, unsigned place)
-{
-    uint16_t number = list->at[place];
-    list->n--;
-    memmove(list->at + place, list->at + place + 1, (list->n - place) * sizeof *list->at);
-    return number;
-}
-
-static uint64_t gap(uint16_t slots, uint64_t from, uint16_t to)
-{
-    return (to + slots - from % slots) % slots;
-}
-
-/* The ring of a submission queue that is open and isn't closing. */
-static struct sq *open_sq(uint16_t qid)
-{
-    nvmearb_queue queue;
-    if (nvmearb_table_sq(&account.table, qid, &queue) != NVMEARB_OK || queue.closing)
-        return NULL;
-    return &account.sqs[queue.region];
-}
-
-static struct cq *open_cq(uint16_t cqid)
-{
-    uint16_t region;
-    return nvmearb_table_cq(&account.table, cqid, &region) == NVMEARB_OK ? &account.cqs[region] : NULL;
-}
-
-/* What an arbiter is shown: how many commands wait in each open queue, none in one that is held. */
-static size_t observe(nvmearb_seen *seen)
-{
-    nvmearb_queue queue;
-    size_t n = 0;
-    for (uint16_t qid = 0; qid < NVMEARB_MAX_QUEUES; qid++)
-        if (nvmearb_table_sq(&account.table, qid, &queue) == NVMEARB_OK && !queue.closing)
-            seen[n++] = (nvmearb_seen){qid, account.classes[qid] ? account.classes[qid] : queue.priority,
-                                       (uint16_t)(account.holds[qid] ? 0 : account.sqs[queue.region].waiting.n)};
-    return n;
-}
-
-/* The statuses that no retry changes. */
-static int has_dnr(nvmearb_status it)
-{
-    static const nvmearb_status final[] = {{0, 0x01}, {0, 0x02}, {0, 0x0c}, {1, 0x00}, {1, 0x01}, {1, 0x02}, {1, 0x0d}};
-    for (unsigned k = 0; k < sizeof final / sizeof *final; k++)
-        if (it.sct == final[k].sct && it.sc == final[k].sc)
-            return 1;
-    return 0;
-}
-
-/* The completion of a command is ready. */
-static void ready(uint16_t number, nvmearb_status status, uint32_t dw0, uint8_t marks)
-{
-    struct command *it = &account.commands[number];
-    it->state = READY;
-    it->status = status;
-    it->dw0 = dw0;
-    it->marks = marks;
-    push(&account.cqs[it->cq].ready, number);
-}
-
-/* So is that of one which the controller answers itself. */
-static void answered(uint16_t number, nvmearb_status status, uint32_t dw0)
-{
-    ready(number, status, dw0, has_dnr(status) ? NVMEARB_DNR : 0);
-}
+/* Answers as the account does where queues lie on regions. */
+static nvmearb_table table;
 
 /* ---- The draws ---- */
 
@@ -145,31 +24,96 @@ static uint32_t upto(uint32_t n)
     return (uint32_t)((drawn(&seed) >> 20) % n);
 }
 
-/* Mostly a queue with a small identifier, which is open. */
+/* An identifier of a queue: mostly a small one, and some of those about the largest. */
+static uint16_t draw_identifier(void)
+{
+    return (uint16_t)(upto(10) ? upto(IDENTIFIERS) : QUEUES - 3 + upto(4));
+}
+
+/* That of an I/O queue of which `most` are allotted: mostly one that may be. */
+static uint32_t draw_allotted(uint16_t most)
+{
+    return upto(6) ? 1 + upto(most < IDENTIFIERS ? most : IDENTIFIERS) : draw_identifier();
+}
+
+/* Mostly that of a queue which is open. */
 static uint16_t draw_qid(void)
 {
-    uint16_t qid = (uint16_t)upto(6);
+    uint16_t qid = draw_identifier();
+    if (account.stirs && upto(3) == 0)
+        return 0;
     for (int k = 0; k < 3 && !open_sq(qid); k++)
-        qid = (uint16_t)upto(6);
+        qid = draw_identifier();
     return upto(60) ? qid : (uint16_t)upto(0x10000);
+}
+
+/* An address for a queue that may lie anywhere: one of a few, that of a queue which is or was there, or any other. */
+static uint64_t draw_address(void)
+{
+    uint32_t page = account.placement.page;
+    uint64_t any = drawn(&seed);
+    switch (upto(8)) {
+    case 0:
+        return account.sqs[upto(IDENTIFIERS)].address;
+    case 1:
+        return account.cqs[upto(IDENTIFIERS)].address;
+    case 2:
+        return upto(2) ? any : any - any % page;
+    case 3:
+        return (uint64_t)page * upto(6) + upto(page);
+    }
+    return (uint64_t)page * (1 + upto(6));
+}
+
+/* QSIZE of such a queue: a small one, or one about the largest. */
+static uint32_t draw_qsize(void)
+{
+    uint32_t mqes = account.placement.mqes;
+    if (upto(6))
+        return upto(mqes < 24 ? mqes + 1 : 24);
+    return (upto(3) ? mqes - 1 + upto(3) : LARGEST_QSIZE - 1u + upto(3)) & 0xffff;
+}
+
+/* IV of a completion queue: mostly one that there is. */
+static uint32_t draw_vector(void)
+{
+    uint32_t vectors = account.placement.vectors;
+    return upto(8) && vectors ? upto(vectors) : (vectors - 1 + upto(2)) & 0xffff;
+}
+
+/* PRP1 and QSIZE of a Create, which mostly fit. */
+static void draw_place(nvmearb_sqe *it)
+{
+    const struct regions *regions = it->opcode == NVMEARB_OPC_CREATE_SQ ? &account.sq_regions : &account.cq_regions;
+    const nvmearb_region *region = &regions->at[upto(regions->n)];
+    it->prp1 = account.is_anywhere ? draw_address() : upto(20) ? region->address : drawn(&seed);
+    it->cdw10 |= (account.is_anywhere ? draw_qsize() : upto(20) ? region->slots - 1u : upto(0x10000)) << 16;
+}
+
+/* NSQR or NCQR: a small number, or the one that isn't valid. */
+static uint32_t draw_number(void)
+{
+    return upto(20) ? upto(8) : 0xffff;
 }
 
 /* An entry for the admin queue, whose fields mostly fit what is there. */
 static void draw_admin(nvmearb_sqe *it)
 {
     static const uint8_t opcodes[] = {0, 1, 1, 1, 4, 5, 5, 8, 8, 8, 9, 10, 10, 6, 0x0c}, fids[] = {1, 7, 2, 0x0b, 1};
-    uint32_t high = upto(8), sq = upto(account.nsqs), cq = upto(account.ncqs);
-    int is_sq;
-    it->opcode = opcodes[upto(sizeof opcodes)];
+    static const uint8_t of_queues[] = {0, 0, 1, 1, 1, 4, 5};
+    uint32_t sel = upto(8);
+    it->opcode = account.stirs && upto(6) ? of_queues[upto(sizeof of_queues)] : opcodes[upto(sizeof opcodes)];
     it->flags = (uint8_t)(upto(30) ? 0 : upto(256));
-    is_sq = it->opcode == NVMEARB_OPC_CREATE_SQ;
-    it->prp1 = upto(20) ? (is_sq ? account.sqs[sq].address : account.cqs[cq].address) : drawn(&seed);
-    it->cdw10 = is_sq ? account.sqs[sq].slots - 1u : account.cqs[cq].slots - 1u;
-    it->cdw10 = upto(6) | (it->opcode == NVMEARB_OPC_ABORT ? upto(12) : upto(20) ? it->cdw10 : upto(0x10000)) << 16;
-    it->cdw11 = 1 | upto(4) << 1 | upto(6) << 16;
+    it->cdw10 = draw_allotted(upto(2) ? account.nsq : account.ncq);
+    it->cdw11 = (upto(30) != 0) | upto(4) << 1;
+    if (it->opcode == NVMEARB_OPC_ABORT)
+        it->cdw10 |= upto(12) << 16;
+    else
+        draw_place(it);
+    it->cdw11 |= (it->opcode == NVMEARB_OPC_CREATE_CQ ? draw_vector() : draw_allotted(account.ncq)) << 16;
     if (it->opcode == NVMEARB_OPC_SET_FEATURES || it->opcode == NVMEARB_OPC_GET_FEATURES) {
-        it->cdw10 = fids[upto(sizeof fids)] | (high < 4 ? high << 8 : 0) | (upto(40) ? 0 : 0x80000000u);
-        it->cdw11 = (uint32_t)drawn(&seed);
+        it->cdw10 = fids[upto(sizeof fids)] | (sel < 4 ? sel << 8 : 0) | (upto(40) ? 0 : 0x80000000u);
+        it->cdw11 = upto(2) ? (uint32_t)drawn(&seed) : draw_number() | draw_number() << 16;
     }
 }
 
@@ -197,8 +141,9 @@ static struct {
 #define POOL room.slots, account.slots
 
 static struct {
-    uint64_t ok, none, busy, full, refused, passed, passed_aborts, named, held, classed, deletions, together, aborts, marked, created,
-        made;
+    uint64_t ok, none, busy, full, refused, passed, passed_aborts, named, held, classed, deletions, together, aborts;
+    uint64_t marked, created, made;
+    uint64_t anywhere, lies_anywhere, most, bad_sizes, bad_offsets, bad_vectors; /* where queues may lie anywhere */
 } tally;
 
 /* Whether a call answered what it had to. */
@@ -212,32 +157,62 @@ static int is_right(uint32_t told, uint32_t want)
     return told == want;
 }
 
+/* The limits of queues that may lie anywhere. Within those of 0 none can be created. */
+static nvmearb_placement draw_placement(void)
+{
+    static const uint32_t pages[] = {1, 2, 3, 8, 0x200, 0x1000, 0x1000, 0x1000, 0x10000, 0x80000000};
+    static const uint16_t sizes[] = {1, 2, 7, 31, 63, 1023, 4094, 4095, 4096, 0xffff}, vectors[] = {1, 2, 4, 0xffff};
+    nvmearb_placement it = {pages[upto(10)], upto(2) ? sizes[upto(10)] : (uint16_t)(1 + upto(40)), vectors[upto(4)]};
+    it.mqes = upto(30) ? it.mqes : 0;
+    it.vectors = upto(30) ? it.vectors : 0;
+    return it;
+}
+
+/* The account begins with the admin queues alone. */
+static void begin(const nvmearb_config *config)
+{
+    memset(&account, 0, sizeof account);
+    account.is_anywhere = (int)upto(2);
+    if (account.is_anywhere)
+        account.placement = draw_placement();
+    account.sqs[0] = (struct sq){.state = OPEN, .address = config->asq.address, .slots = config->asq.slots};
+    account.cqs[0] = (struct cq){.is_open = 1, .address = config->acq.address, .slots = config->acq.slots};
+    account.sq_regions = (struct regions){1, {config->asq}, {1}};
+    account.cq_regions = (struct regions){1, {config->acq}, {1}};
+    account.nsq = config->nsq, account.ncq = config->ncq;
+    account.cdw11 = config->cdw11 & ~0xf8u;
+    account.window = config->window;
+    account.slots = upto(3) ? SLOTS : 1 + upto(SLOTS);
+    account.stirs = account.is_anywhere && upto(5) == 0;
+    account.is_slow = !account.stirs && upto(3) == 0;
+    for (unsigned tag = 0; tag < SLOTS; tag++)
+        account.by_tag[tag] = NO_COMMAND;
+}
+
+static uint16_t draw_limit(void)
+{
+    return (uint16_t)(upto(4) ? 1 + upto(IDENTIFIERS) : NVMEARB_MAX_IO_QUEUES);
+}
+
 /* The controller is made, as at the end of a reset. Nothing of before is left. */
 static int make(void)
 {
     static const uint16_t windows[] = {1, 2, 16, 256, 300};
-    nvmearb_config config = {{0x1000, (uint16_t)(2 + upto(40))}, {0x2000, (uint16_t)(2 + upto(40))},
-                             1 + upto(2), (uint32_t)drawn(&seed), (uint16_t)(1 + upto(6)), (uint16_t)(1 + upto(6)), 0};
+    nvmearb_config config = {{0x1000, (uint16_t)(2 + upto(40))}, {0x2000, (uint16_t)(2 + upto(40))}, 1 + upto(2),
+                             (uint32_t)drawn(&seed), draw_limit(), draw_limit(), windows[upto(5)]};
     uint16_t number;
-    memset(&account, 0, sizeof account);
-    config.window = windows[upto(5)];
-    account.window = config.window;
-    account.slots = upto(3) ? SLOTS : 1 + upto(SLOTS);
-    for (unsigned region = 0; region < NVMEARB_MAX_REGIONS; region++)
-        account.sqs[region].deleting = NO_COMMAND;
-    for (unsigned tag = 0; tag < SLOTS; tag++)
-        account.by_tag[tag] = NO_COMMAND;
-    account.is_slow = upto(3) == 0;
-    account.nsqs = account.ncqs = 1;
-    account.sqs[0].address = config.asq.address, account.sqs[0].slots = config.asq.slots;
-    account.cqs[0].address = config.acq.address, account.cqs[0].slots = config.acq.slots;
+    begin(&config);
     draw_into(&seed, &room, sizeof room);
     memset(room.before, 0xa5, GUARD), memset(room.between, 0xa5, GUARD), memset(room.after, 0xa5, GUARD);
     tally.made++;
-    return nvmearb_table_init(&account.table, config.nsq, config.ncq, config.cdw11) == NVMEARB_OK &&
-           nvmearb_table_add_sq_region(&account.table, 0x1000, config.asq.slots, &number) == NVMEARB_OK &&
-           nvmearb_table_add_cq_region(&account.table, 0x2000, config.acq.slots, &number) == NVMEARB_OK &&
-           nvmearb_arbiter_init(&account.arbiter, config.mechanism, config.cdw11) == NVMEARB_OK &&
+    tally.anywhere += (uint64_t)account.is_anywhere;
+    if (nvmearb_arbiter_init(&account.arbiter, config.mechanism, config.cdw11) != NVMEARB_OK)
+        return 0;
+    if (account.is_anywhere)
+        return nvmearb_ctrl_init_anywhere(CTRL, POOL, &config, &account.placement) == NVMEARB_OK;
+    return nvmearb_table_init(&table, config.nsq, config.ncq, config.cdw11) == NVMEARB_OK &&
+           nvmearb_table_add_sq_region(&table, 0x1000, config.asq.slots, &number) == NVMEARB_OK &&
+           nvmearb_table_add_cq_region(&table, 0x2000, config.acq.slots, &number) == NVMEARB_OK &&
            nvmearb_ctrl_init(CTRL, POOL, &config) == NVMEARB_OK;
 }
 
@@ -246,26 +221,29 @@ static int is_whole(void)
 {
     uint8_t want[GUARD];
     memset(want, 0xa5, GUARD);
-    return nvmearb_ctrl_verify(CTRL, POOL) == NVMEARB_OK && !memcmp(room.before, want, GUARD) && !memcmp(room.between, want, GUARD) && !memcmp(room.after, want, GUARD);
+    return nvmearb_ctrl_verify(CTRL, POOL) == NVMEARB_OK && !memcmp(room.before, want, GUARD) &&
+           !memcmp(room.between, want, GUARD) && !memcmp(room.after, want, GUARD);
 }
 
+/* Adds a region. Where queues may lie anywhere this is refused, and changes nothing. */
 static int adds(void)
 {
     int is_sq = (int)upto(2);
-    uint64_t address = 0x1000 * (uint64_t)(1 + upto(200));
-    uint16_t slots = (uint16_t)(upto(20) ? 2 + upto(upto(2) ? 24 : 300) : upto(6000)), number = 0, found = 0;
-    uint32_t want = is_sq ? nvmearb_table_add_sq_region(&account.table, address, slots, &number)
-                          : nvmearb_table_add_cq_region(&account.table, address, slots, &number);
-    uint32_t told = is_sq ? nvmearb_ctrl_add_sq_region(CTRL, address, slots, &found)
-                          : nvmearb_ctrl_add_cq_region(CTRL, address, slots, &found);
-    if (want == NVMEARB_OK && is_sq) {
-        account.sqs[number].address = address, account.sqs[number].slots = slots;
-        account.nsqs++;
-    } else if (want == NVMEARB_OK) {
-        account.cqs[number].address = address, account.cqs[number].slots = slots;
-        account.ncqs++;
-    }
-    return is_right(told, want) && number == found;
+    struct regions *regions = is_sq ? &account.sq_regions : &account.cq_regions;
+    uint32_t slots = upto(20) ? 2 + upto(upto(2) ? 24 : 300) : upto(6000);
+    nvmearb_region it = {0x1000 * (uint64_t)(1 + upto(200)), (uint16_t)slots};
+    uint16_t number = 0, found = 0;
+    nvmearb_ctrl before = room.ctrl;
+    uint32_t told, want = NVMEARB_EMANY;
+    if (!account.is_anywhere)
+        want = is_sq ? nvmearb_table_add_sq_region(&table, it.address, it.slots, &number)
+                     : nvmearb_table_add_cq_region(&table, it.address, it.slots, &number);
+    told = is_sq ? nvmearb_ctrl_add_sq_region(CTRL, it.address, it.slots, &found)
+                 : nvmearb_ctrl_add_cq_region(CTRL, it.address, it.slots, &found);
+    if (want == NVMEARB_OK)
+        regions->at[regions->n++] = it;
+    return is_right(told, want) && number == found &&
+           (want == NVMEARB_OK || !memcmp(&before, CTRL, sizeof before));
 }
 
 static int announces(void)
@@ -285,9 +263,10 @@ static int holds(void)
 {
     uint16_t qid = draw_qid();
     uint8_t on = (uint8_t)(upto(20) ? upto(3) == 0 : upto(256));
-    uint32_t want = on > 1 ? NVMEARB_EARG : open_sq(qid) ? NVMEARB_OK : NVMEARB_NONE;
+    struct sq *sq = open_sq(qid);
+    uint32_t want = on > 1 ? NVMEARB_EARG : sq ? NVMEARB_OK : NVMEARB_NONE;
     if (want == NVMEARB_OK)
-        account.holds[qid] = on;
+        sq->is_held = on;
     tally.held += want == NVMEARB_OK && on;
     return is_right(nvmearb_ctrl_hold(CTRL, qid, on), want);
 }
@@ -296,13 +275,20 @@ static int holds(void)
 static int sets_class(void)
 {
     uint16_t qid = draw_qid(), priority = (uint16_t)(upto(20) ? 1 + upto(4) : upto(10));
-    uint32_t want = priority < NVMEARB_URGENT || priority > NVMEARB_LOW ? NVMEARB_EARG
-                    : qid && open_sq(qid)                               ? NVMEARB_OK
-                                                                        : NVMEARB_NONE;
+    struct sq *sq = qid ? open_sq(qid) : NULL;
+    uint32_t want = sq ? NVMEARB_OK : NVMEARB_NONE;
+    if (priority < NVMEARB_URGENT || priority > NVMEARB_LOW)
+        want = NVMEARB_EARG;
     if (want == NVMEARB_OK)
-        account.classes[qid] = (uint8_t)priority;
+        sq->priority = priority;
     tally.classed += want == NVMEARB_OK;
     return is_right(nvmearb_ctrl_set_class(CTRL, qid, priority), want);
+}
+
+/* How many slots it is from a count to a slot of the ring. */
+static uint64_t gap(uint16_t slots, uint64_t from, uint16_t to)
+{
+    return (to + slots - from % slots) % slots;
 }
 
 static int rings_tail(void)
@@ -357,7 +343,6 @@ static int fetches(void)
     uint8_t bytes[NVMEARB_SQE_BYTES];
     struct sq *sq = open_sq(qid);
     uint32_t want = may_fetch(sq) ? NVMEARB_OK : NVMEARB_NONE, cookie = (uint32_t)drawn(&seed);
-    nvmearb_queue queue;
     if (!is_right(nvmearb_ctrl_fetch(CTRL, qid, &slot), want))
         return 0;
     if (want == NVMEARB_OK && slot != sq->fetched % sq->slots)
@@ -366,9 +351,7 @@ static int fetches(void)
     number = free_number();
     if (want == NVMEARB_OK) {
         struct command *it = &account.commands[number];
-        nvmearb_table_sq(&account.table, qid, &queue);
-        *it = (struct command){.state = WAITING, .qid = qid, .sq = queue.region, .cookie = cookie};
-        nvmearb_table_cq(&account.table, queue.cqid, &it->cq);
+        *it = (struct command){.state = WAITING, .qid = qid, .cqid = sq->cqid, .cookie = cookie};
         memcpy(it->entry, bytes, sizeof bytes);
         push(&sq->waiting, number);
         sq->fetched++, sq->unposted++, account.held++;
@@ -423,16 +406,13 @@ static uint16_t pulled(struct sq *sq)
     return number;
 }
 
-/* The deletion of a queue begins, by this command. All commands that wait in the queue are aborted. */
+/* The deletion of a queue began, by this command. All commands that wait in the queue are aborted. */
 static void begin_deletion(uint16_t qid, uint16_t number)
 {
-    nvmearb_queue queue;
-    nvmearb_table_sq(&account.table, qid, &queue);
-    struct sq *sq = &account.sqs[queue.region];
+    struct sq *sq = &account.sqs[qid];
     while (sq->waiting.n)
         answered(pull(&sq->waiting, 0), (nvmearb_status){0, NVMEARB_SC_ABORTED_BY_DELETION}, 0);
     sq->deleting = number;
-    sq->closing = qid;
     tally.together += account.pending++ > 0;
 }
 
@@ -450,18 +430,47 @@ static int aborts(uint16_t qid, uint16_t cid)
     return 1;
 }
 
-/* An admin command is carried out. */
-static int carries_out(uint16_t number, const nvmearb_step *step)
+/* A step picked commands for the device, and nothing else. */
+static int is_taking(const nvmearb_step *step, uint32_t kind, const nvmearb_pick *pick)
 {
-    nvmearb_answer answer;
-    memset(&answer, 0, sizeof answer);
-    nvmearb_table_apply(&account.table, account.commands[number].entry, &answer);
-    if (step->kind != NVMEARB_CARRIED_OUT || memcmp(&answer, &step->answer, sizeof answer))
+    static const nvmearb_answer none;
+    const nvmearb_asked *asked = &step->asked;
+    return step->kind == kind && !memcmp(&step->pick, pick, sizeof *pick) &&
+           !memcmp(&step->answer, &none, sizeof none) && asked->address == 0 && asked->qsize == 0 &&
+           asked->vector == 0 && asked->interrupts == 0;
+}
+
+/* A step carried out an admin command, which came to this. */
+static int is_carrying(const nvmearb_step *step, const nvmearb_sqe *entry, const nvmearb_answer *answer)
+{
+    static const nvmearb_pick none;
+    return step->kind == NVMEARB_CARRIED_OUT && !memcmp(&step->pick, &none, sizeof none) &&
+           !memcmp(&step->answer, answer, sizeof *answer) && is_asked(&step->asked, entry, answer);
+}
+
+/* Counts what came of a Create. */
+static void count_create(const nvmearb_answer *answer)
+{
+    int is_new = answer->verdict == NVMEARB_OPEN_SQ || answer->verdict == NVMEARB_OPEN_CQ;
+    tally.created += answer->verdict == NVMEARB_OPEN_SQ;
+    if (!account.is_anywhere)
+        return;
+    tally.lies_anywhere += (uint64_t)is_new;
+    tally.most = account.creates > tally.most ? account.creates : tally.most;
+    tally.bad_sizes += answer->status.sct == 1 && answer->status.sc == 0x02;
+    tally.bad_offsets += answer->status.sct == 0 && answer->status.sc == 0x13;
+    tally.bad_vectors += answer->status.sct == 1 && answer->status.sc == 0x08;
+}
+
+/* An admin command is carried out. */
+static int carries_out(uint16_t number, const nvmearb_sqe *entry, const nvmearb_step *step)
+{
+    nvmearb_answer answer = answer_to(entry), by_table = answer;
+    if (!account.is_anywhere)
+        nvmearb_table_apply(&table, account.commands[number].entry, &by_table);
+    if (!is_carrying(step, entry, &answer) || memcmp(&answer, &by_table, sizeof answer))
         return 0;
-    if (answer.verdict == NVMEARB_OPEN_SQ) {
-        tally.created++;
-        account.holds[answer.qid] = account.classes[answer.qid] = 0;
-    }
+    count_create(&answer);
     if (answer.verdict == NVMEARB_BEGIN_DELETE) {
         begin_deletion(answer.qid, number);
         return 1;
@@ -483,15 +492,15 @@ static int follows(const nvmearb_pick *pick, const nvmearb_step *step)
         uint16_t number = pulled(sq);
         nvmearb_sqe_decode(account.commands[number].entry, &entry);
         if (!is_devices(&entry))
-            return pick->n == 1 && carries_out(number, step);
+            return pick->n == 1 && carries_out(number, &entry, step);
         push(&account.picked, number);
         tally.passed++;
         tally.passed_aborts += entry.opcode == NVMEARB_OPC_ABORT;
-        return step->kind == NVMEARB_PASSED && !memcmp(pick, &step->pick, sizeof *pick);
+        return is_taking(step, NVMEARB_PASSED, pick);
     }
     for (unsigned k = 0; k < pick->n; k++)
         push(&account.picked, pulled(sq));
-    return step->kind == NVMEARB_PICKED && !memcmp(pick, &step->pick, sizeof *pick);
+    return is_taking(step, NVMEARB_PICKED, pick);
 }
 
 /* Whether a call with another number of slots is refused. */
@@ -583,8 +592,8 @@ static void put(uint8_t *bytes, uint32_t dword)
 /* The completion of a command, for the next slot of its ring. */
 static void completion(const struct command *it, uint8_t *bytes)
 {
-    const struct sq *sq = &account.sqs[it->sq];
-    const struct cq *cq = &account.cqs[it->cq];
+    const struct sq *sq = &account.sqs[it->qid];
+    const struct cq *cq = &account.cqs[it->cqid];
     uint32_t phase = !(cq->posted / cq->slots & 1), cid = it->entry[2] | (uint32_t)it->entry[3] << 8;
     uint32_t final = (it->marks & NVMEARB_DNR) != 0, more = (it->marks & NVMEARB_MORE) != 0;
     put(bytes, it->dw0);
@@ -619,7 +628,7 @@ static int posts(void)
     if (it->has_tag)
         account.by_tag[it->tag] = NO_COMMAND;
     cq->posted++;
-    account.sqs[it->sq].unposted--, account.held--, account.places -= (unsigned)it->takes_place;
+    account.sqs[it->qid].unposted--, account.held--, account.places -= (unsigned)it->takes_place;
     it->state = NOT_HERE;
     return 1;
 }
@@ -627,26 +636,24 @@ static int posts(void)
 /* The deletion of the first queue whose commands are all posted is finished. */
 static int finishes(void)
 {
-    uint16_t found = 0xffff;
-    struct sq *sq = NULL;
-    for (struct sq *it = account.sqs; it < account.sqs + NVMEARB_MAX_REGIONS; it++)
-        if (it->deleting != NO_COMMAND && it->unposted == 0 && (!sq || it->closing < sq->closing))
-            sq = it;
-    if (!is_right(nvmearb_ctrl_finish(CTRL, POOL, &found), sq ? NVMEARB_OK : NVMEARB_NONE))
+    uint16_t found = 0xffff, qid = 1;
+    while (qid < QUEUES && (account.sqs[qid].state != CLOSING || account.sqs[qid].unposted))
+        qid++;
+    if (!is_right(nvmearb_ctrl_finish(CTRL, POOL, &found), qid < QUEUES ? NVMEARB_OK : NVMEARB_NONE))
         return 0;
-    if (!sq)
+    if (qid == QUEUES)
         return 1;
-    answered(sq->deleting, (nvmearb_status){0, 0}, 0);
-    sq->deleting = NO_COMMAND;
+    answered(account.sqs[qid].deleting, success, 0);
+    account.sqs[qid].state = NO_QUEUE;
     account.pending--;
     tally.deletions++;
-    return found == sq->closing && nvmearb_table_finish_delete(&account.table, found) == NVMEARB_OK;
+    return found == qid && (account.is_anywhere || nvmearb_table_finish_delete(&table, qid) == NVMEARB_OK);
 }
 
 /* The tag of a command by its queue and its identifier: of two with one identifier it is either. */
 static int names(void)
 {
-    uint16_t qid = (uint16_t)upto(6), cid = (uint16_t)upto(12), tag = 0xffff;
+    uint16_t qid = draw_identifier(), cid = (uint16_t)upto(12), tag = 0xffff;
     uint32_t want = NVMEARB_NONE;
     int is_one = 0;
     for (unsigned number = 0; number < SLOTS; number++) {
@@ -683,10 +690,10 @@ static int looks(void)
         return 0;
     if (!is_right(nvmearb_ctrl_sq(CTRL, qid, &region), sq ? NVMEARB_OK : NVMEARB_NONE))
         return 0;
-    if (sq && (waiting != sq->waiting.n || sq != &account.sqs[region]))
+    if (sq && (waiting != sq->waiting.n || region != sq->region))
         return 0;
     return is_right(nvmearb_ctrl_cq(CTRL, qid, &region), cq ? NVMEARB_OK : NVMEARB_NONE) &&
-           (!cq || cq == &account.cqs[region]);
+           (!cq || region == cq->region);
 }
 
 /* ---- All of it ---- */
@@ -699,7 +706,7 @@ static int call(void)
                                          takes,      takes,      looks,   completes, completes, posts,   posts,
                                          posts,      rings_head, finishes};
     uint32_t which = upto(10000);
-    if (which == 0)
+    if (which == 0 && (!account.stirs || upto(4) == 0))
         return is_whole() && make();
     if (which < 100)
         return adds();
@@ -734,8 +741,13 @@ int main(int count, char **words)
     printf("%ju commands passed on, %ju of them Aborts, %ju named, %ju marked\n", (uintmax_t)tally.passed,
            (uintmax_t)tally.passed_aborts, (uintmax_t)tally.named, (uintmax_t)tally.marked);
     printf("%ju queues held, %ju classes set\n", (uintmax_t)tally.held, (uintmax_t)tally.classed);
+    printf("%ju controllers with queues anywhere: %ju Creates accepted, at most %ju of one; refused by size %ju, by "
+           "address %ju, by vector %ju\n", (uintmax_t)tally.anywhere, (uintmax_t)tally.lies_anywhere,
+           (uintmax_t)tally.most, (uintmax_t)tally.bad_sizes, (uintmax_t)tally.bad_offsets,
+           (uintmax_t)tally.bad_vectors);
     CHECK(holds && is_whole() && made >= most);
-    CHECK(tally.busy && tally.full && tally.created && tally.deletions && tally.together && tally.aborts && tally.passed && tally.marked);
-    CHECK(tally.passed_aborts && tally.named && tally.held && tally.classed);
+    CHECK(tally.busy && tally.full && tally.created && tally.deletions && tally.together && tally.aborts);
+    CHECK(tally.most > NVMEARB_MAX_REGIONS && tally.bad_sizes && tally.bad_offsets && tally.bad_vectors);
+    CHECK(tally.passed && tally.marked && tally.passed_aborts && tally.named && tally.held && tally.classed);
     return told();
 }
