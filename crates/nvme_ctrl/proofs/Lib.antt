@@ -130,3 +130,4 @@ mod AbortNotes
 mod KeptRanges
 pub mod ToldVerdicts
 pub mod CountedCreates
+mod SeenQueues

@@ -1,6 +1,6 @@
 -- Laws of the log of a controller, in the words of those who embed one. (profile)
-use Rattle.std.specs.Prelude.{◌≡◌, ◌≢◌, ◌⊎◌, ℕ, ◌+◌, ◌*◌, ◌<◌, ◌≤◌, ◌%◌, ◌&&◌, Bool, true, false, not, List, ◌∷◌, ◌++◌, length, Some, None, sum_by}
-use Rattle.std.specs.List.{list_all, All}
+use Rattle.std.specs.Prelude.{◌≡◌, ◌≢◌, ◌⊎◌, ◌↔◌, ℕ, ◌+◌, ◌*◌, ◌<◌, ◌≤◌, ◌%◌, ◌&&◌, Bool, true, false, not, List, ◌∷◌, ◌++◌, length, Some, None, sum_by}
+use Rattle.std.specs.List.{list_all, All, Contains}
 use mathlib.Core.List.{IsPrefix}
 use Rattle.nvme_entry.specs.declared.submission.Sqe.{Sqe}
 use Rattle.nvme_entry.specs.declared.completion.Cqe.{Cqe}
@@ -25,7 +25,7 @@ use Rattle.nvme_ctrl.specs.Making.{with_region, is_named}
 use Rattle.nvme_ctrl.specs.Doorbells.{sq_slots, cq_slots, submitted, consumed}
 use Rattle.nvme_ctrl.specs.Tags.{is_passed, is_of_device, holder, answer_of, answers, all_fetches, all_posts}
 use Rattle.nvme_ctrl.specs.Deletions.{deleting}
-use Rattle.nvme_ctrl.specs.Observation.{is_held, observed_of, NoneArranged}
+use Rattle.nvme_ctrl.specs.Observation.{is_held, seen_in, observed_of, NoneArranged}
 use Rattle.nvme_ctrl.specs.Account.{IsAccount}
 use Rattle.nvme_ctrl.specs.Standing.{Stands}
 use Rattle.nvme_ctrl.specs.declared.slot.Slot.{Slot}
@@ -109,6 +109,12 @@ PicksAreLawful = (rules : FrontRules) (later before : Notes) (seen : List Seen) 
 -- where the device neither held a queue nor set a class, arbitration sees what it does of a front's log
 abbrev pub ObservedAsInTheLog : Type 0
 ObservedAsInTheLog = (notes : Notes) → NoneArranged notes → observed_of notes ≡ observation_of (logged notes)
+
+-- what arbitration sees at a controller's log are the open queues, each as it is seen in its identifier: an item is among them exactly where it is that of its
+-- identifier
+abbrev pub SeenOneByOne : Type 0
+SeenOneByOne = (rules : FrontRules) (late : Bool) (notes : Notes) (c : Controller) (slots : List Slot) → Stands rules late notes c slots
+    → (seen : Seen) → Contains (observed_of notes) seen ↔ (seen_in notes seen.qid ≡ Some seen)
 
 -- no command of a queue is picked while the device holds it, whatever its class
 abbrev pub HeldQueuesWait : Type 0

@@ -1,11 +1,12 @@
 -- What arbitration sees of a controller's queues, where the device holds some and sets the classes of some.
 -- (Base Specification, Command Arbitration, Create I/O Submission Queue; queues that are held, classes that are set: profile)
-use Rattle.std.specs.Prelude.{◌≡◌, ℕ, ◌==◌, Bool, true, false, if◌then◌else◌, List, [], ◌∷◌, map, Option, Some, None, unwrap_or}
+use Rattle.std.specs.Prelude.{◌≡◌, ℕ, ◌==◌, Bool, true, false, if◌then◌else◌, List, [], ◌∷◌, length, map, Option, Some, None, option_map, unwrap_or}
 use Rattle.std.specs.List.{list_any}
 use Rattle.nvme_arbiter.specs.declared.pick.Seen.{Seen}
 use Rattle.nvme_arbiter.specs.declared.settings.Class.{Class}
 use Rattle.nvme_log.specs.declared.event.Event.TheVariants.{OpenSq}
-use Rattle.nvme_log.specs.Places.{observation_of}
+use Rattle.nvme_log.specs.Queues.{Queue, open_sq}
+use Rattle.nvme_log.specs.Places.{observation_of, waiting}
 use Rattle.nvme_ctrl.specs.Notes.{Notes, Note, Logged, Held, Classed, logged}
 
 -- a queue is held: the latest note of it since it was opened says so
@@ -29,6 +30,14 @@ shown notes seen = record {
   class = unwrap_or (class_set notes seen.qid) seen.class;
   count = if is_held notes seen.qid then 0 else seen.count;
 }
+
+-- so an open queue, by its identifier and what it was opened with
+abbrev pub shown_as : Notes → ℕ → Queue → Seen
+shown_as notes q queue = shown notes (record { qid = q; class = queue.class; count = length (waiting (logged notes) queue.region) })
+
+-- the open queue of an identifier as arbitration sees it. None where no queue is open under it
+abbrev pub seen_in : Notes → ℕ → Option Seen
+seen_in notes q = option_map (shown_as notes q) (open_sq (logged notes) q)
 
 -- what arbitration sees: the open queues of the log, ascending
 abbrev pub observed_of : Notes → List Seen

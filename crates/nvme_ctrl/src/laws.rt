@@ -13,7 +13,7 @@ ghost use Rattle.nvme_ctrl.specs.Own.{is_own, no_own, with_opcode, with_feature}
 ghost use Rattle.nvme_ctrl.specs.Making.{is_named};
 ghost use Rattle.nvme_ctrl.specs.Account.{IsLawful, IsAccount};
 ghost use Rattle.nvme_ctrl.specs.Examples.{identify, identify_fetched, identify_picked, identify_passed, identify_taken, identify_answered, identified, get_feature, set_feature, told, three_of_four, four_fetched, first_picked, first_answered, first_posted, third_answered, two_passes, succeeded, out_of_range, without_region, with_late_region, creates_fetched, create_picked, create_refused, reads_submitted, reads_waiting, read_picked, read_taken, delete_begun, aborts_posted, read_answered, reads_posted, deletion_noted, unmarked, not_retried, more_told, abort_of_read, abort_waiting, abort_picked, abort_passed, abort_taken, aborted_read, read_aborted, abort_answered, abort_done, held_and_deleted, classed_and_picked, weighted_rules, two_waiting, pick_of, two_deletions, two_closing, third_served, second_gone, both_gone};
-ghost use Rattle.nvme_ctrl.specs.Laws.{ControllersKeepAccounts, RegionsLeaveAccounts, EventsAreAccounted, SlotsAreFetchedInOrder, CompletionsFollowAnswers, OneCompletionEach, SlotsAreFree, CompletionsTellTheHead, DeletesAreAnsweredLast, NoneFetchedAfterDeletion, NonePickedAfterDeletion, PicksAreLawful, TagsAreApart, ObservedAsInTheLog, HeldQueuesWait, HeldQueuesWaitUntilTold, FewHoldSlots, PoolsSuffice};
+ghost use Rattle.nvme_ctrl.specs.Laws.{ControllersKeepAccounts, RegionsLeaveAccounts, EventsAreAccounted, SlotsAreFetchedInOrder, CompletionsFollowAnswers, OneCompletionEach, SlotsAreFree, CompletionsTellTheHead, DeletesAreAnsweredLast, NoneFetchedAfterDeletion, NonePickedAfterDeletion, PicksAreLawful, TagsAreApart, ObservedAsInTheLog, SeenOneByOne, HeldQueuesWait, HeldQueuesWaitUntilTold, FewHoldSlots, PoolsSuffice};
 
 /// The log at which a controller stands is an account, where no region was added late: after a Create that named its
 /// address was picked. So all that follows holds of it.
@@ -80,6 +80,11 @@ pub fn picks_are_lawful()
 /// candidates, in the classes that their Creates asked for.
 pub fn unarranged_queues_are_seen()
     ensures { ObservedAsInTheLog }
+{}
+
+/// What arbitration sees are the open queues, each as `seen` tells it (`seen_in`).
+pub fn queues_are_seen_one_by_one()
+    ensures { SeenOneByOne }
 {}
 
 /// No command of a queue is picked while it is held, whatever its class and whatever waits. It is held from the note that

@@ -1,6 +1,7 @@
 // What is seen of a controller.
 use crate::slot::{OUT, Slot, slot_at};
 use crate::state::Controller;
+use nvme_arbiter::Seen;
 use nvme_entry::Sqe;
 
 impl Controller {
@@ -12,6 +13,7 @@ impl Controller {
     ghost use Rattle.nvme_ctrl.specs.Notes.{Notes, logged};
     ghost use Rattle.nvme_ctrl.specs.Tags.{is_out, holder, cookie_of};
     ghost use Rattle.nvme_ctrl.specs.Calls.{IsTagOf};
+    ghost use Rattle.nvme_ctrl.specs.Observation.{seen_in};
     ghost use Rattle.nvme_ctrl.specs.Making.{placing_in};
     ghost use Rattle.nvme_ctrl.specs.Standing.{Stands, IsController};
     ghost use Rattle.nvme_ctrl.specs.inside.Lookups.{is_found};
@@ -100,5 +102,18 @@ impl Controller {
             return 0;
         }
         self.sq(qid).window.len.saturating_sub(self.picked_in(qid))
+    }
+
+    /// What the next pick is shown of an open submission queue: the class that the device set, else that of its Create, and
+    /// how many of its commands wait, 0 where it is held. None where the queue isn't open, or is closing.
+    pub fn seen(&self, qid: u16) -> Option<Seen>
+        ensures { (rules : FrontRules) (late : Bool) (notes : Notes) (pool : List Slot) → Stands rules late notes self.now pool → result ≡ seen_in notes qid }
+    {
+        let queue = self.board.queue(qid)?;
+        Some(Seen {
+            qid,
+            class: queue.class,
+            count: queue.count,
+        })
     }
 }

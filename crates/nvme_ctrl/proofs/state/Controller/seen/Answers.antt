@@ -1,0 +1,10 @@
+use Rattle.std.proofs.Common.{Option, sym, ap, ◌∙◌}
+use Rattle.std.specs.Prelude.{option_map}
+use Rattle.nvme_arbiter.specs.declared.pick.OpenQueue.{OpenQueue}
+use Rattle.nvme_ctrl.proofs.SeenQueues.{seen_on, seen_is}
+use Rattle.nvme_ctrl.proofs.state.Controller.seen.Goals as goal
+
+pub returns : goal.returns
+returns c rules late notes pool s =
+    ap (λ (o : Option OpenQueue). option_map (seen_on c.args.qid) o) (sym c.in_ok-queue.was ∙ c.queue.ensures.is_there)
+    ∙ seen_is rules late notes c.args.self.now pool s c.args.qid
