@@ -1,7 +1,7 @@
 -- What the steps of a chain leave: a slot behind the others, and the others where one was taken out.
-use Rattle.std.proofs.Common.{◌≡◌, ◌≢◌, ℕ, ◌+◌, ◌-◌, ◌<◌, ◌==◌, if◌then◌else◌, Bool, true, false, List, [], ◌∷◌, ◌++◌, length, drop, Some, None, refl, sym, ap, ◌∙◌, subst, arith}
+use Rattle.std.proofs.Common.{◌≡◌, ◌≢◌, ℕ, zero, suc, ◌+◌, ◌-◌, ◌<◌, ◌==◌, if◌then◌else◌, Bool, true, false, List, [], ◌∷◌, ◌++◌, length, drop, Some, None, refl, sym, ap, ◌∙◌, subst, arith}
 use Rattle.std.specs.List.{All}
-use Rattle.std.specs.Prelude.{option_map}
+use Rattle.std.specs.Prelude.{option_map, slice_get}
 use Rattle.std.proofs.lemmas.Bool.{eq-eqb, ne_eqb}
 use Rattle.std.proofs.lemmas.Option.{same_Some}
 use Rattle.std.proofs.lemmas.List.{length-append, drop_more, nil_from_length}
@@ -69,6 +69,19 @@ pop-rest slots c x xs m n h next fewer = record {
   linked = subst (λ (f : ℕ). AreLinked slots f c.last xs) (sym (next ∙ ap (λ (y : ℕ). next_at slots y) (linked-head slots c.first c.last x xs h.linked)))
       (linked-tail slots c.first c.last x xs h.linked);
 }
+
+-- ---- one after the other
+-- the slot from which those behind some are linked comes after these
+pub comes-at : (slots : List Slot) (x last i : ℕ) (xs : List ℕ) → i < length xs → AreLinked slots x last (drop i xs) → Some x ≡ slice_get xs i
+comes-at slots x last i [] within linked = absurd (omega (arith, within))
+comes-at slots x last zero (y ∷ ys) within linked = ap (λ (z : ℕ). Some z) (linked-head slots x last y ys linked)
+comes-at slots x last (suc i) (y ∷ ys) within linked = comes-at slots x last i ys (omega (arith, within)) linked
+
+-- and the others from the one that it links to
+pub follows : (slots : List Slot) (x last i : ℕ) (xs : List ℕ) → i < length xs → AreLinked slots x last (drop i xs) → AreLinked slots (next_at slots x) last (drop (i + 1) xs)
+follows slots x last i xs more linked = here _ _ (rw (drop_more xs i 0 more) at linked) where
+  here : (y : ℕ) (ys : List ℕ) → AreLinked slots x last (y ∷ ys) → AreLinked slots (next_at slots x) last ys
+  here y ys h = subst (λ (z : ℕ). AreLinked slots (next_at slots z) last ys) (sym (linked-head slots x last y ys h)) (linked-tail slots x last y ys h)
 
 -- ---- looking for a name
 -- the one that is looked at has the name

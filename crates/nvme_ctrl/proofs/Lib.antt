@@ -131,3 +131,4 @@ mod KeptRanges
 pub mod ToldVerdicts
 pub mod CountedCreates
 mod SeenQueues
+mod WaitingPlaces

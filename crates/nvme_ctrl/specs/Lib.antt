@@ -5,6 +5,7 @@ pub mod Tags
 pub mod Rings
 pub mod Own
 pub mod Observation
+pub mod Waits
 pub mod Deletions
 pub mod Account
 pub mod kept

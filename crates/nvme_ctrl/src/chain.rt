@@ -13,7 +13,7 @@ pub struct Chain {
 }
 
 impl Chain {
-    ghost use Rattle.std.specs.Prelude.{◌≡◌, ℕ, ◌+◌, ◌<◌, ◌^◌, List, [], ◌∷◌, ◌++◌, length, Some, None};
+    ghost use Rattle.std.specs.Prelude.{◌≡◌, ℕ, ◌+◌, ◌<◌, ◌^◌, List, [], ◌∷◌, ◌++◌, length, slice_get, Some, None};
     ghost use Rattle.nvme_ctrl.specs.kept.Pool.{IsChain, IsNew, SameItems, SameLinks, pushed, named_in, without_named, found_in};
     ghost use Rattle.nvme_ctrl.specs.declared.slot.Slot.{Slot};
 
@@ -58,6 +58,20 @@ impl Chain {
         let x = self.first;
         self.first = slot_at(slots, x).next;
         self.len -= 1;
+        Some(x)
+    }
+
+    /// The slot that comes as the nth, the first one as the 0th.
+    pub(crate) fn nth(&self, slots: &[Slot], n: usize) -> Option<u16>
+        ensures { (xs : List ℕ) → IsChain slots.now self.now xs → result ≡ slice_get xs n }
+    {
+        if n >= usize::from(self.len) {
+            return None;
+        }
+        let mut x = self.first;
+        for _ in 0..n {
+            x = slot_at(slots, x).next;
+        }
         Some(x)
     }
 

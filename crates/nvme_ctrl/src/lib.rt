@@ -29,6 +29,7 @@ mod slot;
 mod state;
 
 pub use device::Answer;
+pub use lookups::Waiting;
 pub use marks::Marks;
 pub use own::OwnCommands;
 pub use picks::Step;

@@ -4,8 +4,16 @@ use crate::state::Controller;
 use nvme_arbiter::Seen;
 use nvme_entry::Sqe;
 
+/// A command that waits to be picked.
+#[derive(Clone, Copy, Debug, PartialEq, Eq)]
+pub struct Waiting {
+    pub entry: Sqe,
+    /// What the caller keeps with it.
+    pub cookie: u32,
+}
+
 impl Controller {
-    ghost use Rattle.std.specs.Prelude.{◌≡◌, ℕ, Bool, true, List, Option, Some, None, IfSome, length, option_map, is_some};
+    ghost use Rattle.std.specs.Prelude.{◌≡◌, ℕ, ◌+◌, ◌≤◌, Bool, true, List, Option, Some, None, IfSome, length, option_map, is_some, slice_get};
     ghost use Rattle.nvme_log.specs.Rules.{FrontRules};
     ghost use Rattle.nvme_log.specs.Queues.{Queue, open_sq, open_cq};
     ghost use Rattle.nvme_log.specs.Places.{entry_at, waiting};
@@ -14,10 +22,12 @@ impl Controller {
     ghost use Rattle.nvme_ctrl.specs.Tags.{is_out, holder, cookie_of};
     ghost use Rattle.nvme_ctrl.specs.Calls.{IsTagOf};
     ghost use Rattle.nvme_ctrl.specs.Observation.{seen_in};
+    ghost use Rattle.nvme_ctrl.specs.Waits.{WaitsAt};
     ghost use Rattle.nvme_ctrl.specs.Making.{placing_in};
     ghost use Rattle.nvme_ctrl.specs.Standing.{Stands, IsController};
     ghost use Rattle.nvme_ctrl.specs.inside.Lookups.{is_found};
-    ghost use Rattle.nvme_ctrl.specs.kept.Pool.{slot_at};
+    ghost use Rattle.nvme_ctrl.specs.kept.Pool.{IsChain, slot_at};
+    ghost use Rattle.nvme_ctrl.specs.kept.State.{sq_at, picked_in};
     ghost use Rattle.nvme_ctrl.specs.declared.slot.Slot.{Slot};
 
     /// The command in a slot. Where the device has it, it is the one that was fetched for the place of this tag.
@@ -114,6 +124,33 @@ impl Controller {
             qid,
             class: queue.class,
             count: queue.count,
+        })
+    }
+
+    // The slot of the command that waits as the nth in a submission queue. In the window's chain it comes after those that
+    // are picked and not taken.
+    fn waiting_slot(&self, slots: &[Slot], qid: u16, n: u16) -> Option<u16>
+        ensures { (xs : List ℕ) → IsChain slots.now (sq_at self.now.sqs qid).window xs → result ≡ slice_get xs (picked_in self.now qid + n) }
+    {
+        let at = usize::from(self.picked_in(qid)) + usize::from(n);
+        self.sq(qid).window.nth(slots, at)
+    }
+
+    /// The command that waits as the nth in an open submission queue, the oldest as the 0th. None where at most `n` wait in
+    /// it, and where the queue isn't open or is closing.
+    pub fn waits(&self, slots: &[Slot], qid: u16, n: u16) -> Option<Waiting>
+        ensures some { (rules : FrontRules) (late : Bool) (notes : Notes) → Stands rules late notes self.now slots.now → IfSome result (λ command. WaitsAt notes qid n command.entry command.cookie) }
+        ensures none { (rules : FrontRules) (late : Bool) (notes : Notes) → Stands rules late notes self.now slots.now → result ≡ None
+            → (queue : Queue) → open_sq (logged notes) qid ≡ Some queue → length (waiting (logged notes) queue.region) ≤ n }
+    {
+        if self.sq_region(qid).is_none() {
+            return None;
+        }
+        let tag = self.waiting_slot(slots, qid, n)?;
+        let slot = slot_at(slots, tag);
+        Some(Waiting {
+            entry: slot.entry,
+            cookie: slot.cookie,
         })
     }
 }
