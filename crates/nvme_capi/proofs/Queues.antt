@@ -16,3 +16,8 @@ none_there (Some it) none = (let lost : true ≡ false = none in cc lost)
 pub some_there : {A : Type 0} (r : Option A) → is_some r ≡ true → (it : A) × (r ≡ Some it)
 some_there None some = (let lost : false ≡ true = some in cc lost)
 some_there (Some it) some = (it, refl)
+
+-- and by what is made of it
+pub none_made : {A B : Type 0} (f : A → B) (r : Option A) → option_map f r ≡ None → r ≡ None
+none_made f None none = refl
+none_made f (Some it) none = cc none

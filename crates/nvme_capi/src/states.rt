@@ -41,6 +41,17 @@ pub fn seen_of_fields(queue: &SeenFields) -> Seen
     }
 }
 
+/// The fields of a submission queue as arbitration sees it.
+pub fn fields_of_seen(seen: Seen) -> SeenFields
+    ensures { seen_of_fields result ≡ seen }
+{
+    SeenFields {
+        qid: seen.qid,
+        class: seen.class.number(),
+        count: seen.count,
+    }
+}
+
 /// The fields of a pick.
 pub fn fields_of_pick(pick: Pick) -> PickFields
     ensures same { pick_of_fields result ≡ pick }

@@ -1,20 +1,25 @@
 // What is seen of a controller of C.
-ghost use Rattle.std.specs.Prelude.{◌≡◌, ◌≢◌, ◌⊎◌, ◌↔◌, ℕ, Bool, true, false, List, length, None, Some, IsTrue, IsFalse, IsSomeAnd, is_some};
+ghost use Rattle.std.specs.Prelude.{◌≡◌, ◌≢◌, ◌≤◌, ◌⊎◌, ◌↔◌, ℕ, Bool, true, false, List, length, None, Some, IsTrue, IsFalse, IsSomeAnd, is_some};
 ghost use Rattle.nvme_ctrl.specs.Making.{placing_in};
 ghost use Rattle.nvme_log.specs.Rules.{FrontRules};
-ghost use Rattle.nvme_log.specs.Queues.{open_sq, open_cq};
+ghost use Rattle.nvme_log.specs.Queues.{Queue, open_sq, open_cq};
 ghost use Rattle.nvme_log.specs.Places.{entry_at, waiting};
 ghost use Rattle.nvme_log.specs.declared.place.Place.{Place};
 ghost use Rattle.nvme_ctrl.specs.Notes.{Notes, logged};
 ghost use Rattle.nvme_ctrl.specs.Standing.{Stands};
 ghost use Rattle.nvme_ctrl.specs.Calls.{IsTagOf};
+ghost use Rattle.nvme_ctrl.specs.Observation.{seen_in};
+ghost use Rattle.nvme_ctrl.specs.Waits.{WaitsAt};
 ghost use Rattle.nvme_ctrl.specs.Tags.{is_out, holder, cookie_of};
 ghost use Rattle.nvme_ctrl.specs.declared.slot.Slot.{Slot};
 ghost use Rattle.nvme_capi.specs.Controllers.{is_ctrl, has_slots, IsKept, IsCommandIn};
+ghost use Rattle.nvme_capi.specs.States.{seen_of_fields};
 
 use crate::ctrl::state::{CommandFields, CtrlState, has_slots, is_ctrl};
 use crate::results::{BAD_ARGUMENT, BAD_STATE, NOTHING, OK};
+use crate::states::{SeenFields, fields_of_seen};
 use nvme_ctrl::Slot;
+use nvme_entry::Sqe;
 
 /// Writes the command of a tag, where the device has one.
 #[unsafe(no_mangle)]
@@ -145,4 +150,61 @@ pub extern "C" fn nvmearb_ctrl_waiting(state: &CtrlState, qid: u16, count: &mut 
     }
     *count = state.ctrl.waiting(qid);
     OK
+}
+
+/// Writes what the next pick is shown of a submission queue, where it is open: its class, and how many of its commands
+/// wait, 0 where it is held.
+#[unsafe(no_mangle)]
+pub extern "C" fn nvmearb_ctrl_seen(state: &CtrlState, qid: u16, seen: &mut SeenFields) -> u32
+    ensures bad_state { (result ≡ BAD_STATE) ↔ IsFalse (is_ctrl state.now) }
+    ensures answer { (result ≡ OK) ⊎ ((result ≡ NOTHING) ⊎ (result ≡ BAD_STATE)) }
+    ensures nothing { (rules : FrontRules) (late : Bool) (notes : Notes) (slots : List Slot) → Stands rules late notes state.now.ctrl slots → result ≡ NOTHING → open_sq (logged notes) qid ≡ None }
+    ensures found { (rules : FrontRules) (late : Bool) (notes : Notes) (slots : List Slot) → Stands rules late notes state.now.ctrl slots → result ≡ OK → seen_in notes qid ≡ Some (seen_of_fields seen.new) }
+    ensures unchanged { result ≢ OK → seen.new ≡ seen.old }
+{
+    if !is_ctrl(state) {
+        return BAD_STATE;
+    }
+    match state.ctrl.seen(qid) {
+        Some(it) => {
+            *seen = fields_of_seen(it);
+            OK
+        }
+        None => NOTHING,
+    }
+}
+
+/// Writes the command that waits as the nth in a submission queue, the oldest as the 0th, with what the caller keeps with
+/// it. NOTHING where at most `n` wait in it, and where it isn't open or is closing.
+#[unsafe(no_mangle)]
+pub extern "C" fn nvmearb_ctrl_waits(
+    state: &CtrlState,
+    slots: &[Slot],
+    qid: u16,
+    n: u16,
+    entry: &mut Sqe,
+    cookie: &mut u32,
+) -> u32
+    ensures bad_state { (result ≡ BAD_STATE) ↔ IsFalse (is_ctrl state.now) }
+    ensures bad_argument { (result ≡ BAD_ARGUMENT) ↔ (IsTrue (is_ctrl state.now) × IsFalse (has_slots state.now slots.now)) }
+    ensures answer { (result ≡ OK) ⊎ ((result ≡ NOTHING) ⊎ ((result ≡ BAD_ARGUMENT) ⊎ (result ≡ BAD_STATE))) }
+    ensures found { (rules : FrontRules) (late : Bool) (notes : Notes) → Stands rules late notes state.now.ctrl slots.now → result ≡ OK → WaitsAt notes qid n entry.new cookie.new }
+    ensures nothing { (rules : FrontRules) (late : Bool) (notes : Notes) → Stands rules late notes state.now.ctrl slots.now → result ≡ NOTHING
+        → (queue : Queue) → open_sq (logged notes) qid ≡ Some queue → length (waiting (logged notes) queue.region) ≤ n }
+    ensures unchanged { result ≢ OK → (entry.new ≡ entry.old) × (cookie.new ≡ cookie.old) }
+{
+    if !is_ctrl(state) {
+        return BAD_STATE;
+    }
+    if !has_slots(state, slots) {
+        return BAD_ARGUMENT;
+    }
+    match state.ctrl.waits(slots, qid, n) {
+        Some(it) => {
+            *entry = it.entry;
+            *cookie = it.cookie;
+            OK
+        }
+        None => NOTHING,
+    }
 }
