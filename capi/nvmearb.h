@@ -904,6 +904,23 @@ uint32_t nvmearb_ctrl_cq(const nvmearb_ctrl *ctrl, uint16_t cqid, uint16_t *regi
 uint32_t nvmearb_ctrl_waiting(const nvmearb_ctrl *ctrl, uint16_t qid, uint16_t *count);
 
 /*
+ * Writes the entry of a command that waits in a submission queue, and what the caller keeps with it: of the oldest, which
+ * is picked first, if `n` is 0, of the next one if `n` is 1, and so on.
+ * NVMEARB_ESTATE, NVMEARB_EARG as nvmearb_ctrl_fetched; otherwise NVMEARB_NONE if the queue isn't open or is closing, or
+ * if at most `n` commands wait in it.
+ */
+uint32_t nvmearb_ctrl_waits(const nvmearb_ctrl *ctrl, const nvmearb_slot *slots, size_t count, uint16_t qid,
+                            uint16_t n, nvmearb_sqe *entry, uint32_t *cookie);
+
+/*
+ * Writes what the next pick is shown of a submission queue: its priority class, and how many of its commands wait, 0 if
+ * it is held. An arbiter that is shown all open queues so makes the same pick. capi/examples/trace.c writes a trace by
+ * it.
+ * NVMEARB_ESTATE if `ctrl` isn't valid; otherwise NVMEARB_NONE if the queue isn't open or is closing.
+ */
+uint32_t nvmearb_ctrl_seen(const nvmearb_ctrl *ctrl, uint16_t qid, nvmearb_seen *seen);
+
+/*
  * Tests whether something was written into a controller or its slots by mistake. Unlike the calls above it trusts
  * nothing behind the mark, and reads no further than `count` slots. It looks at each head and tail, each region and tag
  * that is used as one, each count that has a limit, and each chain of slots: that it has as many as it says, in the

@@ -67,6 +67,23 @@ static void regions(void)
     CHECK(nvmearb_ctrl_add_cq_region(&ctrl, CQ, 2, &number) == NVMEARB_OK && number == 1);
 }
 
+/* What a pick is shown of a queue. */
+static int is_seen(uint16_t qid, uint16_t priority, uint16_t count)
+{
+    nvmearb_seen it;
+    return nvmearb_ctrl_seen(&ctrl, qid, &it) == NVMEARB_OK && it.qid == qid && it.priority == priority &&
+           it.count == count;
+}
+
+/* The command with this identifier waits as the n-th in a queue. */
+static int waits(uint16_t qid, uint16_t n, uint16_t cid)
+{
+    nvmearb_sqe entry;
+    uint32_t cookie;
+    return nvmearb_ctrl_waits(&ctrl, slots, SLOTS, qid, n, &entry, &cookie) == NVMEARB_OK && entry.cid == cid &&
+           entry.nsid == 1 && cookie == 1000u + cid;
+}
+
 /* Three commands go through; the device answers in another order. */
 static void commands_go_through(void)
 {
@@ -85,8 +102,9 @@ static void commands_go_through(void)
     CHECK(read_fetched(0, 20) && read_fetched(1, 21) && read_fetched(2, 22) && none_to_fetch(1) && none_to_fetch(2));
     CHECK(nvmearb_ctrl_waiting(&ctrl, 1, &count) == NVMEARB_OK && count == 3);
     CHECK(nvmearb_ctrl_waiting(&ctrl, 2, &count) == NVMEARB_NONE && count == 3);
+    CHECK(is_seen(1, NVMEARB_URGENT, 3) && waits(1, 0, 20) && waits(1, 2, 22) && !waits(1, 3, 22) && !waits(2, 0, 20));
     CHECK(nvmearb_ctrl_take(&ctrl, slots, SLOTS, &command) == NVMEARB_NONE);
-    CHECK(picked(3) && picks_none(NVMEARB_BUSY));
+    CHECK(picked(3) && picks_none(NVMEARB_BUSY) && is_seen(1, NVMEARB_URGENT, 0) && !waits(1, 0, 20));
     CHECK(taken(20, &tags[0]) && taken(21, &tags[1]) && taken(22, &tags[2]));
     CHECK(nvmearb_ctrl_take(&ctrl, slots, SLOTS, &command) == NVMEARB_NONE && picks_none(NVMEARB_NONE));
     CHECK(completes(tags[2], (nvmearb_status){8, 0}, 0, NVMEARB_EARG));
@@ -205,11 +223,14 @@ struct call {
     nvmearb_step step;
     nvmearb_command command;
     nvmearb_post post;
+    nvmearb_seen seen;
+    nvmearb_sqe entry;
+    uint32_t cookie;
 };
 /* The calls. Those that take no slots come first. */
 enum { ADD_SQ, ADD_CQ, OWN_OPCODE, OWN_FEATURE, HOLD, SET_CLASS, SQ_TAIL, CQ_HEAD };
-enum { FETCH = CQ_HEAD + 1, SQ_OF, CQ_OF, WAITING, WITHOUT_SLOTS };
-enum { FETCHED = WITHOUT_SLOTS, PEEK, PICK, TAKE, COMPLETE, COMPLETE_WITH, POST, FINISH, COMMAND, NAMED, CALLS };
+enum { FETCH = CQ_HEAD + 1, SQ_OF, CQ_OF, WAITING, SEEN, WITHOUT_SLOTS };
+enum { FETCHED = WITHOUT_SLOTS, PEEK, PICK, TAKE, COMPLETE, COMPLETE_WITH, POST, FINISH, COMMAND, NAMED, WAITS, CALLS };
 
 static uint32_t made(struct call *it, unsigned which)
 {
@@ -238,6 +259,10 @@ static uint32_t made(struct call *it, unsigned which)
         return nvmearb_ctrl_cq(it->ctrl, it->a, &it->number);
     case WAITING:
         return nvmearb_ctrl_waiting(it->ctrl, it->a, &it->number);
+    case SEEN:
+        return nvmearb_ctrl_seen(it->ctrl, it->a, &it->seen);
+    case WAITS:
+        return nvmearb_ctrl_waits(it->ctrl, it->slots, it->count, it->a, it->b, &it->entry, &it->cookie);
     case FETCHED:
         return nvmearb_ctrl_fetched(it->ctrl, it->slots, it->count, it->a, it->bytes, it->dw0);
     case PEEK:
@@ -309,7 +334,7 @@ static unsigned random_call(uint64_t *state, struct tally *tally)
     static const uint8_t often[CALLS] = {SQ_TAIL, SQ_TAIL, FETCH,    FETCHED,  FETCHED,       FETCHED, PEEK,
                                          PICK,    PICK,    TAKE,     TAKE,     TAKE,          POST,    POST,
                                          FINISH,  COMMAND, COMPLETE, COMPLETE, COMPLETE_WITH, NAMED,   HOLD,
-                                         HOLD};
+                                         HOLD,    SEEN,    WAITS};
     uint64_t word = drawn(state);
     struct call it = {.ctrl = &ctrl, .slots = slots, .count = SLOTS}, before;
     unsigned which = word & 1 ? often[(word >> 4) % CALLS] : (unsigned)(word >> 4) % CALLS, wrong = 0;
@@ -504,6 +529,7 @@ static void holds(void)
     CHECK(read_fetched(0, 40) && is_next(1) && nvmearb_ctrl_hold(&ctrl, 1, 1) == NVMEARB_OK && picks_none(NVMEARB_NONE));
     CHECK(read_fetched(1, 41) && nvmearb_ctrl_hold(&ctrl, 1, 1) == NVMEARB_OK && picks_none(NVMEARB_NONE));
     CHECK(nvmearb_ctrl_waiting(&ctrl, 1, &count) == NVMEARB_OK && count == 2);
+    CHECK(is_seen(1, NVMEARB_URGENT, 0) && waits(1, 0, 40) && waits(1, 1, 41)); /* (of what is held a pick sees none) */
     CHECK(nvmearb_ctrl_sq_tail(&ctrl, 0, 4) == NVMEARB_OK);
     CHECK(fetched(0, 2, NVMEARB_OPC_ABORT, 12, 0, 41u << 16 | 1, 0) && carried_out(NVMEARB_ABORT));
     CHECK(posted(1, 0, 2, 41, 1, requested, 0) && posted(0, 2, 3, 12, 1, success, 0) && picks_none(NVMEARB_NONE));
@@ -529,6 +555,7 @@ static void classes(void)
     CHECK(nvmearb_ctrl_sq_tail(&ctrl, 1, 1) == NVMEARB_OK && nvmearb_ctrl_sq_tail(&ctrl, 2, 1) == NVMEARB_OK);
     CHECK(read_fetched(0, 40) && fetched(2, 0, NVMEARB_OPC_READ, 41, 0, 0, 0) && is_next(1));
     CHECK(nvmearb_ctrl_set_class(&ctrl, 1, NVMEARB_MEDIUM) == NVMEARB_OK && is_next(2));
+    CHECK(is_seen(0, NVMEARB_ADMIN, 0) && is_seen(1, NVMEARB_MEDIUM, 1) && is_seen(2, NVMEARB_URGENT, 1));
     CHECK(nvmearb_ctrl_set_class(&ctrl, 2, NVMEARB_LOW) == NVMEARB_OK && is_next(1));
     CHECK(nvmearb_ctrl_set_class(&ctrl, 2, NVMEARB_HIGH) == NVMEARB_OK && is_next(2));
     CHECK(nvmearb_ctrl_set_class(&ctrl, 1, NVMEARB_URGENT) == NVMEARB_OK && is_next(1));

@@ -101,32 +101,32 @@ static inline int completes_with(uint16_t tag, nvmearb_status status, unsigned m
 }
 
 /*
- * A completion is posted with these fields, where the queue on the region has the identifier of the region. `top` is
+ * A completion is posted to a completion queue with these fields, by a submission queue of the same identifier. `top` is
  * bits 31:28 of Command Dword 3: 8 is Do Not Retry, and 4 is More.
  */
-static inline int posted_with(uint16_t region, uint16_t slot, uint16_t sqhd, uint16_t cid, uint8_t phase,
+static inline int posted_with(uint16_t cqid, uint16_t slot, uint16_t sqhd, uint16_t cid, uint8_t phase,
                               nvmearb_status status, uint32_t dw0, unsigned top)
 {
     nvmearb_post post;
     nvmearb_cqe cqe;
-    if (nvmearb_ctrl_post(&ctrl, slots, SLOTS, region, &post) != NVMEARB_OK || post.bytes[15] >> 4 != top)
+    if (nvmearb_ctrl_post(&ctrl, slots, SLOTS, cqid, &post) != NVMEARB_OK || post.bytes[15] >> 4 != top)
         return 0;
     post.bytes[15] &= 0x0f;
     return post.slot == slot && post.cookie == 1000u + cid && nvmearb_cqe_decode(post.bytes, &cqe) == NVMEARB_OK &&
-           cqe.sqhd == sqhd && cqe.sqid == region && cqe.cid == cid && cqe.phase == phase &&
+           cqe.sqhd == sqhd && cqe.sqid == cqid && cqe.cid == cid && cqe.phase == phase &&
            cqe.status.sct == status.sct && cqe.status.sc == status.sc && cqe.dw0 == dw0;
 }
 
-static inline int posted(uint16_t region, uint16_t slot, uint16_t sqhd, uint16_t cid, uint8_t phase,
+static inline int posted(uint16_t cqid, uint16_t slot, uint16_t sqhd, uint16_t cid, uint8_t phase,
                          nvmearb_status status, uint32_t dw0)
 {
-    return posted_with(region, slot, sqhd, cid, phase, status, dw0, 0);
+    return posted_with(cqid, slot, sqhd, cid, phase, status, dw0, 0);
 }
 
-static inline int none_to_post(uint16_t region)
+static inline int none_to_post(uint16_t cqid)
 {
     nvmearb_post post;
-    return nvmearb_ctrl_post(&ctrl, slots, SLOTS, region, &post) == NVMEARB_NONE;
+    return nvmearb_ctrl_post(&ctrl, slots, SLOTS, cqid, &post) == NVMEARB_NONE;
 }
 
 /* A controller with the regions of queues 1, of 4 slots. */

@@ -673,6 +673,28 @@ static int names(void)
     return is_one;
 }
 
+/* What a pick is shown of a queue, and a command that waits there. */
+static int sees(void)
+{
+    uint16_t qid = draw_qid(), n = (uint16_t)upto(4);
+    const struct sq *sq = open_sq(qid);
+    const struct command *it = sq && n < sq->waiting.n ? &account.commands[sq->waiting.at[n]] : NULL;
+    uint8_t bytes[NVMEARB_SQE_BYTES];
+    uint32_t cookie = 0;
+    nvmearb_seen seen = {0, 0, 0};
+    nvmearb_sqe entry;
+    if (!is_right(nvmearb_ctrl_seen(CTRL, qid, &seen), sq ? NVMEARB_OK : NVMEARB_NONE))
+        return 0;
+    if (sq && (seen.qid != qid || seen.priority != sq->priority || seen.count != (sq->is_held ? 0 : sq->waiting.n)))
+        return 0;
+    if (!is_right(nvmearb_ctrl_waits(CTRL, POOL, qid, n, &entry, &cookie), it ? NVMEARB_OK : NVMEARB_NONE))
+        return 0;
+    if (!it)
+        return 1;
+    nvmearb_sqe_encode(&entry, bytes);
+    return cookie == it->cookie && !memcmp(bytes, it->entry, sizeof bytes);
+}
+
 /* The look-ups of a queue and of a tag. */
 static int looks(void)
 {
@@ -693,7 +715,7 @@ static int looks(void)
     if (sq && (waiting != sq->waiting.n || region != sq->region))
         return 0;
     return is_right(nvmearb_ctrl_cq(CTRL, qid, &region), cq ? NVMEARB_OK : NVMEARB_NONE) &&
-           (!cq || region == cq->region);
+           (!cq || region == cq->region) && sees();
 }
 
 /* ---- All of it ---- */

@@ -86,6 +86,12 @@ pub struct Seen {
     pub count: u16,
 }
 
+impl Seen {
+    pub(crate) fn of(fields: &sys::nvmearb_seen) -> Seen {
+        Seen { qid: fields.qid, priority: Priority::of(fields.priority), count: fields.count }
+    }
+}
+
 // What is shown lies in memory as the library reads it.
 const _: () = {
     assert!(

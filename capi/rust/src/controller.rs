@@ -2,7 +2,9 @@
 //! The controller.
 use crate::error::{checked, found, rung, sure, written};
 use crate::sys::{self, nvmearb_ctrl, nvmearb_slot};
-use crate::{check_version, Answer, DoorbellError, Error, Mechanism, OneCaller, Pick, Priority, Region, Sqe, Status};
+use crate::{
+    check_version, Answer, DoorbellError, Error, Mechanism, OneCaller, Pick, Priority, Region, Seen, Sqe, Status,
+};
 use crate::{CQE_BYTES, MAX_SLOTS, SQE_BYTES};
 use std::fmt;
 
@@ -507,6 +509,26 @@ impl Controller {
     pub fn waiting(&self, qid: u16) -> Option<u16> {
         // SAFETY: references.
         sure(found(|count| unsafe { sys::nvmearb_ctrl_waiting(&*self.ctrl, qid, count) }))
+    }
+
+    /// A command that waits in a submission queue, and what the caller keeps with it: the oldest, which is picked first,
+    /// if `n` is 0, the next one if `n` is 1, and so on. None if the queue isn't open or is closing, or if at most `n`
+    /// commands wait in it.
+    pub fn waits(&self, qid: u16, n: u16) -> Option<(Sqe, u32)> {
+        let (ctrl, slots, mut cookie) = (&*self.ctrl, &*self.slots, 0);
+        let (at, count) = (slots.as_ptr(), slots.len());
+        // SAFETY: references, and the slots are those of the state.
+        let entry =
+            sure(found(|entry| unsafe { sys::nvmearb_ctrl_waits(ctrl, at, count, qid, n, entry, &mut cookie) }))?;
+        Some((Sqe::of(&entry), cookie))
+    }
+
+    /// What the next pick is shown of a submission queue: its priority class, and how many of its commands wait, 0 if it
+    /// is held. An [`Arbiter`](crate::Arbiter) that is shown all open queues so makes the same pick. None if the queue
+    /// isn't open or is closing.
+    pub fn seen(&self, qid: u16) -> Option<Seen> {
+        // SAFETY: references.
+        sure(found(|seen| unsafe { sys::nvmearb_ctrl_seen(&*self.ctrl, qid, seen) })).as_ref().map(Seen::of)
     }
 
     /// Whether the numbers of the controller and its slots are within their ranges. They are unless something outside of

@@ -470,5 +470,7 @@ extern "C" {
     pub fn nvmearb_ctrl_sq(ctrl: *const nvmearb_ctrl, qid: u16, region: *mut u16) -> u32;
     pub fn nvmearb_ctrl_cq(ctrl: *const nvmearb_ctrl, cqid: u16, region: *mut u16) -> u32;
     pub fn nvmearb_ctrl_waiting(ctrl: *const nvmearb_ctrl, qid: u16, count: *mut u16) -> u32;
+    pub fn nvmearb_ctrl_waits(ctrl: *const nvmearb_ctrl, slots: *const nvmearb_slot, count: usize, qid: u16, n: u16, entry: *mut nvmearb_sqe, cookie: *mut u32) -> u32;
+    pub fn nvmearb_ctrl_seen(ctrl: *const nvmearb_ctrl, qid: u16, seen: *mut nvmearb_seen) -> u32;
     pub fn nvmearb_ctrl_verify(ctrl: *const nvmearb_ctrl, slots: *const nvmearb_slot, count: usize) -> u32;
 }

@@ -2,8 +2,8 @@
 //! A controller: each call, and each refusal. Values are the specification's.
 use nvmearb::admin_opcode::{ABORT, CREATE_CQ, CREATE_SQ, DELETE_SQ, GET_FEATURES, SET_FEATURES};
 use nvmearb::{
-    feature, io_opcode, Config, Controller, Cqe, DoorbellError, Error, Marks, Mechanism, Pick, Priority, Region, Sqe,
-    Status,
+    feature, io_opcode, Config, Controller, Cqe, DoorbellError, Error, Marks, Mechanism, Pick, Priority, Region, Seen,
+    Sqe, Status,
 };
 use nvmearb::{Step, Verdict, MAX_REGIONS, MAX_SLOTS};
 
@@ -234,8 +234,12 @@ fn held_queue_waits_and_classes_are_set() {
     assert_eq!(ctrl.set_class(1, Priority::Admin), Err(Error::Argument));
     assert_eq!(ctrl.sq_tail(1, 1), Ok(()));
     fetched(&mut ctrl, 1, 0, read(40));
+    assert_eq!(ctrl.seen(1), Some(Seen { qid: 1, priority: Priority::Urgent, count: 1 }));
     assert_eq!((ctrl.hold(1, true), ctrl.pick(), ctrl.waiting(1)), (Ok(()), Ok(None), Some(1)));
+    assert_eq!((ctrl.waits(1, 0), ctrl.waits(1, 1), ctrl.waits(2, 0)), (Some((read(40), 1040)), None, None));
     assert_eq!((ctrl.hold(1, false), ctrl.set_class(1, Priority::Low)), (Ok(()), Ok(())));
+    assert_eq!(ctrl.seen(1), Some(Seen { qid: 1, priority: Priority::Low, count: 1 }));
+    assert_eq!((ctrl.seen(0).map(|it| it.priority), ctrl.seen(2)), (Some(Priority::Admin), None));
     assert_eq!(ctrl.peek().map(|pick| (pick.qid, pick.n)), Some((1, 1)));
     assert!(ctrl.is_in_range());
 }

@@ -3,8 +3,8 @@ ghost use Rattle.std.specs.Prelude.{IfOk, length, ◌<◌, ◌^◌};
 ghost use Rattle.nvme_ctrl.specs.Standing.{IsController};
 
 use nvme_admin::{AdminError, Limits, Region};
-use nvme_arbiter::{Mechanism, Pick, Settings};
-use nvme_ctrl::{Answer, Controller, Marks, Post, Slot, Step};
+use nvme_arbiter::{Class, Mechanism, Pick, Seen, Settings};
+use nvme_ctrl::{Answer, Controller, Marks, Post, Slot, Step, Waiting};
 use nvme_entry::{Sqe, Status};
 use nvme_placing::{PRP_OFFSET_INVALID, Placement};
 use std::alloc::AllocError;
@@ -486,12 +486,31 @@ fn deletions_are_apart(rt: HostRuntime) -> Result<(), Fail> {
     Ok(())
 }
 
+// Queue 1, of the urgent class, has three commands that wait, of the identifiers 40 to 42.
+fn three_wait(rt: &impl Abort, ctrl: &Controller, slots: &[Slot]) {
+    let seen = Seen {
+        qid: 1,
+        class: Class::Urgent,
+        count: 3,
+    };
+    let last = Waiting {
+        entry: read(42),
+        cookie: 42,
+    };
+    assert_eq!(rt; (ctrl.waiting(1), ctrl.seen(1)), (3, Some(seen)));
+    assert_eq!(rt;
+        (ctrl.waits(slots, 1, 2), ctrl.waits(slots, 1, 3)),
+        (Some(last), None)
+    );
+    assert_eq!(rt; (ctrl.seen(2), ctrl.waits(slots, 2, 0)), (None, None));
+}
+
 #[test]
 fn reset_leaves_nothing(rt: HostRuntime) -> Result<(), Fail> {
     let mut slots = [Slot::free(); 16];
     let mut ctrl = prepared(&rt, Mechanism::Weighted, &mut slots)?;
     fill(&rt, &mut ctrl, &mut slots, 40);
-    assert_eq!(rt; ctrl.waiting(1), 3);
+    three_wait(&rt, &ctrl, &slots);
     let limits = Limits { nsq: 4, ncq: 4 };
     let mechanism = Mechanism::RoundRobin;
     ctrl.reset(
