@@ -230,6 +230,19 @@ static void opened(struct nvme *d, const nvmearb_step *step)
         set_priority(d, step->answer.qid);
 }
 
+/* The next pick, which is told for a trace. */
+static uint32_t pick(struct nvme *d, nvmearb_step *step)
+{
+    struct trace_view view;
+    if (!d->host.picked)
+        return nvmearb_ctrl_pick(&d->ctrl, d->slots, NVME_COMMANDS, step);
+    trace_look(&d->ctrl, &view);
+    uint32_t told = nvmearb_ctrl_pick(&d->ctrl, d->slots, NVME_COMMANDS, step);
+    if (told == NVMEARB_OK)
+        d->host.picked(d->host.context, &view, step);
+    return told;
+}
+
 /* Executes what arbitration picks. Returns whether it picked anything. */
 static int work(struct nvme *d)
 {
@@ -237,7 +250,7 @@ static int work(struct nvme *d)
     nvmearb_step step;
     uint16_t gone;
     int has_picked = 0;
-    while (is_due(d) && nvmearb_ctrl_pick(&d->ctrl, d->slots, NVME_COMMANDS, &step) == NVMEARB_OK) {
+    while (is_due(d) && pick(d, &step) == NVMEARB_OK) {
         has_picked = 1;
         if (step.kind == NVMEARB_CARRIED_OUT)
             opened(d, &step);
@@ -291,6 +304,8 @@ static void enable(struct nvme *d, uint32_t cc)
         nvmearb_ctrl_init_anywhere(&d->ctrl, d->slots, NVME_COMMANDS, &config, &placement) != NVMEARB_OK)
         return;
     nvme_own(d);
+    if (d->host.enabled)
+        d->host.enabled(d->host.context, &config);
     d->registers[CSTS] = RDY;
 }
 

@@ -6,6 +6,8 @@
 #ifndef NVME_H
 #define NVME_H
 
+#include "trace.h"
+
 #include <nvmearb.h>
 
 #define NVME_QUEUES NVMEARB_MAX_IO_QUEUES             /* the most I/O queues of a kind */
@@ -27,6 +29,9 @@ struct nvme_host {
     uint64_t (*now)(void *context);
     /* Executes an admin command of opcode C0h. NULL: there is none. */
     nvmearb_status (*vendor)(void *context, const nvmearb_sqe *entry, uint32_t *dw0);
+    /* Both, or neither, for a trace: what the controller was made with when it was enabled, and each pick. */
+    void (*enabled)(void *context, const nvmearb_config *config);
+    void (*picked)(void *context, const struct trace_view *view, const nvmearb_step *step);
 };
 
 /* A namespace: `blocks` blocks of 2^shift bytes. */
