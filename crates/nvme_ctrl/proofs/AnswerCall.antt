@@ -47,7 +47,7 @@ use Rattle.nvme_ctrl.proofs.PendingDeletions.{deletions_stay}
 
 -- ---- what the device has, without a command
 -- a command among some is among those that are left without another
-among_others : (before : List Item) (it : Item) (after first : List Item) (item : Item) (last : List Item) → before ++ it ∷ after ≡ first ++ item ∷ last
+pub among_others : (before : List Item) (it : Item) (after first : List Item) (item : Item) (last : List Item) → before ++ it ∷ after ≡ first ++ item ∷ last
     → item.tag ≢ it.tag → IsAmongOuts (before ++ after) item.tag
 among_others [] it after [] item last are other = absurd (other (sym (ap (λ (its : List Item). (get_or its 0 it).tag) are)))
 among_others [] it after (y ∷ first) item last are other =

@@ -129,9 +129,9 @@ none_fetched (e ∷ later) before qid r i follows place = none_fetched later bef
 
 -- ---- the command of a deletion
 -- a deletion begins after the pick of an admin command
-record HasPlace (past : Past) : Type 0 where
-  index : ℕ
-  is : latest_admin_place past ≡ Some index
+pub record HasPlace (past : Past) : Type 0 where
+  pub index : ℕ
+  pub is : latest_admin_place past ≡ Some index
 
 -- where the latest pick makes something
 made_has_place : (rules : FrontRules) (past : Past) → (made_last rules past ≡ [] → ⊥) → HasPlace past
@@ -150,7 +150,7 @@ made_has_place rules (e ∷ past) some =
     let rest = made_has_place rules past some in
     record { index = rest.index; is = rest.is }
 
-closing_has_place : (rules : FrontRules) (past : Past) (qid r : ℕ) → EffectsAtOnce rules past (Closing qid r) → HasPlace past
+pub closing_has_place : (rules : FrontRules) (past : Past) (qid r : ℕ) → EffectsAtOnce rules past (Closing qid r) → HasPlace past
 closing_has_place rules past qid r at_once = made_has_place rules past (λ none. absurd (
     let whole : (effects_since past ++ Closing qid r ∷ []) ++ at_once.0 ≡ [] = at_once.1 ∙ none in
     nothing (effects_since past) at_once.0 whole)) where

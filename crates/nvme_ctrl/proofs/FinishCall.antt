@@ -22,7 +22,7 @@ use Rattle.nvme_log.specs.Answers.{Answer}
 use Rattle.nvme_ctrl.specs.Notes.{Notes, Logged, Answered, logged}
 use Rattle.nvme_ctrl.specs.Tags.{answer_of, is_passed, taken}
 use Rattle.nvme_ctrl.specs.Account.{IsAccount, IsCarriedOut}
-use Rattle.nvme_ctrl.specs.Steps.{HasFinished, NoneFinishable}
+use Rattle.nvme_ctrl.specs.Steps.{HasFinished, IsFinishableAt, NoneFinishable}
 use Rattle.nvme_ctrl.specs.declared.slot.Slot.{Slot}
 use Rattle.nvme_ctrl.specs.declared.state.Controller.{Controller}
 use Rattle.nvme_ctrl.specs.kept.Content.{Candidate, Ready, PendingDelete, Content, with_ready, put_deletion, put_life}
@@ -192,6 +192,20 @@ module _ (rules : FrontRules) (late : Bool) (notes : Notes) (c : Controller) (sl
 
   posted : unposted_of past region ≡ 0
   posted = sym (s.holds.counts.unposted region) ∙ all_posted
+
+  -- the deletion is the one of the log
+  deletes : deleting past region ≡ Some item.index
+  deletes = s.holds.deletion.place_is region ∙ ap (option_map (λ (x : PendingDelete). x.place.index)) pending_is
+
+  -- so it can be finished
+  pub finishable_at : IsFinishableAt notes qid
+  finishable_at = record {
+    region = region;
+    index = item.index;
+    deletes = deletes;
+    queue = s.holds.lives.named qid region flagged.life;
+    all_posted = posted;
+  }
 
   hand_elsewhere : All (λ (it : Item). it.place.region ≢ region) (g.outs ++ untaken c k g)
   hand_elsewhere =
@@ -579,7 +593,8 @@ module _ (rules : FrontRules) (late : Bool) (notes : Notes) (c : Controller) (sl
     finished_item b pool end = record {
       region = region;
       index = item.index;
-      deletes = s.holds.deletion.place_is region ∙ ap (option_map (λ (x : PendingDelete). x.place.index)) pending_is;
+      deletes = deletes;
+      named = s.holds.lives.named item.qid region life;
       stands = record {
         content = with_ready k1 0 t;
         items = with_item others 0 (ended item.tag t);

@@ -26,7 +26,7 @@ use Rattle.nvme_ctrl.proofs.Sums.{sum_less, sum_add, sum_none, sum_step, sum_mor
 
 -- ---- fetches and posts by region
 -- all that was fetched was fetched of some region
-fetches-by : (past : Past) (n : ℕ) → ((r : ℕ) → n ≤ r → fetched past r ≡ []) → all_fetches past ≡ sum_by (λ (r : ℕ). length (fetched past r)) (upto n)
+pub fetches-by : (past : Past) (n : ℕ) → ((r : ℕ) → n ≤ r → fetched past r ≡ []) → all_fetches past ≡ sum_by (λ (r : ℕ). length (fetched past r)) (upto n)
 fetches-by [] n h = sym (sum_none (λ (r : ℕ). 0) n (λ r. refl))
 fetches-by (Fetch region i entry ∷ past) n h =
     let rest = fetches-by past n (λ r beyond. fetched-before (Fetch region i entry) past r (h r beyond)) in
@@ -52,7 +52,7 @@ count_false zero = refl
 count_false (suc n) = omega (arith, count_of-push (λ (i : ℕ). false) (upto n) n, count_false n)
 
 -- of some places, no more are posted than completions were
-posts-by : (m : ℕ → ℕ) (n : ℕ) (past : Past) → sum_by (λ (r : ℕ). count_of (λ (i : ℕ). is_posted past r i) (upto (m r))) (upto n) ≤ all_posts past
+pub posts-by : (m : ℕ → ℕ) (n : ℕ) (past : Past) → sum_by (λ (r : ℕ). count_of (λ (i : ℕ). is_posted past r i) (upto (m r))) (upto n) ≤ all_posts past
 posts-by m n [] = let none = sum_none (λ (r : ℕ). count_of (λ (i : ℕ). false) (upto (m r))) n (λ r. count_false (m r)) in omega (arith, none)
 posts-by m n (Post c r0 i0 cqe ∷ past) =
     let rest = posts-by m n past in
@@ -104,7 +104,7 @@ module _ (rules : FrontRules) (late : Bool) (past : Past) (k : Content) (s : Hol
   size r = length (fetched past r)
 
   -- nothing was fetched of a region that isn't there
-  fetched_none : (r : ℕ) → number ≤ r → fetched past r ≡ []
+  pub fetched_none : (r : ℕ) → number ≤ r → fetched past r ≡ []
   fetched_none r beyond = (s.regions r).fetched_is ∙ by (k.sq r).queue refl where
     by : (o : Option Attachment) → (k.sq r).queue ≡ o → (k.sq r).got ≡ []
     by None is = (s.queues.unopened r is).nothing_got

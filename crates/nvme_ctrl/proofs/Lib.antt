@@ -116,6 +116,7 @@ pub mod DeleteBegins
 pub mod Aborting
 pub mod Standable
 pub mod AdminCall
+pub mod NamedQueues
 pub mod FinishCall
 mod LateNotes
 mod Handing
@@ -129,6 +130,17 @@ mod WaitingNames
 mod AbortNotes
 mod KeptRanges
 pub mod ToldVerdicts
+pub mod CommandVerdicts
 pub mod CountedCreates
 mod SeenQueues
 mod WaitingPlaces
+pub mod Reordered
+pub mod OutPlaces
+pub mod OpenRegions
+pub mod UnpostedPlaces
+pub mod OneDeletion
+pub mod SomeDeleting
+pub mod ServedQueues
+pub mod PlacesNeeded
+pub mod NextPost
+pub mod ClearPools

@@ -22,7 +22,7 @@ use Rattle.nvme_ctrl.specs.kept.Standing.{IsReady, Holds}
 use Rattle.nvme_ctrl.specs.kept.Pool.{slot_at, put_item, IsNew, IsChain, SameItems, SameLinks}
 use Rattle.nvme_ctrl.specs.kept.State.{sq_at, cq_at}
 use Rattle.nvme_ctrl.specs.kept.Kept.{ReadyItem, Items, readies_of, IsReadyIn, StandsAt}
-use Rattle.nvme_ctrl.specs.inside.Posting.{completion_of}
+use Rattle.nvme_ctrl.specs.Posts.{completion_of}
 use Rattle.nvme_ctrl.proofs.AfterSteps.{CanPost, post_event, after_post}
 use Rattle.nvme_ctrl.proofs.Standing.{holds-post}
 

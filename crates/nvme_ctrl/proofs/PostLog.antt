@@ -18,7 +18,7 @@ use Rattle.nvme_log.specs.Dispatches.{place_at}
 use Rattle.nvme_log.specs.Answers.{Answer, by_answers}
 use Rattle.nvme_ctrl.specs.Notes.{Notes}
 use Rattle.nvme_ctrl.specs.Marks.{marks_or}
-use Rattle.nvme_ctrl.specs.Tags.{is_place, holder, answer_of, answer_or, answers, is_out, all_fetches, all_posts, cookie_of, is_passed, marks_of}
+use Rattle.nvme_ctrl.specs.Tags.{is_place, holder, answer_of, is_through, answer_or, answers, is_out, all_fetches, all_posts, cookie_of, is_passed, marks_of}
 use Rattle.nvme_ctrl.specs.Account.{IsLawfulEvent, IsAccount, PostsAnswer, PostsOwn}
 use Rattle.nvme_ctrl.specs.declared.slot.Slot.{Slot}
 use Rattle.nvme_ctrl.specs.kept.Content.{Ready}
@@ -26,7 +26,8 @@ use Rattle.nvme_ctrl.specs.kept.Standing.{Holds, answer_in, hand_of, times_held,
 use Rattle.nvme_ctrl.specs.kept.Pool.{slot_at, put_item, marks_in, IsChain}
 use Rattle.nvme_ctrl.specs.kept.State.{no_cq_state, cq_at}
 use Rattle.nvme_ctrl.specs.inside.Next.{IsNext}
-use Rattle.nvme_ctrl.specs.inside.Posting.{completion_of, counted_post}
+use Rattle.nvme_ctrl.specs.Posts.{completion_of}
+use Rattle.nvme_ctrl.specs.inside.Posting.{counted_post}
 use Rattle.nvme_ctrl.specs.Calls.{HasPosted}
 use Rattle.nvme_ctrl.specs.declared.chain.Chain.{Chain}
 use Rattle.nvme_ctrl.specs.declared.state.CqState.{CqState}
@@ -37,7 +38,7 @@ use Rattle.nvme_ctrl.proofs.NextEvents.{next-post, posts-as-ready, oldest_answer
 use Rattle.nvme_ctrl.proofs.OwnStatus.{All-unmap, IsAnswerable, ready_is_answerable}
 use Rattle.nvme_ctrl.proofs.PostedPlaces.{ready_unanswered}
 use Rattle.nvme_ctrl.proofs.ReadyHand.{times_held-append}
-use Rattle.nvme_ctrl.proofs.PostCall.{freed, HasDone, PostCall, content, past_of, command, region, index, cqe_of, event_of, later, notes_after, content_after, controller_after, items_after, ready_in, oldest_is, can_post, holds_after}
+use Rattle.nvme_ctrl.proofs.PostCall.{freed, HasDone, PostCall, content, past_of, command, region, index, cqe_of, event_of, later, notes_after, content_after, controller_after, items_after, ready_in, oldest_is, is_ready, can_post, holds_after}
 use Rattle.nvme_ctrl.proofs.PostNumbers.{numbers_after, counts_before, has_room, doorbells_after}
 use Rattle.nvme_ctrl.proofs.PostItems.{tag, size_is, other_kept, tag_freed, ready_contents, has_after, tag_cookie}
 use Rattle.nvme_ctrl.proofs.OutTags.{still_not_out-logged}
@@ -230,6 +231,12 @@ module _ (p : PostCall) where
   through : IsThrough p.notes p.item.ready
   through = of_item (λ (it : ReadyItem). IsThrough p.notes it.ready) (p.stands.tags.through p.x)
 
+  is_done : is_through p.notes (region p) (index p) ≡ true
+  is_done = elim through [
+    | inl aborted ↦ or_left (is_aborted (past_of p) (region p) (index p)) (is_some (answer_of p.notes (region p) (index p))) aborted
+    | inr answered ↦ or_right (is_aborted (past_of p) (region p) (index p)) (is_some (answer_of p.notes (region p) (index p))) (rw answered refl)
+  ]
+
   passed_as : p.item.ready.passed ≡ (region p == 0 && is_passed p.notes (index p))
   passed_as = of_item (IsReadyOf p.notes) (p.stands.tags.passed.readies p.x)
 
@@ -291,10 +298,7 @@ module _ (p : PostCall) where
         leaves_places = next.leaves_places;
         fetches_submitted = tt;
         posts_on_free_slot = omega (arith, has_room p, p.stands.holds.tabled.cq_slots p.x, (p.stands.numbers.cqs p.cqid p.x p.life).slots);
-        posts_what_is_through = elim through [
-          | inl aborted ↦ or_left (is_aborted (past_of p) (region p) (index p)) (is_some (answer_of p.notes (region p) (index p))) aborted
-          | inr answered ↦ or_right (is_aborted (past_of p) (region p) (index p)) (is_some (answer_of p.notes (region p) (index p))) (rw answered refl)
-        ];
+        posts_what_is_through = is_done;
       }
 
   pub account_after : p.late ≡ false → IsAccount p.rules (notes_after p)
@@ -333,9 +337,11 @@ posted_call p = record {
   is_open = sym (p.stands.holds.lives.cqs p.cqid) ∙ p.life;
   region = region p;
   index = index p;
+  queue = (is_ready p).queue ∙ ap (λ (q : ℕ). Some q) (sym (ready_in p).sqid);
   slot_is = (counts_before p).tail_is ∙ ap (λ (n : ℕ). length (posted_to (past_of p) p.x) % n) ((p.stands.numbers.cqs p.cqid p.x p.life).slots ∙ sym (p.stands.holds.tabled.cq_slots p.x));
   kept = kept p;
   marked = marked p;
+  through = is_done p;
   stands = stands_after p;
 }
 

@@ -334,6 +334,10 @@ module _ (c : Controller) (slots : List Slot) (k : Content) (g : Items) (n : Has
       unanswered : All (λ (y : Item). IsUnanswered notes y.place) (it ∷ rest)
       unanswered = subst (All (λ (y : Item). IsUnanswered notes y.place)) is (t.windows_unanswered at)
 
+  -- the tag stood for no command
+  take-free : (notes : Notes) → HoldsTags notes c slots k g → holder notes it.tag ≡ None
+  take-free notes t = t.none_held it.tag (λ e. omega (arith, first.state, e)) (λ e. omega (arith, first.state, e))
+
   -- the note is lawful
   take-account : (rules : FrontRules) (notes : Notes) → HoldsTags notes c slots k g → IsAccount rules notes → IsAccount rules (Taken it.tag it.place.region it.place.index ∷ notes)
   take-account rules notes t a = record {
@@ -341,7 +345,7 @@ module _ (c : Controller) (slots : List Slot) (k : Content) (g : Items) (n : Has
       record {
         next = ap (λ (ps : List Place). slice_get ps (length (taken notes))) (t.untaken_are ∙ ap (λ (its : List Item). taken notes ++ places_of its) untaken_is)
             ∙ slice_get-next (taken notes) it.place (places_of (untaken (took c chain) k left));
-        free = t.none_held it.tag (λ e. omega (arith, first.state, e)) (λ e. omega (arith, first.state, e));
+        free = take-free notes t;
       },
       a.each,
     );
@@ -429,6 +433,7 @@ module _ (rules : FrontRules) (late : Bool) (notes : Notes) (c : Controller) (sl
         subst (λ (t : ℕ). HasTaken rules late notes t (took c chain) (took_pool slots t)) (sym same) (record {
           region = it.place.region;
           index = it.place.index;
+          free = take-free c slots s.content s.items s.numbers s.has it rest is some picked_life chain (others it.tag (tags_of rest) linked) notes s.tags;
           unanswered = All-head (λ (y : Item). IsUnanswered notes y.place) it rest
               (subst (All (λ (y : Item). IsUnanswered notes y.place)) is (s.tags.windows_unanswered (picked_region c s.content)));
           stands = take-first it rest is chain (others it.tag (tags_of rest) linked);

@@ -12,7 +12,7 @@ use Rattle.nvme_log.specs.Answers.{Answer}
 use Rattle.nvme_ctrl.specs.Notes.{Notes, Logged, Tail, Head, Kept, Taken, Answered, Marked, logged}
 use Rattle.nvme_ctrl.specs.Doorbells.{submitted, sq_slots, cq_slots}
 use Rattle.nvme_ctrl.specs.Marks.{marks_or}
-use Rattle.nvme_ctrl.specs.Tags.{holder, is_out, answer_of, cookie_of, marks_of, all_fetches, all_posts}
+use Rattle.nvme_ctrl.specs.Tags.{holder, is_out, answer_of, cookie_of, marks_of, is_through, all_fetches, all_posts}
 use Rattle.nvme_ctrl.specs.Account.{IsTail, IsHead}
 use Rattle.nvme_ctrl.specs.declared.marks.Marks.{Marks}
 use Rattle.nvme_ctrl.specs.declared.slot.Slot.{Slot}
@@ -67,10 +67,11 @@ pub record HasFetched (rules : FrontRules) (late : Bool) (notes : Notes) (qid : 
       ∷ Logged (Fetch may.queue.region (length (fetched (logged notes) may.queue.region)) entry) ∷ notes) c slots
 
 -- ---- the device
--- the device takes a command under a tag, which it hasn't answered
+-- the device takes a command, which it hasn't answered, under a tag that stands for no command
 pub record HasTaken (rules : FrontRules) (late : Bool) (notes : Notes) (tag : ℕ) (c : Controller) (slots : List Slot) : Type 0 where
   pub region : ℕ
   pub index : ℕ
+  pub free : holder notes tag ≡ None
   pub unanswered : answer_of notes region index ≡ None
   pub stands : Stands rules late (Taken tag region index ∷ notes) c slots
 
@@ -92,14 +93,17 @@ pub record IsTagOf (notes : Notes) (qid cid tag : ℕ) : Type 0 where
   pub cid_is : entry.cid ≡ cid
 
 -- ---- completions
--- a completion is posted to an open completion queue, into the slot that is its next, and what the caller keeps with its command is given back. Its
--- marks are those of the device where it answered, else those of the completion's status
+-- a completion is posted to an open completion queue, into the slot that is its next, and what the caller keeps with its command is given back. It
+-- has the identifier of its command's queue. Its marks are those of the device where it answered, else those of the completion's status
 pub record HasPosted (rules : FrontRules) (late : Bool) (notes : Notes) (cqid slot : ℕ) (cqe : Cqe) (cookie : ℕ) (marks : Marks) (c : Controller) (slots : List Slot) : Type 0 where
   pub x : ℕ
   pub is_open : open_cq (logged notes) cqid ≡ Some x
   pub region : ℕ
   pub index : ℕ
+  pub queue : qid_of_region (logged notes) region ≡ Some cqe.sqid
   pub slot_is : slot ≡ length (posted_to (logged notes) x) % cq_slots rules x
   pub kept : cookie_of notes region index ≡ Some cookie
   pub marked : marks ≡ marks_or cqe.status (marks_of notes region index)
+  -- its command was aborted or answered
+  pub through : is_through notes region index ≡ true
   pub stands : Stands rules late (Logged (Post x region index cqe) ∷ notes) c slots

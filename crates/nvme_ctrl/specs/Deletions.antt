@@ -18,6 +18,12 @@ deleting (Closing qid region ∷ past) r = if region == r then latest_admin_plac
 deleting (ClosedSq qid region ∷ past) r = if region == r then None else deleting past r
 deleting (e ∷ past) r = deleting past r
 
+-- the queue of some region is being deleted
+pub record IsDeletingSome (past : Past) : Type 0 where
+  pub region : ℕ
+  pub index : ℕ
+  pub deletes : deleting past region ≡ Some index
+
 -- a queue's deletion began, and isn't finished
 abbrev pub is_deleted_queue : Past → Option Queue → Bool
 is_deleted_queue past None = false

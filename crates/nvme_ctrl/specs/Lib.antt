@@ -17,4 +17,5 @@ pub mod Steps
 pub mod Making
 pub mod Ranges
 pub mod Laws
+pub mod Outlook
 pub mod Examples

@@ -1,15 +1,20 @@
--- When a completion region has nothing to be posted to it, and the command of a completion. (Base Specification, Completion Queue Entry, Full Queue)
-use Rattle.std.specs.Prelude.{◌≡◌, ℕ, ◌+◌, ◌≤◌, ◌⊎◌, true, length, Some}
+-- When a completion region has nothing to be posted to it, the command of a completion, and what is posted next. (Base Specification, Completion Queue Entry, Full Queue)
+use Rattle.std.specs.Prelude.{◌≡◌, ℕ, ◌+◌, ◌≤◌, ◌%◌, ◌⊎◌, ◌==◌, ◌||◌, nat_le, Bool, true, if◌then◌else◌, List, length, Option, Some, None}
 use Rattle.nvme_entry.specs.declared.completion.Cqe.{Cqe}
 use Rattle.nvme_log.specs.Rules.{FrontRules}
 use Rattle.nvme_log.specs.Queues.{cq_region_of}
 use Rattle.nvme_log.specs.Completions.{is_posted, posted_to}
 use Rattle.nvme_ctrl.specs.Notes.{Notes, logged}
-use Rattle.nvme_ctrl.specs.Doorbells.{cq_slots, consumed}
+use Rattle.nvme_ctrl.specs.Doorbells.{gap, cq_slots, consumed}
 use Rattle.nvme_ctrl.specs.Tags.{is_through}
-use Rattle.nvme_ctrl.specs.kept.Pool.{marks_in}
+use Rattle.nvme_ctrl.specs.kept.Pool.{slot_at, marks_in}
+use Rattle.nvme_ctrl.specs.kept.State.{sq_at, cq_at}
 use Rattle.nvme_ctrl.specs.declared.marks.Marks.{Marks}
+use Rattle.nvme_ctrl.specs.declared.posts.Post.{Post}
+use Rattle.nvme_ctrl.specs.declared.ring.Ring.{Ring}
 use Rattle.nvme_ctrl.specs.declared.slot.Slot.{Slot}
+use Rattle.nvme_ctrl.specs.declared.state.CqState.{CqState}
+use Rattle.nvme_ctrl.specs.declared.state.Controller.{Controller}
 
 -- no slot of its ring is free: a full ring has one slot less than there are (Full Queue)
 abbrev pub IsFullRing : FrontRules → Notes → ℕ → Type 0
@@ -29,3 +34,37 @@ pub record IsPostOf (command : Slot) (cqe : Cqe) (cookie : ℕ) (marks : Marks) 
   pub dw0 : cqe.dw0 ≡ command.dw0
   pub cookie_is : cookie ≡ command.cookie
   pub marks_are : marks ≡ marks_in command
+
+-- ---- what is posted next
+-- the completion queue entry of a command (Completion Queue Entry)
+abbrev pub completion_of : Controller → Slot → Bool → Cqe
+completion_of c command phase = record {
+  dw0 = command.dw0;
+  sqhd = (sq_at c.sqs command.sqid).ring.head;
+  sqid = command.sqid;
+  cid = command.entry.cid;
+  phase = phase;
+  status = record { sct = command.sct % 8; sc = command.sc };
+}
+
+-- no slot of a ring is free to be written (Full Queue)
+abbrev pub is_full : Ring → Bool
+is_full ring = nat_le ring.slots (gap ring.slots ring.head ring.tail + 1)
+
+-- the post of the command that became ready first in a completion queue
+abbrev pub first_post : Controller → List Slot → CqState → Post
+first_post c slots cq = record {
+  slot = cq.ring.tail;
+  cqe = completion_of c (slot_at slots cq.ready.first) (cq.phase == 1);
+  tag = cq.ready.first;
+  cookie = (slot_at slots cq.ready.first).cookie;
+  marks = marks_in (slot_at slots cq.ready.first);
+}
+
+-- the next post to a completion queue in a state: none where its ring is full, and where no command is ready
+abbrev pub post_in : Controller → List Slot → CqState → Option Post
+post_in c slots cq = if is_full cq.ring || cq.ready.len == 0 then None else Some (first_post c slots cq)
+
+-- the next post to the completion queue of an identifier
+abbrev pub next_post_of : Controller → List Slot → (cqid : ℕ) → Option Post
+next_post_of c slots cqid = post_in c slots (cq_at c.cqs cqid)

@@ -3,14 +3,19 @@ use Rattle.std.specs.Prelude.{◌≡◌, ◌≢◌, ℕ, ◌+◌, ◌<◌, Bool,
 use Rattle.nvme_arbiter.specs.Lawful.{lawful_pick}
 use Rattle.nvme_arbiter.specs.declared.pick.Pick.{Pick}
 use Rattle.nvme_admin.specs.declared.verdict.Verdict.{Verdict}
+use Rattle.nvme_admin.specs.declared.verdict.Verdict.TheVariants as verdict
 use Rattle.nvme_admin.specs.Effects.{verdict_in}
 use Rattle.nvme_admin.specs.declared.effect.Effect.{Effect}
+use Rattle.nvme_admin.specs.declared.effect.Effect.TheVariants.{BeginDelete, CloseCq}
 use Rattle.nvme_placing.specs.Telling.{IsToldBy}
 use Rattle.nvme_entry.specs.declared.submission.Sqe.{Sqe}
+use Rattle.nvme_entry.specs.declared.admin.AdminCommand.{AdminCommand}
+use Rattle.nvme_entry.specs.declared.admin.AdminCommand.TheVariants as command
 use Rattle.nvme_entry.specs.Status.{success}
 use Rattle.nvme_log.specs.declared.event.Event.{Event}
 use Rattle.nvme_log.specs.declared.event.Event.TheVariants as event
-use Rattle.nvme_log.specs.Rules.{FrontRules}
+use Rattle.nvme_log.specs.Rules.{FrontRules, Past}
+use Rattle.nvme_log.specs.Queues.{Queue, open_sq, open_cq, qid_of_region}
 use Rattle.nvme_log.specs.Places.{waiting, entry_at}
 use Rattle.nvme_log.specs.Histories.{arbitration_of}
 use Rattle.nvme_log.specs.Aborts.{places_for}
@@ -65,6 +70,26 @@ pub record HasDone (rules : FrontRules) (late : Bool) (notes : Notes) (effect : 
   pub carried_out : HasCarriedOut (placed verdict entry rules) late notes verdict c slots
   pub its_entry : entry_at (logged notes) 0 carried_out.index ≡ Some entry
 
+-- the submission queue of an identifier is open on a region
+pub record IsSqOn (past : Past) (qid region : ℕ) : Type 0 where
+  pub queue : Queue
+  pub is_open : open_sq past qid ≡ Some queue
+  pub on : queue.region ≡ region
+
+-- the region in an effect is that of the queue which was open before: of a queue whose deletion begins, and of a completion queue that is closed
+-- (Delete I/O Submission Queue, Delete I/O Completion Queue; regions: profile)
+abbrev pub NamesQueues : Past → Effect → Type 0
+NamesQueues past (BeginDelete qid region) = IsSqOn past qid region
+NamesQueues past (CloseCq qid region) = open_cq past qid ≡ Some region
+NamesQueues past effect = Unit {0}
+
+-- a verdict is of a command: the deletion of a submission queue begins by its Delete, and a command is aborted by its Abort (Delete I/O Submission
+-- Queue, Abort)
+abbrev pub IsVerdictOf : AdminCommand → Verdict → Type 0
+IsVerdictOf c (verdict.BeginDelete qid) = c ≡ command.DeleteSq qid
+IsVerdictOf c (verdict.Abort sqid cid) = c ≡ command.Abort sqid cid
+IsVerdictOf c v = Unit {0}
+
 -- a pick of the admin queue, whose command is passed on to the device
 pub record HasPassed (rules : FrontRules) (late : Bool) (notes : Notes) (pick : Pick) (c : Controller) (slots : List Slot) : Type 0 where
   pub of_admin : pick.qid ≡ 0
@@ -98,13 +123,22 @@ HasStepped rules late notes (Picked pick) c slots = IsNextPick rules notes (Some
 HasStepped rules late notes (PassedOn pick) c slots = HasPassed rules late notes pick c slots
 HasStepped rules late notes (Done effect entry) c slots = HasDone rules late notes effect entry c slots
 
+-- the deletion of the queue of an identifier can be finished: it began and isn't finished, and each command of the queue has its completion posted
+pub record IsFinishableAt (notes : Notes) (qid : ℕ) : Type 0 where
+  pub region : ℕ
+  pub index : ℕ
+  pub deletes : deleting (logged notes) region ≡ Some index
+  pub queue : qid_of_region (logged notes) region ≡ Some qid
+  pub all_posted : unposted_of (logged notes) region ≡ 0
+
 -- no deletion can be finished: of each queue that is being deleted a command has no completion posted yet
 abbrev pub NoneFinishable : Notes → Type 0
 NoneFinishable notes = (region index : ℕ) → deleting (logged notes) region ≡ Some index → unposted_of (logged notes) region ≢ 0
 
--- a deletion is finished, and its Delete is answered with success
+-- the deletion of the queue of an identifier is finished, and its Delete is answered with success
 pub record HasFinished (rules : FrontRules) (late : Bool) (notes : Notes) (qid : ℕ) (c : Controller) (slots : List Slot) : Type 0 where
   pub region : ℕ
   pub index : ℕ
   pub deletes : deleting (logged notes) region ≡ Some index
+  pub named : qid_of_region (logged notes) region ≡ Some qid
   pub stands : Stands rules late (Answered 0 index (record { status = success; dw0 = 0 }) ∷ Logged (event.ClosedSq qid region) ∷ notes) c slots

@@ -5,13 +5,15 @@ use nvme_admin::MAX_REGIONS;
 use nvme_entry::Status;
 
 impl Controller {
-    ghost use Rattle.std.specs.Prelude.{◌≡◌, ◌≢◌, ◌⊎◌, ◌<◌, ℕ, Bool, true, false, List, None, IfSome};
+    ghost use Rattle.std.specs.Prelude.{◌≡◌, ◌≢◌, ◌⊎◌, ◌<◌, ℕ, Bool, true, false, List, length, None, IfSome};
     ghost use Rattle.nvme_log.specs.Rules.{FrontRules};
     ghost use Rattle.nvme_ctrl.specs.Notes.{Notes};
     ghost use Rattle.nvme_ctrl.specs.Standing.{Stands, IsController};
     ghost use Rattle.nvme_ctrl.specs.Own.{own_of};
-    ghost use Rattle.nvme_ctrl.specs.Steps.{HasFinished, NoneFinishable};
+    ghost use Rattle.nvme_ctrl.specs.Calls.{window_limit};
+    ghost use Rattle.nvme_ctrl.specs.Steps.{HasFinished, IsFinishableAt, NoneFinishable};
     ghost use Rattle.nvme_ctrl.specs.kept.State.{sq_at, deletion_at, IsFinishable};
+    ghost use Rattle.nvme_ctrl.specs.declared.slot.Slot.{Slot};
 
     // Whether the deletion of a queue is pending, and all completions of the queue are posted.
     fn is_finishable(&self, qid: u16) -> bool
@@ -22,10 +24,12 @@ impl Controller {
         self.deletion(qid).pending != 0 && self.sq(qid).unposted == 0
     }
 
-    // The first queue whose deletion can be finished. None is looked at where no deletion is pending.
-    fn finishable(&self) -> Option<u16>
-        ensures some { IfSome result (λ qid. IsFinishable self.now qid) }
-        ensures none { result ≡ None → (self.now.pending_deletions ≡ 0) ⊎ ((q : ℕ) → q < MAX_REGIONS → IsFinishable self.now q → ⊥) }
+    /// The queue whose deletion `finish` would finish, the first one of several. None where it would finish none. No queue
+    /// is looked at where no deletion is pending.
+    pub fn can_finish(&self) -> Option<u16>
+        ensures kept { IfSome result (λ qid. IsFinishable self.now qid) }
+        ensures some { (rules : FrontRules) (late : Bool) (notes : Notes) (pool : List Slot) → Stands rules late notes self.now pool → IfSome result (λ qid. IsFinishableAt notes qid) }
+        ensures none { (rules : FrontRules) (late : Bool) (notes : Notes) (pool : List Slot) → Stands rules late notes self.now pool → result ≡ None → NoneFinishable notes }
     {
         if self.pending_deletions == 0 {
             return None;
@@ -46,11 +50,13 @@ impl Controller {
         requires front { IsController self.old slots.old }
         ensures front { IsController self.new slots.new }
         ensures none { result ≡ None → (self.new ≡ self.old) × (slots.new ≡ slots.old) }
+        ensures window { window_limit self.new ≡ window_limit self.old }
+        ensures size { length slots.new ≡ length slots.old }
         ensures own { own_of self.new ≡ own_of self.old }
         ensures told { (rules : FrontRules) (late : Bool) (notes : Notes) → Stands rules late notes self.old slots.old → result ≡ None → NoneFinishable notes }
         ensures stands { (rules : FrontRules) (late : Bool) (notes : Notes) → Stands rules late notes self.old slots.old → IfSome result (λ qid. HasFinished rules late notes qid self.new slots.new) }
     {
-        let qid = self.finishable()?;
+        let qid = self.can_finish()?;
         let tag = self.deletion(qid).tag;
         self.table.finish_delete(qid);
         self.put_sq(qid, SqState::none());

@@ -15,14 +15,14 @@ pub struct Answer {
 }
 
 impl Controller {
-    ghost use Rattle.std.specs.Prelude.{◌≡◌, ℕ, ◌≢◌, Bool, true, false, List, ◌∷◌, None, Some, IfSome};
+    ghost use Rattle.std.specs.Prelude.{◌≡◌, ℕ, ◌≢◌, Bool, true, false, List, ◌∷◌, length, None, Some, IfSome};
     ghost use Rattle.nvme_log.specs.Rules.{FrontRules};
     ghost use Rattle.nvme_log.specs.Answers as log;
     ghost use Rattle.nvme_ctrl.specs.Notes.{Notes};
     ghost use Rattle.nvme_ctrl.specs.Tags.{is_out, handed, taken};
     ghost use Rattle.nvme_ctrl.specs.Standing.{Stands, IsController};
     ghost use Rattle.nvme_ctrl.specs.Own.{own_of};
-    ghost use Rattle.nvme_ctrl.specs.Calls.{HasTaken, HasAnswered};
+    ghost use Rattle.nvme_ctrl.specs.Calls.{window_limit, HasTaken, HasAnswered};
     ghost use Rattle.nvme_ctrl.specs.declared.slot.Slot.{Slot};
 
     /// The device takes the next picked command. Its slot is its tag until its completion is posted. None, which changes
@@ -31,6 +31,8 @@ impl Controller {
         requires front { IsController self.old slots.old }
         ensures front { IsController self.new slots.new }
         ensures none { result ≡ None → (self.new ≡ self.old) × (slots.new ≡ slots.old) }
+        ensures window { window_limit self.new ≡ window_limit self.old }
+        ensures size { length slots.new ≡ length slots.old }
         ensures own { own_of self.new ≡ own_of self.old }
         ensures told { (rules : FrontRules) (late : Bool) (notes : Notes) → Stands rules late notes self.old slots.old → result ≡ None → handed notes ≡ taken notes }
         ensures stands { (rules : FrontRules) (late : Bool) (notes : Notes) → Stands rules late notes self.old slots.old → IfSome result (λ tag. HasTaken rules late notes tag self.new slots.new) }
@@ -54,6 +56,8 @@ impl Controller {
         requires front { IsController self.old slots.old }
         ensures front { IsController self.new slots.new }
         ensures refused { result ≡ false → (self.new ≡ self.old) × (slots.new ≡ slots.old) }
+        ensures window { window_limit self.new ≡ window_limit self.old }
+        ensures size { length slots.new ≡ length slots.old }
         ensures own { own_of self.new ≡ own_of self.old }
         ensures answer { (rules : FrontRules) (late : Bool) (notes : Notes) → Stands rules late notes self.old slots.old → result ≡ is_out notes tag }
         ensures stands { (rules : FrontRules) (late : Bool) (notes : Notes) → Stands rules late notes self.old slots.old → result ≡ true → HasAnswered rules late notes tag (record { status = answer.status; dw0 = answer.dw0 }) answer.marks self.new slots.new }

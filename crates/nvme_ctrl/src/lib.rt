@@ -20,6 +20,7 @@ pub mod laws;
 mod lookups;
 mod making;
 mod marks;
+mod outlook;
 mod own;
 mod picks;
 mod posts;

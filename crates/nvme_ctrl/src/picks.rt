@@ -25,7 +25,7 @@ pub enum Step {
 }
 
 impl Controller {
-    ghost use Rattle.std.specs.Prelude.{◌≡◌, ◌≢◌, ℕ, ◌+◌, ◌≤◌, Bool, true, false, not, List, Option, Some, None, IfSome};
+    ghost use Rattle.std.specs.Prelude.{◌≡◌, ◌≢◌, ℕ, ◌+◌, ◌≤◌, Bool, true, false, not, List, length, Option, Some, None, IfSome};
     ghost use Rattle.nvme_arbiter.specs.Layout.{board_of};
     ghost use Rattle.nvme_arbiter.specs.Queues.{seen_of};
     ghost use Rattle.nvme_arbiter.specs.Standing.{pick_of};
@@ -40,7 +40,10 @@ impl Controller {
     ghost use Rattle.nvme_entry.specs.AdminCommand.{admin_command_of};
     ghost use Rattle.nvme_entry.specs.declared.admin.AdminCommand.TheVariants as command;
     ghost use Rattle.nvme_ctrl.specs.Own.{names_none, is_own, own_of, oldest_is_own};
-    ghost use Rattle.nvme_ctrl.specs.Steps.{IsNextPick, HasStepped, LacksRoom};
+    ghost use Rattle.nvme_ctrl.specs.Calls.{window_limit};
+    ghost use Rattle.nvme_ctrl.specs.Making.{placing_in};
+    ghost use Rattle.nvme_admin.specs.Effects.{verdict_in};
+    ghost use Rattle.nvme_ctrl.specs.Steps.{IsNextPick, IsVerdictOf, HasStepped, LacksRoom, NamesQueues};
     ghost use Rattle.nvme_ctrl.specs.inside.Picks.{CanPickNow, oldest_entry, places_in};
     ghost use Rattle.nvme_ctrl.specs.declared.slot.Slot.{Slot};
     ghost use Rattle.nvme_ctrl.specs.declared.picks.Step.TheVariants as step;
@@ -71,6 +74,7 @@ impl Controller {
     fn pick_io(&mut self, slots: &[Slot], pick: Pick)
         requires can { CanPickNow self.old slots.now pick }
         requires io { pick.qid ≢ 0 }
+        ensures window { window_limit self.new ≡ window_limit self.old }
         ensures own { own_of self.new ≡ own_of self.old }
         ensures stands { (rules : FrontRules) (late : Bool) (notes : Notes) → Stands rules late notes self.old slots.now → HasStepped rules late notes (step.Picked pick) self.new slots.now }
     {
@@ -116,6 +120,7 @@ impl Controller {
         requires can { CanPickNow self.old slots.now pick }
         requires of_admin { pick.qid ≡ 0 }
         requires own { (rules : FrontRules) (late : Bool) (notes : Notes) → Stands rules late notes self.old slots.now → is_own self.old.own (logged notes) (oldest_entry self.old slots.now) ≡ true }
+        ensures window { window_limit self.new ≡ window_limit self.old }
         ensures left { own_of self.new ≡ own_of self.old }
         ensures stands { (rules : FrontRules) (late : Bool) (notes : Notes) → Stands rules late notes self.old slots.now → HasStepped rules late notes (step.Passed pick) self.new slots.now }
     {
@@ -132,7 +137,11 @@ impl Controller {
     fn pick_admin(&mut self, slots: &mut [Slot], pick: Pick) -> (Effect, Sqe)
         requires can { CanPickNow self.old slots.old pick }
         requires of_admin { pick.qid ≡ 0 }
+        ensures window { window_limit self.new ≡ window_limit self.old }
+        ensures size { length slots.new ≡ length slots.old }
+        ensures names { (rules : FrontRules) (late : Bool) (notes : Notes) → Stands rules late notes self.old slots.old → placing_in rules ≡ None → NamesQueues (logged notes) result.0 }
         ensures own { own_of self.new ≡ own_of self.old }
+        ensures commanded { (rules : FrontRules) (late : Bool) (notes : Notes) → Stands rules late notes self.old slots.old → IsVerdictOf (admin_command_of result.1) (verdict_in result.0) }
         ensures stands { (rules : FrontRules) (late : Bool) (notes : Notes) → Stands rules late notes self.old slots.old → HasStepped rules late notes (step.Done result.0 result.1) self.new slots.new }
     {
         self.board.keep(pick);
@@ -157,8 +166,13 @@ impl Controller {
         ensures idle { result ≡ step.Idle → (self.new ≡ self.old) × (slots.new ≡ slots.old) }
         ensures busy { result ≡ step.Busy → (self.new ≡ self.old) × (slots.new ≡ slots.old) }
         ensures full { result ≡ step.Full → (self.new ≡ self.old) × (slots.new ≡ slots.old) }
+        ensures io { (pick : Pick) → result ≡ step.Picked pick → pick.qid ≢ 0 }
+        ensures commanded { (rules : FrontRules) (late : Bool) (notes : Notes) → Stands rules late notes self.old slots.old → (effect : Effect) (entry : Sqe) → result ≡ step.Done effect entry → IsVerdictOf (admin_command_of entry) (verdict_in effect) }
         ensures passed { (rules : FrontRules) (late : Bool) (notes : Notes) → Stands rules late notes self.old slots.old → (pick : Pick) → result ≡ step.Passed pick → oldest_is_own (own_of self.old) notes ≡ Some true }
         ensures carried_out { (rules : FrontRules) (late : Bool) (notes : Notes) → Stands rules late notes self.old slots.old → (effect : Effect) (entry : Sqe) → result ≡ step.Done effect entry → oldest_is_own (own_of self.old) notes ≡ Some false }
+        ensures names { (rules : FrontRules) (late : Bool) (notes : Notes) → Stands rules late notes self.old slots.old → placing_in rules ≡ None → (effect : Effect) (entry : Sqe) → result ≡ step.Done effect entry → NamesQueues (logged notes) effect }
+        ensures window { window_limit self.new ≡ window_limit self.old }
+        ensures size { length slots.new ≡ length slots.old }
         ensures own { own_of self.new ≡ own_of self.old }
         ensures stands { (rules : FrontRules) (late : Bool) (notes : Notes) → Stands rules late notes self.old slots.old → HasStepped rules late notes result self.new slots.new }
     {

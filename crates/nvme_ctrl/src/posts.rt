@@ -40,16 +40,16 @@ impl CqState {
 
 impl Controller {
     ghost use Rattle.nvme_ctrl.specs.Own.{own_of};
-    ghost use Rattle.std.specs.Prelude.{◌≡◌, ℕ, Bool, true, false, List, ◌∷◌, None, Some, IfSome};
+    ghost use Rattle.std.specs.Prelude.{◌≡◌, ℕ, Bool, true, false, List, ◌∷◌, length, None, Some, IfSome};
     ghost use Rattle.nvme_log.specs.Rules.{FrontRules};
     ghost use Rattle.nvme_log.specs.Queues.{open_cq};
     ghost use Rattle.nvme_ctrl.specs.Notes.{Notes, logged};
     ghost use Rattle.nvme_ctrl.specs.Standing.{Stands, IsController};
-    ghost use Rattle.nvme_ctrl.specs.Calls.{HasPosted};
-    ghost use Rattle.nvme_ctrl.specs.Posts.{NonePostable, IsPostOf};
+    ghost use Rattle.nvme_ctrl.specs.Calls.{window_limit, HasPosted};
+    ghost use Rattle.nvme_ctrl.specs.Posts.{NonePostable, IsPostOf, completion_of, next_post_of};
     ghost use Rattle.nvme_ctrl.specs.kept.Pool.{slot_at};
     ghost use Rattle.nvme_ctrl.specs.declared.slot.Slot.{Slot};
-    ghost use Rattle.nvme_ctrl.specs.inside.Posting.{completion_of, counted_post};
+    ghost use Rattle.nvme_ctrl.specs.inside.Posting.{counted_post};
 
     // The completion queue entry of a command that ended.
     fn completion(&self, command: &Slot, phase: bool) -> Cqe
@@ -81,43 +81,54 @@ impl Controller {
         }
     }
 
+    /// What `post` would answer, which changes nothing.
+    pub fn next_post(&self, slots: &[Slot], cqid: u16) -> Option<Post>
+        ensures value { result ≡ next_post_of self.now slots.now cqid }
+    {
+        let cq = self.cq(cqid);
+        if cq.ring.is_full() || cq.ready.len == 0 {
+            return None;
+        }
+        let command = slot_at(slots, cq.ready.first);
+        Some(Post {
+            slot: cq.ring.tail,
+            cqe: self.completion(&command, cq.phase == 1),
+            tag: cq.ready.first,
+            cookie: command.cookie,
+            marks: command.marks(),
+        })
+    }
+
     /// Posts the completion that became ready first in an open completion queue. None, which changes nothing, exactly where
     /// the queue isn't open, where none is ready, and where the host has freed no slot of the ring.
     pub fn post(&mut self, slots: &mut [Slot], cqid: u16) -> Option<Post>
         requires front { IsController self.old slots.old }
         ensures front { IsController self.new slots.new }
         ensures none { result ≡ None → (self.new ≡ self.old) × (slots.new ≡ slots.old) }
+        ensures window { window_limit self.new ≡ window_limit self.old }
+        ensures size { length slots.new ≡ length slots.old }
         ensures own { own_of self.new ≡ own_of self.old }
         ensures told { (rules : FrontRules) (late : Bool) (notes : Notes) → Stands rules late notes self.old slots.old → result ≡ None → (x : ℕ) → open_cq (logged notes) cqid ≡ Some x → NonePostable rules notes x }
+        ensures value { result ≡ next_post_of self.old slots.old cqid }
         ensures command { IfSome result (λ p. IsPostOf (slot_at slots.old p.tag) p.cqe p.cookie p.marks) }
         ensures stands { (rules : FrontRules) (late : Bool) (notes : Notes) → Stands rules late notes self.old slots.old → IfSome result (λ p. HasPosted rules late notes cqid p.slot p.cqe p.cookie p.marks self.new slots.new) }
     {
+        let post = self.next_post(slots, cqid)?;
+        let command = slot_at(slots, post.tag);
         let mut cq = self.cq(cqid);
-        if cq.ring.is_full() {
-            return None;
-        }
-        let tag = cq.ready.pop(slots)?;
-        let command = slot_at(slots, tag);
-        let cqe = self.completion(&command, cq.phase == 1);
-        let slot = cq.ring.tail;
+        cq.ready.pop(slots);
         cq.write();
         self.put_cq(cqid, cq);
         self.count_post(&command);
         put_item(
             slots,
-            tag,
+            post.tag,
             Slot {
                 state: FREE,
                 ..command
             },
         );
-        self.free.push(slots, tag);
-        Some(Post {
-            slot,
-            cqe,
-            tag,
-            cookie: command.cookie,
-            marks: command.marks(),
-        })
+        self.free.push(slots, post.tag);
+        Some(post)
     }
 }

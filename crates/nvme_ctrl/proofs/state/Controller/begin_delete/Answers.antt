@@ -1,12 +1,16 @@
-use Rattle.std.proofs.Common.{◌+◌, ap, ◌∙◌}
+use Rattle.std.proofs.Common.{◌+◌, List, length, ap, ◌∙◌}
 use Rattle.std.specs.Prelude.{min}
 use Rattle.nvme_ctrl.specs.declared.state.Controller.{Controller}
+use Rattle.nvme_ctrl.specs.declared.slot.Slot.{Slot}
+use Rattle.nvme_ctrl.proofs.Pools.{length-put_item}
 use Rattle.nvme_ctrl.proofs.DeleteBegins.{keeps_counted, droppable_counted, begun_deleting, n_counted}
 use Rattle.nvme_ctrl.proofs.state.Controller.begin_delete.Goals as goal
 
 pub returns : goal.returns
 returns c = record {
   own = ap (λ (z : Controller). z.own) c.put_deletion.ensures ∙ ap (λ (z : Controller). z.own) c.drop_window.ensures.left ∙ ap (λ (z : Controller). z.own) c.put_sq.ensures;
+  window = ap (λ (z : Controller). z.window) c.put_deletion.ensures ∙ ap (λ (z : Controller). z.window) c.drop_window.ensures.left ∙ ap (λ (z : Controller). z.window) c.put_sq.ensures;
+  size = ap (λ (s : List Slot). length s) c.put_item.ensures ∙ length-put_item c.drop_window.new.slots c.args.tag (record c.slot_at-slot.result { state = 6 }) ∙ c.drop_window.ensures.size;
   begun = λ rules notes k g region to candidate h none loose entry first unanswered cookie not_passed_on d few.
       let a = c.args.self.now in
       let n_is = c.saturating_add.ensures ∙ n_counted rules notes a c.args.slots.now k g c.args.qid region c.sq-sq.result h none d.there c.sq-sq.ensures few in

@@ -46,6 +46,8 @@ abort-requires c =
 pub returns-in-Done : goal.returns-in-Done
 returns-in-Done c = record {
   own = ap (λ (z : Controller). z.own) c.end.ensures.left;
+  window = ap (λ (z : Controller). z.window) c.end.ensures.left;
+  size = c.end.ensures.size;
   stands = λ rules late notes v.
       let a = c.args.self.now in
       let did = effect.Done c.in-Done.status c.in-Done.dw0 in
@@ -66,6 +68,8 @@ open_cq-requires c = record { some = subst (λ (n : ℕ). 0 < n) (sym c.asked_sl
 pub returns-in-OpenSq : goal.returns-in-OpenSq
 returns-in-OpenSq c = record {
   own = ap (λ (z : Controller). z.own) c.end-in-OpenSq.ensures.left ∙ ap (λ (z : Controller). z.own) c.open_sq.ensures.left;
+  window = ap (λ (z : Controller). z.window) c.end-in-OpenSq.ensures.left ∙ ap (λ (z : Controller). z.window) c.open_sq.ensures.left;
+  size = c.end-in-OpenSq.ensures.size;
   stands = λ rules late notes v.
       let a = c.args.self.now in
       let it = c.in-OpenSq in
@@ -82,6 +86,8 @@ returns-in-OpenSq c = record {
 pub returns-in-OpenCq : goal.returns-in-OpenCq
 returns-in-OpenCq c = record {
   own = ap (λ (z : Controller). z.own) c.end-in-OpenCq.ensures.left ∙ ap (λ (z : Controller). z.own) c.open_cq.ensures.left;
+  window = ap (λ (z : Controller). z.window) c.end-in-OpenCq.ensures.left ∙ ap (λ (z : Controller). z.window) c.open_cq.ensures.left;
+  size = c.end-in-OpenCq.ensures.size;
   stands = λ rules late notes v.
       let a = c.args.self.now in
       let it = c.in-OpenCq in
@@ -98,6 +104,8 @@ returns-in-OpenCq c = record {
 pub returns-in-CloseCq : goal.returns-in-CloseCq
 returns-in-CloseCq c = record {
   own = ap (λ (z : Controller). z.own) c.end-in-CloseCq.ensures.left ∙ ap (λ (z : Controller). z.own) c.close_cq.ensures.left;
+  window = ap (λ (z : Controller). z.window) c.end-in-CloseCq.ensures.left ∙ ap (λ (z : Controller). z.window) c.close_cq.ensures.left;
+  size = c.end-in-CloseCq.ensures.size;
   stands = λ rules late notes v.
       let a = c.args.self.now in
       let did = effect.CloseCq c.in-CloseCq.qid c.in-CloseCq.region in
@@ -112,6 +120,8 @@ returns-in-CloseCq c = record {
 pub returns-in-BeginDelete : goal.returns-in-BeginDelete
 returns-in-BeginDelete c = record {
   own = c.begin_delete.ensures.own;
+  window = c.begin_delete.ensures.window;
+  size = c.begin_delete.ensures.size;
   stands = λ rules late notes v.
       let a = c.args.self.now in
       let did = effect.BeginDelete c.in-BeginDelete.qid c.in-BeginDelete.region in
@@ -126,6 +136,8 @@ returns-in-BeginDelete c = record {
 pub returns-after-abort : goal.returns-after-abort
 returns-after-abort c = record {
   own = ap (λ (z : Controller). z.own) c.end-in-Abort.ensures.left ∙ c.abort.ensures.own;
+  window = ap (λ (z : Controller). z.window) c.end-in-Abort.ensures.left ∙ c.abort.ensures.window;
+  size = c.end-in-Abort.ensures.size ∙ c.abort.ensures.size;
   stands = λ rules late notes v.
       let a = c.args.self.now in
       let did = effect.Abort c.in-Abort.sqid c.in-Abort.cid in
@@ -146,6 +158,8 @@ returns-after-abort c = record {
 pub returns-in-SetArbitration : goal.returns-in-SetArbitration
 returns-in-SetArbitration c = record {
   own = ap (λ (z : Controller). z.own) c.end-in-SetArbitration.ensures.left ∙ c.set_arbitration.ensures.own;
+  window = ap (λ (z : Controller). z.window) c.end-in-SetArbitration.ensures.left ∙ c.set_arbitration.ensures.window;
+  size = c.end-in-SetArbitration.ensures.size;
   stands = λ rules late notes v.
       let a = c.args.self.now in
       let did = effect.SetArbitration c.in-SetArbitration.settings in

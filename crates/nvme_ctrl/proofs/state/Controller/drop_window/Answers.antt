@@ -8,6 +8,7 @@ pub loop-init : goal.loop-init
 loop-init c = record {
   end = ap (λ (s : SqState). s.window.len) c.sq-end.ensures;
   left = refl;
+  size = refl;
   dropping = λ rules notes k g region to y h none may loose. dropping_start rules notes k g c.args.qid region to c.args.slots.now y c.args.self.now h may loose;
 }
 
@@ -15,6 +16,7 @@ pub loop-preserved : goal.loop-preserved
 loop-preserved c = record {
   end = c.loop.invariant.end;
   left = c.drop_oldest.ensures.left ∙ ap (λ (x : Controller). record x { sqs = c.drop_oldest.new.self.sqs; cqs = c.drop_oldest.new.self.cqs }) c.loop.invariant.left;
+  size = c.drop_oldest.ensures.size ∙ c.loop.invariant.size;
   dropping = λ rules notes k g region to y h none may loose.
       dropping_next rules notes k c.args.qid region to c.args.slots.now y c.loop.self c.drop_oldest.new.self c.loop.slots c.drop_oldest.new.slots (g.windows region) c.loop.counter
       (omega (arith, c.loop-test.true, c.loop.invariant.end, window_length rules notes c.args.self.now c.args.slots.now k g c.args.qid region h may.there))
@@ -34,3 +36,6 @@ returns-clause-dropped c = λ rules notes k g region to y h none may loose.
 
 pub returns-clause-left : goal.returns-clause-left
 returns-clause-left c = c.loop.invariant.left
+
+pub returns-clause-size : goal.returns-clause-size
+returns-clause-size c = c.loop.invariant.size

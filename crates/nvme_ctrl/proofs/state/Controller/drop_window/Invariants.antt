@@ -1,5 +1,5 @@
 -- The oldest candidates were dropped, and the others are to be dropped.
-use Rattle.std.proofs.Common.{◌≡◌, ℕ, drop}
+use Rattle.std.proofs.Common.{◌≡◌, ℕ, drop, length}
 use Rattle.nvme_log.specs.Rules.{FrontRules}
 use Rattle.nvme_ctrl.specs.Notes.{Notes}
 use Rattle.nvme_ctrl.specs.kept.Content.{Content}
@@ -14,6 +14,7 @@ abbrev pub invariant-loop : goal.invariant-loop
 invariant-loop l = record {
   end : l.end ≡ (sq_at l.fn.self.sqs l.qid).window.len;
   left : l.self ≡ record l.fn.self { sqs = l.self.sqs; cqs = l.self.cqs };
+  size : length l.slots ≡ length l.fn.slots;
   dropping : (rules : FrontRules) (notes : Notes) (k : Content) (g : Items) (region c y : ℕ) → Keeps rules notes l.fn.self l.fn.slots k g → l.fn.self.picked ≡ 0 → IsDroppable notes k l.qid region c → IsLoose l.fn.slots g y
       → IsDropping rules notes k l.qid region c l.fn.slots y l.self l.slots (drop l.counter (g.windows region));
 }

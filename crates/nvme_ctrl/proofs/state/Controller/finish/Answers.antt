@@ -6,17 +6,17 @@ use Rattle.nvme_ctrl.specs.Notes.{Logged, Answered}
 use Rattle.nvme_ctrl.specs.Steps.{HasFinished}
 use Rattle.nvme_ctrl.specs.declared.state.Controller.{Controller}
 use Rattle.nvme_ctrl.specs.declared.state.Deletion.{Deletion}
-use Rattle.nvme_ctrl.proofs.FinishCall.{closes, finish_call, none_finishes}
+use Rattle.nvme_ctrl.proofs.FinishCall.{closes, finish_call}
 use Rattle.nvme_ctrl.proofs.state.Controller.finish.Goals as goal
 
 pub finish_delete-requires : goal.finish_delete-requires
 finish_delete-requires c =
     let h = c.requires.front in
-    closes h.rules h.late h.notes c.args.self.now c.args.slots.now h.stands c.in_ok-qid.qid c.in_ok-qid.ensures.some
+    closes h.rules h.late h.notes c.args.self.now c.args.slots.now h.stands c.in_ok-qid.qid c.in_ok-qid.ensures.kept
 
 pub returns-clause-stands : goal.returns-clause-stands
 returns-clause-stands c = λ rules late notes s.
-    finish_call rules late notes c.args.self.now c.args.slots.now s c.in_ok-qid.qid c.in_ok-qid.ensures.some c.deletion-tag.result.tag c.saturating_sub-self.result
+    finish_call rules late notes c.args.self.now c.args.slots.now s c.in_ok-qid.qid c.in_ok-qid.ensures.kept c.deletion-tag.result.tag c.saturating_sub-self.result
     c.finish_delete.new.self c.put_deletion.new.self (record c.put_deletion.new.self { pending_deletions = c.saturating_sub-self.result }) c.end.new.self c.end.new.slots
     (ap (λ (x : Deletion). x.tag) c.deletion-tag.ensures) c.finish_delete.ensures.stands
     (c.put_deletion.ensures
@@ -41,4 +41,4 @@ returns-clause-front c =
 
 pub returns-in_err-qid-clause-told : goal.returns-in_err-qid-clause-told
 returns-in_err-qid-clause-told c = λ rules late notes s _.
-    none_finishes rules late notes c.args.self.now c.args.slots.now s (c.in_err-qid.ensures.none refl)
+    c.in_err-qid.ensures.none rules late notes c.args.slots.now s refl

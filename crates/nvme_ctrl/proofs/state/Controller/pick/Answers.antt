@@ -7,7 +7,10 @@ use Rattle.nvme_ctrl.specs.Steps.{IsNextPick}
 use Rattle.nvme_ctrl.specs.inside.Picks.{places_in}
 use Rattle.nvme_ctrl.specs.Own.{is_own}
 use Rattle.nvme_ctrl.proofs.FullCall.{lacks_places, entry_is}
+use Rattle.nvme_ctrl.proofs.CommandVerdicts.{IsCommanded}
 use Rattle.nvme_ctrl.proofs.PickCall.{next_is, is_busy}
+use Rattle.nvme_ctrl.specs.declared.picks.Step.{Step}
+use Rattle.nvme_ctrl.proofs.NamedQueues.{NamesIn}
 use Rattle.nvme_ctrl.proofs.state.Controller.pick.Goals as goal
 
 pub returns-then-self-ne0-clause-stands : goal.returns-then-self-ne0-clause-stands
@@ -59,3 +62,11 @@ returns-else-is_own-clause-carried_out c rules late notes s given entry is =
 
 pub pass-requires-clause-own : goal.pass-requires-clause-own
 pass-requires-clause-own c rules late notes s = sym (c.is_own.ensures rules late notes s c.if-self-ne0.false) ∙ c.if-is_own.true
+
+pub returns-else-is_own-clause-names : goal.returns-else-is_own-clause-names
+returns-else-is_own-clause-names c rules late notes s on effect entry is =
+    subst (λ (z : Step). NamesIn (logged notes) z) is (c.pick_admin-effect.ensures.names rules late notes s on)
+
+pub returns-else-is_own-clause-commanded : goal.returns-else-is_own-clause-commanded
+returns-else-is_own-clause-commanded c rules late notes s effect entry is =
+    subst (λ (z : Step). IsCommanded z) is (c.pick_admin-effect.ensures.commanded rules late notes s)

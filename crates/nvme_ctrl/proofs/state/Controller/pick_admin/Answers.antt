@@ -1,11 +1,15 @@
 use Rattle.nvme_ctrl.specs.declared.state.Controller.{Controller}
-use Rattle.std.proofs.Common.{ℕ, ◌+◌, ap, sym, subst, ◌∙◌, Option}
+use Rattle.std.proofs.Common.{◌≡◌, ℕ, ◌+◌, ap, sym, subst, ◌∙◌, Option, None}
 use Rattle.std.specs.Prelude.{unwrap_or, min}
 use Rattle.nvme_admin.specs.Accepted.{queue_table, verdict_of}
-use Rattle.nvme_admin.specs.Effects.{verdict_in}
-use Rattle.nvme_placing.specs.Telling.{Tells, IsTold}
+use Rattle.nvme_admin.specs.Effects.{verdict_in, NamesRegions}
+use Rattle.nvme_placing.specs.Telling.{Tells, IsTold, content_of, placing_of}
 use Rattle.nvme_ctrl.specs.declared.slot.Slot.{Slot}
 use Rattle.nvme_ctrl.proofs.AdminCall.{admin_call}
+use Rattle.nvme_ctrl.proofs.NamedQueues.{names_queues}
+use Rattle.nvme_entry.specs.AdminCommand.{admin_command_of}
+use Rattle.nvme_admin.specs.QueueTable.{QueueTable}
+use Rattle.nvme_ctrl.proofs.CommandVerdicts.{verdict_is_of, of_told}
 use Rattle.nvme_ctrl.proofs.PickCall.{next_lawful}
 use Rattle.nvme_ctrl.proofs.state.Controller.pick_admin.Goals as goal
 
@@ -28,6 +32,19 @@ returns c =
     let a = c.args.self.now in
     record {
       own = c.carry_out.ensures.own ∙ ap (λ (z : Controller). z.own) c.put_sq.ensures;
+      window = c.carry_out.ensures.window ∙ ap (λ (z : Controller). z.window) c.put_sq.ensures;
+      size = c.carry_out.ensures.size;
+      commanded = λ rules late notes s.
+          let h = s.holds.tabled.history in
+          let entry = c.slot_at.result.entry in
+          let told : IsTold a.table (verdict_in c.execute-effect.result) (verdict_of rules.start h entry) =
+          subst (λ (z : Controller). Tells z.table (queue_table rules.start h) → IsTold z.table (verdict_in c.execute-effect.result) (verdict_of rules.start h entry)) c.put_sq.ensures
+          (c.execute-effect.ensures.verdict rules.start h) (subst (λ (t : QueueTable). Tells a.table t) s.holds.tabled.table_is s.numbers.tells) in
+          of_told (admin_command_of entry) (placing_of a.table) (verdict_in c.execute-effect.result) (verdict_of rules.start h entry) told (verdict_is_of rules.start h entry);
+      names = λ rules late notes s on.
+          names_queues rules late notes a c.args.slots.now s on c.slot_at.result.entry c.execute-effect.result
+          (λ start h. subst (λ (z : Controller). Tells z.table (queue_table start h) → IsTold z.table (verdict_in c.execute-effect.result) (verdict_of start h c.slot_at.result.entry)) c.put_sq.ensures (c.execute-effect.ensures.verdict start h))
+          (subst (λ (z : Controller). placing_of z.table ≡ None → NamesRegions (content_of z.table) c.execute-effect.result) c.put_sq.ensures c.execute-effect.ensures.regions);
       stands = λ rules late notes s.
           let placed = admin_call rules late notes a c.args.slots.now s c.requires.can.none_picked c.args.pick c.keep.new.self (next_lawful a c.args.pick c.requires.can.next)
           c.keep.ensures.stands c.keep.ensures.queues c.keep.ensures.is_arbiter c.requires.can.places c.requires.of_admin

@@ -1,29 +1,38 @@
-use Rattle.std.proofs.Common.{◌+◌, ◌≤◌, Bool, ◌∷◌, sym, subst, inl, inr}
-use Rattle.std.proofs.lemmas.Option.{same_Some}
+-- What `next_post` tells is posted.
+use Rattle.std.proofs.Common.{◌≡◌, ◌==◌, Bool, List, sym, ap, ◌∙◌, subst, inl, inr}
 use Rattle.nvme_log.specs.Rules.{FrontRules}
 use Rattle.nvme_ctrl.specs.Notes.{Notes}
 use Rattle.nvme_ctrl.specs.Standing.{Stands}
 use Rattle.nvme_ctrl.specs.Calls.{HasPosted}
-use Rattle.nvme_ctrl.specs.declared.marks.Marks.{Marks}
+use Rattle.nvme_ctrl.specs.Posts.{completion_of, post_in}
 use Rattle.nvme_ctrl.specs.declared.chain.Chain.{Chain}
-use Rattle.nvme_ctrl.specs.declared.state.Controller.{Controller}
-use Rattle.nvme_ctrl.specs.kept.Pool.{IsChain}
-use Rattle.nvme_ctrl.specs.Doorbells.{gap}
+use Rattle.nvme_ctrl.specs.declared.posts.Post.{Post}
+use Rattle.nvme_ctrl.specs.declared.slot.Slot.{Slot}
 use Rattle.nvme_ctrl.specs.declared.state.CqState.{CqState}
+use Rattle.nvme_ctrl.specs.declared.state.Controller.{Controller}
+use Rattle.nvme_ctrl.specs.kept.Pool.{IsChain, marks_in}
+use Rattle.nvme_ctrl.specs.kept.State.{cq_at}
+use Rattle.nvme_ctrl.proofs.NextPost.{IsPostable, postable, not_postable, by_command, entry_by_command, post_of_command, chain-some, chain-none, chain-first}
 use Rattle.nvme_ctrl.proofs.NoPosts.{full_ring, all_posted, none_ready, open_life}
 use Rattle.nvme_ctrl.proofs.PostCall.{HasDone}
 use Rattle.nvme_ctrl.proofs.PostLog.{steps_post}
 use Rattle.nvme_ctrl.proofs.state.Controller.post.Goals as goal
 
-abbrev after : goal.After-marks → Controller
+abbrev after : goal.After-slots-2-1 → Controller
 after c = record c.count_post.new.self { free = c.push.new.self }
 
-done : (c : goal.After-marks) → HasDone c.cq-cq.result c.count_post.new.self.free c.args.slots.now c.put_item.new.slots c.in_ok-tag.tag c.write.new.self c.push.new.self c.push.new.slots
+-- a slot of the ring is free, and a command is ready
+there : (c : goal.After-slots-2-1) → IsPostable c.args.self.now c.args.slots.now c.cq-cq.result c.in_ok-post.post
+there c =
+    postable c.args.self.now c.args.slots.now c.cq-cq.result c.in_ok-post.post
+    (sym c.in_ok-post.was ∙ c.next_post.ensures.value ∙ ap (post_in c.args.self.now c.args.slots.now) (sym c.cq-cq.ensures))
+
+done : (c : goal.After-slots-2-1) → HasDone c.cq-cq.result c.count_post.new.self.free c.args.slots.now c.put_item.new.slots c.in_ok-post.post.tag c.write.new.self c.push.new.self c.push.new.slots
 done c = record {
-  room = c.is_full.ensures.room c.if-is_full.false;
-  some = λ h. (let none = c.in_ok-tag.ensures.empty h in cc);
-  first = λ y rest h. sym (same_Some c.in_ok-tag.tag y (c.in_ok-tag.ensures.some y rest h));
-  rest = λ y rest h. subst (λ (q : Chain). IsChain c.args.slots.now q rest) (sym c.write.ensures.ready) (c.in_ok-tag.ensures.rest y rest h);
+  room = (there c).room;
+  some = chain-some c.args.slots.now c.cq-cq.result (there c).some;
+  first = λ y rest h. chain-first c.args.slots.now c.cq-cq.result y rest h ∙ sym (ap (λ (p : Post). p.tag) (there c).post_is);
+  rest = λ y rest h. subst (λ (q : Chain). IsChain c.args.slots.now q rest) (sym c.write.ensures.ready) (c.pop.ensures.rest y rest h);
   counts = c.write.ensures.counts;
   phase = c.write.ensures.phase;
   same_slots = c.write.ensures.slots;
@@ -32,13 +41,21 @@ done c = record {
   links = c.push.ensures.links;
 }
 
-posted : (c : goal.After-marks) (rules : FrontRules) (late : Bool) (notes : Notes) → Stands rules late notes c.args.self.now c.args.slots.now
-    → HasPosted rules late notes c.args.cqid c.cq-cq.result.ring.tail c.completion-cqe.result c.slot_at-command.result.cookie c.marks.result (after c) c.push.new.slots
+posted : (c : goal.After-slots-2-1) (rules : FrontRules) (late : Bool) (notes : Notes) → Stands rules late notes c.args.self.now c.args.slots.now
+    → HasPosted rules late notes c.args.cqid c.in_ok-post.post.slot c.in_ok-post.post.cqe c.in_ok-post.post.cookie c.in_ok-post.post.marks (after c) c.push.new.slots
 posted c rules late notes stands =
-    subst (λ (m : Marks). HasPosted rules late notes c.args.cqid c.cq-cq.result.ring.tail c.completion-cqe.result c.slot_at-command.result.cookie m (after c) c.push.new.slots) (sym c.marks.ensures)
-    (steps_post rules late notes c.args.self.now c.put_cq.new.self c.count_post.new.self c.args.slots.now c.put_item.new.slots c.args.cqid c.in_ok-tag.tag c.cq-cq.result c.write.new.self
-    c.slot_at-command.result c.push.new.self c.push.new.slots c.completion-cqe.result c.cq-cq.ensures c.slot_at-command.ensures c.completion-cqe.ensures c.put_cq.ensures c.count_post.ensures
-    c.put_item.ensures (done c) stands)
+    let self : Controller = c.args.self.now in
+    let slots : List Slot = c.args.slots.now in
+    let post : Post = c.in_ok-post.post in
+    let old : CqState = c.cq-cq.result in
+    let cqe : post.cqe ≡ completion_of self c.slot_at-command.result (old.phase == 1) =
+    entry_by_command self slots old post (there c).post_is ∙ ap (λ (s : Slot). completion_of self s (old.phase == 1)) (sym c.slot_at-command.ensures) in
+    let here : HasPosted rules late notes c.args.cqid old.ring.tail post.cqe c.slot_at-command.result.cookie (marks_in c.slot_at-command.result) (after c) c.push.new.slots =
+    steps_post rules late notes self c.put_cq.new.self c.count_post.new.self slots c.put_item.new.slots c.args.cqid post.tag old c.write.new.self
+    c.slot_at-command.result c.push.new.self c.push.new.slots post.cqe c.cq-cq.ensures c.slot_at-command.ensures cqe c.put_cq.ensures c.count_post.ensures
+    c.put_item.ensures (done c) stands in
+    subst (λ (p : Post). HasPosted rules late notes c.args.cqid p.slot p.cqe p.cookie p.marks (after c) c.push.new.slots) (sym (by_command self slots old post (there c).post_is))
+    (subst (λ (s : Slot). HasPosted rules late notes c.args.cqid old.ring.tail post.cqe s.cookie (marks_in s) (after c) c.push.new.slots) c.slot_at-command.ensures here)
 
 pub returns-clause-front : goal.returns-clause-front
 returns-clause-front c =
@@ -46,16 +63,19 @@ returns-clause-front c =
     let p = posted c f.rules f.late f.notes f.stands in
     record { rules = f.rules; late = f.late; notes = _; stands = p.stands }
 
+pub returns-clause-command : goal.returns-clause-command
+returns-clause-command c = post_of_command c.args.self.now c.args.slots.now c.cq-cq.result c.in_ok-post.post (there c).post_is
+
 pub returns-clause-stands : goal.returns-clause-stands
 returns-clause-stands c = posted c
 
-pub returns-then-is_full-clause-told : goal.returns-then-is_full-clause-told
-returns-then-is_full-clause-told c rules late notes stands none x is =
-    inl (full_ring rules late notes c.args.self.now c.args.slots.now stands c.args.cqid x (open_life rules late notes c.args.self.now c.args.slots.now stands c.args.cqid x is)
-    (subst (λ (o : CqState). o.ring.slots ≤ gap o.ring.slots o.ring.head o.ring.tail + 1) c.cq-cq.ensures (c.is_full.ensures.full c.if-is_full.true)))
-
-pub returns-in_err-tag-clause-told : goal.returns-in_err-tag-clause-told
-returns-in_err-tag-clause-told c rules late notes stands none x is =
-    inr (all_posted rules late notes c.args.self.now c.args.slots.now stands x
-    (none_ready rules late notes c.args.self.now c.args.slots.now stands c.args.cqid x (open_life rules late notes c.args.self.now c.args.slots.now stands c.args.cqid x is)
-    (λ y rest h. (let some = c.in_err-tag.ensures.some y rest (subst (λ (o : CqState). IsChain c.args.slots.now o.ready (y ∷ rest)) (sym c.cq-cq.ensures) h) in cc))))
+pub returns-in_err-post-clause-told : goal.returns-in_err-post-clause-told
+returns-in_err-post-clause-told c rules late notes stands none x is =
+    let self : Controller = c.args.self.now in
+    let slots : List Slot = c.args.slots.now in
+    let life = open_life rules late notes self slots stands c.args.cqid x is in
+    elim (not_postable self slots (cq_at self.cqs c.args.cqid) (sym c.next_post.ensures.value ∙ c.in_err-post.was)) [
+      | inl full ↦ inl (full_ring rules late notes self slots stands c.args.cqid x life full)
+      | inr empty ↦ inr (all_posted rules late notes self slots stands x
+          (none_ready rules late notes self slots stands c.args.cqid x life (chain-none slots (cq_at self.cqs c.args.cqid) empty)))
+    ]

@@ -1,0 +1,59 @@
+-- Whether some queue is being deleted, by the number of pending deletions.
+use Rattle.std.proofs.Common.{◌≡◌, ◌≢◌, ℕ, suc, ◌==◌, Bool, not, List, [], ◌∷◌, Option, Some, None, refl, ap, ◌∙◌, arith, inl, inr}
+use Rattle.std.specs.Prelude.{option_map}
+use Rattle.std.proofs.lemmas.Bool.{cases_eq, eq-eqb}
+use Rattle.std.proofs.lemmas.List.Sums.{sum_by-cons}
+use Rattle.nvme_log.specs.Places.{one_if}
+use Rattle.nvme_log.specs.Rules.{FrontRules}
+use Rattle.nvme_ctrl.specs.Notes.{Notes, logged}
+use Rattle.nvme_ctrl.specs.Deletions.{IsDeletingSome}
+use Rattle.nvme_ctrl.specs.Laws.{NoneDeleting}
+use Rattle.nvme_ctrl.specs.declared.slot.Slot.{Slot}
+use Rattle.nvme_ctrl.specs.declared.state.Controller.{Controller}
+use Rattle.nvme_ctrl.specs.declared.state.Deletion.{Deletion}
+use Rattle.nvme_ctrl.specs.kept.Content.{PendingDelete}
+use Rattle.nvme_ctrl.specs.kept.Kept.{StandsAt}
+use Rattle.nvme_ctrl.specs.kept.State.{deletion_at, count_pending}
+use Rattle.nvme_ctrl.proofs.PendingDeletions.{deletion_item, some_deletes, item_flagged, flagged_item, none_counted}
+
+-- some deletion is pending
+pub record IsPendingSome (deletions : List Deletion) : Type 0 where
+  pub queue : ℕ
+  pub pending : (deletion_at deletions queue).pending ≢ 0
+
+-- where some are counted, one is pending
+pub some_counted : (deletions : List Deletion) → count_pending deletions ≢ 0 → IsPendingSome deletions
+some_counted [] some = absurd (some refl)
+some_counted (d ∷ rest) some = elim (cases_eq d.pending 0) [
+  | inl idle ↦
+      let step = sum_by-cons (λ (x : Deletion). one_if (not (x.pending == 0))) d rest in
+      let here = ap (λ (b : Bool). one_if (not b)) (eq-eqb d.pending 0 idle) in
+      let it = some_counted rest (λ none. some (omega (arith, step, here, none))) in
+      record { queue = suc it.queue; pending = it.pending }
+  | inr pending ↦ record { queue = 0; pending = pending }
+]
+
+module _ (rules : FrontRules) (late : Bool) (notes : Notes) (c : Controller) (slots : List Slot) (s : StandsAt rules late notes c slots) where
+  -- where no deletion is kept, none began that isn't finished
+  pub kept_none : ((r : ℕ) → s.content.deletion r ≡ None) → NoneDeleting (logged notes)
+  kept_none none r = s.holds.deletion.place_is r ∙ ap (option_map (λ (d : PendingDelete). d.place.index)) (none r)
+
+  pub none_deleting : c.pending_deletions ≡ 0 → NoneDeleting (logged notes)
+  none_deleting idle = kept_none (λ r. by r (s.content.deletion r) refl) where
+    by : (r : ℕ) (o : Option PendingDelete) → s.content.deletion r ≡ o → o ≡ None
+    by r None is = refl
+    by r (Some d) is =
+        let it = some_deletes c.deletions c.pending_deletions slots s.content.sq_life s.content.deletion s.items.deletes s.has.deletions r d is in
+        absurd (item_flagged c.deletions c.pending_deletions slots s.content.sq_life s.content.deletion s.items.deletes s.has.deletions r it.item it.is
+        (none_counted c.deletions c.pending_deletions slots s.content.sq_life s.content.deletion s.items.deletes s.has.deletions idle it.item.qid))
+
+  pub some_deleting : c.pending_deletions ≢ 0 → IsDeletingSome (logged notes)
+  some_deleting some =
+      let at = some_counted c.deletions (λ none. some (s.has.deletions.counted ∙ none)) in
+      let it = flagged_item c.deletions c.pending_deletions slots s.content.sq_life s.content.deletion s.items.deletes s.has.deletions at.queue at.pending in
+      record {
+        region = it.region;
+        index = it.item.index;
+        deletes = s.holds.deletion.place_is it.region ∙ ap (option_map (λ (d : PendingDelete). d.place.index))
+            (deletion_item c.deletions c.pending_deletions slots s.content.sq_life s.content.deletion s.items.deletes s.has.deletions it.region it.item it.is);
+      }
