@@ -1,25 +1,31 @@
--- When an address is that of a region, and that the table takes a region of another address.
-use Rattle.std.proofs.Common.{◌≡◌, ℕ, suc, ◌+◌, ◌≤◌, ◌==◌, ◌||◌, Bool, true, false, nat_lt, not, if◌then◌else◌, List, [], ◌∷◌, length, map, Some, None, refl, sym, ap, ◌∙◌, arith, inl, inr, lt-ltb, ne_eqb}
+-- When an address is that of a region, and that no engine refuses a region of another address.
+use Rattle.std.proofs.Common.{◌≡◌, ◌≢◌, ℕ, suc, ◌+◌, ◌<◌, ◌≤◌, ◌==◌, ◌||◌, Bool, true, false, nat_lt, not, if◌then◌else◌, List, [], ◌∷◌, ◌++◌, length, map, Some, None, refl, sym, ap, ◌∙◌, subst, arith, inl, inr, lt-ltb, ne_eqb}
 use Rattle.std.specs.Prelude.{is_some}
 use Rattle.std.specs.List.{list_any, position_or_len}
-use Rattle.std.proofs.lemmas.Bool.{cases_lt, le-ltb}
-use Rattle.std.proofs.lemmas.List.{length-map}
+use Rattle.std.proofs.lemmas.Bool.{cases_lt, le-ltb, eqb-false, or_parts}
+use Rattle.std.proofs.lemmas.List.Folds.{list_any-append}
+use Rattle.std.proofs.lemmas.Simd.{map-map}
 use Rattle.nvme_entry.specs.declared.submission.Sqe.{Sqe}
 use Rattle.nvme_entry.specs.declared.completion.Cqe.{Cqe}
 use Rattle.nvme_lane.specs.View.{GetView, PutView}
+use Rattle.nvme_arbiter.specs.declared.settings.Mechanism.{Mechanism}
+use Rattle.nvme_admin.specs.History.{Kind, Start, Submission, Completion}
 use Rattle.nvme_admin.specs.QueueTable.{region_number}
-use Rattle.nvme_admin.specs.Standing.{is_known, region_fault}
 use Rattle.nvme_admin.specs.declared.bounds.TheConstants.{MAX_REGIONS, MIN_SLOTS, MAX_SLOTS}
 use Rattle.nvme_admin.specs.declared.region.Region.{Region}
-use Rattle.nvme_admin.specs.declared.region.AdminError.{AdminError}
 use Rattle.nvme_admin.specs.declared.region.AdminError.TheVariants.{Used, TooMany, Size}
-use Rattle.nvme_state.specs.declared.region.SqRegion.{SqRegion}
-use Rattle.nvme_state.specs.declared.region.CqRegion.{CqRegion}
+use Rattle.nvme_log.specs.Rules.{sq_regions_of, cq_regions_of}
+use Rattle.nvme_ctrl.specs.Making.{adding_fault, is_region, regions_of}
+use Rattle.nvme_ctrl.specs.kept.Pool.{IsNew}
+use Rattle.nvme_ctrl.proofs.Pools.{IsNew-nil, IsNew-cons, IsNew-head, IsNew-tail, IsNew-left, IsNew-right}
+use Rattle.nvme_engine.proofs.Additions.{on_regions}
+use Rattle.nvme_front.specs.declared.region.SqRegion.{SqRegion}
 use Rattle.nvme_front.specs.declared.state.FrontState.{FrontState}
-use Rattle.nvme_front.specs.inside.State.{gets_of, puts_of}
-use Rattle.nvme_front.specs.inside.Room.{sq_region, cq_region, IsRoomy}
-use Rattle.nvme_front.specs.inside.State.{view_of}
 use Rattle.nvme_front.specs.View.{is_address}
+use Rattle.nvme_front.specs.inside.Room.{addresses_of}
+use Rattle.nvme_front.specs.inside.State.{gets_of, rules_of, view_of}
+use Rattle.nvme_front.proofs.RegionSteps.{region_of_get, region_of_put, adds_regions}
+use Rattle.nvme_front.proofs.RegionLists.{rules_by, sqs_by, cqs_by, number_of_sq, number_of_cq}
 
 -- some element of a map passes a test where some element passes it after the map
 pub any_in_map : {A B : Type 0} (p : B → Bool) (f : A → B) (xs : List A) → list_any p (map f xs) ≡ list_any (λ (x : A). p (f x)) xs
@@ -30,27 +36,44 @@ any_in_map p f (x ∷ xs) = ap (λ (b : Bool). p (f x) || b) (any_in_map p f xs)
 sq_address : (sqs : List SqRegion) (a : ℕ) → list_any (λ (g : GetView Sqe). g.address == a) (gets_of sqs) ≡ list_any (λ (s : SqRegion). s.end.address == a) sqs
 sq_address sqs a = any_in_map (λ (g : GetView Sqe). g.address == a) (λ (s : SqRegion). s.end) sqs
 
--- the same of a completion region
-cq_address : (cqs : List CqRegion) (a : ℕ) → list_any (λ (p : PutView Cqe). p.address == a) (puts_of cqs) ≡ list_any (λ (c : CqRegion). c.end.address == a) cqs
-cq_address cqs a = any_in_map (λ (p : PutView Cqe). p.address == a) (λ (c : CqRegion). c.end) cqs
-
 -- an address is one of a front where a submission region or a completion region has it
 is_address-by : (s : FrontState) (a : ℕ)
-    → is_address (view_of s) a ≡ (list_any (λ (r : SqRegion). r.end.address == a) s.sqs.items || list_any (λ (c : CqRegion). c.end.address == a) s.cqs.items)
-is_address-by s a = λ i. sq_address s.sqs.items a i || cq_address s.cqs.items a i
+    → is_address (view_of s) a ≡ (list_any (λ (r : SqRegion). r.end.address == a) s.sqs.items || list_any (λ (p : PutView Cqe). p.address == a) s.cqs.items)
+is_address-by s a = λ i. sq_address s.sqs.items a i || list_any (λ (p : PutView Cqe). p.address == a) s.cqs.items
 
 -- a search that finds a submission region tells it
 pub is_address-sq : (s : FrontState) (a : ℕ) (r : Bool) → r ≡ list_any (λ (x : SqRegion). x.end.address == a) s.sqs.items → r ≡ true → r ≡ is_address (view_of s) a
 is_address-sq s a r found here =
-    here ∙ sym (is_address-by s a ∙ ap (λ (b : Bool). b || list_any (λ (c : CqRegion). c.end.address == a) s.cqs.items) (sym found ∙ here))
+    here ∙ sym (is_address-by s a ∙ ap (λ (b : Bool). b || list_any (λ (p : PutView Cqe). p.address == a) s.cqs.items) (sym found ∙ here))
 
 -- where none is found, a search of the completion regions tells it
 pub is_address-cq : (s : FrontState) (a : ℕ) (r q : Bool) → r ≡ list_any (λ (x : SqRegion). x.end.address == a) s.sqs.items → r ≡ false
-    → q ≡ list_any (λ (c : CqRegion). c.end.address == a) s.cqs.items → q ≡ is_address (view_of s) a
+    → q ≡ list_any (λ (p : PutView Cqe). p.address == a) s.cqs.items → q ≡ is_address (view_of s) a
 is_address-cq s a r q missed none found =
-    found ∙ sym (is_address-by s a ∙ ap (λ (b : Bool). b || list_any (λ (c : CqRegion). c.end.address == a) s.cqs.items) (sym missed ∙ none))
+    found ∙ sym (is_address-by s a ∙ ap (λ (b : Bool). b || list_any (λ (p : PutView Cqe). p.address == a) s.cqs.items) (sym missed ∙ none))
 
--- ---- the regions of the table
+-- ---- numbers that none has
+-- none of the list is a number where the test finds none, and the other way round
+new_by : (a : ℕ) (xs : List ℕ) → list_any (λ (x : ℕ). x == a) xs ≡ false → IsNew a xs
+new_by a [] none = IsNew-nil a
+new_by a (x ∷ xs) none =
+    let parts = or_parts (x == a) (list_any (λ (y : ℕ). y == a) xs) none in
+    IsNew-cons a x xs (eqb-false x a parts.0) (new_by a xs parts.1)
+
+none_by : (a : ℕ) (xs : List ℕ) → IsNew a xs → list_any (λ (x : ℕ). x == a) xs ≡ false
+none_by a [] new = refl
+none_by a (x ∷ xs) new = λ i. ne_eqb x a (IsNew-head a x xs new) i || none_by a xs (IsNew-tail a x xs new) i
+
+-- an address that no region of a front has
+pub address_is_new : (s : FrontState) (a : ℕ) → is_address (view_of s) a ≡ false → IsNew a (addresses_of s)
+address_is_new s a none =
+    let is_a : ℕ → Bool = λ x. x == a in
+    new_by a (addresses_of s)
+    (list_any-append is_a (map (λ (sq : SqRegion). sq.end.address) s.sqs.items) (map (λ (p : PutView Cqe). p.address) s.cqs.items)
+    ∙ (λ i. any_in_map is_a (λ (sq : SqRegion). sq.end.address) s.sqs.items i || any_in_map is_a (λ (p : PutView Cqe). p.address) s.cqs.items i)
+    ∙ sym (is_address-by s a) ∙ none)
+
+-- ---- the regions of a table
 -- a number is below another where their successors are
 before_more : (a b : ℕ) → nat_lt (1 + a) (suc b) ≡ nat_lt a b
 before_more a b = elim (cases_lt a b) [
@@ -80,38 +103,50 @@ has_number regions a =
     some_if (nat_lt (position_or_len (λ (r : Region). r.address == a) regions) (length regions)) (position_or_len (λ (r : Region). r.address == a) regions)
     ∙ has_first (λ (r : Region). r.address == a) regions
 
--- the table knows the addresses of the front's regions
-is_known-by : (s : FrontState) (a : ℕ) → IsRoomy s → is_known s.table a ≡ is_address (view_of s) a
-is_known-by s a roomy =
-    let sqs : is_some (region_number s.table.sq_regions a) ≡ list_any (λ (r : SqRegion). r.end.address == a) s.sqs.items =
-    has_number s.table.sq_regions a ∙ ap (λ (rs : List Region). list_any (λ (r : Region). r.address == a) rs) roomy.sq_table
-    ∙ any_in_map (λ (r : Region). r.address == a) sq_region s.sqs.items in
-    let cqs : is_some (region_number s.table.cq_regions a) ≡ list_any (λ (c : CqRegion). c.end.address == a) s.cqs.items =
-    has_number s.table.cq_regions a ∙ ap (λ (rs : List Region). list_any (λ (r : Region). r.address == a) rs) roomy.cq_table
-    ∙ any_in_map (λ (r : Region). r.address == a) cq_region s.cqs.items in
-    (λ i. sqs i || cqs i) ∙ sym (is_address-by s a)
+-- so a new one has none
+no_number : {A : Type 0} (f : A → Region) (regions : List Region) (xs : List A) (a : ℕ) → regions ≡ map f xs → IsNew a (map (λ (x : A). (f x).address) xs) → is_some (region_number regions a) ≡ false
+no_number f regions xs a are new =
+    has_number regions a ∙ ap (λ (rs : List Region). list_any (λ (r : Region). r.address == a) rs) are
+    ∙ any_in_map (λ (r : Region). r.address == a) f xs
+    ∙ sym (any_in_map (λ (n : ℕ). n == a) (λ x. (f x).address) xs) ∙ none_by a (map (λ x. (f x).address) xs) new
 
--- the table takes a region of another address, with a number of slots that it allows
-no_fault : (s : FrontState) (regions : List Region) (a slots : ℕ) → IsRoomy s → is_address (view_of s) a ≡ false → (length regions ≡ MAX_REGIONS → ⊥)
-    → MIN_SLOTS ≤ slots → slots ≤ MAX_SLOTS → region_fault s.table regions a slots ≡ None
-no_fault s regions a slots roomy other room least most = λ j.
-    if (is_known-by s a roomy ∙ other) j then Some Used
-    else (if (ne_eqb (length regions) MAX_REGIONS room) j then Some TooMany
-    else (if (le-ltb slots MIN_SLOTS least) j || (le-ltb MAX_SLOTS slots most) j then Some Size
-    else None))
+-- ---- what an engine doesn't refuse
+abbrev pub addresses_in : List (GetView Sqe) → List (PutView Cqe) → List ℕ
+addresses_in gets puts = map (λ (g : GetView Sqe). g.address) gets ++ map (λ (p : PutView Cqe). p.address) puts
 
--- so it doesn't refuse a submission region of a new address while there is room for one
-pub sq_not_refused : (s : FrontState) (a slots : ℕ) → IsRoomy s → is_address (view_of s) a ≡ false → (length s.sqs.items ≡ MAX_REGIONS → ⊥)
-    → MIN_SLOTS ≤ slots → slots ≤ MAX_SLOTS → (e : AdminError) → region_fault s.table s.table.sq_regions a slots ≡ Some e → ⊥
-sq_not_refused s a slots roomy other room least most e refused =
-    let count : length s.table.sq_regions ≡ length s.sqs.items = ap (λ (rs : List Region). length rs) roomy.sq_table ∙ length-map s.sqs.items sq_region in
-    let none = no_fault s s.table.sq_regions a slots roomy other (λ full. room (sym count ∙ full)) least most in
-    cc
+-- those of a front
+pub addresses_are : (s : FrontState) → addresses_of s ≡ addresses_in (gets_of s.sqs.items) s.cqs.items
+addresses_are s = ap (λ (xs : List ℕ). xs ++ map (λ (p : PutView Cqe). p.address) s.cqs.items) (sym (map-map (λ (g : GetView Sqe). g.address) (λ (x : SqRegion). x.end) s.sqs.items))
 
--- the same of a completion region
-pub cq_not_refused : (s : FrontState) (a slots : ℕ) → IsRoomy s → is_address (view_of s) a ≡ false → (length s.cqs.items ≡ MAX_REGIONS → ⊥)
-    → MIN_SLOTS ≤ slots → slots ≤ MAX_SLOTS → (e : AdminError) → region_fault s.table s.table.cq_regions a slots ≡ Some e → ⊥
-cq_not_refused s a slots roomy other room least most e refused =
-    let count : length s.table.cq_regions ≡ length s.cqs.items = ap (λ (rs : List Region). length rs) roomy.cq_table ∙ length-map s.cqs.items cq_region in
-    let none = no_fault s s.table.cq_regions a slots roomy other (λ full. room (sym count ∙ full)) least most in
-    cc
+module _ (mechanism : Mechanism) (start : Start) (sizes : List ℕ) (gets : List (GetView Sqe)) (puts : List (PutView Cqe)) (a : ℕ) (new : IsNew a (addresses_in gets puts)) where
+  not_region : is_region (rules_by mechanism start sizes gets puts) a ≡ false
+  not_region =
+      let sqs = no_number region_of_get (sq_regions_of (rules_by mechanism start sizes gets puts)) gets a (sqs_by mechanism start sizes gets puts)
+      (IsNew-left a (map (λ (g : GetView Sqe). g.address) gets) (map (λ (p : PutView Cqe). p.address) puts) new) in
+      let cqs = no_number region_of_put (cq_regions_of (rules_by mechanism start sizes gets puts)) puts a (cqs_by mechanism start sizes gets puts)
+      (IsNew-right a (map (λ (g : GetView Sqe). g.address) gets) (map (λ (p : PutView Cqe). p.address) puts) new) in
+      λ i. sqs i || cqs i
+
+  -- a region of a new address, with a number of slots that is allowed, is taken while there are fewer than may be
+  pub no_fault : (kind : Kind) (slots : ℕ) → length (regions_of kind (rules_by mechanism start sizes gets puts)) ≢ MAX_REGIONS → MIN_SLOTS ≤ slots → slots ≤ MAX_SLOTS
+      → adding_fault kind a slots (rules_by mechanism start sizes gets puts) ≡ None
+  no_fault kind slots room least most =
+      let placing = on_regions (rules_by mechanism start sizes gets puts) (adds_regions gets puts).only in
+      λ j. if is_some (placing j) then Some TooMany
+      else (if not_region j then Some Used
+      else (if (ne_eqb (length (regions_of kind (rules_by mechanism start sizes gets puts))) MAX_REGIONS room) j then Some TooMany
+      else (if (le-ltb slots MIN_SLOTS least) j || (le-ltb MAX_SLOTS slots most) j then Some Size
+      else None)))
+
+-- ---- a region more of a front
+module _ (s : FrontState) (a slots : ℕ) (other : is_address (view_of s) a ≡ false) (least : MIN_SLOTS ≤ slots) (most : slots ≤ MAX_SLOTS) where
+  fits_front : (kind : Kind) → length (regions_of kind (rules_of s)) ≢ MAX_REGIONS → adding_fault kind a slots (rules_of s) ≡ None
+  fits_front kind room =
+      no_fault (rules_of s).mechanism (rules_of s).start (rules_of s).sizes (gets_of s.sqs.items) s.cqs.items a
+      (subst (IsNew a) (addresses_are s) (address_is_new s a other)) kind slots room least most
+
+  pub sq_not_refused : length s.sqs.items < MAX_REGIONS → adding_fault Submission a slots (rules_of s) ≡ None
+  sq_not_refused few = fits_front Submission (λ full. omega (arith, few, number_of_sq s, full))
+
+  pub cq_not_refused : length s.cqs.items < MAX_REGIONS → adding_fault Completion a slots (rules_of s) ≡ None
+  cq_not_refused few = fits_front Completion (λ full. omega (arith, few, number_of_cq s, full))

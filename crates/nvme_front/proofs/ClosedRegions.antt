@@ -14,9 +14,9 @@ use Rattle.nvme_log.specs.Account.{Deletes}
 use Rattle.nvme_log.specs.Dispatches.{dispatched, place_at}
 use Rattle.nvme_log.proofs.Posts.{all_below}
 use Rattle.nvme_log.proofs.Tickets.{job_there}
-use Rattle.nvme_state.specs.Hands.{in_hand, is_in_hand, job_in}
-use Rattle.nvme_state.specs.JobAccount.{HasItsTicket}
-use Rattle.nvme_state.specs.declared.dispatched.Dispatched.{Dispatched}
+use Rattle.nvme_jobs.specs.Hands.{in_hand, is_in_hand, job_in}
+use Rattle.nvme_jobs.specs.JobAccount.{HasItsTicket}
+use Rattle.nvme_jobs.specs.declared.dispatched.Dispatched.{Dispatched}
 use Rattle.nvme_front.specs.View.{past_in}
 use Rattle.nvme_front.specs.Laws.{ClosedRegionsHaveResults}
 

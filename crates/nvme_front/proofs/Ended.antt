@@ -1,84 +1,62 @@
 -- What a front that is kept says of its log and its ends.
-use Rattle.std.proofs.Common.{◌≡◌, ℕ, zero, suc, ◌<◌, Bool, false, List, [], ◌∷◌, map, length, get_or, ◌⊎◌, inl, inr, refl, sym, ap, subst, ◌∙◌}
+use Rattle.std.proofs.Common.{◌≡◌, ℕ, zero, suc, ◌<◌, false, List, [], ◌∷◌, map, length, get_or, ◌⊎◌, inl, inr, refl, sym, ap, subst, ◌∙◌, arith}
 use Rattle.std.specs.Prelude.{reverse}
-use Rattle.std.proofs.lemmas.List.{length-map}
+use Rattle.std.specs.List.{All}
 use Rattle.std.proofs.lemmas.Bool.{cases_lt}
+use Rattle.std.proofs.lemmas.List.Elements.{All-head, All-tail}
 use Rattle.nvme_entry.specs.declared.submission.Sqe.{Sqe}
 use Rattle.nvme_entry.specs.declared.completion.Cqe.{Cqe}
 use Rattle.nvme_lane.specs.View.{GetView, PutView}
 use Rattle.nvme_log.specs.declared.event.Event.{Event}
-use Rattle.nvme_state.specs.declared.region.SqRegion.{SqRegion}
-use Rattle.nvme_state.specs.declared.region.CqRegion.{CqRegion}
-use Rattle.nvme_front.specs.declared.state.FrontState.{FrontState}
 use Rattle.nvme_log.specs.Places.{fetched}
 use Rattle.nvme_log.specs.Completions.{posted_to}
-use Rattle.nvme_log.specs.Account.{IsAccount}
-use Rattle.nvme_state.specs.inside.Content.{SqContent}
-use Rattle.nvme_front.specs.inside.State.{sq_in, cq_in, gets_of, puts_of, content_of, rules_of, past_of}
-use Rattle.nvme_front.specs.inside.Room.{IsConsistent}
-use Rattle.nvme_state.specs.inside.Standing.{Stands}
+use Rattle.nvme_front.specs.declared.region.SqRegion.{SqRegion}
+use Rattle.nvme_front.specs.declared.state.FrontState.{FrontState}
+use Rattle.nvme_front.specs.inside.State.{gets_of, past_of, view_of}
+use Rattle.nvme_front.specs.inside.Room.{IsConsistent, IsFreshSq}
+use Rattle.nvme_front.specs.inside.Goes.{HasAdmin}
 use Rattle.nvme_front.specs.View.{FrontView, AccountsForEnds, past_in, got_in, sent_in}
-use Rattle.nvme_front.specs.inside.State.{view_of}
-use Rattle.nvme_state.proofs.Accounted.{account_is}
+use Rattle.nvme_front.proofs.EndsSeen.{accounts_for_ends, admin_there}
 
--- what was got of a region, by the ends and by what is kept
-got_kept : (sqs : List SqRegion) (r : ℕ) → get_or (map (λ (g : GetView Sqe). g.got) (gets_of sqs)) r [] ≡ (sq_in sqs r).got
-got_kept [] r = refl
-got_kept (x ∷ sqs) zero = refl
-got_kept (x ∷ sqs) (suc r) = got_kept sqs r
+-- both admin regions are there, or not
+pub admin_or_not : (s : FrontState) → HasAdmin s ⊎ (HasAdmin s → ⊥)
+admin_or_not s = elim (cases_lt 0 (length s.sqs.items)) [
+  | inl sq ↦ elim (cases_lt 0 (length s.cqs.items)) [
+    | inl cq ↦ inl (sq, cq)
+    | inr none ↦ inr (λ h. omega (arith, h.1, none))
+  ]
+  | inr none ↦ inr (λ h. omega (arith, h.0, none))
+]
 
-sent_kept : (cqs : List CqRegion) (c : ℕ) → get_or (map (λ (p : PutView Cqe). p.sent) (puts_of cqs)) c [] ≡ (cq_in cqs c).sent
-sent_kept [] c = refl
-sent_kept (x ∷ cqs) zero = refl
-sent_kept (x ∷ cqs) (suc c) = sent_kept cqs c
+-- nothing was got from fresh regions, and nothing was put
+nothing_got : (sqs : List SqRegion) → All IsFreshSq sqs → (r : ℕ) → get_or (map (λ (g : GetView Sqe). g.got) (gets_of sqs)) r [] ≡ []
+nothing_got [] h r = refl
+nothing_got (x ∷ sqs) h zero = (All-head IsFreshSq x sqs h).nothing_got
+nothing_got (x ∷ sqs) h (suc r) = nothing_got sqs (All-tail IsFreshSq x sqs h) r
 
--- a list is empty or not
-pub empty_or_not : {X : Type 0} (xs : List X) → (xs ≡ []) ⊎ (xs ≡ [] → ⊥)
-empty_or_not [] = inl refl
-empty_or_not (x ∷ xs) = inr (λ e. cc e)
+nothing_put : (cqs : List (PutView Cqe)) → All (λ (p : PutView Cqe). p.sent ≡ []) cqs → (c : ℕ) → get_or (map (λ (p : PutView Cqe). p.sent) cqs) c [] ≡ []
+nothing_put [] h c = refl
+nothing_put (x ∷ cqs) h zero = All-head (λ (p : PutView Cqe). p.sent ≡ []) x cqs h
+nothing_put (x ∷ cqs) h (suc c) = nothing_put cqs (All-tail (λ (p : PutView Cqe). p.sent ≡ []) x cqs h) c
 
 -- all that was got from a region was fetched
 pub fetched_all : (s : FrontState) → IsConsistent s → (r : ℕ) → fetched (past_of s) r ≡ got_in (view_of s) r
-fetched_all s k r =
-    elim (empty_or_not s.log.items) [
-      | inl e ↦ ap (λ (z : List Event). fetched (reverse z) r) e ∙ sym (none e)
-      | inr n ↦ let a = k.begun n in ((k.stands a.0 a.1).regions r).fetched_is
-    ]
-    ∙ sym (got_kept s.sqs.items r)
-  where
-    none : s.log.items ≡ [] → (sq_in s.sqs.items r).got ≡ []
-    none e = elim (cases_lt r (length s.sqs.items)) [
-      | inl l ↦ ((k.fresh e).sqs r l).got
-      | inr l ↦ ap (λ (z : SqContent). z.got) ((k.fresh e).no_sqs r l)
-    ]
+fetched_all s k r = elim (admin_or_not s) [
+  | inl admin ↦ (k.running admin).got r
+  | inr none ↦ let fresh = k.fresh none in ap (λ (z : List Event). fetched (reverse z) r) fresh.log ∙ sym (nothing_got s.sqs.items fresh.sqs r)
+]
 
 -- all that was put into a region was posted
 pub posted_all : (s : FrontState) → IsConsistent s → (c : ℕ) → posted_to (past_of s) c ≡ sent_in (view_of s) c
-posted_all s k c =
-    elim (empty_or_not s.log.items) [
-      | inl e ↦ ap (λ (z : List Event). posted_to (reverse z) c) e ∙ sym ((k.fresh e).cqs c).sent
-      | inr n ↦ let a = k.begun n in (k.stands a.0 a.1).posts.posted_is c
-    ]
-    ∙ sym (sent_kept s.cqs.items c)
-
--- the log accounts for the ends, where no region was added after the first event
-pub accounts_for_all : (s : FrontState) → IsConsistent s → 0 < length s.sqs.items → 0 < length s.cqs.items → s.late ≡ false → AccountsForEnds (view_of s)
-accounts_for_all s k x y in_time =
-    let stands : Stands (rules_of s) false (past_of s) (content_of s) = subst (λ (b : Bool). Stands (rules_of s) b (past_of s) (content_of s)) in_time (k.stands x y) in
-    let gots : ◌≡◌ {A = ℕ → List Sqe} (λ (r : ℕ). (sq_in s.sqs.items r).got) (got_in (view_of s)) = λ t r. sym (got_kept s.sqs.items r) t in
-    let sents : ◌≡◌ {A = ℕ → List Cqe} (λ (c : ℕ). (cq_in s.cqs.items c).sent) (sent_in (view_of s)) = λ t c. sym (sent_kept s.cqs.items c) t in
-    record {
-      account = subst (λ (f : ℕ → List Sqe). IsAccount (rules_of s) f (past_of s) (sent_in (view_of s))) gots
-          (subst (λ (f : ℕ → List Cqe). IsAccount (rules_of s) (λ (r : ℕ). (sq_in s.sqs.items r).got) (past_of s) f) sents (account_is (rules_of s) (past_of s) (content_of s) stands));
-      all_fetched = fetched_all s k;
-      all_posted = posted_all s k;
-    }
+posted_all s k c = elim (admin_or_not s) [
+  | inl admin ↦ (k.running admin).sent c
+  | inr none ↦ let fresh = k.fresh none in ap (λ (z : List Event). posted_to (reverse z) c) fresh.log ∙ sym (nothing_put s.cqs.items fresh.cqs c)
+]
 
 -- the same by the view
 pub account_seen : (s : FrontState) (v : FrontView) → view_of s ≡ v → IsConsistent s → 0 < length v.gets → 0 < length v.puts → v.late ≡ false → AccountsForEnds v
-account_seen s v e k =
-    subst (λ (z : FrontView). 0 < length z.gets → 0 < length z.puts → z.late ≡ false → AccountsForEnds z) e
-    (λ x y in_time. accounts_for_all s k (rw length-map at x) (rw length-map at y) in_time)
+account_seen s v e k gets puts late =
+    subst AccountsForEnds e (accounts_for_ends s k (admin_there s v e gets puts) (ap (λ (z : FrontView). z.late) e ∙ late))
 
 pub fetched_seen : (s : FrontState) (v : FrontView) → view_of s ≡ v → IsConsistent s → (r : ℕ) → fetched (past_in v) r ≡ got_in v r
 fetched_seen s v e k = subst (λ (z : FrontView). (r : ℕ) → fetched (past_in z) r ≡ got_in z r) e (fetched_all s k)

@@ -1,10 +1,11 @@
 -- That each job was executed once, when a pool was closed.
-use Rattle.std.proofs.Common.{◌≡◌, ℕ, ◌+◌, ◌≤◌, Bool, true, false, ◌==◌, ◌&&◌, ◌||◌, List, [], ◌∷◌, ◌++◌, length, map, None, refl, sym, ap, subst, ◌∙◌, arith, inl, inr, sum_by, length-append}
+use Rattle.std.proofs.Common.{◌≡◌, ℕ, ◌+◌, ◌≤◌, Bool, true, false, not, nat_lt, ◌==◌, ◌&&◌, ◌||◌, List, [], ◌∷◌, ◌++◌, length, map, Some, None, refl, sym, ap, subst, ◌∙◌, arith, inl, inr, sum_by, length-append}
 use Rattle.std.specs.Prelude.{reverse}
 use Rattle.std.specs.List.{All, list_any}
+use Rattle.std.proofs.lemmas.Bool.{and_parts, eqb-true, ltb-true}
 use Rattle.std.proofs.lemmas.List.{append-nil, length-map, nil_from_length}
 use Rattle.std.proofs.lemmas.List.Elements.{All-head, All-tail}
-use Rattle.std.proofs.lemmas.List.Sums.{sum_by-cons, sum_by-append}
+use Rattle.std.proofs.lemmas.List.Sums.{sum_by-cons}
 use Rattle.nvme_lane.specs.View.{GetView}
 use Rattle.nvme_pool.specs.Closing.{GainedThenLeft, IsAllDone}
 use Rattle.nvme_pool.specs.Jobs.{result_of}
@@ -14,27 +15,26 @@ use Rattle.nvme_pool.specs.declared.jobs.Job.{Job}
 use Rattle.nvme_pool.specs.declared.jobs.Finished.{Finished}
 use Rattle.nvme_pool.proofs.Once.{each_executed, each_gained}
 use Rattle.nvme_log.specs.declared.event.Event.{Event}
-use Rattle.nvme_state.specs.declared.dispatched.Dispatched.{Dispatched}
+use Rattle.nvme_jobs.specs.declared.dispatched.Dispatched.{Dispatched}
 use Rattle.nvme_front.specs.declared.state.FrontState.{FrontState}
 use Rattle.nvme_log.specs.Rules.{Past}
-use Rattle.nvme_log.specs.Places.{is_served, one_if}
-use Rattle.nvme_log.specs.declared.place.Place.{Place}
 use Rattle.nvme_log.specs.Completions.{is_posted}
-use Rattle.nvme_log.specs.Dispatches.{dispatched, AreJobs, ExecutesOnce}
-use Rattle.nvme_log.proofs.Posts.{posts_of-some}
-use Rattle.nvme_state.specs.JobAccount.{AccountsForJobs}
-use Rattle.nvme_state.specs.Hands.{Hands, in_hand, is_in_hand, job_in}
-use Rattle.nvme_state.specs.inside.Jobs.{IsClosed, dispatched_place}
-use Rattle.nvme_state.specs.inside.Content.{Content}
-use Rattle.nvme_front.specs.inside.State.{content_of, rules_of, past_of}
-use Rattle.nvme_front.specs.inside.Room.{IsConsistent}
-use Rattle.nvme_state.specs.inside.Standing.{HoldsReady, Stands, times_held, held_by, hand_of}
+use Rattle.nvme_jobs.specs.JobAccount.{AccountsForJobs}
+use Rattle.nvme_jobs.specs.Hands.{Hands, in_hand, is_in_hand, job_in}
 use Rattle.nvme_front.specs.View.{FrontView, NoneInHandPosted, past_in}
-use Rattle.nvme_front.specs.inside.State.{view_of}
 use Rattle.nvme_log.specs.Account.{IsClear}
-use Rattle.nvme_front.proofs.Ended.{empty_or_not}
-use Rattle.nvme_state.proofs.Clearing.{clear_is}
-use Rattle.nvme_state.proofs.JobSteps.{jobs-when-fresh}
+use Rattle.nvme_log.specs.Places.{fetched, fate_of, is_waiting, is_served, one_if}
+use Rattle.nvme_log.specs.Dispatches.{dispatched, place_at, AreJobs, ExecutesOnce}
+use Rattle.nvme_log.proofs.Posts.{posts_of-some, all_below}
+use Rattle.nvme_ctrl.specs.Notes.{Notes, logged}
+use Rattle.nvme_ctrl.proofs.OutPlaces.{IsOutPlace, out_is}
+use Rattle.nvme_ctrl.proofs.UnpostedPlaces as tagged
+use Rattle.nvme_jobs.specs.inside.Jobs.{IsClosed}
+use Rattle.nvme_jobs.specs.inside.Standing.{PostedAreServed}
+use Rattle.nvme_jobs.proofs.JobSteps.{jobs-when-fresh}
+use Rattle.nvme_front.specs.inside.Room.{IsConsistent, IsRunning, IsTagged}
+use Rattle.nvme_front.specs.inside.State.{past_of, view_of}
+use Rattle.nvme_front.proofs.Ended.{admin_or_not}
 
 -- a worker keeps no result
 abbrev pub KeepsNone : WorkerView → Type 0
@@ -134,63 +134,83 @@ module _ (sizes : List ℕ) (past : Past) (h : Hands) (workers : List WorkerView
 
 -- a kept front accounts for the jobs of the places that it picked
 pub accounts_for_jobs : (s : FrontState) → IsConsistent s → AccountsForJobs s.config.spaces (past_of s) s.jobs.hands
-accounts_for_jobs s k = elim (empty_or_not s.log.items) [
-  | inl e ↦
-      subst (λ (z : List Event). AccountsForJobs s.config.spaces (reverse z) s.jobs.hands) (sym e) (jobs-when-fresh s.config.spaces s.jobs (k.fresh e).jobs).account
-  | inr n ↦ let a = k.begun n in (k.stands a.0 a.1).jobs.account
+accounts_for_jobs s k = elim (admin_or_not s) [
+  | inl admin ↦ (k.running admin).jobs.account
+  | inr none ↦
+      let fresh = k.fresh none in
+      subst (λ (z : List Event). AccountsForJobs s.config.spaces (reverse z) s.jobs.hands) (sym fresh.log) (jobs-when-fresh s.config.spaces s.jobs fresh.jobs).account
 ]
 
 -- ---- completions of commands in hand
--- a command that is one of some stands among their places
-some_held : (r i : ℕ) (ds : List Dispatched) → list_any (λ (d : Dispatched). d.place.region == r && d.place.index == i) ds ≡ true → 1 ≤ times_held r i (map dispatched_place ds)
-some_held r i [] h = absurd (cc)
-some_held r i (d ∷ ds) h = by (d.place.region == r && d.place.index == i) refl h (some_held r i ds) where
+-- a place that is in hand is that of a command whose tag is out
+hand_at : (notes : Notes) (ds : List Dispatched) → All (IsTagged notes) ds → (r i : ℕ) → list_any (λ (d : Dispatched). d.place.region == r && d.place.index == i) ds ≡ true
+    → tagged.IsTagged notes r i
+hand_at notes [] all r i h = absurd (cc h)
+hand_at notes (d ∷ ds) all r i h = by (d.place.region == r && d.place.index == i) refl h (hand_at notes ds (All-tail (IsTagged notes) d ds all) r i) where
   by : (b : Bool) → (d.place.region == r && d.place.index == i) ≡ b → (b || list_any (λ (x : Dispatched). x.place.region == r && x.place.index == i) ds) ≡ true
-      → (list_any (λ (x : Dispatched). x.place.region == r && x.place.index == i) ds ≡ true → 1 ≤ times_held r i (map dispatched_place ds))
-      → 1 ≤ times_held r i (map dispatched_place (d ∷ ds))
-  by true e h later = omega (arith, ap one_if e, sum_by-cons (λ (p : Place). one_if (p.region == r && p.index == i)) (dispatched_place d) (map dispatched_place ds))
-  by false e h later = omega (arith, later h, sum_by-cons (λ (p : Place). one_if (p.region == r && p.index == i)) (dispatched_place d) (map dispatched_place ds))
+      → (list_any (λ (x : Dispatched). x.place.region == r && x.place.index == i) ds ≡ true → tagged.IsTagged notes r i) → tagged.IsTagged notes r i
+  by true e h later =
+      let parts = and_parts (d.place.region == r) (d.place.index == i) e in
+      let it = All-head (IsTagged notes) d ds all in
+      let place : d.place ≡ place_at r i = λ t. place_at (eqb-true d.place.region r parts.0 t) (eqb-true d.place.index i parts.1 t) in
+      record { tag = d.tag; held = it.held ∙ ap Some place; out = it.out }
+  by false e h later = later h
 
--- a place in hand has no completion posted: it stands once among ready completions, posts and places in hand
-unposted_in_hand : (past : Past) (k : Content) → HoldsReady past k (hand_of k) → (r i : ℕ) → is_in_hand k.jobs.hands r i ≡ true → is_posted past r i ≡ false
-unposted_in_hand past k ready r i h = by (is_posted past r i) refl where
-  few : (b : Bool) → one_if b ≤ 1
-  few true = omega arith
-  few false = omega arith
+module _ (s : FrontState) (k : IsRunning s) where
+  -- what its tag tells of a place
+  out_place : (r i : ℕ) → tagged.IsTagged k.notes r i → IsOutPlace k.notes (place_at r i)
+  out_place r i t = out_is k.stands.their k.stands.their_late k.notes s.engine.controller s.engine.slots.items k.stands.stands t.tag (place_at r i) t.held t.out
 
-  held : 1 ≤ times_held r i (hand_of k)
-  held = omega (
-    arith,
-    some_held r i (in_hand k.jobs.hands) h,
-    sum_by-append (λ (p : Place). one_if (p.region == r && p.index == i)) (map dispatched_place (in_hand k.jobs.hands)) (held_by k.deletion),
-  )
+  -- a place in hand has no completion posted
+  unposted_in_hand : (r i : ℕ) → is_in_hand s.jobs.hands r i ≡ true → is_posted (past_of s) r i ≡ false
+  unposted_in_hand r i h =
+      subst (λ (p : Past). is_posted p r i ≡ false) k.past_is (out_place r i (hand_at k.notes (in_hand s.jobs.hands) k.tags.each r i h)).unposted
 
-  by : (b : Bool) → is_posted past r i ≡ b → is_posted past r i ≡ false
-  by true e = absurd (omega (arith, held, posts_of-some past r i e, ready.once r i, few (is_served past r i)))
-  by false e = e
+  -- a place whose completion was posted was picked or aborted before
+  pub posted_are_served : PostedAreServed (past_of s)
+  posted_are_served = subst PostedAreServed k.past_is served where
+    counted : (b : Bool) → 1 ≤ one_if b → b ≡ true
+    counted true l = refl
+    counted false l = absurd (omega (arith, l))
+
+    served : PostedAreServed (logged k.notes)
+    served r i posted =
+        let once = k.stands.stands.holds.ready.once r i in
+        let some = posts_of-some (logged k.notes) r i posted in
+        counted (is_served (logged k.notes) r i) (omega (arith, once, some))
+
+  -- ---- clear fronts
+  -- a command in hand has no completion, so the log is not clear
+  clear_posted : IsClear (logged k.notes) → (r i : ℕ) → tagged.IsTagged k.notes r i → ⊥
+  clear_posted clear r i t =
+      let out = out_place r i t in
+      let there = and_parts (nat_lt i (length (fetched (logged k.notes) r))) (not (is_waiting (fate_of (logged k.notes) r i))) out.served in
+      let posted = all_below (λ (j : ℕ). is_posted (logged k.notes) r j) (length (fetched (logged k.notes) r)) (clear.all_posted r) i
+      (ltb-true i (length (fetched (logged k.notes) r)) there.0) in
+      let unposted = out.unposted in
+      cc (posted, unposted)
+
+  clear_hand : IsClear (logged k.notes) → (ds : List Dispatched) → All (IsTagged k.notes) ds → ds ≡ []
+  clear_hand clear [] all = refl
+  clear_hand clear (d ∷ ds) all =
+      let it = All-head (IsTagged k.notes) d ds all in
+      absurd (clear_posted clear d.place.region d.place.index (record { tag = d.tag; held = it.held; out = it.out }))
+
+  none_waits : IsClear (past_of s) → in_hand s.jobs.hands ≡ []
+  none_waits clear = clear_hand (subst IsClear (sym k.past_is) clear) (in_hand s.jobs.hands) k.tags.each
 
 -- a kept front posted none of those that it has in hand
 pub none_in_hand_posted : (s : FrontState) → IsConsistent s → NoneInHandPosted (view_of s)
-none_in_hand_posted s k r i h = elim (empty_or_not s.log.items) [
-  | inl e ↦ subst (λ (z : List Event). is_posted (reverse z) r i ≡ false) (sym e) refl
-  | inr n ↦ let a = k.begun n in unposted_in_hand (past_of s) (content_of s) (k.stands a.0 a.1).ready r i h
+none_in_hand_posted s k r i h = elim (admin_or_not s) [
+  | inl admin ↦ unposted_in_hand s (k.running admin) r i h
+  | inr none ↦ subst (λ (z : List Event). is_posted (reverse z) r i ≡ false) (sym (k.fresh none).log) refl
 ]
-
--- ---- clear fronts
--- what a front keeps at a clear log has no command that waits for its result
-none_waits_for_result : (s : FrontState) → Stands (rules_of s) s.late (past_of s) (content_of s) → IsClear (past_of s) → in_hand s.jobs.hands ≡ []
-none_waits_for_result s h clear =
-    let nothing = (clear_is (rules_of s) s.late (past_of s) (content_of s) h).0 clear in
-    let none : s.outstanding ≡ 0 = nothing.none_outstanding in
-    let taken : length (hand_of (content_of s)) ≤ s.outstanding = omega (arith, h.ready.taken) in
-    nil_from_length (in_hand s.jobs.hands)
-    (omega (arith, length-map (in_hand s.jobs.hands) dispatched_place, length-append (map dispatched_place (in_hand s.jobs.hands)) (held_by s.deletion)))
 
 -- in a clear front no command waits for its result
 pub none_in_hand : (s : FrontState) → IsConsistent s → IsClear (past_of s) → in_hand s.jobs.hands ≡ []
-none_in_hand s k clear = elim (empty_or_not s.log.items) [
-  | inl e ↦ let f = (k.fresh e).jobs in (λ t. f.none_running t ++ f.none_unhanded t)
-  | inr n ↦ let a = k.begun n in none_waits_for_result s (k.stands a.0 a.1) clear
+none_in_hand s k clear = elim (admin_or_not s) [
+  | inl admin ↦ none_waits s (k.running admin) clear
+  | inr none ↦ let fresh = (k.fresh none).jobs in (λ t. fresh.none_running t ++ fresh.none_unhanded t)
 ]
 
 -- the same by the view

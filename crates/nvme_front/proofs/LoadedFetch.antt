@@ -1,12 +1,10 @@
 -- A fetch leaves a loaded front: it is of the least queue that isn't filled, and its entry is the next of its script.
-use Rattle.std.proofs.Common.{◌≡◌, ℕ, ◌<◌, ◌≤◌, if◌then◌else◌, Bool, true, false, nat_le, List, [], ◌∷◌, ◌++◌, map, set, length, get_or, Option, Some, refl, sym, ap, ◌∙◌, subst, arith, inl, inr, reverse, append_assoc}
-use Rattle.std.specs.Prelude.{unwrap_or}
+use Rattle.std.proofs.Common.{◌≡◌, ℕ, ◌<◌, ◌≤◌, Bool, true, false, nat_le, List, [], ◌∷◌, ◌++◌, map, length, get_or, Option, Some, refl, sym, ap, ◌∙◌, subst, arith, inl, inr, append_assoc}
+use Rattle.std.specs.Prelude.{unwrap_or, if◌then◌else◌}
 use mathlib.Core.List.{IsPrefix}
 use Rattle.std.proofs.lemmas.List.{append-nil, length-map, length_push}
 use Rattle.std.proofs.lemmas.Bool.{cases_lt, le-leb, eq-eqb}
 use Rattle.nvme_entry.specs.declared.submission.Sqe.{Sqe}
-use Rattle.nvme_admin.specs.Standing.{sq_of}
-use Rattle.nvme_admin.specs.declared.verdict.SqEntry.{SqEntry}
 use Rattle.nvme_log.specs.declared.event.Event.{Event}
 use Rattle.nvme_log.specs.declared.event.Event.TheVariants.{Fetch}
 use Rattle.nvme_log.specs.Rules.{FrontRules, Past, Each}
@@ -18,20 +16,20 @@ use Rattle.nvme_log.proofs.WithoutPosts.{is_filled-at, qid_of_region-posts}
 use Rattle.nvme_log.proofs.LoadedPlaces.{are-counted}
 use Rattle.nvme_log.proofs.LoadedRegions.{region-owned}
 use Rattle.nvme_log.proofs.LoadedSteps.{unfilled-before}
-use Rattle.nvme_state.specs.declared.candidate.Candidate.{Candidate}
-use Rattle.nvme_state.specs.declared.region.SqRegion.{SqRegion}
-use Rattle.nvme_state.specs.inside.Content.{SqContent, no_sq}
+use Rattle.nvme_front.specs.declared.region.SqRegion.{SqRegion}
 use Rattle.nvme_front.specs.declared.state.FrontState.{FrontState}
-use Rattle.nvme_front.specs.inside.State.{sq_content, sq_in, rules_of, past_of, gets_of, view_of}
+use Rattle.nvme_front.specs.inside.State.{rules_of, past_of, gets_of, view_of}
 use Rattle.nvme_front.specs.inside.Room.{IsConsistent}
 use Rattle.nvme_front.specs.inside.Goes.{coming_at, Goes, HasAdmin, IsScanned}
 use Rattle.nvme_front.specs.View.{got_in, known_in}
 use Rattle.nvme_front.specs.LoadedFront.{FilledBelow, IsLoadedFront, GotWithin}
 use Rattle.nvme_front.specs.inside.Loads.{Loads}
 use Rattle.nvme_front.proofs.Comes.{coming-set, coming_in-seen}
-use Rattle.nvme_front.proofs.States.{look-read, look-set, past-push, rules-goes, sqs-goes, admin-goes}
-use Rattle.nvme_front.proofs.Fetches.{queue_of, open_is, region_there}
-use Rattle.nvme_front.proofs.EndsSeen.{got_in-kept, accounts_for_ends}
+use Rattle.nvme_front.proofs.States.{look-read, rules-goes, sqs-goes, admin-goes}
+use Rattle.nvme_front.proofs.RunningFacts.{IsOpenOn}
+use Rattle.nvme_front.proofs.SqEnds.{got_in-set}
+use Rattle.nvme_front.proofs.Fetches.{Fetched, fetch_past, fetch_goes, region_there}
+use Rattle.nvme_front.proofs.EndsSeen.{accounts_for_ends}
 use Rattle.nvme_front.proofs.Loading.{loaded-by, got-begins, scanned-filled}
 
 -- a fetch from a queue that isn't filled comes in turn: none of lower identifiers than the newest fetch's is unfilled
@@ -53,48 +51,45 @@ comes-known got got' (y ∷ known) known' x more next within =
     ap (λ (xs : List Sqe). xs ++ known') more ∙ append_assoc got (x ∷ []) known' ∙ ap (λ (xs : List Sqe). got ++ xs) (sym (next (omega arith)))
 
 -- where a command was fetched from an open queue, and all queues of lower identifiers are scanned
-module _ (a b : FrontState) (kept : IsConsistent a) (admin : HasAdmin a) (kept' : IsConsistent b) (goes : Goes a b) (q : ℕ) (entry : SqEntry) (in_table : sq_of a.table q ≡ Some entry)
-    (is_open : entry.closing ≡ false) (d g : SqRegion) (read : d ≡ get_or a.sqs.items entry.region d) (candidate : Candidate) (sqs : b.sqs.items ≡ set a.sqs.items entry.region g)
-    (got : g.end.got ≡ d.end.got ++ candidate.entry ∷ []) (next : 0 < length d.end.known → d.end.known ≡ candidate.entry ∷ g.end.known)
-    (log : b.log.items ≡ a.log.items ++ Fetch entry.region candidate.index candidate.entry ∷ []) (lower : (p : ℕ) → p < q → IsScanned b p) where
+module _ (a b : FrontState) (q r : ℕ) (d g : SqRegion) (entry : Sqe) (f : Fetched a b q r d g entry) (kept : IsConsistent a) (admin : HasAdmin a) (o : IsOpenOn (past_of a) q r)
+    (kept' : IsConsistent b) (lower : (p : ℕ) → p < q → IsScanned b p) where
   -- its event, and the log with it
   abbrev the_event : Event
-  the_event = Fetch entry.region candidate.index candidate.entry
+  the_event = Fetch r d.fetched entry
 
   past_is : past_of b ≡ the_event ∷ past_of a
-  past_is = ap reverse log ∙ past-push a.log.items the_event
+  past_is = fetch_past a b q r d g entry f
+
+  goes : Goes a b
+  goes = fetch_goes a b q r d g entry f
 
   module _ (scripts : ℕ → List Sqe) (within : GotWithin scripts (view_of b)) (h : IsLoadedFront scripts (view_of a)) where
-    there : entry.region < length a.sqs.items
-    there = region_there a kept admin q entry in_table is_open
+    there : r < length a.sqs.items
+    there = region_there a kept admin q r o
 
     -- what was got of its region
-    got_is : got_in (view_of b) entry.region ≡ g.end.got
-    got_is =
-        let read_back : sq_in (set a.sqs.items entry.region g) entry.region ≡ sq_content g =
-        look-set sq_content no_sq a.sqs.items entry.region g there entry.region
-        ∙ ap (λ (b : Bool). if b then sq_content g else sq_in a.sqs.items entry.region) (eq-eqb entry.region entry.region refl) in
-        got_in-kept b entry.region ∙ ap (λ (xs : List SqRegion). (sq_in xs entry.region).got) sqs ∙ ap (λ (s : SqContent). s.got) read_back
+    got_is : got_in (view_of b) r ≡ g.end.got
+    got_is = got_in-set a b r g there f.sqs r ∙ ap (λ (t : Bool). if t then g.end.got else got_in (view_of a) r) (eq-eqb r r refl)
 
     -- its script is what was got and known before
-    script_is : coming_at d ≡ scripts entry.region
+    script_is : coming_at d ≡ scripts r
     script_is =
-        sym (look-read coming_at [] a.sqs.items entry.region d there d read) ∙ coming_in-seen a.sqs.items entry.region
-        ∙ h.scripts_are entry.region (omega (arith, there, length-map a.sqs.items (λ (x : SqRegion). x.end)))
+        sym (look-read coming_at [] a.sqs.items r d there d f.read) ∙ coming_in-seen a.sqs.items r
+        ∙ h.scripts_are r (omega (arith, there, length-map a.sqs.items (λ (x : SqRegion). x.end)))
 
     -- and is so after
     coming_is : coming_at g ≡ coming_at d
     coming_is =
-        comes-known d.end.got g.end.got d.end.known g.end.known candidate.entry got next
-        (omega (arith, within entry.region, ap length got_is, ap length script_is))
+        comes-known d.end.got g.end.got d.end.known g.end.known entry f.got f.next
+        (omega (arith, within r, ap length got_is, ap length script_is))
 
     -- of each region
-    scripts_still : (r : ℕ) → r < length (gets_of b.sqs.items) → got_in (view_of b) r ++ known_in (view_of b) r ≡ scripts r
-    scripts_still r lt =
-        sym (coming_in-seen b.sqs.items r)
-        ∙ ap (λ (xs : List (List Sqe)). get_or xs r []) (ap (map coming_at) sqs ∙ coming-set a.sqs.items entry.region d g read coming_is)
-        ∙ coming_in-seen a.sqs.items r
-        ∙ h.scripts_are r (omega (arith, lt, sqs-goes a b goes, length-map a.sqs.items (λ (x : SqRegion). x.end), length-map b.sqs.items (λ (x : SqRegion). x.end)))
+    scripts_still : (x : ℕ) → x < length (gets_of b.sqs.items) → got_in (view_of b) x ++ known_in (view_of b) x ≡ scripts x
+    scripts_still x lt =
+        sym (coming_in-seen b.sqs.items x)
+        ∙ ap (λ (xs : List (List Sqe)). get_or xs x []) (ap (map coming_at) f.sqs ∙ coming-set a.sqs.items r d g f.read coming_is)
+        ∙ coming_in-seen a.sqs.items x
+        ∙ h.scripts_are x (omega (arith, lt, sqs-goes a b goes, length-map a.sqs.items (λ (y : SqRegion). y.end), length-map b.sqs.items (λ (y : SqRegion). y.end)))
 
     admin_b : HasAdmin b
     admin_b = admin-goes a b goes admin
@@ -106,9 +101,10 @@ module _ (a b : FrontState) (kept : IsConsistent a) (admin : HasAdmin a) (kept' 
     rules_b = rules-goes a b goes
 
     -- the region was opened for its queue
-    owned : qid_of_region (past_of a) entry.region ≡ Some q
+    owned : qid_of_region (past_of a) r ≡ Some q
     owned =
-        region-owned (rules_of a) (past_of a) (accounts_for_ends a kept admin h.not_late).account.effects_at_once q (queue_of entry) (open_is a kept admin q entry in_table is_open)
+        ap (qid_of_region (past_of a)) (sym o.on)
+        ∙ region-owned (rules_of a) (past_of a) (accounts_for_ends a kept admin h.not_late).account.effects_at_once q o.queue o.is_open
 
     -- which wasn't filled
     unfilled : is_filled (rules_of a) scripts (without_posts (past_of a)) (open_sq (without_posts (past_of a)) q) ≡ false
@@ -117,37 +113,36 @@ module _ (a b : FrontState) (kept : IsConsistent a) (admin : HasAdmin a) (kept' 
         let after = accounts_for_ends b kept' admin_b late_b in
         let served : Each (ServedWhileOpen (rules_of a)) (the_event ∷ past_of a) =
         subst (λ (p : Past). Each (ServedWhileOpen (rules_of a)) p) past_is
-        (subst (λ (r : FrontRules). Each (ServedWhileOpen r) (past_of b)) rules_b after.account.served_while_open) in
-        let begins : IsPrefix (fetched (the_event ∷ past_of a) entry.region) (scripts entry.region) =
-        subst (λ (p : Past). IsPrefix (fetched p entry.region) (scripts entry.region)) past_is
-        (subst (λ (xs : List Sqe). IsPrefix xs (scripts entry.region)) (sym (after.all_fetched entry.region)) (got-begins (view_of b) scripts scripts_still entry.region)) in
+        (subst (λ (x : FrontRules). Each (ServedWhileOpen x) (past_of b)) rules_b after.account.served_while_open) in
+        let begins : IsPrefix (fetched (the_event ∷ past_of a) r) (scripts r) =
+        subst (λ (p : Past). IsPrefix (fetched p r) (scripts r)) past_is
+        (subst (λ (xs : List Sqe). IsPrefix xs (scripts r)) (sym (after.all_fetched r)) (got-begins (view_of b) scripts scripts_still r)) in
         is_filled-at (rules_of a) scripts (past_of a) q
-        ∙ ap (is_filled (rules_of a) scripts (past_of a)) (open_is a kept admin q entry in_table is_open)
-        ∙ unfilled-before (rules_of a) scripts (past_of a) entry.region candidate.index candidate.entry
-        (are-counted (rules_of a) (past_of a) before.effects_at_once before.observed before.lawful entry.region) served.0 begins (queue_of entry) refl
+        ∙ ap (is_filled (rules_of a) scripts (past_of a)) o.is_open
+        ∙ unfilled-before (rules_of a) scripts (past_of a) r d.fetched entry
+        (are-counted (rules_of a) (past_of a) before.effects_at_once before.observed before.lawful r) served.0 begins o.queue o.on
 
     -- the queues of lower identifiers are filled after it
     lower_filled : FilledBelow (rules_of a) scripts (without_posts (the_event ∷ past_of a))
     lower_filled = λ p lt.
-        let own : qid_of_region (without_posts (past_of a)) entry.region ≡ Some q = qid_of_region-posts (past_of a) entry.region ∙ owned in
-        let below : p < q = subst (λ (o : Option ℕ). p < unwrap_or o 0) own lt in
+        let own : qid_of_region (without_posts (past_of a)) r ≡ Some q = qid_of_region-posts (past_of a) r ∙ owned in
+        let below : p < q = subst (λ (x : Option ℕ). p < unwrap_or x 0) own lt in
         let filled : is_filled (rules_of b) scripts (past_of b) (open_sq (past_of b) p) ≡ true = scanned-filled b kept' admin_b scripts scripts_still p (lower p below) in
         is_filled-at (rules_of a) scripts (the_event ∷ past_of a) p
         ∙ subst (λ (z : Past). is_filled (rules_of a) scripts z (open_sq z p) ≡ true) past_is
-        (subst (λ (r : FrontRules). is_filled r scripts (past_of b) (open_sq (past_of b) p) ≡ true) rules_b filled)
+        (subst (λ (x : FrontRules). is_filled x scripts (past_of b) (open_sq (past_of b) p) ≡ true) rules_b filled)
 
     -- so it is loaded still
     fetch-loaded : IsLoadedFront scripts (view_of b)
     fetch-loaded =
         loaded-by b kept' admin_b late_b scripts scripts_still
-        (subst (λ (r : FrontRules). Each (FilledBefore r scripts) (without_posts (past_of b))) (sym rules_b)
+        (subst (λ (x : FrontRules). Each (FilledBefore x scripts) (without_posts (past_of b))) (sym rules_b)
         (subst (λ (p : Past). Each (FilledBefore (rules_of a) scripts) (without_posts p)) (sym past_is) (tt, h.so_far.filled_before)))
         (subst (λ (p : Past). Each FetchesLast (without_posts p)) (sym past_is) (
-          follows (rules_of a) scripts (without_posts (past_of a)) entry.region candidate.index q candidate.entry h.below_filled
-              (qid_of_region-posts (past_of a) entry.region ∙ owned) unfilled,
+          follows (rules_of a) scripts (without_posts (past_of a)) r d.fetched q entry h.below_filled (qid_of_region-posts (past_of a) r ∙ owned) unfilled,
           h.so_far.fetches_last,
         ))
-        (subst (λ (r : FrontRules). FilledBelow r scripts (without_posts (past_of b))) (sym rules_b)
+        (subst (λ (x : FrontRules). FilledBelow x scripts (without_posts (past_of b))) (sym rules_b)
         (subst (λ (p : Past). FilledBelow (rules_of a) scripts (without_posts p)) (sym past_is) lower_filled))
 
   -- a loaded front stays loaded

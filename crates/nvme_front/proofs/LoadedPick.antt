@@ -1,11 +1,14 @@
 -- A pick leaves a loaded front where each queue was scanned, and so does the end of a deletion.
-use Rattle.std.proofs.Common.{◌≡◌, ℕ, ◌+◌, Bool, true, false, List, [], ◌∷◌, ◌++◌, length, get_or, map, reverse, Some, refl, sym, ap, ◌∙◌, arith}
+use Rattle.std.proofs.Common.{◌≡◌, ℕ, zero, suc, ◌+◌, ◌<◌, Bool, true, false, List, [], ◌∷◌, length, get_or, map, reverse, Some, refl, sym, ap, ◌∙◌, arith}
+use Rattle.std.specs.List.{list_all}
+use Rattle.std.proofs.lemmas.Bool.{and_from}
+use Rattle.std.proofs.lemmas.List.Folds.{list_all-append}
 use Rattle.nvme_lane.specs.View.{GetView}
 use Rattle.nvme_arbiter.specs.Limits.{queue_limit}
 use Rattle.nvme_log.specs.declared.event.Event.{Event}
 use Rattle.nvme_log.specs.declared.event.Event.TheVariants.{ClosedSq}
 use Rattle.nvme_log.specs.declared.event.Event.TheVariants as event
-use Rattle.nvme_log.specs.Rules.{Past}
+use Rattle.nvme_log.specs.Rules.{Past, upto}
 use Rattle.nvme_log.specs.Queues.{open_sq, pending}
 use Rattle.nvme_log.specs.Places.{fetched}
 use Rattle.nvme_log.specs.Histories.{picks_in}
@@ -14,21 +17,25 @@ use Rattle.nvme_log.proofs.PickCounts.{picks_in-append}
 use Rattle.nvme_log.proofs.Tables.{with_events}
 use Rattle.nvme_log.proofs.WithoutPosts.{is_filled-at, pending-posts}
 use Rattle.nvme_log.proofs.LoadedTurns.{AreOther, last-pick, pending-ends, others-in}
-use Rattle.nvme_state.specs.declared.deletion.PendingDelete.{PendingDelete}
-use Rattle.nvme_state.specs.inside.Standing.{as_deletion}
-use Rattle.nvme_state.proofs.Clearing.{all_from_below}
 use Rattle.nvme_front.specs.declared.state.FrontState.{FrontState}
 use Rattle.nvme_front.specs.declared.front.Step.{Step}
 use Rattle.nvme_front.specs.declared.front.Step.TheVariants.{Picked, Moved, Idle, Stalled}
 use Rattle.nvme_front.specs.inside.State.{rules_of, past_of, gets_of}
 use Rattle.nvme_front.specs.inside.Room.{IsConsistent}
 use Rattle.nvme_front.specs.inside.Goes.{Goes, HasAdmin, AllScanned, IsSame}
-use Rattle.nvme_front.specs.inside.Turn.{IsPickOf}
+use Rattle.nvme_front.specs.inside.Turn.{IsPickOf, Finishes}
 use Rattle.nvme_front.specs.inside.Loads.{Loads}
 use Rattle.nvme_front.proofs.States.{admin-goes}
 use Rattle.nvme_front.proofs.Ended.{fetched_all}
-use Rattle.nvme_front.proofs.Filling.{pending_at}
 use Rattle.nvme_front.proofs.Loading.{posts-same, posts-load, past-later, others-load, scanned-filled}
+
+-- a test that passes for each number below a bound passes for all of them
+all_from_below : (test : ℕ → Bool) (n : ℕ) → ((i : ℕ) → i < n → test i ≡ true) → list_all test (upto n) ≡ true
+all_from_below test zero h = refl
+all_from_below test (suc n) h =
+    list_all-append test (upto n) (n ∷ [])
+    ∙ and_from (list_all test (upto n)) (list_all test (n ∷ [])) (all_from_below test n (λ i lt. h i (omega (arith, lt))))
+    (rw (h n (omega arith)) refl)
 
 -- where the ends stay no more was fetched
 same-fetched : (s t : FrontState) → IsConsistent s → IsConsistent t → gets_of t.sqs.items ≡ gets_of s.sqs.items → (r : ℕ) → fetched (past_of t) r ≡ fetched (past_of s) r
@@ -53,14 +60,13 @@ pick-load s t kept admin kept' goes scanned gets pick one = λ scripts within h.
     (last-pick (without_posts (past_of s)) pick.seen pick.pick, h.so_far.fetches_last)
 
 -- the end of a deletion
-pub close-load : (s t : FrontState) (d : PendingDelete) → IsConsistent s → HasAdmin s → IsConsistent t → Goes s t → gets_of t.sqs.items ≡ gets_of s.sqs.items → s.deletion ≡ Some d
-    → t.log.items ≡ s.log.items ++ ClosedSq d.qid d.region ∷ [] → Loads s t
-close-load s t d kept admin kept' goes gets is log = λ scripts within h.
-    let e : Event = ClosedSq d.qid d.region in
-    let past : past_of t ≡ with_events (e ∷ []) (past_of s) = ap (λ (xs : List Event). reverse xs) log ∙ past-later (e ∷ []) s.log.items in
-    let was : pending (without_posts (past_of s)) ≡ Some (as_deletion d) = pending-posts (past_of s) ∙ pending_at s kept admin (Some d) is in
+pub close-load : (s t : FrontState) → IsConsistent s → HasAdmin s → IsConsistent t → Goes s t → gets_of t.sqs.items ≡ gets_of s.sqs.items → Finishes s t → Loads s t
+close-load s t kept admin kept' goes gets ends = λ scripts within h.
+    let e : Event = ClosedSq ends.deletion.qid ends.deletion.region in
+    let past : past_of t ≡ with_events (e ∷ []) (past_of s) = ap (λ (xs : List Event). reverse xs) ends.log_is ∙ past-later (e ∷ []) s.log.items in
+    let was : pending (without_posts (past_of s)) ≡ Some ends.deletion = pending-posts (past_of s) ∙ ends.was_pending in
     others-load s t kept' (admin-goes s t goes admin) goes gets scripts h (e ∷ []) (past_of s) past (tt, tt)
-    (pending-ends (without_posts (past_of s)) h.so_far.closed_at_once (as_deletion d) was)
+    (pending-ends (without_posts (past_of s)) h.so_far.closed_at_once ends.deletion was)
     h.so_far.filled_before h.so_far.fetches_last
 
 -- so does a look for a pick
@@ -73,7 +79,7 @@ look-load s t kept admin kept' goes scanned gets Idle pick one never idle stalle
 look-load s t kept admin kept' goes scanned gets Stalled pick one never idle stalled = posts-load s t goes (posts-same s t (stalled refl))
 
 -- and a look at the pending deletion
-pub finish-load : (s t : FrontState) (d : PendingDelete) → IsConsistent s → HasAdmin s → IsConsistent t → Goes s t → t.sqs.items ≡ s.sqs.items → s.deletion ≡ Some d → (finished : Bool)
-    → (finished ≡ true → t.log.items ≡ s.log.items ++ ClosedSq d.qid d.region ∷ []) → (finished ≡ false → IsSame s t) → Loads s t
-finish-load s t d kept admin kept' goes sqs is true closed still = close-load s t d kept admin kept' goes (ap gets_of sqs) is (closed refl)
-finish-load s t d kept admin kept' goes sqs is false closed still = posts-load s t goes (posts-same s t (still refl))
+pub finish-load : (s t : FrontState) → IsConsistent s → HasAdmin s → IsConsistent t → Goes s t → t.sqs.items ≡ s.sqs.items → (finished : Bool)
+    → (finished ≡ true → Finishes s t) → (finished ≡ false → IsSame s t) → Loads s t
+finish-load s t kept admin kept' goes sqs true closed still = close-load s t kept admin kept' goes (ap gets_of sqs) (closed refl)
+finish-load s t kept admin kept' goes sqs false closed still = posts-load s t goes (posts-same s t (still refl))

@@ -8,14 +8,14 @@ use Rattle.nvme_lane.specs.View.{GetView}
 use Rattle.nvme_log.specs.declared.event.Event.{Event}
 use Rattle.nvme_log.specs.declared.event.Event.TheVariants.{Fetch}
 use Rattle.nvme_log.specs.Rules.{FrontRules, Past, Each, window_at}
-use Rattle.nvme_log.specs.Queues.{Queue, open_sq}
+use Rattle.nvme_log.specs.Queues.{Queue, open_sq, pending}
 use Rattle.nvme_log.specs.Places.{fetched, waiting}
 use Rattle.nvme_log.specs.Loaded.{without_posts, is_filled, FilledBefore, FetchesLast, LoadedSoFar}
 use Rattle.nvme_log.proofs.Prefixes.{fetched-after}
 use Rattle.nvme_log.proofs.Tables.{with_events}
-use Rattle.nvme_log.proofs.WithoutPosts.{loaded-account}
+use Rattle.nvme_log.proofs.WithoutPosts.{loaded-account, pending-posts}
 use Rattle.nvme_log.proofs.LoadedTurns.{AreOther, EndsNoFetch, ends-others, last-others, filled-others}
-use Rattle.nvme_state.specs.declared.region.SqRegion.{SqRegion}
+use Rattle.nvme_front.specs.declared.region.SqRegion.{SqRegion}
 use Rattle.nvme_front.specs.declared.state.FrontState.{FrontState}
 use Rattle.nvme_front.specs.inside.State.{rules_of, past_of, gets_of, view_of}
 use Rattle.nvme_front.specs.inside.Room.{IsConsistent}
@@ -26,7 +26,7 @@ use Rattle.nvme_front.specs.inside.Loads.{PostsOnly, Loads}
 use Rattle.nvme_front.proofs.States.{past-push, rules-goes}
 use Rattle.nvme_front.proofs.Ended.{fetched_all}
 use Rattle.nvme_front.proofs.EndsSeen.{accounts_for_ends}
-use Rattle.nvme_front.proofs.Filling.{queue_filled}
+use Rattle.nvme_front.proofs.RunningFacts.{open_there}
 
 -- ---- only posts
 -- nothing but posts came where nothing came, or at all
@@ -44,7 +44,11 @@ posts-by a b log sqs = record { gets = ap gets_of sqs; log = ap (λ (xs : List E
 pub posts-same : (a b : FrontState) → IsSame a b → PostsOnly a b
 posts-same a b same = posts-by a b same.log same.sqs
 
--- so a loaded front is one still
+-- so the same deletion is pending
+pub posts-pending : (a b : FrontState) → PostsOnly a b → pending (past_of b) ≡ pending (past_of a)
+posts-pending a b posts = sym (pending-posts (past_of b)) ∙ ap pending posts.log ∙ pending-posts (past_of a)
+
+-- and a loaded front is one still
 pub posts-load : (a b : FrontState) → Goes a b → PostsOnly a b → Loads a b
 posts-load a b goes posts = λ scripts within h.
     let rules = rules-goes a b goes in record {
@@ -160,16 +164,15 @@ scanned-filled s kept admin scripts are q scanned = by (open_sq (past_of s) q) r
   by : (o : Option Queue) → open_sq (past_of s) q ≡ o → is_filled (rules_of s) scripts (past_of s) o ≡ true
   by None is = refl
   by (Some queue) is =
-      let h = kept.stands admin.0 admin.1 in
       let r : ℕ = queue.region in
-      let there = h.queues.sq_there r _ (h.queues.attached q queue is).attached in
+      let there : r < length s.sqs.items = (open_there s (kept.running admin) q queue is).1 in
       ⊎_elim
       (λ full. either (nat_le (length (scripts r)) (length (fetched (past_of s) r))) (nat_le (window_at (rules_of s) r) (length (waiting (past_of s) r)))
-      (le-leb (window_at (rules_of s) r) (length (waiting (past_of s) r)) full))
+      (le-leb (window_at (rules_of s) r) (length (waiting (past_of s) r)) full.0))
       (λ none.
       let whole : length (scripts r) ≡ length (fetched (past_of s) r) =
       ap length (sym (are r (omega (arith, there, length-map s.sqs.items (λ (x : SqRegion). x.end)))) ∙ ap (λ (xs : List Sqe). got_in (view_of s) r ++ xs) none
       ∙ append-nil (got_in (view_of s) r) ∙ sym (fetched_all s kept r)) in
       ap (λ (b : Bool). b || nat_le (window_at (rules_of s) r) (length (waiting (past_of s) r)))
       (le-leb (length (scripts r)) (length (fetched (past_of s) r)) (omega (arith, whole))))
-      (queue_filled s h q queue is scanned)
+      (scanned queue is)

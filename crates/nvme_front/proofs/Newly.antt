@@ -1,75 +1,18 @@
--- A new front is fresh.
-use Rattle.std.proofs.Common.{◌≡◌, ℕ, zero, suc, ◌==◌, ◌&&◌, Bool, true, false, if◌then◌else◌, List, [], ◌++◌, length, replicate, Option, Some, None, refl, sym, ap, ◌∙◌, subst, arith}
-use Rattle.std.proofs.lemmas.List.{length-replicate}
-use Rattle.nvme_arbiter.specs.Limits.{queue_limit}
-use Rattle.nvme_arbiter.specs.Queues.{queue_at}
-use Rattle.nvme_arbiter.specs.Board.{BoardStandsAt}
-use Rattle.nvme_arbiter.specs.declared.pick.OpenQueue.{OpenQueue}
-use Rattle.nvme_arbiter.specs.declared.settings.Class.TheVariants.{Admin}
-use Rattle.nvme_admin.specs.History.{TableHistory}
-use Rattle.nvme_admin.specs.QueueTable.{QueueTable}
-use Rattle.nvme_admin.specs.Accepted.{queue_table}
-use Rattle.nvme_admin.specs.Standing.{StandsAt}
-use Rattle.nvme_admin.specs.declared.region.Region.{Region}
-use Rattle.nvme_state.specs.declared.region.SqRegion.{SqRegion}
-use Rattle.nvme_state.specs.declared.region.CqRegion.{CqRegion}
-use Rattle.nvme_front.specs.declared.state.FrontState.{FrontState}
-use Rattle.nvme_log.specs.Rules.{FrontRules, sq_regions_of, cq_regions_of, slots_at}
+-- A new front is consistent, and stays so with more room.
+use Rattle.std.proofs.Common.{◌≡◌, ◌⊎◌, ℕ, ◌<◌, false, List, [], ◌∷◌, length, refl, sym, ap, ◌∙◌, arith, inl, inr}
+use Rattle.std.proofs.lemmas.List.Elements.{All-nil}
+use Rattle.nvme_entry.specs.declared.completion.Cqe.{Cqe}
+use Rattle.nvme_lane.specs.View.{PutView}
+use Rattle.nvme_log.specs.Limits.{max_outstanding}
 use Rattle.nvme_pool.specs.Seat.{SeatView}
-use Rattle.nvme_state.specs.inside.Jobs.{JobsView}
-use Rattle.nvme_state.specs.inside.Content.{SqContent, CqContent, no_sq, no_cq, Content}
-use Rattle.nvme_state.specs.Regions.{sq_steps, cq_steps}
-use Rattle.nvme_front.specs.inside.State.{sq_in, cq_in, gets_of, puts_of, content_of, rules_of}
-use Rattle.nvme_state.specs.inside.Standing.{IsFresh, IsFreshCq, AreFreshJobs, first_on_board}
-use Rattle.nvme_state.proofs.RegionSteps.{first_table, table_of-additions}
-
--- no queue is on a board of empty places
-none_at : (n q : ℕ) → queue_at (replicate n None) q ≡ None
-none_at zero q = refl
-none_at (suc n) zero = refl
-none_at (suc n) (suc q) = none_at n q
-
--- nor the admin queue before its region is there
-none_first : (b : Bool) (x : OpenQueue) → None ≡ (if b && false then Some x else None)
-none_first true x = refl
-none_first false x = refl
-
-module _ (rules : FrontRules) (late : Bool) (k : Content) (none : rules.regions ≡ []) where
-  -- the queue table of no region
-  no_regions : queue_table rules.start rules.regions ≡ first_table rules.start [] []
-  no_regions = ap (λ (h : TableHistory). queue_table rules.start h) none ∙ table_of-additions rules.start [] refl
-
-  -- with no region, an empty board and an empty table, and nothing else, a front is fresh
-  pub fresh_at_first : k.nsq ≡ 0 → k.ncq ≡ 0 → ((r : ℕ) → k.sq r ≡ no_sq) → ((c : ℕ) → k.cq c ≡ no_cq)
-      → k.board.queues ≡ replicate queue_limit None → BoardStandsAt rules.mechanism rules.start.settings [] k.board
-      → StandsAt rules.start k.table [] → k.outstanding ≡ 0 → k.deletion ≡ None → AreFreshJobs k.jobs → late ≡ false
-      → IsFresh rules late k
-  fresh_at_first nsq ncq sq cq closed board table outstanding deletion jobs early =
-      let stands : StandsAt rules.start k.table rules.regions = subst (λ (h : TableHistory). StandsAt rules.start k.table h) (sym none) table in
-      let sqs : sq_regions_of rules ≡ [] = ap (λ (t : QueueTable). t.sq_regions) no_regions in
-      let cqs : cq_regions_of rules ≡ [] = ap (λ (t : QueueTable). t.cq_regions) no_regions in
-      record {
-        sqs = λ r lt. absurd (omega arith);
-        no_sqs = λ r le. sq r;
-        cqs = λ c. subst IsFreshCq (sym (cq c)) (record { sent = refl; posted = refl; ready = refl });
-        board = λ q. ap (λ (queues : List (Option OpenQueue)). queue_at queues q) closed ∙ none_at queue_limit q
-            ∙ none_first (q == 0) (record { class = Admin; count = 0 }) ∙ ap (λ (n : ℕ). first_on_board n q) (sym nsq);
-        board_size = ap (λ (queues : List (Option OpenQueue)). length queues) closed ∙ length-replicate {A = Option OpenQueue} queue_limit None;
-        stands = board;
-        none_outstanding = outstanding;
-        no_deletion = deletion;
-        jobs = jobs;
-        not_late = early;
-        table = stands;
-        sq_count = ap (λ (rs : List Region). length rs) (stands.sq_regions ∙ sqs) ∙ sym nsq;
-        cq_count = ap (λ (rs : List Region). length rs) (stands.cq_regions ∙ cqs) ∙ sym ncq;
-        sq_number = ap (λ (rs : List Region). length rs) sqs ∙ sym nsq;
-        cq_number = ap (λ (rs : List Region). length rs) cqs ∙ sym ncq;
-        few_sqs = rw nsq (omega arith);
-        few_cqs = rw ncq (omega arith);
-        sq_slots = λ r. ap (λ (rs : List Region). slots_at rs r) sqs ∙ ap (λ (s : SqContent). s.slots) (sym (sq r));
-        cq_slots = λ c. ap (λ (rs : List Region). slots_at rs c) cqs ∙ ap (λ (s : CqContent). s.slots) (sym (cq c));
-      }
+use Rattle.nvme_engine.specs.Standing.{HasPool}
+use Rattle.nvme_jobs.specs.inside.Jobs.{JobsView}
+use Rattle.nvme_jobs.specs.inside.Standing.{AreFreshJobs}
+use Rattle.nvme_front.specs.declared.state.FrontState.{FrontState}
+use Rattle.nvme_front.specs.inside.Goes.{IsSame}
+use Rattle.nvme_front.specs.inside.Room.{IsConsistent, IsFreshSq}
+use Rattle.nvme_front.proofs.EngineRegions.{has_pool}
+use Rattle.nvme_front.proofs.States.{kept_same}
 
 -- jobs that were just made, by a seat, are fresh
 pub are_fresh_jobs : (j : JobsView) (seat : SeatView) → j ≡ record { hands = record { came = seat; seat = seat; unhanded = []; running = [] }; tickets = 0; room = 0 } → AreFreshJobs j
@@ -80,14 +23,102 @@ are_fresh_jobs j seat is = record {
   none_handed = ap (λ (x : JobsView). x.hands.seat.handed) is ∙ sym (ap (λ (x : JobsView). x.hands.came.handed) is);
 }
 
--- the same of a state
-pub fresh_at_new : (s : FrontState) → s.sqs.items ≡ [] → s.cqs.items ≡ [] → s.board.queues ≡ replicate queue_limit None
-    → BoardStandsAt s.config.mechanism s.config.settings [] s.board
-    → StandsAt (record { nsq = s.config.limits.nsq; ncq = s.config.limits.ncq; settings = s.config.settings }) s.table []
-    → s.outstanding ≡ 0 → s.deletion ≡ None → AreFreshJobs s.jobs → s.late ≡ false → IsFresh (rules_of s) s.late (content_of s)
-fresh_at_new s sqs cqs closed board table outstanding deletion jobs early =
-    fresh_at_first (rules_of s) s.late (content_of s)
-    (λ i. cq_steps (puts_of (cqs i)) ++ sq_steps (gets_of (sqs i)))
-    (ap (λ (xs : List SqRegion). length xs) sqs) (ap (λ (xs : List CqRegion). length xs) cqs)
-    (λ r. ap (λ (xs : List SqRegion). sq_in xs r) sqs) (λ c. ap (λ (xs : List CqRegion). cq_in xs c) cqs)
-    closed board table outstanding deletion jobs early
+-- no list of regions, where one is to be there
+none_there : {X : Type 0} (xs : List X) → xs ≡ [] → 0 < length xs → ⊥
+none_there xs none some = let zero_of : length xs ≡ 0 = ap (λ ys. length ys) none in omega (arith, some, zero_of)
+
+-- a front with no region and no event
+pub consistent_new : (s : FrontState) → s.sqs.items ≡ [] → s.cqs.items ≡ [] → s.log.items ≡ [] → AreFreshJobs s.jobs → s.late ≡ false → s.engine.slots.items ≡ []
+    → IsConsistent s
+consistent_new s sqs cqs log jobs early slots = record {
+  fresh = λ no_admin. record {
+    log = log;
+    in_time = early;
+    sqs = rw sqs (All-nil IsFreshSq);
+    cqs = rw cqs (All-nil (λ (p : PutView Cqe). p.sent ≡ []));
+    jobs = jobs;
+    pool = λ some. absurd (none_there s.sqs.items sqs some);
+    few_slots = rw slots (omega arith);
+  };
+  running = λ admin. absurd (none_there s.sqs.items sqs admin.0);
+  roomy = record {
+    jobs = λ some. absurd (none_there s.sqs.items sqs some);
+    few_events = rw log (omega arith);
+    in_time = λ none. early;
+    few_sqs = rw sqs (omega arith);
+    few_cqs = rw cqs (omega arith);
+    apart = rw (sqs, cqs) tt;
+  };
+}
+
+-- ---- room
+some_or_none : {X : Type 0} (xs : List X) → (xs ≡ []) ⊎ (0 < length xs)
+some_or_none [] = inl refl
+some_or_none (x ∷ xs) = inr (omega arith)
+
+-- there is room for jobs, or none waits to be handed over
+pub room_or_none : (s : FrontState) → IsConsistent s → (s.jobs.room ≡ max_outstanding) ⊎ (s.jobs.hands.unhanded ≡ [])
+room_or_none s k = elim (some_or_none s.sqs.items) [
+  | inl none ↦ inr (k.fresh (λ admin. none_there s.sqs.items none admin.0)).jobs.none_unhanded
+  | inr some ↦ inl (k.roomy.jobs some)
+]
+
+-- an engine has its slots once there is a submission region
+has_slots : (s : FrontState) → IsConsistent s → 0 < length s.sqs.items → HasPool s.engine
+has_slots s k some = elim (some_or_none s.cqs.items) [
+  | inl none ↦ (k.fresh (λ admin. none_there s.cqs.items none admin.1)).pool some
+  | inr others ↦ let r = k.running (some, others) in has_pool _ s.late r.notes s.engine r.stands
+]
+
+-- what was kept with room made for the jobs, for the engine, or neither
+module _ (s t : FrontState) (k : IsConsistent s) (config : t.config ≡ s.config) (alloc : t.alloc ≡ s.alloc) (sqs : t.sqs.items ≡ s.sqs.items) (cqs : t.cqs.items ≡ s.cqs.items)
+    (late : t.late ≡ s.late) (log : t.log.items ≡ s.log.items) (jobs : t.jobs ≡ record s.jobs { room = t.jobs.room })
+    (room : s.jobs.room ≡ max_outstanding → t.jobs.room ≡ max_outstanding) (engine : HasPool s.engine → t.engine ≡ s.engine)
+    (few : length s.engine.slots.items < 65536 → length t.engine.slots.items < 65536) where
+  room-same : 0 < length s.sqs.items → IsSame s t
+  room-same some = record {
+    log = log;
+    sqs = sqs;
+    cqs = cqs;
+    engine = engine (has_slots s k some);
+    jobs = (let full = k.roomy.jobs some in jobs ∙ ap (λ (n : ℕ). record s.jobs { room = n }) (room full ∙ sym full));
+    late = late;
+    config = config;
+    alloc = alloc;
+  }
+
+  -- with no submission region there are only completion regions, with nothing sent
+  room-fresh : s.sqs.items ≡ [] → IsConsistent t
+  room-fresh none =
+      let f = k.fresh (λ admin. none_there s.sqs.items none admin.0) in
+      record {
+        fresh = λ no_admin. record {
+          log = log ∙ f.log;
+          in_time = late ∙ f.in_time;
+          sqs = rw sqs f.sqs;
+          cqs = rw cqs f.cqs;
+          jobs = record {
+            tickets = ap (λ (j : JobsView). j.tickets) jobs ∙ f.jobs.tickets;
+            none_unhanded = ap (λ (j : JobsView). j.hands.unhanded) jobs ∙ f.jobs.none_unhanded;
+            none_running = ap (λ (j : JobsView). j.hands.running) jobs ∙ f.jobs.none_running;
+            none_handed = ap (λ (j : JobsView). j.hands.seat.handed) jobs ∙ f.jobs.none_handed ∙ sym (ap (λ (j : JobsView). j.hands.came.handed) jobs);
+          };
+          pool = λ some. absurd (none_there t.sqs.items (sqs ∙ none) some);
+          few_slots = few f.few_slots;
+        };
+        running = λ admin. absurd (none_there t.sqs.items (sqs ∙ none) admin.0);
+        roomy = record {
+          jobs = λ some. absurd (none_there t.sqs.items (sqs ∙ none) some);
+          few_events = rw (log, config) k.roomy.few_events;
+          in_time = λ empty. late ∙ k.roomy.in_time (sym log ∙ empty);
+          few_sqs = rw sqs k.roomy.few_sqs;
+          few_cqs = rw cqs k.roomy.few_cqs;
+          apart = rw (sqs, cqs) k.roomy.apart;
+        };
+      }
+
+  pub consistent_with_room : IsConsistent t
+  consistent_with_room = elim (some_or_none s.sqs.items) [
+    | inl none ↦ room-fresh none
+    | inr some ↦ kept_same s t (room-same some) k
+  ]

@@ -1,201 +1,236 @@
--- A front after an admin pick whose command was applied to the table.
-use Rattle.std.specs.Prelude.{slice_get, option_map, vec_capacity, ◌==◌, ◌&&◌, if◌then◌else◌}
-use Rattle.std.proofs.Common.{◌≡◌, ℕ, ◌+◌, ◌≤◌, Bool, true, false, List, [], ◌∷◌, ◌++◌, map, length, set, get_or, Option, Some, None, refl, sym, ap, subst, ◌∙◌, arith}
-use Rattle.std.proofs.lemmas.List.{length-set, length_push}
-use Rattle.nvme_entry.specs.declared.submission.Sqe.{Sqe}
-use Rattle.nvme_arbiter.specs.Settings.{ArbitrationFields}
-use Rattle.nvme_arbiter.specs.Board.{BoardStandsAt, queues_after}
-use Rattle.nvme_arbiter.specs.History.{History, Picked}
-use Rattle.nvme_arbiter.specs.Lawful.{lawful_pick}
-use Rattle.nvme_arbiter.specs.Queues.{seen_of}
+-- A front after a pick of the admin queue, whose command was carried out.
+use Rattle.std.proofs.Common.{◌≡◌, ℕ, ◌+◌, ◌<◌, ◌≤◌, Bool, List, [], ◌∷◌, ◌++◌, map, length, take, get_or, Option, Some, None, refl, sym, ap, subst, ◌∙◌, arith, append_assoc}
+use Rattle.std.specs.Prelude.{reverse, if◌then◌else◌, ◌==◌, ◌&&◌}
+use Rattle.std.proofs.Math.Nat.{min-le_left}
+use Rattle.std.proofs.lemmas.List.{length-append, length-map, length-take}
+use Rattle.nvme_arbiter.specs.Limits.{highest_count}
 use Rattle.nvme_arbiter.specs.declared.pick.Pick.{Pick}
 use Rattle.nvme_arbiter.specs.declared.pick.Seen.{Seen}
-use Rattle.nvme_arbiter.specs.declared.settings.Mechanism.{Mechanism}
-use Rattle.nvme_admin.specs.History.{Start, TableHistory, EntryApplied}
-use Rattle.nvme_admin.specs.Accepted.{verdict_of}
-use Rattle.nvme_admin.specs.Standing.{StandsAt, IsSized}
-use Rattle.nvme_admin.specs.declared.effect.Effect.{Effect}
-use Rattle.nvme_admin.specs.Effects.{verdict_in, NamesRegions}
-use Rattle.nvme_pool.specs.Seat.{SameSeat}
+use Rattle.nvme_admin.specs.declared.verdict.Verdict.{Verdict}
+use Rattle.nvme_admin.specs.declared.verdict.Verdict.TheVariants as verdict
+use Rattle.nvme_entry.specs.declared.completion.Cqe.{Cqe}
+use Rattle.nvme_lane.specs.View.{PutView}
+use Rattle.nvme_log.specs.declared.event.Event.{Event}
 use Rattle.nvme_log.specs.declared.event.Event.TheVariants as event
-use Rattle.nvme_state.specs.declared.candidate.Candidate.{Candidate}
-use Rattle.nvme_state.specs.declared.region.SqRegion.{SqRegion}
-use Rattle.nvme_state.specs.declared.region.CqRegion.{CqRegion}
+use Rattle.nvme_log.specs.Limits.{admin_events}
+use Rattle.nvme_log.specs.Rules.{FrontRules, Past}
+use Rattle.nvme_log.specs.Queues.{Queue, open_sq, open_cq, pending}
+use Rattle.nvme_log.specs.Places.{fetched, waiting, observation_of}
+use Rattle.nvme_log.specs.Answers.{Answer}
+use Rattle.nvme_log.specs.Completions.{posted_to}
+use Rattle.nvme_log.specs.Effects.{made_by, closing_of, closed_cq_of, abort_in, target_of, named}
+use Rattle.nvme_log.specs.Histories.{picks_in}
+use Rattle.nvme_log.proofs.PickCounts.{picks_in-append}
+use Rattle.nvme_log.proofs.Tables.{with_events}
+use Rattle.nvme_ctrl.specs.Notes.{Notes, Logged, Answered, logged}
+use Rattle.nvme_ctrl.specs.Steps.{with_logged, with_answer}
+use Rattle.nvme_ctrl.specs.Tags.{holder, answer_of, is_unanswered}
+use Rattle.nvme_ctrl.proofs.EffectEvents.{AreEffects, made_are_effects}
+use Rattle.nvme_engine.specs.Calls.{MayPick, HasCarriedOut, seen_notes}
+use Rattle.nvme_engine.specs.Standing.{StandsAt}
+use Rattle.nvme_jobs.specs.inside.Jobs.{JobsView}
+use Rattle.nvme_jobs.specs.inside.Standing.{HoldsJobs}
+use Rattle.nvme_jobs.proofs.Leaving.{jobs-made}
+use Rattle.nvme_front.specs.declared.region.SqRegion.{SqRegion}
 use Rattle.nvme_front.specs.declared.state.FrontState.{FrontState}
-use Rattle.nvme_log.specs.Limits.{max_outstanding, admin_events}
-use Rattle.nvme_log.specs.Rules.{FrontRules}
-use Rattle.nvme_log.specs.Queues.{Queue, admin_queue, open_sq}
-use Rattle.nvme_log.specs.Aborts.{is_abort_entry}
-use Rattle.nvme_state.specs.inside.Jobs.{JobsView}
-use Rattle.nvme_state.specs.Hands.{gained_count}
-use Rattle.nvme_state.specs.inside.Content.{SqContent, put_sq}
-use Rattle.nvme_front.specs.inside.State.{sq_in, cq_in, content_of, rules_of, past_of, gets_of, puts_of}
-use Rattle.nvme_front.specs.inside.Goes.{coming_at, Goes, HasAdmin}
-use Rattle.nvme_front.specs.Ends.{get_place, put_place}
-use Rattle.nvme_state.specs.inside.Standing.{Stands}
-use Rattle.nvme_front.specs.inside.Room.{IsConsistent, IsRoomy, window_room, ready_room}
-use Rattle.nvme_front.specs.inside.Applied.{IsApplied}
-use Rattle.nvme_front.specs.inside.Turn.{oldest_admin, places_in}
-use Rattle.nvme_state.specs.inside.Steps.{CanPick, picked_sq}
-use Rattle.nvme_state.proofs.AccountSteps.{admin_is_open}
-use Rattle.nvme_state.proofs.Observing.{seen_is_observed}
-use Rattle.nvme_state.proofs.TableSteps.{entry-sq_regions, entry-cq_regions}
-use Rattle.nvme_front.proofs.Comes.{comes-same, coming-set}
-use Rattle.nvme_front.proofs.States.{sq_in-set, sq_in-read, places-set, windows-set, SameSeat-refl, roomy-goes, rules-goes, admin-goes}
-use Rattle.nvme_front.proofs.Picks.{due}
-use Rattle.nvme_front.proofs.PickedQueue.{picked_region, can_pick, past-picked}
+use Rattle.nvme_front.specs.inside.State.{gets_of, rules_of, past_of, view_of}
+use Rattle.nvme_front.specs.inside.Room.{IsConsistent, IsRunning, IsCounted, HoldsTags}
+use Rattle.nvme_front.specs.inside.Goes.{Goes, HasAdmin}
+use Rattle.nvme_front.specs.inside.Turn.{IsPickOf}
+use Rattle.nvme_front.specs.View.{HasPlaces, next_lawful, got_in}
+use Rattle.nvme_front.proofs.States.{Goes-log, rules-goes, kept_after}
+use Rattle.nvme_front.proofs.Loading.{past-later}
+use Rattle.nvme_front.proofs.SameTags.{SameTags, same_out, same_unanswered}
+use Rattle.nvme_front.proofs.TagSteps.{KeepsOuts, tags_kept, outs_answered}
+use Rattle.nvme_front.proofs.RunningFacts.{admin_there, few_waiting}
+use Rattle.nvme_front.proofs.PickedQueue.{may_pick}
 
--- a list with an item has a first
-pub some_first : {X : Type 0} (xs : List X) → 1 ≤ length xs → slice_get xs 0 ≡ None → ⊥
-some_first [] some none = absurd (omega arith)
-some_first (x ∷ xs) some none = absurd (cc none)
+-- ---- what an admin command makes
+-- it fetches and posts nothing
+made-fetched : (es : List Event) (past : Past) (r : ℕ) → AreEffects es → fetched (with_events es past) r ≡ fetched past r
+made-fetched [] past r are = refl
+made-fetched (event.Fetch region index entry ∷ es) past r are = absurd (cc are.0)
+made-fetched (e ∷ es) past r are = made-fetched es (e ∷ past) r are.1
 
--- ---- the pick of the admin queue
-module _ (s : FrontState) (kept : IsConsistent s) (rules : FrontRules) {late : Bool} (st : Stands rules late (past_of s) (content_of s)) (admin : HasAdmin s) (none : s.deletion ≡ None) (pick : Pick)
-    (lawful : (m : Mechanism) (first : ArbitrationFields) (h : History) → BoardStandsAt m first h s.board → Some pick ≡ lawful_pick m first h (seen_of s.board.queues))
-    (zero_is : pick.qid ≡ 0) where
-  -- its queue is the admin queue
-  pub due-admin : (due s kept rules st none pick lawful).queue ≡ admin_queue
-  due-admin =
-      let is = due s kept rules st none pick lawful in
-      let here = sym is.is_open ∙ ap (open_sq (past_of s)) zero_is ∙ admin_is_open rules late (past_of s) (content_of s) st admin.0 in
-      cc here
+made-posted : (es : List Event) (past : Past) (c : ℕ) → AreEffects es → posted_to (with_events es past) c ≡ posted_to past c
+made-posted [] past c are = refl
+made-posted (event.Post cq region index cqe ∷ es) past c are = absurd (cc are.0)
+made-posted (e ∷ es) past c are = made-posted es (e ∷ past) c are.1
 
-  -- it has a candidate
-  pub due-candidate : (d : SqRegion) → d ≡ get_or s.sqs.items 0 d → 1 ≤ length d.window.items
-  due-candidate d read =
-      let is = due s kept rules st none pick lawful in
-      let enough = subst (λ (q : Queue). pick.n ≤ length (sq_in s.sqs.items q.region).window) due-admin is.enough in
-      let one = is.at_least_one in
-      let same = ap (λ (x : SqContent). length x.window) (sq_in-read s.sqs.items 0 d admin.0 read) in
-      omega (arith, enough, one, same)
+-- nor does it pick
+made-picks : (es : List Event) → AreEffects es → picks_in es ≡ 0
+made-picks [] are = refl
+made-picks (event.Pick seen pick ∷ es) are = absurd (cc are.0)
+made-picks (e ∷ es) are = made-picks es are.1
 
-  -- its place is free where the places that it needs are
-  pub due-places : s.outstanding + places_in s.sqs.items pick ≤ max_outstanding → s.outstanding + pick.n ≤ max_outstanding
-  due-places places =
-      let one = (due s kept rules st none pick lawful).one_of_admin zero_is in
-      by (pick.qid == 0 && is_abort_entry (oldest_admin s.sqs.items)) one places where
-        by : (b : Bool) → pick.n ≡ 1 → s.outstanding + (if b then 2 else pick.n) ≤ max_outstanding → s.outstanding + pick.n ≤ max_outstanding
-        by true one places = omega arith
-        by false one places = places
+-- the commands that are aborted with a queue are no more than wait in it
+few-closing : (past : Past) (qid : ℕ) (o : Option Queue) → ((r : ℕ) → length (waiting past r) ≤ highest_count) → length (closing_of past qid o) ≤ highest_count + 1
+few-closing past qid None few = omega arith
+few-closing past qid (Some queue) few =
+    omega (arith, few queue.region, length-map (waiting past queue.region) (λ (i : ℕ). event.Abort queue.region i))
 
-  -- and an Abort command has a second one
-  pub due-second : (d : SqRegion) → d ≡ get_or s.sqs.items 0 d → (candidate : Candidate) (rest : List Candidate) → d.window.items ≡ candidate ∷ rest
-      → s.outstanding + places_in s.sqs.items pick ≤ max_outstanding → is_abort_entry (Some candidate.entry) ≡ true → s.outstanding + 2 ≤ max_outstanding
-  due-second d read candidate rest oldest places aborts =
-      let window : (sq_in s.sqs.items 0).window ≡ candidate ∷ rest = ap (λ (x : SqContent). x.window) (sq_in-read s.sqs.items 0 d admin.0 read) ∙ oldest in
-      let first : oldest_admin s.sqs.items ≡ Some candidate.entry = ap (λ (w : List Candidate). option_map (λ (c : Candidate). c.entry) (slice_get w 0)) window in
-      let two : places_in s.sqs.items pick ≡ 2 =
-      ap (λ (n : ℕ). if n == 0 && is_abort_entry (oldest_admin s.sqs.items) then 2 else pick.n) zero_is
-      ∙ ap (λ (o : Option Sqe). if is_abort_entry o then 2 else pick.n) first
-      ∙ ap (λ (x : Bool). if x then 2 else pick.n) aborts in
-      subst (λ (n : ℕ). s.outstanding + n ≤ max_outstanding) two places
+few-closed : (qid : ℕ) (o : Option ℕ) → length (closed_cq_of qid o) ≤ 1
+few-closed qid None = omega arith
+few-closed qid (Some region) = omega arith
 
-module _ (s b : FrontState) (kept : IsConsistent s) (admin : HasAdmin s) (none : s.deletion ≡ None) (pick : Pick)
-    (lawful : (m : Mechanism) (first : ArbitrationFields) (h : History) → BoardStandsAt m first h s.board → Some pick ≡ lawful_pick m first h (seen_of s.board.queues))
-    (board_stands : (m : Mechanism) (first : ArbitrationFields) (h : History) → BoardStandsAt m first h s.board → BoardStandsAt m first (Picked (seen_of s.board.queues) pick ∷ h) b.board)
-    (board_queues : b.board.queues ≡ queues_after s.board.queues pick)
-    (places : s.outstanding + places_in s.sqs.items pick ≤ max_outstanding)
-    (zero_is : pick.qid ≡ 0)
-    (seen : List Seen) (seen_is : seen ≡ seen_of s.board.queues)
-    (d : SqRegion) (read : d ≡ get_or s.sqs.items 0 d)
-    (candidate : Candidate) (rest : List Candidate) (oldest : d.window.items ≡ candidate ∷ rest)
-    (config : b.config ≡ s.config) (alloc : b.alloc ≡ s.alloc) (same_late : b.late ≡ s.late) (deletion : b.deletion ≡ s.deletion)
-    (outstanding : b.outstanding ≡ s.outstanding + 1)
-    (sqs : b.sqs.items ≡ set s.sqs.items 0 (picked_region d 1))
-    (cqs : b.cqs.items ≡ s.cqs.items) (jobs : b.jobs ≡ s.jobs)
-    (log : b.log.items ≡ s.log.items ++ event.Pick seen pick ∷ [])
-    (within : length s.log.items + admin_events ≤ s.config.max_events)
-    (room : length s.log.items + admin_events ≤ vec_capacity b.log) where
-  -- the same front later on
-  pub admin_pick-goes : Goes s b
-  admin_pick-goes = record {
-    grew = (event.Pick seen pick ∷ [], sym log);
-    config = config;
-    alloc = alloc;
-    late = same_late;
-    gets = ap (λ (x : List SqRegion). map get_place (gets_of x)) sqs ∙ places-set s.sqs.items 0 d (picked_region d 1) read refl;
-    puts = ap (λ (x : List CqRegion). map put_place (puts_of x)) cqs;
-    comes = comes-same s.sqs.items b.sqs.items (ap (map coming_at) sqs ∙ coming-set s.sqs.items 0 d (picked_region d 1) read refl);
-    windows = ap (map window_room) sqs ∙ windows-set s.sqs.items 0 d (picked_region d 1) read refl;
-    readies = ap (map ready_room) cqs;
-    came = ap (λ (j : JobsView). j.hands.came) jobs;
-    seat = subst (λ (j : JobsView). SameSeat s.jobs.hands.seat j.hands.seat) (sym jobs) (SameSeat-refl s.jobs.hands.seat);
-    handed = omega (arith, ap (λ (j : JobsView). length j.hands.seat.handed) jobs);
-    gained = omega (arith, ap (λ (j : JobsView). gained_count j.hands) jobs);
-    room = ap (λ (j : JobsView). j.room) jobs;
+few-aborted : (past : Past) (cid : ℕ) (o : Option Queue) → length (abort_in past cid o) ≤ 1
+few-aborted past cid None = omega arith
+few-aborted past cid (Some queue) =
+    omega (
+      arith,
+      length-map (take 1 (named past queue.region cid)) (λ (i : ℕ). event.Abort queue.region i),
+      length-take 1 (named past queue.region cid),
+      min-le_left 1 (length (named past queue.region cid)),
+    )
+
+-- it makes few events
+few-made : (past : Past) (v : Verdict) → ((r : ℕ) → length (waiting past r) ≤ highest_count) → length (made_by past v) ≤ highest_count + 1
+few-made past (verdict.Done status dw0) few = omega arith
+few-made past (verdict.OpenSq qid region cqid class) few = omega arith
+few-made past (verdict.OpenCq qid region) few = omega arith
+few-made past (verdict.BeginDelete qid) few = few-closing past qid (open_sq past qid) few
+few-made past (verdict.CloseCq qid) few = let one = few-closed qid (open_cq past qid) in omega (arith, one)
+few-made past (verdict.Abort sqid cid) few = let one = few-aborted past cid (target_of past sqid) in omega (arith, one)
+few-made past (verdict.SetArbitration settings) few = omega arith
+
+-- ---- notes
+-- the log of notes with what was made in front
+logged-made : (es : List Event) (notes : Notes) → logged (with_logged es notes) ≡ with_events es (logged notes)
+logged-made [] notes = refl
+logged-made (e ∷ es) notes = logged-made es (Logged e ∷ notes)
+
+-- an answer is no event
+logged-answer : (index : ℕ) (o : Option Answer) (notes : Notes) → logged (with_answer index o notes) ≡ logged notes
+logged-answer index None notes = refl
+logged-answer index (Some answer) notes = refl
+
+-- the same tags stand for the same places, and nothing is answered
+made-tags : (es : List Event) (notes : Notes) → AreEffects es → SameTags notes (with_logged es notes)
+made-tags [] notes are = record { holders = λ t. refl; answers = λ r i. refl }
+made-tags (event.Post cq region index cqe ∷ es) notes are = absurd (cc are.0)
+made-tags (e ∷ es) notes are =
+    let rest = made-tags es (Logged e ∷ notes) are.1 in
+    record { holders = rest.holders; answers = rest.answers }
+
+-- the answer of an admin command leaves the tags that are out
+module _ (s : FrontState) (k : IsRunning s) (made : Notes) (same : SameTags k.notes made) (index : ℕ) where
+  admin-outs : (o : Option Answer) → KeepsOuts k.notes (with_answer index o made)
+  admin-outs None = record { outs = same_out k.notes made same; held = λ t out. same.holders t }
+  admin-outs (Some answer) =
+      let here = outs_answered (rules_of s) s.late k.notes s.engine k.stands index answer in
+      record {
+        outs = λ t.
+            same_unanswered (Answered 0 index answer ∷ k.notes) (Answered 0 index answer ∷ made) (λ r i. answers r i) (holder made t)
+            ∙ ap (is_unanswered (Answered 0 index answer ∷ k.notes)) (same.holders t)
+            ∙ here.outs t;
+        held = λ t out. same.holders t;
+      } where
+        answers : (r i : ℕ) → answer_of (Answered 0 index answer ∷ made) r i ≡ answer_of (Answered 0 index answer ∷ k.notes) r i
+        answers r i = ap (λ (o : Option Answer). if 0 == r && index == i then Some answer else o) (same.answers r i)
+
+-- ---- the pick
+-- a pick of the admin queue was logged, and its command carried out. All else is as it was
+pub record PickedAdmin (s b : FrontState) (pick : Pick) (seen : List Seen) : Type 0 where
+  pub carried : (rules : FrontRules) (late : Bool) (notes : Notes) → StandsAt rules late notes s.engine → MayPick rules notes pick → pick.qid ≡ 0
+      → HasCarriedOut rules late notes pick (s.log.items ++ event.Pick seen pick ∷ []) b.log.items b.engine
+  pub seen_is : seen ≡ observation_of (past_of s)
+  pub within : length s.log.items + admin_events ≤ s.config.max_events
+  pub sqs : b.sqs.items ≡ s.sqs.items
+  pub cqs : b.cqs.items ≡ s.cqs.items
+  pub jobs : b.jobs ≡ s.jobs
+  pub late : b.late ≡ s.late
+  pub config : b.config ≡ s.config
+  pub alloc : b.alloc ≡ s.alloc
+
+module _ (s b : FrontState) (pick : Pick) (seen : List Seen) (p : PickedAdmin s b pick seen) (kept : IsConsistent s) (admin : HasAdmin s)
+    (next : next_lawful (view_of s) ≡ Some pick) (none : pending (past_of s) ≡ None) (of_admin : pick.qid ≡ 0) (places : HasPlaces (rules_of s) (past_of s) pick) where
+  k : IsRunning s
+  k = kept.running admin
+
+  did : HasCarriedOut (rules_of s) s.late k.notes pick (s.log.items ++ event.Pick seen pick ∷ []) b.log.items b.engine
+  did = p.carried (rules_of s) s.late k.notes k.stands (may_pick s k pick next none places) of_admin
+
+  -- what it made
+  made : List Event
+  made = made_by (past_of s) did.verdict
+
+  are : AreEffects made
+  unfolding made
+  are = made_are_effects (past_of s) did.verdict
+
+  log : b.log.items ≡ s.log.items ++ event.Pick seen pick ∷ made
+  unfolding made
+  log = did.log_is ∙ ap (λ (x : Past). (s.log.items ++ event.Pick seen pick ∷ []) ++ made_by x did.verdict) k.past_is ∙ append_assoc s.log.items (event.Pick seen pick ∷ []) made
+
+  past : past_of b ≡ with_events made (event.Pick seen pick ∷ past_of s)
+  past = ap (λ (xs : List Event). reverse xs) log ∙ past-later (event.Pick seen pick ∷ made) s.log.items
+
+  pub admin-goes_on : Goes s b
+  admin-goes_on = Goes-log s b (event.Pick seen pick ∷ made) log p.config p.alloc p.late p.sqs p.cqs p.jobs
+
+  abbrev later : Notes
+  later = with_answer did.index did.answer (with_logged (made_by (logged k.notes) did.verdict) (seen_notes k.notes pick))
+
+  past_is : logged later ≡ past_of b
+  unfolding made
+  past_is =
+      logged-answer did.index did.answer (with_logged (made_by (logged k.notes) did.verdict) (seen_notes k.notes pick))
+      ∙ logged-made (made_by (logged k.notes) did.verdict) (seen_notes k.notes pick)
+      ∙ ap (λ (x : Past). with_events (made_by x did.verdict) (event.Pick (observation_of x) pick ∷ x)) k.past_is
+      ∙ ap (λ (xs : List Seen). with_events (made_by (past_of s) did.verdict) (event.Pick xs pick ∷ past_of s)) (sym p.seen_is)
+      ∙ sym past
+
+  tags : HoldsTags later s.jobs
+  tags =
+      tags_kept k.notes later s.jobs s.jobs
+      (admin-outs s k (with_logged (made_by (logged k.notes) did.verdict) (seen_notes k.notes pick))
+      (let same = made-tags (made_by (logged k.notes) did.verdict) (seen_notes k.notes pick) (made_are_effects (logged k.notes) did.verdict) in
+      record { holders = same.holders; answers = same.answers }) did.index did.answer)
+      refl k.tags
+
+  -- the front runs at its log
+  running : IsRunning b
+  unfolding made
+  running = record {
+    notes = later;
+    stands = subst (λ (x : Bool). StandsAt (rules_of b) x later b.engine) (sym p.late)
+        (subst (λ (x : FrontRules). StandsAt x s.late later b.engine) (sym (rules-goes s b admin-goes_on)) did.stands);
+    past_is = past_is;
+    got = λ x. ap (λ (z : Past). fetched z x) past ∙ made-fetched made (event.Pick seen pick ∷ past_of s) x are ∙ k.got x
+        ∙ ap (λ (sqs : List SqRegion). got_in (record (view_of s) { gets = gets_of sqs }) x) (sym p.sqs);
+    sent = λ c. ap (λ (z : Past). posted_to z c) past ∙ made-posted made (event.Pick seen pick ∷ past_of s) c are ∙ k.sent c
+        ∙ ap (λ (ps : List (PutView Cqe)). get_or (map (λ (y : PutView Cqe). y.sent) ps) c []) (sym p.cqs);
+    counted = subst (λ (sqs : List SqRegion). (i : ℕ) (x : SqRegion) → i < length sqs → IsCounted (get_or sqs i x)) (sym p.sqs) k.counted;
+    jobs = subst (λ (z : Past). HoldsJobs b.config.spaces z b.jobs) (sym past)
+        (subst (λ (sizes : List ℕ). HoldsJobs sizes (with_events made (event.Pick seen pick ∷ past_of s)) b.jobs) (ap (λ z. z.spaces) (sym p.config))
+        (subst (λ (j : JobsView). HoldsJobs s.config.spaces (with_events made (event.Pick seen pick ∷ past_of s)) j) (sym p.jobs)
+        (jobs-made s.config.spaces (past_of s) seen pick did.verdict s.jobs of_admin (admin_there s k admin) k.jobs)));
+    tags = subst (λ (j : JobsView). HoldsTags later j) (sym p.jobs) tags;
   }
 
-  before : Stands (rules_of b) b.late (past_of s) (content_of s)
-  before = subst (λ (r : FrontRules). Stands r b.late (past_of s) (content_of s)) (sym (rules-goes s b admin_pick-goes))
-      (subst (λ (l : Bool). Stands (rules_of s) l (past_of s) (content_of s)) (sym same_late) (kept.stands admin.0 admin.1))
+  -- so it is kept
+  pub admin-kept : IsConsistent b
+  unfolding made
+  admin-kept =
+      let few = few-made (past_of s) did.verdict (few_waiting s k) in
+      let short : length b.log.items ≤ b.config.max_events =
+      omega (arith, ap (λ (xs : List Event). length xs) log, length-append s.log.items (event.Pick seen pick ∷ made), few, ap (λ z. z.max_events) p.config, p.within) in
+      kept_after s b admin kept.roomy admin-goes_on short running
 
-  sqs_are : sq_in b.sqs.items ≡ put_sq (sq_in s.sqs.items) 0 (picked_sq (sq_in s.sqs.items 0) 1)
-  sqs_are =
-      ap sq_in sqs ∙ sq_in-set s.sqs.items 0 (picked_region d 1) admin.0
-      ∙ ap (λ (x : SqContent). put_sq (sq_in s.sqs.items) 0 (picked_sq x 1)) (sym (sq_in-read s.sqs.items 0 d admin.0 read))
+  -- a pick more was made
+  pub admin-picked : picks_in b.log.items ≡ picks_in s.log.items + 1
+  admin-picked =
+      let one : picks_in (event.Pick seen pick ∷ made) ≡ 1 = ap (λ (n : ℕ). n + 1) (made-picks made are) in
+      ap (λ (xs : List Event). picks_in xs) log ∙ picks_in-append s.log.items (event.Pick seen pick ∷ made) ∙ ap (λ (n : ℕ). picks_in s.log.items + n) one
 
-  module _ (did : Effect)
-      (verdict_is : (start : Start) (h : TableHistory) → StandsAt start s.table h → verdict_in did ≡ verdict_of start h candidate.entry)
-      (table_stands : (start : Start) (h : TableHistory) → StandsAt start s.table h → StandsAt start b.table (EntryApplied candidate.entry ∷ h))
-      (sized : IsSized b.table)
-      (names : NamesRegions s.table did) where
-    roomy : IsRoomy b
-    roomy =
-        let start = (rules_of b).start in
-        let h = before.tabled.history in
-        let stood = before.tabled.stands in
-        let stands = table_stands start h stood in
-        roomy-goes s b kept.roomy admin_pick-goes
-        (stands.sq_regions ∙ entry-sq_regions start h candidate.entry ∙ sym stood.sq_regions)
-        (stands.cq_regions ∙ entry-cq_regions start h candidate.entry ∙ sym stood.cq_regions)
-        (omega (arith, ap length log, length_push s.log.items (event.Pick seen pick), ap (λ z. z.max_events) config, within))
-
-    -- its command is applied
-    pub is_applied : IsApplied b candidate did
-    is_applied =
-        let start = (rules_of b).start in
-        let h = before.tabled.history in
-        let stood = before.tabled.stands in
-        let longer = length_push s.log.items (event.Pick seen pick) in
-        let same = ap length log in
-        let limit = ap (λ z. z.max_events) config in
-        record {
-          before = content_of s;
-          past = past_of s;
-          stands = before;
-          seen = seen;
-          pick = pick;
-          picked = b.board;
-          can_pick = subst (λ (q : Queue). CanPick (rules_of b) (past_of s) (content_of s) q pick b.board) (due-admin s kept (rules_of b) before admin none pick lawful zero_is)
-              (can_pick s kept (rules_of b) before none pick lawful b.board board_stands board_queues
-              (due-places s kept (rules_of b) before admin none pick lawful zero_is places));
-          seen_is = seen_is ∙ seen_is_observed (past_of s) (content_of s) before.regions before.queues;
-          of_admin = zero_is;
-          one = (due s kept (rules_of b) before none pick lawful).one_of_admin zero_is;
-          rest = rest;
-          can_apply = record {
-            oldest = ap (λ (x : SqContent). x.window) (sq_in-read s.sqs.items 0 d admin.0 read) ∙ oldest;
-            table_stands = table_stands start h stood;
-            sized = sized;
-            second = due-second s kept (rules_of b) before admin none pick lawful zero_is d read candidate rest oldest places;
-          };
-          verdict_is = verdict_is start h stood;
-          names = names;
-          past_is = past-picked s b (event.Pick seen pick) log;
-          content_is = λ t. record {
-            sq = sqs_are t;
-            cq = cq_in (cqs t);
-            nsq = (ap length sqs ∙ length-set s.sqs.items 0 (picked_region d 1)) t;
-            ncq = length (cqs t);
-            board = b.board;
-            table = b.table;
-            outstanding = outstanding t;
-            deletion = deletion t;
-            jobs = jobs t;
-          };
-          roomy = roomy;
-          admin = admin-goes s b admin_pick-goes admin;
-          events_in_memory = omega (arith, longer, same, room);
-          events_in_limit = omega (arith, longer, same, limit, within);
-        }
+  pub admin-picks_of : IsPickOf s b
+  admin-picks_of = record {
+    seen = seen;
+    pick = pick;
+    after = made;
+    log_is = log;
+    room = λ _. p.within;
+    places = places;
+    cqs = p.cqs;
+    posted = λ io. absurd (io of_admin);
+  }

@@ -1,169 +1,197 @@
--- A front after an I/O pick, whose jobs are then to be handed.
-use Rattle.std.specs.Prelude.{reverse}
-use Rattle.std.proofs.Common.{◌≡◌, ℕ, ◌+◌, ◌≤◌, Bool, List, [], ◌∷◌, ◌++◌, map, length, take, drop, set, get_or, Some, None, refl, sym, ap, subst, ◌∙◌, arith}
-use Rattle.std.proofs.lemmas.List.{length-set, length_push}
-use Rattle.nvme_arbiter.specs.Settings.{ArbitrationFields}
-use Rattle.nvme_arbiter.specs.Board.{BoardView, BoardStandsAt, queues_after}
-use Rattle.nvme_arbiter.specs.History.{History, Picked}
-use Rattle.nvme_arbiter.specs.Lawful.{lawful_pick}
-use Rattle.nvme_arbiter.specs.Queues.{seen_of}
+-- A front after a pick of an I/O queue, whose jobs are then to be handed.
+use Rattle.std.proofs.Common.{◌≡◌, ◌≢◌, ℕ, ◌+◌, ◌<◌, ◌≤◌, Bool, List, [], ◌∷◌, ◌++◌, map, length, take, get_or, Some, None, refl, sym, ap, subst, ◌∙◌, arith}
+use Rattle.std.specs.Prelude.{reverse, if◌then◌else◌}
+use Rattle.std.proofs.Math.Nat.{min-eq_left}
+use Rattle.std.proofs.lemmas.Bool.{ne_eqb}
+use Rattle.std.proofs.lemmas.List.{length_push, length-take}
+use Rattle.std.proofs.lemmas.Option.{same_Some}
 use Rattle.nvme_arbiter.specs.declared.pick.Pick.{Pick}
 use Rattle.nvme_arbiter.specs.declared.pick.Seen.{Seen}
-use Rattle.nvme_arbiter.specs.declared.settings.Mechanism.{Mechanism}
-use Rattle.nvme_admin.specs.Standing.{sq_of}
-use Rattle.nvme_admin.specs.declared.verdict.SqEntry.{SqEntry}
-use Rattle.nvme_pool.specs.Seat.{SameSeat}
+use Rattle.nvme_entry.specs.declared.completion.Cqe.{Cqe}
+use Rattle.nvme_lane.specs.View.{PutView}
+use Rattle.nvme_pool.specs.Seat.{SameSeat, SeatView}
 use Rattle.nvme_log.specs.declared.event.Event.{Event}
 use Rattle.nvme_log.specs.declared.event.Event.TheVariants as event
-use Rattle.nvme_state.specs.declared.region.SqRegion.{SqRegion}
-use Rattle.nvme_state.specs.declared.region.CqRegion.{CqRegion}
-use Rattle.nvme_front.specs.declared.state.FrontState.{FrontState}
+use Rattle.nvme_log.specs.declared.place.Place.{Place}
 use Rattle.nvme_log.specs.Limits.{max_outstanding}
 use Rattle.nvme_log.specs.Rules.{FrontRules, Past}
-use Rattle.nvme_log.specs.Queues.{Queue}
-use Rattle.nvme_log.specs.Histories.{arbitration_of}
-use Rattle.nvme_state.specs.inside.Jobs.{JobsView, with_picked}
-use Rattle.nvme_state.specs.Hands.{gained_count}
-use Rattle.nvme_state.specs.inside.Content.{SqContent, put_sq, Content}
-use Rattle.nvme_front.specs.inside.State.{sq_in, cq_in, content_of, rules_of, past_of, gets_of, puts_of}
+use Rattle.nvme_log.specs.Queues.{Queue, open_sq, pending}
+use Rattle.nvme_log.specs.Places.{fetched, waiting, observation_of}
+use Rattle.nvme_log.specs.Aborts.{places_for}
+use Rattle.nvme_log.specs.Completions.{outstanding, posted_to}
+use Rattle.nvme_log.specs.Dispatches.{place_at, dispatched_by}
+use Rattle.nvme_ctrl.specs.Notes.{Notes, logged}
+use Rattle.nvme_engine.specs.Calls.{MayPick, HasPicked, seen_notes}
+use Rattle.nvme_engine.specs.Standing.{StandsAt, StandsBut, IsEngine}
+use Rattle.nvme_engine.specs.declared.engine.Engine.{Engine}
+use Rattle.nvme_jobs.specs.Hands.{gained_count}
+use Rattle.nvme_jobs.specs.inside.Jobs.{JobsView}
+use Rattle.nvme_jobs.specs.inside.Standing.{HoldsJobs, HoldsJobsBut}
+use Rattle.nvme_jobs.proofs.JobSteps.{jobs-picked}
+use Rattle.nvme_front.specs.declared.region.SqRegion.{SqRegion}
+use Rattle.nvme_front.specs.declared.state.FrontState.{FrontState}
+use Rattle.nvme_front.specs.inside.Dispatching.{AreDispatched, HasDispatched, taken_notes}
+use Rattle.nvme_front.specs.inside.State.{gets_of, rules_of, past_of, view_of}
+use Rattle.nvme_front.specs.inside.Room.{IsConsistent, IsRunning, IsCounted, HoldsTags}
 use Rattle.nvme_front.specs.inside.Goes.{coming_at, Goes, HasAdmin}
+use Rattle.nvme_front.specs.inside.Turn.{IsPickOf}
 use Rattle.nvme_front.specs.Ends.{get_place, put_place}
-use Rattle.nvme_state.specs.inside.Standing.{Stands}
-use Rattle.nvme_front.specs.inside.Room.{IsConsistent, IsRoomy, window_room, ready_room}
-use Rattle.nvme_state.specs.inside.Steps.{CanPick, picked_sq}
-use Rattle.nvme_state.proofs.AfterSteps.{after_io}
-use Rattle.nvme_state.proofs.Observing.{seen_is_observed}
-use Rattle.nvme_state.proofs.Standing.{stands-io}
-use Rattle.nvme_front.proofs.Comes.{comes-same, coming-set}
-use Rattle.nvme_front.proofs.States.{sq_in-set, past-push, pushed-not_empty, places-set, windows-set, SameSeat-refl, roomy-goes, kept_after}
-use Rattle.nvme_front.proofs.Picks.{due, due-lawful, due-region, due-cq_region, due-attached, due-sq_there, due-sq}
+use Rattle.nvme_front.specs.View.{NoneCanBePosted, HasPlaces, next_lawful, got_in}
+use Rattle.nvme_front.proofs.Comes.{comes-same}
+use Rattle.nvme_front.proofs.States.{past-push, rules-goes, kept_after, SameSeat-refl}
+use Rattle.nvme_front.proofs.SameTags.{tags_stay}
+use Rattle.nvme_front.proofs.RunningFacts.{IsOpenOn, due, next_is, few_picks}
+use Rattle.nvme_front.proofs.TakenCommands.{logged-taken}
+use Rattle.nvme_front.proofs.PickedJobs.{jobs-taken, tags-taken}
+use Rattle.nvme_front.proofs.ReadyPlaces.{pick-ready}
 
--- a region whose oldest candidates were picked
-abbrev pub picked_region : SqRegion → ℕ → SqRegion
-picked_region d n = record d { window = record d.window { items = drop n d.window.items }; unposted = d.unposted + n }
+-- what a pick may be made of
+pub may_pick : (s : FrontState) (k : IsRunning s) (pick : Pick) → next_lawful (view_of s) ≡ Some pick → pending (past_of s) ≡ None → HasPlaces (rules_of s) (past_of s) pick
+    → MayPick (rules_of s) k.notes pick
+may_pick s k pick next none places = record {
+  next = next_is s k pick next;
+  places = subst (λ (p : Past). outstanding (rules_of s) p + places_for p pick ≤ max_outstanding) (sym k.past_is) places;
+  none_pending = ap (λ (p : Past). pending p) k.past_is ∙ none;
+}
 
--- the pick of a board makes the pick that a front may make
-pub can_pick : (s : FrontState) (kept : IsConsistent s) (rules : FrontRules) {late : Bool} (st : Stands rules late (past_of s) (content_of s)) (none : s.deletion ≡ None) (pick : Pick)
-    (lawful : (m : Mechanism) (first : ArbitrationFields) (h : History) → BoardStandsAt m first h s.board → Some pick ≡ lawful_pick m first h (seen_of s.board.queues))
-    (board : BoardView)
-    → ((m : Mechanism) (first : ArbitrationFields) (h : History) → BoardStandsAt m first h s.board → BoardStandsAt m first (Picked (seen_of s.board.queues) pick ∷ h) board)
-    → board.queues ≡ queues_after s.board.queues pick
-    → s.outstanding + pick.n ≤ max_outstanding
-    → CanPick rules (past_of s) (content_of s) (due s kept rules st none pick lawful).queue pick board
-can_pick s kept rules {late} st none pick lawful board stands queues places =
-    let is = due s kept rules st none pick lawful in
-    record {
-      is_open = is.is_open;
-      none_pending = none;
-      enough = is.enough;
-      places = places;
-      lawful = due-lawful s kept rules st none pick lawful;
-      board_queues = queues;
-      board_stands = subst (λ (xs : List Seen). BoardStandsAt rules.mechanism rules.start.settings (Picked xs pick ∷ arbitration_of (past_of s)) board)
-          (seen_is_observed (past_of s) (content_of s) st.regions st.queues)
-          (stands rules.mechanism rules.start.settings (arbitration_of (past_of s)) st.arbitration.stands);
-    }
+-- a pick of a queue on a region was made by an engine, its commands were taken and their jobs added, and it was logged. All else is as it was
+pub record PickedIo (s b : FrontState) (pick : Pick) (seen : List Seen) (r : ℕ) : Type 0 where
+  pub middle : Engine
+  pub picked : (rules : FrontRules) (late : Bool) (notes : Notes) → StandsAt rules late notes s.engine → MayPick rules notes pick → pick.qid ≢ 0 → HasPicked rules late notes pick middle
+  pub dispatched : (rules : FrontRules) (late : Bool) (notes : Notes) (indexes : List ℕ) → StandsBut rules late notes (map (place_at r) indexes) middle → length indexes ≡ pick.n
+      → HasDispatched rules late notes r indexes s.jobs b.jobs b.engine
+  pub on : IsOpenOn (past_of s) pick.qid r
+  pub seen_is : seen ≡ observation_of (past_of s)
+  pub log : b.log.items ≡ s.log.items ++ event.Pick seen pick ∷ []
+  pub within : length s.log.items + 1 ≤ s.config.max_events
+  pub sqs : b.sqs.items ≡ s.sqs.items
+  pub cqs : b.cqs.items ≡ s.cqs.items
+  pub late : b.late ≡ s.late
+  pub config : b.config ≡ s.config
+  pub alloc : b.alloc ≡ s.alloc
 
--- the log with the pick, read backwards
-pub past-picked : (s b : FrontState) (e : Event) → b.log.items ≡ s.log.items ++ e ∷ [] → past_of b ≡ e ∷ past_of s
-past-picked s b e log = ap reverse log ∙ past-push s.log.items e
+-- the engine stands, with the commands of the pick to be taken
+module _ (s : FrontState) (k : IsRunning s) (pick : Pick) (next : next_lawful (view_of s) ≡ Some pick) (none : pending (past_of s) ≡ None) (io : pick.qid ≢ 0)
+    (places : HasPlaces (rules_of s) (past_of s) pick) (r : ℕ) (on : IsOpenOn (past_of s) pick.qid r) (middle : Engine)
+    (picked : (rules : FrontRules) (late : Bool) (notes : Notes) → StandsAt rules late notes s.engine → MayPick rules notes pick → pick.qid ≢ 0 → HasPicked rules late notes pick middle) where
+  -- the places that it takes
+  abbrev indexes : List ℕ
+  indexes = take pick.n (waiting (past_of s) r)
 
-module _ (s b : FrontState) (kept : IsConsistent s) (admin : HasAdmin s) (none : s.deletion ≡ None) (pick : Pick)
-    (lawful : (m : Mechanism) (first : ArbitrationFields) (h : History) → BoardStandsAt m first h s.board → Some pick ≡ lawful_pick m first h (seen_of s.board.queues))
-    (board_stands : (m : Mechanism) (first : ArbitrationFields) (h : History) → BoardStandsAt m first h s.board → BoardStandsAt m first (Picked (seen_of s.board.queues) pick ∷ h) b.board)
-    (board_queues : b.board.queues ≡ queues_after s.board.queues pick)
-    (places : s.outstanding + pick.n ≤ max_outstanding)
-    (io : pick.qid ≡ 0 → ⊥)
-    (seen : List Seen) (seen_is : seen ≡ seen_of s.board.queues)
-    (entry : SqEntry) (found : sq_of s.table pick.qid ≡ Some entry)
-    (r : ℕ) (r_is : r ≡ entry.region) (d : SqRegion) (read : d ≡ get_or s.sqs.items r d)
-    (config : b.config ≡ s.config) (alloc : b.alloc ≡ s.alloc) (late : b.late ≡ s.late) (table : b.table ≡ s.table) (deletion : b.deletion ≡ s.deletion)
-    (outstanding : b.outstanding ≡ s.outstanding + pick.n)
-    (sqs : b.sqs.items ≡ set s.sqs.items r (picked_region d pick.n))
-    (cqs : b.cqs.items ≡ s.cqs.items)
-    (jobs : b.jobs ≡ with_picked s.jobs entry.region (take pick.n d.window.items))
-    (log : b.log.items ≡ s.log.items ++ event.Pick seen pick ∷ [])
-    (within : length s.log.items + 1 ≤ s.config.max_events) where
-  st : Stands (rules_of s) s.late (past_of s) (content_of s)
-  st = kept.stands admin.0 admin.1
+  pub enough : length indexes ≡ pick.n
+  enough =
+      let is = due s k pick next in
+      let same : is.queue.region ≡ r = ap (λ (q : Queue). q.region) (same_Some is.queue on.queue (sym is.is_open ∙ on.is_open)) ∙ on.on in
+      length-take pick.n (waiting (past_of s) r)
+      ∙ min-eq_left {n = pick.n} {m = length (waiting (past_of s) r)} (omega (arith, is.enough, ap (λ (x : ℕ). length (waiting (past_of s) x)) same))
 
-  queue : Queue
-  queue = (due s kept (rules_of s) st none pick lawful).queue
+  pub to_take : StandsBut (rules_of s) s.late (seen_notes k.notes pick) (map (place_at r) indexes) middle
+  to_take =
+      let did = picked (rules_of s) s.late k.notes k.stands (may_pick s k pick next none places) io in
+      let at : open_sq (past_of s) pick.qid ≡ Some did.queue = ap (λ (p : Past). open_sq p pick.qid) (sym k.past_is) ∙ did.is_open in
+      let same : did.queue.region ≡ r = ap (λ (q : Queue). q.region) (same_Some did.queue on.queue (sym at ∙ on.is_open)) ∙ on.on in
+      let taken : dispatched_by (logged k.notes) pick (Some did.queue) ≡ map (place_at r) indexes =
+      ap (λ (b : Bool). if b then [] else map (place_at did.queue.region) (take pick.n (waiting (logged k.notes) did.queue.region))) (ne_eqb pick.qid 0 io)
+      ∙ ap (λ (p : Past). map (place_at did.queue.region) (take pick.n (waiting p did.queue.region))) k.past_is
+      ∙ ap (λ (x : ℕ). map (place_at x) (take pick.n (waiting (past_of s) x))) same in
+      subst (λ (ps : List Place). StandsBut (rules_of s) s.late (seen_notes k.notes pick) ps middle) taken did.stands
+
+  pub middle_engine : IsEngine middle
+  middle_engine = record { rules = rules_of s; late = s.late; notes = seen_notes k.notes pick; rest = map (place_at r) indexes; stands = to_take }
+
+module _ (s b : FrontState) (pick : Pick) (seen : List Seen) (r : ℕ) (p : PickedIo s b pick seen r) (kept : IsConsistent s) (admin : HasAdmin s)
+    (next : next_lawful (view_of s) ≡ Some pick) (none : pending (past_of s) ≡ None) (io : pick.qid ≢ 0) (places : HasPlaces (rules_of s) (past_of s) pick) where
+  k : IsRunning s
+  k = kept.running admin
+
+  did : HasDispatched (rules_of s) s.late (seen_notes k.notes pick) r (take pick.n (waiting (past_of s) r)) s.jobs b.jobs b.engine
+  did =
+      p.dispatched (rules_of s) s.late (seen_notes k.notes pick) (take pick.n (waiting (past_of s) r))
+      (to_take s k pick next none io places r p.on p.middle p.picked) (enough s k pick next none io places r p.on p.middle p.picked)
+
+  -- the log with it
+  pub io-past : past_of b ≡ event.Pick seen pick ∷ past_of s
+  io-past = ap (λ (xs : List Event). reverse xs) p.log ∙ past-push s.log.items (event.Pick seen pick)
+
+  -- the seat, and what runs, are as they were
+  pub io-seat : b.jobs.hands.seat ≡ s.jobs.hands.seat
+  io-seat = ap (λ (j : JobsView). j.hands.seat) did.jobs
+
+  pub io-running : b.jobs.hands.running ≡ s.jobs.hands.running
+  io-running = ap (λ (j : JobsView). j.hands.running) did.jobs
 
   -- the same front later on
   pub io-goes : Goes s b
   io-goes = record {
-    grew = (event.Pick seen pick ∷ [], sym log);
-    config = config;
-    alloc = alloc;
-    late = late;
-    gets = ap (λ (x : List SqRegion). map get_place (gets_of x)) sqs ∙ places-set s.sqs.items r d (picked_region d pick.n) read refl;
-    puts = ap (λ (x : List CqRegion). map put_place (puts_of x)) cqs;
-    comes = comes-same s.sqs.items b.sqs.items (ap (map coming_at) sqs ∙ coming-set s.sqs.items r d (picked_region d pick.n) read refl);
-    windows = ap (map window_room) sqs ∙ windows-set s.sqs.items r d (picked_region d pick.n) read refl;
-    readies = ap (map ready_room) cqs;
-    came = ap (λ (j : JobsView). j.hands.came) jobs;
-    seat = subst (λ (j : JobsView). SameSeat s.jobs.hands.seat j.hands.seat) (sym jobs) (SameSeat-refl s.jobs.hands.seat);
-    handed = omega (arith, ap (λ (j : JobsView). length j.hands.seat.handed) jobs);
-    gained = omega (arith, ap (λ (j : JobsView). gained_count j.hands) jobs);
-    room = ap (λ (j : JobsView). j.room) jobs;
+    grew = (event.Pick seen pick ∷ [], sym p.log);
+    config = p.config;
+    alloc = p.alloc;
+    late = p.late;
+    gets = ap (λ (x : List SqRegion). map get_place (gets_of x)) p.sqs;
+    puts = ap (map put_place) p.cqs;
+    comes = comes-same s.sqs.items b.sqs.items (ap (map coming_at) p.sqs);
+    came = ap (λ (j : JobsView). j.hands.came) did.jobs;
+    seat = subst (λ (x : SeatView). SameSeat s.jobs.hands.seat x) (sym io-seat) (SameSeat-refl s.jobs.hands.seat);
+    handed = omega (arith, ap (λ (x : SeatView). length x.handed) io-seat);
+    gained = omega (arith, ap (λ (j : JobsView). gained_count j.hands) did.jobs);
+    room = ap (λ (j : JobsView). j.room) did.jobs;
   }
 
-  roomy : IsRoomy b
-  roomy = roomy-goes s b kept.roomy io-goes (ap (λ z. z.sq_regions) table) (ap (λ z. z.cq_regions) table)
-      (omega (arith, ap length log, length_push s.log.items (event.Pick seen pick), ap (λ z. z.max_events) config, within))
+  few : pick.n ≤ max_outstanding
+  few = let all = few_picks s k pick io places in omega (arith, all)
 
-  -- its regions, by their numbers
-  sqs_are : sq_in b.sqs.items ≡ put_sq (sq_in s.sqs.items) queue.region (picked_sq (sq_in s.sqs.items queue.region) pick.n)
-  unfolding queue st
-  sqs_are =
-      let region = due-region s kept (rules_of s) st none pick lawful entry found r r_is in
-      ap sq_in sqs
-      ∙ sq_in-set s.sqs.items r (picked_region d pick.n) (due-sq_there s kept (rules_of s) st none pick lawful entry found r r_is)
-      ∙ ap (λ (x : SqContent). put_sq (sq_in s.sqs.items) r (picked_sq x pick.n)) (sym (due-sq s kept (rules_of s) st none pick lawful entry found r r_is d read))
-      ∙ ap (λ (x : ℕ). put_sq (sq_in s.sqs.items) x (picked_sq (sq_in s.sqs.items x) pick.n)) region
+  -- the jobs of its commands are added
+  jobs : HoldsJobs s.config.spaces (event.Pick seen pick ∷ past_of s) b.jobs
+  jobs =
+      let but : HoldsJobsBut s.config.spaces (event.Pick seen pick ∷ past_of s) s.jobs (map (place_at p.on.queue.region) (take pick.n (waiting (past_of s) p.on.queue.region))) =
+      jobs-picked s.config.spaces (past_of s) seen pick p.on.queue s.jobs p.on.is_open (ne_eqb pick.qid 0 io) few k.jobs in
+      let here : HoldsJobsBut s.config.spaces (event.Pick seen pick ∷ past_of s) s.jobs (map (place_at r) (take pick.n (waiting (past_of s) r))) =
+      subst (λ (x : ℕ). HoldsJobsBut s.config.spaces (event.Pick seen pick ∷ past_of s) s.jobs (map (place_at x) (take pick.n (waiting (past_of s) x)))) p.on.on but in
+      let at : logged (seen_notes k.notes pick) ≡ event.Pick seen pick ∷ past_of s =
+      ap (λ (x : Past). event.Pick (observation_of x) pick ∷ x) k.past_is ∙ ap (λ (xs : List Seen). event.Pick xs pick ∷ past_of s) (sym p.seen_is) in
+      subst (λ (j : JobsView). HoldsJobs s.config.spaces (event.Pick seen pick ∷ past_of s) j) (sym did.jobs)
+      (jobs-taken s.config.spaces (event.Pick seen pick ∷ past_of s) (seen_notes k.notes pick) r (take pick.n (waiting (past_of s) r)) did.ds s.jobs at did.are here)
 
-  -- its jobs, by what was kept of the region
-  jobs_are : b.jobs ≡ with_picked s.jobs queue.region (take pick.n (sq_in s.sqs.items queue.region).window)
-  unfolding queue st
-  jobs_are =
-      let region = due-region s kept (rules_of s) st none pick lawful entry found r r_is in
-      jobs
-      ∙ ap (λ (n : ℕ). with_picked s.jobs n (take pick.n d.window.items)) (sym r_is)
-      ∙ ap (λ (y : SqContent). with_picked s.jobs r (take pick.n y.window)) (sym (due-sq s kept (rules_of s) st none pick lawful entry found r r_is d read))
-      ∙ ap (λ (n : ℕ). with_picked s.jobs n (take pick.n (sq_in s.sqs.items n).window)) region
-
-  content_is : content_of b ≡ after_io (content_of s) queue pick.n b.board
-  content_is = λ t. record {
-    sq = sqs_are t;
-    cq = cq_in (cqs t);
-    nsq = (ap length sqs ∙ length-set s.sqs.items r (picked_region d pick.n)) t;
-    ncq = length (cqs t);
-    board = b.board;
-    table = table t;
-    outstanding = outstanding t;
-    deletion = deletion t;
-    jobs = jobs_are t;
+  -- the front runs at its log
+  running : IsRunning b
+  running = record {
+    notes = taken_notes did.ds (seen_notes k.notes pick);
+    stands = subst (λ (x : Bool). StandsAt (rules_of b) x (taken_notes did.ds (seen_notes k.notes pick)) b.engine) (sym p.late)
+        (subst (λ (x : FrontRules). StandsAt x s.late (taken_notes did.ds (seen_notes k.notes pick)) b.engine) (sym (rules-goes s b io-goes)) did.stands);
+    past_is = logged-taken did.ds (seen_notes k.notes pick)
+        ∙ ap (λ (x : Past). event.Pick (observation_of x) pick ∷ x) k.past_is ∙ ap (λ (xs : List Seen). event.Pick xs pick ∷ past_of s) (sym p.seen_is) ∙ sym io-past;
+    got = λ x. ap (λ (z : Past). fetched z x) io-past ∙ k.got x ∙ ap (λ (sqs : List SqRegion). got_in (record (view_of s) { gets = gets_of sqs }) x) (sym p.sqs);
+    sent = λ c. ap (λ (z : Past). posted_to z c) io-past ∙ k.sent c
+        ∙ ap (λ (ps : List (PutView Cqe)). get_or (map (λ (y : PutView Cqe). y.sent) ps) c []) (sym p.cqs);
+    counted = subst (λ (sqs : List SqRegion). (i : ℕ) (x : SqRegion) → i < length sqs → IsCounted (get_or sqs i x)) (sym p.sqs) k.counted;
+    jobs = subst (λ (z : Past). HoldsJobs b.config.spaces z b.jobs) (sym io-past)
+        (subst (λ (sizes : List ℕ). HoldsJobs sizes (event.Pick seen pick ∷ past_of s) b.jobs) (ap (λ z. z.spaces) (sym p.config)) jobs);
+    tags = subst (λ (j : JobsView). HoldsTags (taken_notes did.ds (seen_notes k.notes pick)) j) (sym did.jobs)
+        (tags-taken (seen_notes k.notes pick) r s.jobs.tickets (take pick.n (waiting (past_of s) r)) did.ds s.jobs did.are
+        (tags_stay k.notes (seen_notes k.notes pick) s.jobs (record { holders = λ t. refl; answers = λ x i. refl }) k.tags));
   }
 
-  -- the completion region of its queue
-  c : ℕ
-  unfolding st
-  c = due-cq_region s kept (rules_of s) st none pick lawful entry found r r_is
-
-  attached : (sq_in s.sqs.items queue.region).queue ≡ Some (record { qid = pick.qid; cq_region = c })
-  unfolding queue st c
-  attached =
-      subst (λ (x : ℕ). (sq_in s.sqs.items x).queue ≡ Some (record { qid = pick.qid; cq_region = c })) (due-region s kept (rules_of s) st none pick lawful entry found r r_is)
-      (due-attached s kept (rules_of s) st none pick lawful entry found r r_is)
-
-  -- what stands at its log is kept
+  -- so it is kept
   pub io-kept : IsConsistent b
-  unfolding queue
   io-kept =
-      let stands = stands-io (rules_of s) s.late (past_of s) (content_of s) queue seen pick b.board c st
-      (can_pick s kept (rules_of s) st none pick lawful b.board board_stands board_queues places)
-      (seen_is ∙ seen_is_observed (past_of s) (content_of s) st.regions st.queues) io attached in
-      kept_after s b admin io-goes roomy (λ n. pushed-not_empty s.log.items (event.Pick seen pick) (sym log ∙ n))
-      (subst (λ (k : Content). Stands (rules_of s) s.late (past_of b) k) (sym content_is)
-      (subst (λ (p : Past). Stands (rules_of s) s.late p (after_io (content_of s) queue pick.n b.board)) (sym (past-picked s b (event.Pick seen pick) log)) stands))
+      let short : length b.log.items ≤ b.config.max_events =
+      omega (arith, ap (λ (xs : List Event). length xs) p.log, length_push s.log.items (event.Pick seen pick), ap (λ z. z.max_events) p.config, p.within) in
+      kept_after s b admin kept.roomy io-goes short running
+
+  pub io-posted : NoneCanBePosted (view_of s) → NoneCanBePosted (view_of b)
+  io-posted =
+      pick-ready s b seen pick p.on.queue (seen_notes k.notes pick) s.jobs.tickets did.ds p.on.is_open
+      (subst (λ (x : ℕ). AreDispatched (seen_notes k.notes pick) x s.jobs.tickets (take pick.n (waiting (past_of s) x)) did.ds) (sym p.on.on) did.are)
+      io-past did.jobs p.cqs
+
+  pub io-picks_of : IsPickOf s b
+  io-picks_of = record {
+    seen = seen;
+    pick = pick;
+    after = [];
+    log_is = p.log;
+    room = λ of_admin. absurd (io of_admin);
+    places = places;
+    cqs = p.cqs;
+    posted = λ _. io-posted;
+  }

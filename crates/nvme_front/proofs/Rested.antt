@@ -23,12 +23,12 @@ use Rattle.nvme_log.specs.Queues.{Deletion, is_open_region, pending}
 use Rattle.nvme_log.specs.Places.{fetched}
 use Rattle.nvme_log.specs.Completions.{posted_to}
 use Rattle.nvme_log.specs.Account.{IsAccount}
-use Rattle.nvme_state.specs.JobAccount.{AccountsForJobs}
+use Rattle.nvme_jobs.specs.JobAccount.{AccountsForJobs}
 use Rattle.nvme_log.specs.Dispatches.{ExecutesOnce, place_at}
 use Rattle.nvme_log.proofs.Tickets.{each-is_executed_once}
-use Rattle.nvme_state.specs.Answers.{AnswersHaveTickets}
-use Rattle.nvme_state.specs.Hands.{Hands, in_hand}
-use Rattle.nvme_state.specs.inside.Jobs.{IsClosed}
+use Rattle.nvme_jobs.specs.Answers.{AnswersHaveTickets}
+use Rattle.nvme_jobs.specs.Hands.{Hands, in_hand}
+use Rattle.nvme_jobs.specs.inside.Jobs.{IsClosed}
 use Rattle.nvme_front.specs.Ends.{get_place, put_place}
 use Rattle.nvme_front.specs.View.{FrontView, AccountsForEnds, past_in, got_in, known_in, sent_in}
 use Rattle.nvme_log.specs.Account.{IsClear}

@@ -1,115 +1,105 @@
 -- A scan of the submission rings, queue by queue.
-use Rattle.std.proofs.Common.{◌≡◌, ◌∙◌, ℕ, ◌+◌, ◌<◌, ◌≤◌, true, false, List, length, get_or, set, refl, inr, Option, Some, None, ap, sym, subst, arith, ◌⊎◌, inl, [], below_more}
-use Rattle.std.specs.Prelude.{nat_le}
-use Rattle.std.proofs.lemmas.Bool.{leb-true}
-use Rattle.std.proofs.lemmas.Bool.Decides.{eqb_tells}
+use Rattle.std.proofs.Common.{◌≡◌, ◌≢◌, ◌∙◌, ℕ, ◌+◌, ◌-◌, ◌<◌, ◌≤◌, ◌⊎◌, Bool, List, [], length, map, get_or, inl, inr, Some, None, ap, sym, subst, arith, below_more}
+use Rattle.std.specs.Prelude.{reverse, if◌then◌else◌}
+use Rattle.std.proofs.Math.Nat.{le-min}
+use Rattle.std.proofs.lemmas.Bool.{ne_eqb}
 use Rattle.std.proofs.lemmas.List.{length-append}
-use Rattle.nvme_admin.specs.Standing.{sq_of, TableView}
-use Rattle.nvme_admin.proofs.Queues.{sqs-are_allotted}
-use Rattle.nvme_admin.specs.declared.verdict.SqEntry.{SqEntry}
-use Rattle.nvme_state.specs.declared.region.SqRegion.{SqRegion}
-use Rattle.nvme_front.specs.declared.state.FrontState.{FrontState}
-use Rattle.nvme_state.specs.declared.attachment.Attachment.{Attachment}
-use Rattle.nvme_state.specs.inside.Content.{SqContent, no_sq}
+use Rattle.std.proofs.lemmas.Option.{same_Some}
+use Rattle.nvme_entry.specs.declared.submission.Sqe.{Sqe}
+use Rattle.nvme_arbiter.specs.Limits.{highest_count}
+use Rattle.nvme_log.specs.declared.event.Event.{Event}
 use Rattle.nvme_log.specs.Limits.{window_of}
-use Rattle.nvme_front.specs.inside.State.{sq_in, sq_content, rules_of}
+use Rattle.nvme_log.specs.Rules.{FrontRules, Past, window_at}
+use Rattle.nvme_log.specs.Queues.{Queue, open_sq}
+use Rattle.nvme_log.specs.Places.{waiting}
+use Rattle.nvme_log.proofs.Waiting.{waiting-fetch_other}
+use Rattle.nvme_front.specs.declared.region.SqRegion.{SqRegion}
+use Rattle.nvme_front.specs.declared.state.FrontState.{FrontState}
+use Rattle.nvme_lane.specs.View.{GetView}
+use Rattle.nvme_front.specs.inside.State.{gets_of, rules_of, past_of, view_of}
 use Rattle.nvme_front.specs.inside.Room.{IsConsistent}
-use Rattle.nvme_front.proofs.States.{sq_in-read, look-set, IsSame-sym}
-use Rattle.nvme_front.proofs.Fetches.{queue_of, open_is, region_there}
-use Rattle.nvme_front.specs.inside.Goes.{Goes, HasAdmin, IsSame, IsTaken, IsScanned, IsFullSq}
+use Rattle.nvme_front.specs.inside.Goes.{Goes, HasAdmin, IsSame, IsScanned}
+use Rattle.nvme_front.specs.View.{known_in, NoneCanBePosted}
+use Rattle.nvme_front.proofs.States.{IsSame-sym, Goes-same, rules-goes, same_view}
+use Rattle.nvme_front.proofs.SqEnds.{known_in-read, known_in-set}
+use Rattle.nvme_front.proofs.RunningFacts.{IsOpenOn, two_regions}
+use Rattle.nvme_front.proofs.Fetches.{Fetched, fetch_past, fetch_goes, region_there, window_is}
 
 -- a log that goes on is as long at least
 pub goes_longer : (a b : FrontState) → Goes a b → length a.log.items ≤ length b.log.items
 goes_longer a b g = omega (arith, length-append a.log.items g.grew.0, ap length g.grew.1)
 
-taken_same : (a b : FrontState) → IsSame a b → (o : Option SqEntry) → IsTaken b o → IsTaken a o
-taken_same a b same None h = tt
-taken_same a b same (Some entry) h =
-    subst (λ (x : List SqRegion). entry.closing ≡ false → IsFullSq (sq_in x entry.region) ⊎ ((sq_in x entry.region).known ≡ [])) same.sqs h
+-- whether a queue was scanned, by what a contract sees
+abbrev pub IsScannedAt : FrontRules → Past → (ℕ → List Sqe) → ℕ → Type 0
+IsScannedAt rules past known q =
+    (queue : Queue) → open_sq past q ≡ Some queue
+    → ((window_at rules queue.region ≤ length (waiting past queue.region)) × (waiting past queue.region ≢ [])) ⊎ (known queue.region ≡ [])
 
--- a queue that gives nothing gave nothing in the same front before
+-- a queue that was scanned stays so where the same is seen
+pub scanned_by : (a b : FrontState) → rules_of b ≡ rules_of a → past_of b ≡ past_of a → ((r : ℕ) → known_in (view_of b) r ≡ known_in (view_of a) r) → (q : ℕ)
+    → IsScanned a q → IsScanned b q
+scanned_by a b rules past known q h =
+    subst (λ (k : ℕ → List Sqe). IsScannedAt (rules_of b) (past_of b) k q) (λ t r. sym (known r) t)
+    (subst (λ (p : Past). IsScannedAt (rules_of b) p (known_in (view_of a)) q) (sym past)
+    (subst (λ (x : FrontRules). IsScannedAt x (past_of a) (known_in (view_of a)) q) (sym rules) h))
+
+-- so it does in the same front later on, and did before
+pub scanned_on : (a b : FrontState) → IsSame a b → (q : ℕ) → IsScanned a q → IsScanned b q
+scanned_on a b same q h =
+    scanned_by a b (rules-goes a b (Goes-same a b same)) (ap (λ (xs : List Event). reverse xs) same.log)
+    (λ r. ap (λ (sqs : List SqRegion). get_or (map (λ (g : GetView Sqe). g.known) (gets_of sqs)) r []) same.sqs) q h
+
 pub scanned_same : (a b : FrontState) → IsSame a b → (q : ℕ) → IsScanned b q → IsScanned a q
-scanned_same a b same q h = taken_same a b same (sq_of a.table q) (subst (λ o. IsTaken b o) (ap (λ t. sq_of t q) same.table) h)
+scanned_same a b same q h = scanned_on b a (IsSame-sym a b same) q h
+
+-- nor is a completion ready that wasn't before
+pub posted_same : (a b : FrontState) → IsSame a b → NoneCanBePosted (view_of a) → NoneCanBePosted (view_of b)
+posted_same a b same = subst NoneCanBePosted (sym (same_view a b same))
 
 -- a queue more gives nothing
 pub scanned_more : (a b : FrontState) (n : ℕ) → IsSame a b → ((q : ℕ) → q < n → IsScanned a q) → IsScanned b n → (q : ℕ) → q < n + 1 → IsScanned a q
 scanned_more a b n same below here = below_more (λ (q : ℕ). IsScanned a q) n below (scanned_same a b same n here)
 
--- a queue that is closing gives nothing
-pub taken_closing : (s : FrontState) (o : Option SqEntry) (entry : SqEntry) → o ≡ Some entry → entry.closing ≡ true → IsTaken s o
-taken_closing s o entry is closing = rw is (λ open_now. absurd (cc (closing, open_now)))
+-- a queue that isn't open gives nothing
+pub scanned_none : (s : FrontState) (q : ℕ) → open_sq (past_of s) q ≡ None → IsScanned s q
+scanned_none s q none queue is = absurd (cc (none, is))
 
 -- nor does a queue whose window is full
-pub taken_full : (s : FrontState) (o : Option SqEntry) (entry : SqEntry) (d : SqRegion) → o ≡ Some entry → entry.region < length s.sqs.items
-    → d ≡ get_or s.sqs.items entry.region d → nat_le (window_of d.end.slots) (length d.window.items) ≡ true → (d.window.items ≡ [] → ⊥) → IsTaken s o
-taken_full s o entry d is there read full some =
-    rw is (λ open_now. inl (subst (λ (x : SqContent). IsFullSq x) (sym (sq_in-read s.sqs.items entry.region d there read)) (leb-true (window_of d.end.slots) (length d.window.items) full, some)))
+pub scanned_full : (s : FrontState) → IsConsistent s → HasAdmin s → (q r : ℕ) → IsOpenOn (past_of s) q r → (d : SqRegion) → d ≡ get_or s.sqs.items r d → 2 ≤ d.end.slots
+    → window_of d.end.slots ≤ length (waiting (past_of s) r) → IsScanned s q
+scanned_full s kept admin q r o d read ring full queue is =
+    let on : r ≡ queue.region = sym o.on ∙ ap (λ (x : Queue). x.region) (same_Some o.queue queue (sym o.is_open ∙ is)) in
+    let some : 1 ≤ window_of d.end.slots = le-min {k = 1} {a = d.end.slots - 1} {b = highest_count} (omega (arith, ring)) (omega arith) in
+    inl (subst (λ (x : ℕ). (window_at (rules_of s) x ≤ length (waiting (past_of s) x)) × (waiting (past_of s) x ≢ [])) on (
+      omega (arith, full, window_is s kept admin q r o d read),
+      λ none. omega (arith, some, full, ap (λ (is : List ℕ). length is) none),
+    ))
 
 -- nor does a queue whose ring is known to give nothing
-pub taken_empty : (s : FrontState) (o : Option SqEntry) (entry : SqEntry) (d : SqRegion) → o ≡ Some entry → entry.region < length s.sqs.items
-    → d ≡ get_or s.sqs.items entry.region d → d.end.known ≡ [] → IsTaken s o
-taken_empty s o entry d is there read none =
-    rw is (λ open_now. inr (ap (λ (x : SqContent). x.known) (sq_in-read s.sqs.items entry.region d there read) ∙ none))
-
--- nor does one that isn't there
-taken_none : (s : FrontState) (o : Option SqEntry) → ((entry : SqEntry) → o ≡ Some entry → ⊥) → IsTaken s o
-taken_none s None none = tt
-taken_none s (Some entry) none = absurd (none entry refl)
-
--- no queue above the allotted number is there
-pub scanned_above : (s : FrontState) → IsConsistent s → HasAdmin s → (q : ℕ) → s.table.nsq < q → IsScanned s q
-scanned_above s kept admin q above =
-    let tabled = (kept.stands admin.0 admin.1).tabled in
-    taken_none s (sq_of s.table q) (λ entry is.
-    let few = sqs-are_allotted (rules_of s).start tabled.history q entry (λ none. omega (arith, above, none)) (sym (tabled.stands.sq q) ∙ is) in
-    let same = tabled.stands.nsq in
-    omega (arith, above, few, same))
-
--- a queue that gives nothing still gives nothing in the same front later on
-pub scanned_on : (a b : FrontState) → IsSame a b → (q : ℕ) → IsScanned a q → IsScanned b q
-scanned_on a b same q h = scanned_same b a (IsSame-sym a b same) q h
-
--- by the table and the regions alone
-taken_by : (a b : FrontState) → a.sqs.items ≡ b.sqs.items → (o : Option SqEntry) → IsTaken a o → IsTaken b o
-taken_by a b same None h = tt
-taken_by a b same (Some entry) h =
-    subst (λ (x : List SqRegion). entry.closing ≡ false → IsFullSq (sq_in x entry.region) ⊎ ((sq_in x entry.region).known ≡ [])) same h
-
-pub scanned_by : (t : TableView) (q : ℕ) (a b : FrontState) → a.sqs.items ≡ b.sqs.items → IsTaken a (sq_of t q) → IsTaken b (sq_of t q)
-scanned_by t q a b same h = taken_by a b same (sq_of t q) h
+pub scanned_empty : (s : FrontState) → IsConsistent s → HasAdmin s → (q r : ℕ) → IsOpenOn (past_of s) q r → (d : SqRegion) → d ≡ get_or s.sqs.items r d → d.end.known ≡ []
+    → IsScanned s q
+scanned_empty s kept admin q r o d read none queue is =
+    let on : r ≡ queue.region = sym o.on ∙ ap (λ (x : Queue). x.region) (same_Some o.queue queue (sym o.is_open ∙ is)) in
+    inr (subst (λ (x : ℕ). known_in (view_of s) x ≡ []) on (known_in-read s r d (region_there s kept admin q r o) read ∙ none))
 
 -- ---- the other queues
--- an attachment's queue
-abbrev qid_or : Option Attachment → ℕ
-qid_or None = 0
-qid_or (Some a) = a.qid
-
--- where a queue of the table isn't closing, and its region was replaced
-module _ (a b : FrontState) (kept : IsConsistent a) (admin : HasAdmin a) (q : ℕ) (entry : SqEntry) (in_table : sq_of a.table q ≡ Some entry) (is_open : entry.closing ≡ false)
-    (g : SqRegion) (table : b.table ≡ a.table) (sqs : b.sqs.items ≡ set a.sqs.items entry.region g) (x : ℕ) (other : x ≡ q → ⊥) where
-  -- another open queue has another region
-  other_region : (e : SqEntry) → sq_of a.table x ≡ Some e → e.closing ≡ false → e.region ≡ entry.region → ⊥
-  other_region e is open_now same =
-      let queues = (kept.stands admin.0 admin.1).queues in
-      let mine = queues.attached q (queue_of entry) (open_is a kept admin q entry in_table is_open) in
-      let its = queues.attached x (queue_of e) (open_is a kept admin x e is open_now) in
-      other (ap qid_or (sym its.attached ∙ ap (λ (r : ℕ). (sq_in a.sqs.items r).queue) same ∙ mine.attached))
-
-  -- which is as it was
-  same_region : (e : SqEntry) → sq_of a.table x ≡ Some e → e.closing ≡ false → sq_in b.sqs.items e.region ≡ sq_in a.sqs.items e.region
-  same_region e is open_now =
-      let there = region_there a kept admin q entry in_table is_open in
-      ap (λ (xs : List SqRegion). sq_in xs e.region) sqs ∙ look-set sq_content no_sq a.sqs.items entry.region g there e.region
-      ∙ elim (eqb_tells e.region entry.region) [
-        | inl p ↦ absurd (other_region e is open_now p.1)
-        | inr p ↦ rw p.0 refl
-      ]
-
-  taken_other : (o : Option SqEntry) → sq_of a.table x ≡ o → IsTaken a o → IsTaken b o
-  taken_other None is h = tt
-  taken_other (Some e) is h = λ open_now.
-      subst (λ (s : SqContent). IsFullSq s ⊎ (s.known ≡ [])) (sym (same_region e is open_now)) (h open_now)
-
-  -- so it gives nothing where it gave nothing
-  pub others_scanned : IsScanned a x → IsScanned b x
-  others_scanned h = subst (λ (o : Option SqEntry). IsTaken b o) (ap (λ t. sq_of t x) (sym table)) (taken_other (sq_of a.table x) refl h)
+module _ (a b : FrontState) (q r : ℕ) (d g : SqRegion) (entry : Sqe) (f : Fetched a b q r d g entry) (kept : IsConsistent a) (admin : HasAdmin a) (o : IsOpenOn (past_of a) q r) where
+  -- after a fetch the other queues give nothing where they gave nothing
+  pub others_scanned : (x : ℕ) → x ≢ q → IsScanned a x → IsScanned b x
+  others_scanned x other was queue is =
+      let here : open_sq (past_of a) x ≡ Some queue = ap (λ (p : Past). open_sq p x) (sym (fetch_past a b q r d g entry f)) ∙ is in
+      let apart : r ≡ queue.region → ⊥ =
+      λ e. other (two_regions a (kept.running admin) x q queue o.queue here o.is_open (sym e ∙ sym o.on)) in
+      let waits : waiting (past_of b) queue.region ≡ waiting (past_of a) queue.region =
+      ap (λ (p : Past). waiting p queue.region) (fetch_past a b q r d g entry f) ∙ waiting-fetch_other (past_of a) r d.fetched entry queue.region apart in
+      let known : known_in (view_of b) queue.region ≡ known_in (view_of a) queue.region =
+      known_in-set a b r g (region_there a kept admin q r o) f.sqs queue.region
+      ∙ ap (λ (t : Bool). if t then g.end.known else known_in (view_of a) queue.region) (ne_eqb queue.region r (λ e. apart (sym e))) in
+      let rules : window_at (rules_of b) queue.region ≡ window_at (rules_of a) queue.region =
+      ap (λ (x : FrontRules). window_at x queue.region) (rules-goes a b (fetch_goes a b q r d g entry f)) in
+      elim (was queue here) [
+        | inl full ↦ inl (omega (arith, full.0, waits_length waits, rules), λ none. full.1 (sym waits ∙ none))
+        | inr none ↦ inr (known ∙ none)
+      ] where
+        waits_length : {xs ys : List ℕ} → xs ≡ ys → length xs ≡ length ys
+        waits_length e = ap (λ (is : List ℕ). length is) e

@@ -1,39 +1,32 @@
 -- What a turn's answer means, from the answers of its parts.
-use Rattle.std.proofs.Common.{◌≡◌, ◌≢◌, ℕ, ◌+◌, ◌<◌, ◌≤◌, Bool, true, false, ◌||◌, List, [], ◌∷◌, length, Option, Some, None, refl, sym, ap, ◌∙◌, subst, arith, ◌⊎◌, inl, inr}
-use Rattle.std.specs.Prelude.{IfSome, IsSome}
+use Rattle.std.proofs.Common.{◌≡◌, ◌≢◌, ℕ, ◌+◌, ◌<◌, ◌≤◌, Bool, true, false, ◌||◌, List, [], length, Option, Some, None, refl, sym, ap, ◌∙◌, subst, arith, ◌⊎◌, inl, inr}
+use Rattle.std.specs.Prelude.{IfSome, IsSome, reverse}
 use Rattle.std.specs.List.{All}
 use Rattle.std.proofs.lemmas.List.{length-append}
 use Rattle.nvme_pool.specs.Seat.{Ends, IsUnknown}
-use Rattle.nvme_arbiter.specs.Board.{BoardView}
-use Rattle.nvme_arbiter.specs.Queues.{seen_of}
-use Rattle.nvme_arbiter.specs.Standing.{pick_of}
+use Rattle.nvme_arbiter.specs.Limits.{highest_qid}
 use Rattle.nvme_arbiter.specs.declared.pick.Pick.{Pick}
-use Rattle.nvme_admin.specs.Standing.{sq_of, TableView}
-use Rattle.nvme_admin.specs.declared.verdict.SqEntry.{SqEntry}
-use Rattle.nvme_state.specs.declared.deletion.PendingDelete.{PendingDelete}
 use Rattle.nvme_log.specs.declared.event.Event.{Event}
+use Rattle.nvme_log.specs.Limits.{admin_events}
+use Rattle.nvme_log.specs.Rules.{Past, window_at}
+use Rattle.nvme_log.specs.Queues.{Queue, Deletion, open_sq, pending}
+use Rattle.nvme_log.specs.Places.{waiting}
+use Rattle.nvme_log.specs.Histories.{picks_in}
+use Rattle.nvme_jobs.specs.Hands.{gained_count}
+use Rattle.nvme_jobs.specs.inside.Jobs.{JobsView}
 use Rattle.nvme_front.specs.declared.front.Step.{Step}
 use Rattle.nvme_front.specs.declared.front.Step.TheVariants.{Picked, Moved, Idle, Stalled}
 use Rattle.nvme_front.specs.declared.front.FrontError.{FrontError}
 use Rattle.nvme_front.specs.declared.front.FrontError.TheVariants.{NoMemory, LogFull, Stray}
-use Rattle.nvme_state.specs.declared.region.SqRegion.{SqRegion}
-use Rattle.nvme_state.specs.declared.region.CqRegion.{CqRegion}
 use Rattle.nvme_front.specs.declared.state.FrontState.{FrontState}
-use Rattle.nvme_log.specs.Limits.{max_outstanding, admin_events}
-use Rattle.nvme_pool.specs.declared.jobs.Finished.{Finished}
-use Rattle.nvme_state.specs.Hands.{Hands, gained_count}
-use Rattle.nvme_state.specs.inside.Jobs.{JobsView}
-use Rattle.nvme_state.specs.Balance.{Balances}
-use Rattle.nvme_state.proofs.Balances.{balances-same, balances-still, balances-trans}
-use Rattle.nvme_front.specs.inside.State.{sq_in, cq_in}
+use Rattle.nvme_front.specs.inside.State.{rules_of, past_of, view_of}
 use Rattle.nvme_front.specs.inside.Room.{IsConsistent}
-use Rattle.nvme_front.specs.inside.Goes.{Goes, IsSame, HasAdmin, AllDrained, AllScanned, IsTaken, IsFullSq, next_pick}
-use Rattle.nvme_log.specs.Histories.{picks_in}
-use Rattle.nvme_front.specs.inside.State.{view_of}
-use Rattle.nvme_front.specs.View.{HasMoved, IsStill, GainedStray, IsIdleFront, IsStalledFront, StepMeans, ErrorMeans}
-use Rattle.nvme_front.specs.inside.Turn.{places_in, Balanced, LacksAdminEvents, IsQuiet, HasDone, IsWaiting, NeedsPlaces, Proceeds, told_after}
-use Rattle.nvme_front.proofs.States.{Goes-same, IsSame-trans, admin-goes}
+use Rattle.nvme_front.specs.inside.Goes.{Goes, IsSame, HasAdmin, AllScanned}
+use Rattle.nvme_front.specs.View.{FrontView, past_in, known_in, HasMoved, HasUnposted, IsStill, GainedStray, IsIdleFront, IsStalledFront, NoneCanBePosted, StepMeans, ErrorMeans, LacksPlaces, next_lawful}
+use Rattle.nvme_front.specs.inside.Turn.{Balanced, LacksAdminEvents, IsQuiet, HasDone, IsWaiting, NeedsPlaces, Proceeds, told_after}
+use Rattle.nvme_front.proofs.States.{Goes-same, IsSame-trans, admin-goes, same_view, rules-goes}
 use Rattle.nvme_front.proofs.Turns.{idle_front, deleting_front, stalled_front, admin_log_full}
+pub use Rattle.nvme_front.proofs.Weighing.{balanced_still, balanced_same, balanced_trans, stray_since}
 
 -- a later log is no shorter
 pub log_grown : (a b : FrontState) → Goes a b → length a.log.items ≤ length b.log.items
@@ -70,36 +63,41 @@ still_same a b s = record { log = s.log; hands = ap (λ (j : JobsView). j.hands)
 unknown_same : (a b : FrontState) → IsSame a b → All IsUnknown a.jobs.hands.seat.ends → All IsUnknown b.jobs.hands.seat.ends
 unknown_same a b s h = subst (λ (ends : Ends). All IsUnknown ends) (sym (ap (λ (j : JobsView). j.hands.seat.ends) s.jobs)) h
 
--- drained regions stay so
-pub drained_same : (a b : FrontState) → IsSame a b → AllDrained a → AllDrained b
-drained_same a b s h =
-    subst (λ (cqs : List CqRegion). (c : ℕ) → c < length cqs → ((cq_in cqs c).ready ≡ []) ⊎ ((cq_in cqs c).free ≡ 0)) (sym s.cqs) h
+-- where no completion can be posted, that stays so
+pub drained_same : (a b : FrontState) → IsSame a b → NoneCanBePosted (view_of a) → NoneCanBePosted (view_of b)
+drained_same a b s h = subst NoneCanBePosted (sym (same_view a b s)) h
 
--- and were so before
-pub drained_before : (a b : FrontState) → IsSame a b → AllDrained b → AllDrained a
-drained_before a b s h =
-    subst (λ (cqs : List CqRegion). (c : ℕ) → c < length cqs → ((cq_in cqs c).ready ≡ []) ⊎ ((cq_in cqs c).free ≡ 0)) s.cqs h
+-- and was so before
+pub drained_before : (a b : FrontState) → IsSame a b → NoneCanBePosted (view_of b) → NoneCanBePosted (view_of a)
+drained_before a b s h = subst NoneCanBePosted (same_view a b s) h
 
--- a queue that was scanned stays so, by its entry
-taken_same : (a b : FrontState) → a.sqs.items ≡ b.sqs.items → (o : Option SqEntry) → IsTaken a o → IsTaken b o
-taken_same a b e None h = tt
-taken_same a b e (Some entry) h =
-    subst (λ (sqs : List SqRegion). entry.closing ≡ false → IsFullSq (sq_in sqs entry.region) ⊎ ((sq_in sqs entry.region).known ≡ [])) e h
+-- the log read backwards stays the same
+pub past_same : (a b : FrontState) → IsSame a b → past_of b ≡ past_of a
+past_same a b s = ap reverse s.log
 
--- scanned queues stay so
+-- scanned queues stay so, by what a contract sees
+abbrev AreScanned : FrontView → Type 0
+AreScanned v =
+    (q : ℕ) → q ≤ highest_qid → (queue : Queue) → open_sq (past_in v) q ≡ Some queue
+    → ((window_at v.rules queue.region ≤ length (waiting (past_in v) queue.region)) × (waiting (past_in v) queue.region ≢ [])) ⊎ (known_in v queue.region ≡ [])
+
 pub scanned_same : (a b : FrontState) → IsSame a b → AllScanned a → AllScanned b
-scanned_same a b s h = λ q few. subst (λ (t : TableView). IsTaken b (sq_of t q)) (sym s.table) (taken_same a b (sym s.sqs) (sq_of a.table q) (h q few))
+scanned_same a b s h = subst AreScanned (sym (same_view a b s)) h
 
 -- the next pick stays the same
-pub pick_same : (a b : FrontState) → IsSame a b → next_pick b ≡ next_pick a
-pick_same a b s = ap (λ (v : BoardView). pick_of v.kept (seen_of v.queues)) s.board
+pub pick_same : (a b : FrontState) → IsSame a b → next_lawful (view_of b) ≡ next_lawful (view_of a)
+pick_same a b s = ap next_lawful (same_view a b s)
+
+-- so do the places that it lacks
+lacks_same : (a b : FrontState) → IsSame a b → (o : Option Pick) → IfSome o (LacksPlaces (rules_of a) (past_of a)) → IfSome o (LacksPlaces (rules_of b) (past_of b))
+lacks_same a b s o h = rw (past_same a b s, rules-goes a b (Goes-same a b s)) h
 
 -- ---- the jobs and the completions of a turn
 -- by what was handed, gained and posted
 pub done_by : (a h g b : FrontState) → Goes a h → Goes h g → Goes g b → h.jobs.hands.seat.ends ≡ a.jobs.hands.seat.ends → (handed gained posted : Bool)
     → (handed ≡ true → length a.jobs.hands.seat.handed < length h.jobs.hands.seat.handed) → (handed ≡ false → IsSame a h)
     → (gained ≡ true → gained_count h.jobs.hands < gained_count g.jobs.hands) → (gained ≡ false → IsSame h g × All IsUnknown h.jobs.hands.seat.ends)
-    → (posted ≡ true → length g.log.items < length b.log.items) → (posted ≡ false → IsSame g b × AllDrained g)
+    → (posted ≡ true → length g.log.items < length b.log.items) → (posted ≡ false → IsSame g b × NoneCanBePosted (view_of g))
     → HasDone (handed || gained || posted) a b
 done_by a h g b ah hg gb ends true gained posted more_handed none_handed more_gained none_gained more_posted none_posted =
     moved_later a g b (moved_later a h g (inr (inl (more_handed refl))) hg) gb
@@ -117,21 +115,18 @@ done_by a h g b ah hg gb ends false false false more_handed none_handed more_gai
 
 -- ---- what is done after the jobs and the completions
 -- an idle front, by its pending deletion
-idle_by : (b c : FrontState) → HasAdmin c → IsConsistent c → AllDrained c → All IsUnknown c.jobs.hands.seat.ends → IsSame b c
-    → (o : Option PendingDelete) → b.deletion ≡ o → IsWaiting b o → IsIdleFront (view_of c)
+idle_by : (b c : FrontState) → HasAdmin c → IsConsistent c → NoneCanBePosted (view_of c) → All IsUnknown c.jobs.hands.seat.ends → IsSame b c
+    → (o : Option Deletion) → pending (past_of b) ≡ o → IsWaiting b o → IsIdleFront (view_of c)
 idle_by b c admin kept drained none_gained bc None none waiting =
-    idle_front c kept admin (bc.deletion ∙ none) drained none_gained (scanned_same b c bc waiting.0) (pick_same b c bc ∙ waiting.1)
-idle_by b c admin kept drained none_gained bc (Some d) pending waiting =
-    deleting_front c d kept admin (bc.deletion ∙ pending) drained none_gained
-    (subst (λ (sqs : List SqRegion). (sq_in sqs d.region).unposted ≢ 0) (sym bc.sqs) waiting)
+    idle_front c kept admin (ap pending (past_same b c bc) ∙ none) drained none_gained (scanned_same b c bc waiting.0) (pick_same b c bc ∙ waiting.1)
+idle_by b c admin kept drained none_gained bc (Some d) is_pending waiting =
+    deleting_front c d (ap pending (past_same b c bc) ∙ is_pending) drained none_gained
+    (subst (λ (p : Past). HasUnposted p d.region) (sym (past_same b c bc)) waiting)
 
 -- a stalled front
-stalled_by : (b c : FrontState) → HasAdmin c → IsConsistent c → AllDrained c → All IsUnknown c.jobs.hands.seat.ends → IsSame b c → NeedsPlaces b
-    → IsStalledFront (view_of c)
-stalled_by b c admin kept drained none_gained bc needs =
-    stalled_front c kept admin drained none_gained (next_pick b) (pick_same b c bc)
-    (subst (λ (n : ℕ). IfSome (next_pick b) (λ (pick : Pick). max_outstanding < n + places_in c.sqs.items pick)) (sym bc.outstanding)
-    (subst (λ (sqs : List SqRegion). IfSome (next_pick b) (λ (pick : Pick). max_outstanding < b.outstanding + places_in sqs pick)) (sym bc.sqs) needs.0)) needs.1
+stalled_by : (b c : FrontState) → NoneCanBePosted (view_of c) → All IsUnknown c.jobs.hands.seat.ends → IsSame b c → NeedsPlaces b → IsStalledFront (view_of c)
+stalled_by b c drained none_gained bc needs =
+    stalled_front c drained none_gained (next_lawful (view_of b)) (pick_same b c bc) (lacks_same b c bc (next_lawful (view_of b)) needs.0) needs.1
 
 module _ (a b c : FrontState) (admin : HasAdmin a) (kept : IsConsistent c) (ab : Goes a b) (bc : Goes b c) (picks : picks_in b.log.items ≡ picks_in a.log.items) where
   -- where nothing was done before
@@ -140,12 +135,12 @@ module _ (a b c : FrontState) (admin : HasAdmin a) (kept : IsConsistent c) (ab :
   quiet_means quiet Moved it = (moved_since a b c ab (inl it.0), it.1 ∙ picks)
   quiet_means quiet Idle it =
       let ac : IsSame a c = IsSame-trans a b c quiet.same it.0 in (
-        idle_by b c (admin-goes a c (Goes-same a c ac) admin) kept (drained_same a c ac quiet.drained) (unknown_same a c ac quiet.none_gained) it.0 b.deletion refl it.1,
+        idle_by b c (admin-goes a c (Goes-same a c ac) admin) kept (drained_same a c ac quiet.drained) (unknown_same a c ac quiet.none_gained) it.0 (pending (past_of b)) refl it.1,
         still_same a c ac,
       )
   quiet_means quiet Stalled it =
       let ac : IsSame a c = IsSame-trans a b c quiet.same it.0 in (
-        stalled_by b c (admin-goes a c (Goes-same a c ac) admin) kept (drained_same a c ac quiet.drained) (unknown_same a c ac quiet.none_gained) it.0 it.1,
+        stalled_by b c (drained_same a c ac quiet.drained) (unknown_same a c ac quiet.none_gained) it.0 it.1,
         still_same a c ac,
       )
 
@@ -168,37 +163,35 @@ module _ (a b c : FrontState) (admin : HasAdmin a) (kept : IsConsistent c) (ab :
 
 -- ---- a deletion
 -- by whether it was finished
-closed_by : (a b : FrontState) (d : PendingDelete) → a.deletion ≡ Some d → picks_in b.log.items ≡ picks_in a.log.items → (finished : Bool)
-    → (finished ≡ true → length b.log.items ≡ length a.log.items + 1) → (finished ≡ false → IsSame a b × ((sq_in a.sqs.items d.region).unposted ≢ 0))
+closed_by : (a b : FrontState) (d : Deletion) → pending (past_of a) ≡ Some d → picks_in b.log.items ≡ picks_in a.log.items → (finished : Bool)
+    → (finished ≡ true → length b.log.items ≡ length a.log.items + 1) → (finished ≡ false → IsSame a b × HasUnposted (past_of a) d.region)
     → Proceeds (told_after finished Idle) a b
-closed_by a b d pending picks true ended waits = (omega (arith, ended refl), picks)
-closed_by a b d pending picks false ended waits =
-    ((waits refl).0, subst (λ (o : Option PendingDelete). IsWaiting a o) (sym pending) (waits refl).1)
+closed_by a b d is_pending picks true ended waits = (omega (arith, ended refl), picks)
+closed_by a b d is_pending picks false ended waits =
+    ((waits refl).0, subst (λ (o : Option Deletion). IsWaiting a o) (sym is_pending) (waits refl).1)
 
 -- the same of the answer
-pub closed_means : (a b : FrontState) (d : PendingDelete) → a.deletion ≡ Some d → picks_in b.log.items ≡ picks_in a.log.items → (finished : Bool)
-    → (finished ≡ true → length b.log.items ≡ length a.log.items + 1) → (finished ≡ false → IsSame a b × ((sq_in a.sqs.items d.region).unposted ≢ 0))
+pub closed_means : (a b : FrontState) (d : Deletion) → pending (past_of a) ≡ Some d → picks_in b.log.items ≡ picks_in a.log.items → (finished : Bool)
+    → (finished ≡ true → length b.log.items ≡ length a.log.items + 1) → (finished ≡ false → IsSame a b × HasUnposted (past_of a) d.region)
     → (answer : Step) → answer ≡ told_after finished Idle → Proceeds answer a b
-closed_means a b d pending picks finished ended waits answer is =
-    subst (λ (s : Step). Proceeds s a b) (sym is) (closed_by a b d pending picks finished ended waits)
+closed_means a b d is_pending picks finished ended waits answer is =
+    subst (λ (s : Step). Proceeds s a b) (sym is) (closed_by a b d is_pending picks finished ended waits)
 
 -- ---- the scan and the pick
 -- what `pick` says of a state that it left as it was, where it made no pick
 abbrev pub IsIdlePick : FrontState → FrontState → Type 0
-IsIdlePick b c = IsSame b c × (next_pick b ≡ None)
+IsIdlePick b c = IsSame b c × (next_lawful (view_of b) ≡ None)
 
 abbrev pub IsStalledPick : FrontState → FrontState → Type 0
 IsStalledPick b c = IsSame b c × NeedsPlaces b
 
-module _ (a b c : FrontState) (bc : Goes b c) (none : a.deletion ≡ None) (picks : picks_in b.log.items ≡ picks_in a.log.items) where
+module _ (a b c : FrontState) (bc : Goes b c) (none : pending (past_of a) ≡ None) (picks : picks_in b.log.items ≡ picks_in a.log.items) where
   -- the next pick of a front that is the same needs as many places
+  abbrev NeedsMore : FrontView → Type 0
+  NeedsMore v = IfSome (next_lawful v) (LacksPlaces v.rules (past_in v)) × IsSome (next_lawful v)
+
   needs_before : IsSame a b → NeedsPlaces b → NeedsPlaces a
-  needs_before ab needs = (
-    subst (λ (o : Option Pick). IfSome o (λ (pick : Pick). max_outstanding < a.outstanding + places_in a.sqs.items pick)) (pick_same a b ab)
-        (subst (λ (n : ℕ). IfSome (next_pick b) (λ (pick : Pick). max_outstanding < n + places_in a.sqs.items pick)) ab.outstanding
-        (subst (λ (sqs : List SqRegion). IfSome (next_pick b) (λ (pick : Pick). max_outstanding < b.outstanding + places_in sqs pick)) ab.sqs needs.0)),
-    subst (λ (o : Option Pick). IsSome o) (pick_same a b ab) needs.1,
-  )
+  needs_before ab needs = subst NeedsMore (same_view a b ab) needs
 
   -- by what was fetched
   served_by : (fetched : Bool) → (fetched ≡ true → length a.log.items < length b.log.items) → (fetched ≡ false → IsSame a b × AllScanned a)
@@ -211,7 +204,7 @@ module _ (a b c : FrontState) (bc : Goes b c) (none : a.deletion ≡ None) (pick
   served_by false more still Picked one never idle stalled = one refl ∙ ap (λ (n : ℕ). n + 1) picks
   served_by false more still Idle one never idle stalled =
       let ab : IsSame a b = (still refl).0 in
-      (IsSame-trans a b c ab (idle refl).0, subst (λ (o : Option PendingDelete). IsWaiting a o) (sym none) ((still refl).1, sym (pick_same a b ab) ∙ (idle refl).1))
+      (IsSame-trans a b c ab (idle refl).0, subst (λ (o : Option Deletion). IsWaiting a o) (sym none) ((still refl).1, sym (pick_same a b ab) ∙ (idle refl).1))
   served_by false more still Stalled one never idle stalled =
       let ab : IsSame a b = (still refl).0 in (IsSame-trans a b c ab (stalled refl).0, needs_before ab (stalled refl).1)
 
@@ -223,23 +216,6 @@ module _ (a b c : FrontState) (bc : Goes b c) (none : a.deletion ≡ None) (pick
       subst (λ (s : Step). Proceeds s a c) (sym is) (served_by fetched more still picked one never idle stalled)
 
 -- ---- results that are weighed
--- where the jobs stayed
-pub balanced_still : (a b : FrontState) → b.jobs ≡ a.jobs → Balanced a b
-balanced_still a b same = balances-still a.config.spaces a.jobs b.jobs same
-
--- where nothing was handed and nothing gained
-pub balanced_same : (a b : FrontState) → b.jobs.hands.seat ≡ a.jobs.hands.seat → b.jobs.hands.running ≡ a.jobs.hands.running → Balanced a b
-balanced_same a b seat running = balances-same a.config.spaces a.jobs.hands b.jobs.hands seat running
-
--- with strays, by the namespaces of the same front before
-sizes_before : (a b : FrontState) → Goes a b → (x y : Hands) (strays : List Finished) → Balances b.config.spaces x y strays → Balances a.config.spaces x y strays
-sizes_before a b goes x y strays it = subst (λ (sizes : List ℕ). Balances sizes x y strays) (λ t. (goes.config t).spaces) it
-
--- over a time before
-pub balanced_trans : (a b c : FrontState) → Goes a b → Balanced a b → Balanced b c → Balanced a c
-balanced_trans a b c goes first next =
-    balances-trans a.config.spaces a.jobs.hands b.jobs.hands c.jobs.hands [] first (sizes_before a b goes b.jobs.hands c.jobs.hands [] next)
-
 -- over jobs that are handed, results that are gained and completions that are posted
 pub caught_up_balanced : (a h g p : FrontState) → Goes a h → Goes h g → Balanced a h → Balanced h g → p.jobs ≡ g.jobs → Balanced a p
 caught_up_balanced a h g p ah hg handed gained same =
@@ -250,23 +226,6 @@ pub picked_balanced : (a b c : FrontState) → Goes a b → b.jobs ≡ a.jobs �
 picked_balanced a b c goes same seat running = balanced_trans a b c goes (balanced_still a b same) (balanced_same b c seat running)
 
 -- ---- a result of no job
--- what was gained since a time before
-pub stray_since : (ticket : ℕ) (a h g : FrontState) → Goes a h → Balanced a h → GainedStray ticket (view_of h) (view_of g) → GainedStray ticket (view_of a) (view_of g)
-stray_since ticket a h g goes balanced s = record {
-  result = s.result;
-  ticket_is = s.ticket_is;
-  more = omega (arith, s.more, goes.gained);
-  before = s.before;
-  end = s.end;
-  after = s.after;
-  got = s.got;
-  ends_are = s.ends_are;
-  last = s.last;
-  of_none = s.of_none;
-  stray = balances-trans a.config.spaces a.jobs.hands h.jobs.hands g.jobs.hands (s.result ∷ []) balanced
-      (sizes_before a h goes h.jobs.hands g.jobs.hands (s.result ∷ []) s.stray);
-}
-
 -- the answer with its ticket
 pub stray_means : (ticket : ℕ) (a h g : FrontState) → Goes a h → Balanced a h → h.log.items ≡ a.log.items → g.log.items ≡ h.log.items → (e : FrontError) → e ≡ Stray ticket
     → GainedStray ticket (view_of h) (view_of g) → ErrorMeans e (view_of a) (view_of g)
@@ -275,23 +234,22 @@ stray_means ticket a h g goes balanced log log' e is s =
 
 -- ---- a pick that failed
 -- the log is full, or too full for an admin pick
-pub pick_error_means : (a c d : FrontState) (e : FrontError) → HasAdmin c → c.deletion ≡ None → IsConsistent d → Balanced a d → picks_in d.log.items ≡ picks_in a.log.items
+pub pick_error_means : (a c d : FrontState) (e : FrontError) → pending (past_of c) ≡ None → Balanced a d → picks_in d.log.items ≡ picks_in a.log.items
     → (e ≡ LogFull → (d.config.max_events < length d.log.items + 1) ⊎ (IsSame c d × LacksAdminEvents c))
     → ((e ≡ LogFull) ⊎ (e ≡ NoMemory)) → ErrorMeans e (view_of a) (view_of d)
-pick_error_means a c d NoMemory admin none kept balanced picks full one = (picks, balanced)
-pick_error_means a c d LogFull admin none kept balanced picks full one = elim (full refl) [
+pick_error_means a c d NoMemory none balanced picks full one = (picks, balanced)
+pick_error_means a c d LogFull none balanced picks full one = elim (full refl) [
   | inl none_free ↦ (inl none_free, picks, balanced)
   | inr few ↦
       let same : IsSame c d = few.0 in
       let free : d.config.max_events < length d.log.items + admin_events = rw (same.config, same.log) few.1.0 in (
-        admin_log_full d kept (admin-goes c d (Goes-same c d same) admin) (same.deletion ∙ none) free (next_pick c) (pick_same c d same)
-            (subst (λ (n : ℕ). IfSome (next_pick c) (λ (pick : Pick). (pick.qid ≡ 0) × (n + places_in d.sqs.items pick ≤ max_outstanding))) (sym same.outstanding)
-            (subst (λ (sqs : List SqRegion). IfSome (next_pick c) (λ (pick : Pick). (pick.qid ≡ 0) × (c.outstanding + places_in sqs pick ≤ max_outstanding))) (sym same.sqs) few.1.1)) few.1.2,
+        admin_log_full d (ap pending (past_same c d same) ∙ none) free (next_lawful (view_of c)) (pick_same c d same)
+            (rw (past_same c d same, rules-goes c d (Goes-same c d same)) few.1.1) few.1.2,
         picks,
         balanced,
       )
 ]
-pick_error_means a c d (Stray ticket) admin none kept balanced picks full one = absurd (elim one [ inl e ↦ cc | inr e ↦ cc ])
+pick_error_means a c d (Stray ticket) none balanced picks full one = absurd (elim one [ inl e ↦ cc | inr e ↦ cc ])
 
 -- ---- errors
 -- of a step that had no room in the log, or no memory for it

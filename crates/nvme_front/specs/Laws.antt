@@ -1,8 +1,8 @@
 -- A law of fronts, which tests the definitions (profile).
 use Rattle.std.specs.Prelude.{◌≡◌, ℕ, true, false}
 use Rattle.nvme_log.specs.Queues.{is_closed_region}
-use Rattle.nvme_state.specs.Hands.{is_in_hand}
-use Rattle.nvme_state.specs.JobAccount.{AccountsForJobs}
+use Rattle.nvme_jobs.specs.Hands.{is_in_hand}
+use Rattle.nvme_jobs.specs.JobAccount.{AccountsForJobs}
 use Rattle.nvme_front.specs.View.{FrontView, AccountsForEnds, NoneInHandPosted, past_in}
 
 -- no command of a closed region is in hand: when a deletion was finished, and so before it was answered, each job of its queue had its result

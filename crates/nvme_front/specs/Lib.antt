@@ -3,6 +3,7 @@ pub mod Ends
 pub mod Hosts
 pub mod Laws
 pub mod LoadedFront
+pub mod Regions
 pub mod Settles
 pub mod Unsettled
 pub mod View

@@ -24,9 +24,9 @@ use Rattle.nvme_log.specs.Histories.{arbitration_of, picks_in}
 use Rattle.nvme_log.specs.Completions.{is_posted, posted_to, outstanding}
 use Rattle.nvme_log.specs.Aborts.{is_index, places_for}
 use Rattle.nvme_log.specs.Account.{IsAccount, deleting_place}
-use Rattle.nvme_state.specs.Hands.{Hands, IsOfNone, is_in_hand, gained_count}
-use Rattle.nvme_state.specs.Balance.{Balances}
-use Rattle.nvme_state.specs.Regions.{sq_steps, cq_steps}
+use Rattle.nvme_jobs.specs.Hands.{Hands, IsOfNone, is_in_hand, gained_count}
+use Rattle.nvme_jobs.specs.Balance.{Balances}
+use Rattle.nvme_front.specs.Regions.{sq_steps, cq_steps}
 use Rattle.nvme_front.specs.Ends.{get_place, put_place}
 
 pub record FrontView : Type 0 where

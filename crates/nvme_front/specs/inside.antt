@@ -1,9 +1,9 @@
 -- What only private contracts cite: no public clause reaches it (profile).
-pub mod Applied
-pub mod Clear
+pub mod Dispatching
 pub mod Goes
 pub mod Loads
 pub mod Looks
+pub mod Pushing
 pub mod Resting
 pub mod Room
 pub mod State

@@ -11,14 +11,14 @@ use std::sync::Wait;
 impl FrontState {
     ghost use Rattle.std.specs.Prelude.{◌≡◌, ℕ, ◌<◌, length, slice_index_or, IfOk, OnOk, IfErr};
     ghost use Rattle.nvme_pool.specs.Pool.{IsPool};
-    ghost use Rattle.nvme_state.specs.inside.Jobs.{IsClosed};
+    ghost use Rattle.nvme_jobs.specs.inside.Jobs.{IsClosed};
     ghost use Rattle.nvme_lane.specs.View.{GetView, PutView, IsPair};
     ghost use Rattle.nvme_lane.specs.Feeder.{put_of};
     ghost use Rattle.nvme_lane.specs.Drainer.{get_of};
     ghost use Rattle.nvme_entry.specs.declared.submission.Sqe.{Sqe};
     ghost use Rattle.nvme_entry.specs.declared.completion.Cqe.{Cqe};
     ghost use Rattle.nvme_front.specs.inside.Room.{IsConsistent};
-    ghost use Rattle.nvme_front.specs.inside.State.{gets_of, puts_of};
+    ghost use Rattle.nvme_front.specs.inside.State.{gets_of};
     ghost use Rattle.nvme_front.specs.inside.State.{view_of};
     ghost use Rattle.nvme_front.specs.inside.Looks.{LooksAtSq, LooksAtCq};
 
@@ -38,12 +38,11 @@ impl FrontState {
     pub fn beside_cq(&mut self, c: u8, drainer: &mut Drainer<Cqe>) -> u16
         requires consistent { IsConsistent self.old }
         requires there { c < length self.old.cqs.items }
-        requires pair { (p : PutView Cqe) → IsPair (slice_index_or (puts_of self.old.cqs.items) c p) (get_of drainer.old) }
+        requires pair { (p : PutView Cqe) → IsPair (slice_index_or self.old.cqs.items c p) (get_of drainer.old) }
         ensures consistent { IsConsistent self.new }
         ensures looks { LooksAtCq c drainer.old drainer.new (view_of self.old) (view_of self.new) result }
     {
-        let region = &mut self.cqs[usize::from(c)];
-        drainer.beside(&mut region.end)
+        drainer.beside(&mut self.cqs[usize::from(c)])
     }
 
     /// Closes the pool of the front's seat, and gives the log. Where memory was refused all comes back, unchanged.
@@ -62,12 +61,9 @@ impl FrontState {
         let FrontState {
             alloc: heap,
             config,
-            table,
-            board,
+            engine,
             sqs,
             cqs,
-            outstanding,
-            deletion,
             jobs,
             late,
             log,
@@ -78,12 +74,9 @@ impl FrontState {
         let state = FrontState {
             alloc: heap,
             config,
-            table,
-            board,
+            engine,
             sqs,
             cqs,
-            outstanding,
-            deletion,
             jobs,
             late,
             log,
@@ -95,10 +88,10 @@ impl FrontState {
 impl Front {
     ghost use Rattle.std.specs.Prelude.{◌≡◌, ℕ, ◌<◌, ◌≤◌, false, [], length, slice_index_or, IfOk, OnOk, IfErr};
     ghost use Rattle.nvme_pool.specs.Pool.{IsPool};
-    ghost use Rattle.nvme_state.specs.Answers.{AnswersHaveTickets};
-    ghost use Rattle.nvme_state.specs.JobAccount.{AccountsForJobs};
-    ghost use Rattle.nvme_state.specs.inside.Jobs.{IsClosed};
-    ghost use Rattle.nvme_state.specs.Hands.{in_hand};
+    ghost use Rattle.nvme_jobs.specs.Answers.{AnswersHaveTickets};
+    ghost use Rattle.nvme_jobs.specs.JobAccount.{AccountsForJobs};
+    ghost use Rattle.nvme_jobs.specs.inside.Jobs.{IsClosed};
+    ghost use Rattle.nvme_jobs.specs.Hands.{in_hand};
     ghost use Rattle.nvme_admin.specs.declared.bounds.TheConstants.{MAX_REGIONS};
     ghost use Rattle.nvme_lane.specs.View.{GetView, PutView, IsPair};
     ghost use Rattle.nvme_lane.specs.Feeder.{put_of};
@@ -140,7 +133,7 @@ impl Front {
         requires { c < length self.now.puts }
         ensures { (p : PutView Cqe) → result ≡ (slice_index_or self.now.puts c p).address }
     {
-        self.state.cqs[usize::from(c)].end.address()
+        self.state.cqs[usize::from(c)].address()
     }
 
     /// The number of commands that rest in a submission ring, by a look at both of its ends.

@@ -98,8 +98,8 @@ impl Front {
     ghost use Rattle.nvme_front.specs.Adding.{IsAdded, IsNotAdded, submissions, completions};
     ghost use Rattle.nvme_front.specs.LoadedFront.{IsLoadedFront, GotWithin};
     ghost use Rattle.nvme_admin.specs.declared.bounds.TheConstants.{MAX_REGIONS};
-    ghost use Rattle.nvme_state.specs.Answers.{AnswersHaveResults};
-    ghost use Rattle.nvme_state.specs.JobAccount.{AccountsForJobs};
+    ghost use Rattle.nvme_jobs.specs.Answers.{AnswersHaveResults};
+    ghost use Rattle.nvme_jobs.specs.JobAccount.{AccountsForJobs};
     ghost use Rattle.std.specs.List.{All};
     ghost use Rattle.nvme_pool.specs.Seat.{IsUnknown};
     ghost use Rattle.nvme_front.specs.View.{AccountsForEnds, GoesOn, HasItsRegions, HasNoStray, NoneInHandPosted, GoesToEnd, StepMeans, ErrorMeans, is_address, past_in};

@@ -1,8 +1,8 @@
 // Hands over jobs to the workers, and gains their results.
 use crate::front::FrontError;
 use crate::state::FrontState;
+use nvme_jobs::Gained;
 use nvme_pool::Lanes;
-use nvme_state::{Gained, Ready};
 use std::sync::Wait;
 
 impl FrontState {
@@ -10,7 +10,7 @@ impl FrontState {
     ghost use Rattle.std.specs.List.{All};
     ghost use Rattle.nvme_pool.specs.Seat.{IsUnknown};
     ghost use Rattle.nvme_front.specs.inside.Room.{IsConsistent};
-    ghost use Rattle.nvme_state.specs.Hands.{gained_count};
+    ghost use Rattle.nvme_jobs.specs.Hands.{gained_count, in_hand};
     ghost use Rattle.nvme_front.specs.inside.Goes.{Goes, IsSame, HasAdmin};
     ghost use Rattle.nvme_front.specs.inside.Turn.{Balanced};
     ghost use Rattle.nvme_front.specs.inside.State.{view_of};
@@ -27,8 +27,9 @@ impl FrontState {
         ensures log { self.new.log.items ≡ self.old.log.items }
         ensures sqs { self.new.sqs.items ≡ self.old.sqs.items }
         ensures cqs { self.new.cqs.items ≡ self.old.cqs.items }
-        ensures deletion { self.new.deletion ≡ self.old.deletion }
+        ensures engine { self.new.engine ≡ self.old.engine }
         ensures ends { self.new.jobs.hands.seat.ends ≡ self.old.jobs.hands.seat.ends }
+        ensures in_hand { in_hand self.new.jobs.hands ≡ in_hand self.old.jobs.hands }
         ensures balanced { Balanced self.old self.new }
         ensures fewer { result ≡ true → length self.new.jobs.hands.unhanded < length self.old.jobs.hands.unhanded }
         ensures more { result ≡ true → length self.old.jobs.hands.seat.handed < length self.new.jobs.hands.seat.handed }
@@ -48,8 +49,9 @@ impl FrontState {
         ensures log { self.new.log.items ≡ self.old.log.items }
         ensures sqs { self.new.sqs.items ≡ self.old.sqs.items }
         ensures cqs { self.new.cqs.items ≡ self.old.cqs.items }
-        ensures deletion { self.new.deletion ≡ self.old.deletion }
+        ensures engine { self.new.engine ≡ self.old.engine }
         ensures ends { self.new.jobs.hands.seat.ends ≡ self.old.jobs.hands.seat.ends }
+        ensures in_hand { in_hand self.new.jobs.hands ≡ in_hand self.old.jobs.hands }
         ensures balanced { Balanced self.old self.new }
         ensures more { result ≡ true → length self.old.jobs.hands.seat.handed < length self.new.jobs.hands.seat.handed }
         ensures still { result ≡ false → IsSame self.old self.new }
@@ -70,7 +72,7 @@ impl FrontState {
         ensures goes { Goes self.old self.new }
         ensures log { self.new.log.items ≡ self.old.log.items }
         ensures sqs { self.new.sqs.items ≡ self.old.sqs.items }
-        ensures deletion { self.new.deletion ≡ self.old.deletion }
+        ensures cqs { self.new.cqs.items ≡ self.old.cqs.items }
         ensures fewer { result ≡ Ok true → length self.new.jobs.hands.running < length self.old.jobs.hands.running }
         ensures more { result ≡ Ok true → gained_count self.old.jobs.hands < gained_count self.new.jobs.hands }
         ensures still { result ≡ Ok false → IsSame self.old self.new × All IsUnknown self.old.jobs.hands.seat.ends }
@@ -82,12 +84,7 @@ impl FrontState {
             Gained::Stray(ticket) => return Err(FrontError::Stray(ticket)),
             Gained::Result(dispatched, status) => (dispatched, status),
         };
-        let Some(attachment) = self.sqs[usize::from(dispatched.place.region)].queue else {
-            unreachable!()
-        };
-        self.cqs[usize::from(attachment.cq_region)]
-            .ready
-            .push(Ready::done(attachment.qid, &dispatched, status));
+        self.engine.complete(dispatched.tag, status);
         Ok(true)
     }
 
@@ -100,7 +97,7 @@ impl FrontState {
         ensures goes { Goes self.old self.new }
         ensures log { self.new.log.items ≡ self.old.log.items }
         ensures sqs { self.new.sqs.items ≡ self.old.sqs.items }
-        ensures deletion { self.new.deletion ≡ self.old.deletion }
+        ensures cqs { self.new.cqs.items ≡ self.old.cqs.items }
         ensures more { result ≡ Ok true → gained_count self.old.jobs.hands < gained_count self.new.jobs.hands }
         ensures still { result ≡ Ok false → IsSame self.old self.new × All IsUnknown self.old.jobs.hands.seat.ends }
         ensures balanced { OnOk result (Balanced self.old self.new) }

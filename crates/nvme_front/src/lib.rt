@@ -1,20 +1,20 @@
 //! The front of an NVMe controller, which fetches commands, picks them by arbitration, has them executed and posts
-//! their completions, and is settled with its hosts at the end. `nvme_log` defines what its log says, and `nvme_state`
-//! what it keeps beside the log.
+//! their completions, and is settled with its hosts at the end: a controller (`nvme_engine`) with the front's ends of the
+//! rings, the jobs of the workers (`nvme_jobs`) and a log. `nvme_log` defines what its log says.
 #![tactic(auto)]
 
 mod arbitration;
-mod candidates;
+mod beginning;
 mod completions;
 mod deletion;
-mod effects;
+mod dispatches;
 mod ends;
 mod front;
 mod handover;
 mod last_look;
 pub mod laws;
-mod limits;
 mod log;
+mod region;
 mod regions;
 mod scan;
 mod settled;

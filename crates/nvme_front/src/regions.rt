@@ -1,31 +1,24 @@
 // Makes a front, and adds regions to it.
 use crate::front::{AddError, FrontConfig};
-use crate::limits::MAX_READY;
+use crate::region::SqRegion;
 use crate::state::FrontState;
-use nvme_admin::{MAX_REGIONS, Table};
-use nvme_arbiter::{Board, Class};
+use nvme_admin::MAX_REGIONS;
+use nvme_engine::Engine;
 use nvme_entry::{Cqe, Sqe};
+use nvme_jobs::Jobs;
 use nvme_lane::{GetEnd, PutEnd};
-use nvme_log::window_of;
 use nvme_pool::FrontSeat;
-use nvme_state::{Attachment, CqRegion, Fifo, Jobs, SqRegion};
 use std::alloc::Global;
 
-// The admin queue, which its region 0 is for. It posts to completion region 0.
-const ADMIN: Attachment = Attachment {
-    qid: 0,
-    cq_region: 0,
-};
-
 impl FrontState {
-    ghost use Rattle.std.specs.Prelude.{◌≡◌, ◌≢◌, ◌+◌, ◌<◌, [], ◌∷◌, ◌++◌, ◌||◌, Bool, true, false, length, IfOk, OnOk, IfErr, OnErr};
+    ghost use Rattle.std.specs.Prelude.{◌≡◌, ◌<◌, [], true, false, length, vec_capacity, IfOk, IfErr};
     ghost use Rattle.nvme_admin.specs.declared.bounds.TheConstants.{MAX_REGIONS};
-    ghost use Rattle.nvme_front.specs.inside.Room.{IsConsistent};
-    ghost use Rattle.nvme_front.specs.inside.State.{gets_of, puts_of};
+    ghost use Rattle.nvme_front.specs.inside.Goes.{HasAdmin};
+    ghost use Rattle.nvme_front.specs.inside.Pushing.{HasSqMore, HasCqMore};
+    ghost use Rattle.nvme_front.specs.inside.Room.{IsConsistent, IsFreshSq, HasRoom};
     ghost use Rattle.nvme_front.specs.inside.State.{view_of};
     ghost use Rattle.nvme_front.specs.Adding.{IsAdded, IsNotAdded, submissions, completions};
     ghost use Rattle.nvme_front.specs.View.{is_address};
-    ghost use Rattle.nvme_front.specs.declared.front.AddError.TheVariants.{Used, TooMany, NoMemory};
 
     /// A front with no region and an empty log.
     pub fn new(alloc: Global, config: FrontConfig, seat: FrontSeat) -> FrontState
@@ -40,12 +33,9 @@ impl FrontState {
         FrontState {
             alloc,
             config,
-            table: Table::new(config.limits, config.settings),
-            board: Board::new(config.mechanism, config.settings),
+            engine: Engine::new(alloc, config.mechanism, config.settings, config.limits),
             sqs: Vec::new(alloc),
             cqs: Vec::new(alloc),
-            outstanding: 0,
-            deletion: None,
             jobs: Jobs::new(alloc, seat),
             late: false,
             log: Vec::new(alloc),
@@ -57,11 +47,92 @@ impl FrontState {
         ensures { result ≡ is_address (view_of self.now) address }
     {
         self.sqs.iter().any(|sq| sq.end.address() == address)
-            || self.cqs.iter().any(|cq| cq.end.address() == address)
+            || self.cqs.iter().any(|end| end.address() == address)
     }
 
-    /// Adds a submission region, with room for its window and for jobs. Region 0 is the admin queue's, which is open
-    /// from then on.
+    // Makes room for a submission region, for the jobs and for the slots of the engine. False where memory was refused;
+    // all but room is as it was.
+    fn make_room(&mut self) -> bool
+        requires consistent { IsConsistent self.old }
+        ensures consistent { IsConsistent self.new }
+        ensures room { result ≡ true → HasRoom self.new }
+        ensures place { result ≡ true → length self.new.sqs.items < vec_capacity self.new.sqs }
+        ensures view { view_of self.new ≡ view_of self.old }
+    {
+        self.jobs.make_room(self.alloc)
+            && self.engine.make_room(self.alloc)
+            && self.sqs.reserve(1).is_ok()
+    }
+
+    // Appends a submission region, for which there is room.
+    fn append_sq(&mut self, sq: SqRegion)
+        requires room { length self.old.sqs.items < vec_capacity self.old.sqs }
+        ensures more { HasSqMore self.old self.new sq }
+        ensures engine { self.new.engine ≡ self.old.engine }
+    {
+        self.late = !self.log.is_empty();
+        let Ok(()) = self.sqs.push(sq) else {
+            unreachable!()
+        };
+    }
+
+    // Appends a completion region, for which there is room.
+    fn append_cq(&mut self, end: PutEnd<Cqe>)
+        requires room { length self.old.cqs.items < vec_capacity self.old.cqs }
+        ensures more { HasCqMore self.old self.new end }
+        ensures engine { self.new.engine ≡ self.old.engine }
+    {
+        self.late = !self.log.is_empty();
+        let Ok(()) = self.cqs.push(end) else {
+            unreachable!()
+        };
+    }
+
+    // Adds a submission region, for which there is room. The engine gets it too, or begins if it waited for it.
+    fn push_sq(&mut self, sq: SqRegion)
+        requires consistent { IsConsistent self.old }
+        requires room { HasRoom self.old }
+        requires place { length self.old.sqs.items < vec_capacity self.old.sqs }
+        requires few { length self.old.sqs.items < MAX_REGIONS }
+        requires not_used { is_address (view_of self.old) sq.end.address ≡ false }
+        requires fresh { IsFreshSq sq }
+        ensures consistent { IsConsistent self.new }
+        ensures more { HasSqMore self.old self.new sq }
+    {
+        if !self.has_admin() {
+            self.append_sq(sq);
+            self.begin();
+            return;
+        }
+        let Ok(_) = self.engine.add_sq(sq.end.address(), sq.end.slots()) else {
+            unreachable!()
+        };
+        self.append_sq(sq);
+    }
+
+    // Adds a completion region, as `push_sq` adds a submission region.
+    fn push_cq(&mut self, end: PutEnd<Cqe>)
+        requires consistent { IsConsistent self.old }
+        requires place { length self.old.cqs.items < vec_capacity self.old.cqs }
+        requires few { length self.old.cqs.items < MAX_REGIONS }
+        requires not_used { is_address (view_of self.old) end.address ≡ false }
+        requires nothing_sent { end.sent ≡ [] }
+        ensures consistent { IsConsistent self.new }
+        ensures more { HasCqMore self.old self.new end }
+    {
+        if !self.has_admin() {
+            self.append_cq(end);
+            self.begin();
+            return;
+        }
+        let Ok(_) = self.engine.add_cq(end.address(), end.slots()) else {
+            unreachable!()
+        };
+        self.append_cq(end);
+    }
+
+    /// Adds a submission region, with room for jobs and slots. Region 0 is the admin queue's, which is open once both admin
+    /// regions are there: the engine begins then.
     pub fn add_sq(&mut self, end: GetEnd<Sqe>) -> Result<u8, (AddError, GetEnd<Sqe>)>
         requires consistent { IsConsistent self.old }
         requires nothing_got { end.got ≡ [] }
@@ -75,35 +146,15 @@ impl FrontState {
         if self.sqs.len() == MAX_REGIONS {
             return Err((AddError::TooMany, end));
         }
-        let Some(window) = Fifo::new(self.alloc, usize::from(window_of(end.slots()))) else {
-            return Err((AddError::NoMemory, end));
-        };
-        if !self.jobs.make_room(self.alloc) || self.sqs.reserve(1).is_err() {
+        if !self.make_room() {
             return Err((AddError::NoMemory, end));
         }
-        let Ok(number) = self.table.add_sq_region(end.address(), end.slots()) else {
-            unreachable!()
-        };
-        let mut queue = None;
-        if number == 0 {
-            self.board.open(0, Class::Admin);
-            queue = Some(ADMIN);
-        }
-        self.late = !self.log.is_empty();
-        let Ok(()) = self.sqs.push(SqRegion {
-            end,
-            window,
-            fetched: 0,
-            unposted: 0,
-            queue,
-        })
-        else {
-            unreachable!()
-        };
+        let number = self.sqs.len() as u8;
+        self.push_sq(SqRegion { end, fetched: 0 });
         Ok(number)
     }
 
-    /// Adds a completion region, with room for its ready completions.
+    /// Adds a completion region, as `add_sq` adds a submission region.
     pub fn add_cq(&mut self, end: PutEnd<Cqe>) -> Result<u8, (AddError, PutEnd<Cqe>)>
         requires consistent { IsConsistent self.old }
         requires nothing_sent { end.sent ≡ [] }
@@ -117,24 +168,11 @@ impl FrontState {
         if self.cqs.len() == MAX_REGIONS {
             return Err((AddError::TooMany, end));
         }
-        let Some(ready) = Fifo::new(self.alloc, MAX_READY) else {
-            return Err((AddError::NoMemory, end));
-        };
         if self.cqs.reserve(1).is_err() {
             return Err((AddError::NoMemory, end));
         }
-        let Ok(number) = self.table.add_cq_region(end.address(), end.slots()) else {
-            unreachable!()
-        };
-        self.late = !self.log.is_empty();
-        let Ok(()) = self.cqs.push(CqRegion {
-            end,
-            posted: 0,
-            ready,
-        })
-        else {
-            unreachable!()
-        };
+        let number = self.cqs.len() as u8;
+        self.push_cq(end);
         Ok(number)
     }
 }

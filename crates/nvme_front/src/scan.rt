@@ -2,14 +2,17 @@
 use crate::front::FrontError;
 use crate::log::{make_room, note};
 use crate::state::FrontState;
-use nvme_log::Event;
-use nvme_state::Candidate;
+use nvme_arbiter::QUEUE_LIMIT;
+use nvme_log::{Event, window_of};
 
 impl FrontState {
     ghost use Rattle.std.specs.Prelude.{◌≡◌, ◌≢◌, ℕ, ◌+◌, ◌<◌, ◌≤◌, length, Option, Some, None, OnOk, IfErr, true, false, ◌⊎◌};
     ghost use Rattle.nvme_front.specs.inside.Room.{IsConsistent};
     ghost use Rattle.nvme_front.specs.inside.Goes.{Goes, IsSame, HasAdmin, IsScanned, AllScanned};
     ghost use Rattle.nvme_front.specs.inside.Loads.{Loads};
+    ghost use Rattle.nvme_front.specs.inside.State.{past_of, view_of};
+    ghost use Rattle.nvme_front.specs.View.{NoneCanBePosted};
+    ghost use Rattle.nvme_log.specs.Queues.{pending};
     ghost use Rattle.nvme_log.specs.Histories.{picks_in};
     ghost use Rattle.nvme_front.specs.declared.front.FrontError.TheVariants.{NoMemory, LogFull};
 
@@ -17,38 +20,40 @@ impl FrontState {
     fn fetch_one(&mut self, qid: u16) -> Result<bool, FrontError>
         requires consistent { IsConsistent self.old }
         requires admin { HasAdmin self.old }
-        requires none_pending { self.old.deletion ≡ None }
+        requires none_pending { pending (past_of self.old) ≡ None }
         ensures consistent { IsConsistent self.new }
         ensures goes { Goes self.old self.new }
         ensures loads { ((q : ℕ) → q < qid → IsScanned self.old q) → Loads self.old self.new }
         ensures cqs { self.new.cqs.items ≡ self.old.cqs.items }
         ensures jobs { self.new.jobs ≡ self.old.jobs }
         ensures picks { picks_in self.new.log.items ≡ picks_in self.old.log.items }
-        ensures none_pending { self.new.deletion ≡ None }
+        ensures none_pending { pending (past_of self.new) ≡ None }
+        ensures posted { NoneCanBePosted (view_of self.old) → NoneCanBePosted (view_of self.new) }
         ensures more { result ≡ Ok true → length self.new.log.items ≡ length self.old.log.items + 1 }
         ensures others { (q : ℕ) → q ≢ qid → IsScanned self.old q → IsScanned self.new q }
         ensures still { result ≡ Ok false → IsSame self.old self.new × IsScanned self.old qid }
         ensures full { result ≡ Err LogFull → self.new.config.max_events < length self.new.log.items + 1 }
         ensures no_stray { IfErr result (λ e. (e ≡ LogFull) ⊎ (e ≡ NoMemory)) }
     {
-        let Some(queue) = self.table.sq(qid) else {
+        let Some(region) = self.engine.sq_region(qid) else {
             return Ok(false);
         };
-        let r = usize::from(queue.region);
-        if queue.closing || self.sqs[r].is_full() {
+        let r = usize::from(region);
+        let slots = self.sqs[r].end.slots();
+        if self.engine.waiting(qid) >= window_of(slots) {
             return Ok(false);
         }
         make_room(&mut self.log, self.config.max_events, 1)?;
-        let Some(candidate) = self.sqs[r].fetch() else {
+        let Some(got) = self.sqs[r].get() else {
             return Ok(false);
         };
-        self.board.came(qid);
+        self.engine.fetched(qid, slots, got.index, &got.entry);
         note(
             &mut self.log,
             Event::Fetch {
-                region: queue.region,
-                index: candidate.index,
-                entry: candidate.entry,
+                region,
+                index: got.index,
+                entry: got.entry,
             },
         );
         Ok(true)
@@ -58,14 +63,15 @@ impl FrontState {
     fn scan_queue(&mut self, qid: u16) -> Result<bool, FrontError>
         requires consistent { IsConsistent self.old }
         requires admin { HasAdmin self.old }
-        requires none_pending { self.old.deletion ≡ None }
+        requires none_pending { pending (past_of self.old) ≡ None }
         ensures consistent { IsConsistent self.new }
         ensures goes { Goes self.old self.new }
         ensures loads { ((q : ℕ) → q < qid → IsScanned self.old q) → Loads self.old self.new }
         ensures cqs { self.new.cqs.items ≡ self.old.cqs.items }
         ensures jobs { self.new.jobs ≡ self.old.jobs }
         ensures picks { picks_in self.new.log.items ≡ picks_in self.old.log.items }
-        ensures none_pending { self.new.deletion ≡ None }
+        ensures none_pending { pending (past_of self.new) ≡ None }
+        ensures posted { NoneCanBePosted (view_of self.old) → NoneCanBePosted (view_of self.new) }
         ensures more { result ≡ Ok true → length self.old.log.items < length self.new.log.items }
         ensures others { (q : ℕ) → q ≢ qid → IsScanned self.old q → IsScanned self.new q }
         ensures scanned { OnOk result (IsScanned self.new qid) }
@@ -84,14 +90,15 @@ impl FrontState {
     pub fn scan(&mut self) -> Result<bool, FrontError>
         requires consistent { IsConsistent self.old }
         requires admin { HasAdmin self.old }
-        requires none_pending { self.old.deletion ≡ None }
+        requires none_pending { pending (past_of self.old) ≡ None }
         ensures consistent { IsConsistent self.new }
         ensures goes { Goes self.old self.new }
         ensures loads { Loads self.old self.new }
         ensures cqs { self.new.cqs.items ≡ self.old.cqs.items }
         ensures jobs { self.new.jobs ≡ self.old.jobs }
         ensures picks { picks_in self.new.log.items ≡ picks_in self.old.log.items }
-        ensures none_pending { self.new.deletion ≡ None }
+        ensures none_pending { pending (past_of self.new) ≡ None }
+        ensures posted { NoneCanBePosted (view_of self.old) → NoneCanBePosted (view_of self.new) }
         ensures more { result ≡ Ok true → length self.old.log.items < length self.new.log.items }
         ensures scanned { OnOk result (AllScanned self.new) }
         ensures still { result ≡ Ok false → IsSame self.old self.new }
@@ -99,9 +106,7 @@ impl FrontState {
         ensures no_stray { IfErr result (λ e. (e ≡ LogFull) ⊎ (e ≡ NoMemory)) }
     {
         let mut fetched = false;
-        // (no queue above the allotted number is open)
-        let end = self.table.allotted().nsq + 1;
-        for qid in 0..end {
+        for qid in 0..QUEUE_LIMIT as u16 {
             if self.scan_queue(qid)? {
                 fetched = true;
             }

@@ -1,14 +1,14 @@
 ghost use Rattle.std.specs.Prelude.{◌≡◌};
-ghost use Rattle.std.specs.List.{list_all};
-ghost use Rattle.nvme_front.specs.inside.Clear.{no_window, no_ready};
 ghost use Rattle.nvme_front.specs.inside.Turn.{told_after};
 
 use crate::front::{FrontConfig, FrontError, Step};
-use nvme_admin::Table;
-use nvme_arbiter::Board;
+use crate::region::SqRegion;
+use nvme_engine::Engine;
+use nvme_entry::Cqe;
+use nvme_jobs::Jobs;
+use nvme_lane::PutEnd;
 use nvme_log::Event;
 use nvme_pool::Lanes;
-use nvme_state::{CqRegion, Jobs, PendingDelete, SqRegion};
 use std::alloc::Global;
 use std::sync::Wait;
 
@@ -17,13 +17,10 @@ use std::sync::Wait;
 pub struct FrontState {
     pub alloc: Global,
     pub config: FrontConfig,
-    pub table: Table,
-    pub board: Board,
+    // It begins when both admin regions are there.
+    pub engine: Engine,
     pub sqs: Vec<SqRegion>,
-    pub cqs: Vec<CqRegion>,
-    // How many places were picked, or aborted by an Abort command, and have no completion posted.
-    pub outstanding: u16,
-    pub deletion: Option<PendingDelete>,
+    pub cqs: Vec<PutEnd<Cqe>>,
     pub jobs: Jobs,
     // Whether a region was added after the first event.
     pub late: bool,
@@ -34,15 +31,15 @@ impl FrontState {
     ghost use Rattle.std.specs.Prelude.{◌≡◌, ◌↔◌, length, None, IfOk, OnOk, IfErr, IsTrue, ◌&&◌, nat_lt};
     ghost use Rattle.nvme_front.specs.inside.Room.{IsConsistent};
     ghost use Rattle.nvme_front.specs.inside.State.{past_of};
-    ghost use Rattle.nvme_front.specs.inside.Goes.{Goes, HasAdmin, AllDrained};
+    ghost use Rattle.nvme_front.specs.inside.Goes.{Goes, HasAdmin};
     ghost use Rattle.nvme_front.specs.inside.State.{view_of};
-    ghost use Rattle.nvme_front.specs.View.{HasNoPickMore, GoesToEnd, StepMeans, ErrorMeans};
+    ghost use Rattle.nvme_front.specs.View.{HasNoPickMore, NoneCanBePosted, GoesToEnd, StepMeans, ErrorMeans};
     ghost use Rattle.std.specs.List.{All};
     ghost use Rattle.nvme_pool.specs.Seat.{IsUnknown};
     ghost use Rattle.nvme_front.specs.inside.Turn.{HasDone, Proceeds, Balanced};
     ghost use Rattle.nvme_front.specs.inside.Loads.{PostsOnly, Loads};
     ghost use Rattle.nvme_log.specs.Account.{IsClear};
-    ghost use Rattle.nvme_log.specs.Queues.{is_serving};
+    ghost use Rattle.nvme_log.specs.Queues.{is_serving, pending};
 
     /// Makes one turn, as `Front::turn` says.
     pub fn turn<R: Wait>(&mut self, rt: &R, lanes: &Lanes) -> Result<Step, FrontError>
@@ -72,10 +69,10 @@ impl FrontState {
         ensures consistent { IsConsistent self.new }
         ensures goes { Goes self.old self.new }
         ensures posts { PostsOnly self.old self.new }
-        ensures drained { OnOk result (AllDrained self.new) }
+        ensures drained { OnOk result (NoneCanBePosted (view_of self.new)) }
         ensures picks { HasNoPickMore (view_of self.old) (view_of self.new) }
         ensures done { IfOk result (λ moved. HasDone moved self.old self.new) }
-        ensures deletion { self.new.deletion ≡ self.old.deletion }
+        ensures deletion { pending (past_of self.new) ≡ pending (past_of self.old) }
         ensures balanced { OnOk result (Balanced self.old self.new) }
         ensures none_known { OnOk result (All IsUnknown self.new.jobs.hands.seat.ends) }
         ensures error { IfErr result (λ error. ErrorMeans error (view_of self.old) (view_of self.new)) }
@@ -91,7 +88,7 @@ impl FrontState {
         requires consistent { IsConsistent self.old }
         requires admin { HasAdmin self.old }
         requires seat { self.old.jobs.hands.seat.lane ≡ lanes.now }
-        requires drained { AllDrained self.old }
+        requires drained { NoneCanBePosted (view_of self.old) }
         ensures consistent { IsConsistent self.new }
         ensures goes { Goes self.old self.new }
         ensures loads { Loads self.old self.new }
@@ -101,10 +98,10 @@ impl FrontState {
         ensures ends { self.new.jobs.hands.seat.ends ≡ self.old.jobs.hands.seat.ends }
         ensures error { IfErr result (λ error. ErrorMeans error (view_of self.old) (view_of self.new)) }
     {
-        let Some(deletion) = self.deletion else {
+        if !self.engine.is_deleting() {
             return self.serve(rt, lanes);
-        };
-        let finished = self.finish(deletion)?;
+        }
+        let finished = self.finish()?;
         Ok(step_after(finished, Step::Idle))
     }
 
@@ -113,8 +110,8 @@ impl FrontState {
         requires consistent { IsConsistent self.old }
         requires admin { HasAdmin self.old }
         requires seat { self.old.jobs.hands.seat.lane ≡ lanes.now }
-        requires drained { AllDrained self.old }
-        requires none_pending { self.old.deletion ≡ None }
+        requires drained { NoneCanBePosted (view_of self.old) }
+        requires none_pending { pending (past_of self.old) ≡ None }
         ensures consistent { IsConsistent self.new }
         ensures goes { Goes self.old self.new }
         ensures loads { Loads self.old self.new }
@@ -140,10 +137,7 @@ impl FrontState {
         requires consistent { IsConsistent self.now }
         ensures { IsTrue result ↔ IsClear (past_of self.now) }
     {
-        self.deletion.is_none()
-            && self.outstanding == 0
-            && none_waits(&self.sqs)
-            && none_ready(&self.cqs)
+        self.sqs.is_empty() || self.cqs.is_empty() || self.engine.is_clear()
     }
 
     /// Whether the queue of this submission region is open or closing.
@@ -151,31 +145,14 @@ impl FrontState {
         requires consistent { IsConsistent self.now }
         ensures { result ≡ (nat_lt region (length self.now.sqs.items) && is_serving (past_of self.now) region) }
     {
-        let Some(sq) = self.sqs.get(usize::from(region)) else {
+        if usize::from(region) >= self.sqs.len() {
             return false;
-        };
-        let Some(attachment) = sq.queue else {
-            return false;
-        };
-        let Some(queue) = self.table.sq(attachment.qid) else {
-            return false;
-        };
-        queue.region == region
+        }
+        if self.cqs.is_empty() {
+            return region == 0;
+        }
+        self.engine.is_serving(region)
     }
-}
-
-// Whether no candidate waits in the window of any of these regions.
-fn none_waits(sqs: &[SqRegion]) -> bool
-    ensures { result ≡ list_all no_window sqs.now }
-{
-    sqs.iter().all(|sq| sq.window.is_empty())
-}
-
-// Whether no completion is ready for any of these regions.
-fn none_ready(cqs: &[CqRegion]) -> bool
-    ensures { result ≡ list_all no_ready cqs.now }
-{
-    cqs.iter().all(|cq| cq.ready.is_empty())
 }
 
 // The answer of a turn: a step without a pick is `Moved` where something was done before it, and a pick stays a pick.

@@ -27,7 +27,8 @@ use Rattle.nvme_log.specs.Foreseen.{foreseen}
 use Rattle.nvme_log.proofs.AbortAnswers.{entry-stays}
 use Rattle.nvme_log.proofs.Foreseen.{answers_are_foreseen}
 use Rattle.nvme_log.proofs.Prefixes.{Each-after, accounted, posted_to-after}
-use Rattle.nvme_state.proofs.RegionSteps.{is_addition, only_adds, added_sqs, added_cqs, first_table, table_of-additions}
+use Rattle.nvme_engine.specs.Regions.{is_addition, only_adds}
+use Rattle.nvme_engine.proofs.Additions.{added_sqs, added_cqs, first_table, table_of-additions}
 use Rattle.nvme_front.proofs.Starting.{admin_sq-some, admin_cq-some}
 use Rattle.nvme_front.specs.Hosts.{sent_at, collected_at}
 use Rattle.nvme_front.specs.Settles.{settled_past}

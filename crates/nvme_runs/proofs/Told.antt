@@ -10,9 +10,12 @@ use Rattle.nvme_pool.proofs.Retiring.{sum_by_map}
 use Rattle.nvme_log.specs.Rules.{Past}
 use Rattle.nvme_log.specs.declared.place.Place.{Place}
 use Rattle.nvme_log.specs.Dispatches.{AreJobs, ExecutesOnce, dispatched}
-use Rattle.nvme_state.proofs.Readying.{sum_by-same}
 use Rattle.nvme_threads.specs.Runs.{AllRan}
 use Rattle.nvme_runs.specs.Runs.{AreTold, GatesRan, view_after}
+
+-- sums of the same numbers
+sum_by-same : {X : Type 0} (f g : X → ℕ) (xs : List X) → ((x : X) → f x ≡ g x) → sum_by f xs ≡ sum_by g xs
+sum_by-same {X = X} f g xs h = ap (λ (z : X → ℕ). sum_by z xs) (λ i x. h x i)
 
 -- the ticket of a job
 abbrev ticket_of : Job → ℕ

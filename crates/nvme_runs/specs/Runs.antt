@@ -18,7 +18,7 @@ use Rattle.nvme_log.specs.Rules.{FrontRules, Past}
 use Rattle.nvme_log.specs.Account.{IsWholeAccount}
 use Rattle.nvme_log.specs.Loaded.{IsLoadedLog, without_posts}
 use Rattle.nvme_log.specs.Dispatches.{dispatched}
-use Rattle.nvme_state.specs.Answers.{AnswersHaveTickets}
+use Rattle.nvme_jobs.specs.Answers.{AnswersHaveTickets}
 use Rattle.nvme_front.specs.Hosts.{sent_at, collected_at}
 use Rattle.nvme_front.specs.Settles.{settled_past}
 use Rattle.nvme_front.specs.View.{FrontView, past_in}

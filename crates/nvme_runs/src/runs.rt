@@ -4,7 +4,7 @@ ghost use Rattle.nvme_lane.specs.Limits.{IsOutside};
 ghost use Rattle.nvme_pool.specs.Limits.{max_workers};
 ghost use Rattle.nvme_log.specs.Account.{IsWholeAccount};
 ghost use Rattle.nvme_log.specs.Loaded.{IsLoadedLog, without_posts};
-ghost use Rattle.nvme_state.specs.Answers.{AnswersHaveTickets};
+ghost use Rattle.nvme_jobs.specs.Answers.{AnswersHaveTickets};
 ghost use Rattle.nvme_front.specs.Hosts.{sent_at, collected_at};
 ghost use Rattle.nvme_front.specs.Settles.{settled_past};
 ghost use Rattle.nvme_workload.specs.Plan.{plan_of, workload_of};

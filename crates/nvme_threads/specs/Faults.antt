@@ -1,7 +1,7 @@
 -- What a drive answers where it fails (profile).
 use Rattle.std.specs.Prelude.{◌≡◌, ◌⊎◌, false}
-use Rattle.nvme_state.specs.Answers.{AnswersHaveResults}
-use Rattle.nvme_state.specs.JobAccount.{AccountsForJobs}
+use Rattle.nvme_jobs.specs.Answers.{AnswersHaveResults}
+use Rattle.nvme_jobs.specs.JobAccount.{AccountsForJobs}
 use Rattle.nvme_front.specs.View.{FrontView, GoesOn, AccountsForEnds, NoneInHandPosted, ErrorMeans, past_in}
 use Rattle.nvme_front.specs.declared.front.FrontError.{FrontError}
 use Rattle.nvme_front.specs.declared.front.FrontError.TheVariants as front

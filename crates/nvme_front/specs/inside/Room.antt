@@ -1,43 +1,95 @@
--- The room of windows and of ready completions, and when a front is kept: what it keeps stands at its log (profile).
-use Rattle.std.specs.Prelude.{◌≡◌, ℕ, ◌≤◌, ◌<◌, [], length, map}
+-- When a front is kept: its engine stands at its log, which accounts for its ends and its jobs, and it has room (profile).
+use Rattle.std.specs.Prelude.{◌≡◌, ℕ, ◌<◌, ◌≤◌, true, false, List, [], ◌++◌, length, map, Some}
+use Rattle.std.specs.List.{All, Contains}
+use Rattle.nvme_entry.specs.declared.completion.Cqe.{Cqe}
 use Rattle.nvme_admin.specs.declared.bounds.TheConstants.{MAX_REGIONS}
-use Rattle.nvme_admin.specs.declared.region.Region.{Region}
-use Rattle.nvme_state.specs.declared.region.SqRegion.{SqRegion}
-use Rattle.nvme_state.specs.declared.region.CqRegion.{CqRegion}
+use Rattle.nvme_lane.specs.View.{PutView}
+use Rattle.nvme_log.specs.Limits.{max_outstanding}
+use Rattle.nvme_log.specs.Places.{fetched}
+use Rattle.nvme_log.specs.Completions.{posted_to}
+use Rattle.nvme_ctrl.specs.Notes.{Notes, logged}
+use Rattle.nvme_ctrl.specs.Tags.{holder, is_out}
+use Rattle.nvme_ctrl.specs.kept.Pool.{AreApart}
+use Rattle.nvme_engine.specs.Standing.{StandsAt, HasPool}
+use Rattle.nvme_jobs.specs.declared.dispatched.Dispatched.{Dispatched}
+use Rattle.nvme_jobs.specs.Hands.{in_hand}
+use Rattle.nvme_jobs.specs.inside.Jobs.{JobsView}
+use Rattle.nvme_jobs.specs.inside.Standing.{HoldsJobs, AreFreshJobs}
+use Rattle.nvme_front.specs.declared.region.SqRegion.{SqRegion}
 use Rattle.nvme_front.specs.declared.state.FrontState.{FrontState}
-use Rattle.nvme_log.specs.Limits.{max_outstanding, max_ready, window_of}
-use Rattle.nvme_front.specs.inside.State.{content_of, rules_of, past_of}
-use Rattle.nvme_state.specs.inside.Standing.{IsFresh, Stands}
+use Rattle.nvme_front.specs.View.{got_in, sent_in}
+use Rattle.nvme_front.specs.inside.State.{rules_of, past_of, view_of}
+use Rattle.nvme_front.specs.inside.Goes.{HasAdmin}
 
-abbrev pub window_room : SqRegion → ℕ
-window_room r = r.window.room
+-- ---- the tags of the commands that have no result yet
+-- a command's tag is out, and stands for its place
+pub record IsTagged (notes : Notes) (d : Dispatched) : Type 0 where
+  pub out : is_out notes d.tag ≡ true
+  pub held : holder notes d.tag ≡ Some d.place
 
--- the most candidates that may wait in it
-abbrev pub window_limit : SqRegion → ℕ
-window_limit r = window_of r.end.slots
+abbrev pub tags_in : JobsView → List ℕ
+tags_in j = map (λ (d : Dispatched). d.tag) (in_hand j.hands)
 
-abbrev pub ready_room : CqRegion → ℕ
-ready_room c = c.ready.room
+-- the tags that are out are theirs, one each
+pub record HoldsTags (notes : Notes) (j : JobsView) : Type 0 where
+  pub each : All (IsTagged notes) (in_hand j.hands)
+  pub apart : AreApart (tags_in j)
+  pub all : (t : ℕ) → is_out notes t ≡ true → Contains (tags_in j) t
 
-abbrev pub sq_region : SqRegion → Region
-sq_region r = record { address = r.end.address; slots = r.end.slots }
+-- ---- the ends
+-- as many commands were fetched as were got
+abbrev pub IsCounted : SqRegion → Type 0
+IsCounted sq = sq.fetched ≡ length sq.end.got
 
-abbrev pub cq_region : CqRegion → Region
-cq_region c = record { address = c.end.address; slots = c.end.slots }
+-- ---- a front whose engine began
+pub record IsRunning (s : FrontState) : Type 0 where
+  pub notes : Notes
+  pub stands : StandsAt (rules_of s) s.late notes s.engine
+  pub past_is : logged notes ≡ past_of s
+  -- what was got is fetched, and what was put is posted
+  pub got : (r : ℕ) → fetched (past_of s) r ≡ got_in (view_of s) r
+  pub sent : (c : ℕ) → posted_to (past_of s) c ≡ sent_in (view_of s) c
+  pub counted : All IsCounted s.sqs.items
+  pub jobs : HoldsJobs s.config.spaces (past_of s) s.jobs
+  pub tags : HoldsTags notes s.jobs
+
+-- ---- a front that waits for its admin regions: nothing happened yet
+pub record IsFreshSq (sq : SqRegion) : Type 0 where
+  pub nothing_got : sq.end.got ≡ []
+  pub none_fetched : sq.fetched ≡ 0
+
+pub record IsFresh (s : FrontState) : Type 0 where
+  pub log : s.log.items ≡ []
+  pub in_time : s.late ≡ false
+  pub sqs : All IsFreshSq s.sqs.items
+  pub cqs : All (λ (p : PutView Cqe). p.sent ≡ []) s.cqs.items
+  pub jobs : AreFreshJobs s.jobs
+  -- the slots of the commands were made with the first submission region
+  pub pool : 0 < length s.sqs.items → HasPool s.engine
+  -- they are fewer than there may be tags
+  pub few_slots : length s.engine.slots.items < 65536
+
+-- ---- room
+-- there is room for the jobs and for the commands of an engine
+pub record HasRoom (s : FrontState) : Type 0 where
+  pub jobs : s.jobs.room ≡ max_outstanding
+  pub pool : HasPool s.engine
+
+-- the addresses of the regions of both kinds
+abbrev pub addresses_of : FrontState → List ℕ
+addresses_of s = map (λ (sq : SqRegion). sq.end.address) s.sqs.items ++ map (λ (p : PutView Cqe). p.address) s.cqs.items
 
 pub record IsRoomy (s : FrontState) : Type 0 where
-  pub windows : map window_room s.sqs.items ≡ map window_limit s.sqs.items
-  pub ready : map ready_room s.cqs.items ≡ map (λ (c : CqRegion). max_ready) s.cqs.items
-  pub sq_table : s.table.sq_regions ≡ map sq_region s.sqs.items
-  pub cq_table : s.table.cq_regions ≡ map cq_region s.cqs.items
   pub jobs : 0 < length s.sqs.items → s.jobs.room ≡ max_outstanding
   pub few_events : length s.log.items ≤ s.config.max_events
+  -- no region was added late before the first event
+  pub in_time : s.log.items ≡ [] → s.late ≡ false
   pub few_sqs : length s.sqs.items ≤ MAX_REGIONS
   pub few_cqs : length s.cqs.items ≤ MAX_REGIONS
+  pub apart : AreApart (addresses_of s)
 
--- a front keeps what stands at its log, and has room; the log begins when both admin regions are there
+-- ---- all of it
 pub record IsConsistent (s : FrontState) : Type 0 where
-  pub fresh : s.log.items ≡ [] → IsFresh (rules_of s) s.late (content_of s)
-  pub stands : 0 < length s.sqs.items → 0 < length s.cqs.items → Stands (rules_of s) s.late (past_of s) (content_of s)
-  pub begun : (s.log.items ≡ [] → ⊥) → (0 < length s.sqs.items) × (0 < length s.cqs.items)
+  pub fresh : (HasAdmin s → ⊥) → IsFresh s
+  pub running : HasAdmin s → IsRunning s
   pub roomy : IsRoomy s

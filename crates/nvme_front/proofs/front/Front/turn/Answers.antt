@@ -1,6 +1,7 @@
 use Rattle.std.proofs.Common.{ℕ, List, subst}
+use Rattle.std.specs.Prelude.{OnOk}
 use Rattle.nvme_entry.specs.declared.submission.Sqe.{Sqe}
-use Rattle.nvme_front.specs.View.{FrontView, GoesOn}
+use Rattle.nvme_front.specs.View.{FrontView, GoesOn, HasNoStray}
 use Rattle.nvme_front.specs.inside.State.{view_of}
 use Rattle.nvme_front.specs.LoadedFront.{IsLoadedFront, GotWithin}
 use Rattle.nvme_front.proofs.States.{admin-goes}
@@ -21,13 +22,17 @@ returns-clause-account g c = λ late.
 pub returns-clause-jobs : goal.returns-clause-jobs
 returns-clause-jobs g c =
     let admin = admin-goes c.self.inside.state c.turn.new.self c.turn.ensures.goes (admin_there c.self.inside.state c.args.self.now c.self.view_is c.requires.admin_sq c.requires.admin_cq) in
-    (c.turn.ensures.consistent.stands admin.0 admin.1).jobs.account
+    (c.turn.ensures.consistent.running admin).jobs.account
 
 pub returns-clause-executed : goal.returns-clause-executed
 returns-clause-executed g c = none_in_hand_posted c.turn.new.self c.turn.ensures.consistent
 
 pub returns-clause-results : goal.returns-clause-results
 returns-clause-results g c = results_of c.turn.new.self c.turn.ensures.consistent
+
+pub returns-clause-no_stray : goal.returns-clause-no_stray
+returns-clause-no_stray g c =
+    subst (λ (v : FrontView). OnOk c.turn.result (HasNoStray v (view_of c.turn.new.self))) c.self.view_is c.turn.ensures.balanced
 
 pub returns-clause-within : goal.returns-clause-within
 returns-clause-within g c = c.turn.ensures.consistent.roomy.few_events

@@ -1,28 +1,30 @@
-use Rattle.std.proofs.Common.{ℕ, ◌==◌, ◌∙◌, not, ap, refl, rules}
-use Rattle.nvme_front.proofs.Addresses.{cq_not_refused}
-use Rattle.nvme_front.proofs.AddedRegions.{appended, consistent_with_cq}
+use Rattle.std.proofs.Common.{List, [], ◌∷◌, ◌++◌, ◌∙◌, ap, refl, rules}
+use Rattle.nvme_entry.specs.declared.completion.Cqe.{Cqe}
+use Rattle.nvme_lane.specs.View.{PutView}
+use Rattle.nvme_front.specs.declared.state.FrontState.{FrontState}
+use Rattle.nvme_front.proofs.AddedRegions.{is_added-cq}
+use Rattle.nvme_front.proofs.States.{kept_same}
 use Rattle.nvme_front.proofs.state.FrontState.add_cq.Goals as goal
 
-pub unreachable-requires : goal.unreachable-requires
-unreachable-requires c =
-    cq_not_refused c.args.self.now c.address-2.result c.slots.result c.requires.consistent.roomy (search rules) (search rules) (search rules) (search rules)
-    _ c.in_default-add_cq_region.ensures.refused
+pub returns-then-is_err-clause-consistent : goal.returns-then-is_err-clause-consistent
+returns-then-is_err-clause-consistent c =
+    kept_same c.args.self.now _ (record { log = refl; sqs = refl; cqs = c.reserve.ensures.items; engine = refl; jobs = refl; late = refl; config = refl; alloc = refl }) c.requires.consistent
 
-pub returns-clause-consistent : goal.returns-clause-consistent
-returns-clause-consistent c =
-    let s = c.args.self.now in
-    consistent_with_cq s c.requires.consistent _
-    (record { end = c.args.end; posted = 0; ready = c.in-Some.ready })
+pub push_cq-requires-clause-consistent : goal.push_cq-requires-clause-consistent
+push_cq-requires-clause-consistent c =
+    kept_same c.args.self.now _ (record { log = refl; sqs = refl; cqs = c.reserve.ensures.items; engine = refl; jobs = refl; late = refl; config = refl; alloc = refl }) c.requires.consistent
+
+pub returns-clause-added : goal.returns-clause-added
+returns-clause-added c =
+    let s : FrontState = c.args.self.now in
+    let m = c.push_cq.ensures.more in
+    is_added-cq s c.push_cq.new.self c.args.end c.len-number.result
     (record {
-      config = refl;
-      board = refl;
-      sqs = refl;
-      cqs = appended _ _ _ _ c.in-Ok-push.ensures.items c.reserve.ensures.items;
-      outstanding = refl;
-      deletion = refl;
-      jobs = refl;
-      log = refl;
-      late = ap not c.is_empty.ensures ∙ ap (λ (n : ℕ). not (n == 0)) s.log.ok.0;
+      config = m.config;
+      sqs = m.sqs;
+      cqs = m.cqs ∙ ap (λ (puts : List (PutView Cqe)). puts ++ c.args.end ∷ []) c.reserve.ensures.items;
+      jobs = m.jobs;
+      log = m.log;
+      late = m.late;
     })
-    (record { sent = c.requires.nothing_sent; posted = refl; ready = c.in-Some.ensures.empty; room = c.in-Some.ensures.room })
-    (search rules) _ _ _ refl c.address-2.ensures c.slots.ensures.value c.in-Ok.ensures.stands
+    (search rules) (search rules) (search rules)

@@ -3,7 +3,7 @@ use Rattle.std.proofs.lemmas.Result.{err_from_is_err_and}
 use Rattle.nvme_log.specs.Histories.{picks_in}
 use Rattle.nvme_front.proofs.States.{Goes-trans, admin-goes}
 use Rattle.nvme_front.proofs.Still.{done_by, drained_before, stray_means, log_error_means, caught_up_balanced}
-use Rattle.nvme_front.proofs.Loading.{posts-by, posts-trans}
+use Rattle.nvme_front.proofs.Loading.{posts-by, posts-trans, posts-pending}
 use Rattle.nvme_front.proofs.state.FrontState.catch_up.Goals as goal
 
 pub gain-requires-clause-admin : goal.gain-requires-clause-admin
@@ -77,3 +77,13 @@ pub returns-clause-posts : goal.returns-clause-posts
 returns-clause-posts g c =
     posts-trans c.args.self.now c.gain.new.self c.post.new.self
     (posts-by c.args.self.now c.gain.new.self (c.gain.ensures.log ∙ c.hand-handed.ensures.log) (c.gain.ensures.sqs ∙ c.hand-handed.ensures.sqs)) c.post.ensures.posts
+
+-- so the same deletion is pending
+pub returns-in_err-gained-clause-deletion : goal.returns-in_err-gained-clause-deletion
+returns-in_err-gained-clause-deletion g c = posts-pending c.args.self.now c.gain.new.self (returns-in_err-gained-clause-posts g c)
+
+pub returns-in_err-posted-clause-deletion : goal.returns-in_err-posted-clause-deletion
+returns-in_err-posted-clause-deletion g c = posts-pending c.args.self.now c.post.new.self (returns-in_err-posted-clause-posts g c)
+
+pub returns-clause-deletion : goal.returns-clause-deletion
+returns-clause-deletion g c = posts-pending c.args.self.now c.post.new.self (returns-clause-posts g c)

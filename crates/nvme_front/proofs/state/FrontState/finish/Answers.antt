@@ -1,53 +1,69 @@
--- The region of a deletion and its closing queue are known from what stands, and there is room for its answer.
-use Rattle.std.proofs.Common.{◌∙◌, [], ◌∷◌, ◌++◌, sym, refl, ap, arith}
-use Rattle.nvme_state.specs.declared.ready.Ready.{Ready}
-use Rattle.nvme_state.proofs.AfterSteps.{closed_event}
-use Rattle.nvme_front.proofs.States.{IsSame-refl}
-use Rattle.nvme_front.proofs.CloseOne.{deletion_there, deletion_closing, pending_held, region_has_room, region_unposted, closed-kept}
+-- The deletion that can be finished is the pending one; its end is logged. Where there is none the deletion waits.
+use Rattle.std.proofs.Common.{◌∙◌, refl, sym, ap}
 use Rattle.nvme_log.proofs.PickCounts.{picks-noted}
+use Rattle.nvme_log.specs.Queues.{Deletion, pending}
+use Rattle.nvme_front.specs.declared.state.FrontState.{FrontState}
+use Rattle.nvme_front.specs.inside.Room.{IsRunning}
+use Rattle.nvme_front.proofs.States.{IsSame-refl, kept_same, Goes-same, noted}
+use Rattle.nvme_front.proofs.PostOne.{room_alone, engine_stands}
+use Rattle.nvme_front.proofs.CloseOne.{IsClosed, waits_for, closed-goes, closed-kept}
 use Rattle.nvme_front.proofs.state.FrontState.finish.Goals as goal
 
-pub index-requires : goal.index-requires
-index-requires c =
-    let there = deletion_there c.args.self.now c.args.deletion c.requires.consistent c.requires.admin c.requires.pending in
-    omega (arith, there, c.args.self.now.sqs.ok.0, c.from.ensures)
+pub returns-in_default-clause-still : goal.returns-in_default-clause-still
+returns-in_default-clause-still c = λ _.
+    let s = c.args.self.now in
+    let k : IsRunning s = c.requires.consistent.running c.requires.admin in
+    (IsSame-refl s, waits_for s k (c.finishing.ensures.none _ _ k.notes k.stands c.in_default.is))
 
-pub returns-then-index-ne0-clause-still : goal.returns-then-index-ne0-clause-still
-returns-then-index-ne0-clause-still c = λ _.
-    let same = region_unposted c.args.self.now c.args.deletion.region c.index.result.now (deletion_there c.args.self.now c.args.deletion c.requires.consistent c.requires.admin c.requires.pending)
-    (rw c.from.ensures at c.index.ensures) in
-    (IsSame-refl c.args.self.now, λ none. c.if-index-ne0.true (sym same ∙ none))
+pub returns-in_err-make_room-clause-consistent : goal.returns-in_err-make_room-clause-consistent
+returns-in_err-make_room-clause-consistent c = kept_same c.args.self.now _ (room_alone c.args.self.now _ refl c.make_room.ensures.same refl) c.requires.consistent
 
-pub finish_delete-requires : goal.finish_delete-requires
-finish_delete-requires c = deletion_closing c.args.self.now c.args.deletion c.requires.consistent c.requires.admin c.requires.pending
+pub returns-in_err-make_room-clause-goes : goal.returns-in_err-make_room-clause-goes
+returns-in_err-make_room-clause-goes c = Goes-same c.args.self.now _ (room_alone c.args.self.now _ refl c.make_room.ensures.same refl)
 
-pub push-requires : goal.push-requires
-push-requires c =
-    region_has_room c.args.self.now 0 c.index_mut.result.now c.requires.consistent c.requires.admin c.requires.admin.1 c.index_mut.ensures.value
-    (pending_held c.args.self.now c.args.deletion c.requires.pending)
+pub finish-requires : goal.finish-requires
+finish-requires c = record { engine = engine_stands c.args.self.now (c.requires.consistent.running c.requires.admin) }
+
+abbrev running : (c : goal.After-note) → IsRunning c.args.self.now
+running c = c.requires.consistent.running c.requires.admin
+
+abbrev deletion : goal.After-note → Deletion
+deletion c = record { qid = c.in-Some.deletion.qid; region = c.in-Some.deletion.region }
+
+-- the front at the end
+abbrev after : goal.After-note → FrontState
+after c = record c.args.self.now { engine = c.finish.new.self; log = c.note.new.log }
+
+closed : (c : goal.After-note) → IsClosed c.args.self.now (after c) (running c) (deletion c)
+closed c =
+    let k = running c in
+    let some = c.in-Some.ensures.some _ _ k.notes k.stands in
+    record {
+      finished = c.finish.ensures.stands _ _ k.notes (deletion c) k.stands some.0 some.1;
+      log = noted _ _ _ _ c.make_room.ensures.same c.note.ensures.items;
+      room = c.in_ok-make_room.ensures.within;
+      sqs = refl;
+      cqs = refl;
+      jobs = refl;
+      late = refl;
+      config = refl;
+      alloc = refl;
+    }
 
 pub returns-clause-consistent : goal.returns-clause-consistent
-returns-clause-consistent c = closed-kept c.args.self.now _ c.args.deletion c.requires.consistent c.requires.admin (record {
-  c = c.index_mut.result.now;
-  f = c.push.new.self;
-  pending = c.requires.pending;
-  all_posted = region_unposted c.args.self.now c.args.deletion.region c.index.result.now (deletion_there c.args.self.now c.args.deletion c.requires.consistent c.requires.admin c.requires.pending)
-      (rw c.from.ensures at c.index.ensures) ∙ c.if-index-ne0.false;
-  read = c.index_mut.ensures.value;
-  ready = c.push.ensures ∙ ap (λ (t : Ready). record c.index_mut.result.now.ready { items = c.index_mut.result.now.ready.items ++ t ∷ [] }) c.answered-answer.ensures;
-  sqs = refl;
-  cqs = refl;
-  closes = c.finish_delete.ensures.stands;
-  log = c.note.ensures.items ∙ ap (λ z. z ++ closed_event c.args.deletion ∷ []) c.make_room.ensures.same;
-  room = c.in_ok-make_room.ensures.within;
-  none_pending = refl;
-  board = refl;
-  outstanding = refl;
-  jobs = refl;
-  late = refl;
-  config = refl;
-  alloc = refl;
-})
+returns-clause-consistent c = closed-kept c.args.self.now (after c) (running c) (deletion c) (closed c) c.requires.consistent c.requires.admin
+
+pub returns-clause-goes : goal.returns-clause-goes
+returns-clause-goes c = closed-goes c.args.self.now (after c) (running c) (deletion c) (closed c)
 
 pub returns-clause-picks : goal.returns-clause-picks
 returns-clause-picks c = picks-noted _ _ _ _ c.make_room.ensures.same c.note.ensures.items refl
+
+pub returns-clause-closed : goal.returns-clause-closed
+returns-clause-closed c = λ _.
+    let k = running c in
+    record {
+      deletion = deletion c;
+      was_pending = ap pending (sym k.past_is) ∙ (c.in-Some.ensures.some _ _ k.notes k.stands).0;
+      log_is = noted _ _ _ _ c.make_room.ensures.same c.note.ensures.items;
+    }

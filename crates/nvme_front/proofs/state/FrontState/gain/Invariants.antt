@@ -1,6 +1,6 @@
 -- The front stays the same from result to result, and as long as none was gained nothing changed.
 use Rattle.std.proofs.Common.{◌≡◌, ◌<◌, length, true, false}
-use Rattle.nvme_state.specs.Hands.{gained_count}
+use Rattle.nvme_jobs.specs.Hands.{gained_count}
 use Rattle.nvme_front.specs.inside.Room.{IsConsistent}
 use Rattle.nvme_front.specs.inside.Goes.{Goes, IsSame, HasAdmin}
 use Rattle.nvme_front.specs.inside.Turn.{Balanced}
@@ -13,7 +13,7 @@ invariant-loop-gained l = record {
   balanced : Balanced l.fn.self l.self;
   log : l.self.log.items ≡ l.fn.self.log.items;
   sqs : l.self.sqs.items ≡ l.fn.self.sqs.items;
-  deletion : l.self.deletion ≡ l.fn.self.deletion;
+  cqs : l.self.cqs.items ≡ l.fn.self.cqs.items;
   admin : HasAdmin l.self;
   seat : l.self.jobs.hands.seat.lane ≡ l.fn.lanes;
   more : l.gained ≡ true → gained_count l.fn.self.jobs.hands < gained_count l.self.jobs.hands;

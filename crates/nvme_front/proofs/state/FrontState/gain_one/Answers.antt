@@ -1,9 +1,12 @@
--- The regions of the command whose result was gained are known from what stands, and there is room for its completion.
-use Rattle.std.proofs.Common.{refl, arith}
-use Rattle.nvme_front.proofs.CloseOne.{region_has_room}
+-- The command whose result was gained is one whose tag is out, and its status is its outcome.
+use Rattle.std.proofs.Common.{refl}
+use Rattle.nvme_engine.specs.Calls.{HasAnswered}
+use Rattle.nvme_front.specs.inside.Room.{IsRunning}
+use Rattle.nvme_front.specs.inside.State.{rules_of}
+use Rattle.nvme_front.proofs.PostOne.{engine_stands}
 use Rattle.nvme_front.proofs.States.{Goes-same}
-use Rattle.nvme_front.proofs.GainOne.{same_jobs, stray-goes, stray-kept, stray-seen, its_place_held, its_region, its_queue_there, its_cq_region, is_gained, gained-fewer, gained-goes, gained-kept}
-use Rattle.nvme_state.proofs.Balances.{balances-still, balances-gained}
+use Rattle.nvme_front.proofs.GainOne.{same_jobs, stray-goes, stray-kept, stray-seen, gained-fewer, gained-goes, gained-kept, gained_tagged, gained_entry, gained_status}
+use Rattle.nvme_jobs.proofs.Balances.{balances-still, balances-gained}
 use Rattle.nvme_front.proofs.state.FrontState.gain_one.Goals as goal
 
 pub returns-in-Nothing-clause-goes : goal.returns-in-Nothing-clause-goes
@@ -11,6 +14,9 @@ returns-in-Nothing-clause-goes c = Goes-same c.args.self.now _ (same_jobs c.args
 
 pub returns-in-Nothing-clause-still : goal.returns-in-Nothing-clause-still
 returns-in-Nothing-clause-still c = λ _. (same_jobs c.args.self.now _ c.gain.new.self c.in-Nothing.ensures.0, c.in-Nothing.ensures.1)
+
+pub returns-in-Nothing-clause-balanced : goal.returns-in-Nothing-clause-balanced
+returns-in-Nothing-clause-balanced c = balances-still c.args.self.now.config.spaces c.args.self.now.jobs c.gain.new.self c.in-Nothing.ensures.0
 
 pub returns-in-Stray-clause-consistent : goal.returns-in-Stray-clause-consistent
 returns-in-Stray-clause-consistent c = stray-kept c.args.self.now _ c.gain.new.self c.in-Stray.ticket c.in-Stray.ensures c.requires.consistent c.requires.admin
@@ -21,45 +27,30 @@ returns-in-Stray-clause-goes c = stray-goes c.args.self.now _ c.gain.new.self c.
 pub returns-in-Stray-clause-stray : goal.returns-in-Stray-clause-stray
 returns-in-Stray-clause-stray c = (c.in-Stray.ticket, refl, stray-seen c.args.self.now c.args.self.now.config.few_events c.gain.new.self c.in-Stray.ticket c.in-Stray.ensures)
 
-pub index-requires : goal.index-requires
-index-requires c =
-    let there = its_region c.args.self.now c.requires.consistent c.requires.admin c.gain.new.self c.in-Result.dispatched c.in-Result.ensures.0 c.in-Result.ensures.2 in
-    omega (arith, there, c.from.ensures)
+-- ---- a result of a job
+pub complete-requires : goal.complete-requires
+complete-requires c = record { engine = engine_stands c.args.self.now (c.requires.consistent.running c.requires.admin) }
 
-pub unreachable-requires : goal.unreachable-requires
-unreachable-requires c = its_queue_there c.args.self.now c.requires.consistent c.requires.admin c.gain.new.self c.in-Result.dispatched c.in-Result.ensures.0 c.in-Result.ensures.2
-    c.index.result.now (rw c.from.ensures at c.index.ensures) c.in_default.is
-
-pub index_mut-requires : goal.index_mut-requires
-index_mut-requires c =
-    let there = its_cq_region c.args.self.now c.requires.consistent c.requires.admin c.gain.new.self c.in-Result.dispatched c.in-Result.ensures.0 c.in-Result.ensures.2
-    c.index.result.now (rw c.from.ensures at c.index.ensures) c.in-Some.attachment c.in-Some.is c.from-2.result c.from-2.ensures in
-    omega (arith, there, c.args.self.now.cqs.ok.0)
-
-pub push-requires : goal.push-requires
-push-requires c =
-    let there = its_cq_region c.args.self.now c.requires.consistent c.requires.admin c.gain.new.self c.in-Result.dispatched c.in-Result.ensures.0 c.in-Result.ensures.2
-    c.index.result.now (rw c.from.ensures at c.index.ensures) c.in-Some.attachment c.in-Some.is c.from-2.result c.from-2.ensures in
-    region_has_room c.args.self.now c.from-2.result c.index_mut.result.now c.requires.consistent c.requires.admin there c.index_mut.ensures.value
-    (its_place_held c.args.self.now c.requires.consistent c.requires.admin c.gain.new.self c.in-Result.dispatched c.in-Result.ensures.0 c.in-Result.ensures.2)
+answered : (c : goal.After-complete)
+    → HasAnswered (rules_of c.args.self.now) c.args.self.now.late (c.requires.consistent.running c.requires.admin).notes c.in-Result.dispatched.place c.in-Result.status c.complete.new.self
+answered c =
+    let s = c.args.self.now in
+    let k : IsRunning s = c.requires.consistent.running c.requires.admin in
+    let d = c.in-Result.dispatched in
+    let h = c.in-Result.ensures.2 in
+    let result = c.in-Result.ensures.0 in
+    let tagged = gained_tagged s k c.gain.new.self d result h in
+    c.complete.ensures.stands _ _ k.notes d.place d.entry k.stands tagged.held tagged.out (gained_entry s k c.gain.new.self d result h) (gained_status s k c.gain.new.self d result h c.in-Result.status c.in-Result.ensures.1)
 
 pub returns-clause-consistent : goal.returns-clause-consistent
 returns-clause-consistent c =
-    gained-kept c.args.self.now _ c.in-Result.dispatched c.in-Result.ensures.0
-    (is_gained c.args.self.now _ c.requires.consistent c.requires.admin c.gain.new.self c.in-Result.dispatched c.in-Result.ensures.0 c.in-Result.ensures.2
-    c.index.result.now (rw c.from.ensures at c.index.ensures) c.in-Some.attachment c.in-Some.is c.from-2.result c.from-2.ensures
-    c.index_mut.result.now c.index_mut.ensures.value c.in-Result.status c.in-Result.ensures.1 c.push.new.self _ c.push.ensures c.done.ensures)
-    c.requires.consistent c.requires.admin
+    gained-kept c.args.self.now (c.requires.consistent.running c.requires.admin) c.gain.new.self c.in-Result.dispatched c.in-Result.ensures.0 c.in-Result.ensures.2
+    _ c.complete.new.self c.in-Result.status (answered c) c.requires.consistent c.requires.admin
 
 pub returns-clause-goes : goal.returns-clause-goes
 returns-clause-goes c =
-    gained-goes c.args.self.now _ c.in-Result.dispatched c.in-Result.ensures.0
-    (is_gained c.args.self.now _ c.requires.consistent c.requires.admin c.gain.new.self c.in-Result.dispatched c.in-Result.ensures.0 c.in-Result.ensures.2
-    c.index.result.now (rw c.from.ensures at c.index.ensures) c.in-Some.attachment c.in-Some.is c.from-2.result c.from-2.ensures
-    c.index_mut.result.now c.index_mut.ensures.value c.in-Result.status c.in-Result.ensures.1 c.push.new.self _ c.push.ensures c.done.ensures)
-
-pub returns-in-Nothing-clause-balanced : goal.returns-in-Nothing-clause-balanced
-returns-in-Nothing-clause-balanced c = balances-still c.args.self.now.config.spaces c.args.self.now.jobs c.gain.new.self c.in-Nothing.ensures.0
+    gained-goes c.args.self.now (c.requires.consistent.running c.requires.admin) c.gain.new.self c.in-Result.dispatched c.in-Result.ensures.0 c.in-Result.ensures.2
+    _ c.complete.new.self c.in-Result.status (answered c)
 
 pub returns-clause-balanced : goal.returns-clause-balanced
 returns-clause-balanced c =

@@ -1,5 +1,6 @@
 -- The front stays the same from job to job, and as long as none was handed nothing changed.
 use Rattle.std.proofs.Common.{◌≡◌, ◌<◌, length, true, false}
+use Rattle.nvme_jobs.specs.Hands.{in_hand}
 use Rattle.nvme_front.specs.inside.Room.{IsConsistent}
 use Rattle.nvme_front.specs.inside.Goes.{Goes, IsSame, HasAdmin}
 use Rattle.nvme_front.specs.inside.Turn.{Balanced}
@@ -13,8 +14,9 @@ invariant-loop-handed g l = record {
   log : l.self.log.items ≡ l.fn.self.log.items;
   sqs : l.self.sqs.items ≡ l.fn.self.sqs.items;
   cqs : l.self.cqs.items ≡ l.fn.self.cqs.items;
-  deletion : l.self.deletion ≡ l.fn.self.deletion;
+  engine : l.self.engine ≡ l.fn.self.engine;
   ends : l.self.jobs.hands.seat.ends ≡ l.fn.self.jobs.hands.seat.ends;
+  hand : in_hand l.self.jobs.hands ≡ in_hand l.fn.self.jobs.hands;
   admin : HasAdmin l.self;
   seat : l.self.jobs.hands.seat.lane ≡ l.fn.lanes;
   more : l.handed ≡ true → length l.fn.self.jobs.hands.seat.handed < length l.self.jobs.hands.seat.handed;

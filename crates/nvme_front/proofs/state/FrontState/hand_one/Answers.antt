@@ -1,5 +1,5 @@
 -- What a job that is handed leaves; where none was handed nothing changed.
-use Rattle.nvme_front.proofs.GainOne.{same_jobs, hand-goes, hand-balanced, hand-kept, jobs_have_room}
+use Rattle.nvme_front.proofs.GainOne.{same_jobs, hand-goes, hand-balanced, hand-in_hand, hand-kept, handed-fewer, handed-more, jobs_have_room}
 use Rattle.nvme_front.proofs.state.FrontState.hand_one.Goals as goal
 
 pub returns-clause-consistent : goal.returns-clause-consistent
@@ -16,3 +16,12 @@ hand-requires-clause-room g c = jobs_have_room c.args.self.now c.requires.consis
 
 pub returns-clause-balanced : goal.returns-clause-balanced
 returns-clause-balanced g c = hand-balanced c.args.self.now c.args.self.now.config.few_events c.hand.new.self c.hand.result c.hand.ensures.none c.hand.ensures.one
+
+pub returns-clause-in_hand : goal.returns-clause-in_hand
+returns-clause-in_hand g c = hand-in_hand c.args.self.now c.args.self.now.config.few_events c.hand.new.self c.hand.result c.hand.ensures.none c.hand.ensures.one
+
+pub returns-clause-fewer : goal.returns-clause-fewer
+returns-clause-fewer g c = λ was. handed-fewer c.args.self.now.config.spaces c.args.self.now.jobs c.hand.new.self (c.hand.ensures.one was)
+
+pub returns-clause-more : goal.returns-clause-more
+returns-clause-more g c = λ was. handed-more c.args.self.now.config.spaces c.args.self.now.jobs c.hand.new.self (c.hand.ensures.one was)

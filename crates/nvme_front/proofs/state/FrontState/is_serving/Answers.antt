@@ -1,20 +1,10 @@
-use Rattle.std.proofs.Common.{Some, None, sym, ◌∙◌}
-use Rattle.nvme_front.proofs.ServedAnswers.{unopened_answer, opened_answer}
+use Rattle.std.proofs.Common.{◌<◌, length, arith}
+use Rattle.nvme_front.proofs.ClearAnswer.{some_items}
+use Rattle.nvme_front.proofs.ServedAnswers.{engine_answer}
 use Rattle.nvme_front.proofs.state.FrontState.is_serving.Goals as goal
-
-pub returns-in_default-queue : goal.returns-in_default-queue
-returns-in_default-queue c =
-    let look = rw (c.from.ensures, c.deref.ensures.value) at c.in-Some.ensures.lookup in
-    unopened_answer c.args.self.now c.requires.consistent c.args.region c.in-Some.sq.now look.3.0 look.1 c.in_default-queue.is
-
-pub returns-in_default-sq : goal.returns-in_default-sq
-returns-in_default-sq c =
-    let look = rw (c.from.ensures, c.deref.ensures.value) at c.in-Some.ensures.lookup in
-    opened_answer c.args.self.now c.requires.consistent c.args.region c.in-Some.sq.now look.3.0 look.1 c.in-Some-queue.attachment c.in-Some-queue.is
-    None (sym c.in_default-sq.is ∙ c.sq.ensures)
 
 pub returns : goal.returns
 returns c =
-    let look = rw (c.from.ensures, c.deref.ensures.value) at c.in-Some.ensures.lookup in
-    opened_answer c.args.self.now c.requires.consistent c.args.region c.in-Some.sq.now look.3.0 look.1 c.in-Some-queue.attachment c.in-Some-queue.is
-    (Some c.in-Some-sq.queue) (sym c.in-Some-sq.is ∙ c.sq.ensures)
+    let s = c.args.self.now in
+    let there : c.args.region < length s.sqs.items = omega arith in
+    engine_answer s c.requires.consistent c.args.region there (some_items _ _ c.is_empty.result c.is_empty.ensures c.if-is_empty.false s.cqs.ok.0) c.is_serving.result c.is_serving.ensures

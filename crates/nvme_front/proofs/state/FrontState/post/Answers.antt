@@ -1,70 +1,89 @@
--- A region after another: as long as nothing is posted nothing changes, and the regions before stay drained.
-use Rattle.std.proofs.Common.{◌≡◌, ◌∙◌, true, false, Ok, sym, ap, arith, below_more}
+-- A queue after another: as long as nothing is posted nothing changes, and the queues before stay drained.
+use Rattle.std.proofs.Common.{◌≡◌, ◌∙◌, ℕ, Some, true, false, Ok, refl, sym, ap, arith, below_more}
+use Rattle.nvme_log.specs.Queues.{open_cq}
 use Rattle.nvme_front.specs.inside.Goes.{IsDrained}
-use Rattle.nvme_front.proofs.States.{Goes-trans, IsSame-trans, cqs-goes}
-use Rattle.nvme_front.proofs.Loading.{posts-trans}
-use Rattle.nvme_front.proofs.PostOne.{goes-longer}
+use Rattle.nvme_front.specs.inside.State.{past_of}
+use Rattle.nvme_front.proofs.Drained.{all_drained}
+use Rattle.nvme_front.proofs.States.{Goes-refl, Goes-trans, IsSame-refl, IsSame-trans, admin-goes}
+use Rattle.nvme_front.proofs.PostOne.{posts-over, goes-longer, open_stays}
 use Rattle.nvme_front.proofs.state.FrontState.post.Goals as goal
 use Rattle.nvme_front.proofs.state.FrontState.post.Goals.{then-branch, else-branch}
 
-pub loop-c-preserved : goal.loop-c-preserved
-loop-c-preserved c =
-    let i = c.loop-c.invariant in
-    let e = c.post_region.ensures in
-    let before = goes-longer c.args.self.now c.loop-c.self i.goes in
-    let here = goes-longer c.loop-c.self c.post_region.new.self e.goes in
-    let goes = Goes-trans c.args.self.now c.loop-c.self c.post_region.new.self i.goes e.goes in
-    let jobs = e.jobs ∙ i.jobs in
-    let picks = e.picks ∙ i.picks in
-    let posts = posts-trans c.args.self.now c.loop-c.self c.post_region.new.self i.posts e.posts in
-    let deletion = e.deletion ∙ i.deletion in
-    let drained = below_more (λ x. IsDrained c.post_region.new.self x) c.loop-c.c (λ x below. e.others x (λ same. omega (arith, below, same)) (i.drained x below)) c.in_ok-post_region.ensures.drained in
+pub loop-cqid-init : goal.loop-cqid-init
+loop-cqid-init c = record {
+  consistent = c.requires.consistent;
+  admin = c.requires.admin;
+  goes = Goes-refl c.args.self.now;
+  jobs = refl;
+  picks = refl;
+  posts = record { gets = refl; log = refl };
+  more = λ f. cc f;
+  still = λ _. IsSame-refl c.args.self.now;
+  drained = λ q below. absurd (omega (arith, below));
+}
+
+pub loop-cqid-preserved : goal.loop-cqid-preserved
+loop-cqid-preserved c =
+    let i = c.loop-cqid.invariant in
+    let e = c.post_queue.ensures in
+    let ok = c.in_ok-post_queue.ensures in
+    let was = c.loop-cqid.self in
+    let now = c.post_queue.new.self in
+    let before = goes-longer c.args.self.now was i.goes in
+    let here = goes-longer was now e.goes in
+    let goes = Goes-trans c.args.self.now was now i.goes e.goes in
+    let admin = admin-goes was now e.goes i.admin in
+    let posts = posts-over c.args.self.now was now i.posts e.posts in
+    let drained = below_more (λ q. (x : ℕ) → open_cq (past_of now) q ≡ Some x → IsDrained now x) c.loop-cqid.cqid
+    (λ q below x is. ok.others x (i.drained q below x (sym (open_stays was now e.posts q) ∙ is))) ok.drained in
     elim c.if-branch.branch [
       | then-branch w ↦
-          let r : c.post_region.result ≡ Ok true = c.in_ok-post_region.was ∙ ap Ok w.if-branch.true in
+          let r : c.post_queue.result ≡ Ok true = c.in_ok-post_queue.was ∙ ap Ok w.if-branch.true in
           let more = e.more r in
           record {
-            there = i.there;
             consistent = e.consistent;
+            admin = admin;
             goes = goes;
-            jobs = jobs;
-            picks = picks;
+            jobs = e.jobs ∙ i.jobs;
+            picks = e.picks ∙ i.picks;
             posts = posts;
-            deletion = deletion;
             more = λ _. omega (arith, before, more);
             still = λ f. cc (f, w.posted-is);
             drained = drained;
           }
       | else-branch w ↦
-          let r : c.post_region.result ≡ Ok false = c.in_ok-post_region.was ∙ ap Ok w.if-branch.false in
+          let r : c.post_queue.result ≡ Ok false = c.in_ok-post_queue.was ∙ ap Ok w.if-branch.false in
           record {
-            there = i.there;
             consistent = e.consistent;
+            admin = admin;
             goes = goes;
-            jobs = jobs;
-            picks = picks;
+            jobs = e.jobs ∙ i.jobs;
+            picks = e.picks ∙ i.picks;
             posts = posts;
-            deletion = deletion;
             more = λ t. let before = i.more (sym w.posted-is ∙ t) in omega (arith, before, here);
-            still = λ f. IsSame-trans c.args.self.now c.loop-c.self c.post_region.new.self (i.still (sym w.posted-is ∙ f)) (e.still r);
+            still = λ f. IsSame-trans c.args.self.now was now (i.still (sym w.posted-is ∙ f)) (e.still r);
             drained = drained;
           }
     ]
 
-pub post_region-requires-clause-there : goal.post_region-requires-clause-there
-post_region-requires-clause-there c =
-    let same = cqs-goes c.args.self.now c.loop-c.self c.loop-c.invariant.goes in
-    let there = c.loop-c.invariant.there in
-    omega (arith, same, there, c.loop-c-test.true)
-
 pub returns-clause-drained : goal.returns-clause-drained
-returns-clause-drained c = λ x within.
-    let there = c.loop-c.invariant.there in
-    let same = cqs-goes c.args.self.now c.loop-c.self c.loop-c.invariant.goes in
-    c.loop-c.invariant.drained x (omega (arith, within, there, same, c.loop-c-test.false))
+returns-clause-drained c =
+    let i = c.loop-cqid.invariant in
+    let past = c.loop-cqid-test.false in
+    all_drained c.loop-cqid.self (i.consistent.running i.admin) (λ q x within is. i.drained q (omega (arith, within, past)) x is)
 
-pub returns-in_err-post_region-clause-goes : goal.returns-in_err-post_region-clause-goes
-returns-in_err-post_region-clause-goes c = Goes-trans c.args.self.now c.loop-c.self c.post_region.new.self c.loop-c.invariant.goes c.post_region.ensures.goes
+pub returns-in_err-post_queue-clause-goes : goal.returns-in_err-post_queue-clause-goes
+returns-in_err-post_queue-clause-goes c = Goes-trans c.args.self.now c.loop-cqid.self c.post_queue.new.self c.loop-cqid.invariant.goes c.post_queue.ensures.goes
 
-pub returns-in_err-post_region-clause-posts : goal.returns-in_err-post_region-clause-posts
-returns-in_err-post_region-clause-posts c = posts-trans c.args.self.now c.loop-c.self c.post_region.new.self c.loop-c.invariant.posts c.post_region.ensures.posts
+pub returns-in_err-post_queue-clause-posts : goal.returns-in_err-post_queue-clause-posts
+returns-in_err-post_queue-clause-posts c = posts-over c.args.self.now c.loop-cqid.self c.post_queue.new.self c.loop-cqid.invariant.posts c.post_queue.ensures.posts
+
+pub returns-clause-more : goal.returns-clause-more
+returns-clause-more c = λ r.
+    let some : c.loop-cqid.posted ≡ true = cc r in
+    c.loop-cqid.invariant.more some
+
+pub returns-clause-still : goal.returns-clause-still
+returns-clause-still c = λ r.
+    let none : c.loop-cqid.posted ≡ false = cc r in
+    c.loop-cqid.invariant.still none

@@ -1,157 +1,119 @@
--- The place of the completion that became ready first is known from what stands; a post changes its two regions, and nothing where the ring is full.
-use Rattle.std.proofs.Common.{◌-◌, ◌++◌, List, [], ◌∷◌, reverse, ◌∙◌, Bool, not, set, sym, refl, ap, arith, inl}
+-- The region of an open completion queue is there, with its slots. A post changes that region, and nothing changes where its ring is full.
+use Rattle.std.proofs.Common.{◌≡◌, ◌∙◌, ap, arith, refl, set, get_or, sym}
+use Rattle.std.specs.Prelude.{IsSome}
 use Rattle.std.specs.Vec.{with_item}
-use Rattle.nvme_front.specs.declared.state.FrontState.{FrontState}
-use Rattle.nvme_log.specs.Places.{one_if}
-use Rattle.nvme_state.proofs.AfterSteps.{post_event}
-use Rattle.nvme_front.proofs.States.{IsSame-refl, kept_same, Goes-same}
-use Rattle.nvme_front.proofs.PostOne.{IsPosted, none_ready, front_foremost, few_posted, put_back, same_first, front_unposted, posted-kept, posted-goes, others_drained, drained_by}
 use Rattle.nvme_log.proofs.PickCounts.{picks-noted}
-use Rattle.nvme_front.proofs.Comes.{gets-set}
-use Rattle.nvme_front.proofs.States.{past-push}
-use Rattle.nvme_front.proofs.Fetches.{noted}
-use Rattle.nvme_front.proofs.Loading.{posts-by}
-use Rattle.nvme_log.specs.declared.event.Event.{Event}
-use Rattle.nvme_log.specs.Loaded.{without_posts}
+use Rattle.nvme_front.specs.declared.state.FrontState.{FrontState}
+use Rattle.nvme_front.specs.inside.Goes.{IsSame}
+use Rattle.nvme_front.specs.inside.Room.{IsRunning}
+use Rattle.nvme_front.proofs.Drained.{all_posted_drains, full_drains}
+use Rattle.nvme_front.proofs.States.{IsSame-refl, kept_same, Goes-same, noted}
+use Rattle.nvme_front.proofs.PostOne.{IsPosted, room_alone, engine_stands, open_there, open_region, open_slots, free_read, put_back, posted-goes, posted-kept, others_drained, not_missing}
 use Rattle.nvme_front.proofs.state.FrontState.post_one.Goals as goal
-use Rattle.nvme_front.proofs.state.FrontState.post_one.Goals.{then-ready, else-ready}
 
 pub returns-in_default-clause-still : goal.returns-in_default-clause-still
 returns-in_default-clause-still c = λ _.
-    (IsSame-refl c.args.self.now, inl (none_ready c.args.self.now c.args.c c.index-region.result.now c.requires.there (rw c.from.ensures at c.index-region.ensures) (sym c.front.ensures ∙ c.in_default.is)))
+    let s = c.args.self.now in
+    let k : IsRunning s = c.requires.consistent.running c.requires.admin in
+    (IsSame-refl s, all_posted_drains s k c.args.c (c.next_post.ensures.none _ _ k.notes c.args.c k.stands (open_there s k c.args.cqid c.args.c c.requires.is_open) c.in_default.is))
 
-pub completion_of-cqe-requires-clause-sq_there : goal.completion_of-cqe-requires-clause-sq_there
-completion_of-cqe-requires-clause-sq_there c =
-    (front_foremost c.args.self.now c.args.c c.index-region.result.now c.in-Some.ready c.requires.consistent c.requires.admin c.requires.there (rw c.from.ensures at c.index-region.ensures)
-    (sym c.front.ensures ∙ c.in-Some.is)).there
+pub returns-in_err-make_room-clause-consistent : goal.returns-in_err-make_room-clause-consistent
+returns-in_err-make_room-clause-consistent c = kept_same c.args.self.now _ (room_alone c.args.self.now _ refl c.make_room.ensures.same refl) c.requires.consistent
 
-pub post-requires : goal.post-requires
-post-requires c =
-    let few = few_posted c.args.self.now c.args.c c.index_mut-region.result.now c.requires.consistent c.requires.admin c.requires.there (rw c.from-2.ensures at c.index_mut-region.ensures.value) in
-    record { few = omega (arith, few) }
+pub returns-in_err-make_room-clause-goes : goal.returns-in_err-make_room-clause-goes
+returns-in_err-make_room-clause-goes c = Goes-same c.args.self.now _ (room_alone c.args.self.now _ refl c.make_room.ensures.same refl)
 
-pub returns-then-not-post-clause-consistent : goal.returns-then-not-post-clause-consistent
-returns-then-not-post-clause-consistent c =
-    kept_same c.args.self.now _ (record {
-      log = c.make_room.ensures.same;
-      sqs = refl;
-      cqs = put_back c.args.self.now.cqs.items c.from-2.result c.index_mut-region.result.now c.post.new.self c.index_mut-region.ensures.value (c.post.ensures.full c.if-not-post.true).0;
-      board = refl;
-      table = refl;
-      outstanding = refl;
-      deletion = refl;
-      jobs = refl;
-      late = refl;
-      config = refl;
-      alloc = refl;
-    }) c.requires.consistent
+pub index_mut-requires : goal.index_mut-requires
+index_mut-requires c =
+    let s = c.args.self.now in
+    let there = open_region s (c.requires.consistent.running c.requires.admin) c.args.cqid c.args.c c.requires.is_open in
+    omega (arith, there, s.cqs.ok.0, c.from.ensures)
 
-pub returns-then-not-post-clause-goes : goal.returns-then-not-post-clause-goes
-returns-then-not-post-clause-goes c =
-    Goes-same c.args.self.now _ (record {
-      log = c.make_room.ensures.same;
-      sqs = refl;
-      cqs = put_back c.args.self.now.cqs.items c.from-2.result c.index_mut-region.result.now c.post.new.self c.index_mut-region.ensures.value (c.post.ensures.full c.if-not-post.true).0;
-      board = refl;
-      table = refl;
-      outstanding = refl;
-      deletion = refl;
-      jobs = refl;
-      late = refl;
-      config = refl;
-      alloc = refl;
-    })
+-- ---- the ring is full
+pub returns-in_default-put-clause-consistent : goal.returns-in_default-put-clause-consistent
+returns-in_default-put-clause-consistent c =
+    let s = c.args.self.now in
+    kept_same s _ (room_alone s _ refl c.make_room.ensures.same
+    (put_back s.cqs.items c.from.result c.index_mut.result.now c.put.new.end c.index_mut.ensures.value c.in_default-put.ensures.full.0)) c.requires.consistent
 
-pub index_mut-sq-requires : goal.index_mut-sq-requires
-index_mut-sq-requires c =
-    let f = front_foremost c.args.self.now c.args.c c.index-region.result.now c.in-Some.ready c.requires.consistent c.requires.admin c.requires.there (rw c.from.ensures at c.index-region.ensures)
-    (sym c.front.ensures ∙ c.in-Some.is) in
-    let there = f.there in
-    omega (arith, there, c.args.self.now.sqs.ok.0, c.from-3.ensures)
+pub returns-in_default-put-clause-goes : goal.returns-in_default-put-clause-goes
+returns-in_default-put-clause-goes c =
+    let s = c.args.self.now in
+    Goes-same s _ (room_alone s _ refl c.make_room.ensures.same
+    (put_back s.cqs.items c.from.result c.index_mut.result.now c.put.new.end c.index_mut.ensures.value c.in_default-put.ensures.full.0))
 
-pub overflow_sub-sq : goal.overflow_sub-sq
-overflow_sub-sq c =
-    let f = front_foremost c.args.self.now c.args.c c.index-region.result.now c.in-Some.ready c.requires.consistent c.requires.admin c.requires.there (rw c.from.ensures at c.index-region.ensures)
-    (sym c.front.ensures ∙ c.in-Some.is) in
-    front_unposted c.args.self.now c.args.c c.in-Some.ready c.index_mut-sq.result.now f (rw c.from-3.ensures at c.index_mut-sq.ensures.value)
+pub returns-in_default-put-clause-still : goal.returns-in_default-put-clause-still
+returns-in_default-put-clause-still c = λ _.
+    let s = c.args.self.now in
+    let k : IsRunning s = c.requires.consistent.running c.requires.admin in
+    let there = open_region s k c.args.cqid c.args.c c.requires.is_open in
+    let same : IsSame s (record s { cqs = with_item s.cqs c.from.result c.put.new.end; log = c.make_room.new.log }) =
+    room_alone s _ refl c.make_room.ensures.same
+    (put_back s.cqs.items c.from.result c.index_mut.result.now c.put.new.end c.index_mut.ensures.value c.in_default-put.ensures.full.0) in (
+      same,
+      full_drains s c.args.c
+          (free_read s c.args.c c.index_mut.result.now there (rw c.from.ensures at c.index_mut.ensures.value) ∙ c.in_default-put.ensures.full.1),
+    )
 
-pub overflow_sub-self : goal.overflow_sub-self
-overflow_sub-self c =
-    let f = front_foremost c.args.self.now c.args.c c.index-region.result.now c.in-Some.ready c.requires.consistent c.requires.admin c.requires.there (rw c.from.ensures at c.index-region.ensures)
-    (sym c.front.ensures ∙ c.in-Some.is) in
-    let few = f.outstanding in
-    elim c.if-ready.branch [
-      | then-ready w ↦ omega (arith, w.self-is)
-      | else-ready w ↦ let one = ap (λ (b : Bool). one_if (not b)) w.if-ready.false in omega (arith, w.self-is, few, one)
-    ]
+-- ---- a post
+pub post-requires-clause-engine : goal.post-requires-clause-engine
+post-requires-clause-engine c = engine_stands c.args.self.now (c.requires.consistent.running c.requires.admin)
+
+pub unreachable-requires : goal.unreachable-requires
+unreachable-requires c =
+    let s = c.args.self.now in
+    let k : IsRunning s = c.requires.consistent.running c.requires.admin in
+    let some : IsSome c.post.result =
+    c.post.ensures.posted _ _ k.notes c.args.c c.in-Some.cqe k.stands (open_there s k c.args.cqid c.args.c c.requires.is_open)
+    (c.in-Some-put.ensures.slots.0 ∙ c.in-Some-put.ensures.ring.2
+    ∙ sym (open_slots s k c.args.cqid c.args.c c.requires.is_open c.index_mut.result.now (rw c.from.ensures at c.index_mut.ensures.value)))
+    (sym c.next_post.ensures.value ∙ c.in-Some.is) in
+    not_missing c.post.result some c.in_default-post.is
 
 -- the front at the end
 abbrev after : goal.After-note → FrontState
 after c = record c.args.self.now {
-  sqs = with_item c.args.self.now.sqs c.from-3.result (record c.index_mut-sq.result.now { unposted = c.index_mut-sq.result.now.unposted - 1 });
-  cqs = with_item c.args.self.now.cqs c.from-2.result c.post.new.self;
-  outstanding = c.args.self.now.outstanding - c.if-ready.self;
+  engine = c.post.new.self;
+  cqs = with_item c.args.self.now.cqs c.from.result c.put.new.end;
   log = c.note.new.log;
 }
 
-posted : (c : goal.After-note) → IsPosted c.args.self.now (after c) c.args.c c.in-Some.ready c.completion_of-cqe.result
-posted c = record {
-  d = c.index_mut-region.result.now;
-  e = c.index_mut-sq.result.now;
-  g = c.post.new.self;
-  there = c.requires.there;
-  cq_read = rw c.from-2.ensures at c.index_mut-region.ensures.value;
-  sq_read = rw c.from-3.ensures at c.index_mut-sq.ensures.value;
-  first = same_first c.args.self.now c.args.c c.index-region.result.now c.index_mut-region.result.now c.in-Some.ready c.requires.there (rw c.from.ensures at c.index-region.ensures)
-      (rw c.from-2.ensures at c.index_mut-region.ensures.value) (sym c.front.ensures ∙ c.in-Some.is);
-  completion = c.completion_of-cqe.ensures;
-  same_end = c.post.ensures.end;
-  sent = c.post.ensures.sent c.if-not-post.false;
-  ready = c.post.ensures.ready c.if-not-post.false;
-  posted = c.post.ensures.posted c.if-not-post.false;
-  sqs = ap (λ z. set c.args.self.now.sqs.items z (record c.index_mut-sq.result.now { unposted = c.index_mut-sq.result.now.unposted - 1 })) c.from-3.ensures;
-  cqs = ap (λ z. set c.args.self.now.cqs.items z c.post.new.self) c.from-2.ensures;
-  outstanding = ap (λ z. c.args.self.now.outstanding - z)
-      (elim c.if-ready.branch [
-        | then-ready w ↦ w.self-is ∙ sym (ap (λ (b : Bool). one_if (not b)) w.if-ready.true)
-        | else-ready w ↦ w.self-is ∙ sym (ap (λ (b : Bool). one_if (not b)) w.if-ready.false)
-      ]);
-  log = c.note.ensures.items ∙ ap (λ z. z ++ post_event c.args.c c.in-Some.ready c.completion_of-cqe.result ∷ []) c.make_room.ensures.same;
-  room = c.in_ok-make_room.ensures.within;
-  board = refl;
-  table = refl;
-  deletion = refl;
-  jobs = refl;
-  late = refl;
-  config = refl;
-  alloc = refl;
-}
+abbrev running : (c : goal.After-note) → IsRunning c.args.self.now
+running c = c.requires.consistent.running c.requires.admin
+
+posted : (c : goal.After-note) → IsPosted c.args.self.now (after c) (running c) c.args.c c.in-Some.cqe c.in-Some-post.place
+posted c =
+    let s = c.args.self.now in
+    let read : c.index_mut.result.now ≡ get_or s.cqs.items c.args.c c.index_mut.result.now = rw c.from.ensures at c.index_mut.ensures.value in
+    record {
+      d = c.index_mut.result.now;
+      g = c.put.new.end;
+      there = open_region s (running c) c.args.cqid c.args.c c.requires.is_open;
+      read = read;
+      ring = c.in-Some-put.ensures.ring;
+      sent = c.in-Some-put.ensures.sent;
+      posted = c.in-Some-post.ensures.stands _ _ (running c).notes c.args.c c.in-Some.cqe (running c).stands (open_there s (running c) c.args.cqid c.args.c c.requires.is_open)
+          (c.in-Some-put.ensures.slots.0 ∙ c.in-Some-put.ensures.ring.2 ∙ sym (open_slots s (running c) c.args.cqid c.args.c c.requires.is_open c.index_mut.result.now read))
+          (sym c.next_post.ensures.value ∙ c.in-Some.is);
+      sqs = refl;
+      cqs = ap (λ z. set s.cqs.items z c.put.new.end) c.from.ensures;
+      log = noted _ _ _ _ c.make_room.ensures.same c.note.ensures.items;
+      room = c.in_ok-make_room.ensures.within;
+      jobs = refl;
+      late = refl;
+      config = refl;
+      alloc = refl;
+    }
 
 pub returns-clause-consistent : goal.returns-clause-consistent
-returns-clause-consistent c = posted-kept c.args.self.now (after c) c.args.c c.in-Some.ready c.completion_of-cqe.result c.requires.consistent c.requires.admin (posted c)
+returns-clause-consistent c =
+    posted-kept c.args.self.now (after c) (running c) c.args.c c.in-Some.cqe c.in-Some-post.place (posted c) c.requires.consistent c.requires.admin
 
 pub returns-clause-goes : goal.returns-clause-goes
-returns-clause-goes c = posted-goes c.args.self.now (after c) c.args.c c.in-Some.ready c.completion_of-cqe.result (posted c)
+returns-clause-goes c = posted-goes c.args.self.now (after c) (running c) c.args.c c.in-Some.cqe c.in-Some-post.place (posted c)
 
 pub returns-clause-picks : goal.returns-clause-picks
 returns-clause-picks c = picks-noted _ _ _ _ c.make_room.ensures.same c.note.ensures.items refl
 
 pub returns-clause-others : goal.returns-clause-others
-unfolding posted
-returns-clause-others c = others_drained c.args.self.now (after c) c.args.c c.post.new.self c.requires.there (posted c).cqs
-
-pub returns-then-not-post-clause-others : goal.returns-then-not-post-clause-others
-returns-then-not-post-clause-others c = λ x other was.
-    let s = c.args.self.now in
-    drained_by s (record s { cqs = with_item s.cqs c.from-2.result c.post.new.self }) x
-    (sym (put_back s.cqs.items c.from-2.result c.index_mut-region.result.now c.post.new.self c.index_mut-region.ensures.value (c.post.ensures.full c.if-not-post.true).0)) was
-
-pub returns-clause-posts : goal.returns-clause-posts
-returns-clause-posts c = record {
-  gets = gets-set _ _ _ _ c.index_mut-sq.ensures.value refl;
-  log = ap (λ (xs : List Event). without_posts (reverse xs)) (noted _ _ _ _ c.make_room.ensures.same c.note.ensures.items)
-      ∙ ap without_posts (past-push c.args.self.now.log.items _);
-}
-
-pub returns-then-not-post-clause-posts : goal.returns-then-not-post-clause-posts
-returns-then-not-post-clause-posts c = posts-by c.args.self.now _ c.make_room.ensures.same refl
+returns-clause-others c = others_drained c.args.self.now (after c) (running c) c.args.c c.in-Some.cqe c.in-Some-post.place (posted c)

@@ -1,17 +1,23 @@
 -- A completion after another: each makes the log longer, and where none was posted nothing changed.
-use Rattle.std.proofs.Common.{◌≡◌, ◌∙◌, true, false, Ok, ap, arith}
-use Rattle.nvme_front.proofs.States.{Goes-trans, IsSame-trans, admin-goes, cqs-goes}
-use Rattle.nvme_front.proofs.Loading.{posts-trans}
-use Rattle.nvme_front.proofs.PostOne.{goes-longer, drained_on}
+use Rattle.std.proofs.Common.{◌≡◌, ◌∙◌, true, false, Ok, refl, ap, arith}
+use Rattle.nvme_front.proofs.States.{Goes-refl, Goes-trans, IsSame-refl, IsSame-trans, admin-goes}
+use Rattle.nvme_front.proofs.Drained.{drained_on}
+use Rattle.nvme_front.proofs.PostOne.{posts-over, goes-longer}
 use Rattle.nvme_front.proofs.state.FrontState.post_region.Goals as goal
 
-pub post_one-requires-clause-admin : goal.post_one-requires-clause-admin
-post_one-requires-clause-admin c = admin-goes c.args.self.now c.loop-posted.self c.loop-posted.invariant.goes c.requires.admin
-
-pub post_one-requires-clause-there : goal.post_one-requires-clause-there
-post_one-requires-clause-there c =
-    let same = cqs-goes c.args.self.now c.loop-posted.self c.loop-posted.invariant.goes in
-    omega (arith, same, c.requires.there)
+pub loop-posted-init : goal.loop-posted-init
+loop-posted-init c = record {
+  consistent = c.requires.consistent;
+  goes = Goes-refl c.args.self.now;
+  jobs = refl;
+  picks = refl;
+  posts = record { gets = refl; log = refl };
+  admin = c.requires.admin;
+  is_open = c.requires.is_open;
+  others = λ x other was. was;
+  more = λ f. cc f;
+  still = λ _. IsSame-refl c.args.self.now;
+}
 
 pub loop-posted-preserved : goal.loop-posted-preserved
 loop-posted-preserved c =
@@ -25,8 +31,9 @@ loop-posted-preserved c =
       goes = Goes-trans c.args.self.now c.loop-posted.self c.post_one.new.self i.goes e.goes;
       jobs = e.jobs ∙ i.jobs;
       picks = e.picks ∙ i.picks;
-      posts = posts-trans c.args.self.now c.loop-posted.self c.post_one.new.self i.posts e.posts;
-      deletion = e.deletion ∙ i.deletion;
+      posts = posts-over c.args.self.now c.loop-posted.self c.post_one.new.self i.posts e.posts;
+      admin = admin-goes c.loop-posted.self c.post_one.new.self e.goes i.admin;
+      is_open = e.is_open;
       others = λ x other was. e.others x other (i.others x other was);
       more = λ t. omega (arith, before, more);
       still = λ f. cc f;
@@ -64,7 +71,7 @@ returns-clause-still c = λ r.
     IsSame-trans c.args.self.now c.loop-posted.self c.post_one.new.self (c.loop-posted.invariant.still none) (c.post_one.ensures.still last).0
 
 pub returns-in_err-post_one-clause-posts : goal.returns-in_err-post_one-clause-posts
-returns-in_err-post_one-clause-posts c = posts-trans c.args.self.now c.loop-posted.self c.post_one.new.self c.loop-posted.invariant.posts c.post_one.ensures.posts
+returns-in_err-post_one-clause-posts c = posts-over c.args.self.now c.loop-posted.self c.post_one.new.self c.loop-posted.invariant.posts c.post_one.ensures.posts
 
 pub returns-clause-posts : goal.returns-clause-posts
-returns-clause-posts c = posts-trans c.args.self.now c.loop-posted.self c.post_one.new.self c.loop-posted.invariant.posts c.post_one.ensures.posts
+returns-clause-posts c = posts-over c.args.self.now c.loop-posted.self c.post_one.new.self c.loop-posted.invariant.posts c.post_one.ensures.posts

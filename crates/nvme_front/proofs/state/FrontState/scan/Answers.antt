@@ -1,8 +1,7 @@
-use Rattle.std.proofs.Common.{◌∙◌, ◌<◌, ◌≤◌, Ok, refl, ap, sym, arith, below_more, ⊎_elim}
-use Rattle.std.proofs.lemmas.Bool.{cases_lt}
+use Rattle.std.proofs.Common.{◌≡◌, ◌∙◌, true, false, Ok, refl, ap, sym, arith, below_more}
 use Rattle.nvme_front.specs.inside.Goes.{IsScanned}
 use Rattle.nvme_front.proofs.States.{Goes-refl, Goes-trans, IsSame-refl, IsSame-trans, admin-goes}
-use Rattle.nvme_front.proofs.Scans.{goes_longer, scanned_above}
+use Rattle.nvme_front.proofs.Scans.{goes_longer}
 use Rattle.nvme_front.proofs.Loading.{loads-trans}
 use Rattle.nvme_front.proofs.state.FrontState.scan.Goals as goal
 use Rattle.nvme_front.proofs.state.FrontState.scan.Goals.{then-branch, else-branch}
@@ -20,6 +19,7 @@ loop-qid-preserved c =
       picks = e.picks ∙ i.picks;
       admin = admin-goes _ _ e.goes i.admin;
       none_pending = e.none_pending;
+      posted = λ none. e.posted (i.posted none);
       loads = loads-trans c.args.self.now c.loop-qid.self c.scan_queue.new.self i.consistent e.consistent e.goes i.loads (e.loads i.scanned);
       more = elim c.if-branch.branch [
         | then-branch w ↦ λ h. let before = goes_longer _ _ i.goes in let more = e.more (was ∙ ap Ok w.if-branch.true) in omega arith
@@ -30,7 +30,6 @@ loop-qid-preserved c =
         | else-branch w ↦ λ h. IsSame-trans _ _ _ (i.still (sym w.fetched-is ∙ h)) (e.still (was ∙ ap Ok w.if-branch.false))
       ];
       scanned = below_more (λ q. IsScanned c.scan_queue.new.self q) c.loop-qid.qid (λ q below. e.others q (λ same. omega (arith, below, same)) (i.scanned q below)) c.in_ok-scan_queue.ensures.scanned;
-      above = λ q above. e.others q (λ same. omega (arith, above, same, c.loop-qid-test.true)) (i.above q above);
     }
 
 pub returns-in_err-scan_queue-clause-goes : goal.returns-in_err-scan_queue-clause-goes
@@ -45,7 +44,6 @@ returns-in_err-scan_queue-clause-loads c =
 pub loop-qid-init : goal.loop-qid-init
 loop-qid-init c =
     let a = c.args.self.now in
-    let allotted = c.allotted-end.ensures.nsq in
     record {
       consistent = c.requires.consistent;
       goes = Goes-refl a;
@@ -55,16 +53,24 @@ loop-qid-init c =
       loads = λ scripts within loaded. loaded;
       admin = c.requires.admin;
       none_pending = c.requires.none_pending;
+      posted = λ none. none;
       more = λ h. absurd (cc h);
       still = λ h. IsSame-refl a;
       scanned = λ q below. absurd (omega (arith, below));
-      above = λ q from. scanned_above a c.requires.consistent c.requires.admin q (omega (arith, from, allotted));
     }
 
 pub returns-clause-scanned : goal.returns-clause-scanned
-returns-clause-scanned c =
-    let i = c.loop-qid.invariant in
-    λ q within.
-    ⊎_elim (λ (below : q < c.loop-qid.qid). i.scanned q below)
-    (λ (from : c.loop-qid.qid ≤ q). i.above q (omega (arith, from, c.loop-qid-test.false)))
-    (cases_lt q c.loop-qid.qid)
+returns-clause-scanned c = λ q within. c.loop-qid.invariant.scanned q (omega (arith, within, c.loop-qid-test.false))
+
+pub returns-in_err-scan_queue-clause-posted : goal.returns-in_err-scan_queue-clause-posted
+returns-in_err-scan_queue-clause-posted c = λ none. c.scan_queue.ensures.posted (c.loop-qid.invariant.posted none)
+
+pub returns-clause-more : goal.returns-clause-more
+returns-clause-more c = λ r.
+    let some : c.loop-qid.fetched ≡ true = cc r in
+    c.loop-qid.invariant.more some
+
+pub returns-clause-still : goal.returns-clause-still
+returns-clause-still c = λ r.
+    let none : c.loop-qid.fetched ≡ false = cc r in
+    c.loop-qid.invariant.still none

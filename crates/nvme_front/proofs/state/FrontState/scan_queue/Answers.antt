@@ -1,6 +1,6 @@
 -- A command after another: each makes the log longer, and where none was fetched nothing changed.
-use Rattle.std.proofs.Common.{◌≡◌, ◌≢◌, ◌∙◌, ℕ, ◌<◌, true, false, Ok, ap, arith}
-use Rattle.nvme_front.proofs.States.{Goes-trans, IsSame-trans, admin-goes}
+use Rattle.std.proofs.Common.{◌≡◌, ◌≢◌, ◌∙◌, ℕ, ◌<◌, true, false, Ok, refl, ap, arith}
+use Rattle.nvme_front.proofs.States.{Goes-refl, Goes-trans, IsSame-refl, IsSame-trans, admin-goes}
 use Rattle.nvme_front.proofs.Scans.{goes_longer, scanned_on}
 use Rattle.nvme_front.specs.declared.state.FrontState.{FrontState}
 use Rattle.nvme_front.specs.inside.Room.{IsConsistent}
@@ -14,6 +14,22 @@ next : (a b c : FrontState) (qid : ℕ) → (((q : ℕ) → q < qid → IsScanne
     → (((q : ℕ) → q < qid → IsScanned b q) → Loads b c) → ((q : ℕ) → q < qid → IsScanned a q) → Loads a c
 next a b c qid first others kept kept' goes second lower =
     loads-trans a b c kept kept' goes (first lower) (second (λ q below. others q (λ same. omega (arith, below, same)) (lower q below)))
+
+pub loop-fetched-init : goal.loop-fetched-init
+loop-fetched-init c = record {
+  consistent = c.requires.consistent;
+  goes = Goes-refl c.args.self.now;
+  cqs = refl;
+  jobs = refl;
+  picks = refl;
+  admin = c.requires.admin;
+  none_pending = c.requires.none_pending;
+  posted = λ none. none;
+  others = λ q other was. was;
+  loads = λ lower scripts within loaded. loaded;
+  more = λ h. absurd (cc h);
+  still = λ h. IsSame-refl c.args.self.now;
+}
 
 pub loop-fetched-preserved : goal.loop-fetched-preserved
 loop-fetched-preserved c =
@@ -30,6 +46,7 @@ loop-fetched-preserved c =
       picks = e.picks ∙ i.picks;
       admin = admin-goes c.loop-fetched.self c.fetch_one.new.self e.goes i.admin;
       none_pending = e.none_pending;
+      posted = λ none. e.posted (i.posted none);
       others = λ q other was. e.others q other (i.others q other was);
       loads = λ lower. next c.args.self.now c.loop-fetched.self c.fetch_one.new.self c.args.qid i.loads i.others i.consistent e.consistent e.goes e.loads lower;
       more = λ t. omega (arith, before, more);
@@ -78,3 +95,9 @@ returns-clause-loads c = λ lower.
     let i = c.loop-fetched.invariant in
     let e = c.fetch_one.ensures in
     next c.args.self.now c.loop-fetched.self c.fetch_one.new.self c.args.qid i.loads i.others i.consistent e.consistent e.goes e.loads lower
+
+pub returns-in_err-fetch_one-clause-posted : goal.returns-in_err-fetch_one-clause-posted
+returns-in_err-fetch_one-clause-posted c = λ none. c.fetch_one.ensures.posted (c.loop-fetched.invariant.posted none)
+
+pub returns-clause-posted : goal.returns-clause-posted
+returns-clause-posted c = λ none. c.fetch_one.ensures.posted (c.loop-fetched.invariant.posted none)

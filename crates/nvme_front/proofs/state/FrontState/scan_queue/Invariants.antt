@@ -2,7 +2,10 @@ use Rattle.std.proofs.Common.{◌≡◌, ◌≢◌, ℕ, ◌-◌, ◌<◌, lengt
 use Rattle.nvme_front.specs.inside.Room.{IsConsistent}
 use Rattle.nvme_front.specs.inside.Goes.{Goes, IsSame, HasAdmin, IsScanned}
 use Rattle.nvme_front.specs.inside.Loads.{Loads}
+use Rattle.nvme_front.specs.inside.State.{past_of, view_of}
+use Rattle.nvme_front.specs.View.{NoneCanBePosted}
 use Rattle.nvme_log.specs.Histories.{picks_in}
+use Rattle.nvme_log.specs.Queues.{pending}
 use Rattle.nvme_front.proofs.state.FrontState.scan_queue.Given as goal
 
 abbrev pub invariant-loop-fetched : goal.invariant-loop-fetched
@@ -13,7 +16,8 @@ invariant-loop-fetched l = record {
   jobs : l.self.jobs ≡ l.fn.self.jobs;
   picks : picks_in l.self.log.items ≡ picks_in l.fn.self.log.items;
   admin : HasAdmin l.self;
-  none_pending : l.self.deletion ≡ None;
+  none_pending : pending (past_of l.self) ≡ None;
+  posted : NoneCanBePosted (view_of l.fn.self) → NoneCanBePosted (view_of l.self);
   others : (q : ℕ) → q ≢ l.fn.qid → IsScanned l.fn.self q → IsScanned l.self q;
   loads : ((q : ℕ) → q < l.fn.qid → IsScanned l.fn.self q) → Loads l.fn.self l.self;
   more : l.fetched ≡ true → length l.fn.self.log.items < length l.self.log.items;

@@ -39,7 +39,7 @@ pub returns-clause-to_end : goal.returns-clause-to_end
 returns-clause-to_end g c =
     let up = c.catch_up.ensures in
     subst (λ (s : Step). GoesToEnd s (view_of c.args.self.now) (view_of c.proceed.new.self)) (sym c.step_after.ensures)
-    (to_end_after c.args.self.now c.catch_up.new.self c.requires.consistent c.requires.admin up.consistent up.goes up.deletion up.picks c.proceed.new.self
+    (to_end_after c.args.self.now c.catch_up.new.self up.goes up.deletion up.picks c.proceed.new.self
     c.in_ok-moved.moved c.in_ok-step.step c.in_ok-step.ensures.to_end)
 
 pub returns-in_err-moved-clause-loads : goal.returns-in_err-moved-clause-loads

@@ -1,7 +1,0 @@
-use Rattle.std.proofs.Common.{◌-◌, take}
-use Rattle.nvme_state.specs.Hands.{IsOfNone}
-use Rattle.nvme_state.proofs.running.find.Given as goal
-
--- the commands that were looked at, but for the hinted one, are none of the result's
-abbrev pub invariant-loop-k : goal.invariant-loop-k
-invariant-loop-k l = IsOfNone l.spaces (take (l.k - 1) l.running) l.finished

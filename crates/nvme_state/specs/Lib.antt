@@ -1,6 +1,0 @@
-pub mod Answers
-pub mod Balance
-pub mod Hands
-pub mod JobAccount
-pub mod Regions
-pub mod inside
