@@ -227,11 +227,6 @@ unfolding verdict_of dw0_of
 dw0_of-applied start h new entry verdict a =
     ap dw0_in a.is ∙ dw0_in-verdict (status_of start h entry) (queue_table start (EntryApplied entry ∷ h)) (admin_command_of entry)
 
--- a command that isn't answered with success changes nothing
-pub Does-unchanged : (old new : TableView) (command : AdminCommand) (verdict : Verdict) → Does old new command verdict → is_success (status_in verdict) ≡ false → new ≡ old
-Does-unchanged old new command verdict does fails =
-    does.refused (ap is_success (sym (ap status_in does.verdict_is ∙ status_in-verdict (first_failed (rows_of (table_of old) command)) (table_of new) command)) ∙ fails)
-
 -- ---- an entry by what the table has
 -- what holds after an entry, by what the table had
 pub record AppliesTo (old new : TableView) (entry : Sqe) (verdict : Verdict) : Type 0 where

@@ -237,9 +237,6 @@ sees_then class q t h w =
           absurd (both_ways (sees_where_of class q t) bad h))
     ]
 
-is_served_in : Class → ℕ → List Turn → Bool
-is_served_in class q turns = list_any (λ t. is_of_class class t && (t.pick.qid == q)) turns
-
 not_here : (class : Class) (q : ℕ) (t : Turn) → (is_of_class class t && (t.pick.qid == q)) ≡ false → is_of_class class t ≡ true → t.pick.qid ≢ q
 not_here class q t n w e = both_ways (is_of_class class t && (t.pick.qid == q)) n (and_from (is_of_class class t) (t.pick.qid == q) w (eq-eqb t.pick.qid q e))
 

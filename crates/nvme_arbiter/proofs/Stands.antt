@@ -103,11 +103,6 @@ nothing_in High = refl
 nothing_in Medium = refl
 nothing_in Low = refl
 
--- after a change of the settings
-pub stands_changed : (m : Mechanism) (first : ArbitrationFields) (past : History) (k : Kept) (s : ArbitrationFields) → StandsAt m first past k → StandsAt m first (Changed s ∷ past) (record k { settings = s; used = nothing_used })
-stands_changed RoundRobin first past k s h = record { mechanism_is = h.mechanism_is; settings_are = refl; recalls = h.recalls }
-stands_changed Weighted first past k s h = record { mechanism_is = h.mechanism_is; settings_are = refl; recalls = (h.recalls.0, λ level l. nothing_in level) }
-
 -- at first
 pub stands_first : (m : Mechanism) (s : ArbitrationFields) → StandsAt m s [] (first_kept m s)
 stands_first RoundRobin s = record { mechanism_is = refl; settings_are = refl; recalls = refl }

@@ -1,7 +1,6 @@
 -- A pool of which all slots are made free, one after the other.
 use Rattle.std.proofs.Common.{◌≡◌, ℕ, suc, ◌+◌, ◌<◌, ◌^◌, List, [], ◌∷◌, ◌++◌, length, sym, ap, ◌∙◌, subst, arith, inl, inr}
-use Rattle.std.proofs.lemmas.Bool.{cases_eq, cases_lt}
-use Rattle.std.proofs.lemmas.List.{get_or_past}
+use Rattle.std.proofs.lemmas.Bool.{cases_eq}
 use Rattle.nvme_log.specs.Rules.{upto}
 use Rattle.nvme_log.proofs.Fates.{length-upto}
 use Rattle.nvme_log.proofs.Waiting.{upto-below}
@@ -35,10 +34,3 @@ frees_one slots put new free after n there few is pushes items f =
         | inr other ↦ ap (λ (s : Slot). s.state) (slot_at-put_item_other slots n no_slot y other) ∙ f.each y (omega (arith, below, other))
       ];
     }
-
--- all slots are free, also those that aren't there
-pub all_freed : (slots : List Slot) (free : Chain) (n : ℕ) → length slots ≡ n → IsFreed slots free n → (x : ℕ) → (slot_at slots x).state ≡ 0
-all_freed slots free n size f x = elim (cases_lt x n) [
-  | inl below ↦ f.each x below
-  | inr past ↦ ap (λ (s : Slot). s.state) (get_or_past slots x no_slot (omega (arith, size, past)))
-]

@@ -13,7 +13,6 @@ pub mod AfterSteps
 pub mod StepKeeps
 pub mod Windows
 pub mod Named
-pub mod NamedPositions
 pub mod Regions
 pub mod ServedPlaces
 pub mod AbortRequests
@@ -49,7 +48,6 @@ pub mod HandSteps
 pub mod AnswerSteps
 pub mod OwnStatus
 pub mod MadePlaces
-pub mod MadeRegions
 pub mod EffectEvents
 pub mod OwnSteps
 pub mod NextEvents
@@ -81,7 +79,6 @@ pub mod FetchCalls
 pub mod NoPosts
 pub mod FetchTold
 pub mod ToldQueues
-pub mod PoolCounts
 pub mod Freeing
 pub mod AddedTables
 pub mod Growing
@@ -138,7 +135,6 @@ pub mod Reordered
 pub mod OutPlaces
 pub mod OpenRegions
 pub mod UnpostedPlaces
-pub mod OneDeletion
 pub mod SomeDeleting
 pub mod ServedQueues
 pub mod PlacesNeeded

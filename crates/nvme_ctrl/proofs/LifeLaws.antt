@@ -1,10 +1,9 @@
 -- What follows from which queues have their state kept: nothing is ready of a region whose places are posted, nor where no queue is attached.
-use Rattle.std.proofs.Common.{◌≡◌, ◌≢◌, ℕ, zero, suc, ◌+◌, ◌<◌, ◌≤◌, ◌==◌, ◌||◌, ◌&&◌, Bool, true, false, if◌then◌else◌, List, [], ◌∷◌, Option, Some, None, refl, sym, ap, subst, ◌∙◌, arith, inl, inr, eq-eqb, slice_index_or, true≢false}
+use Rattle.std.proofs.Common.{◌≡◌, ◌≢◌, ℕ, zero, suc, ◌+◌, ◌<◌, ◌≤◌, ◌==◌, ◌||◌, ◌&&◌, Bool, true, false, if◌then◌else◌, List, [], ◌∷◌, Option, Some, None, refl, sym, ap, subst, ◌∙◌, arith, inl, inr, eq-eqb, true≢false}
 use Rattle.std.specs.Prelude.{sum_by, All, option_map}
 use Rattle.std.proofs.lemmas.Bool.{cases_eq, cases_lt, false_from_ne_true, or_right}
 use Rattle.std.proofs.lemmas.Option.{none-some, same_Some}
 use Rattle.nvme_arbiter.specs.Limits.{highest_qid}
-use Rattle.std.proofs.lemmas.List.Sums.{get_or-le-sum_by}
 use Rattle.std.proofs.lemmas.List.Elements.{All-head, All-same}
 use Rattle.nvme_admin.specs.Accepted.{queue_table, sq_at}
 use Rattle.nvme_admin.specs.Changes.{IsDue, TellsChange, sq_after}
@@ -28,10 +27,8 @@ use Rattle.nvme_log.proofs.Posts.{posts_of-some}
 use Rattle.nvme_ctrl.specs.kept.Content.{Candidate, Ready, Content}
 use Rattle.nvme_ctrl.specs.kept.Standing.{HoldsReady, IsReady, Holds, is_opened_cq, hand_of, held_upto, times_held, times_ready}
 use Rattle.nvme_ctrl.specs.inside.Steps.{CanApply, verdict_at}
-use Rattle.nvme_ctrl.proofs.HandSteps.{hand_served}
 use Rattle.nvme_ctrl.proofs.QueueWords.{at_other, chosen}
 use Rattle.nvme_ctrl.proofs.ReadyChange.{IsServed, ready-served}
-use Rattle.nvme_ctrl.proofs.ReadyHand.{times_held-append}
 use Rattle.nvme_ctrl.proofs.Readying.{unposted-counts}
 
 -- ---- completion queues of the log
@@ -67,29 +64,6 @@ not_posted past r i e = false_from_ne_true (is_posted past r i) (λ (p : is_post
 served_elsewhere : (past : Past) (r x i : ℕ) → unposted_of past r ≡ 0 → is_served past x i ≡ true → posts_of past x i ≡ 0 → x ≢ r
 served_elsewhere past r x i none served fresh same =
     unposted-counts past x i served (not_posted past x i fresh) (ap (unposted_of past) same ∙ none)
-
--- nothing is ready of it
-pub none_ready_of_closed : (past : Past) (k : Content) (hand : List Place) → HoldsReady past k hand → (r : ℕ) → unposted_of past r ≡ 0
-    → (x : ℕ) → All (λ (t : Ready). t.place.region ≢ r) (k.cq x).ready
-none_ready_of_closed past k hand h r none x j d l =
-    let t : Ready = slice_index_or (k.cq x).ready j d in
-    let served : IsServed past t = ready-served past k hand h x j d l in
-    served_elsewhere past r t.place.region t.place.index none served.served served.no_post
-
--- nor in hand
-pub none_in_hand_of_closed : (past : Past) (k : Content) → HoldsReady past k (hand_of k) → (r : ℕ) → unposted_of past r ≡ 0
-    → All (λ (p : Place). p.region ≢ r) k.hand
-none_in_hand_of_closed past k h r none j e lt =
-    let p : Place = slice_index_or k.hand j e in
-    let own : Place → ℕ = λ x. one_if (x.region == p.region && x.index == p.index) in
-    let itself : own p ≡ 1 = rw (eq-eqb p.region p.region refl, eq-eqb p.index p.index refl) refl in
-    let here : own p ≤ sum_by own k.hand = get_or-le-sum_by own k.hand j e lt in
-    let among : 1 ≤ times_held p.region p.index (hand_of k) = omega (arith, itself, here, times_held-append p.region p.index k.hand (held_upto k.deletion k.nsq)) in
-    served_elsewhere past r p.region p.index none (hand_served past k h j e lt)
-    (no_posts (is_served past p.region p.index) (times_ready k p.region p.index) (posts_of past p.region p.index) (times_held p.region p.index (hand_of k)) among (h.once p.region p.index)) where
-      no_posts : (b : Bool) (x y z : ℕ) → 1 ≤ z → x + y + z ≡ one_if b → y ≡ 0
-      no_posts true x y z l e = omega arith
-      no_posts false x y z l e = omega arith
 
 -- ---- a completion region to which no queue posts
 -- nothing is ready in it

@@ -226,12 +226,6 @@ aborts_all r (j ∷ is) past =
     (aborts_keep r r j is (event.Abort r j ∷ past) (or_left (r == r && j == j) (is_aborted past r j) (and_from (r == r) (j == j) (eq-eqb r r refl) (eq-eqb j j refl))))
     (aborts_all r is (event.Abort r j ∷ past))
 
--- aborts leave the table history at a pick
-pub aborts_leave_table : (rules : FrontRules) (r i : ℕ) (is : List ℕ) (past : Past)
-    → table_before rules (with_events (map (λ (j : ℕ). event.Abort r j) is) past) i ≡ table_before rules past i
-aborts_leave_table rules r i [] past = refl
-aborts_leave_table rules r i (j ∷ is) past = aborts_leave_table rules r i is (event.Abort r j ∷ past)
-
 -- ---- verdicts
 -- what counts as success is success
 success_is : (status : StatusCode) → is_success status ≡ true → status ≡ success

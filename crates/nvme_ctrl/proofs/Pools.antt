@@ -1,9 +1,9 @@
 -- Slots of a pool and the chains that link them: what a change to one slot leaves, and when a chain is left.
-use Rattle.std.proofs.Common.{◌≡◌, ◌≢◌, ℕ, ◌<◌, ◌≤◌, ◌==◌, ◌⊎◌, Bool, true, false, if◌then◌else◌, eqb, Some, None, List, [], ◌∷◌, ◌++◌, length, refl, sym, ap, subst, inl, inr, arith}
+use Rattle.std.proofs.Common.{◌≡◌, ◌≢◌, ℕ, ◌<◌, ◌≤◌, ◌==◌, ◌⊎◌, Bool, true, false, if◌then◌else◌, eqb, Some, List, [], ◌∷◌, ◌++◌, length, refl, sym, ap, subst, inl, inr}
 use Rattle.std.specs.List.{All, Contains, IsDistinct, list_any}
 use Rattle.std.proofs.lemmas.Bool.{cases_lt, cases_eq, eqb-true, ne_eqb, or_cases}
 use Rattle.std.proofs.lemmas.List.{length-set, get_or-set_same, get_or-set_other, set_past}
-use Rattle.std.proofs.lemmas.List.Elements.{All-nil, All-cons, All-head, All-tail, All-append, All-weaker, All-contains, Contains-get_or, Contains-append_right, All-same, recursion_from_All}
+use Rattle.std.proofs.lemmas.List.Elements.{All-nil, All-cons, All-head, All-tail, All-append, All-weaker, recursion_from_All}
 use Rattle.std.proofs.lemmas.Map.Steps.{length-le_from_distinct_below}
 use Rattle.std.proofs.lemmas.Option.{same_Some}
 use Rattle.nvme_ctrl.specs.declared.slot.Slot.{Slot}
@@ -50,21 +50,6 @@ item_at-put_item_same slots y s h = ap (λ (t : Slot). record t { next = 0 }) (s
 -- what is in the others is left
 pub item_at-put_item_other : (slots : List Slot) (y : ℕ) (s : Slot) (x : ℕ) → x ≢ y → item_at (put_item slots y s) x ≡ item_at slots x
 item_at-put_item_other slots y s x h = ap (λ (t : Slot). record t { next = 0 }) (slot_at-put_item_other slots y s x h)
-
--- a link leaves what is in each slot
-pub item_at-put_next : (slots : List Slot) (y n x : ℕ) → item_at (put_next slots y n) x ≡ item_at slots x
-item_at-put_next slots y n x = elim (cases_eq x y) [
-  | inl same ↦ elim (cases_lt y (length slots)) [
-    | inl within ↦ subst (λ (z : ℕ). item_at (put_next slots y n) z ≡ item_at slots z) (sym same)
-        (ap (λ (s : Slot). record s { next = 0 }) (slot_at-put_next_same slots y n within))
-    | inr past ↦ ap (λ (new : List Slot). item_at new x) (set_past slots y (record (slot_at slots y) { next = n }) past)
-  ]
-  | inr other ↦ ap (λ (s : Slot). record s { next = 0 }) (slot_at-put_next_other slots y n x other)
-]
-
--- so the items are the same
-pub SameItems-put_next : (slots : List Slot) (y n : ℕ) → SameItems slots (put_next slots y n)
-SameItems-put_next slots y n = record { size = length-put_next slots y n; items = item_at-put_next slots y n }
 
 -- something else in a slot leaves each link
 pub next_at-put_item : (slots : List Slot) (y : ℕ) (s : Slot) (x : ℕ) → next_at (put_item slots y s) x ≡ next_at slots x
@@ -119,21 +104,6 @@ IsNew-right x xs ys h = All-right (λ (y : ℕ). y ≢ x) xs ys h
 -- a number is new where a test holds of all and not of it
 pub IsNew-by : (P : ℕ → Type 0) (x : ℕ) (xs : List ℕ) → All P xs → (P x → ⊥) → IsNew x xs
 IsNew-by P x xs h not = All-weaker P (λ (y : ℕ). y ≢ x) (λ y p e. not (subst P e p)) xs h
-
--- a number that is new is none of the list
-pub IsNew-contains : (x : ℕ) (xs : List ℕ) → IsNew x xs → Contains xs x → ⊥
-IsNew-contains x xs h there = All-contains (λ (y : ℕ). y ≢ x) xs x h there refl
-
--- a number is new, or one of the list
-pub cases_new : (x : ℕ) (xs : List ℕ) → IsNew x xs ⊎ Contains xs x
-cases_new x [] = inl (IsNew-nil x)
-cases_new x (y ∷ ys) = elim (cases_eq y x) [
-  | inl same ↦ inr (subst (Contains (y ∷ ys)) same (Contains-get_or (y ∷ ys) 0 y (omega arith)))
-  | inr other ↦ elim (cases_new x ys) [
-    | inl new ↦ inl (IsNew-cons x y ys other new)
-    | inr there ↦ inr (Contains-append_right (y ∷ []) ys x there)
-  ]
-]
 
 -- all of a list are new to another, and so the other way round
 pub IsNew-swap : (xs ys : List ℕ) → All (λ (x : ℕ). IsNew x ys) xs → All (λ (y : ℕ). IsNew y xs) ys
@@ -231,12 +201,6 @@ pub chain-other : (slots new : List Slot) (c : Chain) (xs ys : List ℕ) → IsC
 chain-other slots new c xs ys h links size new_to =
     chain-same-links slots new c xs h size (All-weaker (λ (x : ℕ). IsNew x ys) (λ (x : ℕ). next_at new x ≡ next_at slots x) links xs new_to)
 
--- where one such slot was linked to another
-pub chain-put_next : (slots : List Slot) (c : Chain) (xs : List ℕ) (y n : ℕ) → IsChain slots c xs → IsNew y xs → IsChain (put_next slots y n) c xs
-chain-put_next slots c xs y n h new =
-    chain-same-links slots (put_next slots y n) c xs h (length-put_next slots y n)
-    (All-weaker (λ (x : ℕ). x ≢ y) (λ (x : ℕ). next_at (put_next slots y n) x ≡ next_at slots x) (next_at-put_next_other slots y n) xs new)
-
 -- ---- how many
 -- numbers that are apart are distinct
 distinct : (xs : List ℕ) → AreApart xs → IsDistinct eqb xs
@@ -295,15 +259,6 @@ parts slots cid (y ∷ ys) x h = by ((slot_at slots y).entry.cid == cid) refl h 
         left = rw e (ap (λ (zs : List ℕ). y ∷ zs) rest.left);
       }
 
--- where none has the name, all are left
-pub without-name : (slots : List Slot) (cid : ℕ) (xs : List ℕ) → named_in slots cid xs ≡ None → without_named slots cid xs ≡ xs
-without-name slots cid [] h = refl
-without-name slots cid (x ∷ xs) h = by ((slot_at slots x).entry.cid == cid) h (without-name slots cid xs) where
-  by : (b : Bool) → (if b then Some x else named_in slots cid xs) ≡ None → (named_in slots cid xs ≡ None → without_named slots cid xs ≡ xs)
-      → (if b then xs else x ∷ without_named slots cid xs) ≡ x ∷ xs
-  by true here later = cc here
-  by false there later = ap (λ (ys : List ℕ). x ∷ ys) (later there)
-
 -- what holds of all holds of the others
 pub All-without : (P : ℕ → Type 0) (slots : List Slot) (cid : ℕ) (xs : List ℕ) → All P xs → All P (without_named slots cid xs)
 All-without P slots cid [] each = each
@@ -319,15 +274,3 @@ AreApart-without slots cid (x ∷ xs) h = by ((slot_at slots x).entry.cid == cid
   by : (t : Bool) → AreApart (without_named slots cid xs) → AreApart (if t then xs else x ∷ without_named slots cid xs)
   by true rest = h.1
   by false rest = (All-without (λ (y : ℕ). y ≢ x) slots cid xs h.0, rest)
-
--- what holds of all holds of the one that is named
-pub All-named : (P : ℕ → Type 0) (slots : List Slot) (cid : ℕ) (xs : List ℕ) (x : ℕ) → named_in slots cid xs ≡ Some x → All P xs → P x
-All-named P slots cid xs x h each =
-    let at = parts slots cid xs x h in
-    All-head P x at.behind (All-right P at.before (x ∷ at.behind) (All-same P (at.before ++ x ∷ at.behind) xs (sym at.whole) each))
-
--- the one that is named is new to the others
-pub IsNew-named : (slots : List Slot) (cid : ℕ) (xs : List ℕ) (x : ℕ) → named_in slots cid xs ≡ Some x → AreApart xs → IsNew x (without_named slots cid xs)
-IsNew-named slots cid xs x h apart =
-    let at = parts slots cid xs x h in
-    subst (IsNew x) (sym at.left) (IsNew-others at.before x at.behind (subst AreApart at.whole apart))

@@ -139,11 +139,6 @@ at_put P sq a x here there r =
       | inr d ↦ rw (ne_eqb r a d, put_sq) (there r d)
     ]
 
--- a sum of ones is a length
-pub sum_by-ones : {X : Type 0} (xs : List X) → sum_by (λ (x : X). 1) xs ≡ length xs
-sum_by-ones {X = X} [] = refl
-sum_by-ones {X = X} (x ∷ xs) = omega (arith, sum_by-cons (λ (y : X). 1) x xs, sum_by-ones xs)
-
 -- completions that were made of candidates of region a
 pub record IsMade (a : ℕ) (f : Candidate → Ready) : Type 0 where
   pub region : (c : Candidate) → (f c).place.region ≡ a

@@ -13,7 +13,7 @@ use Rattle.nvme_log.specs.Rules.{Past}
 use Rattle.nvme_log.specs.Queues.{open_sq, has_region}
 use Rattle.nvme_log.specs.Places.{fetched, entry_at, picked, is_aborted, unaborted_below, fate_of, is_waiting, is_picked, waiting}
 use Rattle.nvme_log.specs.Places.{one_if, is_served}
-use Rattle.nvme_log.proofs.Waiting.{times_among, times-waiting, served-or_waits, one_fate_of, fetched-fetch, waiting-fetch, waiting-pick, waiting-abort, waiting-abort_at, is_aborted-abort, is_aborted-abort_other}
+use Rattle.nvme_log.proofs.Waiting.{times_among, times-waiting, served-or_waits, one_fate_of, fetched-fetch, waiting-fetch, waiting-pick, waiting-abort_at, is_aborted-abort}
 use Rattle.nvme_ctrl.proofs.AfterSteps.{with_events}
 use Rattle.nvme_ctrl.proofs.Regions.{slice_get-append_left, aborts_of}
 
@@ -83,24 +83,6 @@ times_between i c xs ys =
       sum_by-cons (λ (j : ℕ). one_if (j == i)) c ys,
     )
 
--- an abort serves a place that waits
-pub served-abort_at : (past : Past) (r c : ℕ) (xs ys : List ℕ) → waiting past r ≡ xs ++ c ∷ ys → (i : ℕ)
-    → one_if (is_served (event.Abort r c ∷ past) r i) ≡ one_if (is_served past r i) + one_if (c == i)
-served-abort_at past r c xs ys split i =
-    omega (
-      arith,
-      served-or_waits (event.Abort r c ∷ past) r i,
-      served-or_waits past r i,
-      ap (times_among i) (waiting-abort_at past r c xs ys split),
-      ap (times_among i) split,
-      times_between i c xs ys,
-    )
-
--- also the oldest
-pub served-abort : (past : Past) (r c : ℕ) (rest : List ℕ) → waiting past r ≡ c ∷ rest → (i : ℕ)
-    → one_if (is_served (event.Abort r c ∷ past) r i) ≡ one_if (is_served past r i) + one_if (c == i)
-served-abort past r c rest oldest i = served-abort_at past r c [] rest oldest i
-
 -- ---- which fetched places were picked, and which wait
 -- after a pick of the region's queue the first places that waited wait no more
 pub waits-pick : (past : Past) (seen : List Seen) (pick : Pick) (r : ℕ) → has_region r (open_sq past pick.qid) ≡ true → (i : ℕ) → i < length (fetched past r)
@@ -150,60 +132,9 @@ is_picked-abort_at past r c xs ys split i lt =
     one_if-same (is_picked (fate_of (event.Abort r c ∷ past) r i)) (is_picked (fate_of past r i))
     (omega (arith, waits, before, named, one_fate_of (event.Abort r c ∷ past) r i))
 
--- also of the oldest
-pub is_picked-abort : (past : Past) (r c : ℕ) (rest : List ℕ) → waiting past r ≡ c ∷ rest → (i : ℕ) → i < length (fetched past r)
-    → is_picked (fate_of (event.Abort r c ∷ past) r i) ≡ is_picked (fate_of past r i)
-is_picked-abort past r c rest oldest i lt = is_picked-abort_at past r c [] rest oldest i lt
-
 -- ---- aborts of several places
 -- what an abort leaves, aborts leave
 pub aborts-leave : {A : Type 0} (word : Past → A) → ((past : Past) (r i : ℕ) → word (event.Abort r i ∷ past) ≡ word past)
     → (r : ℕ) (is : List ℕ) (past : Past) → word (with_events (aborts_of r is) past) ≡ word past
 aborts-leave word left r [] past = refl
 aborts-leave word left r (i ∷ is) past = aborts-leave word left r is (event.Abort r i ∷ past) ∙ left past r i
-
--- they name their places, and what was named before stays so
-pub is_aborted-aborts : (r : ℕ) (is : List ℕ) (past : Past) (j : ℕ)
-    → is_aborted (with_events (aborts_of r is) past) r j ≡ (list_any (λ (i : ℕ). i == j) is || is_aborted past r j)
-is_aborted-aborts r [] past j = refl
-is_aborted-aborts r (i ∷ is) past j =
-    is_aborted-aborts r is (event.Abort r i ∷ past) j
-    ∙ ap (λ (z : Bool). list_any (λ (k : ℕ). k == j) is || z) (is_aborted-abort past r i j)
-    ∙ moved (i == j) (list_any (λ (k : ℕ). k == j) is) (is_aborted past r j) where
-      moved : (here later before : Bool) → (later || (here || before)) ≡ ((here || later) || before)
-      moved true true before = refl
-      moved true false before = refl
-      moved false later before = or_assoc later before where
-        or_assoc : (later before : Bool) → (later || before) ≡ ((false || later) || before)
-        or_assoc true before = refl
-        or_assoc false before = refl
-
--- and no place of another region
-pub is_aborted-aborts_other : (region : ℕ) (is : List ℕ) (past : Past) (r j : ℕ) → (region ≡ r → ⊥)
-    → is_aborted (with_events (aborts_of region is) past) r j ≡ is_aborted past r j
-is_aborted-aborts_other region [] past r j other = refl
-is_aborted-aborts_other region (i ∷ is) past r j other = is_aborted-aborts_other region is (event.Abort region i ∷ past) r j other ∙ is_aborted-abort_other past region i r j other
-
--- after all places that wait are aborted, none waits
-pub waiting-aborts : (is : List ℕ) (past : Past) (r : ℕ) → waiting past r ≡ is → waiting (with_events (aborts_of r is) past) r ≡ []
-waiting-aborts [] past r h = h
-waiting-aborts (i ∷ is) past r h = waiting-aborts is (event.Abort r i ∷ past) r (waiting-abort past r i is h)
-
--- aborts of all places that wait serve them
-pub served-aborts : (past : Past) (r : ℕ) (is : List ℕ) → waiting past r ≡ is → (i : ℕ)
-    → one_if (is_served (with_events (aborts_of r is) past) r i) ≡ one_if (is_served past r i) + times_among i is
-served-aborts past r is h i =
-    omega (
-      arith,
-      served-or_waits (with_events (aborts_of r is) past) r i,
-      ap (times_among i) (waiting-aborts is past r h),
-      ap (λ (z : List Sqe). one_if (nat_lt i (length z))) (aborts-leave (λ (p : Past). fetched p r) (λ p q j. refl) r is past),
-      served-or_waits past r i,
-      ap (times_among i) h,
-    )
-
--- aborts pick no place
-pub is_picked-aborts : (is : List ℕ) (past : Past) (r : ℕ) → waiting past r ≡ is → (i : ℕ) → i < length (fetched past r)
-    → is_picked (fate_of (with_events (aborts_of r is) past) r i) ≡ is_picked (fate_of past r i)
-is_picked-aborts [] past r h i lt = refl
-is_picked-aborts (c ∷ is) past r h i lt = is_picked-aborts is (event.Abort r c ∷ past) r (waiting-abort past r c is h) i lt ∙ is_picked-abort past r c is h i lt

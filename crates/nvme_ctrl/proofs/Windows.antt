@@ -14,10 +14,6 @@ use Rattle.nvme_log.specs.Places.{one_if, is_served}
 use Rattle.nvme_ctrl.specs.kept.Standing.{HoldsSq}
 use Rattle.nvme_log.proofs.Waiting.{times_among, times-waiting, served-or_waits, waiting-below, waiting-ascending, waiting-waits, waiting-contains}
 
--- the index of a candidate
-abbrev pub index_of : Candidate → ℕ
-index_of c = c.index
-
 -- what holds of each item of a mapped list
 pub All-from_map : {X Y : Type 0} (f : X → Y) (P : Y → Type 0) (xs : List X) → All P (map f xs) → All (λ (x : X). P (f x)) xs
 All-from_map f P xs h k d lt = subst P (get_or-map f xs k d (f d) lt) (h k (f d) (omega (arith, length-map xs f, lt)))

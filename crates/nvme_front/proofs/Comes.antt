@@ -57,7 +57,3 @@ comes-seen a b comes r =
 -- more behind the same
 pub IsPrefix-onto : (xs ys zs : List Sqe) → IsPrefix ys zs → IsPrefix (xs ++ ys) (xs ++ zs)
 IsPrefix-onto xs ys zs p = (p.0, append_assoc xs ys p.0 ∙ ap (λ (l : List Sqe). xs ++ l) p.1)
-
--- a region was replaced by one with the same end
-pub gets-set : (sqs : List SqRegion) (r : ℕ) (d g : SqRegion) → d ≡ get_or sqs r d → g.end ≡ d.end → gets_of (set sqs r g) ≡ gets_of sqs
-gets-set sqs r d g read same = map-set_same (λ (s : SqRegion). s.end) sqs r g d (same ∙ ap (λ (s : SqRegion). s.end) read)

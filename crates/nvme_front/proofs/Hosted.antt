@@ -120,10 +120,6 @@ part-same f d xs k x h =
 pub part-other : {X Y : Type 0} (f : X → Y) (d : Y) (xs : List X) (k : ℕ) (x : X) (r : ℕ) → (r ≡ k → ⊥) → get_or (map f (set xs k x)) r d ≡ get_or (map f xs) r d
 part-other f d xs k x r h = ap (λ z. get_or z r d) (map-set f xs k x) ∙ get_or-set_other (map f xs) k r (f x) d h
 
--- ---- the same front
-pub IsSameFront-refl : (v : FrontView) → IsSameFront v v
-IsSameFront-refl v = record { rules = refl; limit = refl; late = refl; log = refl; got = refl; knows = λ r. IsPrefix-refl (known_in v r); get_places = refl; sent = refl; put_places = refl; frees = λ c. omega arith; hands = refl }
-
 pub IsSameFront-trans : (u v w : FrontView) → IsSameFront u v → IsSameFront v w → IsSameFront u w
 IsSameFront-trans u v w g h = record {
   rules = h.rules ∙ g.rules;
@@ -178,17 +174,6 @@ same-cq c x x' v w rests l look = record {
     | inr q ↦ subst (λ z. free_in v n ≤ z) (sym (ap (λ (z : FrontView). free_in z n) look.view ∙ part-other (λ (p : PutView Cqe). p.free) 0 v.puts c look.end n q.1)) (omega arith)
   ];
   hands = ap (λ (z : FrontView). z.hands) look.view;
-}
-
--- ---- looking at one submission ring after another
-pub Rests-none : (f : List (Feeder Sqe)) (v : FrontView) → Rests 0 true f f v v
-Rests-none f v = record {
-  front = IsSameFront-refl v;
-  feeders = record { told_is = refl; places = refl; frees = λ r. omega arith };
-  puts = refl;
-  rest = λ r l. absurd (omega arith);
-  none = λ e r l. absurd (omega arith);
-  some = λ e. cc e;
 }
 
 pub Rests-more : (n : ℕ) (quiet quiet' : Bool) (f f' : List (Feeder Sqe)) (v w w' : FrontView) (x x' : Feeder Sqe) (rests : ℕ)
@@ -259,10 +244,6 @@ Rests-more n quiet quiet' f f' v w w' x x' rests s l l' read look when_true when
 pub serving_is : (n : ℕ) (v w : FrontView) (b : Bool) → w.log ≡ v.log → n < length w.gets → b ≡ (nat_lt n (length w.gets) && is_serving (past_in w) n) → b ≡ is_serving (past_in v) n
 serving_is n v w b log l e =
     e ∙ ap (λ z. z && is_serving (past_in w) n) (lt-ltb n (length w.gets) l) ∙ ap (λ z. is_serving (reverse z) n) log
-
--- ---- taking from one completion ring after another
-pub Collects-none : (d : List (Drainer Cqe)) (v : FrontView) → Collects 0 d d v v
-Collects-none d v = record { front = IsSameFront-refl v; gets = refl; takes = record { places = refl; taken = λ c. inl refl }; all = λ c l. absurd (omega arith) }
 
 -- a list that had come so far goes on
 takes_on : (sent a b c : List Cqe) → TakesOf sent a b → IsPrefix b c → IsPrefix c sent → TakesOf sent a c

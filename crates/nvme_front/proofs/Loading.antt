@@ -28,11 +28,6 @@ use Rattle.nvme_front.proofs.Ended.{fetched_all}
 use Rattle.nvme_front.proofs.EndsSeen.{accounts_for_ends}
 use Rattle.nvme_front.proofs.RunningFacts.{open_there}
 
--- ---- only posts
--- nothing but posts came where nothing came, or at all
-pub posts-refl : (s : FrontState) → PostsOnly s s
-posts-refl s = record { gets = refl; log = refl }
-
 pub posts-trans : (a b c : FrontState) → PostsOnly a b → PostsOnly b c → PostsOnly a c
 posts-trans a b c g h = record { gets = h.gets ∙ g.gets; log = h.log ∙ g.log }
 

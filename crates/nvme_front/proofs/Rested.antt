@@ -38,7 +38,7 @@ use Rattle.nvme_front.specs.Unsettled.{IsSameFront, TakesOf, Takes}
 use Rattle.nvme_front.specs.inside.Resting.{Rests, Collects}
 use Rattle.nvme_front.specs.Settles.{settled_past, IsSettled, IsSettledAccount, AnswersWereExecuted, CollectsMore, HandsBack}
 use Rattle.nvme_front.proofs.Executions.{KeepsNone, executes_once}
-use Rattle.nvme_front.proofs.Hosted.{seen_length, paired_places, IsSameFront-trans}
+use Rattle.nvme_front.proofs.Hosted.{seen_length, IsSameFront-trans}
 use Rattle.nvme_log.proofs.Prefixes.{IsPrefix-refl}
 
 -- a list that stays the same with another at its end
@@ -243,9 +243,3 @@ pub answers_executed : (sizes : List ℕ) (past later : Past) (seat : SeatView) 
 answers_executed sizes past later seat workers same tickets once r i answered =
     let it = subst AnswersHaveTickets (sym same) tickets r i answered in
     (it.0, it.1, each-is_executed_once sizes past seat workers once it.0 (place_at r i) it.1)
-
--- ---- what was handed back may be settled again
-pub paired_again : (old new : Parts) → HandsBack old new → ArePaired old.front old.feeders.items old.drainers.items → ArePaired new.front new.feeders.items new.drainers.items
-paired_again old new back pairs =
-    paired_places old.front new.front old.feeders.items new.feeders.items old.drainers.items new.drainers.items back.front.get_places back.front.put_places back.feeders.places
-    back.drainers.places pairs

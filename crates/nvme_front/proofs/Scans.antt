@@ -1,5 +1,5 @@
 -- A scan of the submission rings, queue by queue.
-use Rattle.std.proofs.Common.{◌≡◌, ◌≢◌, ◌∙◌, ℕ, ◌+◌, ◌-◌, ◌<◌, ◌≤◌, ◌⊎◌, Bool, List, [], length, map, get_or, inl, inr, Some, None, ap, sym, subst, arith, below_more}
+use Rattle.std.proofs.Common.{◌≡◌, ◌≢◌, ◌∙◌, ℕ, ◌+◌, ◌-◌, ◌<◌, ◌≤◌, ◌⊎◌, Bool, List, [], length, map, get_or, inl, inr, Some, None, ap, sym, subst, arith}
 use Rattle.std.specs.Prelude.{reverse, if◌then◌else◌}
 use Rattle.std.proofs.Math.Nat.{le-min}
 use Rattle.std.proofs.lemmas.Bool.{ne_eqb}
@@ -55,10 +55,6 @@ scanned_same a b same q h = scanned_on b a (IsSame-sym a b same) q h
 -- nor is a completion ready that wasn't before
 pub posted_same : (a b : FrontState) → IsSame a b → NoneCanBePosted (view_of a) → NoneCanBePosted (view_of b)
 posted_same a b same = subst NoneCanBePosted (sym (same_view a b same))
-
--- a queue more gives nothing
-pub scanned_more : (a b : FrontState) (n : ℕ) → IsSame a b → ((q : ℕ) → q < n → IsScanned a q) → IsScanned b n → (q : ℕ) → q < n + 1 → IsScanned a q
-scanned_more a b n same below here = below_more (λ (q : ℕ). IsScanned a q) n below (scanned_same a b same n here)
 
 -- a queue that isn't open gives nothing
 pub scanned_none : (s : FrontState) (q : ℕ) → open_sq (past_of s) q ≡ None → IsScanned s q

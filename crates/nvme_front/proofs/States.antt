@@ -1,5 +1,5 @@
 -- What a front's lists say of what it keeps, from step to step.
-use Rattle.std.proofs.Common.{◌≡◌, ℕ, ◌<◌, ◌≤◌, ◌==◌, List, [], ◌∷◌, ◌++◌, map, length, set, get_or, refl, sym, ap, subst, ◌∙◌, arith, append_assoc, inl, inr}
+use Rattle.std.proofs.Common.{◌≡◌, ℕ, ◌<◌, ◌≤◌, ◌==◌, List, [], ◌∷◌, ◌++◌, map, length, set, get_or, refl, sym, ap, subst, ◌∙◌, arith, inl, inr}
 use Rattle.std.specs.Prelude.{reverse, if◌then◌else◌}
 use Rattle.std.proofs.lemmas.List.{append-nil, length-map, map-set, get_or-map, get_or-set_same, get_or-set_other, reverse-append}
 use Rattle.std.proofs.lemmas.Bool.Decides.{eqb_tells}
@@ -50,10 +50,6 @@ with_events (e ∷ rest) past = with_events rest (e ∷ past)
 
 pub past-push : (xs : List Event) (e : Event) → reverse (xs ++ e ∷ []) ≡ e ∷ reverse xs
 past-push xs e = reverse-append xs (e ∷ [])
-
-pub past-events : (es xs : List Event) → reverse (xs ++ es) ≡ with_events es (reverse xs)
-past-events [] xs = ap reverse (append-nil xs)
-past-events (e ∷ es) xs = ap reverse (sym (append_assoc xs (e ∷ []) es)) ∙ past-events es (xs ++ e ∷ []) ∙ ap (with_events es) (past-push xs e)
 
 -- an event that was appended after room was made
 pub noted : (old room new : List Event) (e : Event) → room ≡ old → new ≡ room ++ e ∷ [] → new ≡ old ++ e ∷ []

@@ -64,14 +64,6 @@ exchanged_is_reverse (a ∷ b ∷ c ∷ more) rest after first two i j m = absur
 pub seen_after : {X Y : Type 0} (f : X → Y) (xs : List X) (i : ℕ) (old new : X) → i < length xs → old ≡ get_or xs i old → f new ≡ f old → map f (set xs i new) ≡ map f xs
 seen_after f xs i old new l read same = seen-set f xs i new l (λ d. same ∙ ap f (read ∙ get_or_default xs i old d l))
 
--- feeders that a settling hands back feed the front that comes back
-pub fed_back : (old new : Parts) → HandsBack old new → IsFedBy old.front old.feeders.items → IsFedBy new.front new.feeders.items
-fed_back old new back fed = back.feeders.places ∙ fed ∙ sym back.front.get_places
-
--- drainers that a settling hands back drain the front that comes back
-pub drained_back : (old new : Parts) → HandsBack old new → IsDrainedBy old.front old.drainers.items → IsDrainedBy new.front new.drainers.items
-drained_back old new back drained = back.drainers.places ∙ drained ∙ sym back.front.put_places
-
 -- a front that comes back has its submission regions
 pub sqs_back : (old new : Parts) → HandsBack old new → 0 < length old.front.gets → 0 < length new.front.gets
 sqs_back old new back some = omega (arith, length-map old.front.gets get_place, length-map new.front.gets get_place, ap length back.front.get_places)

@@ -51,22 +51,6 @@ three settings high medium low h m l High is = h
 three settings high medium low h m l Medium is = m
 three settings high medium low h m l Low is = l
 
-pub all_levels : (settings : ArbitrationFields) (used : Used) (class : Option Class) (n high medium low : ℕ)
-    → high ≡ used.high + taken_of High class n → high ≤ weight_of settings High
-    → medium ≡ used.medium + taken_of Medium class n → medium ≤ weight_of settings Medium
-    → low ≡ used.low + taken_of Low class n → low ≤ weight_of settings Low
-    → ◌≡◌ {A = Used} (record { high = high; medium = medium; low = low }) (used_with used class n) × IsWithinWeights settings (record { high = high; medium = medium; low = low })
-all_levels settings used class n high medium low h hw m mw l lw = (
-  (let a = added used class n High tt in
-      let b = added used class n Medium tt in
-      let c = added used class n Low tt in
-      let d : high ≡ (used_with used class n).high = h ∙ sym a in
-      let e : medium ≡ (used_with used class n).medium = m ∙ sym b in
-      let f : low ≡ (used_with used class n).low = l ∙ sym c in
-      rw (d, e, f) refl),
-  three settings high medium low hw mw lw,
-)
-
 -- ---- the credit of a history
 AsUsed : ArbitrationFields → Used → Option Used → Type 0
 AsUsed settings after r = MatchOption r (IsWithinWeights settings after → ⊥) (λ used. (used ≡ after) × IsWithinWeights settings used)

@@ -1,4 +1,3 @@
 pub mod Balances
 pub mod Made
-pub mod Passing
 pub mod Prefixes

@@ -33,4 +33,3 @@ pub mod LogLengths
 pub mod Foreseen
 pub mod AnswerLaws
 pub mod AnswerExamples
-pub mod DeletionAnswers

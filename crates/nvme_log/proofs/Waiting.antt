@@ -1,10 +1,10 @@
 -- The places of a region that wait, and what one more event changes of them.
-use Rattle.std.proofs.Common.{◌≡◌, ℕ, zero, suc, ◌+◌, ◌<◌, ◌≤◌, ◌==◌, ◌&&◌, ◌||◌, nat_lt, Bool, true, false, not, if◌then◌else◌, List, [], ◌∷◌, ◌++◌, length, get_or, take, drop, ap, sym, refl, ◌∙◌, arith, add-one, add-zero, length-append, length-drop, inl, inr, ◌⊎◌}
+use Rattle.std.proofs.Common.{◌≡◌, ℕ, zero, suc, ◌+◌, ◌<◌, ◌≤◌, ◌==◌, ◌&&◌, ◌||◌, nat_lt, Bool, true, false, not, if◌then◌else◌, List, [], ◌∷◌, ◌++◌, length, take, drop, ap, sym, refl, ◌∙◌, arith, add-one, add-zero, length-append, length-drop, inl, inr, ◌⊎◌}
 use Rattle.std.specs.Prelude.{filter, sum_by}
 use Rattle.std.specs.List.{All, AllPairs, Contains}
 use Rattle.std.proofs.Math.Seq.{take-append_seam}
 use Rattle.std.proofs.lemmas.List.{append-nil, drop-append-le, drop-drop, drop-take, drop_all, drop_at, length_push, take-append-drop, length-take-le}
-use Rattle.std.proofs.lemmas.List.Sums.{sum_by-append, sum_by-cons, get_or-le-sum_by}
+use Rattle.std.proofs.lemmas.List.Sums.{sum_by-append, sum_by-cons}
 use Rattle.std.proofs.lemmas.List.Elements.{filter-append, All-filter, filter_passes, All-nil, All-weaker, All-push}
 use Rattle.std.proofs.lemmas.List.Quantifiers.{all_pairs_push}
 use Rattle.std.proofs.lemmas.List.Kept.{AllPairs-filter}
@@ -129,12 +129,6 @@ served-or_waits past r i = ap (λ (z : ℕ). one_if (is_served past r i) + z) (t
   one_of true true = refl
   one_of true false = refl
   one_of false w = refl
-
--- an index stands in a list that contains it
-pub times-contains : (i : ℕ) (xs : List ℕ) → Contains xs i → 1 ≤ times_among i xs
-times-contains i xs h =
-    let one : one_if (get_or xs h.0 i == i) ≡ 1 = rw (eq-eqb (get_or xs h.0 i) i h.2) refl in
-    omega (arith, one, get_or-le-sum_by (λ (j : ℕ). one_if (j == i)) xs h.0 i h.1)
 
 -- a list contains an index that stands in it
 pub contains-times : (i : ℕ) (xs : List ℕ) → 1 ≤ times_among i xs → Contains xs i

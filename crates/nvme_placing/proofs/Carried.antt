@@ -104,16 +104,6 @@ other-carried v new p entry verdict other did tokens =
     carried v new p entry entry.prp1 verdict did tokens
     (λ t s is. status-other v t p entry (admin_command_of entry) other s ∙ sym (placing-is t p entry is))
 
--- ---- an entry that is fused
-fused-status : (t : QueueTable) (entry : Sqe) → (fuse_of entry == 0) ≡ false → status_over t entry ≡ invalid_field
-fused-status t entry fused = λ i. if not (fused i) then invalid_field else first_failed (placing_rows t.placing entry ++ rows_of t (admin_command_of entry))
-
-pub fused-carried : (v new : TableView) (p : Placing) (entry : Sqe) (verdict : Verdict) → (fuse_of entry == 0) ≡ false → Did v new entry verdict → HasTokens v
-    → Carries v new p entry verdict
-fused-carried v new p entry verdict fused did tokens =
-    carried v new p entry entry.prp1 verdict did tokens
-    (λ t s is. fused-status (table_of v) entry fused ∙ sym (fused-status t entry fused))
-
 -- ---- an entry that its placing refuses
 pub refused-carried : (v : TableView) (p : Placing) (entry : Sqe) (status : StatusCode) → fuse_of entry ≡ 0 → HasTokens v → IsSized v → is_success status ≡ false
     → ((rows : List Check) → first_failed (placing_rows_of p entry (admin_command_of entry) ++ rows) ≡ status)

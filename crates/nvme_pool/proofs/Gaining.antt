@@ -1,6 +1,6 @@
 -- A result is got from one of several ends.
 use Rattle.std.proofs.Common.{◌≡◌, ℕ, ◌+◌, ◌<◌, [], ◌∷◌, ◌++◌, length, get_or, set, take, drop, sym, ap, ◌∙◌, subst, add-one, drop-cons}
-use Rattle.std.proofs.lemmas.List.{take-append-drop, take-set, drop-set, set-get_or, take_more, map-append}
+use Rattle.std.proofs.lemmas.List.{take-append-drop, take-set, drop-set, set-get_or, take_more}
 use Rattle.std.proofs.lemmas.List.Elements.{All-push}
 use Rattle.std.specs.List.{All}
 use Rattle.nvme_lane.specs.View.{GetView, SameGet}
@@ -45,11 +45,3 @@ pub unknown_more : (old now : Ends) (i : ℕ) (d : GetView Finished) → now ≡
 unknown_more old now i d is within none unknown =
     let P : Ends → Type 0 = λ ends. (get_or ends i d).known ≡ [] in
     subst (All IsUnknown) (sym (take_more old i d within)) (All-push IsUnknown (take i old) (get_or old i d) unknown (subst P is none))
-
--- the ends stay at their rings
-pub gained_rings : (old new : Ends) (x : Finished) → OneGained old new x → rings_at new ≡ rings_at old
-gained_rings old new x one =
-    let place : get_place one.end' ≡ get_place one.end = cc in
-    ap rings_at one.are ∙ map-append (λ (g : GetView Finished). get_place g) one.before (one.end' ∷ one.after)
-    ∙ ap (λ y. rings_at one.before ++ y ∷ rings_at one.after) place
-    ∙ sym (map-append (λ (g : GetView Finished). get_place g) one.before (one.end ∷ one.after)) ∙ sym (ap rings_at one.were)

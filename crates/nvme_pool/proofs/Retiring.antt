@@ -21,9 +21,6 @@ pub record Settles (all_ends : Ends) (all_workers : List WorkerView) (ends : End
   pub number : sum_by (λ (xs : List Finished). length xs) left ≡ rest
   pub closes : (more : List (List Finished)) → GainedThenLeft ends workers more → GainedThenLeft all_ends all_workers (left ++ more)
 
-pub settles_first : (ends : Ends) (workers : List WorkerView) → Settles ends workers ends workers 0
-settles_first ends workers = record { left = []; number = refl; closes = λ more shared. shared }
-
 settles_one : (all_ends : Ends) (all_workers : List WorkerView) (g : GetView Finished) (ends : Ends) (w : WorkerView) (workers : List WorkerView) (rest : ℕ) (last : List Finished)
     → Settles all_ends all_workers (g ∷ ends) (w ∷ workers) rest → w.given ≡ g.got ++ last → Settles all_ends all_workers ends workers (rest + length last)
 settles_one all_ends all_workers g ends w workers rest last was here = record {

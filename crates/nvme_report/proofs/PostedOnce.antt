@@ -1,5 +1,5 @@
 -- Logs where no place has two completions.
-use Rattle.std.proofs.Common.{◌≡◌, ℕ, ◌+◌, ◌≤◌, ◌==◌, ◌&&◌, Bool, true, false, if◌then◌else◌, List, [], ◌∷◌, length, reverse, take, drop, get_or, ◌-◌, Option, Some, None, MatchOption, is_some, sym, ◌∙◌, ap, subst, inl, inr, arith, refl}
+use Rattle.std.proofs.Common.{◌≡◌, ℕ, ◌+◌, ◌≤◌, ◌==◌, ◌&&◌, Bool, true, false, if◌then◌else◌, List, [], ◌∷◌, length, reverse, take, drop, get_or, ◌-◌, sym, ◌∙◌, ap, subst, inl, inr, arith, refl}
 use Rattle.std.proofs.lemmas.Bool.Decides.{eqb_tells}
 use Rattle.std.proofs.lemmas.List.{drop_more, reverse-append, take_rest}
 use Rattle.nvme_entry.specs.declared.completion.Cqe.{Cqe}
@@ -57,12 +57,6 @@ once_after_other e log once no_post r i =
 pub first_and_rest : (log : List Event) (e : Event) → 1 ≤ length log → e ≡ get_or log 0 e → log ≡ e ∷ take (length log - 1) (drop 1 log)
 first_and_rest log e l first =
     drop_more log 0 e (omega arith) ∙ (ap (λ (v : List Event). get_or log 0 e ∷ v) (sym (take_rest log 1)) ∙ ap (λ (v : Event). v ∷ take (length log - 1) (drop 1 log)) (sym first))
-
--- where no first was found there is none
-pub none_holds : {F : Type 0} (cqe_of : F → Cqe) (found : Option F) (xs : List Cqe) → MatchOption found (xs ≡ []) (λ x. IsFirst (cqe_of x) xs)
-    → is_some found ≡ false → xs ≡ []
-none_holds cqe_of None xs h absent = h
-none_holds cqe_of (Some x) xs h absent = cc
 
 -- an event that is no Post posts nothing
 pub no_post : (e : Event) → ((c r i : ℕ) (cqe : Cqe) → e ≡ Post c r i cqe → ⊥) → (r i : ℕ) → posts_of (e ∷ []) r i ≡ 0

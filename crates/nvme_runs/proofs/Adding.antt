@@ -89,10 +89,6 @@ fresh_then a b c first second = record {
   limit = second.limit ∙ first.limit;
 }
 
--- a front that stayed fresh is fresh
-pub fresh_after : (a b : FrontView) → StaysFresh a b → StaysFresh b b
-fresh_after a b stays = record { log = stays.log; not_late = stays.not_late; mechanism = refl; start = refl; sizes = refl; regions = stays.regions; hands = refl; limit = refl }
-
 -- ---- a region more
 -- the sites of completion regions, one more added
 cq_sites_more : (old new : FrontView) (d : Drainer Cqe) (plans : List CqPlan) (plan : CqPlan) → AddsCq plan.address plan.slots d old new

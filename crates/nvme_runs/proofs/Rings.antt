@@ -2,7 +2,6 @@
 use Rattle.std.proofs.Common.{◌≡◌, ℕ, zero, suc, List, [], ◌∷◌, ◌++◌, map, get_or, refl, sym, ap, ◌∙◌, subst}
 use Rattle.std.specs.List.{All, AllZip}
 use Rattle.std.specs.Prelude.{Result, Ok, Err, IfOk}
-use Rattle.std.proofs.lemmas.List.{map-append}
 use Rattle.std.proofs.lemmas.List.Elements.{All-nil, All-cons}
 use Rattle.nvme_entry.specs.declared.submission.Sqe.{Sqe}
 use Rattle.nvme_lane.specs.View.{GetView, SamePut, SameGet}
@@ -82,18 +81,6 @@ pub loaded_rings : {L V E : Type 0} (items : V → List SqEnds) (plans : List Sq
     → IfOk result (λ r. map ends_seen (items r.1) ≡ map ends_seen rings) → AllZip IsRingOf plans rings → IfOk result (λ r. AllZip IsRingOf plans (items r.1))
 loaded_rings items plans rings (Ok r) same all = rings_seen plans rings (items r.1) same all
 loaded_rings items plans rings (Err e) same all = tt
-
--- ---- a ring that is added
--- a front that has an end more, which was looked at, has a region more
-pub ring_added : (ends : SqEnds) (f : Feeder Sqe) (g : GetView Sqe) (old new : FrontView) → script_of f ≡ script_of ends.feeder → SamePut (put_of ends.feeder) (put_of f)
-    → SameGet ends.get g → g.got ++ g.known ≡ (put_of f).sent → new.gets ≡ old.gets ++ g ∷ [] → new.puts ≡ old.puts → StaysFresh old new → AddsSq ends f old new
-ring_added ends f g old new script put get rest gets puts stays = record {
-  host = λ i. (script i, (put.0 i, put.1 i, put.2 i));
-  gets = ap (map get_place) gets ∙ map-append get_place old.gets (g ∷ []) ∙ (λ i. map get_place old.gets ++ (get.0 i, get.1 i, get.2 i) ∷ []);
-  rests = ap (map seen_in) gets ∙ map-append seen_in old.gets (g ∷ []) ∙ ap (λ xs. map seen_in old.gets ++ xs ∷ []) (rest ∙ f.accounted);
-  puts = puts;
-  stays = stays;
-}
 
 -- what was got, and then what is known, place by place
 pub seen_at : (gets : List (GetView Sqe)) (r : ℕ)

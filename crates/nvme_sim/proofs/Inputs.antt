@@ -340,10 +340,6 @@ pub short_is_bad : (input : Option (List ℕ)) (bytes : List ℕ) (fault : Short
 short_is_bad None bytes fault whole h = tt
 short_is_bad (Some rest) bytes fault whole h = subst (λ (bs : List ℕ). IsBadFile bs) whole (inr (inl (fault, h)))
 
-pub long_is_bad : (input : Option (List ℕ)) → IfSome input IsTooLong → IfSome input IsBadFile
-long_is_bad None h = tt
-long_is_bad (Some bytes) h = inl h
-
 -- ---- words that ask for a check alone
 
 and_left : (a b : Bool) → (a && b) ≡ true → a ≡ true

@@ -81,9 +81,6 @@ shown_fault text (Some xs) number head P e j f = inr (record { head = head; past
 pub no_memory : (text : List ℕ) (e : TraceError) → e ≡ error.NoMemory → IsReadFault text e
 no_memory text e is = subst (λ (x : TraceError). IsReadFault text x) (sym is) (inl tt)
 
-pub no_read : (text : List ℕ) (e : TraceError) → e ≡ error.Read → IsReadFault text e
-no_read text e is = subst (λ (x : TraceError). IsReadFault text x) (sym is) (inl tt)
-
 -- ---- the chosen events
 
 -- the pick after these events has this number, and this holds of those that are chosen

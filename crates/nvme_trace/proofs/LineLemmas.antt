@@ -48,10 +48,6 @@ Joins front None new = Unit {0}
 Joins front (Some xs) None = ⊥
 Joins front (Some xs) (Some ys) = lines_of xs ≡ joined front (lines_of ys)
 
-pub joins_nothing : (a : Option (List ℕ)) → Joins [] a a
-joins_nothing None = tt
-joins_nothing (Some xs) = refl
-
 -- one byte more that is no newline
 pub joins_more : (front : List ℕ) (a b c : Option (List ℕ)) (x : ℕ) → Joins front a b → Consumes b c (x ∷ []) → (x == 10) ≡ false → Joins (front ++ x ∷ []) a c
 joins_more front None b c x p q e = tt

@@ -85,20 +85,6 @@ surveys_set settings s new kept same head past line lines at =
       told = subst (IsSurveyOf head (Changed settings ∷ past) (line ∷ lines)) (sym same) told;
     }
 
-pub surveys_pass : (head : Head) (past : History) (line : ℕ × List ℕ) (lines : List (ℕ × List ℕ)) (seen : List Seen) (picked : Pick) (s new : Surveyor) → SurveysAt head past lines s
-    → IsObservation seen → IsLawfulPick head.mechanism head.settings past seen picked → Follows head.mechanism head.settings (Picked seen picked ∷ past) new.kept
-    → new.survey.first ≡ s.survey.first → new.survey.counts ≡ s.survey.counts → new.survey.picks ≡ s.survey.picks + 1 → SurveysAt head (Picked seen picked ∷ past) (line ∷ lines) new
-surveys_pass head past line lines seen picked s new at o l f first counts picks = record {
-  follows = f;
-  told = record {
-    all = at.told.all;
-    differences = (line, lines, refl, o, inl (l, at.told.differences));
-    first = ap (λ v. map told_of v.items) first ∙ at.told.first;
-    counts = subst (λ c. AreCounts c at.told.all) (sym counts) at.told.counts;
-    picks = let before : s.survey.picks ≡ picks_in past = at.told.picks in omega (arith, picks, before);
-  };
-}
-
 pub surveys_tell : (head : Head) (past : History) (lines : List (ℕ × List ℕ)) (seen : List Seen) (picked : Pick) (d : Difference) (s new : Surveyor) → SurveysAt head past lines s
     → IsObservation seen → IsDifferent head past seen picked d.finding → Follows head.mechanism head.settings (Picked seen picked ∷ past) new.kept
     → ((all : List Told) → map told_of s.survey.first.items ≡ take most_told (reverse all) → map told_of new.survey.first.items ≡ take most_told (reverse (told_of d ∷ all)))
@@ -192,27 +178,10 @@ surveyed_fault text (Some xs) number head s e j f = inr (record { head = head; p
 pub no_memory : (text : List ℕ) (e : TraceError) → e ≡ error.NoMemory → IsReadFault text e
 no_memory text e is = subst (λ (x : TraceError). IsReadFault text x) (sym is) (inl tt)
 
--- ---- the whole text
-pub read_head_fault : (known : Option (List ℕ)) (e : TraceError) → IsHeadFault e 0 known → IfSome known (λ text. IsReadFault text e)
-read_head_fault None e f = tt
-read_head_fault (Some text) e f = inl f
-
 later : (P : List ℕ → Type 0) (known : Option (List ℕ)) (n : ℕ) (new : Option (List ℕ)) (head : Head) → TakesTold (λ line. head_of_line line ≡ Ok head) 0 known n new
     → ((text : List ℕ) → TakesTold (λ line. head_of_line line ≡ Ok head) 0 (Some text) n new → P text) → IfSome known P
 later P None n new head t h = tt
 later P (Some text) n new head t h = h text t
-
-pub all_surveys : (known : Option (List ℕ)) (n : ℕ) (new : Option (List ℕ)) (head : Head) (r : Result Survey TraceError) → TakesTold (λ line. head_of_line line ≡ Ok head) 0 known n new
-    → IfOk r (λ survey. (text : List ℕ) → TakesTold (λ line. head_of_line line ≡ Ok head) 0 (Some text) n new → IsSurvey text survey)
-    → IfOk r (λ survey. IfSome known (λ text. IsSurvey text survey))
-all_surveys known n new head (Ok x) t h = later (λ text. IsSurvey text x) known n new head t h
-all_surveys known n new head (Err e) t h = tt
-
-pub all_read_faults : (known : Option (List ℕ)) (n : ℕ) (new : Option (List ℕ)) (head : Head) (r : Result Survey TraceError) → TakesTold (λ line. head_of_line line ≡ Ok head) 0 known n new
-    → IfErr r (λ e. (text : List ℕ) → TakesTold (λ line. head_of_line line ≡ Ok head) 0 (Some text) n new → IsReadFault text e)
-    → IfErr r (λ e. IfSome known (λ text. IsReadFault text e))
-all_read_faults known n new head (Ok x) t h = tt
-all_read_faults known n new head (Err e) t h = later (λ text. IsReadFault text e) known n new head t h
 
 -- ---- where no pick is told
 some_kind : (k : Kind) → (if is_kind NothingReady k then 1 else 0) + ((if is_kind Queue k then 1 else 0) + ((if is_kind Number k then 1 else 0) + (if is_kind Fresh k then 1 else 0))) ≡ 1

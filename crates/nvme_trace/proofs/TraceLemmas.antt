@@ -40,68 +40,11 @@ told_first m line lines told = ap (λ (b : Bool). if b then numbered (m + 1) lin
 blank_first : (m : ℕ) (line : List ℕ) (lines : List (List ℕ)) → is_blank line ≡ true → numbered m (line ∷ lines) ≡ numbered (m + 1) lines
 blank_first m line lines blank = ap (λ (b : Bool). if b then numbered (m + 1) lines else (m + 1, line) ∷ numbered (m + 1) lines) blank
 
--- the line that was taken isn't blank
-pub told_takes : (line : List ℕ) (m : ℕ) (a b : Option (List ℕ)) → TakesLine (λ l. l ≡ line) a b → is_blank line ≡ false → TakesTold (λ l. l ≡ line) m a (m + 1) b
-told_takes line m None b t told = tt
-told_takes line m (Some xs) None t told = t
-told_takes line m (Some xs) (Some ys) (l, split, is) told =
-    (line, ap (numbered m) (split ∙ ap (λ (x : List ℕ). x ∷ lines_of ys) is) ∙ told_first m line (lines_of ys) told, refl)
-
--- or it is
-pub blank_passes : (line : List ℕ) (m : ℕ) (a b : Option (List ℕ)) → TakesLine (λ l. l ≡ line) a b → is_blank line ≡ true → PassesBlank m a (m + 1) b
-blank_passes line m None b t blank = tt
-blank_passes line m (Some xs) None t blank = t
-blank_passes line m (Some xs) (Some ys) (l, split, is) blank =
-    ap (numbered m) (split ∙ ap (λ (x : List ℕ). x ∷ lines_of ys) is) ∙ blank_first m line (lines_of ys) blank
-
-pub passes_nothing : (m : ℕ) (a : Option (List ℕ)) → PassesBlank m a m a
-passes_nothing m None = tt
-passes_nothing m (Some xs) = refl
-
 pub passes_more : (m n k : ℕ) (a b c : Option (List ℕ)) → PassesBlank m a n b → PassesBlank n b k c → PassesBlank m a k c
 passes_more m n k None b c p q = tt
 passes_more m n k (Some xs) None c p q = absurd p
 passes_more m n k (Some xs) (Some ys) None p q = absurd q
 passes_more m n k (Some xs) (Some ys) (Some zs) p q = p ∙ q
-
-pub passes_takes : (P : List ℕ → Type 0) (m n k : ℕ) (a b c : Option (List ℕ)) → PassesBlank m a n b → TakesTold P n b k c → TakesTold P m a k c
-passes_takes P m n k None b c p t = tt
-passes_takes P m n k (Some xs) None c p t = absurd p
-passes_takes P m n k (Some xs) (Some ys) None p t = absurd t
-passes_takes P m n k (Some xs) (Some ys) (Some zs) p (line, split, is) = (line, p ∙ split, is)
-
--- the end of the text
-pub passes_none : (m n : ℕ) (a b : Option (List ℕ)) → PassesBlank m a n b → HasNoLine b → HasNoTold m a
-passes_none m n None b p h = tt
-passes_none m n (Some xs) None p h = absurd p
-passes_none m n (Some xs) (Some ys) p h = p ∙ ap (numbered n) h
-
-passes_starts : (P : List ℕ → Type 0) (m n k : ℕ) (a b : Option (List ℕ)) → PassesBlank m a n b → StartsTold P n b k → StartsTold P m a k
-passes_starts P m n k None b p s = tt
-passes_starts P m n k (Some xs) None p s = absurd p
-passes_starts P m n k (Some xs) (Some ys) p (line, rest, split, is) = (line, rest, p ∙ split, is)
-
-passes_head_fault : (fault : LineFault) (m n k : ℕ) (a b : Option (List ℕ)) → PassesBlank m a n b → HasHeadFault fault n b k → HasHeadFault fault m a k
-passes_head_fault fault m n k None b p h = tt
-passes_head_fault fault m n k (Some xs) None p h = absurd p
-passes_head_fault fault m n k (Some xs) (Some ys) p (inl (none, is, one)) = inl (p ∙ none, is, one)
-passes_head_fault fault m n k (Some xs) (Some ys) p (inr s) = inr (passes_starts (λ line. head_of_line line ≡ Err fault) m n k (Some xs) (Some ys) p s)
-
-pub passes_head : (e : TraceError) (m n : ℕ) (a b : Option (List ℕ)) → PassesBlank m a n b → IsHeadFault e n b → IsHeadFault e m a
-passes_head (error.Line line fault note) m n a b p h = passes_head_fault fault m n line a b p h
-passes_head error.Read m n a b p h = tt
-passes_head error.NoMemory m n a b p h = tt
-
-pub passes_event : (basis : Basis) (e : TraceError) (m n : ℕ) (a b : Option (List ℕ)) → PassesBlank m a n b → IsEventFaultBy basis e n b → IsEventFaultBy basis e m a
-passes_event basis (error.Line line fault note) m n a b p h = passes_starts (λ text. event_by basis text ≡ Err fault) m n line a b p h
-passes_event basis error.Read m n a b p h = tt
-passes_event basis error.NoMemory m n a b p h = tt
-
--- ---- the line that was taken is of a kind
-pub takes_as : (P : List ℕ → Type 0) (line : List ℕ) (m n : ℕ) (a b : Option (List ℕ)) → TakesTold (λ l. l ≡ line) m a n b → P line → TakesTold P m a n b
-takes_as P line m n None b t p = tt
-takes_as P line m n (Some xs) None t p = t
-takes_as P line m n (Some xs) (Some ys) (l, split, is) p = (l, split, subst P (sym is) p)
 
 starts_as : (P : List ℕ → Type 0) (line : List ℕ) (m n : ℕ) (a b : Option (List ℕ)) → TakesTold (λ l. l ≡ line) m a n b → P line → StartsTold P m a n
 starts_as P line m n None b t p = tt

@@ -28,10 +28,3 @@ all_taken (Some rest) None c xs ys first second none end = absurd first
 all_taken (Some rest) (Some more) None xs ys first second none end = absurd second
 all_taken (Some rest) (Some more) (Some left) xs ys first second none end =
     sym (first ∙ ap (λ zs. xs ++ zs) (second ∙ (λ i. none i ++ end i)) ∙ append-nil xs)
-
--- a read that gave nothing takes nothing
-pub taken_still : (a b c : Option (List ℕ)) (xs : List ℕ) → Consumes a b xs → Keeps b c → Consumes a c xs
-taken_still None b c xs first kept = tt
-taken_still (Some rest) None c xs first kept = absurd first
-taken_still (Some rest) (Some more) None xs first kept = absurd kept
-taken_still (Some rest) (Some more) (Some left) xs first kept = first ∙ ap (λ zs. xs ++ zs) (sym kept)

@@ -1,5 +1,5 @@
 -- A flaw of a document is the first fault of its bytes, and is told at its place.
-use Rattle.std.proofs.Common.{◌≡◌, ℕ, ◌≤◌, true, false, List, length, take, sym, subst, refl, ap, ◌∙◌, arith, Some, None, Ok, Err, Result}
+use Rattle.std.proofs.Common.{◌≡◌, ℕ, ◌≤◌, true, false, List, take, sym, subst, refl, ap, ◌∙◌, arith, Some, None, Ok, Err, Result}
 use Rattle.std.specs.Prelude.{IfErr, IfOk, IsUtf8}
 use Rattle.std.specs.Str.{is_utf8, IsValidUpTo}
 use Rattle.toml.specs.declared.de.error.Error.{Error}
@@ -103,25 +103,6 @@ placed_bytes bytes count at cause bad valid behind is = record {
 pub told_of_bytes : (bytes : List ℕ) (count : ℕ) (r : ReadError) → ¬ IsUtf8 bytes → IsValidUpTo bytes count → IsToldOfBytes (take count bytes) r → TellsPlace bytes r
 told_of_bytes bytes count (told.Fault f) bad valid h = placed_bytes bytes count f.place f.why bad valid h.0 h.1
 told_of_bytes bytes count told.NoMemory bad valid h = tt
-
--- a text that is no document has no flaw of one
-no_flaw : (text : List ℕ) (table : Members) (at : Place) (cause : Why) → parse_document text ≡ None → parse_document text ≡ Some table → IsFlawOf table at cause
-no_flaw text table at cause none parsed = let e : None ≡ Some table = sym none ∙ parsed in absurd (cc)
-
--- in a text that is no TOML document
-placed_text : (bytes : List ℕ) (start : ℕ) (at : Place) (cause : Why) (e : Error) → IsUtf8 bytes → parse_document bytes ≡ None → start ≤ length bytes
-    → at ≡ place_behind (take start bytes) → cause ≡ why.Syntax e → start ≡ span_start e → IsPlaced bytes at cause
-placed_text bytes start at cause e good none few behind is first = record {
-  within = subst (λ (p : Place). IsPlaceIn bytes p) (sym behind) (start, few, refl);
-  not_utf8 = λ bad. absurd (bad good);
-  syntax = subst (λ (w : Why). IsBehindSyntax bytes w at) (sym is) (subst (λ (n : ℕ). at ≡ place_behind (take n bytes)) first behind);
-  document = λ table text parsed. no_flaw bytes table at cause none parsed;
-}
-
-pub told_of_syntax : (bytes : List ℕ) (e : Error) (r : ReadError) → IsUtf8 bytes → parse_document bytes ≡ None → IsWithin bytes e → IsToldOfSyntax bytes e r → TellsPlace bytes r
-told_of_syntax bytes e (told.Fault f) good none within h =
-    placed_text bytes (span_start e) f.place f.why e good none (omega (arith, within.0, within.1)) h.0 h.1 refl
-told_of_syntax bytes e told.NoMemory good none within h = tt
 
 -- what is told of a flaw is no syntax fault
 no_syntax : (bytes : List ℕ) (at : Place) (spot : Spot) (f : Flaw) (cause : Why) → IsToldOf spot f cause → IsBehindSyntax bytes cause at
