@@ -15,7 +15,7 @@ test: ## test what is built, or NAME=words by tests/words alone; with CRATE=nvme
 bench: ## measure, COUNT=1000000 steps each
 	./bench $(COUNT)
 
-gate: ## prove and test all from nothing, and try the must-fail edits
+gate: ## prove and test all that changed since it last passed here, and try the must-fail edits
 	.ci/run
 
 install: all ## install the program, its manual page and completions, and the C library, below PREFIX=/usr/local

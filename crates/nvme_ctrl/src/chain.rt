@@ -5,7 +5,7 @@ use crate::slot::{Slot, put_next, slot_at};
 
 /// A chain of slots: the first one, the last one and how many there are. Each is linked to the one after it.
 #[repr(C)]
-#[derive(Clone, Copy, Debug, Drop)]
+#[derive(Clone, Copy, Drop)]
 pub struct Chain {
     pub first: u16,
     pub last: u16,

@@ -13,7 +13,7 @@ const NUMBER_OF_QUEUES: u8 = 0x07;
 /// The admin commands that are the device's: those of the opcodes, and the Set Features and Get Features of the feature
 /// identifiers, whose numbers aren't 0.
 #[repr(C)]
-#[derive(Clone, Copy, Debug, Drop)]
+#[derive(Clone, Copy, Drop)]
 pub struct OwnCommands {
     pub opcodes: [u8; 256],
     pub features: [u8; 256],

@@ -6,7 +6,7 @@ ghost use Rattle.nvme_ctrl.specs.Rings.{next_slot};
 /// The ring of a queue: its slots, the one that is read next (head) and the one that is written next (tail). It counts
 /// nothing, so it never runs out. Contracts see the numbers of entries that were read and written so far.
 #[repr(C)]
-#[derive(Clone, Copy, Debug, Drop)]
+#[derive(Clone, Copy, Drop)]
 pub struct Ring {
     pub slots: u16,
     pub head: u16,

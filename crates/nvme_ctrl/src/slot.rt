@@ -23,7 +23,7 @@ pub const DELETING: u8 = 6;
 /// A slot of a controller's pool, as it lies in memory: numbers alone. Its number is the tag of the command that it
 /// holds.
 #[repr(C)]
-#[derive(Clone, Copy, Debug, Drop)]
+#[derive(Clone, Copy, Drop)]
 pub struct Slot {
     /// The command.
     pub entry: Sqe,

@@ -13,7 +13,7 @@ use nvme_placing::PlacedTable;
 /// picked and not taken, and then of those that wait, the number of picked or aborted commands with no completion
 /// posted, the completion queue that it posts to, and whether it is held.
 #[repr(C)]
-#[derive(Clone, Copy, Debug, Drop)]
+#[derive(Clone, Copy, Drop)]
 pub struct SqState {
     pub ring: Ring,
     pub window: Chain,
@@ -26,7 +26,7 @@ pub struct SqState {
 /// An open completion queue: its ring, of which the host reads, the chain of its commands whose completions are ready,
 /// and the phase tag of the next one.
 #[repr(C)]
-#[derive(Clone, Copy, Debug, Drop)]
+#[derive(Clone, Copy, Drop)]
 pub struct CqState {
     pub ring: Ring,
     pub ready: Chain,
@@ -36,7 +36,7 @@ pub struct CqState {
 
 /// The deletion of a submission queue.
 #[repr(C)]
-#[derive(Clone, Copy, Debug, Drop)]
+#[derive(Clone, Copy, Drop)]
 pub struct Deletion {
     /// 1 where it began and isn't finished, else 0.
     pub pending: u8,

@@ -15,7 +15,7 @@ use nvme_log::Event;
 const MOST: usize = HIGHEST_COUNT as usize;
 
 /// The commands that the next admin command ends, if it is a Delete or an Abort that takes effect.
-#[derive(Debug, Drop)]
+#[derive(Drop)]
 pub enum Ending {
     /// None.
     Nothing,

@@ -9,7 +9,7 @@ ghost use Rattle.nvme_judge.specs.inside.Steps.{taken_of, IsWithinWeights};
 use nvme_arbiter::{Class, Pick, Seen, Settings, Used, class_in};
 
 /// The settings, and the commands of each level that were picked in the round.
-#[derive(Clone, Copy, Debug)]
+#[derive(Clone, Copy)]
 pub struct Round {
     pub settings: Settings,
     pub used: Used,

@@ -59,7 +59,7 @@ impl Turn {
 }
 
 /// The turns of all queues, by identifier.
-#[derive(Clone, Copy, Debug)]
+#[derive(Clone, Copy)]
 pub struct Queues {
     pub turns: [Turn; QUEUE_LIMIT],
 }
@@ -118,7 +118,7 @@ impl Queues {
 }
 
 /// The turns among all picks, as round robin counts them, and among those of each class, as the weighted mechanism does.
-#[derive(Clone, Copy, Debug)]
+#[derive(Clone, Copy)]
 pub struct Turns {
     pub all: Queues,
     pub by_class: ByClass<Queues>,

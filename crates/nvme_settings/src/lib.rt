@@ -7,4 +7,4 @@ mod reading;
 mod table;
 
 pub use reading::{SettingsFault, settings_in};
-pub use table::FieldsTable;
+pub use table::put_table;

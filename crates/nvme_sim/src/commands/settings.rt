@@ -6,7 +6,8 @@ ghost use Rattle.nvme_sim.specs.declared.commands.Answer.TheVariants as answer;
 
 use super::Answer;
 use crate::faults::Fault;
-use nvme_settings::{FieldsTable, SettingsFault};
+use nvme_output::WriteFault;
+use nvme_settings::{SettingsFault, put_table};
 use std::io::Write;
 
 /// Writes what the fields of settings mean, and the words that say them, or tells why the words say none.
@@ -22,13 +23,10 @@ pub(super) fn translated<W: Write>(
     ensures failed { IfErr result (λ e. (output.new ≡ output.old) ⊎ ((x : ℕ) × (reading ≡ Ok x))) }
 {
     match reading {
-        Ok(cdw11) => {
-            let table = FieldsTable(cdw11);
-            match write!(output, "{table}") {
-                Ok(()) => Ok(Answer::Done),
-                Err(_) => Err(Fault::Write),
-            }
-        }
+        Ok(cdw11) => match put_table(cdw11, output) {
+            Ok(()) => Ok(Answer::Done),
+            Err(WriteFault) => Err(Fault::Write),
+        },
         Err(fault) => Err(Fault::Settings(fault)),
     }
 }
