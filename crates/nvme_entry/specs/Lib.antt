@@ -2,6 +2,7 @@ pub mod AdminCommand
 pub mod Bits
 pub mod Checks
 pub mod Completion
+pub mod Examples
 pub mod Namespaces
 pub mod Outcome
 pub mod Status

@@ -12,7 +12,10 @@ mod submission;
 
 pub use admin::{AdminCommand, admin_of};
 pub use completion::{Cqe, complete};
-pub use laws::{completion_layout_is_exact, submission_layout_is_exact};
+pub use laws::{
+    completion_layout_is_exact, submission_layout_is_exact, worked_admin_commands, worked_layouts,
+    worked_outcomes,
+};
 pub use namespaces::{MAX_NAMESPACES, Namespaces, SpaceError};
 pub use outcomes::outcome;
 pub use status::Status;
