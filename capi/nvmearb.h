@@ -132,7 +132,7 @@
  * Identify, Get Log Page or Asynchronous Event Request, looks at `kind` and `fid` of nvmearb_admin_of first and keeps
  * those entries from the table.
  *
- * Every function is proved (crates/nvme_capi). None allocates, waits, starts a thread, or reads or writes anything but
+ * Every function is proved (crates/nvme_capi), unless NVMEARB_UNPROVED says otherwise. None allocates, waits, starts a thread, or reads or writes anything but
  * what its arguments point to, and all return. Every bit pattern of the arguments is answered, but for that of a
  * controller and its slots (above), which nvmearb_ctrl_verify alone takes with any content. Left to the caller:
  *
@@ -167,6 +167,12 @@ extern "C" {
 #define NVMEARB_VERSION_MINOR 1
 #define NVMEARB_VERSION_PATCH 0
 #define NVMEARB_VERSION (NVMEARB_VERSION_MAJOR * 0x10000u + NVMEARB_VERSION_MINOR * 0x100u + NVMEARB_VERSION_PATCH)
+
+/*
+ * What nvmearb_version adds where nothing of the library is proved: ./build --unproved made it, for a try. A program
+ * that takes such a library as well compares nvmearb_version() & ~NVMEARB_UNPROVED.
+ */
+#define NVMEARB_UNPROVED 0x80000000u
 
 /*
  * The results. A function returns NVMEARB_OK except in the cases that its comment names. Where a call doesn't return
@@ -529,7 +535,10 @@ typedef struct nvmearb_post {
     uint16_t slot;                    /* the slot of the ring */
 } nvmearb_post;
 
-/* Returns the version of the library. If it isn't NVMEARB_VERSION, this header is that of another library. */
+/*
+ * Returns the version of the library. If it isn't NVMEARB_VERSION, this header is that of another library, or nothing of
+ * the library is proved (NVMEARB_UNPROVED).
+ */
 uint32_t nvmearb_version(void);
 
 /* Decodes a submission queue entry: writes its fields. Every bit of the entry belongs to a field. */

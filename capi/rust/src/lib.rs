@@ -81,10 +81,16 @@ use std::marker::PhantomData;
 // aren't null, are aligned, point to as many objects, and nothing else writes what they point to during the call, nor
 // reads it where it is written. The library keeps no pointer.
 
-/// Whether the library that is linked is of this crate's version.
+/// Whether the library that is linked is of this crate's version, proved or not.
 pub fn is_library_of_this_version() -> bool {
     // SAFETY: it has no argument.
-    unsafe { sys::nvmearb_version() == sys::NVMEARB_VERSION }
+    unsafe { sys::nvmearb_version() & !sys::NVMEARB_UNPROVED == sys::NVMEARB_VERSION }
+}
+
+/// Whether the library that is linked was proved, other than one of `./build --unproved`.
+pub fn is_library_proved() -> bool {
+    // SAFETY: it has no argument.
+    unsafe { sys::nvmearb_version() & sys::NVMEARB_UNPROVED == 0 }
 }
 
 /// Marks a state whose calls run one after another: it isn't `Sync`.
