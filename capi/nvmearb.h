@@ -169,8 +169,9 @@ extern "C" {
 #define NVMEARB_VERSION (NVMEARB_VERSION_MAJOR * 0x10000u + NVMEARB_VERSION_MINOR * 0x100u + NVMEARB_VERSION_PATCH)
 
 /*
- * What nvmearb_version adds where nothing of the library is proved: ./build --unproved made it, for a try. A program
- * that takes such a library as well compares nvmearb_version() & ~NVMEARB_UNPROVED.
+ * What nvmearb_version adds where nothing of the library is proved: ./build --unproved made it, for a try. Such a library
+ * is slower, since it looks for faults as it runs, and ends the program at one that it finds. A program that takes it as
+ * well compares nvmearb_version() & ~NVMEARB_UNPROVED with NVMEARB_VERSION.
  */
 #define NVMEARB_UNPROVED 0x80000000u
 
