@@ -1,10 +1,17 @@
 # SPDX-License-Identifier: MIT
+#
+# PROGRAM=FILE and LIBRARY=FILE take another program and C library (libnvme_capi.a) than those that ./build proves and
+# builds, as they are.
 PREFIX = /usr/local
 DESTDIR =
 TO = $(DESTDIR)$(abspath $(PREFIX))
+PROGRAM =
+LIBRARY =
+# What lies below share/nvmearb in the order of this repository, so that the documents' links hold.
+SHARED = README.md CHANGELOG.md LICENSE docs examples capi/examples capi/rust $(wildcard capi/python)
 
 all: ## prove and build the program, crates/nvmearb/out/nvmearb
-	./build nvmearb
+	$(if $(PROGRAM),,./build nvmearb)
 
 check: ## prove every crate, or with CRATE=nvme_lane that one
 	cd $(if $(CRATE),crates/$(CRATE) && rt check,. && rt all check)
@@ -18,15 +25,24 @@ bench: ## measure, COUNT=1000000 steps each
 gate: ## prove and test all that changed since it last passed here, and try the must-fail edits
 	.ci/run
 
-install: all ## install the program, its manual page and completions, and the C library, below PREFIX=/usr/local
-	install -D crates/nvmearb/out/nvmearb $(TO)/bin/nvmearb
+install: all ## install program, manual page, completions, C library, documents, examples, Rust and Python packages, below PREFIX=/usr/local
+	install -D $(or $(PROGRAM),crates/nvmearb/out/nvmearb) $(TO)/bin/nvmearb
 	install -D -m 644 docs/nvmearb.1 $(TO)/share/man/man1/nvmearb.1
 	install -D -m 644 completions/nvmearb.bash $(TO)/share/bash-completion/completions/nvmearb
 	install -D -m 644 completions/_nvmearb $(TO)/share/zsh/site-functions/_nvmearb
 	install -D -m 644 completions/nvmearb.fish $(TO)/share/fish/vendor_completions.d/nvmearb.fish
-	$(MAKE) -C capi install PREFIX=$(abspath $(PREFIX)) DESTDIR=$(DESTDIR)
+	$(MAKE) -C capi install PREFIX=$(abspath $(PREFIX)) DESTDIR=$(DESTDIR) LIBRARY=$(LIBRARY)
+	install -d $(TO)/share/nvmearb/capi
+	find $(SHARED) \( -name target -o -name out -o -name __pycache__ \) -prune -o -type f ! -name Cargo.lock -print | xargs cp --parents -t $(TO)/share/nvmearb
+	ln -sf ../../../include/nvmearb.h $(TO)/share/nvmearb/capi/nvmearb.h
+
+dist: ## make out/dist/nvmearb-VERSION-linux-x86_64.tar.gz, which needs no toolchain
+	packaging/dist $(if $(PROGRAM),--program $(PROGRAM)) $(if $(LIBRARY),--library $(LIBRARY))
+
+deb: dist ## make a Debian package of the same files, out/dist/nvmearb_VERSION_amd64.deb
+	packaging/deb
 
 help: ## list these
 	@awk -F ': [a-z ]*## ' '/^[a-z]+: .*## / { printf "make %-8s %s\n", $$1, $$2 }' $(MAKEFILE_LIST)
 
-.PHONY: all check test bench gate install help
+.PHONY: all check test bench gate install dist deb help

@@ -19,10 +19,10 @@ fn folder() -> PathBuf {
     if let Some(folder) = env::var_os("NVMEARB_LIB_DIR") {
         return folder.into();
     }
-    let prefix = pkg_config("--variable=prefix").unwrap_or_else(|| panic!("pkg-config finds no nvmearb: {HINT}"));
+    let folder = pkg_config("--variable=libdir").unwrap_or_else(|| panic!("pkg-config finds no nvmearb: {HINT}"));
     let version = pkg_config("--modversion").unwrap_or_default();
     assert_eq!(version, env!("CARGO_PKG_VERSION"), "nvmearb.pc is of another version than this package");
-    PathBuf::from(prefix).join("lib")
+    folder.into()
 }
 
 fn main() {
