@@ -4,137 +4,35 @@
  * Terms are those of the NVM Express Base Specification 2.0 and the NVM Command Set Specification 1.0. A status is
  * written as its type and its code in hexadecimal: 0/08.
  *
- * Which layer to take.
- *
- *   Controller  nvmearb_ctrl_..: the front of a whole controller, which is driven by calls. It checks doorbells, says
- *               which slot is fetched next, arbitrates, carries out the admin commands on queues, features and Abort,
- *               hands I/O commands and the device's own admin commands, such as Identify, to the device under tags,
- *               and gives each completion with its slot, SQHD and phase tag. Take it if you have a device: the device
- *               keeps registers, memory, data and interrupts. capi/examples/device.c is a small one, and
- *               capi/examples/nvme.c one that Linux takes for a disk in QEMU.
- *
- * or one of its parts by itself, if you have a front of your own:
- *
- *   Entries  nvmearb_sqe_.., nvmearb_cqe_.., nvmearb_admin_of and nvmearb_settings_of give the fields of entries and
- *            dwords, and nvmearb_outcome, nvmearb_check and nvmearb_range the status of an I/O command. They keep no
- *            state.
- *   Arbiter  nvmearb_arbiter_..: which submission queue is served next, and how many of its commands. Each pick is
- *            shown the open queues, and how many commands wait in each.
- *   Board    nvmearb_board_..: an arbiter that keeps the open queues and these numbers itself. It is told of each
- *            command that comes, and picks what an arbiter picks that is shown the same queues.
- *   Table    nvmearb_table_..: the queues and features of a controller, and the answers to the admin commands that
- *            create, delete, set and get them.
- *
- * Each works without the others. With parts, rings, doorbells, phase tags, interrupts and data are the caller's.
+ * Take the controller, nvmearb_ctrl_.., if you have a device, or parts of it, if you have a front of your own: entries
+ * (nvmearb_sqe_.. to nvmearb_settings_of), an arbiter, a board, a queue table. Each stands in a section below, with its
+ * structs and calls, and works without the others.
  *
  * The order of calls, with a controller:
  *
- *   1. Compare nvmearb_version() with NVMEARB_VERSION.
- *   2. When the host enables the controller (CC.EN), nvmearb_ctrl_init_anywhere with the admin queues (AQA, ASQ, ACQ):
- *      the host may put its queues anywhere in memory ("Where queues lie" below). When CC.EN becomes 0, stop: make no
- *      call until it is 1 again, forget all tags, since they will be those of other commands, and begin again here.
- *      Nothing of before is left. Zeros in the controller make each call answer NVMEARB_ESTATE.
+ *   1. nvmearb_is_of_this_header.
+ *   2. When the host enables the controller (CC.EN), nvmearb_ctrl_init_anywhere with the admin queues (AQA, ASQ, ACQ).
+ *      When CC.EN becomes 0, stop: make no call until it is 1 again, forget all tags, since they will be those of other
+ *      commands, and begin again here. Nothing of before is left.
  *   3. nvmearb_ctrl_own_opcode and nvmearb_ctrl_own_feature for the admin commands that the device answers itself, such
- *      as Identify. Each making of the controller forgets them.
+ *      as Identify.
  *   4. At each doorbell write nvmearb_ctrl_sq_tail or nvmearb_ctrl_cq_head.
  *   5. For each queue, while nvmearb_ctrl_fetch tells a slot: read the entry there, and nvmearb_ctrl_fetched.
  *   6. While nvmearb_ctrl_take gives a command, execute it. Where it has none, nvmearb_ctrl_pick, and begin again,
  *      until that picks nothing either. At a step that created a queue (NVMEARB_OPEN_SQ, NVMEARB_OPEN_CQ), keep where
- *      it lies. At one that began a deletion (NVMEARB_BEGIN_DELETE), do 9. at once.
+ *      it lies (nvmearb_asked). At one that began a deletion (NVMEARB_BEGIN_DELETE), do 9. at once.
  *   7. nvmearb_ctrl_complete, or nvmearb_ctrl_complete_with, for each command that ends, in any order and at any time.
  *   8. For each completion queue, while nvmearb_ctrl_post gives a completion: write its bytes into the slot of the
  *      ring, Command Dword 3 last, since it has the phase tag, and then send the interrupt of the queue's vector, if
  *      its enable bit is set.
- *   9. After a pick that began a deletion, nvmearb_ctrl_finish at once and after each 8., while it ends one. Until it
- *      ends, nothing is fetched or picked of that queue, its Delete isn't answered, and a Delete of its completion
- *      queue is refused (1/0C, Invalid Queue Deletion): also one that came with it, if this isn't done at once. What
- *      the device has of the queue may still be completed and posted. Other queues go on, the admin queue among them,
- *      and further deletions may begin: each waits for the commands of its own queue.
+ *   9. After a pick that began a deletion, nvmearb_ctrl_finish at once and after each 8., while it ends one.
  *  10. Go back to 5., for every queue, until a pass does nothing: picks make room for fetches, posts for picks
  *      (NVMEARB_FULL), and the end of a deletion for both. The completion of its Delete is posted in the next pass.
  *
- * Where queues lie. There are two ways.
- *
- *   Anywhere    nvmearb_ctrl_init_anywhere: the host chooses where its queues lie, as Linux does. A Create command
- *               names any address that is a multiple of the memory page. There may be any number of Creates, and the
- *               host may use the memory of a queue again once its Delete is answered. The step of an accepted Create
- *               tells its address, slots, vector and interrupt enable (nvmearb_asked). The device keeps them by the
- *               identifier, those of submission queues and of completion queues apart, until the next accepted Create
- *               of that identifier and kind. The admin queues lie at ASQ and ACQ, with vector 0 and interrupts enabled.
- *               The library doesn't know the memory: a Create at an address where none is, or over another ring, is
- *               accepted. The device checks each access, and that no address goes over the end of all addresses. Where
- *               an access to a ring fails it sets CSTS.CFS, and waits for the reset. All examples but loop.c are so.
- *   On regions  nvmearb_ctrl_init: the device says beforehand where rings may lie, by nvmearb_ctrl_add_sq_region and
- *               nvmearb_ctrl_add_cq_region. A Create names the address of such a region that no queue has used, and has
- *               exactly QSIZE + 1 slots. There are NVMEARB_MAX_REGIONS of a kind, and no two have one address. A region
- *               is added before a Create of its address is picked: of a controller whose device adds one later,
- *               docs/PROVED.md promises less.
- *
- * Holding a queue. While a device can't serve a queue, say since a namespace of it is busy, nvmearb_ctrl_hold leaves it
- * out of arbitration, and the others go on. nvmearb_ctrl_set_class gives it another priority class.
- *
- * Aborts. The controller aborts a command that waits: it is answered with 0/07, Command Abort Requested. An Abort that
- * names any other command is answered with 1 as Command Dword 0, not aborted, unless the device announced
- * NVMEARB_OPC_ABORT by nvmearb_ctrl_own_opcode. Then it is passed on to the device, which looks up the tag of that
- * command by nvmearb_ctrl_named, ends it if it can (with 0/07), and completes the Abort with 0 as Command Dword 0, or 1
- * where it couldn't. Where the host has more Aborts out than Identify allows (ACL), the device completes one with 1/03,
- * Abort Command Limit Exceeded. capi/examples/admin.c ends Asynchronous Event Requests so.
- *
- * What the caller of a controller owes, beside what is said of all calls below:
- *
- *   - It hands each call the array of slots that the controller was made with, and writes neither into it nor into the
- *     controller. These calls trust what is in both: where anything else is written behind a right mark, a call may
- *     read and write beyond the controller and its slots. Memory that was never initialised has no mark but by chance;
- *     zeros have none. nvmearb_ctrl_verify finds most of what was written there.
- *   - It reads no slot of a ring but the one that nvmearb_ctrl_fetch tells, and posts no completion but those of
- *     nvmearb_ctrl_post. A ring has 64 or 16 bytes for each slot, from its address on.
- *
- * An admin command that is neither the controller's own nor the device's is answered with 0/01, Invalid Command Opcode,
- * and Set and Get Features of such a feature identifier with 0/02, Invalid Field in Command.
- *
- * Restrictions. PC must be 1, and a ring has at most 4096 slots. So CAP.MQES is at most 4095, and CAP.CQR is 1. At most
- * 256 commands are picked and have no completion posted; an Asynchronous Event Request that the device holds is one of
- * them.
- *
- * Save and restore. A controller and its slots are numbers without a pointer, so both together may be moved, or saved
- * as bytes and restored by the same version of the library, if what is restored takes the place of the first.
- *
- * The order of calls, with a table and a board:
- *
- *   1. Compare nvmearb_version() with NVMEARB_VERSION.
- *   2. nvmearb_table_init. Add a region of each kind for the admin queue, then one for each ring that a Create command
- *      may name.
- *   3. nvmearb_board_init, and nvmearb_board_open for queue 0.
- *   4. nvmearb_board_came for each command that a submission queue tail doorbell announces, or nvmearb_board_came_n
- *      for all of them. A board counts at most NVMEARB_MAX_COUNT of a queue; tell it of further ones once some were
- *      picked.
- *   5. nvmearb_board_pick writes a queue and a number n. Take the n oldest waiting commands out of its ring.
- *        I/O:   nvmearb_sqe_decode, then nvmearb_check and an execution of one's own, then nvmearb_cqe_encode.
- *        Admin: nvmearb_table_apply, then what the verdict asks for (NVMEARB_DONE and below it), then
- *               nvmearb_cqe_encode.
- *
- * At a deletion (NVMEARB_BEGIN_DELETE) the Delete command isn't answered yet. The caller of a table
- *   - fetches and picks no more commands of the queue (nvmearb_board_close),
- *   - answers each command of the queue that waits with 0/08, Command Aborted due to SQ Deletion,
- *   - waits until the commands of the queue that were picked are answered too,
- *   - calls nvmearb_table_finish_delete, and only then answers the Delete, with success.
- *
- * At an Abort (NVMEARB_ABORT) the caller of a table looks for the oldest waiting command with this identifier in this
- * queue.
- *   - If one waits, the caller takes it out (nvmearb_board_went) and answers it with 0/07, Command Abort Requested.
- *     The Abort is answered with 0 as Command Dword 0.
- *   - Otherwise the Abort is answered with 1 as Command Dword 0. An Abort finds no command if its SQID is 0, if the
- *     queue isn't open or is closing, or if the command was picked.
- *
- * Admin commands of the caller's own. nvmearb_table_apply answers an opcode that is none of the seven kinds below with
- * 0/01, Invalid Command Opcode, and Set and Get Features with a feature identifier other than 01h and 07h with 0/02,
- * Invalid Field in Command; an entry whose FUSE isn't 0 with 0/02 as well. A controller that has more of them, such as
- * Identify, Get Log Page or Asynchronous Event Request, looks at `kind` and `fid` of nvmearb_admin_of first and keeps
- * those entries from the table.
- *
- * Every function is proved (crates/nvme_capi), unless NVMEARB_UNPROVED says otherwise. None allocates, waits, starts a thread, or reads or writes anything but
- * what its arguments point to, and all return. Every bit pattern of the arguments is answered, but for that of a
- * controller and its slots (above), which nvmearb_ctrl_verify alone takes with any content. Left to the caller:
+ * What holds of all calls. Every function is proved (crates/nvme_capi), unless NVMEARB_UNPROVED says otherwise. None
+ * allocates, waits, starts a thread, keeps a pointer, or reads or writes anything but what its arguments point to, and all
+ * return. Every bit pattern of the arguments is answered, but for that of a controller and its slots. The caller sees to
+ * this:
  *
  *   - A pointer isn't null, is aligned for its type, and points to as many objects as its comment says, which live at
  *     least as long as the call. This holds for an array of length 0 too.
@@ -142,15 +40,14 @@
  *     lies where a guest or a device may write, and hand in the copy.
  *   - What a pointer that isn't const points to isn't read by anything else during the call, and overlaps nothing that
  *     another argument points to.
- *
- * The caller owns all memory, and no call keeps a pointer. Calls on different objects may run at the same time on any
- * threads; calls on one state run one after another. A signal handler makes no call on an object that the call which it
- * interrupts was given.
+ *   - Calls on one state run one after another; those on different objects may run at the same time on any threads. A
+ *     signal handler makes no call on an object that the call which it interrupts was given.
  *
  * Numbers are in the machine's byte order, and bytes of entries in the specification's. The library is built for x86-64
- * (x86-64-v2, System V calling convention), and the README ("Install") says how for AArch64. Link with -lnvmearb; the
- * only other symbols are memcpy and memset. With pkg-config: cc program.c $(pkg-config --cflags --libs nvmearb). Until
- * version 1.0 any release may change what this header declares.
+ * (x86-64-v2, System V calling convention), and the README ("Install") says how for AArch64. On x86-64 it uses SSE
+ * registers and the red zone: a kernel saves these registers before a call, and an interrupt handler runs on a stack of
+ * its own. nvmearb_ctrl_init and nvmearb_ctrl_init_anywhere take 34 KB of stack at most, and every other call 1 KB.
+ * Link with -lnvmearb; the only other symbols are memcpy and memset. The archive has an object for each section below.
  */
 #ifndef NVMEARB_H
 #define NVMEARB_H
@@ -162,11 +59,27 @@
 extern "C" {
 #endif
 
-/* The version of this header. nvmearb_version returns that of the library. */
+/*
+ * The version of this header: the minor number rises with each change of a struct or call, until the major one is 1.
+ * nvmearb_version returns that of the library.
+ */
 #define NVMEARB_VERSION_MAJOR 0
-#define NVMEARB_VERSION_MINOR 1
+#define NVMEARB_VERSION_MINOR 2
 #define NVMEARB_VERSION_PATCH 0
 #define NVMEARB_VERSION (NVMEARB_VERSION_MAJOR * 0x10000u + NVMEARB_VERSION_MINOR * 0x100u + NVMEARB_VERSION_PATCH)
+
+/* Returns the version of the library. */
+uint32_t nvmearb_version(void);
+
+/* The states, by numbers for nvmearb_size. */
+#define NVMEARB_STATE_ARBITER 1u
+#define NVMEARB_STATE_BOARD 2u
+#define NVMEARB_STATE_TABLE 3u
+#define NVMEARB_STATE_CTRL 4u
+#define NVMEARB_STATE_SLOT 5u
+
+/* Returns the bytes of a state in the library, or 0 where it has no state of this number. */
+uint32_t nvmearb_size(uint32_t state);
 
 /*
  * What nvmearb_version adds where nothing of the library is proved: ./build --unproved made it, for a try. Such a library
@@ -182,12 +95,16 @@ extern "C" {
 #define NVMEARB_OK 0u     /* done */
 #define NVMEARB_NONE 1u   /* there is nothing to pick, no such queue or no such command */
 #define NVMEARB_EARG 2u   /* an argument isn't valid */
-#define NVMEARB_ESTATE 3u /* the state isn't valid: it wasn't initialised, or was overwritten */
+#define NVMEARB_ESTATE 3u /* the state isn't valid: not initialised, overwritten, or of another version */
 #define NVMEARB_EUSED 4u  /* another region has this address */
 #define NVMEARB_EMANY 5u  /* there are NVMEARB_MAX_REGIONS regions of this kind, or queues may lie anywhere */
 #define NVMEARB_ESIZE 6u  /* a region has 2 to 4096 slots */
 #define NVMEARB_BUSY 7u   /* nothing can be picked yet: commands are to be taken */
-#define NVMEARB_FULL 8u   /* nothing can be picked yet: too many commands were picked and aren't completed */
+#define NVMEARB_FULL 8u   /* nothing can be picked yet: too many commands were picked and aren't posted */
+
+/*
+ * Entries: the fields of entries and dwords, and the status of an I/O command. No call keeps a state.
+ */
 
 /* The length of a submission and of a completion entry in bytes. */
 #define NVMEARB_SQE_BYTES 64
@@ -313,6 +230,66 @@ typedef struct nvmearb_settings {
     uint16_t low;
 } nvmearb_settings;
 
+/* Decodes a submission queue entry: writes its fields. Every bit of the entry belongs to a field. */
+void nvmearb_sqe_decode(const uint8_t bytes[NVMEARB_SQE_BYTES], nvmearb_sqe *fields);
+
+/* Encodes a submission queue entry: writes its bytes. Either of the two undoes the other. */
+void nvmearb_sqe_encode(const nvmearb_sqe *fields, uint8_t bytes[NVMEARB_SQE_BYTES]);
+
+/*
+ * Decodes a completion queue entry: writes its fields.
+ * NVMEARB_EARG if Command Dword 1 isn't 0 or one of bits 31:28 of Command Dword 3 is set, which have no field.
+ */
+uint32_t nvmearb_cqe_decode(const uint8_t bytes[NVMEARB_CQE_BYTES], nvmearb_cqe *fields);
+
+/*
+ * Encodes a completion queue entry: writes its bytes. Either of the two undoes the other.
+ * NVMEARB_EARG if `phase` is above 1 or `status.sct` above 7.
+ */
+uint32_t nvmearb_cqe_encode(const nvmearb_cqe *fields, uint8_t bytes[NVMEARB_CQE_BYTES]);
+
+/*
+ * Writes the status of an I/O command: that of the first check that it fails, or success. Flush, Write and Read are
+ * supported. `sizes` has the sizes of `count` namespaces in logical blocks, that of namespace identifier 1 first. No
+ * data is moved. PSDT isn't looked at: a device that moves data by PRPs calls nvmearb_check instead.
+ * NVMEARB_EARG if `count` is above NVMEARB_MAX_NAMESPACES or a size is 0.
+ */
+uint32_t nvmearb_outcome(const nvmearb_sqe *entry, const uint64_t *sizes, size_t count, nvmearb_status *status);
+
+/*
+ * Writes the status of an I/O command as nvmearb_outcome does, for a device that moves data by PRPs: it looks at PSDT
+ * too, and namespaces may be inactive and any number. A size of 0 says that the namespace identifier is inactive. The
+ * first of these that is so gives the status, and 0/00 where none is:
+ *   0/02, Invalid Field in Command: FUSE isn't 0; PSDT isn't 0, so that it asks for SGLs or is reserved
+ *   0/01, Invalid Command Opcode: the command is no Flush, Write or Read
+ *   0/02: NSID is FFFFFFFFh, and the command is no Flush. A Flush with this NSID succeeds
+ *   0/0B, Invalid Namespace or Format: NSID is 0 or above `count`
+ *   0/02: NSID is inactive
+ *   0/80, LBA Out of Range: SLBA + NLB + 1 of a Write or Read is more than the size
+ * With PSDT 0, over at most NVMEARB_MAX_NAMESPACES namespaces that are all active, it is the status that
+ * nvmearb_outcome writes. 0/01 says that the command passed what stands above it, so a device with more opcodes goes on
+ * from there.
+ */
+void nvmearb_check(const nvmearb_sqe *entry, const uint64_t *sizes, size_t count, nvmearb_status *status);
+
+/*
+ * Writes the status of a command that names logical blocks by NSID, SLBA and NLB (Command Dwords 10 to 12), as Write,
+ * Read, Write Uncorrectable, Compare, Write Zeroes and Verify do: that of the last four rows above, as of a Read. The
+ * opcode, FUSE and PSDT aren't looked at.
+ */
+void nvmearb_range(const nvmearb_sqe *entry, const uint64_t *sizes, size_t count, nvmearb_status *status);
+
+/* Writes the kind and the fields of an admin command. FUSE and the namespace identifier are ignored. */
+void nvmearb_admin_of(const nvmearb_sqe *entry, nvmearb_admin *command);
+
+/* Writes what a Command Dword 11 of the Arbitration feature says. Its bits 07:03 are ignored. */
+void nvmearb_settings_of(uint32_t cdw11, nvmearb_settings *settings);
+
+/*
+ * Arbiter: which submission queue is served next, and how many of its commands. Each pick is shown the open queues, and
+ * how many commands wait in each.
+ */
+
 /* The arbitration mechanisms. */
 #define NVMEARB_ROUND_ROBIN 1u
 #define NVMEARB_WEIGHTED 2u /* weighted round robin with urgent priority class */
@@ -355,6 +332,34 @@ typedef struct nvmearb_pick {
 } nvmearb_pick;
 
 /*
+ * Initialises an arbiter, which has served nothing yet. `cdw11` is that of the Arbitration feature; its bits 07:03 are
+ * ignored.
+ * NVMEARB_EARG if `mechanism` is neither NVMEARB_ROUND_ROBIN nor NVMEARB_WEIGHTED.
+ */
+uint32_t nvmearb_arbiter_init(nvmearb_arbiter *arbiter, uint32_t mechanism, uint32_t cdw11);
+
+/*
+ * Takes new settings. They start a new round; which queues were served last is kept.
+ * NVMEARB_ESTATE if `arbiter` isn't valid.
+ */
+uint32_t nvmearb_arbiter_set(nvmearb_arbiter *arbiter, uint32_t cdw11);
+
+/*
+ * Writes what nvmearb_arbiter_pick would pick. `seen` has `count` queues.
+ * NVMEARB_ESTATE if `arbiter` isn't valid; otherwise NVMEARB_EARG if `count` is above NVMEARB_MAX_QUEUES, a queue of
+ * `seen` has a field outside its range, or the identifiers don't ascend; otherwise NVMEARB_NONE if no command waits.
+ */
+uint32_t nvmearb_arbiter_peek(const nvmearb_arbiter *arbiter, const nvmearb_seen *seen, size_t count, nvmearb_pick *pick);
+
+/* Picks: as nvmearb_arbiter_peek, and the arbiter counts these commands as served. The caller takes all n of them. */
+uint32_t nvmearb_arbiter_pick(nvmearb_arbiter *arbiter, const nvmearb_seen *seen, size_t count, nvmearb_pick *pick);
+
+/*
+ * Board: an arbiter that keeps the open queues and the numbers of their commands itself. It is told of each command
+ * that comes, and picks what an arbiter picks that is shown the same queues.
+ */
+
+/*
  * A board: an arbiter with the open queues and the number of commands that wait in each. nvmearb_board_init initialises
  * it, and it may be copied. Its fields are the library's. It is valid if `mark` is what nvmearb_board_init writes and
  * the arbiter is valid. The other fields may have any value: a valid board answers as one with the queues that they
@@ -370,6 +375,75 @@ typedef struct nvmearb_board {
     } queues;
     nvmearb_arbiter arbiter;
 } nvmearb_board;
+
+/* Initialises a board, on which no queue is open and which has served nothing; otherwise as nvmearb_arbiter_init. */
+uint32_t nvmearb_board_init(nvmearb_board *board, uint32_t mechanism, uint32_t cdw11);
+
+/*
+ * Opens a queue, in which no command waits.
+ * NVMEARB_ESTATE if `board` isn't valid; otherwise NVMEARB_EARG if the queue is open, `qid` is above 64, or `priority`
+ * isn't one that the queue can have: NVMEARB_ADMIN for queue 0, NVMEARB_URGENT .. NVMEARB_LOW for the others.
+ */
+uint32_t nvmearb_board_open(nvmearb_board *board, uint16_t qid, uint16_t priority);
+
+/*
+ * Closes a queue. The number of its waiting commands is forgotten; what was served is kept.
+ * NVMEARB_ESTATE if `board` isn't valid; otherwise NVMEARB_EARG if the queue isn't open.
+ */
+uint32_t nvmearb_board_close(nvmearb_board *board, uint16_t qid);
+
+/*
+ * One more command waits in a queue.
+ * NVMEARB_ESTATE if `board` isn't valid; otherwise NVMEARB_EARG if the queue isn't open or NVMEARB_MAX_COUNT commands
+ * wait in it.
+ */
+uint32_t nvmearb_board_came(nvmearb_board *board, uint16_t qid);
+
+/*
+ * `n` more commands wait in a queue, as after a doorbell write. An `n` of 0 changes nothing.
+ * NVMEARB_ESTATE if `board` isn't valid; otherwise NVMEARB_EARG if the queue isn't open or more than NVMEARB_MAX_COUNT
+ * commands would wait in it.
+ */
+uint32_t nvmearb_board_came_n(nvmearb_board *board, uint16_t qid, uint16_t n);
+
+/*
+ * One waiting command left a queue without being picked, for example because it was aborted.
+ * NVMEARB_ESTATE if `board` isn't valid; otherwise NVMEARB_EARG if the queue isn't open or no command waits in it.
+ */
+uint32_t nvmearb_board_went(nvmearb_board *board, uint16_t qid);
+
+/*
+ * Writes what nvmearb_board_pick would pick.
+ * NVMEARB_ESTATE if `board` isn't valid; otherwise NVMEARB_NONE if no command waits.
+ */
+uint32_t nvmearb_board_peek(const nvmearb_board *board, nvmearb_pick *pick);
+
+/*
+ * Picks: as nvmearb_board_peek, and the board counts these commands as served and no longer as waiting. The caller
+ * takes all n of them.
+ */
+uint32_t nvmearb_board_pick(nvmearb_board *board, nvmearb_pick *pick);
+
+/* Takes new settings, as nvmearb_arbiter_set. The queues stay. NVMEARB_ESTATE if `board` isn't valid. */
+uint32_t nvmearb_board_set(nvmearb_board *board, uint32_t cdw11);
+
+/*
+ * Table: the queues and features of a controller, and the answers to the admin commands that create, delete, set and
+ * get them.
+ *
+ * The order of calls, with a table and a board; rings, doorbells, phase tags, interrupts and data are the caller's:
+ *
+ *   1. nvmearb_is_of_this_header.
+ *   2. nvmearb_table_init. Add a region of each kind for the admin queue, then one for each ring that a Create command
+ *      may name.
+ *   3. nvmearb_board_init, and nvmearb_board_open for queue 0.
+ *   4. nvmearb_board_came for each command that a submission queue tail doorbell announces, or nvmearb_board_came_n
+ *      for all of them. A board counts at most NVMEARB_MAX_COUNT of a queue; tell it of further ones once some were
+ *      picked.
+ *   5. nvmearb_board_pick writes a queue and a number n. Take the n oldest waiting commands out of its ring.
+ *        I/O:   nvmearb_sqe_decode, then nvmearb_check and an execution of one's own, then nvmearb_cqe_encode.
+ *        Admin: nvmearb_table_apply, then what the verdict asks for, then nvmearb_cqe_encode.
+ */
 
 /* The most regions of a kind, the admin queue's included, and the most I/O queues of a kind. */
 #define NVMEARB_MAX_REGIONS 65
@@ -412,10 +486,10 @@ typedef struct nvmearb_table {
 #define NVMEARB_DONE 0u            /* nothing: answer with `status` and `dw0` */
 #define NVMEARB_OPEN_SQ 1u         /* a submission queue was created: fetch from it (nvmearb_board_open) */
 #define NVMEARB_OPEN_CQ 2u         /* a completion queue was created */
-#define NVMEARB_BEGIN_DELETE 3u    /* a submission queue is closing: see "At a deletion" above */
+#define NVMEARB_BEGIN_DELETE 3u    /* a submission queue is closing: see nvmearb_table_finish_delete */
 #define NVMEARB_CLOSE_CQ 4u        /* a completion queue was deleted */
 #define NVMEARB_SET_ARBITRATION 5u /* the Arbitration feature was set: hand `cdw11` on (nvmearb_board_set) */
-#define NVMEARB_ABORT 6u           /* abort a waiting command: see "At an Abort" above */
+#define NVMEARB_ABORT 6u           /* abort a waiting command: see nvmearb_table_apply */
 
 /* The answer to an admin command. A field that a verdict of its kind doesn't have is 0. */
 typedef struct nvmearb_answer {
@@ -439,6 +513,82 @@ typedef struct nvmearb_queue {
 } nvmearb_queue;
 
 /*
+ * Initialises a queue table, which has no region and no queue. `nsq` and `ncq` are the most I/O submission queues and
+ * I/O completion queues. `cdw11` is that of the Arbitration feature; its bits 07:03 are ignored.
+ * NVMEARB_EARG if `nsq` or `ncq` isn't 1 to NVMEARB_MAX_IO_QUEUES.
+ */
+uint32_t nvmearb_table_init(nvmearb_table *table, uint16_t nsq, uint16_t ncq, uint32_t cdw11);
+
+/*
+ * Adds a submission region of `slots` slots, and writes its number. Numbers count from 0. Region 0 is that of the admin
+ * queue, which is open from then on. A Create command takes one of the others, which no later Create can take again.
+ * NVMEARB_ESTATE if `table` isn't valid; otherwise the first of these: NVMEARB_EUSED if a region of either kind has
+ * this address, NVMEARB_EMANY if NVMEARB_MAX_REGIONS submission regions are there, NVMEARB_ESIZE if `slots` isn't 2 to
+ * 4096.
+ */
+uint32_t nvmearb_table_add_sq_region(nvmearb_table *table, uint64_t address, uint16_t slots, uint16_t *number);
+
+/* Adds a completion region, as nvmearb_table_add_sq_region a submission region. */
+uint32_t nvmearb_table_add_cq_region(nvmearb_table *table, uint64_t address, uint16_t slots, uint16_t *number);
+
+/*
+ * Applies an admin command, and writes the answer. A command whose status isn't success leaves every byte of the table
+ * as it was. Add region 0 of both kinds before the first command.
+ *
+ * At NVMEARB_ABORT the caller looks for the oldest waiting command with this identifier in this queue. If one waits,
+ * the caller takes it out (nvmearb_board_went), answers it with 0/07, Command Abort Requested, and the Abort with 0 as
+ * Command Dword 0. Otherwise the Abort is answered with 1: also if its SQID is 0, if the queue isn't open or is
+ * closing, or if the command was picked.
+ *
+ * An opcode that is none of the seven kinds (NVMEARB_ADMIN_..) is answered with 0/01, Invalid Command Opcode; Set and
+ * Get Features with a feature identifier other than 01h and 07h, and an entry whose FUSE isn't 0, with 0/02, Invalid
+ * Field in Command. A controller that has more commands, such as Identify, looks at `kind` and `fid` of
+ * nvmearb_admin_of first and keeps those entries from the table.
+ * NVMEARB_ESTATE if `table` isn't valid.
+ */
+uint32_t nvmearb_table_apply(nvmearb_table *table, const uint8_t bytes[NVMEARB_SQE_BYTES], nvmearb_answer *answer);
+
+/*
+ * Finishes the deletion of a submission queue: its identifier is free again. After NVMEARB_BEGIN_DELETE, whose command
+ * isn't answered yet, the caller
+ *   - fetches and picks no more commands of the queue (nvmearb_board_close),
+ *   - answers each command of the queue that waits with 0/08, Command Aborted due to SQ Deletion,
+ *   - waits until the commands of the queue that were picked are answered too,
+ *   - makes this call, and only then answers the Delete, with success.
+ * NVMEARB_ESTATE if `table` isn't valid; otherwise NVMEARB_EARG if the queue isn't closing.
+ */
+uint32_t nvmearb_table_finish_delete(nvmearb_table *table, uint16_t qid);
+
+/*
+ * Writes what the table has of a submission queue.
+ * NVMEARB_ESTATE if `table` isn't valid; otherwise NVMEARB_NONE if the queue is neither open nor closing.
+ */
+uint32_t nvmearb_table_sq(const nvmearb_table *table, uint16_t qid, nvmearb_queue *queue);
+
+/*
+ * Writes the number of the region of a completion queue.
+ * NVMEARB_ESTATE if `table` isn't valid; otherwise NVMEARB_NONE if the queue isn't open.
+ */
+uint32_t nvmearb_table_cq(const nvmearb_table *table, uint16_t qid, uint16_t *region);
+
+/*
+ * Writes how many I/O submission queues and I/O completion queues are allotted, each 1 to NVMEARB_MAX_IO_QUEUES.
+ * NVMEARB_ESTATE if `table` isn't valid.
+ */
+uint32_t nvmearb_table_allotted(const nvmearb_table *table, uint16_t *nsq, uint16_t *ncq);
+
+/* Writes the settings of the Arbitration feature. NVMEARB_ESTATE if `table` isn't valid. */
+uint32_t nvmearb_table_settings(const nvmearb_table *table, nvmearb_settings *settings);
+
+/*
+ * Controller: the front of a whole controller, which is driven by calls in the order at the top. It checks doorbells,
+ * says which slot is fetched next, arbitrates, carries out the admin commands on queues, features and Abort, hands I/O
+ * commands and the device's own admin commands, such as Identify, to the device under tags, and gives each completion
+ * with its slot, SQHD and phase tag. The device keeps registers, memory, data and interrupts. capi/examples/device.c is
+ * a small one, and capi/examples/nvme.c one that Linux takes for a disk in QEMU.
+ */
+
+/*
  * A slot of a controller: it holds one command from its fetch until its completion is posted, and its number is the
  * command's tag. The caller keeps an array of them, whose content is the library's. Nothing is fetched while none is
  * free. With `window` slots for each submission region, the admin queue's included, and 256 more, one is free for each
@@ -456,8 +606,20 @@ typedef struct nvmearb_slot {
 
 /*
  * A controller. nvmearb_ctrl_init_anywhere or nvmearb_ctrl_init makes it. Its fields are the library's. It is valid if
- * `mark` is what these write. Neither it nor its slots are copied to be used beside the first, or written into; both
- * together may be moved or restored ("Save and restore" above).
+ * `mark` is what these write; zeros aren't.
+ *
+ * The caller hands each call the array of slots that the controller was made with, and writes neither into it nor into
+ * the controller. The calls trust what is in both: where anything else is written behind a right mark, a call may read
+ * and write beyond the controller and its slots. nvmearb_ctrl_verify finds most of what was written there. The caller
+ * reads no slot of a ring but the one that nvmearb_ctrl_fetch tells, and posts no completion but those of
+ * nvmearb_ctrl_post. A ring has 64 or 16 bytes for each slot, from its address on.
+ *
+ * A controller and its slots are numbers without a pointer, so both together may be moved, or saved as bytes and
+ * restored by a library of the same major and minor version, if what is restored takes the place of the first. The mark
+ * has these numbers. Neither is copied to be used beside the first.
+ *
+ * PC must be 1, and a ring has at most 4096 slots. So CAP.MQES is at most 4095, and CAP.CQR is 1. At most 256 commands
+ * are picked and have no completion posted; an Asynchronous Event Request that the device holds is one of them.
  */
 typedef struct nvmearb_ctrl {
     uint64_t mark;
@@ -537,215 +699,40 @@ typedef struct nvmearb_post {
 } nvmearb_post;
 
 /*
- * Returns the version of the library. If it isn't NVMEARB_VERSION, this header is that of another library, or nothing of
- * the library is proved (NVMEARB_UNPROVED).
- */
-uint32_t nvmearb_version(void);
-
-/* Decodes a submission queue entry: writes its fields. Every bit of the entry belongs to a field. */
-void nvmearb_sqe_decode(const uint8_t bytes[NVMEARB_SQE_BYTES], nvmearb_sqe *fields);
-
-/* Encodes a submission queue entry: writes its bytes. Either of the two undoes the other. */
-void nvmearb_sqe_encode(const nvmearb_sqe *fields, uint8_t bytes[NVMEARB_SQE_BYTES]);
-
-/*
- * Decodes a completion queue entry: writes its fields.
- * NVMEARB_EARG if Command Dword 1 isn't 0 or one of bits 31:28 of Command Dword 3 is set, which have no field.
- */
-uint32_t nvmearb_cqe_decode(const uint8_t bytes[NVMEARB_CQE_BYTES], nvmearb_cqe *fields);
-
-/*
- * Encodes a completion queue entry: writes its bytes. Either of the two undoes the other.
- * NVMEARB_EARG if `phase` is above 1 or `status.sct` above 7.
- */
-uint32_t nvmearb_cqe_encode(const nvmearb_cqe *fields, uint8_t bytes[NVMEARB_CQE_BYTES]);
-
-/*
- * Writes the status of an I/O command: that of the first check that it fails, or success. Flush, Write and Read are
- * supported. `sizes` has the sizes of `count` namespaces in logical blocks, that of namespace identifier 1 first. No
- * data is moved. PSDT isn't looked at: a device that moves data by PRPs calls nvmearb_check instead.
- * NVMEARB_EARG if `count` is above NVMEARB_MAX_NAMESPACES or a size is 0.
- */
-uint32_t nvmearb_outcome(const nvmearb_sqe *entry, const uint64_t *sizes, size_t count, nvmearb_status *status);
-
-/*
- * Writes the status of an I/O command as nvmearb_outcome does, for a device that moves data by PRPs: it looks at PSDT
- * too, and namespaces may be inactive and any number. A size of 0 says that the namespace identifier is inactive. The
- * first of these that is so gives the status, and 0/00 where none is:
- *   0/02, Invalid Field in Command: FUSE isn't 0; PSDT isn't 0, so that it asks for SGLs or is reserved
- *   0/01, Invalid Command Opcode: the command is no Flush, Write or Read
- *   0/02: NSID is FFFFFFFFh, and the command is no Flush. A Flush with this NSID succeeds
- *   0/0B, Invalid Namespace or Format: NSID is 0 or above `count`
- *   0/02: NSID is inactive
- *   0/80, LBA Out of Range: SLBA + NLB + 1 of a Write or Read is more than the size
- * With PSDT 0, over at most NVMEARB_MAX_NAMESPACES namespaces that are all active, it is the status that
- * nvmearb_outcome writes. 0/01 says that the command passed what stands above it, so a device with more opcodes goes on
- * from there.
- */
-void nvmearb_check(const nvmearb_sqe *entry, const uint64_t *sizes, size_t count, nvmearb_status *status);
-
-/*
- * Writes the status of a command that names logical blocks by NSID, SLBA and NLB (Command Dwords 10 to 12), as Write,
- * Read, Write Uncorrectable, Compare, Write Zeroes and Verify do: that of the last four rows above, as of a Read. The
- * opcode, FUSE and PSDT aren't looked at.
- */
-void nvmearb_range(const nvmearb_sqe *entry, const uint64_t *sizes, size_t count, nvmearb_status *status);
-
-/* Writes the kind and the fields of an admin command. FUSE and the namespace identifier are ignored. */
-void nvmearb_admin_of(const nvmearb_sqe *entry, nvmearb_admin *command);
-
-/* Writes what a Command Dword 11 of the Arbitration feature says. Its bits 07:03 are ignored. */
-void nvmearb_settings_of(uint32_t cdw11, nvmearb_settings *settings);
-
-/*
- * Initialises an arbiter, which has served nothing yet. `cdw11` is that of the Arbitration feature; its bits 07:03 are
- * ignored.
- * NVMEARB_EARG if `mechanism` is neither NVMEARB_ROUND_ROBIN nor NVMEARB_WEIGHTED.
- */
-uint32_t nvmearb_arbiter_init(nvmearb_arbiter *arbiter, uint32_t mechanism, uint32_t cdw11);
-
-/*
- * Takes new settings. They start a new round; which queues were served last is kept.
- * NVMEARB_ESTATE if `arbiter` isn't valid.
- */
-uint32_t nvmearb_arbiter_set(nvmearb_arbiter *arbiter, uint32_t cdw11);
-
-/*
- * Writes what nvmearb_arbiter_pick would pick. `seen` has `count` queues.
- * NVMEARB_ESTATE if `arbiter` isn't valid; otherwise NVMEARB_EARG if `count` is above NVMEARB_MAX_QUEUES, a queue of
- * `seen` has a field outside its range, or the identifiers don't ascend; otherwise NVMEARB_NONE if no command waits.
- */
-uint32_t nvmearb_arbiter_peek(const nvmearb_arbiter *arbiter, const nvmearb_seen *seen, size_t count, nvmearb_pick *pick);
-
-/* Picks: as nvmearb_arbiter_peek, and the arbiter counts these commands as served. The caller takes all n of them. */
-uint32_t nvmearb_arbiter_pick(nvmearb_arbiter *arbiter, const nvmearb_seen *seen, size_t count, nvmearb_pick *pick);
-
-/* Initialises a board, on which no queue is open and which has served nothing; otherwise as nvmearb_arbiter_init. */
-uint32_t nvmearb_board_init(nvmearb_board *board, uint32_t mechanism, uint32_t cdw11);
-
-/*
- * Opens a queue, in which no command waits.
- * NVMEARB_ESTATE if `board` isn't valid; otherwise NVMEARB_EARG if the queue is open, `qid` is above 64, or `priority`
- * isn't one that the queue can have: NVMEARB_ADMIN for queue 0, NVMEARB_URGENT .. NVMEARB_LOW for the others.
- */
-uint32_t nvmearb_board_open(nvmearb_board *board, uint16_t qid, uint16_t priority);
-
-/*
- * Closes a queue. The number of its waiting commands is forgotten; what was served is kept.
- * NVMEARB_ESTATE if `board` isn't valid; otherwise NVMEARB_EARG if the queue isn't open.
- */
-uint32_t nvmearb_board_close(nvmearb_board *board, uint16_t qid);
-
-/*
- * One more command waits in a queue.
- * NVMEARB_ESTATE if `board` isn't valid; otherwise NVMEARB_EARG if the queue isn't open or NVMEARB_MAX_COUNT commands
- * wait in it.
- */
-uint32_t nvmearb_board_came(nvmearb_board *board, uint16_t qid);
-
-/*
- * `n` more commands wait in a queue, as after a doorbell write. An `n` of 0 changes nothing.
- * NVMEARB_ESTATE if `board` isn't valid; otherwise NVMEARB_EARG if the queue isn't open or more than NVMEARB_MAX_COUNT
- * commands would wait in it.
- */
-uint32_t nvmearb_board_came_n(nvmearb_board *board, uint16_t qid, uint16_t n);
-
-/*
- * One waiting command left a queue without being picked, for example because it was aborted.
- * NVMEARB_ESTATE if `board` isn't valid; otherwise NVMEARB_EARG if the queue isn't open or no command waits in it.
- */
-uint32_t nvmearb_board_went(nvmearb_board *board, uint16_t qid);
-
-/*
- * Writes what nvmearb_board_pick would pick.
- * NVMEARB_ESTATE if `board` isn't valid; otherwise NVMEARB_NONE if no command waits.
- */
-uint32_t nvmearb_board_peek(const nvmearb_board *board, nvmearb_pick *pick);
-
-/*
- * Picks: as nvmearb_board_peek, and the board counts these commands as served and no longer as waiting. The caller
- * takes all n of them.
- */
-uint32_t nvmearb_board_pick(nvmearb_board *board, nvmearb_pick *pick);
-
-/* Takes new settings, as nvmearb_arbiter_set. The queues stay. NVMEARB_ESTATE if `board` isn't valid. */
-uint32_t nvmearb_board_set(nvmearb_board *board, uint32_t cdw11);
-
-/*
- * Initialises a queue table, which has no region and no queue. `nsq` and `ncq` are the most I/O submission queues and
- * I/O completion queues. `cdw11` is that of the Arbitration feature; its bits 07:03 are ignored.
- * NVMEARB_EARG if `nsq` or `ncq` isn't 1 to NVMEARB_MAX_IO_QUEUES.
- */
-uint32_t nvmearb_table_init(nvmearb_table *table, uint16_t nsq, uint16_t ncq, uint32_t cdw11);
-
-/*
- * Adds a submission region of `slots` slots, and writes its number. Numbers count from 0. Region 0 is that of the admin
- * queue, which is open from then on. A Create command takes one of the others, which no later Create can take again.
- * NVMEARB_ESTATE if `table` isn't valid; otherwise the first of these: NVMEARB_EUSED if a region of either kind has
- * this address, NVMEARB_EMANY if NVMEARB_MAX_REGIONS submission regions are there, NVMEARB_ESIZE if `slots` isn't 2 to
- * 4096.
- */
-uint32_t nvmearb_table_add_sq_region(nvmearb_table *table, uint64_t address, uint16_t slots, uint16_t *number);
-
-/* Adds a completion region, as nvmearb_table_add_sq_region a submission region. */
-uint32_t nvmearb_table_add_cq_region(nvmearb_table *table, uint64_t address, uint16_t slots, uint16_t *number);
-
-/*
- * Applies an admin command, and writes the answer. A command whose status isn't success leaves every byte of the table
- * as it was. Add region 0 of both kinds before the first command.
- * NVMEARB_ESTATE if `table` isn't valid.
- */
-uint32_t nvmearb_table_apply(nvmearb_table *table, const uint8_t bytes[NVMEARB_SQE_BYTES], nvmearb_answer *answer);
-
-/*
- * Finishes the deletion of a submission queue: its identifier is free again.
- * NVMEARB_ESTATE if `table` isn't valid; otherwise NVMEARB_EARG if the queue isn't closing.
- */
-uint32_t nvmearb_table_finish_delete(nvmearb_table *table, uint16_t qid);
-
-/*
- * Writes what the table has of a submission queue.
- * NVMEARB_ESTATE if `table` isn't valid; otherwise NVMEARB_NONE if the queue is neither open nor closing.
- */
-uint32_t nvmearb_table_sq(const nvmearb_table *table, uint16_t qid, nvmearb_queue *queue);
-
-/*
- * Writes the number of the region of a completion queue.
- * NVMEARB_ESTATE if `table` isn't valid; otherwise NVMEARB_NONE if the queue isn't open.
- */
-uint32_t nvmearb_table_cq(const nvmearb_table *table, uint16_t qid, uint16_t *region);
-
-/*
- * Writes how many I/O submission queues and I/O completion queues are allotted, each 1 to NVMEARB_MAX_IO_QUEUES.
- * NVMEARB_ESTATE if `table` isn't valid.
- */
-uint32_t nvmearb_table_allotted(const nvmearb_table *table, uint16_t *nsq, uint16_t *ncq);
-
-/* Writes the settings of the Arbitration feature. NVMEARB_ESTATE if `table` isn't valid. */
-uint32_t nvmearb_table_settings(const nvmearb_table *table, nvmearb_settings *settings);
-
-/*
- * Initialises a controller with its admin queues alone, which are open, on region 0 of each kind. No command is
- * fetched, and all `count` slots are free.
- * NVMEARB_EARG if `count` isn't 1 to NVMEARB_MAX_SLOTS, `mechanism` is neither of the two, `nsq` or `ncq` isn't 1 to
- * NVMEARB_MAX_IO_QUEUES, or `window` is 0; otherwise the first of these: NVMEARB_ESIZE if `asq` doesn't have 2 to 4096
- * slots, NVMEARB_EUSED if `acq` has the address of `asq`, NVMEARB_ESIZE if `acq` doesn't have 2 to 4096 slots.
- */
-uint32_t nvmearb_ctrl_init(nvmearb_ctrl *ctrl, nvmearb_slot *slots, size_t count, const nvmearb_config *config);
-
-/*
- * Initialises a controller as nvmearb_ctrl_init does, but one whose queues may lie anywhere in memory. The first of
- * these that applies refuses a Create that isn't fused: 1/02, Invalid Queue Size, if QSIZE is above `mqes` or 4095;
- * 0/13, PRP Offset Invalid, if PRP1 isn't a multiple of the page; of a completion queue 1/08, Invalid Interrupt
- * Vector, if IV isn't below `vectors`, whatever IEN; 0/02, Invalid Field in Command, if PC is 0; 1/01, Invalid Queue
- * Identifier, if QID is 0, above the allotted number, or that of a queue that is open or closing; 1/02 if QSIZE is 0;
- * of a submission queue 1/01 if CQID is 0 or above the allotted number, and 1/00, Completion Queue Invalid, if that
- * queue isn't open.
+ * Initialises a controller as nvmearb_ctrl_init does, but one whose queues may lie anywhere in memory: the host
+ * chooses, as Linux does. A Create names any address that is a multiple of the memory page. There may be any number of
+ * Creates, and the host may use the memory of a queue again once its Delete is answered. The step of an accepted Create
+ * tells its address, slots, vector and interrupt enable (nvmearb_asked). The device keeps them by the identifier, those
+ * of submission queues and of completion queues apart, until the next accepted Create of that identifier and kind. The
+ * admin queues lie at ASQ and ACQ, with vector 0 and interrupts enabled. The library doesn't know the memory: a Create
+ * at an address where none is, or over another ring, is accepted. The device checks each access, and that no address
+ * goes over the end of all addresses. Where an access to a ring fails it sets CSTS.CFS, and waits for the reset.
+ *
+ * The first of these that applies refuses a Create that isn't fused: 1/02, Invalid Queue Size, if QSIZE is above `mqes`
+ * or 4095; 0/13, PRP Offset Invalid, if PRP1 isn't a multiple of the page; of a completion queue 1/08, Invalid
+ * Interrupt Vector, if IV isn't below `vectors`, whatever IEN; 0/02, Invalid Field in Command, if PC is 0; 1/01,
+ * Invalid Queue Identifier, if QID is 0, above the allotted number, or that of a queue that is open or closing; 1/02 if
+ * QSIZE is 0; of a submission queue 1/01 if CQID is 0 or above the allotted number, and 1/00, Completion Queue Invalid,
+ * if that queue isn't open.
  * NVMEARB_EARG as nvmearb_ctrl_init, and if `page` is 0; otherwise NVMEARB_ESIZE if `asq` or `acq` doesn't have 2 to
  * 4096 slots. Their addresses are not compared.
  */
 uint32_t nvmearb_ctrl_init_anywhere(nvmearb_ctrl *ctrl, nvmearb_slot *slots, size_t count, const nvmearb_config *config,
                                     const nvmearb_placement *placement);
+
+/*
+ * Initialises a controller with its admin queues alone, which are open, on region 0 of each kind. No command is
+ * fetched, and all `count` slots are free; this takes the longer the more there are.
+ *
+ * The device says beforehand where rings may lie, by nvmearb_ctrl_add_sq_region and nvmearb_ctrl_add_cq_region. A
+ * Create names the address of such a region that no queue has used, and has exactly QSIZE + 1 slots. There are
+ * NVMEARB_MAX_REGIONS of a kind, and no two have one address. A region is added before a Create of its address is
+ * picked: of a controller whose device adds one later, docs/PROVED.md promises less.
+ * NVMEARB_EARG if `count` isn't 1 to NVMEARB_MAX_SLOTS, `mechanism` is neither of the two, `nsq` or `ncq` isn't 1 to
+ * NVMEARB_MAX_IO_QUEUES, or `window` is 0; otherwise the first of these: NVMEARB_ESIZE if `asq` doesn't have 2 to 4096
+ * slots, NVMEARB_EUSED if `acq` has the address of `asq`, NVMEARB_ESIZE if `acq` doesn't have 2 to 4096 slots.
+ */
+uint32_t nvmearb_ctrl_init(nvmearb_ctrl *ctrl, nvmearb_slot *slots, size_t count, const nvmearb_config *config);
 
 /*
  * Adds a submission region, which a Create I/O Submission Queue may name, and writes its number. Otherwise as
@@ -760,8 +747,16 @@ uint32_t nvmearb_ctrl_add_cq_region(nvmearb_ctrl *ctrl, uint64_t address, uint16
  * From now on the admin commands of this opcode are the device's: they are picked in their turn, and the device takes
  * and completes them as it does commands of I/O queues, at any later time (an Asynchronous Event Request waits like
  * this). Each making of the controller forgets it. The opcodes 00h, 01h, 04h, 05h, 09h and 0Ah stay the controller's,
- * and so does a fused command, which it refuses. The device checks PSDT, which the controller doesn't look at. Of
- * Abort, 08h, an announced one is the device's where it names no command that waits ("Aborts" above).
+ * and so does a fused command, which it refuses. PSDT is left to the device; the controller looks at that of no
+ * command. A command that is neither's is answered with 0/01, Invalid Command Opcode, and Set and Get Features of such
+ * a feature identifier with 0/02, Invalid Field in Command.
+ *
+ * The controller aborts a command that waits: it is answered with 0/07, Command Abort Requested. An Abort that names
+ * any other command is answered with 1 as Command Dword 0, not aborted, unless NVMEARB_OPC_ABORT was announced here.
+ * Then it is passed on to the device, which looks up the tag of that command by nvmearb_ctrl_named, ends it if it can
+ * (with 0/07), and completes the Abort with 0 as Command Dword 0, or 1 where it couldn't. Where the host has more
+ * Aborts out than Identify allows (ACL), the device completes one with 1/03, Abort Command Limit Exceeded.
+ * capi/examples/admin.c ends Asynchronous Event Requests so.
  * NVMEARB_ESTATE if `ctrl` isn't valid.
  */
 uint32_t nvmearb_ctrl_own_opcode(nvmearb_ctrl *ctrl, uint8_t opcode);
@@ -775,9 +770,10 @@ uint32_t nvmearb_ctrl_own_opcode(nvmearb_ctrl *ctrl, uint8_t opcode);
 uint32_t nvmearb_ctrl_own_feature(nvmearb_ctrl *ctrl, uint8_t fid);
 
 /*
- * From now on no command of a submission queue is picked, if `on` is 1, or they are again, if it is 0. What waits in it
- * stays there, and up to the window it is fetched as before; an Abort and a deletion still end it. Commands that were
- * picked stay picked. The queue may be the admin queue. A queue that is created anew isn't held.
+ * From now on no command of a submission queue is picked, if `on` is 1, or they are again, if it is 0: for a queue that
+ * the device can't serve, say since a namespace of it is busy. What waits in it stays there, and up to the window it is
+ * fetched as before; an Abort and a deletion still end it. Commands that were picked stay picked. The queue may be the
+ * admin queue. A queue that is created anew isn't held.
  * NVMEARB_ESTATE if `ctrl` isn't valid; otherwise NVMEARB_EARG if `on` is above 1; otherwise NVMEARB_NONE if the queue
  * isn't open or is closing.
  */
@@ -797,6 +793,7 @@ uint32_t nvmearb_ctrl_set_class(nvmearb_ctrl *ctrl, uint16_t qid, uint16_t prior
  * NVMEARB_ESTATE if `ctrl` isn't valid; otherwise NVMEARB_NONE if the queue isn't open or is closing (a write to an
  * invalid doorbell register); otherwise NVMEARB_EARG if the ring has no such slot, or hasn't as many free slots (an
  * invalid doorbell write value). A ring has one slot less of commands than it has slots.
+ * A value that the doorbell has already is accepted, here and of a head.
  */
 uint32_t nvmearb_ctrl_sq_tail(nvmearb_ctrl *ctrl, uint16_t qid, uint16_t tail);
 
@@ -835,7 +832,8 @@ uint32_t nvmearb_ctrl_peek(const nvmearb_ctrl *ctrl, const nvmearb_slot *slots, 
 /*
  * Makes the next pick of arbitration, and writes what it did. An admin command that isn't the device's is carried out
  * at once: queues are created, a deletion begins and the waiting commands of its queue are answered with 0/08, a
- * waiting command is aborted with 0/07, features are set and told.
+ * waiting command is aborted with 0/07, features are set and told. A Delete and an Abort take the longer the more
+ * commands of their queue wait.
  * NVMEARB_ESTATE, NVMEARB_EARG as nvmearb_ctrl_fetched; otherwise NVMEARB_BUSY if commands are picked and not taken;
  * otherwise NVMEARB_NONE if no command waits but in queues that are held; otherwise NVMEARB_FULL if more than 256
  * commands would be picked, or aborted by an Abort, and have no completion posted.
@@ -873,7 +871,10 @@ uint32_t nvmearb_ctrl_post(nvmearb_ctrl *ctrl, nvmearb_slot *slots, size_t count
 /*
  * Finishes a deletion of a submission queue, all of whose commands have their completions posted, and writes its
  * identifier, which is free then. The completion of the Delete is ready then. Of several it is the first one by
- * identifier.
+ * identifier. From the pick of the Delete until here nothing is fetched or picked of the queue, the Delete isn't
+ * answered, and a Delete of its completion queue is refused (1/0C, Invalid Queue Deletion): also one that came with it,
+ * if this isn't done at once. What the device has of the queue may still be completed and posted. Other queues go on,
+ * the admin queue among them, and further deletions may begin: each waits for the commands of its own queue.
  * NVMEARB_ESTATE, NVMEARB_EARG as nvmearb_ctrl_fetched; otherwise NVMEARB_NONE if of each queue that is being deleted a
  * command that was fetched has no completion posted yet.
  */
@@ -889,6 +890,7 @@ uint32_t nvmearb_ctrl_command(const nvmearb_ctrl *ctrl, const nvmearb_slot *slot
 /*
  * Writes the tag of the command with the identifier `cid`, of the submission queue `qid`, that the device has, so that
  * a device finds what an Abort names. If the host gave two of them one identifier, it is the tag of either.
+ * The call looks through all slots.
  * NVMEARB_ESTATE, NVMEARB_EARG as nvmearb_ctrl_fetched; otherwise NVMEARB_NONE if the device has no such command: it
  * waits, say, or is completed.
  */
@@ -940,6 +942,19 @@ uint32_t nvmearb_ctrl_seen(const nvmearb_ctrl *ctrl, uint16_t qid, nvmearb_seen 
  * range.
  */
 uint32_t nvmearb_ctrl_verify(const nvmearb_ctrl *ctrl, const nvmearb_slot *slots, size_t count);
+
+/*
+ * Returns 1 if the library is the one of this header, of its version and with states of its sizes, and else 0. Make no
+ * other call of a library of another header.
+ */
+static inline int nvmearb_is_of_this_header(void)
+{
+    return nvmearb_version() == NVMEARB_VERSION && nvmearb_size(NVMEARB_STATE_ARBITER) == sizeof(nvmearb_arbiter) &&
+           nvmearb_size(NVMEARB_STATE_BOARD) == sizeof(nvmearb_board) &&
+           nvmearb_size(NVMEARB_STATE_TABLE) == sizeof(nvmearb_table) &&
+           nvmearb_size(NVMEARB_STATE_CTRL) == sizeof(nvmearb_ctrl) &&
+           nvmearb_size(NVMEARB_STATE_SLOT) == sizeof(nvmearb_slot);
+}
 
 #ifdef __cplusplus
 }

@@ -128,6 +128,7 @@ static void random_calls(void)
     unsigned wrong = 0, picked = 0;
     nvmearb_board made;
     CHECK(nvmearb_board_init(&made, NVMEARB_WEIGHTED, 0) == NVMEARB_OK);
+    CHECK((made.mark & 0xffffff) == (NVMEARB_VERSION & 0xffff00));
     for (int round = 0; round < 1000000; round++) {
         nvmearb_board board, before;
         nvmearb_pick pick = {0xeeee, 0xeeee, 0xeeee};

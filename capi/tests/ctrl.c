@@ -307,6 +307,18 @@ static void refused_states(void)
     }
 }
 
+/* A controller that a library of another minor version saved has another mark, and is refused. */
+static void other_version(void)
+{
+    uint16_t region;
+    CHECK(is_prepared(NVMEARB_ROUND_ROBIN));
+    CHECK((ctrl.mark & 0xffffff) == (NVMEARB_VERSION & 0xffff00));
+    CHECK(nvmearb_ctrl_sq(&ctrl, 0, &region) == NVMEARB_OK);
+    ctrl.mark -= 0x100;
+    CHECK(nvmearb_ctrl_sq(&ctrl, 0, &region) == NVMEARB_ESTATE);
+    CHECK(nvmearb_ctrl_verify(&ctrl, many, SLOTS) == NVMEARB_ESTATE);
+}
+
 /* An entry that may be one of each kind. */
 static void draw_entry(uint64_t *state, uint8_t *bytes)
 {
@@ -624,6 +636,7 @@ int main(void)
     holds();
     classes();
     refused_states();
+    other_version();
     random_calls();
     random_states();
     return told();

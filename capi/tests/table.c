@@ -167,7 +167,7 @@ static void regions(void)
     CHECK(nvmearb_table_init(&t, 0, 1, 0) == NVMEARB_EARG && nvmearb_table_init(&t, 1, 65, 0) == NVMEARB_EARG);
     CHECK(memcmp(&before, &t, sizeof t) == 0);
     CHECK(nvmearb_table_add_sq_region(&t, 0, 8, &number) == NVMEARB_ESTATE && number == 0xeeee);
-    CHECK(nvmearb_table_init(&t, 1, 1, 0) == NVMEARB_OK);
+    CHECK(nvmearb_table_init(&t, 1, 1, 0) == NVMEARB_OK && (t.mark & 0xffffff) == (NVMEARB_VERSION & 0xffff00));
     CHECK(nvmearb_table_sq(&t, 0, &queue) == NVMEARB_NONE && nvmearb_table_cq(&t, 0, &region) == NVMEARB_NONE);
     CHECK(nvmearb_table_add_sq_region(&t, 1, 1, &number) == NVMEARB_ESIZE);
     CHECK(nvmearb_table_add_cq_region(&t, 1, 4097, &number) == NVMEARB_ESIZE);

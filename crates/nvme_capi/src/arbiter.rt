@@ -12,7 +12,10 @@ ghost use Rattle.nvme_capi.specs.States.{seen_in, pick_of_fields, IsShown};
 use crate::results::{BAD_ARGUMENT, BAD_STATE, NOTHING, OK};
 use crate::shown::{Shown, are_shown};
 use crate::states::{PickFields, SeenFields, fields_of_pick};
+use crate::version::ARBITER_BYTES;
 use nvme_arbiter::{ArbiterFields, Mechanism, Settings};
+
+const _: () = prove!(size_of::<ArbiterFields>() == ARBITER_BYTES as usize);
 
 /// Writes what `nvmearb_arbiter_pick` would pick. The state stays as it was.
 #[unsafe(no_mangle)]

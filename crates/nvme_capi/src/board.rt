@@ -15,10 +15,11 @@ ghost use Rattle.nvme_capi.specs.States.{is_board, pick_of_fields};
 use crate::arbiter::mechanism_with;
 use crate::results::{BAD_ARGUMENT, BAD_STATE, NOTHING, OK};
 use crate::states::{PickFields, fields_of_pick};
+use crate::version::{BOARD_BYTES, INTERFACE};
 use nvme_arbiter::{BoardFields, Class, HIGHEST_COUNT, Seen, Settings, is_observation};
 
-// What `nvmearb_board_init` writes before a board, and nothing else does.
-const MARK: u64 = 0x6e76_6d65_5f62_7264;
+// What `nvmearb_board_init` of this interface writes before a board, and nothing else does.
+const MARK: u64 = 0x6e76_6d65_6200_0000 + INTERFACE;
 
 /// `nvmearb_board`: a mark, and a board: the open queues, and an arbiter. Any content of the queues is that of some
 /// board, so only mark and arbiter are checked.
@@ -28,6 +29,8 @@ pub struct BoardState {
     pub mark: u64,
     pub board: BoardFields,
 }
+
+const _: () = prove!(size_of::<BoardState>() == BOARD_BYTES as usize);
 
 // Whether a board was made here.
 fn is_board(state: &BoardState) -> bool

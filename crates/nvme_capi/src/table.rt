@@ -19,12 +19,13 @@ use crate::answers::{AnswerFields, QueueAnswer, answer_of, queue_answer_of};
 use crate::fields::SettingsFields;
 use crate::results::{BAD_ARGUMENT, BAD_SIZE, BAD_STATE, NOTHING, OK, TOO_MANY, USED};
 use crate::settings::nvmearb_settings_of;
+use crate::version::{INTERFACE, TABLE_BYTES};
 use nvme_admin::{AdminError, Limits, MAX_IO_QUEUES, TableFields};
 use nvme_arbiter::Settings;
 use nvme_entry::{Sqe, submission_layout_is_exact};
 
-// What `nvmearb_table_init` writes before a table, and nothing else does.
-const MARK: u64 = 0x6e76_6d65_5f74_626c;
+// What `nvmearb_table_init` of this interface writes before a table, and nothing else does.
+const MARK: u64 = 0x6e76_6d65_7400_0000 + INTERFACE;
 
 /// `nvmearb_table`: a mark, and a queue table. Any content behind the mark is some table, so only the mark is checked.
 #[repr(C)]
@@ -33,6 +34,8 @@ pub struct TableState {
     pub mark: u64,
     pub table: TableFields,
 }
+
+const _: () = prove!(size_of::<TableState>() == TABLE_BYTES as usize);
 
 // Whether a queue table was made here.
 fn is_table(state: &TableState) -> bool

@@ -8,14 +8,14 @@ ghost use Rattle.nvme_version.specs.declared.TheConstants.{MAJOR, MINOR, PATCH, 
 /// Increases with a change that breaks callers.
 pub const MAJOR: u32 = 0;
 
-/// Increases with new features.
-pub const MINOR: u32 = 1;
+/// Increases with new features, and before version 1 with each change of a struct or a call of the C library.
+pub const MINOR: u32 = 2;
 
 /// Increases with fixes.
 pub const PATCH: u32 = 0;
 
 /// The version as a text.
-pub const VERSION: &str = "0.1.0";
+pub const VERSION: &str = "0.2.0";
 
 /// Law: the text is the three numbers with dots between them.
 pub fn version_is_its_numbers()

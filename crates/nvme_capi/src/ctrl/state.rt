@@ -4,12 +4,13 @@ ghost use Rattle.nvme_capi.specs.Controllers.{is_ctrl, has_slots};
 
 use crate::answers::AnswerFields;
 use crate::states::PickFields;
+use crate::version::{CTRL_BYTES, INTERFACE, SLOT_BYTES};
 use nvme_admin::Region;
 use nvme_ctrl::{Controller, Slot};
 use nvme_entry::Sqe;
 
-/// What `nvmearb_ctrl_init` writes before a controller, and nothing else does.
-pub const MARK: u64 = 0x6e76_6d65_6374_726c;
+/// What `nvmearb_ctrl_init` of this interface writes before a controller, and nothing else does.
+pub const MARK: u64 = 0x6e76_6d65_6300_0000 + INTERFACE;
 
 /// `nvmearb_ctrl`: a mark, and a controller with the number of its slots.
 #[repr(C)]
@@ -21,10 +22,9 @@ pub struct CtrlState {
     pub ctrl: Controller,
 }
 
-// The header has these sizes.
-const _: () = prove!(size_of::<CtrlState>() == 6000);
+const _: () = prove!(size_of::<CtrlState>() == CTRL_BYTES as usize);
 
-const _: () = prove!(size_of::<Slot>() == 80);
+const _: () = prove!(size_of::<Slot>() == SLOT_BYTES as usize);
 
 /// `nvmearb_config`: what a controller is made with.
 #[repr(C)]
